@@ -1,0 +1,69 @@
+-- A file by its cells, and how its bytes are cut into them.
+use Rattle.std.specs.Prelude.{◌≡◌, ◌⊎◌, ℕ, ◌+◌, ◌*◌, ◌-◌, ◌/◌, min, zero, suc, List, [], ◌∷◌, ◌++◌, length, take, drop, Option, Some}
+use Rattle.std.specs.Ordering.{nat_cmp}
+use Rattle.std.specs.Cmp.Lexicographic.{slice_cmp}
+use Rattle.std.specs.FinMap.{FinMap, get, insert}
+use Rattle.rock_disk.specs.Cell.{CellState, settled, joined}
+
+-- a file with its cells in it, or with the cells out. Bytes past the last slot are its rest
+pub data File : Type 0 where
+  Home : (header : CellState) (cells : List CellState) (rest : List ℕ) → File
+  Away : (slots slot : ℕ) (rest : List ℕ) → File
+
+-- files by the bytes of their names
+abbrev pub Files : Type 0
+Files = FinMap (slice_cmp nat_cmp) File
+
+-- the header's bytes, the slots' and the rest
+abbrev pub bytes_of : File → List ℕ
+bytes_of (Home header cells rest) = header.now ++ (joined cells ++ rest)
+bytes_of (Away slots slot rest) = rest
+
+-- how many whole slots a file of so many bytes has. Slots past the limit are ignored
+abbrev pub slots_of : ℕ → ℕ → ℕ
+slots_of bytes slot = min ((bytes - 16384) / slot) 1048576
+
+-- so many slots from the front of these bytes, the first with this number
+abbrev pub slots_from : ℕ → ℕ → ℕ → List ℕ → List CellState
+slots_from number zero slot bytes = []
+slots_from number (suc n) slot bytes = settled number slot (take slot bytes) ∷ slots_from (number + 1) n slot (drop slot bytes)
+
+-- the numbers and widths of so many slots
+abbrev pub shapes_from : ℕ → ℕ → ℕ → List (ℕ × ℕ)
+shapes_from number zero slot = []
+shapes_from number (suc n) slot = (number, slot) ∷ shapes_from (number + 1) n slot
+
+-- the header area of a file with these bytes, its whole slots, and its rest
+abbrev pub header_cut : List ℕ → CellState
+header_cut bytes = settled 4294967295 16384 (take 16384 bytes)
+
+abbrev pub slots_cut : ℕ → List ℕ → List CellState
+slots_cut slot bytes = slots_from 0 (slots_of (length bytes) slot) slot (drop 16384 bytes)
+
+abbrev pub rest_cut : ℕ → List ℕ → List ℕ
+rest_cut slot bytes = drop (16384 + slots_of (length bytes) slot * slot) bytes
+
+-- a file's bytes, cut anew by this slot size
+abbrev pub cut : ℕ → List ℕ → File
+cut slot bytes = Home (header_cut bytes) (slots_cut slot bytes) (rest_cut slot bytes)
+
+-- bytes that are not cut yet
+abbrev pub uncut : List ℕ → File
+uncut bytes = Home (settled 4294967295 0 []) [] bytes
+
+-- the cells of this file are not out
+abbrev pub IsNotAway : Option File → Type 0
+IsNotAway (Some (Away slots slot rest)) = ⊥
+IsNotAway f = Unit {0}
+
+-- no file's cells are out
+abbrev pub NoneAway : Files → Type 0
+NoneAway files = (name : List ℕ) → IsNotAway (get files name)
+
+abbrev pub IsThere : Files → List ℕ → Type 0
+IsThere files name = (f : File) × (get files name ≡ Some f)
+
+-- the file is as it was, or as opening cuts it, and the other files are as they were
+abbrev pub IsKept : ℕ → List ℕ → Files → Files → Type 0
+IsKept slot name before after =
+    (after ≡ before) ⊎ ((was : File) × (get before name ≡ Some was) × (after ≡ insert before name (cut slot (bytes_of was))))

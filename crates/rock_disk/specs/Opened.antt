@@ -1,0 +1,36 @@
+-- A file that is opened, or refused.
+use Rattle.std.specs.Prelude.{◌≡◌, ℕ, ◌+◌, ◌<◌, ◌≤◌, List, length, map, Some}
+use Rattle.std.specs.FinMap.{get, insert}
+use Rattle.rock_disk.specs.Cell.{CellState, shape}
+use Rattle.rock_disk.specs.File.{File, Files, bytes_of, slots_of, shapes_from, header_cut, slots_cut, rest_cut}
+use Rattle.rock_disk.specs.File.File.{Away}
+
+-- what every volume says of the cells of an opened file
+pub record HasShape (slot bytes : ℕ) (header : CellState) (cells : List CellState) : Type 0 where
+  pub room : 16384 + slot ≤ bytes
+  pub header_shape : shape header ≡ (4294967295, 16384)
+  pub cell_shapes : map shape cells ≡ shapes_from 0 (slots_of bytes slot) slot
+
+-- the file was cut anew and its cells are out
+pub record IsOpened (before after : Files) (name : List ℕ) (slot bytes : ℕ) (header : CellState) (cells : List CellState) : Type 0 where
+  pub was : File
+  pub found : get before name ≡ Some was
+  pub size : bytes ≡ length (bytes_of was)
+  pub header_is : header ≡ header_cut (bytes_of was)
+  pub cells_are : cells ≡ slots_cut slot (bytes_of was)
+  pub out : after ≡ insert before name (Away (slots_of bytes slot) slot (rest_cut slot (bytes_of was)))
+
+-- these may be given back to the file of this name
+pub record IsOut (files : Files) (name : List ℕ) (header : CellState) (cells : List CellState) : Type 0 where
+  pub slot : ℕ
+  pub rest : List ℕ
+  pub found : get files name ≡ Some (Away (length cells) slot rest)
+  pub header_shape : shape header ≡ (4294967295, 16384)
+  pub cell_shapes : map shape cells ≡ shapes_from 0 (length cells) slot
+
+-- the file is too short for its header area and one slot
+pub record IsSmall (files : Files) (name : List ℕ) (slot bytes : ℕ) : Type 0 where
+  pub was : File
+  pub found : get files name ≡ Some was
+  pub size : bytes ≡ length (bytes_of was)
+  pub short : bytes < 16384 + slot

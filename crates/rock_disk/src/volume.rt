@@ -1,0 +1,129 @@
+ghost use Rattle.std.specs.Prelude.{◌≡◌, ◌+◌, ◌<◌, ◌≤◌, ◌++◌, ◌∷◌, [], ℕ, Bool, List, length, map, IsTrue, IfOk, OnOk, OnErr, IsErrOf, None, Some, ◌↔◌};
+ghost use Rattle.std.specs.FinMap.{get, insert};
+ghost use Rattle.rock_io.specs.Faults.{Rose};
+ghost use Rattle.rock_disk.specs.File.{Files, IsNotAway, IsThere};
+ghost use Rattle.rock_disk.specs.File.File.{Home, Away};
+ghost use Rattle.rock_disk.specs.Opened.{HasShape, IsOpened, IsOut, IsSmall};
+
+use crate::{Cell, Station};
+use std::alloc::Global;
+use thiserror::Error;
+
+/// Why a file was not opened.
+#[derive(Clone, Copy, Debug, PartialEq, Eq, Error)]
+pub enum OpenFault {
+    #[error("there is no file of that name")]
+    Missing,
+    /// The file is shorter than the header area and one slot. It has this many bytes.
+    #[error("a file of {bytes} bytes is too short")]
+    Small { bytes: u64 },
+    /// The volume's count of faults rose.
+    #[error("the volume failed")]
+    Failed,
+    #[error("out of memory")]
+    Memory,
+}
+
+/// Why no station was made.
+#[derive(Clone, Copy, Debug, PartialEq, Eq, Error)]
+pub enum StationFault {
+    /// The volume's count of faults rose.
+    #[error("the volume failed")]
+    Failed,
+    #[error("out of memory")]
+    Memory,
+}
+
+/// A file whose cells are out.
+pub struct Opened<C> {
+    /// The header area: number 4,294,967,295, and 16,384 bytes wide.
+    pub header: C,
+    /// The slots in order. Slot n has number n, and is as wide as a slot.
+    pub cells: Vec<C>,
+    /// The length of the file.
+    pub bytes: u64,
+}
+
+/// Files by name.
+pub trait Volume {
+    type C: Cell;
+
+    type St: Station<C = Self::C>;
+
+    /// Whether volumes of this type tell their files. Where they don't, no clause on files says
+    /// anything of them.
+    ghost tells: { Bool };
+
+    /// The files, by name.
+    ghost files: { Self → Files };
+
+    /// How many of its calls have failed.
+    ghost faults: { Self → ℕ };
+
+    /// How many stations it has made.
+    ghost made: { Self → ℕ };
+
+    /// The counts of faults with which stations were ended, in that order.
+    ghost ended: { Self → List ℕ };
+
+    /// Cuts a file's bytes anew by this slot size, and moves the cells out. What each cell holds is
+    /// all that a crash may leave of it. Slots past the first 1,048,576 stay in the file's rest.
+    fn open_file(
+        &mut self,
+        alloc: Global,
+        name: &str,
+        slot: u32,
+    ) -> Result<Opened<Self::C>, OpenFault>
+        requires slot { 0 < slot }
+        requires home { IsTrue tells → IsNotAway (get (files self.old) name.now) }
+
+        ensures shape { IfOk result (λ o. HasShape slot o.bytes (Self.C.state o.header) (map Self.C.state o.cells.items)) }
+        ensures opened { IfOk result (λ o. IsTrue tells → IsTrue Self.C.tells
+            × IsOpened (files self.old) (files self.new) name.now slot o.bytes (Self.C.state o.header) (map Self.C.state o.cells.items)) }
+
+        // When each refusal comes, and what it leaves.
+        ensures missing { IsTrue tells → (IsErrOf result OpenFault.Missing ↔ (get (files self.old) name.now ≡ None)) }
+        ensures short { (bytes : ℕ) → IsErrOf result (OpenFault.Small bytes) → bytes < 16384 + slot }
+        ensures small { IsTrue tells → (bytes : ℕ) → (IsErrOf result (OpenFault.Small bytes) ↔ IsSmall (files self.old) name.now slot bytes) }
+        ensures failed { IsErrOf result OpenFault.Failed → Rose (faults self.old) (faults self.new) }
+        ensures refused { OnErr result (files self.new ≡ files self.old) }
+
+        ensures faults { faults self.old ≤ faults self.new }
+        ensures made { made self.new ≡ made self.old }
+        ensures ended { ended self.new ≡ ended self.old };
+
+    /// A new station for a file, whether its cells are out or in. Its count of faults is 0.
+    fn station(&mut self, name: &str) -> Result<Self::St, StationFault>
+        requires { IsTrue tells → IsThere (files self.old) name.now }
+
+        ensures fresh { IfOk result (λ s. Self.St.faults s ≡ 0) }
+        ensures made { OnOk result (made self.new ≡ made self.old + 1) }
+        ensures refused { OnErr result (made self.new ≡ made self.old) }
+        ensures failed { IsErrOf result StationFault.Failed → Rose (faults self.old) (faults self.new) }
+
+        ensures files { files self.new ≡ files self.old }
+        ensures faults { faults self.old ≤ faults self.new }
+        ensures ended { ended self.new ≡ ended self.old };
+
+    /// Takes a station back, and keeps its count of faults. It takes no memory.
+    fn end_station(&mut self, station: Self::St)
+        requires { length (ended self.old) < made self.old }
+
+        ensures ended { ended self.new ≡ ended self.old ++ Self.St.faults station ∷ [] }
+        ensures files { files self.new ≡ files self.old }
+        ensures faults { faults self.new ≡ faults self.old }
+        ensures made { made self.new ≡ made self.old };
+
+    /// Puts the cells of a file back as they are. It takes no memory.
+    fn give_back(&mut self, name: &str, header: Self::C, cells: Vec<Self::C>)
+        requires { IsTrue tells → IsOut (files self.old) name.now (Self.C.state header) (map Self.C.state cells.items) }
+
+        ensures back { (slots slot : ℕ) (rest : List ℕ) → IsTrue tells → get (files self.old) name.now ≡ Some (Away slots slot rest)
+            → files self.new ≡ insert (files self.old) name.now (Home (Self.C.state header) (map Self.C.state cells.items) rest) }
+        ensures faults { faults self.new ≡ faults self.old }
+        ensures made { made self.new ≡ made self.old }
+        ensures ended { ended self.new ≡ ended self.old };
+
+    /// No station was ended that was not made.
+    ghost ended_were_made: { (volume : Self) → length (ended volume) ≤ made volume };
+}

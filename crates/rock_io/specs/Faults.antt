@@ -1,0 +1,6 @@
+-- Counts of faults.
+use Rattle.std.specs.Prelude.{ℕ, ◌+◌, ◌-◌, ◌^◌, ◌≤◌, min}
+
+-- a count of faults rose in a call; where a count of 64 bits stands at its end it cannot, and is taken as risen
+abbrev pub Rose : ℕ → ℕ → Type 0
+Rose before after = min (before + 1) (2 ^ 64 - 1) ≤ after
