@@ -1,0 +1,9 @@
+pub mod Front
+pub mod Values
+pub mod Walk
+pub mod OneWalk
+pub mod OneFault
+pub mod OneFrame
+pub mod OneOutcome
+pub mod Size
+pub mod Outcome

@@ -1,0 +1,66 @@
+-- One thing is wrong with items.
+use Rattle.std.proofs.Common.{◌≡◌, ◌≢◌, ℕ, zero, suc, ◌+◌, ◌^◌, ◌<◌, ◌≤◌, ◌==◌, Bool, true, false, cond, List, [], ◌∷◌, ◌++◌, length, get_or, take, drop, map, ◌⊎◌, refl, sym, ap, subst, ◌∙◌, append_assoc, inl, inr, arith, eq-eqb}
+use Rattle.std.specs.Prelude.{filter}
+use Rattle.std.specs.Int.{w32, to_le_bytes, from_le_bytes}
+use Rattle.std.specs.List.{flat_map}
+use Rattle.std.proofs.lemmas.List.{take_at, drop_at, take-append-drop, length-append, length-take, append_cancel_right, map-append, append-nil}
+use Rattle.std.proofs.lemmas.List.Elements.{filter-append}
+use Rattle.std.proofs.lemmas.Nat.{from_le_bytes-to_le_bytes_4}
+use Rattle.swap_meta.specs.declared.fault.MetaFault.{MetaFault}
+use Rattle.swap_meta.specs.declared.fault.MetaFault.TheVariants.{BadMark, BadLength, NoKey, NoUrl, Repeated}
+use Rattle.swap_meta.proofs.Walk.{length-item_bytes}
+use Rattle.swap_meta.specs.Meta.{Item, item_bytes, values_of, Spells, whole_length, Frames, AtMostOne, IsKey, IsUrl, IsInOrder, IsRepeated, IsWrong, IsCut, NextIs, Stops, ItemsFail, FrameFails, InsideFails, Refuses}
+use Rattle.swap_meta.proofs.Front.{same_next}
+use Rattle.swap_meta.proofs.OneWalk.{not_nothing, stops_end, one_walk}
+
+pub length_not_at_end : (items : List Item) (left : List ℕ) → Stops items left BadLength → left ≡ [] → ⊥
+length_not_at_end items left (inl cut) e = cut.0 e
+length_not_at_end items left (inr next) e = not_nothing next.0 next.1 (sym e ∙ next.2)
+
+pub next_not_at_end : (P : Item → Type 0) (left : List ℕ) → NextIs P left → left ≡ [] → ⊥
+next_not_at_end P left next e = not_nothing next.0 next.1 (sym e ∙ next.2)
+
+length_not_repeated : (items : List Item) (left : List ℕ) → length left < 2 ^ 32 → Stops items left BadLength → NextIs (IsRepeated items) left → ⊥
+length_not_repeated items left fits (inl cut) next = cut.1 next.0 next.1 next.2
+length_not_repeated items left fits (inr wrong) next =
+    let short : length (item_bytes wrong.0 ++ wrong.1) < 2 ^ 32 = subst (λ (xs : List ℕ). length xs < 2 ^ 32) wrong.2 fits in
+    let same = same_next wrong.0 next.0 wrong.1 next.1 short (sym wrong.2 ∙ next.2) in
+    let wrong' : IsWrong items next.0 = subst (IsWrong items) same.0 wrong.3 in
+    next.3.1 wrong'.1
+
+one_stop : (items : List Item) (left : List ℕ) (f g : MetaFault) → length left < 2 ^ 32 → Stops items left f → Stops items left g → f ≡ g
+one_stop items left BadMark g fits p q = absurd p
+one_stop items left BadLength BadMark fits p q = absurd q
+one_stop items left BadLength BadLength fits p q = refl
+one_stop items left BadLength NoKey fits p q = absurd (length_not_at_end items left p q.0)
+one_stop items left BadLength NoUrl fits p q = absurd (length_not_at_end items left p q.0)
+one_stop items left BadLength Repeated fits p q = absurd (length_not_repeated items left fits p q)
+one_stop items left NoKey BadMark fits p q = absurd q
+one_stop items left NoKey BadLength fits p q = absurd (length_not_at_end items left q p.0)
+one_stop items left NoKey NoKey fits p q = refl
+one_stop items left NoKey NoUrl fits p q = absurd (q.1 p.1)
+one_stop items left NoKey Repeated fits p q = absurd (next_not_at_end (IsRepeated items) left q p.0)
+one_stop items left NoUrl BadMark fits p q = absurd q
+one_stop items left NoUrl BadLength fits p q = absurd (length_not_at_end items left q p.0)
+one_stop items left NoUrl NoKey fits p q = absurd (p.1 q.1)
+one_stop items left NoUrl NoUrl fits p q = refl
+one_stop items left NoUrl Repeated fits p q = absurd (next_not_at_end (IsRepeated items) left q p.0)
+one_stop items left Repeated BadMark fits p q = absurd q
+one_stop items left Repeated BadLength fits p q = absurd (length_not_repeated items left fits q p)
+one_stop items left Repeated NoKey fits p q = absurd (next_not_at_end (IsRepeated items) left p q.0)
+one_stop items left Repeated NoUrl fits p q = absurd (next_not_at_end (IsRepeated items) left p q.0)
+one_stop items left Repeated Repeated fits p q = refl
+
+pub left_fits : (items : List Item) (left inside : List ℕ) → inside ≡ flat_map item_bytes items ++ left → length inside < 2 ^ 32 → length left < 2 ^ 32
+left_fits items left inside parts fits =
+    let long : length inside ≡ length (flat_map item_bytes items ++ left) = ap length parts in
+    omega (arith, long, length-append (flat_map item_bytes items) left)
+
+pub fails_once : (inside : List ℕ) (f g : MetaFault) → length inside < 2 ^ 32 → ItemsFail inside f → ItemsFail inside g → f ≡ g
+fails_once inside f g fits p q =
+    let p-fits = left_fits p.items p.left inside p.parts fits in
+    let q-fits = left_fits q.items q.left inside q.parts fits in
+    let fits' : length (flat_map item_bytes p.items ++ p.left) < 2 ^ 32 = subst (λ (xs : List ℕ). length xs < 2 ^ 32) p.parts fits in
+    let same = one_walk IsInOrder p.items q.items p.left q.left fits' (sym p.parts ∙ q.parts) p.in_order q.in_order (stops_end p.items p.left f p-fits p.stops) (stops_end q.items q.left g q-fits q.stops) in
+    let q-stops : Stops p.items p.left g = subst (λ (left : List ℕ). Stops p.items left g) (sym same.1) (subst (λ (items : List Item). Stops items q.left g) (sym same.0) q.stops) in
+    one_stop p.items p.left f g p-fits p.stops q-stops

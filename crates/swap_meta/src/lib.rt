@@ -1,0 +1,15 @@
+//! The metadata at the front of a stored object: its key, its URL and other items.
+//!
+//! Metadata is the byte 3, the whole length as a `u32` (lowest byte first, these five bytes
+//! counted), and items up to the whole length. An item is a byte for its type, the length of its
+//! value as such a `u32`, and the value. Type 3 is the key of 16 bytes, and type 4 the URL with a
+//! zero byte behind it. Other types are passed over.
+#![tactic(auto)]
+
+mod fault;
+mod head;
+mod items;
+mod reading;
+
+pub use fault::MetaFault;
+pub use reading::{Meta, read_meta};
