@@ -1,15 +1,11 @@
 -- Bytes have one whole length, or one thing is wrong with it.
-use Rattle.std.proofs.Common.{◌≡◌, ◌≢◌, ℕ, zero, suc, ◌+◌, ◌^◌, ◌<◌, ◌≤◌, ◌==◌, Bool, true, false, cond, List, [], ◌∷◌, ◌++◌, length, get_or, take, drop, map, ◌⊎◌, refl, sym, ap, subst, ◌∙◌, append_assoc, inl, inr, arith, eq-eqb}
-use Rattle.std.specs.Prelude.{filter}
+use Rattle.std.proofs.Common.{◌≡◌, ℕ, suc, ◌+◌, ◌^◌, ◌<◌, ◌≤◌, List, ◌∷◌, ◌++◌, length, take, drop, refl, sym, ap, ◌∙◌, inl, inr, arith}
 use Rattle.std.specs.Int.{w32, to_le_bytes, from_le_bytes}
-use Rattle.std.specs.List.{flat_map}
-use Rattle.std.proofs.lemmas.List.{take_at, drop_at, take-append-drop, length-append, length-take, append_cancel_right, map-append, append-nil}
-use Rattle.std.proofs.lemmas.List.Elements.{filter-append}
+use Rattle.std.proofs.lemmas.List.{take-append-drop, length-take}
 use Rattle.std.proofs.lemmas.Nat.{from_le_bytes-to_le_bytes_4}
 use Rattle.swap_meta.specs.declared.fault.MetaFault.{MetaFault}
 use Rattle.swap_meta.specs.declared.fault.MetaFault.TheVariants.{BadMark, BadLength, NoKey, NoUrl, Repeated}
-use Rattle.swap_meta.proofs.Walk.{length-item_bytes}
-use Rattle.swap_meta.specs.Meta.{Item, item_bytes, values_of, Spells, whole_length, Frames, AtMostOne, IsKey, IsUrl, IsInOrder, IsRepeated, IsWrong, IsCut, NextIs, Stops, ItemsFail, FrameFails, InsideFails, Refuses}
+use Rattle.swap_meta.specs.Meta.{whole_length, Frames, FrameFails}
 
 frame_parts : (bytes inside : List ℕ) (L : ℕ) → Frames bytes inside L → bytes ≡ 3 ∷ (to_le_bytes w32 L ++ (inside ++ drop L bytes))
 frame_parts bytes inside L frames = sym (take-append-drop L bytes) ∙ ap (λ (front : List ℕ). front ++ drop L bytes) frames.spelled

@@ -1,15 +1,10 @@
 -- Bytes have one outcome: metadata stands in front of them in one way, or one thing is wrong with them first.
-use Rattle.std.proofs.Common.{◌≡◌, ◌≢◌, ℕ, zero, suc, ◌+◌, ◌^◌, ◌<◌, ◌≤◌, ◌==◌, Bool, true, false, cond, List, [], ◌∷◌, ◌++◌, length, get_or, take, drop, map, ◌⊎◌, refl, sym, ap, subst, ◌∙◌, append_assoc, inl, inr, arith, eq-eqb}
-use Rattle.std.specs.Prelude.{filter}
-use Rattle.std.specs.Int.{w32, to_le_bytes, from_le_bytes}
+use Rattle.std.proofs.Common.{◌≡◌, ℕ, ◌^◌, ◌<◌, List, [], ◌∷◌, ◌++◌, length, take, refl, sym, ap, subst, ◌∙◌, inl, inr, arith}
 use Rattle.std.specs.List.{flat_map}
-use Rattle.std.proofs.lemmas.List.{take_at, drop_at, take-append-drop, length-append, length-take, append_cancel_right, map-append, append-nil}
-use Rattle.std.proofs.lemmas.List.Elements.{filter-append}
-use Rattle.std.proofs.lemmas.Nat.{from_le_bytes-to_le_bytes_4}
+use Rattle.std.proofs.lemmas.List.{length-take, append_cancel_right, append-nil}
 use Rattle.swap_meta.specs.declared.fault.MetaFault.{MetaFault}
 use Rattle.swap_meta.specs.declared.fault.MetaFault.TheVariants.{BadMark, BadLength, NoKey, NoUrl, Repeated}
-use Rattle.swap_meta.proofs.Walk.{length-item_bytes}
-use Rattle.swap_meta.specs.Meta.{Item, item_bytes, values_of, Spells, whole_length, Frames, AtMostOne, IsKey, IsUrl, IsInOrder, IsRepeated, IsWrong, IsCut, NextIs, Stops, ItemsFail, FrameFails, InsideFails, Refuses}
+use Rattle.swap_meta.specs.Meta.{Item, item_bytes, values_of, Spells, Frames, AtMostOne, IsKey, IsUrl, IsInOrder, IsRepeated, Stops, ItemsFail, Refuses}
 use Rattle.swap_meta.proofs.OneWalk.{nothing_ends, stops_end, one_walk}
 use Rattle.swap_meta.proofs.OneFault.{length_not_at_end, next_not_at_end, left_fits, fails_once}
 use Rattle.swap_meta.proofs.OneFrame.{one_frame, frame_holds, one_frame_fault, framed_fits}

@@ -1,5 +1,5 @@
 -- What a reader that is right about each outcome says of all bytes.
-use Rattle.std.proofs.Common.{◌≡◌, ℕ, ◌+◌, ◌≤◌, List, length, take, Result, Ok, Err, sym, ap, subst}
+use Rattle.std.proofs.Common.{◌≡◌, ℕ, ◌+◌, ◌≤◌, List, length, take, Result, Ok, Err, ap, subst}
 use Rattle.std.specs.Prelude.{IfOk, IfErr, IsOkAnd, IsErrOf, ◌↔◌}
 use Rattle.swap_meta.specs.declared.fault.MetaFault.{MetaFault}
 use Rattle.swap_meta.specs.declared.reading.Meta.{Meta}
