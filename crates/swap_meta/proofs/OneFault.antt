@@ -1,25 +1,23 @@
 -- One thing is wrong with items.
-use Rattle.std.proofs.Common.{◌≡◌, ◌≢◌, ℕ, zero, suc, ◌+◌, ◌^◌, ◌<◌, ◌≤◌, ◌==◌, Bool, true, false, cond, List, [], ◌∷◌, ◌++◌, length, get_or, take, drop, map, ◌⊎◌, refl, sym, ap, subst, ◌∙◌, append_assoc, inl, inr, arith, eq-eqb}
-use Rattle.std.specs.Prelude.{filter}
-use Rattle.std.specs.Int.{w32, to_le_bytes, from_le_bytes}
+use Rattle.std.proofs.Common.{◌≡◌, ℕ, ◌^◌, ◌<◌, List, [], ◌++◌, length, refl, sym, ap, subst, ◌∙◌, inl, inr, arith}
 use Rattle.std.specs.List.{flat_map}
-use Rattle.std.proofs.lemmas.List.{take_at, drop_at, take-append-drop, length-append, length-take, append_cancel_right, map-append, append-nil}
-use Rattle.std.proofs.lemmas.List.Elements.{filter-append}
-use Rattle.std.proofs.lemmas.Nat.{from_le_bytes-to_le_bytes_4}
+use Rattle.std.proofs.lemmas.List.{length-append}
 use Rattle.swap_meta.specs.declared.fault.MetaFault.{MetaFault}
 use Rattle.swap_meta.specs.declared.fault.MetaFault.TheVariants.{BadMark, BadLength, NoKey, NoUrl, Repeated}
-use Rattle.swap_meta.proofs.Walk.{length-item_bytes}
-use Rattle.swap_meta.specs.Meta.{Item, item_bytes, values_of, Spells, whole_length, Frames, AtMostOne, IsKey, IsUrl, IsInOrder, IsRepeated, IsWrong, IsCut, NextIs, Stops, ItemsFail, FrameFails, InsideFails, Refuses}
+use Rattle.swap_meta.specs.Meta.{Item, item_bytes, IsInOrder, IsRepeated, IsWrong, NextIs, Stops, ItemsFail}
 use Rattle.swap_meta.proofs.Front.{same_next}
 use Rattle.swap_meta.proofs.OneWalk.{not_nothing, stops_end, one_walk}
 
+-- at the end no length is wrong
 pub length_not_at_end : (items : List Item) (left : List ℕ) → Stops items left BadLength → left ≡ [] → ⊥
 length_not_at_end items left (inl cut) e = cut.0 e
 length_not_at_end items left (inr next) e = not_nothing next.0 next.1 (sym e ∙ next.2)
 
+-- at the end no item comes next
 pub next_not_at_end : (P : Item → Type 0) (left : List ℕ) → NextIs P left → left ≡ [] → ⊥
 next_not_at_end P left next e = not_nothing next.0 next.1 (sym e ∙ next.2)
 
+-- an item that is repeated is whole, and its value is not looked at
 length_not_repeated : (items : List Item) (left : List ℕ) → length left < 2 ^ 32 → Stops items left BadLength → NextIs (IsRepeated items) left → ⊥
 length_not_repeated items left fits (inl cut) next = cut.1 next.0 next.1 next.2
 length_not_repeated items left fits (inr wrong) next =
@@ -28,6 +26,7 @@ length_not_repeated items left fits (inr wrong) next =
     let wrong' : IsWrong items next.0 = subst (IsWrong items) same.0 wrong.3 in
     next.3.1 wrong'.1
 
+-- one thing is wrong behind these items
 one_stop : (items : List Item) (left : List ℕ) (f g : MetaFault) → length left < 2 ^ 32 → Stops items left f → Stops items left g → f ≡ g
 one_stop items left BadMark g fits p q = absurd p
 one_stop items left BadLength BadMark fits p q = absurd q
@@ -51,11 +50,13 @@ one_stop items left Repeated NoKey fits p q = absurd (next_not_at_end (IsRepeate
 one_stop items left Repeated NoUrl fits p q = absurd (next_not_at_end (IsRepeated items) left p q.0)
 one_stop items left Repeated Repeated fits p q = refl
 
+-- what is left is no longer than the whole
 pub left_fits : (items : List Item) (left inside : List ℕ) → inside ≡ flat_map item_bytes items ++ left → length inside < 2 ^ 32 → length left < 2 ^ 32
 left_fits items left inside parts fits =
     let long : length inside ≡ length (flat_map item_bytes items ++ left) = ap length parts in
     omega (arith, long, length-append (flat_map item_bytes items) left)
 
+-- one thing is wrong with the items in these bytes
 pub fails_once : (inside : List ℕ) (f g : MetaFault) → length inside < 2 ^ 32 → ItemsFail inside f → ItemsFail inside g → f ≡ g
 fails_once inside f g fits p q =
     let p-fits = left_fits p.items p.left inside p.parts fits in

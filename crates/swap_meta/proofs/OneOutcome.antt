@@ -1,15 +1,10 @@
 -- Bytes have one outcome: metadata stands in front of them in one way, or one thing is wrong with them first.
-use Rattle.std.proofs.Common.{◌≡◌, ◌≢◌, ℕ, zero, suc, ◌+◌, ◌^◌, ◌<◌, ◌≤◌, ◌==◌, Bool, true, false, cond, List, [], ◌∷◌, ◌++◌, length, get_or, take, drop, map, ◌⊎◌, refl, sym, ap, subst, ◌∙◌, append_assoc, inl, inr, arith, eq-eqb}
-use Rattle.std.specs.Prelude.{filter}
-use Rattle.std.specs.Int.{w32, to_le_bytes, from_le_bytes}
+use Rattle.std.proofs.Common.{◌≡◌, ℕ, ◌^◌, ◌<◌, List, [], ◌∷◌, ◌++◌, length, take, refl, sym, ap, subst, ◌∙◌, inl, inr, arith}
 use Rattle.std.specs.List.{flat_map}
-use Rattle.std.proofs.lemmas.List.{take_at, drop_at, take-append-drop, length-append, length-take, append_cancel_right, map-append, append-nil}
-use Rattle.std.proofs.lemmas.List.Elements.{filter-append}
-use Rattle.std.proofs.lemmas.Nat.{from_le_bytes-to_le_bytes_4}
+use Rattle.std.proofs.lemmas.List.{length-take, append_cancel_right, append-nil}
 use Rattle.swap_meta.specs.declared.fault.MetaFault.{MetaFault}
 use Rattle.swap_meta.specs.declared.fault.MetaFault.TheVariants.{BadMark, BadLength, NoKey, NoUrl, Repeated}
-use Rattle.swap_meta.proofs.Walk.{length-item_bytes}
-use Rattle.swap_meta.specs.Meta.{Item, item_bytes, values_of, Spells, whole_length, Frames, AtMostOne, IsKey, IsUrl, IsInOrder, IsRepeated, IsWrong, IsCut, NextIs, Stops, ItemsFail, FrameFails, InsideFails, Refuses}
+use Rattle.swap_meta.specs.Meta.{Item, item_bytes, values_of, Spells, Frames, AtMostOne, IsKey, IsUrl, IsInOrder, IsRepeated, Stops, ItemsFail, Refuses}
 use Rattle.swap_meta.proofs.OneWalk.{nothing_ends, stops_end, one_walk}
 use Rattle.swap_meta.proofs.OneFault.{length_not_at_end, next_not_at_end, left_fits, fails_once}
 use Rattle.swap_meta.proofs.OneFrame.{one_frame, frame_holds, one_frame_fault, framed_fits}
@@ -23,21 +18,24 @@ refused_once bytes f g (inr p) (inr q) =
     let same = one_frame bytes p.inside q.inside p.size q.size p.frames q.frames in
     fails_once p.inside f g (framed_fits bytes p.inside p.size p.frames) p.fails (subst (λ (inside : List ℕ). ItemsFail inside g) (sym same.1) q.fails)
 
+-- metadata has a right mark and a right whole length
 spells_frames : (bytes key url : List ℕ) (n : ℕ) (spells : Spells (take n bytes) key url n) → Frames bytes (flat_map item_bytes spells.items) n
 spells_frames bytes key url n spells = record { within = omega (arith, spells.size, length-take n bytes); fits = spells.fits; spelled = spells.spelled }
 
+-- its items are in order
 spells_in_order : (bytes key url : List ℕ) (n : ℕ) (spells : Spells bytes key url n) → IsInOrder spells.items
 spells_in_order bytes key url n spells = record {
   keys = subst (AtMostOne IsKey) (sym spells.one_key) spells.sixteen;
   urls = subst (AtMostOne IsUrl) (sym spells.one_url) (url, refl);
 }
 
-spelled_stops : (key : List ℕ) (urls : List (List ℕ)) (items : List Item) (url : List ℕ) (fault : MetaFault) → values_of 3 items ≡ key ∷ [] → values_of 4 items ≡ url ∷ [] → Stops items [] fault → ⊥
-spelled_stops key urls items url BadMark one_key one_url stops = stops
-spelled_stops key urls items url BadLength one_key one_url stops = length_not_at_end items [] stops refl
-spelled_stops key urls items url NoKey one_key one_url stops = let none = stops.1 in absurd cc
-spelled_stops key urls items url NoUrl one_key one_url stops = let none = stops.2 in absurd cc
-spelled_stops key urls items url Repeated one_key one_url stops = next_not_at_end (IsRepeated items) [] stops refl
+-- where the items have one key and one URL, nothing is wrong at their end
+spelled_stops : (key : List ℕ) (items : List Item) (url : List ℕ) (fault : MetaFault) → values_of 3 items ≡ key ∷ [] → values_of 4 items ≡ url ∷ [] → Stops items [] fault → ⊥
+spelled_stops key items url BadMark one_key one_url stops = stops
+spelled_stops key items url BadLength one_key one_url stops = length_not_at_end items [] stops refl
+spelled_stops key items url NoKey one_key one_url stops = let none = stops.1 in absurd cc
+spelled_stops key items url NoUrl one_key one_url stops = let none = stops.2 in absurd cc
+spelled_stops key items url Repeated one_key one_url stops = next_not_at_end (IsRepeated items) [] stops refl
 
 -- metadata is not refused
 pub spelled_or_refused : (bytes key url : List ℕ) (n : ℕ) (fault : MetaFault) → Spells (take n bytes) key url n → Refuses bytes fault → ⊥
@@ -52,7 +50,7 @@ spelled_or_refused bytes key url n fault spells (inr refused) =
     let left-fits = left_fits fails.items fails.left refused.inside fails.parts (framed_fits bytes refused.inside refused.size refused.frames) in
     let walk = one_walk IsInOrder spells.items fails.items [] fails.left fits parts (spells_in_order (take n bytes) key url n spells) fails.in_order (nothing_ends IsInOrder spells.items [] refl) (stops_end fails.items fails.left fault left-fits fails.stops) in
     let stops : Stops spells.items [] fault = subst (λ (left : List ℕ). Stops spells.items left fault) (sym walk.1) (subst (λ (items : List Item). Stops items fails.left fault) (sym walk.0) fails.stops) in
-    spelled_stops key [] spells.items (url ++ 0 ∷ []) fault spells.one_key spells.one_url stops
+    spelled_stops key spells.items (url ++ 0 ∷ []) fault spells.one_key spells.one_url stops
 
 one_value : (x y : List ℕ) → x ∷ [] ≡ y ∷ [] → x ≡ y
 one_value x y e = cc

@@ -1,15 +1,10 @@
 -- Bytes are items in order, and a rest at which these end, in one way.
-use Rattle.std.proofs.Common.{◌≡◌, ◌≢◌, ℕ, zero, suc, ◌+◌, ◌^◌, ◌<◌, ◌≤◌, ◌==◌, Bool, true, false, cond, List, [], ◌∷◌, ◌++◌, length, get_or, take, drop, map, ◌⊎◌, refl, sym, ap, subst, ◌∙◌, append_assoc, inl, inr, arith, eq-eqb}
-use Rattle.std.specs.Prelude.{filter}
-use Rattle.std.specs.Int.{w32, to_le_bytes, from_le_bytes}
+use Rattle.std.proofs.Common.{◌≡◌, ℕ, ◌^◌, ◌<◌, List, [], ◌∷◌, ◌++◌, length, refl, sym, ap, subst, ◌∙◌, append_assoc, inl, inr, arith}
 use Rattle.std.specs.List.{flat_map}
-use Rattle.std.proofs.lemmas.List.{take_at, drop_at, take-append-drop, length-append, length-take, append_cancel_right, map-append, append-nil}
-use Rattle.std.proofs.lemmas.List.Elements.{filter-append}
-use Rattle.std.proofs.lemmas.Nat.{from_le_bytes-to_le_bytes_4}
 use Rattle.swap_meta.specs.declared.fault.MetaFault.{MetaFault}
 use Rattle.swap_meta.specs.declared.fault.MetaFault.TheVariants.{BadMark, BadLength, NoKey, NoUrl, Repeated}
 use Rattle.swap_meta.proofs.Walk.{length-item_bytes}
-use Rattle.swap_meta.specs.Meta.{Item, item_bytes, values_of, Spells, whole_length, Frames, AtMostOne, IsKey, IsUrl, IsInOrder, IsRepeated, IsWrong, IsCut, NextIs, Stops, ItemsFail, FrameFails, InsideFails, Refuses}
+use Rattle.swap_meta.specs.Meta.{Item, item_bytes, IsInOrder, IsRepeated, IsWrong, NextIs, Stops}
 use Rattle.swap_meta.proofs.Front.{same_next}
 use Rattle.swap_meta.proofs.Values.{wrong_next, repeated_next}
 
@@ -17,19 +12,22 @@ use Rattle.swap_meta.proofs.Values.{wrong_next, repeated_next}
 abbrev pub Ends : (List Item → Type 0) → List Item → List ℕ → Type 0
 Ends Q xs left = (i : Item) (more : List ℕ) (ys : List Item) → left ≡ item_bytes i ++ more → Q (xs ++ i ∷ ys) → ⊥
 
+-- an item takes bytes
 pub not_nothing : (i : Item) (more : List ℕ) → [] ≡ item_bytes i ++ more → ⊥
 not_nothing i more e = absurd cc
 
+-- items end where nothing is left
 pub nothing_ends : (Q : List Item → Type 0) (xs : List Item) (left : List ℕ) → left ≡ [] → Ends Q xs left
 nothing_ends Q xs left e i more ys next q = not_nothing i more (sym e ∙ next)
 
--- one place of one kind: the item there may not come
+-- items end before one that may not come behind them
 next_ends : (P : Item → Type 0) (xs : List Item) (left : List ℕ) → length left < 2 ^ 32 → ((i : Item) (ys : List Item) → P i → IsInOrder (xs ++ i ∷ ys) → ⊥) → NextIs P left → Ends IsInOrder xs left
 next_ends P xs left fits never (j, rest, at, holds) i more ys next in_order =
     let same : item_bytes j ++ rest ≡ item_bytes i ++ more = sym at ∙ next in
     let short : length (item_bytes j ++ rest) < 2 ^ 32 = subst (λ (xs : List ℕ). length xs < 2 ^ 32) at fits in
     never i ys (subst P (same_next j i rest more short same).0 holds) in_order
 
+-- items in order end where something is wrong
 pub stops_end : (xs : List Item) (left : List ℕ) (fault : MetaFault) → length left < 2 ^ 32 → Stops xs left fault → Ends IsInOrder xs left
 stops_end xs left BadMark fits stops = absurd stops
 stops_end xs left BadLength fits (inl cut) = λ i more ys next in_order. cut.1 i more next
@@ -38,6 +36,7 @@ stops_end xs left NoKey fits stops = nothing_ends IsInOrder xs left stops.0
 stops_end xs left NoUrl fits stops = nothing_ends IsInOrder xs left stops.0
 stops_end xs left Repeated fits stops = next_ends (IsRepeated xs) xs left fits (repeated_next xs) stops
 
+-- bytes are items up to such an end in one way
 pub one_walk : (Q : List Item → Type 0) (xs ys : List Item) (s t : List ℕ) → length (flat_map item_bytes xs ++ s) < 2 ^ 32 → flat_map item_bytes xs ++ s ≡ flat_map item_bytes ys ++ t → Q xs → Q ys → Ends Q xs s → Ends Q ys t → (xs ≡ ys) × (s ≡ t)
 one_walk Q [] [] s t fits e q-xs q-ys s-ends t-ends = (refl, e)
 one_walk Q [] (y ∷ ys) s t fits e q-xs q-ys s-ends t-ends =

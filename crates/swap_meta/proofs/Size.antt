@@ -1,5 +1,5 @@
 -- How long metadata is at least.
-use Rattle.std.proofs.Common.{◌≡◌, ℕ, suc, ◌+◌, ◌≤◌, ◌==◌, Bool, true, false, cond, List, [], ◌∷◌, ◌++◌, length, map, refl, sym, ap, subst, ◌∙◌, arith}
+use Rattle.std.proofs.Common.{◌≡◌, ℕ, suc, ◌+◌, ◌≤◌, ◌==◌, Bool, true, false, cond, List, [], ◌∷◌, ◌++◌, length, map, refl, ap, arith}
 use Rattle.std.specs.Prelude.{filter}
 use Rattle.std.specs.List.{flat_map}
 use Rattle.std.proofs.lemmas.Bool.{eqb-true}
@@ -12,9 +12,11 @@ abbrev weight : List (List ℕ) → ℕ
 weight [] = 0
 weight (value ∷ values) = 5 + length value + weight values
 
+-- the values, and that of the item in front where it is of the type
 abbrev values_if : Bool → Item → List (List ℕ) → List (List ℕ)
 values_if b i values = cond b (i.value ∷ values) values
 
+-- the values with one more item in front
 values_of-cons : (kind : ℕ) (i : Item) (items : List Item) → values_of kind (i ∷ items) ≡ values_if (i.kind == kind) i (values_of kind items)
 values_of-cons kind i items =
     let is_kind : Item → Bool = λ j. j.kind == kind in
@@ -31,6 +33,7 @@ one_type i true false threes fours three four = omega arith
 one_type i false true threes fours three four = omega arith
 one_type i false false threes fours three four = omega arith
 
+-- items take at least the bytes of those of the two types
 items_weigh : (items : List Item) → weight (values_of 3 items) + weight (values_of 4 items) ≤ length (flat_map item_bytes items)
 items_weigh [] = omega arith
 items_weigh (i ∷ items) =

@@ -1,5 +1,5 @@
 -- The steps of a walk over the items.
-use Rattle.std.proofs.Common.{◌≡◌, ℕ, ◌+◌, ◌≤◌, List, [], ◌∷◌, ◌++◌, length, Option, Some, None, Bor, refl, sym, ap, subst, ◌∙◌, append_assoc, inl, inr, arith}
+use Rattle.std.proofs.Common.{◌≡◌, ℕ, ◌+◌, ◌≤◌, List, [], ◌∷◌, ◌++◌, length, Option, Some, None, Bor, refl, sym, ap, subst, ◌∙◌, append_assoc, inr, arith}
 use Rattle.std.specs.List.{flat_map}
 use Rattle.std.proofs.lemmas.List.{flat_map_more, length-append}
 use Rattle.swap_meta.specs.declared.fault.MetaFault.{MetaFault}
@@ -8,6 +8,7 @@ use Rattle.swap_meta.specs.declared.items.Seen.{Seen}
 use Rattle.swap_meta.specs.Meta.{Item, item_bytes, values_of, AtMostOne, IsKey, IsUrl, IsInOrder, ItemsFail}
 use Rattle.swap_meta.specs.Seen.{HoldsKey, HoldsUrl, IsSeen, AddFails}
 
+-- how many bytes an item takes
 pub length-item_bytes : (i : Item) (more : List ℕ) → length (item_bytes i ++ more) ≡ 5 + (length i.value + length more)
 length-item_bytes i more = omega (arith, length-append i.value more)
 
@@ -22,10 +23,12 @@ item_more inside left more items i parts next =
     ∙ sym (append_assoc (flat_map item_bytes items) (item_bytes i) more)
     ∙ ap (λ (front : List ℕ). front ++ more) (flat_map_more item_bytes [] items i)
 
+-- a key that is held is in order
 keys_in_order : (key : Option (List ℕ)) (values : List (List ℕ)) → HoldsKey key values → AtMostOne IsKey values
 keys_in_order None values held = subst (AtMostOne IsKey) (sym held) tt
 keys_in_order (Some key) values held = subst (AtMostOne IsKey) (sym held.0) held.1
 
+-- and so is a URL
 urls_in_order : (url : Option (Bor (List ℕ))) (values : List (List ℕ)) → HoldsUrl url values → AtMostOne IsUrl values
 urls_in_order None values held = subst (AtMostOne IsUrl) (sym held) tt
 urls_in_order (Some url) values held = subst (AtMostOne IsUrl) (sym held) (url.now, refl)

@@ -1,5 +1,5 @@
 -- What metadata is, and what is wrong with bytes that are none.
-use Rattle.std.specs.Prelude.{◌≡◌, ◌≢◌, ℕ, ◌+◌, ◌<◌, ◌≤◌, ◌^◌, ◌⊎◌, ◌==◌, List, [], ◌∷◌, ◌++◌, length, take, drop, map, filter}
+use Rattle.std.specs.Prelude.{◌≡◌, ◌≢◌, ℕ, ◌<◌, ◌≤◌, ◌^◌, ◌⊎◌, ◌==◌, List, [], ◌∷◌, ◌++◌, length, take, drop, map, filter}
 use Rattle.std.specs.Int.{w32, to_le_bytes, from_le_bytes}
 use Rattle.std.specs.List.{flat_map}
 use Rattle.swap_meta.specs.declared.fault.MetaFault.{MetaFault}
@@ -34,7 +34,7 @@ pub record Spells (bytes key url : List ℕ) (L : ℕ) : Type 0 where
 abbrev pub whole_length : List ℕ → ℕ
 whole_length bytes = from_le_bytes w32 (take 4 (drop 1 bytes))
 
--- the bytes begin with the mark and the whole length `L`, which they reach, and `inside` is what stands behind these up to `L`
+-- the bytes begin with the mark and the whole length `L`, and there are as many; `inside` is what stands between these and `L`
 pub record Frames (bytes inside : List ℕ) (L : ℕ) : Type 0 where
   pub within : L ≤ length bytes
   pub fits : L < 2 ^ 32

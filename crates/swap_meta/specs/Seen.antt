@@ -7,6 +7,7 @@ use Rattle.swap_meta.specs.declared.fault.MetaFault.TheVariants.{BadMark, BadLen
 use Rattle.swap_meta.specs.declared.items.Seen.{Seen}
 use Rattle.swap_meta.specs.Meta.{Item, item_bytes, values_of, IsKey, IsRepeated, IsWrong}
 
+-- an item from its parts
 abbrev pub item_of : ℕ → List ℕ → Item
 item_of kind value = record { kind = kind; value = value }
 

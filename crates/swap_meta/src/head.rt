@@ -14,7 +14,8 @@ pub const HEAD: usize = 5;
 
 /// Takes a mark and a length off the front, or `None` for fewer than five bytes.
 pub fn split_head(bytes: &[u8]) -> Option<Head<'_>>
-    ensures found { IfSome result (λ head. bytes.now ≡ head.mark ∷ (to_le_bytes w32 head.length ++ head.rest.now)) }
+    ensures found { IfSome result (λ head.
+        bytes.now ≡ head.mark ∷ (to_le_bytes w32 head.length ++ head.rest.now)) }
     ensures fits { IfSome result (λ head. head.length < 2 ^ 32) }
     ensures none { IfNone result (length bytes.now < HEAD) }
 {

@@ -29,7 +29,8 @@ pub struct Seen<'a> {
 /// Takes an item off the front, or `None` where no whole one stands there.
 fn split_item(bytes: &[u8]) -> Option<Front<'_>>
     requires { length bytes.now < 2 ^ 32 }
-    ensures found { IfSome result (λ front. bytes.now ≡ item_bytes (item_of front.kind front.value.now) ++ front.rest.now) }
+    ensures found { IfSome result (λ front.
+        bytes.now ≡ item_bytes (item_of front.kind front.value.now) ++ front.rest.now) }
     ensures none { IfNone result ((i : Item) (more : List ℕ) → bytes.now ≢ item_bytes i ++ more) }
 {
     let head = split_head(bytes)?;
@@ -66,8 +67,10 @@ fn url_of(value: &[u8]) -> Option<&[u8]>
 
 /// What the items say with one more item behind them.
 fn with_item<'a>(seen: Seen<'a>, kind: u8, value: &'a [u8]) -> Result<Seen<'a>, MetaFault>
-    ensures ok { IfOk result (λ after. (items : List Item) → IsSeen items seen.entry → IsSeen (items ++ item_of kind value.now ∷ []) after) }
-    ensures err { IfErr result (λ fault. (items : List Item) → IsSeen items seen.entry → AddFails items (item_of kind value.now) fault) }
+    ensures ok { IfOk result (λ after. (items : List Item) → IsSeen items seen.entry →
+        IsSeen (items ++ item_of kind value.now ∷ []) after) }
+    ensures err { IfErr result (λ fault. (items : List Item) → IsSeen items seen.entry →
+        AddFails items (item_of kind value.now) fault) }
 {
     match kind {
         KEY => {

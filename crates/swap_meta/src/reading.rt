@@ -35,12 +35,13 @@ fn inside_of(bytes: &[u8]) -> Result<&[u8], MetaFault>
     if whole < HEAD || bytes.len() < whole {
         return Err(MetaFault::BadLength);
     }
-    let (inside, _) = head.rest.split_at(whole - HEAD);
-    Ok(inside)
+    Ok(&head.rest[..whole - HEAD])
 }
 
+/// What metadata at the front of `bytes` says, or what is wrong first.
 fn read(bytes: &[u8]) -> Result<Meta<'_>, MetaFault>
-    ensures found { IfOk result (λ meta. Spells (take meta.length bytes.now) meta.key meta.url.now meta.length) }
+    ensures found { IfOk result (λ meta.
+        Spells (take meta.length bytes.now) meta.key meta.url.now meta.length) }
     ensures refused { IfErr result (λ fault. Refuses bytes.now fault) }
 {
     let inside = inside_of(bytes)?;
@@ -70,7 +71,8 @@ fn read(bytes: &[u8]) -> Result<Meta<'_>, MetaFault>
 /// end [`MetaFault::NoKey`], or else [`MetaFault::NoUrl`].
 pub fn read_meta(bytes: &[u8]) -> Result<Meta<'_>, MetaFault>
     // What is read is spelled so.
-    ensures found { IfOk result (λ meta. Spells (take meta.length bytes.now) meta.key meta.url.now meta.length) }
+    ensures found { IfOk result (λ meta.
+        Spells (take meta.length bytes.now) meta.key meta.url.now meta.length) }
 
     // What is spelled so is read.
     ensures only { (key url : List ℕ) (n : ℕ) → Spells (take n bytes.now) key url n →
@@ -101,7 +103,7 @@ mod tests {
 
     #[test]
     fn metadata_is_read_and_its_first_fault_is_told(rt: HostRuntime) {
-        let rows: [(&[u8], Result<Meta, MetaFault>); 17] = [
+        let rows: [(&[u8], Result<Meta, MetaFault>); 18] = [
             (b"", Err(MetaFault::BadMark)),
             (b"\x04", Err(MetaFault::BadMark)),
             (b"\x03", Err(MetaFault::BadLength)),
@@ -134,6 +136,11 @@ mod tests {
             (
                 b"\x03\x22\0\0\0\x03\x10\0\0\0ghijklmnopqrstuv\x03\x10\0\0\0ghi",
                 Err(MetaFault::BadLength),
+            ),
+            // A second URL item.
+            (
+                b"\x03\x11\0\0\0\x04\x01\0\0\0\0\x04\x01\0\0\0\0",
+                Err(MetaFault::Repeated),
             ),
             // A URL with nothing, and one with no zero byte.
             (b"\x03\x0a\0\0\0\x04\0\0\0\0", Err(MetaFault::BadLength)),
