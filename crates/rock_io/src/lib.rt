@@ -6,10 +6,21 @@
 
 mod fault;
 mod list;
+mod mem_sink;
+mod mem_source;
+mod plan;
 mod sink;
 mod source;
+mod std_sink;
+mod std_source;
+#[cfg(test)]
+mod tests;
 
 pub use fault::{Failed, Memory};
 pub use list::{Numbers, Octets, Words};
-pub use sink::Sink;
+pub use mem_sink::MemSink;
+pub use mem_source::MemSource;
+pub use sink::{Sink, write_all};
 pub use source::Source;
+pub use std_sink::StdSink;
+pub use std_source::StdSource;
