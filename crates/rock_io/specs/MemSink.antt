@@ -14,9 +14,9 @@ room_of sink = sink.room
 abbrev pub most_of : MemSink → ℕ
 most_of sink = sink.most
 
--- the numbers of the calls that fail
-abbrev pub fail_of : MemSink → List ℕ
-fail_of sink = sink.plan.fail.items
+-- the numbers of the calls that are listed to fail
+abbrev pub listed_calls_of : MemSink → List ℕ
+listed_calls_of sink = sink.plan.fail.items
 
 -- how many calls were made
 abbrev pub calls_of : MemSink → ℕ
@@ -28,8 +28,8 @@ faults_of sink = sink.plan.faults
 
 -- the next call is listed to fail
 abbrev pub FailsNext : MemSink → Type 0
-FailsNext sink = Contains (fail_of sink) (calls_of sink)
+FailsNext sink = Contains (listed_calls_of sink) (calls_of sink)
 
 -- what the sink was made with stays
 abbrev pub SameSettings : MemSink → MemSink → Type 0
-SameSettings old new = (most_of new ≡ most_of old) × (fail_of new ≡ fail_of old)
+SameSettings old new = (most_of new ≡ most_of old) × (listed_calls_of new ≡ listed_calls_of old)

@@ -10,9 +10,9 @@ left_of source = drop source.at source.bytes.items
 abbrev pub most_of : MemSource → ℕ
 most_of source = source.most
 
--- the numbers of the calls that fail
-abbrev pub fail_of : MemSource → List ℕ
-fail_of source = source.plan.fail.items
+-- the numbers of the calls that are listed to fail
+abbrev pub listed_calls_of : MemSource → List ℕ
+listed_calls_of source = source.plan.fail.items
 
 -- how many calls were made
 abbrev pub calls_of : MemSource → ℕ
@@ -24,8 +24,8 @@ faults_of source = source.plan.faults
 
 -- the next call is listed to fail
 abbrev pub FailsNext : MemSource → Type 0
-FailsNext source = Contains (fail_of source) (calls_of source)
+FailsNext source = Contains (listed_calls_of source) (calls_of source)
 
 -- what the source was made with stays
 abbrev pub SameSettings : MemSource → MemSource → Type 0
-SameSettings old new = (most_of new ≡ most_of old) × (fail_of new ≡ fail_of old)
+SameSettings old new = (most_of new ≡ most_of old) × (listed_calls_of new ≡ listed_calls_of old)

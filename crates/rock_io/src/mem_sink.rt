@@ -1,6 +1,6 @@
-ghost use Rattle.std.specs.Prelude.{◌≡◌, ◌↔◌, ◌⊎◌, ℕ, ◌+◌, ◌<◌, ◌≤◌, min, true, is_ok, IsErr, IfOk, OnErr, List, [], ◌++◌, length, take, vec_len, if◌then◌else◌};
+ghost use Rattle.std.specs.Prelude.{◌≡◌, ◌↔◌, ◌⊎◌, ℕ, ◌+◌, ◌<◌, ◌≤◌, min, true, IsErr, IfOk, OnErr, List, [], ◌++◌, length, take, vec_len};
 ghost use Rattle.std.specs.Vec.{vec_capacity};
-ghost use Rattle.rock_io.specs.Faults.{one_more, Rose};
+ghost use Rattle.rock_io.specs.Faults.{one_more, Rose, CountsFault};
 
 use crate::plan::Plan;
 use crate::{Failed, Memory, Sink};
@@ -20,7 +20,7 @@ pub struct MemSink {
 }
 
 impl MemSink {
-    ghost use Rattle.rock_io.specs.MemSink.{taken_of, room_of, most_of, fail_of, calls_of, faults_of};
+    ghost use Rattle.rock_io.specs.MemSink.{taken_of, room_of, most_of, listed_calls_of, calls_of, faults_of};
 
     /// A sink with room for `room` bytes, which takes at most `most` of them in a call. The calls
     /// are numbered from 0, and those in `fail` fail. It is an error where no memory is left.
@@ -29,7 +29,7 @@ impl MemSink {
         ensures taken { IfOk result (λ sink. taken_of sink ≡ []) }
         ensures room { IfOk result (λ sink. room_of sink ≡ room) }
         ensures most { IfOk result (λ sink. most_of sink ≡ most) }
-        ensures fail { IfOk result (λ sink. fail_of sink ≡ fail.items) }
+        ensures fail { IfOk result (λ sink. listed_calls_of sink ≡ fail.items) }
         ensures calls { IfOk result (λ sink. calls_of sink ≡ 0) }
         ensures faults { IfOk result (λ sink. faults_of sink ≡ 0) }
     {
@@ -64,17 +64,21 @@ impl Sink for MemSink {
         // What each sink ensures.
         ensures count { IfOk result (λ n. n ≤ length bytes.now) }
         ensures some { IfOk result (λ n. 0 < length bytes.now → 0 < n) }
-        ensures taken { IfOk result (λ n. taken_of self.new ≡ taken_of self.old ++ take n bytes.now) }
+        ensures taken { IfOk result (λ n.
+            taken_of self.new ≡ taken_of self.old ++ take n bytes.now) }
         ensures kept { OnErr result (taken_of self.new ≡ taken_of self.old) }
         ensures faults { faults_of self.old ≤ faults_of self.new }
         ensures failed { OnErr result (Rose (faults_of self.old) (faults_of self.new)) }
 
         // And what this one does.
-        ensures refused { IsErr result ↔ ((0 < length bytes.now) × (FailsNext self.old ⊎ (room_of self.old ≡ 0))) }
-        ensures exact { IfOk result (λ n. n ≡ min (min (most_of self.old) (room_of self.old)) (length bytes.now)) }
-        ensures room { length (taken_of self.new) + room_of self.new ≡ length (taken_of self.old) + room_of self.old }
+        ensures refused { IsErr result
+            ↔ ((0 < length bytes.now) × (FailsNext self.old ⊎ (room_of self.old ≡ 0))) }
+        ensures exact { IfOk result (λ n.
+            n ≡ min (min (most_of self.old) (room_of self.old)) (length bytes.now)) }
+        ensures room { length (taken_of self.new) + room_of self.new
+            ≡ length (taken_of self.old) + room_of self.old }
         ensures calls { calls_of self.new ≡ one_more (calls_of self.old) }
-        ensures counted { faults_of self.new ≡ (if is_ok result then faults_of self.old else one_more (faults_of self.old)) }
+        ensures counted { CountsFault result (faults_of self.old) (faults_of self.new) }
         ensures settings { SameSettings self.old self.new }
     {
         let listed = self.plan.begin_call();

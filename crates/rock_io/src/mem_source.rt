@@ -1,5 +1,5 @@
-ghost use Rattle.std.specs.Prelude.{◌≡◌, ◌↔◌, ℕ, ◌<◌, ◌≤◌, min, true, is_ok, IsErr, IfOk, OnErr, List, [], ◌++◌, length, take, drop, vec_len, if◌then◌else◌};
-ghost use Rattle.rock_io.specs.Faults.{one_more, Rose};
+ghost use Rattle.std.specs.Prelude.{◌≡◌, ◌↔◌, ℕ, ◌<◌, ◌≤◌, min, true, IsErr, IfOk, OnErr, List, [], ◌++◌, length, take, drop, vec_len};
+ghost use Rattle.rock_io.specs.Faults.{one_more, Rose, CountsFault};
 
 use crate::plan::Plan;
 use crate::{Failed, Source};
@@ -17,7 +17,7 @@ pub struct MemSource {
 }
 
 impl MemSource {
-    ghost use Rattle.rock_io.specs.MemSource.{left_of, most_of, fail_of, calls_of, faults_of};
+    ghost use Rattle.rock_io.specs.MemSource.{left_of, most_of, listed_calls_of, calls_of, faults_of};
 
     /// A source that gives `bytes`, at most `most` of them in a call. The calls are numbered from
     /// 0, and those in `fail` fail.
@@ -25,7 +25,7 @@ impl MemSource {
         requires { 1 ≤ most }
         ensures left { left_of result ≡ bytes.items }
         ensures most { most_of result ≡ most }
-        ensures fail { fail_of result ≡ fail.items }
+        ensures fail { listed_calls_of result ≡ fail.items }
         ensures calls { calls_of result ≡ 0 }
         ensures faults { faults_of result ≡ 0 }
     {
@@ -60,10 +60,11 @@ impl Source for MemSource {
 
         // And what this one does.
         ensures listed { IsErr result ↔ FailsNext self.old }
-        ensures exact { IfOk result (λ n. n ≡ min (min (most_of self.old) (length (left_of self.old))) (length buf.old)) }
+        ensures exact { IfOk result (λ n.
+            n ≡ min (min (most_of self.old) (length (left_of self.old))) (length buf.old)) }
         ensures beyond { IfOk result (λ n. drop n buf.new ≡ drop n buf.old) }
         ensures calls { calls_of self.new ≡ one_more (calls_of self.old) }
-        ensures counted { faults_of self.new ≡ (if is_ok result then faults_of self.old else one_more (faults_of self.old)) }
+        ensures counted { CountsFault result (faults_of self.old) (faults_of self.new) }
         ensures settings { SameSettings self.old self.new }
     {
         if self.plan.begin_call() {

@@ -1,6 +1,6 @@
-ghost use Rattle.std.specs.Prelude.{◌≡◌, ℕ, ◌<◌, ◌≤◌, false, is_ok, IfOk, OnErr, [], length, if◌then◌else◌};
+ghost use Rattle.std.specs.Prelude.{◌≡◌, ℕ, ◌<◌, ◌≤◌, false, IfOk, OnErr, [], length};
 ghost use Rattle.std.specs.Io.KnownBytes.{WriteAppends};
-ghost use Rattle.rock_io.specs.Faults.{one_more, Rose};
+ghost use Rattle.rock_io.specs.Faults.{one_more, Rose, CountsFault};
 
 use crate::{Failed, Sink};
 use std::io::Write;
@@ -52,8 +52,9 @@ impl<W: Write> Sink for StdSink<W> {
         ensures failed { OnErr result (Rose (faults_of self.old) (faults_of self.new)) }
 
         // And what this one does. Where the writer's bytes are known, these were added to them.
-        ensures known { WriteAppends (W.contents (inner_of self.old)) (W.contents (inner_of self.new)) result bytes.now }
-        ensures counted { faults_of self.new ≡ (if is_ok result then faults_of self.old else one_more (faults_of self.old)) }
+        ensures known { WriteAppends (W.contents (inner_of self.old))
+            (W.contents (inner_of self.new)) result bytes.now }
+        ensures counted { CountsFault result (faults_of self.old) (faults_of self.new) }
     {
         match self.inner.write(bytes) {
             Ok(0) if !bytes.is_empty() => Err(self.fault()),

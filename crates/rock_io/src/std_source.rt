@@ -1,6 +1,6 @@
-ghost use Rattle.std.specs.Prelude.{◌≡◌, ℕ, ◌≤◌, false, is_ok, IfOk, OnErr, [], length, if◌then◌else◌};
+ghost use Rattle.std.specs.Prelude.{◌≡◌, ℕ, ◌≤◌, false, IfOk, OnErr, [], length};
 ghost use Rattle.std.specs.Io.KnownBytes.{ReadConsumes};
-ghost use Rattle.rock_io.specs.Faults.{one_more, Rose};
+ghost use Rattle.rock_io.specs.Faults.{Rose, CountsFault};
 
 use crate::{Failed, Source};
 use std::io::Read;
@@ -41,8 +41,9 @@ impl<R: Read> Source for StdSource<R> {
         ensures failed { OnErr result (Rose (faults_of self.old) (faults_of self.new)) }
 
         // And what this one does. Where the reader's bytes are known, these are they.
-        ensures known { ReadConsumes (R.remaining (inner_of self.old)) (R.remaining (inner_of self.new)) result buf.new }
-        ensures counted { faults_of self.new ≡ (if is_ok result then faults_of self.old else one_more (faults_of self.old)) }
+        ensures known { ReadConsumes (R.remaining (inner_of self.old))
+            (R.remaining (inner_of self.new)) result buf.new }
+        ensures counted { CountsFault result (faults_of self.old) (faults_of self.new) }
     {
         match self.inner.read(buf) {
             Ok(count) => Ok(count),
