@@ -2,6 +2,10 @@
 //!
 //! A [`Source`] gives bytes and a [`Sink`] takes them. Each counts its own failures, so that a
 //! caller's contract can say that a fault came from outside and was not made up.
+//!
+//! [`MemSource`] and [`MemSink`] keep their bytes in memory and fail where they are told to, so
+//! code can be tried out on faults. [`StdSource`] and [`StdSink`] stand over readers and writers
+//! of std.
 #![tactic(auto)]
 
 mod fault;

@@ -27,7 +27,8 @@ pub trait Sink {
         ensures failed { OnErr result (Rose (faults self.old) (faults self.new)) };
 }
 
-/// Writes all of `bytes`. Where a call fails, those before it may have taken a first part.
+/// Writes all of `bytes`, in as many calls as that takes. It fails at the first call that fails,
+/// and a first part of `bytes` may then have been taken.
 pub fn write_all<K: Sink>(out: &mut K, bytes: &[u8]) -> Result<(), Failed>
     ensures all { OnOk result (IsTrue K.tells → K.taken out.new ≡ K.taken out.old ++ bytes.now) }
     ensures prefix { IsTrue K.tells → TakesPrefix (K.taken out.old) (K.taken out.new) bytes.now }

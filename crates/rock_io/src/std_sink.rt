@@ -16,6 +16,7 @@ pub struct StdSink<W> {
 impl<W: Write> StdSink<W> {
     ghost use Rattle.rock_io.specs.StdSink.{inner_of, faults_of};
 
+    /// A sink that writes to `inner`. No call has failed yet.
     pub fn new(inner: W) -> Self
         ensures inner { inner_of result ≡ inner }
         ensures faults { faults_of result ≡ 0 }

@@ -16,6 +16,7 @@ pub struct StdSource<R> {
 impl<R: Read> StdSource<R> {
     ghost use Rattle.rock_io.specs.StdSource.{inner_of, faults_of};
 
+    /// A source that reads from `inner`. No call has failed yet.
     pub fn new(inner: R) -> Self
         ensures inner { inner_of result ≡ inner }
         ensures faults { faults_of result ≡ 0 }
