@@ -1,1 +1,6 @@
 pub mod Faults
+pub mod Sink
+pub mod MemSource
+pub mod MemSink
+pub mod StdSource
+pub mod StdSink

@@ -1,5 +1,6 @@
-ghost use Rattle.std.specs.Prelude.{◌≡◌, ℕ, ◌<◌, ◌≤◌, Bool, IsTrue, List, ◌++◌, length, take, IfOk, OnErr};
+ghost use Rattle.std.specs.Prelude.{◌≡◌, ℕ, ◌<◌, ◌≤◌, Bool, IsTrue, List, ◌++◌, length, take, IfOk, OnOk, OnErr};
 ghost use Rattle.rock_io.specs.Faults.{Rose};
+ghost use Rattle.rock_io.specs.Sink.{TakesPrefix};
 
 use crate::Failed;
 
@@ -24,4 +25,19 @@ pub trait Sink {
         ensures kept { OnErr result (taken self.new ≡ taken self.old) }
         ensures faults { faults self.old ≤ faults self.new }
         ensures failed { OnErr result (Rose (faults self.old) (faults self.new)) };
+}
+
+/// Writes all of `bytes`, in as many calls as that takes. It fails at the first call that fails,
+/// and a first part of `bytes` may then have been taken.
+pub fn write_all<K: Sink>(out: &mut K, bytes: &[u8]) -> Result<(), Failed>
+    ensures all { OnOk result (IsTrue K.tells → K.taken out.new ≡ K.taken out.old ++ bytes.now) }
+    ensures prefix { IsTrue K.tells → TakesPrefix (K.taken out.old) (K.taken out.new) bytes.now }
+    ensures faults { K.faults out.old ≤ K.faults out.new }
+    ensures failed { OnErr result (Rose (K.faults out.old) (K.faults out.new)) }
+{
+    let mut done = 0;
+    while done < bytes.len() {
+        done += out.write(&bytes[done..])?;
+    }
+    Ok(())
 }

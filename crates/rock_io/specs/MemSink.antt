@@ -1,0 +1,35 @@
+-- What callers see of a sink over memory.
+use Rattle.std.specs.Prelude.{◌≡◌, ℕ, List, Contains}
+use Rattle.rock_io.specs.declared.mem_sink.MemSink.{MemSink}
+
+-- the bytes that were taken
+abbrev pub taken_of : MemSink → List ℕ
+taken_of sink = sink.bytes.items
+
+-- how many more bytes there is room for
+abbrev pub room_of : MemSink → ℕ
+room_of sink = sink.room
+
+-- the most bytes that a call takes
+abbrev pub most_of : MemSink → ℕ
+most_of sink = sink.most
+
+-- the numbers of the calls that are listed to fail
+abbrev pub listed_calls_of : MemSink → List ℕ
+listed_calls_of sink = sink.plan.fail.items
+
+-- how many calls were made
+abbrev pub calls_of : MemSink → ℕ
+calls_of sink = sink.plan.calls
+
+-- how many of them failed
+abbrev pub faults_of : MemSink → ℕ
+faults_of sink = sink.plan.faults
+
+-- the next call is listed to fail
+abbrev pub FailsNext : MemSink → Type 0
+FailsNext sink = Contains (listed_calls_of sink) (calls_of sink)
+
+-- what the sink was made with stays
+abbrev pub SameSettings : MemSink → MemSink → Type 0
+SameSettings old new = (most_of new ≡ most_of old) × (listed_calls_of new ≡ listed_calls_of old)
