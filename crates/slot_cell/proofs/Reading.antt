@@ -65,6 +65,7 @@ signed_again z fits =
 
 -- the header that was read from bytes spells them
 pub header_bytes-header_of : (bytes : List ℕ) → IsBytes bytes → 40 ≤ length bytes → header_bytes (header_of bytes) ≡ take 40 bytes
+unfolding header_of header_bytes
 header_bytes-header_of bytes small room =
     let eight = λ (at : ℕ) (within : at + 8 ≤ length bytes). le_bytes_8 (take 8 (drop at bytes)) _ (part_length bytes at 8 within) (small_part bytes at 8 small) refl in
     let four = λ (at : ℕ) (within : at + 4 ≤ length bytes). le_bytes_4 (take 4 (drop at bytes)) _ (part_length bytes at 4 within) (small_part bytes at 4 small) refl in
@@ -79,6 +80,7 @@ header_bytes-header_of bytes small room =
 
 -- the header that bytes spell is the one that is read from them
 pub header_of-header_bytes : (h : Header) (rest : List ℕ) → IsInRange h → header_of (header_bytes h ++ rest) ≡ h
+unfolding header_of header_bytes
 header_of-header_bytes h rest fits =
     same_header
     (from_le_bytes-to_le_bytes_8 h.k0 fits.k0)

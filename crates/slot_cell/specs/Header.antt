@@ -4,14 +4,14 @@ use Rattle.std.specs.Int.{w32, w64, to_le_bytes, from_le_bytes, cast_signed, cas
 use Rattle.slot_cell.specs.declared.header.Header.{Header}
 
 -- the 40 bytes of a header
-abbrev pub header_bytes : Header → List ℕ
+unfoldable pub header_bytes : Header → List ℕ
 header_bytes h =
     to_le_bytes w64 h.k0 ++ to_le_bytes w64 h.k1 ++ to_le_bytes w64 h.entry_size
     ++ to_le_bytes w32 h.payload_size ++ to_le_bytes w32 h.version
     ++ to_le_bytes w32 (cast_unsigned w32 h.first_slot) ++ to_le_bytes w32 (cast_unsigned w32 h.next_slot)
 
 -- the header that stands at the front of these bytes
-abbrev pub header_of : List ℕ → Header
+unfoldable pub header_of : List ℕ → Header
 header_of bytes = record {
   k0 = from_le_bytes w64 (take 8 bytes);
   k1 = from_le_bytes w64 (take 8 (drop 8 bytes));

@@ -7,6 +7,7 @@ use Rattle.slot_cell.proofs.Reading.{next_rest, read_at, same_header, header_byt
 use Rattle.slot_cell.proofs.header.Header.decode.Goals as goal
 
 pub returns-clause-value : goal.returns-clause-value
+unfolding header_of
 returns-clause-value c =
     let bytes = c.args.bytes.now in
     let r1 = c.in_ok-k0.ensures.cases.1 in

@@ -1,0 +1,7 @@
+pub mod UrlFacts
+pub mod Numbers
+pub mod ScanFacts
+pub mod Cells
+pub mod Kept
+pub mod ChainedFacts
+pub mod CommandFacts

@@ -1,0 +1,17 @@
+-- The command lines that the program knows, as lists of words without its own name.
+use Rattle.std.specs.Prelude.{◌≡◌, ◌≢◌, ℕ, ◌^◌, ◌<◌, List, [], ◌∷◌, codes, decimal}
+
+-- the name of a file: it is not empty and does not begin with `-`
+abbrev pub IsName : List ℕ → Type 0
+IsName [] = ⊥
+IsName (first ∷ rest) = first ≢ 45
+
+-- `list NAME SLOT`. A number is written with no sign and no leading zero
+pub record IsList (words : List (List ℕ)) (name : List ℕ) (slot : ℕ) : Type 0 where
+  pub words_are : words ≡ codes "list" ∷ name ∷ decimal slot ∷ []
+  pub named : IsName name
+  pub fits : slot < 2 ^ 32
+
+-- the words are a command line of the table
+abbrev pub IsCommandLine : List (List ℕ) → Type 0
+IsCommandLine words = (name : List ℕ) × (slot : ℕ) × IsList words name slot

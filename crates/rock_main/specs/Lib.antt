@@ -1,0 +1,12 @@
+pub mod CommandLine
+pub mod Url
+pub mod Key
+pub mod Entry
+pub mod Listing
+pub mod Shown
+pub mod Scanned
+pub mod ReadFault
+pub mod Device
+pub mod Read
+pub mod Status
+pub mod ListCommand

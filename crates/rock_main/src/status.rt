@@ -1,0 +1,52 @@
+// How a run of the program ends.
+ghost use Rattle.std.specs.Prelude.{◌≡◌};
+ghost use Rattle.rock_main.specs.Status.{code_of};
+
+/// How a run ended. Its code is the program's exit status.
+#[derive(Clone, Copy, Debug, PartialEq, Eq)]
+pub enum Status {
+    /// All was done and printed.
+    Done,
+    /// The words are no command line.
+    Usage,
+    /// Memory ran out.
+    Memory,
+    /// The script could not be read.
+    SourceFault,
+    /// The answer could not be printed.
+    SinkFault,
+    /// The disk failed.
+    DeviceFault,
+    /// The script's first bad line, from 1, and the first thing that is wrong with it.
+    BadScript { line: u32, cause: u8 },
+    /// There is no file of that name.
+    Missing,
+    /// The file has only so many bytes, fewer than the header area and one slot.
+    Small { bytes: u64 },
+    /// A number is out of its range: 1 the slot size.
+    BadGeometry { field: u8 },
+    /// There is a file of that name already.
+    Exists,
+    /// The first slot that is sane and goes on in another, which listing does not follow yet.
+    Chained { slot: u32 },
+}
+
+impl Status {
+    /// The exit status that stands for it.
+    pub fn code(&self) -> u8
+        ensures { result ≡ code_of self.now }
+    {
+        match self {
+            Status::Done => 0,
+            Status::Usage => 2,
+            Status::Memory => 3,
+            Status::SourceFault => 4,
+            Status::SinkFault => 5,
+            Status::DeviceFault => 6,
+            Status::BadScript { .. } => 7,
+            Status::Missing | Status::Small { .. } | Status::BadGeometry { .. } => 8,
+            Status::Exists => 9,
+            Status::Chained { .. } => 10,
+        }
+    }
+}
