@@ -1,0 +1,5 @@
+pub mod Cells
+pub mod Homes
+pub mod Openings
+pub mod Places
+pub mod Refusals

@@ -1,0 +1,14 @@
+//! Files in memory. They tell all that they hold, and exactly the calls that are listed fail.
+
+mod calls;
+mod cell;
+mod cutting;
+mod entry;
+mod file;
+mod station;
+mod stations;
+mod volume;
+
+pub use cell::MemCell;
+pub use station::MemStation;
+pub use volume::MemVolume;
