@@ -7,6 +7,8 @@ mod entry;
 mod file;
 mod station;
 mod stations;
+#[cfg(test)]
+mod tests;
 mod volume;
 
 pub use cell::MemCell;

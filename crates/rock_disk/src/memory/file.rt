@@ -82,17 +82,20 @@ impl MemFile {
     pub(super) fn with_cells(self, header: MemCell, cells: Vec<MemCell>) -> MemFile
         ensures { file_of result ≡ Home (cell_state header) (map cell_state cells.items) (rest_of (file_of self)) }
     {
+        let rest = self.into_rest();
+        MemFile::Home {
+            header,
+            cells,
+            rest,
+        }
+    }
+
+    fn into_rest(self) -> Vec<u8>
+        ensures { result.items ≡ rest_of (file_of self) }
+    {
         match self {
-            MemFile::Home { rest, .. } => MemFile::Home {
-                header,
-                cells,
-                rest,
-            },
-            MemFile::Away { rest, .. } => MemFile::Home {
-                header,
-                cells,
-                rest,
-            },
+            MemFile::Home { rest, .. } => rest,
+            MemFile::Away { rest, .. } => rest,
         }
     }
 }
