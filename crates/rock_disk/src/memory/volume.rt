@@ -26,9 +26,11 @@ pub struct MemVolume {
 impl MemVolume {
     ghost use Rattle.rock_disk.specs.Memory.{cell_state, cells_in, planned, lists_of, volume_files, volume_faults, volume_made, volume_ended, volume_plan, volume_lists, KeepsCounts};
 
-    /// A volume without files. The calls numbered in `fail` fail, where the calls of `open_file` and
-    /// `station` are numbered from 0. A listed call that finds no file, or one that is too short,
-    /// answers that. Station k, from 0 in the order of their making, fails at its calls numbered in
+    /// A volume without files.
+    ///
+    /// Calls of `open_file` and `station` are numbered together from 0, and those in `fail` fail. A
+    /// listed call that finds no file, or one that is too short, answers that, and has used its
+    /// number. Station k, from 0 in the order of their making, fails at its calls numbered in
     /// `stations[k]`, and at none if that is not there.
     pub fn new(alloc: Global, fail: Vec<u64>, stations: Vec<Vec<u64>>) -> MemVolume
         ensures files { volume_files result ≡ empty }
@@ -46,7 +48,8 @@ impl MemVolume {
         }
     }
 
-    /// Makes a file of these bytes, in place of one of that name.
+    /// Makes a file of these bytes, in place of one of that name. If the cells of that one are out,
+    /// they cannot be given back any more.
     pub fn put_file(&mut self, name: &str, bytes: &[u8]) -> Result<(), Memory>
         ensures ok { OnOk result (volume_files self.new ≡ insert (volume_files self.old) name.now (uncut bytes.now)) }
         ensures err { OnErr result (volume_files self.new ≡ volume_files self.old) }
