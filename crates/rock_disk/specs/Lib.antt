@@ -1,3 +1,4 @@
 pub mod Cell
 pub mod File
+pub mod Memory
 pub mod Opened

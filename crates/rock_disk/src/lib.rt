@@ -6,9 +6,11 @@
 #![tactic(auto)]
 
 mod cell;
+mod memory;
 mod station;
 mod volume;
 
 pub use cell::Cell;
+pub use memory::{MemCell, MemStation, MemVolume};
 pub use station::Station;
 pub use volume::{OpenFault, Opened, StationFault, Volume};

@@ -6,6 +6,7 @@ ghost use Rattle.rock_disk.specs.File.File.{Home, Away};
 ghost use Rattle.rock_disk.specs.Opened.{HasShape, IsOpened, IsOut, IsSmall};
 
 use crate::{Cell, Station};
+use rock_io::Memory;
 use std::alloc::Global;
 use thiserror::Error;
 
@@ -32,6 +33,26 @@ pub enum StationFault {
     Failed,
     #[error("out of memory")]
     Memory,
+}
+
+impl From<Memory> for OpenFault {
+    ghost use Rattle.rock_disk.specs.declared.volume.OpenFault.TheVariants as opening;
+
+    ghost from_gives = { λ _ fault. fault ≡ opening.Memory };
+
+    fn from(_error: Memory) -> Self {
+        OpenFault::Memory
+    }
+}
+
+impl From<Memory> for StationFault {
+    ghost use Rattle.rock_disk.specs.declared.volume.StationFault.TheVariants as making;
+
+    ghost from_gives = { λ _ fault. fault ≡ making.Memory };
+
+    fn from(_error: Memory) -> Self {
+        StationFault::Memory
+    }
 }
 
 /// A file whose cells are out.

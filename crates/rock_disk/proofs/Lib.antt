@@ -1,0 +1,6 @@
+pub mod Cells
+pub mod Homes
+pub mod Openings
+pub mod Out
+pub mod Places
+pub mod Refusals

@@ -1,0 +1,106 @@
+-- What cells, stations and volumes in memory tell, and which of their calls fail.
+use Rattle.std.specs.Prelude.{◌≡◌, ℕ, ◌+◌, ◌-◌, ◌^◌, ◌≤◌, min, List, [], length, map, get_or, Contains, Option, Some, None}
+use Rattle.std.specs.FinMap.{from_entries, get}
+use Rattle.std.specs.declared.vec.Vec.{Vec}
+use Rattle.rock_disk.specs.Cell.{CellState}
+use Rattle.rock_disk.specs.File.{File, Files, bytes_of}
+use Rattle.rock_disk.specs.File.File.{Home, Away}
+use Rattle.rock_disk.specs.declared.memory.calls.Calls.{Calls}
+use Rattle.rock_disk.specs.declared.memory.cell.MemCell.{MemCell}
+use Rattle.rock_disk.specs.declared.memory.entry.Entry.{Entry}
+use Rattle.rock_disk.specs.declared.memory.file.MemFile.{MemFile}
+use Rattle.rock_disk.specs.declared.memory.file.MemFile.TheVariants as mem
+use Rattle.rock_disk.specs.declared.memory.station.MemStation.{MemStation}
+use Rattle.rock_disk.specs.declared.memory.volume.MemVolume.{MemVolume}
+
+-- which calls of a device fail, by their numbers from 0, and the number of its next call
+pub record Plan : Type 0 where
+  pub fail : List ℕ
+  pub number : ℕ
+
+-- one more, where a count of 64 bits stays at its end
+abbrev pub counted : ℕ → ℕ
+counted n = min (n + 1) (2 ^ 64 - 1)
+
+-- a plan before the first call
+abbrev pub planned : List ℕ → Plan
+planned fail = record { fail = fail; number = 0 }
+
+-- a plan after one more call
+abbrev pub called : Plan → Plan
+called plan = record { fail = plan.fail; number = counted plan.number }
+
+-- the next call is listed
+abbrev pub FailsNext : Plan → Type 0
+FailsNext plan = Contains plan.fail plan.number
+
+abbrev pub plan_of : Calls → Plan
+plan_of c = record { fail = c.fail.items; number = c.made }
+
+abbrev pub cell_state : MemCell → CellState
+cell_state c =
+    let now = get_or c.possible.items c.at [] in
+    record { number = c.number; width = length now; now = now; possible = c.possible.items }
+
+abbrev pub station_faults : MemStation → ℕ
+station_faults s = s.calls.faults
+
+abbrev pub station_plan : MemStation → Plan
+station_plan s = plan_of s.calls
+
+abbrev pub file_of : MemFile → File
+file_of (mem.Home header cells rest) = Home (cell_state header) (map cell_state cells.items) rest.items
+file_of (mem.Away slots slot rest) = Away slots slot rest.items
+
+abbrev pub entry_of : Entry → List ℕ × File
+entry_of e = (e.name, file_of e.file)
+
+-- of entries with one name, the first is the file
+abbrev pub files_of : List Entry → Files
+files_of entries = from_entries (map entry_of entries)
+
+abbrev pub volume_files : MemVolume → Files
+volume_files v = files_of v.entries.items
+
+abbrev pub volume_faults : MemVolume → ℕ
+volume_faults v = v.calls.faults
+
+abbrev pub volume_plan : MemVolume → Plan
+volume_plan v = plan_of v.calls
+
+abbrev pub volume_made : MemVolume → ℕ
+volume_made v = v.stations.made
+
+abbrev pub volume_ended : MemVolume → List ℕ
+volume_ended v = v.stations.ended.items
+
+-- the lists that vectors hold
+abbrev pub lists_of : {A : Type 0} → List (Vec ℕ A) → List (List ℕ)
+lists_of {A = A} vectors = map (λ (v : Vec ℕ A). v.items) vectors
+
+-- for each station by the order in which they are made, the numbers of its calls that fail
+abbrev pub volume_lists : MemVolume → List (List ℕ)
+volume_lists v = lists_of v.stations.lists.items
+
+-- all but the files is as it was
+pub record KeepsCounts (before after : MemVolume) : Type 0 where
+  pub faults : volume_faults after ≡ volume_faults before
+  pub made : volume_made after ≡ volume_made before
+  pub ended : volume_ended after ≡ volume_ended before
+  pub plan : volume_plan after ≡ volume_plan before
+  pub lists : volume_lists after ≡ volume_lists before
+
+-- the file has room for its header area and one slot
+pub record HasRoom (files : Files) (name : List ℕ) (slot : ℕ) : Type 0 where
+  pub was : File
+  pub found : get files name ≡ Some was
+  pub room : 16384 + slot ≤ length (bytes_of was)
+
+-- the slot cells of a file, where they are in
+abbrev pub cells_in : Option File → Option (List CellState)
+cells_in (Some (Home header cells rest)) = Some cells
+cells_in file = None
+
+abbrev pub rest_of : File → List ℕ
+rest_of (Home header cells rest) = rest
+rest_of (Away slots slot rest) = rest

@@ -1,0 +1,16 @@
+//! Files in memory. They tell all that they hold, and exactly the calls that are listed fail.
+
+mod calls;
+mod cell;
+mod cutting;
+mod entry;
+mod file;
+mod station;
+mod stations;
+#[cfg(test)]
+mod tests;
+mod volume;
+
+pub use cell::MemCell;
+pub use station::MemStation;
+pub use volume::MemVolume;

@@ -1,0 +1,72 @@
+// How a file's bytes are cut into its header area, its slots and its rest.
+ghost use Rattle.std.specs.Prelude.{◌≡◌, ◌+◌, ◌*◌, ◌<◌, ◌≤◌, length, map, IfOk};
+ghost use Rattle.rock_disk.specs.File.{slots_of, slots_from, header_cut, slots_cut, rest_cut};
+ghost use Rattle.rock_disk.specs.File.File.{Away};
+ghost use Rattle.rock_disk.specs.Memory.{cell_state, file_of};
+
+use super::file::{HEADER_NUMBER, MemFile};
+use crate::{MemCell, Opened};
+use rock_io::Memory;
+use std::alloc::Global;
+
+/// How many bytes a header area has.
+pub(super) const HEADER: usize = 16_384;
+
+/// Slots past so many are ignored.
+const SLOT_LIMIT: usize = 1_048_576;
+
+/// The cells of a file, and the file without them.
+pub(super) struct CutFile {
+    pub(super) opened: Opened<MemCell>,
+    pub(super) away: MemFile,
+}
+
+/// Cuts a file of these bytes by a slot size.
+pub(super) fn cut_file(alloc: Global, bytes: &[u8], slot: u32) -> Result<CutFile, Memory>
+    requires slot { 0 < slot }
+    requires room { 16384 + slot ≤ length bytes.now }
+    ensures bytes { IfOk result (λ c. c.opened.bytes ≡ length bytes.now) }
+    ensures header { IfOk result (λ c. cell_state c.opened.header ≡ header_cut bytes.now) }
+    ensures cells { IfOk result (λ c. map cell_state c.opened.cells.items ≡ slots_cut slot bytes.now) }
+    ensures away { IfOk result (λ c. file_of c.away ≡ Away (slots_of (length bytes.now) slot) slot (rest_cut slot bytes.now)) }
+{
+    let slots = slot_count(bytes.len(), slot);
+    let (front, body) = bytes.split_at(HEADER);
+    let (_, rest) = bytes.split_at(HEADER + slots as usize * slot as usize);
+    let header = MemCell::new(alloc, HEADER_NUMBER, front)?;
+    let cells = cut_slots(alloc, body, slots, slot)?;
+    let rest = rest.to_vec(alloc)?;
+    Ok(CutFile {
+        opened: Opened {
+            header,
+            cells,
+            bytes: bytes.len() as u64,
+        },
+        away: MemFile::Away { slots, slot, rest },
+    })
+}
+
+/// How many whole slots a file of so many bytes has.
+fn slot_count(bytes: usize, slot: u32) -> u32
+    requires slot { 0 < slot }
+    requires header { 16384 ≤ bytes }
+    ensures count { result ≡ slots_of bytes slot }
+    ensures within { 16384 + result * slot ≤ bytes }
+{
+    ((bytes - HEADER) / slot as usize).min(SLOT_LIMIT) as u32
+}
+
+/// So many slots from the front of these bytes.
+fn cut_slots(alloc: Global, bytes: &[u8], count: u32, slot: u32) -> Result<Vec<MemCell>, Memory>
+    requires { count * slot ≤ length bytes.now }
+    ensures { IfOk result (λ cells. map cell_state cells.items ≡ slots_from 0 count slot bytes.now) }
+{
+    let mut cells = Vec::new(alloc);
+    let mut rest = bytes;
+    for number in 0..count {
+        let (front, tail) = rest.split_at(slot as usize);
+        cells.push(MemCell::new(alloc, number, front)?)?;
+        rest = tail;
+    }
+    Ok(cells)
+}

@@ -1,0 +1,73 @@
+ghost use Rattle.std.specs.Prelude.{◌≡◌, ◌≤◌, length, IsErr, OnOk, OnErr, ◌↔◌};
+ghost use Rattle.rock_io.specs.Faults.{Rose};
+
+use super::calls::Calls;
+use crate::{MemCell, Station};
+use rock_io::Failed;
+
+/// A station of a volume in memory. Exactly those of its calls fail that are listed for it.
+pub struct MemStation {
+    calls: Calls,
+}
+
+impl MemStation {
+    ghost use Rattle.rock_disk.specs.Memory.{station_faults, station_plan, planned, called, counted, FailsNext};
+
+    pub(super) fn new(fail: Vec<u64>) -> MemStation
+        ensures plan { station_plan result ≡ planned fail.items }
+        ensures faults { station_faults result ≡ 0 }
+    {
+        MemStation {
+            calls: Calls::new(fail),
+        }
+    }
+
+    /// Ends the station, and answers how many of its calls failed.
+    pub(super) fn into_faults(self) -> u64
+        ensures { result ≡ station_faults self }
+    {
+        let MemStation { calls } = self;
+        calls.faults()
+    }
+
+    /// Counts a call, which fails if it is listed.
+    fn call(&mut self) -> Result<(), Failed>
+        ensures listed { IsErr result ↔ FailsNext (station_plan self.old) }
+        ensures plan { station_plan self.new ≡ called (station_plan self.old) }
+        ensures ok { OnOk result (station_faults self.new ≡ station_faults self.old) }
+        ensures err { OnErr result (station_faults self.new ≡ counted (station_faults self.old)) }
+        ensures grown { station_faults self.old ≤ station_faults self.new }
+    {
+        if self.calls.begin() {
+            self.calls.count_fault();
+            return Err(Failed);
+        }
+        Ok(())
+    }
+}
+
+impl Station for MemStation {
+    ghost use Rattle.rock_disk.specs.Memory.{cell_state, station_faults, station_plan, called, counted, FailsNext};
+
+    type C = MemCell;
+
+    ghost faults = { station_faults };
+
+    fn read(&mut self, cell: &mut MemCell, buf: &mut [u8]) -> Result<(), Failed>
+        requires { length buf.old ≡ (cell_state cell.old).width }
+        ensures read { OnOk result (buf.new ≡ (cell_state cell.old).now) }
+        ensures cell { cell_state cell.new ≡ cell_state cell.old }
+        ensures faults { station_faults self.old ≤ station_faults self.new }
+        ensures failed { OnErr result (Rose (station_faults self.old) (station_faults self.new)) }
+
+        // Exactly the listed calls fail, and each counts once.
+        ensures listed { IsErr result ↔ FailsNext (station_plan self.old) }
+        ensures plan { station_plan self.new ≡ called (station_plan self.old) }
+        ensures ok { OnOk result (station_faults self.new ≡ station_faults self.old) }
+        ensures err { OnErr result (station_faults self.new ≡ counted (station_faults self.old)) }
+    {
+        self.call()?;
+        buf.copy_from_slice(cell.now());
+        Ok(())
+    }
+}

@@ -1,0 +1,201 @@
+ghost use Rattle.std.specs.Prelude.{◌≡◌, ◌+◌, ◌<◌, ◌≤◌, ◌++◌, ◌∷◌, [], ℕ, List, length, map, get_or, true, IfOk, OnOk, OnErr, IsErrOf, None, Some, ◌↔◌, option_map, option_copied};
+ghost use Rattle.std.specs.FinMap.{empty, get, insert};
+ghost use Rattle.rock_io.specs.Faults.{Rose};
+ghost use Rattle.rock_disk.specs.File.{NoneAway, IsNotAway, IsThere, uncut};
+ghost use Rattle.rock_disk.specs.File.File.{Home, Away};
+ghost use Rattle.rock_disk.specs.Opened.{HasShape, IsOpened, IsOut, IsSmall};
+
+use super::calls::Calls;
+use super::cutting::{CutFile, cut_file};
+use super::entry::{Entry, place_of, place_to_open, put_entry};
+use super::file::MemFile;
+use super::stations::Stations;
+use crate::{MemCell, MemStation, OpenFault, Opened, StationFault, Volume};
+use rock_io::Memory;
+use std::alloc::Global;
+use std::mem;
+
+/// Files in memory. Exactly those calls of `open_file` and `station` fail that are listed.
+#[derive(Drop)]
+pub struct MemVolume {
+    entries: Vec<Entry>,
+    calls: Calls,
+    stations: Stations,
+}
+
+impl MemVolume {
+    ghost use Rattle.rock_disk.specs.Memory.{cell_state, cells_in, planned, lists_of, volume_files, volume_faults, volume_made, volume_ended, volume_plan, volume_lists, KeepsCounts};
+
+    /// A volume without files.
+    ///
+    /// Calls of `open_file` and `station` are numbered together from 0, and those in `fail` fail. A
+    /// listed call that finds no file, or one that is too short, answers that, and has used its
+    /// number. Station k, from 0 in the order of their making, fails at its calls numbered in
+    /// `stations[k]`, and at none if that is not there.
+    pub fn new(alloc: Global, fail: Vec<u64>, stations: Vec<Vec<u64>>) -> MemVolume
+        ensures files { volume_files result ≡ empty }
+        ensures home { NoneAway (volume_files result) }
+        ensures faults { volume_faults result ≡ 0 }
+        ensures made { volume_made result ≡ 0 }
+        ensures ended { volume_ended result ≡ [] }
+        ensures plan { volume_plan result ≡ planned fail.items }
+        ensures lists { volume_lists result ≡ lists_of stations.items }
+    {
+        MemVolume {
+            entries: Vec::new(alloc),
+            calls: Calls::new(fail),
+            stations: Stations::new(alloc, stations),
+        }
+    }
+
+    /// Makes a file of these bytes, in place of one of that name. If the cells of that one are out,
+    /// they cannot be given back any more.
+    pub fn put_file(&mut self, name: &str, bytes: &[u8]) -> Result<(), Memory>
+        ensures ok { OnOk result (volume_files self.new ≡ insert (volume_files self.old) name.now (uncut bytes.now)) }
+        ensures err { OnErr result (volume_files self.new ≡ volume_files self.old) }
+        ensures home { NoneAway (volume_files self.old) → NoneAway (volume_files self.new) }
+        ensures counts { KeepsCounts self.old self.new }
+    {
+        let alloc = *self.entries.allocator();
+        let file = MemFile::uncut(alloc, bytes)?;
+        put_entry(alloc, &mut self.entries, name, file)
+    }
+
+    /// The slot cells of a file, in order. None if there is no file of that name, or its cells are
+    /// out.
+    pub fn cells(&self, name: &str) -> Option<&[MemCell]>
+        ensures { option_map (map cell_state) (option_copied result) ≡ cells_in (get (volume_files self.now) name.now) }
+    {
+        let place = place_of(&self.entries, name)?;
+        self.entries[place].file.cells()
+    }
+}
+
+impl Volume for MemVolume {
+    ghost use Rattle.rock_disk.specs.Memory.{cell_state, station_faults, station_plan, planned, called, counted, FailsNext, HasRoom, volume_files, volume_faults, volume_made, volume_ended, volume_plan, volume_lists};
+
+    type C = MemCell;
+
+    type St = MemStation;
+
+    ghost tells = { true };
+
+    ghost files = { volume_files };
+
+    ghost faults = { volume_faults };
+
+    ghost made = { volume_made };
+
+    ghost ended = { volume_ended };
+
+    fn open_file(
+        &mut self,
+        alloc: Global,
+        name: &str,
+        slot: u32,
+    ) -> Result<Opened<MemCell>, OpenFault>
+        requires slot { 0 < slot }
+        requires home { IsNotAway (get (volume_files self.old) name.now) }
+
+        ensures shape { IfOk result (λ o. HasShape slot o.bytes (cell_state o.header) (map cell_state o.cells.items)) }
+        ensures opened { IfOk result (λ o. IsOpened (volume_files self.old) (volume_files self.new) name.now slot o.bytes (cell_state o.header) (map cell_state o.cells.items)) }
+
+        // When each refusal comes, and what it leaves.
+        ensures missing { IsErrOf result OpenFault.Missing ↔ (get (volume_files self.old) name.now ≡ None) }
+        ensures short { (bytes : ℕ) → IsErrOf result (OpenFault.Small bytes) → bytes < 16384 + slot }
+        ensures small { (bytes : ℕ) → (IsErrOf result (OpenFault.Small bytes) ↔ IsSmall (volume_files self.old) name.now slot bytes) }
+        ensures listed { IsErrOf result OpenFault.Failed ↔ (FailsNext (volume_plan self.old) × HasRoom (volume_files self.old) name.now slot) }
+        ensures refused { OnErr result (volume_files self.new ≡ volume_files self.old) }
+
+        // Each call has a number, and a fault counts once.
+        ensures plan { volume_plan self.new ≡ called (volume_plan self.old) }
+        ensures faults { volume_faults self.old ≤ volume_faults self.new }
+        ensures failed { IsErrOf result OpenFault.Failed → Rose (volume_faults self.old) (volume_faults self.new) }
+        ensures counted { IsErrOf result OpenFault.Failed → volume_faults self.new ≡ counted (volume_faults self.old) }
+        ensures uncounted { (IsErrOf result OpenFault.Failed → ⊥) → volume_faults self.new ≡ volume_faults self.old }
+
+        ensures made { volume_made self.new ≡ volume_made self.old }
+        ensures ended { volume_ended self.new ≡ volume_ended self.old }
+        ensures lists { volume_lists self.new ≡ volume_lists self.old }
+    {
+        let is_listed = self.calls.begin();
+        let place = place_to_open(&self.entries, name, slot)?;
+        if is_listed {
+            self.calls.count_fault();
+            return Err(OpenFault::Failed);
+        }
+        let bytes = self.entries[place].file.bytes(alloc)?;
+        let CutFile { opened, away } = cut_file(alloc, &bytes, slot)?;
+        self.entries[place].file = away;
+        Ok(opened)
+    }
+
+    fn station(&mut self, name: &str) -> Result<MemStation, StationFault>
+        requires { IsThere (volume_files self.old) name.now }
+
+        ensures fresh { IfOk result (λ s. station_faults s ≡ 0) }
+        ensures made { OnOk result (volume_made self.new ≡ volume_made self.old + 1) }
+        ensures refused { OnErr result (volume_made self.new ≡ volume_made self.old) }
+
+        // Exactly the listed calls fail, here and at the station.
+        ensures listed { IsErrOf result StationFault.Failed ↔ FailsNext (volume_plan self.old) }
+        ensures station { IfOk result (λ s. station_plan s ≡ planned (get_or (volume_lists self.old) (volume_made self.old) [])) }
+
+        // Each call has a number, and a fault counts once.
+        ensures plan { volume_plan self.new ≡ called (volume_plan self.old) }
+        ensures faults { volume_faults self.old ≤ volume_faults self.new }
+        ensures failed { IsErrOf result StationFault.Failed → Rose (volume_faults self.old) (volume_faults self.new) }
+        ensures counted { IsErrOf result StationFault.Failed → volume_faults self.new ≡ counted (volume_faults self.old) }
+        ensures uncounted { (IsErrOf result StationFault.Failed → ⊥) → volume_faults self.new ≡ volume_faults self.old }
+
+        ensures files { volume_files self.new ≡ volume_files self.old }
+        ensures ended { volume_ended self.new ≡ volume_ended self.old }
+        ensures lists { volume_lists self.new ≡ volume_lists self.old }
+    {
+        if self.calls.begin() {
+            self.calls.count_fault();
+            return Err(StationFault::Failed);
+        }
+        Ok(self.stations.make()?)
+    }
+
+    fn end_station(&mut self, station: MemStation)
+        requires { length (volume_ended self.old) < volume_made self.old }
+
+        ensures ended { volume_ended self.new ≡ volume_ended self.old ++ station_faults station ∷ [] }
+        ensures files { volume_files self.new ≡ volume_files self.old }
+        ensures faults { volume_faults self.new ≡ volume_faults self.old }
+        ensures made { volume_made self.new ≡ volume_made self.old }
+        ensures plan { volume_plan self.new ≡ volume_plan self.old }
+        ensures lists { volume_lists self.new ≡ volume_lists self.old }
+    {
+        self.stations.end(station.into_faults());
+    }
+
+    fn give_back(&mut self, name: &str, header: MemCell, cells: Vec<MemCell>)
+        requires { IsOut (volume_files self.old) name.now (cell_state header) (map cell_state cells.items) }
+
+        ensures back { (slots slot : ℕ) (rest : List ℕ) → get (volume_files self.old) name.now ≡ Some (Away slots slot rest)
+            → volume_files self.new ≡ insert (volume_files self.old) name.now (Home (cell_state header) (map cell_state cells.items) rest) }
+        ensures faults { volume_faults self.new ≡ volume_faults self.old }
+        ensures made { volume_made self.new ≡ volume_made self.old }
+        ensures ended { volume_ended self.new ≡ volume_ended self.old }
+        ensures plan { volume_plan self.new ≡ volume_plan self.old }
+        ensures lists { volume_lists self.new ≡ volume_lists self.old }
+    {
+        let Some(place) = place_of(&self.entries, name) else {
+            unreachable!();
+        };
+        let alloc = *self.entries.allocator();
+        let nothing = MemFile::Away {
+            slots: 0,
+            slot: 0,
+            rest: Vec::new(alloc),
+        };
+        let entry = &mut self.entries[place];
+        let file = mem::replace(&mut entry.file, nothing);
+        entry.file = file.with_cells(header, cells);
+    }
+
+    ghost ended_were_made = { λ volume. volume.stations.within };
+}
