@@ -1,0 +1,53 @@
+// What the program says on standard error of a run that did not end well.
+use crate::status::Status;
+use std::alloc::{AllocError, Global};
+use std::fmt;
+
+impl fmt::Display for Status {
+    /// The status's name, and its numbers as `name=value`.
+    fn fmt<W: fmt::Write>(&self, f: &mut fmt::Formatter<W>) -> fmt::Result {
+        match self {
+            Status::Done => f.write_str("Done"),
+            Status::Usage => f.write_str("Usage"),
+            Status::Memory => f.write_str("Memory"),
+            Status::SourceFault => f.write_str("SourceFault"),
+            Status::SinkFault => f.write_str("SinkFault"),
+            Status::DeviceFault => f.write_str("DeviceFault"),
+            Status::BadScript { line, cause } => write!(f, "BadScript line={line} cause={cause}"),
+            Status::Missing => f.write_str("Missing"),
+            Status::Small { bytes } => write!(f, "Small bytes={bytes}"),
+            Status::BadGeometry { field } => write!(f, "BadGeometry field={field}"),
+            Status::Exists => f.write_str("Exists"),
+            Status::Chained { slot } => write!(f, "Chained slot={slot}"),
+        }
+    }
+}
+
+/// A sentence for people on what happened to the command `list NAME SLOT`, and what to do.
+pub fn explanation(
+    alloc: Global,
+    status: &Status,
+    name: &str,
+    slot: &str,
+) -> Result<String, AllocError> {
+    match status {
+        Status::Done => format!(in alloc; "all was printed"),
+        Status::Usage => format!(in alloc; "write rock list NAME SLOT; rock --help says more"),
+        Status::Memory => format!(in alloc; "memory ran out; free some and try again"),
+        Status::SourceFault => format!(in alloc; "standard input could not be read"),
+        Status::SinkFault => format!(in alloc; "standard output did not take all of the answer"),
+        Status::DeviceFault => format!(in alloc; "{name} could not be read; look at its disk and its permissions"),
+        Status::BadScript { line, .. } => format!(in alloc; "line {line} of the script is wrong"),
+        Status::Missing => format!(in alloc; "there is no file {name}"),
+        Status::Small { .. } => {
+            format!(in alloc; "{name} is shorter than the header area and one slot")
+        }
+        Status::BadGeometry { .. } => {
+            format!(in alloc; "the slot size {slot} is no multiple of 512 from 512 to 32768")
+        }
+        Status::Exists => format!(in alloc; "there is a file {name} already"),
+        Status::Chained { slot } => {
+            format!(in alloc; "slot {slot} of {name} goes on in another slot, which is not followed yet")
+        }
+    }
+}

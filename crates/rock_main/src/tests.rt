@@ -1,0 +1,232 @@
+ghost use Rattle.std.specs.Prelude.{IfOk};
+ghost use Rattle.rock_disk.specs.File.{NoneAway};
+ghost use Rattle.rock_disk.specs.Memory.{volume_files};
+
+use crate::key::key_of;
+use crate::rock::rock;
+use crate::status::Status;
+use crate::url::{UrlFault, check_url};
+use rock_disk::MemVolume;
+use rock_io::{MemSink, MemSource, Memory, Words};
+use std::alloc::{AllocError, Global};
+use std::sync::Wait;
+use std::test::Fail;
+use std::thread::Threads;
+
+const SLOT: usize = 512;
+
+/// The MD5 of a byte 1 and `http://a/b`, by the program md5sum.
+const KEY_B: [u8; 16] = [
+    0x1a, 0x68, 0xc1, 0x0d, 0x6c, 0x8b, 0x32, 0x66, 0x57, 0xc7, 0x75, 0xf5, 0x3c, 0x86, 0x6d, 0xd1,
+];
+
+/// The same of `http://a/c`.
+const KEY_C: [u8; 16] = [
+    0x48, 0x77, 0xc9, 0x34, 0x8b, 0x6d, 0x72, 0x99, 0xe2, 0x13, 0x89, 0x6f, 0x83, 0x9c, 0x80, 0xb8,
+];
+
+/// A header area and no slot.
+fn empty_file(alloc: Global) -> Result<Vec<u8>, AllocError> {
+    let mut file = Vec::new(alloc);
+    file.resize(16_384, 0)?;
+    Ok(file)
+}
+
+/// Adds a slot that is an entry by itself, and zeros to its end.
+fn push_entry(
+    file: &mut Vec<u8>,
+    number: u32,
+    version: u32,
+    key: &[u8; 16],
+    url: &str,
+    body: &str,
+) -> Result<(), AllocError> {
+    let end = file.len().saturating_add(SLOT);
+    let meta = u32::try_from(url.len()).unwrap_or(0).saturating_add(32);
+    let payload = u32::try_from(body.len()).unwrap_or(0).saturating_add(meta);
+    file.extend_from_slice(key)?;
+    file.extend_from_slice(&u64::from(payload).to_le_bytes())?;
+    file.extend_from_slice(&payload.to_le_bytes())?;
+    file.extend_from_slice(&version.to_le_bytes())?;
+    file.extend_from_slice(&number.to_le_bytes())?;
+    file.extend_from_slice(&[0xff; 4])?;
+    file.push(3)?;
+    file.extend_from_slice(&meta.to_le_bytes())?;
+    file.extend_from_slice(b"\x03\x10\x00\x00\x00")?;
+    file.extend_from_slice(key)?;
+    file.push(4)?;
+    file.extend_from_slice(&meta.saturating_sub(31).to_le_bytes())?;
+    file.extend_from_slice(url.as_bytes())?;
+    file.push(0)?;
+    file.extend_from_slice(body.as_bytes())?;
+    file.resize(end, 0)
+}
+
+/// A file of one slot, with the entry `http://a/b` of version 7 and the body `hello`.
+fn one_entry(alloc: Global) -> Result<Vec<u8>, AllocError> {
+    let mut file = empty_file(alloc)?;
+    push_entry(&mut file, 0, 7, &KEY_B, "http://a/b", "hello")?;
+    Ok(file)
+}
+
+/// The file with other bytes from a place of its first slot on.
+fn with_bytes(mut file: Vec<u8>, at: usize, bytes: &[u8]) -> Vec<u8> {
+    for (i, byte) in bytes.iter().enumerate() {
+        let place = at.saturating_add(i).saturating_add(16_384);
+        if place < file.len() {
+            file[place] = *byte;
+        }
+    }
+    file
+}
+
+fn words_of(alloc: Global, texts: &[&str]) -> Result<Words, AllocError> {
+    let mut words = Vec::new(alloc);
+    for text in texts {
+        words.push(String::from_str(alloc, text)?)?;
+    }
+    Ok(Words::from_vec(words))
+}
+
+/// A volume with the file `db`, or with none.
+fn volume_of(
+    alloc: Global,
+    file: Option<&[u8]>,
+    fail: &[u64],
+    station_fail: &[u64],
+) -> Result<MemVolume, Memory>
+    ensures { IfOk result (λ volume. NoneAway (volume_files volume)) }
+{
+    let mut stations = Vec::new(alloc);
+    stations.push(station_fail.to_vec(alloc)?)?;
+    let mut volume = MemVolume::new(alloc, fail.to_vec(alloc)?, stations);
+    match file {
+        None => Ok(volume),
+        Some(bytes) => {
+            volume.put_file("db", bytes)?;
+            Ok(volume)
+        }
+    }
+}
+
+/// How a run ended, and what it printed.
+fn run<R: Threads + Wait + Sync>(
+    rt: &R,
+    alloc: Global,
+    texts: &[&str],
+    volume: &mut MemVolume,
+    room: usize,
+) -> Result<(Status, Vec<u8>), Memory>
+    requires { NoneAway (volume_files volume.old) }
+{
+    let words = words_of(alloc, texts)?;
+    let mut script = MemSource::new(Vec::new(alloc), 1, Vec::new(alloc));
+    let mut out = MemSink::new(alloc, room, 7, Vec::new(alloc))?;
+    let status = rock(rt, alloc, &words, volume, &mut script, &mut out);
+    Ok((status, out.taken().to_vec(alloc)?))
+}
+
+#[test]
+fn one_slot_is_listed_where_it_is_an_entry(rt: HostRuntime) -> Result<(), Fail> {
+    let alloc = rt.alloc();
+    let line = "ENTRY 0 7 1 5 http://a/b\n";
+    // Bytes of the slot from a place on, and what is answered and printed.
+    let rows: [(usize, &[u8], Status, &str); 9] = [
+        (0, &[0x1a], Status::Done, line),
+        // next slot 0
+        (36, &[0, 0, 0, 0], Status::Chained { slot: 0 }, ""),
+        // the greatest version, and one more
+        (28, &[0, 0, 0xff, 0xff], Status::Done, "ENTRY 0 4294901760 1 5 http://a/b\n"),
+        (28, &[1, 0, 0xff, 0xff], Status::Done, ""),
+        // an entry size that is not the payload's
+        (16, &[0x30], Status::Done, ""),
+        // first slot 1
+        (32, &[1], Status::Done, ""),
+        // another key in the header, in the metadata, and another URL
+        (0, &[0x1b], Status::Done, ""),
+        (50, &[0x1b], Status::Done, ""),
+        (71, &[b'H'], Status::Done, ""),
+    ];
+    for (at, bytes, status, text) in rows {
+        let file = with_bytes(one_entry(alloc)?, at, bytes);
+        let mut volume = volume_of(alloc, Some(&file), &[], &[])?;
+        let (ended, printed) = run(&rt, alloc, &["list", "db", "512"], &mut volume, 4096)?;
+        assert_eq!(rt; ended, status, "at {at}");
+        assert_eq!(rt; printed.as_slice(), text.as_bytes(), "at {at}");
+    }
+    Ok(())
+}
+
+#[test]
+fn each_status_has_its_cause(rt: HostRuntime) -> Result<(), Fail> {
+    let alloc = rt.alloc();
+    let file = one_entry(alloc)?;
+    let mut short = empty_file(alloc)?;
+    short.resize(16_895, 0)?;
+    let mut zeros = empty_file(alloc)?;
+    zeros.resize(17_508, 0)?;
+    let small = Status::Small { bytes: 16_895 };
+    let geometry = Status::BadGeometry { field: 1 };
+    // words, file, calls of the volume and of the station that fail, room of the sink
+    let rows: [(&[&str], Option<&[u8]>, &[u64], &[u64], usize, Status, u8, &str); 14] = [
+        (&["list", "db", "512"], Some(&zeros), &[], &[], 99, Status::Done, 0, ""),
+        (&["list", "db", "512"], None, &[], &[], 99, Status::Missing, 8, ""),
+        (&["list", "db", "512"], None, &[0], &[], 99, Status::Missing, 8, ""),
+        (&["list", "db", "512"], Some(&short), &[0], &[], 99, small, 8, ""),
+        (&["list", "db", "500"], None, &[0], &[], 99, geometry, 8, ""),
+        (&["list", "db", "33280"], Some(&file), &[], &[], 99, geometry, 8, ""),
+        (&["fetch", "db"], Some(&file), &[], &[], 99, Status::Usage, 2, ""),
+        (&["list", "db", "0512"], Some(&file), &[], &[], 99, Status::Usage, 2, ""),
+        (&["list", "-db", "512"], Some(&file), &[], &[], 99, Status::Usage, 2, ""),
+        (&[], Some(&file), &[], &[], 99, Status::Usage, 2, ""),
+        (&["list", "db", "512"], Some(&file), &[0], &[], 99, Status::DeviceFault, 6, ""),
+        (&["list", "db", "512"], Some(&file), &[1], &[], 99, Status::DeviceFault, 6, ""),
+        (&["list", "db", "512"], Some(&file), &[], &[0], 99, Status::DeviceFault, 6, ""),
+        (&["list", "db", "512"], Some(&file), &[], &[], 9, Status::SinkFault, 5, "ENTRY 0 7"),
+    ];
+    for (words, bytes, fail, station_fail, room, status, code, text) in rows {
+        let mut volume = volume_of(alloc, bytes, fail, station_fail)?;
+        let (ended, printed) = run(&rt, alloc, words, &mut volume, room)?;
+        assert_eq!(rt; ended, status, "{words:?}");
+        assert_eq!(rt; ended.code(), code, "{words:?}");
+        assert_eq!(rt; printed.as_slice(), text.as_bytes(), "{words:?}");
+        let cells = volume.cells("db").map_or(0, |cells| cells.len());
+        assert_eq!(rt; volume.cells("db").is_some(), bytes.is_some(), "{words:?}, {cells} cells");
+    }
+    Ok(())
+}
+
+#[test]
+fn entries_are_listed_in_order_of_their_slots(rt: HostRuntime) -> Result<(), Fail> {
+    let alloc = rt.alloc();
+    let mut file = empty_file(alloc)?;
+    push_entry(&mut file, 0, 3, &KEY_B, "http://a/b", "x")?;
+    push_entry(&mut file, 1, 5, &KEY_C, "http://a/c", "y")?;
+    let mut volume = volume_of(alloc, Some(&file), &[], &[])?;
+    let (status, printed) = run(&rt, alloc, &["list", "db", "512"], &mut volume, 99)?;
+    let lines = b"ENTRY 0 3 1 1 http://a/b\nENTRY 1 5 1 1 http://a/c\n";
+    assert_eq!(rt; status, Status::Done);
+    assert_eq!(rt; printed.as_slice(), lines.as_slice());
+    Ok(())
+}
+
+#[test]
+fn a_url_is_checked_and_has_its_key(rt: HostRuntime) -> Result<(), Fail> {
+    let alloc = rt.alloc();
+    let longest = vec![in alloc; b'a'; 2048]?;
+    let longer = vec![in alloc; b'a'; 2049]?;
+    let rows: [(&[u8], Result<(), UrlFault>); 6] = [
+        (b"", Err(UrlFault::EmptyUrl)),
+        (b"http://a/ b", Err(UrlFault::BadByte { at: 9 })),
+        (b"http://a/\x7f ", Err(UrlFault::BadByte { at: 9 })),
+        (b"!~", Ok(())),
+        (&longest, Ok(())),
+        (&longer, Err(UrlFault::LongUrl)),
+    ];
+    for (url, checked) in rows {
+        assert_eq!(rt; check_url(url), checked, "{url:?}");
+    }
+    assert_eq!(rt; key_of(b"http://a/b"), KEY_B);
+    assert_eq!(rt; key_of(b"http://a/c"), KEY_C);
+    Ok(())
+}
