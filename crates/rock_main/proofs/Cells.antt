@@ -55,7 +55,7 @@ one_more state tells first cells scan scan_after image image_after slot i d afte
       let image_is : get_or (images (map state first)) i [] ≡ image_after = get_or-map (λ c. c.now) (map state first) i (state d) [] within ∙ ap (λ s. s.now) (was ∙ there) ∙ sym (read t) in
       let all : length (images (map state first)) ≡ length first = length-map (map state first) (λ c. c.now) ∙ length-map first state in
       let front : take (i + 1) (images (map state first)) ≡ take i (images (map state first)) ++ image_after ∷ [] =
-          take_more (images (map state first)) i [] (omega arith) ∙ ap (λ x. take i (images (map state first)) ++ x ∷ []) image_is
+      take_more (images (map state first)) i [] (omega arith) ∙ ap (λ x. take i (images (map state first)) ++ x ∷ []) image_is
       in
       subst (λ s. Scanned (length first) slot s scan_after) (sym front) (adds (take i (images (map state first))) (length-take-le i (images (map state first)) (omega arith)) (so.told t));
 }

@@ -24,9 +24,9 @@ one_first : (slots slot : ℕ) (images : List (List ℕ)) (m n : ℕ) → IsFirs
 one_first slots slot images m n p q = elim (cases_lt m n) as (λ _. m ≡ n) [
   | inl below ↦ absurd (q.2 m below p.1)
   | inr above ↦ elim (cases_lt n m) as (λ _. m ≡ n) [
-      | inl under ↦ absurd (p.2 n under q.1)
-      | inr over ↦ omega arith
-    ]
+    | inl under ↦ absurd (p.2 n under q.1)
+    | inr over ↦ omega arith
+  ]
 ]
 
 is_first : (slots slot : ℕ) (images : List (List ℕ)) (n : ℕ) (found : Option ℕ) → IsFirstChained slots slot images found → IsFirstChained slots slot images (Some n) → found ≡ Some n
@@ -38,7 +38,7 @@ pub found_first : (files : Files) (name : List ℕ) (slot n : ℕ) (scan : Scan)
 found_first files name slot n scan s h =
     let same : h.was ≡ s.was = same_file h.there s.found in
     let here : IsFirstChained (length (images_of slot (bytes_of s.was))) slot (images_of slot (bytes_of s.was)) (Some n) =
-        subst (λ (f : File). IsFirstChained (length (images_of slot (bytes_of f))) slot (images_of slot (bytes_of f)) (Some n)) same h.first
+    subst (λ (f : File). IsFirstChained (length (images_of slot (bytes_of f))) slot (images_of slot (bytes_of f)) (Some n)) same h.first
     in
     is_first _ slot _ n scan.chained s.scanned.chained here
 

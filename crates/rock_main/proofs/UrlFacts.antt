@@ -10,9 +10,9 @@ pub one_bad_byte : (text : List ℕ) (i j : ℕ) → IsFirstBadByte text i → I
 one_bad_byte text i j p q = elim (cases_lt i j) as (λ _. i ≡ j) [
   | inl below ↦ absurd (p.bad (q.first i below))
   | inr above ↦ elim (cases_lt j i) as (λ _. i ≡ j) [
-      | inl under ↦ absurd (q.bad (p.first j under))
-      | inr over ↦ omega arith
-    ]
+    | inl under ↦ absurd (q.bad (p.first j under))
+    | inr over ↦ omega arith
+  ]
 ]
 
 -- the fault that names the first bad byte comes exactly where that byte is the first

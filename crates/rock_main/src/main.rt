@@ -21,11 +21,10 @@ use rock_file::FileVolume;
 use rock_io::{StdSink, StdSource, Words};
 use status::Status;
 use std::alloc::AllocError;
-use std::env;
-use std::io;
 use std::io::ErrorKind;
 use std::process::ExitCode;
 use std::rt::Env;
+use std::{env, io};
 
 /// What `rock --help` prints.
 const HELP: &str = "\

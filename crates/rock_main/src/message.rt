@@ -36,7 +36,9 @@ pub fn explanation(
         Status::Memory => format!(in alloc; "memory ran out; free some and try again"),
         Status::SourceFault => format!(in alloc; "standard input could not be read"),
         Status::SinkFault => format!(in alloc; "standard output did not take all of the answer"),
-        Status::DeviceFault => format!(in alloc; "{name} could not be read; look at its disk and its permissions"),
+        Status::DeviceFault => format!(in alloc;
+            "{name} could not be read; look at its disk and its permissions"
+        ),
         Status::BadScript { line, .. } => format!(in alloc; "line {line} of the script is wrong"),
         Status::Missing => format!(in alloc; "there is no file {name}"),
         Status::Small { .. } => {
@@ -47,7 +49,9 @@ pub fn explanation(
         }
         Status::Exists => format!(in alloc; "there is a file {name} already"),
         Status::Chained { slot } => {
-            format!(in alloc; "slot {slot} of {name} goes on in another slot, which is not followed yet")
+            format!(in alloc;
+                "slot {slot} of {name} goes on in another slot, which is not followed yet"
+            )
         }
     }
 }

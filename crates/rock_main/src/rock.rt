@@ -41,7 +41,7 @@ where
     // `list`: when each status comes, by the numbers and the counts of faults, and by the files.
     ensures list_ends { (name : List ℕ) (slot : ℕ) → IsList words.now name slot
         → ListEnds slot (K.faults out.old) (K.faults out.new) (V.faults volume.old) (V.faults volume.new)
-            (V.ended volume.old) (V.ended volume.new) result }
+        (V.ended volume.old) (V.ended volume.new) result }
     ensures list_says { (name : List ℕ) (slot : ℕ) → IsList words.now name slot → IsTrue V.tells
         → ListSays (V.files volume.old) name slot result }
 

@@ -52,7 +52,10 @@ impl Scan {
 fn push_line(alloc: Global, lines: &mut Vec<u8>, entry: &Entry<'_>) -> Result<(), AllocError>
     ensures { OnOk result (lines.new.items ≡ lines.old.items ++ line_of (listed entry.now)) }
 {
-    let head = format!(in alloc; "ENTRY {} {} 1 {} ", entry.first, entry.version, entry.length)?;
+    let head = format!(in alloc;
+        "ENTRY {} {} 1 {} ",
+        entry.first, entry.version, entry.length
+    )?;
     lines.extend_from_slice(head.as_bytes())?;
     lines.extend_from_slice(entry.url)?;
     lines.push(b'\n')?;

@@ -136,7 +136,12 @@ fn one_slot_is_listed_where_it_is_an_entry(rt: HostRuntime) -> Result<(), Fail> 
         // next slot 0
         (36, &[0, 0, 0, 0], Status::Chained { slot: 0 }, ""),
         // the greatest version, and one more
-        (28, &[0, 0, 0xff, 0xff], Status::Done, "ENTRY 0 4294901760 1 5 http://a/b\n"),
+        (
+            28,
+            &[0, 0, 0xff, 0xff],
+            Status::Done,
+            "ENTRY 0 4294901760 1 5 http://a/b\n",
+        ),
         (28, &[1, 0, 0xff, 0xff], Status::Done, ""),
         // an entry size that is not the payload's
         (16, &[0x30], Status::Done, ""),
@@ -168,21 +173,138 @@ fn each_status_has_its_cause(rt: HostRuntime) -> Result<(), Fail> {
     let small = Status::Small { bytes: 16_895 };
     let geometry = Status::BadGeometry { field: 1 };
     // words, file, calls of the volume and of the station that fail, room of the sink
-    let rows: [(&[&str], Option<&[u8]>, &[u64], &[u64], usize, Status, u8, &str); 14] = [
-        (&["list", "db", "512"], Some(&zeros), &[], &[], 99, Status::Done, 0, ""),
-        (&["list", "db", "512"], None, &[], &[], 99, Status::Missing, 8, ""),
-        (&["list", "db", "512"], None, &[0], &[], 99, Status::Missing, 8, ""),
-        (&["list", "db", "512"], Some(&short), &[0], &[], 99, small, 8, ""),
+    let rows: [(
+        &[&str],
+        Option<&[u8]>,
+        &[u64],
+        &[u64],
+        usize,
+        Status,
+        u8,
+        &str,
+    ); 14] = [
+        (
+            &["list", "db", "512"],
+            Some(&zeros),
+            &[],
+            &[],
+            99,
+            Status::Done,
+            0,
+            "",
+        ),
+        (
+            &["list", "db", "512"],
+            None,
+            &[],
+            &[],
+            99,
+            Status::Missing,
+            8,
+            "",
+        ),
+        (
+            &["list", "db", "512"],
+            None,
+            &[0],
+            &[],
+            99,
+            Status::Missing,
+            8,
+            "",
+        ),
+        (
+            &["list", "db", "512"],
+            Some(&short),
+            &[0],
+            &[],
+            99,
+            small,
+            8,
+            "",
+        ),
         (&["list", "db", "500"], None, &[0], &[], 99, geometry, 8, ""),
-        (&["list", "db", "33280"], Some(&file), &[], &[], 99, geometry, 8, ""),
-        (&["fetch", "db"], Some(&file), &[], &[], 99, Status::Usage, 2, ""),
-        (&["list", "db", "0512"], Some(&file), &[], &[], 99, Status::Usage, 2, ""),
-        (&["list", "-db", "512"], Some(&file), &[], &[], 99, Status::Usage, 2, ""),
+        (
+            &["list", "db", "33280"],
+            Some(&file),
+            &[],
+            &[],
+            99,
+            geometry,
+            8,
+            "",
+        ),
+        (
+            &["fetch", "db"],
+            Some(&file),
+            &[],
+            &[],
+            99,
+            Status::Usage,
+            2,
+            "",
+        ),
+        (
+            &["list", "db", "0512"],
+            Some(&file),
+            &[],
+            &[],
+            99,
+            Status::Usage,
+            2,
+            "",
+        ),
+        (
+            &["list", "-db", "512"],
+            Some(&file),
+            &[],
+            &[],
+            99,
+            Status::Usage,
+            2,
+            "",
+        ),
         (&[], Some(&file), &[], &[], 99, Status::Usage, 2, ""),
-        (&["list", "db", "512"], Some(&file), &[0], &[], 99, Status::DeviceFault, 6, ""),
-        (&["list", "db", "512"], Some(&file), &[1], &[], 99, Status::DeviceFault, 6, ""),
-        (&["list", "db", "512"], Some(&file), &[], &[0], 99, Status::DeviceFault, 6, ""),
-        (&["list", "db", "512"], Some(&file), &[], &[], 9, Status::SinkFault, 5, "ENTRY 0 7"),
+        (
+            &["list", "db", "512"],
+            Some(&file),
+            &[0],
+            &[],
+            99,
+            Status::DeviceFault,
+            6,
+            "",
+        ),
+        (
+            &["list", "db", "512"],
+            Some(&file),
+            &[1],
+            &[],
+            99,
+            Status::DeviceFault,
+            6,
+            "",
+        ),
+        (
+            &["list", "db", "512"],
+            Some(&file),
+            &[],
+            &[0],
+            99,
+            Status::DeviceFault,
+            6,
+            "",
+        ),
+        (
+            &["list", "db", "512"],
+            Some(&file),
+            &[],
+            &[],
+            9,
+            Status::SinkFault,
+            5,
+            "ENTRY 0 7",
+        ),
     ];
     for (words, bytes, fail, station_fail, room, status, code, text) in rows {
         let mut volume = volume_of(alloc, bytes, fail, station_fail)?;
@@ -191,7 +313,11 @@ fn each_status_has_its_cause(rt: HostRuntime) -> Result<(), Fail> {
         assert_eq!(rt; ended.code(), code, "{words:?}");
         assert_eq!(rt; printed.as_slice(), text.as_bytes(), "{words:?}");
         let cells = volume.cells("db").map_or(0, |cells| cells.len());
-        assert_eq!(rt; volume.cells("db").is_some(), bytes.is_some(), "{words:?}, {cells} cells");
+        assert_eq!(rt;
+            volume.cells("db").is_some(),
+            bytes.is_some(),
+            "{words:?}, {cells} cells"
+        );
     }
     Ok(())
 }

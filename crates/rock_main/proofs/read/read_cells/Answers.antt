@@ -25,11 +25,10 @@ loop-number-preserved g c =
     let so = c.loop-number.invariant.0 in
     let full : length c.read.new.buf ≡ c.loop-number.image.len = c.read.auto.buf ∙ c.deref_mut.ensures.len in
     let whole = filled c.read.new.buf (drop (length c.read.new.buf) c.loop-number.image.items) c.loop-number.image.len full in
-    let state = g.S.C.Cell.state in
-    (
+    let state = g.S.C.Cell.state in (
       one_more state g.S.C.Cell.tells c.args.cells.now c.loop-number.cells c.loop-number.scan c.add.new.self c.loop-number.image.items _ c.args.slot c.loop-number.number c.index-cells-number.result c.read.new.cell
-      so (omega arith) c.loop-number.auto.cells c.in_ok-read.ensures.cell (λ t. whole ∙ c.in_ok-read.ensures.read t)
-      (ap length whole ∙ c.read.auto.buf ∙ ap length c.deref_mut.ensures.value ∙ so.wide)
-      (λ images count scanned. subst (λ b. Scanned (length c.args.cells.now) c.args.slot (images ++ b ∷ []) c.add.new.self) c.deref.ensures.value (c.in_ok-add.ensures images count scanned)),
+          so (omega arith) c.loop-number.auto.cells c.in_ok-read.ensures.cell (λ t. whole ∙ c.in_ok-read.ensures.read t)
+          (ap length whole ∙ c.read.auto.buf ∙ ap length c.deref_mut.ensures.value ∙ so.wide)
+          (λ images count scanned. subst (λ b. Scanned (length c.args.cells.now) c.args.slot (images ++ b ∷ []) c.add.new.self) c.deref.ensures.value (c.in_ok-add.ensures images count scanned)),
       omega arith,
     )
