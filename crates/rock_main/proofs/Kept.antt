@@ -1,13 +1,13 @@
 -- A file that is opened, read and given back.
-use Rattle.std.proofs.Common.{◌≡◌, ◌⊎◌, ◌+◌, ◌*◌, ◌<◌, ◌≤◌, ◌++◌, ◌∷◌, [], ℕ, zero, suc, List, length, map, take, drop, min, Bool, true, false, cond, arith, refl, ap, sym, ◌∙◌, subst, Some, None, inl, inr}
+use Rattle.std.proofs.Common.{◌≡◌, ◌+◌, ◌≤◌, ℕ, zero, suc, List, length, map, Bool, true, false, cond, arith, refl, ap, sym, ◌∙◌, subst, Some, inr}
 use Rattle.std.proofs.lemmas.List.{length-map}
 use Rattle.std.specs.Ordering.{nat_cmp, eq_by_cmp}
 use Rattle.std.specs.Cmp.Lexicographic.{slice_cmp}
 use Rattle.std.proofs.lemmas.Cmp.{nat_list_cmp_total, eq_by_cmp_equiv}
 use Rattle.std.specs.FinMap.{get, insert, get-insert, same_map, slice_cmp-IsAntisymmetric, nat_cmp-IsAntisymmetric}
-use Rattle.std.specs.Prelude.{Result, IfOk, IsErrOf, IsErrAnd, Ok, Err, ◌↔◌}
+use Rattle.std.specs.Prelude.{Result, IsErrOf, IsErrAnd, Ok, Err, ◌↔◌}
 use Rattle.rock_disk.specs.Cell.{CellState, shape}
-use Rattle.rock_disk.specs.File.{File, Files, shapes_from, slots_of, bytes_of, cut, rest_cut, header_cut, slots_cut, IsThere, IsKept}
+use Rattle.rock_disk.specs.File.{File, Files, shapes_from, slots_of, bytes_of, rest_cut, header_cut, slots_cut, IsThere, IsKept}
 use Rattle.rock_disk.specs.File.File.{Home, Away}
 use Rattle.rock_disk.specs.Opened.{HasShape, IsOpened, IsOut}
 use Rattle.rock_disk.specs.declared.volume.OpenFault.{OpenFault}

@@ -5,3 +5,4 @@ pub mod Cells
 pub mod Kept
 pub mod ChainedFacts
 pub mod CommandFacts
+pub mod ListFacts

@@ -1,13 +1,12 @@
 -- One slot more in a listing.
-use Rattle.std.proofs.Common.{◌≡◌, ◌⊎◌, inl, inr, ℕ, ◌+◌, ◌<◌, ◌≤◌, List, [], ◌∷◌, ◌++◌, length, get_or, refl, ap, sym, ◌∙◌, subst, arith, Some, None}
+use Rattle.std.proofs.Common.{◌≡◌, inl, inr, ℕ, ◌+◌, ◌<◌, List, [], ◌∷◌, ◌++◌, length, get_or, refl, ap, sym, ◌∙◌, subst, arith, Some, None}
 use Rattle.std.specs.Prelude.{Option}
 use Rattle.std.specs.Option.{option_or}
 use Rattle.std.specs.List.{concat}
 use Rattle.std.proofs.lemmas.Bool.{cases_lt}
 use Rattle.std.proofs.lemmas.List.{get_or_append_left, get_or_push, length_push, append-nil}
 use Rattle.std.proofs.lemmas.List.Folds.{concat-append}
-use Rattle.slot_cell.specs.Header.{IsSane, header_of}
-use Rattle.rock_main.specs.Entry.{Listed, IsEntry, IsChained, line_of}
+use Rattle.rock_main.specs.Entry.{Listed, IsEntry, IsChained}
 use Rattle.rock_main.specs.Listing.{IsPart, Lists, IsFirstChained}
 
 -- what holds at each place of two lists, and of one more element of each, holds at each place of the longer lists

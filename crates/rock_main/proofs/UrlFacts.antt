@@ -1,5 +1,5 @@
 -- There is one first byte that no URL has.
-use Rattle.std.proofs.Common.{◌≡◌, ℕ, ◌<◌, ◌≤◌, List, length, ap, subst, arith, ◌⊎◌, inl, inr}
+use Rattle.std.proofs.Common.{◌≡◌, ℕ, ◌≤◌, List, length, ap, subst, arith, inl, inr}
 use Rattle.std.proofs.lemmas.Bool.{cases_lt}
 use Rattle.std.specs.Prelude.{Result, IsErrOf, Err, ◌↔◌}
 use Rattle.rock_main.specs.Url.{IsFirstBadByte}

@@ -11,3 +11,9 @@ EndedOne made_before made_after before after =
 abbrev pub DeviceFailed : ℕ → ℕ → List ℕ → List ℕ → Type 0
 DeviceFailed faults_before faults_after before after =
     Rose faults_before faults_after ⊎ ((count : ℕ) × (after ≡ before ++ count ∷ []) × (0 < count))
+
+-- no count of the sink and the volume rose, and the station, if one was ended, was ended with none
+pub record NoFault (sink_before sink_after volume_before volume_after : ℕ) (ended_before ended_after : List ℕ) : Type 0 where
+  pub sink : ¬ Rose sink_before sink_after
+  pub volume : ¬ Rose volume_before volume_after
+  pub station : (count : ℕ) → ended_after ≡ ended_before ++ count ∷ [] → count ≡ 0

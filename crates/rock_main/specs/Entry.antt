@@ -1,5 +1,5 @@
 -- The complete entries of a file whose chains have one slot each.
-use Rattle.std.specs.Prelude.{◌≡◌, ◌≢◌, ℕ, ◌+◌, pos, negsuc, List, [], ◌∷◌, ◌++◌, take, codes, decimal}
+use Rattle.std.specs.Prelude.{◌≡◌, ◌≢◌, ℕ, ◌+◌, pos, negsuc, List, ◌++◌, take, codes, decimal}
 use Rattle.slot_cell.specs.Header.{header_of, payload_of, IsSane}
 use Rattle.swap_meta.specs.Meta.{Spells}
 use Rattle.rock_main.specs.Key.{key_of}

@@ -1,9 +1,9 @@
 -- What `list NAME SLOT` answers, and why.
-use Rattle.std.specs.Prelude.{◌≡◌, ◌⊎◌, ℕ, ◌+◌, ◌%◌, ◌<◌, ◌≤◌, List, [], ◌∷◌, ◌++◌, length, Option, Some, None}
+use Rattle.std.specs.Prelude.{◌≡◌, ◌⊎◌, ℕ, ◌%◌, ◌≤◌, List, ◌++◌, length, Option, Some, None}
 use Rattle.std.specs.FinMap.{get}
 use Rattle.rock_io.specs.Faults.{Rose}
 use Rattle.rock_io.specs.Sink.{TakesPrefix}
-use Rattle.rock_disk.specs.File.{File, Files, bytes_of}
+use Rattle.rock_disk.specs.File.{File, Files, IsThere, bytes_of}
 use Rattle.rock_disk.specs.Opened.{IsSmall}
 use Rattle.rock_main.specs.Device.{DeviceFailed}
 use Rattle.rock_main.specs.Listing.{images_of, Lists, IsFirstChained}
@@ -58,3 +58,13 @@ abbrev pub ListPrints : (List ℕ → Type 0) → List ℕ → List ℕ → Stat
 ListPrints IsText before after Done = (text : List ℕ) × IsText text × (after ≡ before ++ text)
 ListPrints IsText before after SinkFault = (text : List ℕ) × IsText text × TakesPrefix before after text
 ListPrints IsText before after status = after ≡ before
+
+-- neither the slot size nor the map nor the length of the file refuses the command
+pub record MayList (files : Files) (name : List ℕ) (slot : ℕ) : Type 0 where
+  pub sized : IsSlotSize slot
+  pub there : IsThere files name
+  pub long : (bytes : ℕ) → ¬ IsSmall files name slot bytes
+
+-- how a command ends that nothing refuses and no fault meets
+abbrev pub ListsOrLacksMemory : Status → Type 0
+ListsOrLacksMemory status = (status ≡ Done) ⊎ (((n : ℕ) × (status ≡ Chained n)) ⊎ (status ≡ Memory))

@@ -1,5 +1,5 @@
 -- The listing of a file.
-use Rattle.std.specs.Prelude.{◌≡◌, ◌⊎◌, ℕ, ◌<◌, List, [], ◌∷◌, length, map, slice_index_or, Option, Some, None}
+use Rattle.std.specs.Prelude.{◌≡◌, ◌⊎◌, ℕ, ◌<◌, List, [], length, map, slice_index_or, Option, Some, None}
 use Rattle.std.specs.List.{concat}
 use Rattle.rock_disk.specs.File.{slots_cut}
 use Rattle.rock_main.specs.Entry.{Listed, IsEntry, IsChained, line_of}

@@ -1,5 +1,5 @@
 -- Which bytes are a URL.
-use Rattle.std.specs.Prelude.{◌≡◌, ◌≢◌, ℕ, ◌<◌, ◌≤◌, List, [], length, slice_index, All}
+use Rattle.std.specs.Prelude.{◌≢◌, ℕ, ◌<◌, ◌≤◌, List, [], length, slice_index}
 
 -- printable ASCII without the space
 abbrev pub IsUrlByte : ℕ → Type 0

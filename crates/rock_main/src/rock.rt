@@ -4,8 +4,8 @@ ghost use Rattle.std.specs.FinMap.{get};
 ghost use Rattle.rock_disk.specs.File.{NoneAway, IsKept};
 ghost use Rattle.rock_disk.specs.Opened.{IsSmall};
 ghost use Rattle.rock_main.specs.CommandLine.{IsList, IsCommandLine};
-ghost use Rattle.rock_main.specs.Device.{EndedOne};
-ghost use Rattle.rock_main.specs.ListCommand.{IsSlotSize, IsListing, HasFirstChained, ListEnds, ListSays, ListPrints};
+ghost use Rattle.rock_main.specs.Device.{EndedOne, NoFault};
+ghost use Rattle.rock_main.specs.ListCommand.{IsSlotSize, IsListing, HasFirstChained, ListEnds, ListSays, ListPrints, MayList, ListsOrLacksMemory};
 
 use crate::command::ListCommand;
 use crate::list::list;
@@ -55,6 +55,12 @@ where
     ensures list_chained { (name : List ℕ) (slot n : ℕ) → IsList words.now name slot → IsTrue V.tells → IsSlotSize slot
         → HasFirstChained (V.files volume.old) name slot (Some n)
         → (result ≡ Status.Chained n) ⊎ ((result ≡ Status.Memory) ⊎ (result ≡ Status.DeviceFault)) }
+
+    // Where nothing refuses it and no fault comes, it lists, unless memory runs out.
+    ensures list_complete { (name : List ℕ) (slot : ℕ) → IsList words.now name slot → IsTrue V.tells
+        → MayList (V.files volume.old) name slot
+        → NoFault (K.faults out.old) (K.faults out.new) (V.faults volume.old) (V.faults volume.new) (V.ended volume.old) (V.ended volume.new)
+        → ListsOrLacksMemory result }
 
     // `list`: what was printed, and the file, which keeps its bytes.
     ensures list_prints { (name : List ℕ) (slot : ℕ) → IsList words.now name slot → IsTrue K.tells

@@ -2,7 +2,7 @@ use Rattle.std.proofs.Common.{◌≡◌, refl, ap, ◌∙◌, sym, subst, rules}
 use Rattle.std.specs.Prelude.{FitsSigned, negsuc}
 use Rattle.std.specs.Int.{w32, cast_signed, cast_unsigned}
 use Rattle.std.proofs.lemmas.Int.{to_z-of_z}
-use Rattle.slot_cell.specs.Header.{header_of, IsSane}
+use Rattle.slot_cell.specs.Header.{IsSane}
 use Rattle.rock_main.proofs.entry.judge.Goals as goal
 
 pub returns-then-header : goal.returns-then-header

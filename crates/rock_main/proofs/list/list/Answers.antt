@@ -1,4 +1,4 @@
-use Rattle.std.proofs.Common.{◌≡◌, inl, Some, None, sym, ◌∙◌, ap, arith}
+use Rattle.std.proofs.Common.{inl, sym, ◌∙◌, ap, arith}
 use Rattle.rock_main.specs.declared.status.Status.TheVariants as status
 use Rattle.rock_main.proofs.ChainedFacts.{found_first, chained_at_fault, short_at_fault, short_not_read, some_is}
 use Rattle.rock_main.proofs.list.list.Goals as goal

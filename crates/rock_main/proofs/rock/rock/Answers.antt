@@ -5,6 +5,7 @@ use Rattle.rock_disk.specs.Opened.{IsSmall}
 use Rattle.rock_main.specs.ListCommand.{IsSlotSize, IsListing, HasFirstChained, ListEnds, ListSays, ListPrints}
 use Rattle.rock_main.specs.declared.status.Status.TheVariants as status
 use Rattle.rock_main.proofs.CommandFacts.{of_each}
+use Rattle.rock_main.proofs.ListFacts.{complete}
 use Rattle.rock_main.proofs.rock.rock.Goals as goal
 
 pub returns-in-Some-clause-list_ends : goal.returns-in-Some-clause-list_ends
@@ -43,3 +44,9 @@ returns-in-Some-clause-list_prints g c name slot asked k =
 pub returns-in-Some-clause-list_kept : goal.returns-in-Some-clause-list_kept
 returns-in-Some-clause-list_kept g c name slot asked t =
     of_each c.args.words.now (λ n s. IsKept s n (g.V.Volume.files c.args.volume.now) (g.V.Volume.files c.list.new.volume)) name slot c.in-Some.ensures asked (c.list.ensures.kept t)
+
+pub returns-in-Some-clause-list_complete : goal.returns-in-Some-clause-list_complete
+returns-in-Some-clause-list_complete g c name slot asked t may none =
+    let ends = returns-in-Some-clause-list_ends g c name slot asked in
+    let says = returns-in-Some-clause-list_says g c name slot asked t in
+    complete (g.V.Volume.files c.args.volume.now) name slot _ _ _ _ _ _ c.list.result ends says may none

@@ -1,4 +1,4 @@
-use Rattle.std.proofs.Common.{◌≡◌, length, ap, sym, ◌∙◌, subst, refl, arith}
+use Rattle.std.proofs.Common.{◌≡◌, length, sym, ◌∙◌, subst, refl, arith}
 use Rattle.std.specs.Prelude.{string_bytes}
 use Rattle.rock_main.specs.CommandLine.{IsName}
 use Rattle.rock_main.proofs.CommandFacts.{three_words, found_equal}

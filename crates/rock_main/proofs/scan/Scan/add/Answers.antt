@@ -1,4 +1,4 @@
-use Rattle.std.proofs.Common.{◌≡◌, inl, refl, ap, ◌∙◌, sym}
+use Rattle.std.proofs.Common.{inl, refl}
 use Rattle.rock_main.specs.Entry.{line_of}
 use Rattle.rock_main.specs.Shown.{listed}
 use Rattle.rock_main.proofs.ScanFacts.{lists_more, lists_no_more, chained_is_none, chained_more, chained_no_more}
