@@ -17,7 +17,8 @@ impl<'a> ListCommand<'a> {
     /// Reads a command line without the program's own name. None exactly where it is none of the
     /// table, which has this command alone so far.
     pub fn parse(words: &'a Words) -> Option<ListCommand<'a>>
-        ensures { MatchOption result (IsCommandLine words.now → ⊥) (λ command. IsList words.now command.name.now command.slot) }
+        ensures { MatchOption result (IsCommandLine words.now
+            → ⊥) (λ command. IsList words.now command.name.now command.slot) }
     {
         match words.as_slice() {
             [command, name, slot] if command.as_str() == "list" && is_name(name.as_str()) => {

@@ -55,7 +55,8 @@ fn entry_of<'a>(number: u32, header: &Header, image: &'a [u8]) -> Option<Entry<'
     requires read { header.now ≡ header_of image.now }
     requires last { header.now.next_slot ≡ negsuc 0 }
     requires room { 40 + header.now.payload_size ≤ length image.now }
-    ensures { MatchOption result ((e : Listed) → StandsAlone number image.now e → ⊥) (λ e. StandsAlone number image.now (listed e)) }
+    ensures { MatchOption result ((e : Listed) → StandsAlone number image.now e → ⊥)
+        (λ e. StandsAlone number image.now (listed e)) }
 {
     if !is_whole(number, header) {
         return None;
@@ -77,7 +78,8 @@ fn entry_of<'a>(number: u32, header: &Header, image: &'a [u8]) -> Option<Entry<'
 
 /// Whether the slot names itself first, and its payload is as long as the entry.
 fn is_whole(number: u32, header: &Header) -> bool
-    ensures { IsTrue result ↔ ((header.now.first_slot ≡ pos number) × (header.now.entry_size ≡ header.now.payload_size)) }
+    ensures { IsTrue result ↔ ((header.now.first_slot ≡ pos number)
+        × (header.now.entry_size ≡ header.now.payload_size)) }
 {
     i64::from(header.first_slot) == i64::from(number)
         && header.entry_size == u64::from(header.payload_size)
@@ -86,7 +88,8 @@ fn is_whole(number: u32, header: &Header) -> bool
 /// Whether the metadata has a URL and its key, and the slot has that key too.
 fn is_named(meta: &Meta<'_>, image: &[u8]) -> bool
     requires { 16 ≤ length image.now }
-    ensures { IsTrue result ↔ ((meta.now.key ≡ take 16 image.now) × (meta.now.key ≡ key_of meta.now.url.now) × IsUrl meta.now.url.now) }
+    ensures { IsTrue result ↔ ((meta.now.key ≡ take 16 image.now)
+        × (meta.now.key ≡ key_of meta.now.url.now) × IsUrl meta.now.url.now) }
 {
     meta.key.as_slice() == &image[..16]
         && meta.key == key_of(meta.url)

@@ -32,22 +32,26 @@ pub fn list<V: Volume, K: Sink>(
     requires { IsTrue V.tells → IsNotAway (get (V.files volume.old) name.now) }
 
     // When each status comes.
-    ensures ends { ListEnds slot (K.faults out.old) (K.faults out.new) (V.faults volume.old) (V.faults volume.new)
-        (V.ended volume.old) (V.ended volume.new) result }
+    ensures ends { ListEnds slot (K.faults out.old) (K.faults out.new)
+        (V.faults volume.old) (V.faults volume.new) (V.ended volume.old) (V.ended volume.new) result }
     ensures says { IsTrue V.tells → ListSays (V.files volume.old) name.now slot result }
     ensures refused { (IsSlotSize slot → ⊥) → result ≡ Status.BadGeometry 1 }
-    ensures missing { IsTrue V.tells → IsSlotSize slot → get (V.files volume.old) name.now ≡ None → result ≡ Status.Missing }
-    ensures small { IsTrue V.tells → IsSlotSize slot → (bytes : ℕ) → IsSmall (V.files volume.old) name.now slot bytes
-        → result ≡ Status.Small bytes }
-    ensures chained { IsTrue V.tells → IsSlotSize slot → (n : ℕ) → HasFirstChained (V.files volume.old) name.now slot (Some n)
+    ensures missing { IsTrue V.tells → IsSlotSize slot → get (V.files volume.old) name.now ≡ None
+        → result ≡ Status.Missing }
+    ensures small { IsTrue V.tells → IsSlotSize slot → (bytes : ℕ)
+        → IsSmall (V.files volume.old) name.now slot bytes → result ≡ Status.Small bytes }
+    ensures chained { IsTrue V.tells → IsSlotSize slot → (n : ℕ)
+        → HasFirstChained (V.files volume.old) name.now slot (Some n)
         → (result ≡ Status.Chained n) ⊎ ((result ≡ Status.Memory) ⊎ (result ≡ Status.DeviceFault)) }
 
     // What was printed.
-    ensures prints { IsTrue K.tells → ListPrints (λ text. IsTrue V.tells → IsListing (V.files volume.old) name.now slot text)
+    ensures prints { IsTrue K.tells
+        → ListPrints (λ text. IsTrue V.tells → IsListing (V.files volume.old) name.now slot text)
         (K.taken out.old) (K.taken out.new) result }
 
     ensures kept { IsTrue V.tells → IsKept slot name.now (V.files volume.old) (V.files volume.new) }
-    ensures ended { EndedOne (V.made volume.old) (V.made volume.new) (V.ended volume.old) (V.ended volume.new) }
+    ensures ended { EndedOne (V.made volume.old) (V.made volume.new)
+        (V.ended volume.old) (V.ended volume.new) }
     ensures faults { V.faults volume.old ≤ V.faults volume.new }
     ensures sink_faults { K.faults out.old ≤ K.faults out.new }
 {

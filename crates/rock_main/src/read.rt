@@ -73,10 +73,12 @@ fn read_cells<S: Station>(
 ) -> Result<Scan, ReadFault>
     requires cells { map shape (map S.C.state cells.old) ≡ shapes_from 0 (length cells.old) slot }
     requires few { length cells.old ≤ 1048576 }
-    ensures scanned { IfOk result (λ scan. IsTrue S.C.tells → ScannedCells slot (map S.C.state cells.old) scan) }
+    ensures scanned { IfOk result (λ scan. IsTrue S.C.tells
+        → ScannedCells slot (map S.C.state cells.old) scan) }
     ensures cells { map S.C.state cells.new ≡ map S.C.state cells.old }
     ensures faults { S.faults station.old ≤ S.faults station.new }
-    ensures device { IsErrOf result ReadFault.Device → Rose (S.faults station.old) (S.faults station.new) }
+    ensures device { IsErrOf result ReadFault.Device
+        → Rose (S.faults station.old) (S.faults station.new) }
     ensures missing { IsErrOf result ReadFault.Missing → ⊥ }
     ensures small { (bytes : ℕ) → IsErrOf result (ReadFault.Small bytes) → ⊥ }
 {
@@ -102,13 +104,16 @@ fn read_by_station<V: Volume>(
     requires there { IsTrue V.tells → IsThere (V.files volume.old) name.now }
     requires cells { map shape (map V.C.state cells.old) ≡ shapes_from 0 (length cells.old) slot }
     requires few { length cells.old ≤ 1048576 }
-    ensures scanned { IfOk result (λ scan. IsTrue V.C.tells → ScannedCells slot (map V.C.state cells.old) scan) }
+    ensures scanned { IfOk result (λ scan. IsTrue V.C.tells
+        → ScannedCells slot (map V.C.state cells.old) scan) }
     ensures cells { map V.C.state cells.new ≡ map V.C.state cells.old }
     ensures files { V.files volume.new ≡ V.files volume.old }
     ensures faults { V.faults volume.old ≤ V.faults volume.new }
-    ensures ended { EndedOne (V.made volume.old) (V.made volume.new) (V.ended volume.old) (V.ended volume.new) }
+    ensures ended { EndedOne (V.made volume.old) (V.made volume.new)
+        (V.ended volume.old) (V.ended volume.new) }
     ensures device { IsErrOf result ReadFault.Device
-        → DeviceFailed (V.faults volume.old) (V.faults volume.new) (V.ended volume.old) (V.ended volume.new) }
+        → DeviceFailed (V.faults volume.old) (V.faults volume.new)
+        (V.ended volume.old) (V.ended volume.new) }
     ensures missing { IsErrOf result ReadFault.Missing → ⊥ }
     ensures small { (bytes : ℕ) → IsErrOf result (ReadFault.Small bytes) → ⊥ }
 {
@@ -128,17 +133,22 @@ pub fn read_file<V: Volume>(
     requires slot { 0 < slot }
     requires home { IsTrue V.tells → IsNotAway (get (V.files volume.old) name.now) }
 
-    ensures scanned { IfOk result (λ scan. IsTrue V.tells → ScannedFile (V.files volume.old) name.now slot scan) }
+    ensures scanned { IfOk result (λ scan. IsTrue V.tells
+        → ScannedFile (V.files volume.old) name.now slot scan) }
     ensures kept { IsTrue V.tells → IsKept slot name.now (V.files volume.old) (V.files volume.new) }
-    ensures ended { EndedOne (V.made volume.old) (V.made volume.new) (V.ended volume.old) (V.ended volume.new) }
+    ensures ended { EndedOne (V.made volume.old) (V.made volume.new)
+        (V.ended volume.old) (V.ended volume.new) }
     ensures faults { V.faults volume.old ≤ V.faults volume.new }
 
     // When each refusal comes.
-    ensures missing { IsTrue V.tells → (IsErrOf result ReadFault.Missing ↔ (get (V.files volume.old) name.now ≡ None)) }
+    ensures missing { IsTrue V.tells → (IsErrOf result ReadFault.Missing
+        ↔ (get (V.files volume.old) name.now ≡ None)) }
     ensures small { IsTrue V.tells → (bytes : ℕ)
-        → (IsErrOf result (ReadFault.Small bytes) ↔ IsSmall (V.files volume.old) name.now slot bytes) }
+        → (IsErrOf result (ReadFault.Small bytes)
+        ↔ IsSmall (V.files volume.old) name.now slot bytes) }
     ensures device { IsErrOf result ReadFault.Device
-        → DeviceFailed (V.faults volume.old) (V.faults volume.new) (V.ended volume.old) (V.ended volume.new) }
+        → DeviceFailed (V.faults volume.old) (V.faults volume.new)
+        (V.ended volume.old) (V.ended volume.new) }
 {
     let Opened {
         header,

@@ -34,42 +34,46 @@ where
 
     // Words that are no command line change nothing.
     ensures usage { (result ≡ Status.Usage) ↔ (IsCommandLine words.now → ⊥) }
-    ensures untouched { result ≡ Status.Usage → (V.files volume.new ≡ V.files volume.old) × (V.faults volume.new ≡ V.faults volume.old)
+    ensures untouched { result ≡ Status.Usage
+        → (V.files volume.new ≡ V.files volume.old) × (V.faults volume.new ≡ V.faults volume.old)
         × (V.made volume.new ≡ V.made volume.old) × (V.ended volume.new ≡ V.ended volume.old)
         × (K.taken out.new ≡ K.taken out.old) × (K.faults out.new ≡ K.faults out.old) }
 
     // `list`: when each status comes, by the numbers and the counts of faults, and by the files.
     ensures list_ends { (name : List ℕ) (slot : ℕ) → IsList words.now name slot
-        → ListEnds slot (K.faults out.old) (K.faults out.new) (V.faults volume.old) (V.faults volume.new)
-        (V.ended volume.old) (V.ended volume.new) result }
+        → ListEnds slot (K.faults out.old) (K.faults out.new)
+        (V.faults volume.old) (V.faults volume.new) (V.ended volume.old) (V.ended volume.new) result }
     ensures list_says { (name : List ℕ) (slot : ℕ) → IsList words.now name slot → IsTrue V.tells
         → ListSays (V.files volume.old) name slot result }
 
     // Where the slot size, the map or the file refuses the command, it is refused so.
-    ensures list_geometry { (name : List ℕ) (slot : ℕ) → IsList words.now name slot → (IsSlotSize slot → ⊥)
-        → result ≡ Status.BadGeometry 1 }
-    ensures list_missing { (name : List ℕ) (slot : ℕ) → IsList words.now name slot → IsTrue V.tells → IsSlotSize slot
-        → get (V.files volume.old) name ≡ None → result ≡ Status.Missing }
-    ensures list_small { (name : List ℕ) (slot bytes : ℕ) → IsList words.now name slot → IsTrue V.tells → IsSlotSize slot
-        → IsSmall (V.files volume.old) name slot bytes → result ≡ Status.Small bytes }
-    ensures list_chained { (name : List ℕ) (slot n : ℕ) → IsList words.now name slot → IsTrue V.tells → IsSlotSize slot
-        → HasFirstChained (V.files volume.old) name slot (Some n)
+    ensures list_geometry { (name : List ℕ) (slot : ℕ) → IsList words.now name slot
+        → (IsSlotSize slot → ⊥) → result ≡ Status.BadGeometry 1 }
+    ensures list_missing { (name : List ℕ) (slot : ℕ) → IsList words.now name slot → IsTrue V.tells
+        → IsSlotSize slot → get (V.files volume.old) name ≡ None → result ≡ Status.Missing }
+    ensures list_small { (name : List ℕ) (slot bytes : ℕ) → IsList words.now name slot → IsTrue V.tells
+        → IsSlotSize slot → IsSmall (V.files volume.old) name slot bytes → result ≡ Status.Small bytes }
+    ensures list_chained { (name : List ℕ) (slot n : ℕ) → IsList words.now name slot → IsTrue V.tells
+        → IsSlotSize slot → HasFirstChained (V.files volume.old) name slot (Some n)
         → (result ≡ Status.Chained n) ⊎ ((result ≡ Status.Memory) ⊎ (result ≡ Status.DeviceFault)) }
 
     // Where nothing refuses it and no fault comes, it lists, unless memory runs out.
     ensures list_complete { (name : List ℕ) (slot : ℕ) → IsList words.now name slot → IsTrue V.tells
         → MayList (V.files volume.old) name slot
-        → NoFault (K.faults out.old) (K.faults out.new) (V.faults volume.old) (V.faults volume.new) (V.ended volume.old) (V.ended volume.new)
+        → NoFault (K.faults out.old) (K.faults out.new)
+        (V.faults volume.old) (V.faults volume.new) (V.ended volume.old) (V.ended volume.new)
         → ListsOrLacksMemory result }
 
     // `list`: what was printed, and the file, which keeps its bytes.
     ensures list_prints { (name : List ℕ) (slot : ℕ) → IsList words.now name slot → IsTrue K.tells
-        → ListPrints (λ text. IsTrue V.tells → IsListing (V.files volume.old) name slot text) (K.taken out.old) (K.taken out.new) result }
+        → ListPrints (λ text. IsTrue V.tells → IsListing (V.files volume.old) name slot text)
+        (K.taken out.old) (K.taken out.new) result }
     ensures list_kept { (name : List ℕ) (slot : ℕ) → IsList words.now name slot → IsTrue V.tells
         → IsKept slot name (V.files volume.old) (V.files volume.new) }
 
     // Each station that was made was ended.
-    ensures ended { EndedOne (V.made volume.old) (V.made volume.new) (V.ended volume.old) (V.ended volume.new) }
+    ensures ended { EndedOne (V.made volume.old) (V.made volume.new)
+        (V.ended volume.old) (V.ended volume.new) }
     ensures faults { V.faults volume.old ≤ V.faults volume.new }
     ensures sink_faults { K.faults out.old ≤ K.faults out.new }
 

@@ -37,7 +37,8 @@ impl Scan {
     ) -> Result<(), AllocError>
         requires { length image.now ≡ slot }
         ensures { OnOk result ((images : List (List ℕ)) → length images ≡ number
-            → Scanned slots slot images self.old → Scanned slots slot (images ++ image.now ∷ []) self.new) }
+            → Scanned slots slot images self.old
+            → Scanned slots slot (images ++ image.now ∷ []) self.new) }
     {
         match judge(number, slots, slot, image) {
             Slot::Entry(entry) => push_line(alloc, &mut self.lines, &entry)?,

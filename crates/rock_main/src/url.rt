@@ -20,7 +20,8 @@ pub fn check_url(bytes: &[u8]) -> Result<(), UrlFault>
     ensures ok { IsOk result ↔ IsUrl bytes.now }
     ensures empty { IsErrOf result UrlFault.EmptyUrl ↔ (bytes.now ≡ []) }
     ensures long { IsErrOf result UrlFault.LongUrl ↔ (2048 < length bytes.now) }
-    ensures bad_byte { (at : ℕ) → IsErrOf result (UrlFault.BadByte at) ↔ ((length bytes.now ≤ 2048) × IsFirstBadByte bytes.now at) }
+    ensures bad_byte { (at : ℕ) → IsErrOf result (UrlFault.BadByte at)
+        ↔ ((length bytes.now ≤ 2048) × IsFirstBadByte bytes.now at) }
 {
     if bytes.is_empty() {
         return Err(UrlFault::EmptyUrl);
