@@ -1,4 +1,3 @@
-pub mod UrlFacts
 pub mod Numbers
 pub mod ScanFacts
 pub mod Cells

@@ -2,8 +2,8 @@
 use Rattle.std.specs.Prelude.{◌≡◌, ◌≢◌, ℕ, ◌+◌, pos, negsuc, List, ◌++◌, take, codes, decimal}
 use Rattle.slot_cell.specs.Header.{header_of, payload_of, IsSane}
 use Rattle.swap_meta.specs.Meta.{Spells}
-use Rattle.rock_main.specs.Key.{key_of}
-use Rattle.rock_main.specs.Url.{IsUrl}
+use Rattle.store_key.specs.Key.{key_of}
+use Rattle.store_key.specs.Url.{IsUrl}
 
 -- what a listing says of an entry: its first slot, its version, how many bytes its body has, and its URL
 pub record Listed : Type 0 where

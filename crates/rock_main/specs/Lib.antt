@@ -1,6 +1,4 @@
 pub mod CommandLine
-pub mod Url
-pub mod Key
 pub mod Entry
 pub mod Listing
 pub mod Shown

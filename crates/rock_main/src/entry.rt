@@ -2,13 +2,12 @@
 ghost use Rattle.std.specs.Prelude.{◌≡◌, ◌+◌, ◌≤◌, pos, negsuc, ◌↔◌, length, take, IsTrue, MatchOption};
 ghost use Rattle.slot_cell.specs.Header.{header_of};
 ghost use Rattle.rock_main.specs.Entry.{Listed, StandsAlone};
-ghost use Rattle.rock_main.specs.Key.{key_of};
+ghost use Rattle.store_key.specs.Key.{key_of};
 ghost use Rattle.rock_main.specs.Shown.{listed, Judges};
-ghost use Rattle.rock_main.specs.Url.{IsUrl};
+ghost use Rattle.store_key.specs.Url.{IsUrl};
 
-use crate::key::key_of;
-use crate::url::check_url;
 use slot_cell::{HEADER_SIZE, Header};
+use store_key::{check_url, key_of};
 use swap_meta::{Meta, read_meta};
 
 /// What a listing says of an entry.

@@ -6,14 +6,12 @@
 
 mod command;
 mod entry;
-mod key;
 mod list;
 mod message;
 mod read;
 mod rock;
 mod scan;
 mod status;
-mod url;
 
 use message::explanation;
 use rock::rock;

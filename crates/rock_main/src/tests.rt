@@ -2,10 +2,8 @@ ghost use Rattle.std.specs.Prelude.{IfOk};
 ghost use Rattle.rock_disk.specs.File.{NoneAway};
 ghost use Rattle.rock_disk.specs.Memory.{volume_files};
 
-use crate::key::key_of;
 use crate::rock::rock;
 use crate::status::Status;
-use crate::url::{UrlFault, check_url};
 use rock_disk::MemVolume;
 use rock_io::{MemSink, MemSource, Memory, Words};
 use std::alloc::{AllocError, Global};
@@ -333,26 +331,5 @@ fn entries_are_listed_in_order_of_their_slots(rt: HostRuntime) -> Result<(), Fai
     let lines = b"ENTRY 0 3 1 1 http://a/b\nENTRY 1 5 1 1 http://a/c\n";
     assert_eq!(rt; status, Status::Done);
     assert_eq!(rt; printed.as_slice(), lines.as_slice());
-    Ok(())
-}
-
-#[test]
-fn a_url_is_checked_and_has_its_key(rt: HostRuntime) -> Result<(), Fail> {
-    let alloc = rt.alloc();
-    let longest = vec![in alloc; b'a'; 2048]?;
-    let longer = vec![in alloc; b'a'; 2049]?;
-    let rows: [(&[u8], Result<(), UrlFault>); 6] = [
-        (b"", Err(UrlFault::EmptyUrl)),
-        (b"http://a/ b", Err(UrlFault::BadByte { at: 9 })),
-        (b"http://a/\x7f ", Err(UrlFault::BadByte { at: 9 })),
-        (b"!~", Ok(())),
-        (&longest, Ok(())),
-        (&longer, Err(UrlFault::LongUrl)),
-    ];
-    for (url, checked) in rows {
-        assert_eq!(rt; check_url(url), checked, "{url:?}");
-    }
-    assert_eq!(rt; key_of(b"http://a/b"), KEY_B);
-    assert_eq!(rt; key_of(b"http://a/c"), KEY_C);
     Ok(())
 }

@@ -4,8 +4,8 @@ use Rattle.std.proofs.lemmas.List.{length-take, length-drop}
 use Rattle.slot_cell.specs.declared.header.Header.{Header}
 use Rattle.slot_cell.specs.Header.{header_of, payload_of}
 use Rattle.swap_meta.specs.Meta.{Spells}
-use Rattle.rock_main.specs.Key.{key_of}
-use Rattle.rock_main.specs.Url.{IsUrl}
+use Rattle.store_key.specs.Key.{key_of}
+use Rattle.store_key.specs.Url.{IsUrl}
 use Rattle.rock_main.proofs.entry.entry_of.Goals as goal
 
 -- the bytes that are read as metadata are the slot's payload

@@ -1,6 +1,6 @@
 // The key of a URL.
 ghost use Rattle.std.specs.Prelude.{◌≡◌};
-ghost use Rattle.rock_main.specs.Key.{key_of};
+ghost use Rattle.store_key.specs.Key.{key_of};
 
 use md5::{Digest, Md5};
 

@@ -1,7 +1,7 @@
 use Rattle.std.proofs.Common.{arith, rules}
-use Rattle.rock_main.specs.Url.{IsFirstBadByte}
-use Rattle.rock_main.proofs.UrlFacts.{bad_byte_at}
-use Rattle.rock_main.proofs.url.check_url.Goals as goal
+use Rattle.store_key.specs.Url.{IsFirstBadByte}
+use Rattle.store_key.proofs.UrlFacts.{bad_byte_at}
+use Rattle.store_key.proofs.url.check_url.Goals as goal
 
 pub returns-in-Some-clause-bad_byte : goal.returns-in-Some-clause-bad_byte
 returns-in-Some-clause-bad_byte c at =

@@ -1,6 +1,6 @@
 // The check of a URL.
 ghost use Rattle.std.specs.Prelude.{◌≡◌, ℕ, ◌<◌, ◌≤◌, ◌↔◌, [], length, IsOk, IsErrOf};
-ghost use Rattle.rock_main.specs.Url.{IsUrl, IsFirstBadByte};
+ghost use Rattle.store_key.specs.Url.{IsUrl, IsFirstBadByte};
 
 /// The greatest length of a URL, in bytes.
 const LONGEST_URL: usize = 2048;

@@ -2,9 +2,9 @@
 use Rattle.std.proofs.Common.{◌≡◌, ℕ, ◌≤◌, List, length, ap, subst, arith, inl, inr}
 use Rattle.std.proofs.lemmas.Bool.{cases_lt}
 use Rattle.std.specs.Prelude.{Result, IsErrOf, Err, ◌↔◌}
-use Rattle.rock_main.specs.Url.{IsFirstBadByte}
-use Rattle.rock_main.specs.declared.url.UrlFault.{UrlFault}
-use Rattle.rock_main.specs.declared.url.UrlFault.TheVariants.{BadByte}
+use Rattle.store_key.specs.Url.{IsFirstBadByte}
+use Rattle.store_key.specs.declared.url.UrlFault.{UrlFault}
+use Rattle.store_key.specs.declared.url.UrlFault.TheVariants.{BadByte}
 
 pub one_bad_byte : (text : List ℕ) (i j : ℕ) → IsFirstBadByte text i → IsFirstBadByte text j → i ≡ j
 one_bad_byte text i j p q = elim (cases_lt i j) as (λ _. i ≡ j) [

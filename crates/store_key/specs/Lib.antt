@@ -1,0 +1,3 @@
+pub mod Url
+pub mod Key
+pub mod Anchor

@@ -1,0 +1,13 @@
+//! URLs, their keys, and the anchors that keys belong to.
+#![tactic(auto)]
+
+mod anchor;
+mod key;
+mod url;
+
+pub use anchor::anchor_of;
+pub use key::key_of;
+pub use url::{UrlFault, check_url};
+
+#[cfg(test)]
+mod tests;
