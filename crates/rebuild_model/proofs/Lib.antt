@@ -1,0 +1,4 @@
+pub mod Chains
+pub mod Alone
+pub mod Metadata
+pub mod Same

@@ -1,0 +1,21 @@
+//! What a database file holds: its complete entries, and what a rebuild of the store keeps of them.
+//!
+//! The definitions stand in `specs/`, over the images of a file's slots. The functions of this crate
+//! give their laws.
+#![tactic(auto)]
+
+mod found;
+mod found_list;
+mod image;
+mod laws;
+mod plain;
+mod rebuilt;
+
+pub use found::Found;
+pub use found_list::FoundList;
+pub use image::{FileImage, Images};
+pub use laws::{
+    chains_are_apart, entries_of_one_slot, one_entry_at_a_slot, one_winner_at_an_anchor,
+    winners_are_apart,
+};
+pub use rebuilt::Rebuilt;
