@@ -1,12 +1,12 @@
 -- A header is read field by field, and its fields spell the bytes that it was read from.
 use Rattle.std.proofs.Common.{◌≡◌, ℕ, ◌+◌, ◌^◌, ◌<◌, ◌≤◌, List, [], ◌∷◌, zero, suc, ◌++◌, length, take, drop, get_or, ap, ◌∙◌, sym, refl, arith}
 use Rattle.std.proofs.lemmas.List.{drop-drop}
-use Rattle.std.proofs.lemmas.Grind.{common_steps, elements}
+use Rattle.std.proofs.lemmas.Grind.{common_steps}
 use Rattle.std.proofs.Math.Seq.{take-add}
 use Rattle.std.proofs.lemmas.Nat.{le_bytes_4, le_bytes_8, from_le_bytes-to_le_bytes_4, from_le_bytes-to_le_bytes_8}
 use Rattle.std.proofs.lemmas.Int.{of_z-to_z, to_z-of_z, ints}
 use Rattle.std.specs.Prelude.{ℤ, FitsSigned}
-use Rattle.std.specs.Int.{w32, w64, from_le_bytes, to_le_bytes, cast_signed, cast_unsigned}
+use Rattle.std.specs.Int.{w32, from_le_bytes, to_le_bytes, cast_signed, cast_unsigned}
 use Rattle.slot_cell.specs.declared.header.Header.{Header}
 use Rattle.slot_cell.specs.Header.{header_of, header_bytes, IsInRange}
 

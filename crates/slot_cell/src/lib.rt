@@ -2,8 +2,10 @@
 #![tactic(auto)]
 
 mod header;
+mod image;
 
 pub use header::{GREATEST_VERSION, HEADER_SIZE, Header};
+pub use image::{build_image, read_image};
 
 #[cfg(test)]
 mod tests;

@@ -1,4 +1,4 @@
-use Rattle.std.proofs.Common.{◌≡◌, ◌≤◌, ◌<◌, ◌+◌, ◌^◌, List, [], ◌++◌, length, take, ap, sym, ◌∙◌, refl, rules, arith}
+use Rattle.std.proofs.Common.{◌≡◌, ◌≤◌, [], length, take, ap, sym, ◌∙◌, rules, arith}
 use Rattle.std.proofs.lemmas.List.{append-nil, take_all}
 use Rattle.std.specs.Int.{w32, to_le_bytes, cast_unsigned}
 use Rattle.std.specs.Prelude.{ℤ, FitsSigned}
