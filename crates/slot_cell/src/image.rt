@@ -8,7 +8,9 @@ use crate::header::{HEADER_SIZE, Header};
 pub fn build_image(header: &Header, payload: &[u8], out: &mut [u8])
     requires size { length payload.now ≡ header.now.payload_size }
     requires room { 40 + length payload.now ≤ length out.old }
-    ensures { out.new ≡ slot_image header.now payload.now (length out.old) }
+    ensures image { out.new ≡ slot_image header.now payload.now (length out.old) }
+    ensures header { header_of out.new ≡ header.now }
+    ensures payload { payload_of out.new ≡ payload.now }
 {
     let Some((head, behind)) = out.split_first_chunk_mut() else {
         unreachable!()

@@ -1,10 +1,10 @@
 use Rattle.std.proofs.Common.{◌≡◌, ◌≤◌, [], length, take, ap, sym, ◌∙◌, rules, arith}
-use Rattle.std.proofs.lemmas.List.{append-nil, take_all}
+use Rattle.std.proofs.lemmas.List.{take_all}
 use Rattle.std.specs.Int.{w32, to_le_bytes, cast_unsigned}
 use Rattle.std.specs.Prelude.{ℤ, FitsSigned}
 use Rattle.std.proofs.lemmas.Int.{to_z-of_z}
 use Rattle.slot_cell.specs.Header.{header_of, header_bytes, IsInRange}
-use Rattle.slot_cell.proofs.Reading.{header_of-header_bytes}
+use Rattle.slot_cell.proofs.Reading.{header_of-alone}
 use Rattle.slot_cell.proofs.Writing.{one_more}
 use Rattle.slot_cell.proofs.header.Header.encode.Goals as goal
 
@@ -43,4 +43,4 @@ returns-clause-decoded c =
       first_slot = search rules;
       next_slot = search rules;
     } in
-    ap header_of (returns-clause-written c ∙ sym (append-nil (header_bytes h))) ∙ header_of-header_bytes h [] fits
+    ap header_of (returns-clause-written c) ∙ header_of-alone h fits
