@@ -9,13 +9,11 @@ pub fn headers_are_read_as_written()
     ensures read { (h : Header) (rest : List ℕ) → IsInRange h → header_of (header_bytes h ++ rest) ≡ h }
     ensures written { (bytes : List ℕ) → length bytes ≡ 40 → All (λ byte. byte < 256) bytes →
         header_bytes (header_of bytes) ≡ bytes }
-{
-}
+{}
 
 /// The image of a slot says its header and its payload.
 pub fn images_are_read_as_built()
     ensures header { (h : Header) (payload : List ℕ) (slot : ℕ) → IsInRange h → header_of (slot_image h payload slot) ≡ h }
     ensures payload { (h : Header) (payload : List ℕ) (slot : ℕ) → IsInRange h → length payload ≡ h.payload_size →
         payload_of (slot_image h payload slot) ≡ payload }
-{
-}
+{}
