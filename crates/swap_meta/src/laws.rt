@@ -13,7 +13,7 @@ pub fn written_meta_is_spelled()
 
 /// No metadata is a proper prefix of other metadata.
 pub fn no_spelling_is_a_prefix()
-    ensures none { (bytes more key url key2 url2 : List ℕ) (n n2 : ℕ) → Spells bytes key url n →
+    ensures no_more { (bytes more key url key2 url2 : List ℕ) (n n2 : ℕ) → Spells bytes key url n →
         Spells (bytes ++ more) key2 url2 n2 → more ≡ [] }
     ensures same { (bytes more key url key2 url2 : List ℕ) (n n2 : ℕ) → Spells bytes key url n →
         Spells (bytes ++ more) key2 url2 n2 → (key ≡ key2) × (url ≡ url2) × (n ≡ n2) }
