@@ -4,11 +4,14 @@ ghost use Rattle.rebuild_model.specs.Image.{IsSaneAt, header_at};
 ghost use Rattle.rebuild_model.specs.Entry.{Entry, IsComplete, IsAlone};
 ghost use Rattle.rebuild_model.specs.Rebuilt.{IsWinner};
 
+use swap_meta::no_spelling_is_a_prefix;
+
 /// At most one complete entry begins at a slot.
 pub fn one_entry_at_a_slot()
     ensures { (slot : ℕ) (images : List (List ℕ)) (e f : Entry)
         → IsComplete slot images e → IsComplete slot images f → e.first ≡ f.first → e ≡ f }
 {
+    no_spelling_is_a_prefix();
 }
 
 /// Complete entries that begin at different slots share no slot.

@@ -27,3 +27,17 @@ fn is_sane_at(slot: u32, images: &[Octets], s: u32) -> bool
     let slots = images.len() as u32;
     s < slots && header_of_slot(slot, images, s).is_sane(slots, slot)
 }
+
+/// Whether slot s belongs to the entry that begins at slot `first`.
+fn belongs_to(slot: u32, images: &[Octets], first: u32, s: u32) -> bool
+    requires file { IsFile slot images.now }
+    requires within { first < length images.now }
+    ensures { IsTrue result ↔ BelongsTo slot images.now first s }
+{
+    is_sane_at(slot, images, s)
+        && is_alike(
+            &header_of_slot(slot, images, first),
+            &header_of_slot(slot, images, s),
+        )
+        && i64::from(header_of_slot(slot, images, s).first_slot) == i64::from(first)
+}

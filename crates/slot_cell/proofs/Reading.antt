@@ -1,11 +1,11 @@
 -- A header is read field by field, and its fields spell the bytes that it was read from.
 use Rattle.std.proofs.Common.{◌≡◌, ℕ, ◌+◌, ◌^◌, ◌<◌, ◌≤◌, List, [], ◌∷◌, zero, suc, ◌++◌, length, take, drop, get_or, ap, ◌∙◌, sym, refl, arith}
-use Rattle.std.proofs.lemmas.List.{drop-drop}
+use Rattle.std.proofs.lemmas.List.{drop-drop, append-nil, take_all}
 use Rattle.std.proofs.lemmas.Grind.{common_steps}
 use Rattle.std.proofs.Math.Seq.{take-add}
 use Rattle.std.proofs.lemmas.Nat.{le_bytes_4, le_bytes_8, from_le_bytes-to_le_bytes_4, from_le_bytes-to_le_bytes_8}
 use Rattle.std.proofs.lemmas.Int.{of_z-to_z, to_z-of_z, ints}
-use Rattle.std.specs.Prelude.{ℤ, FitsSigned}
+use Rattle.std.specs.Prelude.{ℤ, FitsSigned, All}
 use Rattle.std.specs.Int.{w32, from_le_bytes, to_le_bytes, cast_signed, cast_unsigned}
 use Rattle.slot_cell.specs.declared.header.Header.{Header}
 use Rattle.slot_cell.specs.Header.{header_of, header_bytes, IsInRange}
@@ -29,6 +29,11 @@ same_header p q r s t u v = cc
 
 abbrev IsBytes : List ℕ → Type 0
 IsBytes bytes = (i : ℕ) → get_or bytes i 0 < 256
+
+all_bytes : (bytes : List ℕ) → All (λ byte. byte < 256) bytes → IsBytes bytes
+all_bytes [] small i = omega arith
+all_bytes (b ∷ bytes) small zero = small 0 0 (omega arith)
+all_bytes (b ∷ bytes) small (suc i) = all_bytes bytes (λ k d below. small (suc k) d (omega arith)) i
 
 small_in_front : (bytes : List ℕ) (size : ℕ) → IsBytes bytes → IsBytes (take size bytes)
 small_in_front [] zero small i = small i
@@ -90,3 +95,15 @@ header_of-header_bytes h rest fits =
     (from_le_bytes-to_le_bytes_4 h.version fits.version)
     (signed_again h.first_slot fits.first_slot)
     (signed_again h.next_slot fits.next_slot)
+
+-- the same of a header alone
+pub header_of-alone : (h : Header) → IsInRange h → header_of (header_bytes h) ≡ h
+header_of-alone h fits = ap header_of (sym (append-nil (header_bytes h))) ∙ header_of-header_bytes h [] fits
+
+-- 40 bytes are spelled by the header that is read from them
+pub header_bytes-alone : (bytes : List ℕ) → length bytes ≡ 40 → All (λ byte. byte < 256) bytes → header_bytes (header_of bytes) ≡ bytes
+header_bytes-alone bytes forty small =
+    let each : IsBytes bytes = λ i. all_bytes bytes small i in
+    let room : 40 ≤ length bytes = omega arith in
+    let whole : length bytes ≤ 40 = omega arith in
+    header_bytes-header_of bytes each room ∙ take_all 40 bytes whole

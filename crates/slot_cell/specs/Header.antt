@@ -40,6 +40,12 @@ payload_of image = take (header_of image).payload_size (drop 40 image)
 abbrev pub slot_image : Header → List ℕ → ℕ → List ℕ
 slot_image h payload slot = header_bytes h ++ payload ++ replicate (slot - 40 - length payload) 0
 
+-- the header of a slot that holds nothing
+pub record IsEmpty (h : Header) : Type 0 where
+  pub first_slot : h.first_slot ≡ pos 0
+  pub next_slot : h.next_slot ≡ pos 0
+  pub payload_size : h.payload_size ≡ 0
+
 -- the header can stand in a file of this many slots of this many bytes
 pub record IsSane (h : Header) (slots slot : ℕ) : Type 0 where
   pub first_from : pos 0 ≤ℤ h.first_slot

@@ -28,7 +28,7 @@ pub struct Header {
 
 impl Header {
     ghost use Rattle.slot_cell.specs.declared.header.Header.{Header};
-    ghost use Rattle.slot_cell.specs.Header.{header_of, header_bytes, IsInRange, IsSane};
+    ghost use Rattle.slot_cell.specs.Header.{header_of, header_bytes, IsInRange, IsEmpty, IsSane};
 
     /// Reads the header at the front of a slot's bytes. None where there are fewer than 40.
     pub fn decode(bytes: &[u8]) -> Option<Header>
@@ -55,9 +55,47 @@ impl Header {
         })
     }
 
+    /// Writes the 40 bytes of the header.
+    pub fn encode(&self, out: &mut [u8; HEADER_SIZE])
+        ensures written { out.new ≡ header_bytes self.now }
+        ensures decoded { header_of out.new ≡ self.now }
+    {
+        let Header {
+            k0,
+            k1,
+            entry_size,
+            payload_size,
+            version,
+            first_slot,
+            next_slot,
+        } = *self;
+        let at = put(out, 0, &k0.to_le_bytes());
+        let at = put(out, at, &k1.to_le_bytes());
+        let at = put(out, at, &entry_size.to_le_bytes());
+        let at = put(out, at, &payload_size.to_le_bytes());
+        let at = put(out, at, &version.to_le_bytes());
+        let at = put(out, at, &first_slot.to_le_bytes());
+        put(out, at, &next_slot.to_le_bytes());
+    }
+
+    /// Whether the header is that of a slot that was never written or was cleared: its two slots and
+    /// its payload's size are 0.
+    pub fn is_empty(&self) -> bool
+        ensures { IsTrue result ↔ IsEmpty self.now }
+    {
+        self.first_slot == 0 && self.next_slot == 0 && self.payload_size == 0
+    }
+
     /// Whether the header can stand in a file of `slots` slots of `slot` bytes: its slots are slots of
     /// the file, its version is one that an entry may have, and its payload is not empty and fits.
     pub fn is_sane(&self, slots: u32, slot: u32) -> bool
+        ensures { IsTrue result ↔ IsSane self.now slots slot }
+    {
+        self.is_sane_in(slots, slot as usize)
+    }
+
+    /// The same for a slot of any length in memory.
+    pub(crate) fn is_sane_in(&self, slots: u32, slot: usize) -> bool
         ensures { IsTrue result ↔ IsSane self.now slots slot }
     {
         is_within(self.first_slot, 0, slots)
@@ -80,8 +118,20 @@ fn is_version(version: u32) -> bool
     0 < version && version <= GREATEST_VERSION
 }
 
-fn is_payload(size: u32, slot: u32) -> bool
+fn is_payload(size: u32, slot: usize) -> bool
     ensures { IsTrue result ↔ ((0 < size) × (size + 40 ≤ slot)) }
 {
-    0 < size && u64::from(size) + 40 <= u64::from(slot)
+    0 < size && size as usize + HEADER_SIZE <= slot
+}
+
+/// Writes `part` from byte `at` on, and answers where it ends.
+fn put(out: &mut [u8], at: usize, part: &[u8]) -> usize
+    requires { at + length part.now ≤ length out.old }
+    ensures end { result ≡ at + length part.now }
+    ensures front { take result out.new ≡ take at out.old ++ part.now }
+    ensures length { length out.new ≡ length out.old }
+{
+    let end = at + part.len();
+    out[at..end].copy_from_slice(part);
+    end
 }

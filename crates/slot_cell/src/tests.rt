@@ -49,3 +49,75 @@ fn sane_up_to_each_limit(rt: HostRuntime) {
         assert_eq!(rt; header.is_sane(4, 512), sane, "{header:?}");
     }
 }
+
+// A file of one slot, as far as its payload goes: the key is that of http://a/b, the body "hello".
+const SLOT_FRONT: [u8; 87] = [
+    0x1a, 0x68, 0xc1, 0x0d, 0x6c, 0x8b, 0x32, 0x66, 0x57, 0xc7, 0x75, 0xf5, 0x3c, 0x86, 0x6d, 0xd1,
+    0x2f, 0, 0, 0, 0, 0, 0, 0, 0x2f, 0, 0, 0, 7, 0, 0, 0, 0, 0, 0, 0, 0xff, 0xff, 0xff, 0xff, 3,
+    0x2a, 0, 0, 0, 3, 0x10, 0, 0, 0, 0x1a, 0x68, 0xc1, 0x0d, 0x6c, 0x8b, 0x32, 0x66, 0x57, 0xc7,
+    0x75, 0xf5, 0x3c, 0x86, 0x6d, 0xd1, 4, 0x0b, 0, 0, 0, 0x68, 0x74, 0x74, 0x70, 0x3a, 0x2f, 0x2f,
+    0x61, 0x2f, 0x62, 0, 0x68, 0x65, 0x6c, 0x6c, 0x6f,
+];
+
+const SLOT_HEADER: Header = Header {
+    k0: 0x6632_8b6c_0dc1_681a,
+    k1: 0xd16d_863c_f575_c757,
+    entry_size: 47,
+    payload_size: 47,
+    version: 7,
+    first_slot: 0,
+    next_slot: -1,
+};
+
+#[test]
+fn an_image_is_built_and_read(rt: HostRuntime) -> Result<(), Fail> {
+    let payload = &SLOT_FRONT[40..];
+    let mut image = [0xaa; 512];
+    build_image(&SLOT_HEADER, payload, &mut image);
+    assert_eq!(rt; &image[..87], &SLOT_FRONT[..]);
+    assert_eq!(rt; &image[87..], &[0; 425][..]);
+
+    let (header, found) = read_image(&image, 1).ok_or("a sane header")?;
+    assert_eq!(rt; header, SLOT_HEADER);
+    assert_eq!(rt; found, payload);
+
+    // No slot 0 in a file of none, a slot that is one byte too short for the payload, and a header
+    // that is cut.
+    assert_eq!(rt; read_image(&image, 0), None);
+    assert_eq!(rt; read_image(&image[..87], 1), Some((SLOT_HEADER, payload)));
+    assert_eq!(rt; read_image(&image[..86], 1), None);
+    assert_eq!(rt; read_image(&image[..39], 1), None);
+    Ok(())
+}
+
+#[test]
+fn a_header_of_zeros_is_empty(rt: HostRuntime) -> Result<(), Fail> {
+    let zeros = Header::decode(&[0; 40]).ok_or("40 bytes")?;
+    assert!(rt; zeros.is_empty());
+    for header in [
+        Header {
+            payload_size: 1,
+            ..zeros
+        },
+        Header {
+            first_slot: 1,
+            ..zeros
+        },
+        Header {
+            next_slot: -1,
+            ..zeros
+        },
+    ] {
+        assert!(rt; !header.is_empty(), "{header:?}");
+    }
+    assert!(rt;
+        Header {
+            k0: 1,
+            entry_size: 1,
+            version: 1,
+            ..zeros
+        }
+        .is_empty()
+    );
+    Ok(())
+}

@@ -7,3 +7,4 @@ pub mod OneFrame
 pub mod OneOutcome
 pub mod Size
 pub mod Outcome
+pub mod Written

@@ -1,5 +1,5 @@
 -- What metadata is, and what is wrong with bytes that are none.
-use Rattle.std.specs.Prelude.{◌≡◌, ◌≢◌, ℕ, ◌<◌, ◌≤◌, ◌^◌, ◌⊎◌, ◌==◌, List, [], ◌∷◌, ◌++◌, length, take, drop, map, filter}
+use Rattle.std.specs.Prelude.{◌≡◌, ◌≢◌, ℕ, ◌<◌, ◌≤◌, ◌+◌, ◌^◌, ◌⊎◌, ◌==◌, List, [], ◌∷◌, ◌++◌, length, take, drop, map, filter}
 use Rattle.std.specs.Int.{w32, to_le_bytes, from_le_bytes}
 use Rattle.std.specs.List.{flat_map}
 use Rattle.swap_meta.specs.declared.fault.MetaFault.{MetaFault}
@@ -27,6 +27,12 @@ pub record Spells (bytes key url : List ℕ) (L : ℕ) : Type 0 where
   pub one_key : values_of 3 items ≡ key ∷ []
   pub sixteen : length key ≡ 16
   pub one_url : values_of 4 items ≡ (url ++ 0 ∷ []) ∷ []
+
+-- how metadata with this key and this URL is written: the key first, then the URL, and no other item
+abbrev pub meta_bytes : List ℕ → List ℕ → List ℕ
+meta_bytes key url =
+    3 ∷ (to_le_bytes w32 (32 + length url)
+    ++ (item_bytes (record { kind = 3; value = key }) ++ item_bytes (record { kind = 4; value = url ++ 0 ∷ [] })))
 
 -- ---- what is wrong
 

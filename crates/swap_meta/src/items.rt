@@ -6,10 +6,10 @@ use crate::fault::MetaFault;
 use crate::head::split_head;
 
 /// The type of the item that holds the key.
-const KEY: u8 = 3;
+pub const KEY: u8 = 3;
 
 /// The type of the item that holds the URL.
-const URL: u8 = 4;
+pub const URL: u8 = 4;
 
 /// The item at the front of some bytes, and the bytes behind it.
 #[derive(Clone, Copy)]

@@ -9,7 +9,11 @@
 mod fault;
 mod head;
 mod items;
+mod laws;
 mod reading;
+mod writing;
 
 pub use fault::MetaFault;
+pub use laws::{no_spelling_is_a_prefix, written_meta_is_spelled};
 pub use reading::{Meta, read_meta};
+pub use writing::{META_SIZE, write_meta};

@@ -7,7 +7,7 @@ use crate::head::{HEAD, split_head};
 use crate::items::read_items;
 
 /// The first byte of metadata.
-const MARK: u8 = 3;
+pub const MARK: u8 = 3;
 
 /// What metadata says.
 #[derive(Clone, Copy, Debug, PartialEq, Eq)]
