@@ -8,7 +8,7 @@ use Rattle.rebuild_model.specs.Entry.{Entry, IsChain, IsComplete}
 pub ends_not : {z : ℤ} {t : ℕ} → z ≡ negsuc 0 → z ≡ pos t → ⊥
 ends_not e k = cc
 
-same_next : {z : ℤ} {t u : ℕ} → z ≡ pos t → z ≡ pos u → t ≡ u
+pub same_next : {z : ℤ} {t u : ℕ} → z ≡ pos t → z ≡ pos u → t ≡ u
 same_next e k = cc
 
 -- what goes on behind one slot goes on in one way

@@ -2,3 +2,4 @@ pub mod Chains
 pub mod Alone
 pub mod Metadata
 pub mod Same
+pub mod Walking

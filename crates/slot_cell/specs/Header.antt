@@ -1,5 +1,5 @@
 -- The bytes of a slot.
-use Rattle.std.specs.Prelude.{ℕ, ◌+◌, ◌-◌, ◌^◌, ◌<◌, ◌≤◌, FitsSigned, pos, negsuc, ◌≤ℤ◌, ◌<ℤ◌, List, ◌++◌, length, take, drop, replicate}
+use Rattle.std.specs.Prelude.{◌≡◌, ℕ, ◌+◌, ◌-◌, ◌^◌, ◌<◌, ◌≤◌, FitsSigned, pos, negsuc, ◌≤ℤ◌, ◌<ℤ◌, List, ◌++◌, length, take, drop, replicate}
 use Rattle.std.specs.Int.{w32, w64, to_le_bytes, from_le_bytes, cast_signed, cast_unsigned}
 use Rattle.slot_cell.specs.declared.header.Header.{Header}
 
