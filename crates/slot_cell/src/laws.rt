@@ -1,5 +1,5 @@
-//! What holds of all headers and all bytes. These functions do nothing: a proof that calls one may
-//! use what it ensures.
+//! What holds of all headers and all bytes. These functions do nothing: the proof of a function that
+//! calls one may use what it ensures.
 ghost use Rattle.std.specs.Prelude.{◌≡◌, ℕ, List, ◌++◌, ◌<◌, All, length};
 ghost use Rattle.slot_cell.specs.declared.header.Header.{Header};
 ghost use Rattle.slot_cell.specs.Header.{header_of, header_bytes, payload_of, slot_image, IsInRange};

@@ -1,7 +1,6 @@
 -- What is written is metadata, and no metadata is a prefix of other metadata.
 use Rattle.std.proofs.Common.{◌≡◌, ℕ, ◌+◌, ◌-◌, ◌^◌, ◌<◌, ◌≤◌, List, [], ◌∷◌, ◌++◌, length, take, drop, refl, sym, ap, subst, ◌∙◌, arith}
 use Rattle.std.specs.Int.{w32, to_le_bytes}
-use Rattle.std.specs.List.{flat_map}
 use Rattle.std.proofs.lemmas.List.{append-nil, drop-drop, length-append, take_at, take_all}
 use Rattle.swap_meta.specs.Meta.{Item, item_bytes, Spells, meta_bytes}
 use Rattle.swap_meta.proofs.Walk.{length-item_bytes}
