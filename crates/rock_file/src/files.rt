@@ -2,6 +2,7 @@
 // tell of a file only its shape, and of a call only whether it failed.
 ghost use Rattle.std.specs.Prelude.{◌≡◌, ◌+◌, ◌*◌, ◌<◌, ◌≤◌, ◌++◌, ◌∷◌, [], ℕ, length, map, vec_capacity, false, IfOk, OnOk, OnErr, IsErrOf, ◌↔◌};
 ghost use Rattle.std.specs.IoError.{error_kind};
+ghost use Rattle.rock_io.specs.Faults.{one_more};
 ghost use Rattle.rock_disk.specs.Cell.{shape};
 ghost use Rattle.rock_disk.specs.File.{shapes_from, slots_of};
 
@@ -107,7 +108,7 @@ impl<F: Drop> FileStation<F> {
 }
 
 impl<F: FileExt + Drop> Station for FileStation<F> {
-    ghost use Rattle.rock_file.specs.Files.{cell_state, station_faults, counted};
+    ghost use Rattle.rock_file.specs.Files.{cell_state, station_faults};
 
     type C = FileCell;
 
@@ -119,7 +120,7 @@ impl<F: FileExt + Drop> Station for FileStation<F> {
 
         // A failed read counts once, and no other does.
         ensures ok { OnOk result (station_faults self.new ≡ station_faults self.old) }
-        ensures failed { OnErr result (station_faults self.new ≡ counted (station_faults self.old)) }
+        ensures failed { OnErr result (station_faults self.new ≡ one_more (station_faults self.old)) }
         ensures faults { station_faults self.old ≤ station_faults self.new }
     {
         if self.file.read_exact_at(buf, cell.offset()).is_err() {
@@ -193,7 +194,7 @@ pub struct FileVolume<R> {
 }
 
 impl<R: Files + Drop> FileVolume<R> {
-    ghost use Rattle.rock_file.specs.Files.{volume_faults, volume_made, volume_ended, counted};
+    ghost use Rattle.rock_file.specs.Files.{volume_faults, volume_made, volume_ended};
 
     /// A volume over the files of `rt`. It keeps the counts of ended stations in memory of `alloc`.
     pub fn new(rt: R, alloc: Global) -> FileVolume<R>
@@ -209,7 +210,7 @@ impl<R: Files + Drop> FileVolume<R> {
     }
 
     fn count_fault(&mut self)
-        ensures faults { volume_faults self.new ≡ counted (volume_faults self.old) }
+        ensures faults { volume_faults self.new ≡ one_more (volume_faults self.old) }
         ensures grown { volume_faults self.old ≤ volume_faults self.new }
         ensures stations { self.new.stations ≡ self.old.stations }
     {
@@ -220,7 +221,7 @@ impl<R: Files + Drop> FileVolume<R> {
     fn refuse(&mut self, error: &io::Error) -> OpenFault
         ensures missing { (result ≡ OpenFault.Missing) ↔ (error_kind error.now ≡ ErrorKind.NotFound) }
         ensures kept { result ≡ OpenFault.Missing → volume_faults self.new ≡ volume_faults self.old }
-        ensures failed { (result ≡ OpenFault.Missing → ⊥) → (result ≡ OpenFault.Failed) × (volume_faults self.new ≡ counted (volume_faults self.old)) }
+        ensures failed { (result ≡ OpenFault.Missing → ⊥) → (result ≡ OpenFault.Failed) × (volume_faults self.new ≡ one_more (volume_faults self.old)) }
         ensures grown { volume_faults self.old ≤ volume_faults self.new }
         ensures stations { self.new.stations ≡ self.old.stations }
     {
@@ -265,7 +266,7 @@ where
 {
     ghost use Rattle.std.specs.FinMap.{empty};
     ghost use Rattle.rock_disk.specs.Opened.{HasShape};
-    ghost use Rattle.rock_file.specs.Files.{cell_state, station_faults, volume_faults, volume_made, volume_ended, counted};
+    ghost use Rattle.rock_file.specs.Files.{cell_state, station_faults, volume_faults, volume_made, volume_ended};
 
     type C = FileCell;
 
@@ -292,7 +293,7 @@ where
         ensures short { (bytes : ℕ) → IsErrOf result (OpenFault.Small bytes) → bytes < 16384 + slot }
 
         // A fault counts once, and nothing else does: want of memory is no fault.
-        ensures failed { IsErrOf result OpenFault.Failed → volume_faults self.new ≡ counted (volume_faults self.old) }
+        ensures failed { IsErrOf result OpenFault.Failed → volume_faults self.new ≡ one_more (volume_faults self.old) }
         ensures unfailed { (IsErrOf result OpenFault.Failed → ⊥) → volume_faults self.new ≡ volume_faults self.old }
         ensures faults { volume_faults self.old ≤ volume_faults self.new }
 
@@ -320,7 +321,7 @@ where
         ensures refused { OnErr result (volume_made self.new ≡ volume_made self.old) }
 
         // A fault counts once, and nothing else does: want of memory is no fault.
-        ensures failed { IsErrOf result StationFault.Failed → volume_faults self.new ≡ counted (volume_faults self.old) }
+        ensures failed { IsErrOf result StationFault.Failed → volume_faults self.new ≡ one_more (volume_faults self.old) }
         ensures unfailed { (IsErrOf result StationFault.Failed → ⊥) → volume_faults self.new ≡ volume_faults self.old }
         ensures faults { volume_faults self.old ≤ volume_faults self.new }
 

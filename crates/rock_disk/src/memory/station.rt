@@ -1,24 +1,24 @@
 ghost use Rattle.std.specs.Prelude.{◌≡◌, ◌≤◌, length, IsErr, OnOk, OnErr, ◌↔◌};
-ghost use Rattle.rock_io.specs.Faults.{Rose};
+ghost use Rattle.rock_io.specs.Faults.{one_more, Rose};
+ghost use Rattle.rock_io.specs.Plan.{planned, called, FailsNext};
 
-use super::calls::Calls;
 use crate::{MemCell, Station};
-use rock_io::Failed;
+use rock_io::{Failed, Plan};
 
 /// A station of a volume in memory. Exactly those of its calls fail that are listed for it.
 pub struct MemStation {
-    calls: Calls,
+    plan: Plan,
 }
 
 impl MemStation {
-    ghost use Rattle.rock_disk.specs.Memory.{station_faults, station_plan, planned, called, counted, FailsNext};
+    ghost use Rattle.rock_disk.specs.Memory.{station_faults, station_plan};
 
     pub(super) fn new(fail: Vec<u64>) -> MemStation
         ensures plan { station_plan result ≡ planned fail.items }
         ensures faults { station_faults result ≡ 0 }
     {
         MemStation {
-            calls: Calls::new(fail),
+            plan: Plan::new(fail),
         }
     }
 
@@ -26,8 +26,8 @@ impl MemStation {
     pub(super) fn into_faults(self) -> u64
         ensures { result ≡ station_faults self }
     {
-        let MemStation { calls } = self;
-        calls.faults()
+        let MemStation { plan } = self;
+        plan.faults()
     }
 
     /// Counts a call, which fails if it is listed.
@@ -35,19 +35,18 @@ impl MemStation {
         ensures listed { IsErr result ↔ FailsNext (station_plan self.old) }
         ensures plan { station_plan self.new ≡ called (station_plan self.old) }
         ensures ok { OnOk result (station_faults self.new ≡ station_faults self.old) }
-        ensures err { OnErr result (station_faults self.new ≡ counted (station_faults self.old)) }
+        ensures err { OnErr result (station_faults self.new ≡ one_more (station_faults self.old)) }
         ensures grown { station_faults self.old ≤ station_faults self.new }
     {
-        if self.calls.begin() {
-            self.calls.count_fault();
-            return Err(Failed);
+        if self.plan.begin_call() {
+            return Err(self.plan.fault());
         }
         Ok(())
     }
 }
 
 impl Station for MemStation {
-    ghost use Rattle.rock_disk.specs.Memory.{cell_state, station_faults, station_plan, called, counted, FailsNext};
+    ghost use Rattle.rock_disk.specs.Memory.{cell_state, station_faults, station_plan};
 
     type C = MemCell;
 
@@ -64,7 +63,7 @@ impl Station for MemStation {
         ensures listed { IsErr result ↔ FailsNext (station_plan self.old) }
         ensures plan { station_plan self.new ≡ called (station_plan self.old) }
         ensures ok { OnOk result (station_faults self.new ≡ station_faults self.old) }
-        ensures err { OnErr result (station_faults self.new ≡ counted (station_faults self.old)) }
+        ensures err { OnErr result (station_faults self.new ≡ one_more (station_faults self.old)) }
     {
         self.call()?;
         buf.copy_from_slice(cell.now());
