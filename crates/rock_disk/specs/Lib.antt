@@ -1,4 +1,6 @@
 pub mod Cell
+pub mod Crash
 pub mod File
 pub mod Memory
 pub mod Opened
+pub mod Written

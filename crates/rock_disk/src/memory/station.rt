@@ -46,7 +46,9 @@ impl MemStation {
 }
 
 impl Station for MemStation {
+    ghost use Rattle.rock_disk.specs.Cell.{shape, settle};
     ghost use Rattle.rock_disk.specs.Memory.{cell_state, station_faults, station_plan};
+    ghost use Rattle.rock_disk.specs.Written.{AddsAtMost, IsWritten, IsHalfWritten};
 
     type C = MemCell;
 
@@ -67,6 +69,57 @@ impl Station for MemStation {
     {
         self.call()?;
         buf.copy_from_slice(cell.now());
+        Ok(())
+    }
+
+    /// A write that fails still may be what a crash leaves. Where no memory is left to keep all that
+    /// a crash may leave, the bytes take the place of what a read gave, and those of a failed write
+    /// are not kept.
+    fn write(&mut self, cell: &mut MemCell, bytes: &[u8]) -> Result<(), Failed>
+        requires { length bytes.now ≡ (cell_state cell.old).width }
+        ensures written { OnOk result ((cell_state cell.new).now ≡ bytes.now) }
+        ensures unsure { OnErr result ((cell_state cell.new).now ≡ (cell_state cell.old).now) }
+        ensures possible { AddsAtMost bytes.now (cell_state cell.old) (cell_state cell.new) }
+        ensures shape { shape (cell_state cell.new) ≡ shape (cell_state cell.old) }
+        ensures faults { station_faults self.old ≤ station_faults self.new }
+        ensures failed { OnErr result (Rose (station_faults self.old) (station_faults self.new)) }
+
+        // What was possible before is kept.
+        ensures kept { OnOk result (IsWritten bytes.now (cell_state cell.old) (cell_state cell.new)) }
+        ensures half { OnErr result (IsHalfWritten bytes.now (cell_state cell.old) (cell_state cell.new)) }
+
+        // Exactly the listed calls fail, and each counts once.
+        ensures listed { IsErr result ↔ FailsNext (station_plan self.old) }
+        ensures plan { station_plan self.new ≡ called (station_plan self.old) }
+        ensures ok { OnOk result (station_faults self.new ≡ station_faults self.old) }
+        ensures err { OnErr result (station_faults self.new ≡ one_more (station_faults self.old)) }
+    {
+        match self.call() {
+            Ok(()) => cell.write(bytes),
+            Err(failed) => {
+                // Want of memory is no fault of the device.
+                let _ = cell.add(bytes);
+                return Err(failed);
+            }
+        }
+        Ok(())
+    }
+
+    fn sync(&mut self, cell: &mut MemCell) -> Result<(), Failed>
+        ensures settled { OnOk result (cell_state cell.new ≡ settle (cell_state cell.old)) }
+        ensures unchanged { OnErr result (cell_state cell.new ≡ cell_state cell.old) }
+        ensures shape { shape (cell_state cell.new) ≡ shape (cell_state cell.old) }
+        ensures faults { station_faults self.old ≤ station_faults self.new }
+        ensures failed { OnErr result (Rose (station_faults self.old) (station_faults self.new)) }
+
+        // Exactly the listed calls fail, and each counts once.
+        ensures listed { IsErr result ↔ FailsNext (station_plan self.old) }
+        ensures plan { station_plan self.new ≡ called (station_plan self.old) }
+        ensures ok { OnOk result (station_faults self.new ≡ station_faults self.old) }
+        ensures err { OnErr result (station_faults self.new ≡ one_more (station_faults self.old)) }
+    {
+        self.call()?;
+        cell.settle();
         Ok(())
     }
 }
