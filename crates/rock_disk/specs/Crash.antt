@@ -1,10 +1,14 @@
 -- What a crash leaves of cells.
-use Rattle.std.specs.Prelude.{◌≡◌, ◌⊎◌, ◌↔◌, ℕ, ◌<◌, List, [], length, map, get_or, Contains, All}
+use Rattle.std.specs.Prelude.{◌≡◌, ◌⊎◌, ◌↔◌, ℕ, ◌<◌, List, [], ◌∷◌, length, map, get_or, Contains}
 use Rattle.rock_disk.specs.Cell.{CellState}
 
 -- a crash may leave what a read gives
 abbrev pub NowMayStay : CellState → Type 0
 NowMayStay c = Contains c.possible c.now
+
+-- a crash leaves what a read gives
+abbrev pub IsSettled : CellState → Type 0
+IsSettled c = c.possible ≡ c.now ∷ []
 
 -- the image takes, cell by cell, one of the contents that a crash may leave
 pub record IsCrashImage (cells : List CellState) (image : List (List ℕ)) : Type 0 where

@@ -1,5 +1,6 @@
 pub mod Cell
 pub mod Crash
+pub mod Created
 pub mod File
 pub mod Memory
 pub mod Opened
