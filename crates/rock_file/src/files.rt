@@ -1,12 +1,12 @@
 // Files of the system, for reading alone. No clause can say what the system holds, so the types here
 // tell of a file only its shape, and of a call only whether it failed.
-ghost use Rattle.std.specs.Prelude.{◌≡◌, ◌+◌, ◌*◌, ◌<◌, ◌≤◌, ◌++◌, ◌∷◌, [], ℕ, length, map, vec_capacity, false, IfOk, OnOk, OnErr, IsErrOf, ◌↔◌};
+ghost use Rattle.std.specs.Prelude.{◌≡◌, ◌+◌, ◌*◌, ◌<◌, ◌≤◌, ◌++◌, ◌∷◌, [], ℕ, length, map, vec_capacity, false, IfOk, OnOk, OnErr, IsErr, IsErrOf, ◌↔◌};
 ghost use Rattle.std.specs.IoError.{error_kind};
 ghost use Rattle.rock_io.specs.Faults.{one_more};
 ghost use Rattle.rock_disk.specs.Cell.{shape};
 ghost use Rattle.rock_disk.specs.File.{shapes_from, slots_of};
 
-use rock_disk::{Cell, OpenFault, Opened, Station, StationFault, Volume};
+use rock_disk::{Cell, CreateFault, OpenFault, Opened, Station, StationFault, Volume};
 use rock_io::{Failed, Memory};
 use std::alloc::Global;
 use std::fs::{File, OpenFile};
@@ -83,7 +83,7 @@ impl Cell for FileCell {
     ghost now_may_stay = { λ cell told. absurd (false≢true told) };
 }
 
-/// An open file, with the count of the reads that failed.
+/// An open file, with the count of the calls that failed.
 pub struct FileStation<F> {
     file: F,
     faults: u64,
@@ -98,7 +98,16 @@ impl<F: Drop> FileStation<F> {
         FileStation { file, faults: 0 }
     }
 
-    /// Closes the file, and answers how many reads failed.
+    /// Counts a fault, and gives the error to answer with.
+    fn fault(&mut self) -> Failed
+        ensures faults { station_faults self.new ≡ one_more (station_faults self.old) }
+        ensures grown { station_faults self.old ≤ station_faults self.new }
+    {
+        self.faults = self.faults.saturating_add(1);
+        Failed
+    }
+
+    /// Closes the file, and answers how many calls failed.
     fn into_faults(self) -> u64
         ensures { result ≡ station_faults self }
     {
@@ -124,10 +133,30 @@ impl<F: FileExt + Drop> Station for FileStation<F> {
         ensures faults { station_faults self.old ≤ station_faults self.new }
     {
         if self.file.read_exact_at(buf, cell.offset()).is_err() {
-            self.faults = self.faults.saturating_add(1);
-            return Err(Failed);
+            return Err(self.fault());
         }
         Ok(())
+    }
+
+    /// Fails, since the file is open for reading alone.
+    fn write(&mut self, cell: &mut FileCell, bytes: &[u8]) -> Result<(), Failed>
+        requires { length bytes.now ≡ (cell_state cell.old).width }
+        ensures refused { IsErr result }
+        ensures cell { cell_state cell.new ≡ cell_state cell.old }
+        ensures failed { station_faults self.new ≡ one_more (station_faults self.old) }
+        ensures faults { station_faults self.old ≤ station_faults self.new }
+    {
+        Err(self.fault())
+    }
+
+    /// Fails, since the file is open for reading alone.
+    fn sync(&mut self, cell: &mut FileCell) -> Result<(), Failed>
+        ensures refused { IsErr result }
+        ensures cell { cell_state cell.new ≡ cell_state cell.old }
+        ensures failed { station_faults self.new ≡ one_more (station_faults self.old) }
+        ensures faults { station_faults self.old ≤ station_faults self.new }
+    {
+        Err(self.fault())
     }
 }
 
@@ -348,6 +377,19 @@ where
         ensures ended { volume_ended self.new ≡ volume_ended self.old }
     {
         // The cells are nothing but numbers, so there is nothing to put back.
+    }
+
+    /// Fails, since files are opened for reading alone.
+    fn create(&mut self, name: &str, slots: u32, slot: u32) -> Result<(), CreateFault>
+        requires { 0 < slot }
+        ensures refused { result ≡ Err CreateFault.Failed }
+        ensures failed { volume_faults self.new ≡ one_more (volume_faults self.old) }
+        ensures faults { volume_faults self.old ≤ volume_faults self.new }
+        ensures made { volume_made self.new ≡ volume_made self.old }
+        ensures ended { volume_ended self.new ≡ volume_ended self.old }
+    {
+        self.count_fault();
+        Err(CreateFault::Failed)
     }
 
     ghost ended_were_made = { λ volume. volume.stations.within };
