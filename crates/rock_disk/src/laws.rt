@@ -2,7 +2,7 @@
 ghost use Rattle.std.specs.Prelude.{◌≡◌, ◌≤◌, ◌<◌, ◌∷◌, [], ℕ, List, length, map, Contains, All, IsTrue, IsErr, OnOk, OnErr, ◌↔◌};
 ghost use Rattle.rock_io.specs.Faults.{Rose};
 ghost use Rattle.rock_io.specs.Plan.{called, FailsNext};
-ghost use Rattle.rock_disk.specs.Cell.{CellState, settled};
+ghost use Rattle.rock_disk.specs.Cell.{CellState, settled, shape};
 ghost use Rattle.rock_disk.specs.Crash.{IsCrashImage, IsSettled, KeepsAndAdds, NowMayStay};
 ghost use Rattle.rock_disk.specs.Memory.{cell_state, station_plan};
 
@@ -20,6 +20,7 @@ pub fn write_then_read<S: Station>(
     requires buf { length buf.old ≡ (S.C.state cell.old).width }
     ensures read { OnOk result (IsTrue S.C.tells → buf.new ≡ bytes.now) }
     ensures now { OnOk result (IsTrue S.C.tells → (S.C.state cell.new).now ≡ bytes.now) }
+    ensures shape { shape (S.C.state cell.new) ≡ shape (S.C.state cell.old) }
     ensures faults { S.faults station.old ≤ S.faults station.new }
     ensures failed { OnErr result (Rose (S.faults station.old) (S.faults station.new)) }
 {
@@ -36,6 +37,7 @@ pub fn write_then_sync<S: Station>(
     requires { length bytes.now ≡ (S.C.state cell.old).width }
     ensures settled { OnOk result (IsTrue S.C.tells → S.C.state cell.new ≡ settled (S.C.state cell.old).number (S.C.state cell.old).width bytes.now) }
     ensures crash { OnOk result (IsTrue S.C.tells → (image : List (List ℕ)) → IsCrashImage (S.C.state cell.new ∷ []) image → image ≡ bytes.now ∷ []) }
+    ensures shape { shape (S.C.state cell.new) ≡ shape (S.C.state cell.old) }
     ensures faults { S.faults station.old ≤ S.faults station.new }
     ensures failed { OnErr result (Rose (S.faults station.old) (S.faults station.new)) }
 {
@@ -53,6 +55,7 @@ pub fn write_keeps_the_old(
     requires { length bytes.now ≡ (cell_state cell.old).width }
     ensures kept { length (cell_state cell.old).possible < length (cell_state cell.new).possible → KeepsAndAdds bytes.now (cell_state cell.old) (cell_state cell.new) }
     ensures now { OnOk result ((cell_state cell.new).now ≡ bytes.now) }
+    ensures shape { shape (cell_state cell.new) ≡ shape (cell_state cell.old) }
     ensures listed { IsErr result ↔ FailsNext (station_plan station.old) }
     ensures plan { station_plan station.new ≡ called (station_plan station.old) }
 {

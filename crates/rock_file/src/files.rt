@@ -461,10 +461,13 @@ mod tests {
         let mut station = volume.station("two_slots")?;
         needs_send(&station);
         let first = read_cell(alloc, &mut station, &mut header);
+        let is_written = station.write(&mut header, &[0; 16_384]).is_ok();
+        let is_synced = station.sync(&mut header).is_ok();
         let last = read_cell(alloc, &mut station, &mut cells[1]);
         volume.end_station(station);
         volume.give_back("two_slots", header, cells);
         fs::remove_file(&rt, "two_slots")?;
+        assert!(rt; !is_written && !is_synced);
         let first = first.ok_or("the header area was not read")?;
         let last = last.ok_or("the slot was not read")?;
         assert_eq!(rt; first.len(), 16_384);
@@ -500,11 +503,15 @@ mod tests {
         let short = refusal(&mut volume, alloc, "short");
         let missing = refusal(&mut volume, alloc, "none");
         let folder = refusal(&mut volume, alloc, ".");
+        let created = volume.create("none", 4, SLOT);
+        let still_missing = refusal(&mut volume, alloc, "none");
         fs::remove_file(&rt, "short")?;
         assert_eq!(rt; short, Some(OpenFault::Small { bytes: 16_895 }));
         assert_eq!(rt; missing, Some(OpenFault::Missing));
         assert_eq!(rt; folder, Some(OpenFault::Failed));
-        assert_eq!(rt; volume.faults, 1);
+        assert_eq!(rt; created, Err(CreateFault::Failed));
+        assert_eq!(rt; still_missing, Some(OpenFault::Missing));
+        assert_eq!(rt; volume.faults, 2);
         Ok(())
     }
 }

@@ -118,8 +118,10 @@ impl Station for MemStation {
         ensures ok { OnOk result (station_faults self.new ≡ station_faults self.old) }
         ensures err { OnErr result (station_faults self.new ≡ one_more (station_faults self.old)) }
     {
-        self.call()?;
-        cell.settle();
-        Ok(())
+        let answer = self.call();
+        if answer.is_ok() {
+            cell.settle();
+        }
+        answer
     }
 }
