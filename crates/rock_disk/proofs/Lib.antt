@@ -1,4 +1,5 @@
 pub mod Cells
+pub mod Crashes
 pub mod Homes
 pub mod Openings
 pub mod Out

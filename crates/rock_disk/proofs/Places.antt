@@ -9,7 +9,7 @@ use Rattle.std.proofs.lemmas.Slice.Eq.{bytes_eq-Decides}
 use Rattle.std.proofs.lemmas.Map.Text.{is_eq-slice_cmp}
 use Rattle.std.proofs.lemmas.Cmp.{nat_list_cmp_total}
 use Rattle.std.specs.List.{position, prefix_len}
-use Rattle.std.specs.Prelude.{nat_lt, not, Option}
+use Rattle.std.specs.Prelude.{nat_lt, not, Option, is_some}
 use Rattle.std.proofs.lemmas.List.Quantifiers.{position-Some}
 use Rattle.std.proofs.lemmas.Bool.Decides.{nat_tests}
 use Rattle.std.specs.FinMap.{get, insert, find, from_entries, from_entries_push, get-insert, get-from_entries, same_map, slice_cmp-IsAntisymmetric, nat_cmp-IsAntisymmetric}
@@ -138,3 +138,9 @@ pub same_at : (name : List ℕ) (es seen : List Entry) (i : ℕ) (d e : Entry) �
 same_at name es seen i d e same at is other =
     let here : position (λ e. bytes_eq name e.name) es ≡ Some i = ap (position (λ e. bytes_eq name e.name)) (sym same) ∙ sym at in
     is ∙ (get_or_default es i d e (is_first name es i d here).within ∙ sym other)
+
+-- a file of this name is told exactly where one is found
+pub told_where_found : (name : List ℕ) (es : List Entry) (place : Option ℕ) → place ≡ position (λ e. bytes_eq name e.name) es → is_some (get (files_of es) name) ≡ is_some place
+told_where_found name es None at = ap is_some (got_none name es (sym at))
+told_where_found name [] (Some i) at = absurd (cc)
+told_where_found name (e ∷ es) (Some i) at = ap is_some (got_first name (e ∷ es) i e (is_first name (e ∷ es) i e (sym at)))

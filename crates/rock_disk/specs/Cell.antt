@@ -20,3 +20,7 @@ settled number width bytes = record { number = number; width = width; now = byte
 abbrev pub joined : List CellState → List ℕ
 joined [] = []
 joined (c ∷ cells) = c.now ++ joined cells
+
+-- a cell of which a crash leaves what a read gives
+abbrev pub settle : CellState → CellState
+settle c = settled c.number c.width c.now

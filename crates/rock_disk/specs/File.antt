@@ -1,5 +1,5 @@
 -- A file by its cells, and how its bytes are cut into them.
-use Rattle.std.specs.Prelude.{◌≡◌, ◌⊎◌, ℕ, ◌+◌, ◌*◌, ◌-◌, ◌/◌, min, zero, suc, List, [], ◌∷◌, ◌++◌, length, take, drop, Option, Some}
+use Rattle.std.specs.Prelude.{◌≡◌, ◌⊎◌, ℕ, ◌+◌, ◌*◌, ◌-◌, ◌/◌, min, zero, suc, List, [], ◌∷◌, ◌++◌, length, take, drop, Option, Some, replicate}
 use Rattle.std.specs.Ordering.{nat_cmp}
 use Rattle.std.specs.Cmp.Lexicographic.{slice_cmp}
 use Rattle.std.specs.FinMap.{FinMap, get, insert}
@@ -50,6 +50,10 @@ cut slot bytes = Home (header_cut bytes) (slots_cut slot bytes) (rest_cut slot b
 -- bytes that are not cut yet
 abbrev pub uncut : List ℕ → File
 uncut bytes = Home (settled 4294967295 0 []) [] bytes
+
+-- so many bytes, each of them 0
+unfoldable pub zeros : ℕ → List ℕ
+zeros n = replicate n 0
 
 -- the cells of this file are not out
 abbrev pub IsNotAway : Option File → Type 0

@@ -1,11 +1,11 @@
--- What cells, stations and volumes in memory tell, and which of their calls fail.
-use Rattle.std.specs.Prelude.{◌≡◌, ℕ, ◌+◌, ◌-◌, ◌^◌, ◌≤◌, min, List, [], length, map, get_or, Contains, Option, Some, None}
+-- What cells, stations and volumes in memory tell.
+use Rattle.std.specs.Prelude.{◌≡◌, ℕ, ◌+◌, ◌≤◌, List, [], length, map, get_or, Option, Some, None}
 use Rattle.std.specs.FinMap.{from_entries, get}
 use Rattle.std.specs.declared.vec.Vec.{Vec}
+use Rattle.rock_io.specs.Plan.{Schedule, schedule_of, faults_of}
 use Rattle.rock_disk.specs.Cell.{CellState}
 use Rattle.rock_disk.specs.File.{File, Files, bytes_of}
 use Rattle.rock_disk.specs.File.File.{Home, Away}
-use Rattle.rock_disk.specs.declared.memory.calls.Calls.{Calls}
 use Rattle.rock_disk.specs.declared.memory.cell.MemCell.{MemCell}
 use Rattle.rock_disk.specs.declared.memory.entry.Entry.{Entry}
 use Rattle.rock_disk.specs.declared.memory.file.MemFile.{MemFile}
@@ -13,40 +13,16 @@ use Rattle.rock_disk.specs.declared.memory.file.MemFile.TheVariants as mem
 use Rattle.rock_disk.specs.declared.memory.station.MemStation.{MemStation}
 use Rattle.rock_disk.specs.declared.memory.volume.MemVolume.{MemVolume}
 
--- which calls of a device fail, by their numbers from 0, and the number of its next call
-pub record Plan : Type 0 where
-  pub fail : List ℕ
-  pub number : ℕ
-
--- one more, where a count of 64 bits stays at its end
-abbrev pub counted : ℕ → ℕ
-counted n = min (n + 1) (2 ^ 64 - 1)
-
--- a plan before the first call
-abbrev pub planned : List ℕ → Plan
-planned fail = record { fail = fail; number = 0 }
-
--- a plan after one more call
-abbrev pub called : Plan → Plan
-called plan = record { fail = plan.fail; number = counted plan.number }
-
--- the next call is listed
-abbrev pub FailsNext : Plan → Type 0
-FailsNext plan = Contains plan.fail plan.number
-
-abbrev pub plan_of : Calls → Plan
-plan_of c = record { fail = c.fail.items; number = c.made }
-
 abbrev pub cell_state : MemCell → CellState
 cell_state c =
     let now = get_or c.possible.items c.at [] in
     record { number = c.number; width = length now; now = now; possible = c.possible.items }
 
 abbrev pub station_faults : MemStation → ℕ
-station_faults s = s.calls.faults
+station_faults s = faults_of s.plan
 
-abbrev pub station_plan : MemStation → Plan
-station_plan s = plan_of s.calls
+abbrev pub station_plan : MemStation → Schedule
+station_plan s = schedule_of s.plan
 
 abbrev pub file_of : MemFile → File
 file_of (mem.Home header cells rest) = Home (cell_state header) (map cell_state cells.items) rest.items
@@ -63,10 +39,10 @@ abbrev pub volume_files : MemVolume → Files
 volume_files v = files_of v.entries.items
 
 abbrev pub volume_faults : MemVolume → ℕ
-volume_faults v = v.calls.faults
+volume_faults v = faults_of v.plan
 
-abbrev pub volume_plan : MemVolume → Plan
-volume_plan v = plan_of v.calls
+abbrev pub volume_plan : MemVolume → Schedule
+volume_plan v = schedule_of v.plan
 
 abbrev pub volume_made : MemVolume → ℕ
 volume_made v = v.stations.made

@@ -1,6 +1,5 @@
 //! Files in memory. They tell all that they hold, and exactly the calls that are listed fail.
 
-mod calls;
 mod cell;
 mod cutting;
 mod entry;

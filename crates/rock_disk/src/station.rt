@@ -1,10 +1,12 @@
 ghost use Rattle.std.specs.Prelude.{◌≡◌, ℕ, ◌≤◌, IsTrue, length, OnOk, OnErr};
 ghost use Rattle.rock_io.specs.Faults.{Rose};
+ghost use Rattle.rock_disk.specs.Cell.{shape, settle};
+ghost use Rattle.rock_disk.specs.Written.{AddsAtMost, ReadsOldOrNew};
 
 use crate::Cell;
 use rock_io::Failed;
 
-/// What one worker reaches the cells of a file with. A station is ended by the volume that made it,
+/// What one worker reads and writes the cells of a file with. A station is ended by the volume that made it,
 /// so it cannot be dropped.
 pub trait Station {
     type C: Cell;
@@ -17,6 +19,25 @@ pub trait Station {
         requires { length buf.old ≡ (Self.C.state cell.old).width }
         ensures read { OnOk result (IsTrue Self.C.tells → buf.new ≡ (Self.C.state cell.old).now) }
         ensures cell { Self.C.state cell.new ≡ Self.C.state cell.old }
+        ensures faults { faults self.old ≤ faults self.new }
+        ensures failed { OnErr result (Rose (faults self.old) (faults self.new)) };
+
+    /// Puts `bytes` into the cell. Until the cell is synced, a crash may leave these bytes or what
+    /// it might have left before. Where the call fails, the cell may hold either.
+    fn write(&mut self, cell: &mut Self::C, bytes: &[u8]) -> Result<(), Failed>
+        requires { length bytes.now ≡ (Self.C.state cell.old).width }
+        ensures written { OnOk result (IsTrue Self.C.tells → (Self.C.state cell.new).now ≡ bytes.now) }
+        ensures unsure { OnErr result (IsTrue Self.C.tells → ReadsOldOrNew bytes.now (Self.C.state cell.old) (Self.C.state cell.new)) }
+        ensures possible { IsTrue Self.C.tells → AddsAtMost bytes.now (Self.C.state cell.old) (Self.C.state cell.new) }
+        ensures shape { shape (Self.C.state cell.new) ≡ shape (Self.C.state cell.old) }
+        ensures faults { faults self.old ≤ faults self.new }
+        ensures failed { OnErr result (Rose (faults self.old) (faults self.new)) };
+
+    /// Makes sure that a crash leaves what a read gives. Where the call fails, the cell is unchanged.
+    fn sync(&mut self, cell: &mut Self::C) -> Result<(), Failed>
+        ensures settled { OnOk result (IsTrue Self.C.tells → Self.C.state cell.new ≡ settle (Self.C.state cell.old)) }
+        ensures unchanged { OnErr result (Self.C.state cell.new ≡ Self.C.state cell.old) }
+        ensures shape { shape (Self.C.state cell.new) ≡ shape (Self.C.state cell.old) }
         ensures faults { faults self.old ≤ faults self.new }
         ensures failed { OnErr result (Rose (faults self.old) (faults self.new)) };
 }

@@ -1,6 +1,7 @@
-ghost use Rattle.std.specs.Prelude.{◌≡◌, ◌+◌, ◌<◌, ◌≤◌, ◌++◌, ◌∷◌, [], ℕ, Bool, List, length, map, IsTrue, IfOk, OnOk, OnErr, IsErrOf, None, Some, ◌↔◌};
+ghost use Rattle.std.specs.Prelude.{◌≡◌, ◌+◌, ◌*◌, ◌<◌, ◌≤◌, ◌++◌, ◌∷◌, [], ℕ, Bool, List, length, map, IsTrue, IfOk, OnOk, OnErr, IsErrOf, None, Some, ◌↔◌};
 ghost use Rattle.std.specs.FinMap.{get, insert};
 ghost use Rattle.rock_io.specs.Faults.{Rose};
+ghost use Rattle.rock_disk.specs.Created.{IsCreated, IsMaybeCreated};
 ghost use Rattle.rock_disk.specs.File.{Files, IsNotAway, IsThere};
 ghost use Rattle.rock_disk.specs.File.File.{Home, Away};
 ghost use Rattle.rock_disk.specs.Opened.{HasShape, IsOpened, IsOut, IsSmall};
@@ -25,6 +26,18 @@ pub enum OpenFault {
     Memory,
 }
 
+/// Why no file was created.
+#[derive(Clone, Copy, Debug, PartialEq, Eq, Error)]
+pub enum CreateFault {
+    #[error("there is a file of that name")]
+    Exists,
+    /// The volume's count of faults rose. A file of that name may be there now.
+    #[error("the volume failed")]
+    Failed,
+    #[error("out of memory")]
+    Memory,
+}
+
 /// Why no station was made.
 #[derive(Clone, Copy, Debug, PartialEq, Eq, Error)]
 pub enum StationFault {
@@ -42,6 +55,16 @@ impl From<Memory> for OpenFault {
 
     fn from(_error: Memory) -> Self {
         OpenFault::Memory
+    }
+}
+
+impl From<Memory> for CreateFault {
+    ghost use Rattle.rock_disk.specs.declared.volume.CreateFault.TheVariants as creating;
+
+    ghost from_gives = { λ _ fault. fault ≡ creating.Memory };
+
+    fn from(_error: Memory) -> Self {
+        CreateFault::Memory
     }
 }
 
@@ -142,6 +165,24 @@ pub trait Volume {
         ensures back { (slots slot : ℕ) (rest : List ℕ) → IsTrue tells → get (files self.old) name.now ≡ Some (Away slots slot rest)
             → files self.new ≡ insert (files self.old) name.now (Home (Self.C.state header) (map Self.C.state cells.items) rest) }
         ensures faults { faults self.new ≡ faults self.old }
+        ensures made { made self.new ≡ made self.old }
+        ensures ended { ended self.new ≡ ended self.old };
+
+    /// Makes a file of zeros with room for the header area and this many slots of `slot` bytes each,
+    /// and no more. Where the call fails, the name may be taken, by a file with any bytes.
+    fn create(&mut self, name: &str, slots: u32, slot: u32) -> Result<(), CreateFault>
+        requires { 0 < slot }
+
+        ensures created { OnOk result (IsTrue tells → IsCreated (files self.old) (files self.new) name.now (16384 + slots * slot)) }
+
+        // When each refusal comes, and what it leaves.
+        ensures exists { IsTrue tells → (IsErrOf result CreateFault.Exists ↔ IsThere (files self.old) name.now) }
+        ensures exists_unchanged { IsErrOf result CreateFault.Exists → files self.new ≡ files self.old }
+        ensures memory_unchanged { IsErrOf result CreateFault.Memory → files self.new ≡ files self.old }
+        ensures maybe { IsErrOf result CreateFault.Failed → IsTrue tells → IsMaybeCreated (files self.old) (files self.new) name.now }
+        ensures failed { IsErrOf result CreateFault.Failed → Rose (faults self.old) (faults self.new) }
+
+        ensures faults { faults self.old ≤ faults self.new }
         ensures made { made self.new ≡ made self.old }
         ensures ended { ended self.new ≡ ended self.old };
 

@@ -1,5 +1,5 @@
 -- What the files of the system tell: where their cells stand, and how many calls failed.
-use Rattle.std.specs.Prelude.{ℕ, ◌+◌, ◌-◌, ◌^◌, min, List, []}
+use Rattle.std.specs.Prelude.{ℕ, List, []}
 use Rattle.rock_disk.specs.Cell.{CellState}
 use Rattle.rock_file.specs.declared.files.FileCell.{FileCell}
 use Rattle.rock_file.specs.declared.files.FileStation.{FileStation}
@@ -20,7 +20,3 @@ volume_made v = v.stations.made
 
 abbrev pub volume_ended : {R : Type 0} → FileVolume R → List ℕ
 volume_ended v = v.stations.ended.items
-
--- a count of 64 bits after one more fault
-abbrev pub counted : ℕ → ℕ
-counted faults = min (faults + 1) (2 ^ 64 - 1)

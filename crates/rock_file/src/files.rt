@@ -1,11 +1,12 @@
 // Files of the system, for reading alone. No clause can say what the system holds, so the types here
 // tell of a file only its shape, and of a call only whether it failed.
-ghost use Rattle.std.specs.Prelude.{◌≡◌, ◌+◌, ◌*◌, ◌<◌, ◌≤◌, ◌++◌, ◌∷◌, [], ℕ, length, map, vec_capacity, false, IfOk, OnOk, OnErr, IsErrOf, ◌↔◌};
+ghost use Rattle.std.specs.Prelude.{◌≡◌, ◌+◌, ◌*◌, ◌<◌, ◌≤◌, ◌++◌, ◌∷◌, [], ℕ, length, map, vec_capacity, false, IfOk, OnOk, OnErr, IsErr, IsErrOf, ◌↔◌};
 ghost use Rattle.std.specs.IoError.{error_kind};
+ghost use Rattle.rock_io.specs.Faults.{one_more};
 ghost use Rattle.rock_disk.specs.Cell.{shape};
 ghost use Rattle.rock_disk.specs.File.{shapes_from, slots_of};
 
-use rock_disk::{Cell, OpenFault, Opened, Station, StationFault, Volume};
+use rock_disk::{Cell, CreateFault, OpenFault, Opened, Station, StationFault, Volume};
 use rock_io::{Failed, Memory};
 use std::alloc::Global;
 use std::fs::{File, OpenFile};
@@ -82,7 +83,7 @@ impl Cell for FileCell {
     ghost now_may_stay = { λ cell told. absurd (false≢true told) };
 }
 
-/// An open file, with the count of the reads that failed.
+/// An open file, with the count of the calls that failed.
 pub struct FileStation<F> {
     file: F,
     faults: u64,
@@ -97,7 +98,16 @@ impl<F: Drop> FileStation<F> {
         FileStation { file, faults: 0 }
     }
 
-    /// Closes the file, and answers how many reads failed.
+    /// Counts a fault, and gives the error to answer with.
+    fn fault(&mut self) -> Failed
+        ensures faults { station_faults self.new ≡ one_more (station_faults self.old) }
+        ensures grown { station_faults self.old ≤ station_faults self.new }
+    {
+        self.faults = self.faults.saturating_add(1);
+        Failed
+    }
+
+    /// Closes the file, and answers how many calls failed.
     fn into_faults(self) -> u64
         ensures { result ≡ station_faults self }
     {
@@ -107,7 +117,7 @@ impl<F: Drop> FileStation<F> {
 }
 
 impl<F: FileExt + Drop> Station for FileStation<F> {
-    ghost use Rattle.rock_file.specs.Files.{cell_state, station_faults, counted};
+    ghost use Rattle.rock_file.specs.Files.{cell_state, station_faults};
 
     type C = FileCell;
 
@@ -119,14 +129,34 @@ impl<F: FileExt + Drop> Station for FileStation<F> {
 
         // A failed read counts once, and no other does.
         ensures ok { OnOk result (station_faults self.new ≡ station_faults self.old) }
-        ensures failed { OnErr result (station_faults self.new ≡ counted (station_faults self.old)) }
+        ensures failed { OnErr result (station_faults self.new ≡ one_more (station_faults self.old)) }
         ensures faults { station_faults self.old ≤ station_faults self.new }
     {
         if self.file.read_exact_at(buf, cell.offset()).is_err() {
-            self.faults = self.faults.saturating_add(1);
-            return Err(Failed);
+            return Err(self.fault());
         }
         Ok(())
+    }
+
+    /// Fails, since the file is open for reading alone.
+    fn write(&mut self, cell: &mut FileCell, bytes: &[u8]) -> Result<(), Failed>
+        requires { length bytes.now ≡ (cell_state cell.old).width }
+        ensures refused { IsErr result }
+        ensures cell { cell_state cell.new ≡ cell_state cell.old }
+        ensures failed { station_faults self.new ≡ one_more (station_faults self.old) }
+        ensures faults { station_faults self.old ≤ station_faults self.new }
+    {
+        Err(self.fault())
+    }
+
+    /// Fails, since the file is open for reading alone.
+    fn sync(&mut self, cell: &mut FileCell) -> Result<(), Failed>
+        ensures refused { IsErr result }
+        ensures cell { cell_state cell.new ≡ cell_state cell.old }
+        ensures failed { station_faults self.new ≡ one_more (station_faults self.old) }
+        ensures faults { station_faults self.old ≤ station_faults self.new }
+    {
+        Err(self.fault())
     }
 }
 
@@ -193,7 +223,7 @@ pub struct FileVolume<R> {
 }
 
 impl<R: Files + Drop> FileVolume<R> {
-    ghost use Rattle.rock_file.specs.Files.{volume_faults, volume_made, volume_ended, counted};
+    ghost use Rattle.rock_file.specs.Files.{volume_faults, volume_made, volume_ended};
 
     /// A volume over the files of `rt`. It keeps the counts of ended stations in memory of `alloc`.
     pub fn new(rt: R, alloc: Global) -> FileVolume<R>
@@ -209,7 +239,7 @@ impl<R: Files + Drop> FileVolume<R> {
     }
 
     fn count_fault(&mut self)
-        ensures faults { volume_faults self.new ≡ counted (volume_faults self.old) }
+        ensures faults { volume_faults self.new ≡ one_more (volume_faults self.old) }
         ensures grown { volume_faults self.old ≤ volume_faults self.new }
         ensures stations { self.new.stations ≡ self.old.stations }
     {
@@ -220,7 +250,7 @@ impl<R: Files + Drop> FileVolume<R> {
     fn refuse(&mut self, error: &io::Error) -> OpenFault
         ensures missing { (result ≡ OpenFault.Missing) ↔ (error_kind error.now ≡ ErrorKind.NotFound) }
         ensures kept { result ≡ OpenFault.Missing → volume_faults self.new ≡ volume_faults self.old }
-        ensures failed { (result ≡ OpenFault.Missing → ⊥) → (result ≡ OpenFault.Failed) × (volume_faults self.new ≡ counted (volume_faults self.old)) }
+        ensures failed { (result ≡ OpenFault.Missing → ⊥) → (result ≡ OpenFault.Failed) × (volume_faults self.new ≡ one_more (volume_faults self.old)) }
         ensures grown { volume_faults self.old ≤ volume_faults self.new }
         ensures stations { self.new.stations ≡ self.old.stations }
     {
@@ -265,7 +295,7 @@ where
 {
     ghost use Rattle.std.specs.FinMap.{empty};
     ghost use Rattle.rock_disk.specs.Opened.{HasShape};
-    ghost use Rattle.rock_file.specs.Files.{cell_state, station_faults, volume_faults, volume_made, volume_ended, counted};
+    ghost use Rattle.rock_file.specs.Files.{cell_state, station_faults, volume_faults, volume_made, volume_ended};
 
     type C = FileCell;
 
@@ -292,7 +322,7 @@ where
         ensures short { (bytes : ℕ) → IsErrOf result (OpenFault.Small bytes) → bytes < 16384 + slot }
 
         // A fault counts once, and nothing else does: want of memory is no fault.
-        ensures failed { IsErrOf result OpenFault.Failed → volume_faults self.new ≡ counted (volume_faults self.old) }
+        ensures failed { IsErrOf result OpenFault.Failed → volume_faults self.new ≡ one_more (volume_faults self.old) }
         ensures unfailed { (IsErrOf result OpenFault.Failed → ⊥) → volume_faults self.new ≡ volume_faults self.old }
         ensures faults { volume_faults self.old ≤ volume_faults self.new }
 
@@ -320,7 +350,7 @@ where
         ensures refused { OnErr result (volume_made self.new ≡ volume_made self.old) }
 
         // A fault counts once, and nothing else does: want of memory is no fault.
-        ensures failed { IsErrOf result StationFault.Failed → volume_faults self.new ≡ counted (volume_faults self.old) }
+        ensures failed { IsErrOf result StationFault.Failed → volume_faults self.new ≡ one_more (volume_faults self.old) }
         ensures unfailed { (IsErrOf result StationFault.Failed → ⊥) → volume_faults self.new ≡ volume_faults self.old }
         ensures faults { volume_faults self.old ≤ volume_faults self.new }
 
@@ -347,6 +377,19 @@ where
         ensures ended { volume_ended self.new ≡ volume_ended self.old }
     {
         // The cells are nothing but numbers, so there is nothing to put back.
+    }
+
+    /// Fails, since files are opened for reading alone.
+    fn create(&mut self, name: &str, slots: u32, slot: u32) -> Result<(), CreateFault>
+        requires { 0 < slot }
+        ensures refused { result ≡ Err CreateFault.Failed }
+        ensures failed { volume_faults self.new ≡ one_more (volume_faults self.old) }
+        ensures faults { volume_faults self.old ≤ volume_faults self.new }
+        ensures made { volume_made self.new ≡ volume_made self.old }
+        ensures ended { volume_ended self.new ≡ volume_ended self.old }
+    {
+        self.count_fault();
+        Err(CreateFault::Failed)
     }
 
     ghost ended_were_made = { λ volume. volume.stations.within };
@@ -418,10 +461,13 @@ mod tests {
         let mut station = volume.station("two_slots")?;
         needs_send(&station);
         let first = read_cell(alloc, &mut station, &mut header);
+        let is_written = station.write(&mut header, &[0; 16_384]).is_ok();
+        let is_synced = station.sync(&mut header).is_ok();
         let last = read_cell(alloc, &mut station, &mut cells[1]);
         volume.end_station(station);
         volume.give_back("two_slots", header, cells);
         fs::remove_file(&rt, "two_slots")?;
+        assert!(rt; !is_written && !is_synced);
         let first = first.ok_or("the header area was not read")?;
         let last = last.ok_or("the slot was not read")?;
         assert_eq!(rt; first.len(), 16_384);
@@ -457,11 +503,15 @@ mod tests {
         let short = refusal(&mut volume, alloc, "short");
         let missing = refusal(&mut volume, alloc, "none");
         let folder = refusal(&mut volume, alloc, ".");
+        let created = volume.create("none", 4, SLOT);
+        let still_missing = refusal(&mut volume, alloc, "none");
         fs::remove_file(&rt, "short")?;
         assert_eq!(rt; short, Some(OpenFault::Small { bytes: 16_895 }));
         assert_eq!(rt; missing, Some(OpenFault::Missing));
         assert_eq!(rt; folder, Some(OpenFault::Failed));
-        assert_eq!(rt; volume.faults, 1);
+        assert_eq!(rt; created, Err(CreateFault::Failed));
+        assert_eq!(rt; still_missing, Some(OpenFault::Missing));
+        assert_eq!(rt; volume.faults, 2);
         Ok(())
     }
 }

@@ -1,5 +1,7 @@
 -- What callers see of a sink over memory.
-use Rattle.std.specs.Prelude.{◌≡◌, ℕ, List, Contains}
+use Rattle.std.specs.Prelude.{◌≡◌, ℕ, List}
+use Rattle.rock_io.specs.Plan.{schedule_of}
+use Rattle.rock_io.specs.Plan as plan
 use Rattle.rock_io.specs.declared.mem_sink.MemSink.{MemSink}
 
 -- the bytes that were taken
@@ -16,19 +18,19 @@ most_of sink = sink.most
 
 -- the numbers of the calls that are listed to fail
 abbrev pub listed_calls_of : MemSink → List ℕ
-listed_calls_of sink = sink.plan.fail.items
+listed_calls_of sink = (schedule_of sink.plan).fail
 
 -- how many calls were made
 abbrev pub calls_of : MemSink → ℕ
-calls_of sink = sink.plan.calls
+calls_of sink = (schedule_of sink.plan).number
 
 -- how many of them failed
 abbrev pub faults_of : MemSink → ℕ
-faults_of sink = sink.plan.faults
+faults_of sink = plan.faults_of sink.plan
 
 -- the next call is listed to fail
 abbrev pub FailsNext : MemSink → Type 0
-FailsNext sink = Contains (listed_calls_of sink) (calls_of sink)
+FailsNext sink = plan.FailsNext (schedule_of sink.plan)
 
 -- what the sink was made with stays
 abbrev pub SameSettings : MemSink → MemSink → Type 0

@@ -1,5 +1,7 @@
 -- What callers see of a source over bytes in memory.
-use Rattle.std.specs.Prelude.{◌≡◌, ℕ, List, drop, Contains}
+use Rattle.std.specs.Prelude.{◌≡◌, ℕ, List, drop}
+use Rattle.rock_io.specs.Plan.{schedule_of}
+use Rattle.rock_io.specs.Plan as plan
 use Rattle.rock_io.specs.declared.mem_source.MemSource.{MemSource}
 
 -- the bytes that are still to come
@@ -12,19 +14,19 @@ most_of source = source.most
 
 -- the numbers of the calls that are listed to fail
 abbrev pub listed_calls_of : MemSource → List ℕ
-listed_calls_of source = source.plan.fail.items
+listed_calls_of source = (schedule_of source.plan).fail
 
 -- how many calls were made
 abbrev pub calls_of : MemSource → ℕ
-calls_of source = source.plan.calls
+calls_of source = (schedule_of source.plan).number
 
 -- how many of them failed
 abbrev pub faults_of : MemSource → ℕ
-faults_of source = source.plan.faults
+faults_of source = plan.faults_of source.plan
 
 -- the next call is listed to fail
 abbrev pub FailsNext : MemSource → Type 0
-FailsNext source = Contains (listed_calls_of source) (calls_of source)
+FailsNext source = plan.FailsNext (schedule_of source.plan)
 
 -- what the source was made with stays
 abbrev pub SameSettings : MemSource → MemSource → Type 0

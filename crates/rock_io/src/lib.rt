@@ -4,8 +4,8 @@
 //! caller's contract can say that a fault came from outside and was not made up.
 //!
 //! [`MemSource`] and [`MemSink`] keep their bytes in memory and fail where they are told to, so
-//! code can be tried out on faults. [`StdSource`] and [`StdSink`] stand over readers and writers
-//! of std.
+//! code can be tried out on faults. A [`Plan`] says which calls fail, here and in other crates.
+//! [`StdSource`] and [`StdSink`] stand over readers and writers of std.
 #![tactic(auto)]
 
 mod fault;
@@ -24,6 +24,7 @@ pub use fault::{Failed, Memory};
 pub use list::{Numbers, Octets, Words};
 pub use mem_sink::MemSink;
 pub use mem_source::MemSource;
+pub use plan::Plan;
 pub use sink::{Sink, write_all};
 pub use source::Source;
 pub use std_sink::StdSink;

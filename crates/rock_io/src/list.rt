@@ -1,5 +1,5 @@
 // Lists that contracts see as lists, each over a `Vec` that it takes and gives back as it is.
-ghost use Rattle.std.specs.Prelude.{◌≡◌, ℕ, List, map, string_bytes};
+ghost use Rattle.std.specs.Prelude.{◌≡◌, ℕ, List, length, map, string_bytes};
 
 use std::marker::Model;
 
@@ -27,6 +27,14 @@ impl Octets {
         ensures { result.now ≡ self.now }
     {
         &self.bytes
+    }
+
+    /// Puts these bytes in place of as many others, and takes no memory.
+    pub fn copy_from_slice(&mut self, bytes: &[u8])
+        requires { length bytes.now ≡ length self.old }
+        ensures { self.new ≡ bytes.now }
+    {
+        self.bytes.copy_from_slice(bytes);
     }
 
     /// Gives the vector back, and takes no memory.

@@ -2,8 +2,7 @@ ghost use Rattle.std.specs.Prelude.{◌≡◌, ◌↔◌, ◌⊎◌, ℕ, ◌+�
 ghost use Rattle.std.specs.Vec.{vec_capacity};
 ghost use Rattle.rock_io.specs.Faults.{one_more, Rose, CountsFault};
 
-use crate::plan::Plan;
-use crate::{Failed, Memory, Sink};
+use crate::{Failed, Memory, Plan, Sink};
 use std::alloc::Global;
 
 /// Takes bytes into memory that was reserved at the start, in pieces of a length that is set, and

@@ -1,8 +1,7 @@
 ghost use Rattle.std.specs.Prelude.{◌≡◌, ◌↔◌, ℕ, ◌<◌, ◌≤◌, min, true, IsErr, IfOk, OnErr, List, [], ◌++◌, length, take, drop, vec_len};
 ghost use Rattle.rock_io.specs.Faults.{one_more, Rose, CountsFault};
 
-use crate::plan::Plan;
-use crate::{Failed, Source};
+use crate::{Failed, Plan, Source};
 
 /// Gives bytes from memory, in pieces of a length that is set, and fails at the calls that are
 /// listed. It is for trying code out on sources that fail.

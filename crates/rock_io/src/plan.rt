@@ -1,21 +1,24 @@
-ghost use Rattle.std.specs.Prelude.{◌≡◌, ◌↔◌, ◌≤◌, ℕ, IsTrue, Contains, []};
+ghost use Rattle.std.specs.Prelude.{◌≡◌, ◌↔◌, ◌≤◌, IsTrue};
 ghost use Rattle.rock_io.specs.Faults.{one_more};
 
 use crate::Failed;
 
-/// Which calls fail, how many were made, and how many of those failed. Both counts stay at
-/// `u64::MAX` once they are there.
+/// Which calls of something in memory fail, how many were made, and how many of those failed. Both
+/// counts stay at `u64::MAX` once they are there.
 #[derive(Debug, Drop)]
-pub(crate) struct Plan {
+pub struct Plan {
     fail: Vec<u64>,
     calls: u64,
     faults: u64,
 }
 
 impl Plan {
+    ghost use Rattle.rock_io.specs.Plan.{schedule_of, faults_of, planned, called, FailsNext};
+
     /// A plan under which the calls that `fail` lists fail. The first call is 0.
-    pub(crate) fn new(fail: Vec<u64>) -> Self
-        ensures { result ≡ record { fail = fail; calls = 0; faults = 0 } }
+    pub fn new(fail: Vec<u64>) -> Self
+        ensures schedule { schedule_of result ≡ planned fail.items }
+        ensures faults { faults_of result ≡ 0 }
     {
         Plan {
             fail,
@@ -24,10 +27,18 @@ impl Plan {
         }
     }
 
+    /// How many calls failed.
+    pub fn faults(&self) -> u64
+        ensures { result ≡ faults_of self.now }
+    {
+        self.faults
+    }
+
     /// Counts a call, and says whether it is listed to fail.
-    pub(crate) fn begin_call(&mut self) -> bool
-        ensures listed { IsTrue result ↔ Contains self.old.fail.items self.old.calls }
-        ensures counted { self.new ≡ record self.old { calls = one_more self.old.calls } }
+    pub fn begin_call(&mut self) -> bool
+        ensures listed { IsTrue result ↔ FailsNext (schedule_of self.old) }
+        ensures schedule { schedule_of self.new ≡ called (schedule_of self.old) }
+        ensures faults { faults_of self.new ≡ faults_of self.old }
     {
         let listed = self.fail.contains(&self.calls);
         self.calls = self.calls.saturating_add(1);
@@ -35,9 +46,10 @@ impl Plan {
     }
 
     /// Counts a fault, and gives the error to answer with.
-    pub(crate) fn fault(&mut self) -> Failed
-        ensures counted { self.new ≡ record self.old { faults = one_more self.old.faults } }
-        ensures grown { self.old.faults ≤ self.new.faults }
+    pub fn fault(&mut self) -> Failed
+        ensures counted { faults_of self.new ≡ one_more (faults_of self.old) }
+        ensures grown { faults_of self.old ≤ faults_of self.new }
+        ensures schedule { schedule_of self.new ≡ schedule_of self.old }
     {
         self.faults = self.faults.saturating_add(1);
         Failed

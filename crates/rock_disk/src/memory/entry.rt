@@ -1,4 +1,4 @@
-ghost use Rattle.std.specs.Prelude.{◌≡◌, ◌+◌, ◌<◌, ◌≤◌, ℕ, Some, None, position, length, IfOk, OnOk, OnErr, IsErrOf, ◌↔◌};
+ghost use Rattle.std.specs.Prelude.{◌≡◌, ◌+◌, ◌<◌, ◌≤◌, ℕ, Some, None, position, length, IfOk, OnOk, OnErr, IsErrOf, is_some, ◌↔◌};
 ghost use Rattle.std.specs.FinMap.{get, insert};
 ghost use Rattle.std.specs.Str.{bytes_eq};
 ghost use Rattle.rock_disk.specs.Opened.{IsSmall};
@@ -24,6 +24,13 @@ pub(super) fn place_of(entries: &[Entry], name: &str) -> Option<usize>
     entries
         .iter()
         .position(|e| name.as_bytes() == e.name.as_slice())
+}
+
+/// Whether there is a file of this name.
+pub(super) fn has_file(entries: &[Entry], name: &str) -> bool
+    ensures { result ≡ is_some (get (files_of entries.now) name.now) }
+{
+    place_of(entries, name).is_some()
 }
 
 /// Where the file of this name stands, if it can be opened with this slot size. It takes no memory.

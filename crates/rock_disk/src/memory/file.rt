@@ -1,6 +1,6 @@
 ghost use Rattle.std.specs.Prelude.{◌≡◌, ◌-◌, ◌^◌, ◌++◌, min, length, map, IfOk, option_map, option_copied};
 ghost use Rattle.rock_disk.specs.Cell.{joined};
-ghost use Rattle.rock_disk.specs.File.{bytes_of, uncut};
+ghost use Rattle.rock_disk.specs.File.{bytes_of, uncut, zeros};
 ghost use Rattle.rock_disk.specs.File.File.{Home};
 ghost use Rattle.rock_disk.specs.Memory.{cell_state, file_of, rest_of, cells_in};
 
@@ -31,10 +31,24 @@ impl MemFile {
     pub(super) fn uncut(alloc: Global, bytes: &[u8]) -> Result<MemFile, Memory>
         ensures { IfOk result (λ f. file_of f ≡ uncut bytes.now) }
     {
+        MemFile::of_rest(alloc, bytes.to_vec(alloc)?)
+    }
+
+    /// A file of so many zeros, none of them in a cell yet.
+    #[tactic(auto, unfolding(crate::specs::File::zeros))]
+    pub(super) fn zeros(alloc: Global, size: usize) -> Result<MemFile, Memory>
+        ensures { IfOk result (λ f. file_of f ≡ uncut (zeros size)) }
+    {
+        MemFile::of_rest(alloc, vec![in alloc; 0; size]?)
+    }
+
+    fn of_rest(alloc: Global, rest: Vec<u8>) -> Result<MemFile, Memory>
+        ensures { IfOk result (λ f. file_of f ≡ uncut rest.items) }
+    {
         Ok(MemFile::Home {
             header: MemCell::new(alloc, HEADER_NUMBER, &[])?,
             cells: Vec::new(alloc),
-            rest: bytes.to_vec(alloc)?,
+            rest,
         })
     }
 

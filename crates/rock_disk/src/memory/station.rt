@@ -1,24 +1,24 @@
 ghost use Rattle.std.specs.Prelude.{◌≡◌, ◌≤◌, length, IsErr, OnOk, OnErr, ◌↔◌};
-ghost use Rattle.rock_io.specs.Faults.{Rose};
+ghost use Rattle.rock_io.specs.Faults.{one_more, Rose};
+ghost use Rattle.rock_io.specs.Plan.{planned, called, FailsNext};
 
-use super::calls::Calls;
 use crate::{MemCell, Station};
-use rock_io::Failed;
+use rock_io::{Failed, Plan};
 
 /// A station of a volume in memory. Exactly those of its calls fail that are listed for it.
 pub struct MemStation {
-    calls: Calls,
+    plan: Plan,
 }
 
 impl MemStation {
-    ghost use Rattle.rock_disk.specs.Memory.{station_faults, station_plan, planned, called, counted, FailsNext};
+    ghost use Rattle.rock_disk.specs.Memory.{station_faults, station_plan};
 
     pub(super) fn new(fail: Vec<u64>) -> MemStation
         ensures plan { station_plan result ≡ planned fail.items }
         ensures faults { station_faults result ≡ 0 }
     {
         MemStation {
-            calls: Calls::new(fail),
+            plan: Plan::new(fail),
         }
     }
 
@@ -26,8 +26,8 @@ impl MemStation {
     pub(super) fn into_faults(self) -> u64
         ensures { result ≡ station_faults self }
     {
-        let MemStation { calls } = self;
-        calls.faults()
+        let MemStation { plan } = self;
+        plan.faults()
     }
 
     /// Counts a call, which fails if it is listed.
@@ -35,19 +35,20 @@ impl MemStation {
         ensures listed { IsErr result ↔ FailsNext (station_plan self.old) }
         ensures plan { station_plan self.new ≡ called (station_plan self.old) }
         ensures ok { OnOk result (station_faults self.new ≡ station_faults self.old) }
-        ensures err { OnErr result (station_faults self.new ≡ counted (station_faults self.old)) }
+        ensures err { OnErr result (station_faults self.new ≡ one_more (station_faults self.old)) }
         ensures grown { station_faults self.old ≤ station_faults self.new }
     {
-        if self.calls.begin() {
-            self.calls.count_fault();
-            return Err(Failed);
+        if self.plan.begin_call() {
+            return Err(self.plan.fault());
         }
         Ok(())
     }
 }
 
 impl Station for MemStation {
-    ghost use Rattle.rock_disk.specs.Memory.{cell_state, station_faults, station_plan, called, counted, FailsNext};
+    ghost use Rattle.rock_disk.specs.Cell.{shape, settle};
+    ghost use Rattle.rock_disk.specs.Memory.{cell_state, station_faults, station_plan};
+    ghost use Rattle.rock_disk.specs.Written.{AddsAtMost, IsWritten, IsHalfWritten};
 
     type C = MemCell;
 
@@ -64,10 +65,63 @@ impl Station for MemStation {
         ensures listed { IsErr result ↔ FailsNext (station_plan self.old) }
         ensures plan { station_plan self.new ≡ called (station_plan self.old) }
         ensures ok { OnOk result (station_faults self.new ≡ station_faults self.old) }
-        ensures err { OnErr result (station_faults self.new ≡ counted (station_faults self.old)) }
+        ensures err { OnErr result (station_faults self.new ≡ one_more (station_faults self.old)) }
     {
         self.call()?;
         buf.copy_from_slice(cell.now());
         Ok(())
+    }
+
+    /// A write that fails still may be what a crash leaves. Where no memory is left to keep all that
+    /// a crash may leave, the bytes take the place of what a read gave, and those of a failed write
+    /// are not kept.
+    fn write(&mut self, cell: &mut MemCell, bytes: &[u8]) -> Result<(), Failed>
+        requires { length bytes.now ≡ (cell_state cell.old).width }
+        ensures written { OnOk result ((cell_state cell.new).now ≡ bytes.now) }
+        ensures unsure { OnErr result ((cell_state cell.new).now ≡ (cell_state cell.old).now) }
+        ensures possible { AddsAtMost bytes.now (cell_state cell.old) (cell_state cell.new) }
+        ensures shape { shape (cell_state cell.new) ≡ shape (cell_state cell.old) }
+        ensures faults { station_faults self.old ≤ station_faults self.new }
+        ensures failed { OnErr result (Rose (station_faults self.old) (station_faults self.new)) }
+
+        // What was possible before is kept.
+        ensures kept { OnOk result (IsWritten bytes.now (cell_state cell.old) (cell_state cell.new)) }
+        ensures half { OnErr result (IsHalfWritten bytes.now (cell_state cell.old) (cell_state cell.new)) }
+
+        // Exactly the listed calls fail, and each counts once.
+        ensures listed { IsErr result ↔ FailsNext (station_plan self.old) }
+        ensures plan { station_plan self.new ≡ called (station_plan self.old) }
+        ensures ok { OnOk result (station_faults self.new ≡ station_faults self.old) }
+        ensures err { OnErr result (station_faults self.new ≡ one_more (station_faults self.old)) }
+    {
+        match self.call() {
+            Ok(()) => cell.write(bytes),
+            Err(failed) => {
+                // Want of memory is no fault of the device.
+                let _ = cell.add(bytes);
+                return Err(failed);
+            }
+        }
+        Ok(())
+    }
+
+    fn sync(&mut self, cell: &mut MemCell) -> Result<(), Failed>
+        ensures settled { OnOk result (cell_state cell.new ≡ settle (cell_state cell.old)) }
+        ensures unchanged { OnErr result (cell_state cell.new ≡ cell_state cell.old) }
+        ensures shape { shape (cell_state cell.new) ≡ shape (cell_state cell.old) }
+        ensures faults { station_faults self.old ≤ station_faults self.new }
+        ensures failed { OnErr result (Rose (station_faults self.old) (station_faults self.new)) }
+
+        // Exactly the listed calls fail, and each counts once.
+        ensures listed { IsErr result ↔ FailsNext (station_plan self.old) }
+        ensures plan { station_plan self.new ≡ called (station_plan self.old) }
+        ensures ok { OnOk result (station_faults self.new ≡ station_faults self.old) }
+        ensures err { OnErr result (station_faults self.new ≡ one_more (station_faults self.old)) }
+    {
+        let answer = self.call();
+        if answer.is_ok() {
+            cell.settle();
+        }
+        answer
     }
 }

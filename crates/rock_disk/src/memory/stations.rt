@@ -1,4 +1,5 @@
 ghost use Rattle.std.specs.Prelude.{◌≡◌, ◌+◌, ◌≤◌, ◌<◌, ◌++◌, ◌∷◌, [], length, get_or, vec_capacity, IfOk, OnOk, OnErr};
+ghost use Rattle.rock_io.specs.Plan.{planned};
 
 use super::station::MemStation;
 use rock_io::Memory;
@@ -16,7 +17,7 @@ pub(super) struct Stations {
 }
 
 impl Stations {
-    ghost use Rattle.rock_disk.specs.Memory.{lists_of, station_faults, station_plan, planned};
+    ghost use Rattle.rock_disk.specs.Memory.{lists_of, station_faults, station_plan};
 
     pub(super) fn new(alloc: Global, lists: Vec<Vec<u64>>) -> Stations
         ensures lists { result.lists ≡ lists }

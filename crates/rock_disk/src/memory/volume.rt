@@ -1,36 +1,37 @@
-ghost use Rattle.std.specs.Prelude.{◌≡◌, ◌+◌, ◌<◌, ◌≤◌, ◌++◌, ◌∷◌, [], ℕ, List, length, map, get_or, true, IfOk, OnOk, OnErr, IsErrOf, None, Some, ◌↔◌, option_map, option_copied};
+ghost use Rattle.std.specs.Prelude.{◌≡◌, ◌+◌, ◌*◌, ◌<◌, ◌≤◌, ◌++◌, ◌∷◌, [], ℕ, List, length, map, get_or, true, IfOk, OnOk, OnErr, IsErrOf, None, Some, ◌↔◌, option_map, option_copied};
 ghost use Rattle.std.specs.FinMap.{empty, get, insert};
-ghost use Rattle.rock_io.specs.Faults.{Rose};
+ghost use Rattle.rock_io.specs.Faults.{one_more, Rose};
+ghost use Rattle.rock_io.specs.Plan.{planned, called, FailsNext};
+ghost use Rattle.rock_disk.specs.Created.{IsCreated};
 ghost use Rattle.rock_disk.specs.File.{NoneAway, IsNotAway, IsThere, uncut};
 ghost use Rattle.rock_disk.specs.File.File.{Home, Away};
 ghost use Rattle.rock_disk.specs.Opened.{HasShape, IsOpened, IsOut, IsSmall};
 
-use super::calls::Calls;
-use super::cutting::{CutFile, cut_file};
-use super::entry::{Entry, place_of, place_to_open, put_entry};
+use super::cutting::{CutFile, HEADER, cut_file};
+use super::entry::{Entry, has_file, place_of, place_to_open, put_entry};
 use super::file::MemFile;
 use super::stations::Stations;
-use crate::{MemCell, MemStation, OpenFault, Opened, StationFault, Volume};
-use rock_io::Memory;
+use crate::{CreateFault, MemCell, MemStation, OpenFault, Opened, StationFault, Volume};
+use rock_io::{Memory, Plan};
 use std::alloc::Global;
 use std::mem;
 
-/// Files in memory. Exactly those calls of `open_file` and `station` fail that are listed.
+/// Files in memory. Exactly those calls of `create`, `open_file` and `station` fail that are listed.
 #[derive(Drop)]
 pub struct MemVolume {
     entries: Vec<Entry>,
-    calls: Calls,
+    plan: Plan,
     stations: Stations,
 }
 
 impl MemVolume {
-    ghost use Rattle.rock_disk.specs.Memory.{cell_state, cells_in, planned, lists_of, volume_files, volume_faults, volume_made, volume_ended, volume_plan, volume_lists, KeepsCounts};
+    ghost use Rattle.rock_disk.specs.Memory.{cell_state, cells_in, lists_of, volume_files, volume_faults, volume_made, volume_ended, volume_plan, volume_lists, KeepsCounts};
 
     /// A volume without files.
     ///
-    /// Calls of `open_file` and `station` are numbered together from 0, and those in `fail` fail. A
-    /// listed call that finds no file, or one that is too short, answers that, and has used its
-    /// number. Station k, from 0 in the order of their making, fails at its calls numbered in
+    /// Calls of `create`, `open_file` and `station` are numbered together from 0, and those in `fail`
+    /// fail. A listed call of `create` that finds a file of that name, or one of `open_file` that
+    /// finds none or one that is too short, answers that, and has used its number. Station k, from 0 in the order of their making, fails at its calls numbered in
     /// `stations[k]`, and at none if that is not there.
     pub fn new(alloc: Global, fail: Vec<u64>, stations: Vec<Vec<u64>>) -> MemVolume
         ensures files { volume_files result ≡ empty }
@@ -43,7 +44,7 @@ impl MemVolume {
     {
         MemVolume {
             entries: Vec::new(alloc),
-            calls: Calls::new(fail),
+            plan: Plan::new(fail),
             stations: Stations::new(alloc, stations),
         }
     }
@@ -72,7 +73,7 @@ impl MemVolume {
 }
 
 impl Volume for MemVolume {
-    ghost use Rattle.rock_disk.specs.Memory.{cell_state, station_faults, station_plan, planned, called, counted, FailsNext, HasRoom, volume_files, volume_faults, volume_made, volume_ended, volume_plan, volume_lists};
+    ghost use Rattle.rock_disk.specs.Memory.{cell_state, station_faults, station_plan, HasRoom, volume_files, volume_faults, volume_made, volume_ended, volume_plan, volume_lists};
 
     type C = MemCell;
 
@@ -111,17 +112,17 @@ impl Volume for MemVolume {
         ensures plan { volume_plan self.new ≡ called (volume_plan self.old) }
         ensures faults { volume_faults self.old ≤ volume_faults self.new }
         ensures failed { IsErrOf result OpenFault.Failed → Rose (volume_faults self.old) (volume_faults self.new) }
-        ensures counted { IsErrOf result OpenFault.Failed → volume_faults self.new ≡ counted (volume_faults self.old) }
+        ensures counted { IsErrOf result OpenFault.Failed → volume_faults self.new ≡ one_more (volume_faults self.old) }
         ensures uncounted { (IsErrOf result OpenFault.Failed → ⊥) → volume_faults self.new ≡ volume_faults self.old }
 
         ensures made { volume_made self.new ≡ volume_made self.old }
         ensures ended { volume_ended self.new ≡ volume_ended self.old }
         ensures lists { volume_lists self.new ≡ volume_lists self.old }
     {
-        let is_listed = self.calls.begin();
+        let is_listed = self.plan.begin_call();
         let place = place_to_open(&self.entries, name, slot)?;
         if is_listed {
-            self.calls.count_fault();
+            self.plan.fault();
             return Err(OpenFault::Failed);
         }
         let bytes = self.entries[place].file.bytes(alloc)?;
@@ -145,15 +146,15 @@ impl Volume for MemVolume {
         ensures plan { volume_plan self.new ≡ called (volume_plan self.old) }
         ensures faults { volume_faults self.old ≤ volume_faults self.new }
         ensures failed { IsErrOf result StationFault.Failed → Rose (volume_faults self.old) (volume_faults self.new) }
-        ensures counted { IsErrOf result StationFault.Failed → volume_faults self.new ≡ counted (volume_faults self.old) }
+        ensures counted { IsErrOf result StationFault.Failed → volume_faults self.new ≡ one_more (volume_faults self.old) }
         ensures uncounted { (IsErrOf result StationFault.Failed → ⊥) → volume_faults self.new ≡ volume_faults self.old }
 
         ensures files { volume_files self.new ≡ volume_files self.old }
         ensures ended { volume_ended self.new ≡ volume_ended self.old }
         ensures lists { volume_lists self.new ≡ volume_lists self.old }
     {
-        if self.calls.begin() {
-            self.calls.count_fault();
+        if self.plan.begin_call() {
+            self.plan.fault();
             return Err(StationFault::Failed);
         }
         Ok(self.stations.make()?)
@@ -195,6 +196,42 @@ impl Volume for MemVolume {
         let entry = &mut self.entries[place];
         let file = mem::replace(&mut entry.file, nothing);
         entry.file = file.with_cells(header, cells);
+    }
+
+    fn create(&mut self, name: &str, slots: u32, slot: u32) -> Result<(), CreateFault>
+        requires { 0 < slot }
+
+        ensures created { OnOk result (IsCreated (volume_files self.old) (volume_files self.new) name.now (16384 + slots * slot)) }
+        ensures home { NoneAway (volume_files self.old) → NoneAway (volume_files self.new) }
+
+        // When each refusal comes. None leaves a file.
+        ensures exists { IsErrOf result CreateFault.Exists ↔ IsThere (volume_files self.old) name.now }
+        ensures listed { IsErrOf result CreateFault.Failed ↔ (FailsNext (volume_plan self.old) × (get (volume_files self.old) name.now ≡ None)) }
+        ensures refused { OnErr result (volume_files self.new ≡ volume_files self.old) }
+
+        // Each call has a number, and a fault counts once.
+        ensures plan { volume_plan self.new ≡ called (volume_plan self.old) }
+        ensures faults { volume_faults self.old ≤ volume_faults self.new }
+        ensures failed { IsErrOf result CreateFault.Failed → Rose (volume_faults self.old) (volume_faults self.new) }
+        ensures counted { IsErrOf result CreateFault.Failed → volume_faults self.new ≡ one_more (volume_faults self.old) }
+        ensures uncounted { (IsErrOf result CreateFault.Failed → ⊥) → volume_faults self.new ≡ volume_faults self.old }
+
+        ensures made { volume_made self.new ≡ volume_made self.old }
+        ensures ended { volume_ended self.new ≡ volume_ended self.old }
+        ensures lists { volume_lists self.new ≡ volume_lists self.old }
+    {
+        let is_listed = self.plan.begin_call();
+        if has_file(&self.entries, name) {
+            return Err(CreateFault::Exists);
+        }
+        if is_listed {
+            self.plan.fault();
+            return Err(CreateFault::Failed);
+        }
+        let alloc = *self.entries.allocator();
+        let file = MemFile::zeros(alloc, HEADER + slots as usize * slot as usize)?;
+        put_entry(alloc, &mut self.entries, name, file)?;
+        Ok(())
     }
 
     ghost ended_were_made = { λ volume. volume.stations.within };
