@@ -1,7 +1,7 @@
 // The laws of the definitions.
 ghost use Rattle.std.specs.Prelude.{◌≡◌, ◌≢◌, ℕ, List, ◌↔◌, negsuc, Contains};
 ghost use Rattle.rebuild_model.specs.Image.{IsSaneAt, header_at};
-ghost use Rattle.rebuild_model.specs.Entry.{Entry, IsComplete, IsAlone};
+ghost use Rattle.rebuild_model.specs.Entry.{Entry, IsChain, IsComplete, IsAlone};
 ghost use Rattle.rebuild_model.specs.Rebuilt.{IsWinner};
 
 use swap_meta::no_spelling_is_a_prefix;
@@ -14,17 +14,22 @@ pub fn one_entry_at_a_slot()
     no_spelling_is_a_prefix();
 }
 
-/// Complete entries that begin at different slots share no slot.
+/// Chains that begin at different slots share no slot, and so complete entries do not either.
 pub fn chains_are_apart()
-    ensures { (slot : ℕ) (images : List (List ℕ)) (e f : Entry)
+    ensures chains { (slot : ℕ) (images : List (List ℕ)) (s t : ℕ) (xs ys : List ℕ)
+        → IsChain slot images s xs → IsChain slot images t ys → s ≢ t
+        → (u : ℕ) → Contains xs u → Contains ys u → ⊥ }
+    ensures entries { (slot : ℕ) (images : List (List ℕ)) (e f : Entry)
         → IsComplete slot images e → IsComplete slot images f → e.first ≢ f.first
         → (s : ℕ) → Contains e.chain s → Contains f.chain s → ⊥ }
 {
 }
 
-/// At most one entry is kept at an anchor.
+/// At most one entry is kept at an anchor, and it is complete.
 pub fn one_winner_at_an_anchor()
-    ensures { (slot : ℕ) (images : List (List ℕ)) (anchors anchor : ℕ) (e f : Entry)
+    ensures complete { (slot : ℕ) (images : List (List ℕ)) (anchors anchor : ℕ) (e : Entry)
+        → IsWinner slot images anchors anchor e → IsComplete slot images e }
+    ensures one { (slot : ℕ) (images : List (List ℕ)) (anchors anchor : ℕ) (e f : Entry)
         → IsWinner slot images anchors anchor e → IsWinner slot images anchors anchor f → e ≡ f }
 {
     one_entry_at_a_slot();
