@@ -69,25 +69,40 @@ const SLOT_HEADER: Header = Header {
     next_slot: -1,
 };
 
-#[test]
-fn an_image_is_built_and_read(rt: HostRuntime) -> Result<(), Fail> {
-    let payload = &SLOT_FRONT[40..];
+// The whole slot, written over other bytes.
+fn built() -> [u8; 512] {
     let mut image = [0xaa; 512];
-    build_image(&SLOT_HEADER, payload, &mut image);
-    assert_eq!(rt; &image[..87], &SLOT_FRONT[..]);
-    assert_eq!(rt; &image[87..], &[0; 425][..]);
+    build_image(&SLOT_HEADER, &SLOT_FRONT[40..], &mut image);
+    image
+}
 
-    let (header, found) = read_image(&image, 1).ok_or("a sane header")?;
-    assert_eq!(rt; header, SLOT_HEADER);
-    assert_eq!(rt; found, payload);
+#[test]
+fn an_image_is_built(rt: HostRuntime) {
+    let image = built();
+    assert_eq!(rt; image.get(..87), Some(&SLOT_FRONT[..]));
+    assert_eq!(rt; image.get(87..), Some(&[0; 425][..]));
+}
 
-    // No slot 0 in a file of none, a slot that is one byte too short for the payload, and a header
-    // that is cut.
-    assert_eq!(rt; read_image(&image, 0), None);
-    assert_eq!(rt; read_image(&image[..87], 1), Some((SLOT_HEADER, payload)));
-    assert_eq!(rt; read_image(&image[..86], 1), None);
-    assert_eq!(rt; read_image(&image[..39], 1), None);
-    Ok(())
+#[test]
+fn an_image_is_read(rt: HostRuntime) {
+    let image = built();
+    let rows = [
+        (512, 1, true),
+        (87, 1, true),
+        // No slot 0 in a file of none, one byte too few for the payload, and a header that is cut.
+        (512, 0, false),
+        (86, 1, false),
+        (39, 1, false),
+    ];
+    for (length, slots, sane) in rows {
+        let found = read_image(image.get(..length).unwrap_or(&[]), slots);
+        let want = if sane {
+            Some((SLOT_HEADER, &SLOT_FRONT[40..]))
+        } else {
+            None
+        };
+        assert_eq!(rt; found, want, "{length} bytes in a file of {slots}");
+    }
 }
 
 #[test]
