@@ -28,7 +28,7 @@ alone slot images none e c =
     let ends = none e.first belongs.sane in
     let one = one_slot slot images e.first e.chain ends c.chain in
     let whole : (header_at images e.first).entry_size ≡ 0 + (header_at images e.first).payload_size =
-        subst (λ (l : List ℕ). OfLast (λ s. (header_at images s).entry_size ≡ sum_by (λ t. (header_at images t).payload_size) l) l) one c.whole
+    subst (λ (l : List ℕ). OfLast (λ s. (header_at images s).entry_size ≡ sum_by (λ t. (header_at images t).payload_size) l) l) one c.whole
     in
     record {
       sane = belongs.sane;

@@ -2,4 +2,3 @@ pub mod Chains
 pub mod Alone
 pub mod Metadata
 pub mod Same
-pub mod Walking

@@ -15,7 +15,7 @@ same_fields p q r s t u = cc
 pub same_entry : Agree → (slot : ℕ) (images : List (List ℕ)) (e f : Entry) → IsComplete slot images e → IsComplete slot images f → e.first ≡ f.first → e ≡ f
 same_entry agree slot images e f p q same =
     let meta = one_meta agree (payload_at images f.first) e.key e.url f.key f.url p.size q.size
-        (subst (λ s. Spells (take p.size (payload_at images s)) e.key e.url p.size) same p.meta) q.meta in
+    (subst (λ s. Spells (take p.size (payload_at images s)) e.key e.url p.size) same p.meta) q.meta in
     let chain = one_chain slot images f.first e.chain f.chain (subst (λ s. IsChain slot images s e.chain) same p.chain) q.chain in
     same_fields same
     (p.version ∙ ap (λ s. (header_at images s).version) same ∙ sym q.version)

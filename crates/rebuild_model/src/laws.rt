@@ -22,8 +22,7 @@ pub fn chains_are_apart()
     ensures entries { (slot : ℕ) (images : List (List ℕ)) (e f : Entry)
         → IsComplete slot images e → IsComplete slot images f → e.first ≢ f.first
         → (s : ℕ) → Contains e.chain s → Contains f.chain s → ⊥ }
-{
-}
+{}
 
 /// At most one entry is kept at an anchor, and it is complete.
 pub fn one_winner_at_an_anchor()
@@ -49,5 +48,4 @@ pub fn entries_of_one_slot()
     ensures { (slot : ℕ) (images : List (List ℕ))
         → ((s : ℕ) → IsSaneAt slot images s → (header_at images s).next_slot ≡ negsuc 0)
         → (e : Entry) → (IsComplete slot images e ↔ IsAlone slot images e) }
-{
-}
+{}

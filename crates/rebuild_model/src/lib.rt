@@ -8,7 +8,6 @@ mod found;
 mod found_list;
 mod image;
 mod laws;
-mod plain;
 mod rebuilt;
 
 pub use found::Found;
@@ -19,3 +18,6 @@ pub use laws::{
     winners_are_apart,
 };
 pub use rebuilt::Rebuilt;
+
+#[cfg(test)]
+mod tests;
