@@ -1,10 +1,10 @@
 -- Entries of one slot.
-use Rattle.std.proofs.Common.{◌≡◌, ℕ, zero, suc, ◌+◌, ◌<◌, List, [], ◌∷◌, ◌++◌, length, get_or, drop, refl, ap, sym, ◌∙◌, subst, arith}
-use Rattle.std.specs.Prelude.{ℤ, pos, negsuc, Contains, All, sum_by, nat_eq}
-use Rattle.std.specs.List.{flat_map, IsDistinct}
+use Rattle.std.proofs.Common.{◌≡◌, ℕ, zero, suc, ◌+◌, List, [], ◌∷◌, drop, refl, ap, sym, ◌∙◌, subst, arith}
+use Rattle.std.specs.Prelude.{negsuc, Contains, All, sum_by, nat_eq}
+use Rattle.std.specs.List.{IsDistinct}
 use Rattle.std.proofs.lemmas.List.{append-nil}
 use Rattle.std.proofs.lemmas.List.Elements.{All-contains}
-use Rattle.rebuild_model.specs.Image.{header_at, key_at, payload_at, IsSaneAt, BelongsTo, Links}
+use Rattle.rebuild_model.specs.Image.{header_at, payload_at, IsSaneAt, BelongsTo, Links}
 use Rattle.rebuild_model.specs.Entry.{Entry, IsChain, IsComplete, IsAlone, AllButLast, OfLast, content_of}
 use Rattle.rebuild_model.proofs.Chains.{ends_not}
 

@@ -1,9 +1,9 @@
 -- Chains of slots.
-use Rattle.std.proofs.Common.{◌≡◌, ℕ, ◌+◌, List, [], ◌∷◌, length, get_or, map, drop, refl, ap, sym, ◌∙◌, subst, arith}
-use Rattle.std.specs.Prelude.{ℤ, pos, negsuc, Contains, All, AllPairs}
+use Rattle.std.proofs.Common.{◌≡◌, ℕ, List, [], ◌∷◌, refl, ap, sym, ◌∙◌, subst}
+use Rattle.std.specs.Prelude.{ℤ, pos, negsuc, Contains}
 use Rattle.std.proofs.lemmas.List.Elements.{All-contains}
-use Rattle.rebuild_model.specs.Image.{header_at, key_at, IsSaneAt, BelongsTo, Links}
-use Rattle.rebuild_model.specs.Entry.{Entry, IsChain, IsComplete}
+use Rattle.rebuild_model.specs.Image.{header_at, BelongsTo, Links}
+use Rattle.rebuild_model.specs.Entry.{IsChain}
 
 pub ends_not : {z : ℤ} {t : ℕ} → z ≡ negsuc 0 → z ≡ pos t → ⊥
 ends_not e k = cc

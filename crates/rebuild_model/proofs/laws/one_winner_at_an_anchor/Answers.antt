@@ -1,4 +1,4 @@
-use Rattle.std.proofs.Common.{◌≡◌, ◌⊎◌, inl, inr, ℕ, ◌<◌, ◌≤◌, arith}
+use Rattle.std.proofs.Common.{◌≡◌, ◌⊎◌, ℕ, ◌<◌, ◌≤◌, arith}
 use Rattle.rebuild_model.proofs.laws.one_winner_at_an_anchor.Goals as goal
 
 same_place : (v w s t : ℕ) → (w < v) ⊎ ((w ≡ v) × (s ≤ t)) → (v < w) ⊎ ((v ≡ w) × (t ≤ s)) → s ≡ t
