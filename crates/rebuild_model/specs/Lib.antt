@@ -1,3 +1,4 @@
 pub mod Image
 pub mod Entry
 pub mod Rebuilt
+pub mod Plain

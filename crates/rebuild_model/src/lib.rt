@@ -1,13 +1,14 @@
 //! What a database file holds: its complete entries, and what a rebuild of the store keeps of them.
 //!
-//! The definitions stand in `specs/`, over the images of a file's slots. The functions of this crate
-//! give their laws.
+//! The definitions stand in `specs/`, over the images of a file's slots. Some functions of this
+//! crate give their laws, and [`complete_at`] computes one of them, slot by slot.
 #![tactic(auto)]
 
 mod found;
 mod found_list;
 mod image;
 mod laws;
+mod plain;
 mod rebuilt;
 
 pub use found::Found;
@@ -17,6 +18,7 @@ pub use laws::{
     chains_are_apart, entries_of_one_slot, one_entry_at_a_slot, one_winner_at_an_anchor,
     winners_are_apart,
 };
+pub use plain::complete_at;
 pub use rebuilt::Rebuilt;
 
 #[cfg(test)]
