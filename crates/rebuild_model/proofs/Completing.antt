@@ -1,14 +1,14 @@
 -- From a chain to a complete entry.
-use Rattle.std.proofs.Common.{◌≡◌, ℕ, ◌+◌, ◌-◌, ◌<◌, ◌≤◌, List, [], ◌∷◌, length, take, drop, refl, ap, sym, ◌∙◌, subst, arith}
-use Rattle.std.specs.Prelude.{Option, None, Some, MatchOption, All, sum_by, Contains}
-use Rattle.std.specs.List.{flat_map, AllByRecursion}
+use Rattle.std.proofs.Common.{◌≡◌, ℕ, ◌+◌, ◌<◌, ◌≤◌, List, [], ◌∷◌, length, take, drop, refl, ap, ◌∙◌, subst, arith}
+use Rattle.std.specs.Prelude.{Option, None, Some, MatchOption, All, sum_by}
+use Rattle.std.specs.List.{AllByRecursion}
 use Rattle.std.proofs.lemmas.List.{length-take, length-drop, length-append}
-use Rattle.std.proofs.lemmas.List.Elements.{All-contains, recursion_from_All, All-from_recursion}
+use Rattle.std.proofs.lemmas.List.Elements.{recursion_from_All, All-from_recursion}
 use Rattle.std.proofs.lemmas.List.Sums.{sum_by-cons}
 use Rattle.swap_meta.specs.Meta.{Spells}
 use Rattle.rebuild_model.specs.Image.{IsFile, IsSaneAt, header_at, key_at, image_at, payload_at, BelongsTo}
 use Rattle.rebuild_model.specs.Entry.{Entry, IsChain, IsComplete, content_of}
-use Rattle.rebuild_model.specs.Plain.{IsWhole, IsNamed, HasNoEntry, size_at}
+use Rattle.rebuild_model.specs.Plain.{IsWhole, IsNamed, size_at}
 use Rattle.rebuild_model.proofs.Chains.{one_chain}
 use Rattle.rebuild_model.proofs.Alone.{first_belongs}
 use Rattle.rebuild_model.proofs.Walking.{chain_below}

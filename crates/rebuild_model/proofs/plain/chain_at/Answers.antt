@@ -1,4 +1,4 @@
-use Rattle.std.proofs.Common.{vec_len, zero, suc, rules, ◌≡◌, refl, ℕ, ◌<◌, pos, negsuc, List, length, ◌↔◌, IsTrue, IfOk, MatchOption, ◌+◌, ◌-◌, ◌*◌, ◌≤◌, Bool, true, false, nat_eq, [], ◌∷◌, ◌++◌, ℤ, ◌≤ℤ◌, ◌<ℤ◌, to_z, of_z, sym, subst, arith, ap, ◌∙◌}
+use Rattle.std.proofs.Common.{vec_len, zero, suc, rules, ◌≡◌, refl, pos, negsuc, ◌+◌, true, nat_eq, ℤ, ◌≤ℤ◌, to_z, of_z, sym, subst, arith, ap, ◌∙◌}
 use Rattle.std.specs.Prelude.{FitsSigned}
 use Rattle.std.specs.List.{list_any}
 use Rattle.std.proofs.lemmas.Bool.{true≢false}
@@ -9,8 +9,7 @@ use lib.Signed.{non_neg}
 use Rattle.std.specs.Int.Signed.{pos-nat_abs}
 use Rattle.std.specs.Int.{w32, cast_signed, cast_unsigned}
 use Rattle.std.proofs.lemmas.Int.{to_z-of_z}
-use Rattle.rebuild_model.specs.Image.{IsFile, IsSaneAt, BelongsTo, header_at, key_at}
-use Rattle.rebuild_model.specs.Entry.{IsChain}
+use Rattle.rebuild_model.specs.Image.{BelongsTo}
 use Rattle.rebuild_model.proofs.Walking.{Walked, at_first, one_more, ended, strays, returns_to, shorter}
 use Rattle.rebuild_model.proofs.plain.chain_at.Goals as goal
 use Rattle.rebuild_model.proofs.plain.chain_at.Goals.{then-walk-test+else-not-contains, else-walk-test}

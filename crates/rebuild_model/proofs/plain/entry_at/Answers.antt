@@ -2,10 +2,10 @@ use Rattle.std.proofs.Common.{rules, ◌≡◌, ℕ, List, [], length, drop, ◌
 use Rattle.std.specs.Prelude.{sum_by}
 use Rattle.std.proofs.lemmas.List.{length-drop, get_or_default}
 use Rattle.rebuild_model.specs.Image.{image_at}
-use Rattle.rebuild_model.specs.Entry.{content_of, Entry, IsChain, IsComplete}
-use Rattle.rebuild_model.specs.Plain.{IsWhole, IsNamed, IsFound, HasNoEntry, size_at}
+use Rattle.rebuild_model.specs.Entry.{content_of, IsChain}
+use Rattle.rebuild_model.specs.Plain.{IsWhole, size_at}
 use Rattle.rebuild_model.proofs.Alone.{first_belongs}
-use Rattle.rebuild_model.proofs.Completing.{at_some, at_none, retold, its_chain, few, is_whole, is_named, complete, content_length, first_size, entry_of}
+use Rattle.rebuild_model.proofs.Completing.{at_some, at_none, retold, its_chain, few, is_whole, is_named, complete, content_length, entry_of}
 use Rattle.rebuild_model.proofs.plain.entry_at.Goals as goal
 
 pub returns-in_default : goal.returns-in_default

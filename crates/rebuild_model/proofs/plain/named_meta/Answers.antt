@@ -1,9 +1,8 @@
-use Rattle.std.proofs.Common.{◌≡◌, ℕ, List, length, take, subst, sym, ap, refl, ◌∙◌}
+use Rattle.std.proofs.Common.{subst, sym, ap, refl, ◌∙◌}
 use Rattle.std.specs.Prelude.{IsTrue}
 use Rattle.std.proofs.lemmas.Bool.{true≢false}
 use Rattle.store_key.specs.Key.{key_of}
 use Rattle.store_key.specs.Url.{IsUrl}
-use Rattle.rebuild_model.specs.Plain.{IsNamed}
 use Rattle.rebuild_model.proofs.plain.named_meta.Goals as goal
 
 pub returns-in_default : goal.returns-in_default

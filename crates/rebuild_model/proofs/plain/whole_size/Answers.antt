@@ -1,8 +1,6 @@
-use Rattle.std.proofs.Common.{rules, ◌≡◌, ℕ, ◌<◌, pos, negsuc, List, length, ◌↔◌, IsTrue, [], ◌∷◌, ◌+◌, sym, ap, refl, subst, ◌∙◌, arith}
+use Rattle.std.proofs.Common.{rules, ◌<◌, length, ◌+◌, sym, ap, subst, ◌∙◌}
 use Rattle.std.specs.Bool.{◌==◌}
 use Rattle.std.proofs.lemmas.Bool.{true≢false}
-use Rattle.rebuild_model.specs.Image.{header_at}
-use Rattle.rebuild_model.specs.Plain.{IsFull, size_at}
 use Rattle.rebuild_model.proofs.Summing.{goes_on}
 use Rattle.rebuild_model.proofs.plain.whole_size.Goals as goal
 
