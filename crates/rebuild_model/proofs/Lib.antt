@@ -5,3 +5,8 @@ pub mod Same
 pub mod Walking
 pub mod Summing
 pub mod Completing
+pub mod Greatest
+pub mod Owners
+pub mod Best
+pub mod Winners
+pub mod Whole

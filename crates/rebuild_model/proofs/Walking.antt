@@ -29,7 +29,7 @@ at_first slot images first = record {
   every = λ whole c. (c.behind, c.begins);
 }
 
-parts : (a b : Bool) → (a || b) ≡ false → (a ≡ false) × (b ≡ false)
+pub parts : (a b : Bool) → (a || b) ≡ false → (a ≡ false) × (b ≡ false)
 parts false b e = (refl, e)
 parts true b e = absurd (false≢true (sym e))
 

@@ -2,3 +2,4 @@ pub mod Image
 pub mod Entry
 pub mod Rebuilt
 pub mod Plain
+pub mod Keeping

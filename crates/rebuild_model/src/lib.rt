@@ -7,6 +7,7 @@
 mod found;
 mod found_list;
 mod image;
+mod keeping;
 mod laws;
 mod plain;
 mod rebuilt;
@@ -14,6 +15,7 @@ mod rebuilt;
 pub use found::Found;
 pub use found_list::FoundList;
 pub use image::{FileImage, Images};
+pub use keeping::rebuilt_of;
 pub use laws::{
     chains_are_apart, entries_of_one_slot, one_entry_at_a_slot, one_winner_at_an_anchor,
     winners_are_apart,

@@ -29,7 +29,7 @@ pub fn complete_at(alloc: Global, file: &FileImage, first: u32) -> Result<Option
 }
 
 /// The header of a slot.
-fn header_of_slot(slot: u32, images: &[Octets], s: u32) -> Header
+pub(crate) fn header_of_slot(slot: u32, images: &[Octets], s: u32) -> Header
     requires file { IsFile slot images.now }
     requires within { s < length images.now }
     ensures { result ≡ header_at images.now s }
@@ -41,7 +41,7 @@ fn header_of_slot(slot: u32, images: &[Octets], s: u32) -> Header
 }
 
 /// Whether the slot is there and sane.
-fn is_sane_at(slot: u32, images: &[Octets], s: u32) -> bool
+pub(crate) fn is_sane_at(slot: u32, images: &[Octets], s: u32) -> bool
     requires { IsFile slot images.now }
     ensures { IsTrue result ↔ IsSaneAt slot images.now s }
 {
@@ -170,7 +170,7 @@ fn is_named(meta: &Meta<'_>, image: &[u8]) -> bool
 }
 
 /// The complete entry that begins at a slot, if there is one.
-fn entry_at(
+pub(crate) fn entry_at(
     alloc: Global,
     slot: u32,
     images: &[Octets],

@@ -297,3 +297,71 @@ fn complete_entries_are_found_where_they_begin(rt: HostRuntime) -> Result<(), Fa
     }
     Ok(())
 }
+
+fn begin_at(found: &[Found], firsts: &[u32]) -> bool {
+    if found.len() != firsts.len() {
+        return false;
+    }
+    for (found, first) in found.iter().zip(firsts) {
+        if found.first != *first {
+            return false;
+        }
+    }
+    true
+}
+
+/// What a rebuild keeps: how many anchors there are, where the entries that are kept begin, in order
+/// of their anchors, whose each slot is, and the greatest version. Of 16 anchors `http://a/b` has
+/// number 1, and `http://a/c` number 10.
+type Kept = (u32, &'static [u32], &'static [u32], u32);
+
+fn kept_rows() -> [(&'static str, &'static [Patch], Kept); 8] {
+    [
+        ("the newer of one anchor", &[], (1, &[2], &[1, 0, 1, 0], 7)),
+        (
+            "the other is newer",
+            &[(1, 28, b"\x09")],
+            (1, &[1], &[0, 1, 0, 0], 9),
+        ),
+        (
+            "one version: the first slot",
+            &[(1, 28, b"\x07")],
+            (1, &[1], &[0, 1, 0, 0], 7),
+        ),
+        ("two anchors", &[], (16, &[2, 1], &[2, 11, 2, 0], 7)),
+        (
+            "a broken chain",
+            &[(0, 28, b"\x08")],
+            (16, &[1], &[0, 11, 0, 0], 8),
+        ),
+        (
+            "a slot that is not sane",
+            &[(0, 28, b"\x01\0\xff\xff")],
+            (16, &[1], &[0, 11, 0, 0], 7),
+        ),
+        (
+            "a newer slot of no entry",
+            &[(3, 0, &FRONT), (3, 28, b"\x63\0\0\0\x03"), (3, 16, b"\0")],
+            (16, &[2, 1], &[2, 11, 2, 0], 99),
+        ),
+        (
+            "no sane slot",
+            &[(0, 24, b"\0"), (1, 24, b"\0"), (2, 24, b"\0\0")],
+            (16, &[], &[0, 0, 0, 0], 0),
+        ),
+    ]
+}
+
+#[test]
+fn the_best_entry_of_each_anchor_is_kept(rt: HostRuntime) -> Result<(), Fail> {
+    let alloc = rt.alloc();
+    for (what, patches, (anchors, firsts, owner, greatest)) in kept_rows() {
+        let file = file_of(alloc, &patched(patches))?;
+        assert!(rt; anchors > 0);
+        let rebuilt = rebuilt_of(alloc, &file, anchors)?;
+        assert!(rt; begin_at(rebuilt.winners.as_slice(), firsts), "{what}");
+        assert_eq!(rt; rebuilt.owner.as_slice(), owner, "{what}");
+        assert_eq!(rt; rebuilt.greatest, greatest, "{what}");
+    }
+    Ok(())
+}
