@@ -1,7 +1,7 @@
 //! What a database file holds: its complete entries, and what a rebuild of the store keeps of them.
 //!
 //! The definitions stand in `specs/`, over the images of a file's slots. Some functions of this
-//! crate give their laws, and [`complete_at`] computes one of them, slot by slot.
+//! crate give their laws, and [`complete_at`] and [`rebuilt_of`] compute them, slot by slot.
 #![tactic(auto)]
 
 mod found;
