@@ -1,0 +1,87 @@
+#!/usr/bin/env bash
+# Times `rock list` on large files, warm, beside a plain program that makes the same reads.
+#
+#   bench/scan.sh [FOLDER] [MIB ..]
+#
+# The files are made in FOLDER (default: a new folder under /tmp, removed at the end), of 64 and 1,024
+# MiB unless sizes are named. Of each, three runs are made and the least time is told. This stands
+# outside the gate: it needs python3, a C compiler and 2 GiB of disk.
+set -eu -o pipefail
+
+root=$(dirname "$(dirname "$(readlink -f "${BASH_SOURCE[0]}")")")
+if [ $# -gt 0 ]; then
+    folder=$1
+    shift
+else
+    folder=$(mktemp -d /tmp/scan.XXXXXX)
+    trap 'rm -rf "$folder"' EXIT
+fi
+[ $# -gt 0 ] || set -- 64 1024
+mkdir -p "$folder"
+
+"$root/rock" --version >/dev/null
+"${CC:-cc}" -O2 -x c -o "$folder/plain_read" - <<'END'
+// Reads the slots of a file in order, each by one call into one buffer, as `rock list` does, and looks
+// at none of them: plain_read NAME SLOT
+#include <fcntl.h>
+#include <stdio.h>
+#include <stdlib.h>
+#include <sys/stat.h>
+#include <unistd.h>
+
+int main(int count, char **words) {
+    struct stat file;
+    if (count != 3) return 2;
+    long slot = atol(words[2]);
+    int db = open(words[1], O_RDONLY);
+    char *buffer = malloc(slot);
+    if (slot <= 0 || db < 0 || buffer == NULL || fstat(db, &file) != 0) return 1;
+    long slots = (file.st_size - 16384) / slot;
+    if (slots > 1048576) slots = 1048576;
+    long seen = 0;
+    for (long s = 0; s < slots; s++) {
+        if (pread(db, buffer, slot, 16384 + s * slot) != slot) return 1;
+        seen += buffer[0];
+    }
+    printf("%ld\n", seen);
+    return 0;
+}
+END
+"${CC:-cc}" -O2 -x c -o "$folder/run_once" - <<'END'
+// Runs a program with its output thrown away, and prints the seconds that it took and its peak memory in
+// KiB: run_once PROGRAM WORD ..
+#include <fcntl.h>
+#include <stdio.h>
+#include <sys/resource.h>
+#include <sys/wait.h>
+#include <time.h>
+#include <unistd.h>
+
+int main(int count, char **words) {
+    struct timespec from, to;
+    struct rusage used;
+    int status;
+    if (count < 2) return 2;
+    clock_gettime(CLOCK_MONOTONIC, &from);
+    pid_t child = fork();
+    if (child == 0) {
+        dup2(open("/dev/null", O_WRONLY), 1);
+        execv(words[1], words + 1);
+        _exit(127);
+    }
+    if (child < 0 || wait4(child, &status, 0, &used) < 0 || status != 0) return 1;
+    clock_gettime(CLOCK_MONOTONIC, &to);
+    printf("%.6f %ld\n", (to.tv_sec - from.tv_sec) + (to.tv_nsec - from.tv_nsec) / 1e9, used.ru_maxrss);
+    return 0;
+}
+END
+printf '%5s %6s %-10s %9s %9s %7s %8s %7s %10s %9s\n' MiB slot file entries plain_s rock_s rock_MB/s ratio peak_MiB bytes/slot
+for mib in "$@"; do
+    for slot in 512 4096 16384; do
+        for kind in entries one-tail chain ring; do
+            python3 "$root/bench/make_file.py" "$folder/db" "$mib" "$slot" "$kind"
+            python3 "$root/bench/measure.py" "$folder" "$root/crates/rock_main/out/rock_main" "$mib" "$slot" "$kind"
+            rm -f "$folder/db"
+        done
+    done
+done
