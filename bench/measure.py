@@ -1,7 +1,7 @@
 """Prints one line of measures of the file FOLDER/db: measure.py FOLDER PROGRAM MIB SLOT KIND
 
-Each program runs once to warm the file and then three times. The least seconds and the greatest peak of
-memory are told, and the peak for each slot above what the program takes to print its version.
+The two programs run by turns, once to warm the file and then seven times each. The least seconds and the
+greatest peak of memory are told, and the peak for each slot above what the program takes to print its version.
 """
 import os
 import subprocess
@@ -12,19 +12,21 @@ name = f"{folder}/db"
 
 
 def measured(*words):
-    runs = []
-    for _ in range(4):
-        told = subprocess.run([f"{folder}/run_once", *words], capture_output=True, check=True)
-        seconds, peak = told.stdout.split()
-        runs.append((float(seconds), int(peak)))
-    return min(seconds for seconds, _ in runs[1:]), max(peak for _, peak in runs)
+    told = subprocess.run([f"{folder}/run_once", *words], capture_output=True, check=True)
+    seconds, peak = told.stdout.split()
+    return float(seconds), int(peak)
 
 
 slots = min((os.path.getsize(name) - 16384) // int(slot), 1048576)
 listing = subprocess.run([program, "list", name, slot], capture_output=True, check=True).stdout
-plain_seconds, _ = measured(f"{folder}/plain_read", name, slot)
-seconds, peak = measured(program, "list", name, slot)
+plain, rock = [], []
+for _ in range(8):
+    plain.append(measured(f"{folder}/plain_read", name, slot))
+    rock.append(measured(program, "list", name, slot))
 _, base = measured(program, "--version")
+plain_seconds = min(seconds for seconds, _ in plain[1:])
+seconds = min(seconds for seconds, _ in rock[1:])
+peak = max(peak for _, peak in rock)
 told = listing.count(b"\n")
 print(
     f"{mib:>5} {slot:>6} {kind:<10} {told:>9} {plain_seconds:>9.3f} {seconds:>7.3f}"

@@ -4,7 +4,7 @@
 #   bench/scan.sh [FOLDER] [MIB ..]
 #
 # The files are made in FOLDER (default: a new folder under /tmp, removed at the end), of 64 and 1,024
-# MiB unless sizes are named. Of each, three runs are made and the least time is told. This stands
+# MiB unless sizes are named. Of seven runs of each the least time is told. This stands
 # outside the gate: it needs python3, a C compiler and 2 GiB of disk.
 set -eu -o pipefail
 
