@@ -1,7 +1,7 @@
 -- The numbers that anchor words are in the shared table. Bits 0 to 15 hold the readers, 16 to 18 the stage, 19 the doom and
 -- 32 to 63 the version, and bits 20 to 31 are 0. A word without its readers is the number of its epoch: those numbers are
 -- ordered as the epochs are.
-use Rattle.std.specs.Prelude.{ℕ, bit_or, ◌+◌, ◌-◌, ◌*◌, ◌/◌, ◌%◌, ◌<◌, Bool, true, false, cond, ◌==◌, ◌||◌, ◌&&◌}
+use Rattle.std.specs.Prelude.{ℕ, bit_or, ◌+◌, ◌*◌, ◌/◌, ◌%◌, ◌^◌, ◌<◌, ◌≤◌, IsBitSet, Bool, true, false, ◌==◌, ◌||◌, ◌&&◌}
 use Rattle.lock_word.specs.declared.stage.Stage.{Stage}
 use Rattle.lock_word.specs.declared.stage.Stage.TheVariants.{Empty, Taken, Appending, Closed, Halted, Freeing, Gone}
 use Rattle.lock_word.specs.declared.epoch.Epoch.{Epoch}
@@ -25,6 +25,11 @@ epoch_number e = 65536 * e.version + 8 * doom_number e.doom + stage_number e.sta
 
 abbrev pub word_number : Word → ℕ
 word_number w = 65536 * epoch_number w.epoch + w.readers
+
+-- the numbers of a word fit their places
+pub record IsInRange (w : Word) : Type 0 where
+  pub version : w.epoch.version < 2 ^ 32
+  pub readers : w.readers < 2 ^ 16
 
 -- The parts of a word's number n, and of an epoch's number e.
 
@@ -53,25 +58,32 @@ pub record IsWord (n : ℕ) : Type 0 where
   pub mode : mode_of (epoch_of n) < 16
   pub stage : stage_of (epoch_of n) < 7
 
+-- a bit from 20 to 31 is set
+pub record HasReservedBit (n : ℕ) : Type 0 where
+  pub bit : ℕ
+  pub from : 20 ≤ bit
+  pub below : bit < 32
+  pub set : IsBitSet n bit
+
 -- What an epoch or a word allows.
 
--- APPENDING or CLOSED, and not doomed
+-- Appending or Closed, and not doomed
 abbrev pub is_readable : ℕ → Bool
 is_readable e = (mode_of e == 2) || (mode_of e == 3)
 
--- TAKEN or APPENDING
+-- Taken or Appending
 abbrev pub is_written : ℕ → Bool
 is_written e = (stage_of e == 1) || (stage_of e == 2)
 
--- CLOSED, not doomed, without readers
+-- Closed, not doomed, without readers
 abbrev pub is_idle : ℕ → Bool
 is_idle n = (readers_of n == 0) && (mode_of (epoch_of n) == 3)
 
--- EMPTY or GONE, without readers
+-- Empty or Gone, without readers
 abbrev pub is_vacant : ℕ → Bool
 is_vacant n = (readers_of n == 0) && ((stage_of (epoch_of n) == 0) || (stage_of (epoch_of n) == 6))
 
--- HALTED, or CLOSED and doomed, without readers: its last user frees it
+-- Halted, or Closed and doomed, without readers: its last user frees it
 abbrev pub is_left_over : ℕ → Bool
 is_left_over n = (readers_of n == 0) && ((stage_of (epoch_of n) == 4) || (mode_of (epoch_of n) == 11))
 
@@ -88,7 +100,7 @@ word_at version stage = 65536 * epoch_at version stage
 abbrev pub doomed : ℕ → ℕ
 doomed n = bit_or n 524288
 
--- with the stage raised by this much
+-- with the stage raised by this much, where a stage is that far above it
 abbrev pub raised : ℕ → ℕ → ℕ
 raised n by = n + 65536 * by
 
