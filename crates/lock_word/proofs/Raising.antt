@@ -1,5 +1,5 @@
 -- A stage that is raised.
-use Rattle.std.proofs.Common.{◌≡◌, ℕ, ◌+◌, ◌<◌, arith}
+use Rattle.std.proofs.Common.{◌≡◌, ℕ, ◌+◌, ◌-◌, ◌≤◌, ◌<◌, arith}
 use Rattle.lock_word.specs.Words.{IsWord, readers_of, epoch_of, version_of, mode_of, stage_of, doom_of, raised}
 
 pub readers_of-raised : (n by : ℕ) → readers_of (raised n by) ≡ readers_of n
@@ -10,6 +10,9 @@ epoch_of-raised n by = omega arith
 
 pub stage_of-raised : (n by : ℕ) → stage_of (epoch_of n) + by < 7 → stage_of (epoch_of (raised n by)) ≡ stage_of (epoch_of n) + by
 stage_of-raised n by room = omega arith
+
+pub stage_of-raised_to : (n to : ℕ) → stage_of (epoch_of n) ≤ to → to < 7 → stage_of (epoch_of (raised n (to - stage_of (epoch_of n)))) ≡ to
+stage_of-raised_to n to above below = omega arith
 
 pub doom_of-raised : (n by : ℕ) → stage_of (epoch_of n) + by < 7 → doom_of (epoch_of (raised n by)) ≡ doom_of (epoch_of n)
 doom_of-raised n by room = omega arith

@@ -40,6 +40,7 @@ pub fn numbers_of_words()
 /// A number is its epoch and its readers, and an epoch its version, doom and stage.
 pub fn numbers_have_parts()
     ensures whole { (n : ℕ) → n ≡ 65536 * epoch_of n + readers_of n }
+    ensures readers { (n : ℕ) → readers_of n < 65536 }
     ensures same { (n m : ℕ) → epoch_of n ≡ epoch_of m → readers_of n ≡ readers_of m → n ≡ m }
     ensures epoch { (e : ℕ) → e ≡ 65536 * version_of e + mode_of e }
     ensures mode { (e : ℕ) → mode_of e < 16 → mode_of e ≡ 8 * doom_of e + stage_of e }
@@ -88,6 +89,8 @@ pub fn stages_are_raised()
         doom_of (epoch_of (raised n by)) ≡ doom_of (epoch_of n) }
     ensures stage { (n by : ℕ) → stage_of (epoch_of n) + by < 7 →
         stage_of (epoch_of (raised n by)) ≡ stage_of (epoch_of n) + by }
+    ensures stage_to { (n to : ℕ) → stage_of (epoch_of n) ≤ to → to < 7 →
+        stage_of (epoch_of (raised n (to - stage_of (epoch_of n)))) ≡ to }
     ensures mode { (n by : ℕ) → stage_of (epoch_of n) + by < 7 →
         mode_of (epoch_of (raised n by)) ≡ mode_of (epoch_of n) + by }
     ensures word { (n by : ℕ) → IsWord n → stage_of (epoch_of n) + by < 7 → IsWord (raised n by) }
