@@ -29,6 +29,7 @@ pub struct Word {
 pub fn pack(word: &Word) -> u64
     ensures number { result ≡ word_number word.now }
     ensures word { IsWord result }
+    ensures in_range { IsInRange word.now }
 {
     let Epoch {
         version,
@@ -47,6 +48,7 @@ pub fn unpack(bits: u64) -> Option<Word>
     ensures none { IsNone result ↔ (HasReservedBit bits ⊎ (stage_of (epoch_of bits) ≡ 7)) }
     ensures word { IsSome result ↔ IsWord bits }
     ensures number { IfSome result (λ word. word_number word ≡ bits) }
+    ensures in_range { IfSome result (λ word. IsInRange word) }
     ensures packed { (word : Word) → IsInRange word → bits ≡ word_number word → result ≡ Some word }
 {
     if bits & RESERVED != 0 {
