@@ -1,22 +1,22 @@
 -- A file that is opened, read and given back.
-use Rattle.std.proofs.Common.{◌≡◌, ◌+◌, ◌≤◌, ℕ, zero, suc, List, length, map, Bool, true, false, cond, arith, refl, ap, sym, ◌∙◌, subst, Some, inr}
-use Rattle.std.proofs.lemmas.List.{length-map}
+use Rattle.std.proofs.Common.{◌≡◌, ◌+◌, ◌≤◌, ℕ, zero, suc, List, [], ◌∷◌, ◌++◌, length, take, map, Bool, true, false, cond, arith, refl, ap, sym, ◌∙◌, subst, Some, inr}
+use Rattle.std.proofs.lemmas.List.{length-map, take-append-le}
+use Rattle.std.proofs.Math.Seq.{take-length}
 use Rattle.std.specs.Ordering.{nat_cmp, eq_by_cmp}
 use Rattle.std.specs.Cmp.Lexicographic.{slice_cmp}
 use Rattle.std.proofs.lemmas.Cmp.{nat_list_cmp_total, eq_by_cmp_equiv}
 use Rattle.std.specs.FinMap.{get, insert, get-insert, same_map, slice_cmp-IsAntisymmetric, nat_cmp-IsAntisymmetric}
-use Rattle.std.specs.Prelude.{Result, IsErrOf, IsErrAnd, Ok, Err, ◌↔◌}
+use Rattle.std.specs.Prelude.{All, Result, IsErrOf, IsErrAnd, Ok, Err, ◌↔◌}
 use Rattle.rock_disk.specs.Cell.{CellState, shape}
-use Rattle.rock_disk.specs.File.{File, Files, shapes_from, slots_of, bytes_of, rest_cut, header_cut, slots_cut, IsThere, IsKept}
+use Rattle.rock_disk.specs.File.{File, Files, shapes_from, slots_of, bytes_of, rest_cut, header_cut, IsThere, IsKept}
 use Rattle.rock_disk.specs.File.File.{Home, Away}
 use Rattle.rock_disk.specs.Opened.{HasShape, IsOpened, IsOut}
 use Rattle.rock_disk.specs.declared.volume.OpenFault.{OpenFault}
 use Rattle.rock_disk.specs.declared.volume.OpenFault.TheVariants as opening
 use Rattle.rock_main.specs.ReadFault.{read_fault_of_open}
-use Rattle.rock_main.specs.Listing.{images_of}
-use Rattle.rock_main.specs.Read.{ScannedCells, ScannedFile}
-use Rattle.rock_main.specs.Scanned.{Scanned}
-use Rattle.rock_main.specs.declared.scan.Scan.{Scan}
+use Rattle.rock_rebuild.specs.Scan.{IsScan}
+use Rattle.rock_rebuild.specs.declared.outcome.Scan.{Scan}
+use Rattle.rock_main.specs.Read.{ScannedFile}
 use Rattle.rock_main.specs.declared.read.ReadFault.{ReadFault}
 use Rattle.rock_main.specs.declared.read.ReadFault.TheVariants as read
 
@@ -48,9 +48,21 @@ count_of cells n slot e = sym (length-map cells shape) ∙ (ap length e ∙ leng
 self_shaped : (cells : List CellState) (n slot : ℕ) → map shape cells ≡ shapes_from 0 n slot → map shape cells ≡ shapes_from 0 (length cells) slot
 self_shaped cells n slot e = e ∙ ap (λ k. shapes_from 0 k slot) (sym (count_of cells n slot e))
 
-pub shapes_when_opened : {C : Type 0} (state : C → CellState) (cells : List C) (n slot : ℕ) → map shape (map state cells) ≡ shapes_from 0 n slot
-    → map shape (map state cells) ≡ shapes_from 0 (length cells) slot
-shapes_when_opened state cells n slot e = self_shaped (map state cells) n slot e ∙ ap (λ k. shapes_from 0 k slot) (length-map cells state)
+widths : (cells : List CellState) (number n slot : ℕ) → map shape cells ≡ shapes_from number n slot → All (λ c. c.width ≡ slot) cells
+widths [] number n slot e k d within = absurd (omega arith)
+widths (c ∷ cells) number zero slot e k d within =
+    let impossible : length (map shape (c ∷ cells)) ≡ 0 = ap length e in
+    absurd (omega (arith, impossible))
+widths (c ∷ cells) number (suc n) slot e zero d within =
+    let front : shape c ≡ (number, slot) = cc in
+    ap (λ s. s.1) front
+widths (c ∷ cells) number (suc n) slot e (suc k) d within =
+    let tail : map shape cells ≡ shapes_from (number + 1) n slot = cc in
+    widths cells (number + 1) n slot tail k d (omega arith)
+
+-- the cells of an opened file have the width of its slots
+pub wide_when_opened : {C : Type 0} (state : C → CellState) (cells : List C) (n slot : ℕ) → map shape (map state cells) ≡ shapes_from 0 n slot → All (λ c. c.width ≡ slot) (map state cells)
+wide_when_opened state cells n slot e = widths (map state cells) 0 n slot e
 
 -- an opened file has so few cells that their number fits
 pub few_when_opened : {C : Type 0} (state : C → CellState) (cells : List C) (bytes slot : ℕ) → map shape (map state cells) ≡ shapes_from 0 (slots_of bytes slot) slot → length cells ≤ 1048576
@@ -77,15 +89,12 @@ out_when_opened {before = before} {name = name} {slot = slot} {bytes = bytes} {c
 
 -- the scan of an opened file's cells is the scan of the file
 pub scanned_when_opened : {before after : Files} {name : List ℕ} {slot bytes : ℕ} {header : CellState} {cells : List CellState} (scan : Scan)
-    → IsOpened before after name slot bytes header cells → ScannedCells slot cells scan → ScannedFile before name slot scan
-scanned_when_opened {slot = slot} scan o scanned =
-    let same = o.cells_are in
-    let count : length (slots_cut slot (bytes_of o.was)) ≡ length (images_of slot (bytes_of o.was)) = sym (length-map (slots_cut slot (bytes_of o.was)) (λ c. c.now)) in
-    record {
-      was = o.was;
-      found = o.found;
-      scanned = subst (λ (n : ℕ). Scanned n slot (images_of slot (bytes_of o.was)) scan) count (subst (λ (cs : List CellState). Scanned (length cs) slot (map (λ c. c.now) cs) scan) same scanned);
-    }
+    → IsOpened before after name slot bytes header cells → IsScan slot (map (λ c. c.now) cells) scan → ScannedFile before name slot scan
+scanned_when_opened {slot = slot} scan o scanned = record {
+  was = o.was;
+  found = o.found;
+  scanned = subst (λ (cs : List CellState). IsScan slot (map (λ c. c.now) cs) scan) o.cells_are scanned;
+}
 
 pub kept_when_back : {before after now final : Files} {name : List ℕ} {slot bytes : ℕ} {header : CellState} {cells cells_now : List CellState}
     → IsOpened before after name slot bytes header cells → now ≡ after → cells_now ≡ cells
@@ -102,6 +111,10 @@ kept_when_back {before = before} {now = now} {final = final} {name = name} {slot
           ∙ (inserted_twice before name (Home header cells_now rest) away
           ∙ (ap (λ x. insert before name (Home x cells_now rest)) o.header_is ∙ ap (λ x. insert before name (Home (header_cut (bytes_of o.was)) x rest)) (c ∙ o.cells_are)))),
     )
+
+-- a slice that a call has filled is the whole of the buffer
+pub filled : {A : Type 0} (new old : List A) (n : ℕ) → length new ≡ n → take n (new ++ old) ≡ new
+filled new old n e = take-append-le n new old (omega arith) ∙ (ap (λ k. take k new) (sym e) ∙ take-length new)
 
 -- the call above is short exactly where the volume is
 pub short_comes : {T U : Type 0} {P : Type 0} (f : OpenFault) (r : Result U ReadFault) (bytes : ℕ) → IsErrAnd r (λ e. e ≡ read_fault_of_open f)

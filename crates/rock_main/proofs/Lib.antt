@@ -1,7 +1,6 @@
 pub mod Numbers
-pub mod ScanFacts
-pub mod Cells
 pub mod Kept
-pub mod ChainedFacts
+pub mod ShortFacts
+pub mod LineFacts
 pub mod CommandFacts
 pub mod ListFacts

@@ -1,8 +1,5 @@
 pub mod CommandLine
-pub mod Entry
 pub mod Listing
-pub mod Shown
-pub mod Scanned
 pub mod ReadFault
 pub mod Device
 pub mod Read

@@ -1,33 +1,21 @@
 -- What `list NAME SLOT` answers, and why.
-use Rattle.std.specs.Prelude.{◌≡◌, ◌⊎◌, ℕ, ◌%◌, ◌≤◌, List, ◌++◌, length, Option, Some, None}
+use Rattle.std.specs.Prelude.{◌≡◌, ◌⊎◌, ℕ, List, ◌++◌, Some, None}
 use Rattle.std.specs.FinMap.{get}
 use Rattle.rock_io.specs.Faults.{Rose}
 use Rattle.rock_io.specs.Sink.{TakesPrefix}
 use Rattle.rock_disk.specs.File.{File, Files, IsThere, bytes_of}
 use Rattle.rock_disk.specs.Opened.{IsSmall}
 use Rattle.rock_main.specs.Device.{DeviceFailed}
-use Rattle.rock_main.specs.Listing.{images_of, Lists, IsFirstChained}
+use Rattle.rock_rebuild.specs.Scan.{IsSlotSize}
+use Rattle.rock_main.specs.Listing.{images_of, Lists}
 use Rattle.rock_main.specs.declared.status.Status.{Status}
-use Rattle.rock_main.specs.declared.status.Status.TheVariants.{Done, Usage, Memory, SourceFault, SinkFault, DeviceFault, BadScript, Missing, Small, BadGeometry, Exists, Chained}
+use Rattle.rock_main.specs.declared.status.Status.TheVariants.{Done, Usage, Memory, SourceFault, SinkFault, DeviceFault, BadScript, Missing, Small, BadGeometry, Exists}
 
--- the sizes that a slot may have, in bytes
-pub record IsSlotSize (slot : ℕ) : Type 0 where
-  pub from : 512 ≤ slot
-  pub to : slot ≤ 32768
-  pub multiple : slot % 512 ≡ 0
-
--- the first slot of the file of this name that is sane and goes on in another, or that there is none
-pub record HasFirstChained (files : Files) (name : List ℕ) (slot : ℕ) (found : Option ℕ) : Type 0 where
-  pub was : File
-  pub there : get files name ≡ Some was
-  pub first : IsFirstChained (length (images_of slot (bytes_of was))) slot (images_of slot (bytes_of was)) found
-
--- the text lists the file of this name, in which each chain has one slot
+-- the text lists the file of this name
 pub record IsListing (files : Files) (name : List ℕ) (slot : ℕ) (text : List ℕ) : Type 0 where
   pub was : File
   pub there : get files name ≡ Some was
-  pub lists : Lists (length (images_of slot (bytes_of was))) slot (images_of slot (bytes_of was)) text
-  pub alone : IsFirstChained (length (images_of slot (bytes_of was))) slot (images_of slot (bytes_of was)) None
+  pub lists : Lists slot (images_of slot (bytes_of was)) text
 
 -- when each status comes: by the numbers and by the counts of faults, of the sink, the volume and the station
 abbrev pub ListEnds : (slot : ℕ) → (sink_before sink_after volume_before volume_after : ℕ) → (ended_before ended_after : List ℕ) → Status → Type 0
@@ -42,15 +30,13 @@ ListEnds slot s s' v v' e e' Missing = IsSlotSize slot
 ListEnds slot s s' v v' e e' (Small bytes) = IsSlotSize slot
 ListEnds slot s s' v v' e e' (BadGeometry field) = (field ≡ 1) × ¬ IsSlotSize slot
 ListEnds slot s s' v v' e e' Exists = ⊥
-ListEnds slot s s' v v' e e' (Chained n) = IsSlotSize slot
 
 -- when each status comes, by the files
 abbrev pub ListSays : Files → List ℕ → ℕ → Status → Type 0
 ListSays files name slot Missing = get files name ≡ None
 ListSays files name slot (Small bytes) = IsSmall files name slot bytes
-ListSays files name slot (Chained n) = HasFirstChained files name slot (Some n)
-ListSays files name slot Done = HasFirstChained files name slot None
-ListSays files name slot SinkFault = HasFirstChained files name slot None
+ListSays files name slot Done = IsThere files name
+ListSays files name slot SinkFault = IsThere files name
 ListSays files name slot status = Unit {0}
 
 -- what was printed: at `Done` the listing, at a fault of the sink a prefix of it, and else nothing
@@ -67,4 +53,4 @@ pub record MayList (files : Files) (name : List ℕ) (slot : ℕ) : Type 0 where
 
 -- how a command ends that nothing refuses and no fault meets
 abbrev pub ListsOrLacksMemory : Status → Type 0
-ListsOrLacksMemory status = (status ≡ Done) ⊎ (((n : ℕ) × (status ≡ Chained n)) ⊎ (status ≡ Memory))
+ListsOrLacksMemory status = (status ≡ Done) ⊎ (status ≡ Memory)

@@ -1,29 +1,33 @@
 -- The listing of a file.
-use Rattle.std.specs.Prelude.{◌≡◌, ◌⊎◌, ℕ, ◌<◌, List, [], length, map, slice_index_or, Option, Some, None}
-use Rattle.std.specs.List.{concat}
+use Rattle.std.specs.Prelude.{◌≡◌, ℕ, List, ◌++◌, length, map, Contains, codes, decimal}
+use Rattle.std.specs.List.{flat_map}
+use Rattle.std.specs.List.Sorted.{IsStrictlyIncreasing}
 use Rattle.rock_disk.specs.File.{slots_cut}
-use Rattle.rock_main.specs.Entry.{Listed, IsEntry, IsChained, line_of}
+use Rattle.rebuild_model.specs.Entry.{Entry, IsComplete}
+use Rattle.rebuild_model.specs.declared.found.Found.{Found}
 
 -- the images of the slots of a file with these bytes
 abbrev pub images_of : ℕ → List ℕ → List (List ℕ)
 images_of slot bytes = map (λ c. c.now) (slots_cut slot bytes)
 
--- what a slot adds to the listing: the line of the complete entry there, or nothing where none is
-abbrev pub IsPart : ℕ → ℕ → ℕ → List ℕ → List ℕ → Type 0
-IsPart slots slot number image part =
-    ((entry : Listed) × IsEntry slots slot number image entry × (part ≡ line_of entry))
-    ⊎ (((entry : Listed) → IsEntry slots slot number image entry → ⊥) × (part ≡ []))
+-- a line: first slot, version, slots, length of the body, and URL
+abbrev pub numbers : (first version slots length : ℕ) → List ℕ
+numbers first version slots length = codes "ENTRY " ++ decimal first ++ codes " " ++ decimal version ++ codes " " ++ decimal slots ++ codes " " ++ decimal length ++ codes " "
 
--- the text lists the complete entries of these slots, which are the first of so many, in order of their first slots
-pub record Lists (slots slot : ℕ) (images : List (List ℕ)) (text : List ℕ) : Type 0 where
-  pub parts : List (List ℕ)
-  pub one_a_slot : length parts ≡ length images
-  pub each : (n : ℕ) → n < length images → IsPart slots slot n (slice_index_or images n []) (slice_index_or parts n [])
-  pub joined : text ≡ concat parts
+abbrev pub line : (first version slots length : ℕ) (url : List ℕ) → List ℕ
+line first version slots length url = numbers first version slots length ++ url ++ codes "\n"
 
--- the least of these slots that goes on in another, if there is one
-abbrev pub IsFirstChained : ℕ → ℕ → List (List ℕ) → Option ℕ → Type 0
-IsFirstChained slots slot images None = (n : ℕ) → n < length images → IsChained slots slot (slice_index_or images n []) → ⊥
-IsFirstChained slots slot images (Some n) =
-    (n < length images) × IsChained slots slot (slice_index_or images n [])
-    × ((k : ℕ) → k < n → IsChained slots slot (slice_index_or images k []) → ⊥)
+-- the line of an entry, and of one as a scan tells it
+abbrev pub line_of : Entry → List ℕ
+line_of e = line e.first e.version (length e.chain) (length e.body) e.url
+
+abbrev pub line_of_found : Found → List ℕ
+line_of_found f = line f.first f.version (length f.chain) f.length f.url
+
+-- the text has the lines of exactly the complete entries of these slots, in order of their first slots
+pub record Lists (slot : ℕ) (images : List (List ℕ)) (text : List ℕ) : Type 0 where
+  pub entries : List Entry
+  pub complete : (e : Entry) → Contains entries e → IsComplete slot images e
+  pub every : (e : Entry) → IsComplete slot images e → Contains entries e
+  pub ordered : IsStrictlyIncreasing (map (λ e. e.first) entries)
+  pub joined : text ≡ flat_map line_of entries

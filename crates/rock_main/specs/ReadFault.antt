@@ -1,8 +1,10 @@
--- The faults of a volume, as those of a read.
+-- The faults of a volume and of a scan, as those of a read.
 use Rattle.rock_disk.specs.declared.volume.OpenFault.{OpenFault}
 use Rattle.rock_disk.specs.declared.volume.OpenFault.TheVariants as opening
 use Rattle.rock_disk.specs.declared.volume.StationFault.{StationFault}
 use Rattle.rock_disk.specs.declared.volume.StationFault.TheVariants as station
+use Rattle.rock_rebuild.specs.declared.outcome.RebuildFault.{RebuildFault}
+use Rattle.rock_rebuild.specs.declared.outcome.RebuildFault.TheVariants as rebuild
 use Rattle.rock_main.specs.declared.read.ReadFault.{ReadFault}
 use Rattle.rock_main.specs.declared.read.ReadFault.TheVariants as read
 use Rattle.rock_main.specs.declared.status.Status.{Status}
@@ -17,6 +19,10 @@ read_fault_of_open opening.Memory = read.Memory
 abbrev pub read_fault_of_station : StationFault → ReadFault
 read_fault_of_station station.Failed = read.Device
 read_fault_of_station station.Memory = read.Memory
+
+abbrev pub read_fault_of_rebuild : RebuildFault → ReadFault
+read_fault_of_rebuild rebuild.Failed = read.Device
+read_fault_of_rebuild rebuild.Memory = read.Memory
 
 -- how the program ends at a fault of a read
 abbrev pub status_of_fault : ReadFault → Status

@@ -1,9 +1,9 @@
 -- Exit statuses.
 use Rattle.std.specs.Prelude.{ℕ}
 use Rattle.rock_main.specs.declared.status.Status.{Status}
-use Rattle.rock_main.specs.declared.status.Status.TheVariants.{Done, Usage, Memory, SourceFault, SinkFault, DeviceFault, BadScript, Missing, Small, BadGeometry, Exists, Chained}
+use Rattle.rock_main.specs.declared.status.Status.TheVariants.{Done, Usage, Memory, SourceFault, SinkFault, DeviceFault, BadScript, Missing, Small, BadGeometry, Exists}
 
--- the code of a status. 1 is left to what the system makes of a program that breaks
+-- the code of a status. 1 is left to what the system makes of a program that breaks, and 10 is not used
 abbrev pub code_of : Status → ℕ
 code_of Done = 0
 code_of Usage = 2
@@ -16,4 +16,3 @@ code_of Missing = 8
 code_of (Small bytes) = 8
 code_of (BadGeometry field) = 8
 code_of Exists = 9
-code_of (Chained slot) = 10

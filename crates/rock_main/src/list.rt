@@ -1,12 +1,14 @@
 // The command `list`.
-ghost use Rattle.std.specs.Prelude.{◌≡◌, ◌⊎◌, ℕ, ◌≤◌, IsTrue, None, Some, ◌↔◌};
+ghost use Rattle.std.specs.Prelude.{◌≡◌, ℕ, ◌≤◌, IsTrue, None, ◌↔◌};
 ghost use Rattle.std.specs.FinMap.{get};
 ghost use Rattle.rock_disk.specs.File.{IsNotAway, IsKept};
 ghost use Rattle.rock_disk.specs.Opened.{IsSmall};
 ghost use Rattle.rock_main.specs.Device.{EndedOne};
-ghost use Rattle.rock_main.specs.ListCommand.{IsSlotSize, IsListing, HasFirstChained, ListEnds, ListSays, ListPrints};
+ghost use Rattle.rock_rebuild.specs.Scan.{IsSlotSize};
+ghost use Rattle.rock_main.specs.ListCommand.{IsListing, ListEnds, ListSays, ListPrints};
 ghost use Rattle.rock_main.specs.ReadFault.{status_of_fault};
 
+use crate::lines::lines_of;
 use crate::read::{ReadFault, read_file};
 use crate::status::Status;
 use rock_disk::Volume;
@@ -40,9 +42,6 @@ pub fn list<V: Volume, K: Sink>(
         → result ≡ Status.Missing }
     ensures small { IsTrue V.tells → IsSlotSize slot → (bytes : ℕ)
         → IsSmall (V.files volume.old) name.now slot bytes → result ≡ Status.Small bytes }
-    ensures chained { IsTrue V.tells → IsSlotSize slot → (n : ℕ)
-        → HasFirstChained (V.files volume.old) name.now slot (Some n)
-        → (result ≡ Status.Chained n) ⊎ ((result ≡ Status.Memory) ⊎ (result ≡ Status.DeviceFault)) }
 
     // What was printed.
     ensures prints { IsTrue K.tells
@@ -62,10 +61,10 @@ pub fn list<V: Volume, K: Sink>(
         Ok(scan) => scan,
         Err(fault) => return Status::from(fault),
     };
-    if let Some(slot) = scan.chained {
-        return Status::Chained { slot };
-    }
-    match write_all(out, &scan.lines) {
+    let Ok(lines) = lines_of(alloc, scan.found.as_slice()) else {
+        return Status::Memory;
+    };
+    match write_all(out, &lines) {
         Ok(()) => Status::Done,
         Err(_failed) => Status::SinkFault,
     }

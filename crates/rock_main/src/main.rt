@@ -5,12 +5,11 @@
 #![tactic(auto)]
 
 mod command;
-mod entry;
+mod lines;
 mod list;
 mod message;
 mod read;
 mod rock;
-mod scan;
 mod status;
 
 use message::explanation;
@@ -36,7 +35,7 @@ rock: the store of a caching proxy in one database file
 
 A run that does not end well says why in one line on standard error. Exit status:
 0 done, 2 no command line, 3 out of memory, 5 standard output failed, 6 the disk
-failed, 8 no such file or a wrong size, 10 an entry of more than one slot.
+failed, 8 no such file or a wrong size.
 ";
 
 /// What `rock --version` prints.

@@ -18,7 +18,6 @@ impl fmt::Display for Status {
             Status::Small { bytes } => write!(f, "Small bytes={bytes}"),
             Status::BadGeometry { field } => write!(f, "BadGeometry field={field}"),
             Status::Exists => f.write_str("Exists"),
-            Status::Chained { slot } => write!(f, "Chained slot={slot}"),
         }
     }
 }
@@ -48,10 +47,5 @@ pub fn explanation(
             format!(in alloc; "the slot size {slot} is no multiple of 512 from 512 to 32768")
         }
         Status::Exists => format!(in alloc; "there is a file {name} already"),
-        Status::Chained { slot } => {
-            format!(in alloc;
-                "slot {slot} of {name} goes on in another slot, which is not followed yet"
-            )
-        }
     }
 }

@@ -1,11 +1,12 @@
 // The top call.
-ghost use Rattle.std.specs.Prelude.{◌≡◌, ◌⊎◌, ℕ, List, ◌≤◌, IsTrue, None, Some, ◌↔◌};
+ghost use Rattle.std.specs.Prelude.{◌≡◌, ℕ, List, ◌≤◌, IsTrue, None, ◌↔◌};
 ghost use Rattle.std.specs.FinMap.{get};
 ghost use Rattle.rock_disk.specs.File.{NoneAway, IsKept};
 ghost use Rattle.rock_disk.specs.Opened.{IsSmall};
 ghost use Rattle.rock_main.specs.CommandLine.{IsList, IsCommandLine};
 ghost use Rattle.rock_main.specs.Device.{EndedOne, NoFault};
-ghost use Rattle.rock_main.specs.ListCommand.{IsSlotSize, IsListing, HasFirstChained, ListEnds, ListSays, ListPrints, MayList, ListsOrLacksMemory};
+ghost use Rattle.rock_rebuild.specs.Scan.{IsSlotSize};
+ghost use Rattle.rock_main.specs.ListCommand.{IsListing, ListEnds, ListSays, ListPrints, MayList, ListsOrLacksMemory};
 
 use crate::command::ListCommand;
 use crate::list::list;
@@ -53,9 +54,6 @@ where
         → IsSlotSize slot → get (V.files volume.old) name ≡ None → result ≡ Status.Missing }
     ensures list_small { (name : List ℕ) (slot bytes : ℕ) → IsList words.now name slot → IsTrue V.tells
         → IsSlotSize slot → IsSmall (V.files volume.old) name slot bytes → result ≡ Status.Small bytes }
-    ensures list_chained { (name : List ℕ) (slot n : ℕ) → IsList words.now name slot → IsTrue V.tells
-        → IsSlotSize slot → HasFirstChained (V.files volume.old) name slot (Some n)
-        → (result ≡ Status.Chained n) ⊎ ((result ≡ Status.Memory) ⊎ (result ≡ Status.DeviceFault)) }
 
     // Where nothing refuses it and no fault comes, it lists, unless memory runs out.
     ensures list_complete { (name : List ℕ) (slot : ℕ) → IsList words.now name slot → IsTrue V.tells

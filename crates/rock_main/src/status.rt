@@ -27,8 +27,6 @@ pub enum Status {
     BadGeometry { field: u8 },
     /// There is a file of that name already.
     Exists,
-    /// The first slot that is sane and goes on in another, which listing does not follow yet.
-    Chained { slot: u32 },
 }
 
 impl Status {
@@ -46,7 +44,6 @@ impl Status {
             Status::BadScript { .. } => 7,
             Status::Missing | Status::Small { .. } | Status::BadGeometry { .. } => 8,
             Status::Exists => 9,
-            Status::Chained { .. } => 10,
         }
     }
 }

@@ -1,11 +1,13 @@
-ghost use Rattle.std.specs.Prelude.{IfOk};
+ghost use Rattle.std.specs.Prelude.{◌≡◌, length, IfOk};
 ghost use Rattle.rock_disk.specs.File.{NoneAway};
 ghost use Rattle.rock_disk.specs.Memory.{volume_files};
+ghost use Rattle.rebuild_model.specs.Image.{IsFile};
 
 use crate::rock::rock;
 use crate::status::Status;
+use rebuild_model::{FileImage, Images, complete_at};
 use rock_disk::MemVolume;
-use rock_io::{MemSink, MemSource, Memory, Words};
+use rock_io::{MemSink, MemSource, Memory, Octets, Words};
 use std::alloc::{AllocError, Global};
 use std::sync::Wait;
 use std::test::Fail;
@@ -57,6 +59,34 @@ fn push_entry(
     file.extend_from_slice(url.as_bytes())?;
     file.push(0)?;
     file.extend_from_slice(body.as_bytes())?;
+    file.resize(end, 0)
+}
+
+/// Metadata with `http://a/b` and its key.
+const META_B: [u8; 42] = [
+    3, 0x2a, 0, 0, 0, 3, 0x10, 0, 0, 0, 0x1a, 0x68, 0xc1, 0x0d, 0x6c, 0x8b, 0x32, 0x66, 0x57, 0xc7,
+    0x75, 0xf5, 0x3c, 0x86, 0x6d, 0xd1, 4, 0x0b, 0, 0, 0, 0x68, 0x74, 0x74, 0x70, 0x3a, 0x2f, 0x2f,
+    0x61, 0x2f, 0x62, 0,
+];
+
+/// What the header of a slot of `http://a/b` says: entry size, payload size, version, first slot and
+/// next slot.
+type Fields = (u64, u32, u32, i32, i32);
+
+/// Adds a slot with this header, and metadata where it names itself first. None is a slot of zeros.
+fn push_slot(file: &mut Vec<u8>, number: i32, fields: Option<Fields>) -> Result<(), AllocError> {
+    let end = file.len().saturating_add(SLOT);
+    if let Some((entry_size, payload_size, version, first_slot, next_slot)) = fields {
+        file.extend_from_slice(&KEY_B)?;
+        file.extend_from_slice(&entry_size.to_le_bytes())?;
+        file.extend_from_slice(&payload_size.to_le_bytes())?;
+        file.extend_from_slice(&version.to_le_bytes())?;
+        file.extend_from_slice(&first_slot.to_le_bytes())?;
+        file.extend_from_slice(&next_slot.to_le_bytes())?;
+        if first_slot == number {
+            file.extend_from_slice(&META_B)?;
+        }
+    }
     file.resize(end, 0)
 }
 
@@ -131,8 +161,8 @@ fn one_slot_is_listed_where_it_is_an_entry(rt: HostRuntime) -> Result<(), Fail> 
     // Bytes of the slot from a place on, and what is answered and printed.
     let rows: [(usize, &[u8], Status, &str); 9] = [
         (0, &[0x1a], Status::Done, line),
-        // next slot 0
-        (36, &[0, 0, 0, 0], Status::Chained { slot: 0 }, ""),
+        // next slot 0, which it is itself
+        (36, &[0, 0, 0, 0], Status::Done, ""),
         // the greatest version, and one more
         (
             28,
@@ -331,5 +361,168 @@ fn entries_are_listed_in_order_of_their_slots(rt: HostRuntime) -> Result<(), Fai
     let lines = b"ENTRY 0 3 1 1 http://a/b\nENTRY 1 5 1 1 http://a/c\n";
     assert_eq!(rt; status, Status::Done);
     assert_eq!(rt; printed.as_slice(), lines.as_slice());
+    Ok(())
+}
+
+#[test]
+fn chains_are_followed_from_slot_to_slot(rt: HostRuntime) -> Result<(), Fail> {
+    let alloc = rt.alloc();
+    let front = Some((0, 472, 4, 2, 0));
+    // Three slots, and what is printed.
+    let rows = [
+        (
+            [Some((473, 1, 4, 2, -1)), None, front],
+            "ENTRY 2 4 2 431 http://a/b\n",
+        ),
+        // the last slot names another first
+        ([Some((473, 1, 4, 0, -1)), None, front], ""),
+        // one byte less than there are, and one more
+        ([Some((472, 1, 4, 2, -1)), None, front], ""),
+        ([Some((474, 1, 4, 2, -1)), None, front], ""),
+        // another version
+        ([Some((473, 1, 5, 2, -1)), None, front], ""),
+        // a ring
+        ([Some((472, 472, 4, 2, 2)), None, front], ""),
+        // a middle slot that is full, and one that is not
+        (
+            [
+                Some((945, 1, 4, 2, -1)),
+                Some((0, 472, 4, 2, 0)),
+                Some((0, 472, 4, 2, 1)),
+            ],
+            "ENTRY 2 4 3 903 http://a/b\n",
+        ),
+        (
+            [
+                Some((944, 1, 4, 2, -1)),
+                Some((0, 471, 4, 2, 0)),
+                Some((0, 472, 4, 2, 1)),
+            ],
+            "",
+        ),
+        // a slot that goes on in itself, version 0, and a payload past the slot
+        (
+            [
+                Some((472, 472, 5, 0, 0)),
+                Some((47, 47, 0, 1, -1)),
+                Some((473, 473, 9, 2, -1)),
+            ],
+            "",
+        ),
+    ];
+    for (slots, text) in rows {
+        let mut file = empty_file(alloc)?;
+        let [zero, one, two] = slots;
+        push_slot(&mut file, 0, zero)?;
+        push_slot(&mut file, 1, one)?;
+        push_slot(&mut file, 2, two)?;
+        let mut volume = volume_of(alloc, Some(&file), &[], &[])?;
+        let (status, printed) = run(&rt, alloc, &["list", "db", "512"], &mut volume, 99)?;
+        assert_eq!(rt; status, Status::Done, "{slots:?}");
+        assert_eq!(rt; printed.as_slice(), text.as_bytes(), "{slots:?}");
+    }
+    Ok(())
+}
+
+/// Four slots: `http://a/b` of version 7 in slots 2 and 0, `http://a/c` of version 3 in slot 1, and one
+/// that was never written.
+fn four_slots(alloc: Global) -> Result<Vec<u8>, AllocError> {
+    let mut file = empty_file(alloc)?;
+    push_slot(&mut file, 0, Some((477, 5, 7, 2, -1)))?;
+    push_entry(&mut file, 1, 3, &KEY_C, "http://a/c", "hello")?;
+    push_slot(&mut file, 2, Some((0, 472, 7, 2, 0)))?;
+    push_slot(&mut file, 3, None)?;
+    Ok(file)
+}
+
+/// The file with another byte at a place of its slots.
+fn changed(mut file: Vec<u8>, at: usize, change: u8) -> Vec<u8> {
+    if let Some(byte) = file.get_mut(at.saturating_add(16_384)) {
+        *byte ^= change;
+    }
+    file
+}
+
+fn octets(alloc: Global, image: &[u8]) -> Result<Octets, Memory>
+    requires { length image.now ≡ 512 }
+    ensures { IfOk result (λ bytes. length bytes ≡ 512) }
+{
+    Ok(Octets::from_vec(image.to_vec(alloc)?))
+}
+
+fn four_images(
+    alloc: Global,
+    zero: Octets,
+    one: Octets,
+    two: Octets,
+    three: Octets,
+) -> Result<FileImage, Memory>
+    requires zero { length zero ≡ 512 }
+    requires one { length one ≡ 512 }
+    requires two { length two ≡ 512 }
+    requires three { length three ≡ 512 }
+    ensures { IfOk result (λ image. IsFile image.slot image.slots × (length image.slots ≡ 4)) }
+{
+    let mut images = Vec::new(alloc);
+    images.push(zero)?;
+    images.push(one)?;
+    images.push(two)?;
+    images.push(three)?;
+    Ok(FileImage {
+        slot: 512,
+        slots: Images::from_vec(images),
+    })
+}
+
+fn image_of(alloc: Global, file: &[u8]) -> Result<FileImage, Memory>
+    requires { length file.now ≡ 18432 }
+    ensures { IfOk result (λ image. IsFile image.slot image.slots × (length image.slots ≡ 4)) }
+{
+    let zero = octets(alloc, &file[16_384..16_896])?;
+    let one = octets(alloc, &file[16_896..17_408])?;
+    let two = octets(alloc, &file[17_408..17_920])?;
+    let three = octets(alloc, &file[17_920..18_432])?;
+    four_images(alloc, zero, one, two, three)
+}
+
+/// The lines of the entries that the plain function finds.
+fn plain_lines(alloc: Global, image: &FileImage) -> Result<Vec<u8>, Memory>
+    requires file { IsFile image.now.slot image.now.slots }
+    requires count { length image.now.slots ≡ 4 }
+{
+    let mut lines = Vec::new(alloc);
+    for first in 0..4 {
+        if let Some(found) = complete_at(alloc, image, first)? {
+            let slots = found.chain.as_slice().len();
+            let head = format!(in alloc;
+                "ENTRY {} {} {slots} {} ",
+                found.first, found.version, found.length
+            )?;
+            lines.extend_from_slice(head.as_bytes())?;
+            lines.extend_from_slice(found.url.as_slice())?;
+            lines.push(b'\n')?;
+        }
+    }
+    Ok(lines)
+}
+
+#[test]
+fn changed_files_are_listed_as_the_plain_function_says(rt: HostRuntime) -> Result<(), Fail> {
+    let alloc = rt.alloc();
+    for at in 0..2_048 {
+        // Behind the metadata any byte may stand.
+        if at % 512 > 82 {
+            continue;
+        }
+        for change in [0x01, 0x80, 0xff] {
+            let file = changed(four_slots(alloc)?, at, change);
+            assert_eq!(rt; file.len(), 18_432);
+            let lines = plain_lines(alloc, &image_of(alloc, &file)?)?;
+            let mut volume = volume_of(alloc, Some(&file), &[], &[])?;
+            let (status, printed) = run(&rt, alloc, &["list", "db", "512"], &mut volume, 256)?;
+            assert_eq!(rt; status, Status::Done, "{change} at {at}");
+            assert_eq!(rt; printed.as_slice(), lines.as_slice(), "{change} at {at}");
+        }
+    }
     Ok(())
 }

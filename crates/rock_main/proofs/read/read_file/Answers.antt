@@ -1,8 +1,7 @@
 use Rattle.std.proofs.Common.{◌≡◌, length, map, drop, arith, ◌∙◌, ap, subst}
 use Rattle.std.proofs.lemmas.Result.{IfOk-weaker}
-use Rattle.rock_main.specs.Read.{ScannedCells}
-use Rattle.rock_main.proofs.Cells.{filled}
-use Rattle.rock_main.proofs.Kept.{shapes_when_opened, few_when_opened, there_when_opened, out_when_opened, scanned_when_opened, kept_when_back, short_comes}
+use Rattle.rock_rebuild.specs.Scan.{IsScan}
+use Rattle.rock_main.proofs.Kept.{filled, wide_when_opened, few_when_opened, there_when_opened, out_when_opened, scanned_when_opened, kept_when_back, short_comes}
 use Rattle.rock_main.proofs.read.read_file.Goals as goal
 
 pub returns-in_err-header-clause-small : goal.returns-in_err-header-clause-small
@@ -12,9 +11,9 @@ returns-in_err-header-clause-small g c t bytes =
 pub read_by_station-outcome-requires-clause-there : goal.read_by_station-outcome-requires-clause-there
 read_by_station-outcome-requires-clause-there g c κs within t = there_when_opened ((c.in_ok-header.ensures.opened t).1)
 
-pub read_by_station-outcome-requires-clause-cells : goal.read_by_station-outcome-requires-clause-cells
-read_by_station-outcome-requires-clause-cells g c κs within =
-    rw c.deref_mut.ensures.value (shapes_when_opened g.V.C.Cell.state c.in_ok-header.field-0.cells.items _ c.args.slot c.in_ok-header.ensures.shape.cell_shapes)
+pub read_by_station-outcome-requires-clause-wide : goal.read_by_station-outcome-requires-clause-wide
+read_by_station-outcome-requires-clause-wide g c κs within =
+    rw c.deref_mut.ensures.value (wide_when_opened g.V.C.Cell.state c.in_ok-header.field-0.cells.items _ c.args.slot c.in_ok-header.ensures.shape.cell_shapes)
 
 pub read_by_station-outcome-requires-clause-few : goal.read_by_station-outcome-requires-clause-few
 read_by_station-outcome-requires-clause-few g c κs within =
@@ -32,7 +31,7 @@ returns-clause-scanned g c =
     IfOk-weaker c.read_by_station-outcome.result _ _ (λ scan scanned t.
     let opened = c.in_ok-header.ensures.opened t in
     scanned_when_opened scan opened.1
-    (subst (λ cells. ScannedCells c.args.slot (map g.V.C.Cell.state cells) scan) c.deref_mut.ensures.value (scanned opened.0))) c.read_by_station-outcome.ensures.scanned
+    (subst (λ cells. IsScan c.args.slot (map (λ d. d.now) (map g.V.C.Cell.state cells)) scan) c.deref_mut.ensures.value (scanned opened.0))) c.read_by_station-outcome.ensures.scanned
 
 pub returns-clause-kept : goal.returns-clause-kept
 returns-clause-kept g c t =

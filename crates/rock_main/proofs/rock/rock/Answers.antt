@@ -1,8 +1,9 @@
-use Rattle.std.proofs.Common.{◌≡◌, ◌⊎◌, IsTrue, Some, None}
+use Rattle.std.proofs.Common.{◌≡◌, IsTrue, None}
 use Rattle.std.specs.FinMap.{get}
 use Rattle.rock_disk.specs.File.{IsKept}
 use Rattle.rock_disk.specs.Opened.{IsSmall}
-use Rattle.rock_main.specs.ListCommand.{IsSlotSize, IsListing, HasFirstChained, ListEnds, ListSays, ListPrints}
+use Rattle.rock_rebuild.specs.Scan.{IsSlotSize}
+use Rattle.rock_main.specs.ListCommand.{IsListing, ListEnds, ListSays, ListPrints}
 use Rattle.rock_main.specs.declared.status.Status.TheVariants as status
 use Rattle.rock_main.proofs.CommandFacts.{of_each}
 use Rattle.rock_main.proofs.ListFacts.{complete}
@@ -29,12 +30,6 @@ pub returns-in-Some-clause-list_small : goal.returns-in-Some-clause-list_small
 returns-in-Some-clause-list_small g c name slot bytes asked t sized =
     of_each c.args.words.now (λ n s. IsSlotSize s → IsSmall (g.V.Volume.files c.args.volume.now) n s bytes → c.list.result ≡ status.Small bytes) name slot c.in-Some.ensures asked
     (λ is. c.list.ensures.small t is bytes) sized
-
-pub returns-in-Some-clause-list_chained : goal.returns-in-Some-clause-list_chained
-returns-in-Some-clause-list_chained g c name slot n asked t sized =
-    of_each c.args.words.now (λ m s. IsSlotSize s → HasFirstChained (g.V.Volume.files c.args.volume.now) m s (Some n)
-    → (c.list.result ≡ status.Chained n) ⊎ ((c.list.result ≡ status.Memory) ⊎ (c.list.result ≡ status.DeviceFault))) name slot c.in-Some.ensures asked
-    (λ is. c.list.ensures.chained t is n) sized
 
 pub returns-in-Some-clause-list_prints : goal.returns-in-Some-clause-list_prints
 returns-in-Some-clause-list_prints g c name slot asked k =

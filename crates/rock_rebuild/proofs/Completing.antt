@@ -1,0 +1,100 @@
+-- From a chain and what its first slot says to a complete entry.
+use Rattle.std.proofs.Common.{◌≡◌, ℕ, ◌+◌, ◌-◌, List, [], ◌∷◌, length, take, drop, refl, ap, sym, ◌∙◌, subst, arith}
+use Rattle.std.specs.Prelude.{Contains, sum_by}
+use Rattle.std.specs.List.{AllByRecursion}
+use Rattle.std.proofs.lemmas.List.{length-take, length-drop, length-append}
+use Rattle.std.proofs.lemmas.List.Elements.{All-contains, recursion_from_All}
+use Rattle.std.proofs.lemmas.List.Sums.{sum_by-cons}
+use Rattle.swap_meta.specs.Meta.{Spells}
+use Rattle.slot_cell.specs.Header.{header_of, IsSane}
+use Rattle.rebuild_model.specs.Image.{IsFile, IsSaneAt, key_at, image_at, payload_at, BelongsTo}
+use Rattle.rebuild_model.specs.Entry.{Entry, IsChain, IsComplete, content_of}
+use Rattle.rebuild_model.specs.Plain.{IsFound, HasNoEntry, size_at}
+use Rattle.rebuild_model.specs.declared.found.Found.{Found}
+use Rattle.rock_rebuild.specs.Kept.{IsHead, HasNoHead}
+use Rattle.rock_rebuild.specs.Left.{HasNoChain, IsChainAt}
+use Rattle.rock_rebuild.specs.declared.chain.Chain.{Chain}
+use Rattle.rock_rebuild.specs.declared.head.Head.{Head}
+
+-- the first slot of a chain belongs to itself
+pub first_belongs : (slot : ℕ) (images : List (List ℕ)) (s : ℕ) (chain : List ℕ) → IsChain slot images s chain → BelongsTo slot images s s
+first_belongs slot images s chain c = All-contains (BelongsTo slot images s) chain s c.belong (subst (λ l. Contains l s) (sym c.begins) (0, omega arith, refl))
+
+-- where the slot says nothing of an entry, none begins
+pub no_head : (slot : ℕ) (images : List (List ℕ)) (first : ℕ) → (IsSane (header_of (image_at images first)) (length images) slot → HasNoHead first (image_at images first)) → HasNoEntry slot images first
+no_head slot images first none e c same =
+    let belongs : BelongsTo slot images first first = subst (λ s. BelongsTo slot images s s) same (first_belongs slot images e.first e.chain c.chain) in
+    none belongs.sane.sane e.key e.url c.size belongs.first record {
+      meta = subst (λ s. Spells (take c.size (payload_at images s)) e.key e.url c.size) same c.meta;
+      slot_key = subst (λ s. e.key ≡ key_at images s) same c.key;
+      key_of_url = c.key_of_url;
+      checked = c.url;
+    }
+
+-- and where no chain begins
+pub no_chain : (slot : ℕ) (images : List (List ℕ)) (first : ℕ) → HasNoChain slot images first → HasNoEntry slot images first
+no_chain slot images first none e c same = none e.chain (subst (λ s. IsChain slot images s e.chain) same c.chain) record { full = c.full; size = c.whole }
+
+-- a payload has as many bytes as its header says
+payload_length : (slot : ℕ) (images : List (List ℕ)) (s : ℕ) → IsFile slot images → IsSaneAt slot images s → length (payload_at images s) ≡ size_at images s
+payload_length slot images s f sane =
+    let wide : length (image_at images s) ≡ slot = f.wide s [] sane.within in
+    let behind = length-drop 40 (image_at images s) in
+    let taken = length-take (size_at images s) (drop 40 (image_at images s)) in
+    omega (arith, wide, behind, taken, sane.sane.payload_to)
+
+lengths : (slot : ℕ) (images : List (List ℕ)) (s : ℕ) (xs : List ℕ) → IsFile slot images → AllByRecursion (BelongsTo slot images s) xs → length (content_of images xs) ≡ sum_by (size_at images) xs
+lengths slot images s [] f all = refl
+lengths slot images s (x ∷ xs) f all =
+    let here = payload_length slot images x f all.0.sane in
+    let rest = lengths slot images s xs f all.1 in
+    let joined : length (content_of images (x ∷ xs)) ≡ length (payload_at images x) + length (content_of images xs) = length-append (payload_at images x) (content_of images xs) in
+    omega (arith, here, rest, joined, sum_by-cons (size_at images) x xs)
+
+-- the entry
+abbrev pub entry_of : List (List ℕ) → ℕ → Head → Chain → Entry
+entry_of images first head chain = record {
+  first = first;
+  version = head.version;
+  key = head.key;
+  url = head.url;
+  chain = chain.slots.items;
+  body = drop head.length (content_of images chain.slots.items);
+}
+
+pub body_length : (slot : ℕ) (images : List (List ℕ)) (first : ℕ) (head : Head) (chain : Chain) → IsFile slot images → IsChainAt slot images first chain
+    → chain.size - head.length ≡ length (drop head.length (content_of images chain.slots.items))
+body_length slot images first head chain file is =
+    let bytes = lengths slot images first chain.slots.items file (recursion_from_All (BelongsTo slot images first) chain.slots.items is.is.belong) in
+    ap (λ n. n - head.length) (is.size ∙ sym bytes) ∙ sym (length-drop head.length (content_of images chain.slots.items))
+
+pub complete : (slot : ℕ) (images : List (List ℕ)) (first : ℕ) (head : Head) (chain : Chain) → IsChainAt slot images first chain → IsHead first (image_at images first) head
+    → IsComplete slot images (entry_of images first head chain)
+complete slot images first head chain is says = record {
+  chain = is.is;
+  full = is.whole.full;
+  whole = is.whole.size;
+  size = head.length;
+  meta = says.named.meta;
+  key = says.named.slot_key;
+  key_of_url = says.named.key_of_url;
+  url = says.named.checked;
+  version = says.version;
+  body = refl;
+}
+
+abbrev pub found_with : ℕ → ℕ → List ℕ → List ℕ → List ℕ → ℕ → Found
+found_with first version key url chain length = record { first = first; version = version; key = key; url = url; length = length; chain = chain }
+
+-- what is told of an entry is the same where its length and its chain are
+pub same_found : (first version : ℕ) (key url : List ℕ) {chain more : List ℕ} {n m : ℕ} → n ≡ m → chain ≡ more → found_with first version key url chain n ≡ found_with first version key url more m
+same_found first version key url length chain = cc
+
+pub found : (slot : ℕ) (images : List (List ℕ)) (first : ℕ) (head : Head) (chain : Chain) (f : Found) → IsFile slot images → IsChainAt slot images first chain → IsHead first (image_at images first) head
+    → f ≡ found_with first head.version head.key head.url chain.slots.items (chain.size - head.length) → IsFound slot images first f
+found slot images first head chain f file is says same = record {
+  entry = entry_of images first head chain;
+  complete = complete slot images first head chain is says;
+  begins = refl;
+  told = same ∙ same_found first head.version head.key head.url (body_length slot images first head chain file is) refl;
+}

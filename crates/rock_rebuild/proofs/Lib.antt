@@ -1,0 +1,12 @@
+pub mod Keys
+pub mod Lists
+pub mod Links
+pub mod Following
+pub mod Counting
+pub mod Reading
+pub mod Completing
+pub mod Gathering
+pub mod Options
+pub mod Cells
+pub mod Scanned
+pub mod Shapes

@@ -1,0 +1,5 @@
+pub mod Kept
+pub mod Slots
+pub mod Left
+pub mod Gathered
+pub mod Scan

@@ -1,0 +1,86 @@
+// The complete entries, gathered from the first slot on.
+ghost use Rattle.std.specs.Prelude.{◌≡◌, ◌+◌, ◌≤◌, ℕ, List, length, IfOk, OnOk, MatchOption};
+ghost use Rattle.rebuild_model.specs.Image.{IsFile, image_at};
+ghost use Rattle.rebuild_model.specs.Plain.{IsFound, HasNoEntry};
+ghost use Rattle.rock_rebuild.specs.Kept.{TellsHead, AreHeaders, AreHeads};
+ghost use Rattle.rock_rebuild.specs.Left.{AreLeft};
+ghost use Rattle.rock_rebuild.specs.Gathered.{AreFound};
+
+use crate::chain::follow;
+use crate::head::Head;
+use crate::table::Table;
+use rebuild_model::{Found, one_entry_at_a_slot};
+use rock_io::Numbers;
+use std::alloc::{AllocError, Global};
+
+/// The complete entry that begins at a slot, if one does, where `head` is what the slot says of it.
+fn entry_at(
+    alloc: Global,
+    table: &mut Table,
+    slot: u32,
+    first: u32,
+    head: Option<Head>,
+) -> Result<Option<Found>, AllocError>
+    requires { length table.old ≤ 1048576 }
+    ensures found { IfOk result (λ found. (images : List (List ℕ)) → IsFile slot images
+        → AreLeft slot images first table.old
+        → TellsHead (length images) slot first (image_at images first) head
+        → AreLeft slot images (first + 1) table.new
+        × MatchOption found (HasNoEntry slot images first) (IsFound slot images first)) }
+    ensures length { length table.new ≡ length table.old }
+{
+    let Some(head) = head else {
+        return Ok(None);
+    };
+    let Some(chain) = follow(alloc, table, slot, first)? else {
+        return Ok(None);
+    };
+    let key = head.key;
+    Ok(Some(Found {
+        first,
+        version: head.version,
+        key,
+        url: head.url,
+        // Metadata is never longer than the first slot's payload.
+        length: chain.size.saturating_sub(head.length as u64),
+        chain: Numbers::from_vec(chain.slots),
+    }))
+}
+
+/// Adds the entry that begins at the next slot, if one does.
+fn push_entry(found: &mut Vec<Found>, entry: Option<Found>) -> Result<(), AllocError>
+    ensures { OnOk result ((slot : ℕ) (images : List (List ℕ)) (first : ℕ)
+        → AreFound slot images first found.old.items
+        → MatchOption entry (HasNoEntry slot images first) (IsFound slot images first)
+        → AreFound slot images (first + 1) found.new.items) }
+{
+    one_entry_at_a_slot();
+    if let Some(entry) = entry {
+        found.push(entry)?;
+    }
+    Ok(())
+}
+
+/// The complete entries of a file, in order of their first slots, by the headers of its slots and what
+/// the slots say of entries that begin there.
+pub fn entries_of(
+    alloc: Global,
+    table: &mut Table,
+    heads: &mut [Option<Head>],
+    slot: u32,
+) -> Result<Vec<Found>, AllocError>
+    requires table { length table.old ≤ 1048576 }
+    requires heads { length heads.old ≤ 1048576 }
+    ensures { IfOk result (λ found. (images : List (List ℕ)) → IsFile slot images
+        → AreHeaders (length images) slot images table.old
+        → AreHeads (length images) slot images heads.old
+        → AreFound slot images (length images) found.items) }
+{
+    let mut found = Vec::new(alloc);
+    for first in 0..heads.len() as u32 {
+        let head = heads[first as usize].take();
+        let entry = entry_at(alloc, table, slot, first, head)?;
+        push_entry(&mut found, entry)?;
+    }
+    Ok(found)
+}

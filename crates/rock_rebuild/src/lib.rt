@@ -1,0 +1,23 @@
+//! The complete entries of a database file, found in one pass over its slots.
+//!
+//! Each slot is read once, in order. What is kept of it is its header, and the URL where an entry may
+//! begin there. Then the chains are followed from one header to the next. A chain takes the headers
+//! of its slots out of the table, so time and memory grow with the number of slots and no faster,
+//! whatever the slots hold.
+#![tactic(auto)]
+
+mod chain;
+mod entries;
+mod head;
+mod outcome;
+mod read;
+mod scanning;
+mod slots;
+mod table;
+
+pub use outcome::{RebuildFault, Scan};
+pub use rebuild_model::{Found, FoundList, Rebuilt};
+pub use scanning::scan;
+
+#[cfg(test)]
+mod tests;

@@ -1,0 +1,40 @@
+// What comes of a scan.
+ghost use Rattle.std.specs.Prelude.{◌≡◌};
+ghost use Rattle.rock_rebuild.specs.declared.outcome.RebuildFault.TheVariants as fault;
+
+use crate::FoundList;
+use rock_io::Failed;
+use std::alloc::AllocError;
+
+/// What a scan tells of a file.
+#[derive(Debug, Drop)]
+pub struct Scan {
+    /// The complete entries, in order of their first slots.
+    pub found: FoundList,
+    /// The greatest version of a sane slot, or 0 where none is.
+    pub greatest: u32,
+}
+
+/// Why a file was not scanned.
+#[derive(Clone, Copy, Debug, PartialEq, Eq)]
+pub enum RebuildFault {
+    /// A read failed.
+    Failed,
+    Memory,
+}
+
+impl From<Failed> for RebuildFault {
+    ghost from_gives = { λ _ e. e ≡ fault.Failed };
+
+    fn from(_failed: Failed) -> Self {
+        RebuildFault::Failed
+    }
+}
+
+impl From<AllocError> for RebuildFault {
+    ghost from_gives = { λ _ e. e ≡ fault.Memory };
+
+    fn from(_error: AllocError) -> Self {
+        RebuildFault::Memory
+    }
+}

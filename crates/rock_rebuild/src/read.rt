@@ -1,0 +1,39 @@
+// The slots of a file are read in order, each once.
+ghost use Rattle.std.specs.Prelude.{◌≡◌, ◌≤◌, ℕ, List, length, map, All, IsTrue, IfOk, IsErrOf};
+ghost use Rattle.rock_io.specs.Faults.{Rose};
+ghost use Rattle.rock_disk.specs.Cell.{CellState};
+ghost use Rattle.rock_rebuild.specs.Slots.{AreRead};
+
+use crate::outcome::RebuildFault;
+use crate::slots::Slots;
+use rock_disk::Station;
+use std::alloc::Global;
+
+/// Reads the slots of a file, and tells what is kept of them.
+pub fn read_slots<St: Station>(
+    alloc: Global,
+    station: &mut St,
+    cells: &mut [St::C],
+    slot: u32,
+) -> Result<Slots, RebuildFault>
+    requires wide { All (λ (c : CellState). c.width ≡ slot) (map St.C.state cells.old) }
+    requires few { length cells.old ≤ 1048576 }
+    ensures read { IfOk result (λ slots. IsTrue St.C.tells
+        → AreRead (length cells.old) slot (map (λ (c : CellState). c.now) (map St.C.state cells.old)) slots) }
+    ensures count { IfOk result (λ slots. (length slots.table ≡ length cells.old)
+        × (length slots.heads.items ≡ length cells.old)) }
+    ensures cells { map St.C.state cells.new ≡ map St.C.state cells.old }
+    ensures faults { St.faults station.old ≤ St.faults station.new }
+    ensures failed { IsErrOf result RebuildFault.Failed
+        → Rose (St.faults station.old) (St.faults station.new) }
+{
+    let count = cells.len() as u32;
+    let mut image = Vec::new(alloc);
+    image.resize(slot as usize, 0)?;
+    let mut slots = Slots::with_capacity(alloc, cells.len())?;
+    for number in 0..count {
+        station.read(&mut cells[number as usize], &mut image)?;
+        slots.add(alloc, number, count, slot, &image)?;
+    }
+    Ok(slots)
+}

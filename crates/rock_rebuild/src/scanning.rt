@@ -1,0 +1,42 @@
+// A scan of a file.
+ghost use Rattle.std.specs.Prelude.{◌≡◌, ◌≤◌, length, map, All, IsTrue, IfOk, IsErrOf};
+ghost use Rattle.rock_io.specs.Faults.{Rose};
+ghost use Rattle.rock_disk.specs.Cell.{CellState};
+ghost use Rattle.rock_rebuild.specs.Scan.{IsSlotSize, IsScan};
+
+use crate::FoundList;
+use crate::entries::entries_of;
+use crate::outcome::{RebuildFault, Scan};
+use crate::read::read_slots;
+use rock_disk::Station;
+use std::alloc::Global;
+
+/// Finds all complete entries of a file with these slots, and the greatest version of a sane slot.
+/// Each slot is read once, in order. The cells are as they were, whatever the answer.
+///
+/// # Errors
+///
+/// [`RebuildFault::Failed`] where a read failed, and [`RebuildFault::Memory`] where memory runs out.
+pub fn scan<St: Station>(
+    alloc: Global,
+    station: &mut St,
+    cells: &mut [St::C],
+    slot: u32,
+) -> Result<Scan, RebuildFault>
+    requires size { IsSlotSize slot }
+    requires wide { All (λ (c : CellState). c.width ≡ slot) (map St.C.state cells.old) }
+    requires few { length cells.old ≤ 1048576 }
+    ensures scanned { IfOk result (λ scan. IsTrue St.C.tells
+        → IsScan slot (map (λ (c : CellState). c.now) (map St.C.state cells.old)) scan) }
+    ensures cells { map St.C.state cells.new ≡ map St.C.state cells.old }
+    ensures faults { St.faults station.old ≤ St.faults station.new }
+    ensures failed { IsErrOf result RebuildFault.Failed
+        → Rose (St.faults station.old) (St.faults station.new) }
+{
+    let mut slots = read_slots(alloc, station, cells, slot)?;
+    let found = entries_of(alloc, &mut slots.table, &mut slots.heads, slot)?;
+    Ok(Scan {
+        found: FoundList::from_vec(found),
+        greatest: slots.greatest,
+    })
+}

@@ -1,0 +1,455 @@
+ghost use Rattle.std.specs.Prelude.{◌≡◌, ◌<◌, ◌≤◌, length, map, All, IfOk, OnOk};
+ghost use Rattle.rock_disk.specs.Cell.{CellState};
+ghost use Rattle.rock_disk.specs.File.{NoneAway};
+ghost use Rattle.rock_disk.specs.Memory.{cell_state, volume_files, volume_made, volume_ended};
+ghost use Rattle.rebuild_model.specs.Image.{IsFile};
+
+use super::*;
+use crate::entries::entries_of;
+use crate::read::read_slots;
+use rebuild_model::{FileImage, Images, complete_at, rebuilt_of};
+use rock_disk::{MemCell, MemStation, MemVolume, Opened, Volume};
+use rock_io::{Memory, Octets};
+use std::alloc::{AllocError, Global};
+use std::test::Fail;
+
+/// The image of a slot.
+type Image = [u8; 512];
+
+/// The MD5 of a byte 1 and `http://a/b`, by the program md5sum.
+const KEY_B: [u8; 16] = [
+    0x1a, 0x68, 0xc1, 0x0d, 0x6c, 0x8b, 0x32, 0x66, 0x57, 0xc7, 0x75, 0xf5, 0x3c, 0x86, 0x6d, 0xd1,
+];
+
+/// The same of `http://a/c`.
+const KEY_C: [u8; 16] = [
+    0x48, 0x77, 0xc9, 0x34, 0x8b, 0x6d, 0x72, 0x99, 0xe2, 0x13, 0x89, 0x6f, 0x83, 0x9c, 0x80, 0xb8,
+];
+
+/// The same of `http://a/` and a space.
+const KEY_SPACE: [u8; 16] = [
+    0x8e, 0xa5, 0x19, 0xd7, 0x6c, 0x50, 0x11, 0x88, 0x0f, 0xc2, 0xee, 0xbc, 0xb1, 0xdb, 0xb4, 0x84,
+];
+
+/// Metadata with `http://a/b` and its key.
+const META_B: [u8; 42] = [
+    3, 0x2a, 0, 0, 0, 3, 0x10, 0, 0, 0, 0x1a, 0x68, 0xc1, 0x0d, 0x6c, 0x8b, 0x32, 0x66, 0x57, 0xc7,
+    0x75, 0xf5, 0x3c, 0x86, 0x6d, 0xd1, 4, 0x0b, 0, 0, 0, 0x68, 0x74, 0x74, 0x70, 0x3a, 0x2f, 0x2f,
+    0x61, 0x2f, 0x62, 0,
+];
+
+/// Puts bytes into an image, as far as they fit.
+fn put(image: &mut Image, at: usize, bytes: &[u8]) {
+    for (i, byte) in bytes.iter().enumerate() {
+        if let Some(place) = image.get_mut(at.saturating_add(i)) {
+            *place = *byte;
+        }
+    }
+}
+
+/// A slot of `http://a/b`: entry size, payload size, version, first slot and next slot. Where it names
+/// this number first, metadata stands in front of the payload.
+fn slot_b(number: i32, fields: (u64, u32, u32, i32, i32)) -> Image {
+    let (entry_size, payload_size, version, first_slot, next_slot) = fields;
+    let mut image = [0; 512];
+    put(&mut image, 0, &KEY_B);
+    put(&mut image, 16, &entry_size.to_le_bytes());
+    put(&mut image, 24, &payload_size.to_le_bytes());
+    put(&mut image, 28, &version.to_le_bytes());
+    put(&mut image, 32, &first_slot.to_le_bytes());
+    put(&mut image, 36, &next_slot.to_le_bytes());
+    if first_slot == number {
+        put(&mut image, 40, &META_B);
+    }
+    image
+}
+
+/// The same of `http://a/c`.
+fn slot_c(number: i32, fields: (u64, u32, u32, i32, i32)) -> Image {
+    let mut image = slot_b(number, fields);
+    put(&mut image, 0, &KEY_C);
+    put(&mut image, 50, &KEY_C);
+    put(&mut image, 80, b"c");
+    image
+}
+
+/// The bytes of a file with these slots.
+fn bytes_of(alloc: Global, slots: &[Image]) -> Result<Vec<u8>, AllocError> {
+    let mut bytes = Vec::new(alloc);
+    bytes.resize(16_384, 0)?;
+    for image in slots {
+        bytes.extend_from_slice(image)?;
+    }
+    Ok(bytes)
+}
+
+/// A new file with these slots, opened with a station.
+fn open(
+    alloc: Global,
+    volume: &mut MemVolume,
+    slots: &[Image],
+) -> Result<(MemStation, Vec<MemCell>), Fail>
+    requires home { NoneAway (volume_files volume.old) }
+    requires ended { length (volume_ended volume.old) ≤ volume_made volume.old }
+    ensures wide { IfOk result (λ o. All (λ (c : CellState). c.width ≡ 512) (map cell_state o.1.items)) }
+    ensures few { IfOk result (λ o. length o.1.items ≤ 1048576) }
+    ensures ended { OnOk result (length (volume_ended volume.new) < volume_made volume.new) }
+{
+    volume.put_file("a", &bytes_of(alloc, slots)?)?;
+    let Opened {
+        header: _,
+        cells,
+        bytes: _,
+    } = volume.open_file(alloc, "a", 512)?;
+    let station = volume.station("a")?;
+    Ok((station, cells))
+}
+
+/// What a scan of a file with these slots tells, where the station fails at the listed calls.
+fn scan_of(
+    alloc: Global,
+    slots: &[Image],
+    fail: &[u64],
+) -> Result<Result<Scan, RebuildFault>, Fail> {
+    let mut lists = Vec::new(alloc);
+    lists.push(fail.to_vec(alloc)?)?;
+    let mut volume = MemVolume::new(alloc, Vec::new(alloc), lists);
+    let (mut station, mut cells) = open(alloc, &mut volume, slots)?;
+    let outcome = scan(alloc, &mut station, &mut cells, 512);
+    volume.end_station(station);
+    Ok(outcome)
+}
+
+/// An entry: its first slot, its version, the length of its body, its URL, and its chain.
+type Entry = (u32, u32, u64, &'static [u8], &'static [u32]);
+
+fn tells(found: &Found, entry: Entry) -> bool {
+    let (first, version, length, url, chain) = entry;
+    found.first == first
+        && found.version == version
+        && found.length == length
+        && found.url.as_slice() == url
+        && found.chain.as_slice() == chain
+}
+
+fn tell(found: &[Found], entries: &[Entry]) -> bool {
+    if found.len() != entries.len() {
+        return false;
+    }
+    for (found, entry) in found.iter().zip(entries) {
+        if !tells(found, *entry) {
+            return false;
+        }
+    }
+    true
+}
+
+/// A file of three slots, what is found in it, and the greatest version.
+type Row = (&'static str, [Image; 3], &'static [Entry], u32);
+
+fn rows() -> [Row; 7] {
+    let zeros = [0; 512];
+    let tail = slot_b(0, (473, 1, 4, 2, -1));
+    let front = slot_b(2, (0, 472, 4, 2, 0));
+    [
+        (
+            "a chain that goes back",
+            [tail, zeros, front],
+            &[(2, 4, 431, b"http://a/b", &[2, 0])],
+            4,
+        ),
+        (
+            "another first slot",
+            [slot_b(0, (473, 1, 4, 0, -1)), zeros, front],
+            &[],
+            4,
+        ),
+        (
+            "one byte less than there are",
+            [slot_b(0, (472, 1, 4, 2, -1)), zeros, front],
+            &[],
+            4,
+        ),
+        (
+            "one byte more",
+            [slot_b(0, (474, 1, 4, 2, -1)), zeros, front],
+            &[],
+            4,
+        ),
+        (
+            "a loop, version 0, and a payload past the slot",
+            [
+                slot_b(0, (472, 472, 5, 0, 0)),
+                slot_b(1, (47, 47, 0, 1, -1)),
+                slot_b(2, (473, 473, 9, 2, -1)),
+            ],
+            &[],
+            5,
+        ),
+        (
+            "two entries of one slot",
+            [
+                slot_b(0, (43, 43, 3, 0, -1)),
+                slot_c(1, (43, 43, 5, 1, -1)),
+                zeros,
+            ],
+            &[
+                (0, 3, 1, b"http://a/b", &[0]),
+                (1, 5, 1, b"http://a/c", &[1]),
+            ],
+            5,
+        ),
+        ("no slot was ever written", [zeros, zeros, zeros], &[], 0),
+    ]
+}
+
+/// What a scan of three slots tells.
+fn scanned(alloc: Global, slots: [Image; 3]) -> Result<Scan, Fail> {
+    Ok(scan_of(alloc, &slots, &[])?.ok().ok_or("scanned")?)
+}
+
+#[test]
+fn entries_are_found_in_order(rt: HostRuntime) -> Result<(), Fail> {
+    for (what, slots, entries, greatest) in rows() {
+        let scan = scanned(rt.alloc(), slots)?;
+        assert!(rt; tell(scan.found.as_slice(), entries), "{what}");
+        assert_eq!(rt; scan.greatest, greatest, "{what}");
+    }
+    Ok(())
+}
+
+/// Bytes that stand in a slot from a place on.
+type Patch = (usize, usize, &'static [u8]);
+
+/// Four slots. `http://a/b` of version 7 is in slots 2 and 0, with a body of 430 and 5 bytes, and
+/// `http://a/c` of version 3 in slot 1, with 5 bytes. Slot 3 was never written.
+fn patched(patches: &[Patch]) -> [Image; 4] {
+    let mut slots = [
+        slot_b(0, (477, 5, 7, 2, -1)),
+        slot_c(1, (47, 47, 3, 1, -1)),
+        slot_b(2, (0, 472, 7, 2, 0)),
+        [0; 512],
+    ];
+    for (slot, at, bytes) in patches {
+        if let Some(image) = slots.get_mut(*slot) {
+            put(image, *at, bytes);
+        }
+    }
+    slots
+}
+
+/// What differs from the four slots in other files.
+fn patches() -> [&'static [Patch]; 50] {
+    [
+        &[],
+        // The chain: another version, key or first slot, a slot that comes again, and other ways.
+        &[(0, 28, b"\x08")],
+        &[(0, 0, b"\0")],
+        &[(0, 15, b"\xd0")],
+        &[(0, 32, b"\0")],
+        &[(0, 36, b"\x02\0\0\0")],
+        &[(0, 36, b"\0\0\0\0")],
+        &[(2, 36, b"\x02")],
+        &[(2, 36, b"\x01")],
+        &[(2, 36, b"\x03")],
+        &[(2, 36, b"\x04")],
+        &[(2, 36, b"\xfe\xff\xff\xff")],
+        &[(0, 36, b"\x04\0\0\0")],
+        &[(2, 36, b"\xff\xff\xff\xff")],
+        &[(2, 36, b"\xff\xff\xff\xff"), (2, 16, b"\xd8\x01")],
+        &[(2, 32, b"\0")],
+        &[(2, 32, b"\x04")],
+        &[(2, 32, b"\xff\xff\xff\xff")],
+        &[(1, 36, b"\0\0\0\0")],
+        // Versions and payloads at their limits.
+        &[(1, 28, b"\0")],
+        &[(1, 28, b"\x01")],
+        &[(1, 28, b"\0\0\xff\xff")],
+        &[(1, 28, b"\x01\0\xff\xff")],
+        &[(1, 24, b"\0"), (1, 16, b"\0")],
+        &[(1, 24, b"\xd8\x01"), (1, 16, b"\xd8\x01")],
+        &[(1, 24, b"\xd9\x01"), (1, 16, b"\xd9\x01")],
+        &[(1, 24, b"\x2a"), (1, 16, b"\x2a")],
+        &[(0, 24, b"\0"), (1, 24, b"\0"), (2, 24, b"\0\0")],
+        // A slot that is not full, and the size of the whole.
+        &[(2, 24, b"\xd7"), (0, 16, b"\xdc")],
+        &[(0, 16, b"\xdc")],
+        &[(0, 16, b"\xde")],
+        &[(0, 16, b"\0\0")],
+        &[(2, 16, b"\x63")],
+        &[(1, 16, b"\x2e")],
+        &[(0, 24, b"\xd8\x01"), (0, 16, b"\xb0\x03")],
+        // Metadata.
+        &[(1, 40, b"\x04")],
+        &[(2, 41, b"\xd9\x01")],
+        &[(1, 65, b"\xb9")],
+        &[(1, 0, &KEY_B), (1, 50, &KEY_B)],
+        &[(1, 80, b"d")],
+        &[(1, 0, &KEY_SPACE), (1, 50, &KEY_SPACE), (1, 80, b" ")],
+        &[(1, 81, b"!")],
+        // Slots 1 and 3 in the chain of slot 2, and in one of their own.
+        &[
+            (1, 0, &KEY_B),
+            (
+                1,
+                16,
+                b"\xd7\x01\0\0\0\0\0\0\xd8\x01\0\0\x07\0\0\0\x02\0\0\0\0\0\0\0",
+            ),
+            (0, 16, b"\xb5\x03"),
+            (2, 36, b"\x01"),
+        ],
+        &[
+            (1, 0, &KEY_B),
+            (
+                1,
+                16,
+                b"\xd7\x01\0\0\0\0\0\0\xd7\x01\0\0\x07\0\0\0\x02\0\0\0\0\0\0\0",
+            ),
+            (0, 16, b"\xb4\x03"),
+            (2, 36, b"\x01"),
+        ],
+        &[
+            (3, 0, &KEY_C),
+            (
+                3,
+                16,
+                b"\xdd\x01\0\0\0\0\0\0\x05\0\0\0\x03\0\0\0\x01\0\0\0\xff\xff\xff\xff",
+            ),
+            (1, 24, b"\xd8\x01"),
+            (1, 36, b"\x03\0\0\0"),
+        ],
+        &[
+            (3, 0, &KEY_B),
+            (3, 28, b"\x63\0\0\0\x03\0\0\0"),
+            (3, 24, b"\x01"),
+        ],
+        // Entries of one key, and of one version.
+        &[(1, 28, b"\x07")],
+        &[(1, 28, b"\x09")],
+        &[(0, 28, b"\x01\0\xff\xff")],
+        &[(2, 28, b"\0")],
+    ]
+}
+
+fn octets(alloc: Global, image: &Image) -> Result<Octets, Memory>
+    ensures { IfOk result (λ bytes. length bytes ≡ 512) }
+{
+    Ok(Octets::from_vec(image.to_vec(alloc)?))
+}
+
+fn image_of(alloc: Global, slots: &[Image; 4]) -> Result<FileImage, Memory>
+    ensures { IfOk result (λ file. IsFile file.slot file.slots × (length file.slots ≡ 4)) }
+{
+    let mut images = Vec::new(alloc);
+    images.push(octets(alloc, &slots[0])?)?;
+    images.push(octets(alloc, &slots[1])?)?;
+    images.push(octets(alloc, &slots[2])?)?;
+    images.push(octets(alloc, &slots[3])?)?;
+    Ok(FileImage {
+        slot: 512,
+        slots: Images::from_vec(images),
+    })
+}
+
+fn is_same(found: &Found, entry: &Found) -> bool {
+    found.first == entry.first
+        && found.version == entry.version
+        && found.key == entry.key
+        && found.url.as_slice() == entry.url.as_slice()
+        && found.length == entry.length
+        && found.chain.as_slice() == entry.chain.as_slice()
+}
+
+#[test]
+fn a_scan_finds_what_the_plain_function_finds(rt: HostRuntime) -> Result<(), Fail> {
+    let alloc = rt.alloc();
+    for patch in patches() {
+        let slots = patched(patch);
+        let scan = scan_of(alloc, &slots, &[])?.ok().ok_or("scanned")?;
+        let file = image_of(alloc, &slots)?;
+        let mut found = scan.found.as_slice().iter();
+        for first in 0..4 {
+            if let Some(entry) = complete_at(alloc, &file, first)? {
+                let next = found.next().ok_or("one is missing")?;
+                assert!(rt; is_same(next, &entry), "{patch:?}");
+            }
+        }
+        assert!(rt; found.next().is_none(), "{patch:?}");
+        assert_eq!(rt;
+            scan.greatest,
+            rebuilt_of(alloc, &file, 1)?.greatest,
+            "{patch:?}"
+        );
+    }
+    Ok(())
+}
+
+/// Files that are made to keep a scan busy.
+#[derive(Clone, Copy, Debug)]
+enum Hostile {
+    /// Each slot begins an entry that goes on in the last slot.
+    OneTail,
+    /// All slots are one chain, whose size is another.
+    LongChain,
+    /// All slots name slot 0 first, and stand in a ring.
+    Ring,
+    /// Each two slots stand in a ring.
+    Pairs,
+}
+
+impl Hostile {
+    /// The first and the next slot that slot s names, among 4,096.
+    fn links(self, s: i32) -> (i32, i32) {
+        match self {
+            Hostile::OneTail if s == 4_095 => (s, -1),
+            Hostile::OneTail => (s, 4_095),
+            Hostile::LongChain if s == 4_095 => (0, -1),
+            Hostile::LongChain => (0, s.saturating_add(1)),
+            Hostile::Ring => (0, s.saturating_add(1) & 4_095),
+            Hostile::Pairs => (s & !1, s ^ 1),
+        }
+    }
+
+    fn slots(self, alloc: Global) -> Result<Vec<Image>, AllocError> {
+        let mut slots = Vec::new(alloc);
+        for s in 0..4_096 {
+            let (first, next) = self.links(s);
+            slots.push(slot_b(s, (0, 472, 1, first, next)))?;
+        }
+        Ok(slots)
+    }
+}
+
+/// How often a scan of a file with these slots looks at one.
+fn looks_of(alloc: Global, slots: &[Image]) -> Result<u64, Fail> {
+    let mut volume = MemVolume::new(alloc, Vec::new(alloc), Vec::new(alloc));
+    let (mut station, mut cells) = open(alloc, &mut volume, slots)?;
+    let read = read_slots(alloc, &mut station, &mut cells, 512);
+    volume.end_station(station);
+    let mut slots = read?;
+    let _found = entries_of(alloc, &mut slots.table, &mut slots.heads, 512)?;
+    Ok(slots.table.looks())
+}
+
+#[test]
+fn work_grows_with_the_slots(rt: HostRuntime) -> Result<(), Fail> {
+    let alloc = rt.alloc();
+    // Each slot twice but the last; each once; each once, and slot 0 again; and of each two slots the
+    // first again.
+    for (hostile, looks) in [
+        (Hostile::OneTail, 8_191),
+        (Hostile::LongChain, 4_096),
+        (Hostile::Ring, 4_097),
+        (Hostile::Pairs, 6_144),
+    ] {
+        let slots = hostile.slots(alloc)?;
+        assert_eq!(rt; looks_of(alloc, &slots)?, looks, "{hostile:?}");
+        // A station that fails at call 4,096, where calls are numbered from 0, is asked no more often.
+        let scan = scan_of(alloc, &slots, &[4_096])?.ok().ok_or("scanned")?;
+        assert!(rt; scan.found.as_slice().is_empty(), "{hostile:?}");
+        assert_eq!(rt; scan.greatest, 1, "{hostile:?}");
+        let failed = scan_of(alloc, &slots, &[4_095])?.err();
+        assert_eq!(rt; failed, Some(RebuildFault::Failed), "{hostile:?}");
+    }
+    Ok(())
+}
