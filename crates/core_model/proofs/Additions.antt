@@ -1,0 +1,31 @@
+-- What is added to the records of a view.
+use Rattle.std.proofs.Common.{◌≡◌, ℕ, List, ◌∷◌, ◌++◌, reverse, Option, Some, None, refl, ap, ◌∙◌}
+use Rattle.std.specs.Option.{option_to_list}
+use Rattle.std.proofs.lemmas.List.{reverse-append}
+use Rattle.core_model.specs.declared.adding.Addition.{Addition}
+use Rattle.core_model.specs.declared.tab.Tab.{Tab}
+use Rattle.core_model.specs.declared.view.Item.{Item}
+use Rattle.core_model.specs.declared.view.Sight.{Sight}
+use Rattle.core_model.specs.declared.view.Trace.{Trace}
+use Rattle.core_model.specs.declared.view.Deed.{Deed}
+use Rattle.core_model.specs.declared.view.View.{View}
+use Rattle.core_model.specs.Adding.{added}
+
+pub reverse-option : {A : Type 0} → (o : Option A) → reverse (option_to_list o) ≡ option_to_list o
+reverse-option None = refl
+reverse-option (Some x) = refl
+
+-- an item that is put at the end of a list comes first in the log
+pub logged : {A : Type 0} → (xs ys zs : List A) (o : Option A) → ys ≡ xs → zs ≡ ys ++ option_to_list o → reverse zs ≡ option_to_list o ++ reverse xs
+logged {A} xs ys zs o same more = ap reverse (more ∙ ap (λ (l : List A). l ++ option_to_list o) same) ∙ reverse-append xs (option_to_list o) ∙ ap (λ (l : List A). l ++ reverse xs) (reverse-option o)
+
+pub fronted : {A : Type 0} → (xs ys zs : List A) (o : Option A) → ys ≡ xs → zs ≡ option_to_list o ++ ys → zs ≡ option_to_list o ++ xs
+fronted {A} xs ys zs o same more = more ∙ ap (λ (l : List A). option_to_list o ++ l) same
+
+pub added_is : {X : Type 0} → (v : View X) (a : Addition) (pass : ℕ) (tabs : List (Tab X)) (h h' : List ℕ) (s s' : List Sight) (t t' : List Item) (m m' : List Trace) (d d' : List Deed) (e e' : List ℕ)
+    → record { pass = pass; tabs = tabs; held = h; seen = s; trail = t; mirror = m; deeds = d; met = e } ≡ v
+    → h' ≡ option_to_list a.drawn ++ h → s' ≡ option_to_list a.sight ++ s → t' ≡ a.item ∷ t → m' ≡ a.trace ∷ m → d' ≡ option_to_list a.deed ++ d → e' ≡ option_to_list a.met ++ e
+    → record { pass = pass; tabs = tabs; held = h'; seen = s'; trail = t'; mirror = m'; deeds = d'; met = e' } ≡ added v a
+added_is {X} v a pass tabs h h' s s' t t' m m' d d' e e' is held seen trail mirror deeds met =
+    (λ j. record { pass = pass; tabs = tabs; held = held j; seen = seen j; trail = trail j; mirror = mirror j; deeds = deeds j; met = met j })
+    ∙ ap (λ (w : View X). added w a) is

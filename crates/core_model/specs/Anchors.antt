@@ -1,0 +1,96 @@
+-- What holds between any two steps of the anchors, and of the tabs at them.
+use Rattle.std.specs.Prelude.{◌≡◌, ◌⊎◌, ℕ, ◌*◌, ◌<◌, ◌≤◌, [], length, slice_index, true, cond, ◌==◌, ◌&&◌, sum_by}
+use mathlib.Core.Option.{some}
+use lib.ListN.{get_elem?}
+use Rattle.lock_word.specs.Words.{readers_of, epoch_of, version_of, mode_of, stage_of, doom_of, IsWord, is_written, is_left_over, version_limit}
+use Rattle.core_model.specs.declared.tab.Tab.{Tab}
+use Rattle.core_model.specs.declared.tab.Tab.TheVariants.{Free, Retreating, Reading, Writing, Last, Freeing}
+use Rattle.core_model.specs.declared.view.View.{View}
+use Rattle.core_model.specs.Layout.{Setting, turns_end, word_count}
+use Rattle.core_model.specs.State.{State, word}
+use Rattle.core_model.specs.Steps.{note_of}
+use Rattle.core_model.specs.Trails.{seen_at, last_find}
+use Rattle.core_model.specs.Tabs.{inner, counts, writes, frees, count}
+
+abbrev pub opening_epoch : {X : Type 0} → Setting X → ℕ → ℕ
+opening_epoch k a = epoch_of (slice_index k.words a)
+
+abbrev pub opening_counter : {X : Type 0} → Setting X → ℕ
+opening_counter k = slice_index k.words (turns_end k)
+
+-- A store opens with each anchor EMPTY or CLOSED, undoomed and without readers, and with a counter that no version is above.
+pub record IsSetting {X : Type 0} (k : Setting X) : Type 0 where
+  pub few : k.passes ≤ 32
+  pub words : length k.words ≡ word_count k
+  pub limited : opening_counter k ≤ version_limit
+  pub unread : (a : ℕ) → a < k.anchors → readers_of (slice_index k.words a) ≡ 0
+  pub mode : (a : ℕ) → a < k.anchors → mode_of (opening_epoch k a) < 16
+  pub undoomed : (a : ℕ) → a < k.anchors → doom_of (opening_epoch k a) ≡ 0
+  pub stage : (a : ℕ) → a < k.anchors → (stage_of (opening_epoch k a) ≡ 0) ⊎ (stage_of (opening_epoch k a) ≡ 3)
+  pub version : (a : ℕ) → a < k.anchors → version_of (opening_epoch k a) ≤ opening_counter k
+
+abbrev pub tabs_in : {X : Type 0} → View X → ℕ
+tabs_in v = length v.tabs
+
+-- The state has the shape of the table: nine tabs for each pass, no view of a note has more than what was seen, and each
+-- anchor's word is a word.
+pub record Shaped {X : Type 0} (k : Setting X) (s : State X) : Type 0 where
+  pub words : length s.words ≡ word_count k
+  pub places : length s.places ≡ k.slots
+  pub chains : length s.chains ≡ k.anchors
+  pub tabs : sum_by tabs_in s.views ≡ 9 * k.passes
+  pub notes : (i : ℕ) (v : View X) → get_elem? s.views i ≡ some v → v.tabs ≡ [] → v ≡ note_of v
+  pub anchors : (a : ℕ) → a < k.anchors → IsWord (word s a)
+
+-- The readers of an anchor are the tabs that read or retreat there.
+abbrev pub ReadersCounted : {X : Type 0} → Setting X → State X → Type 0
+ReadersCounted k s = (a : ℕ) → a < k.anchors → readers_of (word s a) ≡ sum_by (count (counts a)) s.views
+
+-- 1 where an epoch is at this stage, TAKEN or APPENDING, with this version
+abbrev pub written_at : ℕ → ℕ → ℕ → ℕ
+written_at e version stage = cond (is_written e && (version_of e == version) && (stage_of e == stage)) 1 0
+
+-- At TAKEN and APPENDING one tab writes, with the word's version, and knows the stage; at other stages none does.
+abbrev pub OneWriter : {X : Type 0} → Setting X → State X → Type 0
+OneWriter k s = (a version stage : ℕ) → a < k.anchors →
+    written_at (epoch_of (word s a)) version stage ≡ sum_by (count (writes a version stage)) s.views
+
+-- 1 where an epoch is at FREEING
+abbrev pub freed_at : ℕ → ℕ
+freed_at e = cond (stage_of e == 5) 1 0
+
+-- At FREEING one inner tab frees, and at other stages none does.
+abbrev pub OneFreer : {X : Type 0} → Setting X → State X → Type 0
+OneFreer k s = (a : ℕ) → a < k.anchors → freed_at (epoch_of (word s a)) ≡ sum_by (count (frees a)) s.views
+
+-- The epoch at an anchor is of this version, and the entry may be read or was given up.
+pub record IsReadAt {X : Type 0} (s : State X) (a version : ℕ) : Type 0 where
+  pub version_is : version_of (epoch_of (word s a)) ≡ version
+  pub from : 2 ≤ stage_of (epoch_of (word s a))
+  pub to : stage_of (epoch_of (word s a)) ≤ 4
+
+-- A tab is at an anchor of the table. One that reads does so with the version that stands there, one that writes is below the
+-- inner tab, and the inner tab alone frees. The pass has seen the version that its tab reads or writes.
+abbrev pub TabStands : {X : Type 0} → Setting X → State X → View X → ℕ → Tab X → Type 0
+TabStands k s v t Free = Unit {0}
+TabStands k s v t (Retreating a) = a < k.anchors
+TabStands k s v t (Reading r) = (r.anchor < k.anchors) × IsReadAt s r.anchor r.version × (r.version ≤ version_of (seen_at r.anchor v.seen))
+TabStands k s v t (Writing w) = (w.anchor < k.anchors) × (t < inner) × (w.version ≤ version_of (seen_at w.anchor v.seen))
+TabStands k s v t (Last a) = a < k.anchors
+TabStands k s v t (Freeing f) = (f.anchor < k.anchors) × (t ≡ inner)
+
+abbrev pub TabsStand : {X : Type 0} → Setting X → State X → Type 0
+TabsStand {X} k s = (i : ℕ) (v : View X) → get_elem? s.views i ≡ some v → (t : ℕ) (tab : Tab X) → get_elem? v.tabs t ≡ some tab → TabStands k s v t tab
+
+-- A tab is last at the anchor, and its pass found this word there last.
+pub record IsLastAt {X : Type 0} (s : State X) (a n : ℕ) : Type 0 where
+  pub i : ℕ
+  pub view : View X
+  pub at : get_elem? s.views i ≡ some view
+  pub t : ℕ
+  pub last : get_elem? view.tabs t ≡ some (Last a)
+  pub find : last_find a view.trail ≡ n
+
+-- An entry that is to be freed and that nobody uses has a tab that is last there.
+abbrev pub LastUsers : {X : Type 0} → Setting X → State X → Type 0
+LastUsers k s = (a : ℕ) → a < k.anchors → is_left_over (word s a) ≡ true → IsLastAt s a (word s a)

@@ -1,0 +1,127 @@
+-- What holds between any two steps of cells and their turns, of published contents, and of the names of entries. No law speaks of
+-- these parts yet.
+use Rattle.std.specs.Prelude.{◌≡◌, ◌≢◌, ◌⊎◌, ℕ, ◌<◌, ◌≤◌, [], ◌∷◌, length, slice_index, slice_index_or, Some, None, Contains, true, false, cond, ◌==◌, sum_by}
+use mathlib.Core.Option.{some}
+use lib.ListN.{get_elem?}
+use Rattle.lock_word.specs.Words.{epoch_of, version_of, stage_of}
+use Rattle.link_word.specs.declared.link.Link.TheVariants.{NotWritten}
+use Rattle.core_model.specs.declared.moves.Side.{Side}
+use Rattle.core_model.specs.declared.moves.Side.TheVariants.{Key0, Key1, Offer, Start}
+use Rattle.core_model.specs.declared.tab.Cell.{Cell}
+use Rattle.core_model.specs.declared.tab.Piece.{Piece}
+use Rattle.core_model.specs.declared.tab.Hold.{Hold}
+use Rattle.core_model.specs.declared.tab.Turn.{Turn as TurnOf}
+use Rattle.core_model.specs.declared.tab.Turn.TheVariants.{NoTurn, Has}
+use Rattle.core_model.specs.declared.tab.Writer.{Writer}
+use Rattle.core_model.specs.declared.tab.Tab.{Tab}
+use Rattle.core_model.specs.declared.tab.Tab.TheVariants.{Reading, Writing}
+use Rattle.core_model.specs.declared.view.Sight.TheVariants.{Named}
+use Rattle.core_model.specs.declared.view.Place.TheVariants.{Beside, Turn}
+use Rattle.core_model.specs.declared.view.View.{View}
+use Rattle.core_model.specs.Layout.{Setting, index}
+use Rattle.core_model.specs.Chains.{rest_of, link_at}
+use Rattle.core_model.specs.State.{State, word, chain_of}
+use Rattle.core_model.specs.Tabs.{turn_of, count}
+use Rattle.core_model.specs.TabsAfter.{first_of, piece_of}
+use Rattle.core_model.specs.Allowed.{IsNext}
+use Rattle.core_model.specs.Anchors.{opening_counter}
+
+abbrev pub side_word : {X : Type 0} → Setting X → State X → Side → ℕ → ℕ
+side_word k s side a = slice_index s.words (index k (Beside side a))
+
+abbrev pub turn_word : {X : Type 0} → Setting X → State X → ℕ → ℕ
+turn_word k s slot = slice_index s.words (index k (Turn slot))
+
+-- 1 where the tab holds the turn at this slot
+abbrev pub turn_at : {X : Type 0} → ℕ → TurnOf X → ℕ
+turn_at slot NoTurn = 0
+turn_at slot (Has h) = cond (h.slot == slot) 1 0
+
+abbrev pub holds_at : {X : Type 0} → ℕ → Tab X → ℕ
+holds_at slot tab = turn_at slot (turn_of tab)
+
+-- A turn that is taken is held by one tab, which has the cell; where it is free the cell is home.
+pub record OneHolder {X : Type 0} (k : Setting X) (s : State X) : Type 0 where
+  pub turns : (slot : ℕ) → slot < k.slots → turn_word k s slot ≡ sum_by (count (holds_at slot)) s.views
+  pub few : (slot : ℕ) → slot < k.slots → turn_word k s slot ≤ 1
+  pub home : (slot : ℕ) → slot < k.slots → turn_word k s slot ≡ 0 → (c : Cell X) × (slice_index_or s.places slot None ≡ Some c)
+  pub away : (slot : ℕ) → slot < k.slots → turn_word k s slot ≡ 1 → slice_index_or s.places slot None ≡ None
+
+-- A writing tab holds the turn of its first reserved slot, a reading one that of the slot at its place, whose link it found
+-- written. So a cell is never out at a writer while a tab reads its slot.
+abbrev pub TurnFits : {X : Type 0} → Setting X → State X → Tab X → Type 0
+TurnFits {X} k s (Reading r) = (h : Hold X) → r.turn ≡ Has h → (h.slot < k.slots) × IsNext s h.slot r × (r.found ≢ NotWritten)
+TurnFits {X} k s (Writing w) = (h : Hold X) → w.turn ≡ Has h → (h.slot < k.slots) × (w.reserved ≡ h.slot ∷ rest_of w.reserved)
+TurnFits k s _ = Unit {0}
+
+-- the cell of a slot, at home or at the tab that holds its turn
+pub record IsHeldCell {X : Type 0} (s : State X) (slot : ℕ) (c : Cell X) : Type 0 where
+  pub i : ℕ
+  pub view : View X
+  pub at : get_elem? s.views i ≡ some view
+  pub t : ℕ
+  pub tab : Tab X
+  pub there : get_elem? view.tabs t ≡ some tab
+  pub hold : Hold X
+  pub turn : turn_of tab ≡ Has hold
+  pub slot_is : hold.slot ≡ slot
+  pub cell_is : hold.cell ≡ c
+
+abbrev pub IsCell : {X : Type 0} → State X → ℕ → Cell X → Type 0
+IsCell s slot c = (slice_index_or s.places slot None ≡ Some c) ⊎ IsHeldCell s slot c
+
+-- The content that the slot at a place of an anchor's chain has: the opening's, where the entry stood then, and else the image of
+-- its piece of what was offered.
+abbrev pub IsContent : {X : Type 0} → Setting X → State X → ℕ → ℕ → ℕ → X → Type 0
+IsContent k s a place slot x =
+    ((side_word k s Offer a < k.slots) × (get_elem? k.contents slot ≡ some x))
+    ⊎ ((k.slots ≤ side_word k s Offer a) × (x ≡ k.image record {
+      offer = side_word k s Offer a;
+      version = version_of (epoch_of (word s a));
+      place = place;
+      first = first_of (chain_of s a).slots;
+      next = link_at (chain_of s a) place;
+    }))
+
+pub record ContentsStand {X : Type 0} (k : Setting X) (s : State X) : Type 0 where
+  pub published : (a place slot : ℕ) (c : Cell X) → a < k.anchors → get_elem? (chain_of s a).slots place ≡ some slot → IsCell s slot c → IsContent k s a place slot c.now
+  pub possible : (slot : ℕ) (c : Cell X) → IsCell s slot c → Contains c.possible c.now
+
+-- What a writing tab stored beside its anchor stands there. Before it chooses a link it stored key and offer, and an offer is no
+-- slot's number. The piece that it chose is the one for its first reserved slot, and where it is written that cell has its image.
+pub record WriterNames {X : Type 0} (k : Setting X) (s : State X) (w : Writer X) : Type 0 where
+  pub key0 : (x : ℕ) → w.key0 ≡ Some x → side_word k s Key0 w.anchor ≡ x
+  pub key1 : (x : ℕ) → w.key1 ≡ Some x → side_word k s Key1 w.anchor ≡ x
+  pub offer : (x : ℕ) → w.offer ≡ Some x → (side_word k s Offer w.anchor ≡ x) × (k.slots ≤ x)
+  pub start : (x : ℕ) → w.start ≡ Some x → side_word k s Start w.anchor ≡ x
+  pub named : (w.chosen ≢ None) ⊎ (w.published ≢ []) → (w.key0 ≢ None) × (w.key1 ≢ None) × (w.offer ≢ None)
+  pub chosen : (p : Piece) → w.is_ending ≡ false → w.chosen ≡ Some p → p ≡ piece_of w
+  pub home : (p : Piece) → w.is_written ≡ true → w.chosen ≡ Some p → (c : Cell X) × (slice_index_or s.places (first_of w.reserved) None ≡ Some c) × (c.now ≡ k.image p)
+  pub held : (p : Piece) (h : Hold X) → w.turn ≡ Has h → h.is_written ≡ true → w.chosen ≡ Some p → h.cell.now ≡ k.image p
+
+abbrev pub TabNames : {X : Type 0} → Setting X → State X → Tab X → Type 0
+TabNames k s (Writing w) = WriterNames k s w
+TabNames k s _ = Unit {0}
+
+-- a view has this number as a part of the name of the entry
+pub record IsNamed {X : Type 0} (s : State X) (a version : ℕ) (side : Side) (value : ℕ) : Type 0 where
+  pub i : ℕ
+  pub view : View X
+  pub at : get_elem? s.views i ≡ some view
+  pub seen : Contains view.seen (Named a version side value)
+
+-- Beside an anchor that has a published slot stand the key and the offer of its version: the opening's, or those that its writer
+-- has seen. The offer of a new entry is no slot's number.
+pub record NamesStand {X : Type 0} (k : Setting X) (s : State X) : Type 0 where
+  pub old : (a : ℕ) (side : Side) → a < k.anchors → side ≢ Start → stage_of (epoch_of (word s a)) ≤ 4 → 0 < length (chain_of s a).slots
+      → version_of (epoch_of (word s a)) ≤ opening_counter k → side_word k s side a ≡ slice_index k.words (index k (Beside side a))
+  pub new : (a : ℕ) (side : Side) → a < k.anchors → side ≢ Start → stage_of (epoch_of (word s a)) ≤ 4 → 0 < length (chain_of s a).slots
+      → opening_counter k < version_of (epoch_of (word s a)) → IsNamed s a (version_of (epoch_of (word s a))) side (side_word k s side a)
+  pub offers : (a : ℕ) → a < k.anchors → 0 < length (chain_of s a).slots → opening_counter k < version_of (epoch_of (word s a)) → k.slots ≤ side_word k s Offer a
+
+pub record CellsSound {X : Type 0} (k : Setting X) (s : State X) : Type 0 where
+  pub holders : OneHolder k s
+  pub turns : (i : ℕ) (v : View X) → get_elem? s.views i ≡ some v → (t : ℕ) (tab : Tab X) → get_elem? v.tabs t ≡ some tab → TurnFits k s tab
+  pub contents : ContentsStand k s
+  pub writers : (i : ℕ) (v : View X) → get_elem? s.views i ≡ some v → (t : ℕ) (tab : Tab X) → get_elem? v.tabs t ≡ some tab → TabNames k s tab
+  pub names : NamesStand k s

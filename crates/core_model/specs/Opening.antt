@@ -1,0 +1,67 @@
+-- The state of a store that was just opened: what a rebuild of its file kept stands, and all else is free.
+use Rattle.std.specs.Prelude.{◌≡◌, ℕ, zero, suc, ◌+◌, ◌<◌, ◌≤◌, List, [], ◌∷◌, length, replicate, take, drop, slice_index, slice_index_or, Some, None, Contains}
+use mathlib.Core.Option.{some}
+use lib.ListN.{get_elem?}
+use Rattle.std.specs.Int.{w64, from_le_bytes}
+use Rattle.store_key.specs.Anchor.{anchor_of}
+use Rattle.lock_word.specs.Words.{word_at}
+use Rattle.link_word.specs.declared.link.Link.TheVariants.{Last}
+use Rattle.rebuild_model.specs.declared.found.Found.{Found}
+use Rattle.rebuild_model.specs.declared.rebuilt.Rebuilt.{Rebuilt}
+use Rattle.core_model.specs.declared.moves.Side.{Side}
+use Rattle.core_model.specs.declared.moves.Side.TheVariants.{Key0, Key1, Offer, Start}
+use Rattle.core_model.specs.declared.tab.Tab.TheVariants.{Free}
+use Rattle.core_model.specs.declared.view.Sight.{Sight}
+use Rattle.core_model.specs.declared.view.Sight.TheVariants.{Stood}
+use Rattle.core_model.specs.declared.view.Place.TheVariants.{Beside, Owner, Link, Turn}
+use Rattle.core_model.specs.declared.view.View.{View}
+use Rattle.core_model.specs.Layout.{Setting, index, turns_end, word_count}
+use Rattle.core_model.specs.Chains.{no_chain, Spells}
+use Rattle.core_model.specs.State.{State, word, chain_of}
+use Rattle.core_model.specs.Anchors.{opening_epoch}
+
+-- a new pass has seen the epoch of each anchor at the opening, here of those below n
+abbrev pub sights_below : {X : Type 0} → Setting X → ℕ → List Sight
+sights_below k zero = []
+sights_below k (suc n) = Stood n (opening_epoch k n) ∷ sights_below k n
+
+abbrev pub new_view : {X : Type 0} → Setting X → ℕ → View X
+new_view k pass = record { pass = pass; tabs = replicate 9 Free; held = []; seen = sights_below k k.anchors; trail = []; mirror = []; deeds = []; met = [] }
+
+-- the views of so many passes, from this number on
+abbrev pub new_views : {X : Type 0} → Setting X → ℕ → ℕ → List (View X)
+new_views k from zero = []
+new_views k from (suc n) = new_view k from ∷ new_views k (from + 1) n
+
+-- an anchor that has an entry
+pub record IsKeptAt {X : Type 0} (k : Setting X) (s : State X) (a : ℕ) (f : Found) : Type 0 where
+  pub word_is : word s a ≡ word_at f.version 3
+  pub key0 : slice_index s.words (index k (Beside Key0 a)) ≡ from_le_bytes w64 (take 8 f.key)
+  pub key1 : slice_index s.words (index k (Beside Key1 a)) ≡ from_le_bytes w64 (drop 8 f.key)
+  pub offer : slice_index s.words (index k (Beside Offer a)) ≡ f.first
+  pub start : slice_index s.words (index k (Beside Start a)) ≡ f.first + 1
+  pub chain : chain_of s a ≡ record { slots = f.chain; end = Last; tail = [] }
+  pub links : Spells (λ slot. slice_index s.words (index k (Link slot))) f.chain Last
+
+-- one that has none
+pub record IsEmptyAt {X : Type 0} (k : Setting X) (s : State X) (a : ℕ) : Type 0 where
+  pub word_is : word s a ≡ 0
+  pub sides : (side : Side) → slice_index s.words (index k (Beside side a)) ≡ 0
+  pub chain : chain_of s a ≡ no_chain
+
+-- The state s is that of a store that was opened with what a rebuild kept, r.
+pub record IsOpened {X : Type 0} (k : Setting X) (r : Rebuilt) (s : State X) : Type 0 where
+  pub few : k.passes ≤ 32
+  pub words : s.words ≡ k.words
+  pub count : length s.words ≡ word_count k
+  pub contents : length k.contents ≡ k.slots
+  pub kept : (f : Found) → Contains r.winners f → IsKeptAt k s (anchor_of f.key k.anchors) f
+  pub empty : (a : ℕ) → a < k.anchors → ((f : Found) → Contains r.winners f → anchor_of f.key k.anchors ≡ a → ⊥) → IsEmptyAt k s a
+  pub owners : (slot : ℕ) → slot < k.slots → slice_index s.words (index k (Owner slot)) ≡ slice_index r.owner slot
+  pub free : (slot : ℕ) → slot < k.slots → slice_index r.owner slot ≡ 0 → slice_index s.words (index k (Link slot)) ≡ 0
+  pub turns : (slot : ℕ) → slot < k.slots → slice_index s.words (index k (Turn slot)) ≡ 0
+  pub counter : slice_index s.words (turns_end k) ≡ r.greatest
+  pub chains : length s.chains ≡ k.anchors
+  pub places : length s.places ≡ k.slots
+  pub cells : (slot : ℕ) → slot < k.slots → (x : X) → get_elem? k.contents slot ≡ some x → slice_index_or s.places slot None ≡ Some record { now = x; possible = x ∷ [] }
+  pub views : s.views ≡ new_views k 0 k.passes

@@ -1,0 +1,87 @@
+-- What the steps of a pass tell. The newest item of a trail stands first.
+use Rattle.std.specs.Prelude.{ℕ, max, ◌+◌, List, [], ◌∷◌, Bool, true, false, cond, ◌==◌, ◌||◌, ◌&&◌, nat_le}
+use Rattle.lock_word.specs.Words.{version_of, version_limit}
+use Rattle.core_model.specs.declared.view.Kind.{Kind}
+use Rattle.core_model.specs.declared.view.Kind.TheVariants.{Looked, Entered, Left, Counted, Drew, Changed, Raised, Doomed}
+use Rattle.core_model.specs.declared.view.Item.{Item}
+use Rattle.core_model.specs.declared.view.Sight.{Sight}
+use Rattle.core_model.specs.declared.view.Sight.TheVariants.{Stood, Named, Published}
+
+-- an item of this kind tells the word of an anchor
+abbrev pub tells_word : Kind → Bool
+tells_word Looked = true
+tells_word Entered = true
+tells_word Left = true
+tells_word Changed = true
+tells_word Raised = true
+tells_word Doomed = true
+tells_word _ = false
+
+abbrev pub is_find : ℕ → Item → Bool
+is_find a x = tells_word x.kind && (x.at == a)
+
+abbrev pub has_find : ℕ → List Item → Bool
+has_find a [] = false
+has_find a (x ∷ xs) = is_find a x || has_find a xs
+
+-- the word that the pass last found or left at the anchor a, or 0
+abbrev pub last_find : ℕ → List Item → ℕ
+last_find a [] = 0
+last_find a (x ∷ xs) = cond (is_find a x) x.found (last_find a xs)
+
+abbrev pub is_draw : Kind → Bool
+is_draw Drew = true
+is_draw _ = false
+
+-- the item draws this version
+abbrev pub draws_version : ℕ → Item → Bool
+draws_version version x = is_draw x.kind && (x.found + 1 == version)
+
+-- the version was drawn after the last find at the anchor a
+abbrev pub drew_since : ℕ → ℕ → List Item → Bool
+drew_since version a [] = false
+drew_since version a (x ∷ xs) = cond (is_find a x) false (draws_version version x || drew_since version a xs)
+
+-- how often this version was drawn, and how often one was
+abbrev pub drawn : ℕ → List Item → ℕ
+drawn version [] = 0
+drawn version (x ∷ xs) = cond (draws_version version x) 1 0 + drawn version xs
+
+abbrev pub draws : List Item → ℕ
+draws [] = 0
+draws (x ∷ xs) = cond (is_draw x.kind) 1 0 + draws xs
+
+-- how often there was none left to draw
+abbrev pub draws_in_vain : List Item → ℕ
+draws_in_vain [] = 0
+draws_in_vain (x ∷ xs) = cond (is_draw x.kind && nat_le version_limit x.found) 1 0 + draws_in_vain xs
+
+-- the counter as the pass last looked at it, or the limit where it never did, or drew since
+abbrev pub counted_in : Kind → ℕ → ℕ → ℕ
+counted_in Counted found before = found
+counted_in Drew found before = version_limit
+counted_in _ found before = before
+
+abbrev pub last_count : List Item → ℕ
+last_count [] = version_limit
+last_count (x ∷ xs) = counted_in x.kind x.found (last_count xs)
+
+-- where and of which version a sight is
+abbrev pub sight_anchor : Sight → ℕ
+sight_anchor (Stood a epoch) = a
+sight_anchor (Named a version side value) = a
+sight_anchor (Published a version count) = a
+
+abbrev pub sight_version : Sight → ℕ
+sight_version (Stood a epoch) = version_of epoch
+sight_version (Named a version side value) = version
+sight_version (Published a version count) = version
+
+abbrev pub stood : ℕ → Sight → ℕ
+stood a (Stood b epoch) = cond (b == a) epoch 0
+stood a _ = 0
+
+-- the greatest epoch that was seen at the anchor a
+abbrev pub seen_at : ℕ → List Sight → ℕ
+seen_at a [] = 0
+seen_at a (x ∷ xs) = max (stood a x) (seen_at a xs)

@@ -1,0 +1,68 @@
+// What a step adds to the records of its pass, all of it or nothing.
+ghost use Rattle.std.specs.Prelude.{◌≡◌, ◌<◌, ◌∷◌, [], ◌++◌, vec_len, vec_capacity, OnOk, OnErr};
+ghost use Rattle.std.specs.Option.{option_to_list};
+ghost use Rattle.core_model.specs.Adding.{added};
+
+use crate::view::{Deed, Item, Sight, Trace, View};
+use std::alloc::AllocError;
+
+/// What a step adds to what its pass knows and holds, and to its records.
+#[derive(Clone, Copy, Debug, PartialEq, Eq)]
+pub struct Addition {
+    pub item: Item,
+    pub trace: Trace,
+    pub sight: Option<Sight>,
+    pub deed: Option<Deed>,
+    /// An anchor at which the pass met others.
+    pub met: Option<u32>,
+    /// A version that it drew.
+    pub drawn: Option<u32>,
+}
+
+/// Adds an item for which there is room, if there is one.
+fn append<T: Drop>(items: &mut Vec<T>, item: Option<T>)
+    requires { vec_len items.old < vec_capacity items.old }
+    ensures { items.new.items ≡ items.old.items ++ option_to_list item }
+{
+    let Some(item) = item else {
+        return;
+    };
+    let Ok(()) = items.push(item) else {
+        unreachable!()
+    };
+}
+
+/// Puts an item for which there is room in front, if there is one.
+fn prepend<T: Drop>(items: &mut Vec<T>, item: Option<T>)
+    requires { vec_len items.old < vec_capacity items.old }
+    ensures { items.new.items ≡ option_to_list item ++ items.old.items }
+{
+    let Some(item) = item else {
+        return;
+    };
+    let Ok(()) = items.insert(0, item) else {
+        unreachable!()
+    };
+}
+
+impl<X> View<X> {
+    /// Adds it all, or nothing where memory runs out.
+    pub fn add(&mut self, addition: Addition) -> Result<(), AllocError>
+        ensures ok { OnOk result (self.new ≡ added self.old addition) }
+        ensures err { OnErr result (self.new ≡ self.old) }
+    {
+        self.held.items.reserve(1)?;
+        self.seen.items.reserve(1)?;
+        self.trail.items.reserve(1)?;
+        self.mirror.items.reserve(1)?;
+        self.deeds.items.reserve(1)?;
+        self.met.items.reserve(1)?;
+        prepend(&mut self.held.items, addition.drawn);
+        append(&mut self.seen.items, addition.sight);
+        append(&mut self.trail.items, Some(addition.item));
+        append(&mut self.mirror.items, Some(addition.trace));
+        append(&mut self.deeds.items, addition.deed);
+        append(&mut self.met.items, addition.met);
+        Ok(())
+    }
+}

@@ -1,0 +1,55 @@
+//! The laws of the core. These functions do nothing: the proof of a function that calls one may use
+//! what it ensures.
+ghost use Rattle.std.specs.Prelude.{◌≡◌, ℕ, ◌<◌, true};
+ghost use mathlib.Core.Option.{some};
+ghost use lib.ListN.{get_elem?};
+ghost use Rattle.core_model.specs.declared.moves.Move.{Move};
+ghost use Rattle.core_model.specs.declared.tab.Writer.{Writer};
+ghost use Rattle.core_model.specs.declared.tab.Freer.{Freer};
+ghost use Rattle.core_model.specs.declared.tab.Tab.{Tab};
+ghost use Rattle.core_model.specs.declared.view.View.{View};
+ghost use Rattle.rebuild_model.specs.declared.rebuilt.Rebuilt.{Rebuilt};
+ghost use Rattle.core_model.specs.Layout.{Setting};
+ghost use Rattle.lock_word.specs.Words.{epoch_of, stage_of, is_written};
+ghost use Rattle.core_model.specs.State.{State, word};
+ghost use Rattle.core_model.specs.Allowed.{MayStep};
+ghost use Rattle.core_model.specs.Steps.{number_found, after};
+ghost use Rattle.core_model.specs.Known.{Known};
+ghost use Rattle.core_model.specs.Matching.{IsTab, MatchesWriter, HasWriter, HasFreer};
+ghost use Rattle.core_model.specs.Anchors.{IsSetting};
+ghost use Rattle.core_model.specs.Opening.{IsOpened};
+ghost use Rattle.core_model.specs.Sound.{AnchorsSound};
+
+/// A step that is allowed in a sound state leaves a sound state.
+pub fn steps_keep_sound<X>()
+    ensures { (k : Setting X) (s : State X) (i : ℕ) (v : View X) (m : Move)
+        → AnchorsSound k s → get_elem? s.views i ≡ some v → MayStep k s v m → AnchorsSound k (after k s i v m) }
+{}
+
+/// A store that was just opened is sound.
+pub fn openings_are_sound<X>()
+    ensures { (k : Setting X) (r : Rebuilt) (s : State X)
+        → IsSetting k → IsOpened k r s → AnchorsSound k s }
+{}
+
+/// What a sound state tells the pass that makes a step of the number that it finds.
+pub fn finds_are_known<X>()
+    ensures { (k : Setting X) (s : State X) (i : ℕ) (v : View X) (m : Move)
+        → AnchorsSound k s → get_elem? s.views i ≡ some v → MayStep k s v m → Known v m (number_found k s v m) }
+{}
+
+/// What tabs know of the words of their anchors is so, and each word at TAKEN, APPENDING or FREEING has
+/// its one tab.
+pub fn tabs_match_words<X>()
+    ensures writer { (k : Setting X) (s : State X) (i t : ℕ) (w : Writer X)
+        → AnchorsSound k s → IsTab s i t (Tab.Writing w) → MatchesWriter s w }
+    ensures written { (k : Setting X) (s : State X) (a : ℕ)
+        → AnchorsSound k s → a < k.anchors → is_written (epoch_of (word s a)) ≡ true → HasWriter s a }
+    ensures one_writer { (k : Setting X) (s : State X) (i j t u : ℕ) (w x : Writer X)
+        → AnchorsSound k s → IsTab s i t (Tab.Writing w) → IsTab s j u (Tab.Writing x) → w.anchor ≡ x.anchor
+        → (i ≡ j) × (t ≡ u) }
+    ensures freer { (k : Setting X) (s : State X) (i t : ℕ) (f : Freer)
+        → AnchorsSound k s → IsTab s i t (Tab.Freeing f) → f.is_freeing ≡ true → stage_of (epoch_of (word s f.anchor)) ≡ 5 }
+    ensures freed { (k : Setting X) (s : State X) (a : ℕ)
+        → AnchorsSound k s → a < k.anchors → stage_of (epoch_of (word s a)) ≡ 5 → HasFreer s a }
+{}

@@ -1,0 +1,8 @@
+pub mod Parts
+pub mod Readers
+pub mod Raising
+pub mod Dooming
+pub mod Taking
+pub mod Testing
+pub mod Ordering
+mod Bits
