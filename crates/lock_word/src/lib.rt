@@ -8,6 +8,7 @@
 mod cause;
 mod epoch;
 mod laws;
+mod number;
 mod stage;
 mod word;
 
@@ -18,8 +19,9 @@ pub use laws::{
     numbers_of_words, parts_of_words, readers_are_counted, stages_are_raised, tests_agree,
     tests_exclude_each_other, tests_tell_parts, words_are_doomed, words_are_put,
 };
+pub use number::{epoch_bits, is_idle_number, is_left_over_number, is_vacant_number};
 pub use stage::Stage;
-pub use word::{Word, is_idle, is_vacant, pack, unpack};
+pub use word::{Word, is_idle, is_left_over, is_vacant, pack, unpack};
 
 #[cfg(test)]
 mod tests;

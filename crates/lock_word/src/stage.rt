@@ -22,14 +22,15 @@ impl Stage {
     ghost use Rattle.std.specs.Prelude.{◌≡◌, ◌≤◌, ◌↔◌, IsNone, IfSome};
     ghost use Rattle.lock_word.specs.Words.{stage_number};
 
-    pub(crate) fn number(self) -> u64
+    /// Its number in the shared table.
+    pub fn number(self) -> u64
         ensures { result ≡ stage_number self }
     {
         self as u64
     }
 
     /// The stage of this number, if there is one.
-    pub(crate) fn from_number(number: u64) -> Option<Stage>
+    pub fn from_number(number: u64) -> Option<Stage>
         ensures none { IsNone result ↔ (7 ≤ number) }
         ensures stage { IfSome result (λ stage. stage_number stage ≡ number) }
     {

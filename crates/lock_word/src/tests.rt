@@ -68,26 +68,34 @@ fn epochs_rise_by_version_then_doom_then_stage(rt: HostRuntime) {
 
 #[test]
 fn what_words_allow(rt: HostRuntime) {
-    // stage, doom, readers, and whether that is readable, idle and vacant
+    // stage, doom, readers, and whether that is readable, idle, vacant and left over
     let rows = [
-        (Stage::Empty, false, 0, false, false, true),
-        (Stage::Empty, false, 1, false, false, false),
-        (Stage::Taken, false, 0, false, false, false),
-        (Stage::Appending, false, 0, true, false, false),
-        (Stage::Appending, true, 0, false, false, false),
-        (Stage::Closed, false, 0, true, true, false),
-        (Stage::Closed, false, 1, true, false, false),
-        (Stage::Closed, true, 0, false, false, false),
-        (Stage::Halted, false, 0, false, false, false),
-        (Stage::Freeing, false, 0, false, false, false),
-        (Stage::Gone, true, 0, false, false, true),
-        (Stage::Gone, false, 1, false, false, false),
+        (Stage::Empty, false, 0, false, false, true, false),
+        (Stage::Empty, false, 1, false, false, false, false),
+        (Stage::Taken, false, 0, false, false, false, false),
+        (Stage::Appending, false, 0, true, false, false, false),
+        (Stage::Appending, true, 0, false, false, false, false),
+        (Stage::Closed, false, 0, true, true, false, false),
+        (Stage::Closed, false, 1, true, false, false, false),
+        (Stage::Closed, true, 0, false, false, false, true),
+        (Stage::Closed, true, 1, false, false, false, false),
+        (Stage::Halted, false, 0, false, false, false, true),
+        (Stage::Halted, true, 0, false, false, false, true),
+        (Stage::Halted, false, 1, false, false, false, false),
+        (Stage::Freeing, false, 0, false, false, false, false),
+        (Stage::Gone, true, 0, false, false, true, false),
+        (Stage::Gone, false, 1, false, false, false, false),
     ];
-    for (stage, doom, readers, may_read, idle, vacant) in rows {
+    for (stage, doom, readers, may_read, idle, vacant, left_over) in rows {
         let word = word(1, doom, stage, readers);
+        let bits = pack(&word);
         assert_eq!(rt; readable(&word.epoch), may_read, "{word:?}");
         assert_eq!(rt; is_idle(&word), idle, "{word:?}");
+        assert_eq!(rt; is_idle_number(bits), idle, "{word:?}");
         assert_eq!(rt; is_vacant(&word), vacant, "{word:?}");
+        assert_eq!(rt; is_vacant_number(bits), vacant, "{word:?}");
+        assert_eq!(rt; is_left_over(&word), left_over, "{word:?}");
+        assert_eq!(rt; is_left_over_number(bits), left_over, "{word:?}");
     }
 }
 

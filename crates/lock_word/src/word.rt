@@ -1,7 +1,7 @@
 ghost use Rattle.std.specs.Prelude.{◌≡◌, ◌↔◌, ◌⊎◌, IsTrue, IsSome, IsNone, IfSome, Some};
 ghost use Rattle.lock_word.specs.declared.word.Word.{Word};
-ghost use Rattle.lock_word.specs.Words.{IsInRange, IsWord, HasReservedBit, word_number, epoch_of, stage_of, is_idle, is_vacant};
-ghost use Rattle.lock_word.specs.Life.{IsIdle, IsVacant};
+ghost use Rattle.lock_word.specs.Words.{IsInRange, IsWord, HasReservedBit, word_number, epoch_of, stage_of, is_idle, is_vacant, is_left_over};
+ghost use Rattle.lock_word.specs.Life.{IsIdle, IsVacant, IsLeftOver};
 
 use crate::epoch::Epoch;
 use crate::stage::Stage;
@@ -82,4 +82,13 @@ pub fn is_vacant(word: &Word) -> bool
 {
     let Word { epoch, readers } = *word;
     matches!(epoch.stage, Stage::Empty | Stage::Gone) && readers == 0
+}
+
+/// Whether nobody uses an entry that is doomed and whole, or was given up: its last user frees it.
+pub fn is_left_over(word: &Word) -> bool
+    ensures left_over { IsTrue result ↔ IsLeftOver word.now }
+    ensures number { result ≡ is_left_over (word_number word.now) }
+{
+    let Word { epoch, readers } = *word;
+    (epoch.stage == Stage::Halted || (epoch.stage == Stage::Closed && epoch.doom)) && readers == 0
 }
