@@ -1,0 +1,11 @@
+pub mod Lists
+pub mod Changing
+pub mod Making
+pub mod Facts
+pub mod Anchored
+pub mod Readers
+pub mod Raisers
+pub mod Takers
+pub mod Applying
+pub mod Opening
+pub mod Blank

@@ -1,0 +1,38 @@
+-- A change that does to each part of a state what a step does makes the step.
+use Rattle.std.proofs.Common.{◌≡◌, ℕ, List, [], ◌∷◌, ◌++◌, set, refl, ap, ◌∙◌, sym}
+use Rattle.std.specs.Prelude.{slice_set}
+use Rattle.std.specs.Option.{option_to_list}
+use Rattle.core_model.specs.declared.chain.Chain.{Chain}
+use Rattle.core_model.specs.declared.moves.Move.{Move}
+use Rattle.core_model.specs.declared.view.Deed.{Deed}
+use Rattle.core_model.specs.declared.view.Sight.{Sight}
+use Rattle.core_model.specs.declared.view.Trace.{Trace}
+use Rattle.core_model.specs.declared.view.View.{View}
+use Rattle.core_model.specs.Records.{held_after, sights_of, item_of, deeds_of, met_of}
+use Rattle.core_model.specs.Steps.{number_found, finding, traces_of, view_after, words_after, places_after, views_after, chains_after, after}
+use Rattle.core_model.specs.TabsAfter.{tabs_after}
+use Rattle.core_model.specs.Where.{place, left_by}
+use Rattle.core_state.specs.declared.content.Content.{Content}
+use Rattle.core_state.specs.declared.change.Change.{Change}
+use Rattle.core_state.specs.declared.table.Opening.{Opening}
+use Rattle.core_state.specs.declared.table.Table.{Table}
+use Rattle.core_state.specs.Inside.{setting, state}
+use Rattle.core_state.specs.Changed.{changed, view_changed}
+use Rattle.core_state.specs.Planned.{Matches}
+
+module _ (o : Opening) (t : Table) (v : View Content) (m : Move) (c : Change) (same : Matches o t v m c) where
+  view_is : view_changed v c.addition c.used c.tabs ≡ view_after v m (finding (setting o) (state t) v m)
+  view_is = λ j. record {
+    pass = v.pass;
+    tabs = same.tabs j;
+    held = same.held j;
+    seen = same.seen j ++ v.seen;
+    trail = same.trail j ∷ v.trail;
+    mirror = same.mirror j ++ v.mirror;
+    deeds = same.deeds j ++ v.deeds;
+    met = same.met j ++ v.met;
+  }
+
+  pub made : (i : ℕ) → changed (state t) i v c ≡ after (setting o) (state t) i v m
+  made i = let views = ap (λ (w : View Content). slice_set t.views.items i w) view_is ∙ same.views i in
+      λ j. record { words = same.words j; places = same.places j; views = views j; chains = same.chains j }

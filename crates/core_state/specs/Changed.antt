@@ -1,0 +1,96 @@
+-- What a change makes of a state.
+use Rattle.std.specs.Prelude.{ℕ, ◌≡◌, ◌<◌, List, [], ◌∷◌, ◌++◌, length, slice_set, slice_index_or, Option, Some, None}
+use Rattle.std.specs.Option.{option_to_list}
+use mathlib.Core.Option.{some}
+use lib.ListN.{get_elem?}
+use Rattle.lock_word.specs.declared.stage.Stage.TheVariants.{Appending}
+use Rattle.core_model.specs.declared.adding.Addition.{Addition}
+use Rattle.core_model.specs.declared.chain.Chain.{Chain}
+use Rattle.core_model.specs.declared.tab.Tab.{Tab}
+use Rattle.core_model.specs.declared.view.Kind.{Kind}
+use Rattle.core_model.specs.declared.view.Place.TheVariants.{Anchor, Counter}
+use Rattle.core_model.specs.declared.view.Sight.TheVariants.{Stood}
+use Rattle.core_model.specs.declared.view.View.{View}
+use Rattle.core_model.specs.Adding.{added}
+use Rattle.core_model.specs.Chains.{no_chain}
+use Rattle.core_model.specs.State.{State}
+use Rattle.core_model.specs.Tabs.{tab_at, OfWriter}
+use Rattle.core_model.specs.TabsAfter.{with_tab, raised_tab, without}
+use Rattle.core_state.specs.declared.content.Content.{Content}
+use Rattle.core_state.specs.declared.change.TabsChange.{TabsChange}
+use Rattle.core_state.specs.declared.change.TabsChange.TheVariants as tabs
+use Rattle.core_state.specs.declared.change.ChainChange.{ChainChange}
+use Rattle.core_state.specs.declared.change.ChainChange.TheVariants as chains
+use Rattle.core_state.specs.declared.change.Change.{Change}
+
+-- what a step on an anchor's word adds, that tells and leaves these numbers and sees this epoch
+abbrev pub anchor_addition : Kind → ℕ → ℕ → ℕ → ℕ → Addition
+anchor_addition kind anchor told left seen = record {
+  item = record { kind = kind; at = anchor; found = told };
+  trace = record { place = Anchor anchor; word = left };
+  sight = Some (Stood anchor seen);
+  deed = None;
+  met = None;
+  drawn = None;
+}
+
+-- what one on the counter of versions adds
+abbrev pub counter_addition : Kind → ℕ → ℕ → Addition
+counter_addition kind found left = record {
+  item = record { kind = kind; at = 0; found = found };
+  trace = record { place = Counter; word = left };
+  sight = None;
+  deed = None;
+  met = None;
+  drawn = None;
+}
+
+abbrev pub tabs_changed : View Content → TabsChange → List (Tab Content)
+tabs_changed v tabs.Same = v.tabs
+tabs_changed v (tabs.Put t tab) = with_tab v t tab
+tabs_changed v (tabs.PutTwo t tab u other) = slice_set (with_tab v t tab) u other
+tabs_changed v (tabs.Appends t) = with_tab v t (raised_tab (tab_at v t) Appending 0)
+
+abbrev pub without_used : Option ℕ → List ℕ → List ℕ
+without_used None held = held
+without_used (Some version) held = without version held
+
+abbrev pub view_changed : View Content → Addition → Option ℕ → TabsChange → View Content
+view_changed v a used change = record (added v a) {
+  tabs = tabs_changed v change;
+  held = without_used used (option_to_list a.drawn ++ v.held);
+}
+
+abbrev pub chains_changed : List Chain → ChainChange → List Chain
+chains_changed cs chains.Same = cs
+chains_changed cs (chains.Put a c) = slice_set cs a c
+chains_changed cs (chains.Ended a tail) = slice_set cs a record (slice_index_or cs a no_chain) { tail = tail }
+
+-- the state where the pass i, whose view is v, made this change
+abbrev pub changed : State Content → ℕ → View Content → Change → State Content
+changed s i v c = record {
+  words = slice_set s.words c.index c.left;
+  places = s.places;
+  views = slice_set s.views i (view_changed v c.addition c.used c.tabs);
+  chains = chains_changed s.chains c.chain;
+}
+
+-- What is changed is there.
+
+abbrev pub FitsTabs : View Content → TabsChange → Type 0
+FitsTabs v tabs.Same = Unit {0}
+FitsTabs v (tabs.Put t tab) = t < length v.tabs
+FitsTabs v (tabs.PutTwo t tab u other) = (t < length v.tabs) × (u < length v.tabs)
+FitsTabs v (tabs.Appends t) = (t < length v.tabs) × OfWriter (λ w. Unit {0}) (tab_at v t)
+
+abbrev pub FitsChain : ℕ → ChainChange → Type 0
+FitsChain many chains.Same = Unit {0}
+FitsChain many (chains.Put a c) = a < many
+FitsChain many (chains.Ended a tail) = a < many
+
+pub record Fits (s : State Content) (i : ℕ) (c : Change) : Type 0 where
+  pub view : View Content
+  pub at : get_elem? s.views i ≡ some view
+  pub index : c.index < length s.words
+  pub tabs : FitsTabs view c.tabs
+  pub chain : FitsChain (length s.chains) c.chain

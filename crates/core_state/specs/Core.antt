@@ -1,0 +1,20 @@
+-- What a core shows of what it keeps, and what it always is.
+use Rattle.core_model.specs.Sound.{AnchorsSound}
+use Rattle.core_state.specs.declared.machine.Core.TheInside.{Inside}
+use Rattle.core_state.specs.Machine.{Machine}
+use Rattle.core_state.specs.Inside.{setting, state}
+
+abbrev pub machine_of : Inside → Machine
+machine_of c = record {
+  anchors = c.opening.anchors;
+  slots = c.opening.slots;
+  passes = c.opening.passes;
+  opening = c.opening.words.items;
+  words = c.table.words.items;
+  places = c.table.places.items;
+  views = c.table.views.items;
+  chains = c.table.chains.items;
+}
+
+abbrev pub IsSound : Inside → Type 0
+IsSound c = AnchorsSound (setting c.opening) (state c.table)

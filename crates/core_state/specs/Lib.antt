@@ -1,0 +1,11 @@
+pub mod Machine
+pub mod Inside
+pub mod Core
+pub mod Changed
+pub mod Decoded
+pub mod Planned
+pub mod Raising
+pub mod Taking
+pub mod Applied
+pub mod New
+pub mod Blank

@@ -1,0 +1,28 @@
+//! The pure core of a store as it runs: a state, and its atomic steps one at a time.
+//!
+//! `core_model` defines what a state is, which step is allowed where and what it does. [`Core::apply`] does
+//! exactly that, and what is in a [`Core`] is always sound. A step is first worked out as a change, for which
+//! all memory is taken, and then made: so a refusal leaves the core as it was.
+#![tactic(auto)]
+
+mod act;
+mod change;
+mod content;
+mod decode;
+mod machine;
+mod opened;
+mod plan;
+mod recall;
+mod refusal;
+mod step;
+mod table;
+mod tabs;
+mod unused;
+
+pub use act::{Act, Picks, Step, StepFault};
+pub use content::Content;
+pub use machine::Core;
+pub use unused::is_unused;
+
+#[cfg(test)]
+mod tests;

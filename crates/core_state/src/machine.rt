@@ -1,0 +1,121 @@
+// The pure core.
+ghost use Rattle.std.specs.Prelude.{◌≡◌, ◌<◌, ◌≤◌, ℕ, List, All, length, IfOk, OnErr, IsErrOf};
+ghost use Rattle.db_layout.specs.Layout.{IsSlotSize};
+ghost use Rattle.rebuild_model.specs.Image.{IsSaneAt};
+ghost use Rattle.core_state.specs.New.{IsNew};
+ghost use Rattle.core_model.specs.Sound.{AnchorsSound};
+ghost use Rattle.core_state.specs.declared.act.StepFault.TheVariants as fault;
+ghost use Rattle.core_state.specs.Applied.{Applies, MayApply, IsSameStore, kind_of};
+ghost use Rattle.core_state.specs.Machine.{setting_of, state_of};
+
+use crate::act::{Step, StepFault};
+use crate::content::Content;
+use crate::decode::decode;
+use crate::opened::{blank_opening, blank_table};
+use crate::refusal::Refusal;
+use crate::step::make;
+use crate::table::{Opening, Table};
+use core_model::View;
+use rebuild_model::FileImage;
+use rock_io::Memory;
+use std::alloc::Global;
+use std::marker::Model;
+
+/// The pure core of a store: the words of its table, its cells at home, what its passes hold and know,
+/// and the chains. What is in it is always sound.
+#[derive(Drop)]
+pub struct Core {
+    opening: Opening,
+    table: Table,
+    alloc: Global,
+}
+
+impl Model for Core {
+    ghost use Rattle.core_state.specs.Machine.{Machine};
+
+    ghost Value = { Machine };
+
+    ghost use Rattle.core_state.specs.Core.{machine_of, IsSound};
+
+    ghost view = { machine_of };
+
+    ghost invariant = { IsSound };
+}
+
+impl Core {
+    /// The core of a store that was just opened over a file with these slots: what a rebuild of the file
+    /// keeps stands, and all else is free. For now no slot may be sane, so that there is nothing to keep.
+    ///
+    /// # Errors
+    ///
+    /// Want of memory alone.
+    pub fn new(alloc: Global, image: &FileImage, anchors: u32, passes: u32) -> Result<Core, Memory>
+        requires size { IsSlotSize image.now.slot }
+        requires wide { All (λ (slot : List ℕ). length slot ≡ image.now.slot) image.now.slots }
+        requires some_slot { 0 < length image.now.slots }
+        requires few_slots { length image.now.slots ≤ 1048576 }
+        requires some_anchor { 0 < anchors }
+        requires few_anchors { anchors ≤ length image.now.slots }
+        requires some_pass { 0 < passes }
+        requires few_passes { passes ≤ 32 }
+        requires unused { (slot : ℕ) → IsSaneAt image.now.slot image.now.slots slot → ⊥ }
+        ensures new { IfOk result (λ core. IsNew image.now (length image.now.slots) anchors passes core) }
+        ensures sound { IfOk result (λ core. AnchorsSound (setting_of core) (state_of core)) }
+    {
+        let slots = image.slots.as_slice().len() as u32;
+        let opening = blank_opening(alloc, anchors, slots, passes)?;
+        let table = blank_table(alloc, &opening)?;
+        Ok(Core {
+            opening,
+            table,
+            alloc,
+        })
+    }
+
+    /// The words of the table: those of the anchors, four beside each, the owner, link and turn of
+    /// each slot, and the counter of versions.
+    pub fn words(&self) -> &[u64]
+        ensures { result.now ≡ self.now.words }
+    {
+        &self.table.words
+    }
+
+    /// The views: those of the passes in order, and then those of notes.
+    pub fn views(&self) -> &[View<Content>]
+        ensures { result.now ≡ self.now.views }
+    {
+        &self.table.views
+    }
+
+    /// Makes a step, and answers the number that it finds: that of the word that it is on as it was,
+    /// or, where the step leaves, raises or dooms an anchor, as it is then. A step that stores answers 0.
+    ///
+    /// # Errors
+    ///
+    /// [`StepFault::NotAllowed`] exactly where the step is not allowed, with its kind, and
+    /// [`StepFault::Memory`] where memory runs out. The core is then as it was.
+    pub fn apply(&mut self, step: &Step) -> Result<u64, StepFault>
+        ensures made { IfOk result (λ number. Applies self.old step.now number self.new) }
+        ensures refused { (kind : ℕ) → IsErrOf result (fault.NotAllowed kind) → MayApply self.old step.now → ⊥ }
+        ensures kind { (kind : ℕ) → IsErrOf result (fault.NotAllowed kind) → kind ≡ kind_of step.now }
+        ensures unchanged { OnErr result (self.new ≡ self.old) }
+        ensures same_store { IsSameStore self.old self.new }
+        ensures sound { AnchorsSound (setting_of self.new) (state_of self.new) }
+    {
+        let alloc = self.alloc;
+        let act = match step {
+            Step::Act(act) => *act,
+            Step::Crash { .. } => return Err(StepFault::NotAllowed { kind: 23 }),
+            Step::Rebuild => return Err(StepFault::NotAllowed { kind: 24 }),
+        };
+        let kind = act.kind;
+        let Some(step) = decode(&act) else {
+            return Err(StepFault::NotAllowed { kind });
+        };
+        match make(alloc, &self.opening, &mut self.table, act.pass, step) {
+            Ok(number) => Ok(number),
+            Err(Refusal::NotAllowed) => Err(StepFault::NotAllowed { kind }),
+            Err(Refusal::Memory) => Err(StepFault::Memory),
+        }
+    }
+}

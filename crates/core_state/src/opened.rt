@@ -1,0 +1,133 @@
+// The parts of a core that was just opened.
+ghost use Rattle.std.specs.Prelude.{◌≡◌, ◌<◌, length, replicate, IfOk};
+ghost use Rattle.core_model.specs.Chains.{no_chain};
+ghost use Rattle.core_model.specs.Layout.{word_count};
+ghost use Rattle.core_model.specs.Opening.{sights_below, new_view, new_views};
+ghost use Rattle.core_state.specs.Blank.{IsBlank, blank_state};
+ghost use Rattle.core_state.specs.Inside.{setting, state};
+ghost use Rattle.core_state.specs.New.{opened_places};
+
+use crate::content::Content;
+use crate::table::{Opening, Table};
+use crate::tabs::no_chain;
+use core_model::{Cell, Chain, Log, Row, Sight, Tab, View};
+use lock_word::epoch_bits;
+use std::alloc::{AllocError, Global};
+
+/// The cells of a file that was just opened.
+pub(crate) fn opened_places(
+    alloc: Global,
+    slots: u32,
+) -> Result<Vec<Option<Cell<Content>>>, AllocError>
+    ensures { IfOk result (λ places. places.items ≡ opened_places slots) }
+{
+    let mut places = Vec::with_capacity(alloc, slots as usize)?;
+    for slot in 0..slots {
+        let now = Content::Opened { slot };
+        let possible = Row::from_vec(vec![in alloc; now]?);
+        places.push(Some(Cell { now, possible }))?;
+    }
+    Ok(places)
+}
+
+/// No entry at any anchor.
+pub(crate) fn no_chains(alloc: Global, anchors: u32) -> Result<Vec<Chain>, AllocError>
+    ensures { IfOk result (λ chains. chains.items ≡ replicate anchors no_chain) }
+{
+    let mut chains = Vec::with_capacity(alloc, anchors as usize)?;
+    for _anchor in 0..anchors {
+        chains.push(no_chain(alloc))?;
+    }
+    Ok(chains)
+}
+
+/// What a new pass has seen: each anchor as it stood at the opening.
+fn first_sights(alloc: Global, opening: &Opening) -> Result<Log<Sight>, AllocError>
+    requires { length opening.now.words.items ≡ word_count (setting opening.now) }
+    ensures { IfOk result (λ seen. seen ≡ sights_below (setting opening.now) opening.now.anchors) }
+{
+    let mut seen = Vec::with_capacity(alloc, opening.anchors as usize)?;
+    for anchor in 0..opening.anchors {
+        let epoch = epoch_bits(opening.words[anchor as usize]);
+        seen.push(Sight::Stood { anchor, epoch })?;
+    }
+    Ok(Log::from_vec(seen))
+}
+
+fn free_tabs(alloc: Global) -> Result<Row<Tab<Content>>, AllocError>
+    ensures { IfOk result (λ tabs. tabs ≡ replicate 9 Tab.Free) }
+{
+    let tabs = vec![in alloc;
+        Tab::Free,
+        Tab::Free,
+        Tab::Free,
+        Tab::Free,
+        Tab::Free,
+        Tab::Free,
+        Tab::Free,
+        Tab::Free,
+        Tab::Free,
+    ]?;
+    Ok(Row::from_vec(tabs))
+}
+
+fn new_view(alloc: Global, opening: &Opening, pass: u32) -> Result<View<Content>, AllocError>
+    requires { length opening.now.words.items ≡ word_count (setting opening.now) }
+    ensures { IfOk result (λ view. view ≡ new_view (setting opening.now) pass) }
+{
+    let tabs = free_tabs(alloc)?;
+    let seen = first_sights(alloc, opening)?;
+    Ok(View {
+        pass,
+        tabs,
+        held: Row::from_vec(Vec::new(alloc)),
+        seen,
+        trail: Log::from_vec(Vec::new(alloc)),
+        mirror: Log::from_vec(Vec::new(alloc)),
+        deeds: Log::from_vec(Vec::new(alloc)),
+        met: Log::from_vec(Vec::new(alloc)),
+    })
+}
+
+/// The views of new passes.
+pub(crate) fn new_views(alloc: Global, opening: &Opening) -> Result<Vec<View<Content>>, AllocError>
+    requires { length opening.now.words.items ≡ word_count (setting opening.now) }
+    ensures { IfOk result (λ views. views.items ≡ new_views (setting opening.now) 0 opening.now.passes) }
+{
+    let mut views = Vec::with_capacity(alloc, opening.passes as usize)?;
+    for pass in 0..opening.passes {
+        views.push(new_view(alloc, opening, pass)?)?;
+    }
+    Ok(views)
+}
+
+/// The setting of a store that is opened over a file with no entries: all words are 0.
+pub(crate) fn blank_opening(
+    alloc: Global,
+    anchors: u32,
+    slots: u32,
+    passes: u32,
+) -> Result<Opening, AllocError>
+    ensures { IfOk result (λ opening. IsBlank opening anchors slots passes) }
+{
+    let count = 5 * anchors as usize + 3 * slots as usize + 1;
+    Ok(Opening {
+        anchors,
+        slots,
+        passes,
+        words: vec![in alloc; 0; count]?,
+    })
+}
+
+/// The state of a store that was opened with this setting, in which no entry stands.
+pub(crate) fn blank_table(alloc: Global, opening: &Opening) -> Result<Table, AllocError>
+    requires { length opening.now.words.items ≡ word_count (setting opening.now) }
+    ensures { IfOk result (λ table. state table ≡ blank_state opening.now) }
+{
+    Ok(Table {
+        words: opening.words.to_vec(alloc)?,
+        places: opened_places(alloc, opening.slots)?,
+        views: new_views(alloc, opening)?,
+        chains: no_chains(alloc, opening.anchors)?,
+    })
+}

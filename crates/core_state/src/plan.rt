@@ -1,0 +1,49 @@
+// Steps are worked out: whether they are allowed, and all that they do. Nothing is changed yet.
+ghost use Rattle.std.specs.Prelude.{◌≡◌, IfOk, IsErrOf};
+ghost use Rattle.core_model.specs.Allowed.{IsReady, Allowed};
+ghost use Rattle.core_state.specs.Inside.{setting, state};
+ghost use Rattle.core_state.specs.Planned.{IsScene, Plans};
+
+mod counter;
+mod readers;
+mod takers;
+mod writers;
+
+use crate::change::Change;
+use crate::content::Content;
+use crate::refusal::Refusal;
+use crate::table::{Opening, Table};
+use core_model::{Move, View};
+use std::alloc::Global;
+
+/// Works out a step of the pass that has this view.
+pub(crate) fn plan(
+    alloc: Global,
+    opening: &Opening,
+    table: &Table,
+    view: &View<Content>,
+    step: Move,
+) -> Result<Change, Refusal>
+    requires { IsScene opening.now table.now view.now }
+    ensures ready { IfOk result (λ _. IsReady step) }
+    ensures planned { IfOk result (λ change. Plans opening.now table.now view.now step change) }
+    ensures refused { IsErrOf result Refusal.NotAllowed
+        → IsReady step → Allowed (setting opening.now) (state table.now) view.now step → ⊥ }
+{
+    match step {
+        Move::Look { anchor } => readers::look(opening, table, view, anchor),
+        Move::Enter { tab, anchor } => readers::enter(opening, table, view, tab, anchor),
+        Move::Leave { tab } => readers::leave(opening, table, view, tab),
+        Move::Count => counter::count(opening, table, view),
+        Move::Draw => counter::draw(opening, table, view),
+        Move::Take {
+            tab,
+            anchor,
+            version,
+        } => takers::take(alloc, opening, table, view, tab, anchor, version),
+        Move::Evict { tab, anchor } => takers::evict(alloc, opening, table, view, tab, anchor),
+        Move::Raise { tab, to } => writers::raise(alloc, opening, table, view, tab, to),
+        Move::Doom { tab } => readers::doom(opening, table, view, tab),
+        _ => Err(Refusal::NotAllowed),
+    }
+}

@@ -1,0 +1,104 @@
+// What a core is made of.
+ghost use Rattle.std.specs.Prelude.{◌≡◌, ◌<◌, ◌≤◌, length, slice_index, slice_get, MatchOption, Some};
+ghost use Rattle.lock_word.specs.Words.{IsInRange, word_number};
+ghost use Rattle.core_model.specs.Anchors.{Shaped};
+ghost use Rattle.core_model.specs.Layout.{index};
+
+use crate::content::Content;
+use core_model::{Cell, Chain, Place, Side, View};
+use lock_word::{Word, unpack};
+
+/// How many tabs a pass has. A note has none.
+const TABS: usize = 9;
+
+/// What does not change while a store is open.
+#[derive(Drop)]
+pub(crate) struct Opening {
+    pub anchors: u32,
+    pub slots: u32,
+    pub passes: u32,
+    /// The words at the opening.
+    pub words: Vec<u64>,
+}
+
+/// What steps change.
+#[derive(Drop)]
+pub(crate) struct Table {
+    pub words: Vec<u64>,
+    /// The cell of each slot, where it is home.
+    pub places: Vec<Option<Cell<Content>>>,
+    pub views: Vec<View<Content>>,
+    pub chains: Vec<Chain>,
+}
+
+impl Opening {
+    ghost use Rattle.core_state.specs.Inside.{setting};
+
+    /// Where a word stands in the table.
+    pub fn index_of(&self, place: Place) -> usize
+        ensures { result ≡ index (setting self.now) place }
+    {
+        let anchors = self.anchors as usize;
+        let slots = self.slots as usize;
+        match place {
+            Place::Anchor(anchor) => anchor as usize,
+            Place::Beside(Side::Key0, anchor) => anchors + anchor as usize,
+            Place::Beside(Side::Key1, anchor) => 2 * anchors + anchor as usize,
+            Place::Beside(Side::Offer, anchor) => 3 * anchors + anchor as usize,
+            Place::Beside(Side::Start, anchor) => 4 * anchors + anchor as usize,
+            Place::Owner(slot) => 5 * anchors + slot as usize,
+            Place::Link(slot) => 5 * anchors + slots + slot as usize,
+            Place::Turn(slot) => 5 * anchors + 2 * slots + slot as usize,
+            Place::Counter => 5 * anchors + 3 * slots,
+        }
+    }
+}
+
+impl Table {
+    ghost use lib.ListN.{get_elem?};
+    ghost use mathlib.Core.Option.{some};
+    ghost use Rattle.core_model.specs.declared.view.View.{View as ViewOf};
+    ghost use Rattle.core_model.specs.Allowed.{IsPass};
+    ghost use Rattle.core_state.specs.declared.content.Content.{Content as ContentOf};
+    ghost use Rattle.core_state.specs.Inside.{setting, state};
+
+    /// The word of an anchor.
+    pub fn word_at(&self, opening: &Opening, anchor: u32) -> Word
+        requires shaped { Shaped (setting opening.now) (state self.now) }
+        requires anchor { anchor < opening.now.anchors }
+        ensures number { word_number result ≡ slice_index self.now.words.items anchor }
+        ensures in_range { IsInRange result }
+    {
+        let _ = opening;
+        let Some(word) = unpack(self.words[anchor as usize]) else {
+            unreachable!()
+        };
+        word
+    }
+
+    /// The view of this number, if there is one.
+    fn view(&self, number: u32) -> Option<&View<Content>>
+        ensures { MatchOption result
+            (length self.now.views.items ≤ number)
+            (λ view. slice_get self.now.views.items number ≡ Some view.now) }
+    {
+        self.views.get(number as usize)
+    }
+
+    /// The view of the pass of this number, if there is one.
+    pub fn pass(&self, number: u32) -> Option<&View<Content>>
+        ensures { MatchOption result
+            ((view : ViewOf ContentOf) → get_elem? self.now.views.items number ≡ some view → IsPass view → ⊥)
+            (λ view. (get_elem? self.now.views.items number ≡ some view.now) × IsPass view.now) }
+    {
+        match self.view(number) {
+            None => None,
+            Some(view) => {
+                if view.tabs.as_slice().len() != TABS {
+                    return None;
+                }
+                Some(view)
+            }
+        }
+    }
+}
