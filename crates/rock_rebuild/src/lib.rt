@@ -6,17 +6,22 @@
 //! whatever the slots hold.
 #![tactic(auto)]
 
+mod best;
 mod chain;
 mod entries;
 mod head;
 mod outcome;
+mod owners;
 mod read;
+mod rebuilding;
 mod scanning;
 mod slots;
 mod table;
+mod winners;
 
 pub use outcome::{RebuildFault, Scan};
 pub use rebuild_model::{Found, FoundList, Rebuilt};
+pub use rebuilding::rebuild;
 pub use scanning::scan;
 
 #[cfg(test)]
