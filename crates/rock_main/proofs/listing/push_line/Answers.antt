@@ -1,6 +1,6 @@
 use Rattle.std.proofs.Common.{◌++◌, ◌∷◌, [], length, ap, ◌∙◌, append_assoc}
 use Rattle.rock_main.specs.Listing.{numbers}
-use Rattle.rock_main.proofs.lines.push_line.Goals as goal
+use Rattle.rock_main.proofs.listing.push_line.Goals as goal
 
 pub returns : goal.returns
 returns c =

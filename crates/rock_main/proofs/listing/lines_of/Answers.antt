@@ -3,7 +3,7 @@ use Rattle.std.proofs.lemmas.List.{append-nil}
 use Rattle.std.specs.List.{flat_map}
 use Rattle.rebuild_model.specs.declared.found.Found.{Found}
 use Rattle.rock_main.specs.Listing.{line_of_found}
-use Rattle.rock_main.proofs.lines.lines_of.Goals as goal
+use Rattle.rock_main.proofs.listing.lines_of.Goals as goal
 
 is_empty : (left : List Found) → length left ≡ 0 → left ≡ []
 is_empty [] none = refl
