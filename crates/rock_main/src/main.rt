@@ -40,7 +40,7 @@ rock: the store of a caching proxy in one database file
 
 A run that does not end well says why in one line on standard error. Exit status:
 0 done, 2 no command line, 3 out of memory, 5 standard output failed, 6 the disk
-failed, 8 no such file or a wrong size.
+failed, 8 no such file, or a wrong size or number.
 ";
 
 /// What `rock --version` prints.

@@ -100,14 +100,8 @@ where
     };
     match command {
         Command::List { target } => {
-            print_report(
-                alloc,
-                volume,
-                out,
-                target.name,
-                target.slot,
-                Report::Listing,
-            )
+            let listing = Report::Listing;
+            print_report(alloc, volume, out, target.name, target.slot, listing)
         }
         Command::Check { target, anchors } => {
             let summary = Report::Summary { anchors };
