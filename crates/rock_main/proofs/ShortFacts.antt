@@ -1,6 +1,6 @@
 -- A file that is too short.
 use Rattle.std.proofs.Common.{◌≡◌, ℕ, ap, ◌∙◌}
-use Rattle.std.specs.Prelude.{Result, IsErrOf, Ok, Err, ◌↔◌}
+use Rattle.std.specs.Prelude.{Result, IsErrOf, Err, ◌↔◌}
 use Rattle.rock_main.specs.declared.read.ReadFault.{ReadFault}
 use Rattle.rock_main.specs.declared.read.ReadFault.TheVariants as read
 use Rattle.rock_main.specs.declared.status.Status.{Status}

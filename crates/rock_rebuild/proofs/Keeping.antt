@@ -4,11 +4,11 @@ use Rattle.std.specs.Prelude.{Option, None, Some, MatchOption, Contains}
 use Rattle.std.proofs.lemmas.List.{length-map, get_or-map, get_or_default}
 use Rattle.store_key.specs.Anchor.{anchor_of}
 use Rattle.rebuild_model.specs.declared.found.Found.{Found}
-use Rattle.rebuild_model.specs.Entry.{Entry, IsComplete, found_of}
+use Rattle.rebuild_model.specs.Entry.{Entry, found_of}
 use Rattle.rebuild_model.specs.Keeping.{HasNoneAt, IsKept}
 use Rattle.rock_rebuild.specs.declared.outcome.Scan.{Scan}
 use Rattle.rock_rebuild.specs.Scan.{IsScan}
-use Rattle.rock_rebuild.specs.Best.{IsBestOf, BestOf, AreBest}
+use Rattle.rock_rebuild.specs.Best.{BestOf, AreBest}
 use Rattle.rock_rebuild.specs.Winners.{AreKept}
 
 -- any entry

@@ -1,4 +1,4 @@
-use Rattle.std.proofs.Common.{map, ap, ◌∙◌}
+use Rattle.std.proofs.Common.{ap, ◌∙◌}
 use Rattle.std.specs.List.{flat_map}
 use Rattle.rock_main.specs.Listing.{line_of_found}
 use Rattle.rock_main.proofs.LineFacts.{lists}

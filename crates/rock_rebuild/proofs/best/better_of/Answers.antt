@@ -1,5 +1,5 @@
 use Rattle.std.specs.Prelude.{Contains}
-use Rattle.std.proofs.Common.{◌≡◌, arith}
+use Rattle.std.proofs.Common.{◌≡◌}
 use Rattle.store_key.specs.Anchor.{anchor_of}
 use Rattle.rebuild_model.specs.declared.found.Found.{Found}
 use Rattle.rock_rebuild.specs.Best.{IsBestOf}

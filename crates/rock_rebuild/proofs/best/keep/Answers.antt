@@ -1,5 +1,4 @@
-use Rattle.std.proofs.Common.{◌∷◌, ◌<◌, length, None, Some, sym, subst, ◌∙◌, ap, arith}
-use Rattle.std.proofs.Math.ListN.{set}
+use Rattle.std.proofs.Common.{◌∷◌, ◌<◌, length, None, Some, sym, subst, ◌∙◌, arith}
 use Rattle.std.proofs.lemmas.List.{get_or_default, set-set}
 use Rattle.rock_rebuild.specs.Best.{BestOf, AreBest}
 use Rattle.rock_rebuild.proofs.Choosing.{one_more}

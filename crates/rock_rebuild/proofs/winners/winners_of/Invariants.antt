@@ -1,4 +1,4 @@
-use Rattle.std.proofs.Common.{◌≡◌, ◌≤◌, ℕ, List, length, get_or, None}
+use Rattle.std.proofs.Common.{◌≡◌, ◌≤◌, ℕ, List, get_or, None}
 use Rattle.rebuild_model.specs.Keeping.{AreWinners}
 use Rattle.rock_rebuild.specs.Winners.{AreKept}
 use Rattle.rock_rebuild.proofs.winners.winners_of.Given as goal
