@@ -1,7 +1,8 @@
 """Prints one line of measures of the file FOLDER/db: measure.py FOLDER PROGRAM MIB SLOT KIND
 
-The two programs run by turns, once to warm the file and then seven times each. The least seconds and the
-greatest peak of memory are told, and the peak for each slot above what the program takes to print its version.
+The plain program, `rock list` and `rock check` with as many anchors as slots run by turns, once to warm the file
+and then seven times each. The least seconds and the greatest peaks of memory are told, and the peaks for each slot
+above what the program takes to print its version.
 """
 import os
 import subprocess
@@ -19,17 +20,21 @@ def measured(*words):
 
 slots = min((os.path.getsize(name) - 16384) // int(slot), 1048576)
 listing = subprocess.run([program, "list", name, slot], capture_output=True, check=True).stdout
-plain, rock = [], []
+plain, rock, check = [], [], []
 for _ in range(8):
     plain.append(measured(f"{folder}/plain_read", name, slot))
     rock.append(measured(program, "list", name, slot))
+    check.append(measured(program, "check", name, slot, str(slots)))
 _, base = measured(program, "--version")
 plain_seconds = min(seconds for seconds, _ in plain[1:])
 seconds = min(seconds for seconds, _ in rock[1:])
 peak = max(peak for _, peak in rock)
+check_seconds = min(seconds for seconds, _ in check[1:])
+check_peak = max(peak for _, peak in check)
 told = listing.count(b"\n")
 print(
     f"{mib:>5} {slot:>6} {kind:<10} {told:>9} {plain_seconds:>9.3f} {seconds:>7.3f}"
     f" {slots * int(slot) / 1e6 / seconds:>8.0f} {seconds / plain_seconds:>7.2f}"
     f" {peak / 1024:>10.1f} {(peak - base) * 1024 / slots:>9.1f}"
+    f" {check_seconds:>7.3f} {check_seconds / seconds:>7.2f} {(check_peak - base) * 1024 / slots:>9.1f}"
 )

@@ -1,5 +1,5 @@
 #!/usr/bin/env bash
-# Times `rock list` on large files, warm, beside a plain program that makes the same reads.
+# Times `rock list` and `rock check` on large files, warm, beside a plain program that makes the same reads.
 #
 #   bench/scan.sh [FOLDER] [MIB ..]
 #
@@ -75,7 +75,7 @@ int main(int count, char **words) {
     return 0;
 }
 END
-printf '%5s %6s %-10s %9s %9s %7s %8s %7s %10s %9s\n' MiB slot file entries plain_s rock_s rock_MB/s ratio peak_MiB bytes/slot
+printf '%5s %6s %-10s %9s %9s %7s %8s %7s %10s %9s %7s %7s %9s\n' MiB slot file entries plain_s list_s list_MB/s ratio peak_MiB bytes/slot check_s to_list bytes/slot
 for mib in "$@"; do
     for slot in 512 4096 16384; do
         for kind in entries one-tail chain ring; do

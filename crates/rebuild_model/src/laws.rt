@@ -1,8 +1,11 @@
 // The laws of the definitions.
-ghost use Rattle.std.specs.Prelude.{◌≡◌, ◌≢◌, ℕ, List, ◌↔◌, negsuc, Contains};
-ghost use Rattle.rebuild_model.specs.Image.{IsSaneAt, header_at};
+ghost use Rattle.std.specs.Prelude.{◌≡◌, ◌≢◌, ◌+◌, ◌<◌, ℕ, List, [], ◌∷◌, ◌++◌, ◌↔◌, negsuc, length, Contains};
+ghost use Rattle.rebuild_model.specs.Image.{IsSaneAt, IsGreatest, header_at};
 ghost use Rattle.rebuild_model.specs.Entry.{Entry, IsChain, IsComplete, IsAlone};
-ghost use Rattle.rebuild_model.specs.Rebuilt.{IsWinner};
+ghost use Rattle.rebuild_model.specs.Keeping.{HasNoneAt, IsKept, AreWinners, AreOwners};
+ghost use Rattle.rebuild_model.specs.Rebuilt.{IsWinner, IsRebuilt};
+ghost use Rattle.rebuild_model.specs.declared.found.Found.{Found};
+ghost use Rattle.rebuild_model.specs.declared.rebuilt.Rebuilt.{Rebuilt};
 
 use swap_meta::no_spelling_is_a_prefix;
 
@@ -49,3 +52,26 @@ pub fn entries_of_one_slot()
         → ((s : ℕ) → IsSaneAt slot images s → (header_at images s).next_slot ≡ negsuc 0)
         → (e : Entry) → (IsComplete slot images e ↔ IsAlone slot images e) }
 {}
+
+/// The entries that are kept may be gathered anchor by anchor: there are none at first, and each
+/// anchor has none or adds one.
+pub fn winners_are_gathered()
+    ensures none { (slot : ℕ) (images : List (List ℕ)) (anchors : ℕ) → AreWinners slot images anchors 0 [] }
+    ensures passed { (slot : ℕ) (images : List (List ℕ)) (anchors anchor : ℕ) (winners : List Found)
+        → AreWinners slot images anchors anchor winners → HasNoneAt slot images anchors anchor
+        → AreWinners slot images anchors (anchor + 1) winners }
+    ensures more { (slot : ℕ) (images : List (List ℕ)) (anchors anchor : ℕ) (winners : List Found) (found : Found)
+        → AreWinners slot images anchors anchor winners → IsKept slot images anchors anchor found
+        → AreWinners slot images anchors (anchor + 1) (winners ++ found ∷ []) }
+{}
+
+/// The entries that are kept at all anchors, the owners of the slots and the greatest version make a
+/// rebuild.
+pub fn winners_and_owners_make_a_rebuild()
+    ensures { (slot : ℕ) (images : List (List ℕ)) (anchors : ℕ) (rebuilt : Rebuilt)
+        → 0 < anchors → AreWinners slot images anchors anchors rebuilt.winners
+        → length rebuilt.owner ≡ length images → AreOwners anchors rebuilt.winners rebuilt.owner
+        → IsGreatest slot images rebuilt.greatest → IsRebuilt slot images anchors rebuilt }
+{
+    one_entry_at_a_slot();
+}

@@ -14,9 +14,7 @@ use Rattle.rock_disk.specs.Opened.{HasShape, IsOpened, IsOut}
 use Rattle.rock_disk.specs.declared.volume.OpenFault.{OpenFault}
 use Rattle.rock_disk.specs.declared.volume.OpenFault.TheVariants as opening
 use Rattle.rock_main.specs.ReadFault.{read_fault_of_open}
-use Rattle.rock_rebuild.specs.Scan.{IsScan}
-use Rattle.rock_rebuild.specs.declared.outcome.Scan.{Scan}
-use Rattle.rock_main.specs.Read.{ScannedFile}
+use Rattle.rock_main.specs.Report.{OfFile, HasSlots}
 use Rattle.rock_main.specs.declared.read.ReadFault.{ReadFault}
 use Rattle.rock_main.specs.declared.read.ReadFault.TheVariants as read
 
@@ -87,13 +85,23 @@ out_when_opened {before = before} {name = name} {slot = slot} {bytes = bytes} {c
       cell_shapes = self_shaped cells_now _ slot (ap (map shape) c ∙ s.cell_shapes);
     }
 
--- the scan of an opened file's cells is the scan of the file
-pub scanned_when_opened : {before after : Files} {name : List ℕ} {slot bytes : ℕ} {header : CellState} {cells : List CellState} (scan : Scan)
-    → IsOpened before after name slot bytes header cells → IsScan slot (map (λ c. c.now) cells) scan → ScannedFile before name slot scan
-scanned_when_opened {slot = slot} scan o scanned = record {
+-- what is told of an opened file's cells is told of the file
+pub of_file_when_opened : (Prints : List (List ℕ) → List ℕ → Type 0) (text : List ℕ) {before after : Files} {name : List ℕ} {slot bytes : ℕ} {header : CellState} {cells : List CellState}
+    → IsOpened before after name slot bytes header cells → Prints (map (λ c. c.now) cells) text → OfFile Prints before name slot text
+of_file_when_opened Prints text o told = record {
   was = o.was;
-  found = o.found;
-  scanned = subst (λ (cs : List CellState). IsScan slot (map (λ c. c.now) cs) scan) o.cells_are scanned;
+  there = o.found;
+  told = subst (λ (cs : List CellState). Prints (map (λ c. c.now) cs) text) o.cells_are told;
+}
+
+-- an opened file has as many slots as it has cells
+pub slots_when_opened : {C : Type 0} (state : C → CellState) (cells : List C) {before after : Files} {name : List ℕ} {slot bytes : ℕ} {header : CellState} → HasShape slot bytes header (map state cells)
+    → IsOpened before after name slot bytes header (map state cells) → HasSlots before name slot (length cells)
+slots_when_opened state cells {slot = slot} s o = record {
+  was = o.was;
+  there = o.found;
+  long = omega (arith, s.room, o.size);
+  count = sym (length-map cells state) ∙ count_of (map state cells) _ slot s.cell_shapes ∙ ap (λ n. slots_of n slot) o.size;
 }
 
 pub kept_when_back : {before after now final : Files} {name : List ℕ} {slot bytes : ℕ} {header : CellState} {cells cells_now : List CellState}

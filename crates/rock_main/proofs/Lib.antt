@@ -3,4 +3,4 @@ pub mod Kept
 pub mod ShortFacts
 pub mod LineFacts
 pub mod CommandFacts
-pub mod ListFacts
+pub mod ReportFacts

@@ -1,6 +1,6 @@
 -- A file that is too short.
 use Rattle.std.proofs.Common.{◌≡◌, ℕ, ap, ◌∙◌}
-use Rattle.std.specs.Prelude.{Result, IsErrOf, Ok, Err, ◌↔◌}
+use Rattle.std.specs.Prelude.{Result, IsErrOf, Err, ◌↔◌}
 use Rattle.rock_main.specs.declared.read.ReadFault.{ReadFault}
 use Rattle.rock_main.specs.declared.read.ReadFault.TheVariants as read
 use Rattle.rock_main.specs.declared.status.Status.{Status}
@@ -13,10 +13,3 @@ same_fault e = cc
 -- a short file is told as short
 pub short_at_fault : {T P : Type 0} (bytes : ℕ) (fault : ReadFault) (s : Status) → s ≡ status_of_fault fault → (IsErrOf {T = T} (Err fault) (read.Small bytes) ↔ P) → P → s ≡ status.Small bytes
 short_at_fault bytes fault s is small p = is ∙ ap status_of_fault (same_fault (small.1 p))
-
-ok_is_no_err : {T : Type 0} {x : T} {e : ReadFault} → ◌≡◌ {A = Result T ReadFault} (Ok x) (Err e) → ⊥
-ok_is_no_err e = cc
-
--- what was read was not short
-pub short_not_read : {T P A : Type 0} (bytes : ℕ) (x : T) → (IsErrOf (Ok x) (read.Small bytes) ↔ P) → P → A
-short_not_read bytes x small p = absurd (ok_is_no_err (small.1 p))

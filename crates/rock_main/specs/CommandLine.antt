@@ -1,5 +1,5 @@
 -- The command lines that the program knows, as lists of words without its own name.
-use Rattle.std.specs.Prelude.{◌≡◌, ◌≢◌, ℕ, ◌^◌, ◌<◌, List, [], ◌∷◌, codes, decimal}
+use Rattle.std.specs.Prelude.{◌≡◌, ◌≢◌, ◌⊎◌, ℕ, ◌^◌, ◌<◌, List, [], ◌∷◌, codes, decimal}
 
 -- the name of a file: it is not empty and does not begin with `-`
 abbrev pub IsName : List ℕ → Type 0
@@ -12,6 +12,13 @@ pub record IsList (words : List (List ℕ)) (name : List ℕ) (slot : ℕ) : Typ
   pub named : IsName name
   pub fits : slot < 2 ^ 32
 
+-- `check NAME SLOT ANCHORS`
+pub record IsCheck (words : List (List ℕ)) (name : List ℕ) (slot anchors : ℕ) : Type 0 where
+  pub words_are : words ≡ codes "check" ∷ name ∷ decimal slot ∷ decimal anchors ∷ []
+  pub named : IsName name
+  pub fits : slot < 2 ^ 32
+  pub anchors_fit : anchors < 2 ^ 32
+
 -- the words are a command line of the table
 abbrev pub IsCommandLine : List (List ℕ) → Type 0
-IsCommandLine words = (name : List ℕ) × (slot : ℕ) × IsList words name slot
+IsCommandLine words = ((name : List ℕ) × (slot : ℕ) × IsList words name slot) ⊎ ((name : List ℕ) × (slot anchors : ℕ) × IsCheck words name slot anchors)

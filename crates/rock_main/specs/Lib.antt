@@ -1,7 +1,8 @@
 pub mod CommandLine
+pub mod Command
 pub mod Listing
+pub mod Summary
 pub mod ReadFault
 pub mod Device
-pub mod Read
 pub mod Status
-pub mod ListCommand
+pub mod Report

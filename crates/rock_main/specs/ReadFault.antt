@@ -28,5 +28,6 @@ read_fault_of_rebuild rebuild.Memory = read.Memory
 abbrev pub status_of_fault : ReadFault → Status
 status_of_fault read.Missing = status.Missing
 status_of_fault (read.Small bytes) = status.Small bytes
+status_of_fault read.Unfit = status.BadGeometry 2
 status_of_fault read.Device = status.DeviceFault
 status_of_fault read.Memory = status.Memory

@@ -1,34 +1,62 @@
 // The command line, by the product's own table.
-ghost use Rattle.std.specs.Prelude.{◌≡◌, ℕ, List, ◌^◌, ◌<◌, ◌↔◌, Some, IsTrue, IfSome, MatchOption, decimal};
-ghost use Rattle.rock_main.specs.CommandLine.{IsName, IsList, IsCommandLine};
+ghost use Rattle.std.specs.Prelude.{◌≡◌, ℕ, List, ◌^◌, ◌<◌, ◌↔◌, Some, None, IsTrue, IfSome, MatchOption, decimal};
+ghost use Rattle.rock_main.specs.CommandLine.{IsName, IsCommandLine};
+ghost use Rattle.rock_main.specs.Command.{IsCommand};
 
 use itoa::Buffer;
 use rock_io::Words;
 
-/// `list NAME SLOT`: list the complete entries of a file.
+/// A file, and how many bytes each of its slots has.
 #[derive(Clone, Copy, Debug, PartialEq, Eq)]
-pub struct ListCommand<'a> {
+pub struct Target<'a> {
     pub name: &'a str,
-    /// How many bytes a slot has.
     pub slot: u32,
 }
 
-impl<'a> ListCommand<'a> {
+/// What a command line asks for.
+#[derive(Clone, Copy, Debug, PartialEq, Eq)]
+pub enum Command<'a> {
+    /// `list NAME SLOT`: list the complete entries of a file.
+    List { target: Target<'a> },
+    /// `check NAME SLOT ANCHORS`: sum up what a store with so many anchors keeps of a file.
+    Check { target: Target<'a>, anchors: u32 },
+}
+
+impl<'a> Command<'a> {
     /// Reads a command line without the program's own name. None exactly where it is none of the
-    /// table, which has this command alone so far.
-    pub fn parse(words: &'a Words) -> Option<ListCommand<'a>>
-        ensures { MatchOption result (IsCommandLine words.now
-            → ⊥) (λ command. IsList words.now command.name.now command.slot) }
+    /// table.
+    pub fn parse(words: &'a Words) -> Option<Command<'a>>
+        ensures { MatchOption result (IsCommandLine words.now → ⊥) (IsCommand words.now) }
     {
         match words.as_slice() {
-            [command, name, slot] if command.as_str() == "list" && is_name(name.as_str()) => {
-                Some(ListCommand {
-                    name: name.as_str(),
-                    slot: number(slot.as_str())?,
+            [command, name, slot] if command.as_str() == "list" => Some(Command::List {
+                target: Target::parse(name.as_str(), slot.as_str())?,
+            }),
+            [command, name, slot, anchors] if command.as_str() == "check" => {
+                Some(Command::Check {
+                    target: Target::parse(name.as_str(), slot.as_str())?,
+                    anchors: number(anchors.as_str())?,
                 })
             }
             _ => None,
         }
+    }
+}
+
+impl<'a> Target<'a> {
+    /// Reads the name of a file and the size of its slots.
+    fn parse(name: &'a str, slot: &str) -> Option<Target<'a>>
+        ensures some { IfSome result (λ t. IsName name.now × (t.name.now ≡ name.now)
+            × (slot.now ≡ decimal t.slot) × (t.slot < 2 ^ 32)) }
+        ensures none { (n : ℕ) → n < 2 ^ 32 → IsName name.now → slot.now ≡ decimal n → result ≡ None → ⊥ }
+    {
+        if !is_name(name) {
+            return None;
+        }
+        Some(Target {
+            name,
+            slot: number(slot)?,
+        })
     }
 }
 

@@ -5,14 +5,15 @@
 #![tactic(auto)]
 
 mod command;
-mod lines;
-mod list;
+mod listing;
 mod message;
 mod read;
+mod report;
 mod rock;
 mod status;
+mod summary;
 
-use message::explanation;
+use message::{Asked, explanation};
 use rock::rock;
 use rock_file::FileVolume;
 use rock_io::{StdSink, StdSource, Words};
@@ -30,12 +31,16 @@ rock: the store of a caching proxy in one database file
   rock list NAME SLOT   one line for each complete entry of the file NAME, whose
                         slots have SLOT bytes, a multiple of 512 from 512 to 32768:
                         ENTRY first-slot version slots body-bytes URL
+  rock check NAME SLOT ANCHORS
+                        one line on what a store with ANCHORS anchors, from 1 to the
+                        number of slots, keeps of the file:
+                        slots=S kept=K used=U free=F version=G
   rock --help           this text
   rock --version        the program's version
 
 A run that does not end well says why in one line on standard error. Exit status:
 0 done, 2 no command line, 3 out of memory, 5 standard output failed, 6 the disk
-failed, 8 no such file or a wrong size.
+failed, 8 no such file, or a wrong size or number.
 ";
 
 /// What `rock --version` prints.
@@ -44,7 +49,15 @@ const VERSION: &str = "rock 0.1.0\n";
 fn main(rt: HostRuntime) -> io::Result<ExitCode> {
     let words = match words_of(&rt) {
         Ok(words) => words,
-        Err(status) => return end(&rt, &status, "", ""),
+        Err(status) => return end(
+            &rt,
+            &status,
+            &Asked {
+                name: "",
+                slot: "",
+                anchors: "",
+            },
+        ),
     };
     match words.as_slice() {
         [word] if word.as_str() == "--help" => {
@@ -61,9 +74,12 @@ fn main(rt: HostRuntime) -> io::Result<ExitCode> {
             let mut script = StdSource::new(rt.stdin());
             let mut out = StdSink::new(rt.stdout());
             let status = rock(&rt, alloc, &words, &mut volume, &mut script, &mut out);
-            let name = word_at(&words, 1);
-            let slot = word_at(&words, 2);
-            end(&rt, &status, name, slot)
+            let asked = Asked {
+                name: word_at(&words, 1),
+                slot: word_at(&words, 2),
+                anchors: word_at(&words, 3),
+            };
+            end(&rt, &status, &asked)
         }
     }
 }
@@ -93,11 +109,10 @@ fn word_at(words: &Words, place: usize) -> &str {
 fn end<R: Eprint + AllocGlobal>(
     rt: &R,
     status: &Status,
-    name: &str,
-    slot: &str,
+    asked: &Asked<'_>,
 ) -> io::Result<ExitCode> {
     if *status != Status::Done {
-        match explanation(rt.alloc(), status, name, slot) {
+        match explanation(rt.alloc(), status, asked) {
             Ok(text) => eprintln!(rt; "rock: {status}: {text}")?,
             Err(AllocError) => eprintln!(rt; "rock: {status}")?,
         }

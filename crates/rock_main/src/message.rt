@@ -22,16 +22,26 @@ impl fmt::Display for Status {
     }
 }
 
-/// A sentence for people on what happened to the command `list NAME SLOT`, and what to do.
+/// The words of a command line behind the command's own, or empty ones where they are wanting.
+#[derive(Clone, Copy, Debug)]
+pub struct Asked<'a> {
+    pub name: &'a str,
+    pub slot: &'a str,
+    pub anchors: &'a str,
+}
+
+/// A sentence for people on what happened to a command, and what to do.
 pub fn explanation(
     alloc: Global,
     status: &Status,
-    name: &str,
-    slot: &str,
+    asked: &Asked<'_>,
 ) -> Result<String, AllocError> {
+    let name = asked.name;
     match status {
         Status::Done => format!(in alloc; "all was printed"),
-        Status::Usage => format!(in alloc; "write rock list NAME SLOT; rock --help says more"),
+        Status::Usage => format!(in alloc;
+            "write rock list NAME SLOT or rock check NAME SLOT ANCHORS; rock --help says more"
+        ),
         Status::Memory => format!(in alloc; "memory ran out; free some and try again"),
         Status::SourceFault => format!(in alloc; "standard input could not be read"),
         Status::SinkFault => format!(in alloc; "standard output did not take all of the answer"),
@@ -43,9 +53,14 @@ pub fn explanation(
         Status::Small { .. } => {
             format!(in alloc; "{name} is shorter than the header area and one slot")
         }
-        Status::BadGeometry { .. } => {
-            format!(in alloc; "the slot size {slot} is no multiple of 512 from 512 to 32768")
-        }
+        Status::BadGeometry { field: 2 } => format!(in alloc;
+            "the number of anchors {} is not from 1 to the number of slots of {name}",
+            asked.anchors
+        ),
+        Status::BadGeometry { .. } => format!(in alloc;
+            "the slot size {} is no multiple of 512 from 512 to 32768",
+            asked.slot
+        ),
         Status::Exists => format!(in alloc; "there is a file {name} already"),
     }
 }

@@ -1,16 +1,18 @@
-// A whole file is read: opened, scanned by one station, and given back.
-ghost use Rattle.std.specs.Prelude.{◌≡◌, ℕ, ◌≤◌, IsTrue, IfOk, IsErrOf, All, length, map, None, ◌↔◌};
+// A whole file is read: opened, reported on by one station, and given back.
+ghost use Rattle.std.specs.Prelude.{◌≡◌, ℕ, ◌≤◌, IsTrue, IsOk, IfOk, IsErrOf, All, length, map, None, ◌↔◌};
 ghost use Rattle.std.specs.FinMap.{get};
 ghost use Rattle.rock_disk.specs.Cell.{CellState};
 ghost use Rattle.rock_disk.specs.File.{IsNotAway, IsThere, IsKept};
 ghost use Rattle.rock_disk.specs.Opened.{IsSmall};
-ghost use Rattle.rock_rebuild.specs.Scan.{IsSlotSize, IsScan};
-ghost use Rattle.rock_main.specs.ReadFault.{read_fault_of_open, read_fault_of_rebuild, read_fault_of_station};
+ghost use Rattle.rock_rebuild.specs.Scan.{IsSlotSize};
+ghost use Rattle.rock_main.specs.ReadFault.{read_fault_of_open, read_fault_of_rebuild, read_fault_of_station, status_of_fault};
 ghost use Rattle.rock_main.specs.Device.{EndedOne, DeviceFailed};
-ghost use Rattle.rock_main.specs.Read.{ScannedFile};
+ghost use Rattle.rock_main.specs.Report.{Fits, Prints, OfFile, HasSlots, IsFit};
 
+use crate::report::Report;
+use crate::status::Status;
 use rock_disk::{OpenFault, Opened, StationFault, Volume};
-use rock_rebuild::{RebuildFault, Scan, scan};
+use rock_rebuild::RebuildFault;
 use std::alloc::Global;
 
 /// Why a file was not read.
@@ -18,6 +20,8 @@ use std::alloc::Global;
 pub enum ReadFault {
     Missing,
     Small { bytes: u64 },
+    /// The file has another number of slots than the report is for.
+    Unfit,
     Device,
     Memory,
 }
@@ -57,20 +61,36 @@ impl From<RebuildFault> for ReadFault {
     }
 }
 
-/// Scans the cells of an opened file by a station that it makes and ends.
-fn read_by_station<V: Volume>(
+impl From<ReadFault> for Status {
+    ghost from_gives = { λ f s. s ≡ status_of_fault f };
+
+    fn from(fault: ReadFault) -> Self {
+        match fault {
+            ReadFault::Missing => Status::Missing,
+            ReadFault::Small { bytes } => Status::Small { bytes },
+            ReadFault::Unfit => Status::BadGeometry { field: 2 },
+            ReadFault::Device => Status::DeviceFault,
+            ReadFault::Memory => Status::Memory,
+        }
+    }
+}
+
+/// Makes the report of an opened file by a station that it makes and ends.
+fn text_by_station<V: Volume>(
     alloc: Global,
     volume: &mut V,
     name: &str,
     cells: &mut [V::C],
     slot: u32,
-) -> Result<Scan, ReadFault>
+    report: Report,
+) -> Result<Vec<u8>, ReadFault>
     requires there { IsTrue V.tells → IsThere (V.files volume.old) name.now }
+    requires fits { Fits report (length cells.old) }
     requires size { IsSlotSize slot }
     requires wide { All (λ (c : CellState). c.width ≡ slot) (map V.C.state cells.old) }
     requires few { length cells.old ≤ 1048576 }
-    ensures scanned { IfOk result (λ found. IsTrue V.C.tells
-        → IsScan slot (map (λ (c : CellState). c.now) (map V.C.state cells.old)) found) }
+    ensures prints { IfOk result (λ text. IsTrue V.C.tells
+        → Prints report slot (map (λ (c : CellState). c.now) (map V.C.state cells.old)) text.items) }
     ensures cells { map V.C.state cells.new ≡ map V.C.state cells.old }
     ensures files { V.files volume.new ≡ V.files volume.old }
     ensures faults { V.faults volume.old ≤ V.faults volume.new }
@@ -81,28 +101,66 @@ fn read_by_station<V: Volume>(
         (V.ended volume.old) (V.ended volume.new) }
     ensures missing { IsErrOf result ReadFault.Missing → ⊥ }
     ensures small { (bytes : ℕ) → IsErrOf result (ReadFault.Small bytes) → ⊥ }
+    ensures unfit { IsErrOf result ReadFault.Unfit → ⊥ }
 {
     let mut station = volume.station(name)?;
-    let outcome = scan(alloc, &mut station, cells, slot);
+    let outcome = report.text(alloc, &mut station, cells, slot);
     volume.end_station(station);
     match outcome {
-        Ok(found) => Ok(found),
+        Ok(text) => Ok(text),
         Err(fault) => Err(ReadFault::from(fault)),
     }
 }
 
-/// Opens a file, scans all of it by one station, and gives it back.
+/// Makes the report of an opened file where it has as many slots as the report is for.
+fn text_if_fit<V: Volume>(
+    alloc: Global,
+    volume: &mut V,
+    name: &str,
+    cells: &mut [V::C],
+    slot: u32,
+    report: Report,
+) -> Result<Vec<u8>, ReadFault>
+    requires there { IsTrue V.tells → IsThere (V.files volume.old) name.now }
+    requires size { IsSlotSize slot }
+    requires wide { All (λ (c : CellState). c.width ≡ slot) (map V.C.state cells.old) }
+    requires few { length cells.old ≤ 1048576 }
+    ensures prints { IfOk result (λ text. IsTrue V.C.tells
+        → Prints report slot (map (λ (c : CellState). c.now) (map V.C.state cells.old)) text.items) }
+    ensures fits { IsOk result → Fits report (length cells.old) }
+    ensures cells { map V.C.state cells.new ≡ map V.C.state cells.old }
+    ensures files { V.files volume.new ≡ V.files volume.old }
+    ensures faults { V.faults volume.old ≤ V.faults volume.new }
+    ensures ended { EndedOne (V.made volume.old) (V.made volume.new)
+        (V.ended volume.old) (V.ended volume.new) }
+    ensures device { IsErrOf result ReadFault.Device
+        → DeviceFailed (V.faults volume.old) (V.faults volume.new)
+        (V.ended volume.old) (V.ended volume.new) }
+    ensures missing { IsErrOf result ReadFault.Missing → ⊥ }
+    ensures small { (bytes : ℕ) → IsErrOf result (ReadFault.Small bytes) → ⊥ }
+    ensures unfit { IsErrOf result ReadFault.Unfit → Fits report (length cells.old) → ⊥ }
+{
+    if !report.is_for(cells.len()) {
+        return Err(ReadFault::Unfit);
+    }
+    text_by_station(alloc, volume, name, cells, slot, report)
+}
+
+/// Opens a file, makes a report of it by one station, and gives it back.
 pub fn read_file<V: Volume>(
     alloc: Global,
     volume: &mut V,
     name: &str,
     slot: u32,
-) -> Result<Scan, ReadFault>
+    report: Report,
+) -> Result<Vec<u8>, ReadFault>
     requires size { IsSlotSize slot }
     requires home { IsTrue V.tells → IsNotAway (get (V.files volume.old) name.now) }
 
-    ensures scanned { IfOk result (λ found. IsTrue V.tells
-        → ScannedFile (V.files volume.old) name.now slot found) }
+    ensures prints { IfOk result (λ text. IsTrue V.tells
+        → OfFile (Prints report slot) (V.files volume.old) name.now slot text.items) }
+    ensures fits { IsTrue V.tells → IsOk result
+        → IsFit (Fits report) (V.files volume.old) name.now slot }
     ensures kept { IsTrue V.tells → IsKept slot name.now (V.files volume.old) (V.files volume.new) }
     ensures ended { EndedOne (V.made volume.old) (V.made volume.new)
         (V.ended volume.old) (V.ended volume.new) }
@@ -114,6 +172,8 @@ pub fn read_file<V: Volume>(
     ensures small { IsTrue V.tells → (bytes : ℕ)
         → (IsErrOf result (ReadFault.Small bytes)
         ↔ IsSmall (V.files volume.old) name.now slot bytes) }
+    ensures unfit { IsErrOf result ReadFault.Unfit → (slots : ℕ) × ¬ Fits report slots
+        × (IsTrue V.tells → HasSlots (V.files volume.old) name.now slot slots) }
     ensures device { IsErrOf result ReadFault.Device
         → DeviceFailed (V.faults volume.old) (V.faults volume.new)
         (V.ended volume.old) (V.ended volume.new) }
@@ -123,7 +183,7 @@ pub fn read_file<V: Volume>(
         mut cells,
         bytes: _,
     } = volume.open_file(alloc, name, slot)?;
-    let outcome = read_by_station(alloc, volume, name, &mut cells, slot);
+    let outcome = text_if_fit(alloc, volume, name, &mut cells, slot, report);
     volume.give_back(name, header, cells);
     outcome
 }

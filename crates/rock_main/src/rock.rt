@@ -1,15 +1,14 @@
 // The top call.
-ghost use Rattle.std.specs.Prelude.{◌≡◌, ℕ, List, ◌≤◌, IsTrue, None, ◌↔◌};
-ghost use Rattle.std.specs.FinMap.{get};
+ghost use Rattle.std.specs.Prelude.{◌≡◌, ℕ, List, ◌≤◌, IsTrue, ◌↔◌};
 ghost use Rattle.rock_disk.specs.File.{NoneAway, IsKept};
-ghost use Rattle.rock_disk.specs.Opened.{IsSmall};
-ghost use Rattle.rock_main.specs.CommandLine.{IsList, IsCommandLine};
+ghost use Rattle.rock_main.specs.CommandLine.{IsList, IsCheck, IsCommandLine};
 ghost use Rattle.rock_main.specs.Device.{EndedOne, NoFault};
-ghost use Rattle.rock_rebuild.specs.Scan.{IsSlotSize};
-ghost use Rattle.rock_main.specs.ListCommand.{IsListing, ListEnds, ListSays, ListPrints, MayList, ListsOrLacksMemory};
+ghost use Rattle.rock_main.specs.Listing.{Lists};
+ghost use Rattle.rock_main.specs.Report.{AnyCount, IsAnchors, OfFile, ReportEnds, ReportSays, IsRefused, MayReport, ReportsOrLacksMemory, ReportPrints};
+ghost use Rattle.rock_main.specs.Summary.{Sums};
 
-use crate::command::ListCommand;
-use crate::list::list;
+use crate::command::Command;
+use crate::report::{Report, print_report};
 use crate::status::Status;
 use rock_disk::Volume;
 use rock_io::{Sink, Source, Words};
@@ -20,7 +19,10 @@ use std::thread::Threads;
 /// Carries out a command line, without the program's own name.
 ///
 /// `list NAME SLOT` prints a line `ENTRY first version slots length URL` for each complete entry of
-/// the file NAME of slots of SLOT bytes, in order of first slot. It reads no script.
+/// the file NAME of slots of SLOT bytes, in order of first slot. `check NAME SLOT ANCHORS` prints the
+/// one line `slots=S kept=K used=U free=F version=G`: the file's slots, the entries that a store with
+/// ANCHORS anchors keeps, the slots that they take, those that are free, and the greatest version of a
+/// sane slot. Neither reads a script.
 pub fn rock<R: Threads + Wait + Sync, V: Volume, S: Source, K: Sink>(
     rt: &R,
     alloc: Global,
@@ -40,33 +42,47 @@ where
         × (V.made volume.new ≡ V.made volume.old) × (V.ended volume.new ≡ V.ended volume.old)
         × (K.taken out.new ≡ K.taken out.old) × (K.faults out.new ≡ K.faults out.old) }
 
-    // `list`: when each status comes, by the numbers and the counts of faults, and by the files.
+    // Of each command: when each status comes, by the numbers and the counts of faults, and by the
+    // files; that it is refused where the numbers or the file refuse it; that where nothing refuses
+    // it and no fault comes it is done, unless memory runs out; what was printed; and that the file
+    // keeps its bytes.
+
+    // `list NAME SLOT` prints the lines of the complete entries, whatever the number of slots.
     ensures list_ends { (name : List ℕ) (slot : ℕ) → IsList words.now name slot
-        → ListEnds slot (K.faults out.old) (K.faults out.new)
+        → ReportEnds AnyCount slot (K.faults out.old) (K.faults out.new)
         (V.faults volume.old) (V.faults volume.new) (V.ended volume.old) (V.ended volume.new) result }
     ensures list_says { (name : List ℕ) (slot : ℕ) → IsList words.now name slot → IsTrue V.tells
-        → ListSays (V.files volume.old) name slot result }
-
-    // Where the slot size, the map or the file refuses the command, it is refused so.
-    ensures list_geometry { (name : List ℕ) (slot : ℕ) → IsList words.now name slot
-        → (IsSlotSize slot → ⊥) → result ≡ Status.BadGeometry 1 }
-    ensures list_missing { (name : List ℕ) (slot : ℕ) → IsList words.now name slot → IsTrue V.tells
-        → IsSlotSize slot → get (V.files volume.old) name ≡ None → result ≡ Status.Missing }
-    ensures list_small { (name : List ℕ) (slot bytes : ℕ) → IsList words.now name slot → IsTrue V.tells
-        → IsSlotSize slot → IsSmall (V.files volume.old) name slot bytes → result ≡ Status.Small bytes }
-
-    // Where nothing refuses it and no fault comes, it lists, unless memory runs out.
+        → ReportSays AnyCount (V.files volume.old) name slot result }
+    ensures list_refused { (name : List ℕ) (slot : ℕ) → IsList words.now name slot
+        → IsRefused V.tells AnyCount (V.files volume.old) name slot result }
     ensures list_complete { (name : List ℕ) (slot : ℕ) → IsList words.now name slot → IsTrue V.tells
-        → MayList (V.files volume.old) name slot
+        → MayReport AnyCount (V.files volume.old) name slot
         → NoFault (K.faults out.old) (K.faults out.new)
         (V.faults volume.old) (V.faults volume.new) (V.ended volume.old) (V.ended volume.new)
-        → ListsOrLacksMemory result }
-
-    // `list`: what was printed, and the file, which keeps its bytes.
+        → ReportsOrLacksMemory result }
     ensures list_prints { (name : List ℕ) (slot : ℕ) → IsList words.now name slot → IsTrue K.tells
-        → ListPrints (λ text. IsTrue V.tells → IsListing (V.files volume.old) name slot text)
+        → ReportPrints (λ text. IsTrue V.tells → OfFile (Lists slot) (V.files volume.old) name slot text)
         (K.taken out.old) (K.taken out.new) result }
     ensures list_kept { (name : List ℕ) (slot : ℕ) → IsList words.now name slot → IsTrue V.tells
+        → IsKept slot name (V.files volume.old) (V.files volume.new) }
+
+    // `check NAME SLOT ANCHORS` prints the line of a rebuild, where ANCHORS is from 1 to the number of slots.
+    ensures check_ends { (name : List ℕ) (slot anchors : ℕ) → IsCheck words.now name slot anchors
+        → ReportEnds (IsAnchors anchors) slot (K.faults out.old) (K.faults out.new)
+        (V.faults volume.old) (V.faults volume.new) (V.ended volume.old) (V.ended volume.new) result }
+    ensures check_says { (name : List ℕ) (slot anchors : ℕ) → IsCheck words.now name slot anchors → IsTrue V.tells
+        → ReportSays (IsAnchors anchors) (V.files volume.old) name slot result }
+    ensures check_refused { (name : List ℕ) (slot anchors : ℕ) → IsCheck words.now name slot anchors
+        → IsRefused V.tells (IsAnchors anchors) (V.files volume.old) name slot result }
+    ensures check_complete { (name : List ℕ) (slot anchors : ℕ) → IsCheck words.now name slot anchors → IsTrue V.tells
+        → MayReport (IsAnchors anchors) (V.files volume.old) name slot
+        → NoFault (K.faults out.old) (K.faults out.new)
+        (V.faults volume.old) (V.faults volume.new) (V.ended volume.old) (V.ended volume.new)
+        → ReportsOrLacksMemory result }
+    ensures check_prints { (name : List ℕ) (slot anchors : ℕ) → IsCheck words.now name slot anchors → IsTrue K.tells
+        → ReportPrints (λ text. IsTrue V.tells → OfFile (Sums anchors slot) (V.files volume.old) name slot text)
+        (K.taken out.old) (K.taken out.new) result }
+    ensures check_kept { (name : List ℕ) (slot anchors : ℕ) → IsCheck words.now name slot anchors → IsTrue V.tells
         → IsKept slot name (V.files volume.old) (V.files volume.new) }
 
     // Each station that was made was ended.
@@ -79,8 +95,17 @@ where
     ensures script { S.left script.new ≡ S.left script.old }
     ensures script_faults { S.faults script.new ≡ S.faults script.old }
 {
-    match ListCommand::parse(words) {
-        Some(command) => list(alloc, volume, out, command.name, command.slot),
-        None => Status::Usage,
+    let Some(command) = Command::parse(words) else {
+        return Status::Usage;
+    };
+    match command {
+        Command::List { target } => {
+            let listing = Report::Listing;
+            print_report(alloc, volume, out, target.name, target.slot, listing)
+        }
+        Command::Check { target, anchors } => {
+            let summary = Report::Summary { anchors };
+            print_report(alloc, volume, out, target.name, target.slot, summary)
+        }
     }
 }

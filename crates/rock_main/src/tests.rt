@@ -1,17 +1,21 @@
-ghost use Rattle.std.specs.Prelude.{◌≡◌, length, IfOk};
+ghost use Rattle.std.specs.Prelude.{◌≡◌, ◌<◌, length, IfOk};
 ghost use Rattle.rock_disk.specs.File.{NoneAway};
 ghost use Rattle.rock_disk.specs.Memory.{volume_files};
 ghost use Rattle.rebuild_model.specs.Image.{IsFile};
 
 use crate::rock::rock;
 use crate::status::Status;
-use rebuild_model::{FileImage, Images, complete_at};
+use patches::{Patch, patches};
+use rebuild_model::{FileImage, Images, complete_at, rebuilt_of};
 use rock_disk::MemVolume;
 use rock_io::{MemSink, MemSource, Memory, Octets, Words};
 use std::alloc::{AllocError, Global};
 use std::sync::Wait;
 use std::test::Fail;
 use std::thread::Threads;
+
+mod checks;
+mod patches;
 
 const SLOT: usize = 512;
 
@@ -350,6 +354,55 @@ fn each_status_has_its_cause(rt: HostRuntime) -> Result<(), Fail> {
     Ok(())
 }
 
+/// What is printed of a file of slots of 512 bytes.
+fn printed<R: Threads + Wait + Sync>(
+    rt: &R,
+    alloc: Global,
+    file: &[u8],
+    words: &[&str],
+) -> Result<Vec<u8>, Fail> {
+    let mut volume = volume_of(alloc, Some(file), &[], &[])?;
+    let (status, printed) = run(rt, alloc, words, &mut volume, 256)?;
+    if status != Status::Done {
+        return Err("a report was refused".into());
+    }
+    Ok(printed)
+}
+
+#[test]
+fn the_best_entry_of_an_anchor_is_kept(rt: HostRuntime) -> Result<(), Fail> {
+    let alloc = rt.alloc();
+    // The version of the second of two entries, and what is printed for one anchor and for two.
+    let rows = [
+        (
+            5,
+            "kept=1 used=1 free=1 version=5\n",
+            "kept=2 used=2 free=0 version=5\n",
+        ),
+        (
+            1,
+            "kept=1 used=1 free=1 version=3\n",
+            "kept=2 used=2 free=0 version=3\n",
+        ),
+        (
+            3,
+            "kept=1 used=1 free=1 version=3\n",
+            "kept=2 used=2 free=0 version=3\n",
+        ),
+    ];
+    for (version, one, two) in rows {
+        let mut file = empty_file(alloc)?;
+        push_entry(&mut file, 0, 3, &KEY_B, "http://a/b", "x")?;
+        push_entry(&mut file, 1, version, &KEY_C, "http://a/c", "y")?;
+        for (anchors, line) in [("1", one), ("2", two)] {
+            let told = printed(&rt, alloc, &file, &["check", "db", "512", anchors])?;
+            let line = format!(in alloc; "slots=2 {line}")?;
+            assert_eq!(rt; told.as_slice(), line.as_bytes(), "{version}, {anchors}");
+        }
+    }
+    Ok(())
+}
+
 #[test]
 fn entries_are_listed_in_order_of_their_slots(rt: HostRuntime) -> Result<(), Fail> {
     let alloc = rt.alloc();
@@ -421,6 +474,20 @@ fn chains_are_followed_from_slot_to_slot(rt: HostRuntime) -> Result<(), Fail> {
         assert_eq!(rt; status, Status::Done, "{slots:?}");
         assert_eq!(rt; printed.as_slice(), text.as_bytes(), "{slots:?}");
     }
+    Ok(())
+}
+
+#[test]
+fn slots_that_are_no_entry_are_free(rt: HostRuntime) -> Result<(), Fail> {
+    let alloc = rt.alloc();
+    let mut file = empty_file(alloc)?;
+    // a slot that goes on in itself, version 0, and a payload past the slot
+    push_slot(&mut file, 0, Some((472, 472, 5, 0, 0)))?;
+    push_slot(&mut file, 1, Some((47, 47, 0, 1, -1)))?;
+    push_slot(&mut file, 2, Some((473, 473, 9, 2, -1)))?;
+    let told = printed(&rt, alloc, &file, &["check", "db", "512", "1"])?;
+    let line = b"slots=3 kept=0 used=0 free=3 version=5\n";
+    assert_eq!(rt; told.as_slice(), line.as_slice());
     Ok(())
 }
 
@@ -506,8 +573,63 @@ fn plain_lines(alloc: Global, image: &FileImage) -> Result<Vec<u8>, Memory>
     Ok(lines)
 }
 
+/// The line of what the plain function keeps for so many anchors.
+fn plain_summary(alloc: Global, image: &FileImage, anchors: u32) -> Result<String, Memory>
+    requires file { IsFile image.now.slot image.now.slots }
+    requires some { 0 < anchors }
+{
+    let rebuilt = rebuilt_of(alloc, image, anchors)?;
+    let kept = rebuilt.winners.as_slice().len();
+    let mut used = 0u32;
+    let mut free = 0u32;
+    for owner in rebuilt.owner.as_slice() {
+        if *owner > 0 {
+            used = used.saturating_add(1);
+        } else {
+            free = free.saturating_add(1);
+        }
+    }
+    let version = rebuilt.greatest;
+    Ok(format!(in alloc; "slots=4 kept={kept} used={used} free={free} version={version}\n")?)
+}
+
+/// Whether a file of four slots is reported as the plain functions say.
+fn is_reported<R: Threads + Wait + Sync>(rt: &R, alloc: Global, file: &[u8]) -> Result<bool, Fail>
+    requires { length file.now ≡ 18432 }
+{
+    let image = image_of(alloc, file)?;
+    let listing = printed(rt, alloc, file, &["list", "db", "512"])?;
+    let one = printed(rt, alloc, file, &["check", "db", "512", "1"])?;
+    let four = printed(rt, alloc, file, &["check", "db", "512", "4"])?;
+    Ok(
+        listing.as_slice() == plain_lines(alloc, &image)?.as_slice()
+            && one.as_slice() == plain_summary(alloc, &image, 1)?.as_bytes()
+            && four.as_slice() == plain_summary(alloc, &image, 4)?.as_bytes(),
+    )
+}
+
+/// The file of four slots with other bytes in it.
+fn patched(alloc: Global, patches: &[Patch]) -> Result<Vec<u8>, AllocError> {
+    let mut file = four_slots(alloc)?;
+    for (slot, at, bytes) in patches {
+        file = with_bytes(file, slot.saturating_mul(SLOT).saturating_add(*at), bytes);
+    }
+    Ok(file)
+}
+
 #[test]
-fn changed_files_are_listed_as_the_plain_function_says(rt: HostRuntime) -> Result<(), Fail> {
+fn files_of_the_plain_functions_are_reported_as_they_say(rt: HostRuntime) -> Result<(), Fail> {
+    let alloc = rt.alloc();
+    for patch in patches() {
+        let file = patched(alloc, patch)?;
+        assert_eq!(rt; file.len(), 18_432);
+        assert!(rt; is_reported(&rt, alloc, &file)?, "{patch:?}");
+    }
+    Ok(())
+}
+
+#[test]
+fn changed_files_are_reported_as_the_plain_functions_say(rt: HostRuntime) -> Result<(), Fail> {
     let alloc = rt.alloc();
     for at in 0..2_048 {
         // Behind the metadata any byte may stand.
@@ -517,11 +639,7 @@ fn changed_files_are_listed_as_the_plain_function_says(rt: HostRuntime) -> Resul
         for change in [0x01, 0x80, 0xff] {
             let file = changed(four_slots(alloc)?, at, change);
             assert_eq!(rt; file.len(), 18_432);
-            let lines = plain_lines(alloc, &image_of(alloc, &file)?)?;
-            let mut volume = volume_of(alloc, Some(&file), &[], &[])?;
-            let (status, printed) = run(&rt, alloc, &["list", "db", "512"], &mut volume, 256)?;
-            assert_eq!(rt; status, Status::Done, "{change} at {at}");
-            assert_eq!(rt; printed.as_slice(), lines.as_slice(), "{change} at {at}");
+            assert!(rt; is_reported(&rt, alloc, &file)?, "{change} at {at}");
         }
     }
     Ok(())

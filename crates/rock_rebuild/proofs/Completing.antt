@@ -11,9 +11,9 @@ use Rattle.rebuild_model.specs.Image.{IsFile, IsSaneAt, key_at, image_at, payloa
 use Rattle.rebuild_model.specs.Entry.{Entry, IsChain, IsComplete, content_of}
 use Rattle.rebuild_model.specs.Plain.{IsFound, HasNoEntry, size_at}
 use Rattle.rebuild_model.specs.declared.found.Found.{Found}
+use Rattle.store_key.specs.Key.{key_of}
 use Rattle.rock_rebuild.specs.Kept.{IsHead, HasNoHead}
 use Rattle.rock_rebuild.specs.Left.{HasNoChain, IsChainAt}
-use Rattle.rock_rebuild.specs.declared.chain.Chain.{Chain}
 use Rattle.rock_rebuild.specs.declared.head.Head.{Head}
 
 -- the first slot of a chain belongs to itself
@@ -27,13 +27,18 @@ no_head slot images first none e c same =
     none belongs.sane.sane e.key e.url c.size belongs.first record {
       meta = subst (λ s. Spells (take c.size (payload_at images s)) e.key e.url c.size) same c.meta;
       slot_key = subst (λ s. e.key ≡ key_at images s) same c.key;
-      key_of_url = c.key_of_url;
       checked = c.url;
     }
 
 -- and where no chain begins
 pub no_chain : (slot : ℕ) (images : List (List ℕ)) (first : ℕ) → HasNoChain slot images first → HasNoEntry slot images first
 no_chain slot images first none e c same = none e.chain (subst (λ s. IsChain slot images s e.chain) same c.chain) record { full = c.full; size = c.whole }
+
+-- or where the metadata has the key of another URL
+pub other_key : (slot : ℕ) (images : List (List ℕ)) (first : ℕ) (head : Head) → IsHead first (image_at images first) head → (head.key ≡ key_of head.url → ⊥) → HasNoEntry slot images first
+other_key slot images first head says not e c same =
+    let read = says.alone.only e.key e.url c.size (subst (λ s. Spells (take c.size (payload_at images s)) e.key e.url c.size) same c.meta) in
+    not (sym read.0 ∙ c.key_of_url ∙ ap key_of read.1)
 
 -- a payload has as many bytes as its header says
 payload_length : (slot : ℕ) (images : List (List ℕ)) (s : ℕ) → IsFile slot images → IsSaneAt slot images s → length (payload_at images s) ≡ size_at images s
@@ -52,33 +57,33 @@ lengths slot images s (x ∷ xs) f all =
     omega (arith, here, rest, joined, sum_by-cons (size_at images) x xs)
 
 -- the entry
-abbrev pub entry_of : List (List ℕ) → ℕ → Head → Chain → Entry
+abbrev pub entry_of : List (List ℕ) → ℕ → Head → List ℕ → Entry
 entry_of images first head chain = record {
   first = first;
   version = head.version;
   key = head.key;
   url = head.url;
-  chain = chain.slots.items;
-  body = drop head.length (content_of images chain.slots.items);
+  chain = chain;
+  body = drop head.length (content_of images chain);
 }
 
-pub body_length : (slot : ℕ) (images : List (List ℕ)) (first : ℕ) (head : Head) (chain : Chain) → IsFile slot images → IsChainAt slot images first chain
-    → chain.size - head.length ≡ length (drop head.length (content_of images chain.slots.items))
-body_length slot images first head chain file is =
-    let bytes = lengths slot images first chain.slots.items file (recursion_from_All (BelongsTo slot images first) chain.slots.items is.is.belong) in
-    ap (λ n. n - head.length) (is.size ∙ sym bytes) ∙ sym (length-drop head.length (content_of images chain.slots.items))
+pub body_length : (slot : ℕ) (images : List (List ℕ)) (first : ℕ) (head : Head) (chain : List ℕ) (size : ℕ) → IsFile slot images → IsChainAt slot images first chain size
+    → size - head.length ≡ length (drop head.length (content_of images chain))
+body_length slot images first head chain size file is =
+    let bytes = lengths slot images first chain file (recursion_from_All (BelongsTo slot images first) chain is.is.belong) in
+    ap (λ n. n - head.length) (is.sum ∙ sym bytes) ∙ sym (length-drop head.length (content_of images chain))
 
-pub complete : (slot : ℕ) (images : List (List ℕ)) (first : ℕ) (head : Head) (chain : Chain) → IsChainAt slot images first chain → IsHead first (image_at images first) head
+pub complete : (slot : ℕ) (images : List (List ℕ)) (first : ℕ) (head : Head) (chain : List ℕ) (size : ℕ) → IsChainAt slot images first chain size → IsHead first (image_at images first) head → head.key ≡ key_of head.url
     → IsComplete slot images (entry_of images first head chain)
-complete slot images first head chain is says = record {
+complete slot images first head chain size is says of_url = record {
   chain = is.is;
   full = is.whole.full;
   whole = is.whole.size;
   size = head.length;
-  meta = says.named.meta;
-  key = says.named.slot_key;
-  key_of_url = says.named.key_of_url;
-  url = says.named.checked;
+  meta = says.alone.own.meta;
+  key = says.alone.own.slot_key;
+  key_of_url = of_url;
+  url = says.alone.own.checked;
   version = says.version;
   body = refl;
 }
@@ -90,11 +95,11 @@ found_with first version key url chain length = record { first = first; version 
 pub same_found : (first version : ℕ) (key url : List ℕ) {chain more : List ℕ} {n m : ℕ} → n ≡ m → chain ≡ more → found_with first version key url chain n ≡ found_with first version key url more m
 same_found first version key url length chain = cc
 
-pub found : (slot : ℕ) (images : List (List ℕ)) (first : ℕ) (head : Head) (chain : Chain) (f : Found) → IsFile slot images → IsChainAt slot images first chain → IsHead first (image_at images first) head
-    → f ≡ found_with first head.version head.key head.url chain.slots.items (chain.size - head.length) → IsFound slot images first f
-found slot images first head chain f file is says same = record {
+pub found : (slot : ℕ) (images : List (List ℕ)) (first : ℕ) (head : Head) (chain : List ℕ) (size : ℕ) (f : Found) → IsFile slot images → IsChainAt slot images first chain size → IsHead first (image_at images first) head
+    → head.key ≡ key_of head.url → f ≡ found_with first head.version head.key head.url chain (size - head.length) → IsFound slot images first f
+found slot images first head chain size f file is says of_url same = record {
   entry = entry_of images first head chain;
-  complete = complete slot images first head chain is says;
+  complete = complete slot images first head chain size is says of_url;
   begins = refl;
-  told = same ∙ same_found first head.version head.key head.url (body_length slot images first head chain file is) refl;
+  told = same ∙ same_found first head.version head.key head.url (body_length slot images first head chain size file is) refl;
 }

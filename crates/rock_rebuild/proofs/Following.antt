@@ -15,7 +15,6 @@ use Rattle.rebuild_model.specs.Entry.{IsChain, AllButLast}
 use Rattle.rebuild_model.specs.Plain.{IsFull, IsWhole, size_at}
 use Rattle.rock_rebuild.specs.Kept.{IsHeaderOf, TellsHeader, AreHeaders}
 use Rattle.rock_rebuild.specs.Left.{IsOf, AreLeft, HasNoChain, IsChainAt}
-use Rattle.rock_rebuild.specs.declared.chain.Chain.{Chain}
 use Rattle.rock_rebuild.proofs.Keys.{same_keys, keys_from}
 use Rattle.rock_rebuild.proofs.Lists.{is_among, parts, push_all, push_once, came_once, among_push, all_but_last, not_last, of_last, from_last}
 use Rattle.rock_rebuild.proofs.Counting.{within}
@@ -225,17 +224,17 @@ all_bytes : (images : List (List ℕ)) (chain : List ℕ) (at : ℕ) → sum_by 
 all_bytes images chain at = omega (arith, sum_by-append (size_at images) chain (at ∷ []), sum_by-cons (size_at images) at [])
 
 -- and is whole where the last slot has the size of all
-pub ended : (slot : ℕ) (images : List (List ℕ)) (first : ℕ) (head : Header) (chain : List ℕ) (at size : ℕ) (headers after : List (Option Header)) (h : Header) (is : Chain)
-    → Followed slot images first head chain at size headers → Takes first at head h headers after → is.slots.items ≡ chain ++ at ∷ [] → is.size ≡ size + h.payload_size → h.next_slot ≡ negsuc 0 → h.entry_size ≡ is.size
-    → IsChainAt slot images first is
-ended slot images first head chain at size headers after h is f t grows sums ends same =
+pub ended : (slot : ℕ) (images : List (List ℕ)) (first : ℕ) (head : Header) (chain : List ℕ) (at size : ℕ) (headers after : List (Option Header)) (h : Header) (grown : List ℕ) (bigger : ℕ)
+    → Followed slot images first head chain at size headers → Takes first at head h headers after → grown ≡ chain ++ at ∷ [] → bigger ≡ size + h.payload_size → h.next_slot ≡ negsuc 0 → h.entry_size ≡ bigger
+    → IsChainAt slot images first grown bigger
+ended slot images first head chain at size headers after h grown bigger f t grows sums ends same =
     let belongs = belongs_at slot images first head chain at size headers h f t.was t.of in
     let new = new_at slot images first head chain at size headers h f t.was in
     let told : h ≡ header_at images at = (f.told at h t.was).1.is in
     let links : (header_at images at).next_slot ≡ negsuc 0 = ap (λ u. u.next_slot) (sym told) ∙ ends in
     let sized : size_at images at ≡ h.payload_size = ap (λ u. u.payload_size) (sym told) in
     let b = f.begins [] in
-    let sum : is.size ≡ sum_by (size_at images) (chain ++ at ∷ []) = omega (arith, sums, f.sum, sized, all_bytes images chain at) in
+    let sum : bigger ≡ sum_by (size_at images) (chain ++ at ∷ []) = omega (arith, sums, f.sum, sized, all_bytes images chain at) in
     let last : (header_at images at).entry_size ≡ sum_by (size_at images) (chain ++ at ∷ []) = ap (λ u. u.entry_size) (sym told) ∙ same ∙ sum in
     record {
       is = subst (IsChain slot images first) (sym grows) record {
@@ -249,7 +248,7 @@ ended slot images first head chain at size headers after h is f t grows sums end
         full = all_but_last (IsFull slot images) chain at f.full;
         size = of_last (λ s. (header_at images s).entry_size ≡ sum_by (size_at images) (chain ++ at ∷ [])) chain at last;
       };
-      size = sum ∙ ap (sum_by (size_at images)) (sym grows);
+      sum = sum ∙ ap (sum_by (size_at images)) (sym grows);
     }
 
 -- and is not where it has another

@@ -10,3 +10,6 @@ pub mod Options
 pub mod Cells
 pub mod Scanned
 pub mod Shapes
+pub mod Choosing
+pub mod Keeping
+pub mod Owning

@@ -3,7 +3,8 @@ use Rattle.std.specs.Prelude.{◌≡◌, ℕ, ◌<◌, ◌≤◌, pos, List, len
 use Rattle.slot_cell.specs.declared.header.Header.{Header}
 use Rattle.slot_cell.specs.Header.{header_of, header_bytes, payload_of, IsSane}
 use Rattle.rebuild_model.specs.Image.{image_at}
-use Rattle.rebuild_model.specs.Plain.{IsNamed}
+use Rattle.swap_meta.specs.Meta.{Spells}
+use Rattle.store_key.specs.Url.{IsUrl}
 use Rattle.rock_rebuild.specs.declared.head.Head.{Head}
 
 -- the header of a slot that is sane in a file of so many slots of so many bytes
@@ -16,16 +17,26 @@ pub record IsHeaderOf (slots slot : ℕ) (image : List ℕ) (header : Header) : 
 abbrev pub TellsHeader : ℕ → ℕ → List ℕ → Option Header → Type 0
 TellsHeader slots slot image header = MatchOption header (IsSane (header_of image) slots slot → ⊥) (IsHeaderOf slots slot image)
 
--- the slot of this number names itself first, and in front of its payload stands metadata with a URL and that URL's
--- key, which is the slot's too
+-- metadata of this length stands in front of a payload, with a URL and the slot's key
+pub record IsOwn (image payload key url : List ℕ) (size : ℕ) : Type 0 where
+  pub meta : Spells (take size payload) key url size
+  pub slot_key : key ≡ take 16 image
+  pub checked : IsUrl url
+
+-- and no other metadata does
+pub record IsOwnAlone (image payload key url : List ℕ) (size : ℕ) : Type 0 where
+  pub own : IsOwn image payload key url size
+  pub only : (other_key other_url : List ℕ) (n : ℕ) → Spells (take n payload) other_key other_url n → (other_key ≡ key) × (other_url ≡ url)
+
+-- the slot of this number names itself first, and in front of its payload stands metadata with a URL and the slot's key
 pub record IsHead (number : ℕ) (image : List ℕ) (head : Head) : Type 0 where
   pub starts : (header_of image).first_slot ≡ pos number
   pub version : head.version ≡ (header_of image).version
-  pub named : IsNamed image (payload_of image) head.key head.url head.length
+  pub alone : IsOwnAlone image (payload_of image) head.key head.url head.length
 
 -- it does not, or none does
 abbrev pub HasNoHead : ℕ → List ℕ → Type 0
-HasNoHead number image = (key url : List ℕ) (size : ℕ) → (header_of image).first_slot ≡ pos number → IsNamed image (payload_of image) key url size → ⊥
+HasNoHead number image = (key url : List ℕ) (size : ℕ) → (header_of image).first_slot ≡ pos number → IsOwn image (payload_of image) key url size → ⊥
 
 -- what a slot says of an entry that begins there, or none where it is not sane or says nothing
 abbrev pub TellsHead : ℕ → ℕ → ℕ → List ℕ → Option Head → Type 0

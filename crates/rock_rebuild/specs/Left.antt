@@ -5,7 +5,6 @@ use Rattle.rebuild_model.specs.Image.{image_at, header_at, BelongsTo}
 use Rattle.rebuild_model.specs.Entry.{IsChain}
 use Rattle.rebuild_model.specs.Plain.{IsWhole, size_at}
 use Rattle.rock_rebuild.specs.Kept.{IsHeaderOf}
-use Rattle.rock_rebuild.specs.declared.chain.Chain.{Chain}
 
 -- a slot with this header is of the entry that begins at slot `first` with header `head`
 pub record IsOf (first : ℕ) (head header : Header) : Type 0 where
@@ -23,8 +22,8 @@ pub record AreLeft (slot : ℕ) (images : List (List ℕ)) (first : ℕ) (header
 abbrev pub HasNoChain : ℕ → List (List ℕ) → ℕ → Type 0
 HasNoChain slot images first = (chain : List ℕ) → IsChain slot images first chain → IsWhole slot images chain → ⊥
 
--- this one does
-pub record IsChainAt (slot : ℕ) (images : List (List ℕ)) (first : ℕ) (chain : Chain) : Type 0 where
-  pub is : IsChain slot images first chain.slots.items
-  pub whole : IsWhole slot images chain.slots.items
-  pub size : chain.size ≡ sum_by (size_at images) chain.slots.items
+-- this one does, and its slots have so many bytes
+pub record IsChainAt (slot : ℕ) (images : List (List ℕ)) (first : ℕ) (chain : List ℕ) (size : ℕ) : Type 0 where
+  pub is : IsChain slot images first chain
+  pub whole : IsWhole slot images chain
+  pub sum : size ≡ sum_by (size_at images) chain

@@ -3,3 +3,5 @@ pub mod Slots
 pub mod Left
 pub mod Gathered
 pub mod Scan
+pub mod Best
+pub mod Winners

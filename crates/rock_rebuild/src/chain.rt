@@ -4,46 +4,40 @@ ghost use Rattle.rebuild_model.specs.Image.{IsFile};
 ghost use Rattle.rock_rebuild.specs.Left.{AreLeft, HasNoChain, IsChainAt};
 
 use crate::table::Table;
-use std::alloc::{AllocError, Global};
+use std::alloc::AllocError;
 
-/// A chain whose slots are full but for the last, which has the size of the whole.
-#[derive(Debug, Drop)]
-pub struct Chain {
-    pub slots: Vec<u32>,
-    /// How many bytes its slots have.
-    pub size: u64,
-}
-
-/// Follows the chain that begins at slot `first`, and takes the headers of its slots. A slot that was
-/// passed is not left, so a chain that comes to a slot again ends there and is none; and since a slot
-/// names one first, no other chain misses it.
+/// Follows the chain that begins at slot `first`, puts its slots into `chain`, and takes their headers
+/// out of the table. A slot that was passed is not left, so a chain that comes to a slot again ends
+/// there and is none; and since a slot names one first, no other chain misses it.
+///
+/// Where the slots are full but for the last, which has the size of the whole, that size is told.
 pub fn follow(
-    alloc: Global,
     table: &mut Table,
+    chain: &mut Vec<u32>,
     slot: u32,
     first: u32,
-) -> Result<Option<Chain>, AllocError>
+) -> Result<Option<u64>, AllocError>
     requires { length table.old ≤ 1048576 }
-    ensures followed { IfOk result (λ chain. (images : List (List ℕ)) → IsFile slot images
+    ensures followed { IfOk result (λ size. (images : List (List ℕ)) → IsFile slot images
         → AreLeft slot images first table.old
         → AreLeft slot images (first + 1) table.new
-        × MatchOption chain (HasNoChain slot images first) (IsChainAt slot images first)) }
+        × MatchOption size (HasNoChain slot images first) (IsChainAt slot images first chain.new.items)) }
     ensures length { length table.new ≡ length table.old }
 {
-    let mut slots = Vec::new(alloc);
+    chain.clear();
     let mut size = 0;
     let Some(head) = table.header(first) else {
         return Ok(None);
     };
     let mut at = first;
     'walk: while let Some(header) = table.take(at, first, &head) {
-        slots.push(at)?;
+        chain.push(at)?;
         size += u64::from(header.payload_size);
         if header.next_slot == -1 {
             if header.entry_size != size {
                 return Ok(None);
             }
-            return Ok(Some(Chain { slots, size }));
+            return Ok(Some(size));
         }
         if u64::from(header.payload_size) + 40 != u64::from(slot) {
             return Ok(None);

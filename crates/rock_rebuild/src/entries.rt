@@ -14,9 +14,11 @@ use rock_io::Numbers;
 use std::alloc::{AllocError, Global};
 
 /// The complete entry that begins at a slot, if one does, where `head` is what the slot says of it.
+/// The URL's key is taken last, for chains that are whole. What `chain` holds does not matter.
 fn entry_at(
     alloc: Global,
     table: &mut Table,
+    chain: &mut Vec<u32>,
     slot: u32,
     first: u32,
     head: Option<Head>,
@@ -32,9 +34,12 @@ fn entry_at(
     let Some(head) = head else {
         return Ok(None);
     };
-    let Some(chain) = follow(alloc, table, slot, first)? else {
+    let Some(size) = follow(table, chain, slot, first)? else {
         return Ok(None);
     };
+    if !head.has_key_of_url() {
+        return Ok(None);
+    }
     let key = head.key;
     Ok(Some(Found {
         first,
@@ -42,8 +47,8 @@ fn entry_at(
         key,
         url: head.url,
         // Metadata is never longer than the first slot's payload.
-        length: chain.size.saturating_sub(head.length as u64),
-        chain: Numbers::from_vec(chain.slots),
+        length: size.saturating_sub(head.length as u64),
+        chain: Numbers::from_vec(chain.to_vec(alloc)?),
     }))
 }
 
@@ -77,9 +82,10 @@ pub fn entries_of(
         → AreFound slot images (length images) found.items) }
 {
     let mut found = Vec::new(alloc);
+    let mut chain = Vec::new(alloc);
     for first in 0..heads.len() as u32 {
         let head = heads[first as usize].take();
-        let entry = entry_at(alloc, table, slot, first, head)?;
+        let entry = entry_at(alloc, table, &mut chain, slot, first, head)?;
         push_entry(&mut found, entry)?;
     }
     Ok(found)

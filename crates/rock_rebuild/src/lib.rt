@@ -1,22 +1,29 @@
-//! The complete entries of a database file, found in one pass over its slots.
+//! The complete entries of a database file, found in one pass over its slots, and what a rebuild of
+//! the store keeps of them.
 //!
 //! Each slot is read once, in order. What is kept of it is its header, and the URL where an entry may
 //! begin there. Then the chains are followed from one header to the next. A chain takes the headers
 //! of its slots out of the table, so time and memory grow with the number of slots and no faster,
-//! whatever the slots hold.
+//! whatever the slots hold. A rebuild puts each entry that was found to its anchor, where the best one
+//! stays, and then tells whose each slot is: its time and memory grow with slots and anchors.
 #![tactic(auto)]
 
+mod best;
 mod chain;
 mod entries;
 mod head;
 mod outcome;
+mod owners;
 mod read;
+mod rebuilding;
 mod scanning;
 mod slots;
 mod table;
+mod winners;
 
 pub use outcome::{RebuildFault, Scan};
 pub use rebuild_model::{Found, FoundList, Rebuilt};
+pub use rebuilding::rebuild;
 pub use scanning::scan;
 
 #[cfg(test)]

@@ -13,6 +13,8 @@ use rock_io::{Memory, Octets};
 use std::alloc::{AllocError, Global};
 use std::test::Fail;
 
+mod random;
+
 /// The image of a slot.
 type Image = [u8; 512];
 
@@ -105,17 +107,41 @@ fn open(
     Ok((station, cells))
 }
 
+/// A volume whose first station fails at the listed calls.
+fn volume_of(alloc: Global, fail: &[u64]) -> Result<MemVolume, AllocError>
+    ensures home { IfOk result (λ volume. NoneAway (volume_files volume)) }
+    ensures ended { IfOk result (λ volume. length (volume_ended volume) ≤ volume_made volume) }
+{
+    let mut lists = Vec::new(alloc);
+    lists.push(fail.to_vec(alloc)?)?;
+    Ok(MemVolume::new(alloc, Vec::new(alloc), lists))
+}
+
 /// What a scan of a file with these slots tells, where the station fails at the listed calls.
 fn scan_of(
     alloc: Global,
     slots: &[Image],
     fail: &[u64],
 ) -> Result<Result<Scan, RebuildFault>, Fail> {
-    let mut lists = Vec::new(alloc);
-    lists.push(fail.to_vec(alloc)?)?;
-    let mut volume = MemVolume::new(alloc, Vec::new(alloc), lists);
+    let mut volume = volume_of(alloc, fail)?;
     let (mut station, mut cells) = open(alloc, &mut volume, slots)?;
     let outcome = scan(alloc, &mut station, &mut cells, 512);
+    volume.end_station(station);
+    Ok(outcome)
+}
+
+/// What a rebuild of such a file keeps for so many anchors.
+fn rebuild_of(
+    alloc: Global,
+    slots: &[Image],
+    anchors: u32,
+    fail: &[u64],
+) -> Result<Result<Rebuilt, RebuildFault>, Fail>
+    requires { 0 < anchors }
+{
+    let mut volume = volume_of(alloc, fail)?;
+    let (mut station, mut cells) = open(alloc, &mut volume, slots)?;
+    let outcome = rebuild(alloc, &mut station, &mut cells, 512, anchors);
     volume.end_station(station);
     Ok(outcome)
 }
@@ -380,6 +406,127 @@ fn a_scan_finds_what_the_plain_function_finds(rt: HostRuntime) -> Result<(), Fai
             rebuilt_of(alloc, &file, 1)?.greatest,
             "{patch:?}"
         );
+    }
+    Ok(())
+}
+
+/// Whether two rebuilds keep the same.
+fn keep_the_same(rebuilt: &Rebuilt, other: &Rebuilt) -> bool {
+    if rebuilt.winners.as_slice().len() != other.winners.as_slice().len() {
+        return false;
+    }
+    for (winner, entry) in rebuilt
+        .winners
+        .as_slice()
+        .iter()
+        .zip(other.winners.as_slice())
+    {
+        if !is_same(winner, entry) {
+            return false;
+        }
+    }
+    rebuilt.owner.as_slice() == other.owner.as_slice() && rebuilt.greatest == other.greatest
+}
+
+#[test]
+fn a_rebuild_keeps_what_the_plain_function_keeps(rt: HostRuntime) -> Result<(), Fail> {
+    let alloc = rt.alloc();
+    for patch in patches() {
+        let slots = patched(patch);
+        let file = image_of(alloc, &slots)?;
+        for anchors in [1, 16] {
+            assert!(rt; anchors > 0);
+            let rebuilt = rebuild_of(alloc, &slots, anchors, &[])?;
+            let rebuilt = rebuilt.ok().ok_or("rebuilt")?;
+            let plain = rebuilt_of(alloc, &file, anchors)?;
+            assert!(rt;
+                keep_the_same(&rebuilt, &plain),
+                "{anchors} anchors, {patch:?}"
+            );
+        }
+    }
+    Ok(())
+}
+
+/// A file of three slots, where the entries that one anchor keeps begin, whose each slot is, and the
+/// greatest version.
+type KeptRow = (
+    &'static str,
+    [Image; 3],
+    &'static [u32],
+    &'static [u32],
+    u32,
+);
+
+fn kept_rows() -> [KeptRow; 5] {
+    let zeros = [0; 512];
+    let entry = slot_b(0, (43, 43, 3, 0, -1));
+    [
+        (
+            "one entry",
+            [slot_b(0, (47, 47, 7, 0, -1)), zeros, zeros],
+            &[0],
+            &[1, 0, 0],
+            7,
+        ),
+        (
+            "the newer of two",
+            [entry, slot_c(1, (43, 43, 5, 1, -1)), zeros],
+            &[1],
+            &[0, 1, 0],
+            5,
+        ),
+        (
+            "of one version the one that begins first",
+            [entry, slot_c(1, (43, 43, 3, 1, -1)), zeros],
+            &[0],
+            &[1, 0, 0],
+            3,
+        ),
+        (
+            "a loop, version 0, and a payload past the slot",
+            [
+                slot_b(0, (472, 472, 5, 0, 0)),
+                slot_b(1, (47, 47, 0, 1, -1)),
+                slot_b(2, (473, 473, 9, 2, -1)),
+            ],
+            &[],
+            &[0, 0, 0],
+            5,
+        ),
+        (
+            "no slot was ever written",
+            [zeros, zeros, zeros],
+            &[],
+            &[0, 0, 0],
+            0,
+        ),
+    ]
+}
+
+/// What a rebuild of three slots keeps for one anchor, where the station fails at the listed calls.
+fn kept_of(
+    alloc: Global,
+    slots: [Image; 3],
+    fail: &[u64],
+) -> Result<Result<Rebuilt, RebuildFault>, Fail> {
+    rebuild_of(alloc, &slots, 1, fail)
+}
+
+#[test]
+fn one_entry_of_an_anchor_is_kept(rt: HostRuntime) -> Result<(), Fail> {
+    let alloc = rt.alloc();
+    for (what, slots, firsts, owner, greatest) in kept_rows() {
+        let rebuilt = kept_of(alloc, slots, &[])?.ok().ok_or("rebuilt")?;
+        let winners = rebuilt.winners.as_slice();
+        assert_eq!(rt; winners.len(), firsts.len(), "{what}");
+        for (winner, first) in winners.iter().zip(firsts) {
+            assert_eq!(rt; winner.first, *first, "{what}");
+        }
+        assert_eq!(rt; rebuilt.owner.as_slice(), owner, "{what}");
+        assert_eq!(rt; rebuilt.greatest, greatest, "{what}");
+        let failed = kept_of(alloc, slots, &[0])?.err();
+        assert_eq!(rt; failed, Some(RebuildFault::Failed), "{what}");
     }
     Ok(())
 }

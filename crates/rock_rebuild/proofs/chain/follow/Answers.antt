@@ -15,7 +15,7 @@ returns-in_default-clause-followed c images file left =
 
 pub walk-init : goal.walk-init
 walk-init c = (
-  λ images file left. subst (λ xs. Followed c.args.slot images c.args.first c.in-Some.head xs c.args.first 0 c.args.table.now) (sym c.new-slots.ensures.items)
+  λ images file left. subst (λ xs. Followed c.args.slot images c.args.first c.in-Some.head xs c.args.first 0 c.args.table.now) (sym c.clear.ensures.items)
       (at_first c.args.slot images c.args.first c.in-Some.head c.args.table.now left (sym c.header.ensures ∙ c.in-Some.is)),
   omega arith,
   refl,
@@ -36,8 +36,8 @@ returns-then-header-size-clause-followed c images file left =
     let t : Takes c.args.first c.walk.at c.in-Some.head c.in-Some-take.header c.walk.table c.take.new.self = record { after_is = taken.0; was = taken.1; of = taken.2 } in
     let fits : FitsSigned w32 c.in-Some-take.header.next_slot = search rules in
     let last : c.in-Some-take.header.next_slot ≡ negsuc 0 = sym (to_z-of_z w32 _ fits) ∙ ap (cast_signed w32) c.if-header.true in (
-      left_after c.args.slot images c.args.first c.in-Some.head c.walk.slots.items c.walk.at c.walk.size c.walk.table c.take.new.self c.in-Some-take.header f t,
-      other_size c.args.slot images c.args.first c.in-Some.head c.walk.slots.items c.walk.at c.walk.size (c.walk.size + c.from-size.result) c.walk.table c.take.new.self c.in-Some-take.header f t
+      left_after c.args.slot images c.args.first c.in-Some.head c.walk.chain.items c.walk.at c.walk.size c.walk.table c.take.new.self c.in-Some-take.header f t,
+      other_size c.args.slot images c.args.first c.in-Some.head c.walk.chain.items c.walk.at c.walk.size (c.walk.size + c.from-size.result) c.walk.table c.take.new.self c.in-Some-take.header f t
           (ap (λ n. c.walk.size + n) c.from-size.ensures) last c.if-header-size.true,
     )
 
@@ -48,8 +48,8 @@ returns-then-header-clause-followed c images file left =
     let t : Takes c.args.first c.walk.at c.in-Some.head c.in-Some-take.header c.walk.table c.take.new.self = record { after_is = taken.0; was = taken.1; of = taken.2 } in
     let fits : FitsSigned w32 c.in-Some-take.header.next_slot = search rules in
     let last : c.in-Some-take.header.next_slot ≡ negsuc 0 = sym (to_z-of_z w32 _ fits) ∙ ap (cast_signed w32) c.if-header.true in (
-      left_after c.args.slot images c.args.first c.in-Some.head c.walk.slots.items c.walk.at c.walk.size c.walk.table c.take.new.self c.in-Some-take.header f t,
-      ended c.args.slot images c.args.first c.in-Some.head c.walk.slots.items c.walk.at c.walk.size c.walk.table c.take.new.self c.in-Some-take.header _ f t
+      left_after c.args.slot images c.args.first c.in-Some.head c.walk.chain.items c.walk.at c.walk.size c.walk.table c.take.new.self c.in-Some-take.header f t,
+      ended c.args.slot images c.args.first c.in-Some.head c.walk.chain.items c.walk.at c.walk.size c.walk.table c.take.new.self c.in-Some-take.header _ _ f t
           c.in_ok-push.ensures.items (ap (λ n. c.walk.size + n) c.from-size.ensures) last c.if-header-size.false,
     )
 
@@ -59,8 +59,8 @@ returns-then-from-clause-followed c images file left =
     let taken = c.in-Some-take.ensures in
     let t : Takes c.args.first c.walk.at c.in-Some.head c.in-Some-take.header c.walk.table c.take.new.self = record { after_is = taken.0; was = taken.1; of = taken.2 } in
     let told = (f.told c.walk.at c.in-Some-take.header taken.1).1 in (
-      left_after c.args.slot images c.args.first c.in-Some.head c.walk.slots.items c.walk.at c.walk.size c.walk.table c.take.new.self c.in-Some-take.header f t,
-      not_full c.args.slot images c.args.first c.in-Some.head c.walk.slots.items c.walk.at _ c.walk.size c.walk.table c.take.new.self c.in-Some-take.header f t
+      left_after c.args.slot images c.args.first c.in-Some.head c.walk.chain.items c.walk.at c.walk.size c.walk.table c.take.new.self c.in-Some-take.header f t,
+      not_full c.args.slot images c.args.first c.in-Some.head c.walk.chain.items c.walk.at _ c.walk.size c.walk.table c.take.new.self c.in-Some-take.header f t
           (goes c.in-Some-take.header.next_slot (λ last. c.if-header.false (ap (cast_unsigned w32) last)) told.sane.next_from)
           (λ full. c.if-from.true (ap (λ n. n + 40) c.from.ensures ∙ full ∙ sym c.from-in-Some-take.ensures)),
     )
@@ -76,7 +76,7 @@ walk-preserved c =
       λ images file left.
           let f = c.walk.invariant.0 images file left in
           let told = (f.told c.walk.at c.in-Some-take.header taken.1).1 in
-          one_more c.args.slot images c.args.first c.in-Some.head c.walk.slots.items c.push.new.self.items c.walk.at c.cast_unsigned-at.result c.walk.size (c.walk.size + c.from-size.result) c.walk.table c.take.new.self c.in-Some-take.header
+          one_more c.args.slot images c.args.first c.in-Some.head c.walk.chain.items c.push.new.self.items c.walk.at c.cast_unsigned-at.result c.walk.size (c.walk.size + c.from-size.result) c.walk.table c.take.new.self c.in-Some-take.header
           f record { after_is = taken.0; was = taken.1; of = taken.2 } c.in_ok-push.ensures.items (ap (λ n. c.walk.size + n) c.from-size.ensures)
           (goes c.in-Some-take.header.next_slot (λ last. c.if-header.false (ap (cast_unsigned w32) last)) told.sane.next_from ∙ ap pos (ap (of_z w32) (sym (to_z-of_z w32 _ fits)) ∙ sym c.cast_unsigned-at.ensures))
           (sym (ap (λ n. n + 40) c.from.ensures) ∙ c.if-from.false ∙ c.from-in-Some-take.ensures),
@@ -88,4 +88,4 @@ pub returns-clause-followed : goal.returns-clause-followed
 returns-clause-followed c images file left =
     let f = c.walk.invariant.0 images file left in
     let same = c.in_default-take.ensures in
-    (subst (AreLeft c.args.slot images (c.args.first + 1)) (sym same.0) (left_behind c.args.slot images c.args.first c.in-Some.head c.walk.slots.items c.walk.at c.walk.size c.walk.table f), strays c.args.slot images c.args.first c.in-Some.head c.walk.slots.items c.walk.at c.walk.size c.walk.table f same.1)
+    (subst (AreLeft c.args.slot images (c.args.first + 1)) (sym same.0) (left_behind c.args.slot images c.args.first c.in-Some.head c.walk.chain.items c.walk.at c.walk.size c.walk.table f), strays c.args.slot images c.args.first c.in-Some.head c.walk.chain.items c.walk.at c.walk.size c.walk.table f same.1)

@@ -7,7 +7,7 @@ use Rattle.rock_rebuild.proofs.chain.follow.Given as goal
 
 abbrev pub invariant-walk : goal.invariant-walk
 invariant-walk l =
-    ((images : List (List ℕ)) → IsFile l.slot images → AreLeft l.slot images l.first l.initial.table → Followed l.slot images l.first l.head l.slots.items l.at l.size l.table)
+    ((images : List (List ℕ)) → IsFile l.slot images → AreLeft l.slot images l.first l.initial.table → Followed l.slot images l.first l.head l.chain.items l.at l.size l.table)
     × (l.size + 4294967296 * left_in l.table ≤ 4294967296 * left_in l.initial.table)
     × (length l.table ≡ length l.initial.table)
 

@@ -1,7 +1,7 @@
-use Rattle.std.proofs.Common.{◌≡◌, ◌+◌, ◌-◌, ℕ, List, take, drop, ap, sym, subst, arith}
+use Rattle.std.proofs.Common.{◌≡◌, ◌+◌, ◌-◌, ℕ, List, take, drop, ap, sym, subst, arith, rules}
 use Rattle.slot_cell.specs.declared.header.Header.{Header}
 use Rattle.slot_cell.specs.Header.{header_of, payload_of}
-use Rattle.rebuild_model.specs.Plain.{IsNamed}
+use Rattle.rock_rebuild.specs.Kept.{IsOwn, IsOwnAlone}
 use Rattle.rock_rebuild.proofs.head.head_of.Goals as goal
 
 -- the bytes that are read as metadata are the slot's payload
@@ -11,5 +11,17 @@ payload_is image header read =
     ap (λ n. take n (drop 40 image)) size
 
 pub returns-in_default : goal.returns-in_default
-returns-in_default c key url size starts named =
-    c.in_default.ensures key url size (subst (λ p. IsNamed c.args.image.now p key url size) (sym (payload_is c.args.image.now c.args.header.now c.requires.read)) named)
+returns-in_default c key url size starts own =
+    c.in_default.ensures key url size (subst (λ p. IsOwn c.args.image.now p key url size) (sym (payload_is c.args.image.now c.args.header.now c.requires.read)) own)
+
+pub returns : goal.returns
+returns c =
+    let image = c.args.image.now in
+    let meta = c.in-Some.meta in
+    let url : meta.url.now ≡ c.from_vec.result = search rules in
+    record {
+      starts = search rules;
+      version = search rules;
+      alone = subst (λ u. IsOwnAlone image (payload_of image) meta.key u meta.length) url
+          (subst (λ p. IsOwnAlone image p meta.key meta.url.now meta.length) (payload_is image c.args.header.now c.requires.read) c.in-Some.ensures);
+    }

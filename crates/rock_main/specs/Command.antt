@@ -1,0 +1,10 @@
+-- What a command line asks for.
+use Rattle.std.specs.Prelude.{ℕ, List}
+use Rattle.rock_main.specs.CommandLine.{IsList, IsCheck}
+use Rattle.rock_main.specs.declared.command.Command.{Command}
+use Rattle.rock_main.specs.declared.command.Command.TheVariants as command
+
+-- the words are this command
+abbrev pub IsCommand : List (List ℕ) → Command → Type 0
+IsCommand words (command.List target) = IsList words target.name.now target.slot
+IsCommand words (command.Check target anchors) = IsCheck words target.name.now target.slot anchors

@@ -1,0 +1,28 @@
+use Rattle.std.proofs.Common.{◌≡◌, length, map, ap, sym, subst, ◌∙◌, arith}
+use Rattle.std.specs.List.Sorted.{IsStrictlyIncreasing}
+use Rattle.rebuild_model.specs.Keeping.{AreWinners, AreOwners}
+use Rattle.rock_rebuild.specs.Scan.{IsScan}
+use Rattle.rock_rebuild.specs.Best.{AreBest}
+use Rattle.rock_rebuild.specs.Winners.{AreKept}
+use Rattle.rock_rebuild.proofs.Cells.{images}
+use Rattle.rock_rebuild.proofs.Scanned.{count_of}
+use Rattle.rock_rebuild.proofs.Keeping.{firsts_of, are_kept}
+use Rattle.rock_rebuild.proofs.rebuilding.rebuild.Goals as goal
+
+pub returns-clause-rebuilt : goal.returns-clause-rebuilt
+returns-clause-rebuilt g c t =
+    let state = g.St.C.Cell.state in
+    let slot = c.args.slot in
+    let anchors = c.args.anchors in
+    let all = images (map state c.args.cells.now) in
+    let scan = c.in_ok-found.field-0 in
+    let s : IsScan slot all scan = c.in_ok-found.ensures.scanned t in
+    let up = subst IsStrictlyIncreasing (sym (ap (map (λ f. f.first)) (c.into_vec.ensures ∙ s.told) ∙ firsts_of s.entries)) s.ordered in
+    let best = c.in_ok-best.best.items in
+    let are = subst (λ l. AreBest anchors l best) c.into_vec.ensures (c.in_ok-best.ensures.best up) in
+    let kept = subst (AreKept slot all anchors) (sym c.deref_mut.ensures.value) (are_kept slot all anchors scan best s are) in
+    let winners = c.in_ok-winners.ensures slot all anchors kept in
+    let owners = subst (λ ws. AreOwners anchors ws c.in_ok-owner.owner.items) (c.deref.ensures.value ∙ sym c.from_vec.ensures) c.in_ok-owner.ensures.owners in
+    let count : length c.from_vec-2.result ≡ length all = omega (arith, ap length c.from_vec-2.ensures, c.in_ok-owner.ensures.count, c.scan.auto.cells, count_of state c.args.cells.now) in
+    c.winners_and_owners_make_a_rebuild.ensures slot all anchors _ c.requires.some
+    (subst (AreWinners slot all anchors anchors) (sym c.from_vec.ensures) winners) count (subst (AreOwners anchors c.from_vec.result) (sym c.from_vec-2.ensures) owners) s.greatest

@@ -1,0 +1,55 @@
+// A rebuild of a file.
+ghost use Rattle.std.specs.Prelude.{◌≡◌, ◌<◌, ◌≤◌, length, map, All, IsTrue, IfOk, IsErrOf};
+ghost use Rattle.rock_io.specs.Faults.{Rose};
+ghost use Rattle.rock_disk.specs.Cell.{CellState};
+ghost use Rattle.rebuild_model.specs.Rebuilt.{IsRebuilt};
+ghost use Rattle.rock_rebuild.specs.Scan.{IsSlotSize};
+
+use crate::best::best_of;
+use crate::outcome::{RebuildFault, Scan};
+use crate::owners::owners_of;
+use crate::scanning::scan;
+use crate::winners::winners_of;
+use crate::{FoundList, Rebuilt};
+use rebuild_model::winners_and_owners_make_a_rebuild;
+use rock_disk::Station;
+use rock_io::Numbers;
+use std::alloc::Global;
+
+/// What a store with so many anchors keeps of a file with these slots: at each anchor the complete
+/// entry of greatest version, and of those the one that begins first; whose each slot is; and the
+/// greatest version of a sane slot. Each slot is read once, in order. The cells are as they were,
+/// whatever the answer.
+///
+/// # Errors
+///
+/// [`RebuildFault::Failed`] where a read failed, and [`RebuildFault::Memory`] where memory runs out.
+pub fn rebuild<St: Station>(
+    alloc: Global,
+    station: &mut St,
+    cells: &mut [St::C],
+    slot: u32,
+    anchors: u32,
+) -> Result<Rebuilt, RebuildFault>
+    requires size { IsSlotSize slot }
+    requires wide { All (λ (c : CellState). c.width ≡ slot) (map St.C.state cells.old) }
+    requires few { length cells.old ≤ 1048576 }
+    requires some { 0 < anchors }
+    ensures rebuilt { IfOk result (λ rebuilt. IsTrue St.C.tells
+        → IsRebuilt slot (map (λ (c : CellState). c.now) (map St.C.state cells.old)) anchors rebuilt) }
+    ensures cells { map St.C.state cells.new ≡ map St.C.state cells.old }
+    ensures faults { St.faults station.old ≤ St.faults station.new }
+    ensures failed { IsErrOf result RebuildFault.Failed
+        → Rose (St.faults station.old) (St.faults station.new) }
+{
+    winners_and_owners_make_a_rebuild();
+    let Scan { found, greatest } = scan(alloc, station, cells, slot)?;
+    let mut best = best_of(alloc, found.into_vec(), anchors)?;
+    let winners = winners_of(alloc, &mut best)?;
+    let owner = owners_of(alloc, &winners, anchors, cells.len())?;
+    Ok(Rebuilt {
+        winners: FoundList::from_vec(winners),
+        owner: Numbers::from_vec(owner),
+        greatest,
+    })
+}
