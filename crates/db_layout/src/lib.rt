@@ -1,0 +1,17 @@
+//! Where the slots of a database file lie: the sizes that slots may have, how many a file has, where
+//! each begins, and how long a file of so many is.
+//!
+//! The functions of `laws` say how these fit: a file that was made for so many slots has as many, and
+//! slots lie apart and within their file.
+#![tactic(auto)]
+
+mod laws;
+mod layout;
+
+pub use laws::{
+    made_files_have_their_slots, offsets_are_in_range, slots_are_apart, slots_are_whole,
+};
+pub use layout::{file_size, offset_of, slot_size_ok, slots_of};
+
+#[cfg(test)]
+mod tests;
