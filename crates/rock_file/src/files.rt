@@ -1,5 +1,5 @@
-// Files of the system, for reading alone. No clause can say what the system holds, so the types here
-// tell of a file only its shape, and of a call only whether it failed.
+// Files of the system. No clause can say what the system holds, so the types here tell of a file only
+// its shape, and of a call only whether it failed.
 ghost use Rattle.std.specs.Prelude.{◌≡◌, ◌+◌, ◌*◌, ◌<◌, ◌≤◌, ◌++◌, ◌∷◌, [], ℕ, length, map, vec_capacity, false, IfOk, OnOk, OnErr, IsErr, IsErrOf, ◌↔◌};
 ghost use Rattle.std.specs.IoError.{error_kind};
 ghost use Rattle.rock_io.specs.Faults.{one_more};
@@ -9,7 +9,7 @@ ghost use Rattle.rock_disk.specs.File.{shapes_from, slots_of};
 use rock_disk::{Cell, CreateFault, OpenFault, Opened, Station, StationFault, Volume};
 use rock_io::{Failed, Memory};
 use std::alloc::Global;
-use std::fs::{File, OpenFile};
+use std::fs::{OpenFile, OpenOptions};
 use std::io;
 use std::io::ErrorKind;
 use std::os::unix::fs::FileExt;
@@ -116,7 +116,7 @@ impl<F: Drop> FileStation<F> {
     }
 }
 
-impl<F: FileExt + Drop> Station for FileStation<F> {
+impl<F: FileExt + OpenFile + Drop> Station for FileStation<F> {
     ghost use Rattle.rock_file.specs.Files.{cell_state, station_faults};
 
     type C = FileCell;
@@ -138,25 +138,35 @@ impl<F: FileExt + Drop> Station for FileStation<F> {
         Ok(())
     }
 
-    /// Fails, since the file is open for reading alone.
+    /// Puts the bytes at the cell's place. Where the call fails, some of them may stand there.
     fn write(&mut self, cell: &mut FileCell, bytes: &[u8]) -> Result<(), Failed>
         requires { length bytes.now ≡ (cell_state cell.old).width }
-        ensures refused { IsErr result }
         ensures cell { cell_state cell.new ≡ cell_state cell.old }
-        ensures failed { station_faults self.new ≡ one_more (station_faults self.old) }
+
+        // A failed write counts once, and no other does.
+        ensures ok { OnOk result (station_faults self.new ≡ station_faults self.old) }
+        ensures failed { OnErr result (station_faults self.new ≡ one_more (station_faults self.old)) }
         ensures faults { station_faults self.old ≤ station_faults self.new }
     {
-        Err(self.fault())
+        if self.file.write_all_at(bytes, cell.offset()).is_err() {
+            return Err(self.fault());
+        }
+        Ok(())
     }
 
-    /// Fails, since the file is open for reading alone.
+    /// Brings what was written to the disk, of the whole file.
     fn sync(&mut self, cell: &mut FileCell) -> Result<(), Failed>
-        ensures refused { IsErr result }
         ensures cell { cell_state cell.new ≡ cell_state cell.old }
-        ensures failed { station_faults self.new ≡ one_more (station_faults self.old) }
+
+        // A failed sync counts once, and no other does.
+        ensures ok { OnOk result (station_faults self.new ≡ station_faults self.old) }
+        ensures failed { OnErr result (station_faults self.new ≡ one_more (station_faults self.old)) }
         ensures faults { station_faults self.old ≤ station_faults self.new }
     {
-        Err(self.fault())
+        if self.file.sync_data().is_err() {
+            return Err(self.fault());
+        }
+        Ok(())
     }
 }
 
@@ -211,7 +221,7 @@ impl Stations {
     }
 }
 
-/// The files of the system by their paths, for reading alone.
+/// The files of the system by their paths.
 ///
 /// Another program can change a file at any time, so this volume and its cells tell nothing of what
 /// the files hold.
@@ -260,17 +270,58 @@ impl<R: Files + Drop> FileVolume<R> {
         self.count_fault();
         OpenFault::Failed
     }
+
+    /// What creating answers where the system refuses. Only a name that is taken is no fault.
+    fn refuse_name(&mut self, error: &io::Error) -> CreateFault
+        ensures exists { (result ≡ CreateFault.Exists) ↔ (error_kind error.now ≡ ErrorKind.AlreadyExists) }
+        ensures kept { result ≡ CreateFault.Exists → volume_faults self.new ≡ volume_faults self.old }
+        ensures failed { (result ≡ CreateFault.Exists → ⊥) → (result ≡ CreateFault.Failed) × (volume_faults self.new ≡ one_more (volume_faults self.old)) }
+        ensures grown { volume_faults self.old ≤ volume_faults self.new }
+        ensures stations { self.new.stations ≡ self.old.stations }
+    {
+        if error.kind() == ErrorKind::AlreadyExists {
+            return CreateFault::Exists;
+        }
+        self.count_fault();
+        CreateFault::Failed
+    }
 }
 
-/// Opens a regular file for reading, and asks for its length. A folder can be opened too, but it has
-/// no bytes to read.
-fn open_regular<R: Files>(rt: &R, name: &str) -> io::Result<(R::File, u64)> {
-    let file = File::open(rt, name)?;
-    let metadata = file.metadata()?;
-    if !metadata.is_file() {
+/// Opens a regular file, and asks for its length. A folder or a device is none, and is not opened.
+fn open_regular<R: Files>(rt: &R, name: &str, options: &OpenOptions) -> io::Result<(R::File, u64)> {
+    if !rt.metadata(name)?.is_file() {
         return Err(io::Error::from(ErrorKind::InvalidInput));
     }
-    Ok((file, metadata.len()))
+    let file = options.open(rt, name)?;
+    let bytes = file.metadata()?.len();
+    Ok((file, bytes))
+}
+
+/// Opens a regular file for a station: to read and write it or, where the system lets it only be read,
+/// to read it.
+fn open_for_station<R: Files>(rt: &R, name: &str) -> io::Result<R::File> {
+    let opened = match open_regular(rt, name, OpenOptions::new().read(true).write(true)) {
+        Err(error) if is_read_only(&error) => {
+            open_regular(rt, name, OpenOptions::new().read(true))
+        }
+        opened => opened,
+    };
+    Ok(opened?.0)
+}
+
+/// Whether the system refuses to have something written.
+fn is_read_only(error: &io::Error) -> bool {
+    matches!(
+        error.kind(),
+        ErrorKind::PermissionDenied | ErrorKind::ReadOnlyFilesystem
+    )
+}
+
+/// Gives a new file its length, and brings it to the disk. The system makes the bytes zeros, and takes
+/// no room for them where the file system can leave gaps.
+fn extend(file: &impl OpenFile, bytes: u64) -> io::Result<()> {
+    file.set_len(bytes)?;
+    file.sync_all()
 }
 
 /// How many whole slots a file of this length has.
@@ -329,7 +380,7 @@ where
         ensures made { volume_made self.new ≡ volume_made self.old }
         ensures ended { volume_ended self.new ≡ volume_ended self.old }
     {
-        let bytes = match open_regular(&self.rt, name) {
+        let bytes = match open_regular(&self.rt, name, OpenOptions::new().read(true)) {
             Ok((_, bytes)) => bytes,
             Err(error) => return Err(self.refuse(&error)),
         };
@@ -359,7 +410,7 @@ where
         let Ok(()) = self.stations.reserve() else {
             return Err(StationFault::Memory);
         };
-        let Ok((file, _)) = open_regular(&self.rt, name) else {
+        let Ok(file) = open_for_station(&self.rt, name) else {
             self.count_fault();
             return Err(StationFault::Failed);
         };
@@ -379,17 +430,34 @@ where
         // The cells are nothing but numbers, so there is nothing to put back.
     }
 
-    /// Fails, since files are opened for reading alone.
+    /// Makes the file only where nothing has its name yet, a folder or a link among others. Where the
+    /// call fails behind that, the name is taken by a file that is too short: nothing is removed.
     fn create(&mut self, name: &str, slots: u32, slot: u32) -> Result<(), CreateFault>
         requires { 0 < slot }
-        ensures refused { result ≡ Err CreateFault.Failed }
-        ensures failed { volume_faults self.new ≡ one_more (volume_faults self.old) }
+        ensures memory { IsErrOf result CreateFault.Memory → ⊥ }
+
+        // A fault counts once, and nothing else does.
+        ensures failed { IsErrOf result CreateFault.Failed → volume_faults self.new ≡ one_more (volume_faults self.old) }
+        ensures unfailed { (IsErrOf result CreateFault.Failed → ⊥) → volume_faults self.new ≡ volume_faults self.old }
         ensures faults { volume_faults self.old ≤ volume_faults self.new }
+
         ensures made { volume_made self.new ≡ volume_made self.old }
         ensures ended { volume_ended self.new ≡ volume_ended self.old }
     {
-        self.count_fault();
-        Err(CreateFault::Failed)
+        let bytes = u64::from(HEADER_BYTES) + u64::from(slots) * u64::from(slot);
+        let file = match OpenOptions::new()
+            .write(true)
+            .create_new(true)
+            .open(&self.rt, name)
+        {
+            Ok(file) => file,
+            Err(error) => return Err(self.refuse_name(&error)),
+        };
+        if extend(&file, bytes).is_err() {
+            self.count_fault();
+            return Err(CreateFault::Failed);
+        }
+        Ok(())
     }
 
     ghost ended_were_made = { λ volume. volume.stations.within };
@@ -399,37 +467,10 @@ where
 mod tests {
     use super::*;
     use std::fs;
+    use std::fs::File;
     use std::test::Fail;
 
     const SLOT: u32 = 512;
-
-    /// The header area, two slots and a rest.
-    const TWO_SLOTS: usize = 17_418;
-
-    /// What the files here hold at this offset.
-    fn byte_at(offset: usize) -> u8 {
-        (offset % 251) as u8
-    }
-
-    fn make_file(rt: &HostRuntime, name: &str, length: usize) -> io::Result<()> {
-        let mut bytes = Vec::new(rt.alloc());
-        for offset in 0..length {
-            bytes.push(byte_at(offset))?;
-        }
-        fs::write(rt, name, bytes.as_slice())
-    }
-
-    /// Whether these are the bytes of a file from this offset.
-    fn stand_at(bytes: &[u8], offset: usize) -> bool
-        requires { length bytes.now + offset < 65536 }
-    {
-        for i in 0..bytes.len() {
-            if bytes[i] != byte_at(offset + i) {
-                return false;
-            }
-        }
-        true
-    }
 
     fn needs_send<T: Send>(_value: &T) {}
 
@@ -445,46 +486,100 @@ mod tests {
         Some(buf)
     }
 
-    /// Whether the cell can be written or synced. None if there is no memory to try it.
-    fn change_cell(
+    /// Fills the cell with this byte, and brings it to the disk. None if that fails.
+    fn fill_cell(
         alloc: Global,
         station: &mut FileStation<File>,
         cell: &mut FileCell,
-    ) -> Option<bool> {
-        let mut buf = Vec::new(alloc);
-        buf.resize(cell.width as usize, 0).ok()?;
-        let is_written = station.write(cell, &buf).is_ok();
-        Some(is_written || station.sync(cell).is_ok())
+        byte: u8,
+    ) -> Option<()> {
+        let mut bytes = Vec::new(alloc);
+        bytes.resize(cell.width as usize, byte).ok()?;
+        station.write(cell, &bytes).ok()?;
+        station.sync(cell).ok()
+    }
+
+    fn is_filled(bytes: Option<Vec<u8>>, byte: u8) -> bool {
+        bytes.is_some_and(|bytes| bytes.iter().all(|other| *other == byte))
+    }
+
+    /// Reads all cells of the file. Whether the header area and its two slots are each filled with
+    /// their byte.
+    fn holds(
+        volume: &mut FileVolume<&HostRuntime>,
+        alloc: Global,
+        name: &str,
+        filled: [u8; 3],
+    ) -> Result<bool, Fail> {
+        let Opened {
+            mut header,
+            mut cells,
+            bytes: _,
+        } = volume.open_file(alloc, name, SLOT)?;
+        let mut station = volume.station(name)?;
+        let mut is_held = cells.len() == 2;
+        is_held = is_held && is_filled(read_cell(alloc, &mut station, &mut header), filled[0]);
+        for (cell, byte) in cells.iter_mut().zip([filled[1], filled[2]]) {
+            is_held = is_held && is_filled(read_cell(alloc, &mut station, cell), byte);
+        }
+        volume.end_station(station);
+        volume.give_back(name, header, cells);
+        Ok(is_held)
     }
 
     #[test]
-    fn reads_a_file_of_the_system(rt: HostRuntime) -> Result<(), Fail> {
+    fn makes_a_file_and_finds_what_it_wrote(rt: HostRuntime) -> Result<(), Fail> {
         let alloc = rt.alloc();
-        make_file(&rt, "two_slots", TWO_SLOTS)?;
         let mut volume = FileVolume::new(&rt, alloc);
+        volume.create("made", 2, SLOT)?;
+        assert!(rt; holds(&mut volume, alloc, "made", [0, 0, 0])?);
+
         let Opened {
             mut header,
             mut cells,
             bytes,
-        } = volume.open_file(alloc, "two_slots", SLOT)?;
-        assert_eq!(rt; bytes, 17_418);
+        } = volume.open_file(alloc, "made", SLOT)?;
+        assert_eq!(rt; bytes, 17_408);
         assert_eq!(rt; header.number(), 4_294_967_295);
         assert_eq!(rt; cells.len(), 2);
-        let mut station = volume.station("two_slots")?;
+        let mut station = volume.station("made")?;
         needs_send(&station);
-        let first = read_cell(alloc, &mut station, &mut header);
-        let is_changed = change_cell(alloc, &mut station, &mut header);
-        let last = read_cell(alloc, &mut station, &mut cells[1]);
+        let front = fill_cell(alloc, &mut station, &mut header, 7);
+        let back = fill_cell(alloc, &mut station, &mut cells[1], 9);
         volume.end_station(station);
-        volume.give_back("two_slots", header, cells);
-        fs::remove_file(&rt, "two_slots")?;
-        assert_eq!(rt; is_changed, Some(false));
-        let first = first.ok_or("the header area was not read")?;
-        let last = last.ok_or("the slot was not read")?;
-        assert_eq!(rt; first.len(), 16_384);
-        assert!(rt; stand_at(&first, 0));
-        assert_eq!(rt; last.len(), 512);
-        assert!(rt; stand_at(&last, 16_384 + 512));
+        volume.give_back("made", header, cells);
+        assert_eq!(rt; front, Some(()));
+        assert_eq!(rt; back, Some(()));
+        assert!(rt; holds(&mut volume, alloc, "made", [7, 0, 9])?);
+
+        assert_eq!(rt; volume.create("made", 4, SLOT), Err(CreateFault::Exists));
+        assert!(rt; holds(&mut volume, alloc, "made", [7, 0, 9])?);
+        fs::remove_file(&rt, "made")?;
+        assert_eq!(rt; volume.stations.ended.as_slice(), [0; 4].as_slice());
+        assert_eq!(rt; volume.faults, 0);
+        Ok(())
+    }
+
+    #[test]
+    fn counts_a_read_behind_the_end(rt: HostRuntime) -> Result<(), Fail> {
+        let alloc = rt.alloc();
+        let mut volume = FileVolume::new(&rt, alloc);
+        volume.create("cut", 1, SLOT)?;
+        let Opened {
+            header,
+            mut cells,
+            bytes: _,
+        } = volume.open_file(alloc, "cut", SLOT)?;
+        assert_eq!(rt; cells.len(), 1);
+        let file = OpenOptions::new().write(true).open(&rt, "cut")?;
+        file.set_len(16_895)?;
+        let mut station = volume.station("cut")?;
+        let read = read_cell(alloc, &mut station, &mut cells[0]);
+        volume.end_station(station);
+        volume.give_back("cut", header, cells);
+        fs::remove_file(&rt, "cut")?;
+        assert!(rt; read.is_none());
+        assert_eq!(rt; volume.stations.ended.as_slice(), [1].as_slice());
         Ok(())
     }
 
@@ -509,19 +604,23 @@ mod tests {
     #[test]
     fn refuses_what_is_no_file_of_slots(rt: HostRuntime) -> Result<(), Fail> {
         let alloc = rt.alloc();
-        make_file(&rt, "short", 16_895)?;
         let mut volume = FileVolume::new(&rt, alloc);
+        fs::write(&rt, "short", b"short")?;
         let short = refusal(&mut volume, alloc, "short");
-        let missing = refusal(&mut volume, alloc, "none");
-        let folder = refusal(&mut volume, alloc, ".");
-        let created = volume.create("none", 4, SLOT);
-        let still_missing = refusal(&mut volume, alloc, "none");
         fs::remove_file(&rt, "short")?;
-        assert_eq!(rt; short, Some(OpenFault::Small { bytes: 16_895 }));
-        assert_eq!(rt; missing, Some(OpenFault::Missing));
-        assert_eq!(rt; folder, Some(OpenFault::Failed));
-        assert_eq!(rt; created, Err(CreateFault::Failed));
-        assert_eq!(rt; still_missing, Some(OpenFault::Missing));
+        assert_eq!(rt; short, Some(OpenFault::Small { bytes: 5 }));
+        assert_eq!(rt;
+            refusal(&mut volume, alloc, "none"),
+            Some(OpenFault::Missing)
+        );
+        assert_eq!(rt; volume.create(".", 1, SLOT), Err(CreateFault::Exists));
+        assert_eq!(rt; volume.faults, 0);
+
+        assert_eq!(rt; refusal(&mut volume, alloc, "."), Some(OpenFault::Failed));
+        assert_eq!(rt;
+            volume.create("none/made", 1, SLOT),
+            Err(CreateFault::Failed)
+        );
         assert_eq!(rt; volume.faults, 2);
         Ok(())
     }

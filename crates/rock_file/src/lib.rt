@@ -1,5 +1,4 @@
-//! Database files of the system: the edge at which the store meets the disk. They are opened for
-//! reading alone so far.
+//! Database files of the system: the edge at which the store meets the disk.
 #![tactic(auto)]
 
 mod files;

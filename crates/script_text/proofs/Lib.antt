@@ -1,0 +1,11 @@
+pub mod Numbers
+pub mod Made
+pub mod Firsts
+pub mod Passing
+pub mod Adding
+pub mod Splitting
+pub mod Fronts
+pub mod Ended
+pub mod Told
+pub mod Finishing
+pub mod Sourcing

@@ -1,0 +1,9 @@
+pub mod Words
+pub mod Fields
+pub mod Requests
+pub mod Lines
+pub mod Causes
+pub mod Script
+pub mod Refusals
+pub mod Reading
+pub mod Tabs

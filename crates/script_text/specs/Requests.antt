@@ -1,0 +1,87 @@
+-- The table of requests.
+use Rattle.std.specs.Prelude.{◌≡◌, ℕ, ◌≤◌, List, [], ◌∷◌, codes, decimal}
+use Rattle.store_key.specs.Url.{IsUrl}
+use Rattle.script_text.specs.Fields.{Kind, SpellsBody, body_size}
+use Rattle.script_text.specs.declared.body.Body.{Body}
+use Rattle.script_text.specs.Fields.Kind.{TabWord, UrlWord, BodyWord, CountWord, MarkWord}
+use Rattle.script_text.specs.declared.request.Request.{Request}
+use Rattle.script_text.specs.declared.request.Request.TheVariants.{Put, Save, Get, Purge, Begin, Add, End, DropTab, OpenTab, More, CloseTab, Mark, Await}
+use Rattle.script_text.specs.declared.verb.Verb.{Verb}
+use Rattle.script_text.specs.declared.verb.Verb.TheVariants as verb
+
+-- the name of a request, and the kinds of the words behind it
+abbrev pub name_of : Verb → List ℕ
+name_of verb.Put = codes "put"
+name_of verb.Save = codes "save"
+name_of verb.Get = codes "get"
+name_of verb.Purge = codes "purge"
+name_of verb.Begin = codes "begin"
+name_of verb.Add = codes "add"
+name_of verb.End = codes "end"
+name_of verb.DropTab = codes "drop"
+name_of verb.OpenTab = codes "open"
+name_of verb.More = codes "more"
+name_of verb.CloseTab = codes "close"
+name_of verb.Mark = codes "mark"
+name_of verb.Await = codes "await"
+
+abbrev pub kinds_of : Verb → List Kind
+kinds_of verb.Put = UrlWord ∷ BodyWord ∷ []
+kinds_of verb.Save = UrlWord ∷ BodyWord ∷ []
+kinds_of verb.Get = UrlWord ∷ []
+kinds_of verb.Purge = UrlWord ∷ []
+kinds_of verb.Begin = TabWord ∷ UrlWord ∷ BodyWord ∷ []
+kinds_of verb.Add = TabWord ∷ CountWord ∷ []
+kinds_of verb.End = TabWord ∷ []
+kinds_of verb.DropTab = TabWord ∷ []
+kinds_of verb.OpenTab = TabWord ∷ UrlWord ∷ []
+kinds_of verb.More = TabWord ∷ []
+kinds_of verb.CloseTab = TabWord ∷ []
+kinds_of verb.Mark = MarkWord ∷ []
+kinds_of verb.Await = MarkWord ∷ []
+
+-- the numbers and texts that words behind a request's name stand for
+abbrev pub AreTab : ℕ → List (List ℕ) → Type 0
+AreTab tab words = (tab ≤ 6) × (words ≡ decimal tab ∷ [])
+
+abbrev pub AreUrl : List ℕ → List (List ℕ) → Type 0
+AreUrl url words = IsUrl url × (words ≡ url ∷ [])
+
+abbrev pub AreTabAndUrl : ℕ → List ℕ → List (List ℕ) → Type 0
+AreTabAndUrl tab url words = (tab ≤ 6) × IsUrl url × (words ≡ decimal tab ∷ url ∷ [])
+
+abbrev pub AreTabAndCount : ℕ → ℕ → List (List ℕ) → Type 0
+AreTabAndCount tab count words = (tab ≤ 6) × (1 ≤ count) × (count ≤ 4194304) × (words ≡ decimal tab ∷ decimal count ∷ [])
+
+abbrev pub AreMark : ℕ → List (List ℕ) → Type 0
+AreMark mark words = (mark ≤ 63) × (words ≡ decimal mark ∷ [])
+
+abbrev pub AreUrlAndBody : List ℕ → Body → List (List ℕ) → Type 0
+AreUrlAndBody url body words = IsUrl url × ((word : List ℕ) × SpellsBody body word × (words ≡ url ∷ word ∷ []))
+
+abbrev pub AreTabUrlAndBody : ℕ → List ℕ → Body → List (List ℕ) → Type 0
+AreTabUrlAndBody tab url body words =
+    (tab ≤ 6) × IsUrl url × ((word : List ℕ) × SpellsBody body word × (words ≡ decimal tab ∷ url ∷ word ∷ []))
+
+-- a request is written by this name and these words
+abbrev pub SpellsRequest : Request → Verb → List (List ℕ) → Type 0
+SpellsRequest (Put url body) name words = (name ≡ verb.Put) × AreUrlAndBody url body words
+SpellsRequest (Save url body) name words = (name ≡ verb.Save) × AreUrlAndBody url body words
+SpellsRequest (Get url) name words = (name ≡ verb.Get) × AreUrl url words
+SpellsRequest (Purge url) name words = (name ≡ verb.Purge) × AreUrl url words
+SpellsRequest (Begin tab url body) name words = (name ≡ verb.Begin) × AreTabUrlAndBody tab url body words
+SpellsRequest (Add tab count) name words = (name ≡ verb.Add) × AreTabAndCount tab count words
+SpellsRequest (End tab) name words = (name ≡ verb.End) × AreTab tab words
+SpellsRequest (DropTab tab) name words = (name ≡ verb.DropTab) × AreTab tab words
+SpellsRequest (OpenTab tab url) name words = (name ≡ verb.OpenTab) × AreTabAndUrl tab url words
+SpellsRequest (More tab) name words = (name ≡ verb.More) × AreTab tab words
+SpellsRequest (CloseTab tab) name words = (name ≡ verb.CloseTab) × AreTab tab words
+SpellsRequest (Mark mark) name words = (name ≡ verb.Mark) × AreMark mark words
+SpellsRequest (Await mark) name words = (name ≡ verb.Await) × AreMark mark words
+
+-- how many bytes a request offers to store
+abbrev pub offered_size : Request → ℕ
+offered_size (Put url body) = body_size body
+offered_size (Save url body) = body_size body
+offered_size (Begin tab url body) = body_size body
+offered_size request = 0

@@ -1,0 +1,43 @@
+// A script is read from a source.
+ghost use Rattle.std.specs.Prelude.{◌≡◌, ◌≤◌, ℕ, ◌<◌, ◌++◌, List, length, vec_len, IfOk, IfErr};
+ghost use Rattle.rock_io.specs.Faults.{Rose};
+ghost use Rattle.script_text.specs.Script.{GivesScript, GivesBadLine, Explains, IsTakenFrom};
+
+use crate::fault::ScriptFault;
+use crate::line::Script;
+use crate::reading::Reading;
+use rock_io::{Memory, Source};
+use std::alloc::Global;
+
+/// How many bytes are asked of a source at once.
+const CHUNK: usize = 8192;
+
+fn buffer(alloc: Global) -> Result<Vec<u8>, Memory>
+    ensures { IfOk result (λ buf. vec_len buf ≡ 8192) }
+{
+    Ok(vec![in alloc; 0; CHUNK]?)
+}
+
+/// Reads a script to its end, for so many workers. The first bad line ends the reading, and so does the
+/// first byte of a line, or of a script, past its limits.
+pub fn read_script<S: Source>(
+    alloc: Global,
+    src: &mut S,
+    workers: u32,
+) -> Result<Script, ScriptFault>
+    ensures script { IfOk result (λ script. GivesScript S.tells workers (S.left src.old) (S.left src.new) script.lines) }
+    ensures refused { IfErr result (Explains (GivesBadLine S.tells workers (S.left src.old)) (Rose (S.faults src.old) (S.faults src.new))) }
+    ensures taken { IsTakenFrom S.tells (S.left src.old) (S.left src.new) }
+    ensures faults { S.faults src.old ≤ S.faults src.new }
+{
+    let mut buf = buffer(alloc)?;
+    let mut reading = Reading::new(alloc, workers)?;
+    'script: loop {
+        let count = src.read(&mut buf)?;
+        if count == 0 {
+            break;
+        }
+        reading.take_bytes(alloc, &buf[..count])?;
+    }
+    reading.finish(alloc)
+}
