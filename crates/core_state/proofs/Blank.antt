@@ -1,5 +1,5 @@
 -- A store with no entries is that of a file in which no slot is sane.
-use Rattle.std.proofs.Common.{◌≡◌, ◌⊎◌, inl, ◌<◌, ◌≤◌, ◌+◌, ◌*◌, ℕ, zero, suc, List, [], ◌∷◌, Option, None, map, replicate, length, get_or, refl, sym, ap, ◌∙◌, subst, arith, Contains, All}
+use Rattle.std.proofs.Common.{◌≡◌, inl, ◌≤◌, ◌+◌, ℕ, zero, suc, List, [], ◌∷◌, Option, None, map, replicate, length, get_or, refl, sym, ap, ◌∙◌, subst, arith, Contains, All}
 use Rattle.std.specs.Prelude.{slice_index}
 use Rattle.std.proofs.lemmas.List.{length-replicate}
 use Rattle.std.proofs.lemmas.List.Elements.{All-head}
@@ -12,16 +12,13 @@ use Rattle.rebuild_model.specs.declared.rebuilt.Rebuilt.{Rebuilt}
 use Rattle.rebuild_model.specs.Entry.{Entry, IsComplete, found_of}
 use Rattle.rebuild_model.specs.Image.{IsSaneAt, BelongsTo}
 use Rattle.rebuild_model.specs.Rebuilt.{IsRebuilt}
-use Rattle.lock_word.specs.Words.{readers_of, epoch_of, mode_of, doom_of, stage_of, version_of, version_limit}
+use Rattle.lock_word.specs.Words.{readers_of, epoch_of, doom_of, stage_of}
 use Rattle.core_model.specs.Anchors.{IsSetting}
 use Rattle.core_model.specs.Chains.{no_chain}
 use Rattle.core_model.specs.Layout.{word_count, turns_end}
-use Rattle.core_model.specs.Opening.{IsOpened, IsKeptAt, IsEmptyAt, new_views}
+use Rattle.core_model.specs.Opening.{IsOpened}
 use Rattle.core_model.specs.Sound.{AnchorsSound}
-use Rattle.core_model.specs.State.{State}
 use Rattle.core_model.proofs.Opened.{opens}
-use Rattle.core_state.specs.declared.content.Content.{Content}
-use Rattle.core_state.specs.declared.content.Content.TheVariants.{Opened}
 use Rattle.core_state.specs.declared.table.Opening.{Opening}
 use Rattle.core_state.specs.Blank.{IsBlank, blank_state}
 use Rattle.core_state.specs.Inside.{setting}

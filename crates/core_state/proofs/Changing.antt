@@ -1,17 +1,14 @@
 -- How a change is made.
-use Rattle.std.proofs.Common.{◌≡◌, ℕ, ◌<◌, List, ◌++◌, length, get_or, set, sym, refl, ap, ◌∙◌, subst, Some, true}
+use Rattle.std.proofs.Common.{◌≡◌, ℕ, List, get_or, set, sym, ap, ◌∙◌, Some, true}
 use Rattle.std.specs.Prelude.{slice_get}
 use Rattle.std.proofs.lemmas.Option.{get_or_from_slice_get}
-use mathlib.Core.Option.{some}
-use lib.ListN.{get_elem?}
 use Rattle.core_model.specs.declared.tab.Tab.{Tab}
 use Rattle.core_model.specs.declared.tab.Tab.TheVariants.{Free, Writing}
 use Rattle.core_model.specs.declared.tab.Writer.{Writer}
-use Rattle.core_model.specs.declared.view.View.{View}
 use Rattle.core_model.specs.TabsAfter.{raised_tab}
 use Rattle.lock_word.specs.declared.stage.Stage.TheVariants.{Appending}
 use Rattle.core_state.specs.declared.content.Content.{Content}
-use Rattle.core_state.proofs.Lists.{at_or, set_twice}
+use Rattle.core_state.proofs.Lists.{set_twice}
 
 -- a writing tab that is taken out and put back at APPENDING
 pub appended : (tabs was now : List (Tab Content)) (t : ℕ) (w : Writer Content) → was ≡ set tabs t Free → slice_get tabs t ≡ Some (Writing w)

@@ -4,7 +4,7 @@ use Rattle.std.specs.Prelude.{slice_get, slice_index}
 use Rattle.std.proofs.lemmas.Option.{get_or_from_slice_get, slice_get_within}
 use Rattle.std.proofs.lemmas.List.Sums.{sum_by-set, get_or-le-sum_by}
 use Rattle.lock_word.specs.declared.word.Word.{Word}
-use Rattle.lock_word.specs.Words.{IsInRange, IsWord, word_number, readers_of, version_limit, is_left_over}
+use Rattle.lock_word.specs.Words.{IsInRange, word_number, readers_of, is_left_over}
 use Rattle.core_model.specs.declared.moves.Move.{Move}
 use Rattle.core_model.specs.declared.moves.Move.TheVariants as move
 use Rattle.core_model.specs.declared.view.View.{View}

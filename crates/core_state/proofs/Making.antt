@@ -1,17 +1,9 @@
 -- A change that does to each part of a state what a step does makes the step.
-use Rattle.std.proofs.Common.{◌≡◌, ℕ, List, [], ◌∷◌, ◌++◌, set, refl, ap, ◌∙◌, sym}
+use Rattle.std.proofs.Common.{◌≡◌, ℕ, ◌∷◌, ◌++◌, ap, ◌∙◌}
 use Rattle.std.specs.Prelude.{slice_set}
-use Rattle.std.specs.Option.{option_to_list}
-use Rattle.core_model.specs.declared.chain.Chain.{Chain}
 use Rattle.core_model.specs.declared.moves.Move.{Move}
-use Rattle.core_model.specs.declared.view.Deed.{Deed}
-use Rattle.core_model.specs.declared.view.Sight.{Sight}
-use Rattle.core_model.specs.declared.view.Trace.{Trace}
 use Rattle.core_model.specs.declared.view.View.{View}
-use Rattle.core_model.specs.Records.{held_after, sights_of, item_of, deeds_of, met_of}
-use Rattle.core_model.specs.Steps.{number_found, finding, traces_of, view_after, words_after, places_after, views_after, chains_after, after}
-use Rattle.core_model.specs.TabsAfter.{tabs_after}
-use Rattle.core_model.specs.Where.{place, left_by}
+use Rattle.core_model.specs.Steps.{finding, view_after, after}
 use Rattle.core_state.specs.declared.content.Content.{Content}
 use Rattle.core_state.specs.declared.change.Change.{Change}
 use Rattle.core_state.specs.declared.table.Opening.{Opening}

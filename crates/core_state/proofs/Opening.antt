@@ -1,11 +1,9 @@
 -- The parts of a core that was just opened, one more at a time.
-use Rattle.std.proofs.Common.{◌≡◌, ◌<◌, ◌≤◌, ◌+◌, ℕ, zero, suc, List, [], ◌∷◌, ◌++◌, map, replicate, reverse, length, get_or, refl, sym, ap, ◌∙◌, arith}
-use Rattle.std.proofs.lemmas.List.{map-append, reverse-append, replicate-append-replicate}
-use Rattle.core_model.specs.declared.view.Sight.TheVariants.{Stood}
+use Rattle.std.proofs.Common.{◌≡◌, ◌+◌, ℕ, zero, suc, List, [], ◌∷◌, ◌++◌, map, ap, ◌∙◌, arith}
+use Rattle.std.proofs.lemmas.List.{map-append}
 use Rattle.core_model.specs.declared.view.View.{View}
-use Rattle.core_model.specs.Anchors.{opening_epoch}
 use Rattle.core_model.specs.Layout.{Setting}
-use Rattle.core_model.specs.Opening.{new_view, new_views, sights_below}
+use Rattle.core_model.specs.Opening.{new_view, new_views}
 use Rattle.core_state.specs.declared.content.Content.{Content}
 use Rattle.core_state.specs.declared.content.Content.TheVariants.{Opened}
 use Rattle.core_state.specs.Machine.{opened_from}

@@ -1,12 +1,12 @@
 -- Steps of tabs that raise their anchor, as they are worked out.
-use Rattle.std.proofs.Common.{◌≡◌, ◌⊎◌, inl, inr, ◌<◌, ◌≤◌, ◌-◌, ◌+◌, ◌*◌, ℕ, List, [], ◌∷◌, Option, Some, None, Bool, true, false, cond, length, get_or, refl, sym, ap, ◌∙◌, subst, arith, set, sum_by, ltb}
+use Rattle.std.proofs.Common.{◌≡◌, inl, inr, ◌<◌, ◌≤◌, ◌-◌, ℕ, List, [], ◌∷◌, Option, Some, None, Bool, true, false, cond, length, get_or, refl, sym, ap, ◌∙◌, subst, arith, set, sum_by, ltb}
 use Rattle.std.specs.Prelude.{slice_get, slice_index, nat_lt, if◌then◌else◌}
 use Rattle.std.specs.Option.{option_to_list}
 use Rattle.std.proofs.lemmas.Option.{slice_get_within}
 use Rattle.lock_word.specs.declared.stage.Stage.{Stage}
 use Rattle.lock_word.specs.declared.stage.Stage.TheVariants.{Empty, Taken, Appending, Closed, Halted, Freeing as FreeingStage, Gone}
 use Rattle.lock_word.specs.declared.word.Word.{Word}
-use Rattle.lock_word.specs.Words.{IsInRange, word_number, epoch_number, stage_number, readers_of, epoch_of, stage_of, raised}
+use Rattle.lock_word.specs.Words.{IsInRange, word_number, stage_number, readers_of, epoch_of, stage_of, raised}
 use Rattle.lock_word.proofs.Parts.{epoch_of-word_number, stage_of-epoch_number}
 use Rattle.core_model.specs.declared.adding.Addition.{Addition}
 use Rattle.core_model.specs.declared.chain.Chain.{Chain}
@@ -17,12 +17,12 @@ use Rattle.core_model.specs.declared.view.Kind.TheVariants as kind
 use Rattle.core_model.specs.declared.view.Place.TheVariants.{Anchor}
 use Rattle.core_model.specs.declared.view.Sight.TheVariants.{Stood}
 use Rattle.core_model.specs.declared.view.View.{View}
-use Rattle.core_model.specs.Chains.{no_chain, named}
+use Rattle.core_model.specs.Chains.{no_chain}
 use Rattle.core_model.specs.Layout.{Setting}
 use Rattle.core_model.specs.State.{State}
 use Rattle.core_model.specs.Steps.{chains_after, halted}
 use Rattle.core_model.specs.Tabs.{tab_at, anchor_of, is_free, counts, OfWriter}
-use Rattle.core_model.specs.TabsAfter.{left_tab, raised_tab}
+use Rattle.core_model.specs.TabsAfter.{raised_tab}
 use Rattle.core_model.specs.Where.{stage_held}
 use Rattle.core_state.specs.declared.change.ChainChange.{ChainChange}
 use Rattle.core_state.specs.declared.change.TabsChange.{TabsChange}
@@ -34,7 +34,7 @@ use Rattle.core_state.specs.Inside.{setting, state}
 use Rattle.core_state.specs.Planned.{IsScene, Plans}
 use Rattle.core_state.specs.Raising.{MayRaiseTab, raised_tabs, raised_chain}
 use Rattle.core_state.proofs.Anchored.{anchored}
-use Rattle.core_state.proofs.Facts.{known, below, tab_is, readers_are, own_set, counts_left}
+use Rattle.core_state.proofs.Facts.{known, below, tab_is, own_set, counts_left}
 use Rattle.core_state.proofs.Readers.{word_there}
 
 -- P holds where a tab may be raised, at each stage that it may be raised to

@@ -1,5 +1,5 @@
 -- Steps of tabs that are counted, as they are worked out.
-use Rattle.std.proofs.Common.{◌≡◌, ◌<◌, ◌≤◌, ◌-◌, ◌+◌, ℕ, [], ◌∷◌, Option, Some, None, true, false, cond, length, refl, sym, ap, ◌∙◌, subst, arith, set, sum_by, ltb}
+use Rattle.std.proofs.Common.{◌≡◌, ◌<◌, ◌-◌, ◌+◌, ℕ, [], ◌∷◌, Option, Some, None, true, false, cond, length, refl, sym, ap, ◌∙◌, arith, set, sum_by, ltb}
 use Rattle.std.specs.Prelude.{slice_get, slice_index, nat_lt, if◌then◌else◌}
 use Rattle.std.specs.Option.{option_to_list}
 use Rattle.std.proofs.lemmas.Option.{slice_get_within}
@@ -16,7 +16,6 @@ use Rattle.core_model.specs.declared.view.Kind.TheVariants as kind
 use Rattle.core_model.specs.declared.view.Place.TheVariants.{Anchor}
 use Rattle.core_model.specs.declared.view.Sight.TheVariants.{Stood}
 use Rattle.core_model.specs.declared.view.View.{View}
-use Rattle.core_model.specs.Records.{meets}
 use Rattle.core_model.specs.Tabs.{tab_at, is_counted, is_reading, holds_turn, anchor_of, counts}
 use Rattle.core_model.specs.TabsAfter.{left_tab, entered}
 use Rattle.core_state.specs.declared.change.ChainChange.TheVariants as chains

@@ -1,18 +1,16 @@
 -- Steps that take an anchor or free its entry, as they are worked out.
-use Rattle.std.proofs.Common.{◌≡◌, ◌⊎◌, inl, inr, ⊎_elim, ◌<◌, ◌≤◌, ◌-◌, ◌+◌, ◌*◌, ◌==◌, ℕ, List, [], ◌∷◌, Option, Some, None, Bool, true, false, cond, length, get_or, refl, sym, ap, ◌∙◌, subst, arith, set, sum_by, ltb, eq-eqb, ne_eqb}
+use Rattle.std.proofs.Common.{◌≡◌, ◌⊎◌, inl, inr, ⊎_elim, ◌<◌, ◌≤◌, ◌==◌, ℕ, [], ◌∷◌, Option, Some, None, Bool, true, false, cond, length, get_or, refl, sym, ap, ◌∙◌, subst, arith, set, sum_by, ltb, eq-eqb}
 use Rattle.std.specs.Prelude.{slice_index, nat_lt, if◌then◌else◌}
 use Rattle.std.specs.Option.{option_to_list}
 use Rattle.lock_word.specs.declared.stage.Stage.TheVariants.{Taken, Freeing as FreeingStage}
 use Rattle.lock_word.specs.declared.word.Word.{Word}
-use Rattle.lock_word.specs.Words.{IsInRange, word_number, epoch_number, stage_number, readers_of, epoch_of, stage_of, mode_of, word_at, is_idle, is_left_over}
+use Rattle.lock_word.specs.Words.{IsInRange, word_number, stage_number, readers_of, epoch_of, stage_of, mode_of, word_at, is_idle, is_left_over}
 use Rattle.lock_word.proofs.Parts.{epoch_of-word_number, stage_of-epoch_number}
 use Rattle.lock_word.proofs.Testing.{mode_of-idle, stage_of-left_over}
 use Rattle.core_model.specs.declared.adding.Addition.{Addition}
 use Rattle.core_model.specs.declared.chain.Chain.{Chain}
 use Rattle.core_model.specs.declared.moves.Move.TheVariants as move
-use Rattle.core_model.specs.declared.tab.Tab.{Tab}
 use Rattle.core_model.specs.declared.tab.Tab.TheVariants.{Free, Writing, Last, Freeing}
-use Rattle.core_model.specs.declared.view.Deed.{Deed}
 use Rattle.core_model.specs.declared.view.Kind.TheVariants as kind
 use Rattle.core_model.specs.declared.view.Sight.TheVariants.{Stood}
 use Rattle.core_model.specs.declared.view.View.{View}
@@ -25,7 +23,6 @@ use Rattle.core_model.specs.Trails.{last_find}
 use Rattle.core_model.specs.Where.{evicted}
 use Rattle.core_state.specs.declared.change.ChainChange.TheVariants as chains
 use Rattle.core_state.specs.declared.change.TabsChange.{TabsChange}
-use Rattle.core_state.specs.declared.change.TabsChange.TheVariants as tabs
 use Rattle.core_state.specs.declared.content.Content.{Content}
 use Rattle.core_state.specs.declared.table.Opening.{Opening}
 use Rattle.core_state.specs.declared.table.Table.{Table}

@@ -2,7 +2,6 @@
 use Rattle.std.specs.Prelude.{ℕ, ◌≡◌, Some}
 use Rattle.core_model.specs.declared.moves.Move.{Move}
 use Rattle.core_model.specs.Steps.{IsStep, MayMove}
-use Rattle.core_state.specs.declared.act.Act.{Act}
 use Rattle.core_state.specs.declared.act.Step.{Step}
 use Rattle.core_state.specs.declared.act.Step.TheVariants as step
 use Rattle.core_state.specs.Decoded.{decoded}

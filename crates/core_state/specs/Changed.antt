@@ -1,5 +1,5 @@
 -- What a change makes of a state.
-use Rattle.std.specs.Prelude.{ℕ, ◌≡◌, ◌<◌, List, [], ◌∷◌, ◌++◌, length, slice_set, slice_index_or, Option, Some, None}
+use Rattle.std.specs.Prelude.{ℕ, ◌≡◌, ◌<◌, List, ◌++◌, length, slice_set, slice_index_or, Option, Some, None}
 use Rattle.std.specs.Option.{option_to_list}
 use mathlib.Core.Option.{some}
 use lib.ListN.{get_elem?}

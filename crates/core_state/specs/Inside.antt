@@ -1,12 +1,11 @@
 -- How a core is kept.
 use Rattle.core_model.specs.Layout.{Setting}
 use Rattle.core_model.specs.State.{State}
-use Rattle.core_model.specs.Sound.{AnchorsSound}
 use Rattle.core_state.specs.declared.content.Content.{Content}
 use Rattle.core_state.specs.declared.content.Content.TheVariants.{Offered}
 use Rattle.core_state.specs.declared.table.Opening.{Opening}
 use Rattle.core_state.specs.declared.table.Table.{Table}
-use Rattle.core_state.specs.Machine.{Machine, opened_from}
+use Rattle.core_state.specs.Machine.{opened_from}
 
 abbrev pub setting : Opening → Setting Content
 setting o = record { anchors = o.anchors; slots = o.slots; passes = o.passes; words = o.words.items; contents = opened_from 0 o.slots; image = Offered }

@@ -1,4 +1,4 @@
-use Rattle.std.proofs.Common.{◌≡◌, ◌∙◌, ap, sym, subst, length}
+use Rattle.std.proofs.Common.{◌∙◌, ap, sym, subst, length}
 use Rattle.core_model.specs.Opening.{IsOpened}
 use Rattle.core_model.specs.Sound.{AnchorsSound}
 use Rattle.core_model.specs.State.{State}

@@ -1,4 +1,4 @@
-use Rattle.std.proofs.Common.{refl, arith, ap, ◌∙◌, Some}
+use Rattle.std.proofs.Common.{refl, ap, ◌∙◌, Some}
 use Rattle.core_model.specs.declared.tab.Tab.{Tab}
 use Rattle.core_state.specs.declared.content.Content.{Content}
 use Rattle.core_state.proofs.Facts.{in_table}

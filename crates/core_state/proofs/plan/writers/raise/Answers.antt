@@ -1,4 +1,4 @@
-use Rattle.std.proofs.Common.{◌≡◌, ◌<◌, arith, refl, ap, sym, ◌∙◌, subst, length}
+use Rattle.std.proofs.Common.{◌<◌, arith, refl, ◌∙◌, subst, length}
 use Rattle.std.proofs.lemmas.Bool.{false≢true}
 use Rattle.core_model.specs.declared.tab.Tab.{Tab}
 use Rattle.core_model.specs.Chains.{no_chain}

@@ -1,5 +1,4 @@
 use Rattle.std.proofs.Common.{arith, sym, ap, length, ◌∙◌}
-use Rattle.core_model.specs.declared.tab.Tab.{Tab}
 use Rattle.core_model.specs.declared.view.View.{View}
 use Rattle.core_state.specs.declared.content.Content.{Content}
 use Rattle.core_state.proofs.Lists.{at_length, at_slice, slice_at}
