@@ -3,9 +3,8 @@ ghost use Rattle.std.specs.Prelude.{◌≡◌, ◌^◌, ◌<◌, ℕ, List};
 ghost use Rattle.script_text.specs.Script.{IsScript, IsBadScript};
 ghost use Rattle.script_text.specs.declared.line.Line.{Line};
 
-/// A text has one reading: it is the script of at most one list of lines, or it has one first bad line
-/// with one first cause, and never both. So nothing but the text decides what is read of it, not the
-/// pieces in which it comes either.
+/// A text has at most one reading: no two lists of lines, no two first bad lines or first causes, and
+/// never lines and a bad line. So how a text is cut into pieces makes no difference to what is read of it.
 pub fn one_reading()
     ensures script { (workers : ℕ) (text : List ℕ) (lines others : List Line) → workers < 2 ^ 32
         → IsScript workers text lines → IsScript workers text others → lines ≡ others }
