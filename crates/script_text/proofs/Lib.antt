@@ -1,8 +1,11 @@
 pub mod Numbers
 pub mod Made
 pub mod Firsts
+pub mod Seams
+pub mod OneLine
 pub mod Passing
 pub mod Adding
+pub mod Excluding
 pub mod Splitting
 pub mod Fronts
 pub mod Ended

@@ -1,14 +1,17 @@
 -- What a source gave, and what was read of it.
-use Rattle.std.proofs.Common.{◌≡◌, ◌≤◌, ℕ, List, [], ◌∷◌, ◌++◌, length, take, drop, Bool, Ok, Err, ap, sym, ◌∙◌, subst, append_assoc, arith}
-use Rattle.std.specs.Prelude.{Result, IfOk, IfErr, IsErrAnd, IsTrue}
+use Rattle.std.proofs.Common.{◌≡◌, ◌≤◌, ◌<◌, ◌^◌, ℕ, List, [], ◌∷◌, ◌++◌, length, take, drop, Bool, Ok, Err, ap, sym, ◌∙◌, subst, append_assoc, arith}
+use Rattle.std.specs.Prelude.{Result, MatchResult, IfOk, IfErr, IsErrAnd, IsTrue}
 use Rattle.std.proofs.lemmas.List.{take-append-le, append-nil, take-take}
+use Rattle.script_text.specs.Words.{lines_of}
 use Rattle.script_text.specs.Reading.{IsFront}
 use Rattle.script_text.specs.Refusals.{IfBadLine}
 use Rattle.script_text.specs.Script.{IsScript, IsBadScript, GivesScript, GivesBadLine, Explains}
 use Rattle.script_text.specs.declared.fault.ScriptFault.{ScriptFault}
 use Rattle.script_text.specs.declared.fault.ScriptFault.TheVariants.{BadLine, Failed, Memory}
+use Rattle.script_text.specs.declared.line.Line.{Line}
 use Rattle.script_text.specs.declared.line.Script.{Script}
 use Rattle.script_text.specs.declared.reading.Reading.{Reading}
+use Rattle.script_text.proofs.Excluding.{one_script, never_both, one_bad_line}
 
 -- the bytes that a source put into the front of a buffer
 pub chunk_given : (count len : ℕ) (new old : List ℕ) → count ≤ length new → count ≤ len → take count (take len (new ++ drop (length new) old)) ≡ take count new
@@ -70,3 +73,30 @@ script_at_end tells reading workers before front mid after bytes (Ok script) sam
   λ told. all_taken before front mid after bytes (was told) (now told) (none told),
 )
 script_at_end tells reading workers before front mid after bytes (Err e) same is was now none so = tt
+
+-- a script that the source was to give is what was read of it
+pub good_read : (tells : Bool) (workers : ℕ) (before after : List ℕ) (HasFailed : Type 0) (r : Result Script ScriptFault) (lines : List Line) → workers < 2 ^ 32
+    → IfOk r (λ script. GivesScript tells workers before after script.lines) → IfErr r (Explains (GivesBadLine tells workers before) HasFailed)
+    → IsTrue tells → IsScript workers before lines → MatchResult r (λ script. script.lines ≡ lines) (Explains (λ _ _. ⊥) HasFailed)
+good_read tells workers before after HasFailed (Ok script) lines few (text, is, so) refused told good =
+    one_script workers (lines_of before) script.lines lines few (subst (λ (t : List ℕ). IsScript workers t script.lines) (so told).0 is) good
+good_read tells workers before after HasFailed (Err (BadLine line cause)) lines few script (text, is, so) told good =
+    never_both workers before lines line cause few good (subst (λ (t : List ℕ). IsBadScript workers t line cause) (so told) is)
+good_read tells workers before after HasFailed (Err Failed) lines few script refused told good = refused
+good_read tells workers before after HasFailed (Err Memory) lines few script refused told good = tt
+
+-- and so is its first bad line
+pub bad_read : (tells : Bool) (workers : ℕ) (before after : List ℕ) (HasFailed : Type 0) (r : Result Script ScriptFault) (line cause : ℕ) → workers < 2 ^ 32
+    → IfOk r (λ script. GivesScript tells workers before after script.lines) → IfErr r (Explains (GivesBadLine tells workers before) HasFailed)
+    → IsTrue tells → IsBadScript workers before line cause → MatchResult r (λ _. ⊥) (Explains (λ l c. (l ≡ line) × (c ≡ cause)) HasFailed)
+bad_read tells workers before after HasFailed (Ok script) line cause few (text, is, so) refused told bad =
+    never_both workers before script.lines line cause few (subst (λ (t : List ℕ). IsScript workers t script.lines) (so told).0 is) bad
+bad_read tells workers before after HasFailed (Err (BadLine other another)) line cause few script (text, is, so) told bad =
+    one_bad_line workers before other another line cause few (subst (λ (t : List ℕ). IsBadScript workers t other another) (so told) is) bad
+bad_read tells workers before after HasFailed (Err Failed) line cause few script refused told bad = refused
+bad_read tells workers before after HasFailed (Err Memory) line cause few script refused told bad = tt
+
+-- a refusal is no script
+pub no_script : {T : Type 0} (r : Result T ScriptFault) (e : ScriptFault) (Is : T → Type 0) → IsErrAnd r (λ f. f ≡ e) → IfOk r Is
+no_script (Ok x) e Is is = absurd is
+no_script (Err f) e Is is = tt

@@ -1,7 +1,8 @@
 // A script is read from a source.
-ghost use Rattle.std.specs.Prelude.{◌≡◌, ◌≤◌, ℕ, ◌<◌, ◌++◌, List, length, vec_len, IfOk, IfErr};
+ghost use Rattle.std.specs.Prelude.{◌≡◌, ◌≤◌, ℕ, ◌<◌, ◌++◌, List, length, vec_len, IfOk, IfErr, IsTrue, MatchResult};
 ghost use Rattle.rock_io.specs.Faults.{Rose};
-ghost use Rattle.script_text.specs.Script.{GivesScript, GivesBadLine, Explains, IsTakenFrom};
+ghost use Rattle.script_text.specs.Script.{IsScript, IsBadScript, GivesScript, GivesBadLine, Explains, IsTakenFrom};
+ghost use Rattle.script_text.specs.declared.line.Line.{Line};
 
 use crate::fault::ScriptFault;
 use crate::line::Script;
@@ -27,6 +28,10 @@ pub fn read_script<S: Source>(
 ) -> Result<Script, ScriptFault>
     ensures script { IfOk result (λ script. GivesScript S.tells workers (S.left src.old) (S.left src.new) script.lines) }
     ensures refused { IfErr result (Explains (GivesBadLine S.tells workers (S.left src.old)) (Rose (S.faults src.old) (S.faults src.new))) }
+    ensures good { (lines : List Line) → IsTrue S.tells → IsScript workers (S.left src.old) lines
+        → MatchResult result (λ script. script.lines ≡ lines) (Explains (λ _ _. ⊥) (Rose (S.faults src.old) (S.faults src.new))) }
+    ensures bad { (line cause : ℕ) → IsTrue S.tells → IsBadScript workers (S.left src.old) line cause
+        → MatchResult result (λ _. ⊥) (Explains (λ l c. (l ≡ line) × (c ≡ cause)) (Rose (S.faults src.old) (S.faults src.new))) }
     ensures taken { IsTakenFrom S.tells (S.left src.old) (S.left src.new) }
     ensures faults { S.faults src.old ≤ S.faults src.new }
 {

@@ -1,5 +1,5 @@
 use Rattle.std.proofs.Common.{◌≡◌, ◌++◌, take, arith, ap, sym, ◌∙◌}
-use Rattle.script_text.proofs.Sourcing.{chunk_given, taken_more, explained, explained_again, bad_now, bad_at_end, script_at_end}
+use Rattle.script_text.proofs.Sourcing.{chunk_given, taken_more, explained, explained_again, bad_now, bad_at_end, script_at_end, good_read, bad_read, no_script}
 use Rattle.script_text.proofs.script.read_script.Goals as goal
 
 pub script-preserved : goal.script-preserved
@@ -46,3 +46,21 @@ returns-clause-refused g c =
     explained c.finish.result _ _ _ c.finish.ensures.bad
     (λ line cause bad. bad_at_end g.S.Source.tells c.script.reading c.args.workers _ front _ (g.S.Source.left c.read.new.self) (take c.in_ok-count.count c.read.new.buf) line cause c.script.invariant.workers is was c.in_ok-count.ensures.given
     (λ told. c.in_ok-count.ensures.end told c.if-count-eq0.true (omega (arith, c.deref_mut.ensures.len, c.script.invariant.buffer))) bad)
+
+pub returns-in_err-take_bytes-clause-good : goal.returns-in_err-take_bytes-clause-good
+returns-in_err-take_bytes-clause-good g c lines told good =
+    good_read g.S.Source.tells c.args.workers (g.S.Source.left c.args.src.now) (g.S.Source.left c.read.new.self) _ c.from_residual-in_err-take_bytes.result lines (omega (arith, c.ranges.workers.fits))
+    (no_script _ _ _ c.from_residual-in_err-take_bytes.ensures.1) (returns-in_err-take_bytes-clause-refused g c) told good
+
+pub returns-in_err-take_bytes-clause-bad : goal.returns-in_err-take_bytes-clause-bad
+returns-in_err-take_bytes-clause-bad g c line cause told bad =
+    bad_read g.S.Source.tells c.args.workers (g.S.Source.left c.args.src.now) (g.S.Source.left c.read.new.self) _ c.from_residual-in_err-take_bytes.result line cause (omega (arith, c.ranges.workers.fits))
+    (no_script _ _ _ c.from_residual-in_err-take_bytes.ensures.1) (returns-in_err-take_bytes-clause-refused g c) told bad
+
+pub returns-clause-good : goal.returns-clause-good
+returns-clause-good g c lines told good =
+    good_read g.S.Source.tells c.args.workers (g.S.Source.left c.args.src.now) (g.S.Source.left c.read.new.self) _ c.finish.result lines (omega (arith, c.ranges.workers.fits)) (returns-clause-script g c) (returns-clause-refused g c) told good
+
+pub returns-clause-bad : goal.returns-clause-bad
+returns-clause-bad g c line cause told bad =
+    bad_read g.S.Source.tells c.args.workers (g.S.Source.left c.args.src.now) (g.S.Source.left c.read.new.self) _ c.finish.result line cause (omega (arith, c.ranges.workers.fits)) (returns-clause-script g c) (returns-clause-refused g c) told bad
