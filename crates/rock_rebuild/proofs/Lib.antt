@@ -13,3 +13,4 @@ pub mod Shapes
 pub mod Choosing
 pub mod Keeping
 pub mod Owning
+pub mod Taking
