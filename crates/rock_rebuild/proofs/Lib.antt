@@ -13,4 +13,3 @@ pub mod Shapes
 pub mod Choosing
 pub mod Keeping
 pub mod Owning
-pub mod Taking

@@ -1,5 +1,5 @@
 -- What is kept at each anchor.
-use Rattle.std.specs.Prelude.{◌≡◌, ℕ, ◌<◌, List, length, Option, None, Some, MatchOption, slice_index_or}
+use Rattle.std.specs.Prelude.{◌≡◌, ℕ, ◌<◌, List, length, Option, None, MatchOption, slice_index_or}
 use Rattle.rebuild_model.specs.Keeping.{HasNoneAt, IsKept}
 use Rattle.rebuild_model.specs.declared.found.Found.{Found}
 use Rattle.rock_rebuild.specs.Best.{entry_at}
@@ -8,8 +8,3 @@ use Rattle.rock_rebuild.specs.Best.{entry_at}
 pub record AreKept (slot : ℕ) (images : List (List ℕ)) (anchors : ℕ) (found : List Found) (kept : List (Option ℕ)) : Type 0 where
   pub count : length kept ≡ anchors
   pub each : (anchor : ℕ) → anchor < anchors → MatchOption (entry_at found (slice_index_or kept anchor None)) (HasNoneAt slot images anchors anchor) (IsKept slot images anchors anchor)
-
--- what is left at a place, if a place is named and one is left there
-abbrev pub left_at : List (Option Found) → Option ℕ → Option Found
-left_at left None = None
-left_at left (Some place) = slice_index_or left place None

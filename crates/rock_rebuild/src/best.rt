@@ -11,7 +11,7 @@ use std::alloc::{AllocError, Global};
 use store_key::anchor_of;
 
 /// The entry at a place, if a place is named and one is there.
-fn entry_at(found: &[Found], place: Option<usize>) -> Option<&Found>
+pub fn entry_at(found: &[Found], place: Option<usize>) -> Option<&Found>
     ensures { option_copied result ≡ entry_at found.now place }
 {
     found.get(place?)

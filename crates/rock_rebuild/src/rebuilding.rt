@@ -45,7 +45,7 @@ pub fn rebuild<St: Station>(
     winners_and_owners_make_a_rebuild();
     let Scan { found, greatest } = scan(alloc, station, cells, slot)?;
     let best = best_of(alloc, found.as_slice(), anchors)?;
-    let winners = winners_of(alloc, found.into_vec(), &best)?;
+    let winners = winners_of(alloc, found.as_slice(), &best)?;
     let owner = owners_of(alloc, &winners, anchors, cells.len())?;
     Ok(Rebuilt {
         winners: FoundList::from_vec(winners),
