@@ -1,17 +1,19 @@
 -- The best entry at each anchor, sought from the last entry to the first.
-use Rattle.std.proofs.Common.{◌≡◌, ◌⊎◌, inl, inr, ℕ, zero, suc, ◌<◌, ◌≤◌, true, false, List, [], ◌∷◌, ◌++◌, length, map, get_or, refl, ap, sym, ◌∙◌, subst, arith}
-use Rattle.std.specs.Prelude.{Option, None, Some, Contains, All, nat_eq}
-use Rattle.std.specs.List.{AllPairs}
+use Rattle.std.proofs.Common.{◌≡◌, ◌⊎◌, inl, inr, ℕ, zero, suc, ◌+◌, ◌<◌, ◌≤◌, true, false, List, [], ◌∷◌, ◌++◌, length, map, take, drop, get_or, add-one, refl, ap, sym, ◌∙◌, subst, arith}
+use Rattle.std.specs.Prelude.{Option, None, Some, MatchOption, Contains, All, nat_eq}
+use Rattle.std.specs.List.{AllPairs, slice_get}
 use Rattle.std.specs.List.Sorted.{IsStrictlyIncreasing}
 use Rattle.std.proofs.Math.ListN.{set, length-set}
 use Rattle.std.proofs.lemmas.Bool.{cases_lt}
 use Rattle.std.proofs.lemmas.Bool.Decides.{nat_tests}
-use Rattle.std.proofs.lemmas.List.{get_or-map, get_or-set_same, get_or-set_other, length-map}
+use Rattle.std.proofs.lemmas.List.{get_or-map, get_or-set_same, get_or-set_other, length-map, length-drop, take-append-drop}
+use Rattle.std.proofs.lemmas.Option.{slice_get_within, get_or_from_slice_get}
+use Rattle.std.proofs.Math.Seq.{drop-cons}
 use Rattle.std.proofs.lemmas.List.Elements.{All-contains}
 use Rattle.std.proofs.lemmas.List.Kept.{AllPairs-from_increasing}
 use Rattle.store_key.specs.Anchor.{anchor_of}
 use Rattle.rebuild_model.specs.declared.found.Found.{Found}
-use Rattle.rock_rebuild.specs.Best.{IsBestOf, BestOf, AreBest}
+use Rattle.rock_rebuild.specs.Best.{IsBestOf, BestOf, AreBest, entry_at}
 
 pub here_or_behind : {X : Type 0} (x : X) (xs : List X) (y : X) → Contains (x ∷ xs) y → (x ≡ y) ⊎ Contains xs y
 here_or_behind x xs y (zero, within, is) = inl is
@@ -89,34 +91,36 @@ apart y s e same = grind (arith, nat_tests)
 together : (y s : ℕ) → nat_eq y s ≡ true → y ≡ s
 together y s e = grind (arith, nat_tests)
 
-pub one_more : (anchors anchor : ℕ) (found : Found) (others : List Found) (best : List (Option Found)) (b : Found) → AreBest anchors others best → anchor < anchors → anchor_of found.key anchors ≡ anchor → IsBestOf anchors anchor (found ∷ others) b
-    → AreBest anchors (found ∷ others) (set best anchor (Some b))
-one_more anchors anchor found others best b are below at is = record {
-  count = length-set best anchor (Some b) ∙ are.count;
-  each = λ other inside. elim (nat_eq anchor other) as (λ t. nat_eq anchor other ≡ t → BestOf anchors other (found ∷ others) (get_or (set best anchor (Some b)) other None)) [
+-- the entries from a place on, where one is there
+pub front_of : (found : List Found) (place : ℕ) (f : Found) → slice_get found place ≡ Some f → drop place found ≡ f ∷ drop (place + 1) found
+front_of found place f there =
+    drop-cons found place f (slice_get_within found place f there)
+    ∙ ap (λ g. g ∷ drop (suc place) found) (get_or_from_slice_get found place f f there)
+    ∙ ap (λ n. f ∷ drop n found) (sym (add-one place))
+
+pub one_more : (anchors anchor place : ℕ) (found : List Found) (best : List (Option ℕ)) (f : Found) (after : Option ℕ) → AreBest anchors found (place + 1) best → anchor < anchors → slice_get found place ≡ Some f → anchor_of f.key anchors ≡ anchor
+    → BestOf anchors anchor (drop place found) (entry_at found after) → AreBest anchors found place (set best anchor after)
+one_more anchors anchor place found best f after are below there at is = record {
+  count = length-set best anchor after ∙ are.count;
+  each = λ other inside. elim (nat_eq anchor other) as (λ t. nat_eq anchor other ≡ t → BestOf anchors other (drop place found) (entry_at found (get_or (set best anchor after) other None))) [
     | true ↦ λ e.
         let same : anchor ≡ other = together anchor other e in
-        let there : get_or (set best anchor (Some b)) anchor None ≡ Some b = get_or-set_same best anchor (Some b) None (omega (arith, below, are.count)) in
-        subst (λ a. BestOf anchors a (found ∷ others) (get_or (set best anchor (Some b)) a None)) same (subst (BestOf anchors anchor (found ∷ others)) (sym there) is)
+        let now : get_or (set best anchor after) anchor None ≡ after = get_or-set_same best anchor after None (omega (arith, below, are.count)) in
+        subst (λ a. BestOf anchors a (drop place found) (entry_at found (get_or (set best anchor after) a None))) same (subst (λ o. BestOf anchors anchor (drop place found) (entry_at found o)) (sym now) is)
     | false ↦ λ e.
-        let there : get_or (set best anchor (Some b)) other None ≡ get_or best other None = get_or-set_other best anchor other (Some b) None (apart anchor other e) in
-        subst (BestOf anchors other (found ∷ others)) (sym there) (passed anchors other found others (get_or best other None) (λ is_other. apart anchor other e (sym is_other ∙ at)) (are.each other inside))
+        let now : get_or (set best anchor after) other None ≡ get_or best other None = get_or-set_other best anchor other after None (apart anchor other e) in
+        subst (λ o. BestOf anchors other (drop place found) (entry_at found o)) (sym now)
+        (subst (λ l. BestOf anchors other l (entry_at found (get_or best other None))) (sym (front_of found place f there))
+        (passed anchors other f (drop (place + 1) found) (entry_at found (get_or best other None)) (λ is_other. apart anchor other e (sym is_other ∙ at)) (are.each other inside)))
   ] refl;
 }
 
 -- none of no entries
-pub none_yet : (anchors : ℕ) (best : List (Option Found)) → length best ≡ anchors → ((k : ℕ) → get_or best k None ≡ None) → AreBest anchors [] best
-none_yet anchors best count none = record {
+pub none_yet : (anchors : ℕ) (found : List Found) (best : List (Option ℕ)) → length best ≡ anchors → ((k : ℕ) → get_or best k None ≡ None) → AreBest anchors found (length found) best
+none_yet anchors found best count none = record {
   count = count;
-  each = λ anchor inside. subst (BestOf anchors anchor []) (sym (none anchor)) (λ f there at. absurd (omega (arith, there.1)));
+  each = λ anchor inside. subst (λ o. BestOf anchors anchor (drop (length found) found) (entry_at found o)) (sym (none anchor)) (λ f there at. absurd (omega (arith, there.1, length-drop (length found) found)));
 }
-
--- one more of nothing
-pub none_more : (best : List (Option Found)) → ((k : ℕ) → get_or best k None ≡ None) → (k : ℕ) → get_or (best ++ None ∷ []) k None ≡ None
-none_more [] none zero = refl
-none_more [] none (suc k) = refl
-none_more (o ∷ best) none zero = none 0
-none_more (o ∷ best) none (suc k) = none_more best (λ j. none (suc j)) k
 
 later_by_pairs : (xs : List Found) (x : Found) (rest : List Found) → AllPairs (λ a b. a < b) (map (λ f. f.first) (xs ++ x ∷ rest)) → All (λ f. x.first < f.first) rest
 later_by_pairs [] x rest pairs k d within =
@@ -128,3 +132,32 @@ later_by_pairs (y ∷ xs) x rest pairs k d within = later_by_pairs xs x rest (λ
 -- where entries stand in order, those behind one begin behind it
 pub later : (xs : List Found) (x : Found) (rest : List Found) → IsStrictlyIncreasing (map (λ f. f.first) (xs ++ x ∷ rest)) → All (λ f. x.first < f.first) rest
 later xs x rest up = later_by_pairs xs x rest (AllPairs-from_increasing (map (λ f. f.first) (xs ++ x ∷ rest)) up)
+
+-- those behind a place
+pub later_at : (found : List Found) (place : ℕ) (f : Found) → IsStrictlyIncreasing (map (λ g. g.first) found) → slice_get found place ≡ Some f → All (λ g. f.first < g.first) (drop (place + 1) found)
+later_at found place f up there =
+    let split : found ≡ take place found ++ f ∷ drop (place + 1) found = sym (take-append-drop place found) ∙ ap (λ l. take place found ++ l) (front_of found place f there) in
+    later (take place found) f (drop (place + 1) found) (subst (λ l. IsStrictlyIncreasing (map (λ g. g.first) l)) split up)
+
+takes_it : (anchors anchor place : ℕ) (found : List Found) (f : Found) (best : Option Found) → slice_get found place ≡ Some f → IsStrictlyIncreasing (map (λ g. g.first) found) → anchor_of f.key anchors ≡ anchor
+    → BestOf anchors anchor (drop (place + 1) found) best → ((b : Found) → best ≡ Some b → b.version ≤ f.version) → IsBestOf anchors anchor (drop place found) f
+takes_it anchors anchor place found f None there up at none old =
+    let leads : Leads anchors anchor f (drop (place + 1) found) = record { at = at; before = later_at found place f up there } in
+    subst (λ l. IsBestOf anchors anchor l f) (sym (front_of found place f there)) (alone anchors anchor f (drop (place + 1) found) leads none)
+takes_it anchors anchor place found f (Some b) there up at is old =
+    let leads : Leads anchors anchor f (drop (place + 1) found) = record { at = at; before = later_at found place f up there } in
+    subst (λ l. IsBestOf anchors anchor l f) (sym (front_of found place f there)) (replaces anchors anchor f (drop (place + 1) found) b leads is (old b refl))
+
+takes_what_is : (anchors anchor place : ℕ) (found : List Found) (best here : Option Found) → slice_get found place ≡ here → IsStrictlyIncreasing (map (λ g. g.first) found) → MatchOption here ⊥ (λ f. anchor_of f.key anchors ≡ anchor)
+    → BestOf anchors anchor (drop (place + 1) found) best → ((b f : Found) → best ≡ Some b → here ≡ Some f → b.version ≤ f.version) → BestOf anchors anchor (drop place found) here
+takes_what_is anchors anchor place found best None there up none behind old = absurd none
+takes_what_is anchors anchor place found best (Some f) there up at behind old = takes_it anchors anchor place found f best there up at behind (λ b is. old b f is refl)
+
+-- the entry at a place is kept where none behind it is newer
+pub takes : (anchors anchor place : ℕ) (found : List Found) (best : Option Found) → IsStrictlyIncreasing (map (λ g. g.first) found) → MatchOption (slice_get found place) ⊥ (λ f. anchor_of f.key anchors ≡ anchor)
+    → BestOf anchors anchor (drop (place + 1) found) best → ((b f : Found) → best ≡ Some b → slice_get found place ≡ Some f → b.version ≤ f.version) → BestOf anchors anchor (drop place found) (slice_get found place)
+takes anchors anchor place found best up at behind old = takes_what_is anchors anchor place found best (slice_get found place) refl up at behind old
+
+-- and a newer one stays
+pub remains : (anchors anchor place : ℕ) (found : List Found) (f b : Found) → slice_get found place ≡ Some f → IsBestOf anchors anchor (drop (place + 1) found) b → f.version < b.version → IsBestOf anchors anchor (drop place found) b
+remains anchors anchor place found f b there is newer = subst (λ l. IsBestOf anchors anchor l b) (sym (front_of found place f there)) (stays anchors anchor f (drop (place + 1) found) b is newer)

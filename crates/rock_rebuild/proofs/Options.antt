@@ -8,3 +8,10 @@ at_some A B is told = subst (λ o. MatchOption o A B) is told
 
 pub at_none : {X : Type 0} (A : Type 0) (B : X → Type 0) {o : Option X} → o ≡ None → MatchOption o A B → A
 at_none A B is told = subst (λ o. MatchOption o A B) is told
+
+-- of two that are there
+pub one_of : {X : Type 0} {o : Option X} {x y : X} → o ≡ Some x → o ≡ Some y → x ≡ y
+one_of first second = cc
+
+pub not_both : {X : Type 0} {o : Option X} {x : X} → o ≡ None → o ≡ Some x → ⊥
+not_both none some = cc

@@ -1,5 +1,6 @@
 -- Of a list of entries, the best at each anchor.
-use Rattle.std.specs.Prelude.{◌≡◌, ◌⊎◌, ℕ, ◌<◌, ◌≤◌, List, length, Contains, Option, None, MatchOption, slice_index_or}
+use Rattle.std.specs.Prelude.{◌≡◌, ◌⊎◌, ℕ, ◌<◌, ◌≤◌, List, length, drop, Contains, Option, None, Some, MatchOption, slice_index_or}
+use Rattle.std.specs.List.{slice_get}
 use Rattle.store_key.specs.Anchor.{anchor_of}
 use Rattle.rebuild_model.specs.declared.found.Found.{Found}
 
@@ -13,7 +14,12 @@ pub record IsBestOf (anchors anchor : ℕ) (found : List Found) (kept : Found) :
 abbrev pub BestOf : ℕ → ℕ → List Found → Option Found → Type 0
 BestOf anchors anchor found best = MatchOption best ((f : Found) → Contains found f → anchor_of f.key anchors ≡ anchor → ⊥) (IsBestOf anchors anchor found)
 
--- so for each anchor
-pub record AreBest (anchors : ℕ) (found : List Found) (best : List (Option Found)) : Type 0 where
+-- the entry at a place in the list, if a place is named and one is there
+abbrev pub entry_at : List Found → Option ℕ → Option Found
+entry_at found None = None
+entry_at found (Some place) = slice_get found place
+
+-- for each anchor the place of the best entry there, of those that stand from a place on
+pub record AreBest (anchors : ℕ) (found : List Found) (from : ℕ) (best : List (Option ℕ)) : Type 0 where
   pub count : length best ≡ anchors
-  pub each : (anchor : ℕ) → anchor < anchors → BestOf anchors anchor found (slice_index_or best anchor None)
+  pub each : (anchor : ℕ) → anchor < anchors → BestOf anchors anchor (drop from found) (entry_at found (slice_index_or best anchor None))

@@ -1,71 +1,76 @@
 // Of the entries at each anchor, the one that is kept.
-ghost use Rattle.std.specs.Prelude.{◌≡◌, ◌<◌, ℕ, List, [], ◌∷◌, length, map, All, IfOk};
+ghost use Rattle.std.specs.Prelude.{◌≡◌, ◌+◌, ◌<◌, ℕ, List, length, map, drop, IfOk, MatchOption, option_copied};
+ghost use Rattle.std.specs.List.{slice_get};
 ghost use Rattle.std.specs.List.Sorted.{IsStrictlyIncreasing};
 ghost use Rattle.store_key.specs.Anchor.{anchor_of};
 ghost use Rattle.rebuild_model.specs.declared.found.Found.{Found};
-ghost use Rattle.rock_rebuild.specs.Best.{IsBestOf, BestOf, AreBest};
+ghost use Rattle.rock_rebuild.specs.Best.{BestOf, AreBest, entry_at};
 
 use rebuild_model::Found;
 use std::alloc::{AllocError, Global};
 use store_key::anchor_of;
 
-/// Of two entries at one anchor the one that is kept, where `found` begins before `best` and all that
-/// `best` was chosen from.
-fn better_of(best: Option<Found>, found: Found) -> Found
-    ensures { (anchors anchor : ℕ) (behind : List Found)
-        → All (λ (f : Found). found.first < f.first) behind
-        → anchor_of found.key anchors ≡ anchor
-        → BestOf anchors anchor behind best
-        → IsBestOf anchors anchor (found ∷ behind) result }
+/// The entry at a place, if a place is named and one is there.
+pub fn entry_at(found: &[Found], place: Option<usize>) -> Option<&Found>
+    ensures { option_copied result ≡ entry_at found.now place }
 {
-    let Some(best) = best else {
-        return found;
-    };
-    if best.version > found.version {
-        return best;
-    }
-    found
+    found.get(place?)
 }
 
-/// Puts an entry, which begins before all others so far, into its place where it is the best there.
-fn keep(best: &mut [Option<Found>], found: Found, anchors: u32)
+/// The place of the entry that is kept at an anchor, where that at `place` begins before the best one
+/// so far and all that this was chosen from.
+fn better_of(found: &[Found], best: Option<usize>, place: usize) -> Option<usize>
+    requires { place < length found.now }
+    ensures { (anchors anchor : ℕ) → IsStrictlyIncreasing (map (λ f. f.first) found.now)
+        → MatchOption (slice_get found.now place) ⊥ (λ f. anchor_of f.key anchors ≡ anchor)
+        → BestOf anchors anchor (drop (place + 1) found.now) (entry_at found.now best)
+        → BestOf anchors anchor (drop place found.now) (entry_at found.now result) }
+{
+    if let Some(kept) = entry_at(found, best) {
+        if kept.version > found[place].version {
+            return best;
+        }
+    }
+    Some(place)
+}
+
+/// Puts the place of an entry, which begins before all others so far, to its anchor where it is the
+/// best there.
+fn keep(best: &mut [Option<usize>], found: &[Found], place: usize, anchors: u32)
     requires some { 0 < anchors }
     requires count { length best.old ≡ anchors }
-    ensures best { (behind : List Found) → All (λ (f : Found). found.first < f.first) behind
-        → AreBest anchors behind best.old → AreBest anchors (found ∷ behind) best.new }
+    requires inside { place < length found.now }
+    ensures best { IsStrictlyIncreasing (map (λ f. f.first) found.now)
+        → AreBest anchors found.now (place + 1) best.old → AreBest anchors found.now place best.new }
     ensures count { length best.new ≡ anchors }
 {
-    let anchor = anchor_of(&found.key, anchors) as usize;
-    let kept = best[anchor].take();
-    best[anchor] = Some(better_of(kept, found));
+    let anchor = anchor_of(&found[place].key, anchors) as usize;
+    best[anchor] = better_of(found, best[anchor], place);
 }
 
 /// No entry for so many anchors.
-fn none_of(alloc: Global, anchors: u32) -> Result<Vec<Option<Found>>, AllocError>
-    ensures { IfOk result (λ best. AreBest anchors [] best.items) }
+fn none_of(alloc: Global, anchors: u32) -> Result<Vec<Option<usize>>, AllocError>
+    ensures { IfOk result (λ best. (found : List Found) → AreBest anchors found (length found) best.items) }
 {
-    let mut best = Vec::with_capacity(alloc, anchors as usize)?;
-    for _ in 0..anchors {
-        best.push(None)?;
-    }
+    let mut best = Vec::new(alloc);
+    best.resize(anchors as usize, None)?;
     Ok(best)
 }
 
-/// For each anchor the entry of greatest version there, and of those the one that begins first. The
-/// entries stand in order of their first slots.
+/// For each anchor the place of the entry of greatest version there, and of those of the one that
+/// begins first. The entries stand in order of their first slots.
 pub fn best_of(
     alloc: Global,
-    mut found: Vec<Found>,
+    found: &[Found],
     anchors: u32,
-) -> Result<Vec<Option<Found>>, AllocError>
+) -> Result<Vec<Option<usize>>, AllocError>
     requires { 0 < anchors }
-    ensures count { IfOk result (λ best. length best.items ≡ anchors) }
-    ensures best { IfOk result (λ best. IsStrictlyIncreasing (map (λ f. f.first) found.items)
-        → AreBest anchors found.items best.items) }
+    ensures { IfOk result (λ best. IsStrictlyIncreasing (map (λ f. f.first) found.now)
+        → AreBest anchors found.now 0 best.items) }
 {
     let mut best = none_of(alloc, anchors)?;
-    while let Some(last) = found.pop() {
-        keep(&mut best, last, anchors);
+    for place in (0..found.len()).rev() {
+        keep(&mut best, found, place, anchors);
     }
     Ok(best)
 }

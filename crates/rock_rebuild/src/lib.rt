@@ -4,8 +4,8 @@
 //! Each slot is read once, in order. What is kept of it is its header, and the URL where an entry may
 //! begin there. Then the chains are followed from one header to the next. A chain takes the headers
 //! of its slots out of the table, so time and memory grow with the number of slots and no faster,
-//! whatever the slots hold. A rebuild puts each entry that was found to its anchor, where the best one
-//! stays, and then tells whose each slot is: its time and memory grow with slots and anchors.
+//! whatever the slots hold. A rebuild finds the best entry at each anchor, copies these in order of
+//! anchors, and then tells whose each slot is: its time and memory grow with slots and anchors.
 #![tactic(auto)]
 
 mod best;

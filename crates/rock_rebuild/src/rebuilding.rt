@@ -44,8 +44,8 @@ pub fn rebuild<St: Station>(
 {
     winners_and_owners_make_a_rebuild();
     let Scan { found, greatest } = scan(alloc, station, cells, slot)?;
-    let mut best = best_of(alloc, found.into_vec(), anchors)?;
-    let winners = winners_of(alloc, &mut best)?;
+    let best = best_of(alloc, found.as_slice(), anchors)?;
+    let winners = winners_of(alloc, found.as_slice(), &best)?;
     let owner = owners_of(alloc, &winners, anchors, cells.len())?;
     Ok(Rebuilt {
         winners: FoundList::from_vec(winners),

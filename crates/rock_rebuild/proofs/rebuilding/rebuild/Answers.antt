@@ -17,12 +17,12 @@ returns-clause-rebuilt g c t =
     let all = images (map state c.args.cells.now) in
     let scan = c.in_ok-found.field-0 in
     let s : IsScan slot all scan = c.in_ok-found.ensures.scanned t in
-    let up = subst IsStrictlyIncreasing (sym (ap (map (λ f. f.first)) (c.into_vec.ensures ∙ s.told) ∙ firsts_of s.entries)) s.ordered in
     let best = c.in_ok-best.best.items in
-    let are = subst (λ l. AreBest anchors l best) c.into_vec.ensures (c.in_ok-best.ensures.best up) in
-    let kept = subst (AreKept slot all anchors) (sym c.deref_mut.ensures.value) (are_kept slot all anchors scan best s are) in
-    let winners = c.in_ok-winners.ensures slot all anchors kept in
-    let owners = subst (λ ws. AreOwners anchors ws c.in_ok-owner.owner.items) (c.deref.ensures.value ∙ sym c.from_vec.ensures) c.in_ok-owner.ensures.owners in
+    let up = subst (λ l. IsStrictlyIncreasing (map (λ f. f.first) l)) (sym c.as_slice.ensures) (subst IsStrictlyIncreasing (sym (ap (map (λ f. f.first)) s.told ∙ firsts_of s.entries)) s.ordered) in
+    let are = subst (λ l. AreBest anchors l 0 best) c.as_slice.ensures (c.in_ok-best.ensures up) in
+    let kept = are_kept slot all anchors scan best s are in
+    let winners = c.in_ok-winners.ensures slot all anchors (subst (λ l. AreKept slot all anchors l c.deref.result.now) (sym c.as_slice-2.ensures) (subst (AreKept slot all anchors scan.found) (sym c.deref.ensures.value) kept)) in
+    let owners = subst (λ ws. AreOwners anchors ws c.in_ok-owner.owner.items) (c.deref-2.ensures.value ∙ sym c.from_vec.ensures) c.in_ok-owner.ensures.owners in
     let count : length c.from_vec-2.result ≡ length all = omega (arith, ap length c.from_vec-2.ensures, c.in_ok-owner.ensures.count, c.scan.auto.cells, count_of state c.args.cells.now) in
     c.winners_and_owners_make_a_rebuild.ensures slot all anchors _ c.requires.some
     (subst (AreWinners slot all anchors anchors) (sym c.from_vec.ensures) winners) count (subst (AreOwners anchors c.from_vec.result) (sym c.from_vec-2.ensures) owners) s.greatest

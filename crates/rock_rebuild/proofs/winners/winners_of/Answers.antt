@@ -1,24 +1,24 @@
-use Rattle.std.proofs.Common.{◌≡◌, ◌<◌, length, None, refl, sym, subst, ◌∙◌, arith}
+use Rattle.std.proofs.Common.{◌≡◌, ◌<◌, length, None, sym, subst, arith}
 use Rattle.std.specs.Prelude.{MatchOption}
-use Rattle.std.proofs.lemmas.List.{get_or_default, get_or-set_other}
+use Rattle.std.proofs.lemmas.List.{get_or_default}
 use Rattle.rebuild_model.specs.Keeping.{HasNoneAt, IsKept, AreWinners}
+use Rattle.rock_rebuild.specs.Best.{entry_at}
 use Rattle.rock_rebuild.proofs.winners.winners_of.Goals as goal
 
-pub loop-anchor-init : goal.loop-anchor-init
-loop-anchor-init c = (λ slot images anchors kept. subst (AreWinners slot images anchors 0) (sym c.new-winners.ensures.items) (c.winners_are_gathered.ensures.none slot images anchors), λ k from. refl)
+pub loop-place-init : goal.loop-place-init
+loop-place-init c slot images anchors kept = subst (AreWinners slot images anchors 0) (sym c.new-winners.ensures.items) (c.winners_are_gathered.ensures.none slot images anchors)
 
-pub loop-anchor-preserved : goal.loop-anchor-preserved
-loop-anchor-preserved c =
-    let inside : c.loop-anchor.anchor < length c.loop-anchor.best = omega arith in
-    let kept_is = c.take-kept.ensures.value ∙ get_or_default c.loop-anchor.best c.loop-anchor.anchor _ None inside ∙ c.loop-anchor.invariant.1 c.loop-anchor.anchor (omega arith) in (
-      λ slot images anchors kept.
-          let within : c.loop-anchor.anchor < anchors = omega (arith, kept.count, c.loop-anchor-test.true) in
-          c.in_ok-push_winner.ensures slot images anchors c.loop-anchor.anchor (c.loop-anchor.invariant.0 slot images anchors kept)
-          (subst (λ o. MatchOption o (HasNoneAt slot images anchors c.loop-anchor.anchor) (IsKept slot images anchors c.loop-anchor.anchor)) (sym kept_is) (kept.each c.loop-anchor.anchor within)),
-      λ k from. get_or-set_other c.loop-anchor.best c.loop-anchor.anchor k c.take-kept.new.self None (λ same. omega (arith, same, from)) ∙ c.loop-anchor.invariant.1 k (omega (arith, from)),
-    )
+pub loop-place-preserved : goal.loop-place-preserved
+loop-place-preserved c slot images anchors kept =
+    let found = c.args.found.now in
+    let best = c.args.best.now in
+    let i = c.loop-place.place-index in
+    let inside : i < length best = omega (arith, c.loop-place-test.true) in
+    let below : i < anchors = omega (arith, inside, kept.count) in
+    c.in_ok-push_winner.ensures slot images anchors i (c.loop-place.invariant slot images anchors kept)
+    (subst (λ o. MatchOption (entry_at found o) (HasNoneAt slot images anchors i) (IsKept slot images anchors i)) (sym (get_or_default best i _ None inside)) (kept.each i below))
 
 pub returns : goal.returns
 returns c slot images anchors kept =
-    let all : c.loop-anchor.anchor ≡ anchors = omega (arith, kept.count, c.loop-anchor-test.false) in
-    subst (λ n. AreWinners slot images anchors n c.loop-anchor.winners.items) all (c.loop-anchor.invariant.0 slot images anchors kept)
+    let all : c.loop-place.place-index ≡ anchors = omega (arith, kept.count, c.loop-place-test.false) in
+    subst (λ n. AreWinners slot images anchors n c.loop-place.winners.items) all (c.loop-place.invariant slot images anchors kept)
