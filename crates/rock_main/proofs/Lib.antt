@@ -4,3 +4,5 @@ pub mod ShortFacts
 pub mod LineFacts
 pub mod CommandFacts
 pub mod ReportFacts
+pub mod Homes
+pub mod CreateFacts

@@ -3,7 +3,7 @@ use Rattle.std.proofs.Common.{◌≡◌, ◌⊎◌, inl, inr, ℕ, List, length,
 use Rattle.std.specs.Prelude.{Option}
 use Rattle.rock_disk.specs.File.{File, Files, bytes_of, slots_of}
 use Rattle.rock_disk.specs.Opened.{IsSmall}
-use Rattle.rock_rebuild.specs.Scan.{IsSlotSize}
+use Rattle.db_layout.specs.Layout.{IsSlotSize}
 use Rattle.rock_main.specs.Device.{DeviceFailed, NoFault}
 use Rattle.rock_main.specs.Report.{HasSlots, IsFit, ReportEnds, ReportSays, MayReport, ReportsOrLacksMemory}
 use Rattle.rock_main.specs.declared.status.Status.{Status}

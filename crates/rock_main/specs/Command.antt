@@ -1,6 +1,6 @@
 -- What a command line asks for.
 use Rattle.std.specs.Prelude.{ℕ, List}
-use Rattle.rock_main.specs.CommandLine.{IsList, IsCheck}
+use Rattle.rock_main.specs.CommandLine.{IsList, IsCheck, IsCreate}
 use Rattle.rock_main.specs.declared.command.Command.{Command}
 use Rattle.rock_main.specs.declared.command.Command.TheVariants as command
 
@@ -8,3 +8,4 @@ use Rattle.rock_main.specs.declared.command.Command.TheVariants as command
 abbrev pub IsCommand : List (List ℕ) → Command → Type 0
 IsCommand words (command.List target) = IsList words target.name.now target.slot
 IsCommand words (command.Check target anchors) = IsCheck words target.name.now target.slot anchors
+IsCommand words (command.Create target slots) = IsCreate words target.name.now target.slot slots

@@ -19,6 +19,15 @@ pub record IsCheck (words : List (List ℕ)) (name : List ℕ) (slot anchors : �
   pub fits : slot < 2 ^ 32
   pub anchors_fit : anchors < 2 ^ 32
 
+-- `create NAME SLOT SLOTS`
+pub record IsCreate (words : List (List ℕ)) (name : List ℕ) (slot slots : ℕ) : Type 0 where
+  pub words_are : words ≡ codes "create" ∷ name ∷ decimal slot ∷ decimal slots ∷ []
+  pub named : IsName name
+  pub fits : slot < 2 ^ 32
+  pub slots_fit : slots < 2 ^ 32
+
 -- the words are a command line of the table
 abbrev pub IsCommandLine : List (List ℕ) → Type 0
-IsCommandLine words = ((name : List ℕ) × (slot : ℕ) × IsList words name slot) ⊎ ((name : List ℕ) × (slot anchors : ℕ) × IsCheck words name slot anchors)
+IsCommandLine words =
+    ((name : List ℕ) × (slot : ℕ) × IsList words name slot)
+    ⊎ (((name : List ℕ) × (slot anchors : ℕ) × IsCheck words name slot anchors) ⊎ ((name : List ℕ) × (slot slots : ℕ) × IsCreate words name slot slots))

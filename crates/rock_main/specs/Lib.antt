@@ -6,3 +6,4 @@ pub mod ReadFault
 pub mod Device
 pub mod Status
 pub mod Report
+pub mod Create

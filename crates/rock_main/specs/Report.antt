@@ -5,7 +5,7 @@ use Rattle.rock_io.specs.Faults.{Rose}
 use Rattle.rock_io.specs.Sink.{TakesPrefix}
 use Rattle.rock_disk.specs.File.{File, Files, bytes_of, slots_of}
 use Rattle.rock_disk.specs.Opened.{IsSmall}
-use Rattle.rock_rebuild.specs.Scan.{IsSlotSize}
+use Rattle.db_layout.specs.Layout.{IsSlotSize}
 use Rattle.rock_main.specs.Device.{DeviceFailed}
 use Rattle.rock_main.specs.Listing.{images_of, Lists}
 use Rattle.rock_main.specs.Summary.{Sums}

@@ -1,5 +1,5 @@
 // The command line, by the product's own table.
-ghost use Rattle.std.specs.Prelude.{◌≡◌, ℕ, List, ◌^◌, ◌<◌, ◌↔◌, Some, None, IsTrue, IfSome, MatchOption, decimal};
+ghost use Rattle.std.specs.Prelude.{◌≡◌, ◌⊎◌, ℕ, List, ◌^◌, ◌<◌, ◌↔◌, Some, None, IsTrue, IsSome, IfSome, MatchOption, codes, decimal};
 ghost use Rattle.rock_main.specs.CommandLine.{IsName, IsCommandLine};
 ghost use Rattle.rock_main.specs.Command.{IsCommand};
 
@@ -20,6 +20,8 @@ pub enum Command<'a> {
     List { target: Target<'a> },
     /// `check NAME SLOT ANCHORS`: sum up what a store with so many anchors keeps of a file.
     Check { target: Target<'a>, anchors: u32 },
+    /// `create NAME SLOT SLOTS`: make a file of so many empty slots.
+    Create { target: Target<'a>, slots: u32 },
 }
 
 impl<'a> Command<'a> {
@@ -32,13 +34,32 @@ impl<'a> Command<'a> {
             [command, name, slot] if command.as_str() == "list" => Some(Command::List {
                 target: Target::parse(name.as_str(), slot.as_str())?,
             }),
-            [command, name, slot, anchors] if command.as_str() == "check" => {
-                Some(Command::Check {
-                    target: Target::parse(name.as_str(), slot.as_str())?,
-                    anchors: number(anchors.as_str())?,
-                })
+            [command, name, slot, count] => {
+                let target = Target::parse(name.as_str(), slot.as_str())?;
+                Command::of_four(command.as_str(), target, number(count.as_str())?)
             }
             _ => None,
+        }
+    }
+
+    /// The command of four words: its own, what it is about, and a number.
+    fn of_four(command: &str, target: Target<'a>, count: u32) -> Option<Command<'a>>
+        ensures check { command.now ≡ codes "check" → result ≡ Some (Command.Check target.entry count) }
+        ensures create { command.now ≡ codes "create" → result ≡ Some (Command.Create target.entry count) }
+        ensures only { IsSome result → (command.now ≡ codes "check") ⊎ (command.now ≡ codes "create") }
+    {
+        if command == "check" {
+            Some(Command::Check {
+                target,
+                anchors: count,
+            })
+        } else if command == "create" {
+            Some(Command::Create {
+                target,
+                slots: count,
+            })
+        } else {
+            None
         }
     }
 }

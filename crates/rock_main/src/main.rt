@@ -5,6 +5,7 @@
 #![tactic(auto)]
 
 mod command;
+mod create;
 mod listing;
 mod message;
 mod read;
@@ -16,6 +17,7 @@ mod summary;
 use message::{Asked, explanation};
 use rock::rock;
 use rock_file::FileVolume;
+use rock_help::help_text;
 use rock_io::{StdSink, StdSource, Words};
 use status::Status;
 use std::alloc::AllocError;
@@ -24,46 +26,16 @@ use std::process::ExitCode;
 use std::rt::Env;
 use std::{env, io};
 
-/// What `rock --help` prints.
-const HELP: &str = "\
-rock: the store of a caching proxy in one database file
-
-  rock list NAME SLOT   one line for each complete entry of the file NAME, whose
-                        slots have SLOT bytes, a multiple of 512 from 512 to 32768:
-                        ENTRY first-slot version slots body-bytes URL
-  rock check NAME SLOT ANCHORS
-                        one line on what a store with ANCHORS anchors, from 1 to the
-                        number of slots, keeps of the file:
-                        slots=S kept=K used=U free=F version=G
-  rock --help           this text
-  rock --version        the program's version
-
-A run that does not end well says why in one line on standard error. Exit status:
-0 done, 2 no command line, 3 out of memory, 5 standard output failed, 6 the disk
-failed, 8 no such file, or a wrong size or number.
-";
-
 /// What `rock --version` prints.
 const VERSION: &str = "rock 0.1.0\n";
 
 fn main(rt: HostRuntime) -> io::Result<ExitCode> {
     let words = match words_of(&rt) {
         Ok(words) => words,
-        Err(status) => return end(
-            &rt,
-            &status,
-            &Asked {
-                name: "",
-                slot: "",
-                anchors: "",
-            },
-        ),
+        Err(status) => return end(&rt, &status, &Asked::NOTHING),
     };
     match words.as_slice() {
-        [word] if word.as_str() == "--help" => {
-            rt.print(HELP)?;
-            Ok(ExitCode::SUCCESS)
-        }
+        [word] if word.as_str() == "--help" => { print_help(&rt) }
         [word] if word.as_str() == "--version" => {
             rt.print(VERSION)?;
             Ok(ExitCode::SUCCESS)
@@ -77,7 +49,7 @@ fn main(rt: HostRuntime) -> io::Result<ExitCode> {
             let asked = Asked {
                 name: word_at(&words, 1),
                 slot: word_at(&words, 2),
-                anchors: word_at(&words, 3),
+                count: word_at(&words, 3),
             };
             end(&rt, &status, &asked)
         }
@@ -97,6 +69,17 @@ fn words_of<R: Env + AllocGlobal>(rt: &R) -> Result<Words, Status> {
     }
 }
 
+/// Prints the help text.
+fn print_help<R: Print + Eprint + AllocGlobal>(rt: &R) -> io::Result<ExitCode> {
+    match help_text(rt.alloc()) {
+        Ok(text) => {
+            rt.print(text.as_str())?;
+            Ok(ExitCode::SUCCESS)
+        }
+        Err(AllocError) => end(rt, &Status::Memory, &Asked::NOTHING),
+    }
+}
+
 fn word_at(words: &Words, place: usize) -> &str {
     match words.as_slice().get(place) {
         Some(word) => word.as_str(),
@@ -104,8 +87,8 @@ fn word_at(words: &Words, place: usize) -> &str {
     }
 }
 
-/// Says on standard error what went wrong, and gives the status's code. Where memory is wanting for
-/// the sentence, the status alone is said.
+/// Says on standard error what went wrong, after Usage also what would have been right, and gives the
+/// status's code. Where memory is wanting, the sentence or the help text is left out.
 fn end<R: Eprint + AllocGlobal>(
     rt: &R,
     status: &Status,
@@ -115,6 +98,11 @@ fn end<R: Eprint + AllocGlobal>(
         match explanation(rt.alloc(), status, asked) {
             Ok(text) => eprintln!(rt; "rock: {status}: {text}")?,
             Err(AllocError) => eprintln!(rt; "rock: {status}")?,
+        }
+    }
+    if *status == Status::Usage {
+        if let Ok(text) = help_text(rt.alloc()) {
+            rt.eprint(text.as_str())?;
         }
     }
     Ok(ExitCode::from(status.code()))

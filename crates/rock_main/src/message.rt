@@ -27,7 +27,17 @@ impl fmt::Display for Status {
 pub struct Asked<'a> {
     pub name: &'a str,
     pub slot: &'a str,
-    pub anchors: &'a str,
+    /// The anchors of `check`, or the slots of `create`.
+    pub count: &'a str,
+}
+
+impl Asked<'static> {
+    /// No words.
+    pub const NOTHING: Asked<'static> = Asked {
+        name: "",
+        slot: "",
+        count: "",
+    };
 }
 
 /// A sentence for people on what happened to a command, and what to do.
@@ -40,13 +50,13 @@ pub fn explanation(
     match status {
         Status::Done => format!(in alloc; "all was printed"),
         Status::Usage => format!(in alloc;
-            "write rock list NAME SLOT or rock check NAME SLOT ANCHORS; rock --help says more"
+            "this is no command line; rock --help prints the lines that are"
         ),
         Status::Memory => format!(in alloc; "memory ran out; free some and try again"),
         Status::SourceFault => format!(in alloc; "standard input could not be read"),
         Status::SinkFault => format!(in alloc; "standard output did not take all of the answer"),
         Status::DeviceFault => format!(in alloc;
-            "{name} could not be read; look at its disk and its permissions"
+            "{name} could not be read or made; look at its disk and its permissions"
         ),
         Status::BadScript { line, .. } => format!(in alloc; "line {line} of the script is wrong"),
         Status::Missing => format!(in alloc; "there is no file {name}"),
@@ -55,7 +65,11 @@ pub fn explanation(
         }
         Status::BadGeometry { field: 2 } => format!(in alloc;
             "the number of anchors {} is not from 1 to the number of slots of {name}",
-            asked.anchors
+            asked.count
+        ),
+        Status::BadGeometry { field: 4 } => format!(in alloc;
+            "the number of slots {} is not from 1 to 1048576",
+            asked.count
         ),
         Status::BadGeometry { .. } => format!(in alloc;
             "the slot size {} is no multiple of 512 from 512 to 32768",

@@ -4,7 +4,7 @@ ghost use Rattle.std.specs.FinMap.{get};
 ghost use Rattle.rock_disk.specs.Cell.{CellState};
 ghost use Rattle.rock_disk.specs.File.{IsNotAway, IsThere, IsKept};
 ghost use Rattle.rock_disk.specs.Opened.{IsSmall};
-ghost use Rattle.rock_rebuild.specs.Scan.{IsSlotSize};
+ghost use Rattle.db_layout.specs.Layout.{IsSlotSize};
 ghost use Rattle.rock_main.specs.ReadFault.{read_fault_of_open, read_fault_of_rebuild, read_fault_of_station, status_of_fault};
 ghost use Rattle.rock_main.specs.Device.{EndedOne, DeviceFailed};
 ghost use Rattle.rock_main.specs.Report.{Fits, Prints, OfFile, HasSlots, IsFit};

@@ -5,7 +5,7 @@ ghost use Rattle.rock_io.specs.Faults.{Rose};
 ghost use Rattle.rock_disk.specs.Cell.{CellState};
 ghost use Rattle.rock_disk.specs.File.{IsNotAway, IsKept};
 ghost use Rattle.rock_disk.specs.Opened.{IsSmall};
-ghost use Rattle.rock_rebuild.specs.Scan.{IsSlotSize};
+ghost use Rattle.db_layout.specs.Layout.{IsSlotSize};
 ghost use Rattle.rock_main.specs.Device.{EndedOne};
 ghost use Rattle.rock_main.specs.Report.{IsAnchors, Fits, Prints, OfFile, ReportEnds, ReportSays, ReportPrints};
 
@@ -13,6 +13,7 @@ use crate::listing::listing_of;
 use crate::read::read_file;
 use crate::status::Status;
 use crate::summary::summary_of;
+use db_layout::slot_size_ok;
 use rock_disk::{Station, Volume};
 use rock_io::{Sink, write_all};
 use rock_rebuild::RebuildFault;
@@ -72,13 +73,6 @@ fn are_anchors(anchors: u32, slots: usize) -> bool
     1 <= anchors && anchors as usize <= slots
 }
 
-/// Whether a slot may have this many bytes: a multiple of 512 from 512 to 32,768.
-pub fn is_slot_size(slot: u32) -> bool
-    ensures { IsTrue result ↔ IsSlotSize slot }
-{
-    512 <= slot && slot <= 32_768 && slot % 512 == 0
-}
-
 /// Prints a report of a file. Nothing is printed before the whole file was read and given back.
 pub fn print_report<V: Volume, K: Sink>(
     alloc: Global,
@@ -112,7 +106,7 @@ pub fn print_report<V: Volume, K: Sink>(
     ensures faults { V.faults volume.old ≤ V.faults volume.new }
     ensures sink_faults { K.faults out.old ≤ K.faults out.new }
 {
-    if !is_slot_size(slot) {
+    if !slot_size_ok(slot) {
         return Status::BadGeometry { field: 1 };
     }
     let text = match read_file(alloc, volume, name, slot, report) {

@@ -1,13 +1,16 @@
 // The top call.
 ghost use Rattle.std.specs.Prelude.{◌≡◌, ℕ, List, ◌≤◌, IsTrue, ◌↔◌};
+ghost use Rattle.rock_io.specs.Faults.{Rose};
 ghost use Rattle.rock_disk.specs.File.{NoneAway, IsKept};
-ghost use Rattle.rock_main.specs.CommandLine.{IsList, IsCheck, IsCommandLine};
+ghost use Rattle.rock_main.specs.CommandLine.{IsList, IsCheck, IsCreate, IsCommandLine};
+ghost use Rattle.rock_main.specs.Create.{CreateEnds, CreateSays, IsCreateRefused, CreateLeaves, MayCreate};
 ghost use Rattle.rock_main.specs.Device.{EndedOne, NoFault};
 ghost use Rattle.rock_main.specs.Listing.{Lists};
 ghost use Rattle.rock_main.specs.Report.{AnyCount, IsAnchors, OfFile, ReportEnds, ReportSays, IsRefused, MayReport, ReportsOrLacksMemory, ReportPrints};
 ghost use Rattle.rock_main.specs.Summary.{Sums};
 
 use crate::command::Command;
+use crate::create::create_file;
 use crate::report::{Report, print_report};
 use crate::status::Status;
 use rock_disk::Volume;
@@ -22,7 +25,8 @@ use std::thread::Threads;
 /// the file NAME of slots of SLOT bytes, in order of first slot. `check NAME SLOT ANCHORS` prints the
 /// one line `slots=S kept=K used=U free=F version=G`: the file's slots, the entries that a store with
 /// ANCHORS anchors keeps, the slots that they take, those that are free, and the greatest version of a
-/// sane slot. Neither reads a script.
+/// sane slot. `create NAME SLOT SLOTS` makes a file of zeros, of a header area and SLOTS slots of SLOT
+/// bytes, and prints nothing. None of them reads a script.
 pub fn rock<R: Threads + Wait + Sync, V: Volume, S: Source, K: Sink>(
     rt: &R,
     alloc: Global,
@@ -85,11 +89,32 @@ where
     ensures check_kept { (name : List ℕ) (slot anchors : ℕ) → IsCheck words.now name slot anchors → IsTrue V.tells
         → IsKept slot name (V.files volume.old) (V.files volume.new) }
 
+    // `create NAME SLOT SLOTS` makes a file of 16,384 + SLOTS * SLOT zero bytes, where SLOT is a multiple of 512
+    // from 512 to 32,768, SLOTS is from 1 to 1,048,576, and no file has that name. It prints nothing
+    // and makes no station.
+    ensures create_ends { (name : List ℕ) (slot slots : ℕ) → IsCreate words.now name slot slots
+        → CreateEnds slot slots (V.faults volume.old) (V.faults volume.new) result }
+    ensures create_says { (name : List ℕ) (slot slots : ℕ) → IsCreate words.now name slot slots → IsTrue V.tells
+        → CreateSays (V.files volume.old) name result }
+    ensures create_refused { (name : List ℕ) (slot slots : ℕ) → IsCreate words.now name slot slots
+        → IsCreateRefused V.tells (V.files volume.old) name slot slots result }
+    ensures create_complete { (name : List ℕ) (slot slots : ℕ) → IsCreate words.now name slot slots → IsTrue V.tells
+        → MayCreate (V.files volume.old) name slot slots → ¬ Rose (V.faults volume.old) (V.faults volume.new)
+        → ReportsOrLacksMemory result }
+    ensures create_untouched { (name : List ℕ) (slot slots : ℕ) → IsCreate words.now name slot slots
+        → (V.made volume.new ≡ V.made volume.old) × (V.ended volume.new ≡ V.ended volume.old)
+        × (K.taken out.new ≡ K.taken out.old) × (K.faults out.new ≡ K.faults out.old) }
+    ensures create_leaves { (name : List ℕ) (slot slots : ℕ) → IsCreate words.now name slot slots
+        → CreateLeaves V.tells slot slots name (V.files volume.old) (V.files volume.new) result }
+
     // Each station that was made was ended.
     ensures ended { EndedOne (V.made volume.old) (V.made volume.new)
         (V.ended volume.old) (V.ended volume.new) }
     ensures faults { V.faults volume.old ≤ V.faults volume.new }
     ensures sink_faults { K.faults out.old ≤ K.faults out.new }
+
+    // No file is out.
+    ensures back { IsTrue V.tells → NoneAway (V.files volume.new) }
 
     // The script is not read.
     ensures script { S.left script.new ≡ S.left script.old }
@@ -107,5 +132,6 @@ where
             let summary = Report::Summary { anchors };
             print_report(alloc, volume, out, target.name, target.slot, summary)
         }
+        Command::Create { target, slots } => create_file(volume, target.name, target.slot, slots),
     }
 }

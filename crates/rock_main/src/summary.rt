@@ -2,7 +2,7 @@
 ghost use Rattle.std.specs.Prelude.{◌≡◌, ◌<◌, ◌≤◌, length, map, All, string_bytes, IsTrue, IfOk, IsErrOf};
 ghost use Rattle.rock_io.specs.Faults.{Rose};
 ghost use Rattle.rock_disk.specs.Cell.{CellState};
-ghost use Rattle.rock_rebuild.specs.Scan.{IsSlotSize};
+ghost use Rattle.db_layout.specs.Layout.{IsSlotSize};
 ghost use Rattle.rock_main.specs.Summary.{used_in, front, back, line_of_rebuilt, Sums};
 
 use rock_disk::Station;

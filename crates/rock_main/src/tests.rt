@@ -15,6 +15,7 @@ use std::test::Fail;
 use std::thread::Threads;
 
 mod checks;
+mod creates;
 mod patches;
 
 const SLOT: usize = 512;
@@ -150,6 +151,7 @@ fn run<R: Threads + Wait + Sync>(
     room: usize,
 ) -> Result<(Status, Vec<u8>), Memory>
     requires { NoneAway (volume_files volume.old) }
+    ensures { NoneAway (volume_files volume.new) }
 {
     let words = words_of(alloc, texts)?;
     let mut script = MemSource::new(Vec::new(alloc), 1, Vec::new(alloc));

@@ -6,7 +6,8 @@ use Rattle.rock_disk.specs.Cell.{CellState}
 use Rattle.rebuild_model.specs.Image.{IsFile, IsGreatest}
 use Rattle.rock_rebuild.specs.Kept.{IsGreatestOf}
 use Rattle.rock_rebuild.specs.Gathered.{AreFound}
-use Rattle.rock_rebuild.specs.Scan.{IsSlotSize, IsScan}
+use Rattle.db_layout.specs.Layout.{IsSlotSize}
+use Rattle.rock_rebuild.specs.Scan.{IsScan}
 use Rattle.rock_rebuild.specs.declared.outcome.Scan.{Scan}
 use Rattle.rock_rebuild.proofs.Cells.{images}
 use Rattle.rock_rebuild.proofs.Completing.{first_belongs}

@@ -1,15 +1,9 @@
 -- What a scan tells of a file.
-use Rattle.std.specs.Prelude.{◌≡◌, ℕ, ◌≤◌, ◌%◌, List, map, Contains}
+use Rattle.std.specs.Prelude.{◌≡◌, ℕ, List, map, Contains}
 use Rattle.std.specs.List.Sorted.{IsStrictlyIncreasing}
 use Rattle.rebuild_model.specs.Image.{IsGreatest}
 use Rattle.rebuild_model.specs.Entry.{Entry, IsComplete, found_of}
 use Rattle.rock_rebuild.specs.declared.outcome.Scan.{Scan}
-
--- the sizes that a slot may have, in bytes
-pub record IsSlotSize (slot : ℕ) : Type 0 where
-  pub from : 512 ≤ slot
-  pub to : slot ≤ 32768
-  pub multiple : slot % 512 ≡ 0
 
 -- it tells exactly the complete entries, in order of their first slots, and the greatest sane version
 pub record IsScan (slot : ℕ) (images : List (List ℕ)) (scan : Scan) : Type 0 where

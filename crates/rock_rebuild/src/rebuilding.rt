@@ -3,7 +3,7 @@ ghost use Rattle.std.specs.Prelude.{◌≡◌, ◌<◌, ◌≤◌, length, map, 
 ghost use Rattle.rock_io.specs.Faults.{Rose};
 ghost use Rattle.rock_disk.specs.Cell.{CellState};
 ghost use Rattle.rebuild_model.specs.Rebuilt.{IsRebuilt};
-ghost use Rattle.rock_rebuild.specs.Scan.{IsSlotSize};
+ghost use Rattle.db_layout.specs.Layout.{IsSlotSize};
 
 use crate::best::best_of;
 use crate::outcome::{RebuildFault, Scan};

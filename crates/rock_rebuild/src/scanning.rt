@@ -2,7 +2,8 @@
 ghost use Rattle.std.specs.Prelude.{◌≡◌, ◌≤◌, length, map, All, IsTrue, IfOk, IsErrOf};
 ghost use Rattle.rock_io.specs.Faults.{Rose};
 ghost use Rattle.rock_disk.specs.Cell.{CellState};
-ghost use Rattle.rock_rebuild.specs.Scan.{IsSlotSize, IsScan};
+ghost use Rattle.db_layout.specs.Layout.{IsSlotSize};
+ghost use Rattle.rock_rebuild.specs.Scan.{IsScan};
 
 use crate::FoundList;
 use crate::entries::entries_of;

@@ -1,14 +1,19 @@
-use Rattle.std.proofs.Common.{◌≡◌, IsTrue, None, subst}
+use Rattle.std.proofs.Common.{◌≡◌, IsTrue, None, inr, subst}
 use Rattle.std.specs.FinMap.{get}
-use Rattle.rock_disk.specs.File.{IsKept}
+use Rattle.rock_disk.specs.File.{IsKept, IsThere}
 use Rattle.rock_disk.specs.Opened.{IsSmall}
-use Rattle.rock_rebuild.specs.Scan.{IsSlotSize}
+use Rattle.db_layout.specs.Layout.{IsSlotSize}
+use Rattle.std.specs.Prelude.{MatchOption}
 use Rattle.rock_main.specs.Command.{IsCommand}
+use Rattle.rock_main.specs.CommandLine.{IsCommandLine}
+use Rattle.rock_main.specs.Create.{IsSlotCount, IsGeometry, CreateEnds, CreateSays, CreateLeaves}
 use Rattle.rock_main.specs.Listing.{Lists}
 use Rattle.rock_main.specs.Summary.{Sums}
 use Rattle.rock_main.specs.Report.{AnyCount, IsAnchors, OfFile, ReportEnds, ReportSays, ReportPrints}
 use Rattle.rock_main.specs.declared.status.Status.TheVariants as status
-use Rattle.rock_main.proofs.CommandFacts.{of_each, of_each_check}
+use Rattle.rock_main.proofs.CommandFacts.{of_each, of_each_check, of_each_create}
+use Rattle.rock_main.proofs.CreateFacts.{complete_create}
+use Rattle.rock_main.proofs.Homes.{home_when_kept, home_when_left}
 use Rattle.rock_main.proofs.ReportFacts.{complete, unfit}
 use Rattle.rock_main.proofs.rock.rock.Goals as goal
 
@@ -73,3 +78,47 @@ returns-in-Check-clause-check_prints g c name slot anchors asked k =
 pub returns-in-Check-clause-check_kept : goal.returns-in-Check-clause-check_kept
 returns-in-Check-clause-check_kept g c name slot anchors asked t =
     of_each_check c.args.words.now (λ n s a. IsKept s n (g.V.Volume.files c.args.volume.now) (g.V.Volume.files c.print_report-in-Check.new.volume)) name slot anchors (subst (IsCommand c.args.words.now) c.in-Check.is c.in-Some.ensures) asked (c.print_report-in-Check.ensures.kept t)
+
+pub returns-in-List-clause-back : goal.returns-in-List-clause-back
+returns-in-List-clause-back g c t = home_when_kept c.in-List.target.slot c.in-List.target.name.now (g.V.Volume.files c.args.volume.now) (g.V.Volume.files c.print_report.new.volume) (c.print_report.ensures.kept t) (c.requires.home t)
+
+pub returns-in-Check-clause-back : goal.returns-in-Check-clause-back
+returns-in-Check-clause-back g c t =
+    home_when_kept c.in-Check.target.slot c.in-Check.target.name.now (g.V.Volume.files c.args.volume.now) (g.V.Volume.files c.print_report-in-Check.new.volume) (c.print_report-in-Check.ensures.kept t) (c.requires.home t)
+
+pub returns-in-Create-clause-usage : goal.returns-in-Create-clause-usage
+returns-in-Create-clause-usage g c = (
+  λ is. absurd (subst (CreateEnds c.in-Create.target.slot c.in-Create.slots (g.V.Volume.faults c.args.volume.now) (g.V.Volume.faults c.create_file.new.volume)) is c.create_file.ensures.ends),
+  λ none. absurd (none (inr (inr (c.in-Create.target.name.now, c.in-Create.target.slot, c.in-Create.slots, subst (IsCommand c.args.words.now) c.in-Create.is c.in-Some.ensures)))),
+)
+
+pub returns-in-Create-clause-create_ends : goal.returns-in-Create-clause-create_ends
+returns-in-Create-clause-create_ends g c name slot slots asked =
+    of_each_create c.args.words.now (λ n s k. CreateEnds s k (g.V.Volume.faults c.args.volume.now) (g.V.Volume.faults c.create_file.new.volume) c.create_file.result) name slot slots (subst (IsCommand c.args.words.now) c.in-Create.is c.in-Some.ensures) asked c.create_file.ensures.ends
+
+pub returns-in-Create-clause-create_says : goal.returns-in-Create-clause-create_says
+returns-in-Create-clause-create_says g c name slot slots asked t =
+    of_each_create c.args.words.now (λ n s k. CreateSays (g.V.Volume.files c.args.volume.now) n c.create_file.result) name slot slots (subst (IsCommand c.args.words.now) c.in-Create.is c.in-Some.ensures) asked (c.create_file.ensures.says t)
+
+pub returns-in-Create-clause-create_refused : goal.returns-in-Create-clause-create_refused
+returns-in-Create-clause-create_refused g c name slot slots asked = record {
+  size = of_each_create c.args.words.now (λ n s k. ¬ IsSlotSize s → c.create_file.result ≡ status.BadGeometry 1) name slot slots (subst (IsCommand c.args.words.now) c.in-Create.is c.in-Some.ensures) asked c.create_file.ensures.size;
+  count = of_each_create c.args.words.now (λ n s k. IsSlotSize s → ¬ IsSlotCount k → c.create_file.result ≡ status.BadGeometry 4) name slot slots (subst (IsCommand c.args.words.now) c.in-Create.is c.in-Some.ensures) asked c.create_file.ensures.count;
+  exists = λ t. of_each_create c.args.words.now (λ n s k. IsGeometry s k → IsThere (g.V.Volume.files c.args.volume.now) n → c.create_file.result ≡ status.Exists) name slot slots (subst (IsCommand c.args.words.now) c.in-Create.is c.in-Some.ensures) asked (c.create_file.ensures.exists t);
+}
+
+pub returns-in-Create-clause-create_complete : goal.returns-in-Create-clause-create_complete
+returns-in-Create-clause-create_complete g c name slot slots asked t may none =
+    complete_create (g.V.Volume.files c.args.volume.now) name slot slots (g.V.Volume.faults c.args.volume.now) (g.V.Volume.faults c.create_file.new.volume) c.create_file.result
+    (returns-in-Create-clause-create_ends g c name slot slots asked) (returns-in-Create-clause-create_says g c name slot slots asked t) may none
+
+pub returns-in-Create-clause-create_leaves : goal.returns-in-Create-clause-create_leaves
+returns-in-Create-clause-create_leaves g c name slot slots asked =
+    of_each_create c.args.words.now (λ n s k. CreateLeaves g.V.Volume.tells s k n (g.V.Volume.files c.args.volume.now) (g.V.Volume.files c.create_file.new.volume) c.create_file.result) name slot slots (subst (IsCommand c.args.words.now) c.in-Create.is c.in-Some.ensures) asked c.create_file.ensures.leaves
+
+pub returns-in-Create-clause-back : goal.returns-in-Create-clause-back
+returns-in-Create-clause-back g c t =
+    home_when_left g.V.Volume.tells c.in-Create.target.slot c.in-Create.slots c.in-Create.target.name.now (g.V.Volume.files c.args.volume.now) (g.V.Volume.files c.create_file.new.volume) c.create_file.result t c.create_file.ensures.leaves (c.requires.home t)
+
+pub returns-in_default-clause-create_complete : goal.returns-in_default-clause-create_complete
+returns-in_default-clause-create_complete g c name slot slots asked t may none = absurd (subst (λ r. MatchOption r (IsCommandLine c.args.words.now → ⊥) (IsCommand c.args.words.now)) c.in_default.is c.parse.ensures (inr (inr (name, slot, slots, asked))))

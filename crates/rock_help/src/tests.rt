@@ -1,0 +1,57 @@
+use super::*;
+use std::test::Fail;
+
+const EXPECTED: &str = "\
+The store of a caching proxy in one database file
+
+Usage: rock create <NAME> <SLOT> <SLOTS>
+       rock list <NAME> <SLOT>
+       rock check <NAME> <SLOT> <ANCHORS>
+
+Commands:
+  create  Make a file of empty slots
+  list    Print a line for each complete entry of a file
+  check   Print one line on what a store keeps of a file
+
+Arguments:
+  <NAME>     The file; its name does not begin with -
+  <SLOT>     The bytes of a slot: a multiple of 512 from 512 to 32768
+  <SLOTS>    The slots of a new file, from 1 to 1048576
+  <ANCHORS>  The anchors of a store, from 1 to the slots of the file
+
+Options:
+      --help     Print this text
+      --version  Print the version
+
+Example:
+  rock create cache.db 16384 4096
+  rock list cache.db 16384
+  rock check cache.db 16384 1024
+
+Output:
+  list   ENTRY first-slot version slots body-bytes URL
+  check  slots=S kept=K used=U free=F version=G
+
+A number is decimal, without a sign or a leading zero. A run that does not end
+well says why in one line on standard error. Exit status:
+  0 done                    6 the disk failed
+  2 no command line         8 no such file, or a wrong size or number
+  3 out of memory           9 there is a file of that name already
+  5 standard output failed
+";
+
+#[test]
+fn the_help_is_plain_text_of_80_columns(rt: HostRuntime) -> Result<(), Fail> {
+    let text = help_text(rt.alloc())?;
+    assert!(rt; text.as_str() == EXPECTED, "{text}");
+    let mut wide = 0;
+    let mut odd = 0;
+    for line in text.lines() {
+        wide = line.len().max(wide);
+        // A terminal's escapes are control characters.
+        odd = line.bytes().filter(|byte| *byte < 32 || *byte > 126).count().max(odd);
+    }
+    assert!(rt; wide <= 80, "{wide}");
+    assert!(rt; odd == 0, "{odd}");
+    Ok(())
+}
