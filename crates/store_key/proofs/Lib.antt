@@ -1,1 +1,2 @@
 pub mod UrlFacts
+pub mod KeyFacts
