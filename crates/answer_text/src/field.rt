@@ -1,0 +1,123 @@
+ghost use Rattle.std.specs.Prelude.{◌≡◌, ◌+◌, ◌≤◌, ◌++◌, length, decimal, vec_len};
+ghost use Rattle.std.specs.Vec.{vec_capacity};
+ghost use Rattle.answer_text.specs.Parts.{bytes_text, epoch_text, word_text};
+ghost use Rattle.answer_text.specs.Fields.{field_text, Counts};
+
+use crate::room::{put, put_hex, put_number};
+use itoa::Buffer;
+use lock_word::{Epoch, Word};
+
+/// A word of an answer.
+#[derive(Clone, Copy, Debug)]
+pub enum Field<'a> {
+    /// A text that stands for itself.
+    Name(&'static str),
+    /// A version, or a count.
+    Number(u64),
+    /// An epoch: `version.stage`, and `d` where it is doomed.
+    Version(Epoch),
+    /// The word of an anchor: its epoch, `/` and its readers.
+    Looked(Word),
+    /// Bytes in lower-case hexadecimal, or `-` for none.
+    Bytes(&'a [u8]),
+}
+
+impl<'a> Field<'a> {
+    /// How many bytes its text has. None where that is more than a `usize` can count.
+    pub fn size(self) -> Option<usize>
+        ensures { Counts result (length (field_text self.entry)) }
+    {
+        match self {
+            Field::Name(text) => Some(text.len()),
+            Field::Number(number) => Some(number_size(number)),
+            Field::Version(epoch) => Some(epoch_size(epoch)),
+            Field::Looked(word) => Some(word_size(word)),
+            Field::Bytes(bytes) => bytes_size(bytes),
+        }
+    }
+
+    /// Adds its text to a line that has room for it.
+    pub fn put(self, line: &mut Vec<u8>)
+        requires { vec_len line.old + length (field_text self) ≤ vec_capacity line.old }
+        ensures items { line.new.items ≡ line.old.items ++ field_text self.entry }
+        ensures len { vec_len line.new ≡ vec_len line.old + length (field_text self.entry) }
+        ensures capacity { vec_capacity line.old ≤ vec_capacity line.new }
+    {
+        match self {
+            Field::Name(text) => put(line, text.as_bytes()),
+            Field::Number(number) => put_number(line, number),
+            Field::Version(epoch) => put_epoch(line, epoch),
+            Field::Looked(word) => put_word(line, word),
+            Field::Bytes(bytes) => put_bytes(line, bytes),
+        }
+    }
+}
+
+/// How many digits a number has in decimal.
+pub fn number_size(number: u64) -> usize
+    ensures size { result ≡ length (decimal number) }
+    ensures short { result ≤ 40 }
+{
+    Buffer::new().format(number).len()
+}
+
+fn epoch_size(epoch: Epoch) -> usize
+    ensures size { result ≡ length (epoch_text epoch) }
+    ensures short { result ≤ 82 }
+{
+    let digits = number_size(u64::from(epoch.version)) + number_size(epoch.stage.number());
+    digits + 1 + usize::from(epoch.doom)
+}
+
+fn word_size(word: Word) -> usize
+    ensures { result ≡ length (word_text word) }
+{
+    epoch_size(word.epoch) + 1 + number_size(u64::from(word.readers))
+}
+
+fn bytes_size(bytes: &[u8]) -> Option<usize>
+    ensures { Counts result (length (bytes_text bytes.now)) }
+{
+    if bytes.is_empty() {
+        return Some(1);
+    }
+    bytes.len().checked_mul(2)
+}
+
+fn put_epoch(line: &mut Vec<u8>, epoch: Epoch)
+    requires { vec_len line.old + length (epoch_text epoch) ≤ vec_capacity line.old }
+    ensures items { line.new.items ≡ line.old.items ++ epoch_text epoch }
+    ensures len { vec_len line.new ≡ vec_len line.old + length (epoch_text epoch) }
+    ensures capacity { vec_capacity line.old ≤ vec_capacity line.new }
+{
+    put_number(line, u64::from(epoch.version));
+    put(line, b".");
+    put_number(line, epoch.stage.number());
+    if epoch.doom {
+        put(line, b"d");
+    }
+}
+
+fn put_word(line: &mut Vec<u8>, word: Word)
+    requires { vec_len line.old + length (word_text word) ≤ vec_capacity line.old }
+    ensures items { line.new.items ≡ line.old.items ++ word_text word }
+    ensures len { vec_len line.new ≡ vec_len line.old + length (word_text word) }
+    ensures capacity { vec_capacity line.old ≤ vec_capacity line.new }
+{
+    put_epoch(line, word.epoch);
+    put(line, b"/");
+    put_number(line, u64::from(word.readers));
+}
+
+fn put_bytes(line: &mut Vec<u8>, bytes: &[u8])
+    requires { vec_len line.old + length (bytes_text bytes.now) ≤ vec_capacity line.old }
+    ensures items { line.new.items ≡ line.old.items ++ bytes_text bytes.now }
+    ensures len { vec_len line.new ≡ vec_len line.old + length (bytes_text bytes.now) }
+    ensures capacity { vec_capacity line.old ≤ vec_capacity line.new }
+{
+    if bytes.is_empty() {
+        put(line, b"-");
+    } else {
+        put_hex(line, bytes);
+    }
+}
