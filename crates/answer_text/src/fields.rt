@@ -68,15 +68,16 @@ fn named<'a>(name: &'static str) -> Fields<'a>
 fn numbered<'a>(name: &'static str, number: u64) -> Fields<'a>
     ensures { field_words result ≡ name.now ∷ decimal number ∷ [] }
 {
-    [Some(Field::Name(name)), Some(Field::Number(number)), None, None]
+    [
+        Some(Field::Name(name)),
+        Some(Field::Number(number)),
+        None,
+        None,
+    ]
 }
 
 /// A name, what an entry has, if that is told, and bytes behind their count.
-fn counted<'a>(
-    name: &'static str,
-    of: Option<Field<'a>>,
-    bytes: &'a Octets,
-) -> Fields<'a>
+fn counted<'a>(name: &'static str, of: Option<Field<'a>>, bytes: &'a Octets) -> Fields<'a>
     ensures { field_words result
         ≡ name.now ∷ (field_words (of.entry ∷ []) ++ counted_words bytes.now) }
 {
