@@ -9,8 +9,8 @@ use Rattle.answer_text.specs.declared.field.Field.TheVariants as field
 abbrev pub field_text : Field → List ℕ
 field_text (field.Name text) = text.now
 field_text (field.Number number) = decimal number
-field_text (field.Version epoch) = epoch_text epoch
-field_text (field.Looked word) = word_text word
+field_text (field.Epoch epoch) = epoch_text epoch
+field_text (field.Word word) = word_text word
 field_text (field.Bytes bytes) = bytes_text bytes.now
 
 -- the words that are there

@@ -1,6 +1,9 @@
 ghost use Rattle.std.specs.Prelude.{◌≡◌, ◌+◌, ◌≤◌, ◌++◌, length, decimal, vec_len};
 ghost use Rattle.std.specs.Vec.{vec_capacity};
+ghost use Rattle.hex.specs.Hex.{IsBytes};
+ghost use Rattle.lock_word.specs.Words.{IsInRange};
 ghost use Rattle.answer_text.specs.Parts.{bytes_text, epoch_text, word_text};
+ghost use Rattle.answer_text.specs.Ranges.{IsEpoch};
 ghost use Rattle.answer_text.specs.Fields.{field_text, Counts};
 
 use crate::room::{put, put_hex, put_number};
@@ -15,14 +18,38 @@ pub enum Field<'a> {
     /// A version, or a count.
     Number(u64),
     /// An epoch: `version.stage`, and `d` where it is doomed.
-    Version(Epoch),
+    Epoch(Epoch),
     /// The word of an anchor: its epoch, `/` and its readers.
-    Looked(Word),
+    Word(Word),
     /// Bytes in lower-case hexadecimal, or `-` for none.
     Bytes(&'a [u8]),
 }
 
 impl<'a> Field<'a> {
+    /// An epoch, whose version is in its range.
+    pub fn of_epoch(epoch: Epoch) -> Self
+        ensures field { result ≡ Field.Epoch epoch }
+        ensures in_range { IsEpoch epoch }
+    {
+        Field::Epoch(epoch)
+    }
+
+    /// The word of an anchor, whose numbers are in their ranges.
+    pub fn of_word(word: Word) -> Self
+        ensures field { result ≡ Field.Word word }
+        ensures in_range { IsInRange word }
+    {
+        Field::Word(word)
+    }
+
+    /// Bytes, each in its range.
+    pub fn of_bytes(bytes: &'a [u8]) -> Self
+        ensures field { result ≡ Field.Bytes bytes.entry }
+        ensures in_range { IsBytes bytes.now }
+    {
+        Field::Bytes(bytes)
+    }
+
     /// How many bytes its text has. None where that is more than a `usize` can count.
     pub fn size(self) -> Option<usize>
         ensures { Counts result (length (field_text self.entry)) }
@@ -30,8 +57,8 @@ impl<'a> Field<'a> {
         match self {
             Field::Name(text) => Some(text.len()),
             Field::Number(number) => Some(number_size(number)),
-            Field::Version(epoch) => Some(epoch_size(epoch)),
-            Field::Looked(word) => Some(word_size(word)),
+            Field::Epoch(epoch) => Some(epoch_size(epoch)),
+            Field::Word(word) => Some(word_size(word)),
             Field::Bytes(bytes) => bytes_size(bytes),
         }
     }
@@ -46,8 +73,8 @@ impl<'a> Field<'a> {
         match self {
             Field::Name(text) => put(line, text.as_bytes()),
             Field::Number(number) => put_number(line, number),
-            Field::Version(epoch) => put_epoch(line, epoch),
-            Field::Looked(word) => put_word(line, word),
+            Field::Epoch(epoch) => put_epoch(line, epoch),
+            Field::Word(word) => put_word(line, word),
             Field::Bytes(bytes) => put_bytes(line, bytes),
         }
     }

@@ -1,6 +1,7 @@
 ghost use Rattle.std.specs.Prelude.{◌≡◌, ◌+◌, ◌≤◌, ◌++◌, length, vec_len, IfOk};
 ghost use Rattle.std.specs.Vec.{vec_capacity};
 ghost use Rattle.answer_text.specs.Lines.{line_of, line_with, spaced};
+ghost use Rattle.answer_text.specs.Ranges.{IsAnswer};
 ghost use Rattle.answer_text.specs.Fields.{field_words, Counts};
 
 use crate::field::{Field, number_size};
@@ -18,7 +19,8 @@ pub fn answer_line(
     number: u32,
     answer: &Answer,
 ) -> Result<Octets, Memory>
-    ensures { IfOk result (λ line. line ≡ line_of worker number answer.now) }
+    ensures line { IfOk result (λ line. line ≡ line_of worker number answer.now) }
+    ensures in_range { IsAnswer answer.now }
 {
     let (worker, number) = (u64::from(worker), u64::from(number));
     let fields = fields_of(answer);
