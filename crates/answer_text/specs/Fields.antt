@@ -1,6 +1,5 @@
 -- The words of a line as the writer has them.
-use Rattle.std.specs.Prelude.{◌≡◌, ◌⊎◌, ℕ, ◌+◌, ◌≤◌, ◌^◌, List, [], ◌∷◌, ◌++◌, length, decimal, Option, Some, None, MatchOption}
-use Rattle.std.specs.Vec.{vec_len, vec_capacity}
+use Rattle.std.specs.Prelude.{◌≡◌, ℕ, ◌≤◌, ◌^◌, List, [], ◌∷◌, decimal, Option, Some, None, MatchOption}
 use Rattle.answer_text.specs.Parts.{epoch_text, word_text, bytes_text}
 use Rattle.answer_text.specs.declared.field.Field.{Field}
 use Rattle.answer_text.specs.declared.field.Field.TheVariants as field

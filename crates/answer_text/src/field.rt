@@ -1,10 +1,10 @@
-ghost use Rattle.std.specs.Prelude.{◌≡◌, ◌+◌, ◌≤◌, ◌++◌, length, decimal, vec_len};
-ghost use Rattle.std.specs.Vec.{vec_capacity};
+ghost use Rattle.std.specs.Prelude.{◌≡◌, ◌≤◌, length, decimal};
 ghost use Rattle.hex.specs.Hex.{IsBytes};
 ghost use Rattle.lock_word.specs.Words.{IsInRange};
 ghost use Rattle.answer_text.specs.Parts.{bytes_text, epoch_text, word_text};
 ghost use Rattle.answer_text.specs.Ranges.{IsEpoch};
 ghost use Rattle.answer_text.specs.Fields.{field_text, Counts};
+ghost use Rattle.answer_text.specs.Room.{HasRoom, Adds};
 
 use crate::room::{put, put_hex, put_number};
 use itoa::Buffer;
@@ -65,10 +65,8 @@ impl<'a> Field<'a> {
 
     /// Adds its text to a line that has room for it.
     pub fn put(self, line: &mut Vec<u8>)
-        requires { vec_len line.old + length (field_text self) ≤ vec_capacity line.old }
-        ensures items { line.new.items ≡ line.old.items ++ field_text self.entry }
-        ensures len { vec_len line.new ≡ vec_len line.old + length (field_text self.entry) }
-        ensures capacity { vec_capacity line.old ≤ vec_capacity line.new }
+        requires { HasRoom line.old (field_text self) }
+        ensures { Adds line.old line.new (field_text self.entry) }
     {
         match self {
             Field::Name(text) => put(line, text.as_bytes()),
@@ -112,10 +110,8 @@ fn bytes_size(bytes: &[u8]) -> Option<usize>
 }
 
 fn put_epoch(line: &mut Vec<u8>, epoch: Epoch)
-    requires { vec_len line.old + length (epoch_text epoch) ≤ vec_capacity line.old }
-    ensures items { line.new.items ≡ line.old.items ++ epoch_text epoch }
-    ensures len { vec_len line.new ≡ vec_len line.old + length (epoch_text epoch) }
-    ensures capacity { vec_capacity line.old ≤ vec_capacity line.new }
+    requires { HasRoom line.old (epoch_text epoch) }
+    ensures { Adds line.old line.new (epoch_text epoch) }
 {
     put_number(line, u64::from(epoch.version));
     put(line, b".");
@@ -126,10 +122,8 @@ fn put_epoch(line: &mut Vec<u8>, epoch: Epoch)
 }
 
 fn put_word(line: &mut Vec<u8>, word: Word)
-    requires { vec_len line.old + length (word_text word) ≤ vec_capacity line.old }
-    ensures items { line.new.items ≡ line.old.items ++ word_text word }
-    ensures len { vec_len line.new ≡ vec_len line.old + length (word_text word) }
-    ensures capacity { vec_capacity line.old ≤ vec_capacity line.new }
+    requires { HasRoom line.old (word_text word) }
+    ensures { Adds line.old line.new (word_text word) }
 {
     put_epoch(line, word.epoch);
     put(line, b"/");
@@ -137,10 +131,8 @@ fn put_word(line: &mut Vec<u8>, word: Word)
 }
 
 fn put_bytes(line: &mut Vec<u8>, bytes: &[u8])
-    requires { vec_len line.old + length (bytes_text bytes.now) ≤ vec_capacity line.old }
-    ensures items { line.new.items ≡ line.old.items ++ bytes_text bytes.now }
-    ensures len { vec_len line.new ≡ vec_len line.old + length (bytes_text bytes.now) }
-    ensures capacity { vec_capacity line.old ≤ vec_capacity line.new }
+    requires { HasRoom line.old (bytes_text bytes.now) }
+    ensures { Adds line.old line.new (bytes_text bytes.now) }
 {
     if bytes.is_empty() {
         put(line, b"-");

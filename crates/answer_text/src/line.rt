@@ -1,8 +1,8 @@
-ghost use Rattle.std.specs.Prelude.{◌≡◌, ◌+◌, ◌≤◌, ◌++◌, length, vec_len, IfOk};
-ghost use Rattle.std.specs.Vec.{vec_capacity};
+ghost use Rattle.std.specs.Prelude.{◌≡◌, length, IfOk};
 ghost use Rattle.answer_text.specs.Lines.{line_of, line_with, spaced};
 ghost use Rattle.answer_text.specs.Ranges.{IsAnswer};
 ghost use Rattle.answer_text.specs.Fields.{field_words, Counts};
+ghost use Rattle.answer_text.specs.Room.{HasRoom, Adds};
 
 use crate::field::{Field, number_size};
 use crate::fields::fields_of;
@@ -57,10 +57,8 @@ fn fields_size(fields: &[Option<Field>]) -> Option<usize>
 
 /// Adds these words, each behind a space, to a line that has room for them.
 fn put_fields(line: &mut Vec<u8>, fields: &[Option<Field>])
-    requires { vec_len line.old + length (spaced (field_words fields.now)) ≤ vec_capacity line.old }
-    ensures items { line.new.items ≡ line.old.items ++ spaced (field_words fields.now) }
-    ensures len { vec_len line.new ≡ vec_len line.old + length (spaced (field_words fields.now)) }
-    ensures capacity { vec_capacity line.old ≤ vec_capacity line.new }
+    requires { HasRoom line.old (spaced (field_words fields.now)) }
+    ensures { Adds line.old line.new (spaced (field_words fields.now)) }
 {
     'fields: for field in fields {
         if let Some(field) = field {

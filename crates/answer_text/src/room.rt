@@ -1,16 +1,15 @@
 // Bytes that are added where room for them was reserved, so that no memory is taken.
-ghost use Rattle.std.specs.Prelude.{◌≡◌, ◌+◌, ◌≤◌, ◌*◌, ◌++◌, length, decimal, vec_len};
+ghost use Rattle.std.specs.Prelude.{◌+◌, ◌*◌, ◌≤◌, length, decimal, vec_len};
 ghost use Rattle.std.specs.Vec.{vec_capacity};
 ghost use Rattle.hex.specs.Hex.{encode_lower};
+ghost use Rattle.answer_text.specs.Room.{HasRoom, Adds};
 
 use itoa::Buffer;
 
 /// Adds bytes.
 pub fn put(line: &mut Vec<u8>, bytes: &[u8])
-    requires { vec_len line.old + length bytes.now ≤ vec_capacity line.old }
-    ensures items { line.new.items ≡ line.old.items ++ bytes.now }
-    ensures len { vec_len line.new ≡ vec_len line.old + length bytes.now }
-    ensures capacity { vec_capacity line.old ≤ vec_capacity line.new }
+    requires { HasRoom line.old bytes.now }
+    ensures { Adds line.old line.new bytes.now }
 {
     match line.extend_from_slice(bytes) {
         Ok(()) => (),
@@ -21,10 +20,8 @@ pub fn put(line: &mut Vec<u8>, bytes: &[u8])
 
 /// Adds a number in decimal.
 pub fn put_number(line: &mut Vec<u8>, number: u64)
-    requires { vec_len line.old + length (decimal number) ≤ vec_capacity line.old }
-    ensures items { line.new.items ≡ line.old.items ++ decimal number }
-    ensures len { vec_len line.new ≡ vec_len line.old + length (decimal number) }
-    ensures capacity { vec_capacity line.old ≤ vec_capacity line.new }
+    requires { HasRoom line.old (decimal number) }
+    ensures { Adds line.old line.new (decimal number) }
 {
     put(line, Buffer::new().format(number).as_bytes());
 }
@@ -32,9 +29,7 @@ pub fn put_number(line: &mut Vec<u8>, number: u64)
 /// Adds two digits for each byte, with lower case letters.
 pub fn put_hex(line: &mut Vec<u8>, bytes: &[u8])
     requires { vec_len line.old + 2 * length bytes.now ≤ vec_capacity line.old }
-    ensures items { line.new.items ≡ line.old.items ++ encode_lower bytes.now }
-    ensures len { vec_len line.new ≡ vec_len line.old + 2 * length bytes.now }
-    ensures capacity { vec_capacity line.old ≤ vec_capacity line.new }
+    ensures { Adds line.old line.new (encode_lower bytes.now) }
 {
     let start = line.len();
     match line.resize(start + 2 * bytes.len(), b'0') {
