@@ -1,12 +1,12 @@
 -- The words of an answer: their bytes, and the answer read back from them.
-use Rattle.std.proofs.Common.{◌≡◌, ◌==◌, ℕ, ◌+◌, ◌<◌, ◌^◌, Bool, true, false, ◌&&◌, cond, eqb, List, [], ◌∷◌, length, codes, decimal, refl, ap, ◌∙◌, arith}
+use Rattle.std.proofs.Common.{◌≡◌, ℕ, ◌<◌, ◌^◌, Bool, true, false, ◌&&◌, cond, eqb, List, [], ◌∷◌, length, codes, decimal, refl, ap, ◌∙◌, arith}
 use Rattle.lock_word.specs.declared.cause.Cause.{Cause}
 use Rattle.lock_word.specs.declared.cause.Cause.TheVariants as cause
 use Rattle.lock_word.specs.declared.epoch.Epoch.{Epoch}
 use Rattle.lock_word.specs.declared.word.Word.{Word}
 use Rattle.script_text.specs.declared.answer.Answer.{Answer}
 use Rattle.script_text.specs.declared.answer.Answer.TheVariants as answer
-use Rattle.answer_text.specs.Parts.{epoch_text, word_text, bytes_text}
+use Rattle.answer_text.specs.Parts.{word_text, bytes_text}
 use Rattle.answer_text.specs.Lines.{cause_words, counted_words, answer_words}
 use Rattle.answer_text.specs.Ranges.{AreOctets, IsCause, IsAnswer}
 use Rattle.answer_text.proofs.Dark.{IsDark, dark_by_test, number_dark, epoch_dark, word_dark, bytes_dark}
