@@ -83,16 +83,16 @@ word_dark w fits =
 digit_dark : (c d : ℕ) → hex_digit_value c ≡ Some d → 32 < c
 digit_dark c d reads = grind (arith, nat_tests)
 
-hex_dark : (bytes : List ℕ) → IsBytes bytes → IsDark (encode_lower bytes)
+pub key_dark : (bytes : List ℕ) → IsBytes bytes → IsDark (encode_lower bytes)
 unfolding encode_with
-hex_dark [] are = All-nil (λ b. 32 < b)
-hex_dark (b ∷ bytes) are =
+key_dark [] are = All-nil (λ b. 32 < b)
+key_dark (b ∷ bytes) are =
     let small : b < 256 = are 0 in
     let high = digit_dark (slice_index lower_digits (b / 16)) (b / 16) (IsDigits-lower_digits (b / 16) (omega arith)) in
     let low = digit_dark (slice_index lower_digits (b % 16)) (b % 16) (IsDigits-lower_digits (b % 16) (omega arith)) in
     All-cons (λ c. 32 < c) (slice_index lower_digits (b / 16)) (slice_index lower_digits (b % 16) ∷ encode_lower bytes) high
-    (All-cons (λ c. 32 < c) (slice_index lower_digits (b % 16)) (encode_lower bytes) low (hex_dark bytes (λ i. are (suc i))))
+    (All-cons (λ c. 32 < c) (slice_index lower_digits (b % 16)) (encode_lower bytes) low (key_dark bytes (λ i. are (suc i))))
 
 pub bytes_dark : (bytes : List ℕ) → IsBytes bytes → IsDark (bytes_text bytes)
 bytes_dark [] are = dark_by_test (codes "-") refl
-bytes_dark (b ∷ bytes) are = hex_dark (b ∷ bytes) are
+bytes_dark (b ∷ bytes) are = key_dark (b ∷ bytes) are

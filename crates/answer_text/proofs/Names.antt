@@ -6,12 +6,12 @@ use Rattle.lock_word.specs.declared.epoch.Epoch.{Epoch}
 use Rattle.lock_word.specs.declared.word.Word.{Word}
 use Rattle.script_text.specs.declared.answer.Answer.{Answer}
 use Rattle.script_text.specs.declared.answer.Answer.TheVariants as answer
-use Rattle.answer_text.specs.Parts.{word_text, bytes_text}
+use Rattle.answer_text.specs.Parts.{word_text, key_text, bytes_text}
 use Rattle.answer_text.specs.Lines.{cause_words, counted_words, answer_words}
 use Rattle.answer_text.specs.Ranges.{AreOctets, IsCause, IsAnswer}
-use Rattle.answer_text.proofs.Dark.{IsDark, dark_by_test, number_dark, epoch_dark, word_dark, bytes_dark}
+use Rattle.answer_text.proofs.Dark.{IsDark, dark_by_test, number_dark, epoch_dark, word_dark, key_dark, bytes_dark}
 use Rattle.answer_text.proofs.Cutting.{AreDark}
-use Rattle.answer_text.proofs.Reading.{number_of, number_back, epoch_of, epoch_back, word_of, word_back, bytes_of, bytes_back}
+use Rattle.answer_text.proofs.Reading.{number_of, number_back, epoch_of, epoch_back, word_of, word_back, bytes_of, key_back, bytes_back}
 
 -- whether a word is this name
 abbrev is : List ℕ → List ℕ → Bool
@@ -79,7 +79,7 @@ cause_back (cause.Absent epoch) fits = ap cause.Absent (epoch_back epoch fits)
 cause_back (cause.Writing epoch) fits = ap cause.Writing (epoch_back epoch fits)
 cause_back (cause.Leaving epoch) fits = ap cause.Leaving (epoch_back epoch fits)
 cause_back (cause.OtherKey epoch key) fits =
-    ap (λ (e : Epoch). cause.OtherKey e (bytes_of (bytes_text key))) (epoch_back epoch fits.0) ∙ ap (λ k. cause.OtherKey epoch k) (bytes_back key fits.1)
+    ap (λ (e : Epoch). cause.OtherKey e (bytes_of (key_text key))) (epoch_back epoch fits.0) ∙ ap (λ k. cause.OtherKey epoch k) (key_back key fits.1)
 
 version_back : (version : ℕ) → version < 2 ^ 32 → number_of (decimal version) ≡ version
 version_back version fits = number_back version (omega arith)
@@ -125,7 +125,7 @@ cause_dark : (c : Cause) → IsCause c → AreDark (cause_words c)
 cause_dark (cause.Absent epoch) fits = (dark_by_test (codes "absent") refl, (epoch_dark epoch fits, tt))
 cause_dark (cause.Writing epoch) fits = (dark_by_test (codes "writing") refl, (epoch_dark epoch fits, tt))
 cause_dark (cause.Leaving epoch) fits = (dark_by_test (codes "leaving") refl, (epoch_dark epoch fits, tt))
-cause_dark (cause.OtherKey epoch key) fits = (dark_by_test (codes "other") refl, (epoch_dark epoch fits.0, (bytes_dark key fits.1, tt)))
+cause_dark (cause.OtherKey epoch key) fits = (dark_by_test (codes "other") refl, (epoch_dark epoch fits.0, (key_dark key fits.1, tt)))
 
 pub answer_dark : (a : Answer) → IsAnswer a → AreDark (answer_words a)
 answer_dark (answer.Stored version) fits = (dark_by_test (codes "STORED") refl, (version_dark version fits, tt))

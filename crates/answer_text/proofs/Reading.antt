@@ -14,7 +14,7 @@ use Rattle.lock_word.specs.declared.stage.Stage.{Stage}
 use Rattle.lock_word.specs.declared.stage.Stage.TheVariants as stage
 use Rattle.lock_word.specs.declared.word.Word.{Word}
 use Rattle.lock_word.proofs.Parts.{stage_below}
-use Rattle.answer_text.specs.Parts.{doom_text, epoch_text, word_text, bytes_text}
+use Rattle.answer_text.specs.Parts.{doom_text, epoch_text, word_text, key_text, bytes_text}
 use Rattle.answer_text.specs.Ranges.{IsEpoch}
 use Rattle.answer_text.proofs.Dark.{AreDigits, IsEpochByte, number_digits, stage_digits, epoch_bytes}
 use Rattle.answer_text.proofs.Cutting.{Lacks, pieces, cut_at, not_cut}
@@ -113,6 +113,9 @@ bytes_in (Err fault) = []
 -- a dash is no hexadecimal, and reads as no bytes
 abbrev pub bytes_of : List ℕ → List ℕ
 bytes_of text = bytes_in (decode_of text)
+
+pub key_back : (key : List ℕ) → IsBytes key → bytes_of (key_text key) ≡ key
+key_back key are = ap bytes_in (decode_of-encode_lower key are)
 
 pub bytes_back : (bytes : List ℕ) → IsBytes bytes → bytes_of (bytes_text bytes) ≡ bytes
 bytes_back [] are = refl

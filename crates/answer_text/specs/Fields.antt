@@ -1,6 +1,6 @@
 -- The words of a line as the writer has them.
 use Rattle.std.specs.Prelude.{◌≡◌, ℕ, ◌≤◌, ◌^◌, List, [], ◌∷◌, decimal, Option, Some, None, MatchOption}
-use Rattle.answer_text.specs.Parts.{epoch_text, word_text, bytes_text}
+use Rattle.answer_text.specs.Parts.{epoch_text, word_text, key_text, bytes_text}
 use Rattle.answer_text.specs.declared.field.Field.{Field}
 use Rattle.answer_text.specs.declared.field.Field.TheVariants as field
 
@@ -10,6 +10,7 @@ field_text (field.Name text) = text.now
 field_text (field.Number number) = decimal number
 field_text (field.Epoch epoch) = epoch_text epoch
 field_text (field.Word word) = word_text word
+field_text (field.Key key) = key_text key
 field_text (field.Bytes bytes) = bytes_text bytes.now
 
 -- the words that are there

@@ -5,14 +5,14 @@ use Rattle.lock_word.specs.declared.cause.Cause.{Cause}
 use Rattle.lock_word.specs.declared.cause.Cause.TheVariants as cause
 use Rattle.script_text.specs.declared.answer.Answer.{Answer}
 use Rattle.script_text.specs.declared.answer.Answer.TheVariants as answer
-use Rattle.answer_text.specs.Parts.{epoch_text, word_text, bytes_text}
+use Rattle.answer_text.specs.Parts.{epoch_text, word_text, key_text, bytes_text}
 
 -- why there is no entry to read
 abbrev pub cause_words : Cause → List (List ℕ)
 cause_words (cause.Absent epoch) = codes "absent" ∷ epoch_text epoch ∷ []
 cause_words (cause.Writing epoch) = codes "writing" ∷ epoch_text epoch ∷ []
 cause_words (cause.Leaving epoch) = codes "leaving" ∷ epoch_text epoch ∷ []
-cause_words (cause.OtherKey epoch key) = codes "other" ∷ epoch_text epoch ∷ bytes_text key ∷ []
+cause_words (cause.OtherKey epoch key) = codes "other" ∷ epoch_text epoch ∷ key_text key ∷ []
 
 -- how many bytes, and the bytes
 abbrev pub counted_words : List ℕ → List (List ℕ)

@@ -18,7 +18,11 @@ epoch_text e = decimal e.version ++ codes "." ++ decimal (stage_number e.stage) 
 abbrev pub word_text : Word → List ℕ
 word_text w = epoch_text w.epoch ++ codes "/" ++ decimal w.readers
 
--- two digits for each byte, with lower case letters, or `-` for no bytes
+-- a key: two digits of hexadecimal for each byte, with lower case letters
+abbrev pub key_text : List ℕ → List ℕ
+key_text key = encode_lower key
+
+-- bytes in the same way, or `-` for none
 abbrev pub bytes_text : List ℕ → List ℕ
 bytes_text [] = codes "-"
 bytes_text (b ∷ bytes) = encode_lower (b ∷ bytes)

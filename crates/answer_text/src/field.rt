@@ -1,7 +1,7 @@
 ghost use Rattle.std.specs.Prelude.{◌≡◌, ◌≤◌, length, decimal};
 ghost use Rattle.hex.specs.Hex.{IsBytes};
 ghost use Rattle.lock_word.specs.Words.{IsInRange};
-ghost use Rattle.answer_text.specs.Parts.{bytes_text, epoch_text, word_text};
+ghost use Rattle.answer_text.specs.Parts.{bytes_text, epoch_text, key_text, word_text};
 ghost use Rattle.answer_text.specs.Ranges.{IsEpoch};
 ghost use Rattle.answer_text.specs.Fields.{field_text, Counts};
 ghost use Rattle.answer_text.specs.Room.{HasRoom, Adds};
@@ -21,6 +21,8 @@ pub enum Field<'a> {
     Epoch(Epoch),
     /// The word of an anchor: its epoch, `/` and its readers.
     Word(Word),
+    /// A key in lower-case hexadecimal.
+    Key([u8; 16]),
     /// Bytes in lower-case hexadecimal, or `-` for none.
     Bytes(&'a [u8]),
 }
@@ -42,6 +44,14 @@ impl<'a> Field<'a> {
         Field::Word(word)
     }
 
+    /// A key, each byte of which is in its range.
+    pub fn of_key(key: [u8; 16]) -> Self
+        ensures field { result ≡ Field.Key key }
+        ensures in_range { IsBytes key }
+    {
+        Field::Key(key)
+    }
+
     /// Bytes, each in its range.
     pub fn of_bytes(bytes: &'a [u8]) -> Self
         ensures field { result ≡ Field.Bytes bytes.entry }
@@ -59,6 +69,7 @@ impl<'a> Field<'a> {
             Field::Number(number) => Some(number_size(number)),
             Field::Epoch(epoch) => Some(epoch_size(epoch)),
             Field::Word(word) => Some(word_size(word)),
+            Field::Key(key) => Some(key_size(&key)),
             Field::Bytes(bytes) => bytes_size(bytes),
         }
     }
@@ -73,6 +84,7 @@ impl<'a> Field<'a> {
             Field::Number(number) => put_number(line, number),
             Field::Epoch(epoch) => put_epoch(line, epoch),
             Field::Word(word) => put_word(line, word),
+            Field::Key(key) => put_hex(line, &key),
             Field::Bytes(bytes) => put_bytes(line, bytes),
         }
     }
@@ -98,6 +110,13 @@ fn word_size(word: Word) -> usize
     ensures { result ≡ length (word_text word) }
 {
     epoch_size(word.epoch) + 1 + number_size(u64::from(word.readers))
+}
+
+#[tactic(auto, using(crate::proofs::Sizes::digits_length))]
+fn key_size(key: &[u8; 16]) -> usize
+    ensures { result ≡ length (key_text key.now) }
+{
+    2 * key.len()
 }
 
 fn bytes_size(bytes: &[u8]) -> Option<usize>

@@ -103,7 +103,7 @@ fn caused<'a>(name: &'static str, cause: &'a Cause) -> Fields<'a>
         Cause::Absent { epoch } => told(name, "absent", *epoch, None),
         Cause::Writing { epoch } => told(name, "writing", *epoch, None),
         Cause::Leaving { epoch } => told(name, "leaving", *epoch, None),
-        Cause::OtherKey { epoch, key } => told(name, "other", *epoch, Some(Field::of_bytes(key))),
+        Cause::OtherKey { epoch, key } => told(name, "other", *epoch, Some(Field::of_key(*key))),
     }
 }
 

@@ -1,6 +1,5 @@
 // Bytes that are added where room for them was reserved, so that no memory is taken.
-ghost use Rattle.std.specs.Prelude.{◌+◌, ◌*◌, ◌≤◌, length, decimal, vec_len};
-ghost use Rattle.std.specs.Vec.{vec_capacity};
+ghost use Rattle.std.specs.Prelude.{decimal};
 ghost use Rattle.hex.specs.Hex.{encode_lower};
 ghost use Rattle.answer_text.specs.Room.{HasRoom, Adds};
 
@@ -27,8 +26,9 @@ pub fn put_number(line: &mut Vec<u8>, number: u64)
 }
 
 /// Adds two digits for each byte, with lower case letters.
+#[tactic(auto, using(crate::proofs::Sizes::digits_length))]
 pub fn put_hex(line: &mut Vec<u8>, bytes: &[u8])
-    requires { vec_len line.old + 2 * length bytes.now ≤ vec_capacity line.old }
+    requires { HasRoom line.old (encode_lower bytes.now) }
     ensures { Adds line.old line.new (encode_lower bytes.now) }
 {
     let start = line.len();
