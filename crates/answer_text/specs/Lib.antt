@@ -1,0 +1,5 @@
+pub mod Parts
+pub mod Lines
+pub mod Ranges
+pub mod Fields
+pub mod Room
