@@ -18,3 +18,7 @@ pub mod Opened
 pub mod Additions
 pub mod Knowing
 pub mod Matching
+pub mod Spelling
+pub mod SlotFrame
+pub mod Telling
+pub mod SlotTabs

@@ -22,7 +22,7 @@ use Rattle.core_model.specs.Layout.{Setting, index}
 use Rattle.core_model.specs.Chains.{rest_of, link_at}
 use Rattle.core_model.specs.State.{State, word, chain_of}
 use Rattle.core_model.specs.Tabs.{turn_of, count}
-use Rattle.core_model.specs.TabsAfter.{first_of, piece_of}
+use Rattle.core_model.specs.TabsAfter.{first_of}
 use Rattle.core_model.specs.Allowed.{IsNext}
 use Rattle.core_model.specs.Anchors.{opening_counter}
 
@@ -88,14 +88,13 @@ pub record ContentsStand {X : Type 0} (k : Setting X) (s : State X) : Type 0 whe
   pub possible : (slot : ℕ) (c : Cell X) → IsCell s slot c → Contains c.possible c.now
 
 -- What a writing tab stored beside its anchor stands there. Before it chooses a link it stored key and offer, and an offer is no
--- slot's number. The piece that it chose is the one for its first reserved slot, and where it is written that cell has its image.
+-- slot's number. Where the piece that it chose is written, the cell of its first reserved slot has its image.
 pub record WriterNames {X : Type 0} (k : Setting X) (s : State X) (w : Writer X) : Type 0 where
   pub key0 : (x : ℕ) → w.key0 ≡ Some x → side_word k s Key0 w.anchor ≡ x
   pub key1 : (x : ℕ) → w.key1 ≡ Some x → side_word k s Key1 w.anchor ≡ x
   pub offer : (x : ℕ) → w.offer ≡ Some x → (side_word k s Offer w.anchor ≡ x) × (k.slots ≤ x)
   pub start : (x : ℕ) → w.start ≡ Some x → side_word k s Start w.anchor ≡ x
   pub named : (w.chosen ≢ None) ⊎ (w.published ≢ []) → (w.key0 ≢ None) × (w.key1 ≢ None) × (w.offer ≢ None)
-  pub chosen : (p : Piece) → w.is_ending ≡ false → w.chosen ≡ Some p → p ≡ piece_of w
   pub home : (p : Piece) → w.is_written ≡ true → w.chosen ≡ Some p → (c : Cell X) × (slice_index_or s.places (first_of w.reserved) None ≡ Some c) × (c.now ≡ k.image p)
   pub held : (p : Piece) (h : Hold X) → w.turn ≡ Has h → h.is_written ≡ true → w.chosen ≡ Some p → h.cell.now ≡ k.image p
 

@@ -1,0 +1,96 @@
+-- Lists of slots, and link words that spell them.
+use Rattle.std.proofs.Common.{◌≡◌, ◌≢◌, ℕ, ◌+◌, ◌<◌, ◌≤◌, List, [], ◌∷◌, ◌++◌, length, sym, refl, ap, ◌∙◌, subst, arith, cond, ◌==◌, eq-eqb, ne_eqb}
+use mathlib.Core.Logic.{dite}
+use native.Mathlib.Decide.{ℕ_discrete}
+use Rattle.link_word.specs.declared.link.Link.{Link}
+use Rattle.link_word.specs.declared.link.Link.TheVariants.{NotWritten, Last, Next}
+use Rattle.link_word.specs.Words.{link_number}
+use Rattle.core_model.specs.Chains.{Spells, named, start_number, rest_of, one, times, behind_of, Fits, Tied}
+
+-- one value of a function is set
+abbrev pub upd : (ℕ → ℕ) → ℕ → ℕ → ℕ → ℕ
+upd f p n j = cond (j == p) n (f j)
+
+pub upd_same : (f : ℕ → ℕ) (p n : ℕ) → upd f p n p ≡ n
+upd_same f p n = rw (eq-eqb p p refl) refl
+
+pub upd_other : (f : ℕ → ℕ) (p n j : ℕ) → j ≢ p → upd f p n j ≡ f j
+upd_other f p n j ne = rw (ne_eqb j p ne) refl
+
+pub one_same : (j : ℕ) → one j j ≡ 1
+one_same j = rw (eq-eqb j j refl) refl
+
+pub times_append : (j : ℕ) (xs ys : List ℕ) → times j (xs ++ ys) ≡ times j xs + times j ys
+times_append j [] ys = omega arith
+times_append j (x ∷ xs) ys = let h = times_append j xs ys in omega arith
+
+pub append_none : (xs : List ℕ) → xs ++ [] ≡ xs
+append_none [] = refl
+append_none (x ∷ xs) = ap (λ z. x ∷ z) (append_none xs)
+
+pub no_items : {x : ℕ} {xs : List ℕ} → x ∷ xs ≢ []
+no_items e = let h = ap length e in omega arith
+
+abbrev first_or : ℕ → List ℕ → ℕ
+first_or d [] = d
+first_or d (x ∷ xs) = x
+
+pub firsts : {x y : ℕ} {xs ys : List ℕ} → x ∷ xs ≡ y ∷ ys → x ≡ y
+firsts e = ap (first_or 0) e
+
+pub last_is_written : Last ≢ NotWritten
+last_is_written e = let h = ap link_number e in omega arith
+
+pub next_is_written : (j : ℕ) → Next j ≢ NotWritten
+next_is_written j e = let h = ap link_number e in omega arith
+
+pub next_is_not_last : (j : ℕ) → Next j ≢ Last
+next_is_not_last j e = let h = ap link_number e in omega arith
+
+-- the slot that the last link names goes behind
+pub spells_more : (f : ℕ → ℕ) (xs : List ℕ) (j : ℕ) (e : Link) → Spells f xs (Next j) → f j ≡ link_number e → Spells f (xs ++ j ∷ []) e
+spells_more f [] j e h is = (is, tt)
+spells_more f (x ∷ []) j e h is = (h.0, (is, tt))
+spells_more f (x ∷ y ∷ ys) j e h is = (h.0, spells_more f (y ∷ ys) j e h.1 is)
+
+-- a chain with its tail, which is not written
+pub spells_all : (f : ℕ → ℕ) (xs : List ℕ) (e : Link) → Fits xs e → ((t : ℕ) → e ≡ Next t → f t ≡ 0) → Spells f xs e → Spells f (xs ++ named e) (behind_of e)
+spells_all f [] NotWritten h none s = tt
+spells_all f (x ∷ xs) NotWritten h none s = absurd h
+spells_all f xs Last h none s = subst (λ (z : List ℕ). Spells f z Last) (sym (append_none xs)) s
+spells_all f xs (Next t) h none s = spells_more f xs t NotWritten s (none t refl)
+
+pub start_all : (xs : List ℕ) (e : Link) → Fits xs e → start_number (xs ++ named e) ≡ start_number xs
+start_all [] NotWritten h = refl
+start_all [] Last h = refl
+start_all [] (Next t) h = absurd h
+start_all (x ∷ xs) e h = refl
+
+-- where a link is written there is a slot
+pub some_fits : (xs : List ℕ) (e : Link) → Fits xs e → e ≢ NotWritten → 0 < length xs
+some_fits [] NotWritten h ne = absurd (ne refl)
+some_fits [] Last h ne = absurd h
+some_fits [] (Next t) h ne = absurd h
+some_fits (x ∷ xs) e h ne = omega arith
+
+pub start_some : (xs : List ℕ) → 0 < length xs → 0 < start_number xs
+start_some [] h = absurd (omega arith)
+start_some (x ∷ xs) h = omega arith
+
+-- a slot that stands nowhere here can be linked anew
+pub spells_else : (f : ℕ → ℕ) (p n : ℕ) (xs : List ℕ) (e : Link) → times p xs ≡ 0 → Spells f xs e → Spells (upd f p n) xs e
+spells_else f p n [] e none h = tt
+spells_else f p n (x ∷ xs) e none h = (upd_other f p n x (λ q. let o : one p x ≡ 1 = subst (λ (z : ℕ). one p z ≡ 1) (sym q) (one_same p) in omega arith) ∙ h.0, spells_else f p n xs e (omega arith) h.1)
+
+-- a further reserved slot
+pub tied_more : (e : Link) (xs ys : List ℕ) (p : ℕ) → e ≢ Last → Tied e xs ys → Tied e xs (ys ++ p ∷ [])
+tied_more NotWritten xs ys p ne h = h
+tied_more Last xs ys p ne h = absurd (ne refl)
+tied_more (Next t) xs [] p ne h = absurd (no_items (sym h))
+tied_more (Next t) xs (y ∷ ys) p ne h = ap (λ z. z ∷ (ys ++ p ∷ [])) (firsts h)
+
+-- what is reserved where all of it is linked
+pub tied_all : (e : Link) (xs ys : List ℕ) → Tied e xs ys → e ≡ Last → ys ≡ named e
+tied_all NotWritten xs ys h e = absurd (last_is_written (sym e))
+tied_all Last xs ys h e = h
+tied_all (Next t) xs ys h e = absurd (next_is_not_last t e)

@@ -1,0 +1,77 @@
+-- What the words tell of slots and anchors, where one of them is set.
+use Rattle.std.proofs.lemmas.Bool.{lt-ltb, le-ltb}
+use Rattle.std.proofs.Common.{◌≡◌, ◌≢◌, ◌⊎◌, inl, inr, ⊎_elim, ℕ, ◌+◌, ◌-◌, ◌*◌, ◌<◌, ◌≤◌, List, length, get_or, set, sym, refl, ap, ◌∙◌, subst, arith, cond, ltb, get_or-set_same, get_or-set_other}
+use mathlib.Core.Logic.{dite}
+use native.Mathlib.Decide.{ℕ_discrete}
+use Rattle.lock_word.specs.Words.{epoch_of, stage_of}
+use Rattle.core_model.specs.Layout.{Setting, word_count, turns_end}
+use Rattle.core_model.specs.Slots.{SlotWords, told, slot_words}
+use Rattle.core_model.proofs.Spelling.{upd, upd_same, upd_other}
+
+pub told_in : (many j word : ℕ) → j < many → told many j word ≡ word
+told_in many j word lt = rw (lt-ltb j many lt) refl
+
+told_out : (many j word : ℕ) → many ≤ j → told many j word ≡ 0
+told_out many j word far = rw (le-ltb j many far) refl
+
+-- the word of q is set, in a row of which each has its own place
+told_here : (many : ℕ) (at : ℕ → ℕ) (ws : List ℕ) (q x : ℕ) → q < many → at q < length ws → ((j : ℕ) → j ≢ q → at j ≢ at q) → (j : ℕ)
+    → told many j (get_or (set ws (at q) x) (at j) 0) ≡ upd (λ j. told many j (get_or ws (at j) 0)) q x j
+told_here many at ws q x lt wide own j = dite (ℕ_discrete j q)
+    (λ e. subst (λ (z : ℕ). told many z (get_or (set ws (at q) x) (at z) 0) ≡ upd (λ j. told many j (get_or ws (at j) 0)) q x z) (sym e)
+    (told_in many q _ lt ∙ get_or-set_same ws (at q) x 0 wide ∙ sym (upd_same (λ j. told many j (get_or ws (at j) 0)) q x)))
+    (λ ne. ap (told many j) (get_or-set_other ws (at q) (at j) x 0 (own j ne)) ∙ sym (upd_other (λ j. told many j (get_or ws (at j) 0)) q x j ne))
+
+-- a word that is none of theirs is set
+told_else : (many : ℕ) (at : ℕ → ℕ) (ws : List ℕ) (p x : ℕ) → ((j : ℕ) → j < many → at j ≢ p) → (j : ℕ)
+    → told many j (get_or (set ws p x) (at j) 0) ≡ told many j (get_or ws (at j) 0)
+told_else many at ws p x away j = dite (ℕ_discrete (many - j) 0)
+    (λ e. told_out many j _ (omega arith) ∙ sym (told_out many j _ (omega arith)))
+    (λ ne. ap (told many j) (get_or-set_other ws p (at j) x 0 (away j (omega arith))))
+
+abbrev stage_in : ℕ → ℕ
+stage_in n = stage_of (epoch_of n)
+
+module _ {X : Type 0} (k : Setting X) (ws : List ℕ) where
+  -- the word of an anchor is set
+  pub anchor_told : (a x g : ℕ) → a < k.anchors → length ws ≡ word_count k → stage_of (epoch_of x) ≡ g → slot_words k (set ws a x) ≡ record { owner = (slot_words k ws).owner; link = (slot_words k ws).link; start = (slot_words k ws).start; stage = upd (slot_words k ws).stage a g }
+  anchor_told a x g lt wide is = λ t. record {
+    owner = λ b. told_else k.slots (λ j. 5 * k.anchors + j) ws a x (λ j h e. omega arith) b t;
+    link = λ b. told_else k.slots (λ j. 5 * k.anchors + k.slots + j) ws a x (λ j h e. omega arith) b t;
+    start = λ b. told_else k.anchors (λ j. 4 * k.anchors + j) ws a x (λ j h e. omega arith) b t;
+    stage = λ b. staged b t;
+  }
+    where
+      staged : (b : ℕ) → stage_in (told k.anchors b (get_or (set ws a x) b 0)) ≡ upd (λ b. stage_in (told k.anchors b (get_or ws b 0))) a g b
+      staged b = ap stage_in (told_here k.anchors (λ j. j) ws a x lt (omega arith) (λ j ne. ne) b) ∙ dite (ℕ_discrete b a)
+          (λ e. subst (λ (z : ℕ). stage_in (upd (λ j. told k.anchors j (get_or ws j 0)) a x z) ≡ upd (λ b. stage_in (told k.anchors b (get_or ws b 0))) a g z) (sym e)
+          (ap stage_in (upd_same (λ j. told k.anchors j (get_or ws j 0)) a x) ∙ is ∙ sym (upd_same (λ b. stage_in (told k.anchors b (get_or ws b 0))) a g)))
+          (λ ne. ap stage_in (upd_other (λ j. told k.anchors j (get_or ws j 0)) a x b ne) ∙ sym (upd_other (λ b. stage_in (told k.anchors b (get_or ws b 0))) a g b ne))
+
+  -- the same stage again
+  pub anchor_told_same : (a x : ℕ) → a < k.anchors → length ws ≡ word_count k → stage_of (epoch_of x) ≡ stage_of (epoch_of (get_or ws a 0)) → slot_words k (set ws a x) ≡ slot_words k ws
+  anchor_told_same a x lt wide is = anchor_told a x (stage_in (get_or ws a 0)) lt wide is ∙ λ t. record {
+    owner = (slot_words k ws).owner;
+    link = (slot_words k ws).link;
+    start = (slot_words k ws).start;
+    stage = λ b. same b t;
+  }
+    where
+      same : (b : ℕ) → upd (slot_words k ws).stage a (stage_in (get_or ws a 0)) b ≡ (slot_words k ws).stage b
+      same b = dite (ℕ_discrete b a)
+          (λ e. subst (λ (z : ℕ). upd (slot_words k ws).stage a (stage_in (get_or ws a 0)) z ≡ (slot_words k ws).stage z) (sym e)
+          (upd_same (slot_words k ws).stage a (stage_in (get_or ws a 0)) ∙ ap stage_in (sym (told_in k.anchors a (get_or ws a 0) lt))))
+          (λ ne. upd_other (slot_words k ws).stage a (stage_in (get_or ws a 0)) b ne)
+
+  -- the counter is set
+  pub counter_told : (x : ℕ) → slot_words k (set ws (turns_end k) x) ≡ slot_words k ws
+  counter_told x = λ t. record {
+    owner = λ b. told_else k.slots (λ j. 5 * k.anchors + j) ws (turns_end k) x (λ j h e. omega arith) b t;
+    link = λ b. told_else k.slots (λ j. 5 * k.anchors + k.slots + j) ws (turns_end k) x (λ j h e. omega arith) b t;
+    start = λ b. told_else k.anchors (λ j. 4 * k.anchors + j) ws (turns_end k) x (λ j h e. omega arith) b t;
+    stage = λ b. stage_in (told_else k.anchors (λ j. j) ws (turns_end k) x (λ j h e. omega arith) b t);
+  }
+
+  -- the stage of an anchor of the table
+  pub stage_told : (a : ℕ) → a < k.anchors → (slot_words k ws).stage a ≡ stage_of (epoch_of (get_or ws a 0))
+  stage_told a lt = ap stage_in (told_in k.anchors a (get_or ws a 0) lt)
