@@ -22,3 +22,6 @@ pub mod Spelling
 pub mod SlotFrame
 pub mod Telling
 pub mod SlotTabs
+pub mod SlotKinds
+pub mod SlotAnchors
+pub mod SlotsEntered
