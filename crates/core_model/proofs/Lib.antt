@@ -25,3 +25,4 @@ pub mod SlotTabs
 pub mod SlotKinds
 pub mod SlotAnchors
 pub mod SlotsEntered
+pub mod SlotsRaised
