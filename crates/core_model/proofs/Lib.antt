@@ -26,3 +26,4 @@ pub mod SlotKinds
 pub mod SlotAnchors
 pub mod SlotsEntered
 pub mod SlotsRaised
+pub mod SlotsTaken
