@@ -27,3 +27,5 @@ pub mod SlotAnchors
 pub mod SlotsEntered
 pub mod SlotsRaised
 pub mod SlotsTaken
+pub mod SlotsKept
+pub mod BesideKept

@@ -18,12 +18,19 @@ ghost use Rattle.core_model.specs.Known.{Known};
 ghost use Rattle.core_model.specs.Matching.{IsTab, MatchesWriter, HasWriter, HasFreer};
 ghost use Rattle.core_model.specs.Anchors.{IsSetting};
 ghost use Rattle.core_model.specs.Opening.{IsOpened};
+ghost use Rattle.core_model.specs.Slots.{SlotsSound};
 ghost use Rattle.core_model.specs.Sound.{AnchorsSound};
 
 /// A step that is allowed in a sound state leaves a sound state.
 pub fn steps_keep_sound<X>()
     ensures { (k : Setting X) (s : State X) (i : ℕ) (v : View X) (m : Move)
         → AnchorsSound k s → get_elem? s.views i ≡ some v → MayStep k s v m → AnchorsSound k (after k s i v m) }
+{}
+
+/// It leaves each slot at one place, and the words spell the chains and what is being given back.
+pub fn steps_keep_slots<X>()
+    ensures { (k : Setting X) (s : State X) (i : ℕ) (v : View X) (m : Move)
+        → AnchorsSound k s → SlotsSound k s → get_elem? s.views i ≡ some v → MayStep k s v m → SlotsSound k (after k s i v m) }
 {}
 
 /// A store that was just opened is sound.
