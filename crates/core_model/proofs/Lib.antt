@@ -29,3 +29,4 @@ pub mod SlotsRaised
 pub mod SlotsTaken
 pub mod SlotsKept
 pub mod BesideKept
+pub mod SlotsOwned

@@ -6,6 +6,8 @@ use Rattle.link_word.specs.declared.link.Link.{Link}
 use Rattle.link_word.specs.declared.link.Link.TheVariants.{NotWritten, Last, Next}
 use Rattle.link_word.specs.Words.{link_number}
 use Rattle.core_model.specs.Chains.{Spells, named, start_number, rest_of, one, times, behind_of, Fits, Tied}
+use Rattle.core_model.specs.TabsAfter.{without}
+use Rattle.core_model.proofs.Lists.{by_eq}
 
 -- one value of a function is set
 abbrev pub upd : (ℕ → ℕ) → ℕ → ℕ → ℕ → ℕ
@@ -94,3 +96,21 @@ pub tied_all : (e : Link) (xs ys : List ℕ) → Tied e xs ys → e ≡ Last →
 tied_all NotWritten xs ys h e = absurd (last_is_written (sym e))
 tied_all Last xs ys h e = h
 tied_all (Next t) xs ys h e = absurd (next_is_not_last t e)
+
+pub length_more : (xs : List ℕ) (p : ℕ) → length (xs ++ p ∷ []) ≡ length xs + 1
+length_more [] p = refl
+length_more (x ∷ xs) p = let h = length_more xs p in omega arith
+
+pub fewer : (p : ℕ) (xs : List ℕ) → length (without p xs) ≤ length xs
+fewer p [] = omega arith
+fewer p (x ∷ xs) = by_eq (λ z. length (cond z (without p xs) (x ∷ without p xs)) ≤ length (x ∷ xs)) x p (λ _. let h = fewer p xs in omega arith) (λ _. let h = fewer p xs in omega arith)
+
+-- a reserved slot that is not linked leaves
+pub tied_without : (e : Link) (xs ys : List ℕ) (p : ℕ) → e ≢ Next p → Tied e xs ys → Tied e xs (without p ys)
+tied_without NotWritten xs ys p ne h = h
+tied_without Last xs ys p ne h = ap (without p) h
+tied_without (Next t) xs [] p ne h = absurd (no_items (sym h))
+tied_without (Next t) xs (y ∷ ys) p ne h = let off = ne_eqb y p (λ q. ne (ap Next (sym (firsts h) ∙ q))) in rw off (ap (λ z. z ∷ without p ys) (firsts h))
+
+pub one_other : (j x : ℕ) → x ≢ j → one j x ≡ 0
+one_other j x ne = rw (ne_eqb x j ne) refl

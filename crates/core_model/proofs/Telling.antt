@@ -1,6 +1,6 @@
 -- What the words tell of slots and anchors, where one of them is set.
 use Rattle.std.proofs.lemmas.Bool.{lt-ltb, le-ltb}
-use Rattle.std.proofs.Common.{◌≡◌, ◌≢◌, ◌⊎◌, inl, inr, ⊎_elim, ℕ, ◌+◌, ◌-◌, ◌*◌, ◌<◌, ◌≤◌, List, length, get_or, set, sym, refl, ap, ◌∙◌, subst, arith, cond, ltb, get_or-set_same, get_or-set_other}
+use Rattle.std.proofs.Common.{◌≡◌, ◌≢◌, ◌⊎◌, inl, inr, ⊎_elim, ℕ, zero, suc, ◌+◌, ◌-◌, ◌*◌, ◌<◌, ◌≤◌, List, [], ◌∷◌, length, get_or, set, sym, refl, ap, ◌∙◌, subst, arith, cond, ltb, get_or-set_same, get_or-set_other}
 use mathlib.Core.Logic.{dite}
 use native.Mathlib.Decide.{ℕ_discrete}
 use Rattle.lock_word.specs.Words.{epoch_of, stage_of}
@@ -75,3 +75,36 @@ module _ {X : Type 0} (k : Setting X) (ws : List ℕ) where
   -- the stage of an anchor of the table
   pub stage_told : (a : ℕ) → a < k.anchors → (slot_words k ws).stage a ≡ stage_of (epoch_of (get_or ws a 0))
   stage_told a lt = ap stage_in (told_in k.anchors a (get_or ws a 0) lt)
+
+  -- the owner word of a slot is set
+  pub owner_told : (j x : ℕ) → j < k.slots → length ws ≡ word_count k → slot_words k (set ws (5 * k.anchors + j) x) ≡ record { owner = upd (slot_words k ws).owner j x; link = (slot_words k ws).link; start = (slot_words k ws).start; stage = (slot_words k ws).stage }
+  owner_told j x lt wide = λ t. record {
+    owner = λ b. told_here k.slots (λ j. 5 * k.anchors + j) ws j x lt (omega arith) (λ j ne e. ne (omega arith)) b t;
+    link = λ b. told_else k.slots (λ j. 5 * k.anchors + k.slots + j) ws (5 * k.anchors + j) x (λ j h e. omega arith) b t;
+    start = λ b. told_else k.anchors (λ j. 4 * k.anchors + j) ws (5 * k.anchors + j) x (λ j h e. omega arith) b t;
+    stage = λ b. stage_in (told_else k.anchors (λ j. j) ws (5 * k.anchors + j) x (λ j h e. omega arith) b t);
+  }
+
+  -- the link word
+  pub link_told : (j x : ℕ) → j < k.slots → length ws ≡ word_count k → slot_words k (set ws (5 * k.anchors + k.slots + j) x) ≡ record { owner = (slot_words k ws).owner; link = upd (slot_words k ws).link j x; start = (slot_words k ws).start; stage = (slot_words k ws).stage }
+  link_told j x lt wide = λ t. record {
+    owner = λ b. told_else k.slots (λ j. 5 * k.anchors + j) ws (5 * k.anchors + k.slots + j) x (λ j h e. omega arith) b t;
+    link = λ b. told_here k.slots (λ j. 5 * k.anchors + k.slots + j) ws j x lt (omega arith) (λ j ne e. ne (omega arith)) b t;
+    start = λ b. told_else k.anchors (λ j. 4 * k.anchors + j) ws (5 * k.anchors + k.slots + j) x (λ j h e. omega arith) b t;
+    stage = λ b. stage_in (told_else k.anchors (λ j. j) ws (5 * k.anchors + k.slots + j) x (λ j h e. omega arith) b t);
+  }
+
+  -- the Start word of an anchor
+  pub start_told : (a x : ℕ) → a < k.anchors → length ws ≡ word_count k → slot_words k (set ws (4 * k.anchors + a) x) ≡ record { owner = (slot_words k ws).owner; link = (slot_words k ws).link; start = upd (slot_words k ws).start a x; stage = (slot_words k ws).stage }
+  start_told a x lt wide = λ t. record {
+    owner = λ b. told_else k.slots (λ j. 5 * k.anchors + j) ws (4 * k.anchors + a) x (λ j h e. omega arith) b t;
+    link = λ b. told_else k.slots (λ j. 5 * k.anchors + k.slots + j) ws (4 * k.anchors + a) x (λ j h e. omega arith) b t;
+    start = λ b. told_here k.anchors (λ j. 4 * k.anchors + j) ws a x lt (omega arith) (λ j ne e. ne (omega arith)) b t;
+    stage = λ b. stage_in (told_else k.anchors (λ j. j) ws (4 * k.anchors + a) x (λ j h e. omega arith) b t);
+  }
+
+-- a word set to what it was
+pub set_again : (ws : List ℕ) (p : ℕ) → set ws p (get_or ws p 0) ≡ ws
+set_again [] p = refl
+set_again (x ∷ ws) zero = refl
+set_again (x ∷ ws) (suc p) = ap (λ z. x ∷ z) (set_again ws p)
