@@ -30,3 +30,5 @@ pub mod SlotsTaken
 pub mod SlotsKept
 pub mod BesideKept
 pub mod SlotsOwned
+pub mod SlotsLoosened
+pub mod BesideKinds

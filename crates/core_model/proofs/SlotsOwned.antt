@@ -16,6 +16,7 @@ use Rattle.core_model.specs.declared.view.View.{View}
 use Rattle.core_model.specs.declared.chain.Chain.{Chain}
 use Rattle.core_model.specs.Chains.{no_chain, times, one as alike, link_to, rest_of}
 use Rattle.core_model.specs.Tabs.{anchor_of, count}
+use Rattle.core_model.specs.Allowed.{MayReserve}
 use Rattle.core_model.specs.TabsAfter.{without, settled, piece_of}
 use Rattle.core_model.specs.Slots.{SlotWords, used, held_in, resting_in, published_in, standing_in, writes_at, FreerHolds, WriterHolds, ReaderHolds, TabHolds, SlotsHold}
 use Rattle.core_model.proofs.Lists.{le_sum_at, by_eq}
@@ -24,6 +25,12 @@ use Rattle.core_model.proofs.Spelling.{upd, upd_same, upd_other, times_append, o
 use Rattle.core_model.proofs.SlotFrame.{stays, Owes, framed, used_few, used_some, once}
 use Rattle.core_model.proofs.SlotTabs.{SameWriters, freer_later, tab_later}
 use Rattle.core_model.proofs.SlotKinds.{OneTab, recounted, each_tab, same_by_one}
+
+-- where one slot is reserved at most, the piece for it is the last
+alone : (xs : List ℕ) → length xs < 2 → link_to (rest_of xs) LastLink ≡ LastLink
+alone [] h = refl
+alone (a ∷ []) h = refl
+alone (a ∷ b ∷ xs) h = absurd (omega arith)
 
 module _ {X : Type 0} where
   -- an inner tab is free where it has no slots left of an anchor that is not at FREEING
@@ -68,6 +75,15 @@ module _ {X : Type 0} where
 
       not_free : Free ≡ Writing x → ⊥
       not_free e = cc
+
+  -- a tab that has room reserves one slot more
+  pub one_more : (c : Chain) (x : Writer X) (slot : ℕ) → MayReserve x → WriterHolds c x → WriterHolds c (record x { reserved = x.reserved ++ slot ∷ [] })
+  one_more c x slot may h = record {
+    few = let l = length_more x.reserved slot in let r = may.room in omega arith;
+    tied = tied_more x.end x.published x.reserved slot may.open_end h.tied;
+    chain = h.chain;
+    chosen = λ p going e. absurd (may.chosen p e (ap Piece.next (h.chosen p going e) ∙ alone x.reserved may.room));
+  }
 
   -- a writing tab whose slots change, and not its anchor
   pub same_by_writer : (v v' : View X) (t : ℕ) (x x' : Writer X) → OneTab v v' t (Writing x) (Writing x') → x'.anchor ≡ x.anchor → (x.reserved ≡ [] → x'.reserved ≡ []) → (x.published ≡ [] → x'.published ≡ []) → (b : ℕ) → SameWriters v v' b
@@ -120,30 +136,19 @@ module _ {X : Type 0} where
       more = record x { reserved = x.reserved ++ slot ∷ [] }
 
       -- a free slot is reserved
-      pub own_keeps : w.owner slot ≡ 0 → 0 < y → length x.reserved < 2 → x.end ≢ LastLink → ((p : Piece) → x.chosen ≡ Some p → p.next ≢ LastLink) → ((m : ℕ) (f : Freer) → get_elem? v.tabs m ≡ some (Freeing f) → ⊥)
+      pub own_keeps : w.owner slot ≡ 0 → 0 < y → MayReserve x → ((m : ℕ) (f : Freer) → get_elem? v.tabs m ≡ some (Freeing f) → ⊥)
           → OneTab v v' t (Writing x) (Writing more) → SlotsHold n w' cs (set vs i v')
-      own_keeps free some_word room open_end chosen none one = owner_moves
+      own_keeps free some_word may none one = owner_moves
           (λ j. let e = recounted v v' t (Writing x) (Writing more) one (held_in j) in let a = times_append j x.reserved (slot ∷ []) in dite (ℕ_discrete j slot)
           (λ q. let o : alike j slot ≡ 1 = subst (λ (z : ℕ). alike z slot ≡ 1) (sym q) (one_same slot) in let u : used (upd w.owner slot y j) ≡ 1 = subst (λ (z : ℕ). used (upd w.owner slot y z) ≡ 1) (sym q) (ap used (upd_same w.owner slot y) ∙ used_some y some_word) in
           let z : used (w.owner j) ≡ 0 = subst (λ (z : ℕ). used (w.owner z) ≡ 0) (sym q) (ap used free) in omega arith)
           (λ ne. let o = one_other j slot (λ q. ne (sym q)) in let u : used (upd w.owner slot y j) ≡ used (w.owner j) = ap used (upd_other w.owner slot y j ne) in omega arith))
           (λ j. let e = recounted v v' t (Writing x) (Writing more) one (resting_in j) in omega arith)
           (λ m tab e. ⊎_elim
-          (λ (q : (m ≡ t) × (Writing more ≡ tab)). subst (TabHolds w cs v') q.1 record {
-            few = let l = length_more x.reserved slot in omega arith;
-            tied = tied_more x.end x.published x.reserved slot open_end holds.tied;
-            chain = holds.chain;
-            chosen = λ p going h. absurd (chosen p h (ap Piece.next (holds.chosen p going h) ∙ alone x.reserved room));
-          })
+          (λ (q : (m ≡ t) × (Writing more ≡ tab)). subst (TabHolds w cs v') q.1 (one_more (get_or cs x.anchor no_chain) x slot may holds))
           (λ (q : (m ≢ t) × (get_elem? v.tabs m ≡ some tab)). unchanged m tab q.1 (so.tabs i v at m tab q.1))
           (each_tab v v' t (Writing x) (Writing more) one m tab e))
         where
-          -- where one slot is reserved at most, the piece for it is the last
-          alone : (xs : List ℕ) → length xs < 2 → link_to (rest_of xs) LastLink ≡ LastLink
-          alone [] h = refl
-          alone (a ∷ []) h = refl
-          alone (a ∷ b ∷ xs) h = absurd (omega arith)
-
           unchanged : (m : ℕ) (tab : Tab X) → get_elem? v.tabs m ≡ some tab → TabHolds w cs v tab → TabHolds w cs v' tab
           unchanged m Free e h = tt
           unchanged m (Retreating b) e h = tt
