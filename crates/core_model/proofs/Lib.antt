@@ -32,3 +32,4 @@ pub mod BesideKept
 pub mod SlotsOwned
 pub mod SlotsLoosened
 pub mod BesideKinds
+pub mod OwnsKept

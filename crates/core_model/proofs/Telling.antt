@@ -11,7 +11,7 @@ use Rattle.core_model.proofs.Spelling.{upd, upd_same, upd_other}
 pub told_in : (many j word : ℕ) → j < many → told many j word ≡ word
 told_in many j word lt = rw (lt-ltb j many lt) refl
 
-told_out : (many j word : ℕ) → many ≤ j → told many j word ≡ 0
+pub told_out : (many j word : ℕ) → many ≤ j → told many j word ≡ 0
 told_out many j word far = rw (le-ltb j many far) refl
 
 -- the word of q is set, in a row of which each has its own place
