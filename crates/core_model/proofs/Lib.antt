@@ -33,3 +33,4 @@ pub mod SlotsOwned
 pub mod SlotsLoosened
 pub mod BesideKinds
 pub mod OwnsKept
+pub mod FollowsKept
