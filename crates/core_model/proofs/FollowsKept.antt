@@ -35,7 +35,7 @@ use Rattle.core_model.specs.Sound.{AnchorsSound}
 use Rattle.core_model.proofs.Lists.{at_length, le_sum_at, sum_at, sum_mono, set_here, cons_contains, contains_none}
 use Rattle.core_model.proofs.Tabs.{contains_times}
 use Rattle.core_model.proofs.Matching.{has_writer}
-use Rattle.core_model.proofs.Spelling.{one_same, last_is_written, next_is_written}
+use Rattle.core_model.proofs.Spelling.{suc_is, one_same, last_is_written, next_is_written}
 use Rattle.core_model.proofs.Telling.{told_in, stage_told, set_again}
 use Rattle.core_model.proofs.SlotFrame.{used_few, used_none, tail_unwritten}
 use Rattle.core_model.proofs.SlotTabs.{SameWriters, tab_later, freer_later}
@@ -67,9 +67,6 @@ pub at_times : (xs : List ℕ) (p slot : ℕ) → get_elem? xs p ≡ some slot �
 at_times [] p slot e = absurd (some-ne-none slot (sym e))
 at_times (y ∷ ys) zero slot e = let q = eq-eqb y slot (some-injective y slot e) in rw q (omega arith)
 at_times (y ∷ ys) (suc p) slot e = let h = at_times ys p slot e in omega arith
-
-suc_is : (p : ℕ) → suc p ≡ p + 1
-suc_is p = omega arith
 
 pub link_of_number : (l : Link) → link_of (link_number l) ≡ l
 link_of_number NotWritten = refl

@@ -34,3 +34,4 @@ pub mod SlotsLoosened
 pub mod BesideKinds
 pub mod OwnsKept
 pub mod FollowsKept
+pub mod SlotsPublished

@@ -35,7 +35,7 @@ module _ {X : Type 0} where
     same_by_one b p q none = record {
       as_many = let e = recounted (writes_at b) in omega arith;
       each = λ m x e on. ⊎_elim (λ (z : (m ≡ t) × (new ≡ Writing x)). absurd (none x z.1 on))
-          (λ (z : (m ≢ t) × (get_elem? v.tabs m ≡ some (Writing x))). (m, x, z.1, on, (λ r. r), (λ r. r))) (each_tab m (Writing x) e);
+          (λ (z : (m ≢ t) × (get_elem? v.tabs m ≡ some (Writing x))). (m, x, z.1, on, (λ r. r))) (each_tab m (Writing x) e);
     }
 
   -- a tab that has nothing to do with slots
@@ -85,7 +85,7 @@ module _ {X : Type 0} where
         writers : (b : ℕ) → SameWriters v v' b
         writers b = record {
           as_many = ap (sum_by (writes_at b)) same;
-          each = λ t x e on. (t, x, subst (λ (z : List (Tab X)). get_elem? z t ≡ some (Writing x)) same e, on, (λ z. z), (λ z. z));
+          each = λ t x e on. (t, x, subst (λ (z : List (Tab X)). get_elem? z t ≡ some (Writing x)) same e, on, (λ z. z));
         }
 
     -- a tab changes that has nothing to do with slots, before and after

@@ -28,21 +28,21 @@ pub record SameSlots (c d : Chain) : Type 0 where
   pub slots : d.slots ≡ c.slots
   pub end : d.end ≡ c.end
 
--- the tabs of u' that write at b are those of u, of which each has reserved and published what it had
+-- the tabs of u' that write at b are those of u, of which none that had no slot has one
 pub record SameWriters {X : Type 0} (u u' : View X) (b : ℕ) : Type 0 where
   pub as_many : count (writes_at b) u' ≡ count (writes_at b) u
   pub each : (t : ℕ) (x : Writer X) → get_elem? u'.tabs t ≡ some (Writing x) → x.anchor ≡ b
-      → (p : ℕ) × (y : Writer X) × (get_elem? u.tabs p ≡ some (Writing y)) × (y.anchor ≡ b) × (y.reserved ≡ [] → x.reserved ≡ []) × (y.published ≡ [] → x.published ≡ [])
+      → (p : ℕ) × (y : Writer X) × (get_elem? u.tabs p ≡ some (Writing y)) × (y.anchor ≡ b) × ((y.reserved ≡ []) × (y.published ≡ []) → (x.reserved ≡ []) × (x.published ≡ []))
 
 module _ {X : Type 0} where
   pub same_writers : (u : View X) (b : ℕ) → SameWriters u u b
-  same_writers u b = record { as_many = refl; each = λ t x h e. (t, x, h, e, (λ z. z), (λ z. z)) }
+  same_writers u b = record { as_many = refl; each = λ t x h e. (t, x, h, e, (λ z. z)) }
 
   pub replaces_later : (g start : ℕ) (u u' : View X) (b : ℕ) → SameWriters u u' b → Replaces g start u b → Replaces g start u' b
   replaces_later g start u u' b same r = record {
     taken = r.taken;
     mine = same.as_many ∙ r.mine;
-    unused = λ t x h e. let q = same.each t x h e in let z = r.unused q.0 q.1 q.2 q.3 in (q.4 z.0, q.5 z.1);
+    unused = λ t x h e. let q = same.each t x h e in let z = r.unused q.0 q.1 q.2 q.3 in q.4 z;
     started = r.started;
   }
 

@@ -86,12 +86,12 @@ module _ {X : Type 0} where
   }
 
   -- a writing tab whose slots change, and not its anchor
-  pub same_by_writer : (v v' : View X) (t : ℕ) (x x' : Writer X) → OneTab v v' t (Writing x) (Writing x') → x'.anchor ≡ x.anchor → (x.reserved ≡ [] → x'.reserved ≡ []) → (x.published ≡ [] → x'.published ≡ []) → (b : ℕ) → SameWriters v v' b
-  same_by_writer v v' t x x' one same r p b = record {
+  pub same_by_writer : (v v' : View X) (t : ℕ) (x x' : Writer X) → OneTab v v' t (Writing x) (Writing x') → x'.anchor ≡ x.anchor → ((x.reserved ≡ []) × (x.published ≡ []) → (x'.reserved ≡ []) × (x'.published ≡ [])) → (b : ℕ) → SameWriters v v' b
+  same_by_writer v v' t x x' one same none b = record {
     as_many = let e = recounted v v' t (Writing x) (Writing x') one (writes_at b) in let z : writes_at b (Writing x') ≡ writes_at b (Writing x) = ap (λ (a : ℕ). cond (eqb a b) 1 0) same in omega arith;
     each = λ m y e on. ⊎_elim
-        (λ (q : (m ≡ t) × (Writing x' ≡ Writing y)). (t, x, one.was, sym same ∙ ap anchor_of q.1 ∙ on, (λ z. sym (ap reserved_of q.1) ∙ r z), (λ z. sym (ap published_of q.1) ∙ p z)))
-        (λ (q : (m ≢ t) × (get_elem? v.tabs m ≡ some (Writing y))). (m, y, q.1, on, (λ z. z), (λ z. z)))
+        (λ (q : (m ≡ t) × (Writing x' ≡ Writing y)). (t, x, one.was, sym same ∙ ap anchor_of q.1 ∙ on, (λ z. let g = none z in (sym (ap reserved_of q.1) ∙ g.0, sym (ap published_of q.1) ∙ g.1))))
+        (λ (q : (m ≢ t) × (get_elem? v.tabs m ≡ some (Writing y))). (m, y, q.1, on, (λ z. z)))
         (each_tab v v' t (Writing x) (Writing x') one m (Writing y) e);
   }
     where
@@ -181,7 +181,7 @@ module _ {X : Type 0} where
             chain = h.chain;
             chosen = λ p going c. cc;
           })
-          (λ (q : (m ≢ t) × (get_elem? v.tabs m ≡ some tab)). tab_later w cs v v' (same_by_writer v v' t x fewer_slots one refl (ap (without slot)) (λ z. z)) tab (so.tabs i v at m tab q.1))
+          (λ (q : (m ≢ t) × (get_elem? v.tabs m ≡ some tab)). tab_later w cs v v' (same_by_writer v v' t x fewer_slots one refl (λ z. (ap (without slot) z.0, z.1))) tab (so.tabs i v at m tab q.1))
           (each_tab v v' t (Writing x) (Writing fewer_slots) one m tab e))
         where
           holds_here : WriterHolds (get_or cs x.anchor no_chain) x

@@ -50,7 +50,7 @@ Unused g = (g ≢ 1) × (g ≢ 2) × (g ≢ 5)
 pub writers_trans : {X : Type 0} (u v w : View X) (b : ℕ) → SameWriters u v b → SameWriters v w b → SameWriters u w b
 writers_trans u v w b p q = record {
   as_many = q.as_many ∙ p.as_many;
-  each = λ t x h e. let z = q.each t x h e in let y = p.each z.0 z.1 z.2 z.3 in (y.0, y.1, y.2, y.3, (λ r. z.4 (y.4 r)), (λ r. z.5 (y.5 r)));
+  each = λ t x h e. let z = q.each t x h e in let y = p.each z.0 z.1 z.2 z.3 in (y.0, y.1, y.2, y.3, (λ r. z.4 (y.4 r)));
 }
 
 module _ {X : Type 0} (k : Setting X) (s : State X) (i : ℕ) (v : View X) (so : AnchorsSound k s) (sl : SlotsSound k s) (at : get_elem? s.views i ≡ some v) (pass : IsPass v) (a : ℕ) (lt : a < k.anchors) where

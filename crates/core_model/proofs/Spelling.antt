@@ -1,11 +1,13 @@
 -- Lists of slots, and link words that spell them.
-use Rattle.std.proofs.Common.{◌≡◌, ◌≢◌, ℕ, ◌+◌, ◌<◌, ◌≤◌, List, [], ◌∷◌, ◌++◌, length, sym, refl, ap, ◌∙◌, subst, arith, cond, ◌==◌, eq-eqb, ne_eqb}
+use Rattle.std.proofs.Common.{◌≡◌, ◌≢◌, ℕ, zero, suc, drop, ◌+◌, ◌<◌, ◌≤◌, List, [], ◌∷◌, ◌++◌, length, sym, refl, ap, ◌∙◌, subst, arith, cond, ◌==◌, eq-eqb, ne_eqb}
+use mathlib.Core.Option.{some, some-ne-none}
 use mathlib.Core.Logic.{dite}
+use lib.ListN.{get_elem?}
 use native.Mathlib.Decide.{ℕ_discrete}
 use Rattle.link_word.specs.declared.link.Link.{Link}
 use Rattle.link_word.specs.declared.link.Link.TheVariants.{NotWritten, Last, Next}
 use Rattle.link_word.specs.Words.{link_number}
-use Rattle.core_model.specs.Chains.{Spells, named, start_number, rest_of, one, times, behind_of, Fits, Tied}
+use Rattle.core_model.specs.Chains.{link_to, Spells, named, start_number, rest_of, one, times, behind_of, Fits, Tied}
 use Rattle.core_model.specs.TabsAfter.{without}
 use Rattle.core_model.proofs.Lists.{by_eq}
 
@@ -114,3 +116,52 @@ tied_without (Next t) xs (y ∷ ys) p ne h = let off = ne_eqb y p (λ q. ne (ap 
 
 pub one_other : (j x : ℕ) → x ≢ j → one j x ≡ 0
 one_other j x ne = rw (ne_eqb x j ne) refl
+
+-- What is published more.
+
+-- what is published is spelled up to the first reserved slot
+pub spells_next : (f : ℕ → ℕ) (e : Link) (xs : List ℕ) (j : ℕ) (rs : List ℕ) → Tied e xs (j ∷ rs) → Spells f xs e → Spells f xs (Next j)
+spells_next f NotWritten xs j rs t h = subst (λ (z : List ℕ). Spells f z (Next j)) (sym t) tt
+spells_next f Last xs j rs t h = absurd (no_items t)
+spells_next f (Next i) xs j rs t h = subst (λ (z : ℕ). Spells f xs (Next z)) (sym (firsts t)) h
+
+-- the last link of what is published names it
+pub tied_end : (e : Link) (xs : List ℕ) (j : ℕ) (rs : List ℕ) → Fits xs e → 0 < length xs → Tied e xs (j ∷ rs) → e ≡ Next j
+tied_end NotWritten [] j rs h some_slot t = absurd (omega arith)
+tied_end NotWritten (x ∷ xs) j rs h some_slot t = absurd h
+tied_end Last xs j rs h some_slot t = absurd (no_items t)
+tied_end (Next i) xs j rs h some_slot t = ap Next (sym (firsts t))
+
+pub tied_to : (xs rs : List ℕ) → Tied (link_to rs Last) xs rs
+tied_to xs [] = refl
+tied_to xs (t ∷ ts) = refl
+
+pub fits_more : (xs : List ℕ) (j : ℕ) (rs : List ℕ) → Fits (xs ++ j ∷ []) (link_to rs Last)
+fits_more [] j [] = tt
+fits_more [] j (t ∷ ts) = tt
+fits_more (x ∷ xs) j [] = tt
+fits_more (x ∷ xs) j (t ∷ ts) = tt
+
+pub to_is_written : (rs : List ℕ) → link_to rs Last ≢ NotWritten
+to_is_written [] e = last_is_written e
+to_is_written (t ∷ ts) e = next_is_written t e
+
+pub start_more : (xs : List ℕ) (j : ℕ) → 0 < length xs → start_number (xs ++ j ∷ []) ≡ start_number xs
+start_more [] j h = absurd (omega arith)
+start_more (x ∷ xs) j h = refl
+
+-- the link at a place below stays
+pub link_below : (xs : List ℕ) (j : ℕ) (e : Link) (p : ℕ) → p < length xs → link_to (drop (suc p) (xs ++ j ∷ [])) e ≡ link_to (drop (suc p) xs) (Next j)
+link_below [] j e p lt = absurd (omega arith)
+link_below (x ∷ []) j e zero lt = refl
+link_below (x ∷ y ∷ ys) j e zero lt = refl
+link_below (x ∷ xs) j e (suc p) lt = link_below xs j e p (omega arith)
+
+pub suc_is : (p : ℕ) → suc p ≡ p + 1
+suc_is p = omega arith
+
+-- what stands at a place stands there in a longer list
+pub at_longer : (xs ys : List ℕ) (p slot : ℕ) → get_elem? xs p ≡ some slot → get_elem? (xs ++ ys) p ≡ some slot
+at_longer [] ys p slot e = absurd (some-ne-none slot (sym e))
+at_longer (x ∷ xs) ys zero slot e = e
+at_longer (x ∷ xs) ys (suc p) slot e = at_longer xs ys p slot e
