@@ -137,7 +137,7 @@ module _ {X : Type 0} (k : Setting X) (s : State X) (i : ℕ) (v : View X) (so :
       reserved_first (Next j) published reserved h q = subst (λ (l : List ℕ). 0 < times slot l) (sym h) (omega arith)
 
       is_growing : stage_of (epoch_of (word s r.anchor)) ≡ 2 → 0 < times slot (named (chain_of s r.anchor).end) → IsFollowed r
-      is_growing e q = let x = has_writer k s so r.anchor there.0 (written e) in let hw : WriterHolds (chain_of s x.writer.anchor) x.writer = sl.tabs x.i x.tab.view x.tab.at x.t (Writing x.writer) x.tab.there in
+      is_growing e q = let x = has_writer k s so r.anchor there.0 (written e) in let hw : WriterHolds (w.beside x.writer.anchor) (chain_of s x.writer.anchor) x.writer = sl.tabs x.i x.tab.view x.tab.at x.t (Writing x.writer) x.tab.there in
           let c : chain_of s r.anchor ≡ record { slots = x.writer.published; end = x.writer.end; tail = [] } = ap (chain_of s) (sym x.anchor_is) ∙ hw.chain in
           let z : 0 < times slot x.writer.reserved = reserved_first x.writer.end x.writer.published x.writer.reserved hw.tied (subst (λ (d : Chain). 0 < times slot (named d.end)) c q) in
           unwritten (held_of x.i x.tab.view x.tab.at x.t x.writer x.tab.there z) (unlinked k.anchors w s.chains s.views sl x.i x.tab.view x.tab.at x.t x.writer x.tab.there slot z)

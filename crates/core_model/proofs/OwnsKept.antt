@@ -193,7 +193,7 @@ module _ {X : Type 0} (k : Setting X) (s : State X) (i : ℕ) (v : View X) (so :
           (sees_nothing k s i v so at pass _)
 
       gives : (x : Tab X) → tab_at v t ≡ x → Back x → (v' : View X) → v'.tabs ≡ set v.tabs t (gives_back x slot)
-          → SlotsHold k.anchors (record { owner = upd w.owner slot 0; link = w.link; start = w.start; stage = w.stage }) s.chains (set s.views i v')
+          → SlotsHold k.anchors (record { owner = upd w.owner slot 0; link = w.link; start = w.start; beside = w.beside; stage = w.stage }) s.chains (set s.views i v')
       gives (Writing x) e (inl h) v' tabs = disown_keeps k.anchors w s.chains s.views i v sl at v' slot 0 t x (there ∙ ap some e) refl h.0 h.1 record { was = there ∙ ap some e; becomes = tabs }
       gives (Writing x) e (inr h) v' tabs = absurd h
       gives (Freeing f) e (inl h) v' tabs = absurd h
@@ -214,7 +214,7 @@ module _ {X : Type 0} (k : Setting X) (s : State X) (i : ℕ) (v : View X) (so :
     link_at = 5 * k.anchors + k.slots + slot
 
     abbrev without_link : SlotWords
-    without_link = record { owner = w.owner; link = upd w.link slot 0; start = w.start; stage = w.stage }
+    without_link = record { owner = w.owner; link = upd w.link slot 0; start = w.start; beside = w.beside; stage = w.stage }
 
     front_held : (p : ℕ) (f : Freer) → get_elem? v.tabs p ≡ some (Freeing f) → IsFront slot f → slot < k.slots
     front_held p f is front = held_slot slot p (Freeing f) is (let c : times slot f.rest ≡ times slot (slot ∷ rest_of f.rest) = ap (times slot) front in let o = one_same slot in omega arith)

@@ -102,10 +102,10 @@ module _ {X : Type 0} where
         → ((j : ℕ) → count (held_in j) v + standing_in j c ≡ count (held_in j) v' + standing_in j d)
         → ((j : ℕ) → count (resting_in j) v + published_in j c ≤ count (resting_in j) v' + published_in j d)
         → ChainStands g (w.start a) w.link d
-        → ((t : ℕ) (tab : Tab X) → get_elem? v'.tabs t ≡ some tab → TabHolds (record { owner = w.owner; link = w.link; start = w.start; stage = upd w.stage a g }) cs' v' tab)
+        → ((t : ℕ) (tab : Tab X) → get_elem? v'.tabs t ≡ some tab → TabHolds (record { owner = w.owner; link = w.link; start = w.start; beside = w.beside; stage = upd w.stage a g }) cs' v' tab)
         → ((p : ℕ) (u : View X) → p ≢ i → get_elem? vs p ≡ some u → (t : ℕ) (tab : Tab X) → get_elem? u.tabs t ≡ some tab → Steady cs cs' a u u tab)
-        → SlotsHold n (record { owner = w.owner; link = w.link; start = w.start; stage = upd w.stage a g }) cs' (set vs i v')
-    restage cs' a g c d put held rests here mine others = framed n w (record { owner = w.owner; link = w.link; start = w.start; stage = upd w.stage a g }) cs cs' vs i v v' a c d so at put
+        → SlotsHold n (record { owner = w.owner; link = w.link; start = w.start; beside = w.beside; stage = upd w.stage a g }) cs' (set vs i v')
+    restage cs' a g c d put held rests here mine others = framed n w (record { owner = w.owner; link = w.link; start = w.start; beside = w.beside; stage = upd w.stage a g }) cs cs' vs i v v' a c d so at put
         record {
           places = λ j. let h = held j in omega arith;
           links = λ j x h. let r = rests j in omega arith;

@@ -1,9 +1,10 @@
 -- Steps of a pass among its tabs: what the tabs hold afterwards.
-use Rattle.std.proofs.Common.{◌≡◌, ◌≢◌, ⊎_elim, ℕ, ◌+◌, ◌<◌, ◌≤◌, List, [], ◌++◌, drop, length, get_or, set, sym, refl, ap, ◌∙◌, subst, arith, sum_by, cond, ◌==◌, eq-eqb, ne_eqb}
+use Rattle.std.proofs.Common.{◌≡◌, ◌≢◌, ◌⊎◌, ⊎_elim, None, ℕ, ◌+◌, ◌<◌, ◌≤◌, List, [], ◌++◌, drop, length, get_or, set, sym, refl, ap, ◌∙◌, subst, arith, sum_by, cond, ◌==◌, eq-eqb, ne_eqb}
 use mathlib.Core.Option.{some}
 use mathlib.Core.Logic.{dite}
 use native.Mathlib.Decide.{ℕ_discrete}
 use lib.ListN.{get_elem?}
+use Rattle.core_model.specs.declared.moves.Side.{Side}
 use Rattle.core_model.specs.declared.tab.Reader.{Reader}
 use Rattle.core_model.specs.declared.tab.Writer.{Writer}
 use Rattle.core_model.specs.declared.tab.Freer.{Freer}
@@ -13,7 +14,7 @@ use Rattle.core_model.specs.declared.view.View.{View}
 use Rattle.core_model.specs.declared.chain.Chain.{Chain}
 use Rattle.core_model.specs.Chains.{no_chain, named, link_to, link_at}
 use Rattle.core_model.specs.Tabs.{count}
-use Rattle.core_model.specs.Slots.{SlotWords, writes_at, Replaces, WriterHolds, FreerHolds, ReaderHolds, TabHolds}
+use Rattle.core_model.specs.Slots.{SlotWords, writes_at, Replaces, WriterNames, WriterHolds, FreerHolds, ReaderHolds, TabHolds}
 use Rattle.core_model.proofs.Lists.{at_set, sum_at}
 use Rattle.core_model.proofs.Spelling.{upd, upd_other}
 
@@ -22,6 +23,17 @@ writes_one a x e = rw (eq-eqb x.anchor a e) refl
 
 pub writes_none : {X : Type 0} (a : ℕ) (x : Writer X) → x.anchor ≢ a → writes_at a (Writing x) ≡ 0
 writes_none a x ne = rw (ne_eqb x.anchor a ne) refl
+
+-- what a writing tab stored is what it had stored before
+pub names_keep : {X : Type 0} (names : Side → ℕ) (x x' : Writer X) → x'.key0 ≡ x.key0 → x'.key1 ≡ x.key1 → x'.offer ≡ x.offer → x'.start ≡ x.start
+    → ((x'.chosen ≢ None) ⊎ (x'.published ≢ []) → (x.chosen ≢ None) ⊎ (x.published ≢ [])) → WriterNames names x → WriterNames names x'
+names_keep names x x' k0 k1 o st before h = record {
+  key0 = λ n e. h.key0 n (sym k0 ∙ e);
+  key1 = λ n e. h.key1 n (sym k1 ∙ e);
+  offer = λ n e. h.offer n (sym o ∙ e);
+  start = λ n e. h.start n (sym st ∙ e);
+  named = λ c. let q = h.named (before c) in ((λ e. q.0 (sym k0 ∙ e)), (λ e. q.1 (sym k1 ∙ e)), (λ e. q.2 (sym o ∙ e)));
+}
 
 -- the slots and the end of a chain
 pub record SameSlots (c d : Chain) : Type 0 where
@@ -81,7 +93,7 @@ module _ {X : Type 0} where
 
   pub restaged : (w : SlotWords) (cs ds : List Chain) (a g : ℕ) (u u' : View X) → ((b : ℕ) → b ≢ a → get_or ds b no_chain ≡ get_or cs b no_chain)
       → (tab : Tab X) → Steady cs ds a u u' tab → TabHolds w cs u tab
-      → TabHolds (record { owner = w.owner; link = w.link; start = w.start; stage = upd w.stage a g }) ds u' tab
+      → TabHolds (record { owner = w.owner; link = w.link; start = w.start; beside = w.beside; stage = upd w.stage a g }) ds u' tab
   restaged w cs ds a g u u' other Free st h = tt
   restaged w cs ds a g u u' other (Retreating b) st h = tt
   restaged w cs ds a g u u' other (Reading r) st h = reader_later (get_or cs r.anchor no_chain) (get_or ds r.anchor no_chain) r same h
@@ -90,7 +102,7 @@ module _ {X : Type 0} where
       same = dite (ℕ_discrete r.anchor a)
           (λ e. subst (λ (z : ℕ). SameSlots (get_or cs z no_chain) (get_or ds z no_chain)) (sym e) (st.reads r refl e))
           (λ ne. let q = other r.anchor ne in record { slots = ap Chain.slots q; end = ap Chain.end q })
-  restaged w cs ds a g u u' other (Writing x) st h = subst (λ (c : Chain). WriterHolds c x) (sym (other x.anchor (st.writes x refl))) h
+  restaged w cs ds a g u u' other (Writing x) st h = subst (λ (c : Chain). WriterHolds (w.beside x.anchor) c x) (sym (other x.anchor (st.writes x refl))) h
   restaged w cs ds a g u u' other (Last b) st h = tt
   restaged w cs ds a g u u' other (Freeing f) st h = let ne = st.frees f refl in
       subst (λ (z : ℕ). FreerHolds z (w.start f.anchor) w.link u' f) (sym (upd_other w.stage a g f.anchor ne)) (freer_later (w.stage f.anchor) (w.start f.anchor) w.link u u' f (st.same f.anchor ne) h)

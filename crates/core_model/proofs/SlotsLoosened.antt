@@ -36,7 +36,7 @@ relinked g start links slot x c none h = record { spelled = spells_else links sl
 module _ {X : Type 0} (n : ℕ) (w : SlotWords) (cs : List Chain) (vs : List (View X)) (i : ℕ) (v : View X) (so : SlotsHold n w cs vs) (at : get_elem? vs i ≡ some v) (v' : View X) (slot : ℕ)
     (p : ℕ) (f : Freer) (was : get_elem? v.tabs p ≡ some (Freeing f)) (front : IsFront slot f) where
   abbrev w' : SlotWords
-  w' = record { owner = w.owner; link = upd w.link slot 0; start = w.start; stage = w.stage }
+  w' = record { owner = w.owner; link = upd w.link slot 0; start = w.start; beside = w.beside; stage = w.stage }
 
   counted_here : times slot f.rest ≡ 1 + times slot (rest_of f.rest)
   counted_here = ap (times slot) front ∙ (let o = one_same slot in omega arith)
@@ -124,7 +124,7 @@ module _ {X : Type 0} (n : ℕ) (w : SlotWords) (cs : List Chain) (vs : List (Vi
           let a = times_append j x.reserved (slot ∷ []) in let l = times_append j f.loose [] in let c = ap (times j) front in omega arith)
           (λ j. let e = recounted v mid p (Freeing f) (Freeing shorter) first (resting_in j) in let e' = recounted mid v' t (Writing x) (Writing more) second (resting_in j) in let c = ap (times j) front in omega arith)
           (λ m tab e. ⊎_elim
-          (λ (q : (m ≡ t) × (Writing more ≡ tab)). subst (TabHolds w' cs v') q.1 (one_more (get_or cs x.anchor no_chain) x slot may (so.tabs i v at t (Writing x) on)))
+          (λ (q : (m ≡ t) × (Writing more ≡ tab)). subst (TabHolds w' cs v') q.1 (one_more (w.beside x.anchor) (get_or cs x.anchor no_chain) x slot may (so.tabs i v at t (Writing x) on)))
           (λ (q : (m ≢ t) × (get_elem? mid.tabs m ≡ some tab)). ⊎_elim
           (λ (r : (m ≡ p) × (Freeing shorter ≡ tab)). subst (TabHolds w' cs v') r.1 shorter_holds)
           (λ (r : (m ≢ p) × (get_elem? v.tabs m ≡ some tab)). others m tab r.0 r.1 (so.tabs i v at m tab r.1))

@@ -6,6 +6,7 @@ use native.Mathlib.Decide.{ℕ_discrete}
 use lib.ListN.{get_elem?}
 use Rattle.link_word.specs.declared.link.Link.{Link}
 use Rattle.link_word.specs.declared.link.Link.TheVariants.{NotWritten, Last as LastLink, Next}
+use Rattle.core_model.specs.declared.moves.Side.{Side}
 use Rattle.core_model.specs.declared.tab.Piece.{Piece}
 use Rattle.core_model.specs.declared.tab.Reader.{Reader}
 use Rattle.core_model.specs.declared.tab.Writer.{Writer}
@@ -23,7 +24,7 @@ use Rattle.core_model.proofs.Lists.{le_sum_at, by_eq}
 use Rattle.core_model.proofs.Tabs.{contains_times, times_without_same, times_without_other}
 use Rattle.core_model.proofs.Spelling.{upd, upd_same, upd_other, times_append, one_same, one_other, length_more, fewer, tied_more, tied_without}
 use Rattle.core_model.proofs.SlotFrame.{stays, Owes, framed, used_few, used_some, once}
-use Rattle.core_model.proofs.SlotTabs.{SameWriters, freer_later, tab_later}
+use Rattle.core_model.proofs.SlotTabs.{SameWriters, names_keep, freer_later, tab_later}
 use Rattle.core_model.proofs.SlotKinds.{OneTab, recounted, each_tab, same_by_one}
 
 -- where one slot is reserved at most, the piece for it is the last
@@ -77,8 +78,9 @@ module _ {X : Type 0} where
       not_free e = cc
 
   -- a tab that has room reserves one slot more
-  pub one_more : (c : Chain) (x : Writer X) (slot : ℕ) → MayReserve x → WriterHolds c x → WriterHolds c (record x { reserved = x.reserved ++ slot ∷ [] })
-  one_more c x slot may h = record {
+  pub one_more : (names : Side → ℕ) (c : Chain) (x : Writer X) (slot : ℕ) → MayReserve x → WriterHolds names c x → WriterHolds names c (record x { reserved = x.reserved ++ slot ∷ [] })
+  one_more names c x slot may h = record {
+    names_are = names_keep names x (record x { reserved = x.reserved ++ slot ∷ [] }) refl refl refl refl (λ z. z) h.names_are;
     few = let l = length_more x.reserved slot in let r = may.room in omega arith;
     tied = tied_more x.end x.published x.reserved slot may.open_end h.tied;
     chain = h.chain;
@@ -105,7 +107,7 @@ module _ {X : Type 0} where
 
   module _ (n : ℕ) (w : SlotWords) (cs : List Chain) (vs : List (View X)) (i : ℕ) (v : View X) (so : SlotsHold n w cs vs) (at : get_elem? vs i ≡ some v) (v' : View X) (slot y : ℕ) where
     abbrev w' : SlotWords
-    w' = record { owner = upd w.owner slot y; link = w.link; start = w.start; stage = w.stage }
+    w' = record { owner = upd w.owner slot y; link = w.link; start = w.start; beside = w.beside; stage = w.stage }
 
     -- tabs do not look at owner words
     pub owned_later : (u : View X) (tab : Tab X) → TabHolds w cs u tab → TabHolds w' cs u tab
@@ -129,7 +131,7 @@ module _ {X : Type 0} where
         (λ j u ne e t tab f h. owned_later u tab h)
 
     module _ (t : ℕ) (x : Writer X) (was : get_elem? v.tabs t ≡ some (Writing x)) where
-      holds : WriterHolds (get_or cs x.anchor no_chain) x
+      holds : WriterHolds (w.beside x.anchor) (get_or cs x.anchor no_chain) x
       holds = so.tabs i v at t (Writing x) was
 
       abbrev more : Writer X
@@ -145,7 +147,7 @@ module _ {X : Type 0} where
           (λ ne. let o = one_other j slot (λ q. ne (sym q)) in let u : used (upd w.owner slot y j) ≡ used (w.owner j) = ap used (upd_other w.owner slot y j ne) in omega arith))
           (λ j. let e = recounted v v' t (Writing x) (Writing more) one (resting_in j) in omega arith)
           (λ m tab e. ⊎_elim
-          (λ (q : (m ≡ t) × (Writing more ≡ tab)). subst (TabHolds w cs v') q.1 (one_more (get_or cs x.anchor no_chain) x slot may holds))
+          (λ (q : (m ≡ t) × (Writing more ≡ tab)). subst (TabHolds w cs v') q.1 (one_more (w.beside x.anchor) (get_or cs x.anchor no_chain) x slot may holds))
           (λ (q : (m ≢ t) × (get_elem? v.tabs m ≡ some tab)). unchanged m tab q.1 (so.tabs i v at m tab q.1))
           (each_tab v v' t (Writing x) (Writing more) one m tab e))
         where
@@ -180,11 +182,12 @@ module _ {X : Type 0} where
             tied = tied_without x.end x.published x.reserved slot unlinked h.tied;
             chain = h.chain;
             chosen = λ p going c. cc;
+            names_are = names_keep (w.beside x.anchor) x fewer_slots refl refl refl refl (λ z. z) h.names_are;
           })
           (λ (q : (m ≢ t) × (get_elem? v.tabs m ≡ some tab)). tab_later w cs v v' (same_by_writer v v' t x fewer_slots one refl (λ z. (ap (without slot) z.0, z.1))) tab (so.tabs i v at m tab q.1))
           (each_tab v v' t (Writing x) (Writing fewer_slots) one m tab e))
         where
-          holds_here : WriterHolds (get_or cs x.anchor no_chain) x
+          holds_here : WriterHolds (w.beside x.anchor) (get_or cs x.anchor no_chain) x
           holds_here = so.tabs i v at t (Writing x) was
 
     -- the inner tab gives back one that was loose

@@ -1,5 +1,5 @@
 -- The first reserved slot is published, to the parts on slots.
-use Rattle.std.proofs.Common.{◌≡◌, ◌≢◌, ◌⊎◌, inl, inr, ⊎_elim, ℕ, suc, ◌+◌, ◌<◌, ◌≤◌, List, [], ◌∷◌, ◌++◌, drop, length, get_or, set, sym, refl, ap, ◌∙◌, subst, arith, sum_by, Bool, true, false, cond, Some, ne_eqb}
+use Rattle.std.proofs.Common.{◌≡◌, ◌≢◌, ◌⊎◌, inl, inr, ⊎_elim, ℕ, suc, ◌+◌, ◌<◌, ◌≤◌, List, [], ◌∷◌, ◌++◌, drop, length, get_or, set, sym, refl, ap, ◌∙◌, subst, arith, sum_by, Bool, true, false, cond, Some, None, ne_eqb}
 use mathlib.Core.Option.{some}
 use mathlib.Core.Logic.{dite}
 use native.Mathlib.Decide.{ℕ_discrete}
@@ -22,13 +22,13 @@ use Rattle.core_model.specs.Slots.{SlotWords, used, held_in, resting_in, publish
 use Rattle.core_model.proofs.Lists.{le_sum_at}
 use Rattle.core_model.proofs.Spelling.{upd, upd_same, upd_other, times_append, one_same, one_other, no_items, length_more, spells_next, spells_else, spells_more, some_fits, tied_end, tied_to, fits_more, to_is_written, start_more, link_below, suc_is, at_longer}
 use Rattle.core_model.proofs.SlotFrame.{Puts, puts, framed, used_few, once, in_no_other}
-use Rattle.core_model.proofs.SlotTabs.{SameWriters, same_writers, freer_later}
+use Rattle.core_model.proofs.SlotTabs.{SameWriters, names_keep, same_writers, freer_later}
 use Rattle.core_model.proofs.SlotKinds.{OneTab, recounted, each_tab}
 use Rattle.core_model.proofs.SlotsOwned.{same_by_writer}
 use Rattle.core_model.proofs.SlotsLoosened.{standing_few, relinked}
 
 module _ {X : Type 0} (n : ℕ) (w : SlotWords) (cs : List Chain) (vs : List (View X)) (i : ℕ) (v : View X) (so : SlotsHold n w cs vs) (at : get_elem? vs i ≡ some v) (v' : View X) (slot : ℕ) (link : Link)
-    (t : ℕ) (x : Writer X) (was : get_elem? v.tabs t ≡ some (Writing x)) (rs : List ℕ) (first : x.reserved ≡ slot ∷ rs) (link_is : link ≡ link_to rs LastLink)
+    (t : ℕ) (x : Writer X) (was : get_elem? v.tabs t ≡ some (Writing x)) (rs : List ℕ) (first : x.reserved ≡ slot ∷ rs) (link_is : link ≡ link_to rs LastLink) (chose : x.chosen ≢ None)
     -- the anchor is one of the table, at TAKEN or APPENDING, and no other tab writes there
     (inside : x.anchor < n) (many : length cs ≡ n) (low : 1 ≤ w.stage x.anchor) (high : w.stage x.anchor ≤ 2)
     (sole : (j : ℕ) (u : View X) → get_elem? vs j ≡ some u → (p : ℕ) (y : Writer X) → get_elem? u.tabs p ≡ some (Writing y) → y.anchor ≡ x.anchor → (j ≡ i) × (p ≡ t)) where
@@ -36,7 +36,7 @@ module _ {X : Type 0} (n : ℕ) (w : SlotWords) (cs : List Chain) (vs : List (Vi
   a = x.anchor
 
   abbrev w' : SlotWords
-  w' = record { owner = w.owner; link = upd w.link slot (link_number link); start = w.start; stage = w.stage }
+  w' = record { owner = w.owner; link = upd w.link slot (link_number link); start = w.start; beside = w.beside; stage = w.stage }
 
   abbrev c : Chain
   c = get_or cs a no_chain
@@ -48,9 +48,9 @@ module _ {X : Type 0} (n : ℕ) (w : SlotWords) (cs : List Chain) (vs : List (Vi
   ds = set cs a d
 
   abbrev x' : Writer X
-  x' = record x { reserved = rest_of x.reserved; chosen = Rattle.std.specs.Prelude.None; is_written = false; published = x.published ++ slot ∷ []; end = link }
+  x' = record x { reserved = rest_of x.reserved; chosen = None; is_written = false; published = x.published ++ slot ∷ []; end = link }
 
-  holds : WriterHolds c x
+  holds : WriterHolds (w.beside a) c x
   holds = so.tabs i v at t (Writing x) was
 
   put : Puts cs ds a c d
@@ -107,12 +107,13 @@ module _ {X : Type 0} (n : ℕ) (w : SlotWords) (cs : List Chain) (vs : List (Vi
   d_is : d ≡ record { slots = x.published ++ slot ∷ []; end = link; tail = [] }
   d_is = ap (λ (z : List ℕ). record { slots = z ++ slot ∷ []; end = link; tail = [] }) slots_are
 
-  new_holds : WriterHolds (get_or ds a no_chain) x'
+  new_holds : WriterHolds (w.beside a) (get_or ds a no_chain) x'
   new_holds = record {
     few = let f = holds.few in let l = ap length first in let q = ap length rest_is in omega arith;
     tied = subst (λ (z : List ℕ). Tied link (x.published ++ slot ∷ []) z) (sym rest_is) (subst (λ (z : Link). Tied z (x.published ++ slot ∷ []) rs) (sym link_is) (tied_to (x.published ++ slot ∷ []) rs));
     chain = put.same ∙ d_is;
     chosen = λ p e h. cc;
+    names_are = names_keep (w.beside a) x x' refl refl refl refl (λ _. inl chose) holds.names_are;
   }
 
   -- who reads there finds what it found
@@ -134,7 +135,7 @@ module _ {X : Type 0} (n : ℕ) (w : SlotWords) (cs : List Chain) (vs : List (Vi
   tab_stays j u u' ut same p (Reading r) other is h = dite (ℕ_discrete r.anchor a)
       (λ e. subst (λ (z : ℕ). ReaderHolds (get_or ds z no_chain) r) (sym e) (subst (λ (z : Chain). ReaderHolds z r) (sym (put.same ∙ d_is)) (reader_longer r (subst (λ (z : Chain). ReaderHolds z r) holds.chain (subst (λ (z : ℕ). ReaderHolds (get_or cs z no_chain) r) e h)))))
       (λ ne. subst (λ (z : Chain). ReaderHolds z r) (sym (put.other r.anchor ne)) h)
-  tab_stays j u u' ut same p (Writing y) other is h = subst (λ (z : Chain). WriterHolds z y) (sym (put.other y.anchor (λ e. other (sole j u ut p y is e)))) h
+  tab_stays j u u' ut same p (Writing y) other is h = subst (λ (z : Chain). WriterHolds (w.beside y.anchor) z y) (sym (put.other y.anchor (λ e. other (sole j u ut p y is e)))) h
   tab_stays j u u' ut same p (Last b) other is h = tt
   tab_stays j u u' ut same p (Freeing g) other is h = let q = freer_later (w.stage g.anchor) (w.start g.anchor) w.link u u' g (same g.anchor) h in
       record { spelled = spells_else w.link slot (link_number link) g.rest g.behind (in_no_rest j u ut p g is) q.spelled; starts = q.starts; replaces = q.replaces }

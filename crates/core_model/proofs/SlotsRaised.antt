@@ -34,7 +34,7 @@ use Rattle.core_model.proofs.Matching.{one_freer}
 use Rattle.core_model.proofs.RaisesKept.{only_writer, only_freer, tab_was}
 use Rattle.core_model.proofs.Spelling.{upd, last_is_written, next_is_written, tied_all}
 use Rattle.core_model.proofs.SlotFrame.{Puts, stays, puts}
-use Rattle.core_model.proofs.SlotTabs.{SameSlots, SameWriters, same_writers, Steady, restaged, writes_none}
+use Rattle.core_model.proofs.SlotTabs.{names_keep, SameSlots, SameWriters, same_writers, Steady, restaged, writes_none}
 use Rattle.core_model.proofs.SlotKinds.{OneTab, recounted, each_tab, same_by_one, NoSlots, counts_none, no_writer, restage}
 use Rattle.core_model.proofs.SlotAnchors.{writer_is, writer_stage, sole_writer, replaces_at, freer_stage, reader_stage, written_few}
 use Rattle.core_model.proofs.SlotsEntered.{left_none, left_holds}
@@ -45,7 +45,7 @@ module _ {X : Type 0} (k : Setting X) (s : State X) (i : ℕ) (v : View X) (so :
   w = slot_words k s.words
 
   abbrev at_stage : ℕ → ℕ → SlotWords
-  at_stage a g = record { owner = w.owner; link = w.link; start = w.start; stage = upd w.stage a g }
+  at_stage a g = record { owner = w.owner; link = w.link; start = w.start; beside = w.beside; stage = upd w.stage a g }
 
   -- the words after a raise tell the new stage
   pub raised_told : (a by g : ℕ) (cs : List Chain) (vs : List (View X)) → a < k.anchors → stage_of (epoch_of (word s a)) + by < 7 → stage_of (epoch_of (word s a)) + by ≡ g
@@ -60,7 +60,7 @@ module _ {X : Type 0} (k : Setting X) (s : State X) (i : ℕ) (v : View X) (so :
     there : (a < k.anchors) × (stage_of (epoch_of (word s a)) ≡ stage_written x) × (1 ≤ stage_of (epoch_of (word s a))) × (stage_of (epoch_of (word s a)) ≤ 2)
     there = writer_stage k s so sl i v at t x was
 
-    holds : WriterHolds (chain_of s a) x
+    holds : WriterHolds (w.beside a) (chain_of s a) x
     holds = sl.tabs i v at t (Writing x) was
 
     stands : ChainStands (w.stage a) (w.start a) w.link (record { slots = x.published; end = x.end; tail = [] })
@@ -127,7 +127,7 @@ module _ {X : Type 0} (k : Setting X) (s : State X) (i : ℕ) (v : View X) (so :
           gone = λ h. absurd (⊎_elim (λ (e : 2 ≡ 0). omega arith) (λ (e : 5 ≤ 2). omega arith) h);
         })
         (λ p tab e. ⊎_elim
-        (λ (q : (p ≡ t) × (Writing appending ≡ tab)). subst (TabHolds (at_stage a 2) s.chains v') q.1 record { few = holds.few; tied = holds.tied; chain = holds.chain; chosen = holds.chosen })
+        (λ (q : (p ≡ t) × (Writing appending ≡ tab)). subst (TabHolds (at_stage a 2) s.chains v') q.1 record { few = holds.few; tied = holds.tied; chain = holds.chain; chosen = holds.chosen; names_are = names_keep (w.beside a) x appending refl refl refl refl (λ z. z) holds.names_are })
         (λ (q : (p ≢ t) × (get_elem? v.tabs p ≡ some tab)). restaged w s.chains s.chains a 2 v v' (λ b ne. refl) tab
         (steady_mine s.chains v' same_slots (λ b ne. same_by_one v v' t (Writing x) (Writing appending) one b (writes_none b x (λ z. ne (sym z))) (writes_none b appending (λ z. ne (sym z))) (λ y h on. ne (sym on ∙ sym (anchor_same y h)))) p tab q.0 q.1)
         (sl.tabs i v at p tab q.1))

@@ -1,5 +1,5 @@
 -- To take an anchor for a new entry, and to evict an entry, gives the old chain with its tail to the inner tab.
-use Rattle.std.proofs.Common.{◌≡◌, ◌≢◌, ◌⊎◌, inl, inr, ⊎_elim, ℕ, ◌+◌, ◌-◌, ◌<◌, ◌≤◌, List, [], ◌∷◌, ◌++◌, length, get_or, set, sym, refl, ap, ◌∙◌, subst, arith, sum_by, Bool, true, false, cond, ◌==◌, Some, ne_eqb, eqb}
+use Rattle.std.proofs.Common.{◌≡◌, ◌≢◌, ◌⊎◌, inl, inr, ⊎_elim, ℕ, ◌+◌, ◌-◌, ◌<◌, ◌≤◌, List, [], ◌∷◌, ◌++◌, length, get_or, set, sym, refl, ap, ◌∙◌, subst, arith, sum_by, Bool, true, false, cond, ◌==◌, Some, None, ne_eqb, eqb}
 use Rattle.std.proofs.lemmas.Bool.{eqb-true}
 use mathlib.Core.Option.{some}
 use mathlib.Core.Logic.{dite}
@@ -58,7 +58,7 @@ module _ {X : Type 0} (k : Setting X) (s : State X) (i : ℕ) (v : View X) (so :
   w = slot_words k s.words
 
   abbrev at_stage : ℕ → SlotWords
-  at_stage g = record { owner = w.owner; link = w.link; start = w.start; stage = upd w.stage a g }
+  at_stage g = record { owner = w.owner; link = w.link; start = w.start; beside = w.beside; stage = upd w.stage a g }
 
   abbrev n : ℕ
   n = word s a
@@ -148,7 +148,7 @@ module _ {X : Type 0} (k : Setting X) (s : State X) (i : ℕ) (v : View X) (so :
     one_off = ((λ e. omega arith), (λ e. omega arith), (λ e. omega arith))
 
     writer_holds : (v' : View X) → TabHolds (at_stage 1) chains v' writing
-    writer_holds v' = record { few = omega arith; tied = refl; chain = put.same; chosen = λ p e h. cc }
+    writer_holds v' = record { few = omega arith; tied = refl; chain = put.same; chosen = λ p e h. cc; names_are = record { key0 = λ z e. cc; key1 = λ z e. cc; offer = λ z e. cc; start = λ z e. cc; named = λ c. absurd (⊎_elim (λ (z : None ≢ None). z refl) (λ (z : [] ≢ []). z refl) c) } }
 
     holds_none : (j : ℕ) → held_in j writing ≡ 0
     holds_none j = refl

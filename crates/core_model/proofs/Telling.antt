@@ -4,7 +4,10 @@ use Rattle.std.proofs.Common.{◌≡◌, ◌≢◌, ◌⊎◌, inl, inr, ⊎_eli
 use mathlib.Core.Logic.{dite}
 use native.Mathlib.Decide.{ℕ_discrete}
 use Rattle.lock_word.specs.Words.{epoch_of, stage_of}
-use Rattle.core_model.specs.Layout.{Setting, word_count, turns_end}
+use Rattle.core_model.specs.declared.moves.Side.{Side}
+use Rattle.core_model.specs.declared.moves.Side.TheVariants.{Key0, Key1, Offer, Start}
+use Rattle.core_model.specs.declared.view.Place.TheVariants.{Beside}
+use Rattle.core_model.specs.Layout.{Setting, index, word_count, turns_end}
 use Rattle.core_model.specs.Slots.{SlotWords, told, slot_words}
 use Rattle.core_model.proofs.Spelling.{upd, upd_same, upd_other}
 
@@ -33,13 +36,25 @@ abbrev stage_in : ℕ → ℕ
 stage_in n = stage_of (epoch_of n)
 
 module _ {X : Type 0} (k : Setting X) (ws : List ℕ) where
+  -- where the words beside the anchors stand
+  side_in : (side : Side) (b : ℕ) → b < k.anchors → (k.anchors ≤ index k (Beside side b)) × (index k (Beside side b) < 5 * k.anchors)
+  side_in Key0 b lt = (omega arith, omega arith)
+  side_in Key1 b lt = (omega arith, omega arith)
+  side_in Offer b lt = (omega arith, omega arith)
+  side_in Start b lt = (omega arith, omega arith)
+
+  -- another word is set
+  side_else : (p x : ℕ) → ((c : ℕ) → (k.anchors ≤ c) × (c < 5 * k.anchors) → c ≢ p) → (b : ℕ) (side : Side) → (slot_words k (set ws p x)).beside b side ≡ (slot_words k ws).beside b side
+  side_else p x away b side = told_else k.anchors (λ j. index k (Beside side j)) ws p x (λ j h e. away (index k (Beside side j)) (side_in side j h) e) b
+
   -- the word of an anchor is set
-  pub anchor_told : (a x g : ℕ) → a < k.anchors → length ws ≡ word_count k → stage_of (epoch_of x) ≡ g → slot_words k (set ws a x) ≡ record { owner = (slot_words k ws).owner; link = (slot_words k ws).link; start = (slot_words k ws).start; stage = upd (slot_words k ws).stage a g }
+  pub anchor_told : (a x g : ℕ) → a < k.anchors → length ws ≡ word_count k → stage_of (epoch_of x) ≡ g → slot_words k (set ws a x) ≡ record { owner = (slot_words k ws).owner; link = (slot_words k ws).link; start = (slot_words k ws).start; beside = (slot_words k ws).beside; stage = upd (slot_words k ws).stage a g }
   anchor_told a x g lt wide is = λ t. record {
     owner = λ b. told_else k.slots (λ j. 5 * k.anchors + j) ws a x (λ j h e. omega arith) b t;
     link = λ b. told_else k.slots (λ j. 5 * k.anchors + k.slots + j) ws a x (λ j h e. omega arith) b t;
     start = λ b. told_else k.anchors (λ j. 4 * k.anchors + j) ws a x (λ j h e. omega arith) b t;
     stage = λ b. staged b t;
+    beside = λ b side. side_else a x (λ c q. omega arith) b side t;
   }
     where
       staged : (b : ℕ) → stage_in (told k.anchors b (get_or (set ws a x) b 0)) ≡ upd (λ b. stage_in (told k.anchors b (get_or ws b 0))) a g b
@@ -55,6 +70,7 @@ module _ {X : Type 0} (k : Setting X) (ws : List ℕ) where
     link = (slot_words k ws).link;
     start = (slot_words k ws).start;
     stage = λ b. same b t;
+    beside = (slot_words k ws).beside;
   }
     where
       same : (b : ℕ) → upd (slot_words k ws).stage a (stage_in (get_or ws a 0)) b ≡ (slot_words k ws).stage b
@@ -70,6 +86,7 @@ module _ {X : Type 0} (k : Setting X) (ws : List ℕ) where
     link = λ b. told_else k.slots (λ j. 5 * k.anchors + k.slots + j) ws (turns_end k) x (λ j h e. omega arith) b t;
     start = λ b. told_else k.anchors (λ j. 4 * k.anchors + j) ws (turns_end k) x (λ j h e. omega arith) b t;
     stage = λ b. stage_in (told_else k.anchors (λ j. j) ws (turns_end k) x (λ j h e. omega arith) b t);
+    beside = λ b side. side_else (turns_end k) x (λ c q. omega arith) b side t;
   }
 
   -- the stage of an anchor of the table
@@ -77,30 +94,23 @@ module _ {X : Type 0} (k : Setting X) (ws : List ℕ) where
   stage_told a lt = ap stage_in (told_in k.anchors a (get_or ws a 0) lt)
 
   -- the owner word of a slot is set
-  pub owner_told : (j x : ℕ) → j < k.slots → length ws ≡ word_count k → slot_words k (set ws (5 * k.anchors + j) x) ≡ record { owner = upd (slot_words k ws).owner j x; link = (slot_words k ws).link; start = (slot_words k ws).start; stage = (slot_words k ws).stage }
+  pub owner_told : (j x : ℕ) → j < k.slots → length ws ≡ word_count k → slot_words k (set ws (5 * k.anchors + j) x) ≡ record { owner = upd (slot_words k ws).owner j x; link = (slot_words k ws).link; start = (slot_words k ws).start; beside = (slot_words k ws).beside; stage = (slot_words k ws).stage }
   owner_told j x lt wide = λ t. record {
     owner = λ b. told_here k.slots (λ j. 5 * k.anchors + j) ws j x lt (omega arith) (λ j ne e. ne (omega arith)) b t;
     link = λ b. told_else k.slots (λ j. 5 * k.anchors + k.slots + j) ws (5 * k.anchors + j) x (λ j h e. omega arith) b t;
     start = λ b. told_else k.anchors (λ j. 4 * k.anchors + j) ws (5 * k.anchors + j) x (λ j h e. omega arith) b t;
     stage = λ b. stage_in (told_else k.anchors (λ j. j) ws (5 * k.anchors + j) x (λ j h e. omega arith) b t);
+    beside = λ b side. side_else (5 * k.anchors + j) x (λ c q. omega arith) b side t;
   }
 
   -- the link word
-  pub link_told : (j x : ℕ) → j < k.slots → length ws ≡ word_count k → slot_words k (set ws (5 * k.anchors + k.slots + j) x) ≡ record { owner = (slot_words k ws).owner; link = upd (slot_words k ws).link j x; start = (slot_words k ws).start; stage = (slot_words k ws).stage }
+  pub link_told : (j x : ℕ) → j < k.slots → length ws ≡ word_count k → slot_words k (set ws (5 * k.anchors + k.slots + j) x) ≡ record { owner = (slot_words k ws).owner; link = upd (slot_words k ws).link j x; start = (slot_words k ws).start; beside = (slot_words k ws).beside; stage = (slot_words k ws).stage }
   link_told j x lt wide = λ t. record {
     owner = λ b. told_else k.slots (λ j. 5 * k.anchors + j) ws (5 * k.anchors + k.slots + j) x (λ j h e. omega arith) b t;
     link = λ b. told_here k.slots (λ j. 5 * k.anchors + k.slots + j) ws j x lt (omega arith) (λ j ne e. ne (omega arith)) b t;
     start = λ b. told_else k.anchors (λ j. 4 * k.anchors + j) ws (5 * k.anchors + k.slots + j) x (λ j h e. omega arith) b t;
     stage = λ b. stage_in (told_else k.anchors (λ j. j) ws (5 * k.anchors + k.slots + j) x (λ j h e. omega arith) b t);
-  }
-
-  -- the Start word of an anchor
-  pub start_told : (a x : ℕ) → a < k.anchors → length ws ≡ word_count k → slot_words k (set ws (4 * k.anchors + a) x) ≡ record { owner = (slot_words k ws).owner; link = (slot_words k ws).link; start = upd (slot_words k ws).start a x; stage = (slot_words k ws).stage }
-  start_told a x lt wide = λ t. record {
-    owner = λ b. told_else k.slots (λ j. 5 * k.anchors + j) ws (4 * k.anchors + a) x (λ j h e. omega arith) b t;
-    link = λ b. told_else k.slots (λ j. 5 * k.anchors + k.slots + j) ws (4 * k.anchors + a) x (λ j h e. omega arith) b t;
-    start = λ b. told_here k.anchors (λ j. 4 * k.anchors + j) ws a x lt (omega arith) (λ j ne e. ne (omega arith)) b t;
-    stage = λ b. stage_in (told_else k.anchors (λ j. j) ws (4 * k.anchors + a) x (λ j h e. omega arith) b t);
+    beside = λ b side. side_else (5 * k.anchors + k.slots + j) x (λ c q. omega arith) b side t;
   }
 
 -- a word set to what it was

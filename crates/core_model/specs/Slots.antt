@@ -1,5 +1,5 @@
 -- What holds between any two steps of slots: each is at one place, and the words spell the chains and what is being given back.
-use Rattle.std.specs.Prelude.{◌≡◌, ◌≢◌, ◌⊎◌, ℕ, ◌+◌, ◌<◌, ◌≤◌, List, [], ◌++◌, length, slice_index, slice_index_or, Some, true, false, cond, ◌==◌, ltb, sum_by}
+use Rattle.std.specs.Prelude.{◌≡◌, ◌≢◌, ◌⊎◌, ℕ, ◌+◌, ◌<◌, ◌≤◌, List, [], ◌++◌, length, slice_index, slice_index_or, Some, None, true, false, cond, ◌==◌, ltb, sum_by}
 use mathlib.Core.Option.{some}
 use lib.ListN.{get_elem?}
 use Rattle.lock_word.specs.Words.{epoch_of, stage_of}
@@ -11,7 +11,8 @@ use Rattle.core_model.specs.declared.tab.Freer.{Freer}
 use Rattle.core_model.specs.declared.tab.Tab.{Tab}
 use Rattle.core_model.specs.declared.tab.Tab.TheVariants.{Reading, Writing, Freeing}
 use Rattle.core_model.specs.declared.view.Place.TheVariants.{Anchor, Beside, Owner, Link as LinkWord}
-use Rattle.core_model.specs.declared.moves.Side.TheVariants.{Start}
+use Rattle.core_model.specs.declared.moves.Side.{Side}
+use Rattle.core_model.specs.declared.moves.Side.TheVariants.{Key0, Key1, Offer, Start}
 use Rattle.core_model.specs.declared.view.View.{View}
 use Rattle.core_model.specs.declared.chain.Chain.{Chain}
 use Rattle.core_model.specs.Layout.{Setting, index}
@@ -20,12 +21,13 @@ use Rattle.core_model.specs.State.{State}
 use Rattle.core_model.specs.Tabs.{count}
 use Rattle.core_model.specs.TabsAfter.{piece_of}
 
--- what the words tell: the owner and the link of each slot, and the Start word and the stage of each anchor
+-- what the words tell: the owner and the link of each slot, and the Start word, the stage and the words beside each anchor
 pub record SlotWords : Type 0 where
   pub owner : ℕ → ℕ
   pub link : ℕ → ℕ
   pub start : ℕ → ℕ
   pub stage : ℕ → ℕ
+  pub beside : ℕ → Side → ℕ
 
 -- a word, 0 for a slot or an anchor that the table does not have
 abbrev pub told : ℕ → ℕ → ℕ → ℕ
@@ -37,6 +39,7 @@ slot_words k words = record {
   link = λ slot. told k.slots slot (slice_index words (index k (LinkWord slot)));
   start = λ a. told k.anchors a (slice_index words (index k (Beside Start a)));
   stage = λ a. stage_of (epoch_of (told k.anchors a (slice_index words (index k (Anchor a)))));
+  beside = λ a side. told k.anchors a (slice_index words (index k (Beside side a)));
 }
 
 -- 1 where a word is not 0
@@ -84,13 +87,22 @@ pub record ChainStands (stage start : ℕ) (links : ℕ → ℕ) (c : Chain) : T
   pub tails : c.tail ≡ cond (stage == 4) (named c.end) []
   pub gone : (stage ≡ 0) ⊎ (5 ≤ stage) → c ≡ no_chain
 
+-- What a writing tab stored beside its anchor stands there. Before it chooses a piece it stored key and offer.
+pub record WriterNames {X : Type 0} (names : Side → ℕ) (w : Writer X) : Type 0 where
+  pub key0 : (n : ℕ) → w.key0 ≡ Some n → names Key0 ≡ n
+  pub key1 : (n : ℕ) → w.key1 ≡ Some n → names Key1 ≡ n
+  pub offer : (n : ℕ) → w.offer ≡ Some n → names Offer ≡ n
+  pub start : (n : ℕ) → w.start ≡ Some n → names Start ≡ n
+  pub named : (w.chosen ≢ None) ⊎ (w.published ≢ []) → (w.key0 ≢ None) × (w.key1 ≢ None) × (w.offer ≢ None)
+
 -- A writing tab reserves at most two slots, the linked one first, and the chain of its anchor is what it published. Until it gives
 -- a slot back, the piece that it chose is the one for its first reserved slot.
-pub record WriterHolds {X : Type 0} (c : Chain) (w : Writer X) : Type 0 where
+pub record WriterHolds {X : Type 0} (names : Side → ℕ) (c : Chain) (w : Writer X) : Type 0 where
   pub few : length w.reserved ≤ 2
   pub tied : Tied w.end w.published w.reserved
   pub chain : c ≡ record { slots = w.published; end = w.end; tail = [] }
   pub chosen : (p : Piece) → w.is_ending ≡ false → w.chosen ≡ Some p → p ≡ piece_of w
+  pub names_are : WriterNames names w
 
 abbrev pub writes_at : {X : Type 0} → ℕ → Tab X → ℕ
 writes_at a (Writing w) = cond (w.anchor == a) 1 0
@@ -120,7 +132,7 @@ pub record ReaderHolds {X : Type 0} (c : Chain) (r : Reader X) : Type 0 where
 
 abbrev pub TabHolds : {X : Type 0} → SlotWords → List Chain → View X → Tab X → Type 0
 TabHolds words chains v (Reading r) = ReaderHolds (slice_index_or chains r.anchor no_chain) r
-TabHolds words chains v (Writing w) = WriterHolds (slice_index_or chains w.anchor no_chain) w
+TabHolds words chains v (Writing w) = WriterHolds (words.beside w.anchor) (slice_index_or chains w.anchor no_chain) w
 TabHolds words chains v (Freeing f) = FreerHolds (words.stage f.anchor) (words.start f.anchor) words.link v f
 TabHolds words chains v _ = Unit {0}
 
