@@ -35,3 +35,5 @@ pub mod BesideKinds
 pub mod OwnsKept
 pub mod FollowsKept
 pub mod SlotsPublished
+pub mod SightsKept
+pub mod PublishesKept
