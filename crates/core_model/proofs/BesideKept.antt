@@ -6,6 +6,7 @@ use native.Mathlib.Decide.{ℕ_discrete}
 use lib.ListN.{get_elem?}
 use Rattle.lock_word.specs.Words.{readers_of, epoch_of, version_of, stage_of, is_left_over, IsWord, version_limit}
 use Rattle.core_model.specs.declared.moves.Side.{Side}
+use Rattle.core_model.specs.declared.moves.Side.TheVariants.{Start}
 use Rattle.core_model.specs.declared.tab.Tab.{Tab}
 use Rattle.core_model.specs.declared.tab.Tab.TheVariants.{Free, Retreating, Reading, Writing, Last, Freeing}
 use Rattle.core_model.specs.declared.view.Kind.{Kind}
@@ -74,6 +75,7 @@ besides k s i w place x chains = record { words = set s.words (index k place) x;
 -- what is seen anew is of the version that stands, and so
 pub record SightsOwe {X : Type 0} (k : Setting X) (s s' : State X) (v : View X) (sights : List Sight) : Type 0 where
   pub no_epoch : NoEpoch sights
+  pub no_start : (b version value : ℕ) → Contains sights (Named b version Start value) → ⊥
   pub inside : (y : Sight) → Contains sights y → sight_anchor y < k.anchors
   pub stands : (y : Sight) → Contains sights y → version_of (epoch_of (word s (sight_anchor y))) ≡ sight_version y
   pub known : (y : Sight) → Contains sights y → sight_version y ≤ version_of (seen_at (sight_anchor y) v.seen)
@@ -209,6 +211,8 @@ module _ {X : Type 0} (k : Setting X) (s : State X) (i : ℕ) (v : View X) (so :
     epochs = all_views (λ j u. (b : ℕ) → b < k.anchors → seen_at b u.seen ≤ epoch_of (word s b)) (λ j u. (b : ℕ) → b < k.anchors → seen_at b u.seen ≤ epoch_of (word s' b))
         (λ j u _ h b lt. subst (λ (z : ℕ). seen_at b u.seen ≤ epoch_of z) (same_word b lt) (h b lt))
         (λ b lt. let e = seen_w b in let z = so.seen.epochs i v at b lt in subst (λ (z : ℕ). seen_at b w.seen ≤ epoch_of z) (same_word b lt) (omega arith)) so.seen.epochs;
+    no_start = λ j u uat b version value h. ⊎_elim (λ (q : Contains sights (Named b version Start value)). o.sees.no_start b version value q)
+        (λ (q : (u' : View X) × (get_elem? s.views j ≡ some u') × Contains u'.seen (Named b version Start value)). so.seen.no_start j q.0 q.1 b version value q.2) (had j u uat (Named b version Start value) h);
     inside = λ j u uat y h. ⊎_elim (λ (q : Contains sights y). o.sees.inside y q) (λ (q : (u' : View X) × (get_elem? s.views j ≡ some u') × Contains u'.seen y). so.seen.inside j q.0 q.1 y q.2) (had j u uat y h);
     known = all_views (λ j u. (y : Sight) → Contains u.seen y → sight_version y ≤ version_of (seen_at (sight_anchor y) u.seen)) (λ j u. (y : Sight) → Contains u.seen y → sight_version y ≤ version_of (seen_at (sight_anchor y) u.seen))
         (λ j u _ h. h)

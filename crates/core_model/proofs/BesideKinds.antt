@@ -96,6 +96,7 @@ module _ {X : Type 0} (k : Setting X) (s : State X) (i : ℕ) (v : View X) (so :
   pub sees_nothing : (s' : State X) → SightsOwe k s s' v []
   sees_nothing s' = record {
     no_epoch = tt;
+    no_start = λ b u value c. absurd (contains_none _ c);
     inside = λ y c. absurd (contains_none y c);
     stands = λ y c. absurd (contains_none y c);
     known = λ y c. absurd (contains_none y c);
@@ -110,6 +111,34 @@ module _ {X : Type 0} (k : Setting X) (s : State X) (i : ℕ) (v : View X) (so :
   side_low Key1 b lt = omega arith
   side_low Offer b lt = omega arith
   side_low Start b lt = omega arith
+
+  -- a step on a word beside an anchor, or of a slot
+  pub at_side : (item : Item) → IsQuiet item.kind → (tabs : List (Tab X)) → TabsLiken k s v tabs → (sights : List Sight) (place : Place) (x : ℕ)
+      → k.anchors ≤ index k place → index k place < turns_end k
+      → ((j : ℕ) (u : View X) → get_elem? s.views j ≡ some u → (b version : ℕ) (side : Side) (value : ℕ) → Contains u.seen (Named b version side value) → version_of (epoch_of (word s b)) ≡ version
+      → get_or (set s.words (index k place) x) (index k (Beside side b)) 0 ≡ get_or s.words (index k (Beside side b)) 0)
+      → SightsOwe k s (besides k s i (beside v tabs sights item place x) place x s.chains) v sights
+      → AnchorsSound k (besides k s i (beside v tabs sights item place x) place x s.chains)
+  at_side item q tabs l sights place x low high sides sees = at_beside k s i v so at tabs sights item place x s.chains record {
+    is_pass = pass;
+    length_same = l.length_same;
+    low = low;
+    high = high;
+    quiet = q.quiet;
+    no_draw = q.no_draw;
+    no_count = q.no_count;
+    no_look = q.no_look;
+    not_drew = q.not_drew;
+    readers = l.readers;
+    writers = l.writers;
+    freers = l.freers;
+    stand = l.stand;
+    lasts = l.lasts;
+    chain_count = refl;
+    longer = λ b. omega arith;
+    sides = sides;
+    sees = sees;
+  }
 
   -- a step on a word of a slot
   pub at_slot : (item : Item) → IsQuiet item.kind → (tabs : List (Tab X)) → TabsLiken k s v tabs → (sights : List Sight) (place : Place) (x : ℕ) (chains : List Chain)

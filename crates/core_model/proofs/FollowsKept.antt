@@ -18,6 +18,7 @@ use Rattle.core_model.specs.declared.moves.Move.TheVariants.{GetLink}
 use Rattle.core_model.specs.declared.view.Sight.{Sight}
 use Rattle.core_model.specs.declared.view.Sight.TheVariants.{Named, Published}
 use Rattle.core_model.specs.declared.moves.Side.{Side}
+use Rattle.core_model.specs.declared.moves.Side.TheVariants.{Start}
 use Rattle.core_model.specs.declared.view.Place.TheVariants.{Link as LinkWord}
 use Rattle.core_model.specs.declared.view.View.{View}
 use Rattle.core_model.specs.declared.chain.Chain.{Chain}
@@ -171,6 +172,7 @@ module _ {X : Type 0} (k : Setting X) (s : State X) (i : ℕ) (v : View X) (so :
   sees_more r was f true e v' = sees_nothing k s i v so at pass _
   sees_more r was f false e v' = let st = so.tabs i v at t (Reading r) was in record {
     no_epoch = tt;
+    no_start = λ b u value c. absurd (not_named b u Start value (is_it _ c));
     inside = λ y c. subst (λ (z : Sight). sight_anchor z < k.anchors) (is_it y c) st.0;
     stands = λ y c. subst (λ (z : Sight). version_of (epoch_of (word s (sight_anchor z))) ≡ sight_version z) (is_it y c) st.1.version_is;
     known = λ y c. subst (λ (z : Sight). sight_version z ≤ version_of (seen_at (sight_anchor z) v.seen)) (is_it y c) st.2;

@@ -120,6 +120,7 @@ module _ {X : Type 0} (k : Setting X) where
       lasts = λ a lt over. absurd (not_over a lt over);
       seen = record {
         epochs = each (λ u. (a : ℕ) → a < k.anchors → seen_at a u.seen ≤ epoch_of (word s a)) (λ p a lt. let x = seen_below k.anchors a lt in let e = same_word a in rw (x, e) (omega arith));
+        no_start = λ i v e b version value h. absurd (no_others (Named b version Rattle.core_model.specs.declared.moves.Side.TheVariants.Start value) (λ c y q. cc) (subst (λ (w : View X). Contains w.seen (Named b version Rattle.core_model.specs.declared.moves.Side.TheVariants.Start value)) (at_new i v e).0 h));
         inside = each (λ u. (x : Sight) → Contains u.seen x → sight_anchor x < k.anchors) (λ p x h. let q = sight_is k.anchors x h in subst (λ (z : Sight). sight_anchor z < k.anchors) (sym q.2) q.1);
         known = each (λ u. (x : Sight) → Contains u.seen x → sight_version x ≤ version_of (seen_at (sight_anchor x) u.seen))
             (λ p x h. let q = sight_is k.anchors x h in subst (λ (z : Sight). sight_version z ≤ version_of (seen_at (sight_anchor z) (sights_below k k.anchors))) (sym q.2) (let y = seen_below k.anchors q.0 q.1 in rw y (omega arith)));

@@ -5,6 +5,7 @@ use lib.ListN.{get_elem?}
 use Rattle.std.specs.Prelude.{unwrap_or}
 use Rattle.lock_word.specs.Words.{epoch_of, version_of}
 use Rattle.core_model.specs.declared.moves.Side.{Side}
+use Rattle.core_model.specs.declared.moves.Side.TheVariants.{Key0, Key1, Offer, Start}
 use Rattle.core_model.specs.declared.view.Sight.{Sight}
 use Rattle.core_model.specs.declared.view.Sight.TheVariants.{Stood, Named, Published}
 use Rattle.core_model.specs.declared.view.Place.TheVariants.{Beside}
@@ -38,8 +39,16 @@ module _ {X : Type 0} (k : Setting X) (s s' : State X) (v : View X) where
   -- what it tells is so
   abbrev pub IsSo : Sight → Type 0
   IsSo (Stood a e) = ⊥
+  IsSo (Named a version Start value) = ⊥
   IsSo (Named a version side value) = (get_or s'.words (index k (Beside side a)) 0 ≡ value) × HasSlot s' a × (get_or s'.words (index k (Beside side a)) 0 ≡ get_or s.words (index k (Beside side a)) 0)
   IsSo (Published a version many) = many ≤ length (chain_of s' a).slots
+
+  so_named : (a version : ℕ) (side : Side) (value : ℕ) → IsSo (Named a version side value)
+      → (get_or s'.words (index k (Beside side a)) 0 ≡ value) × HasSlot s' a × (get_or s'.words (index k (Beside side a)) 0 ≡ get_or s.words (index k (Beside side a)) 0)
+  so_named a version Key0 value h = h
+  so_named a version Key1 value h = h
+  so_named a version Offer value h = h
+  so_named a version Start value h = absurd h
 
   pub no_epochs : (ys : List Sight) → Each IsSo ys → NoEpoch ys
   no_epochs [] h = tt
@@ -50,12 +59,13 @@ module _ {X : Type 0} (k : Setting X) (s s' : State X) (v : View X) where
   pub sees_so : AnchorsSound k s → (ys : List Sight) → Each OfNow ys → Each IsSo ys → SightsOwe k s s' v ys
   sees_so so ys now is = record {
     no_epoch = no_epochs ys is;
+    no_start = λ b version value c. each_is IsSo ys is (Named b version Start value) c;
     inside = λ y c. (each_is OfNow ys now y c).0;
     stands = λ y c. (each_is OfNow ys now y c).1;
     known = λ y c. (each_is OfNow ys now y c).2;
-    named = λ b version side value c. let q = each_is IsSo ys is (Named b version side value) c in (q.0, q.1);
+    named = λ b version side value c. let q = so_named b version side value (each_is IsSo ys is (Named b version side value) c) in (q.0, q.1);
     published = λ b version many c. each_is IsSo ys is (Published b version many) c;
-    agree = λ j u ut b version side y z c d. let q = each_is IsSo ys is (Named b version side y) c in let r = (each_is OfNow ys now (Named b version side y) c).1 in
+    agree = λ j u ut b version side y z c d. let q = so_named b version side y (each_is IsSo ys is (Named b version side y) c) in let r = (each_is OfNow ys now (Named b version side y) c).1 in
         sym q.0 ∙ q.2 ∙ (so.seen.named j u ut b version side z d r).0;
-    agree_new = λ b version side y z c d. sym (each_is IsSo ys is (Named b version side y) c).0 ∙ (each_is IsSo ys is (Named b version side z) d).0;
+    agree_new = λ b version side y z c d. sym (so_named b version side y (each_is IsSo ys is (Named b version side y) c)).0 ∙ (so_named b version side z (each_is IsSo ys is (Named b version side z) d)).0;
   }
