@@ -37,3 +37,5 @@ pub mod FollowsKept
 pub mod SlotsPublished
 pub mod SightsKept
 pub mod PublishesKept
+pub mod SlotsStored
+pub mod SidesKept

@@ -37,7 +37,7 @@ stage_in n = stage_of (epoch_of n)
 
 module _ {X : Type 0} (k : Setting X) (ws : List ℕ) where
   -- where the words beside the anchors stand
-  side_in : (side : Side) (b : ℕ) → b < k.anchors → (k.anchors ≤ index k (Beside side b)) × (index k (Beside side b) < 5 * k.anchors)
+  pub side_in : (side : Side) (b : ℕ) → b < k.anchors → (k.anchors ≤ index k (Beside side b)) × (index k (Beside side b) < 5 * k.anchors)
   side_in Key0 b lt = (omega arith, omega arith)
   side_in Key1 b lt = (omega arith, omega arith)
   side_in Offer b lt = (omega arith, omega arith)
@@ -112,6 +112,65 @@ module _ {X : Type 0} (k : Setting X) (ws : List ℕ) where
     stage = λ b. stage_in (told_else k.anchors (λ j. j) ws (5 * k.anchors + k.slots + j) x (λ j h e. omega arith) b t);
     beside = λ b side. side_else (5 * k.anchors + k.slots + j) x (λ c q. omega arith) b side t;
   }
+
+  -- a word beside an anchor is set: nothing else changes
+  pub stored_told : (side : Side) (a x : ℕ) → a < k.anchors → slot_words k (set ws (index k (Beside side a)) x)
+      ≡ record { owner = (slot_words k ws).owner; link = (slot_words k ws).link; start = (slot_words k (set ws (index k (Beside side a)) x)).start; stage = (slot_words k ws).stage; beside = (slot_words k (set ws (index k (Beside side a)) x)).beside }
+  stored_told side a x lt = let q = side_in side a lt in λ t. record {
+    owner = λ b. told_else k.slots (λ j. 5 * k.anchors + j) ws (index k (Beside side a)) x (λ j h e. omega arith) b t;
+    link = λ b. told_else k.slots (λ j. 5 * k.anchors + k.slots + j) ws (index k (Beside side a)) x (λ j h e. omega arith) b t;
+    start = (slot_words k (set ws (index k (Beside side a)) x)).start;
+    stage = λ b. stage_in (told_else k.anchors (λ j. j) ws (index k (Beside side a)) x (λ j h e. omega arith) b t);
+    beside = (slot_words k (set ws (index k (Beside side a)) x)).beside;
+  }
+
+  -- it is told as it was set
+  pub stored_here : (side : Side) (a x : ℕ) → a < k.anchors → length ws ≡ word_count k → (slot_words k (set ws (index k (Beside side a)) x)).beside a side ≡ x
+  stored_here side a x lt wide = let q = side_in side a lt in told_in k.anchors a _ lt ∙ get_or-set_same ws (index k (Beside side a)) x 0 (omega arith)
+
+  -- and no other one
+  pub stored_else : (side : Side) (a x : ℕ) (other : Side) (b : ℕ) → a < k.anchors → ((b < k.anchors) → index k (Beside other b) ≢ index k (Beside side a)) → (slot_words k (set ws (index k (Beside side a)) x)).beside b other ≡ (slot_words k ws).beside b other
+  stored_else side a x other b lt apart = dite (ℕ_discrete (k.anchors - b) 0)
+      (λ e. told_out k.anchors b _ (omega arith) ∙ sym (told_out k.anchors b _ (omega arith)))
+      (λ ne. ap (told k.anchors b) (get_or-set_other ws (index k (Beside side a)) (index k (Beside other b)) x 0 (apart (omega arith))))
+
+  -- words beside different anchors
+  pub sides_apart : (side other : Side) (a b : ℕ) → a < k.anchors → b ≢ a → b < k.anchors → index k (Beside other b) ≢ index k (Beside side a)
+  sides_apart Key0 Key0 a b la ne lb e = ne (omega arith)
+  sides_apart Key0 Key1 a b la ne lb e = omega arith
+  sides_apart Key0 Offer a b la ne lb e = omega arith
+  sides_apart Key0 Start a b la ne lb e = omega arith
+  sides_apart Key1 Key0 a b la ne lb e = omega arith
+  sides_apart Key1 Key1 a b la ne lb e = ne (omega arith)
+  sides_apart Key1 Offer a b la ne lb e = omega arith
+  sides_apart Key1 Start a b la ne lb e = omega arith
+  sides_apart Offer Key0 a b la ne lb e = omega arith
+  sides_apart Offer Key1 a b la ne lb e = omega arith
+  sides_apart Offer Offer a b la ne lb e = ne (omega arith)
+  sides_apart Offer Start a b la ne lb e = omega arith
+  sides_apart Start Key0 a b la ne lb e = omega arith
+  sides_apart Start Key1 a b la ne lb e = omega arith
+  sides_apart Start Offer a b la ne lb e = omega arith
+  sides_apart Start Start a b la ne lb e = ne (omega arith)
+
+  -- and different words beside one
+  pub sides_differ : (side other : Side) (a : ℕ) → a < k.anchors → (other ≡ side → ⊥) → index k (Beside other a) ≢ index k (Beside side a)
+  sides_differ Key0 Key0 a la ne e = ne refl
+  sides_differ Key0 Key1 a la ne e = omega arith
+  sides_differ Key0 Offer a la ne e = omega arith
+  sides_differ Key0 Start a la ne e = omega arith
+  sides_differ Key1 Key0 a la ne e = omega arith
+  sides_differ Key1 Key1 a la ne e = ne refl
+  sides_differ Key1 Offer a la ne e = omega arith
+  sides_differ Key1 Start a la ne e = omega arith
+  sides_differ Offer Key0 a la ne e = omega arith
+  sides_differ Offer Key1 a la ne e = omega arith
+  sides_differ Offer Offer a la ne e = ne refl
+  sides_differ Offer Start a la ne e = omega arith
+  sides_differ Start Key0 a la ne e = omega arith
+  sides_differ Start Key1 a la ne e = omega arith
+  sides_differ Start Offer a la ne e = omega arith
+  sides_differ Start Start a la ne e = ne refl
 
 -- a word set to what it was
 pub set_again : (ws : List ℕ) (p : ℕ) → set ws p (get_or ws p 0) ≡ ws

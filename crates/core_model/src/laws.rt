@@ -12,7 +12,7 @@ ghost use Rattle.rebuild_model.specs.declared.rebuilt.Rebuilt.{Rebuilt};
 ghost use Rattle.core_model.specs.Layout.{Setting};
 ghost use Rattle.lock_word.specs.Words.{epoch_of, stage_of, is_written};
 ghost use Rattle.core_model.specs.State.{State, word};
-ghost use Rattle.core_model.specs.Allowed.{MayStep};
+ghost use Rattle.core_model.specs.Allowed.{IsLawful, MayStep};
 ghost use Rattle.core_model.specs.Steps.{number_found, after};
 ghost use Rattle.core_model.specs.Known.{Known};
 ghost use Rattle.core_model.specs.Matching.{IsTab, MatchesWriter, HasWriter, HasFreer};
@@ -27,10 +27,13 @@ pub fn steps_keep_sound<X>()
         → AnchorsSound k s → get_elem? s.views i ≡ some v → MayStep k s v m → AnchorsSound k (after k s i v m) }
 {}
 
-/// It leaves each slot at one place, and the words spell the chains and what is being given back.
+/// A step of which a law speaks leaves each slot at one place, and words that spell the chains and what
+/// is being given back, and what is sound of the anchors.
 pub fn steps_keep_slots<X>()
-    ensures { (k : Setting X) (s : State X) (i : ℕ) (v : View X) (m : Move)
-        → AnchorsSound k s → SlotsSound k s → get_elem? s.views i ≡ some v → MayStep k s v m → SlotsSound k (after k s i v m) }
+    ensures anchors { (k : Setting X) (s : State X) (i : ℕ) (v : View X) (m : Move)
+        → AnchorsSound k s → SlotsSound k s → get_elem? s.views i ≡ some v → IsLawful k s v m → AnchorsSound k (after k s i v m) }
+    ensures slots { (k : Setting X) (s : State X) (i : ℕ) (v : View X) (m : Move)
+        → AnchorsSound k s → SlotsSound k s → get_elem? s.views i ≡ some v → IsLawful k s v m → SlotsSound k (after k s i v m) }
 {}
 
 /// A store that was just opened is sound.
