@@ -39,3 +39,4 @@ pub mod SightsKept
 pub mod PublishesKept
 pub mod SlotsStored
 pub mod SidesKept
+pub mod SlotsOpened

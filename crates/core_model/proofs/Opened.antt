@@ -67,7 +67,7 @@ module _ {X : Type 0} (k : Setting X) where
     same_word : (a : ℕ) → word s a ≡ get_or k.words a 0
     same_word a = ap (λ (ws : List ℕ). get_or ws a 0) o.words
 
-    no_sum : (f : View X → ℕ) → ((p : ℕ) → f (new_view k p) ≡ 0) → sum_by f s.views ≡ 0
+    pub no_sum : (f : View X → ℕ) → ((p : ℕ) → f (new_view k p) ≡ 0) → sum_by f s.views ≡ 0
     no_sum f h = ap (sum_by f) o.views ∙ new_sum f h k.passes 0
 
     stage_low : (a : ℕ) → a < k.anchors → (stage_of (epoch_of (word s a)) ≡ 0) ⊎ (stage_of (epoch_of (word s a)) ≡ 3)
@@ -90,7 +90,7 @@ module _ {X : Type 0} (k : Setting X) where
     no_others : (x : Sight) → ((b e : ℕ) → x ≡ Stood b e → ⊥) → Contains (sights_below k k.anchors) x → ⊥
     no_others x h g = let q = sight_is k.anchors x g in h q.0 (opening_epoch k q.0) q.2
 
-    free_tab : (t : ℕ) (tab : Tab X) → get_elem? (replicate 9 Free) t ≡ some tab → tab ≡ Free
+    pub free_tab : (t : ℕ) (tab : Tab X) → get_elem? (replicate 9 Free) t ≡ some tab → tab ≡ Free
     free_tab t tab e = all_free 9 t tab e
       where
         all_free : (n t : ℕ) (tab : Tab X) → get_elem? (replicate n Free) t ≡ some tab → tab ≡ Free

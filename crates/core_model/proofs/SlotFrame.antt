@@ -31,7 +31,7 @@ pub record Puts (cs ds : List Chain) (a : ℕ) (c d : Chain) : Type 0 where
   pub same : get_or ds a no_chain ≡ d
   pub other : (b : ℕ) → b ≢ a → get_or ds b no_chain ≡ get_or cs b no_chain
 
-published_few : (j : ℕ) (cs : List Chain) (a : ℕ) → published_in j (get_or cs a no_chain) ≤ sum_by (published_in j) cs
+pub published_few : (j : ℕ) (cs : List Chain) (a : ℕ) → published_in j (get_or cs a no_chain) ≤ sum_by (published_in j) cs
 published_few j [] a = omega arith
 published_few j (c ∷ cs) zero = let h = sum_by-cons (published_in j) c cs in omega arith
 published_few j (c ∷ cs) (suc a) = let h = sum_by-cons (published_in j) c cs in let r = published_few j cs a in omega arith

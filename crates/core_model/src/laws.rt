@@ -1,6 +1,6 @@
 //! The laws of the core. These functions do nothing: the proof of a function that calls one may use
 //! what it ensures.
-ghost use Rattle.std.specs.Prelude.{◌≡◌, ℕ, ◌<◌, true};
+ghost use Rattle.std.specs.Prelude.{◌≡◌, ℕ, ◌<◌, List, length, true};
 ghost use mathlib.Core.Option.{some};
 ghost use lib.ListN.{get_elem?};
 ghost use Rattle.core_model.specs.declared.moves.Move.{Move};
@@ -9,6 +9,7 @@ ghost use Rattle.core_model.specs.declared.tab.Freer.{Freer};
 ghost use Rattle.core_model.specs.declared.tab.Tab.{Tab};
 ghost use Rattle.core_model.specs.declared.view.View.{View};
 ghost use Rattle.rebuild_model.specs.declared.rebuilt.Rebuilt.{Rebuilt};
+ghost use Rattle.rebuild_model.specs.Rebuilt.{IsRebuilt};
 ghost use Rattle.core_model.specs.Layout.{Setting};
 ghost use Rattle.lock_word.specs.Words.{epoch_of, stage_of, is_written};
 ghost use Rattle.core_model.specs.State.{State, word};
@@ -40,6 +41,13 @@ pub fn steps_keep_slots<X>()
 pub fn openings_are_sound<X>()
     ensures { (k : Setting X) (r : Rebuilt) (s : State X)
         → IsSetting k → IsOpened k r s → AnchorsSound k s }
+{}
+
+/// In a store that was just opened with what a rebuild kept each slot is at one place, and the words
+/// spell the chains.
+pub fn openings_place_slots<X>()
+    ensures { (k : Setting X) (r : Rebuilt) (s : State X) (slot : ℕ) (images : List (List ℕ))
+        → IsSetting k → IsOpened k r s → IsRebuilt slot images k.anchors r → length images ≡ k.slots → SlotsSound k s }
 {}
 
 /// What a sound state tells the pass that makes a step of the number that it finds.
