@@ -40,3 +40,4 @@ pub mod PublishesKept
 pub mod SlotsStored
 pub mod SidesKept
 pub mod SlotsOpened
+pub mod OneSpot

@@ -1,6 +1,6 @@
 //! The laws of the core. These functions do nothing: the proof of a function that calls one may use
 //! what it ensures.
-ghost use Rattle.std.specs.Prelude.{◌≡◌, ℕ, ◌<◌, List, length, true};
+ghost use Rattle.std.specs.Prelude.{◌≡◌, ℕ, ◌<◌, List, length, slice_index, true};
 ghost use mathlib.Core.Option.{some};
 ghost use lib.ListN.{get_elem?};
 ghost use Rattle.core_model.specs.declared.moves.Move.{Move};
@@ -10,7 +10,9 @@ ghost use Rattle.core_model.specs.declared.tab.Tab.{Tab};
 ghost use Rattle.core_model.specs.declared.view.View.{View};
 ghost use Rattle.rebuild_model.specs.declared.rebuilt.Rebuilt.{Rebuilt};
 ghost use Rattle.rebuild_model.specs.Rebuilt.{IsRebuilt};
-ghost use Rattle.core_model.specs.Layout.{Setting};
+ghost use Rattle.core_model.specs.declared.spot.Spot.{Spot};
+ghost use Rattle.core_model.specs.declared.view.Place.{Place};
+ghost use Rattle.core_model.specs.Layout.{Setting, index};
 ghost use Rattle.lock_word.specs.Words.{epoch_of, stage_of, is_written};
 ghost use Rattle.core_model.specs.State.{State, word};
 ghost use Rattle.core_model.specs.Allowed.{IsLawful, MayStep};
@@ -20,6 +22,7 @@ ghost use Rattle.core_model.specs.Matching.{IsTab, MatchesWriter, HasWriter, Has
 ghost use Rattle.core_model.specs.Anchors.{IsSetting};
 ghost use Rattle.core_model.specs.Opening.{IsOpened};
 ghost use Rattle.core_model.specs.Slots.{SlotsSound};
+ghost use Rattle.core_model.specs.Spots.{HasOneSpot, IsIn, IsUnwritten};
 ghost use Rattle.core_model.specs.Sound.{AnchorsSound};
 
 /// A step that is allowed in a sound state leaves a sound state.
@@ -41,6 +44,16 @@ pub fn steps_keep_slots<X>()
 pub fn openings_are_sound<X>()
     ensures { (k : Setting X) (r : Rebuilt) (s : State X)
         → IsSetting k → IsOpened k r s → AnchorsSound k s }
+{}
+
+/// Each slot is at exactly one spot, and its link word is 0 but where it is published or is still in a
+/// chain that is given back.
+pub fn slots_have_one_spot<X>()
+    ensures one { (k : Setting X) (s : State X) (slot : ℕ)
+        → AnchorsSound k s → SlotsSound k s → slot < k.slots → HasOneSpot k s slot }
+    ensures unwritten { (k : Setting X) (s : State X) (slot : ℕ) (spot : Spot)
+        → AnchorsSound k s → SlotsSound k s → slot < k.slots → IsUnwritten spot → IsIn k s slot spot
+        → slice_index s.words (index k (Place.Link slot)) ≡ 0 }
 {}
 
 /// In a store that was just opened with what a rebuild kept each slot is at one place, and the words
