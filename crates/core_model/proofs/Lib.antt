@@ -41,3 +41,4 @@ pub mod SlotsStored
 pub mod SidesKept
 pub mod SlotsOpened
 pub mod OneSpot
+pub mod Rests

@@ -1,5 +1,6 @@
 -- Where a slot is: it is at exactly one of these.
-use Rattle.std.specs.Prelude.{◌≡◌, ℕ, ◌<◌, ◌++◌, slice_index, Contains}
+use Rattle.std.specs.Prelude.{◌≡◌, ℕ, ◌<◌, [], ◌++◌, slice_index, Contains}
+use Rattle.lock_word.specs.Words.{epoch_of, stage_of}
 use Rattle.core_model.specs.declared.spot.Spot.{Spot}
 use Rattle.core_model.specs.declared.spot.Spot.TheVariants.{Free, Reserved, Chained, Resting, Loose}
 use Rattle.core_model.specs.declared.tab.Writer.{Writer}
@@ -7,7 +8,7 @@ use Rattle.core_model.specs.declared.tab.Freer.{Freer}
 use Rattle.core_model.specs.declared.tab.Tab.{Tab}
 use Rattle.core_model.specs.declared.view.Place.TheVariants.{Owner}
 use Rattle.core_model.specs.Layout.{Setting, index}
-use Rattle.core_model.specs.State.{State, chain_of}
+use Rattle.core_model.specs.State.{State, word, chain_of}
 use Rattle.core_model.specs.Matching.{IsTab}
 
 -- a slot is free where its owner word is 0
@@ -29,3 +30,13 @@ IsUnwritten Free = Unit {0}
 IsUnwritten (Reserved i t) = Unit {0}
 IsUnwritten (Loose i t) = Unit {0}
 IsUnwritten _ = ⊥
+
+-- An entry is replaced: a tab of the same pass writes at its anchor, which is at TAKEN, and has no slot there yet.
+pub record IsReplaced {X : Type 0} (s : State X) (i a : ℕ) : Type 0 where
+  pub t : ℕ
+  pub writer : Writer X
+  pub tab : IsTab s i t (Tab.Writing writer)
+  pub anchor_is : writer.anchor ≡ a
+  pub stage_is : stage_of (epoch_of (word s a)) ≡ 1
+  pub reserved : writer.reserved ≡ []
+  pub published : writer.published ≡ []

@@ -1,6 +1,6 @@
 //! The laws of the core. These functions do nothing: the proof of a function that calls one may use
 //! what it ensures.
-ghost use Rattle.std.specs.Prelude.{◌≡◌, ℕ, ◌<◌, List, length, slice_index, true};
+ghost use Rattle.std.specs.Prelude.{◌≡◌, ℕ, ◌<◌, List, length, slice_index, true, false};
 ghost use mathlib.Core.Option.{some};
 ghost use lib.ListN.{get_elem?};
 ghost use Rattle.core_model.specs.declared.moves.Move.{Move};
@@ -22,7 +22,7 @@ ghost use Rattle.core_model.specs.Matching.{IsTab, MatchesWriter, HasWriter, Has
 ghost use Rattle.core_model.specs.Anchors.{IsSetting};
 ghost use Rattle.core_model.specs.Opening.{IsOpened};
 ghost use Rattle.core_model.specs.Slots.{SlotsSound};
-ghost use Rattle.core_model.specs.Spots.{HasOneSpot, IsIn, IsUnwritten};
+ghost use Rattle.core_model.specs.Spots.{HasOneSpot, IsIn, IsReplaced, IsUnwritten};
 ghost use Rattle.core_model.specs.Sound.{AnchorsSound};
 
 /// A step that is allowed in a sound state leaves a sound state.
@@ -54,6 +54,16 @@ pub fn slots_have_one_spot<X>()
     ensures unwritten { (k : Setting X) (s : State X) (slot : ℕ) (spot : Spot)
         → AnchorsSound k s → SlotsSound k s → slot < k.slots → IsUnwritten spot → IsIn k s slot spot
         → slice_index s.words (index k (Place.Link slot)) ≡ 0 }
+{}
+
+/// What is being given back of an anchor is at one inner tab. Where the anchor is not at FREEING, a tab of
+/// the same pass replaces the entry, and has no slot there yet.
+pub fn rests_have_one_tab<X>()
+    ensures one { (k : Setting X) (s : State X) (i j t u : ℕ) (f g : Freer)
+        → AnchorsSound k s → SlotsSound k s → IsTab s i t (Tab.Freeing f) → IsTab s j u (Tab.Freeing g) → f.anchor ≡ g.anchor
+        → (i ≡ j) × (t ≡ u) }
+    ensures replaced { (k : Setting X) (s : State X) (i t : ℕ) (f : Freer)
+        → AnchorsSound k s → SlotsSound k s → IsTab s i t (Tab.Freeing f) → f.is_freeing ≡ false → IsReplaced s i f.anchor }
 {}
 
 /// In a store that was just opened with what a rebuild kept each slot is at one place, and the words
