@@ -1,5 +1,5 @@
 -- A step on a word of a slot, or on one beside an anchor, leaves what is sound of the anchors.
-use Rattle.std.proofs.Common.{◌≡◌, ◌≢◌, ◌⊎◌, inl, inr, ⊎_elim, ℕ, suc, ◌+◌, ◌*◌, ◌<◌, ◌≤◌, List, [], ◌∷◌, ◌++◌, length, get_or, set, sym, refl, ap, ◌∙◌, subst, arith, sum_by, Bool, true, false, cond, ◌||◌, length-set, get_or-set_same, get_or-set_other, Contains, max}
+use Rattle.std.proofs.Common.{◌≡◌, ◌≢◌, ◌⊎◌, inl, inr, ⊎_elim, ℕ, suc, ◌*◌, ◌<◌, ◌≤◌, List, [], ◌∷◌, ◌++◌, length, get_or, set, sym, refl, ap, ◌∙◌, subst, arith, sum_by, true, false, cond, length-set, get_or-set_same, get_or-set_other, Contains}
 use mathlib.Core.Option.{some, some-injective}
 use mathlib.Core.Logic.{dite}
 use native.Mathlib.Decide.{ℕ_discrete}
@@ -9,7 +9,6 @@ use Rattle.core_model.specs.declared.moves.Side.{Side}
 use Rattle.core_model.specs.declared.moves.Side.TheVariants.{Start}
 use Rattle.core_model.specs.declared.tab.Tab.{Tab}
 use Rattle.core_model.specs.declared.tab.Tab.TheVariants.{Free, Retreating, Reading, Writing, Last, Freeing}
-use Rattle.core_model.specs.declared.view.Kind.{Kind}
 use Rattle.core_model.specs.declared.view.Kind.TheVariants.{Counted as Looks, Drew}
 use Rattle.core_model.specs.declared.view.Item.{Item}
 use Rattle.core_model.specs.declared.view.Sight.{Sight}
@@ -29,7 +28,7 @@ use Rattle.core_model.specs.Anchors.{written_at, freed_at, tabs_in, Shaped, TabS
 use Rattle.core_model.specs.Versions.{counter, HasSlot, SeenStands, draws_by, vain_by, drawn_by, VersionsDrawn, IsKnownAt, IsFresh, VersionsHeld}
 use Rattle.core_model.specs.Deeds.{mirrored, OneMirror, IsEpochAt, IsDone, EnteredBy, EnteredByAnother, LeftEpoch, DoomedVersion, HaltedVersion, EvictedVersion, DeedsExplain}
 use Rattle.core_model.specs.Sound.{AnchorsSound}
-use Rattle.core_model.proofs.Lists.{by_eq, at_set, at_length, sum_at, le_sum_at, two_le_sum, set_here, set_else, cons_contains, contains_none}
+use Rattle.core_model.proofs.Lists.{by_eq, at_set, at_length, sum_at, two_le_sum, set_here, set_else, cons_contains, contains_none}
 
 pub either_contains : {X : Type 0} → (x : X) (xs ys : List X) → Contains (xs ++ ys) x → Contains xs x ⊎ Contains ys x
 either_contains x [] ys h = inr h

@@ -1,21 +1,21 @@
 -- What the kinds of steps on slots owe to the anchors: a tab changes, and counts at its anchor as before.
-use Rattle.std.proofs.Common.{◌≡◌, ◌≢◌, ◌⊎◌, inl, inr, ⊎_elim, ℕ, suc, ◌+◌, ◌-◌, ◌*◌, ◌<◌, ◌≤◌, List, [], ◌∷◌, ◌++◌, length, get_or, set, sym, refl, ap, ◌∙◌, subst, arith, sum_by, Bool, true, false, cond, length-set, get_or-set_other, Contains}
+use Rattle.std.proofs.Common.{◌≡◌, ◌≢◌, ⊎_elim, ℕ, ◌*◌, ◌<◌, ◌≤◌, List, [], length, get_or, set, sym, refl, ◌∙◌, subst, arith, sum_by, false, length-set, get_or-set_other, Contains}
 use mathlib.Core.Option.{some, some-injective}
 use mathlib.Core.Logic.{dite}
 use native.Mathlib.Decide.{ℕ_discrete}
 use lib.ListN.{get_elem?}
-use Rattle.lock_word.specs.Words.{epoch_of, version_of, stage_of}
+use Rattle.lock_word.specs.Words.{epoch_of, version_of}
 use Rattle.core_model.specs.declared.moves.Side.{Side}
 use Rattle.core_model.specs.declared.moves.Side.TheVariants.{Key0, Key1, Offer, Start}
 use Rattle.core_model.specs.declared.tab.Tab.{Tab}
-use Rattle.core_model.specs.declared.tab.Tab.TheVariants.{Free, Retreating, Reading, Writing, Last, Freeing}
+use Rattle.core_model.specs.declared.tab.Tab.TheVariants.{Last}
 use Rattle.core_model.specs.declared.view.Kind.{Kind}
 use Rattle.core_model.specs.declared.view.Kind.TheVariants.{Counted as Looks, Drew, Loaded, Stored, Owned, Disowned, Linked, Followed}
 use Rattle.core_model.specs.declared.view.Item.{Item}
 use Rattle.core_model.specs.declared.view.Sight.{Sight}
-use Rattle.core_model.specs.declared.view.Sight.TheVariants.{Stood, Named, Published}
+use Rattle.core_model.specs.declared.view.Sight.TheVariants.{Named}
 use Rattle.core_model.specs.declared.view.Place.{Place}
-use Rattle.core_model.specs.declared.view.Place.TheVariants.{Beside, Owner, Link as LinkWord}
+use Rattle.core_model.specs.declared.view.Place.TheVariants.{Beside}
 use Rattle.core_model.specs.declared.view.View.{View}
 use Rattle.core_model.specs.declared.chain.Chain.{Chain}
 use Rattle.core_model.specs.Layout.{Setting, index, turns_end}
@@ -27,7 +27,7 @@ use Rattle.core_model.specs.Allowed.{IsPass}
 use Rattle.core_model.specs.Anchors.{TabStands}
 use Rattle.core_model.specs.Sound.{AnchorsSound}
 use Rattle.core_model.proofs.Lists.{at_set, sum_at, set_else, contains_none}
-use Rattle.core_model.proofs.BesideKept.{beside, besides, SightsOwe, OwesBeside, at_beside}
+use Rattle.core_model.proofs.BesideKept.{beside, besides, SightsOwe, at_beside}
 
 -- a kind of steps that tells no word of an anchor, and nothing of the counter
 pub record IsQuiet (kind : Kind) : Type 0 where

@@ -1,6 +1,6 @@
 -- To look at the link of the next slot keeps a state sound, and it tells how far the chain goes.
-use Rattle.std.proofs.Common.{◌≡◌, ◌≢◌, ◌⊎◌, inl, inr, ⊎_elim, ℕ, zero, suc, ◌+◌, ◌-◌, ◌*◌, ◌<◌, ◌≤◌, List, [], ◌∷◌, ◌++◌, drop, length, get_or, set, sym, refl, ap, ◌∙◌, subst, arith, sum_by, Bool, true, false, cond, ◌==◌, eqb, eq-eqb, ne_eqb, Some, Contains}
-use Rattle.std.proofs.lemmas.Bool.{eqb-true, false≢true}
+use Rattle.std.proofs.Common.{◌≡◌, ◌≢◌, ◌⊎◌, inl, inr, ⊎_elim, ℕ, zero, suc, ◌+◌, ◌*◌, ◌<◌, ◌≤◌, List, [], ◌∷◌, ◌++◌, drop, length, get_or, set, sym, refl, ap, ◌∙◌, subst, arith, Bool, true, false, cond, ◌==◌, eq-eqb, ne_eqb, Contains}
+use Rattle.std.proofs.lemmas.Bool.{false≢true}
 use mathlib.Core.Option.{some, some-injective, some-ne-none}
 use mathlib.Core.Logic.{dite}
 use native.Mathlib.Decide.{ℕ_discrete}
@@ -22,28 +22,27 @@ use Rattle.core_model.specs.declared.moves.Side.TheVariants.{Start}
 use Rattle.core_model.specs.declared.view.Place.TheVariants.{Link as LinkWord}
 use Rattle.core_model.specs.declared.view.View.{View}
 use Rattle.core_model.specs.declared.chain.Chain.{Chain}
-use Rattle.core_model.specs.Layout.{Setting, index}
+use Rattle.core_model.specs.Layout.{Setting}
 use Rattle.core_model.specs.State.{State, word, chain_of}
-use Rattle.core_model.specs.Chains.{no_chain, Spells, Tied, times, named, link_to, link_at, rest_of}
+use Rattle.core_model.specs.Chains.{Spells, Tied, times, named, link_to, link_at, rest_of}
 use Rattle.core_model.specs.Trails.{seen_at, sight_anchor, sight_version}
-use Rattle.core_model.specs.Tabs.{tab_at, inner, count, OfReader, OfFreer}
+use Rattle.core_model.specs.Tabs.{tab_at, count, OfReader, OfFreer}
 use Rattle.core_model.specs.Allowed.{IsPass, Allowed, IsNext, IsFront}
 use Rattle.core_model.specs.TabsAfter.{link_of, looks}
 use Rattle.core_model.specs.Records.{item_of, follows}
 use Rattle.core_model.specs.Steps.{finding, view_after, after}
-use Rattle.core_model.specs.Slots.{SlotWords, slot_words, used, held_in, reserved_in, resting_in, published_in, standing_in, ChainStands, WriterHolds, FreerHolds, ReaderHolds, TabHolds, SlotsHold, SlotsSound}
+use Rattle.core_model.specs.Slots.{SlotWords, slot_words, held_in, resting_in, published_in, standing_in, ChainStands, WriterHolds, ReaderHolds, TabHolds, SlotsHold, SlotsSound}
 use Rattle.core_model.specs.Sound.{AnchorsSound}
-use Rattle.core_model.proofs.Lists.{at_length, le_sum_at, sum_at, sum_mono, set_here, cons_contains, contains_none}
-use Rattle.core_model.proofs.Tabs.{contains_times}
+use Rattle.core_model.proofs.Lists.{le_sum_at, sum_at, sum_mono, cons_contains, contains_none}
 use Rattle.core_model.proofs.Matching.{has_writer}
-use Rattle.core_model.proofs.Spelling.{suc_is, one_same, last_is_written, next_is_written}
+use Rattle.core_model.proofs.Spelling.{suc_is, one_same}
 use Rattle.core_model.proofs.Telling.{told_in, stage_told, set_again}
 use Rattle.core_model.proofs.SlotFrame.{used_few, used_none, tail_unwritten}
 use Rattle.core_model.proofs.SlotTabs.{SameWriters, tab_later, freer_later}
 use Rattle.core_model.proofs.SlotKinds.{OneTab, recounted, each_tab, same_by_one, quiet}
 use Rattle.core_model.proofs.SlotsLoosened.{standing_few}
 use Rattle.core_model.proofs.SlotAnchors.{reader_stage}
-use Rattle.core_model.proofs.BesideKept.{SightsOwe, beside, besides}
+use Rattle.core_model.proofs.BesideKept.{SightsOwe, besides}
 use Rattle.core_model.proofs.BesideKinds.{Likens, tabs_as_before, tab_as_before, sees_nothing, quiet_followed, at_slot}
 use Rattle.core_model.proofs.OwnsKept.{BothSound, tab_was, in_table, held_slot}
 

@@ -1,5 +1,5 @@
 -- To reserve a slot, to give one back, and to let the first slot of a rest leave it keeps a state sound.
-use Rattle.std.proofs.Common.{◌≡◌, ◌≢◌, ◌⊎◌, inl, inr, ⊎_elim, ℕ, ◌+◌, ◌-◌, ◌*◌, ◌<◌, ◌≤◌, List, [], ◌∷◌, ◌++◌, length, get_or, set, sym, refl, ap, ◌∙◌, subst, arith, sum_by, Bool, true, false, cond, ◌==◌, ◌&&◌, eqb, eq-eqb, ne_eqb, Some, Contains}
+use Rattle.std.proofs.Common.{◌≡◌, ◌≢◌, ◌⊎◌, inl, inr, ⊎_elim, ℕ, ◌+◌, ◌-◌, ◌*◌, ◌<◌, ◌≤◌, List, [], ◌∷◌, ◌++◌, get_or, set, sym, refl, ap, ◌∙◌, subst, arith, Bool, true, false, cond, ◌==◌, ◌&&◌, eq-eqb, Contains}
 use Rattle.std.proofs.lemmas.Bool.{eqb-true, false≢true}
 use mathlib.Core.Option.{some, some-injective}
 use mathlib.Core.Logic.{dite}
@@ -11,14 +11,12 @@ use Rattle.core_model.specs.declared.tab.Freer.{Freer}
 use Rattle.core_model.specs.declared.tab.Tab.{Tab}
 use Rattle.core_model.specs.declared.tab.Tab.TheVariants.{Free, Retreating, Reading, Writing, Last, Freeing}
 use Rattle.core_model.specs.declared.moves.Move.TheVariants.{Own, Disown, Loosen}
-use Rattle.core_model.specs.declared.view.Item.{Item}
 use Rattle.core_model.specs.declared.view.Place.TheVariants.{Owner, Link as LinkWord}
 use Rattle.core_model.specs.declared.view.View.{View}
-use Rattle.core_model.specs.declared.chain.Chain.{Chain}
-use Rattle.core_model.specs.Layout.{Setting, index}
-use Rattle.core_model.specs.State.{State, word, chain_of}
+use Rattle.core_model.specs.Layout.{Setting}
+use Rattle.core_model.specs.State.{State}
 use Rattle.core_model.specs.Chains.{times, rest_of}
-use Rattle.core_model.specs.Tabs.{tab_at, inner, is_free, anchor_of, frees, OfReader, OfWriter, OfFreer, count}
+use Rattle.core_model.specs.Tabs.{tab_at, inner, anchor_of, frees, OfReader, OfWriter, OfFreer, count}
 use Rattle.core_model.specs.Allowed.{IsPass, InnerIsFree, Allowed, MayReserve, MayGiveBack, MayLoosen, IsFront}
 use Rattle.core_model.specs.TabsAfter.{settled, without, reserves, gives_back, loosens}
 use Rattle.core_model.specs.Records.{item_of}
@@ -30,8 +28,8 @@ use Rattle.core_model.proofs.Tabs.{tab_there, contains_times}
 use Rattle.core_model.proofs.TakesKept.{free_is}
 use Rattle.core_model.proofs.Spelling.{upd, one_same}
 use Rattle.core_model.proofs.Telling.{told_in, told_out, owner_told, link_told, set_again}
-use Rattle.core_model.proofs.SlotFrame.{used_few, once}
-use Rattle.core_model.proofs.SlotKinds.{OneTab, no_turn}
+use Rattle.core_model.proofs.SlotFrame.{used_few}
+use Rattle.core_model.proofs.SlotKinds.{no_turn}
 use Rattle.core_model.proofs.SlotsOwned.{settled_is, own_keeps, disown_keeps, give_keeps}
 use Rattle.core_model.proofs.SlotsLoosened.{loosen_keeps, hand_over_keeps}
 use Rattle.core_model.proofs.BesideKept.{beside, besides}

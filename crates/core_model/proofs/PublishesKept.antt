@@ -1,6 +1,6 @@
 -- To publish a slot keeps a state sound.
-use Rattle.std.proofs.Common.{◌≡◌, ◌≢◌, ◌⊎◌, inl, inr, ⊎_elim, ℕ, ◌+◌, ◌*◌, ◌<◌, ◌≤◌, List, [], ◌∷◌, ◌++◌, length, get_or, set, sym, refl, ap, ◌∙◌, subst, arith, Some, None, Option, length-set, get_or-set_same, get_or-set_other}
-use mathlib.Core.Option.{some, some-injective}
+use Rattle.std.proofs.Common.{◌≡◌, ◌≢◌, inl, ℕ, ◌+◌, ◌*◌, ◌<◌, ◌≤◌, List, length, get_or, set, sym, refl, ap, ◌∙◌, subst, arith, Some, None, Option, length-set, get_or-set_same, get_or-set_other}
+use mathlib.Core.Option.{some}
 use mathlib.Core.Logic.{dite}
 use native.Mathlib.Decide.{ℕ_discrete}
 use lib.ListN.{get_elem?}
@@ -10,7 +10,7 @@ use Rattle.link_word.specs.declared.link.Link.{Link}
 use Rattle.link_word.specs.declared.link.Link.TheVariants.{Last as LastLink}
 use Rattle.link_word.specs.Words.{link_number}
 use Rattle.core_model.specs.declared.moves.Side.{Side}
-use Rattle.core_model.specs.declared.moves.Side.TheVariants.{Key0, Key1, Offer, Start}
+use Rattle.core_model.specs.declared.moves.Side.TheVariants.{Key0, Key1, Offer}
 use Rattle.core_model.specs.declared.tab.Piece.{Piece}
 use Rattle.core_model.specs.declared.tab.Writer.{Writer}
 use Rattle.core_model.specs.declared.tab.Tab.{Tab}
@@ -28,16 +28,14 @@ use Rattle.core_model.specs.Allowed.{IsPass, Allowed, MayPublish}
 use Rattle.core_model.specs.TabsAfter.{publishes}
 use Rattle.core_model.specs.Records.{item_of, shows}
 use Rattle.core_model.specs.Steps.{finding, view_after, longer, after}
-use Rattle.core_model.specs.Slots.{SlotWords, slot_words, held_in, WriterNames, WriterHolds, SlotsHold, SlotsSound}
-use Rattle.core_model.specs.Matching.{IsTab}
+use Rattle.core_model.specs.Slots.{SlotWords, slot_words, WriterHolds, SlotsHold, SlotsSound}
 use Rattle.core_model.specs.Sound.{AnchorsSound}
 use Rattle.core_model.proofs.Matching.{matches_writer}
 use Rattle.core_model.proofs.Spelling.{one_same, length_more}
 use Rattle.core_model.proofs.Telling.{told_in, link_told, stage_told}
-use Rattle.core_model.proofs.SlotKinds.{OneTab}
 use Rattle.core_model.proofs.SlotAnchors.{writer_stage, sole_writer}
 use Rattle.core_model.proofs.SlotsPublished.{publish_keeps}
-use Rattle.core_model.proofs.BesideKept.{SightsOwe, beside, besides}
+use Rattle.core_model.proofs.BesideKept.{beside, besides}
 use Rattle.core_model.proofs.BesideKinds.{Likens, tabs_as_before, tab_as_before, side_low, quiet_linked, at_slot}
 use Rattle.core_model.proofs.SightsKept.{Each, IsSo, OfNow, stored_value, sees_so}
 use Rattle.core_model.proofs.OwnsKept.{BothSound, of_writer, tab_was, held_slot}

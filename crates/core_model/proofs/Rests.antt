@@ -1,18 +1,15 @@
 -- What is being given back of an anchor is at one inner tab.
-use Rattle.std.proofs.Common.{◌≡◌, ◌⊎◌, inl, inr, ⊎_elim, ℕ, ◌+◌, ◌<◌, ◌≤◌, List, sym, refl, ap, ◌∙◌, subst, arith, Bool, true, false}
-use mathlib.Core.Option.{some, some-injective}
+use Rattle.std.proofs.Common.{◌≡◌, ◌⊎◌, inl, inr, ℕ, sym, refl, ap, ◌∙◌, arith, true, false}
+use mathlib.Core.Option.{some}
 use lib.ListN.{get_elem?}
 use Rattle.lock_word.specs.Words.{epoch_of, stage_of}
-use Rattle.core_model.specs.declared.tab.Writer.{Writer}
 use Rattle.core_model.specs.declared.tab.Freer.{Freer}
-use Rattle.core_model.specs.declared.tab.Tab.{Tab}
 use Rattle.core_model.specs.declared.tab.Tab.TheVariants.{Writing, Freeing}
-use Rattle.core_model.specs.declared.view.View.{View}
 use Rattle.core_model.specs.Layout.{Setting}
 use Rattle.core_model.specs.State.{State, word}
 use Rattle.core_model.specs.Matching.{IsTab}
 use Rattle.core_model.specs.Spots.{IsReplaced}
-use Rattle.core_model.specs.Slots.{slot_words, writes_at, Replaces, SlotsSound}
+use Rattle.core_model.specs.Slots.{writes_at, SlotsSound}
 use Rattle.core_model.specs.Sound.{AnchorsSound}
 use Rattle.core_model.proofs.Lists.{sum_some}
 use Rattle.core_model.proofs.Matching.{one_freer}

@@ -1,5 +1,5 @@
 -- To load and to store a word beside an anchor keeps a state sound.
-use Rattle.std.proofs.Common.{◌≡◌, ◌≢◌, ◌⊎◌, inl, inr, ⊎_elim, ℕ, zero, suc, ◌+◌, ◌-◌, ◌*◌, ◌<◌, ◌≤◌, List, [], ◌∷◌, ◌++◌, length, get_or, set, sym, refl, ap, ◌∙◌, subst, arith, sum_by, Bool, true, false, cond, ◌==◌, Some, None, Option, get_or-set_other, ne_eqb, Contains}
+use Rattle.std.proofs.Common.{◌≡◌, ◌≢◌, ⊎_elim, ℕ, ◌-◌, ◌<◌, ◌≤◌, List, [], ◌∷◌, ◌++◌, length, get_or, set, sym, refl, ap, ◌∙◌, subst, arith, Bool, true, false, cond, ◌==◌, Some, None, get_or-set_other, ne_eqb, Contains}
 use mathlib.Core.Option.{some, some-injective}
 use mathlib.Core.Logic.{dite}
 use native.Mathlib.Decide.{ℕ_discrete}
@@ -20,25 +20,23 @@ use Rattle.core_model.specs.declared.view.View.{View}
 use Rattle.core_model.specs.declared.chain.Chain.{Chain}
 use Rattle.core_model.specs.Layout.{Setting, index}
 use Rattle.core_model.specs.State.{State, word, chain_of}
-use Rattle.core_model.specs.Chains.{no_chain, named, start_number}
-use Rattle.core_model.specs.Trails.{seen_at}
-use Rattle.core_model.specs.Tabs.{tab_at, inner, is_using, anchor_of, stage_written, count}
+use Rattle.core_model.specs.Chains.{named, start_number}
+use Rattle.core_model.specs.Tabs.{tab_at, is_using, anchor_of, stage_written}
 use Rattle.core_model.specs.Allowed.{IsPass, InnerIsFree, Allowed, MayStore}
 use Rattle.core_model.specs.TabsAfter.{stored, stores, loaded}
 use Rattle.core_model.specs.Records.{item_of, loads}
 use Rattle.core_model.specs.Steps.{finding, view_after, after}
-use Rattle.core_model.specs.Slots.{SlotWords, slot_words, held_in, resting_in, writes_at, Replaces, ChainStands, ReaderHolds, WriterHolds, TabHolds, SlotsHold, SlotsSound}
+use Rattle.core_model.specs.Slots.{SlotWords, slot_words, held_in, resting_in, writes_at, Replaces, ReaderHolds, TabHolds, SlotsHold, SlotsSound}
 use Rattle.core_model.specs.Sound.{AnchorsSound}
 use Rattle.core_model.proofs.Lists.{sum_some}
 use Rattle.core_model.proofs.Telling.{set_again, told_in, stage_told, stored_told, stored_here, stored_else, sides_apart, sides_differ, side_in}
 use Rattle.core_model.proofs.SlotTabs.{SameWriters, tab_later}
 use Rattle.core_model.proofs.SlotKinds.{OneTab, recounted, each_tab, same_by_one, quiet}
 use Rattle.core_model.proofs.SlotAnchors.{writer_is, writer_stage, sole_writer, replaces_at, freer_stage, reader_stage}
-use Rattle.core_model.proofs.SlotsOwned.{same_by_writer}
-use Rattle.core_model.proofs.SlotsStored.{stored_keeps, store_keeps}
+use Rattle.core_model.proofs.SlotsStored.{store_keeps}
 use Rattle.core_model.proofs.BesideKept.{SightsOwe, beside, besides}
 use Rattle.core_model.proofs.BesideKinds.{Likens, tabs_as_before, tab_as_before, sees_nothing, quiet_loaded, quiet_stored, at_side}
-use Rattle.core_model.proofs.SightsKept.{Each, IsSo, OfNow, sees_so}
+use Rattle.core_model.proofs.SightsKept.{IsSo, sees_so}
 use Rattle.core_model.proofs.OwnsKept.{BothSound, of_writer, tab_was, none_frees}
 
 module _ {X : Type 0} (k : Setting X) (s : State X) (i : ℕ) (v : View X) (so : AnchorsSound k s) (sl : SlotsSound k s) (at : get_elem? s.views i ≡ some v) (pass : IsPass v) where

@@ -1,7 +1,5 @@
 -- What a pass sees anew of the entry that stands at an anchor agrees with what others have seen.
-use Rattle.std.proofs.Common.{◌≡◌, ◌≢◌, ◌⊎◌, inl, inr, ⊎_elim, ℕ, ◌+◌, ◌<◌, ◌≤◌, List, [], ◌∷◌, length, get_or, sym, refl, ap, ◌∙◌, subst, arith, Some, None, Option, Contains}
-use mathlib.Core.Option.{some}
-use lib.ListN.{get_elem?}
+use Rattle.std.proofs.Common.{◌≡◌, ◌≢◌, ⊎_elim, ℕ, ◌<◌, ◌≤◌, List, [], ◌∷◌, length, get_or, sym, refl, ◌∙◌, subst, Some, None, Option, Contains}
 use Rattle.std.specs.Prelude.{unwrap_or}
 use Rattle.lock_word.specs.Words.{epoch_of, version_of}
 use Rattle.core_model.specs.declared.moves.Side.{Side}

@@ -1,5 +1,5 @@
 -- What a sound state tells of the tabs at an anchor, to the parts on slots.
-use Rattle.std.proofs.Common.{◌≡◌, ◌≢◌, ◌⊎◌, inl, inr, ⊎_elim, ℕ, ◌+◌, ◌<◌, ◌≤◌, List, [], get_or, set, sym, refl, ap, ◌∙◌, subst, arith, sum_by, Bool, true, false, cond, eq-eqb}
+use Rattle.std.proofs.Common.{◌≡◌, ◌≢◌, ◌⊎◌, inl, inr, ⊎_elim, ℕ, ◌<◌, ◌≤◌, List, sym, refl, ap, ◌∙◌, subst, arith, Bool, true, false, cond, eq-eqb}
 use mathlib.Core.Option.{some}
 use mathlib.Core.Logic.{dite}
 use native.Mathlib.Decide.{ℕ_discrete}
@@ -13,14 +13,13 @@ use Rattle.core_model.specs.declared.tab.Tab.TheVariants.{Free, Retreating, Read
 use Rattle.core_model.specs.declared.view.View.{View}
 use Rattle.core_model.specs.declared.chain.Chain.{Chain}
 use Rattle.core_model.specs.Layout.{Setting}
-use Rattle.core_model.specs.Chains.{no_chain}
 use Rattle.core_model.specs.State.{State, word}
 use Rattle.core_model.specs.Tabs.{counts, stage_written, count}
 use Rattle.core_model.specs.Matching.{IsTab}
 use Rattle.core_model.specs.Slots.{slot_words, writes_at, Replaces, SlotsSound}
 use Rattle.core_model.specs.Sound.{AnchorsSound}
 use Rattle.core_model.proofs.Lists.{le_sum_at, sum_some}
-use Rattle.core_model.proofs.Matching.{matches_writer, matches_freer, one_writer, one_freer}
+use Rattle.core_model.proofs.Matching.{matches_writer, matches_freer, one_writer}
 use Rattle.core_model.proofs.SlotTabs.{SameSlots, same_writers, Steady}
 use Rattle.core_model.proofs.Telling.{stage_told}
 

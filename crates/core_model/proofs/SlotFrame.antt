@@ -1,17 +1,16 @@
 -- A step changes one view and at most one chain: what it owes to the parts on slots, and what these tell of a slot.
-use Rattle.std.proofs.Common.{◌≡◌, ◌≢◌, ⊎_elim, ℕ, ◌+◌, ◌-◌, ◌<◌, ◌≤◌, List, [], zero, suc, ◌∷◌, length, get_or, set, sym, refl, ap, ◌∙◌, subst, arith, sum_by, length-set, get_or-set_other, get_or-set_same, cond, ◌==◌, eq-eqb, ne_eqb}
-use Rattle.std.proofs.lemmas.List.Sums.{get_or-le-sum_by, sum_by-cons}
+use Rattle.std.proofs.Common.{◌≡◌, ◌≢◌, ⊎_elim, ℕ, ◌+◌, ◌-◌, ◌<◌, ◌≤◌, List, [], zero, suc, ◌∷◌, length, get_or, set, sym, refl, subst, arith, sum_by, get_or-set_other, get_or-set_same, cond, ne_eqb}
+use Rattle.std.proofs.lemmas.List.Sums.{sum_by-cons}
 use mathlib.Core.Option.{some}
 use mathlib.Core.Logic.{dite}
 use native.Mathlib.Decide.{ℕ_discrete}
 use lib.ListN.{get_elem?}
 use Rattle.core_model.specs.declared.tab.Tab.{Tab}
-use Rattle.core_model.specs.declared.tab.Tab.TheVariants.{Free, Retreating, Reading, Writing, Last, Freeing}
 use Rattle.core_model.specs.declared.view.View.{View}
 use Rattle.core_model.specs.declared.chain.Chain.{Chain}
 use Rattle.core_model.specs.Chains.{no_chain, times}
 use Rattle.core_model.specs.Tabs.{count}
-use Rattle.core_model.specs.Slots.{SlotWords, used, reserved_in, resting_in, loose_in, held_in, published_in, standing_in, OnePlace, ChainStands, TabHolds, SlotsHold}
+use Rattle.core_model.specs.Slots.{SlotWords, used, resting_in, held_in, published_in, standing_in, ChainStands, TabHolds, SlotsHold}
 use Rattle.core_model.proofs.Lists.{by_eq, at_set, sum_at, sum_set, le_sum_at, two_le_sum, sum_mono}
 
 pub used_few : (n : ℕ) → used n ≤ 1

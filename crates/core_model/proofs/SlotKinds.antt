@@ -1,21 +1,19 @@
 -- What the steps that leave link and owner words alone share, to the parts on slots.
-use Rattle.std.proofs.Common.{◌≡◌, ◌≢◌, ◌⊎◌, inl, inr, ⊎_elim, ℕ, ◌+◌, ◌<◌, ◌≤◌, List, [], get_or, set, sym, refl, ap, ◌∙◌, subst, arith, sum_by}
+use Rattle.std.proofs.Common.{◌≡◌, ◌≢◌, ◌⊎◌, ⊎_elim, ℕ, ◌+◌, ◌≤◌, List, get_or, set, sym, refl, ap, subst, arith, sum_by}
 use mathlib.Core.Option.{some}
-use mathlib.Core.Logic.{dite}
-use native.Mathlib.Decide.{ℕ_discrete}
 use lib.ListN.{get_elem?}
 use Rattle.core_model.specs.declared.tab.Writer.{Writer}
 use Rattle.core_model.specs.declared.tab.Tab.{Tab}
 use Rattle.core_model.specs.declared.tab.Tab.TheVariants.{Free, Retreating, Reading, Writing, Last, Freeing}
 use Rattle.core_model.specs.declared.view.View.{View}
 use Rattle.core_model.specs.declared.chain.Chain.{Chain}
-use Rattle.core_model.specs.Chains.{no_chain, times}
+use Rattle.core_model.specs.Chains.{no_chain}
 use Rattle.core_model.specs.Tabs.{count}
-use Rattle.core_model.specs.Slots.{SlotWords, used, held_in, resting_in, published_in, standing_in, writes_at, ChainStands, TabHolds, SlotsHold}
+use Rattle.core_model.specs.Slots.{SlotWords, held_in, resting_in, published_in, standing_in, writes_at, ChainStands, TabHolds, SlotsHold}
 use Rattle.core_model.proofs.Lists.{at_set, sum_at}
 use Rattle.core_model.proofs.Spelling.{upd, upd_same, upd_other}
-use Rattle.core_model.proofs.SlotFrame.{Puts, stays, Owes, framed}
-use Rattle.core_model.proofs.SlotTabs.{SameWriters, same_writers, tab_later, Steady, restaged, writes_none}
+use Rattle.core_model.proofs.SlotFrame.{Puts, stays, framed}
+use Rattle.core_model.proofs.SlotTabs.{SameWriters, tab_later, Steady, restaged}
 
 module _ {X : Type 0} where
   -- the tab t of a view goes from old to new

@@ -1,5 +1,5 @@
 -- Steps of a pass among its tabs: what the tabs hold afterwards.
-use Rattle.std.proofs.Common.{◌≡◌, ◌≢◌, ◌⊎◌, ⊎_elim, None, ℕ, ◌+◌, ◌<◌, ◌≤◌, List, [], ◌++◌, drop, length, get_or, set, sym, refl, ap, ◌∙◌, subst, arith, sum_by, cond, ◌==◌, eq-eqb, ne_eqb}
+use Rattle.std.proofs.Common.{◌≡◌, ◌≢◌, ◌⊎◌, None, ℕ, ◌+◌, ◌<◌, ◌≤◌, List, [], ◌++◌, drop, length, get_or, sym, refl, ap, ◌∙◌, subst, eq-eqb, ne_eqb}
 use mathlib.Core.Option.{some}
 use mathlib.Core.Logic.{dite}
 use native.Mathlib.Decide.{ℕ_discrete}
@@ -15,7 +15,6 @@ use Rattle.core_model.specs.declared.chain.Chain.{Chain}
 use Rattle.core_model.specs.Chains.{no_chain, named, link_to, link_at}
 use Rattle.core_model.specs.Tabs.{count}
 use Rattle.core_model.specs.Slots.{SlotWords, writes_at, Replaces, WriterNames, WriterHolds, FreerHolds, ReaderHolds, TabHolds}
-use Rattle.core_model.proofs.Lists.{at_set, sum_at}
 use Rattle.core_model.proofs.Spelling.{upd, upd_other}
 
 pub writes_one : {X : Type 0} (a : ℕ) (x : Writer X) → x.anchor ≡ a → writes_at a (Writing x) ≡ 1

@@ -16,8 +16,7 @@ use Rattle.core_model.specs.declared.view.View.{View}
 use Rattle.core_model.specs.declared.chain.Chain.{Chain}
 use Rattle.core_model.specs.Layout.{Setting}
 use Rattle.core_model.specs.State.{State, word, chain_of}
-use Rattle.core_model.specs.Chains.{no_chain}
-use Rattle.core_model.specs.Tabs.{tab_at, anchor_of, is_counted, is_reading}
+use Rattle.core_model.specs.Tabs.{tab_at, anchor_of, is_counted}
 use Rattle.core_model.specs.Allowed.{IsPass, Allowed}
 use Rattle.core_model.specs.TabsAfter.{entered, left_tab}
 use Rattle.core_model.specs.Steps.{finding, view_after, after}

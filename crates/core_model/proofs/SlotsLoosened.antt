@@ -1,12 +1,11 @@
 -- The first slot of a rest leaves it: it is loose, or a writing tab of the same pass has it.
-use Rattle.std.proofs.Common.{◌≡◌, ◌≢◌, ◌⊎◌, inl, inr, ⊎_elim, ℕ, zero, suc, ◌+◌, ◌<◌, ◌≤◌, List, [], ◌∷◌, ◌++◌, length, get_or, set, sym, refl, ap, ◌∙◌, subst, arith, sum_by, Bool, true, false, cond, Some, ne_eqb, eq-eqb}
+use Rattle.std.proofs.Common.{◌≡◌, ◌≢◌, ⊎_elim, ℕ, zero, suc, ◌+◌, ◌<◌, ◌≤◌, List, [], ◌∷◌, ◌++◌, get_or, set, sym, refl, ap, ◌∙◌, subst, arith, sum_by, true, false}
 use Rattle.std.proofs.lemmas.Bool.{false≢true}
 use Rattle.std.proofs.lemmas.List.Sums.{sum_by-cons}
 use mathlib.Core.Option.{some}
 use mathlib.Core.Logic.{dite}
 use native.Mathlib.Decide.{ℕ_discrete}
 use lib.ListN.{get_elem?}
-use Rattle.core_model.specs.declared.tab.Reader.{Reader}
 use Rattle.core_model.specs.declared.tab.Writer.{Writer}
 use Rattle.core_model.specs.declared.tab.Freer.{Freer}
 use Rattle.core_model.specs.declared.tab.Tab.{Tab}
@@ -16,7 +15,7 @@ use Rattle.core_model.specs.declared.chain.Chain.{Chain}
 use Rattle.core_model.specs.Chains.{no_chain, Spells, times, one as alike, rest_of}
 use Rattle.core_model.specs.Tabs.{count}
 use Rattle.core_model.specs.Allowed.{MayReserve, IsFront}
-use Rattle.core_model.specs.Slots.{SlotWords, used, held_in, resting_in, published_in, standing_in, ChainStands, FreerHolds, TabHolds, SlotsHold}
+use Rattle.core_model.specs.Slots.{SlotWords, used, held_in, resting_in, standing_in, ChainStands, FreerHolds, TabHolds, SlotsHold}
 use Rattle.core_model.proofs.Lists.{le_sum_at}
 use Rattle.core_model.proofs.Spelling.{upd, upd_same, upd_other, times_append, one_same, one_other, spells_else}
 use Rattle.core_model.proofs.SlotFrame.{stays, framed, once, in_no_other}

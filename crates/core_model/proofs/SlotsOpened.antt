@@ -1,14 +1,13 @@
 -- In a store that was just opened with what a rebuild kept each slot is at one place.
-use Rattle.std.proofs.Common.{◌≡◌, ◌≢◌, ◌⊎◌, inl, inr, ⊎_elim, ℕ, zero, suc, ◌+◌, ◌-◌, ◌<◌, ◌≤◌, List, [], ◌∷◌, length, map, get_or, sym, refl, ap, ◌∙◌, subst, arith, sum_by, Bool, true, false, eq-eqb, ne_eqb, Contains}
+use Rattle.std.proofs.Common.{◌≡◌, ◌≢◌, ◌⊎◌, inl, inr, ⊎_elim, ℕ, suc, ◌+◌, ◌-◌, ◌<◌, ◌≤◌, List, [], ◌∷◌, length, map, get_or, sym, refl, ap, ◌∙◌, subst, arith, sum_by, false, eq-eqb, ne_eqb, Contains}
 use Rattle.std.specs.Prelude.{nat_eq}
 use Rattle.std.specs.List.{IsDistinct, AllByRecursion}
 use Rattle.std.proofs.lemmas.List.Elements.{All-contains}
-use Rattle.std.proofs.lemmas.List.Sums.{get_or-le-sum_by}
 use mathlib.Core.Option.{some}
 use mathlib.Core.Logic.{dite}
 use native.Mathlib.Decide.{ℕ_discrete}
 use lib.ListN.{get_elem?}
-use Rattle.lock_word.specs.Words.{epoch_of, stage_of, word_at}
+use Rattle.lock_word.specs.Words.{epoch_of, stage_of}
 use Rattle.lock_word.proofs.Taking.{epoch_of-word_at, stage_of-epoch_at}
 use Rattle.link_word.specs.declared.link.Link.{Link}
 use Rattle.link_word.specs.declared.link.Link.TheVariants.{Last}
@@ -18,22 +17,18 @@ use Rattle.rebuild_model.specs.Entry.{Entry, IsChain, found_of}
 use Rattle.rebuild_model.specs.Rebuilt.{IsRebuilt}
 use Rattle.rebuild_model.specs.declared.found.Found.{Found}
 use Rattle.rebuild_model.specs.declared.rebuilt.Rebuilt.{Rebuilt}
-use Rattle.core_model.specs.declared.tab.Tab.{Tab}
-use Rattle.core_model.specs.declared.tab.Tab.TheVariants.{Free}
 use Rattle.core_model.specs.declared.view.View.{View}
-use Rattle.core_model.specs.declared.view.Place.TheVariants.{Owner, Link as LinkWord, Beside}
-use Rattle.core_model.specs.declared.moves.Side.TheVariants.{Start}
+use Rattle.core_model.specs.declared.view.Place.TheVariants.{Link as LinkWord}
 use Rattle.core_model.specs.declared.chain.Chain.{Chain}
 use Rattle.core_model.specs.Layout.{Setting, index}
 use Rattle.core_model.specs.State.{State, word, chain_of}
 use Rattle.core_model.specs.Chains.{no_chain, Spells, times, start_number, Fits}
 use Rattle.core_model.specs.Tabs.{count}
 use Rattle.core_model.specs.Anchors.{IsSetting}
-use Rattle.core_model.specs.Opening.{IsOpened, IsKeptAt, new_view}
+use Rattle.core_model.specs.Opening.{IsOpened, IsKeptAt}
 use Rattle.core_model.specs.Slots.{SlotWords, slot_words, used, held_in, resting_in, published_in, standing_in, ChainStands, TabHolds, SlotsSound}
-use Rattle.core_model.proofs.Lists.{at_or, at_length, at_index, le_sum_at, sum_some, sum_others, cons_contains, contains_none}
+use Rattle.core_model.proofs.Lists.{at_or, at_length, le_sum_at, sum_some, sum_others, cons_contains, contains_none}
 use Rattle.core_model.proofs.Tabs.{contains_times, times_contains}
-use Rattle.core_model.proofs.Spelling.{one_same}
 use Rattle.core_model.proofs.Telling.{told_in, told_out, stage_told}
 use Rattle.core_model.proofs.SlotFrame.{published_few, used_few, used_some}
 use Rattle.core_model.proofs.SlotsLoosened.{standing_few}

@@ -1,14 +1,12 @@
 -- To reserve a slot and to give one back, to the parts on slots.
-use Rattle.std.proofs.Common.{◌≡◌, ◌≢◌, ◌⊎◌, inl, inr, ⊎_elim, ℕ, ◌+◌, ◌-◌, ◌<◌, ◌≤◌, List, [], ◌∷◌, ◌++◌, length, get_or, set, sym, refl, ap, ◌∙◌, subst, arith, sum_by, Bool, true, false, cond, ◌&&◌, ◌==◌, not, eqb, Some, ne_eqb, eq-eqb, Contains}
+use Rattle.std.proofs.Common.{◌≡◌, ◌≢◌, ◌⊎◌, inl, inr, ⊎_elim, ℕ, ◌+◌, ◌<◌, ◌≤◌, List, [], ◌∷◌, ◌++◌, length, get_or, set, sym, refl, ap, ◌∙◌, subst, arith, Bool, true, false, cond, ◌&&◌, ◌==◌, not, eqb, Contains}
 use mathlib.Core.Option.{some}
 use mathlib.Core.Logic.{dite}
 use native.Mathlib.Decide.{ℕ_discrete}
 use lib.ListN.{get_elem?}
-use Rattle.link_word.specs.declared.link.Link.{Link}
-use Rattle.link_word.specs.declared.link.Link.TheVariants.{NotWritten, Last as LastLink, Next}
+use Rattle.link_word.specs.declared.link.Link.TheVariants.{Last as LastLink, Next}
 use Rattle.core_model.specs.declared.moves.Side.{Side}
 use Rattle.core_model.specs.declared.tab.Piece.{Piece}
-use Rattle.core_model.specs.declared.tab.Reader.{Reader}
 use Rattle.core_model.specs.declared.tab.Writer.{Writer}
 use Rattle.core_model.specs.declared.tab.Freer.{Freer}
 use Rattle.core_model.specs.declared.tab.Tab.{Tab}
@@ -18,12 +16,12 @@ use Rattle.core_model.specs.declared.chain.Chain.{Chain}
 use Rattle.core_model.specs.Chains.{no_chain, times, one as alike, link_to, rest_of}
 use Rattle.core_model.specs.Tabs.{anchor_of, count}
 use Rattle.core_model.specs.Allowed.{MayReserve}
-use Rattle.core_model.specs.TabsAfter.{without, settled, piece_of}
-use Rattle.core_model.specs.Slots.{SlotWords, used, held_in, resting_in, published_in, standing_in, writes_at, FreerHolds, WriterHolds, ReaderHolds, TabHolds, SlotsHold}
+use Rattle.core_model.specs.TabsAfter.{without, settled}
+use Rattle.core_model.specs.Slots.{SlotWords, used, held_in, resting_in, writes_at, FreerHolds, WriterHolds, TabHolds, SlotsHold}
 use Rattle.core_model.proofs.Lists.{le_sum_at, by_eq}
 use Rattle.core_model.proofs.Tabs.{contains_times, times_without_same, times_without_other}
 use Rattle.core_model.proofs.Spelling.{upd, upd_same, upd_other, times_append, one_same, one_other, length_more, fewer, tied_more, tied_without}
-use Rattle.core_model.proofs.SlotFrame.{stays, Owes, framed, used_few, used_some, once}
+use Rattle.core_model.proofs.SlotFrame.{stays, framed, used_few, used_some, once}
 use Rattle.core_model.proofs.SlotTabs.{SameWriters, names_keep, freer_later, tab_later}
 use Rattle.core_model.proofs.SlotKinds.{OneTab, recounted, each_tab, same_by_one}
 

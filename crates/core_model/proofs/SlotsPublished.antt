@@ -1,11 +1,11 @@
 -- The first reserved slot is published, to the parts on slots.
-use Rattle.std.proofs.Common.{◌≡◌, ◌≢◌, ◌⊎◌, inl, inr, ⊎_elim, ℕ, suc, ◌+◌, ◌<◌, ◌≤◌, List, [], ◌∷◌, ◌++◌, drop, length, get_or, set, sym, refl, ap, ◌∙◌, subst, arith, sum_by, Bool, true, false, cond, Some, None, ne_eqb}
+use Rattle.std.proofs.Common.{◌≡◌, ◌≢◌, inl, ⊎_elim, ℕ, ◌+◌, ◌<◌, ◌≤◌, List, [], ◌∷◌, ◌++◌, drop, length, get_or, set, sym, refl, ap, ◌∙◌, subst, arith, sum_by, false, None, ne_eqb}
 use mathlib.Core.Option.{some}
 use mathlib.Core.Logic.{dite}
 use native.Mathlib.Decide.{ℕ_discrete}
 use lib.ListN.{get_elem?}
 use Rattle.link_word.specs.declared.link.Link.{Link}
-use Rattle.link_word.specs.declared.link.Link.TheVariants.{NotWritten, Last as LastLink, Next}
+use Rattle.link_word.specs.declared.link.Link.TheVariants.{Last as LastLink, Next}
 use Rattle.link_word.specs.Words.{link_number}
 use Rattle.core_model.specs.declared.tab.Reader.{Reader}
 use Rattle.core_model.specs.declared.tab.Writer.{Writer}
@@ -14,13 +14,12 @@ use Rattle.core_model.specs.declared.tab.Tab.{Tab}
 use Rattle.core_model.specs.declared.tab.Tab.TheVariants.{Free, Retreating, Reading, Writing, Last, Freeing}
 use Rattle.core_model.specs.declared.view.View.{View}
 use Rattle.core_model.specs.declared.chain.Chain.{Chain}
-use Rattle.core_model.specs.Chains.{no_chain, Spells, Fits, Tied, times, one as alike, link_to, link_at, named, rest_of, start_number}
+use Rattle.core_model.specs.Chains.{no_chain, Fits, Tied, times, one as alike, link_to, named, rest_of}
 use Rattle.core_model.specs.Tabs.{count}
-use Rattle.core_model.specs.TabsAfter.{publishes}
 use Rattle.core_model.specs.Steps.{longer}
-use Rattle.core_model.specs.Slots.{SlotWords, used, held_in, resting_in, published_in, standing_in, ChainStands, WriterHolds, ReaderHolds, FreerHolds, TabHolds, SlotsHold}
+use Rattle.core_model.specs.Slots.{SlotWords, used, held_in, resting_in, standing_in, ChainStands, WriterHolds, ReaderHolds, TabHolds, SlotsHold}
 use Rattle.core_model.proofs.Lists.{le_sum_at}
-use Rattle.core_model.proofs.Spelling.{upd, upd_same, upd_other, times_append, one_same, one_other, no_items, length_more, spells_next, spells_else, spells_more, some_fits, tied_end, tied_to, fits_more, to_is_written, start_more, link_below, suc_is, at_longer}
+use Rattle.core_model.proofs.Spelling.{upd, upd_same, upd_other, times_append, one_same, no_items, length_more, spells_next, spells_else, spells_more, some_fits, tied_end, tied_to, fits_more, to_is_written, start_more, link_below, suc_is, at_longer}
 use Rattle.core_model.proofs.SlotFrame.{Puts, puts, framed, used_few, once, in_no_other}
 use Rattle.core_model.proofs.SlotTabs.{SameWriters, names_keep, same_writers, freer_later}
 use Rattle.core_model.proofs.SlotKinds.{OneTab, recounted, each_tab}

@@ -1,16 +1,12 @@
 -- To raise the stage of an anchor keeps each slot at one place: the tail of a halted entry goes from the tab to the chain.
-use Rattle.std.proofs.Common.{◌≡◌, ◌≢◌, ◌⊎◌, inl, inr, ⊎_elim, ℕ, ◌+◌, ◌-◌, ◌<◌, ◌≤◌, List, [], ◌∷◌, ◌++◌, length, get_or, set, sym, refl, ap, ◌∙◌, subst, arith, sum_by, Bool, true, false, cond, Some, ne_eqb}
+use Rattle.std.proofs.Common.{◌≡◌, ◌≢◌, ◌⊎◌, inl, inr, ⊎_elim, ℕ, ◌+◌, ◌-◌, ◌<◌, ◌≤◌, List, [], length, get_or, set, sym, refl, ap, ◌∙◌, subst, arith, Bool, true, false, cond}
 use mathlib.Core.Option.{some}
-use mathlib.Core.Logic.{dite}
-use native.Mathlib.Decide.{ℕ_discrete}
 use lib.ListN.{get_elem?}
 use Rattle.lock_word.specs.declared.stage.Stage.{Stage}
 use Rattle.lock_word.specs.declared.stage.Stage.TheVariants.{Empty, Taken, Appending, Closed, Halted, Freeing as FreeingStage, Gone}
 use Rattle.lock_word.specs.Words.{stage_number, epoch_of, stage_of, is_left_over, raised}
 use Rattle.lock_word.proofs.Raising.{stage_of-raised}
-use Rattle.link_word.specs.declared.link.Link.{Link}
-use Rattle.link_word.specs.declared.link.Link.TheVariants.{NotWritten, Last as LastLink, Next}
-use Rattle.core_model.specs.declared.tab.Reader.{Reader}
+use Rattle.link_word.specs.declared.link.Link.TheVariants.{NotWritten, Last as LastLink}
 use Rattle.core_model.specs.declared.tab.Writer.{Writer}
 use Rattle.core_model.specs.declared.tab.Freer.{Freer}
 use Rattle.core_model.specs.declared.tab.Tab.{Tab}
@@ -21,7 +17,7 @@ use Rattle.core_model.specs.declared.chain.Chain.{Chain}
 use Rattle.core_model.specs.Layout.{Setting}
 use Rattle.core_model.specs.State.{State, word, chain_of}
 use Rattle.core_model.specs.Chains.{no_chain, named, start_number, times}
-use Rattle.core_model.specs.Tabs.{tab_at, inner, anchor_of, stage_written, count, OfWriter, OfFreer}
+use Rattle.core_model.specs.Tabs.{tab_at, inner, anchor_of, stage_written, OfWriter, OfFreer}
 use Rattle.core_model.specs.Allowed.{IsPass, Allowed, MayRaise, StartsRight, MayEnd}
 use Rattle.core_model.specs.TabsAfter.{left_tab, raised_tab}
 use Rattle.core_model.specs.Where.{stage_held}
@@ -29,14 +25,14 @@ use Rattle.core_model.specs.Steps.{finding, view_after, halted, after}
 use Rattle.core_model.specs.Matching.{IsTab}
 use Rattle.core_model.specs.Slots.{SlotWords, slot_words, held_in, resting_in, published_in, standing_in, writes_at, ChainStands, WriterHolds, TabHolds, SlotsHold, SlotsSound}
 use Rattle.core_model.specs.Sound.{AnchorsSound}
-use Rattle.core_model.proofs.Lists.{sum_some, le_sum_at, at_length}
+use Rattle.core_model.proofs.Lists.{sum_some}
 use Rattle.core_model.proofs.Matching.{one_freer}
-use Rattle.core_model.proofs.RaisesKept.{only_writer, only_freer, tab_was}
-use Rattle.core_model.proofs.Spelling.{upd, last_is_written, next_is_written, tied_all}
+use Rattle.core_model.proofs.RaisesKept.{tab_was}
+use Rattle.core_model.proofs.Spelling.{upd, next_is_written, tied_all}
 use Rattle.core_model.proofs.SlotFrame.{Puts, stays, puts}
 use Rattle.core_model.proofs.SlotTabs.{names_keep, SameSlots, SameWriters, same_writers, Steady, restaged, writes_none}
 use Rattle.core_model.proofs.SlotKinds.{OneTab, recounted, each_tab, same_by_one, NoSlots, counts_none, no_writer, restage}
-use Rattle.core_model.proofs.SlotAnchors.{writer_is, writer_stage, sole_writer, replaces_at, freer_stage, reader_stage, written_few}
+use Rattle.core_model.proofs.SlotAnchors.{writer_is, writer_stage, sole_writer, replaces_at, freer_stage, written_few}
 use Rattle.core_model.proofs.SlotsEntered.{left_none, left_holds}
 use Rattle.core_model.proofs.Telling.{told_in, anchor_told, stage_told}
 

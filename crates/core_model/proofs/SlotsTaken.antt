@@ -1,19 +1,17 @@
 -- To take an anchor for a new entry, and to evict an entry, gives the old chain with its tail to the inner tab.
-use Rattle.std.proofs.Common.{◌≡◌, ◌≢◌, ◌⊎◌, inl, inr, ⊎_elim, ℕ, ◌+◌, ◌-◌, ◌<◌, ◌≤◌, List, [], ◌∷◌, ◌++◌, length, get_or, set, sym, refl, ap, ◌∙◌, subst, arith, sum_by, Bool, true, false, cond, ◌==◌, Some, None, ne_eqb, eqb}
+use Rattle.std.proofs.Common.{◌≡◌, ◌≢◌, ◌⊎◌, inl, inr, ⊎_elim, ℕ, ◌+◌, ◌-◌, ◌<◌, ◌≤◌, List, [], ◌∷◌, ◌++◌, length, set, sym, refl, ap, ◌∙◌, subst, arith, Bool, true, false, cond, ◌==◌, None, ne_eqb}
 use Rattle.std.proofs.lemmas.Bool.{eqb-true}
 use mathlib.Core.Option.{some}
 use mathlib.Core.Logic.{dite}
 use native.Mathlib.Decide.{ℕ_discrete}
 use lib.ListN.{get_elem?}
-use Rattle.lock_word.specs.Words.{readers_of, epoch_of, stage_of, mode_of, word_at, raised, is_vacant, is_idle, is_left_over}
+use Rattle.lock_word.specs.Words.{readers_of, epoch_of, stage_of, word_at, is_vacant, is_idle, is_left_over}
 use Rattle.lock_word.proofs.Taking.{epoch_of-word_at, stage_of-epoch_at}
 use Rattle.lock_word.proofs.Raising.{stage_of-raised}
 use Rattle.lock_word.proofs.Testing.{stage_of-vacant, mode_of-idle}
-use Rattle.core_model.specs.declared.tab.Reader.{Reader}
 use Rattle.core_model.specs.declared.tab.Writer.{Writer}
-use Rattle.core_model.specs.declared.tab.Freer.{Freer}
 use Rattle.core_model.specs.declared.tab.Tab.{Tab}
-use Rattle.core_model.specs.declared.tab.Tab.TheVariants.{Free, Retreating, Reading, Writing, Last, Freeing}
+use Rattle.core_model.specs.declared.tab.Tab.TheVariants.{Free, Writing, Last, Freeing}
 use Rattle.core_model.specs.declared.moves.Move.TheVariants.{Take, Evict}
 use Rattle.core_model.specs.declared.view.View.{View}
 use Rattle.core_model.specs.declared.chain.Chain.{Chain}
@@ -28,15 +26,15 @@ use Rattle.core_model.specs.Where.{evicted}
 use Rattle.core_model.specs.Steps.{finding, view_after, after}
 use Rattle.core_model.specs.Slots.{SlotWords, slot_words, held_in, resting_in, published_in, standing_in, writes_at, ChainStands, Replaces, FreerHolds, TabHolds, SlotsHold, SlotsSound}
 use Rattle.core_model.specs.Sound.{AnchorsSound}
-use Rattle.core_model.proofs.Lists.{set_here, set_else, le_sum_at, sum_some, at_length}
+use Rattle.core_model.proofs.Lists.{set_here, set_else, sum_some}
 use Rattle.core_model.proofs.Tabs.{tab_there}
-use Rattle.core_model.proofs.TakesKept.{IsFit, fit_vacant, fit_idle, free_is}
+use Rattle.core_model.proofs.TakesKept.{fit_vacant, fit_idle, free_is}
 use Rattle.core_model.proofs.EvictsKept.{IsRipe, ripe_idle, ripe_left, ripe_stage}
 use Rattle.core_model.proofs.Spelling.{upd, upd_same, one_same, times_append, last_is_written, spells_all, start_all, some_fits, start_some}
 use Rattle.core_model.proofs.SlotFrame.{Puts, puts, tail_unwritten}
-use Rattle.core_model.proofs.SlotTabs.{SameWriters, same_writers, Steady, restaged, writes_one, writes_none}
-use Rattle.core_model.proofs.SlotKinds.{OneTab, recounted, each_tab, same_by_one, NoSlots, counts_none, no_writer, restage}
-use Rattle.core_model.proofs.SlotAnchors.{writer_is, writer_stage, alone_at}
+use Rattle.core_model.proofs.SlotTabs.{SameWriters, same_writers, restaged, writes_one, writes_none}
+use Rattle.core_model.proofs.SlotKinds.{OneTab, recounted, each_tab, same_by_one, NoSlots, counts_none, restage}
+use Rattle.core_model.proofs.SlotAnchors.{writer_is, alone_at}
 use Rattle.core_model.proofs.SlotsEntered.{no_tab_moves, one_tab_moves}
 use Rattle.core_model.proofs.Telling.{anchor_told, stage_told}
 

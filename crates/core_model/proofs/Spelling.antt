@@ -1,13 +1,11 @@
 -- Lists of slots, and link words that spell them.
 use Rattle.std.proofs.Common.{◌≡◌, ◌≢◌, ℕ, zero, suc, drop, ◌+◌, ◌<◌, ◌≤◌, List, [], ◌∷◌, ◌++◌, length, sym, refl, ap, ◌∙◌, subst, arith, cond, ◌==◌, eq-eqb, ne_eqb}
 use mathlib.Core.Option.{some, some-ne-none}
-use mathlib.Core.Logic.{dite}
 use lib.ListN.{get_elem?}
-use native.Mathlib.Decide.{ℕ_discrete}
 use Rattle.link_word.specs.declared.link.Link.{Link}
 use Rattle.link_word.specs.declared.link.Link.TheVariants.{NotWritten, Last, Next}
 use Rattle.link_word.specs.Words.{link_number}
-use Rattle.core_model.specs.Chains.{link_to, Spells, named, start_number, rest_of, one, times, behind_of, Fits, Tied}
+use Rattle.core_model.specs.Chains.{link_to, Spells, named, start_number, one, times, behind_of, Fits, Tied}
 use Rattle.core_model.specs.TabsAfter.{without}
 use Rattle.core_model.proofs.Lists.{by_eq}
 

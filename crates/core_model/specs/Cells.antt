@@ -1,12 +1,12 @@
 -- What holds between any two steps of cells and their turns, of published contents, and of the names of entries. No law speaks of
 -- these parts yet.
-use Rattle.std.specs.Prelude.{◌≡◌, ◌≢◌, ◌⊎◌, ℕ, ◌<◌, ◌≤◌, [], ◌∷◌, length, slice_index, slice_index_or, Some, None, Contains, true, false, cond, ◌==◌, sum_by}
+use Rattle.std.specs.Prelude.{◌≡◌, ◌≢◌, ◌⊎◌, ℕ, ◌<◌, ◌≤◌, ◌∷◌, length, slice_index, slice_index_or, Some, None, Contains, true, cond, ◌==◌, sum_by}
 use mathlib.Core.Option.{some}
 use lib.ListN.{get_elem?}
 use Rattle.lock_word.specs.Words.{epoch_of, version_of, stage_of}
 use Rattle.link_word.specs.declared.link.Link.TheVariants.{NotWritten}
 use Rattle.core_model.specs.declared.moves.Side.{Side}
-use Rattle.core_model.specs.declared.moves.Side.TheVariants.{Key0, Key1, Offer, Start}
+use Rattle.core_model.specs.declared.moves.Side.TheVariants.{Offer, Start}
 use Rattle.core_model.specs.declared.tab.Cell.{Cell}
 use Rattle.core_model.specs.declared.tab.Piece.{Piece}
 use Rattle.core_model.specs.declared.tab.Hold.{Hold}
