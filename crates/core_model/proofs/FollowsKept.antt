@@ -32,7 +32,7 @@ use Rattle.core_model.specs.TabsAfter.{link_of, looks}
 use Rattle.core_model.specs.Records.{item_of, follows}
 use Rattle.core_model.specs.Steps.{finding, view_after, after}
 use Rattle.core_model.specs.Slots.{SlotWords, slot_words, held_in, resting_in, published_in, standing_in, ChainStands, WriterHolds, ReaderHolds, TabHolds, SlotsHold, SlotsSound}
-use Rattle.core_model.specs.Sound.{AnchorsSound}
+use Rattle.core_model.specs.Sound.{AnchorsSound, WordsSound}
 use Rattle.core_model.proofs.Lists.{le_sum_at, sum_at, sum_mono, cons_contains, contains_none}
 use Rattle.core_model.proofs.Matching.{has_writer}
 use Rattle.core_model.proofs.Spelling.{suc_is, one_same}
@@ -44,7 +44,7 @@ use Rattle.core_model.proofs.SlotsLoosened.{standing_few}
 use Rattle.core_model.proofs.SlotAnchors.{reader_stage}
 use Rattle.core_model.proofs.BesideKept.{SightsOwe, besides}
 use Rattle.core_model.proofs.BesideKinds.{Likens, tabs_as_before, tab_as_before, sees_nothing, quiet_followed, at_slot}
-use Rattle.core_model.proofs.OwnsKept.{BothSound, tab_was, in_table, held_slot}
+use Rattle.core_model.proofs.OwnsKept.{tab_was, in_table, held_slot}
 
 -- the link of the slot at a place
 pub spelled_at : (links : ℕ → ℕ) (xs : List ℕ) (e : Link) (p slot : ℕ) → Spells links xs e → get_elem? xs p ≡ some slot → links slot ≡ link_number (link_to (drop (suc p) xs) e)
@@ -237,7 +237,7 @@ module _ {X : Type 0} (k : Setting X) (s : State X) (i : ℕ) (v : View X) (so :
   looks_of (Writing x) was h = absurd (⊎_elim (λ (z : ⊥). z) (λ (z : ⊥). z) h)
   looks_of (Last b) was h = absurd (⊎_elim (λ (z : ⊥). z) (λ (z : ⊥). z) h)
 
-  pub get_link_both : Allowed k s v (GetLink t slot) → BothSound k (after k s i v (GetLink t slot))
+  pub get_link_both : Allowed k s v (GetLink t slot) → WordsSound k (after k s i v (GetLink t slot))
   get_link_both may = let x : Tab X = tab_at v t in let was = tab_was k s i v so sl at pass t x may.0 refl in let l = looks_of x was may.1 in let lt = l.inside in let new : Tab X = looks x link_word in
       let v' : View X = view_after v (GetLink t slot) (finding k s v (GetLink t slot)) in let one : OneTab v v' t x new = record { was = was; becomes = refl } in record {
         anchors = at_slot k s i v so at pass (item_of v (GetLink t slot) link_word) quiet_followed (set v.tabs t new) (tab_as_before k s i v so at pass v.tabs (tabs_as_before k s i v so at pass) t x new was l.likens)

@@ -22,7 +22,7 @@ use Rattle.core_model.specs.TabsAfter.{settled, without, reserves, gives_back, l
 use Rattle.core_model.specs.Records.{item_of}
 use Rattle.core_model.specs.Steps.{finding, view_after, after}
 use Rattle.core_model.specs.Slots.{SlotWords, slot_words, used, held_in, SlotsHold, SlotsSound}
-use Rattle.core_model.specs.Sound.{AnchorsSound}
+use Rattle.core_model.specs.Sound.{AnchorsSound, WordsSound}
 use Rattle.core_model.proofs.Lists.{le_sum_at, set_else}
 use Rattle.core_model.proofs.Tabs.{tab_there, contains_times}
 use Rattle.core_model.proofs.TakesKept.{free_is}
@@ -38,11 +38,6 @@ use Rattle.core_model.proofs.BesideKinds.{Likens, TabsLiken, tabs_as_before, tab
 and_false : (b : Bool) → (b && false) ≡ false
 and_false true = refl
 and_false false = refl
-
--- both parts that the laws speak of
-pub record BothSound {X : Type 0} (k : Setting X) (s : State X) : Type 0 where
-  pub anchors : AnchorsSound k s
-  pub slots : SlotsSound k s
 
 module _ {X : Type 0} where
   pub of_writer : (P : Writer X → Type 0) (x : Tab X) → OfWriter P x → (w : Writer X) × (x ≡ Writing w) × P w
@@ -153,7 +148,7 @@ module _ {X : Type 0} (k : Setting X) (s : State X) (i : ℕ) (v : View X) (so :
           (told_in k.slots slot n inside ∙ eqb-true n 0 (sym e)) (omega arith) tab.2 (none_frees may.2)
           record { was = was ∙ ap some tab.1; becomes = tabs ∙ ap (λ z. set v.tabs t (reserves z slot)) tab.1 })
 
-      pub own_both : BothSound k (after k s i v (Own t slot))
+      pub own_both : WordsSound k (after k s i v (Own t slot))
       own_both = record { anchors = own_anchors; slots = owns (n == 0) refl (view_after v (Own t slot) (finding k s v (Own t slot))) refl }
 
     -- To give one back.
@@ -201,7 +196,7 @@ module _ {X : Type 0} (k : Setting X) (s : State X) (i : ℕ) (v : View X) (so :
       gives (Reading r) e h v' tabs = absurd (⊎_elim (λ (z : ⊥). z) (λ (z : ⊥). z) h)
       gives (Last b) e h v' tabs = absurd (⊎_elim (λ (z : ⊥). z) (λ (z : ⊥). z) h)
 
-      pub disown_both : BothSound k (after k s i v (Disown t slot))
+      pub disown_both : WordsSound k (after k s i v (Disown t slot))
       disown_both = let v' : View X = view_after v (Disown t slot) (finding k s v (Disown t slot)) in record {
         anchors = disown_anchors;
         slots = subst (λ z. SlotsHold k.anchors z s.chains (set s.views i v')) (sym (owner_told k s.words slot 0 a_slot so.shaped.words)) (gives (tab_at v t) refl may.1 v' refl);
@@ -304,7 +299,7 @@ module _ {X : Type 0} (k : Setting X) (s : State X) (i : ℕ) (v : View X) (so :
           over (Last b) y e e' h g = absurd h
           over (Freeing f) y e e' h g = absurd h
 
-      pub loosen_both : BothSound k (after k s i v (Loosen t slot))
+      pub loosen_both : WordsSound k (after k s i v (Loosen t slot))
       loosen_both = let v' : View X = view_after v (Loosen t slot) (finding k s v (Loosen t slot)) in let q = leaves (t == inner) refl in record {
         anchors = linked q.0 (LooseTabs (t == inner)) q.1;
         slots = q.2 v' refl;

@@ -29,7 +29,7 @@ use Rattle.core_model.specs.TabsAfter.{publishes}
 use Rattle.core_model.specs.Records.{item_of, shows}
 use Rattle.core_model.specs.Steps.{finding, view_after, longer, after}
 use Rattle.core_model.specs.Slots.{SlotWords, slot_words, WriterHolds, SlotsHold, SlotsSound}
-use Rattle.core_model.specs.Sound.{AnchorsSound}
+use Rattle.core_model.specs.Sound.{AnchorsSound, WordsSound}
 use Rattle.core_model.proofs.Matching.{matches_writer}
 use Rattle.core_model.proofs.Spelling.{one_same, length_more}
 use Rattle.core_model.proofs.Telling.{told_in, link_told, stage_told}
@@ -38,7 +38,7 @@ use Rattle.core_model.proofs.SlotsPublished.{publish_keeps}
 use Rattle.core_model.proofs.BesideKept.{beside, besides}
 use Rattle.core_model.proofs.BesideKinds.{Likens, tabs_as_before, tab_as_before, side_low, quiet_linked, at_slot}
 use Rattle.core_model.proofs.SightsKept.{Each, IsSo, OfNow, stored_value, sees_so}
-use Rattle.core_model.proofs.OwnsKept.{BothSound, of_writer, tab_was, held_slot}
+use Rattle.core_model.proofs.OwnsKept.{of_writer, tab_was, held_slot}
 
 module _ {X : Type 0} (k : Setting X) (s : State X) (i : ℕ) (v : View X) (so : AnchorsSound k s) (sl : SlotsSound k s) (at : get_elem? s.views i ≡ some v) (pass : IsPass v)
     (t slot : ℕ) (link : Link) (x : Writer X) (was : get_elem? v.tabs t ≡ some (Writing x)) (may : MayPublish k s slot link x) where
@@ -131,7 +131,7 @@ module _ {X : Type 0} (k : Setting X) (s : State X) (i : ℕ) (v : View X) (so :
       record { was = was; becomes = tabs })
 
 pub publish_both : {X : Type 0} → (k : Setting X) (s : State X) (i : ℕ) (v : View X) → AnchorsSound k s → SlotsSound k s → get_elem? s.views i ≡ some v → IsPass v → (t slot : ℕ) (link : Link) → Allowed k s v (Publish t slot link)
-    → BothSound k (after k s i v (Publish t slot link))
+    → WordsSound k (after k s i v (Publish t slot link))
 publish_both {X} k s i v so sl at pass t slot link may = let q = of_writer (MayPublish k s slot link) (tab_at v t) may.1 in let v' : View X = view_after v (Publish t slot link) (finding k s v (Publish t slot link)) in
     let was = tab_was k s i v so sl at pass t (Writing q.0) (let z = may.0 in omega arith) q.1 in record {
       anchors = subst (λ (z : Tab X). AnchorsSound k (besides k s i (beside v (set v.tabs t (publishes z slot link)) (shows z) (item_of v (Publish t slot link) (get_or s.words (5 * k.anchors + k.slots + slot) 0)) (LinkWord slot) (link_number link)) (LinkWord slot) (link_number link)

@@ -27,7 +27,7 @@ use Rattle.core_model.specs.TabsAfter.{stored, stores, loaded}
 use Rattle.core_model.specs.Records.{item_of, loads}
 use Rattle.core_model.specs.Steps.{finding, view_after, after}
 use Rattle.core_model.specs.Slots.{SlotWords, slot_words, held_in, resting_in, writes_at, Replaces, ReaderHolds, TabHolds, SlotsHold, SlotsSound}
-use Rattle.core_model.specs.Sound.{AnchorsSound}
+use Rattle.core_model.specs.Sound.{AnchorsSound, WordsSound}
 use Rattle.core_model.proofs.Lists.{sum_some}
 use Rattle.core_model.proofs.Telling.{set_again, told_in, stage_told, stored_told, stored_here, stored_else, sides_apart, sides_differ, side_in}
 use Rattle.core_model.proofs.SlotTabs.{SameWriters, tab_later}
@@ -37,7 +37,7 @@ use Rattle.core_model.proofs.SlotsStored.{store_keeps}
 use Rattle.core_model.proofs.BesideKept.{SightsOwe, beside, besides}
 use Rattle.core_model.proofs.BesideKinds.{Likens, tabs_as_before, tab_as_before, sees_nothing, quiet_loaded, quiet_stored, at_side}
 use Rattle.core_model.proofs.SightsKept.{IsSo, sees_so}
-use Rattle.core_model.proofs.OwnsKept.{BothSound, of_writer, tab_was, none_frees}
+use Rattle.core_model.proofs.OwnsKept.{of_writer, tab_was, none_frees}
 
 module _ {X : Type 0} (k : Setting X) (s : State X) (i : ℕ) (v : View X) (so : AnchorsSound k s) (sl : SlotsSound k s) (at : get_elem? s.views i ≡ some v) (pass : IsPass v) where
   abbrev w : SlotWords
@@ -120,7 +120,7 @@ module _ {X : Type 0} (k : Setting X) (s : State X) (i : ℕ) (v : View X) (so :
         (λ j u ut p y is same. sole_writer k s so sl j u ut p y is i v at t x was same)
         no_rest record { was = was; becomes = tabs })
 
-  pub store_both : (t : ℕ) (side : Side) (value : ℕ) → Allowed k s v (StoreSide t side value) → BothSound k (after k s i v (StoreSide t side value))
+  pub store_both : (t : ℕ) (side : Side) (value : ℕ) → Allowed k s v (StoreSide t side value) → WordsSound k (after k s i v (StoreSide t side value))
   store_both t side value may = let q = of_writer (λ x. (x.is_appending ≡ false) × MayStore k x side value) (tab_at v t) may.2 in let v' : View X = view_after v (StoreSide t side value) (finding k s v (StoreSide t side value)) in
       let was = tab_was k s i v so sl at pass t (Writing q.0) (let z = may.0 in omega arith) q.1 in record {
         anchors = subst (λ (z : Tab X). AnchorsSound k (besides k s i (beside v (set v.tabs t (stores z side value)) [] (item_of v (StoreSide t side value) (get_or s.words (index k (Beside side (anchor_of z))) 0)) (Beside side (anchor_of z)) value) (Beside side (anchor_of z)) value s.chains)) (sym q.1)
@@ -245,7 +245,7 @@ module _ {X : Type 0} (k : Setting X) (s : State X) (i : ℕ) (v : View X) (so :
   loads_of t side (Retreating b) was h = cc
   loads_of t side (Last b) was h = cc
 
-  pub load_both : (t : ℕ) (side : Side) → Allowed k s v (LoadSide t side) → BothSound k (after k s i v (LoadSide t side))
+  pub load_both : (t : ℕ) (side : Side) → Allowed k s v (LoadSide t side) → WordsSound k (after k s i v (LoadSide t side))
   load_both t side may = let x : Tab X = tab_at v t in let was = tab_was k s i v so sl at pass t x may.0 refl in let l = loads_of t side x was may.1 in let n : ℕ = found t side x in let new : Tab X = loaded x side n in
       let v' : View X = view_after v (LoadSide t side) (finding k s v (LoadSide t side)) in let one : OneTab v v' t x new = record { was = was; becomes = refl } in let q = side_in k s.words side (anchor_of x) l.inside in record {
         anchors = at_side k s i v so at pass (item_of v (LoadSide t side) n) quiet_loaded (set v.tabs t new) (tab_as_before k s i v so at pass v.tabs (tabs_as_before k s i v so at pass) t x new was l.likens)

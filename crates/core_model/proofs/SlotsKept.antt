@@ -10,21 +10,21 @@ use Rattle.core_model.specs.State.{State}
 use Rattle.core_model.specs.Allowed.{IsLawful, MayStep}
 use Rattle.core_model.specs.Steps.{after}
 use Rattle.core_model.specs.Slots.{SlotsSound}
-use Rattle.core_model.specs.Sound.{AnchorsSound}
+use Rattle.core_model.specs.Sound.{AnchorsSound, WordsSound}
 use Rattle.core_model.proofs.SlotsEntered.{look_slots, enter_slots, leave_slots, count_slots, draw_slots, doom_slots}
 use Rattle.core_model.proofs.SlotsRaised.{raise_slots}
 use Rattle.core_model.proofs.SlotsTaken.{take_slots, evict_slots}
-use Rattle.core_model.proofs.OwnsKept.{BothSound, own_both, disown_both, loosen_both}
+use Rattle.core_model.proofs.OwnsKept.{own_both, disown_both, loosen_both}
 use Rattle.core_model.proofs.FollowsKept.{get_link_both}
 use Rattle.core_model.proofs.PublishesKept.{publish_both}
 use Rattle.core_model.proofs.SidesKept.{load_both, store_both}
 use Rattle.core_model.proofs.Kept.{keeps}
 
 -- a step on an anchor, or on the counter
-both : {X : Type 0} → (k : Setting X) (s : State X) (i : ℕ) (v : View X) (m : Move) → AnchorsSound k s → get_elem? s.views i ≡ some v → MayStep k s v m → SlotsSound k (after k s i v m) → BothSound k (after k s i v m)
+both : {X : Type 0} → (k : Setting X) (s : State X) (i : ℕ) (v : View X) (m : Move) → AnchorsSound k s → get_elem? s.views i ≡ some v → MayStep k s v m → SlotsSound k (after k s i v m) → WordsSound k (after k s i v m)
 both k s i v m so at may slots = record { anchors = keeps k s i v m so at may; slots = slots }
 
-pub keeps_both : {X : Type 0} → (k : Setting X) (s : State X) (i : ℕ) (v : View X) (m : Move) → AnchorsSound k s → SlotsSound k s → get_elem? s.views i ≡ some v → IsLawful k s v m → BothSound k (after k s i v m)
+pub keeps_both : {X : Type 0} → (k : Setting X) (s : State X) (i : ℕ) (v : View X) (m : Move) → AnchorsSound k s → SlotsSound k s → get_elem? s.views i ≡ some v → IsLawful k s v m → WordsSound k (after k s i v m)
 keeps_both k s i v (Look a) so sl at may = both k s i v (Look a) so at record { pass = may.pass; ready = tt; allowed = may.allowed } (look_slots k s i v so sl at may.pass a may.allowed)
 keeps_both k s i v (Enter t a) so sl at may = both k s i v (Enter t a) so at record { pass = may.pass; ready = tt; allowed = may.allowed } (enter_slots k s i v so sl at may.pass t a may.allowed)
 keeps_both k s i v (Leave t) so sl at may = both k s i v (Leave t) so at record { pass = may.pass; ready = tt; allowed = may.allowed } (leave_slots k s i v so sl at may.pass t may.allowed)

@@ -21,9 +21,8 @@ ghost use Rattle.core_model.specs.Known.{Known};
 ghost use Rattle.core_model.specs.Matching.{IsTab, MatchesWriter, HasWriter, HasFreer};
 ghost use Rattle.core_model.specs.Anchors.{IsSetting};
 ghost use Rattle.core_model.specs.Opening.{IsOpened};
-ghost use Rattle.core_model.specs.Slots.{SlotsSound};
 ghost use Rattle.core_model.specs.Spots.{HasOneSpot, IsIn, IsReplaced, IsUnwritten};
-ghost use Rattle.core_model.specs.Sound.{AnchorsSound};
+ghost use Rattle.core_model.specs.Sound.{AnchorsSound, WordsSound};
 
 /// A step that is allowed in a sound state leaves a sound state.
 pub fn steps_keep_sound<X>()
@@ -34,10 +33,8 @@ pub fn steps_keep_sound<X>()
 /// A step of which a law speaks leaves each slot at one place, and words that spell the chains and what
 /// is being given back, and what is sound of the anchors.
 pub fn steps_keep_slots<X>()
-    ensures anchors { (k : Setting X) (s : State X) (i : ℕ) (v : View X) (m : Move)
-        → AnchorsSound k s → SlotsSound k s → get_elem? s.views i ≡ some v → IsLawful k s v m → AnchorsSound k (after k s i v m) }
-    ensures slots { (k : Setting X) (s : State X) (i : ℕ) (v : View X) (m : Move)
-        → AnchorsSound k s → SlotsSound k s → get_elem? s.views i ≡ some v → IsLawful k s v m → SlotsSound k (after k s i v m) }
+    ensures { (k : Setting X) (s : State X) (i : ℕ) (v : View X) (m : Move)
+        → WordsSound k s → get_elem? s.views i ≡ some v → IsLawful k s v m → WordsSound k (after k s i v m) }
 {}
 
 /// A store that was just opened is sound.
@@ -50,9 +47,9 @@ pub fn openings_are_sound<X>()
 /// chain that is given back.
 pub fn slots_have_one_spot<X>()
     ensures one { (k : Setting X) (s : State X) (slot : ℕ)
-        → AnchorsSound k s → SlotsSound k s → slot < k.slots → HasOneSpot k s slot }
+        → WordsSound k s → slot < k.slots → HasOneSpot k s slot }
     ensures unwritten { (k : Setting X) (s : State X) (slot : ℕ) (spot : Spot)
-        → AnchorsSound k s → SlotsSound k s → slot < k.slots → IsUnwritten spot → IsIn k s slot spot
+        → WordsSound k s → slot < k.slots → IsUnwritten spot → IsIn k s slot spot
         → slice_index s.words (index k (Place.Link slot)) ≡ 0 }
 {}
 
@@ -60,17 +57,17 @@ pub fn slots_have_one_spot<X>()
 /// the same pass replaces the entry, and has no slot there yet.
 pub fn rests_have_one_tab<X>()
     ensures one { (k : Setting X) (s : State X) (i j t u : ℕ) (f g : Freer)
-        → AnchorsSound k s → SlotsSound k s → IsTab s i t (Tab.Freeing f) → IsTab s j u (Tab.Freeing g) → f.anchor ≡ g.anchor
+        → WordsSound k s → IsTab s i t (Tab.Freeing f) → IsTab s j u (Tab.Freeing g) → f.anchor ≡ g.anchor
         → (i ≡ j) × (t ≡ u) }
     ensures replaced { (k : Setting X) (s : State X) (i t : ℕ) (f : Freer)
-        → AnchorsSound k s → SlotsSound k s → IsTab s i t (Tab.Freeing f) → f.is_freeing ≡ false → IsReplaced s i f.anchor }
+        → WordsSound k s → IsTab s i t (Tab.Freeing f) → f.is_freeing ≡ false → IsReplaced s i f.anchor }
 {}
 
 /// In a store that was just opened with what a rebuild kept each slot is at one place, and the words
 /// spell the chains.
 pub fn openings_place_slots<X>()
     ensures { (k : Setting X) (r : Rebuilt) (s : State X) (slot : ℕ) (images : List (List ℕ))
-        → IsSetting k → IsOpened k r s → IsRebuilt slot images k.anchors r → length images ≡ k.slots → SlotsSound k s }
+        → IsSetting k → IsOpened k r s → IsRebuilt slot images k.anchors r → length images ≡ k.slots → WordsSound k s }
 {}
 
 /// What a sound state tells the pass that makes a step of the number that it finds.
