@@ -90,14 +90,14 @@ module _ {X : Type 0} (k : Setting X) (s : State X) (i : ℕ) (v : View X) (so :
   link_word = get_or s.words (5 * k.anchors + k.slots + slot) 0
 
   -- what the link of the slot at a reading tab's place says
-  record IsFollowed (r : Reader X) : Type 0 where
-    inside : slot < k.slots
-    says : ((r.place < length (chain_of s r.anchor).slots) × (link_word ≡ link_number (link_at (chain_of s r.anchor) r.place))) ⊎ (link_word ≡ 0)
+  pub record IsFollowed (r : Reader X) : Type 0 where
+    pub inside : slot < k.slots
+    pub says : ((r.place < length (chain_of s r.anchor).slots) × (link_word ≡ link_number (link_at (chain_of s r.anchor) r.place))) ⊎ (link_word ≡ 0)
 
   standing_slot : (a : ℕ) → 0 < standing_in slot (chain_of s a) → slot < k.slots
   standing_slot a h = in_table k s i v so sl at pass slot (let f = standing_few slot s.chains a in let p = sl.places.owners slot in let u = used_few (w.owner slot) in omega arith)
 
-  followed : (r : Reader X) → get_elem? v.tabs t ≡ some (Reading r) → IsNext s slot r → IsFollowed r
+  pub followed : (r : Reader X) → get_elem? v.tabs t ≡ some (Reading r) → IsNext s slot r → IsFollowed r
   followed r was next = ⊎_elim
       (λ (q : (r.place < length (chain_of s r.anchor).slots) × (get_elem? (chain_of s r.anchor).slots r.place ≡ some slot)).
       let lt = standing_slot r.anchor (let z = at_times (chain_of s r.anchor).slots r.place slot q.1 in omega arith) in record {

@@ -42,3 +42,4 @@ pub mod SidesKept
 pub mod SlotsOpened
 pub mod OneSpot
 pub mod Rests
+pub mod SlotFinds

@@ -167,7 +167,7 @@ module _ {X : Type 0} (k : Setting X) (s : State X) (i : ℕ) (v : View X) (so :
       back_likens (Reading r) h = absurd (⊎_elim (λ (z : ⊥). z) (λ (z : ⊥). z) h)
       back_likens (Last b) h = absurd (⊎_elim (λ (z : ⊥). z) (λ (z : ⊥). z) h)
 
-      back_held : (x : Tab X) → Back x → 0 < held_in slot x
+      pub back_held : (x : Tab X) → Back x → 0 < held_in slot x
       back_held (Writing x) (inl h) = let z = contains_times slot x.reserved h.0 in omega arith
       back_held (Writing x) (inr h) = absurd h
       back_held (Freeing f) (inl h) = absurd h

@@ -17,7 +17,7 @@ ghost use Rattle.lock_word.specs.Words.{epoch_of, stage_of, is_written};
 ghost use Rattle.core_model.specs.State.{State, word};
 ghost use Rattle.core_model.specs.Allowed.{IsLawful, MayStep};
 ghost use Rattle.core_model.specs.Steps.{number_found, after};
-ghost use Rattle.core_model.specs.Known.{Known};
+ghost use Rattle.core_model.specs.Known.{Known, KnownSlot};
 ghost use Rattle.core_model.specs.Matching.{IsTab, MatchesWriter, HasWriter, HasFreer};
 ghost use Rattle.core_model.specs.Anchors.{IsSetting};
 ghost use Rattle.core_model.specs.Opening.{IsOpened};
@@ -74,6 +74,12 @@ pub fn openings_place_slots<X>()
 pub fn finds_are_known<X>()
     ensures { (k : Setting X) (s : State X) (i : ℕ) (v : View X) (m : Move)
         → AnchorsSound k s → get_elem? s.views i ≡ some v → MayStep k s v m → Known v m (number_found k s v m) }
+{}
+
+/// What it tells the pass of the number that a step on a slot finds.
+pub fn slot_finds_are_known<X>()
+    ensures { (k : Setting X) (s : State X) (i : ℕ) (v : View X) (m : Move)
+        → WordsSound k s → get_elem? s.views i ≡ some v → IsLawful k s v m → KnownSlot s v m (number_found k s v m) }
 {}
 
 /// What tabs know of the words of their anchors is so, and each word at TAKEN, APPENDING or FREEING has
