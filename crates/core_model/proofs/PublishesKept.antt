@@ -23,7 +23,7 @@ use Rattle.core_model.specs.Layout.{Setting, index}
 use Rattle.core_model.specs.State.{State, word, chain_of}
 use Rattle.core_model.specs.Chains.{no_chain, times, link_to, rest_of}
 use Rattle.core_model.specs.Trails.{seen_at}
-use Rattle.core_model.specs.Tabs.{tab_at, inner, anchor_of}
+use Rattle.core_model.specs.Tabs.{tab_at, inner, anchor_of, stage_written}
 use Rattle.core_model.specs.Allowed.{IsPass, Allowed, MayPublish}
 use Rattle.core_model.specs.TabsAfter.{publishes}
 use Rattle.core_model.specs.Records.{item_of, shows}
@@ -54,7 +54,7 @@ module _ {X : Type 0} (k : Setting X) (s : State X) (i : ℕ) (v : View X) (so :
   abbrev chains : List Chain
   chains = set s.chains a (longer (chain_of s a) slot link)
 
-  there : (a < k.anchors) × (stage_of (epoch_of (word s a)) ≡ Rattle.core_model.specs.Tabs.stage_written x) × (1 ≤ stage_of (epoch_of (word s a))) × (stage_of (epoch_of (word s a)) ≤ 2)
+  there : (a < k.anchors) × (stage_of (epoch_of (word s a)) ≡ stage_written x) × (1 ≤ stage_of (epoch_of (word s a))) × (stage_of (epoch_of (word s a)) ≤ 2)
   there = writer_stage k s so sl i v at t x was
 
   holds : WriterHolds (w.beside a) (chain_of s a) x

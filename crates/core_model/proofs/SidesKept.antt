@@ -28,7 +28,7 @@ use Rattle.core_model.specs.Records.{item_of, loads}
 use Rattle.core_model.specs.Steps.{finding, view_after, after}
 use Rattle.core_model.specs.Slots.{SlotWords, slot_words, held_in, resting_in, writes_at, Replaces, ReaderHolds, TabHolds, SlotsHold, SlotsSound}
 use Rattle.core_model.specs.Sound.{AnchorsSound, WordsSound}
-use Rattle.core_model.proofs.Lists.{sum_some}
+use Rattle.core_model.proofs.Lists.{sum_some, by_eq}
 use Rattle.core_model.proofs.Telling.{set_again, told_in, stage_told, stored_told, stored_here, stored_else, sides_apart, sides_differ, side_in}
 use Rattle.core_model.proofs.SlotTabs.{SameWriters, tab_later}
 use Rattle.core_model.proofs.SlotKinds.{OneTab, recounted, each_tab, same_by_one, quiet}
@@ -227,7 +227,7 @@ module _ {X : Type 0} (k : Setting X) (s : State X) (i : ℕ) (v : View X) (so :
 
       at_first : (slot : ℕ) → cond (r.place == 0) (cond (get_or s.words (index k (Beside Start r.anchor)) 0 == 0) None (Some (get_or s.words (index k (Beside Start r.anchor)) 0 - 1))) r.slot ≡ Some slot
           → get_elem? ((chain_of s r.anchor).slots ++ named (chain_of s r.anchor).end) r.place ≡ some slot
-      at_first slot = Rattle.core_model.proofs.Lists.by_eq
+      at_first slot = by_eq
           (λ z. cond z (cond (get_or s.words (index k (Beside Start r.anchor)) 0 == 0) None (Some (get_or s.words (index k (Beside Start r.anchor)) 0 - 1))) r.slot ≡ Some slot → get_elem? ((chain_of s r.anchor).slots ++ named (chain_of s r.anchor).end) r.place ≡ some slot)
           r.place 0
           (λ e q. subst (λ (z : ℕ). get_elem? ((chain_of s r.anchor).slots ++ named (chain_of s r.anchor).end) z ≡ some slot) (sym e)

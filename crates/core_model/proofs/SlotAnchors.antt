@@ -18,9 +18,9 @@ use Rattle.core_model.specs.Tabs.{counts, stage_written, count}
 use Rattle.core_model.specs.Matching.{IsTab}
 use Rattle.core_model.specs.Slots.{slot_words, writes_at, Replaces, SlotsSound}
 use Rattle.core_model.specs.Sound.{AnchorsSound}
-use Rattle.core_model.proofs.Lists.{le_sum_at, sum_some}
+use Rattle.core_model.proofs.Lists.{le_sum_at, sum_some, by_eq}
 use Rattle.core_model.proofs.Matching.{matches_writer, matches_freer, one_writer}
-use Rattle.core_model.proofs.SlotTabs.{SameSlots, same_writers, Steady}
+use Rattle.core_model.proofs.SlotTabs.{SameSlots, same_writers, Steady, SameWriters}
 use Rattle.core_model.proofs.Telling.{stage_told}
 
 -- 1 or 2
@@ -40,7 +40,7 @@ module _ {X : Type 0} where
   writer_is a (Writing w) h = (w, refl, at_a h)
     where
       at_a : 0 < writes_at a (Writing w) → w.anchor ≡ a
-      at_a = Rattle.core_model.proofs.Lists.by_eq (λ z. 0 < cond z 1 0 → w.anchor ≡ a) w.anchor a (λ e _. e) (λ _ h. absurd (omega arith))
+      at_a = by_eq (λ z. 0 < cond z 1 0 → w.anchor ≡ a) w.anchor a (λ e _. e) (λ _ h. absurd (omega arith))
   writer_is a (Last b) h = absurd (omega arith)
   writer_is a (Freeing f) h = absurd (omega arith)
 
@@ -80,7 +80,7 @@ module _ {X : Type 0} where
 
     -- nobody reads, writes or frees at an anchor of this stage, which has no readers
     pub alone_at : (a : ℕ) → readers_of (word s a) ≡ 0 → (stage_at a ≢ 1) × (stage_at a ≢ 2) × (stage_at a ≢ 5)
-        → (cs' : List Chain) (u' : View X) → (j : ℕ) (u : View X) → get_elem? s.views j ≡ some u → ((b : ℕ) → b ≢ a → Rattle.core_model.proofs.SlotTabs.SameWriters u u' b)
+        → (cs' : List Chain) (u' : View X) → (j : ℕ) (u : View X) → get_elem? s.views j ≡ some u → ((b : ℕ) → b ≢ a → SameWriters u u' b)
         → (t : ℕ) (tab : Tab X) → get_elem? u.tabs t ≡ some tab → Steady s.chains cs' a u u' tab
     alone_at a unread off cs' u' j u at same t tab was = record {
       reads = λ r e on. absurd (let q = (reader_stage j u at t r (was ∙ ap some e)).3 in let z = ap (λ (b : ℕ). readers_of (word s b)) on in omega arith);

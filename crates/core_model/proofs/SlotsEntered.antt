@@ -1,6 +1,6 @@
 -- To look at an anchor, to enter it, to leave it and to doom its entry leave all slots where they are, and so do looks at the counter
 -- and draws.
-use Rattle.std.proofs.Common.{◌≡◌, ◌≢◌, ◌⊎◌, inl, inr, ⊎_elim, ℕ, ◌+◌, ◌-◌, ◌<◌, ◌≤◌, List, [], ◌∷◌, get_or, set, sym, refl, ap, ◌∙◌, subst, arith, Bool, true, false, cond, None}
+use Rattle.std.proofs.Common.{◌≡◌, ◌≢◌, ◌⊎◌, inl, inr, ⊎_elim, ℕ, ◌+◌, ◌-◌, ◌<◌, ◌≤◌, List, [], ◌∷◌, get_or, set, sym, refl, ap, ◌∙◌, subst, arith, Bool, true, false, cond, None, length}
 use mathlib.Core.Option.{some}
 use lib.ListN.{get_elem?}
 use Rattle.lock_word.specs.Words.{readers_of, epoch_of, version_of, stage_of, is_readable, is_left_over, doomed}
@@ -20,7 +20,7 @@ use Rattle.core_model.specs.Tabs.{tab_at, anchor_of, is_counted}
 use Rattle.core_model.specs.Allowed.{IsPass, Allowed}
 use Rattle.core_model.specs.TabsAfter.{entered, left_tab}
 use Rattle.core_model.specs.Steps.{finding, view_after, after}
-use Rattle.core_model.specs.Slots.{slot_words, ChainStands, ReaderHolds, TabHolds, SlotsHold, SlotsSound}
+use Rattle.core_model.specs.Slots.{slot_words, ChainStands, ReaderHolds, TabHolds, SlotsHold, SlotsSound, SlotWords}
 use Rattle.core_model.specs.Sound.{AnchorsSound}
 use Rattle.core_model.proofs.Tabs.{tab_there}
 use Rattle.core_model.proofs.EntersKept.{few_readers, counted_there, has_reader}
@@ -54,7 +54,7 @@ module _ {X : Type 0} (k : Setting X) (s : State X) (i : ℕ) (v : View X) (so :
   draw_slots = told_again _ s.chains _ (counter_told k s.words _) (no_turn k.anchors (slot_words k s.words) s.chains s.views i v sl at (view_after v Draw (finding k s v Draw)) refl)
 
   -- an entry that can be read has a slot
-  pub has_slot : (a : ℕ) → a < k.anchors → (stage_of (epoch_of (word s a)) ≡ 2) ⊎ (stage_of (epoch_of (word s a)) ≡ 3) → 0 < Rattle.std.proofs.Common.length (chain_of s a).slots
+  pub has_slot : (a : ℕ) → a < k.anchors → (stage_of (epoch_of (word s a)) ≡ 2) ⊎ (stage_of (epoch_of (word s a)) ≡ 3) → 0 < length (chain_of s a).slots
   has_slot a lt st = let c = sl.stand a lt in let e = stage_told k s.words a lt in some_fits (chain_of s a).slots (chain_of s a).end c.fits
       (λ none. ⊎_elim (λ (q : stage_of (epoch_of (word s a)) ≡ 2). c.grows (e ∙ q) none) (λ (q : stage_of (epoch_of (word s a)) ≡ 3). last_is_written (sym (c.closed (e ∙ q)) ∙ none)) st)
 
@@ -90,7 +90,7 @@ module _ {X : Type 0} (k : Setting X) (s : State X) (i : ℕ) (v : View X) (so :
   left_none a true = tt
   left_none a false = tt
 
-  pub left_holds : (w : Rattle.core_model.specs.Slots.SlotWords) (cs : List Chain) (v' : View X) (a : ℕ) (b : Bool) → TabHolds w cs v' (cond b (Last a) Free)
+  pub left_holds : (w : SlotWords) (cs : List Chain) (v' : View X) (a : ℕ) (b : Bool) → TabHolds w cs v' (cond b (Last a) Free)
   left_holds w cs v' a true = tt
   left_holds w cs v' a false = tt
 

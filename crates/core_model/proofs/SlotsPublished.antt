@@ -1,6 +1,6 @@
 -- The first reserved slot is published, to the parts on slots.
 use Rattle.std.proofs.Common.{◌≡◌, ◌≢◌, inl, ⊎_elim, ℕ, ◌+◌, ◌<◌, ◌≤◌, List, [], ◌∷◌, ◌++◌, drop, length, get_or, set, sym, refl, ap, ◌∙◌, subst, arith, sum_by, false, None, ne_eqb}
-use mathlib.Core.Option.{some}
+use mathlib.Core.Option.{some, some-injective}
 use mathlib.Core.Logic.{dite}
 use native.Mathlib.Decide.{ℕ_discrete}
 use lib.ListN.{get_elem?}
@@ -18,7 +18,7 @@ use Rattle.core_model.specs.Chains.{no_chain, Fits, Tied, times, one as alike, l
 use Rattle.core_model.specs.Tabs.{count}
 use Rattle.core_model.specs.Steps.{longer}
 use Rattle.core_model.specs.Slots.{SlotWords, used, held_in, resting_in, standing_in, ChainStands, WriterHolds, ReaderHolds, TabHolds, SlotsHold}
-use Rattle.core_model.proofs.Lists.{le_sum_at}
+use Rattle.core_model.proofs.Lists.{le_sum_at, two_le_sum}
 use Rattle.core_model.proofs.Spelling.{upd, upd_same, upd_other, times_append, one_same, no_items, length_more, spells_next, spells_else, spells_more, some_fits, tied_end, tied_to, fits_more, to_is_written, start_more, link_below, suc_is, at_longer}
 use Rattle.core_model.proofs.SlotFrame.{Puts, puts, framed, used_few, once, in_no_other}
 use Rattle.core_model.proofs.SlotTabs.{SameWriters, names_keep, same_writers, freer_later}
@@ -72,15 +72,15 @@ module _ {X : Type 0} (n : ℕ) (w : SlotWords) (cs : List Chain) (vs : List (Vi
 
   in_no_rest : (j : ℕ) (u : View X) → get_elem? vs j ≡ some u → (p : ℕ) (g : Freer) → get_elem? u.tabs p ≡ some (Freeing g) → times slot g.rest ≡ 0
   in_no_rest j u ut p g is = dite (ℕ_discrete j i)
-      (λ e. mine (subst (λ (z : View X). get_elem? z.tabs p ≡ some (Freeing g)) (mathlib.Core.Option.some-injective u v (sym ut ∙ subst (λ (z : ℕ). get_elem? vs z ≡ some v) (sym e) at)) is))
+      (λ e. mine (subst (λ (z : View X). get_elem? z.tabs p ≡ some (Freeing g)) (some-injective u v (sym ut ∙ subst (λ (z : ℕ). get_elem? vs z ≡ some v) (sym e) at)) is))
       (λ ne. let z = in_no_other n w cs vs so i v at slot j u held_some ne ut in let l = le_sum_at (held_in slot) u.tabs p (Freeing g) is in omega arith)
     where
       differ : Writing x ≡ Freeing g → ⊥
       differ e = cc
 
       mine : get_elem? v.tabs p ≡ some (Freeing g) → times slot g.rest ≡ 0
-      mine is = let z = Rattle.core_model.proofs.Lists.two_le_sum (held_in slot) v.tabs t p (Writing x) (Freeing g) was is
-          (λ e. differ (mathlib.Core.Option.some-injective (Writing x) (Freeing g) (sym was ∙ subst (λ (z : ℕ). get_elem? v.tabs z ≡ some (Freeing g)) e is))) in let q = ap (times slot) first in let o = one_same slot in let h = held_once.0 in omega arith
+      mine is = let z = two_le_sum (held_in slot) v.tabs t p (Writing x) (Freeing g) was is
+          (λ e. differ (some-injective (Writing x) (Freeing g) (sym was ∙ subst (λ (z : ℕ). get_elem? v.tabs z ≡ some (Freeing g)) e is))) in let q = ap (times slot) first in let o = one_same slot in let h = held_once.0 in omega arith
 
   stands : ChainStands (w.stage a) (w.start a) w.link (record { slots = x.published; end = x.end; tail = [] })
   stands = subst (ChainStands (w.stage a) (w.start a) w.link) holds.chain (so.stand a inside)

@@ -1,6 +1,6 @@
 -- To raise the stage of an anchor keeps each slot at one place: the tail of a halted entry goes from the tab to the chain.
 use Rattle.std.proofs.Common.{◌≡◌, ◌≢◌, ◌⊎◌, inl, inr, ⊎_elim, ℕ, ◌+◌, ◌-◌, ◌<◌, ◌≤◌, List, [], length, get_or, set, sym, refl, ap, ◌∙◌, subst, arith, Bool, true, false, cond}
-use mathlib.Core.Option.{some}
+use mathlib.Core.Option.{some, some-injective}
 use lib.ListN.{get_elem?}
 use Rattle.lock_word.specs.declared.stage.Stage.{Stage}
 use Rattle.lock_word.specs.declared.stage.Stage.TheVariants.{Empty, Taken, Appending, Closed, Halted, Freeing as FreeingStage, Gone}
@@ -23,7 +23,7 @@ use Rattle.core_model.specs.TabsAfter.{left_tab, raised_tab}
 use Rattle.core_model.specs.Where.{stage_held}
 use Rattle.core_model.specs.Steps.{finding, view_after, halted, after}
 use Rattle.core_model.specs.Matching.{IsTab}
-use Rattle.core_model.specs.Slots.{SlotWords, slot_words, held_in, resting_in, published_in, standing_in, writes_at, ChainStands, WriterHolds, TabHolds, SlotsHold, SlotsSound}
+use Rattle.core_model.specs.Slots.{SlotWords, slot_words, held_in, resting_in, published_in, standing_in, writes_at, ChainStands, WriterHolds, TabHolds, SlotsHold, SlotsSound, Replaces}
 use Rattle.core_model.specs.Sound.{AnchorsSound}
 use Rattle.core_model.proofs.Lists.{sum_some}
 use Rattle.core_model.proofs.Matching.{one_freer}
@@ -35,6 +35,7 @@ use Rattle.core_model.proofs.SlotKinds.{OneTab, recounted, each_tab, same_by_one
 use Rattle.core_model.proofs.SlotAnchors.{writer_is, writer_stage, sole_writer, replaces_at, freer_stage, written_few}
 use Rattle.core_model.proofs.SlotsEntered.{left_none, left_holds}
 use Rattle.core_model.proofs.Telling.{told_in, anchor_told, stage_told}
+use Rattle.std.proofs.lemmas.Bool.{false≢true}
 
 module _ {X : Type 0} (k : Setting X) (s : State X) (i : ℕ) (v : View X) (so : AnchorsSound k s) (sl : SlotsSound k s) (at : get_elem? s.views i ≡ some v) (pass : IsPass v) where
   abbrev w : SlotWords
@@ -76,10 +77,10 @@ module _ {X : Type 0} (k : Setting X) (s : State X) (i : ℕ) (v : View X) (so :
         (λ (q : (f.is_freeing ≡ false) × _). none_mine (replaces_at k s so sl j u ut p f is q.0))
         (freer_stage k s so sl j u ut p f is)
       where
-        none_mine : Rattle.core_model.specs.Slots.Replaces (stage_of (epoch_of (word s f.anchor))) (w.start f.anchor) u f.anchor → ⊥
+        none_mine : Replaces (stage_of (epoch_of (word s f.anchor))) (w.start f.anchor) u f.anchor → ⊥
         none_mine r = let c = sum_some (writes_at f.anchor) u.tabs (let m = r.mine in omega arith) in let y = writer_is f.anchor c.item c.some_ in
             let there_y : get_elem? u.tabs c.i ≡ some (Writing y.0) = c.at ∙ ap some y.1 in let same = sole_writer k s so sl i v at t x was j u ut c.i y.0 there_y (sym on ∙ sym y.2) in
-            let mine : get_elem? u.tabs t ≡ some (Writing x) = subst (λ (z : View X). get_elem? z.tabs t ≡ some (Writing x)) (mathlib.Core.Option.some-injective v u (sym at ∙ subst (λ (z : ℕ). get_elem? s.views z ≡ some u) (sym same.0) ut)) was in
+            let mine : get_elem? u.tabs t ≡ some (Writing x) = subst (λ (z : View X). get_elem? z.tabs t ≡ some (Writing x)) (some-injective v u (sym at ∙ subst (λ (z : ℕ). get_elem? s.views z ≡ some u) (sym same.0) ut)) was in
             let empty = (r.unused t x mine (sym on)).1 in let z = starts in let q = ap start_number empty in let m = r.started in let e = ap w.start on in omega arith
 
     steady_else : (cs' : List Chain) → SameSlots (chain_of s a) (get_or cs' a no_chain) → (j : ℕ) (u : View X) → j ≢ i → get_elem? s.views j ≡ some u → (p : ℕ) (tab : Tab X) → get_elem? u.tabs p ≡ some tab → Steady s.chains cs' a u u tab
@@ -211,7 +212,7 @@ module _ {X : Type 0} (k : Setting X) (s : State X) (i : ℕ) (v : View X) (so :
     inside = (so.tabs i v at t (Freeing f) was).0
 
     five : stage_of (epoch_of (word s b)) ≡ 5
-    five = ⊎_elim (λ (q : _ × (stage_of (epoch_of (word s b)) ≡ 5)). q.1) (λ (q : (f.is_freeing ≡ false) × _). absurd (Rattle.std.proofs.lemmas.Bool.false≢true (sym q.0 ∙ is_so))) (freer_stage k s so sl i v at t f was)
+    five = ⊎_elim (λ (q : _ × (stage_of (epoch_of (word s b)) ≡ 5)). q.1) (λ (q : (f.is_freeing ≡ false) × _). absurd (false≢true (sym q.0 ∙ is_so))) (freer_stage k s so sl i v at t f was)
 
     no_chain_here : chain_of s b ≡ no_chain
     no_chain_here = (sl.stand b inside).gone (inr (let e = stage_told k s.words b inside in let q = five in omega arith))

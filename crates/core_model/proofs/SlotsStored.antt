@@ -12,7 +12,7 @@ use Rattle.core_model.specs.declared.tab.Tab.TheVariants.{Free, Retreating, Read
 use Rattle.core_model.specs.declared.view.View.{View}
 use Rattle.core_model.specs.declared.chain.Chain.{Chain}
 use Rattle.core_model.specs.Layout.{Setting}
-use Rattle.core_model.specs.Chains.{no_chain, start_number}
+use Rattle.core_model.specs.Chains.{no_chain, start_number, times}
 use Rattle.core_model.specs.Allowed.{MayStore}
 use Rattle.core_model.specs.TabsAfter.{stored}
 use Rattle.core_model.specs.Slots.{SlotWords, held_in, resting_in, ChainStands, FreerHolds, WriterNames, WriterHolds, TabHolds, SlotsHold}
@@ -20,10 +20,11 @@ use Rattle.core_model.proofs.SlotFrame.{stays, framed}
 use Rattle.core_model.proofs.SlotTabs.{SameWriters, same_writers, freer_later}
 use Rattle.core_model.proofs.SlotKinds.{OneTab, recounted, each_tab}
 use Rattle.core_model.proofs.SlotsOwned.{same_by_writer}
+use Rattle.std.specs.Prelude.{unwrap_or}
 
 -- a number that is the one put in, or was there
 some_is : (m n : ℕ) → Some m ≡ Some n → m ≡ n
-some_is m n e = ap (λ z. Rattle.std.specs.Prelude.unwrap_or z 0) e
+some_is m n e = ap (λ z. unwrap_or z 0) e
 
 not_both : {A : Type 0} → (xs : List A) → xs ≡ [] → xs ≢ [] → ⊥
 not_both xs e ne = ne e
@@ -117,7 +118,7 @@ module _ {X : Type 0} (k : Setting X) (n : ℕ) (w : SlotWords) (cs : List Chain
   pub store_keeps : OneTab v v' t (Writing x) (Writing x') → SlotsHold n w' cs (set vs i v')
   store_keeps one = let q = stored_keeps x side value in framed n w w' cs cs vs i v v' 0 (get_or cs 0 no_chain) (get_or cs 0 no_chain) so at (stays cs 0)
       record {
-        places = λ j. let e = recounted v v' t (Writing x) (Writing x') one (held_in j) in let r = ap (Rattle.core_model.specs.Chains.times j) q.reserved in omega arith;
+        places = λ j. let e = recounted v v' t (Writing x) (Writing x') one (held_in j) in let r = ap (times j) q.reserved in omega arith;
         links = λ j y h. let e = recounted v v' t (Writing x) (Writing x') one (resting_in j) in omega arith;
         here = λ lt. chain_stays 0 (so.stand 0 lt);
         there = λ b ne lt h. chain_stays b h;

@@ -1,6 +1,6 @@
 -- To take an anchor for a new entry, and to evict an entry, gives the old chain with its tail to the inner tab.
 use Rattle.std.proofs.Common.{◌≡◌, ◌≢◌, ◌⊎◌, inl, inr, ⊎_elim, ℕ, ◌+◌, ◌-◌, ◌<◌, ◌≤◌, List, [], ◌∷◌, ◌++◌, length, set, sym, refl, ap, ◌∙◌, subst, arith, Bool, true, false, cond, ◌==◌, None, ne_eqb}
-use Rattle.std.proofs.lemmas.Bool.{eqb-true}
+use Rattle.std.proofs.lemmas.Bool.{eqb-true, false≢true}
 use mathlib.Core.Option.{some}
 use mathlib.Core.Logic.{dite}
 use native.Mathlib.Decide.{ℕ_discrete}
@@ -19,7 +19,7 @@ use Rattle.core_model.specs.Layout.{Setting}
 use Rattle.core_model.specs.State.{State, word, chain_of}
 use Rattle.core_model.specs.Chains.{no_chain, Spells, named, start_number, times, behind_of}
 use Rattle.core_model.specs.Trails.{last_find}
-use Rattle.core_model.specs.Tabs.{tab_at, inner, is_free, count}
+use Rattle.core_model.specs.Tabs.{tab_at, inner, is_free, count, anchor_of}
 use Rattle.core_model.specs.Allowed.{IsPass, Allowed, MayTake, MayEvict, InnerIsFree}
 use Rattle.core_model.specs.TabsAfter.{writer_of, freer_of}
 use Rattle.core_model.specs.Where.{evicted}
@@ -152,7 +152,7 @@ module _ {X : Type 0} (k : Setting X) (s : State X) (i : ℕ) (v : View X) (so :
     holds_none j = refl
 
     at_a : (x : Writer X) → writing ≡ Writing x → a ≡ x.anchor
-    at_a x e = ap Rattle.core_model.specs.Tabs.anchor_of e
+    at_a x e = ap anchor_of e
 
     vacant_take : is_vacant n ≡ true → (v' : View X) → OneTab v v' t Free writing → SlotsHold k.anchors (slot_words k (set s.words a (word_at u 1))) chains (set s.views i v')
     vacant_take vacant v' one = let f = fit_vacant n vacant in let st = stage_of-vacant n vacant in let off : Unused g₀ = ((λ e. omega arith), (λ e. omega arith), (λ e. omega arith)) in
@@ -227,7 +227,7 @@ module _ {X : Type 0} (k : Setting X) (s : State X) (i : ℕ) (v : View X) (so :
     takes false idle e q v' tabs = no_tab_moves k s i v so sl at pass a n v' lt refl tabs
     takes true false e q v' tabs = let same : n ≡ last_find a v.trail = eqb-true _ _ (sym e) in ⊎_elim
         (λ (h : is_vacant (last_find a v.trail) ≡ true). vacant_take (subst (λ (z : ℕ). is_vacant z ≡ true) (sym same) h) v' record { was = free_here; becomes = tabs })
-        (λ (h : (is_idle (last_find a v.trail) ≡ true) × InnerIsFree v). absurd (Rattle.std.proofs.lemmas.Bool.false≢true (q ∙ subst (λ (z : ℕ). is_idle z ≡ true) (sym same) h.0)))
+        (λ (h : (is_idle (last_find a v.trail) ≡ true) × InnerIsFree v). absurd (false≢true (q ∙ subst (λ (z : ℕ). is_idle z ≡ true) (sym same) h.0)))
         may.fit
     takes true true e q v' tabs = let same : n ≡ last_find a v.trail = eqb-true _ _ (sym e) in ⊎_elim
         (λ (h : is_vacant (last_find a v.trail) ≡ true). absurd (let st = stage_of-vacant n (subst (λ (z : ℕ). is_vacant z ≡ true) (sym same) h) in let m = mode_of-idle n (sym q) in omega arith))
