@@ -100,6 +100,7 @@ module _ {X : Type 0} (k : Setting X) (s : State X) (i : ℕ) (v : View X) (so :
         (λ j u _ h b lt. let x = h b lt in let y = rises b in omega arith)
         (λ b lt. seen_below b _ (e_here b) (let x = so.seen.epochs i v at b lt in let y = rises b in omega arith))
         so.seen.epochs;
+    no_start = λ j u uat b version value h. ⊎_elim (λ (q : Had j (Named b version Start value)). so.seen.no_start j q.view q.at_j b version value q.has) (λ (q : Named b version Start value ≡ Stood a e). cc) (had j u uat (Named b version Start value) h);
     inside = λ j u uat x h. ⊎_elim (λ (q : Had j x). so.seen.inside j q.view q.at_j x q.has) (λ (q : x ≡ Stood a e). subst (λ (z : Sight). sight_anchor z < k.anchors) (sym q) o.inside) (had j u uat x h);
     known = all_views k s i v so at a n' e tabs held item deeds met chains o (λ j u. (x : Sight) → Contains u.seen x → sight_version x ≤ version_of (seen_at (sight_anchor x) u.seen)) (λ j u. (x : Sight) → Contains u.seen x → sight_version x ≤ version_of (seen_at (sight_anchor x) u.seen))
         (λ j u _ h. h)

@@ -158,6 +158,7 @@ module _ {X : Type 0} (k : Setting X) (s : State X) (i : ℕ) (v : View X) (so :
     epochs = all_views (λ j u. (b : ℕ) → b < k.anchors → seen_at b u.seen ≤ epoch_of (word s b)) (λ j u. (b : ℕ) → b < k.anchors → seen_at b u.seen ≤ epoch_of (word s' b))
         (λ j u _ h b lt. subst (λ (z : ℕ). seen_at b u.seen ≤ epoch_of z) (same_word b lt) (h b lt))
         (λ b lt. subst (λ (z : ℕ). seen_at b v.seen ≤ epoch_of z) (same_word b lt) (so.seen.epochs i v at b lt)) so.seen.epochs;
+    no_start = all_views (λ j u. (b version value : ℕ) → Contains u.seen (Named b version Start value) → ⊥) (λ j u. (b version value : ℕ) → Contains u.seen (Named b version Start value) → ⊥) (λ j u _ h. h) (so.seen.no_start i v at) so.seen.no_start;
     inside = all_views (λ j u. (x : Sight) → Contains u.seen x → sight_anchor x < k.anchors) (λ j u. (x : Sight) → Contains u.seen x → sight_anchor x < k.anchors) (λ j u _ h. h) (so.seen.inside i v at) so.seen.inside;
     known = all_views (λ j u. (x : Sight) → Contains u.seen x → sight_version x ≤ version_of (seen_at (sight_anchor x) u.seen)) (λ j u. (x : Sight) → Contains u.seen x → sight_version x ≤ version_of (seen_at (sight_anchor x) u.seen))
         (λ j u _ h. h) (so.seen.known i v at) so.seen.known;

@@ -42,13 +42,13 @@ pub record IsRipe (n : ℕ) : Type 0 where
   pub unwritten : is_written (epoch_of n) ≡ false
   pub stage : ((is_idle n ≡ true) × (mode_of (epoch_of n) ≡ 3)) ⊎ ((stage_of (epoch_of n) ≡ 4) ⊎ (mode_of (epoch_of n) ≡ 11))
 
-ripe_idle : (n : ℕ) → is_idle n ≡ true → IsRipe n
+pub ripe_idle : (n : ℕ) → is_idle n ≡ true → IsRipe n
 ripe_idle n h = record { unread = readers_of-idle n h; unwritten = written-idle n h; stage = inl (h, mode_of-idle n h) }
 
-ripe_left : (n : ℕ) → is_left_over n ≡ true → IsRipe n
+pub ripe_left : (n : ℕ) → is_left_over n ≡ true → IsRipe n
 ripe_left n h = record { unread = readers_of-left_over n h; unwritten = written-left_over n h; stage = inr (stage_of-left_over n h) }
 
-ripe_stage : (n : ℕ) → IsRipe n → (stage_of (epoch_of n) ≡ 3) ⊎ (stage_of (epoch_of n) ≡ 4)
+pub ripe_stage : (n : ℕ) → IsRipe n → (stage_of (epoch_of n) ≡ 3) ⊎ (stage_of (epoch_of n) ≡ 4)
 ripe_stage n r = ⊎_elim (λ (h : (is_idle n ≡ true) × (mode_of (epoch_of n) ≡ 3)). inl (let m = h.1 in omega arith))
     (λ (h : (stage_of (epoch_of n) ≡ 4) ⊎ (mode_of (epoch_of n) ≡ 11)). ⊎_elim (λ (q : stage_of (epoch_of n) ≡ 4). inr q) (λ (q : mode_of (epoch_of n) ≡ 11). inl (omega arith)) h) r.stage
 

@@ -135,3 +135,10 @@ module _ {X : Type 0} where
       where
         counts_one : (x : Writer X) → x.anchor ≡ a → x.version ≡ v.version → stage_written x ≡ stage_written v → 0 < writes a v.version (stage_written v) (Writing x)
         counts_one x p q r = let e = eq-eqb x.anchor a p in let f = eq-eqb x.version v.version q in let g = eq-eqb (stage_written x) (stage_written v) r in rw (e, f, g) (omega arith)
+
+    -- one inner tab frees at an anchor
+    pub one_freer : (a i j t p : ℕ) (f g : Freer) → a < k.anchors → IsTab s i t (Freeing f) → IsTab s j p (Freeing g) → f.anchor ≡ a → g.anchor ≡ a → f.is_freeing ≡ true → g.is_freeing ≡ true → (i ≡ j) × (t ≡ p)
+    one_freer a i j t p f g lt fi gj fa ga ff gf = one_tab (frees a) (let r = so.freers a lt in let z = freed_few (epoch_of (word s a)) in omega arith) i j t p (Freeing f) (Freeing g) fi gj (counts_one f fa ff) (counts_one g ga gf)
+      where
+        counts_one : (x : Freer) → x.anchor ≡ a → x.is_freeing ≡ true → 0 < frees {X = X} a (Freeing x)
+        counts_one x q z = let e = eq-eqb x.anchor a q in rw (e, z) (omega arith)

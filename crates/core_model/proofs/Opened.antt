@@ -67,7 +67,7 @@ module _ {X : Type 0} (k : Setting X) where
     same_word : (a : ℕ) → word s a ≡ get_or k.words a 0
     same_word a = ap (λ (ws : List ℕ). get_or ws a 0) o.words
 
-    no_sum : (f : View X → ℕ) → ((p : ℕ) → f (new_view k p) ≡ 0) → sum_by f s.views ≡ 0
+    pub no_sum : (f : View X → ℕ) → ((p : ℕ) → f (new_view k p) ≡ 0) → sum_by f s.views ≡ 0
     no_sum f h = ap (sum_by f) o.views ∙ new_sum f h k.passes 0
 
     stage_low : (a : ℕ) → a < k.anchors → (stage_of (epoch_of (word s a)) ≡ 0) ⊎ (stage_of (epoch_of (word s a)) ≡ 3)
@@ -90,7 +90,7 @@ module _ {X : Type 0} (k : Setting X) where
     no_others : (x : Sight) → ((b e : ℕ) → x ≡ Stood b e → ⊥) → Contains (sights_below k k.anchors) x → ⊥
     no_others x h g = let q = sight_is k.anchors x g in h q.0 (opening_epoch k q.0) q.2
 
-    free_tab : (t : ℕ) (tab : Tab X) → get_elem? (replicate 9 Free) t ≡ some tab → tab ≡ Free
+    pub free_tab : (t : ℕ) (tab : Tab X) → get_elem? (replicate 9 Free) t ≡ some tab → tab ≡ Free
     free_tab t tab e = all_free 9 t tab e
       where
         all_free : (n t : ℕ) (tab : Tab X) → get_elem? (replicate n Free) t ≡ some tab → tab ≡ Free
@@ -120,6 +120,7 @@ module _ {X : Type 0} (k : Setting X) where
       lasts = λ a lt over. absurd (not_over a lt over);
       seen = record {
         epochs = each (λ u. (a : ℕ) → a < k.anchors → seen_at a u.seen ≤ epoch_of (word s a)) (λ p a lt. let x = seen_below k.anchors a lt in let e = same_word a in rw (x, e) (omega arith));
+        no_start = λ i v e b version value h. absurd (no_others (Named b version Rattle.core_model.specs.declared.moves.Side.TheVariants.Start value) (λ c y q. cc) (subst (λ (w : View X). Contains w.seen (Named b version Rattle.core_model.specs.declared.moves.Side.TheVariants.Start value)) (at_new i v e).0 h));
         inside = each (λ u. (x : Sight) → Contains u.seen x → sight_anchor x < k.anchors) (λ p x h. let q = sight_is k.anchors x h in subst (λ (z : Sight). sight_anchor z < k.anchors) (sym q.2) q.1);
         known = each (λ u. (x : Sight) → Contains u.seen x → sight_version x ≤ version_of (seen_at (sight_anchor x) u.seen))
             (λ p x h. let q = sight_is k.anchors x h in subst (λ (z : Sight). sight_version z ≤ version_of (seen_at (sight_anchor z) (sights_below k k.anchors))) (sym q.2) (let y = seen_below k.anchors q.0 q.1 in rw y (omega arith)));

@@ -258,7 +258,7 @@ module _ {X : Type 0} (k : Setting X) (s : State X) (i : ℕ) (v : View X) (so :
   halt_chain a = set s.chains a (halted (get_or s.chains a no_chain))
 
   -- a tab that may raise writes, where one that frees may not, and the other way round
-  only_writer : (P : Writer X → Type 0) (Q : Freer → Type 0) → ((f : Freer) → Q f → ⊥) → (x : Tab X) → (OfWriter P x ⊎ OfFreer Q x) → (w : Writer X) × (x ≡ Writing w) × P w
+  pub only_writer : (P : Writer X → Type 0) (Q : Freer → Type 0) → ((f : Freer) → Q f → ⊥) → (x : Tab X) → (OfWriter P x ⊎ OfFreer Q x) → (w : Writer X) × (x ≡ Writing w) × P w
   only_writer P Q no_freer (Writing w) (inl h) = (w, refl, h)
   only_writer P Q no_freer (Writing w) (inr h) = absurd h
   only_writer P Q no_freer (Freeing f) (inl h) = absurd h
@@ -272,7 +272,7 @@ module _ {X : Type 0} (k : Setting X) (s : State X) (i : ℕ) (v : View X) (so :
   only_writer P Q no_freer (Last b) (inl h) = absurd h
   only_writer P Q no_freer (Last b) (inr h) = absurd h
 
-  only_freer : (P : Writer X → Type 0) (Q : Freer → Type 0) → ((w : Writer X) → P w → ⊥) → (x : Tab X) → (OfWriter P x ⊎ OfFreer Q x) → (f : Freer) × (x ≡ Freeing f) × Q f
+  pub only_freer : (P : Writer X → Type 0) (Q : Freer → Type 0) → ((w : Writer X) → P w → ⊥) → (x : Tab X) → (OfWriter P x ⊎ OfFreer Q x) → (f : Freer) × (x ≡ Freeing f) × Q f
   only_freer P Q no_writer (Writing w) (inl h) = absurd (no_writer w h)
   only_freer P Q no_writer (Writing w) (inr h) = absurd h
   only_freer P Q no_writer (Freeing f) (inl h) = absurd h
@@ -313,7 +313,7 @@ module _ {X : Type 0} (k : Setting X) (s : State X) (i : ℕ) (v : View X) (so :
   raise_gone t x was may = let q = only_freer (Writes Gone) (Ends Gone) (λ w h. h.0) x may in
       subst (λ (z : Tab X). AnchorsSound k (raise_result t Gone (λ _. s.chains) z)) (sym q.1) (to_gone t q.0 (as_tab t x (Freeing q.0) q.1 was) q.2.0)
 
-  tab_was : (t : ℕ) → t ≤ inner → get_elem? v.tabs t ≡ some (tab_at v t)
+  pub tab_was : (t : ℕ) → t ≤ inner → get_elem? v.tabs t ≡ some (tab_at v t)
   tab_was t le = tab_there v t (tab_at v t) (let p = pass in omega arith) refl
 
   pub raise_kept : (t : ℕ) (to : Stage) → Allowed k s v (Raise t to) → AnchorsSound k (after k s i v (Raise t to))

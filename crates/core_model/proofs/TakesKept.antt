@@ -37,10 +37,10 @@ pub record IsFit (n : ℕ) : Type 0 where
   pub unwritten : is_written (epoch_of n) ≡ false
   pub unfreed : stage_of (epoch_of n) ≢ 5
 
-fit_vacant : (n : ℕ) → is_vacant n ≡ true → IsFit n
+pub fit_vacant : (n : ℕ) → is_vacant n ≡ true → IsFit n
 fit_vacant n h = let st = stage_of-vacant n h in record { unread = readers_of-vacant n h; unwritten = written-vacant n h; unfreed = λ q. absurd (omega arith) }
 
-fit_idle : (n : ℕ) → is_idle n ≡ true → IsFit n
+pub fit_idle : (n : ℕ) → is_idle n ≡ true → IsFit n
 fit_idle n h = let m = mode_of-idle n h in record { unread = readers_of-idle n h; unwritten = written-idle n h; unfreed = λ q. absurd (omega arith) }
 
 pub free_is : {X : Type 0} → (x : Tab X) → is_free x ≡ true → x ≡ Free

@@ -156,7 +156,7 @@ Allowed {X} k s v (Learn note) = (u : View X) × (get_elem? s.views (k.passes + 
 Allowed k s v (Write t slot outcome) = (t < inner) × OfWriter (λ w. Unit {0}) (tab_at v t) × Holds slot true (tab_at v t)
 Allowed k s v (Sync t slot kept) = (t < inner) × OfWriter (λ w. Unit {0}) (tab_at v t) × Holds slot true (tab_at v t)
 
--- The kinds whose law is proved so far: those on anchors and on the counter of versions. The others are not allowed yet.
+-- The kinds that the running core can make: those on anchors and on the counter of versions. The others are not allowed yet.
 abbrev pub IsReady : Move → Type 0
 IsReady (Look a) = Unit {0}
 IsReady (Enter t a) = Unit {0}
@@ -173,4 +173,21 @@ IsReady _ = ⊥
 pub record MayStep {X : Type 0} (k : Setting X) (s : State X) (v : View X) (m : Move) : Type 0 where
   pub pass : IsPass v
   pub ready : IsReady m
+  pub allowed : Allowed k s v m
+
+-- The kinds of which the laws speak: these, and those on words beside anchors and on slots, their links and their chains.
+abbrev pub HasLaw : Move → Type 0
+HasLaw (LoadSide t side) = Unit {0}
+HasLaw (StoreSide t side value) = Unit {0}
+HasLaw (Own t slot) = Unit {0}
+HasLaw (Disown t slot) = Unit {0}
+HasLaw (Publish t slot link) = Unit {0}
+HasLaw (Loosen t slot) = Unit {0}
+HasLaw (GetLink t slot) = Unit {0}
+HasLaw m = IsReady m
+
+-- the pass whose view is v may make this step, and a law speaks of it
+pub record IsLawful {X : Type 0} (k : Setting X) (s : State X) (v : View X) (m : Move) : Type 0 where
+  pub pass : IsPass v
+  pub has_law : HasLaw m
   pub allowed : Allowed k s v m

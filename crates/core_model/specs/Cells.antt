@@ -1,12 +1,12 @@
 -- What holds between any two steps of cells and their turns, of published contents, and of the names of entries. No law speaks of
 -- these parts yet.
-use Rattle.std.specs.Prelude.{◌≡◌, ◌≢◌, ◌⊎◌, ℕ, ◌<◌, ◌≤◌, [], ◌∷◌, length, slice_index, slice_index_or, Some, None, Contains, true, false, cond, ◌==◌, sum_by}
+use Rattle.std.specs.Prelude.{◌≡◌, ◌≢◌, ◌⊎◌, ℕ, ◌<◌, ◌≤◌, ◌∷◌, length, slice_index, slice_index_or, Some, None, Contains, true, cond, ◌==◌, sum_by}
 use mathlib.Core.Option.{some}
 use lib.ListN.{get_elem?}
 use Rattle.lock_word.specs.Words.{epoch_of, version_of, stage_of}
 use Rattle.link_word.specs.declared.link.Link.TheVariants.{NotWritten}
 use Rattle.core_model.specs.declared.moves.Side.{Side}
-use Rattle.core_model.specs.declared.moves.Side.TheVariants.{Key0, Key1, Offer, Start}
+use Rattle.core_model.specs.declared.moves.Side.TheVariants.{Offer, Start}
 use Rattle.core_model.specs.declared.tab.Cell.{Cell}
 use Rattle.core_model.specs.declared.tab.Piece.{Piece}
 use Rattle.core_model.specs.declared.tab.Hold.{Hold}
@@ -22,7 +22,7 @@ use Rattle.core_model.specs.Layout.{Setting, index}
 use Rattle.core_model.specs.Chains.{rest_of, link_at}
 use Rattle.core_model.specs.State.{State, word, chain_of}
 use Rattle.core_model.specs.Tabs.{turn_of, count}
-use Rattle.core_model.specs.TabsAfter.{first_of, piece_of}
+use Rattle.core_model.specs.TabsAfter.{first_of}
 use Rattle.core_model.specs.Allowed.{IsNext}
 use Rattle.core_model.specs.Anchors.{opening_counter}
 
@@ -87,21 +87,17 @@ pub record ContentsStand {X : Type 0} (k : Setting X) (s : State X) : Type 0 whe
   pub published : (a place slot : ℕ) (c : Cell X) → a < k.anchors → get_elem? (chain_of s a).slots place ≡ some slot → IsCell s slot c → IsContent k s a place slot c.now
   pub possible : (slot : ℕ) (c : Cell X) → IsCell s slot c → Contains c.possible c.now
 
--- What a writing tab stored beside its anchor stands there. Before it chooses a link it stored key and offer, and an offer is no
--- slot's number. The piece that it chose is the one for its first reserved slot, and where it is written that cell has its image.
-pub record WriterNames {X : Type 0} (k : Setting X) (s : State X) (w : Writer X) : Type 0 where
-  pub key0 : (x : ℕ) → w.key0 ≡ Some x → side_word k s Key0 w.anchor ≡ x
-  pub key1 : (x : ℕ) → w.key1 ≡ Some x → side_word k s Key1 w.anchor ≡ x
-  pub offer : (x : ℕ) → w.offer ≡ Some x → (side_word k s Offer w.anchor ≡ x) × (k.slots ≤ x)
-  pub start : (x : ℕ) → w.start ≡ Some x → side_word k s Start w.anchor ≡ x
-  pub named : (w.chosen ≢ None) ⊎ (w.published ≢ []) → (w.key0 ≢ None) × (w.key1 ≢ None) × (w.offer ≢ None)
-  pub chosen : (p : Piece) → w.is_ending ≡ false → w.chosen ≡ Some p → p ≡ piece_of w
+-- A writing tab has a new version, and the offer that it stored is no slot's number. Where the piece that it chose is written, the
+-- cell of its first reserved slot has its image.
+pub record WriterPiece {X : Type 0} (k : Setting X) (s : State X) (w : Writer X) : Type 0 where
+  pub drawn : opening_counter k < w.version
+  pub offer : (x : ℕ) → w.offer ≡ Some x → k.slots ≤ x
   pub home : (p : Piece) → w.is_written ≡ true → w.chosen ≡ Some p → (c : Cell X) × (slice_index_or s.places (first_of w.reserved) None ≡ Some c) × (c.now ≡ k.image p)
   pub held : (p : Piece) (h : Hold X) → w.turn ≡ Has h → h.is_written ≡ true → w.chosen ≡ Some p → h.cell.now ≡ k.image p
 
-abbrev pub TabNames : {X : Type 0} → Setting X → State X → Tab X → Type 0
-TabNames k s (Writing w) = WriterNames k s w
-TabNames k s _ = Unit {0}
+abbrev pub TabPiece : {X : Type 0} → Setting X → State X → Tab X → Type 0
+TabPiece k s (Writing w) = WriterPiece k s w
+TabPiece k s _ = Unit {0}
 
 -- a view has this number as a part of the name of the entry
 pub record IsNamed {X : Type 0} (s : State X) (a version : ℕ) (side : Side) (value : ℕ) : Type 0 where
@@ -123,5 +119,5 @@ pub record CellsSound {X : Type 0} (k : Setting X) (s : State X) : Type 0 where
   pub holders : OneHolder k s
   pub turns : (i : ℕ) (v : View X) → get_elem? s.views i ≡ some v → (t : ℕ) (tab : Tab X) → get_elem? v.tabs t ≡ some tab → TurnFits k s tab
   pub contents : ContentsStand k s
-  pub writers : (i : ℕ) (v : View X) → get_elem? s.views i ≡ some v → (t : ℕ) (tab : Tab X) → get_elem? v.tabs t ≡ some tab → TabNames k s tab
+  pub writers : (i : ℕ) (v : View X) → get_elem? s.views i ≡ some v → (t : ℕ) (tab : Tab X) → get_elem? v.tabs t ≡ some tab → TabPiece k s tab
   pub names : NamesStand k s

@@ -12,6 +12,7 @@ pub mod Anchors
 pub mod Versions
 pub mod Deeds
 pub mod Slots
+pub mod Spots
 pub mod Cells
 pub mod Sound
 pub mod Opening

@@ -1,33 +1,46 @@
 -- What holds between any two steps of slots: each is at one place, and the words spell the chains and what is being given back.
--- No law speaks of these parts yet.
-use Rattle.std.specs.Prelude.{◌≡◌, ◌≢◌, ◌⊎◌, ℕ, ◌+◌, ◌<◌, ◌≤◌, [], ◌++◌, length, slice_index, Some, true, false, cond, ◌==◌, ltb, sum_by}
+use Rattle.std.specs.Prelude.{◌≡◌, ◌≢◌, ◌⊎◌, ℕ, ◌+◌, ◌<◌, ◌≤◌, List, [], ◌++◌, length, slice_index, slice_index_or, Some, None, true, false, cond, ◌==◌, ltb, sum_by}
 use mathlib.Core.Option.{some}
 use lib.ListN.{get_elem?}
 use Rattle.lock_word.specs.Words.{epoch_of, stage_of}
 use Rattle.link_word.specs.declared.link.Link.TheVariants.{NotWritten, Last as LastLink}
+use Rattle.core_model.specs.declared.tab.Piece.{Piece}
 use Rattle.core_model.specs.declared.tab.Reader.{Reader}
 use Rattle.core_model.specs.declared.tab.Writer.{Writer}
 use Rattle.core_model.specs.declared.tab.Freer.{Freer}
 use Rattle.core_model.specs.declared.tab.Tab.{Tab}
 use Rattle.core_model.specs.declared.tab.Tab.TheVariants.{Reading, Writing, Freeing}
-use Rattle.core_model.specs.declared.view.Place.TheVariants.{Beside, Owner, Link as LinkWord}
-use Rattle.core_model.specs.declared.moves.Side.TheVariants.{Start}
+use Rattle.core_model.specs.declared.view.Place.TheVariants.{Anchor, Beside, Owner, Link as LinkWord}
+use Rattle.core_model.specs.declared.moves.Side.{Side}
+use Rattle.core_model.specs.declared.moves.Side.TheVariants.{Key0, Key1, Offer, Start}
 use Rattle.core_model.specs.declared.view.View.{View}
 use Rattle.core_model.specs.declared.chain.Chain.{Chain}
 use Rattle.core_model.specs.Layout.{Setting, index}
 use Rattle.core_model.specs.Chains.{no_chain, Spells, named, start_number, times, Fits, Tied, link_at}
-use Rattle.core_model.specs.State.{State, word, chain_of}
+use Rattle.core_model.specs.State.{State}
 use Rattle.core_model.specs.Tabs.{count}
+use Rattle.core_model.specs.TabsAfter.{piece_of}
 
--- The words of a slot, 0 for one that the table does not have.
-abbrev pub owner_word : {X : Type 0} → Setting X → State X → ℕ → ℕ
-owner_word k s slot = cond (ltb slot k.slots) (slice_index s.words (index k (Owner slot))) 0
+-- what the words tell: the owner and the link of each slot, and the Start word, the stage and the words beside each anchor
+pub record SlotWords : Type 0 where
+  pub owner : ℕ → ℕ
+  pub link : ℕ → ℕ
+  pub start : ℕ → ℕ
+  pub stage : ℕ → ℕ
+  pub beside : ℕ → Side → ℕ
 
-abbrev pub link_word_of : {X : Type 0} → Setting X → State X → ℕ → ℕ
-link_word_of k s slot = cond (ltb slot k.slots) (slice_index s.words (index k (LinkWord slot))) 0
+-- a word, 0 for a slot or an anchor that the table does not have
+abbrev pub told : ℕ → ℕ → ℕ → ℕ
+told many j word = cond (ltb j many) word 0
 
-abbrev pub start_word : {X : Type 0} → Setting X → State X → ℕ → ℕ
-start_word k s a = slice_index s.words (index k (Beside Start a))
+abbrev pub slot_words : {X : Type 0} → Setting X → List ℕ → SlotWords
+slot_words k words = record {
+  owner = λ slot. told k.slots slot (slice_index words (index k (Owner slot)));
+  link = λ slot. told k.slots slot (slice_index words (index k (LinkWord slot)));
+  start = λ a. told k.anchors a (slice_index words (index k (Beside Start a)));
+  stage = λ a. stage_of (epoch_of (told k.anchors a (slice_index words (index k (Anchor a)))));
+  beside = λ a side. told k.anchors a (slice_index words (index k (Beside side a)));
+}
 
 -- 1 where a word is not 0
 abbrev pub used : ℕ → ℕ
@@ -58,9 +71,9 @@ standing_in slot c = times slot c.slots + times slot c.tail
 
 -- Each slot is free, where its owner word is 0, or at one place: reserved by a tab, in the chain of an anchor, or in the rest or
 -- loose in an inner tab. Its link word is 0 but where it is published or in a rest.
-pub record OnePlace {X : Type 0} (k : Setting X) (s : State X) : Type 0 where
-  pub owners : (slot : ℕ) → used (owner_word k s slot) ≡ sum_by (count (held_in slot)) s.views + sum_by (standing_in slot) s.chains
-  pub links : (slot : ℕ) → used (link_word_of k s slot) ≤ sum_by (count (resting_in slot)) s.views + sum_by (published_in slot) s.chains
+pub record OnePlace {X : Type 0} (words : SlotWords) (chains : List Chain) (views : List (View X)) : Type 0 where
+  pub owners : (slot : ℕ) → used (words.owner slot) ≡ sum_by (count (held_in slot)) views + sum_by (standing_in slot) chains
+  pub links : (slot : ℕ) → used (words.link slot) ≤ sum_by (count (resting_in slot)) views + sum_by (published_in slot) chains
 
 -- The Start and link words of an anchor at this stage spell its chain. It ends at CLOSED, and not at HALTED, where the linked slot
 -- belongs to it as its tail. An entry that grows has a published slot.
@@ -74,11 +87,22 @@ pub record ChainStands (stage start : ℕ) (links : ℕ → ℕ) (c : Chain) : T
   pub tails : c.tail ≡ cond (stage == 4) (named c.end) []
   pub gone : (stage ≡ 0) ⊎ (5 ≤ stage) → c ≡ no_chain
 
--- A writing tab reserves at most two slots, the linked one first, and the chain of its anchor is what it published.
-pub record WriterHolds {X : Type 0} (s : State X) (w : Writer X) : Type 0 where
+-- What a writing tab stored beside its anchor stands there. Before it chooses a piece it stored key and offer.
+pub record WriterNames {X : Type 0} (names : Side → ℕ) (w : Writer X) : Type 0 where
+  pub key0 : (n : ℕ) → w.key0 ≡ Some n → names Key0 ≡ n
+  pub key1 : (n : ℕ) → w.key1 ≡ Some n → names Key1 ≡ n
+  pub offer : (n : ℕ) → w.offer ≡ Some n → names Offer ≡ n
+  pub start : (n : ℕ) → w.start ≡ Some n → names Start ≡ n
+  pub named : (w.chosen ≢ None) ⊎ (w.published ≢ []) → (w.key0 ≢ None) × (w.key1 ≢ None) × (w.offer ≢ None)
+
+-- A writing tab reserves at most two slots, the linked one first, and the chain of its anchor is what it published. Until it gives
+-- a slot back, the piece that it chose is the one for its first reserved slot.
+pub record WriterHolds {X : Type 0} (names : Side → ℕ) (c : Chain) (w : Writer X) : Type 0 where
   pub few : length w.reserved ≤ 2
   pub tied : Tied w.end w.published w.reserved
-  pub chain : chain_of s w.anchor ≡ record { slots = w.published; end = w.end; tail = [] }
+  pub chain : c ≡ record { slots = w.published; end = w.end; tail = [] }
+  pub chosen : (p : Piece) → w.is_ending ≡ false → w.chosen ≡ Some p → p ≡ piece_of w
+  pub names_are : WriterNames names w
 
 abbrev pub writes_at : {X : Type 0} → ℕ → Tab X → ℕ
 writes_at a (Writing w) = cond (w.anchor == a) 1 0
@@ -86,38 +110,37 @@ writes_at a _ = 0
 
 -- An inner tab that has slots of another stage than FREEING belongs to the pass that took the anchor from an idle entry, and the
 -- tab that writes there has reserved and published nothing yet. The Start word is still the old entry's, which had a slot.
-pub record Replaces {X : Type 0} (k : Setting X) (s : State X) (v : View X) (a : ℕ) : Type 0 where
-  pub taken : stage_of (epoch_of (word s a)) ≡ 1
+pub record Replaces {X : Type 0} (stage start : ℕ) (v : View X) (a : ℕ) : Type 0 where
+  pub taken : stage ≡ 1
   pub mine : count (writes_at a) v ≡ 1
   pub unused : (t : ℕ) (w : Writer X) → get_elem? v.tabs t ≡ some (Writing w) → w.anchor ≡ a → (w.reserved ≡ []) × (w.published ≡ [])
-  pub started : 0 < start_word k s a
+  pub started : 0 < start
 
 -- The link words spell the rest of an inner tab. Where no slot of it has left, the Start word names its first slot.
-pub record FreerHolds {X : Type 0} (k : Setting X) (s : State X) (v : View X) (f : Freer) : Type 0 where
-  pub spelled : Spells (link_word_of k s) f.rest f.behind
-  pub starts : f.is_whole ≡ true → start_word k s f.anchor ≡ start_number f.rest
-  pub replaces : f.is_freeing ≡ false → Replaces k s v f.anchor
+pub record FreerHolds {X : Type 0} (stage start : ℕ) (links : ℕ → ℕ) (v : View X) (f : Freer) : Type 0 where
+  pub spelled : Spells links f.rest f.behind
+  pub starts : f.is_whole ≡ true → start ≡ start_number f.rest
+  pub replaces : f.is_freeing ≡ false → Replaces stage start v f.anchor
 
 -- An entry that a tab reads has a published slot. The tab is at most behind the last of them, below them where it found a link
 -- written, which is the one there, and the slot that it knows is the one at its place.
-pub record ReaderHolds {X : Type 0} (s : State X) (r : Reader X) : Type 0 where
-  pub some_slot : 0 < length (chain_of s r.anchor).slots
-  pub inside : r.place ≤ length (chain_of s r.anchor).slots
-  pub found : r.found ≢ NotWritten → (r.place < length (chain_of s r.anchor).slots) × (r.found ≡ link_at (chain_of s r.anchor) r.place)
-  pub at : (slot : ℕ) → r.slot ≡ Some slot → get_elem? ((chain_of s r.anchor).slots ++ named (chain_of s r.anchor).end) r.place ≡ some slot
+pub record ReaderHolds {X : Type 0} (c : Chain) (r : Reader X) : Type 0 where
+  pub some_slot : 0 < length c.slots
+  pub inside : r.place ≤ length c.slots
+  pub found : r.found ≢ NotWritten → (r.place < length c.slots) × (r.found ≡ link_at c r.place)
+  pub at : (slot : ℕ) → r.slot ≡ Some slot → get_elem? (c.slots ++ named c.end) r.place ≡ some slot
 
-abbrev pub TabHolds : {X : Type 0} → Setting X → State X → View X → Tab X → Type 0
-TabHolds k s v (Reading r) = ReaderHolds s r
-TabHolds k s v (Writing w) = WriterHolds s w
-TabHolds k s v (Freeing f) = FreerHolds k s v f
-TabHolds k s v _ = Unit {0}
+abbrev pub TabHolds : {X : Type 0} → SlotWords → List Chain → View X → Tab X → Type 0
+TabHolds words chains v (Reading r) = ReaderHolds (slice_index_or chains r.anchor no_chain) r
+TabHolds words chains v (Writing w) = WriterHolds (words.beside w.anchor) (slice_index_or chains w.anchor no_chain) w
+TabHolds words chains v (Freeing f) = FreerHolds (words.stage f.anchor) (words.start f.anchor) words.link v f
+TabHolds words chains v _ = Unit {0}
 
-abbrev pub frees_at : {X : Type 0} → ℕ → Tab X → ℕ
-frees_at a (Freeing f) = cond (f.anchor == a) 1 0
-frees_at a _ = 0
+-- all of this, of these words, chains and views of a table with so many anchors
+pub record SlotsHold {X : Type 0} (anchors : ℕ) (words : SlotWords) (chains : List Chain) (views : List (View X)) : Type 0 where
+  pub places : OnePlace words chains views
+  pub stand : (a : ℕ) → a < anchors → ChainStands (words.stage a) (words.start a) words.link (slice_index_or chains a no_chain)
+  pub tabs : (i : ℕ) (v : View X) → get_elem? views i ≡ some v → (t : ℕ) (tab : Tab X) → get_elem? v.tabs t ≡ some tab → TabHolds words chains v tab
 
-pub record SlotsSound {X : Type 0} (k : Setting X) (s : State X) : Type 0 where
-  pub places : OnePlace k s
-  pub chains : (a : ℕ) → a < k.anchors → ChainStands (stage_of (epoch_of (word s a))) (start_word k s a) (link_word_of k s) (chain_of s a)
-  pub tabs : (i : ℕ) (v : View X) → get_elem? s.views i ≡ some v → (t : ℕ) (tab : Tab X) → get_elem? v.tabs t ≡ some tab → TabHolds k s v tab
-  pub one_rest : (a : ℕ) → a < k.anchors → sum_by (count (frees_at a)) s.views ≤ 1
+abbrev pub SlotsSound : {X : Type 0} → Setting X → State X → Type 0
+SlotsSound k s = SlotsHold k.anchors (slot_words k s.words) s.chains s.views

@@ -22,7 +22,12 @@ pub record AnchorsSound {X : Type 0} (k : Setting X) (s : State X) : Type 0 wher
   pub mirror : OneMirror k s
   pub deeds : DeedsExplain k s
 
--- All of it. The laws speak of the first part so far.
+-- what the words and the chains tell: the anchors and the slots
+pub record WordsSound {X : Type 0} (k : Setting X) (s : State X) : Type 0 where
+  pub anchors : AnchorsSound k s
+  pub slots : SlotsSound k s
+
+-- All of it. The laws speak of the first two parts so far.
 pub record Sound {X : Type 0} (k : Setting X) (s : State X) : Type 0 where
   pub anchors : AnchorsSound k s
   pub slots : SlotsSound k s

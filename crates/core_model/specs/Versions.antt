@@ -4,6 +4,7 @@ use mathlib.Core.Option.{some}
 use lib.ListN.{get_elem?}
 use Rattle.lock_word.specs.Words.{epoch_of, version_of, stage_of, version_limit}
 use Rattle.core_model.specs.declared.moves.Side.{Side}
+use Rattle.core_model.specs.declared.moves.Side.TheVariants.{Start}
 use Rattle.core_model.specs.declared.view.Kind.TheVariants.{Counted, Drew}
 use Rattle.core_model.specs.declared.view.Item.{Item}
 use Rattle.core_model.specs.declared.view.Sight.{Sight}
@@ -25,10 +26,11 @@ HasSlot s a = stage_of (epoch_of (word s a)) ≤ 4 → 0 < length (chain_of s a)
 
 -- What was seen is at most what is there: epochs; of the version that stands, the key and the offer, which are not seen before
 -- a slot is published; and so many published slots. No sight is of a later version than the epoch seen there. And what was seen
--- of the key and the offer of one version agrees, also after that version has gone.
+-- of the key and the offer of one version agrees, also after that version has gone. No sight names a Start word.
 pub record SeenStands {X : Type 0} (k : Setting X) (s : State X) : Type 0 where
   pub epochs : (i : ℕ) (v : View X) → get_elem? s.views i ≡ some v → (a : ℕ) → a < k.anchors → seen_at a v.seen ≤ epoch_of (word s a)
   pub inside : (i : ℕ) (v : View X) → get_elem? s.views i ≡ some v → (x : Sight) → Contains v.seen x → sight_anchor x < k.anchors
+  pub no_start : (i : ℕ) (v : View X) → get_elem? s.views i ≡ some v → (a version value : ℕ) → Contains v.seen (Named a version Start value) → ⊥
   pub known : (i : ℕ) (v : View X) → get_elem? s.views i ≡ some v → (x : Sight) → Contains v.seen x
       → sight_version x ≤ version_of (seen_at (sight_anchor x) v.seen)
   pub named : (i : ℕ) (v : View X) → get_elem? s.views i ≡ some v → (a version : ℕ) (side : Side) (value : ℕ) → Contains v.seen (Named a version side value)

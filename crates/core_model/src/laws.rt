@@ -1,6 +1,6 @@
 //! The laws of the core. These functions do nothing: the proof of a function that calls one may use
 //! what it ensures.
-ghost use Rattle.std.specs.Prelude.{◌≡◌, ℕ, ◌<◌, true};
+ghost use Rattle.std.specs.Prelude.{◌≡◌, ℕ, ◌<◌, List, length, slice_index, true, false};
 ghost use mathlib.Core.Option.{some};
 ghost use lib.ListN.{get_elem?};
 ghost use Rattle.core_model.specs.declared.moves.Move.{Move};
@@ -9,21 +9,32 @@ ghost use Rattle.core_model.specs.declared.tab.Freer.{Freer};
 ghost use Rattle.core_model.specs.declared.tab.Tab.{Tab};
 ghost use Rattle.core_model.specs.declared.view.View.{View};
 ghost use Rattle.rebuild_model.specs.declared.rebuilt.Rebuilt.{Rebuilt};
-ghost use Rattle.core_model.specs.Layout.{Setting};
+ghost use Rattle.rebuild_model.specs.Rebuilt.{IsRebuilt};
+ghost use Rattle.core_model.specs.declared.spot.Spot.{Spot};
+ghost use Rattle.core_model.specs.declared.view.Place.{Place};
+ghost use Rattle.core_model.specs.Layout.{Setting, index};
 ghost use Rattle.lock_word.specs.Words.{epoch_of, stage_of, is_written};
 ghost use Rattle.core_model.specs.State.{State, word};
-ghost use Rattle.core_model.specs.Allowed.{MayStep};
+ghost use Rattle.core_model.specs.Allowed.{IsLawful, MayStep};
 ghost use Rattle.core_model.specs.Steps.{number_found, after};
-ghost use Rattle.core_model.specs.Known.{Known};
+ghost use Rattle.core_model.specs.Known.{Known, KnownSlot};
 ghost use Rattle.core_model.specs.Matching.{IsTab, MatchesWriter, HasWriter, HasFreer};
 ghost use Rattle.core_model.specs.Anchors.{IsSetting};
 ghost use Rattle.core_model.specs.Opening.{IsOpened};
-ghost use Rattle.core_model.specs.Sound.{AnchorsSound};
+ghost use Rattle.core_model.specs.Spots.{HasOneSpot, IsIn, IsReplaced, IsUnwritten};
+ghost use Rattle.core_model.specs.Sound.{AnchorsSound, WordsSound};
 
 /// A step that is allowed in a sound state leaves a sound state.
 pub fn steps_keep_sound<X>()
     ensures { (k : Setting X) (s : State X) (i : ℕ) (v : View X) (m : Move)
         → AnchorsSound k s → get_elem? s.views i ≡ some v → MayStep k s v m → AnchorsSound k (after k s i v m) }
+{}
+
+/// A step of which a law speaks leaves each slot at one place, and words that spell the chains and what
+/// is being given back, and what is sound of the anchors.
+pub fn steps_keep_slots<X>()
+    ensures { (k : Setting X) (s : State X) (i : ℕ) (v : View X) (m : Move)
+        → WordsSound k s → get_elem? s.views i ≡ some v → IsLawful k s v m → WordsSound k (after k s i v m) }
 {}
 
 /// A store that was just opened is sound.
@@ -32,10 +43,43 @@ pub fn openings_are_sound<X>()
         → IsSetting k → IsOpened k r s → AnchorsSound k s }
 {}
 
+/// Each slot is at exactly one spot, and its link word is 0 but where it is published or is still in a
+/// chain that is given back.
+pub fn slots_have_one_spot<X>()
+    ensures one { (k : Setting X) (s : State X) (slot : ℕ)
+        → WordsSound k s → slot < k.slots → HasOneSpot k s slot }
+    ensures unwritten { (k : Setting X) (s : State X) (slot : ℕ) (spot : Spot)
+        → WordsSound k s → slot < k.slots → IsUnwritten spot → IsIn k s slot spot
+        → slice_index s.words (index k (Place.Link slot)) ≡ 0 }
+{}
+
+/// What is being given back of an anchor is at one inner tab. Where the anchor is not at FREEING, a tab of
+/// the same pass replaces the entry, and has no slot there yet.
+pub fn rests_have_one_tab<X>()
+    ensures one { (k : Setting X) (s : State X) (i j t u : ℕ) (f g : Freer)
+        → WordsSound k s → IsTab s i t (Tab.Freeing f) → IsTab s j u (Tab.Freeing g) → f.anchor ≡ g.anchor
+        → (i ≡ j) × (t ≡ u) }
+    ensures replaced { (k : Setting X) (s : State X) (i t : ℕ) (f : Freer)
+        → WordsSound k s → IsTab s i t (Tab.Freeing f) → f.is_freeing ≡ false → IsReplaced s i f.anchor }
+{}
+
+/// In a store that was just opened with what a rebuild kept each slot is at one place, and the words
+/// spell the chains.
+pub fn openings_place_slots<X>()
+    ensures { (k : Setting X) (r : Rebuilt) (s : State X) (slot : ℕ) (images : List (List ℕ))
+        → IsSetting k → IsOpened k r s → IsRebuilt slot images k.anchors r → length images ≡ k.slots → WordsSound k s }
+{}
+
 /// What a sound state tells the pass that makes a step of the number that it finds.
 pub fn finds_are_known<X>()
     ensures { (k : Setting X) (s : State X) (i : ℕ) (v : View X) (m : Move)
         → AnchorsSound k s → get_elem? s.views i ≡ some v → MayStep k s v m → Known v m (number_found k s v m) }
+{}
+
+/// What it tells the pass of the number that a step on a slot finds.
+pub fn slot_finds_are_known<X>()
+    ensures { (k : Setting X) (s : State X) (i : ℕ) (v : View X) (m : Move)
+        → WordsSound k s → get_elem? s.views i ≡ some v → IsLawful k s v m → KnownSlot s v m (number_found k s v m) }
 {}
 
 /// What tabs know of the words of their anchors is so, and each word at TAKEN, APPENDING or FREEING has

@@ -12,13 +12,18 @@ mod chain;
 mod laws;
 mod list;
 mod moves;
+mod spot;
 mod tab;
 mod view;
 
 pub use adding::Addition;
 pub use chain::Chain;
-pub use laws::{finds_are_known, openings_are_sound, steps_keep_sound, tabs_match_words};
+pub use laws::{
+    finds_are_known, openings_are_sound, openings_place_slots, rests_have_one_tab,
+    slots_have_one_spot, steps_keep_slots, steps_keep_sound, tabs_match_words,
+};
 pub use list::{Log, Row};
 pub use moves::{Move, Outcome, Side};
+pub use spot::Spot;
 pub use tab::{Cell, Freer, Hold, Piece, Reader, Tab, Turn, Writer};
 pub use view::{Deed, Item, Kind, Place, Sight, Trace, View};

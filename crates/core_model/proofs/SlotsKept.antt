@@ -1,0 +1,51 @@
+-- Each step that is allowed in a state that is sound leaves each slot at one place, and chains that the words spell.
+use Rattle.std.proofs.Common.{◌≡◌, ℕ}
+use mathlib.Core.Option.{some}
+use lib.ListN.{get_elem?}
+use Rattle.core_model.specs.declared.moves.Move.{Move}
+use Rattle.core_model.specs.declared.moves.Move.TheVariants.{Look, Enter, Leave, Count, Draw, Take, Evict, Raise, Doom, LoadSide, StoreSide, Own, Disown, Publish, Loosen, GetLink, TryTurn, EndTurn, CellOut, CellIn, Note, Learn, Write, Sync}
+use Rattle.core_model.specs.declared.view.View.{View}
+use Rattle.core_model.specs.Layout.{Setting}
+use Rattle.core_model.specs.State.{State}
+use Rattle.core_model.specs.Allowed.{IsLawful, MayStep}
+use Rattle.core_model.specs.Steps.{after}
+use Rattle.core_model.specs.Slots.{SlotsSound}
+use Rattle.core_model.specs.Sound.{AnchorsSound, WordsSound}
+use Rattle.core_model.proofs.SlotsEntered.{look_slots, enter_slots, leave_slots, count_slots, draw_slots, doom_slots}
+use Rattle.core_model.proofs.SlotsRaised.{raise_slots}
+use Rattle.core_model.proofs.SlotsTaken.{take_slots, evict_slots}
+use Rattle.core_model.proofs.OwnsKept.{own_both, disown_both, loosen_both}
+use Rattle.core_model.proofs.FollowsKept.{get_link_both}
+use Rattle.core_model.proofs.PublishesKept.{publish_both}
+use Rattle.core_model.proofs.SidesKept.{load_both, store_both}
+use Rattle.core_model.proofs.Kept.{keeps}
+
+-- a step on an anchor, or on the counter
+both : {X : Type 0} → (k : Setting X) (s : State X) (i : ℕ) (v : View X) (m : Move) → AnchorsSound k s → get_elem? s.views i ≡ some v → MayStep k s v m → SlotsSound k (after k s i v m) → WordsSound k (after k s i v m)
+both k s i v m so at may slots = record { anchors = keeps k s i v m so at may; slots = slots }
+
+pub keeps_both : {X : Type 0} → (k : Setting X) (s : State X) (i : ℕ) (v : View X) (m : Move) → AnchorsSound k s → SlotsSound k s → get_elem? s.views i ≡ some v → IsLawful k s v m → WordsSound k (after k s i v m)
+keeps_both k s i v (Look a) so sl at may = both k s i v (Look a) so at record { pass = may.pass; ready = tt; allowed = may.allowed } (look_slots k s i v so sl at may.pass a may.allowed)
+keeps_both k s i v (Enter t a) so sl at may = both k s i v (Enter t a) so at record { pass = may.pass; ready = tt; allowed = may.allowed } (enter_slots k s i v so sl at may.pass t a may.allowed)
+keeps_both k s i v (Leave t) so sl at may = both k s i v (Leave t) so at record { pass = may.pass; ready = tt; allowed = may.allowed } (leave_slots k s i v so sl at may.pass t may.allowed)
+keeps_both k s i v Count so sl at may = both k s i v Count so at record { pass = may.pass; ready = tt; allowed = may.allowed } (count_slots k s i v so sl at may.pass)
+keeps_both k s i v Draw so sl at may = both k s i v Draw so at record { pass = may.pass; ready = tt; allowed = may.allowed } (draw_slots k s i v so sl at may.pass)
+keeps_both k s i v (Take t a u) so sl at may = both k s i v (Take t a u) so at record { pass = may.pass; ready = tt; allowed = may.allowed } (take_slots k s i v so sl at may.pass t a u may.allowed)
+keeps_both k s i v (Evict t a) so sl at may = both k s i v (Evict t a) so at record { pass = may.pass; ready = tt; allowed = may.allowed } (evict_slots k s i v so sl at may.pass t a may.allowed)
+keeps_both k s i v (Raise t to) so sl at may = both k s i v (Raise t to) so at record { pass = may.pass; ready = tt; allowed = may.allowed } (raise_slots k s i v so sl at may.pass t to may.allowed)
+keeps_both k s i v (Doom t) so sl at may = both k s i v (Doom t) so at record { pass = may.pass; ready = tt; allowed = may.allowed } (doom_slots k s i v so sl at may.pass t may.allowed)
+keeps_both k s i v (LoadSide t side) so sl at may = load_both k s i v so sl at may.pass t side may.allowed
+keeps_both k s i v (StoreSide t side value) so sl at may = store_both k s i v so sl at may.pass t side value may.allowed
+keeps_both k s i v (Own t slot) so sl at may = own_both k s i v so sl at may.pass t slot may.allowed
+keeps_both k s i v (Disown t slot) so sl at may = disown_both k s i v so sl at may.pass t slot may.allowed
+keeps_both k s i v (Publish t slot link) so sl at may = publish_both k s i v so sl at may.pass t slot link may.allowed
+keeps_both k s i v (Loosen t slot) so sl at may = loosen_both k s i v so sl at may.pass t slot may.allowed
+keeps_both k s i v (GetLink t slot) so sl at may = get_link_both k s i v so sl at may.pass t slot may.allowed
+keeps_both k s i v (TryTurn t slot) so sl at may = absurd may.has_law
+keeps_both k s i v (EndTurn t slot goes_on) so sl at may = absurd may.has_law
+keeps_both k s i v (CellOut t slot) so sl at may = absurd may.has_law
+keeps_both k s i v (CellIn t slot) so sl at may = absurd may.has_law
+keeps_both k s i v Note so sl at may = absurd may.has_law
+keeps_both k s i v (Learn note) so sl at may = absurd may.has_law
+keeps_both k s i v (Write t slot outcome) so sl at may = absurd may.has_law
+keeps_both k s i v (Sync t slot kept) so sl at may = absurd may.has_law
