@@ -10,6 +10,7 @@ use Rattle.core_model.specs.Records.{held_after, sights_of, item_of, deeds_of, m
 use Rattle.core_model.specs.Steps.{number_found, finding, traces_of, view_after, words_after, places_after, views_after, chains_after}
 use Rattle.core_model.specs.TabsAfter.{tabs_after}
 use Rattle.core_model.specs.Where.{place, left_by, answer}
+use Rattle.core_model.specs.Slots.{SlotsSound}
 use Rattle.core_model.specs.Sound.{AnchorsSound}
 use Rattle.core_state.specs.declared.content.Content.{Content}
 use Rattle.core_state.specs.declared.change.Change.{Change}
@@ -25,6 +26,7 @@ found o t v m = number_found (setting o) (state t) v m
 -- a pass of a sound core has this view
 pub record IsScene (o : Opening) (t : Table) (v : View Content) : Type 0 where
   pub sound : AnchorsSound (setting o) (state t)
+  pub slots : SlotsSound (setting o) (state t)
   pub pass : IsPass v
   pub number : ℕ
   pub at : get_elem? t.views.items number ≡ some v
