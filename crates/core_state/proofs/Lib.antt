@@ -3,6 +3,7 @@ pub mod Changing
 pub mod Making
 pub mod Facts
 pub mod Anchored
+pub mod Worded
 pub mod Readers
 pub mod Raisers
 pub mod Takers

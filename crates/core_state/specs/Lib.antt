@@ -9,3 +9,4 @@ pub mod Taking
 pub mod Applied
 pub mod New
 pub mod Blank
+pub mod Tabs
