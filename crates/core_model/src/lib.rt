@@ -16,7 +16,7 @@ mod spot;
 mod tab;
 mod view;
 
-pub use adding::Addition;
+pub use adding::{Addition, Names};
 pub use chain::Chain;
 pub use laws::{
     finds_are_known, openings_are_sound, openings_place_slots, rests_have_one_tab,
