@@ -8,6 +8,8 @@ use Rattle.core_model.specs.declared.view.Place.{Place}
 use Rattle.core_model.specs.declared.view.Sight.{Sight}
 use Rattle.core_model.specs.declared.view.View.{View}
 use Rattle.core_model.specs.Layout.{index}
+use Rattle.std.proofs.lemmas.List.{append-nil}
+use Rattle.core_model.specs.Adding.{names_seen}
 use Rattle.core_model.specs.Records.{held_after, sights_of, item_of, deeds_of, met_of}
 use Rattle.core_model.specs.Steps.{finding, traces_of, view_after, words_after, places_after, views_after, chains_after}
 use Rattle.core_model.specs.TabsAfter.{tabs_after}
@@ -44,7 +46,7 @@ module _ (o : Opening) (t : Table) (v : View Content) (m : Move) (p : Place) (at
     views = step.views;
     tabs = tabs_are;
     held = ap (λ (b : Addition). option_to_list b.drawn ++ v.held) is ∙ step.held;
-    seen = ap (λ (b : Addition). option_to_list b.sight) is ∙ sym step.sees;
+    seen = ap (λ (b : Addition). option_to_list b.sight ++ names_seen b.names) is ∙ (append-nil (option_to_list sight) ∙ sym step.sees);
     trail = ap (λ (b : Addition). b.item) is ∙ sym step.item;
     mirror = ap (λ (b : Addition). b.trace ∷ []) is ∙ sym (λ j. traces_of (step.on j) (step.leaves j));
     deeds = ap (λ (b : Addition). option_to_list b.deed) is ∙ step.deeds;

@@ -32,6 +32,7 @@ anchor_addition kind anchor told left seen = record {
   item = record { kind = kind; at = anchor; found = told };
   trace = record { place = Anchor anchor; word = left };
   sight = Some (Stood anchor seen);
+  names = None;
   deed = None;
   met = None;
   drawn = None;
@@ -43,6 +44,7 @@ counter_addition kind found left = record {
   item = record { kind = kind; at = 0; found = found };
   trace = record { place = Counter; word = left };
   sight = None;
+  names = None;
   deed = None;
   met = None;
   drawn = None;
@@ -54,6 +56,7 @@ word_addition kind place at told left sight = record {
   item = record { kind = kind; at = at; found = told };
   trace = record { place = place; word = left };
   sight = sight;
+  names = None;
   deed = None;
   met = None;
   drawn = None;
