@@ -30,11 +30,11 @@ use Rattle.core_state.proofs.Facts.{below, tab_is}
 use Rattle.core_state.proofs.Lists.{at_slice, same_default}
 use Rattle.core_state.proofs.Worded.{worded}
 
-not_same : (n : ℕ) → n ≢ 0 → (n == 0) ≡ false
-not_same n ne = by (n == 0) refl
+pub not_same : (m n : ℕ) → m ≢ n → (m == n) ≡ false
+not_same m n ne = by (m == n) refl
   where
-    by : (b : Bool) → (n == 0) ≡ b → (n == 0) ≡ false
-    by true e = absurd (ne (eqb-true n 0 e))
+    by : (b : Bool) → (m == n) ≡ b → (m == n) ≡ false
+    by true e = absurd (ne (eqb-true m n e))
     by false e = e
 
 module _ (o : Opening) (t : Table) (v : View Content) (scene : IsScene o t v) (slot : ℕ) where
@@ -61,7 +61,7 @@ module _ (o : Opening) (t : Table) (v : View Content) (scene : IsScene o t v) (s
       pub own_missed : (base : Addition) → found ≢ 0 → base ≡ word_addition kind.Owned (Owner slot) slot found found None
           → Plans o t v (move.Own at slot) record { answer = found; index = word; left = found; tabs = tabs.Same; chain = chains.Same; used = None; addition = base }
       own_missed base ne base_is =
-          let no = not_same _ (λ (e : slice_index t.words.items (index (setting o) (Owner slot)) ≡ 0). ne (sym n ∙ e)) in
+          let no = not_same _ 0 (λ (e : slice_index t.words.items (index (setting o) (Owner slot)) ≡ 0). ne (sym n ∙ e)) in
           record {
             allowed = (writes, inside, free, may_own);
             answers = sym n;
