@@ -1,4 +1,4 @@
-// The first slot of a rest leaves its chain: it is loose then, or a writing tab of the same pass has it.
+// The first slot of a rest leaves its chain: it is loose then, or a writing tab of its pass has it.
 ghost use Rattle.std.specs.Prelude.{◌≡◌, ◌<◌, ◌↔◌, Some, slice_get, length, IsTrue, IfOk, IsErrOf, MatchOption};
 ghost use Rattle.core_model.specs.declared.moves.Move.TheVariants as move;
 ghost use Rattle.core_model.specs.declared.tab.Tab.TheVariants.{Freeing};
@@ -21,6 +21,7 @@ use crate::tabs::{INNER, tab_at};
 use core_model::{Freer, Kind, Place, Row, Tab, View, Writer};
 use std::alloc::{AllocError, Global};
 
+/// Whether the slot is the first of the rest.
 fn is_front(freer: &Freer, slot: u32) -> bool
     ensures { IsTrue result ↔ IsFront slot freer.now }
 {

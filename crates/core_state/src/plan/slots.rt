@@ -1,5 +1,5 @@
 // Steps of tabs that reserve slots, and give them back.
-ghost use Rattle.std.specs.Prelude.{◌≡◌, ◌++◌, ◌∷◌, [], ◌⊎◌, ◌↔◌, ◌<◌, Contains, Some, slice_get, IsTrue, IfOk, IsErrOf, MatchOption};
+ghost use Rattle.std.specs.Prelude.{◌≡◌, ◌++◌, ◌∷◌, [], ◌⊎◌, ◌↔◌, Contains, Some, slice_get, IsTrue, IfOk, IsErrOf, MatchOption};
 ghost use Rattle.core_model.specs.declared.moves.Move.TheVariants as move;
 ghost use Rattle.core_model.specs.declared.tab.Piece.{Piece as PieceOf};
 ghost use Rattle.link_word.specs.declared.link.Link.TheVariants.{Last as LastLink};
