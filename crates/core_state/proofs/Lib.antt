@@ -4,6 +4,8 @@ pub mod Making
 pub mod Facts
 pub mod Anchored
 pub mod Worded
+pub mod Owners
+pub mod Loosening
 pub mod Readers
 pub mod Raisers
 pub mod Takers

@@ -10,3 +10,4 @@ pub mod Applied
 pub mod New
 pub mod Blank
 pub mod Tabs
+pub mod Loosening

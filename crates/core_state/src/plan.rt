@@ -5,7 +5,9 @@ ghost use Rattle.core_state.specs.Inside.{setting, state};
 ghost use Rattle.core_state.specs.Planned.{IsScene, Plans};
 
 mod counter;
+mod loosening;
 mod readers;
+mod slots;
 mod takers;
 mod writers;
 
