@@ -21,7 +21,7 @@ use lock_word::{
 };
 use std::alloc::{AllocError, Global};
 
-fn inner_is_free(view: &View<Content>) -> bool
+pub(crate) fn inner_is_free(view: &View<Content>) -> bool
     requires { IsPass view.now }
     ensures { IsTrue result ↔ InnerIsFree view.now }
 {
