@@ -6,6 +6,7 @@ pub mod Anchored
 pub mod Worded
 pub mod Readers
 pub mod Raisers
+pub mod Slots
 pub mod Sides
 pub mod Takers
 pub mod Applying
