@@ -8,6 +8,7 @@ pub mod Readers
 pub mod Raisers
 pub mod Slots
 pub mod Sides
+pub mod Links
 pub mod Takers
 pub mod Applying
 pub mod Opening

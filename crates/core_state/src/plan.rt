@@ -5,6 +5,7 @@ ghost use Rattle.core_state.specs.Inside.{setting, state};
 ghost use Rattle.core_state.specs.Planned.{IsScene, Plans};
 
 mod counter;
+mod links;
 mod readers;
 mod sides;
 mod takers;
