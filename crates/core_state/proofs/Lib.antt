@@ -8,6 +8,9 @@ pub mod Owners
 pub mod Loosening
 pub mod Readers
 pub mod Raisers
+pub mod Slots
+pub mod Sides
+pub mod Links
 pub mod Takers
 pub mod Applying
 pub mod Opening
