@@ -1,5 +1,5 @@
 -- What a pass of a sound core knows of the slots of the entry that it reads.
-use Rattle.std.proofs.Common.{◌≡◌, ◌≢◌, ◌⊎◌, inl, inr, ◌<◌, ◌≤◌, ◌+◌, ℕ, zero, suc, List, [], ◌∷◌, Some, Bool, true, false, cond, ◌||◌, eqb, eq-eqb, ne_eqb, drop, refl, sym, ap, ◌∙◌, subst, arith, length}
+use Rattle.std.proofs.Common.{◌≡◌, ◌≢◌, ◌⊎◌, inl, inr, ◌<◌, ◌≤◌, ◌+◌, ℕ, zero, suc, List, [], ◌∷◌, Some, true, false, cond, ◌||◌, eqb, eq-eqb, ne_eqb, drop, refl, sym, ap, ◌∙◌, subst, arith, length}
 use Rattle.std.specs.Prelude.{slice_get, slice_index, slice_index_or}
 use Rattle.std.specs.List.{IsDistinct, AllByRecursion, list_any}
 use Rattle.std.proofs.lemmas.Bool.{false≢true}
@@ -16,7 +16,6 @@ use Rattle.core_model.specs.declared.chain.Chain.{Chain}
 use Rattle.core_model.specs.declared.moves.Side.TheVariants.{Start}
 use Rattle.core_model.specs.declared.tab.Reader.{Reader}
 use Rattle.core_model.specs.declared.tab.Writer.{Writer}
-use Rattle.core_model.specs.declared.tab.Tab.{Tab}
 use Rattle.core_model.specs.declared.tab.Tab.TheVariants.{Reading, Writing}
 use Rattle.core_model.specs.declared.view.Place.TheVariants.{Beside}
 use Rattle.core_model.specs.declared.view.View.{View}
@@ -149,7 +148,7 @@ module _ (o : Opening) (t : Table) (v : View Content) (scene : IsScene o t v) wh
             let holds : WriterHolds (told.beside x.writer.anchor) (chain x.writer.anchor) x.writer = scene.slots.tabs x.i x.tab.view x.tab.at x.t (Writing x.writer) x.tab.there in
             let is : chain r.anchor ≡ record { slots = x.writer.published; end = x.writer.end; tail = [] } = ap chain (sym x.anchor_is) ∙ holds.chain in
             reserved x.i x.tab.view x.tab.at x.t x.writer x.tab.there
-                (reserved_first x.writer.end x.writer.published x.writer.reserved j holds.tied (subst (λ (d : Chain). 0 < times j (named d.end)) is h))
+            (reserved_first x.writer.end x.writer.published x.writer.reserved j holds.tied (subst (λ (d : Chain). 0 < times j (named d.end)) is h))
           where
             written : (epoch : ℕ) → stage_of epoch ≡ 2 → is_written epoch ≡ true
             written epoch e = rw e refl
@@ -162,7 +161,7 @@ module _ (o : Opening) (t : Table) (v : View Content) (scene : IsScene o t v) wh
     link_below n (inr none) = omega (arith, none)
     link_below n (inl says) =
         let small = link_small (drop (r.place + 1) (chain r.anchor).slots) (chain r.anchor).end o.slots
-            (λ j h. published_slot j r.anchor (let le = fewer_times j (r.place + 1) (chain r.anchor).slots in omega (arith, le, h))) end_slot in
+        (λ j h. published_slot j r.anchor (let le = fewer_times j (r.place + 1) (chain r.anchor).slots in omega (arith, le, h))) end_slot in
         let is = says.1 in omega (arith, small, is)
 
     -- and is that of a published slot where it is written
