@@ -1,5 +1,5 @@
 -- Steps on the words beside an anchor, as they are worked out.
-use Rattle.std.proofs.Common.{◌≡◌, ◌<◌, ◌≤◌, ℕ, List, Option, Some, None, false, true, length, refl, sym, ap, ◌∙◌, arith, set, subst}
+use Rattle.std.proofs.Common.{◌≡◌, ◌<◌, ◌≤◌, ℕ, Option, Some, None, false, true, length, refl, sym, ap, ◌∙◌, arith, set, subst}
 use Rattle.std.specs.Prelude.{slice_get, slice_index}
 use Rattle.std.specs.Option.{option_to_list}
 use Rattle.std.proofs.lemmas.Option.{slice_get_within}
@@ -25,7 +25,7 @@ use Rattle.core_state.specs.declared.tab_change.TabChange.TheVariants.{Learns, S
 use Rattle.core_state.specs.declared.content.Content.{Content}
 use Rattle.core_state.specs.declared.table.Opening.{Opening}
 use Rattle.core_state.specs.declared.table.Table.{Table}
-use Rattle.core_state.specs.Inside.{setting, state}
+use Rattle.core_state.specs.Inside.{setting}
 use Rattle.core_state.specs.Changed.{word_addition}
 use Rattle.core_state.specs.Planned.{IsScene, Plans}
 use Rattle.core_state.specs.Tabs.{changed_tab}

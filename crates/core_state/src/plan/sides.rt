@@ -23,7 +23,7 @@ use crate::table::{Opening, Table};
 use crate::tabs::{INNER, anchor_of, tab_at};
 use core_model::{Kind, Place, Side, Sight, Tab, View, Writer};
 
-/// The number of a word beside an anchor.
+/// Which of the words beside an anchor it is, counted from 0.
 fn side_index(side: Side) -> u32
     ensures { result ≡ side_index side }
 {
@@ -53,8 +53,8 @@ fn start_slot(opening: &Opening, number: u64) -> Option<u32>
     }
 }
 
-/// The slot that a reading tab knows at its place, where it loads this number. The Start word tells it
-/// where the entry begins.
+/// The slot that a reading tab knows at its place, once it loaded this number: the Start word tells where
+/// the entry begins. A tab that does not read learns none.
 fn slot_learned(opening: &Opening, tab: &Tab<Content>, side: Side, number: u64) -> Option<u32>
     requires { is_reading tab.now ≡ true → side ≡ Start → number ≤ opening.now.slots }
     ensures { changed_tab tab.now (Learns result) ≡ loaded tab.now side number }
@@ -68,7 +68,7 @@ fn slot_learned(opening: &Opening, tab: &Tab<Content>, side: Side, number: u64) 
     reader.slot
 }
 
-/// What a reading tab learns of its entry by a part of the key, or the offer, that it loads.
+/// What a pass has seen of an entry whose reading tab loads a part of the key, or the offer.
 fn name_seen(tab: &Tab<Content>, side: Side, value: u64) -> Option<Sight>
     ensures { option_to_list result ≡ loads tab.now side value }
 {
@@ -149,6 +149,7 @@ pub(crate) fn store_side(
     ensures refused { IsErrOf result Refusal.NotAllowed
         → Allowed (setting opening.now) (state table.now) view.now (move.StoreSide tab side value) → ⊥ }
 {
+    // What the word was does not matter.
     let _ = table;
     if tab >= INNER || !inner_is_free(view) {
         return Err(Refusal::NotAllowed);

@@ -1,5 +1,4 @@
-use Rattle.std.proofs.Common.{ap, ◌∙◌}
-use Rattle.core_model.specs.declared.chain.Chain.{Chain}
+use Rattle.std.proofs.Common.{◌∙◌}
 use Rattle.core_model.specs.Chains.{no_chain}
 use Rattle.core_state.proofs.Lists.{same_default}
 use Rattle.core_state.proofs.Links.{next_inside, next_behind, next_beyond}
