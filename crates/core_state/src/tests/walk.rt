@@ -159,7 +159,7 @@ fn check_slot<R: Abort>(rt: &R, core: &Core, slot: u32, owner: u64, link: u64) {
 
 fn check<R: Abort>(rt: &R, core: &Core) {
     let owners = core.words().iter().skip(5 * ANCHORS as usize);
-    let links = owners.clone().skip(SLOTS as usize);
+    let links = core.words().iter().skip((5 * ANCHORS + SLOTS) as usize);
     for ((slot, owner), link) in (0..SLOTS).zip(owners).zip(links) {
         check_slot(rt, core, slot, *owner, *link);
     }
