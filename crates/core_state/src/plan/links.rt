@@ -16,11 +16,12 @@ ghost use Rattle.core_state.specs.Tabs.{changed_tab};
 
 use crate::change::{ChainChange, Change, TabsChange, word_addition};
 use crate::content::Content;
+use crate::plan::loosening::is_front;
 use crate::refusal::Refusal;
 use crate::tab_change::TabChange;
 use crate::table::{Opening, Table};
 use crate::tabs::tab_at;
-use core_model::{Freer, Kind, Place, Reader, Sight, Tab, View};
+use core_model::{Kind, Place, Reader, Sight, Tab, View};
 use link_word::{Link, unpack_link};
 
 /// Whether the link names this slot.
@@ -42,16 +43,6 @@ fn is_next(table: &Table, reader: &Reader<Content>, slot: u32) -> bool
     match slots.get(place) {
         Some(published) => *published == slot,
         None => place == slots.len() && names(chain.end, slot),
-    }
-}
-
-/// Whether the slot is the first of the rest of a freeing tab.
-fn is_front(freer: &Freer, slot: u32) -> bool
-    ensures { IsTrue result ↔ IsFront slot freer.now }
-{
-    match freer.rest.as_slice() {
-        [first, ..] => *first == slot,
-        [] => false,
     }
 }
 

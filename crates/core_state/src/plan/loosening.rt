@@ -21,8 +21,8 @@ use crate::tabs::{INNER, tab_at};
 use core_model::{Freer, Kind, Place, Row, Tab, View, Writer};
 use std::alloc::{AllocError, Global};
 
-/// Whether the slot is the first of the rest.
-fn is_front(freer: &Freer, slot: u32) -> bool
+/// Whether the slot is the first of the rest of a freeing tab.
+pub(crate) fn is_front(freer: &Freer, slot: u32) -> bool
     ensures { IsTrue result ↔ IsFront slot freer.now }
 {
     match freer.rest.as_slice() {
