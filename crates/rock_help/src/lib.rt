@@ -40,8 +40,9 @@ pub fn help_text(alloc: Global) -> Result<String, AllocError> {
 fn with_commands<'a>(alloc: Global) -> Result<Command<'a>, AllocError> {
     let create = Command::new(alloc, "create").about("Make a file of empty slots");
     let list = Command::new(alloc, "list").about("Print a line for each complete entry of a file");
-    let check =
-        Command::new(alloc, "check").about("Print one line on what a store keeps of a file");
+    let check = Command::new(alloc, "check").about(
+        "Print one line on what a store keeps of a file",
+    );
     Command::new(alloc, "rock")
         .about("The store of a caching proxy in one database file")
         .override_usage(USAGE)

@@ -49,7 +49,11 @@ fn the_help_is_plain_text_of_80_columns(rt: HostRuntime) -> Result<(), Fail> {
     for line in text.lines() {
         wide = line.len().max(wide);
         // A terminal's escapes are control characters.
-        odd = line.bytes().filter(|byte| *byte < 32 || *byte > 126).count().max(odd);
+        odd = line
+            .bytes()
+            .filter(|byte| *byte < 32 || *byte > 126)
+            .count()
+            .max(odd);
     }
     assert!(rt; wide <= 80, "{wide}");
     assert!(rt; odd == 0, "{odd}");
