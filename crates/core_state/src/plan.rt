@@ -6,6 +6,7 @@ ghost use Rattle.core_state.specs.Planned.{IsScene, Plans};
 
 mod counter;
 mod loosening;
+mod publishing;
 mod readers;
 mod slots;
 mod takers;
