@@ -12,3 +12,4 @@ pub mod Takers
 pub mod Applying
 pub mod Opening
 pub mod Blank
+pub mod Publishing

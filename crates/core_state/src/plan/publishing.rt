@@ -112,10 +112,25 @@ fn published_tab(
     Ok(TabsChange::Becomes(tab, TabChange::Publishes(reserved, published, link)))
 }
 
+/// How many slots the tab has published, with one more, where the table has so many slots.
+fn count_published(slots: u32, writer: &Writer<Content>) -> u32
+    requires { length writer.now.published < slots }
+    ensures { result ≡ length writer.now.published + 1 }
+{
+    let _ = slots;
+    writer.published.as_slice().len() as u32 + 1
+}
+
 /// What the step adds to the records of its pass, where the link word told this number: one slot more
 /// is published, of an entry with these names.
-fn published_addition(writer: &Writer<Content>, slot: u32, link: Link, told: u64) -> Addition
-    requires { length writer.now.published < u32.MAX }
+fn published_addition(
+    opening: &Opening,
+    writer: &Writer<Content>,
+    slot: u32,
+    link: Link,
+    told: u64,
+) -> Addition
+    requires { length writer.now.published < opening.now.slots }
     ensures { result ≡ published_addition writer.now slot link told }
 {
     let anchor = writer.anchor;
@@ -133,7 +148,7 @@ fn published_addition(writer: &Writer<Content>, slot: u32, link: Link, told: u64
         sight: Some(Sight::Published {
             anchor,
             version,
-            count: writer.published.as_slice().len() as u32 + 1,
+            count: count_published(opening.slots, writer),
         }),
         names: Some(Names {
             anchor,
@@ -159,7 +174,7 @@ fn published_change(
     chain: Chain,
 ) -> Change
     requires index { index (setting opening.now) (place.Link slot) < length table.now.words.items }
-    requires few { length writer.now.published < u32.MAX }
+    requires few { length writer.now.published < opening.now.slots }
     ensures { result ≡ published_change opening.now table.now writer.now slot link tabs chain }
 {
     let index = opening.index_of(Place::Link(slot));
@@ -171,7 +186,7 @@ fn published_change(
         tabs,
         chain: ChainChange::Put(writer.anchor, chain),
         used: None,
-        addition: published_addition(writer, slot, link, found),
+        addition: published_addition(opening, writer, slot, link, found),
     }
 }
 
