@@ -1,5 +1,5 @@
 -- Steps that publish a slot, as they are worked out.
-use Rattle.std.proofs.Common.{◌≡◌, ◌≢◌, ◌<◌, ◌≤◌, ◌+◌, ◌++◌, ◌||◌, ℕ, List, [], ◌∷◌, Some, Bool, true, false, cond, length, get_or, refl, sym, ap, ◌∙◌, subst, arith, set, eqb, eq-eqb, ne_eqb}
+use Rattle.std.proofs.Common.{◌≡◌, ◌<◌, ◌≤◌, ◌+◌, ◌++◌, ◌||◌, ℕ, List, [], ◌∷◌, Some, true, false, cond, length, get_or, refl, sym, ap, ◌∙◌, subst, arith, set, eqb, eq-eqb, ne_eqb}
 use Rattle.std.specs.Prelude.{slice_get}
 use Rattle.std.specs.List.{IsDistinct, AllByRecursion, list_any}
 use Rattle.std.proofs.lemmas.Bool.{false≢true}
@@ -10,20 +10,19 @@ use native.Mathlib.Decide.{ℕ_discrete}
 use lib.ListN.{get_elem?}
 use mathlib.Core.Option.{some}
 use Rattle.link_word.specs.declared.link.Link.{Link}
-use Rattle.link_word.specs.Words.{link_number}
 use Rattle.core_model.specs.declared.chain.Chain.{Chain}
 use Rattle.core_model.specs.declared.moves.Move.TheVariants as move
 use Rattle.core_model.specs.declared.tab.Tab.{Tab}
-use Rattle.core_model.specs.declared.tab.Tab.TheVariants.{Free, Writing}
+use Rattle.core_model.specs.declared.tab.Tab.TheVariants.{Writing}
 use Rattle.core_model.specs.declared.tab.Writer.{Writer}
 use Rattle.core_model.specs.declared.view.Place.TheVariants.{Link as LinkWord}
 use Rattle.core_model.specs.declared.view.View.{View}
-use Rattle.core_model.specs.Allowed.{Allowed, MayPublish}
-use Rattle.core_model.specs.Chains.{no_chain, one, times, rest_of}
+use Rattle.core_model.specs.Allowed.{MayPublish}
+use Rattle.core_model.specs.Chains.{no_chain, times, rest_of}
 use Rattle.core_model.specs.Layout.{index}
 use Rattle.core_model.specs.Records.{shows}
 use Rattle.core_model.specs.Slots.{SlotWords, slot_words, used, held_in, standing_in}
-use Rattle.core_model.specs.Steps.{finding, longer}
+use Rattle.core_model.specs.Steps.{longer}
 use Rattle.core_model.specs.Tabs.{inner, tab_at, anchor_of, count, OfWriter}
 use Rattle.core_model.specs.TabsAfter.{publishes}
 use Rattle.core_model.proofs.Lists.{le_sum_at}
@@ -36,9 +35,8 @@ use Rattle.core_state.specs.declared.tab_change.TabChange.TheVariants.{Publishes
 use Rattle.core_state.specs.declared.content.Content.{Content}
 use Rattle.core_state.specs.declared.table.Opening.{Opening}
 use Rattle.core_state.specs.declared.table.Table.{Table}
-use Rattle.core_state.specs.Changed.{tabs_changed, FitsTabs}
+use Rattle.core_state.specs.Changed.{tabs_changed}
 use Rattle.core_state.specs.Inside.{setting, state}
-use Rattle.core_state.specs.Loosening.{link_found}
 use Rattle.core_state.specs.Planned.{IsScene, Plans, Matches}
 use Rattle.core_state.specs.Publishing.{published_tab, published_change}
 use Rattle.core_state.specs.Tabs.{changed_tab}

@@ -1,12 +1,11 @@
 // A writing tab publishes its first reserved slot.
-ghost use Rattle.std.specs.Prelude.{◌≡◌, ◌<◌, ◌+◌, ◌++◌, ◌∷◌, [], ◌↔◌, Some, None, false, slice_get, slice_index, slice_index_or, length, IsTrue, IfOk, IsErrOf, MatchOption};
+ghost use Rattle.std.specs.Prelude.{◌≡◌, ◌<◌, ◌+◌, ◌++◌, ◌∷◌, [], ◌↔◌, Some, None, false, slice_get, slice_index_or, length, IsTrue, IfOk, IsErrOf, MatchOption};
 ghost use Rattle.core_model.specs.declared.moves.Move.TheVariants as move;
 ghost use Rattle.core_model.specs.declared.tab.Cell.{Cell as CellOf};
 ghost use Rattle.core_model.specs.declared.tab.Piece.{Piece as PieceOf};
 ghost use Rattle.core_model.specs.declared.tab.Tab.TheVariants.{Writing};
 ghost use Rattle.core_model.specs.declared.view.Place.TheVariants as place;
 ghost use Rattle.core_model.specs.Allowed.{Allowed, MayPublish};
-ghost use Rattle.core_model.specs.Anchors.{Shaped};
 ghost use Rattle.core_model.specs.Chains.{rest_of};
 ghost use Rattle.core_model.specs.Layout.{index};
 ghost use Rattle.core_model.specs.Steps.{longer};
@@ -25,7 +24,9 @@ use crate::refusal::Refusal;
 use crate::tab_change::TabChange;
 use crate::table::{Opening, Table};
 use crate::tabs::{INNER, tab_at};
-use core_model::{Addition, Chain, Item, Kind, Names, Piece, Place, Row, Sight, Tab, Trace, View, Writer};
+use core_model::{
+    Addition, Chain, Item, Kind, Names, Piece, Place, Row, Sight, Tab, Trace, View, Writer,
+};
 use link_word::{Link, pack_link};
 use std::alloc::{AllocError, Global};
 
@@ -43,9 +44,9 @@ fn is_first(slots: &Row<u32>, slot: u32) -> bool
 fn chosen_piece(writer: &Writer<Content>, slot: u32, link: Link) -> Option<Piece>
     ensures { MatchOption result
         ((writer.now.reserved ≡ slot ∷ rest_of writer.now.reserved) → (writer.now.is_ending ≡ false)
-            → (piece : PieceOf) → (writer.now.chosen ≡ Some piece) → (piece.next ≡ link) → ⊥)
+        → (piece : PieceOf) → (writer.now.chosen ≡ Some piece) → (piece.next ≡ link) → ⊥)
         (λ piece. (writer.now.reserved ≡ slot ∷ rest_of writer.now.reserved) × (writer.now.is_ending ≡ false)
-            × (writer.now.chosen ≡ Some piece) × (piece.next ≡ link)) }
+        × (writer.now.chosen ≡ Some piece) × (piece.next ≡ link)) }
 {
     let piece = writer.chosen?;
     let may_go = is_first(&writer.reserved, slot) && !writer.is_ending && piece.next == link;
@@ -75,7 +76,7 @@ fn publishing_writer<'a>(
     ensures { MatchOption result
         (OfWriter (MayPublish (setting opening.now) (state table.now) slot link) (tab_at view.now tab) → ⊥)
         (λ writer. (slice_get view.now.tabs tab ≡ Some (Writing writer.now))
-            × MayPublish (setting opening.now) (state table.now) slot link writer.now) }
+        × MayPublish (setting opening.now) (state table.now) slot link writer.now) }
 {
     let Tab::Writing(writer) = tab_at(view, tab)? else {
         return None;
