@@ -15,3 +15,4 @@ pub mod Takers
 pub mod Applying
 pub mod Opening
 pub mod Blank
+pub mod Publishing

@@ -11,3 +11,4 @@ pub mod New
 pub mod Blank
 pub mod Tabs
 pub mod Loosening
+pub mod Publishing

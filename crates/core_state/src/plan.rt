@@ -7,6 +7,7 @@ ghost use Rattle.core_state.specs.Planned.{IsScene, Plans};
 mod counter;
 mod links;
 mod loosening;
+mod publishing;
 mod readers;
 mod sides;
 mod slots;

@@ -24,6 +24,8 @@ pub(crate) enum TabChange {
     Looks,
     /// That slot left the chain: these are still in it, and these left it and are not free.
     Loosens(Row<u32>, Row<u32>),
+    /// A writing tab published a slot with this link: these are reserved still, and these published.
+    Publishes(Row<u32>, Row<u32>, Link),
 }
 
 fn stored(writer: Writer<Content>, side: Side, value: u64) -> Writer<Content>
@@ -87,6 +89,16 @@ pub(crate) fn changed_tab(tab: Tab<Content>, change: TabChange) -> Tab<Content>
             is_ending: true,
             ..writer
         }),
+        (Tab::Writing(writer), TabChange::Publishes(reserved, published, end)) => {
+            Tab::Writing(Writer {
+                reserved,
+                chosen: None,
+                is_written: false,
+                published,
+                end,
+                ..writer
+            })
+        }
         (Tab::Freeing(freer), TabChange::GivesBack(slot)) => settled(Freer {
             loose: without(freer.loose, slot),
             ..freer

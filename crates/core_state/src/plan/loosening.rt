@@ -44,7 +44,7 @@ fn loosening_freer(view: &View<Content>, slot: u32) -> Option<&Freer>
 }
 
 /// A copy of the slots but the first.
-fn rest_of(alloc: Global, slots: &Row<u32>) -> Result<Row<u32>, AllocError>
+pub(crate) fn rest_of(alloc: Global, slots: &Row<u32>) -> Result<Row<u32>, AllocError>
     ensures { IfOk result (λ rest. rest ≡ rest_of slots.now) }
 {
     let rest = match slots.as_slice() {
