@@ -156,10 +156,9 @@ Allowed {X} k s v (Learn note) = (u : View X) × (get_elem? s.views (k.passes + 
 Allowed k s v (Write t slot outcome) = (t < inner) × OfWriter (λ w. Unit {0}) (tab_at v t) × Holds slot true (tab_at v t)
 Allowed k s v (Sync t slot kept) = (t < inner) × OfWriter (λ w. Unit {0}) (tab_at v t) × Holds slot true (tab_at v t)
 
--- The kinds that the running core can make: those on anchors, on the counter of versions, on the words beside anchors, and on slots
--- and their links. To publish a slot, and what follows it, is not allowed yet.
+-- The kinds of which the laws speak: those on anchors, on the counter of versions, on the words beside anchors, and on slots, their
+-- links and their chains. The others are not allowed yet.
 abbrev pub IsReady : Move → Type 0
-IsReady (Publish t slot link) = ⊥
 IsReady (TryTurn t slot) = ⊥
 IsReady (EndTurn t slot goes_on) = ⊥
 IsReady (CellOut t slot) = ⊥

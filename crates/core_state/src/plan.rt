@@ -55,6 +55,9 @@ pub(crate) fn plan(
         }
         Move::Own { tab, slot } => slots::own(alloc, opening, table, view, tab, slot),
         Move::Disown { tab, slot } => slots::disown(opening, table, view, tab, slot),
+        Move::Publish { tab, slot, link } => {
+            publishing::publish(alloc, opening, table, view, tab, slot, link)
+        }
         Move::Loosen { tab, slot } => loosening::loosen(alloc, opening, table, view, tab, slot),
         Move::GetLink { tab, slot } => links::get_link(opening, table, view, tab, slot),
         _ => Err(Refusal::NotAllowed),
