@@ -1,5 +1,5 @@
 -- Changes of steps on words beside anchors and on slots.
-use Rattle.std.proofs.Common.{◌≡◌, ◌<◌, ℕ, [], ◌∷◌, ◌++◌, set, length, Option, None, Some, sym, ap, ◌∙◌}
+use Rattle.std.proofs.Common.{◌≡◌, ℕ, [], ◌∷◌, ◌++◌, set, Option, None, Some, sym, ap, ◌∙◌}
 use Rattle.std.specs.Option.{option_to_list}
 use Rattle.core_model.specs.declared.adding.Addition.{Addition}
 use Rattle.core_model.specs.declared.moves.Move.{Move}
