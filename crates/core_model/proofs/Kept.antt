@@ -7,7 +7,7 @@ use Rattle.core_model.specs.declared.moves.Move.TheVariants.{Look, Enter, Leave,
 use Rattle.core_model.specs.declared.view.View.{View}
 use Rattle.core_model.specs.Layout.{Setting}
 use Rattle.core_model.specs.State.{State}
-use Rattle.core_model.specs.Allowed.{MayStep}
+use Rattle.core_model.specs.Allowed.{IsPass, Allowed}
 use Rattle.core_model.specs.Steps.{after}
 use Rattle.core_model.specs.Sound.{AnchorsSound}
 use Rattle.core_model.proofs.EntersKept.{look_kept, enter_kept, leave_kept}
@@ -16,28 +16,41 @@ use Rattle.core_model.proofs.TakesKept.{take_kept}
 use Rattle.core_model.proofs.EvictsKept.{evict_kept}
 use Rattle.core_model.proofs.RaisesKept.{raise_kept, doom_kept}
 
-pub keeps : {X : Type 0} → (k : Setting X) (s : State X) (i : ℕ) (v : View X) (m : Move) → AnchorsSound k s → get_elem? s.views i ≡ some v → MayStep k s v m → AnchorsSound k (after k s i v m)
-keeps k s i v (Look a) so at may = look_kept k s i v so at may.pass a may.allowed
-keeps k s i v (Enter t a) so at may = enter_kept k s i v so at may.pass t a may.allowed
-keeps k s i v (Leave t) so at may = leave_kept k s i v so at may.pass t may.allowed
-keeps k s i v Count so at may = count_kept k s i v so at may.pass
-keeps k s i v Draw so at may = draw_kept k s i v so at may.pass may.allowed
-keeps k s i v (Take t a u) so at may = take_kept k s i v so at may.pass t a u may.allowed
-keeps k s i v (Evict t a) so at may = evict_kept k s i v so at may.pass t a may.allowed
-keeps k s i v (Raise t to) so at may = raise_kept k s i v so at may.pass t to may.allowed
-keeps k s i v (Doom t) so at may = doom_kept k s i v so at may.pass t may.allowed
-keeps k s i v (LoadSide t side) so at may = absurd may.ready
-keeps k s i v (StoreSide t side value) so at may = absurd may.ready
-keeps k s i v (Own t slot) so at may = absurd may.ready
-keeps k s i v (Disown t slot) so at may = absurd may.ready
-keeps k s i v (Publish t slot link) so at may = absurd may.ready
-keeps k s i v (Loosen t slot) so at may = absurd may.ready
-keeps k s i v (GetLink t slot) so at may = absurd may.ready
-keeps k s i v (TryTurn t slot) so at may = absurd may.ready
-keeps k s i v (EndTurn t slot goes_on) so at may = absurd may.ready
-keeps k s i v (CellOut t slot) so at may = absurd may.ready
-keeps k s i v (CellIn t slot) so at may = absurd may.ready
-keeps k s i v Note so at may = absurd may.ready
-keeps k s i v (Learn note) so at may = absurd may.ready
-keeps k s i v (Write t slot outcome) so at may = absurd may.ready
-keeps k s i v (Sync t slot kept) so at may = absurd may.ready
+-- the kinds on an anchor's word and on the counter of versions
+abbrev pub OnAnchors : Move → Type 0
+OnAnchors (Look a) = Unit {0}
+OnAnchors (Enter t a) = Unit {0}
+OnAnchors (Leave t) = Unit {0}
+OnAnchors Count = Unit {0}
+OnAnchors Draw = Unit {0}
+OnAnchors (Take t a version) = Unit {0}
+OnAnchors (Evict t a) = Unit {0}
+OnAnchors (Raise t to) = Unit {0}
+OnAnchors (Doom t) = Unit {0}
+OnAnchors _ = ⊥
+
+pub keeps : {X : Type 0} → (k : Setting X) (s : State X) (i : ℕ) (v : View X) (m : Move) → AnchorsSound k s → get_elem? s.views i ≡ some v → IsPass v → OnAnchors m → Allowed k s v m → AnchorsSound k (after k s i v m)
+keeps k s i v (Look a) so at pass on may = look_kept k s i v so at pass a may
+keeps k s i v (Enter t a) so at pass on may = enter_kept k s i v so at pass t a may
+keeps k s i v (Leave t) so at pass on may = leave_kept k s i v so at pass t may
+keeps k s i v Count so at pass on may = count_kept k s i v so at pass
+keeps k s i v Draw so at pass on may = draw_kept k s i v so at pass may
+keeps k s i v (Take t a u) so at pass on may = take_kept k s i v so at pass t a u may
+keeps k s i v (Evict t a) so at pass on may = evict_kept k s i v so at pass t a may
+keeps k s i v (Raise t to) so at pass on may = raise_kept k s i v so at pass t to may
+keeps k s i v (Doom t) so at pass on may = doom_kept k s i v so at pass t may
+keeps k s i v (LoadSide t side) so at pass on may = absurd on
+keeps k s i v (StoreSide t side value) so at pass on may = absurd on
+keeps k s i v (Own t slot) so at pass on may = absurd on
+keeps k s i v (Disown t slot) so at pass on may = absurd on
+keeps k s i v (Publish t slot link) so at pass on may = absurd on
+keeps k s i v (Loosen t slot) so at pass on may = absurd on
+keeps k s i v (GetLink t slot) so at pass on may = absurd on
+keeps k s i v (TryTurn t slot) so at pass on may = absurd on
+keeps k s i v (EndTurn t slot goes_on) so at pass on may = absurd on
+keeps k s i v (CellOut t slot) so at pass on may = absurd on
+keeps k s i v (CellIn t slot) so at pass on may = absurd on
+keeps k s i v Note so at pass on may = absurd on
+keeps k s i v (Learn note) so at pass on may = absurd on
+keeps k s i v (Write t slot outcome) so at pass on may = absurd on
+keeps k s i v (Sync t slot kept) so at pass on may = absurd on

@@ -23,7 +23,7 @@ use Rattle.core_model.specs.Layout.{Setting, index}
 use Rattle.core_model.specs.State.{State, word, chain_of}
 use Rattle.core_model.specs.Chains.{no_chain, times, link_to, rest_of}
 use Rattle.core_model.specs.Trails.{seen_at}
-use Rattle.core_model.specs.Tabs.{tab_at, inner, anchor_of, stage_written}
+use Rattle.core_model.specs.Tabs.{tab_at, anchor_of, stage_written}
 use Rattle.core_model.specs.Allowed.{IsPass, Allowed, MayPublish}
 use Rattle.core_model.specs.TabsAfter.{publishes}
 use Rattle.core_model.specs.Records.{item_of, shows}

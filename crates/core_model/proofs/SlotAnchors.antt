@@ -18,9 +18,9 @@ use Rattle.core_model.specs.Tabs.{counts, stage_written, count}
 use Rattle.core_model.specs.Matching.{IsTab}
 use Rattle.core_model.specs.Slots.{slot_words, writes_at, Replaces, SlotsSound}
 use Rattle.core_model.specs.Sound.{AnchorsSound}
-use Rattle.core_model.proofs.Lists.{le_sum_at, sum_some, by_eq}
+use Rattle.core_model.proofs.Lists.{le_sum_at, by_eq}
 use Rattle.core_model.proofs.Matching.{matches_writer, matches_freer, one_writer}
-use Rattle.core_model.proofs.SlotTabs.{SameSlots, same_writers, Steady, SameWriters}
+use Rattle.core_model.proofs.SlotTabs.{Steady, SameWriters}
 use Rattle.core_model.proofs.Telling.{stage_told}
 
 -- 1 or 2

@@ -17,7 +17,7 @@ use Rattle.core_model.specs.Layout.{Setting}
 use Rattle.core_model.specs.State.{State}
 use Rattle.core_model.specs.Chains.{Spells, times, link_to, rest_of}
 use Rattle.core_model.specs.Tabs.{tab_at, inner, count, OfFreer, OfReader, OfWriter}
-use Rattle.core_model.specs.Allowed.{IsPass, Allowed, IsFront, IsNext, MayLoosen, MayPublish, MayReserve, IsLawful}
+use Rattle.core_model.specs.Allowed.{IsPass, Allowed, IsFront, IsNext, MayLoosen, MayPublish, MayReserve, MayStep}
 use Rattle.core_model.specs.Known.{LinkFound, KnownSlot}
 use Rattle.core_model.specs.Steps.{number_found}
 use Rattle.core_model.specs.Slots.{SlotWords, slot_words, used, held_in, SlotsSound}
@@ -98,7 +98,7 @@ module _ {X : Type 0} (k : Setting X) (s : State X) (i : ℕ) (v : View X) (so :
       let l = le_sum_at (held_in slot) v.tabs t (tab_at v t) was in let q = le_sum_at (count (held_in slot)) s.views i v at in let o = sl.places.owners slot in let e = told_in k.slots slot (get_or s.words (5 * k.anchors + slot) 0) lt in
       dite (ℕ_discrete (get_or s.words (5 * k.anchors + slot) 0) 0) (λ z. absurd (let y : used (w.owner slot) ≡ 0 = ap used (e ∙ z) in omega arith)) (λ ne. omega arith)
 
-pub slot_finds : {X : Type 0} → (k : Setting X) (s : State X) (i : ℕ) (v : View X) (m : Move) → AnchorsSound k s → SlotsSound k s → get_elem? s.views i ≡ some v → IsLawful k s v m → KnownSlot s v m (number_found k s v m)
+pub slot_finds : {X : Type 0} → (k : Setting X) (s : State X) (i : ℕ) (v : View X) (m : Move) → AnchorsSound k s → SlotsSound k s → get_elem? s.views i ≡ some v → MayStep k s v m → KnownSlot s v m (number_found k s v m)
 slot_finds k s i v (Disown t slot) so sl at may = disown_finds k s i v so sl at may.pass t slot may.allowed
 slot_finds k s i v (Publish t slot link) so sl at may = publish_finds k s i v so sl at may.pass t slot link may.allowed
 slot_finds k s i v (Loosen t slot) so sl at may = loosen_finds k s i v so sl at may.pass t slot may.allowed

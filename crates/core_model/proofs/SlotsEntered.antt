@@ -1,6 +1,6 @@
 -- To look at an anchor, to enter it, to leave it and to doom its entry leave all slots where they are, and so do looks at the counter
 -- and draws.
-use Rattle.std.proofs.Common.{◌≡◌, ◌≢◌, ◌⊎◌, inl, inr, ⊎_elim, ℕ, ◌+◌, ◌-◌, ◌<◌, ◌≤◌, List, [], ◌∷◌, get_or, set, sym, refl, ap, ◌∙◌, subst, arith, Bool, true, false, cond, None, length}
+use Rattle.std.proofs.Common.{◌≡◌, ◌⊎◌, ⊎_elim, ℕ, ◌+◌, ◌-◌, ◌<◌, List, set, sym, refl, ap, ◌∙◌, subst, arith, Bool, true, false, cond, None, length}
 use mathlib.Core.Option.{some}
 use lib.ListN.{get_elem?}
 use Rattle.lock_word.specs.Words.{readers_of, epoch_of, version_of, stage_of, is_readable, is_left_over, doomed}
@@ -20,7 +20,7 @@ use Rattle.core_model.specs.Tabs.{tab_at, anchor_of, is_counted}
 use Rattle.core_model.specs.Allowed.{IsPass, Allowed}
 use Rattle.core_model.specs.TabsAfter.{entered, left_tab}
 use Rattle.core_model.specs.Steps.{finding, view_after, after}
-use Rattle.core_model.specs.Slots.{slot_words, ChainStands, ReaderHolds, TabHolds, SlotsHold, SlotsSound, SlotWords}
+use Rattle.core_model.specs.Slots.{slot_words, TabHolds, SlotsHold, SlotsSound, SlotWords}
 use Rattle.core_model.specs.Sound.{AnchorsSound}
 use Rattle.core_model.proofs.Tabs.{tab_there}
 use Rattle.core_model.proofs.EntersKept.{few_readers, counted_there, has_reader}

@@ -12,7 +12,7 @@ use Rattle.core_model.specs.declared.tab.Tab.TheVariants.{Free, Retreating, Read
 use Rattle.core_model.specs.declared.view.View.{View}
 use Rattle.core_model.specs.declared.chain.Chain.{Chain}
 use Rattle.core_model.specs.Layout.{Setting}
-use Rattle.core_model.specs.Chains.{no_chain, start_number, times}
+use Rattle.core_model.specs.Chains.{no_chain, times}
 use Rattle.core_model.specs.Allowed.{MayStore}
 use Rattle.core_model.specs.TabsAfter.{stored}
 use Rattle.core_model.specs.Slots.{SlotWords, held_in, resting_in, ChainStands, FreerHolds, WriterNames, WriterHolds, TabHolds, SlotsHold}

@@ -156,38 +156,21 @@ Allowed {X} k s v (Learn note) = (u : View X) × (get_elem? s.views (k.passes + 
 Allowed k s v (Write t slot outcome) = (t < inner) × OfWriter (λ w. Unit {0}) (tab_at v t) × Holds slot true (tab_at v t)
 Allowed k s v (Sync t slot kept) = (t < inner) × OfWriter (λ w. Unit {0}) (tab_at v t) × Holds slot true (tab_at v t)
 
--- The kinds that the running core can make: those on anchors and on the counter of versions. The others are not allowed yet.
+-- The kinds of which the laws speak: those on anchors, on the counter of versions, on the words beside anchors, and on slots, their
+-- links and their chains. The others are not allowed yet.
 abbrev pub IsReady : Move → Type 0
-IsReady (Look a) = Unit {0}
-IsReady (Enter t a) = Unit {0}
-IsReady (Leave t) = Unit {0}
-IsReady Count = Unit {0}
-IsReady Draw = Unit {0}
-IsReady (Take t a version) = Unit {0}
-IsReady (Evict t a) = Unit {0}
-IsReady (Raise t to) = Unit {0}
-IsReady (Doom t) = Unit {0}
-IsReady _ = ⊥
+IsReady (TryTurn t slot) = ⊥
+IsReady (EndTurn t slot goes_on) = ⊥
+IsReady (CellOut t slot) = ⊥
+IsReady (CellIn t slot) = ⊥
+IsReady Note = ⊥
+IsReady (Learn note) = ⊥
+IsReady (Write t slot outcome) = ⊥
+IsReady (Sync t slot kept) = ⊥
+IsReady _ = Unit {0}
 
 -- the pass whose view is v may make this step
 pub record MayStep {X : Type 0} (k : Setting X) (s : State X) (v : View X) (m : Move) : Type 0 where
   pub pass : IsPass v
   pub ready : IsReady m
-  pub allowed : Allowed k s v m
-
--- The kinds of which the laws speak: these, and those on words beside anchors and on slots, their links and their chains.
-abbrev pub HasLaw : Move → Type 0
-HasLaw (LoadSide t side) = Unit {0}
-HasLaw (StoreSide t side value) = Unit {0}
-HasLaw (Own t slot) = Unit {0}
-HasLaw (Disown t slot) = Unit {0}
-HasLaw (Publish t slot link) = Unit {0}
-HasLaw (Loosen t slot) = Unit {0}
-HasLaw (GetLink t slot) = Unit {0}
-HasLaw m = IsReady m
-
--- the pass whose view is v may make this step, and a law speaks of it
-pub record IsLawful {X : Type 0} (k : Setting X) (s : State X) (v : View X) (m : Move) : Type 0 where
-  pub pass : IsPass v
-  pub has_law : HasLaw m
   pub allowed : Allowed k s v m

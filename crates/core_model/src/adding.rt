@@ -1,10 +1,21 @@
 // What a step adds to the records of its pass, all of it or nothing.
-ghost use Rattle.std.specs.Prelude.{◌≡◌, ◌<◌, ◌∷◌, [], ◌++◌, vec_len, vec_capacity, OnOk, OnErr};
+ghost use Rattle.std.specs.Prelude.{◌≡◌, ◌<◌, ◌≤◌, ◌+◌, ◌∷◌, [], ◌++◌, reverse, vec_len, vec_capacity, OnOk, OnErr};
 ghost use Rattle.std.specs.Option.{option_to_list};
-ghost use Rattle.core_model.specs.Adding.{added};
+ghost use Rattle.core_model.specs.Adding.{added, names_seen};
 
+use crate::moves::Side;
 use crate::view::{Deed, Item, Sight, Trace, View};
 use std::alloc::AllocError;
+
+/// What names an entry: its key in two halves, and its offer.
+#[derive(Clone, Copy, Debug, PartialEq, Eq)]
+pub struct Names {
+    pub anchor: u32,
+    pub version: u32,
+    pub key0: u64,
+    pub key1: u64,
+    pub offer: u64,
+}
 
 /// What a step adds to what its pass knows and holds, and to its records.
 #[derive(Clone, Copy, Debug, PartialEq, Eq)]
@@ -12,6 +23,8 @@ pub struct Addition {
     pub item: Item,
     pub trace: Trace,
     pub sight: Option<Sight>,
+    /// What names an entry, of which it published a slot.
+    pub names: Option<Names>,
     pub deed: Option<Deed>,
     /// An anchor at which the pass met others.
     pub met: Option<u32>,
@@ -22,7 +35,9 @@ pub struct Addition {
 /// Adds an item for which there is room, if there is one.
 fn append<T: Drop>(items: &mut Vec<T>, item: Option<T>)
     requires { vec_len items.old < vec_capacity items.old }
-    ensures { items.new.items ≡ items.old.items ++ option_to_list item }
+    ensures item { items.new.items ≡ items.old.items ++ option_to_list item }
+    ensures capacity { vec_capacity items.old ≤ vec_capacity items.new }
+    ensures length { vec_len items.new ≤ vec_len items.old + 1 }
 {
     let Some(item) = item else {
         return;
@@ -45,6 +60,35 @@ fn prepend<T: Drop>(items: &mut Vec<T>, item: Option<T>)
     };
 }
 
+/// Adds the sights of names for which there is room, if there are some.
+fn append_names(items: &mut Vec<Sight>, names: Option<Names>)
+    requires { vec_len items.old + 3 < vec_capacity items.old }
+    ensures names { items.new.items ≡ items.old.items ++ reverse (names_seen names) }
+    ensures room { vec_len items.new < vec_capacity items.new }
+{
+    let Some(
+        Names {
+            anchor,
+            version,
+            key0,
+            key1,
+            offer,
+        },
+    ) = names
+    else {
+        return;
+    };
+    let named = |side, value| Sight::Named {
+        anchor,
+        version,
+        side,
+        value,
+    };
+    append(items, Some(named(Side::Offer, offer)));
+    append(items, Some(named(Side::Key1, key1)));
+    append(items, Some(named(Side::Key0, key0)));
+}
+
 impl<X> View<X> {
     /// Adds it all, or nothing where memory runs out.
     pub fn add(&mut self, addition: Addition) -> Result<(), AllocError>
@@ -52,12 +96,13 @@ impl<X> View<X> {
         ensures err { OnErr result (self.new ≡ self.old) }
     {
         self.held.items.reserve(1)?;
-        self.seen.items.reserve(1)?;
+        self.seen.items.reserve(4)?;
         self.trail.items.reserve(1)?;
         self.mirror.items.reserve(1)?;
         self.deeds.items.reserve(1)?;
         self.met.items.reserve(1)?;
         prepend(&mut self.held.items, addition.drawn);
+        append_names(&mut self.seen.items, addition.names);
         append(&mut self.seen.items, addition.sight);
         append(&mut self.trail.items, Some(addition.item));
         append(&mut self.mirror.items, Some(addition.trace));

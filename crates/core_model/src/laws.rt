@@ -15,7 +15,7 @@ ghost use Rattle.core_model.specs.declared.view.Place.{Place};
 ghost use Rattle.core_model.specs.Layout.{Setting, index};
 ghost use Rattle.lock_word.specs.Words.{epoch_of, stage_of, is_written};
 ghost use Rattle.core_model.specs.State.{State, word};
-ghost use Rattle.core_model.specs.Allowed.{IsLawful, MayStep};
+ghost use Rattle.core_model.specs.Allowed.{MayStep};
 ghost use Rattle.core_model.specs.Steps.{number_found, after};
 ghost use Rattle.core_model.specs.Known.{Known, KnownSlot};
 ghost use Rattle.core_model.specs.Matching.{IsTab, MatchesWriter, HasWriter, HasFreer};
@@ -24,17 +24,11 @@ ghost use Rattle.core_model.specs.Opening.{IsOpened};
 ghost use Rattle.core_model.specs.Spots.{HasOneSpot, IsIn, IsReplaced, IsUnwritten};
 ghost use Rattle.core_model.specs.Sound.{AnchorsSound, WordsSound};
 
-/// A step that is allowed in a sound state leaves a sound state.
+/// A step that is allowed in a sound state leaves a sound state: what is sound of the anchors, each slot at
+/// one place, and words that spell the chains and what is being given back.
 pub fn steps_keep_sound<X>()
     ensures { (k : Setting X) (s : State X) (i : ℕ) (v : View X) (m : Move)
-        → AnchorsSound k s → get_elem? s.views i ≡ some v → MayStep k s v m → AnchorsSound k (after k s i v m) }
-{}
-
-/// A step of which a law speaks leaves each slot at one place, and words that spell the chains and what
-/// is being given back, and what is sound of the anchors.
-pub fn steps_keep_slots<X>()
-    ensures { (k : Setting X) (s : State X) (i : ℕ) (v : View X) (m : Move)
-        → WordsSound k s → get_elem? s.views i ≡ some v → IsLawful k s v m → WordsSound k (after k s i v m) }
+        → WordsSound k s → get_elem? s.views i ≡ some v → MayStep k s v m → WordsSound k (after k s i v m) }
 {}
 
 /// A store that was just opened is sound.
@@ -79,7 +73,7 @@ pub fn finds_are_known<X>()
 /// What it tells the pass of the number that a step on a slot finds.
 pub fn slot_finds_are_known<X>()
     ensures { (k : Setting X) (s : State X) (i : ℕ) (v : View X) (m : Move)
-        → WordsSound k s → get_elem? s.views i ≡ some v → IsLawful k s v m → KnownSlot s v m (number_found k s v m) }
+        → WordsSound k s → get_elem? s.views i ≡ some v → MayStep k s v m → KnownSlot s v m (number_found k s v m) }
 {}
 
 /// What tabs know of the words of their anchors is so, and each word at TAKEN, APPENDING or FREEING has

@@ -16,11 +16,11 @@ mod spot;
 mod tab;
 mod view;
 
-pub use adding::Addition;
+pub use adding::{Addition, Names};
 pub use chain::Chain;
 pub use laws::{
     finds_are_known, openings_are_sound, openings_place_slots, rests_have_one_tab,
-    slots_have_one_spot, steps_keep_slots, steps_keep_sound, tabs_match_words,
+    slots_have_one_spot, steps_keep_sound, tabs_match_words,
 };
 pub use list::{Log, Row};
 pub use moves::{Move, Outcome, Side};

@@ -1,10 +1,10 @@
 -- Runs, one step longer at a time.
-use Rattle.std.proofs.Common.{◌≡◌, ◌⊎◌, ⊎_elim, ℕ, ◌+◌, ◌<◌, zero, suc, List, [], ◌∷◌, ◌++◌, length, sym, refl, ap, ◌∙◌, subst, arith, length-append, Result, Err}
+use Rattle.std.proofs.Common.{◌≡◌, ⊎_elim, ℕ, ◌+◌, ◌<◌, zero, suc, List, [], ◌∷◌, ◌++◌, length, sym, refl, ap, ◌∙◌, subst, arith, length-append, Result, Err}
 use mathlib.Core.Option.{some, some-injective, some-ne-none}
 use lib.ListN.{get_elem?}
 use Rattle.core_model.specs.Layout.{Setting}
-use Rattle.core_model.specs.Sound.{AnchorsSound}
-use Rattle.core_model.proofs.Kept.{keeps}
+use Rattle.core_model.specs.Sound.{WordsSound}
+use Rattle.core_model.proofs.SlotsKept.{keeps_both}
 use Rattle.core_state.specs.declared.act.Step.{Step}
 use Rattle.core_state.specs.declared.act.Step.TheVariants as step
 use Rattle.core_state.specs.declared.act.StepFault.{StepFault}
@@ -26,8 +26,8 @@ same_setting m left same = λ j. record {
 
 pub step_stays_sound : (m left : Machine) (s : Step) (number : ℕ) → IsSound m → IsSameStore m left → Applies m s number left → IsSound left
 step_stays_sound m left (step.Act act) number so same (move, named, made) =
-    subst (λ (k : Setting Content). AnchorsSound k (state_of left)) (sym (same_setting m left same))
-    (subst (AnchorsSound (setting_of m)) (sym made.leaves) (keeps (setting_of m) (state_of m) act.pass made.view move so made.at made.may))
+    subst (λ (k : Setting Content). WordsSound k (state_of left)) (sym (same_setting m left same))
+    (subst (WordsSound (setting_of m)) (sym made.leaves) (keeps_both (setting_of m) (state_of m) act.pass made.view move so.anchors so.slots made.at made.may))
 step_stays_sound m left (step.Crash picks) number so same made = absurd made
 step_stays_sound m left step.Rebuild number so same made = absurd made
 

@@ -1,15 +1,15 @@
 -- Lists of steps, and the cores that they lead through.
-use Rattle.std.specs.Prelude.{◌≡◌, ℕ, ◌+◌, ◌<◌, ◌≤◌, List, length}
+use Rattle.std.specs.Prelude.{◌≡◌, ℕ, ◌+◌, List, length}
 use mathlib.Core.Option.{some}
 use lib.ListN.{get_elem?}
-use Rattle.core_model.specs.Sound.{AnchorsSound}
+use Rattle.core_model.specs.Sound.{WordsSound}
 use Rattle.core_state.specs.declared.act.Step.{Step}
 use Rattle.core_state.specs.Applied.{Applies, IsSameStore}
 use Rattle.core_state.specs.Machine.{Machine, setting_of, state_of}
 
 -- what always holds of a core
 abbrev pub IsSound : Machine → Type 0
-IsSound m = AnchorsSound (setting_of m) (state_of m)
+IsSound m = WordsSound (setting_of m) (state_of m)
 
 -- Cores one behind the other, the first one from, where the steps lead: there is one more core than steps, and each step is
 -- allowed in the core before it, of the same store, and leaves the core behind it.

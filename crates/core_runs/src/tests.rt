@@ -49,13 +49,15 @@ fn steps_of(alloc: Global, rows: &[(u8, u8, u32, u64)]) -> Result<Vec<Step>, All
 #[test]
 fn a_run_ends_at_the_first_step_that_is_refused(rt: HostRuntime) -> Result<(), Fail> {
     let alloc = rt.alloc();
-    // Looks, a draw, a take, a reader that retreats, and a raise that is refused.
+    // Looks, a draw, a take, a slot that is reserved once, a reader that retreats, and a raise that is refused.
     let rows = [
         (0, 1, 0, 0),
         (0, 4, 0, 0),
         (0, 5, 0, 0),
         (0, 6, 0, 1),
         (0, 1, 0, 0),
+        (0, 10, 0, 0),
+        (0, 10, 0, 0),
         (1, 2, 0, 0),
         (1, 3, 0, 0),
         (0, 7, 0, 2),
@@ -65,16 +67,17 @@ fn a_run_ends_at_the_first_step_that_is_refused(rt: HostRuntime) -> Result<(), F
     let mut core = blank_core(&rt, alloc)?;
     let end = run_steps(&mut core, &steps);
     let fault = Some(StepFault::NotAllowed { kind: 7 });
-    assert_eq!(rt; end, RunEnd { done: 7, fault });
+    assert_eq!(rt; end, RunEnd { done: 9, fault });
     // Version 1 at TAKEN, as before the step that was refused.
     assert_eq!(rt; core.words().first().copied(), Some(4_295_032_832));
     // From there on the rest of the list is made.
-    let rest = steps_of(alloc, &[(0, 7, 0, 4), (0, 6, 0, 0), (8, 7, 0, 6)])?;
+    let rest = [(0, 11, 0, 0), (0, 7, 0, 4), (0, 6, 0, 0), (8, 7, 0, 6)];
+    let rest = steps_of(alloc, &rest)?;
     let end = run_steps(&mut core, &rest);
     assert_eq!(rt;
         end,
         RunEnd {
-            done: 3,
+            done: 4,
             fault: None
         }
     );

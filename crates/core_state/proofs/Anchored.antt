@@ -8,6 +8,7 @@ use Rattle.core_model.specs.declared.view.Kind.{Kind}
 use Rattle.core_model.specs.declared.view.Place.TheVariants.{Anchor}
 use Rattle.core_model.specs.declared.view.Sight.TheVariants.{Stood}
 use Rattle.core_model.specs.declared.view.View.{View}
+use Rattle.core_model.specs.Adding.{names_seen}
 use Rattle.core_model.specs.Records.{held_after, sights_of, item_of, deeds_of, met_of}
 use Rattle.core_model.specs.Steps.{finding, traces_of, view_after, words_after, places_after, views_after, chains_after}
 use Rattle.core_model.specs.TabsAfter.{tabs_after}
@@ -44,7 +45,7 @@ module _ (o : Opening) (t : Table) (v : View Content) (m : Move) (a told left se
         tabs = tabs;
         chain = chain;
         used = used;
-        addition = record { item = base.item; trace = base.trace; sight = base.sight; deed = deed; met = met; drawn = base.drawn };
+        addition = record { item = base.item; trace = base.trace; sight = base.sight; names = base.names; deed = deed; met = met; drawn = base.drawn };
       }
   anchored tabs chain used deed met base is step tabs_are held deeds mets chains = record {
     words = sym (λ j. words_after (setting o) t.words.items (step.at j) (step.leaves j));
@@ -52,7 +53,7 @@ module _ (o : Opening) (t : Table) (v : View Content) (m : Move) (a told left se
     views = step.views;
     tabs = tabs_are;
     held = ap (λ (b : Addition). without_used used (option_to_list b.drawn ++ v.held)) is ∙ held;
-    seen = ap (λ (b : Addition). option_to_list b.sight) is ∙ sym step.sees;
+    seen = ap (λ (b : Addition). option_to_list b.sight ++ names_seen b.names) is ∙ sym step.sees;
     trail = ap (λ (b : Addition). b.item) is ∙ sym step.item;
     mirror = ap (λ (b : Addition). b.trace ∷ []) is ∙ sym (λ j. traces_of (step.at j) (step.leaves j));
     deeds = deeds;

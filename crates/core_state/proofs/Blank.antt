@@ -1,5 +1,5 @@
 -- A store with no entries is that of a file in which no slot is sane.
-use Rattle.std.proofs.Common.{◌≡◌, inl, ◌≤◌, ◌+◌, ℕ, zero, suc, List, [], ◌∷◌, Option, None, map, replicate, length, get_or, refl, sym, ap, ◌∙◌, subst, arith, Contains, All}
+use Rattle.std.proofs.Common.{rules, ◌≡◌, inl, ◌≤◌, ◌+◌, ℕ, zero, suc, List, [], ◌∷◌, Option, None, map, replicate, length, get_or, refl, sym, ap, ◌∙◌, subst, arith, Contains, All}
 use Rattle.std.specs.Prelude.{slice_index}
 use Rattle.std.proofs.lemmas.List.{length-replicate}
 use Rattle.std.proofs.lemmas.List.Elements.{All-head}
@@ -17,8 +17,9 @@ use Rattle.core_model.specs.Anchors.{IsSetting}
 use Rattle.core_model.specs.Chains.{no_chain}
 use Rattle.core_model.specs.Layout.{word_count, turns_end}
 use Rattle.core_model.specs.Opening.{IsOpened}
-use Rattle.core_model.specs.Sound.{AnchorsSound}
+use Rattle.core_model.specs.Sound.{AnchorsSound, WordsSound}
 use Rattle.core_model.proofs.Opened.{opens}
+use Rattle.core_model.proofs.SlotsOpened.{opens_slots}
 use Rattle.core_state.specs.declared.table.Opening.{Opening}
 use Rattle.core_state.specs.Blank.{IsBlank, blank_state}
 use Rattle.core_state.specs.Inside.{setting}
@@ -89,24 +90,58 @@ module _ (o : Opening) (anchors slots passes : ℕ) (blank : IsBlank o anchors s
       (blank_opened record { winners = []; owner = []; greatest = 0 } few refl (λ s. refl) refl)
 
 -- a rebuild of a file in which no slot is sane keeps nothing
-module _ (slot anchors : ℕ) (images : List (List ℕ)) (unused : (s : ℕ) → IsSaneAt slot images s → ⊥) (r : Rebuilt) (is : IsRebuilt slot images anchors r) where
+module _ (slot anchors : ℕ) (images : List (List ℕ)) (unused : (s : ℕ) → IsSaneAt slot images s → ⊥) where
   none_complete : (e : Entry) → IsComplete slot images e → ⊥
   none_complete e whole =
       let belong = subst (All (BelongsTo slot images e.first)) whole.chain.begins whole.chain.belong in
       unused e.first (All-head (BelongsTo slot images e.first) e.first whole.chain.behind belong).sane
 
-  none_kept : (e : Entry) → Contains is.entries e → ⊥
-  none_kept e has = none_complete e (is.won e has).complete
-
   empty : {X : Type 0} → (xs : List X) → ((x : X) → Contains xs x → ⊥) → xs ≡ []
   empty [] none = refl
   empty (x ∷ xs) none = absurd (none x (0, omega arith, refl))
 
-  pub no_winners : r.winners ≡ []
-  no_winners = is.told ∙ ap (map found_of) (empty is.entries none_kept)
+  module _ (r : Rebuilt) (is : IsRebuilt slot images anchors r) where
+    none_kept : (e : Entry) → Contains is.entries e → ⊥
+    none_kept e has = none_complete e (is.won e has).complete
 
-  pub no_owner : (s : ℕ) → slice_index r.owner s ≡ 0
-  no_owner s = is.free s (λ e has at. none_kept e has)
+    pub no_winners : r.winners ≡ []
+    no_winners = is.told ∙ ap (map found_of) (empty is.entries none_kept)
 
-  pub none_greatest : r.greatest ≡ 0
-  none_greatest = dite (ℕ_discrete r.greatest 0) (λ e. e) (λ ne. let there = is.greatest.there (omega arith) in absurd (unused there.0 there.1))
+    pub no_owner : (s : ℕ) → slice_index r.owner s ≡ 0
+    no_owner s = is.free s (λ e has at. none_kept e has)
+
+    pub none_greatest : r.greatest ≡ 0
+    none_greatest = dite (ℕ_discrete r.greatest 0) (λ e. e) (λ ne. let there = is.greatest.there (omega arith) in absurd (unused there.0 there.1))
+
+  -- and this is what it keeps
+  abbrev pub nothing_kept : Rebuilt
+  nothing_kept = record { winners = []; owner = replicate (length images) 0; greatest = 0 }
+
+  none_in : (e : Entry) → Contains [] e → ⊥
+  none_in e (i, lt, is) = omega arith
+
+  pub blank_rebuilt : IsRebuilt slot images anchors nothing_kept
+  blank_rebuilt = record {
+    entries = [];
+    told = refl;
+    won = λ e has. absurd (none_in e has);
+    ordered = search rules;
+    every = λ e whole. absurd (none_complete e whole);
+    one_a_slot = length-replicate (length images) 0;
+    owned = λ e s has. absurd (none_in e has);
+    free = λ s none. get_or-replicate (length images) s 0;
+    greatest = record { above = λ s sane. absurd (unused s sane); there = λ some. absurd (omega arith) };
+  }
+
+-- a store that was opened over such a file is sound, and each of its slots is at one place
+pub blank_words_sound : (o : Opening) (anchors passes slot : ℕ) (images : List (List ℕ)) → IsBlank o anchors (length images) passes → ((s : ℕ) → IsSaneAt slot images s → ⊥) → passes ≤ 32 → WordsSound (setting o) (blank_state o)
+blank_words_sound o anchors passes slot images blank unused few =
+    let r = nothing_kept slot anchors images unused in
+    record {
+      anchors = blank_sound o anchors (length images) passes blank few;
+      slots =
+          opens_slots (setting o) r (blank_state o) (is_setting o anchors (length images) passes blank few)
+          (blank_opened o anchors (length images) passes blank r few refl (λ s. get_or-replicate (length images) s 0) refl) slot images
+          (subst (λ n. IsRebuilt slot images n r) (sym blank.anchors_are) (blank_rebuilt slot anchors images unused))
+          (sym blank.slots_are);
+    }

@@ -3,9 +3,16 @@ pub mod Changing
 pub mod Making
 pub mod Facts
 pub mod Anchored
+pub mod Worded
+pub mod Owners
+pub mod Loosening
 pub mod Readers
 pub mod Raisers
+pub mod Slots
+pub mod Sides
+pub mod Links
 pub mod Takers
 pub mod Applying
 pub mod Opening
 pub mod Blank
+pub mod Publishing

@@ -1,5 +1,9 @@
 -- A change that does to each part of a state what a step does makes the step.
-use Rattle.std.proofs.Common.{◌≡◌, ℕ, ◌∷◌, ◌++◌, ap, ◌∙◌}
+use Rattle.std.proofs.Common.{◌≡◌, ℕ, List, ◌∷◌, ◌++◌, append_assoc, sym, ap, ◌∙◌}
+use Rattle.std.specs.Option.{option_to_list}
+use Rattle.core_model.specs.declared.view.Sight.{Sight}
+use Rattle.core_model.specs.Adding.{names_seen}
+use Rattle.core_model.specs.Records.{sights_of}
 use Rattle.std.specs.Prelude.{slice_set}
 use Rattle.core_model.specs.declared.moves.Move.{Move}
 use Rattle.core_model.specs.declared.view.View.{View}
@@ -13,12 +17,15 @@ use Rattle.core_state.specs.Changed.{changed, view_changed}
 use Rattle.core_state.specs.Planned.{Matches}
 
 module _ (o : Opening) (t : Table) (v : View Content) (m : Move) (c : Change) (same : Matches o t v m c) where
+  seen_are : option_to_list c.addition.sight ++ (names_seen c.addition.names ++ v.seen) ≡ sights_of v m (finding (setting o) (state t) v m) ++ v.seen
+  seen_are = sym (append_assoc (option_to_list c.addition.sight) (names_seen c.addition.names) v.seen) ∙ ap (λ (l : List Sight). l ++ v.seen) same.seen
+
   view_is : view_changed v c.addition c.used c.tabs ≡ view_after v m (finding (setting o) (state t) v m)
   view_is = λ j. record {
     pass = v.pass;
     tabs = same.tabs j;
     held = same.held j;
-    seen = same.seen j ++ v.seen;
+    seen = seen_are j;
     trail = same.trail j ∷ v.trail;
     mirror = same.mirror j ++ v.mirror;
     deeds = same.deeds j ++ v.deeds;

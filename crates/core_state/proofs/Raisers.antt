@@ -140,6 +140,7 @@ module _ (o : Opening) (t : Table) (v : View Content) (scene : IsScene o t v) (a
           item = base.item;
           trace = base.trace;
           sight = base.sight;
+          names = base.names;
           deed = Some record { pass = v.pass; kind = kind.Raised; anchor = a; epoch = seen; was_idle = false };
           met = met;
           drawn = base.drawn;

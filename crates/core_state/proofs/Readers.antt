@@ -54,7 +54,7 @@ module _ (o : Opening) (t : Table) (v : View Content) (scene : IsScene o t v) (a
           tabs = tabs.Put at tab;
           chain = chains.Same;
           used = None;
-          addition = record { item = base.item; trace = base.trace; sight = base.sight; deed = base.deed; met = met; drawn = base.drawn };
+          addition = record { item = base.item; trace = base.trace; sight = base.sight; names = base.names; deed = base.deed; met = met; drawn = base.drawn };
         }
     leave_planned left own seen met tab base left_is own_is tab_is_ met_is seen_is base_is =
         let is = tab_is o t v scene at x there in
@@ -122,6 +122,7 @@ module _ (o : Opening) (t : Table) (v : View Content) (scene : IsScene o t v) (a
             item = base.item;
             trace = base.trace;
             sight = base.sight;
+            names = base.names;
             deed = Some record { pass = v.pass; kind = kind.Entered; anchor = a; epoch = after; was_idle = false };
             met = met;
             drawn = base.drawn;
@@ -173,6 +174,7 @@ module _ (o : Opening) (t : Table) (v : View Content) (scene : IsScene o t v) (a
             item = base.item;
             trace = base.trace;
             sight = base.sight;
+            names = base.names;
             deed = Some record { pass = v.pass; kind = kind.Doomed; anchor = a; epoch = seen; was_idle = false };
             met = met;
             drawn = base.drawn;

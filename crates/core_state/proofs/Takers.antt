@@ -81,6 +81,7 @@ module _ (o : Opening) (t : Table) (v : View Content) (scene : IsScene o t v) (a
             item = base.item;
             trace = base.trace;
             sight = base.sight;
+            names = base.names;
             deed = Some record { pass = v.pass; kind = kind.Changed; anchor = a; epoch = seen; was_idle = idle };
             met = met;
             drawn = base.drawn;
@@ -152,6 +153,7 @@ module _ (o : Opening) (t : Table) (v : View Content) (scene : IsScene o t v) (a
             item = base.item;
             trace = base.trace;
             sight = base.sight;
+            names = base.names;
             deed = Some record { pass = v.pass; kind = kind.Changed; anchor = a; epoch = seen; was_idle = idle };
             met = met;
             drawn = base.drawn;

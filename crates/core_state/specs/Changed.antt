@@ -1,5 +1,5 @@
 -- What a change makes of a state.
-use Rattle.std.specs.Prelude.{ℕ, ◌≡◌, ◌<◌, List, ◌++◌, length, slice_set, slice_index_or, Option, Some, None}
+use Rattle.std.specs.Prelude.{ℕ, ◌≡◌, ◌≢◌, ◌<◌, List, ◌++◌, length, slice_set, slice_index_or, Option, Some, None}
 use Rattle.std.specs.Option.{option_to_list}
 use mathlib.Core.Option.{some}
 use lib.ListN.{get_elem?}
@@ -8,7 +8,9 @@ use Rattle.core_model.specs.declared.adding.Addition.{Addition}
 use Rattle.core_model.specs.declared.chain.Chain.{Chain}
 use Rattle.core_model.specs.declared.tab.Tab.{Tab}
 use Rattle.core_model.specs.declared.view.Kind.{Kind}
+use Rattle.core_model.specs.declared.view.Place.{Place}
 use Rattle.core_model.specs.declared.view.Place.TheVariants.{Anchor, Counter}
+use Rattle.core_model.specs.declared.view.Sight.{Sight}
 use Rattle.core_model.specs.declared.view.Sight.TheVariants.{Stood}
 use Rattle.core_model.specs.declared.view.View.{View}
 use Rattle.core_model.specs.Adding.{added}
@@ -22,6 +24,7 @@ use Rattle.core_state.specs.declared.change.TabsChange.TheVariants as tabs
 use Rattle.core_state.specs.declared.change.ChainChange.{ChainChange}
 use Rattle.core_state.specs.declared.change.ChainChange.TheVariants as chains
 use Rattle.core_state.specs.declared.change.Change.{Change}
+use Rattle.core_state.specs.Tabs.{changed_tab}
 
 -- what a step on an anchor's word adds, that tells and leaves these numbers and sees this epoch
 abbrev pub anchor_addition : Kind → ℕ → ℕ → ℕ → ℕ → Addition
@@ -29,6 +32,7 @@ anchor_addition kind anchor told left seen = record {
   item = record { kind = kind; at = anchor; found = told };
   trace = record { place = Anchor anchor; word = left };
   sight = Some (Stood anchor seen);
+  names = None;
   deed = None;
   met = None;
   drawn = None;
@@ -40,6 +44,19 @@ counter_addition kind found left = record {
   item = record { kind = kind; at = 0; found = found };
   trace = record { place = Counter; word = left };
   sight = None;
+  names = None;
+  deed = None;
+  met = None;
+  drawn = None;
+}
+
+-- what one on another word adds, at this anchor, slot or word beside an anchor
+abbrev pub word_addition : Kind → Place → (at told left : ℕ) → Option Sight → Addition
+word_addition kind place at told left sight = record {
+  item = record { kind = kind; at = at; found = told };
+  trace = record { place = place; word = left };
+  sight = sight;
+  names = None;
   deed = None;
   met = None;
   drawn = None;
@@ -50,6 +67,8 @@ tabs_changed v tabs.Same = v.tabs
 tabs_changed v (tabs.Put t tab) = with_tab v t tab
 tabs_changed v (tabs.PutTwo t tab u other) = slice_set (with_tab v t tab) u other
 tabs_changed v (tabs.Appends t) = with_tab v t (raised_tab (tab_at v t) Appending 0)
+tabs_changed v (tabs.Becomes t change) = with_tab v t (changed_tab (tab_at v t) change)
+tabs_changed v (tabs.BothBecome t change u other) = slice_set (with_tab v t (changed_tab (tab_at v t) change)) u (changed_tab (tab_at v u) other)
 
 abbrev pub without_used : Option ℕ → List ℕ → List ℕ
 without_used None held = held
@@ -82,6 +101,8 @@ FitsTabs v tabs.Same = Unit {0}
 FitsTabs v (tabs.Put t tab) = t < length v.tabs
 FitsTabs v (tabs.PutTwo t tab u other) = (t < length v.tabs) × (u < length v.tabs)
 FitsTabs v (tabs.Appends t) = (t < length v.tabs) × OfWriter (λ w. Unit {0}) (tab_at v t)
+FitsTabs v (tabs.Becomes t change) = t < length v.tabs
+FitsTabs v (tabs.BothBecome t change u other) = (t < length v.tabs) × (u < length v.tabs) × (t ≢ u)
 
 abbrev pub FitsChain : ℕ → ChainChange → Type 0
 FitsChain many chains.Same = Unit {0}

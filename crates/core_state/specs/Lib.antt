@@ -9,3 +9,6 @@ pub mod Taking
 pub mod Applied
 pub mod New
 pub mod Blank
+pub mod Tabs
+pub mod Loosening
+pub mod Publishing

@@ -5,11 +5,13 @@ use mathlib.Core.Option.{some}
 use lib.ListN.{get_elem?}
 use Rattle.core_model.specs.declared.moves.Move.{Move}
 use Rattle.core_model.specs.declared.view.View.{View}
+use Rattle.core_model.specs.Adding.{names_seen}
 use Rattle.core_model.specs.Allowed.{IsPass, Allowed}
 use Rattle.core_model.specs.Records.{held_after, sights_of, item_of, deeds_of, met_of}
 use Rattle.core_model.specs.Steps.{number_found, finding, traces_of, view_after, words_after, places_after, views_after, chains_after}
 use Rattle.core_model.specs.TabsAfter.{tabs_after}
 use Rattle.core_model.specs.Where.{place, left_by, answer}
+use Rattle.core_model.specs.Slots.{SlotsSound}
 use Rattle.core_model.specs.Sound.{AnchorsSound}
 use Rattle.core_state.specs.declared.content.Content.{Content}
 use Rattle.core_state.specs.declared.change.Change.{Change}
@@ -25,6 +27,7 @@ found o t v m = number_found (setting o) (state t) v m
 -- a pass of a sound core has this view
 pub record IsScene (o : Opening) (t : Table) (v : View Content) : Type 0 where
   pub sound : AnchorsSound (setting o) (state t)
+  pub slots : SlotsSound (setting o) (state t)
   pub pass : IsPass v
   pub number : ℕ
   pub at : get_elem? t.views.items number ≡ some v
@@ -36,7 +39,7 @@ pub record Matches (o : Opening) (t : Table) (v : View Content) (m : Move) (c : 
   pub views : (i : ℕ) → slice_set t.views.items i (view_after v m (finding (setting o) (state t) v m)) ≡ views_after (setting o) t.views.items i v m (finding (setting o) (state t) v m)
   pub tabs : tabs_changed v c.tabs ≡ tabs_after v m (finding (setting o) (state t) v m)
   pub held : without_used c.used (option_to_list c.addition.drawn ++ v.held) ≡ held_after v m (found o t v m)
-  pub seen : option_to_list c.addition.sight ≡ sights_of v m (finding (setting o) (state t) v m)
+  pub seen : option_to_list c.addition.sight ++ names_seen c.addition.names ≡ sights_of v m (finding (setting o) (state t) v m)
   pub trail : c.addition.item ≡ item_of v m (found o t v m)
   pub mirror : c.addition.trace ∷ [] ≡ traces_of (place v m) (left_by v m (found o t v m))
   pub deeds : option_to_list c.addition.deed ≡ deeds_of v m (found o t v m)

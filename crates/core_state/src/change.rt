@@ -1,13 +1,16 @@
 // A step as it is worked out, and how it is made.
-ghost use Rattle.std.specs.Prelude.{◌≡◌, ◌<◌, length, OnOk, OnErr, Some, None};
+ghost use Rattle.std.specs.Prelude.{◌≡◌, ◌<◌, length, slice_set, slice_index_or, OnOk, OnErr, Some, None};
+ghost use Rattle.core_model.specs.declared.tab.Tab.TheVariants.{Free};
+ghost use Rattle.core_state.specs.Tabs.{changed_tab};
 ghost use lib.ListN.{get_elem?};
 ghost use mathlib.Core.Option.{some};
 ghost use Rattle.core_model.specs.declared.view.View.{View as ViewOf};
 ghost use Rattle.core_state.specs.declared.content.Content.{Content as ContentOf};
 ghost use Rattle.core_state.specs.Inside.{state};
-ghost use Rattle.core_state.specs.Changed.{anchor_addition, counter_addition, changed, view_changed, tabs_changed, without_used, chains_changed, Fits, FitsTabs, FitsChain};
+ghost use Rattle.core_state.specs.Changed.{anchor_addition, counter_addition, word_addition, changed, view_changed, tabs_changed, without_used, chains_changed, Fits, FitsTabs, FitsChain};
 
 use crate::content::Content;
+use crate::tab_change::{TabChange, changed_tab};
 use crate::table::Table;
 use core_model::{Addition, Chain, Item, Kind, Place, Row, Sight, Tab, Trace, View};
 use std::alloc::AllocError;
@@ -22,6 +25,10 @@ pub(crate) enum TabsChange {
     PutTwo(u8, Tab<Content>, u8, Tab<Content>),
     /// A writing tab's anchor is at APPENDING.
     Appends(u8),
+    /// A tab changes in part.
+    Becomes(u8, TabChange),
+    /// One does, and then another.
+    BothBecome(u8, TabChange, u8, TabChange),
 }
 
 /// What becomes of the chains.
@@ -68,6 +75,7 @@ pub(crate) fn anchor_addition(kind: Kind, anchor: u32, told: u64, left: u64, see
             anchor,
             epoch: seen,
         }),
+        names: None,
         deed: None,
         met: None,
         drawn: None,
@@ -85,10 +93,47 @@ pub(crate) fn counter_addition(kind: Kind, found: u64, left: u64) -> Addition
             word: left,
         },
         sight: None,
+        names: None,
         deed: None,
         met: None,
         drawn: None,
     }
+}
+
+/// What a step on another word adds to them, where it tells and leaves these numbers. `at` is its anchor,
+/// its slot or the number of the word beside its anchor.
+pub(crate) fn word_addition(
+    kind: Kind,
+    place: Place,
+    at: u32,
+    told: u64,
+    left: u64,
+    sight: Option<Sight>,
+) -> Addition
+    ensures { result ≡ word_addition kind place at told left sight }
+{
+    Addition {
+        item: Item {
+            kind,
+            at,
+            found: told,
+        },
+        trace: Trace { place, word: left },
+        sight,
+        names: None,
+        deed: None,
+        met: None,
+        drawn: None,
+    }
+}
+
+/// Changes a tab in part.
+fn change_tab(tabs: &mut Row<Tab<Content>>, at: u8, change: TabChange)
+    requires { at < length tabs.old }
+    ensures { tabs.new ≡ slice_set tabs.old at (changed_tab (slice_index_or tabs.old at Free) change) }
+{
+    let tab = tabs.replace(at as usize, Tab::Free);
+    tabs.set(at as usize, changed_tab(tab, change));
 }
 
 fn change_tabs(view: &mut View<Content>, change: TabsChange)
@@ -108,6 +153,11 @@ fn change_tabs(view: &mut View<Content>, change: TabsChange)
             };
             writer.is_appending = true;
             view.tabs.set(at as usize, Tab::Writing(writer));
+        }
+        TabsChange::Becomes(at, tab) => change_tab(&mut view.tabs, at, tab),
+        TabsChange::BothBecome(at, tab, other_at, other) => {
+            change_tab(&mut view.tabs, at, tab);
+            change_tab(&mut view.tabs, other_at, other);
         }
     }
 }

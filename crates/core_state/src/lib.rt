@@ -15,6 +15,7 @@ mod plan;
 mod recall;
 mod refusal;
 mod step;
+mod tab_change;
 mod table;
 mod tabs;
 mod unused;

@@ -3,7 +3,7 @@ ghost use Rattle.std.specs.Prelude.{◌≡◌, ◌<◌, ◌≤◌, ℕ, List, Al
 ghost use Rattle.db_layout.specs.Layout.{IsSlotSize};
 ghost use Rattle.rebuild_model.specs.Image.{IsSaneAt};
 ghost use Rattle.core_state.specs.New.{IsNew};
-ghost use Rattle.core_model.specs.Sound.{AnchorsSound};
+ghost use Rattle.core_model.specs.Sound.{WordsSound};
 ghost use Rattle.core_state.specs.declared.act.StepFault.TheVariants as fault;
 ghost use Rattle.core_state.specs.Applied.{Applies, MayApply, IsSameStore, kind_of};
 ghost use Rattle.core_state.specs.Machine.{setting_of, state_of};
@@ -60,7 +60,7 @@ impl Core {
         requires few_passes { passes ≤ 32 }
         requires unused { (slot : ℕ) → IsSaneAt image.now.slot image.now.slots slot → ⊥ }
         ensures new { IfOk result (λ core. IsNew image.now (length image.now.slots) anchors passes core) }
-        ensures sound { IfOk result (λ core. AnchorsSound (setting_of core) (state_of core)) }
+        ensures sound { IfOk result (λ core. WordsSound (setting_of core) (state_of core)) }
     {
         let slots = image.slots.as_slice().len() as u32;
         let opening = blank_opening(alloc, anchors, slots, passes)?;
@@ -89,7 +89,7 @@ impl Core {
 
     /// Does nothing. What is in a core is always sound.
     pub fn is_always_sound(&self)
-        ensures { AnchorsSound (setting_of self.now) (state_of self.now) }
+        ensures { WordsSound (setting_of self.now) (state_of self.now) }
     {
         let _table = &self.table;
     }
@@ -107,7 +107,7 @@ impl Core {
         ensures kind { (kind : ℕ) → IsErrOf result (fault.NotAllowed kind) → kind ≡ kind_of step.now }
         ensures unchanged { OnErr result (self.new ≡ self.old) }
         ensures same_store { IsSameStore self.old self.new }
-        ensures sound { AnchorsSound (setting_of self.new) (state_of self.new) }
+        ensures sound { WordsSound (setting_of self.new) (state_of self.new) }
     {
         let alloc = self.alloc;
         let act = match step {

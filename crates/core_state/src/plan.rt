@@ -5,7 +5,12 @@ ghost use Rattle.core_state.specs.Inside.{setting, state};
 ghost use Rattle.core_state.specs.Planned.{IsScene, Plans};
 
 mod counter;
+mod links;
+mod loosening;
+mod publishing;
 mod readers;
+mod sides;
+mod slots;
 mod takers;
 mod writers;
 
@@ -44,6 +49,17 @@ pub(crate) fn plan(
         Move::Evict { tab, anchor } => takers::evict(alloc, opening, table, view, tab, anchor),
         Move::Raise { tab, to } => writers::raise(alloc, opening, table, view, tab, to),
         Move::Doom { tab } => readers::doom(opening, table, view, tab),
+        Move::LoadSide { tab, side } => sides::load_side(opening, table, view, tab, side),
+        Move::StoreSide { tab, side, value } => {
+            sides::store_side(opening, table, view, tab, side, value)
+        }
+        Move::Own { tab, slot } => slots::own(alloc, opening, table, view, tab, slot),
+        Move::Disown { tab, slot } => slots::disown(opening, table, view, tab, slot),
+        Move::Publish { tab, slot, link } => {
+            publishing::publish(alloc, opening, table, view, tab, slot, link)
+        }
+        Move::Loosen { tab, slot } => loosening::loosen(alloc, opening, table, view, tab, slot),
+        Move::GetLink { tab, slot } => links::get_link(opening, table, view, tab, slot),
         _ => Err(Refusal::NotAllowed),
     }
 }

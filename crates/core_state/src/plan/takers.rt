@@ -21,7 +21,8 @@ use lock_word::{
 };
 use std::alloc::{AllocError, Global};
 
-fn inner_is_free(view: &View<Content>) -> bool
+/// Whether the inner tab of the pass is free.
+pub(crate) fn inner_is_free(view: &View<Content>) -> bool
     requires { IsPass view.now }
     ensures { IsTrue result ↔ InnerIsFree view.now }
 {

@@ -59,7 +59,7 @@ fn may_end(freer: &Freer, to: Stage) -> bool
         && freer.loose.as_slice().is_empty()
 }
 
-fn start_number(slots: &[u32]) -> u64
+pub(crate) fn start_number(slots: &[u32]) -> u64
     ensures { result ≡ start_number slots.now }
 {
     match slots {

@@ -17,8 +17,11 @@ const SLOTS: u32 = 4;
 const STEPS: u32 = 20_000;
 
 /// Kinds, some more often than others: tabs leave sooner than they enter, so that anchors are often without
-/// readers.
-const KINDS: [u8; 16] = [1, 1, 2, 3, 3, 3, 4, 5, 6, 6, 6, 6, 7, 7, 7, 8];
+/// readers, and slots are given back sooner than they are reserved.
+const KINDS: [u8; 32] = [
+    1, 1, 2, 3, 3, 3, 4, 5, 6, 6, 6, 6, 7, 7, 7, 8, 9, 9, 10, 10, 11, 11, 11, 11, 12, 13, 6, 6, 7,
+    7, 4, 5,
+];
 
 const TABS: [u8; 4] = [0, 1, 7, 8];
 
@@ -41,16 +44,20 @@ impl Numbers {
     }
 }
 
-/// A step of any kind on anchors or versions, with numbers that a step of that kind may have.
+/// A step of any kind up to 13, with numbers that a step of that kind may have.
 fn random_act(numbers: &mut Numbers, core: &Core) -> Act {
     let pass = numbers.below(PASSES);
     let tab = TABS[numbers.below(4) as usize];
-    let kind = KINDS[numbers.below(16) as usize];
-    let at = numbers.below(ANCHORS);
+    let kind = KINDS[numbers.below(32) as usize];
+    let at = match kind {
+        9 => numbers.below(8),
+        10..=13 => numbers.below(SLOTS),
+        _ => numbers.below(ANCHORS),
+    };
     let held = core.views().get(pass as usize).and_then(newest_version);
     let value = match kind {
         6 if numbers.below(2) == 0 => held.map_or(0, u64::from),
-        7 => u64::from(numbers.below(8)),
+        7 | 9 => u64::from(numbers.below(8)),
         _ => 0,
     };
     act_of(pass, tab, kind, at, value)
@@ -134,7 +141,28 @@ fn check_anchor<R: Abort>(rt: &R, core: &Core, at: u32, bits: u64) {
     assert!(rt; greatest_seen(core, at) <= epoch_bits(bits), "seen at {at}");
 }
 
+/// A slot has an owner where one tab has reserved it, and else none. Nothing is published.
+fn check_slot<R: Abort>(rt: &R, core: &Core, slot: u32, owner: u64, link: u64) {
+    let reserved = count_tabs(core, |tab| match tab {
+        Tab::Writing(writer) => {
+            writer.reserved.as_slice().contains(&slot) && u64::from(writer.anchor) + 1 == owner
+        }
+        _ => false,
+    });
+    assert_eq!(rt;
+        reserved,
+        usize::from(owner > 0),
+        "the place of slot {slot}"
+    );
+    assert_eq!(rt; link, 0, "the link of slot {slot}");
+}
+
 fn check<R: Abort>(rt: &R, core: &Core) {
+    let owners = core.words().iter().skip(5 * ANCHORS as usize);
+    let links = core.words().iter().skip((5 * ANCHORS + SLOTS) as usize);
+    for ((slot, owner), link) in (0..SLOTS).zip(owners).zip(links) {
+        check_slot(rt, core, slot, *owner, *link);
+    }
     let mut version = 0;
     for (at, bits) in (0..ANCHORS).zip(core.words()) {
         check_anchor(rt, core, at, *bits);
@@ -150,7 +178,7 @@ fn random_steps_keep_tabs_and_words_together(rt: HostRuntime) -> Result<(), Fail
     let mut core = blank_core(&rt, rt.alloc(), SLOTS as usize, ANCHORS, PASSES)?;
     let mut numbers = Numbers { state: 1 };
     let mut made = 0;
-    let mut allowed = [0u32; 9];
+    let mut allowed = [0u32; 14];
     let mut changes = [0u32; 2];
     for _ in 0..1_000_000 {
         if made == STEPS {
@@ -175,12 +203,12 @@ fn random_steps_keep_tabs_and_words_together(rt: HostRuntime) -> Result<(), Fail
             }
         }
     }
-    // No slot can be published yet, so no tab reads and none dooms.
+    // No slot can be published yet, so no tab reads or dooms, and no chain is given back.
     assert_eq!(rt; made, STEPS, "{allowed:?}");
-    for kind in 1..8 {
-        assert!(rt; allowed[kind] > 0, "{allowed:?}");
+    for (kind, count) in allowed.iter().enumerate().skip(1) {
+        let never = kind == 8 || kind > 11;
+        assert_eq!(rt; *count == 0, never, "{allowed:?}");
     }
-    assert_eq!(rt; allowed[8], 0, "{allowed:?}");
     assert!(rt; changes[0] > 0 && changes[1] > 0, "{changes:?}");
     Ok(())
 }

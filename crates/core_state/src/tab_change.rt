@@ -1,0 +1,119 @@
+// What a step makes of a tab, where most of the tab stays as it is.
+ghost use Rattle.std.specs.Prelude.{◌≡◌};
+ghost use Rattle.core_model.specs.TabsAfter.{stored, settled, without};
+ghost use Rattle.core_state.specs.Tabs.{changed_tab};
+
+use crate::content::Content;
+use core_model::{Freer, Reader, Row, Side, Tab, Writer};
+use link_word::Link;
+
+/// A change of a tab, for which all memory was taken. A tab that it is not for stays as it is.
+#[derive(Drop)]
+pub(crate) enum TabChange {
+    /// A reading tab learned from the Start word where it begins.
+    Learns(Option<u32>),
+    /// A writing tab stored this number in this word beside its anchor.
+    Stores(Side, u64),
+    /// A writing tab has reserved these slots.
+    Reserves(Row<u32>),
+    /// A writing or freeing tab gave this slot back.
+    GivesBack(u32),
+    /// A reading tab found this link at its place.
+    Follows(Link),
+    /// A freeing tab looked at the link of the first slot of its rest.
+    Looks,
+    /// That slot left the chain: these are still in it, and these left it and are not free.
+    Loosens(Row<u32>, Row<u32>),
+    /// A writing tab published a slot with this link: these are reserved still, and these published.
+    Publishes(Row<u32>, Row<u32>, Link),
+}
+
+fn stored(writer: Writer<Content>, side: Side, value: u64) -> Writer<Content>
+    ensures { result ≡ stored writer side value }
+{
+    let value = Some(value);
+    match side {
+        Side::Key0 => Writer {
+            key0: value,
+            ..writer
+        },
+        Side::Key1 => Writer {
+            key1: value,
+            ..writer
+        },
+        Side::Offer => Writer {
+            offer: value,
+            ..writer
+        },
+        Side::Start => Writer {
+            start: value,
+            ..writer
+        },
+    }
+}
+
+/// An inner tab without slots is free, unless its anchor is at FREEING.
+fn settled(freer: Freer) -> Tab<Content>
+    ensures { result ≡ settled freer }
+{
+    if freer.rest.as_slice().is_empty() && freer.loose.as_slice().is_empty() && !freer.is_freeing {
+        return Tab::Free;
+    }
+    Tab::Freeing(freer)
+}
+
+fn without(mut slots: Row<u32>, slot: u32) -> Row<u32>
+    ensures { result ≡ without slot slots }
+{
+    slots.remove_all(slot);
+    slots
+}
+
+/// The tab after the change.
+pub(crate) fn changed_tab(tab: Tab<Content>, change: TabChange) -> Tab<Content>
+    ensures { result ≡ changed_tab tab change }
+{
+    match (tab, change) {
+        (Tab::Reading(reader), TabChange::Learns(slot)) => Tab::Reading(Reader { slot, ..reader }),
+        (Tab::Reading(reader), TabChange::Follows(found)) => {
+            Tab::Reading(Reader { found, ..reader })
+        }
+        (Tab::Writing(writer), TabChange::Stores(side, value)) => {
+            Tab::Writing(stored(writer, side, value))
+        }
+        (Tab::Writing(writer), TabChange::Reserves(reserved)) => {
+            Tab::Writing(Writer { reserved, ..writer })
+        }
+        (Tab::Writing(writer), TabChange::GivesBack(slot)) => Tab::Writing(Writer {
+            reserved: without(writer.reserved, slot),
+            is_ending: true,
+            ..writer
+        }),
+        (Tab::Writing(writer), TabChange::Publishes(reserved, published, end)) => {
+            Tab::Writing(Writer {
+                reserved,
+                chosen: None,
+                is_written: false,
+                published,
+                end,
+                ..writer
+            })
+        }
+        (Tab::Freeing(freer), TabChange::GivesBack(slot)) => settled(Freer {
+            loose: without(freer.loose, slot),
+            ..freer
+        }),
+        (Tab::Freeing(freer), TabChange::Looks) => Tab::Freeing(Freer {
+            is_looked: true,
+            ..freer
+        }),
+        (Tab::Freeing(freer), TabChange::Loosens(rest, loose)) => Tab::Freeing(Freer {
+            rest,
+            is_whole: false,
+            is_looked: false,
+            loose,
+            ..freer
+        }),
+        (tab, _) => tab,
+    }
+}
