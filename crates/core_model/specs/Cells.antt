@@ -1,6 +1,6 @@
 -- What holds between any two steps of cells and their turns, of published contents, and of the names of entries. No law speaks of
 -- these parts yet.
-use Rattle.std.specs.Prelude.{◌≡◌, ◌≢◌, ◌⊎◌, ℕ, ◌<◌, ◌≤◌, ◌∷◌, length, slice_index, slice_index_or, Some, None, Contains, true, cond, ◌==◌, sum_by}
+use Rattle.std.specs.Prelude.{◌≡◌, ◌≢◌, ◌⊎◌, ℕ, ◌<◌, ◌≤◌, ◌∷◌, length, slice_index, slice_index_or, Some, None, Contains, true, false, cond, ◌==◌, sum_by}
 use mathlib.Core.Option.{some}
 use lib.ListN.{get_elem?}
 use Rattle.lock_word.specs.Words.{epoch_of, version_of, stage_of}
@@ -87,12 +87,20 @@ pub record ContentsStand {X : Type 0} (k : Setting X) (s : State X) : Type 0 whe
   pub published : (a place slot : ℕ) (c : Cell X) → a < k.anchors → get_elem? (chain_of s a).slots place ≡ some slot → IsCell s slot c → IsContent k s a place slot c.now
   pub possible : (slot : ℕ) (c : Cell X) → IsCell s slot c → Contains c.possible c.now
 
--- A writing tab has a new version, and the offer that it stored is no slot's number. Where the piece that it chose is written, the
--- cell of its first reserved slot has its image.
+-- The first reserved slot of a writing tab, whose cell is home and has the image of this piece.
+pub record IsHome {X : Type 0} (k : Setting X) (s : State X) (w : Writer X) (p : Piece) : Type 0 where
+  pub slot : ℕ
+  pub first : w.reserved ≡ slot ∷ rest_of w.reserved
+  pub cell : Cell X
+  pub home : slice_index_or s.places slot None ≡ Some cell
+  pub written : cell.now ≡ k.image p
+
+-- A writing tab has a new version, and the offer that it stored is no slot's number. Until it gives a slot back, the piece that it
+-- chose is for its first reserved slot, and is in that slot's cell once it is written.
 pub record WriterPiece {X : Type 0} (k : Setting X) (s : State X) (w : Writer X) : Type 0 where
   pub drawn : opening_counter k < w.version
   pub offer : (x : ℕ) → w.offer ≡ Some x → k.slots ≤ x
-  pub home : (p : Piece) → w.is_written ≡ true → w.chosen ≡ Some p → (c : Cell X) × (slice_index_or s.places (first_of w.reserved) None ≡ Some c) × (c.now ≡ k.image p)
+  pub home : (p : Piece) → w.is_ending ≡ false → w.is_written ≡ true → w.chosen ≡ Some p → IsHome k s w p
   pub held : (p : Piece) (h : Hold X) → w.turn ≡ Has h → h.is_written ≡ true → w.chosen ≡ Some p → h.cell.now ≡ k.image p
 
 abbrev pub TabPiece : {X : Type 0} → Setting X → State X → Tab X → Type 0

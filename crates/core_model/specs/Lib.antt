@@ -19,3 +19,5 @@ pub mod Opening
 pub mod Adding
 pub mod Known
 pub mod Matching
+pub mod Entries
+pub mod Holding
