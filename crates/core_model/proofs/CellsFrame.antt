@@ -1,5 +1,5 @@
 -- A step that leaves the cells and the turn words alone: what it owes to the part on cells, turns, contents and names.
-use Rattle.std.proofs.Common.{◌≡◌, ◌≢◌, ◌⊎◌, inl, inr, ⊎_elim, ℕ, suc, ◌+◌, ◌-◌, ◌*◌, ◌<◌, ◌≤◌, List, [], ◌∷◌, ◌++◌, drop, length, get_or, set, sym, refl, ap, ◌∙◌, subst, arith, sum_by, Some, None, Contains, true, false, get_or-set_same, get_or-set_other}
+use Rattle.std.proofs.Common.{◌≡◌, ◌≢◌, ◌⊎◌, inl, inr, ⊎_elim, ℕ, suc, ◌+◌, ◌-◌, ◌*◌, ◌<◌, ◌≤◌, List, [], ◌∷◌, ◌++◌, drop, length, get_or, set, sym, refl, ap, ◌∙◌, subst, arith, sum_by, Some, None, Contains, get_or-set_same, get_or-set_other}
 use mathlib.Core.Option.{some, some-injective}
 use mathlib.Core.Logic.{dite}
 use native.Mathlib.Decide.{ℕ_discrete}
@@ -22,7 +22,7 @@ use Rattle.core_model.specs.declared.view.Sight.TheVariants.{Named}
 use Rattle.core_model.specs.declared.view.Place.TheVariants.{Beside, Turn}
 use Rattle.core_model.specs.declared.view.View.{View}
 use Rattle.core_model.specs.declared.chain.Chain.{Chain}
-use Rattle.core_model.specs.Layout.{Setting, index, word_count, turns_end}
+use Rattle.core_model.specs.Layout.{Setting, index, word_count}
 use Rattle.core_model.specs.Chains.{no_chain, named, link_to, link_at, rest_of}
 use Rattle.core_model.specs.State.{State, word, chain_of}
 use Rattle.core_model.specs.Tabs.{turn_of, count}
@@ -31,7 +31,7 @@ use Rattle.core_model.specs.Allowed.{IsNext}
 use Rattle.core_model.specs.Anchors.{opening_counter}
 use Rattle.core_model.specs.Matching.{IsTab}
 use Rattle.core_model.specs.Slots.{SlotsSound}
-use Rattle.core_model.specs.Cells.{side_word, turn_word, turn_at, holds_at, OneHolder, TurnFits, IsHeldCell, IsCell, IsContent, ContentsStand, IsHome, WriterPiece, TabPiece, IsNamed, NamesStand, CellsSound}
+use Rattle.core_model.specs.Cells.{side_word, turn_word, turn_at, holds_at, OneHolder, TurnFits, IsCell, IsContent, ContentsStand, IsHome, WriterPiece, TabPiece, IsNamed, NamesStand, CellsSound}
 use Rattle.core_model.specs.Entries.{NamesStay, EntryStays, EntryGone}
 use Rattle.core_model.specs.Sound.{AnchorsSound}
 use Rattle.core_model.proofs.Lists.{at_set, at_length, sum_at, set_here, set_else}
@@ -227,9 +227,11 @@ module _ {X : Type 0} where
       content_later a place slot x e h = let offer : side_word k s' Offer a ≡ side_word k s Offer a = e.named.names Offer (λ q. cc) in ⊎_elim
           (λ (q : (side_word k s Offer a < k.slots) × (get_elem? k.contents slot ≡ some x)). inl (subst (λ (n : ℕ). n < k.slots) (sym offer) q.0, q.1))
           (λ (q : (k.slots ≤ side_word k s Offer a) × (x ≡ k.image (piece_with (side_word k s Offer a) (version_of (epoch_of (word s a))) place (first_of (chain_of s a).slots) (link_at (chain_of s a) place)))).
-          inr (subst (λ (n : ℕ). k.slots ≤ n) (sym offer) q.0,
-          q.1 ∙ ap k.image (piece_same (side_word k s Offer a) (side_word k s' Offer a) (version_of (epoch_of (word s a))) (version_of (epoch_of (word s' a))) place (first_of (chain_of s a).slots) (first_of (chain_of s' a).slots) (link_at (chain_of s a) place) (link_at (chain_of s' a) place)
-          (sym offer) (sym e.named.version) (ap first_of (sym e.slots)) (sym (link_same (chain_of s a) (chain_of s' a) place e.slots e.end)))))
+          inr (
+            subst (λ (n : ℕ). k.slots ≤ n) (sym offer) q.0,
+            q.1 ∙ ap k.image (piece_same (side_word k s Offer a) (side_word k s' Offer a) (version_of (epoch_of (word s a))) (version_of (epoch_of (word s' a))) place (first_of (chain_of s a).slots) (first_of (chain_of s' a).slots) (link_at (chain_of s a) place) (link_at (chain_of s' a) place)
+                (sym offer) (sym e.named.version) (ap first_of (sym e.slots)) (sym (link_same (chain_of s a) (chain_of s' a) place e.slots e.end))),
+          ))
           h
 
       contents_later : ContentsStand k s'

@@ -1,5 +1,5 @@
 -- Each step of kinds 1 to 13 but the publishing of a slot keeps the part on cells, turns, contents and names.
-use Rattle.std.proofs.Common.{◌≡◌, ◌≢◌, ◌⊎◌, inl, inr, ⊎_elim, ℕ, zero, suc, ◌+◌, ◌-◌, ◌*◌, ◌<◌, ◌≤◌, List, [], ◌∷◌, ◌++◌, drop, length, get_or, set, sym, refl, ap, ◌∙◌, subst, arith, Bool, true, false, cond, ◌==◌, ◌&&◌, not, eq-eqb, Some, None, Contains, get_or-set_same, get_or-set_other}
+use Rattle.std.proofs.Common.{◌≡◌, ◌≢◌, ◌⊎◌, inl, inr, ⊎_elim, ℕ, zero, suc, ◌+◌, ◌-◌, ◌*◌, ◌<◌, ◌≤◌, List, [], ◌∷◌, ◌++◌, drop, length, get_or, set, sym, refl, ap, ◌∙◌, subst, arith, Bool, true, false, cond, ◌==◌, ◌&&◌, not, eq-eqb, None, Contains, get_or-set_same, get_or-set_other}
 use Rattle.std.proofs.lemmas.Bool.{eqb-true, false≢true}
 use Rattle.std.specs.Prelude.{unwrap_or}
 use mathlib.Core.Option.{some}
@@ -8,7 +8,7 @@ use native.Mathlib.Decide.{ℕ_discrete}
 use lib.ListN.{get_elem?}
 use Rattle.lock_word.specs.declared.stage.Stage.{Stage}
 use Rattle.lock_word.specs.declared.stage.Stage.TheVariants.{Empty, Taken, Appending, Closed, Halted, Freeing as FreeingStage, Gone}
-use Rattle.lock_word.specs.Words.{stage_number, readers_of, epoch_of, version_of, stage_of, is_readable, is_left_over, raised, doomed}
+use Rattle.lock_word.specs.Words.{stage_number, epoch_of, version_of, stage_of, is_readable, is_left_over, raised, doomed}
 use Rattle.lock_word.proofs.Readers.{epoch_of-more, epoch_of-less}
 use Rattle.lock_word.proofs.Raising.{version_of-raised}
 use Rattle.lock_word.proofs.Dooming.{version_of-doomed}
@@ -31,19 +31,18 @@ use Rattle.core_model.specs.declared.view.Place.TheVariants.{Beside, Turn}
 use Rattle.core_model.specs.declared.view.View.{View}
 use Rattle.core_model.specs.declared.chain.Chain.{Chain}
 use Rattle.core_model.specs.Layout.{Setting, index, turns_end}
-use Rattle.core_model.specs.Chains.{no_chain, named, Tied, times, link_to, link_at, rest_of, start_number}
+use Rattle.core_model.specs.Chains.{no_chain, named, Tied, times, link_to, link_at, rest_of}
 use Rattle.core_model.specs.State.{State, word, chain_of}
-use Rattle.core_model.specs.Tabs.{tab_at, inner, anchor_of, turn_of, has_turn, is_counted, is_using, stage_written, OfReader, OfWriter, OfFreer}
-use Rattle.core_model.specs.Allowed.{IsPass, InnerIsFree, Allowed, MayRaise, StartsRight, MayEnd, MayStore, MayReserve, MayGiveBack, MayLoosen, IsFront, IsNext}
+use Rattle.core_model.specs.Tabs.{tab_at, inner, anchor_of, turn_of, has_turn, stage_written, OfReader, OfWriter, OfFreer}
+use Rattle.core_model.specs.Allowed.{IsPass, Allowed, MayRaise, StartsRight, MayEnd, MayStore, MayReserve, MayGiveBack, MayLoosen, IsFront, IsNext}
 use Rattle.core_model.specs.TabsAfter.{Finding, entered, left_tab, raised_tab, loaded, stored, stores, reserves, without, settled, gives_back, loosens, link_of, looks}
 use Rattle.core_model.specs.Where.{stage_held}
 use Rattle.core_model.specs.Records.{sights_of}
 use Rattle.core_model.specs.Steps.{finding, view_after, after, halted}
-use Rattle.core_model.specs.Slots.{SlotWords, slot_words, held_in, ReaderHolds, WriterHolds, SlotsSound}
+use Rattle.core_model.specs.Slots.{SlotWords, slot_words, WriterHolds, SlotsSound}
 use Rattle.core_model.specs.Cells.{TurnFits, WriterPiece, TabPiece, CellsSound}
-use Rattle.core_model.specs.Entries.{NamesStay, EntryStays, EntryGone}
+use Rattle.core_model.specs.Entries.{EntryStays, EntryGone}
 use Rattle.core_model.specs.Sound.{AnchorsSound, WordsSound}
-use Rattle.core_model.proofs.Tabs.{tab_there}
 use Rattle.core_model.proofs.Spelling.{no_items, firsts, one_same, suc_is}
 use Rattle.core_model.proofs.Lists.{set_else}
 use Rattle.core_model.proofs.Telling.{told_in, side_in, set_again}
@@ -52,9 +51,9 @@ use Rattle.core_model.proofs.SlotKinds.{NoSlots}
 use Rattle.core_model.proofs.SlotAnchors.{written_few, writer_stage, freer_stage}
 use Rattle.core_model.proofs.EntersKept.{few_readers, counted_there, has_reader}
 use Rattle.core_model.proofs.RaisesKept.{reads_counted, only_writer, only_freer}
-use Rattle.core_model.proofs.OwnsKept.{of_writer, of_freer, of_reader, tab_was, held_slot, only_inner, back_held}
+use Rattle.core_model.proofs.OwnsKept.{of_writer, of_freer, tab_was, held_slot, only_inner, back_held}
 use Rattle.core_model.proofs.FollowsKept.{spelled_at, link_of_number, followed}
-use Rattle.core_model.proofs.CellsFrame.{later, Sees, SameChains, same_chains, no_has, contains_later, TurnsKeep, turns_same, turns_with, idle_fits, idle_piece, Goes, goes_fits, goes_piece, piece_again, CellsOwe, cells_later, names_at, names_apart, names_started, turns_else, on_words, on_anchor, on_else}
+use Rattle.core_model.proofs.CellsFrame.{later, Sees, SameChains, same_chains, no_has, contains_later, TurnsKeep, turns_same, turns_with, idle_fits, idle_piece, Goes, goes_fits, goes_piece, piece_again, cells_later, names_apart, names_started, turns_else, on_words, on_anchor, on_else}
 use Rattle.core_model.proofs.CellsTaken.{take_cells, evict_cells}
 
 -- the kinds 1 to 13 but that which publishes a slot
@@ -108,7 +107,7 @@ module _ {X : Type 0} where
   entered_turn a u true = refl
   entered_turn a u false = refl
 
-  -- an inner tab is settled or free
+  -- an inner tab that gave a slot back
   settled_turn : (f : Freer) (b : Bool) → turn_of {X = X} (cond b Free (Freeing f)) ≡ NoTurn
   settled_turn f true = refl
   settled_turn f false = refl
@@ -425,10 +424,6 @@ module _ {X : Type 0} (k : Setting X) (s : State X) (i : ℕ) (v : View X) (so :
     front_held : (p : ℕ) (f : Freer) → get_elem? v.tabs p ≡ some (Freeing f) → IsFront slot f → slot < k.slots
     front_held p f is front = held_slot k s i v so sl at pass slot p (Freeing f) is (let c : times slot f.rest ≡ times slot (slot ∷ rest_of f.rest) = ap (times slot) front in let o = one_same slot in omega arith)
 
-    -- what the inner tab is afterwards
-    abbrev FreerLike : Tab X → Type 0
-    FreerLike x = OfFreer (λ f. Unit {0}) x
-
     abbrev LooseTabs : Bool → List (Tab X)
     LooseTabs mine = cond mine (set v.tabs inner (loosens (tab_at v inner) (slot ∷ []))) (set (set v.tabs inner (loosens (tab_at v inner) [])) t (reserves (tab_at v t) slot))
 
@@ -446,9 +441,9 @@ module _ {X : Type 0} (k : Setting X) (s : State X) (i : ℕ) (v : View X) (so :
     handed le w e f e' front = let was = there t (Writing w) le e in let is = there inner (Freeing f) (omega arith) e' in (
       front_held inner f is front,
       (λ v' ws cs. turns_with k (later s i v' ws cs) v (set v.tabs inner (loosens (Freeing f) [])) (shortened f is [] (later s i v' ws cs)) t (Writing w) (reserves (Writing w) slot)
-      (set_else v.tabs inner t (loosens (Freeing f) []) (λ q. absurd (let z = (so.tabs i v at t (Writing w) was).1 in omega arith)) ∙ was) refl
-      (goes_fits k s (later s i v' ws cs) refl w (record w { reserved = w.reserved ++ slot ∷ [] }) (goes_owned k w slot) (cells.turns i v at t (Writing w) was))
-      (goes_piece k s (later s i v' ws cs) refl w (record w { reserved = w.reserved ++ slot ∷ [] }) (goes_owned k w slot) (cells.writers i v at t (Writing w) was))),
+          (set_else v.tabs inner t (loosens (Freeing f) []) (λ q. absurd (let z = (so.tabs i v at t (Writing w) was).1 in omega arith)) ∙ was) refl
+          (goes_fits k s (later s i v' ws cs) refl w (record w { reserved = w.reserved ++ slot ∷ [] }) (goes_owned k w slot) (cells.turns i v at t (Writing w) was))
+          (goes_piece k s (later s i v' ws cs) refl w (record w { reserved = w.reserved ++ slot ∷ [] }) (goes_owned k w slot) (cells.writers i v at t (Writing w) was))),
     )
 
     leaves : Allowed k s v (Loosen t slot) → (mine : Bool) → mine ≡ (t == inner) → Result (LooseTabs mine)
@@ -476,9 +471,6 @@ module _ {X : Type 0} (k : Setting X) (s : State X) (i : ℕ) (v : View X) (so :
     finds_again : (r : Reader X) → get_elem? v.tabs t ≡ some (Reading r) → IsNext s slot r → r.found ≢ NotWritten → link_of n ≢ NotWritten
     finds_again r was next ne e = ne (sym (link_of_number r.found) ∙ ap link_of (sym link_is) ∙ e)
       where
-        c : Chain
-        c = chain_of s r.anchor
-
         found : (r.place < length (chain_of s r.anchor).slots) × (r.found ≡ link_at (chain_of s r.anchor) r.place)
         found = (sl.tabs i v at t (Reading r) was).found ne
 

@@ -1,5 +1,5 @@
 -- To take an anchor for a new entry, and to evict an entry, keeps the part on cells, turns, contents and names: nobody reads there.
-use Rattle.std.proofs.Common.{◌≡◌, ◌≢◌, ◌⊎◌, inl, inr, ⊎_elim, ℕ, ◌<◌, ◌≤◌, List, length, set, get_or, sym, refl, ap, ◌∙◌, subst, arith, Bool, true, false, cond, ◌==◌, Some, None, get_or-set_same, get_or-set_other}
+use Rattle.std.proofs.Common.{◌≡◌, ◌≢◌, ◌⊎◌, inl, inr, ⊎_elim, ℕ, ◌<◌, ◌≤◌, List, length, set, get_or, sym, refl, ap, ◌∙◌, subst, arith, Bool, true, false, cond, ◌==◌, get_or-set_same, get_or-set_other}
 use Rattle.std.proofs.lemmas.Bool.{eqb-true, false≢true}
 use mathlib.Core.Option.{some}
 use mathlib.Core.Logic.{dite}
@@ -30,7 +30,7 @@ use Rattle.core_model.specs.Cells.{TabPiece, CellsSound}
 use Rattle.core_model.specs.Sound.{AnchorsSound}
 use Rattle.core_model.proofs.Lists.{le_sum_at, set_here, set_else}
 use Rattle.core_model.proofs.Tabs.{tab_there}
-use Rattle.core_model.proofs.TakesKept.{IsFit, fit_vacant, fit_idle, free_is}
+use Rattle.core_model.proofs.TakesKept.{fit_vacant, fit_idle, free_is}
 use Rattle.core_model.proofs.EvictsKept.{IsRipe, ripe_idle, ripe_left}
 use Rattle.core_model.proofs.CellsFrame.{later, Sees, no_has, contains_later, TurnsKeep, turns_same, turns_with, cells_later, names_else, turns_else, same_chains, on_anchor}
 
