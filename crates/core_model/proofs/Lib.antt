@@ -43,3 +43,6 @@ pub mod SlotsOpened
 pub mod OneSpot
 pub mod Rests
 pub mod SlotFinds
+pub mod CellsOpened
+pub mod Settled
+pub mod Holders
