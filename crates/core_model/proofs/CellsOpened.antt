@@ -1,5 +1,5 @@
 -- In a store that was just opened with what a rebuild kept each cell is home, and each slot of an entry has the opening's content.
-use Rattle.std.proofs.Common.{◌≡◌, ◌⊎◌, inl, inr, ⊎_elim, ℕ, zero, suc, ◌+◌, ◌-◌, ◌<◌, ◌≤◌, List, [], ◌∷◌, length, get_or, sym, refl, ap, ◌∙◌, subst, arith, sum_by, Some, None, Contains}
+use Rattle.std.proofs.Common.{◌≡◌, ◌⊎◌, inl, inr, ⊎_elim, ℕ, zero, suc, ◌-◌, ◌<◌, List, [], ◌∷◌, length, get_or, sym, refl, ap, ◌∙◌, subst, arith, Some, None, Contains}
 use Rattle.std.proofs.lemmas.List.{get_or_past}
 use Rattle.std.proofs.lemmas.List.Elements.{All-contains}
 use mathlib.Core.Option.{some, some-ne-none}
@@ -27,8 +27,8 @@ use Rattle.core_model.specs.Layout.{Setting, index}
 use Rattle.core_model.specs.State.{State, word, chain_of}
 use Rattle.core_model.specs.Tabs.{turn_of, count}
 use Rattle.core_model.specs.Anchors.{IsSetting, opening_counter}
-use Rattle.core_model.specs.Opening.{IsOpened, IsKeptAt, IsEmptyAt}
-use Rattle.core_model.specs.Cells.{turn_word, side_word, holds_at, TurnFits, IsHeldCell, IsCell, IsContent, TabPiece, CellsSound}
+use Rattle.core_model.specs.Opening.{IsOpened}
+use Rattle.core_model.specs.Cells.{side_word, holds_at, TurnFits, IsHeldCell, IsCell, TabPiece, CellsSound}
 use Rattle.core_model.proofs.Lists.{cons_contains, contains_none}
 use Rattle.core_model.proofs.Opened.{at_new, no_sum, free_tab}
 use Rattle.core_model.proofs.SlotsOpened.{contains_map}

@@ -1,12 +1,11 @@
 -- Who holds the turn at a slot's cell: one tab, which has the cell, and never one that writes while another reads the slot.
-use Rattle.std.proofs.Common.{◌≡◌, ◌≢◌, ◌⊎◌, inl, inr, ⊎_elim, ℕ, zero, suc, ◌+◌, ◌-◌, ◌<◌, ◌≤◌, List, [], ◌∷◌, ◌++◌, length, get_or, sym, refl, ap, ◌∙◌, subst, arith, sum_by, Some, None, true, false, cond, eq-eqb, Contains}
+use Rattle.std.proofs.Common.{◌≡◌, ◌≢◌, ◌⊎◌, inl, inr, ⊎_elim, ℕ, zero, suc, ◌+◌, ◌-◌, ◌<◌, ◌≤◌, List, [], ◌∷◌, ◌++◌, length, sym, refl, ap, ◌∙◌, subst, arith, sum_by, Some, None, true, false, cond, eq-eqb, Contains}
 use Rattle.std.proofs.lemmas.List.Elements.{Contains-append_left}
 use Rattle.std.proofs.lemmas.Bool.{false≢true}
-use mathlib.Core.Option.{some, some-injective, some-ne-none}
+use mathlib.Core.Option.{some, some-injective}
 use mathlib.Core.Logic.{dite}
 use native.Mathlib.Decide.{ℕ_discrete}
 use lib.ListN.{get_elem?}
-use Rattle.link_word.specs.declared.link.Link.TheVariants.{NotWritten}
 use Rattle.core_model.specs.declared.moves.Move.{Move}
 use Rattle.core_model.specs.declared.moves.Move.TheVariants.{Look, Enter, Leave, Count, Draw, Take, Evict, Raise, Doom, LoadSide, StoreSide, Own, Disown, Publish, Loosen, GetLink, TryTurn, EndTurn, CellOut, CellIn, Note, Learn, Write, Sync}
 use Rattle.core_model.specs.declared.spot.Spot.{Spot}
@@ -25,7 +24,7 @@ use Rattle.core_model.specs.Layout.{Setting}
 use Rattle.core_model.specs.State.{State, chain_of}
 use Rattle.core_model.specs.Chains.{rest_of, named}
 use Rattle.core_model.specs.Tabs.{tab_at, turn_of, has_turn, holds_turn, count, OfReader, OfWriter}
-use Rattle.core_model.specs.Allowed.{IsPass, IsNext, MayRead, MayWrite, Holds, Allowed}
+use Rattle.core_model.specs.Allowed.{IsPass, MayRead, MayWrite, Holds, Allowed}
 use Rattle.core_model.specs.Steps.{number_found}
 use Rattle.core_model.specs.Matching.{IsTab}
 use Rattle.core_model.specs.Slots.{slot_words, used, held_in, standing_in}

@@ -1,10 +1,8 @@
 -- Where each tab is free nothing is left to do for the word of an anchor.
-use Rattle.std.proofs.Common.{◌≡◌, ◌≢◌, ◌⊎◌, inl, inr, ⊎_elim, ℕ, ◌+◌, ◌*◌, ◌<◌, ◌≤◌, sym, refl, ap, ◌∙◌, subst, arith, sum_by, true}
-use mathlib.Core.Option.{some}
+use Rattle.std.proofs.Common.{◌≡◌, ◌≢◌, ◌⊎◌, inl, inr, ℕ, ◌<◌, refl, ap, ◌∙◌, arith, sum_by}
 use mathlib.Core.Logic.{dite}
 use native.Mathlib.Decide.{ℕ_discrete}
-use lib.ListN.{get_elem?}
-use Rattle.lock_word.specs.Words.{readers_of, epoch_of, mode_of, stage_of, doom_of, is_left_over}
+use Rattle.lock_word.specs.Words.{readers_of, epoch_of, mode_of, stage_of, doom_of}
 use Rattle.lock_word.proofs.Testing.{mode_is, left_over_where, written_where}
 use Rattle.core_model.specs.declared.tab.Writer.{Writer}
 use Rattle.core_model.specs.declared.tab.Freer.{Freer}
@@ -13,7 +11,6 @@ use Rattle.core_model.specs.declared.tab.Tab.TheVariants.{Free, Writing, Last, F
 use Rattle.core_model.specs.Layout.{Setting}
 use Rattle.core_model.specs.State.{State, word}
 use Rattle.core_model.specs.Tabs.{counts, count}
-use Rattle.core_model.specs.Matching.{IsTab}
 use Rattle.core_model.specs.Holding.{AllFree, IsSettled}
 use Rattle.core_model.specs.Sound.{AnchorsSound}
 use Rattle.core_model.proofs.Lists.{sum_some}

@@ -45,7 +45,7 @@ pub fn openings_are_sound<X>()
 {}
 
 /// Each slot is at exactly one spot. Its link word is 0 but where it is published or is still in a chain
-/// that is given back, and its turn is free where it is free, given back or loose.
+/// that is given back. Nobody holds its turn where it is free or is being given back.
 pub fn slots_have_one_spot<X>()
     ensures one { (k : Setting X) (s : State X) (slot : ℕ)
         → WordsSound k s → slot < k.slots → HasOneSpot k s slot }
@@ -88,7 +88,8 @@ pub fn turns_have_one_holder<X>()
         → (c : Cell X) × (slice_index_or s.places slot None ≡ Some c) }
 {}
 
-/// No slot's cell is written while a tab reads its entry or has its turn to read it.
+/// While a tab reads an entry that has a slot, or has the slot's turn to read it, no tab has the turn to
+/// write it.
 pub fn slots_are_not_written_while_read<X>()
     ensures { (k : Setting X) (s : State X) (slot : ℕ)
         → Sound k s → IsBeingWritten s slot → IsBeingRead s slot → ⊥ }
