@@ -46,3 +46,6 @@ pub mod SlotFinds
 pub mod CellsFrame
 pub mod CellsTaken
 pub mod CellsStay
+pub mod CellsOpened
+pub mod Settled
+pub mod Holders
