@@ -3,7 +3,7 @@
 use Rattle.std.specs.Prelude.{◌≡◌, ◌≢◌, ◌⊎◌, ℕ, ◌<◌, ◌≤◌, ◌∷◌, length, slice_index, slice_index_or, Some, None, Contains, true, false, cond, ◌==◌, sum_by}
 use mathlib.Core.Option.{some}
 use lib.ListN.{get_elem?}
-use Rattle.lock_word.specs.Words.{epoch_of, version_of, stage_of}
+use Rattle.lock_word.specs.Words.{epoch_of, version_of, stage_of, version_limit}
 use Rattle.link_word.specs.declared.link.Link.TheVariants.{NotWritten}
 use Rattle.core_model.specs.declared.moves.Side.{Side}
 use Rattle.core_model.specs.declared.moves.Side.TheVariants.{Offer, Start}
@@ -95,10 +95,11 @@ pub record IsHome {X : Type 0} (k : Setting X) (s : State X) (w : Writer X) (p :
   pub home : slice_index_or s.places slot None ≡ Some cell
   pub written : cell.now ≡ k.image p
 
--- A writing tab has a new version, and the offer that it stored is no slot's number. Until it gives a slot back, the piece that it
+-- A writing tab has a new version within the limit, and the offer that it stored is no slot's number. Until it gives a slot back, the piece that it
 -- chose is for its first reserved slot, and is in that slot's cell once it is written.
 pub record WriterPiece {X : Type 0} (k : Setting X) (s : State X) (w : Writer X) : Type 0 where
   pub drawn : opening_counter k < w.version
+  pub fits : w.version ≤ version_limit
   pub offer : (x : ℕ) → w.offer ≡ Some x → k.slots ≤ x
   pub home : (p : Piece) → w.is_ending ≡ false → w.is_written ≡ true → w.chosen ≡ Some p → IsHome k s w p
   pub held : (p : Piece) (h : Hold X) → w.turn ≡ Has h → h.is_written ≡ true → w.chosen ≡ Some p → h.cell.now ≡ k.image p

@@ -1,2 +1,6 @@
 pub mod Lists
 pub mod Runs
+pub mod Depends
+pub mod Standing
+pub mod Opened
+pub mod Spelled
