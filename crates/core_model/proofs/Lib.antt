@@ -43,3 +43,6 @@ pub mod SlotsOpened
 pub mod OneSpot
 pub mod Rests
 pub mod SlotFinds
+pub mod CellsTab
+pub mod CellsTurned
+pub mod CellsWritten
