@@ -49,3 +49,6 @@ pub mod CellsStay
 pub mod CellsOpened
 pub mod Settled
 pub mod Holders
+pub mod CellsTab
+pub mod CellsTurned
+pub mod CellsWritten
