@@ -52,3 +52,5 @@ pub mod Holders
 pub mod CellsTab
 pub mod CellsTurned
 pub mod CellsWritten
+pub mod CellsPublished
+pub mod Entries
