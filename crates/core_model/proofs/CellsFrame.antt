@@ -4,7 +4,7 @@ use mathlib.Core.Option.{some, some-injective}
 use mathlib.Core.Logic.{dite}
 use native.Mathlib.Decide.{ℕ_discrete}
 use lib.ListN.{get_elem?}
-use Rattle.lock_word.specs.Words.{readers_of, epoch_of, version_of, stage_of}
+use Rattle.lock_word.specs.Words.{readers_of, epoch_of, version_of, stage_of, version_limit}
 use Rattle.link_word.specs.declared.link.Link.{Link}
 use Rattle.core_model.specs.declared.moves.Side.{Side}
 use Rattle.core_model.specs.declared.moves.Side.TheVariants.{Offer, Start}
@@ -139,6 +139,7 @@ module _ {X : Type 0} where
     pub goes_piece : WriterPiece k s w → WriterPiece k s' x
     goes_piece q = record {
       drawn = subst (λ (n : ℕ). opening_counter k < n) (sym g.version) q.drawn;
+      fits = subst (λ (n : ℕ). n ≤ version_limit) (sym g.version) q.fits;
       offer = λ n e. ⊎_elim (λ (z : w.offer ≡ Some n). q.offer n z) (λ (z : k.slots ≤ n). z) (g.offer n e);
       home = λ p open_ written chosen. home_again p (q.home p (sym g.is_ending ∙ open_) (sym g.is_written ∙ written) (sym g.chosen ∙ chosen));
       held = λ p h e written chosen. q.held p h (sym g.turn ∙ e) written (sym g.chosen ∙ chosen);

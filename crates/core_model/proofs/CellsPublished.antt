@@ -236,6 +236,7 @@ module _ {X : Type 0} (k : Setting X) (s : State X) (i : ℕ) (v : View X) (so :
   piece_later (Reading r) h = tt
   piece_later (Writing y) h = record {
     drawn = h.drawn;
+    fits = h.fits;
     offer = h.offer;
     home = λ p goes_on written chosen. let q = h.home p goes_on written chosen in record { slot = q.slot; first = q.first; cell = q.cell; home = q.home; written = q.written };
     held = h.held;
@@ -244,7 +245,7 @@ module _ {X : Type 0} (k : Setting X) (s : State X) (i : ℕ) (v : View X) (so :
   piece_later (Freeing f) h = tt
 
   piece_here : TabPiece k s' new
-  piece_here = record { drawn = piece.drawn; offer = piece.offer; home = λ p goes_on written chosen. cc; held = λ p h turn written chosen. cc }
+  piece_here = record { drawn = piece.drawn; fits = piece.fits; offer = piece.offer; home = λ p goes_on written chosen. cc; held = λ p h turn written chosen. cc }
 
   writers_kept : (j : ℕ) (u : View X) → get_elem? s'.views j ≡ some u → (p : ℕ) (tab : Tab X) → get_elem? u.tabs p ≡ some tab → TabPiece k s' tab
   writers_kept = each_after (TabPiece k s') piece_here (λ j u ut p tab is. piece_later tab (cells.writers j u ut p tab is))

@@ -264,7 +264,7 @@ module _ {X : Type 0} (k : Setting X) (s : State X) (i : ℕ) (v : View X) (so :
     gives : (v' : View X) (ws : List ℕ) (cs : List Chain) (slot : ℕ) → has_turn w.turn ≡ false → v'.tabs ≡ set v.tabs t (Writing record w { reserved = without slot w.reserved; is_ending = true }) → TurnsKeep k (later s i v' ws cs) v v'.tabs
     gives v' ws cs slot none tabs = let e = turnless_is w.turn none in one_keeps (later s i v' ws cs) v' t (Writing w) (Writing record w { reserved = without slot w.reserved; is_ending = true }) was tabs refl
         (λ h q. absurd (no_has w.turn h e q))
-        record { drawn = piece.drawn; offer = piece.offer; home = λ p open_ written chosen. absurd (false≢true (sym open_)); held = λ p h q written chosen. absurd (no_has w.turn h e q) }
+        record { drawn = piece.drawn; fits = piece.fits; offer = piece.offer; home = λ p open_ written chosen. absurd (false≢true (sym open_)); held = λ p h q written chosen. absurd (no_has w.turn h e q) }
 
   -- The inner tab has nothing left.
   raise_gone : (t : ℕ) (f : Freer) → get_elem? v.tabs t ≡ some (Freeing f) → f.is_freeing ≡ true → (v' : View X) → v'.tabs ≡ set v.tabs t (left_tab f.anchor (raised (word s f.anchor) 1)) → Sees v v'

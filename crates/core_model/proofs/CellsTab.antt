@@ -222,6 +222,7 @@ module _ {X : Type 0} (k : Setting X) (s : State X) where
         piece_after j u ut p (Reading r) is ne h = tt
         piece_after j u ut p (Writing w) is ne h = record {
           drawn = h.drawn;
+          fits = h.fits;
           offer = h.offer;
           home = λ q going written chosen. o.homes j u ut p w is ne q (h.home q going written chosen);
           held = h.held;

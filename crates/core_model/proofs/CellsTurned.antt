@@ -271,6 +271,7 @@ module _ {X : Type 0} (k : Setting X) (s : State X) (i : ℕ) (v : View X) (so :
         taken_keeps t slot (Writing w) (tried_writer true) v' record { was = was; becomes = tabs } inside c.0 (turn_none w.turn none) has free c.1
         record {
           drawn = old.drawn;
+          fits = old.fits;
           offer = old.offer;
           home = λ q going written chosen. absurd (false≢true written);
           held = λ q g turn written chosen. absurd (false≢true (ap Hold.is_written (same_hold (taken slot c.0) g (sym has ∙ turn)) ∙ written));
@@ -303,6 +304,7 @@ module _ {X : Type 0} (k : Setting X) (s : State X) (i : ℕ) (v : View X) (so :
         ended_keeps t h.slot (Writing w) (ends (Writing w) goes_on) v' record { was = was; becomes = tabs } f.0 h has refl refl
         record {
           drawn = old.drawn;
+          fits = old.fits;
           offer = old.offer;
           home = λ q going written chosen. record {
             slot = h.slot;

@@ -124,6 +124,7 @@ module _ {X : Type 0} (k : Setting X) (s : State X) (i : ℕ) (v : View X) (so :
       (λ g e. subst (λ (z : ℕ). (z < k.slots) × (w.reserved ≡ z ∷ rest_of w.reserved)) (sym same ∙ same_slot h' g (sym has' ∙ e)) f)
       record {
         drawn = old.drawn;
+        fits = old.fits;
         offer = old.offer;
         home = λ p going written chosen. let y = old.home p going written chosen in record { slot = y.slot; first = y.first; cell = y.cell; home = y.home; written = y.written };
         held = λ p g e written chosen. let is_it = same_hold h' g (sym has' ∙ e) in

@@ -1,5 +1,5 @@
 -- What a step makes of the entry at an anchor: it stays, nothing is published there afterwards, or it grows by one slot.
-use Rattle.std.proofs.Common.{◌≡◌, ◌≢◌, ◌⊎◌, inl, inr, ⊎_elim, ℕ, ◌+◌, ◌-◌, ◌*◌, ◌<◌, ◌≤◌, List, [], length, get_or, set, sym, refl, ap, ◌∙◌, subst, arith, Bool, true, false, cond, ◌==◌, Option, get_or-set_same, get_or-set_other}
+use Rattle.std.proofs.Common.{◌≡◌, ◌≢◌, ◌⊎◌, inl, inr, ⊎_elim, ℕ, ◌+◌, ◌-◌, ◌*◌, ◌<◌, ◌≤◌, List, [], ◌∷◌, length, get_or, set, sym, refl, ap, ◌∙◌, subst, arith, Bool, true, false, cond, ◌==◌, Option, get_or-set_same, get_or-set_other}
 use mathlib.Core.Option.{some}
 use mathlib.Core.Logic.{dite}
 use native.Mathlib.Decide.{ℕ_discrete}
@@ -11,6 +11,7 @@ use Rattle.lock_word.proofs.Readers.{epoch_of-more, epoch_of-less}
 use Rattle.lock_word.proofs.Raising.{version_of-raised}
 use Rattle.lock_word.proofs.Dooming.{version_of-doomed}
 use Rattle.link_word.specs.declared.link.Link.{Link}
+use Rattle.link_word.specs.declared.link.Link.TheVariants.{Next}
 use Rattle.link_word.specs.Words.{link_number}
 use Rattle.core_model.specs.declared.moves.Side.{Side}
 use Rattle.core_model.specs.declared.moves.Side.TheVariants.{Key0, Key1, Offer, Start}
@@ -25,20 +26,21 @@ use Rattle.core_model.specs.declared.view.Place.TheVariants.{Beside}
 use Rattle.core_model.specs.declared.view.View.{View}
 use Rattle.core_model.specs.declared.chain.Chain.{Chain}
 use Rattle.core_model.specs.Layout.{Setting, index, turns_end}
-use Rattle.core_model.specs.Chains.{no_chain}
+use Rattle.core_model.specs.Chains.{no_chain, Tied, rest_of}
 use Rattle.core_model.specs.State.{State, word, chain_of}
 use Rattle.core_model.specs.Trails.{last_find}
 use Rattle.core_model.specs.Tabs.{tab_at, inner, anchor_of, OfWriter, OfFreer}
 use Rattle.core_model.specs.Allowed.{IsPass, Allowed, MayRaise, StartsRight, MayEnd, MayStore, MayPublish}
 use Rattle.core_model.specs.Where.{stage_held, evicted}
 use Rattle.core_model.specs.Steps.{after, halted, longer}
-use Rattle.core_model.specs.Slots.{SlotsSound}
+use Rattle.core_model.specs.Slots.{slot_words, WriterHolds, SlotsSound}
 use Rattle.core_model.specs.Sound.{AnchorsSound, WordsSound}
 use Rattle.core_model.specs.Entries.{NamesStay, EntryAfter}
 use Rattle.core_model.proofs.Matching.{matches_freer}
 use Rattle.core_model.proofs.EntersKept.{few_readers, counted_there, has_reader}
 use Rattle.core_model.proofs.RaisesKept.{reads_counted}
 use Rattle.core_model.proofs.SlotAnchors.{writer_stage}
+use Rattle.core_model.proofs.Spelling.{tied_end}
 use Rattle.core_model.proofs.Telling.{set_again, side_in, sides_apart, sides_differ}
 use Rattle.core_model.proofs.OwnsKept.{of_writer, tab_was}
 
@@ -215,6 +217,10 @@ module _ {X : Type 0} (k : Setting X) (s : State X) (i : ℕ) (v : View X) (so :
 
   -- Steps on slots.
 
+  some_items : (xs : List ℕ) → xs ≢ [] → 0 < length xs
+  some_items [] h = absurd (h refl)
+  some_items (x ∷ xs) h = omega arith
+
   publish_entry : (t slot : ℕ) (link : Link) → Allowed k s v (Publish t slot link) → EntryAfter k s (after k s i v (Publish t slot link)) i a
   publish_entry t slot link may = let q = of_writer (MayPublish k s slot link) (tab_at v t) may.1 in let was = tab_was k s i v so sl at pass t (tab_at v t) (let z = may.0 in omega arith) refl in
       grows q.0 (was ∙ ap some q.1) q.2 (anchor_of (tab_at v t)) (ap anchor_of q.1) (writer_chain t (tab_at v t) q.0 was q.1).0 (after k s i v (Publish t slot link)) refl refl
@@ -222,11 +228,22 @@ module _ {X : Type 0} (k : Setting X) (s : State X) (i : ℕ) (v : View X) (so :
       grows : (x : Writer X) → get_elem? v.tabs t ≡ some (Writing x) → MayPublish k s slot link x → (b : ℕ) → b ≡ x.anchor → b < k.anchors → (t' : State X) → t'.words ≡ set s.words (5 * k.anchors + k.slots + slot) (link_number link)
           → t'.chains ≡ set s.chains b (longer (chain_of s b) slot link) → EntryAfter k s t' i a
       grows x is h b on low t' e same = dite (ℕ_discrete a b)
-          (λ q. inr (inr record { named = names; tab = t; writer = x; writes = record { view = v; at = at; there = is }; anchor_is = sym on ∙ sym q; piece = h.piece; chosen = h.chosen; slot = slot; chain = here q }))
+          (λ q. inr (inr record { named = names; tab = t; writer = x; writes = record { view = v; at = at; there = is }; anchor_is = sym on ∙ sym q; piece = h.piece; goes_on = h.goes_on; chosen = h.chosen; slot = slot; linked = linked (sym on ∙ sym q); chain = here q }))
           (λ off. still_chain k s t' a lt i names (ap (λ (cs : List Chain). get_or cs a no_chain) same ∙ get_or-set_other s.chains b a (longer (chain_of s b) slot link) no_chain off))
         where
           names : NamesStay k s t' a
           names = names_high k s t' a lt (5 * k.anchors + k.slots + slot) (link_number link) e (omega arith)
+
+          -- the last link names the slot, where something is published
+          linked : x.anchor ≡ a → (chain_of s a).slots ≢ [] → (chain_of s a).end ≡ Next slot
+          linked there some_slot = tied_end (chain_of s a).end (chain_of s a).slots slot (rest_of x.reserved) (sl.stand a lt).fits (some_items (chain_of s a).slots some_slot)
+              (subst (λ (l : List ℕ). Tied (chain_of s a).end (chain_of s a).slots l) h.first (subst (λ (c : Chain). Tied c.end c.slots x.reserved) (sym chain_is) holds.tied))
+            where
+              holds : WriterHolds ((slot_words k s.words).beside x.anchor) (chain_of s x.anchor) x
+              holds = sl.tabs i v at t (Writing x) is
+
+              chain_is : chain_of s a ≡ record { slots = x.published; end = x.end; tail = [] }
+              chain_is = ap (chain_of s) (sym there) ∙ holds.chain
 
           here : a ≡ b → chain_of t' a ≡ longer (chain_of s a) slot h.piece.next
           here q = ap (λ (cs : List Chain). get_or cs a no_chain) same ∙ ap (λ (z : ℕ). get_or (set s.chains b (longer (chain_of s b) slot link)) z no_chain) q
