@@ -6,7 +6,7 @@ use native.Mathlib.Decide.{ℕ_discrete}
 use lib.ListN.{get_elem?}
 use Rattle.lock_word.specs.declared.stage.Stage.{Stage}
 use Rattle.lock_word.specs.declared.stage.Stage.TheVariants.{Empty, Taken, Appending, Closed, Halted, Freeing as FreeingStage, Gone}
-use Rattle.lock_word.specs.Words.{stage_number, readers_of, epoch_of, version_of, stage_of, word_at, raised, doomed}
+use Rattle.lock_word.specs.Words.{stage_number, readers_of, epoch_of, version_of, stage_of, IsWord, word_at, raised, doomed}
 use Rattle.lock_word.proofs.Readers.{epoch_of-more, epoch_of-less}
 use Rattle.lock_word.proofs.Raising.{version_of-raised}
 use Rattle.lock_word.proofs.Dooming.{version_of-doomed}
@@ -17,7 +17,6 @@ use Rattle.core_model.specs.declared.moves.Side.{Side}
 use Rattle.core_model.specs.declared.moves.Side.TheVariants.{Key0, Key1, Offer, Start}
 use Rattle.core_model.specs.declared.moves.Move.{Move}
 use Rattle.core_model.specs.declared.moves.Move.TheVariants.{Look, Enter, Leave, Count, Draw, Take, Evict, Raise, Doom, LoadSide, StoreSide, Own, Disown, Publish, Loosen, GetLink, TryTurn, EndTurn, CellOut, CellIn, Note, Learn, Write, Sync}
-use Rattle.core_model.specs.declared.tab.Cell.{Cell}
 use Rattle.core_model.specs.declared.tab.Writer.{Writer}
 use Rattle.core_model.specs.declared.tab.Freer.{Freer}
 use Rattle.core_model.specs.declared.tab.Tab.{Tab}
@@ -29,7 +28,7 @@ use Rattle.core_model.specs.Layout.{Setting, index, turns_end}
 use Rattle.core_model.specs.Chains.{no_chain, Tied, rest_of}
 use Rattle.core_model.specs.State.{State, word, chain_of}
 use Rattle.core_model.specs.Trails.{last_find}
-use Rattle.core_model.specs.Tabs.{tab_at, inner, anchor_of, OfWriter, OfFreer}
+use Rattle.core_model.specs.Tabs.{tab_at, anchor_of, OfWriter, OfFreer}
 use Rattle.core_model.specs.Allowed.{IsPass, Allowed, MayRaise, StartsRight, MayEnd, MayStore, MayPublish}
 use Rattle.core_model.specs.Where.{stage_held, evicted}
 use Rattle.core_model.specs.Steps.{after, halted, longer}
@@ -100,8 +99,8 @@ may_end f Halted h = absurd h
 may_end f FreeingStage h = absurd h
 may_end f Gone h = h.0
 
-raised_version : (n held to : ℕ) → stage_of (epoch_of n) ≡ held → to < 7 → version_of (epoch_of (raised n (to - held))) ≡ version_of (epoch_of n)
-raised_version n held to is few = version_of-raised n (to - held) (let z : stage_of (epoch_of n) < 8 = omega arith in omega arith)
+raised_version : (n held to : ℕ) → IsWord n → stage_of (epoch_of n) ≡ held → to < 7 → version_of (epoch_of (raised n (to - held))) ≡ version_of (epoch_of n)
+raised_version n held to good is few = version_of-raised n (to - held) (let z = good.stage in omega arith)
 
 module _ {X : Type 0} (k : Setting X) (s : State X) (i : ℕ) (v : View X) (so : AnchorsSound k s) (sl : SlotsSound k s) (at : get_elem? s.views i ≡ some v) (pass : IsPass v) (a : ℕ) (lt : a < k.anchors) where
   wide : k.anchors ≤ length s.words
@@ -129,24 +128,17 @@ module _ {X : Type 0} (k : Setting X) (s : State X) (i : ℕ) (v : View X) (so :
       still k s (after k s i v (Doom t)) a lt i (names_anchor k s (after k s i v (Doom t)) a lt b (doomed (word s b)) refl wide c.0 (version_of-doomed (word s b))) refl
 
   -- an anchor is taken, and its chain goes to a tab, or the try is lost
-  taken_or_not : (hit : Bool) (b n : ℕ) (places : List (Option (Cell X))) (views : List (View X)) → b < k.anchors
-      → EntryAfter k s (record { words = set s.words b (cond hit n (word s b)); places = places; views = views; chains = cond hit (set s.chains b no_chain) s.chains }) i a
-  taken_or_not false b n places views low = still k s t a lt i (names_anchor k s t a lt b (word s b) refl wide low refl) refl
-    where
-      abbrev t : State X
-      t = record { words = set s.words b (word s b); places = places; views = views; chains = s.chains }
-  taken_or_not true b n places views low = dite (ℕ_discrete a b)
-      (λ e. inr (inl (ap Chain.slots (subst (λ (z : ℕ). get_or (set s.chains b no_chain) z no_chain ≡ no_chain) (sym e) (get_or-set_same s.chains b no_chain no_chain (let m = so.shaped.chains in omega arith))))))
-      (λ ne. still_chain k s t a lt i (names_other k s t a lt b n refl low ne) (get_or-set_other s.chains b a no_chain no_chain ne))
-    where
-      abbrev t : State X
-      t = record { words = set s.words b n; places = places; views = views; chains = set s.chains b no_chain }
+  taken_or_not : (hit : Bool) (b n : ℕ) (t : State X) → t.words ≡ set s.words b (cond hit n (word s b)) → t.chains ≡ cond hit (set s.chains b no_chain) s.chains → b < k.anchors → EntryAfter k s t i a
+  taken_or_not false b n t e same low = still k s t a lt i (names_anchor k s t a lt b (word s b) e wide low refl) same
+  taken_or_not true b n t e same low = dite (ℕ_discrete a b)
+      (λ q. inr (inl (ap (λ (cs : List Chain). (get_or cs a no_chain).slots) same ∙ ap (λ (z : ℕ). (get_or (set s.chains b no_chain) z no_chain).slots) q ∙ ap Chain.slots (get_or-set_same s.chains b no_chain no_chain (let m = so.shaped.chains in omega arith)))))
+      (λ ne. still_chain k s t a lt i (names_other k s t a lt b n e low ne) (ap (λ (cs : List Chain). get_or cs a no_chain) same ∙ get_or-set_other s.chains b a no_chain no_chain ne))
 
   take_entry : (t b u : ℕ) → Allowed k s v (Take t b u) → EntryAfter k s (after k s i v (Take t b u)) i a
-  take_entry t b u may = taken_or_not (word s b == last_find b v.trail) b (word_at u 1) (after k s i v (Take t b u)).places (after k s i v (Take t b u)).views may.0
+  take_entry t b u may = taken_or_not (word s b == last_find b v.trail) b (word_at u 1) (after k s i v (Take t b u)) refl refl may.0
 
   evict_entry : (t b : ℕ) → Allowed k s v (Evict t b) → EntryAfter k s (after k s i v (Evict t b)) i a
-  evict_entry t b may = taken_or_not (word s b == last_find b v.trail) b (evicted (word s b)) (after k s i v (Evict t b)).places (after k s i v (Evict t b)).views may.0
+  evict_entry t b may = taken_or_not (word s b == last_find b v.trail) b (evicted (word s b)) (after k s i v (Evict t b)) refl refl may.0
 
   -- a tab that may raise the stage of its anchor knows it
   stage_known : (t : ℕ) (to : Stage) (x : Tab X) → get_elem? v.tabs t ≡ some x → (OfWriter (λ w. MayRaise w to × StartsRight k s w) x ⊎ OfFreer (λ f. MayEnd f to) x)
@@ -161,7 +153,7 @@ module _ {X : Type 0} (k : Setting X) (s : State X) (i : ℕ) (v : View X) (so :
 
   raise_names : (t : ℕ) (to : Stage) → Allowed k s v (Raise t to) → (t' : State X) → t'.words ≡ set s.words (anchor_of (tab_at v t)) (raised (word s (anchor_of (tab_at v t))) (stage_number to - stage_held (tab_at v t))) → NamesStay k s t' a
   raise_names t to may t' e = let b : ℕ = anchor_of (tab_at v t) in let q = stage_known t to (tab_at v t) (tab_was k s i v so sl at pass t (tab_at v t) may.0 refl) may.1 in
-      names_anchor k s t' a lt b (raised (word s b) (stage_number to - stage_held (tab_at v t))) e wide q.0 (raised_version (word s b) (stage_held (tab_at v t)) (stage_number to) q.1 (stage_few to))
+      names_anchor k s t' a lt b (raised (word s b) (stage_number to - stage_held (tab_at v t))) e wide q.0 (raised_version (word s b) (stage_held (tab_at v t)) (stage_number to) (so.shaped.anchors b q.0) q.1 (stage_few to))
 
   raise_halted : (b : ℕ) (t : State X) → t.chains ≡ set s.chains b (halted (chain_of s b)) → b < k.anchors → NamesStay k s t a → EntryAfter k s t i a
   raise_halted b t e low names = dite (ℕ_discrete a b)
