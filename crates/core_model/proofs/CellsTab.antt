@@ -1,7 +1,7 @@
 -- A step changes one tab of a pass, and with it the turn and the cell of one slot: what it owes to the parts on cells, and what
 -- these tell of a slot that a tab reads or writes.
-use Rattle.std.proofs.Common.{◌≡◌, ◌≢◌, ◌⊎◌, inl, inr, ⊎_elim, ℕ, zero, suc, ◌+◌, ◌*◌, ◌<◌, ◌≤◌, List, [], ◌∷◌, ◌++◌, length, get_or, set, sym, refl, ap, ◌∙◌, subst, arith, sum_by, Some, None, Option, true, false, cond, ◌==◌, eq-eqb, ne_eqb, get_or-set_other, Contains}
-use mathlib.Core.Option.{some, some-injective, some-ne-none}
+use Rattle.std.proofs.Common.{◌≡◌, ◌≢◌, ◌⊎◌, inl, inr, ⊎_elim, ℕ, zero, suc, ◌+◌, ◌*◌, ◌<◌, ◌≤◌, List, [], ◌∷◌, ◌++◌, length, get_or, set, sym, refl, ap, ◌∙◌, subst, arith, sum_by, Some, None, Option, false, cond, eq-eqb, ne_eqb, get_or-set_other, Contains}
+use mathlib.Core.Option.{some, some-injective}
 use mathlib.Core.Logic.{dite}
 use native.Mathlib.Decide.{ℕ_discrete}
 use lib.ListN.{get_elem?}
@@ -31,9 +31,9 @@ use Rattle.core_model.specs.TabsAfter.{first_of}
 use Rattle.core_model.specs.Allowed.{IsNext}
 use Rattle.core_model.specs.Anchors.{opening_counter}
 use Rattle.core_model.specs.Slots.{slot_words, held_in, published_in, standing_in, ReaderHolds}
-use Rattle.core_model.specs.Cells.{side_word, turn_word, turn_at, holds_at, OneHolder, TurnFits, IsHeldCell, IsCell, IsContent, ContentsStand, IsHome, WriterPiece, TabPiece, IsNamed, NamesStand, CellsSound}
+use Rattle.core_model.specs.Cells.{side_word, turn_at, holds_at, OneHolder, TurnFits, IsHeldCell, IsCell, IsContent, ContentsStand, IsHome, TabPiece, IsNamed, NamesStand, CellsSound}
 use Rattle.core_model.specs.Sound.{Sound}
-use Rattle.core_model.proofs.Lists.{by_eq, at_set, sum_at, le_sum_at, two_le_sum, set_else, set_here, at_length, sum_some, sum_mono}
+use Rattle.core_model.proofs.Lists.{by_eq, at_set, sum_at, le_sum_at, two_le_sum, set_else, set_here, at_length, sum_mono}
 use Rattle.core_model.proofs.Spelling.{one_same}
 use Rattle.core_model.proofs.SlotFrame.{published_few, once, in_no_other}
 use Rattle.core_model.proofs.SlotKinds.{OneTab, recounted, each_tab}
@@ -134,14 +134,14 @@ module _ {X : Type 0} (k : Setting X) (s : State X) where
   side_below Offer b lt = omega arith
   side_below Start b lt = omega arith
 
+  -- a slot that no chain has
+  abbrev pub IsUnpublished : ℕ → Type 0
+  IsUnpublished slot = (a : ℕ) → times slot (chain_of s a).slots ≡ 0
+
   module _ (i : ℕ) where
     -- the state after a step of this pass that left these words, cells at home and view, and the chains as they were
     abbrev pub turned : List ℕ → List (Option (Cell X)) → View X → State X
     turned ws ps v' = record { words = ws; places = ps; views = set s.views i v'; chains = s.chains }
-
-    -- a slot that no chain has
-    abbrev pub IsUnpublished : ℕ → Type 0
-    IsUnpublished slot = (a : ℕ) → times slot (chain_of s a).slots ≡ 0
 
     -- a slot that no writing tab reserves but this one
     abbrev pub IsApart : ℕ → ℕ → Type 0

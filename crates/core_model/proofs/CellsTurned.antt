@@ -1,5 +1,5 @@
 -- To try for a turn and to end one keeps what is sound of cells.
-use Rattle.std.proofs.Common.{◌≡◌, ◌≢◌, ◌⊎◌, inl, inr, ⊎_elim, ℕ, ◌+◌, ◌*◌, ◌<◌, ◌≤◌, List, ◌∷◌, length, get_or, set, sym, refl, ap, ◌∙◌, subst, arith, sum_by, Some, None, Option, Bool, true, false, cond, ◌==◌, eq-eqb, get_or-set_same, get_or-set_other}
+use Rattle.std.proofs.Common.{◌≡◌, ◌≢◌, inl, inr, ⊎_elim, ℕ, ◌*◌, ◌<◌, List, ◌∷◌, length, get_or, set, sym, refl, ap, ◌∙◌, subst, arith, sum_by, Some, None, Option, Bool, true, false, cond, ◌==◌, eq-eqb, get_or-set_same, get_or-set_other}
 use Rattle.std.proofs.lemmas.Bool.{eqb-true, false≢true}
 use Rattle.std.specs.Prelude.{unwrap_or}
 use mathlib.Core.Option.{some, some-injective}
@@ -9,7 +9,6 @@ use lib.ListN.{get_elem?}
 use Rattle.link_word.specs.declared.link.Link.TheVariants.{NotWritten}
 use Rattle.core_model.specs.declared.tab.Cell.{Cell}
 use Rattle.core_model.specs.declared.tab.Hold.{Hold}
-use Rattle.core_model.specs.declared.tab.Turn.{Turn as TurnOf}
 use Rattle.core_model.specs.declared.tab.Turn.TheVariants.{NoTurn, Has}
 use Rattle.core_model.specs.declared.tab.Reader.{Reader}
 use Rattle.core_model.specs.declared.tab.Writer.{Writer}

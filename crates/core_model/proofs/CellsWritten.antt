@@ -1,7 +1,6 @@
 -- To take the cell of a held turn out, to put it back, to write it and to sync it keeps what is sound of cells.
-use Rattle.std.proofs.Common.{◌≡◌, ◌≢◌, ◌⊎◌, inl, inr, ⊎_elim, ℕ, suc, ◌+◌, ◌<◌, ◌≤◌, List, [], ◌∷◌, length, get_or, set, sym, refl, ap, ◌∙◌, subst, arith, Some, None, Option, Bool, true, false, ◌||◌, Contains}
+use Rattle.std.proofs.Common.{◌≡◌, ◌≢◌, ◌⊎◌, inl, inr, ⊎_elim, ℕ, suc, ◌<◌, ◌≤◌, ◌∷◌, get_or, set, sym, refl, ap, ◌∙◌, subst, arith, Some, None, Option, Bool, true, false, ◌||◌, Contains}
 use Rattle.std.specs.Prelude.{unwrap_or}
-use Rattle.std.proofs.lemmas.Bool.{false≢true}
 use mathlib.Core.Option.{some}
 use mathlib.Core.Logic.{dite}
 use native.Mathlib.Decide.{ℕ_discrete}
@@ -13,7 +12,7 @@ use Rattle.core_model.specs.declared.tab.Cell.{Cell}
 use Rattle.core_model.specs.declared.tab.Piece.{Piece}
 use Rattle.core_model.specs.declared.tab.Hold.{Hold}
 use Rattle.core_model.specs.declared.tab.Turn.{Turn as TurnOf}
-use Rattle.core_model.specs.declared.tab.Turn.TheVariants.{NoTurn, Has}
+use Rattle.core_model.specs.declared.tab.Turn.TheVariants.{Has}
 use Rattle.core_model.specs.declared.tab.Reader.{Reader}
 use Rattle.core_model.specs.declared.tab.Writer.{Writer}
 use Rattle.core_model.specs.declared.tab.Tab.{Tab}
@@ -26,7 +25,7 @@ use Rattle.core_model.specs.Chains.{times, rest_of}
 use Rattle.core_model.specs.Tabs.{tab_at, turn_of}
 use Rattle.core_model.specs.Allowed.{IsPass, Allowed, IsNext}
 use Rattle.core_model.specs.TabsAfter.{moved, moves, is_kept, rewritten, rewrites}
-use Rattle.core_model.specs.Steps.{map_some, chosen_content, cell_held, written_cell, wrote, synced, finding, view_after, after}
+use Rattle.core_model.specs.Steps.{map_some, chosen_content, cell_held, wrote, synced, finding, view_after, after}
 use Rattle.core_model.specs.Cells.{holds_at, TurnFits, IsHeldCell, IsCell, WriterPiece, TabPiece, CellsSound}
 use Rattle.core_model.specs.Sound.{Sound}
 use Rattle.core_model.proofs.Spelling.{one_same}
@@ -81,7 +80,7 @@ module _ {X : Type 0} (k : Setting X) (s : State X) (i : ℕ) (v : View X) (so :
 
   -- the cell stays, or its slot is in no chain
   abbrev MayChange : Type 0
-  MayChange = (h'.cell ≡ h.cell) ⊎ (IsUnpublished k s i h.slot × Contains h'.cell.possible h'.cell.now)
+  MayChange = (h'.cell ≡ h.cell) ⊎ (IsUnpublished k s h.slot × Contains h'.cell.possible h'.cell.now)
 
   -- a tab that goes on holding the turn
   module _ (old new : Tab X) (one : OneTab v v' t old new) (has : turn_of old ≡ Has h) (has' : turn_of new ≡ Has h') where
@@ -90,13 +89,13 @@ module _ {X : Type 0} (k : Setting X) (s : State X) (i : ℕ) (v : View X) (so :
         (λ e. turn_here j (turn_of new) h' has' (same ∙ e) ∙ sym (turn_here j (turn_of old) h has e))
         (λ ne. turn_else j (turn_of new) h' has' (λ e. ne (sym same ∙ e)) ∙ sym (turn_else j (turn_of old) h has ne))
 
-    cells_then : MayChange → (j : ℕ) (c : Cell X) → IsCell s' j c → IsCell s j c ⊎ (IsUnpublished k s i j × Contains c.possible c.now)
+    cells_then : MayChange → (j : ℕ) (c : Cell X) → IsCell s' j c → IsCell s j c ⊎ (IsUnpublished k s j × Contains c.possible c.now)
     cells_then may j c is = ⊎_elim (λ (e : get_or s.places j None ≡ Some c). inl (inl e)) (⊎_elim of_it (λ (q : IsHeldCell s j c). inl (inr q))) (cell_after k s i v so at s.words s.places v' t old new one j c is)
       where
-        of_it : (g : Hold X) × (turn_of new ≡ Has g) × (g.slot ≡ j) × (g.cell ≡ c) → IsCell s j c ⊎ (IsUnpublished k s i j × Contains c.possible c.now)
+        of_it : (g : Hold X) × (turn_of new ≡ Has g) × (g.slot ≡ j) × (g.cell ≡ c) → IsCell s j c ⊎ (IsUnpublished k s j × Contains c.possible c.now)
         of_it q = let is_it = sym has' ∙ q.1 in let here : h.slot ≡ j = sym same ∙ same_slot h' q.0 is_it ∙ q.2 in let cell : h'.cell ≡ c = ap Hold.cell (same_hold h' q.0 is_it) ∙ q.3 in ⊎_elim
             (λ (e : h'.cell ≡ h.cell). inl (inr record { i = i; view = v; at = at; t = t; tab = old; there = one.was; hold = h; turn = has; slot_is = here; cell_is = sym e ∙ cell }))
-            (λ (e : IsUnpublished k s i h.slot × Contains h'.cell.possible h'.cell.now). inr (subst (IsUnpublished k s i) here e.0, subst (λ (z : Cell X). Contains z.possible z.now) cell e.1))
+            (λ (e : IsUnpublished k s h.slot × Contains h'.cell.possible h'.cell.now). inr (subst (IsUnpublished k s) here e.0, subst (λ (z : Cell X). Contains z.possible z.now) cell e.1))
             may
 
     goes_on_holding : MayChange → TurnFits k s new → TabPiece k s' new → CellsSound k s'
