@@ -54,3 +54,4 @@ pub mod CellsTurned
 pub mod CellsWritten
 pub mod CellsPublished
 pub mod Entries
+pub mod AllKept

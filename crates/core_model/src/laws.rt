@@ -20,7 +20,7 @@ ghost use Rattle.core_model.specs.Layout.{Setting, index};
 ghost use Rattle.lock_word.specs.Words.{epoch_of, stage_of, is_written};
 ghost use Rattle.core_model.specs.State.{State, word};
 ghost use Rattle.core_model.specs.Tabs.{turn_of};
-ghost use Rattle.core_model.specs.Allowed.{IsPass, Allowed, MayStep};
+ghost use Rattle.core_model.specs.Allowed.{MayStep};
 ghost use Rattle.core_model.specs.Steps.{number_found, after};
 ghost use Rattle.core_model.specs.Known.{Known, KnownSlot};
 ghost use Rattle.core_model.specs.Matching.{IsTab, MatchesWriter, HasWriter, HasFreer};
@@ -28,14 +28,21 @@ ghost use Rattle.core_model.specs.Anchors.{IsSetting};
 ghost use Rattle.core_model.specs.Opening.{IsOpened};
 ghost use Rattle.core_model.specs.Spots.{HasOneSpot, IsIn, IsReplaced, IsUnwritten};
 ghost use Rattle.core_model.specs.Cells.{turn_word, IsHome};
+ghost use Rattle.core_model.specs.Entries.{EntryAfter};
 ghost use Rattle.core_model.specs.Holding.{HasHolder, IsAway, IsBeingWritten, IsBeingRead, IsUnheld, KnownTurn, AllFree, IsSettled};
 ghost use Rattle.core_model.specs.Sound.{AnchorsSound, WordsSound, Sound};
 
-/// A step that is allowed in a sound state leaves a sound state: what is sound of the anchors, each slot at
-/// one place, and words that spell the chains and what is being given back.
+/// A step that is allowed in a sound state leaves a sound state.
 pub fn steps_keep_sound<X>()
     ensures { (k : Setting X) (s : State X) (i : ℕ) (v : View X) (m : Move)
-        → WordsSound k s → get_elem? s.views i ≡ some v → MayStep k s v m → WordsSound k (after k s i v m) }
+        → Sound k s → get_elem? s.views i ≡ some v → MayStep k s v m → Sound k (after k s i v m) }
+{}
+
+/// What a step makes of the entry at an anchor: it stays as it was, nothing is published there
+/// afterwards, or a tab of the pass published the piece that it chose.
+pub fn steps_change_entries<X>()
+    ensures { (k : Setting X) (s : State X) (i : ℕ) (v : View X) (m : Move) (a : ℕ)
+        → Sound k s → get_elem? s.views i ≡ some v → MayStep k s v m → a < k.anchors → EntryAfter k s (after k s i v m) i a }
 {}
 
 /// A store that was just opened is sound.
@@ -99,7 +106,7 @@ pub fn slots_are_not_written_while_read<X>()
 /// that writes finds the turn free.
 pub fn turn_finds_are_known<X>()
     ensures { (k : Setting X) (s : State X) (i : ℕ) (v : View X) (m : Move)
-        → Sound k s → get_elem? s.views i ≡ some v → IsPass v → Allowed k s v m → KnownTurn v m (number_found k s v m) }
+        → Sound k s → get_elem? s.views i ≡ some v → MayStep k s v m → KnownTurn v m (number_found k s v m) }
 {}
 
 /// The piece that a writing tab wrote is in the cell of its first reserved slot, which is home, with a free
