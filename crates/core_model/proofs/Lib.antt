@@ -43,3 +43,5 @@ pub mod SlotsOpened
 pub mod OneSpot
 pub mod Rests
 pub mod SlotFinds
+pub mod NotesFrame
+pub mod NotesAnchors
