@@ -45,3 +45,6 @@ pub mod Rests
 pub mod SlotFinds
 pub mod NotesFrame
 pub mod NotesAnchors
+pub mod NotesCells
+pub mod NotesRenewed
+pub mod NotesKept

@@ -1,8 +1,8 @@
 -- Where passes come to have seen more, and notes come and go, what is sound of the anchors stays so.
-use Rattle.std.proofs.Common.{◌≡◌, ◌≢◌, ◌⊎◌, inl, inr, ⊎_elim, ℕ, ◌*◌, ◌<◌, ◌≤◌, List, [], length, get_or, sym, refl, ap, ◌∙◌, subst, arith, sum_by, true, Contains}
+use Rattle.std.proofs.Common.{◌≡◌, ◌≢◌, inl, inr, ⊎_elim, ℕ, ◌*◌, ◌<◌, ◌≤◌, List, [], length, get_or, sym, refl, ap, ◌∙◌, subst, arith, sum_by, true, Contains}
 use mathlib.Core.Option.{some, some-ne-none}
 use lib.ListN.{get_elem?}
-use Rattle.lock_word.specs.Words.{readers_of, epoch_of, version_of, version_limit}
+use Rattle.lock_word.specs.Words.{epoch_of, version_of, version_limit}
 use Rattle.core_model.specs.declared.moves.Side.TheVariants.{Start}
 use Rattle.core_model.specs.declared.tab.Tab.{Tab}
 use Rattle.core_model.specs.declared.tab.Tab.TheVariants.{Free, Retreating, Reading, Writing, Last, Freeing}
@@ -16,13 +16,13 @@ use Rattle.core_model.specs.State.{State, word}
 use Rattle.core_model.specs.Tabs.{counts, writes, frees, count}
 use Rattle.core_model.specs.Trails.{last_find, last_count, drew_since, draws_in_vain, seen_at}
 use Rattle.core_model.specs.Steps.{note_of}
-use Rattle.core_model.specs.Anchors.{tabs_in, Shaped, TabStands, TabsStand, IsLastAt, LastUsers, opening_epoch}
+use Rattle.core_model.specs.Anchors.{tabs_in, Shaped, TabStands, TabsStand, IsLastAt, opening_epoch}
 use Rattle.core_model.specs.Versions.{counter, SeenStands, draws_by, vain_by, drawn_by, VersionsDrawn, IsFresh, VersionsHeld}
 use Rattle.core_model.specs.Deeds.{mirrored, OneMirror, IsDone, EnteredBy, EnteredByAnother, LeftEpoch, DoomedVersion, HaltedVersion, EvictedVersion, DeedsExplain}
 use Rattle.core_model.specs.Sound.{AnchorsSound}
 use Rattle.core_model.proofs.Lists.{contains_none}
 use Rattle.core_model.proofs.AnchorTabs.{version_up}
-use Rattle.core_model.proofs.NotesFrame.{Goes, Before, Later, Learned, Renews, renewed, each_now, tab_sums, was_seen, known_before, epoch_before, done_later}
+use Rattle.core_model.proofs.NotesFrame.{Goes, Later, Learned, Renews, renewed, each_now, tab_sums, was_seen, known_before, epoch_before, done_later}
 
 module _ {X : Type 0} (k : Setting X) (s : State X) (views : List (View X)) (r : Renews k s views) (so : AnchorsSound k s) where
   abbrev s' : State X
@@ -141,8 +141,9 @@ module _ {X : Type 0} (k : Setting X) (s : State X) (views : List (View X)) (r :
     met = all_now (λ j w. (a : ℕ) → Contains w.met a → IsDone s' (EnteredByAnother a w.pass))
         (λ j u w at g a h. subst (λ (z : ℕ). IsDone s' (EnteredByAnother a z)) (sym g.pass) (done_later k s views r (EnteredByAnother a u.pass) (so.deeds.met j u at a (subst (λ (z : List ℕ). Contains z a) g.met h))))
         (λ j n a h. absurd (contains_none a h));
-    numbers = λ i j u w uat wat. all_now (λ i u. u.tabs ≢ [] → w.tabs ≢ [] → u.pass ≡ w.pass → i ≡ j) 
-        (λ i u₀ u uat₀ g p q e. all_now (λ j w. w.tabs ≢ [] → u₀.pass ≡ w.pass → i ≡ j) (λ j w₀ w wat₀ h q e. so.deeds.numbers i j u₀ w₀ uat₀ wat₀ (λ z. p (g.tabs ∙ z)) (λ z. q (h.tabs ∙ z)) (e ∙ h.pass)) (λ j n q e. absurd (q refl)) j w wat q (sym g.pass ∙ e))
+    numbers = λ i j u w uat wat. all_now (λ i u. u.tabs ≢ [] → w.tabs ≢ [] → u.pass ≡ w.pass → i ≡ j)
+        (λ i u₀ u uat₀ g p q e. all_now (λ j w. w.tabs ≢ [] → u₀.pass ≡ w.pass → i ≡ j)
+        (λ j w₀ w wat₀ h q e. so.deeds.numbers i j u₀ w₀ uat₀ wat₀ (λ z. p (g.tabs ∙ z)) (λ z. q (h.tabs ∙ z)) (e ∙ h.pass)) (λ j n q e. absurd (q refl)) j w wat q (sym g.pass ∙ e))
         (λ i n p q e. absurd (p refl)) i u uat;
   }
 

@@ -1,7 +1,7 @@
 -- Words, cells and chains stay, a pass comes to have seen more, and notes come and go: what such a change of views is, and what it
 -- tells of the views before and after it.
-use Rattle.std.proofs.Common.{◌≡◌, ◌≢◌, ◌⊎◌, inl, inr, ⊎_elim, ℕ, ◌+◌, ◌<◌, ◌≤◌, zero, suc, List, [], ◌∷◌, ◌++◌, sym, refl, ap, subst, arith, max, sum_by, false, Contains}
-use Rattle.std.proofs.lemmas.List.Elements.{Contains-append_left, Contains-append_right, Contains-append_cases}
+use Rattle.std.proofs.Common.{◌≡◌, ◌⊎◌, inl, inr, ⊎_elim, ℕ, ◌<◌, ◌≤◌, List, [], ◌∷◌, ◌++◌, sym, refl, ap, subst, arith, sum_by, Contains}
+use Rattle.std.proofs.lemmas.List.Elements.{Contains-append_cases}
 use mathlib.Core.Option.{some}
 use lib.ListN.{get_elem?}
 use Rattle.lock_word.specs.Words.{epoch_of, version_of}
@@ -15,11 +15,11 @@ use Rattle.core_model.specs.declared.view.View.{View}
 use Rattle.core_model.specs.Layout.{Setting}
 use Rattle.core_model.specs.State.{State, word}
 use Rattle.core_model.specs.Tabs.{count}
-use Rattle.core_model.specs.Trails.{tells_word, is_draw, counted_in, last_find, last_count, drew_since, drawn, draws, draws_in_vain, stood, seen_at, sight_anchor, sight_version}
+use Rattle.core_model.specs.Trails.{last_find, last_count, drew_since, drawn, draws, draws_in_vain, seen_at, sight_anchor, sight_version}
 use Rattle.core_model.specs.Steps.{note_of}
 use Rattle.core_model.specs.Versions.{SeenStands, IsKnownAt}
 use Rattle.core_model.specs.Deeds.{IsEpochAt, IsDone}
-use Rattle.core_model.proofs.Lists.{cons_contains, contains_none}
+use Rattle.core_model.proofs.Lists.{contains_none}
 use Rattle.core_model.proofs.AnchorTabs.{version_up}
 
 -- a view before and after: what is new in its trail tells nothing, and it may have seen more
