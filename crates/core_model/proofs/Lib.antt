@@ -55,3 +55,8 @@ pub mod CellsWritten
 pub mod CellsPublished
 pub mod Entries
 pub mod AllKept
+pub mod NotesFrame
+pub mod NotesAnchors
+pub mod NotesCells
+pub mod NotesRenewed
+pub mod NotesKept
