@@ -156,21 +156,7 @@ Allowed {X} k s v (Learn note) = (u : View X) × (get_elem? s.views (k.passes + 
 Allowed k s v (Write t slot outcome) = (t < inner) × OfWriter (λ w. Unit {0}) (tab_at v t) × Holds slot true (tab_at v t)
 Allowed k s v (Sync t slot kept) = (t < inner) × OfWriter (λ w. Unit {0}) (tab_at v t) × Holds slot true (tab_at v t)
 
--- The kinds of which the laws speak: those on anchors, on the counter of versions, on the words beside anchors, and on slots, their
--- links and their chains. The others are not allowed yet.
-abbrev pub IsReady : Move → Type 0
-IsReady (TryTurn t slot) = ⊥
-IsReady (EndTurn t slot goes_on) = ⊥
-IsReady (CellOut t slot) = ⊥
-IsReady (CellIn t slot) = ⊥
-IsReady Note = ⊥
-IsReady (Learn note) = ⊥
-IsReady (Write t slot outcome) = ⊥
-IsReady (Sync t slot kept) = ⊥
-IsReady _ = Unit {0}
-
 -- the pass whose view is v may make this step
 pub record MayStep {X : Type 0} (k : Setting X) (s : State X) (v : View X) (m : Move) : Type 0 where
   pub pass : IsPass v
-  pub ready : IsReady m
   pub allowed : Allowed k s v m

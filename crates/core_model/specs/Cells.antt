@@ -1,5 +1,4 @@
--- What holds between any two steps of cells and their turns, of published contents, and of the names of entries. No law speaks of
--- these parts yet.
+-- What holds between any two steps of cells and their turns, of published contents, and of the names of entries.
 use Rattle.std.specs.Prelude.{◌≡◌, ◌≢◌, ◌⊎◌, ℕ, ◌<◌, ◌≤◌, ◌∷◌, length, slice_index, slice_index_or, Some, None, Contains, true, false, cond, ◌==◌, sum_by}
 use mathlib.Core.Option.{some}
 use lib.ListN.{get_elem?}

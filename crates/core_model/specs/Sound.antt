@@ -27,7 +27,7 @@ pub record WordsSound {X : Type 0} (k : Setting X) (s : State X) : Type 0 where
   pub anchors : AnchorsSound k s
   pub slots : SlotsSound k s
 
--- All of it. The laws speak of the first two parts so far.
+-- all of it: cells, turns and names too
 pub record Sound {X : Type 0} (k : Setting X) (s : State X) : Type 0 where
   pub anchors : AnchorsSound k s
   pub slots : SlotsSound k s

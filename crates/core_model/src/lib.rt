@@ -19,8 +19,10 @@ mod view;
 pub use adding::{Addition, Names};
 pub use chain::Chain;
 pub use laws::{
-    finds_are_known, openings_are_sound, openings_place_slots, rests_have_one_tab,
-    slots_have_one_spot, steps_keep_sound, tabs_match_words,
+    finds_are_known, idle_stores_are_settled, opened_stores_are_sound, openings_are_sound,
+    rests_have_one_tab, slot_finds_are_known, slots_are_not_written_while_read,
+    slots_have_one_spot, steps_change_entries, steps_keep_sound, tabs_match_words,
+    turn_finds_are_known, turns_have_one_holder, written_pieces_are_home,
 };
 pub use list::{Log, Row};
 pub use moves::{Move, Outcome, Side};

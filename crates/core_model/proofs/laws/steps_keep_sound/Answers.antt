@@ -1,5 +1,5 @@
 use Rattle.core_model.proofs.laws.steps_keep_sound.Goals as goal
-use Rattle.core_model.proofs.SlotsKept.{keeps_both}
+use Rattle.core_model.proofs.AllKept.{keeps_sound}
 
 pub returns : goal.returns
-returns c start k s i v m so at may = keeps_both k s i v m so.anchors so.slots at may
+returns c start k s i v m so at may = keeps_sound k s i v m so at may
