@@ -66,7 +66,7 @@ module _ {X : Type 0} (k : Setting X) (s : State X) (views : List (View X)) (r :
   piece_later Free h = tt
   piece_later (Retreating b) h = tt
   piece_later (Reading x) h = tt
-  piece_later (Writing x) h = record { drawn = h.drawn; offer = h.offer; home = λ p e w c. home_later x p (h.home p e w c); held = h.held }
+  piece_later (Writing x) h = record { drawn = h.drawn; fits = h.fits; offer = h.offer; home = λ p e w c. home_later x p (h.home p e w c); held = h.held }
   piece_later (Last b) h = tt
   piece_later (Freeing f) h = tt
 
