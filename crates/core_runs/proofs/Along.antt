@@ -46,3 +46,15 @@ module _ (file : FileImage) (o : Offers) where
       let follows = run.follows i made.0 was.0 core made.1 was.1 (ap (get_elem? cores) (sym more) ∙ at) in
       step_stands was.0 core made.0 follows.1.0 (stays_sound steps cores from run first so i was.0 was.1) (faithful i was.0 was.1) follows.0 follows.1.1
       (all_stand steps cores from run first so st faithful i was.0 was.1)
+
+-- a store has as many slots along a list
+pub slots_stay : (steps : List Step) (cores : List Machine) (from : Machine) → IsRun steps cores → get_elem? cores 0 ≡ some from → (i : ℕ) (core : Machine) → get_elem? cores i ≡ some core → core.slots ≡ from.slots
+slots_stay steps cores from run first zero core at = ap Machine.slots (some-injective core from (sym at ∙ first))
+slots_stay steps cores from run first (suc i) core at =
+    let lt = at_length cores (suc i) core at in
+    let count = run.count in
+    let was = there cores i (omega arith) in
+    let made = there steps i (omega arith) in
+    let more : suc i ≡ i + 1 = omega arith in
+    let follows = run.follows i made.0 was.0 core made.1 was.1 (ap (get_elem? cores) (sym more) ∙ at) in
+    follows.0.slots ∙ slots_stay steps cores from run first i was.0 was.1

@@ -4,3 +4,5 @@ pub mod Depends
 pub mod Standing
 pub mod Opened
 pub mod Spelled
+pub mod Along
+pub mod Answering

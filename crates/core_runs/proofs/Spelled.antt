@@ -103,7 +103,7 @@ module _ (file : FileImage) (o : Offers) (m : Machine) (so : Sound (setting_of m
           same : (n : ℕ) → 0 < cond (n == slot) 1 0 → n ≡ slot
           same n = by_eq (λ z. 0 < cond z 1 0 → n ≡ slot) n slot (λ q _. q) (λ _ h. absurd (omega arith))
 
-  module _ (many : length file.slots ≡ m.slots) (a : ℕ) (lt : a < m.anchors) where
+  module _ (a : ℕ) (lt : a < m.anchors) where
     abbrev c : Chain
     c = chain_of s a
 
@@ -128,7 +128,7 @@ module _ (file : FileImage) (o : Offers) (m : Machine) (so : Sound (setting_of m
     in_table : (j : ℕ) → Contains c.slots j → j < m.slots
     in_table j h = inside j (contains_times j c.slots h)
 
-    module _ (images : List (List ℕ)) (bytes : AreBytes file o m images) where
+    module _ (many : length file.slots ≡ m.slots) (images : List (List ℕ)) (bytes : AreBytes file o m images) where
       -- the slot at a place of the chain, by its bytes now
       bytes_at : (place slot : ℕ) → get_elem? c.slots place ≡ some slot → IsPublishedAs file o m a place slot (image_at images slot)
       bytes_at place slot at = let in_range = inside slot (at_times c.slots place slot at) in let x = a_cell slot in_range in

@@ -4,7 +4,7 @@
 mod laws;
 mod run;
 
-pub use laws::runs_stay_sound;
+pub use laws::{published_slots_hold_responses, runs_stay_sound, slots_are_apart_along_runs};
 pub use run::{RunEnd, run_steps};
 
 #[cfg(test)]
