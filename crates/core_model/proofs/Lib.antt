@@ -43,3 +43,5 @@ pub mod SlotsOpened
 pub mod OneSpot
 pub mod Rests
 pub mod SlotFinds
+pub mod TurnsKept
+pub mod CellMovesKept
