@@ -25,7 +25,7 @@ use Rattle.core_state.specs.declared.kept.Column.{Column}
 use Rattle.core_state.specs.declared.kept.Column.TheVariants.{Anchor, Beside}
 use Rattle.core_state.specs.declared.table.Opening.{Opening}
 use Rattle.core_state.specs.Inside.{setting}
-use Rattle.core_state.specs.Kept.{entry_word, column_words, link_words, kept_chain, AreWithin, opened_words, opened_state}
+use Rattle.core_state.specs.Kept.{entry_word, column_words, link_words, kept_chain, AreWithin, IsOpening, opened_words, opened_state}
 use Rattle.core_state.specs.Machine.{opened_from}
 use Rattle.core_state.specs.New.{cell_of}
 use Rattle.core_state.proofs.Placing.{length-placed, placed_else, placed_here, length-linked, linked_else, linked_spells, Rows, rows, length-rows, at_word, at_key0, at_key1, at_offer, at_start, at_owner, at_link, at_turn, at_counter}
@@ -65,7 +65,7 @@ closed_word : (version most : ℕ) → version ≤ most → IsOpeningWord (word_
 closed_word version most to = record { unread = omega arith; mode = omega arith; undoomed = omega arith; stage = inr (omega arith); version = omega arith }
 
 anchor_below : (key : List ℕ) (anchors : ℕ) → 0 < anchors → anchor_of key anchors < anchors
-anchor_below key anchors some = omega arith
+anchor_below key anchors some_anchor = omega arith
 
 module _ (o : Opening) (r : Rebuilt) (words : o.words.items ≡ opened_words r o.anchors o.slots) (slot : ℕ) (images : List (List ℕ)) (b : IsRebuilt slot images o.anchors r) (many : length images ≡ o.slots) (some_anchor : 0 < o.anchors) where
   abbrev place : Found → ℕ
@@ -123,7 +123,7 @@ module _ (o : Opening) (r : Rebuilt) (words : o.words.items ≡ opened_words r o
 
   -- where an entry stands, and where none does
   here : (c : Column) (f : Found) → Contains r.winners f → get_or (column c) (place f) 0 ≡ entry_word c f
-  here c f h = placed_here place (entry_word c) (replicate o.anchors 0) r.winners 0 (anchors_apart slot o.anchors images r b) f h (let z = length-replicate o.anchors 0 in let y = below f in omega arith)
+  here c f h = placed_here place (entry_word c) (replicate o.anchors 0) r.winners 0 (anchors_apart slot o.anchors images r b) f h (let z = length-replicate {A = ℕ} o.anchors 0 in let y = below f in omega arith)
 
   empty_at : (c : Column) (a : ℕ) → ((f : Found) → Contains r.winners f → place f ≡ a → ⊥) → get_or (column c) a 0 ≡ 0
   empty_at c a none = placed_else place (entry_word c) (replicate o.anchors 0) r.winners a 0 none ∙ same_at o.anchors a 0
@@ -202,3 +202,23 @@ module _ (o : Opening) (r : Rebuilt) (words : o.words.items ≡ opened_words r o
     anchors = opens (setting o) r (opened_state o r) (is_setting few) (is_opened few);
     slots = opens_slots (setting o) r (opened_state o r) (is_setting few) (is_opened few) slot images b many;
   }
+
+-- the same of an opening with these numbers
+module _ (o : Opening) (r : Rebuilt) (anchors slots passes : ℕ) (is : IsOpening o r anchors slots passes) (slot : ℕ) (images : List (List ℕ)) (b : IsRebuilt slot images anchors r) (many : length images ≡ slots) (some_anchor : 0 < anchors) (few : passes ≤ 32) where
+  rebuilt_here : IsRebuilt slot images o.anchors r
+  rebuilt_here = subst (λ (n : ℕ). IsRebuilt slot images n r) (sym is.anchors_are) b
+
+  some_here : 0 < o.anchors
+  some_here = let same = is.anchors_are in omega arith
+
+  few_here : o.passes ≤ 32
+  few_here = let same = is.passes_are in omega arith
+
+  pub words_there : length o.words.items ≡ word_count (setting o)
+  words_there = all_words o r is.words slot images rebuilt_here (many ∙ sym is.slots_are) some_here
+
+  pub opened_so : IsOpened (setting o) r (opened_state o r)
+  opened_so = is_opened o r is.words slot images rebuilt_here (many ∙ sym is.slots_are) some_here few_here
+
+  pub sound_so : WordsSound (setting o) (opened_state o r)
+  sound_so = is_sound o r is.words slot images rebuilt_here (many ∙ sym is.slots_are) some_here few_here

@@ -25,12 +25,17 @@ apart_weaker R Q (y ∷ ys) weaker h = (
   apart_weaker R Q ys (λ u v has there. weaker u v (later_in y u ys has) (later_in y v ys there)) h.1,
 )
 
+rest_up : (x : ℕ) (xs : List ℕ) → IsStrictlyIncreasing (x ∷ xs) → IsStrictlyIncreasing xs
+rest_up x xs up k lt =
+    let next : suc k + 1 ≡ suc (k + 1) = omega arith in
+    subst (λ (i : ℕ). slice_index xs k < slice_index (x ∷ xs) i) next (up (suc k) (omega arith))
+
 -- numbers in order are below all that come later
 below_later : (x : ℕ) (xs : List ℕ) → IsStrictlyIncreasing (x ∷ xs) → (y : ℕ) → Contains xs y → x < y
 below_later x [] up y h = absurd (contains_none y h)
 below_later x (z ∷ zs) up y h = let first : x < z = up 0 (omega arith) in ⊎_elim
     (λ (e : z ≡ y). omega arith)
-    (λ (q : Contains zs y). let later = below_later z zs (λ k lt. up (suc k) (omega arith)) y q in omega arith)
+    (λ (q : Contains zs y). let later = below_later z zs (rest_up x (z ∷ zs) up) y q in omega arith)
     (cons_contains z y zs h)
 
 contains_at : {Y : Type 0} (place : Y → ℕ) (ys : List Y) (y : Y) → Contains ys y → Contains (map place ys) (place y)
@@ -44,7 +49,7 @@ in_order : {Y : Type 0} (place : Y → ℕ) (ys : List Y) → IsStrictlyIncreasi
 in_order place [] up = tt
 in_order place (y ∷ ys) up = (
   λ z h. below_later (place y) (map place ys) up (place z) (contains_at place ys z h),
-  in_order place ys (λ k lt. up (suc k) (omega arith)),
+  in_order place ys (rest_up (place y) (map place ys) up),
 )
 
 map_map : {X Y Z : Type 0} (f : X → Y) (g : Y → Z) (xs : List X) → map g (map f xs) ≡ map (λ x. g (f x)) xs
