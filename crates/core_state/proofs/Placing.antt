@@ -67,8 +67,7 @@ chained_else links (s ∷ rest) j none =
 pub chained_spells : (links chain : List ℕ) → IsDistinct nat_eq chain → All (λ s. s < length links) chain → Spells (λ j. get_or (chained links chain) j 0) chain Last
 chained_spells links [] once within = tt
 chained_spells links (s ∷ rest) once within =
-    let word = link_number (link_to rest Last) in
-    (
+    let word = link_number (link_to rest Last) in (
       chained_else (set links s word) rest s (not_again s rest once) ∙ get_or-set_same links s word 0 (All-head (λ t. t < length links) s rest within),
       chained_spells (set links s word) rest (rest_once s rest once) (subst (λ (n : ℕ). All (λ t. t < n) rest) (sym (length-set links s word)) (All-tail (λ t. t < length links) s rest within)),
     )

@@ -78,11 +78,7 @@ fn column_words(
 }
 
 /// The words of the anchors, and then four beside each.
-fn anchor_words(
-    alloc: Global,
-    winners: &[Found],
-    anchors: u32,
-) -> Result<Vec<u64>, AllocError>
+fn anchor_words(alloc: Global, winners: &[Found], anchors: u32) -> Result<Vec<u64>, AllocError>
     requires { 0 < anchors }
     ensures { IfOk result (λ words. words.items ≡ anchor_words winners.now anchors) }
 {

@@ -19,10 +19,7 @@ use std::alloc::{AllocError, Global};
 use store_key::anchor_of;
 
 /// The cells of a file that was just opened.
-fn opened_places(
-    alloc: Global,
-    slots: u32,
-) -> Result<Vec<Option<Cell<Content>>>, AllocError>
+fn opened_places(alloc: Global, slots: u32) -> Result<Vec<Option<Cell<Content>>>, AllocError>
     ensures { IfOk result (λ places. places.items ≡ opened_places slots) }
 {
     let mut places = Vec::with_capacity(alloc, slots as usize)?;
@@ -57,11 +54,7 @@ fn kept_chain(alloc: Global, found: &Found) -> Result<Chain, AllocError>
 }
 
 /// The chains of all anchors.
-fn opened_chains(
-    alloc: Global,
-    winners: &[Found],
-    anchors: u32,
-) -> Result<Vec<Chain>, AllocError>
+fn opened_chains(alloc: Global, winners: &[Found], anchors: u32) -> Result<Vec<Chain>, AllocError>
     requires { 0 < anchors }
     ensures { IfOk result (λ chains. chains.items ≡ opened_chains winners.now anchors) }
 {

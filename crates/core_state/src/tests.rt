@@ -2,6 +2,7 @@ ghost use Rattle.std.specs.Prelude.{◌≡◌, ℕ, List, All, length, IsTrue};
 
 use super::*;
 
+mod images;
 mod walk;
 
 use rebuild_model::{FileImage, Images};
