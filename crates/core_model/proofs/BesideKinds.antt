@@ -10,7 +10,7 @@ use Rattle.core_model.specs.declared.moves.Side.TheVariants.{Key0, Key1, Offer, 
 use Rattle.core_model.specs.declared.tab.Tab.{Tab}
 use Rattle.core_model.specs.declared.tab.Tab.TheVariants.{Last}
 use Rattle.core_model.specs.declared.view.Kind.{Kind}
-use Rattle.core_model.specs.declared.view.Kind.TheVariants.{Counted as Looks, Drew, Loaded, Stored, Owned, Disowned, Linked, Followed}
+use Rattle.core_model.specs.declared.view.Kind.TheVariants.{Counted as Looks, Drew, Loaded, Stored, Owned, Disowned, Linked, Followed, Tried, Ended, TookOut, PutBack, Wrote, Synced}
 use Rattle.core_model.specs.declared.view.Item.{Item}
 use Rattle.core_model.specs.declared.view.Sight.{Sight}
 use Rattle.core_model.specs.declared.view.Sight.TheVariants.{Named}
@@ -54,6 +54,24 @@ quiet_linked = record { quiet = refl; no_draw = refl; no_count = λ f b. refl; n
 
 pub quiet_followed : IsQuiet Followed
 quiet_followed = record { quiet = refl; no_draw = refl; no_count = λ f b. refl; no_look = λ e. cc; not_drew = λ e. cc }
+
+pub quiet_tried : IsQuiet Tried
+quiet_tried = record { quiet = refl; no_draw = refl; no_count = λ f b. refl; no_look = λ e. cc; not_drew = λ e. cc }
+
+pub quiet_ended : IsQuiet Ended
+quiet_ended = record { quiet = refl; no_draw = refl; no_count = λ f b. refl; no_look = λ e. cc; not_drew = λ e. cc }
+
+pub quiet_took_out : IsQuiet TookOut
+quiet_took_out = record { quiet = refl; no_draw = refl; no_count = λ f b. refl; no_look = λ e. cc; not_drew = λ e. cc }
+
+pub quiet_put_back : IsQuiet PutBack
+quiet_put_back = record { quiet = refl; no_draw = refl; no_count = λ f b. refl; no_look = λ e. cc; not_drew = λ e. cc }
+
+pub quiet_wrote : IsQuiet Wrote
+quiet_wrote = record { quiet = refl; no_draw = refl; no_count = λ f b. refl; no_look = λ e. cc; not_drew = λ e. cc }
+
+pub quiet_synced : IsQuiet Synced
+quiet_synced = record { quiet = refl; no_draw = refl; no_count = λ f b. refl; no_look = λ e. cc; not_drew = λ e. cc }
 
 -- a tab that counts, and stands, as another one
 pub record Likens {X : Type 0} (k : Setting X) (s : State X) (v : View X) (t : ℕ) (old new : Tab X) : Type 0 where

@@ -60,3 +60,5 @@ pub mod NotesAnchors
 pub mod NotesCells
 pub mod NotesRenewed
 pub mod NotesKept
+pub mod TurnsKept
+pub mod CellMovesKept

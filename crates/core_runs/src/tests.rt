@@ -1,7 +1,7 @@
 ghost use Rattle.std.specs.Prelude.{◌≡◌, ℕ, List, All, length, IsTrue};
 
 use super::*;
-use core_state::{Act, Core, Step, StepFault, is_unused};
+use core_state::{Act, Core, Step, StepFault};
 use rebuild_model::{FileImage, Images};
 use rock_io::Octets;
 use std::alloc::{AllocError, Global};
@@ -19,7 +19,7 @@ fn blank_core<R: Abort>(rt: &R, alloc: Global) -> Result<Core, Fail> {
         slots: Images::from_vec(images),
     };
     assert_eq!(rt; image.slots.as_slice().len(), 2);
-    assert!(rt; has_width(&image) && is_unused(&image));
+    assert!(rt; has_width(&image));
     Ok(Core::new(alloc, &image, 1, 1)?)
 }
 

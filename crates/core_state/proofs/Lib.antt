@@ -14,5 +14,7 @@ pub mod Links
 pub mod Takers
 pub mod Applying
 pub mod Opening
-pub mod Blank
+pub mod Placing
+pub mod Winners
+pub mod OpenedStore
 pub mod Publishing

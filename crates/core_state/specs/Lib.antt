@@ -8,7 +8,7 @@ pub mod Raising
 pub mod Taking
 pub mod Applied
 pub mod New
-pub mod Blank
+pub mod Kept
 pub mod Tabs
 pub mod Loosening
 pub mod Publishing

@@ -21,4 +21,6 @@ pub record IsNew (image : FileImage) (slots anchors passes : ℕ) (m : Machine) 
   pub anchors_are : m.anchors ≡ anchors
   pub slots_are : m.slots ≡ slots
   pub passes_are : m.passes ≡ passes
-  pub opened : (r : Rebuilt) → IsRebuilt image.slot image.slots anchors r → IsOpened (setting_of m) r (state_of m)
+  pub rebuilt : Rebuilt
+  pub kept : IsRebuilt image.slot image.slots anchors rebuilt
+  pub opened : IsOpened (setting_of m) rebuilt (state_of m)

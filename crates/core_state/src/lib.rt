@@ -9,6 +9,7 @@ mod act;
 mod change;
 mod content;
 mod decode;
+mod kept;
 mod machine;
 mod opened;
 mod plan;
@@ -18,12 +19,10 @@ mod step;
 mod tab_change;
 mod table;
 mod tabs;
-mod unused;
 
 pub use act::{Act, Picks, Step, StepFault};
 pub use content::Content;
 pub use machine::Core;
-pub use unused::is_unused;
 
 #[cfg(test)]
 mod tests;

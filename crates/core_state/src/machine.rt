@@ -1,7 +1,6 @@
 // The pure core.
 ghost use Rattle.std.specs.Prelude.{◌≡◌, ◌<◌, ◌≤◌, ℕ, List, All, length, IfOk, OnErr, IsErrOf};
 ghost use Rattle.db_layout.specs.Layout.{IsSlotSize};
-ghost use Rattle.rebuild_model.specs.Image.{IsSaneAt};
 ghost use Rattle.core_state.specs.New.{IsNew};
 ghost use Rattle.core_model.specs.Sound.{WordsSound};
 ghost use Rattle.core_state.specs.declared.act.StepFault.TheVariants as fault;
@@ -11,12 +10,12 @@ ghost use Rattle.core_state.specs.Machine.{setting_of, state_of};
 use crate::act::{Step, StepFault};
 use crate::content::Content;
 use crate::decode::decode;
-use crate::opened::{blank_opening, blank_table};
+use crate::opened::{opened_table, opening_of};
 use crate::refusal::Refusal;
 use crate::step::make;
 use crate::table::{Opening, Table};
 use core_model::View;
-use rebuild_model::FileImage;
+use rebuild_model::{FileImage, rebuilt_of};
 use rock_io::Memory;
 use std::alloc::Global;
 use std::marker::Model;
@@ -44,7 +43,7 @@ impl Model for Core {
 
 impl Core {
     /// The core of a store that was just opened over a file with these slots: what a rebuild of the file
-    /// keeps stands, and all else is free. For now no slot may be sane, so that there is nothing to keep.
+    /// keeps stands, and all else is free.
     ///
     /// # Errors
     ///
@@ -58,13 +57,13 @@ impl Core {
         requires few_anchors { anchors ≤ length image.now.slots }
         requires some_pass { 0 < passes }
         requires few_passes { passes ≤ 32 }
-        requires unused { (slot : ℕ) → IsSaneAt image.now.slot image.now.slots slot → ⊥ }
         ensures new { IfOk result (λ core. IsNew image.now (length image.now.slots) anchors passes core) }
         ensures sound { IfOk result (λ core. WordsSound (setting_of core) (state_of core)) }
     {
         let slots = image.slots.as_slice().len() as u32;
-        let opening = blank_opening(alloc, anchors, slots, passes)?;
-        let table = blank_table(alloc, &opening)?;
+        let rebuilt = rebuilt_of(alloc, image, anchors)?;
+        let opening = opening_of(alloc, &rebuilt, anchors, slots, passes)?;
+        let table = opened_table(alloc, &opening, &rebuilt)?;
         Ok(Core {
             opening,
             table,

@@ -3,22 +3,23 @@ ghost use Rattle.std.specs.Prelude.{◌≡◌, ◌<◌, length, replicate, IfOk}
 ghost use Rattle.core_model.specs.Chains.{no_chain};
 ghost use Rattle.core_model.specs.Layout.{word_count};
 ghost use Rattle.core_model.specs.Opening.{sights_below, new_view, new_views};
-ghost use Rattle.core_state.specs.Blank.{IsBlank, blank_state};
 ghost use Rattle.core_state.specs.Inside.{setting, state};
+ghost use Rattle.core_state.specs.Kept.{kept_chain, opened_chains, opened_state, AreWithin, IsOpening};
 ghost use Rattle.core_state.specs.New.{opened_places};
 
 use crate::content::Content;
+use crate::kept::opened_words;
 use crate::table::{Opening, Table};
 use crate::tabs::no_chain;
 use core_model::{Cell, Chain, Log, Row, Sight, Tab, View};
+use link_word::Link;
 use lock_word::epoch_bits;
+use rebuild_model::{Found, Rebuilt};
 use std::alloc::{AllocError, Global};
+use store_key::anchor_of;
 
 /// The cells of a file that was just opened.
-pub(crate) fn opened_places(
-    alloc: Global,
-    slots: u32,
-) -> Result<Vec<Option<Cell<Content>>>, AllocError>
+fn opened_places(alloc: Global, slots: u32) -> Result<Vec<Option<Cell<Content>>>, AllocError>
     ensures { IfOk result (λ places. places.items ≡ opened_places slots) }
 {
     let mut places = Vec::with_capacity(alloc, slots as usize)?;
@@ -31,12 +32,37 @@ pub(crate) fn opened_places(
 }
 
 /// No entry at any anchor.
-pub(crate) fn no_chains(alloc: Global, anchors: u32) -> Result<Vec<Chain>, AllocError>
+fn no_chains(alloc: Global, anchors: u32) -> Result<Vec<Chain>, AllocError>
     ensures { IfOk result (λ chains. chains.items ≡ replicate anchors no_chain) }
 {
     let mut chains = Vec::with_capacity(alloc, anchors as usize)?;
     for _anchor in 0..anchors {
         chains.push(no_chain(alloc))?;
+    }
+    Ok(chains)
+}
+
+/// The chain of an entry that was kept.
+fn kept_chain(alloc: Global, found: &Found) -> Result<Chain, AllocError>
+    ensures { IfOk result (λ chain. chain ≡ kept_chain found.now) }
+{
+    Ok(Chain {
+        slots: Row::from_vec(found.chain.as_slice().to_vec(alloc)?),
+        end: Link::Last,
+        tail: Row::from_vec(Vec::new(alloc)),
+    })
+}
+
+/// The chains of all anchors.
+fn opened_chains(alloc: Global, winners: &[Found], anchors: u32) -> Result<Vec<Chain>, AllocError>
+    requires { 0 < anchors }
+    ensures { IfOk result (λ chains. chains.items ≡ opened_chains winners.now anchors) }
+{
+    let mut chains = no_chains(alloc, anchors)?;
+    let mut left = winners;
+    'winners: while let Some((found, rest)) = left.split_first() {
+        chains[anchor_of(&found.key, anchors) as usize] = kept_chain(alloc, found)?;
+        left = rest;
     }
     Ok(chains)
 }
@@ -90,7 +116,7 @@ fn new_view(alloc: Global, opening: &Opening, pass: u32) -> Result<View<Content>
 }
 
 /// The views of new passes.
-pub(crate) fn new_views(alloc: Global, opening: &Opening) -> Result<Vec<View<Content>>, AllocError>
+fn new_views(alloc: Global, opening: &Opening) -> Result<Vec<View<Content>>, AllocError>
     requires { length opening.now.words.items ≡ word_count (setting opening.now) }
     ensures { IfOk result (λ views. views.items ≡ new_views (setting opening.now) 0 opening.now.passes) }
 {
@@ -101,33 +127,40 @@ pub(crate) fn new_views(alloc: Global, opening: &Opening) -> Result<Vec<View<Con
     Ok(views)
 }
 
-/// The setting of a store that is opened over a file with no entries: all words are 0.
-pub(crate) fn blank_opening(
+/// The setting of a store that is opened with what a rebuild kept.
+pub(crate) fn opening_of(
     alloc: Global,
+    rebuilt: &Rebuilt,
     anchors: u32,
     slots: u32,
     passes: u32,
 ) -> Result<Opening, AllocError>
-    ensures { IfOk result (λ opening. IsBlank opening anchors slots passes) }
+    requires some { 0 < anchors }
+    requires within { AreWithin rebuilt.now.winners slots }
+    ensures { IfOk result (λ opening. IsOpening opening rebuilt.now anchors slots passes) }
 {
-    let count = 5 * anchors as usize + 3 * slots as usize + 1;
     Ok(Opening {
         anchors,
         slots,
         passes,
-        words: vec![in alloc; 0; count]?,
+        words: opened_words(alloc, rebuilt, anchors, slots)?,
     })
 }
 
-/// The state of a store that was opened with this setting, in which no entry stands.
-pub(crate) fn blank_table(alloc: Global, opening: &Opening) -> Result<Table, AllocError>
-    requires { length opening.now.words.items ≡ word_count (setting opening.now) }
-    ensures { IfOk result (λ table. state table ≡ blank_state opening.now) }
+/// The state of a store that was opened so.
+pub(crate) fn opened_table(
+    alloc: Global,
+    opening: &Opening,
+    rebuilt: &Rebuilt,
+) -> Result<Table, AllocError>
+    requires some { 0 < opening.now.anchors }
+    requires words { length opening.now.words.items ≡ word_count (setting opening.now) }
+    ensures { IfOk result (λ table. state table ≡ opened_state opening.now rebuilt.now) }
 {
     Ok(Table {
         words: opening.words.to_vec(alloc)?,
         places: opened_places(alloc, opening.slots)?,
         views: new_views(alloc, opening)?,
-        chains: no_chains(alloc, opening.anchors)?,
+        chains: opened_chains(alloc, rebuilt.winners.as_slice(), opening.anchors)?,
     })
 }

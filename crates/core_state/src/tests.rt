@@ -2,6 +2,7 @@ ghost use Rattle.std.specs.Prelude.{◌≡◌, ℕ, List, All, length, IsTrue};
 
 use super::*;
 
+mod images;
 mod walk;
 
 use rebuild_model::{FileImage, Images};
@@ -30,7 +31,7 @@ fn blank_core<R: Abort>(
     assert!(rt; 1 <= count && count <= 1_048_576);
     assert!(rt; 1 <= anchors && anchors as usize <= count);
     assert!(rt; 1 <= passes && passes <= 32);
-    assert!(rt; has_width(&image) && is_unused(&image));
+    assert!(rt; has_width(&image));
     Ok(Core::new(alloc, &image, anchors, passes)?)
 }
 
