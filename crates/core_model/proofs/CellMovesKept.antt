@@ -1,20 +1,18 @@
 -- To take a cell out and to put it back, to write one and to sync it keeps what is sound of the words: no word changes, and the tab
 -- that has the cell holds what it held.
-use Rattle.std.proofs.Common.{◌≡◌, ◌≢◌, ◌⊎◌, ⊎_elim, ℕ, ◌+◌, ◌*◌, ◌<◌, List, [], ◌∷◌, length, get_or, set, sym, refl, ap, ◌∙◌, subst, arith, sum_by, Option, Bool, true, false, length-set}
+use Rattle.std.proofs.Common.{◌≡◌, ◌≢◌, ⊎_elim, ℕ, ◌+◌, ◌*◌, List, [], ◌∷◌, length, get_or, set, sym, refl, ap, ◌∙◌, subst, arith, Option, Bool, true, false, length-set}
 use mathlib.Core.Option.{some}
 use lib.ListN.{get_elem?}
 use Rattle.core_model.specs.declared.moves.Outcome.{Outcome}
 use Rattle.core_model.specs.declared.moves.Move.TheVariants.{CellOut, CellIn, Write, Sync}
 use Rattle.core_model.specs.declared.tab.Cell.{Cell}
-use Rattle.core_model.specs.declared.tab.Turn.{Turn as TurnOf}
-use Rattle.core_model.specs.declared.tab.Writer.{Writer}
 use Rattle.core_model.specs.declared.tab.Tab.{Tab}
 use Rattle.core_model.specs.declared.tab.Tab.TheVariants.{Free, Retreating, Reading, Writing, Last, Freeing}
 use Rattle.core_model.specs.declared.view.Item.{Item}
 use Rattle.core_model.specs.declared.view.Place.TheVariants.{Turn}
 use Rattle.core_model.specs.declared.view.Trace.{Trace}
 use Rattle.core_model.specs.declared.view.View.{View}
-use Rattle.core_model.specs.Layout.{Setting, word_count}
+use Rattle.core_model.specs.Layout.{Setting}
 use Rattle.core_model.specs.State.{State, chain_of}
 use Rattle.core_model.specs.Tabs.{tab_at, turn_of, OfWriter}
 use Rattle.core_model.specs.Allowed.{IsPass, Allowed, Holds}
@@ -23,7 +21,6 @@ use Rattle.core_model.specs.Records.{item_of}
 use Rattle.core_model.specs.Steps.{cell_held, chosen_content, wrote, synced, after}
 use Rattle.core_model.specs.Deeds.{mirrored, OneMirror}
 use Rattle.core_model.specs.Slots.{SlotWords, slot_words}
-use Rattle.core_model.specs.Cells.{TurnFits}
 use Rattle.core_model.specs.Sound.{AnchorsSound, WordsSound, Sound}
 use Rattle.core_model.proofs.Lists.{at_set, at_length, sum_at, set_here, set_else}
 use Rattle.core_model.proofs.Telling.{set_again}

@@ -1,6 +1,6 @@
 -- To try for a turn and to end one keeps what is sound of the words: the tab holds what it held, and the word of a turn tells nothing
 -- of anchors and chains.
-use Rattle.std.proofs.Common.{◌≡◌, ◌≢◌, ◌⊎◌, inl, inr, ⊎_elim, ℕ, zero, suc, ◌+◌, ◌-◌, ◌*◌, ◌<◌, ◌≤◌, List, [], ◌∷◌, ◌++◌, drop, length, get_or, set, sym, refl, ap, ◌∙◌, subst, arith, sum_by, Option, Some, None, Bool, true, false, cond, ◌==◌, length-set, get_or-set_other, Contains}
+use Rattle.std.proofs.Common.{◌≡◌, ◌≢◌, ◌⊎◌, inl, inr, ⊎_elim, ℕ, zero, suc, ◌+◌, ◌-◌, ◌*◌, ◌<◌, List, [], ◌∷◌, ◌++◌, drop, length, get_or, set, sym, refl, ap, ◌∙◌, subst, arith, sum_by, Option, Some, None, Bool, true, false, cond, ◌==◌, length-set, get_or-set_other}
 use Rattle.std.specs.Prelude.{unwrap_or}
 use mathlib.Core.Option.{some}
 use mathlib.Core.Logic.{dite}
@@ -10,7 +10,6 @@ use Rattle.lock_word.specs.Words.{epoch_of, version_of, stage_of}
 use Rattle.link_word.specs.declared.link.Link.{Link}
 use Rattle.link_word.specs.declared.link.Link.TheVariants.{NotWritten, Last as LastLink, Next}
 use Rattle.core_model.specs.declared.moves.Side.{Side}
-use Rattle.core_model.specs.declared.moves.Side.TheVariants.{Key0, Key1, Offer, Start}
 use Rattle.core_model.specs.declared.moves.Move.TheVariants.{TryTurn, EndTurn}
 use Rattle.core_model.specs.declared.tab.Cell.{Cell}
 use Rattle.core_model.specs.declared.tab.Piece.{Piece}
@@ -22,15 +21,14 @@ use Rattle.core_model.specs.declared.tab.Writer.{Writer}
 use Rattle.core_model.specs.declared.tab.Tab.{Tab}
 use Rattle.core_model.specs.declared.tab.Tab.TheVariants.{Free, Retreating, Reading, Writing, Last, Freeing}
 use Rattle.core_model.specs.declared.view.Item.{Item}
-use Rattle.core_model.specs.declared.view.Sight.TheVariants.{Stood}
 use Rattle.core_model.specs.declared.view.Place.TheVariants.{Beside, Turn}
 use Rattle.core_model.specs.declared.view.Trace.{Trace}
 use Rattle.core_model.specs.declared.view.Deed.{Deed}
 use Rattle.core_model.specs.declared.view.View.{View}
 use Rattle.core_model.specs.declared.chain.Chain.{Chain}
 use Rattle.core_model.specs.Layout.{Setting, index}
-use Rattle.core_model.specs.State.{State, word, chain_of}
-use Rattle.core_model.specs.Chains.{named, link_to, link_at, rest_of, times}
+use Rattle.core_model.specs.State.{State, chain_of}
+use Rattle.core_model.specs.Chains.{named, link_to, rest_of, times}
 use Rattle.core_model.specs.Tabs.{tab_at, turn_of, OfReader, OfWriter, counts, writes, frees, count}
 use Rattle.core_model.specs.Allowed.{IsPass, Allowed, MayRead, MayWrite, Holds}
 use Rattle.core_model.specs.TabsAfter.{next_slot, piece_of, held, tries, was_written, ends}
@@ -39,7 +37,7 @@ use Rattle.core_model.specs.Steps.{cell_held, after}
 use Rattle.core_model.specs.Anchors.{tabs_in, Shaped, TabStands, opening_epoch}
 use Rattle.core_model.specs.Versions.{SeenStands, draws_by, vain_by, drawn_by, VersionsDrawn, IsKnownAt, VersionsHeld}
 use Rattle.core_model.specs.Deeds.{OneMirror, IsEpochAt, IsDone, EnteredBy, EnteredByAnother, LeftEpoch, DoomedVersion, HaltedVersion, EvictedVersion, DeedsExplain}
-use Rattle.core_model.specs.Slots.{SlotWords, told, slot_words, held_in, resting_in, writes_at, WriterHolds, ReaderHolds, TabHolds, SlotsHold, SlotsSound}
+use Rattle.core_model.specs.Slots.{SlotWords, told, slot_words, held_in, resting_in, WriterHolds, ReaderHolds, TabHolds, SlotsHold, SlotsSound}
 use Rattle.core_model.specs.Cells.{TurnFits}
 use Rattle.core_model.specs.Sound.{AnchorsSound, WordsSound, Sound}
 use Rattle.core_model.proofs.Spelling.{one_same}
@@ -77,10 +75,6 @@ module _ {X : Type 0} (k : Setting X) (ws : List ℕ) (ps ps' : List (Option (Ce
 
   abbrev s' : State X
   s' = of_parts ws ps' us' cs
-
-  -- what holds of each view that was there
-  each : (P : ℕ → View X → Type 0) → ((j : ℕ) (u : View X) → get_elem? us j ≡ some u → P j u) → (j : ℕ) (u : View X) → get_elem? us' j ≡ some u → (m : List Trace) × P j (remirrored u m)
-  each P h j u e = let b = like.before j u e in (b.0, h j (remirrored u b.0) b.1)
 
   stands : (u : View X) (m : List Trace) (t : ℕ) (tab : Tab X) → TabStands k s (remirrored u m) t tab → TabStands k s' u t tab
   stands u m t Free h = tt
@@ -309,7 +303,7 @@ module _ {X : Type 0} (k : Setting X) (s : State X) (i : ℕ) (v : View X) (soun
         → WordsSound k (of_parts (set s.words (5 * k.anchors + 2 * k.slots + slot) n) places (set s.views i (beside v (set v.tabs t new) [] item (Turn slot) n)) s.chains)
     turn_both item q n places many = let v' : View X = beside v (set v.tabs t new) [] item (Turn slot) n in let lt = l.inside in
         let a = at_slot k s i v so at pass item q (set v.tabs t new) (tab_as_before k s i v so at pass v.tabs (tabs_as_before k s i v so at pass) t x new was l.likens) [] (Turn slot) n s.chains (omega arith) (omega arith) refl (λ b. omega arith)
-            (sees_nothing k s i v so at pass _) in record {
+        (sees_nothing k s i v so at pass _) in record {
           anchors = anchors_alike k (set s.words (5 * k.anchors + 2 * k.slots + slot) n) s.places places (set s.views i v') (set s.views i v') s.chains a many (alike_same (set s.views i v')) a.mirror;
           slots = subst (λ z. SlotsHold k.anchors z s.chains (set s.views i v')) (sym (turn_told k s.words slot n lt)) (slots_turned v' refl);
         }
