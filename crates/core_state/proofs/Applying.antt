@@ -5,14 +5,14 @@ use Rattle.core_model.specs.declared.moves.Move.{Move}
 use Rattle.core_model.specs.Layout.{Setting}
 use Rattle.core_model.specs.State.{State}
 use Rattle.core_model.specs.Steps.{IsStep}
-use Rattle.core_model.specs.Sound.{WordsSound}
-use Rattle.core_model.proofs.SlotsKept.{keeps_both}
+use Rattle.core_model.specs.Sound.{Sound}
+use Rattle.core_model.proofs.AllKept.{keeps_sound}
 use Rattle.core_state.specs.declared.content.Content.{Content}
 
-pub step_keeps : (k : Setting Content) (s t : State Content) (i n : ℕ) (m : Move) → WordsSound k s → IsStep k s i m n t → WordsSound k t
-step_keeps k s t i n m so step = subst (WordsSound k) (sym step.leaves) (keeps_both k s i step.view m so.anchors so.slots step.at step.may)
+pub step_keeps : (k : Setting Content) (s t : State Content) (i n : ℕ) (m : Move) → Sound k s → IsStep k s i m n t → Sound k t
+step_keeps k s t i n m so step = subst (Sound k) (sym step.leaves) (keeps_sound k s i step.view m so step.at step.may)
 
 pub still_sound : {E : Type 0} (k : Setting Content) (s t : State Content) (i : ℕ) (m : Move) (r : Result ℕ E)
-    → WordsSound k s → IfOk r (λ n. IsStep k s i m n t) → OnErr r (t ≡ s) → WordsSound k t
+    → Sound k s → IfOk r (λ n. IsStep k s i m n t) → OnErr r (t ≡ s) → Sound k t
 still_sound k s t i m (Ok n) so made same = step_keeps k s t i n m so made
-still_sound k s t i m (Err e) so made same = subst (WordsSound k) (sym same) so
+still_sound k s t i m (Err e) so made same = subst (Sound k) (sym same) so

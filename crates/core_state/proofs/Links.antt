@@ -140,7 +140,7 @@ module _ (o : Opening) (t : Table) (v : View Content) (scene : IsScene o t v) (a
       finds = ap (λ i. slice_index t.words.items i) (sym place_is) ∙ sym found_is
 
       says : LinkFound (state t) x found
-      says = let k = slot_finds (setting o) (state t) scene.number v (move.GetLink at slot) scene.sound scene.slots scene.at record { pass = scene.pass; ready = tt; allowed = allowed } in
+      says = let k = slot_finds (setting o) (state t) scene.number v (move.GetLink at slot) scene.sound scene.slots scene.at record { pass = scene.pass; allowed = allowed } in
           subst (LinkFound (state t) x) finds (subst (λ (y : Tab Content). LinkFound (state t) y (slice_index t.words.items (index (setting o) (LinkWord slot)))) (tab_is o t v scene at x there) k)
 
       pub link_small : is_reading x ≡ true → found ≤ o.slots + 1

@@ -18,9 +18,10 @@ use Rattle.core_model.specs.Anchors.{IsSetting}
 use Rattle.core_model.specs.Chains.{no_chain, Spells}
 use Rattle.core_model.specs.Layout.{index, word_count}
 use Rattle.core_model.specs.Opening.{IsOpened, IsKeptAt, IsEmptyAt}
-use Rattle.core_model.specs.Sound.{WordsSound}
+use Rattle.core_model.specs.Sound.{Sound}
 use Rattle.core_model.proofs.Opened.{opens}
 use Rattle.core_model.proofs.SlotsOpened.{opens_slots, spells_alike}
+use Rattle.core_model.proofs.CellsOpened.{opens_cells}
 use Rattle.core_state.specs.declared.kept.Column.{Column}
 use Rattle.core_state.specs.declared.kept.Column.TheVariants.{Anchor, Beside}
 use Rattle.core_state.specs.declared.table.Opening.{Opening}
@@ -197,10 +198,11 @@ module _ (o : Opening) (r : Rebuilt) (words : o.words.items ≡ opened_words r o
   }
 
   -- the law of openings
-  pub is_sound : o.passes ≤ 32 → WordsSound (setting o) (opened_state o r)
+  pub is_sound : o.passes ≤ 32 → Sound (setting o) (opened_state o r)
   is_sound few = record {
     anchors = opens (setting o) r (opened_state o r) (is_setting few) (is_opened few);
     slots = opens_slots (setting o) r (opened_state o r) (is_setting few) (is_opened few) slot images b many;
+    cells = opens_cells (setting o) r (opened_state o r) (is_setting few) (is_opened few) slot images b many;
   }
 
 -- the same of an opening with these numbers
@@ -220,5 +222,5 @@ module _ (o : Opening) (r : Rebuilt) (anchors slots passes : ℕ) (is : IsOpenin
   pub opened_so : IsOpened (setting o) r (opened_state o r)
   opened_so = is_opened o r is.words slot images rebuilt_here (many ∙ sym is.slots_are) some_here few_here
 
-  pub sound_so : WordsSound (setting o) (opened_state o r)
+  pub sound_so : Sound (setting o) (opened_state o r)
   sound_so = is_sound o r is.words slot images rebuilt_here (many ∙ sym is.slots_are) some_here few_here

@@ -152,7 +152,7 @@ module _ (o : Opening) (t : Table) (v : View Content) (scene : IsScene o t v) (a
       let anchor : anchor_of (tab_at v at) ≡ a = ap anchor_of is ∙ sym same in
       let n : slice_index t.words.items (anchor_of (tab_at v at)) ≡ word_number w = ap (λ b. slice_index t.words.items b) anchor ∙ sym number in
       let few = range.readers in
-      let held = (known o t v (move.Raise at to) scene tt (le, allowed_to_raise)).1 in
+      let held = (known o t v (move.Raise at to) scene (le, allowed_to_raise)).1 in
       let held_is : stage_number w.epoch.stage ≡ stage_held (tab_at v at) =
       sym (stage_of-epoch_number w.epoch) ∙ ap stage_of (sym (epoch_of-word_number w few)) ∙ ap (λ i. stage_of (epoch_of i)) (sym n) ∙ held in
       let up = rises (setting o) (state t) (tab_at v at) to allowed_to_raise in

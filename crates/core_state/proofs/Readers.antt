@@ -99,7 +99,7 @@ module _ (o : Opening) (t : Table) (v : View Content) (scene : IsScene o t v) (a
   module _ (at : ℕ) (there : slice_get v.tabs at ≡ Some Free) where
     pub room_for_one : w.readers < 65535
     room_for_one =
-        let few = (known o t v (move.Enter at a) scene tt (within, below o t v scene at Free there, tab_is o t v scene at Free there)).few in
+        let few = (known o t v (move.Enter at a) scene (within, below o t v scene at Free there, tab_is o t v scene at Free there)).few in
         omega (arith, few, readers_are w _ range number)
 
     pub enter_planned : (found left own seen after : ℕ) (met : Option ℕ) (tab : Tab Content) (base : Addition)

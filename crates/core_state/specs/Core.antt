@@ -1,5 +1,5 @@
 -- What a core shows of what it keeps, and what it always is.
-use Rattle.core_model.specs.Sound.{WordsSound}
+use Rattle.core_model.specs.Sound.{Sound}
 use Rattle.core_state.specs.declared.machine.Core.TheInside.{Inside}
 use Rattle.core_state.specs.Machine.{Machine}
 use Rattle.core_state.specs.Inside.{setting, state}
@@ -17,4 +17,4 @@ machine_of c = record {
 }
 
 abbrev pub IsSound : Inside → Type 0
-IsSound c = WordsSound (setting c.opening) (state c.table)
+IsSound c = Sound (setting c.opening) (state c.table)

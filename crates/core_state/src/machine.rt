@@ -2,7 +2,7 @@
 ghost use Rattle.std.specs.Prelude.{◌≡◌, ◌<◌, ◌≤◌, ℕ, List, All, length, IfOk, OnErr, IsErrOf};
 ghost use Rattle.db_layout.specs.Layout.{IsSlotSize};
 ghost use Rattle.core_state.specs.New.{IsNew};
-ghost use Rattle.core_model.specs.Sound.{WordsSound};
+ghost use Rattle.core_model.specs.Sound.{Sound};
 ghost use Rattle.core_state.specs.declared.act.StepFault.TheVariants as fault;
 ghost use Rattle.core_state.specs.Applied.{Applies, MayApply, IsSameStore, kind_of};
 ghost use Rattle.core_state.specs.Machine.{setting_of, state_of};
@@ -58,7 +58,7 @@ impl Core {
         requires some_pass { 0 < passes }
         requires few_passes { passes ≤ 32 }
         ensures new { IfOk result (λ core. IsNew image.now (length image.now.slots) anchors passes core) }
-        ensures sound { IfOk result (λ core. WordsSound (setting_of core) (state_of core)) }
+        ensures sound { IfOk result (λ core. Sound (setting_of core) (state_of core)) }
     {
         let slots = image.slots.as_slice().len() as u32;
         let rebuilt = rebuilt_of(alloc, image, anchors)?;
@@ -88,7 +88,7 @@ impl Core {
 
     /// Does nothing. What is in a core is always sound.
     pub fn is_always_sound(&self)
-        ensures { WordsSound (setting_of self.now) (state_of self.now) }
+        ensures { Sound (setting_of self.now) (state_of self.now) }
     {
         let _table = &self.table;
     }
@@ -106,7 +106,7 @@ impl Core {
         ensures kind { (kind : ℕ) → IsErrOf result (fault.NotAllowed kind) → kind ≡ kind_of step.now }
         ensures unchanged { OnErr result (self.new ≡ self.old) }
         ensures same_store { IsSameStore self.old self.new }
-        ensures sound { WordsSound (setting_of self.new) (state_of self.new) }
+        ensures sound { Sound (setting_of self.new) (state_of self.new) }
     {
         let alloc = self.alloc;
         let act = match step {

@@ -1,6 +1,6 @@
 // One step of a pass is made.
 ghost use Rattle.std.specs.Prelude.{◌≡◌, IfOk, IsErrOf, OnErr};
-ghost use Rattle.core_model.specs.Sound.{WordsSound};
+ghost use Rattle.core_model.specs.Sound.{Sound};
 ghost use Rattle.core_model.specs.Steps.{IsStep, MayMove};
 ghost use Rattle.core_state.specs.Inside.{setting, state};
 
@@ -19,7 +19,7 @@ pub(crate) fn make(
     pass: u32,
     step: Move,
 ) -> Result<u64, Refusal>
-    requires { WordsSound (setting opening.now) (state table.old) }
+    requires { Sound (setting opening.now) (state table.old) }
     ensures made { IfOk result (λ number. IsStep (setting opening.now) (state table.old) pass step number (state table.new)) }
     ensures refused { IsErrOf result Refusal.NotAllowed
         → MayMove (setting opening.now) (state table.old) pass step → ⊥ }

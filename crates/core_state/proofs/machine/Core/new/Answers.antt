@@ -1,6 +1,6 @@
 use Rattle.std.proofs.Common.{◌≡◌, ◌∙◌, ℕ, ap, sym, subst, length, arith}
 use Rattle.core_model.specs.Opening.{IsOpened}
-use Rattle.core_model.specs.Sound.{WordsSound}
+use Rattle.core_model.specs.Sound.{Sound}
 use Rattle.core_model.specs.State.{State}
 use Rattle.core_state.specs.declared.content.Content.{Content}
 use Rattle.core_state.specs.Inside.{setting}
@@ -22,11 +22,11 @@ opened_table-requires c = record {
 }
 
 pub invariant_of-result : goal.invariant_of-result
-invariant_of-result c = subst (WordsSound (setting c.in_ok-opening.opening)) (sym c.in_ok-table.ensures)
+invariant_of-result c = subst (Sound (setting c.in_ok-opening.opening)) (sym c.in_ok-table.ensures)
     (sound_so _ _ _ _ _ c.in_ok-opening.ensures _ _ c.in_ok-rebuilt.ensures (sym (ap length c.as_slice.ensures)) c.requires.some_anchor c.requires.few_passes)
 
 pub returns-clause-sound : goal.returns-clause-sound
-returns-clause-sound c = subst (WordsSound (setting c.in_ok-opening.opening)) (sym c.in_ok-table.ensures)
+returns-clause-sound c = subst (Sound (setting c.in_ok-opening.opening)) (sym c.in_ok-table.ensures)
     (sound_so _ _ _ _ _ c.in_ok-opening.ensures _ _ c.in_ok-rebuilt.ensures (sym (ap length c.as_slice.ensures)) c.requires.some_anchor c.requires.few_passes)
 
 pub returns-clause-new : goal.returns-clause-new
