@@ -1,6 +1,4 @@
 use Rattle.std.proofs.Common.{rules, ◌≡◌, inl, inr, sym, ◌∷◌}
-use Rattle.link_word.specs.declared.link.Link.TheVariants.{Last}
-use Rattle.core_model.specs.Chains.{link_to}
 use Rattle.core_state.proofs.Placing.{link_on, chained_on, within_on}
 use Rattle.core_state.proofs.kept.write_links.Goals as goal
 use Rattle.core_state.proofs.kept.write_links.Goals.{in-None, in-Some-first}

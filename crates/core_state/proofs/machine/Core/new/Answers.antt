@@ -1,4 +1,4 @@
-use Rattle.std.proofs.Common.{◌≡◌, ◌∙◌, ℕ, ap, sym, subst, length, arith}
+use Rattle.std.proofs.Common.{◌∙◌, ap, sym, subst, length, arith}
 use Rattle.core_model.specs.Opening.{IsOpened}
 use Rattle.core_model.specs.Sound.{Sound}
 use Rattle.core_model.specs.State.{State}
