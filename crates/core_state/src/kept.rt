@@ -28,7 +28,7 @@ fn front_half(key: &[u8; 16]) -> u64
     ])
 }
 
-/// The last eight.
+/// The last eight bytes, likewise.
 fn back_half(key: &[u8; 16]) -> u64
     ensures { result ≡ back_half key.now }
 {
