@@ -9,4 +9,4 @@ use Rattle.core_state.proofs.plan.counter.draw.Goals as goal
 pub overflow_add-left : goal.overflow_add-left
 overflow_add-left c =
     let allowed : last_count c.args.view.now.trail < version_limit = grind (arith, common_steps) in
-    let few = (known c.args.opening.now c.args.table.now c.args.view.now move.Draw c.requires tt allowed).few in grind (arith, common_steps, few)
+    let few = (known c.args.opening.now c.args.table.now c.args.view.now move.Draw c.requires allowed).few in grind (arith, common_steps, few)
