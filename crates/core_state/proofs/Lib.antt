@@ -16,3 +16,6 @@ pub mod Applying
 pub mod Opening
 pub mod Blank
 pub mod Publishing
+pub mod Notes
+pub mod Reserved
+pub mod Turns

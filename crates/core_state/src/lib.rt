@@ -18,6 +18,7 @@ mod step;
 mod tab_change;
 mod table;
 mod tabs;
+mod turn_change;
 mod unused;
 
 pub use act::{Act, Picks, Step, StepFault};

@@ -1,5 +1,6 @@
 // One step of a pass is made.
-ghost use Rattle.std.specs.Prelude.{◌≡◌, IfOk, IsErrOf, OnErr};
+ghost use Rattle.std.specs.Prelude.{◌≡◌, ◌↔◌, IsTrue, IfOk, IsErrOf, OnErr};
+ghost use Rattle.core_model.specs.Allowed.{IsReady};
 ghost use Rattle.core_model.specs.Sound.{WordsSound};
 ghost use Rattle.core_model.specs.Steps.{IsStep, MayMove};
 ghost use Rattle.core_state.specs.Inside.{setting, state};
@@ -9,6 +10,23 @@ use crate::refusal::Refusal;
 use crate::table::{Opening, Table};
 use core_model::Move;
 use std::alloc::Global;
+
+/// Whether the laws speak of steps of this kind. A step of another kind is not allowed yet.
+fn is_ready(step: &Move) -> bool
+    ensures { IsTrue result ↔ IsReady step.now }
+{
+    !matches!(
+        step,
+        Move::TryTurn { .. }
+            | Move::EndTurn { .. }
+            | Move::CellOut { .. }
+            | Move::CellIn { .. }
+            | Move::Note
+            | Move::Learn { .. }
+            | Move::Write { .. }
+            | Move::Sync { .. }
+    )
+}
 
 /// Makes a step of the pass of this number, and answers the number that it tells. Where it is refused
 /// nothing is changed.
@@ -28,6 +46,9 @@ pub(crate) fn make(
     let Some(view) = table.pass(pass) else {
         return Err(Refusal::NotAllowed);
     };
+    if !is_ready(&step) {
+        return Err(Refusal::NotAllowed);
+    }
     let change = plan(alloc, opening, table, view, step)?;
     let answer = change.answer;
     table.make(pass as usize, change)?;
