@@ -9,7 +9,7 @@ use Rattle.core_model.specs.declared.view.Sight.{Sight}
 use Rattle.core_model.specs.declared.view.Trace.{Trace}
 use Rattle.core_model.specs.declared.view.Deed.{Deed}
 use Rattle.core_model.specs.declared.view.View.{View}
-use Rattle.core_model.specs.Adding.{added, names_seen}
+use Rattle.core_model.specs.Adding.{added, names_seen, sights_learned}
 
 pub reverse-option : {A : Type 0} → (o : Option A) → reverse (option_to_list o) ≡ option_to_list o
 reverse-option None = refl
@@ -19,19 +19,24 @@ reverse-option (Some x) = refl
 pub logged : {A : Type 0} → (xs ys zs : List A) (o : Option A) → ys ≡ xs → zs ≡ ys ++ option_to_list o → reverse zs ≡ option_to_list o ++ reverse xs
 logged {A} xs ys zs o same more = ap reverse (more ∙ ap (λ (l : List A). l ++ option_to_list o) same) ∙ reverse-append xs (option_to_list o) ∙ ap (λ (l : List A). l ++ reverse xs) (reverse-option o)
 
--- the sights of names are put there the other way round, and then one more
-pub logged_names : {A : Type 0} → (xs ys zs ws names : List A) (o : Option A) → ys ≡ xs → zs ≡ ys ++ reverse names → ws ≡ zs ++ option_to_list o → reverse ws ≡ option_to_list o ++ (names ++ reverse xs)
-logged_names {A} xs ys zs ws names o same named more =
-    ap reverse more ∙ reverse-append zs (option_to_list o) ∙ ap (λ (l : List A). l ++ reverse zs) (reverse-option o)
-    ∙ ap (λ (l : List A). option_to_list o ++ l)
-    (ap reverse (named ∙ ap (λ (l : List A). l ++ reverse names) same) ∙ reverse-append xs (reverse names) ∙ ap (λ (l : List A). l ++ reverse xs) (reverse-reverse names))
+-- items that are put there the other way round stand in their order in the log
+logged_all : {A : Type 0} → (xs ys zs more : List A) → ys ≡ xs → zs ≡ ys ++ reverse more → reverse zs ≡ more ++ reverse xs
+logged_all {A} xs ys zs more same is =
+    ap reverse (is ∙ ap (λ (l : List A). l ++ reverse more) same) ∙ reverse-append xs (reverse more) ∙ ap (λ (l : List A). l ++ reverse xs) (reverse-reverse more)
+
+-- the sights that were learned are put there, the sights of names, and then one more
+pub logged_sights : {A : Type 0} → (xs ys zs ws us learned names : List A) (o : Option A) → ys ≡ xs → zs ≡ ys ++ reverse learned → ws ≡ zs ++ reverse names → us ≡ ws ++ option_to_list o
+    → reverse us ≡ option_to_list o ++ (names ++ (learned ++ reverse xs))
+logged_sights {A} xs ys zs ws us learned names o same learns named more =
+    logged ws ws us o refl more
+    ∙ ap (λ (l : List A). option_to_list o ++ l) (logged_all zs zs ws names refl named ∙ ap (λ (l : List A). names ++ l) (logged_all xs ys zs learned same learns))
 
 pub fronted : {A : Type 0} → (xs ys zs : List A) (o : Option A) → ys ≡ xs → zs ≡ option_to_list o ++ ys → zs ≡ option_to_list o ++ xs
 fronted {A} xs ys zs o same more = more ∙ ap (λ (l : List A). option_to_list o ++ l) same
 
 pub added_is : {X : Type 0} → (v : View X) (a : Addition) (pass : ℕ) (tabs : List (Tab X)) (h h' : List ℕ) (s s' : List Sight) (t t' : List Item) (m m' : List Trace) (d d' : List Deed) (e e' : List ℕ)
     → record { pass = pass; tabs = tabs; held = h; seen = s; trail = t; mirror = m; deeds = d; met = e } ≡ v
-    → h' ≡ option_to_list a.drawn ++ h → s' ≡ option_to_list a.sight ++ (names_seen a.names ++ s) → t' ≡ a.item ∷ t → m' ≡ a.trace ∷ m → d' ≡ option_to_list a.deed ++ d → e' ≡ option_to_list a.met ++ e
+    → h' ≡ option_to_list a.drawn ++ h → s' ≡ option_to_list a.sight ++ (names_seen a.names ++ (sights_learned a.learned ++ s)) → t' ≡ a.item ∷ t → m' ≡ option_to_list a.trace ++ m → d' ≡ option_to_list a.deed ++ d → e' ≡ option_to_list a.met ++ e
     → record { pass = pass; tabs = tabs; held = h'; seen = s'; trail = t'; mirror = m'; deeds = d'; met = e' } ≡ added v a
 added_is {X} v a pass tabs h h' s s' t t' m m' d d' e e' is held seen trail mirror deeds met =
     (λ j. record { pass = pass; tabs = tabs; held = held j; seen = seen j; trail = trail j; mirror = mirror j; deeds = deeds j; met = met j })

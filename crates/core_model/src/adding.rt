@@ -1,8 +1,9 @@
 // What a step adds to the records of its pass, all of it or nothing.
-ghost use Rattle.std.specs.Prelude.{◌≡◌, ◌<◌, ◌≤◌, ◌+◌, ◌∷◌, [], ◌++◌, reverse, vec_len, vec_capacity, OnOk, OnErr};
+ghost use Rattle.std.specs.Prelude.{◌≡◌, ◌<◌, ◌≤◌, ◌+◌, ◌∷◌, [], ◌++◌, length, reverse, vec_len, vec_capacity, OnOk, OnErr};
 ghost use Rattle.std.specs.Option.{option_to_list};
-ghost use Rattle.core_model.specs.Adding.{added, names_seen};
+ghost use Rattle.core_model.specs.Adding.{added, names_seen, sights_learned};
 
+use crate::list::Log;
 use crate::moves::Side;
 use crate::view::{Deed, Item, Sight, Trace, View};
 use std::alloc::AllocError;
@@ -18,13 +19,16 @@ pub struct Names {
 }
 
 /// What a step adds to what its pass knows and holds, and to its records.
-#[derive(Clone, Copy, Debug, PartialEq, Eq)]
+#[derive(Drop)]
 pub struct Addition {
     pub item: Item,
-    pub trace: Trace,
+    /// What it left of a word, where it was on one.
+    pub trace: Option<Trace>,
     pub sight: Option<Sight>,
     /// What names an entry, of which it published a slot.
     pub names: Option<Names>,
+    /// What a note has seen, which the pass learned.
+    pub learned: Option<Log<Sight>>,
     pub deed: Option<Deed>,
     /// An anchor at which the pass met others.
     pub met: Option<u32>,
@@ -89,6 +93,30 @@ fn append_names(items: &mut Vec<Sight>, names: Option<Names>)
     append(items, Some(named(Side::Key0, key0)));
 }
 
+/// For how many sights there must be room.
+fn count_sights(learned: &Option<Log<Sight>>) -> usize
+    ensures { result ≡ length (sights_learned learned.now) + 4 }
+{
+    match learned {
+        Some(learned) => learned.items.len() + 4,
+        None => 4,
+    }
+}
+
+/// Adds the sights that the pass learned, for which there is room, if there are some.
+fn append_learned(items: &mut Vec<Sight>, learned: Option<Log<Sight>>)
+    requires { vec_len items.old + length (sights_learned learned) + 3 < vec_capacity items.old }
+    ensures learned { items.new.items ≡ items.old.items ++ reverse (sights_learned learned) }
+    ensures room { vec_len items.new + 3 < vec_capacity items.new }
+{
+    let Some(mut learned) = learned else {
+        return;
+    };
+    let Ok(()) = items.append(&mut learned.items) else {
+        unreachable!()
+    };
+}
+
 impl<X> View<X> {
     /// Adds it all, or nothing where memory runs out.
     pub fn add(&mut self, addition: Addition) -> Result<(), AllocError>
@@ -96,16 +124,17 @@ impl<X> View<X> {
         ensures err { OnErr result (self.new ≡ self.old) }
     {
         self.held.items.reserve(1)?;
-        self.seen.items.reserve(4)?;
+        self.seen.items.reserve(count_sights(&addition.learned))?;
         self.trail.items.reserve(1)?;
         self.mirror.items.reserve(1)?;
         self.deeds.items.reserve(1)?;
         self.met.items.reserve(1)?;
         prepend(&mut self.held.items, addition.drawn);
+        append_learned(&mut self.seen.items, addition.learned);
         append_names(&mut self.seen.items, addition.names);
         append(&mut self.seen.items, addition.sight);
         append(&mut self.trail.items, Some(addition.item));
-        append(&mut self.mirror.items, Some(addition.trace));
+        append(&mut self.mirror.items, addition.trace);
         append(&mut self.deeds.items, addition.deed);
         append(&mut self.met.items, addition.met);
         Ok(())

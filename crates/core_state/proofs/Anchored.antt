@@ -8,16 +8,18 @@ use Rattle.core_model.specs.declared.view.Kind.{Kind}
 use Rattle.core_model.specs.declared.view.Place.TheVariants.{Anchor}
 use Rattle.core_model.specs.declared.view.Sight.TheVariants.{Stood}
 use Rattle.core_model.specs.declared.view.View.{View}
-use Rattle.core_model.specs.Adding.{names_seen}
+use Rattle.core_model.specs.Adding.{names_seen, sights_learned}
 use Rattle.core_model.specs.Records.{held_after, sights_of, item_of, deeds_of, met_of}
 use Rattle.core_model.specs.Steps.{finding, traces_of, view_after, words_after, places_after, views_after, chains_after}
 use Rattle.core_model.specs.TabsAfter.{tabs_after}
 use Rattle.core_model.specs.Where.{place, left_by}
 use Rattle.core_state.specs.declared.change.ChainChange.{ChainChange}
+use Rattle.core_state.specs.declared.change.NotesChange.TheVariants as notes
 use Rattle.core_state.specs.declared.change.TabsChange.{TabsChange}
 use Rattle.core_state.specs.declared.content.Content.{Content}
 use Rattle.core_state.specs.declared.table.Opening.{Opening}
 use Rattle.core_state.specs.declared.table.Table.{Table}
+use Rattle.core_state.specs.declared.turn_change.TurnChange.TheVariants as turns
 use Rattle.core_state.specs.Inside.{setting, state}
 use Rattle.core_state.specs.Changed.{anchor_addition, tabs_changed, without_used, chains_changed}
 use Rattle.core_state.specs.Planned.{Matches, found}
@@ -40,12 +42,13 @@ module _ (o : Opening) (t : Table) (v : View Content) (m : Move) (a told left se
       → chains_changed t.chains.items chain ≡ chains_after t.chains.items v m (found o t v m)
       → Matches o t v m record {
         answer = told;
-        index = a;
-        left = left;
+        word = Some record { index = a; left = left };
+        turn = turns.Same;
         tabs = tabs;
         chain = chain;
         used = used;
-        addition = record { item = base.item; trace = base.trace; sight = base.sight; names = base.names; deed = deed; met = met; drawn = base.drawn };
+        addition = record { item = base.item; trace = base.trace; sight = base.sight; names = base.names; learned = base.learned; deed = deed; met = met; drawn = base.drawn };
+        notes = notes.Same;
       }
   anchored tabs chain used deed met base is step tabs_are held deeds mets chains = record {
     words = sym (λ j. words_after (setting o) t.words.items (step.at j) (step.leaves j));
@@ -53,9 +56,9 @@ module _ (o : Opening) (t : Table) (v : View Content) (m : Move) (a told left se
     views = step.views;
     tabs = tabs_are;
     held = ap (λ (b : Addition). without_used used (option_to_list b.drawn ++ v.held)) is ∙ held;
-    seen = ap (λ (b : Addition). option_to_list b.sight ++ names_seen b.names) is ∙ sym step.sees;
+    seen = ap (λ (b : Addition). option_to_list b.sight ++ (names_seen b.names ++ sights_learned b.learned)) is ∙ sym step.sees;
     trail = ap (λ (b : Addition). b.item) is ∙ sym step.item;
-    mirror = ap (λ (b : Addition). b.trace ∷ []) is ∙ sym (λ j. traces_of (step.at j) (step.leaves j));
+    mirror = ap (λ (b : Addition). option_to_list b.trace) is ∙ sym (λ j. traces_of (step.at j) (step.leaves j));
     deeds = deeds;
     met = mets;
     chains = chains;

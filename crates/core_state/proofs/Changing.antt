@@ -8,8 +8,6 @@ use Rattle.core_model.specs.declared.tab.Writer.{Writer}
 use Rattle.core_model.specs.TabsAfter.{raised_tab}
 use Rattle.lock_word.specs.declared.stage.Stage.TheVariants.{Appending}
 use Rattle.core_state.specs.declared.content.Content.{Content}
-use Rattle.core_state.specs.declared.tab_change.TabChange.{TabChange}
-use Rattle.core_state.specs.Tabs.{changed_tab}
 use Rattle.core_state.proofs.Lists.{set_twice}
 
 -- a writing tab that is taken out and put back at APPENDING
@@ -20,8 +18,12 @@ appended tabs was now t w out there back =
     ∙ ap (λ (x : Tab Content). set tabs t (raised_tab x Appending 0)) (sym (get_or_from_slice_get tabs t (Writing w) Free there))
 
 -- a tab that is taken out, changed and put back
-pub part_changed : (tabs was now : List (Tab Content)) (t : ℕ) (tab new : Tab Content) (change : TabChange) → was ≡ set tabs t Free → slice_get tabs t ≡ Some tab → new ≡ changed_tab tab change → now ≡ set was t new
-    → now ≡ set tabs t (changed_tab (get_or tabs t Free) change)
-part_changed tabs was now t tab new change out there is back =
+pub put_back : (f : Tab Content → Tab Content) (tabs was now : List (Tab Content)) (t : ℕ) (tab new : Tab Content) → was ≡ set tabs t Free → slice_get tabs t ≡ Some tab → new ≡ f tab → now ≡ set was t new
+    → now ≡ set tabs t (f (get_or tabs t Free))
+put_back f tabs was now t tab new out there is back =
     back ∙ ap (λ (l : List (Tab Content)). set l t new) out ∙ set_twice tabs t Free new
-    ∙ ap (λ (x : Tab Content). set tabs t x) (is ∙ ap (λ (x : Tab Content). changed_tab x change) (sym (get_or_from_slice_get tabs t tab Free there)))
+    ∙ ap (λ (x : Tab Content). set tabs t x) (is ∙ ap f (sym (get_or_from_slice_get tabs t tab Free there)))
+
+-- and what it had
+pub was_there : {A : Type 0} → (f : Tab Content → A) (tabs : List (Tab Content)) (t : ℕ) (tab : Tab Content) (had : A) → slice_get tabs t ≡ Some tab → had ≡ f tab → had ≡ f (get_or tabs t Free)
+was_there f tabs t tab had there is = is ∙ ap f (sym (get_or_from_slice_get tabs t tab Free there))

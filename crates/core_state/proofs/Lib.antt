@@ -18,3 +18,6 @@ pub mod Placing
 pub mod Winners
 pub mod OpenedStore
 pub mod Publishing
+pub mod Notes
+pub mod Reserved
+pub mod Turns

@@ -30,11 +30,13 @@ use Rattle.core_model.proofs.OwnsKept.{held_slot}
 use Rattle.core_model.proofs.SlotFinds.{slot_finds}
 use Rattle.core_model.proofs.Spelling.{at_longer, one_same}
 use Rattle.core_state.specs.declared.change.ChainChange.TheVariants as chains
+use Rattle.core_state.specs.declared.change.NotesChange.TheVariants as notes
 use Rattle.core_state.specs.declared.change.TabsChange.TheVariants as tabs
 use Rattle.core_state.specs.declared.tab_change.TabChange.{TabChange}
 use Rattle.core_state.specs.declared.content.Content.{Content}
 use Rattle.core_state.specs.declared.table.Opening.{Opening}
 use Rattle.core_state.specs.declared.table.Table.{Table}
+use Rattle.core_state.specs.declared.turn_change.TurnChange.TheVariants as turns
 use Rattle.core_state.specs.Changed.{word_addition}
 use Rattle.core_state.specs.Inside.{setting, state}
 use Rattle.core_state.specs.Planned.{IsScene, Plans}
@@ -161,12 +163,13 @@ module _ (o : Opening) (t : Table) (v : View Content) (scene : IsScene o t v) (a
           → (base : Addition) → base ≡ word_addition kind.Followed (LinkWord slot) slot found found sight
           → Plans o t v (move.GetLink at slot) record {
             answer = found;
-            index = place;
-            left = found;
+            word = Some record { index = place; left = found };
+            turn = turns.Same;
             tabs = tabs.Becomes at change;
             chain = chains.Same;
             used = None;
             addition = base;
+            notes = notes.Same;
           }
       look_planned change sight becomes sees base base_is =
           let is = tab_is o t v scene at x there in
@@ -187,7 +190,8 @@ module _ (o : Opening) (t : Table) (v : View Content) (scene : IsScene o t v) (a
                   chains = refl;
                 }
                 (ap (λ (y : Tab Content). set v.tabs at y) (ap (λ (y : Tab Content). changed_tab y change) is ∙ becomes ∙ sym (λ j. looks (is j) (finds j))));
-            index = link_there;
+            word = link_there;
+            turn = tt;
             tabs = slice_get_within v.tabs at x there;
             chain = tt;
           }

@@ -37,3 +37,7 @@ module _ {X : Type 0} where
 
   pub slice_at : (xs : List X) (i : ℕ) (x y : X) → slice_get xs i ≡ Some x → get_elem? xs i ≡ some y → x ≡ y
   slice_at xs i x y e at = some-injective x y (sym (at_slice xs i x e) ∙ at)
+
+  -- what is read of a list that is still this one
+  pub still_at : (xs ys : List X) (i : ℕ) (x y : X) → y ≡ get_or xs i y → xs ≡ ys → get_elem? ys i ≡ some x → y ≡ x
+  still_at xs ys i x y read same at = read ∙ ap (λ (l : List X). get_or l i y) same ∙ at_or ys i x y at

@@ -103,7 +103,8 @@ module _ (o : Opening) (t : Table) (v : View Content) (scene : IsScene o t v) (s
               chains = refl;
             }
             tabs_are;
-        index = link_there;
+        word = link_there;
+        turn = tt;
         tabs = fit;
         chain = tt;
       }

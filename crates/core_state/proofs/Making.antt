@@ -2,7 +2,7 @@
 use Rattle.std.proofs.Common.{◌≡◌, ℕ, List, ◌∷◌, ◌++◌, append_assoc, sym, ap, ◌∙◌}
 use Rattle.std.specs.Option.{option_to_list}
 use Rattle.core_model.specs.declared.view.Sight.{Sight}
-use Rattle.core_model.specs.Adding.{names_seen}
+use Rattle.core_model.specs.Adding.{names_seen, sights_learned}
 use Rattle.core_model.specs.Records.{sights_of}
 use Rattle.std.specs.Prelude.{slice_set}
 use Rattle.core_model.specs.declared.moves.Move.{Move}
@@ -14,13 +14,22 @@ use Rattle.core_state.specs.declared.table.Opening.{Opening}
 use Rattle.core_state.specs.declared.table.Table.{Table}
 use Rattle.core_state.specs.Inside.{setting, state}
 use Rattle.core_state.specs.Changed.{changed, view_changed}
+use Rattle.core_state.specs.Notes.{notes_changed}
 use Rattle.core_state.specs.Planned.{Matches}
 
 module _ (o : Opening) (t : Table) (v : View Content) (m : Move) (c : Change) (same : Matches o t v m c) where
-  seen_are : option_to_list c.addition.sight ++ (names_seen c.addition.names ++ v.seen) ≡ sights_of v m (finding (setting o) (state t) v m) ++ v.seen
-  seen_are = sym (append_assoc (option_to_list c.addition.sight) (names_seen c.addition.names) v.seen) ∙ ap (λ (l : List Sight). l ++ v.seen) same.seen
+  abbrev names : List Sight
+  names = names_seen c.addition.names
 
-  view_is : view_changed v c.addition c.used c.tabs ≡ view_after v m (finding (setting o) (state t) v m)
+  abbrev learned : List Sight
+  learned = sights_learned c.addition.learned
+
+  seen_are : option_to_list c.addition.sight ++ (names ++ (learned ++ v.seen)) ≡ sights_of v m (finding (setting o) (state t) v m) ++ v.seen
+  seen_are =
+      ap (λ (l : List Sight). option_to_list c.addition.sight ++ l) (sym (append_assoc names learned v.seen))
+      ∙ sym (append_assoc (option_to_list c.addition.sight) (names ++ learned) v.seen) ∙ ap (λ (l : List Sight). l ++ v.seen) same.seen
+
+  view_is : view_changed v t.places.items c.addition c.used c.turn c.tabs ≡ view_after v m (finding (setting o) (state t) v m)
   view_is = λ j. record {
     pass = v.pass;
     tabs = same.tabs j;
@@ -33,5 +42,5 @@ module _ (o : Opening) (t : Table) (v : View Content) (m : Move) (c : Change) (s
   }
 
   pub made : (i : ℕ) → changed (state t) i v c ≡ after (setting o) (state t) i v m
-  made i = let views = ap (λ (w : View Content). slice_set t.views.items i w) view_is ∙ same.views i in
+  made i = let views = ap (λ (w : View Content). notes_changed (slice_set t.views.items i w) c.notes) view_is ∙ same.views i in
       λ j. record { words = same.words j; places = same.places j; views = views j; chains = same.chains j }

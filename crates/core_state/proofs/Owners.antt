@@ -17,11 +17,13 @@ use Rattle.core_model.specs.Tabs.{inner, tab_at, anchor_of, OfWriter, OfFreer}
 use Rattle.core_model.specs.TabsAfter.{reserves, gives_back}
 use Rattle.core_model.proofs.OwnsKept.{held_slot, back_held}
 use Rattle.core_state.specs.declared.change.ChainChange.TheVariants as chains
+use Rattle.core_state.specs.declared.change.NotesChange.TheVariants as notes
 use Rattle.core_state.specs.declared.change.TabsChange.TheVariants as tabs
 use Rattle.core_state.specs.declared.tab_change.TabChange.TheVariants.{Reserves, GivesBack}
 use Rattle.core_state.specs.declared.content.Content.{Content}
 use Rattle.core_state.specs.declared.table.Opening.{Opening}
 use Rattle.core_state.specs.declared.table.Table.{Table}
+use Rattle.core_state.specs.declared.turn_change.TurnChange.TheVariants as turns
 use Rattle.core_state.specs.Changed.{word_addition}
 use Rattle.core_state.specs.Inside.{setting, state}
 use Rattle.core_state.specs.Planned.{IsScene, Plans}
@@ -59,7 +61,7 @@ module _ (o : Opening) (t : Table) (v : View Content) (scene : IsScene o t v) (s
       n = owner_read inside word found word_is found_is
 
       pub own_missed : (base : Addition) → found ≢ 0 → base ≡ word_addition kind.Owned (Owner slot) slot found found None
-          → Plans o t v (move.Own at slot) record { answer = found; index = word; left = found; tabs = tabs.Same; chain = chains.Same; used = None; addition = base }
+          → Plans o t v (move.Own at slot) record { answer = found; word = Some record { index = word; left = found }; turn = turns.Same; tabs = tabs.Same; chain = chains.Same; used = None; addition = base; notes = notes.Same }
       own_missed base ne base_is =
           let no = not_same _ 0 (λ (e : slice_index t.words.items (index (setting o) (Owner slot)) ≡ 0). ne (sym n ∙ e)) in
           record {
@@ -79,13 +81,14 @@ module _ (o : Opening) (t : Table) (v : View Content) (scene : IsScene o t v) (s
                   chains = refl;
                 }
                 (sym (ap (λ b. cond b (set v.tabs at (reserves (tab_at v at) slot)) v.tabs) no));
-            index = let lt = owner_there inside in omega (arith, lt, word_is);
+            word = let lt = owner_there inside in omega (arith, lt, word_is);
+            turn = tt;
             tabs = tt;
             chain = tt;
           }
 
       pub own_won : (left : ℕ) (reserved : List ℕ) (base : Addition) → found ≡ 0 → left ≡ w.anchor + 1 → reserved ≡ w.reserved ++ (slot ∷ []) → base ≡ word_addition kind.Owned (Owner slot) slot found left None
-          → Plans o t v (move.Own at slot) record { answer = found; index = word; left = left; tabs = tabs.Becomes at (Reserves reserved); chain = chains.Same; used = None; addition = base }
+          → Plans o t v (move.Own at slot) record { answer = found; word = Some record { index = word; left = left }; turn = turns.Same; tabs = tabs.Becomes at (Reserves reserved); chain = chains.Same; used = None; addition = base; notes = notes.Same }
       own_won left reserved base zero left_is reserved_is base_is =
           let yes : (slice_index t.words.items (index (setting o) (Owner slot)) == 0) ≡ true = eq-eqb _ _ (n ∙ zero) in
           record {
@@ -108,7 +111,8 @@ module _ (o : Opening) (t : Table) (v : View Content) (scene : IsScene o t v) (s
                 ∙ ap (λ (l : List ℕ). set v.tabs at (Writing record w { reserved = l })) reserved_is
                 ∙ sym (ap (λ (x : Tab Content). set v.tabs at (reserves x slot)) is)
                 ∙ sym (ap (λ b. cond b (set v.tabs at (reserves (tab_at v at) slot)) v.tabs) yes));
-            index = let lt = owner_there inside in omega (arith, lt, word_is);
+            word = let lt = owner_there inside in omega (arith, lt, word_is);
+            turn = tt;
             tabs = slice_get_within v.tabs at (Writing w) there;
             chain = tt;
           }
@@ -131,7 +135,7 @@ module _ (o : Opening) (t : Table) (v : View Content) (scene : IsScene o t v) (s
     given_back (Last a) h = refl
 
     pub disown_planned : (word found : ℕ) (base : Addition) → word ≡ index (setting o) (Owner slot) → found ≡ get_or t.words.items word found → base ≡ word_addition kind.Disowned (Owner slot) slot found 0 None
-        → Plans o t v (move.Disown at slot) record { answer = found; index = word; left = 0; tabs = tabs.Becomes at (GivesBack slot); chain = chains.Same; used = None; addition = base }
+        → Plans o t v (move.Disown at slot) record { answer = found; word = Some record { index = word; left = 0 }; turn = turns.Same; tabs = tabs.Becomes at (GivesBack slot); chain = chains.Same; used = None; addition = base; notes = notes.Same }
     disown_planned word found base word_is found_is base_is =
         let n : slice_index t.words.items (index (setting o) (Owner slot)) ≡ found = owner_read given_slot word found word_is found_is in
         record {
@@ -151,7 +155,8 @@ module _ (o : Opening) (t : Table) (v : View Content) (scene : IsScene o t v) (s
                 chains = refl;
               }
               (ap (λ (y : Tab Content). set v.tabs at y) (given_back (tab_at v at) may_disown));
-          index = let lt = owner_there given_slot in omega (arith, lt, word_is);
+          word = let lt = owner_there given_slot in omega (arith, lt, word_is);
+          turn = tt;
           tabs = slice_get_within v.tabs at x there;
           chain = tt;
         }

@@ -25,10 +25,12 @@ use Rattle.core_model.specs.Tabs.{tab_at, anchor_of, is_free, counts, OfWriter}
 use Rattle.core_model.specs.TabsAfter.{raised_tab}
 use Rattle.core_model.specs.Where.{stage_held}
 use Rattle.core_state.specs.declared.change.ChainChange.{ChainChange}
+use Rattle.core_state.specs.declared.change.NotesChange.TheVariants as notes
 use Rattle.core_state.specs.declared.change.TabsChange.{TabsChange}
 use Rattle.core_state.specs.declared.content.Content.{Content}
 use Rattle.core_state.specs.declared.table.Opening.{Opening}
 use Rattle.core_state.specs.declared.table.Table.{Table}
+use Rattle.core_state.specs.declared.turn_change.TurnChange.TheVariants as turns
 use Rattle.core_state.specs.Changed.{anchor_addition, tabs_changed, chains_changed, FitsTabs, FitsChain}
 use Rattle.core_state.specs.Inside.{setting, state}
 use Rattle.core_state.specs.Planned.{IsScene, Plans}
@@ -131,8 +133,8 @@ module _ (o : Opening) (t : Table) (v : View Content) (scene : IsScene o t v) (a
       → base ≡ anchor_addition kind.Raised a left left seen
       → Plans o t v (move.Raise at to) record {
         answer = left;
-        index = a;
-        left = left;
+        word = Some record { index = a; left = left };
+        turn = turns.Same;
         tabs = tabs;
         chain = chain;
         used = None;
@@ -141,10 +143,12 @@ module _ (o : Opening) (t : Table) (v : View Content) (scene : IsScene o t v) (a
           trace = base.trace;
           sight = base.sight;
           names = base.names;
+          learned = base.learned;
           deed = Some record { pass = v.pass; kind = kind.Raised; anchor = a; epoch = seen; was_idle = false };
           met = met;
           drawn = base.drawn;
         };
+        notes = notes.Same;
       }
   raise_planned a same within w number range left own seen met tabs chain c base left_is own_is met_is seen_is tabs_is c_is chain_is base_is =
       let is = tab_is o t v scene at x there in
@@ -182,7 +186,8 @@ module _ (o : Opening) (t : Table) (v : View Content) (scene : IsScene o t v) (a
             (sym (λ j. record { pass = v.pass; kind = kind.Raised; anchor = anchor j; epoch = (ap epoch_of leaves_ ∙ sym seen_is) j; was_idle = false } ∷ []))
             (met_is ∙ sym (λ j. cond (ltb (own_same j) ((ap readers_of leaves_ ∙ readers) j)) (anchor j ∷ []) []))
             (ap (chains_changed t.chains.items) (chain_is ∙ ap (raised_chain to a) c_is) ∙ chains_raised (setting o) (state t) t.chains.items v at _ a (tab_at v at) to allowed_to_raise anchor);
-        index = word_there o t v scene a within;
+        word = word_there o t v scene a within;
+        turn = tt;
         tabs = subst (λ (y : TabsChange). FitsTabs v y) (sym tabs_is) (tabs_fit (setting o) (state t) v at _ a (tab_at v at) to allowed_to_raise refl (slice_get_within v.tabs at x there));
         chain = subst (λ (y : ChainChange). FitsChain (length t.chains.items) y) (sym chain_is)
             (chain_fits (setting o) (state t) a (length t.chains.items) c (tab_at v at) to allowed_to_raise (let many = scene.sound.shaped.chains in omega arith));

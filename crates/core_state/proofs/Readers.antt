@@ -19,10 +19,12 @@ use Rattle.core_model.specs.declared.view.View.{View}
 use Rattle.core_model.specs.Tabs.{tab_at, is_counted, is_reading, holds_turn, anchor_of, counts}
 use Rattle.core_model.specs.TabsAfter.{left_tab, entered}
 use Rattle.core_state.specs.declared.change.ChainChange.TheVariants as chains
+use Rattle.core_state.specs.declared.change.NotesChange.TheVariants as notes
 use Rattle.core_state.specs.declared.change.TabsChange.TheVariants as tabs
 use Rattle.core_state.specs.declared.content.Content.{Content}
 use Rattle.core_state.specs.declared.table.Opening.{Opening}
 use Rattle.core_state.specs.declared.table.Table.{Table}
+use Rattle.core_state.specs.declared.turn_change.TurnChange.TheVariants as turns
 use Rattle.core_state.specs.Changed.{anchor_addition}
 use Rattle.core_state.specs.Planned.{IsScene, Plans}
 use Rattle.core_state.proofs.Anchored.{anchored}
@@ -49,12 +51,13 @@ module _ (o : Opening) (t : Table) (v : View Content) (scene : IsScene o t v) (a
         → base ≡ anchor_addition kind.Left a left left seen
         → Plans o t v (move.Leave at) record {
           answer = left;
-          index = a;
-          left = left;
+          word = Some record { index = a; left = left };
+          turn = turns.Same;
           tabs = tabs.Put at tab;
           chain = chains.Same;
           used = None;
-          addition = record { item = base.item; trace = base.trace; sight = base.sight; names = base.names; deed = base.deed; met = met; drawn = base.drawn };
+          addition = record { item = base.item; trace = base.trace; sight = base.sight; names = base.names; learned = base.learned; deed = base.deed; met = met; drawn = base.drawn };
+          notes = notes.Same;
         }
     leave_planned left own seen met tab base left_is own_is tab_is_ met_is seen_is base_is =
         let is = tab_is o t v scene at x there in
@@ -90,7 +93,8 @@ module _ (o : Opening) (t : Table) (v : View Content) (scene : IsScene o t v) (a
               (ap (λ (b : Addition). option_to_list b.deed) base_is)
               (met_is ∙ sym (λ j. cond (ltb (here j) (left_readers j)) (anchor j ∷ []) []))
               refl;
-          index = word_there o t v scene a (let lt = in_table o t v scene at x there (is_used x counted) in omega (arith, same, lt));
+          word = word_there o t v scene a (let lt = in_table o t v scene at x there (is_used x counted) in omega (arith, same, lt));
+          turn = tt;
           tabs = slice_get_within v.tabs at x there;
           chain = tt;
         }
@@ -113,8 +117,8 @@ module _ (o : Opening) (t : Table) (v : View Content) (scene : IsScene o t v) (a
         → base ≡ anchor_addition kind.Entered a found left seen
         → Plans o t v (move.Enter at a) record {
           answer = found;
-          index = a;
-          left = left;
+          word = Some record { index = a; left = left };
+          turn = turns.Same;
           tabs = tabs.Put at tab;
           chain = chains.Same;
           used = None;
@@ -123,10 +127,12 @@ module _ (o : Opening) (t : Table) (v : View Content) (scene : IsScene o t v) (a
             trace = base.trace;
             sight = base.sight;
             names = base.names;
+            learned = base.learned;
             deed = Some record { pass = v.pass; kind = kind.Entered; anchor = a; epoch = after; was_idle = false };
             met = met;
             drawn = base.drawn;
           };
+          notes = notes.Same;
         }
     enter_planned found left own seen after met tab base found_is left_is own_is tab_is_ met_is seen_is after_is base_is =
         let n : slice_index t.words.items a ≡ found = sym number ∙ sym found_is in
@@ -151,7 +157,8 @@ module _ (o : Opening) (t : Table) (v : View Content) (scene : IsScene o t v) (a
               (λ j. record { pass = v.pass; kind = kind.Entered; anchor = a; epoch = (after_is ∙ sym (ap epoch_of leaves_)) j; was_idle = false } ∷ [])
               (met_is ∙ (λ j. cond (ltb (own_is j) (sym readers j)) (a ∷ []) []))
               refl;
-          index = word_there o t v scene a within;
+          word = word_there o t v scene a within;
+          turn = tt;
           tabs = slice_get_within v.tabs at Free there;
           chain = tt;
         }
@@ -165,8 +172,8 @@ module _ (o : Opening) (t : Table) (v : View Content) (scene : IsScene o t v) (a
         → base ≡ anchor_addition kind.Doomed a left left seen
         → Plans o t v (move.Doom at) record {
           answer = left;
-          index = a;
-          left = left;
+          word = Some record { index = a; left = left };
+          turn = turns.Same;
           tabs = tabs.Same;
           chain = chains.Same;
           used = None;
@@ -175,10 +182,12 @@ module _ (o : Opening) (t : Table) (v : View Content) (scene : IsScene o t v) (a
             trace = base.trace;
             sight = base.sight;
             names = base.names;
+            learned = base.learned;
             deed = Some record { pass = v.pass; kind = kind.Doomed; anchor = a; epoch = seen; was_idle = false };
             met = met;
             drawn = base.drawn;
           };
+          notes = notes.Same;
         }
     doom_planned left own seen met base left_is own_is met_is seen_is base_is =
         let is = tab_is o t v scene at (Reading r) there in
@@ -208,7 +217,8 @@ module _ (o : Opening) (t : Table) (v : View Content) (scene : IsScene o t v) (a
               (sym (λ j. record { pass = v.pass; kind = kind.Doomed; anchor = anchor j; epoch = (ap epoch_of leaves_ ∙ sym seen_is) j; was_idle = false } ∷ []))
               (met_is ∙ sym (λ j. cond (ltb ((ap (λ b. sum_by (counts b) v.tabs) anchor ∙ sym own_is) j) ((ap readers_of leaves_ ∙ readers) j)) (anchor j ∷ []) []))
               refl;
-          index = word_there o t v scene a within;
+          word = word_there o t v scene a within;
+          turn = tt;
           tabs = tt;
           chain = tt;
         }

@@ -20,11 +20,13 @@ use Rattle.core_model.specs.Records.{loads}
 use Rattle.core_model.specs.Tabs.{OfWriter, tab_at, inner, anchor_of, is_free, is_reading, is_using}
 use Rattle.core_model.specs.TabsAfter.{loaded, stores}
 use Rattle.core_state.specs.declared.change.ChainChange.TheVariants as chains
+use Rattle.core_state.specs.declared.change.NotesChange.TheVariants as notes
 use Rattle.core_state.specs.declared.change.TabsChange.TheVariants as tabs
 use Rattle.core_state.specs.declared.tab_change.TabChange.TheVariants.{Learns, Stores}
 use Rattle.core_state.specs.declared.content.Content.{Content}
 use Rattle.core_state.specs.declared.table.Opening.{Opening}
 use Rattle.core_state.specs.declared.table.Table.{Table}
+use Rattle.core_state.specs.declared.turn_change.TurnChange.TheVariants as turns
 use Rattle.core_state.specs.Inside.{setting}
 use Rattle.core_state.specs.Changed.{word_addition}
 use Rattle.core_state.specs.Planned.{IsScene, Plans}
@@ -81,12 +83,13 @@ module _ (o : Opening) (t : Table) (v : View Content) (scene : IsScene o t v) (a
       → (base : Addition) → base ≡ word_addition kind.Loaded (Beside side a) n found found sight
       → Plans o t v (move.LoadSide at side) record {
         answer = found;
-        index = word;
-        left = found;
+        word = Some record { index = word; left = found };
+        turn = turns.Same;
         tabs = tabs.Becomes at (Learns slot);
         chain = chains.Same;
         used = None;
         addition = base;
+        notes = notes.Same;
       }
   load_planned x there uses side a word n found slot sight a_is word_is n_is found_is learns sees base base_is =
       let is = tab_is o t v scene at x there in
@@ -110,7 +113,8 @@ module _ (o : Opening) (t : Table) (v : View Content) (scene : IsScene o t v) (a
               chains = refl;
             }
             (ap (λ (y : Tab Content). set v.tabs at y) (ap (λ (y : Tab Content). changed_tab y (Learns slot)) is ∙ learns ∙ sym (λ j. loaded (is j) side (finds j))));
-        index = side_of_tab x there uses side a word a_is word_is;
+        word = side_of_tab x there uses side a word a_is word_is;
+        turn = tt;
         tabs = slice_get_within v.tabs at x there;
         chain = tt;
       }
@@ -120,12 +124,13 @@ module _ (o : Opening) (t : Table) (v : View Content) (scene : IsScene o t v) (a
       → (base : Addition) → base ≡ word_addition kind.Stored (Beside side w.anchor) n 0 value None
       → Plans o t v (move.StoreSide at side value) record {
         answer = 0;
-        index = word;
-        left = value;
+        word = Some record { index = word; left = value };
+        turn = turns.Same;
         tabs = tabs.Becomes at (Stores side value);
         chain = chains.Same;
         used = None;
         addition = base;
+        notes = notes.Same;
       }
   store_planned w there below free taken side value may word n word_is n_is base base_is =
       let is = tab_is o t v scene at (Writing w) there in
@@ -146,7 +151,8 @@ module _ (o : Opening) (t : Table) (v : View Content) (scene : IsScene o t v) (a
               chains = refl;
             }
             (ap (λ (y : Tab Content). set v.tabs at y) (stores_so (tab_at v at) side value));
-        index = let lt = side_there o t v scene side w.anchor (in_table o t v scene at (Writing w) there refl) in omega (arith, lt, word_is);
+        word = let lt = side_there o t v scene side w.anchor (in_table o t v scene at (Writing w) there refl) in omega (arith, lt, word_is);
+        turn = tt;
         tabs = slice_get_within v.tabs at (Writing w) there;
         chain = tt;
       }

@@ -59,7 +59,7 @@ once (x ∷ xs) h = (others xs (let here = h x in let same = one_same x in omega
       others ys (omega (arith, none)),
     )
 
-few : (xs : List ℕ) (many : ℕ) → ((j : ℕ) → times j xs ≤ 1) → ((j : ℕ) → 0 < times j xs → j < many) → length xs ≤ many
+pub few : (xs : List ℕ) (many : ℕ) → ((j : ℕ) → times j xs ≤ 1) → ((j : ℕ) → 0 < times j xs → j < many) → length xs ≤ many
 few xs many h within = length-le_from_distinct_below xs many (once xs h) (λ j there. within j (some_times j xs there))
 
 fewer_times : (j p : ℕ) (xs : List ℕ) → times j (drop p xs) ≤ times j xs
@@ -164,9 +164,11 @@ module _ (o : Opening) (t : Table) (v : View Content) (scene : IsScene o t v) wh
         (λ j h. published_slot j r.anchor (let le = fewer_times j (r.place + 1) (chain r.anchor).slots in omega (arith, le, h))) end_slot in
         let is = says.1 in omega (arith, small, is)
 
+    -- the place of a published slot is below the number of slots
+    pub place_few : r.place < length (chain r.anchor).slots → r.place < o.slots
+    place_few inside = let many = few (chain r.anchor).slots o.slots (λ j. published_once j r.anchor) (λ j h. published_slot j r.anchor h) in omega (arith, many, inside)
+
     -- and is that of a published slot where it is written
     pub place_below : (n : ℕ) → Says n → n ≢ 0 → r.place < o.slots
     place_below n (inr none) some_ = absurd (some_ none)
-    place_below n (inl says) some_ =
-        let many = few (chain r.anchor).slots o.slots (λ j. published_once j r.anchor) (λ j h. published_slot j r.anchor h) in
-        let inside = says.0 in omega (arith, many, inside)
+    place_below n (inl says) some_ = place_few says.0

@@ -22,10 +22,12 @@ use Rattle.core_model.specs.TabsAfter.{freer_of, writer_of, taken_tabs, evicted_
 use Rattle.core_model.specs.Trails.{last_find}
 use Rattle.core_model.specs.Where.{evicted}
 use Rattle.core_state.specs.declared.change.ChainChange.TheVariants as chains
+use Rattle.core_state.specs.declared.change.NotesChange.TheVariants as notes
 use Rattle.core_state.specs.declared.change.TabsChange.{TabsChange}
 use Rattle.core_state.specs.declared.content.Content.{Content}
 use Rattle.core_state.specs.declared.table.Opening.{Opening}
 use Rattle.core_state.specs.declared.table.Table.{Table}
+use Rattle.core_state.specs.declared.turn_change.TurnChange.TheVariants as turns
 use Rattle.core_state.specs.Changed.{anchor_addition, tabs_changed, FitsTabs}
 use Rattle.core_state.specs.Inside.{setting, state}
 use Rattle.core_state.specs.Planned.{IsScene, Plans}
@@ -72,8 +74,8 @@ module _ (o : Opening) (t : Table) (v : View Content) (scene : IsScene o t v) (a
         → base ≡ anchor_addition kind.Changed a found left seen
         → Plans o t v (move.Take at a version) record {
           answer = found;
-          index = a;
-          left = left;
+          word = Some record { index = a; left = left };
+          turn = turns.Same;
           tabs = change;
           chain = chains.Put a e;
           used = Some version;
@@ -82,10 +84,12 @@ module _ (o : Opening) (t : Table) (v : View Content) (scene : IsScene o t v) (a
             trace = base.trace;
             sight = base.sight;
             names = base.names;
+            learned = base.learned;
             deed = Some record { pass = v.pass; kind = kind.Changed; anchor = a; epoch = seen; was_idle = idle };
             met = met;
             drawn = base.drawn;
           };
+          notes = notes.Same;
         }
     take_won left own seen met idle change c e base eq left_is own_is met_is seen_is idle_is c_is change_is e_is base_is =
         let yes = won eq in
@@ -114,7 +118,8 @@ module _ (o : Opening) (t : Table) (v : View Content) (scene : IsScene o t v) (a
               ∙ sym (ap (λ b. cond b (record { pass = v.pass; kind = kind.Changed; anchor = a; epoch = epoch_of (word_at version 1); was_idle = is_idle (slice_index t.words.items a) } ∷ []) []) yes))
               (met_is ∙ (λ j. cond (ltb (own_is j) (sym readers j)) (a ∷ []) []))
               (ap (λ (d : Chain). set t.chains.items a d) e_is ∙ sym (ap (λ b. cond b (set t.chains.items a no_chain) t.chains.items) yes));
-          index = word_there o t v scene a within;
+          word = word_there o t v scene a within;
+          turn = tt;
           tabs = subst (λ (y : TabsChange). FitsTabs v y) (sym change_is) (tabs_taken_fit v at a version c idle (let nine = nine in omega arith) (let nine = nine in omega arith));
           chain = let many = scene.sound.shaped.chains in omega arith;
         }
@@ -144,8 +149,8 @@ module _ (o : Opening) (t : Table) (v : View Content) (scene : IsScene o t v) (a
         → base ≡ anchor_addition kind.Changed a found left seen
         → Plans o t v (move.Evict at a) record {
           answer = found;
-          index = a;
-          left = left;
+          word = Some record { index = a; left = left };
+          turn = turns.Same;
           tabs = change;
           chain = chains.Put a e;
           used = None;
@@ -154,10 +159,12 @@ module _ (o : Opening) (t : Table) (v : View Content) (scene : IsScene o t v) (a
             trace = base.trace;
             sight = base.sight;
             names = base.names;
+            learned = base.learned;
             deed = Some record { pass = v.pass; kind = kind.Changed; anchor = a; epoch = seen; was_idle = idle };
             met = met;
             drawn = base.drawn;
           };
+          notes = notes.Same;
         }
     evict_won left own seen met idle change c e base eq left_is own_is met_is seen_is idle_is c_is change_is e_is base_is =
         let yes = won eq in
@@ -192,7 +199,8 @@ module _ (o : Opening) (t : Table) (v : View Content) (scene : IsScene o t v) (a
               ∙ sym (ap (λ b. cond b (record { pass = v.pass; kind = kind.Changed; anchor = a; epoch = epoch_of (evicted (slice_index t.words.items a)); was_idle = is_idle (slice_index t.words.items a) } ∷ []) []) yes))
               (met_is ∙ (λ j. cond (ltb (own_is j) (sym readers j)) (a ∷ []) []))
               (ap (λ (d : Chain). set t.chains.items a d) e_is ∙ sym (ap (λ b. cond b (set t.chains.items a no_chain) t.chains.items) yes));
-          index = word_there o t v scene a within;
+          word = word_there o t v scene a within;
+          turn = tt;
           tabs = subst (λ (y : TabsChange). FitsTabs v y) (sym change_is) (let nine = nine in let le = within_tabs in ((omega arith), (omega arith)));
           chain = let many = scene.sound.shaped.chains in omega arith;
         }

@@ -6,6 +6,7 @@ use lib.ListN.{get_elem?}
 use Rattle.lock_word.specs.declared.stage.Stage.TheVariants.{Appending}
 use Rattle.core_model.specs.declared.adding.Addition.{Addition}
 use Rattle.core_model.specs.declared.chain.Chain.{Chain}
+use Rattle.core_model.specs.declared.tab.Cell.{Cell}
 use Rattle.core_model.specs.declared.tab.Tab.{Tab}
 use Rattle.core_model.specs.declared.view.Kind.{Kind}
 use Rattle.core_model.specs.declared.view.Place.{Place}
@@ -24,15 +25,20 @@ use Rattle.core_state.specs.declared.change.TabsChange.TheVariants as tabs
 use Rattle.core_state.specs.declared.change.ChainChange.{ChainChange}
 use Rattle.core_state.specs.declared.change.ChainChange.TheVariants as chains
 use Rattle.core_state.specs.declared.change.Change.{Change}
+use Rattle.core_state.specs.declared.change.WordChange.{WordChange}
+use Rattle.core_state.specs.declared.turn_change.TurnChange.{TurnChange}
+use Rattle.core_state.specs.Notes.{notes_changed}
 use Rattle.core_state.specs.Tabs.{changed_tab}
+use Rattle.core_state.specs.Turns.{turned, places_changed, FitsTurn}
 
 -- what a step on an anchor's word adds, that tells and leaves these numbers and sees this epoch
 abbrev pub anchor_addition : Kind → ℕ → ℕ → ℕ → ℕ → Addition
 anchor_addition kind anchor told left seen = record {
   item = record { kind = kind; at = anchor; found = told };
-  trace = record { place = Anchor anchor; word = left };
+  trace = Some record { place = Anchor anchor; word = left };
   sight = Some (Stood anchor seen);
   names = None;
+  learned = None;
   deed = None;
   met = None;
   drawn = None;
@@ -42,9 +48,10 @@ anchor_addition kind anchor told left seen = record {
 abbrev pub counter_addition : Kind → ℕ → ℕ → Addition
 counter_addition kind found left = record {
   item = record { kind = kind; at = 0; found = found };
-  trace = record { place = Counter; word = left };
+  trace = Some record { place = Counter; word = left };
   sight = None;
   names = None;
+  learned = None;
   deed = None;
   met = None;
   drawn = None;
@@ -54,13 +61,36 @@ counter_addition kind found left = record {
 abbrev pub word_addition : Kind → Place → (at told left : ℕ) → Option Sight → Addition
 word_addition kind place at told left sight = record {
   item = record { kind = kind; at = at; found = told };
-  trace = record { place = place; word = left };
+  trace = Some record { place = place; word = left };
   sight = sight;
   names = None;
+  learned = None;
   deed = None;
   met = None;
   drawn = None;
 }
+
+-- what one on no word adds, at this slot or note
+abbrev pub bare_addition : Kind → (at told : ℕ) → Addition
+bare_addition kind at told = record {
+  item = record { kind = kind; at = at; found = told };
+  trace = None;
+  sight = None;
+  names = None;
+  learned = None;
+  deed = None;
+  met = None;
+  drawn = None;
+}
+
+-- a list of words
+abbrev pub words_changed : List ℕ → Option WordChange → List ℕ
+words_changed words None = words
+words_changed words (Some w) = slice_set words w.index w.left
+
+-- a view, where its tabs have changed so in their turns
+abbrev pub turned_view : View Content → List (Option (Cell Content)) → TurnChange → View Content
+turned_view v places turn = record v { tabs = turned v.tabs places turn }
 
 abbrev pub tabs_changed : View Content → TabsChange → List (Tab Content)
 tabs_changed v tabs.Same = v.tabs
@@ -74,9 +104,9 @@ abbrev pub without_used : Option ℕ → List ℕ → List ℕ
 without_used None held = held
 without_used (Some version) held = without version held
 
-abbrev pub view_changed : View Content → Addition → Option ℕ → TabsChange → View Content
-view_changed v a used change = record (added v a) {
-  tabs = tabs_changed v change;
+abbrev pub view_changed : View Content → List (Option (Cell Content)) → Addition → Option ℕ → TurnChange → TabsChange → View Content
+view_changed v places a used turn change = record (added v a) {
+  tabs = tabs_changed (turned_view v places turn) change;
   held = without_used used (option_to_list a.drawn ++ v.held);
 }
 
@@ -88,9 +118,9 @@ chains_changed cs (chains.Ended a tail) = slice_set cs a record (slice_index_or 
 -- the state where the pass i, whose view is v, made this change
 abbrev pub changed : State Content → ℕ → View Content → Change → State Content
 changed s i v c = record {
-  words = slice_set s.words c.index c.left;
-  places = s.places;
-  views = slice_set s.views i (view_changed v c.addition c.used c.tabs);
+  words = words_changed s.words c.word;
+  places = places_changed v.tabs s.places c.turn;
+  views = notes_changed (slice_set s.views i (view_changed v s.places c.addition c.used c.turn c.tabs)) c.notes;
   chains = chains_changed s.chains c.chain;
 }
 
@@ -109,9 +139,14 @@ FitsChain many chains.Same = Unit {0}
 FitsChain many (chains.Put a c) = a < many
 FitsChain many (chains.Ended a tail) = a < many
 
+abbrev pub FitsWord : ℕ → Option WordChange → Type 0
+FitsWord many None = Unit {0}
+FitsWord many (Some w) = w.index < many
+
 pub record Fits (s : State Content) (i : ℕ) (c : Change) : Type 0 where
   pub view : View Content
   pub at : get_elem? s.views i ≡ some view
-  pub index : c.index < length s.words
-  pub tabs : FitsTabs view c.tabs
+  pub word : FitsWord (length s.words) c.word
+  pub turn : FitsTurn (length view.tabs) (length s.places) c.turn
+  pub tabs : FitsTabs (turned_view view s.places c.turn) c.tabs
   pub chain : FitsChain (length s.chains) c.chain

@@ -12,3 +12,7 @@ pub mod Kept
 pub mod Tabs
 pub mod Loosening
 pub mod Publishing
+pub mod Turns
+pub mod Trying
+pub mod Cells
+pub mod Notes

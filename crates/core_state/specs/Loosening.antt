@@ -1,5 +1,5 @@
 -- What the first slot of a rest changes as it leaves its chain.
-use Rattle.std.specs.Prelude.{ℕ, ◌++◌, [], ◌∷◌, None, slice_index}
+use Rattle.std.specs.Prelude.{ℕ, ◌++◌, [], ◌∷◌, Some, None, slice_index}
 use Rattle.core_model.specs.declared.tab.Freer.{Freer}
 use Rattle.core_model.specs.declared.tab.Writer.{Writer}
 use Rattle.core_model.specs.declared.view.Kind.TheVariants.{Linked}
@@ -9,12 +9,14 @@ use Rattle.core_model.specs.Layout.{index}
 use Rattle.core_model.specs.Tabs.{inner}
 use Rattle.core_state.specs.declared.change.ChainChange.TheVariants as chains
 use Rattle.core_state.specs.declared.change.Change.{Change}
+use Rattle.core_state.specs.declared.change.NotesChange.TheVariants as notes
 use Rattle.core_state.specs.declared.change.TabsChange.{TabsChange}
 use Rattle.core_state.specs.declared.change.TabsChange.TheVariants as tabs
 use Rattle.core_state.specs.declared.content.Content.{Content}
 use Rattle.core_state.specs.declared.tab_change.TabChange.TheVariants.{Reserves, Loosens}
 use Rattle.core_state.specs.declared.table.Opening.{Opening}
 use Rattle.core_state.specs.declared.table.Table.{Table}
+use Rattle.core_state.specs.declared.turn_change.TurnChange.TheVariants as turns
 use Rattle.core_state.specs.Changed.{word_addition}
 use Rattle.core_state.specs.Inside.{setting}
 
@@ -34,10 +36,11 @@ link_found o t slot = slice_index t.words.items (index (setting o) (Link slot))
 abbrev pub unlinked_change : Opening → Table → ℕ → TabsChange → Change
 unlinked_change o t slot change = record {
   answer = link_found o t slot;
-  index = index (setting o) (Link slot);
-  left = 0;
+  word = Some record { index = index (setting o) (Link slot); left = 0 };
+  turn = turns.Same;
   tabs = change;
   chain = chains.Same;
   used = None;
   addition = word_addition Linked (Link slot) slot (link_found o t slot) 0 None;
+  notes = notes.Same;
 }

@@ -12,12 +12,14 @@ use Rattle.core_model.specs.Chains.{rest_of}
 use Rattle.core_model.specs.Layout.{index}
 use Rattle.core_state.specs.declared.change.ChainChange.TheVariants as chains
 use Rattle.core_state.specs.declared.change.Change.{Change}
+use Rattle.core_state.specs.declared.change.NotesChange.TheVariants as notes
 use Rattle.core_state.specs.declared.change.TabsChange.{TabsChange}
 use Rattle.core_state.specs.declared.change.TabsChange.TheVariants as tabs
 use Rattle.core_state.specs.declared.content.Content.{Content}
 use Rattle.core_state.specs.declared.tab_change.TabChange.TheVariants.{Publishes}
 use Rattle.core_state.specs.declared.table.Opening.{Opening}
 use Rattle.core_state.specs.declared.table.Table.{Table}
+use Rattle.core_state.specs.declared.turn_change.TurnChange.TheVariants as turns
 use Rattle.core_state.specs.Inside.{setting}
 use Rattle.core_state.specs.Loosening.{link_found}
 
@@ -29,7 +31,7 @@ published_tab t w slot link = tabs.Becomes t (Publishes (rest_of w.reserved) (w.
 abbrev pub published_addition : Writer Content → ℕ → Link → ℕ → Addition
 published_addition w slot link told = record {
   item = record { kind = Linked; at = slot; found = told };
-  trace = record { place = LinkWord slot; word = link_number link };
+  trace = Some record { place = LinkWord slot; word = link_number link };
   sight = Some (Published w.anchor w.version (length w.published + 1));
   names = Some record {
     anchor = w.anchor;
@@ -38,6 +40,7 @@ published_addition w slot link told = record {
     key1 = unwrap_or w.key1 0;
     offer = unwrap_or w.offer 0;
   };
+  learned = None;
   deed = None;
   met = None;
   drawn = None;
@@ -47,10 +50,11 @@ published_addition w slot link told = record {
 abbrev pub published_change : Opening → Table → Writer Content → ℕ → Link → TabsChange → Chain → Change
 published_change o t w slot link change chain = record {
   answer = link_found o t slot;
-  index = index (setting o) (LinkWord slot);
-  left = link_number link;
+  word = Some record { index = index (setting o) (LinkWord slot); left = link_number link };
+  turn = turns.Same;
   tabs = change;
   chain = chains.Put w.anchor chain;
   used = None;
   addition = published_addition w slot link (link_found o t slot);
+  notes = notes.Same;
 }

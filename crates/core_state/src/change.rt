@@ -1,5 +1,5 @@
 // A step as it is worked out, and how it is made.
-ghost use Rattle.std.specs.Prelude.{◌≡◌, ◌<◌, length, slice_set, slice_index_or, OnOk, OnErr, Some, None};
+ghost use Rattle.std.specs.Prelude.{◌≡◌, ◌<◌, length, slice_set, slice_index_or, vec_len, vec_capacity, OnOk, OnErr};
 ghost use Rattle.core_model.specs.declared.tab.Tab.TheVariants.{Free};
 ghost use Rattle.core_state.specs.Tabs.{changed_tab};
 ghost use lib.ListN.{get_elem?};
@@ -7,13 +7,23 @@ ghost use mathlib.Core.Option.{some};
 ghost use Rattle.core_model.specs.declared.view.View.{View as ViewOf};
 ghost use Rattle.core_state.specs.declared.content.Content.{Content as ContentOf};
 ghost use Rattle.core_state.specs.Inside.{state};
-ghost use Rattle.core_state.specs.Changed.{anchor_addition, counter_addition, word_addition, changed, view_changed, tabs_changed, without_used, chains_changed, Fits, FitsTabs, FitsChain};
+ghost use Rattle.core_state.specs.Changed.{anchor_addition, counter_addition, word_addition, bare_addition, changed, words_changed, view_changed, turned_view, tabs_changed, without_used, chains_changed, Fits, FitsWord, FitsTabs, FitsChain};
+ghost use Rattle.core_state.specs.Notes.{notes_changed};
+ghost use Rattle.core_state.specs.Turns.{places_changed, FitsTurn};
 
 use crate::content::Content;
 use crate::tab_change::{TabChange, changed_tab};
 use crate::table::Table;
-use core_model::{Addition, Chain, Item, Kind, Place, Row, Sight, Tab, Trace, View};
+use crate::turn_change::{TurnChange, change_turn};
+use core_model::{Addition, Cell, Chain, Item, Kind, Place, Row, Sight, Tab, Trace, View};
 use std::alloc::AllocError;
+
+/// What becomes of a word.
+#[derive(Clone, Copy, Debug, PartialEq, Eq)]
+pub(crate) struct WordChange {
+    pub index: usize,
+    pub left: u64,
+}
 
 /// What becomes of the tabs of the pass.
 #[derive(Drop)]
@@ -41,19 +51,29 @@ pub(crate) enum ChainChange {
     Ended(u32, Row<u32>),
 }
 
+/// What becomes of notes.
+#[derive(Drop)]
+pub(crate) enum NotesChange {
+    Same,
+    /// The view of this number becomes this one. Where there is none it is put behind the others.
+    Put(usize, View<Content>),
+}
+
 /// All that a step does.
 #[derive(Drop)]
 pub(crate) struct Change {
     /// What the step answers.
     pub answer: u64,
-    /// The word that it is on, and what it leaves of it.
-    pub index: usize,
-    pub left: u64,
+    /// The word that it is on, if it is on one.
+    pub word: Option<WordChange>,
+    pub turn: TurnChange,
+    /// What becomes of the tabs then.
     pub tabs: TabsChange,
     pub chain: ChainChange,
     /// A version that the pass holds no longer.
     pub used: Option<u32>,
     pub addition: Addition,
+    pub notes: NotesChange,
 }
 
 /// What a step on an anchor's word adds to the records of its pass, where it tells and leaves these
@@ -67,15 +87,16 @@ pub(crate) fn anchor_addition(kind: Kind, anchor: u32, told: u64, left: u64, see
             at: anchor,
             found: told,
         },
-        trace: Trace {
+        trace: Some(Trace {
             place: Place::Anchor(anchor),
             word: left,
-        },
+        }),
         sight: Some(Sight::Stood {
             anchor,
             epoch: seen,
         }),
         names: None,
+        learned: None,
         deed: None,
         met: None,
         drawn: None,
@@ -88,12 +109,13 @@ pub(crate) fn counter_addition(kind: Kind, found: u64, left: u64) -> Addition
 {
     Addition {
         item: Item { kind, at: 0, found },
-        trace: Trace {
+        trace: Some(Trace {
             place: Place::Counter,
             word: left,
-        },
+        }),
         sight: None,
         names: None,
+        learned: None,
         deed: None,
         met: None,
         drawn: None,
@@ -118,12 +140,42 @@ pub(crate) fn word_addition(
             at,
             found: told,
         },
-        trace: Trace { place, word: left },
+        trace: Some(Trace { place, word: left }),
         sight,
         names: None,
+        learned: None,
         deed: None,
         met: None,
         drawn: None,
+    }
+}
+
+/// What a step on no word adds to them, where it tells this number. `at` is a slot or a note.
+pub(crate) fn bare_addition(kind: Kind, at: u32, told: u64) -> Addition
+    ensures { result ≡ bare_addition kind at told }
+{
+    Addition {
+        item: Item {
+            kind,
+            at,
+            found: told,
+        },
+        trace: None,
+        sight: None,
+        names: None,
+        learned: None,
+        deed: None,
+        met: None,
+        drawn: None,
+    }
+}
+
+fn change_word(words: &mut [u64], change: Option<WordChange>)
+    requires { FitsWord (length words.old) change }
+    ensures { words.new ≡ words_changed words.old change }
+{
+    if let Some(WordChange { index, left }) = change {
+        words[index] = left;
     }
 }
 
@@ -181,19 +233,41 @@ fn change_chain(chains: &mut [Chain], change: ChainChange)
     }
 }
 
-/// Makes a change to the view of the pass, all of it or nothing.
+/// Changes notes. There is room for one more view.
+fn change_notes(views: &mut Vec<View<Content>>, change: NotesChange)
+    requires { vec_len views.old < vec_capacity views.old }
+    ensures { views.new.items ≡ notes_changed views.old.items change }
+{
+    let NotesChange::Put(at, note) = change else {
+        return;
+    };
+    if at < views.len() {
+        views[at] = note;
+        return;
+    }
+    let Ok(()) = views.push(note) else {
+        unreachable!()
+    };
+}
+
+/// Makes a change to the view of the pass and to the cells at home, all of it or nothing.
 fn change_view(
     view: &mut View<Content>,
+    places: &mut [Option<Cell<Content>>],
     addition: Addition,
     used: Option<u32>,
+    turn: TurnChange,
     tabs: TabsChange,
 ) -> Result<(), AllocError>
-    requires { FitsTabs view.old tabs }
-    ensures ok { OnOk result (view.new ≡ view_changed view.old addition used tabs) }
-    ensures err { OnErr result (view.new ≡ view.old) }
+    requires turn { FitsTurn (length view.old.tabs) (length places.old) turn }
+    requires tabs { FitsTabs (turned_view view.old places.old turn) tabs }
+    ensures view { OnOk result (view.new ≡ view_changed view.old places.old addition used turn tabs) }
+    ensures places { OnOk result (places.new ≡ places_changed view.old.tabs places.old turn) }
+    ensures err { OnErr result ((view.new ≡ view.old) × (places.new ≡ places.old)) }
 {
     view.add(addition)?;
     use_version(view, used);
+    change_turn(&mut view.tabs, places, turn);
     change_tabs(view, tabs);
     Ok(())
 }
@@ -206,10 +280,18 @@ impl Table {
             → state self.new ≡ changed (state self.old) pass view change) }
         ensures err { OnErr result (state self.new ≡ state self.old) }
     {
-        let view = &mut self.views[pass];
-        change_view(view, change.addition, change.used, change.tabs)?;
-        self.words[change.index] = change.left;
+        self.views.reserve(1)?;
+        change_view(
+            &mut self.views[pass],
+            &mut self.places,
+            change.addition,
+            change.used,
+            change.turn,
+            change.tabs,
+        )?;
+        change_word(&mut self.words, change.word);
         change_chain(&mut self.chains, change.chain);
+        change_notes(&mut self.views, change.notes);
         Ok(())
     }
 }

@@ -19,6 +19,7 @@ mod step;
 mod tab_change;
 mod table;
 mod tabs;
+mod turn_change;
 
 pub use act::{Act, Picks, Step, StepFault};
 pub use content::Content;

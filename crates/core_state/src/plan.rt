@@ -1,17 +1,21 @@
 // Steps are worked out: whether they are allowed, and all that they do. Nothing is changed yet.
 ghost use Rattle.std.specs.Prelude.{◌≡◌, IfOk, IsErrOf};
-ghost use Rattle.core_model.specs.Allowed.{IsReady, Allowed};
+ghost use Rattle.core_model.specs.Allowed.{Allowed};
+ghost use Rattle.core_model.specs.Cells.{CellsSound};
 ghost use Rattle.core_state.specs.Inside.{setting, state};
 ghost use Rattle.core_state.specs.Planned.{IsScene, Plans};
 
+mod cells;
 mod counter;
 mod links;
 mod loosening;
+mod notes;
 mod publishing;
 mod readers;
 mod sides;
 mod slots;
 mod takers;
+mod turns;
 mod writers;
 
 use crate::change::Change;
@@ -29,11 +33,11 @@ pub(crate) fn plan(
     view: &View<Content>,
     step: Move,
 ) -> Result<Change, Refusal>
-    requires { IsScene opening.now table.now view.now }
-    ensures ready { IfOk result (λ _. IsReady step) }
+    requires scene { IsScene opening.now table.now view.now }
+    requires cells { CellsSound (setting opening.now) (state table.now) }
     ensures planned { IfOk result (λ change. Plans opening.now table.now view.now step change) }
     ensures refused { IsErrOf result Refusal.NotAllowed
-        → IsReady step → Allowed (setting opening.now) (state table.now) view.now step → ⊥ }
+        → Allowed (setting opening.now) (state table.now) view.now step → ⊥ }
 {
     match step {
         Move::Look { anchor } => readers::look(opening, table, view, anchor),
@@ -60,6 +64,19 @@ pub(crate) fn plan(
         }
         Move::Loosen { tab, slot } => loosening::loosen(alloc, opening, table, view, tab, slot),
         Move::GetLink { tab, slot } => links::get_link(opening, table, view, tab, slot),
-        _ => Err(Refusal::NotAllowed),
+        Move::TryTurn { tab, slot } => turns::try_turn(opening, table, view, tab, slot),
+        Move::EndTurn { tab, slot, goes_on } => {
+            turns::end_turn(opening, table, view, tab, slot, goes_on)
+        }
+        Move::CellOut { tab, slot } => cells::cell_out(opening, table, view, tab, slot),
+        Move::CellIn { tab, slot } => cells::cell_in(opening, table, view, tab, slot),
+        Move::Note => notes::note(alloc, opening, table, view),
+        Move::Learn { note } => notes::learn(alloc, opening, table, view, note),
+        Move::Write { tab, slot, outcome } => {
+            cells::write(alloc, opening, table, view, tab, slot, outcome)
+        }
+        Move::Sync { tab, slot, is_kept } => {
+            cells::sync(alloc, opening, table, view, tab, slot, is_kept)
+        }
     }
 }

@@ -1,10 +1,10 @@
 // What a step makes of a tab, where most of the tab stays as it is.
 ghost use Rattle.std.specs.Prelude.{◌≡◌};
-ghost use Rattle.core_model.specs.TabsAfter.{stored, settled, without};
+ghost use Rattle.core_model.specs.TabsAfter.{stored, settled, without, moved, rewritten};
 ghost use Rattle.core_state.specs.Tabs.{changed_tab};
 
 use crate::content::Content;
-use core_model::{Freer, Reader, Row, Side, Tab, Writer};
+use core_model::{Cell, Freer, Hold, Piece, Reader, Row, Side, Tab, Turn, Writer};
 use link_word::Link;
 
 /// A change of a tab, for which all memory was taken. A tab that it is not for stays as it is.
@@ -26,6 +26,17 @@ pub(crate) enum TabChange {
     Loosens(Row<u32>, Row<u32>),
     /// A writing tab published a slot with this link: these are reserved still, and these published.
     Publishes(Row<u32>, Row<u32>, Link),
+    /// A writing tab has chosen this piece, which is in its cell or not.
+    Chooses(Piece, bool),
+    /// A reading tab goes on to this place, and knows this slot there.
+    GoesOn(u32, Option<u32>),
+    /// A writing tab left its piece in the cell, or did not.
+    Leaves(bool),
+    /// A tab that has a turn took the cell out of its place, or put it back.
+    Moves(bool),
+    /// A writing tab has this cell in place of the one that it had, if there is one here, and its piece is
+    /// in it where a write left it there.
+    Rewrites(Option<Cell<Content>>, bool),
 }
 
 fn stored(writer: Writer<Content>, side: Side, value: u64) -> Writer<Content>
@@ -69,6 +80,29 @@ fn without(mut slots: Row<u32>, slot: u32) -> Row<u32>
     slots
 }
 
+fn moved(turn: Turn<Content>, is_out: bool) -> Turn<Content>
+    ensures { result ≡ moved turn is_out }
+{
+    match turn {
+        Turn::NoTurn => Turn::NoTurn,
+        Turn::Has(hold) => Turn::Has(Hold { is_out, ..hold }),
+    }
+}
+
+fn rewritten(turn: Turn<Content>, is_kept: bool, cell: Option<Cell<Content>>) -> Turn<Content>
+    ensures { result ≡ rewritten turn is_kept cell }
+{
+    match turn {
+        Turn::NoTurn => Turn::NoTurn,
+        Turn::Has(hold) => Turn::Has(Hold {
+            slot: hold.slot,
+            cell: cell.unwrap_or(hold.cell),
+            is_out: hold.is_out,
+            is_written: hold.is_written || is_kept,
+        }),
+    }
+}
+
 /// The tab after the change.
 pub(crate) fn changed_tab(tab: Tab<Content>, change: TabChange) -> Tab<Content>
     ensures { result ≡ changed_tab tab change }
@@ -99,6 +133,33 @@ pub(crate) fn changed_tab(tab: Tab<Content>, change: TabChange) -> Tab<Content>
                 ..writer
             })
         }
+        (Tab::Writing(writer), TabChange::Chooses(piece, is_written)) => Tab::Writing(Writer {
+            chosen: Some(piece),
+            is_written,
+            ..writer
+        }),
+        (Tab::Reading(reader), TabChange::GoesOn(place, slot)) => Tab::Reading(Reader {
+            place,
+            slot,
+            found: Link::NotWritten,
+            ..reader
+        }),
+        (Tab::Writing(writer), TabChange::Leaves(is_written)) => Tab::Writing(Writer {
+            is_written,
+            ..writer
+        }),
+        (Tab::Reading(reader), TabChange::Moves(is_out)) => Tab::Reading(Reader {
+            turn: moved(reader.turn, is_out),
+            ..reader
+        }),
+        (Tab::Writing(writer), TabChange::Moves(is_out)) => Tab::Writing(Writer {
+            turn: moved(writer.turn, is_out),
+            ..writer
+        }),
+        (Tab::Writing(writer), TabChange::Rewrites(cell, is_kept)) => Tab::Writing(Writer {
+            turn: rewritten(writer.turn, is_kept, cell),
+            ..writer
+        }),
         (Tab::Freeing(freer), TabChange::GivesBack(slot)) => settled(Freer {
             loose: without(freer.loose, slot),
             ..freer

@@ -1,5 +1,5 @@
 // What a core is made of.
-ghost use Rattle.std.specs.Prelude.{◌≡◌, ◌<◌, ◌≤◌, length, slice_index, slice_get, MatchOption, Some};
+ghost use Rattle.std.specs.Prelude.{◌≡◌, ◌<◌, ◌≤◌, length, drop, slice_index, slice_get, MatchOption, Some};
 ghost use Rattle.lock_word.specs.Words.{IsInRange, word_number};
 ghost use Rattle.core_model.specs.Anchors.{Shaped};
 ghost use Rattle.core_model.specs.Layout.{index};
@@ -77,12 +77,23 @@ impl Table {
     }
 
     /// The view of this number, if there is one.
-    fn view(&self, number: u32) -> Option<&View<Content>>
+    pub fn view(&self, number: usize) -> Option<&View<Content>>
         ensures { MatchOption result
             (length self.now.views.items ≤ number)
             (λ view. slice_get self.now.views.items number ≡ Some view.now) }
     {
-        self.views.get(number as usize)
+        self.views.get(number)
+    }
+
+    /// The views behind those of the passes: of notes, and of notes that were learned.
+    pub fn notes(&self, opening: &Opening) -> &[View<Content>]
+        ensures { result.now ≡ drop opening.now.passes self.now.views.items }
+    {
+        let passes = opening.passes as usize;
+        if passes > self.views.len() {
+            return &[];
+        }
+        &self.views[passes..]
     }
 
     /// The view of the pass of this number, if there is one.
@@ -91,7 +102,7 @@ impl Table {
             ((view : ViewOf ContentOf) → get_elem? self.now.views.items number ≡ some view → IsPass view → ⊥)
             (λ view. (get_elem? self.now.views.items number ≡ some view.now) × IsPass view.now) }
     {
-        match self.view(number) {
+        match self.view(number as usize) {
             None => None,
             Some(view) => {
                 if view.tabs.as_slice().len() != TABS {

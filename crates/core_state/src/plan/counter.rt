@@ -5,11 +5,12 @@ ghost use Rattle.core_model.specs.Allowed.{Allowed};
 ghost use Rattle.core_state.specs.Inside.{setting, state};
 ghost use Rattle.core_state.specs.Planned.{IsScene, Plans};
 
-use crate::change::{ChainChange, Change, TabsChange, counter_addition};
+use crate::change::{ChainChange, Change, NotesChange, TabsChange, WordChange, counter_addition};
 use crate::content::Content;
 use crate::recall::{VERSION_LIMIT, last_count};
 use crate::refusal::Refusal;
 use crate::table::{Opening, Table};
+use crate::turn_change::TurnChange;
 use core_model::{Addition, Kind, Place, View};
 
 /// The counter is looked at.
@@ -28,12 +29,13 @@ pub(crate) fn count(
     let found = table.words[index];
     Ok(Change {
         answer: found,
-        index,
-        left: found,
+        word: Some(WordChange { index, left: found }),
+        turn: TurnChange::Same,
         tabs: TabsChange::Same,
         chain: ChainChange::Same,
         used: None,
         addition: counter_addition(Kind::Counted, found, found),
+        notes: NotesChange::Same,
     })
 }
 
@@ -58,8 +60,8 @@ pub(crate) fn draw(
     let drawn = (found < VERSION_LIMIT).then(|| left as u32);
     Ok(Change {
         answer: found,
-        index,
-        left,
+        word: Some(WordChange { index, left }),
+        turn: TurnChange::Same,
         tabs: TabsChange::Same,
         chain: ChainChange::Same,
         used: None,
@@ -67,5 +69,6 @@ pub(crate) fn draw(
             drawn,
             ..counter_addition(Kind::Drew, found, left)
         },
+        notes: NotesChange::Same,
     })
 }

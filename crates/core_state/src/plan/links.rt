@@ -14,13 +14,14 @@ ghost use Rattle.core_state.specs.Inside.{setting, state};
 ghost use Rattle.core_state.specs.Planned.{IsScene, Plans};
 ghost use Rattle.core_state.specs.Tabs.{changed_tab};
 
-use crate::change::{ChainChange, Change, TabsChange, word_addition};
+use crate::change::{ChainChange, Change, NotesChange, TabsChange, WordChange, word_addition};
 use crate::content::Content;
 use crate::plan::loosening::is_front;
 use crate::refusal::Refusal;
 use crate::tab_change::TabChange;
 use crate::table::{Opening, Table};
 use crate::tabs::tab_at;
+use crate::turn_change::TurnChange;
 use core_model::{Kind, Place, Reader, Sight, Tab, View};
 use link_word::{Link, unpack_link};
 
@@ -33,7 +34,7 @@ fn names(link: Link, slot: u32) -> bool
 
 /// Whether the slot is at the place of a reading tab: published, or the one that the last published slot
 /// names.
-fn is_next(table: &Table, reader: &Reader<Content>, slot: u32) -> bool
+pub(crate) fn is_next(table: &Table, reader: &Reader<Content>, slot: u32) -> bool
     requires { reader.now.anchor < length table.now.chains.items }
     ensures { IsTrue result ↔ IsNext (state table.now) slot reader.now }
 {
@@ -126,11 +127,12 @@ pub(crate) fn get_link(
     let sight = published_seen(opening, now, found);
     Ok(Change {
         answer: found,
-        index,
-        left: found,
+        word: Some(WordChange { index, left: found }),
+        turn: TurnChange::Same,
         tabs: TabsChange::Becomes(tab, change),
         chain: ChainChange::Same,
         used: None,
         addition: word_addition(Kind::Followed, place, slot, found, found, sight),
+        notes: NotesChange::Same,
     })
 }

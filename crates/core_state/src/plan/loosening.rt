@@ -11,13 +11,14 @@ ghost use Rattle.core_state.specs.Inside.{setting, state};
 ghost use Rattle.core_state.specs.Loosening.{loosened_change, handed_change, unlinked_change};
 ghost use Rattle.core_state.specs.Planned.{IsScene, Plans};
 
-use crate::change::{ChainChange, Change, TabsChange, word_addition};
+use crate::change::{ChainChange, Change, NotesChange, TabsChange, WordChange, word_addition};
 use crate::content::Content;
 use crate::plan::slots::{reserving_writer, with_slot};
 use crate::refusal::Refusal;
 use crate::tab_change::TabChange;
 use crate::table::{Opening, Table};
 use crate::tabs::{INNER, tab_at};
+use crate::turn_change::TurnChange;
 use core_model::{Freer, Kind, Place, Row, Tab, View, Writer};
 use std::alloc::{AllocError, Global};
 
@@ -90,12 +91,13 @@ fn unlinked_change(opening: &Opening, table: &Table, slot: u32, tabs: TabsChange
     let found = table.words[index];
     Change {
         answer: found,
-        index,
-        left: 0,
+        word: Some(WordChange { index, left: 0 }),
+        turn: TurnChange::Same,
         tabs,
         chain: ChainChange::Same,
         used: None,
         addition: word_addition(Kind::Linked, place, slot, found, 0, None),
+        notes: NotesChange::Same,
     }
 }
 

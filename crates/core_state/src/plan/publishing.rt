@@ -16,7 +16,7 @@ ghost use Rattle.core_state.specs.Inside.{setting, state};
 ghost use Rattle.core_state.specs.Planned.{IsScene, Plans};
 ghost use Rattle.core_state.specs.Publishing.{published_tab, published_addition, published_change};
 
-use crate::change::{ChainChange, Change, TabsChange};
+use crate::change::{ChainChange, Change, NotesChange, TabsChange, WordChange};
 use crate::content::Content;
 use crate::plan::loosening::rest_of;
 use crate::plan::slots::with_slot;
@@ -24,6 +24,7 @@ use crate::refusal::Refusal;
 use crate::tab_change::TabChange;
 use crate::table::{Opening, Table};
 use crate::tabs::{INNER, tab_at};
+use crate::turn_change::TurnChange;
 use core_model::{
     Addition, Chain, Item, Kind, Names, Piece, Place, Row, Sight, Tab, Trace, View, Writer,
 };
@@ -31,7 +32,7 @@ use link_word::{Link, pack_link};
 use std::alloc::{AllocError, Global};
 
 /// Whether the slot is the first of these.
-fn is_first(slots: &Row<u32>, slot: u32) -> bool
+pub(crate) fn is_first(slots: &Row<u32>, slot: u32) -> bool
     ensures { IsTrue result ↔ (slots.now ≡ slot ∷ rest_of slots.now) }
 {
     match slots.as_slice() {
@@ -142,10 +143,10 @@ fn published_addition(
             at: slot,
             found: told,
         },
-        trace: Trace {
+        trace: Some(Trace {
             place: Place::Link(slot),
             word: pack_link(link),
-        },
+        }),
         sight: Some(Sight::Published {
             anchor,
             version,
@@ -158,6 +159,7 @@ fn published_addition(
             key1: writer.key1.unwrap_or(0),
             offer: writer.offer.unwrap_or(0),
         }),
+        learned: None,
         deed: None,
         met: None,
         drawn: None,
@@ -182,12 +184,16 @@ fn published_change(
     let found = table.words[index];
     Change {
         answer: found,
-        index,
-        left: pack_link(link),
+        word: Some(WordChange {
+            index,
+            left: pack_link(link),
+        }),
+        turn: TurnChange::Same,
         tabs,
         chain: ChainChange::Put(writer.anchor, chain),
         used: None,
         addition: published_addition(opening, writer, slot, link, found),
+        notes: NotesChange::Same,
     }
 }
 

@@ -6,12 +6,13 @@ ghost use Rattle.core_model.specs.Allowed.{Allowed};
 ghost use Rattle.core_state.specs.Inside.{setting, state};
 ghost use Rattle.core_state.specs.Planned.{IsScene, Plans};
 
-use crate::change::{ChainChange, Change, TabsChange, anchor_addition};
+use crate::change::{ChainChange, Change, NotesChange, TabsChange, WordChange, anchor_addition};
 use crate::content::Content;
 use crate::recall::{met, readers_here};
 use crate::refusal::Refusal;
 use crate::table::{Opening, Table};
 use crate::tabs::{entered, left_tab, tab_at};
+use crate::turn_change::TurnChange;
 use core_model::{Addition, Deed, Kind, Tab, Turn, View};
 use lock_word::{Epoch, Word, epoch_bits, pack};
 
@@ -35,8 +36,11 @@ pub(crate) fn look(
     let readers = readers_here(anchor, view);
     Ok(Change {
         answer: found,
-        index: anchor as usize,
-        left: found,
+        word: Some(WordChange {
+            index: anchor as usize,
+            left: found,
+        }),
+        turn: TurnChange::Same,
         tabs: TabsChange::Same,
         chain: ChainChange::Same,
         used: None,
@@ -44,6 +48,7 @@ pub(crate) fn look(
             met: met(anchor, readers, &word),
             ..anchor_addition(Kind::Looked, anchor, found, found, epoch_bits(found))
         },
+        notes: NotesChange::Same,
     })
 }
 
@@ -84,8 +89,11 @@ pub(crate) fn enter(
     };
     Ok(Change {
         answer: found,
-        index: anchor as usize,
-        left,
+        word: Some(WordChange {
+            index: anchor as usize,
+            left,
+        }),
+        turn: TurnChange::Same,
         tabs: TabsChange::Put(tab, entered(anchor, &word.epoch)),
         chain: ChainChange::Same,
         used: None,
@@ -94,6 +102,7 @@ pub(crate) fn enter(
             met: met(anchor, readers_here(anchor, view), &word),
             ..anchor_addition(Kind::Entered, anchor, found, left, epoch_bits(found))
         },
+        notes: NotesChange::Same,
     })
 }
 
@@ -140,8 +149,11 @@ pub(crate) fn leave(
     let others = readers_here(anchor, view) - 1;
     Ok(Change {
         answer: left,
-        index: anchor as usize,
-        left,
+        word: Some(WordChange {
+            index: anchor as usize,
+            left,
+        }),
+        turn: TurnChange::Same,
         tabs: TabsChange::Put(tab, left_tab(anchor, &word)),
         chain: ChainChange::Same,
         used: None,
@@ -149,6 +161,7 @@ pub(crate) fn leave(
             met: met(anchor, others, &word),
             ..anchor_addition(Kind::Left, anchor, left, left, epoch_bits(left))
         },
+        notes: NotesChange::Same,
     })
 }
 
@@ -188,8 +201,11 @@ pub(crate) fn doom(
     };
     Ok(Change {
         answer: left,
-        index: anchor as usize,
-        left,
+        word: Some(WordChange {
+            index: anchor as usize,
+            left,
+        }),
+        turn: TurnChange::Same,
         tabs: TabsChange::Same,
         chain: ChainChange::Same,
         used: None,
@@ -198,5 +214,6 @@ pub(crate) fn doom(
             met: met(anchor, readers_here(anchor, view), &word),
             ..anchor_addition(Kind::Doomed, anchor, left, left, seen)
         },
+        notes: NotesChange::Same,
     })
 }

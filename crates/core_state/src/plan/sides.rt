@@ -13,7 +13,7 @@ ghost use Rattle.core_state.specs.Inside.{setting, state};
 ghost use Rattle.core_state.specs.Planned.{IsScene, Plans};
 ghost use Rattle.core_state.specs.Tabs.{changed_tab};
 
-use crate::change::{ChainChange, Change, TabsChange, word_addition};
+use crate::change::{ChainChange, Change, NotesChange, TabsChange, WordChange, word_addition};
 use crate::content::Content;
 use crate::plan::takers::inner_is_free;
 use crate::plan::writers::start_number;
@@ -21,6 +21,7 @@ use crate::refusal::Refusal;
 use crate::tab_change::TabChange;
 use crate::table::{Opening, Table};
 use crate::tabs::{INNER, anchor_of, tab_at};
+use crate::turn_change::TurnChange;
 use core_model::{Kind, Place, Side, Sight, Tab, View, Writer};
 
 /// Which of the words beside an anchor it is, counted from 0.
@@ -112,12 +113,13 @@ pub(crate) fn load_side(
     let sight = name_seen(now, side, found);
     Ok(Change {
         answer: found,
-        index,
-        left: found,
+        word: Some(WordChange { index, left: found }),
+        turn: TurnChange::Same,
         tabs: TabsChange::Becomes(tab, TabChange::Learns(slot)),
         chain: ChainChange::Same,
         used: None,
         addition: word_addition(Kind::Loaded, place, side_index(side), found, found, sight),
+        notes: NotesChange::Same,
     })
 }
 
@@ -166,11 +168,15 @@ pub(crate) fn store_side(
     let place = Place::Beside(side, writer.anchor);
     Ok(Change {
         answer: 0,
-        index: opening.index_of(place),
-        left: value,
+        word: Some(WordChange {
+            index: opening.index_of(place),
+            left: value,
+        }),
+        turn: TurnChange::Same,
         tabs: TabsChange::Becomes(tab, TabChange::Stores(side, value)),
         chain: ChainChange::Same,
         used: None,
         addition: word_addition(Kind::Stored, place, side_index(side), 0, value, None),
+        notes: NotesChange::Same,
     })
 }

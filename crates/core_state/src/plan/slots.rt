@@ -9,13 +9,14 @@ ghost use Rattle.core_model.specs.Tabs.{tab_at, OfWriter, OfFreer};
 ghost use Rattle.core_state.specs.Inside.{setting, state};
 ghost use Rattle.core_state.specs.Planned.{IsScene, Plans};
 
-use crate::change::{ChainChange, Change, TabsChange, word_addition};
+use crate::change::{ChainChange, Change, NotesChange, TabsChange, WordChange, word_addition};
 use crate::content::Content;
 use crate::plan::takers::inner_is_free;
 use crate::refusal::Refusal;
 use crate::tab_change::TabChange;
 use crate::table::{Opening, Table};
 use crate::tabs::{INNER, tab_at};
+use crate::turn_change::TurnChange;
 use core_model::{Kind, Piece, Place, Row, Tab, Turn, View, Writer};
 use link_word::Link;
 use std::alloc::{AllocError, Global};
@@ -87,24 +88,26 @@ pub(crate) fn own(
     if found != 0 {
         return Ok(Change {
             answer: found,
-            index,
-            left: found,
+            word: Some(WordChange { index, left: found }),
+            turn: TurnChange::Same,
             tabs: TabsChange::Same,
             chain: ChainChange::Same,
             used: None,
             addition: word_addition(Kind::Owned, place, slot, found, found, None),
+            notes: NotesChange::Same,
         });
     }
     let reserved = with_slot(alloc, &writer.reserved, slot)?;
     let left = u64::from(writer.anchor) + 1;
     Ok(Change {
         answer: found,
-        index,
-        left,
+        word: Some(WordChange { index, left }),
+        turn: TurnChange::Same,
         tabs: TabsChange::Becomes(tab, TabChange::Reserves(reserved)),
         chain: ChainChange::Same,
         used: None,
         addition: word_addition(Kind::Owned, place, slot, found, left, None),
+        notes: NotesChange::Same,
     })
 }
 
@@ -148,11 +151,12 @@ pub(crate) fn disown(
     let found = table.words[index];
     Ok(Change {
         answer: found,
-        index,
-        left: 0,
+        word: Some(WordChange { index, left: 0 }),
+        turn: TurnChange::Same,
         tabs: TabsChange::Becomes(tab, TabChange::GivesBack(slot)),
         chain: ChainChange::Same,
         used: None,
         addition: word_addition(Kind::Disowned, place, slot, found, 0, None),
+        notes: NotesChange::Same,
     })
 }

@@ -8,12 +8,13 @@ ghost use Rattle.core_state.specs.Inside.{setting, state};
 ghost use Rattle.core_state.specs.Planned.{IsScene, Plans};
 ghost use Rattle.core_state.specs.Taking.{taken_change, evicted_change};
 
-use crate::change::{ChainChange, Change, TabsChange, anchor_addition};
+use crate::change::{ChainChange, Change, NotesChange, TabsChange, WordChange, anchor_addition};
 use crate::content::Content;
 use crate::recall::{drew_since, last_find, met, readers_here};
 use crate::refusal::Refusal;
 use crate::table::{Opening, Table};
 use crate::tabs::{INNER, freer_of, no_chain, tab_at, writer_of};
+use crate::turn_change::TurnChange;
 use core_model::{Addition, Chain, Deed, Kind, Tab, View};
 use lock_word::{
     Epoch, Stage, Word, epoch_bits, is_idle, is_idle_number, is_left_over_number, is_vacant_number,
@@ -124,8 +125,11 @@ pub(crate) fn take(
     if found != last {
         return Ok(Change {
             answer: found,
-            index: anchor as usize,
-            left: found,
+            word: Some(WordChange {
+                index: anchor as usize,
+                left: found,
+            }),
+            turn: TurnChange::Same,
             tabs: TabsChange::Same,
             chain: ChainChange::Same,
             used: Some(version),
@@ -133,6 +137,7 @@ pub(crate) fn take(
                 met,
                 ..anchor_addition(Kind::Changed, anchor, found, found, epoch_bits(found))
             },
+            notes: NotesChange::Same,
         });
     }
     let was_idle = is_idle(&word);
@@ -154,8 +159,11 @@ pub(crate) fn take(
     };
     Ok(Change {
         answer: found,
-        index: anchor as usize,
-        left,
+        word: Some(WordChange {
+            index: anchor as usize,
+            left,
+        }),
+        turn: TurnChange::Same,
         tabs,
         chain: ChainChange::Put(anchor, no_chain(alloc)),
         used: Some(version),
@@ -164,6 +172,7 @@ pub(crate) fn take(
             met,
             ..anchor_addition(Kind::Changed, anchor, found, left, seen)
         },
+        notes: NotesChange::Same,
     })
 }
 
@@ -194,8 +203,11 @@ pub(crate) fn evict(
     if last != found {
         return Ok(Change {
             answer: found,
-            index: anchor as usize,
-            left: found,
+            word: Some(WordChange {
+                index: anchor as usize,
+                left: found,
+            }),
+            turn: TurnChange::Same,
             tabs: TabsChange::Put(tab, Tab::Free),
             chain: ChainChange::Same,
             used: None,
@@ -203,6 +215,7 @@ pub(crate) fn evict(
                 met,
                 ..anchor_addition(Kind::Changed, anchor, found, found, epoch_bits(found))
             },
+            notes: NotesChange::Same,
         });
     }
     let tabs = evicted_change(alloc, tab, anchor, &table.chains[anchor as usize])?;
@@ -221,8 +234,11 @@ pub(crate) fn evict(
     };
     Ok(Change {
         answer: found,
-        index: anchor as usize,
-        left,
+        word: Some(WordChange {
+            index: anchor as usize,
+            left,
+        }),
+        turn: TurnChange::Same,
         tabs,
         chain: ChainChange::Put(anchor, no_chain(alloc)),
         used: None,
@@ -231,5 +247,6 @@ pub(crate) fn evict(
             met,
             ..anchor_addition(Kind::Changed, anchor, found, left, seen)
         },
+        notes: NotesChange::Same,
     })
 }

@@ -13,12 +13,13 @@ ghost use Rattle.core_state.specs.Raising.{MayRaiseTab, raised_tabs, raised_chai
 ghost use Rattle.lock_word.specs.Words.{word_number};
 ghost use Rattle.core_model.specs.Layout.{word_count};
 
-use crate::change::{ChainChange, Change, TabsChange, anchor_addition};
+use crate::change::{ChainChange, Change, NotesChange, TabsChange, WordChange, anchor_addition};
 use crate::content::Content;
 use crate::recall::{met, readers_here};
 use crate::refusal::Refusal;
 use crate::table::{Opening, Table};
 use crate::tabs::{anchor_of, left_tab, tab_at};
+use crate::turn_change::TurnChange;
 use core_model::{Addition, Chain, Deed, Freer, Kind, Place, Row, Side, Tab, Turn, View, Writer};
 use link_word::Link;
 use lock_word::{Epoch, Stage, Word, epoch_bits, pack};
@@ -161,8 +162,11 @@ pub(crate) fn raise(
     };
     Ok(Change {
         answer: left,
-        index: anchor as usize,
-        left,
+        word: Some(WordChange {
+            index: anchor as usize,
+            left,
+        }),
+        turn: TurnChange::Same,
         tabs: raised_tabs(tab, to, anchor, &word),
         chain,
         used: None,
@@ -171,5 +175,6 @@ pub(crate) fn raise(
             met: met(anchor, readers_here(anchor, view), &word),
             ..anchor_addition(Kind::Raised, anchor, left, left, seen)
         },
+        notes: NotesChange::Same,
     })
 }
