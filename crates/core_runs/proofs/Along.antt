@@ -30,8 +30,8 @@ module _ (file : FileImage) (o : Offers) where
       (subst (λ (t : State Content). EntryAfter (setting_of m) (state_of m) t act.pass a) (sym made.leaves)
       (entry_after (setting_of m) (state_of m) act.pass made.view move a (record { anchors = so.anchors; slots = so.slots }) made.at made.may.pass made.may.allowed low))
       (st a low))
-  step_stands m left (step.Crash picks) number so faithful same made st = absurd made
-  step_stands m left step.Rebuild number so faithful same made st = absurd made
+  step_stands m left (step.Crash picks) number so faithful same made st a lt = absurd made
+  step_stands m left step.Rebuild number so faithful same made st a lt = absurd made
 
   pub all_stand : (steps : List Step) (cores : List Machine) (from : Machine) → IsRun steps cores → get_elem? cores 0 ≡ some from → IsSound from → AllStand file o from
       → ((j : ℕ) (m : Machine) → get_elem? cores j ≡ some m → IsFaithful file o m)
