@@ -2,8 +2,6 @@ ghost use Rattle.std.specs.Prelude.{◌≡◌, ℕ, List, All, length, IsTrue};
 
 use super::*;
 
-mod walk;
-
 use rebuild_model::{FileImage, Images};
 use rock_io::Octets;
 use std::alloc::Global;
