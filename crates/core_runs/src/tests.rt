@@ -1,6 +1,10 @@
 ghost use Rattle.std.specs.Prelude.{◌≡◌, ℕ, List, All, length, IsTrue};
 
 use super::*;
+
+mod order;
+mod walk;
+
 use core_state::{Act, Core, Step, StepFault};
 use rebuild_model::{FileImage, Images};
 use rock_io::Octets;
@@ -8,19 +12,28 @@ use std::alloc::{AllocError, Global};
 use std::process::Abort;
 use std::test::Fail;
 
-/// A core of one anchor and one pass over a file of two empty slots of 512 bytes.
-fn blank_core<R: Abort>(rt: &R, alloc: Global) -> Result<Core, Fail> {
+/// A core over a file of so many empty slots of 512 bytes.
+fn blank_core<R: Abort>(
+    rt: &R,
+    alloc: Global,
+    slots: u32,
+    anchors: u32,
+    passes: u32,
+) -> Result<Core, Fail> {
     let mut images = Vec::new(alloc);
-    for _slot in 0..2 {
+    for _slot in 0..slots {
         images.push(Octets::from_vec(vec![in alloc; 0; 512]?))?;
     }
     let image = FileImage {
         slot: 512,
         slots: Images::from_vec(images),
     };
-    assert_eq!(rt; image.slots.as_slice().len(), 2);
+    let count = image.slots.as_slice().len();
+    assert!(rt; 1 <= count && count <= 1_048_576);
+    assert!(rt; 1 <= anchors && anchors as usize <= count);
+    assert!(rt; 1 <= passes && passes <= 32);
     assert!(rt; has_width(&image));
-    Ok(Core::new(alloc, &image, 1, 1)?)
+    Ok(Core::new(alloc, &image, anchors, passes)?)
 }
 
 fn has_width(image: &FileImage) -> bool
@@ -31,17 +44,21 @@ fn has_width(image: &FileImage) -> bool
     slots.iter().all(|slot| slot.as_slice().len() == width)
 }
 
+fn act_of(pass: u32, tab: u8, kind: u8, at: u32, value: u64) -> Act {
+    Act {
+        pass,
+        tab,
+        kind,
+        at,
+        value,
+    }
+}
+
 /// Steps of pass 0: tab, kind, anchor and value.
 fn steps_of(alloc: Global, rows: &[(u8, u8, u32, u64)]) -> Result<Vec<Step>, AllocError> {
     let mut steps = Vec::new(alloc);
     for (tab, kind, at, value) in rows {
-        steps.push(Step::Act(Act {
-            pass: 0,
-            tab: *tab,
-            kind: *kind,
-            at: *at,
-            value: *value,
-        }))?;
+        steps.push(Step::Act(act_of(0, *tab, *kind, *at, *value)))?;
     }
     Ok(steps)
 }
@@ -64,7 +81,7 @@ fn a_run_ends_at_the_first_step_that_is_refused(rt: HostRuntime) -> Result<(), F
         (0, 1, 0, 0),
     ];
     let steps = steps_of(alloc, &rows)?;
-    let mut core = blank_core(&rt, alloc)?;
+    let mut core = blank_core(&rt, alloc, 2, 1, 1)?;
     let end = run_steps(&mut core, &steps);
     let fault = Some(StepFault::NotAllowed { kind: 7 });
     assert_eq!(rt; end, RunEnd { done: 9, fault });
@@ -87,7 +104,7 @@ fn a_run_ends_at_the_first_step_that_is_refused(rt: HostRuntime) -> Result<(), F
 
 #[test]
 fn no_step_is_a_run_too(rt: HostRuntime) -> Result<(), Fail> {
-    let mut core = blank_core(&rt, rt.alloc())?;
+    let mut core = blank_core(&rt, rt.alloc(), 2, 1, 1)?;
     assert_eq!(rt;
         run_steps(&mut core, &[]),
         RunEnd {

@@ -14,7 +14,7 @@ use crate::opened::{opened_table, opening_of};
 use crate::refusal::Refusal;
 use crate::step::make;
 use crate::table::{Opening, Table};
-use core_model::View;
+use core_model::{Cell, Chain, View};
 use rebuild_model::{FileImage, rebuilt_of};
 use rock_io::Memory;
 use std::alloc::Global;
@@ -77,6 +77,20 @@ impl Core {
         ensures { result.now ≡ self.now.words }
     {
         &self.table.words
+    }
+
+    /// The cell of each slot, where it is home.
+    pub fn places(&self) -> &[Option<Cell<Content>>]
+        ensures { result.now ≡ self.now.places }
+    {
+        &self.table.places
+    }
+
+    /// The chain of each anchor.
+    pub fn chains(&self) -> &[Chain]
+        ensures { result.now ≡ self.now.chains }
+    {
+        &self.table.chains
     }
 
     /// The views: those of the passes in order, and then those of notes.

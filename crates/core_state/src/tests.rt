@@ -3,7 +3,6 @@ ghost use Rattle.std.specs.Prelude.{◌≡◌, ℕ, List, All, length, IsTrue};
 use super::*;
 
 mod images;
-mod walk;
 
 use rebuild_model::{FileImage, Images};
 use rock_io::Octets;

@@ -1,0 +1,93 @@
+// Random allowed steps of all kinds, and what must hold after each, read off the state.
+mod anchor_check;
+mod cell_check;
+mod choice;
+mod freeing;
+mod kinds;
+mod life;
+mod random;
+mod reading;
+mod rows;
+mod sight_check;
+mod slot_check;
+mod table;
+mod watch;
+mod writing;
+
+use super::{Act, Core, Step, StepFault, act_of, blank_core};
+use anchor_check::check_anchors;
+use cell_check::check_cells;
+use choice::{Seat, choose, next_seat};
+use random::Numbers;
+use rows::Tally;
+use sight_check::check_sights;
+use slot_check::check_slots;
+use std::alloc::Global;
+use std::process::Abort;
+use std::test::Fail;
+use watch::{Before, Watch};
+
+const ANCHORS: u32 = 2;
+
+const PASSES: u32 = 3;
+
+const SLOTS: u32 = 4;
+
+/// Walks, each from a core of its own, since what a pass has seen only grows.
+const WALKS: u32 = 100;
+
+/// The allowed steps of each walk, and the most tries of any step.
+const STEPS: u32 = 1_000;
+
+const TRIES: u32 = 50_000;
+
+/// All that must hold between two steps.
+fn check<R: Abort>(rt: &R, core: &Core) {
+    check_anchors(rt, core);
+    check_slots(rt, core);
+    check_cells(rt, core);
+    check_sights(rt, core);
+}
+
+/// A walk from a new core. A step that is not allowed is refused with its kind.
+fn walk_from<R: Abort>(rt: &R, alloc: Global, seed: u32, tally: &mut Tally) -> Result<(), Fail> {
+    let mut core = blank_core(rt, alloc, SLOTS, ANCHORS, PASSES)?;
+    let mut numbers = Numbers::new(u64::from(seed));
+    let mut watch = Watch::new();
+    let mut seat = Seat { pass: 0, tab: 0 };
+    let mut made = 0;
+    for _ in 0..TRIES {
+        if made == STEPS {
+            break;
+        }
+        seat = next_seat(&mut numbers, &core, seat);
+        let act = choose(&mut numbers, &core, seat);
+        let before = Before::new(&core, &act);
+        match core.apply(&Step::Act(act)) {
+            Ok(number) => {
+                made = made.saturating_add(1);
+                watch.note_step(rt, &core, &act, &before, number, tally);
+                check(rt, &core);
+            }
+            Err(fault) => {
+                let refused = StepFault::NotAllowed { kind: act.kind };
+                assert_eq!(rt; fault, refused, "{act:?}");
+            }
+        }
+    }
+    assert_eq!(rt; made, STEPS, "the steps from {seed}");
+    Ok(())
+}
+
+#[test]
+fn random_steps_keep_tabs_words_and_cells_together(rt: HostRuntime) -> Result<(), Fail> {
+    let mut tally = Tally::new();
+    for seed in 1..=WALKS {
+        walk_from(&rt, rt.alloc(), seed, &mut tally)?;
+    }
+    let named = tally.named(rt.alloc())?;
+    for (row, count) in named.iter() {
+        assert!(rt; *count > 0, "{row:?} never came about: {named:?}");
+    }
+    Ok(())
+}

@@ -1,0 +1,169 @@
+// Steps of a tab that writes.
+use super::choice::{Seat, evict_act, inner_tab};
+use super::freeing::{freer_act, has_room};
+use super::kinds::{
+    APPENDING, CELL_IN, CELL_OUT, CLOSED, DISOWN, END_TURN, HALTED, KEPT, KEPT_UNSURE, LINK,
+    NOTHING, OWN, RAISE, SIDE, STORE_KEY0, STORE_KEY1, STORE_OFFER, STORE_START, SYNC, TRY_TURN,
+    UNSURE, WRITE,
+};
+use super::random::Numbers;
+use super::table::{owner_of, start_number};
+use super::{Act, Core, SLOTS};
+use core_model::{Hold, Tab, Turn, View, Writer};
+use core_state::Content;
+use link_word::{Link, pack_link};
+
+/// Of so many versions one is given up, and the chance, one in so many, that its tab does so now, before
+/// others may read and as they do.
+const DOUBTFUL: u32 = 3;
+
+const GIVES_UP: u32 = 20;
+
+const GIVES_UP_LATE: u32 = 6;
+
+/// That it does otherwise than it mostly does with a cell that it has.
+const TURNS_ASIDE: u32 = 8;
+
+/// That it publishes its entry as it grows, and that it reserves no slot more.
+const SHOWS: u32 = 2;
+
+const STOPS: u32 = 3;
+
+/// That it evicts another entry, to have a slot of that.
+const EVICTS: u32 = 2;
+
+/// Keys are below this, and so is what an offer is above the slots.
+const NAMES: u32 = 8;
+
+/// The next step of a tab towards a whole entry.
+pub(super) fn writer_act(
+    numbers: &mut Numbers,
+    core: &Core,
+    seat: Seat,
+    view: &View<Content>,
+    writer: &Writer<Content>,
+) -> Act {
+    if let Turn::Has(hold) = &writer.turn {
+        return hold_act(numbers, seat, hold);
+    }
+    if let Some(Tab::Freeing(freer)) = inner_tab(view) {
+        if numbers.is_one_in(2) {
+            return freer_act(numbers, seat.inner(), view, freer);
+        }
+    }
+    if writer.end == Link::Last {
+        return raise_act(seat, writer, CLOSED);
+    }
+    if writer.is_ending || gives_up(numbers, writer) {
+        return give_up_act(seat, writer);
+    }
+    grow_act(numbers, core, seat, view, writer)
+}
+
+/// Whether the entry is one that is given up, and is so now.
+fn gives_up(numbers: &mut Numbers, writer: &Writer<Content>) -> bool {
+    let chance = if writer.is_appending {
+        GIVES_UP_LATE
+    } else {
+        GIVES_UP
+    };
+    writer.version.is_multiple_of(DOUBTFUL) && numbers.is_one_in(chance)
+}
+
+/// With the turn, the cell is taken out, written, synced and put back.
+fn hold_act(numbers: &mut Numbers, seat: Seat, hold: &Hold<Content>) -> Act {
+    let slot = hold.slot;
+    let turns_aside = numbers.is_one_in(TURNS_ASIDE);
+    match (hold.is_out, hold.is_written != turns_aside) {
+        (true, false) => seat.act(WRITE, slot, outcome(numbers)),
+        (true, true) if numbers.is_one_in(2) => {
+            seat.act(SYNC, slot, u64::from(numbers.below(2)))
+        }
+        (true, true) => seat.act(CELL_IN, slot, 0),
+        (false, false) => seat.act(CELL_OUT, slot, 0),
+        (false, true) => seat.act(END_TURN, slot, 0),
+    }
+}
+
+fn outcome(numbers: &mut Numbers) -> u64 {
+    match numbers.below(8) {
+        0 => NOTHING,
+        1 => UNSURE,
+        2 => KEPT_UNSURE,
+        _ => KEPT,
+    }
+}
+
+/// The anchor is raised, once the Start word is that of what is published.
+fn raise_act(seat: Seat, writer: &Writer<Content>, stage: u64) -> Act {
+    let start = start_number(writer.published.as_slice());
+    if writer.is_appending || writer.start == Some(start) {
+        seat.act(RAISE, 0, stage)
+    } else {
+        seat.act(SIDE, STORE_START, start)
+    }
+}
+
+/// Each slot that is not linked is given back, and then the anchor is raised to HALTED.
+fn give_up_act(seat: Seat, writer: &Writer<Content>) -> Act {
+    let is_linked = |slot: &u32| writer.end == Link::Next(*slot);
+    match writer.reserved.as_slice() {
+        [.., slot] if !is_linked(slot) => seat.act(DISOWN, *slot, 0),
+        _ => raise_act(seat, writer, HALTED),
+    }
+}
+
+/// The side of the entry's name that is not stored yet, if there is one.
+fn unnamed_side(writer: &Writer<Content>) -> Option<u32> {
+    if writer.key0.is_none() {
+        Some(STORE_KEY0)
+    } else if writer.key1.is_none() {
+        Some(STORE_KEY1)
+    } else if writer.offer.is_none() {
+        Some(STORE_OFFER)
+    } else {
+        None
+    }
+}
+
+/// The entry is named, slots are reserved, and the first of them is written and published.
+fn grow_act(
+    numbers: &mut Numbers,
+    core: &Core,
+    seat: Seat,
+    view: &View<Content>,
+    writer: &Writer<Content>,
+) -> Act {
+    if let Some(side) = unnamed_side(writer) {
+        let above = if side == STORE_OFFER { SLOTS } else { 0 };
+        let value = u64::from(above) + u64::from(numbers.below(NAMES));
+        return seat.act(SIDE, side, value);
+    }
+    let is_shown = writer.is_appending || writer.published.as_slice().is_empty();
+    if !is_shown && numbers.is_one_in(SHOWS) {
+        return raise_act(seat, writer, APPENDING);
+    }
+    match (writer.reserved.as_slice().first(), writer.chosen) {
+        (Some(slot), Some(piece)) if writer.is_written => {
+            seat.act(LINK, *slot, pack_link(piece.next))
+        }
+        (Some(slot), _) if !has_room(writer) || numbers.is_one_in(STOPS) => {
+            seat.act(TRY_TURN, *slot, 0)
+        }
+        _ => own_act(numbers, core, seat, view),
+    }
+}
+
+/// A free slot is reserved, where a few looks find one. Else another entry is evicted, or a try is lost.
+fn own_act(numbers: &mut Numbers, core: &Core, seat: Seat, view: &View<Content>) -> Act {
+    for _ in 0..SLOTS {
+        let slot = numbers.below(SLOTS);
+        if owner_of(core, slot) == Some(0) {
+            return seat.act(OWN, slot, 0);
+        }
+    }
+    if numbers.is_one_in(EVICTS) {
+        return evict_act(numbers, seat.inner(), view);
+    }
+    seat.act(OWN, numbers.below(SLOTS), 0)
+}
