@@ -2,6 +2,7 @@ ghost use Rattle.std.specs.Prelude.{◌≡◌, ℕ, List, All, length, IsTrue};
 
 use super::*;
 
+mod cells;
 mod images;
 
 use rebuild_model::{FileImage, Images};
@@ -240,8 +241,8 @@ fn each_condition_refuses_its_kind(rt: HostRuntime) -> Result<(), Fail> {
         (act_of(0, 0, 1, 0, 0), Found(word(3, 6, 0))),
     ];
     play(&rt, &mut core, &rows);
-    // Kinds that are not allowed yet, and unknown ones.
-    for kind in [0, 14, 15, 16, 17, 18, 19, 20, 21, 22, 23, 24, 255] {
+    // Kinds on cells, of a free tab; a note that is not there; and kinds that are no steps of a pass.
+    for kind in [0, 14, 15, 16, 17, 18, 20, 21, 22, 23, 24, 255] {
         play(&rt, &mut core, &[(act_of(0, 0, kind, 0, 0), Refused)]);
     }
     let picks = Picks::from_vec(Vec::new(rt.alloc()));

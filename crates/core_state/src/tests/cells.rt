@@ -66,7 +66,10 @@ fn assert_cell<R: Abort>(rt: &R, core: &Core, is_written: bool, possible: usize)
     };
     assert_eq!(rt; matches!(cell.now, Content::Offered(_)), is_written);
     assert_eq!(rt; cell.possible.as_slice().len(), possible);
-    assert!(rt; cell.possible.as_slice().contains(&cell.now), "not possible");
+    assert!(rt;
+        cell.possible.as_slice().contains(&cell.now),
+        "not possible"
+    );
 }
 
 #[test]
