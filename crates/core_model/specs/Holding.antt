@@ -1,18 +1,17 @@
 -- Who holds the turn at a slot's cell, and who reads it.
-use Rattle.std.specs.Prelude.{◌≡◌, ◌≢◌, ◌⊎◌, ℕ, ◌≤◌, Contains, None, slice_index_or}
+use Rattle.std.specs.Prelude.{◌≡◌, ◌⊎◌, ℕ, ◌≤◌, Contains, None, slice_index_or}
 use Rattle.lock_word.specs.Words.{readers_of, epoch_of, stage_of, doom_of}
 use mathlib.Core.Option.{some}
 use lib.ListN.{get_elem?}
 use Rattle.core_model.specs.declared.moves.Move.{Move}
 use Rattle.core_model.specs.declared.moves.Move.TheVariants.{TryTurn, EndTurn}
 use Rattle.core_model.specs.declared.spot.Spot.{Spot}
-use Rattle.core_model.specs.declared.spot.Spot.TheVariants.{Free, Reserved, Chained, Resting, Loose}
+use Rattle.core_model.specs.declared.spot.Spot.TheVariants.{Free, Resting, Loose}
 use Rattle.core_model.specs.declared.tab.Hold.{Hold}
 use Rattle.core_model.specs.declared.tab.Turn.TheVariants.{Has}
 use Rattle.core_model.specs.declared.tab.Reader.{Reader}
 use Rattle.core_model.specs.declared.tab.Writer.{Writer}
 use Rattle.core_model.specs.declared.tab.Tab.{Tab}
-use Rattle.core_model.specs.declared.tab.Tab.TheVariants.{Writing}
 use Rattle.core_model.specs.declared.view.View.{View}
 use Rattle.core_model.specs.Layout.{Setting}
 use Rattle.core_model.specs.State.{State, chain_of}

@@ -1,5 +1,5 @@
 -- What stands at each anchor of a store that was just opened.
-use Rattle.std.proofs.Common.{◌≡◌, ◌⊎◌, inl, inr, ⊎_elim, ℕ, suc, ◌<◌, List, [], ◌∷◌, length, map, sym, refl, ap, ◌∙◌, subst, arith, Contains}
+use Rattle.std.proofs.Common.{◌≡◌, ◌⊎◌, inl, inr, ⊎_elim, ℕ, suc, ◌<◌, List, [], ◌∷◌, length, sym, refl, ap, ◌∙◌, subst, arith, Contains}
 use Rattle.std.proofs.lemmas.List.Elements.{All-contains}
 use mathlib.Core.Logic.{dite}
 use native.Mathlib.Decide.{ℕ_discrete}
@@ -15,7 +15,7 @@ use Rattle.rebuild_model.specs.Rebuilt.{IsRebuilt}
 use Rattle.core_model.specs.declared.chain.Chain.{Chain}
 use Rattle.core_model.specs.Layout.{Setting}
 use Rattle.core_model.specs.Opening.{IsOpened, IsKeptAt}
-use Rattle.core_model.specs.State.{State, word, chain_of}
+use Rattle.core_model.specs.State.{State, chain_of}
 use Rattle.core_model.proofs.Lists.{cons_contains, contains_none}
 use Rattle.core_model.proofs.SlotsOpened.{contains_map, map_contains}
 use Rattle.core_state.specs.declared.content.Content.{Content}

@@ -1,15 +1,14 @@
 -- The chain of a closed entry spells the response that was offered, in the bytes that reads of the cells give.
-use Rattle.std.proofs.Common.{◌≡◌, ◌≢◌, ◌⊎◌, inl, inr, ⊎_elim, ℕ, zero, suc, ◌+◌, ◌-◌, ◌<◌, ◌≤◌, ◌^◌, List, [], ◌∷◌, ◌++◌, length, drop, get_or, sym, refl, ap, ◌∙◌, subst, arith, None, Some, true, false, eqb, eq-eqb, ne_eqb, sum_by, Contains, cond, ◌==◌, Option}
-use Rattle.std.specs.Prelude.{pos, negsuc, All, nat_eq, ℤ}
+use Rattle.std.proofs.Common.{◌≡◌, inl, inr, ⊎_elim, ℕ, zero, suc, ◌+◌, ◌-◌, ◌<◌, ◌≤◌, ◌^◌, List, [], ◌∷◌, length, drop, sym, refl, ap, ◌∙◌, subst, arith, true, false, eqb, eq-eqb, ne_eqb, Contains, cond, ◌==◌}
+use Rattle.std.specs.Prelude.{pos, negsuc, nat_eq}
 use Rattle.std.specs.List.{IsDistinct, AllByRecursion}
 use Rattle.std.proofs.lemmas.List.Elements.{All-from_recursion}
 use mathlib.Core.Option.{some, some-injective, some-ne-none}
 use mathlib.Core.Logic.{dite}
 use native.Mathlib.Decide.{ℕ_discrete}
 use lib.ListN.{get_elem?}
-use Rattle.lock_word.specs.Words.{epoch_of, version_of, stage_of}
-use Rattle.link_word.specs.declared.link.Link.{Link}
-use Rattle.link_word.specs.declared.link.Link.TheVariants.{Last, Next}
+use Rattle.lock_word.specs.Words.{epoch_of, stage_of}
+use Rattle.link_word.specs.declared.link.Link.TheVariants.{Last}
 use Rattle.rebuild_model.specs.declared.image.FileImage.{FileImage}
 use Rattle.rebuild_model.specs.Image.{image_at}
 use Rattle.rebuild_model.specs.Entry.{IsComplete}
@@ -17,21 +16,19 @@ use Rattle.entry_cut.specs.Content.{Cut, count, image}
 use Rattle.entry_cut.specs.Standing.{IsWritable, StandFrom, Stand, entry_of}
 use Rattle.core_model.specs.declared.chain.Chain.{Chain}
 use Rattle.core_model.specs.declared.tab.Cell.{Cell}
-use Rattle.core_model.specs.declared.tab.Hold.{Hold}
 use Rattle.core_model.specs.declared.tab.Tab.{Tab}
 use Rattle.core_model.specs.declared.tab.Turn.{Turn}
 use Rattle.core_model.specs.declared.tab.Turn.TheVariants.{NoTurn, Has}
 use Rattle.core_model.specs.declared.view.View.{View}
 use Rattle.core_model.specs.Layout.{Setting}
-use Rattle.core_model.specs.Chains.{link_to, link_at, times, rest_of, one, Fits}
+use Rattle.core_model.specs.Chains.{link_to, link_at, times, rest_of}
 use Rattle.core_model.specs.State.{State, word, chain_of}
 use Rattle.core_model.specs.Tabs.{turn_of, count as count_tabs}
 use Rattle.core_model.specs.TabsAfter.{first_of}
-use Rattle.core_model.specs.Cells.{side_word, turn_word, holds_at, turn_at, IsCell}
+use Rattle.core_model.specs.Cells.{turn_word, holds_at, turn_at, IsCell}
 use Rattle.core_model.specs.Slots.{slot_words, used, ChainStands}
 use Rattle.core_model.specs.Sound.{Sound}
-use Rattle.core_model.specs.declared.moves.Side.TheVariants.{Offer}
-use Rattle.core_model.proofs.Lists.{by_eq, at_length, sum_some}
+use Rattle.core_model.proofs.Lists.{by_eq, sum_some}
 use Rattle.core_model.proofs.Tabs.{contains_times}
 use Rattle.core_model.proofs.SlotFrame.{used_few}
 use Rattle.core_model.proofs.SlotsLoosened.{standing_few}
@@ -39,7 +36,7 @@ use Rattle.core_model.proofs.FollowsKept.{at_times}
 use Rattle.core_model.proofs.Spelling.{suc_is, one_same, some_fits, last_is_written}
 use Rattle.core_model.proofs.Telling.{told_out, stage_told}
 use Rattle.core_state.specs.declared.content.Content.{Content}
-use Rattle.core_state.specs.declared.content.Content.TheVariants.{Opened, Offered}
+use Rattle.core_state.specs.declared.content.Content.TheVariants.{Opened}
 use Rattle.core_state.specs.Machine.{Machine, setting_of, state_of, opened_from}
 use Rattle.core_runs.specs.Responses.{Offers, cut_of, next_of, bytes_of, AreBytes, offer_at, version_at, IsPublishedAs, SpellsResponse}
 use Rattle.core_runs.proofs.Depends.{complete_in}

@@ -1,15 +1,13 @@
 -- The entries of a core that keeps to its offers, along a list of steps: each is the opening's, or one of an offer of which pieces were
 -- published in order.
-use Rattle.std.proofs.Common.{◌≡◌, ◌≢◌, ◌⊎◌, inl, inr, ⊎_elim, ℕ, zero, suc, ◌+◌, ◌<◌, ◌≤◌, List, [], ◌∷◌, ◌++◌, length, take, drop, get_or, sym, refl, ap, ◌∙◌, subst, arith, None, Some, false, Option, Contains}
+use Rattle.std.proofs.Common.{◌≡◌, ◌≢◌, ◌⊎◌, inl, inr, ℕ, zero, suc, ◌+◌, ◌<◌, ◌≤◌, List, [], ◌∷◌, ◌++◌, length, take, drop, sym, refl, ap, ◌∙◌, subst, arith, None, Some, Option}
 use Rattle.std.specs.Prelude.{◌↔◌, unwrap_or}
 use Rattle.std.specs.Int.{w64, from_le_bytes}
-use mathlib.Core.Option.{some, some-injective}
 use mathlib.Core.Logic.{dite}
 use native.Mathlib.Decide.{ℕ_discrete}
-use lib.ListN.{get_elem?}
 use Rattle.lock_word.specs.Words.{epoch_of, version_of, version_limit}
 use Rattle.link_word.specs.declared.link.Link.{Link}
-use Rattle.link_word.specs.declared.link.Link.TheVariants.{NotWritten, Last, Next}
+use Rattle.link_word.specs.declared.link.Link.TheVariants.{Last, Next}
 use Rattle.store_key.specs.Anchor.{anchor_of}
 use Rattle.store_key.specs.Key.{key_of}
 use Rattle.store_key.specs.Url.{IsUrl}
@@ -27,11 +25,10 @@ use Rattle.core_model.specs.Chains.{link_to, link_at}
 use Rattle.core_model.specs.State.{State, word, chain_of}
 use Rattle.core_model.specs.Steps.{longer}
 use Rattle.core_model.specs.TabsAfter.{piece_of}
-use Rattle.core_model.specs.Anchors.{opening_counter}
 use Rattle.core_model.specs.Cells.{side_word, WriterPiece}
-use Rattle.core_model.specs.Entries.{NamesStay, EntryStays, EntryGone, EntryGrows, EntryAfter}
+use Rattle.core_model.specs.Entries.{EntryStays, EntryGrows, EntryAfter}
 use Rattle.core_model.specs.Matching.{IsTab}
-use Rattle.core_model.specs.Slots.{SlotWords, slot_words, WriterHolds}
+use Rattle.core_model.specs.Slots.{slot_words, WriterHolds}
 use Rattle.core_model.specs.Sound.{Sound}
 use Rattle.core_model.proofs.Matching.{matches_writer}
 use Rattle.core_model.proofs.Spelling.{length_more, link_below, suc_is}
