@@ -1,5 +1,5 @@
 // Steps are worked out: whether they are allowed, and all that they do. Nothing is changed yet.
-ghost use Rattle.std.specs.Prelude.{◌≡◌, ◌⊎◌, IfOk, IsErrOf};
+ghost use Rattle.std.specs.Prelude.{◌⊎◌, IfOk, IsErrOf};
 ghost use Rattle.core_model.specs.Allowed.{IsReady, Allowed};
 ghost use Rattle.core_model.specs.Cells.{CellsSound};
 ghost use Rattle.core_state.specs.Inside.{setting, state};
@@ -25,7 +25,8 @@ use crate::table::{Opening, Table};
 use core_model::{Move, View};
 use std::alloc::Global;
 
-/// Works out a step of the pass that has this view.
+/// Works out a step of the pass that has this view. What holds of cells is needed only for the kinds of which
+/// the laws do not speak yet.
 pub(crate) fn plan(
     alloc: Global,
     opening: &Opening,
