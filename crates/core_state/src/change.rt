@@ -280,6 +280,7 @@ impl Table {
             → state self.new ≡ changed (state self.old) pass view change) }
         ensures err { OnErr result (state self.new ≡ state self.old) }
     {
+        // Room for a note.
         self.views.reserve(1)?;
         change_view(
             &mut self.views[pass],

@@ -1,5 +1,5 @@
 // Steps on the cell of a tab that has the turn.
-ghost use Rattle.std.specs.Prelude.{◌≡◌, ◌<◌, ◌∷◌, [], Some, true, false, slice_get, IfOk, IsErrOf, MatchOption};
+ghost use Rattle.std.specs.Prelude.{◌≡◌, ◌<◌, ◌∷◌, Some, true, false, slice_get, IfOk, IsErrOf, MatchOption};
 ghost use Rattle.core_model.specs.declared.moves.Move.TheVariants as move;
 ghost use Rattle.core_model.specs.declared.tab.Tab.TheVariants.{Writing};
 ghost use Rattle.core_model.specs.Allowed.{Allowed, Holds};

@@ -1,13 +1,9 @@
 // Steps on notes: what a pass has seen is kept for others.
-ghost use Rattle.std.specs.Prelude.{◌≡◌, ◌<◌, ◌≤◌, ◌↔◌, [], length, slice_get, Some, IsTrue, IfOk, IsErrOf, MatchOption, true};
+ghost use Rattle.std.specs.Prelude.{◌≡◌, ◌≤◌, ◌↔◌, length, IsTrue, IfOk, IsErrOf};
 ghost use Rattle.std.specs.List.{position};
-ghost use lib.ListN.{get_elem?};
-ghost use mathlib.Core.Option.{some};
 ghost use Rattle.core_model.specs.declared.moves.Move.TheVariants as move;
-ghost use Rattle.core_model.specs.declared.view.View.{View as ViewOf};
 ghost use Rattle.core_model.specs.Allowed.{Allowed, IsNote};
 ghost use Rattle.core_model.specs.Steps.{is_spent, free_note};
-ghost use Rattle.core_state.specs.declared.content.Content.{Content as ContentOf};
 ghost use Rattle.core_state.specs.Inside.{setting, state};
 ghost use Rattle.core_state.specs.Notes.{note_with};
 ghost use Rattle.core_state.specs.Planned.{IsScene, Plans};
