@@ -32,8 +32,9 @@ use Rattle.core_model.specs.Spots.{IsIn}
 use Rattle.core_model.specs.Cells.{turn_word, turn_at, holds_at, TurnFits, IsHome}
 use Rattle.core_model.specs.Holding.{HasHolder, IsAway, IsBeingWritten, IsBeingRead, IsUnheld, KnownTurn}
 use Rattle.core_model.specs.Sound.{Sound}
-use Rattle.core_model.proofs.Lists.{by_eq, at_or, at_length, le_sum_at, two_le_sum, sum_some}
+use Rattle.core_model.proofs.Lists.{by_eq, at_or, at_length, le_sum_at, sum_some}
 use Rattle.core_model.proofs.Tabs.{contains_times, tab_there}
+use Rattle.core_model.proofs.Matching.{one_tab}
 use Rattle.core_model.proofs.Spelling.{times_append}
 use Rattle.core_model.proofs.Telling.{told_out}
 use Rattle.core_model.proofs.SlotsLoosened.{standing_few}
@@ -82,16 +83,6 @@ module _ {X : Type 0} (k : Setting X) (s : State X) (so : Sound k s) where
   same_tab i j t u x y e p q = let view : q.view ≡ p.view = some-injective q.view p.view (sym q.at ∙ subst (λ (z : ℕ). get_elem? s.views z ≡ some p.view) e.0 p.at) in
       some-injective x y (sym p.there ∙ subst (λ (z : ℕ). get_elem? p.view.tabs z ≡ some y) (sym e.1) (subst (λ (v : View X). get_elem? v.tabs u ≡ some y) view q.there))
 
-  -- one tab at most counts
-  one_tab : (f : Tab X → ℕ) → sum_by (count f) s.views ≤ 1 → (i j t u : ℕ) (x y : Tab X) → IsTab s i t x → IsTab s j u y → 0 < f x → 0 < f y → (i ≡ j) × (t ≡ u)
-  one_tab f few i j t u x y p q fx fy = let g = le_sum_at f p.view.tabs t x p.there in let h = le_sum_at f q.view.tabs u y q.there in dite (ℕ_discrete j i)
-      (λ e. (sym e, same_view e))
-      (λ ne. absurd (let z = two_le_sum (count f) s.views i j p.view q.view p.at q.at ne in omega arith))
-    where
-      same_view : j ≡ i → t ≡ u
-      same_view e = let same : p.view ≡ q.view = some-injective p.view q.view (sym p.at ∙ subst (λ (z : ℕ). get_elem? s.views z ≡ some q.view) e q.at) in dite (ℕ_discrete u t) (λ e. sym e)
-          (λ ne. absurd (let z = two_le_sum f p.view.tabs t u x y p.there (subst (λ (v : View X). get_elem? v.tabs u ≡ some y) (sym same) q.there) ne in let m = le_sum_at (count f) s.views i p.view p.at in omega arith))
-
   inside : (x : Tab X) (h : Hold X) → TurnFits k s x → turn_of x ≡ Has h → h.slot < k.slots
   inside (Reading r) h fit e = (fit h e).0
   inside (Writing w) h fit e = (fit h e).0
@@ -105,7 +96,7 @@ module _ {X : Type 0} (k : Setting X) (s : State X) (so : Sound k s) where
 
   pub one_holder : (i j t u : ℕ) (x y : Tab X) (g h : Hold X) → IsTab s i t x → IsTab s j u y → turn_of x ≡ Has g → turn_of y ≡ Has h → g.slot ≡ h.slot → (i ≡ j) × (t ≡ u)
   one_holder i j t u x y g h p q gx hy same = let lt = turn_inside j u y h q hy in
-      one_tab (holds_at h.slot) (let e = so.cells.holders.turns h.slot lt in let f = so.cells.holders.few h.slot lt in omega arith) i j t u x y p q
+      one_tab k s so.anchors (holds_at h.slot) (let e = so.cells.holders.turns h.slot lt in let f = so.cells.holders.few h.slot lt in omega arith) i j t u x y p q
       (let o = holds_one h.slot (turn_of x) g gx same in omega arith)
       (let o = holds_one h.slot (turn_of y) h hy refl in omega arith)
 

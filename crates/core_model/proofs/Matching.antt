@@ -75,7 +75,7 @@ module _ {X : Type 0} where
 
   module _ (k : Setting X) (s : State X) (so : AnchorsSound k s) where
     -- one tab at most counts
-    one_tab : (f : Tab X → ℕ) → sum_by (count f) s.views ≤ 1 → (i j t p : ℕ) (x y : Tab X) → IsTab s i t x → IsTab s j p y → 0 < f x → 0 < f y → (i ≡ j) × (t ≡ p)
+    pub one_tab : (f : Tab X → ℕ) → sum_by (count f) s.views ≤ 1 → (i j t p : ℕ) (x y : Tab X) → IsTab s i t x → IsTab s j p y → 0 < f x → 0 < f y → (i ≡ j) × (t ≡ p)
     one_tab f few i j t p x y ix jy fx fy = let g = le_sum_at f ix.view.tabs t x ix.there in let h = le_sum_at f jy.view.tabs p y jy.there in dite (ℕ_discrete j i)
         (λ e. (sym e, same_view e))
         (λ ne. absurd (let z = two_le_sum (count f) s.views i j ix.view jy.view ix.at jy.at ne in omega arith))

@@ -1,5 +1,7 @@
 -- Lists of slots, and link words that spell them.
-use Rattle.std.proofs.Common.{◌≡◌, ◌≢◌, ℕ, zero, suc, drop, ◌+◌, ◌<◌, ◌≤◌, List, [], ◌∷◌, ◌++◌, length, sym, refl, ap, ◌∙◌, subst, arith, cond, ◌==◌, eq-eqb, ne_eqb}
+use Rattle.std.proofs.Common.{◌≡◌, ◌≢◌, ℕ, zero, suc, drop, ◌+◌, ◌<◌, ◌≤◌, List, [], ◌∷◌, ◌++◌, length, sym, refl, ap, ◌∙◌, subst, arith, false, cond, ◌==◌, eq-eqb, ne_eqb}
+use Rattle.std.specs.Prelude.{nat_eq}
+use Rattle.std.specs.List.{IsDistinct, AllByRecursion}
 use mathlib.Core.Option.{some, some-ne-none}
 use lib.ListN.{get_elem?}
 use Rattle.link_word.specs.declared.link.Link.{Link}
@@ -163,3 +165,16 @@ pub at_longer : (xs ys : List ℕ) (p slot : ℕ) → get_elem? xs p ≡ some sl
 at_longer [] ys p slot e = absurd (some-ne-none slot (sym e))
 at_longer (x ∷ xs) ys zero slot e = e
 at_longer (x ∷ xs) ys (suc p) slot e = at_longer xs ys p slot e
+
+-- slots of which none comes twice are different ones
+pub distinct : (xs : List ℕ) → ((j : ℕ) → times j xs ≤ 1) → IsDistinct nat_eq xs
+unfolding IsDistinct
+distinct [] h = tt
+distinct (x ∷ xs) h = (others xs (let here = h x in let same = one_same x in omega arith), distinct xs (λ j. let here = h j in omega arith))
+  where
+    others : (ys : List ℕ) → times x ys ≡ 0 → AllByRecursion (λ y. nat_eq x y ≡ false) ys
+    others [] none = tt
+    others (y ∷ ys) none = (
+      ne_eqb x y (λ e. let one_ : one x y ≡ 1 = ap (λ b. one x b) (sym e) ∙ one_same x in absurd (omega (arith, one_, none))),
+      others ys (omega (arith, none)),
+    )

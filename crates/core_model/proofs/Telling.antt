@@ -26,7 +26,7 @@ told_here many at ws q x lt wide own j = dite (ℕ_discrete j q)
     (λ ne. ap (told many j) (get_or-set_other ws (at q) (at j) x 0 (own j ne)) ∙ sym (upd_other (λ j. told many j (get_or ws (at j) 0)) q x j ne))
 
 -- a word that is none of theirs is set
-told_else : (many : ℕ) (at : ℕ → ℕ) (ws : List ℕ) (p x : ℕ) → ((j : ℕ) → j < many → at j ≢ p) → (j : ℕ)
+pub told_else : (many : ℕ) (at : ℕ → ℕ) (ws : List ℕ) (p x : ℕ) → ((j : ℕ) → j < many → at j ≢ p) → (j : ℕ)
     → told many j (get_or (set ws p x) (at j) 0) ≡ told many j (get_or ws (at j) 0)
 told_else many at ws p x away j = dite (ℕ_discrete (many - j) 0)
     (λ e. told_out many j _ (omega arith) ∙ sym (told_out many j _ (omega arith)))

@@ -1,10 +1,8 @@
 -- To try for a turn and to end one keeps what is sound of the words: the tab holds what it held, and the word of a turn tells nothing
 -- of anchors and chains.
-use Rattle.std.proofs.Common.{◌≡◌, ◌≢◌, ◌⊎◌, inl, inr, ⊎_elim, ℕ, zero, suc, ◌+◌, ◌-◌, ◌*◌, ◌<◌, List, [], ◌∷◌, ◌++◌, drop, length, get_or, set, sym, refl, ap, ◌∙◌, subst, arith, sum_by, Option, Some, None, Bool, true, false, cond, ◌==◌, length-set, get_or-set_other}
+use Rattle.std.proofs.Common.{◌≡◌, ◌≢◌, ◌⊎◌, inl, inr, ⊎_elim, ℕ, zero, suc, ◌+◌, ◌*◌, ◌<◌, List, [], ◌∷◌, ◌++◌, drop, length, get_or, set, sym, refl, ap, ◌∙◌, subst, arith, sum_by, Option, Some, None, Bool, true, false, cond, ◌==◌, length-set}
 use Rattle.std.specs.Prelude.{unwrap_or}
 use mathlib.Core.Option.{some}
-use mathlib.Core.Logic.{dite}
-use native.Mathlib.Decide.{ℕ_discrete}
 use lib.ListN.{get_elem?}
 use Rattle.lock_word.specs.Words.{epoch_of, version_of, stage_of}
 use Rattle.link_word.specs.declared.link.Link.{Link}
@@ -37,11 +35,11 @@ use Rattle.core_model.specs.Steps.{cell_held, after}
 use Rattle.core_model.specs.Anchors.{tabs_in, Shaped, TabStands, opening_epoch}
 use Rattle.core_model.specs.Versions.{SeenStands, draws_by, vain_by, drawn_by, VersionsDrawn, IsKnownAt, VersionsHeld}
 use Rattle.core_model.specs.Deeds.{OneMirror, IsEpochAt, IsDone, EnteredBy, EnteredByAnother, LeftEpoch, DoomedVersion, HaltedVersion, EvictedVersion, DeedsExplain}
-use Rattle.core_model.specs.Slots.{SlotWords, told, slot_words, held_in, resting_in, WriterHolds, ReaderHolds, TabHolds, SlotsHold, SlotsSound}
+use Rattle.core_model.specs.Slots.{SlotWords, slot_words, held_in, resting_in, WriterHolds, ReaderHolds, TabHolds, SlotsHold, SlotsSound}
 use Rattle.core_model.specs.Cells.{TurnFits}
 use Rattle.core_model.specs.Sound.{AnchorsSound, WordsSound, Sound}
 use Rattle.core_model.proofs.Spelling.{one_same}
-use Rattle.core_model.proofs.Telling.{told_out, side_in}
+use Rattle.core_model.proofs.Telling.{told_else, side_in}
 use Rattle.core_model.proofs.SlotTabs.{SameWriters, names_keep, tab_later}
 use Rattle.core_model.proofs.SlotKinds.{OneTab, recounted, each_tab, same_by_one, quiet}
 use Rattle.core_model.proofs.SlotsOwned.{same_by_writer}
@@ -165,11 +163,6 @@ module _ {X : Type 0} (k : Setting X) (ws : List ℕ) (ps ps' : List (Option (Ce
   }
 
 -- The word of a turn is set: what the words tell of slots and anchors stays.
-
-told_else : (many : ℕ) (at : ℕ → ℕ) (ws : List ℕ) (p x : ℕ) → ((j : ℕ) → j < many → at j ≢ p) → (j : ℕ) → told many j (get_or (set ws p x) (at j) 0) ≡ told many j (get_or ws (at j) 0)
-told_else many at ws p x away j = dite (ℕ_discrete (many - j) 0)
-    (λ e. told_out many j _ (omega arith) ∙ sym (told_out many j _ (omega arith)))
-    (λ ne. ap (told many j) (get_or-set_other ws p (at j) x 0 (away j (omega arith))))
 
 pub turn_told : {X : Type 0} (k : Setting X) (ws : List ℕ) (j x : ℕ) → j < k.slots → slot_words k (set ws (5 * k.anchors + 2 * k.slots + j) x) ≡ slot_words k ws
 turn_told k ws j x lt = λ t. record {

@@ -1,7 +1,7 @@
 -- What a pass of a sound core knows of the slots of the entry that it reads.
-use Rattle.std.proofs.Common.{◌≡◌, ◌≢◌, ◌⊎◌, inl, inr, ◌<◌, ◌≤◌, ◌+◌, ℕ, zero, suc, List, [], ◌∷◌, Some, true, false, cond, ◌||◌, eqb, eq-eqb, ne_eqb, drop, refl, sym, ap, ◌∙◌, subst, arith, length}
+use Rattle.std.proofs.Common.{◌≡◌, ◌≢◌, ◌⊎◌, inl, inr, ◌<◌, ◌≤◌, ◌+◌, ℕ, zero, suc, List, [], ◌∷◌, Some, true, cond, ◌||◌, eqb, eq-eqb, ne_eqb, drop, refl, sym, ap, ◌∙◌, subst, arith, length}
 use Rattle.std.specs.Prelude.{slice_get, slice_index, slice_index_or}
-use Rattle.std.specs.List.{IsDistinct, AllByRecursion, list_any}
+use Rattle.std.specs.List.{list_any}
 use Rattle.std.proofs.lemmas.Bool.{false≢true}
 use Rattle.std.proofs.lemmas.Map.Steps.{length-le_from_distinct_below}
 use lib.ListN.{get_elem?}
@@ -30,7 +30,7 @@ use Rattle.core_model.proofs.OwnsKept.{in_table}
 use Rattle.core_model.proofs.SlotAnchors.{reader_stage}
 use Rattle.core_model.proofs.SlotFrame.{used_few}
 use Rattle.core_model.proofs.SlotsLoosened.{standing_few}
-use Rattle.core_model.proofs.Spelling.{one_same}
+use Rattle.core_model.proofs.Spelling.{one_same, distinct}
 use Rattle.core_model.proofs.Telling.{told_in, stage_told}
 use Rattle.core_state.specs.declared.content.Content.{Content}
 use Rattle.core_state.specs.declared.table.Opening.{Opening}
@@ -47,20 +47,8 @@ some_times j (x ∷ xs) h = dite (ℕ_discrete j x)
     (λ e. let one_ : one j x ≡ 1 = ap (λ b. one j b) (sym e) ∙ one_same j in omega (arith, one_))
     (λ ne. let rest = some_times j xs (subst (λ b. (b || list_any (eqb j) xs) ≡ true) (ne_eqb j x ne) h) in omega (arith, rest))
 
-once : (xs : List ℕ) → ((j : ℕ) → times j xs ≤ 1) → IsDistinct eqb xs
-unfolding IsDistinct
-once [] h = tt
-once (x ∷ xs) h = (others xs (let here = h x in let same = one_same x in omega arith), once xs (λ j. let here = h j in omega arith))
-  where
-    others : (ys : List ℕ) → times x ys ≡ 0 → AllByRecursion (λ y. eqb x y ≡ false) ys
-    others [] none = tt
-    others (y ∷ ys) none = (
-      ne_eqb x y (λ e. let one_ : one x y ≡ 1 = ap (λ b. one x b) (sym e) ∙ one_same x in absurd (omega (arith, one_, none))),
-      others ys (omega (arith, none)),
-    )
-
 pub few : (xs : List ℕ) (many : ℕ) → ((j : ℕ) → times j xs ≤ 1) → ((j : ℕ) → 0 < times j xs → j < many) → length xs ≤ many
-few xs many h within = length-le_from_distinct_below xs many (once xs h) (λ j there. within j (some_times j xs there))
+few xs many h within = length-le_from_distinct_below xs many (distinct xs h) (λ j there. within j (some_times j xs there))
 
 fewer_times : (j p : ℕ) (xs : List ℕ) → times j (drop p xs) ≤ times j xs
 fewer_times j zero xs = omega arith
