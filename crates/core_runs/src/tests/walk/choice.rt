@@ -1,4 +1,6 @@
 // Steps that make sense for a tab, and now and then any step.
+ghost use Rattle.std.specs.Prelude.{◌<◌};
+
 use super::freeing::freer_act;
 use super::kinds::{CHANGE, COUNT, DRAW, ENTER, KIND_END, LEARN, LEAVE, LOOK, NOTE};
 use super::random::Numbers;
@@ -21,15 +23,18 @@ const ANY: u32 = 8;
 
 const NOTES: u32 = 200;
 
-/// That the same tab goes on, that a tab with no turn does, and that a free tab begins something.
+/// That the same tab goes on, and that one that is asked does, where it has no turn.
 const STAYS: u32 = 2;
 
 const GOES_ON: u32 = 2;
 
-const BEGINS: u32 = 12;
+/// That a free tab that is asked begins something, in a lively walk and in a calm one.
+const LIVELY: u32 = 12;
+
+const CALM: u32 = 40;
 
 /// How many tabs are asked.
-const ASKED: u32 = 12;
+const ASKED: u32 = 24;
 
 /// Numbers of a step of any kind are below these.
 const AT_END: u32 = 9;
@@ -57,15 +62,24 @@ impl Seat {
     }
 }
 
+/// How rarely a free tab begins something: every other walk is calm.
+pub(super) fn calm_of(seed: u32) -> u32
+    ensures { 0 < result }
+{
+    if seed.is_multiple_of(2) { CALM } else { LIVELY }
+}
+
 /// Where the next step is tried: at the same tab, or at any that takes part, and sooner at a busy one.
-pub(super) fn next_seat(numbers: &mut Numbers, core: &Core, seat: Seat) -> Seat {
+pub(super) fn next_seat(numbers: &mut Numbers, core: &Core, seat: Seat, calm: u32) -> Seat
+    requires { 0 < calm }
+{
     if numbers.is_one_in(STAYS) {
         return seat;
     }
     for _ in 0..ASKED {
         let next = any_seat(numbers);
         let is_taken = match tab_of(core, next) {
-            Some(Tab::Free) => numbers.is_one_in(BEGINS),
+            Some(Tab::Free) => numbers.is_one_in(calm),
             Some(tab) => hold_of(tab).is_some() || numbers.is_one_in(GOES_ON),
             None => false,
         };
