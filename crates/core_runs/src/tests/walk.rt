@@ -10,6 +10,7 @@ mod reading;
 mod rows;
 mod sight_check;
 mod slot_check;
+mod straying;
 mod table;
 mod watch;
 mod writing;
