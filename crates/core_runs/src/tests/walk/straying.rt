@@ -1,8 +1,8 @@
 // Steps of any kind by a tab, with numbers that a step of that kind may have there.
 use super::choice::{Seat, newest_version};
 use super::kinds::{
-    CELL_IN, CELL_OUT, CHANGE, DISOWN, END_TURN, GET_LINK, KIND_END, LEARN, LINK, OWN, RAISE, SIDE,
-    SIDE_END, STAGE_END, SYNC, TRY_TURN, WRITE, WRITE_END,
+    CELL_IN, CHANGE, END_TURN, GET_LINK, KIND_END, LEARN, LINK, OWN, RAISE, SIDE, SIDE_END,
+    STAGE_END, SYNC, TRY_TURN, WRITE, WRITE_END,
 };
 use super::random::Numbers;
 use super::{ANCHORS, Act, SLOTS};
@@ -25,8 +25,7 @@ pub(super) fn stray_act(
     let kind = numbers.below(KIND_END) as u8;
     let at = match kind {
         SIDE => numbers.below(SIDE_END),
-        OWN | DISOWN | LINK | GET_LINK | TRY_TURN | END_TURN | CELL_OUT | CELL_IN | WRITE | SYNC =>
-            { stray_slot(numbers, tab) }
+        OWN..=GET_LINK | TRY_TURN..=CELL_IN | WRITE | SYNC => stray_slot(numbers, tab),
         LEARN => numbers.below(NOTE_END),
         _ => numbers.below(ANCHORS),
     };
