@@ -10,6 +10,7 @@ mod reading;
 mod rows;
 mod sight_check;
 mod slot_check;
+mod straying;
 mod table;
 mod watch;
 mod writing;
@@ -17,7 +18,7 @@ mod writing;
 use super::{Act, Core, Step, StepFault, act_of, blank_core};
 use anchor_check::check_anchors;
 use cell_check::check_cells;
-use choice::{Seat, choose, next_seat};
+use choice::{Seat, calm_of, choose, next_seat};
 use random::Numbers;
 use rows::Tally;
 use sight_check::check_sights;
@@ -34,7 +35,7 @@ const PASSES: u32 = 3;
 const SLOTS: u32 = 4;
 
 /// Walks, each from a core of its own, since what a pass has seen only grows.
-const WALKS: u32 = 100;
+const WALKS: u32 = 500;
 
 /// The allowed steps of each walk, and the most tries of any step.
 const STEPS: u32 = 1_000;
@@ -55,12 +56,13 @@ fn walk_from<R: Abort>(rt: &R, alloc: Global, seed: u32, tally: &mut Tally) -> R
     let mut numbers = Numbers::new(u64::from(seed));
     let mut watch = Watch::new();
     let mut seat = Seat { pass: 0, tab: 0 };
+    let calm = calm_of(seed);
     let mut made = 0;
     for _ in 0..TRIES {
         if made == STEPS {
             break;
         }
-        seat = next_seat(&mut numbers, &core, seat);
+        seat = next_seat(&mut numbers, &core, seat, calm);
         let act = choose(&mut numbers, &core, seat);
         let before = Before::new(&core, &act);
         match core.apply(&Step::Act(act)) {

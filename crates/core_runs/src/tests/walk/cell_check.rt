@@ -124,12 +124,16 @@ fn check_contents<R: Abort>(rt: &R, core: &Core, anchor: u32, chain: &Chain) {
     }
 }
 
-pub(super) fn check_cells<R: Abort>(rt: &R, core: &Core) {
+fn check_turns<R: Abort>(rt: &R, core: &Core) {
     for slot in 0..SLOTS {
         check_turn(rt, core, slot);
         check_apart(rt, core, slot);
         check_possible(rt, core, slot);
     }
+}
+
+pub(super) fn check_cells<R: Abort>(rt: &R, core: &Core) {
+    check_turns(rt, core);
     for (anchor, chain) in (0..ANCHORS).zip(core.chains()) {
         check_contents(rt, core, anchor, chain);
     }

@@ -1,8 +1,11 @@
 // Steps that make sense for a tab, and now and then any step.
+ghost use Rattle.std.specs.Prelude.{◌<◌};
+
 use super::freeing::freer_act;
 use super::kinds::{CHANGE, COUNT, DRAW, ENTER, KIND_END, LEARN, LEAVE, LOOK, NOTE};
 use super::random::Numbers;
 use super::reading::reader_act;
+use super::straying::stray_act;
 use super::table::hold_of;
 use super::writing::writer_act;
 use super::{ANCHORS, Act, Core, PASSES, act_of};
@@ -16,20 +19,25 @@ pub(super) const INNER: u8 = 8;
 /// The tabs that take part, the inner one among them.
 const TABS: [u8; 4] = [0, 1, 7, INNER];
 
-/// Chances, each one in so many: of any step, and of a note or a lesson.
-const ANY: u32 = 8;
+/// Chances, each one in so many: of any step, of any step of the tab there, and of a lesson.
+const ANY: u32 = 16;
 
-const NOTES: u32 = 200;
+const STRAYS: u32 = 8;
 
-/// That the same tab goes on, that a tab with no turn does, and that a free tab begins something.
+const LEARNS: u32 = 200;
+
+/// That the same tab goes on, and that one that is asked does, where it has no turn.
 const STAYS: u32 = 2;
 
 const GOES_ON: u32 = 2;
 
-const BEGINS: u32 = 12;
+/// That a free tab that is asked begins something, in a lively walk and in a calm one.
+const LIVELY: u32 = 12;
+
+const CALM: u32 = 40;
 
 /// How many tabs are asked.
-const ASKED: u32 = 12;
+const ASKED: u32 = 24;
 
 /// Numbers of a step of any kind are below these.
 const AT_END: u32 = 9;
@@ -57,15 +65,24 @@ impl Seat {
     }
 }
 
+/// How rarely a free tab begins something: every other walk is calm.
+pub(super) fn calm_of(seed: u32) -> u32
+    ensures { 0 < result }
+{
+    if seed.is_multiple_of(2) { CALM } else { LIVELY }
+}
+
 /// Where the next step is tried: at the same tab, or at any that takes part, and sooner at a busy one.
-pub(super) fn next_seat(numbers: &mut Numbers, core: &Core, seat: Seat) -> Seat {
+pub(super) fn next_seat(numbers: &mut Numbers, core: &Core, seat: Seat, calm: u32) -> Seat
+    requires { 0 < calm }
+{
     if numbers.is_one_in(STAYS) {
         return seat;
     }
     for _ in 0..ASKED {
         let next = any_seat(numbers);
         let is_taken = match tab_of(core, next) {
-            Some(Tab::Free) => numbers.is_one_in(BEGINS),
+            Some(Tab::Free) => numbers.is_one_in(calm),
             Some(tab) => hold_of(tab).is_some() || numbers.is_one_in(GOES_ON),
             None => false,
         };
@@ -88,25 +105,30 @@ pub(super) fn tab_of(core: &Core, seat: Seat) -> Option<&Tab<Content>> {
     view.tabs.as_slice().get(seat.tab as usize)
 }
 
-/// A step of the tab there, or now and then any other.
+/// A step that makes sense for the tab there, or now and then another.
 pub(super) fn choose(numbers: &mut Numbers, core: &Core, seat: Seat) -> Act {
-    if numbers.is_one_in(NOTES) {
-        return note_act(numbers, core, seat);
+    if numbers.is_one_in(LEARNS) {
+        return note_act(core, seat);
     }
     let view = core.views().get(seat.pass as usize);
-    match view {
-        Some(view) if !numbers.is_one_in(ANY) => tab_act(numbers, core, seat, view),
+    match (view, tab_of(core, seat)) {
+        (Some(view), Some(tab)) if !numbers.is_one_in(ANY) => {
+            if numbers.is_one_in(STRAYS) {
+                return stray_act(numbers, seat, view, tab);
+            }
+            tab_act(numbers, core, seat, view, tab)
+        }
         _ => any_act(numbers, core),
     }
 }
 
-/// A note, or a lesson from the first note that is there.
-fn note_act(numbers: &mut Numbers, core: &Core, seat: Seat) -> Act {
+/// A lesson from the first note that is there, or else a note.
+fn note_act(core: &Core, seat: Seat) -> Act {
     let mut notes = core.views().iter().skip(PASSES as usize);
     let note = notes.position(|view| !view.seen.as_slice().is_empty());
     match note.and_then(|note| u32::try_from(note).ok()) {
-        Some(note) if numbers.is_one_in(2) => seat.act(LEARN, note, 0),
-        _ => seat.act(NOTE, 0, 0),
+        Some(note) => seat.act(LEARN, note, 0),
+        None => seat.act(NOTE, 0, 0),
     }
 }
 
@@ -126,15 +148,18 @@ fn any_act(numbers: &mut Numbers, core: &Core) -> Act {
     act_of(pass, tab, kind, at, value)
 }
 
-fn newest_version(view: &View<Content>) -> Option<u32> {
+pub(super) fn newest_version(view: &View<Content>) -> Option<u32> {
     view.held.as_slice().first().copied()
 }
 
 /// A step that makes sense for the tab there.
-fn tab_act(numbers: &mut Numbers, core: &Core, seat: Seat, view: &View<Content>) -> Act {
-    let Some(tab) = view.tabs.as_slice().get(seat.tab as usize) else {
-        return any_act(numbers, core);
-    };
+fn tab_act(
+    numbers: &mut Numbers,
+    core: &Core,
+    seat: Seat,
+    view: &View<Content>,
+    tab: &Tab<Content>,
+) -> Act {
     match tab {
         Tab::Free if seat.tab == INNER => evict_act(numbers, seat, view),
         Tab::Free => free_act(numbers, seat, view),

@@ -68,6 +68,8 @@ pub(super) const STORE_OFFER: u32 = 6;
 
 pub(super) const STORE_START: u32 = 7;
 
+pub(super) const SIDE_END: u32 = 8;
+
 /// The stages to which an anchor is raised.
 pub(super) const APPENDING: u64 = 2;
 
@@ -77,6 +79,9 @@ pub(super) const HALTED: u64 = 4;
 
 pub(super) const GONE: u64 = 6;
 
+/// No stage has this number.
+pub(super) const STAGE_END: u32 = 7;
+
 /// How a write of a cell ends: it fails, it is kept, a crash may leave it, or both of these.
 pub(super) const NOTHING: u64 = 0;
 
@@ -85,3 +90,5 @@ pub(super) const KEPT: u64 = 1;
 pub(super) const UNSURE: u64 = 2;
 
 pub(super) const KEPT_UNSURE: u64 = 3;
+
+pub(super) const WRITE_END: u32 = 4;
