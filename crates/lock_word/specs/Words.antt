@@ -1,7 +1,7 @@
 -- The numbers that anchor words are in the shared table. Bits 0 to 15 hold the readers, 16 to 18 the stage, 19 the doom and
 -- 32 to 63 the version, and bits 20 to 31 are 0. A word without its readers is the number of its epoch: those numbers are
 -- ordered as the epochs are.
-use Rattle.std.specs.Prelude.{ℕ, bit_or, ◌+◌, ◌*◌, ◌/◌, ◌%◌, ◌^◌, ◌<◌, ◌≤◌, IsBitSet, Bool, true, false, ◌==◌, ◌||◌, ◌&&◌}
+use Rattle.std.specs.Prelude.{ℕ, bit_or, ◌+◌, ◌-◌, ◌*◌, ◌/◌, ◌%◌, ◌^◌, ◌<◌, ◌≤◌, IsBitSet, Bool, true, false, ◌==◌, ◌||◌, ◌&&◌}
 use Rattle.lock_word.specs.declared.stage.Stage.{Stage}
 use Rattle.lock_word.specs.declared.stage.Stage.TheVariants.{Empty, Taken, Appending, Closed, Halted, Freeing, Gone}
 use Rattle.lock_word.specs.declared.epoch.Epoch.{Epoch}
@@ -104,6 +104,10 @@ doomed n = bit_or n 524288
 abbrev pub raised : ℕ → ℕ → ℕ
 raised n by = n + 65536 * by
 
--- the least version that is never drawn
+-- an entry is freed: its word at FREEING
+abbrev pub evicted : ℕ → ℕ
+evicted n = raised n (5 - stage_of (epoch_of n))
+
+-- the greatest version that may be drawn
 abbrev pub version_limit : ℕ
 version_limit = 4294901760

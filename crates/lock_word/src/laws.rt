@@ -2,15 +2,16 @@
 //! number, sets a bit of it, or puts another in its place, and its proof needs no bits but these
 //! rules. The functions with no body do nothing, and the proof of a function that calls one may use
 //! what it ensures.
-ghost use Rattle.std.specs.Prelude.{◌≡◌, ℕ, List, ◌+◌, ◌-◌, ◌*◌, ◌^◌, ◌<◌, ◌≤◌, ◌⊎◌, ◌↔◌, IsTrue, IsFalse, IsNone};
+ghost use Rattle.std.specs.Prelude.{◌≡◌, ℕ, List, ◌+◌, ◌-◌, ◌*◌, ◌^◌, ◌<◌, ◌≤◌, ◌⊎◌, ◌↔◌, IsTrue, IsFalse, IsNone, false};
 ghost use Rattle.std.specs.Cmp.{IsTotalOrder};
 ghost use Rattle.std.specs.Ordering.{nat_cmp};
 ghost use Rattle.lock_word.specs.declared.epoch.Epoch.{Epoch};
+ghost use Rattle.lock_word.specs.declared.stage.Stage.{Stage};
 ghost use Rattle.lock_word.specs.declared.word.Word.{Word};
 ghost use Rattle.lock_word.specs.Words.{IsInRange, IsWord, HasReservedBit, stage_number, doom_number, epoch_number, word_number};
 ghost use Rattle.lock_word.specs.Words.{readers_of, epoch_of, version_of, mode_of, stage_of, doom_of};
 ghost use Rattle.lock_word.specs.Words.{is_readable, is_written, is_idle, is_vacant, is_left_over};
-ghost use Rattle.lock_word.specs.Words.{epoch_at, word_at, doomed, raised};
+ghost use Rattle.lock_word.specs.Words.{epoch_at, word_at, doomed, raised, evicted};
 ghost use Rattle.lock_word.specs.Order.{epoch_cmp};
 ghost use Rattle.lock_word.specs.Life.{IsReadable, IsWritten, IsIdle, IsVacant, IsLeftOver};
 ghost use Rattle.lock_word.specs.Cause.{cause_of};
@@ -130,6 +131,32 @@ pub fn words_are_put()
         epoch_of n < epoch_of (word_at version stage) }
     ensures above { (e version stage : ℕ) → version_of e < version → e < epoch_at version stage }
     ensures taken { (version : ℕ) → IsTrue (is_written (epoch_at version 1)) }
+{}
+
+/// An anchor that is taken for a version has the word of it at Taken, without doom and readers.
+pub fn entries_are_taken()
+    ensures number { (version : ℕ) →
+        word_number (record { epoch = record { version = version; doom = false; stage = Stage.Taken }; readers = 0 }) ≡ word_at version 1 }
+    ensures word { (version : ℕ) → version < 2 ^ 32 → IsWord (word_at version 1) }
+    ensures readers { (version : ℕ) → readers_of (word_at version 1) ≡ 0 }
+    ensures version { (version : ℕ) → version_of (epoch_of (word_at version 1)) ≡ version }
+    ensures doom { (version : ℕ) → doom_of (epoch_of (word_at version 1)) ≡ 0 }
+    ensures stage { (version : ℕ) → stage_of (epoch_of (word_at version 1)) ≡ 1 }
+{}
+
+/// An entry that is freed has its word at Freeing: the readers, the version and the doom are as they were.
+pub fn entries_are_evicted()
+    ensures number { (w : Word) → IsInRange w → stage_number w.epoch.stage ≤ 5 →
+        word_number (record w { epoch = record w.epoch { stage = Stage.Freeing } }) ≡ evicted (word_number w) }
+    ensures word { (n : ℕ) → IsWord n → stage_of (epoch_of n) ≤ 5 → IsWord (evicted n) }
+    ensures readers { (n : ℕ) → readers_of (evicted n) ≡ readers_of n }
+    ensures version { (n : ℕ) → stage_of (epoch_of n) ≤ 5 →
+        version_of (epoch_of (evicted n)) ≡ version_of (epoch_of n) }
+    ensures doom { (n : ℕ) → stage_of (epoch_of n) ≤ 5 → doom_of (epoch_of (evicted n)) ≡ doom_of (epoch_of n) }
+    ensures stage { (n : ℕ) → stage_of (epoch_of n) ≤ 5 → stage_of (epoch_of (evicted n)) ≡ 5 }
+    ensures rises { (n : ℕ) → stage_of (epoch_of n) < 5 → epoch_of n < epoch_of (evicted n) }
+    ensures left_over { (n : ℕ) → IsTrue (is_left_over n) → stage_of (epoch_of n) ≤ 5 }
+    ensures idle { (n : ℕ) → IsTrue (is_idle n) → stage_of (epoch_of n) ≤ 5 }
 {}
 
 /// What the tests of a number tell of its parts.

@@ -15,13 +15,16 @@ mod word;
 pub use cause::{Cause, cause_of};
 pub use epoch::{Epoch, readable};
 pub use laws::{
-    epochs_are_below, epochs_are_ordered, epochs_compare, hits_are_readable, numbers_have_parts,
-    numbers_of_words, parts_of_words, readers_are_counted, stages_are_raised, tests_agree,
-    tests_exclude_each_other, tests_tell_parts, words_are_doomed, words_are_put,
+    entries_are_evicted, entries_are_taken, epochs_are_below, epochs_are_ordered, epochs_compare,
+    hits_are_readable, numbers_have_parts, numbers_of_words, parts_of_words, readers_are_counted,
+    stages_are_raised, tests_agree, tests_exclude_each_other, tests_tell_parts, words_are_doomed,
+    words_are_put,
 };
-pub use number::{epoch_bits, is_idle_number, is_left_over_number, is_vacant_number};
+pub use number::{
+    epoch_bits, is_idle_number, is_left_over_number, is_readable_number, is_vacant_number,
+};
 pub use stage::Stage;
-pub use word::{Word, is_idle, is_left_over, is_vacant, pack, unpack};
+pub use word::{Word, is_idle, is_left_over, is_vacant, pack, unpack, word_of};
 
 #[cfg(test)]
 mod tests;

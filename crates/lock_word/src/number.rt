@@ -1,6 +1,6 @@
 //! The same judged by the number of a word alone, whatever its reserved bits are.
 ghost use Rattle.std.specs.Prelude.{◌≡◌};
-ghost use Rattle.lock_word.specs.Words.{epoch_of, readers_of, mode_of, stage_of, is_idle, is_vacant, is_left_over};
+ghost use Rattle.lock_word.specs.Words.{epoch_of, readers_of, mode_of, stage_of, is_readable, is_idle, is_vacant, is_left_over};
 
 /// The number of a word's epoch: the word's bits but those of its readers.
 pub fn epoch_bits(bits: u64) -> u64
@@ -26,6 +26,13 @@ fn stage_bits(bits: u64) -> u64
     ensures { result ≡ stage_of (epoch_of bits) }
 {
     epoch_bits(bits) % 8
+}
+
+/// Whether the epoch of this number is [readable](crate::readable).
+pub fn is_readable_number(bits: u64) -> bool
+    ensures { result ≡ is_readable (epoch_of bits) }
+{
+    matches!(mode_bits(bits), 2 | 3)
 }
 
 /// Whether the word of this number is [idle](crate::is_idle).

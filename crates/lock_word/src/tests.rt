@@ -90,6 +90,8 @@ fn what_words_allow(rt: HostRuntime) {
         let word = word(1, doom, stage, readers);
         let bits = pack(&word);
         assert_eq!(rt; readable(&word.epoch), may_read, "{word:?}");
+        assert_eq!(rt; is_readable_number(bits), may_read, "{word:?}");
+        assert_eq!(rt; word_of(bits), word, "{bits:#018x}");
         assert_eq!(rt; is_idle(&word), idle, "{word:?}");
         assert_eq!(rt; is_idle_number(bits), idle, "{word:?}");
         assert_eq!(rt; is_vacant(&word), vacant, "{word:?}");

@@ -66,6 +66,18 @@ pub fn unpack(bits: u64) -> Option<Word>
     })
 }
 
+/// The word of this number. Where a number may be none of a word, [unpack] tells.
+pub fn word_of(bits: u64) -> Word
+    requires { IsWord bits }
+    ensures number { word_number result ≡ bits }
+    ensures in_range { IsInRange result }
+{
+    match unpack(bits) {
+        Some(word) => word,
+        None => unreachable!(),
+    }
+}
+
 /// Whether the entry is whole, not doomed, and not in use: it may be replaced or evicted.
 pub fn is_idle(word: &Word) -> bool
     ensures idle { IsTrue result ↔ IsIdle word.now }
