@@ -3,10 +3,12 @@
 ghost use Rattle.std.specs.Prelude.{◌≡◌, ℕ, ◌+◌, ◌*◌, ◌^◌, ◌<◌, ◌≤◌, ◌↔◌};
 ghost use Rattle.db_layout.specs.Layout.{IsSlotSize, IsInSlot, slots_of, offset_of, file_size};
 
+use crate::layout::{HEADER_BYTES, MOST_SLOTS};
+
 /// A file that was made for so many slots has as many, and with one byte less one slot less.
 pub fn made_files_have_their_slots()
-    ensures made { (slots slot : ℕ) → 0 < slot → slots ≤ 1048576 → slots_of (file_size slots slot) slot ≡ slots }
-    ensures less { (slots slot bytes : ℕ) → 0 < slot → slots < 1048576 → bytes < file_size (slots + 1) slot → slots_of bytes slot ≤ slots }
+    ensures made { (slots slot : ℕ) → 0 < slot → slots ≤ MOST_SLOTS → slots_of (file_size slots slot) slot ≡ slots }
+    ensures less { (slots slot bytes : ℕ) → 0 < slot → slots < MOST_SLOTS → bytes < file_size (slots + 1) slot → slots_of bytes slot ≤ slots }
     ensures one { (slots more slot : ℕ) → 0 < slot → file_size slots slot ≡ file_size more slot → slots ≡ more }
 {}
 
@@ -14,25 +16,25 @@ pub fn made_files_have_their_slots()
 /// too short for another, or the file has as many as one may have.
 pub fn slots_are_whole()
     ensures counted { (bytes slot n : ℕ) → 0 < slot → 0 < n →
-        ((n ≤ slots_of bytes slot) ↔ ((n ≤ 1048576) × (file_size n slot ≤ bytes))) }
-    ensures within { (bytes slot : ℕ) → 16384 ≤ bytes → file_size (slots_of bytes slot) slot ≤ bytes }
-    ensures rest { (bytes slot : ℕ) → 0 < slot → slots_of bytes slot < 1048576 →
+        ((n ≤ slots_of bytes slot) ↔ ((n ≤ MOST_SLOTS) × (file_size n slot ≤ bytes))) }
+    ensures within { (bytes slot : ℕ) → HEADER_BYTES ≤ bytes → file_size (slots_of bytes slot) slot ≤ bytes }
+    ensures rest { (bytes slot : ℕ) → 0 < slot → slots_of bytes slot < MOST_SLOTS →
         bytes < file_size (slots_of bytes slot) slot + slot }
-    ensures most { (bytes slot : ℕ) → slots_of bytes slot ≤ 1048576 }
-    ensures none { (bytes slot : ℕ) → 0 < slot → ((slots_of bytes slot ≡ 0) ↔ (bytes < 16384 + slot)) }
+    ensures most { (bytes slot : ℕ) → slots_of bytes slot ≤ MOST_SLOTS }
+    ensures none { (bytes slot : ℕ) → 0 < slot → ((slots_of bytes slot ≡ 0) ↔ (bytes < HEADER_BYTES + slot)) }
 {}
 
 /// Slots lie one behind the other: behind the header area, none over another, and each whole slot before
 /// the end of the file.
 pub fn slots_are_apart()
-    ensures first { (slot : ℕ) → offset_of 0 slot ≡ 16384 }
+    ensures first { (slot : ℕ) → offset_of 0 slot ≡ HEADER_BYTES }
     ensures next { (number slot : ℕ) → offset_of (number + 1) slot ≡ offset_of number slot + slot }
     ensures apart { (number other slot : ℕ) → number < other → offset_of number slot + slot ≤ offset_of other slot }
     ensures one { (number other slot place : ℕ) → IsInSlot number slot place → IsInSlot other slot place → number ≡ other }
-    ensures behind_header { (number slot : ℕ) → 16384 ≤ offset_of number slot }
+    ensures behind_header { (number slot : ℕ) → HEADER_BYTES ≤ offset_of number slot }
     ensures within { (bytes slot number : ℕ) → 0 < slot → number < slots_of bytes slot → offset_of number slot + slot ≤ bytes }
     ensures within_made { (slots slot number : ℕ) → number < slots → offset_of number slot + slot ≤ file_size slots slot }
-    ensures every { (slots slot place : ℕ) → 0 < slot → 16384 ≤ place → place < file_size slots slot →
+    ensures every { (slots slot place : ℕ) → 0 < slot → HEADER_BYTES ≤ place → place < file_size slots slot →
         (number : ℕ) × (number < slots) × IsInSlot number slot place }
 {}
 

@@ -11,7 +11,10 @@ mod layout;
 pub use laws::{
     made_files_have_their_slots, offsets_are_in_range, slots_are_apart, slots_are_whole,
 };
-pub use layout::{file_size, offset_of, slot_size_ok, slots_of};
+pub use layout::{
+    GREATEST_SLOT, HEADER_BYTES, LEAST_SLOT, MOST_SLOTS, file_size, offset_of, slot_size_ok,
+    slots_of,
+};
 
 #[cfg(test)]
 mod tests;

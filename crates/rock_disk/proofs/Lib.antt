@@ -1,5 +1,6 @@
 pub mod Cells
 pub mod Crashes
+pub mod Cutting
 pub mod Homes
 pub mod Openings
 pub mod Out

@@ -5,7 +5,8 @@ use Rattle.std.specs.List.{position}
 use Rattle.std.specs.Str.{bytes_eq}
 use Rattle.std.specs.FinMap.{get, insert}
 use Rattle.rock_disk.specs.Cell.{CellState}
-use Rattle.rock_disk.specs.File.{bytes_of, slots_of, header_cut, slots_cut, rest_cut}
+use Rattle.rock_disk.specs.File.{bytes_of, header_cut, slots_cut, rest_cut}
+use Rattle.db_layout.specs.Layout.{slots_of}
 use Rattle.rock_disk.specs.File.File.{Home, Away}
 use Rattle.rock_disk.specs.Opened.{IsOpened}
 use Rattle.rock_disk.specs.Memory.{file_of, files_of, rest_of, HasRoom}

@@ -3,7 +3,8 @@ use Rattle.std.proofs.Common.{◌≡◌, ◌+◌, ◌<◌, ◌≤◌, ℕ, zero,
 use Rattle.std.specs.Prelude.{Result, IsErrOf, IsErrAnd, Ok, Err, ◌↔◌}
 use Rattle.std.specs.FinMap.{get}
 use Rattle.rock_disk.specs.Cell.{CellState, shape}
-use Rattle.rock_disk.specs.File.{File, Files, bytes_of, shapes_from, slots_from, slots_of, slots_cut, header_cut}
+use Rattle.rock_disk.specs.File.{File, Files, bytes_of, shapes_from, slots_from, slots_cut, header_cut}
+use Rattle.db_layout.specs.Layout.{slots_of}
 use Rattle.rock_disk.specs.Opened.{IsSmall, HasShape}
 use Rattle.rock_disk.specs.Memory.{HasRoom}
 use Rattle.rock_disk.specs.declared.volume.OpenFault.{OpenFault}

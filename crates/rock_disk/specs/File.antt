@@ -1,9 +1,12 @@
 -- A file by its cells, and how its bytes are cut into them.
-use Rattle.std.specs.Prelude.{◌≡◌, ◌⊎◌, ℕ, ◌+◌, ◌*◌, ◌-◌, ◌/◌, min, zero, suc, List, [], ◌∷◌, ◌++◌, length, take, drop, Option, Some, replicate}
+use Rattle.std.specs.Prelude.{◌≡◌, ◌⊎◌, ℕ, ◌+◌, ◌*◌, ◌-◌, ◌/◌, min, zero, suc, List, [], ◌∷◌, ◌++◌, length, take, drop, Option, Some, option_map, replicate}
 use Rattle.std.specs.Ordering.{nat_cmp}
 use Rattle.std.specs.Cmp.Lexicographic.{slice_cmp}
 use Rattle.std.specs.FinMap.{FinMap, get, insert}
+use Rattle.db_layout.specs.declared.layout.TheConstants.{HEADER_BYTES}
+use Rattle.db_layout.specs.Layout.{slots_of}
 use Rattle.rock_disk.specs.Cell.{CellState, settled, joined}
+use Rattle.rock_disk.specs.declared.cell.TheConstants.{HEADER_NUMBER}
 
 -- a file with its cells in it, or with the cells out. Bytes past the last slot are its rest
 pub data File : Type 0 where
@@ -19,10 +22,6 @@ abbrev pub bytes_of : File → List ℕ
 bytes_of (Home header cells rest) = header.now ++ (joined cells ++ rest)
 bytes_of (Away slots slot rest) = rest
 
--- how many whole slots a file of so many bytes has. Slots past the limit are ignored
-abbrev pub slots_of : ℕ → ℕ → ℕ
-slots_of bytes slot = min ((bytes - 16384) / slot) 1048576
-
 -- so many slots from the front of these bytes, the first with this number
 abbrev pub slots_from : ℕ → ℕ → ℕ → List ℕ → List CellState
 slots_from number zero slot bytes = []
@@ -35,13 +34,13 @@ shapes_from number (suc n) slot = (number, slot) ∷ shapes_from (number + 1) n 
 
 -- the header area of a file with these bytes, its whole slots, and its rest
 abbrev pub header_cut : List ℕ → CellState
-header_cut bytes = settled 4294967295 16384 (take 16384 bytes)
+header_cut bytes = settled HEADER_NUMBER HEADER_BYTES (take HEADER_BYTES bytes)
 
 abbrev pub slots_cut : ℕ → List ℕ → List CellState
-slots_cut slot bytes = slots_from 0 (slots_of (length bytes) slot) slot (drop 16384 bytes)
+slots_cut slot bytes = slots_from 0 (slots_of (length bytes) slot) slot (drop HEADER_BYTES bytes)
 
 abbrev pub rest_cut : ℕ → List ℕ → List ℕ
-rest_cut slot bytes = drop (16384 + slots_of (length bytes) slot * slot) bytes
+rest_cut slot bytes = drop (HEADER_BYTES + slots_of (length bytes) slot * slot) bytes
 
 -- a file's bytes, cut anew by this slot size
 abbrev pub cut : ℕ → List ℕ → File
@@ -49,7 +48,7 @@ cut slot bytes = Home (header_cut bytes) (slots_cut slot bytes) (rest_cut slot b
 
 -- bytes that are not cut yet
 abbrev pub uncut : List ℕ → File
-uncut bytes = Home (settled 4294967295 0 []) [] bytes
+uncut bytes = Home (settled HEADER_NUMBER 0 []) [] bytes
 
 -- so many bytes, each of them 0
 unfoldable pub zeros : ℕ → List ℕ
@@ -64,6 +63,7 @@ IsNotAway f = Unit {0}
 abbrev pub NoneAway : Files → Type 0
 NoneAway files = (name : List ℕ) → IsNotAway (get files name)
 
+-- there is a file of this name
 abbrev pub IsThere : Files → List ℕ → Type 0
 IsThere files name = (f : File) × (get files name ≡ Some f)
 
@@ -71,3 +71,7 @@ IsThere files name = (f : File) × (get files name ≡ Some f)
 abbrev pub IsKept : ℕ → List ℕ → Files → Files → Type 0
 IsKept slot name before after =
     (after ≡ before) ⊎ ((was : File) × (get before name ≡ Some was) × (after ≡ insert before name (cut slot (bytes_of was))))
+
+-- each file has the bytes that it had, and no other is there
+abbrev pub HaveSameBytes : Files → Files → Type 0
+HaveSameBytes before after = (name : List ℕ) → option_map bytes_of (get after name) ≡ option_map bytes_of (get before name)

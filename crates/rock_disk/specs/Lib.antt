@@ -4,4 +4,5 @@ pub mod Created
 pub mod File
 pub mod Memory
 pub mod Opened
+pub mod Stations
 pub mod Written

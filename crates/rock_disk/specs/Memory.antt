@@ -3,9 +3,11 @@ use Rattle.std.specs.Prelude.{◌≡◌, ℕ, ◌+◌, ◌≤◌, List, [], leng
 use Rattle.std.specs.FinMap.{from_entries, get}
 use Rattle.std.specs.declared.vec.Vec.{Vec}
 use Rattle.rock_io.specs.Plan.{Schedule, schedule_of, faults_of}
+use Rattle.db_layout.specs.declared.layout.TheConstants.{HEADER_BYTES}
 use Rattle.rock_disk.specs.Cell.{CellState}
 use Rattle.rock_disk.specs.File.{File, Files, bytes_of}
 use Rattle.rock_disk.specs.File.File.{Home, Away}
+use Rattle.rock_disk.specs.Stations.{made_of, ended_of}
 use Rattle.rock_disk.specs.declared.memory.cell.MemCell.{MemCell}
 use Rattle.rock_disk.specs.declared.memory.entry.Entry.{Entry}
 use Rattle.rock_disk.specs.declared.memory.file.MemFile.{MemFile}
@@ -45,10 +47,10 @@ abbrev pub volume_plan : MemVolume → Schedule
 volume_plan v = schedule_of v.plan
 
 abbrev pub volume_made : MemVolume → ℕ
-volume_made v = v.stations.made
+volume_made v = made_of v.stations
 
 abbrev pub volume_ended : MemVolume → List ℕ
-volume_ended v = v.stations.ended.items
+volume_ended v = ended_of v.stations
 
 -- the lists that vectors hold
 abbrev pub lists_of : {A : Type 0} → List (Vec ℕ A) → List (List ℕ)
@@ -56,7 +58,7 @@ lists_of {A = A} vectors = map (λ (v : Vec ℕ A). v.items) vectors
 
 -- for each station by the order in which they are made, the numbers of its calls that fail
 abbrev pub volume_lists : MemVolume → List (List ℕ)
-volume_lists v = lists_of v.stations.lists.items
+volume_lists v = lists_of v.lists.items
 
 -- all but the files is as it was
 pub record KeepsCounts (before after : MemVolume) : Type 0 where
@@ -70,7 +72,7 @@ pub record KeepsCounts (before after : MemVolume) : Type 0 where
 pub record HasRoom (files : Files) (name : List ℕ) (slot : ℕ) : Type 0 where
   pub was : File
   pub found : get files name ≡ Some was
-  pub room : 16384 + slot ≤ length (bytes_of was)
+  pub room : HEADER_BYTES + slot ≤ length (bytes_of was)
 
 -- the slot cells of a file, where they are in
 abbrev pub cells_in : Option File → Option (List CellState)

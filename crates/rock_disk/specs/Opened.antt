@@ -1,14 +1,17 @@
 -- A file that is opened, or refused.
 use Rattle.std.specs.Prelude.{◌≡◌, ℕ, ◌+◌, ◌<◌, ◌≤◌, List, length, map, Some}
 use Rattle.std.specs.FinMap.{get, insert}
+use Rattle.db_layout.specs.declared.layout.TheConstants.{HEADER_BYTES}
+use Rattle.db_layout.specs.Layout.{slots_of}
 use Rattle.rock_disk.specs.Cell.{CellState, shape}
-use Rattle.rock_disk.specs.File.{File, Files, bytes_of, slots_of, shapes_from, header_cut, slots_cut, rest_cut}
+use Rattle.rock_disk.specs.declared.cell.TheConstants.{HEADER_NUMBER}
+use Rattle.rock_disk.specs.File.{File, Files, bytes_of, shapes_from, header_cut, slots_cut, rest_cut}
 use Rattle.rock_disk.specs.File.File.{Away}
 
 -- what every volume says of the cells of an opened file
 pub record HasShape (slot bytes : ℕ) (header : CellState) (cells : List CellState) : Type 0 where
-  pub room : 16384 + slot ≤ bytes
-  pub header_shape : shape header ≡ (4294967295, 16384)
+  pub room : HEADER_BYTES + slot ≤ bytes
+  pub header_shape : shape header ≡ (HEADER_NUMBER, HEADER_BYTES)
   pub cell_shapes : map shape cells ≡ shapes_from 0 (slots_of bytes slot) slot
 
 -- the file was cut anew and its cells are out
@@ -25,7 +28,7 @@ pub record IsOut (files : Files) (name : List ℕ) (header : CellState) (cells :
   pub slot : ℕ
   pub rest : List ℕ
   pub found : get files name ≡ Some (Away (length cells) slot rest)
-  pub header_shape : shape header ≡ (4294967295, 16384)
+  pub header_shape : shape header ≡ (HEADER_NUMBER, HEADER_BYTES)
   pub cell_shapes : map shape cells ≡ shapes_from 0 (length cells) slot
 
 -- the file is too short for its header area and one slot
@@ -33,4 +36,4 @@ pub record IsSmall (files : Files) (name : List ℕ) (slot bytes : ℕ) : Type 0
   pub was : File
   pub found : get files name ≡ Some was
   pub size : bytes ≡ length (bytes_of was)
-  pub short : bytes < 16384 + slot
+  pub short : bytes < HEADER_BYTES + slot

@@ -1,6 +1,9 @@
 ghost use Rattle.std.specs.Prelude.{◌≡◌, Bool, IsTrue, length, Contains};
 ghost use Rattle.rock_disk.specs.Cell.{CellState};
 
+/// The number of a header area. No slot has it, since there are fewer of them.
+pub const HEADER_NUMBER: u32 = 4_294_967_295;
+
 /// One slot of a file, or its header area. A cell can move between threads.
 pub trait Cell: Send + Drop {
     /// Whether cells of this type tell what they hold. Where they don't, no clause on contents says
@@ -11,7 +14,7 @@ pub trait Cell: Send + Drop {
     /// the number or the width.
     ghost state: { Self → CellState };
 
-    /// The number of its slot, or 4,294,967,295 for a header area.
+    /// The number of its slot, or [`HEADER_NUMBER`] for a header area.
     fn number(&self) -> u32
         ensures { result ≡ (state self.now).number };
 

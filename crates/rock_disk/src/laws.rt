@@ -22,6 +22,7 @@ pub fn write_then_read<S: Station>(
     ensures now { OnOk result (IsTrue S.C.tells → (S.C.state cell.new).now ≡ bytes.now) }
     ensures shape { shape (S.C.state cell.new) ≡ shape (S.C.state cell.old) }
     ensures faults { S.faults station.old ≤ S.faults station.new }
+    ensures unfailed { OnOk result (S.faults station.new ≡ S.faults station.old) }
     ensures failed { OnErr result (Rose (S.faults station.old) (S.faults station.new)) }
 {
     station.write(cell, bytes)?;
@@ -39,6 +40,7 @@ pub fn write_then_sync<S: Station>(
     ensures crash { OnOk result (IsTrue S.C.tells → (image : List (List ℕ)) → IsCrashImage (S.C.state cell.new ∷ []) image → image ≡ bytes.now ∷ []) }
     ensures shape { shape (S.C.state cell.new) ≡ shape (S.C.state cell.old) }
     ensures faults { S.faults station.old ≤ S.faults station.new }
+    ensures unfailed { OnOk result (S.faults station.new ≡ S.faults station.old) }
     ensures failed { OnErr result (Rose (S.faults station.old) (S.faults station.new)) }
 {
     station.write(cell, bytes)?;

@@ -5,7 +5,6 @@ mod cutting;
 mod entry;
 mod file;
 mod station;
-mod stations;
 #[cfg(test)]
 mod tests;
 mod volume;

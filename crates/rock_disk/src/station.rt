@@ -6,8 +6,13 @@ ghost use Rattle.rock_disk.specs.Written.{AddsAtMost, ReadsOldOrNew};
 use crate::Cell;
 use rock_io::Failed;
 
-/// What one worker reads and writes the cells of a file with. A station is ended by the volume that made it,
-/// so it cannot be dropped.
+/// What one worker reads and writes the cells of a file with. A call that succeeds leaves the count of
+/// faults as it was, and no call wants memory. A station is ended by the volume that made it, so it
+/// cannot be dropped.
+///
+/// What a crash may leave of a cell is told of the time between two calls. A crash within a call is no
+/// call's answer, so no clause speaks of it. The system keeps to this: a crash within a write leaves
+/// a content that may be left after the write, and a crash within a sync one that may be left before it.
 pub trait Station {
     type C: Cell;
 
@@ -20,10 +25,12 @@ pub trait Station {
         ensures read { OnOk result (IsTrue Self.C.tells → buf.new ≡ (Self.C.state cell.old).now) }
         ensures cell { Self.C.state cell.new ≡ Self.C.state cell.old }
         ensures faults { faults self.old ≤ faults self.new }
+        ensures unfailed { OnOk result (faults self.new ≡ faults self.old) }
         ensures failed { OnErr result (Rose (faults self.old) (faults self.new)) };
 
     /// Puts `bytes` into the cell. Until the cell is synced, a crash may leave these bytes or what
-    /// it might have left before. Where the call fails, the cell may hold either.
+    /// it might have left before. Where the call fails, the cell may hold either. A crash within the
+    /// call leaves one of them too, whole.
     fn write(&mut self, cell: &mut Self::C, bytes: &[u8]) -> Result<(), Failed>
         requires { length bytes.now ≡ (Self.C.state cell.old).width }
         ensures written { OnOk result (IsTrue Self.C.tells → (Self.C.state cell.new).now ≡ bytes.now) }
@@ -31,13 +38,16 @@ pub trait Station {
         ensures possible { IsTrue Self.C.tells → AddsAtMost bytes.now (Self.C.state cell.old) (Self.C.state cell.new) }
         ensures shape { shape (Self.C.state cell.new) ≡ shape (Self.C.state cell.old) }
         ensures faults { faults self.old ≤ faults self.new }
+        ensures unfailed { OnOk result (faults self.new ≡ faults self.old) }
         ensures failed { OnErr result (Rose (faults self.old) (faults self.new)) };
 
-    /// Makes sure that a crash leaves what a read gives. Where the call fails, the cell is unchanged.
+    /// Makes sure that a crash leaves what a read gives. Where the call fails, the cell is unchanged. A
+    /// crash within the call leaves what one before it might.
     fn sync(&mut self, cell: &mut Self::C) -> Result<(), Failed>
         ensures settled { OnOk result (IsTrue Self.C.tells → Self.C.state cell.new ≡ settle (Self.C.state cell.old)) }
         ensures unchanged { OnErr result (Self.C.state cell.new ≡ Self.C.state cell.old) }
         ensures shape { shape (Self.C.state cell.new) ≡ shape (Self.C.state cell.old) }
         ensures faults { faults self.old ≤ faults self.new }
+        ensures unfailed { OnOk result (faults self.new ≡ faults self.old) }
         ensures failed { OnErr result (Rose (faults self.old) (faults self.new)) };
 }

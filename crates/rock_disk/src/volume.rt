@@ -7,6 +7,7 @@ ghost use Rattle.rock_disk.specs.File.File.{Home, Away};
 ghost use Rattle.rock_disk.specs.Opened.{HasShape, IsOpened, IsOut, IsSmall};
 
 use crate::{Cell, Station};
+use db_layout::HEADER_BYTES;
 use rock_io::Memory;
 use std::alloc::Global;
 use thiserror::Error;
@@ -80,7 +81,7 @@ impl From<Memory> for StationFault {
 
 /// A file whose cells are out.
 pub struct Opened<C> {
-    /// The header area: number 4,294,967,295, and 16,384 bytes wide.
+    /// The header area: of [`HEADER_NUMBER`](crate::HEADER_NUMBER), and 16,384 bytes wide.
     pub header: C,
     /// The slots in order. Slot n has number n, and is as wide as a slot.
     pub cells: Vec<C>,
@@ -88,7 +89,7 @@ pub struct Opened<C> {
     pub bytes: u64,
 }
 
-/// Files by name.
+/// Files by name. A call that answers otherwise than `Failed` leaves the count of faults as it was.
 pub trait Volume {
     type C: Cell;
 
@@ -127,9 +128,10 @@ pub trait Volume {
 
         // When each refusal comes, and what it leaves.
         ensures missing { IsTrue tells → (IsErrOf result OpenFault.Missing ↔ (get (files self.old) name.now ≡ None)) }
-        ensures short { (bytes : ℕ) → IsErrOf result (OpenFault.Small bytes) → bytes < 16384 + slot }
+        ensures short { (bytes : ℕ) → IsErrOf result (OpenFault.Small bytes) → bytes < HEADER_BYTES + slot }
         ensures small { IsTrue tells → (bytes : ℕ) → (IsErrOf result (OpenFault.Small bytes) ↔ IsSmall (files self.old) name.now slot bytes) }
         ensures failed { IsErrOf result OpenFault.Failed → Rose (faults self.old) (faults self.new) }
+        ensures unfailed { (IsErrOf result OpenFault.Failed → ⊥) → faults self.new ≡ faults self.old }
         ensures refused { OnErr result (files self.new ≡ files self.old) }
 
         ensures faults { faults self.old ≤ faults self.new }
@@ -144,6 +146,7 @@ pub trait Volume {
         ensures made { OnOk result (made self.new ≡ made self.old + 1) }
         ensures refused { OnErr result (made self.new ≡ made self.old) }
         ensures failed { IsErrOf result StationFault.Failed → Rose (faults self.old) (faults self.new) }
+        ensures unfailed { (IsErrOf result StationFault.Failed → ⊥) → faults self.new ≡ faults self.old }
 
         ensures files { files self.new ≡ files self.old }
         ensures faults { faults self.old ≤ faults self.new }
@@ -169,11 +172,10 @@ pub trait Volume {
         ensures ended { ended self.new ≡ ended self.old };
 
     /// Makes a file of zeros with room for the header area and this many slots of `slot` bytes each,
-    /// and no more. Where the call fails, the name may be taken, by a file with any bytes.
+    /// and no more, whatever the slot size. Where the call fails, the name may be taken, by a file with
+    /// any bytes.
     fn create(&mut self, name: &str, slots: u32, slot: u32) -> Result<(), CreateFault>
-        requires { 0 < slot }
-
-        ensures created { OnOk result (IsTrue tells → IsCreated (files self.old) (files self.new) name.now (16384 + slots * slot)) }
+        ensures created { OnOk result (IsTrue tells → IsCreated (files self.old) (files self.new) name.now (HEADER_BYTES + slots * slot)) }
 
         // When each refusal comes, and what it leaves.
         ensures exists { IsTrue tells → (IsErrOf result CreateFault.Exists ↔ IsThere (files self.old) name.now) }
@@ -181,6 +183,7 @@ pub trait Volume {
         ensures memory_unchanged { IsErrOf result CreateFault.Memory → files self.new ≡ files self.old }
         ensures maybe { IsErrOf result CreateFault.Failed → IsTrue tells → IsMaybeCreated (files self.old) (files self.new) name.now }
         ensures failed { IsErrOf result CreateFault.Failed → Rose (faults self.old) (faults self.new) }
+        ensures unfailed { (IsErrOf result CreateFault.Failed → ⊥) → faults self.new ≡ faults self.old }
 
         ensures faults { faults self.old ≤ faults self.new }
         ensures made { made self.new ≡ made self.old }

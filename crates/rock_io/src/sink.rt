@@ -24,15 +24,18 @@ pub trait Sink {
         ensures taken { IfOk result (λ n. IsTrue tells → taken self.new ≡ taken self.old ++ take n bytes.now) }
         ensures kept { OnErr result (taken self.new ≡ taken self.old) }
         ensures faults { faults self.old ≤ faults self.new }
+        ensures unfailed { OnOk result (faults self.new ≡ faults self.old) }
         ensures failed { OnErr result (Rose (faults self.old) (faults self.new)) };
 }
 
-/// Writes all of `bytes`, in as many calls as that takes. It fails at the first call that fails,
-/// and a first part of `bytes` may then have been taken.
+/// Writes all of `bytes`, in as many calls as that takes, and in none where there is no byte. It
+/// fails at the first call that fails, and a first part of `bytes` may then have been taken.
 pub fn write_all<K: Sink>(out: &mut K, bytes: &[u8]) -> Result<(), Failed>
     ensures all { OnOk result (IsTrue K.tells → K.taken out.new ≡ K.taken out.old ++ bytes.now) }
     ensures prefix { IsTrue K.tells → TakesPrefix (K.taken out.old) (K.taken out.new) bytes.now }
+    ensures no_call { length bytes.now ≡ 0 → out.new ≡ out.old }
     ensures faults { K.faults out.old ≤ K.faults out.new }
+    ensures unfailed { OnOk result (K.faults out.new ≡ K.faults out.old) }
     ensures failed { OnErr result (Rose (K.faults out.old) (K.faults out.new)) }
 {
     let mut done = 0;

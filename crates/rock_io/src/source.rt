@@ -1,4 +1,4 @@
-ghost use Rattle.std.specs.Prelude.{◌≡◌, ℕ, ◌<◌, ◌≤◌, Bool, IsTrue, List, [], ◌++◌, length, take, IfOk, OnErr};
+ghost use Rattle.std.specs.Prelude.{◌≡◌, ℕ, ◌<◌, ◌≤◌, Bool, IsTrue, List, [], ◌++◌, length, take, IfOk, OnOk, OnErr};
 ghost use Rattle.rock_io.specs.Faults.{Rose};
 
 use crate::Failed;
@@ -23,5 +23,6 @@ pub trait Source {
         ensures end { IfOk result (λ n. IsTrue tells → n ≡ 0 → 0 < length buf.old → left self.old ≡ []) }
         ensures kept { OnErr result (left self.new ≡ left self.old) }
         ensures faults { faults self.old ≤ faults self.new }
+        ensures unfailed { OnOk result (faults self.new ≡ faults self.old) }
         ensures failed { OnErr result (Rose (faults self.old) (faults self.new)) };
 }

@@ -1,19 +1,15 @@
 // How a file's bytes are cut into its header area, its slots and its rest.
 ghost use Rattle.std.specs.Prelude.{◌≡◌, ◌+◌, ◌*◌, ◌<◌, ◌≤◌, length, map, IfOk};
-ghost use Rattle.rock_disk.specs.File.{slots_of, slots_from, header_cut, slots_cut, rest_cut};
+ghost use Rattle.rock_disk.specs.File.{slots_from, header_cut, slots_cut, rest_cut};
+ghost use Rattle.db_layout.specs.Layout.{slots_of};
 ghost use Rattle.rock_disk.specs.File.File.{Away};
 ghost use Rattle.rock_disk.specs.Memory.{cell_state, file_of};
 
-use super::file::{HEADER_NUMBER, MemFile};
-use crate::{MemCell, Opened};
+use super::file::MemFile;
+use crate::{HEADER_NUMBER, MemCell, Opened};
+use db_layout::{HEADER_BYTES, MOST_SLOTS};
 use rock_io::Memory;
 use std::alloc::Global;
-
-/// How many bytes a header area has.
-pub(super) const HEADER: usize = 16_384;
-
-/// Slots past so many are ignored.
-const SLOT_LIMIT: usize = 1_048_576;
 
 /// The cells of a file, and the file without them.
 pub(super) struct CutFile {
@@ -24,15 +20,15 @@ pub(super) struct CutFile {
 /// Cuts a file of these bytes by a slot size.
 pub(super) fn cut_file(alloc: Global, bytes: &[u8], slot: u32) -> Result<CutFile, Memory>
     requires slot { 0 < slot }
-    requires room { 16384 + slot ≤ length bytes.now }
+    requires room { HEADER_BYTES + slot ≤ length bytes.now }
     ensures bytes { IfOk result (λ c. c.opened.bytes ≡ length bytes.now) }
     ensures header { IfOk result (λ c. cell_state c.opened.header ≡ header_cut bytes.now) }
     ensures cells { IfOk result (λ c. map cell_state c.opened.cells.items ≡ slots_cut slot bytes.now) }
     ensures away { IfOk result (λ c. file_of c.away ≡ Away (slots_of (length bytes.now) slot) slot (rest_cut slot bytes.now)) }
 {
     let slots = slot_count(bytes.len(), slot);
-    let (front, body) = bytes.split_at(HEADER);
-    let (_, rest) = bytes.split_at(HEADER + slots as usize * slot as usize);
+    let (front, body) = bytes.split_at(HEADER_BYTES as usize);
+    let (_, rest) = bytes.split_at(HEADER_BYTES as usize + slots as usize * slot as usize);
     let header = MemCell::new(alloc, HEADER_NUMBER, front)?;
     let cells = cut_slots(alloc, body, slots, slot)?;
     let rest = rest.to_vec(alloc)?;
@@ -49,11 +45,11 @@ pub(super) fn cut_file(alloc: Global, bytes: &[u8], slot: u32) -> Result<CutFile
 /// How many whole slots a file of so many bytes has.
 fn slot_count(bytes: usize, slot: u32) -> u32
     requires slot { 0 < slot }
-    requires header { 16384 ≤ bytes }
+    requires header { HEADER_BYTES ≤ bytes }
     ensures count { result ≡ slots_of bytes slot }
-    ensures within { 16384 + result * slot ≤ bytes }
+    ensures within { HEADER_BYTES + result * slot ≤ bytes }
 {
-    ((bytes - HEADER) / slot as usize).min(SLOT_LIMIT) as u32
+    ((bytes - HEADER_BYTES as usize) / slot as usize).min(MOST_SLOTS as usize) as u32
 }
 
 /// So many slots from the front of these bytes.

@@ -4,9 +4,9 @@ ghost use Rattle.std.specs.Str.{bytes_eq};
 ghost use Rattle.rock_disk.specs.Opened.{IsSmall};
 ghost use Rattle.rock_disk.specs.Memory.{file_of, files_of, HasRoom};
 
-use super::cutting::HEADER;
 use super::file::MemFile;
 use crate::OpenFault;
+use db_layout::HEADER_BYTES;
 use rock_io::{Memory, Octets};
 use std::alloc::Global;
 
@@ -46,7 +46,7 @@ pub(super) fn place_to_open(entries: &[Entry], name: &str, slot: u32) -> Result<
         return Err(OpenFault::Missing);
     };
     let bytes = entries[place].file.size();
-    if bytes < HEADER as u64 + slot as u64 {
+    if bytes < HEADER_BYTES as u64 + slot as u64 {
         return Err(OpenFault::Small { bytes });
     }
     Ok(place)

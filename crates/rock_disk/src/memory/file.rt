@@ -4,7 +4,7 @@ ghost use Rattle.rock_disk.specs.File.{bytes_of, uncut, zeros};
 ghost use Rattle.rock_disk.specs.File.File.{Home};
 ghost use Rattle.rock_disk.specs.Memory.{cell_state, file_of, rest_of, cells_in};
 
-use crate::MemCell;
+use crate::{HEADER_NUMBER, MemCell};
 use rock_io::Memory;
 use std::alloc::Global;
 
@@ -22,9 +22,6 @@ pub(super) enum MemFile {
         rest: Vec<u8>,
     },
 }
-
-/// The number of a header area.
-pub(super) const HEADER_NUMBER: u32 = u32::MAX;
 
 impl MemFile {
     /// A file with these bytes, none of them in a cell yet.

@@ -7,11 +7,11 @@ ghost use Rattle.rock_disk.specs.File.{NoneAway, IsNotAway, IsThere, uncut};
 ghost use Rattle.rock_disk.specs.File.File.{Home, Away};
 ghost use Rattle.rock_disk.specs.Opened.{HasShape, IsOpened, IsOut, IsSmall};
 
-use super::cutting::{CutFile, HEADER, cut_file};
+use super::cutting::{CutFile, cut_file};
 use super::entry::{Entry, has_file, place_of, place_to_open, put_entry};
 use super::file::MemFile;
-use super::stations::Stations;
-use crate::{CreateFault, MemCell, MemStation, OpenFault, Opened, StationFault, Volume};
+use crate::{CreateFault, MemCell, MemStation, OpenFault, Opened, StationFault, Stations, Volume};
+use db_layout::HEADER_BYTES;
 use rock_io::{Memory, Plan};
 use std::alloc::Global;
 use std::mem;
@@ -21,6 +21,8 @@ use std::mem;
 pub struct MemVolume {
     entries: Vec<Entry>,
     plan: Plan,
+    /// For each station in the order of their making, the numbers of its calls that fail.
+    lists: Vec<Vec<u64>>,
     stations: Stations,
 }
 
@@ -45,7 +47,8 @@ impl MemVolume {
         MemVolume {
             entries: Vec::new(alloc),
             plan: Plan::new(fail),
-            stations: Stations::new(alloc, stations),
+            lists: stations,
+            stations: Stations::new(alloc),
         }
     }
 
@@ -69,6 +72,17 @@ impl MemVolume {
     {
         let place = place_of(&self.entries, name)?;
         self.entries[place].file.cells()
+    }
+
+    /// A copy of the list for the next station.
+    fn next_list(&self) -> Result<Vec<u64>, Memory>
+        ensures { IfOk result (λ fail. fail.items ≡ get_or (volume_lists self.now) (volume_made self.now) []) }
+    {
+        let alloc = *self.entries.allocator();
+        let Some(list) = self.lists.get(self.stations.made()) else {
+            return Ok(Vec::new(alloc));
+        };
+        Ok(list.to_vec(alloc)?)
     }
 }
 
@@ -103,7 +117,7 @@ impl Volume for MemVolume {
 
         // When each refusal comes, and what it leaves.
         ensures missing { IsErrOf result OpenFault.Missing ↔ (get (volume_files self.old) name.now ≡ None) }
-        ensures short { (bytes : ℕ) → IsErrOf result (OpenFault.Small bytes) → bytes < 16384 + slot }
+        ensures short { (bytes : ℕ) → IsErrOf result (OpenFault.Small bytes) → bytes < HEADER_BYTES + slot }
         ensures small { (bytes : ℕ) → (IsErrOf result (OpenFault.Small bytes) ↔ IsSmall (volume_files self.old) name.now slot bytes) }
         ensures listed { IsErrOf result OpenFault.Failed ↔ (FailsNext (volume_plan self.old) × HasRoom (volume_files self.old) name.now slot) }
         ensures refused { OnErr result (volume_files self.new ≡ volume_files self.old) }
@@ -113,7 +127,7 @@ impl Volume for MemVolume {
         ensures faults { volume_faults self.old ≤ volume_faults self.new }
         ensures failed { IsErrOf result OpenFault.Failed → Rose (volume_faults self.old) (volume_faults self.new) }
         ensures counted { IsErrOf result OpenFault.Failed → volume_faults self.new ≡ one_more (volume_faults self.old) }
-        ensures uncounted { (IsErrOf result OpenFault.Failed → ⊥) → volume_faults self.new ≡ volume_faults self.old }
+        ensures unfailed { (IsErrOf result OpenFault.Failed → ⊥) → volume_faults self.new ≡ volume_faults self.old }
 
         ensures made { volume_made self.new ≡ volume_made self.old }
         ensures ended { volume_ended self.new ≡ volume_ended self.old }
@@ -147,7 +161,7 @@ impl Volume for MemVolume {
         ensures faults { volume_faults self.old ≤ volume_faults self.new }
         ensures failed { IsErrOf result StationFault.Failed → Rose (volume_faults self.old) (volume_faults self.new) }
         ensures counted { IsErrOf result StationFault.Failed → volume_faults self.new ≡ one_more (volume_faults self.old) }
-        ensures uncounted { (IsErrOf result StationFault.Failed → ⊥) → volume_faults self.new ≡ volume_faults self.old }
+        ensures unfailed { (IsErrOf result StationFault.Failed → ⊥) → volume_faults self.new ≡ volume_faults self.old }
 
         ensures files { volume_files self.new ≡ volume_files self.old }
         ensures ended { volume_ended self.new ≡ volume_ended self.old }
@@ -157,7 +171,9 @@ impl Volume for MemVolume {
             self.plan.fault();
             return Err(StationFault::Failed);
         }
-        Ok(self.stations.make()?)
+        let fail = self.next_list()?;
+        self.stations.make()?;
+        Ok(MemStation::new(fail))
     }
 
     fn end_station(&mut self, station: MemStation)
@@ -199,9 +215,7 @@ impl Volume for MemVolume {
     }
 
     fn create(&mut self, name: &str, slots: u32, slot: u32) -> Result<(), CreateFault>
-        requires { 0 < slot }
-
-        ensures created { OnOk result (IsCreated (volume_files self.old) (volume_files self.new) name.now (16384 + slots * slot)) }
+        ensures created { OnOk result (IsCreated (volume_files self.old) (volume_files self.new) name.now (HEADER_BYTES + slots * slot)) }
         ensures home { NoneAway (volume_files self.old) → NoneAway (volume_files self.new) }
 
         // When each refusal comes. None leaves a file.
@@ -214,7 +228,7 @@ impl Volume for MemVolume {
         ensures faults { volume_faults self.old ≤ volume_faults self.new }
         ensures failed { IsErrOf result CreateFault.Failed → Rose (volume_faults self.old) (volume_faults self.new) }
         ensures counted { IsErrOf result CreateFault.Failed → volume_faults self.new ≡ one_more (volume_faults self.old) }
-        ensures uncounted { (IsErrOf result CreateFault.Failed → ⊥) → volume_faults self.new ≡ volume_faults self.old }
+        ensures unfailed { (IsErrOf result CreateFault.Failed → ⊥) → volume_faults self.new ≡ volume_faults self.old }
 
         ensures made { volume_made self.new ≡ volume_made self.old }
         ensures ended { volume_ended self.new ≡ volume_ended self.old }
@@ -229,7 +243,10 @@ impl Volume for MemVolume {
             return Err(CreateFault::Failed);
         }
         let alloc = *self.entries.allocator();
-        let file = MemFile::zeros(alloc, HEADER + slots as usize * slot as usize)?;
+        let file = MemFile::zeros(
+            alloc,
+            HEADER_BYTES as usize + slots as usize * slot as usize,
+        )?;
         put_entry(alloc, &mut self.entries, name, file)?;
         Ok(())
     }
