@@ -1,1 +1,3 @@
-pub mod Files
+pub mod Cell
+pub mod Station
+pub mod Volume

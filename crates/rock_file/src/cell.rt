@@ -1,0 +1,67 @@
+ghost use Rattle.std.specs.Prelude.{◌≡◌, ◌+◌, ◌*◌, ◌<◌, map, false, IfOk};
+ghost use Rattle.rock_disk.specs.Cell.{shape};
+ghost use Rattle.rock_disk.specs.File.{shapes_from};
+
+use db_layout::HEADER_BYTES;
+use rock_disk::{Cell, HEADER_NUMBER};
+use rock_io::Memory;
+use std::alloc::Global;
+
+/// A place in a file. It holds none of the file's bytes.
+#[derive(Debug, Drop)]
+pub struct FileCell {
+    number: u32,
+    pub(crate) width: u32,
+}
+
+impl FileCell {
+    ghost use Rattle.rock_file.specs.Cell.{cell_state};
+
+    pub(crate) fn header() -> FileCell
+        ensures { shape (cell_state result) ≡ (HEADER_NUMBER, HEADER_BYTES) }
+    {
+        FileCell {
+            number: HEADER_NUMBER,
+            width: HEADER_BYTES,
+        }
+    }
+
+    /// The first slots of a file, in order.
+    pub(crate) fn slots(alloc: Global, count: u32, width: u32) -> Result<Vec<FileCell>, Memory>
+        ensures { IfOk result (λ cells. map shape (map cell_state cells.items) ≡ shapes_from 0 count width) }
+    {
+        let mut cells = Vec::new(alloc);
+        for number in 0..count {
+            cells.push(FileCell { number, width })?;
+        }
+        Ok(cells)
+    }
+
+    /// Where in the file it begins.
+    pub(crate) fn offset(&self) -> u64
+        ensures header { self.now.number ≡ HEADER_NUMBER → result ≡ 0 }
+        ensures slot { self.now.number < HEADER_NUMBER → result ≡ HEADER_BYTES + self.now.number * self.now.width }
+    {
+        if self.number == HEADER_NUMBER {
+            return 0;
+        }
+        u64::from(HEADER_BYTES) + u64::from(self.number) * u64::from(self.width)
+    }
+}
+
+impl Cell for FileCell {
+    ghost use Rattle.std.proofs.lemmas.Bool.{false≢true};
+    ghost use Rattle.rock_file.specs.Cell.{cell_state};
+
+    ghost tells = { false };
+
+    ghost state = { cell_state };
+
+    fn number(&self) -> u32 {
+        self.number
+    }
+
+    ghost as_wide = { λ cell told. absurd (false≢true told) };
+
+    ghost now_may_stay = { λ cell told. absurd (false≢true told) };
+}
