@@ -1,5 +1,5 @@
 // A script is read from a source.
-ghost use Rattle.std.specs.Prelude.{◌≡◌, ◌≤◌, ℕ, ◌<◌, ◌++◌, List, length, vec_len, IfOk, IfErr, IsTrue, MatchResult};
+ghost use Rattle.std.specs.Prelude.{◌≡◌, ◌≤◌, ℕ, ◌<◌, ◌++◌, List, length, vec_len, IfOk, IfErr, IsErrOf, IsTrue, MatchResult};
 ghost use Rattle.rock_io.specs.Faults.{Rose};
 ghost use Rattle.script_text.specs.Script.{IsScript, IsBadScript, GivesScript, GivesBadLine, Explains, IsTakenFrom};
 ghost use Rattle.script_text.specs.declared.line.Line.{Line};
@@ -20,7 +20,8 @@ fn buffer(alloc: Global) -> Result<Vec<u8>, Memory>
 }
 
 /// Reads a script to its end, for so many workers. The first bad line ends the reading, and so does the
-/// first byte of a line, or of a script, past its limits.
+/// first byte of a line, or of a script, past its limits: the source is not read behind the piece in
+/// which that line ends. A call that fails is not tried again, and is told as what it is.
 pub fn read_script<S: Source>(
     alloc: Global,
     src: &mut S,
@@ -34,6 +35,7 @@ pub fn read_script<S: Source>(
         → MatchResult result (λ _. ⊥) (Explains (λ l c. (l ≡ line) × (c ≡ cause)) (Rose (S.faults src.old) (S.faults src.new))) }
     ensures taken { IsTakenFrom S.tells (S.left src.old) (S.left src.new) }
     ensures faults { S.faults src.old ≤ S.faults src.new }
+    ensures unfailed { (IsErrOf result ScriptFault.Failed → ⊥) → S.faults src.new ≡ S.faults src.old }
 {
     let mut buf = buffer(alloc)?;
     let mut reading = Reading::new(alloc, workers)?;

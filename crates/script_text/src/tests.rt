@@ -1,5 +1,7 @@
+ghost use Rattle.std.specs.Prelude.{◌≡◌, ◌≤◌, false, length, [], IsOk, IfOk};
+
 use crate::{Answer, Body, Line, Request, Script, ScriptFault, Shelf, read_script};
-use rock_io::{MemSource, Memory};
+use rock_io::{Failed, MemSource, Memory, Source};
 use std::alloc::Global;
 use std::sync::Wait;
 use std::test::Fail;
@@ -213,6 +215,60 @@ fn a_source_that_fails_is_told(rt: HostRuntime) {
     }
     let answer = read(rt.alloc(), text, 1, 7, &[5]).map(|script| script.lines.as_slice().len());
     assert_eq!(rt; answer, Ok(2));
+}
+
+/// Gives the same lines in each call, without end, and counts its calls.
+#[derive(Drop)]
+struct Endless {
+    lines: &'static [u8],
+    calls: u64,
+}
+
+impl Source for Endless {
+    ghost tells = { false };
+
+    ghost left = { λ _. [] };
+
+    ghost faults = { λ _. 0 };
+
+    fn read(&mut self, buf: &mut [u8]) -> Result<usize, Failed>
+        ensures count { IfOk result (λ n. n ≤ length buf.old) }
+        ensures given { IsOk result }
+    {
+        self.calls = self.calls.saturating_add(1);
+        let count = self.lines.len().min(buf.len());
+        buf[..count].copy_from_slice(&self.lines[..count]);
+        Ok(count)
+    }
+}
+
+#[test]
+fn reading_stops_behind_the_first_bad_line(rt: HostRuntime) {
+    let rows: [(&[u8], ScriptFault, u64); 3] = [
+        (b"1 fetch\n", ScriptFault::BadLine { line: 1, cause: 4 }, 1),
+        (
+            b"1 more 0\n1 fe",
+            ScriptFault::BadLine { line: 2, cause: 4 },
+            2,
+        ),
+        (
+            b"1 more 0\n",
+            ScriptFault::BadLine {
+                line: 4097,
+                cause: 1,
+            },
+            4097,
+        ),
+    ];
+    for (lines, fault, calls) in rows {
+        let mut source = Endless { lines, calls: 0 };
+        let answer = read_script(rt.alloc(), &mut source, 1).map(|script| script
+            .lines
+            .as_slice()
+            .len());
+        assert_eq!(rt; answer, Err(fault));
+        assert_eq!(rt; source.calls, calls);
+    }
 }
 
 /// A shelf that holds nothing and knows nothing.

@@ -16,7 +16,7 @@ script-preserved g c =
         c.in_ok-take_bytes.ensures.front front is,
         λ told. taken_more _ front (take c.in_ok-count.count c.deref.result.now) _ _ (was told) (c.in_ok-count.ensures.given told ∙ ap (λ l. l ++ g.S.Source.left c.read.new.self) (sym chunk)),
       );
-      faults = omega (arith, c.script.invariant.faults, c.read.ensures.faults);
+      faults = c.in_ok-count.ensures.unfailed ∙ c.script.invariant.faults;
     }
 
 pub returns-in_err-take_bytes-clause-refused : goal.returns-in_err-take_bytes-clause-refused

@@ -10,7 +10,7 @@ invariant-script g l = record {
   reading : IsReading l.reading;
   workers : l.reading.workers ≡ l.fn.workers;
   front : (front : List ℕ) × IsFront l.reading front × (IsTrue g.S.Source.tells → g.S.Source.left l.fn.src ≡ front ++ g.S.Source.left l.src);
-  faults : g.S.Source.faults l.fn.src ≤ g.S.Source.faults l.src;
+  faults : g.S.Source.faults l.src ≡ g.S.Source.faults l.fn.src;
 }
 
 -- each byte takes the reading further, and no reading goes past the limits
