@@ -10,3 +10,4 @@ pub mod Owners
 pub mod Best
 pub mod Winners
 pub mod Whole
+pub mod One

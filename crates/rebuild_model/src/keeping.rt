@@ -1,5 +1,5 @@
-// What a rebuild keeps, computed slot by slot and anchor by anchor. This is slow, and what the quick
-// rebuild is tried against.
+// What a rebuild keeps, computed slot by slot and anchor by anchor. This is slow, and for cores that are
+// made of whole images.
 ghost use Rattle.std.specs.Prelude.{◌≡◌, ◌+◌, ◌<◌, ◌≤◌, ℕ, List, length, IfOk, MatchOption};
 ghost use Rattle.rebuild_model.specs.Image.{IsFile, IsGreatest};
 ghost use Rattle.rebuild_model.specs.Plain.{IsFound, HasNoEntry};

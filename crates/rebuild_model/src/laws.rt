@@ -75,3 +75,11 @@ pub fn winners_and_owners_make_a_rebuild()
 {
     one_entry_at_a_slot();
 }
+
+/// A file has one rebuild for so many anchors.
+pub fn a_file_has_one_rebuild()
+    ensures { (slot : ℕ) (images : List (List ℕ)) (anchors : ℕ) (a b : Rebuilt)
+        → IsRebuilt slot images anchors a → IsRebuilt slot images anchors b → a ≡ b }
+{
+    one_winner_at_an_anchor();
+}

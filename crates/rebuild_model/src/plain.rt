@@ -1,4 +1,4 @@
-// The definitions, computed slot by slot. This is slow, and what the quick scan is tried against.
+// The definitions, computed slot by slot. This is slow.
 ghost use Rattle.std.specs.Prelude.{◌≡◌, ◌<◌, pos, negsuc, List, length, ◌↔◌, IsTrue, IfOk, MatchOption, All, ◌≤◌, sum_by, take, ℕ};
 ghost use Rattle.store_key.specs.Key.{key_of};
 ghost use Rattle.store_key.specs.Url.{IsUrl};

@@ -159,7 +159,7 @@ fn tells(found: Option<&Found>, entry: Option<Entry>) -> bool {
 }
 
 /// Where complete entries begin in files that differ from the base in a few bytes.
-fn rows() -> [(&'static str, &'static [Patch], u32, Option<Entry>); 43] {
+fn rows() -> [(&'static str, &'static [Patch], u32, Option<Entry>); 44] {
     [
         ("two slots", &[], 2, Some((7, 435, &[2, 0]))),
         ("the last slot of a chain", &[], 0, None),
@@ -253,6 +253,13 @@ fn rows() -> [(&'static str, &'static [Patch], u32, Option<Entry>); 43] {
         ("one byte less than the sum", &[(0, 16, b"\xdc")], 2, None),
         ("one byte more than the sum", &[(0, 16, b"\xde")], 2, None),
         ("no size yet", &[(0, 16, b"\0\0")], 2, None),
+        // A chain begins at the first slot, and not where the size would be right.
+        (
+            "the last slot says its own size",
+            &[(0, 16, b"\x05\0")],
+            2,
+            None,
+        ),
         (
             "another size in the first slot",
             &[(2, 16, b"\x63")],

@@ -1,10 +1,12 @@
 -- Reading cells one after another.
 use Rattle.std.proofs.Common.{◌≡◌, ℕ, ◌+◌, ◌<◌, List, [], ◌∷◌, ◌++◌, length, map, take, get_or, Bool, IsTrue, arith, ap, sym, ◌∙◌, subst}
 use Rattle.std.specs.Prelude.{All}
-use Rattle.std.proofs.lemmas.List.{length-map, get_or-map, take_more, length-take-le, take-append-le}
+use Rattle.std.proofs.lemmas.List.{length-map, get_or-map, take_more, take-append-le, length_push}
+use Rattle.std.proofs.lemmas.List.Elements.{All-push}
 use Rattle.std.proofs.Math.Seq.{map-set_same, take-length}
 use Rattle.std.proofs.Math.ListN.{set}
 use Rattle.rock_disk.specs.Cell.{CellState}
+use Rattle.rock_rebuild.specs.Read.{AreImagesOf}
 use Rattle.rock_rebuild.specs.Slots.{AreRead}
 use Rattle.rock_rebuild.specs.declared.slots.Slots.{Slots}
 
@@ -15,10 +17,14 @@ images cells = map (λ c. c.now) cells
 -- what a loop over the cells keeps
 pub record SoFar {C : Type 0} (state : C → CellState) (tells : Bool) (first cells : List C) (slots : Slots) (image : List ℕ) (slot i : ℕ) : Type 0 where
   pub same : map state cells ≡ map state first
-  pub wide : length image ≡ slot
+  pub buffer : length image ≡ slot
   pub table : length slots.table ≡ i
   pub heads : length slots.heads.items ≡ i
-  pub told : IsTrue tells → AreRead (length first) slot (take i (images (map state first))) slots
+  pub passed : List (List ℕ)
+  pub count : length passed ≡ i
+  pub wide : All (λ image. length image ≡ slot) passed
+  pub told : IsTrue tells → passed ≡ take i (images (map state first))
+  pub read : AreRead (length first) slot passed slots
 
 -- each cell has the width that all have
 pub width_at : {C : Type 0} (state : C → CellState) (first cells : List C) (slot i : ℕ) (d : C) → All (λ c. c.width ≡ slot) (map state first)
@@ -37,9 +43,12 @@ pub one_more : {C : Type 0} (state : C → CellState) (tells : Bool) (first cell
     → SoFar state tells first (set cells i cell) after image_after slot (i + 1)
 one_more state tells first cells slots after image image_after slot i d cell so h count same read wide counts adds = record {
   same = map-set_same state cells i cell d same ∙ so.same;
-  wide = wide;
+  buffer = wide;
   table = counts.0 ∙ ap (λ n. n + 1) so.table;
   heads = counts.1 ∙ ap (λ n. n + 1) so.heads;
+  passed = so.passed ++ image_after ∷ [];
+  count = length_push so.passed image_after ∙ ap (λ n. n + 1) so.count;
+  wide = All-push (λ b. length b ≡ slot) so.passed image_after so.wide wide;
   told = λ t.
       let there : get_or (map state cells) i (state d) ≡ state (get_or cells i d) = get_or-map state cells i d (state d) h in
       let was : get_or (map state first) i (state d) ≡ get_or (map state cells) i (state d) = ap (λ s. get_or s i (state d)) (sym so.same) in
@@ -49,7 +58,19 @@ one_more state tells first cells slots after image image_after slot i d cell so 
       let front : take (i + 1) (images (map state first)) ≡ take i (images (map state first)) ++ image_after ∷ [] =
       take_more (images (map state first)) i [] (omega arith) ∙ ap (λ x. take i (images (map state first)) ++ x ∷ []) image_is
       in
-      subst (λ s. AreRead (length first) slot s after) (sym front) (adds (take i (images (map state first))) (length-take-le i (images (map state first)) (omega arith)) (so.told t));
+      ap (λ l. l ++ image_after ∷ []) (so.told t) ∙ sym front;
+  read = adds so.passed so.count so.read;
+}
+
+-- where all were read, they are the images of the cells
+pub all_read : {C : Type 0} (state : C → CellState) (tells : Bool) (first cells : List C) (slots : Slots) (image : List ℕ) (slot i : ℕ) → (so : SoFar state tells first cells slots image slot i) → i ≡ length first
+    → AreImagesOf tells slot (map state first) so.passed
+all_read state tells first cells slots image slot i so all = record {
+  count = so.count ∙ all ∙ sym (length-map first state);
+  wide = so.wide;
+  told = λ t.
+      let whole : i ≡ length (images (map state first)) = all ∙ sym (length-map (map state first) (λ c. c.now) ∙ length-map first state) in
+      so.told t ∙ ap (λ k. take k (images (map state first))) whole ∙ take-length (images (map state first));
 }
 
 -- a slice that a call has filled is the whole of the buffer

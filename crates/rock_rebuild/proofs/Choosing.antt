@@ -13,7 +13,7 @@ use Rattle.std.proofs.lemmas.List.Elements.{All-contains}
 use Rattle.std.proofs.lemmas.List.Kept.{AllPairs-from_increasing}
 use Rattle.store_key.specs.Anchor.{anchor_of}
 use Rattle.rebuild_model.specs.declared.found.Found.{Found}
-use Rattle.rock_rebuild.specs.Best.{IsBestOf, BestOf, AreBest, entry_at}
+use Rattle.rock_rebuild.specs.Best.{IsBestOf, BestOf, AreBest, found_at}
 
 pub here_or_behind : {X : Type 0} (x : X) (xs : List X) (y : X) → Contains (x ∷ xs) y → (x ≡ y) ⊎ Contains xs y
 here_or_behind x xs y (zero, within, is) = inl is
@@ -99,19 +99,19 @@ front_of found place f there =
     ∙ ap (λ n. f ∷ drop n found) (sym (add-one place))
 
 pub one_more : (anchors anchor place : ℕ) (found : List Found) (best : List (Option ℕ)) (f : Found) (after : Option ℕ) → AreBest anchors found (place + 1) best → anchor < anchors → slice_get found place ≡ Some f → anchor_of f.key anchors ≡ anchor
-    → BestOf anchors anchor (drop place found) (entry_at found after) → AreBest anchors found place (set best anchor after)
+    → BestOf anchors anchor (drop place found) (found_at found after) → AreBest anchors found place (set best anchor after)
 one_more anchors anchor place found best f after are below there at is = record {
   count = length-set best anchor after ∙ are.count;
-  each = λ other inside. elim (nat_eq anchor other) as (λ t. nat_eq anchor other ≡ t → BestOf anchors other (drop place found) (entry_at found (get_or (set best anchor after) other None))) [
+  each = λ other inside. elim (nat_eq anchor other) as (λ t. nat_eq anchor other ≡ t → BestOf anchors other (drop place found) (found_at found (get_or (set best anchor after) other None))) [
     | true ↦ λ e.
         let same : anchor ≡ other = together anchor other e in
         let now : get_or (set best anchor after) anchor None ≡ after = get_or-set_same best anchor after None (omega (arith, below, are.count)) in
-        subst (λ a. BestOf anchors a (drop place found) (entry_at found (get_or (set best anchor after) a None))) same (subst (λ o. BestOf anchors anchor (drop place found) (entry_at found o)) (sym now) is)
+        subst (λ a. BestOf anchors a (drop place found) (found_at found (get_or (set best anchor after) a None))) same (subst (λ o. BestOf anchors anchor (drop place found) (found_at found o)) (sym now) is)
     | false ↦ λ e.
         let now : get_or (set best anchor after) other None ≡ get_or best other None = get_or-set_other best anchor other after None (apart anchor other e) in
-        subst (λ o. BestOf anchors other (drop place found) (entry_at found o)) (sym now)
-        (subst (λ l. BestOf anchors other l (entry_at found (get_or best other None))) (sym (front_of found place f there))
-        (passed anchors other f (drop (place + 1) found) (entry_at found (get_or best other None)) (λ is_other. apart anchor other e (sym is_other ∙ at)) (are.each other inside)))
+        subst (λ o. BestOf anchors other (drop place found) (found_at found o)) (sym now)
+        (subst (λ l. BestOf anchors other l (found_at found (get_or best other None))) (sym (front_of found place f there))
+        (passed anchors other f (drop (place + 1) found) (found_at found (get_or best other None)) (λ is_other. apart anchor other e (sym is_other ∙ at)) (are.each other inside)))
   ] refl;
 }
 
@@ -119,7 +119,7 @@ one_more anchors anchor place found best f after are below there at is = record 
 pub none_yet : (anchors : ℕ) (found : List Found) (best : List (Option ℕ)) → length best ≡ anchors → ((k : ℕ) → get_or best k None ≡ None) → AreBest anchors found (length found) best
 none_yet anchors found best count none = record {
   count = count;
-  each = λ anchor inside. subst (λ o. BestOf anchors anchor (drop (length found) found) (entry_at found o)) (sym (none anchor)) (λ f there at. absurd (omega (arith, there.1, length-drop (length found) found)));
+  each = λ anchor inside. subst (λ o. BestOf anchors anchor (drop (length found) found) (found_at found o)) (sym (none anchor)) (λ f there at. absurd (omega (arith, there.1, length-drop (length found) found)));
 }
 
 later_by_pairs : (xs : List Found) (x : Found) (rest : List Found) → AllPairs (λ a b. a < b) (map (λ f. f.first) (xs ++ x ∷ rest)) → All (λ f. x.first < f.first) rest

@@ -14,7 +14,7 @@ use Rattle.rebuild_model.specs.declared.found.Found.{Found}
 use Rattle.store_key.specs.Key.{key_of}
 use Rattle.rock_rebuild.specs.Kept.{IsHead, HasNoHead}
 use Rattle.rock_rebuild.specs.Left.{HasNoChain, IsChainAt}
-use Rattle.rock_rebuild.specs.declared.head.Head.{Head}
+use Rattle.rock_rebuild.specs.declared.entry_head.Head.{Head}
 
 -- the first slot of a chain belongs to itself
 pub first_belongs : (slot : ℕ) (images : List (List ℕ)) (s : ℕ) (chain : List ℕ) → IsChain slot images s chain → BelongsTo slot images s s

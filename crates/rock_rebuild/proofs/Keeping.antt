@@ -8,7 +8,7 @@ use Rattle.rebuild_model.specs.Entry.{Entry, found_of}
 use Rattle.rebuild_model.specs.Keeping.{HasNoneAt, IsKept}
 use Rattle.rock_rebuild.specs.declared.outcome.Scan.{Scan}
 use Rattle.rock_rebuild.specs.Scan.{IsScan}
-use Rattle.rock_rebuild.specs.Best.{BestOf, AreBest, entry_at}
+use Rattle.rock_rebuild.specs.Best.{BestOf, AreBest, found_at}
 use Rattle.rock_rebuild.specs.Winners.{AreKept}
 
 -- any entry
@@ -49,5 +49,5 @@ kept_at slot images anchors anchor scan (Some b) s is =
 pub are_kept : (slot : ℕ) (images : List (List ℕ)) (anchors : ℕ) (scan : Scan) (best : List (Option ℕ)) → IsScan slot images scan → AreBest anchors scan.found 0 best → AreKept slot images anchors scan.found best
 are_kept slot images anchors scan best s are = record {
   count = are.count;
-  each = λ anchor inside. kept_at slot images anchors anchor scan (entry_at scan.found (get_or best anchor None)) s (are.each anchor inside);
+  each = λ anchor inside. kept_at slot images anchors anchor scan (found_at scan.found (get_or best anchor None)) s (are.each anchor inside);
 }

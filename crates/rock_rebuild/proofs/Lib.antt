@@ -9,7 +9,6 @@ pub mod Gathering
 pub mod Options
 pub mod Cells
 pub mod Scanned
-pub mod Shapes
 pub mod Choosing
 pub mod Keeping
 pub mod Owning

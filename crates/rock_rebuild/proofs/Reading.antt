@@ -7,7 +7,7 @@ use Rattle.slot_cell.specs.declared.header.Header.{Header}
 use Rattle.slot_cell.specs.Header.{header_of, IsSane}
 use Rattle.rebuild_model.specs.Image.{image_at}
 use Rattle.rock_rebuild.specs.Kept.{IsHeaderOf, TellsHeader, TellsHead, AreHeaders, AreHeads, IsGreatestOf}
-use Rattle.rock_rebuild.specs.declared.head.Head.{Head}
+use Rattle.rock_rebuild.specs.declared.entry_head.Head.{Head}
 
 -- what holds at each place of two lists, and of one more element of each, holds at each place of the longer lists
 each_more : {X Y : Type 0} (P : ℕ → X → Y → Type 0) (d : X) (e : Y) (xs : List X) (ys : List Y) (x : X) (y : Y) → length ys ≡ length xs

@@ -1,10 +1,11 @@
 -- A scan, put together.
 use Rattle.std.proofs.Common.{◌≡◌, ℕ, zero, suc, ◌<◌, ◌≤◌, List, [], ◌∷◌, length, map, get_or, arith, ◌∙◌}
-use Rattle.std.specs.Prelude.{All}
+use Rattle.std.specs.Prelude.{Bool}
 use Rattle.std.proofs.lemmas.List.{length-map}
 use Rattle.rock_disk.specs.Cell.{CellState}
 use Rattle.rebuild_model.specs.Image.{IsFile, IsGreatest}
 use Rattle.rock_rebuild.specs.Kept.{IsGreatestOf}
+use Rattle.rock_rebuild.specs.Read.{AreImagesOf}
 use Rattle.rock_rebuild.specs.Gathered.{AreFound}
 use Rattle.db_layout.specs.Layout.{IsSlotSize}
 use Rattle.rock_rebuild.specs.Scan.{IsScan}
@@ -15,19 +16,13 @@ use Rattle.rock_rebuild.proofs.Completing.{first_belongs}
 pub count_of : {C : Type 0} (state : C → CellState) (cells : List C) → length (images (map state cells)) ≡ length cells
 count_of state cells = length-map (map state cells) (λ c. c.now) ∙ length-map cells state
 
-wide_at : {C : Type 0} (state : C → CellState) (cells : List C) (slot k : ℕ) (d : List ℕ) → ((cell : C) → length (state cell).now ≡ (state cell).width) → All (λ c. c.width ≡ slot) (map state cells) → k < length cells
-    → length (get_or (images (map state cells)) k d) ≡ slot
-wide_at state [] slot k d full wide within = absurd (omega arith)
-wide_at state (c ∷ cells) slot zero d full wide within = full c ∙ wide 0 (state c) (omega arith)
-wide_at state (c ∷ cells) slot (suc k) d full wide within = wide_at state cells slot k d full (λ j e below. wide (suc j) e (omega arith)) (omega arith)
-
--- cells of one width hold the images of a file
-pub file_of : {C : Type 0} (state : C → CellState) (cells : List C) (slot : ℕ) → ((cell : C) → length (state cell).now ≡ (state cell).width) → IsSlotSize slot → All (λ c. c.width ≡ slot) (map state cells) → length cells ≤ 1048576
-    → IsFile slot (images (map state cells))
-file_of state cells slot full sized wide few = record {
-  few = omega (arith, count_of state cells, few);
+-- images of so many cells, each as wide as a slot, are those of a file
+pub file_of : {C : Type 0} (state : C → CellState) (tells : Bool) (cells : List C) (slot : ℕ) (images : List (List ℕ)) → AreImagesOf tells slot (map state cells) images → IsSlotSize slot → length cells ≤ 1048576
+    → IsFile slot images
+file_of state tells cells slot images are sized few = record {
+  few = omega (arith, are.count, length-map cells state, few);
   sized = omega (arith, sized.from);
-  wide = λ k d within. wide_at state cells slot k d full wide (omega (arith, count_of state cells, within));
+  wide = are.wide;
 }
 
 greatest_of : (slot : ℕ) (images : List (List ℕ)) (greatest : ℕ) → IsGreatestOf (length images) slot images greatest → IsGreatest slot images greatest

@@ -15,11 +15,11 @@ abbrev pub BestOf : ℕ → ℕ → List Found → Option Found → Type 0
 BestOf anchors anchor found best = MatchOption best ((f : Found) → Contains found f → anchor_of f.key anchors ≡ anchor → ⊥) (IsBestOf anchors anchor found)
 
 -- the entry at a place in the list, if a place is named and one is there
-abbrev pub entry_at : List Found → Option ℕ → Option Found
-entry_at found None = None
-entry_at found (Some place) = slice_get found place
+abbrev pub found_at : List Found → Option ℕ → Option Found
+found_at found None = None
+found_at found (Some place) = slice_get found place
 
 -- for each anchor the place of the best entry there, of those that stand from a place on
 pub record AreBest (anchors : ℕ) (found : List Found) (from : ℕ) (best : List (Option ℕ)) : Type 0 where
   pub count : length best ≡ anchors
-  pub each : (anchor : ℕ) → anchor < anchors → BestOf anchors anchor (drop from found) (entry_at found (slice_index_or best anchor None))
+  pub each : (anchor : ℕ) → anchor < anchors → BestOf anchors anchor (drop from found) (found_at found (slice_index_or best anchor None))

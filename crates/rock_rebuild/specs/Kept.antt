@@ -5,7 +5,7 @@ use Rattle.slot_cell.specs.Header.{header_of, header_bytes, payload_of, IsSane}
 use Rattle.rebuild_model.specs.Image.{image_at}
 use Rattle.swap_meta.specs.Meta.{Spells}
 use Rattle.store_key.specs.Url.{IsUrl}
-use Rattle.rock_rebuild.specs.declared.head.Head.{Head}
+use Rattle.rock_rebuild.specs.declared.entry_head.Head.{Head}
 
 -- the header of a slot that is sane in a file of so many slots of so many bytes
 pub record IsHeaderOf (slots slot : ℕ) (image : List ℕ) (header : Header) : Type 0 where

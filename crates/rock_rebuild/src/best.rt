@@ -4,15 +4,15 @@ ghost use Rattle.std.specs.List.{slice_get};
 ghost use Rattle.std.specs.List.Sorted.{IsStrictlyIncreasing};
 ghost use Rattle.store_key.specs.Anchor.{anchor_of};
 ghost use Rattle.rebuild_model.specs.declared.found.Found.{Found};
-ghost use Rattle.rock_rebuild.specs.Best.{BestOf, AreBest, entry_at};
+ghost use Rattle.rock_rebuild.specs.Best.{BestOf, AreBest, found_at};
 
 use rebuild_model::Found;
 use std::alloc::{AllocError, Global};
 use store_key::anchor_of;
 
 /// The entry at a place, if a place is named and one is there.
-pub fn entry_at(found: &[Found], place: Option<usize>) -> Option<&Found>
-    ensures { option_copied result ≡ entry_at found.now place }
+pub fn found_at(found: &[Found], place: Option<usize>) -> Option<&Found>
+    ensures { option_copied result ≡ found_at found.now place }
 {
     found.get(place?)
 }
@@ -23,10 +23,10 @@ fn better_of(found: &[Found], best: Option<usize>, place: usize) -> Option<usize
     requires { place < length found.now }
     ensures { (anchors anchor : ℕ) → IsStrictlyIncreasing (map (λ f. f.first) found.now)
         → MatchOption (slice_get found.now place) ⊥ (λ f. anchor_of f.key anchors ≡ anchor)
-        → BestOf anchors anchor (drop (place + 1) found.now) (entry_at found.now best)
-        → BestOf anchors anchor (drop place found.now) (entry_at found.now result) }
+        → BestOf anchors anchor (drop (place + 1) found.now) (found_at found.now best)
+        → BestOf anchors anchor (drop place found.now) (found_at found.now result) }
 {
-    if let Some(kept) = entry_at(found, best) {
+    if let Some(kept) = found_at(found, best) {
         if kept.version > found[place].version {
             return best;
         }

@@ -4,6 +4,8 @@ ghost use Rattle.rebuild_model.specs.Image.{IsFile};
 ghost use Rattle.rock_rebuild.specs.Left.{AreLeft, HasNoChain, IsChainAt};
 
 use crate::table::Table;
+use db_layout::MOST_SLOTS;
+use slot_cell::HEADER_SIZE;
 use std::alloc::AllocError;
 
 /// Follows the chain that begins at slot `first`, puts its slots into `chain`, and takes their headers
@@ -17,7 +19,7 @@ pub fn follow(
     slot: u32,
     first: u32,
 ) -> Result<Option<u64>, AllocError>
-    requires { length table.old ≤ 1048576 }
+    requires { length table.old ≤ MOST_SLOTS }
     ensures followed { IfOk result (λ size. (images : List (List ℕ)) → IsFile slot images
         → AreLeft slot images first table.old
         → AreLeft slot images (first + 1) table.new
@@ -39,7 +41,7 @@ pub fn follow(
             }
             return Ok(Some(size));
         }
-        if u64::from(header.payload_size) + 40 != u64::from(slot) {
+        if u64::from(header.payload_size) + HEADER_SIZE as u64 != u64::from(slot) {
             return Ok(None);
         }
         at = header.next_slot.cast_unsigned();

@@ -7,8 +7,9 @@ ghost use Rattle.rock_rebuild.specs.Left.{AreLeft};
 ghost use Rattle.rock_rebuild.specs.Gathered.{AreFound};
 
 use crate::chain::follow;
-use crate::head::Head;
+use crate::entry_head::Head;
 use crate::table::Table;
+use db_layout::MOST_SLOTS;
 use rebuild_model::{Found, one_entry_at_a_slot};
 use rock_io::Numbers;
 use std::alloc::{AllocError, Global};
@@ -23,7 +24,7 @@ fn entry_at(
     first: u32,
     head: Option<Head>,
 ) -> Result<Option<Found>, AllocError>
-    requires { length table.old ≤ 1048576 }
+    requires { length table.old ≤ MOST_SLOTS }
     ensures found { IfOk result (λ found. (images : List (List ℕ)) → IsFile slot images
         → AreLeft slot images first table.old
         → TellsHead (length images) slot first (image_at images first) head
@@ -74,8 +75,8 @@ pub fn entries_of(
     heads: &mut [Option<Head>],
     slot: u32,
 ) -> Result<Vec<Found>, AllocError>
-    requires table { length table.old ≤ 1048576 }
-    requires heads { length heads.old ≤ 1048576 }
+    requires table { length table.old ≤ MOST_SLOTS }
+    requires heads { length heads.old ≤ MOST_SLOTS }
     ensures { IfOk result (λ found. (images : List (List ℕ)) → IsFile slot images
         → AreHeaders (length images) slot images table.old
         → AreHeads (length images) slot images heads.old

@@ -11,7 +11,7 @@
 mod best;
 mod chain;
 mod entries;
-mod head;
+mod entry_head;
 mod outcome;
 mod owners;
 mod read;

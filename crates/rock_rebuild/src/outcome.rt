@@ -18,8 +18,9 @@ pub struct Scan {
 /// Why a file was not scanned.
 #[derive(Clone, Copy, Debug, PartialEq, Eq)]
 pub enum RebuildFault {
-    /// A read failed.
+    /// A read failed, and the station's count of faults rose.
     Failed,
+    /// Memory ran out. The station's count is as it was.
     Memory,
 }
 

@@ -1,11 +1,13 @@
 // The slots of a file are read in order, each once.
-ghost use Rattle.std.specs.Prelude.{◌≡◌, ◌≤◌, ℕ, List, length, map, All, IsTrue, IfOk, IsErrOf};
+ghost use Rattle.std.specs.Prelude.{◌≡◌, ◌≤◌, ℕ, List, length, map, All, IfOk, IsErrOf};
 ghost use Rattle.rock_io.specs.Faults.{Rose};
 ghost use Rattle.rock_disk.specs.Cell.{CellState};
+ghost use Rattle.rock_rebuild.specs.Read.{AreImagesOf};
 ghost use Rattle.rock_rebuild.specs.Slots.{AreRead};
 
 use crate::outcome::RebuildFault;
 use crate::slots::Slots;
+use db_layout::MOST_SLOTS;
 use rock_disk::Station;
 use std::alloc::Global;
 
@@ -17,13 +19,15 @@ pub fn read_slots<St: Station>(
     slot: u32,
 ) -> Result<Slots, RebuildFault>
     requires wide { All (λ (c : CellState). c.width ≡ slot) (map St.C.state cells.old) }
-    requires few { length cells.old ≤ 1048576 }
-    ensures read { IfOk result (λ slots. IsTrue St.C.tells
-        → AreRead (length cells.old) slot (map (λ (c : CellState). c.now) (map St.C.state cells.old)) slots) }
+    requires few { length cells.old ≤ MOST_SLOTS }
+    ensures read { IfOk result (λ slots. (images : List (List ℕ))
+        × AreImagesOf St.C.tells slot (map St.C.state cells.old) images × AreRead (length cells.old) slot images slots) }
     ensures count { IfOk result (λ slots. (length slots.table ≡ length cells.old)
         × (length slots.heads.items ≡ length cells.old)) }
     ensures cells { map St.C.state cells.new ≡ map St.C.state cells.old }
     ensures faults { St.faults station.old ≤ St.faults station.new }
+    ensures unfailed { (IsErrOf result RebuildFault.Failed → ⊥)
+        → St.faults station.new ≡ St.faults station.old }
     ensures failed { IsErrOf result RebuildFault.Failed
         → Rose (St.faults station.old) (St.faults station.new) }
 {

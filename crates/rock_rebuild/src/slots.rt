@@ -2,7 +2,7 @@
 ghost use Rattle.std.specs.Prelude.{◌≡◌, ◌+◌, ℕ, List, [], ◌∷◌, ◌++◌, length, max, IfOk, OnOk, MatchOption};
 ghost use Rattle.rock_rebuild.specs.Kept.{TellsHeader, TellsHead};
 
-use crate::head::{Head, head_of};
+use crate::entry_head::{Head, head_of};
 use crate::table::Table;
 use slot_cell::Header;
 use std::alloc::{AllocError, Global};

@@ -11,8 +11,6 @@ use std::marker::Model;
 #[derive(Debug, Drop)]
 pub struct Table {
     headers: Vec<Option<Header>>,
-    /// How often a slot was looked at.
-    looks: u64,
 }
 
 impl Model for Table {
@@ -28,7 +26,6 @@ impl Table {
     {
         Ok(Table {
             headers: Vec::with_capacity(alloc, slots)?,
-            looks: 0,
         })
     }
 
@@ -57,19 +54,12 @@ impl Table {
             ((self.new ≡ self.old) × ((h : Header) → slice_index_or self.old s None ≡ Some h → IsOf first head.now h → ⊥))
             (λ h. (self.new ≡ slice_set self.old s None) × (slice_index_or self.old s None ≡ Some h) × IsOf first head.now h) }
     {
-        self.looks = self.looks.saturating_add(1);
         let header = self.header(s)?;
         if !is_of(first, head, &header) {
             return None;
         }
         self.headers[s as usize] = None;
         Some(header)
-    }
-
-    /// How often [`Table::take`] looked at a slot.
-    #[cfg(test)]
-    pub fn looks(&self) -> u64 {
-        self.looks
     }
 }
 

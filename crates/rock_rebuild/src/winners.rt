@@ -1,10 +1,10 @@
 // The entries that are kept, in order of their anchors.
 ghost use Rattle.std.specs.Prelude.{◌≡◌, ◌+◌, ℕ, List, IfOk, OnOk, MatchOption};
 ghost use Rattle.rebuild_model.specs.Keeping.{HasNoneAt, IsKept, AreWinners};
-ghost use Rattle.rock_rebuild.specs.Best.{entry_at};
+ghost use Rattle.rock_rebuild.specs.Best.{found_at};
 ghost use Rattle.rock_rebuild.specs.Winners.{AreKept};
 
-use crate::best::entry_at;
+use crate::best::found_at;
 use rebuild_model::{Found, winners_are_gathered};
 use rock_io::{Numbers, Octets};
 use std::alloc::{AllocError, Global};
@@ -31,11 +31,11 @@ fn push_winner(
 ) -> Result<(), AllocError>
     ensures { OnOk result ((slot : ℕ) (images : List (List ℕ)) (anchors anchor : ℕ)
         → AreWinners slot images anchors anchor winners.old.items
-        → MatchOption (entry_at found.now place) (HasNoneAt slot images anchors anchor) (IsKept slot images anchors anchor)
+        → MatchOption (found_at found.now place) (HasNoneAt slot images anchors anchor) (IsKept slot images anchors anchor)
         → AreWinners slot images anchors (anchor + 1) winners.new.items) }
 {
     winners_are_gathered();
-    if let Some(entry) = entry_at(found, place) {
+    if let Some(entry) = found_at(found, place) {
         winners.push(copy_of(alloc, entry)?)?;
     }
     Ok(())

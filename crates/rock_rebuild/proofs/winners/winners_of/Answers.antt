@@ -2,7 +2,7 @@ use Rattle.std.proofs.Common.{◌≡◌, ◌<◌, length, None, sym, subst, arit
 use Rattle.std.specs.Prelude.{MatchOption}
 use Rattle.std.proofs.lemmas.List.{get_or_default}
 use Rattle.rebuild_model.specs.Keeping.{HasNoneAt, IsKept, AreWinners}
-use Rattle.rock_rebuild.specs.Best.{entry_at}
+use Rattle.rock_rebuild.specs.Best.{found_at}
 use Rattle.rock_rebuild.proofs.winners.winners_of.Goals as goal
 
 pub loop-place-init : goal.loop-place-init
@@ -16,7 +16,7 @@ loop-place-preserved c slot images anchors kept =
     let inside : i < length best = omega (arith, c.loop-place-test.true) in
     let below : i < anchors = omega (arith, inside, kept.count) in
     c.in_ok-push_winner.ensures slot images anchors i (c.loop-place.invariant slot images anchors kept)
-    (subst (λ o. MatchOption (entry_at found o) (HasNoneAt slot images anchors i) (IsKept slot images anchors i)) (sym (get_or_default best i _ None inside)) (kept.each i below))
+    (subst (λ o. MatchOption (found_at found o) (HasNoneAt slot images anchors i) (IsKept slot images anchors i)) (sym (get_or_default best i _ None inside)) (kept.each i below))
 
 pub returns : goal.returns
 returns c slot images anchors kept =
