@@ -3,10 +3,9 @@ use Rattle.std.proofs.Common.{◌≡◌, ◌+◌, ◌*◌, ℕ, List, take, arit
 use Rattle.std.proofs.Math.Nat.{suc-mul}
 use Rattle.std.proofs.Math.Numerals.{suc-eq-add-one}
 use Rattle.std.proofs.lemmas.List.{drop_all}
-use Rattle.entry_cut.specs.Filling.{Holds}
-use Rattle.entry_cut.specs.declared.cutter.Cutter.{Cutter}
+use Rattle.entry_cut.specs.Filling.{CutterState, Holds}
 
-pub next_holds : (before after : Cutter) (page new_page filled : List ℕ) → after.place ≡ before.place + 1 → after.held ≡ 0 → after.room ≡ before.room → before.held ≡ before.room → Holds before page filled
+pub next_holds : (before after : CutterState) (page new_page filled : List ℕ) → after.place ≡ before.place + 1 → after.held ≡ 0 → after.room ≡ before.room → before.held ≡ before.room → Holds before page filled
     → Holds after new_page filled
 next_holds before after page new_page filled place held room full h =
     let more : (before.place + 1) * before.room ≡ before.place * before.room + before.room = ap (λ n. n * before.room) (sym (suc-eq-add-one before.place)) ∙ suc-mul before.place before.room in

@@ -4,8 +4,7 @@ ghost use Rattle.std.specs.Prelude.{◌≡◌, ◌+◌, ◌*◌, ◌<◌, ◌≤
 ghost use Rattle.rebuild_model.specs.Entry.{IsComplete};
 ghost use Rattle.entry_cut.specs.Content.{Cut, room_of, slots_needed, piece};
 ghost use Rattle.entry_cut.specs.Standing.{IsWritable, Stand, entry_of};
-ghost use Rattle.entry_cut.specs.Filling.{Holds};
-ghost use Rattle.entry_cut.specs.declared.cutter.Cutter.{Cutter};
+ghost use Rattle.entry_cut.specs.Filling.{CutterState, Holds};
 
 use slot_cell::images_are_read_as_built;
 use store_key::keys_have_16_bytes;
@@ -36,8 +35,8 @@ pub fn pieces_make_the_content()
 /// What a page holds of a content is the piece of its place: the whole piece where the slot is full, and
 /// where the content ends.
 pub fn filled_pages_are_pieces()
-    ensures full { (cutter : Cutter) (page filled more : List ℕ) → Holds cutter page filled → cutter.held ≡ cutter.room
+    ensures full { (cutter : CutterState) (page filled more : List ℕ) → Holds cutter page filled → cutter.held ≡ cutter.room
         → take cutter.held page ≡ piece cutter.room (filled ++ more) cutter.place }
-    ensures last { (cutter : Cutter) (page filled : List ℕ) → Holds cutter page filled
+    ensures last { (cutter : CutterState) (page filled : List ℕ) → Holds cutter page filled
         → take cutter.held page ≡ piece cutter.room filled cutter.place }
 {}
