@@ -116,13 +116,56 @@ fi
 )
 holds 'a file longer than the limit of the process is a fault of the disk' $?
 
+# A row where nothing is compared but the status: a name, the status, and what was to run.
+ends() {
+    local name=$1 status=$2
+    shift 2
+    "$@"
+    local ended=$?
+    [ "$ended" -eq "$status" ]
+    holds "$name: status $ended" $?
+}
+
+# A standard error that takes nothing, or is closed, changes no status.
+closed_error() { ./rock "$@" 2>&- >/dev/null; }
+ends 'a closed standard error leaves the status of a file that is missing' 8 closed_error list gone 512
+ends 'a closed standard error leaves the status of a faulty command line' 2 closed_error
+ends 'a closed standard error leaves the status of what is done' 0 closed_error list one 512
+
 # An output that takes nothing.
 if [ -e /dev/full ]; then
     ./rock list one 512 2>said >/dev/full
     [ $? -eq 5 ] && [ "$(cat said)" = 'rock: SinkFault: standard output did not take all of the answer' ]
     holds 'a full output is a fault of the sink' $?
+    full_output() { ./rock "$@" >/dev/full 2>/dev/null; }
+    ends 'a full output is a fault of the sink for the help' 5 full_output --help
+    ends 'a full output is a fault of the sink for the version' 5 full_output --version
+    full_error() { ./rock "$@" 2>/dev/full >/dev/null; }
+    ends 'a full standard error leaves the status of a file that is missing' 8 full_error list gone 512
+    ends 'a full standard error leaves the status of a faulty command line' 2 full_error
+    both_full() { ./rock "$@" >/dev/full 2>&1; }
+    ends 'a full output is told by the status alone' 5 both_full list one 512
 else
     skip 'a full output: there is no /dev/full'
+fi
+closed_pipe() {
+    (
+        trap '' PIPE
+        sleep 0.3
+        ./rock "$@" 2>/dev/null
+        echo $? >ended
+    ) | true
+    return "$(cat ended)"
+}
+ends 'a reader that closed the pipe is a fault of the sink' 5 closed_pipe list one 512
+
+# A new file is brought to the disk before it is told as made.
+if command -v strace >/dev/null && strace -o calls true 2>/dev/null; then
+    strace -o calls -e trace=ftruncate,fsync,fdatasync ./rock create synced 512 4 2>said
+    [ $? -eq 0 ] && grep -q '^ftruncate(.*, 18432) *= 0' calls && tail -n 2 calls | grep -q '^fsync(.*) *= 0'
+    holds 'a new file has its length and is synced' $?
+else
+    skip 'the sync of a new file: there is no strace that runs here'
 fi
 
 # Help: on standard output where it is asked for, behind the line on standard error after a faulty line, and

@@ -8,7 +8,8 @@ use Rattle.std.proofs.lemmas.Cmp.{nat_list_cmp_total, eq_by_cmp_equiv}
 use Rattle.std.specs.FinMap.{get, insert, get-insert, same_map, slice_cmp-IsAntisymmetric, nat_cmp-IsAntisymmetric}
 use Rattle.std.specs.Prelude.{All, Result, IsErrOf, IsErrAnd, Ok, Err, ◌↔◌}
 use Rattle.rock_disk.specs.Cell.{CellState, shape}
-use Rattle.rock_disk.specs.File.{File, Files, shapes_from, slots_of, bytes_of, rest_cut, header_cut, IsThere, IsKept}
+use Rattle.rock_disk.specs.File.{File, Files, shapes_from, bytes_of, rest_cut, header_cut, IsThere, IsKept}
+use Rattle.db_layout.specs.Layout.{slots_of}
 use Rattle.rock_disk.specs.File.File.{Home, Away}
 use Rattle.rock_disk.specs.Opened.{HasShape, IsOpened, IsOut}
 use Rattle.rock_disk.specs.declared.volume.OpenFault.{OpenFault}

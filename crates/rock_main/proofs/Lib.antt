@@ -6,3 +6,4 @@ pub mod CommandFacts
 pub mod ReportFacts
 pub mod Homes
 pub mod CreateFacts
+pub mod Telling

@@ -1,7 +1,8 @@
 -- When a report is made.
 use Rattle.std.proofs.Common.{◌≡◌, ◌⊎◌, inl, inr, ℕ, List, length, refl, ap, sym, ◌∙◌, subst, arith, Some, None}
 use Rattle.std.specs.Prelude.{Option}
-use Rattle.rock_disk.specs.File.{File, Files, bytes_of, slots_of}
+use Rattle.rock_disk.specs.File.{File, Files, bytes_of}
+use Rattle.db_layout.specs.Layout.{slots_of}
 use Rattle.rock_disk.specs.Opened.{IsSmall}
 use Rattle.db_layout.specs.Layout.{IsSlotSize}
 use Rattle.rock_main.specs.Device.{DeviceFailed, NoFault}
@@ -20,7 +21,7 @@ not_failed (inl rose) none = none.volume rose
 not_failed (inr ended) none = let count = none.station ended.0 ended.1 in absurd (omega (arith, count, ended.2))
 
 -- a file has one number of slots
-one_count : (files : Files) (name : List ℕ) (slot n m : ℕ) → HasSlots files name slot n → HasSlots files name slot m → n ≡ m
+pub one_count : (files : Files) (name : List ℕ) (slot n m : ℕ) → HasSlots files name slot n → HasSlots files name slot m → n ≡ m
 one_count files name slot n m h k = h.count ∙ ap (λ f. slots_of (length (bytes_of f)) slot) (one_file h.there k.there) ∙ sym k.count
 
 not_short : (files : Files) (name : List ℕ) (slot n bytes : ℕ) → HasSlots files name slot n → IsSmall files name slot bytes → ⊥

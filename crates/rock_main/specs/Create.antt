@@ -4,13 +4,14 @@ use Rattle.rock_io.specs.Faults.{Rose}
 use Rattle.rock_disk.specs.File.{Files, IsThere}
 use Rattle.rock_disk.specs.Created.{IsCreated, IsMaybeCreated}
 use Rattle.db_layout.specs.Layout.{IsSlotSize, file_size}
+use Rattle.db_layout.specs.declared.layout.TheConstants.{MOST_SLOTS}
 use Rattle.rock_main.specs.declared.status.Status.{Status}
 use Rattle.rock_main.specs.declared.status.Status.TheVariants.{Done, Usage, Memory, SourceFault, SinkFault, DeviceFault, BadScript, Missing, Small, BadGeometry, Exists}
 
 -- the numbers of slots that a file may be made with
 pub record IsSlotCount (slots : ℕ) : Type 0 where
   pub from : 1 ≤ slots
-  pub to : slots ≤ 1048576
+  pub to : slots ≤ MOST_SLOTS
 
 -- a file of such slots may be made
 pub record IsGeometry (slot slots : ℕ) : Type 0 where

@@ -17,3 +17,8 @@ pub record NoFault (sink_before sink_after volume_before volume_after : ℕ) (en
   pub sink : ¬ Rose sink_before sink_after
   pub volume : ¬ Rose volume_before volume_after
   pub station : (count : ℕ) → ended_after ≡ ended_before ++ count ∷ [] → count ≡ 0
+
+-- the volume did not fail, and neither did the station, if one was ended
+pub record DeviceKept (faults_before faults_after : ℕ) (ended_before ended_after : List ℕ) : Type 0 where
+  pub volume : faults_after ≡ faults_before
+  pub station : (count : ℕ) → ended_after ≡ ended_before ++ count ∷ [] → count ≡ 0

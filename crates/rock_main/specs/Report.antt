@@ -3,9 +3,11 @@ use Rattle.std.specs.Prelude.{◌≡◌, ◌⊎◌, ℕ, ◌+◌, ◌≤◌, Lis
 use Rattle.std.specs.FinMap.{get}
 use Rattle.rock_io.specs.Faults.{Rose}
 use Rattle.rock_io.specs.Sink.{TakesPrefix}
-use Rattle.rock_disk.specs.File.{File, Files, bytes_of, slots_of}
+use Rattle.rock_disk.specs.File.{File, Files, bytes_of}
+use Rattle.db_layout.specs.Layout.{slots_of}
 use Rattle.rock_disk.specs.Opened.{IsSmall}
 use Rattle.db_layout.specs.Layout.{IsSlotSize}
+use Rattle.db_layout.specs.declared.layout.TheConstants.{HEADER_BYTES}
 use Rattle.rock_main.specs.Device.{DeviceFailed}
 use Rattle.rock_main.specs.Listing.{images_of, Lists}
 use Rattle.rock_main.specs.Summary.{Sums}
@@ -42,7 +44,7 @@ pub record OfFile (Prints : List (List ℕ) → List ℕ → Type 0) (files : Fi
 pub record HasSlots (files : Files) (name : List ℕ) (slot slots : ℕ) : Type 0 where
   pub was : File
   pub there : get files name ≡ Some was
-  pub long : 16384 + slot ≤ length (bytes_of was)
+  pub long : HEADER_BYTES + slot ≤ length (bytes_of was)
   pub count : slots ≡ slots_of (length (bytes_of was)) slot
 
 -- it has as many as the command asks for

@@ -5,11 +5,8 @@ ghost use Rattle.rock_disk.specs.File.{IsThere};
 ghost use Rattle.rock_main.specs.Create.{IsSlotCount, IsGeometry, CreateEnds, CreateSays, CreateLeaves};
 
 use crate::status::Status;
-use db_layout::slot_size_ok;
+use db_layout::{MOST_SLOTS, slot_size_ok};
 use rock_disk::{CreateFault, Volume};
-
-/// How many slots a file may have at most.
-const MOST_SLOTS: u32 = 1_048_576;
 
 /// Makes a file of zeros, of the header area and so many slots. The slot size is judged first, then
 /// the number of slots, then the name.
@@ -26,6 +23,7 @@ pub fn create_file<V: Volume>(volume: &mut V, name: &str, slot: u32, slots: u32)
     ensures leaves { CreateLeaves V.tells slot slots name.now
         (V.files volume.old) (V.files volume.new) result }
     ensures faults { V.faults volume.old ≤ V.faults volume.new }
+    ensures unfailed { (result ≡ Status.DeviceFault → ⊥) → V.faults volume.new ≡ V.faults volume.old }
     ensures made { V.made volume.new ≡ V.made volume.old }
     ensures ended { V.ended volume.new ≡ V.ended volume.old }
 {

@@ -6,6 +6,7 @@ ghost use Rattle.rock_disk.specs.Cell.{CellState};
 ghost use Rattle.db_layout.specs.Layout.{IsSlotSize};
 ghost use Rattle.rock_main.specs.Listing.{line_of_found, numbers, Lists};
 
+use db_layout::MOST_SLOTS;
 use rock_disk::Station;
 use rock_rebuild::{Found, RebuildFault, scan};
 use std::alloc::{AllocError, Global};
@@ -19,13 +20,15 @@ pub fn listing_of<St: Station>(
 ) -> Result<Vec<u8>, RebuildFault>
     requires size { IsSlotSize slot }
     requires wide { All (λ (c : CellState). c.width ≡ slot) (map St.C.state cells.old) }
-    requires few { length cells.old ≤ 1048576 }
+    requires few { length cells.old ≤ MOST_SLOTS }
     ensures lists { IfOk result (λ text. IsTrue St.C.tells
         → Lists slot (map (λ (c : CellState). c.now) (map St.C.state cells.old)) text.items) }
     ensures cells { map St.C.state cells.new ≡ map St.C.state cells.old }
     ensures faults { St.faults station.old ≤ St.faults station.new }
     ensures failed { IsErrOf result RebuildFault.Failed
         → Rose (St.faults station.old) (St.faults station.new) }
+    ensures unfailed { (IsErrOf result RebuildFault.Failed → ⊥)
+        → St.faults station.new ≡ St.faults station.old }
 {
     let scan = scan(alloc, station, cells, slot)?;
     Ok(lines_of(alloc, scan.found.as_slice())?)

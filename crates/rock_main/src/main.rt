@@ -11,47 +11,39 @@ mod message;
 mod read;
 mod report;
 mod rock;
+mod run;
 mod status;
 mod summary;
 
-use message::{Asked, explanation};
-use rock::rock;
+use message::Asked;
 use rock_file::FileVolume;
 use rock_help::help_text;
 use rock_io::{StdSink, StdSource, Words};
+use run::{end, run};
 use status::Status;
 use std::alloc::AllocError;
+use std::env;
 use std::io::ErrorKind;
 use std::process::ExitCode;
 use std::rt::Env;
-use std::{env, io};
 
 /// What `rock --version` prints.
 const VERSION: &str = "rock 0.1.0\n";
 
-fn main(rt: HostRuntime) -> io::Result<ExitCode> {
+fn main(rt: HostRuntime) -> ExitCode {
+    let alloc = rt.alloc();
     let words = match words_of(&rt) {
         Ok(words) => words,
-        Err(status) => return end(&rt, &status, &Asked::NOTHING),
+        Err(status) => return end(&rt, alloc, &status, &Asked::NOTHING),
     };
     match words.as_slice() {
-        [word] if word.as_str() == "--help" => { print_help(&rt) }
-        [word] if word.as_str() == "--version" => {
-            rt.print(VERSION)?;
-            Ok(ExitCode::SUCCESS)
-        }
+        [word] if word.as_str() == "--help" => print_help(&rt),
+        [word] if word.as_str() == "--version" => print_text(&rt, VERSION),
         _ => {
-            let alloc = rt.alloc();
             let mut volume = FileVolume::new(&rt, alloc);
             let mut script = StdSource::new(rt.stdin());
             let mut out = StdSink::new(rt.stdout());
-            let status = rock(&rt, alloc, &words, &mut volume, &mut script, &mut out);
-            let asked = Asked {
-                name: word_at(&words, 1),
-                slot: word_at(&words, 2),
-                count: word_at(&words, 3),
-            };
-            end(&rt, &status, &asked)
+            run(&rt, alloc, &words, &mut volume, &mut script, &mut out)
         }
     }
 }
@@ -70,42 +62,19 @@ fn words_of<R: Env + AllocGlobal>(rt: &R) -> Result<Words, Status> {
 }
 
 /// Prints the help text.
-fn print_help<R: Print + Eprint + AllocGlobal>(rt: &R) -> io::Result<ExitCode> {
+fn print_help<R: Print + Eprint + AllocGlobal>(rt: &R) -> ExitCode {
     match help_text(rt.alloc()) {
-        Ok(text) => {
-            rt.print(text.as_str())?;
-            Ok(ExitCode::SUCCESS)
-        }
-        Err(AllocError) => end(rt, &Status::Memory, &Asked::NOTHING),
+        Ok(text) => print_text(rt, text.as_str()),
+        Err(AllocError) => end(rt, rt.alloc(), &Status::Memory, &Asked::NOTHING),
     }
 }
 
-fn word_at(words: &Words, place: usize) -> &str {
-    match words.as_slice().get(place) {
-        Some(word) => word.as_str(),
-        None => "",
+/// Prints a text that was asked for by itself.
+fn print_text<R: Print + Eprint + AllocGlobal>(rt: &R, text: &str) -> ExitCode {
+    match rt.print(text) {
+        Ok(()) => ExitCode::SUCCESS,
+        Err(_) => end(rt, rt.alloc(), &Status::SinkFault, &Asked::NOTHING),
     }
-}
-
-/// Says on standard error what went wrong, after Usage also what would have been right, and gives the
-/// status's code. Where memory is wanting, the sentence or the help text is left out.
-fn end<R: Eprint + AllocGlobal>(
-    rt: &R,
-    status: &Status,
-    asked: &Asked<'_>,
-) -> io::Result<ExitCode> {
-    if *status != Status::Done {
-        match explanation(rt.alloc(), status, asked) {
-            Ok(text) => eprintln!(rt; "rock: {status}: {text}")?,
-            Err(AllocError) => eprintln!(rt; "rock: {status}")?,
-        }
-    }
-    if *status == Status::Usage {
-        if let Ok(text) = help_text(rt.alloc()) {
-            rt.eprint(text.as_str())?;
-        }
-    }
-    Ok(ExitCode::from(status.code()))
 }
 
 #[cfg(test)]

@@ -1,16 +1,18 @@
 // A whole file is read: opened, reported on by one station, and given back.
 ghost use Rattle.std.specs.Prelude.{◌≡◌, ℕ, ◌≤◌, IsTrue, IsOk, IfOk, IsErrOf, All, length, map, None, ◌↔◌};
 ghost use Rattle.std.specs.FinMap.{get};
+ghost use Rattle.rock_io.specs.Faults.{Rose};
 ghost use Rattle.rock_disk.specs.Cell.{CellState};
 ghost use Rattle.rock_disk.specs.File.{IsNotAway, IsThere, IsKept};
 ghost use Rattle.rock_disk.specs.Opened.{IsSmall};
 ghost use Rattle.db_layout.specs.Layout.{IsSlotSize};
 ghost use Rattle.rock_main.specs.ReadFault.{read_fault_of_open, read_fault_of_rebuild, read_fault_of_station, status_of_fault};
-ghost use Rattle.rock_main.specs.Device.{EndedOne, DeviceFailed};
+ghost use Rattle.rock_main.specs.Device.{EndedOne, DeviceFailed, DeviceKept};
 ghost use Rattle.rock_main.specs.Report.{Fits, Prints, OfFile, HasSlots, IsFit};
 
 use crate::report::Report;
 use crate::status::Status;
+use db_layout::MOST_SLOTS;
 use rock_disk::{OpenFault, Opened, StationFault, Volume};
 use rock_rebuild::RebuildFault;
 use std::alloc::Global;
@@ -88,7 +90,7 @@ fn text_by_station<V: Volume>(
     requires fits { Fits report (length cells.old) }
     requires size { IsSlotSize slot }
     requires wide { All (λ (c : CellState). c.width ≡ slot) (map V.C.state cells.old) }
-    requires few { length cells.old ≤ 1048576 }
+    requires few { length cells.old ≤ MOST_SLOTS }
     ensures prints { IfOk result (λ text. IsTrue V.C.tells
         → Prints report slot (map (λ (c : CellState). c.now) (map V.C.state cells.old)) text.items) }
     ensures cells { map V.C.state cells.new ≡ map V.C.state cells.old }
@@ -98,6 +100,9 @@ fn text_by_station<V: Volume>(
         (V.ended volume.old) (V.ended volume.new) }
     ensures device { IsErrOf result ReadFault.Device
         → DeviceFailed (V.faults volume.old) (V.faults volume.new)
+        (V.ended volume.old) (V.ended volume.new) }
+    ensures unfailed { (IsErrOf result ReadFault.Device → ⊥)
+        → DeviceKept (V.faults volume.old) (V.faults volume.new)
         (V.ended volume.old) (V.ended volume.new) }
     ensures missing { IsErrOf result ReadFault.Missing → ⊥ }
     ensures small { (bytes : ℕ) → IsErrOf result (ReadFault.Small bytes) → ⊥ }
@@ -124,7 +129,7 @@ fn text_if_fit<V: Volume>(
     requires there { IsTrue V.tells → IsThere (V.files volume.old) name.now }
     requires size { IsSlotSize slot }
     requires wide { All (λ (c : CellState). c.width ≡ slot) (map V.C.state cells.old) }
-    requires few { length cells.old ≤ 1048576 }
+    requires few { length cells.old ≤ MOST_SLOTS }
     ensures prints { IfOk result (λ text. IsTrue V.C.tells
         → Prints report slot (map (λ (c : CellState). c.now) (map V.C.state cells.old)) text.items) }
     ensures fits { IsOk result → Fits report (length cells.old) }
@@ -136,9 +141,14 @@ fn text_if_fit<V: Volume>(
     ensures device { IsErrOf result ReadFault.Device
         → DeviceFailed (V.faults volume.old) (V.faults volume.new)
         (V.ended volume.old) (V.ended volume.new) }
+    ensures unfailed { (IsErrOf result ReadFault.Device → ⊥)
+        → DeviceKept (V.faults volume.old) (V.faults volume.new)
+        (V.ended volume.old) (V.ended volume.new) }
     ensures missing { IsErrOf result ReadFault.Missing → ⊥ }
     ensures small { (bytes : ℕ) → IsErrOf result (ReadFault.Small bytes) → ⊥ }
     ensures unfit { IsErrOf result ReadFault.Unfit → Fits report (length cells.old) → ⊥ }
+    ensures early { (Fits report (length cells.old) → ⊥) → IsErrOf result ReadFault.Unfit
+        × (V.made volume.new ≡ V.made volume.old) × (V.ended volume.new ≡ V.ended volume.old) }
 {
     if !report.is_for(cells.len()) {
         return Err(ReadFault::Unfit);
@@ -177,6 +187,15 @@ pub fn read_file<V: Volume>(
     ensures device { IsErrOf result ReadFault.Device
         → DeviceFailed (V.faults volume.old) (V.faults volume.new)
         (V.ended volume.old) (V.ended volume.new) }
+    ensures unfailed { (IsErrOf result ReadFault.Device → ⊥)
+        → DeviceKept (V.faults volume.old) (V.faults volume.new)
+        (V.ended volume.old) (V.ended volume.new) }
+
+    // Where the report is not for a file with so many slots, no station is made.
+    ensures early { IsTrue V.tells → (slots : ℕ)
+        → HasSlots (V.files volume.old) name.now slot slots → (Fits report slots → ⊥)
+        → (V.made volume.new ≡ V.made volume.old) × (V.ended volume.new ≡ V.ended volume.old)
+        × (IsErrOf result ReadFault.Device → Rose (V.faults volume.old) (V.faults volume.new)) }
 {
     let Opened {
         header,

@@ -6,14 +6,14 @@ ghost use Rattle.rock_disk.specs.Cell.{CellState};
 ghost use Rattle.rock_disk.specs.File.{IsNotAway, IsKept};
 ghost use Rattle.rock_disk.specs.Opened.{IsSmall};
 ghost use Rattle.db_layout.specs.Layout.{IsSlotSize};
-ghost use Rattle.rock_main.specs.Device.{EndedOne};
-ghost use Rattle.rock_main.specs.Report.{IsAnchors, Fits, Prints, OfFile, ReportEnds, ReportSays, ReportPrints};
+ghost use Rattle.rock_main.specs.Device.{EndedOne, DeviceKept};
+ghost use Rattle.rock_main.specs.Report.{IsAnchors, Fits, Prints, OfFile, HasSlots, ReportEnds, ReportSays, ReportPrints};
 
 use crate::listing::listing_of;
 use crate::read::read_file;
 use crate::status::Status;
 use crate::summary::summary_of;
-use db_layout::slot_size_ok;
+use db_layout::{MOST_SLOTS, slot_size_ok};
 use rock_disk::{Station, Volume};
 use rock_io::{Sink, write_all};
 use rock_rebuild::RebuildFault;
@@ -51,13 +51,15 @@ impl Report {
         requires fits { Fits self (length cells.old) }
         requires size { IsSlotSize slot }
         requires wide { All (λ (c : CellState). c.width ≡ slot) (map St.C.state cells.old) }
-        requires few { length cells.old ≤ 1048576 }
+        requires few { length cells.old ≤ MOST_SLOTS }
         ensures prints { IfOk result (λ text. IsTrue St.C.tells
             → Prints self slot (map (λ (c : CellState). c.now) (map St.C.state cells.old)) text.items) }
         ensures cells { map St.C.state cells.new ≡ map St.C.state cells.old }
         ensures faults { St.faults station.old ≤ St.faults station.new }
         ensures failed { IsErrOf result RebuildFault.Failed
             → Rose (St.faults station.old) (St.faults station.new) }
+        ensures unfailed { (IsErrOf result RebuildFault.Failed → ⊥)
+            → St.faults station.new ≡ St.faults station.old }
     {
         match self {
             Report::Listing => listing_of(alloc, station, cells, slot),
@@ -105,6 +107,18 @@ pub fn print_report<V: Volume, K: Sink>(
         (V.ended volume.old) (V.ended volume.new) }
     ensures faults { V.faults volume.old ≤ V.faults volume.new }
     ensures sink_faults { K.faults out.old ≤ K.faults out.new }
+
+    // A fault is told as a fault.
+    ensures sink_unfailed { (result ≡ Status.SinkFault → ⊥) → K.faults out.new ≡ K.faults out.old }
+    ensures device_unfailed { (result ≡ Status.DeviceFault → ⊥)
+        → DeviceKept (V.faults volume.old) (V.faults volume.new)
+        (V.ended volume.old) (V.ended volume.new) }
+
+    // Where the report is not for a file with so many slots, no station is made.
+    ensures early { IsTrue V.tells → (slots : ℕ)
+        → HasSlots (V.files volume.old) name.now slot slots → (Fits report slots → ⊥)
+        → (V.made volume.new ≡ V.made volume.old) × (V.ended volume.new ≡ V.ended volume.old)
+        × (result ≡ Status.DeviceFault → Rose (V.faults volume.old) (V.faults volume.new)) }
 {
     if !slot_size_ok(slot) {
         return Status::BadGeometry { field: 1 };

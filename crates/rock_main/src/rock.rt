@@ -1,19 +1,19 @@
 // The top call.
 ghost use Rattle.std.specs.Prelude.{◌≡◌, ℕ, List, ◌≤◌, IsTrue, ◌↔◌};
 ghost use Rattle.rock_io.specs.Faults.{Rose};
-ghost use Rattle.rock_disk.specs.File.{NoneAway, IsKept};
+ghost use Rattle.rock_disk.specs.File.{NoneAway, IsKept, HaveSameBytes};
 ghost use Rattle.rock_main.specs.CommandLine.{IsList, IsCheck, IsCreate, IsCommandLine};
 ghost use Rattle.rock_main.specs.Create.{CreateEnds, CreateSays, IsCreateRefused, CreateLeaves, MayCreate};
-ghost use Rattle.rock_main.specs.Device.{EndedOne, NoFault};
+ghost use Rattle.rock_main.specs.Device.{EndedOne, NoFault, DeviceKept};
 ghost use Rattle.rock_main.specs.Listing.{Lists};
-ghost use Rattle.rock_main.specs.Report.{AnyCount, IsAnchors, OfFile, ReportEnds, ReportSays, IsRefused, MayReport, ReportsOrLacksMemory, ReportPrints};
+ghost use Rattle.rock_main.specs.Report.{AnyCount, IsAnchors, OfFile, HasSlots, ReportEnds, ReportSays, IsRefused, MayReport, ReportsOrLacksMemory, ReportPrints};
 ghost use Rattle.rock_main.specs.Summary.{Sums};
 
 use crate::command::Command;
 use crate::create::create_file;
 use crate::report::{Report, print_report};
 use crate::status::Status;
-use rock_disk::Volume;
+use rock_disk::{Volume, kept_files_have_their_bytes};
 use rock_io::{Sink, Source, Words};
 use std::alloc::Global;
 use std::sync::Wait;
@@ -69,6 +69,8 @@ where
         (K.taken out.old) (K.taken out.new) result }
     ensures list_kept { (name : List ℕ) (slot : ℕ) → IsList words.now name slot → IsTrue V.tells
         → IsKept slot name (V.files volume.old) (V.files volume.new) }
+    ensures list_bytes { (name : List ℕ) (slot : ℕ) → IsList words.now name slot → IsTrue V.tells
+        → HaveSameBytes (V.files volume.old) (V.files volume.new) }
 
     // `check NAME SLOT ANCHORS` prints the line of a rebuild, where ANCHORS is from 1 to the number of slots.
     ensures check_ends { (name : List ℕ) (slot anchors : ℕ) → IsCheck words.now name slot anchors
@@ -88,6 +90,15 @@ where
         (K.taken out.old) (K.taken out.new) result }
     ensures check_kept { (name : List ℕ) (slot anchors : ℕ) → IsCheck words.now name slot anchors → IsTrue V.tells
         → IsKept slot name (V.files volume.old) (V.files volume.new) }
+    ensures check_bytes { (name : List ℕ) (slot anchors : ℕ) → IsCheck words.now name slot anchors → IsTrue V.tells
+        → HaveSameBytes (V.files volume.old) (V.files volume.new) }
+
+    // The number of anchors is judged before the rebuild: where it does not fit, no station is made,
+    // and the disk's fault is one of the volume.
+    ensures check_early { (name : List ℕ) (slot anchors slots : ℕ) → IsCheck words.now name slot anchors
+        → IsTrue V.tells → HasSlots (V.files volume.old) name slot slots → ¬ IsAnchors anchors slots
+        → (V.made volume.new ≡ V.made volume.old) × (V.ended volume.new ≡ V.ended volume.old)
+        × (result ≡ Status.DeviceFault → Rose (V.faults volume.old) (V.faults volume.new)) }
 
     // `create NAME SLOT SLOTS` makes a file of 16,384 + SLOTS * SLOT zero bytes, where SLOT is a multiple of 512
     // from 512 to 32,768, SLOTS is from 1 to 1,048,576, and no file has that name. It prints nothing
@@ -113,6 +124,14 @@ where
     ensures faults { V.faults volume.old ≤ V.faults volume.new }
     ensures sink_faults { K.faults out.old ≤ K.faults out.new }
 
+    // A fault is told as a fault: at any status but that of a fault of the sink, the sink's count is
+    // as it was, and at any but that of a fault of the disk, so is the volume's, and the station was
+    // ended with none.
+    ensures sink_unfailed { (result ≡ Status.SinkFault → ⊥) → K.faults out.new ≡ K.faults out.old }
+    ensures device_unfailed { (result ≡ Status.DeviceFault → ⊥)
+        → DeviceKept (V.faults volume.old) (V.faults volume.new)
+        (V.ended volume.old) (V.ended volume.new) }
+
     // No file is out.
     ensures back { IsTrue V.tells → NoneAway (V.files volume.new) }
 
@@ -120,6 +139,7 @@ where
     ensures script { S.left script.new ≡ S.left script.old }
     ensures script_faults { S.faults script.new ≡ S.faults script.old }
 {
+    kept_files_have_their_bytes();
     let Some(command) = Command::parse(words) else {
         return Status::Usage;
     };

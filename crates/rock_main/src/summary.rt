@@ -5,6 +5,7 @@ ghost use Rattle.rock_disk.specs.Cell.{CellState};
 ghost use Rattle.db_layout.specs.Layout.{IsSlotSize};
 ghost use Rattle.rock_main.specs.Summary.{used_in, front, back, line_of_rebuilt, Sums};
 
+use db_layout::MOST_SLOTS;
 use rock_disk::Station;
 use rock_rebuild::{RebuildFault, Rebuilt, rebuild};
 use std::alloc::{AllocError, Global};
@@ -20,13 +21,15 @@ pub fn summary_of<St: Station>(
     requires some { 0 < anchors }
     requires size { IsSlotSize slot }
     requires wide { All (λ (c : CellState). c.width ≡ slot) (map St.C.state cells.old) }
-    requires few { length cells.old ≤ 1048576 }
+    requires few { length cells.old ≤ MOST_SLOTS }
     ensures sums { IfOk result (λ text. IsTrue St.C.tells
         → Sums anchors slot (map (λ (c : CellState). c.now) (map St.C.state cells.old)) text.items) }
     ensures cells { map St.C.state cells.new ≡ map St.C.state cells.old }
     ensures faults { St.faults station.old ≤ St.faults station.new }
     ensures failed { IsErrOf result RebuildFault.Failed
         → Rose (St.faults station.old) (St.faults station.new) }
+    ensures unfailed { (IsErrOf result RebuildFault.Failed → ⊥)
+        → St.faults station.new ≡ St.faults station.old }
 {
     let rebuilt = rebuild(alloc, station, cells, slot, anchors)?;
     Ok(line_of(alloc, &rebuilt)?)

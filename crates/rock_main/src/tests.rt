@@ -16,6 +16,7 @@ use std::thread::Threads;
 
 mod checks;
 mod creates;
+mod messages;
 mod patches;
 
 const SLOT: usize = 512;

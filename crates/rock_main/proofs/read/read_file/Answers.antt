@@ -1,6 +1,8 @@
 use Rattle.std.proofs.Common.{◌≡◌, length, map, drop, arith, sym, ◌∙◌, ap, subst}
 use Rattle.rock_main.specs.Report.{Fits}
 use Rattle.rock_main.proofs.Kept.{filled, wide_when_opened, few_when_opened, there_when_opened, out_when_opened, slots_when_opened, kept_when_back, short_comes}
+use Rattle.rock_main.proofs.ReportFacts.{one_count}
+use Rattle.rock_main.proofs.Telling.{none_ended, kept_on, not_failed_open, failed_open, only_unfit}
 use Rattle.rock_main.proofs.read.read_file.Goals as goal
 
 pub returns-in_err-header-clause-small : goal.returns-in_err-header-clause-small
@@ -46,3 +48,29 @@ returns-clause-kept g c t =
     kept_when_back {final = g.V.Volume.files c.give_back.new.self} ((c.in_ok-header.ensures.opened t).1) c.text_if_fit-outcome.ensures.files
     (ap (map g.V.C.Cell.state) whole ∙ (c.text_if_fit-outcome.ensures.cells ∙ ap (map g.V.C.Cell.state) c.deref_mut.ensures.value))
     (λ slots slot rest found. c.give_back.ensures.back slots slot rest t found)
+
+pub returns-in_err-header-clause-unfailed : goal.returns-in_err-header-clause-unfailed
+returns-in_err-header-clause-unfailed g c none =
+    none_ended (c.in_err-header.ensures.unfailed (not_failed_open c.in_err-header.field-0.0 c.from_residual.result c.from_residual.ensures.1 none)) c.in_err-header.ensures.ended
+
+pub returns-in_err-header-clause-early : goal.returns-in_err-header-clause-early
+returns-in_err-header-clause-early g c t slots has not = (
+  c.in_err-header.ensures.made,
+  c.in_err-header.ensures.ended,
+  λ told. c.in_err-header.ensures.failed (failed_open c.in_err-header.field-0.0 c.from_residual.result c.from_residual.ensures.1 told),
+)
+
+pub returns-clause-unfailed : goal.returns-clause-unfailed
+returns-clause-unfailed g c none =
+    kept_on (c.in_ok-header.ensures.unfailed (λ w. cc)) c.in_ok-header.ensures.ended c.give_back.ensures.faults c.give_back.ensures.ended (c.text_if_fit-outcome.ensures.unfailed none)
+
+pub returns-clause-early : goal.returns-clause-early
+returns-clause-early g c t slots has not =
+    let mine = slots_when_opened g.V.C.Cell.state c.in_ok-header.field-0.cells.items c.in_ok-header.ensures.shape ((c.in_ok-header.ensures.opened t).1) in
+    let count : length c.in_ok-header.field-0.cells.items ≡ slots = one_count (g.V.Volume.files c.args.volume.now) c.args.name.now c.args.slot _ slots mine has in
+    let unfit =
+    c.text_if_fit-outcome.ensures.early (λ fits. not (subst (λ n. Fits c.args.report n) count (subst (λ cells. Fits c.args.report (length cells)) c.deref_mut.ensures.value fits))) in (
+      c.give_back.ensures.made ∙ (unfit.1 ∙ c.in_ok-header.ensures.made),
+      c.give_back.ensures.ended ∙ (unfit.2 ∙ c.in_ok-header.ensures.ended),
+      λ told. absurd (only_unfit c.text_if_fit-outcome.result unfit.0 told),
+    )

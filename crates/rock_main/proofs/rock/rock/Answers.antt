@@ -1,5 +1,6 @@
-use Rattle.std.proofs.Common.{◌≡◌, IsTrue, None, inr, subst}
+use Rattle.std.proofs.Common.{◌≡◌, ℕ, IsTrue, None, inr, refl, subst}
 use Rattle.std.specs.FinMap.{get}
+use Rattle.rock_io.specs.Faults.{Rose}
 use Rattle.rock_disk.specs.File.{IsKept, IsThere}
 use Rattle.rock_disk.specs.Opened.{IsSmall}
 use Rattle.db_layout.specs.Layout.{IsSlotSize}
@@ -9,12 +10,13 @@ use Rattle.rock_main.specs.CommandLine.{IsCommandLine}
 use Rattle.rock_main.specs.Create.{IsSlotCount, IsGeometry, CreateEnds, CreateSays, CreateLeaves}
 use Rattle.rock_main.specs.Listing.{Lists}
 use Rattle.rock_main.specs.Summary.{Sums}
-use Rattle.rock_main.specs.Report.{AnyCount, IsAnchors, OfFile, ReportEnds, ReportSays, ReportPrints}
+use Rattle.rock_main.specs.Report.{AnyCount, IsAnchors, OfFile, HasSlots, ReportEnds, ReportSays, ReportPrints}
 use Rattle.rock_main.specs.declared.status.Status.TheVariants as status
 use Rattle.rock_main.proofs.CommandFacts.{of_each, of_each_check, of_each_create}
 use Rattle.rock_main.proofs.CreateFacts.{complete_create}
 use Rattle.rock_main.proofs.Homes.{home_when_kept, home_when_left}
 use Rattle.rock_main.proofs.ReportFacts.{complete, unfit}
+use Rattle.rock_main.proofs.Telling.{none_ended}
 use Rattle.rock_main.proofs.rock.rock.Goals as goal
 
 pub returns-in-List-clause-list_ends : goal.returns-in-List-clause-list_ends
@@ -122,3 +124,24 @@ returns-in-Create-clause-back g c t =
 
 pub returns-in_default-clause-create_complete : goal.returns-in_default-clause-create_complete
 returns-in_default-clause-create_complete g c name slot slots asked t may none = absurd (subst (λ r. MatchOption r (IsCommandLine c.args.words.now → ⊥) (IsCommand c.args.words.now)) c.in_default.is c.parse.ensures (inr (inr (name, slot, slots, asked))))
+
+pub returns-in-List-clause-list_bytes : goal.returns-in-List-clause-list_bytes
+returns-in-List-clause-list_bytes g c name slot asked t =
+    c.kept_files_have_their_bytes.ensures.bytes slot name (g.V.Volume.files c.args.volume.now) (g.V.Volume.files c.print_report.new.volume) (returns-in-List-clause-list_kept g c name slot asked t)
+
+pub returns-in-Check-clause-check_bytes : goal.returns-in-Check-clause-check_bytes
+returns-in-Check-clause-check_bytes g c name slot anchors asked t =
+    c.kept_files_have_their_bytes.ensures.bytes slot name (g.V.Volume.files c.args.volume.now) (g.V.Volume.files c.print_report-in-Check.new.volume) (returns-in-Check-clause-check_kept g c name slot anchors asked t)
+
+pub returns-in-Check-clause-check_early : goal.returns-in-Check-clause-check_early
+returns-in-Check-clause-check_early g c name slot anchors slots asked t =
+    of_each_check c.args.words.now (λ n s a. HasSlots (g.V.Volume.files c.args.volume.now) n s slots → ¬ IsAnchors a slots
+    → (g.V.Volume.made c.print_report-in-Check.new.volume ≡ g.V.Volume.made c.args.volume.now) × (g.V.Volume.ended c.print_report-in-Check.new.volume ≡ g.V.Volume.ended c.args.volume.now)
+    × (c.print_report-in-Check.result ≡ status.DeviceFault → Rose (g.V.Volume.faults c.args.volume.now) (g.V.Volume.faults c.print_report-in-Check.new.volume)))
+    name slot anchors (subst (IsCommand c.args.words.now) c.in-Check.is c.in-Some.ensures) asked (c.print_report-in-Check.ensures.early t slots)
+
+pub returns-in-Create-clause-device_unfailed : goal.returns-in-Create-clause-device_unfailed
+returns-in-Create-clause-device_unfailed g c none = none_ended (c.create_file.ensures.unfailed none) c.create_file.ensures.ended
+
+pub returns-in_default-clause-device_unfailed : goal.returns-in_default-clause-device_unfailed
+returns-in_default-clause-device_unfailed g c none = none_ended refl refl

@@ -1,0 +1,75 @@
+// How the program ends.
+ghost use Rattle.std.specs.Prelude.{◌≡◌, ◌↔◌, IsTrue};
+ghost use Rattle.std.specs.Process.{exit_status};
+ghost use Rattle.rock_disk.specs.File.{NoneAway};
+ghost use Rattle.rock_io.specs.Faults.{Rose};
+ghost use Rattle.rock_main.specs.CommandLine.{IsCommandLine};
+ghost use Rattle.rock_main.specs.Status.{code_of};
+
+use crate::message::{Asked, explanation};
+use crate::rock::rock;
+use crate::status::Status;
+use rock_disk::Volume;
+use rock_help::help_text;
+use rock_io::{Sink, Source, Words};
+use std::alloc::{AllocError, Global};
+use std::process::ExitCode;
+use std::sync::Wait;
+use std::thread::Threads;
+
+/// Carries out a command line, as [`rock`] does, says how it went where it did not go well, and ends with
+/// the status's code.
+pub fn run<R: Threads + Wait + Sync + Eprint, V: Volume, S: Source, K: Sink>(
+    rt: &R,
+    alloc: Global,
+    words: &Words,
+    volume: &mut V,
+    script: &mut S,
+    out: &mut K,
+) -> ExitCode
+where
+    V::St: Send,
+    requires home { IsTrue V.tells → NoneAway (V.files volume.old) }
+
+    ensures usage { (exit_status result ≡ 2) ↔ (IsCommandLine words.now → ⊥) }
+    ensures sink_fault { exit_status result ≡ 5 → Rose (K.faults out.old) (K.faults out.new) }
+
+    // Whatever else it ends with, the output was taken as far as it was given out, and at 0 all was read.
+    ensures sink_unfailed { (exit_status result ≡ 5 → ⊥) → K.faults out.new ≡ K.faults out.old }
+    ensures device_unfailed { (exit_status result ≡ 6 → ⊥) → V.faults volume.new ≡ V.faults volume.old }
+{
+    let status = rock(rt, alloc, words, volume, script, out);
+    let asked = Asked {
+        name: word_at(words, 1),
+        slot: word_at(words, 2),
+        count: word_at(words, 3),
+    };
+    end(rt, alloc, &status, &asked)
+}
+
+fn word_at(words: &Words, place: usize) -> &str {
+    match words.as_slice().get(place) {
+        Some(word) => word.as_str(),
+        None => "",
+    }
+}
+
+/// Says on standard error what went wrong, after Usage also what would have been right, and gives the
+/// status's code. Where memory is wanting, the sentence or the help text is left out, and where standard
+/// error takes nothing, nothing is said: the code is the same.
+pub fn end<R: Eprint>(rt: &R, alloc: Global, status: &Status, asked: &Asked<'_>) -> ExitCode
+    ensures { exit_status result ≡ code_of status.now }
+{
+    if *status != Status::Done {
+        let _ = match explanation(alloc, status, asked) {
+            Ok(text) => eprintln!(rt; "rock: {status}: {text}"),
+            Err(AllocError) => eprintln!(rt; "rock: {status}"),
+        };
+    }
+    if *status == Status::Usage {
+        if let Ok(text) = help_text(alloc) {
+            let _ = rt.eprint(text.as_str());
+        }
+    }
+    ExitCode::from(status.code())
+}
