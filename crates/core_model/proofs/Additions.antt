@@ -9,7 +9,7 @@ use Rattle.core_model.specs.declared.view.Sight.{Sight}
 use Rattle.core_model.specs.declared.view.Trace.{Trace}
 use Rattle.core_model.specs.declared.view.Deed.{Deed}
 use Rattle.core_model.specs.declared.view.View.{View}
-use Rattle.core_model.specs.Adding.{added, names_seen, sights_learned}
+use Rattle.core_model.specs.Additions.{added, names_seen, sights_learned}
 
 pub reverse-option : {A : Type 0} → (o : Option A) → reverse (option_to_list o) ≡ option_to_list o
 reverse-option None = refl

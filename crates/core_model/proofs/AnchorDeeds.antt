@@ -11,7 +11,7 @@ use Rattle.core_model.specs.declared.view.Sight.TheVariants.{Stood}
 use Rattle.core_model.specs.declared.view.Deed.{Deed}
 use Rattle.core_model.specs.declared.view.View.{View}
 use Rattle.core_model.specs.declared.chain.Chain.{Chain}
-use Rattle.core_model.specs.Layout.{Setting}
+use Rattle.core_model.specs.Layout.{Setting, anchor_index}
 use Rattle.core_model.specs.State.{State, word}
 use Rattle.core_model.specs.Tabs.{counts, count}
 use Rattle.core_model.specs.Anchors.{tabs_in, opening_epoch}
@@ -44,10 +44,10 @@ module _ {X : Type 0} (k : Setting X) (s : State X) (i : ℕ) (v : View X) (so :
 
   pub mirror : OneMirror k s'
   mirror one j u uat some_tabs p lt = ⊎_elim
-      (λ (t : (j ≡ i) × (w ≡ u)). subst (λ (z : View X). mirrored k p z.mirror ≡ get_or (set s.words a n') p 0) t.1
-      (by_eq (λ z. cond z n' (mirrored k p v.mirror) ≡ get_or (set s.words a n') p 0) a p
-      (λ q. subst (λ (c : ℕ). n' ≡ get_or (set s.words a n') c 0) q (sym (get_or-set_same s.words a n' 0 (in_row k s i v so at a n' e tabs held item deeds met chains o))))
-      (λ ne. so.mirror one i v at (λ h. absurd (let z = o.is_pass in let y : length v.tabs ≡ 0 = ap length h in omega arith)) p lt ∙ sym (get_or-set_other s.words a p n' 0 (λ q. ne (sym q))))))
+      (λ (t : (j ≡ i) × (w ≡ u)). subst (λ (z : View X). mirrored k p z.mirror ≡ get_or (set s.words (anchor_index a) n') p 0) t.1
+      (by_eq (λ z. cond z n' (mirrored k p v.mirror) ≡ get_or (set s.words (anchor_index a) n') p 0) (anchor_index a) p
+      (λ q. subst (λ (c : ℕ). n' ≡ get_or (set s.words (anchor_index a) n') c 0) q (sym (get_or-set_same s.words (anchor_index a) n' 0 (in_row k s i v so at a n' e tabs held item deeds met chains o))))
+      (λ ne. so.mirror one i v at (λ h. absurd (let z = o.is_pass in let y : length v.tabs ≡ 0 = ap length h in omega arith)) p lt ∙ sym (get_or-set_other s.words (anchor_index a) p n' 0 (λ q. ne (sym q))))))
       (λ (t : (j ≢ i) × (get_elem? s.views j ≡ some u)). absurd (some_tabs (alone one j u t.0 t.1)))
       (at_set s.views i j w u uat)
 

@@ -16,10 +16,7 @@ use Rattle.core_model.specs.Chains.{times}
 use Rattle.core_model.specs.Layout.{Setting}
 use Rattle.core_model.specs.State.{State, word}
 use Rattle.core_model.specs.Trails.{tells_word, is_draw, counted_in, last_find, seen_at}
-use Rattle.core_model.specs.Tabs.{counts, writes, frees, count}
-use Rattle.core_model.specs.Allowed.{IsPass}
-use Rattle.core_model.specs.TabsAfter.{entered}
-use Rattle.core_model.specs.Records.{meets}
+use Rattle.core_model.specs.Tabs.{counts, writes, frees, count, IsPass}
 use Rattle.core_model.specs.Anchors.{written_at, freed_at, TabStands}
 use Rattle.core_model.specs.Deeds.{EnteredBy}
 use Rattle.core_model.specs.Sound.{AnchorsSound}
@@ -27,6 +24,7 @@ use Rattle.core_model.proofs.Lists.{by_eq, at_set, contains_none}
 use Rattle.core_model.proofs.Tabs.{Turns, changes, counts_else, writes_else, frees_else, stay_last}
 use Rattle.core_model.proofs.AnchorStep.{stepped, moved}
 use Rattle.core_model.proofs.AnchorKept.{at_anchor}
+use Rattle.core_model.specs.AnchorMoves.{entered, meets}
 
 pub meets_others : {X : Type 0} → (a n b : ℕ) (tabs : List (Tab X)) → Contains (meets a n tabs) b → (b ≡ a) × (sum_by (counts a) tabs < readers_of n)
 meets_others {X} a n b tabs = by_bool (ltb (sum_by (counts a) tabs) (readers_of n)) refl

@@ -4,7 +4,7 @@ use mathlib.Core.Option.{some}
 use lib.ListN.{get_elem?}
 use Rattle.lock_word.specs.Words.{epoch_of, version_of, stage_of}
 use Rattle.core_model.specs.declared.moves.Side.{Side}
-use Rattle.core_model.specs.declared.moves.Side.TheVariants.{Key0, Key1, Offer, Start}
+use Rattle.core_model.specs.declared.moves.Side.TheVariants.{Start}
 use Rattle.core_model.specs.declared.tab.Tab.{Tab}
 use Rattle.core_model.specs.declared.view.Item.{Item}
 use Rattle.core_model.specs.declared.view.Sight.{Sight}
@@ -20,15 +20,9 @@ use Rattle.core_model.specs.Trails.{seen_at, sight_anchor, sight_version}
 use Rattle.core_model.specs.Versions.{HasSlot, SeenStands, IsSighted}
 use Rattle.core_model.specs.Sound.{AnchorsSound}
 use Rattle.core_model.proofs.Lists.{by_eq, at_set, cons_contains}
+use Rattle.core_model.proofs.Places.{beside_far}
 use Rattle.core_model.proofs.AnchorStep.{stepped, moved, Owes}
 use Rattle.core_model.proofs.AnchorTabs.{by_anchor, all_views, else_same, seen_later}
-
--- the words beside anchors are no anchors' words
-pub beside_far : {X : Type 0} → (k : Setting X) (side : Side) (b : ℕ) → k.anchors ≤ index k (Beside side b)
-beside_far k Key0 b = omega arith
-beside_far k Key1 b = omega arith
-beside_far k Offer b = omega arith
-beside_far k Start b = omega arith
 
 module _ {X : Type 0} (k : Setting X) (s : State X) (i : ℕ) (v : View X) (so : AnchorsSound k s) (at : get_elem? s.views i ≡ some v)
     (a n' e : ℕ) (tabs : List (Tab X)) (held : List ℕ) (item : Item) (deeds : List Deed) (met : List ℕ) (chains : List Chain) (o : Owes k s i v a n' e tabs held item deeds met chains) where
@@ -111,7 +105,7 @@ module _ {X : Type 0} (k : Setting X) (s : State X) (i : ℕ) (v : View X) (so :
         so.seen.known;
     named = λ j u uat b version side value h q. ⊎_elim
         (λ (p : Had j (Named b version side value)). let st = stood_before j b version _ p refl refl q in let old = so.seen.named j p.view p.at_j b version side value p.has st.0 in
-        (else_same k s i v so at a n' e tabs held item deeds met chains o (index k (Beside side b)) (λ z. let far = beside_far k side b in let lt = o.inside in omega arith) ∙ old.0, slot_later b st.1 old.1))
+        (else_same k s i v so at a n' e tabs held item deeds met chains o (index k (Beside side b)) (beside_far k side a b) ∙ old.0, slot_later b st.1 old.1))
         (λ (p : Named b version side value ≡ Stood a e). absurd (named_is_not b version side value p))
         (had j u uat (Named b version side value) h);
     published = λ j u uat b version many h q low. ⊎_elim

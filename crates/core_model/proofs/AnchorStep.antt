@@ -11,7 +11,7 @@ use Rattle.core_model.specs.declared.view.Place.TheVariants.{Anchor}
 use Rattle.core_model.specs.declared.view.Deed.{Deed}
 use Rattle.core_model.specs.declared.view.View.{View}
 use Rattle.core_model.specs.declared.chain.Chain.{Chain}
-use Rattle.core_model.specs.Layout.{Setting}
+use Rattle.core_model.specs.Layout.{Setting, anchor_index}
 use Rattle.core_model.specs.Chains.{no_chain, times}
 use Rattle.core_model.specs.State.{State, word, chain_of}
 use Rattle.core_model.specs.Tabs.{counts, writes, frees, count}
@@ -33,7 +33,7 @@ stepped v a n' e tabs held item deeds met = record {
 }
 
 abbrev pub moved : {X : Type 0} → State X → ℕ → View X → ℕ → ℕ → List Chain → State X
-moved s i w a n' chains = record { words = set s.words a n'; places = s.places; views = set s.views i w; chains = chains }
+moved s i w a n' chains = record { words = set s.words (anchor_index a) n'; places = s.places; views = set s.views i w; chains = chains }
 
 pub record Owes {X : Type 0} (k : Setting X) (s : State X) (i : ℕ) (v : View X) (a n' e : ℕ) (tabs : List (Tab X)) (held : List ℕ) (item : Item) (deeds : List Deed) (met : List ℕ) (chains : List Chain) : Type 0 where
   pub inside : a < k.anchors

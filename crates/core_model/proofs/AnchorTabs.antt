@@ -12,15 +12,15 @@ use Rattle.core_model.specs.declared.view.Item.{Item}
 use Rattle.core_model.specs.declared.view.Deed.{Deed}
 use Rattle.core_model.specs.declared.view.View.{View}
 use Rattle.core_model.specs.declared.chain.Chain.{Chain}
-use Rattle.core_model.specs.Layout.{Setting}
+use Rattle.core_model.specs.Layout.{Setting, anchor_index}
 use Rattle.core_model.specs.State.{State, word}
 use Rattle.core_model.specs.Tabs.{counts, writes, frees, count}
 use Rattle.core_model.specs.Trails.{last_find, seen_at}
-use Rattle.core_model.specs.Steps.{note_of}
 use Rattle.core_model.specs.Anchors.{tabs_in, Shaped, ReadersCounted, OneWriter, written_at, OneFreer, freed_at, IsReadAt, TabStands, TabsStand, IsLastAt, LastUsers}
 use Rattle.core_model.specs.Sound.{AnchorsSound}
 use Rattle.core_model.proofs.Lists.{at_set, at_length, sum_at, le_sum_at, set_here, set_else}
 use Rattle.core_model.proofs.AnchorStep.{stepped, moved, Owes}
+use Rattle.core_model.specs.CellMoves.{note_of}
 
 pub version_up : (x y z : ℕ) → x ≤ version_of y → y ≤ z → x ≤ version_of z
 version_up x y z p q = omega arith
@@ -33,20 +33,20 @@ module _ {X : Type 0} (k : Setting X) (s : State X) (i : ℕ) (v : View X) (so :
   abbrev s' : State X
   s' = moved s i w a n' chains
 
-  pub in_row : a < length s.words
+  pub in_row : anchor_index a < length s.words
   in_row = let e = so.shaped.words in let lt = o.inside in omega arith
 
   -- a fact about an anchor's word before and after
   pub by_anchor : (P : ℕ → ℕ → ℕ → Type 0) → P a (word s a) n' → ((b : ℕ) → b ≢ a → P b (word s b) (word s b)) → (b : ℕ) → P b (word s b) (word s' b)
   by_anchor P here others b = dite (ℕ_discrete b a)
-      (λ e. subst (λ (c : ℕ). P c (get_or s.words c 0) (get_or (set s.words a n') c 0)) (sym e) (subst (P a (get_or s.words a 0)) (sym (get_or-set_same s.words a n' 0 in_row)) here))
-      (λ ne. subst (P b (get_or s.words b 0)) (sym (get_or-set_other s.words a b n' 0 ne)) (others b ne))
+      (λ e. subst (λ (c : ℕ). P c (get_or s.words (anchor_index c) 0) (get_or (set s.words (anchor_index a) n') (anchor_index c) 0)) (sym e) (subst (P a (get_or s.words (anchor_index a) 0)) (sym (get_or-set_same s.words (anchor_index a) n' 0 in_row)) here))
+      (λ ne. subst (P b (get_or s.words (anchor_index b) 0)) (sym (get_or-set_other s.words (anchor_index a) (anchor_index b) n' 0 (λ q. ne (omega arith)))) (others b ne))
 
-  pub else_same : (p : ℕ) → p ≢ a → get_or (set s.words a n') p 0 ≡ get_or s.words p 0
-  else_same p ne = get_or-set_other s.words a p n' 0 ne
+  pub else_same : (p : ℕ) → p ≢ anchor_index a → get_or (set s.words (anchor_index a) n') p 0 ≡ get_or s.words p 0
+  else_same p ne = get_or-set_other s.words (anchor_index a) p n' 0 ne
 
   pub here_same : word s' a ≡ n'
-  here_same = get_or-set_same s.words a n' 0 in_row
+  here_same = get_or-set_same s.words (anchor_index a) n' 0 in_row
 
   -- a fact about all views, where it holds of the new one and is kept by the others
   pub all_views : (P Q : ℕ → View X → Type 0) → ((j : ℕ) (u : View X) → get_elem? s.views j ≡ some u → P j u → Q j u) → Q i w
@@ -61,7 +61,7 @@ module _ {X : Type 0} (k : Setting X) (s : State X) (i : ℕ) (v : View X) (so :
 
   pub shaped : Shaped k s'
   shaped = record {
-    words = length-set s.words a n' ∙ so.shaped.words;
+    words = length-set s.words (anchor_index a) n' ∙ so.shaped.words;
     places = so.shaped.places;
     chains = o.chain_count ∙ so.shaped.chains;
     tabs = let q = sum_at tabs_in s.views i v w at in let t = so.shaped.tabs in let l = o.length_same in omega arith;

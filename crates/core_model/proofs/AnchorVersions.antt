@@ -13,12 +13,12 @@ use Rattle.core_model.specs.declared.view.Sight.TheVariants.{Stood}
 use Rattle.core_model.specs.declared.view.Deed.{Deed}
 use Rattle.core_model.specs.declared.view.View.{View}
 use Rattle.core_model.specs.declared.chain.Chain.{Chain}
-use Rattle.core_model.specs.Layout.{Setting, turns_end}
+use Rattle.core_model.specs.Layout.{Setting, counter_index}
 use Rattle.core_model.specs.Chains.{times}
-use Rattle.core_model.specs.State.{State, word}
+use Rattle.core_model.specs.State.{State, word, counter}
 use Rattle.core_model.specs.Trails.{seen_at, sight_anchor, sight_version, last_find, last_count, drew_since, draws_in_vain, is_draw, tells_word}
 use Rattle.core_model.specs.Anchors.{opening_counter}
-use Rattle.core_model.specs.Versions.{counter, draws_by, vain_by, drawn_by, VersionsDrawn, IsKnownAt, IsFresh, VersionsHeld}
+use Rattle.core_model.specs.Versions.{draws_by, vain_by, drawn_by, VersionsDrawn, IsKnownAt, IsFresh, VersionsHeld}
 use Rattle.core_model.specs.Sound.{AnchorsSound}
 use Rattle.core_model.proofs.Lists.{by_eq, at_set, sum_at, le_sum_at, two_le_sum, cons_contains}
 use Rattle.core_model.proofs.AnchorStep.{stepped, moved, Owes}
@@ -37,7 +37,7 @@ module _ {X : Type 0} (k : Setting X) (s : State X) (i : ℕ) (v : View X) (so :
   version' = version_of (epoch_of n')
 
   pub counter_same : counter k s' ≡ counter k s
-  counter_same = else_same k s i v so at a n' e tabs held item deeds met chains o (turns_end k) (λ z. let lt = o.inside in omega arith)
+  counter_same = else_same k s i v so at a n' e tabs held item deeds met chains o (counter_index k) (λ z. let lt = o.inside in omega arith)
 
   drawn_same : (version : ℕ) → drawn_by version w ≡ drawn_by version v
   drawn_same version = rw o.no_draw (omega arith)

@@ -18,17 +18,17 @@ use Rattle.core_model.specs.declared.view.Place.TheVariants.{Beside}
 use Rattle.core_model.specs.declared.view.Deed.{Deed}
 use Rattle.core_model.specs.declared.view.View.{View}
 use Rattle.core_model.specs.declared.chain.Chain.{Chain}
-use Rattle.core_model.specs.Layout.{Setting, index, turns_end}
+use Rattle.core_model.specs.Layout.{Setting, index, anchor_index, counter_index}
 use Rattle.core_model.specs.Chains.{no_chain}
-use Rattle.core_model.specs.State.{State, word, chain_of}
+use Rattle.core_model.specs.State.{State, word, chain_of, counter}
 use Rattle.core_model.specs.Tabs.{counts, writes, frees, count}
 use Rattle.core_model.specs.Trails.{tells_word, is_draw, counted_in, last_find, last_count, drew_since, drawn, draws, draws_in_vain, seen_at, sight_anchor, sight_version}
-use Rattle.core_model.specs.Steps.{note_of}
 use Rattle.core_model.specs.Anchors.{written_at, freed_at, tabs_in, Shaped, TabStands, IsLastAt, opening_epoch}
-use Rattle.core_model.specs.Versions.{counter, HasSlot, SeenStands, draws_by, vain_by, drawn_by, VersionsDrawn, IsKnownAt, IsFresh, VersionsHeld}
+use Rattle.core_model.specs.Versions.{HasSlot, SeenStands, draws_by, vain_by, drawn_by, VersionsDrawn, IsKnownAt, IsFresh, VersionsHeld}
 use Rattle.core_model.specs.Deeds.{mirrored, OneMirror, IsEpochAt, IsDone, EnteredBy, EnteredByAnother, LeftEpoch, DoomedVersion, HaltedVersion, EvictedVersion, DeedsExplain}
 use Rattle.core_model.specs.Sound.{AnchorsSound}
 use Rattle.core_model.proofs.Lists.{by_eq, at_set, at_length, sum_at, two_le_sum, set_here, set_else, cons_contains, contains_none}
+use Rattle.core_model.specs.CellMoves.{note_of}
 
 pub either_contains : {X : Type 0} → (x : X) (xs ys : List X) → Contains (xs ++ ys) x → Contains xs x ⊎ Contains ys x
 either_contains x [] ys h = inr h
@@ -86,8 +86,8 @@ pub record SightsOwe {X : Type 0} (k : Setting X) (s s' : State X) (v : View X) 
 pub record OwesBeside {X : Type 0} (k : Setting X) (s : State X) (i : ℕ) (v : View X) (tabs : List (Tab X)) (sights : List Sight) (item : Item) (place : Place) (x : ℕ) (chains : List Chain) : Type 0 where
   pub is_pass : length v.tabs ≡ 9
   pub length_same : length tabs ≡ length v.tabs
-  pub low : k.anchors ≤ index k place
-  pub high : index k place < turns_end k
+  pub low : (b : ℕ) → b < k.anchors → index k place ≢ anchor_index b
+  pub high : index k place < counter_index k
   pub quiet : tells_word item.kind ≡ false
   pub no_draw : is_draw item.kind ≡ false
   pub no_count : (found before : ℕ) → counted_in item.kind found before ≡ before
@@ -117,10 +117,10 @@ module _ {X : Type 0} (k : Setting X) (s : State X) (i : ℕ) (v : View X) (so :
   p₀ = index k place
 
   same_word : (b : ℕ) → b < k.anchors → word s b ≡ word s' b
-  same_word b lt = sym (get_or-set_other s.words p₀ b x 0 (λ q. let l = o.low in omega arith))
+  same_word b lt = sym (get_or-set_other s.words p₀ (anchor_index b) x 0 (λ q. o.low b lt (sym q)))
 
   counter_same : counter k s' ≡ counter k s
-  counter_same = get_or-set_other s.words p₀ (turns_end k) x 0 (λ q. let h = o.high in omega arith)
+  counter_same = get_or-set_other s.words p₀ (counter_index k) x 0 (λ q. let h = o.high in omega arith)
 
   all_views : (P Q : ℕ → View X → Type 0) → ((j : ℕ) (u : View X) → get_elem? s.views j ≡ some u → P j u → Q j u) → Q i w
       → ((j : ℕ) (u : View X) → get_elem? s.views j ≡ some u → P j u) → (j : ℕ) (u : View X) → get_elem? (set s.views i w) j ≡ some u → Q j u

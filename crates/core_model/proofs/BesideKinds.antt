@@ -6,7 +6,6 @@ use native.Mathlib.Decide.{ℕ_discrete}
 use lib.ListN.{get_elem?}
 use Rattle.lock_word.specs.Words.{epoch_of, version_of}
 use Rattle.core_model.specs.declared.moves.Side.{Side}
-use Rattle.core_model.specs.declared.moves.Side.TheVariants.{Key0, Key1, Offer, Start}
 use Rattle.core_model.specs.declared.tab.Tab.{Tab}
 use Rattle.core_model.specs.declared.tab.Tab.TheVariants.{Last}
 use Rattle.core_model.specs.declared.view.Kind.{Kind}
@@ -18,15 +17,15 @@ use Rattle.core_model.specs.declared.view.Place.{Place}
 use Rattle.core_model.specs.declared.view.Place.TheVariants.{Beside}
 use Rattle.core_model.specs.declared.view.View.{View}
 use Rattle.core_model.specs.declared.chain.Chain.{Chain}
-use Rattle.core_model.specs.Layout.{Setting, index, turns_end}
+use Rattle.core_model.specs.Layout.{Setting, index, anchor_index, counter_index}
 use Rattle.core_model.specs.Chains.{no_chain}
 use Rattle.core_model.specs.State.{State, word, chain_of}
 use Rattle.core_model.specs.Trails.{tells_word, is_draw, counted_in}
-use Rattle.core_model.specs.Tabs.{counts, writes, frees, count}
-use Rattle.core_model.specs.Allowed.{IsPass}
+use Rattle.core_model.specs.Tabs.{counts, writes, frees, count, IsPass}
 use Rattle.core_model.specs.Anchors.{TabStands}
 use Rattle.core_model.specs.Sound.{AnchorsSound}
 use Rattle.core_model.proofs.Lists.{at_set, sum_at, set_else, contains_none}
+use Rattle.core_model.proofs.Places.{beside_inside}
 use Rattle.core_model.proofs.BesideKept.{beside, besides, SightsOwe, at_beside}
 
 -- a kind of steps that tells no word of an anchor, and nothing of the counter
@@ -124,15 +123,9 @@ module _ {X : Type 0} (k : Setting X) (s : State X) (i : ℕ) (v : View X) (so :
     agree_new = λ b n side y z c d. absurd (contains_none _ c);
   }
 
-  pub side_low : (side : Side) (b : ℕ) → b < k.anchors → index k (Beside side b) < 5 * k.anchors
-  side_low Key0 b lt = omega arith
-  side_low Key1 b lt = omega arith
-  side_low Offer b lt = omega arith
-  side_low Start b lt = omega arith
-
   -- a step on a word beside an anchor, or of a slot
   pub at_side : (item : Item) → IsQuiet item.kind → (tabs : List (Tab X)) → TabsLiken k s v tabs → (sights : List Sight) (place : Place) (x : ℕ)
-      → k.anchors ≤ index k place → index k place < turns_end k
+      → ((b : ℕ) → b < k.anchors → index k place ≢ anchor_index b) → index k place < counter_index k
       → ((j : ℕ) (u : View X) → get_elem? s.views j ≡ some u → (b version : ℕ) (side : Side) (value : ℕ) → Contains u.seen (Named b version side value) → version_of (epoch_of (word s b)) ≡ version
       → get_or (set s.words (index k place) x) (index k (Beside side b)) 0 ≡ get_or s.words (index k (Beside side b)) 0)
       → SightsOwe k s (besides k s i (beside v tabs sights item place x) place x s.chains) v sights
@@ -160,13 +153,13 @@ module _ {X : Type 0} (k : Setting X) (s : State X) (i : ℕ) (v : View X) (so :
 
   -- a step on a word of a slot
   pub at_slot : (item : Item) → IsQuiet item.kind → (tabs : List (Tab X)) → TabsLiken k s v tabs → (sights : List Sight) (place : Place) (x : ℕ) (chains : List Chain)
-      → 5 * k.anchors ≤ index k place → index k place < turns_end k → length chains ≡ length s.chains → ((b : ℕ) → length (chain_of s b).slots ≤ length (get_or chains b no_chain).slots)
+      → 5 * k.anchors ≤ index k place → index k place < counter_index k → length chains ≡ length s.chains → ((b : ℕ) → length (chain_of s b).slots ≤ length (get_or chains b no_chain).slots)
       → SightsOwe k s (besides k s i (beside v tabs sights item place x) place x chains) v sights
       → AnchorsSound k (besides k s i (beside v tabs sights item place x) place x chains)
   at_slot item q tabs l sights place x chains low high len long sees = at_beside k s i v so at tabs sights item place x chains record {
     is_pass = pass;
     length_same = l.length_same;
-    low = omega arith;
+    low = λ b lt e. omega arith;
     high = high;
     quiet = q.quiet;
     no_draw = q.no_draw;
@@ -180,6 +173,6 @@ module _ {X : Type 0} (k : Setting X) (s : State X) (i : ℕ) (v : View X) (so :
     lasts = l.lasts;
     chain_count = len;
     longer = long;
-    sides = λ j u ut b n side value c is. get_or-set_other s.words (index k place) (index k (Beside side b)) x 0 (λ e. let z = side_low side b (so.seen.inside j u ut (Named b n side value) c) in omega arith);
+    sides = λ j u ut b n side value c is. get_or-set_other s.words (index k place) (index k (Beside side b)) x 0 (λ e. let z = beside_inside k side b (so.seen.inside j u ut (Named b n side value) c) in omega arith);
     sees = sees;
   }

@@ -1,6 +1,6 @@
 -- To take a cell out and to put it back, to write one and to sync it keeps what is sound of the words: no word changes, and the tab
 -- that has the cell holds what it held.
-use Rattle.std.proofs.Common.{◌≡◌, ◌≢◌, ⊎_elim, ℕ, ◌+◌, ◌*◌, List, [], ◌∷◌, length, get_or, set, sym, refl, ap, ◌∙◌, subst, arith, Option, Bool, true, false, length-set}
+use Rattle.std.proofs.Common.{◌≡◌, ◌≢◌, ⊎_elim, ℕ, List, [], ◌∷◌, length, get_or, set, sym, refl, ap, ◌∙◌, subst, arith, Option, Bool, true, false, length-set}
 use mathlib.Core.Option.{some}
 use lib.ListN.{get_elem?}
 use Rattle.core_model.specs.declared.moves.Outcome.{Outcome}
@@ -12,13 +12,10 @@ use Rattle.core_model.specs.declared.view.Item.{Item}
 use Rattle.core_model.specs.declared.view.Place.TheVariants.{Turn}
 use Rattle.core_model.specs.declared.view.Trace.{Trace}
 use Rattle.core_model.specs.declared.view.View.{View}
-use Rattle.core_model.specs.Layout.{Setting}
+use Rattle.core_model.specs.Layout.{Setting, turn_index}
 use Rattle.core_model.specs.State.{State, chain_of}
-use Rattle.core_model.specs.Tabs.{tab_at, turn_of, OfWriter}
-use Rattle.core_model.specs.Allowed.{IsPass, Allowed, Holds}
-use Rattle.core_model.specs.TabsAfter.{moved, moves, is_kept, rewritten, rewrites}
-use Rattle.core_model.specs.Records.{item_of}
-use Rattle.core_model.specs.Steps.{cell_held, chosen_content, wrote, synced, after}
+use Rattle.core_model.specs.Tabs.{tab_at, turn_of, OfWriter, IsPass}
+use Rattle.core_model.specs.Steps.{after}
 use Rattle.core_model.specs.Deeds.{mirrored, OneMirror}
 use Rattle.core_model.specs.Slots.{SlotWords, slot_words}
 use Rattle.core_model.specs.Sound.{AnchorsSound, WordsSound, Sound}
@@ -28,6 +25,8 @@ use Rattle.core_model.proofs.BesideKept.{beside}
 use Rattle.core_model.proofs.BesideKinds.{IsQuiet, quiet_took_out, quiet_put_back, quiet_wrote, quiet_synced}
 use Rattle.core_model.proofs.OwnsKept.{tab_was}
 use Rattle.core_model.proofs.TurnsKept.{of_parts, remirrored, Alike, anchors_alike, reader_holds, writer_holds, not_held, Turned, turned_reader, turned_writer, held_inside, slots_turned, turn_both}
+use Rattle.core_model.specs.Table.{Allowed, item_of}
+use Rattle.core_model.specs.CellMoves.{Holds, moved, moves, is_kept, rewritten, rewrites, settled_by_write, settled_by_sync, cell_held, chosen_content, wrote, synced}
 
 module _ {X : Type 0} (us : List (View X)) (i : ℕ) (v u : View X) (m : List Trace) (at : get_elem? us i ≡ some v) (some_tabs : u.tabs ≢ []) where
   put_here : (z : View X) → get_elem? (set us i z) i ≡ some z
@@ -72,7 +71,7 @@ module _ {X : Type 0} (k : Setting X) (s : State X) (i : ℕ) (v : View X) (soun
       tabs_v z = absurd (let l = pass in let y : length v.tabs ≡ 0 = ap length z in omega arith)
 
   -- a step on the cell of the slot, by a tab that has it
-  cell_both : (item : Item) → IsQuiet item.kind → (x new : Tab X) → get_elem? v.tabs t ≡ some x → Turned k s i v sound at pass t slot x new
+  pub cell_both : (item : Item) → IsQuiet item.kind → (x new : Tab X) → get_elem? v.tabs t ≡ some x → Turned k s i v sound at pass t slot x new
       → WordsSound k (of_parts s.words s.places (set s.views i (worked (set v.tabs t new) item)) s.chains)
   cell_both item quiet x new was l = record {
     anchors = anchors_alike k s.words s.places s.places (set s.views i u) (set s.views i (worked (set v.tabs t new) item)) s.chains again so.shaped.places (alike_but_one s.views i v u v.mirror at tabs_u) (mirror_stays (set v.tabs t new) item);
@@ -80,7 +79,7 @@ module _ {X : Type 0} (k : Setting X) (s : State X) (i : ℕ) (v : View X) (soun
   }
     where
       p : ℕ
-      p = 5 * k.anchors + 2 * k.slots + slot
+      p = turn_index k slot
 
       u : View X
       u = beside v (set v.tabs t new) [] item (Turn slot) (get_or s.words p 0)
@@ -98,9 +97,9 @@ module _ {X : Type 0} (k : Setting X) (s : State X) (i : ℕ) (v : View X) (soun
   cell_moved (Reading r) out now was h = turned_reader k s i v sound at pass t slot r r.place r.slot r.found (moved r.turn now)
       (held_inside k s i v sound at pass t slot (Reading r) (sound.cells.turns i v at t (Reading r) was) h.0 h.1 h.2)
       (reader_holds (chain_of s r.anchor) r (moved r.turn now) (sound.slots.tabs i v at t (Reading r) was))
-  cell_moved (Writing x) out now was h = turned_writer k s i v sound at pass t slot x x.chosen x.is_written (moved x.turn now)
+  cell_moved (Writing x) out now was h = turned_writer k s i v sound at pass t slot x x.chosen x.is_written x.is_settled (moved x.turn now)
       (held_inside k s i v sound at pass t slot (Writing x) (sound.cells.turns i v at t (Writing x) was) h.0 h.1 h.2)
-      (writer_holds (w.beside x.anchor) (chain_of s x.anchor) x x.is_written (moved x.turn now) (sound.slots.tabs i v at t (Writing x) was))
+      (writer_holds (w.beside x.anchor) (chain_of s x.anchor) x x.is_written x.is_settled (moved x.turn now) (sound.slots.tabs i v at t (Writing x) was))
   cell_moved Free out now was h = absurd (not_held h.0 h.1)
   cell_moved (Retreating b) out now was h = absurd (not_held h.0 h.1)
   cell_moved (Last b) out now was h = absurd (not_held h.0 h.1)
@@ -115,20 +114,20 @@ module _ {X : Type 0} (k : Setting X) (s : State X) (i : ℕ) (v : View X) (soun
       cell_both (item_of v (CellIn t slot) 0) quiet_put_back x (moves x false) was (cell_moved x true false was may.1)
 
   -- To write it, and to sync it.
-  cell_rewritten : (x : Tab X) (kept : Bool) (cell : Option (Cell X)) → get_elem? v.tabs t ≡ some x → OfWriter (λ y. Unit {0}) x → Holds slot true x → Turned k s i v sound at pass t slot x (rewrites x kept cell)
-  cell_rewritten (Writing x) kept cell was is h = turned_writer k s i v sound at pass t slot x x.chosen x.is_written (rewritten x.turn kept cell)
+  cell_rewritten : (x : Tab X) (kept settled : Bool) (cell : Option (Cell X)) → get_elem? v.tabs t ≡ some x → OfWriter (λ y. Unit {0}) x → Holds slot true x → Turned k s i v sound at pass t slot x (rewrites x kept settled cell)
+  cell_rewritten (Writing x) kept settled cell was is h = turned_writer k s i v sound at pass t slot x x.chosen x.is_written x.is_settled (rewritten x.turn kept settled cell)
       (held_inside k s i v sound at pass t slot (Writing x) (sound.cells.turns i v at t (Writing x) was) h.0 h.1 h.2)
-      (writer_holds (w.beside x.anchor) (chain_of s x.anchor) x x.is_written (rewritten x.turn kept cell) (sound.slots.tabs i v at t (Writing x) was))
-  cell_rewritten Free kept cell was is h = absurd is
-  cell_rewritten (Retreating b) kept cell was is h = absurd is
-  cell_rewritten (Reading r) kept cell was is h = absurd is
-  cell_rewritten (Last b) kept cell was is h = absurd is
-  cell_rewritten (Freeing f) kept cell was is h = absurd is
+      (writer_holds (w.beside x.anchor) (chain_of s x.anchor) x x.is_written x.is_settled (rewritten x.turn kept settled cell) (sound.slots.tabs i v at t (Writing x) was))
+  cell_rewritten Free kept settled cell was is h = absurd is
+  cell_rewritten (Retreating b) kept settled cell was is h = absurd is
+  cell_rewritten (Reading r) kept settled cell was is h = absurd is
+  cell_rewritten (Last b) kept settled cell was is h = absurd is
+  cell_rewritten (Freeing f) kept settled cell was is h = absurd is
 
   pub write_both : (outcome : Outcome) → Allowed k s v (Write t slot outcome) → WordsSound k (after k s i v (Write t slot outcome))
   write_both outcome may = let x : Tab X = tab_at v t in let was = tab_was k s i v so sound.slots at pass t x (let z = may.0 in omega arith) refl in let cell : Option (Cell X) = wrote (cell_held (turn_of x)) outcome (chosen_content k x) in
-      cell_both (item_of v (Write t slot outcome) 0) quiet_wrote x (rewrites x (is_kept outcome) cell) was (cell_rewritten x (is_kept outcome) cell was may.1 may.2)
+      cell_both (item_of v (Write t slot outcome) 0) quiet_wrote x (rewrites x (is_kept outcome) (settled_by_write x outcome) cell) was (cell_rewritten x (is_kept outcome) (settled_by_write x outcome) cell was may.1 may.2)
 
   pub sync_both : (kept : Bool) → Allowed k s v (Sync t slot kept) → WordsSound k (after k s i v (Sync t slot kept))
   sync_both kept may = let x : Tab X = tab_at v t in let was = tab_was k s i v so sound.slots at pass t x (let z = may.0 in omega arith) refl in let cell : Option (Cell X) = synced (cell_held (turn_of x)) kept in
-      cell_both (item_of v (Sync t slot kept) 0) quiet_synced x (rewrites x false cell) was (cell_rewritten x false cell was may.1 may.2)
+      cell_both (item_of v (Sync t slot kept) 0) quiet_synced x (rewrites x false (settled_by_sync x kept) cell) was (cell_rewritten x false (settled_by_sync x kept) cell was may.1 may.2)

@@ -22,16 +22,13 @@ use Rattle.core_model.specs.declared.view.Sight.TheVariants.{Named}
 use Rattle.core_model.specs.declared.view.Place.TheVariants.{Beside, Turn}
 use Rattle.core_model.specs.declared.view.View.{View}
 use Rattle.core_model.specs.declared.chain.Chain.{Chain}
-use Rattle.core_model.specs.Layout.{Setting, index, word_count}
-use Rattle.core_model.specs.Chains.{no_chain, named, link_to, link_at, rest_of}
-use Rattle.core_model.specs.State.{State, word, chain_of}
+use Rattle.core_model.specs.Layout.{Setting, index, word_count, anchor_index}
+use Rattle.core_model.specs.Chains.{no_chain, link_to, link_at, rest_of, slots_of_link, first_of}
+use Rattle.core_model.specs.State.{State, word, chain_of, side_word, turn_word}
 use Rattle.core_model.specs.Tabs.{turn_of, count}
-use Rattle.core_model.specs.TabsAfter.{first_of}
-use Rattle.core_model.specs.Allowed.{IsNext}
 use Rattle.core_model.specs.Anchors.{opening_counter}
-use Rattle.core_model.specs.Matching.{IsTab}
 use Rattle.core_model.specs.Slots.{SlotsSound}
-use Rattle.core_model.specs.Cells.{side_word, turn_word, turn_at, holds_at, OneHolder, TurnFits, IsCell, IsContent, ContentsStand, IsHome, WriterPiece, TabPiece, IsNamed, NamesStand, CellsSound}
+use Rattle.core_model.specs.Cells.{turn_at, holds_at, OneHolder, TurnFits, IsCell, IsContent, ContentsStand, IsHome, WriterPiece, TabPiece, IsNamed, NamesStand, CellsSound}
 use Rattle.core_model.specs.Entries.{NamesStay, EntryStays, EntryGone}
 use Rattle.core_model.specs.Sound.{AnchorsSound}
 use Rattle.core_model.proofs.Lists.{at_set, at_length, sum_at, set_here, set_else}
@@ -39,11 +36,13 @@ use Rattle.core_model.proofs.SlotTabs.{SameSlots}
 use Rattle.core_model.proofs.SlotKinds.{NoSlots}
 use Rattle.core_model.proofs.SlotAnchors.{reader_stage}
 use Rattle.core_model.proofs.Telling.{stage_told, side_in, sides_apart, sides_differ}
+use Rattle.core_model.specs.SlotMoves.{IsNext}
+use Rattle.core_model.specs.Holders.{IsTab}
 
 -- Chains with the same slots and end.
 
-pub whole_same : (c d : Chain) → SameSlots c d → d.slots ++ named d.end ≡ c.slots ++ named c.end
-whole_same c d same = ap (λ (z : List ℕ). z ++ named d.end) same.slots ∙ ap (λ z. c.slots ++ named z) same.end
+pub whole_same : (c d : Chain) → SameSlots c d → d.slots ++ slots_of_link d.end ≡ c.slots ++ slots_of_link c.end
+whole_same c d same = ap (λ (z : List ℕ). z ++ slots_of_link d.end) same.slots ∙ ap (λ z. c.slots ++ slots_of_link z) same.end
 
 link_same : (c d : Chain) (place : ℕ) → d.slots ≡ c.slots → d.end ≡ c.end → link_at d place ≡ link_at c place
 link_same c d place p q = ap (λ (z : List ℕ). link_to (drop (place + 1) z) d.end) p ∙ ap (link_to (drop (place + 1) c.slots)) q
@@ -130,6 +129,7 @@ module _ {X : Type 0} where
     pub offer : (n : ℕ) → x.offer ≡ Some n → (w.offer ≡ Some n) ⊎ (k.slots ≤ n)
     pub is_ending : x.is_ending ≡ w.is_ending
     pub is_written : x.is_written ≡ w.is_written
+    pub is_settled : x.is_settled ≡ w.is_settled
     pub chosen : x.chosen ≡ w.chosen
 
   module _ (k : Setting X) (s s' : State X) (places : s'.places ≡ s.places) (w x : Writer X) (g : Goes k w x) where
@@ -143,13 +143,14 @@ module _ {X : Type 0} where
       offer = λ n e. ⊎_elim (λ (z : w.offer ≡ Some n). q.offer n z) (λ (z : k.slots ≤ n). z) (g.offer n e);
       home = λ p open_ written chosen. home_again p (q.home p (sym g.is_ending ∙ open_) (sym g.is_written ∙ written) (sym g.chosen ∙ chosen));
       held = λ p h e written chosen. q.held p h (sym g.turn ∙ e) written (sym g.chosen ∙ chosen);
+      synced = λ h e settled. q.synced h (sym g.turn ∙ e) settled;
     }
       where
         home_again : (p : Piece) → IsHome k s w p → IsHome k s' x p
-        home_again p h = record { slot = h.slot; first = g.first h.slot h.first; cell = h.cell; home = ap (λ z. get_or z h.slot None) places ∙ h.home; written = h.written }
+        home_again p h = record { slot = h.slot; first = g.first h.slot h.first; cell = h.cell; home = ap (λ z. get_or z h.slot None) places ∙ h.home; written = h.written; settled = λ e. h.settled (sym g.is_settled ∙ e) }
 
   pub goes_same : (k : Setting X) (w : Writer X) → Goes k w w
-  goes_same k w = record { first = λ slot e. e; turn = refl; version = refl; offer = λ n e. inl e; is_ending = refl; is_written = refl; chosen = refl }
+  goes_same k w = record { first = λ slot e. e; turn = refl; version = refl; offer = λ n e. inl e; is_ending = refl; is_written = refl; is_settled = refl; chosen = refl }
 
   -- a tab stays
   pub piece_again : (k : Setting X) (s s' : State X) → s'.places ≡ s.places → (x : Tab X) → TabPiece k s x → TabPiece k s' x
@@ -287,37 +288,37 @@ module _ {X : Type 0} where
     -- none of those of anchors
     pub names_beyond : (p x : ℕ) → 5 * k.anchors ≤ p → (b : ℕ) → b < k.anchors → NamesStay k s (later s i v' (set s.words p x) cs) b
     names_beyond p x far b lt = record {
-      version = ap (λ (n : ℕ). version_of (epoch_of n)) (get_or-set_other s.words p b x 0 (λ e. omega arith));
+      version = ap (λ (n : ℕ). version_of (epoch_of n)) (get_or-set_other s.words p (anchor_index b) x 0 (λ e. omega arith));
       names = λ side ne. let q = side_in k s.words side b lt in get_or-set_other s.words p (index k (Beside side b)) x 0 (λ e. let z = q.1 in omega arith);
     }
 
     -- the one of another anchor
-    pub names_else : (a x : ℕ) → a < k.anchors → (b : ℕ) → b < k.anchors → b ≢ a → NamesStay k s (later s i v' (set s.words a x) cs) b
+    pub names_else : (a x : ℕ) → a < k.anchors → (b : ℕ) → b < k.anchors → b ≢ a → NamesStay k s (later s i v' (set s.words (anchor_index a) x) cs) b
     names_else a x la b lt ne = record {
-      version = ap (λ (n : ℕ). version_of (epoch_of n)) (get_or-set_other s.words a b x 0 ne);
-      names = λ side ne. let q = side_in k s.words side b lt in get_or-set_other s.words a (index k (Beside side b)) x 0 (λ e. let z = q.0 in omega arith);
+      version = ap (λ (n : ℕ). version_of (epoch_of n)) (get_or-set_other s.words (anchor_index a) (anchor_index b) x 0 (λ e. ne (omega arith)));
+      names = λ side ne. let q = side_in k s.words side b lt in get_or-set_other s.words (anchor_index a) (index k (Beside side b)) x 0 (λ e. let z = q.0 in omega arith);
     }
 
     -- that of an anchor, which keeps its version
-    pub names_at : (a x : ℕ) → a < k.anchors → length s.words ≡ word_count k → version_of (epoch_of x) ≡ version_of (epoch_of (word s a)) → (b : ℕ) → b < k.anchors → NamesStay k s (later s i v' (set s.words a x) cs) b
+    pub names_at : (a x : ℕ) → a < k.anchors → length s.words ≡ word_count k → version_of (epoch_of x) ≡ version_of (epoch_of (word s a)) → (b : ℕ) → b < k.anchors → NamesStay k s (later s i v' (set s.words (anchor_index a) x) cs) b
     names_at a x la wide same b lt = dite (ℕ_discrete b a)
-        (λ e. subst (NamesStay k s (later s i v' (set s.words a x) cs)) (sym e) record {
-          version = ap (λ (n : ℕ). version_of (epoch_of n)) (get_or-set_same s.words a x 0 (omega arith)) ∙ same;
-          names = λ side ne. let q = side_in k s.words side a la in get_or-set_other s.words a (index k (Beside side a)) x 0 (λ e. let z = q.0 in omega arith);
+        (λ e. subst (NamesStay k s (later s i v' (set s.words (anchor_index a) x) cs)) (sym e) record {
+          version = ap (λ (n : ℕ). version_of (epoch_of n)) (get_or-set_same s.words (anchor_index a) x 0 (omega arith)) ∙ same;
+          names = λ side ne. let q = side_in k s.words side a la in get_or-set_other s.words (anchor_index a) (index k (Beside side a)) x 0 (λ e. let z = q.0 in omega arith);
         })
         (names_else a x la b lt)
 
     -- one beside another anchor
     pub names_apart : (side : Side) (a x : ℕ) → a < k.anchors → (b : ℕ) → b < k.anchors → b ≢ a → NamesStay k s (later s i v' (set s.words (index k (Beside side a)) x) cs) b
     names_apart side a x la b lt ne = let q = side_in k s.words side a la in record {
-      version = ap (λ (n : ℕ). version_of (epoch_of n)) (get_or-set_other s.words (index k (Beside side a)) b x 0 (λ e. let z = q.0 in omega arith));
+      version = ap (λ (n : ℕ). version_of (epoch_of n)) (get_or-set_other s.words (index k (Beside side a)) (anchor_index b) x 0 (λ e. let z = q.0 in omega arith));
       names = λ other _. get_or-set_other s.words (index k (Beside side a)) (index k (Beside other b)) x 0 (sides_apart k s.words side other a b la ne lt);
     }
 
     -- a Start word
     pub names_started : (a x : ℕ) → a < k.anchors → NamesStay k s (later s i v' (set s.words (index k (Beside Start a)) x) cs) a
     names_started a x la = let q = side_in k s.words Start a la in record {
-      version = ap (λ (n : ℕ). version_of (epoch_of n)) (get_or-set_other s.words (index k (Beside Start a)) a x 0 (λ e. let z = q.0 in omega arith));
+      version = ap (λ (n : ℕ). version_of (epoch_of n)) (get_or-set_other s.words (index k (Beside Start a)) (anchor_index a) x 0 (λ e. let z = q.0 in omega arith));
       names = λ other ne. get_or-set_other s.words (index k (Beside Start a)) (index k (Beside other a)) x 0 (sides_differ k s.words Start other a la ne);
     }
 
@@ -338,9 +339,9 @@ module _ {X : Type 0} where
     }
 
     -- the word of an anchor is set, and keeps its version
-    pub on_anchor : (a x : ℕ) (v' : View X) (cs : List Chain) → a < k.anchors → version_of (epoch_of x) ≡ version_of (epoch_of (word s a)) → TurnsKeep k (later s i v' (set s.words a x) cs) v v'.tabs → Sees v v' → SameChains k s cs
-        → CellsSound k (later s i v' (set s.words a x) cs)
-    on_anchor a x v' cs lt version tabs see same = on_words v' (set s.words a x) cs (turns_else k s a x (λ slot l e. omega arith)) tabs see same (names_at k s i v' cs a x lt so.shaped.words version)
+    pub on_anchor : (a x : ℕ) (v' : View X) (cs : List Chain) → a < k.anchors → version_of (epoch_of x) ≡ version_of (epoch_of (word s a)) → TurnsKeep k (later s i v' (set s.words (anchor_index a) x) cs) v v'.tabs → Sees v v' → SameChains k s cs
+        → CellsSound k (later s i v' (set s.words (anchor_index a) x) cs)
+    on_anchor a x v' cs lt version tabs see same = on_words v' (set s.words (anchor_index a) x) cs (turns_else k s (anchor_index a) x (λ slot l e. omega arith)) tabs see same (names_at k s i v' cs a x lt so.shaped.words version)
 
     -- a word that is none of an anchor, and no turn
     pub on_else : (p x : ℕ) (v' : View X) → 5 * k.anchors ≤ p → ((slot : ℕ) → slot < k.slots → index k (Turn slot) ≢ p) → TurnsKeep k (later s i v' (set s.words p x) s.chains) v v'.tabs → Sees v v'

@@ -23,12 +23,12 @@ use Rattle.core_model.specs.declared.tab.Tab.TheVariants.{Free}
 use Rattle.core_model.specs.declared.view.Place.TheVariants.{Beside}
 use Rattle.core_model.specs.declared.view.View.{View}
 use Rattle.core_model.specs.declared.chain.Chain.{Chain}
-use Rattle.core_model.specs.Layout.{Setting, index}
-use Rattle.core_model.specs.State.{State, word, chain_of}
+use Rattle.core_model.specs.Layout.{Setting, index, anchor_index}
+use Rattle.core_model.specs.State.{State, word, chain_of, side_word}
 use Rattle.core_model.specs.Tabs.{turn_of, count}
 use Rattle.core_model.specs.Anchors.{IsSetting, opening_counter}
 use Rattle.core_model.specs.Opening.{IsOpened}
-use Rattle.core_model.specs.Cells.{side_word, holds_at, TurnFits, IsHeldCell, IsCell, TabPiece, CellsSound}
+use Rattle.core_model.specs.Cells.{holds_at, TurnFits, IsHeldCell, IsCell, TabPiece, CellsSound}
 use Rattle.core_model.proofs.Lists.{cons_contains, contains_none}
 use Rattle.core_model.proofs.Opened.{at_new, no_sum, free_tab}
 use Rattle.core_model.proofs.SlotsOpened.{contains_map}
@@ -39,7 +39,7 @@ item_at (x ∷ xs) zero lt = (x, refl)
 item_at (x ∷ xs) (suc i) lt = item_at xs i (omega arith)
 
 -- an item that has this number, or none
-numbered : {A : Type 0} (f : A → ℕ) (a : ℕ) (xs : List A) → ((x : A) × Contains xs x × (f x ≡ a)) ⊎ ((x : A) → Contains xs x → f x ≡ a → ⊥)
+pub numbered : {A : Type 0} (f : A → ℕ) (a : ℕ) (xs : List A) → ((x : A) × Contains xs x × (f x ≡ a)) ⊎ ((x : A) → Contains xs x → f x ≡ a → ⊥)
 numbered f a [] = inr (λ x h e. contains_none x h)
 numbered {A} f a (x ∷ xs) = dite (ℕ_discrete (f x) a)
     (λ e. inl (x, (0, omega arith, refl), e))
@@ -61,7 +61,7 @@ module _ {X : Type 0} where
   cell_of x = record { now = x; possible = x ∷ [] }
 
 module _ {X : Type 0} (k : Setting X) (r : Rebuilt) (s : State X) (is : IsSetting k) (o : IsOpened k r s) where
-  tab_free : (i : ℕ) (v : View X) → get_elem? s.views i ≡ some v → (t : ℕ) (tab : Tab X) → get_elem? v.tabs t ≡ some tab → tab ≡ Free
+  pub tab_free : (i : ℕ) (v : View X) → get_elem? s.views i ≡ some v → (t : ℕ) (tab : Tab X) → get_elem? v.tabs t ≡ some tab → tab ≡ Free
   tab_free i v e t tab h = let q = at_new k r s is o i v e in free_tab k r s is o t tab (subst (λ (u : View X). get_elem? u.tabs t ≡ some tab) q.0 h)
 
   none_held : (slot : ℕ) (c : Cell X) → IsHeldCell s slot c → ⊥
@@ -87,12 +87,12 @@ module _ {X : Type 0} (k : Setting X) (r : Rebuilt) (s : State X) (is : IsSettin
       (λ ne. let x = opens_cell slot (omega arith) in record { content = x.content; at = x.at; cell_is = one_cell c (cell_of x.content) (sym h ∙ x.home) })
   told slot c (inr h) = absurd (none_held slot c h)
 
-  old_version : (a : ℕ) → a < k.anchors → opening_counter k < version_of (epoch_of (word s a)) → ⊥
-  old_version a lt h = let e = ap (λ (ws : List ℕ). version_of (epoch_of (get_or ws a 0))) o.words in let z = is.version a lt in omega arith
+  pub old_version : (a : ℕ) → a < k.anchors → opening_counter k < version_of (epoch_of (word s a)) → ⊥
+  old_version a lt h = let e = ap (λ (ws : List ℕ). version_of (epoch_of (get_or ws (anchor_index a) 0))) o.words in let z = is.version a lt in omega arith
 
   module _ (slot : ℕ) (images : List (List ℕ)) (b : IsRebuilt slot images k.anchors r) (as_many : length images ≡ k.slots) where
     -- an entry that was kept begins at a slot of the table
-    begins_inside : (f : Found) → Contains r.winners f → f.first < k.slots
+    pub begins_inside : (f : Found) → Contains r.winners f → f.first < k.slots
     begins_inside f h = let q = contains_map found_of b.entries f (subst (λ (ws : List Found). Contains ws f) b.told h) in subst (λ (z : Found). z.first < k.slots) q.2 (inside q.0 (b.won q.0 q.1).complete.chain)
       where
         inside : (e : Entry) → IsChain slot images e.first e.chain → e.first < k.slots

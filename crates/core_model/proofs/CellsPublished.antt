@@ -25,19 +25,15 @@ use Rattle.core_model.specs.declared.view.Sight.TheVariants.{Named}
 use Rattle.core_model.specs.declared.view.Place.TheVariants.{Beside, Link as LinkWord, Turn}
 use Rattle.core_model.specs.declared.view.View.{View}
 use Rattle.core_model.specs.declared.chain.Chain.{Chain}
-use Rattle.core_model.specs.Layout.{Setting, index}
-use Rattle.core_model.specs.State.{State, word, chain_of}
-use Rattle.core_model.specs.Chains.{no_chain, Fits, Tied, times, link_to, link_at, named, rest_of}
-use Rattle.core_model.specs.Tabs.{tab_at, turn_of, anchor_of, count}
-use Rattle.core_model.specs.Allowed.{IsPass, Allowed, MayPublish, IsNext}
-use Rattle.core_model.specs.TabsAfter.{first_of, publishes, piece_of}
-use Rattle.core_model.specs.Records.{shows}
+use Rattle.core_model.specs.Layout.{Setting, index, anchor_index}
+use Rattle.core_model.specs.State.{State, word, chain_of, side_word, turn_word}
+use Rattle.core_model.specs.Chains.{no_chain, Fits, Tied, times, link_to, link_at, rest_of, slots_of_link, first_of}
+use Rattle.core_model.specs.Tabs.{tab_at, turn_of, anchor_of, count, IsPass}
 use Rattle.core_model.specs.Steps.{finding, view_after, longer, after}
 use Rattle.core_model.specs.Anchors.{opening_counter}
 use Rattle.core_model.specs.Slots.{slot_words, WriterHolds, ReaderHolds, SlotsSound}
-use Rattle.core_model.specs.Cells.{side_word, turn_word, turn_at, holds_at, OneHolder, TurnFits, IsHeldCell, IsCell, IsContent, ContentsStand, WriterPiece, TabPiece, IsNamed, NamesStand, CellsSound}
+use Rattle.core_model.specs.Cells.{turn_at, holds_at, OneHolder, TurnFits, IsHeldCell, IsCell, IsContent, ContentsStand, WriterPiece, TabPiece, IsNamed, NamesStand, CellsSound}
 use Rattle.core_model.specs.Sound.{AnchorsSound, WordsSound}
-use Rattle.core_model.specs.Matching.{MatchesWriter}
 use Rattle.core_model.proofs.Lists.{at_length, at_set, set_here, set_else, sum_at, le_sum_at}
 use Rattle.core_model.proofs.Matching.{matches_writer}
 use Rattle.core_model.proofs.Spelling.{firsts, link_below, suc_is, one_same, tied_end, at_longer}
@@ -45,6 +41,10 @@ use Rattle.core_model.proofs.Telling.{told_in, side_in}
 use Rattle.core_model.proofs.BesideKept.{besides}
 use Rattle.core_model.proofs.SightsKept.{stored_value}
 use Rattle.core_model.proofs.OwnsKept.{of_writer, tab_was, held_slot}
+use Rattle.core_model.specs.Table.{Allowed}
+use Rattle.core_model.specs.SlotMoves.{MayPublish, IsNext, publishes, shows}
+use Rattle.core_model.specs.CellMoves.{piece_of}
+use Rattle.core_model.specs.Holders.{MatchesWriter}
 
 -- Lists of slots, one longer.
 
@@ -69,8 +69,8 @@ first_more : (xs : List ℕ) (y : ℕ) (rs : List ℕ) → first_of (xs ++ y ∷
 first_more [] y rs = refl
 first_more (x ∷ xs) y rs = refl
 
-next_longer : (xs : List ℕ) (end link : Link) (slot p j : ℕ) → end ≡ Next slot → get_elem? (xs ++ named end) p ≡ some j → get_elem? ((xs ++ slot ∷ []) ++ named link) p ≡ some j
-next_longer xs end link slot p j next e = at_longer (xs ++ slot ∷ []) (named link) p j (subst (λ (z : Link). get_elem? (xs ++ named z) p ≡ some j) next e)
+next_longer : (xs : List ℕ) (end link : Link) (slot p j : ℕ) → end ≡ Next slot → get_elem? (xs ++ slots_of_link end) p ≡ some j → get_elem? ((xs ++ slot ∷ []) ++ slots_of_link link) p ≡ some j
+next_longer xs end link slot p j next e = at_longer (xs ++ slot ∷ []) (slots_of_link link) p j (subst (λ (z : Link). get_elem? (xs ++ slots_of_link z) p ≡ some j) next e)
 
 contains_behind : {A : Type 0} → (x : A) (xs ys : List A) → Contains ys x → Contains (xs ++ ys) x
 contains_behind x [] ys h = h
@@ -138,7 +138,7 @@ module _ {X : Type 0} (k : Setting X) (s : State X) (i : ℕ) (v : View X) (so :
   -- What stays.
 
   word_same : (b : ℕ) → b < k.anchors → word s' b ≡ word s b
-  word_same b lt = get_or-set_other s.words (index k (LinkWord slot)) b (link_number link) 0 (λ e. omega arith)
+  word_same b lt = get_or-set_other s.words (index k (LinkWord slot)) (anchor_index b) (link_number link) 0 (λ e. omega arith)
 
   version_same : (b : ℕ) → b < k.anchors → version_of (epoch_of (word s' b)) ≡ version_of (epoch_of (word s b))
   version_same b lt = ap (λ (n : ℕ). version_of (epoch_of n)) (word_same b lt)
@@ -206,10 +206,10 @@ module _ {X : Type 0} (k : Setting X) (s : State X) (i : ℕ) (v : View X) (so :
 
   next_later : (r : Reader X) → ReaderHolds (chain_of s r.anchor) r → (j : ℕ) → IsNext s j r → IsNext s' j r
   next_later r h j is = dite (ℕ_discrete r.anchor a)
-      (λ e. subst (λ (z : ℕ). get_elem? ((chain_of s' z).slots ++ named (chain_of s' z).end) r.place ≡ some j) (sym e) (subst (λ (z : Chain). get_elem? (z.slots ++ named z.end) r.place ≡ some j) (sym chain_here)
+      (λ e. subst (λ (z : ℕ). get_elem? ((chain_of s' z).slots ++ slots_of_link (chain_of s' z).end) r.place ≡ some j) (sym e) (subst (λ (z : Chain). get_elem? (z.slots ++ slots_of_link z.end) r.place ≡ some j) (sym chain_here)
       (next_longer x.published x.end link slot r.place j (ends_next (let l = ap (λ (b : ℕ). length (chain_of s b).slots) e in let m = ap (λ (c : Chain). length c.slots) holds.chain in let z = h.some_slot in omega arith))
-      (subst (λ (z : Chain). get_elem? (z.slots ++ named z.end) r.place ≡ some j) holds.chain (subst (λ (z : ℕ). get_elem? ((chain_of s z).slots ++ named (chain_of s z).end) r.place ≡ some j) e is)))))
-      (λ ne. subst (λ (z : Chain). get_elem? (z.slots ++ named z.end) r.place ≡ some j) (sym (chain_else r.anchor ne)) is)
+      (subst (λ (z : Chain). get_elem? (z.slots ++ slots_of_link z.end) r.place ≡ some j) holds.chain (subst (λ (z : ℕ). get_elem? ((chain_of s z).slots ++ slots_of_link (chain_of s z).end) r.place ≡ some j) e is)))))
+      (λ ne. subst (λ (z : Chain). get_elem? (z.slots ++ slots_of_link z.end) r.place ≡ some j) (sym (chain_else r.anchor ne)) is)
 
   fits_later : (tab : Tab X) → ((r : Reader X) → tab ≡ Reading r → ReaderHolds (chain_of s r.anchor) r) → TurnFits k s tab → TurnFits k s' tab
   fits_later Free h f = tt
@@ -238,14 +238,15 @@ module _ {X : Type 0} (k : Setting X) (s : State X) (i : ℕ) (v : View X) (so :
     drawn = h.drawn;
     fits = h.fits;
     offer = h.offer;
-    home = λ p goes_on written chosen. let q = h.home p goes_on written chosen in record { slot = q.slot; first = q.first; cell = q.cell; home = q.home; written = q.written };
+    home = λ p goes_on written chosen. let q = h.home p goes_on written chosen in record { slot = q.slot; first = q.first; cell = q.cell; home = q.home; written = q.written; settled = q.settled };
     held = h.held;
+    synced = h.synced;
   }
   piece_later (Last b) h = tt
   piece_later (Freeing f) h = tt
 
   piece_here : TabPiece k s' new
-  piece_here = record { drawn = piece.drawn; fits = piece.fits; offer = piece.offer; home = λ p goes_on written chosen. cc; held = λ p h turn written chosen. cc }
+  piece_here = record { drawn = piece.drawn; fits = piece.fits; offer = piece.offer; home = λ p goes_on written chosen. cc; held = λ p h turn written chosen. cc; synced = piece.synced }
 
   writers_kept : (j : ℕ) (u : View X) → get_elem? s'.views j ≡ some u → (p : ℕ) (tab : Tab X) → get_elem? u.tabs p ≡ some tab → TabPiece k s' tab
   writers_kept = each_after (TabPiece k s') piece_here (λ j u ut p tab is. piece_later tab (cells.writers j u ut p tab is))

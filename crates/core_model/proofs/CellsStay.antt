@@ -1,5 +1,5 @@
 -- Each step of kinds 1 to 13 but the publishing of a slot keeps the part on cells, turns, contents and names.
-use Rattle.std.proofs.Common.{◌≡◌, ◌≢◌, ◌⊎◌, inl, inr, ⊎_elim, ℕ, zero, suc, ◌+◌, ◌-◌, ◌*◌, ◌<◌, ◌≤◌, List, [], ◌∷◌, ◌++◌, drop, length, get_or, set, sym, refl, ap, ◌∙◌, subst, arith, Bool, true, false, cond, ◌==◌, ◌&&◌, not, eq-eqb, None, Contains, get_or-set_same, get_or-set_other}
+use Rattle.std.proofs.Common.{◌≡◌, ◌≢◌, ◌⊎◌, inl, inr, ⊎_elim, ℕ, zero, suc, ◌+◌, ◌-◌, ◌<◌, ◌≤◌, List, [], ◌∷◌, ◌++◌, drop, length, get_or, set, sym, refl, ap, ◌∙◌, subst, arith, Bool, true, false, cond, ◌==◌, ◌&&◌, not, eq-eqb, None, Contains, get_or-set_same, get_or-set_other}
 use Rattle.std.proofs.lemmas.Bool.{eqb-true, false≢true}
 use Rattle.std.specs.Prelude.{unwrap_or}
 use mathlib.Core.Option.{some}
@@ -30,14 +30,10 @@ use Rattle.core_model.specs.declared.tab.Tab.TheVariants.{Free, Retreating, Read
 use Rattle.core_model.specs.declared.view.Place.TheVariants.{Beside, Turn}
 use Rattle.core_model.specs.declared.view.View.{View}
 use Rattle.core_model.specs.declared.chain.Chain.{Chain}
-use Rattle.core_model.specs.Layout.{Setting, index, turns_end}
-use Rattle.core_model.specs.Chains.{no_chain, named, Tied, times, link_to, link_at, rest_of}
-use Rattle.core_model.specs.State.{State, word, chain_of}
-use Rattle.core_model.specs.Tabs.{tab_at, inner, anchor_of, turn_of, has_turn, stage_written, OfReader, OfWriter, OfFreer}
-use Rattle.core_model.specs.Allowed.{IsPass, Allowed, MayRaise, StartsRight, MayEnd, MayStore, MayReserve, MayGiveBack, MayLoosen, IsFront, IsNext}
-use Rattle.core_model.specs.TabsAfter.{Finding, entered, left_tab, raised_tab, loaded, stored, stores, reserves, without, settled, gives_back, loosens, link_of, looks}
-use Rattle.core_model.specs.Where.{stage_held}
-use Rattle.core_model.specs.Records.{sights_of}
+use Rattle.core_model.specs.Layout.{Setting, index, counter_index, anchor_index, link_index, owner_index}
+use Rattle.core_model.specs.Chains.{no_chain, Tied, times, link_to, link_at, rest_of, slots_of_link, without, link_of}
+use Rattle.core_model.specs.State.{State, word, chain_of, Finding}
+use Rattle.core_model.specs.Tabs.{tab_at, inner, anchor_of, turn_of, has_turn, stage_written, OfReader, OfWriter, OfFreer, IsPass, stage_held}
 use Rattle.core_model.specs.Steps.{finding, view_after, after, halted}
 use Rattle.core_model.specs.Slots.{SlotWords, slot_words, WriterHolds, SlotsSound}
 use Rattle.core_model.specs.Cells.{TurnFits, WriterPiece, TabPiece, CellsSound}
@@ -55,6 +51,9 @@ use Rattle.core_model.proofs.OwnsKept.{of_writer, of_freer, tab_was, held_slot, 
 use Rattle.core_model.proofs.FollowsKept.{spelled_at, link_of_number, followed}
 use Rattle.core_model.proofs.CellsFrame.{later, Sees, SameChains, same_chains, no_has, contains_later, TurnsKeep, turns_same, turns_with, idle_fits, idle_piece, Goes, goes_fits, goes_piece, piece_again, cells_later, names_apart, names_started, turns_else, on_words, on_anchor, on_else}
 use Rattle.core_model.proofs.CellsTaken.{take_cells, evict_cells}
+use Rattle.core_model.specs.Table.{Allowed, sights_of}
+use Rattle.core_model.specs.AnchorMoves.{MayRaise, StartsRight, MayEnd, entered, left_tab, raised_tab}
+use Rattle.core_model.specs.SlotMoves.{MayStore, MayReserve, MayGiveBack, MayLoosen, IsFront, IsNext, loaded, stored, stores, reserves, emptied, gives_back, loosens, looks}
 
 -- the kinds 1 to 13 but that which publishes a slot
 abbrev pub LeavesCells : Move → Type 0
@@ -122,16 +121,16 @@ module _ {X : Type 0} where
 
   -- what a writing tab stores
   goes_stored : (k : Setting X) (w : Writer X) (side : Side) (value : ℕ) → MayStore k w side value → Goes k w (stored w side value)
-  goes_stored k w Key0 value may = record { first = λ slot e. e; turn = refl; version = refl; offer = λ n e. inl e; is_ending = refl; is_written = refl; chosen = refl }
-  goes_stored k w Key1 value may = record { first = λ slot e. e; turn = refl; version = refl; offer = λ n e. inl e; is_ending = refl; is_written = refl; chosen = refl }
-  goes_stored k w Offer value may = record { first = λ slot e. e; turn = refl; version = refl; offer = λ n e. inr (subst (λ (z : ℕ). k.slots ≤ z) (ap (λ o. unwrap_or o 0) e) may.2); is_ending = refl; is_written = refl; chosen = refl }
-  goes_stored k w Start value may = record { first = λ slot e. e; turn = refl; version = refl; offer = λ n e. inl e; is_ending = refl; is_written = refl; chosen = refl }
+  goes_stored k w Key0 value may = record { first = λ slot e. e; turn = refl; version = refl; offer = λ n e. inl e; is_ending = refl; is_written = refl; is_settled = refl; chosen = refl }
+  goes_stored k w Key1 value may = record { first = λ slot e. e; turn = refl; version = refl; offer = λ n e. inl e; is_ending = refl; is_written = refl; is_settled = refl; chosen = refl }
+  goes_stored k w Offer value may = record { first = λ slot e. e; turn = refl; version = refl; offer = λ n e. inr (subst (λ (z : ℕ). k.slots ≤ z) (ap (λ o. unwrap_or o 0) e) may.2); is_ending = refl; is_written = refl; is_settled = refl; chosen = refl }
+  goes_stored k w Start value may = record { first = λ slot e. e; turn = refl; version = refl; offer = λ n e. inl e; is_ending = refl; is_written = refl; is_settled = refl; chosen = refl }
 
   goes_owned : (k : Setting X) (w : Writer X) (slot : ℕ) → Goes k w (record w { reserved = w.reserved ++ slot ∷ [] })
-  goes_owned k w slot = record { first = λ j e. first_stays w.reserved j slot e; turn = refl; version = refl; offer = λ n e. inl e; is_ending = refl; is_written = refl; chosen = refl }
+  goes_owned k w slot = record { first = λ j e. first_stays w.reserved j slot e; turn = refl; version = refl; offer = λ n e. inl e; is_ending = refl; is_written = refl; is_settled = refl; chosen = refl }
 
   goes_appending : (k : Setting X) (w : Writer X) → Goes k w (record w { is_appending = true })
-  goes_appending k w = record { first = λ j e. e; turn = refl; version = refl; offer = λ n e. inl e; is_ending = refl; is_written = refl; chosen = refl }
+  goes_appending k w = record { first = λ j e. e; turn = refl; version = refl; offer = λ n e. inl e; is_ending = refl; is_written = refl; is_settled = refl; chosen = refl }
 
   -- a name is stored before a slot is published
   store_first : (k : Setting X) (w : Writer X) (side : Side) (value : ℕ) → MayStore k w side value → (side ≡ Start) ⊎ (w.published ≡ [])
@@ -184,14 +183,14 @@ module _ {X : Type 0} (k : Setting X) (s : State X) (i : ℕ) (v : View X) (so :
 
   -- Looks at the counter, and draws.
 
-  no_turn_word : (slot : ℕ) → slot < k.slots → index k (Turn slot) ≢ turns_end k
+  no_turn_word : (slot : ℕ) → slot < k.slots → index k (Turn slot) ≢ counter_index k
   no_turn_word slot lt e = omega arith
 
   count_cells : CellsSound k (after k s i v Count)
-  count_cells = on_else k s i v so sl cells at (turns_end k) (get_or s.words (turns_end k) 0) (view_after v Count (finding k s v Count)) (omega arith) no_turn_word (turns_same k _ v) (sees Count (finding k s v Count))
+  count_cells = on_else k s i v so sl cells at (counter_index k) (get_or s.words (counter_index k) 0) (view_after v Count (finding k s v Count)) (omega arith) no_turn_word (turns_same k _ v) (sees Count (finding k s v Count))
 
   draw_cells : CellsSound k (after k s i v Draw)
-  draw_cells = on_else k s i v so sl cells at (turns_end k) (get_or s.words (turns_end k) 0 + 1) (view_after v Draw (finding k s v Draw)) (omega arith) no_turn_word (turns_same k _ v) (sees Draw (finding k s v Draw))
+  draw_cells = on_else k s i v so sl cells at (counter_index k) (get_or s.words (counter_index k) 0 + 1) (view_after v Draw (finding k s v Draw)) (omega arith) no_turn_word (turns_same k _ v) (sees Draw (finding k s v Draw))
 
   -- A writing tab.
   module _ (t : ℕ) (w : Writer X) (was : get_elem? v.tabs t ≡ some (Writing w)) where
@@ -217,13 +216,13 @@ module _ {X : Type 0} (k : Setting X) (s : State X) (i : ℕ) (v : View X) (so :
     version_kept : (g : ℕ) → 2 ≤ g → g ≤ 4 → version_of (epoch_of (raised (word s a) (g - stage_written w))) ≡ version_of (epoch_of (word s a))
     version_kept g low high = version_of-raised (word s a) (g - stage_written w) (let q = stage_here.1 in let f = (written_few w).1 in omega arith)
 
-    raise_open : (v' : View X) → v'.tabs ≡ set v.tabs t (Writing record w { is_appending = true }) → Sees v v' → CellsSound k (later s i v' (set s.words a (raised (word s a) (2 - stage_written w))) s.chains)
+    raise_open : (v' : View X) → v'.tabs ≡ set v.tabs t (Writing record w { is_appending = true }) → Sees v v' → CellsSound k (later s i v' (set s.words (anchor_index a) (raised (word s a) (2 - stage_written w))) s.chains)
     raise_open v' tabs see = on_anchor k s i v so sl cells at a (raised (word s a) (2 - stage_written w)) v' s.chains stage_here.0 (version_kept 2 (omega arith) (omega arith))
-        (goes_on v' (set s.words a (raised (word s a) (2 - stage_written w))) s.chains (record w { is_appending = true }) (goes_appending k w) tabs) see (same_chains k s)
+        (goes_on v' (set s.words (anchor_index a) (raised (word s a) (2 - stage_written w))) s.chains (record w { is_appending = true }) (goes_appending k w) tabs) see (same_chains k s)
 
     -- it ends, without a turn
     raise_over : (g : ℕ) → 2 ≤ g → g ≤ 4 → (v' : View X) (cs : List Chain) → v'.tabs ≡ set v.tabs t (left_tab a (raised (word s a) (g - stage_written w))) → Sees v v' → SameChains k s cs → w.turn ≡ NoTurn
-        → CellsSound k (later s i v' (set s.words a (raised (word s a) (g - stage_written w))) cs)
+        → CellsSound k (later s i v' (set s.words (anchor_index a) (raised (word s a) (g - stage_written w))) cs)
     raise_over g low high v' cs tabs see same none = let n' : ℕ = raised (word s a) (g - stage_written w) in on_anchor k s i v so sl cells at a n' v' cs stage_here.0 (version_kept g low high)
         (one_idle _ v' t (Writing w) (left_tab a n') was tabs none (left_none k a (is_left_over n')) (left_turn a (is_left_over n'))) see same
 
@@ -264,11 +263,11 @@ module _ {X : Type 0} (k : Setting X) (s : State X) (i : ℕ) (v : View X) (so :
     gives : (v' : View X) (ws : List ℕ) (cs : List Chain) (slot : ℕ) → has_turn w.turn ≡ false → v'.tabs ≡ set v.tabs t (Writing record w { reserved = without slot w.reserved; is_ending = true }) → TurnsKeep k (later s i v' ws cs) v v'.tabs
     gives v' ws cs slot none tabs = let e = turnless_is w.turn none in one_keeps (later s i v' ws cs) v' t (Writing w) (Writing record w { reserved = without slot w.reserved; is_ending = true }) was tabs refl
         (λ h q. absurd (no_has w.turn h e q))
-        record { drawn = piece.drawn; fits = piece.fits; offer = piece.offer; home = λ p open_ written chosen. absurd (false≢true (sym open_)); held = λ p h q written chosen. absurd (no_has w.turn h e q) }
+        record { drawn = piece.drawn; fits = piece.fits; offer = piece.offer; home = λ p open_ written chosen. absurd (false≢true (sym open_)); held = λ p h q written chosen. absurd (no_has w.turn h e q); synced = λ h q emptied. absurd (no_has w.turn h e q) }
 
   -- The inner tab has nothing left.
   raise_gone : (t : ℕ) (f : Freer) → get_elem? v.tabs t ≡ some (Freeing f) → f.is_freeing ≡ true → (v' : View X) → v'.tabs ≡ set v.tabs t (left_tab f.anchor (raised (word s f.anchor) 1)) → Sees v v'
-      → CellsSound k (later s i v' (set s.words f.anchor (raised (word s f.anchor) 1)) s.chains)
+      → CellsSound k (later s i v' (set s.words (anchor_index f.anchor) (raised (word s f.anchor) 1)) s.chains)
   raise_gone t f was freeing v' tabs see = let n' : ℕ = raised (word s f.anchor) 1 in on_anchor k s i v so sl cells at f.anchor n' v' s.chains (so.tabs i v at t (Freeing f) was).0 (version_of-raised (word s f.anchor) 1 (let z = five in omega arith))
       (one_idle _ v' t (Freeing f) (left_tab f.anchor n') was tabs refl (left_none k f.anchor (is_left_over n')) (left_turn f.anchor (is_left_over n'))) see (same_chains k s)
     where
@@ -280,7 +279,7 @@ module _ {X : Type 0} (k : Setting X) (s : State X) (i : ℕ) (v : View X) (so :
   tab_by to x = raised_tab x to (raised (word s (anchor_of x)) (stage_number to - stage_held x))
 
   abbrev words_by : Stage → Tab X → List ℕ
-  words_by to x = set s.words (anchor_of x) (raised (word s (anchor_of x)) (stage_number to - stage_held x))
+  words_by to x = set s.words (anchor_index (anchor_of x)) (raised (word s (anchor_of x)) (stage_number to - stage_held x))
 
   abbrev halt_chain : Tab X → List Chain
   halt_chain x = set s.chains (anchor_of x) (halted (chain_of s (anchor_of x)))
@@ -319,7 +318,7 @@ module _ {X : Type 0} (k : Setting X) (s : State X) (i : ℕ) (v : View X) (so :
   -- a word is set to what it was
   on_same : (p : ℕ) (v' : View X) → TurnsKeep k (later s i v' (set s.words p (get_or s.words p 0)) s.chains) v v'.tabs → Sees v v' → CellsSound k (later s i v' (set s.words p (get_or s.words p 0)) s.chains)
   on_same p v' tabs see = on_words k s i v so sl cells at v' (set s.words p (get_or s.words p 0)) s.chains (λ slot lt. again (index k (Turn slot))) tabs see (same_chains k s)
-      (λ a lt. record { version = ap (λ (n : ℕ). version_of (epoch_of n)) (again a); names = λ side ne. again (index k (Beside side a)) })
+      (λ a lt. record { version = ap (λ (n : ℕ). version_of (epoch_of n)) (again (anchor_index a)); names = λ side ne. again (index k (Beside side a)) })
     where
       again : (q : ℕ) → get_or (set s.words p (get_or s.words p 0)) q 0 ≡ get_or s.words q 0
       again q = ap (λ (ws : List ℕ). get_or ws q 0) (set_again s.words p)
@@ -377,10 +376,10 @@ module _ {X : Type 0} (k : Setting X) (s : State X) (i : ℕ) (v : View X) (so :
   -- Slots.
   module _ (t slot : ℕ) where
     abbrev owner_at : ℕ
-    owner_at = 5 * k.anchors + slot
+    owner_at = owner_index k slot
 
     abbrev link_word_at : ℕ
-    link_word_at = 5 * k.anchors + k.slots + slot
+    link_word_at = link_index k slot
 
     off_owner : slot < k.slots → (j : ℕ) → j < k.slots → index k (Turn j) ≢ owner_at
     off_owner lt j l e = omega arith
@@ -409,7 +408,7 @@ module _ {X : Type 0} (k : Setting X) (s : State X) (i : ℕ) (v : View X) (so :
     gives_one (Writing w) was (inr h) v' ws cs tabs = absurd h
     gives_one (Freeing f) was (inl h) v' ws cs tabs = absurd h
     gives_one (Freeing f) was (inr h) v' ws cs tabs = let g : Freer = record f { loose = without slot f.loose } in let b : Bool = (length g.rest == 0) && (length g.loose == 0) && not g.is_freeing in
-        one_keeps (later s i v' ws cs) v' t (Freeing f) (settled g) was tabs (settled_turn g b) (settled_fits k (later s i v' ws cs) g b) (settled_piece k (later s i v' ws cs) g b)
+        one_keeps (later s i v' ws cs) v' t (Freeing f) (emptied g) was tabs (settled_turn g b) (settled_fits k (later s i v' ws cs) g b) (settled_piece k (later s i v' ws cs) g b)
     gives_one Free was h v' ws cs tabs = absurd (⊎_elim (λ (z : ⊥). z) (λ (z : ⊥). z) h)
     gives_one (Retreating a) was h v' ws cs tabs = absurd (⊎_elim (λ (z : ⊥). z) (λ (z : ⊥). z) h)
     gives_one (Reading r) was h v' ws cs tabs = absurd (⊎_elim (λ (z : ⊥). z) (λ (z : ⊥). z) h)
@@ -479,7 +478,7 @@ module _ {X : Type 0} (k : Setting X) (s : State X) (i : ℕ) (v : View X) (so :
 
         link_is : n ≡ link_number r.found
         link_is = sym (told_in k.slots slot n inside)
-            ∙ spelled_at w₀.link (chain_of s r.anchor).slots (chain_of s r.anchor).end r.place slot (sl.stand r.anchor (so.tabs i v at t (Reading r) was).0).spelled (sym (at_front (chain_of s r.anchor).slots (named (chain_of s r.anchor).end) r.place found.0) ∙ next)
+            ∙ spelled_at w₀.link (chain_of s r.anchor).slots (chain_of s r.anchor).end r.place slot (sl.stand r.anchor (so.tabs i v at t (Reading r) was).0).spelled (sym (at_front (chain_of s r.anchor).slots (slots_of_link (chain_of s r.anchor).end) r.place found.0) ∙ next)
             ∙ ap (λ (z : ℕ). link_number (link_to (drop z (chain_of s r.anchor).slots) (chain_of s r.anchor).end)) (suc_is r.place)
             ∙ ap link_number (sym found.1)
 

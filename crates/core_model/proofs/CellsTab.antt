@@ -8,7 +8,7 @@ use lib.ListN.{get_elem?}
 use Rattle.lock_word.specs.Words.{epoch_of, version_of, stage_of}
 use Rattle.link_word.specs.declared.link.Link.TheVariants.{NotWritten}
 use Rattle.core_model.specs.declared.moves.Side.{Side}
-use Rattle.core_model.specs.declared.moves.Side.TheVariants.{Key0, Key1, Offer, Start}
+use Rattle.core_model.specs.declared.moves.Side.TheVariants.{Offer}
 use Rattle.core_model.specs.declared.tab.Cell.{Cell}
 use Rattle.core_model.specs.declared.tab.Piece.{Piece}
 use Rattle.core_model.specs.declared.tab.Hold.{Hold}
@@ -23,21 +23,21 @@ use Rattle.core_model.specs.declared.view.Sight.{Sight}
 use Rattle.core_model.specs.declared.view.Sight.TheVariants.{Named}
 use Rattle.core_model.specs.declared.view.View.{View}
 use Rattle.core_model.specs.declared.chain.Chain.{Chain}
-use Rattle.core_model.specs.Layout.{Setting, index}
-use Rattle.core_model.specs.State.{State, word, chain_of}
-use Rattle.core_model.specs.Chains.{times, rest_of, link_at}
+use Rattle.core_model.specs.Layout.{Setting, index, anchor_index}
+use Rattle.core_model.specs.State.{State, word, chain_of, side_word}
+use Rattle.core_model.specs.Chains.{times, rest_of, link_at, first_of}
 use Rattle.core_model.specs.Tabs.{has_turn, turn_of, count}
-use Rattle.core_model.specs.TabsAfter.{first_of}
-use Rattle.core_model.specs.Allowed.{IsNext}
 use Rattle.core_model.specs.Anchors.{opening_counter}
 use Rattle.core_model.specs.Slots.{slot_words, held_in, published_in, standing_in, ReaderHolds}
-use Rattle.core_model.specs.Cells.{side_word, turn_at, holds_at, OneHolder, TurnFits, IsHeldCell, IsCell, IsContent, ContentsStand, IsHome, TabPiece, IsNamed, NamesStand, CellsSound}
+use Rattle.core_model.specs.Cells.{turn_at, holds_at, OneHolder, TurnFits, IsHeldCell, IsCell, IsContent, ContentsStand, IsHome, TabPiece, IsNamed, NamesStand, CellsSound}
 use Rattle.core_model.specs.Sound.{Sound}
+use Rattle.core_model.proofs.Places.{beside_inside}
 use Rattle.core_model.proofs.Lists.{by_eq, at_set, sum_at, le_sum_at, two_le_sum, set_else, set_here, at_length, sum_mono}
 use Rattle.core_model.proofs.Spelling.{one_same}
 use Rattle.core_model.proofs.SlotFrame.{published_few, once, in_no_other}
 use Rattle.core_model.proofs.SlotKinds.{OneTab, recounted, each_tab}
 use Rattle.core_model.proofs.FollowsKept.{at_times}
+use Rattle.core_model.specs.SlotMoves.{IsNext}
 
 -- What holds of the turn of one slot: its word, how many hold it, and the cell at home.
 pub record OneTurn {C : Type 0} (word holders : ℕ) (place : Option C) : Type 0 where
@@ -128,12 +128,6 @@ module _ {X : Type 0} (k : Setting X) (s : State X) where
   to_holders h = record { turns = λ j lt. (h j lt).turns; few = λ j lt. (h j lt).few; home = λ j lt. (h j lt).home; away = λ j lt. (h j lt).away }
 
 module _ {X : Type 0} (k : Setting X) (s : State X) where
-  side_below : (side : Side) (b : ℕ) → b < k.anchors → index k (Beside side b) < 5 * k.anchors
-  side_below Key0 b lt = omega arith
-  side_below Key1 b lt = omega arith
-  side_below Offer b lt = omega arith
-  side_below Start b lt = omega arith
-
   -- a slot that no chain has
   abbrev pub IsUnpublished : ℕ → Type 0
   IsUnpublished slot = (a : ℕ) → times slot (chain_of s a).slots ≡ 0
@@ -196,10 +190,10 @@ module _ {X : Type 0} (k : Setting X) (s : State X) where
         s' = turned ws ps v'
 
         word_same : (a : ℕ) → a < k.anchors → word s' a ≡ word s a
-        word_same a lt = o.low a (omega arith)
+        word_same a lt = o.low (anchor_index a) (omega arith)
 
         side_same : (side : Side) (a : ℕ) → a < k.anchors → side_word k s' side a ≡ side_word k s side a
-        side_same side a lt = o.low (index k (Beside side a)) (side_below side a lt)
+        side_same side a lt = o.low (index k (Beside side a)) (beside_inside k side a lt)
 
         turns_fit : (j : ℕ) (u : View X) → get_elem? s'.views j ≡ some u → (m : ℕ) (tab : Tab X) → get_elem? u.tabs m ≡ some tab → TurnFits k s tab
         turns_fit j u e m tab e' = ⊎_elim
@@ -226,6 +220,7 @@ module _ {X : Type 0} (k : Setting X) (s : State X) where
           offer = h.offer;
           home = λ q going written chosen. o.homes j u ut p w is ne q (h.home q going written chosen);
           held = h.held;
+          synced = h.synced;
         }
         piece_after j u ut p (Last a) is ne h = tt
         piece_after j u ut p (Freeing f) is ne h = tt
@@ -328,8 +323,9 @@ module _ {X : Type 0} (k : Setting X) (s : State X) where
         home = get_or-set_other s.places slot h.slot x None (λ e. let z = apart j u ut p w is ne in let c : times slot w.reserved ≡ times slot (h.slot ∷ rest_of w.reserved) = ap (times slot) h.first in
             let d = ap (λ (m : ℕ). times slot (m ∷ rest_of w.reserved)) e in let y = one_same slot in omega arith) ∙ h.home;
         written = h.written;
+        settled = h.settled;
       }
 
       -- none is
       pub homes_stay : (ws : List ℕ) (v' : View X) (w : Writer X) (q : Piece) → IsHome k s w q → IsHome k (turned ws s.places v') w q
-      homes_stay ws v' w q h = record { slot = h.slot; first = h.first; cell = h.cell; home = h.home; written = h.written }
+      homes_stay ws v' w q h = record { slot = h.slot; first = h.first; cell = h.cell; home = h.home; written = h.written; settled = h.settled }

@@ -5,7 +5,7 @@ use mathlib.Core.Option.{some}
 use mathlib.Core.Logic.{dite}
 use native.Mathlib.Decide.{ℕ_discrete}
 use lib.ListN.{get_elem?}
-use Rattle.lock_word.specs.Words.{readers_of, word_at, is_vacant, is_idle, is_left_over}
+use Rattle.lock_word.specs.Words.{readers_of, word_at, is_vacant, is_idle, is_left_over, evicted}
 use Rattle.lock_word.proofs.Testing.{stage_of-vacant, mode_of-idle}
 use Rattle.core_model.specs.declared.tab.Turn.TheVariants.{NoTurn}
 use Rattle.core_model.specs.declared.tab.Tab.{Tab}
@@ -13,15 +13,11 @@ use Rattle.core_model.specs.declared.tab.Tab.TheVariants.{Free, Writing, Last, F
 use Rattle.core_model.specs.declared.moves.Move.TheVariants.{Take, Evict}
 use Rattle.core_model.specs.declared.view.View.{View}
 use Rattle.core_model.specs.declared.chain.Chain.{Chain}
-use Rattle.core_model.specs.Layout.{Setting}
+use Rattle.core_model.specs.Layout.{Setting, anchor_index}
 use Rattle.core_model.specs.State.{State, word, chain_of}
 use Rattle.core_model.specs.Chains.{no_chain}
 use Rattle.core_model.specs.Trails.{last_find}
-use Rattle.core_model.specs.Tabs.{tab_at, inner, is_free, turn_of}
-use Rattle.core_model.specs.Allowed.{IsPass, Allowed, MayTake, MayEvict, InnerIsFree}
-use Rattle.core_model.specs.TabsAfter.{writer_of, freer_of}
-use Rattle.core_model.specs.Where.{evicted}
-use Rattle.core_model.specs.Records.{sights_of}
+use Rattle.core_model.specs.Tabs.{tab_at, inner, is_free, turn_of, IsPass, InnerIsFree}
 use Rattle.core_model.specs.Steps.{finding, view_after, after}
 use Rattle.core_model.specs.Anchors.{opening_counter}
 use Rattle.core_model.specs.Versions.{drawn_by}
@@ -33,6 +29,8 @@ use Rattle.core_model.proofs.Tabs.{tab_there}
 use Rattle.core_model.proofs.TakesKept.{fit_vacant, fit_idle, free_is}
 use Rattle.core_model.proofs.EvictsKept.{IsRipe, ripe_idle, ripe_left}
 use Rattle.core_model.proofs.CellsFrame.{later, Sees, no_has, contains_later, TurnsKeep, turns_same, turns_with, cells_later, names_else, turns_else, same_chains, on_anchor}
+use Rattle.core_model.specs.Table.{Allowed, sights_of}
+use Rattle.core_model.specs.AnchorMoves.{MayTake, MayEvict, writer_of, freer_of}
 
 module _ {X : Type 0} (k : Setting X) (s : State X) (i : ℕ) (v : View X) (so : AnchorsSound k s) (sl : SlotsSound k s) (cells : CellsSound k s) (at : get_elem? s.views i ≡ some v) (pass : IsPass v) (a : ℕ) (lt : a < k.anchors) where
   abbrev n : ℕ
@@ -46,9 +44,9 @@ module _ {X : Type 0} (k : Setting X) (s : State X) (i : ℕ) (v : View X) (so :
   turns_as s' v' same = subst (TurnsKeep k s' v) (sym same) (turns_same k s' v)
 
   -- the chain goes to the pass, where nobody reads
-  empties : readers_of (word s a) ≡ 0 → (x : ℕ) (v' : View X) → TurnsKeep k (later s i v' (set s.words a x) chains) v v'.tabs → Sees v v' → CellsSound k (later s i v' (set s.words a x) chains)
-  empties unread x v' tabs see = cells_later k s i v so sl cells at v' (set s.words a x) chains record {
-    turns = turns_else k s a x (λ slot l e. omega arith);
+  empties : readers_of (word s a) ≡ 0 → (x : ℕ) (v' : View X) → TurnsKeep k (later s i v' (set s.words (anchor_index a) x) chains) v v'.tabs → Sees v v' → CellsSound k (later s i v' (set s.words (anchor_index a) x) chains)
+  empties unread x v' tabs see = cells_later k s i v so sl cells at v' (set s.words (anchor_index a) x) chains record {
+    turns = turns_else k s (anchor_index a) x (λ slot l e. omega arith);
     tabs = tabs;
     seen = see;
     chains = λ b lb. dite (ℕ_discrete b a)
@@ -81,7 +79,7 @@ module _ {X : Type 0} (k : Setting X) (s : State X) (i : ℕ) (v : View X) (so :
     is_drawn = (so.drawn.above u (let z = (so.held.fresh i v at u may.held).drawn in let y = le_sum_at (drawn_by u) s.views i v at in omega arith)).0
 
     writing_piece : (s' : State X) → TabPiece k s' writing
-    writing_piece s' = record { drawn = is_drawn; fits = (so.held.fresh i v at u may.held).fits; offer = λ x e. cc; home = λ p e written. cc; held = λ p h e. absurd (no_has NoTurn h refl e) }
+    writing_piece s' = record { drawn = is_drawn; fits = (so.held.fresh i v at u may.held).fits; offer = λ x e. cc; home = λ p e written. cc; held = λ p h e. absurd (no_has NoTurn h refl e); synced = λ h e. absurd (no_has NoTurn h refl e) }
 
     takes_tab : (s' : State X) (tabs : List (Tab X)) → TurnsKeep k s' v tabs → get_elem? tabs t ≡ some Free → TurnsKeep k s' v (set tabs t writing)
     takes_tab s' tabs keep free = turns_with k s' v tabs keep t Free writing free refl (λ h e. absurd (no_has NoTurn h refl e)) (writing_piece s')
@@ -92,15 +90,15 @@ module _ {X : Type 0} (k : Setting X) (s : State X) (i : ℕ) (v : View X) (so :
         (set_else v.tabs inner t freeing (λ z. absurd (let y = may.writes in omega arith)) ∙ free_here)
 
     takes : (hit idle : Bool) → hit ≡ (n == last_find a v.trail) → idle ≡ is_idle n → (v' : View X) → v'.tabs ≡ cond hit (set (cond idle (set v.tabs inner freeing) v.tabs) t writing) v.tabs → Sees v v'
-        → CellsSound k (later s i v' (set s.words a (cond hit (word_at u 1) n)) (cond hit chains s.chains))
+        → CellsSound k (later s i v' (set s.words (anchor_index a) (cond hit (word_at u 1) n)) (cond hit chains s.chains))
     takes false idle e q v' tabs see = on_anchor k s i v so sl cells at a n v' s.chains lt refl (turns_as _ v' tabs) see (same_chains k s)
     takes true false e q v' tabs see = let same : n ≡ last_find a v.trail = eqb-true _ _ (sym e) in ⊎_elim
         (λ (h : is_vacant (last_find a v.trail) ≡ true). empties (fit_vacant n (subst (λ (z : ℕ). is_vacant z ≡ true) (sym same) h)).unread (word_at u 1) v'
-        (subst (TurnsKeep k (later s i v' (set s.words a (word_at u 1)) chains) v) (sym tabs) (takes_tab _ v.tabs (turns_same k _ v) free_here)) see)
+        (subst (TurnsKeep k (later s i v' (set s.words (anchor_index a) (word_at u 1)) chains) v) (sym tabs) (takes_tab _ v.tabs (turns_same k _ v) free_here)) see)
         (λ (h : (is_idle (last_find a v.trail) ≡ true) × InnerIsFree v). absurd (false≢true (q ∙ subst (λ (z : ℕ). is_idle z ≡ true) (sym same) h.0)))
         may.fit
     takes true true e q v' tabs see = let same : n ≡ last_find a v.trail = eqb-true _ _ (sym e) in empties (fit_idle n (sym q)).unread (word_at u 1) v'
-        (subst (TurnsKeep k (later s i v' (set s.words a (word_at u 1)) chains) v) (sym tabs) (idle_tabs _ (inner_free same))) see
+        (subst (TurnsKeep k (later s i v' (set s.words (anchor_index a) (word_at u 1)) chains) v) (sym tabs) (idle_tabs _ (inner_free same))) see
       where
         inner_free : n ≡ last_find a v.trail → tab_at v inner ≡ Free
         inner_free same = ⊎_elim
@@ -142,10 +140,10 @@ module _ {X : Type 0} (k : Setting X) (s : State X) (i : ℕ) (v : View X) (so :
     freed_tabs s' = turns_with k s' v v.tabs (turns_same k s' v) t old Free was (sym no_turn) tt tt
 
     evicts : (hit : Bool) → hit ≡ (n == last_find a v.trail) → (v' : View X) → v'.tabs ≡ cond hit (set (set v.tabs t Free) inner evicting) (set v.tabs t Free) → Sees v v'
-        → CellsSound k (later s i v' (set s.words a (cond hit (evicted n) n)) (cond hit chains s.chains))
-    evicts false e v' tabs see = on_anchor k s i v so sl cells at a n v' s.chains lt refl (subst (TurnsKeep k (later s i v' (set s.words a n) s.chains) v) (sym tabs) (freed_tabs _)) see (same_chains k s)
+        → CellsSound k (later s i v' (set s.words (anchor_index a) (cond hit (evicted n) n)) (cond hit chains s.chains))
+    evicts false e v' tabs see = on_anchor k s i v so sl cells at a n v' s.chains lt refl (subst (TurnsKeep k (later s i v' (set s.words (anchor_index a) n) s.chains) v) (sym tabs) (freed_tabs _)) see (same_chains k s)
     evicts true e v' tabs see = empties (unread (eqb-true _ _ (sym e))) (evicted n) v'
-        (subst (TurnsKeep k (later s i v' (set s.words a (evicted n)) chains) v) (sym tabs) (turns_with k _ v (set v.tabs t Free) (freed_tabs _) inner Free evicting inner_then refl tt tt)) see
+        (subst (TurnsKeep k (later s i v' (set s.words (anchor_index a) (evicted n)) chains) v) (sym tabs) (turns_with k _ v (set v.tabs t Free) (freed_tabs _) inner Free evicting inner_then refl tt tt)) see
 
 module _ {X : Type 0} (k : Setting X) (s : State X) (i : ℕ) (v : View X) (so : AnchorsSound k s) (sl : SlotsSound k s) (cells : CellsSound k s) (at : get_elem? s.views i ≡ some v) (pass : IsPass v) where
   pub take_cells : (t a u : ℕ) → Allowed k s v (Take t a u) → CellsSound k (after k s i v (Take t a u))

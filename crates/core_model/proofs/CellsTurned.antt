@@ -18,13 +18,11 @@ use Rattle.core_model.specs.declared.moves.Move.TheVariants.{TryTurn, EndTurn}
 use Rattle.core_model.specs.declared.view.Place.TheVariants.{Turn}
 use Rattle.core_model.specs.declared.view.View.{View}
 use Rattle.core_model.specs.Layout.{Setting, index}
-use Rattle.core_model.specs.State.{State, chain_of}
+use Rattle.core_model.specs.State.{State, chain_of, turn_word}
 use Rattle.core_model.specs.Chains.{times, rest_of}
-use Rattle.core_model.specs.Tabs.{tab_at, has_turn, turn_of, holds_turn, count}
-use Rattle.core_model.specs.Allowed.{IsPass, Allowed, IsNext, MayRead, MayWrite}
-use Rattle.core_model.specs.TabsAfter.{piece_of, held, tries, was_written, ends}
-use Rattle.core_model.specs.Steps.{cell_held, finding, view_after, after}
-use Rattle.core_model.specs.Cells.{turn_word, holds_at, OneHolder, TurnFits, IsCell, WriterPiece, TabPiece, CellsSound}
+use Rattle.core_model.specs.Tabs.{tab_at, has_turn, turn_of, holds_turn, count, IsPass}
+use Rattle.core_model.specs.Steps.{finding, view_after, after}
+use Rattle.core_model.specs.Cells.{holds_at, OneHolder, TurnFits, IsCell, WriterPiece, TabPiece, CellsSound}
 use Rattle.core_model.specs.Sound.{Sound}
 use Rattle.core_model.proofs.Lists.{sum_some}
 use Rattle.core_model.proofs.Spelling.{one_same}
@@ -33,6 +31,9 @@ use Rattle.core_model.proofs.SlotKinds.{OneTab}
 use Rattle.core_model.proofs.OwnsKept.{of_reader, of_writer, tab_was, held_slot}
 use Rattle.core_model.proofs.FollowsKept.{at_times, followed}
 use Rattle.core_model.proofs.CellsTab.{OneTurn, taken_turn, free_turn, same_slot, same_hold, no_hold, turn_none, turn_here, turn_else, turn_nowhere, turn_is, turn_tab, holders_after, Turned, of_holders, to_holders, turned, IsApart, cell_after, same_holders, cells_kept, read_slot, read_apart, written_unpublished, written_apart, homes_else, homes_stay}
+use Rattle.core_model.specs.Table.{Allowed}
+use Rattle.core_model.specs.SlotMoves.{IsNext}
+use Rattle.core_model.specs.CellMoves.{MayRead, MayWrite, piece_of, turn_with, tries, was_written, was_settled, ends, cell_held}
 
 module _ {X : Type 0} where
   some_same : (a b : Cell X) → Some a ≡ Some b → a ≡ b
@@ -43,7 +44,7 @@ module _ {X : Type 0} where
 
   -- what a turn that just was taken is
   abbrev taken : ℕ → Cell X → Hold X
-  taken slot c = record { slot = slot; cell = c; is_out = false; is_written = false }
+  taken slot c = record { slot = slot; cell = c; is_out = false; is_written = false; is_settled = false }
 
 module _ {X : Type 0} (k : Setting X) (s : State X) (i : ℕ) (v : View X) (so : Sound k s) (at : get_elem? s.views i ≡ some v) (pass : IsPass v) where
   -- a turn's word is behind those of anchors and beside them
@@ -228,11 +229,11 @@ module _ {X : Type 0} (k : Setting X) (s : State X) (i : ℕ) (v : View X) (so :
     read_here j u ut p x is ne = read_apart k s i v so at r.anchor slot (at_times (chain_of s r.anchor).slots r.place slot (read_slot k s i v so at i v at t r was slot may.0 may.1)) j u ut p x is
 
     abbrev tried_reader : Bool → Tab X
-    tried_reader hit = Reading record r { turn = cond hit (held slot (get_or s.places slot None)) r.turn }
+    tried_reader hit = Reading record r { turn = cond hit (turn_with slot (get_or s.places slot None)) r.turn }
 
     try_reader : (hit : Bool) → hit ≡ (turn_word k s slot == 0) → v'.tabs ≡ set v.tabs t (tried_reader hit)
         → CellsSound k (turned k s i (set s.words (index k (Turn slot)) (cond hit 1 (turn_word k s slot))) (cond hit (set s.places slot None) s.places) v')
-    try_reader true e tabs = let free = eqb-true (turn_word k s slot) 0 (sym e) in let c = so.cells.holders.home slot read_inside free in let has : turn_of (tried_reader true) ≡ Has (taken slot c.0) = ap (held slot) c.1 in
+    try_reader true e tabs = let free = eqb-true (turn_word k s slot) 0 (sym e) in let c = so.cells.holders.home slot read_inside free in let has : turn_of (tried_reader true) ≡ Has (taken slot c.0) = ap (turn_with slot) c.1 in
         taken_keeps t slot (Reading r) (tried_reader true) v' record { was = was; becomes = tabs } read_inside c.0 (turn_none r.turn none) has free c.1 tt
         (λ g q. let same = same_slot (taken slot c.0) g (sym has ∙ q) in subst (λ (z : ℕ). (z < k.slots) × IsNext s z r × (r.found ≢ NotWritten)) same (read_inside, may.0, may.1))
         read_here seen
@@ -261,12 +262,12 @@ module _ {X : Type 0} (k : Setting X) (s : State X) (i : ℕ) (v : View X) (so :
 
   module _ (t slot : ℕ) (v' : View X) (seen : v'.seen ≡ v.seen) (w : Writer X) (was : get_elem? v.tabs t ≡ some (Writing w)) (may : MayWrite slot w) (none : has_turn w.turn ≡ false) where
     abbrev tried_writer : Bool → Tab X
-    tried_writer hit = Writing record w { chosen = Some (unwrap_or w.chosen (piece_of w)); is_written = cond hit false w.is_written; turn = cond hit (held slot (get_or s.places slot None)) w.turn }
+    tried_writer hit = Writing record w { chosen = Some (unwrap_or w.chosen (piece_of w)); is_written = cond hit false w.is_written; is_settled = cond hit false w.is_settled; turn = cond hit (turn_with slot (get_or s.places slot None)) w.turn }
 
     try_writer : (hit : Bool) → hit ≡ (turn_word k s slot == 0) → v'.tabs ≡ set v.tabs t (tried_writer hit)
         → CellsSound k (turned k s i (set s.words (index k (Turn slot)) (cond hit 1 (turn_word k s slot))) (cond hit (set s.places slot None) s.places) v')
     try_writer true e tabs = let free = turn_is_free t w was none slot may.first in let inside = reserved_inside t w was none slot may.first in let c = so.cells.holders.home slot inside free in
-        let has : turn_of (tried_writer true) ≡ Has (taken slot c.0) = ap (held slot) c.1 in let old : WriterPiece k s w = so.cells.writers i v at t (Writing w) was in
+        let has : turn_of (tried_writer true) ≡ Has (taken slot c.0) = ap (turn_with slot) c.1 in let old : WriterPiece k s w = so.cells.writers i v at t (Writing w) was in
         taken_keeps t slot (Writing w) (tried_writer true) v' record { was = was; becomes = tabs } inside c.0 (turn_none w.turn none) has free c.1
         record {
           drawn = old.drawn;
@@ -274,6 +275,7 @@ module _ {X : Type 0} (k : Setting X) (s : State X) (i : ℕ) (v : View X) (so :
           offer = old.offer;
           home = λ q going written chosen. absurd (false≢true written);
           held = λ q g turn written chosen. absurd (false≢true (ap Hold.is_written (same_hold (taken slot c.0) g (sym has ∙ turn)) ∙ written));
+          synced = λ g turn settled. absurd (false≢true (ap Hold.is_settled (same_hold (taken slot c.0) g (sym has ∙ turn)) ∙ settled));
         }
         (λ g q. let same = same_slot (taken slot c.0) g (sym has ∙ q) in subst (λ (z : ℕ). (z < k.slots) × (w.reserved ≡ z ∷ rest_of w.reserved)) same (inside, may.first))
         (written_apart k s i v so at t w was slot (reserves_it t w was none slot may.first)) seen
@@ -311,8 +313,10 @@ module _ {X : Type 0} (k : Setting X) (s : State X) (i : ℕ) (v : View X) (so :
             cell = h.cell;
             home = get_or-set_same s.places h.slot (Some h.cell) None (let z = so.anchors.shaped.places in let y = f.0 in omega arith);
             written = old.held q h has (sym (ap was_written has) ∙ written) chosen;
+            settled = λ e. old.synced h has (sym (ap was_settled has) ∙ e);
           };
           held = λ q g turn written chosen. absurd (no_hold g turn);
+          synced = λ g turn settled. absurd (no_hold g turn);
         }
         (written_apart k s i v so at t w was h.slot (let c : times h.slot w.reserved ≡ times h.slot (h.slot ∷ rest_of w.reserved) = ap (times h.slot) f.1 in let o = one_same h.slot in omega arith)) seen
 

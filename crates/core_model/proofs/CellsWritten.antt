@@ -1,6 +1,7 @@
 -- To take the cell of a held turn out, to put it back, to write it and to sync it keeps what is sound of cells.
-use Rattle.std.proofs.Common.{◌≡◌, ◌≢◌, ◌⊎◌, inl, inr, ⊎_elim, ℕ, suc, ◌<◌, ◌≤◌, ◌∷◌, get_or, set, sym, refl, ap, ◌∙◌, subst, arith, Some, None, Option, Bool, true, false, ◌||◌, Contains}
+use Rattle.std.proofs.Common.{◌≡◌, ◌≢◌, ◌⊎◌, inl, inr, ⊎_elim, ℕ, suc, ◌<◌, ◌≤◌, [], ◌∷◌, get_or, set, sym, refl, ap, ◌∙◌, subst, arith, Some, None, Option, Bool, true, false, ◌||◌, ◌&&◌, Contains}
 use Rattle.std.specs.Prelude.{unwrap_or}
+use Rattle.std.proofs.lemmas.Bool.{false≢true}
 use mathlib.Core.Option.{some}
 use mathlib.Core.Logic.{dite}
 use native.Mathlib.Decide.{ℕ_discrete}
@@ -22,20 +23,25 @@ use Rattle.core_model.specs.declared.view.View.{View}
 use Rattle.core_model.specs.Layout.{Setting}
 use Rattle.core_model.specs.State.{State}
 use Rattle.core_model.specs.Chains.{times, rest_of}
-use Rattle.core_model.specs.Tabs.{tab_at, turn_of}
-use Rattle.core_model.specs.Allowed.{IsPass, Allowed, IsNext}
-use Rattle.core_model.specs.TabsAfter.{moved, moves, is_kept, rewritten, rewrites}
-use Rattle.core_model.specs.Steps.{map_some, chosen_content, cell_held, wrote, synced, finding, view_after, after}
+use Rattle.core_model.specs.Tabs.{tab_at, turn_of, IsPass}
+use Rattle.core_model.specs.Steps.{finding, view_after, after}
 use Rattle.core_model.specs.Cells.{holds_at, TurnFits, IsHeldCell, IsCell, WriterPiece, TabPiece, CellsSound}
 use Rattle.core_model.specs.Sound.{Sound}
 use Rattle.core_model.proofs.Spelling.{one_same}
 use Rattle.core_model.proofs.SlotKinds.{OneTab}
 use Rattle.core_model.proofs.OwnsKept.{of_writer, tab_was}
 use Rattle.core_model.proofs.CellsTab.{same_slot, same_hold, turn_here, turn_else, turn_tab, turned, IsUnpublished, cell_after, same_holders, cells_kept, written_unpublished, homes_stay}
+use Rattle.core_model.specs.Table.{Allowed}
+use Rattle.core_model.specs.SlotMoves.{IsNext}
+use Rattle.core_model.specs.CellMoves.{moved, moves, is_kept, is_nothing, was_settled, rewritten, rewrites, settled_by_write, settled_by_sync, map_some, chosen_content, cell_held, wrote, synced}
 
 or_false : (b : Bool) → (b || false) ≡ true → b ≡ true
 or_false true e = refl
 or_false false e = e
+
+and_false : (b : Bool) → (b && false) ≡ false
+and_false true = refl
+and_false false = refl
 
 module _ {X : Type 0} where
   -- The cell that a write leaves, and what a sync leaves.
@@ -73,6 +79,22 @@ module _ {X : Type 0} where
   sync_now : (c : Cell X) (kept : Bool) → (sync_of c kept).now ≡ c.now
   sync_now c true = refl
   sync_now c false = refl
+
+  -- a cell that has one possible content, or one that was just synced
+  abbrev IsOne : Cell X → Type 0
+  IsOne c = c.possible ≡ c.now ∷ []
+
+  write_settled : (c : Cell X) (outcome : Outcome) (x : Option X) (before : Bool) → (before ≡ true → IsOne c) → (before && is_nothing outcome) ≡ true → IsOne (write_of c outcome x)
+  write_settled c Nothing None true h e = h refl
+  write_settled c Nothing (Some x) true h e = h refl
+  write_settled c Nothing x false h e = absurd (false≢true e)
+  write_settled c Kept x before h e = absurd (false≢true (sym (and_false before) ∙ e))
+  write_settled c Unsure x before h e = absurd (false≢true (sym (and_false before) ∙ e))
+  write_settled c KeptUnsure x before h e = absurd (false≢true (sym (and_false before) ∙ e))
+
+  sync_settled : (c : Cell X) (kept before : Bool) → (before ≡ true → IsOne c) → (before || kept) ≡ true → IsOne (sync_of c kept)
+  sync_settled c true before h e = refl
+  sync_settled c false before h e = h (or_false before e)
 
 module _ {X : Type 0} (k : Setting X) (s : State X) (i : ℕ) (v : View X) (so : Sound k s) (at : get_elem? s.views i ≡ some v) (v' : View X) (seen : v'.seen ≡ v.seen) (t : ℕ) (h h' : Hold X) (same : h'.slot ≡ h.slot) where
   abbrev s' : State X
@@ -114,9 +136,10 @@ module _ {X : Type 0} (k : Setting X) (s : State X) (i : ℕ) (v : View X) (so :
   hold_reader r turn was has has' tabs cell = goes_on_holding (Reading r) (Reading record r { turn = turn }) record { was = was; becomes = tabs } has has' (inl cell)
       (λ g e. subst (λ (z : ℕ). (z < k.slots) × IsNext s z r × (r.found ≢ NotWritten)) (sym same ∙ same_slot h' g (sym has' ∙ e)) (so.cells.turns i v at t (Reading r) was h has)) tt
 
-  hold_writer : (w : Writer X) (turn : TurnOf X) → get_elem? v.tabs t ≡ some (Writing w) → w.turn ≡ Has h → turn ≡ Has h' → v'.tabs ≡ set v.tabs t (Writing record w { turn = turn })
-      → (h'.cell ≡ h.cell) ⊎ Contains h'.cell.possible h'.cell.now → ((p : Piece) → w.chosen ≡ Some p → (h.is_written ≡ true → h.cell.now ≡ k.image p) → h'.is_written ≡ true → h'.cell.now ≡ k.image p) → CellsSound k s'
-  hold_writer w turn was has has' tabs may image = let f = so.cells.turns i v at t (Writing w) was h has in let old : WriterPiece k s w = so.cells.writers i v at t (Writing w) was in
+  pub hold_writer : (w : Writer X) (turn : TurnOf X) → get_elem? v.tabs t ≡ some (Writing w) → w.turn ≡ Has h → turn ≡ Has h' → v'.tabs ≡ set v.tabs t (Writing record w { turn = turn })
+      → (h'.cell ≡ h.cell) ⊎ Contains h'.cell.possible h'.cell.now → ((p : Piece) → w.chosen ≡ Some p → (h.is_written ≡ true → h.cell.now ≡ k.image p) → h'.is_written ≡ true → h'.cell.now ≡ k.image p)
+      → ((h.is_settled ≡ true → h.cell.possible ≡ h.cell.now ∷ []) → h'.is_settled ≡ true → h'.cell.possible ≡ h'.cell.now ∷ []) → CellsSound k s'
+  hold_writer w turn was has has' tabs may image settles = let f = so.cells.turns i v at t (Writing w) was h has in let old : WriterPiece k s w = so.cells.writers i v at t (Writing w) was in
       goes_on_holding (Writing w) (Writing record w { turn = turn }) record { was = was; becomes = tabs } has has'
       (⊎_elim (λ (e : h'.cell ≡ h.cell). inl e)
       (λ (e : Contains h'.cell.possible h'.cell.now). inr (written_unpublished k s i v so at t w was h.slot (let c : times h.slot w.reserved ≡ times h.slot (h.slot ∷ rest_of w.reserved) = ap (times h.slot) f.1 in let o = one_same h.slot in omega arith), e)) may)
@@ -125,9 +148,11 @@ module _ {X : Type 0} (k : Setting X) (s : State X) (i : ℕ) (v : View X) (so :
         drawn = old.drawn;
         fits = old.fits;
         offer = old.offer;
-        home = λ p going written chosen. let y = old.home p going written chosen in record { slot = y.slot; first = y.first; cell = y.cell; home = y.home; written = y.written };
+        home = λ p going written chosen. let y = old.home p going written chosen in record { slot = y.slot; first = y.first; cell = y.cell; home = y.home; written = y.written; settled = y.settled };
         held = λ p g e written chosen. let is_it = same_hold h' g (sym has' ∙ e) in
             subst (λ (z : Hold X). z.cell.now ≡ k.image p) is_it (image p chosen (λ q. old.held p h has q chosen) (ap Hold.is_written is_it ∙ written));
+        synced = λ g e settled. let is_it = same_hold h' g (sym has' ∙ e) in
+            subst (λ (z : Hold X). z.cell.possible ≡ z.cell.now ∷ []) is_it (settles (old.synced h has) (ap Hold.is_settled is_it ∙ settled));
       }
 
 module _ {X : Type 0} (k : Setting X) (s : State X) (i : ℕ) (v : View X) (so : Sound k s) (at : get_elem? s.views i ≡ some v) (pass : IsPass v) (t : ℕ) where
@@ -137,7 +162,7 @@ module _ {X : Type 0} (k : Setting X) (s : State X) (i : ℕ) (v : View X) (so :
       (λ (q : (r : Reader X) × (tab_at v t ≡ Reading r) × (r.turn ≡ Has h)). hold_reader k s i v so at v' seen t h (record h { is_out = is_out }) refl q.0 (moved q.0.turn is_out)
       (tab_was k s i v so.anchors so.slots at pass t (Reading q.0) le q.1) q.2 (ap (λ (u : TurnOf X). moved u is_out) q.2) (tabs ∙ ap (λ (z : Tab X). set v.tabs t (moves z is_out)) q.1) refl)
       (λ (q : (w : Writer X) × (tab_at v t ≡ Writing w) × (w.turn ≡ Has h)). hold_writer k s i v so at v' seen t h (record h { is_out = is_out }) refl q.0 (moved q.0.turn is_out)
-      (tab_was k s i v so.anchors so.slots at pass t (Writing q.0) le q.1) q.2 (ap (λ (u : TurnOf X). moved u is_out) q.2) (tabs ∙ ap (λ (z : Tab X). set v.tabs t (moves z is_out)) q.1) (inl refl) (λ p chosen before. before))
+      (tab_was k s i v so.anchors so.slots at pass t (Writing q.0) le q.1) q.2 (ap (λ (u : TurnOf X). moved u is_out) q.2) (tabs ∙ ap (λ (z : Tab X). set v.tabs t (moves z is_out)) q.1) (inl refl) (λ p chosen before. before) (λ before. before))
       (turn_tab (tab_at v t) h has)
 
   -- a cell that a turn has is one
@@ -145,20 +170,22 @@ module _ {X : Type 0} (k : Setting X) (s : State X) (i : ℕ) (v : View X) (so :
   possible_held w was h has = so.cells.contents.possible h.slot h.cell (inr record { i = i; view = v; at = at; t = t; tab = Writing w; there = was; hold = h; turn = has; slot_is = refl; cell_is = refl })
 
   write_keeps : (outcome : Outcome) (w : Writer X) → get_elem? v.tabs t ≡ some (Writing w) → (h : Hold X) → w.turn ≡ Has h → (v' : View X) → v'.seen ≡ v.seen
-      → v'.tabs ≡ set v.tabs t (rewrites (Writing w) (is_kept outcome) (wrote (cell_held w.turn) outcome (map_some k.image w.chosen))) → CellsSound k (turned k s i s.words s.places v')
-  write_keeps outcome w was h has v' seen tabs = hold_writer k s i v so at v' seen t h (record h { cell = write_of h.cell outcome (map_some k.image w.chosen); is_written = h.is_written || is_kept outcome }) refl w
-      (rewritten w.turn (is_kept outcome) (wrote (cell_held w.turn) outcome (map_some k.image w.chosen))) was has
-      (ap (λ (u : TurnOf X). rewritten u (is_kept outcome) (wrote (cell_held u) outcome (map_some k.image w.chosen))) has) tabs
+      → v'.tabs ≡ set v.tabs t (rewrites (Writing w) (is_kept outcome) (settled_by_write (Writing w) outcome) (wrote (cell_held w.turn) outcome (map_some k.image w.chosen))) → CellsSound k (turned k s i s.words s.places v')
+  write_keeps outcome w was h has v' seen tabs = hold_writer k s i v so at v' seen t h (record h { cell = write_of h.cell outcome (map_some k.image w.chosen); is_written = h.is_written || is_kept outcome; is_settled = was_settled w.turn && is_nothing outcome }) refl w
+      (rewritten w.turn (is_kept outcome) (was_settled w.turn && is_nothing outcome) (wrote (cell_held w.turn) outcome (map_some k.image w.chosen))) was has
+      (ap (λ (u : TurnOf X). rewritten u (is_kept outcome) (was_settled w.turn && is_nothing outcome) (wrote (cell_held u) outcome (map_some k.image w.chosen))) has) tabs
       (inr (write_possible h.cell outcome (map_some k.image w.chosen) (possible_held w was h has)))
       (λ p chosen before written. subst (λ (z : Option Piece). (write_of h.cell outcome (map_some k.image z)).now ≡ k.image p) (sym chosen) (write_image h.cell outcome (k.image p) h.is_written before written))
+      (λ before settled. write_settled h.cell outcome (map_some k.image w.chosen) h.is_settled before (sym (ap (λ (u : TurnOf X). was_settled u && is_nothing outcome) has) ∙ settled))
 
   sync_keeps : (kept : Bool) (w : Writer X) → get_elem? v.tabs t ≡ some (Writing w) → (h : Hold X) → w.turn ≡ Has h → (v' : View X) → v'.seen ≡ v.seen
-      → v'.tabs ≡ set v.tabs t (rewrites (Writing w) false (synced (cell_held w.turn) kept)) → CellsSound k (turned k s i s.words s.places v')
-  sync_keeps kept w was h has v' seen tabs = hold_writer k s i v so at v' seen t h (record h { cell = sync_of h.cell kept; is_written = h.is_written || false }) refl w
-      (rewritten w.turn false (synced (cell_held w.turn) kept)) was has
-      (ap (λ (u : TurnOf X). rewritten u false (synced (cell_held u) kept)) has) tabs
+      → v'.tabs ≡ set v.tabs t (rewrites (Writing w) false (settled_by_sync (Writing w) kept) (synced (cell_held w.turn) kept)) → CellsSound k (turned k s i s.words s.places v')
+  sync_keeps kept w was h has v' seen tabs = hold_writer k s i v so at v' seen t h (record h { cell = sync_of h.cell kept; is_written = h.is_written || false; is_settled = was_settled w.turn || kept }) refl w
+      (rewritten w.turn false (was_settled w.turn || kept) (synced (cell_held w.turn) kept)) was has
+      (ap (λ (u : TurnOf X). rewritten u false (was_settled w.turn || kept) (synced (cell_held u) kept)) has) tabs
       (inr (sync_possible h.cell kept (possible_held w was h has)))
       (λ p chosen before written. sync_now h.cell kept ∙ before (or_false h.is_written written))
+      (λ before settled. sync_settled h.cell kept h.is_settled before (sym (ap (λ (u : TurnOf X). was_settled u || kept) has) ∙ settled))
 
 pub cell_out_cells : {X : Type 0} → (k : Setting X) (s : State X) (i : ℕ) (v : View X) → Sound k s → get_elem? s.views i ≡ some v → IsPass v → (t slot : ℕ) → Allowed k s v (CellOut t slot) → CellsSound k (after k s i v (CellOut t slot))
 cell_out_cells k s i v so at pass t slot may = moves_keep k s i v so at pass t true may.1.0 may.0 may.1.1 (view_after v (CellOut t slot) (finding k s v (CellOut t slot))) refl refl
@@ -171,11 +198,11 @@ pub write_cells : {X : Type 0} → (k : Setting X) (s : State X) (i : ℕ) (v : 
 write_cells {X} k s i v so at pass t slot outcome may = let q = of_writer (λ w. Unit {0}) (tab_at v t) may.1 in
     write_keeps k s i v so at pass t outcome q.0 (tab_was k s i v so.anchors so.slots at pass t (Writing q.0) (let z = may.0 in omega arith) q.1) may.2.0 (sym (ap turn_of q.1) ∙ may.2.1)
     (view_after v (Write t slot outcome) (finding k s v (Write t slot outcome))) refl
-    (ap (λ (z : Tab X). set v.tabs t (rewrites z (is_kept outcome) (wrote (cell_held (turn_of z)) outcome (chosen_content k z)))) q.1)
+    (ap (λ (z : Tab X). set v.tabs t (rewrites z (is_kept outcome) (settled_by_write z outcome) (wrote (cell_held (turn_of z)) outcome (chosen_content k z)))) q.1)
 
 pub sync_cells : {X : Type 0} → (k : Setting X) (s : State X) (i : ℕ) (v : View X) → Sound k s → get_elem? s.views i ≡ some v → IsPass v → (t slot : ℕ) (kept : Bool) → Allowed k s v (Sync t slot kept)
     → CellsSound k (after k s i v (Sync t slot kept))
 sync_cells {X} k s i v so at pass t slot kept may = let q = of_writer (λ w. Unit {0}) (tab_at v t) may.1 in
     sync_keeps k s i v so at pass t kept q.0 (tab_was k s i v so.anchors so.slots at pass t (Writing q.0) (let z = may.0 in omega arith) q.1) may.2.0 (sym (ap turn_of q.1) ∙ may.2.1)
     (view_after v (Sync t slot kept) (finding k s v (Sync t slot kept))) refl
-    (ap (λ (z : Tab X). set v.tabs t (rewrites z false (synced (cell_held (turn_of z)) kept))) q.1)
+    (ap (λ (z : Tab X). set v.tabs t (rewrites z false (settled_by_sync z kept) (synced (cell_held (turn_of z)) kept))) q.1)

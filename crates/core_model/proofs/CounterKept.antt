@@ -6,7 +6,7 @@ use native.Mathlib.Decide.{ℕ_discrete}
 use lib.ListN.{get_elem?}
 use Rattle.lock_word.specs.Words.{readers_of, epoch_of, version_of, stage_of, is_left_over, IsWord, version_limit}
 use Rattle.core_model.specs.declared.moves.Side.{Side}
-use Rattle.core_model.specs.declared.moves.Side.TheVariants.{Key0, Key1, Offer, Start}
+use Rattle.core_model.specs.declared.moves.Side.TheVariants.{Start}
 use Rattle.core_model.specs.declared.tab.Tab.{Tab}
 use Rattle.core_model.specs.declared.tab.Tab.TheVariants.{Free, Retreating, Reading, Writing, Last, Freeing}
 use Rattle.core_model.specs.declared.view.Kind.TheVariants.{Counted as Looks, Drew}
@@ -16,17 +16,18 @@ use Rattle.core_model.specs.declared.view.Sight.TheVariants.{Named, Published}
 use Rattle.core_model.specs.declared.view.Place.TheVariants.{Counter, Beside}
 use Rattle.core_model.specs.declared.view.Deed.{Deed}
 use Rattle.core_model.specs.declared.view.View.{View}
-use Rattle.core_model.specs.Layout.{Setting, index, turns_end}
+use Rattle.core_model.specs.Layout.{Setting, index, counter_index, anchor_index}
 use Rattle.core_model.specs.Chains.{times}
-use Rattle.core_model.specs.State.{State, word, chain_of}
+use Rattle.core_model.specs.State.{State, word, chain_of, counter}
 use Rattle.core_model.specs.Tabs.{counts, writes, frees, count}
 use Rattle.core_model.specs.Trails.{tells_word, last_find, last_count, drew_since, draws_version, drawn, draws, draws_in_vain, seen_at, sight_anchor, sight_version}
-use Rattle.core_model.specs.Steps.{note_of}
 use Rattle.core_model.specs.Anchors.{opening_counter, tabs_in, Shaped, IsReadAt, TabStands, IsLastAt, opening_epoch}
-use Rattle.core_model.specs.Versions.{counter, HasSlot, SeenStands, draws_by, vain_by, drawn_by, VersionsDrawn, IsKnownAt, IsFresh, VersionsHeld}
+use Rattle.core_model.specs.Versions.{HasSlot, SeenStands, draws_by, vain_by, drawn_by, VersionsDrawn, IsKnownAt, IsFresh, VersionsHeld}
 use Rattle.core_model.specs.Deeds.{mirrored, OneMirror, IsEpochAt, IsDone, EnteredBy, EnteredByAnother, LeftEpoch, DoomedVersion, HaltedVersion, EvictedVersion, DeedsExplain}
 use Rattle.core_model.specs.Sound.{AnchorsSound}
+use Rattle.core_model.proofs.Places.{beside_inside}
 use Rattle.core_model.proofs.Lists.{by_eq, at_set, at_length, sum_at, two_le_sum, set_here, set_else, cons_contains}
+use Rattle.core_model.specs.CellMoves.{note_of}
 
 -- the view after a step that left c in the counter
 abbrev pub counting : {X : Type 0} → View X → ℕ → List ℕ → Item → View X
@@ -42,7 +43,7 @@ counting v c held item = record {
 }
 
 abbrev pub counted : {X : Type 0} → Setting X → State X → ℕ → View X → ℕ → State X
-counted k s i w c = record { words = set s.words (turns_end k) c; places = s.places; views = set s.views i w; chains = s.chains }
+counted k s i w c = record { words = set s.words (counter_index k) c; places = s.places; views = set s.views i w; chains = s.chains }
 
 pub record OwesCount {X : Type 0} (k : Setting X) (s : State X) (v : View X) (c : ℕ) (held : List ℕ) (item : Item) : Type 0 where
   pub is_pass : length v.tabs ≡ 9
@@ -68,14 +69,14 @@ module _ {X : Type 0} (k : Setting X) (s : State X) (i : ℕ) (v : View X) (so :
   abbrev s' : State X
   s' = counted k s i w c
 
-  same : (p : ℕ) → p < turns_end k → get_or s.words p 0 ≡ get_or (set s.words (turns_end k) c) p 0
-  same p lt = sym (get_or-set_other s.words (turns_end k) p c 0 (λ q. omega arith))
+  same : (p : ℕ) → p < counter_index k → get_or s.words p 0 ≡ get_or (set s.words (counter_index k) c) p 0
+  same p lt = sym (get_or-set_other s.words (counter_index k) p c 0 (λ q. omega arith))
 
   same_word : (b : ℕ) → b < k.anchors → word s b ≡ word s' b
-  same_word b lt = same b (omega arith)
+  same_word b lt = same (anchor_index b) (omega arith)
 
   counter_now : counter k s' ≡ c
-  counter_now = get_or-set_same s.words (turns_end k) c 0 (let e = so.shaped.words in omega arith)
+  counter_now = get_or-set_same s.words (counter_index k) c 0 (let e = so.shaped.words in omega arith)
 
   all_views : (P Q : ℕ → View X → Type 0) → ((j : ℕ) (u : View X) → get_elem? s.views j ≡ some u → P j u → Q j u) → Q i w
       → ((j : ℕ) (u : View X) → get_elem? s.views j ≡ some u → P j u) → (j : ℕ) (u : View X) → get_elem? (set s.views i w) j ≡ some u → Q j u
@@ -96,7 +97,7 @@ module _ {X : Type 0} (k : Setting X) (s : State X) (i : ℕ) (v : View X) (so :
 
   pub shaped : Shaped k s'
   shaped = record {
-    words = length-set s.words (turns_end k) c ∙ so.shaped.words;
+    words = length-set s.words (counter_index k) c ∙ so.shaped.words;
     places = so.shaped.places;
     chains = so.shaped.chains;
     tabs = count_same tabs_in refl ∙ so.shaped.tabs;
@@ -176,16 +177,10 @@ module _ {X : Type 0} (k : Setting X) (s : State X) (i : ℕ) (v : View X) (so :
         so.seen.agree j l p.0 q.0 p.1 q.1 b version side x y (subst (λ (z : List Sight). Contains z (Named b version side x)) (sym p.2) hx) (subst (λ (z : List Sight). Contains z (Named b version side y)) (sym q.2) hy);
   }
     where
-      beside_low : (side : Side) (b : ℕ) → b < k.anchors → index k (Beside side b) < turns_end k
-      beside_low Key0 b lt = omega arith
-      beside_low Key1 b lt = omega arith
-      beside_low Offer b lt = omega arith
-      beside_low Start b lt = omega arith
-
       named_later : (b version : ℕ) (side : Side) (value : ℕ) → b < k.anchors → (version_of (epoch_of (word s b)) ≡ version → (get_or s.words (index k (Beside side b)) 0 ≡ value) × HasSlot s b)
           → version_of (epoch_of (word s' b)) ≡ version → (get_or s'.words (index k (Beside side b)) 0 ≡ value) × HasSlot s' b
       named_later b version side value lt h q = let z = same_word b lt in let r = h (ap (λ (y : ℕ). version_of (epoch_of y)) z ∙ q) in
-          (sym (same _ (beside_low side b lt)) ∙ r.0, λ low. r.1 (subst (λ (y : ℕ). stage_of (epoch_of y) ≤ 4) (sym z) low))
+          (sym (same _ (let q = beside_inside k side b lt in omega arith)) ∙ r.0, λ low. r.1 (subst (λ (y : ℕ). stage_of (epoch_of y) ≤ 4) (sym z) low))
 
       published_later : (b version many : ℕ) → b < k.anchors → (version_of (epoch_of (word s b)) ≡ version → stage_of (epoch_of (word s b)) ≤ 4 → many ≤ length (chain_of s b).slots)
           → version_of (epoch_of (word s' b)) ≡ version → stage_of (epoch_of (word s' b)) ≤ 4 → many ≤ length (chain_of s b).slots
@@ -280,10 +275,10 @@ module _ {X : Type 0} (k : Setting X) (s : State X) (i : ℕ) (v : View X) (so :
 
   mirror' : OneMirror k s'
   mirror' one j u uat some_tabs p lt = ⊎_elim
-      (λ (t : (j ≡ i) × (w ≡ u)). subst (λ (z : View X). mirrored k p z.mirror ≡ get_or (set s.words (turns_end k) c) p 0) t.1
-      (by_eq (λ z. cond z c (mirrored k p v.mirror) ≡ get_or (set s.words (turns_end k) c) p 0) (turns_end k) p
-      (λ q. subst (λ (z : ℕ). c ≡ get_or (set s.words (turns_end k) c) z 0) q (sym counter_now))
-      (λ ne. so.mirror one i v at tabs_v p lt ∙ sym (get_or-set_other s.words (turns_end k) p c 0 (λ q. ne (sym q))))))
+      (λ (t : (j ≡ i) × (w ≡ u)). subst (λ (z : View X). mirrored k p z.mirror ≡ get_or (set s.words (counter_index k) c) p 0) t.1
+      (by_eq (λ z. cond z c (mirrored k p v.mirror) ≡ get_or (set s.words (counter_index k) c) p 0) (counter_index k) p
+      (λ q. subst (λ (z : ℕ). c ≡ get_or (set s.words (counter_index k) c) z 0) q (sym counter_now))
+      (λ ne. so.mirror one i v at tabs_v p lt ∙ sym (get_or-set_other s.words (counter_index k) p c 0 (λ q. ne (sym q))))))
       (λ (t : (j ≢ i) × (get_elem? s.views j ≡ some u)). absurd (some_tabs (alone one j u t.0 t.1)))
       (at_set s.views i j w u uat)
 

@@ -12,16 +12,16 @@ use Rattle.core_model.specs.declared.view.Item.{Item}
 use Rattle.core_model.specs.declared.view.View.{View}
 use Rattle.core_model.specs.Layout.{Setting}
 use Rattle.core_model.specs.Chains.{times}
-use Rattle.core_model.specs.State.{State}
+use Rattle.core_model.specs.State.{State, counter}
 use Rattle.core_model.specs.Trails.{drawn, draws_in_vain}
-use Rattle.core_model.specs.Allowed.{IsPass, Allowed}
-use Rattle.core_model.specs.Records.{item_of, held_after}
 use Rattle.core_model.specs.Steps.{after}
-use Rattle.core_model.specs.Versions.{counter, drawn_by}
+use Rattle.core_model.specs.Versions.{drawn_by}
 use Rattle.core_model.specs.Sound.{AnchorsSound}
 use Rattle.core_model.proofs.Lists.{by_eq, le_sum_at, cons_contains}
 use Rattle.core_model.proofs.Tabs.{times_contains}
 use Rattle.core_model.proofs.CounterKept.{at_counter}
+use Rattle.core_model.specs.Tabs.{IsPass}
+use Rattle.core_model.specs.Table.{Allowed, item_of, held_after}
 
 module _ {X : Type 0} (k : Setting X) (s : State X) (i : ℕ) (v : View X) (so : AnchorsSound k s) (at : get_elem? s.views i ≡ some v) (pass : IsPass v) where
   abbrev n : ℕ

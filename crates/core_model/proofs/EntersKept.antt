@@ -16,13 +16,10 @@ use Rattle.core_model.specs.declared.view.Kind.TheVariants.{Entered, Left}
 use Rattle.core_model.specs.declared.view.Item.{Item}
 use Rattle.core_model.specs.declared.view.Deed.{Deed}
 use Rattle.core_model.specs.declared.view.View.{View}
-use Rattle.core_model.specs.Layout.{Setting}
+use Rattle.core_model.specs.Layout.{Setting, anchor_index}
 use Rattle.core_model.specs.State.{State, word}
 use Rattle.core_model.specs.Trails.{seen_at}
-use Rattle.core_model.specs.Tabs.{tab_at, anchor_of, is_counted, counts, writes, frees, count}
-use Rattle.core_model.specs.Allowed.{IsPass, Allowed}
-use Rattle.core_model.specs.TabsAfter.{entered, left_tab}
-use Rattle.core_model.specs.Records.{meets, item_of, deed_of}
+use Rattle.core_model.specs.Tabs.{tab_at, anchor_of, is_counted, counts, writes, frees, count, IsPass}
 use Rattle.core_model.specs.Anchors.{written_at, freed_at, TabStands}
 use Rattle.core_model.specs.Steps.{after}
 use Rattle.core_model.specs.Sound.{AnchorsSound}
@@ -30,6 +27,8 @@ use Rattle.core_model.proofs.Lists.{le_sum_at, set_here, at_length}
 use Rattle.core_model.proofs.Tabs.{IsAt, Turns, changes, counts_else, counts_few, tab_there}
 use Rattle.core_model.proofs.AnchorStep.{stepped, moved}
 use Rattle.core_model.proofs.AnchorKinds.{meets_others, sees_now, no_tab, one_tab, same_epoch}
+use Rattle.core_model.specs.Table.{Allowed, item_of}
+use Rattle.core_model.specs.AnchorMoves.{entered, left_tab, meets, deed_of}
 
 -- what a tab that is counted at the anchor a is to the counts
 pub record IsCounted {X : Type 0} (a : ℕ) (x : Tab X) : Type 0 where
@@ -100,7 +99,7 @@ module _ {X : Type 0} (k : Setting X) (s : State X) (i : ℕ) (v : View X) (so :
       (λ u g. let z = x.writes_none u g in let y : written_at (epoch_of (n + 1)) u g ≡ written_at (epoch_of n) u g = ap (λ (m : ℕ). written_at m u g) same in omega arith)
       (let z = x.frees_none in let y : freed_at (epoch_of (n + 1)) ≡ freed_at (epoch_of n) = ap freed_at same in omega arith)
       (entered_stands (moved s i (stepped v a (n + 1) (epoch_of n) (set v.tabs t new) v.held item deeds met) a (n + 1) s.chains) (stepped v a (n + 1) (epoch_of n) (set v.tabs t new) v.held item deeds met) t a n lt
-      (let z = get_or-set_same s.words a (n + 1) 0 (let y = so.shaped.words in omega arith) in ap epoch_of z ∙ same)
+      (let z = get_or-set_same s.words (anchor_index a) (n + 1) 0 (let y = so.shaped.words in omega arith) in ap epoch_of z ∙ same)
       (sees_now a (epoch_of n) v.seen) (is_readable (epoch_of n)) refl))
       (λ u h. (h, refl))
       (λ over. absurd (let z = readers_of-left_over (n + 1) over in omega arith))

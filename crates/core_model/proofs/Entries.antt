@@ -1,12 +1,12 @@
 -- What a step makes of the entry at an anchor: it stays, nothing is published there afterwards, or it grows by one slot.
-use Rattle.std.proofs.Common.{◌≡◌, ◌≢◌, ◌⊎◌, inl, inr, ⊎_elim, ℕ, ◌+◌, ◌-◌, ◌*◌, ◌<◌, ◌≤◌, List, [], ◌∷◌, length, get_or, set, sym, refl, ap, ◌∙◌, subst, arith, Bool, true, false, cond, ◌==◌, get_or-set_same, get_or-set_other}
+use Rattle.std.proofs.Common.{◌≡◌, ◌≢◌, ◌⊎◌, inl, inr, ⊎_elim, ℕ, ◌+◌, ◌-◌, ◌*◌, ◌<◌, ◌≤◌, List, [], ◌∷◌, length, get_or, set, sym, refl, ap, ◌∙◌, subst, arith, Bool, true, false, cond, ◌==◌, Option, Some, None, unwrap_or, get_or-set_same, get_or-set_other}
 use mathlib.Core.Option.{some}
 use mathlib.Core.Logic.{dite}
 use native.Mathlib.Decide.{ℕ_discrete}
 use lib.ListN.{get_elem?}
 use Rattle.lock_word.specs.declared.stage.Stage.{Stage}
 use Rattle.lock_word.specs.declared.stage.Stage.TheVariants.{Empty, Taken, Appending, Closed, Halted, Freeing as FreeingStage, Gone}
-use Rattle.lock_word.specs.Words.{stage_number, readers_of, epoch_of, version_of, stage_of, IsWord, word_at, raised, doomed}
+use Rattle.lock_word.specs.Words.{stage_number, readers_of, epoch_of, version_of, stage_of, IsWord, word_at, raised, doomed, evicted}
 use Rattle.lock_word.proofs.Readers.{epoch_of-more, epoch_of-less}
 use Rattle.lock_word.proofs.Raising.{version_of-raised}
 use Rattle.lock_word.proofs.Dooming.{version_of-doomed}
@@ -17,6 +17,7 @@ use Rattle.core_model.specs.declared.moves.Side.{Side}
 use Rattle.core_model.specs.declared.moves.Side.TheVariants.{Key0, Key1, Offer, Start}
 use Rattle.core_model.specs.declared.moves.Move.{Move}
 use Rattle.core_model.specs.declared.moves.Move.TheVariants.{Look, Enter, Leave, Count, Draw, Take, Evict, Raise, Doom, LoadSide, StoreSide, Own, Disown, Publish, Loosen, GetLink, TryTurn, EndTurn, CellOut, CellIn, Note, Learn, Write, Sync}
+use Rattle.core_model.specs.declared.tab.Piece.{Piece}
 use Rattle.core_model.specs.declared.tab.Writer.{Writer}
 use Rattle.core_model.specs.declared.tab.Freer.{Freer}
 use Rattle.core_model.specs.declared.tab.Tab.{Tab}
@@ -24,34 +25,38 @@ use Rattle.core_model.specs.declared.tab.Tab.TheVariants.{Free, Retreating, Read
 use Rattle.core_model.specs.declared.view.Place.TheVariants.{Beside}
 use Rattle.core_model.specs.declared.view.View.{View}
 use Rattle.core_model.specs.declared.chain.Chain.{Chain}
-use Rattle.core_model.specs.Layout.{Setting, index, turns_end}
+use Rattle.core_model.specs.Layout.{Setting, index, counter_index, anchor_index, link_index, turn_index, owner_index}
 use Rattle.core_model.specs.Chains.{no_chain, Tied, rest_of}
-use Rattle.core_model.specs.State.{State, word, chain_of}
+use Rattle.core_model.specs.State.{State, word, chain_of, side_word}
 use Rattle.core_model.specs.Trails.{last_find}
-use Rattle.core_model.specs.Tabs.{tab_at, anchor_of, OfWriter, OfFreer}
-use Rattle.core_model.specs.Allowed.{IsPass, Allowed, MayRaise, StartsRight, MayEnd, MayStore, MayPublish}
-use Rattle.core_model.specs.Where.{stage_held, evicted}
+use Rattle.core_model.specs.Tabs.{tab_at, anchor_of, OfWriter, OfFreer, IsPass, stage_held}
 use Rattle.core_model.specs.Steps.{after, halted, longer}
+use Rattle.core_model.specs.Anchors.{opening_counter}
 use Rattle.core_model.specs.Slots.{slot_words, WriterHolds, SlotsSound}
-use Rattle.core_model.specs.Sound.{AnchorsSound, WordsSound}
+use Rattle.core_model.specs.Cells.{CellsSound}
+use Rattle.core_model.specs.Sound.{AnchorsSound, Sound}
 use Rattle.core_model.specs.Entries.{NamesStay, EntryAfter}
-use Rattle.core_model.proofs.Matching.{matches_freer}
+use Rattle.core_model.proofs.Matching.{matches_writer, matches_freer}
 use Rattle.core_model.proofs.EntersKept.{few_readers, counted_there, has_reader}
 use Rattle.core_model.proofs.RaisesKept.{reads_counted}
 use Rattle.core_model.proofs.SlotAnchors.{writer_stage}
 use Rattle.core_model.proofs.Spelling.{tied_end}
-use Rattle.core_model.proofs.Telling.{set_again, side_in, sides_apart, sides_differ}
+use Rattle.core_model.proofs.Telling.{told_in, set_again, side_in, sides_apart, sides_differ}
 use Rattle.core_model.proofs.OwnsKept.{of_writer, tab_was}
+use Rattle.core_model.specs.Table.{Allowed}
+use Rattle.core_model.specs.AnchorMoves.{MayRaise, StartsRight, MayEnd}
+use Rattle.core_model.specs.SlotMoves.{MayStore, MayPublish}
+use Rattle.core_model.specs.CellMoves.{piece_of}
 
 -- What becomes of the names beside an anchor, and of its version.
 module _ {X : Type 0} (k : Setting X) (s t : State X) (a : ℕ) (lt : a < k.anchors) where
-  names_same : t.words ≡ s.words → NamesStay k s t a
-  names_same e = record { version = ap (λ (ws : List ℕ). version_of (epoch_of (get_or ws a 0))) e; names = λ side ne. ap (λ (ws : List ℕ). get_or ws (index k (Beside side a)) 0) e }
+  pub names_same : t.words ≡ s.words → NamesStay k s t a
+  names_same e = record { version = ap (λ (ws : List ℕ). version_of (epoch_of (get_or ws (anchor_index a) 0))) e; names = λ side ne. ap (λ (ws : List ℕ). get_or ws (index k (Beside side a)) 0) e }
 
   -- a word that is none of theirs is set
-  names_else : (p n : ℕ) → t.words ≡ set s.words p n → a ≢ p → ((side : Side) → side ≢ Start → index k (Beside side a) ≢ p) → NamesStay k s t a
+  names_else : (p n : ℕ) → t.words ≡ set s.words p n → anchor_index a ≢ p → ((side : Side) → side ≢ Start → index k (Beside side a) ≢ p) → NamesStay k s t a
   names_else p n e off apart = record {
-    version = ap (λ (ws : List ℕ). version_of (epoch_of (get_or ws a 0))) e ∙ ap (λ (m : ℕ). version_of (epoch_of m)) (get_or-set_other s.words p a n 0 off);
+    version = ap (λ (ws : List ℕ). version_of (epoch_of (get_or ws (anchor_index a) 0))) e ∙ ap (λ (m : ℕ). version_of (epoch_of m)) (get_or-set_other s.words p (anchor_index a) n 0 off);
     names = λ side ne. ap (λ (ws : List ℕ). get_or ws (index k (Beside side a)) 0) e ∙ get_or-set_other s.words p (index k (Beside side a)) n 0 (apart side ne);
   }
 
@@ -60,16 +65,16 @@ module _ {X : Type 0} (k : Setting X) (s t : State X) (a : ℕ) (lt : a < k.anch
   names_high p n e high = names_else p n e (λ q. omega arith) (λ side ne q. let z = (side_in k s.words side a lt).1 in omega arith)
 
   -- the word of another anchor
-  names_other : (b n : ℕ) → t.words ≡ set s.words b n → b < k.anchors → a ≢ b → NamesStay k s t a
-  names_other b n e low ne = names_else b n e ne (λ side _ q. let z = (side_in k s.words side a lt).0 in omega arith)
+  names_other : (b n : ℕ) → t.words ≡ set s.words (anchor_index b) n → b < k.anchors → a ≢ b → NamesStay k s t a
+  names_other b n e low ne = names_else (anchor_index b) n e (λ q. ne (omega arith)) (λ side _ q. let z = (side_in k s.words side a lt).0 in omega arith)
 
   -- the word of an anchor, with the version that it had
-  names_anchor : (b n : ℕ) → t.words ≡ set s.words b n → k.anchors ≤ length s.words → b < k.anchors → version_of (epoch_of n) ≡ version_of (epoch_of (word s b)) → NamesStay k s t a
+  names_anchor : (b n : ℕ) → t.words ≡ set s.words (anchor_index b) n → 5 * k.anchors ≤ length s.words → b < k.anchors → version_of (epoch_of n) ≡ version_of (epoch_of (word s b)) → NamesStay k s t a
   names_anchor b n e wide low same = dite (ℕ_discrete a b)
       (λ q. record {
-        version = ap (λ (ws : List ℕ). version_of (epoch_of (get_or ws a 0))) e ∙ ap (λ (m : ℕ). version_of (epoch_of (get_or (set s.words b n) m 0))) q
-            ∙ ap (λ (m : ℕ). version_of (epoch_of m)) (get_or-set_same s.words b n 0 (omega arith)) ∙ same ∙ ap (λ (m : ℕ). version_of (epoch_of (word s m))) (sym q);
-        names = λ side ne. ap (λ (ws : List ℕ). get_or ws (index k (Beside side a)) 0) e ∙ get_or-set_other s.words b (index k (Beside side a)) n 0 (λ z. let y = (side_in k s.words side a lt).0 in omega arith);
+        version = ap (λ (ws : List ℕ). version_of (epoch_of (get_or ws (anchor_index a) 0))) e ∙ ap (λ (m : ℕ). version_of (epoch_of (get_or (set s.words (anchor_index b) n) (anchor_index m) 0))) q
+            ∙ ap (λ (m : ℕ). version_of (epoch_of m)) (get_or-set_same s.words (anchor_index b) n 0 (omega arith)) ∙ same ∙ ap (λ (m : ℕ). version_of (epoch_of (word s m))) (sym q);
+        names = λ side ne. ap (λ (ws : List ℕ). get_or ws (index k (Beside side a)) 0) e ∙ get_or-set_other s.words (anchor_index b) (index k (Beside side a)) n 0 (λ z. let y = (side_in k s.words side a lt).0 in omega arith);
       })
       (λ ne. names_other b n e low ne)
 
@@ -81,7 +86,7 @@ module _ {X : Type 0} (k : Setting X) (s t : State X) (a : ℕ) (lt : a < k.anch
   still_chain i names e = inl record { named = names; slots = ap Chain.slots e; end = ap Chain.end e }
 
 -- the stages have numbers below seven
-stage_few : (to : Stage) → stage_number to < 7
+pub stage_few : (to : Stage) → stage_number to < 7
 stage_few Empty = omega arith
 stage_few Taken = omega arith
 stage_few Appending = omega arith
@@ -90,7 +95,7 @@ stage_few Halted = omega arith
 stage_few FreeingStage = omega arith
 stage_few Gone = omega arith
 
-may_end : (f : Freer) (to : Stage) → MayEnd f to → f.is_freeing ≡ true
+pub may_end : (f : Freer) (to : Stage) → MayEnd f to → f.is_freeing ≡ true
 may_end f Empty h = absurd h
 may_end f Taken h = absurd h
 may_end f Appending h = absurd h
@@ -99,11 +104,11 @@ may_end f Halted h = absurd h
 may_end f FreeingStage h = absurd h
 may_end f Gone h = h.0
 
-raised_version : (n held to : ℕ) → IsWord n → stage_of (epoch_of n) ≡ held → to < 7 → version_of (epoch_of (raised n (to - held))) ≡ version_of (epoch_of n)
+pub raised_version : (n held to : ℕ) → IsWord n → stage_of (epoch_of n) ≡ held → to < 7 → version_of (epoch_of (raised n (to - held))) ≡ version_of (epoch_of n)
 raised_version n held to good is few = version_of-raised n (to - held) (let z = good.stage in omega arith)
 
-module _ {X : Type 0} (k : Setting X) (s : State X) (i : ℕ) (v : View X) (so : AnchorsSound k s) (sl : SlotsSound k s) (at : get_elem? s.views i ≡ some v) (pass : IsPass v) (a : ℕ) (lt : a < k.anchors) where
-  wide : k.anchors ≤ length s.words
+module _ {X : Type 0} (k : Setting X) (s : State X) (i : ℕ) (v : View X) (so : AnchorsSound k s) (sl : SlotsSound k s) (ce : CellsSound k s) (at : get_elem? s.views i ≡ some v) (pass : IsPass v) (a : ℕ) (lt : a < k.anchors) where
+  wide : 5 * k.anchors ≤ length s.words
   wide = let m = so.shaped.words in omega arith
 
   -- Steps on anchors.
@@ -128,7 +133,7 @@ module _ {X : Type 0} (k : Setting X) (s : State X) (i : ℕ) (v : View X) (so :
       still k s (after k s i v (Doom t)) a lt i (names_anchor k s (after k s i v (Doom t)) a lt b (doomed (word s b)) refl wide c.0 (version_of-doomed (word s b))) refl
 
   -- an anchor is taken, and its chain goes to a tab, or the try is lost
-  taken_or_not : (hit : Bool) (b n : ℕ) (t : State X) → t.words ≡ set s.words b (cond hit n (word s b)) → t.chains ≡ cond hit (set s.chains b no_chain) s.chains → b < k.anchors → EntryAfter k s t i a
+  taken_or_not : (hit : Bool) (b n : ℕ) (t : State X) → t.words ≡ set s.words (anchor_index b) (cond hit n (word s b)) → t.chains ≡ cond hit (set s.chains b no_chain) s.chains → b < k.anchors → EntryAfter k s t i a
   taken_or_not false b n t e same low = still k s t a lt i (names_anchor k s t a lt b (word s b) e wide low refl) same
   taken_or_not true b n t e same low = dite (ℕ_discrete a b)
       (λ q. inr (inl (ap (λ (cs : List Chain). (get_or cs a no_chain).slots) same ∙ ap (λ (z : ℕ). (get_or (set s.chains b no_chain) z no_chain).slots) q ∙ ap Chain.slots (get_or-set_same s.chains b no_chain no_chain (let m = so.shaped.chains in omega arith)))))
@@ -151,7 +156,7 @@ module _ {X : Type 0} (k : Setting X) (s : State X) (i : ℕ) (v : View X) (so :
   stage_known t to (Reading r) was h = absurd (⊎_elim (λ (z : ⊥). z) (λ (z : ⊥). z) h)
   stage_known t to (Last b) was h = absurd (⊎_elim (λ (z : ⊥). z) (λ (z : ⊥). z) h)
 
-  raise_names : (t : ℕ) (to : Stage) → Allowed k s v (Raise t to) → (t' : State X) → t'.words ≡ set s.words (anchor_of (tab_at v t)) (raised (word s (anchor_of (tab_at v t))) (stage_number to - stage_held (tab_at v t))) → NamesStay k s t' a
+  raise_names : (t : ℕ) (to : Stage) → Allowed k s v (Raise t to) → (t' : State X) → t'.words ≡ set s.words (anchor_index (anchor_of (tab_at v t))) (raised (word s (anchor_of (tab_at v t))) (stage_number to - stage_held (tab_at v t))) → NamesStay k s t' a
   raise_names t to may t' e = let b : ℕ = anchor_of (tab_at v t) in let q = stage_known t to (tab_at v t) (tab_was k s i v so sl at pass t (tab_at v t) may.0 refl) may.1 in
       names_anchor k s t' a lt b (raised (word s b) (stage_number to - stage_held (tab_at v t))) e wide q.0 (raised_version (word s b) (stage_held (tab_at v t)) (stage_number to) (so.shaped.anchors b q.0) q.1 (stage_few to))
 
@@ -217,25 +222,72 @@ module _ {X : Type 0} (k : Setting X) (s : State X) (i : ℕ) (v : View X) (so :
   publish_entry t slot link may = let q = of_writer (MayPublish k s slot link) (tab_at v t) may.1 in let was = tab_was k s i v so sl at pass t (tab_at v t) (let z = may.0 in omega arith) refl in
       grows q.0 (was ∙ ap some q.1) q.2 (anchor_of (tab_at v t)) (ap anchor_of q.1) (writer_chain t (tab_at v t) q.0 was q.1).0 (after k s i v (Publish t slot link)) refl refl
     where
-      grows : (x : Writer X) → get_elem? v.tabs t ≡ some (Writing x) → MayPublish k s slot link x → (b : ℕ) → b ≡ x.anchor → b < k.anchors → (t' : State X) → t'.words ≡ set s.words (5 * k.anchors + k.slots + slot) (link_number link)
+      grows : (x : Writer X) → get_elem? v.tabs t ≡ some (Writing x) → MayPublish k s slot link x → (b : ℕ) → b ≡ x.anchor → b < k.anchors → (t' : State X) → t'.words ≡ set s.words (link_index k slot) (link_number link)
           → t'.chains ≡ set s.chains b (longer (chain_of s b) slot link) → EntryAfter k s t' i a
       grows x is h b on low t' e same = dite (ℕ_discrete a b)
-          (λ q. inr (inr record { named = names; tab = t; writer = x; writes = record { view = v; at = at; there = is }; anchor_is = sym on ∙ sym q; piece = h.piece; goes_on = h.goes_on; chosen = h.chosen; slot = slot; linked = linked (sym on ∙ sym q); chain = here q }))
+          (λ q. inr (inr record {
+            named = names;
+            tab = t;
+            writer = x;
+            writes = record { view = v; at = at; there = is };
+            anchor_is = sym on ∙ sym q;
+            piece = h.piece;
+            goes_on = h.goes_on;
+            chosen = h.chosen;
+            piece_is = piece_is;
+            place_is = place_is (sym on ∙ sym q);
+            offer_is = offer_is (sym on ∙ sym q);
+            version_is = version_is (sym on ∙ sym q);
+            version_new = version_new (sym on ∙ sym q);
+            slot = slot;
+            linked = linked (sym on ∙ sym q);
+            chain = here q;
+          }))
           (λ off. still_chain k s t' a lt i names (ap (λ (cs : List Chain). get_or cs a no_chain) same ∙ get_or-set_other s.chains b a (longer (chain_of s b) slot link) no_chain off))
         where
           names : NamesStay k s t' a
-          names = names_high k s t' a lt (5 * k.anchors + k.slots + slot) (link_number link) e (omega arith)
+          names = names_high k s t' a lt (link_index k slot) (link_number link) e (omega arith)
+
+          holds : WriterHolds ((slot_words k s.words).beside x.anchor) (chain_of s x.anchor) x
+          holds = sl.tabs i v at t (Writing x) is
+
+          chain_is : x.anchor ≡ a → chain_of s a ≡ record { slots = x.published; end = x.end; tail = [] }
+          chain_is there = ap (chain_of s) (sym there) ∙ holds.chain
+
+          -- The piece is the tab's own, of what stands there.
+
+          piece_is : h.piece ≡ piece_of x
+          piece_is = holds.chosen h.piece h.goes_on h.chosen
+
+          place_is : x.anchor ≡ a → h.piece.place ≡ length (chain_of s a).slots
+          place_is there = ap Piece.place piece_is ∙ sym (ap (λ (c : Chain). length c.slots) (chain_is there))
+
+          is_chosen : Some h.piece ≡ None → ⊥
+          is_chosen e = cc
+
+          beside_is : x.anchor ≡ a → (slot_words k s.words).beside x.anchor Offer ≡ side_word k s Offer a
+          beside_is there = told_in k.anchors x.anchor _ (subst (λ (b : ℕ). b < k.anchors) (sym there) lt) ∙ ap (side_word k s Offer) there
+
+          offer_is : x.anchor ≡ a → h.piece.offer ≡ side_word k s Offer a
+          offer_is there = of_option x.offer refl
+            where
+              of_option : (y : Option ℕ) → y ≡ x.offer → h.piece.offer ≡ side_word k s Offer a
+              of_option None e = absurd ((holds.names_are.named (inl (λ z. is_chosen (sym h.chosen ∙ z)))).2 (sym e))
+              of_option (Some n) e = ap Piece.offer piece_is ∙ ap (λ z. unwrap_or z 0) (sym e) ∙ sym (holds.names_are.offer n (sym e)) ∙ beside_is there
+
+          stands : x.anchor ≡ a → version_of (epoch_of (word s a)) ≡ x.version
+          stands there = ap (λ (b : ℕ). version_of (epoch_of (word s b))) (sym there) ∙ (matches_writer k s so i t x record { view = v; at = at; there = is }).1.version_is
+
+          version_is : x.anchor ≡ a → h.piece.version ≡ version_of (epoch_of (word s a))
+          version_is there = ap Piece.version piece_is ∙ sym (stands there)
+
+          version_new : x.anchor ≡ a → opening_counter k < version_of (epoch_of (word s a))
+          version_new there = let d = (ce.writers i v at t (Writing x) is).drawn in let m = stands there in omega arith
 
           -- the last link names the slot, where something is published
           linked : x.anchor ≡ a → (chain_of s a).slots ≢ [] → (chain_of s a).end ≡ Next slot
           linked there some_slot = tied_end (chain_of s a).end (chain_of s a).slots slot (rest_of x.reserved) (sl.stand a lt).fits (some_items (chain_of s a).slots some_slot)
-              (subst (λ (l : List ℕ). Tied (chain_of s a).end (chain_of s a).slots l) h.first (subst (λ (c : Chain). Tied c.end c.slots x.reserved) (sym chain_is) holds.tied))
-            where
-              holds : WriterHolds ((slot_words k s.words).beside x.anchor) (chain_of s x.anchor) x
-              holds = sl.tabs i v at t (Writing x) is
-
-              chain_is : chain_of s a ≡ record { slots = x.published; end = x.end; tail = [] }
-              chain_is = ap (chain_of s) (sym there) ∙ holds.chain
+              (subst (λ (l : List ℕ). Tied (chain_of s a).end (chain_of s a).slots l) h.first (subst (λ (c : Chain). Tied c.end c.slots x.reserved) (sym (chain_is there)) holds.tied))
 
           here : a ≡ b → chain_of t' a ≡ longer (chain_of s a) slot h.piece.next
           here q = ap (λ (cs : List Chain). get_or cs a no_chain) same ∙ ap (λ (z : ℕ). get_or (set s.chains b (longer (chain_of s b) slot link)) z no_chain) q
@@ -252,21 +304,21 @@ module _ {X : Type 0} (k : Setting X) (s : State X) (i : ℕ) (v : View X) (so :
   entry_of (Look b) may = look_entry b may
   entry_of (Enter t b) may = enter_entry t b may
   entry_of (Leave t) may = leave_entry t may
-  entry_of Count may = high_entry (turns_end k) (get_or s.words (turns_end k) 0) (after k s i v Count) refl (omega arith) refl
-  entry_of Draw may = high_entry (turns_end k) (get_or s.words (turns_end k) 0 + 1) (after k s i v Draw) refl (omega arith) refl
+  entry_of Count may = high_entry (counter_index k) (get_or s.words (counter_index k) 0) (after k s i v Count) refl (omega arith) refl
+  entry_of Draw may = high_entry (counter_index k) (get_or s.words (counter_index k) 0 + 1) (after k s i v Draw) refl (omega arith) refl
   entry_of (Take t b u) may = take_entry t b u may
   entry_of (Evict t b) may = evict_entry t b may
   entry_of (Raise t to) may = raise_entry t to may
   entry_of (Doom t) may = doom_entry t may
   entry_of (LoadSide t side) may = load_entry t side
   entry_of (StoreSide t side value) may = store_entry t side value may
-  entry_of (Own t slot) may = high_entry (5 * k.anchors + slot) (cond (get_or s.words (5 * k.anchors + slot) 0 == 0) (anchor_of (tab_at v t) + 1) (get_or s.words (5 * k.anchors + slot) 0)) (after k s i v (Own t slot)) refl (omega arith) refl
-  entry_of (Disown t slot) may = high_entry (5 * k.anchors + slot) 0 (after k s i v (Disown t slot)) refl (omega arith) refl
+  entry_of (Own t slot) may = high_entry (owner_index k slot) (cond (get_or s.words (owner_index k slot) 0 == 0) (anchor_of (tab_at v t) + 1) (get_or s.words (owner_index k slot) 0)) (after k s i v (Own t slot)) refl (omega arith) refl
+  entry_of (Disown t slot) may = high_entry (owner_index k slot) 0 (after k s i v (Disown t slot)) refl (omega arith) refl
   entry_of (Publish t slot link) may = publish_entry t slot link may
-  entry_of (Loosen t slot) may = high_entry (5 * k.anchors + k.slots + slot) 0 (after k s i v (Loosen t slot)) refl (omega arith) refl
-  entry_of (GetLink t slot) may = high_entry (5 * k.anchors + k.slots + slot) (get_or s.words (5 * k.anchors + k.slots + slot) 0) (after k s i v (GetLink t slot)) refl (omega arith) refl
-  entry_of (TryTurn t slot) may = high_entry (5 * k.anchors + 2 * k.slots + slot) (cond (get_or s.words (5 * k.anchors + 2 * k.slots + slot) 0 == 0) 1 (get_or s.words (5 * k.anchors + 2 * k.slots + slot) 0)) (after k s i v (TryTurn t slot)) refl (omega arith) refl
-  entry_of (EndTurn t slot goes_on) may = high_entry (5 * k.anchors + 2 * k.slots + slot) 0 (after k s i v (EndTurn t slot goes_on)) refl (omega arith) refl
+  entry_of (Loosen t slot) may = high_entry (link_index k slot) 0 (after k s i v (Loosen t slot)) refl (omega arith) refl
+  entry_of (GetLink t slot) may = high_entry (link_index k slot) (get_or s.words (link_index k slot) 0) (after k s i v (GetLink t slot)) refl (omega arith) refl
+  entry_of (TryTurn t slot) may = high_entry (turn_index k slot) (cond (get_or s.words (turn_index k slot) 0 == 0) 1 (get_or s.words (turn_index k slot) 0)) (after k s i v (TryTurn t slot)) refl (omega arith) refl
+  entry_of (EndTurn t slot goes_on) may = high_entry (turn_index k slot) 0 (after k s i v (EndTurn t slot goes_on)) refl (omega arith) refl
   entry_of (CellOut t slot) may = no_word (after k s i v (CellOut t slot)) refl refl
   entry_of (CellIn t slot) may = no_word (after k s i v (CellIn t slot)) refl refl
   entry_of Note may = no_word (after k s i v Note) refl refl
@@ -274,5 +326,5 @@ module _ {X : Type 0} (k : Setting X) (s : State X) (i : ℕ) (v : View X) (so :
   entry_of (Write t slot outcome) may = no_word (after k s i v (Write t slot outcome)) refl refl
   entry_of (Sync t slot kept) may = no_word (after k s i v (Sync t slot kept)) refl refl
 
-pub entry_after : {X : Type 0} → (k : Setting X) (s : State X) (i : ℕ) (v : View X) (m : Move) (a : ℕ) → WordsSound k s → get_elem? s.views i ≡ some v → IsPass v → Allowed k s v m → a < k.anchors → EntryAfter k s (after k s i v m) i a
-entry_after k s i v m a so at pass may lt = entry_of k s i v so.anchors so.slots at pass a lt m may
+pub entry_after : {X : Type 0} → (k : Setting X) (s : State X) (i : ℕ) (v : View X) (m : Move) (a : ℕ) → Sound k s → get_elem? s.views i ≡ some v → IsPass v → Allowed k s v m → a < k.anchors → EntryAfter k s (after k s i v m) i a
+entry_after k s i v m a so at pass may lt = entry_of k s i v so.anchors so.slots so.cells at pass a lt m may

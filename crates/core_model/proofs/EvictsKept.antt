@@ -5,7 +5,7 @@ use mathlib.Core.Option.{some}
 use mathlib.Core.Logic.{dite}
 use native.Mathlib.Decide.{ℕ_discrete}
 use lib.ListN.{get_elem?}
-use Rattle.lock_word.specs.Words.{readers_of, epoch_of, version_of, mode_of, stage_of, doom_of, is_written, is_idle, is_left_over}
+use Rattle.lock_word.specs.Words.{readers_of, epoch_of, version_of, mode_of, stage_of, doom_of, is_written, is_idle, is_left_over, evicted}
 use Rattle.lock_word.proofs.Raising.{readers_of-raised, epoch_of-raised, version_of-raised, doom_of-raised, stage_of-raised, is_word-raised}
 use Rattle.lock_word.proofs.Testing.{readers_of-idle, readers_of-left_over, mode_of-idle, stage_of-left_over, written-idle, written-left_over}
 use Rattle.core_model.specs.declared.tab.Tab.{Tab}
@@ -20,11 +20,7 @@ use Rattle.core_model.specs.Layout.{Setting}
 use Rattle.core_model.specs.Chains.{no_chain}
 use Rattle.core_model.specs.State.{State, word, chain_of}
 use Rattle.core_model.specs.Trails.{last_find}
-use Rattle.core_model.specs.Tabs.{tab_at, inner, is_free, counts, frees, count}
-use Rattle.core_model.specs.Allowed.{IsPass, MayEvict, Allowed}
-use Rattle.core_model.specs.TabsAfter.{freer_of}
-use Rattle.core_model.specs.Where.{evicted}
-use Rattle.core_model.specs.Records.{meets, item_of, deed_of}
+use Rattle.core_model.specs.Tabs.{tab_at, inner, is_free, counts, frees, count, IsPass}
 use Rattle.core_model.specs.Anchors.{written_at, freed_at}
 use Rattle.core_model.specs.Steps.{after}
 use Rattle.core_model.specs.Sound.{AnchorsSound}
@@ -35,6 +31,8 @@ use Rattle.core_model.proofs.AnchorKept.{at_anchor}
 use Rattle.core_model.proofs.AnchorKinds.{meets_others, one_tab, two_tabs, same_epoch}
 use Rattle.core_model.proofs.EntersKept.{IsUncounted}
 use Rattle.core_model.proofs.TakesKept.{free_is}
+use Rattle.core_model.specs.AnchorMoves.{MayEvict, freer_of, meets, deed_of}
+use Rattle.core_model.specs.Table.{Allowed, item_of}
 
 -- a word that may be taken to FREEING: it is idle, or left over
 pub record IsRipe (n : ℕ) : Type 0 where

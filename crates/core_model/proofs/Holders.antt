@@ -1,5 +1,6 @@
 -- Who holds the turn at a slot's cell: one tab, which has the cell, and never one that writes while another reads the slot.
-use Rattle.std.proofs.Common.{◌≡◌, ◌≢◌, ◌⊎◌, inl, inr, ⊎_elim, ℕ, zero, suc, ◌+◌, ◌-◌, ◌<◌, ◌≤◌, List, [], ◌∷◌, ◌++◌, length, sym, refl, ap, ◌∙◌, subst, arith, sum_by, Some, None, true, false, cond, eq-eqb, Contains}
+use Rattle.std.proofs.Common.{◌≡◌, ◌≢◌, ◌⊎◌, inl, inr, ⊎_elim, ℕ, zero, suc, ◌+◌, ◌-◌, ◌<◌, ◌≤◌, List, [], ◌∷◌, ◌++◌, length, sym, refl, ap, ◌∙◌, subst, arith, sum_by, Bool, Some, None, true, false, cond, eq-eqb, Contains}
+use Rattle.std.specs.Prelude.{slice_index_or}
 use Rattle.std.proofs.lemmas.List.Elements.{Contains-append_left}
 use Rattle.std.proofs.lemmas.Bool.{false≢true}
 use mathlib.Core.Option.{some, some-injective}
@@ -21,16 +22,14 @@ use Rattle.core_model.specs.declared.tab.Tab.{Tab}
 use Rattle.core_model.specs.declared.tab.Tab.TheVariants.{Free, Retreating, Reading, Writing, Last, Freeing}
 use Rattle.core_model.specs.declared.view.View.{View}
 use Rattle.core_model.specs.Layout.{Setting}
-use Rattle.core_model.specs.State.{State, chain_of}
-use Rattle.core_model.specs.Chains.{rest_of, named}
-use Rattle.core_model.specs.Tabs.{tab_at, turn_of, has_turn, holds_turn, count, OfReader, OfWriter}
-use Rattle.core_model.specs.Allowed.{IsPass, MayRead, MayWrite, Holds, Allowed}
+use Rattle.core_model.specs.State.{State, chain_of, turn_word}
+use Rattle.core_model.specs.Chains.{rest_of, slots_of_link}
+use Rattle.core_model.specs.Tabs.{tab_at, turn_of, has_turn, holds_turn, count, OfReader, OfWriter, IsPass}
 use Rattle.core_model.specs.Steps.{number_found}
-use Rattle.core_model.specs.Matching.{IsTab}
 use Rattle.core_model.specs.Slots.{slot_words, used, held_in, standing_in}
-use Rattle.core_model.specs.Spots.{IsIn}
-use Rattle.core_model.specs.Cells.{turn_word, turn_at, holds_at, TurnFits, IsHome}
-use Rattle.core_model.specs.Holding.{HasHolder, IsAway, IsBeingWritten, IsBeingRead, IsUnheld, KnownTurn}
+use Rattle.core_model.specs.Spots.{IsIn, IsUnheld}
+use Rattle.core_model.specs.Cells.{turn_at, holds_at, TurnFits, IsHome, IsContent}
+use Rattle.core_model.specs.Told.{ContentFound, IsCellFound, TurnTells}
 use Rattle.core_model.specs.Sound.{Sound}
 use Rattle.core_model.proofs.Lists.{by_eq, at_or, at_length, le_sum_at, sum_some}
 use Rattle.core_model.proofs.Tabs.{contains_times, tab_there}
@@ -39,6 +38,9 @@ use Rattle.core_model.proofs.Spelling.{times_append}
 use Rattle.core_model.proofs.Telling.{told_out}
 use Rattle.core_model.proofs.SlotsLoosened.{standing_few}
 use Rattle.core_model.proofs.OneSpot.{one_spot}
+use Rattle.core_model.specs.CellMoves.{MayRead, MayWrite, Holds}
+use Rattle.core_model.specs.Table.{Allowed}
+use Rattle.core_model.specs.Holders.{IsTab, HasHolder, IsAway, IsBeingWritten, IsBeingRead}
 
 at_front : (xs ys : List ℕ) (p slot : ℕ) → p < length xs → get_elem? (xs ++ ys) p ≡ some slot → get_elem? xs p ≡ some slot
 at_front [] ys p slot lt e = absurd (omega arith)
@@ -121,7 +123,7 @@ module _ {X : Type 0} (k : Setting X) (s : State X) (so : Sound k s) where
   -- a reading tab that found the link at its place written is at a published slot
   chained_next : (i t slot : ℕ) (r : Reader X) → IsTab s i t (Reading r) → MayRead s slot r → IsIn k s slot (Chained r.anchor)
   chained_next i t slot r p may = let h = so.slots.tabs i p.view p.at t (Reading r) p.there in
-      chained_at i t slot r p (at_contains (chain_of s r.anchor).slots r.place slot (at_front (chain_of s r.anchor).slots (named (chain_of s r.anchor).end) r.place slot (h.found may.1).0 may.0))
+      chained_at i t slot r p (at_contains (chain_of s r.anchor).slots r.place slot (at_front (chain_of s r.anchor).slots (slots_of_link (chain_of s r.anchor).end) r.place slot (h.found may.1).0 may.0))
 
   turn_spot : (i t : ℕ) (x : Tab X) (h : Hold X) → IsTab s i t x → turn_of x ≡ Has h → IsIn k s h.slot (Reserved i t) ⊎ ((a : ℕ) × IsIn k s h.slot (Chained a))
   turn_spot i t (Reading r) h p e = let f = so.cells.turns i p.view p.at t (Reading r) p.there h e in inr (r.anchor, chained_next i t h.slot r p (f.1, f.2))
@@ -175,11 +177,33 @@ module _ {X : Type 0} (k : Setting X) (s : State X) (so : Sound k s) where
       (λ (q : (a : ℕ) × IsIn k s slot (Chained a)). apart i t q.0 (same_spot slot (Reserved i t) (Chained q.0) lt here q.1))
       (holder_spot slot h)))
 
-  try_finds : (i t slot : ℕ) (x : Tab X) → IsTab s i t x → holds_turn x ≡ false → OfReader (MayRead s slot) x ⊎ OfWriter (MayWrite slot) x → (turn_word k s slot ≤ 1) × (OfWriter (λ w. Unit {0}) x → turn_word k s slot ≡ 0)
-  try_finds i t slot (Reading r) p none (inl may) = (so.cells.holders.few slot (chained_inside r.anchor slot (chained_next i t slot r p may)), λ h. absurd h)
+  -- the slot of a try is one of the table
+  try_slot : (i t slot : ℕ) (x : Tab X) → IsTab s i t x → OfReader (MayRead s slot) x ⊎ OfWriter (MayWrite slot) x → slot < k.slots
+  try_slot i t slot (Reading r) p (inl may) = chained_inside r.anchor slot (chained_next i t slot r p may)
+  try_slot i t slot (Reading r) p (inr may) = absurd may
+  try_slot i t slot (Writing w) p (inl may) = absurd may
+  try_slot i t slot (Writing w) p (inr may) = reserved_inside i t slot (reserved_first i t slot w p may.first)
+  try_slot i t slot Free p may = absurd (⊎_elim (λ (z : ⊥). z) (λ (z : ⊥). z) may)
+  try_slot i t slot (Retreating a) p may = absurd (⊎_elim (λ (z : ⊥). z) (λ (z : ⊥). z) may)
+  try_slot i t slot (Last a) p may = absurd (⊎_elim (λ (z : ⊥). z) (λ (z : ⊥). z) may)
+  try_slot i t slot (Freeing f) p may = absurd (⊎_elim (λ (z : ⊥). z) (λ (z : ⊥). z) may)
+
+  -- a cell whose turn is free is home, and at a reading tab's place it has that content
+  cell_home : (slot : ℕ) (x : Tab X) → slot < k.slots → turn_word k s slot ≡ 0 → ((c : Cell X) → slice_index_or s.places slot None ≡ Some c → ContentFound k s x slot c.now) → IsCellFound k s x slot
+  cell_home slot x lt e content = let h = so.cells.holders.home slot lt e in record { cell = h.0; home = h.1; content = content h.0 h.1 }
+
+  read_content : (i t slot : ℕ) (r : Reader X) → IsTab s i t (Reading r) → MayRead s slot r → (c : Cell X) → slice_index_or s.places slot None ≡ Some c → IsContent k s r.anchor r.place slot c.now
+  read_content i t slot r p may c home = let h = so.slots.tabs i p.view p.at t (Reading r) p.there in
+      so.cells.contents.published r.anchor r.place slot c (so.anchors.tabs i p.view p.at t (Reading r) p.there).0 (at_front (chain_of s r.anchor).slots (slots_of_link (chain_of s r.anchor).end) r.place slot (h.found may.1).0 may.0) (inl home)
+
+  try_finds : (i t slot : ℕ) (x : Tab X) → IsTab s i t x → holds_turn x ≡ false → OfReader (MayRead s slot) x ⊎ OfWriter (MayWrite slot) x
+      → (turn_word k s slot ≤ 1) × (OfWriter (λ w. Unit {0}) x → turn_word k s slot ≡ 0) × (turn_word k s slot ≡ 0 → IsCellFound k s x slot)
+  try_finds i t slot (Reading r) p none (inl may) = let lt = chained_inside r.anchor slot (chained_next i t slot r p may) in
+      (so.cells.holders.few slot lt, λ h. absurd h, λ e. cell_home slot (Reading r) lt e (read_content i t slot r p may))
   try_finds i t slot (Reading r) p none (inr may) = absurd may
   try_finds i t slot (Writing w) p none (inl may) = absurd may
-  try_finds i t slot (Writing w) p none (inr may) = let e = untaken i t slot w p none may.first (reserved_inside i t slot (reserved_first i t slot w p may.first)) in (omega arith, λ h. e)
+  try_finds i t slot (Writing w) p none (inr may) = let lt = reserved_inside i t slot (reserved_first i t slot w p may.first) in let e = untaken i t slot w p none may.first lt in
+      (omega arith, λ h. e, λ z. cell_home slot (Writing w) lt z (λ c home. tt))
   try_finds i t slot Free p none may = absurd (⊎_elim (λ (z : ⊥). z) (λ (z : ⊥). z) may)
   try_finds i t slot (Retreating a) p none may = absurd (⊎_elim (λ (z : ⊥). z) (λ (z : ⊥). z) may)
   try_finds i t slot (Last a) p none may = absurd (⊎_elim (λ (z : ⊥). z) (λ (z : ⊥). z) may)
@@ -200,7 +224,13 @@ module _ {X : Type 0} (k : Setting X) (s : State X) (i : ℕ) (v : View X) (so :
   tab_of : (t : ℕ) → t ≤ 8 → IsTab s i t (tab_at v t)
   tab_of t le = record { view = v; at = at; there = tab_there v t (tab_at v t) (let p = pass in omega arith) refl }
 
-  pub turn_finds : (m : Move) → Allowed k s v m → KnownTurn v m (number_found k s v m)
+  pub try_inside : (t slot : ℕ) → Allowed k s v (TryTurn t slot) → slot < k.slots
+  try_inside t slot may = try_slot k s so i t slot (tab_at v t) (tab_of t may.0) may.2
+
+  pub end_inside : (t slot : ℕ) (goes_on : Bool) → Allowed k s v (EndTurn t slot goes_on) → slot < k.slots
+  end_inside t slot goes_on may = subst (λ (z : ℕ). z < k.slots) may.1.2 (turn_inside k s so i t (tab_at v t) may.1.0 (tab_of t may.0) may.1.1)
+
+  pub turn_finds : (m : Move) → Allowed k s v m → TurnTells k s v m (number_found k s v m)
   turn_finds (TryTurn t slot) may = try_finds k s so i t slot (tab_at v t) (tab_of t may.0) may.1 may.2
   turn_finds (EndTurn t slot goes_on) may = end_finds k s so i t slot (tab_at v t) (tab_of t may.0) may.1
   turn_finds (Look a) may = tt

@@ -7,7 +7,6 @@ use Rattle.core_model.specs.declared.moves.Move.TheVariants.{Look, Enter, Leave,
 use Rattle.core_model.specs.declared.view.View.{View}
 use Rattle.core_model.specs.Layout.{Setting}
 use Rattle.core_model.specs.State.{State}
-use Rattle.core_model.specs.Allowed.{IsPass, Allowed}
 use Rattle.core_model.specs.Steps.{after}
 use Rattle.core_model.specs.Sound.{AnchorsSound}
 use Rattle.core_model.proofs.EntersKept.{look_kept, enter_kept, leave_kept}
@@ -15,6 +14,8 @@ use Rattle.core_model.proofs.DrawsKept.{count_kept, draw_kept}
 use Rattle.core_model.proofs.TakesKept.{take_kept}
 use Rattle.core_model.proofs.EvictsKept.{evict_kept}
 use Rattle.core_model.proofs.RaisesKept.{raise_kept, doom_kept}
+use Rattle.core_model.specs.Tabs.{IsPass}
+use Rattle.core_model.specs.Table.{Allowed}
 
 -- the kinds on an anchor's word and on the counter of versions
 abbrev pub OnAnchors : Move → Type 0

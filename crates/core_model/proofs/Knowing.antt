@@ -12,20 +12,20 @@ use Rattle.core_model.specs.declared.tab.Tab.{Tab}
 use Rattle.core_model.specs.declared.tab.Tab.TheVariants.{Free, Retreating, Reading, Writing, Last, Freeing}
 use Rattle.core_model.specs.declared.view.View.{View}
 use Rattle.core_model.specs.Layout.{Setting}
-use Rattle.core_model.specs.State.{State, word}
-use Rattle.core_model.specs.Tabs.{tab_at, inner, anchor_of, is_counted, OfWriter, OfFreer}
+use Rattle.core_model.specs.State.{State, word, counter}
+use Rattle.core_model.specs.Tabs.{tab_at, inner, anchor_of, is_counted, OfWriter, OfFreer, stage_held, IsPass}
 use Rattle.core_model.specs.Trails.{draws_in_vain}
-use Rattle.core_model.specs.Where.{stage_held}
 use Rattle.core_model.specs.Anchors.{tabs_in}
-use Rattle.core_model.specs.Versions.{counter, vain_by, drawn_by}
-use Rattle.core_model.specs.Allowed.{IsPass, MayRaise, StartsRight, MayEnd, MayStep}
+use Rattle.core_model.specs.Versions.{vain_by, drawn_by}
 use Rattle.core_model.specs.Steps.{number_found}
-use Rattle.core_model.specs.Known.{IsFound, HasVersion, IsCount, Known}
+use Rattle.core_model.specs.Told.{HasVersion, IsCount, AnchorTells, IsAnchorFound}
 use Rattle.core_model.specs.Sound.{AnchorsSound}
 use Rattle.core_model.proofs.Lists.{le_sum_at}
 use Rattle.core_model.proofs.Tabs.{tab_there}
 use Rattle.core_model.proofs.EntersKept.{few_readers, counted_there, has_reader}
 use Rattle.core_model.proofs.RaisesKept.{written_there, freed_there, reads_counted}
+use Rattle.core_model.specs.AnchorMoves.{MayRaise, StartsRight, MayEnd}
+use Rattle.core_model.specs.Table.{MayStep}
 
 -- draws in vain are no more than passes
 few_vain : {X : Type 0} → (views : List (View X)) → ((i : ℕ) (v : View X) → get_elem? views i ≡ some v → 9 * draws_in_vain v.trail ≤ length v.tabs) → 9 * sum_by vain_by views ≤ sum_by tabs_in views
@@ -37,7 +37,7 @@ module _ {X : Type 0} (k : Setting X) (s : State X) (so : AnchorsSound k s) wher
   few_drawn = let v = few_vain s.views so.drawn.vain in let t = so.shaped.tabs in let f = so.setting.few in let l = so.drawn.limited in omega arith
 
   module _ (i : ℕ) (v : View X) (at : get_elem? s.views i ≡ some v) (pass : IsPass v) where
-    is_found : (a : ℕ) → a < k.anchors → IsFound v a (word s a)
+    is_found : (a : ℕ) → a < k.anchors → IsAnchorFound v a (word s a)
     is_found a lt = record { good = so.shaped.anchors a lt; fresh = so.seen.epochs i v at a lt; few = few_readers k s i v so at pass a lt }
 
     is_count : IsCount v (counter k s)
@@ -57,12 +57,12 @@ module _ {X : Type 0} (k : Setting X) (s : State X) (so : AnchorsSound k s) wher
     counted_version t (Last b) was h = tt
     counted_version t (Freeing f) was h = tt
 
-    leaves : (t : ℕ) (x : Tab X) → get_elem? v.tabs t ≡ some x → is_counted x ≡ true → IsFound v (anchor_of x) (word s (anchor_of x)) × (0 < readers_of (word s (anchor_of x))) × HasVersion x (word s (anchor_of x))
+    leaves : (t : ℕ) (x : Tab X) → get_elem? v.tabs t ≡ some x → is_counted x ≡ true → IsAnchorFound v (anchor_of x) (word s (anchor_of x)) × (0 < readers_of (word s (anchor_of x))) × HasVersion x (word s (anchor_of x))
     leaves t x was h = let c = counted_there k s i v so at pass t (anchor_of x) x was h refl in
         (is_found (anchor_of x) c.0, has_reader k s i v so at pass t (anchor_of x) x was c.0 c.1.counts_one, counted_version t x was h)
 
     raises : (t : ℕ) (to : Stage) (x : Tab X) → get_elem? v.tabs t ≡ some x → (OfWriter (λ w. MayRaise w to × StartsRight k s w) x ⊎ OfFreer (λ f. MayEnd f to) x)
-        → IsFound v (anchor_of x) (word s (anchor_of x)) × (stage_of (epoch_of (word s (anchor_of x))) ≡ stage_held x) × HasVersion x (word s (anchor_of x))
+        → IsAnchorFound v (anchor_of x) (word s (anchor_of x)) × (stage_of (epoch_of (word s (anchor_of x))) ≡ stage_held x) × HasVersion x (word s (anchor_of x))
     raises t to (Writing w) was h = let st = so.tabs i v at t (Writing w) was in let r = written_there k s i v so at pass t w was st.0 in (is_found w.anchor st.0, r.stage_is, r.version_is)
     raises t to (Freeing f) was (inl h) = absurd h
     raises t to (Freeing f) was (inr h) = let st = so.tabs i v at t (Freeing f) was in (is_found f.anchor st.0, freed_there k s i v so at pass t f was (freeing to f h) st.0, tt)
@@ -84,7 +84,7 @@ module _ {X : Type 0} (k : Setting X) (s : State X) (so : AnchorsSound k s) wher
     raises t to (Last b) was (inl h) = absurd h
     raises t to (Last b) was (inr h) = absurd h
 
-pub knows : {X : Type 0} → (k : Setting X) (s : State X) (i : ℕ) (v : View X) (m : Move) → AnchorsSound k s → get_elem? s.views i ≡ some v → MayStep k s v m → Known v m (number_found k s v m)
+pub knows : {X : Type 0} → (k : Setting X) (s : State X) (i : ℕ) (v : View X) (m : Move) → AnchorsSound k s → get_elem? s.views i ≡ some v → MayStep k s v m → AnchorTells v m (number_found k s v m)
 knows k s i v (Look a) so at may = is_found k s so i v at may.pass a may.allowed
 knows k s i v (Enter t a) so at may = is_found k s so i v at may.pass a may.allowed.0
 knows k s i v (Leave t) so at may = leaves k s so i v at may.pass t (tab_at v t) (tab_was k s so i v at may.pass t may.allowed.0) may.allowed.1

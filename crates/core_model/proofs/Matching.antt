@@ -14,9 +14,9 @@ use Rattle.core_model.specs.Layout.{Setting}
 use Rattle.core_model.specs.State.{State, word}
 use Rattle.core_model.specs.Tabs.{stage_written, writes, frees, count}
 use Rattle.core_model.specs.Anchors.{written_at, freed_at}
-use Rattle.core_model.specs.Matching.{IsTab, MatchesWriter, HasWriter, HasFreer}
 use Rattle.core_model.specs.Sound.{AnchorsSound}
 use Rattle.core_model.proofs.Lists.{by_eq, le_sum_at, sum_some, two_le_sum}
+use Rattle.core_model.specs.Holders.{IsTab, MatchesWriter, HasWriter, HasFreer}
 
 written_few : (e u g : ℕ) → written_at e u g ≤ 1
 written_few e u g = by_bool (is_written e && (version_of e == u) && (stage_of e == g))

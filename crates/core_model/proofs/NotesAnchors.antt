@@ -12,17 +12,18 @@ use Rattle.core_model.specs.declared.view.Sight.TheVariants.{Named, Published}
 use Rattle.core_model.specs.declared.view.View.{View}
 use Rattle.core_model.specs.Layout.{Setting, word_count}
 use Rattle.core_model.specs.Chains.{times}
-use Rattle.core_model.specs.State.{State, word}
+use Rattle.core_model.specs.State.{State, word, counter}
 use Rattle.core_model.specs.Tabs.{counts, writes, frees, count}
 use Rattle.core_model.specs.Trails.{last_find, last_count, drew_since, draws_in_vain, seen_at}
-use Rattle.core_model.specs.Steps.{note_of}
 use Rattle.core_model.specs.Anchors.{tabs_in, Shaped, TabStands, TabsStand, IsLastAt, opening_epoch}
-use Rattle.core_model.specs.Versions.{counter, SeenStands, draws_by, vain_by, drawn_by, VersionsDrawn, IsFresh, VersionsHeld}
+use Rattle.core_model.specs.Versions.{SeenStands, draws_by, vain_by, drawn_by, VersionsDrawn, IsFresh, VersionsHeld}
 use Rattle.core_model.specs.Deeds.{mirrored, OneMirror, IsDone, EnteredBy, EnteredByAnother, LeftEpoch, DoomedVersion, HaltedVersion, EvictedVersion, DeedsExplain}
 use Rattle.core_model.specs.Sound.{AnchorsSound}
 use Rattle.core_model.proofs.Lists.{contains_none}
 use Rattle.core_model.proofs.AnchorTabs.{version_up}
-use Rattle.core_model.proofs.NotesFrame.{Goes, Later, Learned, Renews, renewed, each_now, tab_sums, was_seen, known_before, epoch_before, done_later}
+use Rattle.core_model.proofs.NotesFrame.{Goes, Later, Learned, Renews, each_now, tab_sums, was_seen, known_before, epoch_before, done_later}
+use Rattle.core_model.specs.CellMoves.{note_of}
+use Rattle.core_model.specs.TableForms.{renewed}
 
 module _ {X : Type 0} (k : Setting X) (s : State X) (views : List (View X)) (r : Renews k s views) (so : AnchorsSound k s) where
   abbrev s' : State X

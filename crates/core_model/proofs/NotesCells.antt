@@ -12,14 +12,17 @@ use Rattle.core_model.specs.declared.moves.Side.{Side}
 use Rattle.core_model.specs.declared.view.Sight.TheVariants.{Named}
 use Rattle.core_model.specs.declared.view.View.{View}
 use Rattle.core_model.specs.Layout.{Setting}
-use Rattle.core_model.specs.State.{State, word}
-use Rattle.core_model.specs.Steps.{note_of}
+use Rattle.core_model.specs.State.{State, word, side_word}
 use Rattle.core_model.specs.Slots.{slot_words, resting_in, held_in, writes_at, TabHolds, SlotsSound}
-use Rattle.core_model.specs.Cells.{side_word, holds_at, TurnFits, IsCell, IsHome, TabPiece, IsNamed, CellsSound}
+use Rattle.core_model.specs.Cells.{holds_at, TurnFits, IsCell, IsHome, TabPiece, IsNamed, CellsSound}
 use Rattle.core_model.specs.Sound.{Sound}
 use Rattle.core_model.proofs.SlotTabs.{SameWriters, tab_later}
-use Rattle.core_model.proofs.NotesFrame.{Goes, Before, Renews, renewed, each_now, tab_sums, still_seen}
+use Rattle.core_model.proofs.NotesFrame.{Goes, Before, Renews, each_now, tab_sums, still_seen}
 use Rattle.core_model.proofs.NotesAnchors.{renews_anchors}
+use Rattle.core_model.proofs.TellsNoMore.{deeds_stay, renews_tells}
+use Rattle.core_model.proofs.SightsRenewed.{renews_sights}
+use Rattle.core_model.specs.CellMoves.{note_of}
+use Rattle.core_model.specs.TableForms.{renewed}
 
 module _ {X : Type 0} (k : Setting X) (s : State X) (views : List (View X)) (r : Renews k s views) where
   abbrev s' : State X
@@ -60,13 +63,13 @@ module _ {X : Type 0} (k : Setting X) (s : State X) (views : List (View X)) (r :
   turn_later (Freeing f) h = tt
 
   home_later : (x : Writer X) (p : Piece) → IsHome k s x p → IsHome k s' x p
-  home_later x p h = record { slot = h.slot; first = h.first; cell = h.cell; home = h.home; written = h.written }
+  home_later x p h = record { slot = h.slot; first = h.first; cell = h.cell; home = h.home; written = h.written; settled = h.settled }
 
   piece_later : (tab : Tab X) → TabPiece k s tab → TabPiece k s' tab
   piece_later Free h = tt
   piece_later (Retreating b) h = tt
   piece_later (Reading x) h = tt
-  piece_later (Writing x) h = record { drawn = h.drawn; fits = h.fits; offer = h.offer; home = λ p e w c. home_later x p (h.home p e w c); held = h.held }
+  piece_later (Writing x) h = record { drawn = h.drawn; fits = h.fits; offer = h.offer; home = λ p e w c. home_later x p (h.home p e w c); held = h.held; synced = h.synced }
   piece_later (Last b) h = tt
   piece_later (Freeing f) h = tt
 
@@ -99,4 +102,4 @@ module _ {X : Type 0} (k : Setting X) (s : State X) (views : List (View X)) (r :
 
 -- The whole.
 pub renews_sound : {X : Type 0} → (k : Setting X) (s : State X) (views : List (View X)) → Renews k s views → Sound k s → Sound k (renewed s views)
-renews_sound k s views r so = record { anchors = renews_anchors k s views r so.anchors; slots = renews_slots k s views r so.slots; cells = renews_cells k s views r so.cells }
+renews_sound k s views r so = record { anchors = renews_anchors k s views r so.anchors; slots = renews_slots k s views r so.slots; cells = renews_cells k s views r so.cells; deeds_tell = deeds_stay k s (renewed s views) (renews_tells k s views r) so.deeds_tell; sights = renews_sights k s views r so.sights }

@@ -15,12 +15,13 @@ use Rattle.core_model.specs.declared.view.View.{View}
 use Rattle.core_model.specs.Layout.{Setting}
 use Rattle.core_model.specs.State.{State, word}
 use Rattle.core_model.specs.Tabs.{count}
-use Rattle.core_model.specs.Trails.{last_find, last_count, drew_since, drawn, draws, draws_in_vain, seen_at, sight_anchor, sight_version}
-use Rattle.core_model.specs.Steps.{note_of}
+use Rattle.core_model.specs.Trails.{last_find, last_count, drew_since, drawn, draws, draws_in_vain, seen_at, sight_anchor, sight_version, find_before}
 use Rattle.core_model.specs.Versions.{SeenStands, IsKnownAt}
 use Rattle.core_model.specs.Deeds.{IsEpochAt, IsDone}
 use Rattle.core_model.proofs.Lists.{contains_none}
 use Rattle.core_model.proofs.AnchorTabs.{version_up}
+use Rattle.core_model.specs.CellMoves.{note_of}
+use Rattle.core_model.specs.TableForms.{renewed}
 
 -- a view before and after: what is new in its trail tells nothing, and it may have seen more
 pub record Goes {X : Type 0} (u w : View X) : Type 0 where
@@ -32,6 +33,7 @@ pub record Goes {X : Type 0} (u w : View X) : Type 0 where
   pub met : w.met ≡ u.met
   pub find : (a : ℕ) → last_find a w.trail ≡ last_find a u.trail
   pub since : (version a : ℕ) → drew_since version a w.trail ≡ drew_since version a u.trail
+  pub before : (version a : ℕ) → find_before version a w.trail ≡ find_before version a u.trail
   pub as_drawn : (version : ℕ) → drawn version w.trail ≡ drawn version u.trail
   pub as_draws : draws w.trail ≡ draws u.trail
   pub as_vain : draws_in_vain w.trail ≡ draws_in_vain u.trail
@@ -72,9 +74,6 @@ pub record Renews {X : Type 0} (k : Setting X) (s : State X) (views : List (View
   pub later : (j : ℕ) (u : View X) → get_elem? s.views j ≡ some u → Later views j u ⊎ Learned views u
   pub sums : (f : View X → ℕ) → ((u w : View X) → Goes u w → f w ≡ f u) → ((n : View X) → f (note_of n) ≡ 0) → sum_by f views ≡ sum_by f s.views
 
-abbrev pub renewed : {X : Type 0} → State X → List (View X) → State X
-renewed s views = record { words = s.words; places = s.places; views = views; chains = s.chains }
-
 -- What was seen.
 
 pub seen_left : (a : ℕ) (xs ys : List Sight) → seen_at a xs ≤ seen_at a (xs ++ ys)
@@ -100,6 +99,7 @@ module _ {X : Type 0} where
     met = refl;
     find = λ a. refl;
     since = λ version a. refl;
+    before = λ version a. refl;
     as_drawn = λ version. refl;
     as_draws = refl;
     as_vain = refl;

@@ -2,7 +2,6 @@
 use Rattle.std.proofs.Common.{◌≡◌, ◌≢◌, ℕ, ◌+◌, ◌<◌, zero, suc, List, [], ◌∷◌, ◌++◌, length, set, drop, sym, refl, ap, ◌∙◌, subst, arith, Bool, true, false, cond, eqb, ◌&&◌, ltb, Some, length-set, length-drop, ne_eqb, Contains}
 use Rattle.std.specs.Prelude.{slice_get}
 use Rattle.std.proofs.lemmas.Bool.{ltb-true}
-use Rattle.std.proofs.lemmas.List.Elements.{Contains-append_left}
 use mathlib.Core.Option.{some, some-injective, some-ne-none}
 use mathlib.Core.Logic.{dite}
 use native.Mathlib.Decide.{ℕ_discrete}
@@ -12,14 +11,14 @@ use Rattle.core_model.specs.declared.view.Sight.{Sight}
 use Rattle.core_model.specs.declared.view.View.{View}
 use Rattle.core_model.specs.Layout.{Setting}
 use Rattle.core_model.specs.State.{State}
-use Rattle.core_model.specs.Records.{item_of}
-use Rattle.core_model.specs.Allowed.{IsPass, Allowed}
-use Rattle.core_model.specs.Steps.{is_spent, free_note, seen_in, note_of, spent, after}
+use Rattle.core_model.specs.Steps.{after}
 use Rattle.core_model.specs.Sound.{Sound}
-use Rattle.core_model.proofs.Lists.{at_length, set_here, set_else, contains_none}
-use Rattle.core_model.proofs.NotesFrame.{IsSeen, SightsKnown, renewed, known_view, known_none, known_both}
-use Rattle.core_model.proofs.NotesCells.{renews_sound}
-use Rattle.core_model.proofs.NotesRenewed.{learns, noted, learned, learns_goes, pass_renews, note_renews, new_note_renews}
+use Rattle.core_model.proofs.NotesMade.{noted_behind_sound, noted_at_sound, learned_from_sound}
+use Rattle.core_model.proofs.NotesRenewed.{noted, learned}
+use Rattle.core_model.specs.Table.{item_of, Allowed}
+use Rattle.core_model.specs.Tabs.{IsPass}
+use Rattle.core_model.specs.CellMoves.{is_spent, free_note, seen_in, note_of, spent}
+use Rattle.core_model.specs.TableForms.{renewed, learns}
 
 -- Views that a number names.
 
@@ -27,7 +26,7 @@ no_items : {A : Type 0} → (xs : List A) → length xs ≡ 0 → xs ≡ []
 no_items [] h = refl
 no_items (x ∷ xs) h = absurd (omega arith)
 
-both_none : {A B : Type 0} → (xs : List A) (ys : List B) → (eqb (length xs) 0 && eqb (length ys) 0) ≡ true → (xs ≡ []) × (ys ≡ [])
+pub both_none : {A B : Type 0} → (xs : List A) (ys : List B) → (eqb (length xs) 0 && eqb (length ys) 0) ≡ true → (xs ≡ []) × (ys ≡ [])
 both_none {A} {B} xs ys h = dite (ℕ_discrete (length xs) 0)
     (λ e. dite (ℕ_discrete (length ys) 0) (λ f. (no_items xs e, no_items ys f)) (λ ne. absurd (second ne h)))
     (λ ne. absurd (first ne h))
@@ -72,78 +71,29 @@ module _ {X : Type 0} where
   at_get (x ∷ xs) (suc n) u h = at_get xs n u h
 
 module _ {X : Type 0} (k : Setting X) (s : State X) (i : ℕ) (v : View X) (so : Sound k s) (at : get_elem? s.views i ≡ some v) (pass : IsPass v) where
-  -- a view without tabs is not that of the pass
-  elsewhere : (n : ℕ) (u : View X) → get_elem? s.views n ≡ some u → u.tabs ≡ [] → n ≢ i
-  elsewhere n u uat none e = let same : v ≡ u = some-injective v u (sym at ∙ subst (λ (z : ℕ). get_elem? s.views z ≡ some u) e uat) in
-      absurd (let l = pass in let z = ap length (ap View.tabs same ∙ none) in omega arith)
-
-  -- Making a note.
+  -- Making a note: in place of a spent one where there is one, and else behind all.
 
   abbrev number : ℕ
   number = free_note (drop k.passes s.views)
 
-  abbrev noting : View X
-  noting = learns v [] (item_of v Note number)
-
   abbrev noting_views : List (View X)
-  noting_views = set s.views i noting
-
-  noting_sound : Sound k (renewed s noting_views)
-  noting_sound = renews_sound k s noting_views (pass_renews k s so i v noting at pass (learns_goes v [] (item_of v Note number) noted) (known_view k s so.anchors.seen i v at)) so
-
-  noting_known : SightsKnown k (renewed s noting_views) v.seen
-  noting_known = known_view k (renewed s noting_views) noting_sound.anchors.seen i noting (set_here s.views i noting (at_length s.views i v at))
-
-  over_spent : (u : View X) → get_elem? s.views (k.passes + number) ≡ some u → (u.tabs ≡ []) × (u.seen ≡ []) → Sound k (renewed s (set noting_views (k.passes + number) (note_of v)))
-  over_spent u uat none = renews_sound k (renewed s noting_views) (set noting_views (k.passes + number) (note_of v))
-      (note_renews k (renewed s noting_views) noting_sound (k.passes + number) u v
-      (set_else s.views i (k.passes + number) noting (elsewhere (k.passes + number) u uat none.0) ∙ uat)
-      (so.anchors.shaped.notes (k.passes + number) u uat none.0)
-      (λ x h. absurd (contains_none x (subst (λ (z : List Sight). Contains z x) none.1 h)))
-      noting_known)
-      noting_sound
+  noting_views = set s.views i (learns v [] (item_of v Note number))
 
   note_put : (b : Bool) → ltb (k.passes + number) (length noting_views) ≡ b → Sound k (renewed s (cond b (set noting_views (k.passes + number) (note_of v)) (noting_views ++ note_of v ∷ [])))
-  note_put true e = let lt = ltb-true (k.passes + number) (length noting_views) e in let l = length-set s.views i noting in
-      let q = free_spent s.views k.passes (omega arith) in over_spent q.0 q.1 (both_none q.0.tabs q.0.seen q.2)
-  note_put false e = renews_sound k (renewed s noting_views) (noting_views ++ note_of v ∷ []) (new_note_renews k (renewed s noting_views) noting_sound v noting_known) noting_sound
+  note_put true e = let lt = ltb-true (k.passes + number) (length noting_views) e in let l = length-set s.views i (learns v [] (item_of v Note number)) in
+      let q = free_spent s.views k.passes (omega arith) in let none = both_none q.0.tabs q.0.seen q.2 in
+      noted_at_sound k s i v so at pass (item_of v Note number) noted (k.passes + number) q.0 record { note = record { at = q.1; no_tabs = none.0 }; unseen = none.1 }
+  note_put false e = noted_behind_sound k s i v so at pass (item_of v Note number) noted
 
   noted_sound : Sound k (after k s i v Note)
   noted_sound = note_put (ltb (k.passes + number) (length noting_views)) refl
 
   -- Learning one.
 
-  module _ (note : ℕ) (u : View X) (uat : get_elem? s.views (k.passes + note) ≡ some u) (none : u.tabs ≡ []) where
-    abbrev sights : List Sight
-    sights = seen_in (slice_get s.views (k.passes + note))
-
-    abbrev learning : View X
-    learning = learns v sights (item_of v (Learn note) 0)
-
-    abbrev learning_views : List (View X)
-    learning_views = set s.views i learning
-
-    sights_are : u.seen ≡ sights
-    sights_are = sym (ap seen_in (at_get s.views (k.passes + note) u uat))
-
-    learning_sound : Sound k (renewed s learning_views)
-    learning_sound = renews_sound k s learning_views (pass_renews k s so i v learning at pass (learns_goes v sights (item_of v (Learn note) 0) learned)
-        (known_both k s sights v.seen (subst (SightsKnown k s) sights_are (known_view k s so.anchors.seen (k.passes + note) u uat)) (known_view k s so.anchors.seen i v at))) so
-
-    still_known : (x : Sight) → Contains u.seen x → IsSeen (set learning_views (k.passes + note) spent) x
-    still_known x h = record {
-      i = i;
-      view = learning;
-      at = set_else learning_views (k.passes + note) i spent (λ e. elsewhere (k.passes + note) u uat none (sym e)) ∙ set_here s.views i learning (at_length s.views i v at);
-      seen = Contains-append_left sights v.seen x (subst (λ (z : List Sight). Contains z x) sights_are h);
-    }
-
-    learned_sound : Sound k (renewed s (set learning_views (k.passes + note) spent))
-    learned_sound = renews_sound k (renewed s learning_views) (set learning_views (k.passes + note) spent)
-        (note_renews k (renewed s learning_views) learning_sound (k.passes + note) u spent
-        (set_else s.views i (k.passes + note) learning (elsewhere (k.passes + note) u uat none) ∙ uat)
-        (so.anchors.shaped.notes (k.passes + note) u uat none) still_known (known_none k (renewed s learning_views)))
-        learning_sound
+  learned_sound : (note : ℕ) (u : View X) → get_elem? s.views (k.passes + note) ≡ some u → u.tabs ≡ [] → Sound k (after k s i v (Learn note))
+  learned_sound note u uat none = subst (λ (seen : List Sight). Sound k (renewed s (set (set s.views i (learns v seen (item_of v (Learn note) 0))) (k.passes + note) spent)))
+      (sym (ap seen_in (at_get s.views (k.passes + note) u uat)))
+      (learned_from_sound k s i v so at pass (item_of v (Learn note) 0) learned (k.passes + note) u record { at = uat; no_tabs = none })
 
 -- The two steps.
 

@@ -14,24 +14,12 @@ use Rattle.core_model.specs.declared.view.View.{View}
 use Rattle.core_model.specs.Layout.{Setting}
 use Rattle.core_model.specs.State.{State}
 use Rattle.core_model.specs.Trails.{tells_word, is_draw, counted_in, last_count}
-use Rattle.core_model.specs.Allowed.{IsPass}
-use Rattle.core_model.specs.Steps.{note_of}
 use Rattle.core_model.specs.Sound.{Sound}
 use Rattle.core_model.proofs.Lists.{at_set, at_length, set_here, set_else, sum_at, cons_contains}
 use Rattle.core_model.proofs.NotesFrame.{Goes, IsSeen, SightsKnown, Learned, Renews, goes_same, seen_right, known_view}
-
--- the view after a step on notes
-abbrev pub learns : {X : Type 0} → View X → List Sight → Item → View X
-learns v sights item = record {
-  pass = v.pass;
-  tabs = v.tabs;
-  held = v.held;
-  seen = sights ++ v.seen;
-  trail = item ∷ v.trail;
-  mirror = v.mirror;
-  deeds = v.deeds;
-  met = v.met;
-}
+use Rattle.core_model.specs.Tabs.{IsPass}
+use Rattle.core_model.specs.CellMoves.{note_of}
+use Rattle.core_model.specs.TableForms.{learns}
 
 -- an item of this kind tells no number of a word
 pub record Quiet (kind : Kind) : Type 0 where
@@ -57,6 +45,7 @@ learns_goes v sights item q = record {
   met = refl;
   find = λ a. rw q.no_word refl;
   since = λ version a. rw (q.no_word, q.no_draw) refl;
+  before = λ version a. rw q.no_draw refl;
   as_drawn = λ version. rw q.no_draw (omega arith);
   as_draws = rw q.no_draw (omega arith);
   as_vain = rw q.no_draw (omega arith);
@@ -126,7 +115,7 @@ module _ {X : Type 0} (k : Setting X) (s : State X) (so : Sound k s) where
   at_append (x ∷ xs) y zero u h = inl h
   at_append (x ∷ xs) y (suc j) u h = at_append xs y j u h
 
-  append_at : (xs : List (View X)) (y : View X) (j : ℕ) (u : View X) → get_elem? xs j ≡ some u → get_elem? (xs ++ y ∷ []) j ≡ some u
+  pub append_at : (xs : List (View X)) (y : View X) (j : ℕ) (u : View X) → get_elem? xs j ≡ some u → get_elem? (xs ++ y ∷ []) j ≡ some u
   append_at [] y j u h = absurd (some-ne-none u (sym h))
   append_at (x ∷ xs) y zero u h = h
   append_at (x ∷ xs) y (suc j) u h = append_at xs y j u h

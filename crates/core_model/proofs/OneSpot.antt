@@ -17,7 +17,6 @@ use Rattle.core_model.specs.Layout.{Setting, index}
 use Rattle.core_model.specs.State.{State, chain_of}
 use Rattle.core_model.specs.Chains.{no_chain, times}
 use Rattle.core_model.specs.Tabs.{count}
-use Rattle.core_model.specs.Matching.{IsTab}
 use Rattle.core_model.specs.Slots.{slot_words, used, held_in, resting_in, published_in, standing_in, SlotsSound}
 use Rattle.core_model.specs.Spots.{IsIn, HasOneSpot, IsUnwritten}
 use Rattle.core_model.specs.Anchors.{Shaped}
@@ -26,6 +25,7 @@ use Rattle.core_model.proofs.Tabs.{contains_times, times_contains}
 use Rattle.core_model.proofs.Spelling.{times_append}
 use Rattle.core_model.proofs.Telling.{told_in}
 use Rattle.core_model.proofs.SlotFrame.{used_few, used_some}
+use Rattle.core_model.specs.Holders.{IsTab}
 
 module _ {X : Type 0} (k : Setting X) (s : State X) (shaped : Shaped k s) (sl : SlotsSound k s) (slot : ℕ) (lt : slot < k.slots) where
   abbrev held_all : ℕ

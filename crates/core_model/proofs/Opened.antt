@@ -13,7 +13,7 @@ use Rattle.core_model.specs.declared.tab.Tab.TheVariants.{Free}
 use Rattle.core_model.specs.declared.view.Sight.{Sight}
 use Rattle.core_model.specs.declared.view.Sight.TheVariants.{Stood, Named, Published}
 use Rattle.core_model.specs.declared.view.View.{View}
-use Rattle.core_model.specs.Layout.{Setting, turns_end}
+use Rattle.core_model.specs.Layout.{Setting, counter_index, anchor_index}
 use Rattle.core_model.specs.State.{State, word}
 use Rattle.core_model.specs.Trails.{seen_at, sight_anchor, sight_version}
 use Rattle.core_model.specs.Tabs.{count}
@@ -41,7 +41,7 @@ module _ {X : Type 0} (k : Setting X) where
   new_tabs (suc n) from = let c = sum_by-cons tabs_in (new_view k from) (new_views k (from + 1) n) in let r = new_tabs n (from + 1) in omega arith
 
   -- a new pass has seen each anchor as it stood
-  sight_is : (n : ℕ) (x : Sight) → Contains (sights_below k n) x → (a : ℕ) × (a < n) × (x ≡ Stood a (opening_epoch k a))
+  pub sight_is : (n : ℕ) (x : Sight) → Contains (sights_below k n) x → (a : ℕ) × (a < n) × (x ≡ Stood a (opening_epoch k a))
   sight_is zero x h = absurd (contains_none x h)
   sight_is (suc n) x h = ⊎_elim (λ (q : Stood n (opening_epoch k n) ≡ x). (n, omega arith, sym q))
       (λ (q : Contains (sights_below k n) x). let r = sight_is n x q in (r.0, (let z = r.1 in omega arith), r.2)) (cons_contains _ x _ h)
@@ -64,8 +64,11 @@ module _ {X : Type 0} (k : Setting X) where
     each : (P : View X → Type 0) → ((p : ℕ) → P (new_view k p)) → (i : ℕ) (v : View X) → get_elem? s.views i ≡ some v → P v
     each P h i v e = let q = at_new i v e in subst P (sym q.0) (h i)
 
-    same_word : (a : ℕ) → word s a ≡ get_or k.words a 0
-    same_word a = ap (λ (ws : List ℕ). get_or ws a 0) o.words
+    same_at : (p : ℕ) → get_or s.words p 0 ≡ get_or k.words p 0
+    same_at p = ap (λ (ws : List ℕ). get_or ws p 0) o.words
+
+    same_word : (a : ℕ) → word s a ≡ get_or k.words (anchor_index a) 0
+    same_word a = same_at (anchor_index a)
 
     pub no_sum : (f : View X → ℕ) → ((p : ℕ) → f (new_view k p) ≡ 0) → sum_by f s.views ≡ 0
     no_sum f h = ap (sum_by f) o.views ∙ new_sum f h k.passes 0
@@ -78,7 +81,7 @@ module _ {X : Type 0} (k : Setting X) where
     known_is a u (inr h) = let q = at_new h.i h.view h.at in let x = sight_is k.anchors h.sight (subst (λ (w : View X). Contains w.seen h.sight) q.0 h.seen) in
         let v = ap sight_version x.2 in let z = is.version x.0 x.1 in let y = h.version_is in omega arith
 
-    epoch_is : (a e : ℕ) → IsEpochAt k s a e → (a < k.anchors) × (e ≡ opening_epoch k a)
+    pub epoch_is : (a e : ℕ) → IsEpochAt k s a e → (a < k.anchors) × (e ≡ opening_epoch k a)
     epoch_is a e (inl h) = (h.0, sym h.1 ∙ ap epoch_of (same_word a))
     epoch_is a e (inr h) = let q = at_new h.0 h.1 h.2 in let x = sight_is k.anchors (Stood a e) (subst (λ (w : View X). Contains w.seen (Stood a e)) q.0 h.3) in
         let at : a ≡ x.0 = ap sight_anchor x.2 in (subst (λ (z : ℕ). z < k.anchors) (sym at) x.1, ap epoch_in x.2 ∙ ap (opening_epoch k) (sym at))
@@ -129,13 +132,13 @@ module _ {X : Type 0} (k : Setting X) where
         agree = λ i j v w e g b version side x y h hy. absurd (no_others (Named b version side x) (λ c y q. cc) (subst (λ (w : View X). Contains w.seen (Named b version side x)) (at_new i v e).0 h));
       };
       drawn = record {
-        counted = let e = same_word (turns_end k) in let z = no_sum Rattle.core_model.specs.Versions.draws_by (λ p. refl) in omega arith;
+        counted = let e = same_at (counter_index k) in let z = no_sum Rattle.core_model.specs.Versions.draws_by (λ p. refl) in omega arith;
         looked = each (λ u. (x : _) → Contains u.trail x → _ → _) (λ p x h. absurd (contains_none x h));
         drew = each (λ u. (x : _) → Contains u.trail x → _ → _) (λ p x h. absurd (contains_none x h));
         once = λ version. let z = no_sum (Rattle.core_model.specs.Versions.drawn_by version) (λ p. refl) in omega arith;
         above = λ version h. absurd (let z = no_sum (Rattle.core_model.specs.Versions.drawn_by version) (λ p. refl) in omega arith);
-        stand = λ a lt. let e = same_word a in let c = same_word (turns_end k) in let z = is.version a lt in let y = ap (λ (n : ℕ). version_of (epoch_of n)) e in omega arith;
-        limited = let e = same_word (turns_end k) in let z = is.limited in omega arith;
+        stand = λ a lt. let e = same_word a in let c = same_at (counter_index k) in let z = is.version a lt in let y = ap (λ (n : ℕ). version_of (epoch_of n)) e in omega arith;
+        limited = let e = same_at (counter_index k) in let z = is.limited in omega arith;
         vain = each (λ u. 9 * Rattle.core_model.specs.Trails.draws_in_vain u.trail ≤ length u.tabs) (λ p. omega arith);
         stops = each (λ u. 0 < Rattle.core_model.specs.Trails.draws_in_vain u.trail → _) (λ p h. absurd (omega arith));
       };
@@ -145,7 +148,7 @@ module _ {X : Type 0} (k : Setting X) where
         one_anchor = λ a b version high p q. absurd (let z = known_is a version p in omega arith);
         finds = each (λ u. (a : ℕ) → epoch_of (Rattle.core_model.specs.Trails.last_find a u.trail) ≤ seen_at a u.seen) (λ p a. omega arith);
       };
-      mirror = λ one i v e some_tabs p lt. subst (λ (w : View X). Rattle.core_model.specs.Deeds.mirrored k p w.mirror ≡ get_or s.words p 0) (sym (at_new i v e).0) (sym (same_word p));
+      mirror = λ one i v e some_tabs p lt. subst (λ (w : View X). Rattle.core_model.specs.Deeds.mirrored k p w.mirror ≡ get_or s.words p 0) (sym (at_new i v e).0) (sym (same_at p));
       deeds = record {
         left = λ a e h. inl (epoch_is a e h).1;
         doomed = λ a e h d. let q = epoch_is a e h in absurd (let z = is.undoomed a q.0 in let y = ap doom_of q.1 in omega arith);

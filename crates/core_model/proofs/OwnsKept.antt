@@ -1,5 +1,5 @@
 -- To reserve a slot, to give one back, and to let the first slot of a rest leave it keeps a state sound.
-use Rattle.std.proofs.Common.{◌≡◌, ◌≢◌, ◌⊎◌, inl, inr, ⊎_elim, ℕ, ◌+◌, ◌-◌, ◌*◌, ◌<◌, ◌≤◌, List, [], ◌∷◌, ◌++◌, get_or, set, sym, refl, ap, ◌∙◌, subst, arith, Bool, true, false, cond, ◌==◌, ◌&&◌, eq-eqb, Contains}
+use Rattle.std.proofs.Common.{◌≡◌, ◌≢◌, ◌⊎◌, inl, inr, ⊎_elim, ℕ, ◌+◌, ◌-◌, ◌<◌, ◌≤◌, List, [], ◌∷◌, ◌++◌, get_or, set, sym, refl, ap, ◌∙◌, subst, arith, Bool, true, false, cond, ◌==◌, ◌&&◌, eq-eqb, Contains}
 use Rattle.std.proofs.lemmas.Bool.{eqb-true, false≢true}
 use mathlib.Core.Option.{some, some-injective}
 use mathlib.Core.Logic.{dite}
@@ -13,13 +13,10 @@ use Rattle.core_model.specs.declared.tab.Tab.TheVariants.{Free, Retreating, Read
 use Rattle.core_model.specs.declared.moves.Move.TheVariants.{Own, Disown, Loosen}
 use Rattle.core_model.specs.declared.view.Place.TheVariants.{Owner, Link as LinkWord}
 use Rattle.core_model.specs.declared.view.View.{View}
-use Rattle.core_model.specs.Layout.{Setting}
+use Rattle.core_model.specs.Layout.{Setting, link_index, owner_index}
 use Rattle.core_model.specs.State.{State}
-use Rattle.core_model.specs.Chains.{times, rest_of}
-use Rattle.core_model.specs.Tabs.{tab_at, inner, anchor_of, frees, OfReader, OfWriter, OfFreer, count}
-use Rattle.core_model.specs.Allowed.{IsPass, InnerIsFree, Allowed, MayReserve, MayGiveBack, MayLoosen, IsFront}
-use Rattle.core_model.specs.TabsAfter.{settled, without, reserves, gives_back, loosens}
-use Rattle.core_model.specs.Records.{item_of}
+use Rattle.core_model.specs.Chains.{times, rest_of, without}
+use Rattle.core_model.specs.Tabs.{tab_at, inner, anchor_of, frees, OfReader, OfWriter, OfFreer, count, IsPass, InnerIsFree}
 use Rattle.core_model.specs.Steps.{finding, view_after, after}
 use Rattle.core_model.specs.Slots.{SlotWords, slot_words, used, held_in, SlotsHold, SlotsSound}
 use Rattle.core_model.specs.Sound.{AnchorsSound, WordsSound}
@@ -34,6 +31,8 @@ use Rattle.core_model.proofs.SlotsOwned.{settled_is, own_keeps, disown_keeps, gi
 use Rattle.core_model.proofs.SlotsLoosened.{loosen_keeps, hand_over_keeps}
 use Rattle.core_model.proofs.BesideKept.{beside, besides}
 use Rattle.core_model.proofs.BesideKinds.{Likens, TabsLiken, tabs_as_before, tab_as_before, sees_nothing, quiet_owned, quiet_disowned, quiet_linked, at_slot}
+use Rattle.core_model.specs.Table.{Allowed, item_of}
+use Rattle.core_model.specs.SlotMoves.{MayReserve, MayGiveBack, MayLoosen, IsFront, emptied, reserves, gives_back, loosens}
 
 and_false : (b : Bool) → (b && false) ≡ false
 and_false true = refl
@@ -98,10 +97,10 @@ module _ {X : Type 0} (k : Setting X) (s : State X) (i : ℕ) (v : View X) (so :
   pub freer_likens : (t : ℕ) (f : Freer) (rest loose : List ℕ) (is_whole is_looked : Bool) → Likens k s v t (Freeing f) (Freeing record f { rest = rest; loose = loose; is_whole = is_whole; is_looked = is_looked })
   freer_likens t f rest loose is_whole is_looked = record { counts = λ b. refl; writes = λ b u g. refl; frees = λ b. refl; stands = λ h. h; not_last = λ b e. cc }
 
-  settled_likens : (t : ℕ) (f : Freer) (loose : List ℕ) → Likens k s v t (Freeing f) (settled record f { loose = loose })
+  settled_likens : (t : ℕ) (f : Freer) (loose : List ℕ) → Likens k s v t (Freeing f) (emptied record f { loose = loose })
   settled_likens t f loose = ⊎_elim
-      (λ (q : settled {X = X} (record f { loose = loose }) ≡ Freeing record f { loose = loose }). subst (Likens k s v t (Freeing f)) (sym q) record { counts = λ b. refl; writes = λ b u g. refl; frees = λ b. refl; stands = λ h. h; not_last = λ b e. cc })
-      (λ (q : (settled {X = X} (record f { loose = loose }) ≡ Free) × (f.rest ≡ []) × (loose ≡ []) × (f.is_freeing ≡ false)). subst (Likens k s v t (Freeing f)) (sym q.0) (freed q.3))
+      (λ (q : emptied {X = X} (record f { loose = loose }) ≡ Freeing record f { loose = loose }). subst (Likens k s v t (Freeing f)) (sym q) record { counts = λ b. refl; writes = λ b u g. refl; frees = λ b. refl; stands = λ h. h; not_last = λ b e. cc })
+      (λ (q : (emptied {X = X} (record f { loose = loose }) ≡ Free) × (f.rest ≡ []) × (loose ≡ []) × (f.is_freeing ≡ false)). subst (Likens k s v t (Freeing f)) (sym q.0) (freed q.3))
       (settled_is (record f { loose = loose }))
     where
       freed : f.is_freeing ≡ false → Likens k s v t (Freeing f) Free
@@ -112,7 +111,7 @@ module _ {X : Type 0} (k : Setting X) (s : State X) (i : ℕ) (v : View X) (so :
 
   module _ (t slot : ℕ) where
     abbrev owner_at : ℕ
-    owner_at = 5 * k.anchors + slot
+    owner_at = owner_index k slot
 
     -- To reserve a slot.
     module _ (may : Allowed k s v (Own t slot)) where
@@ -204,7 +203,7 @@ module _ {X : Type 0} (k : Setting X) (s : State X) (i : ℕ) (v : View X) (so :
 
     -- The first slot of a rest leaves it.
     abbrev link_at : ℕ
-    link_at = 5 * k.anchors + k.slots + slot
+    link_at = link_index k slot
 
     abbrev without_link : SlotWords
     without_link = record { owner = w.owner; link = upd w.link slot 0; start = w.start; beside = w.beside; stage = w.stage }

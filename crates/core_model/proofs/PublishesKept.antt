@@ -1,5 +1,5 @@
 -- To publish a slot keeps a state sound.
-use Rattle.std.proofs.Common.{◌≡◌, ◌≢◌, inl, ℕ, ◌+◌, ◌*◌, ◌<◌, ◌≤◌, List, length, get_or, set, sym, refl, ap, ◌∙◌, subst, arith, Some, None, Option, length-set, get_or-set_same, get_or-set_other}
+use Rattle.std.proofs.Common.{◌≡◌, ◌≢◌, inl, ℕ, ◌+◌, ◌<◌, ◌≤◌, List, length, get_or, set, sym, refl, ap, ◌∙◌, subst, arith, Some, None, Option, length-set, get_or-set_same, get_or-set_other}
 use mathlib.Core.Option.{some}
 use mathlib.Core.Logic.{dite}
 use native.Mathlib.Decide.{ℕ_discrete}
@@ -19,14 +19,11 @@ use Rattle.core_model.specs.declared.moves.Move.TheVariants.{Publish}
 use Rattle.core_model.specs.declared.view.Place.TheVariants.{Beside, Link as LinkWord}
 use Rattle.core_model.specs.declared.view.View.{View}
 use Rattle.core_model.specs.declared.chain.Chain.{Chain}
-use Rattle.core_model.specs.Layout.{Setting, index}
+use Rattle.core_model.specs.Layout.{Setting, index, link_index}
 use Rattle.core_model.specs.State.{State, word, chain_of}
 use Rattle.core_model.specs.Chains.{no_chain, times, link_to, rest_of}
 use Rattle.core_model.specs.Trails.{seen_at}
-use Rattle.core_model.specs.Tabs.{tab_at, anchor_of, stage_written}
-use Rattle.core_model.specs.Allowed.{IsPass, Allowed, MayPublish}
-use Rattle.core_model.specs.TabsAfter.{publishes}
-use Rattle.core_model.specs.Records.{item_of, shows}
+use Rattle.core_model.specs.Tabs.{tab_at, anchor_of, stage_written, IsPass}
 use Rattle.core_model.specs.Steps.{finding, view_after, longer, after}
 use Rattle.core_model.specs.Slots.{SlotWords, slot_words, WriterHolds, SlotsHold, SlotsSound}
 use Rattle.core_model.specs.Sound.{AnchorsSound, WordsSound}
@@ -36,9 +33,12 @@ use Rattle.core_model.proofs.Telling.{told_in, link_told, stage_told}
 use Rattle.core_model.proofs.SlotAnchors.{writer_stage, sole_writer}
 use Rattle.core_model.proofs.SlotsPublished.{publish_keeps}
 use Rattle.core_model.proofs.BesideKept.{beside, besides}
-use Rattle.core_model.proofs.BesideKinds.{Likens, tabs_as_before, tab_as_before, side_low, quiet_linked, at_slot}
+use Rattle.core_model.proofs.Places.{beside_inside}
+use Rattle.core_model.proofs.BesideKinds.{Likens, tabs_as_before, tab_as_before, quiet_linked, at_slot}
 use Rattle.core_model.proofs.SightsKept.{Each, IsSo, OfNow, stored_value, sees_so}
 use Rattle.core_model.proofs.OwnsKept.{of_writer, tab_was, held_slot}
+use Rattle.core_model.specs.Table.{Allowed, item_of}
+use Rattle.core_model.specs.SlotMoves.{MayPublish, publishes, shows}
 
 module _ {X : Type 0} (k : Setting X) (s : State X) (i : ℕ) (v : View X) (so : AnchorsSound k s) (sl : SlotsSound k s) (at : get_elem? s.views i ≡ some v) (pass : IsPass v)
     (t slot : ℕ) (link : Link) (x : Writer X) (was : get_elem? v.tabs t ≡ some (Writing x)) (may : MayPublish k s slot link x) where
@@ -91,7 +91,7 @@ module _ {X : Type 0} (k : Setting X) (s : State X) (i : ℕ) (v : View X) (so :
     s' = besides k s i v' (LinkWord slot) (link_number link) chains
 
     side_same : (side : Side) → get_or s'.words (index k (Beside side a)) 0 ≡ get_or s.words (index k (Beside side a)) 0
-    side_same side = get_or-set_other s.words (index k (LinkWord slot)) (index k (Beside side a)) (link_number link) 0 (λ e. let z = side_low k s i v so at pass side a there.0 in omega arith)
+    side_same side = get_or-set_other s.words (index k (LinkWord slot)) (index k (Beside side a)) (link_number link) 0 (λ e. let z = beside_inside k side a there.0 in omega arith)
 
     stored : (side : Side) (o : Option ℕ) → o ≢ None → ((m : ℕ) → o ≡ Some m → w.beside a side ≡ m) → get_or s'.words (index k (Beside side a)) 0 ≡ unwrap_or o 0
     stored side o ne h = stored_value o (get_or s'.words (index k (Beside side a)) 0) ne (λ m e. side_same side ∙ sym (told_in k.anchors a (get_or s.words (index k (Beside side a)) 0) there.0) ∙ h m e)
@@ -123,7 +123,7 @@ module _ {X : Type 0} (k : Setting X) (s : State X) (i : ℕ) (v : View X) (so :
       (shows (Writing x)) (LinkWord slot) (link_number link) chains (omega arith) (let z = inside in omega arith) (length-set s.chains a (longer (chain_of s a) slot link)) longer_now
       (sees_so k s (s' v') v so (shows (Writing x)) (of_now v') (so_now v'))
 
-  publishes_slots : (v' : View X) → v'.tabs ≡ set v.tabs t new → SlotsHold k.anchors (slot_words k (set s.words (5 * k.anchors + k.slots + slot) (link_number link))) chains (set s.views i v')
+  publishes_slots : (v' : View X) → v'.tabs ≡ set v.tabs t new → SlotsHold k.anchors (slot_words k (set s.words (link_index k slot) (link_number link))) chains (set s.views i v')
   publishes_slots v' tabs = subst (λ z. SlotsHold k.anchors z chains (set s.views i v')) (sym (link_told k s.words slot (link_number link) inside so.shaped.words))
       (publish_keeps k.anchors w s.chains s.views i v sl at v' slot link t x was (rest_of x.reserved) may.first link_is chose there.0 so.shaped.chains
       (let e = stage_told k s.words a there.0 in let z = there.2 in omega arith) (let e = stage_told k s.words a there.0 in let z = there.3 in omega arith)
@@ -134,8 +134,8 @@ pub publish_both : {X : Type 0} → (k : Setting X) (s : State X) (i : ℕ) (v :
     → WordsSound k (after k s i v (Publish t slot link))
 publish_both {X} k s i v so sl at pass t slot link may = let q = of_writer (MayPublish k s slot link) (tab_at v t) may.1 in let v' : View X = view_after v (Publish t slot link) (finding k s v (Publish t slot link)) in
     let was = tab_was k s i v so sl at pass t (Writing q.0) (let z = may.0 in omega arith) q.1 in record {
-      anchors = subst (λ (z : Tab X). AnchorsSound k (besides k s i (beside v (set v.tabs t (publishes z slot link)) (shows z) (item_of v (Publish t slot link) (get_or s.words (5 * k.anchors + k.slots + slot) 0)) (LinkWord slot) (link_number link)) (LinkWord slot) (link_number link)
-          (set s.chains (anchor_of z) (longer (chain_of s (anchor_of z)) slot link)))) (sym q.1) (publishes_anchors k s i v so sl at pass t slot link q.0 was q.2 (get_or s.words (5 * k.anchors + k.slots + slot) 0));
-      slots = subst (λ (z : Tab X). SlotsHold k.anchors (slot_words k (set s.words (5 * k.anchors + k.slots + slot) (link_number link))) (set s.chains (anchor_of z) (longer (chain_of s (anchor_of z)) slot link)) (set s.views i v')) (sym q.1)
+      anchors = subst (λ (z : Tab X). AnchorsSound k (besides k s i (beside v (set v.tabs t (publishes z slot link)) (shows z) (item_of v (Publish t slot link) (get_or s.words (link_index k slot) 0)) (LinkWord slot) (link_number link)) (LinkWord slot) (link_number link)
+          (set s.chains (anchor_of z) (longer (chain_of s (anchor_of z)) slot link)))) (sym q.1) (publishes_anchors k s i v so sl at pass t slot link q.0 was q.2 (get_or s.words (link_index k slot) 0));
+      slots = subst (λ (z : Tab X). SlotsHold k.anchors (slot_words k (set s.words (link_index k slot) (link_number link))) (set s.chains (anchor_of z) (longer (chain_of s (anchor_of z)) slot link)) (set s.views i v')) (sym q.1)
           (publishes_slots k s i v so sl at pass t slot link q.0 was q.2 v' (ap (λ (z : Tab X). set v.tabs t (publishes z slot link)) q.1));
     }

@@ -22,11 +22,7 @@ use Rattle.core_model.specs.Layout.{Setting}
 use Rattle.core_model.specs.Chains.{no_chain}
 use Rattle.core_model.specs.State.{State, word, chain_of}
 use Rattle.core_model.specs.Trails.{seen_at}
-use Rattle.core_model.specs.Tabs.{tab_at, inner, anchor_of, is_reading, is_counted, stage_written, OfWriter, OfFreer, counts, writes, frees, count}
-use Rattle.core_model.specs.Allowed.{IsPass, MayRaise, StartsRight, MayEnd, Allowed}
-use Rattle.core_model.specs.TabsAfter.{left_tab, raised_tab}
-use Rattle.core_model.specs.Where.{stage_held}
-use Rattle.core_model.specs.Records.{meets, deed_of}
+use Rattle.core_model.specs.Tabs.{tab_at, inner, anchor_of, is_reading, is_counted, stage_written, OfWriter, OfFreer, counts, writes, frees, count, IsPass, stage_held}
 use Rattle.core_model.specs.Anchors.{written_at, freed_at, TabStands}
 use Rattle.core_model.specs.Steps.{after, halted}
 use Rattle.core_model.specs.Sound.{AnchorsSound}
@@ -37,6 +33,8 @@ use Rattle.core_model.proofs.AnchorTabs.{version_up}
 use Rattle.core_model.proofs.AnchorKept.{at_anchor}
 use Rattle.core_model.proofs.AnchorKinds.{meets_others, no_tab, one_tab}
 use Rattle.core_model.proofs.EntersKept.{IsUncounted, left_is, left_stands, counted_there, has_reader}
+use Rattle.core_model.specs.AnchorMoves.{MayRaise, StartsRight, MayEnd, left_tab, raised_tab, meets, deed_of}
+use Rattle.core_model.specs.Table.{Allowed}
 
 module _ {X : Type 0} (k : Setting X) (s : State X) (i : ℕ) (v : View X) (so : AnchorsSound k s) (at : get_elem? s.views i ≡ some v) (pass : IsPass v) where
   -- a writing tab knows the version and the stage of its anchor

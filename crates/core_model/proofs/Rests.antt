@@ -7,13 +7,13 @@ use Rattle.core_model.specs.declared.tab.Freer.{Freer}
 use Rattle.core_model.specs.declared.tab.Tab.TheVariants.{Writing, Freeing}
 use Rattle.core_model.specs.Layout.{Setting}
 use Rattle.core_model.specs.State.{State, word}
-use Rattle.core_model.specs.Matching.{IsTab}
 use Rattle.core_model.specs.Spots.{IsReplaced}
 use Rattle.core_model.specs.Slots.{writes_at, SlotsSound}
 use Rattle.core_model.specs.Sound.{AnchorsSound}
 use Rattle.core_model.proofs.Lists.{sum_some}
 use Rattle.core_model.proofs.Matching.{one_freer}
 use Rattle.core_model.proofs.SlotAnchors.{writer_is, sole_writer, replaces_at, freer_stage}
+use Rattle.core_model.specs.Holders.{IsTab}
 
 module _ {X : Type 0} (k : Setting X) (s : State X) (so : AnchorsSound k s) (sl : SlotsSound k s) where
   abbrev stage_at : ℕ → ℕ

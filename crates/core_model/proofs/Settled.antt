@@ -11,10 +11,10 @@ use Rattle.core_model.specs.declared.tab.Tab.TheVariants.{Free, Writing, Last, F
 use Rattle.core_model.specs.Layout.{Setting}
 use Rattle.core_model.specs.State.{State, word}
 use Rattle.core_model.specs.Tabs.{counts, count}
-use Rattle.core_model.specs.Holding.{AllFree, IsSettled}
 use Rattle.core_model.specs.Sound.{AnchorsSound}
 use Rattle.core_model.proofs.Lists.{sum_some}
 use Rattle.core_model.proofs.Matching.{has_writer, has_freer}
+use Rattle.core_model.specs.Holders.{AllFree, IsFinished}
 
 module _ {X : Type 0} where
   not_writing : (w : Writer X) → Writing w ≡ Free → ⊥
@@ -54,7 +54,7 @@ module _ {X : Type 0} (k : Setting X) (s : State X) (a : ℕ) (so : AnchorsSound
   not_over : (g ≡ 4) ⊎ (mode_of (epoch_of (word s a)) ≡ 11) → ⊥
   not_over h = let l = so.lasts a lt (left_over_where (word s a) h unread) in not_last a (free l.i l.view l.at l.t (Last a) l.last)
 
-  pub settles : IsSettled (word s a)
+  pub settles : IsFinished (word s a)
   settles = let is = so.shaped.anchors a lt in record {
     readers = unread;
     stage = three_stages g is.stage (λ e. unwritten (inl e)) (λ e. unwritten (inr e)) (λ e. not_over (inl e)) unfreed;

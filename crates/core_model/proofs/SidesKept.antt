@@ -20,11 +20,8 @@ use Rattle.core_model.specs.declared.view.View.{View}
 use Rattle.core_model.specs.declared.chain.Chain.{Chain}
 use Rattle.core_model.specs.Layout.{Setting, index}
 use Rattle.core_model.specs.State.{State, word, chain_of}
-use Rattle.core_model.specs.Chains.{named, start_number}
-use Rattle.core_model.specs.Tabs.{tab_at, is_using, anchor_of, stage_written}
-use Rattle.core_model.specs.Allowed.{IsPass, InnerIsFree, Allowed, MayStore}
-use Rattle.core_model.specs.TabsAfter.{stored, stores, loaded}
-use Rattle.core_model.specs.Records.{item_of, loads}
+use Rattle.core_model.specs.Chains.{start_number, slots_of_link}
+use Rattle.core_model.specs.Tabs.{tab_at, is_using, anchor_of, stage_written, IsPass, InnerIsFree}
 use Rattle.core_model.specs.Steps.{finding, view_after, after}
 use Rattle.core_model.specs.Slots.{SlotWords, slot_words, held_in, resting_in, writes_at, Replaces, ReaderHolds, TabHolds, SlotsHold, SlotsSound}
 use Rattle.core_model.specs.Sound.{AnchorsSound, WordsSound}
@@ -38,6 +35,8 @@ use Rattle.core_model.proofs.BesideKept.{SightsOwe, beside, besides}
 use Rattle.core_model.proofs.BesideKinds.{Likens, tabs_as_before, tab_as_before, sees_nothing, quiet_loaded, quiet_stored, at_side}
 use Rattle.core_model.proofs.SightsKept.{IsSo, sees_so}
 use Rattle.core_model.proofs.OwnsKept.{of_writer, tab_was, none_frees}
+use Rattle.core_model.specs.Table.{Allowed, item_of}
+use Rattle.core_model.specs.SlotMoves.{MayStore, stored, stores, loaded, loads}
 
 module _ {X : Type 0} (k : Setting X) (s : State X) (i : ℕ) (v : View X) (so : AnchorsSound k s) (sl : SlotsSound k s) (at : get_elem? s.views i ≡ some v) (pass : IsPass v) where
   abbrev w : SlotWords
@@ -226,12 +225,12 @@ module _ {X : Type 0} (k : Setting X) (s : State X) (i : ℕ) (v : View X) (so :
           first_is z = rw z (λ q. let y = ap (λ o. unwrap_or o 0) q in omega arith)
 
       at_first : (slot : ℕ) → cond (r.place == 0) (cond (get_or s.words (index k (Beside Start r.anchor)) 0 == 0) None (Some (get_or s.words (index k (Beside Start r.anchor)) 0 - 1))) r.slot ≡ Some slot
-          → get_elem? ((chain_of s r.anchor).slots ++ named (chain_of s r.anchor).end) r.place ≡ some slot
+          → get_elem? ((chain_of s r.anchor).slots ++ slots_of_link (chain_of s r.anchor).end) r.place ≡ some slot
       at_first slot = by_eq
-          (λ z. cond z (cond (get_or s.words (index k (Beside Start r.anchor)) 0 == 0) None (Some (get_or s.words (index k (Beside Start r.anchor)) 0 - 1))) r.slot ≡ Some slot → get_elem? ((chain_of s r.anchor).slots ++ named (chain_of s r.anchor).end) r.place ≡ some slot)
+          (λ z. cond z (cond (get_or s.words (index k (Beside Start r.anchor)) 0 == 0) None (Some (get_or s.words (index k (Beside Start r.anchor)) 0 - 1))) r.slot ≡ Some slot → get_elem? ((chain_of s r.anchor).slots ++ slots_of_link (chain_of s r.anchor).end) r.place ≡ some slot)
           r.place 0
-          (λ e q. subst (λ (z : ℕ). get_elem? ((chain_of s r.anchor).slots ++ named (chain_of s r.anchor).end) z ≡ some slot) (sym e)
-          (first_slot (chain_of s r.anchor).slots (named (chain_of s r.anchor).end) (get_or s.words (index k (Beside Start r.anchor)) 0) slot holds.some_slot start_is q))
+          (λ e q. subst (λ (z : ℕ). get_elem? ((chain_of s r.anchor).slots ++ slots_of_link (chain_of s r.anchor).end) z ≡ some slot) (sym e)
+          (first_slot (chain_of s r.anchor).slots (slots_of_link (chain_of s r.anchor).end) (get_or s.words (index k (Beside Start r.anchor)) 0) slot holds.some_slot start_is q))
           (λ ne q. holds.at slot q)
 
   loads_of : (t : ℕ) (side : Side) (x : Tab X) → get_elem? v.tabs t ≡ some x → is_using x ≡ true → Loads t side x

@@ -15,13 +15,13 @@ use Rattle.core_model.specs.declared.chain.Chain.{Chain}
 use Rattle.core_model.specs.Layout.{Setting}
 use Rattle.core_model.specs.State.{State, word}
 use Rattle.core_model.specs.Tabs.{counts, stage_written, count}
-use Rattle.core_model.specs.Matching.{IsTab}
 use Rattle.core_model.specs.Slots.{slot_words, writes_at, Replaces, SlotsSound}
 use Rattle.core_model.specs.Sound.{AnchorsSound}
 use Rattle.core_model.proofs.Lists.{le_sum_at, by_eq}
 use Rattle.core_model.proofs.Matching.{matches_writer, matches_freer, one_writer}
 use Rattle.core_model.proofs.SlotTabs.{Steady, SameWriters}
 use Rattle.core_model.proofs.Telling.{stage_told}
+use Rattle.core_model.specs.Holders.{IsTab}
 
 -- 1 or 2
 pub written_few : {X : Type 0} (w : Writer X) → (1 ≤ stage_written w) × (stage_written w ≤ 2)

@@ -1,5 +1,5 @@
 -- What the invariant tells of the number that a step on a slot finds.
-use Rattle.std.proofs.Common.{◌≡◌, ◌⊎◌, inl, inr, ⊎_elim, ℕ, ◌+◌, ◌*◌, ◌<◌, List, ◌∷◌, get_or, sym, refl, ap, ◌∙◌, subst, arith, true}
+use Rattle.std.proofs.Common.{◌≡◌, ◌⊎◌, inl, inr, ⊎_elim, ℕ, ◌<◌, List, ◌∷◌, get_or, sym, refl, ap, ◌∙◌, subst, arith, true}
 use mathlib.Core.Option.{some}
 use mathlib.Core.Logic.{dite}
 use native.Mathlib.Decide.{ℕ_discrete}
@@ -13,12 +13,11 @@ use Rattle.core_model.specs.declared.tab.Writer.{Writer}
 use Rattle.core_model.specs.declared.tab.Tab.{Tab}
 use Rattle.core_model.specs.declared.tab.Tab.TheVariants.{Free, Retreating, Reading, Writing, Last, Freeing}
 use Rattle.core_model.specs.declared.view.View.{View}
-use Rattle.core_model.specs.Layout.{Setting}
+use Rattle.core_model.specs.Layout.{Setting, link_index, owner_index}
 use Rattle.core_model.specs.State.{State}
 use Rattle.core_model.specs.Chains.{Spells, times, link_to, rest_of}
-use Rattle.core_model.specs.Tabs.{tab_at, inner, count, OfFreer, OfReader, OfWriter}
-use Rattle.core_model.specs.Allowed.{IsPass, Allowed, IsFront, IsNext, MayLoosen, MayPublish, MayReserve, MayStep}
-use Rattle.core_model.specs.Known.{LinkFound, KnownSlot}
+use Rattle.core_model.specs.Tabs.{tab_at, inner, count, OfFreer, OfReader, OfWriter, IsPass}
+use Rattle.core_model.specs.Told.{LinkFound, SlotTells}
 use Rattle.core_model.specs.Steps.{number_found}
 use Rattle.core_model.specs.Slots.{SlotWords, slot_words, used, held_in, SlotsSound}
 use Rattle.core_model.specs.Sound.{AnchorsSound}
@@ -27,13 +26,15 @@ use Rattle.core_model.proofs.Spelling.{one_same}
 use Rattle.core_model.proofs.Telling.{told_in}
 use Rattle.core_model.proofs.OwnsKept.{of_writer, of_freer, tab_was, held_slot, only_inner, back_held}
 use Rattle.core_model.proofs.FollowsKept.{unlinked, followed}
+use Rattle.core_model.specs.Table.{Allowed, MayStep}
+use Rattle.core_model.specs.SlotMoves.{IsFront, IsNext, MayLoosen, MayPublish, MayReserve}
 
 module _ {X : Type 0} (k : Setting X) (s : State X) (i : ℕ) (v : View X) (so : AnchorsSound k s) (sl : SlotsSound k s) (at : get_elem? s.views i ≡ some v) (pass : IsPass v) (t slot : ℕ) where
   abbrev w : SlotWords
   w = slot_words k s.words
 
   abbrev link_word : ℕ
-  link_word = get_or s.words (5 * k.anchors + k.slots + slot) 0
+  link_word = get_or s.words (link_index k slot) 0
 
   -- the first slot of a rest
   front_link : (p : ℕ) (f : Freer) → get_elem? v.tabs p ≡ some (Freeing f) → IsFront slot f → link_word ≡ link_number (link_to (rest_of f.rest) f.behind)
@@ -93,12 +94,12 @@ module _ {X : Type 0} (k : Setting X) (s : State X) (i : ℕ) (v : View X) (so :
       reserved_some : (x : Writer X) → x.reserved ≡ slot ∷ rest_of x.reserved → 0 < times slot x.reserved
       reserved_some x e = let c = ap (times slot) e in let o = one_same slot in omega arith
 
-  pub disown_finds : Allowed k s v (Disown t slot) → 0 < get_or s.words (5 * k.anchors + slot) 0
+  pub disown_finds : Allowed k s v (Disown t slot) → 0 < get_or s.words (owner_index k slot) 0
   disown_finds may = let was = tab_was k s i v so sl at pass t (tab_at v t) may.0 refl in let h = back_held k s i v so sl at pass t slot may (tab_at v t) may.1 in let lt = held_slot k s i v so sl at pass slot t (tab_at v t) was h in
-      let l = le_sum_at (held_in slot) v.tabs t (tab_at v t) was in let q = le_sum_at (count (held_in slot)) s.views i v at in let o = sl.places.owners slot in let e = told_in k.slots slot (get_or s.words (5 * k.anchors + slot) 0) lt in
-      dite (ℕ_discrete (get_or s.words (5 * k.anchors + slot) 0) 0) (λ z. absurd (let y : used (w.owner slot) ≡ 0 = ap used (e ∙ z) in omega arith)) (λ ne. omega arith)
+      let l = le_sum_at (held_in slot) v.tabs t (tab_at v t) was in let q = le_sum_at (count (held_in slot)) s.views i v at in let o = sl.places.owners slot in let e = told_in k.slots slot (get_or s.words (owner_index k slot) 0) lt in
+      dite (ℕ_discrete (get_or s.words (owner_index k slot) 0) 0) (λ z. absurd (let y : used (w.owner slot) ≡ 0 = ap used (e ∙ z) in omega arith)) (λ ne. omega arith)
 
-pub slot_finds : {X : Type 0} → (k : Setting X) (s : State X) (i : ℕ) (v : View X) (m : Move) → AnchorsSound k s → SlotsSound k s → get_elem? s.views i ≡ some v → MayStep k s v m → KnownSlot s v m (number_found k s v m)
+pub slot_finds : {X : Type 0} → (k : Setting X) (s : State X) (i : ℕ) (v : View X) (m : Move) → AnchorsSound k s → SlotsSound k s → get_elem? s.views i ≡ some v → MayStep k s v m → SlotTells s v m (number_found k s v m)
 slot_finds k s i v (Disown t slot) so sl at may = disown_finds k s i v so sl at may.pass t slot may.allowed
 slot_finds k s i v (Publish t slot link) so sl at may = publish_finds k s i v so sl at may.pass t slot link may.allowed
 slot_finds k s i v (Loosen t slot) so sl at may = loosen_finds k s i v so sl at may.pass t slot may.allowed

@@ -12,7 +12,7 @@ use Rattle.core_model.specs.declared.tab.Tab.{Tab}
 use Rattle.core_model.specs.declared.tab.Tab.TheVariants.{Free, Retreating, Reading, Writing, Last, Freeing}
 use Rattle.core_model.specs.declared.view.View.{View}
 use Rattle.core_model.specs.declared.chain.Chain.{Chain}
-use Rattle.core_model.specs.Chains.{no_chain, named, link_to, link_at}
+use Rattle.core_model.specs.Chains.{no_chain, link_to, link_at, slots_of_link}
 use Rattle.core_model.specs.Tabs.{count}
 use Rattle.core_model.specs.Slots.{SlotWords, writes_at, Replaces, WriterNames, WriterHolds, FreerHolds, ReaderHolds, TabHolds}
 use Rattle.core_model.proofs.Spelling.{upd, upd_other}
@@ -80,8 +80,8 @@ module _ {X : Type 0} where
       ends : d.slots ≡ c.slots → d.end ≡ c.end → link_at d r.place ≡ link_at c r.place
       ends p q = ap (λ (z : List ℕ). link_to (drop (r.place + 1) z) d.end) p ∙ ap (link_to (drop (r.place + 1) c.slots)) q
 
-      wholes : d.slots ≡ c.slots → d.end ≡ c.end → c.slots ++ named c.end ≡ d.slots ++ named d.end
-      wholes p q = sym (ap (λ (z : List ℕ). z ++ named d.end) p ∙ ap (λ z. c.slots ++ named z) q)
+      wholes : d.slots ≡ c.slots → d.end ≡ c.end → c.slots ++ slots_of_link c.end ≡ d.slots ++ slots_of_link d.end
+      wholes p q = sym (ap (λ (z : List ℕ). z ++ slots_of_link d.end) p ∙ ap (λ z. c.slots ++ slots_of_link z) q)
 
   -- The stage of the anchor a changes, and its chain: what a tab of u holds, in u'.
   pub record Steady (cs ds : List Chain) (a : ℕ) (u u' : View X) (tab : Tab X) : Type 0 where

@@ -14,11 +14,9 @@ use Rattle.core_model.specs.declared.tab.Tab.TheVariants.{Free, Retreating, Read
 use Rattle.core_model.specs.declared.moves.Move.TheVariants.{Look, Enter, Leave, Count, Draw, Doom}
 use Rattle.core_model.specs.declared.view.View.{View}
 use Rattle.core_model.specs.declared.chain.Chain.{Chain}
-use Rattle.core_model.specs.Layout.{Setting}
+use Rattle.core_model.specs.Layout.{Setting, anchor_index}
 use Rattle.core_model.specs.State.{State, word, chain_of}
-use Rattle.core_model.specs.Tabs.{tab_at, anchor_of, is_counted}
-use Rattle.core_model.specs.Allowed.{IsPass, Allowed}
-use Rattle.core_model.specs.TabsAfter.{entered, left_tab}
+use Rattle.core_model.specs.Tabs.{tab_at, anchor_of, is_counted, IsPass}
 use Rattle.core_model.specs.Steps.{finding, view_after, after}
 use Rattle.core_model.specs.Slots.{slot_words, TabHolds, SlotsHold, SlotsSound, SlotWords}
 use Rattle.core_model.specs.Sound.{AnchorsSound}
@@ -28,6 +26,8 @@ use Rattle.core_model.proofs.RaisesKept.{reads_counted}
 use Rattle.core_model.proofs.Spelling.{last_is_written, some_fits}
 use Rattle.core_model.proofs.Telling.{anchor_told_same, counter_told, stage_told}
 use Rattle.core_model.proofs.SlotKinds.{OneTab, NoSlots, no_turn, one_turn}
+use Rattle.core_model.specs.Table.{Allowed}
+use Rattle.core_model.specs.AnchorMoves.{entered, left_tab}
 
 module _ {X : Type 0} (k : Setting X) (s : State X) (i : ℕ) (v : View X) (so : AnchorsSound k s) (sl : SlotsSound k s) (at : get_elem? s.views i ≡ some v) (pass : IsPass v) where
   -- where the words tell the same
@@ -35,13 +35,13 @@ module _ {X : Type 0} (k : Setting X) (s : State X) (i : ℕ) (v : View X) (so :
   told_again ws cs vs e h = subst (λ w. SlotsHold k.anchors w cs vs) (sym e) h
 
   -- the word of an anchor keeps its stage, and no tab changes
-  pub no_tab_moves : (a x : ℕ) (v' : View X) → a < k.anchors → stage_of (epoch_of x) ≡ stage_of (epoch_of (word s a)) → v'.tabs ≡ v.tabs → SlotsHold k.anchors (slot_words k (set s.words a x)) s.chains (set s.views i v')
-  no_tab_moves a x v' lt same tabs = told_again (set s.words a x) s.chains (set s.views i v') (anchor_told_same k s.words a x lt so.shaped.words same) (no_turn k.anchors (slot_words k s.words) s.chains s.views i v sl at v' tabs)
+  pub no_tab_moves : (a x : ℕ) (v' : View X) → a < k.anchors → stage_of (epoch_of x) ≡ stage_of (epoch_of (word s a)) → v'.tabs ≡ v.tabs → SlotsHold k.anchors (slot_words k (set s.words (anchor_index a) x)) s.chains (set s.views i v')
+  no_tab_moves a x v' lt same tabs = told_again (set s.words (anchor_index a) x) s.chains (set s.views i v') (anchor_told_same k s.words a x lt so.shaped.words same) (no_turn k.anchors (slot_words k s.words) s.chains s.views i v sl at v' tabs)
 
   -- or one that has no slots
   pub one_tab_moves : (a x : ℕ) (v' : View X) (t : ℕ) (old new : Tab X) → a < k.anchors → stage_of (epoch_of x) ≡ stage_of (epoch_of (word s a)) → OneTab v v' t old new → NoSlots old → NoSlots new → TabHolds (slot_words k s.words) s.chains v' new
-      → SlotsHold k.anchors (slot_words k (set s.words a x)) s.chains (set s.views i v')
-  one_tab_moves a x v' t old new lt same one none none' holds = told_again (set s.words a x) s.chains (set s.views i v') (anchor_told_same k s.words a x lt so.shaped.words same)
+      → SlotsHold k.anchors (slot_words k (set s.words (anchor_index a) x)) s.chains (set s.views i v')
+  one_tab_moves a x v' t old new lt same one none none' holds = told_again (set s.words (anchor_index a) x) s.chains (set s.views i v') (anchor_told_same k s.words a x lt so.shaped.words same)
       (one_turn k.anchors (slot_words k s.words) s.chains s.views i v sl at v' t old new one none none' holds)
 
   pub look_slots : (a : ℕ) → Allowed k s v (Look a) → SlotsSound k (after k s i v (Look a))

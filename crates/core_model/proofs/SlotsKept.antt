@@ -7,7 +7,6 @@ use Rattle.core_model.specs.declared.moves.Move.TheVariants.{Look, Enter, Leave,
 use Rattle.core_model.specs.declared.view.View.{View}
 use Rattle.core_model.specs.Layout.{Setting}
 use Rattle.core_model.specs.State.{State}
-use Rattle.core_model.specs.Allowed.{IsPass, Allowed}
 use Rattle.core_model.specs.Steps.{after}
 use Rattle.core_model.specs.Slots.{SlotsSound}
 use Rattle.core_model.specs.Sound.{AnchorsSound, WordsSound}
@@ -19,6 +18,8 @@ use Rattle.core_model.proofs.FollowsKept.{get_link_both}
 use Rattle.core_model.proofs.PublishesKept.{publish_both}
 use Rattle.core_model.proofs.SidesKept.{load_both, store_both}
 use Rattle.core_model.proofs.Kept.{OnAnchors, keeps}
+use Rattle.core_model.specs.Tabs.{IsPass}
+use Rattle.core_model.specs.Table.{Allowed}
 
 -- a step on an anchor, or on the counter
 both : {X : Type 0} → (k : Setting X) (s : State X) (i : ℕ) (v : View X) (m : Move) → AnchorsSound k s → get_elem? s.views i ≡ some v → IsPass v → OnAnchors m → Allowed k s v m → SlotsSound k (after k s i v m)

@@ -14,7 +14,6 @@ use Rattle.core_model.specs.declared.view.View.{View}
 use Rattle.core_model.specs.declared.chain.Chain.{Chain}
 use Rattle.core_model.specs.Chains.{no_chain, Spells, times, one as alike, rest_of}
 use Rattle.core_model.specs.Tabs.{count}
-use Rattle.core_model.specs.Allowed.{MayReserve, IsFront}
 use Rattle.core_model.specs.Slots.{SlotWords, used, held_in, resting_in, standing_in, ChainStands, FreerHolds, TabHolds, SlotsHold}
 use Rattle.core_model.proofs.Lists.{le_sum_at}
 use Rattle.core_model.proofs.Spelling.{upd, upd_same, upd_other, times_append, one_same, one_other, spells_else}
@@ -22,6 +21,7 @@ use Rattle.core_model.proofs.SlotFrame.{stays, framed, once, in_no_other}
 use Rattle.core_model.proofs.SlotTabs.{SameWriters, same_writers, freer_later}
 use Rattle.core_model.proofs.SlotKinds.{OneTab, recounted, each_tab, same_by_one}
 use Rattle.core_model.proofs.SlotsOwned.{one_more}
+use Rattle.core_model.specs.SlotMoves.{MayReserve, IsFront}
 
 pub standing_few : (j : ℕ) (cs : List Chain) (a : ℕ) → standing_in j (get_or cs a no_chain) ≤ sum_by (standing_in j) cs
 standing_few j [] a = omega arith

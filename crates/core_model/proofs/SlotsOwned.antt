@@ -13,10 +13,8 @@ use Rattle.core_model.specs.declared.tab.Tab.{Tab}
 use Rattle.core_model.specs.declared.tab.Tab.TheVariants.{Free, Retreating, Reading, Writing, Last, Freeing}
 use Rattle.core_model.specs.declared.view.View.{View}
 use Rattle.core_model.specs.declared.chain.Chain.{Chain}
-use Rattle.core_model.specs.Chains.{no_chain, times, one as alike, link_to, rest_of}
+use Rattle.core_model.specs.Chains.{no_chain, times, one as alike, link_to, rest_of, without}
 use Rattle.core_model.specs.Tabs.{anchor_of, count}
-use Rattle.core_model.specs.Allowed.{MayReserve}
-use Rattle.core_model.specs.TabsAfter.{without, settled}
 use Rattle.core_model.specs.Slots.{SlotWords, used, held_in, resting_in, writes_at, FreerHolds, WriterHolds, TabHolds, SlotsHold}
 use Rattle.core_model.proofs.Lists.{le_sum_at, by_eq}
 use Rattle.core_model.proofs.Tabs.{contains_times, times_without_same, times_without_other}
@@ -24,6 +22,7 @@ use Rattle.core_model.proofs.Spelling.{upd, upd_same, upd_other, times_append, o
 use Rattle.core_model.proofs.SlotFrame.{stays, framed, used_few, used_some, once}
 use Rattle.core_model.proofs.SlotTabs.{SameWriters, names_keep, freer_later, tab_later}
 use Rattle.core_model.proofs.SlotKinds.{OneTab, recounted, each_tab, same_by_one}
+use Rattle.core_model.specs.SlotMoves.{MayReserve, emptied}
 
 -- where one slot is reserved at most, the piece for it is the last
 alone : (xs : List ℕ) → length xs < 2 → link_to (rest_of xs) LastLink ≡ LastLink
@@ -33,7 +32,7 @@ alone (a ∷ b ∷ xs) h = absurd (omega arith)
 
 module _ {X : Type 0} where
   -- an inner tab is free where it has no slots left of an anchor that is not at FREEING
-  pub settled_is : (f : Freer) → (settled {X = X} f ≡ Freeing f) ⊎ ((settled {X = X} f ≡ Free) × (f.rest ≡ []) × (f.loose ≡ []) × (f.is_freeing ≡ false))
+  pub settled_is : (f : Freer) → (emptied {X = X} f ≡ Freeing f) ⊎ ((emptied {X = X} f ≡ Free) × (f.rest ≡ []) × (f.loose ≡ []) × (f.is_freeing ≡ false))
   settled_is f = by_eq (λ z. Settled (cond ((z && (length f.loose == 0)) && not f.is_freeing) Free (Freeing f))) (length f.rest) 0
       (λ e. by_eq (λ z. Settled (cond ((true && z) && not f.is_freeing) Free (Freeing f))) (length f.loose) 0 (λ e'. by_bool (nothing f.rest e) (nothing f.loose e') f.is_freeing refl) (λ _. inl refl)) (λ _. inl refl)
     where
@@ -53,20 +52,20 @@ module _ {X : Type 0} where
     pub rests : (j : ℕ) → resting_in j x ≡ resting_in j y
     pub writes : (b : ℕ) → writes_at b x ≡ 0
 
-  pub settled_counts : (f : Freer) → SameCounts (settled f) (Freeing f)
+  pub settled_counts : (f : Freer) → SameCounts (emptied f) (Freeing f)
   settled_counts f = ⊎_elim
-      (λ (q : settled {X = X} f ≡ Freeing f). subst (λ (z : Tab X). SameCounts z (Freeing f)) (sym q) record { held = λ j. refl; rests = λ j. refl; writes = λ b. refl })
-      (λ (q : (settled {X = X} f ≡ Free) × (f.rest ≡ []) × (f.loose ≡ []) × (f.is_freeing ≡ false)). subst (λ (z : Tab X). SameCounts z (Freeing f)) (sym q.0) record {
+      (λ (q : emptied {X = X} f ≡ Freeing f). subst (λ (z : Tab X). SameCounts z (Freeing f)) (sym q) record { held = λ j. refl; rests = λ j. refl; writes = λ b. refl })
+      (λ (q : (emptied {X = X} f ≡ Free) × (f.rest ≡ []) × (f.loose ≡ []) × (f.is_freeing ≡ false)). subst (λ (z : Tab X). SameCounts z (Freeing f)) (sym q.0) record {
         held = λ j. let r = ap (times j) q.1 in let l = ap (times j) q.2 in omega arith;
         rests = λ j. let r = ap (times j) q.1 in omega arith;
         writes = λ b. refl;
       })
       (settled_is f)
 
-  pub settled_no_writer : (f : Freer) (x : Writer X) → settled f ≡ Writing x → ⊥
+  pub settled_no_writer : (f : Freer) (x : Writer X) → emptied f ≡ Writing x → ⊥
   settled_no_writer f x e = ⊎_elim
-      (λ (q : settled {X = X} f ≡ Freeing f). not_freeing (sym q ∙ e))
-      (λ (q : (settled {X = X} f ≡ Free) × (f.rest ≡ []) × (f.loose ≡ []) × (f.is_freeing ≡ false)). not_free (sym q.0 ∙ e))
+      (λ (q : emptied {X = X} f ≡ Freeing f). not_freeing (sym q ∙ e))
+      (λ (q : (emptied {X = X} f ≡ Free) × (f.rest ≡ []) × (f.loose ≡ []) × (f.is_freeing ≡ false)). not_free (sym q.0 ∙ e))
       (settled_is f)
     where
       not_freeing : Freeing f ≡ Writing x → ⊥
@@ -194,26 +193,26 @@ module _ {X : Type 0} where
       fewer_loose = record f { loose = without slot f.loose }
 
       -- a loose slot is given back; the inner tab may then be free
-      pub give_keeps : Contains f.loose slot → OneTab v v' t (Freeing f) (settled fewer_loose) → SlotsHold n w' cs (set vs i v')
+      pub give_keeps : Contains f.loose slot → OneTab v v' t (Freeing f) (emptied fewer_loose) → SlotsHold n w' cs (set vs i v')
       give_keeps there one = let g = given_one t (Freeing f) (times slot f.loose) was (omega arith) (contains_times slot f.loose there) in let c = settled_counts fewer_loose in owner_moves
-          (λ j. let e = recounted v v' t (Freeing f) (settled fewer_loose) one (held_in j) in let h = c.held j in dite (ℕ_discrete j slot)
+          (λ j. let e = recounted v v' t (Freeing f) (emptied fewer_loose) one (held_in j) in let h = c.held j in dite (ℕ_discrete j slot)
           (λ q. subst (λ (z : ℕ). used (upd w.owner slot y z) + count (held_in z) v ≡ used (w.owner z) + count (held_in z) v') (sym q)
-          (let e' = recounted v v' t (Freeing f) (settled fewer_loose) one (held_in slot) in let h' = c.held slot in let u : used (upd w.owner slot y slot) ≡ 0 = ap used (upd_same w.owner slot y ∙ zero_word) in let z = times_without_same slot f.loose in let g0 = g.0 in let g1 = g.1 in omega arith))
+          (let e' = recounted v v' t (Freeing f) (emptied fewer_loose) one (held_in slot) in let h' = c.held slot in let u : used (upd w.owner slot y slot) ≡ 0 = ap used (upd_same w.owner slot y ∙ zero_word) in let z = times_without_same slot f.loose in let g0 = g.0 in let g1 = g.1 in omega arith))
           (λ ne. let z = times_without_other slot j f.loose ne in let u : used (upd w.owner slot y j) ≡ used (w.owner j) = ap used (upd_other w.owner slot y j ne) in omega arith))
-          (λ j. let e = recounted v v' t (Freeing f) (settled fewer_loose) one (resting_in j) in let h = c.rests j in omega arith)
+          (λ j. let e = recounted v v' t (Freeing f) (emptied fewer_loose) one (resting_in j) in let h = c.rests j in omega arith)
           (λ m tab e. ⊎_elim
-          (λ (q : (m ≡ t) × (settled fewer_loose ≡ tab)). subst (TabHolds w cs v') q.1 settled_holds)
+          (λ (q : (m ≡ t) × (emptied fewer_loose ≡ tab)). subst (TabHolds w cs v') q.1 settled_holds)
           (λ (q : (m ≢ t) × (get_elem? v.tabs m ≡ some tab)). tab_later w cs v v' writers tab (so.tabs i v at m tab q.1))
-          (each_tab v v' t (Freeing f) (settled fewer_loose) one m tab e))
+          (each_tab v v' t (Freeing f) (emptied fewer_loose) one m tab e))
         where
           writers : (b : ℕ) → SameWriters v v' b
-          writers b = same_by_one v v' t (Freeing f) (settled fewer_loose) one b refl ((settled_counts fewer_loose).writes b) (λ x h on. settled_no_writer fewer_loose x h)
+          writers b = same_by_one v v' t (Freeing f) (emptied fewer_loose) one b refl ((settled_counts fewer_loose).writes b) (λ x h on. settled_no_writer fewer_loose x h)
 
           still : FreerHolds (w.stage f.anchor) (w.start f.anchor) w.link v' fewer_loose
           still = let h = freer_later (w.stage f.anchor) (w.start f.anchor) w.link v v' f (writers f.anchor) (so.tabs i v at t (Freeing f) was) in record { spelled = h.spelled; starts = h.starts; replaces = h.replaces }
 
-          settled_holds : TabHolds w cs v' (settled fewer_loose)
+          settled_holds : TabHolds w cs v' (emptied fewer_loose)
           settled_holds = ⊎_elim
-              (λ (q : settled fewer_loose ≡ Freeing fewer_loose). subst (TabHolds w cs v') (sym q) still)
-              (λ (q : (settled fewer_loose ≡ Free) × (fewer_loose.rest ≡ []) × (fewer_loose.loose ≡ []) × (fewer_loose.is_freeing ≡ false)). subst (TabHolds w cs v') (sym q.0) tt)
+              (λ (q : emptied fewer_loose ≡ Freeing fewer_loose). subst (TabHolds w cs v') (sym q) still)
+              (λ (q : (emptied fewer_loose ≡ Free) × (fewer_loose.rest ≡ []) × (fewer_loose.loose ≡ []) × (fewer_loose.is_freeing ≡ false)). subst (TabHolds w cs v') (sym q.0) tt)
               (settled_is fewer_loose)

@@ -14,7 +14,7 @@ use Rattle.core_model.specs.declared.tab.Tab.{Tab}
 use Rattle.core_model.specs.declared.tab.Tab.TheVariants.{Free, Retreating, Reading, Writing, Last, Freeing}
 use Rattle.core_model.specs.declared.view.View.{View}
 use Rattle.core_model.specs.declared.chain.Chain.{Chain}
-use Rattle.core_model.specs.Chains.{no_chain, Fits, Tied, times, one as alike, link_to, named, rest_of}
+use Rattle.core_model.specs.Chains.{no_chain, Fits, Tied, times, one as alike, link_to, rest_of, slots_of_link}
 use Rattle.core_model.specs.Tabs.{count}
 use Rattle.core_model.specs.Steps.{longer}
 use Rattle.core_model.specs.Slots.{SlotWords, used, held_in, resting_in, standing_in, ChainStands, WriterHolds, ReaderHolds, TabHolds, SlotsHold}
@@ -47,7 +47,7 @@ module _ {X : Type 0} (n : ℕ) (w : SlotWords) (cs : List Chain) (vs : List (Vi
   ds = set cs a d
 
   abbrev x' : Writer X
-  x' = record x { reserved = rest_of x.reserved; chosen = None; is_written = false; published = x.published ++ slot ∷ []; end = link }
+  x' = record x { reserved = rest_of x.reserved; chosen = None; is_written = false; is_settled = false; published = x.published ++ slot ∷ []; end = link }
 
   holds : WriterHolds (w.beside a) c x
   holds = so.tabs i v at t (Writing x) was
@@ -121,7 +121,7 @@ module _ {X : Type 0} (n : ℕ) (w : SlotWords) (cs : List Chain) (vs : List (Vi
     some_slot = omega arith;
     inside = let z = h.inside in omega arith;
     found = λ ne. let q = h.found ne in ((let z = q.0 in omega arith), q.1 ∙ same_link q.0 next);
-    at = λ s e. at_longer (x.published ++ slot ∷ []) (named link) r.place s (subst (λ (z : Link). get_elem? (x.published ++ named z) r.place ≡ some s) next (h.at s e));
+    at = λ s e. at_longer (x.published ++ slot ∷ []) (slots_of_link link) r.place s (subst (λ (z : Link). get_elem? (x.published ++ slots_of_link z) r.place ≡ some s) next (h.at s e));
   }
     where
       same_link : r.place < length x.published → x.end ≡ Next slot → link_to (drop (r.place + 1) x.published) x.end ≡ link_to (drop (r.place + 1) (x.published ++ slot ∷ [])) link

@@ -14,15 +14,11 @@ use Rattle.core_model.specs.declared.tab.Tab.TheVariants.{Free, Retreating, Read
 use Rattle.core_model.specs.declared.moves.Move.TheVariants.{Raise}
 use Rattle.core_model.specs.declared.view.View.{View}
 use Rattle.core_model.specs.declared.chain.Chain.{Chain}
-use Rattle.core_model.specs.Layout.{Setting}
+use Rattle.core_model.specs.Layout.{Setting, anchor_index}
 use Rattle.core_model.specs.State.{State, word, chain_of}
-use Rattle.core_model.specs.Chains.{no_chain, named, start_number, times}
-use Rattle.core_model.specs.Tabs.{tab_at, inner, anchor_of, stage_written, OfWriter, OfFreer}
-use Rattle.core_model.specs.Allowed.{IsPass, Allowed, MayRaise, StartsRight, MayEnd}
-use Rattle.core_model.specs.TabsAfter.{left_tab, raised_tab}
-use Rattle.core_model.specs.Where.{stage_held}
+use Rattle.core_model.specs.Chains.{no_chain, start_number, times, slots_of_link}
+use Rattle.core_model.specs.Tabs.{tab_at, inner, anchor_of, stage_written, OfWriter, OfFreer, IsPass, stage_held}
 use Rattle.core_model.specs.Steps.{finding, view_after, halted, after}
-use Rattle.core_model.specs.Matching.{IsTab}
 use Rattle.core_model.specs.Slots.{SlotWords, slot_words, held_in, resting_in, published_in, standing_in, writes_at, ChainStands, WriterHolds, TabHolds, SlotsHold, SlotsSound, Replaces}
 use Rattle.core_model.specs.Sound.{AnchorsSound}
 use Rattle.core_model.proofs.Lists.{sum_some}
@@ -35,6 +31,9 @@ use Rattle.core_model.proofs.SlotKinds.{OneTab, recounted, each_tab, same_by_one
 use Rattle.core_model.proofs.SlotAnchors.{writer_is, writer_stage, sole_writer, replaces_at, freer_stage, written_few}
 use Rattle.core_model.proofs.SlotsEntered.{left_none, left_holds}
 use Rattle.core_model.proofs.Telling.{told_in, anchor_told, stage_told}
+use Rattle.core_model.specs.Table.{Allowed}
+use Rattle.core_model.specs.AnchorMoves.{MayRaise, StartsRight, MayEnd, left_tab, raised_tab}
+use Rattle.core_model.specs.Holders.{IsTab}
 use Rattle.std.proofs.lemmas.Bool.{false≢true}
 
 module _ {X : Type 0} (k : Setting X) (s : State X) (i : ℕ) (v : View X) (so : AnchorsSound k s) (sl : SlotsSound k s) (at : get_elem? s.views i ≡ some v) (pass : IsPass v) where
@@ -46,7 +45,7 @@ module _ {X : Type 0} (k : Setting X) (s : State X) (i : ℕ) (v : View X) (so :
 
   -- the words after a raise tell the new stage
   pub raised_told : (a by g : ℕ) (cs : List Chain) (vs : List (View X)) → a < k.anchors → stage_of (epoch_of (word s a)) + by < 7 → stage_of (epoch_of (word s a)) + by ≡ g
-      → SlotsHold k.anchors (at_stage a g) cs vs → SlotsHold k.anchors (slot_words k (set s.words a (raised (word s a) by))) cs vs
+      → SlotsHold k.anchors (at_stage a g) cs vs → SlotsHold k.anchors (slot_words k (set s.words (anchor_index a) (raised (word s a) by))) cs vs
   raised_told a by g cs vs lt room is h = subst (λ z. SlotsHold k.anchors z cs vs) (sym (anchor_told k s.words a (raised (word s a) by) g lt so.shaped.words (stage_of-raised (word s a) by room ∙ is))) h
 
   -- A tab that writes raises the stage.
@@ -136,7 +135,7 @@ module _ {X : Type 0} (k : Setting X) (s : State X) (i : ℕ) (v : View X) (so :
 
     -- to CLOSED, and to HALTED with or without a tail
     module _ (g : ℕ) (cs' : List Chain) (d : Chain) (put : Puts s.chains cs' a (chain_of s a) d) (v' : View X) (new : Tab X) (one : OneTab v v' t (Writing x) new) (none : NoSlots new) (new_holds : TabHolds (at_stage a g) cs' v' new)
-        (all_linked : x.reserved ≡ named x.end) (here : ChainStands g (w.start a) w.link d) (slots_are : d.slots ≡ x.published) (end_is : d.end ≡ x.end) (tail_counts : (j : ℕ) → times j (named x.end) ≡ times j d.tail) where
+        (all_linked : x.reserved ≡ slots_of_link x.end) (here : ChainStands g (w.start a) w.link d) (slots_are : d.slots ≡ x.published) (end_is : d.end ≡ x.end) (tail_counts : (j : ℕ) → times j (slots_of_link x.end) ≡ times j d.tail) where
       same_here : SameSlots (chain_of s a) (get_or cs' a no_chain)
       same_here = record { slots = ap Chain.slots put.same ∙ slots_are ∙ sym (ap Chain.slots holds.chain); end = ap Chain.end put.same ∙ end_is ∙ sym (ap Chain.end holds.chain) }
 
@@ -158,7 +157,7 @@ module _ {X : Type 0} (k : Setting X) (s : State X) (i : ℕ) (v : View X) (so :
     written_by g low high = let q = there.1 in let f = (written_few x).1 in (omega arith, omega arith)
 
     abbrev words_at : ℕ → List ℕ
-    words_at g = set s.words a (raised (word s a) (g - stage_written x))
+    words_at g = set s.words (anchor_index a) (raised (word s a) (g - stage_written x))
 
     pub to_appending : (v' : View X) → OneTab v v' t (Writing x) (Writing appending) → x.end ≢ NotWritten → SlotsHold k.anchors (slot_words k (words_at 2)) s.chains (set s.views i v')
     to_appending v' one begun = let q = written_by 2 (omega arith) (omega arith) in raised_told a (2 - stage_written x) 2 s.chains (set s.views i v') there.0 q.0 q.1 (appends v' one begun)
@@ -168,7 +167,7 @@ module _ {X : Type 0} (k : Setting X) (s : State X) (i : ℕ) (v : View X) (so :
         raised_told a (3 - stage_written x) 3 s.chains (set s.views i v') there.0 q.0 q.1
         (finishes 3 s.chains (chain_of s a) (stays s.chains a) v' new one (left_none k s i v so sl at pass a b) (left_holds k s i v so sl at pass (at_stage a 3) s.chains v' a b)
         (tied_all x.end x.published x.reserved holds.tied ends) closed_here (ap Chain.slots holds.chain) (ap Chain.end holds.chain)
-        (λ j. ap (λ z. times j (named z)) ends ∙ sym (ap (λ (c : Chain). times j c.tail) holds.chain)))
+        (λ j. ap (λ z. times j (slots_of_link z)) ends ∙ sym (ap (λ (c : Chain). times j c.tail) holds.chain)))
       where
         closed_here : ChainStands 3 (w.start a) w.link (chain_of s a)
         closed_here = subst (ChainStands 3 (w.start a) w.link) (sym holds.chain) record {
@@ -182,14 +181,14 @@ module _ {X : Type 0} (k : Setting X) (s : State X) (i : ℕ) (v : View X) (so :
           gone = λ h. absurd (⊎_elim (λ (e : 3 ≡ 0). omega arith) (λ (e : 5 ≤ 3). omega arith) h);
         }
 
-    pub to_halted : (v' : View X) → OneTab v v' t (Writing x) (left_tab a (raised (word s a) (4 - stage_written x))) → x.end ≢ LastLink → x.reserved ≡ named x.end
+    pub to_halted : (v' : View X) → OneTab v v' t (Writing x) (left_tab a (raised (word s a) (4 - stage_written x))) → x.end ≢ LastLink → x.reserved ≡ slots_of_link x.end
         → SlotsHold k.anchors (slot_words k (words_at 4)) (set s.chains a (halted (chain_of s a))) (set s.views i v')
     to_halted v' one open_end linked = let q = written_by 4 (omega arith) (omega arith) in let new : Tab X = left_tab a (raised (word s a) (4 - stage_written x)) in let b : Bool = is_left_over (raised (word s a) (4 - stage_written x)) in
         let d : Chain = halted (chain_of s a) in let cs' : List Chain = set s.chains a d in
         raised_told a (4 - stage_written x) 4 cs' (set s.views i v') there.0 q.0 q.1
         (finishes 4 cs' d (puts s.chains a (chain_of s a) d small refl) v' new one (left_none k s i v so sl at pass a b) (left_holds k s i v so sl at pass (at_stage a 4) cs' v' a b)
         linked halted_here (ap Chain.slots holds.chain) (ap Chain.end holds.chain)
-        (λ j. sym (ap (λ (c : Chain). times j (named c.end)) holds.chain)))
+        (λ j. sym (ap (λ (c : Chain). times j (slots_of_link c.end)) holds.chain)))
       where
         halted_here : ChainStands 4 (w.start a) w.link (halted (chain_of s a))
         halted_here = subst (λ (c : Chain). ChainStands 4 (w.start a) w.link (halted c)) (sym holds.chain) record {
@@ -234,7 +233,7 @@ module _ {X : Type 0} (k : Setting X) (s : State X) (i : ℕ) (v : View X) (so :
         same_tab : (i ≡ j) × (t ≡ p) → (j ≡ i) × (p ≡ t)
         same_tab h = (sym h.0, sym h.1)
 
-    pub to_gone : (v' : View X) → OneTab v v' t (Freeing f) (left_tab b (raised (word s b) 1)) → SlotsHold k.anchors (slot_words k (set s.words b (raised (word s b) 1))) s.chains (set s.views i v')
+    pub to_gone : (v' : View X) → OneTab v v' t (Freeing f) (left_tab b (raised (word s b) 1)) → SlotsHold k.anchors (slot_words k (set s.words (anchor_index b) (raised (word s b) 1))) s.chains (set s.views i v')
     to_gone v' one = let q = five in let new : Tab X = left_tab b (raised (word s b) 1) in let over : Bool = is_left_over (raised (word s b) 1) in let none = left_none k s i v so sl at pass b over in
         raised_told b 1 6 s.chains (set s.views i v') inside (omega arith) (omega arith)
         (restage k.anchors w s.chains s.views i v sl at v' s.chains b 6 (chain_of s b) (chain_of s b) (stays s.chains b)
@@ -260,7 +259,7 @@ module _ {X : Type 0} (k : Setting X) (s : State X) (i : ℕ) (v : View X) (so :
 
   -- what a raise of a tab leaves of the words, and of the tabs
   abbrev words_by : Stage → Tab X → List ℕ
-  words_by to x = set s.words (anchor_of x) (raised (word s (anchor_of x)) (stage_number to - stage_held x))
+  words_by to x = set s.words (anchor_index (anchor_of x)) (raised (word s (anchor_of x)) (stage_number to - stage_held x))
 
   abbrev tab_by : Stage → Tab X → Tab X
   tab_by to x = raised_tab x to (raised (word s (anchor_of x)) (stage_number to - stage_held x))

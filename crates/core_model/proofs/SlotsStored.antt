@@ -13,13 +13,12 @@ use Rattle.core_model.specs.declared.view.View.{View}
 use Rattle.core_model.specs.declared.chain.Chain.{Chain}
 use Rattle.core_model.specs.Layout.{Setting}
 use Rattle.core_model.specs.Chains.{no_chain, times}
-use Rattle.core_model.specs.Allowed.{MayStore}
-use Rattle.core_model.specs.TabsAfter.{stored}
 use Rattle.core_model.specs.Slots.{SlotWords, held_in, resting_in, ChainStands, FreerHolds, WriterNames, WriterHolds, TabHolds, SlotsHold}
 use Rattle.core_model.proofs.SlotFrame.{stays, framed}
 use Rattle.core_model.proofs.SlotTabs.{SameWriters, same_writers, freer_later}
 use Rattle.core_model.proofs.SlotKinds.{OneTab, recounted, each_tab}
 use Rattle.core_model.proofs.SlotsOwned.{same_by_writer}
+use Rattle.core_model.specs.SlotMoves.{MayStore, stored}
 use Rattle.std.specs.Prelude.{unwrap_or}
 
 -- a number that is the one put in, or was there

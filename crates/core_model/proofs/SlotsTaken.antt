@@ -5,7 +5,7 @@ use mathlib.Core.Option.{some}
 use mathlib.Core.Logic.{dite}
 use native.Mathlib.Decide.{ℕ_discrete}
 use lib.ListN.{get_elem?}
-use Rattle.lock_word.specs.Words.{readers_of, epoch_of, stage_of, word_at, is_vacant, is_idle, is_left_over}
+use Rattle.lock_word.specs.Words.{readers_of, epoch_of, stage_of, word_at, is_vacant, is_idle, is_left_over, evicted}
 use Rattle.lock_word.proofs.Taking.{epoch_of-word_at, stage_of-epoch_at}
 use Rattle.lock_word.proofs.Raising.{stage_of-raised}
 use Rattle.lock_word.proofs.Testing.{stage_of-vacant, mode_of-idle}
@@ -15,14 +15,11 @@ use Rattle.core_model.specs.declared.tab.Tab.TheVariants.{Free, Writing, Last, F
 use Rattle.core_model.specs.declared.moves.Move.TheVariants.{Take, Evict}
 use Rattle.core_model.specs.declared.view.View.{View}
 use Rattle.core_model.specs.declared.chain.Chain.{Chain}
-use Rattle.core_model.specs.Layout.{Setting}
+use Rattle.core_model.specs.Layout.{Setting, anchor_index}
 use Rattle.core_model.specs.State.{State, word, chain_of}
-use Rattle.core_model.specs.Chains.{no_chain, Spells, named, start_number, times, behind_of}
+use Rattle.core_model.specs.Chains.{no_chain, Spells, start_number, times, behind_of, slots_of_link}
 use Rattle.core_model.specs.Trails.{last_find}
-use Rattle.core_model.specs.Tabs.{tab_at, inner, is_free, count, anchor_of}
-use Rattle.core_model.specs.Allowed.{IsPass, Allowed, MayTake, MayEvict, InnerIsFree}
-use Rattle.core_model.specs.TabsAfter.{writer_of, freer_of}
-use Rattle.core_model.specs.Where.{evicted}
+use Rattle.core_model.specs.Tabs.{tab_at, inner, is_free, count, anchor_of, IsPass, InnerIsFree}
 use Rattle.core_model.specs.Steps.{finding, view_after, after}
 use Rattle.core_model.specs.Slots.{SlotWords, slot_words, held_in, resting_in, published_in, standing_in, writes_at, ChainStands, Replaces, FreerHolds, TabHolds, SlotsHold, SlotsSound}
 use Rattle.core_model.specs.Sound.{AnchorsSound}
@@ -37,6 +34,8 @@ use Rattle.core_model.proofs.SlotKinds.{OneTab, recounted, each_tab, same_by_one
 use Rattle.core_model.proofs.SlotAnchors.{writer_is, alone_at}
 use Rattle.core_model.proofs.SlotsEntered.{no_tab_moves, one_tab_moves}
 use Rattle.core_model.proofs.Telling.{anchor_told, stage_told}
+use Rattle.core_model.specs.Table.{Allowed}
+use Rattle.core_model.specs.AnchorMoves.{MayTake, MayEvict, writer_of, freer_of}
 
 -- a stage at which an anchor has no chain, and one at which no tab writes or frees
 abbrev Chainless : ℕ → Type 0
@@ -108,18 +107,18 @@ module _ {X : Type 0} (k : Setting X) (s : State X) (i : ℕ) (v : View X) (so :
         (mine t tab e))
         (λ j u ne ut t tab is. alone_at k s so sl a unread off chains u j u ut (λ b _. same_writers u b) t tab is)
 
-    told_now : (x : ℕ) (cs : List Chain) (vs : List (View X)) → stage_of (epoch_of x) ≡ g → SlotsHold k.anchors (at_stage g) cs vs → SlotsHold k.anchors (slot_words k (set s.words a x)) cs vs
+    told_now : (x : ℕ) (cs : List Chain) (vs : List (View X)) → stage_of (epoch_of x) ≡ g → SlotsHold k.anchors (at_stage g) cs vs → SlotsHold k.anchors (slot_words k (set s.words (anchor_index a) x)) cs vs
     told_now x cs vs is h = subst (λ z. SlotsHold k.anchors z cs vs) (sym (anchor_told k s.words a x g lt so.shaped.words is)) h
 
   -- An entry that is closed or halted.
   module _ (ended : (g₀ ≡ 3) ⊎ (g₀ ≡ 4)) where
-    tail_is : c.tail ≡ named c.end
-    tail_is = ⊎_elim (λ (e : g₀ ≡ 3). stands.tails ∙ rw e (sym (ap named (stands.closed e)))) (λ (e : g₀ ≡ 4). stands.tails ∙ rw e refl) ended
+    tail_is : c.tail ≡ slots_of_link c.end
+    tail_is = ⊎_elim (λ (e : g₀ ≡ 3). stands.tails ∙ rw e (sym (ap slots_of_link (stands.closed e)))) (λ (e : g₀ ≡ 4). stands.tails ∙ rw e refl) ended
 
     rest_spelled : Spells w.link (c.slots ++ c.tail) (behind_of c.end)
     rest_spelled = subst (λ (z : List ℕ). Spells w.link (c.slots ++ z) (behind_of c.end)) (sym tail_is)
         (spells_all w.link c.slots c.end stands.fits
-        (λ t e. tail_unwritten k.anchors w s.chains s.views sl t a small (let q : times t c.tail ≡ times t (t ∷ []) = ap (times t) (tail_is ∙ ap named e) in let o = one_same t in omega arith)) stands.spelled)
+        (λ t e. tail_unwritten k.anchors w s.chains s.views sl t a small (let q : times t c.tail ≡ times t (t ∷ []) = ap (times t) (tail_is ∙ ap slots_of_link e) in let o = one_same t in omega arith)) stands.spelled)
 
     rest_starts : w.start a ≡ start_number (c.slots ++ c.tail)
     rest_starts = stands.starts (⊎_elim (λ (e : g₀ ≡ 3). omega arith) (λ (e : g₀ ≡ 4). omega arith) ended) (⊎_elim (λ (e : g₀ ≡ 3). omega arith) (λ (e : g₀ ≡ 4). omega arith) ended)
@@ -154,7 +153,7 @@ module _ {X : Type 0} (k : Setting X) (s : State X) (i : ℕ) (v : View X) (so :
     at_a : (x : Writer X) → writing ≡ Writing x → a ≡ x.anchor
     at_a x e = ap anchor_of e
 
-    vacant_take : is_vacant n ≡ true → (v' : View X) → OneTab v v' t Free writing → SlotsHold k.anchors (slot_words k (set s.words a (word_at u 1))) chains (set s.views i v')
+    vacant_take : is_vacant n ≡ true → (v' : View X) → OneTab v v' t Free writing → SlotsHold k.anchors (slot_words k (set s.words (anchor_index a) (word_at u 1))) chains (set s.views i v')
     vacant_take vacant v' one = let f = fit_vacant n vacant in let st = stage_of-vacant n vacant in let off : Unused g₀ = ((λ e. omega arith), (λ e. omega arith), (λ e. omega arith)) in
         let none : c ≡ no_chain = stands.gone (⊎_elim (λ (e : g₀ ≡ 0). inl e) (λ (e : g₀ ≡ 6). inr (omega arith)) st) in
         told_now f.unread off 1 one_off v' (word_at u 1) chains (set s.views i v') taken_stage
@@ -165,7 +164,7 @@ module _ {X : Type 0} (k : Setting X) (s : State X) (i : ℕ) (v : View X) (so :
         (λ b ne. same_by_one v v' t Free writing one b refl (writes_none {X = X} b (writer_of a u) (λ z. ne (sym z))) (λ x h on. ne (sym on ∙ sym (at_a x h)))))
 
     -- of an idle entry, whose chain goes to the inner tab
-    idle_take : is_idle n ≡ true → tab_at v inner ≡ Free → (v' : View X) → v'.tabs ≡ set (set v.tabs inner freeing) t writing → SlotsHold k.anchors (slot_words k (set s.words a (word_at u 1))) chains (set s.views i v')
+    idle_take : is_idle n ≡ true → tab_at v inner ≡ Free → (v' : View X) → v'.tabs ≡ set (set v.tabs inner freeing) t writing → SlotsHold k.anchors (slot_words k (set s.words (anchor_index a) (word_at u 1))) chains (set s.views i v')
     idle_take idle inner_free v' tabs = let f = fit_idle n idle in let m = mode_of-idle n idle in let three : g₀ ≡ 3 = omega arith in let off : Unused g₀ = ((λ e. omega arith), (λ e. omega arith), (λ e. omega arith)) in
         told_now f.unread off 1 one_off v' (word_at u 1) chains (set s.views i v') taken_stage
         (gives f.unread off 1 one_off v'
@@ -223,7 +222,7 @@ module _ {X : Type 0} (k : Setting X) (s : State X) (i : ℕ) (v : View X) (so :
             is_new x e = (sym (ap reserved_of e), sym (ap published_of e))
 
     takes : (hit idle : Bool) → hit ≡ (n == last_find a v.trail) → idle ≡ is_idle n → (v' : View X) → v'.tabs ≡ cond hit (set (cond idle (set v.tabs inner freeing) v.tabs) t writing) v.tabs
-        → SlotsHold k.anchors (slot_words k (set s.words a (cond hit (word_at u 1) n))) (cond hit chains s.chains) (set s.views i v')
+        → SlotsHold k.anchors (slot_words k (set s.words (anchor_index a) (cond hit (word_at u 1) n))) (cond hit chains s.chains) (set s.views i v')
     takes false idle e q v' tabs = no_tab_moves k s i v so sl at pass a n v' lt refl tabs
     takes true false e q v' tabs = let same : n ≡ last_find a v.trail = eqb-true _ _ (sym e) in ⊎_elim
         (λ (h : is_vacant (last_find a v.trail) ≡ true). vacant_take (subst (λ (z : ℕ). is_vacant z ≡ true) (sym same) h) v' record { was = free_here; becomes = tabs })
@@ -276,7 +275,7 @@ module _ {X : Type 0} (k : Setting X) (s : State X) (i : ℕ) (v : View X) (so :
     evicted_stage : (g₀ ≡ 3) ⊎ (g₀ ≡ 4) → stage_of (epoch_of (evicted n)) ≡ 5
     evicted_stage st = stage_of-raised n (5 - g₀) (omega arith) ∙ omega arith
 
-    evicts_won : IsRipe n → (v' : View X) → v'.tabs ≡ set (set v.tabs t Free) inner evicting → SlotsHold k.anchors (slot_words k (set s.words a (evicted n))) chains (set s.views i v')
+    evicts_won : IsRipe n → (v' : View X) → v'.tabs ≡ set (set v.tabs t Free) inner evicting → SlotsHold k.anchors (slot_words k (set s.words (anchor_index a) (evicted n))) chains (set s.views i v')
     evicts_won r v' tabs = let st = ripe_stage n r in let off : Unused g₀ = ((λ e. omega arith), (λ e. omega arith), (λ e. omega arith)) in let second = then v' tabs in let x = counts_none old old_none in
         told_now r.unread off 5 five_off v' (evicted n) chains (set s.views i v') (evicted_stage st)
         (gives r.unread off 5 five_off v'
@@ -294,7 +293,7 @@ module _ {X : Type 0} (k : Setting X) (s : State X) (i : ℕ) (v : View X) (so :
         then v' tabs = record { was = inner_then; becomes = tabs }
 
     evicts : (hit : Bool) → hit ≡ (n == last_find a v.trail) → (v' : View X) → v'.tabs ≡ cond hit (set (set v.tabs t Free) inner evicting) (set v.tabs t Free)
-        → SlotsHold k.anchors (slot_words k (set s.words a (cond hit (evicted n) n))) (cond hit chains s.chains) (set s.views i v')
+        → SlotsHold k.anchors (slot_words k (set s.words (anchor_index a) (cond hit (evicted n) n))) (cond hit chains s.chains) (set s.views i v')
     evicts false e v' tabs = one_tab_moves k s i v so sl at pass a n v' t old Free lt refl record { was = was; becomes = tabs } old_none tt tt
     evicts true e v' tabs = evicts_won (ripe (eqb-true _ _ (sym e))) v' tabs
 

@@ -7,8 +7,7 @@ use lib.ListN.{get_elem?}
 use Rattle.link_word.specs.declared.link.Link.{Link}
 use Rattle.link_word.specs.declared.link.Link.TheVariants.{NotWritten, Last, Next}
 use Rattle.link_word.specs.Words.{link_number}
-use Rattle.core_model.specs.Chains.{link_to, Spells, named, start_number, one, times, behind_of, Fits, Tied}
-use Rattle.core_model.specs.TabsAfter.{without}
+use Rattle.core_model.specs.Chains.{link_to, Spells, start_number, one, times, behind_of, Fits, Tied, slots_of_link, without}
 use Rattle.core_model.proofs.Lists.{by_eq}
 
 -- one value of a function is set
@@ -58,13 +57,13 @@ spells_more f (x ∷ []) j e h is = (h.0, (is, tt))
 spells_more f (x ∷ y ∷ ys) j e h is = (h.0, spells_more f (y ∷ ys) j e h.1 is)
 
 -- a chain with its tail, which is not written
-pub spells_all : (f : ℕ → ℕ) (xs : List ℕ) (e : Link) → Fits xs e → ((t : ℕ) → e ≡ Next t → f t ≡ 0) → Spells f xs e → Spells f (xs ++ named e) (behind_of e)
+pub spells_all : (f : ℕ → ℕ) (xs : List ℕ) (e : Link) → Fits xs e → ((t : ℕ) → e ≡ Next t → f t ≡ 0) → Spells f xs e → Spells f (xs ++ slots_of_link e) (behind_of e)
 spells_all f [] NotWritten h none s = tt
 spells_all f (x ∷ xs) NotWritten h none s = absurd h
 spells_all f xs Last h none s = subst (λ (z : List ℕ). Spells f z Last) (sym (append_none xs)) s
 spells_all f xs (Next t) h none s = spells_more f xs t NotWritten s (none t refl)
 
-pub start_all : (xs : List ℕ) (e : Link) → Fits xs e → start_number (xs ++ named e) ≡ start_number xs
+pub start_all : (xs : List ℕ) (e : Link) → Fits xs e → start_number (xs ++ slots_of_link e) ≡ start_number xs
 start_all [] NotWritten h = refl
 start_all [] Last h = refl
 start_all [] (Next t) h = absurd h
@@ -94,7 +93,7 @@ tied_more (Next t) xs [] p ne h = absurd (no_items (sym h))
 tied_more (Next t) xs (y ∷ ys) p ne h = ap (λ z. z ∷ (ys ++ p ∷ [])) (firsts h)
 
 -- what is reserved where all of it is linked
-pub tied_all : (e : Link) (xs ys : List ℕ) → Tied e xs ys → e ≡ Last → ys ≡ named e
+pub tied_all : (e : Link) (xs ys : List ℕ) → Tied e xs ys → e ≡ Last → ys ≡ slots_of_link e
 tied_all NotWritten xs ys h e = absurd (last_is_written (sym e))
 tied_all Last xs ys h e = h
 tied_all (Next t) xs ys h e = absurd (next_is_not_last t e)

@@ -7,8 +7,7 @@ use lib.ListN.{get_elem?}
 use Rattle.core_model.specs.declared.tab.Tab.{Tab}
 use Rattle.core_model.specs.declared.tab.Tab.TheVariants.{Free, Retreating, Reading, Writing, Last, Freeing}
 use Rattle.core_model.specs.declared.view.View.{View}
-use Rattle.core_model.specs.Chains.{one, times}
-use Rattle.core_model.specs.TabsAfter.{without}
+use Rattle.core_model.specs.Chains.{one, times, without}
 use Rattle.core_model.specs.Tabs.{tab_at, counts, writes, frees, count}
 use Rattle.core_model.proofs.Lists.{by_eq, at_index, sum_at, sum_mono, sum_ones, set_else}
 

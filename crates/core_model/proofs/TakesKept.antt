@@ -15,13 +15,10 @@ use Rattle.core_model.specs.declared.view.Deed.{Deed}
 use Rattle.core_model.specs.declared.view.View.{View}
 use Rattle.core_model.specs.declared.chain.Chain.{Chain}
 use Rattle.core_model.specs.Layout.{Setting}
-use Rattle.core_model.specs.Chains.{no_chain, times}
+use Rattle.core_model.specs.Chains.{no_chain, times, without}
 use Rattle.core_model.specs.State.{State, word, chain_of}
 use Rattle.core_model.specs.Trails.{last_find, seen_at}
-use Rattle.core_model.specs.Tabs.{tab_at, inner, is_free, counts, writes, frees, count}
-use Rattle.core_model.specs.Allowed.{IsPass, MayTake, Allowed}
-use Rattle.core_model.specs.TabsAfter.{writer_of, freer_of, without}
-use Rattle.core_model.specs.Records.{meets, item_of, deed_of}
+use Rattle.core_model.specs.Tabs.{tab_at, inner, is_free, counts, writes, frees, count, IsPass}
 use Rattle.core_model.specs.Anchors.{written_at, freed_at, TabStands}
 use Rattle.core_model.specs.Steps.{after}
 use Rattle.core_model.specs.Sound.{AnchorsSound}
@@ -30,6 +27,8 @@ use Rattle.core_model.proofs.Tabs.{Turns, changes, tab_there, in_without, times_
 use Rattle.core_model.proofs.AnchorStep.{stepped, moved}
 use Rattle.core_model.proofs.AnchorKept.{at_anchor}
 use Rattle.core_model.proofs.AnchorKinds.{meets_others, sees_now, TabsOwe, no_tab, one_tab, two_tabs, same_epoch}
+use Rattle.core_model.specs.AnchorMoves.{MayTake, writer_of, freer_of, meets, deed_of}
+use Rattle.core_model.specs.Table.{Allowed, item_of}
 
 -- a word that may be taken
 pub record IsFit (n : ℕ) : Type 0 where

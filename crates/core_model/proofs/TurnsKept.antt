@@ -1,6 +1,6 @@
 -- To try for a turn and to end one keeps what is sound of the words: the tab holds what it held, and the word of a turn tells nothing
 -- of anchors and chains.
-use Rattle.std.proofs.Common.{◌≡◌, ◌≢◌, ◌⊎◌, inl, inr, ⊎_elim, ℕ, zero, suc, ◌+◌, ◌*◌, ◌<◌, List, [], ◌∷◌, ◌++◌, drop, length, get_or, set, sym, refl, ap, ◌∙◌, subst, arith, sum_by, Option, Some, None, Bool, true, false, cond, ◌==◌, length-set}
+use Rattle.std.proofs.Common.{◌≡◌, ◌≢◌, ◌⊎◌, inl, inr, ⊎_elim, ℕ, zero, suc, ◌+◌, ◌<◌, List, [], ◌∷◌, ◌++◌, drop, length, get_or, set, sym, refl, ap, ◌∙◌, subst, arith, sum_by, Option, Some, None, Bool, true, false, cond, ◌==◌, length-set}
 use Rattle.std.specs.Prelude.{unwrap_or}
 use mathlib.Core.Option.{some}
 use lib.ListN.{get_elem?}
@@ -19,19 +19,17 @@ use Rattle.core_model.specs.declared.tab.Writer.{Writer}
 use Rattle.core_model.specs.declared.tab.Tab.{Tab}
 use Rattle.core_model.specs.declared.tab.Tab.TheVariants.{Free, Retreating, Reading, Writing, Last, Freeing}
 use Rattle.core_model.specs.declared.view.Item.{Item}
+use Rattle.core_model.specs.declared.moves.Side.TheVariants.{Start}
 use Rattle.core_model.specs.declared.view.Place.TheVariants.{Beside, Turn}
 use Rattle.core_model.specs.declared.view.Trace.{Trace}
 use Rattle.core_model.specs.declared.view.Deed.{Deed}
 use Rattle.core_model.specs.declared.view.View.{View}
 use Rattle.core_model.specs.declared.chain.Chain.{Chain}
-use Rattle.core_model.specs.Layout.{Setting, index}
+use Rattle.core_model.specs.Layout.{Setting, index, anchor_index, link_index, turn_index, owner_index}
 use Rattle.core_model.specs.State.{State, chain_of}
-use Rattle.core_model.specs.Chains.{named, link_to, rest_of, times}
-use Rattle.core_model.specs.Tabs.{tab_at, turn_of, OfReader, OfWriter, counts, writes, frees, count}
-use Rattle.core_model.specs.Allowed.{IsPass, Allowed, MayRead, MayWrite, Holds}
-use Rattle.core_model.specs.TabsAfter.{next_slot, piece_of, held, tries, was_written, ends}
-use Rattle.core_model.specs.Records.{item_of}
-use Rattle.core_model.specs.Steps.{cell_held, after}
+use Rattle.core_model.specs.Chains.{link_to, rest_of, times, slots_of_link}
+use Rattle.core_model.specs.Tabs.{tab_at, turn_of, OfReader, OfWriter, counts, writes, frees, count, IsPass}
+use Rattle.core_model.specs.Steps.{after}
 use Rattle.core_model.specs.Anchors.{tabs_in, Shaped, TabStands, opening_epoch}
 use Rattle.core_model.specs.Versions.{SeenStands, draws_by, vain_by, drawn_by, VersionsDrawn, IsKnownAt, VersionsHeld}
 use Rattle.core_model.specs.Deeds.{OneMirror, IsEpochAt, IsDone, EnteredBy, EnteredByAnother, LeftEpoch, DoomedVersion, HaltedVersion, EvictedVersion, DeedsExplain}
@@ -47,6 +45,8 @@ use Rattle.core_model.proofs.BesideKept.{beside}
 use Rattle.core_model.proofs.BesideKinds.{IsQuiet, quiet_tried, quiet_ended, Likens, tabs_as_before, tab_as_before, sees_nothing, at_slot}
 use Rattle.core_model.proofs.OwnsKept.{tab_was, held_slot}
 use Rattle.core_model.proofs.FollowsKept.{followed}
+use Rattle.core_model.specs.Table.{Allowed, item_of}
+use Rattle.core_model.specs.CellMoves.{MayRead, MayWrite, Holds, next_slot, piece_of, turn_with, tries, was_written, was_settled, ends, cell_held}
 
 -- The anchors do not look at cells, and at mirrors in one place alone.
 
@@ -164,21 +164,21 @@ module _ {X : Type 0} (k : Setting X) (ws : List ℕ) (ps ps' : List (Option (Ce
 
 -- The word of a turn is set: what the words tell of slots and anchors stays.
 
-pub turn_told : {X : Type 0} (k : Setting X) (ws : List ℕ) (j x : ℕ) → j < k.slots → slot_words k (set ws (5 * k.anchors + 2 * k.slots + j) x) ≡ slot_words k ws
+pub turn_told : {X : Type 0} (k : Setting X) (ws : List ℕ) (j x : ℕ) → j < k.slots → slot_words k (set ws (turn_index k j) x) ≡ slot_words k ws
 turn_told k ws j x lt = λ t. record {
-  owner = λ b. told_else k.slots (λ j. 5 * k.anchors + j) ws (5 * k.anchors + 2 * k.slots + j) x (λ j h e. omega arith) b t;
-  link = λ b. told_else k.slots (λ j. 5 * k.anchors + k.slots + j) ws (5 * k.anchors + 2 * k.slots + j) x (λ j h e. omega arith) b t;
-  start = λ b. told_else k.anchors (λ j. 4 * k.anchors + j) ws (5 * k.anchors + 2 * k.slots + j) x (λ j h e. omega arith) b t;
-  stage = λ b. stage_of (epoch_of (told_else k.anchors (λ j. j) ws (5 * k.anchors + 2 * k.slots + j) x (λ j h e. omega arith) b t));
-  beside = λ b side. told_else k.anchors (λ j. index k (Beside side j)) ws (5 * k.anchors + 2 * k.slots + j) x (λ c h e. let q = side_in k ws side c h in let z = q.1 in omega arith) b t;
+  owner = λ b. told_else k.slots (λ j. owner_index k j) ws (turn_index k j) x (λ j h e. omega arith) b t;
+  link = λ b. told_else k.slots (λ j. link_index k j) ws (turn_index k j) x (λ j h e. omega arith) b t;
+  start = λ b. told_else k.anchors (λ j. index k (Beside Start j)) ws (turn_index k j) x (λ j h e. omega arith) b t;
+  stage = λ b. stage_of (epoch_of (told_else k.anchors (λ j. anchor_index j) ws (turn_index k j) x (λ j h e. omega arith) b t));
+  beside = λ b side. told_else k.anchors (λ j. index k (Beside side j)) ws (turn_index k j) x (λ c h e. let q = side_in k ws side c h in let z = q.1 in omega arith) b t;
 }
 
 -- What a reading tab knows of the slot that it goes on to.
 
 -- the link of the slot at a place names what stands behind it
-pub after_next : (xs : List ℕ) (e : Link) (p slot : ℕ) → p < length xs → link_to (drop (suc p) xs) e ≡ Next slot → get_elem? (xs ++ named e) (suc p) ≡ some slot
+pub after_next : (xs : List ℕ) (e : Link) (p slot : ℕ) → p < length xs → link_to (drop (suc p) xs) e ≡ Next slot → get_elem? (xs ++ slots_of_link e) (suc p) ≡ some slot
 after_next [] e p slot lt h = absurd (omega arith)
-after_next (x ∷ []) e zero slot lt h = ap (λ z. get_elem? (named z) 0) h
+after_next (x ∷ []) e zero slot lt h = ap (λ z. get_elem? (slots_of_link z) 0) h
 after_next (x ∷ y ∷ ys) e zero slot lt h = next_is h
   where
     next_is : Next y ≡ Next slot → some y ≡ some slot
@@ -197,7 +197,7 @@ module _ {X : Type 0} where
     some_slot = h.some_slot;
     inside = let z = q.0 in omega arith;
     found = λ ne. absurd (ne refl);
-    at = λ slot e. let z : suc r.place ≡ r.place + 1 = omega arith in subst (λ (p : ℕ). get_elem? (c.slots ++ named c.end) p ≡ some slot) z
+    at = λ slot e. let z : suc r.place ≡ r.place + 1 = omega arith in subst (λ (p : ℕ). get_elem? (c.slots ++ slots_of_link c.end) p ≡ some slot) z
         (after_next c.slots c.end r.place slot q.0 (ap (λ (p : ℕ). link_to (drop p c.slots) c.end) z ∙ sym q.1 ∙ next_of r.found slot e));
   }
 
@@ -205,19 +205,20 @@ module _ {X : Type 0} where
   pub reader_holds : (c : Chain) (r : Reader X) (turn : TurnOf X) → ReaderHolds c r → ReaderHolds c (record r { turn = turn })
   reader_holds c r turn h = record { some_slot = h.some_slot; inside = h.inside; found = h.found; at = h.at }
 
-  pub writer_holds : (names : Side → ℕ) (c : Chain) (x : Writer X) (is_written : Bool) (turn : TurnOf X) → WriterHolds names c x → WriterHolds names c (record x { is_written = is_written; turn = turn })
-  writer_holds names c x is_written turn h = record {
+  pub writer_holds : (names : Side → ℕ) (c : Chain) (x : Writer X) (is_written is_settled : Bool) (turn : TurnOf X) → WriterHolds names c x
+      → WriterHolds names c (record x { is_written = is_written; is_settled = is_settled; turn = turn })
+  writer_holds names c x is_written is_settled turn h = record {
     few = h.few;
     tied = h.tied;
     chain = h.chain;
     chosen = h.chosen;
-    names_are = names_keep names x (record x { is_written = is_written; turn = turn }) refl refl refl refl (λ z. z) h.names_are;
+    names_are = names_keep names x (record x { is_written = is_written; is_settled = is_settled; turn = turn }) refl refl refl refl (λ z. z) h.names_are;
   }
 
   -- it chooses the piece for its first reserved slot, where it has not yet
-  chooses : (names : Side → ℕ) (c : Chain) (x : Writer X) (slot : ℕ) (is_written : Bool) (turn : TurnOf X) → MayWrite slot x → WriterHolds names c x
-      → WriterHolds names c (record x { chosen = Some (unwrap_or x.chosen (piece_of x)); is_written = is_written; turn = turn })
-  chooses names c x slot is_written turn may h = record {
+  chooses : (names : Side → ℕ) (c : Chain) (x : Writer X) (slot : ℕ) (is_written is_settled : Bool) (turn : TurnOf X) → MayWrite slot x → WriterHolds names c x
+      → WriterHolds names c (record x { chosen = Some (unwrap_or x.chosen (piece_of x)); is_written = is_written; is_settled = is_settled; turn = turn })
+  chooses names c x slot is_written is_settled turn may h = record {
     few = h.few;
     tied = h.tied;
     chain = h.chain;
@@ -262,14 +263,15 @@ module _ {X : Type 0} (k : Setting X) (s : State X) (i : ℕ) (v : View X) (soun
     holds = λ v'. h;
   }
 
-  pub turned_writer : (x : Writer X) (chosen : Option Piece) (is_written : Bool) (turn : TurnOf X) → slot < k.slots → WriterHolds (w.beside x.anchor) (chain_of s x.anchor) (record x { chosen = chosen; is_written = is_written; turn = turn })
-      → Turned (Writing x) (Writing record x { chosen = chosen; is_written = is_written; turn = turn })
-  turned_writer x chosen is_written turn lt h = record {
+  pub turned_writer : (x : Writer X) (chosen : Option Piece) (is_written is_settled : Bool) (turn : TurnOf X) → slot < k.slots
+      → WriterHolds (w.beside x.anchor) (chain_of s x.anchor) (record x { chosen = chosen; is_written = is_written; is_settled = is_settled; turn = turn })
+      → Turned (Writing x) (Writing record x { chosen = chosen; is_written = is_written; is_settled = is_settled; turn = turn })
+  turned_writer x chosen is_written is_settled turn lt h = record {
     inside = lt;
     likens = record { counts = λ b. refl; writes = λ b u g. refl; frees = λ b. refl; stands = λ h. h; not_last = λ b e. cc };
     held = λ j. refl;
     rests = λ j. refl;
-    writers = λ v' one b. same_by_writer v v' t x (record x { chosen = chosen; is_written = is_written; turn = turn }) one refl (λ z. z) b;
+    writers = λ v' one b. same_by_writer v v' t x (record x { chosen = chosen; is_written = is_written; is_settled = is_settled; turn = turn }) one refl (λ z. z) b;
     holds = λ v'. h;
   }
 
@@ -293,27 +295,27 @@ module _ {X : Type 0} (k : Setting X) (s : State X) (i : ℕ) (v : View X) (soun
 
     -- the word of the turn becomes n, and cells go to and fro
     pub turn_both : (item : Item) → IsQuiet item.kind → (n : ℕ) (places : List (Option (Cell X))) → length places ≡ k.slots
-        → WordsSound k (of_parts (set s.words (5 * k.anchors + 2 * k.slots + slot) n) places (set s.views i (beside v (set v.tabs t new) [] item (Turn slot) n)) s.chains)
+        → WordsSound k (of_parts (set s.words (turn_index k slot) n) places (set s.views i (beside v (set v.tabs t new) [] item (Turn slot) n)) s.chains)
     turn_both item q n places many = let v' : View X = beside v (set v.tabs t new) [] item (Turn slot) n in let lt = l.inside in
         let a = at_slot k s i v so at pass item q (set v.tabs t new) (tab_as_before k s i v so at pass v.tabs (tabs_as_before k s i v so at pass) t x new was l.likens) [] (Turn slot) n s.chains (omega arith) (omega arith) refl (λ b. omega arith)
         (sees_nothing k s i v so at pass _) in record {
-          anchors = anchors_alike k (set s.words (5 * k.anchors + 2 * k.slots + slot) n) s.places places (set s.views i v') (set s.views i v') s.chains a many (alike_same (set s.views i v')) a.mirror;
+          anchors = anchors_alike k (set s.words (turn_index k slot) n) s.places places (set s.views i v') (set s.views i v') s.chains a many (alike_same (set s.views i v')) a.mirror;
           slots = subst (λ z. SlotsHold k.anchors z s.chains (set s.views i v')) (sym (turn_told k s.words slot n lt)) (slots_turned v' refl);
         }
 
   abbrev turn_found : ℕ
-  turn_found = get_or s.words (5 * k.anchors + 2 * k.slots + slot) 0
+  turn_found = get_or s.words (turn_index k slot) 0
 
   -- To try for it.
   tried : (x : Tab X) → get_elem? v.tabs t ≡ some x → OfReader (MayRead s slot) x ⊎ OfWriter (MayWrite slot) x → (n : ℕ) (cell : Option (Cell X)) → Turned x (tries x slot n cell)
-  tried (Reading r) was (inl h) n cell = let turn : TurnOf X = cond (n == 0) (held slot cell) r.turn in
+  tried (Reading r) was (inl h) n cell = let turn : TurnOf X = cond (n == 0) (turn_with slot cell) r.turn in
       turned_reader r r.place r.slot r.found turn (followed k s i v so sl at pass t slot r was h.0).inside (reader_holds (chain_of s r.anchor) r turn (sl.tabs i v at t (Reading r) was))
   tried (Reading r) was (inr h) n cell = absurd h
   tried (Writing x) was (inl h) n cell = absurd h
-  tried (Writing x) was (inr h) n cell = let turn : TurnOf X = cond (n == 0) (held slot cell) x.turn in
-      turned_writer x (Some (unwrap_or x.chosen (piece_of x))) (cond (n == 0) false x.is_written) turn
+  tried (Writing x) was (inr h) n cell = let turn : TurnOf X = cond (n == 0) (turn_with slot cell) x.turn in
+      turned_writer x (Some (unwrap_or x.chosen (piece_of x))) (cond (n == 0) false x.is_written) (cond (n == 0) false x.is_settled) turn
       (held_slot k s i v so sl at pass slot t (Writing x) was (let c : times slot x.reserved ≡ times slot (slot ∷ rest_of x.reserved) = ap (times slot) h.first in let o = one_same slot in omega arith))
-      (chooses (w.beside x.anchor) (chain_of s x.anchor) x slot (cond (n == 0) false x.is_written) turn h (sl.tabs i v at t (Writing x) was))
+      (chooses (w.beside x.anchor) (chain_of s x.anchor) x slot (cond (n == 0) false x.is_written) (cond (n == 0) false x.is_settled) turn h (sl.tabs i v at t (Writing x) was))
   tried Free was h n cell = absurd (⊎_elim (λ (z : ⊥). z) (λ (z : ⊥). z) h)
   tried (Retreating b) was h n cell = absurd (⊎_elim (λ (z : ⊥). z) (λ (z : ⊥). z) h)
   tried (Last b) was h n cell = absurd (⊎_elim (λ (z : ⊥). z) (λ (z : ⊥). z) h)
@@ -331,7 +333,7 @@ module _ {X : Type 0} (k : Setting X) (s : State X) (i : ℕ) (v : View X) (soun
   ended : (x : Tab X) → get_elem? v.tabs t ≡ some x → TurnFits k s x → Holds slot false x → (goes_on : Bool) → Turned x (ends x goes_on)
   ended (Reading r) was fits h true = turned_reader r (r.place + 1) (next_slot r.found) NotWritten NoTurn (held_inside (Reading r) fits h.0 h.1 h.2) (goes_on_holds (chain_of s r.anchor) r NoTurn (fits h.0 h.1).2 (sl.tabs i v at t (Reading r) was))
   ended (Reading r) was fits h false = turned_reader r r.place r.slot r.found NoTurn (held_inside (Reading r) fits h.0 h.1 h.2) (reader_holds (chain_of s r.anchor) r NoTurn (sl.tabs i v at t (Reading r) was))
-  ended (Writing x) was fits h goes_on = turned_writer x x.chosen (was_written x.turn) NoTurn (held_inside (Writing x) fits h.0 h.1 h.2) (writer_holds (w.beside x.anchor) (chain_of s x.anchor) x (was_written x.turn) NoTurn (sl.tabs i v at t (Writing x) was))
+  ended (Writing x) was fits h goes_on = turned_writer x x.chosen (was_written x.turn) (was_settled x.turn) NoTurn (held_inside (Writing x) fits h.0 h.1 h.2) (writer_holds (w.beside x.anchor) (chain_of s x.anchor) x (was_written x.turn) (was_settled x.turn) NoTurn (sl.tabs i v at t (Writing x) was))
   ended Free was fits h goes_on = absurd (not_held h.0 h.1)
   ended (Retreating b) was fits h goes_on = absurd (not_held h.0 h.1)
   ended (Last b) was fits h goes_on = absurd (not_held h.0 h.1)

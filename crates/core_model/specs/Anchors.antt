@@ -1,33 +1,34 @@
 -- What holds between any two steps of the anchors, and of the tabs at them.
-use Rattle.std.specs.Prelude.{◌≡◌, ◌⊎◌, ℕ, ◌*◌, ◌<◌, ◌≤◌, [], length, slice_index, true, cond, ◌==◌, ◌&&◌, sum_by}
+use Rattle.std.specs.Prelude.{◌&&◌, ◌*◌, ◌<◌, ◌==◌, ◌≡◌, ◌≤◌, ◌⊎◌, [], cond, length, sum_by, true, ℕ}
 use mathlib.Core.Option.{some}
 use lib.ListN.{get_elem?}
-use Rattle.lock_word.specs.Words.{readers_of, epoch_of, version_of, mode_of, stage_of, doom_of, IsWord, is_written, is_left_over, version_limit}
+use Rattle.lock_word.specs.Words.{IsWord, doom_of, epoch_of, is_left_over, is_written, mode_of, readers_of, stage_of, version_limit, version_of}
 use Rattle.core_model.specs.declared.tab.Tab.{Tab}
-use Rattle.core_model.specs.declared.tab.Tab.TheVariants.{Free, Retreating, Reading, Writing, Last, Freeing}
+use Rattle.core_model.specs.declared.tab.Tab.TheVariants.{Free, Freeing, Last, Reading, Retreating, Writing}
 use Rattle.core_model.specs.declared.view.View.{View}
-use Rattle.core_model.specs.Layout.{Setting, turns_end, word_count}
+use Rattle.core_model.specs.declared.view.Place.TheVariants.{Anchor, Counter}
+use Rattle.core_model.specs.Layout.{Setting, word_count, word_in}
 use Rattle.core_model.specs.State.{State, word}
-use Rattle.core_model.specs.Steps.{note_of}
-use Rattle.core_model.specs.Trails.{seen_at, last_find}
-use Rattle.core_model.specs.Tabs.{inner, counts, writes, frees, count}
+use Rattle.core_model.specs.Trails.{last_find, seen_at}
+use Rattle.core_model.specs.Tabs.{count, counts, frees, inner, writes}
+use Rattle.core_model.specs.CellMoves.{note_of}
 
 abbrev pub opening_epoch : {X : Type 0} → Setting X → ℕ → ℕ
-opening_epoch k a = epoch_of (slice_index k.words a)
+opening_epoch k a = epoch_of (word_in k k.words (Anchor a))
 
 abbrev pub opening_counter : {X : Type 0} → Setting X → ℕ
-opening_counter k = slice_index k.words (turns_end k)
+opening_counter k = word_in k k.words Counter
 
 -- A store opens with each anchor EMPTY or CLOSED, undoomed and without readers, and with a counter that no version is above.
 pub record IsSetting {X : Type 0} (k : Setting X) : Type 0 where
-  pub few : k.passes ≤ 32
-  pub words : length k.words ≡ word_count k
-  pub limited : opening_counter k ≤ version_limit
-  pub unread : (a : ℕ) → a < k.anchors → readers_of (slice_index k.words a) ≡ 0
-  pub mode : (a : ℕ) → a < k.anchors → mode_of (opening_epoch k a) < 16
-  pub undoomed : (a : ℕ) → a < k.anchors → doom_of (opening_epoch k a) ≡ 0
-  pub stage : (a : ℕ) → a < k.anchors → (stage_of (opening_epoch k a) ≡ 0) ⊎ (stage_of (opening_epoch k a) ≡ 3)
-  pub version : (a : ℕ) → a < k.anchors → version_of (opening_epoch k a) ≤ opening_counter k
+  pub few : k.passes ≤ 32  -- as many workers as there may be
+  pub words : length k.words ≡ word_count k  -- one word for each place
+  pub limited : opening_counter k ≤ version_limit  -- versions can still be drawn, or the last was
+  pub unread : (a : ℕ) → a < k.anchors → readers_of (word_in k k.words (Anchor a)) ≡ 0  -- nobody is counted
+  pub mode : (a : ℕ) → a < k.anchors → mode_of (opening_epoch k a) < 16  -- no reserved bit is set
+  pub undoomed : (a : ℕ) → a < k.anchors → doom_of (opening_epoch k a) ≡ 0  -- no entry is to be freed
+  pub stage : (a : ℕ) → a < k.anchors → (stage_of (opening_epoch k a) ≡ 0) ⊎ (stage_of (opening_epoch k a) ≡ 3)  -- EMPTY or CLOSED
+  pub version : (a : ℕ) → a < k.anchors → version_of (opening_epoch k a) ≤ opening_counter k  -- each version was drawn before
 
 abbrev pub tabs_in : {X : Type 0} → View X → ℕ
 tabs_in v = length v.tabs
@@ -35,12 +36,12 @@ tabs_in v = length v.tabs
 -- The state has the shape of the table: nine tabs for each pass, no view of a note has more than what was seen, and each
 -- anchor's word is a word.
 pub record Shaped {X : Type 0} (k : Setting X) (s : State X) : Type 0 where
-  pub words : length s.words ≡ word_count k
-  pub places : length s.places ≡ k.slots
-  pub chains : length s.chains ≡ k.anchors
-  pub tabs : sum_by tabs_in s.views ≡ 9 * k.passes
-  pub notes : (i : ℕ) (v : View X) → get_elem? s.views i ≡ some v → v.tabs ≡ [] → v ≡ note_of v
-  pub anchors : (a : ℕ) → a < k.anchors → IsWord (word s a)
+  pub words : length s.words ≡ word_count k  -- one word for each place
+  pub places : length s.places ≡ k.slots  -- a place for each slot
+  pub chains : length s.chains ≡ k.anchors  -- a chain for each anchor
+  pub tabs : sum_by tabs_in s.views ≡ 9 * k.passes  -- nine for each pass
+  pub notes : (i : ℕ) (v : View X) → get_elem? s.views i ≡ some v → v.tabs ≡ [] → v ≡ note_of v  -- a view without tabs has sights alone
+  pub anchors : (a : ℕ) → a < k.anchors → IsWord (word s a)  -- no bits are set that no word has
 
 -- The readers of an anchor are the tabs that read or retreat there.
 abbrev pub ReadersCounted : {X : Type 0} → Setting X → State X → Type 0

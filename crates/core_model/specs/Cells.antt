@@ -1,35 +1,28 @@
 -- What holds between any two steps of cells and their turns, of published contents, and of the names of entries.
-use Rattle.std.specs.Prelude.{◌≡◌, ◌≢◌, ◌⊎◌, ℕ, ◌<◌, ◌≤◌, ◌∷◌, length, slice_index, slice_index_or, Some, None, Contains, true, false, cond, ◌==◌, sum_by}
+use Rattle.std.specs.Prelude.{◌<◌, ◌==◌, ◌∷◌, ◌≡◌, ◌≢◌, ◌≤◌, ◌⊎◌, Contains, None, Some, [], cond, false, length, slice_index_or, sum_by, true, ℕ}
 use mathlib.Core.Option.{some}
 use lib.ListN.{get_elem?}
-use Rattle.lock_word.specs.Words.{epoch_of, version_of, stage_of, version_limit}
+use Rattle.lock_word.specs.Words.{epoch_of, stage_of, version_limit, version_of}
 use Rattle.link_word.specs.declared.link.Link.TheVariants.{NotWritten}
 use Rattle.core_model.specs.declared.moves.Side.{Side}
 use Rattle.core_model.specs.declared.moves.Side.TheVariants.{Offer, Start}
 use Rattle.core_model.specs.declared.tab.Cell.{Cell}
-use Rattle.core_model.specs.declared.tab.Piece.{Piece}
 use Rattle.core_model.specs.declared.tab.Hold.{Hold}
-use Rattle.core_model.specs.declared.tab.Turn.{Turn as TurnOf}
-use Rattle.core_model.specs.declared.tab.Turn.TheVariants.{NoTurn, Has}
-use Rattle.core_model.specs.declared.tab.Writer.{Writer}
+use Rattle.core_model.specs.declared.tab.Piece.{Piece}
 use Rattle.core_model.specs.declared.tab.Tab.{Tab}
 use Rattle.core_model.specs.declared.tab.Tab.TheVariants.{Reading, Writing}
+use Rattle.core_model.specs.declared.tab.Turn.{Turn as TurnOf}
+use Rattle.core_model.specs.declared.tab.Turn.TheVariants.{Has, NoTurn}
+use Rattle.core_model.specs.declared.tab.Writer.{Writer}
+use Rattle.core_model.specs.declared.view.Place.TheVariants.{Beside}
 use Rattle.core_model.specs.declared.view.Sight.TheVariants.{Named}
-use Rattle.core_model.specs.declared.view.Place.TheVariants.{Beside, Turn}
 use Rattle.core_model.specs.declared.view.View.{View}
-use Rattle.core_model.specs.Layout.{Setting, index}
-use Rattle.core_model.specs.Chains.{rest_of, link_at}
-use Rattle.core_model.specs.State.{State, word, chain_of}
-use Rattle.core_model.specs.Tabs.{turn_of, count}
-use Rattle.core_model.specs.TabsAfter.{first_of}
-use Rattle.core_model.specs.Allowed.{IsNext}
+use Rattle.core_model.specs.Layout.{Setting, word_in}
+use Rattle.core_model.specs.Chains.{first_of, link_at, rest_of}
+use Rattle.core_model.specs.State.{State, chain_of, side_word, turn_word, word}
+use Rattle.core_model.specs.Tabs.{count, turn_of}
+use Rattle.core_model.specs.SlotMoves.{IsNext}
 use Rattle.core_model.specs.Anchors.{opening_counter}
-
-abbrev pub side_word : {X : Type 0} → Setting X → State X → Side → ℕ → ℕ
-side_word k s side a = slice_index s.words (index k (Beside side a))
-
-abbrev pub turn_word : {X : Type 0} → Setting X → State X → ℕ → ℕ
-turn_word k s slot = slice_index s.words (index k (Turn slot))
 
 -- 1 where the tab holds the turn at this slot
 abbrev pub turn_at : {X : Type 0} → ℕ → TurnOf X → ℕ
@@ -41,10 +34,10 @@ holds_at slot tab = turn_at slot (turn_of tab)
 
 -- A turn that is taken is held by one tab, which has the cell; where it is free the cell is home.
 pub record OneHolder {X : Type 0} (k : Setting X) (s : State X) : Type 0 where
-  pub turns : (slot : ℕ) → slot < k.slots → turn_word k s slot ≡ sum_by (count (holds_at slot)) s.views
-  pub few : (slot : ℕ) → slot < k.slots → turn_word k s slot ≤ 1
-  pub home : (slot : ℕ) → slot < k.slots → turn_word k s slot ≡ 0 → (c : Cell X) × (slice_index_or s.places slot None ≡ Some c)
-  pub away : (slot : ℕ) → slot < k.slots → turn_word k s slot ≡ 1 → slice_index_or s.places slot None ≡ None
+  pub turns : (slot : ℕ) → slot < k.slots → turn_word k s slot ≡ sum_by (count (holds_at slot)) s.views  -- who holds it is counted in the word
+  pub few : (slot : ℕ) → slot < k.slots → turn_word k s slot ≤ 1  -- one at most
+  pub home : (slot : ℕ) → slot < k.slots → turn_word k s slot ≡ 0 → (c : Cell X) × (slice_index_or s.places slot None ≡ Some c)  -- a cell whose turn is free is in its place
+  pub away : (slot : ℕ) → slot < k.slots → turn_word k s slot ≡ 1 → slice_index_or s.places slot None ≡ None  -- one whose turn is taken is not
 
 -- A writing tab holds the turn of its first reserved slot, a reading one that of the slot at its place, whose link it found
 -- written. So a cell is never out at a writer while a tab reads its slot.
@@ -86,22 +79,26 @@ pub record ContentsStand {X : Type 0} (k : Setting X) (s : State X) : Type 0 whe
   pub published : (a place slot : ℕ) (c : Cell X) → a < k.anchors → get_elem? (chain_of s a).slots place ≡ some slot → IsCell s slot c → IsContent k s a place slot c.now
   pub possible : (slot : ℕ) (c : Cell X) → IsCell s slot c → Contains c.possible c.now
 
--- The first reserved slot of a writing tab, whose cell is home and has the image of this piece.
+-- The first reserved slot of a writing tab, whose cell is home and has the image of this piece, and has it alone where the tab knows
+-- that it was synced.
 pub record IsHome {X : Type 0} (k : Setting X) (s : State X) (w : Writer X) (p : Piece) : Type 0 where
   pub slot : ℕ
   pub first : w.reserved ≡ slot ∷ rest_of w.reserved
   pub cell : Cell X
   pub home : slice_index_or s.places slot None ≡ Some cell
   pub written : cell.now ≡ k.image p
+  pub settled : w.is_settled ≡ true → cell.possible ≡ cell.now ∷ []
 
 -- A writing tab has a new version within the limit, and the offer that it stored is no slot's number. Until it gives a slot back, the piece that it
--- chose is for its first reserved slot, and is in that slot's cell once it is written.
+-- chose is for its first reserved slot, and is in that slot's cell once it is written. A cell that it holds and synced has one possible
+-- content.
 pub record WriterPiece {X : Type 0} (k : Setting X) (s : State X) (w : Writer X) : Type 0 where
-  pub drawn : opening_counter k < w.version
-  pub fits : w.version ≤ version_limit
-  pub offer : (x : ℕ) → w.offer ≡ Some x → k.slots ≤ x
-  pub home : (p : Piece) → w.is_ending ≡ false → w.is_written ≡ true → w.chosen ≡ Some p → IsHome k s w p
-  pub held : (p : Piece) (h : Hold X) → w.turn ≡ Has h → h.is_written ≡ true → w.chosen ≡ Some p → h.cell.now ≡ k.image p
+  pub drawn : opening_counter k < w.version  -- its version is new
+  pub fits : w.version ≤ version_limit  -- and fits a header
+  pub offer : (x : ℕ) → w.offer ≡ Some x → k.slots ≤ x  -- an offer is no slot
+  pub home : (p : Piece) → w.is_ending ≡ false → w.is_written ≡ true → w.chosen ≡ Some p → IsHome k s w p  -- a piece that was written is in its cell
+  pub held : (p : Piece) (h : Hold X) → w.turn ≡ Has h → h.is_written ≡ true → w.chosen ≡ Some p → h.cell.now ≡ k.image p  -- in the tab's hands too
+  pub synced : (h : Hold X) → w.turn ≡ Has h → h.is_settled ≡ true → h.cell.possible ≡ h.cell.now ∷ []  -- a cell that was synced has one content
 
 abbrev pub TabPiece : {X : Type 0} → Setting X → State X → Tab X → Type 0
 TabPiece k s (Writing w) = WriterPiece k s w
@@ -118,10 +115,10 @@ pub record IsNamed {X : Type 0} (s : State X) (a version : ℕ) (side : Side) (v
 -- has seen. The offer of a new entry is no slot's number.
 pub record NamesStand {X : Type 0} (k : Setting X) (s : State X) : Type 0 where
   pub old : (a : ℕ) (side : Side) → a < k.anchors → side ≢ Start → stage_of (epoch_of (word s a)) ≤ 4 → 0 < length (chain_of s a).slots
-      → version_of (epoch_of (word s a)) ≤ opening_counter k → side_word k s side a ≡ slice_index k.words (index k (Beside side a))
+      → version_of (epoch_of (word s a)) ≤ opening_counter k → side_word k s side a ≡ word_in k k.words (Beside side a)  -- an entry of the opening has its names still
   pub new : (a : ℕ) (side : Side) → a < k.anchors → side ≢ Start → stage_of (epoch_of (word s a)) ≤ 4 → 0 < length (chain_of s a).slots
-      → opening_counter k < version_of (epoch_of (word s a)) → IsNamed s a (version_of (epoch_of (word s a))) side (side_word k s side a)
-  pub offers : (a : ℕ) → a < k.anchors → 0 < length (chain_of s a).slots → opening_counter k < version_of (epoch_of (word s a)) → k.slots ≤ side_word k s Offer a
+      → opening_counter k < version_of (epoch_of (word s a)) → IsNamed s a (version_of (epoch_of (word s a))) side (side_word k s side a)  -- a new one's were seen
+  pub offers : (a : ℕ) → a < k.anchors → 0 < length (chain_of s a).slots → opening_counter k < version_of (epoch_of (word s a)) → k.slots ≤ side_word k s Offer a  -- and its offer is no slot
 
 pub record CellsSound {X : Type 0} (k : Setting X) (s : State X) : Type 0 where
   pub holders : OneHolder k s

@@ -1,17 +1,17 @@
 -- What holds between any two steps of the records: mirrors, and the deeds that explain each epoch.
-use Rattle.std.specs.Prelude.{◌≡◌, ◌≢◌, ◌⊎◌, ℕ, ◌<◌, ◌≤◌, List, [], ◌∷◌, slice_index, Contains, true, cond, ◌==◌}
+use Rattle.std.specs.Prelude.{◌<◌, ◌==◌, ◌∷◌, ◌≡◌, ◌≢◌, ◌≤◌, ◌⊎◌, Contains, List, [], cond, slice_index, true, ℕ}
 use mathlib.Core.Option.{some}
 use lib.ListN.{get_elem?}
-use Rattle.lock_word.specs.Words.{epoch_of, version_of, stage_of, doom_of}
-use Rattle.core_model.specs.declared.view.Kind.TheVariants.{Entered, Changed, Raised, Doomed}
+use Rattle.lock_word.specs.Words.{doom_of, epoch_of, stage_of, version_of}
+use Rattle.core_model.specs.declared.view.Deed.{Deed}
+use Rattle.core_model.specs.declared.view.Kind.TheVariants.{Changed, Doomed, Entered, Raised}
 use Rattle.core_model.specs.declared.view.Sight.TheVariants.{Stood}
 use Rattle.core_model.specs.declared.view.Trace.{Trace}
-use Rattle.core_model.specs.declared.view.Deed.{Deed}
 use Rattle.core_model.specs.declared.view.View.{View}
 use Rattle.core_model.specs.Layout.{Setting, index, word_count}
 use Rattle.core_model.specs.State.{State, word}
-use Rattle.core_model.specs.Tabs.{counts, count}
-use Rattle.core_model.specs.Anchors.{opening_epoch}
+use Rattle.core_model.specs.Tabs.{count, counts}
+use Rattle.core_model.specs.Anchors.{opening_counter, opening_epoch}
 
 -- what the pass last left of the word p, or else the opening's word
 abbrev pub mirrored : {X : Type 0} → Setting X → ℕ → List Trace → ℕ
@@ -62,10 +62,29 @@ EnteredByAnother a pass d = (d.kind ≡ Entered) × (d.anchor ≡ a) × (d.pass 
 -- FREEING or GONE was halted, or was evicted from an idle word. A pass with a tab that is counted at an anchor entered it, and where a
 -- pass met more readers than its own tabs another pass entered. Passes have numbers of their own.
 pub record DeedsExplain {X : Type 0} (k : Setting X) (s : State X) : Type 0 where
-  pub left : (a e : ℕ) → IsEpochAt k s a e → (e ≡ opening_epoch k a) ⊎ IsDone s (LeftEpoch a e)
-  pub doomed : (a e : ℕ) → IsEpochAt k s a e → doom_of e ≡ 1 → IsDone s (DoomedVersion a (version_of e))
+  pub left : (a e : ℕ) → IsEpochAt k s a e → (e ≡ opening_epoch k a) ⊎ IsDone s (LeftEpoch a e)  -- each epoch is the opening's, or was left by a deed
+  pub doomed : (a e : ℕ) → IsEpochAt k s a e → doom_of e ≡ 1 → IsDone s (DoomedVersion a (version_of e))  -- who is doomed was doomed
   pub undoomed : (a e : ℕ) → IsEpochAt k s a e → doom_of e ≡ 0 → 4 ≤ stage_of e →
-      IsDone s (HaltedVersion a (version_of e)) ⊎ IsDone s (EvictedVersion a (version_of e))
-  pub entered : (i : ℕ) (v : View X) → get_elem? s.views i ≡ some v → (a : ℕ) → 0 < count (counts a) v → IsDone s (EnteredBy a v.pass)
-  pub met : (i : ℕ) (v : View X) → get_elem? s.views i ≡ some v → (a : ℕ) → Contains v.met a → IsDone s (EnteredByAnother a v.pass)
-  pub numbers : (i j : ℕ) (v w : View X) → get_elem? s.views i ≡ some v → get_elem? s.views j ≡ some w → v.tabs ≢ [] → w.tabs ≢ [] → v.pass ≡ w.pass → i ≡ j
+      IsDone s (HaltedVersion a (version_of e)) ⊎ IsDone s (EvictedVersion a (version_of e))  -- who is to be freed was halted, or evicted
+  pub entered : (i : ℕ) (v : View X) → get_elem? s.views i ≡ some v → (a : ℕ) → 0 < count (counts a) v → IsDone s (EnteredBy a v.pass)  -- who is counted entered
+  pub met : (i : ℕ) (v : View X) → get_elem? s.views i ≡ some v → (a : ℕ) → Contains v.met a → IsDone s (EnteredByAnother a v.pass)  -- more readers than its own: another entered
+  pub numbers : (i j : ℕ) (v w : View X) → get_elem? s.views i ≡ some v → get_elem? s.views j ≡ some w → v.tabs ≢ [] → w.tabs ≢ [] → v.pass ≡ w.pass → i ≡ j  -- no two passes have one number
+
+-- What deeds tell of the versions and stages that they left.
+
+-- An epoch with a version that is not above the opening's counter has the version that its anchor had at the opening, and the stage,
+-- or its entry is given back.
+pub record IsOldEpoch {X : Type 0} (k : Setting X) (a e : ℕ) : Type 0 where
+  pub version : version_of e ≡ version_of (opening_epoch k a)
+  pub stage : (stage_of e ≡ stage_of (opening_epoch k a)) ⊎ (5 ≤ stage_of e)
+
+-- it took the anchor for a new entry of this version
+abbrev pub TookVersion : ℕ → ℕ → Deed → Type 0
+TookVersion a version d = (d.kind ≡ Changed) × (d.anchor ≡ a) × (version_of d.epoch ≡ version) × (stage_of d.epoch ≡ 1)
+
+-- Of an epoch that a deed left: one with a version of the opening is old, one with a new version has a deed that took the anchor for
+-- it, and one at HALTED, doomed or not, a deed that halted its version.
+pub record DeedsTell {X : Type 0} (k : Setting X) (s : State X) : Type 0 where
+  pub old : (a e : ℕ) → IsDone s (LeftEpoch a e) → version_of e ≤ opening_counter k → IsOldEpoch k a e
+  pub taken : (a e : ℕ) → IsDone s (LeftEpoch a e) → opening_counter k < version_of e → IsDone s (TookVersion a (version_of e))
+  pub halted : (a e : ℕ) → IsDone s (LeftEpoch a e) → stage_of e ≡ 4 → IsDone s (HaltedVersion a (version_of e))

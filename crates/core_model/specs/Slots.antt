@@ -1,25 +1,25 @@
 -- What holds between any two steps of slots: each is at one place, and the words spell the chains and what is being given back.
-use Rattle.std.specs.Prelude.{◌≡◌, ◌≢◌, ◌⊎◌, ℕ, ◌+◌, ◌<◌, ◌≤◌, List, [], ◌++◌, length, slice_index, slice_index_or, Some, None, true, false, cond, ◌==◌, ltb, sum_by}
+use Rattle.std.specs.Prelude.{◌++◌, ◌+◌, ◌<◌, ◌==◌, ◌≡◌, ◌≢◌, ◌≤◌, ◌⊎◌, List, None, Some, [], cond, false, length, ltb, slice_index_or, sum_by, true, ℕ}
 use mathlib.Core.Option.{some}
 use lib.ListN.{get_elem?}
 use Rattle.lock_word.specs.Words.{epoch_of, stage_of}
-use Rattle.link_word.specs.declared.link.Link.TheVariants.{NotWritten, Last as LastLink}
-use Rattle.core_model.specs.declared.tab.Piece.{Piece}
-use Rattle.core_model.specs.declared.tab.Reader.{Reader}
-use Rattle.core_model.specs.declared.tab.Writer.{Writer}
-use Rattle.core_model.specs.declared.tab.Freer.{Freer}
-use Rattle.core_model.specs.declared.tab.Tab.{Tab}
-use Rattle.core_model.specs.declared.tab.Tab.TheVariants.{Reading, Writing, Freeing}
-use Rattle.core_model.specs.declared.view.Place.TheVariants.{Anchor, Beside, Owner, Link as LinkWord}
+use Rattle.link_word.specs.declared.link.Link.TheVariants.{Last as LastLink, NotWritten}
 use Rattle.core_model.specs.declared.moves.Side.{Side}
 use Rattle.core_model.specs.declared.moves.Side.TheVariants.{Key0, Key1, Offer, Start}
+use Rattle.core_model.specs.declared.tab.Freer.{Freer}
+use Rattle.core_model.specs.declared.tab.Piece.{Piece}
+use Rattle.core_model.specs.declared.tab.Reader.{Reader}
+use Rattle.core_model.specs.declared.tab.Tab.{Tab}
+use Rattle.core_model.specs.declared.tab.Tab.TheVariants.{Freeing, Reading, Writing}
+use Rattle.core_model.specs.declared.tab.Writer.{Writer}
+use Rattle.core_model.specs.declared.view.Place.TheVariants.{Anchor, Beside, Link as LinkWord, Owner}
 use Rattle.core_model.specs.declared.view.View.{View}
 use Rattle.core_model.specs.declared.chain.Chain.{Chain}
-use Rattle.core_model.specs.Layout.{Setting, index}
-use Rattle.core_model.specs.Chains.{no_chain, Spells, named, start_number, times, Fits, Tied, link_at}
+use Rattle.core_model.specs.Layout.{Setting, word_in}
+use Rattle.core_model.specs.Chains.{Fits, Spells, Tied, link_at, no_chain, slots_of_link, start_number, times}
 use Rattle.core_model.specs.State.{State}
 use Rattle.core_model.specs.Tabs.{count}
-use Rattle.core_model.specs.TabsAfter.{piece_of}
+use Rattle.core_model.specs.CellMoves.{piece_of}
 
 -- what the words tell: the owner and the link of each slot, and the Start word, the stage and the words beside each anchor
 pub record SlotWords : Type 0 where
@@ -35,11 +35,11 @@ told many j word = cond (ltb j many) word 0
 
 abbrev pub slot_words : {X : Type 0} → Setting X → List ℕ → SlotWords
 slot_words k words = record {
-  owner = λ slot. told k.slots slot (slice_index words (index k (Owner slot)));
-  link = λ slot. told k.slots slot (slice_index words (index k (LinkWord slot)));
-  start = λ a. told k.anchors a (slice_index words (index k (Beside Start a)));
-  stage = λ a. stage_of (epoch_of (told k.anchors a (slice_index words (index k (Anchor a)))));
-  beside = λ a side. told k.anchors a (slice_index words (index k (Beside side a)));
+  owner = λ slot. told k.slots slot (word_in k words (Owner slot));
+  link = λ slot. told k.slots slot (word_in k words (LinkWord slot));
+  start = λ a. told k.anchors a (word_in k words (Beside Start a));
+  stage = λ a. stage_of (epoch_of (told k.anchors a (word_in k words (Anchor a))));
+  beside = λ a side. told k.anchors a (word_in k words (Beside side a));
 }
 
 -- 1 where a word is not 0
@@ -78,14 +78,14 @@ pub record OnePlace {X : Type 0} (words : SlotWords) (chains : List Chain) (view
 -- The Start and link words of an anchor at this stage spell its chain. It ends at CLOSED, and not at HALTED, where the linked slot
 -- belongs to it as its tail. An entry that grows has a published slot.
 pub record ChainStands (stage start : ℕ) (links : ℕ → ℕ) (c : Chain) : Type 0 where
-  pub spelled : Spells links c.slots c.end
-  pub fits : Fits c.slots c.end
-  pub starts : 2 ≤ stage → stage ≤ 4 → start ≡ start_number c.slots
-  pub grows : stage ≡ 2 → c.end ≢ NotWritten
-  pub closed : stage ≡ 3 → c.end ≡ LastLink
-  pub halted : stage ≡ 4 → c.end ≢ LastLink
-  pub tails : c.tail ≡ cond (stage == 4) (named c.end) []
-  pub gone : (stage ≡ 0) ⊎ (5 ≤ stage) → c ≡ no_chain
+  pub spelled : Spells links c.slots c.end  -- the links give the slots, in order
+  pub fits : Fits c.slots c.end  -- nothing published, no link
+  pub starts : 2 ≤ stage → stage ≤ 4 → start ≡ start_number c.slots  -- Start names the first
+  pub grows : stage ≡ 2 → c.end ≢ NotWritten  -- an entry that grows has a slot
+  pub closed : stage ≡ 3 → c.end ≡ LastLink  -- a closed one ends
+  pub halted : stage ≡ 4 → c.end ≢ LastLink  -- a halted one does not
+  pub tails : c.tail ≡ cond (stage == 4) (slots_of_link c.end) []  -- the linked slot of a halted one stays with it
+  pub gone : (stage ≡ 0) ⊎ (5 ≤ stage) → c ≡ no_chain  -- there is none where there is no entry
 
 -- What a writing tab stored beside its anchor stands there. Before it chooses a piece it stored key and offer.
 pub record WriterNames {X : Type 0} (names : Side → ℕ) (w : Writer X) : Type 0 where
@@ -98,11 +98,11 @@ pub record WriterNames {X : Type 0} (names : Side → ℕ) (w : Writer X) : Type
 -- A writing tab reserves at most two slots, the linked one first, and the chain of its anchor is what it published. Until it gives
 -- a slot back, the piece that it chose is the one for its first reserved slot.
 pub record WriterHolds {X : Type 0} (names : Side → ℕ) (c : Chain) (w : Writer X) : Type 0 where
-  pub few : length w.reserved ≤ 2
-  pub tied : Tied w.end w.published w.reserved
-  pub chain : c ≡ record { slots = w.published; end = w.end; tail = [] }
-  pub chosen : (p : Piece) → w.is_ending ≡ false → w.chosen ≡ Some p → p ≡ piece_of w
-  pub names_are : WriterNames names w
+  pub few : length w.reserved ≤ 2  -- two at most
+  pub tied : Tied w.end w.published w.reserved  -- the linked one first, none behind the last
+  pub chain : c ≡ record { slots = w.published; end = w.end; tail = [] }  -- its chain is what it published
+  pub chosen : (p : Piece) → w.is_ending ≡ false → w.chosen ≡ Some p → p ≡ piece_of w  -- its piece is for its first reserved slot
+  pub names_are : WriterNames names w  -- what it stored stands
 
 abbrev pub writes_at : {X : Type 0} → ℕ → Tab X → ℕ
 writes_at a (Writing w) = cond (w.anchor == a) 1 0
@@ -125,10 +125,10 @@ pub record FreerHolds {X : Type 0} (stage start : ℕ) (links : ℕ → ℕ) (v 
 -- An entry that a tab reads has a published slot. The tab is at most behind the last of them, below them where it found a link
 -- written, which is the one there, and the slot that it knows is the one at its place.
 pub record ReaderHolds {X : Type 0} (c : Chain) (r : Reader X) : Type 0 where
-  pub some_slot : 0 < length c.slots
-  pub inside : r.place ≤ length c.slots
-  pub found : r.found ≢ NotWritten → (r.place < length c.slots) × (r.found ≡ link_at c r.place)
-  pub at : (slot : ℕ) → r.slot ≡ Some slot → get_elem? (c.slots ++ named c.end) r.place ≡ some slot
+  pub some_slot : 0 < length c.slots  -- the entry has a slot
+  pub inside : r.place ≤ length c.slots  -- at most behind the last one
+  pub found : r.found ≢ NotWritten → (r.place < length c.slots) × (r.found ≡ link_at c r.place)  -- a link that it found is the one there
+  pub at : (slot : ℕ) → r.slot ≡ Some slot → get_elem? (c.slots ++ slots_of_link c.end) r.place ≡ some slot  -- a slot that it knows is the one there
 
 abbrev pub TabHolds : {X : Type 0} → SlotWords → List Chain → View X → Tab X → Type 0
 TabHolds words chains v (Reading r) = ReaderHolds (slice_index_or chains r.anchor no_chain) r

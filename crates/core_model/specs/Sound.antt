@@ -1,34 +1,36 @@
 -- What holds between any two steps.
 use Rattle.core_model.specs.Layout.{Setting}
 use Rattle.core_model.specs.State.{State}
-use Rattle.core_model.specs.Anchors.{IsSetting, Shaped, ReadersCounted, OneWriter, OneFreer, TabsStand, LastUsers}
-use Rattle.core_model.specs.Versions.{SeenStands, VersionsDrawn, VersionsHeld}
-use Rattle.core_model.specs.Deeds.{OneMirror, DeedsExplain}
+use Rattle.core_model.specs.Anchors.{IsSetting, LastUsers, OneFreer, OneWriter, ReadersCounted, Shaped, TabsStand}
+use Rattle.core_model.specs.Versions.{SeenStands, SightsLead, VersionsDrawn, VersionsHeld}
+use Rattle.core_model.specs.Deeds.{DeedsExplain, DeedsTell, OneMirror}
 use Rattle.core_model.specs.Slots.{SlotsSound}
 use Rattle.core_model.specs.Cells.{CellsSound}
 
 -- the anchors, the versions and the records
 pub record AnchorsSound {X : Type 0} (k : Setting X) (s : State X) : Type 0 where
-  pub setting : IsSetting k
-  pub shaped : Shaped k s
-  pub readers : ReadersCounted k s
-  pub writers : OneWriter k s
-  pub freers : OneFreer k s
-  pub tabs : TabsStand k s
-  pub lasts : LastUsers k s
-  pub seen : SeenStands k s
-  pub drawn : VersionsDrawn k s
-  pub held : VersionsHeld k s
-  pub mirror : OneMirror k s
-  pub deeds : DeedsExplain k s
+  pub setting : IsSetting k  -- of the opening
+  pub shaped : Shaped k s  -- lengths, and words that are words
+  pub readers : ReadersCounted k s  -- are counted
+  pub writers : OneWriter k s  -- one where an entry is written
+  pub freers : OneFreer k s  -- one where an entry is freed
+  pub tabs : TabsStand k s  -- are where they may be
+  pub lasts : LastUsers k s  -- somebody frees what nobody uses
+  pub seen : SeenStands k s  -- what was seen is not of the future
+  pub drawn : VersionsDrawn k s  -- versions are drawn once
+  pub held : VersionsHeld k s  -- and unknown until they are used
+  pub mirror : OneMirror k s  -- one pass knows all words
+  pub deeds : DeedsExplain k s  -- explain each epoch
 
 -- what the words and the chains tell: the anchors and the slots
 pub record WordsSound {X : Type 0} (k : Setting X) (s : State X) : Type 0 where
   pub anchors : AnchorsSound k s
   pub slots : SlotsSound k s
 
--- all of it: cells, turns and names too
+-- all of it: cells, turns and names too, what deeds tell of versions, and what was seen in the course of time
 pub record Sound {X : Type 0} (k : Setting X) (s : State X) : Type 0 where
   pub anchors : AnchorsSound k s
   pub slots : SlotsSound k s
   pub cells : CellsSound k s
+  pub deeds_tell : DeedsTell k s
+  pub sights : SightsLead k s

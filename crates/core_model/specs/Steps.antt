@@ -1,79 +1,29 @@
 -- One step of a pass: what it finds, what becomes of the view of the pass, and the state after it.
-use Rattle.std.specs.Prelude.{◌≡◌, ℕ, ◌+◌, List, [], ◌∷◌, ◌++◌, length, slice_index, slice_index_or, slice_set, Option, Some, None, Bool, true, cond, ◌==◌, ◌&&◌, ltb, drop, slice_get}
+use Rattle.std.specs.Prelude.{◌++◌, ◌+◌, ◌==◌, ◌∷◌, ◌≡◌, List, None, Option, Some, [], cond, drop, slice_get, slice_index_or, slice_set, ℕ}
 use mathlib.Core.Option.{some}
 use lib.ListN.{get_elem?}
 use Rattle.lock_word.specs.declared.stage.Stage.TheVariants.{Halted}
-use Rattle.core_model.specs.declared.moves.Outcome.{Outcome}
-use Rattle.core_model.specs.declared.moves.Outcome.TheVariants.{Nothing, Kept, Unsure, KeptUnsure}
-use Rattle.core_model.specs.declared.moves.Move.{Move}
-use Rattle.core_model.specs.declared.moves.Move.TheVariants.{Take, Evict, Raise, Publish, TryTurn, EndTurn, Note, Learn, Write, Sync}
-use Rattle.core_model.specs.declared.tab.Cell.{Cell}
-use Rattle.core_model.specs.declared.tab.Turn.{Turn}
-use Rattle.core_model.specs.declared.tab.Turn.TheVariants.{NoTurn, Has}
-use Rattle.core_model.specs.declared.tab.Tab.{Tab}
-use Rattle.core_model.specs.declared.tab.Tab.TheVariants.{Writing}
 use Rattle.link_word.specs.declared.link.Link.{Link}
+use Rattle.core_model.specs.declared.moves.Move.{Move}
+use Rattle.core_model.specs.declared.moves.Move.TheVariants.{EndTurn, Evict, Learn, Note, Publish, Raise, Sync, Take, TryTurn, Write}
+use Rattle.core_model.specs.declared.tab.Cell.{Cell}
 use Rattle.core_model.specs.declared.view.Place.{Place}
 use Rattle.core_model.specs.declared.view.Sight.{Sight}
 use Rattle.core_model.specs.declared.view.Trace.{Trace}
 use Rattle.core_model.specs.declared.view.View.{View}
 use Rattle.core_model.specs.declared.chain.Chain.{Chain}
-use Rattle.core_model.specs.Layout.{Setting, index}
-use Rattle.core_model.specs.Chains.{no_chain, named}
-use Rattle.core_model.specs.State.{State, chain_of}
+use Rattle.core_model.specs.Layout.{Setting, index, word_in}
+use Rattle.core_model.specs.Chains.{no_chain, slots_of_link}
+use Rattle.core_model.specs.State.{Finding, State, chain_of}
 use Rattle.core_model.specs.Trails.{last_find}
-use Rattle.core_model.specs.Tabs.{tab_at, turn_of, anchor_of}
-use Rattle.core_model.specs.Allowed.{MayStep}
-use Rattle.core_model.specs.Where.{place, left_by, answer}
-use Rattle.core_model.specs.TabsAfter.{Finding, tabs_after}
-use Rattle.core_model.specs.Records.{item_of, sights_of, held_after, deeds_of, met_of}
+use Rattle.core_model.specs.Tabs.{anchor_of, tab_at, turn_of}
+use Rattle.core_model.specs.CellMoves.{cell_held, chosen_content, free_note, note_of, put, seen_in, spent, synced, wrote}
+use Rattle.core_model.specs.Table.{MayStep, answer, deeds_of, held_after, item_of, left_by, met_of, place, sights_of, tabs_after}
 
 -- What a step finds.
 
-abbrev pub map_some : {A : Type 0} {B : Type 0} → (A → B) → Option A → Option B
-map_some f (Some x) = Some (f x)
-map_some f None = None
-
-abbrev pub seen_in : {X : Type 0} → Option (View X) → List Sight
-seen_in (Some v) = v.seen
-seen_in None = []
-
--- a note has no tabs and was not learned yet
-abbrev pub is_spent : {X : Type 0} → View X → Bool
-is_spent v = (length v.tabs == 0) && (length v.seen == 0)
-
--- the least number of a note that is free
-abbrev pub free_note : {X : Type 0} → List (View X) → ℕ
-free_note [] = 0
-free_note (v ∷ vs) = cond (is_spent v) 0 (free_note vs + 1)
-
--- the content of the piece that a tab chose
-abbrev pub chosen_content : {X : Type 0} → Setting X → Tab X → Option X
-chosen_content k (Writing w) = map_some k.image w.chosen
-chosen_content k tab = None
-
-abbrev pub cell_held : {X : Type 0} → Turn X → Option (Cell X)
-cell_held NoTurn = None
-cell_held (Has h) = Some h.cell
-
--- a cell after a write of this content
-abbrev pub written_cell : {X : Type 0} → Cell X → Outcome → X → Cell X
-written_cell c Nothing x = c
-written_cell c Kept x = record { now = x; possible = x ∷ c.possible }
-written_cell c Unsure x = record { now = c.now; possible = x ∷ c.possible }
-written_cell c KeptUnsure x = record { now = x; possible = x ∷ c.possible }
-
-abbrev pub wrote : {X : Type 0} → Option (Cell X) → Outcome → Option X → Option (Cell X)
-wrote (Some c) outcome (Some x) = Some (written_cell c outcome x)
-wrote c outcome x = c
-
--- a cell after a sync
-abbrev pub synced : {X : Type 0} → Option (Cell X) → Bool → Option (Cell X)
-synced (Some c) true = Some record { now = c.now; possible = c.now ∷ [] }
-synced c kept = c
-
 abbrev pub word_found : {X : Type 0} → Setting X → State X → Option Place → ℕ
-word_found k s (Some p) = slice_index s.words (index k p)
+word_found k s (Some p) = word_in k s.words p
 word_found k s None = 0
 
 abbrev pub number_found : {X : Type 0} → Setting X → State X → View X → Move → ℕ
@@ -124,16 +74,6 @@ view_after v m x = record {
 
 -- What becomes of the state.
 
--- a note of what a pass has seen, and what is left of one that was learned
-abbrev pub note_of : {X : Type 0} → View X → View X
-note_of v = record { pass = 0; tabs = []; held = []; seen = v.seen; trail = []; mirror = []; deeds = []; met = [] }
-
-abbrev pub spent : {X : Type 0} → View X
-spent = record { pass = 0; tabs = []; held = []; seen = []; trail = []; mirror = []; deeds = []; met = [] }
-
-abbrev pub put : {X : Type 0} → List (View X) → ℕ → View X → List (View X)
-put vs at v = cond (ltb at (length vs)) (slice_set vs at v) (vs ++ v ∷ [])
-
 abbrev pub words_after : {X : Type 0} → Setting X → List ℕ → Option Place → ℕ → List ℕ
 words_after k words (Some p) left = slice_set words (index k p) left
 words_after k words None left = words
@@ -149,7 +89,7 @@ views_after k views i v (Learn note) x = slice_set (slice_set views i (view_afte
 views_after k views i v m x = slice_set views i (view_after v m x)
 
 abbrev pub halted : Chain → Chain
-halted c = record { slots = c.slots; end = c.end; tail = named c.end }
+halted c = record { slots = c.slots; end = c.end; tail = slots_of_link c.end }
 
 abbrev pub longer : Chain → ℕ → Link → Chain
 longer c slot link = record { slots = c.slots ++ slot ∷ []; end = link; tail = [] }

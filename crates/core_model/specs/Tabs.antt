@@ -1,12 +1,12 @@
 -- What tabs are, and how many of a view are so.
-use Rattle.std.specs.Prelude.{ℕ, slice_index_or, Bool, true, false, cond, ◌==◌, ◌&&◌, sum_by}
-use Rattle.core_model.specs.declared.tab.Turn.{Turn}
-use Rattle.core_model.specs.declared.tab.Turn.TheVariants.{NoTurn, Has}
-use Rattle.core_model.specs.declared.tab.Reader.{Reader}
-use Rattle.core_model.specs.declared.tab.Writer.{Writer}
+use Rattle.std.specs.Prelude.{◌&&◌, ◌==◌, ◌≡◌, Bool, List, cond, false, length, slice_index_or, slice_set, sum_by, true, ℕ}
 use Rattle.core_model.specs.declared.tab.Freer.{Freer}
+use Rattle.core_model.specs.declared.tab.Reader.{Reader}
 use Rattle.core_model.specs.declared.tab.Tab.{Tab}
-use Rattle.core_model.specs.declared.tab.Tab.TheVariants.{Free, Retreating, Reading, Writing, Last, Freeing}
+use Rattle.core_model.specs.declared.tab.Tab.TheVariants.{Free, Freeing, Last, Reading, Retreating, Writing}
+use Rattle.core_model.specs.declared.tab.Turn.{Turn}
+use Rattle.core_model.specs.declared.tab.Turn.TheVariants.{Has, NoTurn}
+use Rattle.core_model.specs.declared.tab.Writer.{Writer}
 use Rattle.core_model.specs.declared.view.View.{View}
 
 abbrev pub tab_at : {X : Type 0} → View X → ℕ → Tab X
@@ -15,6 +15,10 @@ tab_at v t = slice_index_or v.tabs t Free
 -- the inner tab is the last of nine
 abbrev pub inner : ℕ
 inner = 8
+
+-- the tab t becomes this one
+abbrev pub with_tab : {X : Type 0} → View X → ℕ → Tab X → List (Tab X)
+with_tab v t tab = slice_set v.tabs t tab
 
 abbrev pub is_free : {X : Type 0} → Tab X → Bool
 is_free Free = true
@@ -61,6 +65,12 @@ anchor_of (Freeing f) = f.anchor
 abbrev pub stage_written : {X : Type 0} → Writer X → ℕ
 stage_written w = cond w.is_appending 2 1
 
+-- the stage of the anchor that a writing or freeing tab has
+abbrev pub stage_held : {X : Type 0} → Tab X → ℕ
+stage_held (Writing w) = stage_written w
+stage_held (Freeing f) = 5
+stage_held _ = 0
+
 -- the tab is so, and P holds of what it has
 abbrev pub OfReader : {X : Type 0} → (Reader X → Type 0) → Tab X → Type 0
 OfReader P (Reading r) = P r
@@ -73,6 +83,13 @@ OfWriter P _ = ⊥
 abbrev pub OfFreer : {X : Type 0} → (Freer → Type 0) → Tab X → Type 0
 OfFreer P (Freeing f) = P f
 OfFreer P _ = ⊥
+
+-- the view is that of a pass
+abbrev pub IsPass : {X : Type 0} → View X → Type 0
+IsPass v = length v.tabs ≡ 9
+
+abbrev pub InnerIsFree : {X : Type 0} → View X → Type 0
+InnerIsFree v = is_free (tab_at v inner) ≡ true
 
 -- Each of these is 1 where it holds of the tab, and else 0.
 

@@ -1,11 +1,11 @@
 -- What the steps of a pass tell. The newest item of a trail stands first.
-use Rattle.std.specs.Prelude.{ℕ, max, ◌+◌, List, [], ◌∷◌, Bool, true, false, cond, ◌==◌, ◌||◌, ◌&&◌, nat_le}
-use Rattle.lock_word.specs.Words.{version_of, version_limit}
-use Rattle.core_model.specs.declared.view.Kind.{Kind}
-use Rattle.core_model.specs.declared.view.Kind.TheVariants.{Looked, Entered, Left, Counted, Drew, Changed, Raised, Doomed}
+use Rattle.std.specs.Prelude.{◌&&◌, ◌+◌, ◌==◌, ◌||◌, ◌∷◌, Bool, List, [], cond, false, max, nat_le, true, ℕ}
+use Rattle.lock_word.specs.Words.{version_limit, version_of}
 use Rattle.core_model.specs.declared.view.Item.{Item}
+use Rattle.core_model.specs.declared.view.Kind.{Kind}
+use Rattle.core_model.specs.declared.view.Kind.TheVariants.{Changed, Counted, Doomed, Drew, Entered, Left, Looked, Raised}
 use Rattle.core_model.specs.declared.view.Sight.{Sight}
-use Rattle.core_model.specs.declared.view.Sight.TheVariants.{Stood, Named, Published}
+use Rattle.core_model.specs.declared.view.Sight.TheVariants.{Named, Published, Stood}
 
 -- an item of this kind tells the word of an anchor
 abbrev pub tells_word : Kind → Bool
@@ -41,6 +41,11 @@ draws_version version x = is_draw x.kind && (x.found + 1 == version)
 abbrev pub drew_since : ℕ → ℕ → List Item → Bool
 drew_since version a [] = false
 drew_since version a (x ∷ xs) = cond (is_find a x) false (draws_version version x || drew_since version a xs)
+
+-- the word that the pass last found at the anchor a before it drew this version, or 0; the newest item of a trail stands first
+abbrev pub find_before : ℕ → ℕ → List Item → ℕ
+find_before version a [] = 0
+find_before version a (x ∷ xs) = cond (draws_version version x) (last_find a xs) (find_before version a xs)
 
 -- how often this version was drawn, and how often one was
 abbrev pub drawn : ℕ → List Item → ℕ

@@ -1,7 +1,7 @@
 // What a step adds to the records of its pass, all of it or nothing.
 ghost use Rattle.std.specs.Prelude.{◌≡◌, ◌<◌, ◌≤◌, ◌+◌, ◌∷◌, [], ◌++◌, length, reverse, vec_len, vec_capacity, OnOk, OnErr};
 ghost use Rattle.std.specs.Option.{option_to_list};
-ghost use Rattle.core_model.specs.Adding.{added, names_seen, sights_learned};
+ghost use Rattle.core_model.specs.Additions.{added, names_seen, sights_learned};
 
 use crate::list::Log;
 use crate::moves::Side;

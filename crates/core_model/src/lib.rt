@@ -19,10 +19,12 @@ mod view;
 pub use adding::{Addition, Names};
 pub use chain::Chain;
 pub use laws::{
-    finds_are_known, idle_stores_are_settled, opened_stores_are_sound, openings_are_sound,
-    rests_have_one_tab, slot_finds_are_known, slots_are_not_written_while_read,
-    slots_have_one_spot, steps_change_entries, steps_keep_sound, tabs_match_words,
-    turn_finds_are_known, turns_have_one_holder, written_pieces_are_home,
+    chains_are_spelled_once, deeds_are_of_passes, epochs_have_their_deeds, finds_are_known,
+    held_cells_may_be_rewritten, idle_stores_are_settled, notes_may_be_learned, notes_may_be_made,
+    opened_stores_are_sound, openings_are_sound, places_are_apart, rests_have_one_tab,
+    slots_are_counted, slots_are_not_written_while_read, slots_have_one_spot, steps_change_choices,
+    steps_change_entries, steps_keep_nine_tabs, steps_keep_sound, tabs_match_words,
+    turns_have_one_holder, views_tell_what_is_allowed, written_pieces_are_home,
 };
 pub use list::{Log, Row};
 pub use moves::{Move, Outcome, Side};

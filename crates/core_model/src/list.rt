@@ -53,7 +53,7 @@ impl<T> Row<T> {
 }
 
 impl Row<u32> {
-    ghost use Rattle.core_model.specs.TabsAfter.{without};
+    ghost use Rattle.core_model.specs.Chains.{without};
 
     /// Removes a number, however often it is there.
     pub fn remove_all(&mut self, number: u32)

@@ -24,6 +24,9 @@ pub struct Hold<X> {
     pub is_out: bool,
     /// Whether a write left the holder's piece in the cell.
     pub is_written: bool,
+    /// Whether a sync left what a read gives as the only content that a crash may leave, and no write came
+    /// since.
+    pub is_settled: bool,
 }
 
 /// One part of an offered response, as a slot's cell holds it.
@@ -72,6 +75,8 @@ pub struct Writer<X> {
     pub chosen: Option<Piece>,
     /// Whether that slot's cell is home and has this piece.
     pub is_written: bool,
+    /// Whether a crash then leaves that cell nothing else.
+    pub is_settled: bool,
     /// Its chain: what it published, and the last link of that.
     pub published: Row<u32>,
     pub end: Link,

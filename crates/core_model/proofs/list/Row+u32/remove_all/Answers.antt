@@ -1,6 +1,6 @@
 use Rattle.std.proofs.Common.{◌≡◌, ℕ, List, [], ◌∷◌, refl, ap, ◌∙◌, not, arith, rules, filter, ◌==◌}
 use Rattle.std.proofs.lemmas.Fn.{filter_same}
-use Rattle.core_model.specs.TabsAfter.{without}
+use Rattle.core_model.specs.Chains.{without}
 use Rattle.core_model.proofs.list.Row+u32.remove_all.Goals as goal
 
 filter-not : (n : ℕ) (xs : List ℕ) → filter (λ x. not (x == n)) xs ≡ without n xs
