@@ -8,11 +8,10 @@ use Rattle.core_model.specs.declared.view.Kind.{Kind}
 use Rattle.core_model.specs.declared.view.Place.TheVariants.{Anchor}
 use Rattle.core_model.specs.declared.view.Sight.TheVariants.{Stood}
 use Rattle.core_model.specs.declared.view.View.{View}
-use Rattle.core_model.specs.Adding.{names_seen, sights_learned}
-use Rattle.core_model.specs.Records.{held_after, sights_of, item_of, deeds_of, met_of}
+use Rattle.core_model.specs.Layout.{anchor_index}
 use Rattle.core_model.specs.Steps.{finding, traces_of, view_after, words_after, places_after, views_after, chains_after}
-use Rattle.core_model.specs.TabsAfter.{tabs_after}
-use Rattle.core_model.specs.Where.{place, left_by}
+use Rattle.core_model.specs.Additions.{names_seen, sights_learned}
+use Rattle.core_model.specs.Table.{held_after, sights_of, item_of, deeds_of, met_of, tabs_after, place, left_by}
 use Rattle.core_state.specs.declared.change.ChainChange.{ChainChange}
 use Rattle.core_state.specs.declared.change.NotesChange.TheVariants as notes
 use Rattle.core_state.specs.declared.change.TabsChange.{TabsChange}
@@ -34,7 +33,7 @@ module _ (o : Opening) (t : Table) (v : View Content) (m : Move) (a told left se
     pub places : t.places.items ≡ places_after t.places.items v m (found o t v m)
     pub views : (i : ℕ) → set t.views.items i (view_after v m (finding (setting o) (state t) v m)) ≡ views_after (setting o) t.views.items i v m (finding (setting o) (state t) v m)
 
-  pub anchored : (tabs : TabsChange) (chain : ChainChange) (used : Option ℕ) (deed : Option Deed) (met : Option ℕ) (base : Addition) → base ≡ anchor_addition kind a told left seen → IsAt
+  pub anchored : (tabs : TabsChange) (chain : ChainChange) (used : Option ℕ) (deed : Option Deed) (met : Option ℕ) (base : Addition) (index : ℕ) → base ≡ anchor_addition kind a told left seen → index ≡ anchor_index a → IsAt
       → tabs_changed v tabs ≡ tabs_after v m (finding (setting o) (state t) v m)
       → without_used used v.held ≡ held_after v m (found o t v m)
       → option_to_list deed ≡ deeds_of v m (found o t v m)
@@ -42,7 +41,7 @@ module _ (o : Opening) (t : Table) (v : View Content) (m : Move) (a told left se
       → chains_changed t.chains.items chain ≡ chains_after t.chains.items v m (found o t v m)
       → Matches o t v m record {
         answer = told;
-        word = Some record { index = a; left = left };
+        word = Some record { index = index; left = left };
         turn = turns.Same;
         tabs = tabs;
         chain = chain;
@@ -50,8 +49,8 @@ module _ (o : Opening) (t : Table) (v : View Content) (m : Move) (a told left se
         addition = record { item = base.item; trace = base.trace; sight = base.sight; names = base.names; learned = base.learned; deed = deed; met = met; drawn = base.drawn };
         notes = notes.Same;
       }
-  anchored tabs chain used deed met base is step tabs_are held deeds mets chains = record {
-    words = sym (λ j. words_after (setting o) t.words.items (step.at j) (step.leaves j));
+  anchored tabs chain used deed met base index is here step tabs_are held deeds mets chains = record {
+    words = ap (λ i. set t.words.items i left) here ∙ sym (λ j. words_after (setting o) t.words.items (step.at j) (step.leaves j));
     places = step.places;
     views = step.views;
     tabs = tabs_are;

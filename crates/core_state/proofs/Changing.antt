@@ -5,7 +5,7 @@ use Rattle.std.proofs.lemmas.Option.{get_or_from_slice_get}
 use Rattle.core_model.specs.declared.tab.Tab.{Tab}
 use Rattle.core_model.specs.declared.tab.Tab.TheVariants.{Free, Writing}
 use Rattle.core_model.specs.declared.tab.Writer.{Writer}
-use Rattle.core_model.specs.TabsAfter.{raised_tab}
+use Rattle.core_model.specs.AnchorMoves.{raised_tab}
 use Rattle.lock_word.specs.declared.stage.Stage.TheVariants.{Appending}
 use Rattle.core_state.specs.declared.content.Content.{Content}
 use Rattle.core_state.proofs.Lists.{set_twice}

@@ -8,14 +8,15 @@ use Rattle.lock_word.specs.Words.{IsInRange, word_number, readers_of, is_left_ov
 use Rattle.core_model.specs.declared.moves.Move.{Move}
 use Rattle.core_model.specs.declared.moves.Move.TheVariants as move
 use Rattle.core_model.specs.declared.view.View.{View}
-use Rattle.core_model.specs.Allowed.{Allowed}
 use Rattle.core_model.specs.Anchors.{TabStands}
-use Rattle.core_model.specs.Known.{Known, IsFound, HasVersion}
+use Rattle.core_model.specs.Told.{AnchorTells, HasVersion, IsAnchorFound}
+use Rattle.core_model.specs.Layout.{anchor_index}
 use Rattle.core_model.specs.Tabs.{inner, tab_at, is_free, is_counted, is_reading, holds_turn, anchor_of, counts}
 use Rattle.core_model.specs.declared.tab.Tab.{Tab}
 use Rattle.core_model.specs.declared.tab.Tab.TheVariants.{Free, Retreating, Reading, Writing, Last, Freeing}
 use Rattle.core_model.proofs.Knowing.{knows}
-use Rattle.core_model.specs.TabsAfter.{left_tab}
+use Rattle.core_model.specs.Table.{Allowed}
+use Rattle.core_model.specs.AnchorMoves.{left_tab}
 use Rattle.core_state.specs.declared.content.Content.{Content}
 use Rattle.core_state.specs.declared.table.Opening.{Opening}
 use Rattle.core_state.specs.declared.table.Table.{Table}
@@ -23,12 +24,12 @@ use Rattle.core_state.specs.Inside.{setting, state}
 use Rattle.core_state.specs.Planned.{IsScene, found}
 use Rattle.core_state.proofs.Lists.{at_index}
 
-pub known : (o : Opening) (t : Table) (v : View Content) (m : Move) → IsScene o t v → Allowed (setting o) (state t) v m → Known v m (found o t v m)
+pub known : (o : Opening) (t : Table) (v : View Content) (m : Move) → IsScene o t v → Allowed (setting o) (state t) v m → AnchorTells v m (found o t v m)
 known o t v m scene allowed = knows (setting o) (state t) scene.number v m scene.sound scene.at record { pass = scene.pass; allowed = allowed }
 
 -- a word with a reader
 abbrev pub FindsReader : View Content → Tab Content → ℕ → Type 0
-FindsReader v x n = IsFound v (anchor_of x) n × (0 < readers_of n) × HasVersion x n
+FindsReader v x n = IsAnchorFound v (anchor_of x) n × (0 < readers_of n) × HasVersion x n
 
 module _ (o : Opening) (t : Table) (v : View Content) (scene : IsScene o t v) (at : ℕ) (x : Tab Content) (there : slice_get v.tabs at ≡ Some x) where
   pub tab_is : tab_at v at ≡ x
@@ -53,15 +54,15 @@ module _ (o : Opening) (t : Table) (v : View Content) (scene : IsScene o t v) (a
       within at (Freeing f) st h = st.0
 
   -- what a tab that is counted finds when it leaves or dooms
-  pub leaves : is_counted x ≡ true → holds_turn x ≡ false → FindsReader v x (slice_index t.words.items (anchor_of x))
+  pub leaves : is_counted x ≡ true → holds_turn x ≡ false → FindsReader v x (slice_index t.words.items (anchor_index (anchor_of x)))
   leaves counted none =
       let k = known o t v (move.Leave at) scene (below, (ap is_counted tab_is ∙ counted), (ap holds_turn tab_is ∙ none)) in
-      subst (λ (y : Tab Content). FindsReader v y (slice_index t.words.items (anchor_of y))) tab_is k
+      subst (λ (y : Tab Content). FindsReader v y (slice_index t.words.items (anchor_index (anchor_of y)))) tab_is k
 
-  pub dooms : is_reading x ≡ true → FindsReader v x (slice_index t.words.items (anchor_of x))
+  pub dooms : is_reading x ≡ true → FindsReader v x (slice_index t.words.items (anchor_index (anchor_of x)))
   dooms reading =
       let k = known o t v (move.Doom at) scene (below, (ap is_reading tab_is ∙ reading)) in
-      subst (λ (y : Tab Content). FindsReader v y (slice_index t.words.items (anchor_of y))) tab_is k
+      subst (λ (y : Tab Content). FindsReader v y (slice_index t.words.items (anchor_index (anchor_of y)))) tab_is k
 
 pub is_used : (x : Tab Content) → is_counted x ≡ true → is_free x ≡ false
 is_used Free h = cc

@@ -15,6 +15,7 @@ pub mod Takers
 pub mod Applying
 pub mod Opening
 pub mod Placing
+pub mod Columns
 pub mod Winners
 pub mod OpenedStore
 pub mod Publishing

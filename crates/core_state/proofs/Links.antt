@@ -18,17 +18,16 @@ use Rattle.core_model.specs.declared.view.Kind.TheVariants as kind
 use Rattle.core_model.specs.declared.view.Place.TheVariants.{Link as LinkWord}
 use Rattle.core_model.specs.declared.view.Sight.{Sight}
 use Rattle.core_model.specs.declared.view.View.{View}
-use Rattle.core_model.specs.Allowed.{Allowed, IsNext, IsFront}
-use Rattle.core_model.specs.Chains.{named, times}
-use Rattle.core_model.specs.Known.{LinkFound}
+use Rattle.core_model.specs.Chains.{times, slots_of_link}
+use Rattle.core_model.specs.Told.{LinkFound}
 use Rattle.core_model.specs.Layout.{index}
-use Rattle.core_model.specs.Records.{follows}
 use Rattle.core_model.specs.Tabs.{OfReader, OfFreer, anchor_of, is_free, is_reading}
-use Rattle.core_model.specs.TabsAfter.{looks}
 use Rattle.core_model.proofs.FollowsKept.{followed}
 use Rattle.core_model.proofs.OwnsKept.{held_slot}
 use Rattle.core_model.proofs.SlotFinds.{slot_finds}
 use Rattle.core_model.proofs.Spelling.{at_longer, one_same}
+use Rattle.core_model.specs.Table.{Allowed}
+use Rattle.core_model.specs.SlotMoves.{IsNext, IsFront, follows, looks}
 use Rattle.core_state.specs.declared.change.ChainChange.TheVariants as chains
 use Rattle.core_state.specs.declared.change.NotesChange.TheVariants as notes
 use Rattle.core_state.specs.declared.change.TabsChange.TheVariants as tabs
@@ -49,7 +48,7 @@ use Rattle.core_state.proofs.Worded.{worded}
 -- The slot at a place of a chain: published, behind the published ones, or none.
 
 abbrev pub stands_at : Chain → ℕ → ℕ → Type 0
-stands_at c place slot = get_elem? (c.slots ++ named c.end) place ≡ some slot
+stands_at c place slot = get_elem? (c.slots ++ slots_of_link c.end) place ≡ some slot
 
 behind : (xs ys : List ℕ) → get_elem? (xs ++ ys) (length xs) ≡ get_elem? ys 0
 behind [] ys = refl
@@ -63,16 +62,16 @@ beyond xs ys p far slot e = past (xs ++ ys) p far e
     past (z ∷ zs) zero far e = absurd (omega arith)
     past (z ∷ zs) (suc p) far e = past zs p (omega arith) e
 
-one_named : (xs : List ℕ) (e : Link) → length (xs ++ named e) ≤ length xs + 1
+one_named : (xs : List ℕ) (e : Link) → length (xs ++ slots_of_link e) ≤ length xs + 1
 one_named [] NotWritten = omega arith
 one_named [] LastLink = omega arith
 one_named [] (Next j) = omega arith
 one_named (x ∷ xs) e = let h = one_named xs e in omega arith
 
-first_named : (e : Link) (slot : ℕ) → (e ≡ Next slot) ↔ (get_elem? (named e) 0 ≡ some slot)
+first_named : (e : Link) (slot : ℕ) → (e ≡ Next slot) ↔ (get_elem? (slots_of_link e) 0 ≡ some slot)
 first_named NotWritten slot = ((λ h. cc), (λ h. absurd (some-ne-none slot (sym h))))
 first_named LastLink slot = ((λ h. cc), (λ h. absurd (some-ne-none slot (sym h))))
-first_named (Next j) slot = ((λ h. ap (λ (l : Link). get_elem? (named l) 0) h), (λ h. ap Next (some-injective j slot h)))
+first_named (Next j) slot = ((λ h. ap (λ (l : Link). get_elem? (slots_of_link l) 0) h), (λ h. ap Next (some-injective j slot h)))
 
 module _ (c d : Chain) (same : c ≡ d) (xs : List ℕ) (slots : xs ≡ c.slots) (place slot : ℕ) where
   slots_are : xs ≡ d.slots
@@ -80,19 +79,19 @@ module _ (c d : Chain) (same : c ≡ d) (xs : List ℕ) (slots : xs ≡ c.slots)
 
   pub next_inside : (y : ℕ) → place < length xs → ((z : ℕ) → y ≡ get_or xs place z) → (IsTrue (eqb y slot) → stands_at d place slot) × (stands_at d place slot → IsTrue (eqb y slot))
   next_inside y lt is =
-      let there : stands_at d place y = subst (λ (zs : List ℕ). get_elem? (zs ++ named d.end) place ≡ some y) slots_are (at_longer xs (named d.end) place y (at_index xs place y y lt (sym (is y)))) in
+      let there : stands_at d place y = subst (λ (zs : List ℕ). get_elem? (zs ++ slots_of_link d.end) place ≡ some y) slots_are (at_longer xs (slots_of_link d.end) place y (at_index xs place y y lt (sym (is y)))) in
       ((λ h. there ∙ ap some (eqb-true y slot h)), (λ h. eq-eqb y slot (some-injective y slot (sym there ∙ h))))
 
   pub next_behind : place ≡ length xs → (b : _) → (IsTrue b ↔ (c.end ≡ Next slot)) → (IsTrue b → stands_at d place slot) × (stands_at d place slot → IsTrue b)
   next_behind here b names =
-      let is : get_elem? (d.slots ++ named d.end) place ≡ get_elem? (named c.end) 0 =
-      (λ j. get_elem? (sym slots_are j ++ named (sym same j).end) (here j)) ∙ behind xs (named c.end) in
+      let is : get_elem? (d.slots ++ slots_of_link d.end) place ≡ get_elem? (slots_of_link c.end) 0 =
+      (λ j. get_elem? (sym slots_are j ++ slots_of_link (sym same j).end) (here j)) ∙ behind xs (slots_of_link c.end) in
       ((λ h. is ∙ (first_named c.end slot).0 (names.0 h)), (λ h. names.1 ((first_named c.end slot).1 (sym is ∙ h))))
 
   pub next_beyond : length xs ≤ place → place ≢ length xs → (IsTrue (eqb place (length xs)) → stands_at d place slot) × (stands_at d place slot → IsTrue (eqb place (length xs)))
   next_beyond far off = (
     (λ h. absurd (off (eqb-true place (length xs) h))),
-    (λ h. absurd (beyond d.slots (named d.end) place (let few = one_named d.slots d.end in let same_length = ap (λ (zs : List ℕ). length zs) slots_are in let far_ : length xs < place = further far off in omega (arith, few, same_length, far_)) slot h)),
+    (λ h. absurd (beyond d.slots (slots_of_link d.end) place (let few = one_named d.slots d.end in let same_length = ap (λ (zs : List ℕ). length zs) slots_are in let far_ : length xs < place = further far off in omega (arith, few, same_length, far_)) slot h)),
   )
     where
       further : length xs ≤ place → place ≢ length xs → length xs < place

@@ -1,5 +1,5 @@
 -- Lists read by `get_elem?`, and written.
-use Rattle.std.proofs.Common.{◌≡◌, ℕ, ◌<◌, zero, suc, List, [], ◌∷◌, length, get_or, set, sym, refl, ap, ◌∙◌, Some, arith}
+use Rattle.std.proofs.Common.{◌≡◌, ℕ, ◌<◌, zero, suc, List, [], ◌∷◌, length, replicate, get_or, set, sym, refl, ap, ◌∙◌, Some, arith}
 use Rattle.std.specs.Prelude.{slice_get}
 use Rattle.std.proofs.lemmas.Option.{get_or_from_slice_get, slice_get_within}
 use mathlib.Core.Option.{some, some-injective, some-ne-none}
@@ -41,3 +41,9 @@ module _ {X : Type 0} where
   -- what is read of a list that is still this one
   pub still_at : (xs ys : List X) (i : ℕ) (x y : X) → y ≡ get_or xs i y → xs ≡ ys → get_elem? ys i ≡ some x → y ≡ x
   still_at xs ys i x y read same at = read ∙ ap (λ (l : List X). get_or l i y) same ∙ at_or ys i x y at
+
+-- of a list that has one item throughout
+pub same_at : {X : Type 0} → (n i : ℕ) (x : X) → get_or (replicate n x) i x ≡ x
+same_at zero i x = refl
+same_at (suc n) zero x = refl
+same_at (suc n) (suc i) x = same_at n i x

@@ -12,14 +12,14 @@ use Rattle.core_model.specs.declared.tab.Tab.TheVariants.{Free, Retreating, Read
 use Rattle.core_model.specs.declared.view.Kind.TheVariants as kind
 use Rattle.core_model.specs.declared.view.Place.TheVariants.{Link}
 use Rattle.core_model.specs.declared.view.View.{View}
-use Rattle.core_model.specs.Allowed.{Allowed, MayReserve, MayLoosen}
 use Rattle.core_model.specs.Chains.{rest_of, times}
 use Rattle.core_model.specs.Layout.{index}
 use Rattle.core_model.specs.Steps.{finding}
 use Rattle.core_model.specs.Tabs.{inner, tab_at, OfWriter, OfFreer}
-use Rattle.core_model.specs.TabsAfter.{reserves, loosens, tabs_after}
 use Rattle.core_model.proofs.OwnsKept.{of_freer, tab_was, held_slot, only_inner}
 use Rattle.core_model.proofs.Spelling.{one_same}
+use Rattle.core_model.specs.Table.{Allowed, tabs_after}
+use Rattle.core_model.specs.SlotMoves.{MayReserve, MayLoosen, reserves, loosens}
 use Rattle.core_state.specs.declared.change.Change.{Change}
 use Rattle.core_state.specs.declared.change.TabsChange.{TabsChange}
 use Rattle.core_state.specs.declared.tab_change.TabChange.TheVariants.{Reserves, Loosens}

@@ -2,12 +2,12 @@
 use Rattle.std.proofs.Common.{◌≡◌, ℕ, List, ◌∷◌, ◌++◌, append_assoc, sym, ap, ◌∙◌}
 use Rattle.std.specs.Option.{option_to_list}
 use Rattle.core_model.specs.declared.view.Sight.{Sight}
-use Rattle.core_model.specs.Adding.{names_seen, sights_learned}
-use Rattle.core_model.specs.Records.{sights_of}
 use Rattle.std.specs.Prelude.{slice_set}
 use Rattle.core_model.specs.declared.moves.Move.{Move}
 use Rattle.core_model.specs.declared.view.View.{View}
 use Rattle.core_model.specs.Steps.{finding, view_after, after}
+use Rattle.core_model.specs.Additions.{names_seen, sights_learned}
+use Rattle.core_model.specs.Table.{sights_of}
 use Rattle.core_state.specs.declared.content.Content.{Content}
 use Rattle.core_state.specs.declared.change.Change.{Change}
 use Rattle.core_state.specs.declared.table.Opening.{Opening}

@@ -13,8 +13,7 @@ use Rattle.core_model.specs.declared.moves.Move.TheVariants as move
 use Rattle.core_model.specs.declared.view.Kind.TheVariants as kind
 use Rattle.core_model.specs.declared.view.Sight.{Sight}
 use Rattle.core_model.specs.declared.view.View.{View}
-use Rattle.core_model.specs.Allowed.{IsNote}
-use Rattle.core_model.specs.Steps.{is_spent, free_note, seen_in, put, spent}
+use Rattle.core_model.specs.CellMoves.{IsNote, is_spent, free_note, seen_in, put, spent}
 use Rattle.core_state.specs.declared.change.ChainChange.TheVariants as chains
 use Rattle.core_state.specs.declared.change.Change.{Change}
 use Rattle.core_state.specs.declared.change.NotesChange.TheVariants as notes

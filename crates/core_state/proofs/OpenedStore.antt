@@ -1,5 +1,5 @@
 -- A store that was opened with what a rebuild kept: its setting is one, its state is that of an opening, and it is sound.
-use Rattle.std.proofs.Common.{◌≡◌, ◌⊎◌, All, inl, inr, ⊎_elim, ℕ, zero, suc, ◌+◌, ◌*◌, ◌<◌, ◌≤◌, List, [], ◌∷◌, Option, None, map, replicate, length, get_or, refl, sym, ap, ◌∙◌, subst, arith, Contains}
+use Rattle.std.proofs.Common.{◌≡◌, ◌⊎◌, All, inl, inr, ⊎_elim, ℕ, zero, suc, ◌+◌, ◌<◌, ◌≤◌, List, [], ◌∷◌, Option, None, map, replicate, length, get_or, refl, sym, ap, ◌∙◌, subst, arith, Contains}
 use Rattle.std.specs.Prelude.{slice_index}
 use Rattle.std.proofs.lemmas.List.{length-replicate}
 use Rattle.std.proofs.lemmas.List.Elements.{All-contains}
@@ -11,25 +11,28 @@ use Rattle.link_word.specs.declared.link.Link.TheVariants.{Last}
 use Rattle.rebuild_model.specs.declared.found.Found.{Found}
 use Rattle.rebuild_model.specs.declared.rebuilt.Rebuilt.{Rebuilt}
 use Rattle.rebuild_model.specs.Rebuilt.{IsRebuilt}
-use Rattle.core_model.specs.declared.moves.Side.{Side}
 use Rattle.core_model.specs.declared.moves.Side.TheVariants.{Key0, Key1, Offer, Start}
-use Rattle.core_model.specs.declared.view.Place.TheVariants.{Beside as BesideWord, Link as LinkWord}
+use Rattle.core_model.specs.declared.view.Place.TheVariants.{Link as LinkWord}
 use Rattle.core_model.specs.Anchors.{IsSetting}
 use Rattle.core_model.specs.Chains.{no_chain, Spells}
-use Rattle.core_model.specs.Layout.{index, word_count}
+use Rattle.core_model.specs.Layout.{anchor_index, counter_index, index, word_count}
 use Rattle.core_model.specs.Opening.{IsOpened, IsKeptAt, IsEmptyAt}
 use Rattle.core_model.specs.Sound.{Sound}
 use Rattle.core_model.proofs.Opened.{opens}
 use Rattle.core_model.proofs.SlotsOpened.{opens_slots, spells_alike}
 use Rattle.core_model.proofs.CellsOpened.{opens_cells}
+use Rattle.core_model.proofs.OffersOpened.{opened_deeds}
+use Rattle.core_model.proofs.SightsOpened.{opens_sights}
 use Rattle.core_state.specs.declared.kept.Column.{Column}
 use Rattle.core_state.specs.declared.kept.Column.TheVariants.{Anchor, Beside}
 use Rattle.core_state.specs.declared.table.Opening.{Opening}
 use Rattle.core_state.specs.Inside.{setting}
-use Rattle.core_state.specs.Kept.{entry_word, column_words, link_words, kept_chain, AreWithin, IsOpening, opened_words, opened_state}
+use Rattle.core_state.specs.Kept.{entry_word, column_index, anchor_words, link_words, kept_chain, AreWithin, IsOpening, opened_words, opened_state}
 use Rattle.core_state.specs.Machine.{opened_from}
 use Rattle.core_state.specs.New.{cell_of}
-use Rattle.core_state.proofs.Placing.{length-placed, placed_else, placed_here, length-linked, linked_else, linked_spells, Rows, rows, length-rows, at_word, at_key0, at_key1, at_offer, at_start, at_owner, at_link, at_turn, at_counter}
+use Rattle.core_state.proofs.Placing.{length-placed, placed_else, placed_here, length-linked, linked_else, linked_spells, Rows, rows, length-rows, at_anchor, at_link, at_turn, at_owner, at_counter}
+use Rattle.core_state.proofs.Columns.{column_within, many_words, here, empty_at}
+use Rattle.core_state.proofs.Lists.{same_at}
 use Rattle.core_state.proofs.Winners.{held_or_not, chain_once, all_within, free_in_none, version_to, greatest_to, anchors_apart, chains_apart}
 
 length-mapped : {X Y : Type 0} → (f : X → Y) (xs : List X) → length (map f xs) ≡ length xs
@@ -44,12 +47,6 @@ mapped_at : {X Y : Type 0} → (f : X → Option Y) (xs : List X) (i : ℕ) (x :
 mapped_at f [] i x e = absurd (some-ne-none x (sym e))
 mapped_at f (y ∷ ys) zero x e = ap f (some-injective y x e)
 mapped_at f (y ∷ ys) (suc i) x e = mapped_at f ys i x e
-
--- of a list that has one item throughout
-same_at : {X : Type 0} → (n i : ℕ) (x : X) → get_or (replicate n x) i x ≡ x
-same_at zero i x = refl
-same_at (suc n) zero x = refl
-same_at (suc n) (suc i) x = same_at n i x
 
 -- what a setting asks of the word of an anchor, where no version is above this one
 record IsOpeningWord (n most : ℕ) : Type 0 where
@@ -72,31 +69,18 @@ module _ (o : Opening) (r : Rebuilt) (words : o.words.items ≡ opened_words r o
   abbrev place : Found → ℕ
   place f = anchor_of f.key o.anchors
 
-  abbrev column : Column → List ℕ
-  column c = column_words c r.winners o.anchors
-
-  many_in : (c : Column) → length (column c) ≡ o.anchors
-  many_in c = length-placed place (entry_word c) (replicate o.anchors 0) r.winners ∙ length-replicate o.anchors 0
+  abbrev area : List ℕ
+  area = anchor_words r.winners o.anchors
 
   abbrev table : Rows o.anchors o.slots
   table = record {
-    words = column Anchor;
-    key0 = column (Beside Key0);
-    key1 = column (Beside Key1);
-    offers = column (Beside Offer);
-    starts = column (Beside Start);
-    owners = r.owner;
+    words = area;
     links = link_words r.winners o.slots;
-    turns = replicate o.slots 0;
+    owners = r.owner;
     counter = r.greatest;
-    many_words = many_in Anchor;
-    many_key0 = many_in (Beside Key0);
-    many_key1 = many_in (Beside Key1);
-    many_offers = many_in (Beside Offer);
-    many_starts = many_in (Beside Start);
-    many_owners = b.one_a_slot ∙ many;
+    many_words = many_words r.winners o.anchors;
     many_links = length-linked (replicate o.slots 0) r.winners ∙ length-replicate o.slots 0;
-    many_turns = length-replicate o.slots 0;
+    many_owners = b.one_a_slot ∙ many;
   }
 
   -- a word of the opening is that of the rows
@@ -106,38 +90,32 @@ module _ (o : Opening) (r : Rebuilt) (words : o.words.items ≡ opened_words r o
   below : (f : Found) → place f < o.anchors
   below f = anchor_below f.key o.anchors some_anchor
 
-  -- the word of an anchor, and those beside it
-  beside : (side : Side) (a : ℕ) → a < o.anchors → slice_index o.words.items (index (setting o) (BesideWord side a)) ≡ get_or (column (Beside side)) a 0
-  beside Key0 a lt = told _ _ (at_key0 o.anchors o.slots table a _ lt (omega arith))
-  beside Key1 a lt = told _ _ (at_key1 o.anchors o.slots table a _ lt (omega arith))
-  beside Offer a lt = told _ _ (at_offer o.anchors o.slots table a _ lt (omega arith))
-  beside Start a lt = told _ _ (at_start o.anchors o.slots table a _ lt (omega arith))
-
-  anchor_word : (a : ℕ) → a < o.anchors → slice_index o.words.items a ≡ get_or (column Anchor) a 0
-  anchor_word a lt = told a _ (at_word o.anchors o.slots table a lt)
-
-  link_word : (s : ℕ) → s < o.slots → slice_index o.words.items (index (setting o) (LinkWord s)) ≡ get_or (link_words r.winners o.slots) s 0
-  link_word s lt = told _ _ (at_link o.anchors o.slots table s _ lt (omega arith))
-
-  counter_word : slice_index o.words.items (5 * o.anchors + 3 * o.slots) ≡ r.greatest
-  counter_word = told _ _ (at_counter o.anchors o.slots table _ refl)
+  -- one of the five words of an anchor
+  in_area : (c : Column) (a : ℕ) → a < o.anchors → slice_index o.words.items (column_index c a) ≡ get_or area (column_index c a) 0
+  in_area c a lt = told _ _ (at_anchor o.anchors o.slots table (column_index c a) (column_within c a o.anchors lt))
 
   -- where an entry stands, and where none does
-  here : (c : Column) (f : Found) → Contains r.winners f → get_or (column c) (place f) 0 ≡ entry_word c f
-  here c f h = placed_here place (entry_word c) (replicate o.anchors 0) r.winners 0 (anchors_apart slot o.anchors images r b) f h (let z = length-replicate {A = ℕ} o.anchors 0 in let y = below f in omega arith)
+  kept_word : (c : Column) (f : Found) → Contains r.winners f → slice_index o.words.items (column_index c (place f)) ≡ entry_word c f
+  kept_word c f h = in_area c (place f) (below f) ∙ here r.winners o.anchors (anchors_apart slot o.anchors images r b) below f h c
 
-  empty_at : (c : Column) (a : ℕ) → ((f : Found) → Contains r.winners f → place f ≡ a → ⊥) → get_or (column c) a 0 ≡ 0
-  empty_at c a none = placed_else place (entry_word c) (replicate o.anchors 0) r.winners a 0 none ∙ same_at o.anchors a 0
+  empty_word_at : (c : Column) (a : ℕ) → a < o.anchors → ((f : Found) → Contains r.winners f → place f ≡ a → ⊥) → slice_index o.words.items (column_index c a) ≡ 0
+  empty_word_at c a lt none = in_area c a lt ∙ empty_at r.winners o.anchors c a none
+
+  link_word : (s : ℕ) → s < o.slots → slice_index o.words.items (index (setting o) (LinkWord s)) ≡ get_or (link_words r.winners o.slots) s 0
+  link_word s lt = told _ _ (at_link o.anchors o.slots table s _ lt refl)
+
+  counter_word : slice_index o.words.items (counter_index (setting o)) ≡ r.greatest
+  counter_word = told _ _ (at_counter o.anchors o.slots table _ refl)
 
   pub all_words : length o.words.items ≡ word_count (setting o)
   all_words = ap length words ∙ length-rows o.anchors o.slots table
 
-  opening_word : (a : ℕ) → a < o.anchors → IsOpeningWord (slice_index o.words.items a) r.greatest
-  opening_word a lt = subst (λ (n : ℕ). IsOpeningWord n r.greatest) (sym (anchor_word a lt)) (⊎_elim
-      (λ (q : (f : Found) × Contains r.winners f × (place f ≡ a)). subst (λ (z : ℕ). IsOpeningWord (get_or (column Anchor) z 0) r.greatest) q.2
-      (subst (λ (n : ℕ). IsOpeningWord n r.greatest) (sym (here Anchor q.0 q.1)) (closed_word q.0.version r.greatest (version_to slot o.anchors images r b q.0 q.1))))
-      (λ (none : (f : Found) → Contains r.winners f → place f ≡ a → ⊥). subst (λ (n : ℕ). IsOpeningWord n r.greatest) (sym (empty_at Anchor a none)) (empty_word r.greatest))
-      (held_or_not place r.winners a))
+  opening_word : (a : ℕ) → a < o.anchors → IsOpeningWord (slice_index o.words.items (anchor_index a)) r.greatest
+  opening_word a lt = ⊎_elim
+      (λ (q : (f : Found) × Contains r.winners f × (place f ≡ a)). subst (λ (z : ℕ). IsOpeningWord (slice_index o.words.items (anchor_index z)) r.greatest) q.2
+      (subst (λ (n : ℕ). IsOpeningWord n r.greatest) (sym (kept_word Anchor q.0 q.1)) (closed_word q.0.version r.greatest (version_to slot o.anchors images r b q.0 q.1))))
+      (λ (none : (f : Found) → Contains r.winners f → place f ≡ a → ⊥). subst (λ (n : ℕ). IsOpeningWord n r.greatest) (sym (empty_word_at Anchor a lt none)) (empty_word r.greatest))
+      (held_or_not place r.winners a)
 
   pub is_setting : o.passes ≤ 32 → IsSetting (setting o)
   is_setting few = record {
@@ -163,19 +141,19 @@ module _ (o : Opening) (r : Rebuilt) (words : o.words.items ≡ opened_words r o
 
   kept_at : (f : Found) → Contains r.winners f → IsKeptAt (setting o) (opened_state o r) (place f) f
   kept_at f h = record {
-    word_is = anchor_word (place f) (below f) ∙ here Anchor f h;
-    key0 = beside Key0 (place f) (below f) ∙ here (Beside Key0) f h;
-    key1 = beside Key1 (place f) (below f) ∙ here (Beside Key1) f h;
-    offer = beside Offer (place f) (below f) ∙ here (Beside Offer) f h;
-    start = beside Start (place f) (below f) ∙ here (Beside Start) f h;
+    word_is = kept_word Anchor f h;
+    key0 = kept_word (Beside Key0) f h;
+    key1 = kept_word (Beside Key1) f h;
+    offer = kept_word (Beside Offer) f h;
+    start = kept_word (Beside Start) f h;
     chain = placed_here place kept_chain (replicate o.anchors no_chain) r.winners no_chain (anchors_apart slot o.anchors images r b) f h (let z = length-replicate o.anchors no_chain in let y = below f in omega arith);
     links = spelled f h;
   }
 
   empty_anchor : (a : ℕ) → a < o.anchors → ((f : Found) → Contains r.winners f → place f ≡ a → ⊥) → IsEmptyAt (setting o) (opened_state o r) a
   empty_anchor a lt none = record {
-    word_is = anchor_word a lt ∙ empty_at Anchor a none;
-    sides = λ side. beside side a lt ∙ empty_at (Beside side) a none;
+    word_is = empty_word_at Anchor a lt none;
+    sides = λ side. empty_word_at (Beside side) a lt none;
     chain = placed_else place kept_chain (replicate o.anchors no_chain) r.winners a no_chain none ∙ same_at o.anchors a no_chain;
   }
 
@@ -189,7 +167,7 @@ module _ (o : Opening) (r : Rebuilt) (words : o.words.items ≡ opened_words r o
     empty = empty_anchor;
     owners = λ s lt. told _ _ (at_owner o.anchors o.slots table s _ lt refl);
     free = λ s lt free. link_word s lt ∙ linked_else (replicate o.slots 0) r.winners s (free_in_none slot o.anchors images r b s free) ∙ same_at o.slots s 0;
-    turns = λ s lt. told _ _ (at_turn o.anchors o.slots table s _ lt refl ∙ same_at o.slots s 0);
+    turns = λ s lt. told _ _ (at_turn o.anchors o.slots table s _ lt refl);
     counter = counter_word;
     chains = length-placed place kept_chain (replicate o.anchors no_chain) r.winners ∙ length-replicate o.anchors no_chain;
     places = length-mapped cell_of (opened_from 0 o.slots) ∙ length-opened 0 o.slots;
@@ -203,6 +181,8 @@ module _ (o : Opening) (r : Rebuilt) (words : o.words.items ≡ opened_words r o
     anchors = opens (setting o) r (opened_state o r) (is_setting few) (is_opened few);
     slots = opens_slots (setting o) r (opened_state o r) (is_setting few) (is_opened few) slot images b many;
     cells = opens_cells (setting o) r (opened_state o r) (is_setting few) (is_opened few) slot images b many;
+    deeds_tell = opened_deeds (setting o) r (opened_state o r) (is_setting few) (is_opened few);
+    sights = opens_sights (setting o) r (opened_state o r) (is_setting few) (is_opened few);
   }
 
 -- the same of an opening with these numbers

@@ -11,11 +11,10 @@ use Rattle.core_model.specs.declared.tab.Tab.TheVariants.{Free, Retreating, Read
 use Rattle.core_model.specs.declared.view.Kind.TheVariants as kind
 use Rattle.core_model.specs.declared.view.Place.TheVariants.{Owner}
 use Rattle.core_model.specs.declared.view.View.{View}
-use Rattle.core_model.specs.Allowed.{InnerIsFree, MayReserve, MayGiveBack}
 use Rattle.core_model.specs.Layout.{index}
-use Rattle.core_model.specs.Tabs.{inner, tab_at, anchor_of, OfWriter, OfFreer}
-use Rattle.core_model.specs.TabsAfter.{reserves, gives_back}
+use Rattle.core_model.specs.Tabs.{inner, tab_at, anchor_of, OfWriter, OfFreer, InnerIsFree}
 use Rattle.core_model.proofs.OwnsKept.{held_slot, back_held}
+use Rattle.core_model.specs.SlotMoves.{MayReserve, MayGiveBack, reserves, gives_back}
 use Rattle.core_state.specs.declared.change.ChainChange.TheVariants as chains
 use Rattle.core_state.specs.declared.change.NotesChange.TheVariants as notes
 use Rattle.core_state.specs.declared.change.TabsChange.TheVariants as tabs

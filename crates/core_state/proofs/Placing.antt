@@ -1,5 +1,5 @@
 -- Lists in which items were put at their places, and links in which chains were written, read at a place.
-use Rattle.std.proofs.Common.{◌≡◌, ◌≢◌, ◌⊎◌, inl, inr, ⊎_elim, Some, None, ℕ, suc, ◌+◌, ◌*◌, ◌<◌, List, [], ◌∷◌, ◌++◌, length, get_or, set, sym, refl, ap, ◌∙◌, subst, arith, eq-eqb, Contains, All}
+use Rattle.std.proofs.Common.{◌≡◌, ◌≢◌, ◌⊎◌, inl, inr, ⊎_elim, Some, None, ℕ, zero, suc, ◌+◌, ◌*◌, ◌<◌, List, [], ◌∷◌, ◌++◌, length, get_or, set, sym, refl, ap, ◌∙◌, subst, arith, eq-eqb, Contains, All}
 use Rattle.std.specs.Prelude.{nat_eq, slice_get}
 use Rattle.std.specs.List.{IsDistinct}
 use Rattle.std.proofs.lemmas.List.{length-set, length-append, get_or-set_same, get_or-set_other, get_or_append_left, get_or-append_right}
@@ -12,12 +12,16 @@ use Rattle.core_model.specs.Chains.{link_to, Spells}
 use Rattle.core_model.proofs.Lists.{cons_contains, contains_none}
 use Rattle.core_model.proofs.Tabs.{contains_times}
 use Rattle.core_model.proofs.SlotsOpened.{times_distinct, spells_alike}
-use Rattle.core_state.specs.Kept.{placed, chained, linked, AreWithin}
+use Rattle.core_state.specs.Kept.{placed, chained, linked, with_turns, AreWithin}
 
 -- R holds of each and all that come later
 abbrev pub Apart : {Y : Type 0} → (Y → Y → Type 0) → List Y → Type 0
 Apart R [] = Unit {0}
 Apart {Y} R (y ∷ ys) = ((z : Y) → Contains ys z → R y z) × Apart R ys
+
+pub apart_more : {Y : Type 0} (R S : Y → Y → Type 0) → ((y z : Y) → R y z → S y z) → (ys : List Y) → Apart R ys → Apart S ys
+apart_more R S more [] h = tt
+apart_more R S more (y ∷ ys) h = ((λ z c. more y z (h.0 z c)), apart_more R S more ys h.1)
 
 pub first_in : {Y : Type 0} (y : Y) (ys : List Y) → Contains (y ∷ ys) y
 first_in y ys = (0, omega arith, refl)
@@ -106,123 +110,71 @@ front xs ys n j many lt = get_or_append_left xs ys 0 j (omega arith)
 back : (xs ys : List ℕ) (n i j : ℕ) → length xs ≡ n → j ≡ n + i → get_or (xs ++ ys) j 0 ≡ get_or ys i 0
 back xs ys n i j many is = get_or-append_right xs ys n j 0 many (omega arith) ∙ ap (λ (k : ℕ). get_or ys k 0) (omega arith)
 
+-- links with their turns
+length-with_turns : (xs : List ℕ) → length (with_turns xs) ≡ 2 * length xs
+length-with_turns [] = refl
+length-with_turns (x ∷ xs) = let r = length-with_turns xs in omega arith
+
+link_in : (xs : List ℕ) (i : ℕ) → get_or (with_turns xs) (2 * i) 0 ≡ get_or xs i 0
+link_in [] i = refl
+link_in (x ∷ xs) zero = refl
+link_in (x ∷ xs) (suc i) = let e : 2 * suc i ≡ suc (suc (2 * i)) = omega arith in ap (λ (n : ℕ). get_or (x ∷ 0 ∷ with_turns xs) n 0) e ∙ link_in xs i
+
+turn_in : (xs : List ℕ) (i : ℕ) → get_or (with_turns xs) (2 * i + 1) 0 ≡ 0
+turn_in [] i = refl
+turn_in (x ∷ xs) zero = refl
+turn_in (x ∷ xs) (suc i) = let e : 2 * suc i + 1 ≡ suc (suc (2 * i + 1)) = omega arith in ap (λ (n : ℕ). get_or (x ∷ 0 ∷ with_turns xs) n 0) e ∙ turn_in xs i
+
 -- the rows of a table with so many anchors and slots, and the word behind them
 pub record Rows (anchors slots : ℕ) : Type 0 where
   pub words : List ℕ
-  pub key0 : List ℕ
-  pub key1 : List ℕ
-  pub offers : List ℕ
-  pub starts : List ℕ
-  pub owners : List ℕ
   pub links : List ℕ
-  pub turns : List ℕ
+  pub owners : List ℕ
   pub counter : ℕ
-  pub many_words : length words ≡ anchors
-  pub many_key0 : length key0 ≡ anchors
-  pub many_key1 : length key1 ≡ anchors
-  pub many_offers : length offers ≡ anchors
-  pub many_starts : length starts ≡ anchors
-  pub many_owners : length owners ≡ slots
+  pub many_words : length words ≡ 5 * anchors
   pub many_links : length links ≡ slots
-  pub many_turns : length turns ≡ slots
+  pub many_owners : length owners ≡ slots
 
 module _ (m n : ℕ) (x : Rows m n) where
   -- the first rows, so many of them, and all of them
   abbrev r2 : List ℕ
-  r2 = x.words ++ x.key0
+  r2 = x.words ++ with_turns x.links
 
   abbrev r3 : List ℕ
-  r3 = r2 ++ x.key1
-
-  abbrev r4 : List ℕ
-  r4 = r3 ++ x.offers
-
-  abbrev r5 : List ℕ
-  r5 = r4 ++ x.starts
-
-  abbrev r6 : List ℕ
-  r6 = r5 ++ x.owners
-
-  abbrev r7 : List ℕ
-  r7 = r6 ++ x.links
-
-  abbrev r8 : List ℕ
-  r8 = r7 ++ x.turns
+  r3 = r2 ++ x.owners
 
   abbrev pub rows : List ℕ
-  rows = r8 ++ x.counter ∷ []
+  rows = r3 ++ x.counter ∷ []
 
-  many2 : length r2 ≡ 2 * m
-  many2 = let z = length-append x.words x.key0 in omega arith
+  many2 : length r2 ≡ 5 * m + 2 * n
+  many2 = let z = length-append x.words (with_turns x.links) in let y = length-with_turns x.links in let a = x.many_words in let b = x.many_links in omega arith
 
-  many3 : length r3 ≡ 3 * m
-  many3 = let z = length-append r2 x.key1 in let y = many2 in omega arith
-
-  many4 : length r4 ≡ 4 * m
-  many4 = let z = length-append r3 x.offers in let y = many3 in omega arith
-
-  many5 : length r5 ≡ 5 * m
-  many5 = let z = length-append r4 x.starts in let y = many4 in omega arith
-
-  many6 : length r6 ≡ 5 * m + n
-  many6 = let z = length-append r5 x.owners in let y = many5 in omega arith
-
-  many7 : length r7 ≡ 5 * m + 2 * n
-  many7 = let z = length-append r6 x.links in let y = many6 in omega arith
-
-  many8 : length r8 ≡ 5 * m + 3 * n
-  many8 = let z = length-append r7 x.turns in let y = many7 in omega arith
+  many3 : length r3 ≡ 5 * m + 3 * n
+  many3 = let z = length-append r2 x.owners in let y = many2 in let a = x.many_owners in omega arith
 
   pub length-rows : length rows ≡ 5 * m + 3 * n + 1
-  length-rows = let z = length-append r8 (x.counter ∷ []) in let y = many8 in omega arith
+  length-rows = let z = length-append r3 (x.counter ∷ []) in let y = many3 in omega arith
 
-  in8 : (j : ℕ) → j < 5 * m + 3 * n → get_or rows j 0 ≡ get_or r8 j 0
-  in8 j h = front r8 (x.counter ∷ []) _ j many8 h
+  in3 : (j : ℕ) → j < 5 * m + 3 * n → get_or rows j 0 ≡ get_or r3 j 0
+  in3 j h = front r3 (x.counter ∷ []) _ j many3 h
 
-  in7 : (j : ℕ) → j < 5 * m + 2 * n → get_or rows j 0 ≡ get_or r7 j 0
-  in7 j h = in8 j (omega arith) ∙ front r7 x.turns _ j many7 h
+  in2 : (j : ℕ) → j < 5 * m + 2 * n → get_or rows j 0 ≡ get_or r2 j 0
+  in2 j h = in3 j (omega arith) ∙ front r2 x.owners _ j many2 h
 
-  in6 : (j : ℕ) → j < 5 * m + n → get_or rows j 0 ≡ get_or r6 j 0
-  in6 j h = in7 j (omega arith) ∙ front r6 x.links _ j many6 h
+  pub at_anchor : (j : ℕ) → j < 5 * m → get_or rows j 0 ≡ get_or x.words j 0
+  at_anchor j h = in2 j (omega arith) ∙ front x.words (with_turns x.links) _ j x.many_words h
 
-  in5 : (j : ℕ) → j < 5 * m → get_or rows j 0 ≡ get_or r5 j 0
-  in5 j h = in6 j (omega arith) ∙ front r5 x.owners _ j many5 h
+  pub at_link : (i j : ℕ) → i < n → j ≡ 5 * m + 2 * i → get_or rows j 0 ≡ get_or x.links i 0
+  at_link i j h is = in2 j (omega arith) ∙ back x.words (with_turns x.links) (5 * m) (2 * i) j x.many_words is ∙ link_in x.links i
 
-  in4 : (j : ℕ) → j < 4 * m → get_or rows j 0 ≡ get_or r4 j 0
-  in4 j h = in5 j (omega arith) ∙ front r4 x.starts _ j many4 h
+  pub at_turn : (i j : ℕ) → i < n → j ≡ 5 * m + 2 * i + 1 → get_or rows j 0 ≡ 0
+  at_turn i j h is = in2 j (omega arith) ∙ back x.words (with_turns x.links) (5 * m) (2 * i + 1) j x.many_words (omega arith) ∙ turn_in x.links i
 
-  in3 : (j : ℕ) → j < 3 * m → get_or rows j 0 ≡ get_or r3 j 0
-  in3 j h = in4 j (omega arith) ∙ front r3 x.offers _ j many3 h
-
-  in2 : (j : ℕ) → j < 2 * m → get_or rows j 0 ≡ get_or r2 j 0
-  in2 j h = in3 j (omega arith) ∙ front r2 x.key1 _ j many2 h
-
-  pub at_word : (j : ℕ) → j < m → get_or rows j 0 ≡ get_or x.words j 0
-  at_word j h = in2 j (omega arith) ∙ front x.words x.key0 _ j x.many_words h
-
-  pub at_key0 : (i j : ℕ) → i < m → j ≡ m + i → get_or rows j 0 ≡ get_or x.key0 i 0
-  at_key0 i j h is = in2 j (omega arith) ∙ back x.words x.key0 m i j x.many_words is
-
-  pub at_key1 : (i j : ℕ) → i < m → j ≡ 2 * m + i → get_or rows j 0 ≡ get_or x.key1 i 0
-  at_key1 i j h is = in3 j (omega arith) ∙ back r2 x.key1 (2 * m) i j many2 is
-
-  pub at_offer : (i j : ℕ) → i < m → j ≡ 3 * m + i → get_or rows j 0 ≡ get_or x.offers i 0
-  at_offer i j h is = in4 j (omega arith) ∙ back r3 x.offers (3 * m) i j many3 is
-
-  pub at_start : (i j : ℕ) → i < m → j ≡ 4 * m + i → get_or rows j 0 ≡ get_or x.starts i 0
-  at_start i j h is = in5 j (omega arith) ∙ back r4 x.starts (4 * m) i j many4 is
-
-  pub at_owner : (i j : ℕ) → i < n → j ≡ 5 * m + i → get_or rows j 0 ≡ get_or x.owners i 0
-  at_owner i j h is = in6 j (omega arith) ∙ back r5 x.owners (5 * m) i j many5 is
-
-  pub at_link : (i j : ℕ) → i < n → j ≡ 5 * m + n + i → get_or rows j 0 ≡ get_or x.links i 0
-  at_link i j h is = in7 j (omega arith) ∙ back r6 x.links (5 * m + n) i j many6 is
-
-  pub at_turn : (i j : ℕ) → i < n → j ≡ 5 * m + 2 * n + i → get_or rows j 0 ≡ get_or x.turns i 0
-  at_turn i j h is = in8 j (omega arith) ∙ back r7 x.turns (5 * m + 2 * n) i j many7 is
+  pub at_owner : (i j : ℕ) → i < n → j ≡ 5 * m + 2 * n + i → get_or rows j 0 ≡ get_or x.owners i 0
+  at_owner i j h is = in3 j (omega arith) ∙ back r2 x.owners (5 * m + 2 * n) i j many2 is
 
   pub at_counter : (j : ℕ) → j ≡ 5 * m + 3 * n → get_or rows j 0 ≡ x.counter
-  at_counter j is = back r8 (x.counter ∷ []) (5 * m + 3 * n) 0 j many8 (omega arith)
+  at_counter j is = back r3 (x.counter ∷ []) (5 * m + 3 * n) 0 j many3 (omega arith)
 
 -- the steps of loops that write links: one slot of a chain, and the chain of one entry
 link_last : (rest : List ℕ) (link : Link) → slice_get rest 0 ≡ None → link ≡ Last → link ≡ link_to rest Last

@@ -10,13 +10,11 @@ use Rattle.core_model.specs.declared.tab.Tab.TheVariants.{Writing}
 use Rattle.core_model.specs.declared.tab.Writer.{Writer}
 use Rattle.core_model.specs.declared.view.Place.TheVariants.{Link as LinkWord}
 use Rattle.core_model.specs.declared.view.View.{View}
-use Rattle.core_model.specs.Allowed.{MayPublish}
 use Rattle.core_model.specs.Chains.{no_chain, rest_of}
 use Rattle.core_model.specs.Layout.{index}
-use Rattle.core_model.specs.Records.{shows}
 use Rattle.core_model.specs.Steps.{longer}
 use Rattle.core_model.specs.Tabs.{inner, tab_at, anchor_of, OfWriter}
-use Rattle.core_model.specs.TabsAfter.{publishes}
+use Rattle.core_model.specs.SlotMoves.{MayPublish, shows, publishes}
 use Rattle.core_state.specs.declared.change.Change.{Change}
 use Rattle.core_state.specs.declared.change.TabsChange.{TabsChange}
 use Rattle.core_state.specs.declared.tab_change.TabChange.TheVariants.{Publishes}

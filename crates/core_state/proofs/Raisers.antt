@@ -18,12 +18,11 @@ use Rattle.core_model.specs.declared.view.Place.TheVariants.{Anchor}
 use Rattle.core_model.specs.declared.view.Sight.TheVariants.{Stood}
 use Rattle.core_model.specs.declared.view.View.{View}
 use Rattle.core_model.specs.Chains.{no_chain}
-use Rattle.core_model.specs.Layout.{Setting}
+use Rattle.core_model.specs.Layout.{Setting, anchor_index}
 use Rattle.core_model.specs.State.{State}
 use Rattle.core_model.specs.Steps.{chains_after, halted}
-use Rattle.core_model.specs.Tabs.{tab_at, anchor_of, is_free, counts, OfWriter}
-use Rattle.core_model.specs.TabsAfter.{raised_tab}
-use Rattle.core_model.specs.Where.{stage_held}
+use Rattle.core_model.specs.Tabs.{tab_at, anchor_of, is_free, counts, OfWriter, stage_held}
+use Rattle.core_model.specs.AnchorMoves.{raised_tab}
 use Rattle.core_state.specs.declared.change.ChainChange.{ChainChange}
 use Rattle.core_state.specs.declared.change.NotesChange.TheVariants as notes
 use Rattle.core_state.specs.declared.change.TabsChange.{TabsChange}
@@ -121,8 +120,8 @@ module _ (o : Opening) (t : Table) (v : View Content) (scene : IsScene o t v) (a
   pub allowed_to_raise : MayRaiseTab (setting o) (state t) (tab_at v at) to
   allowed_to_raise = subst (λ (y : Tab Content). MayRaiseTab (setting o) (state t) y to) (sym (tab_is o t v scene at x there)) may
 
-  pub raise_planned : (a : ℕ) (same : a ≡ anchor_of x) (within : a < o.anchors) (w : Word) (number : word_number w ≡ slice_index t.words.items a) (range : IsInRange w)
-      → (left own seen : ℕ) (met : Option ℕ) (tabs : TabsChange) (chain : ChainChange) (c : Chain) (base : Addition)
+  pub raise_planned : (a : ℕ) (same : a ≡ anchor_of x) (within : a < o.anchors) (w : Word) (number : word_number w ≡ slice_index t.words.items (anchor_index a)) (range : IsInRange w)
+      → (left own seen : ℕ) (met : Option ℕ) (tabs : TabsChange) (chain : ChainChange) (c : Chain) (base : Addition) (index : ℕ)
       → left ≡ word_number record w { epoch = record w.epoch { stage = to } }
       → own ≡ sum_by (counts a) v.tabs
       → option_to_list met ≡ (if nat_lt own w.readers then a ∷ [] else [])
@@ -131,9 +130,10 @@ module _ (o : Opening) (t : Table) (v : View Content) (scene : IsScene o t v) (a
       → c ≡ get_or t.chains.items a no_chain
       → chain ≡ raised_chain to a c
       → base ≡ anchor_addition kind.Raised a left left seen
+      → index ≡ anchor_index a
       → Plans o t v (move.Raise at to) record {
         answer = left;
-        word = Some record { index = a; left = left };
+        word = Some record { index = index; left = left };
         turn = turns.Same;
         tabs = tabs;
         chain = chain;
@@ -150,28 +150,28 @@ module _ (o : Opening) (t : Table) (v : View Content) (scene : IsScene o t v) (a
         };
         notes = notes.Same;
       }
-  raise_planned a same within w number range left own seen met tabs chain c base left_is own_is met_is seen_is tabs_is c_is chain_is base_is =
+  raise_planned a same within w number range left own seen met tabs chain c base index left_is own_is met_is seen_is tabs_is c_is chain_is base_is index_is =
       let is = tab_is o t v scene at x there in
       let le = below o t v scene at x there in
       let anchor : anchor_of (tab_at v at) ≡ a = ap anchor_of is ∙ sym same in
-      let n : slice_index t.words.items (anchor_of (tab_at v at)) ≡ word_number w = ap (λ b. slice_index t.words.items b) anchor ∙ sym number in
+      let n : slice_index t.words.items (anchor_index (anchor_of (tab_at v at))) ≡ word_number w = ap (λ b. slice_index t.words.items (anchor_index b)) anchor ∙ sym number in
       let few = range.readers in
       let held = (known o t v (move.Raise at to) scene (le, allowed_to_raise)).1 in
       let held_is : stage_number w.epoch.stage ≡ stage_held (tab_at v at) =
       sym (stage_of-epoch_number w.epoch) ∙ ap stage_of (sym (epoch_of-word_number w few)) ∙ ap (λ i. stage_of (epoch_of i)) (sym n) ∙ held in
       let up = rises (setting o) (state t) (tab_at v at) to allowed_to_raise in
-      let leaves_ : raised (slice_index t.words.items (anchor_of (tab_at v at))) (stage_number to - stage_held (tab_at v at)) ≡ left = omega (arith, n, left_is, held_is, up) in
+      let leaves_ : raised (slice_index t.words.items (anchor_index (anchor_of (tab_at v at)))) (stage_number to - stage_held (tab_at v at)) ≡ left = omega (arith, n, left_is, held_is, up) in
       let readers : readers_of left ≡ w.readers = omega (arith, left_is, few) in
-      let unc = uncounted (setting o) (state t) (anchor_of (tab_at v at)) (raised (slice_index t.words.items (anchor_of (tab_at v at))) (stage_number to - stage_held (tab_at v at))) (tab_at v at) to allowed_to_raise in
-      let own_same : sum_by (counts (anchor_of (tab_at v at))) (set v.tabs at (raised_tab (tab_at v at) to (raised (slice_index t.words.items (anchor_of (tab_at v at))) (stage_number to - stage_held (tab_at v at))))) ≡ own =
-      let sum = own_set (anchor_of (tab_at v at)) v.tabs at x there (raised_tab (tab_at v at) to (raised (slice_index t.words.items (anchor_of (tab_at v at))) (stage_number to - stage_held (tab_at v at)))) in
+      let unc = uncounted (setting o) (state t) (anchor_of (tab_at v at)) (raised (slice_index t.words.items (anchor_index (anchor_of (tab_at v at)))) (stage_number to - stage_held (tab_at v at))) (tab_at v at) to allowed_to_raise in
+      let own_same : sum_by (counts (anchor_of (tab_at v at))) (set v.tabs at (raised_tab (tab_at v at) to (raised (slice_index t.words.items (anchor_index (anchor_of (tab_at v at)))) (stage_number to - stage_held (tab_at v at))))) ≡ own =
+      let sum = own_set (anchor_of (tab_at v at)) v.tabs at x there (raised_tab (tab_at v at) to (raised (slice_index t.words.items (anchor_index (anchor_of (tab_at v at)))) (stage_number to - stage_held (tab_at v at)))) in
       let none = ap (counts (anchor_of (tab_at v at))) is in
       let here = ap (λ b. sum_by (counts b) v.tabs) anchor in
       omega (arith, sum, none, here, unc.0, unc.1, own_is) in
       record {
         allowed = (le, allowed_to_raise);
         answers = sym leaves_;
-        matches = anchored o t v (move.Raise at to) a left left seen kind.Raised _ _ _ _ _ base base_is
+        matches = anchored o t v (move.Raise at to) a left left seen kind.Raised _ _ _ _ _ base index base_is index_is
             record {
               at = ap (λ b. Some (Anchor b)) anchor;
               leaves = leaves_;
@@ -186,7 +186,7 @@ module _ (o : Opening) (t : Table) (v : View Content) (scene : IsScene o t v) (a
             (sym (λ j. record { pass = v.pass; kind = kind.Raised; anchor = anchor j; epoch = (ap epoch_of leaves_ ∙ sym seen_is) j; was_idle = false } ∷ []))
             (met_is ∙ sym (λ j. cond (ltb (own_same j) ((ap readers_of leaves_ ∙ readers) j)) (anchor j ∷ []) []))
             (ap (chains_changed t.chains.items) (chain_is ∙ ap (raised_chain to a) c_is) ∙ chains_raised (setting o) (state t) t.chains.items v at _ a (tab_at v at) to allowed_to_raise anchor);
-        word = word_there o t v scene a within;
+        word = let there = word_there o t v scene a within in omega (arith, index_is, there);
         turn = tt;
         tabs = subst (λ (y : TabsChange). FitsTabs v y) (sym tabs_is) (tabs_fit (setting o) (state t) v at _ a (tab_at v at) to allowed_to_raise refl (slice_get_within v.tabs at x there));
         chain = subst (λ (y : ChainChange). FitsChain (length t.chains.items) y) (sym chain_is)

@@ -14,11 +14,9 @@ use Rattle.core_model.specs.declared.view.Kind.TheVariants as kind
 use Rattle.core_model.specs.declared.view.Sight.{Sight}
 use Rattle.core_model.specs.declared.view.Place.TheVariants.{Beside}
 use Rattle.core_model.specs.declared.view.View.{View}
-use Rattle.core_model.specs.Allowed.{InnerIsFree, MayStore}
 use Rattle.core_model.specs.Layout.{index, side_index}
-use Rattle.core_model.specs.Records.{loads}
-use Rattle.core_model.specs.Tabs.{OfWriter, tab_at, inner, anchor_of, is_free, is_reading, is_using}
-use Rattle.core_model.specs.TabsAfter.{loaded, stores}
+use Rattle.core_model.specs.Tabs.{OfWriter, tab_at, inner, anchor_of, is_free, is_reading, is_using, InnerIsFree}
+use Rattle.core_model.specs.SlotMoves.{MayStore, loads, loaded, stores}
 use Rattle.core_state.specs.declared.change.ChainChange.TheVariants as chains
 use Rattle.core_state.specs.declared.change.NotesChange.TheVariants as notes
 use Rattle.core_state.specs.declared.change.TabsChange.TheVariants as tabs

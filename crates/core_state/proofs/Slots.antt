@@ -19,7 +19,7 @@ use Rattle.core_model.specs.declared.tab.Writer.{Writer}
 use Rattle.core_model.specs.declared.tab.Tab.TheVariants.{Reading, Writing}
 use Rattle.core_model.specs.declared.view.Place.TheVariants.{Beside}
 use Rattle.core_model.specs.declared.view.View.{View}
-use Rattle.core_model.specs.Chains.{Tied, no_chain, start_number, one, times, named, link_to, link_at}
+use Rattle.core_model.specs.Chains.{Tied, no_chain, start_number, one, times, link_to, link_at, slots_of_link}
 use Rattle.core_model.specs.Layout.{index}
 use Rattle.core_model.specs.Slots.{SlotWords, slot_words, used, held_in, ChainStands, WriterHolds}
 use Rattle.core_model.specs.State.{word}
@@ -55,13 +55,13 @@ fewer_times j zero xs = omega arith
 fewer_times j (suc p) [] = omega arith
 fewer_times j (suc p) (x ∷ xs) = let h = fewer_times j p xs in omega arith
 
-link_small : (xs : List ℕ) (e : Link) (many : ℕ) → ((j : ℕ) → 0 < times j xs → j < many) → ((j : ℕ) → 0 < times j (named e) → j < many) → link_number (link_to xs e) ≤ many + 1
+link_small : (xs : List ℕ) (e : Link) (many : ℕ) → ((j : ℕ) → 0 < times j xs → j < many) → ((j : ℕ) → 0 < times j (slots_of_link e) → j < many) → link_number (link_to xs e) ≤ many + 1
 link_small [] NotWritten many within ends = omega arith
 link_small [] LastLink many within ends = omega arith
 link_small [] (Next j) many within ends = let lt = ends j (let same = one_same j in omega arith) in omega (arith, lt)
 link_small (x ∷ xs) e many within ends = let lt = within x (let same = one_same x in omega arith) in omega (arith, lt)
 
-reserved_first : (e : Link) (published reserved : List ℕ) (j : ℕ) → Tied e published reserved → 0 < times j (named e) → 0 < times j reserved
+reserved_first : (e : Link) (published reserved : List ℕ) (j : ℕ) → Tied e published reserved → 0 < times j (slots_of_link e) → 0 < times j reserved
 reserved_first NotWritten published reserved j tied h = absurd (omega arith)
 reserved_first LastLink published reserved j tied h = absurd (omega arith)
 reserved_first (Next i) published reserved j tied h = subst (λ (l : List ℕ). 0 < times j l) (sym tied) (omega arith)
@@ -108,7 +108,7 @@ module _ (o : Opening) (t : Table) (v : View Content) (scene : IsScene o t v) wh
     stands = subst (λ (z : ℕ). ChainStands z (told.start r.anchor) told.link (chain r.anchor)) (stage_told (setting o) t.words.items r.anchor is_read.0) (scene.slots.stand r.anchor is_read.0)
 
     -- the slot that the last published one names is one of the table
-    end_slot : (j : ℕ) → 0 < times j (named (chain r.anchor).end) → j < o.slots
+    end_slot : (j : ℕ) → 0 < times j (slots_of_link (chain r.anchor).end) → j < o.slots
     end_slot j h = dite (ℕ_discrete stage 2) growing (λ not2. dite (ℕ_discrete stage 3) closed (λ not3. halted (let low = is_read.1 in let high = is_read.2 in one_left stage low high not2 not3)))
       where
         one_left : (g : ℕ) → 2 ≤ g → g ≤ 4 → (g ≡ 2 → ⊥) → (g ≡ 3 → ⊥) → g ≡ 4
@@ -118,11 +118,11 @@ module _ (o : Opening) (t : Table) (v : View Content) (scene : IsScene o t v) wh
         owned = in_table (setting o) (state t) scene.number v scene.sound scene.slots scene.at scene.pass j
 
         closed : stage ≡ 3 → j < o.slots
-        closed e = absurd (let z : times j (named (chain r.anchor).end) ≡ 0 = ap (λ l. times j (named l)) (stands.closed e) in omega (arith, z, h))
+        closed e = absurd (let z : times j (slots_of_link (chain r.anchor).end) ≡ 0 = ap (λ l. times j (slots_of_link l)) (stands.closed e) in omega (arith, z, h))
 
         halted : stage ≡ 4 → j < o.slots
         halted e =
-            let tail : (chain r.anchor).tail ≡ named (chain r.anchor).end = stands.tails ∙ ap (λ b. cond b (named (chain r.anchor).end) []) (eq-eqb stage 4 e) in
+            let tail : (chain r.anchor).tail ≡ slots_of_link (chain r.anchor).end = stands.tails ∙ ap (λ b. cond b (slots_of_link (chain r.anchor).end) []) (eq-eqb stage 4 e) in
             let z : 0 < times j (chain r.anchor).tail = subst (λ (l : List ℕ). 0 < times j l) (sym tail) h in
             owned (let f = standing_few j t.chains.items r.anchor in let p = scene.slots.places.owners j in let u = used_few (told.owner j) in omega arith)
 
@@ -136,17 +136,17 @@ module _ (o : Opening) (t : Table) (v : View Content) (scene : IsScene o t v) wh
             let holds : WriterHolds (told.beside x.writer.anchor) (chain x.writer.anchor) x.writer = scene.slots.tabs x.i x.tab.view x.tab.at x.t (Writing x.writer) x.tab.there in
             let is : chain r.anchor ≡ record { slots = x.writer.published; end = x.writer.end; tail = [] } = ap chain (sym x.anchor_is) ∙ holds.chain in
             reserved x.i x.tab.view x.tab.at x.t x.writer x.tab.there
-            (reserved_first x.writer.end x.writer.published x.writer.reserved j holds.tied (subst (λ (d : Chain). 0 < times j (named d.end)) is h))
+            (reserved_first x.writer.end x.writer.published x.writer.reserved j holds.tied (subst (λ (d : Chain). 0 < times j (slots_of_link d.end)) is h))
           where
             written : (epoch : ℕ) → stage_of epoch ≡ 2 → is_written epoch ≡ true
             written epoch e = rw e refl
 
     abbrev Says : ℕ → Type 0
-    Says n = ((r.place < length (chain r.anchor).slots) × (n ≡ link_number (link_at (chain r.anchor) r.place))) ⊎ (n ≡ 0)
+    Says n = ((r.place < length (chain r.anchor).slots) × (n ≡ link_number (link_at (chain r.anchor) r.place)) × (0 < n)) ⊎ ((r.place ≡ length (chain r.anchor).slots) × (n ≡ 0))
 
     -- a link word that it finds names a slot of the table
     pub link_below : (n : ℕ) → Says n → n ≤ o.slots + 1
-    link_below n (inr none) = omega (arith, none)
+    link_below n (inr none) = let z = none.1 in omega (arith, z)
     link_below n (inl says) =
         let small = link_small (drop (r.place + 1) (chain r.anchor).slots) (chain r.anchor).end o.slots
         (λ j h. published_slot j r.anchor (let le = fewer_times j (r.place + 1) (chain r.anchor).slots in omega (arith, le, h))) end_slot in
@@ -158,5 +158,5 @@ module _ (o : Opening) (t : Table) (v : View Content) (scene : IsScene o t v) wh
 
     -- and is that of a published slot where it is written
     pub place_below : (n : ℕ) → Says n → n ≢ 0 → r.place < o.slots
-    place_below n (inr none) some_ = absurd (some_ none)
+    place_below n (inr none) some_ = absurd (some_ none.1)
     place_below n (inl says) some_ = place_few says.0

@@ -15,11 +15,10 @@ use Rattle.core_model.specs.declared.tab.Writer.{Writer}
 use Rattle.core_model.specs.declared.view.Kind.TheVariants as kind
 use Rattle.core_model.specs.declared.view.Place.TheVariants.{Turn}
 use Rattle.core_model.specs.declared.view.View.{View}
-use Rattle.core_model.specs.Allowed.{MayRead, MayWrite, Holds}
 use Rattle.core_model.specs.Cells.{CellsSound, TurnFits}
 use Rattle.core_model.specs.Layout.{index}
 use Rattle.core_model.specs.Tabs.{tab_at, holds_turn, OfReader, OfWriter}
-use Rattle.core_model.specs.TabsAfter.{held, tries, ends}
+use Rattle.core_model.specs.CellMoves.{MayRead, MayWrite, Holds, turn_with, tries, ends}
 use Rattle.core_state.specs.declared.change.ChainChange.TheVariants as chains
 use Rattle.core_state.specs.declared.change.Change.{Change}
 use Rattle.core_state.specs.declared.change.NotesChange.TheVariants as notes
@@ -71,17 +70,17 @@ module _ (v : View Content) (places : List (Option (Cell Content))) (t slot : �
   tried_fits inside true = (lt, inside)
   tried_fits inside false = tt
 
-  tried_reader : (r : Reader Content) → tab_at v t ≡ Reading r → (won : Bool) → turned v.tabs places (turn won) ≡ set v.tabs t (Reading record r { turn = cond won (held slot cell) r.turn })
-  tried_reader r is true = ap (λ (y : Tab Content). set v.tabs t (with_turn y (held slot cell))) is
+  tried_reader : (r : Reader Content) → tab_at v t ≡ Reading r → (won : Bool) → turned v.tabs places (turn won) ≡ set v.tabs t (Reading record r { turn = cond won (turn_with slot cell) r.turn })
+  tried_reader r is true = ap (λ (y : Tab Content). set v.tabs t (with_turn y (turn_with slot cell))) is
   tried_reader r is false = sym (set-get_or v.tabs t Free) ∙ ap (λ (y : Tab Content). set v.tabs t y) is
 
   tried_writer : (w : Writer Content) (p : Piece) → tab_at v t ≡ Writing w → (won : Bool)
-      → tabs_changed (turned_view v places (turn won)) (tabs.Becomes t (Chooses p (cond won false w.is_written)))
-      ≡ set v.tabs t (Writing record w { chosen = Some p; is_written = cond won false w.is_written; turn = cond won (held slot cell) w.turn })
+      → tabs_changed (turned_view v places (turn won)) (tabs.Becomes t (Chooses p (cond won false w.is_written) (cond won false w.is_settled)))
+      ≡ set v.tabs t (Writing record w { chosen = Some p; is_written = cond won false w.is_written; is_settled = cond won false w.is_settled; turn = cond won (turn_with slot cell) w.turn })
   tried_writer w p is true =
-      turned_then v.tabs t (with_turn (tab_at v t) (held slot cell)) (Chooses p false) lt
-      ∙ ap (λ (y : Tab Content). set v.tabs t (changed_tab (with_turn y (held slot cell)) (Chooses p false))) is
-  tried_writer w p is false = ap (λ (y : Tab Content). set v.tabs t (changed_tab y (Chooses p w.is_written))) is
+      turned_then v.tabs t (with_turn (tab_at v t) (turn_with slot cell)) (Chooses p false false) lt
+      ∙ ap (λ (y : Tab Content). set v.tabs t (changed_tab (with_turn y (turn_with slot cell)) (Chooses p false false))) is
+  tried_writer w p is false = ap (λ (y : Tab Content). set v.tabs t (changed_tab y (Chooses p w.is_written w.is_settled))) is
 
   tried_by : (s : _) (x : Tab Content) (n : ℕ) → tab_at v t ≡ x → MayTry s slot x → tabs_changed (turned_view v places (turn (n == 0))) (tried_tabs t x n) ≡ set v.tabs t (tries x slot n cell)
   tried_by s (Reading r) n is may = tried_reader r is (n == 0)

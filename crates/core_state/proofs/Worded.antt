@@ -9,11 +9,9 @@ use Rattle.core_model.specs.declared.view.Sight.{Sight}
 use Rattle.core_model.specs.declared.view.View.{View}
 use Rattle.core_model.specs.Layout.{index}
 use Rattle.std.proofs.lemmas.List.{append-nil}
-use Rattle.core_model.specs.Adding.{names_seen, sights_learned}
-use Rattle.core_model.specs.Records.{held_after, sights_of, item_of, deeds_of, met_of}
 use Rattle.core_model.specs.Steps.{finding, traces_of, view_after, words_after, places_after, views_after, chains_after}
-use Rattle.core_model.specs.TabsAfter.{tabs_after}
-use Rattle.core_model.specs.Where.{place, left_by}
+use Rattle.core_model.specs.Additions.{names_seen, sights_learned}
+use Rattle.core_model.specs.Table.{held_after, sights_of, item_of, deeds_of, met_of, tabs_after, place, left_by}
 use Rattle.core_state.specs.declared.change.ChainChange.TheVariants as chains
 use Rattle.core_state.specs.declared.change.NotesChange.TheVariants as notes
 use Rattle.core_state.specs.declared.change.TabsChange.{TabsChange}

@@ -14,11 +14,11 @@ use Rattle.core_model.specs.declared.view.Place.TheVariants.{Anchor, Counter}
 use Rattle.core_model.specs.declared.view.Sight.{Sight}
 use Rattle.core_model.specs.declared.view.Sight.TheVariants.{Stood}
 use Rattle.core_model.specs.declared.view.View.{View}
-use Rattle.core_model.specs.Adding.{added}
-use Rattle.core_model.specs.Chains.{no_chain}
+use Rattle.core_model.specs.Chains.{no_chain, without}
 use Rattle.core_model.specs.State.{State}
-use Rattle.core_model.specs.Tabs.{tab_at, OfWriter}
-use Rattle.core_model.specs.TabsAfter.{with_tab, raised_tab, without}
+use Rattle.core_model.specs.Tabs.{tab_at, OfWriter, with_tab}
+use Rattle.core_model.specs.Additions.{added}
+use Rattle.core_model.specs.AnchorMoves.{raised_tab}
 use Rattle.core_state.specs.declared.content.Content.{Content}
 use Rattle.core_state.specs.declared.change.TabsChange.{TabsChange}
 use Rattle.core_state.specs.declared.change.TabsChange.TheVariants as tabs

@@ -7,7 +7,7 @@ use Rattle.core_model.specs.declared.moves.Move.TheVariants as move
 use Rattle.core_model.specs.declared.moves.Outcome.{Outcome}
 use Rattle.core_model.specs.declared.moves.Outcome.TheVariants.{Nothing, Kept, Unsure, KeptUnsure}
 use Rattle.core_model.specs.declared.moves.Side.TheVariants.{Key0, Key1, Offer, Start}
-use Rattle.core_model.specs.TabsAfter.{link_of}
+use Rattle.core_model.specs.Chains.{link_of}
 use Rattle.core_state.specs.declared.act.Act.{Act}
 
 -- a stage, a yes or no, and an outcome, by their numbers from 0 on

@@ -1,5 +1,5 @@
 -- The words and the chains of a store that was just opened with what a rebuild kept.
-use Rattle.std.specs.Prelude.{◌≡◌, ℕ, ◌+◌, ◌<◌, List, [], ◌∷◌, ◌++◌, All, replicate, slice_set}
+use Rattle.std.specs.Prelude.{◌≡◌, ℕ, ◌+◌, ◌*◌, ◌<◌, List, [], ◌∷◌, ◌++◌, All, replicate, slice_set}
 use Rattle.store_key.specs.Anchor.{front_half, back_half, anchor_of}
 use Rattle.lock_word.specs.Words.{word_at}
 use Rattle.link_word.specs.declared.link.Link.TheVariants.{Last}
@@ -9,6 +9,7 @@ use Rattle.rebuild_model.specs.declared.rebuilt.Rebuilt.{Rebuilt}
 use Rattle.core_model.specs.declared.chain.Chain.{Chain}
 use Rattle.core_model.specs.declared.moves.Side.TheVariants.{Key0, Key1, Offer, Start}
 use Rattle.core_model.specs.Chains.{no_chain, link_to}
+use Rattle.core_model.specs.Layout.{anchor_index, beside_index}
 use Rattle.core_model.specs.Opening.{new_views}
 use Rattle.core_model.specs.State.{State}
 use Rattle.core_state.specs.declared.content.Content.{Content}
@@ -23,7 +24,7 @@ abbrev pub placed : {X Y : Type 0} → (Y → ℕ) → (Y → X) → List X → 
 placed place item xs [] = xs
 placed place item xs (y ∷ rest) = placed place item (slice_set xs (place y) (item y)) rest
 
--- the word of a column for an entry that was kept
+-- the word of a column for an entry that was kept, and where it stands
 abbrev pub entry_word : Column → Found → ℕ
 entry_word Anchor f = word_at f.version 3
 entry_word (Beside Key0) f = front_half f.key
@@ -31,9 +32,13 @@ entry_word (Beside Key1) f = back_half f.key
 entry_word (Beside Offer) f = f.first
 entry_word (Beside Start) f = f.first + 1
 
--- a word for each anchor: that of the entry that was kept there, and 0 where none was
-abbrev pub column_words : Column → List Found → ℕ → List ℕ
-column_words column winners anchors = placed (λ f. anchor_of f.key anchors) (entry_word column) (replicate anchors 0) winners
+abbrev pub column_index : Column → ℕ → ℕ
+column_index Anchor a = anchor_index a
+column_index (Beside side) a = beside_index side a
+
+-- words in which each entry that was kept has put its word of a column
+abbrev pub with_column : Column → List Found → ℕ → List ℕ → List ℕ
+with_column column winners anchors words = placed (λ f. column_index column (anchor_of f.key anchors)) (entry_word column) words winners
 
 -- links in which those of this chain are written
 abbrev pub chained : List ℕ → List ℕ → List ℕ
@@ -48,17 +53,20 @@ linked links (f ∷ rest) = linked (chained links f.chain) rest
 abbrev pub link_words : List Found → ℕ → List ℕ
 link_words winners slots = linked (replicate slots 0) winners
 
--- the words of the anchors and those beside them
+-- the words of the anchors and those beside them, 0 where no entry was kept
 abbrev pub anchor_words : List Found → ℕ → List ℕ
 anchor_words winners anchors =
-    column_words Anchor winners anchors
-    ++ column_words (Beside Key0) winners anchors ++ column_words (Beside Key1) winners anchors
-    ++ column_words (Beside Offer) winners anchors ++ column_words (Beside Start) winners anchors
+    with_column (Beside Start) winners anchors (with_column (Beside Offer) winners anchors (with_column (Beside Key1) winners anchors
+    (with_column (Beside Key0) winners anchors (with_column Anchor winners anchors (replicate (5 * anchors) 0)))))
+
+-- links, each with a turn that is free behind it
+abbrev pub with_turns : List ℕ → List ℕ
+with_turns [] = []
+with_turns (link ∷ rest) = link ∷ 0 ∷ with_turns rest
 
 -- all words of the table
 abbrev pub opened_words : Rebuilt → ℕ → ℕ → List ℕ
-opened_words r anchors slots =
-    anchor_words r.winners anchors ++ r.owner ++ link_words r.winners slots ++ replicate slots 0 ++ r.greatest ∷ []
+opened_words r anchors slots = anchor_words r.winners anchors ++ with_turns (link_words r.winners slots) ++ r.owner ++ r.greatest ∷ []
 
 abbrev pub kept_chain : Found → Chain
 kept_chain f = record { slots = f.chain; end = Last; tail = [] }

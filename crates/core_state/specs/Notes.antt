@@ -2,7 +2,7 @@
 use Rattle.std.specs.Prelude.{List, []}
 use Rattle.core_model.specs.declared.view.Sight.{Sight}
 use Rattle.core_model.specs.declared.view.View.{View}
-use Rattle.core_model.specs.Steps.{put}
+use Rattle.core_model.specs.CellMoves.{put}
 use Rattle.core_state.specs.declared.content.Content.{Content}
 use Rattle.core_state.specs.declared.change.NotesChange.{NotesChange}
 use Rattle.core_state.specs.declared.change.NotesChange.TheVariants.{Same, Put}

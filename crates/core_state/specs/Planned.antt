@@ -5,14 +5,12 @@ use mathlib.Core.Option.{some}
 use lib.ListN.{get_elem?}
 use Rattle.core_model.specs.declared.moves.Move.{Move}
 use Rattle.core_model.specs.declared.view.View.{View}
-use Rattle.core_model.specs.Adding.{names_seen, sights_learned}
-use Rattle.core_model.specs.Allowed.{IsPass, Allowed}
-use Rattle.core_model.specs.Records.{held_after, sights_of, item_of, deeds_of, met_of}
 use Rattle.core_model.specs.Steps.{number_found, finding, traces_of, view_after, words_after, places_after, views_after, chains_after}
-use Rattle.core_model.specs.TabsAfter.{tabs_after}
-use Rattle.core_model.specs.Where.{place, left_by, answer}
 use Rattle.core_model.specs.Slots.{SlotsSound}
 use Rattle.core_model.specs.Sound.{AnchorsSound}
+use Rattle.core_model.specs.Additions.{names_seen, sights_learned}
+use Rattle.core_model.specs.Tabs.{IsPass}
+use Rattle.core_model.specs.Table.{Allowed, held_after, sights_of, item_of, deeds_of, met_of, tabs_after, place, left_by, answer}
 use Rattle.core_state.specs.declared.content.Content.{Content}
 use Rattle.core_state.specs.declared.change.Change.{Change}
 use Rattle.core_state.specs.declared.table.Opening.{Opening}

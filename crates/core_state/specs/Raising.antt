@@ -4,12 +4,11 @@ use Rattle.lock_word.specs.declared.stage.Stage.{Stage}
 use Rattle.lock_word.specs.declared.stage.Stage.TheVariants.{Appending, Halted}
 use Rattle.core_model.specs.declared.chain.Chain.{Chain}
 use Rattle.core_model.specs.declared.tab.Tab.{Tab}
-use Rattle.core_model.specs.Allowed.{MayRaise, StartsRight, MayEnd}
-use Rattle.core_model.specs.Chains.{named}
 use Rattle.core_model.specs.Layout.{Setting}
 use Rattle.core_model.specs.State.{State}
 use Rattle.core_model.specs.Tabs.{OfWriter, OfFreer}
-use Rattle.core_model.specs.TabsAfter.{left_tab}
+use Rattle.core_model.specs.AnchorMoves.{MayRaise, StartsRight, MayEnd, left_tab}
+use Rattle.core_model.specs.Chains.{slots_of_link}
 use Rattle.core_state.specs.declared.change.ChainChange.{ChainChange}
 use Rattle.core_state.specs.declared.change.ChainChange.TheVariants as chains
 use Rattle.core_state.specs.declared.change.TabsChange.{TabsChange}
@@ -24,5 +23,5 @@ raised_tabs t Appending a n = tabs.Appends t
 raised_tabs t _ a n = tabs.Put t (left_tab a n)
 
 abbrev pub raised_chain : Stage → ℕ → Chain → ChainChange
-raised_chain Halted a c = chains.Ended a (named c.end)
+raised_chain Halted a c = chains.Ended a (slots_of_link c.end)
 raised_chain _ a c = chains.Same

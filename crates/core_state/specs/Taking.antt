@@ -3,7 +3,7 @@ use Rattle.std.specs.Prelude.{ℕ, Bool, true, false, cond}
 use Rattle.core_model.specs.declared.chain.Chain.{Chain}
 use Rattle.core_model.specs.declared.tab.Tab.TheVariants.{Free, Writing, Freeing}
 use Rattle.core_model.specs.Tabs.{inner}
-use Rattle.core_model.specs.TabsAfter.{writer_of, freer_of}
+use Rattle.core_model.specs.AnchorMoves.{writer_of, freer_of}
 use Rattle.core_state.specs.declared.change.TabsChange.{TabsChange}
 use Rattle.core_state.specs.declared.change.TabsChange.TheVariants as tabs
 

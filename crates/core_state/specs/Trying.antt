@@ -4,10 +4,9 @@ use Rattle.core_model.specs.declared.tab.Piece.{Piece}
 use Rattle.core_model.specs.declared.tab.Tab.{Tab}
 use Rattle.core_model.specs.declared.tab.Tab.TheVariants.{Reading, Writing}
 use Rattle.core_model.specs.declared.tab.Writer.{Writer}
-use Rattle.core_model.specs.Allowed.{MayRead, MayWrite}
 use Rattle.core_model.specs.State.{State}
 use Rattle.core_model.specs.Tabs.{holds_turn, OfReader, OfWriter}
-use Rattle.core_model.specs.TabsAfter.{piece_of, next_slot, was_written}
+use Rattle.core_model.specs.CellMoves.{MayRead, MayWrite, piece_of, next_slot, was_written, was_settled}
 use Rattle.core_state.specs.declared.change.TabsChange.{TabsChange}
 use Rattle.core_state.specs.declared.change.TabsChange.TheVariants as tabs
 use Rattle.core_state.specs.declared.content.Content.{Content}
@@ -28,12 +27,12 @@ tried_turn t slot n = cond (n == 0) (turns.Taken t slot) turns.Same
 
 -- what becomes of the tab t beside its turn
 abbrev pub tried_tabs : ℕ → Tab Content → ℕ → TabsChange
-tried_tabs t (Writing w) n = tabs.Becomes t (Chooses (tried_piece w) (cond (n == 0) false w.is_written))
+tried_tabs t (Writing w) n = tabs.Becomes t (Chooses (tried_piece w) (cond (n == 0) false w.is_written) (cond (n == 0) false w.is_settled))
 tried_tabs t tab n = tabs.Same
 
 -- and what becomes of it beside its turn where it ends that
 abbrev pub ended_tabs : ℕ → Tab Content → Bool → TabsChange
 ended_tabs t (Reading r) true = tabs.Becomes t (GoesOn (r.place + 1) (next_slot r.found))
 ended_tabs t (Reading r) false = tabs.Same
-ended_tabs t (Writing w) goes_on = tabs.Becomes t (Leaves (was_written w.turn))
+ended_tabs t (Writing w) goes_on = tabs.Becomes t (Leaves (was_written w.turn) (was_settled w.turn))
 ended_tabs t tab goes_on = tabs.Same

@@ -5,9 +5,8 @@ use Rattle.core_model.specs.declared.tab.Tab.{Tab}
 use Rattle.core_model.specs.declared.tab.Tab.TheVariants.{Free, Reading, Writing}
 use Rattle.core_model.specs.declared.tab.Turn.{Turn}
 use Rattle.core_model.specs.declared.tab.Turn.TheVariants.{NoTurn}
-use Rattle.core_model.specs.Steps.{cell_held}
 use Rattle.core_model.specs.Tabs.{turn_of}
-use Rattle.core_model.specs.TabsAfter.{held}
+use Rattle.core_model.specs.CellMoves.{cell_held, turn_with}
 use Rattle.core_state.specs.declared.content.Content.{Content}
 use Rattle.core_state.specs.declared.turn_change.TurnChange.{TurnChange}
 use Rattle.core_state.specs.declared.turn_change.TurnChange.TheVariants.{Same, Taken, Ended}
@@ -20,7 +19,7 @@ with_turn tab turn = tab
 
 abbrev pub turned : List (Tab Content) → List (Option (Cell Content)) → TurnChange → List (Tab Content)
 turned tabs places Same = tabs
-turned tabs places (Taken t slot) = slice_set tabs t (with_turn (slice_index_or tabs t Free) (held slot (slice_index_or places slot None)))
+turned tabs places (Taken t slot) = slice_set tabs t (with_turn (slice_index_or tabs t Free) (turn_with slot (slice_index_or places slot None)))
 turned tabs places (Ended t slot) = slice_set tabs t (with_turn (slice_index_or tabs t Free) NoTurn)
 
 abbrev pub places_changed : List (Tab Content) → List (Option (Cell Content)) → TurnChange → List (Option (Cell Content))

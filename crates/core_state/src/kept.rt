@@ -1,8 +1,9 @@
 // What a rebuild kept, as the words of a table.
-ghost use Rattle.std.specs.Prelude.{◌≡◌, ◌<◌, ◌++◌, All, length, IfOk, OnOk};
+ghost use Rattle.std.specs.Prelude.{◌≡◌, ◌<◌, ◌*◌, ◌++◌, All, length, IfOk, OnOk};
 ghost use Rattle.store_key.specs.Anchor.{front_half, back_half};
-ghost use Rattle.core_state.specs.Kept.{entry_word, column_words, chained, link_words, anchor_words, opened_words, AreWithin};
+ghost use Rattle.core_state.specs.Kept.{entry_word, column_index, with_column, chained, link_words, anchor_words, with_turns, opened_words, AreWithin};
 
+use crate::table::{anchor_index, beside_index};
 use core_model::Side;
 use link_word::{Link, pack_link};
 use lock_word::{Epoch, Stage, Word, pack};
@@ -10,13 +11,23 @@ use rebuild_model::{Found, Rebuilt};
 use std::alloc::{AllocError, Global};
 use store_key::anchor_of;
 
-/// Words of which each anchor has one, in order of anchors.
+/// One of the five words of an anchor.
 #[derive(Clone, Copy)]
 enum Column {
-    /// The words of the anchors.
+    /// Its own.
     Anchor,
-    /// Those on one side of them.
+    /// One beside it.
     Beside(Side),
+}
+
+/// Where the word of a column stands for an anchor.
+fn column_index(column: Column, anchor: u32) -> usize
+    ensures { result ≡ column_index column anchor }
+{
+    match column {
+        Column::Anchor => anchor_index(anchor),
+        Column::Beside(side) => beside_index(side, anchor),
+    }
 }
 
 /// The first eight bytes of a key, as a little-endian number.
@@ -58,35 +69,30 @@ fn entry_word(column: Column, found: &Found) -> u64
     }
 }
 
-/// The words of a column.
-fn column_words(
-    alloc: Global,
-    column: Column,
-    winners: &[Found],
-    anchors: u32,
-) -> Result<Vec<u64>, AllocError>
-    requires { 0 < anchors }
-    ensures { IfOk result (λ words. words.items ≡ column_words column winners.now anchors) }
+/// Writes the words of a column for all entries that were kept.
+fn write_column(words: &mut [u64], column: Column, winners: &[Found], anchors: u32)
+    requires some { 0 < anchors }
+    requires many { length words.old ≡ 5 * anchors }
+    ensures { words.new ≡ with_column column winners.now anchors words.old }
 {
-    let mut words = vec![in alloc; 0; anchors as usize]?;
     let mut left = winners;
     'winners: while let Some((found, rest)) = left.split_first() {
-        words[anchor_of(&found.key, anchors) as usize] = entry_word(column, found);
+        words[column_index(column, anchor_of(&found.key, anchors))] = entry_word(column, found);
         left = rest;
     }
-    Ok(words)
 }
 
-/// The words of the anchors, and then four beside each.
+/// The words of the anchors: of each its own, and then four beside it.
 fn anchor_words(alloc: Global, winners: &[Found], anchors: u32) -> Result<Vec<u64>, AllocError>
     requires { 0 < anchors }
     ensures { IfOk result (λ words. words.items ≡ anchor_words winners.now anchors) }
 {
-    let mut words = column_words(alloc, Column::Anchor, winners, anchors)?;
-    words.extend_from_slice(&column_words(alloc, Column::Beside(Side::Key0), winners, anchors)?)?;
-    words.extend_from_slice(&column_words(alloc, Column::Beside(Side::Key1), winners, anchors)?)?;
-    words.extend_from_slice(&column_words(alloc, Column::Beside(Side::Offer), winners, anchors)?)?;
-    words.extend_from_slice(&column_words(alloc, Column::Beside(Side::Start), winners, anchors)?)?;
+    let mut words = vec![in alloc; 0; 5 * anchors as usize]?;
+    write_column(&mut words, Column::Anchor, winners, anchors);
+    write_column(&mut words, Column::Beside(Side::Key0), winners, anchors);
+    write_column(&mut words, Column::Beside(Side::Key1), winners, anchors);
+    write_column(&mut words, Column::Beside(Side::Offer), winners, anchors);
+    write_column(&mut words, Column::Beside(Side::Start), winners, anchors);
     Ok(words)
 }
 
@@ -120,6 +126,19 @@ fn link_words(alloc: Global, winners: &[Found], slots: u32) -> Result<Vec<u64>, 
     Ok(words)
 }
 
+/// Puts links at the end of words, each with a turn that is free behind it.
+fn push_links(words: &mut Vec<u64>, links: &[u64]) -> Result<(), AllocError>
+    ensures { OnOk result (words.new.items ≡ words.old.items ++ with_turns links.now) }
+{
+    let mut left = links;
+    'links: while let Some((link, rest)) = left.split_first() {
+        words.push(*link)?;
+        words.push(0)?;
+        left = rest;
+    }
+    Ok(())
+}
+
 /// Puts numbers at the end of words.
 fn push_all(words: &mut Vec<u64>, numbers: &[u32]) -> Result<(), AllocError>
     ensures { OnOk result (words.new.items ≡ words.old.items ++ numbers.now) }
@@ -130,8 +149,8 @@ fn push_all(words: &mut Vec<u64>, numbers: &[u32]) -> Result<(), AllocError>
     Ok(())
 }
 
-/// All words of the table: those of the anchors and beside them, the owner, link and turn of each slot,
-/// and the counter of versions.
+/// All words of the table: five of each anchor, the link and the turn of each slot, the owners, and the
+/// counter of versions.
 pub(crate) fn opened_words(
     alloc: Global,
     rebuilt: &Rebuilt,
@@ -144,10 +163,8 @@ pub(crate) fn opened_words(
 {
     let winners = rebuilt.winners.as_slice();
     let mut words = anchor_words(alloc, winners, anchors)?;
+    push_links(&mut words, &link_words(alloc, winners, slots)?)?;
     push_all(&mut words, rebuilt.owner.as_slice())?;
-    words.extend_from_slice(&link_words(alloc, winners, slots)?)?;
-    let turns = vec![in alloc; 0; slots as usize]?;
-    words.extend_from_slice(&turns)?;
     words.push(u64::from(rebuilt.greatest))?;
     Ok(words)
 }

@@ -11,7 +11,7 @@ use crate::content::Content;
 use crate::kept::opened_words;
 use crate::table::{Opening, Table};
 use crate::tabs::no_chain;
-use core_model::{Cell, Chain, Log, Row, Sight, Tab, View};
+use core_model::{Cell, Chain, Log, Place, Row, Sight, Tab, View};
 use link_word::Link;
 use lock_word::epoch_bits;
 use rebuild_model::{Found, Rebuilt};
@@ -74,7 +74,7 @@ fn first_sights(alloc: Global, opening: &Opening) -> Result<Log<Sight>, AllocErr
 {
     let mut seen = Vec::with_capacity(alloc, opening.anchors as usize)?;
     for anchor in 0..opening.anchors {
-        let epoch = epoch_bits(opening.words[anchor as usize]);
+        let epoch = epoch_bits(opening.words[opening.index_of(Place::Anchor(anchor))]);
         seen.push(Sight::Stood { anchor, epoch })?;
     }
     Ok(Log::from_vec(seen))

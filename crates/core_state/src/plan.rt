@@ -1,7 +1,7 @@
 // Steps are worked out: whether they are allowed, and all that they do. Nothing is changed yet.
 ghost use Rattle.std.specs.Prelude.{IfOk, IsErrOf};
-ghost use Rattle.core_model.specs.Allowed.{Allowed};
 ghost use Rattle.core_model.specs.Cells.{CellsSound};
+ghost use Rattle.core_model.specs.Table.{Allowed};
 ghost use Rattle.core_state.specs.Inside.{setting, state};
 ghost use Rattle.core_state.specs.Planned.{IsScene, Plans};
 

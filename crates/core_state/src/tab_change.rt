@@ -1,6 +1,8 @@
 // What a step makes of a tab, where most of the tab stays as it is.
 ghost use Rattle.std.specs.Prelude.{◌≡◌};
-ghost use Rattle.core_model.specs.TabsAfter.{stored, settled, without, moved, rewritten};
+ghost use Rattle.core_model.specs.SlotMoves.{stored, emptied};
+ghost use Rattle.core_model.specs.Chains.{without};
+ghost use Rattle.core_model.specs.CellMoves.{moved, rewritten};
 ghost use Rattle.core_state.specs.Tabs.{changed_tab};
 
 use crate::content::Content;
@@ -26,17 +28,17 @@ pub(crate) enum TabChange {
     Loosens(Row<u32>, Row<u32>),
     /// A writing tab published a slot with this link: these are reserved still, and these published.
     Publishes(Row<u32>, Row<u32>, Link),
-    /// A writing tab has chosen this piece, which is in its cell or not.
-    Chooses(Piece, bool),
+    /// A writing tab has chosen this piece, which is in its cell or not, alone or not.
+    Chooses(Piece, bool, bool),
     /// A reading tab goes on to this place, and knows this slot there.
     GoesOn(u32, Option<u32>),
-    /// A writing tab left its piece in the cell, or did not.
-    Leaves(bool),
+    /// A writing tab left its piece in the cell, or did not, and the cell one content, or did not.
+    Leaves(bool, bool),
     /// A tab that has a turn took the cell out of its place, or put it back.
     Moves(bool),
     /// A writing tab has this cell in place of the one that it had, if there is one here, and its piece is
-    /// in it where a write left it there.
-    Rewrites(Option<Cell<Content>>, bool),
+    /// in it where a write left it there. A crash then leaves that cell one content, or may leave others.
+    Rewrites(Option<Cell<Content>>, bool, bool),
 }
 
 fn stored(writer: Writer<Content>, side: Side, value: u64) -> Writer<Content>
@@ -64,8 +66,8 @@ fn stored(writer: Writer<Content>, side: Side, value: u64) -> Writer<Content>
 }
 
 /// An inner tab without slots is free, unless its anchor is at FREEING.
-fn settled(freer: Freer) -> Tab<Content>
-    ensures { result ≡ settled freer }
+fn emptied(freer: Freer) -> Tab<Content>
+    ensures { result ≡ emptied freer }
 {
     if freer.rest.as_slice().is_empty() && freer.loose.as_slice().is_empty() && !freer.is_freeing {
         return Tab::Free;
@@ -89,8 +91,13 @@ fn moved(turn: Turn<Content>, is_out: bool) -> Turn<Content>
     }
 }
 
-fn rewritten(turn: Turn<Content>, is_kept: bool, cell: Option<Cell<Content>>) -> Turn<Content>
-    ensures { result ≡ rewritten turn is_kept cell }
+fn rewritten(
+    turn: Turn<Content>,
+    is_kept: bool,
+    is_settled: bool,
+    cell: Option<Cell<Content>>,
+) -> Turn<Content>
+    ensures { result ≡ rewritten turn is_kept is_settled cell }
 {
     match turn {
         Turn::NoTurn => Turn::NoTurn,
@@ -99,6 +106,7 @@ fn rewritten(turn: Turn<Content>, is_kept: bool, cell: Option<Cell<Content>>) ->
             cell: cell.unwrap_or(hold.cell),
             is_out: hold.is_out,
             is_written: hold.is_written || is_kept,
+            is_settled,
         }),
     }
 }
@@ -128,26 +136,33 @@ pub(crate) fn changed_tab(tab: Tab<Content>, change: TabChange) -> Tab<Content>
                 reserved,
                 chosen: None,
                 is_written: false,
+                is_settled: false,
                 published,
                 end,
                 ..writer
             })
         }
-        (Tab::Writing(writer), TabChange::Chooses(piece, is_written)) => Tab::Writing(Writer {
-            chosen: Some(piece),
-            is_written,
-            ..writer
-        }),
+        (Tab::Writing(writer), TabChange::Chooses(piece, is_written, is_settled)) => {
+            Tab::Writing(Writer {
+                chosen: Some(piece),
+                is_written,
+                is_settled,
+                ..writer
+            })
+        }
         (Tab::Reading(reader), TabChange::GoesOn(place, slot)) => Tab::Reading(Reader {
             place,
             slot,
             found: Link::NotWritten,
             ..reader
         }),
-        (Tab::Writing(writer), TabChange::Leaves(is_written)) => Tab::Writing(Writer {
-            is_written,
-            ..writer
-        }),
+        (Tab::Writing(writer), TabChange::Leaves(is_written, is_settled)) => {
+            Tab::Writing(Writer {
+                is_written,
+                is_settled,
+                ..writer
+            })
+        }
         (Tab::Reading(reader), TabChange::Moves(is_out)) => Tab::Reading(Reader {
             turn: moved(reader.turn, is_out),
             ..reader
@@ -156,11 +171,13 @@ pub(crate) fn changed_tab(tab: Tab<Content>, change: TabChange) -> Tab<Content>
             turn: moved(writer.turn, is_out),
             ..writer
         }),
-        (Tab::Writing(writer), TabChange::Rewrites(cell, is_kept)) => Tab::Writing(Writer {
-            turn: rewritten(writer.turn, is_kept, cell),
-            ..writer
-        }),
-        (Tab::Freeing(freer), TabChange::GivesBack(slot)) => settled(Freer {
+        (Tab::Writing(writer), TabChange::Rewrites(cell, is_kept, is_settled)) => {
+            Tab::Writing(Writer {
+                turn: rewritten(writer.turn, is_kept, is_settled, cell),
+                ..writer
+            })
+        }
+        (Tab::Freeing(freer), TabChange::GivesBack(slot)) => emptied(Freer {
             loose: without(freer.loose, slot),
             ..freer
         }),

@@ -2,11 +2,11 @@
 ghost use Rattle.std.specs.Prelude.{◌≡◌, ◌<◌, ◌≤◌, length, drop, slice_index, slice_get, MatchOption, Some};
 ghost use Rattle.lock_word.specs.Words.{IsInRange, word_number};
 ghost use Rattle.core_model.specs.Anchors.{Shaped};
-ghost use Rattle.core_model.specs.Layout.{index};
+ghost use Rattle.core_model.specs.Layout.{anchor_index, beside_index, index};
 
 use crate::content::Content;
 use core_model::{Cell, Chain, Place, Side, View};
-use lock_word::{Word, unpack};
+use lock_word::{Word, word_of};
 
 /// How many tabs a pass has. A note has none.
 const TABS: usize = 9;
@@ -31,6 +31,26 @@ pub(crate) struct Table {
     pub chains: Vec<Chain>,
 }
 
+/// Where the word of an anchor stands in the table: in front of the four beside it.
+pub(crate) fn anchor_index(anchor: u32) -> usize
+    ensures { result ≡ anchor_index anchor }
+{
+    5 * anchor as usize
+}
+
+/// Where a word beside an anchor stands.
+pub(crate) fn beside_index(side: Side, anchor: u32) -> usize
+    ensures { result ≡ beside_index side anchor }
+{
+    let first = anchor_index(anchor) + 1;
+    match side {
+        Side::Key0 => first,
+        Side::Key1 => first + 1,
+        Side::Offer => first + 2,
+        Side::Start => first + 3,
+    }
+}
+
 impl Opening {
     ghost use Rattle.core_state.specs.Inside.{setting};
 
@@ -41,14 +61,11 @@ impl Opening {
         let anchors = self.anchors as usize;
         let slots = self.slots as usize;
         match place {
-            Place::Anchor(anchor) => anchor as usize,
-            Place::Beside(Side::Key0, anchor) => anchors + anchor as usize,
-            Place::Beside(Side::Key1, anchor) => 2 * anchors + anchor as usize,
-            Place::Beside(Side::Offer, anchor) => 3 * anchors + anchor as usize,
-            Place::Beside(Side::Start, anchor) => 4 * anchors + anchor as usize,
-            Place::Owner(slot) => 5 * anchors + slot as usize,
-            Place::Link(slot) => 5 * anchors + slots + slot as usize,
-            Place::Turn(slot) => 5 * anchors + 2 * slots + slot as usize,
+            Place::Anchor(anchor) => anchor_index(anchor),
+            Place::Beside(side, anchor) => beside_index(side, anchor),
+            Place::Link(slot) => 5 * anchors + 2 * slot as usize,
+            Place::Turn(slot) => 5 * anchors + 2 * slot as usize + 1,
+            Place::Owner(slot) => 5 * anchors + 2 * slots + slot as usize,
             Place::Counter => 5 * anchors + 3 * slots,
         }
     }
@@ -58,7 +75,7 @@ impl Table {
     ghost use lib.ListN.{get_elem?};
     ghost use mathlib.Core.Option.{some};
     ghost use Rattle.core_model.specs.declared.view.View.{View as ViewOf};
-    ghost use Rattle.core_model.specs.Allowed.{IsPass};
+    ghost use Rattle.core_model.specs.Tabs.{IsPass};
     ghost use Rattle.core_state.specs.declared.content.Content.{Content as ContentOf};
     ghost use Rattle.core_state.specs.Inside.{setting, state};
 
@@ -66,14 +83,11 @@ impl Table {
     pub fn word_at(&self, opening: &Opening, anchor: u32) -> Word
         requires shaped { Shaped (setting opening.now) (state self.now) }
         requires anchor { anchor < opening.now.anchors }
-        ensures number { word_number result ≡ slice_index self.now.words.items anchor }
+        ensures number { word_number result ≡ slice_index self.now.words.items (anchor_index anchor) }
         ensures in_range { IsInRange result }
     {
         let _ = opening;
-        let Some(word) = unpack(self.words[anchor as usize]) else {
-            unreachable!()
-        };
-        word
+        word_of(self.words[anchor_index(anchor)])
     }
 
     /// The view of this number, if there is one.

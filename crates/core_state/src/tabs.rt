@@ -1,9 +1,9 @@
 // What becomes of a tab that enters, leaves or takes an anchor.
 ghost use Rattle.std.specs.Prelude.{◌≡◌, ◌≤◌, length, slice_get, IfOk, MatchOption, Some};
 ghost use Rattle.lock_word.specs.Words.{word_number, epoch_number};
-ghost use Rattle.core_model.specs.TabsAfter.{entered, left_tab, writer_of, freer_of};
 ghost use Rattle.core_model.specs.Chains.{behind_of, no_chain};
 ghost use Rattle.core_model.specs.Tabs.{anchor_of};
+ghost use Rattle.core_model.specs.AnchorMoves.{entered, left_tab, writer_of, freer_of};
 
 use crate::content::Content;
 use core_model::{Chain, Freer, Reader, Row, Tab, Turn, View, Writer};
@@ -78,6 +78,7 @@ pub(crate) fn writer_of(alloc: Global, anchor: u32, version: u32) -> Writer<Cont
         reserved: Row::from_vec(Vec::new(alloc)),
         chosen: None,
         is_written: false,
+        is_settled: false,
         published: Row::from_vec(Vec::new(alloc)),
         end: Link::NotWritten,
         is_ending: false,

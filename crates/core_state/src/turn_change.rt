@@ -1,9 +1,8 @@
 // What becomes of the turn of a tab, and of the cell that goes with it.
 ghost use Rattle.std.specs.Prelude.{◌≡◌, ◌<◌, length, slice_set, slice_index_or};
-ghost use Rattle.core_model.specs.Steps.{cell_held};
 ghost use Rattle.core_model.specs.Tabs.{turn_of};
-ghost use Rattle.core_model.specs.TabsAfter.{held};
 ghost use Rattle.core_model.specs.declared.tab.Tab.TheVariants.{Free};
+ghost use Rattle.core_model.specs.CellMoves.{cell_held, turn_with};
 ghost use Rattle.core_state.specs.Turns.{with_turn, turned, places_changed, FitsTurn};
 
 use crate::content::Content;
@@ -21,8 +20,8 @@ pub(crate) enum TurnChange {
 }
 
 /// The turn at a slot with this cell.
-fn held(slot: u32, cell: Option<Cell<Content>>) -> Turn<Content>
-    ensures { result ≡ held slot cell }
+fn turn_with(slot: u32, cell: Option<Cell<Content>>) -> Turn<Content>
+    ensures { result ≡ turn_with slot cell }
 {
     match cell {
         None => Turn::NoTurn,
@@ -31,6 +30,7 @@ fn held(slot: u32, cell: Option<Cell<Content>>) -> Turn<Content>
             cell,
             is_out: false,
             is_written: false,
+            is_settled: false,
         }),
     }
 }
@@ -88,7 +88,7 @@ pub(crate) fn change_turn(
         TurnChange::Same => {}
         TurnChange::Taken(at, slot) => {
             let cell = mem::replace(&mut places[slot as usize], None);
-            let _had = replace_turn(tabs, at, held(slot, cell));
+            let _had = replace_turn(tabs, at, turn_with(slot, cell));
         }
         TurnChange::Ended(at, slot) => {
             let turn = replace_turn(tabs, at, Turn::NoTurn);

@@ -2,16 +2,16 @@
 ghost use Rattle.std.specs.Prelude.{◌≡◌, ◌<◌, ◌∷◌, Some, true, false, slice_get, IfOk, IsErrOf, MatchOption};
 ghost use Rattle.core_model.specs.declared.moves.Move.TheVariants as move;
 ghost use Rattle.core_model.specs.declared.tab.Tab.TheVariants.{Writing};
-ghost use Rattle.core_model.specs.Allowed.{Allowed, Holds};
 ghost use Rattle.core_model.specs.Tabs.{tab_at, inner, OfWriter};
-ghost use Rattle.core_model.specs.TabsAfter.{is_kept, rewritten};
+ghost use Rattle.core_model.specs.Table.{Allowed};
+ghost use Rattle.core_model.specs.CellMoves.{Holds, is_kept, is_nothing, rewritten, settled_by_write, settled_by_sync};
 ghost use Rattle.core_state.specs.Cells.{cell_change, written_turn, synced_turn};
 ghost use Rattle.core_state.specs.Inside.{setting, state};
 ghost use Rattle.core_state.specs.Planned.{IsScene, Plans};
 
 use crate::change::{ChainChange, Change, NotesChange, TabsChange, bare_addition};
 use crate::content::Content;
-use crate::plan::turns::holds;
+use crate::plan::turns::{holds, was_settled};
 use crate::refusal::Refusal;
 use crate::tab_change::TabChange;
 use crate::table::{Opening, Table};
@@ -117,7 +117,7 @@ fn written_cell(
     writer: &Writer<Content>,
     outcome: Outcome,
 ) -> Result<Option<Cell<Content>>, AllocError>
-    ensures { IfOk result (λ cell. rewritten writer.now.turn (is_kept outcome) cell ≡ written_turn writer.now outcome) }
+    ensures { IfOk result (λ cell. rewritten writer.now.turn (is_kept outcome) (settled_by_write (Writing writer.now) outcome) cell ≡ written_turn writer.now outcome) }
 {
     let Turn::Has(hold) = &writer.turn else {
         return Ok(None);
@@ -142,6 +142,21 @@ fn is_kept(outcome: Outcome) -> bool
     matches!(outcome, Outcome::Kept | Outcome::KeptUnsure)
 }
 
+/// Whether a crash leaves the cell one content after a write: only where it did so before and the write left
+/// nothing.
+fn settled_by_write(writer: &Writer<Content>, outcome: Outcome) -> bool
+    ensures { result ≡ settled_by_write (Writing writer.now) outcome }
+{
+    was_settled(&writer.turn) && matches!(outcome, Outcome::Nothing)
+}
+
+/// Whether it leaves it one content after a sync.
+fn settled_by_sync(writer: &Writer<Content>, is_kept: bool) -> bool
+    ensures { result ≡ settled_by_sync (Writing writer.now) is_kept }
+{
+    was_settled(&writer.turn) || is_kept
+}
+
 /// A writing tab writes the piece that it chose into the cell that it has out.
 pub(crate) fn write(
     alloc: Global,
@@ -163,7 +178,8 @@ pub(crate) fn write(
         return Err(Refusal::NotAllowed);
     };
     let cell = written_cell(alloc, writer, outcome)?;
-    let change = TabChange::Rewrites(cell, is_kept(outcome));
+    let is_settled = settled_by_write(writer, outcome);
+    let change = TabChange::Rewrites(cell, is_kept(outcome), is_settled);
     Ok(cell_change(Kind::Wrote, tab, slot, change))
 }
 
@@ -174,7 +190,7 @@ fn synced_cell(
     writer: &Writer<Content>,
     is_synced: bool,
 ) -> Result<Option<Cell<Content>>, AllocError>
-    ensures { IfOk result (λ cell. rewritten writer.now.turn false cell ≡ synced_turn writer.now is_synced) }
+    ensures { IfOk result (λ cell. rewritten writer.now.turn false (settled_by_sync (Writing writer.now) is_synced) cell ≡ synced_turn writer.now is_synced) }
 {
     let Turn::Has(hold) = &writer.turn else {
         return Ok(None);
@@ -212,6 +228,7 @@ pub(crate) fn sync(
         return Err(Refusal::NotAllowed);
     };
     let cell = synced_cell(alloc, writer, is_kept)?;
-    let change = TabChange::Rewrites(cell, false);
+    let is_settled = settled_by_sync(writer, is_kept);
+    let change = TabChange::Rewrites(cell, false, is_settled);
     Ok(cell_change(Kind::Synced, tab, slot, change))
 }

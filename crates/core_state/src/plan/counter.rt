@@ -1,7 +1,7 @@
 // Steps on the counter of versions.
 ghost use Rattle.std.specs.Prelude.{◌≡◌, IfOk, IsErrOf};
 ghost use Rattle.core_model.specs.declared.moves.Move.TheVariants as move;
-ghost use Rattle.core_model.specs.Allowed.{Allowed};
+ghost use Rattle.core_model.specs.Table.{Allowed};
 ghost use Rattle.core_state.specs.Inside.{setting, state};
 ghost use Rattle.core_state.specs.Planned.{IsScene, Plans};
 

@@ -3,10 +3,11 @@ ghost use Rattle.std.specs.Prelude.{◌≡◌, ◌<◌, ◌↔◌, Some, slice_g
 ghost use Rattle.core_model.specs.declared.moves.Move.TheVariants as move;
 ghost use Rattle.core_model.specs.declared.tab.Tab.TheVariants.{Freeing};
 ghost use Rattle.core_model.specs.declared.view.Place.TheVariants as place;
-ghost use Rattle.core_model.specs.Allowed.{Allowed, IsFront, MayLoosen};
 ghost use Rattle.core_model.specs.Chains.{rest_of};
 ghost use Rattle.core_model.specs.Layout.{index};
 ghost use Rattle.core_model.specs.Tabs.{inner, tab_at, OfFreer};
+ghost use Rattle.core_model.specs.Table.{Allowed};
+ghost use Rattle.core_model.specs.SlotMoves.{IsFront, MayLoosen};
 ghost use Rattle.core_state.specs.Inside.{setting, state};
 ghost use Rattle.core_state.specs.Loosening.{loosened_change, handed_change, unlinked_change};
 ghost use Rattle.core_state.specs.Planned.{IsScene, Plans};

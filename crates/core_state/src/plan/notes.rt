@@ -2,8 +2,8 @@
 ghost use Rattle.std.specs.Prelude.{◌≡◌, ◌≤◌, ◌↔◌, length, IsTrue, IfOk, IsErrOf};
 ghost use Rattle.std.specs.List.{position};
 ghost use Rattle.core_model.specs.declared.moves.Move.TheVariants as move;
-ghost use Rattle.core_model.specs.Allowed.{Allowed, IsNote};
-ghost use Rattle.core_model.specs.Steps.{is_spent, free_note};
+ghost use Rattle.core_model.specs.Table.{Allowed};
+ghost use Rattle.core_model.specs.CellMoves.{IsNote, is_spent, free_note};
 ghost use Rattle.core_state.specs.Inside.{setting, state};
 ghost use Rattle.core_state.specs.Notes.{note_with};
 ghost use Rattle.core_state.specs.Planned.{IsScene, Plans};

@@ -2,7 +2,7 @@
 ghost use Rattle.std.specs.Prelude.{◌≡◌, true, false, IfOk, IsErrOf, MatchOption};
 ghost use Rattle.core_model.specs.Tabs.{is_counted, holds_turn, anchor_of};
 ghost use Rattle.core_model.specs.declared.moves.Move.TheVariants as move;
-ghost use Rattle.core_model.specs.Allowed.{Allowed};
+ghost use Rattle.core_model.specs.Table.{Allowed};
 ghost use Rattle.core_state.specs.Inside.{setting, state};
 ghost use Rattle.core_state.specs.Planned.{IsScene, Plans};
 
@@ -13,7 +13,7 @@ use crate::refusal::Refusal;
 use crate::table::{Opening, Table};
 use crate::tabs::{entered, left_tab, tab_at};
 use crate::turn_change::TurnChange;
-use core_model::{Addition, Deed, Kind, Tab, Turn, View};
+use core_model::{Addition, Deed, Kind, Place, Tab, Turn, View};
 use lock_word::{Epoch, Word, epoch_bits, pack};
 
 /// The word of an anchor is looked at.
@@ -37,7 +37,7 @@ pub(crate) fn look(
     Ok(Change {
         answer: found,
         word: Some(WordChange {
-            index: anchor as usize,
+            index: opening.index_of(Place::Anchor(anchor)),
             left: found,
         }),
         turn: TurnChange::Same,
@@ -90,7 +90,7 @@ pub(crate) fn enter(
     Ok(Change {
         answer: found,
         word: Some(WordChange {
-            index: anchor as usize,
+            index: opening.index_of(Place::Anchor(anchor)),
             left,
         }),
         turn: TurnChange::Same,
@@ -150,7 +150,7 @@ pub(crate) fn leave(
     Ok(Change {
         answer: left,
         word: Some(WordChange {
-            index: anchor as usize,
+            index: opening.index_of(Place::Anchor(anchor)),
             left,
         }),
         turn: TurnChange::Same,
@@ -202,7 +202,7 @@ pub(crate) fn doom(
     Ok(Change {
         answer: left,
         word: Some(WordChange {
-            index: anchor as usize,
+            index: opening.index_of(Place::Anchor(anchor)),
             left,
         }),
         turn: TurnChange::Same,

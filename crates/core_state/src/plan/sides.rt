@@ -3,11 +3,10 @@ ghost use Rattle.std.specs.Prelude.{◌≡◌, ◌≤◌, ◌-◌, ◌==◌, ◌
 ghost use Rattle.std.specs.Option.{option_to_list};
 ghost use Rattle.core_model.specs.declared.moves.Move.TheVariants as move;
 ghost use Rattle.core_model.specs.declared.moves.Side.TheVariants.{Start};
-ghost use Rattle.core_model.specs.Allowed.{Allowed, MayStore};
 ghost use Rattle.core_model.specs.Layout.{side_index};
-ghost use Rattle.core_model.specs.Records.{loads};
 ghost use Rattle.core_model.specs.Tabs.{is_reading, is_using};
-ghost use Rattle.core_model.specs.TabsAfter.{loaded};
+ghost use Rattle.core_model.specs.Table.{Allowed};
+ghost use Rattle.core_model.specs.SlotMoves.{MayStore, loads, loaded};
 ghost use Rattle.core_state.specs.declared.tab_change.TabChange.TheVariants.{Learns};
 ghost use Rattle.core_state.specs.Inside.{setting, state};
 ghost use Rattle.core_state.specs.Planned.{IsScene, Plans};

@@ -4,8 +4,9 @@ ghost use Rattle.core_model.specs.declared.moves.Move.TheVariants as move;
 ghost use Rattle.core_model.specs.declared.tab.Piece.{Piece as PieceOf};
 ghost use Rattle.link_word.specs.declared.link.Link.TheVariants.{Last as LastLink};
 ghost use Rattle.core_model.specs.declared.tab.Tab.TheVariants.{Writing};
-ghost use Rattle.core_model.specs.Allowed.{Allowed, MayReserve, MayGiveBack};
 ghost use Rattle.core_model.specs.Tabs.{tab_at, OfWriter, OfFreer};
+ghost use Rattle.core_model.specs.Table.{Allowed};
+ghost use Rattle.core_model.specs.SlotMoves.{MayReserve, MayGiveBack};
 ghost use Rattle.core_state.specs.Inside.{setting, state};
 ghost use Rattle.core_state.specs.Planned.{IsScene, Plans};
 

@@ -2,8 +2,10 @@
 ghost use Rattle.std.specs.Prelude.{◌≡◌, ◌↔◌, IsTrue, IfOk, IsErrOf, MatchOption};
 ghost use Rattle.lock_word.specs.Words.{is_idle, word_number};
 ghost use Rattle.core_model.specs.declared.moves.Move.TheVariants as move;
-ghost use Rattle.core_model.specs.Allowed.{Allowed, IsPass, InnerIsFree, MayTake, MayEvict};
 ghost use Rattle.core_model.specs.Trails.{last_find};
+ghost use Rattle.core_model.specs.Table.{Allowed};
+ghost use Rattle.core_model.specs.Tabs.{IsPass, InnerIsFree};
+ghost use Rattle.core_model.specs.AnchorMoves.{MayTake, MayEvict};
 ghost use Rattle.core_state.specs.Inside.{setting, state};
 ghost use Rattle.core_state.specs.Planned.{IsScene, Plans};
 ghost use Rattle.core_state.specs.Taking.{taken_change, evicted_change};
@@ -15,7 +17,7 @@ use crate::refusal::Refusal;
 use crate::table::{Opening, Table};
 use crate::tabs::{INNER, freer_of, no_chain, tab_at, writer_of};
 use crate::turn_change::TurnChange;
-use core_model::{Addition, Chain, Deed, Kind, Tab, View};
+use core_model::{Addition, Chain, Deed, Kind, Place, Tab, View};
 use lock_word::{
     Epoch, Stage, Word, epoch_bits, is_idle, is_idle_number, is_left_over_number, is_vacant_number,
     pack,
@@ -126,7 +128,7 @@ pub(crate) fn take(
         return Ok(Change {
             answer: found,
             word: Some(WordChange {
-                index: anchor as usize,
+                index: opening.index_of(Place::Anchor(anchor)),
                 left: found,
             }),
             turn: TurnChange::Same,
@@ -160,7 +162,7 @@ pub(crate) fn take(
     Ok(Change {
         answer: found,
         word: Some(WordChange {
-            index: anchor as usize,
+            index: opening.index_of(Place::Anchor(anchor)),
             left,
         }),
         turn: TurnChange::Same,
@@ -204,7 +206,7 @@ pub(crate) fn evict(
         return Ok(Change {
             answer: found,
             word: Some(WordChange {
-                index: anchor as usize,
+                index: opening.index_of(Place::Anchor(anchor)),
                 left: found,
             }),
             turn: TurnChange::Same,
@@ -235,7 +237,7 @@ pub(crate) fn evict(
     Ok(Change {
         answer: found,
         word: Some(WordChange {
-            index: anchor as usize,
+            index: opening.index_of(Place::Anchor(anchor)),
             left,
         }),
         turn: TurnChange::Same,

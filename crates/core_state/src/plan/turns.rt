@@ -5,11 +5,11 @@ ghost use Rattle.core_model.specs.declared.moves.Move.TheVariants as move;
 ghost use Rattle.core_model.specs.declared.tab.Reader.{Reader as ReaderOf};
 ghost use Rattle.core_model.specs.declared.tab.Writer.{Writer as WriterOf};
 ghost use Rattle.core_model.specs.declared.tab.Tab.TheVariants.{Reading, Writing};
-ghost use Rattle.core_model.specs.Allowed.{Allowed, MayRead, MayWrite, Holds};
 ghost use Rattle.core_model.specs.Cells.{CellsSound};
-ghost use Rattle.core_model.specs.Chains.{link_to, rest_of};
+ghost use Rattle.core_model.specs.Chains.{link_to, rest_of, first_of};
 ghost use Rattle.core_model.specs.Tabs.{anchor_of, is_reading};
-ghost use Rattle.core_model.specs.TabsAfter.{first_of, piece_of, next_slot, was_written};
+ghost use Rattle.core_model.specs.Table.{Allowed};
+ghost use Rattle.core_model.specs.CellMoves.{MayRead, MayWrite, Holds, piece_of, next_slot, was_written, was_settled};
 ghost use Rattle.core_state.specs.declared.content.Content.{Content as ContentOf};
 ghost use Rattle.core_state.specs.Inside.{setting, state};
 ghost use Rattle.core_state.specs.Planned.{IsScene, Plans};
@@ -138,7 +138,8 @@ fn tried_tabs(opening: &Opening, tab: u8, now: &Tab<Content>, found: u64) -> Tab
     };
     let piece = tried_piece(opening, writer);
     let is_written = found != 0 && writer.is_written;
-    TabsChange::Becomes(tab, TabChange::Chooses(piece, is_written))
+    let is_settled = found != 0 && writer.is_settled;
+    TabsChange::Becomes(tab, TabChange::Chooses(piece, is_written, is_settled))
 }
 
 /// A reading or writing tab tries to take the turn at a slot: it has it, and the cell, where no tab had it.
@@ -200,6 +201,15 @@ fn was_written(turn: &Turn<Content>) -> bool
     }
 }
 
+pub(crate) fn was_settled(turn: &Turn<Content>) -> bool
+    ensures { result ≡ was_settled turn.now }
+{
+    match turn {
+        Turn::Has(hold) => hold.is_settled,
+        Turn::NoTurn => false,
+    }
+}
+
 /// The slot that a link names, if any.
 fn next_slot(link: Link) -> Option<u32>
     ensures { result ≡ next_slot link }
@@ -226,7 +236,9 @@ fn ended_tabs(opening: &Opening, tab: u8, now: &Tab<Content>, goes_on: bool) -> 
             TabsChange::Becomes(tab, TabChange::GoesOn(reader.place + 1, slot))
         }
         Tab::Writing(writer) => {
-            TabsChange::Becomes(tab, TabChange::Leaves(was_written(&writer.turn)))
+            let is_written = was_written(&writer.turn);
+            let is_settled = was_settled(&writer.turn);
+            TabsChange::Becomes(tab, TabChange::Leaves(is_written, is_settled))
         }
         _ => TabsChange::Same,
     }

@@ -3,15 +3,16 @@ ghost use Rattle.std.specs.Prelude.{◌≡◌, ◌≤◌, ◌⊎◌, ◌↔◌, 
 ghost use Rattle.core_model.specs.declared.moves.Move.TheVariants as move;
 ghost use Rattle.core_model.specs.declared.view.Place.TheVariants as place;
 ghost use Rattle.core_model.specs.declared.moves.Side.TheVariants.{Start};
-ghost use Rattle.core_model.specs.Tabs.{inner, tab_at, anchor_of, is_free};
+ghost use Rattle.core_model.specs.Tabs.{inner, tab_at, anchor_of, is_free, IsPass};
 ghost use Rattle.core_model.specs.declared.tab.Tab.TheVariants.{Free};
-ghost use Rattle.core_model.specs.Allowed.{Allowed, IsPass, MayTake, MayEvict, MayRaise, MayEnd, StartsRight};
-ghost use Rattle.core_model.specs.Chains.{start_number, named};
+ghost use Rattle.core_model.specs.Chains.{start_number, slots_of_link};
 ghost use Rattle.core_state.specs.Inside.{setting, state};
 ghost use Rattle.core_state.specs.Planned.{IsScene, Plans};
 ghost use Rattle.core_state.specs.Raising.{MayRaiseTab, raised_tabs, raised_chain};
 ghost use Rattle.lock_word.specs.Words.{word_number};
 ghost use Rattle.core_model.specs.Layout.{word_count};
+ghost use Rattle.core_model.specs.Table.{Allowed};
+ghost use Rattle.core_model.specs.AnchorMoves.{MayTake, MayEvict, MayRaise, MayEnd, StartsRight};
 
 use crate::change::{ChainChange, Change, NotesChange, TabsChange, WordChange, anchor_addition};
 use crate::content::Content;
@@ -27,7 +28,7 @@ use std::alloc::{AllocError, Global};
 
 /// The slots that a link names: one or none.
 fn is_named_by(link: Link, slots: &[u32]) -> bool
-    ensures { IsTrue result ↔ (slots.now ≡ named link) }
+    ensures { IsTrue result ↔ (slots.now ≡ slots_of_link link) }
 {
     match (link, slots) {
         (Link::Next(slot), [only]) => *only == slot,
@@ -163,7 +164,7 @@ pub(crate) fn raise(
     Ok(Change {
         answer: left,
         word: Some(WordChange {
-            index: anchor as usize,
+            index: opening.index_of(Place::Anchor(anchor)),
             left,
         }),
         turn: TurnChange::Same,

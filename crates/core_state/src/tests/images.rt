@@ -254,18 +254,17 @@ fn words_of(kept: &Kept) -> [u64; 5] {
     ]
 }
 
-/// All words of the table.
+/// All words of the table: those of each anchor, each link with a turn that is free, and the owners.
 fn wanted(alloc: Global, row: &Row) -> Result<Vec<u64>, AllocError> {
     let mut words = Vec::new(alloc);
-    for column in 0..5 {
-        for anchor in 0..row.anchors {
-            let kept = row.kept.iter().find(|kept| kept.0 == anchor);
-            words.push(kept.map_or(0, |kept| words_of(kept)[column]))?;
-        }
+    for anchor in 0..row.anchors {
+        let kept = row.kept.iter().find(|kept| kept.0 == anchor);
+        words.extend_from_slice(&kept.map_or([0; 5], words_of))?;
+    }
+    for link in row.links {
+        words.extend_from_slice(&[link, 0])?;
     }
     words.extend_from_slice(&row.owners)?;
-    words.extend_from_slice(&row.links)?;
-    words.extend_from_slice(&[0; 4])?;
     words.push(row.counter)?;
     Ok(words)
 }

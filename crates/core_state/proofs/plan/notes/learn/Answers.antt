@@ -2,7 +2,7 @@ use Rattle.std.proofs.Common.{◌+◌, refl, ap, sym, subst, ◌∙◌, reverse,
 use Rattle.std.proofs.lemmas.Bool.{false≢true}
 use Rattle.core_model.specs.declared.view.Sight.{Sight}
 use Rattle.core_model.specs.declared.view.View.{View}
-use Rattle.core_model.specs.Allowed.{IsNote}
+use Rattle.core_model.specs.CellMoves.{IsNote}
 use Rattle.core_state.specs.declared.content.Content.{Content}
 use Rattle.core_state.proofs.Lists.{slice_at}
 use Rattle.core_state.proofs.Notes.{learn_planned, not_there}

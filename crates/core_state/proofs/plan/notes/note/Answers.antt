@@ -1,5 +1,5 @@
 use Rattle.std.proofs.Common.{ap, ◌∙◌}
-use Rattle.core_model.specs.Steps.{free_note}
+use Rattle.core_model.specs.CellMoves.{free_note}
 use Rattle.core_state.proofs.Notes.{note_planned}
 use Rattle.core_state.proofs.plan.notes.note.Goals as goal
 

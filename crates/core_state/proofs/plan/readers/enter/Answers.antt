@@ -13,5 +13,5 @@ overflow_add-word c =
 pub returns-clause-planned : goal.returns-clause-planned
 returns-clause-planned c =
     let there = c.in-Some.ensures ∙ ap (λ (x : Tab Content). Some x) c.in-Free.is in
-    enter_planned _ _ _ c.requires _ c.if-anchor-opening.false _ c.word_at-word.ensures.number c.word_at-word.ensures.in_range _ there _ _ _ _ _ _ _ _
-    c.pack-found.ensures.number c.pack-left.ensures.number c.readers_here.ensures c.entered.ensures c.met.ensures c.epoch_bits-2.ensures c.epoch_bits.ensures c.anchor_addition.ensures
+    enter_planned _ _ _ c.requires _ c.if-anchor-opening.false _ c.word_at-word.ensures.number c.word_at-word.ensures.in_range _ there _ _ _ _ _ _ _ _ _
+    c.pack-found.ensures.number c.pack-left.ensures.number c.readers_here.ensures c.entered.ensures c.met.ensures c.epoch_bits-2.ensures c.epoch_bits.ensures c.anchor_addition.ensures c.index_of.ensures

@@ -25,5 +25,5 @@ overflow_sub-others c =
 pub returns-clause-planned : goal.returns-clause-planned
 returns-clause-planned c =
     let known = c.in-Some-counted_anchor.ensures in
-    leave_planned _ _ _ c.requires _ _ c.in-Some.ensures known.0 known.1 _ known.2 _ c.word_at-word.ensures.number c.word_at-word.ensures.in_range _ _ _ _ _ _
-    c.pack-left.ensures.number c.readers_here-others.ensures c.left_tab.ensures c.met.ensures c.epoch_bits.ensures c.anchor_addition.ensures
+    leave_planned _ _ _ c.requires _ _ c.in-Some.ensures known.0 known.1 _ known.2 _ c.word_at-word.ensures.number c.word_at-word.ensures.in_range _ _ _ _ _ _ _
+    c.pack-left.ensures.number c.readers_here-others.ensures c.left_tab.ensures c.met.ensures c.epoch_bits.ensures c.anchor_addition.ensures c.index_of.ensures

@@ -38,6 +38,6 @@ returns-clause-planned c =
     let within : c.anchor_of-anchor.result < c.args.opening.now.anchors =
     let lt = in_table _ _ _ c.requires _ _ c.in-Some.ensures (is_using (setting c.args.opening.now) (state c.args.table.now) _ _ may) in omega arith in
     let there : c.anchor_of-anchor.result < length c.args.table.now.chains.items = let many = c.requires.sound.shaped.chains in omega arith in
-    raise_planned _ _ _ c.requires _ _ c.in-Some.ensures _ may _ same within _ c.word_at-word.ensures.number c.word_at-word.ensures.in_range _ _ _ _ _ _ c.index.result.now _
+    raise_planned _ _ _ c.requires _ _ c.in-Some.ensures _ may _ same within _ c.word_at-word.ensures.number c.word_at-word.ensures.in_range _ _ _ _ _ _ c.index.result.now _ _
     c.pack-left.ensures.number c.readers_here.ensures c.met.ensures c.epoch_bits-seen.ensures c.raised_tabs.ensures
-    (c.index.ensures ∙ same_default _ _ c.index.result.now no_chain there) c.in_ok-chain.ensures c.anchor_addition.ensures
+    (c.index.ensures ∙ same_default _ _ c.index.result.now no_chain there) c.in_ok-chain.ensures c.anchor_addition.ensures c.index_of.ensures
