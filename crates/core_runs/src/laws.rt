@@ -14,6 +14,7 @@ ghost use Rattle.core_state.specs.declared.content.Content.{Content};
 ghost use Rattle.core_state.specs.Machine.{Machine, state_of};
 ghost use Rattle.core_state.specs.New.{IsNew};
 ghost use Rattle.core_runs.specs.Responses.{Offers, AreBytes, IsFaithful, IsPublishedAs, SpellsResponse, bytes_of};
+ghost use Rattle.core_runs.specs.Offered.{AllOffered};
 ghost use Rattle.core_runs.specs.Runs.{IsRun, IsSound, SlotsApart};
 
 use entry_cut::placed_pieces_are_an_entry;
@@ -51,3 +52,15 @@ pub fn published_slots_hold_responses()
 {
     placed_pieces_are_an_entry();
 }
+
+/// In a core that was opened over a file each entry is the opening's, and along every allowed list of steps
+/// from it, where each tab that chose a piece keeps to its offer, each entry is the opening's or one of
+/// its offer.
+pub fn offers_stand_along_runs()
+    ensures opened { (file : FileImage) (offers : Offers) (anchors passes : ℕ) (from : Machine)
+        → IsNew file (length file.slots) anchors passes from → IsSound from → AllOffered file offers from from }
+    ensures kept { (file : FileImage) (offers : Offers) (steps : List Step) (cores : List Machine) (from : Machine)
+        → IsRun steps cores → get_elem? cores 0 ≡ some from → IsSound from → AllOffered file offers from from
+        → ((j : ℕ) (core : Machine) → get_elem? cores j ≡ some core → IsFaithful file offers core)
+        → (i : ℕ) (core : Machine) → get_elem? cores i ≡ some core → AllOffered file offers from core }
+{}

@@ -4,7 +4,10 @@
 mod laws;
 mod run;
 
-pub use laws::{published_slots_hold_responses, runs_stay_sound, slots_are_apart_along_runs};
+pub use laws::{
+    offers_stand_along_runs, published_slots_hold_responses, runs_stay_sound,
+    slots_are_apart_along_runs,
+};
 pub use run::{RunEnd, run_steps};
 
 #[cfg(test)]

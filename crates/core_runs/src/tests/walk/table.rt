@@ -5,29 +5,24 @@ use core_state::{Content, Core};
 use link_word::Link;
 use lock_word::{Word, unpack};
 
-/// Behind the words of the anchors and those beside them.
-const OWNERS: usize = 5 * ANCHORS as usize;
+/// Behind the five words of each anchor: a link and a turn for each slot.
+const LINKS: usize = 5 * ANCHORS as usize;
 
-const LINKS: usize = OWNERS + SLOTS as usize;
+const OWNERS: usize = LINKS + 2 * SLOTS as usize;
 
-const TURNS: usize = LINKS + SLOTS as usize;
-
-const COUNTER: usize = TURNS + SLOTS as usize;
+const COUNTER: usize = OWNERS + SLOTS as usize;
 
 fn number_at(core: &Core, index: usize) -> Option<u64> {
     core.words().get(index).copied()
 }
 
 pub(super) fn word_at(core: &Core, anchor: u32) -> Option<Word> {
-    unpack(number_at(core, anchor as usize)?)
+    unpack(number_at(core, 5 * anchor as usize)?)
 }
 
 /// A word beside an anchor.
 pub(super) fn beside(core: &Core, side: u32, anchor: u32) -> Option<u64> {
-    number_at(
-        core,
-        (1 + side as usize) * ANCHORS as usize + anchor as usize,
-    )
+    number_at(core, 5 * anchor as usize + 1 + side as usize)
 }
 
 pub(super) fn owner_of(core: &Core, slot: u32) -> Option<u64> {
@@ -35,11 +30,11 @@ pub(super) fn owner_of(core: &Core, slot: u32) -> Option<u64> {
 }
 
 pub(super) fn link_of(core: &Core, slot: u32) -> Option<u64> {
-    number_at(core, LINKS + slot as usize)
+    number_at(core, LINKS + 2 * slot as usize)
 }
 
 pub(super) fn turn_of(core: &Core, slot: u32) -> Option<u64> {
-    number_at(core, TURNS + slot as usize)
+    number_at(core, LINKS + 2 * slot as usize + 1)
 }
 
 pub(super) fn counter_of(core: &Core) -> Option<u64> {
