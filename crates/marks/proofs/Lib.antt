@@ -1,0 +1,5 @@
+pub mod Lists
+pub mod Framed
+pub mod Stepping
+pub mod Seating
+pub mod Dealing

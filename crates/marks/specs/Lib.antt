@@ -1,0 +1,4 @@
+pub mod Views
+pub mod Ruled
+pub mod Plays
+pub mod Seats
