@@ -1,0 +1,6 @@
+pub mod Place
+pub mod Store
+pub mod Slots
+pub mod Writing
+pub mod Reading
+pub mod Serving

@@ -1,0 +1,354 @@
+ghost use Rattle.std.specs.Prelude.{◌<◌, IfOk, All};
+ghost use Rattle.plain_store.specs.Servable.{IsServable};
+
+use crate::{answers_of, fresh, good_lines_are_servable};
+use answer_text::answer_line;
+use plain_model::Setting;
+use rock_io::MemSource;
+use script_text::{Lines, read_script};
+use std::alloc::Global;
+use std::process::Abort;
+use std::test::Fail;
+use store_key::{anchor_of, key_of};
+
+/// The lines of a script for one worker.
+fn lines_of(alloc: Global, text: &[u8]) -> Result<Lines, Fail>
+    ensures { IfOk result (λ lines. All (λ line. IsServable line.request) lines) }
+{
+    good_lines_are_servable();
+    let mut source = MemSource::new(text.to_vec(alloc)?, 8192, Vec::new(alloc));
+    let script = read_script(alloc, &mut source, 1)?;
+    Ok(script.lines)
+}
+
+/// What worker 1 of a new store with slots of 512 bytes prints.
+fn printed(alloc: Global, slots: u32, anchors: u32, text: &[u8]) -> Result<Vec<u8>, Fail>
+    requires { 0 < anchors }
+{
+    let setting = Setting {
+        slots,
+        room: 472,
+        anchors,
+    };
+    let script = lines_of(alloc, text)?;
+    let lines = script.as_slice();
+    let served = answers_of(alloc, &setting, lines, 1, fresh(alloc, anchors)?)?;
+    let mut output = Vec::new(alloc);
+    for (line, answer) in lines.iter().zip(served.answers.as_slice()) {
+        output.extend_from_slice(&answer_line(
+            alloc,
+            line.worker,
+            line.number,
+            answer,
+        )?.as_slice())?;
+    }
+    Ok(output)
+}
+
+/// A line of a script and what it is answered. After the answer comes the hexadecimal text of the bytes
+/// from place `.2` to place `.3` of the made body `#1300:0`.
+type Row<'a> = (&'a [u8], &'a [u8], u32, u32);
+
+/// A line whose answer ends where it stands.
+fn plain<'a>(line: &'a [u8], answer: &'a [u8]) -> Row<'a> {
+    (line, answer, 0, 0)
+}
+
+/// Runs these lines of worker 1, and compares what is printed.
+fn shows(
+    rt: &(impl Abort + AllocGlobal),
+    slots: u32,
+    anchors: u32,
+    rows: &[Row<'_>],
+) -> Result<(), Fail>
+    requires { 0 < anchors }
+{
+    let alloc = rt.alloc();
+    let mut text = Vec::new(alloc);
+    let mut wanted = Vec::new(alloc);
+    let mut number: u64 = 1;
+    for (line, answer, from, to) in rows {
+        text.extend_from_slice(line)?;
+        text.push(b'\n')?;
+        wanted.extend_from_slice(format!(in alloc; "1 {number} ")?.as_bytes())?;
+        wanted.extend_from_slice(answer)?;
+        for i in *from..*to {
+            let letter = 97 + (i % 26) as u8;
+            wanted.extend_from_slice(format!(in alloc; "{letter:02x}")?.as_bytes())?;
+        }
+        wanted.push(b'\n')?;
+        number = number.wrapping_add(1);
+    }
+    let lines = printed(alloc, slots, anchors, &text)?;
+    assert_eq!(rt; std::str::from_utf8(&lines), std::str::from_utf8(&wanted));
+    Ok(())
+}
+
+#[test]
+fn stored_and_read(rt: HostRuntime) -> Result<(), Fail> {
+    shows(
+        &rt,
+        4,
+        1,
+        &[
+            plain(b"1 get http://a/b", b"MISS absent 0.0"),
+            plain(b"1 put http://a/b =hello", b"STORED 1"),
+            plain(b"1 get http://a/b", b"HIT 1 5 68656c6c6f"),
+            plain(b"1 put http://a/b -", b"STORED 2"),
+            plain(b"1 get http://a/b", b"HIT 2 0 -"),
+            plain(b"1 put http://a/b #430:0", b"STORED 3"),
+            plain(b"1 put http://a/b #431:0", b"STORED 4"),
+        ],
+    )
+}
+
+#[test]
+fn replaced_by_another_key(rt: HostRuntime) -> Result<(), Fail> {
+    shows(
+        &rt,
+        4,
+        1,
+        &[
+            plain(b"1 put http://a/b =x", b"STORED 1"),
+            plain(b"1 put http://a/c =y", b"STORED 2"),
+            plain(
+                b"1 get http://a/b",
+                b"MISS other 2.3 4877c9348b6d7299e213896f839c80b8",
+            ),
+            plain(b"1 get http://a/c", b"HIT 2 1 79"),
+            plain(
+                b"1 purge http://a/b",
+                b"NONE other 2.3 4877c9348b6d7299e213896f839c80b8",
+            ),
+        ],
+    )
+}
+
+#[test]
+fn followed_while_it_grows(rt: HostRuntime) -> Result<(), Fail> {
+    shows(
+        &rt,
+        8,
+        1,
+        &[
+            plain(b"1 begin 0 http://a/b #1300:0", b"BEGUN 1"),
+            plain(b"1 open 1 http://a/b", b"MISS writing 1.1"),
+            plain(b"1 add 0 900", b"ADDED 900"),
+            plain(b"1 open 1 http://a/b", b"OPEN 1"),
+            (b"1 more 1", b"PART 1.2 430 ", 0, 430),
+            plain(b"1 more 1", b"PART 1.2 0 -"),
+            plain(b"1 end 0", b"STORED 1"),
+            (b"1 more 1", b"END 870 ", 430, 1300),
+            plain(b"1 more 1", b"END 0 -"),
+            plain(b"1 close 1", b"CLOSED"),
+        ],
+    )
+}
+
+#[test]
+fn halted_with_a_reader(rt: HostRuntime) -> Result<(), Fail> {
+    shows(
+        &rt,
+        8,
+        1,
+        &[
+            plain(b"1 begin 0 http://a/b #1300:0", b"BEGUN 1"),
+            plain(b"1 add 0 900", b"ADDED 900"),
+            plain(b"1 open 1 http://a/b", b"OPEN 1"),
+            plain(b"1 drop 0", b"DROPPED"),
+            (b"1 more 1", b"HALTED 430 ", 0, 430),
+            plain(b"1 get http://a/b", b"MISS leaving 1.4"),
+            plain(b"1 close 1", b"CLOSED"),
+            plain(b"1 get http://a/b", b"MISS absent 1.6"),
+        ],
+    )
+}
+
+#[test]
+fn busy_while_it_is_read(rt: HostRuntime) -> Result<(), Fail> {
+    shows(
+        &rt,
+        4,
+        1,
+        &[
+            plain(b"1 put http://a/b =x", b"STORED 1"),
+            plain(b"1 open 0 http://a/b", b"OPEN 1"),
+            plain(b"1 put http://a/b =y", b"BUSY 1.3/1 1.3/1"),
+            plain(b"1 close 0", b"CLOSED"),
+            plain(b"1 put http://a/b =y", b"STORED 2"),
+        ],
+    )
+}
+
+#[test]
+fn purged_while_it_is_read(rt: HostRuntime) -> Result<(), Fail> {
+    shows(
+        &rt,
+        4,
+        1,
+        &[
+            plain(b"1 put http://a/b =x", b"STORED 1"),
+            plain(b"1 open 0 http://a/b", b"OPEN 1"),
+            plain(b"1 purge http://a/b", b"PURGED 1.3d"),
+            plain(b"1 get http://a/b", b"MISS leaving 1.3d"),
+            plain(b"1 more 0", b"END 1 78"),
+            plain(b"1 close 0", b"CLOSED"),
+            plain(b"1 get http://a/b", b"MISS absent 1.6d"),
+            plain(b"1 purge http://a/b", b"NONE absent 1.6d"),
+        ],
+    )
+}
+
+#[test]
+fn purged_while_it_is_written(rt: HostRuntime) -> Result<(), Fail> {
+    shows(
+        &rt,
+        4,
+        1,
+        &[
+            plain(b"1 begin 0 http://a/b #900:0", b"BEGUN 1"),
+            plain(b"1 add 0 900", b"ADDED 900"),
+            plain(b"1 purge http://a/b", b"PURGED 1.2d"),
+            plain(b"1 end 0", b"DOOMED 1"),
+            plain(b"1 get http://a/b", b"MISS absent 1.6d"),
+        ],
+    )
+}
+
+#[test]
+fn large(rt: HostRuntime) -> Result<(), Fail> {
+    shows(
+        &rt,
+        2,
+        1,
+        &[
+            plain(b"1 put http://a/b #902:0", b"STORED 1"),
+            plain(b"1 put http://a/b #903:0", b"LARGE"),
+            plain(b"1 get http://a/b", b"MISS absent 2.6"),
+        ],
+    )
+}
+
+#[test]
+fn marks_of_one_worker(rt: HostRuntime) -> Result<(), Fail> {
+    shows(
+        &rt,
+        4,
+        1,
+        &[
+            plain(b"1 await 5", b"UNMET"),
+            plain(b"1 mark 5", b"MARKED"),
+            plain(b"1 await 5", b"MET"),
+        ],
+    )
+}
+
+#[test]
+fn tabs_that_are_not_free(rt: HostRuntime) -> Result<(), Fail> {
+    shows(
+        &rt,
+        4,
+        1,
+        &[
+            plain(b"1 add 0 5", b"TAB"),
+            plain(b"1 more 0", b"TAB"),
+            plain(b"1 begin 0 http://a/b =xy", b"BEGUN 1"),
+            plain(b"1 open 0 http://a/b", b"TAB"),
+            plain(b"1 close 0", b"TAB"),
+            plain(b"1 add 0 1", b"ADDED 1"),
+            plain(b"1 add 0 5", b"ADDED 1"),
+            plain(b"1 end 0", b"STORED 1"),
+            plain(b"1 end 0", b"TAB"),
+            plain(b"1 open 0 http://a/b", b"OPEN 1"),
+            plain(b"1 drop 0", b"TAB"),
+            plain(b"1 begin 0 http://a/c =z", b"TAB"),
+            plain(b"1 close 0", b"CLOSED"),
+        ],
+    )
+}
+
+/// The first of `http://a/00` to `http://a/99` with this anchor of two.
+fn url_at(alloc: Global, anchor: u32) -> Result<String, Fail> {
+    for number in 0..100u32 {
+        let url = format!(in alloc; "http://a/{number:02}")?;
+        if anchor_of(&key_of(url.as_bytes()), 2) == anchor {
+            return Ok(url);
+        }
+    }
+    Err(Fail::from("no such URL"))
+}
+
+#[test]
+fn full_and_then_room_again(rt: HostRuntime) -> Result<(), Fail> {
+    let alloc = rt.alloc();
+    let (u, w) = (url_at(alloc, 0)?, url_at(alloc, 1)?);
+    shows(
+        &rt,
+        3,
+        2,
+        &[
+            plain(
+                format!(in alloc; "1 put {u} #901:0")?.as_bytes(),
+                b"STORED 1",
+            ),
+            plain(format!(in alloc; "1 open 0 {u}")?.as_bytes(), b"OPEN 1"),
+            plain(format!(in alloc; "1 put {w} #901:0")?.as_bytes(), b"FULL"),
+            plain(
+                format!(in alloc; "1 get {w}")?.as_bytes(),
+                b"MISS absent 2.6",
+            ),
+            plain(format!(in alloc; "1 put {w} =x")?.as_bytes(), b"STORED 3"),
+            plain(format!(in alloc; "1 get {w}")?.as_bytes(), b"HIT 3 1 78"),
+        ],
+    )
+}
+
+#[test]
+fn evicted(rt: HostRuntime) -> Result<(), Fail> {
+    let alloc = rt.alloc();
+    let (u, w) = (url_at(alloc, 0)?, url_at(alloc, 1)?);
+    shows(
+        &rt,
+        2,
+        2,
+        &[
+            plain(
+                format!(in alloc; "1 put {u} #901:0")?.as_bytes(),
+                b"STORED 1",
+            ),
+            plain(format!(in alloc; "1 put {w} =x")?.as_bytes(), b"STORED 2"),
+            plain(
+                format!(in alloc; "1 get {u}")?.as_bytes(),
+                b"MISS absent 1.6",
+            ),
+        ],
+    )
+}
+
+#[test]
+fn long_urls(rt: HostRuntime) -> Result<(), Fail> {
+    let alloc = rt.alloc();
+    let longer = [b'a'; 441];
+    let longest = [b'a'; 440];
+    let longer = std::str::from_utf8(&longer).map_err(|_| "no text")?;
+    let longest = std::str::from_utf8(&longest).map_err(|_| "no text")?;
+    shows(
+        &rt,
+        4,
+        1,
+        &[
+            plain(
+                format!(in alloc; "1 put {longer} =x")?.as_bytes(),
+                b"LONGURL",
+            ),
+            plain(
+                format!(in alloc; "1 put {longest} =x")?.as_bytes(),
+                b"STORED 1",
+            ),
+            plain(
+                format!(in alloc; "1 get {longest}")?.as_bytes(),
+                b"HIT 1 1 78",
+            ),
+        ],
+    )
+}
