@@ -1,7 +1,8 @@
 """Makes a database file: make_file.py NAME MIB SLOT KIND
 
 KIND is `entries`, complete entries of 1 to 8 slots that fill the file, every second one with its
-chain from back to front, or a file that holds no complete entry and is made to keep a scan busy:
+chain from back to front, or `one-slot`, where each slot is a complete entry, or a file that holds no
+complete entry and is made to keep a scan busy:
 `one-tail`, where each slot begins an entry that goes on in the last slot, `chain`, one chain of all
 slots whose size is another, and `ring`, all slots in a ring that names slot 0 first.
 """
@@ -24,11 +25,11 @@ def image(slot, key, entry_size, payload, version, first, following):
     return (header + payload[1]).ljust(slot, b"\x55" if payload[0] + 40 == slot else b"\0")[:slot]
 
 
-def entries(slot, slots):
+def entries(slot, slots, most):
     room = slot - 40
     at, number = 0, 0
     while at < slots:
-        length = min(number % 8 + 1, slots - at)
+        length = min(number % most + 1, slots - at)
         key, front = meta(b"http://bench.example/objects/%08d" % number)
         chain = list(range(at, at + length))
         if number % 2:
@@ -64,7 +65,8 @@ def main():
     slots = min(mib * 1048576 // slot, MOST_SLOTS)
     with open(name, "wb", buffering=1 << 20) as file:
         file.write(bytes(HEADER_AREA))
-        for made in entries(slot, slots) if kind == "entries" else hostile(kind, slot, slots):
+        most = {"entries": 8, "one-slot": 1}.get(kind)
+        for made in entries(slot, slots, most) if most else hostile(kind, slot, slots):
             file.write(made)
 
 

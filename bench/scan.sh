@@ -1,5 +1,6 @@
 #!/usr/bin/env bash
-# Times `rock list` and `rock check` on large files, warm, beside a plain program that makes the same reads.
+# Times `rock list` and `rock check` on large files, warm, beside a plain program that makes the same reads,
+# and one that takes the MD5s of entries of one slot too.
 #
 #   bench/scan.sh [FOLDER] [MIB ..]
 #
@@ -47,6 +48,7 @@ int main(int count, char **words) {
     return 0;
 }
 END
+"${CC:-cc}" -O2 -o "$folder/plain_sums" "$root/bench/plain_sums.c"
 "${CC:-cc}" -O2 -x c -o "$folder/run_once" - <<'END'
 // Runs a program with its output thrown away, and prints the seconds that it took and its peak memory in
 // KiB: run_once PROGRAM WORD ..
@@ -75,10 +77,10 @@ int main(int count, char **words) {
     return 0;
 }
 END
-printf '%5s %6s %-10s %9s %9s %7s %8s %7s %10s %9s %7s %7s %9s\n' MiB slot file entries plain_s list_s list_MB/s ratio peak_MiB bytes/slot check_s to_list bytes/slot
+printf '%5s %6s %-10s %9s %9s %7s %8s %7s %10s %9s %7s %7s %9s %7s %7s\n' MiB slot file entries plain_s list_s list_MB/s ratio peak_MiB bytes/slot check_s to_list bytes/slot sums_s of_rate
 for mib in "$@"; do
     for slot in 512 4096 16384; do
-        for kind in entries one-tail chain ring; do
+        for kind in entries one-slot one-tail chain ring; do
             python3 "$root/bench/make_file.py" "$folder/db" "$mib" "$slot" "$kind"
             python3 "$root/bench/measure.py" "$folder" "$root/crates/rock_main/out/rock_main" "$mib" "$slot" "$kind"
             rm -f "$folder/db"
