@@ -1,0 +1,12 @@
+//! Workers: each serves its lines of a script on a shelf of its own, on threads, and they tell one another what they
+//! know at marks.
+#![tactic(auto)]
+
+mod gate;
+mod meeting;
+mod notes;
+mod serving;
+mod worker;
+
+pub use gate::{Gate, OpenGate};
+pub use notes::Of;
