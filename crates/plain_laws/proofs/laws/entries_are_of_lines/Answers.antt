@@ -1,0 +1,5 @@
+use Rattle.plain_laws.proofs.Course.{origins}
+use Rattle.plain_laws.proofs.laws.entries_are_of_lines.Goals as goal
+
+pub returns : goal.returns
+returns c = origins

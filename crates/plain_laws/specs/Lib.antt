@@ -1,0 +1,4 @@
+pub mod Kept
+pub mod Offered
+pub mod Begun
+pub mod Hit

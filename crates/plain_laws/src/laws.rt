@@ -1,0 +1,33 @@
+// The laws.
+ghost use Rattle.std.specs.Prelude.{◌≡◌, ℕ, List, Some};
+ghost use Rattle.script_text.specs.declared.line.Line.{Line};
+ghost use Rattle.script_text.specs.declared.answer.Answer.{Answer};
+ghost use Rattle.plain_model.specs.declared.entry.Entry.{Entry};
+ghost use Rattle.plain_model.specs.declared.store.Setting.{Setting};
+ghost use Rattle.plain_model.specs.declared.store.Plain.{Plain};
+ghost use Rattle.plain_model.specs.Store.{entry_at};
+ghost use Rattle.plain_model.specs.Serving.{answers, after, get};
+ghost use Rattle.plain_laws.specs.Offered.{HasOrigin};
+ghost use Rattle.plain_laws.specs.Begun.{begun, RiseAbove};
+ghost use Rattle.plain_laws.specs.Hit.{IsHit};
+
+/// A version is begun by one line: those that lines begin rise, and are above all that were given out
+/// before.
+pub fn versions_are_begun_once()
+    ensures { (s : Setting) (script lines : List Line) (p : Plain)
+        → RiseAbove p.counter (begun lines (answers s script lines p)) }
+{}
+
+/// The entry of an anchor is what one of the lines offers, under its URL and with its whole body, or one
+/// that the store had there before.
+pub fn entries_are_of_lines()
+    ensures { (s : Setting) (script lines : List Line) (p : Plain) (anchor : ℕ) (e : Entry)
+        → entry_at (after s script lines p) anchor ≡ Some e → HasOrigin s lines p anchor e }
+{}
+
+/// A whole hit has the body of the entry at the anchor of the URL: one that is whole and has that URL, and
+/// the version that the answer tells.
+pub fn hits_are_whole()
+    ensures { (s : Setting) (url : List ℕ) (p : Plain) (version : ℕ) (bytes : List ℕ)
+        → (get s url p).answer ≡ Answer.Hit version bytes → IsHit s p url version bytes }
+{}

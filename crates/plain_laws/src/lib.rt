@@ -1,0 +1,7 @@
+//! What holds of the plain store, whatever the script. These functions do nothing: the proof of a function
+//! that calls one may use what it ensures.
+#![tactic(auto)]
+
+mod laws;
+
+pub use laws::{entries_are_of_lines, hits_are_whole, versions_are_begun_once};
