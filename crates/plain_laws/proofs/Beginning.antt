@@ -29,8 +29,14 @@ pub data BeginsAs (s : Setting) (tab : ℕ) (url body : List ℕ) (offer : ℕ) 
   long : begin s tab url body offer p ≡ step answer.LongUrl p → BeginsAs s tab url body offer p
   busy : (w : Word) → begin s tab url body offer p ≡ step (answer.Busy w w) p → BeginsAs s tab url body offer p
   spent : begin s tab url body offer p ≡ step (answer.Spent p.counter) p → BeginsAs s tab url body offer p
-  begun : tab_at p tab ≡ Free → begin s tab url body offer p ≡ step (answer.Begun (p.counter + 1)) (taken_by tab (anchor_of (key_of url) s.anchors) (entry_of url body offer) p)
+  begun : tab_at p tab ≡ Free → nat_lt s.room (meta_size url) ≡ false
+      → (is_vacant_at p (anchor_of (key_of url) s.anchors) || is_idle_at p (anchor_of (key_of url) s.anchors)) ≡ true
+      → begin s tab url body offer p ≡ step (answer.Begun (p.counter + 1)) (taken_by tab (anchor_of (key_of url) s.anchors) (entry_of url body offer) p)
       → BeginsAs s tab url body offer p
+
+not_not : (b : Bool) → not b ≡ false → b ≡ true
+not_not true e = refl
+not_not false e = let k : true ≡ false = e in cc
 
 begins_when : (s : Setting) (tab : ℕ) (url body : List ℕ) (offer : ℕ) (p : Plain) → tab_at p tab ≡ Free
     → (l b c : Bool) → nat_lt s.room (meta_size url) ≡ l
@@ -39,7 +45,7 @@ begins_when : (s : Setting) (tab : ℕ) (url body : List ℕ) (offer : ℕ) (p :
 begins_when s tab url body offer p t true b c hl hb hc = BeginsAs.long (rw (t, hl) refl)
 begins_when s tab url body offer p t false true c hl hb hc = BeginsAs.busy (word_at s p (anchor_of (key_of url) s.anchors)) (rw (t, hl, hb) refl)
 begins_when s tab url body offer p t false false true hl hb hc = BeginsAs.spent (rw (t, hl, hb, hc) refl)
-begins_when s tab url body offer p t false false false hl hb hc = BeginsAs.begun t (rw (t, hl, hb, hc) refl)
+begins_when s tab url body offer p t false false false hl hb hc = BeginsAs.begun t hl (not_not (is_vacant_at p (anchor_of (key_of url) s.anchors) || is_idle_at p (anchor_of (key_of url) s.anchors)) hb) (rw (t, hl, hb, hc) refl)
 
 pub begins : (s : Setting) (tab : ℕ) (url body : List ℕ) (offer : ℕ) (p : Plain) (t : Tab) → tab_at p tab ≡ t → BeginsAs s tab url body offer p
 begins s tab url body offer p Free t = begins_when s tab url body offer p t

@@ -1,5 +1,5 @@
 -- What keeps entries and versions.
-use Rattle.std.proofs.Common.{◌≡◌, ◌∙◌, ℕ, zero, suc, ◌+◌, ◌-◌, ◌*◌, ◌%◌, List, [], ◌∷◌, get_or, set, refl, sym, ap, Bool, true, false, cond}
+use Rattle.std.proofs.Common.{◌≡◌, ◌∙◌, ℕ, zero, suc, ◌+◌, ◌-◌, ◌*◌, ◌%◌, List, [], ◌∷◌, get_or, set, length, length-set, refl, sym, ap, Bool, true, false, cond}
 use Rattle.std.specs.Prelude.{Option, Some, None, min, nat_lt, nat_le, ◌==◌, ◌||◌, not, is_some}
 use Rattle.script_text.specs.declared.answer.Answer.{Answer}
 use Rattle.plain_model.specs.declared.entry.Life.{Life}
@@ -35,11 +35,12 @@ as_refl : (x : Place) → IsAs x x
 as_refl x = record { version = refl; entry = left_refl x.entry }
 
 pub keeps_refl : (p : Plain) → Keeps p p
-keeps_refl p = record { counter = refl; places = λ a. as_refl (place_at p a) }
+keeps_refl p = record { counter = refl; anchors = refl; places = λ a. as_refl (place_at p a) }
 
 pub keeps_trans : (p q r : Plain) → Keeps p q → Keeps q r → Keeps p r
 keeps_trans p q r h k = record {
   counter = k.counter ∙ h.counter;
+  anchors = k.anchors ∙ h.anchors;
   places = λ a. record {
     version = (k.places a).version ∙ (h.places a).version;
     entry = left_trans (entry_at p a) (entry_at q a) (entry_at r a) (h.places a).entry (k.places a).entry;
@@ -58,7 +59,7 @@ abbrev pub changing : (Place → Place) → ℕ → Plain → Plain
 changing f a p = record p { places = set p.places a (f (place_at p a)) }
 
 pub keeps_set : (f : Place → Place) → ((x : Place) → IsAs x (f x)) → (a : ℕ) (p : Plain) → Keeps p (changing f a p)
-keeps_set f keeps a p = record { counter = refl; places = λ b. places_set f keeps p.places a b }
+keeps_set f keeps a p = record { counter = refl; anchors = length-set p.places a (f (place_at p a)); places = λ b. places_set f keeps p.places a b }
 
 as_vacated : (x : Place) → IsAs x (vacated x)
 as_vacated x = record { version = refl; entry = tt }
@@ -81,7 +82,7 @@ as_ended : (life : Life) (x : Place) → IsAs x (ended life x)
 as_ended life x = record { version = refl; entry = left_ended life x.entry }
 
 keeps_evicted : (s : Setting) (a : ℕ) (p : Plain) → Keeps p (evicted s a p)
-keeps_evicted s a p = record { counter = refl; places = λ b. places_set vacated as_vacated p.places a b }
+keeps_evicted s a p = record { counter = refl; anchors = length-set p.places a (vacated (place_at p a)); places = λ b. places_set vacated as_vacated p.places a b }
 
 keeps_claim_of : (s : Setting) (p : Plain) (o : Option ℕ) → Keeps p (claim_of s p o).store
 keeps_claim_of s p None = keeps_refl p
@@ -113,7 +114,7 @@ pub keeps_settle : (a : ℕ) (p : Plain) → Keeps p (settle a p)
 keeps_settle a p = either (λ q. Keeps p q) (is_left_over_at p a) _ _ (λ h. keeps_set vacated as_vacated a p) (λ h. keeps_refl p)
 
 pub keeps_tab : (tab : ℕ) (t : Tab) (p : Plain) → Keeps p (with_tab p tab t)
-keeps_tab tab t p = record { counter = refl; places = λ a. as_refl (place_at p a) }
+keeps_tab tab t p = record { counter = refl; anchors = refl; places = λ a. as_refl (place_at p a) }
 
 ending : Life → (tab a : ℕ) → Plain → Plain
 ending life tab a p = record p { tabs = set p.tabs tab Free; places = set p.places a (ended life (place_at p a)) }
@@ -121,7 +122,7 @@ ending life tab a p = record p { tabs = set p.tabs tab Free; places = set p.plac
 pub keeps_close_writer : (life : Life) (tab a : ℕ) (p : Plain) → Keeps p (close_writer life tab a p)
 unfolding ending
 keeps_close_writer life tab a p = keeps_trans p (ending life tab a p) (close_writer life tab a p)
-    (record { counter = refl; places = λ b. places_set (ended life) (as_ended life) p.places a b })
+    (record { counter = refl; anchors = length-set p.places a (ended life (place_at p a)); places = λ b. places_set (ended life) (as_ended life) p.places a b })
     (keeps_settle a (ending life tab a p))
 
 -- the next step is taken only where nothing was refused

@@ -6,3 +6,9 @@ pub mod Ending
 pub mod Serving
 pub mod Course
 pub mod Hitting
+pub mod Sums
+pub mod Evicting
+pub mod Filling
+pub mod Writers
+pub mod Closing
+pub mod Held

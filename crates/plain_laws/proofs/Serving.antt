@@ -1,5 +1,5 @@
 -- What a line does to entries and versions.
-use Rattle.std.proofs.Common.{◌≡◌, ◌⊎◌, inl, inr, ◌∙◌, ℕ, ◌+◌, List, [], ◌∷◌, refl, sym, ap, subst, false}
+use Rattle.std.proofs.Common.{◌≡◌, ◌⊎◌, inl, inr, ◌∙◌, ℕ, ◌+◌, List, [], ◌∷◌, refl, sym, ap, subst, false, length, length-set}
 use Rattle.std.specs.Prelude.{Option, Some, None, ◌==◌, ◌&&◌}
 use Rattle.store_key.specs.Key.{key_of}
 use Rattle.store_key.specs.Anchor.{anchor_of}
@@ -55,7 +55,7 @@ put_effect s url body offer p (BeginsAs.in_use e) = inl (rw e (keeps_refl p, ref
 put_effect s url body offer p (BeginsAs.long e) = inl (rw e (keeps_refl p, refl))
 put_effect s url body offer p (BeginsAs.busy w e) = inl (rw e (keeps_refl p, refl))
 put_effect s url body offer p (BeginsAs.spent e) = inl (rw e (keeps_refl p, refl))
-put_effect s url body offer p (BeginsAs.begun t e) = inr (rw e
+put_effect s url body offer p (BeginsAs.begun t fits able e) = inr (rw e
     (keeps_end s 7 q (tab_at q 7) refl, end_tells s (p.counter + 1) 7 q (tab_at q 7) refl (λ a x u is. taken_version anchor a (entry_of url body offer) x p u is)))
   where
     anchor : ℕ
@@ -71,7 +71,7 @@ begin_effect s tab url body offer p (BeginsAs.in_use e) = inl (rw e (keeps_refl 
 begin_effect s tab url body offer p (BeginsAs.long e) = inl (rw e (keeps_refl p, refl))
 begin_effect s tab url body offer p (BeginsAs.busy w e) = inl (rw e (keeps_refl p, refl))
 begin_effect s tab url body offer p (BeginsAs.spent e) = inl (rw e (keeps_refl p, refl))
-begin_effect s tab url body offer p (BeginsAs.begun t e) = inr (rw e (keeps_refl (taken_by tab (anchor_of (key_of url) s.anchors) (entry_of url body offer) p), refl))
+begin_effect s tab url body offer p (BeginsAs.begun t fits able e) = inr (rw e (keeps_refl (taken_by tab (anchor_of (key_of url) s.anchors) (entry_of url body offer) p), refl))
 
 -- by what a line asks
 effect_of : (s : Setting) (script : List Line) (worker number : ℕ) (request : Request) (p : Plain)
@@ -104,3 +104,9 @@ effect_of s script w n (Await mark) p = Effect.kept (keeps_refl p) refl
 
 pub effect : (s : Setting) (script : List Line) (line : Line) (p : Plain) → Effect s line p (serve s script line p)
 effect s script line p = effect_of s script line.worker line.number line.request p
+
+-- there are as many anchors as before
+pub anchors_stay : (s : Setting) (line : Line) (p : Plain) (r : Step) → Effect s line p r → length r.after.places ≡ length p.places
+anchors_stay s line p r (Effect.kept k told) = k.anchors
+anchors_stay s line p r (Effect.began tab url made offers b told) =
+    b.anchors ∙ length-set p.places (anchor_of (key_of url) s.anchors) (record { version = p.counter + 1; doom = false; entry = Some (entry_of url (bytes_of made) (s.slots + line.number)) })

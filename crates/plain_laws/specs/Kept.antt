@@ -1,5 +1,5 @@
 -- What stays the same while nothing is begun.
-use Rattle.std.specs.Prelude.{◌≡◌, ℕ, List, Option, Some, None}
+use Rattle.std.specs.Prelude.{◌≡◌, ℕ, List, length, Option, Some, None}
 use Rattle.plain_model.specs.declared.entry.Entry.{Entry}
 use Rattle.plain_model.specs.declared.entry.Place.{Place}
 use Rattle.plain_model.specs.declared.store.Plain.{Plain}
@@ -29,6 +29,7 @@ pub record IsAs (old new : Place) : Type 0 where
 -- no version was given out, and no entry came
 pub record Keeps (p q : Plain) : Type 0 where
   pub counter : q.counter ≡ p.counter
+  pub anchors : length q.places ≡ length p.places
   pub places : (anchor : ℕ) → IsAs (place_at p anchor) (place_at q anchor)
 
 -- one version was given out, to what is offered here, and nothing else came

@@ -2,3 +2,4 @@ pub mod Kept
 pub mod Offered
 pub mod Begun
 pub mod Hit
+pub mod Holding

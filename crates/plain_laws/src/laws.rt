@@ -1,5 +1,5 @@
 // The laws.
-ghost use Rattle.std.specs.Prelude.{◌≡◌, ℕ, List, Some};
+ghost use Rattle.std.specs.Prelude.{◌≡◌, ◌<◌, ℕ, List, length, Some};
 ghost use Rattle.script_text.specs.declared.line.Line.{Line};
 ghost use Rattle.script_text.specs.declared.answer.Answer.{Answer};
 ghost use Rattle.plain_model.specs.declared.entry.Entry.{Entry};
@@ -10,6 +10,7 @@ ghost use Rattle.plain_model.specs.Serving.{answers, after, get};
 ghost use Rattle.plain_laws.specs.Offered.{HasOrigin};
 ghost use Rattle.plain_laws.specs.Begun.{begun, RiseAbove};
 ghost use Rattle.plain_laws.specs.Hit.{IsHit};
+ghost use Rattle.plain_laws.specs.Holding.{HoldsItsSlots};
 
 /// A version is begun by one line: those that lines begin rise, and are above all that were given out
 /// before.
@@ -30,4 +31,10 @@ pub fn entries_are_of_lines()
 pub fn hits_are_whole()
     ensures { (s : Setting) (url : List ℕ) (p : Plain) (version : ℕ) (bytes : List ℕ)
         → (get s url p).answer ≡ Answer.Hit version bytes → IsHit s p url version bytes }
+{}
+
+/// The slots that entries hold are never more than there are.
+pub fn held_slots_are_there()
+    ensures { (s : Setting) (script lines : List Line) (p : Plain)
+        → 0 < s.room → 0 < s.anchors → length p.places ≡ s.anchors → HoldsItsSlots s p → HoldsItsSlots s (after s script lines p) }
 {}

@@ -4,4 +4,6 @@
 
 mod laws;
 
-pub use laws::{entries_are_of_lines, hits_are_whole, versions_are_begun_once};
+pub use laws::{
+    entries_are_of_lines, held_slots_are_there, hits_are_whole, versions_are_begun_once,
+};
