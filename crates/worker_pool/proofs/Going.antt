@@ -14,8 +14,8 @@ use Rattle.marks.specs.declared.view.View.{View}
 use Rattle.marks.specs.Seats.{view, IsSeatOf}
 use Rattle.marks.proofs.Lists.{none_in}
 use Rattle.worker_pool.specs.declared.notes.Of.{Of}
-use Rattle.worker_pool.specs.Courses.{sets, Stage, lines_from, lines_of, Linked, Step, Kept}
-use Rattle.worker_pool.specs.Knowing.{At, HasMarks, Extends, Holds, Told, IsTold, Answered, Ready, Served}
+use Rattle.worker_pool.specs.Courses.{At, sets, Stage, lines_from, lines_of, Linked, Step, Kept}
+use Rattle.worker_pool.specs.Knowing.{HasMarks, Extends, Holds, Told, IsTold, Answered, Ready, Served}
 
 either_false : (a b : Bool) → (a || b) ≡ false → (a ≡ false) × (b ≡ false)
 either_false true b e = let clash : true ≡ false = e in cc
@@ -52,19 +52,19 @@ counted [] n lt = absurd (omega arith)
 counted (x ∷ xs) zero lt = refl
 counted (x ∷ xs) (suc n) lt = ap suc (counted xs n (omega arith))
 
-lines_next : (lines : List Line) (w n : ℕ) (line : Line) → At lines n line → lines_of w (take (n + 1) lines) ≡ lines_of w (take n lines) ++ cond (line.worker == w) ((n, line) ∷ []) []
+pub lines_next : (lines : List Line) (w n : ℕ) (line : Line) → At lines n line → lines_of w (take (n + 1) lines) ≡ lines_of w (take n lines) ++ cond (line.worker == w) ((n, line) ∷ []) []
 lines_next lines w n line at = ap (lines_of w) (next_lines lines n line at) ∙ (lines_push w 0 (take n lines) line ∙ ap (λ (k : ℕ). lines_of w (take n lines) ++ cond (line.worker == w) ((k, line) ∷ []) []) (let long = counted lines n at.0 in let e : 0 + length (take n lines) ≡ n = omega arith in e))
 
-map_push : {X Y : Type 0} (f : X → Y) (xs : List X) (x : X) → map f (xs ++ x ∷ []) ≡ map f xs ++ f x ∷ []
+pub map_push : {X Y : Type 0} (f : X → Y) (xs : List X) (x : X) → map f (xs ++ x ∷ []) ≡ map f xs ++ f x ∷ []
 map_push f [] x = refl
 map_push f (y ∷ ys) x = ap (λ (l : List _). f y ∷ l) (map_push f ys x)
 
-linked_push : {H : Type 0} (start mid : H) (stages : List (Stage H)) (s : Stage H) → Linked start stages mid → s.before ≡ mid → Linked start (stages ++ s ∷ []) s.after
+pub linked_push : {H : Type 0} (start mid : H) (stages : List (Stage H)) (s : Stage H) → Linked start stages mid → s.before ≡ mid → Linked start (stages ++ s ∷ []) s.after
 linked_push start mid [] s l e = (e ∙ l, refl)
 linked_push start mid (t ∷ ts) s l e = (l.0, linked_push t.after mid ts s l.1 e)
 
 module _ {H N : Type 0} (g : Ghosts H N) where
-  told_more : (v w : View H N) (line : Line) (b : H) (a : Answer) (c : H) → Extends v w → Told g v line b a c → Told g w line b a c
+  pub told_more : (v w : View H N) (line : Line) (b : H) (a : Answer) (c : H) → Extends v w → Told g v line b a c → Told g w line b a c
   told_more v w line b a c more t = record {
     set = λ m e. let s = t.set m e in record { note = s.note; set = more.set (m, s.note) s.set; knows = s.knows };
     met = λ m e q. let s = t.met m e q in record { was = s.was; met = more.met (m, s.was) s.met; knows = s.knows };

@@ -1,5 +1,5 @@
 -- What a worker knows while it serves, and what its seat at the marks knows.
-use Rattle.std.specs.Prelude.{◌≡◌, ℕ, ◌<◌, ◌≤◌, false, None, List, map, take, length, slice_index_or}
+use Rattle.std.specs.Prelude.{◌≡◌, ℕ, ◌<◌, ◌≤◌, false, None, List, map, take, length}
 use Rattle.std.specs.List.{Contains, list_any}
 use Rattle.script_text.specs.declared.line.Line.{Line}
 use Rattle.script_text.specs.declared.request.Request.TheVariants.{Mark, Await}
@@ -12,11 +12,7 @@ use Rattle.marks.specs.declared.view.View.{View}
 use Rattle.marks.specs.Views.{after_set, after_met, after_put}
 use Rattle.marks.specs.Seats.{view, key, IsSeatOf}
 use Rattle.worker_pool.specs.declared.notes.Of.{Of}
-use Rattle.worker_pool.specs.Courses.{sets, IsServed, Stage, lines_of, Linked, StepOf, Step, Meeting}
-
--- the line stands at this place of the script
-abbrev pub At : List Line → ℕ → Line → Type 0
-At lines k line = (k < length lines) × (slice_index_or lines k line ≡ line)
+use Rattle.worker_pool.specs.Courses.{At, sets, IsServed, Stage, lines_of, Linked, StepOf, Step, Meeting}
 
 -- marks are below 64, and no two lines set one mark
 pub record HasMarks (lines : List Line) : Type 0 where

@@ -1,3 +1,4 @@
 pub mod Courses
 pub mod Knowing
 pub mod Running
+pub mod Crews

@@ -2,11 +2,15 @@
 //! know at marks.
 #![tactic(auto)]
 
+mod crew;
 mod gate;
 mod meeting;
 mod notes;
+mod run;
 mod serving;
+mod setters;
 mod worker;
 
 pub use gate::{Gate, OpenGate};
 pub use notes::Of;
+pub use run::{Ran, run_workers};

@@ -1,6 +1,7 @@
 // One line is answered.
-ghost use Rattle.std.specs.Prelude.{◌≡◌, ℕ, ◌<◌, ◌++◌, [], ◌∷◌, None, IfOk};
+ghost use Rattle.std.specs.Prelude.{◌≡◌, ℕ, ◌<◌, ◌++◌, [], ◌∷◌, None, IfOk, OnErr};
 ghost use Rattle.std.specs.List.{Contains, list_any};
+ghost use Rattle.script_text.specs.Tabs.{UsesTab};
 ghost use Rattle.script_text.specs.declared.request.Request.TheVariants.{Mark, Await};
 ghost use Rattle.marks.specs.Seats.{view, key, IsSeatOf};
 ghost use Rattle.worker_pool.specs.Courses.{Kept, sets, IsServed};
@@ -51,6 +52,7 @@ pub(crate) fn answered<R: Wait, H: Shelf>(
     ensures extends { Extends (view seat.old) (view seat.new) }
     ensures holds { Holds (earlier.now ++ line.now ∷ []) (view seat.old) (view seat.new) }
     ensures answered { IfOk result (λ answer. Answered H.Shelf earlier.now line.now shelf.old answer shelf.new (view seat.new)) }
+    ensures wanted { OnErr result (IsServed line.now.request × ((tab : ℕ) → UsesTab line.now.request tab → H.is_free shelf.new tab)) }
 {
     match &line.request {
         Request::Mark { mark } => {

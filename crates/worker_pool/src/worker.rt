@@ -1,8 +1,8 @@
 // A worker serves its lines.
 ghost use Rattle.std.specs.Prelude.{◌≡◌, ℕ, ◌+◌, ◌<◌, ◌++◌, [], ◌∷◌, true, false, length, IfOk, IsOk};
 ghost use Rattle.marks.specs.Seats.{view, IsSeatOf};
-ghost use Rattle.worker_pool.specs.Courses.{Kept};
-ghost use Rattle.worker_pool.specs.Knowing.{At, HasMarks, Ready, Served, Worked};
+ghost use Rattle.worker_pool.specs.Courses.{At, Kept, Stopped, Halted};
+ghost use Rattle.worker_pool.specs.Knowing.{HasMarks, Ready, Served, Worked};
 
 use crate::gate::Gate;
 use crate::meeting::set_mark;
@@ -59,6 +59,8 @@ impl<H: Shelf> Worker<H> {
         ensures kept { Kept H.Shelf self.old.shelf self.new.shelf }
         ensures served { (start : H) → Served H.Shelf lines.now self.old.number start place self.old.shelf self.old.answers.items (view self.old.seat)
             → self.new.is_stopped ≡ false → Served H.Shelf lines.now self.old.number start (place + 1) self.new.shelf self.new.answers.items (view self.new.seat) }
+        ensures stopped { (start : H) → Served H.Shelf lines.now self.old.number start place self.old.shelf self.old.answers.items (view self.old.seat)
+            → self.new.is_stopped ≡ true → Stopped H.Shelf lines.now self.old.number (place + 1) start self.new.shelf }
     {
         gate.before(self.number, line.number);
         let (earlier, _) = lines.split_at(place);
@@ -83,6 +85,7 @@ impl<H: Shelf> Worker<H> {
         ensures same { (self.new.number ≡ self.old.number) × (self.new.is_stopped ≡ self.old.is_stopped) }
         ensures ready { Ready H.Shelf marks.now lines.now self.old.number (place + 1) self.new.shelf self.new.seat }
         ensures kept { Kept H.Shelf self.old.shelf self.new.shelf }
+        ensures stopped { (start : H) → Stopped H.Shelf lines.now self.old.number place start self.old.shelf → Stopped H.Shelf lines.now self.old.number (place + 1) start self.new.shelf }
     {
         match &line.request {
             Request::Mark { mark } => set_mark(marks, &mut self.shelf, &mut self.seat, *mark),
@@ -108,6 +111,8 @@ impl<H: Shelf> Worker<H> {
         ensures kept { Kept H.Shelf self.old.shelf self.new.shelf }
         ensures served { (start : H) → (self.old.is_stopped ≡ false → Served H.Shelf lines.now self.old.number start place self.old.shelf self.old.answers.items (view self.old.seat))
             → self.new.is_stopped ≡ false → Served H.Shelf lines.now self.old.number start (place + 1) self.new.shelf self.new.answers.items (view self.new.seat) }
+        ensures stopped { (start : H) → (self.old.is_stopped ≡ false → Served H.Shelf lines.now self.old.number start place self.old.shelf self.old.answers.items (view self.old.seat))
+            → (self.old.is_stopped ≡ true → Stopped H.Shelf lines.now self.old.number place start self.old.shelf) → self.new.is_stopped ≡ true → Stopped H.Shelf lines.now self.old.number (place + 1) start self.new.shelf }
     {
         let line = &lines[place];
         if line.worker != self.number {
@@ -131,12 +136,14 @@ impl<H: Shelf> Worker<H> {
     )
         requires marks { HasMarks lines.now }
         requires fresh { self.old.answers.items ≡ [] }
+        requires goes { self.old.is_stopped ≡ false }
         requires ready { Ready H.Shelf marks.now lines.now self.old.number 0 self.old.shelf self.old.seat }
         ensures number { self.new.number ≡ self.old.number }
         ensures own { IsSeatOf marks.now self.new.seat }
         ensures kept { Kept H.Shelf self.old.shelf self.new.shelf }
         ensures free { (tab : ℕ) → H.is_free self.new.shelf tab }
         ensures done { self.new.is_stopped ≡ false → Worked H.Shelf lines.now self.old.number self.old.shelf self.new.shelf self.new.answers.items (view self.new.seat) }
+        ensures stopped { self.new.is_stopped ≡ true → Halted H.Shelf lines.now self.old.number self.old.shelf self.new.shelf }
     {
         for place in 0..lines.len() {
             self.go_on(rt, alloc, marks, lines, place, gate);

@@ -2,6 +2,8 @@ use Rattle.std.proofs.Common.{◌+◌, ◌++◌, ◌∷◌, [], sym, subst, arit
 use Rattle.worker_pool.specs.Knowing.{Holds, Ready, Served}
 use Rattle.marks.specs.Seats.{view}
 use Rattle.worker_pool.proofs.Going.{ready_next, served_kept}
+use Rattle.worker_pool.specs.Courses.{Stopped}
+use Rattle.worker_pool.proofs.Stopping.{stopped_first}
 use Rattle.worker_pool.proofs.worker.Worker.serve.Goals as goal
 
 pub answered-answer-requires-clause-may : goal.answered-answer-requires-clause-may
@@ -26,3 +28,11 @@ returns-clause-served g c start before going =
     (subst (λ shelf. Served g.H.Shelf c.args.lines.now c.args.self.now.number start (c.args.place + 1) shelf c.keep.new.self.answers.items (view c.answered-answer.new.seat)) (sym same.1)
     (served_kept g.H.Shelf c.args.lines.now c.args.self.now.number start c.args.place c.args.line.now c.args.self.now.shelf c.answered-answer.new.shelf c.split_at.result.0.now c.args.self.now.answers.items c.keep.new.self.answers.items c.answered-answer.result
     (view c.args.self.now.seat) (view c.answered-answer.new.seat) c.requires.at c.requires.mine done.extends c.split_at.ensures.front done.answered (c.keep.ensures.kept going) before))
+
+pub returns-clause-stopped : goal.returns-clause-stopped
+returns-clause-stopped g c start before halts =
+    let done = c.answered-answer.ensures in
+    let same = c.keep.ensures.same in
+    subst (λ shelf. Stopped g.H.Shelf c.args.lines.now c.args.self.now.number (c.args.place + 1) start shelf) (sym same.1)
+    (stopped_first g.H.Shelf c.args.lines.now c.args.self.now.number start c.args.place c.args.line.now c.args.self.now.shelf c.answered-answer.new.shelf c.split_at.result.0.now c.args.self.now.answers.items c.answered-answer.result
+    (view c.args.self.now.seat) (view c.answered-answer.new.seat) c.requires.at c.requires.mine c.split_at.ensures.front done.answered done.wanted done.kept before)
