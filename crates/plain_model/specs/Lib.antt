@@ -4,3 +4,4 @@ pub mod Slots
 pub mod Writing
 pub mod Reading
 pub mod Serving
+pub mod Opening
