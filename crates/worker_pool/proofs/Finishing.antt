@@ -17,7 +17,7 @@ use Rattle.worker_pool.specs.Knowing.{Extends, IsTold, Worked}
 use Rattle.worker_pool.specs.Crews.{Sets, AreHired, Gathered, Begins, Ended, AreEnded}
 use Rattle.worker_pool.specs.Running.{Meets, Account, answers_of, IsWhole, HasServed, HasBack, HasTried}
 use Rattle.worker_pool.proofs.Going.{told_more}
-use Rattle.worker_pool.proofs.Places.{one_at, at_read, at_same, at_contains, contains_at, from_map, take_whole}
+use Rattle.worker_pool.proofs.Places.{one_at, at_read, at_same, at_contains, contains_at, at_map, from_map, take_whole}
 
 module _ {X Y : Type 0} (f : X → Y) where
   length_map : (xs : List X) → length (map f xs) ≡ length xs
@@ -168,6 +168,21 @@ module _ {H N : Type 0} (g : Ghosts H N) where
     tried w s y false hs hy e = let x = worked w s y hs hy e in
         inl (record { start = s; stages = x.served.stages; last = x.last; end = y.shelf }, refl, refl, whole_of lines (w + 1) s y.shelf y.answers.items (view y.seat) x)
 
-    pub has_tried : (back : List H) → back ≡ map (λ x. x.shelf) after → HasTried g lines shelves back
-    has_tried back e w s b hs hb = let y = from_map (λ (x : Worker H N). x.shelf) after w b (at_same back (map (λ x. x.shelf) after) w b e hb) in
+    tried_each : (back : List H) → back ≡ map (λ x. x.shelf) after → (w : ℕ) (s b : H) → At shelves w s → At back w b → ((a : Account H) × (a.start ≡ s) × (a.end ≡ b) × IsWhole g lines (w + 1) a) ⊎ Halted g lines (w + 1) s b
+    tried_each back e w s b hs hb =
+        let y = from_map (λ (x : Worker H N). x.shelf) after w b (at_same back (map (λ x. x.shelf) after) w b e hb) in
         subst (λ (z : H). ((a : Account H) × (a.start ≡ s) × (a.end ≡ z) × IsWhole g lines (w + 1) a) ⊎ Halted g lines (w + 1) s z) y.2 (tried w s y.0 y.0.is_stopped hs y.1 refl)
+
+    pub has_tried : (back : List H) → back ≡ map (λ x. x.shelf) after → (y : Worker H N) → Contains after y → y.is_stopped ≡ true → HasTried g lines shelves back
+    has_tried back e y h stop =
+        let there : At after h.0 y = contains_at after y h in
+        let start : H = get_or shelves h.0 y.shelf in
+        let here : At shelves h.0 start = at_read shelves h.0 y.shelf (let lt = there.0 in let same = same_count in omega arith) in record {
+          each = tried_each back e;
+          place = h.0;
+          before = start;
+          after = y.shelf;
+          handed_in = here;
+          handed_back = at_same (map (λ x. x.shelf) after) back h.0 y.shelf (sym e) (at_map (λ (x : Worker H N). x.shelf) after h.0 y there);
+          stopped = halted h.0 start y here there stop;
+        }

@@ -1,6 +1,6 @@
 -- Workers are hired, and released.
-use Rattle.std.proofs.Common.{◌≡◌, ⊎_elim, ℕ, ◌+◌, ◌<◌, Bool, true, false, ◌&&◌, not, List, [], ◌∷◌, ◌++◌, map, take, drop, length, sym, refl, ap, ◌∙◌, subst, arith, Contains}
-use Rattle.std.proofs.lemmas.List.Elements.{Contains-push_cases, Contains-append_left, Contains-append_right}
+use Rattle.std.proofs.Common.{◌≡◌, ◌⊎◌, inl, inr, ⊎_elim, ℕ, ◌+◌, ◌<◌, Bool, true, false, ◌&&◌, not, List, [], ◌∷◌, ◌++◌, map, take, drop, length, sym, refl, ap, ◌∙◌, subst, arith, Contains}
+use Rattle.std.proofs.lemmas.List.Elements.{Contains-push, Contains-push_cases, Contains-append_left, Contains-append_right}
 use Rattle.std.proofs.Common.{Global}
 use Rattle.std.specs.Prelude.{Vec, slice_index_or}
 use Rattle.marks.specs.declared.seat.MarkSeat.{MarkSeat}
@@ -15,6 +15,11 @@ use Rattle.worker_pool.specs.Courses.{At}
 use Rattle.worker_pool.specs.Knowing.{Extends}
 use Rattle.worker_pool.specs.Crews.{Hired, Gathered}
 use Rattle.worker_pool.proofs.Places.{at_place, take_none, take_whole, length_push, push_cases, first_left, next_left, front_more, map_push}
+
+either_off : (a b : Bool) → (a && not b) ≡ false → (a ≡ false) ⊎ (b ≡ true)
+either_off false b e = inl refl
+either_off true true e = inr refl
+either_off true false e = let clash : true ≡ false = e in cc
 
 both_true : (a b : Bool) → (a && not b) ≡ true → (a ≡ true) × (b ≡ false)
 both_true true false e = (refl, refl)
@@ -63,6 +68,7 @@ module _ {H N : Type 0} where
     pub shelves_are : shelves ≡ map (λ x. x.shelf) (take n workers)
     pub answers_are : answers ≡ map (λ x. x.answers) (take n workers)
     pub all_went : went ≡ true → (x : Worker H N) → Contains (take n workers) x → x.is_stopped ≡ false
+    pub some_stopped : went ≡ false → (x : Worker H N) × Contains (take n workers) x × (x.is_stopped ≡ true)
     pub extends : (x : Worker H N) → Contains (take n workers) x → Extends (view x.seat) v
     pub agrees : 0 < n → Agrees v
 
@@ -81,6 +87,7 @@ module _ {H N : Type 0} where
     shelves_are = e ∙ sym (ap (map (λ (x : Worker H N). x.shelf)) (take_none workers));
     answers_are = f ∙ sym (ap (map (λ (x : Worker H N). x.answers)) (take_none workers));
     all_went = λ go x h. absurd (none_in x (subst (λ (l : List (Worker H N)). Contains l x) (take_none workers) h));
+    some_stopped = λ off. let clash : true ≡ false = off in cc;
     extends = λ x h. absurd (none_in x (subst (λ (l : List (Worker H N)). Contains l x) (take_none workers) h));
     agrees = λ lt. absurd (omega arith);
   }
@@ -99,17 +106,22 @@ module _ {H N : Type 0} where
         all_went = λ go y i. let both = both_true went x.is_stopped (sym q ∙ go) in
             ⊎_elim (λ (old : Contains (take n workers) y). r.all_went both.0 y old) (λ (same : x ≡ y). subst (λ (z : Worker H N). z.is_stopped ≡ false) same both.1)
             (Contains-push_cases (take n workers) x y (subst (λ (l : List (Worker H N)). Contains l y) more i));
+        some_stopped = λ off. ⊎_elim
+            (λ (was : went ≡ false). let old = r.some_stopped was in (old.0, subst (λ (l : List (Worker H N)). Contains l old.0) (sym more) (Contains-append_left (take n workers) (x ∷ []) old.0 old.1), old.2))
+            (λ (stops : x.is_stopped ≡ true). (x, subst (λ (l : List (Worker H N)). Contains l x) (sym more) (Contains-push (take n workers) x), stops))
+            (either_off went x.is_stopped (sym q ∙ off));
         extends = λ y i. ⊎_elim (λ (old : Contains (take n workers) y). extends_on (view y.seat) v u (r.extends y old) known) (λ (same : x ≡ y). subst (λ (z : Worker H N). Extends (view z.seat) u) same new)
             (Contains-push_cases (take n workers) x y (subst (λ (l : List (Worker H N)). Contains l y) more i));
         agrees = λ lt. agrees;
       }
 
   pub gathered : (workers left : List (Worker H N)) (n : ℕ) (shelves : List H) (answers : List (Vec (ℕ × Answer) Global)) (went : Bool) (v : View H N) → n ≡ length workers → 0 < n → Released workers left n shelves answers went v
-      → (shelves ≡ map (λ x. x.shelf) workers) × (answers ≡ map (λ x. x.answers) workers) × (went ≡ true → (x : Worker H N) → Contains workers x → x.is_stopped ≡ false) × Gathered workers
+      → (shelves ≡ map (λ x. x.shelf) workers) × (answers ≡ map (λ x. x.answers) workers) × (went ≡ true → (x : Worker H N) → Contains workers x → x.is_stopped ≡ false) × Gathered workers × (went ≡ false → (x : Worker H N) × Contains workers x × (x.is_stopped ≡ true))
   gathered workers left n shelves answers went v e some r =
       let all : take n workers ≡ workers = ap (λ (k : ℕ). take k workers) e ∙ take_whole workers in (
         r.shelves_are ∙ ap (map (λ (x : Worker H N). x.shelf)) all,
         r.answers_are ∙ ap (map (λ (x : Worker H N). x.answers)) all,
         (λ go x h. r.all_went go x (subst (λ (l : List (Worker H N)). Contains l x) (sym all) h)),
         record { whole = v; agrees = r.agrees some; extends = λ x h. r.extends x (subst (λ (l : List (Worker H N)). Contains l x) (sym all) h) },
+        (λ off. let old = r.some_stopped off in (old.0, subst (λ (l : List (Worker H N)). Contains l old.0) all old.1, old.2)),
       )

@@ -2,6 +2,7 @@ pub mod Answering
 pub mod Going
 pub mod Stopping
 pub mod Places
+pub mod Scripts
 pub mod Setting
 pub mod Finishing
 pub mod Hiring

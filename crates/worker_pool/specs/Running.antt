@@ -49,10 +49,16 @@ module _ {H N : Type 0} (g : Ghosts H N) where
   abbrev pub HasLeft : List H → List H → Type 0
   HasLeft shelves back = (w : ℕ) (before after : H) → At shelves w before → At back w after → g.left before after
 
-  -- each worker served all its lines, or stopped for want of memory
-  abbrev pub HasTried : List Line → List H → List H → Type 0
-  HasTried lines shelves back = (w : ℕ) (before after : H) → At shelves w before → At back w after
-      → ((a : Account H) × (a.start ≡ before) × (a.end ≡ after) × IsWhole lines (w + 1) a) ⊎ Halted g lines (w + 1) before after
+  -- each worker served all its lines, or stopped for want of memory; and one of them stopped
+  pub record HasTried (lines : List Line) (shelves back : List H) : Type 0 where
+    pub each : (w : ℕ) (before after : H) → At shelves w before → At back w after
+        → ((a : Account H) × (a.start ≡ before) × (a.end ≡ after) × IsWhole lines (w + 1) a) ⊎ Halted g lines (w + 1) before after
+    pub place : ℕ
+    pub before : H
+    pub after : H
+    pub handed_in : At shelves place before
+    pub handed_back : At back place after
+    pub stopped : Halted g lines (place + 1) before after
 
   -- a shelf left
   pub record Left (before after : H) : Type 0 where

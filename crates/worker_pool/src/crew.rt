@@ -123,6 +123,7 @@ pub(crate) fn release<H: Shelf>(
     ensures shelves { shelves.new.items ≡ map (λ x. x.shelf) workers.items }
     ensures answers { answers.new.items ≡ map (λ x. x.answers) workers.items }
     ensures went { result ≡ true → (x : _) → Contains workers.items x → x.is_stopped ≡ false }
+    ensures stopped { result ≡ false → (x : _) × Contains workers.items x × (x.is_stopped ≡ true) }
     ensures gathered { Gathered workers.items }
 {
     let mut is_whole = true;

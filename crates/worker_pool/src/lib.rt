@@ -14,3 +14,6 @@ mod worker;
 pub use gate::{Gate, OpenGate};
 pub use notes::Of;
 pub use run::{Ran, run_workers};
+
+#[cfg(test)]
+mod tests;

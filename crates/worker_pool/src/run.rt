@@ -14,6 +14,7 @@ use std::sync::Wait;
 use std::thread::Threads;
 
 /// What workers served.
+#[derive(Drop)]
 pub struct Ran<H> {
     /// Their shelves, in the order in which they were handed in.
     pub shelves: Vec<H>,
@@ -42,7 +43,7 @@ pub fn run_workers<R: Threads + Wait + Sync, H: Shelf + Send, G: Gate + Sync>(
     // Each worker's course, line by line, and what those that met a mark know.
     ensures served { IfOk result (λ ran. HasServed H.Shelf script.now.lines shelves.items ran.shelves.items (map (λ answers. answers.items) ran.answers.items)) }
     ensures back { MatchResult result (λ ran. HasBack H.Shelf shelves.items ran.shelves.items) (λ back. HasBack H.Shelf shelves.items back.items) }
-    // Memory was wanted before any line was served, or by some of the workers.
+    // No line was served; or each worker served all its lines or stopped for want of memory, and one stopped.
     ensures handed_back { IfErr result (λ back. HasLeft H.Shelf shelves.items back.items ⊎ HasTried H.Shelf script.now.lines shelves.items back.items) }
 {
     let lines = script.lines.as_slice();

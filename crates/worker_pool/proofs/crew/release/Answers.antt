@@ -38,3 +38,8 @@ pub returns-clause-gathered : goal.returns-clause-gathered
 returns-clause-gathered g c =
     let was = c.loop.invariant in
     (gathered c.args.workers.items c.loop.workers.items c.loop.counter c.loop.shelves.items c.loop.answers.items c.loop.is_whole _ (omega arith) (omega arith) was.released).3
+
+pub returns-clause-stopped : goal.returns-clause-stopped
+returns-clause-stopped g c =
+    let was = c.loop.invariant in
+    (gathered c.args.workers.items c.loop.workers.items c.loop.counter c.loop.shelves.items c.loop.answers.items c.loop.is_whole _ (omega arith) (omega arith) was.released).4

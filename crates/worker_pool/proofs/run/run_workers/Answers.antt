@@ -44,6 +44,7 @@ pub returns-clause-handed_back : goal.returns-clause-handed_back
 returns-clause-handed_back g c =
     let all = written_back c.serve_all.new.workers (drop (length c.serve_all.new.workers) c.hire.new.workers.items) c.hire.new.workers.len (omega arith) in
     let ended = subst (λ l. AreEnded g.H.Shelf c.in-Ok.room.marks c.as_slice-lines.result.now l c.serve_all.new.workers) c.as_mut_slice-2.ensures.value c.serve_all.ensures in
+    let one = c.release.ensures.stopped c.if-release.false in
     inr (subst (λ (l : List Line). HasTried g.H.Shelf l c.args.shelves.items c.release.new.shelves.items) c.as_slice-lines.ensures
     (has_tried g.H.Shelf c.in-Ok.room.marks c.as_slice-lines.result.now c.args.shelves.items c.in-Ok.room.seats.items c.hire.new.workers.items c.serve_all.new.workers c.hire.ensures.hired ended
-    c.release.new.shelves.items (c.release.ensures.shelves ∙ ap (map (λ x. x.shelf)) all)))
+    c.release.new.shelves.items (c.release.ensures.shelves ∙ ap (map (λ x. x.shelf)) all) one.0 (subst (λ l. Contains l one.0) all one.1) one.2))
