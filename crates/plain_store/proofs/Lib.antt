@@ -5,3 +5,4 @@ pub mod Bodies
 pub mod Passing
 pub mod Beginning
 pub mod Good
+pub mod Searching

@@ -4,13 +4,15 @@
 
 mod laws;
 mod look;
+mod opening;
 mod reading;
 mod serving;
 mod slots;
 mod writing;
 
 pub use laws::good_lines_are_servable;
-pub use serving::{Served, answers_of, fresh};
+pub use opening::{fresh, opened};
+pub use serving::{Served, answers_of};
 
 #[cfg(test)]
 mod tests;

@@ -2,51 +2,20 @@
 ghost use Rattle.std.specs.Prelude.{◌≡◌, ◌<◌, ◌≤◌, ◌+◌, ◌%◌, ◌∷◌, ◌++◌, ℕ, List, length, map, IfOk, OnOk, All};
 ghost use Rattle.std.specs.List.{range_with_len};
 ghost use Rattle.script_text.specs.declared.line.Line.{Line};
-ghost use Rattle.plain_model.specs.Place.{nothing};
 ghost use Rattle.script_text.specs.Fields.{body_size};
 ghost use Rattle.plain_model.specs.Writing.{step, begin};
-ghost use Rattle.plain_model.specs.Serving.{bytes_of, put, get, is_set_before, sets, serve, answers, after, lines_for, leave, leave_all, answers_of, left_by, fresh};
+ghost use Rattle.plain_model.specs.Serving.{bytes_of, put, get, is_set_before, sets, serve, answers, after, lines_for, leave, leave_all, answers_of, left_by};
 ghost use Rattle.plain_store.specs.Servable.{IsOpenable, IsOffer, IsServable};
 
 use crate::reading::{close, more, open_tab, purge};
 use crate::writing::{add, begin, end, give_up};
-use plain_model::{Answers, Place, Places, Plain, Setting, Tab};
+use plain_model::{Answers, Plain, Setting, Tab};
 use rock_io::{Memory, Octets};
 use script_text::{Answer, Body, Line, Request};
 use std::alloc::{AllocError, Global};
 
 /// The tab of requests without one.
 const WHOLE: u8 = 7;
-
-/// The places of anchors that never had an entry.
-fn empty_places(alloc: Global, anchors: u32) -> Result<Vec<Place>, AllocError>
-    ensures { IfOk result (λ places. places.items ≡ map (λ anchor. nothing) (range_with_len 0 anchors)) }
-{
-    (0..anchors)
-        .map(|_| Place {
-            version: 0,
-            doom: false,
-            entry: None,
-        })
-        .collect(alloc)
-}
-
-/// A store that was never written.
-///
-/// # Errors
-///
-/// [`Memory`] where memory runs out.
-pub fn fresh(alloc: Global, anchors: u32) -> Result<Plain, Memory>
-    ensures { IfOk result (λ store. store ≡ fresh anchors) }
-{
-    let places = empty_places(alloc, anchors)?;
-    Ok(Plain {
-        counter: 0,
-        hand: 0,
-        places: Places::from_vec(places),
-        tabs: [Tab::Free; 8],
-    })
-}
 
 /// So many letters in turn, from the one at this shift on.
 fn letters(alloc: Global, count: u32, shift: u8) -> Result<Vec<u8>, AllocError>

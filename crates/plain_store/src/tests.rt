@@ -1,10 +1,10 @@
-ghost use Rattle.std.specs.Prelude.{◌<◌, IfOk, All};
+ghost use Rattle.std.specs.Prelude.{◌<◌, ◌≤◌, IfOk, All};
 ghost use Rattle.plain_store.specs.Servable.{IsServable};
 
-use crate::{answers_of, fresh, good_lines_are_servable};
+use crate::{answers_of, fresh, good_lines_are_servable, opened};
 use answer_text::answer_line;
-use plain_model::Setting;
-use rock_io::MemSource;
+use plain_model::{Kept, Plain, Setting, Size, Text};
+use rock_io::{MemSource, Octets};
 use script_text::{Lines, read_script};
 use std::alloc::Global;
 use std::process::Abort;
@@ -21,8 +21,14 @@ fn lines_of(alloc: Global, text: &[u8]) -> Result<Lines, Fail>
     Ok(script.lines)
 }
 
-/// What worker 1 of a new store with slots of 512 bytes prints.
-fn printed(alloc: Global, slots: u32, anchors: u32, text: &[u8]) -> Result<Vec<u8>, Fail>
+/// What worker 1 of a store with slots of 512 bytes prints.
+fn printed(
+    alloc: Global,
+    slots: u32,
+    anchors: u32,
+    store: Plain,
+    text: &[u8],
+) -> Result<Vec<u8>, Fail>
     requires { 0 < anchors }
 {
     let setting = Setting {
@@ -32,7 +38,7 @@ fn printed(alloc: Global, slots: u32, anchors: u32, text: &[u8]) -> Result<Vec<u
     };
     let script = lines_of(alloc, text)?;
     let lines = script.as_slice();
-    let served = answers_of(alloc, &setting, lines, 1, fresh(alloc, anchors)?)?;
+    let served = answers_of(alloc, &setting, lines, 1, store)?;
     let mut output = Vec::new(alloc);
     for (line, answer) in lines.iter().zip(served.answers.as_slice()) {
         output.extend_from_slice(&answer_line(
@@ -54,11 +60,25 @@ fn plain<'a>(line: &'a [u8], answer: &'a [u8]) -> Row<'a> {
     (line, answer, 0, 0)
 }
 
-/// Runs these lines of worker 1, and compares what is printed.
+/// Runs these lines of worker 1 on a new store, and compares what is printed.
 fn shows(
     rt: &(impl Abort + AllocGlobal),
     slots: u32,
     anchors: u32,
+    rows: &[Row<'_>],
+) -> Result<(), Fail>
+    requires { 0 < anchors }
+{
+    let store = fresh(rt.alloc(), anchors)?;
+    shows_on(rt, slots, anchors, store, rows)
+}
+
+/// The same on this store.
+fn shows_on(
+    rt: &(impl Abort + AllocGlobal),
+    slots: u32,
+    anchors: u32,
+    store: Plain,
     rows: &[Row<'_>],
 ) -> Result<(), Fail>
     requires { 0 < anchors }
@@ -79,7 +99,7 @@ fn shows(
         wanted.push(b'\n')?;
         number = number.wrapping_add(1);
     }
-    let lines = printed(alloc, slots, anchors, &text)?;
+    let lines = printed(alloc, slots, anchors, store, &text)?;
     assert_eq!(rt; std::str::from_utf8(&lines), std::str::from_utf8(&wanted));
     Ok(())
 }
@@ -349,6 +369,62 @@ fn long_urls(rt: HostRuntime) -> Result<(), Fail> {
                 format!(in alloc; "1 get {longest}")?.as_bytes(),
                 b"HIT 1 1 78",
             ),
+        ],
+    )
+}
+
+/// The entry of one slot that a file has of this URL, with a body of at most five bytes.
+fn kept(
+    alloc: Global,
+    url: &[u8; 10],
+    body: &[u8; 5],
+    length: usize,
+    version: u32,
+) -> Result<Kept, Fail>
+    requires { length ≤ 5 }
+{
+    Ok(Kept {
+        version,
+        url: Text::from_octets(Octets::from_vec(url.to_vec(alloc)?)),
+        key: key_of(url),
+        body: Text::from_octets(Octets::from_vec(body[..length].to_vec(alloc)?)),
+        first: 1,
+        content: Size::new(42 + length as u64),
+    })
+}
+
+#[test]
+fn opened_on_an_entry(rt: HostRuntime) -> Result<(), Fail> {
+    let alloc = rt.alloc();
+    let kept = [kept(alloc, b"http://a/c", b"y    ", 1, 5)?];
+    shows_on(
+        &rt,
+        2,
+        1,
+        opened(alloc, 1, &kept, 5)?,
+        &[
+            plain(
+                b"1 get http://a/b",
+                b"MISS other 5.3 4877c9348b6d7299e213896f839c80b8",
+            ),
+            plain(b"1 get http://a/c", b"HIT 5 1 79"),
+            plain(b"1 put http://a/b =x", b"STORED 6"),
+        ],
+    )
+}
+
+#[test]
+fn spent(rt: HostRuntime) -> Result<(), Fail> {
+    let alloc = rt.alloc();
+    let kept = [kept(alloc, b"http://a/b", b"hello", 5, 4_294_901_760)?];
+    shows_on(
+        &rt,
+        1,
+        1,
+        opened(alloc, 1, &kept, 4_294_901_760)?,
+        &[
+            plain(b"1 put http://a/b =x", b"SPENT 4294901760"),
+            plain(b"1 get http://a/b", b"HIT 4294901760 5 68656c6c6f"),
         ],
     )
 }
