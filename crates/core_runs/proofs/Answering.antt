@@ -11,8 +11,8 @@ use Rattle.entry_cut.specs.Content.{Cut}
 use Rattle.entry_cut.specs.Standing.{IsWritable, Stand, entry_of}
 use Rattle.core_model.specs.State.{word}
 use Rattle.core_state.specs.declared.act.Step.{Step}
-use Rattle.core_state.specs.Machine.{Machine, setting_of, state_of}
-use Rattle.core_state.specs.New.{IsNew}
+use Rattle.core_table.specs.Machine.{Machine, setting_of, state_of}
+use Rattle.core_table.specs.New.{IsNew}
 use Rattle.core_runs.specs.Responses.{Offers, AreBytes, IsFaithful, SpellsResponse}
 use Rattle.core_runs.specs.Offered.{offering_of, AllOffered}
 use Rattle.core_runs.specs.Runs.{IsRun, IsSound}

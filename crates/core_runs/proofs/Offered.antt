@@ -29,9 +29,9 @@ use Rattle.core_model.proofs.OffersTold.{links_new}
 use Rattle.core_model.specs.Holders.{IsTab}
 use Rattle.core_state.specs.declared.act.Step.{Step}
 use Rattle.core_state.specs.declared.act.Step.TheVariants as step
-use Rattle.core_state.specs.declared.content.Content.{Content}
+use Rattle.core_table.specs.declared.content.Content.{Content}
 use Rattle.core_state.specs.Applied.{Applies, IsSameStore}
-use Rattle.core_state.specs.Machine.{Machine, setting_of, state_of}
+use Rattle.core_table.specs.Machine.{Machine, setting_of, state_of}
 use Rattle.core_runs.specs.Responses.{Offers, key0_of, key1_of, KeepsTo, IsFaithful}
 use Rattle.core_runs.specs.Offered.{offering_of}
 use Rattle.core_runs.specs.Runs.{IsSound, IsRun}

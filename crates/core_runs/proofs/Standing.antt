@@ -14,7 +14,7 @@ use Rattle.core_model.specs.declared.moves.Side.TheVariants.{Key0, Key1, Offer}
 use Rattle.core_model.specs.Layout.{Setting}
 use Rattle.core_model.specs.Chains.{link_at}
 use Rattle.core_model.specs.State.{State, word, chain_of, side_word}
-use Rattle.core_state.specs.declared.content.Content.{Content}
+use Rattle.core_table.specs.declared.content.Content.{Content}
 use Rattle.core_runs.specs.Responses.{Offers, cut_of, key0_of, key1_of}
 
 -- The entry of the opening that stands at this anchor, as the state has it.

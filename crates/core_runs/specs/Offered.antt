@@ -7,7 +7,7 @@ use Rattle.rebuild_model.specs.declared.image.FileImage.{FileImage}
 use Rattle.entry_cut.specs.Content.{count}
 use Rattle.core_model.specs.State.{chain_of}
 use Rattle.core_model.specs.Offers.{Offering, OffersStand}
-use Rattle.core_state.specs.Machine.{Machine, setting_of, state_of}
+use Rattle.core_table.specs.Machine.{Machine, setting_of, state_of}
 use Rattle.core_runs.specs.Responses.{Offers, cut_of, key0_of, key1_of}
 
 -- an offer with a good URL that leaves room in a slot, for this anchor and key

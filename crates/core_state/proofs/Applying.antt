@@ -7,7 +7,7 @@ use Rattle.core_model.specs.State.{State}
 use Rattle.core_model.specs.Steps.{IsStep}
 use Rattle.core_model.specs.Sound.{Sound}
 use Rattle.core_model.proofs.AllKept.{keeps_sound}
-use Rattle.core_state.specs.declared.content.Content.{Content}
+use Rattle.core_table.specs.declared.content.Content.{Content}
 
 pub step_keeps : (k : Setting Content) (s t : State Content) (i n : ℕ) (m : Move) → Sound k s → IsStep k s i m n t → Sound k t
 step_keeps k s t i n m so step = subst (Sound k) (sym step.leaves) (keeps_sound k s i step.view m so step.at step.may)

@@ -5,7 +5,7 @@ use Rattle.core_model.specs.Steps.{IsStep, MayMove}
 use Rattle.core_state.specs.declared.act.Step.{Step}
 use Rattle.core_state.specs.declared.act.Step.TheVariants as step
 use Rattle.core_state.specs.Decoded.{decoded}
-use Rattle.core_state.specs.Machine.{Machine, setting_of, state_of}
+use Rattle.core_table.specs.Machine.{Machine, setting_of, state_of}
 
 -- a crash is of kind 23, a rebuild of kind 24
 abbrev pub kind_of : Step → ℕ

@@ -1,8 +1,8 @@
 -- What a core shows of what it keeps, and what it always is.
 use Rattle.core_model.specs.Sound.{Sound}
 use Rattle.core_state.specs.declared.machine.Core.TheInside.{Inside}
-use Rattle.core_state.specs.Machine.{Machine}
-use Rattle.core_state.specs.Inside.{setting, state}
+use Rattle.core_table.specs.Machine.{Machine}
+use Rattle.core_table.specs.Inside.{setting, state}
 
 abbrev pub machine_of : Inside → Machine
 machine_of c = record {

@@ -6,23 +6,13 @@
 #![tactic(auto)]
 
 mod act;
-mod change;
-mod content;
 mod decode;
-mod kept;
 mod machine;
-mod opened;
 mod plan;
-mod recall;
-mod refusal;
 mod step;
-mod tab_change;
-mod table;
-mod tabs;
-mod turn_change;
 
 pub use act::{Act, Picks, Step, StepFault};
-pub use content::Content;
+pub use core_table::Content;
 pub use machine::Core;
 
 #[cfg(test)]

@@ -1,20 +1,18 @@
 // The pure core.
 ghost use Rattle.std.specs.Prelude.{◌≡◌, ◌<◌, ◌≤◌, ℕ, List, All, length, IfOk, OnErr, IsErrOf};
 ghost use Rattle.db_layout.specs.Layout.{IsSlotSize};
-ghost use Rattle.core_state.specs.New.{IsNew};
+ghost use Rattle.core_table.specs.New.{IsNew};
 ghost use Rattle.core_model.specs.Sound.{Sound};
 ghost use Rattle.core_state.specs.declared.act.StepFault.TheVariants as fault;
 ghost use Rattle.core_state.specs.Applied.{Applies, MayApply, IsSameStore, kind_of};
-ghost use Rattle.core_state.specs.Machine.{setting_of, state_of};
+ghost use Rattle.core_table.specs.Machine.{setting_of, state_of};
 
 use crate::act::{Step, StepFault};
-use crate::content::Content;
 use crate::decode::decode;
-use crate::opened::{opened_table, opening_of};
-use crate::refusal::Refusal;
 use crate::step::make;
-use crate::table::{Opening, Table};
+use core_change::Refusal;
 use core_model::{Cell, Chain, View};
+use core_table::{Content, Opening, Table, opened_table, opening_of};
 use rebuild_model::{FileImage, rebuilt_of};
 use rock_io::Memory;
 use std::alloc::Global;
@@ -30,7 +28,7 @@ pub struct Core {
 }
 
 impl Model for Core {
-    ghost use Rattle.core_state.specs.Machine.{Machine};
+    ghost use Rattle.core_table.specs.Machine.{Machine};
 
     ghost Value = { Machine };
 

@@ -2,12 +2,12 @@
 ghost use Rattle.std.specs.Prelude.{◌≡◌, IfOk, IsErrOf, OnErr};
 ghost use Rattle.core_model.specs.Sound.{Sound};
 ghost use Rattle.core_model.specs.Steps.{IsStep, MayMove};
-ghost use Rattle.core_state.specs.Inside.{setting, state};
+ghost use Rattle.core_table.specs.Inside.{setting, state};
 
 use crate::plan::plan;
-use crate::refusal::Refusal;
-use crate::table::{Opening, Table};
+use core_change::{Refusal, make_change};
 use core_model::Move;
+use core_table::{Opening, Table};
 use std::alloc::Global;
 
 /// Makes a step of the pass of this number, and answers the number that it tells. Where it is refused
@@ -30,6 +30,6 @@ pub(crate) fn make(
     };
     let change = plan(alloc, opening, table, view, step)?;
     let answer = change.answer;
-    table.make(pass as usize, change)?;
+    make_change(table, pass as usize, change)?;
     Ok(answer)
 }

@@ -1,6 +1,6 @@
 use Rattle.std.proofs.Common.{subst}
 use Rattle.core_model.specs.Sound.{Sound}
-use Rattle.core_state.specs.Machine.{Machine, setting_of, state_of}
+use Rattle.core_table.specs.Machine.{Machine, setting_of, state_of}
 use Rattle.core_state.proofs.Applying.{still_sound}
 use Rattle.core_state.proofs.machine.Core.apply.Goals as goal
 

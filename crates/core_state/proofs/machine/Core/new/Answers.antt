@@ -2,11 +2,11 @@ use Rattle.std.proofs.Common.{◌∙◌, ap, sym, subst, length, arith}
 use Rattle.core_model.specs.Opening.{IsOpened}
 use Rattle.core_model.specs.Sound.{Sound}
 use Rattle.core_model.specs.State.{State}
-use Rattle.core_state.specs.declared.content.Content.{Content}
-use Rattle.core_state.specs.Inside.{setting}
-use Rattle.core_state.specs.Kept.{AreWithin}
-use Rattle.core_state.proofs.OpenedStore.{words_there, opened_so, sound_so}
-use Rattle.core_state.proofs.Winners.{all_within}
+use Rattle.core_table.specs.declared.content.Content.{Content}
+use Rattle.core_table.specs.Inside.{setting}
+use Rattle.core_table.specs.Kept.{AreWithin}
+use Rattle.core_table.proofs.OpenedStore.{words_there, opened_so, sound_so}
+use Rattle.core_table.proofs.Winners.{all_within}
 use Rattle.core_state.proofs.machine.Core.new.Goals as goal
 
 pub opening_of-requires : goal.opening_of-requires

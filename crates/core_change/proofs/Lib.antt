@@ -1,0 +1,4 @@
+pub mod Changing
+pub mod Facts
+pub mod Worded
+pub mod Slots

@@ -1,0 +1,5 @@
+pub mod Changed
+pub mod Planned
+pub mod Tabs
+pub mod Turns
+pub mod Notes

@@ -1,0 +1,4 @@
+pub mod Loosening
+pub mod Publishing
+pub mod Trying
+pub mod Cells

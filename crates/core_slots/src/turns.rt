@@ -1,0 +1,279 @@
+// Steps on the turns at cells.
+ghost use Rattle.std.specs.Prelude.{◌≡◌, ◌<◌, ◌++◌, ◌==◌, ◌↔◌, cond, length, true, IsTrue, IfOk, IsErrOf};
+ghost use Rattle.link_word.specs.declared.link.Link.TheVariants.{Last as LastLink};
+ghost use Rattle.core_model.specs.declared.moves.Move.TheVariants as move;
+ghost use Rattle.core_model.specs.declared.tab.Reader.{Reader as ReaderOf};
+ghost use Rattle.core_model.specs.declared.tab.Writer.{Writer as WriterOf};
+ghost use Rattle.core_model.specs.declared.tab.Tab.TheVariants.{Reading, Writing};
+ghost use Rattle.core_model.specs.Cells.{CellsSound};
+ghost use Rattle.core_model.specs.Chains.{link_to, rest_of, first_of};
+ghost use Rattle.core_model.specs.Tabs.{anchor_of, is_reading};
+ghost use Rattle.core_model.specs.Table.{Allowed};
+ghost use Rattle.core_model.specs.CellMoves.{MayRead, MayWrite, Holds, piece_of, next_slot, was_written, was_settled};
+ghost use Rattle.core_table.specs.declared.content.Content.{Content as ContentOf};
+ghost use Rattle.core_table.specs.Inside.{setting, state};
+ghost use Rattle.core_change.specs.Planned.{IsScene, Plans};
+ghost use Rattle.core_slots.specs.Trying.{MayTry, tried_piece, tried_turn, tried_tabs, ended_tabs};
+
+use crate::links::is_next;
+use crate::publishing::is_first;
+use core_change::{
+    ChainChange, Change, NotesChange, Refusal, TabChange, TabsChange, TurnChange, WordChange,
+    tab_at, word_addition,
+};
+use core_model::{Kind, Piece, Place, Reader, Tab, Turn, View, Writer};
+use core_table::{Content, Opening, Table};
+use link_word::Link;
+
+/// Whether a reading tab found the link at this slot written, which is at its place.
+fn may_read(table: &Table, reader: &Reader<Content>, slot: u32) -> bool
+    requires { reader.now.anchor < length table.now.chains.items }
+    ensures { IsTrue result ↔ MayRead (state table.now) slot reader.now }
+{
+    is_next(table, reader, slot) && reader.found != Link::NotWritten
+}
+
+/// Whether a writing tab has named its entry, and this is its first reserved slot.
+fn may_write(writer: &Writer<Content>, slot: u32) -> bool
+    ensures { IsTrue result ↔ MayWrite slot writer.now }
+{
+    is_first(&writer.reserved, slot)
+        && !writer.is_ending
+        && writer.key0.is_some()
+        && writer.key1.is_some()
+        && writer.offer.is_some()
+}
+
+/// Whether a tab may try to take the turn at this slot.
+fn may_try(table: &Table, tab: &Tab<Content>, slot: u32) -> bool
+    requires { is_reading tab.now ≡ true → anchor_of tab.now < length table.now.chains.items }
+    ensures { IsTrue result ↔ MayTry (state table.now) slot tab.now }
+{
+    match tab {
+        Tab::Reading(reader) => {
+            matches!(reader.turn, Turn::NoTurn) && may_read(table, reader, slot)
+        }
+        Tab::Writing(writer) => matches!(writer.turn, Turn::NoTurn) && may_write(writer, slot),
+        _ => false,
+    }
+}
+
+/// The first slot of an entry, of which these are published and those reserved.
+fn first_of(published: &[u32], reserved: &[u32]) -> u32
+    ensures { result ≡ first_of (published.now ++ reserved.now) }
+{
+    match (published, reserved) {
+        ([first, ..], _) => *first,
+        ([], [first, ..]) => *first,
+        ([], []) => 0,
+    }
+}
+
+/// The link of the first of these slots: to the second, if there is one.
+fn link_behind(reserved: &[u32]) -> Link
+    ensures { result ≡ link_to (rest_of reserved.now) LastLink }
+{
+    match reserved {
+        [_, next, ..] => Link::Next(*next),
+        _ => Link::Last,
+    }
+}
+
+/// The piece for the first reserved slot.
+fn piece_of(opening: &Opening, writer: &Writer<Content>) -> Piece
+    requires { length writer.now.published < opening.now.slots }
+    ensures { result ≡ piece_of writer.now }
+{
+    let published = writer.published.as_slice();
+    let reserved = writer.reserved.as_slice();
+    prove!(published.len() < opening.slots as usize);
+    Piece {
+        offer: writer.offer.unwrap_or(0),
+        version: writer.version,
+        place: published.len() as u32,
+        first: first_of(published, reserved),
+        next: link_behind(reserved),
+    }
+}
+
+/// The piece that a writing tab has chosen, or else chooses now.
+fn tried_piece(opening: &Opening, writer: &Writer<Content>) -> Piece
+    requires { length writer.now.published < opening.now.slots }
+    ensures { result ≡ tried_piece writer.now }
+{
+    match writer.chosen {
+        Some(piece) => piece,
+        None => piece_of(opening, writer),
+    }
+}
+
+/// What becomes of the turn word: the turn is taken then.
+fn tried_word(found: u64) -> u64
+    ensures { result ≡ cond (found == 0) 1 found }
+{
+    if found == 0 { 1 } else { found }
+}
+
+/// What becomes of the turn, where the turn word told this number.
+fn tried_turn(tab: u8, slot: u32, found: u64) -> TurnChange
+    ensures { result ≡ tried_turn tab slot found }
+{
+    if found == 0 {
+        TurnChange::Taken(tab, slot)
+    } else {
+        TurnChange::Same
+    }
+}
+
+/// What becomes of the tab beside its turn: a writing tab has chosen its piece, which is not written yet
+/// where the turn is new.
+fn tried_tabs(opening: &Opening, tab: u8, now: &Tab<Content>, found: u64) -> TabsChange
+    requires { (writer : WriterOf ContentOf) → now.now ≡ Writing writer → length writer.published < opening.now.slots }
+    ensures { result ≡ tried_tabs tab now.now found }
+{
+    let Tab::Writing(writer) = now else {
+        return TabsChange::Same;
+    };
+    let piece = tried_piece(opening, writer);
+    let is_written = found != 0 && writer.is_written;
+    let is_settled = found != 0 && writer.is_settled;
+    TabsChange::Becomes(tab, TabChange::Chooses(piece, is_written, is_settled))
+}
+
+/// A reading or writing tab tries to take the turn at a slot: it has it, and the cell, where no tab had it.
+pub fn try_turn(
+    opening: &Opening,
+    table: &Table,
+    view: &View<Content>,
+    tab: u8,
+    slot: u32,
+) -> Result<Change, Refusal>
+    requires { IsScene opening.now table.now view.now }
+    ensures planned { IfOk result (λ change. Plans opening.now table.now view.now (move.TryTurn tab slot) change) }
+    ensures refused { IsErrOf result Refusal.NotAllowed
+        → Allowed (setting opening.now) (state table.now) view.now (move.TryTurn tab slot) → ⊥ }
+{
+    let Some(now) = tab_at(view, tab) else {
+        return Err(Refusal::NotAllowed);
+    };
+    if !may_try(table, now, slot) {
+        return Err(Refusal::NotAllowed);
+    }
+    let place = Place::Turn(slot);
+    let index = opening.index_of(place);
+    let found = table.words[index];
+    let left = tried_word(found);
+    Ok(Change {
+        answer: found,
+        word: Some(WordChange { index, left }),
+        turn: tried_turn(tab, slot, found),
+        tabs: tried_tabs(opening, tab, now, found),
+        chain: ChainChange::Same,
+        used: None,
+        addition: word_addition(Kind::Tried, place, slot, found, left, None),
+        notes: NotesChange::Same,
+    })
+}
+
+/// Whether the tab has the turn at this slot, with the cell out of its place or in it.
+pub(crate) fn holds(tab: &Tab<Content>, slot: u32, is_out: bool) -> bool
+    ensures { IsTrue result ↔ Holds slot is_out tab.now }
+{
+    let turn = match tab {
+        Tab::Reading(reader) => &reader.turn,
+        Tab::Writing(writer) => &writer.turn,
+        _ => return false,
+    };
+    match turn {
+        Turn::Has(hold) => hold.slot == slot && hold.is_out == is_out,
+        Turn::NoTurn => false,
+    }
+}
+
+fn was_written(turn: &Turn<Content>) -> bool
+    ensures { result ≡ was_written turn.now }
+{
+    match turn {
+        Turn::Has(hold) => hold.is_written,
+        Turn::NoTurn => false,
+    }
+}
+
+pub(crate) fn was_settled(turn: &Turn<Content>) -> bool
+    ensures { result ≡ was_settled turn.now }
+{
+    match turn {
+        Turn::Has(hold) => hold.is_settled,
+        Turn::NoTurn => false,
+    }
+}
+
+/// The slot that a link names, if any.
+fn next_slot(link: Link) -> Option<u32>
+    ensures { result ≡ next_slot link }
+{
+    match link {
+        Link::Next(slot) => Some(slot),
+        Link::NotWritten | Link::Last => None,
+    }
+}
+
+/// What becomes of a tab that ends its turn, beside the turn: a reading one may go on, and a writing one
+/// keeps whether its piece is in the cell.
+fn ended_tabs(opening: &Opening, tab: u8, now: &Tab<Content>, goes_on: bool) -> TabsChange
+    requires { (reader : ReaderOf ContentOf) → now.now ≡ Reading reader → reader.place < opening.now.slots }
+    ensures { result ≡ ended_tabs tab now.now goes_on }
+{
+    match now {
+        Tab::Reading(reader) => {
+            if !goes_on {
+                return TabsChange::Same;
+            }
+            prove!(reader.place < opening.slots);
+            let slot = next_slot(reader.found);
+            TabsChange::Becomes(tab, TabChange::GoesOn(reader.place + 1, slot))
+        }
+        Tab::Writing(writer) => {
+            let is_written = was_written(&writer.turn);
+            let is_settled = was_settled(&writer.turn);
+            TabsChange::Becomes(tab, TabChange::Leaves(is_written, is_settled))
+        }
+        _ => TabsChange::Same,
+    }
+}
+
+/// A tab gives the turn back, and the cell is home then. A reading tab may go on to the next slot.
+pub fn end_turn(
+    opening: &Opening,
+    table: &Table,
+    view: &View<Content>,
+    tab: u8,
+    slot: u32,
+    goes_on: bool,
+) -> Result<Change, Refusal>
+    requires scene { IsScene opening.now table.now view.now }
+    requires cells { CellsSound (setting opening.now) (state table.now) }
+    ensures planned { IfOk result (λ change. Plans opening.now table.now view.now (move.EndTurn tab slot goes_on) change) }
+    ensures refused { IsErrOf result Refusal.NotAllowed
+        → Allowed (setting opening.now) (state table.now) view.now (move.EndTurn tab slot goes_on) → ⊥ }
+{
+    let Some(now) = tab_at(view, tab) else {
+        return Err(Refusal::NotAllowed);
+    };
+    if !holds(now, slot, false) {
+        return Err(Refusal::NotAllowed);
+    }
+    let place = Place::Turn(slot);
+    let index = opening.index_of(place);
+    let found = table.words[index];
+    Ok(Change {
+        answer: found,
+        word: Some(WordChange { index, left: 0 }),
+        turn: TurnChange::Ended(tab, slot),
+        tabs: ended_tabs(opening, tab, now, goes_on),
+        chain: ChainChange::Same,
+        used: None,
+        addition: word_addition(Kind::Ended, place, slot, found, 0, None),
+        notes: NotesChange::Same,
+    })
+}

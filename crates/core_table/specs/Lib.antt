@@ -1,0 +1,4 @@
+pub mod Machine
+pub mod Inside
+pub mod New
+pub mod Kept
