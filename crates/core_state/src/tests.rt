@@ -4,9 +4,13 @@ use super::*;
 
 mod cells;
 mod images;
+mod rows;
 
 use rebuild_model::{FileImage, Images};
 use rock_io::Octets;
+use rows::{
+    BEGIN, CLOSES, ENDS, GROWS, HOLDER, NOT_WRITTEN, READ_0, READ_2, WRITE_0, WRITE_2, scripts,
+};
 use std::alloc::Global;
 use std::process::Abort;
 use std::test::Fail;
@@ -46,204 +50,99 @@ fn has_width(image: &FileImage) -> bool
         .all(|slot| slot.as_slice().len() == width)
 }
 
-/// What a row of steps expects: a number, or that the kind is refused.
+/// What a row expects: a number, the word of an anchor with this version, stage and readers, or that the
+/// kind is refused.
 #[derive(Clone, Copy, Debug, PartialEq, Eq)]
 enum Wanted {
     Found(u64),
+    Word(u32, u16, u16),
     Refused,
 }
 
-use Wanted::{Found, Refused};
+/// A step, by its pass, tab, kind, place and value, and what it answers.
+type Row = (u32, u8, u8, u32, u64, Wanted);
 
-fn act_of(pass: u32, tab: u8, kind: u8, at: u32, value: u64) -> Act {
-    Act {
-        pass,
-        tab,
-        kind,
-        at,
-        value,
-    }
-}
-
-#[test]
-fn slots_and_names_are_refused_by_their_conditions(rt: HostRuntime) -> Result<(), Fail> {
-    let mut core = blank_core(&rt, rt.alloc(), 3, 2, 2)?;
-    let rows = [
-        // A free tab loads, stores, reserves, gives back and looks at nothing, and there is nothing to loosen.
-        (act_of(0, 0, 9, 0, 0), Refused),
-        (act_of(0, 0, 9, 4, 5), Refused),
-        (act_of(0, 0, 10, 0, 0), Refused),
-        (act_of(0, 0, 11, 0, 0), Refused),
-        (act_of(0, 8, 12, 0, 0), Refused),
-        (act_of(0, 0, 13, 0, 0), Refused),
-        // Version 1 at anchor 1, by tab 0.
-        (act_of(0, 0, 1, 1, 0), Found(0)),
-        (act_of(0, 0, 4, 0, 0), Found(0)),
-        (act_of(0, 0, 5, 0, 0), Found(0)),
-        (act_of(0, 0, 6, 1, 1), Found(0)),
-        // Its key, and an offer that is no slot's number; no start, since nothing is published.
-        (act_of(0, 0, 9, 4, 77), Found(0)),
-        (act_of(0, 0, 9, 0, 0), Found(77)),
-        (act_of(0, 0, 9, 5, u64::MAX), Found(0)),
-        (act_of(0, 0, 9, 1, 0), Found(u64::MAX)),
-        (act_of(0, 0, 9, 6, 2), Refused),
-        (act_of(0, 0, 9, 6, 3), Found(0)),
-        (act_of(0, 0, 9, 2, 0), Found(3)),
-        (act_of(0, 0, 9, 7, 1), Refused),
-        (act_of(0, 0, 9, 7, 0), Found(0)),
-        (act_of(0, 0, 9, 8, 0), Refused),
-        // Two slots at most, each of them free; a slot that another has is found so, and stays.
-        (act_of(0, 0, 10, 3, 0), Refused),
-        (act_of(0, 0, 10, 2, 0), Found(0)),
-        (act_of(0, 0, 10, 2, 0), Found(2)),
-        (act_of(0, 0, 10, 0, 0), Found(0)),
-        (act_of(0, 0, 10, 1, 0), Refused),
-        // An entry with reserved slots is not halted, and nothing is published without a turn.
-        (act_of(0, 0, 7, 0, 4), Refused),
-        (act_of(0, 0, 12, 2, 1), Refused),
-        (act_of(0, 0, 13, 2, 0), Refused),
-        // Only what it reserved is given back, and then no slot is reserved any more.
-        (act_of(0, 0, 11, 1, 0), Refused),
-        (act_of(1, 0, 11, 2, 0), Refused),
-        (act_of(0, 0, 11, 2, 0), Found(2)),
-        (act_of(0, 0, 11, 2, 0), Refused),
-        (act_of(0, 0, 10, 2, 0), Refused),
-        (act_of(0, 0, 11, 0, 0), Found(2)),
-        (act_of(0, 0, 7, 0, 4), Found(word(1, 4, 0))),
-        (act_of(0, 0, 9, 0, 0), Refused),
-    ];
-    play(&rt, &mut core, &rows);
-    Ok(())
-}
-
-/// Makes the steps in order, and compares what each answers.
-fn play<R: Abort>(rt: &R, core: &mut Core, rows: &[(Act, Wanted)]) {
-    for (step, wanted) in rows {
-        let answer = core.apply(&Step::Act(*step));
-        match *wanted {
-            Found(number) => assert_eq!(rt; answer, Ok(number), "{step:?}"),
-            Refused => {
-                let fault = StepFault::NotAllowed { kind: step.kind };
-                assert_eq!(rt; answer, Err(fault), "{step:?}");
-            }
-        }
-    }
-}
-
-#[test]
-fn a_new_core_counts_a_reader_and_lets_no_tab_leave(rt: HostRuntime) -> Result<(), Fail> {
-    let mut core = blank_core(&rt, rt.alloc(), 1, 1, 1)?;
-    let rows = [
-        (act_of(0, 0, 3, 0, 0), Refused),
-        (act_of(0, 0, 2, 0, 0), Found(0)),
-    ];
-    play(&rt, &mut core, &rows);
-    Ok(())
+/// Rows over a core of so many empty slots.
+#[derive(Drop)]
+struct Script {
+    what: &'static str,
+    slots: usize,
+    anchors: u32,
+    passes: u32,
+    rows: &'static [Row],
 }
 
 fn word(version: u32, stage: u16, readers: u16) -> u64 {
     u64::from(version) * 0x1_0000_0000 + u64::from(stage) * 0x1_0000 + u64::from(readers)
 }
 
+fn answer_of(kind: u8, wanted: Wanted) -> Result<u64, StepFault> {
+    match wanted {
+        Wanted::Found(number) => Ok(number),
+        Wanted::Word(version, stage, readers) => Ok(word(version, stage, readers)),
+        Wanted::Refused => Err(StepFault::NotAllowed { kind }),
+    }
+}
+
+/// Makes the steps in order, and compares what each answers.
+fn play<R: Abort>(rt: &R, what: &str, core: &mut Core, rows: &[Row]) {
+    for (pass, tab, kind, at, value, wanted) in rows {
+        let step = Act {
+            pass: *pass,
+            tab: *tab,
+            kind: *kind,
+            at: *at,
+            value: *value,
+        };
+        let answer = core.apply(&Step::Act(step));
+        assert_eq!(rt; answer, answer_of(*kind, *wanted), "{what}: {step:?}");
+    }
+}
+
 #[test]
-fn a_writer_takes_an_anchor_and_a_reader_retreats(rt: HostRuntime) -> Result<(), Fail> {
-    let mut core = blank_core(&rt, rt.alloc(), 2, 1, 1)?;
-    let rows = [
-        (act_of(0, 0, 1, 0, 0), Found(0)),
-        (act_of(0, 0, 4, 0, 0), Found(0)),
-        (act_of(0, 0, 5, 0, 0), Found(0)),
-        (act_of(0, 0, 6, 0, 1), Found(0)),
-        (act_of(0, 0, 1, 0, 0), Found(4_295_032_832)),
-        (act_of(0, 0, 10, 0, 0), Found(0)),
-        (act_of(0, 0, 10, 0, 0), Found(1)),
-        (act_of(0, 1, 2, 0, 0), Found(4_295_032_832)),
-        (act_of(0, 1, 3, 0, 0), Found(4_295_032_832)),
-        (act_of(0, 0, 7, 0, 2), Refused),
-    ];
-    play(&rt, &mut core, &rows);
+fn steps_answer_as_their_rows_say(rt: HostRuntime) -> Result<(), Fail> {
+    for script in &scripts() {
+        let mut core = blank_core(&rt, rt.alloc(), script.slots, script.anchors, script.passes)?;
+        play(&rt, script.what, &mut core, script.rows);
+    }
     Ok(())
 }
 
 #[test]
-fn each_condition_refuses_its_kind(rt: HostRuntime) -> Result<(), Fail> {
+fn an_entry_is_written_and_read_as_it_grows(rt: HostRuntime) -> Result<(), Fail> {
+    let mut core = blank_core(&rt, rt.alloc(), 3, 2, 2)?;
+    play(&rt, "a writer begins", &mut core, &BEGIN);
+    play(&rt, "it writes slot 2", &mut core, &WRITE_2);
+    play(&rt, "a reader enters", &mut core, &GROWS);
+    play(&rt, "it reads slot 2", &mut core, &READ_2);
+    play(&rt, "slot 0 is not written", &mut core, &NOT_WRITTEN);
+    play(&rt, "slot 0 is written", &mut core, &WRITE_0);
+    play(&rt, "the entry is closed", &mut core, &CLOSES);
+    play(&rt, "slot 0 is read", &mut core, &READ_0);
+    play(&rt, "the slots are given back", &mut core, &ENDS);
+    Ok(())
+}
+
+#[test]
+fn a_turn_has_one_holder(rt: HostRuntime) -> Result<(), Fail> {
+    let mut core = blank_core(&rt, rt.alloc(), 3, 2, 2)?;
+    play(&rt, "a writer begins", &mut core, &BEGIN);
+    play(&rt, "it writes slot 2", &mut core, &WRITE_2);
+    play(&rt, "two readers", &mut core, &HOLDER);
+    Ok(())
+}
+
+#[test]
+fn what_is_no_step_of_a_pass_is_refused(rt: HostRuntime) -> Result<(), Fail> {
     let mut core = blank_core(&rt, rt.alloc(), 2, 2, 2)?;
-    let rows = [
-        // No such anchor, pass or tab.
-        (act_of(0, 0, 1, 2, 0), Refused),
-        (act_of(2, 0, 1, 0, 0), Refused),
-        (act_of(0, 0, 2, 2, 0), Refused),
-        (act_of(0, 9, 2, 0, 0), Refused),
-        // A free tab does not leave, raise or doom.
-        (act_of(0, 0, 3, 0, 0), Refused),
-        (act_of(0, 9, 3, 0, 0), Refused),
-        (act_of(0, 0, 7, 0, 4), Refused),
-        (act_of(0, 0, 8, 0, 0), Refused),
-        // A draw comes behind a look at the counter, and each needs one of its own.
-        (act_of(0, 0, 5, 0, 0), Refused),
-        (act_of(0, 0, 4, 0, 0), Found(0)),
-        (act_of(0, 0, 5, 0, 0), Found(0)),
-        (act_of(0, 0, 5, 0, 0), Refused),
-        // No find, and then a version that was drawn before it.
-        (act_of(0, 0, 6, 0, 1), Refused),
-        (act_of(0, 0, 1, 0, 0), Found(0)),
-        (act_of(0, 0, 6, 0, 1), Refused),
-        (act_of(0, 0, 4, 0, 0), Found(1)),
-        (act_of(0, 0, 5, 0, 0), Found(1)),
-        // A version that is not held, or is none; the inner tab; no such tab or anchor; no find there.
-        (act_of(0, 0, 6, 0, 3), Refused),
-        (act_of(0, 0, 6, 0, 0x1_0000_0002), Refused),
-        (act_of(0, 8, 6, 0, 2), Refused),
-        (act_of(0, 9, 6, 0, 2), Refused),
-        (act_of(0, 0, 6, 2, 2), Refused),
-        (act_of(0, 0, 6, 1, 2), Refused),
-        // A vacant anchor has nothing to evict.
-        (act_of(0, 8, 6, 0, 0), Refused),
-        // A tab that retreats is not free, and raises and dooms nothing.
-        (act_of(0, 1, 2, 1, 0), Found(0)),
-        (act_of(0, 1, 2, 0, 0), Refused),
-        (act_of(0, 1, 6, 0, 2), Refused),
-        (act_of(0, 1, 7, 0, 4), Refused),
-        (act_of(0, 1, 8, 0, 0), Refused),
-        // A try that is lost uses the version up.
-        (act_of(1, 0, 2, 0, 0), Found(0)),
-        (act_of(0, 0, 6, 0, 2), Found(1)),
-        (act_of(0, 0, 6, 0, 2), Refused),
-        (act_of(1, 0, 3, 0, 0), Found(0)),
-        (act_of(0, 0, 1, 0, 0), Found(0)),
-        (act_of(0, 0, 4, 0, 0), Found(2)),
-        (act_of(0, 0, 5, 0, 0), Found(2)),
-        (act_of(0, 0, 6, 0, 3), Found(0)),
-        // A writing tab does not leave, and with nothing published is raised to HALTED alone.
-        (act_of(0, 0, 3, 0, 0), Refused),
-        (act_of(0, 0, 7, 0, 0), Refused),
-        (act_of(0, 0, 7, 0, 1), Refused),
-        (act_of(0, 0, 7, 0, 2), Refused),
-        (act_of(0, 0, 7, 0, 3), Refused),
-        (act_of(0, 0, 7, 0, 5), Refused),
-        (act_of(0, 0, 7, 0, 6), Refused),
-        (act_of(0, 0, 7, 0, 7), Refused),
-        // An anchor that is TAKEN is not taken.
-        (act_of(0, 0, 1, 0, 0), Found(word(3, 1, 0))),
-        (act_of(0, 0, 4, 0, 0), Found(3)),
-        (act_of(0, 0, 5, 0, 0), Found(3)),
-        (act_of(0, 2, 6, 0, 4), Refused),
-        // A last tab raises nothing, and frees its own anchor alone; the inner tab evicts idle entries.
-        (act_of(0, 0, 7, 0, 4), Found(word(3, 4, 0))),
-        (act_of(0, 0, 7, 0, 5), Refused),
-        (act_of(0, 0, 3, 0, 0), Refused),
-        (act_of(0, 0, 6, 1, 0), Refused),
-        (act_of(0, 8, 6, 0, 0), Refused),
-        (act_of(0, 0, 6, 0, 0), Found(word(3, 4, 0))),
-        // A freeing tab is raised to GONE alone.
-        (act_of(0, 8, 7, 0, 3), Refused),
-        (act_of(0, 8, 7, 0, 6), Found(word(3, 6, 0))),
-        (act_of(0, 8, 7, 0, 6), Refused),
-        (act_of(0, 0, 1, 0, 0), Found(word(3, 6, 0))),
-    ];
-    play(&rt, &mut core, &rows);
     // Kinds on cells, of a free tab; a note that is not there; and kinds that are no steps of a pass.
     for kind in [0, 14, 15, 16, 17, 18, 20, 21, 22, 23, 24, 255] {
-        play(&rt, &mut core, &[(act_of(0, 0, kind, 0, 0), Refused)]);
+        play(
+            &rt,
+            "no step",
+            &mut core,
+            &[(0, 0, kind, 0, 0, Wanted::Refused)],
+        );
     }
     let picks = Picks::from_vec(Vec::new(rt.alloc()));
     let crash = core.apply(&Step::Crash { picks });

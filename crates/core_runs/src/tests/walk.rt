@@ -1,6 +1,4 @@
-// Random allowed steps of all kinds, and what must hold after each, read off the state.
-mod anchor_check;
-mod cell_check;
+// Random allowed steps of all kinds, and what each brings about.
 mod choice;
 mod freeing;
 mod kinds;
@@ -8,21 +6,15 @@ mod life;
 mod random;
 mod reading;
 mod rows;
-mod sight_check;
-mod slot_check;
 mod straying;
 mod table;
 mod watch;
 mod writing;
 
 use super::{Act, Core, Step, StepFault, act_of, blank_core};
-use anchor_check::check_anchors;
-use cell_check::check_cells;
 use choice::{Seat, calm_of, choose, next_seat};
 use random::Numbers;
 use rows::Tally;
-use sight_check::check_sights;
-use slot_check::check_slots;
 use std::alloc::Global;
 use std::process::Abort;
 use std::test::Fail;
@@ -41,14 +33,6 @@ const WALKS: u32 = 500;
 const STEPS: u32 = 1_000;
 
 const TRIES: u32 = 50_000;
-
-/// All that must hold between two steps.
-fn check<R: Abort>(rt: &R, core: &Core) {
-    check_anchors(rt, core);
-    check_slots(rt, core);
-    check_cells(rt, core);
-    check_sights(rt, core);
-}
 
 /// A walk from a new core. A step that is not allowed is refused with its kind.
 fn walk_from<R: Abort>(rt: &R, alloc: Global, seed: u32, tally: &mut Tally) -> Result<(), Fail> {
@@ -69,7 +53,6 @@ fn walk_from<R: Abort>(rt: &R, alloc: Global, seed: u32, tally: &mut Tally) -> R
             Ok(number) => {
                 made = made.saturating_add(1);
                 watch.note_step(rt, &core, &act, &before, number, tally);
-                check(rt, &core);
             }
             Err(fault) => {
                 let refused = StepFault::NotAllowed { kind: act.kind };
@@ -82,7 +65,7 @@ fn walk_from<R: Abort>(rt: &R, alloc: Global, seed: u32, tally: &mut Tally) -> R
 }
 
 #[test]
-fn random_steps_keep_tabs_words_and_cells_together(rt: HostRuntime) -> Result<(), Fail> {
+fn random_steps_bring_about_each_row(rt: HostRuntime) -> Result<(), Fail> {
     let mut tally = Tally::new();
     for seed in 1..=WALKS {
         walk_from(&rt, rt.alloc(), seed, &mut tally)?;

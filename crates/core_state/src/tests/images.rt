@@ -2,7 +2,8 @@
 ghost use Rattle.std.specs.Prelude.{◌≡◌, length, IfOk};
 ghost use Rattle.rebuild_model.specs.Image.{IsFile};
 
-use super::{Core, Found, Refused, act_of, play, word};
+use super::Wanted::{Found, Refused, Word};
+use super::{Core, Row as StepRow, play, word};
 use rebuild_model::{FileImage, Images};
 use rock_io::{Memory, Octets};
 use std::alloc::{AllocError, Global};
@@ -280,45 +281,46 @@ fn what_a_rebuild_keeps_stands(rt: HostRuntime) -> Result<(), Fail> {
     Ok(())
 }
 
+/// The steps of a reader of `http://a/b`, and of the tabs that give its slots back.
+static READ_AND_EVICTED: [StepRow; 28] = [
+    // A reader finds the key, the offer and the start, and the link of its first slot.
+    (0, 0, 2, 1, 0, Word(7, 3, 0)),
+    (0, 0, 9, 0, 0, Found(B[0])),
+    (0, 0, 9, 1, 0, Found(B[1])),
+    (0, 0, 9, 2, 0, Found(2)),
+    (0, 0, 9, 3, 0, Found(3)),
+    (0, 0, 13, 0, 0, Refused),
+    (0, 0, 13, 2, 0, Found(2)),
+    // It leaves, and the entry is idle and evicted.
+    (0, 0, 3, 0, 0, Word(7, 3, 0)),
+    (0, 0, 1, 1, 0, Word(7, 3, 0)),
+    (0, 8, 6, 1, 0, Word(7, 3, 0)),
+    // The inner tab gives the slots back in order, each once it has looked at its link.
+    (0, 8, 13, 0, 0, Refused),
+    (0, 8, 12, 2, 0, Refused),
+    (0, 8, 13, 2, 0, Found(2)),
+    (0, 8, 12, 2, 0, Found(2)),
+    (0, 8, 11, 2, 0, Found(2)),
+    (0, 8, 7, 0, 6, Refused),
+    (0, 8, 13, 0, 0, Found(1)),
+    (0, 8, 12, 0, 0, Found(1)),
+    (0, 8, 11, 0, 0, Found(2)),
+    (0, 8, 7, 0, 6, Word(7, 6, 0)),
+    // The next entry there has a version that no slot of the file had.
+    (0, 0, 4, 0, 0, Found(7)),
+    (0, 0, 1, 1, 0, Word(7, 6, 0)),
+    (0, 0, 4, 0, 0, Found(7)),
+    (0, 0, 5, 0, 0, Found(7)),
+    (0, 0, 6, 1, 8, Word(7, 6, 0)),
+    // Slots that were given back may be reserved, and that of the other entry may not.
+    (0, 0, 10, 1, 0, Found(3)),
+    (0, 0, 10, 2, 0, Found(0)),
+    (0, 0, 10, 0, 0, Found(0)),
+];
+
 #[test]
 fn an_entry_that_was_kept_is_read_and_evicted(rt: HostRuntime) -> Result<(), Fail> {
     let mut core = core_of(&rt, rt.alloc(), &[], 4)?;
-    let closed = word(7, 3, 0);
-    let rows = [
-        // A reader finds the key, the offer and the start, and the link of its first slot.
-        (act_of(0, 0, 2, 1, 0), Found(closed)),
-        (act_of(0, 0, 9, 0, 0), Found(B[0])),
-        (act_of(0, 0, 9, 1, 0), Found(B[1])),
-        (act_of(0, 0, 9, 2, 0), Found(2)),
-        (act_of(0, 0, 9, 3, 0), Found(3)),
-        (act_of(0, 0, 13, 0, 0), Refused),
-        (act_of(0, 0, 13, 2, 0), Found(2)),
-        // It leaves, and the entry is idle and evicted.
-        (act_of(0, 0, 3, 0, 0), Found(closed)),
-        (act_of(0, 0, 1, 1, 0), Found(closed)),
-        (act_of(0, 8, 6, 1, 0), Found(closed)),
-        // The inner tab gives the slots back in order, each once it has looked at its link.
-        (act_of(0, 8, 13, 0, 0), Refused),
-        (act_of(0, 8, 12, 2, 0), Refused),
-        (act_of(0, 8, 13, 2, 0), Found(2)),
-        (act_of(0, 8, 12, 2, 0), Found(2)),
-        (act_of(0, 8, 11, 2, 0), Found(2)),
-        (act_of(0, 8, 7, 0, 6), Refused),
-        (act_of(0, 8, 13, 0, 0), Found(1)),
-        (act_of(0, 8, 12, 0, 0), Found(1)),
-        (act_of(0, 8, 11, 0, 0), Found(2)),
-        (act_of(0, 8, 7, 0, 6), Found(word(7, 6, 0))),
-        // The next entry there has a version that no slot of the file had.
-        (act_of(0, 0, 4, 0, 0), Found(7)),
-        (act_of(0, 0, 1, 1, 0), Found(word(7, 6, 0))),
-        (act_of(0, 0, 4, 0, 0), Found(7)),
-        (act_of(0, 0, 5, 0, 0), Found(7)),
-        (act_of(0, 0, 6, 1, 8), Found(word(7, 6, 0))),
-        // Slots that were given back may be reserved, and that of the other entry may not.
-        (act_of(0, 0, 10, 1, 0), Found(3)),
-        (act_of(0, 0, 10, 2, 0), Found(0)),
-        (act_of(0, 0, 10, 0, 0), Found(0)),
-    ];
-    play(&rt, &mut core, &rows);
+    play(&rt, "read and evicted", &mut core, &READ_AND_EVICTED);
     Ok(())
 }
