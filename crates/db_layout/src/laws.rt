@@ -3,7 +3,15 @@
 ghost use Rattle.std.specs.Prelude.{◌≡◌, ℕ, ◌+◌, ◌*◌, ◌^◌, ◌<◌, ◌≤◌, ◌↔◌};
 ghost use Rattle.db_layout.specs.Layout.{IsSlotSize, IsInSlot, slots_of, offset_of, file_size};
 
-use crate::layout::{HEADER_BYTES, MOST_SLOTS};
+use crate::layout::{GREATEST_SLOT, HEADER_BYTES, LEAST_SLOT, MOST_SLOTS};
+
+/// The numbers of the limits.
+pub fn limits_are_these()
+    ensures header { HEADER_BYTES ≡ 16384 }
+    ensures slots { MOST_SLOTS ≡ 1048576 }
+    ensures least { LEAST_SLOT ≡ 512 }
+    ensures greatest { GREATEST_SLOT ≡ 32768 }
+{}
 
 /// A file that was made for so many slots has as many, and with one byte less one slot less.
 pub fn made_files_have_their_slots()

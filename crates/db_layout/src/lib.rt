@@ -9,7 +9,8 @@ mod laws;
 mod layout;
 
 pub use laws::{
-    made_files_have_their_slots, offsets_are_in_range, slots_are_apart, slots_are_whole,
+    limits_are_these, made_files_have_their_slots, offsets_are_in_range, slots_are_apart,
+    slots_are_whole,
 };
 pub use layout::{
     GREATEST_SLOT, HEADER_BYTES, LEAST_SLOT, MOST_SLOTS, file_size, offset_of, slot_size_ok,

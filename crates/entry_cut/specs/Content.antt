@@ -3,6 +3,7 @@ use Rattle.std.specs.Prelude.{ℕ, ◌+◌, ◌-◌, ◌*◌, ◌/◌, ◌==◌,
 use Rattle.std.specs.Int.{w64, from_le_bytes}
 use Rattle.slot_cell.specs.Header.{slot_image}
 use Rattle.slot_cell.specs.declared.header.Header.{Header}
+use Rattle.slot_cell.specs.declared.header.TheConstants.{HEADER_SIZE}
 use Rattle.store_key.specs.Key.{key_of}
 use Rattle.swap_meta.specs.Meta.{meta_bytes}
 
@@ -12,7 +13,7 @@ content_of url body = meta_bytes (key_of url) url ++ body
 
 -- how many bytes of payload a slot has room for, behind its header
 abbrev pub room_of : ℕ → ℕ
-room_of slot = slot - 40
+room_of slot = slot - HEADER_SIZE
 
 -- how many slots so many bytes need: their number over the room of a slot, rounded up
 abbrev pub slots_needed : (size slot : ℕ) → ℕ

@@ -3,6 +3,7 @@ use Rattle.std.specs.Prelude.{◌≡◌, ℕ, ◌+◌, ◌<◌, ◌≤◌, ◌^�
 use Rattle.std.specs.List.{IsDistinct}
 use Rattle.rebuild_model.specs.Entry.{Entry}
 use Rattle.rebuild_model.specs.Image.{image_at}
+use Rattle.slot_cell.specs.declared.header.TheConstants.{GREATEST_VERSION}
 use Rattle.store_key.specs.Key.{key_of}
 use Rattle.store_key.specs.Url.{IsUrl}
 use Rattle.entry_cut.specs.Content.{Cut, count, image}
@@ -13,7 +14,7 @@ pub record IsWritable (c : Cut) : Type 0 where
   pub short : length c.url + 72 ≤ c.slot
   pub sized : c.slot < 2 ^ 32
   pub version_from : 0 < c.version
-  pub version_to : c.version ≤ 4294901760
+  pub version_to : c.version ≤ GREATEST_VERSION
 
 -- from place k on, the pieces stand in these slots, each naming the next one, and the last none
 abbrev pub StandFrom : Cut → (images : List (List ℕ)) (k : ℕ) → List ℕ → Type 0

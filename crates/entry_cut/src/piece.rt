@@ -69,7 +69,7 @@ pub fn piece_header(label: &Label, size: u32, behind: Behind) -> Header
 /// in front and zeros behind the payload.
 pub fn put_header(header: &Header, image: &mut [u8])
     requires { HEADER_SIZE + header.now.payload_size ≤ length image.old }
-    ensures { image.new ≡ slot_image header.now (take header.now.payload_size (drop 40 image.old)) (length image.old) }
+    ensures { image.new ≡ slot_image header.now (take header.now.payload_size (drop HEADER_SIZE image.old)) (length image.old) }
 {
     let Some((head, behind)) = image.split_first_chunk_mut() else {
         unreachable!()

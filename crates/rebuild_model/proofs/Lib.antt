@@ -10,4 +10,5 @@ pub mod Owners
 pub mod Best
 pub mod Winners
 pub mod Whole
+pub mod Finds
 pub mod One

@@ -19,13 +19,13 @@ use Rattle.rebuild_model.proofs.Chains.{same_first}
 map_there : {X Y : Type 0} (f : X → Y) (xs : List X) (x : X) → Contains xs x → Contains (map f xs) (f x)
 map_there f xs x there = (there.0, omega (arith, there.1, length-map xs f), get_or-map f xs there.0 x (f x) there.1 ∙ ap f there.2)
 
-map_from : {X Y : Type 0} (f : X → Y) (xs : List X) (d : X) (y : Y) → Contains (map f xs) y → (x : X) × Contains xs x × (y ≡ f x)
+pub map_from : {X Y : Type 0} (f : X → Y) (xs : List X) (d : X) (y : Y) → Contains (map f xs) y → (x : X) × Contains xs x × (y ≡ f x)
 map_from f xs d y there =
     let inside : there.0 < length xs = omega (arith, there.1, length-map xs f) in
     (get_or xs there.0 d, (there.0, inside, get_or_default xs there.0 (get_or xs there.0 d) d inside), sym there.2 ∙ get_or-map f xs there.0 d y inside)
 
 -- any entry
-some_entry : Entry
+pub some_entry : Entry
 some_entry = record { first = 0; version = 0; key = []; url = []; chain = []; body = [] }
 
 -- the entry that a slot is said to be of

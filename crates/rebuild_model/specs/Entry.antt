@@ -1,6 +1,7 @@
 -- The complete entries of a file.
 use Rattle.std.specs.Prelude.{◌≡◌, ℕ, ◌+◌, pos, negsuc, List, [], ◌∷◌, length, take, drop, sum_by, All, nat_eq}
 use Rattle.std.specs.List.{flat_map, IsDistinct}
+use Rattle.slot_cell.specs.declared.header.TheConstants.{HEADER_SIZE}
 use Rattle.swap_meta.specs.Meta.{Spells}
 use Rattle.store_key.specs.Key.{key_of}
 use Rattle.store_key.specs.Url.{IsUrl}
@@ -48,7 +49,7 @@ content_of images chain = flat_map (payload_at images) chain
 -- the whole, and in front stands metadata with a URL and that URL's key, which is the slots' too
 pub record IsComplete (slot : ℕ) (images : List (List ℕ)) (e : Entry) : Type 0 where
   pub chain : IsChain slot images e.first e.chain
-  pub full : AllButLast (λ s. (header_at images s).payload_size + 40 ≡ slot) e.chain
+  pub full : AllButLast (λ s. (header_at images s).payload_size + HEADER_SIZE ≡ slot) e.chain
   pub whole : OfLast (λ s. (header_at images s).entry_size ≡ sum_by (λ t. (header_at images t).payload_size) e.chain) e.chain
   pub size : ℕ
   pub meta : Spells (take size (payload_at images e.first)) e.key e.url size

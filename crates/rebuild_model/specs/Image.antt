@@ -1,12 +1,14 @@
 -- The slots of a file, by their images. The first argument is how many bytes a slot has.
 use Rattle.std.specs.Prelude.{◌≡◌, ℕ, ◌<◌, ◌≤◌, pos, negsuc, List, [], ◌∷◌, length, take, slice_index_or, All}
+use Rattle.db_layout.specs.declared.layout.TheConstants.{MOST_SLOTS}
 use Rattle.slot_cell.specs.declared.header.Header.{Header}
+use Rattle.slot_cell.specs.declared.header.TheConstants.{HEADER_SIZE}
 use Rattle.slot_cell.specs.Header.{header_of, payload_of, IsSane}
 
 -- the images of the slots of a file of the program's limits
 pub record IsFile (slot : ℕ) (images : List (List ℕ)) : Type 0 where
-  pub few : length images ≤ 1048576
-  pub sized : 40 ≤ slot
+  pub few : length images ≤ MOST_SLOTS
+  pub sized : HEADER_SIZE ≤ slot
   pub wide : All (λ image. length image ≡ slot) images
 
 -- the image of slot s

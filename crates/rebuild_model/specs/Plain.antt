@@ -1,5 +1,6 @@
 -- What the plain program tells of a slot and of a chain.
 use Rattle.std.specs.Prelude.{◌≡◌, ℕ, ◌+◌, List, sum_by, take}
+use Rattle.slot_cell.specs.declared.header.TheConstants.{HEADER_SIZE}
 use Rattle.swap_meta.specs.Meta.{Spells}
 use Rattle.store_key.specs.Key.{key_of}
 use Rattle.store_key.specs.Url.{IsUrl}
@@ -9,7 +10,7 @@ use Rattle.rebuild_model.specs.declared.found.Found.{Found}
 
 -- the slot is full
 abbrev pub IsFull : ℕ → List (List ℕ) → ℕ → Type 0
-IsFull slot images s = (header_at images s).payload_size + 40 ≡ slot
+IsFull slot images s = (header_at images s).payload_size + HEADER_SIZE ≡ slot
 
 -- how many bytes of the entry a slot has
 abbrev pub size_at : List (List ℕ) → ℕ → ℕ

@@ -1,5 +1,7 @@
 // The laws of the definitions.
-ghost use Rattle.std.specs.Prelude.{◌≡◌, ◌≢◌, ◌+◌, ◌<◌, ℕ, List, [], ◌∷◌, ◌++◌, ◌↔◌, negsuc, length, Contains};
+ghost use Rattle.std.specs.Prelude.{◌≡◌, ◌≢◌, ◌+◌, ◌<◌, ℕ, List, [], ◌∷◌, ◌++◌, ◌↔◌, negsuc, length, map, slice_index, Contains};
+ghost use Rattle.std.specs.List.Sorted.{IsStrictlyIncreasing};
+ghost use Rattle.store_key.specs.Anchor.{anchor_of};
 ghost use Rattle.rebuild_model.specs.Image.{IsSaneAt, IsGreatest, header_at};
 ghost use Rattle.rebuild_model.specs.Entry.{Entry, IsChain, IsComplete, IsAlone};
 ghost use Rattle.rebuild_model.specs.Keeping.{HasNoneAt, IsKept, AreWinners, AreOwners};
@@ -75,6 +77,24 @@ pub fn winners_and_owners_make_a_rebuild()
 {
     one_entry_at_a_slot();
 }
+
+/// What is known of the entries that a rebuild keeps: each is the one that the file has at its anchor;
+/// their anchors are those of the store, and stand in order; and each of their slots is a slot of the file,
+/// and theirs.
+pub fn finds_are_known()
+    ensures all { (slot : ℕ) (images : List (List ℕ)) (anchors : ℕ) (rebuilt : Rebuilt)
+        → IsRebuilt slot images anchors rebuilt → (f : Found) → Contains rebuilt.winners f
+        → IsKept slot images anchors (anchor_of f.key anchors) f }
+    ensures below { (slot : ℕ) (images : List (List ℕ)) (anchors : ℕ) (rebuilt : Rebuilt)
+        → 0 < anchors → IsRebuilt slot images anchors rebuilt → (f : Found) → Contains rebuilt.winners f
+        → anchor_of f.key anchors < anchors }
+    ensures anchors { (slot : ℕ) (images : List (List ℕ)) (anchors : ℕ) (rebuilt : Rebuilt)
+        → IsRebuilt slot images anchors rebuilt
+        → IsStrictlyIncreasing (map (λ f. anchor_of f.key anchors) rebuilt.winners) }
+    ensures slots { (slot : ℕ) (images : List (List ℕ)) (anchors : ℕ) (rebuilt : Rebuilt)
+        → IsRebuilt slot images anchors rebuilt → (f : Found) (s : ℕ) → Contains rebuilt.winners f → Contains f.chain s
+        → (s < length images) × (slice_index rebuilt.owner s ≡ anchor_of f.key anchors + 1) }
+{}
 
 /// A file has one rebuild for so many anchors.
 pub fn a_file_has_one_rebuild()

@@ -8,7 +8,7 @@ ghost use Rattle.rebuild_model.specs.Plain.{IsWhole, IsNamed, IsFound, HasNoEntr
 
 use crate::{FileImage, Found};
 use rock_io::{Memory, Numbers, Octets};
-use slot_cell::{Header, read_image};
+use slot_cell::{HEADER_SIZE, Header, read_image};
 use std::alloc::{AllocError, Global};
 use store_key::{check_url, key_of};
 use swap_meta::{Meta, read_meta};
@@ -121,7 +121,7 @@ fn whole_size(slot: u32, images: &[Octets], chain: &[u32]) -> Option<u64>
         if rest.is_empty() {
             return (header.entry_size == size).then_some(size);
         }
-        if u64::from(header.payload_size) + 40 != u64::from(slot) {
+        if u64::from(header.payload_size) + HEADER_SIZE as u64 != u64::from(slot) {
             return None;
         }
         left = rest;

@@ -22,6 +22,9 @@ by_bytes = eq_by_cmp (slice_cmp nat_cmp)
 pub one_name : (a b : List ℕ) → by_bytes a b ≡ true → a ≡ b
 one_name a b e = (bytes_eq-Decides a b).0 (sym (is_eq-slice_cmp a b) ∙ e)
 
+pub equal_by_bytes : (a b : List ℕ) → a ≡ b → by_bytes a b ≡ true
+equal_by_bytes a b same = is_eq-slice_cmp a b ∙ (bytes_eq-Decides a b).1 same
+
 bytes_same : (name : List ℕ) → eq_by_cmp (slice_cmp nat_cmp) name name ≡ true
 bytes_same name = (eq_by_cmp_equiv nat_list_cmp_total).refl name
 

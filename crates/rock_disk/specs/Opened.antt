@@ -1,8 +1,8 @@
 -- A file that is opened, or refused.
-use Rattle.std.specs.Prelude.{◌≡◌, ℕ, ◌+◌, ◌<◌, ◌≤◌, List, length, map, Some}
+use Rattle.std.specs.Prelude.{◌≡◌, ℕ, ◌+◌, ◌<◌, ◌≤◌, List, length, map, Some, All}
 use Rattle.std.specs.FinMap.{get, insert}
-use Rattle.db_layout.specs.declared.layout.TheConstants.{HEADER_BYTES}
-use Rattle.db_layout.specs.Layout.{slots_of}
+use Rattle.db_layout.specs.declared.layout.TheConstants.{HEADER_BYTES, MOST_SLOTS}
+use Rattle.db_layout.specs.Layout.{IsSlotSize, slots_of}
 use Rattle.rock_disk.specs.Cell.{CellState, shape}
 use Rattle.rock_disk.specs.declared.cell.TheConstants.{HEADER_NUMBER}
 use Rattle.rock_disk.specs.File.{File, Files, bytes_of, shapes_from, header_cut, slots_cut, rest_cut}
@@ -13,6 +13,12 @@ pub record HasShape (slot bytes : ℕ) (header : CellState) (cells : List CellSt
   pub room : HEADER_BYTES + slot ≤ bytes
   pub header_shape : shape header ≡ (HEADER_NUMBER, HEADER_BYTES)
   pub cell_shapes : map shape cells ≡ shapes_from 0 (slots_of bytes slot) slot
+
+-- these are the slots of an opened file, where slots have a size that a file's may have
+pub record AreSlots (slot : ℕ) (cells : List CellState) : Type 0 where
+  pub size : IsSlotSize slot
+  pub wide : All (λ c. c.width ≡ slot) cells
+  pub few : length cells ≤ MOST_SLOTS
 
 -- the file was cut anew and its cells are out
 pub record IsOpened (before after : Files) (name : List ℕ) (slot bytes : ℕ) (header : CellState) (cells : List CellState) : Type 0 where

@@ -1,13 +1,15 @@
 // What opening a file and giving its cells back make of the files. These functions do nothing: the proof
 // of a function that calls one may use what it ensures.
-ghost use Rattle.std.specs.Prelude.{◌≡◌, ◌+◌, ◌≤◌, ◌≢◌, ◌++◌, ℕ, List, Some, length, map, All};
+ghost use Rattle.std.specs.Prelude.{◌≡◌, ◌+◌, ◌<◌, ◌≤◌, ◌≢◌, ◌++◌, ℕ, List, Some, length, map, All};
 ghost use Rattle.std.specs.FinMap.{get, insert};
-ghost use Rattle.db_layout.specs.Layout.{slots_of};
+ghost use Rattle.db_layout.specs.Layout.{IsSlotSize, slots_of};
 ghost use Rattle.rock_disk.specs.Cell.{CellState, shape, joined};
+ghost use Rattle.rock_disk.specs.Created.{IsCreated, IsMaybeCreated};
 ghost use Rattle.rock_disk.specs.File.{Files, NoneAway, IsThere, IsKept, HaveSameBytes, bytes_of, cut, rest_cut};
 ghost use Rattle.rock_disk.specs.File.File.{Home, Away};
-ghost use Rattle.rock_disk.specs.Opened.{HasShape, IsOpened, IsOut};
+ghost use Rattle.rock_disk.specs.Opened.{AreSlots, HasShape, IsOpened, IsOut};
 
+use crate::HEADER_NUMBER;
 use db_layout::MOST_SLOTS;
 
 /// A file that is cut anew and joined again has its bytes, whatever the slot size.
@@ -23,11 +25,24 @@ pub fn kept_files_have_their_bytes()
     cutting_keeps_the_bytes();
 }
 
+/// Where a file was created, or may have been, no file is out that was in.
+pub fn created_files_are_in()
+    ensures created { (before after : Files) (name : List ℕ) (size : ℕ) → IsCreated before after name size → NoneAway before → NoneAway after }
+    ensures maybe { (before after : Files) (name : List ℕ) → IsMaybeCreated before after name → NoneAway before → NoneAway after }
+{}
+
 /// An opened file has so many slots as its length says, at most 1,048,576, each of them as wide as a slot.
 pub fn opened_slots_are_wide_and_few()
     ensures wide { (slot bytes : ℕ) (header : CellState) (cells : List CellState) → HasShape slot bytes header cells → All (λ c. c.width ≡ slot) cells }
     ensures count { (slot bytes : ℕ) (header : CellState) (cells : List CellState) → HasShape slot bytes header cells → length cells ≡ slots_of bytes slot }
     ensures few { (slot bytes : ℕ) (header : CellState) (cells : List CellState) → HasShape slot bytes header cells → length cells ≤ MOST_SLOTS }
+    ensures slots { (slot bytes : ℕ) (header : CellState) (cells : List CellState) → IsSlotSize slot → HasShape slot bytes header cells → AreSlots slot cells }
+{}
+
+/// The number of a header area is the number of no slot: a file's slots have the numbers below their count,
+/// which is smaller.
+pub fn header_number_is_no_slots()
+    ensures { (bytes slot number : ℕ) → number < slots_of bytes slot → number ≢ HEADER_NUMBER }
 {}
 
 /// The cells of an opened file hold its bytes, but for its rest. The file is there, and is out, and the

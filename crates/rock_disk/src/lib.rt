@@ -15,8 +15,9 @@ mod volume;
 
 pub use cell::{Cell, HEADER_NUMBER};
 pub use file_laws::{
-    cutting_keeps_the_bytes, kept_files_have_their_bytes, opened_cells_are_the_files,
-    opened_cells_may_be_given_back, opened_slots_are_wide_and_few,
+    created_files_are_in, cutting_keeps_the_bytes, header_number_is_no_slots,
+    kept_files_have_their_bytes, opened_cells_are_the_files, opened_cells_may_be_given_back,
+    opened_slots_are_wide_and_few,
 };
 pub use laws::{
     now_is_a_crash_image, synced_cells_leave_one_image, write_keeps_the_old, write_then_read,

@@ -1,18 +1,22 @@
 -- A fault is told as a fault.
-use Rattle.std.proofs.Common.{◌≡◌, ◌+◌, ◌++◌, ◌∷◌, [], ℕ, List, length, length-append, arith, refl, ap, sym, ◌∙◌}
-use Rattle.std.specs.Prelude.{Result, IsErrOf, IsErrAnd, Ok, Err}
+use Rattle.std.proofs.Common.{◌≡◌, inl, inr, ◌+◌, ◌++◌, ◌∷◌, [], ℕ, List, length, length-append, arith, refl, ap, sym, ◌∙◌, subst}
+use Rattle.std.specs.Prelude.{Result, IsErrOf, IsErrAnd, IfErr, Ok, Err, None, ◌↔◌}
+use Rattle.std.specs.FinMap.{get}
+use Rattle.rock_io.specs.Faults.{Rose}
+use Rattle.rock_disk.specs.File.{Files}
+use Rattle.rock_disk.specs.Opened.{IsSmall}
 use Rattle.rock_disk.specs.declared.volume.OpenFault.{OpenFault}
 use Rattle.rock_disk.specs.declared.volume.OpenFault.TheVariants as opening
 use Rattle.rock_disk.specs.declared.volume.StationFault.{StationFault}
 use Rattle.rock_disk.specs.declared.volume.StationFault.TheVariants as station
 use Rattle.rock_rebuild.specs.declared.outcome.RebuildFault.{RebuildFault}
 use Rattle.rock_rebuild.specs.declared.outcome.RebuildFault.TheVariants as rebuild
-use Rattle.rock_main.specs.Device.{DeviceKept}
-use Rattle.rock_main.specs.ReadFault.{read_fault_of_open, read_fault_of_station, read_fault_of_rebuild, status_of_fault}
-use Rattle.rock_main.specs.declared.read.ReadFault.{ReadFault}
-use Rattle.rock_main.specs.declared.read.ReadFault.TheVariants as read
+use Rattle.db_layout.specs.Layout.{IsSlotSize}
+use Rattle.rock_main.specs.Device.{DeviceFailed, DeviceKept}
+use Rattle.rock_main.specs.Faults.{status_of_open, status_of_station, status_of_rebuild}
+use Rattle.rock_main.specs.Report.{HasSlots, OpenedEnds, ReadEnds, ReportEnds, ReportSays, ReportPrints}
 use Rattle.rock_main.specs.declared.status.Status.{Status}
-use Rattle.rock_main.specs.declared.status.Status.TheVariants as status
+use Rattle.rock_main.specs.declared.status.Status.TheVariants.{Done, Usage, Memory, SourceFault, SinkFault, DeviceFault, BadScript, Missing, Small, BadGeometry, Exists}
 
 -- a list that grew is not as it was
 grew : (before : List ℕ) (count : ℕ) → before ≡ before ++ count ∷ [] → ⊥
@@ -36,39 +40,36 @@ one_ended {faults = faults} {e = e} same made ended none =
 pub kept_on : {v v1 v2 v' : ℕ} {e e1 e2 e' : List ℕ} → v1 ≡ v → e1 ≡ e → v' ≡ v2 → e' ≡ e2 → DeviceKept v1 v2 e1 e2 → DeviceKept v v' e e'
 kept_on p q r s k = record { volume = r ∙ k.volume ∙ p; station = λ count is. k.station count (sym s ∙ is ∙ ap (λ l. l ++ count ∷ []) (sym q)) }
 
+failed_on : (v v1 v2 v' : ℕ) (e e1 e2 e' : List ℕ) → v1 ≡ v → e1 ≡ e → v' ≡ v2 → e' ≡ e2 → DeviceFailed v1 v2 e1 e2 → DeviceFailed v v' e e'
+failed_on v v1 v2 v' e e1 e2 e' p q r s (inl rose) = inl (subst (λ x. Rose x v') p (subst (λ x. Rose v1 x) (sym r) rose))
+failed_on v v1 v2 v' e e1 e2 e' p q r s (inr ended) = inr (ended.0, s ∙ ended.1 ∙ ap (λ l. l ++ ended.0 ∷ []) q, ended.2)
+
 -- what succeeds did not fail
 pub succeeded : {T E : Type 0} (x : T) (e : E) → IsErrOf (Ok x) e → ⊥
 succeeded x e w = cc
 
+pub same_status : {T : Type 0} {s status : Status} → ◌≡◌ {A = Result T Status} (Err s) (Err status) → s ≡ status
+same_status e = cc
+
 -- what tells no fault of the disk did not meet one
-pub not_failed_open : {T U : Type 0} (f : OpenFault) (r : Result U ReadFault) → IsErrAnd r (λ e. e ≡ read_fault_of_open f) → (IsErrOf r read.Device → ⊥) → IsErrOf {T = T} (Err f) opening.Failed → ⊥
+pub not_failed_open : {T U : Type 0} (f : OpenFault) (r : Result U Status) → IsErrAnd r (λ s. s ≡ status_of_open f) → (IsErrOf r DeviceFault → ⊥) → IsErrOf {T = T} (Err f) opening.Failed → ⊥
 not_failed_open f (Ok x) h none failed = absurd h
 not_failed_open opening.Missing (Err e) h none failed = cc
 not_failed_open (opening.Small n) (Err e) h none failed = cc
 not_failed_open opening.Failed (Err e) h none failed = none (ap (λ f. Err f) h)
 not_failed_open opening.Memory (Err e) h none failed = cc
 
-pub not_failed_station : {T U : Type 0} (f : StationFault) (r : Result U ReadFault) → IsErrAnd r (λ e. e ≡ read_fault_of_station f) → (IsErrOf r read.Device → ⊥) → IsErrOf {T = T} (Err f) station.Failed → ⊥
+pub not_failed_station : {T U : Type 0} (f : StationFault) (r : Result U Status) → IsErrAnd r (λ s. s ≡ status_of_station f) → (IsErrOf r DeviceFault → ⊥) → IsErrOf {T = T} (Err f) station.Failed → ⊥
 not_failed_station f (Ok x) h none failed = absurd h
 not_failed_station station.Failed (Err e) h none failed = none (ap (λ f. Err f) h)
 not_failed_station station.Memory (Err e) h none failed = cc
 
-pub not_failed_text : {T U : Type 0} (f : RebuildFault) (e : ReadFault) → e ≡ read_fault_of_rebuild f → (IsErrOf {T = U} (Err e) read.Device → ⊥) → IsErrOf {T = T} (Err f) rebuild.Failed → ⊥
-not_failed_text rebuild.Failed e h none failed = none (ap (λ f. Err f) h)
-not_failed_text rebuild.Memory e h none failed = cc
-
-pub not_failed_read : {T : Type 0} (fault : ReadFault) (s : Status) → s ≡ status_of_fault fault → (s ≡ status.DeviceFault → ⊥) → IsErrOf {T = T} (Err fault) read.Device → ⊥
-not_failed_read fault s is none failed = let same : fault ≡ read.Device = cc in none (is ∙ ap status_of_fault same)
+pub not_failed_text : {T U : Type 0} (f : RebuildFault) (s : Status) → s ≡ status_of_rebuild f → (IsErrOf {T = U} (Err s) DeviceFault → ⊥) → IsErrOf {T = T} (Err f) rebuild.Failed → ⊥
+not_failed_text rebuild.Failed s h none failed = none (ap (λ f. Err f) h)
+not_failed_text rebuild.Memory s h none failed = cc
 
 -- a fault of the disk is told by nothing else
-pub failed_read : {T : Type 0} (fault : ReadFault) (s : Status) → s ≡ status_of_fault fault → s ≡ status.DeviceFault → IsErrOf {T = T} (Err fault) read.Device
-failed_read read.Missing s is told = cc
-failed_read (read.Small n) s is told = cc
-failed_read read.Unfit s is told = cc
-failed_read read.Device s is told = refl
-failed_read read.Memory s is told = cc
-
-pub failed_open : {T U : Type 0} (f : OpenFault) (r : Result U ReadFault) → IsErrAnd r (λ e. e ≡ read_fault_of_open f) → IsErrOf r read.Device → IsErrOf {T = T} (Err f) opening.Failed
+pub failed_open : {T U : Type 0} (f : OpenFault) (r : Result U Status) → IsErrAnd r (λ s. s ≡ status_of_open f) → IsErrOf r DeviceFault → IsErrOf {T = T} (Err f) opening.Failed
 failed_open f (Ok x) h told = absurd h
 failed_open opening.Missing (Err e) h told = cc
 failed_open (opening.Small n) (Err e) h told = cc
@@ -76,5 +77,100 @@ failed_open opening.Failed (Err e) h told = refl
 failed_open opening.Memory (Err e) h told = cc
 
 -- a file that is not fit is told as nothing else
-pub only_unfit : {T : Type 0} (r : Result T ReadFault) → IsErrOf r read.Unfit → IsErrOf r read.Device → ⊥
+pub only_unfit : {T : Type 0} (r : Result T Status) → IsErrOf r (BadGeometry 2) → IsErrOf r DeviceFault → ⊥
 only_unfit r unfit device = cc
+
+-- how a file is refused, by what the volume and the scan say
+pub station_refused : {T U : Type 0} (Fits : ℕ → Type 0) (slots v v' : ℕ) (e e' : List ℕ) (f : StationFault) (r : Result U Status) → IsErrAnd r (λ s. s ≡ status_of_station f)
+    → (IsErrOf {T = T} (Err f) station.Failed → DeviceFailed v v' e e') → IfErr r (OpenedEnds Fits slots v v' e e')
+station_refused Fits slots v v' e e' f (Ok x) h failed = absurd h
+station_refused Fits slots v v' e e' station.Failed (Err s) h failed = subst (OpenedEnds Fits slots v v' e e') (sym h) (failed refl)
+station_refused Fits slots v v' e e' station.Memory (Err s) h failed = subst (OpenedEnds Fits slots v v' e e') (sym h) tt
+
+pub text_refused : {T : Type 0} (Fits : ℕ → Type 0) (slots v v' : ℕ) (e e' : List ℕ) (f : RebuildFault) (s : Status) → s ≡ status_of_rebuild f
+    → (IsErrOf {T = T} (Err f) rebuild.Failed → DeviceFailed v v' e e') → OpenedEnds Fits slots v v' e e' s
+text_refused Fits slots v v' e e' rebuild.Failed s h failed = subst (OpenedEnds Fits slots v v' e e') (sym h) (failed refl)
+text_refused Fits slots v v' e e' rebuild.Memory s h failed = subst (OpenedEnds Fits slots v v' e e') (sym h) tt
+
+pub open_refused : {T U : Type 0} (Fits : ℕ → Type 0) (v v' : ℕ) (e e' : List ℕ) (f : OpenFault) (r : Result U Status) → IsErrAnd r (λ s. s ≡ status_of_open f)
+    → (IsErrOf {T = T} (Err f) opening.Failed → DeviceFailed v v' e e') → IfErr r (ReadEnds Fits v v' e e')
+open_refused Fits v v' e e' f (Ok x) h failed = absurd h
+open_refused Fits v v' e e' opening.Missing (Err s) h failed = subst (ReadEnds Fits v v' e e') (sym h) tt
+open_refused Fits v v' e e' (opening.Small n) (Err s) h failed = subst (ReadEnds Fits v v' e e') (sym h) tt
+open_refused Fits v v' e e' opening.Failed (Err s) h failed = subst (ReadEnds Fits v v' e e') (sym h) (failed refl)
+open_refused Fits v v' e e' opening.Memory (Err s) h failed = subst (ReadEnds Fits v v' e e') (sym h) tt
+
+pub open_says : {T U : Type 0} (Fits : ℕ → Type 0) (files : Files) (name : List ℕ) (slot : ℕ) (f : OpenFault) (r : Result U Status) → IsErrAnd r (λ s. s ≡ status_of_open f)
+    → (IsErrOf {T = T} (Err f) opening.Missing ↔ (get files name ≡ None)) → ((bytes : ℕ) → (IsErrOf {T = T} (Err f) (opening.Small bytes) ↔ IsSmall files name slot bytes)) → IfErr r (ReportSays Fits files name slot)
+open_says Fits files name slot f (Ok x) h missing small = absurd h
+open_says Fits files name slot opening.Missing (Err s) h missing small = subst (ReportSays Fits files name slot) (sym h) (missing.0 refl)
+open_says Fits files name slot (opening.Small n) (Err s) h missing small = subst (ReportSays Fits files name slot) (sym h) ((small n).0 refl)
+open_says Fits files name slot opening.Failed (Err s) h missing small = subst (ReportSays Fits files name slot) (sym h) tt
+open_says Fits files name slot opening.Memory (Err s) h missing small = subst (ReportSays Fits files name slot) (sym h) tt
+
+same_fault : {T : Type 0} {f g : OpenFault} → ◌≡◌ {A = Result T OpenFault} (Err f) (Err g) → f ≡ g
+same_fault e = cc
+
+-- a fault of opening has one status
+pub open_told : {T U : Type 0} (f g : OpenFault) (r : Result U Status) → IsErrAnd r (λ s. s ≡ status_of_open f) → IsErrOf {T = T} (Err f) g → IsErrOf r (status_of_open g)
+open_told f g (Ok x) h is = absurd h
+open_told f g (Err s) h is = ap (λ s. Err s) (h ∙ ap status_of_open (same_fault is))
+
+-- how an opened file is refused is how a file is
+pub opened_refused : {T : Type 0} (Fits : ℕ → Type 0) (slots : ℕ) {v v1 v2 v' : ℕ} {e e1 e2 e' : List ℕ} (r : Result T Status) → v1 ≡ v → e1 ≡ e → v' ≡ v2 → e' ≡ e2 → IfErr r (OpenedEnds Fits slots v1 v2 e1 e2)
+    → IfErr r (ReadEnds Fits v v' e e')
+opened_refused Fits slots (Ok x) p q r s k = tt
+opened_refused Fits slots (Err Done) p q r s k = absurd k
+opened_refused Fits slots (Err Usage) p q r s k = absurd k
+opened_refused Fits slots (Err Memory) p q r s k = tt
+opened_refused Fits slots (Err SourceFault) p q r s k = absurd k
+opened_refused Fits slots (Err SinkFault) p q r s k = absurd k
+opened_refused Fits slots {v = v} {v1 = v1} {v2 = v2} {v' = v'} {e = e} {e1 = e1} {e2 = e2} {e' = e'} (Err DeviceFault) p q r s k = failed_on v v1 v2 v' e e1 e2 e' p q r s k
+opened_refused Fits slots (Err (BadScript line cause)) p q r s k = absurd k
+opened_refused Fits slots (Err Missing) p q r s k = absurd k
+opened_refused Fits slots (Err (Small bytes)) p q r s k = absurd k
+opened_refused Fits slots (Err (BadGeometry field)) p q r s k = (k.0, (slots, k.1))
+opened_refused Fits slots (Err Exists) p q r s k = absurd k
+
+pub opened_says : {T : Type 0} (Fits : ℕ → Type 0) (slots v v' : ℕ) (e e' : List ℕ) (files : Files) (name : List ℕ) (slot : ℕ) (r : Result T Status) → HasSlots files name slot slots → IfErr r (OpenedEnds Fits slots v v' e e')
+    → IfErr r (ReportSays Fits files name slot)
+opened_says Fits slots v v' e e' files name slot (Ok x) has k = tt
+opened_says Fits slots v v' e e' files name slot (Err Done) has k = absurd k
+opened_says Fits slots v v' e e' files name slot (Err Usage) has k = absurd k
+opened_says Fits slots v v' e e' files name slot (Err Memory) has k = tt
+opened_says Fits slots v v' e e' files name slot (Err SourceFault) has k = absurd k
+opened_says Fits slots v v' e e' files name slot (Err SinkFault) has k = absurd k
+opened_says Fits slots v v' e e' files name slot (Err DeviceFault) has k = tt
+opened_says Fits slots v v' e e' files name slot (Err (BadScript line cause)) has k = absurd k
+opened_says Fits slots v v' e e' files name slot (Err Missing) has k = absurd k
+opened_says Fits slots v v' e e' files name slot (Err (Small bytes)) has k = absurd k
+opened_says Fits slots v v' e e' files name slot (Err (BadGeometry field)) has k = λ two. (slots, has, k.1)
+opened_says Fits slots v v' e e' files name slot (Err Exists) has k = absurd k
+
+-- how a file is refused is how the command ends
+pub refused_ends : (Fits : ℕ → Type 0) (slot s v v' : ℕ) (e e' : List ℕ) (status : Status) → IsSlotSize slot → ReadEnds Fits v v' e e' status → ReportEnds Fits slot s s v v' e e' status
+refused_ends Fits slot s v v' e e' Done sized k = absurd k
+refused_ends Fits slot s v v' e e' Usage sized k = absurd k
+refused_ends Fits slot s v v' e e' Memory sized k = sized
+refused_ends Fits slot s v v' e e' SourceFault sized k = absurd k
+refused_ends Fits slot s v v' e e' SinkFault sized k = absurd k
+refused_ends Fits slot s v v' e e' DeviceFault sized k = (sized, k)
+refused_ends Fits slot s v v' e e' (BadScript line cause) sized k = absurd k
+refused_ends Fits slot s v v' e e' Missing sized k = sized
+refused_ends Fits slot s v v' e e' (Small bytes) sized k = sized
+refused_ends Fits slot s v v' e e' (BadGeometry field) sized k = inr (k.0, sized, k.1)
+refused_ends Fits slot s v v' e e' Exists sized k = absurd k
+
+-- and nothing is printed
+pub refused_prints : (Fits : ℕ → Type 0) (v v' : ℕ) (e e' : List ℕ) (IsText : List ℕ → Type 0) (text : List ℕ) (status : Status) → ReadEnds Fits v v' e e' status → ReportPrints IsText text text status
+refused_prints Fits v v' e e' IsText text Done k = absurd k
+refused_prints Fits v v' e e' IsText text Usage k = absurd k
+refused_prints Fits v v' e e' IsText text Memory k = refl
+refused_prints Fits v v' e e' IsText text SourceFault k = absurd k
+refused_prints Fits v v' e e' IsText text SinkFault k = absurd k
+refused_prints Fits v v' e e' IsText text DeviceFault k = refl
+refused_prints Fits v v' e e' IsText text (BadScript line cause) k = absurd k
+refused_prints Fits v v' e e' IsText text Missing k = refl
+refused_prints Fits v v' e e' IsText text (Small bytes) k = refl
+refused_prints Fits v v' e e' IsText text (BadGeometry field) k = refl
+refused_prints Fits v v' e e' IsText text Exists k = absurd k

@@ -2,7 +2,7 @@ pub mod CommandLine
 pub mod Command
 pub mod Listing
 pub mod Summary
-pub mod ReadFault
+pub mod Faults
 pub mod Device
 pub mod Status
 pub mod Report

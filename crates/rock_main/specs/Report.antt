@@ -65,6 +65,22 @@ ReportEnds Fits slot s s' v v' e e' (Small bytes) = IsSlotSize slot
 ReportEnds Fits slot s s' v v' e e' (BadGeometry field) = ((field ≡ 1) × ¬ IsSlotSize slot) ⊎ ((field ≡ 2) × IsSlotSize slot × ((slots : ℕ) × ¬ Fits slots))
 ReportEnds Fits slot s s' v v' e e' Exists = ⊥
 
+-- how an opened file of so many slots may be refused, by their number and the counts of the volume and the station
+abbrev pub OpenedEnds : (Fits : ℕ → Type 0) (slots : ℕ) → (volume_before volume_after : ℕ) → (ended_before ended_after : List ℕ) → Status → Type 0
+OpenedEnds Fits slots v v' e e' Memory = Unit {0}
+OpenedEnds Fits slots v v' e e' DeviceFault = DeviceFailed v v' e e'
+OpenedEnds Fits slots v v' e e' (BadGeometry field) = (field ≡ 2) × ¬ Fits slots
+OpenedEnds Fits slots v v' e e' status = ⊥
+
+-- how a file may be refused that is to be read, by the same
+abbrev pub ReadEnds : (Fits : ℕ → Type 0) → (volume_before volume_after : ℕ) → (ended_before ended_after : List ℕ) → Status → Type 0
+ReadEnds Fits v v' e e' Memory = Unit {0}
+ReadEnds Fits v v' e e' DeviceFault = DeviceFailed v v' e e'
+ReadEnds Fits v v' e e' Missing = Unit {0}
+ReadEnds Fits v v' e e' (Small bytes) = Unit {0}
+ReadEnds Fits v v' e e' (BadGeometry field) = (field ≡ 2) × ((slots : ℕ) × ¬ Fits slots)
+ReadEnds Fits v v' e e' status = ⊥
+
 -- when each status comes, by the files
 abbrev pub ReportSays : (ℕ → Type 0) → Files → List ℕ → ℕ → Status → Type 0
 ReportSays Fits files name slot Missing = get files name ≡ None

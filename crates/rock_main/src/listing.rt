@@ -1,12 +1,11 @@
 // The listing of a file: a line for each complete entry.
-ghost use Rattle.std.specs.Prelude.{◌≡◌, ◌≤◌, ◌++◌, length, map, All, string_bytes, IsTrue, IfOk, OnOk, IsErrOf};
+ghost use Rattle.std.specs.Prelude.{◌≡◌, ◌≤◌, ◌++◌, length, map, string_bytes, IsTrue, IfOk, OnOk, IsErrOf};
 ghost use Rattle.std.specs.List.{flat_map};
 ghost use Rattle.rock_io.specs.Faults.{Rose};
 ghost use Rattle.rock_disk.specs.Cell.{CellState};
-ghost use Rattle.db_layout.specs.Layout.{IsSlotSize};
+ghost use Rattle.rock_disk.specs.Opened.{AreSlots};
 ghost use Rattle.rock_main.specs.Listing.{line_of_found, numbers, Lists};
 
-use db_layout::MOST_SLOTS;
 use rock_disk::Station;
 use rock_rebuild::{Found, RebuildFault, scan};
 use std::alloc::{AllocError, Global};
@@ -18,9 +17,7 @@ pub fn listing_of<St: Station>(
     cells: &mut [St::C],
     slot: u32,
 ) -> Result<Vec<u8>, RebuildFault>
-    requires size { IsSlotSize slot }
-    requires wide { All (λ (c : CellState). c.width ≡ slot) (map St.C.state cells.old) }
-    requires few { length cells.old ≤ MOST_SLOTS }
+    requires { AreSlots slot (map St.C.state cells.old) }
     ensures lists { IfOk result (λ text. IsTrue St.C.tells
         → Lists slot (map (λ (c : CellState). c.now) (map St.C.state cells.old)) text.items) }
     ensures cells { map St.C.state cells.new ≡ map St.C.state cells.old }

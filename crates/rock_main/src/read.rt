@@ -1,78 +1,55 @@
 // A whole file is read: opened, reported on by one station, and given back.
-ghost use Rattle.std.specs.Prelude.{◌≡◌, ℕ, ◌≤◌, IsTrue, IsOk, IfOk, IsErrOf, All, length, map, None, ◌↔◌};
+ghost use Rattle.std.specs.Prelude.{◌≡◌, ℕ, ◌≤◌, IsTrue, IsOk, IfOk, IfErr, IsErrOf, length, map, None};
 ghost use Rattle.std.specs.FinMap.{get};
 ghost use Rattle.rock_io.specs.Faults.{Rose};
 ghost use Rattle.rock_disk.specs.Cell.{CellState};
 ghost use Rattle.rock_disk.specs.File.{IsNotAway, IsThere, IsKept};
-ghost use Rattle.rock_disk.specs.Opened.{IsSmall};
+ghost use Rattle.rock_disk.specs.Opened.{AreSlots, IsSmall};
 ghost use Rattle.db_layout.specs.Layout.{IsSlotSize};
-ghost use Rattle.rock_main.specs.ReadFault.{read_fault_of_open, read_fault_of_rebuild, read_fault_of_station, status_of_fault};
-ghost use Rattle.rock_main.specs.Device.{EndedOne, DeviceFailed, DeviceKept};
-ghost use Rattle.rock_main.specs.Report.{Fits, Prints, OfFile, HasSlots, IsFit};
+ghost use Rattle.rock_main.specs.Faults.{status_of_open, status_of_rebuild, status_of_station};
+ghost use Rattle.rock_main.specs.Device.{EndedOne, DeviceKept};
+ghost use Rattle.rock_main.specs.Report.{Fits, Prints, OfFile, HasSlots, IsFit, OpenedEnds, ReadEnds, ReportSays};
 
 use crate::report::Report;
 use crate::status::Status;
-use db_layout::MOST_SLOTS;
-use rock_disk::{OpenFault, Opened, StationFault, Volume};
+use rock_disk::{
+    OpenFault, Opened, StationFault, Volume, opened_cells_are_the_files,
+    opened_cells_may_be_given_back, opened_slots_are_wide_and_few,
+};
 use rock_rebuild::RebuildFault;
 use std::alloc::Global;
 
-/// Why a file was not read.
-#[derive(Clone, Copy, Debug, PartialEq, Eq)]
-pub enum ReadFault {
-    Missing,
-    Small { bytes: u64 },
-    /// The file has another number of slots than the report is for.
-    Unfit,
-    Device,
-    Memory,
-}
+impl From<OpenFault> for Status {
+    ghost from_gives = { λ f s. s ≡ status_of_open f };
 
-impl From<OpenFault> for ReadFault {
-    ghost from_gives = { λ f e. e ≡ read_fault_of_open f };
-
-    fn from(f: OpenFault) -> Self {
-        match f {
-            OpenFault::Missing => ReadFault::Missing,
-            OpenFault::Small { bytes } => ReadFault::Small { bytes },
-            OpenFault::Failed => ReadFault::Device,
-            OpenFault::Memory => ReadFault::Memory,
-        }
-    }
-}
-
-impl From<StationFault> for ReadFault {
-    ghost from_gives = { λ f e. e ≡ read_fault_of_station f };
-
-    fn from(f: StationFault) -> Self {
-        match f {
-            StationFault::Failed => ReadFault::Device,
-            StationFault::Memory => ReadFault::Memory,
-        }
-    }
-}
-
-impl From<RebuildFault> for ReadFault {
-    ghost from_gives = { λ f e. e ≡ read_fault_of_rebuild f };
-
-    fn from(f: RebuildFault) -> Self {
-        match f {
-            RebuildFault::Failed => ReadFault::Device,
-            RebuildFault::Memory => ReadFault::Memory,
-        }
-    }
-}
-
-impl From<ReadFault> for Status {
-    ghost from_gives = { λ f s. s ≡ status_of_fault f };
-
-    fn from(fault: ReadFault) -> Self {
+    fn from(fault: OpenFault) -> Self {
         match fault {
-            ReadFault::Missing => Status::Missing,
-            ReadFault::Small { bytes } => Status::Small { bytes },
-            ReadFault::Unfit => Status::BadGeometry { field: 2 },
-            ReadFault::Device => Status::DeviceFault,
-            ReadFault::Memory => Status::Memory,
+            OpenFault::Missing => Status::Missing,
+            OpenFault::Small { bytes } => Status::Small { bytes },
+            OpenFault::Failed => Status::DeviceFault,
+            OpenFault::Memory => Status::Memory,
+        }
+    }
+}
+
+impl From<StationFault> for Status {
+    ghost from_gives = { λ f s. s ≡ status_of_station f };
+
+    fn from(fault: StationFault) -> Self {
+        match fault {
+            StationFault::Failed => Status::DeviceFault,
+            StationFault::Memory => Status::Memory,
+        }
+    }
+}
+
+impl From<RebuildFault> for Status {
+    ghost from_gives = { λ f s. s ≡ status_of_rebuild f };
+
+    fn from(fault: RebuildFault) -> Self {
+        match fault {
+            RebuildFault::Failed => Status::DeviceFault,
+            RebuildFault::Memory => Status::Memory,
         }
     }
 }
@@ -85,12 +62,10 @@ fn text_by_station<V: Volume>(
     cells: &mut [V::C],
     slot: u32,
     report: Report,
-) -> Result<Vec<u8>, ReadFault>
+) -> Result<Vec<u8>, Status>
     requires there { IsTrue V.tells → IsThere (V.files volume.old) name.now }
     requires fits { Fits report (length cells.old) }
-    requires size { IsSlotSize slot }
-    requires wide { All (λ (c : CellState). c.width ≡ slot) (map V.C.state cells.old) }
-    requires few { length cells.old ≤ MOST_SLOTS }
+    requires slots { AreSlots slot (map V.C.state cells.old) }
     ensures prints { IfOk result (λ text. IsTrue V.C.tells
         → Prints report slot (map (λ (c : CellState). c.now) (map V.C.state cells.old)) text.items) }
     ensures cells { map V.C.state cells.new ≡ map V.C.state cells.old }
@@ -98,22 +73,18 @@ fn text_by_station<V: Volume>(
     ensures faults { V.faults volume.old ≤ V.faults volume.new }
     ensures ended { EndedOne (V.made volume.old) (V.made volume.new)
         (V.ended volume.old) (V.ended volume.new) }
-    ensures device { IsErrOf result ReadFault.Device
-        → DeviceFailed (V.faults volume.old) (V.faults volume.new)
-        (V.ended volume.old) (V.ended volume.new) }
-    ensures unfailed { (IsErrOf result ReadFault.Device → ⊥)
+    ensures unfailed { (IsErrOf result Status.DeviceFault → ⊥)
         → DeviceKept (V.faults volume.old) (V.faults volume.new)
         (V.ended volume.old) (V.ended volume.new) }
-    ensures missing { IsErrOf result ReadFault.Missing → ⊥ }
-    ensures small { (bytes : ℕ) → IsErrOf result (ReadFault.Small bytes) → ⊥ }
-    ensures unfit { IsErrOf result ReadFault.Unfit → ⊥ }
+    ensures refused { IfErr result (OpenedEnds (Fits report) (length cells.old)
+        (V.faults volume.old) (V.faults volume.new) (V.ended volume.old) (V.ended volume.new)) }
 {
     let mut station = volume.station(name)?;
     let outcome = report.text(alloc, &mut station, cells, slot);
     volume.end_station(station);
     match outcome {
         Ok(text) => Ok(text),
-        Err(fault) => Err(ReadFault::from(fault)),
+        Err(fault) => Err(Status::from(fault)),
     }
 }
 
@@ -125,11 +96,9 @@ fn text_if_fit<V: Volume>(
     cells: &mut [V::C],
     slot: u32,
     report: Report,
-) -> Result<Vec<u8>, ReadFault>
+) -> Result<Vec<u8>, Status>
     requires there { IsTrue V.tells → IsThere (V.files volume.old) name.now }
-    requires size { IsSlotSize slot }
-    requires wide { All (λ (c : CellState). c.width ≡ slot) (map V.C.state cells.old) }
-    requires few { length cells.old ≤ MOST_SLOTS }
+    requires slots { AreSlots slot (map V.C.state cells.old) }
     ensures prints { IfOk result (λ text. IsTrue V.C.tells
         → Prints report slot (map (λ (c : CellState). c.now) (map V.C.state cells.old)) text.items) }
     ensures fits { IsOk result → Fits report (length cells.old) }
@@ -138,20 +107,17 @@ fn text_if_fit<V: Volume>(
     ensures faults { V.faults volume.old ≤ V.faults volume.new }
     ensures ended { EndedOne (V.made volume.old) (V.made volume.new)
         (V.ended volume.old) (V.ended volume.new) }
-    ensures device { IsErrOf result ReadFault.Device
-        → DeviceFailed (V.faults volume.old) (V.faults volume.new)
-        (V.ended volume.old) (V.ended volume.new) }
-    ensures unfailed { (IsErrOf result ReadFault.Device → ⊥)
+    ensures unfailed { (IsErrOf result Status.DeviceFault → ⊥)
         → DeviceKept (V.faults volume.old) (V.faults volume.new)
         (V.ended volume.old) (V.ended volume.new) }
-    ensures missing { IsErrOf result ReadFault.Missing → ⊥ }
-    ensures small { (bytes : ℕ) → IsErrOf result (ReadFault.Small bytes) → ⊥ }
-    ensures unfit { IsErrOf result ReadFault.Unfit → Fits report (length cells.old) → ⊥ }
-    ensures early { (Fits report (length cells.old) → ⊥) → IsErrOf result ReadFault.Unfit
+    ensures refused { IfErr result (OpenedEnds (Fits report) (length cells.old)
+        (V.faults volume.old) (V.faults volume.new) (V.ended volume.old) (V.ended volume.new)) }
+    ensures unfit { (Fits report (length cells.old) → ⊥)
+        → IsErrOf result (Status.BadGeometry 2)
         × (V.made volume.new ≡ V.made volume.old) × (V.ended volume.new ≡ V.ended volume.old) }
 {
     if !report.is_for(cells.len()) {
-        return Err(ReadFault::Unfit);
+        return Err(Status::BadGeometry { field: 2 });
     }
     text_by_station(alloc, volume, name, cells, slot, report)
 }
@@ -163,7 +129,7 @@ pub fn read_file<V: Volume>(
     name: &str,
     slot: u32,
     report: Report,
-) -> Result<Vec<u8>, ReadFault>
+) -> Result<Vec<u8>, Status>
     requires size { IsSlotSize slot }
     requires home { IsTrue V.tells → IsNotAway (get (V.files volume.old) name.now) }
 
@@ -177,17 +143,15 @@ pub fn read_file<V: Volume>(
     ensures faults { V.faults volume.old ≤ V.faults volume.new }
 
     // When each refusal comes.
-    ensures missing { IsTrue V.tells → (IsErrOf result ReadFault.Missing
-        ↔ (get (V.files volume.old) name.now ≡ None)) }
+    ensures refused { IfErr result (ReadEnds (Fits report) (V.faults volume.old) (V.faults volume.new)
+        (V.ended volume.old) (V.ended volume.new)) }
+    ensures says { IsTrue V.tells
+        → IfErr result (ReportSays (Fits report) (V.files volume.old) name.now slot) }
+    ensures missing { IsTrue V.tells → get (V.files volume.old) name.now ≡ None
+        → IsErrOf result Status.Missing }
     ensures small { IsTrue V.tells → (bytes : ℕ)
-        → (IsErrOf result (ReadFault.Small bytes)
-        ↔ IsSmall (V.files volume.old) name.now slot bytes) }
-    ensures unfit { IsErrOf result ReadFault.Unfit → (slots : ℕ) × ¬ Fits report slots
-        × (IsTrue V.tells → HasSlots (V.files volume.old) name.now slot slots) }
-    ensures device { IsErrOf result ReadFault.Device
-        → DeviceFailed (V.faults volume.old) (V.faults volume.new)
-        (V.ended volume.old) (V.ended volume.new) }
-    ensures unfailed { (IsErrOf result ReadFault.Device → ⊥)
+        → IsSmall (V.files volume.old) name.now slot bytes → IsErrOf result (Status.Small bytes) }
+    ensures unfailed { (IsErrOf result Status.DeviceFault → ⊥)
         → DeviceKept (V.faults volume.old) (V.faults volume.new)
         (V.ended volume.old) (V.ended volume.new) }
 
@@ -195,8 +159,11 @@ pub fn read_file<V: Volume>(
     ensures early { IsTrue V.tells → (slots : ℕ)
         → HasSlots (V.files volume.old) name.now slot slots → (Fits report slots → ⊥)
         → (V.made volume.new ≡ V.made volume.old) × (V.ended volume.new ≡ V.ended volume.old)
-        × (IsErrOf result ReadFault.Device → Rose (V.faults volume.old) (V.faults volume.new)) }
+        × (IsErrOf result Status.DeviceFault → Rose (V.faults volume.old) (V.faults volume.new)) }
 {
+    opened_slots_are_wide_and_few();
+    opened_cells_are_the_files();
+    opened_cells_may_be_given_back();
     let Opened {
         header,
         mut cells,

@@ -1,10 +1,10 @@
 // Commands that read a whole file and print what they tell of it.
-ghost use Rattle.std.specs.Prelude.{◌≡◌, ℕ, ◌≤◌, IsTrue, IfOk, IsErrOf, All, length, map, None, ◌↔◌};
+ghost use Rattle.std.specs.Prelude.{◌≡◌, ℕ, ◌≤◌, IsTrue, IfOk, IsErrOf, length, map, None, ◌↔◌};
 ghost use Rattle.std.specs.FinMap.{get};
 ghost use Rattle.rock_io.specs.Faults.{Rose};
 ghost use Rattle.rock_disk.specs.Cell.{CellState};
 ghost use Rattle.rock_disk.specs.File.{IsNotAway, IsKept};
-ghost use Rattle.rock_disk.specs.Opened.{IsSmall};
+ghost use Rattle.rock_disk.specs.Opened.{AreSlots, IsSmall};
 ghost use Rattle.db_layout.specs.Layout.{IsSlotSize};
 ghost use Rattle.rock_main.specs.Device.{EndedOne, DeviceKept};
 ghost use Rattle.rock_main.specs.Report.{IsAnchors, Fits, Prints, OfFile, HasSlots, ReportEnds, ReportSays, ReportPrints};
@@ -13,7 +13,7 @@ use crate::listing::listing_of;
 use crate::read::read_file;
 use crate::status::Status;
 use crate::summary::summary_of;
-use db_layout::{MOST_SLOTS, slot_size_ok};
+use db_layout::slot_size_ok;
 use rock_disk::{Station, Volume};
 use rock_io::{Sink, write_all};
 use rock_rebuild::RebuildFault;
@@ -49,9 +49,7 @@ impl Report {
         slot: u32,
     ) -> Result<Vec<u8>, RebuildFault>
         requires fits { Fits self (length cells.old) }
-        requires size { IsSlotSize slot }
-        requires wide { All (λ (c : CellState). c.width ≡ slot) (map St.C.state cells.old) }
-        requires few { length cells.old ≤ MOST_SLOTS }
+        requires slots { AreSlots slot (map St.C.state cells.old) }
         ensures prints { IfOk result (λ text. IsTrue St.C.tells
             → Prints self slot (map (λ (c : CellState). c.now) (map St.C.state cells.old)) text.items) }
         ensures cells { map St.C.state cells.new ≡ map St.C.state cells.old }
@@ -125,7 +123,7 @@ pub fn print_report<V: Volume, K: Sink>(
     }
     let text = match read_file(alloc, volume, name, slot, report) {
         Ok(text) => text,
-        Err(fault) => return Status::from(fault),
+        Err(status) => return status,
     };
     match write_all(out, &text) {
         Ok(()) => Status::Done,

@@ -13,7 +13,7 @@ use crate::command::Command;
 use crate::create::create_file;
 use crate::report::{Report, print_report};
 use crate::status::Status;
-use rock_disk::{Volume, kept_files_have_their_bytes};
+use rock_disk::{Volume, created_files_are_in, kept_files_have_their_bytes};
 use rock_io::{Sink, Source, Words};
 use std::alloc::Global;
 use std::sync::Wait;
@@ -140,6 +140,7 @@ where
     ensures script_faults { S.faults script.new ≡ S.faults script.old }
 {
     kept_files_have_their_bytes();
+    created_files_are_in();
     let Some(command) = Command::parse(words) else {
         return Status::Usage;
     };

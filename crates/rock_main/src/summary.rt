@@ -1,11 +1,10 @@
 // The summary of a file: what a rebuild keeps of it, in one line.
-ghost use Rattle.std.specs.Prelude.{◌≡◌, ◌<◌, ◌≤◌, length, map, All, string_bytes, IsTrue, IfOk, IsErrOf};
+ghost use Rattle.std.specs.Prelude.{◌≡◌, ◌<◌, ◌≤◌, length, map, string_bytes, IsTrue, IfOk, IsErrOf};
 ghost use Rattle.rock_io.specs.Faults.{Rose};
 ghost use Rattle.rock_disk.specs.Cell.{CellState};
-ghost use Rattle.db_layout.specs.Layout.{IsSlotSize};
+ghost use Rattle.rock_disk.specs.Opened.{AreSlots};
 ghost use Rattle.rock_main.specs.Summary.{used_in, front, back, line_of_rebuilt, Sums};
 
-use db_layout::MOST_SLOTS;
 use rock_disk::Station;
 use rock_rebuild::{RebuildFault, Rebuilt, rebuild};
 use std::alloc::{AllocError, Global};
@@ -19,9 +18,7 @@ pub fn summary_of<St: Station>(
     anchors: u32,
 ) -> Result<Vec<u8>, RebuildFault>
     requires some { 0 < anchors }
-    requires size { IsSlotSize slot }
-    requires wide { All (λ (c : CellState). c.width ≡ slot) (map St.C.state cells.old) }
-    requires few { length cells.old ≤ MOST_SLOTS }
+    requires slots { AreSlots slot (map St.C.state cells.old) }
     ensures sums { IfOk result (λ text. IsTrue St.C.tells
         → Sums anchors slot (map (λ (c : CellState). c.now) (map St.C.state cells.old)) text.items) }
     ensures cells { map St.C.state cells.new ≡ map St.C.state cells.old }

@@ -1,14 +1,11 @@
-ghost use Rattle.std.specs.Prelude.{◌≡◌, ◌<◌, length, IfOk};
+ghost use Rattle.std.specs.Prelude.{IfOk};
 ghost use Rattle.rock_disk.specs.File.{NoneAway};
 ghost use Rattle.rock_disk.specs.Memory.{volume_files};
-ghost use Rattle.rebuild_model.specs.Image.{IsFile};
 
 use crate::rock::rock;
 use crate::status::Status;
-use patches::{Patch, patches};
-use rebuild_model::{FileImage, Images, complete_at, rebuilt_of};
 use rock_disk::MemVolume;
-use rock_io::{MemSink, MemSource, Memory, Octets, Words};
+use rock_io::{MemSink, MemSource, Memory, Words};
 use std::alloc::{AllocError, Global};
 use std::sync::Wait;
 use std::test::Fail;
@@ -17,7 +14,6 @@ use std::thread::Threads;
 mod checks;
 mod creates;
 mod messages;
-mod patches;
 
 const SLOT: usize = 512;
 
@@ -491,159 +487,5 @@ fn slots_that_are_no_entry_are_free(rt: HostRuntime) -> Result<(), Fail> {
     let told = printed(&rt, alloc, &file, &["check", "db", "512", "1"])?;
     let line = b"slots=3 kept=0 used=0 free=3 version=5\n";
     assert_eq!(rt; told.as_slice(), line.as_slice());
-    Ok(())
-}
-
-/// Four slots: `http://a/b` of version 7 in slots 2 and 0, `http://a/c` of version 3 in slot 1, and one
-/// that was never written.
-fn four_slots(alloc: Global) -> Result<Vec<u8>, AllocError> {
-    let mut file = empty_file(alloc)?;
-    push_slot(&mut file, 0, Some((477, 5, 7, 2, -1)))?;
-    push_entry(&mut file, 1, 3, &KEY_C, "http://a/c", "hello")?;
-    push_slot(&mut file, 2, Some((0, 472, 7, 2, 0)))?;
-    push_slot(&mut file, 3, None)?;
-    Ok(file)
-}
-
-/// The file with another byte at a place of its slots.
-fn changed(mut file: Vec<u8>, at: usize, change: u8) -> Vec<u8> {
-    if let Some(byte) = file.get_mut(at.saturating_add(16_384)) {
-        *byte ^= change;
-    }
-    file
-}
-
-fn octets(alloc: Global, image: &[u8]) -> Result<Octets, Memory>
-    requires { length image.now ≡ 512 }
-    ensures { IfOk result (λ bytes. length bytes ≡ 512) }
-{
-    Ok(Octets::from_vec(image.to_vec(alloc)?))
-}
-
-fn four_images(
-    alloc: Global,
-    zero: Octets,
-    one: Octets,
-    two: Octets,
-    three: Octets,
-) -> Result<FileImage, Memory>
-    requires zero { length zero ≡ 512 }
-    requires one { length one ≡ 512 }
-    requires two { length two ≡ 512 }
-    requires three { length three ≡ 512 }
-    ensures { IfOk result (λ image. IsFile image.slot image.slots × (length image.slots ≡ 4)) }
-{
-    let mut images = Vec::new(alloc);
-    images.push(zero)?;
-    images.push(one)?;
-    images.push(two)?;
-    images.push(three)?;
-    Ok(FileImage {
-        slot: 512,
-        slots: Images::from_vec(images),
-    })
-}
-
-fn image_of(alloc: Global, file: &[u8]) -> Result<FileImage, Memory>
-    requires { length file.now ≡ 18432 }
-    ensures { IfOk result (λ image. IsFile image.slot image.slots × (length image.slots ≡ 4)) }
-{
-    let zero = octets(alloc, &file[16_384..16_896])?;
-    let one = octets(alloc, &file[16_896..17_408])?;
-    let two = octets(alloc, &file[17_408..17_920])?;
-    let three = octets(alloc, &file[17_920..18_432])?;
-    four_images(alloc, zero, one, two, three)
-}
-
-/// The lines of the entries that the plain function finds.
-fn plain_lines(alloc: Global, image: &FileImage) -> Result<Vec<u8>, Memory>
-    requires file { IsFile image.now.slot image.now.slots }
-    requires count { length image.now.slots ≡ 4 }
-{
-    let mut lines = Vec::new(alloc);
-    for first in 0..4 {
-        if let Some(found) = complete_at(alloc, image, first)? {
-            let slots = found.chain.as_slice().len();
-            let head = format!(in alloc;
-                "ENTRY {} {} {slots} {} ",
-                found.first, found.version, found.length
-            )?;
-            lines.extend_from_slice(head.as_bytes())?;
-            lines.extend_from_slice(found.url.as_slice())?;
-            lines.push(b'\n')?;
-        }
-    }
-    Ok(lines)
-}
-
-/// The line of what the plain function keeps for so many anchors.
-fn plain_summary(alloc: Global, image: &FileImage, anchors: u32) -> Result<String, Memory>
-    requires file { IsFile image.now.slot image.now.slots }
-    requires some { 0 < anchors }
-{
-    let rebuilt = rebuilt_of(alloc, image, anchors)?;
-    let kept = rebuilt.winners.as_slice().len();
-    let mut used = 0u32;
-    let mut free = 0u32;
-    for owner in rebuilt.owner.as_slice() {
-        if *owner > 0 {
-            used = used.saturating_add(1);
-        } else {
-            free = free.saturating_add(1);
-        }
-    }
-    let version = rebuilt.greatest;
-    Ok(format!(in alloc; "slots=4 kept={kept} used={used} free={free} version={version}\n")?)
-}
-
-/// Whether a file of four slots is reported as the plain functions say.
-fn is_reported<R: Threads + Wait + Sync>(rt: &R, alloc: Global, file: &[u8]) -> Result<bool, Fail>
-    requires { length file.now ≡ 18432 }
-{
-    let image = image_of(alloc, file)?;
-    let listing = printed(rt, alloc, file, &["list", "db", "512"])?;
-    let one = printed(rt, alloc, file, &["check", "db", "512", "1"])?;
-    let four = printed(rt, alloc, file, &["check", "db", "512", "4"])?;
-    Ok(
-        listing.as_slice() == plain_lines(alloc, &image)?.as_slice()
-            && one.as_slice() == plain_summary(alloc, &image, 1)?.as_bytes()
-            && four.as_slice() == plain_summary(alloc, &image, 4)?.as_bytes(),
-    )
-}
-
-/// The file of four slots with other bytes in it.
-fn patched(alloc: Global, patches: &[Patch]) -> Result<Vec<u8>, AllocError> {
-    let mut file = four_slots(alloc)?;
-    for (slot, at, bytes) in patches {
-        file = with_bytes(file, slot.saturating_mul(SLOT).saturating_add(*at), bytes);
-    }
-    Ok(file)
-}
-
-#[test]
-fn files_of_the_plain_functions_are_reported_as_they_say(rt: HostRuntime) -> Result<(), Fail> {
-    let alloc = rt.alloc();
-    for patch in patches() {
-        let file = patched(alloc, patch)?;
-        assert_eq!(rt; file.len(), 18_432);
-        assert!(rt; is_reported(&rt, alloc, &file)?, "{patch:?}");
-    }
-    Ok(())
-}
-
-#[test]
-fn changed_files_are_reported_as_the_plain_functions_say(rt: HostRuntime) -> Result<(), Fail> {
-    let alloc = rt.alloc();
-    for at in 0..2_048 {
-        // Behind the metadata any byte may stand.
-        if at % 512 > 82 {
-            continue;
-        }
-        for change in [0x01, 0x80, 0xff] {
-            let file = changed(four_slots(alloc)?, at, change);
-            assert_eq!(rt; file.len(), 18_432);
-            assert!(rt; is_reported(&rt, alloc, &file)?, "{change} at {at}");
-        }
-    }
     Ok(())
 }

@@ -7,7 +7,7 @@ use Rattle.rebuild_model.specs.Image.{IsFile, IsGreatest}
 use Rattle.rock_rebuild.specs.Kept.{IsGreatestOf}
 use Rattle.rock_rebuild.specs.Read.{AreImagesOf}
 use Rattle.rock_rebuild.specs.Gathered.{AreFound}
-use Rattle.db_layout.specs.Layout.{IsSlotSize}
+use Rattle.rock_disk.specs.Opened.{AreSlots}
 use Rattle.rock_rebuild.specs.Scan.{IsScan}
 use Rattle.rock_rebuild.specs.declared.outcome.Scan.{Scan}
 use Rattle.rock_rebuild.proofs.Cells.{images}
@@ -17,11 +17,11 @@ pub count_of : {C : Type 0} (state : C → CellState) (cells : List C) → lengt
 count_of state cells = length-map (map state cells) (λ c. c.now) ∙ length-map cells state
 
 -- images of so many cells, each as wide as a slot, are those of a file
-pub file_of : {C : Type 0} (state : C → CellState) (tells : Bool) (cells : List C) (slot : ℕ) (images : List (List ℕ)) → AreImagesOf tells slot (map state cells) images → IsSlotSize slot → length cells ≤ 1048576
+pub file_of : {C : Type 0} (state : C → CellState) (tells : Bool) (cells : List C) (slot : ℕ) (images : List (List ℕ)) → AreImagesOf tells slot (map state cells) images → AreSlots slot (map state cells)
     → IsFile slot images
-file_of state tells cells slot images are sized few = record {
-  few = omega (arith, are.count, length-map cells state, few);
-  sized = omega (arith, sized.from);
+file_of state tells cells slot images are slots = record {
+  few = omega (arith, are.count, slots.few);
+  sized = omega (arith, slots.size.from);
   wide = are.wide;
 }
 

@@ -1,6 +1,7 @@
 -- What is kept of the slots that were read.
 use Rattle.std.specs.Prelude.{◌≡◌, ℕ, ◌<◌, ◌≤◌, pos, List, length, take, slice_index_or, Option, None, MatchOption}
 use Rattle.slot_cell.specs.declared.header.Header.{Header}
+use Rattle.slot_cell.specs.declared.header.TheConstants.{HEADER_SIZE}
 use Rattle.slot_cell.specs.Header.{header_of, header_bytes, payload_of, IsSane}
 use Rattle.rebuild_model.specs.Image.{image_at}
 use Rattle.swap_meta.specs.Meta.{Spells}
@@ -10,7 +11,7 @@ use Rattle.rock_rebuild.specs.declared.entry_head.Head.{Head}
 -- the header of a slot that is sane in a file of so many slots of so many bytes
 pub record IsHeaderOf (slots slot : ℕ) (image : List ℕ) (header : Header) : Type 0 where
   pub is : header ≡ header_of image
-  pub spelled : header_bytes header ≡ take 40 image
+  pub spelled : header_bytes header ≡ take HEADER_SIZE image
   pub sane : IsSane header slots slot
 
 -- it, or none where the slot is not sane

@@ -16,7 +16,7 @@ use std::alloc::{AllocError, Global};
 
 /// The complete entry that begins at a slot, if one does, where `head` is what the slot says of it.
 /// The URL's key is taken last, for chains that are whole. What `chain` holds does not matter.
-fn entry_at(
+fn find_at(
     alloc: Global,
     table: &mut Table,
     chain: &mut Vec<u32>,
@@ -86,7 +86,7 @@ pub fn entries_of(
     let mut chain = Vec::new(alloc);
     for first in 0..heads.len() as u32 {
         let head = heads[first as usize].take();
-        let entry = entry_at(alloc, table, &mut chain, slot, first, head)?;
+        let entry = find_at(alloc, table, &mut chain, slot, first, head)?;
         push_entry(&mut found, entry)?;
     }
     Ok(found)

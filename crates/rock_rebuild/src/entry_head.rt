@@ -40,7 +40,7 @@ pub fn head_of(
     image: &[u8],
 ) -> Result<Option<Head>, AllocError>
     requires read { header.now ≡ header_of image.now }
-    requires room { 40 + header.now.payload_size ≤ length image.now }
+    requires room { HEADER_SIZE + header.now.payload_size ≤ length image.now }
     ensures { IfOk result (λ head. MatchOption head (HasNoHead number image.now) (IsHead number image.now)) }
 {
     if i64::from(header.first_slot) != i64::from(number) {

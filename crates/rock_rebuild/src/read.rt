@@ -1,13 +1,12 @@
 // The slots of a file are read in order, each once.
-ghost use Rattle.std.specs.Prelude.{◌≡◌, ◌≤◌, ℕ, List, length, map, All, IfOk, IsErrOf};
+ghost use Rattle.std.specs.Prelude.{◌≡◌, ◌≤◌, ℕ, List, length, map, IfOk, IsErrOf};
 ghost use Rattle.rock_io.specs.Faults.{Rose};
-ghost use Rattle.rock_disk.specs.Cell.{CellState};
+ghost use Rattle.rock_disk.specs.Opened.{AreSlots};
 ghost use Rattle.rock_rebuild.specs.Read.{AreImagesOf};
 ghost use Rattle.rock_rebuild.specs.Slots.{AreRead};
 
 use crate::outcome::RebuildFault;
 use crate::slots::Slots;
-use db_layout::MOST_SLOTS;
 use rock_disk::Station;
 use std::alloc::Global;
 
@@ -18,8 +17,7 @@ pub fn read_slots<St: Station>(
     cells: &mut [St::C],
     slot: u32,
 ) -> Result<Slots, RebuildFault>
-    requires wide { All (λ (c : CellState). c.width ≡ slot) (map St.C.state cells.old) }
-    requires few { length cells.old ≤ MOST_SLOTS }
+    requires { AreSlots slot (map St.C.state cells.old) }
     ensures read { IfOk result (λ slots. (images : List (List ℕ))
         × AreImagesOf St.C.tells slot (map St.C.state cells.old) images × AreRead (length cells.old) slot images slots) }
     ensures count { IfOk result (λ slots. (length slots.table ≡ length cells.old)

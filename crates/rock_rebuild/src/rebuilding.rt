@@ -1,9 +1,9 @@
 // A rebuild of a file.
-ghost use Rattle.std.specs.Prelude.{◌≡◌, ◌<◌, ◌≤◌, ℕ, List, length, map, All, IsTrue, IfOk, IsErrOf};
+ghost use Rattle.std.specs.Prelude.{◌≡◌, ◌<◌, ◌≤◌, ℕ, List, map, IsTrue, IfOk, IsErrOf};
 ghost use Rattle.rock_io.specs.Faults.{Rose};
 ghost use Rattle.rock_disk.specs.Cell.{CellState};
 ghost use Rattle.rebuild_model.specs.Rebuilt.{IsRebuilt};
-ghost use Rattle.db_layout.specs.Layout.{IsSlotSize};
+ghost use Rattle.rock_disk.specs.Opened.{AreSlots};
 ghost use Rattle.rock_rebuild.specs.Read.{AreImagesOf};
 
 use crate::best::best_of;
@@ -12,7 +12,6 @@ use crate::owners::owners_of;
 use crate::scanning::scan;
 use crate::winners::winners_of;
 use crate::{FoundList, Rebuilt};
-use db_layout::MOST_SLOTS;
 use rebuild_model::winners_and_owners_make_a_rebuild;
 use rock_disk::Station;
 use rock_io::Numbers;
@@ -37,9 +36,7 @@ pub fn rebuild<St: Station>(
     slot: u32,
     anchors: u32,
 ) -> Result<Rebuilt, RebuildFault>
-    requires size { IsSlotSize slot }
-    requires wide { All (λ (c : CellState). c.width ≡ slot) (map St.C.state cells.old) }
-    requires few { length cells.old ≤ MOST_SLOTS }
+    requires slots { AreSlots slot (map St.C.state cells.old) }
     requires some { 0 < anchors }
     ensures read { IfOk result (λ rebuilt. (images : List (List ℕ))
         × AreImagesOf St.C.tells slot (map St.C.state cells.old) images × IsRebuilt slot images anchors rebuilt) }

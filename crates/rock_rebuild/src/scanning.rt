@@ -1,8 +1,8 @@
 // A scan of a file.
-ghost use Rattle.std.specs.Prelude.{◌≡◌, ◌≤◌, ℕ, List, length, map, All, IsTrue, IfOk, IsErrOf};
+ghost use Rattle.std.specs.Prelude.{◌≡◌, ◌≤◌, ℕ, List, map, IsTrue, IfOk, IsErrOf};
 ghost use Rattle.rock_io.specs.Faults.{Rose};
 ghost use Rattle.rock_disk.specs.Cell.{CellState};
-ghost use Rattle.db_layout.specs.Layout.{IsSlotSize};
+ghost use Rattle.rock_disk.specs.Opened.{AreSlots};
 ghost use Rattle.rock_rebuild.specs.Read.{AreImagesOf};
 ghost use Rattle.rock_rebuild.specs.Scan.{IsScan};
 
@@ -10,7 +10,6 @@ use crate::FoundList;
 use crate::entries::entries_of;
 use crate::outcome::{RebuildFault, Scan};
 use crate::read::read_slots;
-use db_layout::MOST_SLOTS;
 use rock_disk::Station;
 use std::alloc::Global;
 
@@ -30,9 +29,7 @@ pub fn scan<St: Station>(
     cells: &mut [St::C],
     slot: u32,
 ) -> Result<Scan, RebuildFault>
-    requires size { IsSlotSize slot }
-    requires wide { All (λ (c : CellState). c.width ≡ slot) (map St.C.state cells.old) }
-    requires few { length cells.old ≤ MOST_SLOTS }
+    requires { AreSlots slot (map St.C.state cells.old) }
     ensures read { IfOk result (λ scan. (images : List (List ℕ))
         × AreImagesOf St.C.tells slot (map St.C.state cells.old) images × IsScan slot images scan) }
     ensures scanned { IfOk result (λ scan. IsTrue St.C.tells

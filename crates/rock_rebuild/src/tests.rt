@@ -1,10 +1,9 @@
-ghost use Rattle.std.specs.Prelude.{◌≡◌, ◌<◌, ◌≤◌, length, map, All, IfOk, OnOk};
-ghost use Rattle.rock_disk.specs.Cell.{CellState};
+ghost use Rattle.std.specs.Prelude.{◌≡◌, ◌<◌, ◌≤◌, length, map, IfOk, OnOk};
 ghost use Rattle.rock_disk.specs.File.{NoneAway};
 ghost use Rattle.rock_disk.specs.Memory.{cell_state, volume_files, volume_made, volume_ended};
+ghost use Rattle.rock_disk.specs.Opened.{AreSlots};
 
 use super::*;
-use db_layout::MOST_SLOTS;
 use rock_disk::{
     MemCell, MemStation, MemVolume, Opened, Volume, opened_cells_are_the_files,
     opened_slots_are_wide_and_few,
@@ -85,8 +84,7 @@ fn open(
 ) -> Result<(MemStation, Vec<MemCell>), Fail>
     requires home { NoneAway (volume_files volume.old) }
     requires ended { length (volume_ended volume.old) ≤ volume_made volume.old }
-    ensures wide { IfOk result (λ o. All (λ (c : CellState). c.width ≡ 512) (map cell_state o.1.items)) }
-    ensures few { IfOk result (λ o. length o.1.items ≤ MOST_SLOTS) }
+    ensures slots { IfOk result (λ o. AreSlots 512 (map cell_state o.1.items)) }
     ensures ended { OnOk result (length (volume_ended volume.new) < volume_made volume.new) }
 {
     opened_slots_are_wide_and_few();

@@ -2,6 +2,7 @@
 use Rattle.std.specs.Prelude.{◌≡◌, ℕ, ◌+◌, ◌-◌, ◌^◌, ◌<◌, ◌≤◌, FitsSigned, pos, negsuc, ◌≤ℤ◌, ◌<ℤ◌, List, ◌++◌, length, take, drop, replicate}
 use Rattle.std.specs.Int.{w32, w64, to_le_bytes, from_le_bytes, cast_signed, cast_unsigned}
 use Rattle.slot_cell.specs.declared.header.Header.{Header}
+use Rattle.slot_cell.specs.declared.header.TheConstants.{HEADER_SIZE, GREATEST_VERSION}
 
 -- the 40 bytes of a header
 unfoldable pub header_bytes : Header → List ℕ
@@ -34,11 +35,11 @@ pub record IsInRange (h : Header) : Type 0 where
 
 -- the payload of a slot: the bytes behind its header, as many as the header says
 abbrev pub payload_of : List ℕ → List ℕ
-payload_of image = take (header_of image).payload_size (drop 40 image)
+payload_of image = take (header_of image).payload_size (drop HEADER_SIZE image)
 
 -- the image of a slot: its header, its payload, and zeros to its end
 abbrev pub slot_image : Header → List ℕ → ℕ → List ℕ
-slot_image h payload slot = header_bytes h ++ payload ++ replicate (slot - 40 - length payload) 0
+slot_image h payload slot = header_bytes h ++ payload ++ replicate (slot - HEADER_SIZE - length payload) 0
 
 -- the header of a slot that holds nothing
 pub record IsEmpty (h : Header) : Type 0 where
@@ -53,6 +54,6 @@ pub record IsSane (h : Header) (slots slot : ℕ) : Type 0 where
   pub next_from : negsuc 0 ≤ℤ h.next_slot
   pub next_below : h.next_slot <ℤ pos slots
   pub version_from : 0 < h.version
-  pub version_to : h.version ≤ 4294901760
+  pub version_to : h.version ≤ GREATEST_VERSION
   pub payload_from : 0 < h.payload_size
-  pub payload_to : h.payload_size + 40 ≤ slot
+  pub payload_to : h.payload_size + HEADER_SIZE ≤ slot

@@ -32,9 +32,9 @@ impl Header {
 
     /// Reads the header at the front of a slot's bytes. None where there are fewer than 40.
     pub fn decode(bytes: &[u8]) -> Option<Header>
-        ensures short { IsNone result ↔ (length bytes.now < 40) }
+        ensures short { IsNone result ↔ (length bytes.now < HEADER_SIZE) }
         ensures value { IfSome result (λ header. header ≡ header_of bytes.now) }
-        ensures spelled { IfSome result (λ header. header_bytes header ≡ take 40 bytes.now) }
+        ensures spelled { IfSome result (λ header. header_bytes header ≡ take HEADER_SIZE bytes.now) }
         ensures only { IfSome result (λ header. (h : Header) (rest : List ℕ) → IsInRange h → bytes.now ≡ header_bytes h ++ rest → header ≡ h) }
     {
         let (k0, rest) = bytes.split_first_chunk()?;
@@ -113,13 +113,13 @@ fn is_within(number: i32, least: i64, slots: u32) -> bool
 }
 
 fn is_version(version: u32) -> bool
-    ensures { IsTrue result ↔ ((0 < version) × (version ≤ 4294901760)) }
+    ensures { IsTrue result ↔ ((0 < version) × (version ≤ GREATEST_VERSION)) }
 {
     0 < version && version <= GREATEST_VERSION
 }
 
 fn is_payload(size: u32, slot: usize) -> bool
-    ensures { IsTrue result ↔ ((0 < size) × (size + 40 ≤ slot)) }
+    ensures { IsTrue result ↔ ((0 < size) × (size + HEADER_SIZE ≤ slot)) }
 {
     0 < size && size as usize + HEADER_SIZE <= slot
 }

@@ -7,7 +7,7 @@ use crate::header::{HEADER_SIZE, Header};
 /// Writes the image of a slot: its header, its payload, and zeros to the end of `out`.
 pub fn build_image(header: &Header, payload: &[u8], out: &mut [u8])
     requires size { length payload.now ≡ header.now.payload_size }
-    requires room { 40 + length payload.now ≤ length out.old }
+    requires room { HEADER_SIZE + length payload.now ≤ length out.old }
     ensures image { out.new ≡ slot_image header.now payload.now (length out.old) }
     ensures header { header_of out.new ≡ header.now }
     ensures payload { payload_of out.new ≡ payload.now }
@@ -27,7 +27,7 @@ pub fn build_image(header: &Header, payload: &[u8], out: &mut [u8])
 /// `None` where there are fewer than 40 bytes, or the header is not sane in such a file of slots of
 /// this length.
 pub fn read_image(bytes: &[u8], slots: u32) -> Option<(Header, &[u8])>
-    ensures none { IsNone result ↔ ((length bytes.now < 40) ⊎ ¬ IsSane (header_of bytes.now) slots (length bytes.now)) }
+    ensures none { IsNone result ↔ ((length bytes.now < HEADER_SIZE) ⊎ ¬ IsSane (header_of bytes.now) slots (length bytes.now)) }
     ensures header { IfSome result (λ found. found.0 ≡ header_of bytes.now) }
     ensures payload { IfSome result (λ found. found.1.now ≡ payload_of bytes.now) }
     ensures sane { IfSome result (λ found. IsSane found.0 slots (length bytes.now)) }

@@ -4,10 +4,18 @@ ghost use Rattle.std.specs.Prelude.{◌≡◌, ℕ, List, ◌++◌, ◌<◌, All
 ghost use Rattle.slot_cell.specs.declared.header.Header.{Header};
 ghost use Rattle.slot_cell.specs.Header.{header_of, header_bytes, payload_of, slot_image, IsInRange};
 
+use crate::header::{GREATEST_VERSION, HEADER_SIZE};
+
+/// The numbers of the limits.
+pub fn limits_are_these()
+    ensures header { HEADER_SIZE ≡ 40 }
+    ensures version { GREATEST_VERSION ≡ 4294901760 }
+{}
+
 /// Writing a header and reading one undo each other.
 pub fn headers_are_read_as_written()
     ensures read { (h : Header) (rest : List ℕ) → IsInRange h → header_of (header_bytes h ++ rest) ≡ h }
-    ensures written { (bytes : List ℕ) → length bytes ≡ 40 → All (λ byte. byte < 256) bytes →
+    ensures written { (bytes : List ℕ) → length bytes ≡ HEADER_SIZE → All (λ byte. byte < 256) bytes →
         header_bytes (header_of bytes) ≡ bytes }
 {}
 

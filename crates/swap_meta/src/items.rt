@@ -3,7 +3,7 @@ ghost use Rattle.swap_meta.specs.Meta.{Item, item_bytes, IsKey, IsUrl, ItemsFail
 ghost use Rattle.swap_meta.specs.Seen.{item_of, AddFails, IsSeen, HoldsItems};
 
 use crate::fault::MetaFault;
-use crate::head::split_head;
+use crate::meta_head::split_head;
 
 /// The type of the item that holds the key.
 pub const KEY: u8 = 3;

@@ -7,9 +7,9 @@
 #![tactic(auto)]
 
 mod fault;
-mod head;
 mod items;
 mod laws;
+mod meta_head;
 mod reading;
 mod writing;
 

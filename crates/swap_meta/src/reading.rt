@@ -3,8 +3,8 @@ ghost use Rattle.swap_meta.specs.declared.fault.MetaFault.{MetaFault};
 ghost use Rattle.swap_meta.specs.Meta.{Spells, Frames, FrameFails, Refuses};
 
 use crate::fault::MetaFault;
-use crate::head::{HEAD, split_head};
 use crate::items::read_items;
+use crate::meta_head::{HEAD, split_head};
 
 /// The first byte of metadata.
 pub const MARK: u8 = 3;

@@ -2,8 +2,8 @@ ghost use Rattle.std.specs.Prelude.{◌≡◌, ℕ, ◌+◌, ◌^◌, ◌<◌, �
 ghost use Rattle.std.specs.Int.{w32, to_le_bytes};
 ghost use Rattle.swap_meta.specs.Meta.{Spells, meta_bytes};
 
-use crate::head::HEAD;
 use crate::items::{KEY, URL};
+use crate::meta_head::HEAD;
 use crate::reading::MARK;
 
 /// How many bytes metadata takes besides its URL: the mark and the whole length, the item of the

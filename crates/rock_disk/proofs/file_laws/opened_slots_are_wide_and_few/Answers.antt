@@ -10,3 +10,10 @@ returns-clause-count c slot bytes header cells s = count_of cells _ slot s.cell_
 
 pub returns-clause-few : goal.returns-clause-few
 returns-clause-few c slot bytes header cells s = omega (arith, count_of cells _ slot s.cell_shapes)
+
+pub returns-clause-slots : goal.returns-clause-slots
+returns-clause-slots c slot bytes header cells size s = record {
+  size = size;
+  wide = widths cells 0 _ slot s.cell_shapes;
+  few = omega (arith, count_of cells _ slot s.cell_shapes);
+}

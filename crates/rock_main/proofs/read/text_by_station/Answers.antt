@@ -1,5 +1,6 @@
-use Rattle.std.proofs.Common.{◌∙◌}
-use Rattle.rock_main.proofs.Telling.{none_ended, one_ended, succeeded, not_failed_station, not_failed_text}
+use Rattle.std.proofs.Common.{length, ◌∙◌}
+use Rattle.rock_main.specs.Report.{Fits}
+use Rattle.rock_main.proofs.Telling.{none_ended, one_ended, not_failed_station, not_failed_text}
 use Rattle.rock_main.proofs.read.text_by_station.Goals as goal
 
 pub returns-in_err-station-clause-unfailed : goal.returns-in_err-station-clause-unfailed

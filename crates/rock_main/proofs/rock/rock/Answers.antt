@@ -13,8 +13,7 @@ use Rattle.rock_main.specs.Summary.{Sums}
 use Rattle.rock_main.specs.Report.{AnyCount, IsAnchors, OfFile, HasSlots, ReportEnds, ReportSays, ReportPrints}
 use Rattle.rock_main.specs.declared.status.Status.TheVariants as status
 use Rattle.rock_main.proofs.CommandFacts.{of_each, of_each_check, of_each_create}
-use Rattle.rock_main.proofs.CreateFacts.{complete_create}
-use Rattle.rock_main.proofs.Homes.{home_when_kept, home_when_left}
+use Rattle.rock_main.proofs.CreateFacts.{complete_create, home_when_left}
 use Rattle.rock_main.proofs.ReportFacts.{complete, unfit}
 use Rattle.rock_main.proofs.Telling.{none_ended}
 use Rattle.rock_main.proofs.rock.rock.Goals as goal
@@ -82,11 +81,11 @@ returns-in-Check-clause-check_kept g c name slot anchors asked t =
     of_each_check c.args.words.now (λ n s a. IsKept s n (g.V.Volume.files c.args.volume.now) (g.V.Volume.files c.print_report-in-Check.new.volume)) name slot anchors (subst (IsCommand c.args.words.now) c.in-Check.is c.in-Some.ensures) asked (c.print_report-in-Check.ensures.kept t)
 
 pub returns-in-List-clause-back : goal.returns-in-List-clause-back
-returns-in-List-clause-back g c t = home_when_kept c.in-List.target.slot c.in-List.target.name.now (g.V.Volume.files c.args.volume.now) (g.V.Volume.files c.print_report.new.volume) (c.print_report.ensures.kept t) (c.requires.home t)
+returns-in-List-clause-back g c t = c.kept_files_have_their_bytes.ensures.home c.in-List.target.slot c.in-List.target.name.now (g.V.Volume.files c.args.volume.now) (g.V.Volume.files c.print_report.new.volume) (c.print_report.ensures.kept t) (c.requires.home t)
 
 pub returns-in-Check-clause-back : goal.returns-in-Check-clause-back
 returns-in-Check-clause-back g c t =
-    home_when_kept c.in-Check.target.slot c.in-Check.target.name.now (g.V.Volume.files c.args.volume.now) (g.V.Volume.files c.print_report-in-Check.new.volume) (c.print_report-in-Check.ensures.kept t) (c.requires.home t)
+    c.kept_files_have_their_bytes.ensures.home c.in-Check.target.slot c.in-Check.target.name.now (g.V.Volume.files c.args.volume.now) (g.V.Volume.files c.print_report-in-Check.new.volume) (c.print_report-in-Check.ensures.kept t) (c.requires.home t)
 
 pub returns-in-Create-clause-usage : goal.returns-in-Create-clause-usage
 returns-in-Create-clause-usage g c = (
@@ -120,7 +119,7 @@ returns-in-Create-clause-create_leaves g c name slot slots asked =
 
 pub returns-in-Create-clause-back : goal.returns-in-Create-clause-back
 returns-in-Create-clause-back g c t =
-    home_when_left g.V.Volume.tells c.in-Create.target.slot c.in-Create.slots c.in-Create.target.name.now (g.V.Volume.files c.args.volume.now) (g.V.Volume.files c.create_file.new.volume) c.create_file.result t c.create_file.ensures.leaves (c.requires.home t)
+    home_when_left c.created_files_are_in.ensures.created c.created_files_are_in.ensures.maybe g.V.Volume.tells c.in-Create.target.slot c.in-Create.slots c.in-Create.target.name.now (g.V.Volume.files c.args.volume.now) (g.V.Volume.files c.create_file.new.volume) c.create_file.result t c.create_file.ensures.leaves (c.requires.home t)
 
 pub returns-in_default-clause-create_complete : goal.returns-in_default-clause-create_complete
 returns-in_default-clause-create_complete g c name slot slots asked t may none = absurd (subst (λ r. MatchOption r (IsCommandLine c.args.words.now → ⊥) (IsCommand c.args.words.now)) c.in_default.is c.parse.ensures (inr (inr (name, slot, slots, asked))))

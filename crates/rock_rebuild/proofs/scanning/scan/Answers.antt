@@ -16,7 +16,7 @@ returns-clause-read g c =
     let are = read.1 in
     let kept = read.2 in
     let count : length c.args.cells.now ≡ length all = sym (are.count ∙ length-map c.args.cells.now state) in
-    let file = file_of state g.St.C.Cell.tells c.args.cells.now slot all are c.requires.size c.requires.few in
+    let file = file_of state g.St.C.Cell.tells c.args.cells.now slot all are c.requires in
     let headers = subst (λ n. AreHeaders n slot all c.in_ok-slots.slots.table) count kept.headers in
     let heads = subst (λ n. AreHeads n slot all c.in_ok-slots.slots.heads.items) count kept.heads in (
       all,

@@ -8,7 +8,7 @@ use Rattle.rock_rebuild.specs.Left.{HasNoChain, IsChainAt}
 use Rattle.rock_rebuild.proofs.Options.{at_some, at_none}
 use Rattle.rock_rebuild.proofs.Following.{passed}
 use Rattle.rock_rebuild.proofs.Completing.{no_head, no_chain, other_key, found, same_found}
-use Rattle.rock_rebuild.proofs.entries.entry_at.Goals as goal
+use Rattle.rock_rebuild.proofs.entries.find_at.Goals as goal
 
 pub returns-in_default-clause-found : goal.returns-in_default-clause-found
 returns-in_default-clause-found c images file left tells = (
