@@ -73,12 +73,12 @@ def meta_of(payload):
             return None
         kind, size = payload[at], struct.unpack("<I", payload[at + 1 : at + 5])[0]
         value = payload[at + 5 : at + 5 + size]
-        if at + 5 + size > length or kind in found:
+        if at + 5 + size > length or (kind in (3, 4) and kind in found):
             return None
         found[kind] = value
         at += 5 + size
     key, url = found.get(3), found.get(4)
-    if key is None or url is None or len(key) != 16 or not url or 0 in url[:-1] or url[-1] != 0:
+    if key is None or url is None or len(key) != 16 or not url or url[-1] != 0:
         return None
     return key, url[:-1], length
 
