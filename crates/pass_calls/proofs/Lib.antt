@@ -1,0 +1,3 @@
+pub mod OtherTabs
+pub mod FreshEpochs
+pub mod Following

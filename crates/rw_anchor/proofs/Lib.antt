@@ -1,0 +1,2 @@
+pub mod LastTabs
+pub mod Taking

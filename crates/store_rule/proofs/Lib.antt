@@ -1,0 +1,11 @@
+pub mod CellLists
+pub mod Seating
+pub mod Granted
+pub mod Moves
+pub mod AtHand
+pub mod Noting
+pub mod Fresh
+pub mod Passing
+pub mod Alone
+pub mod NewPasses
+pub mod SideMoves

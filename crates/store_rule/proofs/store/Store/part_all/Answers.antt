@@ -1,0 +1,43 @@
+use Rattle.std.proofs.Common.{◌+◌, ◌-◌, ◌≡◌, ◌∙◌, [], arith}
+use Rattle.core_model.specs.Opening.{new_views}
+use Rattle.store_rule.specs.Passes.{AreHands, IsNewOf, basis}
+use Rattle.store_rule.proofs.CellLists.{front_all, last_all, popped_is}
+use Rattle.store_rule.proofs.Fresh.{all_end}
+use Rattle.store_rule.proofs.NewPasses.{is_new, nine_words}
+use Rattle.store_rule.proofs.store.Store.part_all.Goals as goal
+
+pub loop-number-preserved : goal.loop-number-preserved
+loop-number-preserved g c = let l = c.loop-number in let i = l.invariant in let e = c.part-part.ensures in let from = i.from in let count = i.count in
+    let p = c.in-Ok.ensures in let b = basis g.C.Cell.tells g.C.Cell.state g.O.Origin.offers c.args.self.now in let many = c.len-passes.ensures in
+    let low : l.number - 1 + 1 ≡ l.number + 1 - 1 = omega arith in let high : c.len-passes.result - l.number ≡ c.len-passes.result - (l.number + 1) + 1 = omega (arith, c.loop-number-test.true) in
+    let popped = popped_is _ _ _ c.in-Some.hand c.pop.ensures.items c.in-Some.is in
+    let hand = last_all (AreHands b.slot) _ c.in-Some.hand _ popped i.good in
+    let made = c.new_pass.ensures in record {
+      from = omega arith;
+      to = omega (arith, c.loop-number-test.true);
+      own = e.kept.0 ∙ i.own;
+      left = e.kept.1 ∙ (λ j. (new_views b.setting (low j) (high j), []));
+      hands = let a = i.hands in let d = c.in-Some.ensures.len in let lt = c.loop-number-test.true in omega arith;
+      good = front_all (AreHands b.slot) _ c.in-Some.hand _ popped i.good;
+      count = let q = p.len in omega arith;
+      room = let r = i.room in let q = p.capacity in omega arith;
+      fresh = all_end (IsNewOf g.C.Cell.tells g.C.Cell.state g.O.Origin.offers c.args.self.now) _ _ _ p.items i.fresh
+          (is_new g.C.Cell.tells g.C.Cell.state g.O.Origin.offers c.args.self.now _ _ c.in-Some.hand (l.number - 1) made.0 made.3 made.4 (e.part.0 ∙ i.own) (λ j. (e.part.1 j).0)
+          (c.requires.stands (l.number - 1) (omega (arith, c.loop-number-test.true))) hand);
+    }
+
+pub new_pass-requires-2-clause-hands : goal.new_pass-requires-2-clause-hands
+new_pass-requires-2-clause-hands g c = let i = c.loop-number.invariant in let b = basis g.C.Cell.tells g.C.Cell.state g.O.Origin.offers c.args.self.now in
+    let hand = last_all (AreHands b.slot) _ c.in-Some-pop.hand _ (popped_is _ _ _ c.in-Some-pop.hand c.pop-2.ensures.items c.in-Some-pop.is) i.good in (hand.tabs, nine_words _ hand.left, hand.desks)
+
+pub returns : goal.returns
+returns g c = let l = c.loop-number in let i = l.invariant in let from = i.from in let to = i.to in let count = i.count in let done = c.loop-number-test.false in
+    let p = c.in-Ok-push.ensures in let q = p.len in let b = basis g.C.Cell.tells g.C.Cell.state g.O.Origin.offers c.args.self.now in let many = c.len-passes.ensures in let some = c.requires.some in
+    let one : c.len-passes.result - l.number + 1 ≡ 1 = omega arith in
+    let made = c.new_pass-2.ensures in
+    let hand = last_all (AreHands b.slot) _ c.in-Some-pop.hand _ (popped_is _ _ _ c.in-Some-pop.hand c.pop-2.ensures.items c.in-Some-pop.is) i.good in (
+      omega arith,
+      all_end (IsNewOf g.C.Cell.tells g.C.Cell.state g.O.Origin.offers c.args.self.now) _ _ _ p.items i.fresh
+          (is_new g.C.Cell.tells g.C.Cell.state g.O.Origin.offers c.args.self.now _ _ c.in-Some-pop.hand (l.number - 1) made.0 made.3 made.4 i.own
+          (λ j. ((i.left ∙ (λ r. (new_views b.setting (l.number - 1) (one r), []))) j).0) (c.requires.stands (l.number - 1) (omega arith)) hand),
+    )

@@ -1,0 +1,77 @@
+-- What does not change while a store is open, and what holds of its table between any two steps.
+use Rattle.std.specs.Prelude.{◌+◌, ◌-◌, ◌≡◌, ◌≤◌, List, Option, Some, drop, length, take, ℕ}
+use Rattle.std.specs.Int.{from_le_bytes, w64}
+use Rattle.store_key.specs.Anchor.{anchor_of}
+use Rattle.store_key.specs.Key.{key_of}
+use Rattle.store_key.specs.Url.{IsUrl}
+use Rattle.entry_cut.specs.Content.{Cut, count}
+use Rattle.core_model.specs.declared.moves.Move.{Move}
+use Rattle.core_model.specs.declared.moves.Move.TheVariants.{Enter, Take}
+use Rattle.core_model.specs.declared.view.View.{View}
+use Rattle.core_model.specs.Layout.{Setting}
+use Rattle.core_model.specs.State.{State}
+use Rattle.core_model.specs.Sound.{Sound}
+use Rattle.core_model.specs.AllowedByView.{AllowedByView}
+use Rattle.core_model.specs.Offers.{ChoosesRight, Offering, OffersStand}
+
+-- The responses that a store is offered, by their numbers, and the pass to which an anchor is left alone, if it is.
+pub record Offers : Type 0 where
+  pub url : ℕ → List ℕ
+  pub body : ℕ → List ℕ
+  pub alone : ℕ → Option ℕ
+
+-- the setting of the core; the slots of the entry that an anchor had at the opening; the size of a slot; and what is offered
+pub record Ground (X : Type 0) : Type 0 where
+  pub setting : Setting X
+  pub chain : ℕ → List ℕ
+  pub slot : ℕ
+  pub offers : Offers
+
+-- the offer n of the origin stands beside an anchor as so many numbers above those of the slots
+abbrev pub url_of : {X : Type 0} → Ground X → ℕ → List ℕ
+url_of g offer = g.offers.url (offer - g.setting.slots)
+
+abbrev pub cut_of : {X : Type 0} → Ground X → (offer version first : ℕ) → Cut
+cut_of g offer version first = record {
+  slot = g.slot;
+  url = url_of g offer;
+  body = g.offers.body (offer - g.setting.slots);
+  version = version;
+  first = first;
+}
+
+-- an offer with a good URL that leaves room in a slot, for this anchor and these halves of its key
+pub record IsOfferFor {X : Type 0} (g : Ground X) (offer a x y : ℕ) : Type 0 where
+  pub url : IsUrl (url_of g offer)
+  pub short : length (url_of g offer) + 72 ≤ g.slot
+  pub anchor : anchor_of (key_of (url_of g offer)) g.setting.anchors ≡ a
+  pub key0 : x ≡ from_le_bytes w64 (take 8 (key_of (url_of g offer)))
+  pub key1 : y ≡ from_le_bytes w64 (drop 8 (key_of (url_of g offer)))
+
+abbrev pub offering_of : {X : Type 0} → Ground X → Offering
+offering_of g = record {
+  chain = g.chain;
+  pieces = λ offer. count (cut_of g offer 0 0);
+  Fits = IsOfferFor g;
+}
+
+-- The rule: the state is sound, and each entry is the opening's or one of its offer.
+pub record Rule {X : Type 0} (g : Ground X) (s : State X) : Type 0 where
+  pub sound : Sound g.setting s
+  pub offered : OffersStand (offering_of g) g.setting s
+
+-- an anchor that is left alone is named by its own pass
+abbrev pub MayName : {X : Type 0} → Ground X → View X → ℕ → Type 0
+MayName g v a = (pass : ℕ) → g.offers.alone a ≡ Some pass → pass ≡ v.pass
+
+-- a tab that comes to an anchor may name it
+abbrev pub Names : {X : Type 0} → Ground X → View X → Move → Type 0
+Names g v (Enter t a) = MayName g v a
+Names g v (Take t a version) = MayName g v a
+Names g v m = Unit {0}
+
+-- What a step asks of the pass that makes it, by the view of that pass alone.
+pub record Can {X : Type 0} (g : Ground X) (v : View X) (m : Move) : Type 0 where
+  pub allowed : AllowedByView g.setting v m
+  pub chooses : ChoosesRight (offering_of g) v m  -- a piece that it chooses keeps to its offer
+  pub names : Names g v m

@@ -1,0 +1,91 @@
+-- What a caller sees of a store and of its passes.
+use Rattle.std.specs.Prelude.{◌≡◌, ◌∷◌, All, Bool, List, None, Option, Some, length, replicate, slice_set, ℕ}
+use Rattle.atomic_table.specs.Table.{rest}
+use Rattle.core_model.specs.declared.moves.Move.TheVariants.{Leave, Raise}
+use Rattle.rock_disk.specs.Cell.{CellState}
+use Rattle.core_model.specs.declared.moves.Move.{Move}
+use Rattle.core_model.specs.declared.view.View.{View}
+use Rattle.core_model.specs.Opening.{new_view}
+use Rattle.core_model.specs.Table.{answer}
+use Rattle.store_rule.specs.declared.store.Store.{Store}
+use Rattle.store_rule.specs.declared.store.Pass.{Pass}
+use Rattle.store_rule.specs.declared.store.Desk.{Desk}
+use Rattle.store_rule.specs.declared.opening.Hands.{Hands}
+use Rattle.store_rule.specs.declared.tabs.At.{At}
+use Rattle.store_rule.specs.declared.store.Note.{Note}
+use Rattle.core_model.specs.declared.view.Sight.{Sight}
+use Rattle.store_rule.specs.Ground.{Can, Ground, Offers}
+use Rattle.store_rule.specs.Setting.{basis_of}
+use Rattle.store_rule.specs.Told.{Steps, Stands, the_view}
+
+abbrev pub view : {C : Type 0} → Pass C → View (List ℕ)
+view p = the_view p.seat.me.0
+
+-- the places that the pass has out, each with its cell or without
+abbrev pub hand : {C : Type 0} → Pass C → List (ℕ × Option C)
+hand p = p.seat.me.1
+
+-- the place of the slot, which was taken last, has the cell, or none
+abbrev pub HasCell : {C : Type 0} → Pass C → ℕ → C → Type 0
+HasCell p slot c = hand p ≡ (slot, Some c) ∷ rest (hand p)
+
+abbrev pub HasRoom : {C : Type 0} → Pass C → ℕ → Type 0
+HasRoom p slot = hand p ≡ (slot, None) ∷ rest (hand p)
+
+-- what a note has seen
+abbrev pub note_seen : {C : Type 0} → Note C → List Sight
+note_seen n = (the_view n.seat.me.0).seen
+
+abbrev pub IsNoteOf : {C O : Type 0} → Store C O → Note C → Type 0
+IsNoteOf s n = n.seat.table_id ≡ s.table.shared.table_id
+
+-- what a pass has at hand before its first step, with buffers of this size
+pub record AreHands (slot : ℕ) (h : Hands) : Type 0 where
+  pub tabs : h.tabs ≡ replicate 9 At.Free
+  pub left : h.left ≡ replicate 9 0
+  pub desks : length h.desks ≡ 9
+  pub buffers : All (λ (d : Desk). length d.buffer.items ≡ slot) h.desks
+
+-- the words that tabs left, after a step that left this one
+abbrev pub left_after : List ℕ → Move → ℕ → List ℕ
+left_after words (Leave t) told = slice_set words t told
+left_after words (Raise t to) told = slice_set words t told
+left_after words m told = words
+
+module _ {C O : Type 0} (tells : Bool) (state : C → CellState) (offers : O → Offers) where
+  abbrev pub basis : Store C O → Ground (List ℕ)
+  basis s = basis_of tells state offers s.table.shared.key
+
+  -- The pass is of this store, its view is one of a state that keeps the rule, and its buffers are as long as a slot.
+  pub record IsOf (s : Store C O) (p : Pass C) : Type 0 where
+    pub table : p.seat.table_id ≡ s.table.shared.table_id
+    pub stands : Stands (basis s) (view p)
+    pub buffers : All (λ (d : Desk). length d.buffer.items ≡ (basis s).slot) p.desks
+
+  -- the pass is of this store, and may make this step
+  pub record May (s : Store C O) (p : Pass C) (m : Move) : Type 0 where
+    pub own : IsOf s p
+    pub can : Can (basis s) (view p) m
+
+  -- It made it, with this answer. The words that its tabs left follow the step, and what else it has at hand is as it was.
+  pub record Made (s : Store C O) (p : Pass C) (m : Move) (told : ℕ) (q : Pass C) : Type 0 where
+    pub own : IsOf s q
+    pub found : ℕ
+    pub step : Steps (basis s) (view p) m found (view q)
+    pub answers : told ≡ answer (view p) m found
+    pub left : q.left ≡ left_after p.left m told
+    pub desks : q.desks ≡ p.desks
+    pub hand : q.hand ≡ p.hand
+
+  -- the pass is of this store, and has at hand what it had
+  pub record Keeps (s : Store C O) (p q : Pass C) : Type 0 where
+    pub own : IsOf s q
+    pub left : q.left ≡ p.left
+    pub desks : q.desks ≡ p.desks
+    pub hand : q.hand ≡ p.hand
+
+  -- it is a new pass of this store
+  pub record IsNewOf (s : Store C O) (p : Pass C) : Type 0 where
+    pub own : IsOf s p
+    pub fresh : view p ≡ new_view (basis s).setting (view p).pass
+    pub hand : p.hand ≡ 0

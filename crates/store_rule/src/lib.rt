@@ -1,0 +1,18 @@
+//! The shared store: each step call is one step of the core, on a table whose rule is that the core
+//! is sound.
+#![tactic(auto)]
+
+mod cells;
+mod layout;
+mod machine;
+mod notes;
+mod opening;
+mod rule;
+mod sides;
+mod steps;
+mod store;
+mod tabs;
+
+pub use opening::NoRoom;
+pub use rule::{About, Origin};
+pub use store::{Desk, Note, Pass, Store};

@@ -1,0 +1,278 @@
+// The store at the opening.
+ghost use Rattle.std.specs.Prelude.{◌+◌, ◌*◌, ◌<◌, ◌≡◌, ◌≤◌, ◌∷◌, All, IfErr, IfOk, List, Some, [], length, map, replicate, vec_len, ℕ};
+ghost use Rattle.core_model.specs.declared.tab.Tab.TheVariants.{Free};
+ghost use Rattle.store_rule.specs.declared.store.Desk.{Desk};
+ghost use Rattle.store_rule.specs.declared.tabs.At.{At};
+ghost use Rattle.core_model.specs.Opening.{new_view, new_views};
+ghost use Rattle.store_rule.specs.Setting.{IsRow, IsSettled, basis_of};
+ghost use Rattle.store_rule.specs.Told.{Stands, the_view};
+ghost use Rattle.store_rule.specs.Passes.{AreHands};
+
+use crate::cells::{from_places, to_places};
+use crate::rule::{About, Off, Origin, Rule};
+use crate::store::{Desk, Pass, Store};
+use crate::tabs::At;
+use atomic_table::{Refused, Seat, Table};
+use core_model::{Row, View};
+use rock_disk::Cell;
+use rock_io::Octets;
+use std::alloc::{AllocError, Global};
+use std::snapshot::Snapshot;
+
+/// What a pass has at hand before it has a seat.
+#[derive(Drop)]
+pub(crate) struct Hands {
+    pub(crate) tabs: Row<At>,
+    pub(crate) left: Row<u64>,
+    pub(crate) desks: Row<Desk>,
+}
+
+/// The longest URL that a script can name, in bytes.
+const URL_ROOM: usize = 2048;
+
+fn new_desk(alloc: Global, slot: u32) -> Result<Desk, AllocError>
+    ensures { IfOk result (λ d. length d.buffer.items ≡ slot) }
+{
+    let buffer = vec![in alloc; 0u8; slot as usize]?;
+    let url = Vec::with_capacity(alloc, URL_ROOM)?;
+    Ok(Desk { buffer, url })
+}
+
+fn desks(alloc: Global, slot: u32) -> Result<Vec<Desk>, AllocError>
+    ensures { IfOk result (λ ds. (vec_len ds ≡ 9) × All (λ (d : Desk). length d.buffer.items ≡ slot) ds.items) }
+{
+    let mut desks = Vec::new(alloc);
+    for tab in 0..9u8 {
+        let _ = tab;
+        desks.push(new_desk(alloc, slot)?)?;
+    }
+    Ok(desks)
+}
+
+fn new_hands(alloc: Global, slot: u32) -> Result<Hands, AllocError>
+    ensures { IfOk result (AreHands slot) }
+{
+    Ok(Hands {
+        tabs: Row::from_vec(vec![in alloc; At::Free; 9]?),
+        left: Row::from_vec(vec![in alloc; 0u64; 9]?),
+        desks: Row::from_vec(desks(alloc, slot)?),
+    })
+}
+
+/// What so many passes have at hand.
+fn all_hands(alloc: Global, slot: u32, passes: u32) -> Result<Vec<Hands>, AllocError>
+    ensures { IfOk result (λ all. (vec_len all ≡ passes) × All (AreHands slot) all.items) }
+{
+    let mut all = Vec::new(alloc);
+    for pass in 0..passes {
+        let _ = pass;
+        all.push(new_hands(alloc, slot)?)?;
+    }
+    Ok(all)
+}
+
+/// All memory of a store but that of its table.
+struct Memory<C> {
+    words: Vec<u64>,
+    hands: Vec<Hands>,
+    passes: Vec<Pass<C>>,
+}
+
+impl<C> Memory<C> {
+    ghost use Rattle.std.specs.Prelude.{◌≡◌, ◌+◌, ◌*◌, ◌≤◌, [], All, IfOk, replicate, vec_len, vec_capacity};
+    ghost use Rattle.store_rule.specs.Passes.{AreHands};
+
+    fn new(
+        alloc: Global,
+        slot: u32,
+        anchors: u32,
+        slots: u32,
+        passes: u32,
+    ) -> Result<Memory<C>, AllocError>
+        ensures words { IfOk result (λ m. m.words.items ≡ replicate (5 * anchors + 3 * slots + 1) 0) }
+        ensures hands { IfOk result (λ m. (vec_len m.hands ≡ passes) × All (AreHands slot) m.hands.items) }
+        ensures passes { IfOk result (λ m. (m.passes.items ≡ []) × (vec_len m.passes ≡ 0) × (passes ≤ vec_capacity m.passes)) }
+    {
+        let words = vec![in alloc; 0u64; 5 * anchors as usize + 3 * slots as usize + 1]?;
+        let hands = all_hands(alloc, slot, passes)?;
+        let passes = Vec::with_capacity(alloc, passes as usize)?;
+        Ok(Memory {
+            words,
+            hands,
+            passes,
+        })
+    }
+}
+
+type Parts<C, O> = (
+    Table<Option<C>, Row<View<Octets>>, About<C, O>, Rule<C, O>, Global>,
+    Seat<Option<C>, Row<View<Octets>>>,
+);
+
+// The table of an empty store, and the seat that has the views of all passes.
+fn new_table<C: Cell, O: Origin>(
+    alloc: Global,
+    words: &[u64],
+    places: Vec<Option<C>>,
+    about: &About<C, O>,
+) -> Result<Parts<C, O>, Vec<Option<C>>>
+    requires words { (about.now.words.value.items ≡ words.now) × (words.now ≡ replicate (5 * about.now.anchors + 3 * about.now.slots + 1) 0) }
+    requires places { about.now.places.value.items ≡ places.items }
+    requires passes { about.now.passes ≤ 32 }
+    requires cells { (cells : List C) × (places.items ≡ map Some cells) × (length cells ≡ about.now.slots) × IsRow C.state about.now.slot cells × All (IsSettled C.tells C.state) cells }
+    ensures key { IfOk result (λ r. r.0.shared.key ≡ about.now) }
+    ensures sized { IfOk result (λ r. r.0.shared.table_id.words ≡ 5 * r.0.shared.key.anchors + 3 * r.0.shared.key.slots + 1) }
+    ensures seat { IfOk result (λ r. (r.1.table_id ≡ r.0.shared.table_id) × (r.1.me ≡ (new_views (basis_of C.tells C.state O.offers r.0.shared.key).setting 0 r.0.shared.key.passes, []))) }
+    ensures stands { IfOk result (λ r. (n : ℕ) → n < r.0.shared.key.passes → Stands (basis_of C.tells C.state O.offers r.0.shared.key) (new_view (basis_of C.tells C.state O.offers r.0.shared.key).setting n)) }
+    ensures err { IfErr result (λ r. r.items ≡ places.items) }
+{
+    match Table::new(alloc, words, places, about) {
+        Ok(parts) => Ok(parts),
+        Err(Refused { slots }) => Err(slots),
+    }
+}
+
+/// There was no memory for the store. The cells come back as they were.
+#[derive(Drop)]
+pub struct NoRoom<C> {
+    pub cells: Vec<C>,
+}
+
+impl<C: Cell, O: Origin> Store<C, O> {
+    ghost use Rattle.std.specs.Prelude.{◌≡◌, ℕ, ◌+◌, ◌<◌, ◌≤◌, [], ◌∷◌, IfErr, IfOk, vec_len, vec_capacity, All, length};
+    ghost use Rattle.core_model.specs.Opening.{new_view, new_views};
+    ghost use Rattle.store_rule.specs.Told.{Stands};
+    ghost use Rattle.store_rule.specs.Setting.{IsRow, IsSettled};
+    ghost use Rattle.store_rule.specs.Passes.{basis, AreHands, IsNewOf};
+
+    // The next pass is cut off.
+    fn part(
+        &self,
+        seat: &mut Seat<Option<C>, Row<View<Octets>>>,
+        number: u32,
+        left: u32,
+    ) -> Seat<Option<C>, Row<View<Octets>>>
+        requires own { seat.old.table_id ≡ self.now.table.shared.table_id }
+        requires many { seat.old.me ≡ (new_views (basis C.tells C.state O.offers self.now).setting number (left + 1), []) }
+        ensures kept { (seat.new.table_id ≡ seat.old.table_id) × (seat.new.me ≡ (new_views (basis C.tells C.state O.offers self.now).setting (number + 1) left, [])) }
+        ensures part { (result.table_id ≡ seat.old.table_id) × (result.me ≡ (new_view (basis C.tells C.state O.offers self.now).setting number ∷ [], [])) }
+    {
+        let _ = number;
+        let _ = left;
+        self.table.shared.split_seat::<Off>(seat)
+    }
+
+    // Each pass gets the view of its number, and what it has at hand.
+    fn part_all(
+        &self,
+        mut seat: Seat<Option<C>, Row<View<Octets>>>,
+        mut hands: Vec<Hands>,
+        mut made: Vec<Pass<C>>,
+    ) -> Vec<Pass<C>>
+        requires own { seat.table_id ≡ self.now.table.shared.table_id }
+        requires some { (0 < vec_len hands) × (vec_len hands ≤ 32) }
+        requires many { seat.me ≡ (new_views (basis C.tells C.state O.offers self.now).setting 0 (vec_len hands), []) }
+        requires stands { (n : ℕ) → n < vec_len hands → Stands (basis C.tells C.state O.offers self.now) (new_view (basis C.tells C.state O.offers self.now).setting n) }
+        requires hands { All (AreHands (basis C.tells C.state O.offers self.now).slot) hands.items }
+        requires made { (made.items ≡ []) × (vec_len made ≡ 0) × (vec_len hands ≤ vec_capacity made) }
+        ensures { (vec_len result ≡ vec_len hands) × All (IsNewOf C.tells C.state O.offers self.now) result.items }
+    {
+        let passes = hands.len() as u32;
+        for number in 1..passes {
+            let part = self.part(&mut seat, number - 1, passes - number);
+            let Some(hand) = hands.pop() else {
+                unreachable!()
+            };
+            let Ok(()) = made.push(new_pass(part, hand)) else {
+                unreachable!()
+            };
+        }
+        let Some(hand) = hands.pop() else {
+            unreachable!()
+        };
+        let Ok(()) = made.push(new_pass(seat, hand)) else {
+            unreachable!()
+        };
+        made
+    }
+
+    /// An empty store over these cells, with anchors, and its passes, in the order of their numbers.
+    /// `slot` is the width of each cell in bytes. Each cell has its place in the vector for its number,
+    /// and a crash leaves what a read of it gives.
+    ///
+    /// # Errors
+    ///
+    /// Want of memory.
+    pub fn fresh(
+        alloc: Global,
+        mut cells: Vec<C>,
+        slot: u32,
+        anchors: u32,
+        passes: u32,
+        origin: O,
+    ) -> Result<(Store<C, O>, Vec<Pass<C>>), NoRoom<C>>
+        requires passes { (0 < passes) × (passes ≤ 32) }
+        requires slots { length cells.items ≤ 1048576 }
+        requires cells { IsRow C.state slot cells.items × All (IsSettled C.tells C.state) cells.items }
+        ensures counts { IfOk result (λ r. ((basis C.tells C.state O.offers r.0).setting.anchors ≡ anchors) × ((basis C.tells C.state O.offers r.0).setting.slots ≡ length cells.items) × ((basis C.tells C.state O.offers r.0).setting.passes ≡ passes) × ((basis C.tells C.state O.offers r.0).slot ≡ slot)) }
+        ensures offers { IfOk result (λ r. (basis C.tells C.state O.offers r.0).offers ≡ O.offers origin) }
+        ensures passes { IfOk result (λ r. (vec_len r.1 ≡ passes) × All (IsNewOf C.tells C.state O.offers r.0) r.1.items) }
+        ensures err { IfErr result (λ r. r.cells.items ≡ cells.items) }
+    {
+        let slots = cells.as_slice().len() as u32;
+        let Ok(memory) = Memory::new(alloc, slot, anchors, slots, passes) else {
+            return Err(NoRoom { cells });
+        };
+        let Memory {
+            words,
+            hands,
+            passes: made,
+        } = memory;
+        let Ok(places) = to_places(alloc, &mut cells) else {
+            return Err(NoRoom { cells });
+        };
+        let about = About {
+            anchors,
+            slots,
+            passes,
+            slot,
+            words: Snapshot::of(&words),
+            places: Snapshot::of(&places),
+            origin: Snapshot::of(&origin),
+        };
+        match new_table(alloc, words.as_slice(), places, &about) {
+            Err(places) => {
+                from_places(places, &mut cells);
+                Err(NoRoom { cells })
+            }
+            Ok((table, seat)) => {
+                let store = Store {
+                    anchors,
+                    slots,
+                    slot,
+                    table,
+                    origin,
+                    cells,
+                };
+                let made = store.part_all(seat, hands, made);
+                Ok((store, made))
+            }
+        }
+    }
+}
+
+fn new_pass<C>(seat: Seat<Option<C>, Row<View<Octets>>>, hands: Hands) -> Pass<C>
+    requires one { seat.me.0 ≡ the_view seat.me.0 ∷ [] }
+    requires free { (the_view seat.me.0).tabs ≡ replicate 9 Free }
+    requires hands { (hands.tabs ≡ replicate 9 At.Free) × (length hands.left ≡ 9) × (length hands.desks ≡ 9) }
+    ensures { (result.seat ≡ seat) × (result.tabs ≡ hands.tabs) × (result.left ≡ hands.left) × (result.desks ≡ hands.desks) × (result.hand ≡ 0) }
+{
+    let Hands { tabs, left, desks } = hands;
+    Pass {
+        seat,
+        tabs,
+        left,
+        desks,
+        hand: 0,
+    }
+}

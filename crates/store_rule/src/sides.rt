@@ -1,0 +1,34 @@
+// The step calls on the words beside an anchor.
+use crate::layout::side_word;
+use crate::rule::Origin;
+use crate::store::{Pass, Store};
+use core_model::{Move, Side};
+use rock_disk::Cell;
+use std::marker::Brand;
+
+impl<C: Cell, O: Origin> Store<C, O> {
+    ghost use Rattle.core_model.specs.declared.moves.Move.TheVariants.{LoadSide, StoreSide};
+    ghost use Rattle.store_rule.specs.Passes.{May, Made};
+
+    /// Loads a word beside the anchor of a tab that reads, writes or frees.
+    pub fn load_side(&self, pass: &mut Pass<C>, tab: u8, side: Side) -> u64
+        requires { May C.tells C.state O.offers self.now pass.old (LoadSide tab side) }
+        ensures { Made C.tells C.state O.offers self.now pass.old (LoadSide tab side) result pass.new }
+    {
+        let anchor = pass.anchor(tab);
+        let made = Move::LoadSide { tab, side };
+        let place = side_word(anchor, side);
+        self.load_as::<Brand>(&mut pass.seat, place, made)
+    }
+
+    /// Stores a word beside the anchor that a tab took and has not published at.
+    pub fn store_side(&self, pass: &mut Pass<C>, tab: u8, side: Side, value: u64)
+        requires { May C.tells C.state O.offers self.now pass.old (StoreSide tab side value) }
+        ensures { Made C.tells C.state O.offers self.now pass.old (StoreSide tab side value) 0 pass.new }
+    {
+        let anchor = pass.anchor(tab);
+        let made = Move::StoreSide { tab, side, value };
+        let place = side_word(anchor, side);
+        self.swap_as::<Brand>(&mut pass.seat, place, value, made);
+    }
+}
