@@ -22,9 +22,10 @@ pub struct Ran<H> {
     pub answers: Vec<Vec<(u32, Answer)>>,
 }
 
-/// Serves a script. Worker w serves its lines in their order on shelf w - 1, on a thread of its own, and then leaves
-/// all tabs. `mark` leaves a note of the shelf at a mark, and `await` waits until a note lies there, learns it and
-/// leaves another, where an earlier line of the script sets this mark. The gate is asked before each line.
+/// Serves a script. Worker w serves its lines in their order on shelf w - 1, on a thread of its own where one can be
+/// made, and then leaves all tabs. `mark` leaves a note of the shelf at a mark, and `await` waits until a note lies
+/// there, learns it and leaves another, where an earlier line of the script sets this mark. The gate is asked before
+/// each line that is served.
 ///
 /// Err is want of memory, and hands the shelves back. A worker that meets it serves no further line. It still sets the
 /// marks of its later lines, so that nobody waits for it in vain.
