@@ -28,7 +28,7 @@ pub data BeginsAs (s : Setting) (tab : ℕ) (url body : List ℕ) (offer : ℕ) 
   in_use : begin s tab url body offer p ≡ step answer.Tab p → BeginsAs s tab url body offer p
   long : begin s tab url body offer p ≡ step answer.LongUrl p → BeginsAs s tab url body offer p
   busy : (w : Word) → begin s tab url body offer p ≡ step (answer.Busy w w) p → BeginsAs s tab url body offer p
-  spent : begin s tab url body offer p ≡ step (answer.Spent p.counter) p → BeginsAs s tab url body offer p
+  spent : nat_le 4294901760 p.counter ≡ true → begin s tab url body offer p ≡ step (answer.Spent p.counter) p → BeginsAs s tab url body offer p
   begun : tab_at p tab ≡ Free → nat_lt s.room (meta_size url) ≡ false
       → (is_vacant_at p (anchor_of (key_of url) s.anchors) || is_idle_at p (anchor_of (key_of url) s.anchors)) ≡ true
       → begin s tab url body offer p ≡ step (answer.Begun (p.counter + 1)) (taken_by tab (anchor_of (key_of url) s.anchors) (entry_of url body offer) p)
@@ -44,7 +44,7 @@ begins_when : (s : Setting) (tab : ℕ) (url body : List ℕ) (offer : ℕ) (p :
     → nat_le 4294901760 p.counter ≡ c → BeginsAs s tab url body offer p
 begins_when s tab url body offer p t true b c hl hb hc = BeginsAs.long (rw (t, hl) refl)
 begins_when s tab url body offer p t false true c hl hb hc = BeginsAs.busy (word_at s p (anchor_of (key_of url) s.anchors)) (rw (t, hl, hb) refl)
-begins_when s tab url body offer p t false false true hl hb hc = BeginsAs.spent (rw (t, hl, hb, hc) refl)
+begins_when s tab url body offer p t false false true hl hb hc = BeginsAs.spent hc (rw (t, hl, hb, hc) refl)
 begins_when s tab url body offer p t false false false hl hb hc = BeginsAs.begun t hl (not_not (is_vacant_at p (anchor_of (key_of url) s.anchors) || is_idle_at p (anchor_of (key_of url) s.anchors)) hb) (rw (t, hl, hb, hc) refl)
 
 pub begins : (s : Setting) (tab : ℕ) (url body : List ℕ) (offer : ℕ) (p : Plain) (t : Tab) → tab_at p tab ≡ t → BeginsAs s tab url body offer p

@@ -89,14 +89,14 @@ idle_not : (o : Option Entry) (e : Entry) → o ≡ Some e → e.life ≡ Whole 
 idle_not None e is w g = g
 idle_not (Some d) e is w g = let same : d ≡ e = cc in let k : Growing ≡ Whole = sym g ∙ (ap (λ (x : Entry). x.life) same ∙ w) in cc
 
-able_not : (p : Plain) (a : ℕ) → (is_vacant_at p a || is_idle_at p a) ≡ true → IsGrowing (entry_at p a) → ⊥
+pub able_not : (p : Plain) (a : ℕ) → (is_vacant_at p a || is_idle_at p a) ≡ true → IsGrowing (entry_at p a) → ⊥
 able_not p a t g = elim (either_or (is_vacant_at p a) (is_idle_at p a) t) [
   | inl h ↦ vacant_not (entry_at p a) (readers p a == 0) h g
   | inr h ↦ (let w = idle_whole p a h in idle_not (entry_at p a) w.0 w.1 w.2 g)
 ]
 
 -- a new entry holds nothing
-new_holds_none : (room : ℕ) (url body : List ℕ) (offer : ℕ) → nat_lt room (meta_size url) ≡ false → held_by room (Some (entry_of url body offer)) ≡ 0
+pub new_holds_none : (room : ℕ) (url body : List ℕ) (offer : ℕ) → nat_lt room (meta_size url) ≡ false → held_by room (Some (entry_of url body offer)) ≡ 0
 new_holds_none room url body offer fits =
     let small : meta_size url - 1 < room = (let k : meta_size url ≤ room = grind (arith, nat_tests) in omega arith) in
     let zero_is : published room (meta_size url) ≡ 0 = div-eq_of_lt small in
@@ -106,7 +106,7 @@ new_place : Plain → Entry → Place
 new_place p e = record { version = p.counter + 1; doom = false; entry = Some e }
 
 -- an entry is begun where none grows
-taken_holds : (s : Setting) (tab a : ℕ) (p : Plain) (e : Entry) → HoldsItsSlots s p → tab_at p tab ≡ Free → (IsGrowing (entry_at p a) → ⊥) → e.life ≡ Growing → held_by s.room (Some e) ≡ 0 → a < length p.places
+pub taken_holds : (s : Setting) (tab a : ℕ) (p : Plain) (e : Entry) → HoldsItsSlots s p → tab_at p tab ≡ Free → (IsGrowing (entry_at p a) → ⊥) → e.life ≡ Growing → held_by s.room (Some e) ≡ 0 → a < length p.places
     → HoldsItsSlots s (taken_by tab a e p)
 unfolding new_place
 taken_holds s tab a p e h free never grows none inside = record {
@@ -145,7 +145,7 @@ begin_holds : (s : Setting) (tab : ℕ) (url body : List ℕ) (offer : ℕ) (p :
 begin_holds s tab url body offer p h inside (BeginsAs.in_use e) = rw e h
 begin_holds s tab url body offer p h inside (BeginsAs.long e) = rw e h
 begin_holds s tab url body offer p h inside (BeginsAs.busy w e) = rw e h
-begin_holds s tab url body offer p h inside (BeginsAs.spent e) = rw e h
+begin_holds s tab url body offer p h inside (BeginsAs.spent out e) = rw e h
 begin_holds s tab url body offer p h inside (BeginsAs.begun t fits able e) = rw e
     (taken_holds s tab (anchor_of (key_of url) s.anchors) p (entry_of url body offer) h t (able_not p (anchor_of (key_of url) s.anchors) able) refl (new_holds_none s.room url body offer fits) inside)
 
@@ -154,7 +154,7 @@ put_holds : (s : Setting) (url body : List ℕ) (offer : ℕ) (p : Plain) → 0 
 put_holds s url body offer p room h inside (BeginsAs.in_use e) = rw e h
 put_holds s url body offer p room h inside (BeginsAs.long e) = rw e h
 put_holds s url body offer p room h inside (BeginsAs.busy w e) = rw e h
-put_holds s url body offer p room h inside (BeginsAs.spent e) = rw e h
+put_holds s url body offer p room h inside (BeginsAs.spent out e) = rw e h
 put_holds s url body offer p room h inside (BeginsAs.begun t fits able e) = rw e (end_holds s 7 q room
     (taken_holds s 7 (anchor_of (key_of url) s.anchors) p (entry_of url body offer) h t (able_not p (anchor_of (key_of url) s.anchors) able) refl (new_holds_none s.room url body offer fits) inside)
     (tab_at q 7) refl)
@@ -181,7 +181,7 @@ get_holds s url p h (Opens.opened j t e) = rw e
 pub anchor_inside : (s : Setting) (url : List ℕ) (p : Plain) → 0 < s.anchors → length p.places ≡ s.anchors → anchor_of (key_of url) s.anchors < length p.places
 anchor_inside s url p some are = let lt : anchor_of (key_of url) s.anchors < s.anchors = mod-lt ((front_half (key_of url) + back_half (key_of url)) % 2 ^ 64) some in subst (λ (n : ℕ). anchor_of (key_of url) s.anchors < n) (sym are) lt
 
-serve_holds : (s : Setting) (script : List Line) (worker number : ℕ) (request : Request) (p : Plain) → 0 < s.room → 0 < s.anchors → length p.places ≡ s.anchors → HoldsItsSlots s p
+pub serve_holds : (s : Setting) (script : List Line) (worker number : ℕ) (request : Request) (p : Plain) → 0 < s.room → 0 < s.anchors → length p.places ≡ s.anchors → HoldsItsSlots s p
     → HoldsItsSlots s (serve s script (record { worker = worker; number = number; request = request }) p).after
 serve_holds s script w n (Put url made) p room some are h = put_holds s url (bytes_of made) (s.slots + n) p room h (anchor_inside s url p some are) (begins s 7 url (bytes_of made) (s.slots + n) p (tab_at p 7) refl)
 serve_holds s script w n (Save url made) p room some are h = put_holds s url (bytes_of made) (s.slots + n) p room h (anchor_inside s url p some are) (begins s 7 url (bytes_of made) (s.slots + n) p (tab_at p 7) refl)

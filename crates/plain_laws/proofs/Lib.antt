@@ -12,3 +12,9 @@ pub mod Filling
 pub mod Writers
 pub mod Closing
 pub mod Held
+pub mod Alone
+pub mod Staying
+pub mod Fitted
+pub mod Roomed
+pub mod ReadingRoomed
+pub mod Running

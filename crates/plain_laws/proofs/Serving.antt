@@ -54,7 +54,7 @@ pub put_effect : (s : Setting) (url body : List ℕ) (offer : ℕ) (p : Plain) �
 put_effect s url body offer p (BeginsAs.in_use e) = inl (rw e (keeps_refl p, refl))
 put_effect s url body offer p (BeginsAs.long e) = inl (rw e (keeps_refl p, refl))
 put_effect s url body offer p (BeginsAs.busy w e) = inl (rw e (keeps_refl p, refl))
-put_effect s url body offer p (BeginsAs.spent e) = inl (rw e (keeps_refl p, refl))
+put_effect s url body offer p (BeginsAs.spent out e) = inl (rw e (keeps_refl p, refl))
 put_effect s url body offer p (BeginsAs.begun t fits able e) = inr (rw e
     (keeps_end s 7 q (tab_at q 7) refl, end_tells s (p.counter + 1) 7 q (tab_at q 7) refl (λ a x u is. taken_version anchor a (entry_of url body offer) x p u is)))
   where
@@ -70,7 +70,7 @@ begin_effect : (s : Setting) (tab : ℕ) (url body : List ℕ) (offer : ℕ) (p 
 begin_effect s tab url body offer p (BeginsAs.in_use e) = inl (rw e (keeps_refl p, refl))
 begin_effect s tab url body offer p (BeginsAs.long e) = inl (rw e (keeps_refl p, refl))
 begin_effect s tab url body offer p (BeginsAs.busy w e) = inl (rw e (keeps_refl p, refl))
-begin_effect s tab url body offer p (BeginsAs.spent e) = inl (rw e (keeps_refl p, refl))
+begin_effect s tab url body offer p (BeginsAs.spent out e) = inl (rw e (keeps_refl p, refl))
 begin_effect s tab url body offer p (BeginsAs.begun t fits able e) = inr (rw e (keeps_refl (taken_by tab (anchor_of (key_of url) s.anchors) (entry_of url body offer) p), refl))
 
 -- by what a line asks

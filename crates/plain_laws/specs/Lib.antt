@@ -3,3 +3,4 @@ pub mod Offered
 pub mod Begun
 pub mod Hit
 pub mod Holding
+pub mod Fitting

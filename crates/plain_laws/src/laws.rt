@@ -11,6 +11,7 @@ ghost use Rattle.plain_laws.specs.Offered.{HasOrigin};
 ghost use Rattle.plain_laws.specs.Begun.{begun, RiseAbove};
 ghost use Rattle.plain_laws.specs.Hit.{IsHit};
 ghost use Rattle.plain_laws.specs.Holding.{HoldsItsSlots};
+ghost use Rattle.plain_laws.specs.Fitting.{Fits, IsAtRest, RunsInRoom};
 
 /// A version is begun by one line: those that lines begin rise, and are above all that were given out
 /// before.
@@ -37,4 +38,11 @@ pub fn hits_are_whole()
 pub fn held_slots_are_there()
     ensures { (s : Setting) (script lines : List Line) (p : Plain)
         → 0 < s.room → 0 < s.anchors → length p.places ≡ s.anchors → HoldsItsSlots s p → HoldsItsSlots s (after s script lines p) }
+{}
+
+/// A script that fits is never answered FULL, and nothing is evicted for it: an anchor that no line names
+/// stays as it is, and so does the hand.
+pub fn fitting_scripts_have_room()
+    ensures { (s : Setting) (script lines : List Line) (p : Plain)
+        → 0 < s.room → 0 < s.anchors → 0 < s.slots → length p.places ≡ s.anchors → IsAtRest p → Fits s lines p → RunsInRoom s script lines p }
 {}

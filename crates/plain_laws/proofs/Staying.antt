@@ -1,0 +1,80 @@
+-- A request changes one anchor, and tabs that are there.
+use Rattle.std.proofs.Common.{◌≡◌, ◌⊎◌, inl, inr, ◌∙◌, ℕ, zero, suc, ◌+◌, ◌-◌, ◌*◌, ◌<◌, ◌≤◌, List, [], ◌∷◌, length, get_or, set, sum_by, refl, sym, ap, subst, arith, Bool, true, false, cond, get_or-set_same, get_or-set_other}
+use Rattle.std.specs.Prelude.{Option, Some, None, not, ◌==◌, ◌||◌, ◌&&◌, nat_lt, nat_le, find, min, is_some}
+use Rattle.std.proofs.lemmas.Bool.Decides.{nat_tests}
+use Rattle.plain_model.specs.declared.entry.Life.{Life}
+use Rattle.plain_model.specs.declared.entry.Life.TheVariants.{Growing, Whole, GivenUp}
+use Rattle.plain_model.specs.declared.entry.Entry.{Entry}
+use Rattle.plain_model.specs.declared.entry.Place.{Place}
+use Rattle.plain_model.specs.declared.store.Setting.{Setting}
+use Rattle.plain_model.specs.declared.store.Tab.{Tab}
+use Rattle.plain_model.specs.declared.store.Tab.TheVariants.{Free, Writing, Reading}
+use Rattle.plain_model.specs.declared.store.Plain.{Plain}
+use Rattle.plain_model.specs.declared.store.Refusal.{Refusal}
+use Rattle.plain_model.specs.declared.store.Refusal.TheVariants.{Full, Large}
+use Rattle.plain_model.specs.Place.{nothing, vacated, doomed, changed, resized, ended}
+use Rattle.plain_model.specs.Store.{place_at, entry_at, tab_at, with_tab, published, has_life, readers, is_vacant_at, is_idle_at, is_left_over_at}
+use Rattle.plain_model.specs.Slots.{held_by, held, free, from_hand, victim, evicted, claim, claim_of, claim_two, Claimed, Grown, resize, publish, grow, limit}
+use Rattle.plain_laws.specs.Holding.{IsGrowing, slots_held}
+use Rattle.plain_laws.proofs.Choosing.{either}
+use Rattle.plain_model.specs.Writing.{settle, taken_by, close_writer}
+use Rattle.plain_model.specs.Reading.{doom_at}
+
+-- the tab is free, or at this anchor
+abbrev pub IsOn : ℕ → Tab → Type 0
+IsOn a Free = Unit {0}
+IsOn a (Writing b) = b ≡ a
+IsOn a (Reading b given other) = b ≡ a
+
+-- the hand and all other anchors are as they were, and each tab too, or it is at this one
+pub record Stays (a : ℕ) (p q : Plain) : Type 0 where
+  pub hand : q.hand ≡ p.hand
+  pub places : (b : ℕ) → (b ≡ a → ⊥) → place_at q b ≡ place_at p b
+  pub tabs : (t : ℕ) → (tab_at q t ≡ tab_at p t) ⊎ IsOn a (tab_at q t)
+
+pub stays_refl : (a : ℕ) (p : Plain) → Stays a p p
+stays_refl a p = record { hand = refl; places = λ b n. refl; tabs = λ t. inl refl }
+
+pub stays_trans : (a : ℕ) (p q r : Plain) → Stays a p q → Stays a q r → Stays a p r
+stays_trans a p q r h k = record {
+  hand = k.hand ∙ h.hand;
+  places = λ b n. k.places b n ∙ h.places b n;
+  tabs = λ t. elim (k.tabs t) [
+    | inl e ↦ elim (h.tabs t) [ inl d ↦ inl (e ∙ d) | inr d ↦ inr (subst (λ (x : Tab). IsOn a x) (sym e) d) ]
+    | inr e ↦ inr e
+  ];
+}
+
+pub stays_set : (f : Place → Place) (a : ℕ) (p : Plain) → Stays a p (record p { places = set p.places a (f (place_at p a)) })
+stays_set f a p = record { hand = refl; places = λ b n. get_or-set_other p.places a b (f (place_at p a)) nothing n; tabs = λ t. inl refl }
+
+tab_there : (ts : List Tab) (tab t : ℕ) (x : Tab) → (get_or (set ts tab x) t Free ≡ get_or ts t Free) ⊎ (get_or (set ts tab x) t Free ≡ x)
+tab_there [] tab t x = inl refl
+tab_there (y ∷ ts) zero zero x = inr refl
+tab_there (y ∷ ts) zero (suc t) x = inl refl
+tab_there (y ∷ ts) (suc tab) zero x = inl refl
+tab_there (y ∷ ts) (suc tab) (suc t) x = tab_there ts tab t x
+
+tabs_there : (a : ℕ) (ts : List Tab) (tab t : ℕ) (x : Tab) → IsOn a x → (get_or (set ts tab x) t Free ≡ get_or ts t Free) ⊎ IsOn a (get_or (set ts tab x) t Free)
+tabs_there a ts tab t x on = elim (tab_there ts tab t x) [ inl e ↦ inl e | inr e ↦ inr (subst (λ (y : Tab). IsOn a y) (sym e) on) ]
+
+pub stays_tab : (a tab : ℕ) (x : Tab) (p : Plain) → IsOn a x → Stays a p (with_tab p tab x)
+stays_tab a tab x p on = record { hand = refl; places = λ b n. refl; tabs = λ t. tabs_there a p.tabs tab t x on }
+
+pub stays_settle : (a : ℕ) (p : Plain) → Stays a p (settle a p)
+stays_settle a p = either (λ (q : Plain). Stays a p q) (is_left_over_at p a) _ _ (λ t. stays_set vacated a p) (λ t. stays_refl a p)
+
+pub stays_close_writer : (life : Life) (tab a : ℕ) (p : Plain) → Stays a p (close_writer life tab a p)
+stays_close_writer life tab a p = stays_trans a p q (settle a q)
+    (record { hand = refl; places = λ b n. get_or-set_other p.places a b (ended life (place_at p a)) nothing n; tabs = λ t. tabs_there a p.tabs tab t Free tt })
+    (stays_settle a q)
+  where
+    q : Plain
+    q = record p { tabs = set p.tabs tab Free; places = set p.places a (ended life (place_at p a)) }
+
+pub stays_taken : (tab a : ℕ) (e : Entry) (p : Plain) → Stays a p (taken_by tab a e p)
+stays_taken tab a e p = record {
+  hand = refl;
+  places = λ b n. get_or-set_other p.places a b (record { version = p.counter + 1; doom = false; entry = Some e }) nothing n;
+  tabs = λ t. tabs_there a p.tabs tab t (Writing a) refl;
+}
