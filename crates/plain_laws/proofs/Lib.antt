@@ -18,3 +18,4 @@ pub mod Fitted
 pub mod Roomed
 pub mod ReadingRoomed
 pub mod Running
+pub mod Resting

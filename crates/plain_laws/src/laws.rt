@@ -1,16 +1,18 @@
 // The laws.
-ghost use Rattle.std.specs.Prelude.{◌≡◌, ◌<◌, ℕ, List, length, Some};
+ghost use Rattle.std.specs.Prelude.{◌≡◌, ◌<◌, ◌≤◌, ℕ, List, length, Some};
 ghost use Rattle.script_text.specs.declared.line.Line.{Line};
 ghost use Rattle.script_text.specs.declared.answer.Answer.{Answer};
 ghost use Rattle.plain_model.specs.declared.entry.Entry.{Entry};
 ghost use Rattle.plain_model.specs.declared.store.Setting.{Setting};
 ghost use Rattle.plain_model.specs.declared.store.Plain.{Plain};
 ghost use Rattle.plain_model.specs.Store.{entry_at};
-ghost use Rattle.plain_model.specs.Serving.{answers, after, get};
+ghost use Rattle.plain_model.specs.Serving.{answers, after, get, fresh};
+ghost use Rattle.plain_model.specs.Opening.{opened};
+ghost use Rattle.plain_model.specs.declared.kept.Kept.{Kept};
 ghost use Rattle.plain_laws.specs.Offered.{HasOrigin};
 ghost use Rattle.plain_laws.specs.Begun.{begun, RiseAbove};
 ghost use Rattle.plain_laws.specs.Hit.{IsHit};
-ghost use Rattle.plain_laws.specs.Holding.{HoldsItsSlots};
+ghost use Rattle.plain_laws.specs.Holding.{HoldsItsSlots, slots_held};
 ghost use Rattle.plain_laws.specs.Fitting.{Fits, IsAtRest, RunsInRoom};
 
 /// A version is begun by one line: those that lines begin rise, and are above all that were given out
@@ -45,4 +47,13 @@ pub fn held_slots_are_there()
 pub fn fitting_scripts_have_room()
     ensures { (s : Setting) (script lines : List Line) (p : Plain)
         → 0 < s.room → 0 < s.anchors → 0 < s.slots → length p.places ≡ s.anchors → IsAtRest p → Fits s lines p → RunsInRoom s script lines p }
+{}
+
+/// A store that was never written, and one that is opened on entries of a file, are at rest and have a
+/// place for each anchor. Where the entries hold no more slots than there are, the store holds its slots.
+pub fn stores_begin_at_rest()
+    ensures fresh { (s : Setting) → IsAtRest (fresh s.anchors) × HoldsItsSlots s (fresh s.anchors) × (length (fresh s.anchors).places ≡ s.anchors) }
+    ensures opened { (s : Setting) (kept : List Kept) (greatest : ℕ)
+        → IsAtRest (opened s.anchors kept greatest) × (length (opened s.anchors kept greatest).places ≡ s.anchors)
+        × (slots_held s (opened s.anchors kept greatest) ≤ s.slots → HoldsItsSlots s (opened s.anchors kept greatest)) }
 {}
