@@ -17,6 +17,7 @@ ghost use Rattle.core_runs.specs.Responses.{Offers, AreBytes, IsFaithful, IsPubl
 ghost use Rattle.core_runs.specs.Offered.{AllOffered};
 ghost use Rattle.core_runs.specs.Runs.{IsRun, IsSound, SlotsApart};
 
+use db_layout::MOST_SLOTS;
 use entry_cut::placed_pieces_are_an_entry;
 
 /// From a sound core every allowed list of steps leads through sound cores alone.
@@ -43,7 +44,7 @@ pub fn published_slots_hold_responses()
         → IsSound core → a < core.anchors → get_elem? (chain_of (state_of core) a).slots place ≡ some slot
         → IsCell (state_of core) slot cell → IsPublishedAs file offers core a place slot (bytes_of file offers cell.now) }
     ensures closed { (file : FileImage) (offers : Offers) (anchors passes : ℕ) (steps : List Step) (cores : List Machine) (from : Machine)
-        → IsSlotSize file.slot → length file.slots ≤ 1048576 → IsNew file (length file.slots) anchors passes from
+        → IsSlotSize file.slot → length file.slots ≤ MOST_SLOTS → IsNew file (length file.slots) anchors passes from
         → IsRun steps cores → get_elem? cores 0 ≡ some from → IsSound from
         → ((j : ℕ) (core : Machine) → get_elem? cores j ≡ some core → IsFaithful file offers core)
         → (i : ℕ) (core : Machine) → get_elem? cores i ≡ some core
