@@ -1,6 +1,8 @@
 pub mod Numbers
 pub mod Kept
 pub mod LineFacts
+pub mod Lines
+pub mod Printing
 pub mod CommandFacts
 pub mod ReportFacts
 pub mod CreateFacts

@@ -14,7 +14,7 @@ use Rattle.rock_rebuild.specs.declared.outcome.RebuildFault.TheVariants as rebui
 use Rattle.db_layout.specs.Layout.{IsSlotSize}
 use Rattle.rock_main.specs.Device.{DeviceFailed, DeviceKept}
 use Rattle.rock_main.specs.Faults.{status_of_open, status_of_station, status_of_rebuild}
-use Rattle.rock_main.specs.Report.{HasSlots, OpenedEnds, ReadEnds, ReportEnds, ReportSays, ReportPrints}
+use Rattle.rock_main.specs.Report.{HasSlots, OpenedEnds, ReadEnds, ReportEnds, ReportSays, ReportPrints, PrintEnds, IsFit}
 use Rattle.rock_main.specs.declared.status.Status.{Status}
 use Rattle.rock_main.specs.declared.status.Status.TheVariants.{Done, Usage, Memory, SourceFault, SinkFault, DeviceFault, BadScript, Missing, Small, BadGeometry, Exists}
 
@@ -174,3 +174,58 @@ refused_prints Fits v v' e e' IsText text Missing k = refl
 refused_prints Fits v v' e e' IsText text (Small bytes) k = refl
 refused_prints Fits v v' e e' IsText text (BadGeometry field) k = refl
 refused_prints Fits v v' e e' IsText text Exists k = absurd k
+
+-- how printing ends is how the command ends
+pub printed_ends : (Fits : ℕ → Type 0) (slot s s' v v' : ℕ) (e e' : List ℕ) (status : Status) → IsSlotSize slot → PrintEnds s s' status → ReportEnds Fits slot s s' v v' e e' status
+printed_ends Fits slot s s' v v' e e' Done sized k = sized
+printed_ends Fits slot s s' v v' e e' Usage sized k = absurd k
+printed_ends Fits slot s s' v v' e e' Memory sized k = sized
+printed_ends Fits slot s s' v v' e e' SourceFault sized k = absurd k
+printed_ends Fits slot s s' v v' e e' SinkFault sized k = (sized, k)
+printed_ends Fits slot s s' v v' e e' DeviceFault sized k = absurd k
+printed_ends Fits slot s s' v v' e e' (BadScript line cause) sized k = absurd k
+printed_ends Fits slot s s' v v' e e' Missing sized k = absurd k
+printed_ends Fits slot s s' v v' e e' (Small bytes) sized k = absurd k
+printed_ends Fits slot s s' v v' e e' (BadGeometry field) sized k = absurd k
+printed_ends Fits slot s s' v v' e e' Exists sized k = absurd k
+
+pub printed_says : (Fits : ℕ → Type 0) (s s' : ℕ) (files : Files) (name : List ℕ) (slot : ℕ) (status : Status) → IsFit Fits files name slot → PrintEnds s s' status → ReportSays Fits files name slot status
+printed_says Fits s s' files name slot Done fit k = fit
+printed_says Fits s s' files name slot Usage fit k = absurd k
+printed_says Fits s s' files name slot Memory fit k = tt
+printed_says Fits s s' files name slot SourceFault fit k = absurd k
+printed_says Fits s s' files name slot SinkFault fit k = fit
+printed_says Fits s s' files name slot DeviceFault fit k = absurd k
+printed_says Fits s s' files name slot (BadScript line cause) fit k = absurd k
+printed_says Fits s s' files name slot Missing fit k = absurd k
+printed_says Fits s s' files name slot (Small bytes) fit k = absurd k
+printed_says Fits s s' files name slot (BadGeometry field) fit k = absurd k
+printed_says Fits s s' files name slot Exists fit k = absurd k
+
+-- printing meets no fault of the disk
+pub printed_no_fault : (s s' : ℕ) (status : Status) → PrintEnds s s' status → status ≡ DeviceFault → ⊥
+printed_no_fault s s' Done k told = cc
+printed_no_fault s s' Usage k told = absurd k
+printed_no_fault s s' Memory k told = cc
+printed_no_fault s s' SourceFault k told = absurd k
+printed_no_fault s s' SinkFault k told = cc
+printed_no_fault s s' DeviceFault k told = absurd k
+printed_no_fault s s' (BadScript line cause) k told = absurd k
+printed_no_fault s s' Missing k told = absurd k
+printed_no_fault s s' (Small bytes) k told = absurd k
+printed_no_fault s s' (BadGeometry field) k told = absurd k
+printed_no_fault s s' Exists k told = absurd k
+
+-- what is printed of what was read is a text of the file
+pub printed_text : {IsText Told : List ℕ → Type 0} (s s' : ℕ) (before after : List ℕ) (status : Status) → ((text : List ℕ) → IsText text → Told text) → PrintEnds s s' status → ReportPrints IsText before after status → ReportPrints Told before after status
+printed_text s s' before after Done tells k p = (p.0, tells p.0 p.1, p.2)
+printed_text s s' before after Usage tells k p = absurd k
+printed_text s s' before after Memory tells k p = p
+printed_text s s' before after SourceFault tells k p = absurd k
+printed_text s s' before after SinkFault tells k p = (p.0, tells p.0 p.1, p.2)
+printed_text s s' before after DeviceFault tells k p = absurd k
+printed_text s s' before after (BadScript line cause) tells k p = absurd k
+printed_text s s' before after Missing tells k p = absurd k
+printed_text s s' before after (Small bytes) tells k p = absurd k
+printed_text s s' before after (BadGeometry field) tells k p = absurd k
+printed_text s s' before after Exists tells k p = absurd k

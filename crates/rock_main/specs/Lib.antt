@@ -1,6 +1,7 @@
 pub mod CommandLine
 pub mod Command
 pub mod Listing
+pub mod Room
 pub mod Summary
 pub mod Faults
 pub mod Device

@@ -1,5 +1,5 @@
 -- The listing of a file.
-use Rattle.std.specs.Prelude.{◌≡◌, ℕ, List, ◌++◌, length, map, Contains, codes, decimal}
+use Rattle.std.specs.Prelude.{◌≡◌, ℕ, ◌≤◌, List, ◌++◌, length, map, Contains, codes, decimal}
 use Rattle.std.specs.List.{flat_map}
 use Rattle.std.specs.List.Sorted.{IsStrictlyIncreasing}
 use Rattle.rock_disk.specs.File.{slots_cut}
@@ -23,6 +23,10 @@ line_of e = line e.first e.version (length e.chain) (length e.body) e.url
 
 abbrev pub line_of_found : Found → List ℕ
 line_of_found f = line f.first f.version (length f.chain) f.length f.url
+
+-- its URL is as short as URLs are
+abbrev pub HasShortUrl : Found → Type 0
+HasShortUrl f = length f.url ≤ 2048
 
 -- the text has the lines of exactly the complete entries of these slots, in order of their first slots
 pub record Lists (slot : ℕ) (images : List (List ℕ)) (text : List ℕ) : Type 0 where

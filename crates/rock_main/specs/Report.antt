@@ -9,10 +9,13 @@ use Rattle.rock_disk.specs.Opened.{IsSmall}
 use Rattle.db_layout.specs.Layout.{IsSlotSize}
 use Rattle.db_layout.specs.declared.layout.TheConstants.{HEADER_BYTES}
 use Rattle.rock_main.specs.Device.{DeviceFailed}
-use Rattle.rock_main.specs.Listing.{images_of, Lists}
-use Rattle.rock_main.specs.Summary.{Sums}
+use Rattle.std.specs.List.{flat_map}
+use Rattle.rock_main.specs.Listing.{images_of, Lists, line_of_found}
+use Rattle.rock_main.specs.Summary.{Sums, line_of_tally}
 use Rattle.rock_main.specs.declared.report.Report.{Report}
 use Rattle.rock_main.specs.declared.report.Report.TheVariants as report
+use Rattle.rock_main.specs.declared.report.Reading.{Reading}
+use Rattle.rock_main.specs.declared.report.Reading.TheVariants as reading
 use Rattle.rock_main.specs.declared.status.Status.{Status}
 use Rattle.rock_main.specs.declared.status.Status.TheVariants.{Done, Usage, Memory, SourceFault, SinkFault, DeviceFault, BadScript, Missing, Small, BadGeometry, Exists}
 
@@ -33,6 +36,11 @@ Fits (report.Summary anchors) = IsAnchors anchors
 abbrev pub Prints : Report → ℕ → List (List ℕ) → List ℕ → Type 0
 Prints report.Listing slot = Lists slot
 Prints (report.Summary anchors) slot = Sums anchors slot
+
+-- the text that is printed of what was read
+abbrev pub text_of : Reading → List ℕ
+text_of (reading.Entries listed) = flat_map line_of_found listed.found
+text_of (reading.Sums tally) = line_of_tally tally
 
 -- the text is this of the file of this name, by the images of its slots
 pub record OfFile (Prints : List (List ℕ) → List ℕ → Type 0) (files : Files) (name : List ℕ) (slot : ℕ) (text : List ℕ) : Type 0 where
@@ -97,6 +105,13 @@ pub record IsRefused (tells : Bool) (Fits : ℕ → Type 0) (files : Files) (nam
   pub missing : IsTrue tells → IsSlotSize slot → get files name ≡ None → status ≡ Missing
   pub small : (bytes : ℕ) → IsTrue tells → IsSlotSize slot → IsSmall files name slot bytes → status ≡ Small bytes
   pub unfit : (slots : ℕ) → IsTrue tells → IsSlotSize slot → HasSlots files name slot slots → ¬ Fits slots → (status ≡ BadGeometry 2) ⊎ ((status ≡ DeviceFault) ⊎ (status ≡ Memory))
+
+-- how printing ends, by the sink's count
+abbrev pub PrintEnds : (sink_before sink_after : ℕ) → Status → Type 0
+PrintEnds s s' Done = Unit {0}
+PrintEnds s s' Memory = Unit {0}
+PrintEnds s s' SinkFault = Rose s s'
+PrintEnds s s' status = ⊥
 
 -- what was printed: at `Done` the text, at a fault of the sink a prefix of it, and else nothing
 abbrev pub ReportPrints : (List ℕ → Type 0) → List ℕ → List ℕ → Status → Type 0

@@ -1,5 +1,7 @@
 -- The summary of a file.
-use Rattle.std.specs.Prelude.{◌≡◌, ℕ, ◌-◌, List, ◌++◌, length, codes, decimal, count_by, nat_lt}
+use Rattle.std.specs.Prelude.{◌≡◌, ℕ, ◌-◌, List, ◌++◌, length, codes, decimal}
+use Rattle.rock_rebuild.specs.Tally.{used_in}
+use Rattle.rock_rebuild.specs.declared.outcome.Tally.{Tally}
 use Rattle.rebuild_model.specs.Rebuilt.{IsRebuilt}
 use Rattle.rebuild_model.specs.declared.rebuilt.Rebuilt.{Rebuilt}
 
@@ -13,9 +15,8 @@ back free version = codes "free=" ++ decimal free ++ codes " version=" ++ decima
 abbrev pub summary : (slots kept used free version : ℕ) → List ℕ
 summary slots kept used free version = front slots kept used ++ back free version
 
--- how many slots have an owner
-abbrev pub used_in : List ℕ → ℕ
-used_in owner = count_by (λ n. nat_lt 0 n) owner
+abbrev pub line_of_tally : Tally → List ℕ
+line_of_tally tally = summary tally.slots tally.kept tally.used (tally.slots - tally.used) tally.greatest
 
 abbrev pub line_of_rebuilt : Rebuilt → List ℕ
 line_of_rebuilt rebuilt = summary (length rebuilt.owner) (length rebuilt.winners) (used_in rebuilt.owner) (length rebuilt.owner - used_in rebuilt.owner) rebuilt.greatest

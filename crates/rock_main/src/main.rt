@@ -4,6 +4,7 @@
 //! files of the system. A run that does not end well says so in one line on standard error.
 #![tactic(auto)]
 
+mod buffer;
 mod command;
 mod create;
 mod listing;

@@ -8,9 +8,9 @@ ghost use Rattle.rock_disk.specs.Opened.{AreSlots, IsSmall};
 ghost use Rattle.db_layout.specs.Layout.{IsSlotSize};
 ghost use Rattle.rock_main.specs.Faults.{status_of_open, status_of_rebuild, status_of_station};
 ghost use Rattle.rock_main.specs.Device.{EndedOne, DeviceKept};
-ghost use Rattle.rock_main.specs.Report.{Fits, Prints, OfFile, HasSlots, IsFit, OpenedEnds, ReadEnds, ReportSays};
+ghost use Rattle.rock_main.specs.Report.{Fits, Prints, OfFile, HasSlots, IsFit, OpenedEnds, ReadEnds, ReportSays, text_of};
 
-use crate::report::Report;
+use crate::report::{Reading, Report};
 use crate::status::Status;
 use rock_disk::{
     OpenFault, Opened, StationFault, Volume, opened_cells_are_the_files,
@@ -54,20 +54,20 @@ impl From<RebuildFault> for Status {
     }
 }
 
-/// Makes the report of an opened file by a station that it makes and ends.
-fn text_by_station<V: Volume>(
+/// Reads an opened file for a report by a station that it makes and ends.
+fn read_by_station<V: Volume>(
     alloc: Global,
     volume: &mut V,
     name: &str,
     cells: &mut [V::C],
     slot: u32,
     report: Report,
-) -> Result<Vec<u8>, Status>
+) -> Result<Reading, Status>
     requires there { IsTrue V.tells → IsThere (V.files volume.old) name.now }
     requires fits { Fits report (length cells.old) }
     requires slots { AreSlots slot (map V.C.state cells.old) }
-    ensures prints { IfOk result (λ text. IsTrue V.C.tells
-        → Prints report slot (map (λ (c : CellState). c.now) (map V.C.state cells.old)) text.items) }
+    ensures prints { IfOk result (λ reading. IsTrue V.C.tells
+        → Prints report slot (map (λ (c : CellState). c.now) (map V.C.state cells.old)) (text_of reading)) }
     ensures cells { map V.C.state cells.new ≡ map V.C.state cells.old }
     ensures files { V.files volume.new ≡ V.files volume.old }
     ensures faults { V.faults volume.old ≤ V.faults volume.new }
@@ -80,27 +80,27 @@ fn text_by_station<V: Volume>(
         (V.faults volume.old) (V.faults volume.new) (V.ended volume.old) (V.ended volume.new)) }
 {
     let mut station = volume.station(name)?;
-    let outcome = report.text(alloc, &mut station, cells, slot);
+    let outcome = report.read(alloc, &mut station, cells, slot);
     volume.end_station(station);
     match outcome {
-        Ok(text) => Ok(text),
+        Ok(reading) => Ok(reading),
         Err(fault) => Err(Status::from(fault)),
     }
 }
 
-/// Makes the report of an opened file where it has as many slots as the report is for.
-fn text_if_fit<V: Volume>(
+/// Reads an opened file for a report where it has as many slots as the report is for.
+fn read_if_fit<V: Volume>(
     alloc: Global,
     volume: &mut V,
     name: &str,
     cells: &mut [V::C],
     slot: u32,
     report: Report,
-) -> Result<Vec<u8>, Status>
+) -> Result<Reading, Status>
     requires there { IsTrue V.tells → IsThere (V.files volume.old) name.now }
     requires slots { AreSlots slot (map V.C.state cells.old) }
-    ensures prints { IfOk result (λ text. IsTrue V.C.tells
-        → Prints report slot (map (λ (c : CellState). c.now) (map V.C.state cells.old)) text.items) }
+    ensures prints { IfOk result (λ reading. IsTrue V.C.tells
+        → Prints report slot (map (λ (c : CellState). c.now) (map V.C.state cells.old)) (text_of reading)) }
     ensures fits { IsOk result → Fits report (length cells.old) }
     ensures cells { map V.C.state cells.new ≡ map V.C.state cells.old }
     ensures files { V.files volume.new ≡ V.files volume.old }
@@ -119,22 +119,22 @@ fn text_if_fit<V: Volume>(
     if !report.is_for(cells.len()) {
         return Err(Status::BadGeometry { field: 2 });
     }
-    text_by_station(alloc, volume, name, cells, slot, report)
+    read_by_station(alloc, volume, name, cells, slot, report)
 }
 
-/// Opens a file, makes a report of it by one station, and gives it back.
+/// Opens a file, reads it for a report by one station, and gives it back.
 pub fn read_file<V: Volume>(
     alloc: Global,
     volume: &mut V,
     name: &str,
     slot: u32,
     report: Report,
-) -> Result<Vec<u8>, Status>
+) -> Result<Reading, Status>
     requires size { IsSlotSize slot }
     requires home { IsTrue V.tells → IsNotAway (get (V.files volume.old) name.now) }
 
-    ensures prints { IfOk result (λ text. IsTrue V.tells
-        → OfFile (Prints report slot) (V.files volume.old) name.now slot text.items) }
+    ensures prints { IfOk result (λ reading. IsTrue V.tells
+        → OfFile (Prints report slot) (V.files volume.old) name.now slot (text_of reading)) }
     ensures fits { IsTrue V.tells → IsOk result
         → IsFit (Fits report) (V.files volume.old) name.now slot }
     ensures kept { IsTrue V.tells → IsKept slot name.now (V.files volume.old) (V.files volume.new) }
@@ -169,7 +169,7 @@ pub fn read_file<V: Volume>(
         mut cells,
         bytes: _,
     } = volume.open_file(alloc, name, slot)?;
-    let outcome = text_if_fit(alloc, volume, name, &mut cells, slot, report);
+    let outcome = read_if_fit(alloc, volume, name, &mut cells, slot, report);
     volume.give_back(name, header, cells);
     outcome
 }

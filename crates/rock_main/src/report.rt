@@ -1,22 +1,24 @@
 // Commands that read a whole file and print what they tell of it.
-ghost use Rattle.std.specs.Prelude.{◌≡◌, ℕ, ◌≤◌, IsTrue, IfOk, IsErrOf, length, map, None, ◌↔◌};
+ghost use Rattle.std.specs.Prelude.{◌≡◌, ℕ, ◌≤◌, IsTrue, IfOk, IsErrOf, OnOk, OnErr, length, map, vec_capacity, ◌++◌, [], None, ◌↔◌};
 ghost use Rattle.std.specs.FinMap.{get};
 ghost use Rattle.rock_io.specs.Faults.{Rose};
+ghost use Rattle.rock_io.specs.Sink.{TakesPrefix};
 ghost use Rattle.rock_disk.specs.Cell.{CellState};
 ghost use Rattle.rock_disk.specs.File.{IsNotAway, IsKept};
 ghost use Rattle.rock_disk.specs.Opened.{AreSlots, IsSmall};
 ghost use Rattle.db_layout.specs.Layout.{IsSlotSize};
 ghost use Rattle.rock_main.specs.Device.{EndedOne, DeviceKept};
-ghost use Rattle.rock_main.specs.Report.{IsAnchors, Fits, Prints, OfFile, HasSlots, ReportEnds, ReportSays, ReportPrints};
+ghost use Rattle.rock_main.specs.Report.{IsAnchors, Fits, Prints, OfFile, HasSlots, ReportEnds, ReportSays, ReportPrints, PrintEnds, text_of};
 
-use crate::listing::listing_of;
+use crate::buffer::BUFFER_BYTES;
+use crate::listing::{ListedEntries, listed, print_lines};
 use crate::read::read_file;
 use crate::status::Status;
-use crate::summary::summary_of;
+use crate::summary::{print_summary, summed};
 use db_layout::slot_size_ok;
 use rock_disk::{Station, Volume};
-use rock_io::{Sink, write_all};
-use rock_rebuild::RebuildFault;
+use rock_io::{Failed, Sink};
+use rock_rebuild::{RebuildFault, Tally};
 use std::alloc::Global;
 
 /// What a command prints of a file.
@@ -26,6 +28,13 @@ pub enum Report {
     Listing,
     /// One line on what a store with so many anchors keeps.
     Summary { anchors: u32 },
+}
+
+/// What was read of a file for a report.
+#[derive(Debug, Drop)]
+pub enum Reading {
+    Entries(ListedEntries),
+    Sums(Tally),
 }
 
 impl Report {
@@ -39,19 +48,18 @@ impl Report {
         }
     }
 
-    /// Reads the slots of a file by a station, and makes the text. The cells are as they were, whatever
-    /// the answer.
-    pub fn text<St: Station>(
+    /// Reads the slots of a file by a station. The cells are as they were, whatever the answer.
+    pub fn read<St: Station>(
         self,
         alloc: Global,
         station: &mut St,
         cells: &mut [St::C],
         slot: u32,
-    ) -> Result<Vec<u8>, RebuildFault>
+    ) -> Result<Reading, RebuildFault>
         requires fits { Fits self (length cells.old) }
         requires slots { AreSlots slot (map St.C.state cells.old) }
-        ensures prints { IfOk result (λ text. IsTrue St.C.tells
-            → Prints self slot (map (λ (c : CellState). c.now) (map St.C.state cells.old)) text.items) }
+        ensures prints { IfOk result (λ reading. IsTrue St.C.tells
+            → Prints self slot (map (λ (c : CellState). c.now) (map St.C.state cells.old)) (text_of reading)) }
         ensures cells { map St.C.state cells.new ≡ map St.C.state cells.old }
         ensures faults { St.faults station.old ≤ St.faults station.new }
         ensures failed { IsErrOf result RebuildFault.Failed
@@ -60,8 +68,14 @@ impl Report {
             → St.faults station.new ≡ St.faults station.old }
     {
         match self {
-            Report::Listing => listing_of(alloc, station, cells, slot),
-            Report::Summary { anchors } => summary_of(alloc, station, cells, slot, anchors),
+            Report::Listing => {
+                let entries = listed(alloc, station, cells, slot)?;
+                Ok(Reading::Entries(entries))
+            }
+            Report::Summary { anchors } => {
+                let sums = summed(alloc, station, cells, slot, anchors)?;
+                Ok(Reading::Sums(sums))
+            }
         }
     }
 }
@@ -71,6 +85,45 @@ fn are_anchors(anchors: u32, slots: usize) -> bool
     ensures { IsTrue result ↔ IsAnchors anchors slots }
 {
     1 <= anchors && anchors as usize <= slots
+}
+
+/// Prints what was read, through an empty buffer.
+fn print_through<K: Sink>(
+    out: &mut K,
+    buffer: &mut Vec<u8>,
+    reading: &Reading,
+) -> Result<(), Failed>
+    requires room { BUFFER_BYTES ≤ vec_capacity buffer.old }
+    requires empty { buffer.old.items ≡ [] }
+    ensures all { OnOk result (IsTrue K.tells
+        → K.taken out.new ≡ K.taken out.old ++ text_of reading.now) }
+    ensures prefix { OnErr result (IsTrue K.tells
+        → TakesPrefix (K.taken out.old) (K.taken out.new) (text_of reading.now)) }
+    ensures faults { K.faults out.old ≤ K.faults out.new }
+    ensures unfailed { OnOk result (K.faults out.new ≡ K.faults out.old) }
+    ensures failed { OnErr result (Rose (K.faults out.old) (K.faults out.new)) }
+{
+    match reading {
+        Reading::Entries(listed) => print_lines(out, buffer, listed.found.as_slice()),
+        Reading::Sums(tally) => print_summary(out, buffer, tally),
+    }
+}
+
+/// Prints what was read, through one buffer. Nothing is printed where there is no memory for it.
+fn print_reading<K: Sink>(alloc: Global, out: &mut K, reading: &Reading) -> Status
+    ensures ends { PrintEnds (K.faults out.old) (K.faults out.new) result }
+    ensures prints { IsTrue K.tells
+        → ReportPrints (λ text. text ≡ text_of reading.now) (K.taken out.old) (K.taken out.new) result }
+    ensures sink_faults { K.faults out.old ≤ K.faults out.new }
+    ensures sink_unfailed { (result ≡ Status.SinkFault → ⊥) → K.faults out.new ≡ K.faults out.old }
+{
+    let Ok(mut buffer) = Vec::with_capacity(alloc, BUFFER_BYTES) else {
+        return Status::Memory;
+    };
+    match print_through(out, &mut buffer, reading) {
+        Ok(()) => Status::Done,
+        Err(_failed) => Status::SinkFault,
+    }
 }
 
 /// Prints a report of a file. Nothing is printed before the whole file was read and given back.
@@ -121,12 +174,8 @@ pub fn print_report<V: Volume, K: Sink>(
     if !slot_size_ok(slot) {
         return Status::BadGeometry { field: 1 };
     }
-    let text = match read_file(alloc, volume, name, slot, report) {
-        Ok(text) => text,
-        Err(status) => return status,
-    };
-    match write_all(out, &text) {
-        Ok(()) => Status::Done,
-        Err(_failed) => Status::SinkFault,
+    match read_file(alloc, volume, name, slot, report) {
+        Ok(reading) => print_reading(alloc, out, &reading),
+        Err(status) => status,
     }
 }

@@ -12,3 +12,4 @@ pub mod Scanned
 pub mod Choosing
 pub mod Keeping
 pub mod Owning
+pub mod Counted

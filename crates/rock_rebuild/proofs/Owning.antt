@@ -49,7 +49,7 @@ none_owned anchors winners owners none = record {
   owned = λ s inside. inr (λ f there has. absurd (omega (arith, there.1)), none s inside);
 }
 
-owner_on : (anchors : ℕ) (done : List Found) (w : Found) (s old new : ℕ) (among : Bool) → is_among s w.chain ≡ among → new ≡ cond among (anchor_of w.key anchors + 1) old → IsOwner anchors done s old → IsOwner anchors (done ++ w ∷ []) s new
+pub owner_on : (anchors : ℕ) (done : List Found) (w : Found) (s old new : ℕ) (among : Bool) → is_among s w.chain ≡ among → new ≡ cond among (anchor_of w.key anchors + 1) old → IsOwner anchors done s old → IsOwner anchors (done ++ w ∷ []) s new
 owner_on anchors done w s old new true is sets o = inl (w, Contains-push done w, is_there w.chain s is, sets)
 owner_on anchors done w s old new false is sets (inl o) = inl (o.0, Contains-append_left done (w ∷ []) o.0 o.1, o.2, sets ∙ o.3)
 owner_on anchors done w s old new false is sets (inr none) = inr (

@@ -1,12 +1,13 @@
 -- One slot more that was read.
-use Rattle.std.proofs.Common.{◌≡◌, inl, inr, ℕ, ◌+◌, ◌<◌, ◌≤◌, max, List, [], ◌∷◌, ◌++◌, length, get_or, ap, sym, refl, ◌∙◌, subst, arith}
+use Rattle.std.proofs.Common.{◌≡◌, inl, inr, ℕ, ◌+◌, ◌<◌, ◌≤◌, max, List, [], ◌∷◌, ◌++◌, length, take, drop, get_or, ap, sym, refl, ◌∙◌, subst, arith}
 use Rattle.std.specs.Prelude.{Option, Some, None, MatchOption}
 use Rattle.std.proofs.lemmas.Bool.{cases_lt}
-use Rattle.std.proofs.lemmas.List.{get_or_append_left, get_or_push, length_push}
+use Rattle.std.proofs.lemmas.List.{get_or_append_left, get_or_push, length_push, length-drop, length-append, drop-append-le, take-append-le}
+use Rattle.std.proofs.Math.Seq.{drop-append_seam, take-length}
 use Rattle.slot_cell.specs.declared.header.Header.{Header}
 use Rattle.slot_cell.specs.Header.{header_of, IsSane}
 use Rattle.rebuild_model.specs.Image.{image_at}
-use Rattle.rock_rebuild.specs.Kept.{IsHeaderOf, TellsHeader, TellsHead, AreHeaders, AreHeads, IsGreatestOf}
+use Rattle.rock_rebuild.specs.Kept.{IsHeaderOf, TellsHeader, SaysHead, TellsHead, AreHeaders, AreHeads, IsGreatestOf, url_in}
 use Rattle.rock_rebuild.specs.declared.entry_head.Head.{Head}
 
 -- what holds at each place of two lists, and of one more element of each, holds at each place of the longer lists
@@ -33,12 +34,32 @@ headers_more slots slot images image headers header are tells = record {
   each = each_more (λ k i h. TellsHeader slots slot i h) [] None images headers image header are.count are.each tells;
 }
 
-pub heads_more : (slots slot number : ℕ) (images : List (List ℕ)) (image : List ℕ) (heads : List (Option Head)) (head : Option Head) → length images ≡ number → AreHeads slots slot images heads
-    → TellsHead slots slot number image head → AreHeads slots slot (images ++ image ∷ []) (heads ++ head ∷ [])
-heads_more slots slot number images image heads head last are tells = record {
-  count = length_push heads head ∙ ap (λ n. n + 1) are.count ∙ sym (length_push images image);
-  each = each_more (λ k i h. TellsHead slots slot k i h) [] None images heads image head are.count are.each (subst (λ n. TellsHead slots slot n image head) (sym last) tells);
+-- a URL in the buffer stays where more come behind it
+url_still : (urls more : List ℕ) (head : Head) → head.from + head.size ≤ length urls → url_in (urls ++ more) head ≡ url_in urls head
+url_still urls more head within =
+    let behind = length-drop head.from urls in
+    ap (take head.size) (drop-append-le head.from urls more (omega (arith, within))) ∙ take-append-le head.size (drop head.from urls) more (omega (arith, within, behind))
+
+tells_still : (slots slot number : ℕ) (image urls more : List ℕ) (head : Option Head) → TellsHead slots slot number image urls head → TellsHead slots slot number image (urls ++ more) head
+tells_still slots slot number image urls more None none = none
+tells_still slots slot number image urls more (Some head) is = record {
+  within = omega (arith, is.within, length-append urls more);
+  says = subst (λ u. SaysHead number image u head.length) (sym (url_still urls more head is.within)) is.says;
 }
+
+pub heads_more : (slots slot number : ℕ) (images : List (List ℕ)) (image : List ℕ) (heads : List (Option Head)) (head : Option Head) (urls more after : List ℕ) → length images ≡ number → after ≡ urls ++ more → AreHeads slots slot images urls heads
+    → TellsHead slots slot number image after head → AreHeads slots slot (images ++ image ∷ []) after (heads ++ head ∷ [])
+heads_more slots slot number images image heads head urls more after last grown are tells = record {
+  count = length_push heads head ∙ ap (λ n. n + 1) are.count ∙ sym (length_push images image);
+  each = each_more (λ k i h. TellsHead slots slot k i after h) [] None images heads image head are.count
+      (λ k within. subst (λ u. TellsHead slots slot k (image_at images k) u (get_or heads k None)) (sym grown) (tells_still slots slot k (image_at images k) urls more (get_or heads k None) (are.each k within)))
+      (subst (λ n. TellsHead slots slot n image after head) (sym last) tells);
+}
+
+-- the URL that was put behind the others is where it is said to lie
+pub put_is : (urls url after : List ℕ) (from size : ℕ) → after ≡ urls ++ url → from ≡ length urls → size ≡ length url → take size (drop from after) ≡ url
+put_is urls url after from size grown starts long =
+    ap (λ l. take size (drop from l)) grown ∙ ap (λ n. take size (drop n (urls ++ url))) starts ∙ ap (take size) (drop-append_seam urls url) ∙ ap (λ n. take n url) long ∙ take-length url
 
 -- the version of a sane one of these slots is at most this
 abbrev AtMost : ℕ → ℕ → ℕ → List ℕ → Type 0

@@ -6,3 +6,4 @@ pub mod Gathered
 pub mod Scan
 pub mod Best
 pub mod Winners
+pub mod Tally

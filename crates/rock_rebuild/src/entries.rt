@@ -7,11 +7,11 @@ ghost use Rattle.rock_rebuild.specs.Left.{AreLeft};
 ghost use Rattle.rock_rebuild.specs.Gathered.{AreFound};
 
 use crate::chain::follow;
-use crate::entry_head::Head;
+use crate::entry_head::{Head, is_key_of, key_of_slot, url_of};
 use crate::table::Table;
 use db_layout::MOST_SLOTS;
 use rebuild_model::{Found, one_entry_at_a_slot};
-use rock_io::Numbers;
+use rock_io::{Numbers, Octets};
 use std::alloc::{AllocError, Global};
 
 /// The complete entry that begins at a slot, if one does, where `head` is what the slot says of it.
@@ -19,6 +19,7 @@ use std::alloc::{AllocError, Global};
 fn find_at(
     alloc: Global,
     table: &mut Table,
+    urls: &[u8],
     chain: &mut Vec<u32>,
     slot: u32,
     first: u32,
@@ -27,7 +28,7 @@ fn find_at(
     requires { length table.old ≤ MOST_SLOTS }
     ensures found { IfOk result (λ found. (images : List (List ℕ)) → IsFile slot images
         → AreLeft slot images first table.old
-        → TellsHead (length images) slot first (image_at images first) head
+        → TellsHead (length images) slot first (image_at images first) urls.now head
         → AreLeft slot images (first + 1) table.new
         × MatchOption found (HasNoEntry slot images first) (IsFound slot images first)) }
     ensures length { length table.new ≡ length table.old }
@@ -35,18 +36,24 @@ fn find_at(
     let Some(head) = head else {
         return Ok(None);
     };
+    let Some(header) = table.header(first) else {
+        return Ok(None);
+    };
+    let Some(url) = url_of(urls, &head) else {
+        return Ok(None);
+    };
     let Some(size) = follow(table, chain, slot, first)? else {
         return Ok(None);
     };
-    if !head.has_key_of_url() {
+    let key = key_of_slot(&header);
+    if !is_key_of(&key, url) {
         return Ok(None);
     }
-    let key = head.key;
     Ok(Some(Found {
         first,
-        version: head.version,
+        version: header.version,
         key,
-        url: head.url,
+        url: Octets::from_vec(url.to_vec(alloc)?),
         // Metadata is never longer than the first slot's payload.
         length: size.saturating_sub(head.length as u64),
         chain: Numbers::from_vec(chain.to_vec(alloc)?),
@@ -72,21 +79,22 @@ fn push_entry(found: &mut Vec<Found>, entry: Option<Found>) -> Result<(), AllocE
 pub fn entries_of(
     alloc: Global,
     table: &mut Table,
-    heads: &mut [Option<Head>],
+    heads: &[Option<Head>],
+    urls: &[u8],
     slot: u32,
 ) -> Result<Vec<Found>, AllocError>
     requires table { length table.old ≤ MOST_SLOTS }
-    requires heads { length heads.old ≤ MOST_SLOTS }
+    requires heads { length heads.now ≤ MOST_SLOTS }
     ensures { IfOk result (λ found. (images : List (List ℕ)) → IsFile slot images
         → AreHeaders (length images) slot images table.old
-        → AreHeads (length images) slot images heads.old
+        → AreHeads (length images) slot images urls.now heads.now
         → AreFound slot images (length images) found.items) }
 {
     let mut found = Vec::new(alloc);
     let mut chain = Vec::new(alloc);
     for first in 0..heads.len() as u32 {
-        let head = heads[first as usize].take();
-        let entry = find_at(alloc, table, &mut chain, slot, first, head)?;
+        let head = heads[first as usize];
+        let entry = find_at(alloc, table, urls, &mut chain, slot, first, head)?;
         push_entry(&mut found, entry)?;
     }
     Ok(found)

@@ -1,4 +1,4 @@
-// What comes of a scan.
+// What comes of a scan, and of a tally.
 ghost use Rattle.std.specs.Prelude.{◌≡◌};
 ghost use Rattle.rock_rebuild.specs.declared.outcome.RebuildFault.TheVariants as fault;
 
@@ -11,6 +11,19 @@ use std::alloc::AllocError;
 pub struct Scan {
     /// The complete entries, in order of their first slots.
     pub found: FoundList,
+    /// The greatest version of a sane slot, or 0 where none is.
+    pub greatest: u32,
+}
+
+/// How much a store keeps of a file.
+#[derive(Clone, Copy, Debug, PartialEq, Eq)]
+pub struct Tally {
+    /// The slots of the file.
+    pub slots: usize,
+    /// The entries that are kept.
+    pub kept: usize,
+    /// The slots of these entries.
+    pub used: usize,
     /// The greatest version of a sane slot, or 0 where none is.
     pub greatest: u32,
 }

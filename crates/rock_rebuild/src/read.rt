@@ -35,7 +35,7 @@ pub fn read_slots<St: Station>(
     let mut slots = Slots::with_capacity(alloc, cells.len())?;
     for number in 0..count {
         station.read(&mut cells[number as usize], &mut image)?;
-        slots.add(alloc, number, count, slot, &image)?;
+        slots.add(number, count, slot, &image)?;
     }
     Ok(slots)
 }

@@ -42,7 +42,7 @@ pub fn scan<St: Station>(
         → Rose (St.faults station.old) (St.faults station.new) }
 {
     let mut slots = read_slots(alloc, station, cells, slot)?;
-    let found = entries_of(alloc, &mut slots.table, &mut slots.heads, slot)?;
+    let found = entries_of(alloc, &mut slots.table, &slots.heads, &slots.urls, slot)?;
     Ok(Scan {
         found: FoundList::from_vec(found),
         greatest: slots.greatest,

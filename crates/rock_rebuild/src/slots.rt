@@ -1,11 +1,13 @@
 // What is kept of the slots of a file.
 ghost use Rattle.std.specs.Prelude.{◌≡◌, ◌+◌, ℕ, List, [], ◌∷◌, ◌++◌, length, max, IfOk, OnOk, MatchOption};
-ghost use Rattle.rock_rebuild.specs.Kept.{TellsHeader, TellsHead};
+ghost use Rattle.rock_rebuild.specs.Kept.{TellsHeader, TellsHead, SaysHead, HasNoHead};
+ghost use Rattle.slot_cell.specs.Header.{header_of, IsSane};
 
 use crate::entry_head::{Head, head_of};
 use crate::table::Table;
 use slot_cell::Header;
 use std::alloc::{AllocError, Global};
+use swap_meta::Meta;
 
 /// What is kept of the slots that were read.
 #[derive(Debug, Drop)]
@@ -13,6 +15,8 @@ pub struct Slots {
     pub table: Table,
     /// For each slot what it says of an entry that begins there.
     pub heads: Vec<Option<Head>>,
+    /// The URLs that heads tell of, behind one another.
+    pub urls: Vec<u8>,
     /// The greatest version of a sane slot, or 0 where none is.
     pub greatest: u32,
 }
@@ -28,6 +32,7 @@ impl Slots {
         Ok(Slots {
             table: Table::with_capacity(alloc, slots)?,
             heads: Vec::with_capacity(alloc, slots)?,
+            urls: Vec::new(alloc),
             greatest: 0,
         })
     }
@@ -35,7 +40,6 @@ impl Slots {
     /// Takes the next slot, of this number, of a file of `slots` slots of `slot` bytes.
     pub fn add(
         &mut self,
-        alloc: Global,
         number: u32,
         slots: u32,
         slot: u32,
@@ -49,7 +53,8 @@ impl Slots {
             × (length self.new.heads.items ≡ length self.old.heads.items + 1)) }
     {
         let header = sane_header(slots, slot, image);
-        let head = head_at(alloc, number, slots, slot, header, image)?;
+        let meta = meta_at(number, slots, slot, header, image);
+        let head = keep_url(&mut self.urls, meta)?;
         self.greatest = greater_of(self.greatest, header);
         self.table.push(header)?;
         self.heads.push(head)?;
@@ -69,23 +74,42 @@ fn sane_header(slots: u32, slot: u32, image: &[u8]) -> Option<Header>
     Some(header)
 }
 
-/// What the slot says of an entry that begins there, where it is sane.
-fn head_at(
-    alloc: Global,
+/// The metadata of an entry that begins at the slot, where the slot is sane.
+fn meta_at<'a>(
     number: u32,
     slots: u32,
     slot: u32,
     header: Option<Header>,
-    image: &[u8],
-) -> Result<Option<Head>, AllocError>
+    image: &'a [u8],
+) -> Option<Meta<'a>>
     requires size { length image.now ≡ slot }
     requires header { TellsHeader slots slot image.now header }
-    ensures { IfOk result (λ head. TellsHead slots slot number image.now head) }
+    ensures { MatchOption result
+        (IsSane (header_of image.now) slots slot → HasNoHead number image.now)
+        (λ meta. SaysHead number image.now meta.url.now meta.length) }
 {
-    let Some(header) = header else {
+    head_of(number, &header?, image)
+}
+
+/// Puts the URL of metadata behind the URLs that are kept, and tells where it lies.
+fn keep_url(urls: &mut Vec<u8>, meta: Option<Meta<'_>>) -> Result<Option<Head>, AllocError>
+    ensures tells { IfOk result (λ head. (slots slot number : ℕ) (image : List ℕ)
+        → MatchOption meta.entry
+        (IsSane (header_of image) slots slot → HasNoHead number image)
+        (λ m. SaysHead number image m.url.now m.length)
+        → TellsHead slots slot number image urls.new.items head) }
+    ensures grows { IfOk result (λ _. (more : List ℕ) × (urls.new.items ≡ urls.old.items ++ more)) }
+{
+    let Some(meta) = meta else {
         return Ok(None);
     };
-    head_of(alloc, number, &header, image)
+    let from = urls.len();
+    urls.extend_from_slice(meta.url)?;
+    Ok(Some(Head {
+        from,
+        size: meta.url.len(),
+        length: meta.length,
+    }))
 }
 
 /// The greater of a version and that of a header, if there is one.

@@ -138,6 +138,22 @@ fn rebuild_of(
     Ok(outcome)
 }
 
+/// What a tally of such a file counts for so many anchors.
+fn tally_of(
+    alloc: Global,
+    slots: &[Image],
+    anchors: u32,
+    fail: &[u64],
+) -> Result<Result<Tally, RebuildFault>, Fail>
+    requires { 0 < anchors }
+{
+    let mut volume = volume_of(alloc, fail)?;
+    let (mut station, mut cells) = open(alloc, &mut volume, slots)?;
+    let outcome = tally(alloc, &mut station, &mut cells, 512, anchors);
+    volume.end_station(station);
+    Ok(outcome)
+}
+
 /// An entry: its first slot, its version, the length of its body, its URL, and its chain.
 type Entry = (u32, u32, u64, &'static [u8], &'static [u32]);
 
@@ -337,6 +353,43 @@ fn kept_of(
     fail: &[u64],
 ) -> Result<Result<Rebuilt, RebuildFault>, Fail> {
     rebuild_of(alloc, &slots, 1, fail)
+}
+
+/// The slots, the entries that are kept, their slots, and the greatest version of three slots for one
+/// anchor.
+type Counts = (usize, usize, usize, u32);
+
+fn counted_rows() -> [([Image; 3], Counts); 4] {
+    let zeros = [0; 512];
+    let entry = slot_b(0, (43, 43, 3, 0, -1));
+    [
+        ([entry, zeros, zeros], (3, 1, 1, 3)),
+        ([entry, slot_c(1, (43, 43, 5, 1, -1)), zeros], (3, 1, 1, 5)),
+        (
+            [
+                slot_b(0, (0, 472, 4, 2, 1)),
+                slot_b(1, (945, 1, 4, 2, -1)),
+                slot_b(2, (0, 472, 4, 2, 0)),
+            ],
+            (3, 1, 3, 4),
+        ),
+        ([zeros, zeros, zeros], (3, 0, 0, 0)),
+    ]
+}
+
+#[test]
+fn what_is_kept_is_counted(rt: HostRuntime) -> Result<(), Fail> {
+    let alloc = rt.alloc();
+    for (slots, (all, kept, used, greatest)) in counted_rows() {
+        let tally = tally_of(alloc, &slots, 1, &[])?.ok().ok_or("counted")?;
+        assert_eq!(rt; tally.slots, all);
+        assert_eq!(rt; tally.kept, kept);
+        assert_eq!(rt; tally.used, used);
+        assert_eq!(rt; tally.greatest, greatest);
+        let failed = tally_of(alloc, &slots, 1, &[0])?.err();
+        assert_eq!(rt; failed, Some(RebuildFault::Failed));
+    }
+    Ok(())
 }
 
 #[test]

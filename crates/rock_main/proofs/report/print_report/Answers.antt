@@ -1,6 +1,7 @@
-use Rattle.std.proofs.Common.{refl, ap, Err}
-use Rattle.rock_main.specs.Report.{Fits}
-use Rattle.rock_main.proofs.Telling.{none_ended, same_status, refused_ends, refused_prints}
+use Rattle.std.proofs.Common.{refl, ap, subst, sym, Err}
+use Rattle.std.specs.Prelude.{IsTrue}
+use Rattle.rock_main.specs.Report.{Fits, Prints, OfFile}
+use Rattle.rock_main.proofs.Telling.{none_ended, same_status, refused_ends, refused_prints, printed_ends, printed_says, printed_no_fault, printed_text}
 use Rattle.rock_main.proofs.report.print_report.Goals as goal
 
 pub returns-then-not-slot_size_ok-clause-device_unfailed : goal.returns-then-not-slot_size_ok-clause-device_unfailed
@@ -25,3 +26,21 @@ pub returns-in-Err-clause-early : goal.returns-in-Err-clause-early
 returns-in-Err-clause-early g c t slots has not =
     let early = c.in-Err.ensures.early t slots has not in
     (early.0, early.1, λ told. early.2 (ap (λ s. Err s) told))
+
+pub returns-in-Ok-clause-ends : goal.returns-in-Ok-clause-ends
+returns-in-Ok-clause-ends g c = printed_ends (Fits c.args.report) c.args.slot _ _ _ _ _ _ c.print_reading.result (c.if-not-slot_size_ok.ensures.0 refl) c.print_reading.ensures.ends
+
+pub returns-in-Ok-clause-says : goal.returns-in-Ok-clause-says
+returns-in-Ok-clause-says g c t = printed_says (Fits c.args.report) _ _ (g.V.Volume.files c.args.volume.now) c.args.name.now c.args.slot c.print_reading.result (c.in-Ok.ensures.fits t refl) c.print_reading.ensures.ends
+
+pub returns-in-Ok-clause-prints : goal.returns-in-Ok-clause-prints
+returns-in-Ok-clause-prints g c k =
+    printed_text _ _ _ _ c.print_reading.result (λ text is t. subst (OfFile (Prints c.args.report c.args.slot) (g.V.Volume.files c.args.volume.now) c.args.name.now c.args.slot) (sym is) (c.in-Ok.ensures.prints t)) c.print_reading.ensures.ends (c.print_reading.ensures.prints k)
+
+pub returns-in-Ok-clause-device_unfailed : goal.returns-in-Ok-clause-device_unfailed
+returns-in-Ok-clause-device_unfailed g c none = c.in-Ok.ensures.unfailed (λ told. cc)
+
+pub returns-in-Ok-clause-early : goal.returns-in-Ok-clause-early
+returns-in-Ok-clause-early g c t slots has not =
+    let early = c.in-Ok.ensures.early t slots has not in
+    (early.0, early.1, λ told. absurd (printed_no_fault _ _ c.print_reading.result c.print_reading.ensures.ends told))

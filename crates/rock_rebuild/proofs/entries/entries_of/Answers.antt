@@ -1,5 +1,5 @@
 use Rattle.std.proofs.Common.{◌≡◌, ◌<◌, length, None, refl, sym, subst, ◌∙◌, arith}
-use Rattle.std.proofs.lemmas.List.{get_or_default, get_or-set_other}
+use Rattle.std.proofs.lemmas.List.{get_or_default}
 use Rattle.rebuild_model.specs.Image.{image_at}
 use Rattle.rock_rebuild.specs.Kept.{TellsHead}
 use Rattle.rock_rebuild.specs.Gathered.{AreFound}
@@ -8,20 +8,19 @@ use Rattle.rock_rebuild.proofs.Gathering.{none_yet}
 use Rattle.rock_rebuild.proofs.entries.entries_of.Goals as goal
 
 pub loop-first-init : goal.loop-first-init
-loop-first-init c = (λ images file headers heads. (all_left c.args.slot images c.args.table.now headers, none_yet c.args.slot images c.new-found.result.items c.new-found.ensures.items), λ k from. refl, refl)
+loop-first-init c = (λ images file headers heads. (all_left c.args.slot images c.args.table.now headers, none_yet c.args.slot images c.new-found.result.items c.new-found.ensures.items), refl)
 
 pub loop-first-preserved : goal.loop-first-preserved
-loop-first-preserved c =
-    let inside : c.loop-first.first < length c.loop-first.heads = omega arith in
-    let head_is = c.take-head.ensures.value ∙ get_or_default c.loop-first.heads c.loop-first.first _ None inside ∙ c.loop-first.invariant.1 c.loop-first.first (omega arith) in (
-      λ images file headers heads.
-          let so = c.loop-first.invariant.0 images file headers heads in
-          let within : c.loop-first.first < length images = omega (arith, heads.count, c.loop-first-test.true) in
-          let entry = c.in_ok-entry.ensures.found images file so.0 (subst (TellsHead (length images) c.args.slot c.loop-first.first (image_at images c.loop-first.first)) (sym head_is) (heads.each c.loop-first.first within)) in
-          (entry.0, c.in_ok-push_entry.ensures c.args.slot images c.loop-first.first so.1 entry.1),
-      λ k from. get_or-set_other c.loop-first.heads c.loop-first.first k c.take-head.new.self None (λ same. omega (arith, same, from)) ∙ c.loop-first.invariant.1 k (omega (arith, from)),
-      c.in_ok-entry.ensures.length ∙ c.loop-first.invariant.2,
-    )
+loop-first-preserved c = (
+  λ images file headers heads.
+      let so = c.loop-first.invariant.0 images file headers heads in
+      let within : c.loop-first.first < length images = omega (arith, heads.count, c.loop-first-test.true) in
+      let inside : c.loop-first.first < length c.args.heads.now = omega (arith, heads.count, within) in
+      let head_is = get_or_default c.args.heads.now c.loop-first.first _ None inside in
+      let entry = c.in_ok-entry.ensures.found images file so.0 (subst (TellsHead (length images) c.args.slot c.loop-first.first (image_at images c.loop-first.first) c.args.urls.now) (sym head_is) (heads.each c.loop-first.first within)) in
+      (entry.0, c.in_ok-push_entry.ensures c.args.slot images c.loop-first.first so.1 entry.1),
+  c.in_ok-entry.ensures.length ∙ c.loop-first.invariant.1,
+)
 
 pub returns : goal.returns
 returns c images file headers heads =

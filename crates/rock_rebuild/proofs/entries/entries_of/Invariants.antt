@@ -1,4 +1,4 @@
-use Rattle.std.proofs.Common.{◌≡◌, ◌≤◌, ℕ, List, length, get_or, None}
+use Rattle.std.proofs.Common.{◌≡◌, ℕ, List, length}
 use Rattle.rebuild_model.specs.Image.{IsFile}
 use Rattle.rock_rebuild.specs.Kept.{AreHeaders, AreHeads}
 use Rattle.rock_rebuild.specs.Left.{AreLeft}
@@ -7,7 +7,6 @@ use Rattle.rock_rebuild.proofs.entries.entries_of.Given as goal
 
 abbrev pub invariant-loop-first : goal.invariant-loop-first
 invariant-loop-first l =
-    ((images : List (List ℕ)) → IsFile l.slot images → AreHeaders (length images) l.slot images l.initial.table → AreHeads (length images) l.slot images l.initial.heads
+    ((images : List (List ℕ)) → IsFile l.slot images → AreHeaders (length images) l.slot images l.initial.table → AreHeads (length images) l.slot images l.urls l.heads
     → AreLeft l.slot images l.first l.table × AreFound l.slot images l.first l.found.items)
-    × ((k : ℕ) → l.first ≤ k → get_or l.heads k None ≡ get_or l.initial.heads k None)
     × (length l.table ≡ length l.initial.table)

@@ -18,11 +18,11 @@ returns-clause-read g c =
     let count : length c.args.cells.now ≡ length all = sym (are.count ∙ length-map c.args.cells.now state) in
     let file = file_of state g.St.C.Cell.tells c.args.cells.now slot all are c.requires in
     let headers = subst (λ n. AreHeaders n slot all c.in_ok-slots.slots.table) count kept.headers in
-    let heads = subst (λ n. AreHeads n slot all c.in_ok-slots.slots.heads.items) count kept.heads in (
+    let heads = subst (λ n. AreHeads n slot all c.in_ok-slots.slots.urls.items c.in_ok-slots.slots.heads.items) count kept.heads in (
       all,
       are,
       scanned slot all _
-          (subst (AreFound slot all (length all)) (sym c.from_vec.ensures) (c.in_ok-found.ensures all file headers (subst (AreHeads (length all) slot all) (sym c.deref_mut.ensures.value) heads)))
+          (subst (AreFound slot all (length all)) (sym c.from_vec.ensures) (c.in_ok-found.ensures all file headers (subst (λ u. AreHeads (length all) slot all u c.deref.result.now) (sym c.deref-2.ensures.value) (subst (AreHeads (length all) slot all c.in_ok-slots.slots.urls.items) (sym c.deref.ensures.value) heads))))
           (subst (λ n. IsGreatestOf n slot all c.in_ok-slots.slots.greatest) count kept.greatest),
     )
 

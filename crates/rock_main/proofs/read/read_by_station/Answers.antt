@@ -1,7 +1,7 @@
 use Rattle.std.proofs.Common.{length, ◌∙◌}
 use Rattle.rock_main.specs.Report.{Fits}
 use Rattle.rock_main.proofs.Telling.{none_ended, one_ended, not_failed_station, not_failed_text}
-use Rattle.rock_main.proofs.read.text_by_station.Goals as goal
+use Rattle.rock_main.proofs.read.read_by_station.Goals as goal
 
 pub returns-in_err-station-clause-unfailed : goal.returns-in_err-station-clause-unfailed
 returns-in_err-station-clause-unfailed g c none =
