@@ -377,16 +377,25 @@ fn counted_rows() -> [([Image; 3], Counts); 4] {
     ]
 }
 
+/// What a tally of three slots counts for one anchor, where the station fails at the listed calls.
+fn counted_of(
+    alloc: Global,
+    slots: [Image; 3],
+    fail: &[u64],
+) -> Result<Result<Tally, RebuildFault>, Fail> {
+    tally_of(alloc, &slots, 1, fail)
+}
+
 #[test]
 fn what_is_kept_is_counted(rt: HostRuntime) -> Result<(), Fail> {
     let alloc = rt.alloc();
     for (slots, (all, kept, used, greatest)) in counted_rows() {
-        let tally = tally_of(alloc, &slots, 1, &[])?.ok().ok_or("counted")?;
+        let tally = counted_of(alloc, slots, &[])?.ok().ok_or("counted")?;
         assert_eq!(rt; tally.slots, all);
         assert_eq!(rt; tally.kept, kept);
         assert_eq!(rt; tally.used, used);
         assert_eq!(rt; tally.greatest, greatest);
-        let failed = tally_of(alloc, &slots, 1, &[0])?.err();
+        let failed = counted_of(alloc, slots, &[0])?.err();
         assert_eq!(rt; failed, Some(RebuildFault::Failed));
     }
     Ok(())
