@@ -1,2 +1,5 @@
 pub mod LastTabs
 pub mod Taking
+pub mod Drawing
+pub mod TwoPasses
+pub mod Popped

@@ -1,0 +1,109 @@
+ghost use Rattle.std.specs.Prelude.{None, ◌≡◌, ℕ};
+ghost use Rattle.store_rule.specs.Passes.{IsNewOf, basis};
+
+use super::*;
+use lock_word::is_vacant;
+use std::process::Abort;
+use std::test::Fail;
+
+/// A cell that tells nothing.
+#[derive(Drop)]
+struct Blank {
+    number: u32,
+}
+
+impl Cell for Blank {
+    ghost use Rattle.std.specs.Prelude.{false, []};
+    ghost use Rattle.rock_disk.specs.Cell.{settled};
+    ghost use Rattle.std.proofs.lemmas.Bool.{false≢true};
+
+    ghost tells = { false };
+
+    ghost state = { λ cell. settled cell.number 512 [] };
+
+    ghost as_wide = { λ cell told. absurd (false≢true told) };
+
+    ghost now_may_stay = { λ cell told. absurd (false≢true told) };
+
+    fn number(&self) -> u32 {
+        self.number
+    }
+}
+
+/// No response is offered, and no anchor is left to one pass.
+#[derive(Drop)]
+struct Nothing;
+
+impl Origin for Nothing {
+    ghost use Rattle.std.specs.Prelude.{[], None};
+
+    ghost offers = { λ origin. record { url = λ n. []; body = λ n. []; alone = λ a. None } };
+}
+
+const EMPTY: Word = Word {
+    epoch: Epoch {
+        version: 0,
+        doom: false,
+        stage: Stage::Empty,
+    },
+    readers: 0,
+};
+
+const TAKEN: Word = Word {
+    epoch: Epoch {
+        version: 1,
+        doom: false,
+        stage: Stage::Taken,
+    },
+    readers: 0,
+};
+
+/// One pass looks, draws and takes; another comes and leaves; the first tries again with its first look.
+fn meet<R: Abort, C: Cell, O: Origin>(
+    rt: &R,
+    store: &Store<C, O>,
+    first: &mut Pass<C>,
+    second: &mut Pass<C>,
+)
+    requires anchors { (basis C.tells C.state O.offers store.now).setting.anchors ≡ 1 }
+    requires alone { (a : ℕ) → (basis C.tells C.state O.offers store.now).offers.alone a ≡ None }
+    requires first { IsNewOf C.tells C.state O.offers store.now first.old }
+    requires second { IsNewOf C.tells C.state O.offers store.now second.old }
+{
+    let looked = look(store, first, 0);
+    assert_eq!(rt; looked, EMPTY);
+    if !is_vacant(&looked) {
+        panic!(rt; "a new anchor is vacant")
+    }
+    let Ok(version) = draw(store, first) else {
+        panic!(rt; "a version is left")
+    };
+    assert_eq!(rt; version, 1);
+    let Ok(()) = take(store, first, 0, 0, &looked, version) else {
+        panic!(rt; "nobody came in between")
+    };
+    let Err(epoch) = share(store, second, 0, 0) else {
+        panic!(rt; "an anchor at TAKEN can't be read")
+    };
+    assert_eq!(rt; epoch, TAKEN.epoch);
+    assert_eq!(rt; leave(store, second, 0), Left::Done);
+    let Ok(next) = draw(store, first) else {
+        panic!(rt; "a version is left")
+    };
+    assert_eq!(rt; next, 2);
+    assert_eq!(rt; take(store, first, 1, 0, &looked, next), Err(TAKEN));
+}
+
+#[test]
+fn two_passes_draw_and_take_at_one_anchor(rt: HostRuntime) -> Result<(), Fail> {
+    let alloc = rt.alloc();
+    let mut cells = Vec::new(alloc);
+    cells.push(Blank { number: 0 })?;
+    let Ok((store, mut passes)) = Store::fresh(alloc, cells, 512, 1, 2, Nothing) else {
+        panic!(rt; "there is memory for one slot")
+    };
+    let mut second = passes.pop().expect(&rt, "a second pass");
+    let mut first = passes.pop().expect(&rt, "a first pass");
+    meet(&rt, &store, &mut first, &mut second);
+    Ok(())
+}
