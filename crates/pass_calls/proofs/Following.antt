@@ -52,6 +52,7 @@ module _ {C O : Type 0} (tells : Bool) (state : C → CellState) (offers : O →
     left = λ j ne. ap (λ (z : List ℕ). get_or z j 0) made.left ∙ left_others p.left told j t ne m for;
     desks = made.desks;
     hand = made.hand;
+    cells = made.cells;
   }
 
   pub follows_on : (t : ℕ) (p u q : Pass C) → Follows tells state offers s t p u → Follows tells state offers s t u q → Follows tells state offers s t p q
@@ -61,6 +62,7 @@ module _ {C O : Type 0} (tells : Bool) (state : C → CellState) (offers : O →
     left = λ j ne. second.left j ne ∙ first.left j ne;
     desks = second.desks ∙ first.desks;
     hand = second.hand ∙ first.hand;
+    cells = second.cells ∙ first.cells;
   }
 
   -- the word that a step answers is not older than what the pass has seen

@@ -28,3 +28,4 @@ module _ {C O : Type 0} (tells : Bool) (state : C → CellState) (offers : O →
     pub left : (j : ℕ) → j ≢ t → slice_index q.left j ≡ slice_index p.left j
     pub desks : q.desks ≡ p.desks
     pub hand : q.hand ≡ p.hand
+    pub cells : q.cells ≡ p.cells

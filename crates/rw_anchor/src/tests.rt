@@ -1,10 +1,11 @@
-ghost use Rattle.std.specs.Prelude.{None, ◌≡◌, ℕ};
+ghost use Rattle.std.specs.Prelude.{All, None, ◌≡◌, ℕ};
 ghost use Rattle.store_rule.specs.Passes.{IsNewOf, basis};
 
 use super::*;
 use lock_word::is_vacant;
 use std::process::Abort;
 use std::test::Fail;
+use std::thread::{self, Threads};
 
 /// A cell that tells nothing.
 #[derive(Drop)]
@@ -105,5 +106,73 @@ fn two_passes_draw_and_take_at_one_anchor(rt: HostRuntime) -> Result<(), Fail> {
     let mut second = passes.pop().expect(&rt, "a second pass");
     let mut first = passes.pop().expect(&rt, "a first pass");
     meet(&rt, &store, &mut first, &mut second);
+    Ok(())
+}
+
+/// A worker of the test below: its pass, and whether it took the anchor.
+#[derive(Drop)]
+struct Attempt<C> {
+    pass: Pass<C>,
+    took: bool,
+}
+
+/// Looks at the one anchor, draws a version, and tries to take it.
+fn try_once<C: Cell, O: Origin>(store: &Store<C, O>, worker: &mut Attempt<C>)
+    requires anchors { (basis C.tells C.state O.offers store.now).setting.anchors ≡ 1 }
+    requires alone { (a : ℕ) → (basis C.tells C.state O.offers store.now).offers.alone a ≡ None }
+    requires pass { IsNewOf C.tells C.state O.offers store.now worker.old.pass }
+{
+    let looked = look(store, &mut worker.pass, 0);
+    if !is_vacant(&looked) {
+        return;
+    }
+    let Ok(version) = draw(store, &mut worker.pass) else {
+        return;
+    };
+    worker.took = take(store, &mut worker.pass, 0, 0, &looked, version).is_ok();
+}
+
+/// Each worker tries, on a thread of its own.
+fn try_at_once<R: Threads + Sync, C: Cell, O: Origin>(
+    rt: &R,
+    store: &Store<C, O>,
+    workers: &mut [Attempt<C>],
+)
+    requires anchors { (basis C.tells C.state O.offers store.now).setting.anchors ≡ 1 }
+    requires alone { (a : ℕ) → (basis C.tells C.state O.offers store.now).offers.alone a ≡ None }
+    requires passes { All (λ worker. IsNewOf C.tells C.state O.offers store.now worker.pass) workers.old }
+{
+    let work = |_place: usize, worker: &mut Attempt<C>|
+        requires { ((basis C.tells C.state O.offers store.now).setting.anchors ≡ 1) × ((a : ℕ) → (basis C.tells C.state O.offers store.now).offers.alone a ≡ None) × IsNewOf C.tells C.state O.offers store.now worker.now.pass }
+    { try_once(store, worker) };
+    thread::for_each_mut(rt, workers, 2, &work);
+}
+
+#[test]
+fn one_of_two_threads_takes_an_anchor(rt: HostRuntime) -> Result<(), Fail> {
+    let alloc = rt.alloc();
+    let mut cells = Vec::new(alloc);
+    cells.push(Blank { number: 0 })?;
+    let Ok((store, mut passes)) = Store::fresh(alloc, cells, 512, 1, 2, Nothing) else {
+        panic!(rt; "there is memory for one slot")
+    };
+    let second = passes.pop().expect(&rt, "a second pass");
+    let first = passes.pop().expect(&rt, "a first pass");
+    let mut workers = Vec::new(alloc);
+    workers.push(Attempt {
+        pass: first,
+        took: false,
+    })?;
+    workers.push(Attempt {
+        pass: second,
+        took: false,
+    })?;
+    try_at_once(&rt, &store, workers.as_mut_slice());
+    let took = workers
+        .as_slice()
+        .iter()
+        .filter(|worker| worker.took)
+        .count();
+    assert_eq!(rt; took, 1);
     Ok(())
 }

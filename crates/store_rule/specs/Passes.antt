@@ -76,6 +76,7 @@ module _ {C O : Type 0} (tells : Bool) (state : C → CellState) (offers : O →
     pub left : q.left ≡ left_after p.left m told
     pub desks : q.desks ≡ p.desks
     pub hand : q.hand ≡ p.hand
+    pub cells : q.cells ≡ p.cells
 
   -- the pass is of this store, and has at hand what it had
   pub record Keeps (s : Store C O) (p q : Pass C) : Type 0 where
@@ -83,6 +84,7 @@ module _ {C O : Type 0} (tells : Bool) (state : C → CellState) (offers : O →
     pub left : q.left ≡ p.left
     pub desks : q.desks ≡ p.desks
     pub hand : q.hand ≡ p.hand
+    pub cells : q.cells ≡ p.cells
 
   -- it is a new pass of this store
   pub record IsNewOf (s : Store C O) (p : Pass C) : Type 0 where

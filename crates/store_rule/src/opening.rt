@@ -168,6 +168,8 @@ impl<C: Cell, O: Origin> Store<C, O> {
         mut seat: Seat<Option<C>, Row<View<Octets>>>,
         mut hands: Vec<Hands>,
         mut made: Vec<Pass<C>>,
+        alloc: Global,
+        mut cells: Vec<C>,
     ) -> Vec<Pass<C>>
         requires own { seat.table_id ≡ self.now.table.shared.table_id }
         requires some { (0 < vec_len hands) × (vec_len hands ≤ 32) }
@@ -183,14 +185,16 @@ impl<C: Cell, O: Origin> Store<C, O> {
             let Some(hand) = hands.pop() else {
                 unreachable!()
             };
-            let Ok(()) = made.push(new_pass(part, hand)) else {
+            let kept = cells;
+            cells = Vec::new(alloc);
+            let Ok(()) = made.push(new_pass(part, hand, kept)) else {
                 unreachable!()
             };
         }
         let Some(hand) = hands.pop() else {
             unreachable!()
         };
-        let Ok(()) = made.push(new_pass(seat, hand)) else {
+        let Ok(()) = made.push(new_pass(seat, hand, cells)) else {
             unreachable!()
         };
         made
@@ -252,20 +256,19 @@ impl<C: Cell, O: Origin> Store<C, O> {
                     slot,
                     table,
                     origin,
-                    cells,
                 };
-                let made = store.part_all(seat, hands, made);
+                let made = store.part_all(seat, hands, made, alloc, cells);
                 Ok((store, made))
             }
         }
     }
 }
 
-fn new_pass<C>(seat: Seat<Option<C>, Row<View<Octets>>>, hands: Hands) -> Pass<C>
+fn new_pass<C>(seat: Seat<Option<C>, Row<View<Octets>>>, hands: Hands, cells: Vec<C>) -> Pass<C>
     requires one { seat.me.0 ≡ the_view seat.me.0 ∷ [] }
     requires free { (the_view seat.me.0).tabs ≡ replicate 9 Free }
     requires hands { (hands.tabs ≡ replicate 9 At.Free) × (length hands.left ≡ 9) × (length hands.desks ≡ 9) }
-    ensures { (result.seat ≡ seat) × (result.tabs ≡ hands.tabs) × (result.left ≡ hands.left) × (result.desks ≡ hands.desks) × (result.hand ≡ 0) }
+    ensures { (result.seat ≡ seat) × (result.tabs ≡ hands.tabs) × (result.left ≡ hands.left) × (result.desks ≡ hands.desks) × (result.hand ≡ 0) × (result.cells ≡ cells) }
 {
     let Hands { tabs, left, desks } = hands;
     Pass {
@@ -274,5 +277,6 @@ fn new_pass<C>(seat: Seat<Option<C>, Row<View<Octets>>>, hands: Hands) -> Pass<C
         left,
         desks,
         hand: 0,
+        cells,
     }
 }

@@ -20,8 +20,6 @@ pub struct Store<C: Cell, O: Origin> {
     pub(crate) slot: u32,
     pub(crate) table: Table<Option<C>, Row<View<Octets>>, About<C, O>, Rule<C, O>, Global>,
     pub(crate) origin: O,
-    /// The emptied vector in which the cells came. They go back in it.
-    pub(crate) cells: Vec<C>,
     ghost anchors_are: { anchors ≡ table.shared.key.anchors },
     ghost slots_are: { slots ≡ table.shared.key.slots },
     ghost slot_is: { slot ≡ table.shared.key.slot },
@@ -39,6 +37,9 @@ pub struct Pass<C> {
     pub(crate) desks: Row<Desk>,
     /// Where the next search for an entry to evict begins, an anchor.
     pub(crate) hand: u32,
+    /// The first pass keeps the emptied vector in which the cells came. They go back in it. It lies here
+    /// and not in the store, which workers share, so that a cell need not be shared between threads.
+    pub(crate) cells: Vec<C>,
     ghost one: { seat.me.0 ≡ the_view seat.me.0 ∷ [] },
     ghost nine: { length tabs ≡ 9 },
     ghost nine_left: { length left ≡ 9 },

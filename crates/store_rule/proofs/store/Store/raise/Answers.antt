@@ -38,4 +38,5 @@ returns-clause-made g c = let met = c.add_as-found.ensures in record {
   left = c.set-2.ensures ∙ ap (λ (z : ℕ). set c.args.pass.now.left c.args.tab z) (sym c.word_of-word.ensures.number);
   desks = refl;
   hand = refl;
+  cells = refl;
 }
