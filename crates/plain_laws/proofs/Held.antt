@@ -17,6 +17,7 @@ use Rattle.plain_model.specs.Store.{place_at, entry_at, tab_at, with_tab, publis
 use Rattle.plain_model.specs.Slots.{held_by, held, free, from_hand, victim, evicted, claim, claim_of, claim_two, Claimed, Grown, resize, publish, grow, limit}
 use Rattle.plain_laws.specs.Holding.{IsGrowing, slots_held}
 use Rattle.plain_laws.proofs.Choosing.{either}
+use Rattle.std.specs.List.{range_with_len}
 use Rattle.std.proofs.Math.Nat.{div-eq_of_lt, mod-lt}
 use Rattle.store_key.specs.Key.{key_of}
 use Rattle.store_key.specs.Anchor.{anchor_of, front_half, back_half}
@@ -27,9 +28,9 @@ use Rattle.script_text.specs.declared.line.Line.{Line}
 use Rattle.script_text.specs.declared.request.Request.{Request}
 use Rattle.script_text.specs.declared.request.Request.TheVariants.{Put, Save, Get, Purge, Begin, Add, End, DropTab, OpenTab, More, CloseTab, Mark, Await}
 use Rattle.plain_model.specs.Store.{meta_size, available}
-use Rattle.plain_model.specs.Writing.{Step, step, settle, taken_by, entry_of, begin_at, begin_free, begin, add, end, give_up}
+use Rattle.plain_model.specs.Writing.{Step, step, settle, close_writer, taken_by, entry_of, begin_at, begin_free, begin, add, end, give_up}
 use Rattle.plain_model.specs.Reading.{judge, has_url, open_at, open_tab, more, close, doom_at, purge_at, purge}
-use Rattle.plain_model.specs.Serving.{bytes_of, put, get, serve, after}
+use Rattle.plain_model.specs.Serving.{bytes_of, put, get, serve, after, lines_for, leave, leave_all, left_by}
 use Rattle.plain_laws.specs.Holding.{WritesApart, HoldsItsSlots}
 use Rattle.plain_laws.proofs.Sums.{hold, held_unfinished, inside, sum_le}
 use Rattle.plain_laws.proofs.Beginning.{BeginsAs, begins, set_there}
@@ -203,3 +204,22 @@ held_along s script [] p room some are h = h
 held_along s script (line ∷ lines) p room some are h =
     held_along s script lines (serve s script line p).after room some (anchors_stay s line p (serve s script line p) (effect s script line p) ∙ are)
     (serve_holds s script line.worker line.number line.request p room some are h)
+
+-- leaving a tab
+leave_holds : (s : Setting) (tab : ℕ) (p : Plain) → HoldsItsSlots s p → (t : Tab) → tab_at p tab ≡ t → HoldsItsSlots s (leave tab p)
+leave_holds s tab p h Free t = rw t h
+leave_holds s tab p h (Writing a) t = subst (λ (q : Plain). HoldsItsSlots s q) (left_writing a t) (give_up_holds s tab p h (Writing a) t)
+  where
+    left_writing : (a : ℕ) → tab_at p tab ≡ Writing a → (give_up tab p).after ≡ leave tab p
+    left_writing a t = let g : (give_up tab p).after ≡ close_writer GivenUp tab a p = rw t refl in rw t (sym g)
+leave_holds s tab p h (Reading a g o) t = subst (λ (q : Plain). HoldsItsSlots s q) (left_reading a g o t) (close_holds s tab p h (Reading a g o) t)
+  where
+    left_reading : (a g : ℕ) (o : Bool) → tab_at p tab ≡ Reading a g o → (close tab p).after ≡ leave tab p
+    left_reading a g o t = let c : (close tab p).after ≡ settle a (with_tab p tab Free) = rw t refl in rw t (sym c)
+
+leave_all_holds : (s : Setting) (tabs : List ℕ) (p : Plain) → HoldsItsSlots s p → HoldsItsSlots s (leave_all tabs p)
+leave_all_holds s [] p h = h
+leave_all_holds s (tab ∷ tabs) p h = leave_all_holds s tabs (leave tab p) (leave_holds s tab p h (tab_at p tab) refl)
+
+pub held_at_the_end : (s : Setting) (script : List Line) (worker : ℕ) (p : Plain) → 0 < s.room → 0 < s.anchors → length p.places ≡ s.anchors → HoldsItsSlots s p → HoldsItsSlots s (left_by s script worker p)
+held_at_the_end s script worker p room some are h = leave_all_holds s (range_with_len 0 8) (after s script (lines_for worker script) p) (held_along s script (lines_for worker script) p room some are h)

@@ -6,7 +6,7 @@ ghost use Rattle.plain_model.specs.declared.entry.Entry.{Entry};
 ghost use Rattle.plain_model.specs.declared.store.Setting.{Setting};
 ghost use Rattle.plain_model.specs.declared.store.Plain.{Plain};
 ghost use Rattle.plain_model.specs.Store.{entry_at};
-ghost use Rattle.plain_model.specs.Serving.{answers, after, get, fresh};
+ghost use Rattle.plain_model.specs.Serving.{answers, after, left_by, get, fresh};
 ghost use Rattle.plain_model.specs.Opening.{opened};
 ghost use Rattle.plain_model.specs.declared.kept.Kept.{Kept};
 ghost use Rattle.plain_laws.specs.Offered.{HasOrigin};
@@ -36,10 +36,12 @@ pub fn hits_are_whole()
         → (get s url p).answer ≡ Answer.Hit version bytes → IsHit s p url version bytes }
 {}
 
-/// The slots that entries hold are never more than there are.
+/// The slots that entries hold are never more than there are, nor once a worker's tabs were left.
 pub fn held_slots_are_there()
-    ensures { (s : Setting) (script lines : List Line) (p : Plain)
+    ensures along { (s : Setting) (script lines : List Line) (p : Plain)
         → 0 < s.room → 0 < s.anchors → length p.places ≡ s.anchors → HoldsItsSlots s p → HoldsItsSlots s (after s script lines p) }
+    ensures left { (s : Setting) (script : List Line) (worker : ℕ) (p : Plain)
+        → 0 < s.room → 0 < s.anchors → length p.places ≡ s.anchors → HoldsItsSlots s p → HoldsItsSlots s (left_by s script worker p) }
 {}
 
 /// A script that fits is never answered FULL, and nothing is evicted for it: an anchor that no line names

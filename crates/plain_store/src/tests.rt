@@ -1,9 +1,11 @@
-ghost use Rattle.std.specs.Prelude.{◌<◌, ◌≤◌, IfOk, All};
+ghost use Rattle.std.specs.Prelude.{◌≡◌, ◌<◌, ◌≤◌, length, IfOk, All};
+ghost use Rattle.rebuild_model.specs.Image.{IsFile};
 ghost use Rattle.plain_store.specs.Servable.{IsServable};
 
 use crate::{answers_of, fresh, good_lines_are_servable, opened};
 use answer_text::answer_line;
 use plain_model::{Kept, Plain, Setting, Size, Text};
+use rebuild_model::{FileImage, Found, Images, rebuilt_of};
 use rock_io::{MemSource, Octets};
 use script_text::{Lines, read_script};
 use std::alloc::Global;
@@ -426,5 +428,103 @@ fn spent(rt: HostRuntime) -> Result<(), Fail> {
             plain(b"1 put http://a/b =x", b"SPENT 4294901760"),
             plain(b"1 get http://a/b", b"HIT 4294901760 5 68656c6c6f"),
         ],
+    )
+}
+
+/// Puts bytes into an image, as far as they fit.
+fn put(image: &mut [u8; 512], at: usize, bytes: &[u8]) {
+    for (i, byte) in bytes.iter().enumerate() {
+        if let Some(place) = image.get_mut(at.saturating_add(i)) {
+            *place = *byte;
+        }
+    }
+}
+
+/// A slot of 512 bytes with the one entry `http://a/b` or `http://a/c`, whose body is one byte.
+fn image(last: u8, slot: u8, version: u8, body: u8) -> [u8; 512] {
+    let url = [b'h', b't', b't', b'p', b':', b'/', b'/', b'a', b'/', last];
+    let key = key_of(&url);
+    let mut image = [0; 512];
+    put(&mut image, 0, &key);
+    image[16] = 43;
+    image[24] = 43;
+    image[28] = version;
+    image[32] = slot;
+    put(
+        &mut image,
+        36,
+        b"\xff\xff\xff\xff\x03\x2a\0\0\0\x03\x10\0\0\0",
+    );
+    put(&mut image, 50, &key);
+    put(&mut image, 66, b"\x04\x0b\0\0\0");
+    put(&mut image, 71, &url);
+    image[82] = body;
+    image
+}
+
+fn octets(alloc: Global, image: &[u8; 512]) -> Result<Octets, Fail>
+    ensures { IfOk result (λ bytes. length bytes ≡ 512) }
+{
+    Ok(Octets::from_vec(image.to_vec(alloc)?))
+}
+
+fn file_of(alloc: Global, first: &[u8; 512], second: &[u8; 512]) -> Result<FileImage, Fail>
+    ensures { IfOk result (λ file. IsFile file.slot file.slots) }
+{
+    let mut images = Vec::new(alloc);
+    images.push(octets(alloc, first)?)?;
+    images.push(octets(alloc, second)?)?;
+    Ok(FileImage {
+        slot: 512,
+        slots: Images::from_vec(images),
+    })
+}
+
+/// What the store takes of an entry of one slot whose body is one byte.
+fn kept_of(alloc: Global, found: &Found, image: &[u8; 512]) -> Result<Kept, Fail> {
+    let url = found.url.as_slice();
+    if url.len() != 10 {
+        return Err(Fail::from("another URL"));
+    }
+    Ok(Kept {
+        version: found.version,
+        url: Text::from_octets(Octets::from_vec(url.to_vec(alloc)?)),
+        key: found.key,
+        body: Text::from_octets(Octets::from_vec(image[82..83].to_vec(alloc)?)),
+        first: found.first,
+        content: Size::new(43),
+    })
+}
+
+/// The store that is opened on a file of two slots, with one anchor.
+fn opened_on(alloc: Global, first: &[u8; 512], second: &[u8; 512]) -> Result<Plain, Fail> {
+    let rebuilt = rebuilt_of(alloc, &file_of(alloc, first, second)?, 1)?;
+    let mut kept = Vec::new(alloc);
+    for found in rebuilt.winners.as_slice() {
+        let image = if found.first == 0 { first } else { second };
+        kept.push(kept_of(alloc, found, image)?)?;
+    }
+    Ok(opened(alloc, 1, &kept, rebuilt.greatest)?)
+}
+
+#[test]
+fn two_entries_of_one_anchor(rt: HostRuntime) -> Result<(), Fail> {
+    let alloc = rt.alloc();
+    let older = opened_on(alloc, &image(b'b', 0, 3, b'x'), &image(b'c', 1, 5, b'y'))?;
+    let row = [
+        plain(
+            b"1 get http://a/b",
+            b"MISS other 5.3 4877c9348b6d7299e213896f839c80b8",
+        ),
+        plain(b"1 get http://a/c", b"HIT 5 1 79"),
+    ];
+    shows_on(&rt, 2, 1, older, &row)?;
+    let equal = opened_on(alloc, &image(b'b', 0, 5, b'x'), &image(b'c', 1, 5, b'y'))?;
+    shows_on(
+        &rt,
+        2,
+        1,
+        equal,
+        &[plain(b"1 get http://a/b", b"HIT 5 1 78")],
     )
 }
