@@ -1,30 +1,26 @@
 -- Where there are slots enough nothing is evicted, and an entry grows by itself.
-use Rattle.std.proofs.Common.{◌≡◌, ◌⊎◌, inl, inr, ◌∙◌, ℕ, zero, suc, ◌+◌, ◌-◌, ◌*◌, ◌<◌, ◌≤◌, List, [], ◌∷◌, length, get_or, set, sum_by, refl, sym, ap, subst, arith, Bool, true, false, cond, get_or-set_same, get_or-set_other}
-use Rattle.std.specs.Prelude.{Option, Some, None, not, ◌==◌, ◌||◌, ◌&&◌, nat_lt, nat_le, find, min, is_some}
+use Rattle.std.proofs.Common.{◌≡◌, inl, ◌∙◌, ℕ, zero, suc, ◌+◌, ◌-◌, ◌*◌, ◌<◌, ◌≤◌, List, [], ◌∷◌, length, get_or, set, sum_by, refl, sym, ap, arith, Bool, true, false, cond, get_or-set_same}
+use Rattle.std.specs.Prelude.{Option, Some, None, ◌==◌, nat_lt, nat_le, min, is_some}
 use Rattle.std.proofs.lemmas.Bool.Decides.{nat_tests}
-use Rattle.plain_model.specs.declared.entry.Life.{Life}
-use Rattle.plain_model.specs.declared.entry.Life.TheVariants.{Growing, Whole, GivenUp}
+use Rattle.plain_model.specs.declared.entry.Life.TheVariants.{Growing}
 use Rattle.plain_model.specs.declared.entry.Entry.{Entry}
 use Rattle.plain_model.specs.declared.entry.Place.{Place}
 use Rattle.plain_model.specs.declared.store.Setting.{Setting}
-use Rattle.plain_model.specs.declared.store.Tab.{Tab}
-use Rattle.plain_model.specs.declared.store.Tab.TheVariants.{Free, Writing, Reading}
 use Rattle.plain_model.specs.declared.store.Plain.{Plain}
 use Rattle.plain_model.specs.declared.store.Refusal.{Refusal}
 use Rattle.plain_model.specs.declared.store.Refusal.TheVariants.{Full, Large}
-use Rattle.plain_model.specs.Place.{nothing, vacated, doomed, changed, resized, ended}
-use Rattle.plain_model.specs.Store.{place_at, entry_at, tab_at, with_tab, published, has_life, readers, is_vacant_at, is_idle_at, is_left_over_at}
-use Rattle.plain_model.specs.Slots.{held_by, held, free, from_hand, victim, evicted, claim, claim_of, claim_two, Claimed, Grown, resize, publish, grow, limit}
-use Rattle.plain_laws.specs.Holding.{IsGrowing, slots_held}
-use Rattle.plain_laws.proofs.Choosing.{either}
-use Rattle.std.specs.Prelude.{◌/◌, max}
+use Rattle.plain_model.specs.Place.{nothing, changed, resized}
+use Rattle.plain_model.specs.Store.{place_at, entry_at, published}
+use Rattle.plain_model.specs.Slots.{held_by, held, free, victim, claim, claim_of, claim_two, Claimed, Grown, resize, publish, grow, limit}
+use Rattle.plain_laws.specs.Holding.{slots_held}
+use Rattle.std.specs.Prelude.{◌/◌}
 use Rattle.std.specs.List.{range_with_len}
 use Rattle.std.proofs.lemmas.List.Sums.{sum_by-cons}
 use Rattle.std.proofs.lemmas.Nat.{le-div}
 use Rattle.std.proofs.Math.Nat.{div-mul-le_self}
 use Rattle.plain_model.specs.Slots.{claimed_as, grown_as}
 use Rattle.plain_model.specs.Writing.{append, last_slot}
-use Rattle.plain_laws.proofs.Sums.{hold, held_unfinished, hold_le, full_slots, inside, sum_set}
+use Rattle.plain_laws.proofs.Sums.{hold, held_unfinished, full_slots, inside, sum_set}
 use Rattle.plain_laws.proofs.Filling.{resized_there}
 
 -- the entry at this anchor grows, and there are slots for so many of its own

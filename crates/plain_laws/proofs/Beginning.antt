@@ -1,27 +1,16 @@
 -- What beginning comes to.
-use Rattle.std.proofs.Common.{◌≡◌, ◌⊎◌, inl, inr, ◌∙◌, ℕ, zero, suc, ◌+◌, List, [], ◌∷◌, get_or, set, refl, sym, ap, Bool, true, false, cond}
-use Rattle.std.specs.Prelude.{Option, Some, None, not, nat_lt, nat_le, ◌||◌}
+use Rattle.std.proofs.Common.{◌≡◌, ◌⊎◌, inl, inr, ℕ, zero, suc, ◌+◌, List, [], ◌∷◌, get_or, set, refl, ap, Bool, true, false}
+use Rattle.std.specs.Prelude.{not, nat_lt, nat_le, ◌||◌}
 use Rattle.lock_word.specs.declared.word.Word.{Word}
-use Rattle.script_text.specs.declared.answer.Answer.{Answer}
 use Rattle.script_text.specs.declared.answer.Answer.TheVariants as answer
 use Rattle.store_key.specs.Key.{key_of}
 use Rattle.store_key.specs.Anchor.{anchor_of}
-use Rattle.plain_model.specs.declared.entry.Life.TheVariants.{Growing, Whole, GivenUp}
-use Rattle.plain_model.specs.declared.entry.Entry.{Entry}
-use Rattle.plain_model.specs.declared.entry.Place.{Place}
 use Rattle.plain_model.specs.declared.store.Setting.{Setting}
 use Rattle.plain_model.specs.declared.store.Tab.{Tab}
 use Rattle.plain_model.specs.declared.store.Tab.TheVariants.{Free, Writing, Reading}
 use Rattle.plain_model.specs.declared.store.Plain.{Plain}
-use Rattle.plain_model.specs.declared.store.Refusal.{Refusal}
-use Rattle.plain_model.specs.declared.store.Refusal.TheVariants.{Full, Large}
-use Rattle.plain_model.specs.Place.{nothing}
-use Rattle.plain_model.specs.Store.{place_at, entry_at, tab_at, meta_size, word_at, is_vacant_at, is_idle_at}
-use Rattle.plain_model.specs.Slots.{Grown}
-use Rattle.plain_model.specs.Writing.{Step, step, taken_by, entry_of, begin_at, begin_free, begin, unless_refused, finish, last_slot, append, lacking, end}
-use Rattle.plain_model.specs.Serving.{put}
-use Rattle.plain_laws.specs.Kept.{Keeps}
-use Rattle.plain_laws.specs.Begun.{told_begun, told_stored}
+use Rattle.plain_model.specs.Store.{tab_at, meta_size, word_at, is_vacant_at, is_idle_at}
+use Rattle.plain_model.specs.Writing.{step, taken_by, entry_of, begin}
 
 -- why nothing began
 pub data BeginsAs (s : Setting) (tab : ℕ) (url body : List ℕ) (offer : ℕ) (p : Plain) : Type 0 where

@@ -1,9 +1,8 @@
 -- What requests that write leave.
-use Rattle.std.proofs.Common.{◌≡◌, ◌⊎◌, inl, inr, ◌∙◌, ℕ, zero, suc, ◌+◌, ◌-◌, ◌*◌, ◌<◌, ◌≤◌, List, [], ◌∷◌, length, get_or, set, sum_by, refl, sym, ap, subst, arith, Bool, true, false, cond, get_or-set_same, get_or-set_other}
-use Rattle.std.specs.Prelude.{Option, Some, None, not, ◌==◌, ◌||◌, ◌&&◌, nat_lt, nat_le, find, min, is_some}
+use Rattle.std.proofs.Common.{◌≡◌, inl, ◌∙◌, ℕ, ◌+◌, ◌-◌, ◌<◌, ◌≤◌, List, get_or, refl, sym, ap, subst, arith, Bool, true, false, cond}
+use Rattle.std.specs.Prelude.{Option, Some, None, ◌==◌, min}
 use Rattle.std.proofs.lemmas.Bool.Decides.{nat_tests}
-use Rattle.plain_model.specs.declared.entry.Life.{Life}
-use Rattle.plain_model.specs.declared.entry.Life.TheVariants.{Growing, Whole, GivenUp}
+use Rattle.plain_model.specs.declared.entry.Life.TheVariants.{Growing, GivenUp}
 use Rattle.plain_model.specs.declared.entry.Entry.{Entry}
 use Rattle.plain_model.specs.declared.entry.Place.{Place}
 use Rattle.plain_model.specs.declared.store.Setting.{Setting}
@@ -11,18 +10,17 @@ use Rattle.plain_model.specs.declared.store.Tab.{Tab}
 use Rattle.plain_model.specs.declared.store.Tab.TheVariants.{Free, Writing, Reading}
 use Rattle.plain_model.specs.declared.store.Plain.{Plain}
 use Rattle.plain_model.specs.declared.store.Refusal.{Refusal}
-use Rattle.plain_model.specs.declared.store.Refusal.TheVariants.{Full, Large}
-use Rattle.plain_model.specs.Place.{nothing, vacated, doomed, changed, resized, ended}
-use Rattle.plain_model.specs.Store.{place_at, entry_at, tab_at, with_tab, published, has_life, readers, is_vacant_at, is_idle_at, is_left_over_at}
-use Rattle.plain_model.specs.Slots.{held_by, held, free, from_hand, victim, evicted, claim, claim_of, claim_two, Claimed, Grown, resize, publish, grow, limit}
+use Rattle.plain_model.specs.declared.store.Refusal.TheVariants.{Full}
+use Rattle.plain_model.specs.Store.{place_at, entry_at, tab_at, published}
+use Rattle.plain_model.specs.Slots.{held_by, held, claim, Claimed, Grown}
 use Rattle.plain_laws.specs.Holding.{IsGrowing, slots_held}
 use Rattle.plain_laws.proofs.Choosing.{either}
 use Rattle.script_text.specs.declared.answer.Answer.{Answer}
-use Rattle.plain_model.specs.Writing.{Step, step, settle, taken_by, close_writer, lacking, append, unless_refused, add, last_slot, finish, end, give_up}
-use Rattle.plain_laws.specs.Holding.{WritesApart, HoldsItsSlots}
+use Rattle.plain_model.specs.Writing.{Step, step, close_writer, lacking, append, unless_refused, add, last_slot, finish, end, give_up}
+use Rattle.plain_laws.specs.Holding.{HoldsItsSlots}
 use Rattle.plain_laws.proofs.Sums.{hold, held_unfinished}
 use Rattle.plain_laws.proofs.Evicting.{Untouched, untouched_refl, ClaimLeaves, claim_leaves}
-use Rattle.plain_laws.proofs.Filling.{Fills, StaysGrowing, untouched_grows, GrowLeaves, grow_leaves}
+use Rattle.plain_laws.proofs.Filling.{StaysGrowing, untouched_grows, GrowLeaves, grow_leaves}
 use Rattle.plain_laws.proofs.Writers.{writes_stay, given_up_holds, whole_holds}
 
 -- a writing tab and its entry

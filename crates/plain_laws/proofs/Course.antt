@@ -1,5 +1,5 @@
 -- What holds along the lines.
-use Rattle.std.proofs.Common.{◌≡◌, ◌⊎◌, inl, inr, ◌∙◌, ℕ, ◌+◌, ◌<◌, ◌≤◌, List, [], ◌∷◌, ◌++◌, refl, sym, ap, subst, arith, get_or, set, length, suc, Contains, false}
+use Rattle.std.proofs.Common.{◌≡◌, ◌⊎◌, inl, inr, ◌∙◌, ℕ, ◌+◌, ◌<◌, ◌≤◌, List, [], ◌∷◌, ◌++◌, refl, sym, ap, subst, arith, length, suc, Contains, false}
 use Rattle.std.specs.Prelude.{Option, Some, None}
 use Rattle.store_key.specs.Key.{key_of}
 use Rattle.store_key.specs.Anchor.{anchor_of}
@@ -11,11 +11,11 @@ use Rattle.plain_model.specs.declared.entry.Place.{Place}
 use Rattle.plain_model.specs.declared.store.Setting.{Setting}
 use Rattle.plain_model.specs.declared.store.Plain.{Plain}
 use Rattle.plain_model.specs.Place.{nothing}
-use Rattle.plain_model.specs.Store.{place_at, entry_at}
+use Rattle.plain_model.specs.Store.{entry_at}
 use Rattle.plain_model.specs.Writing.{Step, taken_by, entry_of}
 use Rattle.plain_model.specs.Serving.{bytes_of, serve, answers, after}
-use Rattle.plain_laws.specs.Kept.{SameOffer, IsLeft, Keeps, Begins}
-use Rattle.plain_laws.specs.Offered.{Offers, IsOffered, IsOfLines, IsOfStore, HasOrigin}
+use Rattle.plain_laws.specs.Kept.{SameOffer, IsLeft, Keeps}
+use Rattle.plain_laws.specs.Offered.{Offers, IsOffered, IsOfStore, HasOrigin}
 use Rattle.plain_laws.specs.Begun.{begun_by, begun, RiseAbove}
 use Rattle.plain_laws.proofs.Keeping.{same_offer}
 use Rattle.plain_laws.proofs.Beginning.{set_there}

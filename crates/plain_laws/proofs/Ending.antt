@@ -1,8 +1,7 @@
 -- What the end of a writing tells.
-use Rattle.std.proofs.Common.{◌≡◌, ◌⊎◌, inl, inr, ◌∙◌, ℕ, zero, suc, ◌+◌, List, [], ◌∷◌, get_or, set, refl, sym, ap, subst, Bool, true, false, cond}
+use Rattle.std.proofs.Common.{◌≡◌, ◌⊎◌, inl, inr, ◌∙◌, ℕ, ◌+◌, [], ◌∷◌, refl, subst, Bool, true, false}
 use Rattle.std.specs.Prelude.{Option, Some, None}
 use Rattle.script_text.specs.declared.answer.Answer.{Answer}
-use Rattle.plain_model.specs.declared.entry.Life.TheVariants.{Growing, Whole, GivenUp}
 use Rattle.plain_model.specs.declared.entry.Entry.{Entry}
 use Rattle.plain_model.specs.declared.store.Setting.{Setting}
 use Rattle.plain_model.specs.declared.store.Tab.{Tab}
@@ -13,7 +12,6 @@ use Rattle.plain_model.specs.declared.store.Refusal.TheVariants.{Full, Large}
 use Rattle.plain_model.specs.Store.{place_at, entry_at, tab_at}
 use Rattle.plain_model.specs.Slots.{Grown}
 use Rattle.plain_model.specs.Writing.{Step, unless_refused, finish, last_slot, append, lacking, end}
-use Rattle.plain_laws.specs.Kept.{Keeps}
 use Rattle.plain_laws.specs.Begun.{told_stored}
 use Rattle.plain_laws.proofs.Keeping.{keeps_append, keeps_last_slot}
 

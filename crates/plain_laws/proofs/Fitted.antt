@@ -1,28 +1,21 @@
 -- What stands at an anchor keeps to what the anchor may hold.
-use Rattle.std.proofs.Common.{◌≡◌, ◌⊎◌, inl, inr, ◌∙◌, ℕ, zero, suc, ◌+◌, ◌-◌, ◌*◌, ◌<◌, ◌≤◌, List, [], ◌∷◌, length, get_or, set, sum_by, refl, sym, ap, subst, arith, Bool, true, false, cond, get_or-set_same, get_or-set_other}
-use Rattle.std.specs.Prelude.{Option, Some, None, not, ◌==◌, ◌||◌, ◌&&◌, nat_lt, nat_le, find, min, is_some}
+use Rattle.std.proofs.Common.{◌≡◌, inl, ◌∙◌, ℕ, zero, suc, ◌+◌, ◌-◌, ◌*◌, ◌<◌, ◌≤◌, length, refl, sym, ap, subst, arith, Bool, true, false, cond}
+use Rattle.std.specs.Prelude.{Some, None, nat_le, min}
 use Rattle.std.proofs.lemmas.Bool.Decides.{nat_tests}
 use Rattle.plain_model.specs.declared.entry.Life.{Life}
-use Rattle.plain_model.specs.declared.entry.Life.TheVariants.{Growing, Whole, GivenUp}
+use Rattle.plain_model.specs.declared.entry.Life.TheVariants.{Growing}
 use Rattle.plain_model.specs.declared.entry.Entry.{Entry}
 use Rattle.plain_model.specs.declared.entry.Place.{Place}
 use Rattle.plain_model.specs.declared.store.Setting.{Setting}
-use Rattle.plain_model.specs.declared.store.Tab.{Tab}
-use Rattle.plain_model.specs.declared.store.Tab.TheVariants.{Free, Writing, Reading}
-use Rattle.plain_model.specs.declared.store.Plain.{Plain}
 use Rattle.plain_model.specs.declared.store.Refusal.{Refusal}
-use Rattle.plain_model.specs.declared.store.Refusal.TheVariants.{Full, Large}
+use Rattle.plain_model.specs.declared.store.Refusal.TheVariants.{Large}
 use Rattle.plain_model.specs.Place.{nothing, vacated, doomed, changed, resized, ended}
-use Rattle.plain_model.specs.Store.{place_at, entry_at, tab_at, with_tab, published, has_life, readers, is_vacant_at, is_idle_at, is_left_over_at}
-use Rattle.plain_model.specs.Slots.{held_by, held, free, from_hand, victim, evicted, claim, claim_of, claim_two, Claimed, Grown, resize, publish, grow, limit}
-use Rattle.plain_laws.specs.Holding.{IsGrowing, slots_held}
+use Rattle.plain_model.specs.Store.{published}
+use Rattle.plain_model.specs.Slots.{held_by, held, limit}
 use Rattle.plain_laws.proofs.Choosing.{either}
-use Rattle.std.specs.Prelude.{◌/◌}
 use Rattle.plain_model.specs.Store.{meta_size}
-use Rattle.plain_model.specs.Writing.{settle, taken_by, close_writer, lacking, entry_of}
-use Rattle.plain_model.specs.Reading.{doom_at}
-use Rattle.plain_laws.proofs.Sums.{hold, held_unfinished, held_whole, hold_le, full_slots}
-use Rattle.plain_laws.proofs.Alone.{size_at, refusal_at, added_size, added_refusal, published_le}
+use Rattle.plain_laws.proofs.Sums.{hold, held_unfinished, hold_le, full_slots}
+use Rattle.plain_laws.proofs.Alone.{size_at, refusal_at}
 
 -- a writing that may take so many slots
 pub record Sized (s : Setting) (c : ℕ) (e : Entry) : Type 0 where

@@ -1,8 +1,7 @@
 -- Along all lines the slots that are held are there.
-use Rattle.std.proofs.Common.{◌≡◌, ◌⊎◌, inl, inr, ◌∙◌, ℕ, zero, suc, ◌+◌, ◌-◌, ◌*◌, ◌<◌, ◌≤◌, List, [], ◌∷◌, length, get_or, set, sum_by, refl, sym, ap, subst, arith, Bool, true, false, cond, get_or-set_same, get_or-set_other}
-use Rattle.std.specs.Prelude.{Option, Some, None, not, ◌==◌, ◌||◌, ◌&&◌, nat_lt, nat_le, find, min, is_some, is_none, ◌%◌, ◌^◌}
+use Rattle.std.proofs.Common.{◌≡◌, ◌⊎◌, inl, inr, ◌∙◌, ℕ, ◌+◌, ◌-◌, ◌<◌, ◌≤◌, List, [], ◌∷◌, length, refl, sym, ap, subst, arith, Bool, true, false, get_or-set_same}
+use Rattle.std.specs.Prelude.{Option, Some, None, not, ◌==◌, ◌||◌, ◌&&◌, nat_lt, is_none, ◌%◌, ◌^◌}
 use Rattle.std.proofs.lemmas.Bool.Decides.{nat_tests}
-use Rattle.plain_model.specs.declared.entry.Life.{Life}
 use Rattle.plain_model.specs.declared.entry.Life.TheVariants.{Growing, Whole, GivenUp}
 use Rattle.plain_model.specs.declared.entry.Entry.{Entry}
 use Rattle.plain_model.specs.declared.entry.Place.{Place}
@@ -10,33 +9,28 @@ use Rattle.plain_model.specs.declared.store.Setting.{Setting}
 use Rattle.plain_model.specs.declared.store.Tab.{Tab}
 use Rattle.plain_model.specs.declared.store.Tab.TheVariants.{Free, Writing, Reading}
 use Rattle.plain_model.specs.declared.store.Plain.{Plain}
-use Rattle.plain_model.specs.declared.store.Refusal.{Refusal}
-use Rattle.plain_model.specs.declared.store.Refusal.TheVariants.{Full, Large}
-use Rattle.plain_model.specs.Place.{nothing, vacated, doomed, changed, resized, ended}
-use Rattle.plain_model.specs.Store.{place_at, entry_at, tab_at, with_tab, published, has_life, readers, is_vacant_at, is_idle_at, is_left_over_at}
-use Rattle.plain_model.specs.Slots.{held_by, held, free, from_hand, victim, evicted, claim, claim_of, claim_two, Claimed, Grown, resize, publish, grow, limit}
+use Rattle.plain_model.specs.Place.{nothing, doomed}
+use Rattle.plain_model.specs.Store.{place_at, entry_at, tab_at, with_tab, published, readers, is_vacant_at, is_idle_at}
+use Rattle.plain_model.specs.Slots.{held_by, free}
 use Rattle.plain_laws.specs.Holding.{IsGrowing, slots_held}
-use Rattle.plain_laws.proofs.Choosing.{either}
 use Rattle.std.specs.List.{range_with_len}
 use Rattle.std.proofs.Math.Nat.{div-eq_of_lt, mod-lt}
 use Rattle.store_key.specs.Key.{key_of}
 use Rattle.store_key.specs.Anchor.{anchor_of, front_half, back_half}
 use Rattle.lock_word.specs.declared.cause.Cause.{Cause}
-use Rattle.script_text.specs.declared.answer.Answer.{Answer}
-use Rattle.script_text.specs.declared.answer.Answer.TheVariants as answer
 use Rattle.script_text.specs.declared.line.Line.{Line}
 use Rattle.script_text.specs.declared.request.Request.{Request}
 use Rattle.script_text.specs.declared.request.Request.TheVariants.{Put, Save, Get, Purge, Begin, Add, End, DropTab, OpenTab, More, CloseTab, Mark, Await}
 use Rattle.plain_model.specs.Store.{meta_size, available}
-use Rattle.plain_model.specs.Writing.{Step, step, settle, close_writer, taken_by, entry_of, begin_at, begin_free, begin, add, end, give_up}
-use Rattle.plain_model.specs.Reading.{judge, has_url, open_at, open_tab, more, close, doom_at, purge_at, purge}
+use Rattle.plain_model.specs.Writing.{settle, close_writer, taken_by, entry_of, begin, give_up}
+use Rattle.plain_model.specs.Reading.{judge, has_url, open_at, open_tab, more, close, doom_at, purge_at}
 use Rattle.plain_model.specs.Serving.{bytes_of, put, get, serve, after, lines_for, leave, leave_all, left_by}
-use Rattle.plain_laws.specs.Holding.{WritesApart, HoldsItsSlots}
+use Rattle.plain_laws.specs.Holding.{HoldsItsSlots}
 use Rattle.plain_laws.proofs.Sums.{hold, held_unfinished, inside, sum_le}
 use Rattle.plain_laws.proofs.Beginning.{BeginsAs, begins, set_there}
-use Rattle.plain_laws.proofs.Evicting.{whole_of, idle_whole}
-use Rattle.plain_laws.proofs.Filling.{StaysGrowing, grows_set}
-use Rattle.plain_laws.proofs.Writers.{either_or, writes_stay, not_written, tab_writes, free_writes_not, settle_holds}
+use Rattle.plain_laws.proofs.Evicting.{idle_whole}
+use Rattle.plain_laws.proofs.Filling.{grows_set}
+use Rattle.plain_laws.proofs.Writers.{either_or, writes_stay, tab_writes, free_writes_not, settle_holds}
 use Rattle.plain_laws.proofs.Closing.{add_holds, end_holds, give_up_holds}
 use Rattle.plain_laws.proofs.Looking.{Opens, opens}
 use Rattle.plain_laws.proofs.Serving.{effect, anchors_stay}

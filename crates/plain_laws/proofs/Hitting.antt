@@ -1,5 +1,5 @@
 -- A hit is of a whole entry.
-use Rattle.std.proofs.Common.{◌≡◌, ◌⊎◌, inl, inr, ◌∙◌, ℕ, List, [], ◌∷◌, refl, sym, ap, subst, get_or, set, drop, length, Bool, true, false}
+use Rattle.std.proofs.Common.{◌≡◌, ◌⊎◌, inl, inr, ◌∙◌, ℕ, List, refl, sym, ap, drop, Bool, true, false}
 use Rattle.std.specs.Prelude.{Option, Some, None, not}
 use Rattle.std.specs.Str.{bytes_eq}
 use Rattle.std.proofs.lemmas.Slice.Eq.{bytes_eq-Decides}
@@ -16,8 +16,7 @@ use Rattle.plain_model.specs.declared.store.Tab.{Tab}
 use Rattle.plain_model.specs.declared.store.Tab.TheVariants.{Free, Writing, Reading}
 use Rattle.plain_model.specs.declared.store.Plain.{Plain}
 use Rattle.plain_model.specs.Store.{place_at, entry_at, tab_at, with_tab, epoch_of, available}
-use Rattle.plain_model.specs.Writing.{Step, step}
-use Rattle.plain_model.specs.Reading.{has_url, open_tab, told, more, close}
+use Rattle.plain_model.specs.Reading.{has_url, told, more}
 use Rattle.plain_model.specs.Serving.{hit_by, get}
 use Rattle.plain_laws.specs.Hit.{IsHit}
 use Rattle.plain_laws.proofs.Looking.{Opens, opens}

@@ -1,9 +1,9 @@
 -- What keeps entries and versions.
-use Rattle.std.proofs.Common.{◌≡◌, ◌∙◌, ℕ, zero, suc, ◌+◌, ◌-◌, ◌*◌, ◌%◌, List, [], ◌∷◌, get_or, set, length, length-set, refl, sym, ap, Bool, true, false, cond}
-use Rattle.std.specs.Prelude.{Option, Some, None, min, nat_lt, nat_le, ◌==◌, ◌||◌, not, is_some}
+use Rattle.std.proofs.Common.{◌≡◌, ◌∙◌, ℕ, zero, suc, ◌+◌, ◌-◌, ◌*◌, List, [], ◌∷◌, get_or, set, length-set, refl}
+use Rattle.std.specs.Prelude.{Option, Some, None, min, nat_lt, nat_le, ◌==◌, is_some}
 use Rattle.script_text.specs.declared.answer.Answer.{Answer}
 use Rattle.plain_model.specs.declared.entry.Life.{Life}
-use Rattle.plain_model.specs.declared.entry.Life.TheVariants.{Growing, Whole, GivenUp}
+use Rattle.plain_model.specs.declared.entry.Life.TheVariants.{Whole, GivenUp}
 use Rattle.plain_model.specs.declared.entry.Entry.{Entry}
 use Rattle.plain_model.specs.declared.entry.Place.{Place}
 use Rattle.plain_model.specs.declared.store.Setting.{Setting}
@@ -14,7 +14,7 @@ use Rattle.plain_model.specs.declared.store.Refusal.{Refusal}
 use Rattle.plain_model.specs.Place.{nothing, vacated, doomed, changed, resized, ended}
 use Rattle.plain_model.specs.Store.{place_at, entry_at, tab_at, with_tab, published, is_left_over_at}
 use Rattle.plain_model.specs.Slots.{free, victim, evicted, claim, claim_of, claim_two, Claimed, Grown, resize, publish, grow, limit}
-use Rattle.plain_model.specs.Writing.{Step, step, settle, close_writer, lacking, append, unless_refused, add, last_slot, finish, end, give_up}
+use Rattle.plain_model.specs.Writing.{Step, settle, close_writer, lacking, append, unless_refused, add, last_slot, finish, end, give_up}
 use Rattle.plain_laws.specs.Kept.{SameOffer, IsLeft, IsAs, Keeps}
 use Rattle.plain_laws.proofs.Choosing.{either}
 

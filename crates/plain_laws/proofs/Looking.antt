@@ -1,7 +1,6 @@
 -- Reading and purging keep entries and versions.
-use Rattle.std.proofs.Common.{◌≡◌, ℕ, List, get_or, set, length, refl, Bool, true, false, cond, drop}
+use Rattle.std.proofs.Common.{◌≡◌, ℕ, List, length, refl, true, false}
 use Rattle.std.specs.Prelude.{Option, Some, None, not}
-use Rattle.script_text.specs.declared.answer.Answer.{Answer}
 use Rattle.script_text.specs.declared.answer.Answer.TheVariants as answer
 use Rattle.lock_word.specs.declared.cause.Cause.{Cause}
 use Rattle.store_key.specs.Key.{key_of}
@@ -12,10 +11,10 @@ use Rattle.plain_model.specs.declared.store.Tab.{Tab}
 use Rattle.plain_model.specs.declared.store.Tab.TheVariants.{Free, Writing, Reading}
 use Rattle.plain_model.specs.declared.store.Plain.{Plain}
 use Rattle.plain_model.specs.Place.{doomed}
-use Rattle.plain_model.specs.Store.{place_at, entry_at, tab_at, with_tab, epoch_of, available}
-use Rattle.plain_model.specs.Writing.{Step, step, settle}
-use Rattle.plain_model.specs.Reading.{judge, has_url, open_at, open_tab, told, more, close, doom_at, purge_at, purge}
-use Rattle.plain_model.specs.Serving.{hit_by, get}
+use Rattle.plain_model.specs.Store.{place_at, entry_at, tab_at, with_tab, available}
+use Rattle.plain_model.specs.Writing.{step, settle}
+use Rattle.plain_model.specs.Reading.{judge, has_url, open_at, open_tab, more, close, doom_at, purge_at, purge}
+use Rattle.plain_model.specs.Serving.{get}
 use Rattle.plain_laws.specs.Kept.{Keeps}
 use Rattle.plain_laws.proofs.Keeping.{keeps_refl, keeps_trans, keeps_tab, keeps_set, as_doomed, keeps_settle}
 

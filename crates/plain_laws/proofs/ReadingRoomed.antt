@@ -1,6 +1,6 @@
 -- Requests that read, where there is room.
-use Rattle.std.proofs.Common.{◌≡◌, ◌⊎◌, inl, inr, ◌∙◌, ℕ, zero, suc, ◌+◌, ◌-◌, ◌*◌, ◌<◌, ◌≤◌, List, [], ◌∷◌, length, drop, get_or, set, sum_by, refl, sym, ap, subst, arith, Bool, true, false, cond, get_or-set_same, get_or-set_other}
-use Rattle.std.specs.Prelude.{Option, Some, None, not, ◌==◌, ◌||◌, ◌&&◌, nat_lt, nat_le, find, min, is_some}
+use Rattle.std.proofs.Common.{◌≡◌, ◌⊎◌, inl, inr, ◌∙◌, ℕ, List, length, drop, refl, sym, ap, subst, arith, Bool, true, false}
+use Rattle.std.specs.Prelude.{Option, Some, None, not, ◌==◌}
 use Rattle.std.proofs.lemmas.Bool.Decides.{nat_tests}
 use Rattle.plain_model.specs.declared.entry.Life.{Life}
 use Rattle.plain_model.specs.declared.entry.Life.TheVariants.{Growing, Whole, GivenUp}
@@ -10,33 +10,24 @@ use Rattle.plain_model.specs.declared.store.Setting.{Setting}
 use Rattle.plain_model.specs.declared.store.Tab.{Tab}
 use Rattle.plain_model.specs.declared.store.Tab.TheVariants.{Free, Writing, Reading}
 use Rattle.plain_model.specs.declared.store.Plain.{Plain}
-use Rattle.plain_model.specs.declared.store.Refusal.{Refusal}
-use Rattle.plain_model.specs.declared.store.Refusal.TheVariants.{Full, Large}
-use Rattle.plain_model.specs.Place.{nothing, vacated, doomed, changed, resized, ended}
-use Rattle.plain_model.specs.Store.{place_at, entry_at, tab_at, with_tab, published, has_life, readers, is_vacant_at, is_idle_at, is_left_over_at}
-use Rattle.plain_model.specs.Slots.{held_by, held, free, from_hand, victim, evicted, claim, claim_of, claim_two, Claimed, Grown, resize, publish, grow, limit}
-use Rattle.plain_laws.specs.Holding.{IsGrowing, slots_held}
-use Rattle.plain_laws.proofs.Choosing.{either}
+use Rattle.plain_model.specs.Place.{doomed}
+use Rattle.plain_model.specs.Store.{place_at, entry_at, tab_at, with_tab}
 use Rattle.store_key.specs.Key.{key_of}
 use Rattle.store_key.specs.Anchor.{anchor_of}
 use Rattle.lock_word.specs.declared.cause.Cause.{Cause}
 use Rattle.lock_word.specs.declared.epoch.Epoch.{Epoch}
 use Rattle.script_text.specs.declared.answer.Answer.{Answer}
 use Rattle.script_text.specs.declared.answer.Answer.TheVariants as answer
-use Rattle.script_text.specs.declared.line.Line.{Line}
-use Rattle.script_text.specs.declared.request.Request.{Request}
-use Rattle.script_text.specs.declared.request.Request.TheVariants.{Put, Save, Get, Purge, Begin, Add, End, DropTab, OpenTab, More, CloseTab, Mark, Await}
-use Rattle.plain_model.specs.Store.{meta_size, available, epoch_of, stage_of}
-use Rattle.plain_model.specs.Writing.{Step, step, settle, taken_by, entry_of, begin, add, end, give_up}
+use Rattle.plain_model.specs.Store.{available, epoch_of, stage_of}
+use Rattle.plain_model.specs.Writing.{Step, step, settle}
 use Rattle.plain_model.specs.Reading.{judge, has_url, open_at, open_tab, told, more, close, doom_at, purge_at, purge}
-use Rattle.plain_model.specs.Serving.{bytes_of, hit_by, put, get, serve, answers, after, sets, is_set_before}
-use Rattle.plain_laws.specs.Fitting.{need, need_if_at, need_at, most_needed, offers_body, Fits, IsAtRest, Names, NamesNone, HadRoom, RunsInRoom}
-use Rattle.plain_laws.specs.Holding.{WritesApart, HoldsItsSlots}
-use Rattle.plain_laws.proofs.Staying.{IsOn, Stays, stays_refl, stays_trans, stays_set, stays_tab, stays_settle, stays_taken}
-use Rattle.plain_laws.proofs.Fitted.{Sized, PlaceFits, fits_doomed}
-use Rattle.plain_laws.proofs.Roomed.{Outcome, IsAt, InRoom, fits_changed, fits_settled, add_room, end_room, give_up_room}
-use Rattle.plain_laws.proofs.Beginning.{BeginsAs, begins, set_here}
-use Rattle.plain_laws.proofs.Looking.{Opens, opens}
+use Rattle.plain_model.specs.Serving.{hit_by, get}
+use Rattle.plain_laws.specs.Fitting.{HadRoom}
+use Rattle.plain_laws.proofs.Staying.{IsOn, Stays, stays_refl, stays_trans, stays_set, stays_tab, stays_settle}
+use Rattle.plain_laws.proofs.Fitted.{PlaceFits, fits_doomed}
+use Rattle.plain_laws.proofs.Roomed.{Outcome, IsAt, fits_changed, fits_settled}
+use Rattle.plain_laws.proofs.Beginning.{set_here}
+use Rattle.plain_laws.proofs.Looking.{Opens}
 
 abbrev pub AllFit : Setting → (ℕ → ℕ) → Plain → Type 0
 AllFit s cap p = (a : ℕ) → PlaceFits s (cap a) (place_at p a)

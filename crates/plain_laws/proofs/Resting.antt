@@ -1,19 +1,17 @@
 -- Stores at their beginning.
-use Rattle.std.proofs.Common.{◌≡◌, ◌∙◌, ℕ, zero, suc, ◌+◌, ◌<◌, ◌≤◌, List, [], ◌∷◌, length, get_or, sum_by, refl, sym, ap, subst, arith, false}
-use Rattle.std.specs.Prelude.{Option, Some, None, map, find, replicate, ◌==◌}
+use Rattle.std.proofs.Common.{◌≡◌, ◌∙◌, ℕ, zero, suc, ◌+◌, ◌≤◌, List, length, get_or, sum_by, refl, sym, arith}
+use Rattle.std.specs.Prelude.{Option, Some, None, map, replicate}
 use Rattle.std.specs.List.{range_with_len}
 use Rattle.std.proofs.lemmas.List.FromFn.{length-map-range_with_len}
 use Rattle.std.proofs.lemmas.List.Sums.{sum_by-cons}
-use Rattle.plain_model.specs.declared.entry.Life.TheVariants.{Growing, Whole, GivenUp}
-use Rattle.plain_model.specs.declared.entry.Entry.{Entry}
+use Rattle.plain_model.specs.declared.entry.Life.TheVariants.{Growing, Whole}
 use Rattle.plain_model.specs.declared.entry.Place.{Place}
 use Rattle.plain_model.specs.declared.kept.Kept.{Kept}
 use Rattle.plain_model.specs.declared.store.Setting.{Setting}
-use Rattle.plain_model.specs.declared.store.Tab.{Tab}
-use Rattle.plain_model.specs.declared.store.Tab.TheVariants.{Free, Writing, Reading}
+use Rattle.plain_model.specs.declared.store.Tab.TheVariants.{Free, Writing}
 use Rattle.plain_model.specs.declared.store.Plain.{Plain}
 use Rattle.plain_model.specs.Place.{nothing}
-use Rattle.plain_model.specs.Store.{place_at, entry_at, tab_at}
+use Rattle.plain_model.specs.Store.{tab_at}
 use Rattle.plain_model.specs.Slots.{held}
 use Rattle.plain_model.specs.Serving.{fresh}
 use Rattle.plain_model.specs.Opening.{place_kept, kept_at, opened}

@@ -1,7 +1,6 @@
 -- Requests that write, where there is room.
-use Rattle.std.proofs.Common.{◌≡◌, ◌⊎◌, inl, inr, ◌∙◌, ℕ, zero, suc, ◌+◌, ◌-◌, ◌*◌, ◌<◌, ◌≤◌, List, [], ◌∷◌, length, get_or, set, sum_by, refl, sym, ap, subst, arith, Bool, true, false, cond, get_or-set_same, get_or-set_other}
-use Rattle.std.specs.Prelude.{Option, Some, None, not, ◌==◌, ◌||◌, ◌&&◌, nat_lt, nat_le, find, min, is_some}
-use Rattle.std.proofs.lemmas.Bool.Decides.{nat_tests}
+use Rattle.std.proofs.Common.{◌≡◌, inl, inr, ◌∙◌, ℕ, zero, suc, ◌+◌, ◌-◌, ◌<◌, ◌≤◌, List, length, get_or, set, sum_by, refl, sym, ap, subst, arith}
+use Rattle.std.specs.Prelude.{Option, Some, None, min}
 use Rattle.plain_model.specs.declared.entry.Life.{Life}
 use Rattle.plain_model.specs.declared.entry.Life.TheVariants.{Growing, Whole, GivenUp}
 use Rattle.plain_model.specs.declared.entry.Entry.{Entry}
@@ -11,10 +10,10 @@ use Rattle.plain_model.specs.declared.store.Tab.{Tab}
 use Rattle.plain_model.specs.declared.store.Tab.TheVariants.{Free, Writing, Reading}
 use Rattle.plain_model.specs.declared.store.Plain.{Plain}
 use Rattle.plain_model.specs.declared.store.Refusal.{Refusal}
-use Rattle.plain_model.specs.declared.store.Refusal.TheVariants.{Full, Large}
-use Rattle.plain_model.specs.Place.{nothing, vacated, doomed, changed, resized, ended}
-use Rattle.plain_model.specs.Store.{place_at, entry_at, tab_at, with_tab, published, has_life, readers, is_vacant_at, is_idle_at, is_left_over_at}
-use Rattle.plain_model.specs.Slots.{held_by, held, free, from_hand, victim, evicted, claim, claim_of, claim_two, Claimed, Grown, resize, publish, grow, limit}
+use Rattle.plain_model.specs.declared.store.Refusal.TheVariants.{Large}
+use Rattle.plain_model.specs.Place.{nothing, vacated, resized, ended}
+use Rattle.plain_model.specs.Store.{place_at, entry_at, tab_at, published, is_left_over_at}
+use Rattle.plain_model.specs.Slots.{held_by, held, Grown, resize}
 use Rattle.plain_laws.specs.Holding.{IsGrowing, slots_held}
 use Rattle.plain_laws.proofs.Choosing.{either}
 use Rattle.script_text.specs.declared.answer.Answer.{Answer}
@@ -24,12 +23,12 @@ use Rattle.plain_model.specs.Store.{meta_size}
 use Rattle.plain_model.specs.Writing.{Step, step, settle, refused_by, lacking, append, unless_refused, close_writer, add, last_slot, finish, end, give_up}
 use Rattle.plain_laws.specs.Fitting.{HadRoom}
 use Rattle.plain_laws.specs.Holding.{WritesApart}
-use Rattle.plain_laws.proofs.Sums.{hold, held_unfinished, held_whole, hold_whole, inside}
+use Rattle.plain_laws.proofs.Sums.{hold, held_unfinished, held_whole, inside}
 use Rattle.plain_laws.proofs.Beginning.{set_here}
 use Rattle.plain_laws.proofs.Filling.{resized_there}
 use Rattle.std.specs.List.{range_with_len}
 use Rattle.plain_laws.proofs.Alone.{one_cap, Roomy, published_le, append_free, last_free, resize_sums, added_size, added_refusal}
-use Rattle.plain_laws.proofs.Staying.{IsOn, Stays, stays_refl, stays_trans, stays_set, stays_close_writer}
+use Rattle.plain_laws.proofs.Staying.{Stays, stays_trans, stays_set, stays_close_writer}
 use Rattle.plain_laws.proofs.Fitted.{Sized, PlaceFits, fits_vacated, fits_nothing, fits_ended, fits_resized, size_holds, size_success, never_full}
 
 -- a request leaves all as it is, or moves one anchor, for this reason

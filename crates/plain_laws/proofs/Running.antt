@@ -1,22 +1,16 @@
 -- Scripts that fit run in room.
-use Rattle.std.proofs.Common.{◌≡◌, ◌⊎◌, inl, inr, ◌∙◌, ℕ, zero, suc, ◌+◌, ◌-◌, ◌*◌, ◌<◌, ◌≤◌, List, [], ◌∷◌, length, get_or, set, sum_by, refl, sym, ap, subst, arith, Bool, true, false, cond, get_or-set_same, get_or-set_other}
-use Rattle.std.specs.Prelude.{Option, Some, None, not, ◌==◌, ◌||◌, ◌&&◌, nat_lt, nat_le, find, min, is_some}
+use Rattle.std.proofs.Common.{◌≡◌, ◌⊎◌, inl, inr, ◌∙◌, ℕ, ◌+◌, ◌<◌, ◌≤◌, List, [], ◌∷◌, length, sum_by, refl, sym, ap, subst, arith, Bool, true, false, cond}
+use Rattle.std.specs.Prelude.{Option, Some, ◌==◌, nat_lt, min}
 use Rattle.std.proofs.lemmas.Bool.Decides.{nat_tests}
-use Rattle.plain_model.specs.declared.entry.Life.{Life}
-use Rattle.plain_model.specs.declared.entry.Life.TheVariants.{Growing, Whole, GivenUp}
 use Rattle.plain_model.specs.declared.entry.Entry.{Entry}
 use Rattle.plain_model.specs.declared.entry.Place.{Place}
 use Rattle.plain_model.specs.declared.store.Setting.{Setting}
 use Rattle.plain_model.specs.declared.store.Tab.{Tab}
-use Rattle.plain_model.specs.declared.store.Tab.TheVariants.{Free, Writing, Reading}
+use Rattle.plain_model.specs.declared.store.Tab.TheVariants.{Free, Writing}
 use Rattle.plain_model.specs.declared.store.Plain.{Plain}
-use Rattle.plain_model.specs.declared.store.Refusal.{Refusal}
-use Rattle.plain_model.specs.declared.store.Refusal.TheVariants.{Full, Large}
-use Rattle.plain_model.specs.Place.{nothing, vacated, doomed, changed, resized, ended}
-use Rattle.plain_model.specs.Store.{place_at, entry_at, tab_at, with_tab, published, has_life, readers, is_vacant_at, is_idle_at, is_left_over_at}
-use Rattle.plain_model.specs.Slots.{held_by, held, free, from_hand, victim, evicted, claim, claim_of, claim_two, Claimed, Grown, resize, publish, grow, limit}
+use Rattle.plain_model.specs.Store.{place_at, tab_at, published}
+use Rattle.plain_model.specs.Slots.{held_by, held, limit}
 use Rattle.plain_laws.specs.Holding.{IsGrowing, slots_held}
-use Rattle.plain_laws.proofs.Choosing.{either}
 use Rattle.std.specs.Prelude.{All, count_by, max}
 use Rattle.std.specs.List.{range_with_len}
 use Rattle.std.proofs.lemmas.List.Elements.{All-nil, All-cons}
@@ -24,30 +18,27 @@ use Rattle.std.proofs.lemmas.List.Sums.{sum_by-cons}
 use Rattle.std.proofs.Common.{length-set}
 use Rattle.store_key.specs.Key.{key_of}
 use Rattle.store_key.specs.Anchor.{anchor_of}
-use Rattle.lock_word.specs.declared.cause.Cause.{Cause}
-use Rattle.lock_word.specs.declared.epoch.Epoch.{Epoch}
-use Rattle.script_text.specs.declared.answer.Answer.{Answer}
 use Rattle.script_text.specs.declared.answer.Answer.TheVariants as answer
 use Rattle.script_text.specs.declared.line.Line.{Line}
 use Rattle.script_text.specs.declared.request.Request.{Request}
 use Rattle.script_text.specs.declared.request.Request.TheVariants.{Put, Save, Get, Purge, Begin, Add, End, DropTab, OpenTab, More, CloseTab, Mark, Await}
-use Rattle.plain_model.specs.Store.{meta_size, available, epoch_of}
-use Rattle.plain_model.specs.Writing.{Step, step, settle, taken_by, entry_of, begin, add, end, give_up}
-use Rattle.plain_model.specs.Reading.{judge, has_url, open_at, open_tab, told, more, close, doom_at, purge_at, purge}
-use Rattle.plain_model.specs.Serving.{bytes_of, hit_by, put, get, serve, answers, after, sets, is_set_before}
+use Rattle.plain_model.specs.Store.{meta_size}
+use Rattle.plain_model.specs.Writing.{Step, step, taken_by, entry_of, begin, add, end, give_up}
+use Rattle.plain_model.specs.Reading.{open_tab, told, more, close, purge}
+use Rattle.plain_model.specs.Serving.{bytes_of, put, get, serve, answers, after, is_set_before}
 use Rattle.plain_laws.specs.Fitting.{need, need_if_at, need_at, most_needed, most_held, offers_body, Fits, IsAtRest, Names, NamesNone, HadRoom, RunsInRoom}
-use Rattle.plain_laws.specs.Holding.{WritesApart, HoldsItsSlots}
-use Rattle.plain_laws.proofs.Staying.{IsOn, Stays, stays_refl, stays_trans, stays_set, stays_tab, stays_settle, stays_taken}
-use Rattle.plain_laws.proofs.Fitted.{Sized, PlaceFits, fits_doomed}
-use Rattle.plain_laws.proofs.Roomed.{Outcome, IsAt, InRoom, fits_changed, fits_settled, add_room, end_room, give_up_room}
+use Rattle.plain_laws.specs.Holding.{HoldsItsSlots}
+use Rattle.plain_laws.proofs.Staying.{IsOn, stays_taken}
+use Rattle.plain_laws.proofs.Fitted.{Sized, PlaceFits}
+use Rattle.plain_laws.proofs.Roomed.{Outcome, IsAt, InRoom, fits_changed, add_room, end_room, give_up_room}
 use Rattle.plain_laws.proofs.Beginning.{BeginsAs, begins, set_here}
-use Rattle.plain_laws.proofs.Looking.{Opens, opens}
+use Rattle.plain_laws.proofs.Looking.{opens}
 use Rattle.script_text.specs.declared.body.Body.{Body}
 use Rattle.plain_laws.specs.Offered.{Offers}
 use Rattle.plain_laws.proofs.Alone.{all_caps}
 use Rattle.plain_laws.proofs.Held.{new_holds_none, taken_holds, able_not, serve_holds, anchor_inside}
 use Rattle.plain_laws.proofs.Serving.{Effect, effect, anchors_stay}
-use Rattle.plain_laws.proofs.ReadingRoomed.{AllFit, IsUrlAt, open_room, more_room, close_room, purge_room, get_room, fit_after, Follows, follow, on_at}
+use Rattle.plain_laws.proofs.ReadingRoomed.{IsUrlAt, open_room, more_room, close_room, purge_room, get_room, fit_after, Follows, follow, on_at}
 
 holds_of : (s : Setting) (cap : ℕ → ℕ) (p : Plain) → InRoom s cap p → HoldsItsSlots s p
 holds_of s cap p h = record {

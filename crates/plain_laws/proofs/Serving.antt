@@ -1,9 +1,8 @@
 -- What a line does to entries and versions.
-use Rattle.std.proofs.Common.{◌≡◌, ◌⊎◌, inl, inr, ◌∙◌, ℕ, ◌+◌, List, [], ◌∷◌, refl, sym, ap, subst, false, length, length-set}
-use Rattle.std.specs.Prelude.{Option, Some, None, ◌==◌, ◌&&◌}
+use Rattle.std.proofs.Common.{◌≡◌, ◌⊎◌, inl, inr, ◌∙◌, ℕ, ◌+◌, List, [], ◌∷◌, refl, sym, ap, false, length, length-set}
+use Rattle.std.specs.Prelude.{Some, None}
 use Rattle.store_key.specs.Key.{key_of}
 use Rattle.store_key.specs.Anchor.{anchor_of}
-use Rattle.script_text.specs.declared.answer.Answer.{Answer}
 use Rattle.script_text.specs.declared.body.Body.{Body}
 use Rattle.script_text.specs.declared.line.Line.{Line}
 use Rattle.script_text.specs.declared.request.Request.{Request}
@@ -12,13 +11,12 @@ use Rattle.plain_model.specs.declared.entry.Entry.{Entry}
 use Rattle.plain_model.specs.declared.entry.Place.{Place}
 use Rattle.plain_model.specs.declared.store.Setting.{Setting}
 use Rattle.plain_model.specs.declared.store.Tab.{Tab}
-use Rattle.plain_model.specs.declared.store.Tab.TheVariants.{Free, Writing, Reading}
+use Rattle.plain_model.specs.declared.store.Tab.TheVariants.{Free, Writing}
 use Rattle.plain_model.specs.declared.store.Plain.{Plain}
 use Rattle.plain_model.specs.Place.{nothing}
 use Rattle.plain_model.specs.Store.{place_at, entry_at, tab_at}
-use Rattle.plain_model.specs.Writing.{Step, begin, add, end, give_up, taken_by, entry_of}
-use Rattle.plain_model.specs.Reading.{open_tab, more, close, purge}
-use Rattle.plain_model.specs.Serving.{bytes_of, put, get, serve}
+use Rattle.plain_model.specs.Writing.{Step, begin, taken_by, entry_of}
+use Rattle.plain_model.specs.Serving.{bytes_of, put, serve}
 use Rattle.plain_laws.specs.Kept.{Keeps, Begins}
 use Rattle.plain_laws.specs.Offered.{Offers}
 use Rattle.plain_laws.specs.Begun.{told_begun, told_stored, begun_by}

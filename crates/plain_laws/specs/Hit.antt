@@ -1,5 +1,5 @@
 -- What a whole hit is.
-use Rattle.std.specs.Prelude.{◌≡◌, ℕ, List, Some, true, false}
+use Rattle.std.specs.Prelude.{◌≡◌, ℕ, List, Some}
 use Rattle.store_key.specs.Key.{key_of}
 use Rattle.store_key.specs.Anchor.{anchor_of}
 use Rattle.plain_model.specs.declared.entry.Life.TheVariants.{Whole}
