@@ -12,7 +12,7 @@ use Rattle.core_model.specs.Table.{place}
 use Rattle.store_rule.specs.declared.store.Pass.{Pass}
 use Rattle.store_rule.specs.declared.store.Store.{Store}
 use Rattle.store_rule.specs.Ground.{Offers}
-use Rattle.store_rule.specs.Passes.{Made, basis, left_after, view}
+use Rattle.store_rule.specs.Passes.{Made, PlacesStay, basis, hand, left_after, view}
 use Rattle.pass_calls.specs.Calls.{Follows, IsFresh}
 use Rattle.pass_calls.specs.Steps.{ActsFor, Misses}
 use Rattle.pass_calls.proofs.FreshEpochs.{fresh_epochs}
@@ -45,8 +45,9 @@ left_others words told j t ne (Write u slot outcome) for = refl
 left_others words told j t ne (Sync u slot is_kept) for = refl
 
 module _ {C O : Type 0} (tells : Bool) (state : C → CellState) (offers : O → Offers) (s : Store C O) where
-  pub made_follows : (t : ℕ) (p q : Pass C) (m : Move) (told : ℕ) → Made tells state offers s p m told q → ActsFor m t → Follows tells state offers s t p q
-  made_follows t p q m told made for = record {
+  pub made_follows : (t : ℕ) (p q : Pass C) (m : Move) (told : ℕ) → Made tells state offers s p m told q → ActsFor m t → (PlacesStay m (hand p) (hand q) → hand q ≡ hand p) → Follows tells state offers s t p q
+  made_follows t p q m told made for quiet = record {
+    places = quiet made.places;
     own = made.own;
     others = others_stay (basis tells state offers s) (view p) (view q) m made.found t made.step for;
     left = λ j ne. ap (λ (z : List ℕ). get_or z j 0) made.left ∙ left_others p.left told j t ne m for;
@@ -60,6 +61,7 @@ module _ {C O : Type 0} (tells : Bool) (state : C → CellState) (offers : O →
     own = second.own;
     others = others_go_on (view p) (view u) (view q) t first.others second.others;
     left = λ j ne. second.left j ne ∙ first.left j ne;
+    places = second.places ∙ first.places;
     desks = second.desks ∙ first.desks;
     hand = second.hand ∙ first.hand;
     cells = second.cells ∙ first.cells;

@@ -8,7 +8,7 @@ use Rattle.core_model.specs.Trails.{seen_at}
 use Rattle.store_rule.specs.declared.store.Pass.{Pass}
 use Rattle.store_rule.specs.declared.store.Store.{Store}
 use Rattle.store_rule.specs.Ground.{Offers}
-use Rattle.store_rule.specs.Passes.{IsOf, view}
+use Rattle.store_rule.specs.Passes.{IsOf, hand, view}
 
 -- every tab but t and the inner one is as it was
 abbrev pub Others : {X : Type 0} → ℕ → View X → View X → Type 0
@@ -26,6 +26,7 @@ module _ {C O : Type 0} (tells : Bool) (state : C → CellState) (offers : O →
     pub own : IsOf tells state offers s q
     pub others : Others t (view p) (view q)
     pub left : (j : ℕ) → j ≢ t → slice_index q.left j ≡ slice_index p.left j
+    pub places : hand q ≡ hand p
     pub desks : q.desks ≡ p.desks
     pub hand : q.hand ≡ p.hand
     pub cells : q.cells ≡ p.cells

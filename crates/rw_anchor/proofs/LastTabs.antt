@@ -43,7 +43,7 @@ module _ {X : Type 0} (g : Ground X) (v w : View X) (t n : ℕ) (st : Steps g v 
 
 module _ {C O : Type 0} (tells : Bool) (state : C → CellState) (offers : O → Offers) (s : Store C O) where
   pub gives_up_follows : (t a : ℕ) (p q : Pass C) (told : ℕ) → Made tells state offers s p (Evict t a) told q → Follows tells state offers s t p q
-  gives_up_follows t a p q told made = made_follows tells state offers s t p q (Evict t a) told made (λ u e. ap (λ (o : Option ℕ). unwrap_or o t) (sym e))
+  gives_up_follows t a p q told made = made_follows tells state offers s t p q (Evict t a) told made (λ u e. ap (λ (o : Option ℕ). unwrap_or o t) (sym e)) (λ h. h)
 
   -- after it left
   pub may_give_up : (p q : Pass C) (t told : ℕ) → t ≤ inner → May tells state offers s p (Leave t) → (made : Made tells state offers s p (Leave t) told q) → is_left_over told ≡ true

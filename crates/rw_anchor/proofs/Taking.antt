@@ -15,7 +15,7 @@ use Rattle.pass_calls.proofs.Following.{fresh_word, made_follows}
 
 module _ {C O : Type 0} (tells : Bool) (state : C → CellState) (offers : O → Offers) (s : Store C O) (p q : Pass C) (t a version : ℕ) where
   took_follows : (told : ℕ) → Made tells state offers s p (Take t a version) told q → Follows tells state offers s t p q
-  took_follows told made = made_follows tells state offers s t p q (Take t a version) told made (λ u e. ap (λ (o : Option ℕ). unwrap_or o t) (sym e))
+  took_follows told made = made_follows tells state offers s t p q (Take t a version) told made (λ u e. ap (λ (o : Option ℕ). unwrap_or o t) (sym e)) (λ h. h)
 
   abbrev Lost : Word → Word → Type 0
   Lost looked w = Made tells state offers s p (Take t a version) (word_number w) q × (word_number w ≢ word_number looked) × IsInRange w

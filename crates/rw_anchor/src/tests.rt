@@ -176,3 +176,16 @@ fn one_of_two_threads_takes_an_anchor(rt: HostRuntime) -> Result<(), Fail> {
     assert_eq!(rt; took, 1);
     Ok(())
 }
+
+#[test]
+fn the_passes_of_a_new_store_are_joined_again(rt: HostRuntime) -> Result<(), Fail> {
+    let alloc = rt.alloc();
+    let mut cells = Vec::new(alloc);
+    cells.push(Blank { number: 0 })?;
+    let Ok((store, passes)) = Store::fresh(alloc, cells, 512, 1, 3, Nothing) else {
+        panic!(rt; "there is memory for one slot")
+    };
+    assert_eq!(rt; passes.len(), 3);
+    store.close(passes);
+    Ok(())
+}

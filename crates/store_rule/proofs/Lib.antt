@@ -9,3 +9,5 @@ pub mod Passing
 pub mod Alone
 pub mod NewPasses
 pub mod SideMoves
+pub mod Joining
+pub mod Gathering

@@ -18,9 +18,9 @@ nine_words words is = ap length is
 
 module _ {C O : Type 0} (tells : Bool) (state : C → CellState) (offers : O → Offers) (s : Store C O) where
   pub is_new : (p : Pass C) (seat : Seat (Option C) (List (View (List ℕ)))) (h : Hands) (n : ℕ) → p.seat ≡ seat → p.desks ≡ h.desks → p.hand ≡ 0
-      → seat.table_id ≡ s.table.shared.table_id → seat.me.0 ≡ new_view (basis tells state offers s).setting n ∷ [] → Stands (basis tells state offers s) (new_view (basis tells state offers s).setting n)
+      → seat.table_id ≡ s.table.shared.table_id → seat.me.0 ≡ new_view (basis tells state offers s).setting n ∷ [] → seat.me.1 ≡ [] → Stands (basis tells state offers s) (new_view (basis tells state offers s).setting n)
       → AreHands (basis tells state offers s).slot h → IsNewOf tells state offers s p
-  is_new p seat h n seat_is desks_are hand_is own row stands hands = let b = basis tells state offers s in
+  is_new p seat h n seat_is desks_are hand_is own row none stands hands = let b = basis tells state offers s in
       let fresh = new_row b p.seat.me.0 n (ap (λ (z : Seat (Option C) (List (View (List ℕ)))). z.me.0) seat_is ∙ row) stands in record {
         own = record {
           table = ap (λ (z : Seat (Option C) (List (View (List ℕ)))). z.table_id) seat_is ∙ own;
@@ -28,5 +28,6 @@ module _ {C O : Type 0} (tells : Bool) (state : C → CellState) (offers : O →
           buffers = subst (All (λ (d : Desk). length d.buffer.items ≡ b.slot)) (sym desks_are) hands.buffers;
         };
         fresh = fresh.1;
+        places = ap (λ (z : Seat (Option C) (List (View (List ℕ)))). z.me.1) seat_is ∙ none;
         hand = hand_is;
       }

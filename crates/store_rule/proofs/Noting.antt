@@ -251,7 +251,7 @@ module _ {C X : Type 0} (form : Form C X) (g : Ground X) where
   pass_parts id row v rest is = subst (λ (z : List (View X)). Splits (Ruled form g) id z (others z) (first_row z)) (sym is) (pass_splits id v rest)
 
 module _ {A : Type 0} where
-  set_same : (xs : List A) (i : ℕ) (x : A) → get_elem? xs i ≡ some x → set xs i x ≡ xs
+  pub set_same : (xs : List A) (i : ℕ) (x : A) → get_elem? xs i ≡ some x → set xs i x ≡ xs
   set_same [] i x e = refl
   set_same (y ∷ ys) zero x e = ap (λ (z : A). z ∷ ys) (sym (some-injective y x e))
   set_same (y ∷ ys) (suc i) x e = ap (λ (zs : List A). y ∷ zs) (set_same ys i x e)

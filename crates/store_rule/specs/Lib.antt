@@ -6,3 +6,4 @@ pub mod Machine
 pub mod Tabs
 pub mod Notes
 pub mod Passes
+pub mod Closing

@@ -1,7 +1,7 @@
 -- What a caller sees of a store and of its passes.
-use Rattle.std.specs.Prelude.{◌≡◌, ◌∷◌, All, Bool, List, None, Option, Some, length, replicate, slice_set, ℕ}
+use Rattle.std.specs.Prelude.{◌≡◌, ◌∷◌, All, Bool, List, None, Option, Some, length, replicate, slice_set, [], ℕ}
 use Rattle.atomic_table.specs.Table.{rest}
-use Rattle.core_model.specs.declared.moves.Move.TheVariants.{Leave, Raise}
+use Rattle.core_model.specs.declared.moves.Move.TheVariants.{EndTurn, Leave, Raise, TryTurn}
 use Rattle.rock_disk.specs.Cell.{CellState}
 use Rattle.core_model.specs.declared.moves.Move.{Move}
 use Rattle.core_model.specs.declared.view.View.{View}
@@ -46,6 +46,12 @@ pub record AreHands (slot : ℕ) (h : Hands) : Type 0 where
   pub desks : length h.desks ≡ 9
   pub buffers : All (λ (d : Desk). length d.buffer.items ≡ slot) h.desks
 
+-- a step that moves no cell leaves the places that the pass has out
+abbrev pub PlacesStay : {C : Type 0} → Move → List (ℕ × Option C) → List (ℕ × Option C) → Type 0
+PlacesStay (TryTurn t slot) had has = Unit {0}
+PlacesStay (EndTurn t slot goes_on) had has = Unit {0}
+PlacesStay m had has = has ≡ had
+
 -- the words that tabs left, after a step that left this one
 abbrev pub left_after : List ℕ → Move → ℕ → List ℕ
 left_after words (Leave t) told = slice_set words t told
@@ -74,6 +80,7 @@ module _ {C O : Type 0} (tells : Bool) (state : C → CellState) (offers : O →
     pub step : Steps (basis s) (view p) m found (view q)
     pub answers : told ≡ answer (view p) m found
     pub left : q.left ≡ left_after p.left m told
+    pub places : PlacesStay m (hand p) (hand q)
     pub desks : q.desks ≡ p.desks
     pub hand : q.hand ≡ p.hand
     pub cells : q.cells ≡ p.cells
@@ -82,6 +89,7 @@ module _ {C O : Type 0} (tells : Bool) (state : C → CellState) (offers : O →
   pub record Keeps (s : Store C O) (p q : Pass C) : Type 0 where
     pub own : IsOf s q
     pub left : q.left ≡ p.left
+    pub places : hand q ≡ hand p
     pub desks : q.desks ≡ p.desks
     pub hand : q.hand ≡ p.hand
     pub cells : q.cells ≡ p.cells
@@ -90,4 +98,5 @@ module _ {C O : Type 0} (tells : Bool) (state : C → CellState) (offers : O →
   pub record IsNewOf (s : Store C O) (p : Pass C) : Type 0 where
     pub own : IsOf s p
     pub fresh : view p ≡ new_view (basis s).setting (view p).pass
+    pub places : hand p ≡ []
     pub hand : p.hand ≡ 0

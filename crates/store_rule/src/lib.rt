@@ -3,6 +3,7 @@
 #![tactic(auto)]
 
 mod cells;
+mod closing;
 mod layout;
 mod machine;
 mod notes;

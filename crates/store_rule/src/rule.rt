@@ -123,3 +123,26 @@ impl<C: Cell, D: Deed> Play<Option<C>, Row<View<Octets>>> for Rests<D> {
 
     ghost then = { rests D.basis };
 }
+
+/// A pass is joined again, in front of those that come behind it.
+pub struct Joined;
+
+impl Join<Row<View<Octets>>> for Joined {
+    ghost use Rattle.std.specs.Prelude.{[]};
+    ghost use Rattle.store_rule.specs.Closing.{in_front};
+
+    ghost both = { in_front };
+
+    ghost spent = { [] };
+}
+
+/// A load that is no step of the core. It tells that the views of the seat stand in one state.
+pub struct Gathers<D> {
+    marker: PhantomData<D>,
+}
+
+impl<C: Cell, D: Deed> Play<Option<C>, Row<View<Octets>>> for Gathers<D> {
+    ghost use Rattle.store_rule.specs.Closing.{gathers};
+
+    ghost then = { gathers D.basis };
+}

@@ -9,4 +9,4 @@ give_up-requires-2-clause-last g c κs within = may_give_up g.C.Cell.tells g.C.C
 
 pub returns-clause-others : goal.returns-clause-others
 returns-clause-others g c = follows_on g.C.Cell.tells g.C.Cell.state g.O.Origin.offers c.args.store.now c.args.tab c.args.pass.now c.exit-word.new.pass c.give_up-2.new.pass
-    (made_follows g.C.Cell.tells g.C.Cell.state g.O.Origin.offers c.args.store.now c.args.tab _ _ _ _ c.exit-word.ensures.made (λ u e. ap (λ (o : Option ℕ). unwrap_or o c.args.tab) (sym e))) c.give_up-2.ensures.others
+    (made_follows g.C.Cell.tells g.C.Cell.state g.O.Origin.offers c.args.store.now c.args.tab _ _ _ _ c.exit-word.ensures.made (λ u e. ap (λ (o : Option ℕ). unwrap_or o c.args.tab) (sym e)) (λ h. h)) c.give_up-2.ensures.others

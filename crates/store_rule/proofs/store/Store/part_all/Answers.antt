@@ -22,7 +22,7 @@ loop-number-preserved g c = let l = c.loop-number in let i = l.invariant in let 
       count = let q = p.len in omega arith;
       room = let r = i.room in let q = p.capacity in omega arith;
       fresh = all_end (IsNewOf g.C.Cell.tells g.C.Cell.state g.O.Origin.offers c.args.self.now) _ _ _ p.items i.fresh
-          (is_new g.C.Cell.tells g.C.Cell.state g.O.Origin.offers c.args.self.now _ _ c.in-Some.hand (l.number - 1) made.0 made.3 made.4 (e.part.0 ∙ i.own) (λ j. (e.part.1 j).0)
+          (is_new g.C.Cell.tells g.C.Cell.state g.O.Origin.offers c.args.self.now _ _ c.in-Some.hand (l.number - 1) made.0 made.3 made.4 (e.part.0 ∙ i.own) (λ j. (e.part.1 j).0) (λ j. (e.part.1 j).1)
           (c.requires.stands (l.number - 1) (omega (arith, c.loop-number-test.true))) hand);
     }
 
@@ -39,5 +39,5 @@ returns g c = let l = c.loop-number in let i = l.invariant in let from = i.from 
       omega arith,
       all_end (IsNewOf g.C.Cell.tells g.C.Cell.state g.O.Origin.offers c.args.self.now) _ _ _ p.items i.fresh
           (is_new g.C.Cell.tells g.C.Cell.state g.O.Origin.offers c.args.self.now _ _ c.in-Some-pop.hand (l.number - 1) made.0 made.3 made.4 i.own
-          (λ j. ((i.left ∙ (λ r. (new_views b.setting (l.number - 1) (one r), []))) j).0) (c.requires.stands (l.number - 1) (omega arith)) hand),
+          (λ j. ((i.left ∙ (λ r. (new_views b.setting (l.number - 1) (one r), []))) j).0) (λ j. (i.left j).1) (c.requires.stands (l.number - 1) (omega arith)) hand),
     )

@@ -36,6 +36,7 @@ returns-clause-made g c = let met = c.add_as-found.ensures in record {
   step = met.told.step;
   answers = c.word_of-word.ensures.number ∙ (raised_word _ _ _ _ _ _ _ (λ i. 65536 * (c.number.ensures i - c.stage.ensures i)) met.told.step).2;
   left = c.set-2.ensures ∙ ap (λ (z : ℕ). set c.args.pass.now.left c.args.tab z) (sym c.word_of-word.ensures.number);
+  places = met.told.out;
   desks = refl;
   hand = refl;
   cells = refl;
