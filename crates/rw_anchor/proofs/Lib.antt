@@ -3,3 +3,4 @@ pub mod Taking
 pub mod Drawing
 pub mod TwoPasses
 pub mod Popped
+pub mod GivingUp

@@ -1,7 +1,8 @@
-ghost use Rattle.std.specs.Prelude.{All, None, ◌≡◌, ℕ};
-ghost use Rattle.store_rule.specs.Passes.{IsNewOf, basis};
+ghost use Rattle.std.specs.Prelude.{All, None, ◌++◌, ◌≡◌, ℕ};
+ghost use Rattle.store_rule.specs.Passes.{IsNewOf, IsOf, basis, view};
 
 use super::*;
+use core_model::Side;
 use lock_word::is_vacant;
 use std::process::Abort;
 use std::test::Fail;
@@ -59,6 +60,15 @@ const TAKEN: Word = Word {
     readers: 0,
 };
 
+const HALTED: Word = Word {
+    epoch: Epoch {
+        version: 1,
+        doom: false,
+        stage: Stage::Halted,
+    },
+    readers: 0,
+};
+
 /// One pass looks, draws and takes; another comes and leaves; the first tries again with its first look.
 fn meet<R: Abort, C: Cell, O: Origin>(
     rt: &R,
@@ -93,6 +103,70 @@ fn meet<R: Abort, C: Cell, O: Origin>(
     };
     assert_eq!(rt; next, 2);
     assert_eq!(rt; take(store, first, 1, 0, &looked, next), Err(TAKEN));
+}
+
+/// A pass takes an anchor, gives up before it published anything, and has the entry freed.
+fn give_up_at_once<R: Abort, C: Cell, O: Origin>(rt: &R, store: &Store<C, O>, pass: &mut Pass<C>)
+    requires anchors { (basis C.tells C.state O.offers store.now).setting.anchors ≡ 1 }
+    requires alone { (a : ℕ) → (basis C.tells C.state O.offers store.now).offers.alone a ≡ None }
+    requires pass { IsNewOf C.tells C.state O.offers store.now pass.old }
+{
+    let looked = look(store, pass, 0);
+    if !is_vacant(&looked) {
+        panic!(rt; "a new anchor is vacant")
+    }
+    let Ok(version) = draw(store, pass) else {
+        panic!(rt; "a version is left")
+    };
+    let Ok(()) = take(store, pass, 0, 0, &looked, version) else {
+        panic!(rt; "nobody came in between")
+    };
+    store.store_side(pass, 0, Side::Start, 0);
+    assert_eq!(rt; store.load_side(pass, 0, Side::Start), 0);
+    let word = advance(store, pass, 0, Stage::Halted);
+    assert_eq!(rt; word, HALTED);
+    if !pass.is_last(0) {
+        panic!(rt; "nobody else is there")
+    }
+    assert_eq!(rt; leave(store, pass, 0), Left::MustFree);
+    assert!(rt; pass.is_free(0) && !pass.is_free(8));
+}
+
+/// What one pass has seen, another learns.
+fn tell<C: Cell, O: Origin>(store: &Store<C, O>, teller: &mut Pass<C>, listener: &mut Pass<C>)
+    requires teller { IsOf C.tells C.state O.offers store.now teller.old }
+    requires listener { IsOf C.tells C.state O.offers store.now listener.old }
+    ensures { (view listener.new).seen ≡ (view teller.old).seen ++ (view listener.old).seen }
+{
+    let note = store.note(teller);
+    store.learn(listener, note);
+}
+
+#[test]
+fn a_pass_learns_what_another_has_seen(rt: HostRuntime) -> Result<(), Fail> {
+    let alloc = rt.alloc();
+    let mut cells = Vec::new(alloc);
+    cells.push(Blank { number: 0 })?;
+    let Ok((store, mut passes)) = Store::fresh(alloc, cells, 512, 1, 2, Nothing) else {
+        panic!(rt; "there is memory for one slot")
+    };
+    let mut second = passes.pop().expect(&rt, "a second pass");
+    let mut first = passes.pop().expect(&rt, "a first pass");
+    tell(&store, &mut first, &mut second);
+    Ok(())
+}
+
+#[test]
+fn an_entry_that_is_given_up_is_freed_by_its_last_user(rt: HostRuntime) -> Result<(), Fail> {
+    let alloc = rt.alloc();
+    let mut cells = Vec::new(alloc);
+    cells.push(Blank { number: 0 })?;
+    let Ok((store, mut passes)) = Store::fresh(alloc, cells, 512, 1, 1, Nothing) else {
+        panic!(rt; "there is memory for one slot")
+    };
+    let mut pass = passes.pop().expect(&rt, "a pass");
+    give_up_at_once(&rt, &store, &mut pass);
+    Ok(())
 }
 
 #[test]

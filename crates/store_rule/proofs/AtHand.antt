@@ -18,7 +18,7 @@ use Rattle.core_model.specs.declared.moves.Side.{Side}
 use Rattle.core_model.specs.SlotMoves.{loaded, stores}
 use Rattle.core_model.specs.CellMoves.{tries, ends}
 use Rattle.core_model.specs.AnchorMoves.{entered, left_tab, raised_tab, writer_of, freer_of, taken_tabs, evicted_tabs}
-use Rattle.store_rule.specs.Tabs.{at_of, tabs_at, anchor_here, stage_here, entered_here, left_here, raised_here, taken_here, evicted_here}
+use Rattle.store_rule.specs.Tabs.{at_of, tabs_at, anchor_here, stage_here, entered_here, left_here, raised_here, taken_here, whole_here, evicted_here}
 use Rattle.store_rule.specs.Told.{Steps, found_as}
 use Rattle.store_rule.specs.declared.tabs.At.{At}
 
@@ -91,7 +91,7 @@ module _ {X : Type 0} where
         let h = eq-eqb n (last_find a v.trail) same in
         let c = chain_of st.state a in
         let tabs : w.tabs ≡ taken_tabs v t a u (found_as g.setting st.state v (Take t a u) n) = ap View.tabs st.leaves ∙ rw h refl in
-        made ∙ (λ i. set (cond (idle_is i) (set (hand i) 8 (At.Freeing a)) (hand i)) t (At.Writing a false))
+        made ∙ (λ i. set (cond (idle_is i) (set (hand i) 8 (whole_here a false)) (hand i)) t (At.Writing a false))
         ∙ sym (both (is_idle n) v.tabs (Freeing (freer_of a false c)))
         ∙ ap (map at_of) (sym tabs)
       where
@@ -107,8 +107,8 @@ module _ {X : Type 0} where
     evicted_hand st same made =
         let h = eq-eqb n (last_find a v.trail) same in
         let tabs : w.tabs ≡ evicted_tabs v t a (found_as g.setting st.state v (Evict t a) n) = ap View.tabs st.leaves ∙ rw h refl in
-        made ∙ ap (λ (z : List At). set (set z t At.Free) 8 (At.Freeing a)) hand
-        ∙ ap (λ (z : List At). set z 8 (At.Freeing a)) (sym (map-set at_of v.tabs t Free))
+        made ∙ ap (λ (z : List At). set (set z t At.Free) 8 (whole_here a true)) hand
+        ∙ ap (λ (z : List At). set z 8 (whole_here a true)) (sym (map-set at_of v.tabs t Free))
         ∙ sym (map-set at_of (set v.tabs t Free) 8 (Freeing (freer_of a true (chain_of st.state a)))) ∙ ap (map at_of) (sym tabs)
 
     pub spared_hand : (st : Steps g v (Evict t a) n w) → n ≢ last_find a v.trail → new ≡ set old t At.Free → new ≡ tabs_at w
@@ -116,7 +116,7 @@ module _ {X : Type 0} where
         tab_set v w t Free At.Free old new (ap View.tabs st.leaves ∙ rw h refl) hand refl made
 
 module _ {X : Type 0} where
-  own_set : (tabs : List (Tab X)) (t : ℕ) → set (map at_of tabs) t (at_of (get_or tabs t Free)) ≡ map at_of tabs
+  pub own_set : (tabs : List (Tab X)) (t : ℕ) → set (map at_of tabs) t (at_of (get_or tabs t Free)) ≡ map at_of tabs
   own_set [] t = refl
   own_set (x ∷ xs) zero = refl
   own_set (x ∷ xs) (suc t) = ap (λ (z : List At). at_of x ∷ z) (own_set xs t)

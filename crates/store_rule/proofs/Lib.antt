@@ -11,3 +11,4 @@ pub mod NewPasses
 pub mod SideMoves
 pub mod Joining
 pub mod Gathering
+pub mod SlotHands

@@ -8,7 +8,7 @@ use Rattle.store_rule.specs.declared.store.Pass.{Pass}
 use Rattle.store_rule.specs.declared.tabs.At.{At}
 use Rattle.core_model.specs.AllowedByView.{AllowedByView, MayMake}
 use Rattle.store_rule.specs.Passes.{view}
-use Rattle.store_rule.specs.Tabs.{at_of, taken_here, evicted_here}
+use Rattle.store_rule.specs.Tabs.{at_of, taken_here, whole_here, evicted_here}
 
 as_many : {X : Type 0} → (xs : List (Tab X)) → length (map at_of xs) ≡ length xs
 as_many [] = refl
@@ -25,14 +25,14 @@ pub kept_nine : (old new : List At) (t : ℕ) (y : At) → length old ≡ 9 → 
 kept_nine old new t y nine is = ap length is ∙ length-set old t y ∙ nine
 
 pub taken_nine : (old new : List At) (t a : ℕ) (idle : Bool) → length old ≡ 9 → new ≡ taken_here old t a idle → length new ≡ 9
-taken_nine old new t a idle nine is = ap length is ∙ length-set (cond idle (set old 8 (At.Freeing a)) old) t (At.Writing a false) ∙ both idle
+taken_nine old new t a idle nine is = ap length is ∙ length-set (cond idle (set old 8 (whole_here a false)) old) t (At.Writing a false) ∙ both idle
   where
-    both : (b : Bool) → length (cond b (set old 8 (At.Freeing a)) old) ≡ 9
-    both true = length-set old 8 (At.Freeing a) ∙ nine
+    both : (b : Bool) → length (cond b (set old 8 (whole_here a false)) old) ≡ 9
+    both true = length-set old 8 (whole_here a false) ∙ nine
     both false = nine
 
 pub evicted_nine : (old new : List At) (t a : ℕ) → length old ≡ 9 → new ≡ evicted_here old t a → length new ≡ 9
-evicted_nine old new t a nine is = ap length is ∙ length-set (set old t At.Free) 8 (At.Freeing a) ∙ length-set old t At.Free ∙ nine
+evicted_nine old new t a nine is = ap length is ∙ length-set (set old t At.Free) 8 (whole_here a true) ∙ length-set old t At.Free ∙ nine
 
 pub kept_left : (old new : List ℕ) (t n : ℕ) → length old ≡ 9 → new ≡ set old t n → length new ≡ 9
 kept_left old new t n nine is = ap length is ∙ length-set old t n ∙ nine

@@ -29,3 +29,9 @@ pub(crate) fn counter_word(anchors: u32, slots: u32) -> usize
 {
     5 * anchors as usize + 3 * slots as usize
 }
+
+pub(crate) fn owner_word(anchors: u32, slots: u32, slot: u32) -> usize
+    ensures { result ≡ 5 * anchors + 2 * slots + slot }
+{
+    5 * anchors as usize + 2 * slots as usize + slot as usize
+}

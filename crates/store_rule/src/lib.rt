@@ -8,6 +8,7 @@ mod layout;
 mod machine;
 mod notes;
 mod opening;
+mod owners;
 mod rule;
 mod sides;
 mod steps;
