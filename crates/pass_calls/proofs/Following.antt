@@ -12,7 +12,7 @@ use Rattle.core_model.specs.Table.{place}
 use Rattle.store_rule.specs.declared.store.Pass.{Pass}
 use Rattle.store_rule.specs.declared.store.Store.{Store}
 use Rattle.store_rule.specs.Ground.{Offers}
-use Rattle.store_rule.specs.Passes.{Made, PlacesStay, basis, hand, left_after, view}
+use Rattle.store_rule.specs.Passes.{IsOf, Made, PlacesStay, basis, hand, left_after, view}
 use Rattle.pass_calls.specs.Calls.{Follows, IsFresh}
 use Rattle.pass_calls.specs.Steps.{ActsFor, Misses}
 use Rattle.pass_calls.proofs.FreshEpochs.{fresh_epochs}
@@ -55,6 +55,9 @@ module _ {C O : Type 0} (tells : Bool) (state : C → CellState) (offers : O →
     hand = made.hand;
     cells = made.cells;
   }
+
+  pub follows_none : (t : ℕ) (p : Pass C) → IsOf tells state offers s p → Follows tells state offers s t p p
+  follows_none t p own = record { own = own; others = λ j ne far. refl; left = λ j ne. refl; places = refl; desks = refl; hand = refl; cells = refl }
 
   pub follows_on : (t : ℕ) (p u q : Pass C) → Follows tells state offers s t p u → Follows tells state offers s t u q → Follows tells state offers s t p q
   follows_on t p u q first second = record {

@@ -1,3 +1,4 @@
 pub mod OtherTabs
 pub mod FreshEpochs
 pub mod Following
+pub mod AddingUp

@@ -1,5 +1,5 @@
 //! What every call on a pass of the shared store says beside what it does: which tabs it leaves alone,
-//! and that the epochs that it answers are not older than what the pass has seen.
+//! that the epochs that it answers are not older than what the pass has seen, and what its steps add up to.
 //!
 //! The functions here do nothing. What they ensure are laws on the steps of a pass.
 #![tactic(auto)]
@@ -9,9 +9,12 @@ ghost use Rattle.lock_word.specs.Words.{epoch_of};
 ghost use Rattle.core_model.specs.declared.moves.Move.{Move};
 ghost use Rattle.core_model.specs.declared.view.Place.TheVariants.{Anchor};
 ghost use Rattle.core_model.specs.declared.view.View.{View};
-ghost use Rattle.core_model.specs.Table.{answer, place};
+ghost use Rattle.core_model.specs.Table.{answer, left_by, place};
+ghost use Rattle.core_model.specs.declared.view.Place.{Place};
 ghost use Rattle.store_rule.specs.Ground.{Ground};
-ghost use Rattle.store_rule.specs.Told.{Steps};
+ghost use Rattle.store_rule.specs.Told.{Stands, Steps, found_as};
+ghost use Rattle.pass_calls.specs.Runs.{Added, Went, added_by, nothing_added, together};
+ghost use Rattle.pass_calls.specs.Words.{Mine, has};
 ghost use Rattle.pass_calls.specs.Calls.{IsFresh, Others};
 ghost use Rattle.pass_calls.specs.Steps.{ActsFor, Misses};
 
@@ -25,4 +28,23 @@ pub fn steps_leave_other_tabs<X>()
 pub fn epochs_are_fresh<X>()
     ensures { (g : Ground X) (v w : View X) (m : Move) (n a : ℕ) → Steps g v m n w → place v m ≡ Some (Anchor a) → Misses v m n
         → IsFresh a (epoch_of (answer v m n)) v w }
+{}
+
+/// What steps add to what a pass knows and to its records adds up: of no step, of one, and of some behind
+/// others.
+pub fn runs_add_up<X>()
+    ensures none { (g : Ground X) (v : View X) → Went g v nothing_added v }
+    ensures one { (g : Ground X) (v w : View X) (m : Move) (n : ℕ) → (step : Steps g v m n w) → Stands g w
+        → Went g v (added_by v m (found_as g.setting step.state v m n)) w }
+    ensures behind { (g : Ground X) (v u w : View X) (earlier later : Added) → Went g v earlier u → Went g u later w
+        → Went g v (together later earlier) w }
+{}
+
+/// Where nobody else changes a word, a step on it finds what the pass knows of it, and what the step leaves
+/// is known afterwards.
+pub fn words_are_known<X>()
+    ensures found { (g : Ground X) (v w : View X) (m : Move) (n : ℕ) (p : Place) → Steps g v m n w → Mine g v p
+        → place v m ≡ Some p → n ≡ has g v p }
+    ensures left { (g : Ground X) (v w : View X) (m : Move) (n : ℕ) (p : Place) → Steps g v m n w
+        → place v m ≡ Some p → has g w p ≡ left_by v m n }
 {}
