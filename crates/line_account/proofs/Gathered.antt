@@ -1,0 +1,221 @@
+-- The views of the workers are those of all passes, and each deed is that of a worker.
+use Rattle.std.proofs.Common.{◌≡◌, ◌≢◌, ◌⊎◌, inl, inr, ⊎_elim, ℕ, ◌+◌, ◌<◌, ◌≤◌, suc, List, [], ◌∷◌, ◌++◌, length, sym, refl, ap, ◌∙◌, subst, arith, sum_by, true, cond, Contains, eq-eqb, length-append}
+use Rattle.std.specs.Prelude.{Bool, None, Option, Some}
+use mathlib.Core.Option.{some, some-injective}
+use mathlib.Core.Logic.{dite}
+use native.Mathlib.Decide.{ℕ_discrete}
+use lib.ListN.{get_elem?}
+use Rattle.core_model.specs.declared.view.Deed.{Deed}
+use Rattle.core_model.specs.declared.view.Sight.TheVariants.{Stood}
+use Rattle.core_model.specs.declared.view.View.{View}
+use Rattle.core_model.specs.Anchors.{opening_counter, tabs_in}
+use Rattle.core_model.specs.CellMoves.{note_of, spent}
+use Rattle.core_model.specs.Deeds.{IsDone, IsEpochAt}
+use Rattle.core_model.specs.State.{counter}
+use Rattle.core_model.specs.Versions.{drawn_by, draws_by}
+use Rattle.core_model.proofs.Lists.{le_sum_at, two_le_sum}
+use Rattle.core_model.proofs.StepsKeepTabs.{deeds_have_tabs}
+use Rattle.line_account.specs.Lines.{LineOf, Served, offers}
+use Rattle.line_account.specs.Deeds.{IsDeedOf, IsDeedOfEnd}
+use Rattle.line_account.specs.Accounts.{Run, Shows, Tells, drew_some, drew_version, has_drawn, is_drawn}
+use Rattle.line_account.specs.Closing.{Closed, IsSameLine, LineIn, ShownIn, Worker, offered, offered_by}
+use Rattle.line_account.proofs.Rows.{left_was, rest, seam_at, split_at, sum_none, sum_same, sum_within, sums, taken_or_left}
+
+abbrev one_if : Bool → ℕ
+one_if b = cond b 1 0
+
+empty : {A : Type 0} → (xs : List A) → length xs ≡ 0 → xs ≡ []
+empty [] h = refl
+empty (x ∷ xs) h = absurd (omega arith)
+
+module _ {X : Type 0} (r : Run X) (crew : List (Worker X)) (c : Closed r crew) where
+  abbrev views : List (View X)
+  views = c.state.views
+
+  abbrev left : List (View X)
+  left = rest Worker.view spent views crew c.index
+
+  no_tabs_left : sum_by tabs_in left ≡ 0
+  no_tabs_left =
+      let all = sums Worker.view spent tabs_in refl views crew c.index c.at c.apart in
+      let nine = sum_same (λ (w : Worker X). tabs_in w.view) 9 crew c.passes in
+      let shaped = c.sound.anchors.shaped.tabs in
+      let count = c.count in
+      omega arith
+
+  left_has_none : (i : ℕ) (u : View X) → get_elem? left i ≡ some u → u.tabs ≡ []
+  left_has_none i u h = empty u.tabs (let l = le_sum_at tabs_in left i u h in let z = no_tabs_left in omega arith)
+
+  -- a view that has tabs is that of a worker
+  pub has_worker : (i : ℕ) (u : View X) → get_elem? views i ≡ some u → u.tabs ≢ [] → (j : ℕ) × (w : Worker X) × (get_elem? crew j ≡ some w) × (w.view ≡ u)
+  has_worker i u h some_tabs = ⊎_elim
+      (λ (t : (j : ℕ) × (w : Worker X) × (get_elem? crew j ≡ some w) × (w.view ≡ u)). t)
+      (λ (t : get_elem? left i ≡ some u). absurd (some_tabs (left_has_none i u t)))
+      (taken_or_left Worker.view spent views crew c.index c.at c.apart i u h)
+
+  -- what counts in passes alone is counted over the workers
+  pub counted_by_workers : (g : View X → ℕ) → g spent ≡ 0 → ((u : View X) → g (note_of u) ≡ 0) → sum_by g views ≡ sum_by (λ (w : Worker X). g w.view) crew
+  counted_by_workers g none notes =
+      let all = sums Worker.view spent g none views crew c.index c.at c.apart in
+      let z : sum_by g left ≡ 0 = sum_none g left (λ i u h. ⊎_elim
+      (λ (q : spent ≡ u). ap g (sym q) ∙ none)
+      (λ (q : get_elem? views i ≡ some u). ap g (c.sound.anchors.shaped.notes i u q (left_has_none i u h)) ∙ notes u)
+      (left_was Worker.view spent views crew c.index i u h)) in
+      omega arith
+
+  -- what the account of the worker says of a line
+  pub tells_at : (P : List Served → Served → Type 0) (p : LineIn crew P) → Tells r p.worker.view p.line_of.earlier p.line_of.line
+  tells_at P p = (c.accounts p.j p.worker p.at).lines p.line_of.later p.line_of.earlier p.line_of.line p.line_of.split
+
+  -- what a line shows was seen
+  pub shown_known : (a e : ℕ) → ShownIn r crew a e → IsEpochAt r.setting c.state a e
+  shown_known a e p = inr (c.index p.j, p.worker.view, c.at p.j p.worker p.at, (tells_at (λ earlier s. Shows r.setting.anchors earlier s a e) p).shown a e p.line_of.so)
+
+  pub inside : (a e : ℕ) → IsEpochAt r.setting c.state a e → a < r.setting.anchors
+  inside a e (inl h) = h.0
+  inside a e (inr h) = c.sound.anchors.seen.inside h.0 h.1 h.2 (Stood a e) h.3
+
+  -- a deed has its line, or belongs to the end of its worker
+  abbrev pub AtEnd : (List Served → Type 0) → Type 0
+  AtEnd R = (j : ℕ) × (w : Worker X) × (get_elem? crew j ≡ some w) × R w.served
+
+  pub by_cause : (P : Deed → Type 0) (Q : List Served → Served → Type 0) (R : List Served → Type 0)
+      → ((v : View X) (d : Deed) (earlier : List Served) (s : Served) → P d → IsDeedOf r.setting v d earlier s → Q earlier s)
+      → ((d : Deed) (served : List Served) → P d → IsDeedOfEnd r.setting d served → R served)
+      → IsDone c.state P → LineIn crew Q ⊎ AtEnd R
+  by_cause P Q R of_line of_end done =
+      let w = has_worker done.i done.view done.at (deeds_have_tabs r.setting c.state done.i done.view done.deed c.sound.anchors.shaped done.at done.done) in
+      let own : Contains w.1.view.deeds done.deed = subst (λ (v : View X). Contains v.deeds done.deed) (sym w.3) done.done in
+      ⊎_elim
+      (λ (l : LineOf w.1.served (IsDeedOf r.setting w.1.view done.deed)). inl (record {
+        j = w.0;
+        worker = w.1;
+        at = w.2;
+        line_of = record {
+          later = l.later;
+          line = l.line;
+          earlier = l.earlier;
+          split = l.split;
+          so = of_line w.1.view done.deed l.earlier l.line done.so l.so;
+        };
+      }))
+      (λ (l : (true ≡ true) × IsDeedOfEnd r.setting done.deed w.1.served). inr (w.0, w.1, w.2, of_end done.deed w.1.served done.so l.1))
+      ((c.accounts w.0 w.1 w.2).deeds done.deed own).1
+
+  pub by_line : (P : Deed → Type 0) (Q : List Served → Served → Type 0)
+      → ((v : View X) (d : Deed) (earlier : List Served) (s : Served) → P d → IsDeedOf r.setting v d earlier s → Q earlier s)
+      → ((d : Deed) (served : List Served) → P d → IsDeedOfEnd r.setting d served → ⊥)
+      → IsDone c.state P → LineIn crew Q
+  by_line P Q of_line of_end done = ⊎_elim
+      (λ (l : LineIn crew Q). l)
+      (λ (l : AtEnd (λ served. ⊥)). absurd l.3)
+      (by_cause P Q (λ served. ⊥) of_line of_end done)
+
+  -- Draws.
+
+  drew_one : (x : ℕ) (s : Served) → s.drew ≡ Some x → one_if (drew_version x s) ≡ 1
+  drew_one x s e = ap one_if (ap (is_drawn x) e ∙ eq-eqb x x refl)
+
+  -- a worker that served a line which drew the version drew it
+  pub drawn_by_worker : (P : List Served → Served → Type 0) (p : LineIn crew P) (x : ℕ) → p.line_of.line.drew ≡ Some x → 1 ≤ drawn_by x p.worker.view
+  drawn_by_worker P p x e =
+      let l = p.line_of in
+      let one = drew_one x l.line e in
+      let k = le_sum_at (λ (s : Served). one_if (drew_version x s)) p.worker.served (length l.later) l.line (seam_at p.worker.served l.later l.line l.earlier l.split) in
+      let a = (c.accounts p.j p.worker p.at).drawn x in
+      omega arith
+
+  drawn_sum : (x : ℕ) → sum_by (λ (w : Worker X). drawn_by x w.view) crew ≤ 1
+  drawn_sum x = let h = counted_by_workers (drawn_by x) refl (λ u. refl) in let o = c.sound.anchors.drawn.once x in omega arith
+
+  pub drawn_some : (P : List Served → Served → Type 0) (p : LineIn crew P) (x : ℕ) → p.line_of.line.drew ≡ Some x → 0 < sum_by (drawn_by x) views
+  drawn_some P p x e = let d = drawn_by_worker P p x e in let l = le_sum_at (drawn_by x) views (c.index p.j) p.worker.view (c.at p.j p.worker p.at) in omega arith
+
+  same_worker : (P Q : List Served → Served → Type 0) (p : LineIn crew P) (q : LineIn crew Q) (x : ℕ) → p.line_of.line.drew ≡ Some x → q.line_of.line.drew ≡ Some x → p.j ≡ q.j
+  same_worker P Q p q x d e = dite (ℕ_discrete p.j q.j) (λ h. h) (λ ne. absurd
+      (let f = drawn_by_worker P p x d in
+      let g = drawn_by_worker Q q x e in
+      let two = two_le_sum (λ (w : Worker X). drawn_by x w.view) crew q.j p.j q.worker p.worker q.at p.at ne in
+      let most = drawn_sum x in
+      omega arith))
+
+  back_length : (zs xs : List Served) (x : Served) (ys : List Served) → zs ≡ xs ++ x ∷ ys → length zs ≡ length xs + suc (length ys)
+  back_length zs xs x ys e = ap length e ∙ length-append xs (x ∷ ys)
+
+  -- two lines that drew one version are the same
+  pub one_line : (P Q : List Served → Served → Type 0) (p : LineIn crew P) (q : LineIn crew Q) (x : ℕ) → p.line_of.line.drew ≡ Some x → q.line_of.line.drew ≡ Some x → IsSameLine crew P Q p q
+  one_line P Q p q x d e = record { worker = same_j; place = place }
+    where
+      same_j : p.j ≡ q.j
+      same_j = same_worker P Q p q x d e
+
+      same : p.worker ≡ q.worker
+      same = some-injective p.worker q.worker (sym p.at ∙ ap (get_elem? crew) same_j ∙ q.at)
+
+      same_lines : p.worker.served ≡ q.worker.served
+      same_lines = ap Worker.served same
+
+      there : get_elem? p.worker.served (length q.line_of.later) ≡ some q.line_of.line
+      there = ap (λ l. get_elem? l (length q.line_of.later)) same_lines ∙ seam_at q.worker.served q.line_of.later q.line_of.line q.line_of.earlier q.line_of.split
+
+      later : length p.line_of.later ≡ length q.line_of.later
+      later = dite (ℕ_discrete (length p.line_of.later) (length q.line_of.later)) (λ h. h) (λ ne. absurd
+          (let f = drew_one x p.line_of.line d in
+          let g = drew_one x q.line_of.line e in
+          let two = two_le_sum (λ (s : Served). one_if (drew_version x s)) p.worker.served (length q.line_of.later) (length p.line_of.later) q.line_of.line p.line_of.line
+          there (seam_at p.worker.served p.line_of.later p.line_of.line p.line_of.earlier p.line_of.split) ne in
+          let a = (c.accounts p.j p.worker p.at).drawn x in
+          let most = drawn_sum x in
+          let l = le_sum_at (λ (w : Worker X). drawn_by x w.view) crew p.j p.worker p.at in
+          omega arith))
+
+      place : length p.line_of.earlier ≡ length q.line_of.earlier
+      place =
+          let a = back_length p.worker.served p.line_of.later p.line_of.line p.line_of.earlier p.line_of.split in
+          let b = back_length q.worker.served q.line_of.later q.line_of.line q.line_of.earlier q.line_of.split in
+          let k = later in
+          let n = ap length same_lines in
+          omega arith
+
+  -- so they have one and the same line
+  pub same_line : (P Q : List Served → Served → Type 0) (p : LineIn crew P) (q : LineIn crew Q) → IsSameLine crew P Q p q → p.line_of.line ≡ q.line_of.line
+  same_line P Q p q is = some-injective p.line_of.line q.line_of.line (sym here ∙ ap (get_elem? p.worker.served) later ∙ there)
+    where
+      same_lines : p.worker.served ≡ q.worker.served
+      same_lines = ap Worker.served (some-injective p.worker q.worker (sym p.at ∙ ap (get_elem? crew) is.worker ∙ q.at))
+
+      here : get_elem? p.worker.served (length p.line_of.later) ≡ some p.line_of.line
+      here = seam_at p.worker.served p.line_of.later p.line_of.line p.line_of.earlier p.line_of.split
+
+      there : get_elem? p.worker.served (length q.line_of.later) ≡ some q.line_of.line
+      there = ap (λ l. get_elem? l (length q.line_of.later)) same_lines ∙ seam_at q.worker.served q.line_of.later q.line_of.line q.line_of.earlier q.line_of.split
+
+      later : length p.line_of.later ≡ length q.line_of.later
+      later =
+          let a = back_length p.worker.served p.line_of.later p.line_of.line p.line_of.earlier p.line_of.split in
+          let b = back_length q.worker.served q.line_of.later q.line_of.line q.line_of.earlier q.line_of.split in
+          let n = ap length same_lines in
+          let k = is.place in
+          omega arith
+
+  -- a line that drew a version offers a body
+  draws_offer : (v : View X) (earlier : List Served) (s : Served) → Tells r v earlier s → one_if (drew_some s) ≤ one_if (offers s.line.request)
+  draws_offer v earlier s t = by_drew s.drew refl
+    where
+      by_drew : (d : Option ℕ) → d ≡ s.drew → one_if (has_drawn d) ≤ one_if (offers s.line.request)
+      by_drew None e = omega arith
+      by_drew (Some x) e = let o : one_if (offers s.line.request) ≡ 1 = ap one_if (t.drew (λ n. let z : Some x ≡ None = e ∙ n in cc)) in omega arith
+
+  pub offers_suffice : sum_by (λ (w : Worker X). draws_by w.view) crew ≤ offered crew
+  offers_suffice = sum_within (λ (w : Worker X). draws_by w.view) offered_by crew (λ j w at.
+      let a = (c.accounts j w at).draws in
+      let k = sum_within (λ (s : Served). one_if (drew_some s)) (λ (s : Served). one_if (offers s.line.request)) w.served
+      (λ i s h. let split = split_at w.served i s h in draws_offer w.view split.back s ((c.accounts j w at).lines split.front split.back s split.split)) in
+      omega arith)
+
+  pub counter_is : counter r.setting c.state ≤ opening_counter r.setting + offered crew
+  counter_is =
+      let n = c.sound.anchors.drawn.counted in
+      let s = counted_by_workers draws_by refl (λ u. refl) in
+      let o = offers_suffice in
+      omega arith

@@ -1,0 +1,8 @@
+use Rattle.line_account.proofs.Versions.{doomed_line, purged_by}
+use Rattle.line_account.proofs.laws.doomed_entries_were_purged.Goals as goal
+
+pub returns-clause-epoch : goal.returns-clause-epoch
+returns-clause-epoch c start r crew a e closed p doom = purged_by r crew closed a e p doom
+
+pub returns-clause-line : goal.returns-clause-line
+returns-clause-line c start r crew a x closed p = doomed_line r crew closed a x p

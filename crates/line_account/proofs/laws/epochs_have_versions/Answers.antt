@@ -1,0 +1,8 @@
+use Rattle.line_account.proofs.Versions.{version_of_new, version_of_old}
+use Rattle.line_account.proofs.laws.epochs_have_versions.Goals as goal
+
+pub returns-clause-old : goal.returns-clause-old
+returns-clause-old c start r crew a e closed p low = version_of_old r crew closed a e p low
+
+pub returns-clause-new : goal.returns-clause-new
+returns-clause-new c start r crew a e closed p high = version_of_new r crew closed a e p high

@@ -1,0 +1,100 @@
+-- All workers at the end, and what is said of their lines together.
+use Rattle.std.specs.Prelude.{List, count_by, length, sum_by, true, ◌≡◌, ◌⊎◌, ℕ}
+use mathlib.Core.Option.{some}
+use lib.ListN.{get_elem?}
+use Rattle.lock_word.specs.Words.{version_of}
+use Rattle.script_text.specs.declared.answer.Answer.TheVariants as answer
+use Rattle.core_model.specs.declared.view.View.{View}
+use Rattle.core_model.specs.Sound.{Sound}
+use Rattle.core_model.specs.State.{State}
+use Rattle.core_model.specs.Tabs.{IsPass}
+use Rattle.line_account.specs.Lines.{IsAt, LineOf, Served, Writes, offers}
+use Rattle.line_account.specs.Deeds.{Begins, Halts, IsWriting, Purges}
+use Rattle.line_account.specs.Accounts.{Account, Run, Shows}
+
+-- a worker at the end: what it holds and knows, and the lines that it served
+pub record Worker (X : Type 0) : Type 0 where
+  pub view : View X
+  pub served : List Served
+
+-- The workers ended. Their views stand in one sound state, no two at the same place, there are as many as passes, and each has its account.
+pub record Closed {X : Type 0} (r : Run X) (crew : List (Worker X)) : Type 0 where
+  pub state : State X
+  pub sound : Sound r.setting state
+  pub index : ℕ → ℕ
+  pub at : (j : ℕ) (w : Worker X) → get_elem? crew j ≡ some w → get_elem? state.views (index j) ≡ some w.view
+  pub apart : (j l : ℕ) (w x : Worker X) → get_elem? crew j ≡ some w → get_elem? crew l ≡ some x → index j ≡ index l → j ≡ l
+  pub count : length crew ≡ r.setting.passes
+  pub passes : (j : ℕ) (w : Worker X) → get_elem? crew j ≡ some w → IsPass w.view
+  pub accounts : (j : ℕ) (w : Worker X) → get_elem? crew j ≡ some w → Account r w.view w.served true
+
+-- a line of one of the workers, of which P holds, given the lines of the same worker before it
+pub record LineIn {X : Type 0} (crew : List (Worker X)) (P : List Served → Served → Type 0) : Type 0 where
+  pub j : ℕ
+  pub worker : Worker X
+  pub at : get_elem? crew j ≡ some worker
+  pub line_of : LineOf worker.served P
+
+-- they are lines of the same worker, with as many lines before them
+pub record IsSameLine {X : Type 0} (crew : List (Worker X)) (P Q : List Served → Served → Type 0) (p : LineIn crew P) (q : LineIn crew Q) : Type 0 where
+  pub worker : p.j ≡ q.j
+  pub place : length p.line_of.earlier ≡ length q.line_of.earlier
+
+-- how many of the lines offer a body
+abbrev pub offered_by : {X : Type 0} → Worker X → ℕ
+offered_by w = count_by (λ s. offers s.line.request) w.served
+
+abbrev pub offered : {X : Type 0} → List (Worker X) → ℕ
+offered crew = sum_by offered_by crew
+
+-- a line began the version x at the anchor a
+abbrev pub BegunIn : {X : Type 0} → Run X → List (Worker X) → (a x : ℕ) → Type 0
+BegunIn r crew a x = LineIn crew (λ earlier s. Begins r.setting.anchors s a x)
+
+-- a line shows the epoch e at the anchor a
+abbrev pub ShownIn : {X : Type 0} → Run X → List (Worker X) → (a e : ℕ) → Type 0
+ShownIn r crew a e = LineIn crew (λ earlier s. Shows r.setting.anchors earlier s a e)
+
+-- a line that writes the version x at the anchor a printed that it is stored
+pub record Stores (anchors : ℕ) (earlier : List Served) (s : Served) (a x : ℕ) : Type 0 where
+  pub writes : Writes anchors earlier s a x
+  pub printed : s.answer ≡ answer.Stored x
+
+abbrev pub StoredIn : {X : Type 0} → Run X → List (Worker X) → (a x : ℕ) → Type 0
+StoredIn r crew a x = LineIn crew (λ earlier s. Stores r.setting.anchors earlier s a x)
+
+-- a worker still wrote the version x at the anchor a when it came to its end
+pub record HaltedAtEnd {X : Type 0} (r : Run X) (crew : List (Worker X)) (a x : ℕ) : Type 0 where
+  pub j : ℕ
+  pub worker : Worker X
+  pub at : get_elem? crew j ≡ some worker
+  pub writing : IsWriting r.setting.anchors worker.served a x
+
+-- the writing of the version x at the anchor a was halted, by a line or by the end
+abbrev pub HaltedIn : {X : Type 0} → Run X → List (Worker X) → (a x : ℕ) → Type 0
+HaltedIn r crew a x = LineIn crew (λ earlier s. Halts r.setting.anchors earlier s a x) ⊎ HaltedAtEnd r crew a x
+
+-- a line purged the version x at the anchor a
+pub record PurgesVersion (anchors : ℕ) (s : Served) (a x : ℕ) : Type 0 where
+  pub epoch : ℕ
+  pub purges : Purges anchors s a epoch
+  pub version_is : version_of epoch ≡ x
+
+abbrev pub PurgedIn : {X : Type 0} → Run X → List (Worker X) → (a x : ℕ) → Type 0
+PurgedIn r crew a x = LineIn crew (λ earlier s. PurgesVersion r.setting.anchors s a x)
+
+-- a line at the anchor a printed HALTED
+pub record PrintsHalted (anchors : ℕ) (earlier : List Served) (s : Served) (a : ℕ) : Type 0 where
+  pub at : IsAt anchors earlier s a
+  pub bytes : List ℕ
+  pub printed : s.answer ≡ answer.Halted bytes
+
+-- a line at the anchor a printed DOOMED with the version x
+pub record PrintsDoomed (anchors : ℕ) (earlier : List Served) (s : Served) (a x : ℕ) : Type 0 where
+  pub at : IsAt anchors earlier s a
+  pub printed : s.answer ≡ answer.Doomed x
+
+-- some version at the anchor a was halted
+pub record SomeHalted {X : Type 0} (r : Run X) (crew : List (Worker X)) (a : ℕ) : Type 0 where
+  pub version : ℕ
+  pub halted : HaltedIn r crew a version

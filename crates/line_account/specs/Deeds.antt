@@ -1,0 +1,126 @@
+-- Which line a deed of a worker belongs to.
+use Rattle.std.specs.Prelude.{Bool, List, Some, ◌+◌, ◌≡◌, ◌⊎◌, Contains, false, true, ℕ}
+use Rattle.lock_word.specs.Words.{doom_of, epoch_number, stage_of, version_of}
+use Rattle.lock_word.specs.declared.epoch.Epoch.{Epoch}
+use Rattle.store_key.specs.Anchor.{anchor_of, back_half, front_half}
+use Rattle.store_key.specs.Key.{key_of}
+use Rattle.script_text.specs.declared.answer.Answer.{Answer}
+use Rattle.script_text.specs.declared.answer.Answer.TheVariants as answer
+use Rattle.script_text.specs.declared.request.Request.{Request}
+use Rattle.script_text.specs.declared.request.Request.TheVariants.{Add, Begin, End, Get, OpenTab, Purge, Put, Save}
+use Rattle.core_model.specs.declared.moves.Side.TheVariants.{Key0, Key1, Offer}
+use Rattle.core_model.specs.declared.view.Deed.{Deed}
+use Rattle.core_model.specs.declared.view.Kind.TheVariants.{Changed, Doomed, Entered, Raised}
+use Rattle.core_model.specs.declared.view.Sight.TheVariants.{Named}
+use Rattle.core_model.specs.declared.view.View.{View}
+use Rattle.core_model.specs.Layout.{Setting}
+use Rattle.line_account.specs.Lines.{IsAnchorOf, IsWritingOf, LineOf, Served, Writes, gives_up, url_in, writing}
+
+-- a request that comes to the entry of a URL to read or to purge it
+abbrev pub Comes : Request → List ℕ → Type 0
+Comes (Get u) url = u ≡ url
+Comes (Purge u) url = u ≡ url
+Comes (OpenTab tab u) url = u ≡ url
+Comes _ url = ⊥
+
+pub record ComesTo (anchors : ℕ) (request : Request) (a : ℕ) : Type 0 where
+  pub url : List ℕ
+  pub comes : Comes request url
+  pub anchor : a ≡ anchor_of (key_of url) anchors
+
+-- the answers to a line that began a writing on a tab, of the version x
+abbrev pub BeganOnTab : Answer → ℕ → Type 0
+BeganOnTab (answer.Begun version) x = version ≡ x
+BeganOnTab _ x = ⊥
+
+-- and to one that began and ended one
+abbrev pub BeganAndEnded : Answer → ℕ → Type 0
+BeganAndEnded (answer.Stored version) x = version ≡ x
+BeganAndEnded (answer.Doomed version) x = version ≡ x
+BeganAndEnded answer.Full x = Unit {0}
+BeganAndEnded answer.Large x = Unit {0}
+BeganAndEnded answer.Fault x = Unit {0}
+BeganAndEnded _ x = ⊥
+
+-- the line offers a body, and its answer is that of one that began the version x
+abbrev pub Began : Request → Answer → ℕ → Type 0
+Began (Put url body) a x = BeganAndEnded a x
+Began (Save url body) a x = BeganAndEnded a x
+Began (Begin tab url body) a x = BeganOnTab a x
+Began _ a x = ⊥
+
+-- a line that began the version x at the anchor a
+pub record Begins (anchors : ℕ) (s : Served) (a x : ℕ) : Type 0 where
+  pub anchor : IsAnchorOf anchors (url_in s.line.request) a
+  pub drew : s.drew ≡ Some x
+  pub began : Began s.line.request s.answer x
+
+-- a line may have to evict an entry for a slot that it needs
+abbrev pub MayEvict : Request → Type 0
+MayEvict (Put url body) = Unit {0}
+MayEvict (Save url body) = Unit {0}
+MayEvict (Add tab count) = Unit {0}
+MayEvict (End tab) = Unit {0}
+MayEvict _ = ⊥
+
+-- what the worker knows of the entry of version x, at the anchor a, that a line of its own began: its key and its offer
+pub record IsNamed {X : Type 0} (k : Setting X) (v : View X) (a x : ℕ) (first : Served) : Type 0 where
+  pub url : List ℕ
+  pub url_is : url_in first.line.request ≡ Some url
+  pub key0 : Contains v.seen (Named a x Key0 (front_half (key_of url)))
+  pub key1 : Contains v.seen (Named a x Key1 (back_half (key_of url)))
+  pub offer : Contains v.seen (Named a x Offer (k.slots + first.line.number))
+
+-- a line that published slots of the version x at the anchor a
+pub record Grows {X : Type 0} (k : Setting X) (v : View X) (earlier : List Served) (s : Served) (a x : ℕ) : Type 0 where
+  pub writes : Writes k.anchors earlier s a x
+  pub named : IsNamed k v a x writes.first
+
+-- the answer to a line that left its entry whole, at this epoch
+pub record Finishes (a : Answer) (e : ℕ) : Type 0 where
+  pub stored : doom_of e ≡ 0 → a ≡ answer.Stored (version_of e)
+  pub doomed : doom_of e ≡ 1 → a ≡ answer.Doomed (version_of e)
+
+-- a line that gave up its writing of the version x at the anchor a
+pub record Halts (anchors : ℕ) (earlier : List Served) (s : Served) (a x : ℕ) : Type 0 where
+  pub writes : Writes anchors earlier s a x
+  pub gave_up : gives_up s.answer ≡ true
+
+-- a line that purged the entry at the anchor a, and left this epoch
+pub record Purges (anchors : ℕ) (s : Served) (a e : ℕ) : Type 0 where
+  pub url : List ℕ
+  pub request : s.line.request ≡ Purge url
+  pub anchor : a ≡ anchor_of (key_of url) anchors
+  pub epoch : Epoch
+  pub answered : s.answer ≡ answer.Purged epoch
+  pub epoch_is : epoch_number epoch ≡ e
+
+-- The deed belongs to the line s, which has these before it; v is what its worker knows. It entered an anchor, or changed, raised or
+-- doomed one, and each of these has the lines that may do so.
+pub record IsDeedOf {X : Type 0} (k : Setting X) (v : View X) (d : Deed) (earlier : List Served) (s : Served) : Type 0 where
+  pub entered : d.kind ≡ Entered → ComesTo k.anchors s.line.request d.anchor
+  pub changed : d.kind ≡ Changed → (stage_of d.epoch ≡ 1) ⊎ (stage_of d.epoch ≡ 5)  -- it took the anchor for a new entry, or began to free its entry
+  pub took : d.kind ≡ Changed → stage_of d.epoch ≡ 1 → Begins k.anchors s d.anchor (version_of d.epoch)
+  pub evicted : d.kind ≡ Changed → stage_of d.epoch ≡ 5 → d.was_idle ≡ true → MayEvict s.line.request
+  pub grew : d.kind ≡ Raised → (stage_of d.epoch ≡ 2) ⊎ (stage_of d.epoch ≡ 3) → Grows k v earlier s d.anchor (version_of d.epoch)
+  pub closed : d.kind ≡ Raised → stage_of d.epoch ≡ 3 → Finishes s.answer d.epoch
+  pub halted : d.kind ≡ Raised → stage_of d.epoch ≡ 4 → Halts k.anchors earlier s d.anchor (version_of d.epoch)
+  pub doomed : d.kind ≡ Doomed → Purges k.anchors s d.anchor d.epoch
+  pub with_doom : d.kind ≡ Doomed → doom_of d.epoch ≡ 1
+
+-- some tab writes the version x at the anchor a after these lines
+pub record IsWriting (anchors : ℕ) (served : List Served) (a x : ℕ) : Type 0 where
+  pub tab : ℕ
+  pub writes : IsWritingOf anchors (writing tab served) a x
+
+-- The deed belongs to the end, at which the worker closed the tabs that read and gave up those that wrote.
+pub record IsDeedOfEnd {X : Type 0} (k : Setting X) (d : Deed) (served : List Served) : Type 0 where
+  pub entered : d.kind ≡ Entered → ⊥
+  pub changed : d.kind ≡ Changed → (stage_of d.epoch ≡ 5) × (d.was_idle ≡ false)
+  pub raised : d.kind ≡ Raised → (stage_of d.epoch ≡ 4) ⊎ (stage_of d.epoch ≡ 6)
+  pub halted : d.kind ≡ Raised → stage_of d.epoch ≡ 4 → IsWriting k.anchors served d.anchor (version_of d.epoch)
+  pub doomed : d.kind ≡ Doomed → ⊥
+
+-- the deed belongs to one of these lines, or to the end, if the worker is there
+abbrev pub HasLine : {X : Type 0} → Setting X → View X → Deed → List Served → Bool → Type 0
+HasLine k v d served at_end = LineOf served (IsDeedOf k v d) ⊎ ((at_end ≡ true) × IsDeedOfEnd k d served)

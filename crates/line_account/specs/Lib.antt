@@ -1,0 +1,4 @@
+pub mod Lines
+pub mod Deeds
+pub mod Accounts
+pub mod Closing

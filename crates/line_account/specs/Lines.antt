@@ -1,0 +1,155 @@
+-- Lines that a worker served, and what they say of its tabs.
+use Rattle.std.specs.Prelude.{◌&&◌, ◌++◌, ◌==◌, ◌||◌, ◌∷◌, ◌≡◌, Bool, List, None, Option, Some, [], cond, false, true, ℕ}
+use Rattle.store_key.specs.Anchor.{anchor_of}
+use Rattle.store_key.specs.Key.{key_of}
+use Rattle.script_text.specs.declared.answer.Answer.{Answer}
+use Rattle.script_text.specs.declared.answer.Answer.TheVariants as answer
+use Rattle.script_text.specs.declared.line.Line.{Line}
+use Rattle.script_text.specs.declared.request.Request.{Request}
+use Rattle.script_text.specs.declared.request.Request.TheVariants.{Add, Begin, CloseTab, DropTab, End, Get, More, OpenTab, Purge, Put, Save}
+
+-- A line that was served, and its answer. Two things that are not printed stand beside them: the version that the line drew, if it
+-- drew one, and the epoch at which it opened an entry or looked at one last. A worker's lines stand with the newest first.
+pub record Served : Type 0 where
+  pub line : Line
+  pub answer : Answer
+  pub drew : Option ℕ
+  pub found : ℕ
+
+-- A line of which P holds, given the lines of its worker before it.
+pub record LineOf (served : List Served) (P : List Served → Served → Type 0) : Type 0 where
+  pub later : List Served
+  pub line : Served
+  pub earlier : List Served
+  pub split : served ≡ later ++ line ∷ earlier
+  pub so : P earlier line
+
+-- What requests and answers are.
+
+abbrev pub offers : Request → Bool
+offers (Put url body) = true
+offers (Save url body) = true
+offers (Begin tab url body) = true
+offers _ = false
+
+abbrev pub url_in : Request → Option (List ℕ)
+url_in (Put url body) = Some url
+url_in (Save url body) = Some url
+url_in (Get url) = Some url
+url_in (Purge url) = Some url
+url_in (Begin tab url body) = Some url
+url_in (OpenTab tab url) = Some url
+url_in _ = None
+
+abbrev pub is_begun : Answer → Bool
+is_begun (answer.Begun version) = true
+is_begun _ = false
+
+-- the answer to a line whose writing was refused once it had begun
+abbrev pub is_refused : Answer → Bool
+is_refused answer.Full = true
+is_refused answer.Large = true
+is_refused answer.Fault = true
+is_refused _ = false
+
+abbrev pub is_finished : Answer → Bool
+is_finished (answer.Stored version) = true
+is_finished (answer.Doomed version) = true
+is_finished _ = false
+
+abbrev pub is_dropped : Answer → Bool
+is_dropped answer.Dropped = true
+is_dropped _ = false
+
+abbrev pub is_opened : Answer → Bool
+is_opened (answer.Opened version) = true
+is_opened _ = false
+
+abbrev pub is_closed : Answer → Bool
+is_closed answer.Closed = true
+is_closed _ = false
+
+-- The tabs of a script.
+
+-- the line begins to write on the tab t
+abbrev pub begins : ℕ → Request → Answer → Bool
+begins t (Begin u url body) a = (u == t) && is_begun a
+begins t _ a = false
+
+-- it ends the writing there
+abbrev pub ends : ℕ → Request → Answer → Bool
+ends t (Add u count) a = (u == t) && is_refused a
+ends t (End u) a = (u == t) && (is_refused a || is_finished a)
+ends t (DropTab u) a = (u == t) && is_dropped a
+ends t _ a = false
+
+abbrev pub opens : ℕ → Request → Answer → Bool
+opens t (OpenTab u url) a = (u == t) && is_opened a
+opens t _ a = false
+
+abbrev pub closes : ℕ → Request → Answer → Bool
+closes t (CloseTab u) a = (u == t) && is_closed a
+closes t _ a = false
+
+-- the line that began what the tab t writes after these lines, if it writes
+abbrev pub writing : ℕ → List Served → Option Served
+writing t [] = None
+writing t (s ∷ earlier) = cond (begins t s.line.request s.answer) (Some s) (cond (ends t s.line.request s.answer) None (writing t earlier))
+
+-- the line that opened what the tab t reads after these lines, if it reads
+abbrev pub reading : ℕ → List Served → Option Served
+reading t [] = None
+reading t (s ∷ earlier) = cond (opens t s.line.request s.answer) (Some s) (cond (closes t s.line.request s.answer) None (reading t earlier))
+
+-- Where a line is at work.
+
+abbrev pub url_named : Option Served → Option (List ℕ)
+url_named None = None
+url_named (Some s) = url_in s.line.request
+
+-- the URL that a line names, or that its tab was opened or begun with
+abbrev pub url_at : List Served → Request → Option (List ℕ)
+url_at earlier (Add tab count) = url_named (writing tab earlier)
+url_at earlier (End tab) = url_named (writing tab earlier)
+url_at earlier (DropTab tab) = url_named (writing tab earlier)
+url_at earlier (More tab) = url_named (reading tab earlier)
+url_at earlier (CloseTab tab) = url_named (reading tab earlier)
+url_at earlier request = url_in request
+
+-- the anchor a is that of this URL, if there is one
+pub record IsAnchorOf (anchors : ℕ) (named : Option (List ℕ)) (a : ℕ) : Type 0 where
+  pub url : List ℕ
+  pub named_is : named ≡ Some url
+  pub anchor : a ≡ anchor_of (key_of url) anchors
+
+-- the line, with these before it, is at work at the anchor a
+abbrev pub IsAt : (anchors : ℕ) → List Served → Served → ℕ → Type 0
+IsAt anchors earlier s a = IsAnchorOf anchors (url_at earlier s.line.request) a
+
+-- the line that began what a line writes: it does so itself, or its tab's first line did
+abbrev pub begun_by : List Served → Served → Option Served
+begun_by earlier s = of s.line.request
+  where
+    of : Request → Option Served
+    of (Put url body) = Some s
+    of (Save url body) = Some s
+    of (Begin tab url body) = Some s
+    of (Add tab count) = writing tab earlier
+    of (End tab) = writing tab earlier
+    of (DropTab tab) = writing tab earlier
+    of _ = None
+
+-- this is the line that began a writing, with the version x, at the anchor a
+pub record IsWritingOf (anchors : ℕ) (begun : Option Served) (a x : ℕ) : Type 0 where
+  pub first : Served
+  pub begun_is : begun ≡ Some first
+  pub drew : first.drew ≡ Some x
+  pub anchor : IsAnchorOf anchors (url_in first.line.request) a
+
+-- a line that writes the version x at the anchor a
+abbrev pub Writes : (anchors : ℕ) → List Served → Served → (a x : ℕ) → Type 0
+Writes anchors earlier s a x = IsWritingOf anchors (begun_by earlier s) a x
+
+-- the answer to a line that gave its writing up
+abbrev pub gives_up : Answer → Bool
+gives_up a = is_refused a || is_dropped a

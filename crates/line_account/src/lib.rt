@@ -1,0 +1,11 @@
+//! What the lines that workers print may say, as a model by itself: which line each deed of a worker
+//! belongs to, and what the accounts of all workers tell together once they ended. The functions of
+//! `laws` do nothing: what they ensure are the laws.
+#![tactic(auto)]
+
+mod laws;
+
+pub use laws::{
+    begun_versions_have_bounds, doomed_entries_were_purged, entries_are_stored_by_lines,
+    epochs_have_versions, halted_entries_were_given_up, versions_are_begun_by_one_line,
+};
