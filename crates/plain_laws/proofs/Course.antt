@@ -21,11 +21,11 @@ use Rattle.plain_laws.proofs.Keeping.{same_offer}
 use Rattle.plain_laws.proofs.Beginning.{set_there}
 use Rattle.plain_laws.proofs.Serving.{Effect, effect}
 
-weaken : (a b : ℕ) (xs : List ℕ) → a ≤ b → RiseAbove b xs → RiseAbove a xs
+pub weaken : (a b : ℕ) (xs : List ℕ) → a ≤ b → RiseAbove b xs → RiseAbove a xs
 weaken a b [] h r = tt
 weaken a b (x ∷ xs) h r = let k : b < x = r.0 in (omega arith, r.1)
 
-rise_told : (c d : ℕ) (told more : List ℕ) → (told ≡ []) ⊎ (told ≡ (c + 1) ∷ []) → d ≡ c + 1 → RiseAbove d more → RiseAbove c (told ++ more)
+pub rise_told : (c d : ℕ) (told more : List ℕ) → (told ≡ []) ⊎ (told ≡ (c + 1) ∷ []) → d ≡ c + 1 → RiseAbove d more → RiseAbove c (told ++ more)
 rise_told c d told more (inl e) at r = rw e (weaken c d more (omega arith) r)
 rise_told c d told more (inr e) at r = rw e (let k : c < c + 1 = omega arith in (k, weaken (c + 1) d more (omega arith) r))
 
@@ -82,10 +82,10 @@ left_by_line s line p r anchor e (Effect.began tab url made offers b told) is =
       | inr h ↦ inr (record { old = mid.0; there = h; same = mid.2 })
     ]
 
-first : (line : Line) (lines : List Line) → Contains (line ∷ lines) line
+pub first : (line : Line) (lines : List Line) → Contains (line ∷ lines) line
 first line lines = let k : 0 < suc (length lines) = omega arith in (0, k, refl)
 
-further : (line found : Line) (lines : List Line) → Contains lines found → Contains (line ∷ lines) found
+pub further : (line found : Line) (lines : List Line) → Contains lines found → Contains (line ∷ lines) found
 further line found lines h = let i : h.0 < length lines = h.1 in let k : suc h.0 < suc (length lines) = omega arith in (suc h.0, k, h.2)
 
 later : (s : Setting) (line : Line) (p q : Plain) (anchor : ℕ) (e : Entry) (lines : List Line)

@@ -19,3 +19,12 @@ pub mod Roomed
 pub mod ReadingRoomed
 pub mod Running
 pub mod Resting
+pub mod Agreeing
+pub mod ReadingAlike
+pub mod WritingAlike
+pub mod LastTab
+pub mod OwnLines
+pub mod OtherLines
+pub mod Parted
+pub mod Standing
+pub mod PrivateLines

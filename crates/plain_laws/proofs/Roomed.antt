@@ -31,10 +31,10 @@ use Rattle.plain_laws.proofs.Alone.{one_cap, Roomy, published_le, append_free, l
 use Rattle.plain_laws.proofs.Staying.{Stays, stays_trans, stays_set, stays_close_writer}
 use Rattle.plain_laws.proofs.Fitted.{Sized, PlaceFits, fits_vacated, fits_nothing, fits_ended, fits_resized, size_holds, size_success, never_full}
 
--- a request leaves all as it is, or moves one anchor, for this reason
-pub data Outcome (s : Setting) (cap : ℕ → ℕ) (p : Plain) (Why : ℕ → Type 0) (r : Step) : Type 0 where
-  still : r.after ≡ p → HadRoom r.answer → Outcome s cap p Why r
-  moved : (a : ℕ) → Why a → Stays a p r.after → PlaceFits s (cap a) (place_at r.after a) → HadRoom r.answer → Outcome s cap p Why r
+-- a request on this tab leaves all as it is, or moves one anchor, for this reason
+pub data Outcome (s : Setting) (cap : ℕ → ℕ) (tab : ℕ) (p : Plain) (Why : ℕ → Type 0) (r : Step) : Type 0 where
+  still : r.after ≡ p → HadRoom r.answer → Outcome s cap tab p Why r
+  moved : (a : ℕ) → Why a → Stays tab a p r.after → PlaceFits s (cap a) (place_at r.after a) → HadRoom r.answer → Outcome s cap tab p Why r
 
 -- the tab is at this anchor
 abbrev pub IsAt : ℕ → Tab → Type 0
@@ -57,22 +57,22 @@ fits_closed s c tab a life p e is never le =
     fits_settled s c a (record p { tabs = set p.tabs tab Free; places = set p.places a (ended life (place_at p a)) })
     (fits_changed s c p.places a (ended life (place_at p a)) (fits_ended s c (place_at p a) e life is never le))
 
-unless_none : (tab a : ℕ) (next : Plain → Step) (g : Grown) → g.refusal ≡ None → unless_refused tab a next g ≡ next g.store
+pub unless_none : (tab a : ℕ) (next : Plain → Step) (g : Grown) → g.refusal ≡ None → unless_refused tab a next g ≡ next g.store
 unless_none tab a next g e = rw e refl
 
-unless_some : (tab a : ℕ) (next : Plain → Step) (g : Grown) (x : Refusal) → g.refusal ≡ Some x → unless_refused tab a next g ≡ step (refused_by x) (close_writer GivenUp tab a g.store)
+pub unless_some : (tab a : ℕ) (next : Plain → Step) (g : Grown) (x : Refusal) → g.refusal ≡ Some x → unless_refused tab a next g ≡ step (refused_by x) (close_writer GivenUp tab a g.store)
 unless_some tab a next g x e = rw e refl
 
-add_is : (s : Setting) (tab count a : ℕ) (p : Plain) (x : Entry) → tab_at p tab ≡ Writing a → entry_at p a ≡ Some x
+pub add_is : (s : Setting) (tab count a : ℕ) (p : Plain) (x : Entry) → tab_at p tab ≡ Writing a → entry_at p a ≡ Some x
     → add s tab count p ≡ unless_refused tab a (step (answer.Added (min count (lacking x)))) (append s a (min count (lacking x)) x.content p)
 add_is s tab count a p x t e = rw (t, e) refl
 
-end_is : (s : Setting) (tab a : ℕ) (p : Plain) (x : Entry) → tab_at p tab ≡ Writing a → entry_at p a ≡ Some x
+pub end_is : (s : Setting) (tab a : ℕ) (p : Plain) (x : Entry) → tab_at p tab ≡ Writing a → entry_at p a ≡ Some x
     → end s tab p ≡ unless_refused tab a (λ q. unless_refused tab a (finish tab a) (last_slot s (x.content + lacking x) q)) (append s a (lacking x) x.content p)
 end_is s tab a p x t e = rw (t, e) refl
 
 -- growing where there is room
-grown_to : (s : Setting) (tab a count c : ℕ) (p : Plain) (x : Entry) (next : Plain → Step) → 0 < s.room → (h : Roomy s a c p) → Sized s c x → count ≤ lacking x
+pub grown_to : (s : Setting) (tab a count c : ℕ) (p : Plain) (x : Entry) (next : Plain → Step) → 0 < s.room → (h : Roomy s a c p) → Sized s c x → count ≤ lacking x
     → append s a count x.content p ≡ grown_as (resize a (added_size s count x.content) p) (added_refusal s count x.content)
 grown_to s tab a count c p x next room h sized le =
     let front = sized.front in
@@ -92,13 +92,13 @@ held_then s count c x room sized le h =
     let whole : published s.room (x.content + count) ≤ published s.room (meta_size x.url + length x.body) = published_le s.room (x.content + count) (meta_size x.url + length x.body) room most in
     size_holds s (x.content + count) (published s.room (x.content + count) - published s.room x.content) (published s.room x.content + 1) (published s.room x.content) c room refl refl (omega arith) h
 
-record Written (s : Setting) (c tab a : ℕ) (p : Plain) : Type 0 where
-  at : tab_at p tab ≡ Writing a
-  entry : Entry
-  there : entry_at p a ≡ Some entry
-  grows : entry.life ≡ Growing
-  fits : PlaceFits s c (place_at p a)
-  roomy : Roomy s a c p
+pub record Written (s : Setting) (c tab a : ℕ) (p : Plain) : Type 0 where
+  pub at : tab_at p tab ≡ Writing a
+  pub entry : Entry
+  pub there : entry_at p a ≡ Some entry
+  pub grows : entry.life ≡ Growing
+  pub fits : PlaceFits s c (place_at p a)
+  pub roomy : Roomy s a c p
 
 holds_now : (s : Setting) (c tab a : ℕ) (p : Plain) → (w : Written s c tab a p) → hold (published s.room w.entry.content) ≤ c
 holds_now s c tab a p w =
@@ -109,11 +109,11 @@ holds_now s c tab a p w =
 -- it was refused: it is LARGE, and given up
 refused_at : (s : Setting) (cap : ℕ → ℕ) (count tab a : ℕ) (p : Plain) (next : Plain → Step) (x : Refusal) → 0 < s.room → (w : Written s (cap a) tab a p) → Sized s (cap a) w.entry → count ≤ lacking w.entry
     → added_refusal s count w.entry.content ≡ Some x
-    → Outcome s cap p (λ b. IsAt b (Writing a)) (unless_refused tab a next (append s a count w.entry.content p))
+    → Outcome s cap tab p (λ b. IsAt b (Writing a)) (unless_refused tab a next (append s a count w.entry.content p))
 refused_at s cap count tab a p next x room w sized le r =
-    subst (λ (o : Step). Outcome s cap p (λ b. IsAt b (Writing a)) o) (sym is)
+    subst (λ (o : Step). Outcome s cap tab p (λ b. IsAt b (Writing a)) o) (sym is)
     (Outcome.moved a refl
-    (stays_trans a p q (close_writer GivenUp tab a q) (stays_set (resized size) a p) (stays_close_writer GivenUp tab a q))
+    (stays_trans tab a p q (close_writer GivenUp tab a q) (stays_set (resized size) tab a p) (stays_close_writer GivenUp tab a q))
     (fits_closed s (cap a) tab a GivenUp q (record w.entry { content = size }) (resized_there a size p w.entry w.there) (λ e. cc)
     (let k : held_by s.room (Some (record w.entry { content = size; life = GivenUp })) ≡ hold (published s.room size) = held_unfinished s.room (record w.entry { content = size; life = GivenUp }) GivenUp refl (inr refl) in
     let le2 = held_then s count (cap a) w.entry room sized le (holds_now s (cap a) tab a p w) in omega arith))
@@ -133,7 +133,7 @@ refused_at s cap count tab a p next x room w sized le r =
         ∙ unless_some tab a next (grown_as q (added_refusal s count w.entry.content)) Large (r ∙ ap Some large)
 
 -- it went on
-grown_on : (s : Setting) (count c tab a : ℕ) (p : Plain) (next : Plain → Step) → 0 < s.room → (w : Written s c tab a p) → Sized s c w.entry → count ≤ lacking w.entry
+pub grown_on : (s : Setting) (count c tab a : ℕ) (p : Plain) (next : Plain → Step) → 0 < s.room → (w : Written s c tab a p) → Sized s c w.entry → count ≤ lacking w.entry
     → added_refusal s count w.entry.content ≡ None
     → unless_refused tab a next (append s a count w.entry.content p) ≡ next (resize a (w.entry.content + count) p)
 grown_on s count c tab a p next room w sized le r =
@@ -165,7 +165,7 @@ pub record InRoom (s : Setting) (cap : ℕ → ℕ) (p : Plain) : Type 0 where
   pub fits : (a : ℕ) → PlaceFits s (cap a) (place_at p a)
   pub writes : WritesApart p
 
-roomy_sum : (s : Setting) (cap : ℕ → ℕ) (a : ℕ) (p : Plain) (x : Entry) → InRoom s cap p → entry_at p a ≡ Some x → slots_held s p + cap a ≤ s.slots + held s.room (place_at p a)
+pub roomy_sum : (s : Setting) (cap : ℕ → ℕ) (a : ℕ) (p : Plain) (x : Entry) → InRoom s cap p → entry_at p a ≡ Some x → slots_held s p + cap a ≤ s.slots + held s.room (place_at p a)
 roomy_sum s cap a p x h e =
     let inside_it : a < length p.places = inside p.places a x e in
     let k : slots_held s p + cap (0 + a) ≤ sum_by cap (range_with_len 0 (length p.places)) + held s.room (place_at p a) = one_cap (held s.room) cap p.places 0 a inside_it
@@ -175,7 +175,7 @@ roomy_sum s cap a p x h e =
     let most = h.total in
     omega arith
 
-abbrev written_of : (s : Setting) (cap : ℕ → ℕ) (tab a : ℕ) (p : Plain) (x : Entry) → InRoom s cap p → tab_at p tab ≡ Writing a → entry_at p a ≡ Some x → x.life ≡ Growing → Written s (cap a) tab a p
+abbrev pub written_of : (s : Setting) (cap : ℕ → ℕ) (tab a : ℕ) (p : Plain) (x : Entry) → InRoom s cap p → tab_at p tab ≡ Writing a → entry_at p a ≡ Some x → x.life ≡ Growing → Written s (cap a) tab a p
 written_of s cap tab a p x h t e g = record {
   at = t;
   entry = x;
@@ -185,24 +185,24 @@ written_of s cap tab a p x h t e g = record {
   roomy = record { entry = x; there = e; grows = g; may_hold = roomy_sum s cap a p x h e };
 }
 
-grows_at : (s : Setting) (cap : ℕ → ℕ) (tab a : ℕ) (p : Plain) (x : Entry) → InRoom s cap p → tab_at p tab ≡ Writing a → entry_at p a ≡ Some x → x.life ≡ Growing
+pub grows_at : (s : Setting) (cap : ℕ → ℕ) (tab a : ℕ) (p : Plain) (x : Entry) → InRoom s cap p → tab_at p tab ≡ Writing a → entry_at p a ≡ Some x → x.life ≡ Growing
 grows_at s cap tab a p x h t e = subst (λ (o : Option Entry). IsGrowing o) e (h.writes.grows tab a t)
 
 add_at : (s : Setting) (cap : ℕ → ℕ) (count tab a : ℕ) (p : Plain) → 0 < s.room → (w : Written s (cap a) tab a p) → Sized s (cap a) w.entry → (o : Option Refusal) → added_refusal s (min count (lacking w.entry)) w.entry.content ≡ o
-    → Outcome s cap p (λ b. IsAt b (Writing a)) (unless_refused tab a (step (answer.Added (min count (lacking w.entry)))) (append s a (min count (lacking w.entry)) w.entry.content p))
+    → Outcome s cap tab p (λ b. IsAt b (Writing a)) (unless_refused tab a (step (answer.Added (min count (lacking w.entry)))) (append s a (min count (lacking w.entry)) w.entry.content p))
 add_at s cap count tab a p room w sized (Some x) r = refused_at s cap (min count (lacking w.entry)) tab a p (step (answer.Added (min count (lacking w.entry)))) x room w sized (omega arith) r
 add_at s cap count tab a p room w sized None r =
-    subst (λ (o : Step). Outcome s cap p (λ b. IsAt b (Writing a)) o) (sym (grown_on s (min count (lacking w.entry)) (cap a) tab a p (step (answer.Added (min count (lacking w.entry)))) room w sized (omega arith) r))
-    (Outcome.moved a refl (stays_set (resized (w.entry.content + min count (lacking w.entry))) a p) (fits_on s (cap a) (min count (lacking w.entry)) tab a p room w sized (omega arith) r) tt)
+    subst (λ (o : Step). Outcome s cap tab p (λ b. IsAt b (Writing a)) o) (sym (grown_on s (min count (lacking w.entry)) (cap a) tab a p (step (answer.Added (min count (lacking w.entry)))) room w sized (omega arith) r))
+    (Outcome.moved a refl (stays_set (resized (w.entry.content + min count (lacking w.entry))) tab a p) (fits_on s (cap a) (min count (lacking w.entry)) tab a p room w sized (omega arith) r) tt)
 
-add_to : (s : Setting) (cap : ℕ → ℕ) (count tab a : ℕ) (p : Plain) → InRoom s cap p → tab_at p tab ≡ Writing a → (o : Option Entry) → entry_at p a ≡ o → Outcome s cap p (λ b. IsAt b (Writing a)) (add s tab count p)
+add_to : (s : Setting) (cap : ℕ → ℕ) (count tab a : ℕ) (p : Plain) → InRoom s cap p → tab_at p tab ≡ Writing a → (o : Option Entry) → entry_at p a ≡ o → Outcome s cap tab p (λ b. IsAt b (Writing a)) (add s tab count p)
 add_to s cap count tab a p h t None e = Outcome.still (rw (t, e) refl) (rw (t, e) tt)
 add_to s cap count tab a p h t (Some x) e =
     let g = grows_at s cap tab a p x h t e in
-    subst (λ (r : Step). Outcome s cap p (λ b. IsAt b (Writing a)) r) (sym (add_is s tab count a p x t e))
+    subst (λ (r : Step). Outcome s cap tab p (λ b. IsAt b (Writing a)) r) (sym (add_is s tab count a p x t e))
     (add_at s cap count tab a p h.room (written_of s cap tab a p x h t e g) ((h.fits a).writing x e g) (added_refusal s (min count (lacking x)) x.content) refl)
 
-pub add_room : (s : Setting) (cap : ℕ → ℕ) (tab count : ℕ) (p : Plain) → InRoom s cap p → (t : Tab) → tab_at p tab ≡ t → Outcome s cap p (λ b. IsAt b t) (add s tab count p)
+pub add_room : (s : Setting) (cap : ℕ → ℕ) (tab count : ℕ) (p : Plain) → InRoom s cap p → (t : Tab) → tab_at p tab ≡ t → Outcome s cap tab p (λ b. IsAt b t) (add s tab count p)
 add_room s cap tab count p h Free t = Outcome.still (rw t refl) (rw t tt)
 add_room s cap tab count p h (Reading a g o) t = Outcome.still (rw t refl) (rw t tt)
 add_room s cap tab count p h (Writing a) t = add_to s cap count tab a p h t (entry_at p a) refl
@@ -215,7 +215,7 @@ finish_fine : (tab a : ℕ) (q : Plain) → HadRoom (finish tab a q).answer
 finish_fine tab a q = either (λ (x : Answer). HadRoom x) (place_at q a).doom (answer.Doomed (place_at q a).version) (answer.Stored (place_at q a).version) (λ t. tt) (λ t. tt)
 
 -- the last slot is there, and the entry is whole
-ended_at : (s : Setting) (c tab a count : ℕ) (p : Plain) → 0 < s.room → 0 < s.slots → (w : Written s c tab a p) → Sized s c w.entry → count ≤ lacking w.entry → added_refusal s count w.entry.content ≡ None
+pub ended_at : (s : Setting) (c tab a count : ℕ) (p : Plain) → 0 < s.room → 0 < s.slots → (w : Written s c tab a p) → Sized s c w.entry → count ≤ lacking w.entry → added_refusal s count w.entry.content ≡ None
     → (unless_refused tab a (finish tab a) (last_slot s (w.entry.content + count) (resize a (w.entry.content + count) p)) ≡ finish tab a (resize a (w.entry.content + count) p))
     × PlaceFits s c (place_at (finish tab a (resize a (w.entry.content + count) p)).after a)
 ended_at s c tab a count p room slots w sized le r =
@@ -239,45 +239,45 @@ ended_at s c tab a count p room slots w sized le r =
     q = resize a size p
 
 end_at : (s : Setting) (cap : ℕ → ℕ) (tab a : ℕ) (p : Plain) → 0 < s.room → 0 < s.slots → (w : Written s (cap a) tab a p) → Sized s (cap a) w.entry → (o : Option Refusal) → added_refusal s (lacking w.entry) w.entry.content ≡ o
-    → Outcome s cap p (λ b. IsAt b (Writing a)) (unless_refused tab a (λ q. unless_refused tab a (finish tab a) (last_slot s (w.entry.content + lacking w.entry) q)) (append s a (lacking w.entry) w.entry.content p))
+    → Outcome s cap tab p (λ b. IsAt b (Writing a)) (unless_refused tab a (λ q. unless_refused tab a (finish tab a) (last_slot s (w.entry.content + lacking w.entry) q)) (append s a (lacking w.entry) w.entry.content p))
 end_at s cap tab a p room slots w sized (Some x) r = refused_at s cap (lacking w.entry) tab a p (λ q. unless_refused tab a (finish tab a) (last_slot s (w.entry.content + lacking w.entry) q)) x room w sized (omega arith) r
 end_at s cap tab a p room slots w sized None r =
     let ends = ended_at s (cap a) tab a (lacking w.entry) p room slots w sized (omega arith) r in
-    subst (λ (o : Step). Outcome s cap p (λ b. IsAt b (Writing a)) o)
+    subst (λ (o : Step). Outcome s cap tab p (λ b. IsAt b (Writing a)) o)
     (sym (grown_on s (lacking w.entry) (cap a) tab a p (λ q. unless_refused tab a (finish tab a) (last_slot s (w.entry.content + lacking w.entry) q)) room w sized (omega arith) r ∙ ends.0))
     (Outcome.moved a refl
-    (stays_trans a p q (close_writer Whole tab a q) (stays_set (resized (w.entry.content + lacking w.entry)) a p) (stays_close_writer Whole tab a q))
+    (stays_trans tab a p q (close_writer Whole tab a q) (stays_set (resized (w.entry.content + lacking w.entry)) tab a p) (stays_close_writer Whole tab a q))
     ends.1 (finish_fine tab a q))
   where
     q : Plain
     q = resize a (w.entry.content + lacking w.entry) p
 
-end_to : (s : Setting) (cap : ℕ → ℕ) (tab a : ℕ) (p : Plain) → InRoom s cap p → tab_at p tab ≡ Writing a → (o : Option Entry) → entry_at p a ≡ o → Outcome s cap p (λ b. IsAt b (Writing a)) (end s tab p)
+end_to : (s : Setting) (cap : ℕ → ℕ) (tab a : ℕ) (p : Plain) → InRoom s cap p → tab_at p tab ≡ Writing a → (o : Option Entry) → entry_at p a ≡ o → Outcome s cap tab p (λ b. IsAt b (Writing a)) (end s tab p)
 end_to s cap tab a p h t None e = Outcome.still (rw (t, e) refl) (rw (t, e) tt)
 end_to s cap tab a p h t (Some x) e =
     let g = grows_at s cap tab a p x h t e in
-    subst (λ (r : Step). Outcome s cap p (λ b. IsAt b (Writing a)) r) (sym (end_is s tab a p x t e))
+    subst (λ (r : Step). Outcome s cap tab p (λ b. IsAt b (Writing a)) r) (sym (end_is s tab a p x t e))
     (end_at s cap tab a p h.room h.slots (written_of s cap tab a p x h t e g) ((h.fits a).writing x e g) (added_refusal s (lacking x) x.content) refl)
 
-pub end_room : (s : Setting) (cap : ℕ → ℕ) (tab : ℕ) (p : Plain) → InRoom s cap p → (t : Tab) → tab_at p tab ≡ t → Outcome s cap p (λ b. IsAt b t) (end s tab p)
+pub end_room : (s : Setting) (cap : ℕ → ℕ) (tab : ℕ) (p : Plain) → InRoom s cap p → (t : Tab) → tab_at p tab ≡ t → Outcome s cap tab p (λ b. IsAt b t) (end s tab p)
 end_room s cap tab p h Free t = Outcome.still (rw t refl) (rw t tt)
 end_room s cap tab p h (Reading a g o) t = Outcome.still (rw t refl) (rw t tt)
 end_room s cap tab p h (Writing a) t = end_to s cap tab a p h t (entry_at p a) refl
 
-give_up_is : (tab a : ℕ) (p : Plain) → tab_at p tab ≡ Writing a → give_up tab p ≡ step answer.Dropped (close_writer GivenUp tab a p)
+pub give_up_is : (tab a : ℕ) (p : Plain) → tab_at p tab ≡ Writing a → give_up tab p ≡ step answer.Dropped (close_writer GivenUp tab a p)
 give_up_is tab a p t = rw t refl
 
-give_up_to : (s : Setting) (cap : ℕ → ℕ) (tab a : ℕ) (p : Plain) → InRoom s cap p → tab_at p tab ≡ Writing a → (o : Option Entry) → entry_at p a ≡ o → Outcome s cap p (λ b. IsAt b (Writing a)) (give_up tab p)
+give_up_to : (s : Setting) (cap : ℕ → ℕ) (tab a : ℕ) (p : Plain) → InRoom s cap p → tab_at p tab ≡ Writing a → (o : Option Entry) → entry_at p a ≡ o → Outcome s cap tab p (λ b. IsAt b (Writing a)) (give_up tab p)
 give_up_to s cap tab a p h t None e = absurd (subst (λ (o : Option Entry). IsGrowing o) e (h.writes.grows tab a t))
 give_up_to s cap tab a p h t (Some x) e =
     let g = grows_at s cap tab a p x h t e in
     let had : held s.room (place_at p a) ≡ hold (published s.room x.content) = ap (held_by s.room) e ∙ held_unfinished s.room x Growing g (inl refl) in
     let now : held_by s.room (Some (record x { life = GivenUp })) ≡ hold (published s.room x.content) = held_unfinished s.room (record x { life = GivenUp }) GivenUp refl (inr refl) in
     let le = (h.fits a).holds in
-    subst (λ (r : Step). Outcome s cap p (λ b. IsAt b (Writing a)) r) (sym (give_up_is tab a p t))
+    subst (λ (r : Step). Outcome s cap tab p (λ b. IsAt b (Writing a)) r) (sym (give_up_is tab a p t))
     (Outcome.moved a refl (stays_close_writer GivenUp tab a p) (fits_closed s (cap a) tab a GivenUp p x e (λ k. cc) (omega arith)) tt)
 
-pub give_up_room : (s : Setting) (cap : ℕ → ℕ) (tab : ℕ) (p : Plain) → InRoom s cap p → (t : Tab) → tab_at p tab ≡ t → Outcome s cap p (λ b. IsAt b t) (give_up tab p)
+pub give_up_room : (s : Setting) (cap : ℕ → ℕ) (tab : ℕ) (p : Plain) → InRoom s cap p → (t : Tab) → tab_at p tab ≡ t → Outcome s cap tab p (λ b. IsAt b t) (give_up tab p)
 give_up_room s cap tab p h Free t = Outcome.still (rw t refl) (rw t tt)
 give_up_room s cap tab p h (Reading a g o) t = Outcome.still (rw t refl) (rw t tt)
 give_up_room s cap tab p h (Writing a) t = give_up_to s cap tab a p h t (entry_at p a) refl

@@ -4,3 +4,5 @@ pub mod Begun
 pub mod Hit
 pub mod Holding
 pub mod Fitting
+pub mod Renaming
+pub mod Private

@@ -6,7 +6,7 @@ ghost use Rattle.plain_model.specs.declared.entry.Entry.{Entry};
 ghost use Rattle.plain_model.specs.declared.store.Setting.{Setting};
 ghost use Rattle.plain_model.specs.declared.store.Plain.{Plain};
 ghost use Rattle.plain_model.specs.Store.{entry_at};
-ghost use Rattle.plain_model.specs.Serving.{answers, after, left_by, get, fresh};
+ghost use Rattle.plain_model.specs.Serving.{answers, after, lines_for, left_by, get, fresh};
 ghost use Rattle.plain_model.specs.Opening.{opened};
 ghost use Rattle.plain_model.specs.declared.kept.Kept.{Kept};
 ghost use Rattle.plain_laws.specs.Offered.{HasOrigin};
@@ -14,6 +14,8 @@ ghost use Rattle.plain_laws.specs.Begun.{begun, RiseAbove};
 ghost use Rattle.plain_laws.specs.Hit.{IsHit};
 ghost use Rattle.plain_laws.specs.Holding.{HoldsItsSlots, slots_held};
 ghost use Rattle.plain_laws.specs.Fitting.{Fits, IsAtRest, RunsInRoom};
+ghost use Rattle.plain_laws.specs.Renaming.{CountsVersions};
+ghost use Rattle.plain_laws.specs.Private.{TabsApart, AnswersAlone};
 
 /// A version is begun by one line: those that lines begin rise, and are above all that were given out
 /// before.
@@ -49,6 +51,15 @@ pub fn held_slots_are_there()
 pub fn fitting_scripts_have_room()
     ensures { (s : Setting) (script lines : List Line) (p : Plain)
         → 0 < s.room → 0 < s.anchors → 0 < s.slots → length p.places ≡ s.anchors → IsAtRest p → Fits s lines p → RunsInRoom s script lines p }
+{}
+
+/// The private lines of a worker are answered as they are by themselves but for the numbers of versions,
+/// and leave the same at private anchors, where its lines fit and each of its tabs names private anchors
+/// alone or others alone.
+pub fn private_lines_are_answered_alone()
+    ensures { (s : Setting) (script : List Line) (worker : ℕ) (p : Plain)
+        → 0 < s.room → 0 < s.anchors → 0 < s.slots → length p.places ≡ s.anchors → IsAtRest p → CountsVersions p
+        → Fits s (lines_for worker script) p → TabsApart s script worker → AnswersAlone s script worker p }
 {}
 
 /// A store that was never written, and one that is opened on entries of a file, are at rest and have a

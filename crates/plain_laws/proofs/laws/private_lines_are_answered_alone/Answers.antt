@@ -1,0 +1,5 @@
+use Rattle.plain_laws.proofs.PrivateLines.{answered_alone}
+use Rattle.plain_laws.proofs.laws.private_lines_are_answered_alone.Goals as goal
+
+pub returns : goal.returns
+returns c = answered_alone

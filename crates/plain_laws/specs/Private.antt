@@ -1,0 +1,101 @@
+-- Anchors, tabs and lines that are one worker's own.
+use Rattle.std.specs.Prelude.{◌≡◌, ◌⊎◌, ℕ, ◌≤◌, ◌==◌, ◌||◌, List, [], ◌∷◌, map, filter, Contains, if◌then◌else◌, Bool, true, false, not}
+use Rattle.std.specs.List.{list_all}
+use Rattle.store_key.specs.Key.{key_of}
+use Rattle.store_key.specs.Anchor.{anchor_of}
+use Rattle.script_text.specs.declared.answer.Answer.{Answer}
+use Rattle.script_text.specs.declared.line.Line.{Line}
+use Rattle.script_text.specs.declared.request.Request.{Request}
+use Rattle.script_text.specs.declared.request.Request.TheVariants.{Put, Save, Get, Purge, Begin, Add, End, DropTab, OpenTab, More, CloseTab, Mark, Await}
+use Rattle.plain_model.specs.declared.store.Setting.{Setting}
+use Rattle.plain_model.specs.declared.store.Plain.{Plain}
+use Rattle.plain_model.specs.Store.{place_at}
+use Rattle.plain_model.specs.Serving.{answers, after, answers_of, lines_for}
+use Rattle.plain_laws.specs.Renaming.{IsRenaming, renamed, renamed_place}
+
+abbrev pub url_anchor : Setting → List ℕ → ℕ
+url_anchor s url = anchor_of (key_of url) s.anchors
+
+-- the anchor of the URL that a request names is one of these, if it names a URL
+abbrev pub names_only : Setting → (ℕ → Bool) → Request → Bool
+names_only s these (Put url made) = these (url_anchor s url)
+names_only s these (Save url made) = these (url_anchor s url)
+names_only s these (Get url) = these (url_anchor s url)
+names_only s these (Purge url) = these (url_anchor s url)
+names_only s these (Begin tab url made) = these (url_anchor s url)
+names_only s these (OpenTab tab url) = these (url_anchor s url)
+names_only s these _ = true
+
+-- the request opens this tab, to write or to read
+abbrev pub takes : ℕ → Request → Bool
+takes tab (Begin on url made) = on == tab
+takes tab (OpenTab on url) = on == tab
+takes tab _ = false
+
+-- only lines of this worker name a URL of the anchor
+abbrev pub is_private_anchor : Setting → List Line → ℕ → ℕ → Bool
+is_private_anchor s script worker anchor = list_all (λ line. line.worker == worker || names_only s (λ a. not (a == anchor)) line.request) script
+
+-- the requests of this worker that open the tab name private anchors alone
+abbrev pub is_private_tab : Setting → List Line → ℕ → ℕ → Bool
+is_private_tab s script worker tab = list_all (λ line. not (takes tab line.request) || names_only s (is_private_anchor s script worker) line.request) (lines_for worker script)
+
+-- a whole request at one of these anchors, or one on one of these tabs
+abbrev pub is_of : Setting → (anchors tabs : ℕ → Bool) → Request → Bool
+is_of s anchors tabs (Put url made) = anchors (url_anchor s url)
+is_of s anchors tabs (Save url made) = anchors (url_anchor s url)
+is_of s anchors tabs (Get url) = anchors (url_anchor s url)
+is_of s anchors tabs (Purge url) = anchors (url_anchor s url)
+is_of s anchors tabs (Begin tab url made) = tabs tab
+is_of s anchors tabs (Add tab count) = tabs tab
+is_of s anchors tabs (End tab) = tabs tab
+is_of s anchors tabs (DropTab tab) = tabs tab
+is_of s anchors tabs (OpenTab tab url) = tabs tab
+is_of s anchors tabs (More tab) = tabs tab
+is_of s anchors tabs (CloseTab tab) = tabs tab
+is_of s anchors tabs (Mark mark) = false
+is_of s anchors tabs (Await mark) = false
+
+-- a line of the worker that is private to it
+abbrev pub is_private : Setting → List Line → ℕ → Line → Bool
+is_private s script worker line = is_of s (is_private_anchor s script worker) (is_private_tab s script worker) line.request
+
+abbrev pub private_lines : Setting → List Line → ℕ → List Line
+private_lines s script worker = filter (is_private s script worker) (lines_for worker script)
+
+-- of the answers to lines, those to these lines
+abbrev pub answers_to : (Line → Bool) → List Line → List Answer → List Answer
+answers_to these [] given = []
+answers_to these (line ∷ lines) [] = []
+answers_to these (line ∷ lines) (a ∷ given) = (if these line then a ∷ answers_to these lines given else answers_to these lines given)
+
+-- a tab that a request names is one of a script; the last one is left to whole requests
+abbrev pub IsOnTab : Request → Type 0
+IsOnTab (Begin tab url made) = tab ≤ 6
+IsOnTab (Add tab count) = tab ≤ 6
+IsOnTab (End tab) = tab ≤ 6
+IsOnTab (DropTab tab) = tab ≤ 6
+IsOnTab (OpenTab tab url) = tab ≤ 6
+IsOnTab (More tab) = tab ≤ 6
+IsOnTab (CloseTab tab) = tab ≤ 6
+IsOnTab _ = Unit {0}
+
+-- the requests that open this tab name these anchors alone
+abbrev pub OpenOnly : Setting → (ℕ → Bool) → ℕ → List Line → Type 0
+OpenOnly s these tab lines = (line : Line) → Contains lines line → takes tab line.request ≡ true → names_only s these line.request ≡ true
+
+-- each tab of the worker is one of a script, and names private anchors alone or others alone
+pub record TabsApart (s : Setting) (script : List Line) (worker : ℕ) : Type 0 where
+  pub tabs : (line : Line) → Contains (lines_for worker script) line → IsOnTab line.request
+  pub apart : (tab : ℕ) → OpenOnly s (is_private_anchor s script worker) tab (lines_for worker script)
+      ⊎ OpenOnly s (λ anchor. not (is_private_anchor s script worker anchor)) tab (lines_for worker script)
+
+-- The private lines of the worker are answered as they are by themselves, and leave the same at private anchors, but for
+-- versions: later ones stand for later ones, and those that were given out before for themselves.
+pub record AnswersAlone (s : Setting) (script : List Line) (worker : ℕ) (p : Plain) : Type 0 where
+  pub rename : ℕ → ℕ
+  pub is : IsRenaming p.counter rename
+  pub answered : answers_to (is_private s script worker) (lines_for worker script) (answers_of s script worker p)
+      ≡ map (renamed rename) (answers s script (private_lines s script worker) p)
+  pub places : (anchor : ℕ) → is_private_anchor s script worker anchor ≡ true
+      → place_at (after s script (lines_for worker script) p) anchor ≡ renamed_place rename (place_at (after s script (private_lines s script worker) p) anchor)
