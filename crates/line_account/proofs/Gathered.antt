@@ -17,7 +17,8 @@ use Rattle.core_model.proofs.Lists.{le_sum_at, two_le_sum}
 use Rattle.core_model.proofs.StepsKeepTabs.{deeds_have_tabs}
 use Rattle.line_account.specs.Lines.{LineOf, Served, offers}
 use Rattle.line_account.specs.Deeds.{IsDeedOf, IsDeedOfEnd}
-use Rattle.line_account.specs.Accounts.{Run, Shows, Tells, drew_some, drew_version, has_drawn, is_drawn}
+use Rattle.line_account.specs.Answers.{Run}
+use Rattle.line_account.specs.Accounts.{Shows, Tells, drew_some, drew_version, has_drawn, is_drawn}
 use Rattle.line_account.specs.Closing.{Closed, IsSameLine, LineIn, ShownIn, Worker, offered, offered_by}
 use Rattle.line_account.proofs.Rows.{left_was, rest, seam_at, split_at, sum_none, sum_same, sum_within, sums, taken_or_left}
 

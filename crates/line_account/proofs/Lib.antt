@@ -1,3 +1,4 @@
 pub mod Rows
 pub mod Gathered
 pub mod Versions
+pub mod Courses

@@ -12,7 +12,8 @@ use Rattle.store_key.specs.Anchor.{anchor_of}
 use Rattle.store_key.specs.Key.{key_of}
 use Rattle.line_account.specs.Lines.{IsAnchorOf, IsAt, Served, url_in}
 use Rattle.line_account.specs.Deeds.{Begins, Halts, IsDeedOf, IsDeedOfEnd, IsWriting, Purges}
-use Rattle.line_account.specs.Accounts.{Run, epochs_of}
+use Rattle.line_account.specs.Answers.{Run}
+use Rattle.line_account.specs.Accounts.{epochs_of}
 use Rattle.line_account.specs.Closing.{BegunIn, Closed, HaltedIn, IsSameLine, LineIn, PrintsDoomed, PrintsHalted, PurgedIn, PurgesVersion, ShownIn, SomeHalted, StoredIn, Stores, Worker, offered}
 use Rattle.line_account.proofs.Gathered.{AtEnd, by_cause, by_line, counter_is, drawn_some, inside, one_line, same_line, shown_known, tells_at}
 
@@ -122,7 +123,7 @@ module _ {X : Type 0} (r : Run X) (crew : List (Worker X)) (c : Closed r crew) w
   first_of_one e es h = subst (λ (l : List ℕ). Contains l e) (sym h) (0, omega arith, refl)
 
   -- the lines of these records show what this list has
-  shows : (P : List Served → Served → Type 0) (p : LineIn crew P) (a e : ℕ) → IsAt r.setting.anchors p.line_of.earlier p.line_of.line a → Contains (epochs_of p.line_of.line.found p.line_of.line.answer) e → ShownIn r crew a e
+  shows : (P : List Served → Served → Type 0) (p : LineIn crew P) (a e : ℕ) → IsAt r.setting.anchors p.line_of.earlier p.line_of.line a → Contains (epochs_of p.line_of.line.opened p.line_of.line.looked p.line_of.line.answer) e → ShownIn r crew a e
   shows P p a e at h = record {
     j = p.j;
     worker = p.worker;
@@ -141,15 +142,15 @@ module _ {X : Type 0} (r : Run X) (crew : List (Worker X)) (c : Closed r crew) w
       let P : List Served → Served → Type 0 = λ earlier s. PrintsHalted r.setting.anchors earlier s a in
       let s : Served = p.line_of.line in
       let h = p.line_of.so in
-      let shown = shows P p a s.found h.at (first_of_one s.found (epochs_of s.found s.answer) (ap (epochs_of s.found) h.printed)) in
-      record { version = version_of s.found; halted = halted_by a s.found shown ((tells_at r crew c P p).halted h.bytes h.printed) }
+      let shown = shows P p a s.looked h.at (first_of_one s.looked (epochs_of s.opened s.looked s.answer) (ap (epochs_of s.opened s.looked) h.printed)) in
+      record { version = version_of s.looked; halted = halted_by a s.looked shown ((tells_at r crew c P p).halted h.bytes h.printed) }
 
   pub doomed_line : (a x : ℕ) → LineIn crew (λ earlier s. PrintsDoomed r.setting.anchors earlier s a x) → PurgedIn r crew a x
   doomed_line a x p =
       let P : List Served → Served → Type 0 = λ earlier s. PrintsDoomed r.setting.anchors earlier s a x in
       let s : Served = p.line_of.line in
       let h = p.line_of.so in
-      let shown = shows P p a (epoch_at x 11) h.at (first_of_one (epoch_at x 11) (epochs_of s.found s.answer) (ap (epochs_of s.found) h.printed)) in
+      let shown = shows P p a (epoch_at x 11) h.at (first_of_one (epoch_at x 11) (epochs_of s.opened s.looked s.answer) (ap (epochs_of s.opened s.looked) h.printed)) in
       let doom : doom_of (epoch_at x 11) ≡ 1 = omega arith in
       let version : version_of (epoch_at x 11) ≡ x = omega arith in
       subst (PurgedIn r crew a) version (purged_by a (epoch_at x 11) shown doom)

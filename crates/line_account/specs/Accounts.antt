@@ -1,27 +1,23 @@
 -- The account of a worker: what it knows, and which line each of its deeds belongs to.
-use Rattle.std.specs.Prelude.{Bool, List, None, Option, Some, [], count_by, false, true, ◌++◌, ◌<◌, ◌==◌, ◌∷◌, ◌≡◌, ◌≢◌, ◌⊎◌, Contains, ℕ}
-use Rattle.lock_word.specs.Words.{epoch_at, epoch_number, is_readable, stage_of, version_of}
+use Rattle.std.specs.Prelude.{Bool, List, None, Option, Some, [], count_by, false, true, ◌+◌, ◌++◌, ◌<◌, ◌==◌, ◌∷◌, ◌↔◌, ◌≡◌, ◌≢◌, ◌⊎◌, Contains, ℕ}
+use Rattle.lock_word.specs.Words.{epoch_at, epoch_number, stage_of}
 use Rattle.lock_word.specs.declared.cause.Cause.{Cause}
 use Rattle.lock_word.specs.declared.cause.Cause.TheVariants.{Absent, Leaving, OtherKey, Writing}
 use Rattle.lock_word.specs.declared.epoch.Epoch.{Epoch}
+use Rattle.lock_word.specs.declared.word.Word.{Word}
 use Rattle.script_text.specs.declared.answer.Answer.{Answer}
 use Rattle.script_text.specs.declared.answer.Answer.TheVariants as answer
+use Rattle.script_text.specs.declared.body.Body.{Body}
+use Rattle.plain_model.specs.Serving.{bytes_of}
 use Rattle.core_model.specs.declared.view.Deed.{Deed}
 use Rattle.core_model.specs.declared.view.Sight.TheVariants.{Stood}
 use Rattle.core_model.specs.declared.view.View.{View}
 use Rattle.core_model.specs.Anchors.{opening_epoch}
 use Rattle.core_model.specs.Layout.{Setting}
 use Rattle.core_model.specs.Trails.{drawn, draws}
-use Rattle.line_account.specs.Lines.{IsAt, Served, Writes, gives_up, offers}
+use Rattle.line_account.specs.Lines.{Fits, IsAt, Offers, Served, Writes, gives_up, offers}
 use Rattle.line_account.specs.Deeds.{Began, Grows, HasLine}
-
--- What does not change during a run: the setting of the store, how many bytes of a content a slot takes, and the URL and the body of
--- each offer. One below the slots is the entry of the file that begins at this slot, and another is that of a line.
-pub record Run (X : Type 0) : Type 0 where
-  pub setting : Setting X
-  pub room : ℕ
-  pub url : ℕ → List ℕ
-  pub body : ℕ → List ℕ
+use Rattle.line_account.specs.Answers.{ComesIn, HasHit, HasOpened, HasOther, IsBusy, IsCauseOf, IsKeyRead, IsLarge, IsLong, IsSpent, Refuses, Run}
 
 -- the epoch of a cause
 abbrev pub epoch_in : Cause → Epoch
@@ -31,37 +27,32 @@ epoch_in (Leaving e) = e
 epoch_in (OtherKey e key) = e
 
 -- The epochs that an answer shows, as numbers. Of a version that is printed alone they are: at STORED and DOOMED the epoch of the whole
--- entry, at BEGUN that of the entry that has no slot yet, and at OPEN and HIT the one found at the opening. At HALTED it is the one
--- found last.
-abbrev pub epochs_of : (found : ℕ) → Answer → List ℕ
-epochs_of found (answer.Stored version) = epoch_at version 3 ∷ []
-epochs_of found (answer.Doomed version) = epoch_at version 11 ∷ []
-epochs_of found (answer.Begun version) = epoch_at version 1 ∷ []
-epochs_of found (answer.Busy looked other) = epoch_number looked.epoch ∷ epoch_number other.epoch ∷ []
-epochs_of found (answer.Opened version) = found ∷ []
-epochs_of found (answer.Hit version bytes) = found ∷ []
-epochs_of found (answer.Halted bytes) = found ∷ []
-epochs_of found (answer.Part epoch bytes) = epoch_number epoch ∷ []
-epochs_of found (answer.Purged epoch) = epoch_number epoch ∷ []
-epochs_of found (answer.Miss cause) = epoch_number (epoch_in cause) ∷ []
-epochs_of found (answer.NoEntry cause) = epoch_number (epoch_in cause) ∷ []
-epochs_of found _ = []
+-- entry, at BEGUN that of the entry that has no slot yet, and at OPEN and HIT the one at which the entry was opened. At HALTED it is the
+-- one looked at last.
+abbrev pub epochs_of : (opened looked : ℕ) → Answer → List ℕ
+epochs_of opened looked (answer.Stored version) = epoch_at version 3 ∷ []
+epochs_of opened looked (answer.Doomed version) = epoch_at version 11 ∷ []
+epochs_of opened looked (answer.Begun version) = epoch_at version 1 ∷ []
+epochs_of opened looked (answer.Busy first second) = epoch_number first.epoch ∷ epoch_number second.epoch ∷ []
+epochs_of opened looked (answer.Opened version) = opened ∷ []
+epochs_of opened looked (answer.Hit version bytes) = opened ∷ []
+epochs_of opened looked (answer.Halted bytes) = looked ∷ []
+epochs_of opened looked (answer.Part epoch bytes) = epoch_number epoch ∷ []
+epochs_of opened looked (answer.Purged epoch) = epoch_number epoch ∷ []
+epochs_of opened looked (answer.Miss cause) = epoch_number (epoch_in cause) ∷ []
+epochs_of opened looked (answer.NoEntry cause) = epoch_number (epoch_in cause) ∷ []
+epochs_of opened looked _ = []
 
 -- the line shows the epoch e at the anchor a
 pub record Shows (anchors : ℕ) (earlier : List Served) (s : Served) (a e : ℕ) : Type 0 where
   pub at : IsAt anchors earlier s a
-  pub shown : Contains (epochs_of s.found s.answer) e
+  pub shown : Contains (epochs_of s.opened s.looked s.answer) e
 
 -- the version that a line drew, which it then began
 pub record HasBegun (s : Served) : Type 0 where
   pub version : ℕ
   pub drew : s.drew ≡ Some version
   pub began : Began s.line.request s.answer version
-
--- an entry of this version was found where it may be read
-pub record IsFoundOpen (found version : ℕ) : Type 0 where
-  pub readable : is_readable found ≡ true
-  pub version_is : version_of found ≡ version
 
 -- a line finished its writing of this version, or gave one up
 pub record HasFinished {X : Type 0} (k : Setting X) (v : View X) (earlier : List Served) (s : Served) (x : ℕ) : Type 0 where
@@ -73,6 +64,11 @@ pub record HasGivenUp (anchors : ℕ) (earlier : List Served) (s : Served) : Typ
   pub version : ℕ
   pub writes : Writes anchors earlier s anchor version
 
+-- what a line offers is the offer of its number, behind the slots
+pub record IsOffered {X : Type 0} (r : Run X) (s : Served) (url : List ℕ) (body : Body) : Type 0 where
+  pub url_is : r.url (r.setting.slots + s.line.number) ≡ url
+  pub body_is : r.body (r.setting.slots + s.line.number) ≡ bytes_of body
+
 -- What the line s tells, with these before it, where v is what its worker knows.
 pub record Tells {X : Type 0} (r : Run X) (v : View X) (earlier : List Served) (s : Served) : Type 0 where
   pub shown : (a e : ℕ) → Shows r.setting.anchors earlier s a e → Contains v.seen (Stood a e)  -- the worker has seen each epoch that it shows
@@ -80,9 +76,19 @@ pub record Tells {X : Type 0} (r : Run X) (v : View X) (earlier : List Served) (
   pub began : (x : ℕ) → Began s.line.request s.answer x → HasBegun s  -- and it drew the version that it began
   pub finished : (x : ℕ) → (s.answer ≡ answer.Stored x) ⊎ (s.answer ≡ answer.Doomed x) → HasFinished r.setting v earlier s x
   pub gave_up : gives_up s.answer ≡ true → HasGivenUp r.setting.anchors earlier s
-  pub opened : (x : ℕ) → s.answer ≡ answer.Opened x → IsFoundOpen s.found x
-  pub hit : (x : ℕ) (bytes : List ℕ) → s.answer ≡ answer.Hit x bytes → IsFoundOpen s.found x
-  pub halted : (bytes : List ℕ) → s.answer ≡ answer.Halted bytes → stage_of s.found ≡ 4
+  pub large : s.answer ≡ answer.Large → IsLarge r earlier s  -- nor may the entry have as many slots as its body needs
+  pub long : s.answer ≡ answer.LongUrl → IsLong r s
+  pub busy : (looked other : Word) → s.answer ≡ answer.Busy looked other → IsBusy r v earlier s looked other
+  pub spent : (n : ℕ) → s.answer ≡ answer.Spent n → IsSpent v s n
+  pub offered : (url : List ℕ) (body : Body) → Offers s.line.request url body → IsOffered r s url body  -- what it offers is the offer of its number
+  pub cause : (c : Cause) → Refuses s.answer c → IsCauseOf s (epoch_in c) c
+  pub key : (e : Epoch) (key : List ℕ) (a : ℕ) → Refuses s.answer (OtherKey e key) → IsAt r.setting.anchors earlier s a → IsKeyRead r v a (epoch_number e) key
+  pub opened : (x : ℕ) → ComesIn s.line.request s.answer x → HasOpened r v s
+  pub hit : (x : ℕ) (bytes : List ℕ) → s.answer ≡ answer.Hit x bytes → HasHit r v s bytes
+  pub other : s.answer ≡ answer.OtherUrl → HasOther r v earlier s
+  pub halted : (bytes : List ℕ) → s.answer ≡ answer.Halted bytes → stage_of s.looked ≡ 4
+  pub part : (e : Epoch) (bytes : List ℕ) → s.answer ≡ answer.Part e bytes → stage_of (epoch_number e) ≡ 2
+  pub tab : (s.answer ≡ answer.Tab) ↔ ¬ Fits earlier s.line.request  -- exactly where its tab is not as it needs it
 
 -- whether a line drew the version x, and whether it drew one
 abbrev pub is_drawn : ℕ → Option ℕ → Bool

@@ -10,7 +10,8 @@ use Rattle.core_model.specs.State.{State}
 use Rattle.core_model.specs.Tabs.{IsPass}
 use Rattle.line_account.specs.Lines.{IsAt, LineOf, Served, Writes, offers}
 use Rattle.line_account.specs.Deeds.{Begins, Halts, IsWriting, Purges}
-use Rattle.line_account.specs.Accounts.{Account, Run, Shows}
+use Rattle.line_account.specs.Accounts.{Account, Shows}
+use Rattle.line_account.specs.Answers.{Run}
 
 -- a worker at the end: what it holds and knows, and the lines that it served
 pub record Worker (X : Type 0) : Type 0 where

@@ -1,4 +1,6 @@
 pub mod Lines
 pub mod Deeds
+pub mod Answers
 pub mod Accounts
 pub mod Closing
+pub mod Courses

@@ -1,20 +1,22 @@
 -- Lines that a worker served, and what they say of its tabs.
-use Rattle.std.specs.Prelude.{◌&&◌, ◌++◌, ◌==◌, ◌||◌, ◌∷◌, ◌≡◌, Bool, List, None, Option, Some, [], cond, false, true, ℕ}
+use Rattle.std.specs.Prelude.{◌&&◌, ◌+◌, ◌++◌, ◌==◌, ◌||◌, ◌∷◌, ◌≡◌, ◌≢◌, Bool, List, None, Option, Some, [], cond, false, length, true, ℕ}
 use Rattle.store_key.specs.Anchor.{anchor_of}
 use Rattle.store_key.specs.Key.{key_of}
 use Rattle.script_text.specs.declared.answer.Answer.{Answer}
 use Rattle.script_text.specs.declared.answer.Answer.TheVariants as answer
+use Rattle.script_text.specs.declared.body.Body.{Body}
 use Rattle.script_text.specs.declared.line.Line.{Line}
 use Rattle.script_text.specs.declared.request.Request.{Request}
 use Rattle.script_text.specs.declared.request.Request.TheVariants.{Add, Begin, CloseTab, DropTab, End, Get, More, OpenTab, Purge, Put, Save}
 
--- A line that was served, and its answer. Two things that are not printed stand beside them: the version that the line drew, if it
--- drew one, and the epoch at which it opened an entry or looked at one last. A worker's lines stand with the newest first.
+-- A line that was served, and its answer. Three things that are not printed stand beside them: the version that the line drew, if it
+-- drew one, and the epochs at which it opened an entry and looked at one last. A worker's lines stand with the newest first.
 pub record Served : Type 0 where
   pub line : Line
   pub answer : Answer
   pub drew : Option ℕ
-  pub found : ℕ
+  pub opened : ℕ
+  pub looked : ℕ
 
 -- A line of which P holds, given the lines of its worker before it.
 pub record LineOf (served : List Served) (P : List Served → Served → Type 0) : Type 0 where
@@ -153,3 +155,65 @@ Writes anchors earlier s a x = IsWritingOf anchors (begun_by earlier s) a x
 -- the answer to a line that gave its writing up
 abbrev pub gives_up : Answer → Bool
 gives_up a = is_refused a || is_dropped a
+
+-- the line that opened what a line reads: it does so itself, or its tab's first line did
+abbrev pub opened_by : List Served → Served → Option Served
+opened_by earlier s = of s.line.request
+  where
+    of : Request → Option Served
+    of (Get url) = Some s
+    of (OpenTab tab url) = Some s
+    of (More tab) = reading tab earlier
+    of (CloseTab tab) = reading tab earlier
+    of _ = None
+
+-- the tab of a request is as the request needs it
+abbrev pub Fits : List Served → Request → Type 0
+Fits earlier (Begin tab url body) = (writing tab earlier ≡ None) × (reading tab earlier ≡ None)
+Fits earlier (OpenTab tab url) = (writing tab earlier ≡ None) × (reading tab earlier ≡ None)
+Fits earlier (Add tab count) = writing tab earlier ≢ None
+Fits earlier (End tab) = writing tab earlier ≢ None
+Fits earlier (DropTab tab) = writing tab earlier ≢ None
+Fits earlier (More tab) = reading tab earlier ≢ None
+Fits earlier (CloseTab tab) = reading tab earlier ≢ None
+Fits earlier _ = Unit {0}
+
+-- the request offers this body under this URL
+abbrev pub Offers : Request → List ℕ → Body → Type 0
+Offers (Put u b) url body = (u ≡ url) × (b ≡ body)
+Offers (Save u b) url body = (u ≡ url) × (b ≡ body)
+Offers (Begin tab u b) url body = (u ≡ url) × (b ≡ body)
+Offers _ url body = ⊥
+
+-- How many bytes lines gave and took.
+
+-- the bytes that an answer gives
+abbrev pub bytes_in : Answer → List ℕ
+bytes_in (answer.Hit version bytes) = bytes
+bytes_in (answer.Part epoch bytes) = bytes
+bytes_in (answer.End bytes) = bytes
+bytes_in (answer.Halted bytes) = bytes
+bytes_in (answer.ReadFault bytes) = bytes
+bytes_in _ = []
+
+abbrev pub given_by : ℕ → Request → Answer → ℕ
+given_by t (More u) a = cond (u == t) (length (bytes_in a)) 0
+given_by t _ a = 0
+
+-- how many bytes the tab t was given after these lines, since it was opened
+abbrev pub given : ℕ → List Served → ℕ
+given t [] = 0
+given t (s ∷ earlier) = cond (opens t s.line.request s.answer) 0 (given_by t s.line.request s.answer + given t earlier)
+
+abbrev pub added_in : Answer → ℕ
+added_in (answer.Added count) = count
+added_in _ = 0
+
+abbrev pub added_by : ℕ → Request → Answer → ℕ
+added_by t (Add u count) a = cond (u == t) (added_in a) 0
+added_by t _ a = 0
+
+-- how many bytes were added on the tab t after these lines, since it was begun
+abbrev pub added : ℕ → List Served → ℕ
+added t [] = 0
+added t (s ∷ earlier) = cond (begins t s.line.request s.answer) 0 (added_by t s.line.request s.answer + added t earlier)

@@ -1,11 +1,14 @@
 //! The laws of printed lines. These functions do nothing: the proof of a function that calls one may use
 //! what it ensures.
-ghost use Rattle.std.specs.Prelude.{◌≡◌, ◌≢◌, ◌+◌, ◌<◌, ◌≤◌, ℕ, List};
+ghost use Rattle.std.specs.Prelude.{◌≡◌, ◌≢◌, ◌+◌, ◌<◌, ◌≤◌, ◌∷◌, ℕ, List, [], true, false};
 ghost use Rattle.lock_word.specs.Words.{version_of, stage_of, doom_of};
 ghost use Rattle.core_model.specs.Anchors.{opening_counter, opening_epoch};
 ghost use Rattle.line_account.specs.Lines.{Served};
 ghost use Rattle.line_account.specs.Deeds.{Begins};
-ghost use Rattle.line_account.specs.Accounts.{Run};
+ghost use Rattle.line_account.specs.Answers.{Run};
+ghost use Rattle.core_model.specs.declared.view.View.{View};
+ghost use Rattle.line_account.specs.Accounts.{Account};
+ghost use Rattle.line_account.specs.Courses.{Adds, Begins as BeginsWork, Course, Leaves, Stage, lines_in};
 ghost use Rattle.line_account.specs.Closing.{Closed, Worker, BegunIn, ShownIn, StoredIn, HaltedIn, PurgedIn, IsSameLine, LineIn, PrintsHalted, PrintsDoomed, SomeHalted, offered};
 
 /// Each version is begun by one line, and at one anchor.
@@ -51,4 +54,13 @@ pub fn doomed_entries_were_purged<X>()
     ensures epoch { (r : Run X) (crew : List (Worker X)) (a e : ℕ) → Closed r crew → ShownIn r crew a e → doom_of e ≡ 1 → PurgedIn r crew a (version_of e) }
     ensures line { (r : Run X) (crew : List (Worker X)) (a x : ℕ) → Closed r crew
         → LineIn crew (λ earlier s. PrintsDoomed r.setting.anchors earlier s a x) → PurgedIn r crew a x }
+{}
+
+/// A worker that begins has an account of no lines; each line that it serves leaves one of that line too,
+/// and so does the end. So it has one of all lines along its course.
+pub fn accounts_grow<X>()
+    ensures begin { (r : Run X) (v : View X) → BeginsWork r v → Account r v [] false }
+    ensures line { (r : Run X) (v w : View X) (served : List Served) (s : Served) → Account r v served false → Adds r v served s w → Account r w (s ∷ served) false }
+    ensures end { (r : Run X) (v w : View X) (served : List Served) → Account r v served false → Leaves r v served w → Account r w served true }
+    ensures course { (r : Run X) (start end : View X) (stages : List (Stage X)) → BeginsWork r start → Course r start stages end → Account r end (lines_in stages) false }
 {}

@@ -6,6 +6,7 @@
 mod laws;
 
 pub use laws::{
-    begun_versions_have_bounds, doomed_entries_were_purged, entries_are_stored_by_lines,
-    epochs_have_versions, halted_entries_were_given_up, versions_are_begun_by_one_line,
+    accounts_grow, begun_versions_have_bounds, doomed_entries_were_purged,
+    entries_are_stored_by_lines, epochs_have_versions, halted_entries_were_given_up,
+    versions_are_begun_by_one_line,
 };

@@ -1,0 +1,170 @@
+-- What the answer to a line tells of the words and of the entry that the line found.
+use Rattle.std.specs.Prelude.{Bool, List, None, Option, Some, count_by, false, length, min, slice_index_or, true, ◌*◌, ◌+◌, ◌-◌, ◌/◌, ◌<◌, ◌==◌, ◌≡◌, ◌≢◌, ◌≤◌, ◌⊎◌, Contains, ℕ}
+use Rattle.std.specs.List.{range_with_len}
+use Rattle.store_key.specs.Anchor.{anchor_of, back_half, front_half}
+use Rattle.store_key.specs.Key.{key_of}
+use Rattle.store_key.specs.Url.{IsUrl}
+use Rattle.lock_word.specs.Cause.{cause_of}
+use Rattle.lock_word.specs.Words.{epoch_number, is_idle, is_readable, is_vacant, version_limit, version_of, word_number}
+use Rattle.lock_word.specs.declared.cause.Cause.{Cause}
+use Rattle.lock_word.specs.declared.cause.Cause.TheVariants.{Absent, Leaving, OtherKey, Writing}
+use Rattle.lock_word.specs.declared.epoch.Epoch.{Epoch}
+use Rattle.lock_word.specs.declared.word.Word.{Word}
+use Rattle.script_text.specs.declared.answer.Answer.{Answer}
+use Rattle.script_text.specs.declared.answer.Answer.TheVariants as answer
+use Rattle.script_text.specs.declared.request.Request.{Request}
+use Rattle.script_text.specs.declared.request.Request.TheVariants.{Get, More, OpenTab}
+use Rattle.core_model.specs.declared.moves.Side.TheVariants.{Key0, Key1, Offer}
+use Rattle.core_model.specs.declared.view.Item.{Item}
+use Rattle.core_model.specs.declared.view.Kind.{Kind}
+use Rattle.core_model.specs.declared.view.Kind.TheVariants.{Counted, Drew}
+use Rattle.core_model.specs.declared.view.Place.TheVariants.{Beside}
+use Rattle.core_model.specs.declared.view.Sight.TheVariants.{Named, Published, Stood}
+use Rattle.core_model.specs.declared.view.View.{View}
+use Rattle.core_model.specs.Anchors.{opening_counter}
+use Rattle.core_model.specs.Layout.{Setting, word_in}
+use Rattle.line_account.specs.Lines.{IsAt, Served, begun_by, opened_by, reading, url_at, url_in}
+
+-- What does not change during a run: the setting of the store, how many bytes of a content a slot takes, and the URL and the body of
+-- each offer. One below the slots is the entry of the file that begins at this slot, and another is that of a line.
+pub record Run (X : Type 0) : Type 0 where
+  pub setting : Setting X
+  pub room : ℕ
+  pub url : ℕ → List ℕ
+  pub body : ℕ → List ℕ
+
+-- a step of this worker, of this kind, found the number n
+pub record HasItem {X : Type 0} (v : View X) (kind : Kind) (n : ℕ) : Type 0 where
+  pub item : Item
+  pub among : Contains v.trail item
+  pub kind_is : item.kind ≡ kind
+  pub found_is : item.found ≡ n
+
+-- SPENT: the line looked at the counter and found n there, or drew in vain
+pub record IsSpent {X : Type 0} (v : View X) (s : Served) (n : ℕ) : Type 0 where
+  pub limit : version_limit ≤ n
+  pub found : ((s.drew ≡ None) × HasItem v Counted n) ⊎ ((s.drew ≡ Some (n + 1)) × HasItem v Drew n)
+
+-- BUSY.
+
+abbrev pub is_anchor_of : ℕ → ℕ → Option (List ℕ) → Bool
+is_anchor_of anchors a None = false
+is_anchor_of anchors a (Some url) = anchor_of (key_of url) anchors == a
+
+abbrev pub reads_at : ℕ → ℕ → Option Served → Bool
+reads_at anchors a None = false
+reads_at anchors a (Some s) = is_anchor_of anchors a (url_in s.line.request)
+
+-- how many of the worker's tabs read at the anchor a after these lines
+abbrev pub readers_at : (anchors : ℕ) → List Served → ℕ → ℕ
+readers_at anchors served a = count_by (λ t. reads_at anchors a (reading t served)) (range_with_len 0 7)
+
+-- somebody holds the anchor, whose word was found the same twice
+pub record IsHeld (looked other : Word) : Type 0 where
+  pub same : other ≡ looked
+  pub vacant : is_vacant (word_number looked) ≡ false
+  pub idle : is_idle (word_number looked) ≡ false
+
+-- nobody held the anchor, and then its word was found to be another one
+pub record IsOvertaken (looked other : Word) : Type 0 where
+  pub able : (is_vacant (word_number looked) ≡ true) ⊎ (is_idle (word_number looked) ≡ true)
+  pub differs : other ≢ looked
+
+pub record IsBusy {X : Type 0} (r : Run X) (v : View X) (earlier : List Served) (s : Served) (looked other : Word) : Type 0 where
+  pub cause : IsHeld looked other ⊎ IsOvertaken looked other
+  pub rises : epoch_number looked.epoch ≤ epoch_number other.epoch
+  pub met : (a : ℕ) → IsAt r.setting.anchors earlier s a → (readers_at r.setting.anchors earlier a < looked.readers) ⊎ (readers_at r.setting.anchors earlier a < other.readers) → Contains v.met a  -- the worker met more readers than its own
+
+-- LONGURL
+pub record IsLong {X : Type 0} (r : Run X) (s : Served) : Type 0 where
+  pub url : List ℕ
+  pub named : url_in s.line.request ≡ Some url
+  pub long : r.room < 32 + length url
+  pub drew : s.drew ≡ None
+
+-- LARGE: the body of this line, or of the one that began its tab's writing, needs more slots than an entry may have
+pub record IsLarge {X : Type 0} (r : Run X) (earlier : List Served) (s : Served) : Type 0 where
+  pub first : Served
+  pub begun_is : begun_by earlier s ≡ Some first
+  pub url : List ℕ
+  pub named : url_in first.line.request ≡ Some url
+  pub large : min 4096 r.setting.slots * r.room < 32 + length url + length (r.body (r.setting.slots + first.line.number))
+
+-- MISS and NONE.
+
+-- the answer refuses a look-up by this cause
+abbrev pub Refuses : Answer → Cause → Type 0
+Refuses (answer.Miss other) cause = other ≡ cause
+Refuses (answer.NoEntry other) cause = other ≡ cause
+Refuses _ cause = ⊥
+
+-- it is the cause at the epoch that it tells, for a key that is kept there, where that of the line's URL is wanted
+pub record IsCauseOf (s : Served) (epoch : Epoch) (cause : Cause) : Type 0 where
+  pub url : List ℕ
+  pub named : url_in s.line.request ≡ Some url
+  pub kept : List ℕ
+  pub judged : cause_of epoch kept (key_of url) ≡ Some cause
+
+-- the key that was read beside the anchor a, at this epoch
+pub record IsKeyRead {X : Type 0} (r : Run X) (v : View X) (a e : ℕ) (key : List ℕ) : Type 0 where
+  pub readable : is_readable e ≡ true
+  pub long : length key ≡ 16
+  pub bytes : (i : ℕ) → slice_index_or key i 0 < 256
+  pub front : Contains v.seen (Named a (version_of e) Key0 (front_half key))
+  pub back : Contains v.seen (Named a (version_of e) Key1 (back_half key))
+  pub old_front : version_of e ≤ opening_counter r.setting → front_half key ≡ word_in r.setting r.setting.words (Beside Key0 a)
+  pub old_back : version_of e ≤ opening_counter r.setting → back_half key ≡ word_in r.setting r.setting.words (Beside Key1 a)
+
+-- Entries that are read.
+
+-- what the worker knows of the entry that it opened at the anchor a, at the epoch e, under this URL: it has the URL's key, and an offer
+pub record IsEntryAt {X : Type 0} (r : Run X) (v : View X) (a e : ℕ) (url : List ℕ) : Type 0 where
+  pub readable : is_readable e ≡ true
+  pub seen : Contains v.seen (Stood a e)
+  pub front : Contains v.seen (Named a (version_of e) Key0 (front_half (key_of url)))
+  pub back : Contains v.seen (Named a (version_of e) Key1 (back_half (key_of url)))
+  pub offer : ℕ
+  pub offered : Contains v.seen (Named a (version_of e) Offer offer)
+  pub old : version_of e ≤ opening_counter r.setting → offer ≡ word_in r.setting r.setting.words (Beside Offer a)
+
+-- the answers to a line that opened an entry of this version, on a tab or to read it at once; not each tells the version
+abbrev pub OpenedAs : Answer → ℕ → Type 0
+OpenedAs (answer.Opened told) version = told ≡ version
+OpenedAs _ version = ⊥
+
+abbrev pub ReadAs : Answer → ℕ → Type 0
+ReadAs (answer.Hit told bytes) version = told ≡ version
+ReadAs (answer.Part epoch bytes) version = version_of (epoch_number epoch) ≡ version
+ReadAs (answer.Halted bytes) version = Unit {0}
+ReadAs (answer.ReadFault bytes) version = Unit {0}
+ReadAs answer.OtherUrl version = Unit {0}
+ReadAs _ version = ⊥
+
+abbrev pub ComesIn : Request → Answer → ℕ → Type 0
+ComesIn (OpenTab tab url) a version = OpenedAs a version
+ComesIn (Get url) a version = ReadAs a version
+ComesIn _ a version = ⊥
+
+-- the line opened an entry
+pub record HasOpened {X : Type 0} (r : Run X) (v : View X) (s : Served) : Type 0 where
+  pub url : List ℕ
+  pub named : url_in s.line.request ≡ Some url
+  pub entry : IsEntryAt r v (anchor_of (key_of url) r.setting.anchors) s.opened url
+  pub told : ComesIn s.line.request s.answer (version_of s.opened)
+
+-- HIT: the bytes are the whole body of the offer, and the URL is its URL
+pub record HasHit {X : Type 0} (r : Run X) (v : View X) (s : Served) (bytes : List ℕ) : Type 0 where
+  pub opened : HasOpened r v s
+  pub whole : bytes ≡ r.body opened.entry.offer
+  pub same : r.url opened.entry.offer ≡ opened.url
+
+-- OTHERURL: the entry that the line reads, or that its tab was opened on, has another URL with the same key
+pub record HasOther {X : Type 0} (r : Run X) (v : View X) (earlier : List Served) (s : Served) : Type 0 where
+  pub first : Served
+  pub opened_is : opened_by earlier s ≡ Some first
+  pub url : List ℕ
+  pub named : url_in first.line.request ≡ Some url
+  pub entry : IsEntryAt r v (anchor_of (key_of url) r.setting.anchors) first.opened url
+  pub good : IsUrl (r.url entry.offer)
+  pub same_key : key_of (r.url entry.offer) ≡ key_of url
+  pub differs : r.url entry.offer ≢ url

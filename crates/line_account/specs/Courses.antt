@@ -1,0 +1,64 @@
+-- The course of a worker: what each line adds to its account, and what the end does.
+use Rattle.std.specs.Prelude.{Bool, List, [], cond, false, ◌+◌, ◌<◌, ◌∷◌, ◌≡◌, ◌≤◌, ◌⊎◌, Contains, ℕ}
+use Rattle.core_model.specs.declared.view.Deed.{Deed}
+use Rattle.core_model.specs.declared.view.Item.{Item}
+use Rattle.core_model.specs.declared.view.Sight.{Sight}
+use Rattle.core_model.specs.declared.view.Sight.TheVariants.{Stood}
+use Rattle.core_model.specs.declared.view.View.{View}
+use Rattle.core_model.specs.Anchors.{opening_epoch}
+use Rattle.core_model.specs.Trails.{drawn, draws, seen_at}
+use Rattle.line_account.specs.Lines.{Served}
+use Rattle.line_account.specs.Deeds.{IsDeedOf, IsDeedOfEnd}
+use Rattle.line_account.specs.Answers.{Run}
+use Rattle.line_account.specs.Accounts.{Shows, Tells, drew_some, drew_version}
+
+-- with the view w a worker knows all that it knew with the view v
+pub record Keeps {X : Type 0} (v w : View X) : Type 0 where
+  pub pass : w.pass ≡ v.pass
+  pub seen : (x : Sight) → Contains v.seen x → Contains w.seen x
+  pub trail : (x : Item) → Contains v.trail x → Contains w.trail x
+  pub met : (a : ℕ) → Contains v.met a → Contains w.met a
+
+-- 1 where it is so
+abbrev pub one_if : Bool → ℕ
+one_if b = cond b 1 0
+
+-- What the line s adds, after these lines, where the worker had the view v before it and has w after it: it draws what it says, each new
+-- deed is its own, each epoch that it shows is not below what the worker had seen there, and it tells what it should.
+pub record Adds {X : Type 0} (r : Run X) (v : View X) (earlier : List Served) (s : Served) (w : View X) : Type 0 where
+  pub keeps : Keeps v w
+  pub drawn : (x : ℕ) → drawn x w.trail ≡ one_if (drew_version x s) + drawn x v.trail
+  pub draws : draws w.trail ≡ one_if (drew_some s) + draws v.trail
+  pub deeds : (d : Deed) → Contains w.deeds d → Contains v.deeds d ⊎ ((d.pass ≡ v.pass) × IsDeedOf r.setting w d earlier s)
+  pub fresh : (a e : ℕ) → Shows r.setting.anchors earlier s a e → seen_at a v.seen ≤ e
+  pub tells : Tells r w earlier s
+
+-- what the end adds, after all lines
+pub record Leaves {X : Type 0} (r : Run X) (v : View X) (served : List Served) (w : View X) : Type 0 where
+  pub keeps : Keeps v w
+  pub drawn : (x : ℕ) → drawn x w.trail ≡ drawn x v.trail
+  pub draws : draws w.trail ≡ draws v.trail
+  pub deeds : (d : Deed) → Contains w.deeds d → Contains v.deeds d ⊎ ((d.pass ≡ v.pass) × IsDeedOfEnd r.setting d served)
+
+-- a worker that served nothing yet: it drew and did nothing, and has seen the epochs of the opening
+pub record Begins {X : Type 0} (r : Run X) (v : View X) : Type 0 where
+  pub opening : (a : ℕ) → a < r.setting.anchors → Contains v.seen (Stood a (opening_epoch r.setting a))
+  pub drawn : (x : ℕ) → drawn x v.trail ≡ 0
+  pub draws : draws v.trail ≡ 0
+  pub deeds : v.deeds ≡ []
+
+-- a line that was served, with the worker's view before and after it
+pub record Stage (X : Type 0) : Type 0 where
+  pub before : View X
+  pub served : Served
+  pub after : View X
+
+abbrev pub lines_in : {X : Type 0} → List (Stage X) → List Served
+lines_in [] = []
+lines_in (s ∷ earlier) = s.served ∷ lines_in earlier
+
+-- A worker that began with one view served these lines, the newest first, each from the view that the line before it left, and came to
+-- another view. A mark that is set or met is a line like others; a worker that met one has also seen what its note tells.
+abbrev pub Course : {X : Type 0} → Run X → View X → List (Stage X) → View X → Type 0
+Course r start [] end = end ≡ start
+Course r start (s ∷ earlier) end = (end ≡ s.after) × Adds r s.before (lines_in earlier) s.served s.after × Course r start earlier s.before
