@@ -28,3 +28,4 @@ pub mod OtherLines
 pub mod Parted
 pub mod Standing
 pub mod PrivateLines
+pub mod Openings

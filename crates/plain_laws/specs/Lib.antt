@@ -6,3 +6,4 @@ pub mod Holding
 pub mod Fitting
 pub mod Renaming
 pub mod Private
+pub mod Opened

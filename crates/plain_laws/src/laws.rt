@@ -1,5 +1,5 @@
 // The laws.
-ghost use Rattle.std.specs.Prelude.{◌≡◌, ◌<◌, ◌≤◌, ℕ, List, length, Some};
+ghost use Rattle.std.specs.Prelude.{◌≡◌, ◌+◌, ◌<◌, ◌≤◌, ℕ, List, length, map, Some};
 ghost use Rattle.script_text.specs.declared.line.Line.{Line};
 ghost use Rattle.script_text.specs.declared.answer.Answer.{Answer};
 ghost use Rattle.plain_model.specs.declared.entry.Entry.{Entry};
@@ -7,7 +7,10 @@ ghost use Rattle.plain_model.specs.declared.store.Setting.{Setting};
 ghost use Rattle.plain_model.specs.declared.store.Plain.{Plain};
 ghost use Rattle.plain_model.specs.Store.{entry_at};
 ghost use Rattle.plain_model.specs.Serving.{answers, after, lines_for, left_by, get, fresh};
-ghost use Rattle.plain_model.specs.Opening.{opened};
+ghost use Rattle.slot_cell.specs.declared.header.TheConstants.{HEADER_SIZE};
+ghost use Rattle.rebuild_model.specs.Rebuilt.{IsRebuilt};
+ghost use Rattle.rebuild_model.specs.declared.rebuilt.Rebuilt.{Rebuilt};
+ghost use Rattle.plain_model.specs.Opening.{kept_of, opened, IsOpened};
 ghost use Rattle.plain_model.specs.declared.kept.Kept.{Kept};
 ghost use Rattle.plain_laws.specs.Offered.{HasOrigin};
 ghost use Rattle.plain_laws.specs.Begun.{begun, RiseAbove};
@@ -16,6 +19,7 @@ ghost use Rattle.plain_laws.specs.Holding.{HoldsItsSlots, slots_held};
 ghost use Rattle.plain_laws.specs.Fitting.{Fits, IsAtRest, RunsInRoom};
 ghost use Rattle.plain_laws.specs.Renaming.{CountsVersions};
 ghost use Rattle.plain_laws.specs.Private.{TabsApart, AnswersAlone};
+ghost use Rattle.plain_laws.specs.Opened.{FitsFile};
 
 /// A version is begun by one line: those that lines begin rise, and are above all that were given out
 /// before.
@@ -63,10 +67,20 @@ pub fn private_lines_are_answered_alone()
 {}
 
 /// A store that was never written, and one that is opened on entries of a file, are at rest and have a
-/// place for each anchor. Where the entries hold no more slots than there are, the store holds its slots.
+/// place for each anchor. One that is opened on a file holds no more slots than the file has, and no version
+/// stands in it that was not given out: what a rebuild keeps of a file fits it. So does each list of entries
+/// that fit.
 pub fn stores_begin_at_rest()
-    ensures fresh { (s : Setting) → IsAtRest (fresh s.anchors) × HoldsItsSlots s (fresh s.anchors) × (length (fresh s.anchors).places ≡ s.anchors) }
+    ensures fresh { (s : Setting)
+        → IsAtRest (fresh s.anchors) × HoldsItsSlots s (fresh s.anchors) × (length (fresh s.anchors).places ≡ s.anchors) × CountsVersions (fresh s.anchors) }
     ensures opened { (s : Setting) (kept : List Kept) (greatest : ℕ)
         → IsAtRest (opened s.anchors kept greatest) × (length (opened s.anchors kept greatest).places ≡ s.anchors)
         × (slots_held s (opened s.anchors kept greatest) ≤ s.slots → HoldsItsSlots s (opened s.anchors kept greatest)) }
+    ensures fits { (s : Setting) (kept : List Kept) (greatest : ℕ) → FitsFile s kept greatest
+        → HoldsItsSlots s (opened s.anchors kept greatest) × CountsVersions (opened s.anchors kept greatest) }
+    ensures kept { (s : Setting) (images : List (List ℕ)) (rebuilt : Rebuilt) (is : IsRebuilt (s.room + HEADER_SIZE) images s.anchors rebuilt)
+        → s.slots ≡ length images → FitsFile s (map (kept_of images) is.entries) rebuilt.greatest }
+    ensures file { (s : Setting) (images : List (List ℕ)) (p : Plain)
+        → s.slots ≡ length images → IsOpened (s.room + HEADER_SIZE) images s.anchors p
+        → IsAtRest p × HoldsItsSlots s p × (length p.places ≡ s.anchors) × CountsVersions p }
 {}
