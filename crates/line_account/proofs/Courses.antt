@@ -46,7 +46,7 @@ module _ {X : Type 0} (r : Run X) (v w : View X) (h : Keeps v w) where
   item_later kind n i = record { item = i.item; among = h.trail i.item i.among; kind_is = i.kind_is; found_is = i.found_is }
 
   spent_later : (s : Served) (n : ℕ) → IsSpent v s n → IsSpent w s n
-  spent_later s n p = record { limit = p.limit; found = later p.found }
+  spent_later s n p = record { offers = p.offers; limit = p.limit; found = later p.found }
     where
       later : ((s.drew ≡ Rattle.std.specs.Prelude.None) × HasItem v Counted n) ⊎ ((s.drew ≡ Some (n + 1)) × HasItem v Drew n)
           → ((s.drew ≡ Rattle.std.specs.Prelude.None) × HasItem w Counted n) ⊎ ((s.drew ≡ Some (n + 1)) × HasItem w Drew n)
@@ -85,6 +85,7 @@ module _ {X : Type 0} (r : Run X) (v w : View X) (h : Keeps v w) where
   key_later : (a e : ℕ) (key : List ℕ) → IsKeyRead r v a e key → IsKeyRead r w a e key
   key_later a e key i = record {
     readable = i.readable;
+    seen = h.seen _ i.seen;
     long = i.long;
     bytes = i.bytes;
     front = h.seen _ i.front;

@@ -16,11 +16,11 @@ use Rattle.core_model.specs.Versions.{drawn_by, draws_by}
 use Rattle.core_model.proofs.Lists.{le_sum_at, two_le_sum}
 use Rattle.core_model.proofs.StepsKeepTabs.{deeds_have_tabs}
 use Rattle.line_account.specs.Lines.{LineOf, Served, offers}
-use Rattle.line_account.specs.Deeds.{IsDeedOf, IsDeedOfEnd}
+use Rattle.line_account.specs.Deeds.{HasLine, IsDeedOf, IsDeedOfEnd}
 use Rattle.line_account.specs.Answers.{Run}
 use Rattle.line_account.specs.Accounts.{Shows, Tells, drew_some, drew_version, has_drawn, is_drawn}
 use Rattle.line_account.specs.Closing.{Closed, IsSameLine, LineIn, ShownIn, Worker, offered, offered_by}
-use Rattle.line_account.proofs.Rows.{left_was, rest, seam_at, split_at, sum_none, sum_same, sum_within, sums, taken_or_left}
+use Rattle.line_account.proofs.Rows.{left_was, rest, seam_at, split_at, sum_below, sum_none, sum_same, sum_within, sums, taken_or_left}
 
 abbrev one_if : Bool → ℕ
 one_if b = cond b 1 0
@@ -76,32 +76,68 @@ module _ {X : Type 0} (r : Run X) (crew : List (Worker X)) (c : Closed r crew) w
   inside a e (inl h) = h.0
   inside a e (inr h) = c.sound.anchors.seen.inside h.0 h.1 h.2 (Stood a e) h.3
 
-  -- a deed has its line, or belongs to the end of its worker
+  -- a deed of which P holds is that of a worker, and has its line there
+  pub record DeedIn (P : Deed → Type 0) : Type 0 where
+    pub j : ℕ
+    pub worker : Worker X
+    pub at : get_elem? crew j ≡ some worker
+    pub deed : Deed
+    pub so : P deed
+    pub own : deed.pass ≡ worker.view.pass
+    pub line : HasLine r.setting worker.view deed worker.served true
+
+  pub deed_in : (P : Deed → Type 0) → IsDone c.state P → DeedIn P
+  deed_in P done =
+      let w = has_worker done.i done.view done.at (deeds_have_tabs r.setting c.state done.i done.view done.deed c.sound.anchors.shaped done.at done.done) in
+      let own : Contains w.1.view.deeds done.deed = subst (λ (v : View X). Contains v.deeds done.deed) (sym w.3) done.done in
+      let a = (c.accounts w.0 w.1 w.2).deeds done.deed own in
+      record { j = w.0; worker = w.1; at = w.2; deed = done.deed; so = done.so; own = a.0; line = a.1 }
+
+  -- a line of a worker of which Q holds, given its view
+  pub record ByWorker (Q : View X → List Served → Served → Type 0) : Type 0 where
+    pub j : ℕ
+    pub worker : Worker X
+    pub at : get_elem? crew j ≡ some worker
+    pub line_of : LineOf worker.served (Q worker.view)
+
   abbrev pub AtEnd : (List Served → Type 0) → Type 0
   AtEnd R = (j : ℕ) × (w : Worker X) × (get_elem? crew j ≡ some w) × R w.served
 
-  pub by_cause : (P : Deed → Type 0) (Q : List Served → Served → Type 0) (R : List Served → Type 0)
-      → ((v : View X) (d : Deed) (earlier : List Served) (s : Served) → P d → IsDeedOf r.setting v d earlier s → Q earlier s)
+  -- a deed has its line, or belongs to the end of its worker
+  pub by_view : (P : Deed → Type 0) (Q : View X → List Served → Served → Type 0) (R : List Served → Type 0)
+      → ((v : View X) (d : Deed) (earlier : List Served) (s : Served) → P d → d.pass ≡ v.pass → IsDeedOf r.setting v d earlier s → Q v earlier s)
       → ((d : Deed) (served : List Served) → P d → IsDeedOfEnd r.setting d served → R served)
-      → IsDone c.state P → LineIn crew Q ⊎ AtEnd R
-  by_cause P Q R of_line of_end done =
-      let w = has_worker done.i done.view done.at (deeds_have_tabs r.setting c.state done.i done.view done.deed c.sound.anchors.shaped done.at done.done) in
-      let own : Contains w.1.view.deeds done.deed = subst (λ (v : View X). Contains v.deeds done.deed) (sym w.3) done.done in
-      ⊎_elim
-      (λ (l : LineOf w.1.served (IsDeedOf r.setting w.1.view done.deed)). inl (record {
-        j = w.0;
-        worker = w.1;
-        at = w.2;
+      → IsDone c.state P → ByWorker Q ⊎ AtEnd R
+  by_view P Q R of_line of_end done = let d = deed_in P done in ⊎_elim
+      (λ (l : LineOf d.worker.served (IsDeedOf r.setting d.worker.view d.deed)). inl (record {
+        j = d.j;
+        worker = d.worker;
+        at = d.at;
         line_of = record {
           later = l.later;
           line = l.line;
           earlier = l.earlier;
           split = l.split;
-          so = of_line w.1.view done.deed l.earlier l.line done.so l.so;
+          so = of_line d.worker.view d.deed l.earlier l.line d.so d.own l.so;
         };
       }))
-      (λ (l : (true ≡ true) × IsDeedOfEnd r.setting done.deed w.1.served). inr (w.0, w.1, w.2, of_end done.deed w.1.served done.so l.1))
-      ((c.accounts w.0 w.1 w.2).deeds done.deed own).1
+      (λ (l : (true ≡ true) × IsDeedOfEnd r.setting d.deed d.worker.served). inr (d.j, d.worker, d.at, of_end d.deed d.worker.served d.so l.1))
+      d.line
+
+  pub by_worker : (P : Deed → Type 0) (Q : View X → List Served → Served → Type 0)
+      → ((v : View X) (d : Deed) (earlier : List Served) (s : Served) → P d → d.pass ≡ v.pass → IsDeedOf r.setting v d earlier s → Q v earlier s)
+      → ((d : Deed) (served : List Served) → P d → IsDeedOfEnd r.setting d served → ⊥)
+      → IsDone c.state P → ByWorker Q
+  by_worker P Q of_line of_end done = ⊎_elim (λ (l : ByWorker Q). l) (λ (l : AtEnd (λ served. ⊥)). absurd l.3) (by_view P Q (λ served. ⊥) of_line of_end done)
+
+  pub by_cause : (P : Deed → Type 0) (Q : List Served → Served → Type 0) (R : List Served → Type 0)
+      → ((v : View X) (d : Deed) (earlier : List Served) (s : Served) → P d → IsDeedOf r.setting v d earlier s → Q earlier s)
+      → ((d : Deed) (served : List Served) → P d → IsDeedOfEnd r.setting d served → R served)
+      → IsDone c.state P → LineIn crew Q ⊎ AtEnd R
+  by_cause P Q R of_line of_end done = ⊎_elim
+      (λ (l : ByWorker (λ v. Q)). inl (record { j = l.j; worker = l.worker; at = l.at; line_of = l.line_of }))
+      (λ (l : AtEnd R). inr l)
+      (by_view P (λ v. Q) R (λ v d earlier s p own o. of_line v d earlier s p o) of_end done)
 
   pub by_line : (P : Deed → Type 0) (Q : List Served → Served → Type 0)
       → ((v : View X) (d : Deed) (earlier : List Served) (s : Served) → P d → IsDeedOf r.setting v d earlier s → Q earlier s)
@@ -219,4 +255,28 @@ module _ {X : Type 0} (r : Run X) (crew : List (Worker X)) (c : Closed r crew) w
       let n = c.sound.anchors.drawn.counted in
       let s = counted_by_workers draws_by refl (λ u. refl) in
       let o = offers_suffice in
+      omega arith
+
+  -- a line that offers a body and drew no version leaves one version more
+  pub offers_more : (P : List Served → Served → Type 0) (p : LineIn crew P) → p.line_of.line.drew ≡ None → offers p.line_of.line.line.request ≡ true
+      → sum_by (λ (w : Worker X). draws_by w.view) crew < offered crew
+  offers_more P p none offers_body = sum_below (λ (w : Worker X). draws_by w.view) offered_by crew p.j p.worker p.at (λ j w at.
+      let a = (c.accounts j w at).draws in
+      let k = sum_within (λ (s : Served). one_if (drew_some s)) (λ (s : Served). one_if (offers s.line.request)) w.served (each j w at) in
+      omega arith)
+      (let a = (c.accounts p.j p.worker p.at).draws in
+      let k = sum_below (λ (s : Served). one_if (drew_some s)) (λ (s : Served). one_if (offers s.line.request)) p.worker.served (length p.line_of.later) p.line_of.line
+      (seam_at p.worker.served p.line_of.later p.line_of.line p.line_of.earlier p.line_of.split) (each p.j p.worker p.at)
+      (let z : one_if (drew_some p.line_of.line) ≡ 0 = ap one_if (ap has_drawn none) in let y : one_if (offers p.line_of.line.line.request) ≡ 1 = ap one_if offers_body in omega arith) in
+      omega arith)
+    where
+      each : (j : ℕ) (w : Worker X) → get_elem? crew j ≡ some w → (i : ℕ) (s : Served) → get_elem? w.served i ≡ some s → one_if (drew_some s) ≤ one_if (offers s.line.request)
+      each j w at i s h = let split = split_at w.served i s h in draws_offer w.view split.back s ((c.accounts j w at).lines split.front split.back s split.split)
+
+  pub counter_below : (P : List Served → Served → Type 0) (p : LineIn crew P) → p.line_of.line.drew ≡ None → offers p.line_of.line.line.request ≡ true
+      → counter r.setting c.state < opening_counter r.setting + offered crew
+  counter_below P p none offers_body =
+      let n = c.sound.anchors.drawn.counted in
+      let s = counted_by_workers draws_by refl (λ u. refl) in
+      let o = offers_more P p none offers_body in
       omega arith

@@ -2,3 +2,5 @@ pub mod Rows
 pub mod Gathered
 pub mod Versions
 pub mod Courses
+pub mod Names
+pub mod Printing

@@ -1,5 +1,5 @@
 -- Items of one list that stand, each at a place of its own, in another.
-use Rattle.std.proofs.Common.{◌≡◌, ◌≢◌, ◌⊎◌, inl, inr, ⊎_elim, ℕ, ◌+◌, ◌*◌, ◌≤◌, zero, suc, List, [], ◌∷◌, ◌++◌, length, set, sym, refl, ap, ◌∙◌, arith, sum_by}
+use Rattle.std.proofs.Common.{◌≡◌, ◌≢◌, ◌⊎◌, inl, inr, ⊎_elim, ℕ, ◌+◌, ◌<◌, ◌*◌, ◌≤◌, zero, suc, List, [], ◌∷◌, ◌++◌, length, set, sym, refl, ap, ◌∙◌, arith, sum_by}
 use mathlib.Core.Option.{some, some-injective, some-ne-none}
 use mathlib.Core.Logic.{dite}
 use native.Mathlib.Decide.{ℕ_discrete}
@@ -29,6 +29,24 @@ split_at (z ∷ zs) (suc i) x e = let h = split_at zs i x e in record { front = 
 pub sum_within : {X : Type 0} → (f g : X → ℕ) (xs : List X) → ((i : ℕ) (x : X) → get_elem? xs i ≡ some x → f x ≤ g x) → sum_by f xs ≤ sum_by g xs
 sum_within f g [] h = omega arith
 sum_within f g (x ∷ xs) h = let a = sum_by-cons f x xs in let b = sum_by-cons g x xs in let r = sum_within f g xs (λ i y e. h (suc i) y e) in let e = h 0 x refl in omega arith
+
+-- and less in all, where one is less
+pub sum_below : {X : Type 0} → (f g : X → ℕ) (xs : List X) (j : ℕ) (y : X) → get_elem? xs j ≡ some y → ((i : ℕ) (x : X) → get_elem? xs i ≡ some x → f x ≤ g x) → f y < g y → sum_by f xs < sum_by g xs
+sum_below f g [] j y e h lt = absurd (some-ne-none y (sym e))
+sum_below f g (x ∷ xs) zero y e h lt =
+    let a = sum_by-cons f x xs in
+    let b = sum_by-cons g x xs in
+    let r = sum_within f g xs (λ i z q. h (suc i) z q) in
+    let is = some-injective x y e in
+    let m = ap f is in
+    let n = ap g is in
+    omega arith
+sum_below f g (x ∷ xs) (suc j) y e h lt =
+    let a = sum_by-cons f x xs in
+    let b = sum_by-cons g x xs in
+    let r = sum_below f g xs j y e (λ i z q. h (suc i) z q) lt in
+    let l = h 0 x refl in
+    omega arith
 
 pub sum_same : {X : Type 0} → (f : X → ℕ) (n : ℕ) (xs : List X) → ((i : ℕ) (x : X) → get_elem? xs i ≡ some x → f x ≡ n) → sum_by f xs ≡ n * length xs
 sum_same f n [] h = omega arith

@@ -40,7 +40,7 @@ module _ {X : Type 0} (r : Run X) (crew : List (Worker X)) (c : Closed r crew) w
 
   -- Epochs that lines show.
 
-  taken_by_line : (a x : ℕ) → IsDone c.state (TookVersion a x) → BegunIn r crew a x
+  pub taken_by_line : (a x : ℕ) → IsDone c.state (TookVersion a x) → BegunIn r crew a x
   taken_by_line a x done = by_line r crew c (TookVersion a x) (λ earlier s. Begins r.setting.anchors s a x)
       (λ v d earlier s p h. subst (λ (y : ℕ). Begins r.setting.anchors s a y) p.2 (subst (λ (b : ℕ). Begins r.setting.anchors s b (version_of d.epoch)) p.1 (h.took p.0 p.3)))
       (λ d served p h. let z = (h.changed p.0).0 in let y = p.3 in omega arith)

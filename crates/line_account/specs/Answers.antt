@@ -23,7 +23,7 @@ use Rattle.core_model.specs.declared.view.Sight.TheVariants.{Named, Published, S
 use Rattle.core_model.specs.declared.view.View.{View}
 use Rattle.core_model.specs.Anchors.{opening_counter}
 use Rattle.core_model.specs.Layout.{Setting, word_in}
-use Rattle.line_account.specs.Lines.{IsAt, Served, begun_by, opened_by, reading, url_at, url_in}
+use Rattle.line_account.specs.Lines.{IsAt, Served, begun_by, offers, opened_by, reading, url_at, url_in}
 
 -- What does not change during a run: the setting of the store, how many bytes of a content a slot takes, and the URL and the body of
 -- each offer. One below the slots is the entry of the file that begins at this slot, and another is that of a line.
@@ -42,6 +42,7 @@ pub record HasItem {X : Type 0} (v : View X) (kind : Kind) (n : ℕ) : Type 0 wh
 
 -- SPENT: the line looked at the counter and found n there, or drew in vain
 pub record IsSpent {X : Type 0} (v : View X) (s : Served) (n : ℕ) : Type 0 where
+  pub offers : offers s.line.request ≡ true
   pub limit : version_limit ≤ n
   pub found : ((s.drew ≡ None) × HasItem v Counted n) ⊎ ((s.drew ≡ Some (n + 1)) × HasItem v Drew n)
 
@@ -108,6 +109,7 @@ pub record IsCauseOf (s : Served) (epoch : Epoch) (cause : Cause) : Type 0 where
 -- the key that was read beside the anchor a, at this epoch
 pub record IsKeyRead {X : Type 0} (r : Run X) (v : View X) (a e : ℕ) (key : List ℕ) : Type 0 where
   pub readable : is_readable e ≡ true
+  pub seen : Contains v.seen (Stood a e)
   pub long : length key ≡ 16
   pub bytes : (i : ℕ) → slice_index_or key i 0 < 256
   pub front : Contains v.seen (Named a (version_of e) Key0 (front_half key))

@@ -4,3 +4,4 @@ pub mod Answers
 pub mod Accounts
 pub mod Closing
 pub mod Courses
+pub mod Printed

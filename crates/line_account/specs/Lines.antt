@@ -129,17 +129,17 @@ abbrev pub IsAt : (anchors : ℕ) → List Served → Served → ℕ → Type 0
 IsAt anchors earlier s a = IsAnchorOf anchors (url_at earlier s.line.request) a
 
 -- the line that began what a line writes: it does so itself, or its tab's first line did
+abbrev pub begun_of : List Served → Served → Request → Option Served
+begun_of earlier s (Put url body) = Some s
+begun_of earlier s (Save url body) = Some s
+begun_of earlier s (Begin tab url body) = Some s
+begun_of earlier s (Add tab count) = writing tab earlier
+begun_of earlier s (End tab) = writing tab earlier
+begun_of earlier s (DropTab tab) = writing tab earlier
+begun_of earlier s _ = None
+
 abbrev pub begun_by : List Served → Served → Option Served
-begun_by earlier s = of s.line.request
-  where
-    of : Request → Option Served
-    of (Put url body) = Some s
-    of (Save url body) = Some s
-    of (Begin tab url body) = Some s
-    of (Add tab count) = writing tab earlier
-    of (End tab) = writing tab earlier
-    of (DropTab tab) = writing tab earlier
-    of _ = None
+begun_by earlier s = begun_of earlier s s.line.request
 
 -- this is the line that began a writing, with the version x, at the anchor a
 pub record IsWritingOf (anchors : ℕ) (begun : Option Served) (a x : ℕ) : Type 0 where
@@ -157,15 +157,15 @@ abbrev pub gives_up : Answer → Bool
 gives_up a = is_refused a || is_dropped a
 
 -- the line that opened what a line reads: it does so itself, or its tab's first line did
+abbrev pub opened_of : List Served → Served → Request → Option Served
+opened_of earlier s (Get url) = Some s
+opened_of earlier s (OpenTab tab url) = Some s
+opened_of earlier s (More tab) = reading tab earlier
+opened_of earlier s (CloseTab tab) = reading tab earlier
+opened_of earlier s _ = None
+
 abbrev pub opened_by : List Served → Served → Option Served
-opened_by earlier s = of s.line.request
-  where
-    of : Request → Option Served
-    of (Get url) = Some s
-    of (OpenTab tab url) = Some s
-    of (More tab) = reading tab earlier
-    of (CloseTab tab) = reading tab earlier
-    of _ = None
+opened_by earlier s = opened_of earlier s s.line.request
 
 -- the tab of a request is as the request needs it
 abbrev pub Fits : List Served → Request → Type 0

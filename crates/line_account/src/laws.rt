@@ -1,14 +1,21 @@
 //! The laws of printed lines. These functions do nothing: the proof of a function that calls one may use
 //! what it ensures.
-ghost use Rattle.std.specs.Prelude.{◌≡◌, ◌≢◌, ◌+◌, ◌<◌, ◌≤◌, ◌∷◌, ℕ, List, [], true, false};
-ghost use Rattle.lock_word.specs.Words.{version_of, stage_of, doom_of};
+ghost use Rattle.std.specs.Prelude.{◌≡◌, ◌≢◌, ◌+◌, ◌<◌, ◌≤◌, ◌↔◌, ◌∷◌, ℕ, List, [], true, false};
+ghost use Rattle.lock_word.specs.Words.{version_of, stage_of, doom_of, epoch_number, version_limit};
+ghost use Rattle.lock_word.specs.declared.cause.Cause.{Cause};
+ghost use Rattle.lock_word.specs.declared.epoch.Epoch.{Epoch};
+ghost use Rattle.lock_word.specs.declared.word.Word.{Word};
+ghost use Rattle.store_key.specs.Key.{key_of};
+ghost use Rattle.script_text.specs.declared.answer.Answer.{Answer};
+ghost use Rattle.script_text.specs.declared.body.Body.{Body};
 ghost use Rattle.core_model.specs.Anchors.{opening_counter, opening_epoch};
-ghost use Rattle.line_account.specs.Lines.{Served};
+ghost use Rattle.line_account.specs.Lines.{Fits, Offers, Served};
 ghost use Rattle.line_account.specs.Deeds.{Begins};
-ghost use Rattle.line_account.specs.Answers.{Run};
+ghost use Rattle.line_account.specs.Answers.{IsCauseOf, IsLong, Refuses, Run};
 ghost use Rattle.core_model.specs.declared.view.View.{View};
-ghost use Rattle.line_account.specs.Accounts.{Account};
+ghost use Rattle.line_account.specs.Accounts.{Account, epoch_in};
 ghost use Rattle.line_account.specs.Courses.{Adds, Begins as BeginsWork, Course, Leaves, Stage, lines_in};
+ghost use Rattle.line_account.specs.Printed.{AnotherComes, HasBusyWords, HasOtherUrl, HitIn, IsBodyOfLine, IsKeyOfLine, IsOldBody, IsOldUrl, KeyIn, NeedsTooMany, PrintsLarge, PrintsOther, PrintsReaders};
 ghost use Rattle.line_account.specs.Closing.{Closed, Worker, BegunIn, ShownIn, StoredIn, HaltedIn, PurgedIn, IsSameLine, LineIn, PrintsHalted, PrintsDoomed, SomeHalted, offered};
 
 /// Each version is begun by one line, and at one anchor.
@@ -63,4 +70,55 @@ pub fn accounts_grow<X>()
     ensures line { (r : Run X) (v w : View X) (served : List Served) (s : Served) → Account r v served false → Adds r v served s w → Account r w (s ∷ served) false }
     ensures end { (r : Run X) (v w : View X) (served : List Served) → Account r v served false → Leaves r v served w → Account r w served true }
     ensures course { (r : Run X) (start end : View X) (stages : List (Stage X)) → BeginsWork r start → Course r start stages end → Account r end (lines_in stages) false }
+{}
+
+/// A key that a line prints is that of one URL: of the entry that the anchor had at the opening, where its
+/// version is of then, or of the line that began its version there.
+pub fn keys_are_of_lines<X>()
+    ensures old { (r : Run X) (crew : List (Worker X)) (a : ℕ) (epoch : Epoch) (key url : List ℕ) → Closed r crew → KeyIn r crew a epoch key
+        → version_of (epoch_number epoch) ≤ opening_counter r.setting → IsOldUrl r a url → key ≡ key_of url }
+    ensures new { (r : Run X) (crew : List (Worker X)) (a : ℕ) (epoch : Epoch) (key : List ℕ) → Closed r crew → KeyIn r crew a epoch key
+        → opening_counter r.setting < version_of (epoch_number epoch) → IsKeyOfLine r crew a (version_of (epoch_number epoch)) key }
+{}
+
+/// The bytes of a hit are the whole body of the entry that the anchor had at the opening, where the version
+/// is of then, or of the body that the line which began the version offers; and its URL is that one's.
+pub fn hits_are_of_lines<X>()
+    ensures old { (r : Run X) (crew : List (Worker X)) (a x : ℕ) (url bytes : List ℕ) → Closed r crew → HitIn r crew a x url bytes
+        → x ≤ opening_counter r.setting → IsOldBody r a url bytes }
+    ensures new { (r : Run X) (crew : List (Worker X)) (a x : ℕ) (url bytes : List ℕ) → Closed r crew → HitIn r crew a x url bytes
+        → opening_counter r.setting < x → IsBodyOfLine r crew a x url bytes }
+{}
+
+/// OTHERURL comes only where another URL has the key of the URL that is read: that of the entry which the
+/// anchor had at the opening, or of a line that began a version there.
+pub fn other_urls_have_the_key<X>()
+    ensures { (r : Run X) (crew : List (Worker X)) (url : List ℕ) → Closed r crew → LineIn crew (λ earlier s. PrintsOther earlier s url) → HasOtherUrl r crew url }
+{}
+
+/// A word of BUSY has more readers than the worker's own tabs that read there only where another worker
+/// opens, gets or purges a URL of the anchor.
+pub fn more_readers_come_from_others<X>()
+    ensures { (r : Run X) (crew : List (Worker X)) (a : ℕ) → Closed r crew → (p : LineIn crew (λ earlier s. PrintsReaders r.setting.anchors earlier s a)) → AnotherComes r crew p.j a }
+{}
+
+/// The number of SPENT is at least the greatest version that may be drawn, and at most the counter of the
+/// opening and the number of the other lines that offer a body.
+pub fn spent_numbers_have_bounds<X>()
+    ensures { (r : Run X) (crew : List (Worker X)) (n : ℕ) → Closed r crew → LineIn crew (λ earlier s. s.answer ≡ Answer.Spent n)
+        → (version_limit ≤ n) × (n < opening_counter r.setting + offered crew) }
+{}
+
+/// Refusals have their causes. That of MISS and NONE is the one of the epoch and the key that it tells, for
+/// the URL of the line. LARGE comes only where the body of the line, or of the one that began its tab's
+/// writing, needs more slots than an entry may have. TAB comes exactly where the tab is not as the request
+/// needs it. The epoch of PART is at APPENDING.
+pub fn refusals_have_causes<X>()
+    ensures cause { (r : Run X) (crew : List (Worker X)) (cause : Cause) → Closed r crew → (p : LineIn crew (λ earlier s. Refuses s.answer cause)) → IsCauseOf p.line_of.line (epoch_in cause) cause }
+    ensures busy { (r : Run X) (crew : List (Worker X)) (looked other : Word) → Closed r crew → LineIn crew (λ earlier s. s.answer ≡ Answer.Busy looked other) → HasBusyWords looked other }
+    ensures large { (r : Run X) (crew : List (Worker X)) (first : Served) (url : List ℕ) (body : Body) → Closed r crew
+        → LineIn crew (λ earlier s. PrintsLarge earlier s first) → Offers first.line.request url body → NeedsTooMany r url body }
+    ensures long { (r : Run X) (crew : List (Worker X)) → Closed r crew → (p : LineIn crew (λ earlier s. s.answer ≡ Answer.LongUrl)) → IsLong r p.line_of.line }
+    ensures tab { (r : Run X) (crew : List (Worker X)) → Closed r crew → (p : LineIn crew (λ earlier s. Unit {0})) → ((p.line_of.line.answer ≡ Answer.Tab) ↔ ¬ Fits p.line_of.earlier p.line_of.line.line.request) }
+    ensures part { (r : Run X) (crew : List (Worker X)) (epoch : Epoch) (bytes : List ℕ) → Closed r crew → LineIn crew (λ earlier s. s.answer ≡ Answer.Part epoch bytes) → stage_of (epoch_number epoch) ≡ 2 }
 {}

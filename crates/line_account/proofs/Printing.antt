@@ -1,0 +1,257 @@
+-- The laws on keys, bodies, readers and numbers.
+use Rattle.std.proofs.Common.{◌≡◌, ◌≢◌, ◌⊎◌, inl, inr, ⊎_elim, ℕ, ◌+◌, ◌*◌, ◌<◌, ◌≤◌, ◌↔◌, zero, suc, List, [], ◌∷◌, ◌++◌, length, take, drop, get_or, min, sym, refl, ap, ◌∙◌, subst, arith, true, Contains, append_assoc, length-drop}
+use Rattle.std.specs.Prelude.{None, Some}
+use Rattle.std.specs.Int.{from_le_bytes, to_le_bytes, w64}
+use Rattle.std.proofs.Math.Decide.{dec_le}
+use Rattle.std.proofs.lemmas.List.{get_or-drop, length-take-le, take-append-drop}
+use Rattle.std.proofs.lemmas.Nat.{le_bytes_8}
+use mathlib.Core.Option.{some, some-injective}
+use mathlib.Core.Logic.{dite}
+use native.Mathlib.Decide.{ℕ_discrete}
+use lib.ListN.{get_elem?}
+use Rattle.store_key.specs.Anchor.{anchor_of, back_half, front_half}
+use Rattle.store_key.specs.Key.{key_of}
+use Rattle.store_key.proofs.KeyFacts.{key_is_bytes, key_is_long}
+use Rattle.lock_word.specs.Words.{epoch_number, stage_of, version_limit, version_of}
+use Rattle.lock_word.specs.declared.cause.Cause.{Cause}
+use Rattle.lock_word.specs.declared.epoch.Epoch.{Epoch}
+use Rattle.lock_word.specs.declared.word.Word.{Word}
+use Rattle.plain_model.specs.Serving.{bytes_of}
+use Rattle.script_text.specs.declared.answer.Answer.{Answer}
+use Rattle.script_text.specs.declared.answer.Answer.TheVariants as answer
+use Rattle.script_text.specs.declared.body.Body.{Body}
+use Rattle.script_text.specs.declared.request.Request.{Request}
+use Rattle.script_text.specs.declared.request.Request.TheVariants.{Get}
+use Rattle.core_model.specs.declared.moves.Side.TheVariants.{Key0, Key1, Offer}
+use Rattle.core_model.specs.declared.view.Kind.TheVariants.{Counted, Drew, Entered}
+use Rattle.core_model.specs.declared.view.Sight.TheVariants.{Stood}
+use Rattle.core_model.specs.declared.view.View.{View}
+use Rattle.core_model.specs.Anchors.{opening_counter}
+use Rattle.core_model.specs.Deeds.{EnteredByAnother, IsEpochAt}
+use Rattle.core_model.specs.State.{counter}
+use Rattle.line_account.specs.Lines.{Fits, LineOf, Offers, Served, begun_by, opened_by, url_in}
+use Rattle.line_account.specs.Deeds.{Begins, ComesTo, IsDeedOf, IsDeedOfEnd}
+use Rattle.line_account.specs.Answers.{ComesIn, HasItem, HasOther, IsCauseOf, IsEntryAt, IsLong, IsSpent, ReadAs, Refuses, Run}
+use Rattle.line_account.specs.Accounts.{epoch_in}
+use Rattle.line_account.specs.Closing.{BegunIn, Closed, LineIn, Worker, offered}
+use Rattle.line_account.specs.Printed.{AnotherComes, HasBusyWords, HasOtherUrl, HitIn, IsBodyOfLine, IsKeyOfLine, IsOldBody, IsOldUrl, IsOtherUrl, KeyIn, NeedsTooMany, PrintsHit, PrintsKey, PrintsLarge, PrintsOther, PrintsReaders, old_offer}
+use Rattle.line_account.proofs.Rows.{Split}
+use Rattle.line_account.proofs.Gathered.{DeedIn, counter_below, counter_is, deed_in, tells_at}
+use Rattle.line_account.proofs.Names.{HasNames, HasOffer, begun_among, names_of, offer_of, offered_url}
+
+-- Keys are the same where their halves are.
+
+take_small : (n : ℕ) (bytes : List ℕ) → ((i : ℕ) → get_or bytes i 0 < 256) → (i : ℕ) → get_or (take n bytes) i 0 < 256
+take_small zero bytes h i = omega arith
+take_small (suc n) [] h i = omega arith
+take_small (suc n) (x ∷ xs) h zero = h 0
+take_small (suc n) (x ∷ xs) h (suc i) = take_small n xs (λ j. h (suc j)) i
+
+drop_small : (n : ℕ) (bytes : List ℕ) → ((i : ℕ) → get_or bytes i 0 < 256) → (i : ℕ) → get_or (drop n bytes) i 0 < 256
+drop_small n bytes h i = subst (λ m. m < 256) (sym (get_or-drop n bytes i 0)) (h (n + i))
+
+half_again : (part : List ℕ) → length part ≡ 8 → ((i : ℕ) → get_or part i 0 < 256) → to_le_bytes w64 (from_le_bytes w64 part) ≡ part
+half_again part eight small = le_bytes_8 part (from_le_bytes w64 part) eight small refl
+
+same_key : (key other : List ℕ) → length key ≡ 16 → length other ≡ 16 → ((i : ℕ) → get_or key i 0 < 256) → ((i : ℕ) → get_or other i 0 < 256)
+    → front_half key ≡ front_half other → back_half key ≡ back_half other → key ≡ other
+same_key key other long long2 small small2 front back =
+    let f : take 8 key ≡ take 8 other = sym (half_again (take 8 key) (length-take-le 8 key (omega arith)) (take_small 8 key small)) ∙ ap (to_le_bytes w64) front ∙ half_again (take 8 other) (length-take-le 8 other (omega arith)) (take_small 8 other small2) in
+    let a = length-drop 8 key in
+    let b = length-drop 8 other in
+    let g : drop 8 key ≡ drop 8 other = sym (half_again (drop 8 key) (omega arith) (drop_small 8 key small)) ∙ ap (to_le_bytes w64) back ∙ half_again (drop 8 other) (omega arith) (drop_small 8 other small2) in
+    sym (take-append-drop 8 key) ∙ ap (λ l. l ++ drop 8 key) f ∙ ap (λ l. take 8 other ++ l) g ∙ take-append-drop 8 other
+
+module _ {X : Type 0} (r : Run X) (crew : List (Worker X)) (c : Closed r crew) where
+  known : (P : List Served → Served → Type 0) (p : LineIn crew P) (a e : ℕ) → Contains p.worker.view.seen (Stood a e) → IsEpochAt r.setting c.state a e
+  known P p a e h = inr (c.index p.j, p.worker.view, c.at p.j p.worker p.at, h)
+
+  pub key_of_old : (a : ℕ) (epoch : Epoch) (key url : List ℕ) → KeyIn r crew a epoch key → version_of (epoch_number epoch) ≤ opening_counter r.setting → IsOldUrl r a url → key ≡ key_of url
+  key_of_old a epoch key url p low old =
+      let k = (tells_at r crew c (λ earlier s. PrintsKey r.setting.anchors earlier s a epoch key) p).key epoch key a p.line_of.so.printed p.line_of.so.at in
+      same_key key (key_of url) k.long (key_is_long url) k.bytes (key_is_bytes url) (k.old_front low ∙ old.front) (k.old_back low ∙ old.back)
+
+  pub key_of_new : (a : ℕ) (epoch : Epoch) (key : List ℕ) → KeyIn r crew a epoch key → opening_counter r.setting < version_of (epoch_number epoch) → IsKeyOfLine r crew a (version_of (epoch_number epoch)) key
+  key_of_new a epoch key p high =
+      let P : List Served → Served → Type 0 = λ earlier s. PrintsKey r.setting.anchors earlier s a epoch key in
+      let k = (tells_at r crew c P p).key epoch key a p.line_of.so.printed p.line_of.so.at in
+      let n = names_of r crew c a (epoch_number epoch) (known P p a (epoch_number epoch) k.seen) k.readable high in
+      let there = c.at p.j p.worker p.at in
+      let here = c.at n.j n.worker n.at in
+      let agree = c.sound.anchors.seen.agree (c.index p.j) (c.index n.j) p.worker.view n.worker.view there here a (version_of (epoch_number epoch)) in
+      record {
+        begun = n.begun;
+        url = n.named.url;
+        url_is = n.named.url_is;
+        key_is = same_key key (key_of n.named.url) k.long (key_is_long n.named.url) k.bytes (key_is_bytes n.named.url)
+            (agree Key0 (front_half key) (front_half (key_of n.named.url)) k.front n.named.key0)
+            (agree Key1 (back_half key) (back_half (key_of n.named.url)) k.back n.named.key1);
+      }
+
+  -- Offers.
+
+  -- the offer of a new version that a worker read is that of the line that began it
+  record IsOfLine (a x offer : ℕ) : Type 0 where
+    begun : BegunIn r crew a x
+    made : HasOffer begun.line_of.line.line.request
+    url_is : r.url offer ≡ made.url
+    body_is : r.body offer ≡ bytes_of made.body
+
+  of_line : (P : List Served → Served → Type 0) (p : LineIn crew P) (a e : ℕ) (url : List ℕ) (i : IsEntryAt r p.worker.view a e url) → opening_counter r.setting < version_of e → IsOfLine a (version_of e) i.offer
+  of_line P p a e url i high =
+      let n = names_of r crew c a e (known P p a e i.seen) i.readable high in
+      let same : i.offer ≡ r.setting.slots + n.begun.line_of.line.line.number = c.sound.anchors.seen.agree (c.index p.j) (c.index n.j) p.worker.view n.worker.view
+      (c.at p.j p.worker p.at) (c.at n.j n.worker n.at) a (version_of e) Offer i.offer (r.setting.slots + n.begun.line_of.line.line.number) i.offered n.named.offer in
+      let made = offer_of n.begun.line_of.line.line.request n.begun.line_of.line.answer (version_of e) n.begun.line_of.so.began in
+      let told = (tells_at r crew c (λ earlier s. Begins r.setting.anchors s a (version_of e)) n.begun).offered made.url made.body made.offers in
+      record { begun = n.begun; made = made; url_is = ap r.url same ∙ told.url_is; body_is = ap r.body same ∙ told.body_is }
+
+  -- Hits.
+
+  get_url : (s : Served) (url told : List ℕ) → s.line.request ≡ Get url → url_in s.line.request ≡ Some told → told ≡ url
+  get_url s url told q h = let k : Some url ≡ Some told = sym (ap url_in q) ∙ h in let e : url ≡ told = cc in sym e
+
+  hit_version : (s : Served) (url bytes : List ℕ) (x : ℕ) → s.line.request ≡ Get url → s.answer ≡ answer.Hit x bytes → ComesIn s.line.request s.answer (version_of s.opened) → x ≡ version_of s.opened
+  hit_version s url bytes x q a h = subst (λ (z : Answer). ReadAs z (version_of s.opened)) a (subst (λ (z : Request). ComesIn z s.answer (version_of s.opened)) q h)
+
+  abbrev Hits : ℕ → ℕ → List ℕ → List ℕ → List Served → Served → Type 0
+  Hits a x url bytes earlier s = PrintsHit r.setting.anchors s a x url bytes
+
+  pub hit_of_old : (a x : ℕ) (url bytes : List ℕ) → HitIn r crew a x url bytes → x ≤ opening_counter r.setting → IsOldBody r a url bytes
+  hit_of_old a x url bytes p low =
+      let s : Served = p.line_of.line in
+      let h = (tells_at r crew c (Hits a x url bytes) p).hit x bytes p.line_of.so.printed in
+      let same : h.opened.url ≡ url = get_url s url h.opened.url p.line_of.so.request h.opened.named in
+      let version : x ≡ version_of s.opened = hit_version s url bytes x p.line_of.so.request p.line_of.so.printed h.opened.told in
+      let there : anchor_of (key_of h.opened.url) r.setting.anchors ≡ a = ap (λ u. anchor_of (key_of u) r.setting.anchors) same ∙ sym p.line_of.so.anchor in
+      let offer : h.opened.entry.offer ≡ old_offer r a = h.opened.entry.old (omega arith) ∙ ap (old_offer r) there in
+      record { whole = h.whole ∙ ap r.body offer; url_is = sym (ap r.url offer) ∙ h.same ∙ same }
+
+  pub hit_of_new : (a x : ℕ) (url bytes : List ℕ) → HitIn r crew a x url bytes → opening_counter r.setting < x → IsBodyOfLine r crew a x url bytes
+  hit_of_new a x url bytes p high =
+      let s : Served = p.line_of.line in
+      let h = (tells_at r crew c (Hits a x url bytes) p).hit x bytes p.line_of.so.printed in
+      let same : h.opened.url ≡ url = get_url s url h.opened.url p.line_of.so.request h.opened.named in
+      let version : x ≡ version_of s.opened = hit_version s url bytes x p.line_of.so.request p.line_of.so.printed h.opened.told in
+      let there : anchor_of (key_of h.opened.url) r.setting.anchors ≡ a = ap (λ u. anchor_of (key_of u) r.setting.anchors) same ∙ sym p.line_of.so.anchor in
+      let o = of_line (Hits a x url bytes) p (anchor_of (key_of h.opened.url) r.setting.anchors) s.opened h.opened.url h.opened.entry (omega arith) in
+      let url_is : o.made.url ≡ url = sym o.url_is ∙ h.same ∙ same in
+      let found : IsBodyOfLine r crew (anchor_of (key_of h.opened.url) r.setting.anchors) (version_of s.opened) url bytes = record {
+        begun = o.begun;
+        body = o.made.body;
+        offers = subst (λ u. Offers o.begun.line_of.line.line.request u o.made.body) url_is o.made.offers;
+        whole = h.whole ∙ o.body_is;
+      } in
+      subst (λ b. IsBodyOfLine r crew b x url bytes) there (subst (λ y. IsBodyOfLine r crew (anchor_of (key_of h.opened.url) r.setting.anchors) y url bytes) (sym version) found)
+
+  -- Other URLs.
+
+  pub other_url : (url : List ℕ) → LineIn crew (λ earlier s. PrintsOther earlier s url) → HasOtherUrl r crew url
+  other_url url p = subst (HasOtherUrl r crew) same found
+    where
+      P : List Served → Served → Type 0
+      P earlier s = PrintsOther earlier s url
+
+      told : HasOther r p.worker.view p.line_of.earlier p.line_of.line
+      told = (tells_at r crew c (λ earlier s. PrintsOther earlier s url) p).other p.line_of.so.printed
+
+      first : told.first ≡ p.line_of.so.first
+      first = let k : Some told.first ≡ Some p.line_of.so.first = sym told.opened_is ∙ p.line_of.so.opened_is in cc
+
+      same : told.url ≡ url
+      same = let k : Some told.url ≡ Some url = sym told.named ∙ ap (λ (s : Served). url_in s.line.request) first ∙ p.line_of.so.named in cc
+
+      a : ℕ
+      a = anchor_of (key_of told.url) r.setting.anchors
+
+      source : (r.url (old_offer r (anchor_of (key_of told.url) r.setting.anchors)) ≡ r.url told.entry.offer)
+          ⊎ ((x : ℕ) × (q : BegunIn r crew (anchor_of (key_of told.url) r.setting.anchors) x) × (url_in q.line_of.line.line.request ≡ Some (r.url told.entry.offer)))
+      source = dite (dec_le (version_of told.first.opened) (opening_counter r.setting))
+          (λ low. inl (sym (ap r.url (told.entry.old low))))
+          (λ high. let o = of_line (λ earlier s. PrintsOther earlier s url) p (anchor_of (key_of told.url) r.setting.anchors) told.first.opened told.url told.entry (omega arith) in
+          inr (version_of told.first.opened, o.begun, offered_url o.begun.line_of.line.line.request o.made.url o.made.body o.made.offers ∙ ap Some (sym o.url_is)))
+
+      found : HasOtherUrl r crew told.url
+      found = record { other = r.url told.entry.offer; is = record { same_key = told.same_key; differs = told.differs; source = source } }
+
+  -- Readers.
+
+  pub another_comes : (a : ℕ) (p : LineIn crew (λ earlier s. PrintsReaders r.setting.anchors earlier s a)) → AnotherComes r crew p.j a
+  another_comes a p = of_deed (deed_in r crew c (EnteredByAnother a p.worker.view.pass) (c.sound.anchors.deeds.met (c.index p.j) p.worker.view (c.at p.j p.worker p.at) a met))
+    where
+      met : Contains p.worker.view.met a
+      met = ((tells_at r crew c (λ earlier s. PrintsReaders r.setting.anchors earlier s a) p).busy p.line_of.so.looked p.line_of.so.other p.line_of.so.printed).met a p.line_of.so.at p.line_of.so.more
+
+      of_deed : DeedIn r crew c (EnteredByAnother a p.worker.view.pass) → AnotherComes r crew p.j a
+      of_deed d = ⊎_elim
+          (λ (l : LineOf d.worker.served (IsDeedOf r.setting d.worker.view d.deed)). record {
+            comes = record {
+              j = d.j;
+              worker = d.worker;
+              at = d.at;
+              line_of = record {
+                later = l.later;
+                line = l.line;
+                earlier = l.earlier;
+                split = l.split;
+                so = subst (λ b. ComesTo r.setting.anchors l.line.line.request b) d.so.1 (l.so.entered d.so.0);
+              };
+            };
+            another = λ same. d.so.2 (d.own ∙ ap (λ (w : Worker X). w.view.pass) (some-injective d.worker p.worker (sym d.at ∙ ap (get_elem? crew) same ∙ p.at)));
+          })
+          (λ (l : (true ≡ true) × IsDeedOfEnd r.setting d.deed d.worker.served). absurd (l.1.entered d.so.0))
+          d.line
+
+  -- Numbers.
+
+  pub spent_bounds : (n : ℕ) → LineIn crew (λ earlier s. s.answer ≡ answer.Spent n) → (version_limit ≤ n) × (n < opening_counter r.setting + offered crew)
+  spent_bounds n p = (
+    told.limit,
+    ⊎_elim
+        (λ (q : (p.line_of.line.drew ≡ None) × HasItem p.worker.view Counted n).
+        let most = c.sound.anchors.drawn.looked (c.index p.j) p.worker.view (c.at p.j p.worker p.at) q.1.item q.1.among q.1.kind_is in
+        let is = q.1.found_is in
+        let below = counter_below r crew c (λ earlier s. s.answer ≡ answer.Spent n) p q.0 told.offers in
+        omega arith)
+        (λ (q : (p.line_of.line.drew ≡ Some (n + 1)) × HasItem p.worker.view Drew n).
+        let less = c.sound.anchors.drawn.drew (c.index p.j) p.worker.view (c.at p.j p.worker p.at) q.1.item q.1.among q.1.kind_is in
+        let is = q.1.found_is in
+        let most = counter_is r crew c in
+        omega arith)
+        told.found,
+  )
+    where
+      told : IsSpent p.worker.view p.line_of.line n
+      told = (tells_at r crew c (λ earlier s. s.answer ≡ answer.Spent n) p).spent n p.line_of.so
+
+  -- Refusals.
+
+  pub too_large : (first : Served) (url : List ℕ) (body : Body) → LineIn crew (λ earlier s. PrintsLarge earlier s first) → Offers first.line.request url body → NeedsTooMany r url body
+  too_large first url body p offers =
+      let told = (tells_at r crew c (λ earlier s. PrintsLarge earlier s first) p).large p.line_of.so.printed in
+      let l = p.line_of in
+      let k : Some told.first ≡ Some first = sym told.begun_is ∙ l.so.begun_is in
+      let same : told.first ≡ first = cc in
+      let among = begun_among l.earlier l.line first l.line.line.request l.so.begun_is in
+      let of_first = ((c.accounts p.j p.worker p.at).lines (l.later ++ among.front) among.back first (l.split ∙ ap (λ z. l.later ++ z) among.split ∙ sym (append_assoc l.later among.front (first ∷ among.back)))).offered url body offers in
+      let u : Some told.url ≡ Some url = sym told.named ∙ ap (λ (s : Served). url_in s.line.request) same ∙ offered_url first.line.request url body offers in
+      let url_is : told.url ≡ url = cc in
+      let size : length (r.body (r.setting.slots + told.first.line.number)) ≡ length (bytes_of body) = ap (λ (s : Served). length (r.body (r.setting.slots + s.line.number))) same ∙ ap length of_first.body_is in
+      let long = ap length url_is in
+      let large = told.large in
+      omega arith
+
+  pub busy_words : (looked other : Word) → LineIn crew (λ earlier s. s.answer ≡ answer.Busy looked other) → HasBusyWords looked other
+  busy_words looked other p = let b = (tells_at r crew c (λ earlier s. s.answer ≡ answer.Busy looked other) p).busy looked other p.line_of.so in record { cause = b.cause; rises = b.rises }
+
+  pub cause_told : (cause : Cause) (p : LineIn crew (λ earlier s. Refuses s.answer cause)) → IsCauseOf p.line_of.line (epoch_in cause) cause
+  cause_told cause p = (tells_at r crew c (λ earlier s. Refuses s.answer cause) p).cause cause p.line_of.so
+
+  pub long_told : (p : LineIn crew (λ earlier s. s.answer ≡ answer.LongUrl)) → IsLong r p.line_of.line
+  long_told p = (tells_at r crew c (λ earlier s. s.answer ≡ answer.LongUrl) p).long p.line_of.so
+
+  pub part_told : (epoch : Epoch) (bytes : List ℕ) → LineIn crew (λ earlier s. s.answer ≡ answer.Part epoch bytes) → stage_of (epoch_number epoch) ≡ 2
+  part_told epoch bytes p = (tells_at r crew c (λ earlier s. s.answer ≡ answer.Part epoch bytes) p).part epoch bytes p.line_of.so
+
+  pub tab_told : (P : List Served → Served → Type 0) (p : LineIn crew P) → (p.line_of.line.answer ≡ answer.Tab) ↔ ¬ Fits p.line_of.earlier p.line_of.line.line.request
+  tab_told P p = (tells_at r crew c P p).tab

@@ -1,0 +1,117 @@
+-- What lines print of keys, bodies and readers, and where that comes from.
+use Rattle.std.specs.Prelude.{List, Some, length, min, ◌*◌, ◌+◌, ◌<◌, ◌≡◌, ◌≢◌, ◌≤◌, ◌⊎◌, ℕ}
+use Rattle.store_key.specs.Anchor.{anchor_of, back_half, front_half}
+use Rattle.store_key.specs.Key.{key_of}
+use Rattle.lock_word.specs.Words.{epoch_number}
+use Rattle.lock_word.specs.declared.cause.Cause.TheVariants.{OtherKey}
+use Rattle.lock_word.specs.declared.epoch.Epoch.{Epoch}
+use Rattle.lock_word.specs.declared.word.Word.{Word}
+use Rattle.plain_model.specs.Serving.{bytes_of}
+use Rattle.script_text.specs.declared.answer.Answer.TheVariants as answer
+use Rattle.script_text.specs.declared.body.Body.{Body}
+use Rattle.script_text.specs.declared.request.Request.TheVariants.{Get}
+use Rattle.core_model.specs.declared.moves.Side.TheVariants.{Key0, Key1, Offer}
+use Rattle.core_model.specs.declared.view.Place.TheVariants.{Beside}
+use Rattle.core_model.specs.Layout.{word_in}
+use Rattle.line_account.specs.Lines.{IsAt, Offers, Served, begun_by, opened_by, url_in}
+use Rattle.line_account.specs.Deeds.{ComesTo}
+use Rattle.line_account.specs.Answers.{IsHeld, IsOvertaken, Refuses, Run, readers_at}
+use Rattle.line_account.specs.Closing.{BegunIn, LineIn, Worker}
+
+-- Names and bodies.
+
+-- a line at the anchor a printed this key, with this epoch
+pub record PrintsKey (anchors : ℕ) (earlier : List Served) (s : Served) (a : ℕ) (epoch : Epoch) (key : List ℕ) : Type 0 where
+  pub at : IsAt anchors earlier s a
+  pub printed : Refuses s.answer (OtherKey epoch key)
+
+abbrev pub KeyIn : {X : Type 0} → Run X → List (Worker X) → (a : ℕ) → Epoch → List ℕ → Type 0
+KeyIn r crew a epoch key = LineIn crew (λ earlier s. PrintsKey r.setting.anchors earlier s a epoch key)
+
+-- the entry that the anchor a had at the opening is that of this URL
+pub record IsOldUrl {X : Type 0} (r : Run X) (a : ℕ) (url : List ℕ) : Type 0 where
+  pub front : word_in r.setting r.setting.words (Beside Key0 a) ≡ front_half (key_of url)
+  pub back : word_in r.setting r.setting.words (Beside Key1 a) ≡ back_half (key_of url)
+
+-- it is the key of the URL of the line that began the version x at the anchor a
+pub record IsKeyOfLine {X : Type 0} (r : Run X) (crew : List (Worker X)) (a x : ℕ) (key : List ℕ) : Type 0 where
+  pub begun : BegunIn r crew a x
+  pub url : List ℕ
+  pub url_is : url_in begun.line_of.line.line.request ≡ Some url
+  pub key_is : key ≡ key_of url
+
+-- the offer of the entry that the anchor a had at the opening
+abbrev pub old_offer : {X : Type 0} → Run X → ℕ → ℕ
+old_offer r a = word_in r.setting r.setting.words (Beside Offer a)
+
+-- a line that gets a URL of the anchor a printed HIT with the version x
+pub record PrintsHit (anchors : ℕ) (s : Served) (a x : ℕ) (url bytes : List ℕ) : Type 0 where
+  pub request : s.line.request ≡ Get url
+  pub anchor : a ≡ anchor_of (key_of url) anchors
+  pub printed : s.answer ≡ answer.Hit x bytes
+
+abbrev pub HitIn : {X : Type 0} → Run X → List (Worker X) → (a x : ℕ) → (url bytes : List ℕ) → Type 0
+HitIn r crew a x url bytes = LineIn crew (λ earlier s. PrintsHit r.setting.anchors s a x url bytes)
+
+-- the bytes are the body that the line which began the version x at the anchor a offers under this URL
+pub record IsBodyOfLine {X : Type 0} (r : Run X) (crew : List (Worker X)) (a x : ℕ) (url bytes : List ℕ) : Type 0 where
+  pub begun : BegunIn r crew a x
+  pub body : Body
+  pub offers : Offers begun.line_of.line.line.request url body
+  pub whole : bytes ≡ bytes_of body
+
+-- they are the body of the entry that the anchor had at the opening, and the URL is its URL
+pub record IsOldBody {X : Type 0} (r : Run X) (a : ℕ) (url bytes : List ℕ) : Type 0 where
+  pub whole : bytes ≡ r.body (old_offer r a)
+  pub url_is : r.url (old_offer r a) ≡ url
+
+-- a URL of the entry that the anchor of this URL had at the opening, or of a line that began a version there, is another one with the
+-- same key
+pub record IsOtherUrl {X : Type 0} (r : Run X) (crew : List (Worker X)) (url other : List ℕ) : Type 0 where
+  pub same_key : key_of other ≡ key_of url
+  pub differs : other ≢ url
+  pub source : (r.url (old_offer r (anchor_of (key_of url) r.setting.anchors)) ≡ other)
+      ⊎ ((x : ℕ) × (p : BegunIn r crew (anchor_of (key_of url) r.setting.anchors) x) × (url_in p.line_of.line.line.request ≡ Some other))
+
+-- some URL is such a one
+pub record HasOtherUrl {X : Type 0} (r : Run X) (crew : List (Worker X)) (url : List ℕ) : Type 0 where
+  pub other : List ℕ
+  pub is : IsOtherUrl r crew url other
+
+-- what a line printed OTHERURL for: the URL that it reads, or that its tab was opened with
+pub record PrintsOther (earlier : List Served) (s : Served) (url : List ℕ) : Type 0 where
+  pub first : Served
+  pub opened_is : opened_by earlier s ≡ Some first
+  pub named : url_in first.line.request ≡ Some url
+  pub printed : s.answer ≡ answer.OtherUrl
+
+-- Readers.
+
+-- a line at the anchor a printed BUSY, with more readers in one of the words than the worker's own tabs that read there
+pub record PrintsReaders (anchors : ℕ) (earlier : List Served) (s : Served) (a : ℕ) : Type 0 where
+  pub at : IsAt anchors earlier s a
+  pub looked : Word
+  pub other : Word
+  pub printed : s.answer ≡ answer.Busy looked other
+  pub more : (readers_at anchors earlier a < looked.readers) ⊎ (readers_at anchors earlier a < other.readers)
+
+-- another worker than the one numbered j opens, gets or purges a URL of the anchor a
+pub record AnotherComes {X : Type 0} (r : Run X) (crew : List (Worker X)) (j a : ℕ) : Type 0 where
+  pub comes : LineIn crew (λ earlier s. ComesTo r.setting.anchors s.line.request a)
+  pub another : comes.j ≢ j
+
+-- Refusals.
+
+-- a content of metadata with this URL and of this body needs more slots than an entry may have
+abbrev pub NeedsTooMany : {X : Type 0} → Run X → List ℕ → Body → Type 0
+NeedsTooMany r url body = min 4096 r.setting.slots * r.room < 32 + length url + length (bytes_of body)
+
+-- a line printed LARGE, in the writing that this line began
+pub record PrintsLarge (earlier : List Served) (s : Served) (first : Served) : Type 0 where
+  pub begun_is : begun_by earlier s ≡ Some first
+  pub printed : s.answer ≡ answer.Large
+
+-- BUSY: its words are the same, and neither vacant nor idle; or the first is one of these, and they differ. The epoch does not fall.
+pub record HasBusyWords (looked other : Word) : Type 0 where
+  pub cause : IsHeld looked other ⊎ IsOvertaken looked other
+  pub rises : epoch_number looked.epoch ≤ epoch_number other.epoch
