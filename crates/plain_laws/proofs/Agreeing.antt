@@ -27,12 +27,14 @@ use Rattle.plain_laws.proofs.Roomed.{IsAt}
 abbrev pub KeepsNone : (ℕ → ℕ) → Type 0
 KeepsNone rename = (v : ℕ) → (rename v == 0) ≡ (v == 0)
 
--- at these anchors and on these tabs both are the same but for versions, and each tab is at such an anchor, or is none of these
+-- At these anchors and on these tabs both are the same but for versions. A tab is at such an anchor where it is one of
+-- these, and the others of the second store are free
 pub record Agree (rename : ℕ → ℕ) (own mine : ℕ → Bool) (p q : Plain) : Type 0 where
   pub places : (a : ℕ) → own a ≡ true → place_at p a ≡ renamed_place rename (place_at q a)
   pub tabs : (t : ℕ) → mine t ≡ true → tab_at p t ≡ tab_at q t
   pub left : (t a : ℕ) → IsAt a (tab_at p t) → own a ≡ mine t
   pub right : (t a : ℕ) → IsAt a (tab_at q t) → own a ≡ mine t
+  pub idle : (t : ℕ) → mine t ≡ false → tab_at q t ≡ Free
   pub as_many : length p.places ≡ length q.places
   pub as_long : length p.tabs ≡ length q.tabs
 
@@ -131,19 +133,27 @@ set_at own mine tab x ts new old t a at = elim (set_there ts tab t x Free) [
   | inr k ↦ old t a (subst (λ (y : Tab). IsAt a y) k at)
 ]
 
+set_idle : (mine : ℕ → Bool) (tab : ℕ) (x : Tab) (ts : List Tab) → (mine tab ≡ false → x ≡ Free) → ((t : ℕ) → mine t ≡ false → get_or ts t Free ≡ Free) → (t : ℕ) → mine t ≡ false → get_or (set ts tab x) t Free ≡ Free
+set_idle mine tab x ts new old t off = elim (set_there ts tab t x Free) [
+  | inl k ↦ k.1 ∙ new (ap mine (sym k.0) ∙ off)
+  | inr k ↦ k ∙ old t off
+]
+
 -- the same is done to both
-pub agree_tab : (rename : ℕ → ℕ) (own mine : ℕ → Bool) (tab : ℕ) (x : Tab) (p q : Plain) → Agree rename own mine p q → ((a : ℕ) → IsAt a x → own a ≡ mine tab) → Agree rename own mine (with_tab p tab x) (with_tab q tab x)
-agree_tab rename own mine tab x p q h new = record {
+pub agree_tab : (rename : ℕ → ℕ) (own mine : ℕ → Bool) (tab : ℕ) (x : Tab) (p q : Plain) → Agree rename own mine p q → ((a : ℕ) → IsAt a x → own a ≡ mine tab) → (mine tab ≡ false → x ≡ Free)
+    → Agree rename own mine (with_tab p tab x) (with_tab q tab x)
+agree_tab rename own mine tab x p q h new idle = record {
   places = h.places;
   tabs = λ t m. set_alike (λ (y : Tab). y) p.tabs q.tabs tab t x x Free h.as_long refl (h.tabs t m);
   left = set_at own mine tab x p.tabs new h.left;
   right = set_at own mine tab x q.tabs new h.right;
+  idle = set_idle mine tab x q.tabs idle h.idle;
   as_many = h.as_many;
   as_long = length-set p.tabs tab x ∙ (h.as_long ∙ sym (length-set q.tabs tab x));
 }
 
 pub agree_free : (rename : ℕ → ℕ) (own mine : ℕ → Bool) (tab : ℕ) (p q : Plain) → Agree rename own mine p q → Agree rename own mine (with_tab p tab Free) (with_tab q tab Free)
-agree_free rename own mine tab p q h = agree_tab rename own mine tab Free p q h (λ a at. absurd at)
+agree_free rename own mine tab p q h = agree_tab rename own mine tab Free p q h (λ a at. absurd at) (λ off. refl)
 
 pub agree_place : (rename : ℕ → ℕ) (own mine : ℕ → Bool) (a : ℕ) (x y : Place) (p q : Plain) → Agree rename own mine p q → x ≡ renamed_place rename y
     → Agree rename own mine (record p { places = set p.places a x }) (record q { places = set q.places a y })
@@ -152,12 +162,13 @@ agree_place rename own mine a x y p q h same = record {
   tabs = h.tabs;
   left = h.left;
   right = h.right;
+  idle = h.idle;
   as_many = length-set p.places a x ∙ (h.as_many ∙ sym (length-set q.places a y));
   as_long = h.as_long;
 }
 
 pub agree_counter : (rename : ℕ → ℕ) (own mine : ℕ → Bool) (c d : ℕ) (p q : Plain) → Agree rename own mine p q → Agree rename own mine (record p { counter = c }) (record q { counter = d })
-agree_counter rename own mine c d p q h = record { places = h.places; tabs = h.tabs; left = h.left; right = h.right; as_many = h.as_many; as_long = h.as_long }
+agree_counter rename own mine c d p q h = record { places = h.places; tabs = h.tabs; left = h.left; right = h.right; idle = h.idle; as_many = h.as_many; as_long = h.as_long }
 
 pub resize_agree : (rename : ℕ → ℕ) (own mine : ℕ → Bool) (a content : ℕ) (p q : Plain) → Agree rename own mine p q → own a ≡ true → Agree rename own mine (resize a content p) (resize a content q)
 resize_agree rename own mine a content p q h o = agree_place rename own mine a (resized content (place_at p a)) (resized content (place_at q a)) p q h (ap (resized content) (h.places a o))
@@ -182,3 +193,7 @@ close_writer_agree rename own mine life tab a p q h o =
     settle_agree rename own mine a (with_tab (record p { places = set p.places a (ended life (place_at p a)) }) tab Free) (with_tab (record q { places = set q.places a (ended life (place_at q a)) }) tab Free)
     (agree_free rename own mine tab (record p { places = set p.places a (ended life (place_at p a)) }) (record q { places = set q.places a (ended life (place_at q a)) })
     (agree_place rename own mine a (ended life (place_at p a)) (ended life (place_at q a)) p q h (ap (ended life) (h.places a o)))) o
+
+-- a tab of these is not idle
+pub not_idle : (mine : ℕ → Bool) (tab : ℕ) (x : Tab) → mine tab ≡ true → mine tab ≡ false → x ≡ Free
+not_idle mine tab x m off = absurd (let k : true ≡ false = sym m ∙ off in cc)

@@ -60,7 +60,7 @@ more_holds s tab p h (Writing a) t = rw t h
 more_holds s tab p h (Reading a given true) t = rw t h
 more_holds s tab p h (Reading a given false) t = more_to s tab a given p h (entry_at p a) refl t
 
-close_holds : (s : Setting) (tab : ℕ) (p : Plain) → HoldsItsSlots s p → (t : Tab) → tab_at p tab ≡ t → HoldsItsSlots s (close tab p).after
+pub close_holds : (s : Setting) (tab : ℕ) (p : Plain) → HoldsItsSlots s p → (t : Tab) → tab_at p tab ≡ t → HoldsItsSlots s (close tab p).after
 close_holds s tab p h Free t = rw t h
 close_holds s tab p h (Writing a) t = rw t h
 close_holds s tab p h (Reading a g o) t = rw t (settle_holds s a (with_tab p tab Free) (tab_holds s tab Free p free_writes_not h))

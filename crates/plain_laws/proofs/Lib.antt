@@ -25,7 +25,9 @@ pub mod WritingAlike
 pub mod LastTab
 pub mod OwnLines
 pub mod OtherLines
+pub mod Leaving
 pub mod Parted
 pub mod Standing
 pub mod PrivateLines
 pub mod Openings
+pub mod Fewer

@@ -55,6 +55,7 @@ other_agrees rename own mine s cap tab p q Why r h why spares many (Outcome.move
   tabs = λ t m. tab_kept mine tab a t p r spares stays m (same_tab t tab) ∙ h.tabs t m;
   left = λ t b at. left_kept own mine tab a t b p r spares stays (why a because) h.left (same_tab t tab) at;
   right = h.right;
+  idle = h.idle;
   as_many = many ∙ h.as_many;
   as_long = stays.long ∙ h.as_long;
 }

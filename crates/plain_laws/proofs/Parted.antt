@@ -85,22 +85,24 @@ abbrev pub chosen : Setting → (own mine : ℕ → Bool) → Line → Bool
 chosen s own mine line = is_of s own mine line.request
 
 -- own lines among others, and by themselves
-pub record Parts (rename : ℕ → ℕ) (own mine : ℕ → Bool) (s : Setting) (script lines : List Line) (p q : Plain) : Type 0 where
+pub record Parts (rename : ℕ → ℕ) (own mine : ℕ → Bool) (s : Setting) (cap : ℕ → ℕ) (script lines : List Line) (p q : Plain) : Type 0 where
   pub answered : answers_to (chosen s own mine) lines (answers s script lines p) ≡ map (renamed rename) (answers s script (filter (chosen s own mine) lines) q)
   pub agree : Agree rename own mine (after s script lines p) (after s script (filter (chosen s own mine) lines) q)
+  pub room : InRoom s cap (after s script lines p)
 
-with_own : (rename : ℕ → ℕ) (own mine : ℕ → Bool) (s : Setting) (script lines : List Line) (line : Line) (p q : Plain) → chosen s own mine line ≡ true
+with_own : (rename : ℕ → ℕ) (own mine : ℕ → Bool) (s : Setting) (cap : ℕ → ℕ) (script lines : List Line) (line : Line) (p q : Plain) → chosen s own mine line ≡ true
     → (serve s script line p).answer ≡ renamed rename (serve s script line q).answer
-    → Parts rename own mine s script lines (serve s script line p).after (serve s script line q).after → Parts rename own mine s script (line ∷ lines) p q
-with_own rename own mine s script lines line p q is same h = record {
+    → Parts rename own mine s cap script lines (serve s script line p).after (serve s script line q).after → Parts rename own mine s cap script (line ∷ lines) p q
+with_own rename own mine s cap script lines line p q is same h = record {
   answered = rw is (ap (λ (a : Answer). a ∷ answers_to (chosen s own mine) lines (answers s script lines (serve s script line p).after)) same
       ∙ ap (λ (xs : List Answer). renamed rename (serve s script line q).answer ∷ xs) h.answered);
   agree = rw is h.agree;
+  room = h.room;
 }
 
-with_other : (rename : ℕ → ℕ) (own mine : ℕ → Bool) (s : Setting) (script lines : List Line) (line : Line) (p q : Plain) → chosen s own mine line ≡ false
-    → Parts rename own mine s script lines (serve s script line p).after q → Parts rename own mine s script (line ∷ lines) p q
-with_other rename own mine s script lines line p q is h = record { answered = rw is h.answered; agree = rw is h.agree }
+with_other : (rename : ℕ → ℕ) (own mine : ℕ → Bool) (s : Setting) (cap : ℕ → ℕ) (script lines : List Line) (line : Line) (p q : Plain) → chosen s own mine line ≡ false
+    → Parts rename own mine s cap script lines (serve s script line p).after q → Parts rename own mine s cap script (line ∷ lines) p q
+with_other rename own mine s cap script lines line p q is h = record { answered = rw is h.answered; agree = rw is h.agree; room = h.room }
 
 -- how far the counters may go
 pub record Below (p q : Plain) (lines : List Line) : Type 0 where
@@ -179,25 +181,25 @@ stands_other rename own mine s script lines line p q is h =
     subst (λ (b : Bool). StandFor rename q.counter (rise_by b p.counter (serve s script line p).after.counter ++ rest_drawn s own mine script lines line p)) is h
 
 pub parts : (rename : ℕ → ℕ) (own mine : ℕ → Bool) (s : Setting) (cap : ℕ → ℕ) (script lines : List Line) (p q : Plain) → Ready rename own mine s cap p q → AllNeeded s cap lines → Below p q lines
-    → AllSorted s own mine lines → StandFor rename q.counter (drawn s script (chosen s own mine) lines p) → Parts rename own mine s script lines p q
-parts rename own mine s cap script [] p q h le below sorted stands = record { answered = refl; agree = h.agree }
+    → AllSorted s own mine lines → StandFor rename q.counter (drawn s script (chosen s own mine) lines p) → Parts rename own mine s cap script lines p q
+parts rename own mine s cap script [] p q h le below sorted stands = record { answered = refl; agree = h.agree; room = h.left }
 parts rename own mine s cap script (line ∷ lines) p q h le below sorted stands = by_test (chosen s own mine line) refl
     (λ q2. parts rename own mine s cap script lines (serve s script line p).after q2)
   where
     by_test : (b : Bool) → chosen s own mine line ≡ b
         → ((q2 : Plain) → Ready rename own mine s cap (serve s script line p).after q2 → AllNeeded s cap lines → Below (serve s script line p).after q2 lines
-        → AllSorted s own mine lines → StandFor rename q2.counter (rest_drawn s own mine script lines line p) → Parts rename own mine s script lines (serve s script line p).after q2)
-        → Parts rename own mine s script (line ∷ lines) p q
+        → AllSorted s own mine lines → StandFor rename q2.counter (rest_drawn s own mine script lines line p) → Parts rename own mine s cap script lines (serve s script line p).after q2)
+        → Parts rename own mine s cap script (line ∷ lines) p q
     by_test true is next =
         let now = stands_own rename own mine s script lines line p q is stands in
         let both = own_line rename own mine s cap script line p q h (below_now lines line p below.left) (below_now lines line q below.right) le.0 is sorted.0
         (λ e. next_stands rename q.counter p.counter (serve s script line p).after.counter (rest_drawn s own mine script lines line p) now e) in
-        with_own rename own mine s script lines line p q is both.alike.answer
+        with_own rename own mine s cap script lines line p q is both.alike.answer
         (next (serve s script line q).after (ready_own rename own mine s cap script lines line p q h below le.0 sorted.1 both.alike.agree) le.1
         (record { left = below_next s script lines line p below.left; right = below_next s script lines line q below.right }) sorted.2
         (rest_stands rename p q (serve s script line p) (serve s script line q) (rest_drawn s own mine script lines line p) both.drew now))
     by_test false is next =
-        with_other rename own mine s script lines line p q is
+        with_other rename own mine s cap script lines line p q is
         (next q (ready_other rename own mine s cap script lines line p q h below le.0 sorted.1 sorted.0 is) le.1
         (record { left = below_next s script lines line p below.left; right = below_rest lines line q below.right }) sorted.2
         (stands_other rename own mine s script lines line p q is stands))

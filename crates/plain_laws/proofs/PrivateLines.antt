@@ -1,7 +1,7 @@
 -- Private lines are answered by themselves.
 use Rattle.std.proofs.Common.{◌≡◌, ◌⊎◌, inl, inr, ◌∙◌, ℕ, ◌<◌, ◌≤◌, List, [], ◌∷◌, length, refl, sym, ap, arith, Bool, true, false}
 use Rattle.std.specs.Prelude.{◌==◌, ◌||◌, not, Contains}
-use Rattle.std.specs.List.{list_all}
+use Rattle.std.specs.List.{range_with_len, list_all}
 use Rattle.std.proofs.lemmas.Bool.Decides.{nat_tests}
 use Rattle.std.proofs.lemmas.List.Elements.{All-weaker, All-contains, All-contains_itself}
 use Rattle.std.proofs.lemmas.List.Sums.{AllPass-from_list_all, list_all-from_AllPass}
@@ -11,14 +11,15 @@ use Rattle.script_text.specs.declared.request.Request.TheVariants.{Put, Save, Ge
 use Rattle.plain_model.specs.declared.store.Setting.{Setting}
 use Rattle.plain_model.specs.declared.store.Plain.{Plain}
 use Rattle.plain_model.specs.Store.{place_at, tab_at}
-use Rattle.plain_model.specs.Serving.{lines_for}
+use Rattle.plain_model.specs.Serving.{after, lines_for}
 use Rattle.plain_laws.specs.Fitting.{most_held, Fits, IsAtRest}
 use Rattle.plain_laws.specs.Renaming.{IsRenaming, CountsVersions}
-use Rattle.plain_laws.specs.Private.{names_only, takes, is_private_anchor, is_private_tab, is_private, IsOnTab, OpenOnly, TabsApart, AnswersAlone}
+use Rattle.plain_laws.specs.Private.{names_only, takes, is_private_anchor, is_private_tab, is_private, private_lines, IsOnTab, OpenOnly, TabsApart, AnswersAlone}
 use Rattle.plain_laws.proofs.Course.{first, further}
 use Rattle.plain_laws.proofs.Running.{not_at, room_at_rest, all_needed}
 use Rattle.plain_laws.proofs.Agreeing.{Agree}
 use Rattle.plain_laws.proofs.OwnLines.{Sorts}
+use Rattle.plain_laws.proofs.Leaving.{tabs_left}
 use Rattle.plain_laws.proofs.Parted.{drawn, drawn_rise, AllSorted, Parts, parts}
 use Rattle.plain_laws.proofs.Standing.{standing, standing_is, standing_stands, none_kept}
 
@@ -112,6 +113,7 @@ rests_alike rename own mine p h counts rest = record {
   tabs = λ t m. refl;
   left = λ t a at. absurd (not_at a (tab_at p t) (rest.free t) at);
   right = λ t a at. absurd (not_at a (tab_at p t) (rest.free t) at);
+  idle = λ t off. rest.free t;
   as_many = refl;
   as_long = refl;
 }
@@ -119,7 +121,13 @@ rests_alike rename own mine p h counts rest = record {
 pub answered_alone : (s : Setting) (script : List Line) (worker : ℕ) (p : Plain) → 0 < s.room → 0 < s.anchors → 0 < s.slots → length p.places ≡ s.anchors → IsAtRest p → CountsVersions p
     → Fits s (lines_for worker script) p → TabsApart s script worker → AnswersAlone s script worker p
 answered_alone s script worker p room some slots are rest counts fits apart =
-    record { rename = rename; is = is; answered = both.answered; places = both.agree.places }
+    record {
+      rename = rename;
+      is = is;
+      answered = both.answered;
+      places = both.agree.places;
+      left = (tabs_left rename own mine s (most_held s lines p) (range_with_len 0 8) (after s script lines p) (after s script (private_lines s script worker) p) both.agree both.room).places;
+    }
   where
     own : ℕ → Bool
     own = is_private_anchor s script worker
@@ -139,7 +147,7 @@ answered_alone s script worker p room some slots are rest counts fits apart =
     is : IsRenaming p.counter rename
     is = standing_is p.counter drew (drawn_rise s script (is_private s script worker) lines p)
 
-    both : Parts rename own mine s script lines p p
+    both : Parts rename own mine s (most_held s lines p) script lines p p
     both = parts rename own mine s (most_held s lines p) script lines p p
         (record {
           none = none_kept p.counter rename is;

@@ -28,7 +28,7 @@ use Rattle.plain_model.specs.Serving.{hit_by, get}
 use Rattle.plain_laws.specs.Renaming.{renamed, renamed_epoch, renamed_cause}
 use Rattle.plain_laws.proofs.Roomed.{IsAt}
 use Rattle.plain_laws.proofs.ReadingRoomed.{more_is, close_is}
-use Rattle.plain_laws.proofs.Agreeing.{KeepsNone, Agree, Alike, epoch_alike, entry_alike, agree_tab, agree_free, agree_place, settle_agree}
+use Rattle.plain_laws.proofs.Agreeing.{KeepsNone, Agree, Alike, epoch_alike, entry_alike, agree_tab, agree_free, agree_place, settle_agree, not_idle}
 
 abbrev pub renamed_verdict : (ℕ → ℕ) → Option Cause → Option Cause
 renamed_verdict rename None = None
@@ -89,7 +89,7 @@ pub opened_agree : (rename : ℕ → ℕ) (own mine : ℕ → Bool) (tab a : ℕ
     → Agree rename own mine (with_tab p tab (opened_tab p a url)) (with_tab q tab (opened_tab q a url))
 opened_agree rename own mine tab a url p q h o m =
     subst (λ (x : Tab). Agree rename own mine (with_tab p tab x) (with_tab q tab (opened_tab q a url))) (sym same)
-    (agree_tab rename own mine tab (opened_tab q a url) p q h (reading_at a 0 (not (has_url url (entry_at q a))) own (mine tab) (o ∙ sym m)))
+    (agree_tab rename own mine tab (opened_tab q a url) p q h (reading_at a 0 (not (has_url url (entry_at q a))) own (mine tab) (o ∙ sym m)) (not_idle mine tab (opened_tab q a url) m))
   where
     same : opened_tab p a url ≡ opened_tab q a url
     same = ap (λ (e : Option Entry). Reading a 0 (not (has_url url e))) (entry_alike rename own mine a p q h o)
@@ -119,7 +119,8 @@ read_alike : (rename : ℕ → ℕ) (own mine : ℕ → Bool) (s : Setting) (tab
     (step (told x.life (epoch_of s.room (place_at q a)) (drop given (available s.room x))) (with_tab q tab (Reading a (length (available s.room x)) false)))
 read_alike rename own mine s tab a given x p q k h o m = record {
   answer = ap (λ (e : Epoch). told x.life e (drop given (available s.room x))) (epoch_alike rename own mine s a p q k h o) ∙ told_alike rename x.life (epoch_of s.room (place_at q a)) (drop given (available s.room x));
-  agree = agree_tab rename own mine tab (Reading a (length (available s.room x)) false) p q h (reading_at a (length (available s.room x)) false own (mine tab) (o ∙ sym m));
+  agree = agree_tab rename own mine tab (Reading a (length (available s.room x)) false) p q h (reading_at a (length (available s.room x)) false own (mine tab) (o ∙ sym m))
+      (not_idle mine tab (Reading a (length (available s.room x)) false) m);
 }
 
 more_nothing : (s : Setting) (tab a given : ℕ) (p : Plain) → entry_at p a ≡ None → tab_at p tab ≡ Reading a given false → more s tab p ≡ step answer.Tab p

@@ -40,7 +40,7 @@ use Rattle.plain_laws.proofs.Held.{new_holds_none, taken_holds, able_not, serve_
 use Rattle.plain_laws.proofs.Serving.{Effect, effect, anchors_stay}
 use Rattle.plain_laws.proofs.ReadingRoomed.{IsUrlAt, open_room, more_room, close_room, purge_room, get_room, fit_after, Follows, follow, on_at}
 
-holds_of : (s : Setting) (cap : ℕ → ℕ) (p : Plain) → InRoom s cap p → HoldsItsSlots s p
+pub holds_of : (s : Setting) (cap : ℕ → ℕ) (p : Plain) → InRoom s cap p → HoldsItsSlots s p
 holds_of s cap p h = record {
   within = (let k : slots_held s p ≤ sum_by cap (range_with_len 0 (length p.places)) = all_caps (held s.room) cap p.places 0 (λ b. let f = (h.fits b).holds in let same : cap (0 + b) ≡ cap b = ap cap (omega arith) in omega arith) in
       let all : sum_by cap (range_with_len 0 (length p.places)) ≡ sum_by cap (range_with_len 0 s.anchors) = ap (λ (n : ℕ). sum_by cap (range_with_len 0 n)) h.are in

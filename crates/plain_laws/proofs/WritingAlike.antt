@@ -27,7 +27,7 @@ use Rattle.plain_laws.proofs.Fitted.{Sized}
 use Rattle.plain_laws.proofs.Roomed.{IsAt, InRoom, Written, unless_some, add_is, end_is, grown_to, grown_on, written_of, grows_at, ended_at, give_up_is}
 use Rattle.plain_laws.proofs.Keeping.{keeps_end}
 use Rattle.plain_laws.proofs.Running.{taken_room}
-use Rattle.plain_laws.proofs.Agreeing.{KeepsNone, Agree, Alike, entry_alike, word_alike, able_alike, agree_tab, agree_place, agree_counter, resize_agree, close_writer_agree}
+use Rattle.plain_laws.proofs.Agreeing.{KeepsNone, Agree, Alike, entry_alike, word_alike, able_alike, agree_tab, agree_place, agree_counter, resize_agree, close_writer_agree, not_idle}
 
 -- both counters stand, or both go on by one
 pub data Drew (p q : Plain) (r u : Step) : Type 0 where
@@ -251,7 +251,7 @@ taken_agree : (rename : ℕ → ℕ) (own mine : ℕ → Bool) (tab a : ℕ) (e 
 taken_agree rename own mine tab a e p q h o m next =
     agree_counter rename own mine (p.counter + 1) (q.counter + 1) (with_tab (record p { places = set p.places a x }) tab (Writing a)) (with_tab (record q { places = set q.places a y }) tab (Writing a))
     (agree_tab rename own mine tab (Writing a) (record p { places = set p.places a x }) (record q { places = set q.places a y })
-    (agree_place rename own mine a x y p q h (ap (λ (v : ℕ). new v) (sym next))) (λ c at. ap own (sym at) ∙ (o ∙ sym m)))
+    (agree_place rename own mine a x y p q h (ap (λ (v : ℕ). new v) (sym next))) (λ c at. ap own (sym at) ∙ (o ∙ sym m)) (not_idle mine tab (Writing a) m))
   where
     new : ℕ → Place
     new v = record { version = v; doom = false; entry = Some e }

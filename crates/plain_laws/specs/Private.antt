@@ -1,6 +1,6 @@
 -- Anchors, tabs and lines that are one worker's own.
 use Rattle.std.specs.Prelude.{◌≡◌, ◌⊎◌, ℕ, ◌≤◌, ◌==◌, ◌||◌, List, [], ◌∷◌, map, filter, Contains, if◌then◌else◌, Bool, true, false, not}
-use Rattle.std.specs.List.{list_all}
+use Rattle.std.specs.List.{range_with_len, list_all}
 use Rattle.store_key.specs.Key.{key_of}
 use Rattle.store_key.specs.Anchor.{anchor_of}
 use Rattle.script_text.specs.declared.answer.Answer.{Answer}
@@ -10,7 +10,7 @@ use Rattle.script_text.specs.declared.request.Request.TheVariants.{Put, Save, Ge
 use Rattle.plain_model.specs.declared.store.Setting.{Setting}
 use Rattle.plain_model.specs.declared.store.Plain.{Plain}
 use Rattle.plain_model.specs.Store.{place_at}
-use Rattle.plain_model.specs.Serving.{answers, after, answers_of, lines_for}
+use Rattle.plain_model.specs.Serving.{answers, after, leave_all, answers_of, lines_for, left_by}
 use Rattle.plain_laws.specs.Renaming.{IsRenaming, renamed, renamed_place}
 
 abbrev pub url_anchor : Setting → List ℕ → ℕ
@@ -90,8 +90,9 @@ pub record TabsApart (s : Setting) (script : List Line) (worker : ℕ) : Type 0 
   pub apart : (tab : ℕ) → OpenOnly s (is_private_anchor s script worker) tab (lines_for worker script)
       ⊎ OpenOnly s (λ anchor. not (is_private_anchor s script worker anchor)) tab (lines_for worker script)
 
--- The private lines of the worker are answered as they are by themselves, and leave the same at private anchors, but for
--- versions: later ones stand for later ones, and those that were given out before for themselves.
+-- The private lines of the worker are answered as they are by themselves, and leave the same at private anchors, before and
+-- after all tabs are left, but for versions: later ones stand for later ones, and those that were given out before for
+-- themselves.
 pub record AnswersAlone (s : Setting) (script : List Line) (worker : ℕ) (p : Plain) : Type 0 where
   pub rename : ℕ → ℕ
   pub is : IsRenaming p.counter rename
@@ -99,3 +100,5 @@ pub record AnswersAlone (s : Setting) (script : List Line) (worker : ℕ) (p : P
       ≡ map (renamed rename) (answers s script (private_lines s script worker) p)
   pub places : (anchor : ℕ) → is_private_anchor s script worker anchor ≡ true
       → place_at (after s script (lines_for worker script) p) anchor ≡ renamed_place rename (place_at (after s script (private_lines s script worker) p) anchor)
+  pub left : (anchor : ℕ) → is_private_anchor s script worker anchor ≡ true
+      → place_at (left_by s script worker p) anchor ≡ renamed_place rename (place_at (leave_all (range_with_len 0 8) (after s script (private_lines s script worker) p)) anchor)

@@ -1,5 +1,5 @@
 // The laws.
-ghost use Rattle.std.specs.Prelude.{◌≡◌, ◌+◌, ◌<◌, ◌≤◌, ℕ, List, length, map, Some};
+ghost use Rattle.std.specs.Prelude.{◌≡◌, ◌+◌, ◌<◌, ◌≤◌, ℕ, List, length, map, filter, Bool, Some};
 ghost use Rattle.script_text.specs.declared.line.Line.{Line};
 ghost use Rattle.script_text.specs.declared.answer.Answer.{Answer};
 ghost use Rattle.plain_model.specs.declared.entry.Entry.{Entry};
@@ -51,10 +51,12 @@ pub fn held_slots_are_there()
 {}
 
 /// A script that fits is never answered FULL, and nothing is evicted for it: an anchor that no line names
-/// stays as it is, and so does the hand.
+/// stays as it is, and so does the hand. Where lines fit, so do fewer of them, as those of one worker.
 pub fn fitting_scripts_have_room()
-    ensures { (s : Setting) (script lines : List Line) (p : Plain)
+    ensures room { (s : Setting) (script lines : List Line) (p : Plain)
         → 0 < s.room → 0 < s.anchors → 0 < s.slots → length p.places ≡ s.anchors → IsAtRest p → Fits s lines p → RunsInRoom s script lines p }
+    ensures fewer { (s : Setting) (lines : List Line) (p : Plain) (these : Line → Bool)
+        → Fits s lines p → Fits s (filter these lines) p }
 {}
 
 /// The private lines of a worker are answered as they are by themselves but for the numbers of versions,
