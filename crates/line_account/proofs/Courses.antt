@@ -101,6 +101,7 @@ module _ {X : Type 0} (r : Run X) (v w : View X) (h : Keeps v w) where
   pub tells_later : (earlier : List Served) (s : Served) → Tells r v earlier s → Tells r w earlier s
   tells_later earlier s t = record {
     shown = λ a e q. h.seen (Stood a e) (t.shown a e q);
+    answers = t.answers;
     drew = t.drew;
     began = t.began;
     finished = λ x q. finished_later earlier s x (t.finished x q);

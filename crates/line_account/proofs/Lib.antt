@@ -4,3 +4,4 @@ pub mod Versions
 pub mod Courses
 pub mod Names
 pub mod Printing
+pub mod Ordering

@@ -31,6 +31,7 @@ use Rattle.core_model.specs.Deeds.{EnteredByAnother, IsEpochAt}
 use Rattle.core_model.specs.State.{counter}
 use Rattle.line_account.specs.Lines.{Fits, LineOf, Offers, Served, begun_by, opened_by, url_in}
 use Rattle.line_account.specs.Deeds.{Begins, ComesTo, IsDeedOf, IsDeedOfEnd}
+use Rattle.line_account.specs.Requests.{IsAnswerTo}
 use Rattle.line_account.specs.Answers.{ComesIn, HasItem, HasOther, IsCauseOf, IsEntryAt, IsLong, IsSpent, ReadAs, Refuses, Run}
 use Rattle.line_account.specs.Accounts.{epoch_in}
 use Rattle.line_account.specs.Closing.{BegunIn, Closed, LineIn, Worker, offered}
@@ -255,3 +256,6 @@ module _ {X : Type 0} (r : Run X) (crew : List (Worker X)) (c : Closed r crew) w
 
   pub tab_told : (P : List Served → Served → Type 0) (p : LineIn crew P) → (p.line_of.line.answer ≡ answer.Tab) ↔ ¬ Fits p.line_of.earlier p.line_of.line.line.request
   tab_told P p = (tells_at r crew c P p).tab
+
+  pub answer_told : (P : List Served → Served → Type 0) (p : LineIn crew P) → IsAnswerTo p.line_of.line.line.request p.line_of.line.answer
+  answer_told P p = (tells_at r crew c P p).answers

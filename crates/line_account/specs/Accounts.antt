@@ -16,6 +16,7 @@ use Rattle.core_model.specs.Anchors.{opening_epoch}
 use Rattle.core_model.specs.Layout.{Setting}
 use Rattle.core_model.specs.Trails.{drawn, draws}
 use Rattle.line_account.specs.Lines.{Fits, IsAt, Offers, Served, Writes, gives_up, offers}
+use Rattle.line_account.specs.Requests.{IsAnswerTo}
 use Rattle.line_account.specs.Deeds.{Began, Grows, HasLine}
 use Rattle.line_account.specs.Answers.{ComesIn, HasHit, HasOpened, HasOther, IsBusy, IsCauseOf, IsKeyRead, IsLarge, IsLong, IsSpent, Refuses, Run}
 
@@ -72,6 +73,7 @@ pub record IsOffered {X : Type 0} (r : Run X) (s : Served) (url : List ℕ) (bod
 -- What the line s tells, with these before it, where v is what its worker knows.
 pub record Tells {X : Type 0} (r : Run X) (v : View X) (earlier : List Served) (s : Served) : Type 0 where
   pub shown : (a e : ℕ) → Shows r.setting.anchors earlier s a e → Contains v.seen (Stood a e)  -- the worker has seen each epoch that it shows
+  pub answers : IsAnswerTo s.line.request s.answer  -- the answer is one that the request may get
   pub drew : s.drew ≢ None → offers s.line.request ≡ true  -- only a line that offers a body draws a version
   pub began : (x : ℕ) → Began s.line.request s.answer x → HasBegun s  -- and it drew the version that it began
   pub finished : (x : ℕ) → (s.answer ≡ answer.Stored x) ⊎ (s.answer ≡ answer.Doomed x) → HasFinished r.setting v earlier s x

@@ -1,7 +1,9 @@
 pub mod Lines
+pub mod Requests
 pub mod Deeds
 pub mod Answers
 pub mod Accounts
-pub mod Closing
 pub mod Courses
+pub mod Closing
 pub mod Printed
+pub mod Order

@@ -1,6 +1,6 @@
 //! The laws of printed lines. These functions do nothing: the proof of a function that calls one may use
 //! what it ensures.
-ghost use Rattle.std.specs.Prelude.{◌≡◌, ◌≢◌, ◌+◌, ◌<◌, ◌≤◌, ◌↔◌, ◌∷◌, ℕ, List, [], true, false};
+ghost use Rattle.std.specs.Prelude.{◌≡◌, ◌≢◌, ◌+◌, ◌<◌, ◌≤◌, ◌↔◌, ◌∷◌, Contains, ℕ, List, [], true, false};
 ghost use Rattle.lock_word.specs.Words.{version_of, stage_of, doom_of, epoch_number, version_limit};
 ghost use Rattle.lock_word.specs.declared.cause.Cause.{Cause};
 ghost use Rattle.lock_word.specs.declared.epoch.Epoch.{Epoch};
@@ -11,6 +11,8 @@ ghost use Rattle.script_text.specs.declared.body.Body.{Body};
 ghost use Rattle.core_model.specs.Anchors.{opening_counter, opening_epoch};
 ghost use Rattle.line_account.specs.Lines.{Fits, Offers, Served};
 ghost use Rattle.line_account.specs.Deeds.{Begins};
+ghost use Rattle.line_account.specs.Requests.{IsAnswerTo};
+ghost use Rattle.line_account.specs.Order.{HandsOver, NotBelow, StandsAt, StandsIn, counts_as};
 ghost use Rattle.line_account.specs.Answers.{IsCauseOf, IsLong, Refuses, Run};
 ghost use Rattle.core_model.specs.declared.view.View.{View};
 ghost use Rattle.line_account.specs.Accounts.{Account, epoch_in};
@@ -109,11 +111,12 @@ pub fn spent_numbers_have_bounds<X>()
         → (version_limit ≤ n) × (n < opening_counter r.setting + offered crew) }
 {}
 
-/// Refusals have their causes. That of MISS and NONE is the one of the epoch and the key that it tells, for
+/// Each answer is one that its request may get, and refusals have their causes. That of MISS and NONE is the one of the epoch and the key that it tells, for
 /// the URL of the line. LARGE comes only where the body of the line, or of the one that began its tab's
 /// writing, needs more slots than an entry may have. TAB comes exactly where the tab is not as the request
 /// needs it. The epoch of PART is at APPENDING.
 pub fn refusals_have_causes<X>()
+    ensures answer { (r : Run X) (crew : List (Worker X)) → Closed r crew → (p : LineIn crew (λ earlier s. Unit {0})) → IsAnswerTo p.line_of.line.line.request p.line_of.line.answer }
     ensures cause { (r : Run X) (crew : List (Worker X)) (cause : Cause) → Closed r crew → (p : LineIn crew (λ earlier s. Refuses s.answer cause)) → IsCauseOf p.line_of.line (epoch_in cause) cause }
     ensures busy { (r : Run X) (crew : List (Worker X)) (looked other : Word) → Closed r crew → LineIn crew (λ earlier s. s.answer ≡ Answer.Busy looked other) → HasBusyWords looked other }
     ensures large { (r : Run X) (crew : List (Worker X)) (first : Served) (url : List ℕ) (body : Body) → Closed r crew
@@ -121,4 +124,22 @@ pub fn refusals_have_causes<X>()
     ensures long { (r : Run X) (crew : List (Worker X)) → Closed r crew → (p : LineIn crew (λ earlier s. s.answer ≡ Answer.LongUrl)) → IsLong r p.line_of.line }
     ensures tab { (r : Run X) (crew : List (Worker X)) → Closed r crew → (p : LineIn crew (λ earlier s. Unit {0})) → ((p.line_of.line.answer ≡ Answer.Tab) ↔ ¬ Fits p.line_of.earlier p.line_of.line.line.request) }
     ensures part { (r : Run X) (crew : List (Worker X)) (epoch : Epoch) (bytes : List ℕ) → Closed r crew → LineIn crew (λ earlier s. s.answer ≡ Answer.Part epoch bytes) → stage_of (epoch_number epoch) ≡ 2 }
+{}
+
+/// What a worker prints at an anchor is not below what the anchor had at the opening, nor below what its
+/// earlier lines there count as.
+pub fn lines_are_in_order<X>()
+    ensures opening { (r : Run X) (start end : View X) (stages before : List (Stage X)) (t : Stage X) (a : ℕ) → BeginsWork r start → Course r start stages end
+        → StandsAt r.setting.anchors stages t before a → a < r.setting.anchors → NotBelow (opening_epoch r.setting a) t.served.answer }
+    ensures own { (r : Run X) (start end : View X) (stages before earlier : List (Stage X)) (t s : Stage X) (a e : ℕ) → Course r start stages end
+        → StandsAt r.setting.anchors stages t before a → StandsAt r.setting.anchors before s earlier a → Contains (counts_as s.served.answer) e → NotBelow e t.served.answer }
+{}
+
+/// After a worker met a mark, what it prints at an anchor is not below what the lines there count as that
+/// the marking worker served before it set the mark.
+pub fn lines_are_in_order_after_marks<X>()
+    ensures { (r : Run X) (start end other last : View X) (stages before between others marked earlier : List (Stage X)) (t n m s : Stage X) (a e : ℕ)
+        → Course r start stages end → Course r other others last
+        → StandsAt r.setting.anchors stages t before a → StandsIn before n between → HandsOver m n → StandsIn others m marked → StandsAt r.setting.anchors marked s earlier a
+        → Contains (counts_as s.served.answer) e → NotBelow e t.served.answer }
 {}

@@ -1,5 +1,8 @@
-use Rattle.line_account.proofs.Printing.{busy_words, cause_told, long_told, part_told, tab_told, too_large}
+use Rattle.line_account.proofs.Printing.{answer_told, busy_words, cause_told, long_told, part_told, tab_told, too_large}
 use Rattle.line_account.proofs.laws.refusals_have_causes.Goals as goal
+
+pub returns-clause-answer : goal.returns-clause-answer
+returns-clause-answer c start r crew closed p = answer_told r crew closed (λ earlier s. Unit {0}) p
 
 pub returns-clause-cause : goal.returns-clause-cause
 returns-clause-cause c start r crew cause closed p = cause_told r crew closed cause p

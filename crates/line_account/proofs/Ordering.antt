@@ -1,0 +1,352 @@
+-- The laws on the order of printed epochs.
+use Rattle.std.proofs.Common.{◌≡◌, ◌⊎◌, inl, inr, ⊎_elim, ℕ, ◌+◌, ◌*◌, ◌<◌, ◌≤◌, List, [], ◌∷◌, ◌++◌, sym, refl, ap, ◌∙◌, subst, arith, Bool, true, cond, max, Contains, eq-eqb}
+use Rattle.std.specs.Prelude.{None, Some}
+use Rattle.lock_word.specs.Words.{doom_of, epoch_at, epoch_number, is_readable, mode_of, stage_of, version_of}
+use Rattle.lock_word.proofs.Testing.{mode_of-readable}
+use Rattle.script_text.specs.declared.answer.Answer.{Answer}
+use Rattle.script_text.specs.declared.answer.Answer.TheVariants as answer
+use Rattle.script_text.specs.declared.request.Request.{Request}
+use Rattle.script_text.specs.declared.request.Request.TheVariants.{Add, Await, Begin, CloseTab, DropTab, End, Get, Mark, More, OpenTab, Purge, Put, Save}
+use Rattle.core_model.specs.declared.view.Sight.{Sight}
+use Rattle.core_model.specs.declared.view.Sight.TheVariants.{Stood}
+use Rattle.core_model.specs.declared.view.View.{View}
+use Rattle.core_model.specs.Anchors.{opening_epoch}
+use Rattle.core_model.specs.Trails.{seen_at, stood}
+use Rattle.core_model.proofs.Lists.{cons_contains, contains_none}
+use Rattle.line_account.specs.Lines.{IsAt, Served}
+use Rattle.line_account.specs.Requests.{IsAnswerTo}
+use Rattle.line_account.specs.Answers.{ComesIn, HasOpened, Run}
+use Rattle.line_account.specs.Accounts.{Tells, epoch_in, epochs_of}
+use Rattle.line_account.specs.Courses.{Adds, Begins, Course, Stage, lines_in}
+use Rattle.line_account.specs.Order.{HandsOver, NotBelow, Opens, OpensOrStores, StandsAt, StandsIn, counts_as, printed, version_alone}
+
+-- What was seen.
+
+abbrev pick : ℕ → Bool → ℕ
+pick e b = cond b e 0
+
+sight_le : (a e : ℕ) (xs : List Sight) → Contains xs (Stood a e) → e ≤ seen_at a xs
+sight_le a e [] h = absurd (contains_none (Stood a e) h)
+sight_le a e (x ∷ xs) h = ⊎_elim
+    (λ (q : x ≡ Stood a e). let s : stood a x ≡ e = ap (stood a) q ∙ ap (pick e) (eq-eqb a a refl) in omega arith)
+    (λ (q : Contains xs (Stood a e)). let r = sight_le a e xs q in omega arith)
+    (cons_contains x (Stood a e) xs h)
+
+-- Answers.
+
+one : (e x : ℕ) → Contains (e ∷ []) x → e ≡ x
+one e x h = ⊎_elim (λ (q : e ≡ x). q) (λ (q : Contains [] x). absurd (contains_none x q)) (cons_contains e x [] h)
+
+first_of : (e : ℕ) (es : List ℕ) → Contains (e ∷ es) e
+first_of e es = (0, omega arith, refl)
+
+second_of : (d e : ℕ) → Contains (d ∷ e ∷ []) e
+second_of d e = (1, omega arith, refl)
+
+two : (d e x : ℕ) → Contains (d ∷ e ∷ []) x → (d ≡ x) ⊎ (e ≡ x)
+two d e x h = ⊎_elim (λ (q : d ≡ x). inl q) (λ (q : Contains (e ∷ []) x). inr (one e x q)) (cons_contains d x (e ∷ []) h)
+
+-- where an entry was opened
+record FoundAt (opened x : ℕ) : Type 0 where
+  readable : is_readable opened ≡ true
+  version_is : x ≡ version_of opened
+
+-- an answer that tells of no entry
+silent : (e : ℕ) (a : Answer) → printed a ≡ [] → version_alone a ≡ None → ((x : ℕ) → OpensOrStores a x → ⊥) → ((x : ℕ) → Opens a x → ⊥) → NotBelow e a
+silent e a none alone stores opens = record {
+  epochs = λ f q. absurd (contains_none f (subst (λ (l : List ℕ). Contains l f) none q));
+  versions = λ x q. absurd (let z : None ≡ Some x = sym alone ∙ q in cc);
+  undoomed = λ x q s. absurd (stores x q);
+  there = λ x q s. absurd (opens x q);
+}
+
+-- an answer that prints epochs
+tells_epochs : (e : ℕ) (a : Answer) → ((f : ℕ) → Contains (printed a) f → e ≤ f) → version_alone a ≡ None → ((x : ℕ) → OpensOrStores a x → ⊥) → ((x : ℕ) → Opens a x → ⊥) → NotBelow e a
+tells_epochs e a h alone stores opens = record {
+  epochs = h;
+  versions = λ x q. absurd (let z : None ≡ Some x = sym alone ∙ q in cc);
+  undoomed = λ x q s. absurd (stores x q);
+  there = λ x q s. absurd (opens x q);
+}
+
+-- an answer that tells of an entry that was opened
+opened_below : (e opened v : ℕ) → FoundAt opened v → e ≤ opened → (version_of e ≤ v) × (version_of e ≡ v → doom_of e ≡ 0) × (version_of e ≡ v → stage_of e < 4)
+opened_below e opened v found h = ⊎_elim
+    (λ (m : mode_of opened ≡ 2). let z = found.version_is in ((omega arith), (λ s. omega arith), (λ s. omega arith)))
+    (λ (m : mode_of opened ≡ 3). let z = found.version_is in ((omega arith), (λ s. omega arith), (λ s. omega arith)))
+    (mode_of-readable opened found.readable)
+
+below : (opened looked e : ℕ) (a : Answer) → ((x : ℕ) → Opens a x → FoundAt opened x) → ((f : ℕ) → Contains (epochs_of opened looked a) f → e ≤ f) → NotBelow e a
+below opened looked e (answer.Stored version) found h = let le = h (epoch_at version 3) (first_of (epoch_at version 3) []) in record {
+  epochs = λ f q. absurd (contains_none f q);
+  versions = λ x q. let is : version ≡ x = cc in omega arith;
+  undoomed = λ x q s. omega arith;
+  there = λ x q s. absurd q;
+}
+below opened looked e (answer.Doomed version) found h = let le = h (epoch_at version 11) (first_of (epoch_at version 11) []) in record {
+  epochs = λ f q. absurd (contains_none f q);
+  versions = λ x q. let is : version ≡ x = cc in omega arith;
+  undoomed = λ x q s. absurd q;
+  there = λ x q s. absurd q;
+}
+below opened looked e (answer.Begun version) found h = let le = h (epoch_at version 1) (first_of (epoch_at version 1) []) in record {
+  epochs = λ f q. absurd (contains_none f q);
+  versions = λ x q. let is : version ≡ x = cc in omega arith;
+  undoomed = λ x q s. absurd q;
+  there = λ x q s. absurd q;
+}
+below opened looked e (answer.Opened version) found h = let b = opened_below e opened version (found version refl) (h opened (first_of opened [])) in record {
+  epochs = λ f q. absurd (contains_none f q);
+  versions = λ x q. let is : version ≡ x = cc in let z = b.0 in omega arith;
+  undoomed = λ x q s. b.1 (s ∙ sym q);
+  there = λ x q s. b.2 (s ∙ sym q);
+}
+below opened looked e (answer.Hit version bytes) found h = let b = opened_below e opened version (found version refl) (h opened (first_of opened [])) in record {
+  epochs = λ f q. absurd (contains_none f q);
+  versions = λ x q. let is : version ≡ x = cc in let z = b.0 in omega arith;
+  undoomed = λ x q s. b.1 (s ∙ sym q);
+  there = λ x q s. b.2 (s ∙ sym q);
+}
+below opened looked e (answer.Busy first second) found h = tells_epochs e (answer.Busy first second) h refl (λ x q. q) (λ x q. q)
+below opened looked e (answer.Part epoch bytes) found h = tells_epochs e (answer.Part epoch bytes) h refl (λ x q. q) (λ x q. q)
+below opened looked e (answer.Miss cause) found h = tells_epochs e (answer.Miss cause) h refl (λ x q. q) (λ x q. q)
+below opened looked e (answer.Purged epoch) found h = tells_epochs e (answer.Purged epoch) h refl (λ x q. q) (λ x q. q)
+below opened looked e (answer.NoEntry cause) found h = tells_epochs e (answer.NoEntry cause) h refl (λ x q. q) (λ x q. q)
+below opened looked e (answer.Spent versions) found h = silent e (answer.Spent versions) refl refl (λ x q. q) (λ x q. q)
+below opened looked e answer.LongUrl found h = silent e answer.LongUrl refl refl (λ x q. q) (λ x q. q)
+below opened looked e answer.Full found h = silent e answer.Full refl refl (λ x q. q) (λ x q. q)
+below opened looked e answer.Large found h = silent e answer.Large refl refl (λ x q. q) (λ x q. q)
+below opened looked e answer.Fault found h = silent e answer.Fault refl refl (λ x q. q) (λ x q. q)
+below opened looked e (answer.End bytes) found h = silent e (answer.End bytes) refl refl (λ x q. q) (λ x q. q)
+below opened looked e (answer.Halted bytes) found h = silent e (answer.Halted bytes) refl refl (λ x q. q) (λ x q. q)
+below opened looked e (answer.ReadFault bytes) found h = silent e (answer.ReadFault bytes) refl refl (λ x q. q) (λ x q. q)
+below opened looked e answer.OtherUrl found h = silent e answer.OtherUrl refl refl (λ x q. q) (λ x q. q)
+below opened looked e (answer.Added count) found h = silent e (answer.Added count) refl refl (λ x q. q) (λ x q. q)
+below opened looked e answer.Dropped found h = silent e answer.Dropped refl refl (λ x q. q) (λ x q. q)
+below opened looked e answer.Closed found h = silent e answer.Closed refl refl (λ x q. q) (λ x q. q)
+below opened looked e answer.Marked found h = silent e answer.Marked refl refl (λ x q. q) (λ x q. q)
+below opened looked e answer.Met found h = silent e answer.Met refl refl (λ x q. q) (λ x q. q)
+below opened looked e answer.Unmet found h = silent e answer.Unmet refl refl (λ x q. q) (λ x q. q)
+below opened looked e answer.Tab found h = silent e answer.Tab refl refl (λ x q. q) (λ x q. q)
+
+-- what an answer counts as is at most what its line shows
+record ShowsMore (opened looked e : ℕ) (a : Answer) : Type 0 where
+  epoch : ℕ
+  shown : Contains (epochs_of opened looked a) epoch
+  more : e ≤ epoch
+
+as_shown : (opened looked e f : ℕ) (a : Answer) → f ≡ e → Contains (epochs_of opened looked a) f → ShowsMore opened looked e a
+as_shown opened looked e f a is h = record { epoch = f; shown = h; more = omega arith }
+
+opened_more : (opened v : ℕ) → FoundAt opened v → epoch_at v 2 ≤ opened
+opened_more opened v found = ⊎_elim
+    (λ (m : mode_of opened ≡ 2). let z = found.version_is in omega arith)
+    (λ (m : mode_of opened ≡ 3). let z = found.version_is in omega arith)
+    (mode_of-readable opened found.readable)
+
+counted : (opened looked e : ℕ) (a : Answer) → ((x : ℕ) → Opens a x → FoundAt opened x) → Contains (counts_as a) e → ShowsMore opened looked e a
+counted opened looked e (answer.Stored version) found h = as_shown opened looked e (epoch_at version 3) (answer.Stored version) (one (epoch_at version 3) e h) (first_of (epoch_at version 3) [])
+counted opened looked e (answer.Doomed version) found h = as_shown opened looked e (epoch_at version 11) (answer.Doomed version) (one (epoch_at version 11) e h) (first_of (epoch_at version 11) [])
+counted opened looked e (answer.Begun version) found h = as_shown opened looked e (epoch_at version 1) (answer.Begun version) (one (epoch_at version 1) e h) (first_of (epoch_at version 1) [])
+counted opened looked e (answer.Part epoch bytes) found h = as_shown opened looked e (epoch_number epoch) (answer.Part epoch bytes) (one (epoch_number epoch) e h) (first_of (epoch_number epoch) [])
+counted opened looked e (answer.Purged epoch) found h = as_shown opened looked e (epoch_number epoch) (answer.Purged epoch) (one (epoch_number epoch) e h) (first_of (epoch_number epoch) [])
+counted opened looked e (answer.Miss cause) found h = as_shown opened looked e (epoch_number (epoch_in cause)) (answer.Miss cause) (one (epoch_number (epoch_in cause)) e h) (first_of (epoch_number (epoch_in cause)) [])
+counted opened looked e (answer.NoEntry cause) found h = as_shown opened looked e (epoch_number (epoch_in cause)) (answer.NoEntry cause) (one (epoch_number (epoch_in cause)) e h) (first_of (epoch_number (epoch_in cause)) [])
+counted opened looked e (answer.Opened version) found h = let is = one (epoch_at version 2) e h in let m = opened_more opened version (found version refl) in record { epoch = opened; shown = first_of opened []; more = omega arith }
+counted opened looked e (answer.Hit version bytes) found h = let is = one (epoch_at version 2) e h in let m = opened_more opened version (found version refl) in record { epoch = opened; shown = first_of opened []; more = omega arith }
+counted opened looked e (answer.Busy first second) found h = ⊎_elim
+    (λ (q : epoch_number first.epoch ≡ e). as_shown opened looked e (epoch_number first.epoch) (answer.Busy first second) q (first_of (epoch_number first.epoch) (epoch_number second.epoch ∷ [])))
+    (λ (q : epoch_number second.epoch ≡ e). as_shown opened looked e (epoch_number second.epoch) (answer.Busy first second) q (second_of (epoch_number first.epoch) (epoch_number second.epoch)))
+    (two (epoch_number first.epoch) (epoch_number second.epoch) e h)
+counted opened looked e (answer.Spent versions) found h = absurd (contains_none e h)
+counted opened looked e answer.LongUrl found h = absurd (contains_none e h)
+counted opened looked e answer.Full found h = absurd (contains_none e h)
+counted opened looked e answer.Large found h = absurd (contains_none e h)
+counted opened looked e answer.Fault found h = absurd (contains_none e h)
+counted opened looked e (answer.End bytes) found h = absurd (contains_none e h)
+counted opened looked e (answer.Halted bytes) found h = absurd (contains_none e h)
+counted opened looked e (answer.ReadFault bytes) found h = absurd (contains_none e h)
+counted opened looked e answer.OtherUrl found h = absurd (contains_none e h)
+counted opened looked e (answer.Added count) found h = absurd (contains_none e h)
+counted opened looked e answer.Dropped found h = absurd (contains_none e h)
+counted opened looked e answer.Closed found h = absurd (contains_none e h)
+counted opened looked e answer.Marked found h = absurd (contains_none e h)
+counted opened looked e answer.Met found h = absurd (contains_none e h)
+counted opened looked e answer.Unmet found h = absurd (contains_none e h)
+counted opened looked e answer.Tab found h = absurd (contains_none e h)
+
+-- OPEN and HIT come to lines that opened an entry
+
+comes_opened : (q : Request) (version : ℕ) → IsAnswerTo q (answer.Opened version) → ComesIn q (answer.Opened version) version
+comes_opened (Put url body) version h = absurd h
+comes_opened (Save url body) version h = absurd h
+comes_opened (Get url) version h = absurd h
+comes_opened (Purge url) version h = absurd h
+comes_opened (Begin tab url body) version h = absurd h
+comes_opened (Add tab count) version h = absurd h
+comes_opened (End tab) version h = absurd h
+comes_opened (DropTab tab) version h = absurd h
+comes_opened (OpenTab tab url) version h = refl
+comes_opened (More tab) version h = absurd h
+comes_opened (CloseTab tab) version h = absurd h
+comes_opened (Mark mark) version h = absurd h
+comes_opened (Await mark) version h = absurd h
+
+comes_hit : (q : Request) (version : ℕ) (bytes : List ℕ) → IsAnswerTo q (answer.Hit version bytes) → ComesIn q (answer.Hit version bytes) version
+comes_hit (Put url body) version bytes h = absurd h
+comes_hit (Save url body) version bytes h = absurd h
+comes_hit (Get url) version bytes h = refl
+comes_hit (Purge url) version bytes h = absurd h
+comes_hit (Begin tab url body) version bytes h = absurd h
+comes_hit (Add tab count) version bytes h = absurd h
+comes_hit (End tab) version bytes h = absurd h
+comes_hit (DropTab tab) version bytes h = absurd h
+comes_hit (OpenTab tab url) version bytes h = absurd h
+comes_hit (More tab) version bytes h = absurd h
+comes_hit (CloseTab tab) version bytes h = absurd h
+comes_hit (Mark mark) version bytes h = absurd h
+comes_hit (Await mark) version bytes h = absurd h
+
+told_opened : (q : Request) (version x : ℕ) → ComesIn q (answer.Opened version) x → version ≡ x
+told_opened (Put url body) version x h = absurd h
+told_opened (Save url body) version x h = absurd h
+told_opened (Get url) version x h = absurd h
+told_opened (Purge url) version x h = absurd h
+told_opened (Begin tab url body) version x h = absurd h
+told_opened (Add tab count) version x h = absurd h
+told_opened (End tab) version x h = absurd h
+told_opened (DropTab tab) version x h = absurd h
+told_opened (OpenTab tab url) version x h = h
+told_opened (More tab) version x h = absurd h
+told_opened (CloseTab tab) version x h = absurd h
+told_opened (Mark mark) version x h = absurd h
+told_opened (Await mark) version x h = absurd h
+
+told_hit : (q : Request) (version x : ℕ) (bytes : List ℕ) → ComesIn q (answer.Hit version bytes) x → version ≡ x
+told_hit (Put url body) version x bytes h = absurd h
+told_hit (Save url body) version x bytes h = absurd h
+told_hit (Get url) version x bytes h = h
+told_hit (Purge url) version x bytes h = absurd h
+told_hit (Begin tab url body) version x bytes h = absurd h
+told_hit (Add tab count) version x bytes h = absurd h
+told_hit (End tab) version x bytes h = absurd h
+told_hit (DropTab tab) version x bytes h = absurd h
+told_hit (OpenTab tab url) version x bytes h = absurd h
+told_hit (More tab) version x bytes h = absurd h
+told_hit (CloseTab tab) version x bytes h = absurd h
+told_hit (Mark mark) version x bytes h = absurd h
+told_hit (Await mark) version x bytes h = absurd h
+
+module _ {X : Type 0} (r : Run X) (v : View X) (earlier : List Served) (s : Served) (t : Tells r v earlier s) where
+  found_of : (version : ℕ) → version ≡ version_of s.opened → HasOpened r v s → FoundAt s.opened version
+  found_of version is o = record { readable = o.entry.readable; version_is = is }
+
+  opened_at : (version : ℕ) → s.answer ≡ answer.Opened version → FoundAt s.opened version
+  opened_at version e =
+      let may : IsAnswerTo s.line.request (answer.Opened version) = subst (IsAnswerTo s.line.request) e t.answers in
+      let comes : ComesIn s.line.request s.answer version = subst (λ (z : Answer). ComesIn s.line.request z version) (sym e) (comes_opened s.line.request version may) in
+      let o = t.opened version comes in
+      found_of version (told_opened s.line.request version (version_of s.opened) (subst (λ (z : Answer). ComesIn s.line.request z (version_of s.opened)) e o.told)) o
+
+  hit_at : (version : ℕ) (bytes : List ℕ) → s.answer ≡ answer.Hit version bytes → FoundAt s.opened version
+  hit_at version bytes e =
+      let may : IsAnswerTo s.line.request (answer.Hit version bytes) = subst (IsAnswerTo s.line.request) e t.answers in
+      let comes : ComesIn s.line.request s.answer version = subst (λ (z : Answer). ComesIn s.line.request z version) (sym e) (comes_hit s.line.request version bytes may) in
+      let o = t.opened version comes in
+      found_of version (told_hit s.line.request version (version_of s.opened) bytes (subst (λ (z : Answer). ComesIn s.line.request z (version_of s.opened)) e o.told)) o
+
+  reads_of : (a : Answer) → a ≡ s.answer → (x : ℕ) → Opens a x → FoundAt s.opened x
+  reads_of (answer.Opened version) e x q = subst (FoundAt s.opened) q (opened_at version (sym e))
+  reads_of (answer.Hit version bytes) e x q = subst (FoundAt s.opened) q (hit_at version bytes (sym e))
+  reads_of (answer.Stored version) e x q = absurd q
+  reads_of (answer.Doomed version) e x q = absurd q
+  reads_of (answer.Busy first second) e x q = absurd q
+  reads_of (answer.Spent versions) e x q = absurd q
+  reads_of answer.LongUrl e x q = absurd q
+  reads_of answer.Full e x q = absurd q
+  reads_of answer.Large e x q = absurd q
+  reads_of answer.Fault e x q = absurd q
+  reads_of (answer.Part epoch bytes) e x q = absurd q
+  reads_of (answer.End bytes) e x q = absurd q
+  reads_of (answer.Halted bytes) e x q = absurd q
+  reads_of (answer.ReadFault bytes) e x q = absurd q
+  reads_of answer.OtherUrl e x q = absurd q
+  reads_of (answer.Miss cause) e x q = absurd q
+  reads_of (answer.Purged epoch) e x q = absurd q
+  reads_of (answer.NoEntry cause) e x q = absurd q
+  reads_of (answer.Begun version) e x q = absurd q
+  reads_of (answer.Added count) e x q = absurd q
+  reads_of answer.Dropped e x q = absurd q
+  reads_of answer.Closed e x q = absurd q
+  reads_of answer.Marked e x q = absurd q
+  reads_of answer.Met e x q = absurd q
+  reads_of answer.Unmet e x q = absurd q
+  reads_of answer.Tab e x q = absurd q
+
+  reads : (x : ℕ) → Opens s.answer x → FoundAt s.opened x
+  reads x q = reads_of s.answer refl x q
+
+-- Courses.
+
+module _ {X : Type 0} (r : Run X) (start : View X) where
+  -- a stage of a course: what it adds, the course before it, and what is still known after it
+  record HasStage (t : Stage X) (earlier : List (Stage X)) (end : View X) : Type 0 where
+    adds : Adds r t.before (lines_in earlier) t.served t.after
+    course : Course r start earlier t.before
+    keeps : (x : Sight) → Contains t.after.seen x → Contains end.seen x
+
+  stage_in : (stages later : List (Stage X)) (t : Stage X) (earlier : List (Stage X)) (end : View X) → stages ≡ later ++ t ∷ earlier → Course r start stages end → HasStage t earlier end
+  stage_in stages [] t earlier end e c =
+      let k : Course r start (t ∷ earlier) end = subst (λ (l : List (Stage X)). Course r start l end) e c in
+      record { adds = k.1; course = k.2; keeps = λ x h. subst (λ (v : View X). Contains v.seen x) (sym k.0) h }
+  stage_in stages (y ∷ later) t earlier end e c =
+      let k : Course r start (y ∷ (later ++ t ∷ earlier)) end = subst (λ (l : List (Stage X)). Course r start l end) e c in
+      let h = stage_in (later ++ t ∷ earlier) later t earlier y.before refl k.2 in
+      record { adds = h.adds; course = h.course; keeps = λ x q. subst (λ (v : View X). Contains v.seen x) (sym k.0) (k.1.keeps.seen x (h.keeps x q)) }
+
+  -- what was seen before a line is not above what it shows
+  not_below_seen : (t : Stage X) (earlier : List (Stage X)) (a d e : ℕ) → Adds r t.before (lines_in earlier) t.served t.after → IsAt r.setting.anchors (lines_in earlier) t.served a → d ≤ e → Contains t.before.seen (Stood a e) → NotBelow d t.served.answer
+  not_below_seen t earlier a d e n at less h = below t.served.opened t.served.looked d t.served.answer (reads r t.after (lines_in earlier) t.served n.tells)
+      (λ f q. let le = sight_le a e t.before.seen h in let fresh = n.fresh a f record { at = at; shown = q } in omega arith)
+
+  -- what was seen at the beginning is known along the course
+  start_known : (stages : List (Stage X)) (end : View X) (x : Sight) → Course r start stages end → Contains start.seen x → Contains end.seen x
+  start_known [] end x c h = subst (λ (v : View X). Contains v.seen x) (sym c) h
+  start_known (s ∷ earlier) end x c h = subst (λ (v : View X). Contains v.seen x) (sym c.0) (c.1.keeps.seen x (start_known earlier s.before x c.2 h))
+
+  pub not_below_opening : (stages : List (Stage X)) (end : View X) (t : Stage X) (before : List (Stage X)) (a : ℕ) → Begins r start → Course r start stages end → StandsAt r.setting.anchors stages t before a → a < r.setting.anchors
+      → NotBelow (opening_epoch r.setting a) t.served.answer
+  not_below_opening stages end t before a b c is lt =
+      let h = stage_in stages is.in_.later t before end is.in_.split c in
+      not_below_seen t before a (opening_epoch r.setting a) (opening_epoch r.setting a) h.adds is.at (omega arith) (start_known before t.before (Stood a (opening_epoch r.setting a)) h.course (b.opening a lt))
+
+  -- an epoch that a line counts as, and one that it shows, which was seen after it
+  record Seen (a d : ℕ) (v : View X) : Type 0 where
+    epoch : ℕ
+    more : d ≤ epoch
+    seen : Contains v.seen (Stood a epoch)
+
+  seen_after : (stages : List (Stage X)) (end : View X) (s : Stage X) (earlier : List (Stage X)) (a d : ℕ) → Course r start stages end → StandsAt r.setting.anchors stages s earlier a → Contains (counts_as s.served.answer) d → Seen a d end
+  seen_after stages end s earlier a d c is q =
+      let h = stage_in stages is.in_.later s earlier end is.in_.split c in
+      let m = counted s.served.opened s.served.looked d s.served.answer (reads r s.after (lines_in earlier) s.served h.adds.tells) q in
+      record { epoch = m.epoch; more = m.more; seen = h.keeps (Stood a m.epoch) (h.adds.tells.shown a m.epoch record { at = is.at; shown = m.shown }) }
+
+  pub not_below_earlier : (stages : List (Stage X)) (end : View X) (t s : Stage X) (before earlier : List (Stage X)) (a d : ℕ) → Course r start stages end
+      → StandsAt r.setting.anchors stages t before a → StandsAt r.setting.anchors before s earlier a → Contains (counts_as s.served.answer) d → NotBelow d t.served.answer
+  not_below_earlier stages end t s before earlier a d c is was q =
+      let h = stage_in stages is.in_.later t before end is.in_.split c in
+      let k = seen_after before t.before s earlier a d h.course was q in
+      not_below_seen t before a d k.epoch h.adds is.at k.more k.seen
+
+module _ {X : Type 0} (r : Run X) (start other : View X) where
+  -- the other worker's lines before its mark
+  pub not_below_met : (stages others : List (Stage X)) (end last : View X) (t n m s : Stage X) (before between marked earlier : List (Stage X)) (a d : ℕ) → Course r start stages end → Course r other others last
+      → StandsAt r.setting.anchors stages t before a → StandsIn before n between → HandsOver m n → StandsIn others m marked → StandsAt r.setting.anchors marked s earlier a
+      → Contains (counts_as s.served.answer) d → NotBelow d t.served.answer
+  not_below_met stages others end last t n m s before between marked earlier a d c o is met hands mark was q =
+      let h = stage_in r start stages is.in_.later t before end is.in_.split c in
+      let g = stage_in r start before met.later n between t.before met.split h.course in
+      let f = stage_in r other others mark.later m marked last mark.split o in
+      let k = seen_after r other marked m.before s earlier a d f.course was q in
+      not_below_seen r start t before a d k.epoch h.adds is.at k.more (g.keeps (Stood a k.epoch) (hands.hands (Stood a k.epoch) k.seen))

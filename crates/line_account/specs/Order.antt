@@ -1,0 +1,83 @@
+-- In which order workers print epochs and versions.
+use Rattle.std.specs.Prelude.{List, None, Option, Some, [], ◌++◌, ◌<◌, ◌∷◌, ◌≡◌, ◌≤◌, Contains, ℕ}
+use Rattle.lock_word.specs.Words.{doom_of, epoch_at, epoch_number, stage_of, version_of}
+use Rattle.script_text.specs.declared.answer.Answer.{Answer}
+use Rattle.script_text.specs.declared.answer.Answer.TheVariants as answer
+use Rattle.script_text.specs.declared.request.Request.TheVariants.{Await, Mark}
+use Rattle.core_model.specs.declared.view.Sight.{Sight}
+use Rattle.core_model.specs.declared.view.View.{View}
+use Rattle.line_account.specs.Lines.{IsAt}
+use Rattle.line_account.specs.Answers.{Run}
+use Rattle.line_account.specs.Accounts.{epoch_in}
+use Rattle.line_account.specs.Courses.{Stage, lines_in}
+
+-- the epochs that an answer prints, and the version that it prints alone
+abbrev pub printed : Answer → List ℕ
+printed (answer.Busy first second) = epoch_number first.epoch ∷ epoch_number second.epoch ∷ []
+printed (answer.Part epoch bytes) = epoch_number epoch ∷ []
+printed (answer.Purged epoch) = epoch_number epoch ∷ []
+printed (answer.Miss cause) = epoch_number (epoch_in cause) ∷ []
+printed (answer.NoEntry cause) = epoch_number (epoch_in cause) ∷ []
+printed _ = []
+
+abbrev pub version_alone : Answer → Option ℕ
+version_alone (answer.Stored version) = Some version
+version_alone (answer.Doomed version) = Some version
+version_alone (answer.Begun version) = Some version
+version_alone (answer.Opened version) = Some version
+version_alone (answer.Hit version bytes) = Some version
+version_alone _ = None
+
+-- What an answer counts as for later lines: STORED as the epoch of the version at CLOSED, DOOMED as that with the doom bit, OPEN and HIT
+-- as that at APPENDING, and BEGUN as that at TAKEN.
+abbrev pub counts_as : Answer → List ℕ
+counts_as (answer.Stored version) = epoch_at version 3 ∷ []
+counts_as (answer.Doomed version) = epoch_at version 11 ∷ []
+counts_as (answer.Opened version) = epoch_at version 2 ∷ []
+counts_as (answer.Hit version bytes) = epoch_at version 2 ∷ []
+counts_as (answer.Begun version) = epoch_at version 1 ∷ []
+counts_as (answer.Busy first second) = epoch_number first.epoch ∷ epoch_number second.epoch ∷ []
+counts_as (answer.Part epoch bytes) = epoch_number epoch ∷ []
+counts_as (answer.Purged epoch) = epoch_number epoch ∷ []
+counts_as (answer.Miss cause) = epoch_number (epoch_in cause) ∷ []
+counts_as (answer.NoEntry cause) = epoch_number (epoch_in cause) ∷ []
+counts_as _ = []
+
+-- it tells that the version x was opened
+abbrev pub Opens : Answer → ℕ → Type 0
+Opens (answer.Opened version) x = version ≡ x
+Opens (answer.Hit version bytes) x = version ≡ x
+Opens _ x = ⊥
+
+-- or that it was opened or stored
+abbrev pub OpensOrStores : Answer → ℕ → Type 0
+OpensOrStores (answer.Opened version) x = version ≡ x
+OpensOrStores (answer.Hit version bytes) x = version ≡ x
+OpensOrStores (answer.Stored version) x = version ≡ x
+OpensOrStores _ x = ⊥
+
+-- What the answer a prints is not below the epoch e, which was shown before: no epoch is, and no version that is printed alone is below
+-- that of e. Where e is of the version that a opens or stores, it is not doomed, and where a opens it, e is not at HALTED, FREEING or GONE.
+pub record NotBelow (e : ℕ) (a : Answer) : Type 0 where
+  pub epochs : (f : ℕ) → Contains (printed a) f → e ≤ f
+  pub versions : (x : ℕ) → version_alone a ≡ Some x → version_of e ≤ x
+  pub undoomed : (x : ℕ) → OpensOrStores a x → version_of e ≡ x → doom_of e ≡ 0
+  pub there : (x : ℕ) → Opens a x → version_of e ≡ x → stage_of e < 4
+
+-- the line t is among those that a worker served, with these before it
+pub record StandsIn {X : Type 0} (stages : List (Stage X)) (t : Stage X) (earlier : List (Stage X)) : Type 0 where
+  pub later : List (Stage X)
+  pub split : stages ≡ later ++ t ∷ earlier
+
+-- and is at work at the anchor a
+pub record StandsAt {X : Type 0} (anchors : ℕ) (stages : List (Stage X)) (t : Stage X) (earlier : List (Stage X)) (a : ℕ) : Type 0 where
+  pub in_ : StandsIn stages t earlier
+  pub at : IsAt anchors (lines_in earlier) t.served a
+
+-- The second line met the mark that the first one set: after it the worker has seen all that the other had seen when it set the mark.
+pub record HandsOver {X : Type 0} (mark met : Stage X) : Type 0 where
+  pub number : ℕ
+  pub sets : mark.served.line.request ≡ Mark number
+  pub awaits : met.served.line.request ≡ Await number
+  pub meets : met.served.answer ≡ answer.Met
+  pub hands : (x : Sight) → Contains mark.before.seen x → Contains met.after.seen x
