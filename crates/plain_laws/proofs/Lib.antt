@@ -31,3 +31,4 @@ pub mod Standing
 pub mod PrivateLines
 pub mod Openings
 pub mod Fewer
+pub mod Filed

@@ -80,7 +80,7 @@ kept_weigh room anchors [] n = omega (arith, no_weight room anchors 0 n)
 kept_weigh room anchors (k ∷ kept) n = omega (arith, one_more room anchors k kept 0 n, kept_weigh room anchors kept n, sum_by-cons (weight room) k kept)
 
 -- what stands at an anchor has a version that was given out
-found_all : (P : Kept → Type 0) (test : Kept → Bool) (kept : List Kept) (k : Kept) → All P kept → find test kept ≡ Some k → P k
+pub found_all : (P : Kept → Type 0) (test : Kept → Bool) (kept : List Kept) (k : Kept) → All P kept → find test kept ≡ Some k → P k
 found_all P test [] k all e = let no_one : None ≡ Some k = e in cc
 found_all P test (x ∷ kept) k all e = by_test (test x) refl (found_all P test kept k (All-tail P x kept all))
   where

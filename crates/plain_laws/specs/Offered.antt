@@ -2,6 +2,8 @@
 use Rattle.std.specs.Prelude.{◌≡◌, ◌⊎◌, ℕ, ◌+◌, List, Contains, Some}
 use Rattle.store_key.specs.Key.{key_of}
 use Rattle.store_key.specs.Anchor.{anchor_of}
+use Rattle.rebuild_model.specs.Entry.{Entry as FileEntry}
+use Rattle.rebuild_model.specs.Rebuilt.{IsWinner}
 use Rattle.script_text.specs.declared.body.Body.{Body}
 use Rattle.script_text.specs.declared.line.Line.{Line}
 use Rattle.script_text.specs.declared.request.Request.{Request}
@@ -52,3 +54,12 @@ pub record IsOfStore (p : Plain) (anchor : ℕ) (e : Entry) : Type 0 where
 
 abbrev pub HasOrigin : Setting → List Line → Plain → ℕ → Entry → Type 0
 HasOrigin s lines p anchor e = IsOfLines s lines anchor e ⊎ IsOfStore p anchor e
+
+-- a rebuild keeps this entry of the file at that anchor
+pub record IsOfFile (slot : ℕ) (images : List (List ℕ)) (anchors anchor : ℕ) (e : Entry) : Type 0 where
+  pub file : FileEntry
+  pub winner : IsWinner slot images anchors anchor file
+  pub url : e.url ≡ file.url
+  pub key : e.key ≡ file.key
+  pub body : e.body ≡ file.body
+  pub offer : e.offer ≡ file.first

@@ -1,5 +1,5 @@
 // The laws.
-ghost use Rattle.std.specs.Prelude.{◌≡◌, ◌+◌, ◌<◌, ◌≤◌, ℕ, List, length, map, filter, Bool, Some};
+ghost use Rattle.std.specs.Prelude.{◌≡◌, ◌⊎◌, ◌+◌, ◌<◌, ◌≤◌, ℕ, List, length, map, filter, Bool, Some};
 ghost use Rattle.script_text.specs.declared.line.Line.{Line};
 ghost use Rattle.script_text.specs.declared.answer.Answer.{Answer};
 ghost use Rattle.plain_model.specs.declared.entry.Entry.{Entry};
@@ -12,7 +12,7 @@ ghost use Rattle.rebuild_model.specs.Rebuilt.{IsRebuilt};
 ghost use Rattle.rebuild_model.specs.declared.rebuilt.Rebuilt.{Rebuilt};
 ghost use Rattle.plain_model.specs.Opening.{kept_of, opened, IsOpened};
 ghost use Rattle.plain_model.specs.declared.kept.Kept.{Kept};
-ghost use Rattle.plain_laws.specs.Offered.{HasOrigin};
+ghost use Rattle.plain_laws.specs.Offered.{HasOrigin, IsOfLines, IsOfFile};
 ghost use Rattle.plain_laws.specs.Begun.{begun, RiseAbove};
 ghost use Rattle.plain_laws.specs.Hit.{IsHit};
 ghost use Rattle.plain_laws.specs.Holding.{HoldsItsSlots, slots_held};
@@ -29,10 +29,13 @@ pub fn versions_are_begun_once()
 {}
 
 /// The entry of an anchor is what one of the lines offers, under its URL and with its whole body, or one
-/// that the store had there before.
+/// that the store had there before; where the store was opened on a file, one that a rebuild keeps there.
 pub fn entries_are_of_lines()
-    ensures { (s : Setting) (script lines : List Line) (p : Plain) (anchor : ℕ) (e : Entry)
+    ensures store { (s : Setting) (script lines : List Line) (p : Plain) (anchor : ℕ) (e : Entry)
         → entry_at (after s script lines p) anchor ≡ Some e → HasOrigin s lines p anchor e }
+    ensures file { (s : Setting) (slot : ℕ) (images : List (List ℕ)) (script lines : List Line) (p : Plain) (anchor : ℕ) (e : Entry)
+        → IsOpened slot images s.anchors p → entry_at (after s script lines p) anchor ≡ Some e
+        → IsOfLines s lines anchor e ⊎ IsOfFile slot images s.anchors anchor e }
 {}
 
 /// A whole hit has the body of the entry at the anchor of the URL: one that is whole and has that URL, and
