@@ -6,7 +6,7 @@ use Rattle.lock_word.specs.declared.stage.Stage.{Stage}
 use Rattle.core_model.specs.declared.tab.Cell.{Cell}
 use Rattle.core_model.specs.declared.tab.Tab.{Tab}
 use Rattle.core_model.specs.declared.tab.Tab.TheVariants.{Free, Retreating, Reading, Writing, Last, Freeing}
-use Rattle.core_model.specs.declared.moves.Move.TheVariants.{Enter, Leave, Raise, Take, Evict, LoadSide, StoreSide}
+use Rattle.core_model.specs.declared.moves.Move.TheVariants.{Enter, Leave, Raise, Take, Evict, GetLink, LoadSide, StoreSide}
 use Rattle.core_model.specs.declared.view.View.{View}
 use Rattle.store_rule.specs.Ground.{Ground}
 use Rattle.core_model.specs.Tabs.{tab_at, anchor_of}
@@ -15,10 +15,11 @@ use Rattle.core_model.specs.Table.{left_by}
 use Rattle.core_model.specs.State.{chain_of}
 use Rattle.core_model.specs.Trails.{last_find}
 use Rattle.core_model.specs.declared.moves.Side.{Side}
-use Rattle.core_model.specs.SlotMoves.{loaded, stores}
+use Rattle.core_model.specs.Chains.{link_of}
+use Rattle.core_model.specs.SlotMoves.{loaded, looks, stores}
 use Rattle.core_model.specs.CellMoves.{tries, ends}
 use Rattle.core_model.specs.AnchorMoves.{entered, left_tab, raised_tab, writer_of, freer_of, taken_tabs, evicted_tabs}
-use Rattle.store_rule.specs.Tabs.{at_of, tabs_at, anchor_here, stage_here, entered_here, left_here, raised_here, taken_here, whole_here, evicted_here}
+use Rattle.store_rule.specs.Tabs.{at_of, tabs_at, anchor_here, stage_here, entered_here, left_here, raised_here, taken_here, new_writing, whole_here, evicted_here, ended_here, followed_here, loaded_here}
 use Rattle.store_rule.specs.Told.{Steps, found_as}
 use Rattle.store_rule.specs.declared.tabs.At.{At}
 
@@ -86,17 +87,17 @@ module _ {X : Type 0} where
 
   module _ (g : Ground X) (v w : View X) (t a n : ℕ) (old new : List At) (hand : old ≡ tabs_at v) where
     -- the step found the word expected, and took the anchor or had its entry freed
-    pub taken_hand : (u : ℕ) → (st : Steps g v (Take t a u) n w) → n ≡ last_find a v.trail → (idle : Bool) → idle ≡ is_idle n → new ≡ taken_here old t a idle → new ≡ tabs_at w
+    pub taken_hand : (u : ℕ) → (st : Steps g v (Take t a u) n w) → n ≡ last_find a v.trail → (idle : Bool) → idle ≡ is_idle n → new ≡ taken_here old t a u idle → new ≡ tabs_at w
     taken_hand u st same idle idle_is made =
         let h = eq-eqb n (last_find a v.trail) same in
         let c = chain_of st.state a in
         let tabs : w.tabs ≡ taken_tabs v t a u (found_as g.setting st.state v (Take t a u) n) = ap View.tabs st.leaves ∙ rw h refl in
-        made ∙ (λ i. set (cond (idle_is i) (set (hand i) 8 (whole_here a false)) (hand i)) t (At.Writing a false))
+        made ∙ (λ i. set (cond (idle_is i) (set (hand i) 8 (whole_here a false)) (hand i)) t (At.Writing (new_writing a u)))
         ∙ sym (both (is_idle n) v.tabs (Freeing (freer_of a false c)))
         ∙ ap (map at_of) (sym tabs)
       where
-        both : (b : Bool) (tabs : List (Tab X)) (x : Tab X) → map at_of (set (cond b (set tabs 8 x) tabs) t (Writing (writer_of a u))) ≡ set (cond b (set (map at_of tabs) 8 (at_of x)) (map at_of tabs)) t (At.Writing a false)
-        both true tabs x = map-set at_of (set tabs 8 x) t _ ∙ ap (λ (z : List At). set z t (At.Writing a false)) (map-set at_of tabs 8 x)
+        both : (b : Bool) (tabs : List (Tab X)) (x : Tab X) → map at_of (set (cond b (set tabs 8 x) tabs) t (Writing (writer_of a u))) ≡ set (cond b (set (map at_of tabs) 8 (at_of x)) (map at_of tabs)) t (At.Writing (new_writing a u))
+        both true tabs x = map-set at_of (set tabs 8 x) t _ ∙ ap (λ (z : List At). set z t (At.Writing (new_writing a u))) (map-set at_of tabs 8 x)
         both false tabs x = map-set at_of tabs t _
 
     pub lost_hand : (u : ℕ) → (st : Steps g v (Take t a u) n w) → n ≢ last_find a v.trail → new ≡ old → new ≡ tabs_at w
@@ -133,7 +134,7 @@ module _ {X : Type 0} where
   tries_at (Last a) slot n cell = refl
   tries_at (Freeing f) slot n cell = refl
 
-  pub ends_at : (x : Tab X) (goes_on : Bool) → at_of (ends x goes_on) ≡ at_of x
+  pub ends_at : (x : Tab X) (goes_on : Bool) → at_of (ends x goes_on) ≡ ended_here (at_of x) goes_on
   ends_at Free goes_on = refl
   ends_at (Retreating a) goes_on = refl
   ends_at (Reading r) true = refl
@@ -142,7 +143,7 @@ module _ {X : Type 0} where
   ends_at (Last a) goes_on = refl
   ends_at (Freeing f) goes_on = refl
 
-  pub loaded_at : (x : Tab X) (side : Side) (n : ℕ) → at_of (loaded x side n) ≡ at_of x
+  pub loaded_at : (x : Tab X) (side : Side) (n : ℕ) → at_of (loaded x side n) ≡ loaded_here (at_of x) side n
   loaded_at Free side n = refl
   loaded_at (Retreating a) side n = refl
   loaded_at (Reading r) Side.Key0 n = refl
@@ -152,6 +153,14 @@ module _ {X : Type 0} where
   loaded_at (Writing w) side n = refl
   loaded_at (Last a) side n = refl
   loaded_at (Freeing f) side n = refl
+
+  pub looked_at : (x : Tab X) (n : ℕ) → at_of (looks x n) ≡ followed_here (at_of x) (link_of n)
+  looked_at Free n = refl
+  looked_at (Retreating a) n = refl
+  looked_at (Reading r) n = refl
+  looked_at (Writing w) n = refl
+  looked_at (Last a) n = refl
+  looked_at (Freeing f) n = refl
 
   pub stored_at : (x : Tab X) (side : Side) (n : ℕ) → at_of (stores x side n) ≡ at_of x
   stored_at Free side n = refl
@@ -164,8 +173,11 @@ module _ {X : Type 0} where
   stored_at (Last a) side n = refl
   stored_at (Freeing f) side n = refl
 
-  pub loaded_hand : (g : Ground X) (v w : View X) (t : ℕ) (side : Side) (n : ℕ) (hand : List At) → hand ≡ tabs_at v → Steps g v (LoadSide t side) n w → hand ≡ tabs_at w
-  loaded_hand g v w t side n hand is st = same_hand v w t _ hand (ap View.tabs st.leaves) (loaded_at (tab_at v t) side n) is
+  pub loaded_hand : (g : Ground X) (v w : View X) (t : ℕ) (side : Side) (n : ℕ) (y : At) (old new : List At) → old ≡ tabs_at v → y ≡ loaded_here (at_of (tab_at v t)) side n → new ≡ set old t y → Steps g v (LoadSide t side) n w → new ≡ tabs_at w
+  loaded_hand g v w t side n y old new hand y_is made st = tab_set v w t _ y old new (ap View.tabs st.leaves) hand (loaded_at (tab_at v t) side n ∙ sym y_is) made
+
+  pub followed_hand : (g : Ground X) (v w : View X) (t slot n : ℕ) (y : At) (old new : List At) → old ≡ tabs_at v → y ≡ followed_here (at_of (tab_at v t)) (link_of n) → new ≡ set old t y → Steps g v (GetLink t slot) n w → new ≡ tabs_at w
+  followed_hand g v w t slot n y old new hand y_is made st = tab_set v w t _ y old new (ap View.tabs st.leaves) hand (looked_at (tab_at v t) n ∙ sym y_is) made
 
   pub stored_hand : (g : Ground X) (v w : View X) (t : ℕ) (side : Side) (value n : ℕ) (hand : List At) → hand ≡ tabs_at v → Steps g v (StoreSide t side value) n w → hand ≡ tabs_at w
   stored_hand g v w t side value n hand is st = same_hand v w t _ hand (ap View.tabs st.leaves) (stored_at (tab_at v t) side value) is

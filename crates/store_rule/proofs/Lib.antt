@@ -2,6 +2,7 @@ pub mod CellLists
 pub mod Seating
 pub mod Granted
 pub mod Moves
+pub mod Bounds
 pub mod AtHand
 pub mod Noting
 pub mod Fresh

@@ -8,7 +8,7 @@ use Rattle.store_rule.specs.declared.store.Pass.{Pass}
 use Rattle.store_rule.specs.declared.tabs.At.{At}
 use Rattle.core_model.specs.AllowedByView.{AllowedByView, MayMake}
 use Rattle.store_rule.specs.Passes.{view}
-use Rattle.store_rule.specs.Tabs.{at_of, taken_here, whole_here, evicted_here}
+use Rattle.store_rule.specs.Tabs.{at_of, taken_here, new_writing, whole_here, evicted_here}
 
 as_many : {X : Type 0} → (xs : List (Tab X)) → length (map at_of xs) ≡ length xs
 as_many [] = refl
@@ -24,8 +24,8 @@ module _ {C : Type 0} where
 pub kept_nine : (old new : List At) (t : ℕ) (y : At) → length old ≡ 9 → new ≡ set old t y → length new ≡ 9
 kept_nine old new t y nine is = ap length is ∙ length-set old t y ∙ nine
 
-pub taken_nine : (old new : List At) (t a : ℕ) (idle : Bool) → length old ≡ 9 → new ≡ taken_here old t a idle → length new ≡ 9
-taken_nine old new t a idle nine is = ap length is ∙ length-set (cond idle (set old 8 (whole_here a false)) old) t (At.Writing a false) ∙ both idle
+pub taken_nine : (old new : List At) (t a u : ℕ) (idle : Bool) → length old ≡ 9 → new ≡ taken_here old t a u idle → length new ≡ 9
+taken_nine old new t a u idle nine is = ap length is ∙ length-set (cond idle (set old 8 (whole_here a false)) old) t (At.Writing (new_writing a u)) ∙ both idle
   where
     both : (b : Bool) → length (cond b (set old 8 (whole_here a false)) old) ≡ 9
     both true = length-set old 8 (whole_here a false) ∙ nine

@@ -1,5 +1,8 @@
 -- Slots that are reserved and given back: where the owner of one stands, and what a pass has at hand of the tab afterwards.
-use Rattle.std.proofs.Common.{Bool, Contains, List, None, Option, [], ap, arith, cond, false, length, ltb, not, refl, set, subst, sym, true, ◌&&◌, ◌*◌, ◌+◌, ◌-◌, ◌<◌, ◌==◌, ◌≡◌, ◌≤◌, ◌⊎◌, ◌∙◌, ◌∷◌, ⊎_elim, inl, inr, ℕ}
+use Rattle.std.proofs.lemmas.List.{length_push}
+use Rattle.link_word.specs.declared.link.Link.{Link}
+use Rattle.core_model.specs.declared.tab.Writer.{Writer}
+use Rattle.std.proofs.Common.{Bool, Contains, List, None, Option, Some, [], ap, eq-eqb, ne_eqb, ◌++◌, ◌≢◌, arith, cond, false, length, ltb, not, refl, set, subst, sym, true, ◌&&◌, ◌*◌, ◌+◌, ◌-◌, ◌<◌, ◌==◌, ◌≡◌, ◌≤◌, ◌⊎◌, ◌∙◌, ◌∷◌, ⊎_elim, inl, inr, ℕ}
 use prog.Atomic.{either}
 use Rattle.atomic_table.specs.Seated.{TableId}
 use Rattle.atomic_table.specs.declared.shared.Seat.{Seat}
@@ -7,13 +10,13 @@ use Rattle.core_model.proofs.Lists.{le_sum_at}
 use Rattle.core_model.proofs.SlotFrame.{used_few}
 use Rattle.core_model.proofs.Tabs.{contains_times, tab_there}
 use Rattle.core_model.specs.AllowedByView.{MayMake}
-use Rattle.core_model.specs.Chains.{times, without}
+use Rattle.core_model.specs.Chains.{rest_of, times, without}
 use Rattle.core_model.specs.Layout.{word_count, word_in}
-use Rattle.core_model.specs.SlotMoves.{MayGiveBack, gives_back, reserves}
-use Rattle.core_model.specs.Slots.{held_in, slot_words, used}
+use Rattle.core_model.specs.SlotMoves.{MayGiveBack, MayReserve, gives_back, publishes, reserves}
+use Rattle.core_model.specs.Slots.{WriterHolds, held_in, slot_words, used}
 use Rattle.core_model.specs.State.{State}
 use Rattle.core_model.specs.Tabs.{OfFreer, OfWriter, anchor_of, count, tab_at}
-use Rattle.core_model.specs.declared.moves.Move.TheVariants.{Disown, Own}
+use Rattle.core_model.specs.declared.moves.Move.TheVariants.{Disown, Own, Publish}
 use Rattle.core_model.specs.declared.tab.Freer.{Freer}
 use Rattle.core_model.specs.declared.tab.Tab.{Tab}
 use Rattle.core_model.specs.declared.view.Place.TheVariants.{Owner}
@@ -23,7 +26,7 @@ use lib.ListN.{get_elem?}
 use Rattle.store_rule.specs.Ground.{Ground, Rule}
 use Rattle.store_rule.specs.Machine.{StepsOn}
 use Rattle.store_rule.specs.Ruled.{Form}
-use Rattle.store_rule.specs.Tabs.{HasLoose, at_of, given_back_here, is_spent, tabs_at}
+use Rattle.store_rule.specs.Tabs.{HasLoose, at_of, freed_here, given_back_here, head_of, is_slot, is_spent, or_slot, published_here, reserved_by, reserved_here, tabs_at, writing_at}
 use Rattle.store_rule.specs.Told.{Stands, Steps, the_view}
 use Rattle.store_rule.specs.declared.tabs.At.{At}
 use Rattle.store_rule.proofs.AtHand.{same_hand, same_tabs, tab_set}
@@ -84,11 +87,59 @@ module _ {X : Type 0} where
   has_loose slot (Tab.Reading q) h = tt
   has_loose slot (Tab.Last a) h = tt
 
+  -- what is at hand of the slots that a writing tab gave back one of, or reserved one more
+  gave_one : (w : Writer X) (rs : List ℕ) (slot : ℕ) → length rs ≤ 2 → times slot rs ≡ 1
+      → writing_at (record w { reserved = without slot rs; is_ending = true })
+      ≡ cond (is_slot (head_of rs) slot) (record (writing_at w) { first = head_of (rest_of rs); second = None }) (record (writing_at w) { first = head_of rs; second = None })
+  gave_one w [] slot few once = cc
+  gave_one w (x ∷ []) slot few once = by_case (x == slot) refl
+    where
+      by_case : (b : Bool) → (x == slot) ≡ b → writing_at (record w { reserved = without slot (x ∷ []); is_ending = true })
+          ≡ cond (x == slot) (record (writing_at w) { first = None; second = None }) (record (writing_at w) { first = Some x; second = None })
+      by_case true e = rw e refl
+      by_case false e = absurd (let z : times slot (x ∷ []) ≡ 0 = rw e refl in omega arith)
+  gave_one w (x ∷ y ∷ []) slot few once = by_case (x == slot) (y == slot) refl refl
+    where
+      by_case : (b c : Bool) → (x == slot) ≡ b → (y == slot) ≡ c → writing_at (record w { reserved = without slot (x ∷ y ∷ []); is_ending = true })
+          ≡ cond (x == slot) (record (writing_at w) { first = Some y; second = None }) (record (writing_at w) { first = Some x; second = None })
+      by_case true false e f = rw (e, f) refl
+      by_case false true e f = rw (e, f) refl
+      by_case true true e f = absurd (let z : times slot (x ∷ y ∷ []) ≡ 2 = rw (e, f) refl in omega arith)
+      by_case false false e f = absurd (let z : times slot (x ∷ y ∷ []) ≡ 0 = rw (e, f) refl in omega arith)
+  gave_one w (x ∷ y ∷ z ∷ rs) slot few once = absurd (omega arith)
+
+  reserved_one : (w : Writer X) (rs : List ℕ) (slot : ℕ) → length rs < 2
+      → writing_at (record w { reserved = rs ++ slot ∷ [] }) ≡ reserved_by (head_of rs) (writing_at (record w { reserved = rs })) slot
+  reserved_one w [] slot few = refl
+  reserved_one w (x ∷ []) slot few = refl
+  reserved_one w (x ∷ y ∷ rs) slot few = absurd (omega arith)
+
+  published_one : (w : Writer X) (ps rs : List ℕ) (slot : ℕ) (link : Link) → length rs ≤ 2
+      → writing_at (record w { reserved = rest_of rs; chosen = None; is_written = false; is_settled = false; published = ps ++ slot ∷ []; end = link })
+      ≡ record (writing_at w) { published = length ps + 1; start = or_slot (head_of ps) slot; first = head_of (rest_of rs); second = None }
+  published_one w ps rs slot link few = λ i. record (writing_at w) { published = length_push ps slot i; start = begins ps i; first = head_of (rest_of rs); second = no_more rs few i }
+    where
+      begins : (ps : List ℕ) → head_of (ps ++ slot ∷ []) ≡ or_slot (head_of ps) slot
+      begins [] = refl
+      begins (p ∷ ps) = refl
+
+      no_more : (rs : List ℕ) → length rs ≤ 2 → head_of (rest_of (rest_of rs)) ≡ None
+      no_more [] few = refl
+      no_more (x ∷ []) few = refl
+      no_more (x ∷ y ∷ []) few = refl
+      no_more (x ∷ y ∷ z ∷ rs) few = absurd (omega arith)
+
+  -- a writing tab reserves two slots at most
+  few_held : (g : Ground X) (s : State X) (i : ℕ) (v : View X) (t : ℕ) (x : Writer X) → Rule g s → get_elem? s.views i ≡ some v → get_elem? v.tabs t ≡ some (Tab.Writing x) → length x.reserved ≤ 2
+  few_held g s i v t x r at there = let h : WriterHolds _ _ x = r.sound.slots.tabs i v at t (Tab.Writing x) there in h.few
+
   -- what is at hand of a tab that gave a slot back
-  gave_back : (slot : ℕ) (x : Tab X) → OfWriter (MayGiveBack slot) x ⊎ OfFreer (λ f. Contains f.loose slot) x → held_in slot x ≤ 1 → at_of (gives_back x slot) ≡ given_back_here (at_of x)
-  gave_back slot (Tab.Writing w) h few = refl
-  gave_back slot (Tab.Freeing f) (inl h) few = absurd h
-  gave_back slot (Tab.Freeing f) (inr h) few = let z = contains_times slot f.loose h in let l = length_without slot f.loose in
+  gave_back : (slot : ℕ) (x : Tab X) → OfWriter (MayGiveBack slot) x ⊎ OfFreer (λ f. Contains f.loose slot) x → held_in slot x ≤ 1 → ((w : Writer X) → x ≡ Tab.Writing w → length w.reserved ≤ 2)
+      → at_of (gives_back x slot) ≡ given_back_here (at_of x) slot
+  gave_back slot (Tab.Writing w) (inl h) once few = ap At.Writing (gave_one w w.reserved slot (few w refl) (let z = contains_times slot w.reserved h.0 in omega arith))
+  gave_back slot (Tab.Writing w) (inr h) once few = absurd h
+  gave_back slot (Tab.Freeing f) (inl h) once few = absurd h
+  gave_back slot (Tab.Freeing f) (inr h) once few = let z = contains_times slot f.loose h in let l = length_without slot f.loose in
       let less : length (without slot f.loose) ≡ length f.loose - 1 = omega arith in let has_one : 0 < length f.loose = omega arith in emptied_at f (without slot f.loose) less has_one
     where
       -- without a loose slot at hand the chain is not known to be spent
@@ -102,40 +153,55 @@ module _ {X : Type 0} where
       at_cond false x y = refl
 
       emptied_at : (f : Freer) (left : List ℕ) → length left ≡ length f.loose - 1 → 0 < length f.loose
-          → at_of {X = X} (Rattle.core_model.specs.SlotMoves.emptied record f { loose = left }) ≡ given_back_here (at_of {X = X} (Tab.Freeing f))
+          → at_of {X = X} (Rattle.core_model.specs.SlotMoves.emptied record f { loose = left }) ≡ freed_here (at_of {X = X} (Tab.Freeing f))
       emptied_at f left less has_one = let none : (length f.loose == 0) ≡ false = Rattle.std.proofs.Common.ne_eqb (length f.loose) 0 (λ e. absurd (omega arith)) in
           let spent : is_spent f ≡ (length f.rest == 0) = spent_known f.is_whole (length f.rest == 0) (length f.loose == 0) none in
           at_cond _ _ _ ∙ (λ i. cond ((sym spent i) && (less i == 0) && not f.is_freeing) At.Free
           (At.Freeing f.anchor f.is_freeing f.is_whole (not (f.is_whole && (less i == 0)) && (sym spent i)) (less i)))
-  gave_back slot Tab.Free (inl h) few = absurd h
-  gave_back slot Tab.Free (inr h) few = absurd h
-  gave_back slot (Tab.Retreating a) (inl h) few = absurd h
-  gave_back slot (Tab.Retreating a) (inr h) few = absurd h
-  gave_back slot (Tab.Reading q) (inl h) few = absurd h
-  gave_back slot (Tab.Reading q) (inr h) few = absurd h
-  gave_back slot (Tab.Last a) (inl h) few = absurd h
-  gave_back slot (Tab.Last a) (inr h) few = absurd h
+  gave_back slot Tab.Free (inl h) once few = absurd h
+  gave_back slot Tab.Free (inr h) once few = absurd h
+  gave_back slot (Tab.Retreating a) (inl h) once few = absurd h
+  gave_back slot (Tab.Retreating a) (inr h) once few = absurd h
+  gave_back slot (Tab.Reading q) (inl h) once few = absurd h
+  gave_back slot (Tab.Reading q) (inr h) once few = absurd h
+  gave_back slot (Tab.Last a) (inl h) once few = absurd h
+  gave_back slot (Tab.Last a) (inr h) once few = absurd h
 
-  reserved_at : (x : Tab X) (slot : ℕ) → at_of (reserves x slot) ≡ at_of x
-  reserved_at Tab.Free slot = refl
-  reserved_at (Tab.Retreating a) slot = refl
-  reserved_at (Tab.Reading q) slot = refl
-  reserved_at (Tab.Writing w) slot = refl
-  reserved_at (Tab.Last a) slot = refl
-  reserved_at (Tab.Freeing f) slot = refl
+  reserved_at : (x : Tab X) (slot : ℕ) → OfWriter MayReserve x → at_of (reserves x slot) ≡ reserved_here (at_of x) slot
+  reserved_at (Tab.Writing w) slot h = ap At.Writing (reserved_one w w.reserved slot h.room)
+  reserved_at Tab.Free slot h = absurd h
+  reserved_at (Tab.Retreating a) slot h = absurd h
+  reserved_at (Tab.Reading q) slot h = absurd h
+  reserved_at (Tab.Last a) slot h = absurd h
+  reserved_at (Tab.Freeing f) slot h = absurd h
 
-  pub owned_hand : (g : Ground X) (v w : View X) (t slot n : ℕ) (hand : List At) → hand ≡ tabs_at v → Steps g v (Own t slot) n w → hand ≡ tabs_at w
-  owned_hand g v w t slot n hand is st = by_case (n == 0) refl
-    where
-      by_case : (b : Bool) → (n == 0) ≡ b → hand ≡ tabs_at w
-      by_case true e = same_hand v w t (reserves (tab_at v t) slot) hand (ap View.tabs st.leaves ∙ (rw e refl)) (reserved_at (tab_at v t) slot) is
-      by_case false e = same_tabs v w hand hand (ap View.tabs st.leaves ∙ (rw e refl)) is refl
+  pub owned_hand : (g : Ground X) (v w : View X) (t slot n : ℕ) (y : At) (old new : List At) → old ≡ tabs_at v → y ≡ reserved_here (at_of (tab_at v t)) slot → new ≡ set old t y → n ≡ 0 → Steps g v (Own t slot) n w → new ≡ tabs_at w
+  owned_hand g v w t slot n y old new hand y_is made free st = let hit = eq-eqb n 0 free in
+      tab_set v w t (reserves (tab_at v t) slot) y old new (ap View.tabs st.leaves ∙ (rw hit refl)) hand (reserved_at (tab_at v t) slot st.may.allowed.3 ∙ sym y_is) made
 
-  pub disowned_hand : (g : Ground X) (v w : View X) (t slot n : ℕ) (y : At) (old new : List At) → old ≡ tabs_at v → y ≡ given_back_here (at_of (tab_at v t)) → new ≡ set old t y → Steps g v (Disown t slot) n w → new ≡ tabs_at w
+  pub refused_hand : (g : Ground X) (v w : View X) (t slot n : ℕ) (hand : List At) → hand ≡ tabs_at v → n ≢ 0 → Steps g v (Own t slot) n w → hand ≡ tabs_at w
+  refused_hand g v w t slot n hand is taken st = let miss = ne_eqb n 0 taken in same_tabs v w hand hand (ap View.tabs st.leaves ∙ (rw miss refl)) is refl
+
+  pub disowned_hand : (g : Ground X) (v w : View X) (t slot n : ℕ) (y : At) (old new : List At) → old ≡ tabs_at v → y ≡ given_back_here (at_of (tab_at v t)) slot → new ≡ set old t y → Steps g v (Disown t slot) n w → new ≡ tabs_at w
   disowned_hand g v w t slot n y old new hand y_is made st = let p = st.may.pass in let le = st.may.allowed.0 in
       let there = tab_there v t (tab_at v t) (omega arith) refl in
       tab_set v w t (gives_back (tab_at v t) slot) y old new (ap View.tabs st.leaves) hand
-      (gave_back slot (tab_at v t) st.may.allowed.1 (held_once g st.state st.index v st.rule st.at t slot (tab_at v t) there) ∙ sym y_is) made
+      (gave_back slot (tab_at v t) st.may.allowed.1 (held_once g st.state st.index v st.rule st.at t slot (tab_at v t) there) (λ x e. few_held g st.state st.index v t x st.rule st.at (there ∙ ap some e)) ∙ sym y_is) made
+
+  -- what is at hand of a tab that published a slot
+  pub published_at : (x : Tab X) (slot : ℕ) (link : Link) → ((w : Writer X) → x ≡ Tab.Writing w → length w.reserved ≤ 2) → at_of (publishes x slot link) ≡ published_here (at_of x) slot
+  published_at (Tab.Writing w) slot link few = ap At.Writing (published_one w w.published w.reserved slot link (few w refl))
+  published_at Tab.Free slot link few = refl
+  published_at (Tab.Retreating a) slot link few = refl
+  published_at (Tab.Reading q) slot link few = refl
+  published_at (Tab.Last a) slot link few = refl
+  published_at (Tab.Freeing f) slot link few = refl
+
+  pub published_hand : (g : Ground X) (v w : View X) (t slot : ℕ) (link : Link) (n : ℕ) (y : At) (old new : List At) → old ≡ tabs_at v → y ≡ published_here (at_of (tab_at v t)) slot → new ≡ set old t y → Steps g v (Publish t slot link) n w → new ≡ tabs_at w
+  published_hand g v w t slot link n y old new hand y_is made st = let p = st.may.pass in let le = st.may.allowed.0 in
+      let there = tab_there v t (tab_at v t) (omega arith) refl in
+      tab_set v w t (publishes (tab_at v t) slot link) y old new (ap View.tabs st.leaves) hand
+      (published_at (tab_at v t) slot link (λ x e. few_held g st.state st.index v t x st.rule st.at (there ∙ ap some e)) ∙ sym y_is) made
 
 module _ {C X : Type 0} (form : Form C X) (g : Ground X) (z : TableId) (seat : Seat (Option C) (List (View X))) (own : seat.table_id ≡ z) (sized : z.words ≡ word_count g.setting) (one_view : seat.me.0 ≡ the_view seat.me.0 ∷ []) where
   abbrev v : View X

@@ -1,23 +1,52 @@
 -- What a pass has at hand of its tabs while it runs.
-use Rattle.std.specs.Prelude.{◌-◌, ◌<◌, ◌==◌, ◌&&◌, Bool, List, cond, false, length, map, not, slice_set, true, ℕ}
+use Rattle.std.specs.Prelude.{◌+◌, ◌-◌, ◌<◌, ◌≤◌, ◌==◌, ◌&&◌, Bool, List, None, Option, Some, [], ◌∷◌, cond, false, length, map, not, slice_set, true, ℕ}
+use Rattle.link_word.specs.declared.link.Link.{Link}
+use Rattle.link_word.specs.declared.link.Link.TheVariants.{NotWritten}
+use Rattle.core_model.specs.Chains.{rest_of}
+use Rattle.core_model.specs.CellMoves.{next_slot}
+use Rattle.core_model.specs.declared.moves.Side.{Side}
+use Rattle.core_model.specs.declared.moves.Side.TheVariants.{Start}
+use Rattle.core_model.specs.declared.tab.Reader.{Reader}
+use Rattle.core_model.specs.declared.tab.Writer.{Writer}
 use Rattle.lock_word.specs.declared.stage.Stage.{Stage}
 use Rattle.lock_word.specs.declared.stage.Stage.TheVariants.{Appending}
-use Rattle.lock_word.specs.Words.{is_readable, is_left_over}
+use Rattle.lock_word.specs.Words.{is_readable, is_left_over, version_of}
 use Rattle.core_model.specs.declared.tab.Freer.{Freer}
 use Rattle.core_model.specs.declared.tab.Tab.{Tab}
 use Rattle.core_model.specs.declared.tab.Tab.TheVariants.{Free, Retreating, Reading, Writing, Last, Freeing}
 use Rattle.core_model.specs.declared.view.View.{View}
 use Rattle.store_rule.specs.declared.tabs.At.{At}
+use Rattle.store_rule.specs.declared.tabs.ReadingAt.{ReadingAt}
+use Rattle.store_rule.specs.declared.tabs.WritingAt.{WritingAt}
 
 -- the chain is known to have no slot left: not before a slot has left it
 abbrev pub is_spent : Freer → Bool
 is_spent f = not (f.is_whole && (length f.loose == 0)) && (length f.rest == 0)
 
+-- the first of a list, if there is one
+abbrev pub head_of : List ℕ → Option ℕ
+head_of [] = None
+head_of (x ∷ xs) = Some x
+
+abbrev pub reading_at : {X : Type 0} → Reader X → ReadingAt
+reading_at r = record { anchor = r.anchor; version = r.version; place = r.place; slot = r.slot; found = r.found }
+
+abbrev pub writing_at : {X : Type 0} → Writer X → WritingAt
+writing_at w = record {
+  anchor = w.anchor;
+  version = w.version;
+  is_appending = w.is_appending;
+  published = length w.published;
+  start = head_of w.published;
+  first = head_of w.reserved;
+  second = head_of (rest_of w.reserved);
+}
+
 abbrev pub at_of : {X : Type 0} → Tab X → At
 at_of Free = At.Free
 at_of (Retreating a) = At.Retreating a
-at_of (Reading r) = At.Reading r.anchor
-at_of (Writing w) = At.Writing w.anchor w.is_appending
+at_of (Reading r) = At.Reading (reading_at r)
+at_of (Writing w) = At.Writing (writing_at w)
 at_of (Last a) = At.Last a
 at_of (Freeing f) = At.Freeing f.anchor f.is_freeing f.is_whole (is_spent f) (length f.loose)
 
@@ -31,18 +60,20 @@ tabs_at v = map at_of v.tabs
 abbrev pub anchor_here : At → ℕ
 anchor_here At.Free = 0
 anchor_here (At.Retreating a) = a
-anchor_here (At.Reading a) = a
-anchor_here (At.Writing a is_appending) = a
+anchor_here (At.Reading r) = r.anchor
+anchor_here (At.Writing w) = w.anchor
 anchor_here (At.Last a) = a
 anchor_here (At.Freeing a is_freeing is_whole is_spent loose) = a
 
 abbrev pub stage_here : At → ℕ
-stage_here (At.Writing a is_appending) = cond is_appending 2 1
+stage_here (At.Writing w) = cond w.is_appending 2 1
 stage_here (At.Freeing a is_freeing is_whole is_spent loose) = 5
 stage_here _ = 0
 
 abbrev pub entered_here : ℕ → ℕ → At
-entered_here a epoch = cond (is_readable epoch) (At.Reading a) (At.Retreating a)
+entered_here a epoch = cond (is_readable epoch)
+    (At.Reading record { anchor = a; version = version_of epoch; place = 0; slot = None; found = NotWritten })
+    (At.Retreating a)
 
 abbrev pub left_here : ℕ → ℕ → At
 left_here a n = cond (is_left_over n) (At.Last a) At.Free
@@ -51,20 +82,78 @@ left_here a n = cond (is_left_over n) (At.Last a) At.Free
 abbrev pub whole_here : ℕ → Bool → At
 whole_here a is_freeing = At.Freeing a is_freeing true false 0
 
--- a tab gave a slot back
-abbrev pub given_back_here : At → At
-given_back_here (At.Freeing a is_freeing is_whole is_spent loose) = cond (is_spent && (loose - 1 == 0) && not is_freeing) At.Free
+-- a tab gave a slot back: the inner tab one that left its chain, a writing tab one that it reserved
+abbrev pub freed_here : At → At
+freed_here (At.Freeing a is_freeing is_whole is_spent loose) = cond (is_spent && (loose - 1 == 0) && not is_freeing) At.Free
     (At.Freeing a is_freeing is_whole (not (is_whole && (loose - 1 == 0)) && is_spent) (loose - 1))
-given_back_here at = at
+freed_here at = at
+
+abbrev pub is_slot : Option ℕ → ℕ → Bool
+is_slot None slot = false
+is_slot (Some x) slot = x == slot
+
+abbrev pub given_back_here : At → ℕ → At
+given_back_here (At.Writing w) slot = At.Writing (cond (is_slot w.first slot) (record w { first = w.second; second = None }) (record w { second = None }))
+given_back_here at slot = freed_here at
 
 -- an inner tab that gives a slot back has one
 abbrev pub HasLoose : At → Type 0
 HasLoose (At.Freeing a is_freeing is_whole is_spent loose) = 0 < loose
 HasLoose at = Unit {0}
 
+-- a tab that reads loaded a word beside its anchor
+abbrev pub loaded_here : At → Side → ℕ → At
+loaded_here (At.Reading r) Start n = At.Reading (record r { slot = cond (r.place == 0) (cond (n == 0) None (Some (n - 1))) r.slot })
+loaded_here at side n = at
+
+-- a start that it loads is 0 or names a slot
+abbrev pub HasNumber : At → Side → ℕ → Type 0
+HasNumber (At.Reading r) Start n = n ≤ 4294967296
+HasNumber at side n = Unit {0}
+
+-- a tab that writes reserved a slot
+abbrev pub reserved_by : Option ℕ → WritingAt → ℕ → WritingAt
+reserved_by None w slot = record w { first = Some slot }
+reserved_by (Some x) w slot = record w { second = Some slot }
+
+abbrev pub reserved_here : At → ℕ → At
+reserved_here (At.Writing w) slot = At.Writing (reserved_by w.first w slot)
+reserved_here at slot = at
+
+-- it published the first of them
+abbrev pub or_slot : Option ℕ → ℕ → Option ℕ
+or_slot None slot = Some slot
+or_slot (Some x) slot = Some x
+
+abbrev pub published_here : At → ℕ → At
+published_here (At.Writing w) slot = At.Writing (record w { published = w.published + 1; start = or_slot w.start slot; first = w.second; second = None })
+published_here at slot = at
+
+-- a tab that reads looked at the link of its slot
+abbrev pub followed_here : At → Link → At
+followed_here (At.Reading r) found = At.Reading (record r { found = found })
+followed_here at found = at
+
+-- it gave its turn back
+abbrev pub ended_here : At → Bool → At
+ended_here (At.Reading r) true = At.Reading (record r { place = r.place + 1; slot = next_slot r.found; found = NotWritten })
+ended_here at goes_on = at
+
+-- there is a place behind the one from which a tab that reads goes on, and behind what a tab that writes has published
+abbrev pub HasNext : At → Bool → Type 0
+HasNext (At.Reading r) true = r.place < 4294967295
+HasNext at goes_on = Unit {0}
+
+abbrev pub HasPlace : At → Type 0
+HasPlace (At.Writing w) = w.published < 4294967295
+HasPlace at = Unit {0}
+
 -- a tab took the anchor; where the entry there was idle, the inner tab has its slots
-abbrev pub taken_here : List At → ℕ → ℕ → Bool → List At
-taken_here tabs t a is_idle = slice_set (cond is_idle (slice_set tabs 8 (whole_here a false)) tabs) t (At.Writing a false)
+abbrev pub new_writing : (anchor version : ℕ) → WritingAt
+new_writing anchor version = record { anchor = anchor; version = version; is_appending = false; published = 0; start = None; first = None; second = None }
+
+abbrev pub taken_here : List At → ℕ → ℕ → ℕ → Bool → List At
+taken_here tabs t a version is_idle = slice_set (cond is_idle (slice_set tabs 8 (whole_here a false)) tabs) t (At.Writing (new_writing a version))
 
 -- a tab had an entry freed, whose slots the inner tab has
 abbrev pub evicted_here : List At → ℕ → ℕ → List At
@@ -72,5 +161,5 @@ evicted_here tabs t a = slice_set (slice_set tabs t At.Free) 8 (whole_here a tru
 
 -- a tab raised its anchor to this stage, and left this word
 abbrev pub raised_here : At → Stage → ℕ → At
-raised_here (At.Writing a is_appending) Appending n = At.Writing a true
+raised_here (At.Writing w) Appending n = At.Writing (record w { is_appending = true })
 raised_here tab to n = left_here (anchor_here tab) n

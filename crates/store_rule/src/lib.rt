@@ -13,6 +13,7 @@ mod rule;
 mod sides;
 mod steps;
 mod store;
+mod tab_slots;
 mod tabs;
 
 pub use opening::NoRoom;

@@ -2,7 +2,7 @@
 use crate::layout::owner_word;
 use crate::rule::Origin;
 use crate::store::{Pass, Store};
-use crate::tabs::given_back_at;
+use crate::tab_slots::{given_back_at, reserved_at};
 use core_model::Move;
 use rock_disk::Cell;
 use std::marker::Brand;
@@ -17,11 +17,17 @@ impl<C: Cell, O: Origin> Store<C, O> {
         requires { May C.tells C.state O.offers self.now pass.old (Own tab slot) }
         ensures { Made C.tells C.state O.offers self.now pass.old (Own tab slot) result pass.new }
     {
+        let at = pass.at(tab);
         let anchor = pass.anchor(tab);
         let owner = anchor as u64 + 1;
         let made = Move::Own { tab, slot };
         let place = owner_word(self.anchors, self.slots, slot);
-        self.exchange_as::<Brand>(&mut pass.seat, place, 0, owner, made)
+        let found = self.exchange_as::<Brand>(&mut pass.seat, place, 0, owner, made);
+        if found != 0 {
+            return found;
+        }
+        pass.tabs.set(tab as usize, reserved_at(at, slot));
+        found
     }
 
     /// A tab gives a slot back that it reserved, or that left the chain that it frees. The owner word found is
@@ -34,7 +40,7 @@ impl<C: Cell, O: Origin> Store<C, O> {
         let made = Move::Disown { tab, slot };
         let place = owner_word(self.anchors, self.slots, slot);
         let found = self.swap_as::<Brand>(&mut pass.seat, place, 0, made);
-        pass.tabs.set(tab as usize, given_back_at(at));
+        pass.tabs.set(tab as usize, given_back_at(at, slot));
         found
     }
 }

@@ -2,6 +2,7 @@
 use crate::layout::side_word;
 use crate::rule::Origin;
 use crate::store::{Pass, Store};
+use crate::tab_slots::loaded_at;
 use core_model::{Move, Side};
 use rock_disk::Cell;
 use std::marker::Brand;
@@ -17,8 +18,11 @@ impl<C: Cell, O: Origin> Store<C, O> {
     {
         let anchor = pass.anchor(tab);
         let made = Move::LoadSide { tab, side };
+        let at = pass.at(tab);
         let place = side_word(anchor, side);
-        self.load_as::<Brand>(&mut pass.seat, place, made)
+        let found = self.load_as::<Brand>(&mut pass.seat, place, made);
+        pass.tabs.set(tab as usize, loaded_at(at, side, found));
+        found
     }
 
     /// Stores a word beside the anchor that a tab took and has not published at.

@@ -145,7 +145,7 @@ impl<C: Cell, O: Origin> Store<C, O> {
         if found != before {
             return Err(word_of(found));
         }
-        take_at(&mut pass.tabs, tab, anchor, is_idle(old));
+        take_at(&mut pass.tabs, tab, anchor, version, is_idle(old));
         Ok(())
     }
 

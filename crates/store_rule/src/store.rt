@@ -23,6 +23,7 @@ pub struct Store<C: Cell, O: Origin> {
     ghost anchors_are: { anchors ≡ table.shared.key.anchors },
     ghost slots_are: { slots ≡ table.shared.key.slots },
     ghost slot_is: { slot ≡ table.shared.key.slot },
+    ghost few: { slots ≤ 4294967295 },
     ghost sized: { table.shared.table_id.words ≡ 5 * anchors + 3 * slots + 1 },
 }
 

@@ -4,6 +4,7 @@ use Rattle.store_rule.proofs.Moves.{wide}
 use Rattle.std.proofs.Common.{ap, sym, ◌∙◌}
 use Rattle.core_model.specs.Tabs.{tab_at}
 use Rattle.store_rule.specs.Tabs.{HasLoose, given_back_here}
+use Rattle.store_rule.specs.declared.tabs.At.{At}
 use Rattle.store_rule.proofs.Passing.{kept_nine, may_of}
 use Rattle.store_rule.proofs.SlotHands.{disowned_hand, disowns, has_loose, owned_at}
 use Rattle.store_rule.proofs.store.Store.disown.Goals as goal
@@ -21,5 +22,5 @@ invariant_of-pass g c = let told = c.swap_as-found.ensures.told in record {
   nine = kept_nine _ _ _ _ c.args.pass.now.nine c.set.ensures;
   nine_left = c.args.pass.now.nine_left;
   nine_desks = c.args.pass.now.nine_desks;
-  at_hand = disowned_hand _ _ _ _ _ _ _ _ _ c.args.pass.now.at_hand (c.given_back_at.ensures ∙ ap given_back_here c.at-at.ensures) c.set.ensures told.step;
+  at_hand = disowned_hand _ _ _ _ _ _ _ _ _ c.args.pass.now.at_hand (c.given_back_at.ensures ∙ ap (λ (z : At). given_back_here z c.args.slot) c.at-at.ensures) c.set.ensures told.step;
 }

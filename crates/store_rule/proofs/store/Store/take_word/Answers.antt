@@ -16,7 +16,7 @@ invariant_of-pass-2 g c = let told = c.exchange_as-found.ensures.told in record 
   one = told.one;
   nine_left = c.args.pass.now.nine_left;
   nine_desks = c.args.pass.now.nine_desks;
-  nine = taken_nine _ _ _ _ _ c.args.pass.now.nine c.take_at.ensures;
+  nine = taken_nine _ _ _ _ _ _ c.args.pass.now.nine c.take_at.ensures;
   at_hand = taken_hand _ _ _ _ _ _ _ _ c.args.pass.now.at_hand _ told.step (c.if-found-before.false ∙ c.pack-before.ensures.number ∙ c.requires.old) _
       (c.is_idle.ensures.number ∙ ap is_idle (sym (c.if-found-before.false ∙ c.pack-before.ensures.number))) c.take_at.ensures;
 }

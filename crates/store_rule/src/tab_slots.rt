@@ -1,0 +1,143 @@
+// What a pass has at hand of its tabs, after steps on slots and on what stands beside an anchor.
+ghost use Rattle.std.specs.Prelude.{◌≡◌};
+ghost use Rattle.core_model.specs.CellMoves;
+ghost use Rattle.store_rule.specs.Tabs.{HasLoose, HasNext, HasNumber, HasPlace, ended_here, followed_here, freed_here, given_back_here, loaded_here, published_here, reserved_here};
+
+use crate::tabs::{At, ReadingAt, WritingAt};
+use core_model::Side;
+use link_word::Link;
+
+/// What a tab is at that loaded a word beside its anchor. A tab that reads learns from the start where it
+/// begins.
+pub(crate) fn loaded_at(at: At, side: Side, number: u64) -> At
+    requires { HasNumber at side number }
+    ensures { result ≡ loaded_here at side number }
+{
+    match (at, side) {
+        (At::Reading(reading), Side::Start) if reading.place == 0 => At::Reading(ReadingAt {
+            slot: number.checked_sub(1).map(|slot| slot as u32),
+            ..reading
+        }),
+        (at, _) => at,
+    }
+}
+
+/// What a tab is at that reserved a slot.
+pub(crate) fn reserved_at(at: At, slot: u32) -> At
+    ensures { result ≡ reserved_here at slot }
+{
+    match at {
+        At::Writing(writing) if writing.first.is_none() => At::Writing(WritingAt {
+            first: Some(slot),
+            ..writing
+        }),
+        At::Writing(writing) => At::Writing(WritingAt {
+            second: Some(slot),
+            ..writing
+        }),
+        at => at,
+    }
+}
+
+/// What a tab is at that published its first reserved slot.
+pub(crate) fn published_at(at: At, slot: u32) -> At
+    requires { HasPlace at }
+    ensures { result ≡ published_here at slot }
+{
+    match at {
+        At::Writing(writing) => At::Writing(WritingAt {
+            published: writing.published + 1,
+            start: writing.start.or(Some(slot)),
+            first: writing.second,
+            second: None,
+            ..writing
+        }),
+        at => at,
+    }
+}
+
+/// What a tab is at that looked at the link of its slot.
+pub(crate) fn followed_at(at: At, found: Link) -> At
+    ensures { result ≡ followed_here at found }
+{
+    match at {
+        At::Reading(reading) => At::Reading(ReadingAt { found, ..reading }),
+        at => at,
+    }
+}
+
+/// What a tab is at that gave a turn back. One that reads may go on to the next slot.
+pub(crate) fn ended_at(at: At, goes_on: bool) -> At
+    requires { HasNext at goes_on }
+    ensures { result ≡ ended_here at goes_on }
+{
+    match at {
+        At::Reading(reading) if goes_on => At::Reading(ReadingAt {
+            place: reading.place + 1,
+            slot: next_slot(reading.found),
+            found: Link::NotWritten,
+            ..reading
+        }),
+        at => at,
+    }
+}
+
+/// The slot that a link names.
+fn next_slot(link: Link) -> Option<u32>
+    ensures { result ≡ CellMoves.next_slot link }
+{
+    match link {
+        Link::Next(slot) => Some(slot),
+        _ => None,
+    }
+}
+
+/// What a tab is at that gave a slot back. An inner tab that has no slot left is free, unless its anchor is
+/// at FREEING.
+pub(crate) fn given_back_at(at: At, slot: u32) -> At
+    requires { HasLoose at }
+    ensures { result ≡ given_back_here at slot }
+{
+    match at {
+        At::Freeing { .. } => freed_at(at),
+        At::Writing(writing) if writing.first == Some(slot) => At::Writing(WritingAt {
+            first: writing.second,
+            second: None,
+            ..writing
+        }),
+        At::Writing(writing) => At::Writing(WritingAt {
+            second: None,
+            ..writing
+        }),
+        at => at,
+    }
+}
+
+/// What the inner tab is at that gave back a slot of the entry that it frees.
+fn freed_at(at: At) -> At
+    requires { HasLoose at }
+    ensures { result ≡ freed_here at }
+{
+    let At::Freeing {
+        anchor,
+        is_freeing,
+        is_whole,
+        is_spent,
+        loose,
+    } = at
+    else {
+        return at;
+    };
+    let loose = loose - 1;
+    if is_spent && loose == 0 && !is_freeing {
+        return At::Free;
+    }
+    At::Freeing {
+        anchor,
+        is_freeing,
+        is_whole,
+        is_spent: !(is_whole && loose == 0) && is_spent,
+        loose,
+    }
+}
+
