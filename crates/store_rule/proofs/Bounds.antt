@@ -14,11 +14,12 @@ use Rattle.core_model.specs.declared.tab.Tab.{Tab}
 use Rattle.core_model.specs.declared.view.View.{View}
 use Rattle.core_model.specs.Chains.{no_chain, start_number, times}
 use Rattle.core_model.specs.Slots.{slot_words, standing_in, used}
-use Rattle.core_model.specs.Spots.{slots_chained}
+use Rattle.core_model.specs.Spots.{slots_chained, slots_held}
 use Rattle.core_model.specs.State.{State, chain_of}
-use Rattle.core_model.specs.Tabs.{tab_at}
+use Rattle.core_model.specs.Tabs.{count, tab_at}
 use Rattle.core_model.specs.Told.{NameTells, NameFound}
 use Rattle.core_model.proofs.SlotsCounted.{slots_counted}
+use Rattle.core_model.proofs.Lists.{le_sum_at}
 use Rattle.core_model.proofs.SlotsLoosened.{standing_few}
 use Rattle.core_model.proofs.Spelling.{one_same}
 use Rattle.store_rule.specs.Ground.{Ground, Rule}
@@ -41,12 +42,21 @@ module _ {X : Type 0} (g : Ground X) (s : State X) (r : Rule g s) where
   pub chain_short : (a : ℕ) → length (chain_of s a).slots ≤ g.setting.slots
   chain_short a = let c = slots_counted g.setting s r.sound.slots in let h = chain_among s.chains a in omega arith
 
-  pub chain_inside : (a slot : ℕ) → 0 < times slot (chain_of s a).slots → slot < g.setting.slots
-  chain_inside a slot there = let o = r.sound.slots.places.owners slot in let h = standing_few slot s.chains a in by_case (ltb slot g.setting.slots) refl (omega arith)
+  -- a slot that stands in a chain or is its tail
+  pub stands_inside : (a slot : ℕ) → 0 < standing_in slot (chain_of s a) → slot < g.setting.slots
+  stands_inside a slot there = let o = r.sound.slots.places.owners slot in let h = standing_few slot s.chains a in by_case (ltb slot g.setting.slots) refl (omega arith)
     where
       by_case : (b : Bool) → ltb slot g.setting.slots ≡ b → 0 < used ((slot_words g.setting s.words).owner slot) → slot < g.setting.slots
       by_case true e h = Rattle.std.proofs.lemmas.Bool.ltb-true slot g.setting.slots e
       by_case false e h = absurd (let z : used ((slot_words g.setting s.words).owner slot) ≡ 0 = rw e refl in omega arith)
+
+  pub chain_inside : (a slot : ℕ) → 0 < times slot (chain_of s a).slots → slot < g.setting.slots
+  chain_inside a slot there = stands_inside a slot (omega arith)
+
+  -- the chain of a tab's anchor and what the tab reserved are no more slots than there are
+  pub chain_and_held : (i : ℕ) (v : View X) → get_elem? s.views i ≡ some v → (t : ℕ) (w : Writer X) → get_elem? v.tabs t ≡ some (Tab.Writing w) → length (chain_of s w.anchor).slots + length w.reserved ≤ g.setting.slots
+  chain_and_held i v at t w there = let c = slots_counted g.setting s r.sound.slots in let h = chain_among s.chains w.anchor in
+      let a = le_sum_at slots_held v.tabs t (Tab.Writing w) there in let b = le_sum_at (count slots_held) s.views i v at in omega arith
 
 -- a count of slots has 32 bits
 pub few_slots : (slots s : ℕ) → slots ≡ s → slots ≤ 4294967295 → s ≤ 4294967295

@@ -10,6 +10,7 @@ use Rattle.rebuild_model.specs.Entry.{Entry, IsComplete}
 use Rattle.rebuild_model.specs.Rebuilt.{IsRebuilt}
 use Rattle.rock_disk.specs.Cell.{CellState}
 use Rattle.core_model.specs.declared.tab.Cell.{Cell}
+use Rattle.core_model.specs.declared.tab.Tab.{Tab}
 use Rattle.core_model.specs.declared.view.View.{View}
 use Rattle.core_model.specs.declared.chain.Chain.{Chain}
 use Rattle.core_model.specs.Layout.{Setting, word_count}
@@ -26,6 +27,7 @@ use Rattle.store_rule.specs.Ground.{Ground, Rule, offering_of}
 use Rattle.core_model.specs.Offers.{OffersStand}
 use Rattle.core_model.proofs.OffersOpened.{opened_deeds, opened_offers}
 use Rattle.core_model.proofs.SightsOpened.{opens_sights}
+use Rattle.store_rule.proofs.RestsEnd.{rests_end_new}
 use Rattle.store_rule.specs.Setting.{IsRow, IsSettled, form_of, now_in, shown}
 use Rattle.store_rule.specs.Ruled.{Ruled, Seated, place_shown}
 use Rattle.store_rule.specs.Told.{Stands, the_view}
@@ -61,6 +63,17 @@ rebuilt slots anchors = record {
   free = λ s none. same_at slots s 0;
   greatest = record { above = λ s h. absurd (not_sane (replicate slots []) s h); there = λ h. absurd (omega arith) };
 }
+
+-- each tab of a new view is free
+all_same : {A : Type 0} → (n : ℕ) (y x : A) (t : ℕ) → get_elem? (replicate n y) t ≡ some x → x ≡ y
+all_same zero y x t e = absurd (some-ne-none x (sym e))
+all_same (suc n) y x zero e = sym (some-injective y x e)
+all_same (suc n) y x (suc t) e = all_same n y x t e
+
+new_free : {X : Type 0} → (k : Setting X) (n from i : ℕ) (v : View X) → get_elem? (new_views k from n) i ≡ some v → (t : ℕ) (x : Tab X) → get_elem? v.tabs t ≡ some x → x ≡ Tab.Free
+new_free k zero from i v e t x there = absurd (some-ne-none v (sym e))
+new_free k (suc n) from zero v e t x there = all_same 9 Tab.Free x t (subst (λ (z : View _). get_elem? z.tabs t ≡ some x) (sym (some-injective (new_view k from) v e)) there)
+new_free k (suc n) from (suc i) v e t x there = new_free k n (from + 1) i v e t x there
 
 module _ {X : Type 0} (k : Setting X) where
   views_at : (n from i : ℕ) → i < n → get_elem? (new_views k from n) i ≡ some (new_view k (from + i))
@@ -135,6 +148,7 @@ module _ {X : Type 0} (k : Setting X) where
       offered = subst (λ (z : Setting X). OffersStand (offering_of g) z new_state) (sym same)
           (opened_offers (offering_of g) k (none_kept k.slots) new_state is_setting is_opened 0 (replicate k.slots []) (rebuilt k.slots k.anchors) (length-replicate k.slots [])
           (λ a lt. none a ∙ sym (ap Chain.slots (same_at k.anchors a no_chain))));
+      rests = rests_end_new new_state (λ i v at t x there. new_free k k.passes 0 i v at t x there);
     }
 
     pub new_stands : (g : Ground X) → g.setting ≡ k → ((a : ℕ) → g.chain a ≡ []) → (n : ℕ) → n < k.passes → Stands g (new_view k n)

@@ -1,5 +1,6 @@
 pub mod CellLists
 pub mod Seating
+pub mod RestsEnd
 pub mod Granted
 pub mod Moves
 pub mod Bounds
@@ -13,3 +14,4 @@ pub mod SideMoves
 pub mod Joining
 pub mod Gathering
 pub mod SlotHands
+pub mod LinkMoves

@@ -50,7 +50,7 @@ module _ {X : Type 0} (g : Ground X) (s : State X) (i : ℕ) (v : View X) (r : R
   held_once = let o = r.sound.slots.places.owners slot in let f = used_few ((slot_words g.setting s.words).owner slot) in
       let a = le_sum_at (held_in slot) v.tabs t tab there in let b = le_sum_at (count (held_in slot)) s.views i v at in omega arith
 
-  held_there : 0 < held_in slot tab → slot < g.setting.slots
+  pub held_there : 0 < held_in slot tab → slot < g.setting.slots
   held_there held = let o = r.sound.slots.places.owners slot in let a = le_sum_at (held_in slot) v.tabs t tab there in let b = le_sum_at (count (held_in slot)) s.views i v at in
       by_case (ltb slot g.setting.slots) refl (let z = held in omega arith)
     where

@@ -1,5 +1,5 @@
 -- What does not change while a store is open, and what holds of its table between any two steps.
-use Rattle.std.specs.Prelude.{◌+◌, ◌-◌, ◌≡◌, ◌≤◌, List, Option, Some, drop, length, take, ℕ}
+use Rattle.std.specs.Prelude.{◌+◌, ◌-◌, ◌≡◌, ◌≢◌, ◌≤◌, List, Option, Some, drop, length, take, ℕ}
 use Rattle.std.specs.Int.{from_le_bytes, w64}
 use Rattle.store_key.specs.Anchor.{anchor_of}
 use Rattle.store_key.specs.Key.{key_of}
@@ -7,7 +7,11 @@ use Rattle.store_key.specs.Url.{IsUrl}
 use Rattle.entry_cut.specs.Content.{Cut, count}
 use Rattle.core_model.specs.declared.moves.Move.{Move}
 use Rattle.core_model.specs.declared.moves.Move.TheVariants.{Enter, Take}
+use Rattle.core_model.specs.declared.tab.Freer.{Freer}
+use Rattle.core_model.specs.declared.tab.Tab.TheVariants.{Freeing}
 use Rattle.core_model.specs.declared.view.View.{View}
+use Rattle.core_model.specs.Holders.{IsTab}
+use Rattle.link_word.specs.declared.link.Link.TheVariants.{Next}
 use Rattle.core_model.specs.Layout.{Setting}
 use Rattle.core_model.specs.State.{State}
 use Rattle.core_model.specs.Sound.{Sound}
@@ -55,10 +59,15 @@ offering_of g = record {
   Fits = IsOfferFor g;
 }
 
--- The rule: the state is sound, and each entry is the opening's or one of its offer.
+-- behind the slots that an inner tab gives back no other one is named
+abbrev pub RestsEnd : {X : Type 0} → State X → Type 0
+RestsEnd s = (i t : ℕ) (f : Freer) → IsTab s i t (Freeing f) → (slot : ℕ) → f.behind ≢ Next slot
+
+-- The rule: the state is sound, each entry is the opening's or one of its offer, and what is given back has an end.
 pub record Rule {X : Type 0} (g : Ground X) (s : State X) : Type 0 where
   pub sound : Sound g.setting s
   pub offered : OffersStand (offering_of g) g.setting s
+  pub rests : RestsEnd s
 
 -- an anchor that is left alone is named by its own pass
 abbrev pub MayName : {X : Type 0} → Ground X → View X → ℕ → Type 0

@@ -54,6 +54,15 @@ abbrev pub is_last : {X : Type 0} → Tab X → Bool
 is_last (Last a) = true
 is_last _ = false
 
+-- what a pass tells of a tab that reads, and of one that writes
+abbrev pub reading_of : {X : Type 0} → Tab X → Option ReadingAt
+reading_of (Reading r) = Some (reading_at r)
+reading_of _ = None
+
+abbrev pub writing_of : {X : Type 0} → Tab X → Option WritingAt
+writing_of (Writing w) = Some (writing_at w)
+writing_of _ = None
+
 abbrev pub tabs_at : {X : Type 0} → View X → List At
 tabs_at v = map at_of v.tabs
 

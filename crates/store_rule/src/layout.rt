@@ -24,6 +24,13 @@ pub(crate) fn side_word(anchor: u32, side: Side) -> usize
     anchor_word(anchor) + at
 }
 
+/// The link of a slot, and behind it its turn.
+pub(crate) fn link_word(anchors: u32, slot: u32) -> usize
+    ensures { result ≡ 5 * anchors + 2 * slot }
+{
+    5 * anchors as usize + 2 * slot as usize
+}
+
 pub(crate) fn counter_word(anchors: u32, slots: u32) -> usize
     ensures { result ≡ 5 * anchors + 3 * slots }
 {

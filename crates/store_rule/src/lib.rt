@@ -5,6 +5,7 @@
 mod cells;
 mod closing;
 mod layout;
+mod links;
 mod machine;
 mod notes;
 mod opening;
@@ -19,3 +20,4 @@ mod tabs;
 pub use opening::NoRoom;
 pub use rule::{About, Origin};
 pub use store::{Desk, Note, Pass, Store};
+pub use tabs::{ReadingAt, WritingAt};

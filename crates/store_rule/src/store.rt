@@ -4,7 +4,7 @@ ghost use Rattle.store_rule.specs.Told.{the_view};
 ghost use Rattle.store_rule.specs.Tabs.{tabs_at};
 
 use crate::rule::{About, Origin, Rule};
-use crate::tabs::{At, anchor_at, held_at};
+use crate::tabs::{At, ReadingAt, WritingAt, anchor_at, held_at};
 use atomic_table::{Seat, Table};
 use core_model::{Row, View};
 use rock_disk::Cell;
@@ -70,7 +70,7 @@ impl<C> Pass<C> {
     ghost use Rattle.std.specs.Prelude.{◌≡◌, ◌<◌, slice_index};
     ghost use Rattle.core_model.specs.Tabs.{tab_at, is_free, anchor_of};
     ghost use Rattle.core_model.specs.Tabs.{stage_held};
-    ghost use Rattle.store_rule.specs.Tabs.{at_of, is_last};
+    ghost use Rattle.store_rule.specs.Tabs.{at_of, is_last, reading_of, writing_of};
     ghost use Rattle.store_rule.specs.Passes.{view};
 
     pub(crate) fn at(&self, tab: u8) -> At
@@ -102,6 +102,28 @@ impl<C> Pass<C> {
         ensures { result ≡ anchor_of (tab_at (view self.now) tab) }
     {
         anchor_at(self.at(tab))
+    }
+
+    /// Where a tab is that reads. None: it does not read.
+    pub fn reading(&self, tab: u8) -> Option<ReadingAt>
+        requires { tab < 9 }
+        ensures { result ≡ reading_of (tab_at (view self.now) tab) }
+    {
+        match self.at(tab) {
+            At::Reading(reading) => Some(reading),
+            _ => None,
+        }
+    }
+
+    /// How far a tab is that writes. None: it does not write.
+    pub fn writing(&self, tab: u8) -> Option<WritingAt>
+        requires { tab < 9 }
+        ensures { result ≡ writing_of (tab_at (view self.now) tab) }
+    {
+        match self.at(tab) {
+            At::Writing(writing) => Some(writing),
+            _ => None,
+        }
     }
 
     /// The word that a tab left when it last left or raised its anchor, and 0 before.

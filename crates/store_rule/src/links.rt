@@ -1,0 +1,56 @@
+// The step calls on the links of slots.
+use crate::layout::link_word;
+use crate::rule::Origin;
+use crate::store::{Pass, Store};
+use crate::tab_slots::{followed_at, published_at};
+use core_model::Move;
+use link_word::{Link, pack_link, unpack_link};
+use rock_disk::Cell;
+use std::marker::Brand;
+
+impl<C: Cell, O: Origin> Store<C, O> {
+    ghost use Rattle.core_model.specs.declared.moves.Move.TheVariants.{GetLink, Publish};
+    ghost use Rattle.link_word.specs.Words.{link_number};
+    ghost use Rattle.store_rule.specs.Passes.{Made, May};
+
+    /// A writing tab publishes its first reserved slot, whose cell is home and has the piece that the tab
+    /// chose: stores the link of that piece.
+    pub fn set_link(&self, pass: &mut Pass<C>, tab: u8, slot: u32, link: Link)
+        requires { May C.tells C.state O.offers self.now pass.old (Publish tab slot link) }
+        ensures { Made C.tells C.state O.offers self.now pass.old (Publish tab slot link) 0 pass.new }
+    {
+        let at = pass.at(tab);
+        let made = Move::Publish { tab, slot, link };
+        let place = link_word(self.anchors, slot);
+        self.swap_as::<Brand>(&mut pass.seat, place, pack_link(link), made);
+        pass.tabs.set(tab as usize, published_at(at, slot));
+    }
+
+    /// Loads the link of the slot at a reading tab's place, or of the first slot that the inner tab gives back.
+    pub fn get_link(&self, pass: &mut Pass<C>, tab: u8, slot: u32) -> Link
+        requires { May C.tells C.state O.offers self.now pass.old (GetLink tab slot) }
+        ensures { Made C.tells C.state O.offers self.now pass.old (GetLink tab slot) (link_number result) pass.new }
+    {
+        let at = pass.at(tab);
+        let made = Move::GetLink { tab, slot };
+        let place = link_word(self.anchors, slot);
+        let found = self.load_as::<Brand>(&mut pass.seat, place, made);
+        let link = link_found(found);
+        pass.tabs.set(tab as usize, followed_at(at, link));
+        link
+    }
+}
+
+ghost use Rattle.std.specs.Prelude.{◌≡◌, ◌≤◌};
+ghost use Rattle.link_word.specs.Words.{link_number};
+
+// The link of these bits, which names a slot of 32 bits, if any.
+fn link_found(bits: u64) -> Link
+    requires { bits ≤ 4294967297 }
+    ensures { link_number result ≡ bits }
+{
+    match unpack_link(bits) {
+        Some(link) => link,
+        None => unreachable!(),
+    }
+}
