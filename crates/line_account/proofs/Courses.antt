@@ -13,7 +13,7 @@ use Rattle.core_model.specs.Trails.{drawn, draws}
 use Rattle.core_model.proofs.Lists.{contains_none}
 use Rattle.line_account.specs.Lines.{LineOf, Served}
 use Rattle.line_account.specs.Deeds.{Grows, HasLine, IsDeedOf, IsDeedOfEnd, IsNamed}
-use Rattle.line_account.specs.Answers.{HasHit, HasItem, HasOpened, HasOther, IsBusy, IsEntryAt, IsKeyRead, IsSpent, Run}
+use Rattle.line_account.specs.Answers.{HasAdded, HasGiven, HasHit, HasItem, HasOpened, HasOther, IsBusy, IsEntryAt, IsKeyRead, IsSpent, Run}
 use Rattle.line_account.specs.Accounts.{Account, HasFinished, Tells, drew_some, drew_version}
 use Rattle.line_account.specs.Courses.{Adds, Begins, Course, Keeps, Leaves, Stage, lines_in, one_if}
 
@@ -82,6 +82,31 @@ module _ {X : Type 0} (r : Run X) (v w : View X) (h : Keeps v w) where
     differs = o.differs;
   }
 
+  added_later : (earlier : List Served) (s : Served) (count : ℕ) → HasAdded r v earlier s count → HasAdded r w earlier s count
+  added_later earlier s count a = record {
+    tab = a.tab;
+    asked = a.asked;
+    request = a.request;
+    writes = a.writes;
+    count_is = a.count_is;
+    url_is = a.url_is;
+    published = λ some. h.seen _ (a.published some);
+    offer = λ some. h.seen _ (a.offer some);
+  }
+
+  given_later : (earlier : List Served) (s : Served) → HasGiven r v earlier s → HasGiven r w earlier s
+  given_later earlier s g = record {
+    first = g.first;
+    opened_is = g.opened_is;
+    url = g.url;
+    named = g.named;
+    entry = entry_later _ g.first.opened g.url g.entry;
+    place = g.place;
+    most = g.most;
+    url_is = g.url_is;
+    published = λ some. h.seen _ (g.published some);
+  }
+
   key_later : (a e : ℕ) (key : List ℕ) → IsKeyRead r v a e key → IsKeyRead r w a e key
   key_later a e key i = record {
     readable = i.readable;
@@ -114,10 +139,12 @@ module _ {X : Type 0} (r : Run X) (v w : View X) (h : Keeps v w) where
     cause = t.cause;
     key = λ e key a q at. key_later a _ key (t.key e key a q at);
     opened = λ x q. opened_later s (t.opened x q);
-    hit = λ x bytes q. hit_later s bytes (t.hit x bytes q);
-    other = λ q. other_later earlier s (t.other q);
+    hit = λ y x bytes q. hit_later s bytes (t.hit y x bytes q);
+    other = λ y q. other_later earlier s (t.other y q);
     halted = t.halted;
     part = t.part;
+    added = λ count q. added_later earlier s count (t.added count q);
+    given = λ y q. given_later earlier s (t.given y q);
     tab = t.tab;
   }
 

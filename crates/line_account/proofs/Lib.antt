@@ -5,3 +5,4 @@ pub mod Courses
 pub mod Names
 pub mod Printing
 pub mod Ordering
+pub mod Parts

@@ -47,9 +47,9 @@ two : (d e x : ℕ) → Contains (d ∷ e ∷ []) x → (d ≡ x) ⊎ (e ≡ x)
 two d e x h = ⊎_elim (λ (q : d ≡ x). inl q) (λ (q : Contains (e ∷ []) x). inr (one e x q)) (cons_contains d x (e ∷ []) h)
 
 -- where an entry was opened
-record FoundAt (opened x : ℕ) : Type 0 where
-  readable : is_readable opened ≡ true
-  version_is : x ≡ version_of opened
+pub record FoundAt (opened x : ℕ) : Type 0 where
+  pub readable : is_readable opened ≡ true
+  pub version_is : x ≡ version_of opened
 
 -- an answer that tells of no entry
 silent : (e : ℕ) (a : Answer) → printed a ≡ [] → version_alone a ≡ None → ((x : ℕ) → OpensOrStores a x → ⊥) → ((x : ℕ) → Opens a x → ⊥) → NotBelow e a
@@ -241,7 +241,7 @@ module _ {X : Type 0} (r : Run X) (v : View X) (earlier : List Served) (s : Serv
   found_of : (version : ℕ) → version ≡ version_of s.opened → HasOpened r v s → FoundAt s.opened version
   found_of version is o = record { readable = o.entry.readable; version_is = is }
 
-  opened_at : (version : ℕ) → s.answer ≡ answer.Opened version → FoundAt s.opened version
+  pub opened_at : (version : ℕ) → s.answer ≡ answer.Opened version → FoundAt s.opened version
   opened_at version e =
       let may : IsAnswerTo s.line.request (answer.Opened version) = subst (IsAnswerTo s.line.request) e t.answers in
       let comes : ComesIn s.line.request s.answer version = subst (λ (z : Answer). ComesIn s.line.request z version) (sym e) (comes_opened s.line.request version may) in
@@ -290,12 +290,12 @@ module _ {X : Type 0} (r : Run X) (v : View X) (earlier : List Served) (s : Serv
 
 module _ {X : Type 0} (r : Run X) (start : View X) where
   -- a stage of a course: what it adds, the course before it, and what is still known after it
-  record HasStage (t : Stage X) (earlier : List (Stage X)) (end : View X) : Type 0 where
-    adds : Adds r t.before (lines_in earlier) t.served t.after
-    course : Course r start earlier t.before
-    keeps : (x : Sight) → Contains t.after.seen x → Contains end.seen x
+  pub record HasStage (t : Stage X) (earlier : List (Stage X)) (end : View X) : Type 0 where
+    pub adds : Adds r t.before (lines_in earlier) t.served t.after
+    pub course : Course r start earlier t.before
+    pub keeps : (x : Sight) → Contains t.after.seen x → Contains end.seen x
 
-  stage_in : (stages later : List (Stage X)) (t : Stage X) (earlier : List (Stage X)) (end : View X) → stages ≡ later ++ t ∷ earlier → Course r start stages end → HasStage t earlier end
+  pub stage_in : (stages later : List (Stage X)) (t : Stage X) (earlier : List (Stage X)) (end : View X) → stages ≡ later ++ t ∷ earlier → Course r start stages end → HasStage t earlier end
   stage_in stages [] t earlier end e c =
       let k : Course r start (t ∷ earlier) end = subst (λ (l : List (Stage X)). Course r start l end) e c in
       record { adds = k.1; course = k.2; keeps = λ x h. subst (λ (v : View X). Contains v.seen x) (sym k.0) h }

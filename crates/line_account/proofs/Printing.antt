@@ -1,6 +1,6 @@
 -- The laws on keys, bodies, readers and numbers.
-use Rattle.std.proofs.Common.{◌≡◌, ◌≢◌, ◌⊎◌, inl, inr, ⊎_elim, ℕ, ◌+◌, ◌*◌, ◌<◌, ◌≤◌, ◌↔◌, zero, suc, List, [], ◌∷◌, ◌++◌, length, take, drop, get_or, min, sym, refl, ap, ◌∙◌, subst, arith, true, Contains, append_assoc, length-drop}
-use Rattle.std.specs.Prelude.{None, Some}
+use Rattle.std.proofs.Common.{◌≡◌, ◌≢◌, ◌⊎◌, inl, inr, ⊎_elim, ℕ, ◌+◌, ◌*◌, ◌-◌, ◌<◌, ◌≤◌, ◌↔◌, zero, suc, List, [], ◌∷◌, ◌++◌, length, take, drop, get_or, min, sym, refl, ap, ◌∙◌, subst, arith, true, false, Contains, append_assoc, length-drop}
+use Rattle.std.specs.Prelude.{IsTrue, None, Some}
 use Rattle.std.specs.Int.{from_le_bytes, to_le_bytes, w64}
 use Rattle.std.proofs.Math.Decide.{dec_le}
 use Rattle.std.proofs.lemmas.List.{get_or-drop, length-take-le, take-append-drop}
@@ -12,7 +12,7 @@ use lib.ListN.{get_elem?}
 use Rattle.store_key.specs.Anchor.{anchor_of, back_half, front_half}
 use Rattle.store_key.specs.Key.{key_of}
 use Rattle.store_key.proofs.KeyFacts.{key_is_bytes, key_is_long}
-use Rattle.lock_word.specs.Words.{epoch_number, stage_of, version_limit, version_of}
+use Rattle.lock_word.specs.Words.{doom_of, epoch_number, stage_of, version_limit, version_of}
 use Rattle.lock_word.specs.declared.cause.Cause.{Cause}
 use Rattle.lock_word.specs.declared.epoch.Epoch.{Epoch}
 use Rattle.lock_word.specs.declared.word.Word.{Word}
@@ -21,23 +21,24 @@ use Rattle.script_text.specs.declared.answer.Answer.{Answer}
 use Rattle.script_text.specs.declared.answer.Answer.TheVariants as answer
 use Rattle.script_text.specs.declared.body.Body.{Body}
 use Rattle.script_text.specs.declared.request.Request.{Request}
-use Rattle.script_text.specs.declared.request.Request.TheVariants.{Get}
+use Rattle.script_text.specs.declared.request.Request.TheVariants.{Add, Get}
 use Rattle.core_model.specs.declared.moves.Side.TheVariants.{Key0, Key1, Offer}
 use Rattle.core_model.specs.declared.view.Kind.TheVariants.{Counted, Drew, Entered}
 use Rattle.core_model.specs.declared.view.Sight.TheVariants.{Stood}
 use Rattle.core_model.specs.declared.view.View.{View}
 use Rattle.core_model.specs.Anchors.{opening_counter}
-use Rattle.core_model.specs.Deeds.{EnteredByAnother, IsEpochAt}
+use Rattle.core_model.specs.Deeds.{EnteredByAnother, EvictedVersion, HaltedVersion, IsDone, IsEpochAt}
 use Rattle.core_model.specs.State.{counter}
-use Rattle.line_account.specs.Lines.{Fits, LineOf, Offers, Served, begun_by, opened_by, url_in}
-use Rattle.line_account.specs.Deeds.{Begins, ComesTo, IsDeedOf, IsDeedOfEnd}
+use Rattle.line_account.specs.Lines.{Fits, LineOf, Offers, Served, added, begun_by, begun_of, opened_by, url_in, writing}
+use Rattle.line_account.specs.Deeds.{Begins, ComesTo, IsDeedOf, IsDeedOfEnd, MayEvict}
 use Rattle.line_account.specs.Requests.{IsAnswerTo}
 use Rattle.line_account.specs.Answers.{ComesIn, HasItem, HasOther, IsCauseOf, IsEntryAt, IsLong, IsSpent, ReadAs, Refuses, Run}
 use Rattle.line_account.specs.Accounts.{epoch_in}
-use Rattle.line_account.specs.Closing.{BegunIn, Closed, LineIn, Worker, offered}
-use Rattle.line_account.specs.Printed.{AnotherComes, HasBusyWords, HasOtherUrl, HitIn, IsBodyOfLine, IsKeyOfLine, IsOldBody, IsOldUrl, IsOtherUrl, KeyIn, NeedsTooMany, PrintsHit, PrintsKey, PrintsLarge, PrintsOther, PrintsReaders, old_offer}
+use Rattle.line_account.specs.Closing.{BegunIn, Closed, LineIn, ShownIn, Worker, offered}
+use Rattle.line_account.specs.Printed.{AnotherComes, GivenBackIn, HasBusyWords, HasOtherUrl, HitIn, IsBodyOfLine, IsKeyOfLine, IsOldBody, IsOldUrl, IsOtherUrl, KeyIn, NeedsTooMany, PrintsAdded, PrintsHit, PrintsKey, PrintsLarge, PrintsOther, PrintsReaders, old_offer}
 use Rattle.line_account.proofs.Rows.{Split}
-use Rattle.line_account.proofs.Gathered.{DeedIn, counter_below, counter_is, deed_in, tells_at}
+use Rattle.line_account.proofs.Gathered.{DeedIn, by_line, counter_below, counter_is, deed_in, shown_known, tells_at}
+use Rattle.line_account.proofs.Versions.{halted_in}
 use Rattle.line_account.proofs.Names.{HasNames, HasOffer, begun_among, names_of, offer_of, offered_url}
 
 -- Keys are the same where their halves are.
@@ -118,20 +119,20 @@ module _ {X : Type 0} (r : Run X) (crew : List (Worker X)) (c : Closed r crew) w
   abbrev Hits : ℕ → ℕ → List ℕ → List ℕ → List Served → Served → Type 0
   Hits a x url bytes earlier s = PrintsHit r.setting.anchors s a x url bytes
 
-  pub hit_of_old : (a x : ℕ) (url bytes : List ℕ) → HitIn r crew a x url bytes → x ≤ opening_counter r.setting → IsOldBody r a url bytes
-  hit_of_old a x url bytes p low =
+  pub hit_of_old : IsTrue r.tells → (a x : ℕ) (url bytes : List ℕ) → HitIn r crew a x url bytes → x ≤ opening_counter r.setting → IsOldBody r a url bytes
+  hit_of_old y a x url bytes p low =
       let s : Served = p.line_of.line in
-      let h = (tells_at r crew c (Hits a x url bytes) p).hit x bytes p.line_of.so.printed in
+      let h = (tells_at r crew c (Hits a x url bytes) p).hit y x bytes p.line_of.so.printed in
       let same : h.opened.url ≡ url = get_url s url h.opened.url p.line_of.so.request h.opened.named in
       let version : x ≡ version_of s.opened = hit_version s url bytes x p.line_of.so.request p.line_of.so.printed h.opened.told in
       let there : anchor_of (key_of h.opened.url) r.setting.anchors ≡ a = ap (λ u. anchor_of (key_of u) r.setting.anchors) same ∙ sym p.line_of.so.anchor in
       let offer : h.opened.entry.offer ≡ old_offer r a = h.opened.entry.old (omega arith) ∙ ap (old_offer r) there in
       record { whole = h.whole ∙ ap r.body offer; url_is = sym (ap r.url offer) ∙ h.same ∙ same }
 
-  pub hit_of_new : (a x : ℕ) (url bytes : List ℕ) → HitIn r crew a x url bytes → opening_counter r.setting < x → IsBodyOfLine r crew a x url bytes
-  hit_of_new a x url bytes p high =
+  pub hit_of_new : IsTrue r.tells → (a x : ℕ) (url bytes : List ℕ) → HitIn r crew a x url bytes → opening_counter r.setting < x → IsBodyOfLine r crew a x url bytes
+  hit_of_new y a x url bytes p high =
       let s : Served = p.line_of.line in
-      let h = (tells_at r crew c (Hits a x url bytes) p).hit x bytes p.line_of.so.printed in
+      let h = (tells_at r crew c (Hits a x url bytes) p).hit y x bytes p.line_of.so.printed in
       let same : h.opened.url ≡ url = get_url s url h.opened.url p.line_of.so.request h.opened.named in
       let version : x ≡ version_of s.opened = hit_version s url bytes x p.line_of.so.request p.line_of.so.printed h.opened.told in
       let there : anchor_of (key_of h.opened.url) r.setting.anchors ≡ a = ap (λ u. anchor_of (key_of u) r.setting.anchors) same ∙ sym p.line_of.so.anchor in
@@ -147,14 +148,14 @@ module _ {X : Type 0} (r : Run X) (crew : List (Worker X)) (c : Closed r crew) w
 
   -- Other URLs.
 
-  pub other_url : (url : List ℕ) → LineIn crew (λ earlier s. PrintsOther earlier s url) → HasOtherUrl r crew url
-  other_url url p = subst (HasOtherUrl r crew) same found
+  pub other_url : IsTrue r.tells → (url : List ℕ) → LineIn crew (λ earlier s. PrintsOther earlier s url) → HasOtherUrl r crew url
+  other_url y url p = subst (HasOtherUrl r crew) same found
     where
       P : List Served → Served → Type 0
       P earlier s = PrintsOther earlier s url
 
       told : HasOther r p.worker.view p.line_of.earlier p.line_of.line
-      told = (tells_at r crew c (λ earlier s. PrintsOther earlier s url) p).other p.line_of.so.printed
+      told = (tells_at r crew c (λ earlier s. PrintsOther earlier s url) p).other y p.line_of.so.printed
 
       first : told.first ≡ p.line_of.so.first
       first = let k : Some told.first ≡ Some p.line_of.so.first = sym told.opened_is ∙ p.line_of.so.opened_is in cc
@@ -259,3 +260,28 @@ module _ {X : Type 0} (r : Run X) (crew : List (Worker X)) (c : Closed r crew) w
 
   pub answer_told : (P : List Served → Served → Type 0) (p : LineIn crew P) → IsAnswerTo p.line_of.line.line.request p.line_of.line.answer
   answer_told P p = (tells_at r crew c P p).answers
+
+  pub added_count : (first : Served) (url : List ℕ) (body : Body) (tab asked count : ℕ) (p : LineIn crew (λ earlier s. PrintsAdded earlier s first tab asked count)) → Offers first.line.request url body
+      → count ≡ min asked (length (bytes_of body) - added tab p.line_of.earlier)
+  added_count first url body tab asked count p offers =
+      let l = p.line_of in
+      let h = (tells_at r crew c (λ earlier s. PrintsAdded earlier s first tab asked count) p).added count l.so.printed in
+      let k : Add h.tab h.asked ≡ Add tab asked = sym h.request ∙ l.so.request in
+      let tabs : h.tab ≡ tab = cc in
+      let asks : h.asked ≡ asked = cc in
+      let f : Some h.writes.first ≡ Some first = sym h.writes.begun_is ∙ ap (λ u. writing u l.earlier) tabs ∙ l.so.begun_is in
+      let same : h.writes.first ≡ first = cc in
+      let among = begun_among l.earlier l.line first l.line.line.request (ap (begun_of l.earlier l.line) l.so.request ∙ l.so.begun_is) in
+      let of_first = ((c.accounts p.j p.worker p.at).lines (l.later ++ among.front) among.back first (l.split ∙ ap (λ z. l.later ++ z) among.split ∙ sym (append_assoc l.later among.front (first ∷ among.back)))).offered url body offers in
+      let size : length (r.body (r.setting.slots + h.writes.first.line.number)) ≡ length (bytes_of body) = ap (λ (s : Served). length (r.body (r.setting.slots + s.line.number))) same ∙ ap length of_first.body_is in
+      h.count_is ∙ ap (λ n. min n (length (r.body (r.setting.slots + h.writes.first.line.number)) - added h.tab l.earlier)) asks
+      ∙ ap (λ n. min asked (n - added h.tab l.earlier)) size ∙ ap (λ t. min asked (length (bytes_of body) - added t l.earlier)) tabs
+
+  pub given_back : (a e : ℕ) → ShownIn r crew a e → doom_of e ≡ 0 → 4 ≤ stage_of e → GivenBackIn r crew a (version_of e)
+  given_back a e p undoomed four = ⊎_elim
+      (λ (h : IsDone c.state (HaltedVersion a (version_of e))). inl (halted_in r crew c a (version_of e) h))
+      (λ (h : IsDone c.state (EvictedVersion a (version_of e))). inr (by_line r crew c (EvictedVersion a (version_of e)) (λ earlier s. MayEvict s.line.request)
+      (λ v d earlier s q o. o.evicted q.0 q.3 q.4)
+      (λ d served q o. absurd (let f : true ≡ false = sym q.4 ∙ (o.changed q.0).1 in cc))
+      h))
+      (c.sound.anchors.deeds.undoomed a e (shown_known r crew c a e p) undoomed four)

@@ -97,7 +97,7 @@ module _ {X : Type 0} (r : Run X) (crew : List (Worker X)) (c : Closed r crew) w
   stored_by_line a e p high undoomed three = by_line r crew c (LeftEpoch a e) (λ earlier s. Stores r.setting.anchors earlier s a (version_of e))
       (stored_line a e undoomed three) (stored_end a e undoomed three) (left_new a e p high)
 
-  halted_in : (a x : ℕ) → IsDone c.state (HaltedVersion a x) → HaltedIn r crew a x
+  pub halted_in : (a x : ℕ) → IsDone c.state (HaltedVersion a x) → HaltedIn r crew a x
   halted_in a x done = ⊎_elim
       (λ (l : LineIn crew (λ earlier s. Halts r.setting.anchors earlier s a x)). inl l)
       (λ (l : AtEnd r crew c (λ served. IsWriting r.setting.anchors served a x)). inr (record { j = l.0; worker = l.1; at = l.2; writing = l.3 }))

@@ -1,5 +1,5 @@
 -- The account of a worker: what it knows, and which line each of its deeds belongs to.
-use Rattle.std.specs.Prelude.{Bool, List, None, Option, Some, [], count_by, false, true, ◌+◌, ◌++◌, ◌<◌, ◌==◌, ◌∷◌, ◌↔◌, ◌≡◌, ◌≢◌, ◌⊎◌, Contains, ℕ}
+use Rattle.std.specs.Prelude.{Bool, IsTrue, List, None, Option, Some, [], count_by, false, true, ◌+◌, ◌++◌, ◌<◌, ◌==◌, ◌∷◌, ◌↔◌, ◌≡◌, ◌≢◌, ◌⊎◌, Contains, ℕ}
 use Rattle.lock_word.specs.Words.{epoch_at, epoch_number, stage_of}
 use Rattle.lock_word.specs.declared.cause.Cause.{Cause}
 use Rattle.lock_word.specs.declared.cause.Cause.TheVariants.{Absent, Leaving, OtherKey, Writing}
@@ -18,7 +18,7 @@ use Rattle.core_model.specs.Trails.{drawn, draws}
 use Rattle.line_account.specs.Lines.{Fits, IsAt, Offers, Served, Writes, gives_up, offers}
 use Rattle.line_account.specs.Requests.{IsAnswerTo}
 use Rattle.line_account.specs.Deeds.{Began, Grows, HasLine}
-use Rattle.line_account.specs.Answers.{ComesIn, HasHit, HasOpened, HasOther, IsBusy, IsCauseOf, IsKeyRead, IsLarge, IsLong, IsSpent, Refuses, Run}
+use Rattle.line_account.specs.Answers.{ComesIn, HasAdded, HasGiven, HasHit, HasOpened, HasOther, IsBusy, IsCauseOf, IsKeyRead, IsLarge, IsLong, IsSpent, Reads, Refuses, Run}
 
 -- the epoch of a cause
 abbrev pub epoch_in : Cause → Epoch
@@ -86,10 +86,12 @@ pub record Tells {X : Type 0} (r : Run X) (v : View X) (earlier : List Served) (
   pub cause : (c : Cause) → Refuses s.answer c → IsCauseOf s (epoch_in c) c
   pub key : (e : Epoch) (key : List ℕ) (a : ℕ) → Refuses s.answer (OtherKey e key) → IsAt r.setting.anchors earlier s a → IsKeyRead r v a (epoch_number e) key
   pub opened : (x : ℕ) → ComesIn s.line.request s.answer x → HasOpened r v s
-  pub hit : (x : ℕ) (bytes : List ℕ) → s.answer ≡ answer.Hit x bytes → HasHit r v s bytes
-  pub other : s.answer ≡ answer.OtherUrl → HasOther r v earlier s
+  pub hit : IsTrue r.tells → (x : ℕ) (bytes : List ℕ) → s.answer ≡ answer.Hit x bytes → HasHit r v s bytes
+  pub other : IsTrue r.tells → s.answer ≡ answer.OtherUrl → HasOther r v earlier s
   pub halted : (bytes : List ℕ) → s.answer ≡ answer.Halted bytes → stage_of s.looked ≡ 4
   pub part : (e : Epoch) (bytes : List ℕ) → s.answer ≡ answer.Part e bytes → stage_of (epoch_number e) ≡ 2
+  pub added : (count : ℕ) → s.answer ≡ answer.Added count → HasAdded r v earlier s count
+  pub given : IsTrue r.tells → Reads s.answer → HasGiven r v earlier s
   pub tab : (s.answer ≡ answer.Tab) ↔ ¬ Fits earlier s.line.request  -- exactly where its tab is not as it needs it
 
 -- whether a line drew the version x, and whether it drew one

@@ -1,5 +1,5 @@
 -- What the answer to a line tells of the words and of the entry that the line found.
-use Rattle.std.specs.Prelude.{Bool, List, None, Option, Some, count_by, false, length, min, slice_index_or, true, ◌*◌, ◌+◌, ◌-◌, ◌/◌, ◌<◌, ◌==◌, ◌≡◌, ◌≢◌, ◌≤◌, ◌⊎◌, Contains, ℕ}
+use Rattle.std.specs.Prelude.{Bool, List, None, Option, Some, count_by, false, length, min, slice_index_or, true, ◌*◌, ◌+◌, ◌-◌, ◌<◌, ◌==◌, ◌∷◌, ◌≡◌, ◌≢◌, ◌≤◌, ◌⊎◌, Contains, ℕ}
 use Rattle.std.specs.List.{range_with_len}
 use Rattle.store_key.specs.Anchor.{anchor_of, back_half, front_half}
 use Rattle.store_key.specs.Key.{key_of}
@@ -10,10 +10,11 @@ use Rattle.lock_word.specs.declared.cause.Cause.{Cause}
 use Rattle.lock_word.specs.declared.cause.Cause.TheVariants.{Absent, Leaving, OtherKey, Writing}
 use Rattle.lock_word.specs.declared.epoch.Epoch.{Epoch}
 use Rattle.lock_word.specs.declared.word.Word.{Word}
+use Rattle.plain_model.specs.Store.{meta_size, published}
 use Rattle.script_text.specs.declared.answer.Answer.{Answer}
 use Rattle.script_text.specs.declared.answer.Answer.TheVariants as answer
 use Rattle.script_text.specs.declared.request.Request.{Request}
-use Rattle.script_text.specs.declared.request.Request.TheVariants.{Get, More, OpenTab}
+use Rattle.script_text.specs.declared.request.Request.TheVariants.{Add, Get, More, OpenTab}
 use Rattle.core_model.specs.declared.moves.Side.TheVariants.{Key0, Key1, Offer}
 use Rattle.core_model.specs.declared.view.Item.{Item}
 use Rattle.core_model.specs.declared.view.Kind.{Kind}
@@ -23,13 +24,15 @@ use Rattle.core_model.specs.declared.view.Sight.TheVariants.{Named, Published, S
 use Rattle.core_model.specs.declared.view.View.{View}
 use Rattle.core_model.specs.Anchors.{opening_counter}
 use Rattle.core_model.specs.Layout.{Setting, word_in}
-use Rattle.line_account.specs.Lines.{IsAt, Served, begun_by, offers, opened_by, reading, url_at, url_in}
+use Rattle.line_account.specs.Lines.{IsAt, Served, added, begun_by, bytes_in, given, offers, opened_by, reading, url_at, url_in, writing}
 
 -- What does not change during a run: the setting of the store, how many bytes of a content a slot takes, and the URL and the body of
--- each offer. One below the slots is the entry of the file that begins at this slot, and another is that of a line.
+-- each offer. One below the slots is the entry of the file that begins at this slot, and another is that of a line. Where the cells do
+-- not tell what they hold, nothing is said of bytes.
 pub record Run (X : Type 0) : Type 0 where
   pub setting : Setting X
   pub room : ℕ
+  pub tells : Bool
   pub url : ℕ → List ℕ
   pub body : ℕ → List ℕ
 
@@ -170,3 +173,73 @@ pub record HasOther {X : Type 0} (r : Run X) (v : View X) (earlier : List Served
   pub good : IsUrl (r.url entry.offer)
   pub same_key : key_of (r.url entry.offer) ≡ key_of url
   pub differs : r.url entry.offer ≢ url
+
+-- How many bytes were added and given.
+
+-- the bytes of a body that so many full slots of its content hold, behind the metadata with its URL
+abbrev pub bytes_behind : (room : ℕ) → (url : List ℕ) → (slots : ℕ) → ℕ
+bytes_behind room url slots = slots * room - meta_size url
+
+-- the line that began what the tab of an ADDED line writes, and its version
+pub record IsWritten (earlier : List Served) (s : Served) (tab : ℕ) : Type 0 where
+  pub first : Served
+  pub begun_is : writing tab earlier ≡ Some first
+  pub url : List ℕ
+  pub named : url_in first.line.request ≡ Some url
+  pub version : ℕ
+  pub drew : first.drew ≡ Some version
+
+-- how many slots of the content are published, once so many bytes were added on the tab
+abbrev pub slots_after : (room : ℕ) → (url : List ℕ) → (tab : ℕ) → List Served → ℕ
+slots_after room url tab served = published room (meta_size url + added tab served)
+
+-- ADDED: as many bytes as were asked for, or as the body had left; and the worker has seen that the slots which its content then fills are
+-- published
+pub record HasAdded {X : Type 0} (r : Run X) (v : View X) (earlier : List Served) (s : Served) (count : ℕ) : Type 0 where
+  pub tab : ℕ
+  pub asked : ℕ
+  pub request : s.line.request ≡ Add tab asked
+  pub writes : IsWritten earlier s tab
+  pub count_is : count ≡ min asked (length (r.body (r.setting.slots + writes.first.line.number)) - added tab earlier)
+  pub url_is : r.url (r.setting.slots + writes.first.line.number) ≡ writes.url
+  pub published : 0 < slots_after r.room writes.url tab (s ∷ earlier) → Contains v.seen (Published (anchor_of (key_of writes.url) r.setting.anchors) writes.version (slots_after r.room writes.url tab (s ∷ earlier)))
+  pub offer : 0 < slots_after r.room writes.url tab (s ∷ earlier) → Contains v.seen (Named (anchor_of (key_of writes.url) r.setting.anchors) writes.version Offer (r.setting.slots + writes.first.line.number))
+
+-- how many bytes the tab of a line was given since it was opened, with those of the line; or the line itself, where it gets
+abbrev pub given_of : List Served → Served → Request → ℕ
+given_of earlier s (More tab) = given tab (s ∷ earlier)
+given_of earlier s (Get url) = length (bytes_in s.answer)
+given_of earlier s _ = 0
+
+abbrev pub given_with : List Served → Served → ℕ
+given_with earlier s = given_of earlier s s.line.request
+
+-- The entry that a line reads, which it opened or the first line of its tab did, and how many of its slots were given: the bytes are those
+-- of full slots, or fewer in the last one.
+pub record HasGiven {X : Type 0} (r : Run X) (v : View X) (earlier : List Served) (s : Served) : Type 0 where
+  pub first : Served
+  pub opened_is : opened_by earlier s ≡ Some first
+  pub url : List ℕ
+  pub named : url_in first.line.request ≡ Some url
+  pub entry : IsEntryAt r v (anchor_of (key_of url) r.setting.anchors) first.opened url
+  pub place : ℕ
+  pub most : given_with earlier s ≤ bytes_behind r.room url place
+  pub url_is : 0 < place → r.url entry.offer ≡ url
+  pub published : 0 < place → Contains v.seen (Published (anchor_of (key_of url) r.setting.anchors) (version_of first.opened) place)
+
+-- PART: all bytes of the slots that were given, which are no fewer than the worker had seen published, with the view v before the line
+pub record HasPart {X : Type 0} (r : Run X) (v w : View X) (earlier : List Served) (s : Served) (e : ℕ) : Type 0 where
+  pub given : HasGiven r w earlier s
+  pub version : version_of e ≡ version_of given.first.opened
+  pub seen : Contains w.seen (Stood (anchor_of (key_of given.url) r.setting.anchors) e)
+  pub all : given_with earlier s ≡ bytes_behind r.room given.url given.place
+  pub least : (n : ℕ) → Contains v.seen (Published (anchor_of (key_of given.url) r.setting.anchors) (version_of given.first.opened) n) → n ≤ given.place
+
+-- a line that read, with bytes or without
+abbrev pub Reads : Answer → Type 0
+Reads (answer.Hit version bytes) = Unit {0}
+Reads (answer.Part epoch bytes) = Unit {0}
+Reads (answer.End bytes) = Unit {0}
+Reads (answer.Halted bytes) = Unit {0}
+Reads (answer.ReadFault bytes) = Unit {0}
+Reads _ = ⊥

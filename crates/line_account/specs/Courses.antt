@@ -1,5 +1,8 @@
 -- The course of a worker: what each line adds to its account, and what the end does.
-use Rattle.std.specs.Prelude.{Bool, List, [], cond, false, ◌+◌, ◌<◌, ◌∷◌, ◌≡◌, ◌≤◌, ◌⊎◌, Contains, ℕ}
+use Rattle.std.specs.Prelude.{Bool, IsTrue, List, [], cond, false, ◌+◌, ◌<◌, ◌∷◌, ◌≡◌, ◌≤◌, ◌⊎◌, Contains, ℕ}
+use Rattle.lock_word.specs.Words.{epoch_number}
+use Rattle.lock_word.specs.declared.epoch.Epoch.{Epoch}
+use Rattle.script_text.specs.declared.answer.Answer.TheVariants as answer
 use Rattle.core_model.specs.declared.view.Deed.{Deed}
 use Rattle.core_model.specs.declared.view.Item.{Item}
 use Rattle.core_model.specs.declared.view.Sight.{Sight}
@@ -9,7 +12,7 @@ use Rattle.core_model.specs.Anchors.{opening_epoch}
 use Rattle.core_model.specs.Trails.{drawn, draws, seen_at}
 use Rattle.line_account.specs.Lines.{Served}
 use Rattle.line_account.specs.Deeds.{IsDeedOf, IsDeedOfEnd}
-use Rattle.line_account.specs.Answers.{Run}
+use Rattle.line_account.specs.Answers.{HasPart, Run}
 use Rattle.line_account.specs.Accounts.{Shows, Tells, drew_some, drew_version}
 
 -- with the view w a worker knows all that it knew with the view v
@@ -32,6 +35,7 @@ pub record Adds {X : Type 0} (r : Run X) (v : View X) (earlier : List Served) (s
   pub deeds : (d : Deed) → Contains w.deeds d → Contains v.deeds d ⊎ ((d.pass ≡ v.pass) × IsDeedOf r.setting w d earlier s)
   pub fresh : (a e : ℕ) → Shows r.setting.anchors earlier s a e → seen_at a v.seen ≤ e
   pub tells : Tells r w earlier s
+  pub parts : IsTrue r.tells → (e : Epoch) (bytes : List ℕ) → s.answer ≡ answer.Part e bytes → HasPart r v w earlier s (epoch_number e)  -- PART gives what the worker had seen published
 
 -- what the end adds, after all lines
 pub record Leaves {X : Type 0} (r : Run X) (v : View X) (served : List Served) (w : View X) : Type 0 where

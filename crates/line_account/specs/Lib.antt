@@ -7,3 +7,4 @@ pub mod Courses
 pub mod Closing
 pub mod Printed
 pub mod Order
+pub mod Parts

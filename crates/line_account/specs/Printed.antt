@@ -9,14 +9,14 @@ use Rattle.lock_word.specs.declared.word.Word.{Word}
 use Rattle.plain_model.specs.Serving.{bytes_of}
 use Rattle.script_text.specs.declared.answer.Answer.TheVariants as answer
 use Rattle.script_text.specs.declared.body.Body.{Body}
-use Rattle.script_text.specs.declared.request.Request.TheVariants.{Get}
+use Rattle.script_text.specs.declared.request.Request.TheVariants.{Add, Get}
 use Rattle.core_model.specs.declared.moves.Side.TheVariants.{Key0, Key1, Offer}
 use Rattle.core_model.specs.declared.view.Place.TheVariants.{Beside}
 use Rattle.core_model.specs.Layout.{word_in}
-use Rattle.line_account.specs.Lines.{IsAt, Offers, Served, begun_by, opened_by, url_in}
-use Rattle.line_account.specs.Deeds.{ComesTo}
+use Rattle.line_account.specs.Lines.{IsAt, Offers, Served, begun_by, opened_by, url_in, writing}
+use Rattle.line_account.specs.Deeds.{ComesTo, MayEvict}
 use Rattle.line_account.specs.Answers.{IsHeld, IsOvertaken, Refuses, Run, readers_at}
-use Rattle.line_account.specs.Closing.{BegunIn, LineIn, Worker}
+use Rattle.line_account.specs.Closing.{BegunIn, HaltedIn, LineIn, Worker}
 
 -- Names and bodies.
 
@@ -115,3 +115,13 @@ pub record PrintsLarge (earlier : List Served) (s : Served) (first : Served) : T
 pub record HasBusyWords (looked other : Word) : Type 0 where
   pub cause : IsHeld looked other ⊎ IsOvertaken looked other
   pub rises : epoch_number looked.epoch ≤ epoch_number other.epoch
+
+-- a line printed ADDED with this count, where so many bytes were asked for and its tab's writing was begun by this line
+pub record PrintsAdded (earlier : List Served) (s : Served) (first : Served) (tab asked count : ℕ) : Type 0 where
+  pub request : s.line.request ≡ Add tab asked
+  pub printed : s.answer ≡ answer.Added count
+  pub begun_is : writing tab earlier ≡ Some first
+
+-- an entry of the version x at the anchor a was given up by its writer, or a line that needed a slot evicted one
+abbrev pub GivenBackIn : {X : Type 0} → Run X → List (Worker X) → (a x : ℕ) → Type 0
+GivenBackIn r crew a x = HaltedIn r crew a x ⊎ LineIn crew (λ earlier s. MayEvict s.line.request)

@@ -1,6 +1,9 @@
 //! The laws of printed lines. These functions do nothing: the proof of a function that calls one may use
 //! what it ensures.
-ghost use Rattle.std.specs.Prelude.{◌≡◌, ◌≢◌, ◌+◌, ◌<◌, ◌≤◌, ◌↔◌, ◌∷◌, Contains, ℕ, List, [], true, false};
+ghost use Rattle.std.specs.Prelude.{◌≡◌, ◌≢◌, ◌+◌, ◌-◌, ◌<◌, ◌≤◌, ◌↔◌, ◌∷◌, Contains, IsTrue, ℕ, List, [], length, min, true, false};
+ghost use mathlib.Core.Option.{some};
+ghost use lib.ListN.{get_elem?};
+ghost use Rattle.plain_model.specs.Serving.{bytes_of};
 ghost use Rattle.lock_word.specs.Words.{version_of, stage_of, doom_of, epoch_number, version_limit};
 ghost use Rattle.lock_word.specs.declared.cause.Cause.{Cause};
 ghost use Rattle.lock_word.specs.declared.epoch.Epoch.{Epoch};
@@ -9,15 +12,16 @@ ghost use Rattle.store_key.specs.Key.{key_of};
 ghost use Rattle.script_text.specs.declared.answer.Answer.{Answer};
 ghost use Rattle.script_text.specs.declared.body.Body.{Body};
 ghost use Rattle.core_model.specs.Anchors.{opening_counter, opening_epoch};
-ghost use Rattle.line_account.specs.Lines.{Fits, Offers, Served};
+ghost use Rattle.line_account.specs.Lines.{Fits, Offers, Served, added, given};
 ghost use Rattle.line_account.specs.Deeds.{Begins};
 ghost use Rattle.line_account.specs.Requests.{IsAnswerTo};
+ghost use Rattle.line_account.specs.Parts.{AddsTo, GivesOf, IsCourseOf, PrintsPart};
 ghost use Rattle.line_account.specs.Order.{HandsOver, NotBelow, StandsAt, StandsIn, counts_as};
-ghost use Rattle.line_account.specs.Answers.{IsCauseOf, IsLong, Refuses, Run};
+ghost use Rattle.line_account.specs.Answers.{IsCauseOf, IsLong, Refuses, Run, bytes_behind, given_with};
 ghost use Rattle.core_model.specs.declared.view.View.{View};
 ghost use Rattle.line_account.specs.Accounts.{Account, epoch_in};
 ghost use Rattle.line_account.specs.Courses.{Adds, Begins as BeginsWork, Course, Leaves, Stage, lines_in};
-ghost use Rattle.line_account.specs.Printed.{AnotherComes, HasBusyWords, HasOtherUrl, HitIn, IsBodyOfLine, IsKeyOfLine, IsOldBody, IsOldUrl, KeyIn, NeedsTooMany, PrintsLarge, PrintsOther, PrintsReaders};
+ghost use Rattle.line_account.specs.Printed.{AnotherComes, GivenBackIn, PrintsAdded, HasBusyWords, HasOtherUrl, HitIn, IsBodyOfLine, IsKeyOfLine, IsOldBody, IsOldUrl, KeyIn, NeedsTooMany, PrintsLarge, PrintsOther, PrintsReaders};
 ghost use Rattle.line_account.specs.Closing.{Closed, Worker, BegunIn, ShownIn, StoredIn, HaltedIn, PurgedIn, IsSameLine, LineIn, PrintsHalted, PrintsDoomed, SomeHalted, offered};
 
 /// Each version is begun by one line, and at one anchor.
@@ -86,16 +90,16 @@ pub fn keys_are_of_lines<X>()
 /// The bytes of a hit are the whole body of the entry that the anchor had at the opening, where the version
 /// is of then, or of the body that the line which began the version offers; and its URL is that one's.
 pub fn hits_are_of_lines<X>()
-    ensures old { (r : Run X) (crew : List (Worker X)) (a x : ℕ) (url bytes : List ℕ) → Closed r crew → HitIn r crew a x url bytes
+    ensures old { (r : Run X) (crew : List (Worker X)) (a x : ℕ) (url bytes : List ℕ) → Closed r crew → IsTrue r.tells → HitIn r crew a x url bytes
         → x ≤ opening_counter r.setting → IsOldBody r a url bytes }
-    ensures new { (r : Run X) (crew : List (Worker X)) (a x : ℕ) (url bytes : List ℕ) → Closed r crew → HitIn r crew a x url bytes
+    ensures new { (r : Run X) (crew : List (Worker X)) (a x : ℕ) (url bytes : List ℕ) → Closed r crew → IsTrue r.tells → HitIn r crew a x url bytes
         → opening_counter r.setting < x → IsBodyOfLine r crew a x url bytes }
 {}
 
 /// OTHERURL comes only where another URL has the key of the URL that is read: that of the entry which the
 /// anchor had at the opening, or of a line that began a version there.
 pub fn other_urls_have_the_key<X>()
-    ensures { (r : Run X) (crew : List (Worker X)) (url : List ℕ) → Closed r crew → LineIn crew (λ earlier s. PrintsOther earlier s url) → HasOtherUrl r crew url }
+    ensures { (r : Run X) (crew : List (Worker X)) (url : List ℕ) → Closed r crew → IsTrue r.tells → LineIn crew (λ earlier s. PrintsOther earlier s url) → HasOtherUrl r crew url }
 {}
 
 /// A word of BUSY has more readers than the worker's own tabs that read there only where another worker
@@ -142,4 +146,42 @@ pub fn lines_are_in_order_after_marks<X>()
         → Course r start stages end → Course r other others last
         → StandsAt r.setting.anchors stages t before a → StandsIn before n between → HandsOver m n → StandsIn others m marked → StandsAt r.setting.anchors marked s earlier a
         → Contains (counts_as s.served.answer) e → NotBelow e t.served.answer }
+{}
+
+/// An epoch at HALTED, FREEING or GONE that is not doomed comes only where the writing of its version was
+/// halted, or a line that may need slots evicted an entry.
+pub fn entries_are_given_back_by_lines<X>()
+    ensures { (r : Run X) (crew : List (Worker X)) (a e : ℕ) → Closed r crew → ShownIn r crew a e → doom_of e ≡ 0 → 4 ≤ stage_of e → GivenBackIn r crew a (version_of e) }
+{}
+
+/// The count of ADDED is that which was asked for, or what the body had left, if that is less.
+pub fn added_counts_are_exact<X>()
+    ensures { (r : Run X) (crew : List (Worker X)) (first : Served) (url : List ℕ) (body : Body) (tab asked count : ℕ) → Closed r crew
+        → (p : LineIn crew (λ earlier s. PrintsAdded earlier s first tab asked count)) → Offers first.line.request url body
+        → count ≡ min asked (length (bytes_of body) - added tab p.line_of.earlier) }
+{}
+
+/// What the tab of a PART line was given since it was opened, or a `get` in its own line, is at least the
+/// bytes in the slots that an earlier ADDED of the version published, and at least what earlier lines of
+/// one tab gave of the version since it was opened.
+pub fn parts_are_not_short<X>()
+    ensures added { (r : Run X) (crew : List (Worker X)) (j : ℕ) (w : Worker X) (start : View X) (stages before earlier : List (Stage X)) (t s : Stage X) (x slots : ℕ) (url : List ℕ)
+        → Closed r crew → IsTrue r.tells → get_elem? crew j ≡ some w → IsCourseOf r w start stages → StandsIn stages t before → PrintsPart t.served x
+        → StandsIn before s earlier → AddsTo r (lines_in earlier) s.served x url slots → bytes_behind r.room url slots ≤ given_with (lines_in before) t.served }
+    ensures given { (r : Run X) (crew : List (Worker X)) (j : ℕ) (w : Worker X) (start : View X) (stages before earlier : List (Stage X)) (t s : Stage X) (x tab : ℕ)
+        → Closed r crew → IsTrue r.tells → get_elem? crew j ≡ some w → IsCourseOf r w start stages → StandsIn stages t before → PrintsPart t.served x
+        → StandsIn before s earlier → GivesOf (lines_in earlier) s.served tab x → given tab (s.served ∷ lines_in earlier) ≤ given_with (lines_in before) t.served }
+{}
+
+/// The same, after a mark that the worker met, of the lines that the marking worker served before it set
+/// the mark.
+pub fn parts_are_not_short_after_marks<X>()
+    ensures added { (r : Run X) (crew : List (Worker X)) (j l : ℕ) (w u : Worker X) (start other : View X) (stages others before between marked earlier : List (Stage X)) (t n m s : Stage X) (x slots : ℕ) (url : List ℕ)
+        → Closed r crew → IsTrue r.tells → get_elem? crew j ≡ some w → get_elem? crew l ≡ some u → IsCourseOf r w start stages → IsCourseOf r u other others
+        → StandsIn stages t before → StandsIn before n between → HandsOver m n → StandsIn others m marked → StandsIn marked s earlier
+        → PrintsPart t.served x → AddsTo r (lines_in earlier) s.served x url slots → bytes_behind r.room url slots ≤ given_with (lines_in before) t.served }
+    ensures given { (r : Run X) (crew : List (Worker X)) (j l : ℕ) (w u : Worker X) (start other : View X) (stages others before between marked earlier : List (Stage X)) (t n m s : Stage X) (x tab : ℕ)
+        → Closed r crew → IsTrue r.tells → get_elem? crew j ≡ some w → get_elem? crew l ≡ some u → IsCourseOf r w start stages → IsCourseOf r u other others
+        → StandsIn stages t before → StandsIn before n between → HandsOver m n → StandsIn others m marked → StandsIn marked s earlier
+        → PrintsPart t.served x → GivesOf (lines_in earlier) s.served tab x → given tab (s.served ∷ lines_in earlier) ≤ given_with (lines_in before) t.served }
 {}

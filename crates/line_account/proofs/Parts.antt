@@ -1,0 +1,232 @@
+-- The laws on what PART gives.
+use Rattle.std.proofs.Common.{◌≡◌, ◌≢◌, ◌⊎◌, inl, inr, ℕ, ◌+◌, ◌*◌, ◌-◌, ◌<◌, ◌≤◌, List, [], ◌∷◌, ◌++◌, sym, refl, ap, ◌∙◌, subst, arith, Bool, true, false, cond, Contains, mul-le-mul_right}
+use Rattle.std.specs.Prelude.{IsTrue, None, Option, Some}
+use mathlib.Core.Option.{some}
+use mathlib.Core.Logic.{dite}
+use native.Mathlib.Decide.{ℕ_discrete}
+use Rattle.std.proofs.Math.Decide.{dec_le}
+use lib.ListN.{get_elem?}
+use Rattle.store_key.specs.Anchor.{anchor_of}
+use Rattle.store_key.specs.Key.{key_of}
+use Rattle.lock_word.specs.Words.{epoch_number, stage_of, version_of}
+use Rattle.lock_word.specs.declared.epoch.Epoch.{Epoch}
+use Rattle.script_text.specs.declared.answer.Answer.TheVariants as answer
+use Rattle.script_text.specs.declared.request.Request.{Request}
+use Rattle.script_text.specs.declared.request.Request.TheVariants.{Add, More}
+use Rattle.core_model.specs.declared.moves.Side.TheVariants.{Offer}
+use Rattle.core_model.specs.declared.view.Sight.{Sight}
+use Rattle.core_model.specs.declared.view.Sight.TheVariants.{Named, Published, Stood}
+use Rattle.core_model.specs.declared.view.View.{View}
+use Rattle.core_model.specs.Anchors.{opening_counter}
+use Rattle.core_model.proofs.DeedsTell.{known_quiet}
+use Rattle.line_account.specs.Lines.{Served, closes, given, opened_by, opened_of, opens, reading, url_in, writing}
+use Rattle.line_account.specs.Answers.{HasAdded, HasGiven, HasPart, IsWritten, Run, bytes_behind, given_of, given_with, slots_after}
+use Rattle.line_account.specs.Accounts.{Account, Tells}
+use Rattle.line_account.specs.Courses.{Adds, Begins, Course, Stage, lines_in}
+use Rattle.line_account.specs.Closing.{Closed, Worker}
+use Rattle.line_account.specs.Order.{HandsOver, StandsIn}
+use Rattle.line_account.specs.Parts.{AddsTo, GivesOf, IsCourseOf, PrintsPart}
+use Rattle.line_account.proofs.Rows.{Split}
+use Rattle.line_account.proofs.Courses.{account_after, account_along}
+use Rattle.line_account.proofs.Ordering.{FoundAt, HasStage, opened_at, stage_in}
+
+reading_among : (t : ℕ) (served : List Served) (b : Served) → reading t served ≡ Some b → Split served b
+reading_among t [] b e = absurd (let q : None ≡ Some b = e in cc)
+reading_among t (s ∷ earlier) b e = among (λ q. reading_among t earlier b q) (opens t s.line.request s.answer) (closes t s.line.request s.answer) e
+  where
+    among : (reading t earlier ≡ Some b → Split earlier b) → (x y : Bool) → cond x (Some s) (cond y None (reading t earlier)) ≡ Some b → Split (s ∷ earlier) b
+    among before true y q = let is : s ≡ b = cc in record { front = []; back = earlier; split = ap (λ z. z ∷ earlier) is }
+    among before false true q = absurd (let z : None ≡ Some b = q in cc)
+    among before false false q = let h = before q in record { front = s ∷ h.front; back = h.back; split = ap (λ l. s ∷ l) h.split }
+
+-- more slots hold more bytes
+more_behind : (room : ℕ) (url : List ℕ) (n p : ℕ) → n ≤ p → bytes_behind room url n ≤ bytes_behind room url p
+more_behind room url n p le = let m = mul-le-mul_right room le in omega arith
+
+none_behind : (room : ℕ) (url : List ℕ) (n : ℕ) → n ≡ 0 → bytes_behind room url n ≤ 0
+none_behind room url n e = let m : n * room ≡ 0 * room = ap (λ x. x * room) e in omega arith
+
+module _ {X : Type 0} (r : Run X) (crew : List (Worker X)) (c : Closed r crew) where
+  -- what stood or was named with a new version did so at one anchor
+  same_anchor : (j l : ℕ) (w u : Worker X) → get_elem? crew j ≡ some w → get_elem? crew l ≡ some u → (a b e offer : ℕ) → stage_of e ≡ 2 → Contains w.view.seen (Stood a e) → Contains u.view.seen (Named b (version_of e) Offer offer) → b ≡ a
+  same_anchor j l w u at there a b e offer two stood named = dite (dec_le (version_of e) (opening_counter r.setting))
+      (λ low. absurd ((known_quiet r.setting c.state c.sound a e (inr (c.index j, w.view, c.at j w at, stood)) low).1 two))
+      (λ high. c.sound.anchors.held.one_anchor b a (version_of e) (omega arith)
+      (inr record { i = c.index l; view = u.view; at = c.at l u there; sight = Named b (version_of e) Offer offer; seen = named; anchor = refl; version_is = refl })
+      (inr record { i = c.index j; view = w.view; at = c.at j w at; sight = Stood a e; seen = stood; anchor = refl; version_is = refl }))
+
+  -- PART gives at least the bytes of slots that were seen published before
+  enough : (j l : ℕ) (w u : Worker X) → get_elem? crew j ≡ some w → get_elem? crew l ≡ some u → (v after : View X) (earlier : List Served) (s : Served) (e : ℕ) → stage_of e ≡ 2
+      → (p : HasPart r v after earlier s e) → ((x : Sight) → Contains after.seen x → Contains w.view.seen x)
+      → (b n offer : ℕ) (url : List ℕ) → 0 < n → Contains v.seen (Published b (version_of e) n) → Contains u.view.seen (Named b (version_of e) Offer offer) → r.url offer ≡ url
+      → bytes_behind r.room url n ≤ given_with earlier s
+  enough j l w u at there v after earlier s e two p keeps b n offer url some_slot published named url_is =
+      let g = p.given in
+      let a : ℕ = anchor_of (key_of g.url) r.setting.anchors in
+      let same : b ≡ a = same_anchor j l w u at there a b e offer two (keeps (Stood a e) p.seen) named in
+      let least : n ≤ g.place = p.least n (subst (λ y. Contains v.seen (Published a y n)) p.version (subst (λ z. Contains v.seen (Published z (version_of e) n)) same published)) in
+      let mine : Contains w.view.seen (Named a (version_of e) Offer g.entry.offer) = keeps (Named a (version_of e) Offer g.entry.offer) (subst (λ y. Contains after.seen (Named a y Offer g.entry.offer)) (sym p.version) g.entry.offered) in
+      let theirs : Contains u.view.seen (Named a (version_of e) Offer offer) = subst (λ z. Contains u.view.seen (Named z (version_of e) Offer offer)) same named in
+      let one : g.entry.offer ≡ offer = c.sound.anchors.seen.agree (c.index j) (c.index l) w.view u.view (c.at j w at) (c.at l u there) a (version_of e) Offer g.entry.offer offer mine theirs in
+      let urls : url ≡ g.url = sym url_is ∙ ap r.url (sym one) ∙ g.url_is (omega arith) in
+      let m = more_behind r.room g.url n g.place least in
+      subst (λ z. bytes_behind r.room z n ≤ given_with earlier s) (sym urls) (let all = p.all in omega arith)
+
+-- What the lines of a worker say.
+
+module _ {X : Type 0} (r : Run X) where
+  part_of : (v after : View X) (earlier : List Served) (s : Served) (x : ℕ) → IsTrue r.tells → Adds r v earlier s after → (p : PrintsPart s x) → HasPart r v after earlier s (epoch_number p.epoch)
+  part_of v after earlier s x y n p = n.parts y p.epoch p.bytes p.printed
+
+  -- what ADDED tells, by what it prints
+  record Behind (v : View X) (x : ℕ) (url : List ℕ) (slots : ℕ) : Type 0 where
+    anchor : ℕ
+    offer : ℕ
+    url_is : r.url offer ≡ url
+    published : Contains v.seen (Published anchor x slots)
+    named : Contains v.seen (Named anchor x Offer offer)
+
+  added_behind : (v : View X) (earlier : List Served) (s : Served) (x : ℕ) (url : List ℕ) (slots : ℕ) → Tells r v earlier s → AddsTo r earlier s x url slots → 0 < slots → Behind v x url slots
+  added_behind v earlier s x url slots t a some_slot =
+      let h = t.added a.count a.printed in
+      let k : Add h.tab h.asked ≡ Add a.tab a.asked = sym h.request ∙ a.request in
+      let tab : h.tab ≡ a.tab = cc in
+      let f : Some h.writes.first ≡ Some a.first = sym h.writes.begun_is ∙ ap (λ u. writing u earlier) tab ∙ a.begun_is in
+      let first : h.writes.first ≡ a.first = cc in
+      let u : Some h.writes.url ≡ Some url = sym h.writes.named ∙ ap (λ (z : Served). url_in z.line.request) first ∙ a.named in
+      let urls : h.writes.url ≡ url = cc in
+      let w : Some h.writes.version ≡ Some x = sym h.writes.drew ∙ ap Served.drew first ∙ a.drew in
+      let version : h.writes.version ≡ x = cc in
+      let slots_are : slots_after r.room h.writes.url h.tab (s ∷ earlier) ≡ slots = ap (λ z. slots_after r.room z h.tab (s ∷ earlier)) urls ∙ ap (λ z. slots_after r.room url z (s ∷ earlier)) tab ∙ sym a.slots_are in
+      let some_there : 0 < slots_after r.room h.writes.url h.tab (s ∷ earlier) = omega arith in
+      let b : ℕ = anchor_of (key_of h.writes.url) r.setting.anchors in
+      record {
+        anchor = b;
+        offer = r.setting.slots + h.writes.first.line.number;
+        url_is = h.url_is ∙ urls;
+        published = subst (λ n. Contains v.seen (Published b x n)) slots_are (subst (λ y. Contains v.seen (Published b y (slots_after r.room h.writes.url h.tab (s ∷ earlier)))) version (h.published some_there));
+        named = subst (λ y. Contains v.seen (Named b y Offer (r.setting.slots + h.writes.first.line.number))) version (h.offer some_there);
+      }
+
+  -- what a read tells, by what it prints
+  record Given (v : View X) (x many : ℕ) : Type 0 where
+    url : List ℕ
+    slots : ℕ
+    most : many ≤ bytes_behind r.room url slots
+    behind : 0 < slots → Behind v x url slots
+
+  given_behind : (v : View X) (earlier : List Served) (s : Served) (tab x : ℕ) → IsTrue r.tells → Account r v (s ∷ earlier) false → Tells r v earlier s → GivesOf earlier s tab x → Given v x (given tab (s ∷ earlier))
+  given_behind v earlier s tab x y account t g =
+      let h = t.given y g.reads in
+      let f : Some h.first ≡ Some g.first = sym h.opened_is ∙ ap (opened_of earlier s) g.request ∙ g.opened_is in
+      let first : h.first ≡ g.first = cc in
+      let among = reading_among tab earlier g.first g.opened_is in
+      let told = account.lines (s ∷ among.front) among.back g.first (ap (λ l. s ∷ l) among.split) in
+      let version : x ≡ version_of g.first.opened = (opened_at r v among.back g.first told x g.printed).version_is in
+      let x_is : version_of h.first.opened ≡ x = ap (λ (z : Served). version_of z.opened) first ∙ sym version in
+      let a : ℕ = anchor_of (key_of h.url) r.setting.anchors in
+      let many : given_with earlier s ≡ given tab (s ∷ earlier) = ap (given_of earlier s) g.request in
+      record {
+        url = h.url;
+        slots = h.place;
+        most = (let m = h.most in omega arith);
+        behind = λ some_slot. record {
+          anchor = a;
+          offer = h.entry.offer;
+          url_is = h.url_is some_slot;
+          published = subst (λ z. Contains v.seen (Published a z h.place)) x_is (h.published some_slot);
+          named = subst (λ z. Contains v.seen (Named a z Offer h.entry.offer)) x_is h.entry.offered;
+        };
+      }
+
+module _ {X : Type 0} (r : Run X) (crew : List (Worker X)) (c : Closed r crew) (y : IsTrue r.tells) where
+  -- a line of a worker: what it adds, and that the worker knows at the end what it knew after the line
+  record IsLineOf (w : Worker X) (t : Stage X) (before : List (Stage X)) : Type 0 where
+    adds : Adds r t.before (lines_in before) t.served t.after
+    keeps : (x : Sight) → Contains t.after.seen x → Contains w.view.seen x
+
+  line_of : (w : Worker X) (start : View X) (stages : List (Stage X)) (t : Stage X) (before : List (Stage X)) → IsCourseOf r w start stages → StandsIn stages t before → IsLineOf w t before
+  line_of w start stages t before o is =
+      let h = stage_in r start stages is.later t before o.last is.split o.course in
+      record { adds = h.adds; keeps = λ x q. o.leaves.keeps.seen x (h.keeps x q) }
+
+  -- where another line is known before the line that printed PART
+  bound : (j l : ℕ) (w u : Worker X) → get_elem? crew j ≡ some w → get_elem? crew l ≡ some u → (t s : Stage X) (before : List (Stage X)) (x slots : ℕ) (url : List ℕ)
+      → IsLineOf w t before → PrintsPart t.served x → ((z : Sight) → Contains s.after.seen z → Contains t.before.seen z) → ((z : Sight) → Contains s.after.seen z → Contains u.view.seen z)
+      → (0 < slots → Behind r s.after x url slots) → bytes_behind r.room url slots ≤ given_with (lines_in before) t.served
+  bound j l w u at there t s before x slots url line p known kept behind = dite (ℕ_discrete slots 0)
+      (λ none. let z = none_behind r.room url slots none in omega arith)
+      (λ some_slot.
+      let b = behind (omega arith) in
+      let part = part_of r t.before t.after (lines_in before) t.served x y line.adds p in
+      let e : ℕ = epoch_number p.epoch in
+      enough r crew c j l w u at there t.before t.after (lines_in before) t.served e (line.adds.tells.part p.epoch p.bytes p.printed) part line.keeps b.anchor slots b.offer url (omega arith)
+      (subst (λ z. Contains t.before.seen (Published b.anchor z slots)) (sym p.version_is) (known _ b.published))
+      (subst (λ z. Contains u.view.seen (Named b.anchor z Offer b.offer)) (sym p.version_is) (kept _ b.named))
+      b.url_is)
+
+  -- An earlier line of the same worker is known, and so is one of a worker whose mark was met.
+  record IsKnown (u : Worker X) (t s : Stage X) (earlier : List (Stage X)) : Type 0 where
+    adds : Adds r s.before (lines_in earlier) s.served s.after
+    account : Account r s.after (s.served ∷ lines_in earlier) false
+    known : (z : Sight) → Contains s.after.seen z → Contains t.before.seen z
+    kept : (z : Sight) → Contains s.after.seen z → Contains u.view.seen z
+
+  known_own : (w : Worker X) (start : View X) (stages : List (Stage X)) (t s : Stage X) (before earlier : List (Stage X)) → IsCourseOf r w start stages → StandsIn stages t before → StandsIn before s earlier → IsKnown w t s earlier
+  known_own w start stages t s before earlier o is was =
+      let h = stage_in r start stages is.later t before o.last is.split o.course in
+      let g = stage_in r start before was.later s earlier t.before was.split h.course in
+      record {
+        adds = g.adds;
+        account = account_after r s.before s.after (lines_in earlier) s.served (account_along r start s.before earlier o.begins g.course) g.adds;
+        known = g.keeps;
+        kept = λ z q. o.leaves.keeps.seen z (h.keeps z (h.adds.keeps.seen z (g.keeps z q)));
+      }
+
+  known_met : (w u : Worker X) (start other : View X) (stages others : List (Stage X)) (t n m s : Stage X) (before between marked earlier : List (Stage X)) → IsCourseOf r w start stages → IsCourseOf r u other others
+      → StandsIn stages t before → StandsIn before n between → HandsOver m n → StandsIn others m marked → StandsIn marked s earlier → IsKnown u t s earlier
+  known_met w u start other stages others t n m s before between marked earlier o q is met hands mark was =
+      let h = stage_in r start stages is.later t before o.last is.split o.course in
+      let g = stage_in r start before met.later n between t.before met.split h.course in
+      let f = stage_in r other others mark.later m marked q.last mark.split q.course in
+      let d = stage_in r other marked was.later s earlier m.before was.split f.course in
+      record {
+        adds = d.adds;
+        account = account_after r s.before s.after (lines_in earlier) s.served (account_along r other s.before earlier q.begins d.course) d.adds;
+        known = λ z k. g.keeps z (hands.hands z (d.keeps z k));
+        kept = λ z k. q.leaves.keeps.seen z (f.keeps z (f.adds.keeps.seen z (d.keeps z k)));
+      }
+
+  added_bound : (j l : ℕ) (w u : Worker X) → get_elem? crew j ≡ some w → get_elem? crew l ≡ some u → (t s : Stage X) (before earlier : List (Stage X)) (x slots : ℕ) (url : List ℕ)
+      → IsLineOf w t before → IsKnown u t s earlier → PrintsPart t.served x → AddsTo r (lines_in earlier) s.served x url slots → bytes_behind r.room url slots ≤ given_with (lines_in before) t.served
+  added_bound j l w u at there t s before earlier x slots url line k p a = bound j l w u at there t s before x slots url line p k.known k.kept (added_behind r s.after (lines_in earlier) s.served x url slots k.adds.tells a)
+
+  given_bound : (j l : ℕ) (w u : Worker X) → get_elem? crew j ≡ some w → get_elem? crew l ≡ some u → (t s : Stage X) (before earlier : List (Stage X)) (x tab : ℕ)
+      → IsLineOf w t before → IsKnown u t s earlier → PrintsPart t.served x → GivesOf (lines_in earlier) s.served tab x → given tab (s.served ∷ lines_in earlier) ≤ given_with (lines_in before) t.served
+  given_bound j l w u at there t s before earlier x tab line k p g =
+      let h = given_behind r s.after (lines_in earlier) s.served tab x y k.account k.adds.tells g in
+      let b = bound j l w u at there t s before x h.slots h.url line p k.known k.kept h.behind in
+      let m = h.most in
+      omega arith
+
+  pub own_added : (j : ℕ) (w : Worker X) → get_elem? crew j ≡ some w → (start : View X) (stages before earlier : List (Stage X)) (t s : Stage X) (x slots : ℕ) (url : List ℕ) → IsCourseOf r w start stages
+      → StandsIn stages t before → PrintsPart t.served x → StandsIn before s earlier → AddsTo r (lines_in earlier) s.served x url slots → bytes_behind r.room url slots ≤ given_with (lines_in before) t.served
+  own_added j w at start stages before earlier t s x slots url o is p was a =
+      added_bound j j w w at at t s before earlier x slots url (line_of w start stages t before o is) (known_own w start stages t s before earlier o is was) p a
+
+  pub own_given : (j : ℕ) (w : Worker X) → get_elem? crew j ≡ some w → (start : View X) (stages before earlier : List (Stage X)) (t s : Stage X) (x tab : ℕ) → IsCourseOf r w start stages
+      → StandsIn stages t before → PrintsPart t.served x → StandsIn before s earlier → GivesOf (lines_in earlier) s.served tab x → given tab (s.served ∷ lines_in earlier) ≤ given_with (lines_in before) t.served
+  own_given j w at start stages before earlier t s x tab o is p was g =
+      given_bound j j w w at at t s before earlier x tab (line_of w start stages t before o is) (known_own w start stages t s before earlier o is was) p g
+
+  pub met_added : (j l : ℕ) (w u : Worker X) → get_elem? crew j ≡ some w → get_elem? crew l ≡ some u → (start other : View X) (stages others before between marked earlier : List (Stage X)) (t n m s : Stage X) (x slots : ℕ) (url : List ℕ)
+      → IsCourseOf r w start stages → IsCourseOf r u other others → StandsIn stages t before → StandsIn before n between → HandsOver m n → StandsIn others m marked → StandsIn marked s earlier
+      → PrintsPart t.served x → AddsTo r (lines_in earlier) s.served x url slots → bytes_behind r.room url slots ≤ given_with (lines_in before) t.served
+  met_added j l w u at there start other stages others before between marked earlier t n m s x slots url o q is met hands mark was p a =
+      added_bound j l w u at there t s before earlier x slots url (line_of w start stages t before o is) (known_met w u start other stages others t n m s before between marked earlier o q is met hands mark was) p a
+
+  pub met_given : (j l : ℕ) (w u : Worker X) → get_elem? crew j ≡ some w → get_elem? crew l ≡ some u → (start other : View X) (stages others before between marked earlier : List (Stage X)) (t n m s : Stage X) (x tab : ℕ)
+      → IsCourseOf r w start stages → IsCourseOf r u other others → StandsIn stages t before → StandsIn before n between → HandsOver m n → StandsIn others m marked → StandsIn marked s earlier
+      → PrintsPart t.served x → GivesOf (lines_in earlier) s.served tab x → given tab (s.served ∷ lines_in earlier) ≤ given_with (lines_in before) t.served
+  met_given j l w u at there start other stages others before between marked earlier t n m s x tab o q is met hands mark was p g =
+      given_bound j l w u at there t s before earlier x tab (line_of w start stages t before o is) (known_met w u start other stages others t n m s before between marked earlier o q is met hands mark was) p g

@@ -1,0 +1,48 @@
+-- How much PART gives of a body that grows.
+use Rattle.std.specs.Prelude.{List, Some, ◌∷◌, ◌≡◌, ℕ}
+use Rattle.lock_word.specs.Words.{epoch_number, version_of}
+use Rattle.lock_word.specs.declared.epoch.Epoch.{Epoch}
+use Rattle.script_text.specs.declared.answer.Answer.TheVariants as answer
+use Rattle.script_text.specs.declared.request.Request.TheVariants.{Add, More}
+use Rattle.core_model.specs.declared.view.View.{View}
+use Rattle.line_account.specs.Lines.{Served, reading, url_in, writing}
+use Rattle.line_account.specs.Answers.{Reads, Run, slots_after}
+use Rattle.line_account.specs.Courses.{Begins, Course, Leaves, Stage, lines_in}
+use Rattle.line_account.specs.Closing.{Worker}
+
+-- the course of a worker, from its beginning to its end
+pub record IsCourseOf {X : Type 0} (r : Run X) (w : Worker X) (start : View X) (stages : List (Stage X)) : Type 0 where
+  pub begins : Begins r start
+  pub last : View X
+  pub course : Course r start stages last
+  pub leaves : Leaves r last (lines_in stages) w.view
+  pub lines : lines_in stages ≡ w.served
+
+-- a line printed PART of the version x
+pub record PrintsPart (s : Served) (x : ℕ) : Type 0 where
+  pub epoch : Epoch
+  pub bytes : List ℕ
+  pub printed : s.answer ≡ answer.Part epoch bytes
+  pub version_is : version_of (epoch_number epoch) ≡ x
+
+-- A line printed ADDED. What its tab writes was begun by a line that drew the version x, under this URL, and so many slots of its content
+-- are published then.
+pub record AddsTo {X : Type 0} (r : Run X) (earlier : List Served) (s : Served) (x : ℕ) (url : List ℕ) (slots : ℕ) : Type 0 where
+  pub tab : ℕ
+  pub asked : ℕ
+  pub request : s.line.request ≡ Add tab asked
+  pub count : ℕ
+  pub printed : s.answer ≡ answer.Added count
+  pub first : Served
+  pub begun_is : writing tab earlier ≡ Some first
+  pub named : url_in first.line.request ≡ Some url
+  pub drew : first.drew ≡ Some x
+  pub slots_are : slots ≡ slots_after r.room url tab (s ∷ earlier)
+
+-- a line read on a tab that was opened by a line which printed OPEN with the version x
+pub record GivesOf (earlier : List Served) (s : Served) (tab x : ℕ) : Type 0 where
+  pub request : s.line.request ≡ More tab
+  pub reads : Reads s.answer
+  pub first : Served
+  pub opened_is : reading tab earlier ≡ Some first
+  pub printed : first.answer ≡ answer.Opened x
