@@ -6,7 +6,7 @@ use Rattle.store_rule.specs.Passes.{basis, view}
 use Rattle.store_rule.specs.Told.{Steps}
 use Rattle.pass_calls.proofs.Following.{follows_on}
 use Rattle.slice_chain.proofs.Naming.{Ready, may_store, ready_on, stored_follows}
-use Rattle.slice_chain.proofs.name_entry.Goals as goal
+use Rattle.slice_chain.proofs.names.name_entry.Goals as goal
 
 pub store_side-requires-3-after_bounds : goal.store_side-requires-3-after_bounds
 store_side-requires-3-after_bounds g c κs within = let r = c.requires in let start : Ready g.C.Cell.tells g.C.Cell.state g.O.Origin.offers c.args.store.now c.args.tab r.below c.args.pass.now = record { own = r.own; inner_free = r.inner_free; unchosen = r.unchosen } in
