@@ -122,6 +122,11 @@ module _ {X : Type 0} where
   own_set (x ∷ xs) zero = refl
   own_set (x ∷ xs) (suc t) = ap (λ (z : List At). at_of x ∷ z) (own_set xs t)
 
+  pub at_get : (tabs : List (Tab X)) (t : ℕ) → get_or (map at_of tabs) t At.Free ≡ at_of (get_or tabs t Free)
+  at_get [] t = refl
+  at_get (x ∷ xs) zero = refl
+  at_get (x ∷ xs) (suc t) = at_get xs t
+
   -- a tab is another one, which is at the same
   pub same_hand : (v w : View X) (t : ℕ) (x : Tab X) (hand : List At) → w.tabs ≡ set v.tabs t x → at_of x ≡ at_of (tab_at v t) → hand ≡ tabs_at v → hand ≡ tabs_at w
   same_hand v w t x hand is same at = at ∙ sym (own_set v.tabs t) ∙ ap (set (tabs_at v) t) (sym same) ∙ sym (map-set at_of v.tabs t x) ∙ ap (map at_of) (sym is)

@@ -15,3 +15,4 @@ pub mod Joining
 pub mod Gathering
 pub mod SlotHands
 pub mod LinkMoves
+pub mod Turning

@@ -6,4 +6,5 @@ pub mod Machine
 pub mod Tabs
 pub mod Notes
 pub mod Passes
+pub mod Turns
 pub mod Closing

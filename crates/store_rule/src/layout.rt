@@ -42,3 +42,10 @@ pub(crate) fn owner_word(anchors: u32, slots: u32, slot: u32) -> usize
 {
     5 * anchors as usize + 2 * slots as usize + slot as usize
 }
+
+/// The turn of a slot stands behind its link.
+pub(crate) fn turn_word(anchors: u32, slot: u32) -> usize
+    ensures { result ≡ 5 * anchors + 2 * slot + 1 }
+{
+    5 * anchors as usize + 2 * slot as usize + 1
+}

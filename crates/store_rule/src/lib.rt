@@ -16,6 +16,7 @@ mod steps;
 mod store;
 mod tab_slots;
 mod tabs;
+mod turns;
 
 pub use opening::NoRoom;
 pub use rule::{About, Origin};
