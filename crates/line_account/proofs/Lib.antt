@@ -6,3 +6,5 @@ pub mod Names
 pub mod Printing
 pub mod Ordering
 pub mod Parts
+pub mod Scripts
+pub mod Idle

@@ -8,3 +8,5 @@ pub mod Closing
 pub mod Printed
 pub mod Order
 pub mod Parts
+pub mod Scripts
+pub mod Idle

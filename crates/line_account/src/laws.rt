@@ -11,11 +11,17 @@ ghost use Rattle.lock_word.specs.declared.word.Word.{Word};
 ghost use Rattle.store_key.specs.Key.{key_of};
 ghost use Rattle.script_text.specs.declared.answer.Answer.{Answer};
 ghost use Rattle.script_text.specs.declared.body.Body.{Body};
+ghost use Rattle.script_text.specs.declared.line.Line.{Line};
+ghost use Rattle.core_model.specs.Opening.{new_view, new_views};
+ghost use Rattle.core_model.specs.Sound.{Sound};
+ghost use Rattle.core_model.specs.State.{State};
 ghost use Rattle.core_model.specs.Anchors.{opening_counter, opening_epoch};
 ghost use Rattle.line_account.specs.Lines.{Fits, Offers, Served, added, given};
 ghost use Rattle.line_account.specs.Deeds.{Begins};
 ghost use Rattle.line_account.specs.Requests.{IsAnswerTo};
 ghost use Rattle.line_account.specs.Parts.{AddsTo, GivesOf, IsCourseOf, PrintsPart};
+ghost use Rattle.line_account.specs.Scripts.{ServesScript, offering};
+ghost use Rattle.line_account.specs.Idle.{idle_workers};
 ghost use Rattle.line_account.specs.Order.{HandsOver, NotBelow, StandsAt, StandsIn, counts_as};
 ghost use Rattle.line_account.specs.Answers.{IsCauseOf, IsLong, Refuses, Run, bytes_behind, given_with};
 ghost use Rattle.core_model.specs.declared.view.View.{View};
@@ -69,9 +75,10 @@ pub fn doomed_entries_were_purged<X>()
         → LineIn crew (λ earlier s. PrintsDoomed r.setting.anchors earlier s a x) → PurgedIn r crew a x }
 {}
 
-/// A worker that begins has an account of no lines; each line that it serves leaves one of that line too,
+/// A pass of a store that was just opened begins. A worker that begins has an account of no lines; each line that it serves leaves one of that line too,
 /// and so does the end. So it has one of all lines along its course.
 pub fn accounts_grow<X>()
+    ensures opened { (r : Run X) (pass : ℕ) → BeginsWork r (new_view r.setting pass) }
     ensures begin { (r : Run X) (v : View X) → BeginsWork r v → Account r v [] false }
     ensures line { (r : Run X) (v w : View X) (served : List Served) (s : Served) → Account r v served false → Adds r v served s w → Account r w (s ∷ served) false }
     ensures end { (r : Run X) (v w : View X) (served : List Served) → Account r v served false → Leaves r v served w → Account r w served true }
@@ -184,4 +191,19 @@ pub fn parts_are_not_short_after_marks<X>()
         → Closed r crew → IsTrue r.tells → get_elem? crew j ≡ some w → get_elem? crew l ≡ some u → IsCourseOf r w start stages → IsCourseOf r u other others
         → StandsIn stages t before → StandsIn before n between → HandsOver m n → StandsIn others m marked → StandsIn marked s earlier
         → PrintsPart t.served x → GivesOf (lines_in earlier) s.served tab x → given tab (s.served ∷ lines_in earlier) ≤ given_with (lines_in before) t.served }
+{}
+
+/// Where the lines of the workers are those of a script, no more of them offer a body than of the script's.
+/// So the bounds on versions hold with the script's lines too.
+pub fn scripts_bound_what_is_offered<X>()
+    ensures offered { (lines : List Line) (crew : List (Worker X)) → ServesScript lines crew → offered crew ≤ offering lines }
+    ensures versions { (r : Run X) (lines : List Line) (crew : List (Worker X)) (a x : ℕ) → Closed r crew → ServesScript lines crew → BegunIn r crew a x
+        → x ≤ opening_counter r.setting + offering lines }
+    ensures spent { (r : Run X) (lines : List Line) (crew : List (Worker X)) (n : ℕ) → Closed r crew → ServesScript lines crew
+        → LineIn crew (λ earlier s. s.answer ≡ Answer.Spent n) → n < opening_counter r.setting + offering lines }
+{}
+
+/// Workers of a store that was just opened, and who served nothing, have accounts and a closing.
+pub fn idle_workers_are_closed<X>()
+    ensures { (r : Run X) (s : State X) → Sound r.setting s → s.views ≡ new_views r.setting 0 r.setting.passes → Closed r (idle_workers r.setting 0 r.setting.passes) }
 {}

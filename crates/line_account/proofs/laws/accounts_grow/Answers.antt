@@ -1,5 +1,9 @@
 use Rattle.line_account.proofs.Courses.{account_after, account_along, account_begins, account_left}
+use Rattle.line_account.proofs.Idle.{new_begins}
 use Rattle.line_account.proofs.laws.accounts_grow.Goals as goal
+
+pub returns-clause-opened : goal.returns-clause-opened
+returns-clause-opened c start r pass = new_begins r pass
 
 pub returns-clause-begin : goal.returns-clause-begin
 returns-clause-begin c start r v b = account_begins r v b

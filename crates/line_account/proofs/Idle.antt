@@ -1,0 +1,74 @@
+-- The workers of a store that was just opened, and who served nothing, are closed.
+use Rattle.std.proofs.Common.{◌≡◌, ℕ, ◌+◌, ◌<◌, ◌≤◌, zero, suc, List, [], ◌∷◌, ◌++◌, length, sym, refl, ap, ◌∙◌, subst, arith, Contains, true, false}
+use Rattle.std.proofs.lemmas.List.Elements.{Contains-append_right}
+use mathlib.Core.Option.{some, some-injective, some-ne-none}
+use mathlib.Core.Logic.{dite}
+use native.Mathlib.Decide.{ℕ_discrete}
+use lib.ListN.{get_elem?}
+use Rattle.core_model.specs.declared.view.Sight.{Sight}
+use Rattle.core_model.specs.declared.view.Sight.TheVariants.{Stood}
+use Rattle.core_model.specs.declared.view.View.{View}
+use Rattle.core_model.specs.Anchors.{opening_epoch}
+use Rattle.core_model.specs.Layout.{Setting}
+use Rattle.core_model.specs.Opening.{new_view, new_views, sights_below}
+use Rattle.core_model.specs.Sound.{Sound}
+use Rattle.core_model.specs.State.{State}
+use Rattle.core_model.specs.Tabs.{IsPass}
+use Rattle.line_account.specs.Answers.{Run}
+use Rattle.line_account.specs.Accounts.{Account}
+use Rattle.line_account.specs.Courses.{Begins, Leaves}
+use Rattle.line_account.specs.Closing.{Closed, Worker}
+use Rattle.line_account.specs.Idle.{idle_workers}
+use Rattle.line_account.proofs.Courses.{account_begins, account_left}
+
+contains_next : (x y : Sight) (xs : List Sight) → Contains xs y → Contains (x ∷ xs) y
+contains_next x y xs h = Contains-append_right (x ∷ []) xs y h
+
+module _ {X : Type 0} (r : Run X) where
+  seen_below : (a n : ℕ) → a < n → Contains (sights_below r.setting n) (Stood a (opening_epoch r.setting a))
+  seen_below a zero lt = absurd (omega arith)
+  seen_below a (suc n) lt = dite (ℕ_discrete a n)
+      (λ e. subst (λ b. Contains (sights_below r.setting (suc n)) (Stood b (opening_epoch r.setting b))) (sym e) (0, omega arith, refl))
+      (λ ne. contains_next (Stood n (opening_epoch r.setting n)) (Stood a (opening_epoch r.setting a)) (sights_below r.setting n) (seen_below a n (omega arith)))
+
+  pub new_begins : (pass : ℕ) → Begins r (new_view r.setting pass)
+  new_begins pass = record { opening = λ a lt. seen_below a r.setting.anchors lt; drawn = λ x. refl; draws = refl; deeds = refl }
+
+  new_account : (pass : ℕ) → Account r (new_view r.setting pass) [] true
+  new_account pass = account_left r (new_view r.setting pass) (new_view r.setting pass) [] (account_begins r (new_view r.setting pass) (new_begins pass)) (record {
+    keeps = record { pass = refl; seen = λ x h. h; trail = λ x h. h; met = λ a h. h };
+    drawn = λ x. refl;
+    draws = refl;
+    deeds = λ d h. Rattle.std.proofs.Common.inl h;
+  })
+
+  -- the worker at a place is a new one
+  record IsNew (w : Worker X) : Type 0 where
+    pass : ℕ
+    is : record { view = new_view r.setting pass; served = [] } ≡ w
+
+  new_at : (from count j : ℕ) (w : Worker X) → get_elem? (idle_workers r.setting from count) j ≡ some w → IsNew w
+  new_at from zero j w e = absurd (some-ne-none w (sym e))
+  new_at from (suc count) zero w e = record { pass = from; is = some-injective _ w e }
+  new_at from (suc count) (suc j) w e = new_at (from + 1) count j w e
+
+  view_at : (from count j : ℕ) (w : Worker X) → get_elem? (idle_workers r.setting from count) j ≡ some w → get_elem? (new_views r.setting from count) j ≡ some w.view
+  view_at from zero j w e = absurd (some-ne-none w (sym e))
+  view_at from (suc count) zero w e = ap (λ (u : Worker X). some u.view) (some-injective _ w e)
+  view_at from (suc count) (suc j) w e = view_at (from + 1) count j w e
+
+  idle_count : (from count : ℕ) → length (idle_workers r.setting from count) ≡ count
+  idle_count from zero = refl
+  idle_count from (suc count) = let h = idle_count (from + 1) count in omega arith
+
+  pub idle_closed : (s : State X) → Sound r.setting s → s.views ≡ new_views r.setting 0 r.setting.passes → Closed r (idle_workers r.setting 0 r.setting.passes)
+  idle_closed s so is = record {
+    state = s;
+    sound = so;
+    index = λ j. j;
+    at = λ j w e. ap (λ l. get_elem? l j) is ∙ view_at 0 r.setting.passes j w e;
+    apart = λ j l w x e g h. h;
+    count = idle_count 0 r.setting.passes;
+    passes = λ j w e. subst (λ (u : Worker X). IsPass u.view) (new_at 0 r.setting.passes j w e).is refl;
+    accounts = λ j w e. let n = new_at 0 r.setting.passes j w e in subst (λ (u : Worker X). Account r u.view u.served true) n.is (new_account n.pass);
+  }
