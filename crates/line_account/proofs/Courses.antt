@@ -152,7 +152,7 @@ module _ {X : Type 0} (r : Run X) where
   count_line : (p : Served → Bool) (s : Served) (served : List Served) → Rattle.std.specs.Prelude.count_by p (s ∷ served) ≡ one_if (p s) + Rattle.std.specs.Prelude.count_by p served
   count_line p s served = sum_by-cons (λ (x : Served). one_if (p x)) s served
 
-  no_line : (later earlier : List Served) (s : Served) → [] ≡ later ++ s ∷ earlier → ⊥
+  pub no_line : (later earlier : List Served) (s : Served) → [] ≡ later ++ s ∷ earlier → ⊥
   no_line [] earlier s e = cc
   no_line (x ∷ xs) earlier s e = cc
 
@@ -169,7 +169,7 @@ module _ {X : Type 0} (r : Run X) where
   one_more v d served s (inl l) = inl record { later = s ∷ l.later; line = l.line; earlier = l.earlier; split = ap (λ (z : List Served). s ∷ z) l.split; so = l.so }
   one_more v d served s (inr l) = absurd (let q : false ≡ true = l.0 in cc)
 
-  lines_more : (w : View X) (served : List Served) (s : Served) → Tells r w served s → ((later earlier : List Served) (x : Served) → served ≡ later ++ x ∷ earlier → Tells r w earlier x)
+  pub lines_more : (w : View X) (served : List Served) (s : Served) → Tells r w served s → ((later earlier : List Served) (x : Served) → served ≡ later ++ x ∷ earlier → Tells r w earlier x)
       → (later earlier : List Served) (x : Served) → s ∷ served ≡ later ++ x ∷ earlier → Tells r w earlier x
   lines_more w served s t h [] earlier x e =
       let is : s ≡ x = cc in

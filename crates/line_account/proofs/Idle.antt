@@ -1,5 +1,5 @@
 -- The workers of a store that was just opened, and who served nothing, are closed.
-use Rattle.std.proofs.Common.{◌≡◌, ℕ, ◌+◌, ◌<◌, ◌≤◌, zero, suc, List, [], ◌∷◌, ◌++◌, length, sym, refl, ap, ◌∙◌, subst, arith, Contains, true, false}
+use Rattle.std.proofs.Common.{◌≡◌, inl, ℕ, ◌+◌, ◌<◌, ◌≤◌, zero, suc, List, [], ◌∷◌, ◌++◌, length, sym, refl, ap, ◌∙◌, subst, arith, Contains, true, false}
 use Rattle.std.proofs.lemmas.List.Elements.{Contains-append_right}
 use mathlib.Core.Option.{some, some-injective, some-ne-none}
 use mathlib.Core.Logic.{dite}
@@ -25,7 +25,7 @@ contains_next : (x y : Sight) (xs : List Sight) → Contains xs y → Contains (
 contains_next x y xs h = Contains-append_right (x ∷ []) xs y h
 
 module _ {X : Type 0} (r : Run X) where
-  seen_below : (a n : ℕ) → a < n → Contains (sights_below r.setting n) (Stood a (opening_epoch r.setting a))
+  pub seen_below : (a n : ℕ) → a < n → Contains (sights_below r.setting n) (Stood a (opening_epoch r.setting a))
   seen_below a zero lt = absurd (omega arith)
   seen_below a (suc n) lt = dite (ℕ_discrete a n)
       (λ e. subst (λ b. Contains (sights_below r.setting (suc n)) (Stood b (opening_epoch r.setting b))) (sym e) (0, omega arith, refl))
@@ -39,7 +39,7 @@ module _ {X : Type 0} (r : Run X) where
     keeps = record { pass = refl; seen = λ x h. h; trail = λ x h. h; met = λ a h. h };
     drawn = λ x. refl;
     draws = refl;
-    deeds = λ d h. Rattle.std.proofs.Common.inl h;
+    deeds = λ d h. inl h;
   })
 
   -- the worker at a place is a new one

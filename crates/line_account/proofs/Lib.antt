@@ -8,3 +8,5 @@ pub mod Ordering
 pub mod Parts
 pub mod Scripts
 pub mod Idle
+pub mod Alone
+pub mod PutAndGet

@@ -10,3 +10,4 @@ pub mod Order
 pub mod Parts
 pub mod Scripts
 pub mod Idle
+pub mod Alone

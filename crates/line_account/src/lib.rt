@@ -3,8 +3,13 @@
 //! `laws` do nothing: what they ensure are the laws.
 #![tactic(auto)]
 
+mod examples;
 mod laws;
 
+pub use examples::{
+    a_hit_has_what_was_stored, a_lone_spent_number_is_the_counter, a_lone_version_is_the_next_one,
+    a_put_and_a_get_have_an_account, no_hit_follows_a_purge, nothing_is_halted_by_itself,
+};
 pub use laws::{
     accounts_grow, added_counts_are_exact, begun_versions_have_bounds, doomed_entries_were_purged,
     entries_are_given_back_by_lines, entries_are_stored_by_lines, epochs_have_versions,

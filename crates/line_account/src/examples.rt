@@ -1,0 +1,55 @@
+//! Examples: lines of one worker that have an account, and lines that differ from them and have none.
+ghost use Rattle.std.specs.Prelude.{◌≡◌, ◌+◌, ◌<◌, ◌≤◌, ◌∷◌, IsTrue, ℕ, List, [], true};
+ghost use Rattle.lock_word.specs.Words.{stage_of, epoch_number, version_of, version_limit};
+ghost use Rattle.lock_word.specs.declared.epoch.Epoch.{Epoch};
+ghost use Rattle.plain_model.specs.Serving.{bytes_of};
+ghost use Rattle.script_text.specs.declared.answer.Answer.{Answer};
+ghost use Rattle.script_text.specs.declared.body.Body.{Body};
+ghost use Rattle.script_text.specs.declared.request.Request.{Request};
+ghost use Rattle.lock_word.specs.declared.cause.Cause.{Cause};
+ghost use Rattle.core_model.specs.Anchors.{opening_counter};
+ghost use Rattle.core_model.specs.declared.view.View.{View};
+ghost use Rattle.line_account.specs.Lines.{Served};
+ghost use Rattle.line_account.specs.Accounts.{Account};
+ghost use Rattle.line_account.specs.Answers.{Run};
+ghost use Rattle.line_account.specs.Courses.{Stage};
+ghost use Rattle.line_account.specs.Closing.{Closed, Worker};
+ghost use Rattle.line_account.specs.Parts.{IsCourseOf};
+ghost use Rattle.line_account.specs.Alone.{alone, hit_line, next_version, OffersNothing, stored_line, view_after};
+
+/// `put` of an empty body that printed STORED with the next version, and `get` of it that printed HIT with
+/// that version and no bytes, have an account.
+pub fn a_put_and_a_get_have_an_account<X>()
+    ensures { (r : Run X) (url : List ℕ) → OffersNothing r url → Account r (view_after r url) (hit_line url (next_version r) ∷ stored_line url (next_version r) ∷ []) true }
+{}
+
+/// A lone line that printed STORED printed the version after the counter of the opening, and no other.
+pub fn a_lone_version_is_the_next_one<X>()
+    ensures { (r : Run X) (w : Worker X) (s : Served) (url : List ℕ) (body : Body) (x : ℕ) → Closed r (alone w) → w.served ≡ s ∷ [] → s.line.request ≡ Request.Put url body
+        → s.answer ≡ Answer.Stored x → x ≡ next_version r }
+{}
+
+/// A hit of the URL behind it has this version too, and the body that the line offers, and no other.
+pub fn a_hit_has_what_was_stored<X>()
+    ensures { (r : Run X) (w : Worker X) (start : View X) (p g : Stage X) (url bytes : List ℕ) (body : Body) (x y : ℕ) → Closed r (alone w) → IsTrue r.tells
+        → IsCourseOf r w start (g ∷ p ∷ []) → p.served.line.request ≡ Request.Put url body → p.served.answer ≡ Answer.Stored x
+        → g.served.line.request ≡ Request.Get url → g.served.answer ≡ Answer.Hit y bytes → (x ≡ next_version r) × (y ≡ next_version r) × (bytes ≡ bytes_of body) }
+{}
+
+/// The number of a lone SPENT is the counter of the opening, and no other.
+pub fn a_lone_spent_number_is_the_counter<X>()
+    ensures { (r : Run X) (w : Worker X) (s : Served) (n : ℕ) → Closed r (alone w) → w.served ≡ s ∷ [] → s.answer ≡ Answer.Spent n → opening_counter r.setting ≡ version_limit → n ≡ version_limit }
+{}
+
+/// Behind PURGED with an epoch that is doomed no hit of the URL has its version.
+pub fn no_hit_follows_a_purge<X>()
+    ensures { (r : Run X) (w : Worker X) (start : View X) (p g : Stage X) (url bytes : List ℕ) (e : Epoch) (y : ℕ) → IsCourseOf r w start (g ∷ p ∷ [])
+        → p.served.line.request ≡ Request.Purge url → p.served.answer ≡ Answer.Purged e → e.doom ≡ true
+        → g.served.line.request ≡ Request.Get url → g.served.answer ≡ Answer.Hit y bytes → version_of (epoch_number e) ≡ y → ⊥ }
+{}
+
+/// Where the one line of a worker only looks, and no line gave a writing up, it shows no epoch at HALTED.
+pub fn nothing_is_halted_by_itself<X>()
+    ensures { (r : Run X) (w : Worker X) (s : Served) (url : List ℕ) (e : Epoch) → Closed r (alone w) → w.served ≡ s ∷ [] → s.line.request ≡ Request.Get url
+        → s.answer ≡ Answer.Miss (Cause.Leaving e) → stage_of (epoch_number e) ≡ 4 → ⊥ }
+{}
