@@ -32,3 +32,4 @@ pub mod PrivateLines
 pub mod Openings
 pub mod Fewer
 pub mod Filed
+pub mod Tabbed

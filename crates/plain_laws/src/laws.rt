@@ -1,5 +1,6 @@
 // The laws.
-ghost use Rattle.std.specs.Prelude.{◌≡◌, ◌⊎◌, ◌+◌, ◌<◌, ◌≤◌, ℕ, List, length, map, filter, Bool, Some};
+ghost use Rattle.std.specs.Prelude.{◌≡◌, ◌⊎◌, ◌+◌, ◌<◌, ◌≤◌, ℕ, List, length, map, filter, Contains, Bool, Some};
+ghost use Rattle.script_text.specs.Script.{IsScript};
 ghost use Rattle.script_text.specs.declared.line.Line.{Line};
 ghost use Rattle.script_text.specs.declared.answer.Answer.{Answer};
 ghost use Rattle.plain_model.specs.declared.entry.Entry.{Entry};
@@ -18,7 +19,7 @@ ghost use Rattle.plain_laws.specs.Hit.{IsHit};
 ghost use Rattle.plain_laws.specs.Holding.{HoldsItsSlots, slots_held};
 ghost use Rattle.plain_laws.specs.Fitting.{Fits, IsAtRest, RunsInRoom};
 ghost use Rattle.plain_laws.specs.Renaming.{CountsVersions};
-ghost use Rattle.plain_laws.specs.Private.{TabsApart, AnswersAlone};
+ghost use Rattle.plain_laws.specs.Private.{IsOnTab, TabsApart, AnswersAlone};
 ghost use Rattle.plain_laws.specs.Opened.{FitsFile};
 
 /// A version is begun by one line: those that lines begin rise, and are above all that were given out
@@ -64,11 +65,13 @@ pub fn fitting_scripts_have_room()
 
 /// The private lines of a worker are answered as they are by themselves but for the numbers of versions,
 /// and leave the same at private anchors, where its lines fit and each of its tabs names private anchors
-/// alone or others alone.
+/// alone or others alone. The tabs of a good script are never the one of whole requests.
 pub fn private_lines_are_answered_alone()
-    ensures { (s : Setting) (script : List Line) (worker : ℕ) (p : Plain)
+    ensures alone { (s : Setting) (script : List Line) (worker : ℕ) (p : Plain)
         → 0 < s.room → 0 < s.anchors → 0 < s.slots → length p.places ≡ s.anchors → IsAtRest p → CountsVersions p
         → Fits s (lines_for worker script) p → TabsApart s script worker → AnswersAlone s script worker p }
+    ensures tabs { (workers : ℕ) (text : List ℕ) (script : List Line) → IsScript workers text script
+        → (worker : ℕ) (line : Line) → Contains (lines_for worker script) line → IsOnTab line.request }
 {}
 
 /// A store that was never written, and one that is opened on entries of a file, are at rest and have a
