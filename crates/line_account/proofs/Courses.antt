@@ -103,7 +103,10 @@ module _ {X : Type 0} (r : Run X) (v w : View X) (h : Keeps v w) where
     entry = entry_later _ g.first.opened g.url g.entry;
     place = g.place;
     most = g.most;
+    sure = g.sure;
     url_is = g.url_is;
+    first_ones = g.first_ones;
+    whole = g.whole;
     published = λ some. h.seen _ (g.published some);
   }
 

@@ -1,5 +1,5 @@
 -- The laws on what PART gives.
-use Rattle.std.proofs.Common.{◌≡◌, ◌≢◌, ◌⊎◌, inl, inr, ℕ, ◌+◌, ◌*◌, ◌-◌, ◌<◌, ◌≤◌, List, [], ◌∷◌, ◌++◌, sym, refl, ap, ◌∙◌, subst, arith, Bool, true, false, cond, Contains, mul-le-mul_right}
+use Rattle.std.proofs.Common.{◌≡◌, ◌≢◌, ◌⊎◌, inl, inr, ℕ, ◌+◌, ◌*◌, ◌-◌, ◌<◌, ◌≤◌, List, [], ◌∷◌, ◌++◌, length, sym, refl, ap, ◌∙◌, subst, arith, Bool, true, false, cond, Contains, mul-le-mul_right}
 use Rattle.std.specs.Prelude.{IsTrue, None, Option, Some}
 use mathlib.Core.Option.{some}
 use mathlib.Core.Logic.{dite}
@@ -20,7 +20,7 @@ use Rattle.core_model.specs.declared.view.View.{View}
 use Rattle.core_model.specs.Anchors.{opening_counter}
 use Rattle.core_model.proofs.DeedsTell.{known_quiet}
 use Rattle.line_account.specs.Lines.{Served, closes, given, opened_by, opened_of, opens, reading, url_in, writing}
-use Rattle.line_account.specs.Answers.{HasAdded, HasGiven, HasPart, IsWritten, Run, bytes_behind, given_of, given_with, slots_after}
+use Rattle.line_account.specs.Answers.{HasAdded, HasGiven, HasPart, IsWritten, Run, bytes_behind, bytes_of_tab, given_with, slots_after}
 use Rattle.line_account.specs.Accounts.{Account, Tells}
 use Rattle.line_account.specs.Courses.{Adds, Begins, Course, Stage, lines_in}
 use Rattle.line_account.specs.Closing.{Closed, Worker}
@@ -125,7 +125,7 @@ module _ {X : Type 0} (r : Run X) where
       let version : x ≡ version_of g.first.opened = (opened_at r v among.back g.first told x g.printed).version_is in
       let x_is : version_of h.first.opened ≡ x = ap (λ (z : Served). version_of z.opened) first ∙ sym version in
       let a : ℕ = anchor_of (key_of h.url) r.setting.anchors in
-      let many : given_with earlier s ≡ given tab (s ∷ earlier) = ap (given_of earlier s) g.request in
+      let many : given_with earlier s ≡ given tab (s ∷ earlier) = ap (λ q. length (bytes_of_tab earlier s q)) g.request in
       record {
         url = h.url;
         slots = h.place;

@@ -32,10 +32,10 @@ use Rattle.core_model.specs.State.{counter}
 use Rattle.line_account.specs.Lines.{Fits, LineOf, Offers, Served, added, begun_by, begun_of, opened_by, url_in, writing}
 use Rattle.line_account.specs.Deeds.{Begins, ComesTo, IsDeedOf, IsDeedOfEnd, MayEvict}
 use Rattle.line_account.specs.Requests.{IsAnswerTo}
-use Rattle.line_account.specs.Answers.{ComesIn, HasItem, HasOther, IsCauseOf, IsEntryAt, IsLong, IsSpent, ReadAs, Refuses, Run}
+use Rattle.line_account.specs.Answers.{ComesIn, HasGiven, HasItem, IsSure, bytes_with, HasOther, IsCauseOf, IsEntryAt, IsLong, IsSpent, ReadAs, Refuses, Run}
 use Rattle.line_account.specs.Accounts.{epoch_in}
 use Rattle.line_account.specs.Closing.{BegunIn, Closed, LineIn, ShownIn, Worker, offered}
-use Rattle.line_account.specs.Printed.{AnotherComes, GivenBackIn, HasBusyWords, HasOtherUrl, HitIn, IsBodyOfLine, IsKeyOfLine, IsOldBody, IsOldUrl, IsOtherUrl, KeyIn, NeedsTooMany, PrintsAdded, PrintsHit, PrintsKey, PrintsLarge, PrintsOther, PrintsReaders, old_offer}
+use Rattle.line_account.specs.Printed.{AnotherComes, AreFirstOnes, IsStored, ReadsOf, GivenBackIn, HasBusyWords, HasOtherUrl, HitIn, IsBodyOfLine, IsKeyOfLine, IsOldBody, IsOldUrl, IsOtherUrl, KeyIn, NeedsTooMany, PrintsAdded, PrintsHit, PrintsKey, PrintsLarge, PrintsOther, PrintsReaders, old_offer}
 use Rattle.line_account.proofs.Rows.{Split}
 use Rattle.line_account.proofs.Gathered.{DeedIn, by_line, counter_below, counter_is, deed_in, shown_known, tells_at}
 use Rattle.line_account.proofs.Versions.{halted_in}
@@ -285,3 +285,48 @@ module _ {X : Type 0} (r : Run X) (crew : List (Worker X)) (c : Closed r crew) w
       (λ d served q o. absurd (let f : true ≡ false = sym q.4 ∙ (o.changed q.0).1 in cc))
       h))
       (c.sound.anchors.deeds.undoomed a e (shown_known r crew c a e p) undoomed four)
+
+  -- Bytes.
+
+  some_place : (earlier : List Served) (s : Served) (v : View X) (g : HasGiven r v earlier s) → IsSure s.answer ⊎ (bytes_with earlier s ≢ []) → 0 < g.place
+  some_place earlier s v g (inl sure) = g.sure sure
+  some_place earlier s v g (inr some_bytes) = dite (ℕ_discrete g.place 0)
+      (λ none. absurd (some_bytes (empty (bytes_with earlier s) (let m = g.most in let z : g.place * r.room ≡ 0 * r.room = ap (λ n. n * r.room) none in omega arith))))
+      (λ ne. omega arith)
+    where
+      empty : (l : List ℕ) → length l ≡ 0 → l ≡ []
+      empty [] h = refl
+      empty (x ∷ xs) h = absurd (omega arith)
+
+  pub bytes_stored : IsTrue r.tells → (first : Served) (url : List ℕ) (p : LineIn crew (λ earlier s. ReadsOf earlier s first url)) → AreFirstOnes r crew p.line_of.line.answer url (bytes_with p.line_of.earlier p.line_of.line)
+  bytes_stored y first url p = subst (λ u. AreFirstOnes r crew p.line_of.line.answer u (bytes_with p.line_of.earlier p.line_of.line)) same
+      (record { body = r.body g.entry.offer; stored = stored; first_ones = g.first_ones; whole = g.whole })
+    where
+      g : HasGiven r p.worker.view p.line_of.earlier p.line_of.line
+      g = (tells_at r crew c (λ earlier s. ReadsOf earlier s first url) p).given y p.line_of.so.reads
+
+      same : g.url ≡ url
+      same =
+          let k : Some g.first ≡ Some first = sym g.opened_is ∙ p.line_of.so.opened_is in
+          let is : g.first ≡ first = cc in
+          let u : Some g.url ≡ Some url = sym g.named ∙ ap (λ (s : Served). url_in s.line.request) is ∙ p.line_of.so.named in
+          cc
+
+      url_is : r.url g.entry.offer ≡ g.url
+      url_is = g.url_is (some_place p.line_of.earlier p.line_of.line p.worker.view g p.line_of.so.some)
+
+      stored : IsStored r crew g.url (r.body g.entry.offer)
+      stored = dite (dec_le (version_of g.first.opened) (opening_counter r.setting))
+          (λ low. let is = g.entry.old low in record { source = inl (record { whole = ap r.body is; url_is = sym (ap r.url is) ∙ url_is }) })
+          (λ high. let o = of_line (λ earlier s. ReadsOf earlier s first url) p (anchor_of (key_of g.url) r.setting.anchors) g.first.opened g.url g.entry (omega arith) in
+          record {
+            source = inr (
+              version_of g.first.opened,
+              record {
+                begun = o.begun;
+                body = o.made.body;
+                offers = subst (λ u. Offers o.begun.line_of.line.line.request u o.made.body) (sym o.url_is ∙ url_is) o.made.offers;
+                whole = o.body_is;
+              },
+            );
+          })

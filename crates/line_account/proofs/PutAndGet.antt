@@ -217,7 +217,10 @@ module _ {X : Type 0} (r : Run X) (url : List ℕ) (o : OffersNothing r url) whe
     entry = entry;
     place = 1;
     most = omega arith;
+    sure = λ h. omega arith;
     url_is = λ some_slot. o.url_is;
+    first_ones = refl;
+    whole = λ h. sym o.body_is;
     published = λ some_slot. subst (λ y. Contains v.seen (Published a y 1)) (sym version) published_seen;
   }
 

@@ -1,5 +1,5 @@
 -- What the answer to a line tells of the words and of the entry that the line found.
-use Rattle.std.specs.Prelude.{Bool, List, None, Option, Some, count_by, false, length, min, slice_index_or, true, ◌*◌, ◌+◌, ◌-◌, ◌<◌, ◌==◌, ◌∷◌, ◌≡◌, ◌≢◌, ◌≤◌, ◌⊎◌, Contains, ℕ}
+use Rattle.std.specs.Prelude.{Bool, List, None, Option, Some, [], count_by, false, length, min, slice_index_or, take, true, ◌*◌, ◌+◌, ◌-◌, ◌<◌, ◌==◌, ◌∷◌, ◌≡◌, ◌≢◌, ◌≤◌, ◌⊎◌, Contains, ℕ}
 use Rattle.std.specs.List.{range_with_len}
 use Rattle.store_key.specs.Anchor.{anchor_of, back_half, front_half}
 use Rattle.store_key.specs.Key.{key_of}
@@ -24,7 +24,7 @@ use Rattle.core_model.specs.declared.view.Sight.TheVariants.{Named, Published, S
 use Rattle.core_model.specs.declared.view.View.{View}
 use Rattle.core_model.specs.Anchors.{opening_counter}
 use Rattle.core_model.specs.Layout.{Setting, word_in}
-use Rattle.line_account.specs.Lines.{IsAt, Served, added, begun_by, bytes_in, given, offers, opened_by, reading, url_at, url_in, writing}
+use Rattle.line_account.specs.Lines.{IsAt, Served, added, begun_by, bytes_given, bytes_in, offers, opened_by, reading, url_at, url_in, writing}
 
 -- What does not change during a run: the setting of the store, how many bytes of a content a slot takes, and the URL and the body of
 -- each offer. One below the slots is the entry of the file that begins at this slot, and another is that of a line. Where the cells do
@@ -205,17 +205,34 @@ pub record HasAdded {X : Type 0} (r : Run X) (v : View X) (earlier : List Served
   pub published : 0 < slots_after r.room writes.url tab (s ∷ earlier) → Contains v.seen (Published (anchor_of (key_of writes.url) r.setting.anchors) writes.version (slots_after r.room writes.url tab (s ∷ earlier)))
   pub offer : 0 < slots_after r.room writes.url tab (s ∷ earlier) → Contains v.seen (Named (anchor_of (key_of writes.url) r.setting.anchors) writes.version Offer (r.setting.slots + writes.first.line.number))
 
--- how many bytes the tab of a line was given since it was opened, with those of the line; or the line itself, where it gets
-abbrev pub given_of : List Served → Served → Request → ℕ
-given_of earlier s (More tab) = given tab (s ∷ earlier)
-given_of earlier s (Get url) = length (bytes_in s.answer)
-given_of earlier s _ = 0
+-- the bytes that the tab of a line was given since it was opened, with those of the line; or those of the line itself, where it gets
+abbrev pub bytes_of_tab : List Served → Served → Request → List ℕ
+bytes_of_tab earlier s (More tab) = bytes_given tab (s ∷ earlier)
+bytes_of_tab earlier s (Get url) = bytes_in s.answer
+bytes_of_tab earlier s _ = []
+
+abbrev pub bytes_with : List Served → Served → List ℕ
+bytes_with earlier s = bytes_of_tab earlier s s.line.request
 
 abbrev pub given_with : List Served → Served → ℕ
-given_with earlier s = given_of earlier s s.line.request
+given_with earlier s = length (bytes_with earlier s)
 
--- The entry that a line reads, which it opened or the first line of its tab did, and how many of its slots were given: the bytes are those
--- of full slots, or fewer in the last one.
+-- answers that come behind the first slot, and answers that come once all was given
+abbrev pub IsSure : Answer → Type 0
+IsSure (answer.Hit version bytes) = Unit {0}
+IsSure (answer.Part epoch bytes) = Unit {0}
+IsSure (answer.End bytes) = Unit {0}
+IsSure (answer.Halted bytes) = Unit {0}
+IsSure _ = ⊥
+
+abbrev pub IsWhole : Answer → Type 0
+IsWhole (answer.Hit version bytes) = Unit {0}
+IsWhole (answer.End bytes) = Unit {0}
+IsWhole _ = ⊥
+
+-- The entry that a line reads, which it opened or the first line of its tab did, and how many of its slots were given. The bytes are the
+-- first ones of its body, those of full slots or fewer in the last one, and all of them once all was given. With the first slot its URL was
+-- compared.
 pub record HasGiven {X : Type 0} (r : Run X) (v : View X) (earlier : List Served) (s : Served) : Type 0 where
   pub first : Served
   pub opened_is : opened_by earlier s ≡ Some first
@@ -224,7 +241,10 @@ pub record HasGiven {X : Type 0} (r : Run X) (v : View X) (earlier : List Served
   pub entry : IsEntryAt r v (anchor_of (key_of url) r.setting.anchors) first.opened url
   pub place : ℕ
   pub most : given_with earlier s ≤ bytes_behind r.room url place
+  pub sure : IsSure s.answer → 0 < place
   pub url_is : 0 < place → r.url entry.offer ≡ url
+  pub first_ones : bytes_with earlier s ≡ take (given_with earlier s) (r.body entry.offer)
+  pub whole : IsWhole s.answer → bytes_with earlier s ≡ r.body entry.offer
   pub published : 0 < place → Contains v.seen (Published (anchor_of (key_of url) r.setting.anchors) (version_of first.opened) place)
 
 -- PART: all bytes of the slots that were given, which are no fewer than the worker had seen published, with the view v before the line

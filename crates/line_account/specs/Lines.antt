@@ -196,14 +196,17 @@ bytes_in (answer.Halted bytes) = bytes
 bytes_in (answer.ReadFault bytes) = bytes
 bytes_in _ = []
 
-abbrev pub given_by : ℕ → Request → Answer → ℕ
-given_by t (More u) a = cond (u == t) (length (bytes_in a)) 0
-given_by t _ a = 0
+abbrev pub given_by : ℕ → Request → Answer → List ℕ
+given_by t (More u) a = cond (u == t) (bytes_in a) []
+given_by t _ a = []
 
--- how many bytes the tab t was given after these lines, since it was opened
+-- the bytes that the tab t was given after these lines, since it was opened, and how many
+abbrev pub bytes_given : ℕ → List Served → List ℕ
+bytes_given t [] = []
+bytes_given t (s ∷ earlier) = cond (opens t s.line.request s.answer) [] (bytes_given t earlier ++ given_by t s.line.request s.answer)
+
 abbrev pub given : ℕ → List Served → ℕ
-given t [] = 0
-given t (s ∷ earlier) = cond (opens t s.line.request s.answer) 0 (given_by t s.line.request s.answer + given t earlier)
+given t served = length (bytes_given t served)
 
 abbrev pub added_in : Answer → ℕ
 added_in (answer.Added count) = count

@@ -1,5 +1,5 @@
 -- What lines print of keys, bodies and readers, and where that comes from.
-use Rattle.std.specs.Prelude.{List, Some, length, min, ◌*◌, ◌+◌, ◌<◌, ◌≡◌, ◌≢◌, ◌≤◌, ◌⊎◌, ℕ}
+use Rattle.std.specs.Prelude.{List, Some, [], length, min, take, ◌*◌, ◌+◌, ◌<◌, ◌≡◌, ◌≢◌, ◌≤◌, ◌⊎◌, ℕ}
 use Rattle.store_key.specs.Anchor.{anchor_of, back_half, front_half}
 use Rattle.store_key.specs.Key.{key_of}
 use Rattle.lock_word.specs.Words.{epoch_number}
@@ -7,6 +7,7 @@ use Rattle.lock_word.specs.declared.cause.Cause.TheVariants.{OtherKey}
 use Rattle.lock_word.specs.declared.epoch.Epoch.{Epoch}
 use Rattle.lock_word.specs.declared.word.Word.{Word}
 use Rattle.plain_model.specs.Serving.{bytes_of}
+use Rattle.script_text.specs.declared.answer.Answer.{Answer}
 use Rattle.script_text.specs.declared.answer.Answer.TheVariants as answer
 use Rattle.script_text.specs.declared.body.Body.{Body}
 use Rattle.script_text.specs.declared.request.Request.TheVariants.{Add, Get}
@@ -15,7 +16,7 @@ use Rattle.core_model.specs.declared.view.Place.TheVariants.{Beside}
 use Rattle.core_model.specs.Layout.{word_in}
 use Rattle.line_account.specs.Lines.{IsAt, Offers, Served, begun_by, opened_by, url_in, writing}
 use Rattle.line_account.specs.Deeds.{ComesTo, MayEvict}
-use Rattle.line_account.specs.Answers.{IsHeld, IsOvertaken, Refuses, Run, readers_at}
+use Rattle.line_account.specs.Answers.{IsHeld, IsOvertaken, IsSure, IsWhole, Reads, Refuses, Run, bytes_with, readers_at}
 use Rattle.line_account.specs.Closing.{BegunIn, HaltedIn, LineIn, Worker}
 
 -- Names and bodies.
@@ -125,3 +126,23 @@ pub record PrintsAdded (earlier : List Served) (s : Served) (first : Served) (ta
 -- an entry of the version x at the anchor a was given up by its writer, or a line that needed a slot evicted one
 abbrev pub GivenBackIn : {X : Type 0} → Run X → List (Worker X) → (a x : ℕ) → Type 0
 GivenBackIn r crew a x = HaltedIn r crew a x ⊎ LineIn crew (λ earlier s. MayEvict s.line.request)
+
+-- Bytes.
+
+-- a line read the entry that this line opened, with this URL
+pub record ReadsOf (earlier : List Served) (s : Served) (first : Served) (url : List ℕ) : Type 0 where
+  pub opened_is : opened_by earlier s ≡ Some first
+  pub named : url_in first.line.request ≡ Some url
+  pub reads : Reads s.answer
+  pub some : IsSure s.answer ⊎ (bytes_with earlier s ≢ [])  -- a FAULT that gave nothing may come before a slot was read
+
+-- a body that the anchor of this URL had at the opening under the URL, or that a line which began a version there offers under it
+pub record IsStored {X : Type 0} (r : Run X) (crew : List (Worker X)) (url bytes : List ℕ) : Type 0 where
+  pub source : IsOldBody r (anchor_of (key_of url) r.setting.anchors) url bytes ⊎ ((x : ℕ) × IsBodyOfLine r crew (anchor_of (key_of url) r.setting.anchors) x url bytes)
+
+-- the bytes are the first ones of such a body, and all of them where the answer says so
+pub record AreFirstOnes {X : Type 0} (r : Run X) (crew : List (Worker X)) (a : Answer) (url bytes : List ℕ) : Type 0 where
+  pub body : List ℕ
+  pub stored : IsStored r crew url body
+  pub first_ones : bytes ≡ take (length bytes) body
+  pub whole : IsWhole a → bytes ≡ body

@@ -23,11 +23,11 @@ ghost use Rattle.line_account.specs.Parts.{AddsTo, GivesOf, IsCourseOf, PrintsPa
 ghost use Rattle.line_account.specs.Scripts.{ServesScript, offering};
 ghost use Rattle.line_account.specs.Idle.{idle_workers};
 ghost use Rattle.line_account.specs.Order.{HandsOver, NotBelow, StandsAt, StandsIn, counts_as};
-ghost use Rattle.line_account.specs.Answers.{IsCauseOf, IsLong, Refuses, Run, bytes_behind, given_with};
+ghost use Rattle.line_account.specs.Answers.{IsCauseOf, IsLong, Refuses, Run, bytes_behind, bytes_with, given_with};
 ghost use Rattle.core_model.specs.declared.view.View.{View};
 ghost use Rattle.line_account.specs.Accounts.{Account, epoch_in};
 ghost use Rattle.line_account.specs.Courses.{Adds, Begins as BeginsWork, Course, Leaves, Stage, lines_in};
-ghost use Rattle.line_account.specs.Printed.{AnotherComes, GivenBackIn, PrintsAdded, HasBusyWords, HasOtherUrl, HitIn, IsBodyOfLine, IsKeyOfLine, IsOldBody, IsOldUrl, KeyIn, NeedsTooMany, PrintsLarge, PrintsOther, PrintsReaders};
+ghost use Rattle.line_account.specs.Printed.{AnotherComes, AreFirstOnes, ReadsOf, GivenBackIn, PrintsAdded, HasBusyWords, HasOtherUrl, HitIn, IsBodyOfLine, IsKeyOfLine, IsOldBody, IsOldUrl, KeyIn, NeedsTooMany, PrintsLarge, PrintsOther, PrintsReaders};
 ghost use Rattle.line_account.specs.Closing.{Closed, Worker, BegunIn, ShownIn, StoredIn, HaltedIn, PurgedIn, IsSameLine, LineIn, PrintsHalted, PrintsDoomed, SomeHalted, offered};
 
 /// Each version is begun by one line, and at one anchor.
@@ -101,6 +101,14 @@ pub fn hits_are_of_lines<X>()
         → x ≤ opening_counter r.setting → IsOldBody r a url bytes }
     ensures new { (r : Run X) (crew : List (Worker X)) (a x : ℕ) (url bytes : List ℕ) → Closed r crew → IsTrue r.tells → HitIn r crew a x url bytes
         → opening_counter r.setting < x → IsBodyOfLine r crew a x url bytes }
+{}
+
+/// The bytes that lines gave of an entry since it was opened are the first ones of a body that is stored
+/// under its URL: of the entry that the anchor had at the opening, or of a line that began a version there.
+/// They are all of it where the answer is HIT or END. A FAULT that gave no byte claims nothing.
+pub fn bytes_are_of_lines<X>()
+    ensures { (r : Run X) (crew : List (Worker X)) (first : Served) (url : List ℕ) → Closed r crew → IsTrue r.tells → (p : LineIn crew (λ earlier s. ReadsOf earlier s first url))
+        → AreFirstOnes r crew p.line_of.line.answer url (bytes_with p.line_of.earlier p.line_of.line) }
 {}
 
 /// OTHERURL comes only where another URL has the key of the URL that is read: that of the entry which the
