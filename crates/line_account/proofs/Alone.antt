@@ -1,12 +1,12 @@
 -- The examples of one worker.
-use Rattle.std.proofs.Common.{◌≡◌, ◌≢◌, ◌⊎◌, inl, inr, ⊎_elim, ℕ, ◌+◌, ◌*◌, ◌-◌, ◌<◌, ◌≤◌, zero, suc, List, [], ◌∷◌, ◌++◌, length, sym, refl, ap, ◌∙◌, subst, arith, Bool, true, false, cond, Contains, sum_by}
-use Rattle.std.specs.Prelude.{IsTrue, None, Option, Some, count_by}
+use Rattle.std.proofs.Common.{◌≡◌, inl, inr, ℕ, ◌≤◌, zero, suc, List, [], ◌∷◌, ◌++◌, sym, refl, ap, ◌∙◌, subst, arith, Bool, true, false, cond, Contains}
+use Rattle.std.specs.Prelude.{IsTrue, None, Some, count_by}
 use Rattle.std.proofs.lemmas.List.Sums.{sum_by-cons}
-use mathlib.Core.Option.{some}
+use mathlib.Core.Option.{some, some-injective, some-ne-none}
 use lib.ListN.{get_elem?}
 use Rattle.store_key.specs.Anchor.{anchor_of}
 use Rattle.store_key.specs.Key.{key_of}
-use Rattle.lock_word.specs.Words.{doom_of, epoch_at, epoch_number, stage_of, version_limit, version_of}
+use Rattle.lock_word.specs.Words.{doom_of, epoch_at, epoch_number, stage_of, version_limit, version_of, doom_number}
 use Rattle.lock_word.specs.declared.cause.Cause.TheVariants.{Leaving}
 use Rattle.lock_word.specs.declared.epoch.Epoch.{Epoch}
 use Rattle.lock_word.proofs.Parts.{doom_of-epoch_number}
@@ -18,17 +18,17 @@ use Rattle.script_text.specs.declared.request.Request.{Request}
 use Rattle.script_text.specs.declared.request.Request.TheVariants.{Get, Purge, Put}
 use Rattle.core_model.specs.declared.view.View.{View}
 use Rattle.core_model.specs.Anchors.{opening_counter}
-use Rattle.line_account.specs.Lines.{IsAnchorOf, IsAt, LineOf, Offers, Served, gives_up, offers, url_in, writing}
+use Rattle.line_account.specs.Lines.{IsAnchorOf, IsAt, LineOf, Offers, Served, gives_up, offers, url_in, writing, url_at, begins, ends}
 use Rattle.line_account.specs.Deeds.{Began, Begins as BeginsVersion, Halts}
 use Rattle.line_account.specs.Answers.{Run}
 use Rattle.line_account.specs.Accounts.{Shows, epochs_of}
 use Rattle.line_account.specs.Courses.{Stage, lines_in}
-use Rattle.line_account.specs.Closing.{BegunIn, Closed, HaltedAtEnd, HaltedIn, LineIn, ShownIn, Worker, offered, offered_by}
+use Rattle.line_account.specs.Closing.{BegunIn, Closed, HaltedIn, LineIn, ShownIn, Worker, offered, offered_by}
 use Rattle.line_account.specs.Printed.{HitIn, PrintsHit}
-use Rattle.line_account.specs.Order.{NotBelow, StandsAt, counts_as}
+use Rattle.line_account.specs.Order.{NotBelow, StandsAt, counts_as, version_alone, OpensOrStores}
 use Rattle.line_account.specs.Parts.{IsCourseOf}
 use Rattle.line_account.specs.Alone.{alone, next_version}
-use Rattle.line_account.proofs.Gathered.{one_line, same_line, tells_at}
+use Rattle.line_account.proofs.Gathered.{one_line, same_line}
 use Rattle.line_account.proofs.Versions.{bounded, halted_by}
 use Rattle.line_account.proofs.Printing.{hit_of_new, spent_bounds}
 use Rattle.line_account.proofs.Ordering.{not_below_earlier}
@@ -120,7 +120,7 @@ module _ {X : Type 0} (r : Run X) (w : Worker X) (c : Closed r (alone w)) where
       (record { in_ = record { later = []; split = refl }; at = record { url = url; named_is = at_get gq; anchor = refl } })
       (record { in_ = record { later = []; split = refl }; at = record { url = url; named_is = at_put pq; anchor = refl } })
       (counts_first pa) in
-      let above : version_of (epoch_at x 3) ≤ y = order.versions y (ap Rattle.line_account.specs.Order.version_alone ga) in
+      let above : version_of (epoch_at x 3) ≤ y = order.versions y (ap version_alone ga) in
       let is : version_of (epoch_at x 3) ≡ x = omega arith in
       let hit : HitIn r (alone w) a y url bytes = line_in [] g.served (p.served ∷ []) e (λ earlier s. PrintsHit r.setting.anchors s a y url bytes) (record { request = gq; anchor = refl; printed = ga }) in
       let found = hit_of_new r (alone w) c tells a y url bytes hit (omega arith) in
@@ -131,11 +131,11 @@ module _ {X : Type 0} (r : Run X) (w : Worker X) (c : Closed r (alone w)) where
       (one_line r (alone w) c (Begun a y) (Begun a x) found.begun put y found.begun.line_of.so.drew (put.line_of.so.drew ∙ ap Some same)) in
       (omega arith, omega arith, found.whole ∙ ap bytes_of (put_body found.begun.line_of.line.line.request url url body found.body (ap (λ (z : Served). z.line.request) lines ∙ pq) found.offers))
     where
-      at_get : g.served.line.request ≡ Get url → Rattle.line_account.specs.Lines.url_at (lines_in (p ∷ [])) g.served.line.request ≡ Some url
-      at_get q = ap (Rattle.line_account.specs.Lines.url_at (lines_in (p ∷ []))) q
+      at_get : g.served.line.request ≡ Get url → url_at (lines_in (p ∷ [])) g.served.line.request ≡ Some url
+      at_get q = ap (url_at (lines_in (p ∷ []))) q
 
-      at_put : p.served.line.request ≡ Put url body → Rattle.line_account.specs.Lines.url_at [] p.served.line.request ≡ Some url
-      at_put q = ap (Rattle.line_account.specs.Lines.url_at []) q
+      at_put : p.served.line.request ≡ Put url body → url_at [] p.served.line.request ≡ Some url
+      at_put q = ap (url_at []) q
 
       counts_first : p.served.answer ≡ answer.Stored x → Contains (counts_as p.served.answer) (epoch_at x 3)
       counts_first h = subst (λ (z : Answer). Contains (counts_as z) (epoch_at x 3)) (sym h) (0, omega arith, refl)
@@ -150,22 +150,22 @@ module _ {X : Type 0} (r : Run X) (w : Worker X) (c : Closed r (alone w)) where
       in_one (y ∷ z ∷ later) earlier t k g = let f : [] ≡ z ∷ (later ++ t ∷ earlier) = cc in cc
 
       by_place : (j : ℕ) (u : Worker X) → get_elem? (alone w) j ≡ some u → LineOf u.served (λ earlier t. Halts r.setting.anchors earlier t a x) → ⊥
-      by_place zero u k l = let same : w ≡ u = mathlib.Core.Option.some-injective w u k in in_one l.later l.earlier l.line (sym is ∙ ap Worker.served same ∙ l.split) l.so.gave_up
-      by_place (suc j) u k l = absurd (mathlib.Core.Option.some-ne-none u (sym k))
+      by_place zero u k l = let same : w ≡ u = some-injective w u k in in_one l.later l.earlier l.line (sym is ∙ ap Worker.served same ∙ l.split) l.so.gave_up
+      by_place (suc j) u k l = absurd (some-ne-none u (sym k))
   halts_not s url e a x is q m (inr h) = by_place h.j h.worker h.at h.writing.tab h.writing.writes.first h.writing.writes.begun_is
     where
       none : (t : ℕ) → writing t (s ∷ []) ≡ None
-      none t = ap (λ (z : Request). cond (Rattle.line_account.specs.Lines.begins t z s.answer) (Some s) (cond (Rattle.line_account.specs.Lines.ends t z s.answer) None None)) q
+      none t = ap (λ (z : Request). cond (begins t z s.answer) (Some s) (cond (ends t z s.answer) None None)) q
 
       by_place : (j : ℕ) (u : Worker X) → get_elem? (alone w) j ≡ some u → (t : ℕ) (b : Served) → writing t u.served ≡ Some b → ⊥
-      by_place zero u k t b l = let same : w ≡ u = mathlib.Core.Option.some-injective w u k in let f : None ≡ Some b = sym (none t) ∙ ap (writing t) (sym is ∙ ap Worker.served same) ∙ l in cc
-      by_place (suc j) u k t b l = absurd (mathlib.Core.Option.some-ne-none u (sym k))
+      by_place zero u k t b l = let same : w ≡ u = some-injective w u k in let f : None ≡ Some b = sym (none t) ∙ ap (writing t) (sym is ∙ ap Worker.served same) ∙ l in cc
+      by_place (suc j) u k t b l = absurd (some-ne-none u (sym k))
 
   pub none_halted : (s : Served) (url : List ℕ) (e : Epoch) → w.served ≡ s ∷ [] → s.line.request ≡ Get url → s.answer ≡ answer.Miss (Leaving e) → stage_of (epoch_number e) ≡ 4 → ⊥
   none_halted s url e is q m four =
       let a : ℕ = anchor_of (key_of url) r.setting.anchors in
       let shown : ShownIn r (alone w) a (epoch_number e) = line_in [] s [] is (λ earlier t. Shows r.setting.anchors earlier t a (epoch_number e)) (record {
-        at = record { url = url; named_is = ap (Rattle.line_account.specs.Lines.url_at []) q; anchor = refl };
+        at = record { url = url; named_is = ap (url_at []) q; anchor = refl };
         shown = subst (λ (z : Answer). Contains (epochs_of s.opened s.looked z) (epoch_number e)) (sym m) (0, omega arith, refl);
       }) in
       halts_not s url e a (version_of (epoch_number e)) is q m (halted_by r (alone w) c a (epoch_number e) shown four)
@@ -176,9 +176,9 @@ module _ {X : Type 0} (r : Run X) (w : Worker X) where
   no_hit start p g url bytes e y o pq pa doom gq ga same =
       let a : ℕ = anchor_of (key_of url) r.setting.anchors in
       let order : NotBelow (epoch_number e) g.served.answer = not_below_earlier r start (g ∷ p ∷ []) o.last g p (p ∷ []) [] a (epoch_number e) o.course
-      (record { in_ = record { later = []; split = refl }; at = record { url = url; named_is = ap (Rattle.line_account.specs.Lines.url_at (lines_in (p ∷ []))) gq; anchor = refl } })
-      (record { in_ = record { later = []; split = refl }; at = record { url = url; named_is = ap (Rattle.line_account.specs.Lines.url_at []) pq; anchor = refl } })
+      (record { in_ = record { later = []; split = refl }; at = record { url = url; named_is = ap (url_at (lines_in (p ∷ []))) gq; anchor = refl } })
+      (record { in_ = record { later = []; split = refl }; at = record { url = url; named_is = ap (url_at []) pq; anchor = refl } })
       (subst (λ (z : Answer). Contains (counts_as z) (epoch_number e)) (sym pa) (0, omega arith, refl)) in
-      let undoomed : doom_of (epoch_number e) ≡ 0 = order.undoomed y (subst (λ (z : Answer). Rattle.line_account.specs.Order.OpensOrStores z y) (sym ga) refl) same in
-      let doomed : doom_of (epoch_number e) ≡ 1 = doom_of-epoch_number e ∙ ap Rattle.lock_word.specs.Words.doom_number doom in
+      let undoomed : doom_of (epoch_number e) ≡ 0 = order.undoomed y (subst (λ (z : Answer). OpensOrStores z y) (sym ga) refl) same in
+      let doomed : doom_of (epoch_number e) ≡ 1 = doom_of-epoch_number e ∙ ap doom_number doom in
       omega arith

@@ -1,19 +1,17 @@
 -- Accounts hold along the course of a worker.
-use Rattle.std.proofs.Common.{◌≡◌, ◌≢◌, ◌⊎◌, inl, inr, ⊎_elim, ℕ, ◌+◌, ◌<◌, ◌≤◌, List, [], ◌∷◌, ◌++◌, sym, refl, ap, ◌∙◌, subst, arith, Contains, true, false, Bool}
-use Rattle.std.specs.Prelude.{Some}
+use Rattle.std.proofs.Common.{◌≡◌, ◌⊎◌, inl, inr, ⊎_elim, ℕ, ◌+◌, List, [], ◌∷◌, ◌++◌, sym, refl, ap, ◌∙◌, subst, Contains, true, false, Bool}
+use Rattle.std.specs.Prelude.{Some, None, count_by}
 use Rattle.std.proofs.lemmas.List.Sums.{sum_by-cons}
-use Rattle.lock_word.specs.declared.cause.Cause.TheVariants.{OtherKey}
 use Rattle.core_model.specs.declared.view.Deed.{Deed}
 use Rattle.core_model.specs.declared.view.Kind.{Kind}
 use Rattle.core_model.specs.declared.view.Kind.TheVariants.{Counted, Drew}
 use Rattle.core_model.specs.declared.view.Sight.TheVariants.{Stood}
 use Rattle.core_model.specs.declared.view.View.{View}
 use Rattle.core_model.specs.Layout.{Setting}
-use Rattle.core_model.specs.Trails.{drawn, draws}
 use Rattle.core_model.proofs.Lists.{contains_none}
-use Rattle.line_account.specs.Lines.{LineOf, Served}
+use Rattle.line_account.specs.Lines.{Served}
 use Rattle.line_account.specs.Deeds.{Grows, HasLine, IsDeedOf, IsDeedOfEnd, IsNamed}
-use Rattle.line_account.specs.Answers.{HasAdded, HasGiven, HasHit, HasItem, HasOpened, HasOther, IsBusy, IsEntryAt, IsKeyRead, IsSpent, Run}
+use Rattle.line_account.specs.Answers.{HasAdded, HasGiven, HasHit, HasItem, HasOpened, HasOther, IsEntryAt, IsKeyRead, IsSpent, Run}
 use Rattle.line_account.specs.Accounts.{Account, HasFinished, Tells, drew_some, drew_version}
 use Rattle.line_account.specs.Courses.{Adds, Begins, Course, Keeps, Leaves, Stage, lines_in, one_if}
 
@@ -48,8 +46,8 @@ module _ {X : Type 0} (r : Run X) (v w : View X) (h : Keeps v w) where
   spent_later : (s : Served) (n : ℕ) → IsSpent v s n → IsSpent w s n
   spent_later s n p = record { offers = p.offers; limit = p.limit; found = later p.found }
     where
-      later : ((s.drew ≡ Rattle.std.specs.Prelude.None) × HasItem v Counted n) ⊎ ((s.drew ≡ Some (n + 1)) × HasItem v Drew n)
-          → ((s.drew ≡ Rattle.std.specs.Prelude.None) × HasItem w Counted n) ⊎ ((s.drew ≡ Some (n + 1)) × HasItem w Drew n)
+      later : ((s.drew ≡ None) × HasItem v Counted n) ⊎ ((s.drew ≡ Some (n + 1)) × HasItem v Drew n)
+          → ((s.drew ≡ None) × HasItem w Counted n) ⊎ ((s.drew ≡ Some (n + 1)) × HasItem w Drew n)
       later (inl q) = inl (q.0, item_later Counted n q.1)
       later (inr q) = inr (q.0, item_later Drew n q.1)
 
@@ -152,7 +150,7 @@ module _ {X : Type 0} (r : Run X) (v w : View X) (h : Keeps v w) where
   }
 
 module _ {X : Type 0} (r : Run X) where
-  count_line : (p : Served → Bool) (s : Served) (served : List Served) → Rattle.std.specs.Prelude.count_by p (s ∷ served) ≡ one_if (p s) + Rattle.std.specs.Prelude.count_by p served
+  count_line : (p : Served → Bool) (s : Served) (served : List Served) → count_by p (s ∷ served) ≡ one_if (p s) + count_by p served
   count_line p s served = sum_by-cons (λ (x : Served). one_if (p x)) s served
 
   pub no_line : (later earlier : List Served) (s : Served) → [] ≡ later ++ s ∷ earlier → ⊥

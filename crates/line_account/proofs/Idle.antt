@@ -1,5 +1,5 @@
 -- The workers of a store that was just opened, and who served nothing, are closed.
-use Rattle.std.proofs.Common.{◌≡◌, inl, ℕ, ◌+◌, ◌<◌, ◌≤◌, zero, suc, List, [], ◌∷◌, ◌++◌, length, sym, refl, ap, ◌∙◌, subst, arith, Contains, true, false}
+use Rattle.std.proofs.Common.{◌≡◌, inl, ℕ, ◌+◌, ◌<◌, zero, suc, List, [], ◌∷◌, length, sym, refl, ap, ◌∙◌, subst, arith, Contains, true}
 use Rattle.std.proofs.lemmas.List.Elements.{Contains-append_right}
 use mathlib.Core.Option.{some, some-injective, some-ne-none}
 use mathlib.Core.Logic.{dite}
@@ -7,16 +7,14 @@ use native.Mathlib.Decide.{ℕ_discrete}
 use lib.ListN.{get_elem?}
 use Rattle.core_model.specs.declared.view.Sight.{Sight}
 use Rattle.core_model.specs.declared.view.Sight.TheVariants.{Stood}
-use Rattle.core_model.specs.declared.view.View.{View}
 use Rattle.core_model.specs.Anchors.{opening_epoch}
-use Rattle.core_model.specs.Layout.{Setting}
 use Rattle.core_model.specs.Opening.{new_view, new_views, sights_below}
 use Rattle.core_model.specs.Sound.{Sound}
 use Rattle.core_model.specs.State.{State}
 use Rattle.core_model.specs.Tabs.{IsPass}
 use Rattle.line_account.specs.Answers.{Run}
 use Rattle.line_account.specs.Accounts.{Account}
-use Rattle.line_account.specs.Courses.{Begins, Leaves}
+use Rattle.line_account.specs.Courses.{Begins}
 use Rattle.line_account.specs.Closing.{Closed, Worker}
 use Rattle.line_account.specs.Idle.{idle_workers}
 use Rattle.line_account.proofs.Courses.{account_begins, account_left}

@@ -1,14 +1,9 @@
 -- Which line the key and the offer of an entry come from.
-use Rattle.std.proofs.Common.{◌≡◌, ◌≢◌, ◌⊎◌, inl, inr, ⊎_elim, ℕ, ◌+◌, ◌<◌, ◌≤◌, List, [], ◌∷◌, ◌++◌, length, take, drop, get_or, sym, refl, ap, ◌∙◌, subst, arith, Bool, true, false, cond, Contains, append_assoc, length-take, length-drop}
-use Rattle.std.specs.Prelude.{None, Option, Some}
-use Rattle.std.specs.Int.{from_le_bytes, to_le_bytes, w64}
-use Rattle.std.proofs.lemmas.List.{take-append-drop}
-use Rattle.std.proofs.lemmas.Nat.{le_bytes_8}
+use Rattle.std.proofs.Common.{◌≡◌, ◌⊎◌, inl, inr, ⊎_elim, ℕ, ◌<◌, List, [], ◌∷◌, ◌++◌, sym, refl, ap, ◌∙◌, subst, arith, Bool, true, false, cond, append_assoc}
+use Rattle.std.specs.Prelude.{None, Some}
 use mathlib.Core.Option.{some}
 use lib.ListN.{get_elem?}
-use Rattle.store_key.specs.Anchor.{anchor_of, back_half, front_half}
-use Rattle.store_key.specs.Key.{key_of}
-use Rattle.lock_word.specs.Words.{doom_of, epoch_number, is_readable, stage_of, version_of}
+use Rattle.lock_word.specs.Words.{doom_of, is_readable, stage_of, version_of}
 use Rattle.lock_word.proofs.Testing.{doom_of-readable, stage_of-readable}
 use Rattle.script_text.specs.declared.body.Body.{Body}
 use Rattle.script_text.specs.declared.request.Request.{Request}
@@ -16,17 +11,16 @@ use Rattle.script_text.specs.declared.request.Request.TheVariants.{Add, Await, B
 use Rattle.script_text.specs.declared.answer.Answer.{Answer}
 use Rattle.core_model.specs.declared.view.Deed.{Deed}
 use Rattle.core_model.specs.declared.view.Kind.TheVariants.{Changed, Doomed, Raised}
-use Rattle.core_model.specs.declared.view.Sight.TheVariants.{Named}
 use Rattle.core_model.specs.declared.view.View.{View}
 use Rattle.core_model.specs.Anchors.{opening_counter, opening_epoch}
 use Rattle.core_model.specs.Deeds.{IsDone, IsEpochAt, LeftEpoch}
 use Rattle.core_model.proofs.DeedsTell.{known_taken}
-use Rattle.line_account.specs.Lines.{IsAnchorOf, LineOf, Offers, Served, begins, begun_by, begun_of, ends, url_in, writing}
+use Rattle.line_account.specs.Lines.{Offers, Served, begins, begun_of, ends, url_in, writing}
 use Rattle.line_account.specs.Deeds.{Began, Begins, Grows, IsDeedOf, IsDeedOfEnd, IsNamed}
 use Rattle.line_account.specs.Answers.{Run}
 use Rattle.line_account.specs.Closing.{BegunIn, Closed, LineIn, Worker}
 use Rattle.line_account.proofs.Rows.{Split}
-use Rattle.line_account.proofs.Gathered.{ByWorker, by_line, by_worker, inside, one_line, same_line}
+use Rattle.line_account.proofs.Gathered.{ByWorker, by_worker, inside, one_line, same_line}
 use Rattle.line_account.proofs.Versions.{taken_by_line}
 
 -- The line that began a writing is among the lines.

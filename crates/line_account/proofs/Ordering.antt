@@ -1,5 +1,5 @@
 -- The laws on the order of printed epochs.
-use Rattle.std.proofs.Common.{◌≡◌, ◌⊎◌, inl, inr, ⊎_elim, ℕ, ◌+◌, ◌*◌, ◌<◌, ◌≤◌, List, [], ◌∷◌, ◌++◌, sym, refl, ap, ◌∙◌, subst, arith, Bool, true, cond, max, Contains, eq-eqb}
+use Rattle.std.proofs.Common.{◌≡◌, ◌⊎◌, inl, inr, ⊎_elim, ℕ, ◌<◌, ◌≤◌, List, [], ◌∷◌, ◌++◌, sym, refl, ap, ◌∙◌, subst, arith, Bool, true, cond, Contains, eq-eqb}
 use Rattle.std.specs.Prelude.{None, Some}
 use Rattle.lock_word.specs.Words.{doom_of, epoch_at, epoch_number, is_readable, mode_of, stage_of, version_of}
 use Rattle.lock_word.proofs.Testing.{mode_of-readable}

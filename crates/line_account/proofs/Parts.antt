@@ -1,6 +1,6 @@
 -- The laws on what PART gives.
-use Rattle.std.proofs.Common.{◌≡◌, ◌≢◌, ◌⊎◌, inl, inr, ℕ, ◌+◌, ◌*◌, ◌-◌, ◌<◌, ◌≤◌, List, [], ◌∷◌, ◌++◌, length, sym, refl, ap, ◌∙◌, subst, arith, Bool, true, false, cond, Contains, mul-le-mul_right}
-use Rattle.std.specs.Prelude.{IsTrue, None, Option, Some}
+use Rattle.std.proofs.Common.{◌≡◌, inr, ℕ, ◌+◌, ◌*◌, ◌<◌, ◌≤◌, List, [], ◌∷◌, length, sym, refl, ap, ◌∙◌, subst, arith, Bool, true, false, cond, Contains, mul-le-mul_right}
+use Rattle.std.specs.Prelude.{IsTrue, None, Some}
 use mathlib.Core.Option.{some}
 use mathlib.Core.Logic.{dite}
 use native.Mathlib.Decide.{ℕ_discrete}
@@ -9,26 +9,23 @@ use lib.ListN.{get_elem?}
 use Rattle.store_key.specs.Anchor.{anchor_of}
 use Rattle.store_key.specs.Key.{key_of}
 use Rattle.lock_word.specs.Words.{epoch_number, stage_of, version_of}
-use Rattle.lock_word.specs.declared.epoch.Epoch.{Epoch}
-use Rattle.script_text.specs.declared.answer.Answer.TheVariants as answer
-use Rattle.script_text.specs.declared.request.Request.{Request}
-use Rattle.script_text.specs.declared.request.Request.TheVariants.{Add, More}
+use Rattle.script_text.specs.declared.request.Request.TheVariants.{Add}
 use Rattle.core_model.specs.declared.moves.Side.TheVariants.{Offer}
 use Rattle.core_model.specs.declared.view.Sight.{Sight}
 use Rattle.core_model.specs.declared.view.Sight.TheVariants.{Named, Published, Stood}
 use Rattle.core_model.specs.declared.view.View.{View}
 use Rattle.core_model.specs.Anchors.{opening_counter}
 use Rattle.core_model.proofs.DeedsTell.{known_quiet}
-use Rattle.line_account.specs.Lines.{Served, closes, given, opened_by, opened_of, opens, reading, url_in, writing}
-use Rattle.line_account.specs.Answers.{HasAdded, HasGiven, HasPart, IsWritten, Run, bytes_behind, bytes_of_tab, given_with, slots_after}
+use Rattle.line_account.specs.Lines.{Served, closes, given, opened_of, opens, reading, url_in, writing}
+use Rattle.line_account.specs.Answers.{HasPart, Run, bytes_behind, bytes_of_tab, given_with, slots_after}
 use Rattle.line_account.specs.Accounts.{Account, Tells}
-use Rattle.line_account.specs.Courses.{Adds, Begins, Course, Stage, lines_in}
+use Rattle.line_account.specs.Courses.{Adds, Stage, lines_in}
 use Rattle.line_account.specs.Closing.{Closed, Worker}
 use Rattle.line_account.specs.Order.{HandsOver, StandsIn}
 use Rattle.line_account.specs.Parts.{AddsTo, GivesOf, IsCourseOf, PrintsPart}
 use Rattle.line_account.proofs.Rows.{Split}
 use Rattle.line_account.proofs.Courses.{account_after, account_along}
-use Rattle.line_account.proofs.Ordering.{FoundAt, HasStage, opened_at, stage_in}
+use Rattle.line_account.proofs.Ordering.{opened_at, stage_in}
 
 reading_among : (t : ℕ) (served : List Served) (b : Served) → reading t served ≡ Some b → Split served b
 reading_among t [] b e = absurd (let q : None ≡ Some b = e in cc)

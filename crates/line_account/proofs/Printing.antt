@@ -5,7 +5,7 @@ use Rattle.std.specs.Int.{from_le_bytes, to_le_bytes, w64}
 use Rattle.std.proofs.Math.Decide.{dec_le}
 use Rattle.std.proofs.lemmas.List.{get_or-drop, length-take-le, take-append-drop}
 use Rattle.std.proofs.lemmas.Nat.{le_bytes_8}
-use mathlib.Core.Option.{some, some-injective}
+use mathlib.Core.Option.{some-injective}
 use mathlib.Core.Logic.{dite}
 use native.Mathlib.Decide.{ℕ_discrete}
 use lib.ListN.{get_elem?}
@@ -23,23 +23,21 @@ use Rattle.script_text.specs.declared.body.Body.{Body}
 use Rattle.script_text.specs.declared.request.Request.{Request}
 use Rattle.script_text.specs.declared.request.Request.TheVariants.{Add, Get}
 use Rattle.core_model.specs.declared.moves.Side.TheVariants.{Key0, Key1, Offer}
-use Rattle.core_model.specs.declared.view.Kind.TheVariants.{Counted, Drew, Entered}
+use Rattle.core_model.specs.declared.view.Kind.TheVariants.{Counted, Drew}
 use Rattle.core_model.specs.declared.view.Sight.TheVariants.{Stood}
 use Rattle.core_model.specs.declared.view.View.{View}
 use Rattle.core_model.specs.Anchors.{opening_counter}
 use Rattle.core_model.specs.Deeds.{EnteredByAnother, EvictedVersion, HaltedVersion, IsDone, IsEpochAt}
-use Rattle.core_model.specs.State.{counter}
-use Rattle.line_account.specs.Lines.{Fits, LineOf, Offers, Served, added, begun_by, begun_of, opened_by, url_in, writing}
+use Rattle.line_account.specs.Lines.{Fits, LineOf, Offers, Served, added, begun_of, url_in, writing}
 use Rattle.line_account.specs.Deeds.{Begins, ComesTo, IsDeedOf, IsDeedOfEnd, MayEvict}
 use Rattle.line_account.specs.Requests.{IsAnswerTo}
 use Rattle.line_account.specs.Answers.{ComesIn, HasGiven, HasItem, IsSure, bytes_with, HasOther, IsCauseOf, IsEntryAt, IsLong, IsSpent, ReadAs, Refuses, Run}
 use Rattle.line_account.specs.Accounts.{epoch_in}
 use Rattle.line_account.specs.Closing.{BegunIn, Closed, LineIn, ShownIn, Worker, offered}
-use Rattle.line_account.specs.Printed.{AnotherComes, AreFirstOnes, IsStored, ReadsOf, GivenBackIn, HasBusyWords, HasOtherUrl, HitIn, IsBodyOfLine, IsKeyOfLine, IsOldBody, IsOldUrl, IsOtherUrl, KeyIn, NeedsTooMany, PrintsAdded, PrintsHit, PrintsKey, PrintsLarge, PrintsOther, PrintsReaders, old_offer}
-use Rattle.line_account.proofs.Rows.{Split}
+use Rattle.line_account.specs.Printed.{AnotherComes, AreFirstOnes, IsStored, ReadsOf, GivenBackIn, HasBusyWords, HasOtherUrl, HitIn, IsBodyOfLine, IsKeyOfLine, IsOldBody, IsOldUrl, KeyIn, NeedsTooMany, PrintsAdded, PrintsHit, PrintsKey, PrintsLarge, PrintsOther, PrintsReaders, old_offer}
 use Rattle.line_account.proofs.Gathered.{DeedIn, by_line, counter_below, counter_is, deed_in, shown_known, tells_at}
 use Rattle.line_account.proofs.Versions.{halted_in}
-use Rattle.line_account.proofs.Names.{HasNames, HasOffer, begun_among, names_of, offer_of, offered_url}
+use Rattle.line_account.proofs.Names.{HasOffer, begun_among, names_of, offer_of, offered_url}
 
 -- Keys are the same where their halves are.
 

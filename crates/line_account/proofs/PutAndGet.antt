@@ -1,28 +1,26 @@
 -- A put and a get have an account.
-use Rattle.std.proofs.Common.{◌≡◌, ◌≢◌, ◌⊎◌, inl, inr, ⊎_elim, ℕ, ◌+◌, ◌<◌, ◌≤◌, List, [], ◌∷◌, ◌++◌, length, sym, refl, ap, ◌∙◌, subst, arith, true, false, Contains, eq-eqb}
-use Rattle.std.specs.Prelude.{None, Some}
+use Rattle.std.proofs.Common.{◌≡◌, inl, inr, ⊎_elim, ℕ, ◌+◌, ◌<◌, List, [], ◌∷◌, sym, refl, ap, ◌∙◌, subst, arith, true, false, Contains}
+use Rattle.std.specs.Prelude.{Some}
 use Rattle.std.proofs.lemmas.List.Elements.{Contains-append_right}
 use Rattle.store_key.specs.Anchor.{anchor_of, back_half, front_half}
 use Rattle.store_key.specs.Key.{key_of}
-use Rattle.lock_word.specs.Words.{doom_of, epoch_at, is_readable, mode_of, stage_of, version_of}
+use Rattle.lock_word.specs.Words.{epoch_at, version_of}
 use Rattle.lock_word.proofs.Testing.{readable_where}
 use Rattle.plain_model.specs.Serving.{bytes_of}
-use Rattle.script_text.specs.declared.answer.Answer.{Answer}
 use Rattle.script_text.specs.declared.answer.Answer.TheVariants as answer
 use Rattle.script_text.specs.declared.body.Body.{Body}
 use Rattle.core_model.specs.declared.moves.Side.TheVariants.{Key0, Key1, Offer}
 use Rattle.core_model.specs.declared.view.Deed.{Deed}
 use Rattle.core_model.specs.declared.view.Kind.TheVariants.{Changed, Doomed, Entered, Raised}
-use Rattle.core_model.specs.declared.view.Sight.{Sight}
 use Rattle.core_model.specs.declared.view.Sight.TheVariants.{Named, Published, Stood}
 use Rattle.core_model.specs.declared.view.View.{View}
-use Rattle.core_model.specs.Anchors.{opening_counter, opening_epoch}
+use Rattle.core_model.specs.Anchors.{opening_epoch}
 use Rattle.core_model.specs.Opening.{sights_below}
 use Rattle.core_model.proofs.Lists.{cons_contains, contains_none}
-use Rattle.line_account.specs.Lines.{Offers, Served, Writes}
+use Rattle.line_account.specs.Lines.{Served, Writes}
 use Rattle.line_account.specs.Deeds.{Begins as BeginsVersion, Grows, HasLine, IsDeedOf, IsNamed}
 use Rattle.line_account.specs.Answers.{HasGiven, HasHit, HasOpened, IsEntryAt, Run}
-use Rattle.line_account.specs.Accounts.{Account, HasBegun, HasFinished, IsOffered, Shows, Tells}
+use Rattle.line_account.specs.Accounts.{Account, HasFinished, IsOffered, Tells}
 use Rattle.line_account.specs.Alone.{OffersNothing, hit_line, home, next_version, nothing, stored_line, view_after}
 use Rattle.line_account.proofs.Courses.{lines_more, no_line}
 use Rattle.line_account.proofs.Idle.{seen_below}

@@ -1,5 +1,5 @@
 -- Workers offer no more bodies than the lines of their script do.
-use Rattle.std.proofs.Common.{◌≡◌, ℕ, ◌+◌, ◌<◌, ◌≤◌, suc, List, [], ◌∷◌, ◌++◌, sym, refl, ap, ◌∙◌, subst, arith, Bool, true, false, cond, sum_by}
+use Rattle.std.proofs.Common.{◌≡◌, ℕ, ◌+◌, ◌<◌, ◌≤◌, suc, List, [], ◌∷◌, sym, refl, ap, ◌∙◌, arith, Bool, true, false, cond, sum_by}
 use Rattle.std.specs.Prelude.{count_by, nat_lt, ◌&&◌, ◌==◌}
 use Rattle.std.specs.List.{filter}
 use Rattle.std.proofs.lemmas.Bool.Decides.{nat_tests}

@@ -1,5 +1,5 @@
 -- Lines of one worker alone, as examples.
-use Rattle.std.specs.Prelude.{List, None, Some, [], false, replicate, ◌+◌, ◌++◌, ◌∷◌, ◌≡◌, ℕ}
+use Rattle.std.specs.Prelude.{List, None, Some, [], false, replicate, ◌+◌, ◌∷◌, ◌≡◌, ℕ}
 use Rattle.lock_word.specs.Words.{epoch_at}
 use Rattle.store_key.specs.Anchor.{anchor_of, back_half, front_half}
 use Rattle.store_key.specs.Key.{key_of}

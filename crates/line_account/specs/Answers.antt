@@ -7,7 +7,6 @@ use Rattle.store_key.specs.Url.{IsUrl}
 use Rattle.lock_word.specs.Cause.{cause_of}
 use Rattle.lock_word.specs.Words.{epoch_number, is_idle, is_readable, is_vacant, version_limit, version_of, word_number}
 use Rattle.lock_word.specs.declared.cause.Cause.{Cause}
-use Rattle.lock_word.specs.declared.cause.Cause.TheVariants.{Absent, Leaving, OtherKey, Writing}
 use Rattle.lock_word.specs.declared.epoch.Epoch.{Epoch}
 use Rattle.lock_word.specs.declared.word.Word.{Word}
 use Rattle.plain_model.specs.Store.{meta_size, published}
@@ -24,7 +23,7 @@ use Rattle.core_model.specs.declared.view.Sight.TheVariants.{Named, Published, S
 use Rattle.core_model.specs.declared.view.View.{View}
 use Rattle.core_model.specs.Anchors.{opening_counter}
 use Rattle.core_model.specs.Layout.{Setting, word_in}
-use Rattle.line_account.specs.Lines.{IsAt, Served, added, begun_by, bytes_given, bytes_in, offers, opened_by, reading, url_at, url_in, writing}
+use Rattle.line_account.specs.Lines.{IsAt, Served, added, begun_by, bytes_given, bytes_in, offers, opened_by, reading, url_in, writing}
 
 -- What does not change during a run: the setting of the store, how many bytes of a content a slot takes, and the URL and the body of
 -- each offer. One below the slots is the entry of the file that begins at this slot, and another is that of a line. Where the cells do

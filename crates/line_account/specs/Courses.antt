@@ -1,5 +1,5 @@
 -- The course of a worker: what each line adds to its account, and what the end does.
-use Rattle.std.specs.Prelude.{Bool, IsTrue, List, [], cond, false, ◌+◌, ◌<◌, ◌∷◌, ◌≡◌, ◌≤◌, ◌⊎◌, Contains, ℕ}
+use Rattle.std.specs.Prelude.{Bool, IsTrue, List, [], cond, ◌+◌, ◌<◌, ◌∷◌, ◌≡◌, ◌≤◌, ◌⊎◌, Contains, ℕ}
 use Rattle.lock_word.specs.Words.{epoch_number}
 use Rattle.lock_word.specs.declared.epoch.Epoch.{Epoch}
 use Rattle.script_text.specs.declared.answer.Answer.TheVariants as answer

@@ -5,9 +5,7 @@ use Rattle.script_text.specs.declared.answer.Answer.{Answer}
 use Rattle.script_text.specs.declared.answer.Answer.TheVariants as answer
 use Rattle.script_text.specs.declared.request.Request.TheVariants.{Await, Mark}
 use Rattle.core_model.specs.declared.view.Sight.{Sight}
-use Rattle.core_model.specs.declared.view.View.{View}
 use Rattle.line_account.specs.Lines.{IsAt}
-use Rattle.line_account.specs.Answers.{Run}
 use Rattle.line_account.specs.Accounts.{epoch_in}
 use Rattle.line_account.specs.Courses.{Stage, lines_in}
 
