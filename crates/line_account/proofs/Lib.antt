@@ -10,3 +10,4 @@ pub mod Scripts
 pub mod Idle
 pub mod Alone
 pub mod PutAndGet
+pub mod Quiet

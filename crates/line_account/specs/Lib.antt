@@ -11,3 +11,4 @@ pub mod Parts
 pub mod Scripts
 pub mod Idle
 pub mod Alone
+pub mod Steps

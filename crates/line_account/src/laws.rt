@@ -1,6 +1,6 @@
 //! The laws of printed lines. These functions do nothing: the proof of a function that calls one may use
 //! what it ensures.
-ghost use Rattle.std.specs.Prelude.{◌≡◌, ◌≢◌, ◌+◌, ◌-◌, ◌<◌, ◌≤◌, ◌↔◌, ◌∷◌, Contains, IsTrue, ℕ, List, [], length, min, true, false};
+ghost use Rattle.std.specs.Prelude.{◌≡◌, ◌≢◌, ◌+◌, ◌-◌, ◌<◌, ◌≤◌, ◌↔◌, ◌⊎◌, ◌∷◌, Contains, IsTrue, ℕ, List, [], length, min, true, false};
 ghost use mathlib.Core.Option.{some};
 ghost use lib.ListN.{get_elem?};
 ghost use Rattle.plain_model.specs.Serving.{bytes_of};
@@ -24,9 +24,14 @@ ghost use Rattle.line_account.specs.Scripts.{ServesScript, offering};
 ghost use Rattle.line_account.specs.Idle.{idle_workers};
 ghost use Rattle.line_account.specs.Order.{HandsOver, NotBelow, StandsAt, StandsIn, counts_as};
 ghost use Rattle.line_account.specs.Answers.{IsCauseOf, IsLong, Refuses, Run, bytes_behind, bytes_with, given_with};
+ghost use Rattle.core_model.specs.declared.view.Deed.{Deed};
+ghost use Rattle.core_model.specs.declared.view.Item.{Item};
+ghost use Rattle.core_model.specs.declared.view.Sight.{Sight};
 ghost use Rattle.core_model.specs.declared.view.View.{View};
+ghost use Rattle.core_model.specs.Trails.{drawn, draws};
 ghost use Rattle.line_account.specs.Accounts.{Account, epoch_in};
-ghost use Rattle.line_account.specs.Courses.{Adds, Begins as BeginsWork, Course, Leaves, Stage, lines_in};
+ghost use Rattle.line_account.specs.Courses.{Adds, Begins as BeginsWork, Course, Keeps, Leaves, Stage, lines_in};
+ghost use Rattle.line_account.specs.Steps.{IsAfter, IsIdle, IsMarkLine, IsTabLine};
 ghost use Rattle.line_account.specs.Printed.{AnotherComes, AreFirstOnes, ReadsOf, GivenBackIn, PrintsAdded, HasBusyWords, HasOtherUrl, HitIn, IsBodyOfLine, IsKeyOfLine, IsOldBody, IsOldUrl, KeyIn, NeedsTooMany, PrintsLarge, PrintsOther, PrintsReaders};
 ghost use Rattle.line_account.specs.Closing.{Closed, Worker, BegunIn, ShownIn, StoredIn, HaltedIn, PurgedIn, IsSameLine, LineIn, PrintsHalted, PrintsDoomed, SomeHalted, offered};
 
@@ -214,4 +219,23 @@ pub fn scripts_bound_what_is_offered<X>()
 /// Workers of a store that was just opened, and who served nothing, have accounts and a closing.
 pub fn idle_workers_are_closed<X>()
     ensures { (r : Run X) (s : State X) → Sound r.setting s → s.views ≡ new_views r.setting 0 r.setting.passes → Closed r (idle_workers r.setting 0 r.setting.passes) }
+{}
+
+/// What steps of a pass add is kept: it knows what it knew, its draws add up, and a deed is one of before or
+/// was added.
+pub fn additions_are_kept<X>()
+    ensures keeps { (v w : View X) (items : List Item) (sights : List Sight) (done : List Deed) (meetings : List ℕ) → IsAfter v items sights done meetings w → Keeps v w }
+    ensures drawn { (v w : View X) (items : List Item) (sights : List Sight) (done : List Deed) (meetings : List ℕ) (x : ℕ) → IsAfter v items sights done meetings w
+        → drawn x w.trail ≡ drawn x items + drawn x v.trail }
+    ensures draws { (v w : View X) (items : List Item) (sights : List Sight) (done : List Deed) (meetings : List ℕ) → IsAfter v items sights done meetings w
+        → draws w.trail ≡ draws items + draws v.trail }
+    ensures deeds { (v w : View X) (items : List Item) (sights : List Sight) (done : List Deed) (meetings : List ℕ) (d : Deed) → IsAfter v items sights done meetings w
+        → Contains w.deeds d → Contains v.deeds d ⊎ Contains done d }
+{}
+
+/// A line that sets or meets a mark, or does not meet it, and a line whose tab is not as it needs it, add
+/// what they should where the worker drew nothing and did nothing.
+pub fn quiet_lines_add_nothing<X>()
+    ensures mark { (r : Run X) (v w : View X) (earlier : List Served) (s : Served) → IsMarkLine s → IsIdle v w → Adds r v earlier s w }
+    ensures tab { (r : Run X) (v w : View X) (earlier : List Served) (s : Served) → IsTabLine r earlier s → IsIdle v w → Adds r v earlier s w }
 {}

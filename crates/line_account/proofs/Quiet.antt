@@ -1,0 +1,421 @@
+-- What steps add is kept, and lines that ask nothing of the store add nothing.
+use Rattle.std.proofs.Common.{◌≡◌, ◌≢◌, ◌⊎◌, inl, inr, ⊎_elim, ℕ, ◌+◌, ◌<◌, ◌≤◌, List, [], ◌∷◌, ◌++◌, sym, refl, ap, ◌∙◌, subst, arith, Bool, true, false, cond, Contains}
+use Rattle.std.specs.Prelude.{None, Some, ◌↔◌}
+use Rattle.std.proofs.lemmas.List.Elements.{Contains-append_cases, Contains-append_right}
+use Rattle.lock_word.specs.declared.cause.Cause.{Cause}
+use Rattle.lock_word.specs.declared.word.Word.{Word}
+use Rattle.lock_word.specs.declared.epoch.Epoch.{Epoch}
+use Rattle.script_text.specs.declared.answer.Answer.{Answer}
+use Rattle.script_text.specs.declared.answer.Answer.TheVariants as answer
+use Rattle.script_text.specs.declared.body.Body.{Body}
+use Rattle.script_text.specs.declared.request.Request.{Request}
+use Rattle.script_text.specs.declared.request.Request.TheVariants.{Add, Await, Begin, CloseTab, DropTab, End, Get, Mark, More, OpenTab, Purge, Put, Save}
+use Rattle.core_model.specs.declared.view.Deed.{Deed}
+use Rattle.core_model.specs.declared.view.Item.{Item}
+use Rattle.core_model.specs.declared.view.Sight.{Sight}
+use Rattle.core_model.specs.declared.view.View.{View}
+use Rattle.core_model.specs.Trails.{draws_version, drawn, draws, is_draw}
+use Rattle.core_model.proofs.Lists.{contains_none}
+use Rattle.line_account.specs.Lines.{Fits, Offers, Served, gives_up}
+use Rattle.line_account.specs.Requests.{IsAnswerTo}
+use Rattle.line_account.specs.Deeds.{Began, IsDeedOf}
+use Rattle.line_account.specs.Answers.{ComesIn, Reads, Refuses, Run}
+use Rattle.line_account.specs.Accounts.{IsOffered, Tells, drew_some, drew_version, epochs_of, has_drawn, is_drawn}
+use Rattle.line_account.specs.Courses.{Adds, Keeps, one_if}
+use Rattle.line_account.specs.Steps.{AtMark, IsAfter, IsIdle, IsMarkLine, IsTabLine}
+
+-- Lists of what steps added.
+
+drawn_added : (x : ℕ) (items trail : List Item) → drawn x (items ++ trail) ≡ drawn x items + drawn x trail
+drawn_added x [] trail = omega arith
+drawn_added x (i ∷ items) trail = let h = drawn_added x items trail in omega arith
+
+draws_added : (items trail : List Item) → draws (items ++ trail) ≡ draws items + draws trail
+draws_added [] trail = omega arith
+draws_added (i ∷ items) trail = let h = draws_added items trail in omega arith
+
+module _ {X : Type 0} (v w : View X) (items : List Item) (sights : List Sight) (done : List Deed) (meetings : List ℕ) (h : IsAfter v items sights done meetings w) where
+  pub keeps : Keeps v w
+  keeps = record {
+    pass = h.pass;
+    seen = λ x c. subst (λ (l : List Sight). Contains l x) (sym h.seen) (Contains-append_right sights v.seen x c);
+    trail = λ x c. subst (λ (l : List Item). Contains l x) (sym h.trail) (Contains-append_right items v.trail x c);
+    met = λ a c. subst (λ (l : List ℕ). Contains l a) (sym h.met) (Contains-append_right meetings v.met a c);
+  }
+
+  pub drawn_after : (x : ℕ) → drawn x w.trail ≡ drawn x items + drawn x v.trail
+  drawn_after x = ap (drawn x) h.trail ∙ drawn_added x items v.trail
+
+  pub draws_after : draws w.trail ≡ draws items + draws v.trail
+  draws_after = ap draws h.trail ∙ draws_added items v.trail
+
+  pub deeds_after : (d : Deed) → Contains w.deeds d → Contains v.deeds d ⊎ Contains done d
+  deeds_after d c = ⊎_elim (λ (q : Contains done d). inr q) (λ (q : Contains v.deeds d). inl q) (Contains-append_cases done v.deeds d (subst (λ (l : List Deed). Contains l d) h.deeds c))
+
+-- Answers that tell nothing of the store.
+
+record IsSilent (a : Answer) : Type 0 where
+  epochs : (opened looked : ℕ) → epochs_of opened looked a ≡ []
+  began : (q : Request) (x : ℕ) → Began q a x → ⊥
+  finished : (x : ℕ) → (a ≡ answer.Stored x) ⊎ (a ≡ answer.Doomed x) → ⊥
+  gave_up : gives_up a ≡ false
+  large : a ≢ answer.Large
+  long : a ≢ answer.LongUrl
+  busy : (looked other : Word) → a ≢ answer.Busy looked other
+  spent : (n : ℕ) → a ≢ answer.Spent n
+  refuses : (c : Cause) → Refuses a c → ⊥
+  opened : (q : Request) (x : ℕ) → ComesIn q a x → ⊥
+  hit : (x : ℕ) (bytes : List ℕ) → a ≢ answer.Hit x bytes
+  other : a ≢ answer.OtherUrl
+  halted : (bytes : List ℕ) → a ≢ answer.Halted bytes
+  part : (e : Epoch) (bytes : List ℕ) → a ≢ answer.Part e bytes
+  added : (n : ℕ) → a ≢ answer.Added n
+  reads : Reads a → ⊥
+
+began_tab : (q : Request) (x : ℕ) → Began q answer.Tab x → ⊥
+began_tab (Put url body) x h = h
+began_tab (Save url body) x h = h
+began_tab (Get url) x h = h
+began_tab (Purge url) x h = h
+began_tab (Begin tab url body) x h = h
+began_tab (Add tab count) x h = h
+began_tab (End tab) x h = h
+began_tab (DropTab tab) x h = h
+began_tab (OpenTab tab url) x h = h
+began_tab (More tab) x h = h
+began_tab (CloseTab tab) x h = h
+began_tab (Mark mark) x h = h
+began_tab (Await mark) x h = h
+
+comes_tab : (q : Request) (x : ℕ) → ComesIn q answer.Tab x → ⊥
+comes_tab (Put url body) x h = h
+comes_tab (Save url body) x h = h
+comes_tab (Get url) x h = h
+comes_tab (Purge url) x h = h
+comes_tab (Begin tab url body) x h = h
+comes_tab (Add tab count) x h = h
+comes_tab (End tab) x h = h
+comes_tab (DropTab tab) x h = h
+comes_tab (OpenTab tab url) x h = h
+comes_tab (More tab) x h = h
+comes_tab (CloseTab tab) x h = h
+comes_tab (Mark mark) x h = h
+comes_tab (Await mark) x h = h
+
+silent_tab : IsSilent answer.Tab
+silent_tab = record {
+  epochs = λ opened looked. refl;
+  began = began_tab;
+  finished = λ x h. ⊎_elim (λ (q : answer.Tab ≡ answer.Stored x). cc) (λ (q : answer.Tab ≡ answer.Doomed x). cc) h;
+  gave_up = refl;
+  large = λ h. cc;
+  long = λ h. cc;
+  busy = λ looked other h. cc;
+  spent = λ n h. cc;
+  refuses = λ c h. h;
+  opened = comes_tab;
+  hit = λ x bytes h. cc;
+  other = λ h. cc;
+  halted = λ bytes h. cc;
+  part = λ e bytes h. cc;
+  added = λ n h. cc;
+  reads = λ h. h;
+}
+
+began_marked : (q : Request) (x : ℕ) → Began q answer.Marked x → ⊥
+began_marked (Put url body) x h = h
+began_marked (Save url body) x h = h
+began_marked (Get url) x h = h
+began_marked (Purge url) x h = h
+began_marked (Begin tab url body) x h = h
+began_marked (Add tab count) x h = h
+began_marked (End tab) x h = h
+began_marked (DropTab tab) x h = h
+began_marked (OpenTab tab url) x h = h
+began_marked (More tab) x h = h
+began_marked (CloseTab tab) x h = h
+began_marked (Mark mark) x h = h
+began_marked (Await mark) x h = h
+
+comes_marked : (q : Request) (x : ℕ) → ComesIn q answer.Marked x → ⊥
+comes_marked (Put url body) x h = h
+comes_marked (Save url body) x h = h
+comes_marked (Get url) x h = h
+comes_marked (Purge url) x h = h
+comes_marked (Begin tab url body) x h = h
+comes_marked (Add tab count) x h = h
+comes_marked (End tab) x h = h
+comes_marked (DropTab tab) x h = h
+comes_marked (OpenTab tab url) x h = h
+comes_marked (More tab) x h = h
+comes_marked (CloseTab tab) x h = h
+comes_marked (Mark mark) x h = h
+comes_marked (Await mark) x h = h
+
+silent_marked : IsSilent answer.Marked
+silent_marked = record {
+  epochs = λ opened looked. refl;
+  began = began_marked;
+  finished = λ x h. ⊎_elim (λ (q : answer.Marked ≡ answer.Stored x). cc) (λ (q : answer.Marked ≡ answer.Doomed x). cc) h;
+  gave_up = refl;
+  large = λ h. cc;
+  long = λ h. cc;
+  busy = λ looked other h. cc;
+  spent = λ n h. cc;
+  refuses = λ c h. h;
+  opened = comes_marked;
+  hit = λ x bytes h. cc;
+  other = λ h. cc;
+  halted = λ bytes h. cc;
+  part = λ e bytes h. cc;
+  added = λ n h. cc;
+  reads = λ h. h;
+}
+
+began_met : (q : Request) (x : ℕ) → Began q answer.Met x → ⊥
+began_met (Put url body) x h = h
+began_met (Save url body) x h = h
+began_met (Get url) x h = h
+began_met (Purge url) x h = h
+began_met (Begin tab url body) x h = h
+began_met (Add tab count) x h = h
+began_met (End tab) x h = h
+began_met (DropTab tab) x h = h
+began_met (OpenTab tab url) x h = h
+began_met (More tab) x h = h
+began_met (CloseTab tab) x h = h
+began_met (Mark mark) x h = h
+began_met (Await mark) x h = h
+
+comes_met : (q : Request) (x : ℕ) → ComesIn q answer.Met x → ⊥
+comes_met (Put url body) x h = h
+comes_met (Save url body) x h = h
+comes_met (Get url) x h = h
+comes_met (Purge url) x h = h
+comes_met (Begin tab url body) x h = h
+comes_met (Add tab count) x h = h
+comes_met (End tab) x h = h
+comes_met (DropTab tab) x h = h
+comes_met (OpenTab tab url) x h = h
+comes_met (More tab) x h = h
+comes_met (CloseTab tab) x h = h
+comes_met (Mark mark) x h = h
+comes_met (Await mark) x h = h
+
+silent_met : IsSilent answer.Met
+silent_met = record {
+  epochs = λ opened looked. refl;
+  began = began_met;
+  finished = λ x h. ⊎_elim (λ (q : answer.Met ≡ answer.Stored x). cc) (λ (q : answer.Met ≡ answer.Doomed x). cc) h;
+  gave_up = refl;
+  large = λ h. cc;
+  long = λ h. cc;
+  busy = λ looked other h. cc;
+  spent = λ n h. cc;
+  refuses = λ c h. h;
+  opened = comes_met;
+  hit = λ x bytes h. cc;
+  other = λ h. cc;
+  halted = λ bytes h. cc;
+  part = λ e bytes h. cc;
+  added = λ n h. cc;
+  reads = λ h. h;
+}
+
+began_unmet : (q : Request) (x : ℕ) → Began q answer.Unmet x → ⊥
+began_unmet (Put url body) x h = h
+began_unmet (Save url body) x h = h
+began_unmet (Get url) x h = h
+began_unmet (Purge url) x h = h
+began_unmet (Begin tab url body) x h = h
+began_unmet (Add tab count) x h = h
+began_unmet (End tab) x h = h
+began_unmet (DropTab tab) x h = h
+began_unmet (OpenTab tab url) x h = h
+began_unmet (More tab) x h = h
+began_unmet (CloseTab tab) x h = h
+began_unmet (Mark mark) x h = h
+began_unmet (Await mark) x h = h
+
+comes_unmet : (q : Request) (x : ℕ) → ComesIn q answer.Unmet x → ⊥
+comes_unmet (Put url body) x h = h
+comes_unmet (Save url body) x h = h
+comes_unmet (Get url) x h = h
+comes_unmet (Purge url) x h = h
+comes_unmet (Begin tab url body) x h = h
+comes_unmet (Add tab count) x h = h
+comes_unmet (End tab) x h = h
+comes_unmet (DropTab tab) x h = h
+comes_unmet (OpenTab tab url) x h = h
+comes_unmet (More tab) x h = h
+comes_unmet (CloseTab tab) x h = h
+comes_unmet (Mark mark) x h = h
+comes_unmet (Await mark) x h = h
+
+silent_unmet : IsSilent answer.Unmet
+silent_unmet = record {
+  epochs = λ opened looked. refl;
+  began = began_unmet;
+  finished = λ x h. ⊎_elim (λ (q : answer.Unmet ≡ answer.Stored x). cc) (λ (q : answer.Unmet ≡ answer.Doomed x). cc) h;
+  gave_up = refl;
+  large = λ h. cc;
+  long = λ h. cc;
+  busy = λ looked other h. cc;
+  spent = λ n h. cc;
+  refuses = λ c h. h;
+  opened = comes_unmet;
+  hit = λ x bytes h. cc;
+  other = λ h. cc;
+  halted = λ bytes h. cc;
+  part = λ e bytes h. cc;
+  added = λ n h. cc;
+  reads = λ h. h;
+}
+
+module _ {X : Type 0} (r : Run X) where
+  silent_tells : (v : View X) (earlier : List Served) (s : Served) → IsSilent s.answer → IsAnswerTo s.line.request s.answer → s.drew ≡ None
+      → ((url : List ℕ) (body : Body) → Offers s.line.request url body → IsOffered r s url body) → ((s.answer ≡ answer.Tab) ↔ ¬ Fits earlier s.line.request) → Tells r v earlier s
+  silent_tells v earlier s q may none offered tab = record {
+    shown = λ a e h. absurd (contains_none e (subst (λ (l : List ℕ). Contains l e) (q.epochs s.opened s.looked) h.shown));
+    answers = may;
+    drew = λ n. absurd (n none);
+    began = λ x h. absurd (q.began s.line.request x h);
+    finished = λ x h. absurd (q.finished x h);
+    gave_up = λ h. absurd (let z : true ≡ false = sym h ∙ q.gave_up in cc);
+    large = λ h. absurd (q.large h);
+    long = λ h. absurd (q.long h);
+    busy = λ looked other h. absurd (q.busy looked other h);
+    spent = λ n h. absurd (q.spent n h);
+    offered = offered;
+    cause = λ c h. absurd (q.refuses c h);
+    key = λ e key a h at. absurd (q.refuses _ h);
+    opened = λ x h. absurd (q.opened s.line.request x h);
+    hit = λ t x bytes h. absurd (q.hit x bytes h);
+    other = λ t h. absurd (q.other h);
+    halted = λ bytes h. absurd (q.halted bytes h);
+    part = λ e bytes h. absurd (q.part e bytes h);
+    added = λ n h. absurd (q.added n h);
+    given = λ t h. absurd (q.reads h);
+    tab = tab;
+  }
+
+  silent_adds : (v w : View X) (earlier : List Served) (s : Served) → IsSilent s.answer → s.drew ≡ None → Tells r w earlier s → IsIdle v w → Adds r v earlier s w
+  silent_adds v w earlier s q none tells idle = record {
+    keeps = idle.keeps;
+    drawn = λ x. idle.drawn x ∙ (let z : one_if (drew_version x s) ≡ 0 = ap one_if (ap (is_drawn x) none) in omega arith);
+    draws = idle.draws ∙ (let z : one_if (drew_some s) ≡ 0 = ap one_if (ap has_drawn none) in omega arith);
+    deeds = λ d h. inl (subst (λ (l : List Deed). Contains l d) idle.deeds h);
+    fresh = λ a e h. absurd (contains_none e (subst (λ (l : List ℕ). Contains l e) (q.epochs s.opened s.looked) h.shown));
+    tells = tells;
+    parts = λ t e bytes h. absurd (q.part e bytes h);
+  }
+
+  -- lines at marks
+
+  not_offered : (s : Served) (q : Request) (a : Answer) → AtMark q a → (url : List ℕ) (body : Body) → Offers q url body → ⊥
+  not_offered s (Put url body) a at other_url other_body h = at
+  not_offered s (Save url body) a at other_url other_body h = at
+  not_offered s (Get url) a at other_url other_body h = at
+  not_offered s (Purge url) a at other_url other_body h = at
+  not_offered s (Begin tab url body) a at other_url other_body h = at
+  not_offered s (Add tab count) a at other_url other_body h = at
+  not_offered s (End tab) a at other_url other_body h = at
+  not_offered s (DropTab tab) a at other_url other_body h = at
+  not_offered s (OpenTab tab url) a at other_url other_body h = at
+  not_offered s (More tab) a at other_url other_body h = at
+  not_offered s (CloseTab tab) a at other_url other_body h = at
+  not_offered s (Mark mark) a at other_url other_body h = h
+  not_offered s (Await mark) a at other_url other_body h = h
+
+  mark_silent : (q : Request) (a : Answer) → AtMark q a → IsSilent a
+  mark_silent (Put url body) a at = absurd at
+  mark_silent (Save url body) a at = absurd at
+  mark_silent (Get url) a at = absurd at
+  mark_silent (Purge url) a at = absurd at
+  mark_silent (Begin tab url body) a at = absurd at
+  mark_silent (Add tab count) a at = absurd at
+  mark_silent (End tab) a at = absurd at
+  mark_silent (DropTab tab) a at = absurd at
+  mark_silent (OpenTab tab url) a at = absurd at
+  mark_silent (More tab) a at = absurd at
+  mark_silent (CloseTab tab) a at = absurd at
+  mark_silent (Mark mark) a at = subst IsSilent (sym at) silent_marked
+  mark_silent (Await mark) a at = ⊎_elim (λ (z : a ≡ answer.Met). subst IsSilent (sym z) silent_met) (λ (z : a ≡ answer.Unmet). subst IsSilent (sym z) silent_unmet) at
+
+  mark_answers : (q : Request) (a : Answer) → AtMark q a → IsAnswerTo q a
+  mark_answers (Put url body) a at = absurd at
+  mark_answers (Save url body) a at = absurd at
+  mark_answers (Get url) a at = absurd at
+  mark_answers (Purge url) a at = absurd at
+  mark_answers (Begin tab url body) a at = absurd at
+  mark_answers (Add tab count) a at = absurd at
+  mark_answers (End tab) a at = absurd at
+  mark_answers (DropTab tab) a at = absurd at
+  mark_answers (OpenTab tab url) a at = absurd at
+  mark_answers (More tab) a at = absurd at
+  mark_answers (CloseTab tab) a at = absurd at
+  mark_answers (Mark mark) a at = subst (IsAnswerTo (Mark mark)) (sym at) tt
+  mark_answers (Await mark) a at = ⊎_elim (λ (z : a ≡ answer.Met). subst (IsAnswerTo (Await mark)) (sym z) tt) (λ (z : a ≡ answer.Unmet). subst (IsAnswerTo (Await mark)) (sym z) tt) at
+
+  mark_fits : (earlier : List Served) (q : Request) (a : Answer) → AtMark q a → Fits earlier q
+  mark_fits earlier (Put url body) a at = absurd at
+  mark_fits earlier (Save url body) a at = absurd at
+  mark_fits earlier (Get url) a at = absurd at
+  mark_fits earlier (Purge url) a at = absurd at
+  mark_fits earlier (Begin tab url body) a at = absurd at
+  mark_fits earlier (Add tab count) a at = absurd at
+  mark_fits earlier (End tab) a at = absurd at
+  mark_fits earlier (DropTab tab) a at = absurd at
+  mark_fits earlier (OpenTab tab url) a at = absurd at
+  mark_fits earlier (More tab) a at = absurd at
+  mark_fits earlier (CloseTab tab) a at = absurd at
+  mark_fits earlier (Mark mark) a at = tt
+  mark_fits earlier (Await mark) a at = tt
+
+  mark_no_tab : (q : Request) (a : Answer) → AtMark q a → a ≢ answer.Tab
+  mark_no_tab (Put url body) a at h = absurd at
+  mark_no_tab (Save url body) a at h = absurd at
+  mark_no_tab (Get url) a at h = absurd at
+  mark_no_tab (Purge url) a at h = absurd at
+  mark_no_tab (Begin tab url body) a at h = absurd at
+  mark_no_tab (Add tab count) a at h = absurd at
+  mark_no_tab (End tab) a at h = absurd at
+  mark_no_tab (DropTab tab) a at h = absurd at
+  mark_no_tab (OpenTab tab url) a at h = absurd at
+  mark_no_tab (More tab) a at h = absurd at
+  mark_no_tab (CloseTab tab) a at h = absurd at
+  mark_no_tab (Mark mark) a at h = let z : answer.Marked ≡ answer.Tab = sym at ∙ h in cc
+  mark_no_tab (Await mark) a at h = ⊎_elim (λ (k : a ≡ answer.Met). let z : answer.Met ≡ answer.Tab = sym k ∙ h in cc) (λ (k : a ≡ answer.Unmet). let z : answer.Unmet ≡ answer.Tab = sym k ∙ h in cc) at
+
+  pub mark_adds : (v w : View X) (earlier : List Served) (s : Served) → IsMarkLine s → IsIdle v w → Adds r v earlier s w
+  mark_adds v w earlier s m idle =
+      let q = mark_silent s.line.request s.answer m.at in
+      silent_adds v w earlier s q m.drew
+      (silent_tells w earlier s q (mark_answers s.line.request s.answer m.at) m.drew (λ url body h. absurd (not_offered s s.line.request s.answer m.at url body h))
+      ((λ h. absurd (mark_no_tab s.line.request s.answer m.at h)), (λ n. absurd (n (mark_fits earlier s.line.request s.answer m.at)))))
+      idle
+
+  -- lines whose tab was not as they needed it
+
+  tab_answers : (earlier : List Served) (q : Request) → ¬ Fits earlier q → IsAnswerTo q answer.Tab
+  tab_answers earlier (Put url body) n = absurd (n tt)
+  tab_answers earlier (Save url body) n = absurd (n tt)
+  tab_answers earlier (Get url) n = absurd (n tt)
+  tab_answers earlier (Purge url) n = absurd (n tt)
+  tab_answers earlier (Begin tab url body) n = tt
+  tab_answers earlier (Add tab count) n = tt
+  tab_answers earlier (End tab) n = tt
+  tab_answers earlier (DropTab tab) n = tt
+  tab_answers earlier (OpenTab tab url) n = tt
+  tab_answers earlier (More tab) n = tt
+  tab_answers earlier (CloseTab tab) n = tt
+  tab_answers earlier (Mark mark) n = absurd (n tt)
+  tab_answers earlier (Await mark) n = absurd (n tt)
+
+  pub tab_adds : (v w : View X) (earlier : List Served) (s : Served) → IsTabLine r earlier s → IsIdle v w → Adds r v earlier s w
+  tab_adds v w earlier s m idle =
+      let q : IsSilent s.answer = subst IsSilent (sym m.answered) silent_tab in
+      silent_adds v w earlier s q m.drew
+      (silent_tells w earlier s q (subst (IsAnswerTo s.line.request) (sym m.answered) (tab_answers earlier s.line.request m.unfit)) m.drew m.offered
+      ((λ h. m.unfit), (λ n. m.answered)))
+      idle
