@@ -18,14 +18,14 @@ use Rattle.script_text.specs.declared.request.Request.{Request}
 use Rattle.script_text.specs.declared.request.Request.TheVariants.{Get, Purge, Put}
 use Rattle.core_model.specs.declared.view.View.{View}
 use Rattle.core_model.specs.Anchors.{opening_counter}
-use Rattle.line_account.specs.Lines.{IsAnchorOf, IsAt, LineOf, Offers, Served, gives_up, offers, url_in, writing, url_at, begins, ends}
+use Rattle.line_account.specs.Lines.{LineOf, Offers, Served, gives_up, offers, url_in, writing, url_at, begins, ends}
 use Rattle.line_account.specs.Deeds.{Began, Begins as BeginsVersion, Halts}
 use Rattle.line_account.specs.Answers.{Run}
 use Rattle.line_account.specs.Accounts.{Shows, epochs_of}
 use Rattle.line_account.specs.Courses.{Stage, lines_in}
 use Rattle.line_account.specs.Closing.{BegunIn, Closed, HaltedIn, LineIn, ShownIn, Worker, offered, offered_by}
 use Rattle.line_account.specs.Printed.{HitIn, PrintsHit}
-use Rattle.line_account.specs.Order.{NotBelow, StandsAt, counts_as, version_alone, OpensOrStores}
+use Rattle.line_account.specs.Order.{NotBelow, counts_as, version_alone, OpensOrStores}
 use Rattle.line_account.specs.Parts.{IsCourseOf}
 use Rattle.line_account.specs.Alone.{alone, next_version}
 use Rattle.line_account.proofs.Gathered.{one_line, same_line}

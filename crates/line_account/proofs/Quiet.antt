@@ -1,6 +1,6 @@
 -- What steps add is kept, and lines that ask nothing of the store add nothing.
-use Rattle.std.proofs.Common.{◌≡◌, ◌≢◌, ◌⊎◌, inl, inr, ⊎_elim, ℕ, ◌+◌, ◌<◌, ◌≤◌, List, [], ◌∷◌, ◌++◌, sym, refl, ap, ◌∙◌, subst, arith, Bool, true, false, cond, Contains}
-use Rattle.std.specs.Prelude.{None, Some, ◌↔◌}
+use Rattle.std.proofs.Common.{◌≡◌, ◌≢◌, ◌⊎◌, inl, inr, ⊎_elim, ℕ, ◌+◌, List, [], ◌∷◌, ◌++◌, sym, refl, ap, ◌∙◌, subst, arith, true, false, Contains}
+use Rattle.std.specs.Prelude.{None, ◌↔◌}
 use Rattle.std.proofs.lemmas.List.Elements.{Contains-append_cases, Contains-append_right}
 use Rattle.lock_word.specs.declared.cause.Cause.{Cause}
 use Rattle.lock_word.specs.declared.word.Word.{Word}
@@ -14,11 +14,11 @@ use Rattle.core_model.specs.declared.view.Deed.{Deed}
 use Rattle.core_model.specs.declared.view.Item.{Item}
 use Rattle.core_model.specs.declared.view.Sight.{Sight}
 use Rattle.core_model.specs.declared.view.View.{View}
-use Rattle.core_model.specs.Trails.{draws_version, drawn, draws, is_draw}
+use Rattle.core_model.specs.Trails.{drawn, draws}
 use Rattle.core_model.proofs.Lists.{contains_none}
 use Rattle.line_account.specs.Lines.{Fits, Offers, Served, gives_up}
 use Rattle.line_account.specs.Requests.{IsAnswerTo}
-use Rattle.line_account.specs.Deeds.{Began, IsDeedOf}
+use Rattle.line_account.specs.Deeds.{Began}
 use Rattle.line_account.specs.Answers.{ComesIn, Reads, Refuses, Run}
 use Rattle.line_account.specs.Accounts.{IsOffered, Tells, drew_some, drew_version, epochs_of, has_drawn, is_drawn}
 use Rattle.line_account.specs.Courses.{Adds, Keeps, one_if}

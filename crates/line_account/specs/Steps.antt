@@ -1,5 +1,5 @@
 -- What steps add to a view, and lines that ask nothing of the store.
-use Rattle.std.specs.Prelude.{List, None, ◌++◌, ◌≡◌, ◌⊎◌, ◌+◌, Contains, ℕ}
+use Rattle.std.specs.Prelude.{List, None, ◌++◌, ◌≡◌, ◌⊎◌, ℕ}
 use Rattle.script_text.specs.declared.answer.Answer.{Answer}
 use Rattle.script_text.specs.declared.answer.Answer.TheVariants as answer
 use Rattle.script_text.specs.declared.body.Body.{Body}
