@@ -16,3 +16,4 @@ pub mod Gathering
 pub mod SlotHands
 pub mod LinkMoves
 pub mod Turning
+pub mod Lending

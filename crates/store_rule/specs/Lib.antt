@@ -6,5 +6,6 @@ pub mod Machine
 pub mod Tabs
 pub mod Notes
 pub mod Passes
+pub mod Lending
 pub mod Turns
 pub mod Closing

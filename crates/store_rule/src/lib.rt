@@ -2,6 +2,7 @@
 //! is sound.
 #![tactic(auto)]
 
+mod buffers;
 mod cells;
 mod closing;
 mod layout;
@@ -18,6 +19,7 @@ mod tab_slots;
 mod tabs;
 mod turns;
 
+pub use buffers::lending_keeps_passes;
 pub use opening::NoRoom;
 pub use rule::{About, Origin};
 pub use store::{Desk, Note, Pass, Store};

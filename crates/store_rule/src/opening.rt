@@ -8,6 +8,7 @@ ghost use Rattle.store_rule.specs.Setting.{IsRow, IsSettled, basis_of};
 ghost use Rattle.store_rule.specs.Told.{Stands, the_view};
 ghost use Rattle.store_rule.specs.Passes.{AreHands};
 
+use crate::buffers::Desks;
 use crate::cells::{from_places, to_places};
 use crate::rule::{About, Off, Origin, Rule};
 use crate::store::{Desk, Pass, Store};
@@ -24,7 +25,7 @@ use std::snapshot::Snapshot;
 pub(crate) struct Hands {
     pub(crate) tabs: Row<At>,
     pub(crate) left: Row<u64>,
-    pub(crate) desks: Row<Desk>,
+    pub(crate) desks: Desks,
 }
 
 /// The longest URL that a script can name, in bytes.
@@ -55,7 +56,7 @@ fn new_hands(alloc: Global, slot: u32) -> Result<Hands, AllocError>
     Ok(Hands {
         tabs: Row::from_vec(vec![in alloc; At::Free; 9]?),
         left: Row::from_vec(vec![in alloc; 0u64; 9]?),
-        desks: Row::from_vec(desks(alloc, slot)?),
+        desks: Desks::from_vec(desks(alloc, slot)?),
     })
 }
 

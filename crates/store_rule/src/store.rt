@@ -3,6 +3,7 @@ ghost use Rattle.std.specs.Prelude.{◌≡◌, ◌+◌, ◌*◌, ◌<◌, ◌≤
 ghost use Rattle.store_rule.specs.Told.{the_view};
 ghost use Rattle.store_rule.specs.Tabs.{tabs_at};
 
+use crate::buffers::Desks;
 use crate::rule::{About, Origin, Rule};
 use crate::tabs::{At, ReadingAt, WritingAt, anchor_at, held_at};
 use atomic_table::{Seat, Table};
@@ -35,7 +36,7 @@ pub struct Pass<C> {
     pub(crate) tabs: Row<At>,
     /// The word that each tab left when it last left or raised its anchor.
     pub(crate) left: Row<u64>,
-    pub(crate) desks: Row<Desk>,
+    pub(crate) desks: Desks,
     /// Where the next search for an entry to evict begins, an anchor.
     pub(crate) hand: u32,
     /// The first pass keeps the emptied vector in which the cells came. They go back in it. It lies here
