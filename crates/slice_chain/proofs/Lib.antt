@@ -1,2 +1,4 @@
 pub mod Naming
 pub mod Linking
+pub mod Writing
+pub mod ReadingSlots

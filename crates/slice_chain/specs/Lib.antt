@@ -1,2 +1,5 @@
 pub mod Names
 pub mod Links
+pub mod Written
+pub mod Writes
+pub mod Reads

@@ -4,8 +4,11 @@
 //! None of these calls takes memory or waits. A tab is the number of one of the nine tabs of the pass.
 #![tactic(auto)]
 
+mod cells;
 mod links;
 mod names;
+mod slots;
 
 pub use links::{link, publish};
 pub use names::{entry_key, entry_offer, name_entry};
+pub use slots::{read_slot, write_slot};

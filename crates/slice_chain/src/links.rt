@@ -73,7 +73,7 @@ fn locate<C: Cell, O: Origin>(store: &Store<C, O>, pass: &mut Pass<C>, tab: u8) 
 }
 
 // The slot at a reading tab's place, where it knows it.
-fn slot_at<C>(pass: &Pass<C>, tab: u8) -> Option<u32>
+pub(crate) fn slot_at<C>(pass: &Pass<C>, tab: u8) -> Option<u32>
     requires { tab < 9 }
     ensures { result ≡ slot_known (tab_at (view pass.now) tab) }
 {
