@@ -140,4 +140,3 @@ fn freed_at(at: At) -> At
         loose,
     }
 }
-

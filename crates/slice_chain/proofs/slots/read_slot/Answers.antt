@@ -52,14 +52,19 @@ pub returns-clause-ok : goal.returns-clause-ok
 returns-clause-ok g c = let a = c.args in let s = a.store.now in let p = a.pass.now in let may = c.requires in let slot = c.in-Some.slot in
     let e = known_slot g.C.Cell.tells g.C.Cell.state g.O.Origin.offers s a.tab p may slot (sym c.in-Some.is ∙ c.slot_at.ensures) in let out = c.cell_out-cell in let got = c.read_cell-result in
     when_ok got.result c.is_ok.result _ _ c.is_ok.ensures.value got.ensures.read
-    (λ done h. (shown g.C.Cell.tells g.C.Cell.state (taken g.C.Cell.tells g.C.Cell.state g.O.Origin.offers s a.tab p may slot e c.wait_turn.new.pass c.wait_turn.ensures out.result out.new.pass out.ensures.out out.ensures.kept).cell, record {
-      read = subst (λ (b : Bool). ReadSlot (basis g.C.Cell.tells g.C.Cell.state g.O.Origin.offers s) a.tab (view p) b (shown g.C.Cell.tells g.C.Cell.state (taken g.C.Cell.tells g.C.Cell.state g.O.Origin.offers s a.tab p may slot e c.wait_turn.new.pass c.wait_turn.ensures out.result out.new.pass out.ensures.out out.ensures.kept).cell) (view c.end_turn.new.pass)) done (read g.C.Cell.tells g.C.Cell.state g.O.Origin.offers s a.tab p may slot e c.wait_turn.new.pass c.wait_turn.ensures out.result out.new.pass out.ensures.out out.ensures.kept got.new.cell got.ensures.cell got.ensures.lent.0 got.new.pass got.ensures.lent.1 c.cell_in.new.pass c.cell_in.ensures.home c.cell_in.ensures.kept c.is_ok.result c.end_turn.new.pass c.end_turn.ensures);
-      bytes = read_bytes g.C.Cell.tells g.C.Cell.state g.O.Origin.offers s a.tab p may slot e c.wait_turn.new.pass c.wait_turn.ensures out.result out.new.pass out.ensures.out out.ensures.kept got.new.cell got.ensures.cell got.ensures.lent.0 got.new.pass got.ensures.lent.1 c.cell_in.new.pass c.cell_in.ensures.home c.cell_in.ensures.kept c.is_ok.result c.end_turn.new.pass c.end_turn.ensures h;
-    }))
+    (λ done h. (
+      shown g.C.Cell.tells g.C.Cell.state (taken g.C.Cell.tells g.C.Cell.state g.O.Origin.offers s a.tab p may slot e c.wait_turn.new.pass c.wait_turn.ensures out.result out.new.pass out.ensures.out out.ensures.kept).cell,
+      record {
+        read = subst (λ (b : Bool). ReadSlot (basis g.C.Cell.tells g.C.Cell.state g.O.Origin.offers s) a.tab (view p) b (shown g.C.Cell.tells g.C.Cell.state (taken g.C.Cell.tells g.C.Cell.state g.O.Origin.offers s a.tab p may slot e c.wait_turn.new.pass c.wait_turn.ensures out.result out.new.pass out.ensures.out out.ensures.kept).cell) (view c.end_turn.new.pass)) done (read g.C.Cell.tells g.C.Cell.state g.O.Origin.offers s a.tab p may slot e c.wait_turn.new.pass c.wait_turn.ensures out.result out.new.pass out.ensures.out out.ensures.kept got.new.cell got.ensures.cell got.ensures.lent.0 got.new.pass got.ensures.lent.1 c.cell_in.new.pass c.cell_in.ensures.home c.cell_in.ensures.kept c.is_ok.result c.end_turn.new.pass c.end_turn.ensures);
+        bytes = read_bytes g.C.Cell.tells g.C.Cell.state g.O.Origin.offers s a.tab p may slot e c.wait_turn.new.pass c.wait_turn.ensures out.result out.new.pass out.ensures.out out.ensures.kept got.new.cell got.ensures.cell got.ensures.lent.0 got.new.pass got.ensures.lent.1 c.cell_in.new.pass c.cell_in.ensures.home c.cell_in.ensures.kept c.is_ok.result c.end_turn.new.pass c.end_turn.ensures h;
+      },
+    ))
 
 pub returns-clause-err : goal.returns-clause-err
 returns-clause-err g c = let a = c.args in let s = a.store.now in let p = a.pass.now in let may = c.requires in let slot = c.in-Some.slot in
     let e = known_slot g.C.Cell.tells g.C.Cell.state g.O.Origin.offers s a.tab p may slot (sym c.in-Some.is ∙ c.slot_at.ensures) in let out = c.cell_out-cell in let got = c.read_cell-result in
     when_err got.result c.is_ok.result _ c.is_ok.ensures.value
-    (λ done. (shown g.C.Cell.tells g.C.Cell.state (taken g.C.Cell.tells g.C.Cell.state g.O.Origin.offers s a.tab p may slot e c.wait_turn.new.pass c.wait_turn.ensures out.result out.new.pass out.ensures.out out.ensures.kept).cell,
-    subst (λ (b : Bool). ReadSlot (basis g.C.Cell.tells g.C.Cell.state g.O.Origin.offers s) a.tab (view p) b (shown g.C.Cell.tells g.C.Cell.state (taken g.C.Cell.tells g.C.Cell.state g.O.Origin.offers s a.tab p may slot e c.wait_turn.new.pass c.wait_turn.ensures out.result out.new.pass out.ensures.out out.ensures.kept).cell) (view c.end_turn.new.pass)) done (read g.C.Cell.tells g.C.Cell.state g.O.Origin.offers s a.tab p may slot e c.wait_turn.new.pass c.wait_turn.ensures out.result out.new.pass out.ensures.out out.ensures.kept got.new.cell got.ensures.cell got.ensures.lent.0 got.new.pass got.ensures.lent.1 c.cell_in.new.pass c.cell_in.ensures.home c.cell_in.ensures.kept c.is_ok.result c.end_turn.new.pass c.end_turn.ensures)))
+    (λ done. (
+      shown g.C.Cell.tells g.C.Cell.state (taken g.C.Cell.tells g.C.Cell.state g.O.Origin.offers s a.tab p may slot e c.wait_turn.new.pass c.wait_turn.ensures out.result out.new.pass out.ensures.out out.ensures.kept).cell,
+      subst (λ (b : Bool). ReadSlot (basis g.C.Cell.tells g.C.Cell.state g.O.Origin.offers s) a.tab (view p) b (shown g.C.Cell.tells g.C.Cell.state (taken g.C.Cell.tells g.C.Cell.state g.O.Origin.offers s a.tab p may slot e c.wait_turn.new.pass c.wait_turn.ensures out.result out.new.pass out.ensures.out out.ensures.kept).cell) (view c.end_turn.new.pass)) done (read g.C.Cell.tells g.C.Cell.state g.O.Origin.offers s a.tab p may slot e c.wait_turn.new.pass c.wait_turn.ensures out.result out.new.pass out.ensures.out out.ensures.kept got.new.cell got.ensures.cell got.ensures.lent.0 got.new.pass got.ensures.lent.1 c.cell_in.new.pass c.cell_in.ensures.home c.cell_in.ensures.kept c.is_ok.result c.end_turn.new.pass c.end_turn.ensures),
+    ))
