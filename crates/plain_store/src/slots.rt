@@ -10,7 +10,7 @@ use plain_model::{Life, Place, Plain, Refusal, Setting, Size};
 const MOST_SLOTS: u64 = 4096;
 
 /// How many slots an anchor's entry holds.
-fn held(room: u32, place: &Place) -> u64
+pub(crate) fn held(room: u32, place: &Place) -> u64
     requires { 0 < room }
     ensures { result ≡ held room place.now }
 {

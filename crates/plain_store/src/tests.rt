@@ -2,6 +2,7 @@ ghost use Rattle.std.specs.Prelude.{◌≡◌, ◌<◌, ◌≤◌, length, IfOk,
 ghost use Rattle.rebuild_model.specs.Image.{IsFile};
 ghost use Rattle.plain_store.specs.Servable.{IsServable};
 
+use crate::slots::held;
 use crate::{answers_of, fresh, good_lines_are_servable, opened};
 use answer_text::answer_line;
 use plain_model::{Kept, Plain, Setting, Size, Text};
@@ -122,6 +123,36 @@ fn stored_and_read(rt: HostRuntime) -> Result<(), Fail> {
             plain(b"1 put http://a/b #431:0", b"STORED 4"),
         ],
     )
+}
+
+/// The version, the slots and the bytes of the body of the one entry that a new store of four slots and
+/// one anchor has once this line was served.
+fn entry_left(alloc: Global, text: &[u8]) -> Result<(u32, u64, usize), Fail> {
+    let setting = Setting {
+        slots: 4,
+        room: 472,
+        anchors: 1,
+    };
+    let script = lines_of(alloc, text)?;
+    let store = fresh(alloc, 1)?;
+    let served = answers_of(alloc, &setting, script.as_slice(), 1, store)?;
+    for place in served.store.places.as_slice() {
+        if let Some(entry) = &place.entry {
+            let body = entry.body.as_slice().len();
+            return Ok((place.version, held(472, place), body));
+        }
+    }
+    Err(Fail::from("no entry"))
+}
+
+#[test]
+fn stored_and_listed(rt: HostRuntime) -> Result<(), Fail> {
+    let alloc = rt.alloc();
+    let one = entry_left(alloc, b"1 put http://a/b #430:0")?;
+    assert_eq!(rt; one, (1, 1, 430));
+    let two = entry_left(alloc, b"1 put http://a/b #431:0")?;
+    assert_eq!(rt; two, (1, 2, 431));
+    Ok(())
 }
 
 #[test]
@@ -371,6 +402,37 @@ fn long_urls(rt: HostRuntime) -> Result<(), Fail> {
                 format!(in alloc; "1 get {longest}")?.as_bytes(),
                 b"HIT 1 1 78",
             ),
+        ],
+    )?;
+    let left = entry_left(alloc, format!(in alloc; "1 put {longest} =x")?.as_bytes())?;
+    assert_eq!(rt; left, (1, 2, 1));
+    Ok(())
+}
+
+#[test]
+fn private_lines_alone(rt: HostRuntime) -> Result<(), Fail> {
+    let alloc = rt.alloc();
+    let (u, w) = (url_at(alloc, 0)?, url_at(alloc, 1)?);
+    let put_u = format!(in alloc; "1 put {u} =y")?;
+    let get_u = format!(in alloc; "1 get {u}")?;
+    shows(
+        &rt,
+        4,
+        2,
+        &[
+            plain(format!(in alloc; "1 put {w} =x")?.as_bytes(), b"STORED 1"),
+            plain(put_u.as_bytes(), b"STORED 2"),
+            plain(format!(in alloc; "1 get {w}")?.as_bytes(), b"HIT 1 1 78"),
+            plain(get_u.as_bytes(), b"HIT 2 1 79"),
+        ],
+    )?;
+    shows(
+        &rt,
+        4,
+        2,
+        &[
+            plain(put_u.as_bytes(), b"STORED 1"),
+            plain(get_u.as_bytes(), b"HIT 1 1 79"),
         ],
     )
 }
