@@ -31,7 +31,7 @@ use Rattle.line_account.specs.Alone.{alone, next_version}
 use Rattle.line_account.proofs.Gathered.{one_line, same_line}
 use Rattle.line_account.proofs.Versions.{bounded, halted_by}
 use Rattle.line_account.proofs.Printing.{hit_of_new, spent_bounds}
-use Rattle.line_account.proofs.Ordering.{not_below_earlier}
+use Rattle.line_account.proofs.Ordering.{not_below_earlier, stage_in}
 
 abbrev one_of : Bool → ℕ
 one_of b = cond b 1 0
@@ -171,14 +171,15 @@ module _ {X : Type 0} (r : Run X) (w : Worker X) (c : Closed r (alone w)) where
       halts_not s url e a (version_of (epoch_number e)) is q m (halted_by r (alone w) c a (epoch_number e) shown four)
 
 module _ {X : Type 0} (r : Run X) (w : Worker X) where
-  pub no_hit : (start : View X) (p g : Stage X) (url bytes : List ℕ) (e : Epoch) (y : ℕ) → IsCourseOf r w start (g ∷ p ∷ []) → p.served.line.request ≡ Purge url → p.served.answer ≡ answer.Purged e → e.doom ≡ true
+  pub no_hit : (start : View X) (p g : Stage X) (url bytes : List ℕ) (e : Epoch) (y : ℕ) → IsCourseOf r w start (g ∷ p ∷ []) → p.served.line.request ≡ Purge url → p.served.answer ≡ answer.Purged e
       → g.served.line.request ≡ Get url → g.served.answer ≡ answer.Hit y bytes → version_of (epoch_number e) ≡ y → ⊥
-  no_hit start p g url bytes e y o pq pa doom gq ga same =
+  no_hit start p g url bytes e y o pq pa gq ga same =
       let a : ℕ = anchor_of (key_of url) r.setting.anchors in
       let order : NotBelow (epoch_number e) g.served.answer = not_below_earlier r start (g ∷ p ∷ []) o.last g p (p ∷ []) [] a (epoch_number e) o.course
       (record { in_ = record { later = []; split = refl }; at = record { url = url; named_is = ap (url_at (lines_in (p ∷ []))) gq; anchor = refl } })
       (record { in_ = record { later = []; split = refl }; at = record { url = url; named_is = ap (url_at []) pq; anchor = refl } })
       (subst (λ (z : Answer). Contains (counts_as z) (epoch_number e)) (sym pa) (0, omega arith, refl)) in
+      let doom : e.doom ≡ true = (stage_in r start (g ∷ p ∷ []) (g ∷ []) p [] o.last refl o.course).adds.tells.purged e pa in
       let undoomed : doom_of (epoch_number e) ≡ 0 = order.undoomed y (subst (λ (z : Answer). OpensOrStores z y) (sym ga) refl) same in
       let doomed : doom_of (epoch_number e) ≡ 1 = doom_of-epoch_number e ∙ ap doom_number doom in
       omega arith

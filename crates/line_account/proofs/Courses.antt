@@ -144,6 +144,7 @@ module _ {X : Type 0} (r : Run X) (v w : View X) (h : Keeps v w) where
     other = λ y q. other_later earlier s (t.other y q);
     halted = t.halted;
     part = t.part;
+    purged = t.purged;
     added = λ count q. added_later earlier s count (t.added count q);
     given = λ y q. given_later earlier s (t.given y q);
     tab = t.tab;

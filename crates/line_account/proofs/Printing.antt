@@ -29,12 +29,12 @@ use Rattle.core_model.specs.declared.view.View.{View}
 use Rattle.core_model.specs.Anchors.{opening_counter}
 use Rattle.core_model.specs.Deeds.{EnteredByAnother, EvictedVersion, HaltedVersion, IsDone, IsEpochAt}
 use Rattle.line_account.specs.Lines.{Fits, LineOf, Offers, Served, added, begun_of, url_in, writing}
-use Rattle.line_account.specs.Deeds.{Begins, ComesTo, IsDeedOf, IsDeedOfEnd, MayEvict}
+use Rattle.line_account.specs.Deeds.{Began, BeganOnTab, Begins, ComesTo, IsDeedOf, IsDeedOfEnd, MayEvict}
 use Rattle.line_account.specs.Requests.{IsAnswerTo}
 use Rattle.line_account.specs.Answers.{ComesIn, HasGiven, HasItem, IsSure, bytes_with, HasOther, IsCauseOf, IsEntryAt, IsLong, IsSpent, ReadAs, Refuses, Run}
 use Rattle.line_account.specs.Accounts.{epoch_in}
 use Rattle.line_account.specs.Closing.{BegunIn, Closed, LineIn, ShownIn, Worker, offered}
-use Rattle.line_account.specs.Printed.{AnotherComes, AreFirstOnes, IsStored, ReadsOf, GivenBackIn, HasBusyWords, HasOtherUrl, HitIn, IsBodyOfLine, IsKeyOfLine, IsOldBody, IsOldUrl, KeyIn, NeedsTooMany, PrintsAdded, PrintsHit, PrintsKey, PrintsLarge, PrintsOther, PrintsReaders, old_offer}
+use Rattle.line_account.specs.Printed.{AnotherComes, EndsBegun, AreFirstOnes, IsStored, ReadsOf, GivenBackIn, HasBusyWords, HasOtherUrl, HitIn, IsBodyOfLine, IsKeyOfLine, IsOldBody, IsOldUrl, KeyIn, NeedsTooMany, PrintsAdded, PrintsHit, PrintsKey, PrintsLarge, PrintsOther, PrintsReaders, old_offer}
 use Rattle.line_account.proofs.Gathered.{DeedIn, by_line, counter_below, counter_is, deed_in, shown_known, tells_at}
 use Rattle.line_account.proofs.Versions.{halted_in}
 use Rattle.line_account.proofs.Names.{HasOffer, begun_among, names_of, offer_of, offered_url}
@@ -328,3 +328,22 @@ module _ {X : Type 0} (r : Run X) (crew : List (Worker X)) (c : Closed r crew) w
               },
             );
           })
+
+  pub purged_told : (e : Epoch) → LineIn crew (λ earlier s. s.answer ≡ answer.Purged e) → e.doom ≡ true
+  purged_told e p = (tells_at r crew c (λ earlier s. s.answer ≡ answer.Purged e) p).purged e p.line_of.so
+
+  -- Ends of writings.
+
+  pub end_of_begun : (version x : ℕ) → LineIn crew (λ earlier s. EndsBegun earlier s version x) → x ≡ version
+  end_of_begun version x p =
+      let l = p.line_of in
+      let f = (tells_at r crew c (λ earlier s. EndsBegun earlier s version x) p).finished x l.so.printed in
+      let k : Some f.grows.writes.first ≡ Some l.so.first = sym f.grows.writes.begun_is ∙ ap (begun_of l.earlier l.line) l.so.request ∙ l.so.begun_is in
+      let same : f.grows.writes.first ≡ l.so.first = cc in
+      let among = begun_among l.earlier l.line l.so.first l.line.line.request (ap (begun_of l.earlier l.line) l.so.request ∙ l.so.begun_is) in
+      let told = (c.accounts p.j p.worker p.at).lines (l.later ++ among.front) among.back l.so.first (l.split ∙ ap (λ z. l.later ++ z) among.split ∙ sym (append_assoc l.later among.front (l.so.first ∷ among.back))) in
+      let begun = told.began version (subst (λ (q : Request). Began q l.so.first.answer version) (sym l.so.begins) (subst (λ (a : Answer). BeganOnTab a version) (sym l.so.begun) refl)) in
+      let is : version ≡ begun.version = subst (λ (a : Answer). BeganOnTab a begun.version) l.so.begun (subst (λ (q : Request). Began q l.so.first.answer begun.version) l.so.begins begun.began) in
+      let d : Some x ≡ Some begun.version = sym f.grows.writes.drew ∙ ap Served.drew same ∙ begun.drew in
+      let e : x ≡ begun.version = cc in
+      e ∙ sym is

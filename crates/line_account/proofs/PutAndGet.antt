@@ -187,6 +187,7 @@ module _ {X : Type 0} (r : Run X) (url : List ℕ) (o : OffersNothing r url) whe
     other = λ t h. absurd (let z : answer.Stored x ≡ answer.OtherUrl = h in cc);
     halted = λ bytes h. absurd (let z : answer.Stored x ≡ answer.Halted bytes = h in cc);
     part = λ e bytes h. absurd (let z : answer.Stored x ≡ answer.Part e bytes = h in cc);
+    purged = λ e h. absurd (let z : answer.Stored x ≡ answer.Purged e = h in cc);
     added = λ n h. absurd (let z : answer.Stored x ≡ answer.Added n = h in cc);
     given = λ t h. absurd h;
     tab = ((λ h. absurd (let z : answer.Stored x ≡ answer.Tab = h in cc)), (λ n. absurd (n tt)));
@@ -248,6 +249,7 @@ module _ {X : Type 0} (r : Run X) (url : List ℕ) (o : OffersNothing r url) whe
     other = λ t h. absurd (let z : answer.Hit x [] ≡ answer.OtherUrl = h in cc);
     halted = λ bytes h. absurd (let z : answer.Hit x [] ≡ answer.Halted bytes = h in cc);
     part = λ e bytes h. absurd (let z : answer.Hit x [] ≡ answer.Part e bytes = h in cc);
+    purged = λ e h. absurd (let z : answer.Hit x [] ≡ answer.Purged e = h in cc);
     added = λ n h. absurd (let z : answer.Hit x [] ≡ answer.Added n = h in cc);
     given = λ t h. get_given;
     tab = ((λ h. absurd (let z : answer.Hit x [] ≡ answer.Tab = h in cc)), (λ n. absurd (n tt)));

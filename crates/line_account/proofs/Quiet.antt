@@ -69,6 +69,7 @@ record IsSilent (a : Answer) : Type 0 where
   other : a ≢ answer.OtherUrl
   halted : (bytes : List ℕ) → a ≢ answer.Halted bytes
   part : (e : Epoch) (bytes : List ℕ) → a ≢ answer.Part e bytes
+  purged : (e : Epoch) → a ≢ answer.Purged e
   added : (n : ℕ) → a ≢ answer.Added n
   reads : Reads a → ⊥
 
@@ -118,6 +119,7 @@ silent_tab = record {
   other = λ h. cc;
   halted = λ bytes h. cc;
   part = λ e bytes h. cc;
+  purged = λ e h. cc;
   added = λ n h. cc;
   reads = λ h. h;
 }
@@ -168,6 +170,7 @@ silent_marked = record {
   other = λ h. cc;
   halted = λ bytes h. cc;
   part = λ e bytes h. cc;
+  purged = λ e h. cc;
   added = λ n h. cc;
   reads = λ h. h;
 }
@@ -218,6 +221,7 @@ silent_met = record {
   other = λ h. cc;
   halted = λ bytes h. cc;
   part = λ e bytes h. cc;
+  purged = λ e h. cc;
   added = λ n h. cc;
   reads = λ h. h;
 }
@@ -268,6 +272,7 @@ silent_unmet = record {
   other = λ h. cc;
   halted = λ bytes h. cc;
   part = λ e bytes h. cc;
+  purged = λ e h. cc;
   added = λ n h. cc;
   reads = λ h. h;
 }
@@ -294,6 +299,7 @@ module _ {X : Type 0} (r : Run X) where
     other = λ t h. absurd (q.other h);
     halted = λ bytes h. absurd (q.halted bytes h);
     part = λ e bytes h. absurd (q.part e bytes h);
+    purged = λ e h. absurd (q.purged e h);
     added = λ n h. absurd (q.added n h);
     given = λ t h. absurd (q.reads h);
     tab = tab;

@@ -90,6 +90,7 @@ pub record Tells {X : Type 0} (r : Run X) (v : View X) (earlier : List Served) (
   pub other : IsTrue r.tells → s.answer ≡ answer.OtherUrl → HasOther r v earlier s
   pub halted : (bytes : List ℕ) → s.answer ≡ answer.Halted bytes → stage_of s.looked ≡ 4
   pub part : (e : Epoch) (bytes : List ℕ) → s.answer ≡ answer.Part e bytes → stage_of (epoch_number e) ≡ 2
+  pub purged : (e : Epoch) → s.answer ≡ answer.Purged e → e.doom ≡ true
   pub added : (count : ℕ) → s.answer ≡ answer.Added count → HasAdded r v earlier s count
   pub given : IsTrue r.tells → Reads s.answer → HasGiven r v earlier s
   pub tab : (s.answer ≡ answer.Tab) ↔ ¬ Fits earlier s.line.request  -- exactly where its tab is not as it needs it

@@ -10,7 +10,7 @@ use Rattle.plain_model.specs.Serving.{bytes_of}
 use Rattle.script_text.specs.declared.answer.Answer.{Answer}
 use Rattle.script_text.specs.declared.answer.Answer.TheVariants as answer
 use Rattle.script_text.specs.declared.body.Body.{Body}
-use Rattle.script_text.specs.declared.request.Request.TheVariants.{Add, Get}
+use Rattle.script_text.specs.declared.request.Request.TheVariants.{Add, Begin, End, Get}
 use Rattle.core_model.specs.declared.moves.Side.TheVariants.{Key0, Key1, Offer}
 use Rattle.core_model.specs.declared.view.Place.TheVariants.{Beside}
 use Rattle.core_model.specs.Layout.{word_in}
@@ -146,3 +146,22 @@ pub record AreFirstOnes {X : Type 0} (r : Run X) (crew : List (Worker X)) (a : A
   pub stored : IsStored r crew url body
   pub first_ones : bytes ≡ take (length bytes) body
   pub whole : IsWhole a → bytes ≡ body
+
+-- Ends of writings.
+
+-- a line printed STORED or DOOMED with the version x
+abbrev pub PrintsFinished : Served → ℕ → Type 0
+PrintsFinished s x = (s.answer ≡ answer.Stored x) ⊎ (s.answer ≡ answer.Doomed x)
+
+-- an `end` printed so, on a tab whose writing was begun by a line that printed BEGUN with this version
+pub record EndsBegun (earlier : List Served) (s : Served) (version x : ℕ) : Type 0 where
+  pub tab : ℕ
+  pub request : s.line.request ≡ End tab
+  pub printed : PrintsFinished s x
+  pub first : Served
+  pub begun_is : writing tab earlier ≡ Some first
+  pub named : ℕ
+  pub url : List ℕ
+  pub body : Body
+  pub begins : first.line.request ≡ Begin named url body
+  pub begun : first.answer ≡ answer.Begun version

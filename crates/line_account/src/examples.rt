@@ -41,10 +41,10 @@ pub fn a_lone_spent_number_is_the_counter<X>()
     ensures { (r : Run X) (w : Worker X) (s : Served) (n : ℕ) → Closed r (alone w) → w.served ≡ s ∷ [] → s.answer ≡ Answer.Spent n → opening_counter r.setting ≡ version_limit → n ≡ version_limit }
 {}
 
-/// Behind PURGED with an epoch that is doomed no hit of the URL has its version.
+/// Behind PURGED no hit of the URL has its version.
 pub fn no_hit_follows_a_purge<X>()
     ensures { (r : Run X) (w : Worker X) (start : View X) (p g : Stage X) (url bytes : List ℕ) (e : Epoch) (y : ℕ) → IsCourseOf r w start (g ∷ p ∷ [])
-        → p.served.line.request ≡ Request.Purge url → p.served.answer ≡ Answer.Purged e → e.doom ≡ true
+        → p.served.line.request ≡ Request.Purge url → p.served.answer ≡ Answer.Purged e
         → g.served.line.request ≡ Request.Get url → g.served.answer ≡ Answer.Hit y bytes → version_of (epoch_number e) ≡ y → ⊥ }
 {}
 

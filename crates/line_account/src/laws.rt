@@ -32,7 +32,7 @@ ghost use Rattle.core_model.specs.Trails.{drawn, draws};
 ghost use Rattle.line_account.specs.Accounts.{Account, epoch_in};
 ghost use Rattle.line_account.specs.Courses.{Adds, Begins as BeginsWork, Course, Keeps, Leaves, Stage, lines_in};
 ghost use Rattle.line_account.specs.Steps.{IsAfter, IsIdle, IsMarkLine, IsTabLine};
-ghost use Rattle.line_account.specs.Printed.{AnotherComes, AreFirstOnes, ReadsOf, GivenBackIn, PrintsAdded, HasBusyWords, HasOtherUrl, HitIn, IsBodyOfLine, IsKeyOfLine, IsOldBody, IsOldUrl, KeyIn, NeedsTooMany, PrintsLarge, PrintsOther, PrintsReaders};
+ghost use Rattle.line_account.specs.Printed.{AnotherComes, EndsBegun, AreFirstOnes, ReadsOf, GivenBackIn, PrintsAdded, HasBusyWords, HasOtherUrl, HitIn, IsBodyOfLine, IsKeyOfLine, IsOldBody, IsOldUrl, KeyIn, NeedsTooMany, PrintsLarge, PrintsOther, PrintsReaders};
 ghost use Rattle.line_account.specs.Closing.{Closed, Worker, BegunIn, ShownIn, StoredIn, HaltedIn, PurgedIn, IsSameLine, LineIn, PrintsHalted, PrintsDoomed, SomeHalted, offered};
 
 /// Each version is begun by one line, and at one anchor.
@@ -74,10 +74,12 @@ pub fn halted_entries_were_given_up<X>()
 {}
 
 /// A doomed epoch, and a DOOMED line, comes only where a line printed PURGED with its version.
+/// And the epoch of PURGED is doomed.
 pub fn doomed_entries_were_purged<X>()
     ensures epoch { (r : Run X) (crew : List (Worker X)) (a e : ℕ) → Closed r crew → ShownIn r crew a e → doom_of e ≡ 1 → PurgedIn r crew a (version_of e) }
     ensures line { (r : Run X) (crew : List (Worker X)) (a x : ℕ) → Closed r crew
         → LineIn crew (λ earlier s. PrintsDoomed r.setting.anchors earlier s a x) → PurgedIn r crew a x }
+    ensures purged { (r : Run X) (crew : List (Worker X)) (e : Epoch) → Closed r crew → LineIn crew (λ earlier s. s.answer ≡ Answer.Purged e) → e.doom ≡ true }
 {}
 
 /// A pass of a store that was just opened begins. A worker that begins has an account of no lines; each line that it serves leaves one of that line too,
@@ -238,4 +240,9 @@ pub fn additions_are_kept<X>()
 pub fn quiet_lines_add_nothing<X>()
     ensures mark { (r : Run X) (v w : View X) (earlier : List Served) (s : Served) → IsMarkLine s → IsIdle v w → Adds r v earlier s w }
     ensures tab { (r : Run X) (v w : View X) (earlier : List Served) (s : Served) → IsTabLine r earlier s → IsIdle v w → Adds r v earlier s w }
+{}
+
+/// The version of STORED or DOOMED at `end` is the one with which its tab's writing was begun.
+pub fn ends_tell_the_version_begun<X>()
+    ensures { (r : Run X) (crew : List (Worker X)) (version x : ℕ) → Closed r crew → LineIn crew (λ earlier s. EndsBegun earlier s version x) → x ≡ version }
 {}

@@ -1,4 +1,5 @@
 use Rattle.line_account.proofs.Versions.{doomed_line, purged_by}
+use Rattle.line_account.proofs.Printing.{purged_told}
 use Rattle.line_account.proofs.laws.doomed_entries_were_purged.Goals as goal
 
 pub returns-clause-epoch : goal.returns-clause-epoch
@@ -6,3 +7,6 @@ returns-clause-epoch c start r crew a e closed p doom = purged_by r crew closed 
 
 pub returns-clause-line : goal.returns-clause-line
 returns-clause-line c start r crew a x closed p = doomed_line r crew closed a x p
+
+pub returns-clause-purged : goal.returns-clause-purged
+returns-clause-purged c start r crew e closed p = purged_told r crew closed e p
