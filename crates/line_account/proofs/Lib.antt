@@ -11,3 +11,4 @@ pub mod Idle
 pub mod Alone
 pub mod PutAndGet
 pub mod Quiet
+pub mod Told

@@ -283,7 +283,7 @@ module _ {X : Type 0} (r : Run X) (v : View X) (earlier : List Served) (s : Serv
   reads_of answer.Unmet e x q = absurd q
   reads_of answer.Tab e x q = absurd q
 
-  reads : (x : ℕ) → Opens s.answer x → FoundAt s.opened x
+  pub reads : (x : ℕ) → Opens s.answer x → FoundAt s.opened x
   reads x q = reads_of s.answer refl x q
 
 -- Courses.

@@ -5,7 +5,7 @@ use Rattle.script_text.specs.declared.answer.Answer.{Answer}
 use Rattle.script_text.specs.declared.answer.Answer.TheVariants as answer
 use Rattle.script_text.specs.declared.request.Request.TheVariants.{Await, Mark}
 use Rattle.core_model.specs.declared.view.Sight.{Sight}
-use Rattle.line_account.specs.Lines.{IsAt}
+use Rattle.line_account.specs.Lines.{IsAt, Served}
 use Rattle.line_account.specs.Accounts.{epoch_in}
 use Rattle.line_account.specs.Courses.{Stage, lines_in}
 
@@ -79,3 +79,8 @@ pub record HandsOver {X : Type 0} (mark met : Stage X) : Type 0 where
   pub awaits : met.served.line.request ≡ Await number
   pub meets : met.served.answer ≡ answer.Met
   pub hands : (x : Sight) → Contains mark.before.seen x → Contains met.after.seen x
+
+-- a line at the anchor a printed the version x alone
+pub record PrintsAlone (anchors : ℕ) (earlier : List Served) (s : Served) (a x : ℕ) : Type 0 where
+  pub at : IsAt anchors earlier s a
+  pub alone : version_alone s.answer ≡ Some x

@@ -22,7 +22,7 @@ ghost use Rattle.line_account.specs.Requests.{IsAnswerTo};
 ghost use Rattle.line_account.specs.Parts.{AddsTo, GivesOf, IsCourseOf, PrintsPart};
 ghost use Rattle.line_account.specs.Scripts.{ServesScript, offering};
 ghost use Rattle.line_account.specs.Idle.{idle_workers};
-ghost use Rattle.line_account.specs.Order.{HandsOver, NotBelow, StandsAt, StandsIn, counts_as};
+ghost use Rattle.line_account.specs.Order.{HandsOver, NotBelow, PrintsAlone, StandsAt, StandsIn, counts_as};
 ghost use Rattle.line_account.specs.Answers.{IsCauseOf, IsLong, Refuses, Run, bytes_behind, bytes_with, given_with};
 ghost use Rattle.core_model.specs.declared.view.Deed.{Deed};
 ghost use Rattle.core_model.specs.declared.view.Item.{Item};
@@ -56,6 +56,14 @@ pub fn epochs_have_versions<X>()
         → (version_of e ≡ version_of (opening_epoch r.setting a)) × (stage_of e ≢ 1) × (stage_of e ≢ 2) × (stage_of e ≢ 4) }
     ensures new { (r : Run X) (crew : List (Worker X)) (a e : ℕ) → Closed r crew → ShownIn r crew a e → opening_counter r.setting < version_of e
         → BegunIn r crew a (version_of e) }
+{}
+
+/// So is a version that is printed alone, by BEGUN, STORED, DOOMED, OPEN or HIT.
+pub fn versions_printed_alone_are_known<X>()
+    ensures old { (r : Run X) (crew : List (Worker X)) (a x : ℕ) → Closed r crew → LineIn crew (λ earlier s. PrintsAlone r.setting.anchors earlier s a x)
+        → x ≤ opening_counter r.setting → x ≡ version_of (opening_epoch r.setting a) }
+    ensures new { (r : Run X) (crew : List (Worker X)) (a x : ℕ) → Closed r crew → LineIn crew (λ earlier s. PrintsAlone r.setting.anchors earlier s a x)
+        → opening_counter r.setting < x → BegunIn r crew a x }
 {}
 
 /// A version that a line began is shown CLOSED and not doomed only where a line of its writing printed

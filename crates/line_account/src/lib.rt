@@ -18,5 +18,5 @@ pub use laws::{
     lines_are_in_order, lines_are_in_order_after_marks, more_readers_come_from_others,
     other_urls_have_the_key, parts_are_not_short, parts_are_not_short_after_marks,
     quiet_lines_add_nothing, refusals_have_causes, scripts_bound_what_is_offered,
-    spent_numbers_have_bounds, versions_are_begun_by_one_line,
+    spent_numbers_have_bounds, versions_are_begun_by_one_line, versions_printed_alone_are_known,
 };
