@@ -1,11 +1,10 @@
 -- Versions that are printed alone.
-use Rattle.std.proofs.Common.{◌≡◌, ◌≢◌, ℕ, ◌+◌, ◌*◌, ◌<◌, ◌≤◌, List, [], ◌∷◌, sym, refl, ap, ◌∙◌, subst, arith, Contains}
+use Rattle.std.proofs.Common.{◌≡◌, ℕ, ◌<◌, ◌≤◌, List, [], ◌∷◌, sym, refl, ◌∙◌, subst, arith, Contains}
 use Rattle.std.specs.Prelude.{None, Some}
 use Rattle.lock_word.specs.Words.{epoch_at, version_of}
 use Rattle.script_text.specs.declared.answer.Answer.{Answer}
 use Rattle.script_text.specs.declared.answer.Answer.TheVariants as answer
 use Rattle.core_model.specs.Anchors.{opening_counter, opening_epoch}
-use Rattle.line_account.specs.Lines.{Served}
 use Rattle.line_account.specs.Answers.{Run}
 use Rattle.line_account.specs.Accounts.{epochs_of}
 use Rattle.line_account.specs.Closing.{BegunIn, Closed, LineIn, ShownIn, Worker}
