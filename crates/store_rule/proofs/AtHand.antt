@@ -12,14 +12,17 @@ use Rattle.store_rule.specs.Ground.{Ground}
 use Rattle.core_model.specs.Tabs.{tab_at, anchor_of}
 use Rattle.core_model.specs.Tabs.{stage_held}
 use Rattle.core_model.specs.Table.{left_by}
-use Rattle.core_model.specs.State.{chain_of}
+use Rattle.core_model.specs.State.{State, chain_of}
 use Rattle.core_model.specs.Trails.{last_find}
 use Rattle.core_model.specs.declared.moves.Side.{Side}
-use Rattle.core_model.specs.Chains.{link_of}
+use Rattle.link_word.specs.declared.link.Link.{Link}
+use Rattle.core_model.specs.Chains.{link_of, link_to, rest_of}
+use Rattle.core_model.specs.Told.{LinkFound}
+use Rattle.core_model.proofs.FollowsKept.{link_of_number}
 use Rattle.core_model.specs.SlotMoves.{loaded, looks, stores}
 use Rattle.core_model.specs.CellMoves.{tries, ends}
 use Rattle.core_model.specs.AnchorMoves.{entered, left_tab, raised_tab, writer_of, freer_of, taken_tabs, evicted_tabs}
-use Rattle.store_rule.specs.Tabs.{at_of, tabs_at, anchor_here, stage_here, entered_here, left_here, raised_here, taken_here, new_writing, whole_here, evicted_here, ended_here, followed_here, loaded_here}
+use Rattle.store_rule.specs.Tabs.{at_of, tabs_at, anchor_here, stage_here, entered_here, left_here, raised_here, taken_here, new_writing, whole_here, evicted_here, ended_here, followed_here, freeing_at, loaded_here}
 use Rattle.store_rule.specs.Told.{Steps, found_as}
 use Rattle.store_rule.specs.declared.tabs.At.{At}
 
@@ -159,13 +162,13 @@ module _ {X : Type 0} where
   loaded_at (Last a) side n = refl
   loaded_at (Freeing f) side n = refl
 
-  pub looked_at : (x : Tab X) (n : ℕ) → at_of (looks x n) ≡ followed_here (at_of x) (link_of n)
-  looked_at Free n = refl
-  looked_at (Retreating a) n = refl
-  looked_at (Reading r) n = refl
-  looked_at (Writing w) n = refl
-  looked_at (Last a) n = refl
-  looked_at (Freeing f) n = refl
+  pub looked_at : (s : State X) (x : Tab X) (n : ℕ) → LinkFound s x n → at_of (looks x n) ≡ followed_here (at_of x) (link_of n)
+  looked_at s Free n h = refl
+  looked_at s (Retreating a) n h = refl
+  looked_at s (Reading r) n h = refl
+  looked_at s (Writing w) n h = refl
+  looked_at s (Last a) n h = refl
+  looked_at s (Freeing f) n h = ap (λ (l : Link). At.Freeing (record (freeing_at f) { found = l })) (sym (ap link_of h ∙ link_of_number (link_to (rest_of f.rest) f.behind)))
 
   pub stored_at : (x : Tab X) (side : Side) (n : ℕ) → at_of (stores x side n) ≡ at_of x
   stored_at Free side n = refl
@@ -181,8 +184,8 @@ module _ {X : Type 0} where
   pub loaded_hand : (g : Ground X) (v w : View X) (t : ℕ) (side : Side) (n : ℕ) (y : At) (old new : List At) → old ≡ tabs_at v → y ≡ loaded_here (at_of (tab_at v t)) side n → new ≡ set old t y → Steps g v (LoadSide t side) n w → new ≡ tabs_at w
   loaded_hand g v w t side n y old new hand y_is made st = tab_set v w t _ y old new (ap View.tabs st.leaves) hand (loaded_at (tab_at v t) side n ∙ sym y_is) made
 
-  pub followed_hand : (g : Ground X) (v w : View X) (t slot n : ℕ) (y : At) (old new : List At) → old ≡ tabs_at v → y ≡ followed_here (at_of (tab_at v t)) (link_of n) → new ≡ set old t y → Steps g v (GetLink t slot) n w → new ≡ tabs_at w
-  followed_hand g v w t slot n y old new hand y_is made st = tab_set v w t _ y old new (ap View.tabs st.leaves) hand (looked_at (tab_at v t) n ∙ sym y_is) made
+  pub followed_hand : (g : Ground X) (v w : View X) (t slot n : ℕ) (y : At) (old new : List At) → old ≡ tabs_at v → y ≡ followed_here (at_of (tab_at v t)) (link_of n) → new ≡ set old t y → (st : Steps g v (GetLink t slot) n w) → LinkFound st.state (tab_at v t) n → new ≡ tabs_at w
+  followed_hand g v w t slot n y old new hand y_is made st found = tab_set v w t _ y old new (ap View.tabs st.leaves) hand (looked_at st.state (tab_at v t) n found ∙ sym y_is) made
 
   pub stored_hand : (g : Ground X) (v w : View X) (t : ℕ) (side : Side) (value n : ℕ) (hand : List At) → hand ≡ tabs_at v → Steps g v (StoreSide t side value) n w → hand ≡ tabs_at w
   stored_hand g v w t side value n hand is st = same_hand v w t _ hand (ap View.tabs st.leaves) (stored_at (tab_at v t) side value) is

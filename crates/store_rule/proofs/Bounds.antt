@@ -58,6 +58,11 @@ module _ {X : Type 0} (g : Ground X) (s : State X) (r : Rule g s) where
   chain_and_held i v at t w there = let c = slots_counted g.setting s r.sound.slots in let h = chain_among s.chains w.anchor in
       let a = le_sum_at slots_held v.tabs t (Tab.Writing w) there in let b = le_sum_at (count slots_held) s.views i v at in omega arith
 
+  -- a tab has no more slots than there are
+  pub tab_holds_few : (i : ℕ) (v : View X) → get_elem? s.views i ≡ some v → (t : ℕ) (x : Tab X) → get_elem? v.tabs t ≡ some x → slots_held x ≤ g.setting.slots
+  tab_holds_few i v at t x there = let c = slots_counted g.setting s r.sound.slots in
+      let a = le_sum_at slots_held v.tabs t x there in let b = le_sum_at (count slots_held) s.views i v at in omega arith
+
 -- a count of slots has 32 bits
 pub few_slots : (slots s : ℕ) → slots ≡ s → slots ≤ 4294967295 → s ≤ 4294967295
 few_slots slots s is le = omega arith

@@ -1,5 +1,7 @@
 -- Stores and loads of the links of slots are steps of the core, and what a link that was loaded may be.
-use Rattle.std.proofs.Common.{inl, inr, ◌+◌, ◌*◌, ◌<◌, ◌≤◌, ◌≡◌, ◌≢◌, ◌⊎◌, ⊎_elim, ◌∷◌, ◌++◌, List, Option, None, Some, [], ap, sym, subst, ◌∙◌, arith, length, drop, refl, ℕ, zero, suc}
+use Rattle.std.proofs.Common.{Bool, true, false, cond, not, ◌==◌, get_or, get_or-set_other, set, map, eq-eqb, ne_eqb, length-set, inl, inr, ◌+◌, ◌*◌, ◌<◌, ◌≤◌, ◌≡◌, ◌≢◌, ◌⊎◌, ⊎_elim, ◌∷◌, ◌++◌, List, Option, None, Some, [], ap, sym, subst, ◌∙◌, arith, length, drop, refl, ℕ, zero, suc}
+use Rattle.std.proofs.lemmas.Bool.{false≢true}
+use Rattle.std.proofs.lemmas.List.{length-append, map-set}
 use mathlib.Core.Logic.{dite}
 use native.Mathlib.Decide.{ℕ_discrete}
 use mathlib.Core.Option.{some}
@@ -18,7 +20,7 @@ use Rattle.core_model.specs.State.{State, chain_of, word}
 use Rattle.core_model.specs.Tabs.{tab_at}
 use Rattle.core_model.specs.Told.{LinkFound}
 use Rattle.core_model.specs.declared.moves.Move.{Move}
-use Rattle.core_model.specs.declared.moves.Move.TheVariants.{GetLink, Publish}
+use Rattle.core_model.specs.declared.moves.Move.TheVariants.{GetLink, Loosen, Publish}
 use Rattle.core_model.specs.declared.tab.Freer.{Freer}
 use Rattle.core_model.specs.declared.tab.Reader.{Reader}
 use Rattle.core_model.specs.declared.tab.Tab.{Tab}
@@ -29,23 +31,28 @@ use Rattle.core_model.proofs.FollowsKept.{followed, link_of_number}
 use Rattle.store_rule.specs.Ground.{Ground, Rule}
 use Rattle.store_rule.specs.Machine.{StepsOn}
 use Rattle.store_rule.specs.Ruled.{Form}
-use Rattle.store_rule.specs.Tabs.{HasPlace, at_of}
+use Rattle.store_rule.specs.Tabs.{HasLooseRoom, HasPlace, at_of, freeing_at, is_next, link_seen, loosened_here, loosened_tabs, reserved_here, tabs_at}
 use Rattle.store_rule.specs.Told.{Stands, Steps, the_view}
 use Rattle.lock_word.specs.Words.{epoch_of, stage_of}
-use Rattle.core_model.specs.AllowedByView.{KnowsSlot, WroteFirst}
+use Rattle.core_model.specs.AllowedByView.{AllowedByView, KnowsSlot, WroteFirst}
+use Rattle.core_model.specs.Table.{tabs_after}
+use Rattle.store_rule.specs.Told.{found_as}
+use Rattle.store_rule.specs.declared.tabs.At.{At}
 use Rattle.core_model.specs.Chains.{Tied}
-use Rattle.core_model.specs.SlotMoves.{IsFront}
+use Rattle.core_model.specs.SlotMoves.{IsFront, MayLoosen, MayReserve, loosens, reserves}
 use Rattle.core_model.specs.Slots.{ChainStands, slot_words}
-use Rattle.core_model.specs.Tabs.{IsPass, OfFreer, OfReader, OfWriter}
+use Rattle.core_model.specs.Tabs.{IsPass, OfFreer, OfReader, OfWriter, inner}
 use Rattle.core_model.specs.declared.chain.Chain.{Chain}
 use Rattle.core_model.proofs.Matching.{has_writer}
 use Rattle.core_model.proofs.SlotAnchors.{reader_stage}
 use Rattle.core_model.proofs.Spelling.{one_same}
 use Rattle.core_model.proofs.Tabs.{tab_there}
 use Rattle.core_model.proofs.Telling.{stage_told}
-use Rattle.store_rule.proofs.Bounds.{chain_and_held, chain_inside, stands_inside}
+use Rattle.core_model.proofs.OwnsKept.{of_freer, only_inner, tab_was}
+use Rattle.store_rule.proofs.AtHand.{at_get}
+use Rattle.store_rule.proofs.Bounds.{tab_holds_few, chain_and_held, chain_inside, stands_inside}
 use Rattle.store_rule.proofs.Moves.{known_of, quiet}
-use Rattle.store_rule.proofs.SlotHands.{held_there}
+use Rattle.store_rule.proofs.SlotHands.{held_there, reserved_at}
 
 -- where the link of a slot stands
 pub linked_at : (word anchors a slot : ℕ) → word ≡ 5 * anchors + 2 * slot → anchors ≡ a → word ≡ 5 * a + 2 * slot
@@ -156,6 +163,68 @@ module _ {X : Type 0} (g : Ground X) where
   published_inside v t slot link st may = let p = may.pass in let le = may.allowed.0 in
       slot_published st.state st.rule st.index v st.at t slot link (tab_at v t) (tab_there v t (tab_at v t) (omega arith) refl) may.allowed.1
 
+  -- the chain that a slot leaves is the inner tab's
+  pub inner_frees : (s : State X) (r : Rule g s) (i : ℕ) (v : View X) → get_elem? s.views i ≡ some v → IsPass v → (t slot : ℕ) → AllowedByView g.setting v (Loosen t slot) → (f : Freer) × (tab_at v inner ≡ Tab.Freeing f) × MayLoosen slot f
+  inner_frees s r i v at pass t slot may = ⊎_elim
+      (λ (h : OfFreer (MayLoosen slot) (tab_at v t)). let f = of_freer (MayLoosen slot) (tab_at v t) h in
+      (f.0, subst (λ (z : ℕ). tab_at v z ≡ Tab.Freeing f.0) (only_inner g.setting s i v r.sound.anchors r.sound.slots at pass t f.0 (tab_was g.setting s i v r.sound.anchors r.sound.slots at pass t (Tab.Freeing f.0) may.0 f.1)) f.1, f.2))
+      (λ (h : OfWriter MayReserve (tab_at v t) × OfFreer (λ f. MayLoosen slot f × (f.is_freeing ≡ true)) (tab_at v inner)). let f = of_freer (λ f. MayLoosen slot f × (f.is_freeing ≡ true)) (tab_at v inner) h.1 in (f.0, f.1, f.2.0))
+      may.1
+
+  -- and a slot that it leaves to a writing tab is not the inner one's
+  pub reserves_other : (s : State X) (r : Rule g s) (i : ℕ) (v : View X) → get_elem? s.views i ≡ some v → IsPass v → (t slot : ℕ) → AllowedByView g.setting v (Loosen t slot) → t ≢ inner → OfWriter MayReserve (tab_at v t)
+  reserves_other s r i v at pass t slot may other = ⊎_elim
+      (λ (h : OfFreer (MayLoosen slot) (tab_at v t)). let f = of_freer (MayLoosen slot) (tab_at v t) h in
+      absurd (other (only_inner g.setting s i v r.sound.anchors r.sound.slots at pass t f.0 (tab_was g.setting s i v r.sound.anchors r.sound.slots at pass t (Tab.Freeing f.0) may.0 f.1))))
+      (λ (h : OfWriter MayReserve (tab_at v t) × OfFreer (λ f. MayLoosen slot f × (f.is_freeing ≡ true)) (tab_at v inner)). h.0)
+      may.1
+
+  inner_there : (v : View X) → IsPass v → (f : Freer) → tab_at v inner ≡ Tab.Freeing f → get_elem? v.tabs inner ≡ some (Tab.Freeing f)
+  inner_there v pass f e = tab_there v inner (Tab.Freeing f) (let n = pass in omega arith) e
+
+  pub loosened_inside : (v : View X) (t slot : ℕ) → Stands g v → MayMake g.setting v (Loosen t slot) → slot < g.setting.slots
+  loosened_inside v t slot st may = let f = inner_frees st.state st.rule st.index v st.at may.pass t slot may.allowed in
+      held_there g st.state st.index v st.rule st.at inner slot (Tab.Freeing f.0) (inner_there v may.pass f.0 f.1) (let c = ap (times slot) f.2.0 in let o = one_same slot in omega arith)
+
+  pub has_loose_room : (v : View X) (t slot : ℕ) → g.setting.slots ≤ 4294967295 → Stands g v → MayMake g.setting v (Loosen t slot) → HasLooseRoom (at_of (tab_at v inner))
+  has_loose_room v t slot few st may = let f = inner_frees st.state st.rule st.index v st.at may.pass t slot may.allowed in
+      subst (λ (x : Tab X). HasLooseRoom (at_of x)) (sym f.1) (let h = tab_holds_few g st.state st.rule st.index v st.at inner (Tab.Freeing f.0) (inner_there v may.pass f.0 f.1) in let c = ap length f.2.0 in omega arith)
+
+  -- what is at hand of the inner tab when a slot has left its chain
+  spent_link : (xs : List ℕ) (l : Link) → ((x : ℕ) → l ≢ Next x) → (length xs == 0) ≡ not (is_next (link_to xs l))
+  spent_link (x ∷ xs) l h = ne_eqb (length (x ∷ xs)) 0 (λ e. absurd (omega arith))
+  spent_link [] NotWritten h = refl
+  spent_link [] LastLink h = refl
+  spent_link [] (Next x) h = absurd (h x refl)
+
+  loosens_at : (f : Freer) (xs : List ℕ) (is_loose : Bool) → f.is_looked ≡ true → ((x : ℕ) → f.behind ≢ Next x) → length xs ≡ cond is_loose 1 0 → at_of {X = X} (loosens (Tab.Freeing f) xs) ≡ loosened_here (At.Freeing (freeing_at f)) is_loose
+  loosens_at f xs is_loose looked ends many = λ i. At.Freeing (record (freeing_at f) { is_whole = false; is_spent = (spent i); loose = (longer i); found = NotWritten })
+    where
+      spent : (length (rest_of f.rest) == 0) ≡ not (is_next (link_seen f))
+      spent = spent_link (rest_of f.rest) f.behind ends ∙ ap (λ (b : Bool). not (is_next (cond b (link_to (rest_of f.rest) f.behind) NotWritten))) (sym looked)
+
+      longer : length (f.loose ++ xs) ≡ length f.loose + cond is_loose 1 0
+      longer = length-append f.loose xs ∙ ap (λ (n : ℕ). length f.loose + n) many
+
+  pub loosened_hand : (v w : View X) (t slot n : ℕ) (old new : List At) → old ≡ tabs_at v → new ≡ loosened_tabs old t slot → Steps g v (Loosen t slot) n w → new ≡ tabs_at w
+  loosened_hand v w t slot n old new hand made st = made ∙ ap (λ (z : List At). loosened_tabs z t slot) hand ∙ by_tab (t == inner) refl ∙ sym (ap (map at_of) (ap View.tabs st.leaves))
+    where
+      f : (f : Freer) × (tab_at v inner ≡ Tab.Freeing f) × MayLoosen slot f
+      f = inner_frees st.state st.rule st.index v st.at st.may.pass t slot st.may.allowed
+
+      left : (is_loose : Bool) (xs : List ℕ) → length xs ≡ cond is_loose 1 0 → loosened_here (get_or (tabs_at v) 8 At.Free) is_loose ≡ at_of (loosens (tab_at v inner) xs)
+      left is_loose xs many = ap (λ (z : At). loosened_here z is_loose) (at_get v.tabs 8 ∙ ap at_of f.1) ∙ sym (ap (λ (x : Tab X). at_of (loosens x xs)) f.1
+          ∙ loosens_at f.0 xs is_loose f.2.1 (st.rule.rests st.index inner f.0 record { view = v; at = st.at; there = inner_there v st.may.pass f.0 f.1 }) many)
+
+      by_tab : (b : Bool) → (t == inner) ≡ b → loosened_tabs (tabs_at v) t slot ≡ map at_of (tabs_after v (Loosen t slot) (found_as g.setting st.state v (Loosen t slot) n))
+      by_tab true e = rw e (ap (set (tabs_at v) 8) (left true (slot ∷ []) refl) ∙ sym (map-set at_of v.tabs inner (loosens (tab_at v inner) (slot ∷ []))))
+      by_tab false e = let ne : t ≢ inner = λ q. false≢true (sym e ∙ eq-eqb t inner q) in
+          rw e ((λ i. set (set (tabs_at v) 8 (left false [] refl i)) t (reserved_here (get_or (set (tabs_at v) 8 (left false [] refl i)) t At.Free) slot))
+          ∙ ap (λ (z : At). set (set (tabs_at v) 8 (at_of (loosens (tab_at v inner) []))) t (reserved_here z slot)) (get_or-set_other (tabs_at v) 8 t (at_of (loosens (tab_at v inner) [])) At.Free ne ∙ at_get v.tabs t)
+          ∙ ap (set (set (tabs_at v) 8 (at_of (loosens (tab_at v inner) []))) t) (sym (reserved_at (tab_at v t) slot (reserves_other st.state st.rule st.index v st.at st.may.pass t slot st.may.allowed ne)))
+          ∙ ap (λ (z : List At). set z t (at_of (reserves (tab_at v t) slot))) (sym (map-set at_of v.tabs inner (loosens (tab_at v inner) [])))
+          ∙ sym (map-set at_of (set v.tabs inner (loosens (tab_at v inner) [])) t (reserves (tab_at v t) slot)))
+
   -- one more slot may be published
   place_left : (s : State X) (r : Rule g s) (i : ℕ) (v : View X) → get_elem? s.views i ≡ some v → (t : ℕ) (x : Tab X) → get_elem? v.tabs t ≡ some x → (slot : ℕ) (link : Link) → OfWriter (WroteFirst slot link) x → g.setting.slots ≤ 4294967295 → HasPlace (at_of x)
   place_left s r i v at t (Tab.Writing w) there slot link h few = let holds : WriterHolds _ (chain_of s w.anchor) w = r.sound.slots.tabs i v at t (Tab.Writing w) there in
@@ -189,3 +258,16 @@ module _ {C X : Type 0} (form : Form C X) (g : Ground X) (z : TableId) (seat : S
   follows_ t slot word is st may = quiet form g z seat own sized one_view (GetLink t slot) (LinkWord slot) word _ is
       (looked_inside g v t slot st may)
       may tt record { finds = λ s. refl; leaves = λ s i. refl } (λ s i r at may fits. refl) (λ ps n. refl) (λ o n y. refl) (λ s. refl) (λ y. tt)
+
+  pub loosens_ : (t slot word : ℕ) → word ≡ 5 * g.setting.anchors + 2 * slot → Stands g v → MayMake g.setting v (Loosen t slot)
+      → StepsOn form g z seat word (Loosen t slot) v (λ n. 0)
+  loosens_ t slot word is st may = quiet form g z seat own sized one_view (Loosen t slot) (LinkWord slot) word _ is
+      (loosened_inside g v t slot st may)
+      may tt record { finds = λ s. refl; leaves = λ s i. refl } (λ s i r at may fits. refl) (λ ps n. refl) (λ o n y. refl) (λ s. refl) (λ y. tt)
+
+pub loosened_nine : (old new : List At) (t slot : ℕ) → length old ≡ 9 → new ≡ loosened_tabs old t slot → length new ≡ 9
+loosened_nine old new t slot nine is = ap length is ∙ by_tab (t == 8) ∙ nine
+  where
+    by_tab : (b : Bool) → length (cond b (set old 8 (loosened_here (get_or old 8 At.Free) (t == 8))) (set (set old 8 (loosened_here (get_or old 8 At.Free) (t == 8))) t (reserved_here (get_or (set old 8 (loosened_here (get_or old 8 At.Free) (t == 8))) t At.Free) slot))) ≡ length old
+    by_tab true = length-set old 8 _
+    by_tab false = length-set (set old 8 _) t _ ∙ length-set old 8 _

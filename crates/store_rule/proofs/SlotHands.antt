@@ -26,7 +26,7 @@ use lib.ListN.{get_elem?}
 use Rattle.store_rule.specs.Ground.{Ground, Rule}
 use Rattle.store_rule.specs.Machine.{StepsOn}
 use Rattle.store_rule.specs.Ruled.{Form}
-use Rattle.store_rule.specs.Tabs.{HasLoose, at_of, freed_here, given_back_here, head_of, is_slot, is_spent, or_slot, published_here, reserved_by, reserved_here, tabs_at, writing_at}
+use Rattle.store_rule.specs.Tabs.{HasLoose, at_of, freed_here, freeing_at, given_back_here, head_of, is_slot, is_spent, or_slot, published_here, reserved_by, reserved_here, tabs_at, writing_at}
 use Rattle.store_rule.specs.Told.{Stands, Steps, the_view}
 use Rattle.store_rule.specs.declared.tabs.At.{At}
 use Rattle.store_rule.proofs.AtHand.{same_hand, same_tabs, tab_set}
@@ -153,11 +153,11 @@ module _ {X : Type 0} where
       at_cond false x y = refl
 
       emptied_at : (f : Freer) (left : List ℕ) → length left ≡ length f.loose - 1 → 0 < length f.loose
-          → at_of {X = X} (Rattle.core_model.specs.SlotMoves.emptied record f { loose = left }) ≡ freed_here (at_of {X = X} (Tab.Freeing f))
+          → at_of {X = X} (Rattle.core_model.specs.SlotMoves.emptied record f { loose = left }) ≡ freed_here (freeing_at f)
       emptied_at f left less has_one = let none : (length f.loose == 0) ≡ false = Rattle.std.proofs.Common.ne_eqb (length f.loose) 0 (λ e. absurd (omega arith)) in
           let spent : is_spent f ≡ (length f.rest == 0) = spent_known f.is_whole (length f.rest == 0) (length f.loose == 0) none in
           at_cond _ _ _ ∙ (λ i. cond ((sym spent i) && (less i == 0) && not f.is_freeing) At.Free
-          (At.Freeing f.anchor f.is_freeing f.is_whole (not (f.is_whole && (less i == 0)) && (sym spent i)) (less i)))
+          (At.Freeing (record (freeing_at f) { is_spent = not (f.is_whole && (less i == 0)) && (sym spent i); loose = less i })))
   gave_back slot Tab.Free (inl h) once few = absurd h
   gave_back slot Tab.Free (inr h) once few = absurd h
   gave_back slot (Tab.Retreating a) (inl h) once few = absurd h
@@ -167,7 +167,7 @@ module _ {X : Type 0} where
   gave_back slot (Tab.Last a) (inl h) once few = absurd h
   gave_back slot (Tab.Last a) (inr h) once few = absurd h
 
-  reserved_at : (x : Tab X) (slot : ℕ) → OfWriter MayReserve x → at_of (reserves x slot) ≡ reserved_here (at_of x) slot
+  pub reserved_at : (x : Tab X) (slot : ℕ) → OfWriter MayReserve x → at_of (reserves x slot) ≡ reserved_here (at_of x) slot
   reserved_at (Tab.Writing w) slot h = ap At.Writing (reserved_one w w.reserved slot h.room)
   reserved_at Tab.Free slot h = absurd h
   reserved_at (Tab.Retreating a) slot h = absurd h

@@ -1,8 +1,8 @@
 -- What a pass has at hand of its tabs while it runs.
-use Rattle.std.specs.Prelude.{◌+◌, ◌-◌, ◌<◌, ◌≤◌, ◌==◌, ◌&&◌, Bool, List, None, Option, Some, [], ◌∷◌, cond, false, length, map, not, slice_set, true, ℕ}
+use Rattle.std.specs.Prelude.{◌+◌, ◌-◌, ◌<◌, ◌≤◌, ◌==◌, ◌&&◌, Bool, List, None, Option, Some, [], ◌∷◌, cond, false, length, map, not, slice_index_or, slice_set, true, ℕ}
 use Rattle.link_word.specs.declared.link.Link.{Link}
-use Rattle.link_word.specs.declared.link.Link.TheVariants.{NotWritten}
-use Rattle.core_model.specs.Chains.{rest_of}
+use Rattle.link_word.specs.declared.link.Link.TheVariants.{Next, NotWritten}
+use Rattle.core_model.specs.Chains.{link_to, rest_of}
 use Rattle.core_model.specs.CellMoves.{next_slot}
 use Rattle.core_model.specs.declared.moves.Side.{Side}
 use Rattle.core_model.specs.declared.moves.Side.TheVariants.{Start}
@@ -16,6 +16,7 @@ use Rattle.core_model.specs.declared.tab.Tab.{Tab}
 use Rattle.core_model.specs.declared.tab.Tab.TheVariants.{Free, Retreating, Reading, Writing, Last, Freeing}
 use Rattle.core_model.specs.declared.view.View.{View}
 use Rattle.store_rule.specs.declared.tabs.At.{At}
+use Rattle.store_rule.specs.declared.tabs.FreeingAt.{FreeingAt}
 use Rattle.store_rule.specs.declared.tabs.ReadingAt.{ReadingAt}
 use Rattle.store_rule.specs.declared.tabs.WritingAt.{WritingAt}
 
@@ -42,13 +43,20 @@ writing_at w = record {
   second = head_of (rest_of w.reserved);
 }
 
+-- the link of the first slot of the chain, once it was looked at
+abbrev pub link_seen : Freer → Link
+link_seen f = cond f.is_looked (link_to (rest_of f.rest) f.behind) NotWritten
+
+abbrev pub freeing_at : Freer → FreeingAt
+freeing_at f = record { anchor = f.anchor; is_freeing = f.is_freeing; is_whole = f.is_whole; is_spent = is_spent f; loose = length f.loose; found = link_seen f }
+
 abbrev pub at_of : {X : Type 0} → Tab X → At
 at_of Free = At.Free
 at_of (Retreating a) = At.Retreating a
 at_of (Reading r) = At.Reading (reading_at r)
 at_of (Writing w) = At.Writing (writing_at w)
 at_of (Last a) = At.Last a
-at_of (Freeing f) = At.Freeing f.anchor f.is_freeing f.is_whole (is_spent f) (length f.loose)
+at_of (Freeing f) = At.Freeing (freeing_at f)
 
 abbrev pub is_last : {X : Type 0} → Tab X → Bool
 is_last (Last a) = true
@@ -63,6 +71,11 @@ abbrev pub writing_of : {X : Type 0} → Tab X → Option WritingAt
 writing_of (Writing w) = Some (writing_at w)
 writing_of _ = None
 
+-- and of the inner one that gives slots back
+abbrev pub freeing_of : {X : Type 0} → Tab X → Option FreeingAt
+freeing_of (Freeing f) = Some (freeing_at f)
+freeing_of _ = None
+
 abbrev pub tabs_at : {X : Type 0} → View X → List At
 tabs_at v = map at_of v.tabs
 
@@ -72,11 +85,11 @@ anchor_here (At.Retreating a) = a
 anchor_here (At.Reading r) = r.anchor
 anchor_here (At.Writing w) = w.anchor
 anchor_here (At.Last a) = a
-anchor_here (At.Freeing a is_freeing is_whole is_spent loose) = a
+anchor_here (At.Freeing f) = f.anchor
 
 abbrev pub stage_here : At → ℕ
 stage_here (At.Writing w) = cond w.is_appending 2 1
-stage_here (At.Freeing a is_freeing is_whole is_spent loose) = 5
+stage_here (At.Freeing f) = 5
 stage_here _ = 0
 
 abbrev pub entered_here : ℕ → ℕ → At
@@ -89,13 +102,12 @@ left_here a n = cond (is_left_over n) (At.Last a) At.Free
 
 -- the inner tab with the slots of an entry, of which none has left
 abbrev pub whole_here : ℕ → Bool → At
-whole_here a is_freeing = At.Freeing a is_freeing true false 0
+whole_here a is_freeing = At.Freeing record { anchor = a; is_freeing = is_freeing; is_whole = true; is_spent = false; loose = 0; found = NotWritten }
 
 -- a tab gave a slot back: the inner tab one that left its chain, a writing tab one that it reserved
-abbrev pub freed_here : At → At
-freed_here (At.Freeing a is_freeing is_whole is_spent loose) = cond (is_spent && (loose - 1 == 0) && not is_freeing) At.Free
-    (At.Freeing a is_freeing is_whole (not (is_whole && (loose - 1 == 0)) && is_spent) (loose - 1))
-freed_here at = at
+abbrev pub freed_here : FreeingAt → At
+freed_here f = cond (f.is_spent && (f.loose - 1 == 0) && not f.is_freeing) At.Free
+    (At.Freeing (record f { is_spent = not (f.is_whole && (f.loose - 1 == 0)) && f.is_spent; loose = f.loose - 1 }))
 
 abbrev pub is_slot : Option ℕ → ℕ → Bool
 is_slot None slot = false
@@ -103,11 +115,12 @@ is_slot (Some x) slot = x == slot
 
 abbrev pub given_back_here : At → ℕ → At
 given_back_here (At.Writing w) slot = At.Writing (cond (is_slot w.first slot) (record w { first = w.second; second = None }) (record w { second = None }))
-given_back_here at slot = freed_here at
+given_back_here (At.Freeing f) slot = freed_here f
+given_back_here at slot = at
 
 -- an inner tab that gives a slot back has one
 abbrev pub HasLoose : At → Type 0
-HasLoose (At.Freeing a is_freeing is_whole is_spent loose) = 0 < loose
+HasLoose (At.Freeing f) = 0 < f.loose
 HasLoose at = Unit {0}
 
 -- a tab that reads loaded a word beside its anchor
@@ -138,12 +151,30 @@ abbrev pub published_here : At → ℕ → At
 published_here (At.Writing w) slot = At.Writing (record w { published = w.published + 1; start = or_slot w.start slot; first = w.second; second = None })
 published_here at slot = at
 
--- a tab that reads looked at the link of its slot
+-- a tab looked at the link of its slot
 abbrev pub followed_here : At → Link → At
 followed_here (At.Reading r) found = At.Reading (record r { found = found })
+followed_here (At.Freeing f) found = At.Freeing (record f { found = found })
 followed_here at found = at
 
--- it gave its turn back
+-- The first slot has left the chain that the inner tab frees. It is loose, or a writing tab has reserved it.
+abbrev pub is_next : Link → Bool
+is_next (Next slot) = true
+is_next _ = false
+
+abbrev pub loosened_here : At → Bool → At
+loosened_here (At.Freeing f) is_loose = At.Freeing (record f { is_whole = false; is_spent = not (is_next f.found); loose = f.loose + cond is_loose 1 0; found = NotWritten })
+loosened_here at is_loose = at
+
+abbrev pub HasLooseRoom : At → Type 0
+HasLooseRoom (At.Freeing f) = f.loose < 4294967295
+HasLooseRoom at = Unit {0}
+
+abbrev pub loosened_tabs : List At → ℕ → ℕ → List At
+loosened_tabs tabs t slot = let left = slice_set tabs 8 (loosened_here (slice_index_or tabs 8 At.Free) (t == 8)) in
+    cond (t == 8) left (slice_set left t (reserved_here (slice_index_or left t At.Free) slot))
+
+-- a tab that reads gave its turn back
 abbrev pub ended_here : At → Bool → At
 ended_here (At.Reading r) true = At.Reading (record r { place = r.place + 1; slot = next_slot r.found; found = NotWritten })
 ended_here at goes_on = at

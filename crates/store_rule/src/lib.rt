@@ -23,4 +23,4 @@ pub use buffers::lending_keeps_passes;
 pub use opening::NoRoom;
 pub use rule::{About, Origin};
 pub use store::{Desk, Note, Pass, Store};
-pub use tabs::{ReadingAt, WritingAt};
+pub use tabs::{FreeingAt, ReadingAt, WritingAt};

@@ -2,14 +2,14 @@
 use crate::layout::link_word;
 use crate::rule::Origin;
 use crate::store::{Pass, Store};
-use crate::tab_slots::{followed_at, published_at};
+use crate::tab_slots::{followed_at, loosen_at, published_at};
 use core_model::Move;
 use link_word::{Link, pack_link, unpack_link};
 use rock_disk::Cell;
 use std::marker::Brand;
 
 impl<C: Cell, O: Origin> Store<C, O> {
-    ghost use Rattle.core_model.specs.declared.moves.Move.TheVariants.{GetLink, Publish};
+    ghost use Rattle.core_model.specs.declared.moves.Move.TheVariants.{GetLink, Loosen, Publish};
     ghost use Rattle.link_word.specs.Words.{link_number};
     ghost use Rattle.store_rule.specs.Passes.{Made, May};
 
@@ -24,6 +24,20 @@ impl<C: Cell, O: Origin> Store<C, O> {
         let place = link_word(self.anchors, slot);
         self.swap_as::<Brand>(&mut pass.seat, place, pack_link(link), made);
         pass.tabs.set(tab as usize, published_at(at, slot));
+    }
+
+    /// The first slot leaves the chain that the inner tab frees, whose link the pass looked at: stores 0 as its
+    /// link. Where `tab` is the inner one the slot is to be given back, and where `tab` writes that tab has
+    /// reserved it. The link word found is answered.
+    pub fn loosen(&self, pass: &mut Pass<C>, tab: u8, slot: u32) -> u64
+        requires { May C.tells C.state O.offers self.now pass.old (Loosen tab slot) }
+        ensures { Made C.tells C.state O.offers self.now pass.old (Loosen tab slot) result pass.new }
+    {
+        let made = Move::Loosen { tab, slot };
+        let place = link_word(self.anchors, slot);
+        let found = self.swap_as::<Brand>(&mut pass.seat, place, 0, made);
+        loosen_at(&mut pass.tabs, tab, slot);
+        found
     }
 
     /// Loads the link of the slot at a reading tab's place, or of the first slot that the inner tab gives back.

@@ -5,7 +5,7 @@ ghost use Rattle.store_rule.specs.Tabs.{tabs_at};
 
 use crate::buffers::Desks;
 use crate::rule::{About, Origin, Rule};
-use crate::tabs::{At, ReadingAt, WritingAt, anchor_at, held_at};
+use crate::tabs::{At, FreeingAt, ReadingAt, WritingAt, anchor_at, held_at};
 use atomic_table::{Seat, Table};
 use core_model::{Row, View};
 use rock_disk::Cell;
@@ -71,7 +71,7 @@ impl<C> Pass<C> {
     ghost use Rattle.std.specs.Prelude.{◌≡◌, ◌<◌, slice_index};
     ghost use Rattle.core_model.specs.Tabs.{tab_at, is_free, anchor_of};
     ghost use Rattle.core_model.specs.Tabs.{stage_held};
-    ghost use Rattle.store_rule.specs.Tabs.{at_of, is_last, reading_of, writing_of};
+    ghost use Rattle.store_rule.specs.Tabs.{at_of, freeing_of, is_last, reading_of, writing_of};
     ghost use Rattle.store_rule.specs.Passes.{view};
 
     pub(crate) fn at(&self, tab: u8) -> At
@@ -123,6 +123,16 @@ impl<C> Pass<C> {
     {
         match self.at(tab) {
             At::Writing(writing) => Some(writing),
+            _ => None,
+        }
+    }
+
+    /// How far the inner tab is with the slots that it gives back. None: it gives none back.
+    pub fn freeing(&self) -> Option<FreeingAt>
+        ensures { result ≡ freeing_of (tab_at (view self.now) 8) }
+    {
+        match self.at(8) {
+            At::Freeing(freeing) => Some(freeing),
             _ => None,
         }
     }

@@ -1,10 +1,11 @@
 // What a pass has at hand of its tabs, after steps on slots and on what stands beside an anchor.
-ghost use Rattle.std.specs.Prelude.{◌≡◌};
+ghost use Rattle.std.specs.Prelude.{length, slice_index_or, ◌≡◌, ◌≤◌};
+ghost use Rattle.store_rule.specs.declared.tabs.At.{At};
 ghost use Rattle.core_model.specs.CellMoves;
-ghost use Rattle.store_rule.specs.Tabs.{HasLoose, HasNext, HasNumber, HasPlace, ended_here, followed_here, freed_here, given_back_here, loaded_here, published_here, reserved_here};
+ghost use Rattle.store_rule.specs.Tabs.{HasLoose, HasLooseRoom, HasNext, HasNumber, HasPlace, ended_here, followed_here, freed_here, given_back_here, loaded_here, loosened_here, loosened_tabs, published_here, reserved_here};
 
-use crate::tabs::{At, ReadingAt, WritingAt};
-use core_model::Side;
+use crate::tabs::{At, FreeingAt, ReadingAt, WritingAt};
+use core_model::{Row, Side};
 use link_word::Link;
 
 /// What a tab is at that loaded a word beside its anchor. A tab that reads learns from the start where it
@@ -62,6 +63,7 @@ pub(crate) fn followed_at(at: At, found: Link) -> At
 {
     match at {
         At::Reading(reading) => At::Reading(ReadingAt { found, ..reading }),
+        At::Freeing(freeing) => At::Freeing(FreeingAt { found, ..freeing }),
         at => at,
     }
 }
@@ -99,7 +101,7 @@ pub(crate) fn given_back_at(at: At, slot: u32) -> At
     ensures { result ≡ given_back_here at slot }
 {
     match at {
-        At::Freeing { .. } => freed_at(at),
+        At::Freeing(freeing) => freed_at(freeing),
         At::Writing(writing) if writing.first == Some(slot) => At::Writing(WritingAt {
             first: writing.second,
             second: None,
@@ -114,29 +116,50 @@ pub(crate) fn given_back_at(at: At, slot: u32) -> At
 }
 
 /// What the inner tab is at that gave back a slot of the entry that it frees.
-fn freed_at(at: At) -> At
-    requires { HasLoose at }
-    ensures { result ≡ freed_here at }
+fn freed_at(freeing: FreeingAt) -> At
+    requires { HasLoose (At.Freeing freeing) }
+    ensures { result ≡ freed_here freeing }
 {
-    let At::Freeing {
-        anchor,
-        is_freeing,
-        is_whole,
-        is_spent,
-        loose,
-    } = at
-    else {
-        return at;
-    };
-    let loose = loose - 1;
-    if is_spent && loose == 0 && !is_freeing {
+    let loose = freeing.loose - 1;
+    if freeing.is_spent && loose == 0 && !freeing.is_freeing {
         return At::Free;
     }
-    At::Freeing {
-        anchor,
-        is_freeing,
-        is_whole,
-        is_spent: !(is_whole && loose == 0) && is_spent,
+    At::Freeing(FreeingAt {
+        is_spent: !(freeing.is_whole && loose == 0) && freeing.is_spent,
         loose,
+        ..freeing
+    })
+}
+
+/// The first slot of the chain that the inner tab frees has left it: it is loose, or where `tab` is another
+/// one that tab has reserved it.
+pub(crate) fn loosen_at(tabs: &mut Row<At>, tab: u8, slot: u32)
+    requires sized { (length tabs.old ≡ 9) × (tab ≤ 8) }
+    requires room { HasLooseRoom (slice_index_or tabs.old 8 At.Free) }
+    ensures { tabs.new ≡ loosened_tabs tabs.old tab slot }
+{
+    let is_loose = tab == 8;
+    let inner = tabs.as_slice()[8];
+    tabs.set(8, loosened_at(inner, is_loose));
+    if !is_loose {
+        let at = tabs.as_slice()[tab as usize];
+        tabs.set(tab as usize, reserved_at(at, slot));
+    }
+}
+
+/// What the inner tab is at when the first slot has left its chain.
+fn loosened_at(at: At, is_loose: bool) -> At
+    requires { HasLooseRoom at }
+    ensures { result ≡ loosened_here at is_loose }
+{
+    match at {
+        At::Freeing(freeing) => At::Freeing(FreeingAt {
+            is_whole: false,
+            is_spent: !matches!(freeing.found, Link::Next(_)),
+            loose: freeing.loose + is_loose as u32,
+            found: Link::NotWritten,
+            ..freeing
+        }),
+        at => at,
     }
 }

@@ -6,7 +6,7 @@ use Rattle.store_rule.specs.declared.tabs.At.{At}
 use Rattle.store_rule.proofs.AtHand.{followed_hand}
 use Rattle.store_rule.proofs.Bounds.{few_slots}
 use Rattle.store_rule.proofs.LinkMoves.{follows_, link_fits, link_is, linked_at}
-use Rattle.store_rule.proofs.Moves.{wide}
+use Rattle.store_rule.proofs.Moves.{known_of, wide}
 use Rattle.store_rule.proofs.Passing.{kept_nine, may_of}
 use Rattle.store_rule.proofs.store.Store.get_link.Goals as goal
 
@@ -23,5 +23,5 @@ invariant_of-pass g c = let told = c.load_as-found.ensures.told in record {
   nine = kept_nine _ _ _ _ c.args.pass.now.nine c.set.ensures;
   nine_left = c.args.pass.now.nine_left;
   nine_desks = c.args.pass.now.nine_desks;
-  at_hand = followed_hand _ _ _ _ _ _ _ _ _ c.args.pass.now.at_hand (c.followed_at.ensures ∙ (λ i. followed_here (c.at-at.ensures i) (link_is _ _ c.link_found-link.ensures i))) c.set.ensures told.step;
+  at_hand = followed_hand _ _ _ _ _ _ _ _ _ c.args.pass.now.at_hand (c.followed_at.ensures ∙ (λ i. followed_here (c.at-at.ensures i) (link_is _ _ c.link_found-link.ensures i))) c.set.ensures told.step (known_of _ _ _ _ _ told.step).slots;
 }
