@@ -123,7 +123,7 @@ pub record PrintsAdded (earlier : List Served) (s : Served) (first : Served) (ta
   pub printed : s.answer ≡ answer.Added count
   pub begun_is : writing tab earlier ≡ Some first
 
--- an entry of the version x at the anchor a was given up by its writer, or a line that needed a slot evicted one
+-- the writing of the version x at the anchor a was halted, or some line is one of those that may evict an entry
 abbrev pub GivenBackIn : {X : Type 0} → Run X → List (Worker X) → (a x : ℕ) → Type 0
 GivenBackIn r crew a x = HaltedIn r crew a x ⊎ LineIn crew (λ earlier s. MayEvict s.line.request)
 

@@ -179,7 +179,7 @@ pub fn lines_are_in_order_after_marks<X>()
 {}
 
 /// An epoch at HALTED, FREEING or GONE that is not doomed comes only where the writing of its version was
-/// halted, or a line that may need slots evicted an entry.
+/// halted, or some line is one of those that may evict an entry.
 pub fn entries_are_given_back_by_lines<X>()
     ensures { (r : Run X) (crew : List (Worker X)) (a e : ℕ) → Closed r crew → ShownIn r crew a e → doom_of e ≡ 0 → 4 ≤ stage_of e → GivenBackIn r crew a (version_of e) }
 {}
