@@ -7,6 +7,7 @@ use lib.ListN.{get_elem?}
 use Rattle.store_key.specs.Anchor.{anchor_of}
 use Rattle.store_key.specs.Key.{key_of}
 use Rattle.lock_word.specs.Words.{doom_of, epoch_at, epoch_number, stage_of, version_limit, version_of, doom_number}
+use Rattle.lock_word.specs.declared.cause.Cause.{Cause}
 use Rattle.lock_word.specs.declared.cause.Cause.TheVariants.{Leaving}
 use Rattle.lock_word.specs.declared.epoch.Epoch.{Epoch}
 use Rattle.lock_word.proofs.Parts.{doom_of-epoch_number}
@@ -21,17 +22,17 @@ use Rattle.core_model.specs.Anchors.{opening_counter}
 use Rattle.line_account.specs.Lines.{LineOf, Offers, Served, gives_up, offers, url_in, writing, url_at, begins, ends}
 use Rattle.line_account.specs.Deeds.{Began, Begins as BeginsVersion, Halts}
 use Rattle.line_account.specs.Answers.{Run}
-use Rattle.line_account.specs.Accounts.{Shows, epochs_of}
-use Rattle.line_account.specs.Courses.{Stage, lines_in}
+use Rattle.line_account.specs.Accounts.{Shows, epochs_of, epoch_in}
+use Rattle.line_account.specs.Courses.{Stage, lines_in, Course}
 use Rattle.line_account.specs.Closing.{BegunIn, Closed, HaltedIn, LineIn, ShownIn, Worker, offered, offered_by}
 use Rattle.line_account.specs.Printed.{HitIn, PrintsHit}
-use Rattle.line_account.specs.Order.{NotBelow, counts_as, version_alone, OpensOrStores}
+use Rattle.line_account.specs.Order.{NotBelow, counts_as, version_alone, OpensOrStores, HandsOver, printed}
 use Rattle.line_account.specs.Parts.{IsCourseOf}
 use Rattle.line_account.specs.Alone.{alone, next_version}
 use Rattle.line_account.proofs.Gathered.{one_line, same_line}
 use Rattle.line_account.proofs.Versions.{bounded, halted_by}
 use Rattle.line_account.proofs.Printing.{hit_of_new, spent_bounds}
-use Rattle.line_account.proofs.Ordering.{not_below_earlier, stage_in}
+use Rattle.line_account.proofs.Ordering.{not_below_earlier, stage_in, not_below_met}
 
 abbrev one_of : Bool → ℕ
 one_of b = cond b 1 0
@@ -183,3 +184,18 @@ module _ {X : Type 0} (r : Run X) (w : Worker X) where
       let undoomed : doom_of (epoch_number e) ≡ 0 = order.undoomed y (subst (λ (z : Answer). OpensOrStores z y) (sym ga) refl) same in
       let doomed : doom_of (epoch_number e) ≡ 1 = doom_of-epoch_number e ∙ ap doom_number doom in
       omega arith
+
+module _ {X : Type 0} (r : Run X) where
+  pub no_old_miss : (start end other last : View X) (p m n g : Stage X) (url : List ℕ) (body : Body) (x : ℕ) (cause : Cause) → Course r start (g ∷ n ∷ []) end → Course r other (m ∷ p ∷ []) last
+      → p.served.line.request ≡ Put url body → p.served.answer ≡ answer.Stored x → HandsOver m n → g.served.line.request ≡ Get url → g.served.answer ≡ answer.Miss cause
+      → epoch_at x 3 ≤ epoch_number (epoch_in cause)
+  no_old_miss start end other last p m n g url body x cause c o pq pa hands gq ga =
+      let a : ℕ = anchor_of (key_of url) r.setting.anchors in
+      let order : NotBelow (epoch_at x 3) g.served.answer = not_below_met r start other (g ∷ n ∷ []) (m ∷ p ∷ []) end last g n m p (n ∷ []) [] (p ∷ []) [] a (epoch_at x 3) c o
+      (record { in_ = record { later = []; split = refl }; at = record { url = url; named_is = ap (url_at (lines_in (n ∷ []))) gq; anchor = refl } })
+      (record { later = []; split = refl })
+      hands
+      (record { later = []; split = refl })
+      (record { in_ = record { later = []; split = refl }; at = record { url = url; named_is = ap (url_at []) pq; anchor = refl } })
+      (subst (λ (z : Answer). Contains (counts_as z) (epoch_at x 3)) (sym pa) (0, omega arith, refl)) in
+      order.epochs (epoch_number (epoch_in cause)) (subst (λ (z : Answer). Contains (printed z) (epoch_number (epoch_in cause))) (sym ga) (0, omega arith, refl))

@@ -1,6 +1,6 @@
 //! Examples: lines of one worker that have an account, and lines that differ from them and have none.
 ghost use Rattle.std.specs.Prelude.{◌≡◌, ◌+◌, ◌<◌, ◌≤◌, ◌∷◌, IsTrue, ℕ, List, [], true};
-ghost use Rattle.lock_word.specs.Words.{stage_of, epoch_number, version_of, version_limit};
+ghost use Rattle.lock_word.specs.Words.{epoch_at, stage_of, epoch_number, version_of, version_limit};
 ghost use Rattle.lock_word.specs.declared.epoch.Epoch.{Epoch};
 ghost use Rattle.plain_model.specs.Serving.{bytes_of};
 ghost use Rattle.script_text.specs.declared.answer.Answer.{Answer};
@@ -10,9 +10,10 @@ ghost use Rattle.lock_word.specs.declared.cause.Cause.{Cause};
 ghost use Rattle.core_model.specs.Anchors.{opening_counter};
 ghost use Rattle.core_model.specs.declared.view.View.{View};
 ghost use Rattle.line_account.specs.Lines.{Served};
-ghost use Rattle.line_account.specs.Accounts.{Account};
+ghost use Rattle.line_account.specs.Accounts.{Account, epoch_in};
 ghost use Rattle.line_account.specs.Answers.{Run};
-ghost use Rattle.line_account.specs.Courses.{Stage};
+ghost use Rattle.line_account.specs.Courses.{Course, Stage};
+ghost use Rattle.line_account.specs.Order.{HandsOver};
 ghost use Rattle.line_account.specs.Closing.{Closed, Worker};
 ghost use Rattle.line_account.specs.Parts.{IsCourseOf};
 ghost use Rattle.line_account.specs.Alone.{alone, hit_line, next_version, OffersNothing, stored_line, view_after};
@@ -52,4 +53,12 @@ pub fn no_hit_follows_a_purge<X>()
 pub fn nothing_is_halted_by_itself<X>()
     ensures { (r : Run X) (w : Worker X) (s : Served) (url : List ℕ) (e : Epoch) → Closed r (alone w) → w.served ≡ s ∷ [] → s.line.request ≡ Request.Get url
         → s.answer ≡ Answer.Miss (Cause.Leaving e) → stage_of (epoch_number e) ≡ 4 → ⊥ }
+{}
+
+/// Where a worker met the mark that another set behind a `put` that printed STORED, its `get` of the URL
+/// misses at no epoch below that of the stored entry.
+pub fn no_old_miss_follows_a_mark<X>()
+    ensures { (r : Run X) (start end other last : View X) (p m n g : Stage X) (url : List ℕ) (body : Body) (x : ℕ) (cause : Cause) → Course r start (g ∷ n ∷ []) end → Course r other (m ∷ p ∷ []) last
+        → p.served.line.request ≡ Request.Put url body → p.served.answer ≡ Answer.Stored x → HandsOver m n
+        → g.served.line.request ≡ Request.Get url → g.served.answer ≡ Answer.Miss cause → epoch_at x 3 ≤ epoch_number (epoch_in cause) }
 {}

@@ -8,7 +8,8 @@ mod laws;
 
 pub use examples::{
     a_hit_has_what_was_stored, a_lone_spent_number_is_the_counter, a_lone_version_is_the_next_one,
-    a_put_and_a_get_have_an_account, no_hit_follows_a_purge, nothing_is_halted_by_itself,
+    a_put_and_a_get_have_an_account, no_hit_follows_a_purge, no_old_miss_follows_a_mark,
+    nothing_is_halted_by_itself,
 };
 pub use laws::{
     accounts_grow, added_counts_are_exact, additions_are_kept, begun_versions_have_bounds,
