@@ -41,7 +41,7 @@ use Rattle.slice_chain.specs.Links.{slot_known}
 use Rattle.slice_chain.specs.Reads.{FollowsReading, HasRead, HoldsPiece, MayReadSlot, ReadSlot, went_on}
 use Rattle.slice_chain.proofs.Writing.{buffer_long, same_cell, same_rest, set_again}
 
-set_there : {A : Type 0} → (xs : List A) (t : ℕ) (d : A) → t < length xs → set xs t (get_or xs t d) ≡ xs
+pub set_there : {A : Type 0} → (xs : List A) (t : ℕ) (d : A) → t < length xs → set xs t (get_or xs t d) ≡ xs
 set_there [] t d lt = absurd (omega arith)
 set_there (x ∷ xs) zero d lt = refl
 set_there {A} (x ∷ xs) (suc t) d lt = ap (λ (z : List A). x ∷ z) (set_there xs t d (omega arith))

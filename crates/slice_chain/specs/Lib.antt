@@ -3,3 +3,4 @@ pub mod Links
 pub mod Written
 pub mod Writes
 pub mod Reads
+pub mod Freeing

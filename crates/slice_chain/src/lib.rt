@@ -5,10 +5,12 @@
 #![tactic(auto)]
 
 mod cells;
+mod chains;
 mod links;
 mod names;
 mod slots;
 
+pub use chains::free_chain;
 pub use links::{link, publish};
 pub use names::{entry_key, entry_offer, name_entry};
 pub use slots::{read_slot, write_slot};

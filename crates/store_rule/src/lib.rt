@@ -23,4 +23,5 @@ pub use buffers::lending_keeps_passes;
 pub use opening::NoRoom;
 pub use rule::{About, Origin};
 pub use store::{Desk, Note, Pass, Store};
+pub use tab_slots::next_slot;
 pub use tabs::{FreeingAt, ReadingAt, WritingAt};

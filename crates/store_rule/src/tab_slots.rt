@@ -85,7 +85,7 @@ pub(crate) fn ended_at(at: At, goes_on: bool) -> At
 }
 
 /// The slot that a link names.
-fn next_slot(link: Link) -> Option<u32>
+pub fn next_slot(link: Link) -> Option<u32>
     ensures { result ≡ CellMoves.next_slot link }
 {
     match link {
