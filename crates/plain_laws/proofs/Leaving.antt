@@ -23,13 +23,13 @@ use Rattle.plain_laws.proofs.ReadingAlike.{close_alike}
 use Rattle.plain_laws.proofs.WritingAlike.{give_up_alike}
 use Rattle.plain_laws.proofs.OtherLines.{other_agrees}
 
-leave_free : (tab : ℕ) (p : Plain) → tab_at p tab ≡ Free → p ≡ leave tab p
+pub leave_free : (tab : ℕ) (p : Plain) → tab_at p tab ≡ Free → p ≡ leave tab p
 leave_free tab p t = rw t refl
 
-leave_writing : (tab a : ℕ) (p : Plain) → tab_at p tab ≡ Writing a → (give_up tab p).after ≡ leave tab p
+pub leave_writing : (tab a : ℕ) (p : Plain) → tab_at p tab ≡ Writing a → (give_up tab p).after ≡ leave tab p
 leave_writing tab a p t = let g : (give_up tab p).after ≡ close_writer GivenUp tab a p = rw t refl in rw t (sym g)
 
-leave_reading : (tab a g : ℕ) (o : Bool) (p : Plain) → tab_at p tab ≡ Reading a g o → (close tab p).after ≡ leave tab p
+pub leave_reading : (tab a g : ℕ) (o : Bool) (p : Plain) → tab_at p tab ≡ Reading a g o → (close tab p).after ≡ leave tab p
 leave_reading tab a g o p t = let c : (close tab p).after ≡ settle a (with_tab p tab Free) = rw t refl in rw t (sym c)
 
 -- there is room still

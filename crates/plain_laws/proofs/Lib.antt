@@ -33,3 +33,5 @@ pub mod Openings
 pub mod Fewer
 pub mod Filed
 pub mod Tabbed
+pub mod InTurn
+pub mod Counted

@@ -11,6 +11,7 @@ use Rattle.plain_model.specs.declared.store.Setting.{Setting}
 use Rattle.plain_model.specs.declared.store.Plain.{Plain}
 use Rattle.plain_model.specs.Store.{place_at}
 use Rattle.plain_model.specs.Serving.{answers, after, leave_all, answers_of, lines_for, left_by}
+use Rattle.plain_laws.specs.Begun.{begun}
 use Rattle.plain_laws.specs.Renaming.{IsRenaming, renamed, renamed_place}
 
 abbrev pub url_anchor : Setting → List ℕ → ℕ
@@ -92,12 +93,14 @@ pub record TabsApart (s : Setting) (script : List Line) (worker : ℕ) : Type 0 
 
 -- The private lines of the worker are answered as they are by themselves, and leave the same at private anchors, before and
 -- after all tabs are left, but for versions: later ones stand for later ones, and those that were given out before for
--- themselves.
+-- themselves. The versions that the lines begin stand for one another in turn.
 pub record AnswersAlone (s : Setting) (script : List Line) (worker : ℕ) (p : Plain) : Type 0 where
   pub rename : ℕ → ℕ
   pub is : IsRenaming p.counter rename
   pub answered : answers_to (is_private s script worker) (lines_for worker script) (answers_of s script worker p)
       ≡ map (renamed rename) (answers s script (private_lines s script worker) p)
+  pub in_turn : begun (private_lines s script worker) (answers_to (is_private s script worker) (lines_for worker script) (answers_of s script worker p))
+      ≡ map rename (begun (private_lines s script worker) (answers s script (private_lines s script worker) p))
   pub places : (anchor : ℕ) → is_private_anchor s script worker anchor ≡ true
       → place_at (after s script (lines_for worker script) p) anchor ≡ renamed_place rename (place_at (after s script (private_lines s script worker) p) anchor)
   pub left : (anchor : ℕ) → is_private_anchor s script worker anchor ≡ true

@@ -23,10 +23,15 @@ ghost use Rattle.plain_laws.specs.Private.{IsOnTab, TabsApart, AnswersAlone};
 ghost use Rattle.plain_laws.specs.Opened.{FitsFile};
 
 /// A version is begun by one line: those that lines begin rise, and are above all that were given out
-/// before.
+/// before. And no version stands at an anchor that was not given out, if none did before, nor once a
+/// worker's tabs were left.
 pub fn versions_are_begun_once()
-    ensures { (s : Setting) (script lines : List Line) (p : Plain)
+    ensures once { (s : Setting) (script lines : List Line) (p : Plain)
         → RiseAbove p.counter (begun lines (answers s script lines p)) }
+    ensures counted { (s : Setting) (script lines : List Line) (p : Plain)
+        → CountsVersions p → CountsVersions (after s script lines p) }
+    ensures left { (s : Setting) (script : List Line) (worker : ℕ) (p : Plain)
+        → CountsVersions p → CountsVersions (left_by s script worker p) }
 {}
 
 /// The entry of an anchor is what one of the lines offers, under its URL and with its whole body, or one
