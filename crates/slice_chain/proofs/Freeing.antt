@@ -23,9 +23,8 @@ use Rattle.core_model.proofs.Tells.{tells as steps_tell}
 use Rattle.store_rule.specs.declared.store.Pass.{Pass}
 use Rattle.store_rule.specs.declared.store.Store.{Store}
 use Rattle.store_rule.specs.Ground.{Ground, Offers}
-use Rattle.store_rule.specs.Passes.{IsOf, Made, May, basis, view}
+use Rattle.store_rule.specs.Passes.{Made, May, basis, view}
 use Rattle.store_rule.specs.Tabs.{head_of}
-use Rattle.store_rule.specs.Told.{Steps}
 use Rattle.store_rule.proofs.Passing.{pass_of}
 use Rattle.pass_calls.specs.Calls.{Follows}
 use Rattle.pass_calls.proofs.Following.{follows_on, made_follows}

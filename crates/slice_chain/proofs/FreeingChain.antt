@@ -1,5 +1,5 @@
 -- The whole chain of an entry is given back, and its anchor is gone.
-use Rattle.std.proofs.Common.{Bool, Contains, List, None, Option, Some, [], ap, arith, cond, eq-eqb, false, get_or, get_or-set_same, inl, inr, ne_eqb, not, refl, set, subst, suc, sym, true, unwrap_or, zero, ⊎_elim, ◌*◌, ◌+◌, ◌-◌, ◌++◌, ◌<◌, ◌==◌, ◌&&◌, ◌≡◌, ◌≢◌, ◌≤◌, ◌⊎◌, ◌∙◌, ◌∷◌, ℕ, length}
+use Rattle.std.proofs.Common.{Bool, Contains, List, Option, [], ap, arith, cond, eq-eqb, false, get_or, get_or-set_same, inl, inr, ne_eqb, not, refl, set, subst, suc, sym, true, unwrap_or, zero, ⊎_elim, ◌*◌, ◌+◌, ◌-◌, ◌++◌, ◌<◌, ◌==◌, ◌&&◌, ◌≡◌, ◌≢◌, ◌≤◌, ◌∙◌, ◌∷◌, ℕ, length}
 use Rattle.std.proofs.lemmas.Bool.{false≢true}
 use Rattle.std.proofs.lemmas.List.Elements.{Contains-append_cases, Contains-append_left, Contains-append_right}
 use mathlib.Core.Option.{some}
@@ -10,7 +10,7 @@ use Rattle.lock_word.proofs.Raising.{stage_of-raised}
 use Rattle.lock_word.proofs.Testing.{stage_of-left_over}
 use Rattle.rock_disk.specs.Cell.{CellState}
 use Rattle.core_model.specs.AnchorMoves.{deed_of, raised_tab}
-use Rattle.core_model.specs.Chains.{rest_of, start_number, times}
+use Rattle.core_model.specs.Chains.{start_number, times}
 use Rattle.core_model.specs.SlotMoves.{emptied, loaded}
 use Rattle.core_model.specs.Slots.{FreerHolds}
 use Rattle.core_model.specs.Steps.{number_found}
@@ -24,7 +24,7 @@ use Rattle.core_model.specs.declared.tab.Tab.{Tab}
 use Rattle.core_model.specs.declared.tab.Tab.TheVariants.{Free, Freeing}
 use Rattle.core_model.specs.declared.view.Kind.TheVariants.{Raised}
 use Rattle.core_model.specs.declared.view.Place.{Place}
-use Rattle.core_model.specs.declared.view.Place.TheVariants.{Anchor, Beside, Link}
+use Rattle.core_model.specs.declared.view.Place.TheVariants.{Anchor, Link}
 use Rattle.core_model.specs.declared.view.View.{View}
 use Rattle.core_model.proofs.Lists.{contains_none}
 use Rattle.core_model.proofs.OwnsKept.{held_slot}
@@ -40,10 +40,9 @@ use Rattle.store_rule.specs.Told.{found_as}
 use Rattle.store_rule.proofs.Passing.{pass_of}
 use Rattle.pass_calls.specs.Calls.{Follows}
 use Rattle.pass_calls.specs.Runs.{Added, added_by, changed_at, together}
-use Rattle.pass_calls.specs.Words.{has}
 use Rattle.pass_calls.proofs.AddingUp.{has_left, went_one, went_then}
 use Rattle.pass_calls.proofs.Following.{follows_on, made_follows}
-use Rattle.slice_chain.specs.Freeing.{Freed, FreedSome, MayFreeChain, MayFreeRest, RestFreed, WasGiven, is_freeing_anchor, slot_named}
+use Rattle.slice_chain.specs.Freeing.{Freed, MayFreeChain, MayFreeRest, RestFreed, WasGiven, slot_named}
 use Rattle.slice_chain.proofs.FreeingRest.{same_freer, still_frees}
 use Rattle.slice_chain.proofs.Writing.{set_again}
 

@@ -6,11 +6,10 @@ use Rattle.link_word.specs.declared.link.Link.{Link}
 use Rattle.link_word.specs.declared.link.Link.TheVariants.{NotWritten}
 use Rattle.lock_word.specs.Words.{epoch_of, stage_of}
 use Rattle.rock_disk.specs.Cell.{CellState}
-use Rattle.core_model.specs.AllowedByView.{KnowsSlot, WroteFirst}
 use Rattle.core_model.specs.Chains.{Fits, start_number}
 use Rattle.core_model.specs.SlotMoves.{loaded, publishes}
 use Rattle.core_model.specs.Slots.{ChainStands, ReaderHolds, WriterHolds, slot_words}
-use Rattle.core_model.specs.State.{State, chain_of, word}
+use Rattle.core_model.specs.State.{chain_of, word}
 use Rattle.core_model.specs.Tabs.{InnerIsFree, OfReader, OfWriter, inner, is_free, tab_at}
 use Rattle.core_model.specs.Told.{NameFound, Tells}
 use Rattle.core_model.specs.Steps.{number_found}
@@ -18,7 +17,6 @@ use Rattle.core_model.specs.Holders.{MatchesWriter}
 use Rattle.core_model.specs.declared.chain.Chain.{Chain}
 use Rattle.core_model.specs.declared.moves.Move.TheVariants.{LoadSide, Publish, StoreSide}
 use Rattle.core_model.specs.declared.moves.Side.TheVariants.{Start}
-use Rattle.core_model.specs.declared.tab.Reader.{Reader}
 use Rattle.core_model.specs.declared.tab.Tab.{Tab}
 use Rattle.core_model.specs.declared.tab.Writer.{Writer}
 use Rattle.core_model.specs.declared.view.View.{View}
@@ -30,9 +28,9 @@ use Rattle.store_rule.specs.declared.store.Pass.{Pass}
 use Rattle.store_rule.specs.declared.store.Store.{Store}
 use Rattle.store_rule.specs.declared.tabs.WritingAt.{WritingAt}
 use Rattle.store_rule.specs.Ground.{Ground, Offers}
-use Rattle.store_rule.specs.Passes.{IsOf, Made, May, basis, view}
+use Rattle.store_rule.specs.Passes.{Made, May, basis, view}
 use Rattle.store_rule.specs.Tabs.{writing_of}
-use Rattle.store_rule.specs.Told.{Stands, Steps}
+use Rattle.store_rule.specs.Told.{Stands}
 use Rattle.store_rule.proofs.Passing.{pass_of}
 use Rattle.slice_chain.specs.Links.{MayLocate, MayPublishSlot, next_link, slot_known}
 

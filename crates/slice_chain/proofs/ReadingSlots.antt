@@ -4,12 +4,9 @@ use Rattle.std.proofs.lemmas.Bool.{eqb-true}
 use Rattle.std.specs.Prelude.{Contains, Err, IsTrue, Ok, OnErr, OnOk, Result}
 use Rattle.std.proofs.lemmas.List.{with_items_is}
 use Rattle.std.specs.Result.{is_ok}
-use mathlib.Core.Option.{some}
-use lib.ListN.{get_elem?}
 use Rattle.rock_disk.specs.Cell.{CellState, shape}
 use Rattle.core_model.specs.AllowedByView.{KnowsLink}
 use Rattle.core_model.specs.CellMoves.{ends, tries}
-use Rattle.core_model.specs.Holders.{IsTab}
 use Rattle.core_model.specs.Steps.{cell_found}
 use Rattle.core_model.specs.Tabs.{inner, tab_at, turn_of, with_tab}
 use Rattle.core_model.specs.declared.moves.Move.TheVariants.{EndTurn, TryTurn}
@@ -33,12 +30,12 @@ use Rattle.store_rule.specs.Lending.{buffer_at, with_buffer_at, with_bytes}
 use Rattle.store_rule.specs.Passes.{HasCell, HasRoom, IsOf, May, basis, hand, view}
 use Rattle.store_rule.specs.Ruled.{IsFitting}
 use Rattle.store_rule.specs.Setting.{form_of, shown, shown_in}
-use Rattle.store_rule.specs.Told.{Stands, Steps}
+use Rattle.store_rule.specs.Told.{Steps}
 use Rattle.store_rule.specs.Turns.{HasReturned, HasTaken, IsReturned, Lost, MayComeHome, MayReturn, MovesCell, TurnEnded, TurnFound, TurnWaited, new_hold}
 use Rattle.store_rule.proofs.Lending.{lent_own}
 use Rattle.store_rule.proofs.Passing.{pass_of}
 use Rattle.slice_chain.specs.Links.{slot_known}
-use Rattle.slice_chain.specs.Reads.{FollowsReading, HasRead, HoldsPiece, MayReadSlot, ReadSlot, went_on}
+use Rattle.slice_chain.specs.Reads.{FollowsReading, HoldsPiece, MayReadSlot, ReadSlot, went_on}
 use Rattle.slice_chain.proofs.Writing.{buffer_long, same_cell, same_rest, set_again}
 
 pub set_there : {A : Type 0} → (xs : List A) (t : ℕ) (d : A) → t < length xs → set xs t (get_or xs t d) ≡ xs

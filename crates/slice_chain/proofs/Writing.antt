@@ -1,16 +1,12 @@
 -- How a slot is written: each call on the way may be made, and what becomes of the tab.
-use Rattle.std.proofs.Common.{Bool, List, None, Option, Some, [], ap, arith, cond, false, true, get_or, get_or-set_other, get_or-set_same, map, suc, zero, All, inl, inr, length, length-set, ne_eqb, drop, eq-eqb, refl, set, subst, sym, unwrap_or, ⊎_elim, ◌+◌, ◌<◌, ◌==◌, ◌≡◌, ◌≢◌, ◌≤◌, ◌⊎◌, ◌∙◌, ◌∷◌, ℕ}
+use Rattle.std.proofs.Common.{Bool, List, None, Option, Some, [], ap, arith, cond, false, true, get_or, get_or-set_other, get_or-set_same, suc, zero, All, inl, inr, length, drop, refl, set, subst, sym, unwrap_or, ⊎_elim, ◌<◌, ◌==◌, ◌≡◌, ◌≤◌, ◌⊎◌, ◌∙◌, ◌∷◌, ℕ}
 use Rattle.std.specs.Prelude.{Contains, Err, IsTrue, Ok, OnErr, Result}
-use mathlib.Core.Option.{some}
-use lib.ListN.{get_elem?}
 use Rattle.rock_disk.specs.Cell.{CellState, shape}
 use Rattle.core_model.specs.CellMoves.{MayWrite, ends, piece_of, tries}
 use Rattle.core_model.specs.Steps.{cell_found}
 use Rattle.core_model.specs.Chains.{rest_of}
-use Rattle.core_model.specs.Layout.{Setting}
 use Rattle.core_model.specs.Slots.{WriterHolds, slot_words}
 use Rattle.core_model.specs.State.{chain_of}
-use Rattle.core_model.specs.TableForms.{with_hold}
 use Rattle.core_model.specs.Tabs.{OfWriter, has_turn, inner, tab_at, turn_of, with_tab}
 use Rattle.core_model.specs.declared.moves.Move.TheVariants.{EndTurn, TryTurn}
 use Rattle.core_model.specs.declared.tab.Cell.{Cell}
@@ -18,8 +14,7 @@ use Rattle.core_model.specs.declared.tab.Hold.{Hold}
 use Rattle.core_model.specs.declared.tab.Piece.{Piece}
 use Rattle.core_model.specs.declared.tab.Tab.{Tab}
 use Rattle.core_model.specs.declared.tab.Tab.TheVariants.{Writing}
-use Rattle.core_model.specs.declared.tab.Turn.{Turn as TurnOf}
-use Rattle.core_model.specs.declared.tab.Turn.TheVariants.{Has, NoTurn}
+use Rattle.core_model.specs.declared.tab.Turn.TheVariants.{Has}
 use Rattle.core_model.specs.declared.tab.Writer.{Writer}
 use Rattle.core_model.specs.declared.view.View.{View}
 use Rattle.core_model.proofs.Tabs.{tab_there}
@@ -30,12 +25,12 @@ use Rattle.store_rule.specs.declared.store.Pass.{Pass}
 use Rattle.store_rule.specs.declared.store.Store.{Store}
 use Rattle.store_rule.specs.Ground.{Ground, Offers}
 use Rattle.store_rule.specs.Lending.{buffer_at}
-use Rattle.store_rule.specs.Passes.{HasCell, HasRoom, IsOf, Made, May, basis, hand, view}
+use Rattle.store_rule.specs.Passes.{HasCell, HasRoom, IsOf, May, basis, hand, view}
 use Rattle.store_rule.specs.Ruled.{IsFitting}
 use Rattle.store_rule.specs.Setting.{form_of, image_in, shown, shown_in}
 use Rattle.store_rule.specs.Tabs.{head_of}
 use Rattle.store_rule.specs.Told.{Steps}
-use Rattle.store_rule.specs.Turns.{HasReturned, HasTaken, IsBack, IsReturned, MayComeHome, MayReturn, MovesCell, TurnEnded, TurnFound, new_hold}
+use Rattle.store_rule.specs.Turns.{HasReturned, HasTaken, IsReturned, MayComeHome, MayReturn, MovesCell, TurnEnded, TurnFound, new_hold}
 use Rattle.store_rule.proofs.Passing.{pass_of}
 use Rattle.slice_chain.specs.Writes.{MayWriteSlot, WroteSlot, chose, reserved_first}
 use Rattle.slice_chain.specs.Written.{IsWrittenCell, MayBeLeft}

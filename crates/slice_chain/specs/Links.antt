@@ -1,5 +1,5 @@
 -- What becomes of links: a slot is published, and a reader looks where its entry goes on.
-use Rattle.std.specs.Prelude.{Bool, List, None, Option, Some, [], ◌+◌, ◌<◌, ◌≡◌, ◌≢◌, ◌≤◌, ◌⊎◌, ℕ}
+use Rattle.std.specs.Prelude.{Bool, None, Option, Some, [], ◌+◌, ◌<◌, ◌≡◌, ◌≢◌, ◌≤◌, ◌⊎◌, ℕ}
 use Rattle.link_word.specs.Words.{link_number}
 use Rattle.link_word.specs.declared.link.Link.{Link}
 use Rattle.link_word.specs.declared.link.Link.TheVariants.{Last, Next}

@@ -1,5 +1,5 @@
 -- A slot is read: its turn is waited for, its cell moved out, read, moved home, and the turn ended.
-use Rattle.std.specs.Prelude.{Bool, Contains, IsTrue, List, Some, cond, slice_index, true, ◌+◌, ◌≡◌, ◌≢◌, ◌≤◌, ℕ}
+use Rattle.std.specs.Prelude.{Bool, Contains, IsTrue, List, cond, slice_index, true, ◌+◌, ◌≡◌, ◌≢◌, ◌≤◌, ℕ}
 use Rattle.link_word.specs.declared.link.Link.TheVariants.{NotWritten}
 use Rattle.rock_disk.specs.Cell.{CellState}
 use Rattle.core_model.specs.AllowedByView.{KnowsLink}
@@ -11,7 +11,6 @@ use Rattle.core_model.specs.declared.moves.Move.TheVariants.{EndTurn, TryTurn}
 use Rattle.core_model.specs.declared.moves.Side.TheVariants.{Offer}
 use Rattle.core_model.specs.declared.tab.Cell.{Cell}
 use Rattle.core_model.specs.declared.tab.Reader.{Reader}
-use Rattle.core_model.specs.declared.tab.Tab.{Tab}
 use Rattle.core_model.specs.declared.tab.Tab.TheVariants.{Reading}
 use Rattle.core_model.specs.declared.tab.Turn.TheVariants.{Has, NoTurn}
 use Rattle.core_model.specs.declared.view.Sight.TheVariants.{Named}
@@ -24,7 +23,6 @@ use Rattle.store_rule.specs.Passes.{IsOf, basis, hand, view}
 use Rattle.store_rule.specs.Told.{Steps}
 use Rattle.store_rule.specs.Turns.{Lost, new_hold}
 use Rattle.pass_calls.specs.Calls.{Others}
-use Rattle.slice_chain.specs.Links.{slot_known}
 
 -- The tab reads, knows the slot at its place, and found its link written.
 pub record MayReadSlot {C O : Type 0} (tells : Bool) (state : C → CellState) (offers : O → Offers) (s : Store C O) (p : Pass C) (t : ℕ) : Type 0 where

@@ -1,14 +1,11 @@
 -- How far numbers go that a tab has at hand: slots are below how many there are, and no chain is longer than that.
-use Rattle.std.proofs.Common.{◌≡◌, ◌≢◌, ◌⊎◌, ⊎_elim, inl, inr, ℕ, zero, suc, ◌+◌, ◌-◌, ◌<◌, ◌≤◌, List, [], ◌∷◌, Option, None, Some, Bool, true, false, ltb, cond, ap, sym, refl, subst, ◌∙◌, arith, get_or, length, sum_by}
+use Rattle.std.proofs.Common.{◌≡◌, ℕ, zero, suc, ◌+◌, ◌<◌, ◌≤◌, List, [], ◌∷◌, Bool, true, false, ltb, refl, arith, get_or, length, sum_by}
 use Rattle.std.proofs.lemmas.List.Sums.{sum_by-cons}
 use mathlib.Core.Option.{some}
 use lib.ListN.{get_elem?}
-use Rattle.link_word.specs.Words.{link_number}
-use Rattle.link_word.specs.declared.link.Link.{Link}
 use Rattle.core_model.specs.declared.chain.Chain.{Chain}
 use Rattle.core_model.specs.declared.moves.Side.{Side}
 use Rattle.core_model.specs.declared.moves.Move.TheVariants.{LoadSide}
-use Rattle.core_model.specs.declared.tab.Reader.{Reader}
 use Rattle.core_model.specs.declared.tab.Writer.{Writer}
 use Rattle.core_model.specs.declared.tab.Tab.{Tab}
 use Rattle.core_model.specs.declared.view.View.{View}
@@ -17,7 +14,7 @@ use Rattle.core_model.specs.Slots.{slot_words, standing_in, used}
 use Rattle.core_model.specs.Spots.{slots_chained, slots_held}
 use Rattle.core_model.specs.State.{State, chain_of}
 use Rattle.core_model.specs.Tabs.{count, tab_at}
-use Rattle.core_model.specs.Told.{NameTells, NameFound}
+use Rattle.core_model.specs.Told.{NameFound}
 use Rattle.core_model.proofs.SlotsCounted.{slots_counted}
 use Rattle.core_model.proofs.Lists.{le_sum_at}
 use Rattle.core_model.proofs.SlotsLoosened.{standing_few}

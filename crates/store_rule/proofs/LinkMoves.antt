@@ -1,5 +1,5 @@
 -- Stores and loads of the links of slots are steps of the core, and what a link that was loaded may be.
-use Rattle.std.proofs.Common.{Bool, true, false, cond, not, ◌==◌, get_or, get_or-set_other, set, map, eq-eqb, ne_eqb, length-set, inl, inr, ◌+◌, ◌*◌, ◌<◌, ◌≤◌, ◌≡◌, ◌≢◌, ◌⊎◌, ⊎_elim, ◌∷◌, ◌++◌, List, Option, None, Some, [], ap, sym, subst, ◌∙◌, arith, length, drop, refl, ℕ, zero, suc}
+use Rattle.std.proofs.Common.{Bool, true, false, cond, not, ◌==◌, get_or, get_or-set_other, set, map, eq-eqb, ne_eqb, length-set, inl, inr, ◌+◌, ◌*◌, ◌<◌, ◌≤◌, ◌≡◌, ◌≢◌, ◌⊎◌, ⊎_elim, ◌∷◌, ◌++◌, List, Option, [], ap, sym, subst, ◌∙◌, arith, length, drop, refl, ℕ, zero, suc}
 use Rattle.std.proofs.lemmas.Bool.{false≢true}
 use Rattle.std.proofs.lemmas.List.{length-append, map-set}
 use mathlib.Core.Logic.{dite}
@@ -12,19 +12,16 @@ use Rattle.link_word.specs.Words.{link_number}
 use Rattle.link_word.specs.declared.link.Link.{Link}
 use Rattle.link_word.specs.declared.link.Link.TheVariants.{Last as LastLink, Next, NotWritten}
 use Rattle.core_model.specs.AllowedByView.{MayMake}
-use Rattle.core_model.specs.Chains.{link_at, link_of, link_to, no_chain, rest_of, slots_of_link, times}
-use Rattle.core_model.specs.Holders.{IsTab}
-use Rattle.core_model.specs.Layout.{IsPlace, word_count}
+use Rattle.core_model.specs.Chains.{link_of, link_to, rest_of, slots_of_link, times}
+use Rattle.core_model.specs.Layout.{word_count}
 use Rattle.core_model.specs.Slots.{WriterHolds}
 use Rattle.core_model.specs.State.{State, chain_of, word}
 use Rattle.core_model.specs.Tabs.{tab_at}
 use Rattle.core_model.specs.Told.{LinkFound}
-use Rattle.core_model.specs.declared.moves.Move.{Move}
 use Rattle.core_model.specs.declared.moves.Move.TheVariants.{GetLink, Loosen, Publish}
 use Rattle.core_model.specs.declared.tab.Freer.{Freer}
 use Rattle.core_model.specs.declared.tab.Reader.{Reader}
 use Rattle.core_model.specs.declared.tab.Tab.{Tab}
-use Rattle.core_model.specs.declared.tab.Writer.{Writer}
 use Rattle.core_model.specs.declared.view.Place.TheVariants.{Link as LinkWord}
 use Rattle.core_model.specs.declared.view.View.{View}
 use Rattle.core_model.proofs.FollowsKept.{followed, link_of_number}

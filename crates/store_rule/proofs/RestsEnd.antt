@@ -1,10 +1,10 @@
 -- That what an inner tab gives back ends is kept by each step.
-use Rattle.std.proofs.Common.{◌≡◌, ◌≢◌, ◌⊎◌, inl, inr, ⊎_elim, ℕ, zero, suc, ◌+◌, ◌-◌, List, [], ◌∷◌, ◌++◌, length, get_or, set, drop, sym, refl, ap, ◌∙◌, subst, Bool, true, false, not, cond, ◌==◌, ◌&&◌, ltb, Option, Some, None, unwrap_or}
-use mathlib.Core.Option.{some, some-injective, some-ne-none}
+use Rattle.std.proofs.Common.{◌≡◌, ◌≢◌, ◌⊎◌, ⊎_elim, ℕ, zero, suc, ◌-◌, List, [], ◌∷◌, length, get_or, set, sym, refl, subst, Bool, true, false, not, cond, ◌==◌, ◌&&◌, Option}
+use mathlib.Core.Option.{some, some-ne-none}
 use lib.ListN.{get_elem?}
 use Rattle.lock_word.specs.declared.stage.Stage.{Stage}
 use Rattle.lock_word.specs.declared.stage.Stage.TheVariants.{Empty, Taken, Appending, Closed, Halted, Freeing as FreeingStage, Gone}
-use Rattle.lock_word.specs.Words.{epoch_of, version_of, is_readable, is_idle, is_left_over}
+use Rattle.lock_word.specs.Words.{epoch_of, is_readable, is_idle, is_left_over}
 use Rattle.link_word.specs.declared.link.Link.{Link}
 use Rattle.core_model.specs.declared.moves.Side.{Side}
 use Rattle.core_model.specs.declared.moves.Side.TheVariants.{Key0, Key1, Offer, Start}
@@ -16,23 +16,21 @@ use Rattle.core_model.specs.declared.tab.Freer.{Freer}
 use Rattle.core_model.specs.declared.tab.Tab.{Tab}
 use Rattle.core_model.specs.declared.tab.Tab.TheVariants.{Free, Retreating, Reading, Writing, Last, Freeing}
 use Rattle.core_model.specs.declared.view.View.{View}
-use Rattle.core_model.specs.Layout.{Setting, index}
+use Rattle.core_model.specs.Layout.{Setting}
 use Rattle.core_model.specs.State.{State, word, chain_of}
 use Rattle.core_model.specs.Trails.{last_find}
 use Rattle.core_model.specs.Chains.{without}
 use Rattle.core_model.specs.SlotMoves.{loaded, stores, reserves, gives_back, publishes, loosens, looks}
 use Rattle.core_model.specs.CellMoves.{tries, ends, moves, is_kept, rewrites, settled_by_write, settled_by_sync, note_of}
 use Rattle.core_model.specs.Table.{tabs_after, left_by}
-use Rattle.core_model.specs.Holders.{IsTab}
 use Rattle.core_model.specs.AnchorMoves.{entered, left_tab, writer_of, freer_of, raised_tab, taken_tabs, evicted_tabs}
 use Rattle.core_model.specs.Chains.{behind_of}
 use Rattle.core_model.specs.declared.chain.Chain.{Chain}
 use Rattle.core_model.specs.Tabs.{tab_at, inner, anchor_of}
 use Rattle.core_model.specs.Steps.{number_found, cell_found, finding, view_after, after}
 use Rattle.core_model.specs.TableForms.{renewed, with_hold}
-use Rattle.core_model.specs.Opening.{new_view, new_views}
 use Rattle.core_model.proofs.Choices.{view_was}
-use Rattle.core_model.proofs.Lists.{at_set, at_or}
+use Rattle.core_model.proofs.Lists.{at_set}
 use Rattle.core_model.proofs.NotesFrame.{Before, Renews}
 use Rattle.store_rule.specs.Ground.{RestsEnd}
 use Rattle.core_model.specs.declared.tab.Hold.{Hold}

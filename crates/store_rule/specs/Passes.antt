@@ -32,6 +32,14 @@ HasCell p slot c = hand p ≡ (slot, Some c) ∷ rest (hand p)
 abbrev pub HasRoom : {C : Type 0} → Pass C → ℕ → Type 0
 HasRoom p slot = hand p ≡ (slot, None) ∷ rest (hand p)
 
+-- all but the place where the next search for an entry to evict begins is as it was
+pub record HandMoves {C : Type 0} (p q : Pass C) : Type 0 where
+  pub seat : q.seat ≡ p.seat
+  pub tabs : q.tabs ≡ p.tabs
+  pub left : q.left ≡ p.left
+  pub desks : q.desks ≡ p.desks
+  pub cells : q.cells ≡ p.cells
+
 -- what a note has seen
 abbrev pub note_seen : {C : Type 0} → Note C → List Sight
 note_seen n = (the_view n.seat.me.0).seen

@@ -72,7 +72,7 @@ impl<C> Pass<C> {
     ghost use Rattle.core_model.specs.Tabs.{tab_at, is_free, anchor_of};
     ghost use Rattle.core_model.specs.Tabs.{stage_held};
     ghost use Rattle.store_rule.specs.Tabs.{at_of, freeing_of, is_last, reading_of, writing_of};
-    ghost use Rattle.store_rule.specs.Passes.{view};
+    ghost use Rattle.store_rule.specs.Passes.{HandMoves, view};
 
     pub(crate) fn at(&self, tab: u8) -> At
         requires { tab < 9 }
@@ -150,6 +150,14 @@ impl<C> Pass<C> {
         ensures { result ≡ self.now.hand }
     {
         self.hand
+    }
+
+    /// Moves the place where the next search for an entry to evict begins to this anchor.
+    pub fn set_hand(&mut self, anchor: u32)
+        ensures hand { self.new.hand ≡ anchor }
+        ensures kept { HandMoves self.old self.new }
+    {
+        self.hand = anchor;
     }
 
     /// The stage of its anchor, where it writes or frees there.

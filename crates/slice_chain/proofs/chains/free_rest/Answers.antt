@@ -4,7 +4,7 @@ use Rattle.core_model.specs.Tabs.{inner}
 use Rattle.store_rule.specs.Passes.{basis, view}
 use Rattle.store_rule.proofs.Passing.{pass_of}
 use Rattle.slice_chain.specs.Freeing.{RestLeft}
-use Rattle.slice_chain.proofs.FreeingRest.{may_front, one_more, rest_begins, rest_ends}
+use Rattle.slice_chain.proofs.FreeingRest.{may_front, one_more, rest_begins}
 use Rattle.slice_chain.proofs.chains.free_rest.Goals as goal
 
 pub loop-front-init : goal.loop-front-init

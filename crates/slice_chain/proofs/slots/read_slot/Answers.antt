@@ -1,11 +1,8 @@
-use Rattle.std.proofs.Common.{Bool, List, ap, false, subst, sym, true, ◌≡◌, ◌∙◌, ℕ}
-use Rattle.core_model.specs.declared.tab.Cell.{Cell}
-use Rattle.store_rule.specs.Lending.{buffer_at}
+use Rattle.std.proofs.Common.{Bool, subst, sym, ◌∙◌}
 use Rattle.store_rule.specs.Passes.{basis, view}
 use Rattle.store_rule.specs.Setting.{shown}
-use Rattle.store_rule.specs.Turns.{TurnEnded}
-use Rattle.slice_chain.specs.Reads.{HasRead, ReadSlot}
-use Rattle.slice_chain.proofs.ReadingSlots.{follows, has_returned, has_room, known_slot, may_end_turn, may_put, own3, read, read_bytes, taken, when_err, when_ok, wide_enough}
+use Rattle.slice_chain.specs.Reads.{ReadSlot}
+use Rattle.slice_chain.proofs.ReadingSlots.{follows, has_returned, known_slot, may_end_turn, may_put, own3, read, read_bytes, taken, when_err, when_ok, wide_enough}
 use Rattle.slice_chain.proofs.slots.read_slot.Goals as goal
 
 pub read_cell-result-requires-after_bounds : goal.read_cell-result-requires-after_bounds

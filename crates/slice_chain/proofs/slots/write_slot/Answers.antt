@@ -1,4 +1,4 @@
-use Rattle.std.proofs.Common.{Bool, List, ap, false, length, true, subst, sym, ◌≡◌, ◌∙◌, ℕ}
+use Rattle.std.proofs.Common.{Bool, List, ap, false, length, true, subst, sym, ◌∙◌, ℕ}
 use Rattle.std.proofs.lemmas.Bool.{false≢true}
 use Rattle.std.proofs.lemmas.Result.{on_ok_weaker}
 use Rattle.store_rule.specs.Turns.{TurnFound}

@@ -4,7 +4,6 @@ use Rattle.store_rule.proofs.Moves.{wide}
 use Rattle.store_rule.proofs.SideMoves.{loads, beside_at}
 use Rattle.store_rule.proofs.AtHand.{loaded_hand}
 use Rattle.std.proofs.Common.{ap, sym, subst, ◌∙◌}
-use Rattle.core_model.specs.Tabs.{tab_at}
 use Rattle.store_rule.specs.Passes.{view}
 use Rattle.store_rule.specs.Tabs.{HasNumber, loaded_here}
 use Rattle.store_rule.specs.declared.tabs.At.{At}

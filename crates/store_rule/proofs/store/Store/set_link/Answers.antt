@@ -1,6 +1,5 @@
 use Rattle.std.proofs.Common.{ap, refl, subst, sym, ◌∙◌}
 use Rattle.store_rule.specs.Setting.{form_of}
-use Rattle.core_model.specs.Tabs.{tab_at}
 use Rattle.store_rule.specs.Passes.{basis, view}
 use Rattle.store_rule.specs.Tabs.{HasPlace, published_here}
 use Rattle.store_rule.specs.declared.tabs.At.{At}
