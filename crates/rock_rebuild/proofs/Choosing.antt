@@ -71,7 +71,7 @@ replaces anchors anchor found others best leads is not = record {
 }
 
 -- at other anchors all stays
-passed : (anchors anchor : ℕ) (found : Found) (others : List Found) (best : Option Found) → (anchor_of found.key anchors ≡ anchor → ⊥) → BestOf anchors anchor others best → BestOf anchors anchor (found ∷ others) best
+pub passed : (anchors anchor : ℕ) (found : Found) (others : List Found) (best : Option Found) → (anchor_of found.key anchors ≡ anchor → ⊥) → BestOf anchors anchor others best → BestOf anchors anchor (found ∷ others) best
 passed anchors anchor found others None not none = λ f there at. elim (here_or_behind found others f there) as (λ _. ⊥) [
   | inl same ↦ not (ap (λ g. anchor_of g.key anchors) same ∙ at)
   | inr other ↦ none f other at
@@ -85,10 +85,10 @@ passed anchors anchor found others (Some best) not is = record {
   ];
 }
 
-apart : (y s : ℕ) → nat_eq y s ≡ false → s ≡ y → ⊥
+pub apart : (y s : ℕ) → nat_eq y s ≡ false → s ≡ y → ⊥
 apart y s e same = grind (arith, nat_tests)
 
-together : (y s : ℕ) → nat_eq y s ≡ true → y ≡ s
+pub together : (y s : ℕ) → nat_eq y s ≡ true → y ≡ s
 together y s e = grind (arith, nat_tests)
 
 -- the entries from a place on, where one is there
@@ -139,7 +139,7 @@ later_at found place f up there =
     let split : found ≡ take place found ++ f ∷ drop (place + 1) found = sym (take-append-drop place found) ∙ ap (λ l. take place found ++ l) (front_of found place f there) in
     later (take place found) f (drop (place + 1) found) (subst (λ l. IsStrictlyIncreasing (map (λ g. g.first) l)) split up)
 
-takes_it : (anchors anchor place : ℕ) (found : List Found) (f : Found) (best : Option Found) → slice_get found place ≡ Some f → IsStrictlyIncreasing (map (λ g. g.first) found) → anchor_of f.key anchors ≡ anchor
+pub takes_it : (anchors anchor place : ℕ) (found : List Found) (f : Found) (best : Option Found) → slice_get found place ≡ Some f → IsStrictlyIncreasing (map (λ g. g.first) found) → anchor_of f.key anchors ≡ anchor
     → BestOf anchors anchor (drop (place + 1) found) best → ((b : Found) → best ≡ Some b → b.version ≤ f.version) → IsBestOf anchors anchor (drop place found) f
 takes_it anchors anchor place found f None there up at none old =
     let leads : Leads anchors anchor f (drop (place + 1) found) = record { at = at; before = later_at found place f up there } in

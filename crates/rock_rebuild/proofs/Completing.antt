@@ -15,6 +15,7 @@ use Rattle.rebuild_model.specs.declared.found.Found.{Found}
 use Rattle.store_key.specs.Key.{key_of}
 use Rattle.rock_rebuild.specs.Kept.{IsHeaderOf, SaysHead, HasNoHead}
 use Rattle.rock_rebuild.specs.Left.{AreLeft, HasNoChain, IsChainAt}
+use Rattle.rock_rebuild.specs.Gathered.{found_with}
 use Rattle.rock_rebuild.proofs.Options.{not_both}
 
 -- the first slot of a chain belongs to itself
@@ -99,16 +100,13 @@ complete slot images first url meta chain size is says of_url = record {
   body = refl;
 }
 
-abbrev pub found_with : ℕ → ℕ → List ℕ → List ℕ → List ℕ → ℕ → Found
-found_with first version key url chain length = record { first = first; version = version; key = key; url = url; length = length; chain = chain }
-
 -- what is told of an entry is the same where its parts are
 pub same_found : (first : ℕ) {version other : ℕ} {key same url told : List ℕ} {chain more : List ℕ} {n m : ℕ} → version ≡ other → key ≡ same → url ≡ told → n ≡ m → chain ≡ more
-    → found_with first version key url chain n ≡ found_with first other same told more m
+    → found_with first version key url n chain ≡ found_with first other same told m more
 same_found first v k u length chain = cc
 
 pub found : (slot : ℕ) (images : List (List ℕ)) (first : ℕ) (version : ℕ) (key url : List ℕ) (meta : ℕ) (chain : List ℕ) (size : ℕ) (f : Found) → IsFile slot images → IsChainAt slot images first chain size
-    → SaysHead first (image_at images first) url meta → version ≡ (header_at images first).version → key ≡ key_at images first → key ≡ key_of url → f ≡ found_with first version key url chain (size - meta) → IsFound slot images first f
+    → SaysHead first (image_at images first) url meta → version ≡ (header_at images first).version → key ≡ key_at images first → key ≡ key_of url → f ≡ found_with first version key url (size - meta) chain → IsFound slot images first f
 found slot images first version key url meta chain size f file is says of_version of_key of_url same = record {
   entry = entry_of images first url meta chain;
   complete = complete slot images first url meta chain size is says (sym of_key ∙ of_url);

@@ -12,13 +12,13 @@ use Rattle.rock_rebuild.specs.Best.{BestOf, AreBest, found_at}
 use Rattle.rock_rebuild.specs.Winners.{AreKept}
 
 -- any entry
-some_entry : Entry
+pub some_entry : Entry
 some_entry = record { first = 0; version = 0; key = []; url = []; chain = []; body = [] }
 
-map_there : {X Y : Type 0} (f : X → Y) (xs : List X) (x : X) → Contains xs x → Contains (map f xs) (f x)
+pub map_there : {X Y : Type 0} (f : X → Y) (xs : List X) (x : X) → Contains xs x → Contains (map f xs) (f x)
 map_there f xs x there = (there.0, omega (arith, there.1, length-map xs f), get_or-map f xs there.0 x (f x) there.1 ∙ ap f there.2)
 
-map_from : {X Y : Type 0} (f : X → Y) (xs : List X) (d : X) (y : Y) → Contains (map f xs) y → (x : X) × Contains xs x × (y ≡ f x)
+pub map_from : {X Y : Type 0} (f : X → Y) (xs : List X) (d : X) (y : Y) → Contains (map f xs) y → (x : X) × Contains xs x × (y ≡ f x)
 map_from f xs d y there =
     let inside : there.0 < length xs = omega (arith, there.1, length-map xs f) in
     (get_or xs there.0 d, (there.0, inside, get_or_default xs there.0 (get_or xs there.0 d) d inside), sym there.2 ∙ get_or-map f xs there.0 d y inside)
@@ -27,7 +27,7 @@ pub firsts_of : (entries : List Entry) → map (λ f. f.first) (map found_of ent
 firsts_of [] = refl
 firsts_of (e ∷ entries) = ap (λ l. e.first ∷ l) (firsts_of entries)
 
-kept_at : (slot : ℕ) (images : List (List ℕ)) (anchors anchor : ℕ) (scan : Scan) (best : Option Found) → IsScan slot images scan → BestOf anchors anchor scan.found best
+pub kept_at : (slot : ℕ) (images : List (List ℕ)) (anchors anchor : ℕ) (scan : Scan) (best : Option Found) → IsScan slot images scan → BestOf anchors anchor scan.found best
     → MatchOption best (HasNoneAt slot images anchors anchor) (IsKept slot images anchors anchor)
 kept_at slot images anchors anchor scan None s none = λ e c at. none (found_of e) (subst (λ l. Contains l (found_of e)) (sym s.told) (map_there found_of s.entries e (s.every e c))) at
 kept_at slot images anchors anchor scan (Some b) s is =

@@ -12,4 +12,7 @@ pub mod Scanned
 pub mod Choosing
 pub mod Keeping
 pub mod Owning
-pub mod Counted
+pub mod CandidateLists
+pub mod BestCandidates
+pub mod Marking
+pub mod Tallied

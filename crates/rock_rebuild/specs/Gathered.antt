@@ -4,6 +4,10 @@ use Rattle.std.specs.List.Sorted.{IsStrictlyIncreasing}
 use Rattle.rebuild_model.specs.Entry.{Entry, IsComplete, found_of}
 use Rattle.rebuild_model.specs.declared.found.Found.{Found}
 
+-- an entry, told part by part
+abbrev pub found_with : ℕ → ℕ → (key url : List ℕ) → ℕ → List ℕ → Found
+found_with first version key url length chain = record { first = first; version = version; key = key; url = url; length = length; chain = chain }
+
 -- these are the complete entries that begin before slot `bound`, in order of their first slots
 pub record AreFound (slot : ℕ) (images : List (List ℕ)) (bound : ℕ) (found : List Found) : Type 0 where
   pub entries : List Entry

@@ -6,4 +6,5 @@ pub mod Gathered
 pub mod Scan
 pub mod Best
 pub mod Winners
+pub mod Candidates
 pub mod Tally

@@ -1,10 +1,7 @@
 -- How much a store keeps of a file.
-use Rattle.std.specs.Prelude.{◌≡◌, ℕ, ◌≤◌, List, Option, length, count_by, nat_lt}
-use Rattle.rebuild_model.specs.declared.found.Found.{Found}
+use Rattle.std.specs.Prelude.{◌≡◌, ℕ, List, length, count_by, nat_lt}
 use Rattle.rebuild_model.specs.declared.rebuilt.Rebuilt.{Rebuilt}
 use Rattle.rebuild_model.specs.Rebuilt.{IsRebuilt}
-use Rattle.rebuild_model.specs.Keeping.{AreWinners, AreOwners}
-use Rattle.rock_rebuild.specs.Winners.{AreKept}
 use Rattle.rock_rebuild.specs.declared.outcome.Tally.{Tally}
 
 -- how many slots have an owner
@@ -23,12 +20,3 @@ pub record IsTally (slot : ℕ) (images : List (List ℕ)) (anchors : ℕ) (tall
   pub rebuilt : Rebuilt
   pub is : IsRebuilt slot images anchors rebuilt
   pub counts : Counts rebuilt tally
-
--- these are the owners of the slots, and the number of the entries that are kept at the first anchors, by their places
-pub record AreCounted (found : List Found) (best : List (Option ℕ)) (anchors slots bound count : ℕ) (owner : List ℕ) : Type 0 where
-  pub winners : List Found
-  pub many : length winners ≡ count
-  pub few : count ≤ bound
-  pub sized : length owner ≡ slots
-  pub owned : AreOwners anchors winners owner
-  pub kept : (slot : ℕ) (images : List (List ℕ)) → AreKept slot images anchors found best → AreWinners slot images anchors bound winners

@@ -1,5 +1,5 @@
 // Chains, followed from one header to the next.
-ghost use Rattle.std.specs.Prelude.{◌≡◌, ◌+◌, ◌≤◌, ℕ, List, length, IfOk, MatchOption};
+ghost use Rattle.std.specs.Prelude.{◌≡◌, ◌+◌, ◌≤◌, ℕ, List, length, IfOk, OnOk, MatchOption};
 ghost use Rattle.rebuild_model.specs.Image.{IsFile};
 ghost use Rattle.rock_rebuild.specs.Left.{AreLeft, HasNoChain, IsChainAt};
 
@@ -24,6 +24,7 @@ pub fn follow(
         → AreLeft slot images first table.old
         → AreLeft slot images (first + 1) table.new
         × MatchOption size (HasNoChain slot images first) (IsChainAt slot images first chain.new.items)) }
+    ensures few { OnOk result (length chain.new.items ≤ length table.old) }
     ensures length { length table.new ≡ length table.old }
 {
     chain.clear();

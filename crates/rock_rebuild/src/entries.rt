@@ -1,10 +1,10 @@
 // The complete entries, gathered from the first slot on.
-ghost use Rattle.std.specs.Prelude.{◌≡◌, ◌+◌, ◌≤◌, ℕ, List, length, IfOk, OnOk, MatchOption};
+ghost use Rattle.std.specs.Prelude.{◌≡◌, ◌+◌, ◌≤◌, ℕ, List, length, IfOk, IfSome, OnOk, MatchOption};
 ghost use Rattle.rebuild_model.specs.Image.{IsFile, image_at};
 ghost use Rattle.rebuild_model.specs.Plain.{IsFound, HasNoEntry};
 ghost use Rattle.rock_rebuild.specs.Kept.{TellsHead, AreHeaders, AreHeads};
 ghost use Rattle.rock_rebuild.specs.Left.{AreLeft};
-ghost use Rattle.rock_rebuild.specs.Gathered.{AreFound};
+ghost use Rattle.rock_rebuild.specs.Gathered.{AreFound, found_with};
 
 use crate::chain::follow;
 use crate::entry_head::{Head, is_key_of, key_of_slot, url_of};
@@ -14,23 +14,36 @@ use rebuild_model::{Found, one_entry_at_a_slot};
 use rock_io::{Numbers, Octets};
 use std::alloc::{AllocError, Global};
 
-/// The complete entry that begins at a slot, if one does, where `head` is what the slot says of it.
-/// The URL's key is taken last, for chains that are whole. What `chain` holds does not matter.
-fn find_at(
-    alloc: Global,
+/// What is told of a complete entry beside its first slot and its chain.
+#[derive(Clone, Copy, Debug)]
+pub struct Whole<'a> {
+    pub version: u32,
+    pub key: [u8; 16],
+    pub url: &'a [u8],
+    /// How many bytes its body has.
+    pub length: u64,
+}
+
+/// The complete entry that begins at a slot, if one does, where `head` is what the slot says of it. Its
+/// slots are put into `chain`; what that holds before does not matter.
+///
+/// The URL's key is taken last, for chains that are whole.
+pub fn whole_at<'a>(
     table: &mut Table,
-    urls: &[u8],
+    urls: &'a [u8],
     chain: &mut Vec<u32>,
     slot: u32,
     first: u32,
     head: Option<Head>,
-) -> Result<Option<Found>, AllocError>
+) -> Result<Option<Whole<'a>>, AllocError>
     requires { length table.old ≤ MOST_SLOTS }
-    ensures found { IfOk result (λ found. (images : List (List ℕ)) → IsFile slot images
+    ensures whole { IfOk result (λ whole. (images : List (List ℕ)) → IsFile slot images
         → AreLeft slot images first table.old
         → TellsHead (length images) slot first (image_at images first) urls.now head
         → AreLeft slot images (first + 1) table.new
-        × MatchOption found (HasNoEntry slot images first) (IsFound slot images first)) }
+        × MatchOption whole (HasNoEntry slot images first)
+        (λ w. IsFound slot images first (found_with first w.version w.key w.url.now w.length chain.new.items))) }
+    ensures few { IfOk result (λ whole. IfSome whole (λ _. length chain.new.items ≤ MOST_SLOTS)) }
     ensures length { length table.new ≡ length table.old }
 {
     let Some(head) = head else {
@@ -49,13 +62,42 @@ fn find_at(
     if !is_key_of(&key, url) {
         return Ok(None);
     }
-    Ok(Some(Found {
-        first,
+    Ok(Some(Whole {
         version: header.version,
         key,
-        url: Octets::from_vec(url.to_vec(alloc)?),
+        url,
         // Metadata is never longer than the first slot's payload.
         length: size.saturating_sub(head.length as u64),
+    }))
+}
+
+/// The complete entry that begins at a slot, if one does, with its URL and its chain copied.
+fn find_at(
+    alloc: Global,
+    table: &mut Table,
+    urls: &[u8],
+    chain: &mut Vec<u32>,
+    slot: u32,
+    first: u32,
+    head: Option<Head>,
+) -> Result<Option<Found>, AllocError>
+    requires { length table.old ≤ MOST_SLOTS }
+    ensures found { IfOk result (λ found. (images : List (List ℕ)) → IsFile slot images
+        → AreLeft slot images first table.old
+        → TellsHead (length images) slot first (image_at images first) urls.now head
+        → AreLeft slot images (first + 1) table.new
+        × MatchOption found (HasNoEntry slot images first) (IsFound slot images first)) }
+    ensures length { length table.new ≡ length table.old }
+{
+    let Some(whole) = whole_at(table, urls, chain, slot, first, head)? else {
+        return Ok(None);
+    };
+    Ok(Some(Found {
+        first,
+        version: whole.version,
+        key: whole.key,
+        url: Octets::from_vec(whole.url.to_vec(alloc)?),
+        length: whole.length,
         chain: Numbers::from_vec(chain.to_vec(alloc)?),
     }))
 }

@@ -8,7 +8,7 @@ use std::alloc::{AllocError, Global};
 use store_key::anchor_of;
 
 /// Puts a number at the slots of a chain. Slots that are not there are passed over.
-pub(crate) fn own(owner: &mut [u32], chain: &[u32], number: u32)
+fn own(owner: &mut [u32], chain: &[u32], number: u32)
     ensures owned { (s : ℕ) → s < length owner.old
         → slice_index owner.new s ≡ cond (list_any (λ x. nat_eq x s) chain.now) number (slice_index owner.old s) }
     ensures count { length owner.new ≡ length owner.old }

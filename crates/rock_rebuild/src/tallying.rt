@@ -4,18 +4,19 @@ ghost use Rattle.rock_io.specs.Faults.{Rose};
 ghost use Rattle.rock_disk.specs.Cell.{CellState};
 ghost use Rattle.rock_disk.specs.Opened.{AreSlots};
 ghost use Rattle.rock_rebuild.specs.Read.{AreImagesOf};
-ghost use Rattle.rock_rebuild.specs.Tally.{used_in, IsTally};
+ghost use Rattle.rock_rebuild.specs.Tally.{IsTally};
 
-use crate::best::best_of;
-use crate::kept_slots::kept_slots;
-use crate::outcome::{RebuildFault, Scan, Tally};
-use crate::scanning::scan;
-use rebuild_model::winners_and_owners_make_a_rebuild;
+use crate::candidates::candidates_of;
+use crate::chosen::{chosen_of, count_chosen, slots_of_chosen};
+use crate::outcome::{RebuildFault, Tally};
+use crate::read::read_slots;
+use rebuild_model::{winners_and_owners_make_a_rebuild, winners_are_apart, winners_are_gathered};
 use rock_disk::Station;
 use std::alloc::Global;
 
 /// Counts what a store with so many anchors keeps of a file with these slots, as [`rebuild`] gives it. Each
-/// slot is read once, in order, and no entry is copied. The cells are as they were, whatever the answer.
+/// slot is read once, in order, and no entry is copied: of each its anchor, its version and how many slots
+/// it has are looked at. The cells are as they were, whatever the answer.
 ///
 /// What is counted is what the definition says of the images that the reads gave, also where the cells
 /// don't tell what they hold.
@@ -46,21 +47,23 @@ pub fn tally<St: Station>(
     ensures failed { IsErrOf result RebuildFault.Failed
         → Rose (St.faults station.old) (St.faults station.new) }
 {
+    winners_are_gathered();
+    winners_are_apart();
     winners_and_owners_make_a_rebuild();
-    let Scan { found, greatest } = scan(alloc, station, cells, slot)?;
-    let best = best_of(alloc, found.as_slice(), anchors)?;
-    let kept = kept_slots(alloc, found.as_slice(), &best, anchors, cells.len())?;
+    let mut slots = read_slots(alloc, station, cells, slot)?;
+    let candidates = candidates_of(
+        alloc,
+        &mut slots.table,
+        &slots.heads,
+        &slots.urls,
+        slot,
+        anchors,
+    )?;
+    let chosen = chosen_of(alloc, &candidates, anchors)?;
     Ok(Tally {
-        slots: kept.owner.len(),
-        kept: kept.kept,
-        used: used_in(&kept.owner),
-        greatest,
+        slots: cells.len(),
+        kept: count_chosen(&chosen),
+        used: slots_of_chosen(&chosen),
+        greatest: slots.greatest,
     })
-}
-
-/// How many slots have an owner.
-fn used_in(owner: &[u32]) -> usize
-    ensures { result ≡ used_in owner.now }
-{
-    owner.iter().filter(|owner| **owner > 0).count()
 }

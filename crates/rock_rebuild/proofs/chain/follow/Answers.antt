@@ -1,6 +1,7 @@
 use Rattle.std.proofs.Common.{rules, ◌≡◌, ◌+◌, ◌<◌, negsuc, pos, of_z, length, None, ap, sym, refl, subst, ◌∙◌, arith}
 use Rattle.std.specs.Prelude.{FitsSigned}
 use Rattle.std.proofs.Math.ListN.{length-set}
+use Rattle.std.proofs.lemmas.List.{length_push}
 use Rattle.std.specs.Int.{w32, cast_signed, cast_unsigned}
 use Rattle.std.proofs.lemmas.Int.{to_z-of_z}
 use Rattle.rock_rebuild.specs.Left.{AreLeft}
@@ -19,6 +20,7 @@ walk-init c = (
       (at_first c.args.slot images c.args.first c.in-Some.head c.args.table.now left (sym c.header.ensures ∙ c.in-Some.is)),
   omega arith,
   refl,
+  omega (arith, ap length c.clear.ensures.items),
 )
 
 pub overflow_add-size : goal.overflow_add-size
@@ -82,6 +84,7 @@ walk-preserved c =
           (sym (ap (λ n. n + 40) c.from.ensures) ∙ c.if-from.false ∙ c.from-in-Some-take.ensures),
       omega (arith, after, more, small, c.from-size.ensures),
       ap length taken.0 ∙ length-set c.walk.table c.walk.at None ∙ c.walk.invariant.2,
+      omega (arith, after, ap length c.in_ok-push.ensures.items, length_push c.walk.chain.items c.walk.at, c.walk.invariant.3),
     )
 
 pub returns-clause-followed : goal.returns-clause-followed
@@ -89,3 +92,18 @@ returns-clause-followed c images file left =
     let f = c.walk.invariant.0 images file left in
     let same = c.in_default-take.ensures in
     (subst (AreLeft c.args.slot images (c.args.first + 1)) (sym same.0) (left_behind c.args.slot images c.args.first c.in-Some.head c.walk.chain.items c.walk.at c.walk.size c.walk.table f), strays c.args.slot images c.args.first c.in-Some.head c.walk.chain.items c.walk.at c.walk.size c.walk.table f same.1)
+
+pub returns-then-header-size-clause-few : goal.returns-then-header-size-clause-few
+returns-then-header-size-clause-few c =
+    omega (arith, ap length c.in_ok-push.ensures.items, length_push c.walk.chain.items c.walk.at, one_fewer c.walk.table c.walk.at c.in-Some-take.header c.in-Some-take.ensures.1, c.walk.invariant.3, few_left c.args.table.now)
+
+pub returns-then-header-clause-few : goal.returns-then-header-clause-few
+returns-then-header-clause-few c =
+    omega (arith, ap length c.in_ok-push.ensures.items, length_push c.walk.chain.items c.walk.at, one_fewer c.walk.table c.walk.at c.in-Some-take.header c.in-Some-take.ensures.1, c.walk.invariant.3, few_left c.args.table.now)
+
+pub returns-then-from-clause-few : goal.returns-then-from-clause-few
+returns-then-from-clause-few c =
+    omega (arith, ap length c.in_ok-push.ensures.items, length_push c.walk.chain.items c.walk.at, one_fewer c.walk.table c.walk.at c.in-Some-take.header c.in-Some-take.ensures.1, c.walk.invariant.3, few_left c.args.table.now)
+
+pub returns-clause-few : goal.returns-clause-few
+returns-clause-few c = omega (arith, c.walk.invariant.3, few_left c.args.table.now)

@@ -1,4 +1,4 @@
-use Rattle.std.proofs.Common.{◌≡◌, length, map, subst, sym, ◌∙◌}
+use Rattle.std.proofs.Common.{◌≡◌, length, subst, sym, ◌∙◌}
 use Rattle.std.proofs.lemmas.List.{length-map}
 use Rattle.rock_rebuild.specs.Kept.{AreHeaders, AreHeads, IsGreatestOf}
 use Rattle.rock_rebuild.specs.Gathered.{AreFound}
