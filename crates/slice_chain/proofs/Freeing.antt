@@ -32,7 +32,7 @@ use Rattle.slice_chain.specs.Freeing.{FrontFreed, MayFreeFront, with_less}
 use Rattle.slice_chain.proofs.Writing.{set_again}
 
 -- a link to more slots names the first of them
-next_is_head : (xs : List ℕ) (l : Link) → ((x : ℕ) → l ≢ Next x) → next_slot (link_to xs l) ≡ head_of xs
+pub next_is_head : (xs : List ℕ) (l : Link) → ((x : ℕ) → l ≢ Next x) → next_slot (link_to xs l) ≡ head_of xs
 next_is_head (x ∷ xs) l h = refl
 next_is_head [] NotWritten h = refl
 next_is_head [] LastLink h = refl
@@ -55,11 +55,24 @@ module _ {C O : Type 0} (tells : Bool) (state : C → CellState) (offers : O →
   may_look = record { own = may.own; can = record { allowed = (omega arith, inr (subst (OfFreer (IsFront slot)) (sym may.is) may.front)); chooses = tt; names = tt } }
 
   module _ (n : ℕ) (p1 : Pass C) (looked : Made tells state offers s p (GetLink inner slot) n p1) where
-    tabs1 : (view p1).tabs ≡ with_tab (view p) inner (Freeing (record f { is_looked = true }))
+    pub tabs1 : (view p1).tabs ≡ with_tab (view p) inner (Freeing (record f { is_looked = true }))
     tabs1 = ap View.tabs looked.step.leaves ∙ ap (λ (x : Tab (List ℕ)). set (view p).tabs inner (looks x looked.found)) may.is
 
     pub may_leave : May tells state offers s p1 (Loosen inner slot)
     may_leave = record { own = looked.own; can = record { allowed = (omega arith, inl (subst (OfFreer (MayLoosen slot)) (sym (at_inner p1 (Freeing (record f { is_looked = true })) tabs1)) (may.front, refl))); chooses = tt; names = tt } }
+
+    pub link_is : (link : Link) → link_number link ≡ n → next_slot link ≡ head_of (rest_of f.rest)
+    link_is link e = ap next_slot (same_link link (link_to (rest_of f.rest) f.behind) (e ∙ looked.answers ∙ found)) ∙ next_is_head (rest_of f.rest) f.behind
+        (looked.step.rule.rests looked.step.index inner f record { view = view p; at = looked.step.at; there = there })
+      where
+        there : get_elem? (view p).tabs inner ≡ some (Freeing f)
+        there = tab_there (view p) inner (Freeing f) (let n = pass_of p in omega arith) may.is
+
+        told : Tells g.setting looked.step.state (view p) (GetLink inner slot) (number_found g.setting looked.step.state (view p) (GetLink inner slot))
+        told = steps_tell g.setting looked.step.state looked.step.index (view p) (GetLink inner slot) looked.step.rule.sound looked.step.at looked.step.may
+
+        found : looked.found ≡ link_number (link_to (rest_of f.rest) f.behind)
+        found = looked.step.found ∙ subst (λ (x : Tab (List ℕ)). Rattle.core_model.specs.Told.LinkFound looked.step.state x (number_found g.setting looked.step.state (view p) (GetLink inner slot))) may.is told.slots
 
     module _ (m : ℕ) (p2 : Pass C) (left : Made tells state offers s p1 (Loosen inner slot) m p2) where
       abbrev loose_freer : Freer
@@ -77,19 +90,6 @@ module _ {C O : Type 0} (tells : Bool) (state : C → CellState) (offers : O →
         tabs3 = ap View.tabs gave.step.leaves ∙ ap (λ (x : Tab (List ℕ)). set (view p2).tabs inner (gives_back x slot)) (at_inner p2 (Freeing loose_freer) tabs2)
             ∙ ap (λ (xs : List ℕ). set (view p2).tabs inner (emptied (record loose_freer { loose = xs }))) (ap (λ (xs : List ℕ). without slot (xs ++ slot ∷ [])) may.none ∙ without_one slot)
             ∙ ap (λ (xs : List (Tab (List ℕ))). set xs inner (emptied (with_less f))) tabs2 ∙ set_again (view p).tabs inner (Freeing loose_freer) (emptied (with_less f))
-
-        link_is : (link : Link) → link_number link ≡ n → next_slot link ≡ head_of (rest_of f.rest)
-        link_is link e = ap next_slot (same_link link (link_to (rest_of f.rest) f.behind) (e ∙ looked.answers ∙ found)) ∙ next_is_head (rest_of f.rest) f.behind
-            (looked.step.rule.rests looked.step.index inner f record { view = view p; at = looked.step.at; there = there })
-          where
-            there : get_elem? (view p).tabs inner ≡ some (Freeing f)
-            there = tab_there (view p) inner (Freeing f) (let n = pass_of p in omega arith) may.is
-
-            told : Tells g.setting looked.step.state (view p) (GetLink inner slot) (number_found g.setting looked.step.state (view p) (GetLink inner slot))
-            told = steps_tell g.setting looked.step.state looked.step.index (view p) (GetLink inner slot) looked.step.rule.sound looked.step.at looked.step.may
-
-            found : looked.found ≡ link_number (link_to (rest_of f.rest) f.behind)
-            found = looked.step.found ∙ subst (λ (x : Tab (List ℕ)). Rattle.core_model.specs.Told.LinkFound looked.step.state x (number_found g.setting looked.step.state (view p) (GetLink inner slot))) may.is told.slots
 
         pub front_freed : (link : Link) → link_number link ≡ n → (next : Option ℕ) → next ≡ next_slot link → FrontFreed g slot (view p) next (view p3)
         front_freed link e next is = record {

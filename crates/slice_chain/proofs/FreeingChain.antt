@@ -1,21 +1,17 @@
 -- The whole chain of an entry is given back, and its anchor is gone.
-use Rattle.std.proofs.Common.{Bool, Contains, List, Option, [], ap, arith, cond, eq-eqb, false, get_or, get_or-set_same, inl, inr, ne_eqb, not, refl, set, subst, suc, sym, true, unwrap_or, zero, ⊎_elim, ◌*◌, ◌+◌, ◌-◌, ◌++◌, ◌<◌, ◌==◌, ◌&&◌, ◌≡◌, ◌≢◌, ◌≤◌, ◌∙◌, ◌∷◌, ℕ, length}
+use Rattle.std.proofs.Common.{Bool, Contains, List, Option, [], ap, arith, cond, eq-eqb, false, get_or, get_or-set_same, inl, inr, ne_eqb, not, refl, set, subst, sym, true, unwrap_or, ⊎_elim, ◌+◌, ◌-◌, ◌++◌, ◌<◌, ◌==◌, ◌&&◌, ◌≡◌, ◌≢◌, ◌≤◌, ◌∙◌, ◌∷◌, ℕ, length}
 use Rattle.std.proofs.lemmas.Bool.{false≢true}
 use Rattle.std.proofs.lemmas.List.Elements.{Contains-append_cases, Contains-append_left, Contains-append_right}
 use mathlib.Core.Option.{some}
 use lib.ListN.{get_elem?}
 use Rattle.lock_word.specs.declared.stage.Stage.{Stage}
-use Rattle.lock_word.specs.Words.{epoch_of, is_left_over, raised, stage_of}
-use Rattle.lock_word.proofs.Raising.{stage_of-raised}
-use Rattle.lock_word.proofs.Testing.{stage_of-left_over}
+use Rattle.lock_word.specs.Words.{epoch_of, raised}
 use Rattle.rock_disk.specs.Cell.{CellState}
-use Rattle.core_model.specs.AnchorMoves.{deed_of, raised_tab}
 use Rattle.core_model.specs.Chains.{start_number, times}
 use Rattle.core_model.specs.SlotMoves.{emptied, loaded}
 use Rattle.core_model.specs.Slots.{FreerHolds}
 use Rattle.core_model.specs.Steps.{number_found}
-use Rattle.core_model.specs.Tabs.{OfFreer, anchor_of, inner, stage_held, tab_at, with_tab}
-use Rattle.core_model.specs.Table.{left_by}
+use Rattle.core_model.specs.Tabs.{inner, tab_at, with_tab}
 use Rattle.core_model.specs.Told.{NameFound, Tells}
 use Rattle.core_model.specs.declared.moves.Move.TheVariants.{LoadSide, Raise}
 use Rattle.core_model.specs.declared.moves.Side.TheVariants.{Start}
@@ -40,13 +36,15 @@ use Rattle.store_rule.specs.Told.{found_as}
 use Rattle.store_rule.proofs.Passing.{pass_of}
 use Rattle.pass_calls.specs.Calls.{Follows}
 use Rattle.pass_calls.specs.Runs.{Added, added_by, changed_at, together}
-use Rattle.pass_calls.proofs.AddingUp.{has_left, went_one, went_then}
+use Rattle.pass_calls.proofs.AddingUp.{went_one, went_then}
 use Rattle.pass_calls.proofs.Following.{follows_on, made_follows}
 use Rattle.slice_chain.specs.Freeing.{Freed, MayFreeChain, MayFreeRest, RestFreed, WasGiven, slot_named}
 use Rattle.slice_chain.proofs.FreeingRest.{same_freer, still_frees}
+use Rattle.slice_chain.proofs.Gone as ending
+use Rattle.pass_calls.specs.Words.{has}
 use Rattle.slice_chain.proofs.Writing.{set_again}
 
-named_head : (xs : List ℕ) (n : ℕ) → n ≡ start_number xs → slot_named n ≡ head_of xs
+pub named_head : (xs : List ℕ) (n : ℕ) → n ≡ start_number xs → slot_named n ≡ head_of xs
 named_head [] n e = ap slot_named e
 named_head (x ∷ xs) n e = ap slot_named e ∙ (let ne = ne_eqb (x + 1) 0 (λ q. absurd (omega arith)) in let back : x + 1 - 1 ≡ x = omega arith in rw (ne, back) refl)
 
@@ -67,7 +65,7 @@ module _ {C O : Type 0} (tells : Bool) (state : C → CellState) (offers : O →
   told : Tells g.setting loaded_.step.state (view p) (LoadSide inner Start) (number_found g.setting loaded_.step.state (view p) (LoadSide inner Start))
   told = steps_tell g.setting loaded_.step.state loaded_.step.index (view p) (LoadSide inner Start) loaded_.step.rule.sound loaded_.step.at loaded_.step.may
 
-  start_is : n ≡ start_number f.rest
+  pub start_is : n ≡ start_number f.rest
   start_is = loaded_.answers ∙ loaded_.step.found ∙ subst (λ (x : Tab (List ℕ)). NameFound g.setting loaded_.step.state (view p) x Start (number_found g.setting loaded_.step.state (view p) (LoadSide inner Start))) may.is told.names may.whole
 
   pub start_fits : n ≤ 4294967296
@@ -78,17 +76,17 @@ module _ {C O : Type 0} (tells : Bool) (state : C → CellState) (offers : O →
   has_slot off empty = let holds : FreerHolds _ _ _ (view p) f = loaded_.step.rule.sound.slots.tabs loaded_.step.index (view p) loaded_.step.at inner (Freeing f) there in
       absurd (let a = (holds.replaces off).started in let b = holds.starts may.whole in let c = ap start_number empty in omega arith)
 
-  tabs1 : tab_at (view p1) inner ≡ Freeing f
+  pub tabs1 : tab_at (view p1) inner ≡ Freeing f
   tabs1 = ap (λ (v : View (List ℕ)). tab_at v inner) loaded_.step.leaves ∙ get_or-set_same (view p).tabs inner (loaded (tab_at (view p) inner) Start loaded_.found) Tab.Free (let n = pass_of p in omega arith)
       ∙ ap (λ (x : Tab (List ℕ)). loaded x Start loaded_.found) may.is
 
   pub may_rest : MayFreeRest tells state offers s p1 (slot_named n)
   may_rest = record { own = loaded_.own; freer = f; is = tabs1; front_is = named_head f.rest n start_is; none = may.none; some = has_slot }
 
-  abbrev load_added : Added
+  abbrev pub load_added : Added
   load_added = added_by (view p) (LoadSide inner Start) (found_as g.setting loaded_.step.state (view p) (LoadSide inner Start) loaded_.found)
 
-  load_quiet : (load_added.sights ≡ []) × (load_added.done ≡ []) × (load_added.meetings ≡ []) × (load_added.changed ≡ [])
+  pub load_quiet : (load_added.sights ≡ []) × (load_added.done ≡ []) × (load_added.meetings ≡ []) × (load_added.changed ≡ [])
   load_quiet = (
     subst (λ (x : Tab (List ℕ)). Rattle.core_model.specs.SlotMoves.loads x Start loaded_.found ≡ []) (sym may.is) refl,
     refl,
@@ -148,64 +146,34 @@ module _ {C O : Type 0} (tells : Bool) (state : C → CellState) (offers : O →
       tab2 : tab_at (view p2) inner ≡ Freeing last
       tab2 = ap (λ (xs : List (Tab (List ℕ))). get_or xs inner Tab.Free) tabs0 ∙ get_or-set_same (view p).tabs inner (emptied last) Tab.Free (let n = pass_of p in omega arith) ∙ frees
 
+      still_on : last.is_freeing ≡ true
+      still_on = is_freeing_still ∙ on
+
       pub may_end : May tells state offers s p2 (Raise inner Stage.Gone)
-      may_end = record {
-        own = own2;
-        can = record { allowed = (omega arith, inr (subst (OfFreer (λ x. Rattle.core_model.specs.AnchorMoves.MayEnd x Stage.Gone)) (sym tab2) (is_freeing_still ∙ on, gave.all.rest, gave.all.none))); chooses = tt; names = tt };
-      }
+      may_end = ending.may_end tells state offers s p2 own2 last tab2 still_on gave.all.rest gave.all.none
 
       module _ (m : ℕ) (p3 : Pass C) (ended : Made tells state offers s p2 (Raise inner Stage.Gone) m p3) where
-        end_told : Tells g.setting ended.step.state (view p2) (Raise inner Stage.Gone) (number_found g.setting ended.step.state (view p2) (Raise inner Stage.Gone))
-        end_told = steps_tell g.setting ended.step.state ended.step.index (view p2) (Raise inner Stage.Gone) ended.step.rule.sound ended.step.at ended.step.may
-
-        at_five : stage_of (epoch_of ended.found) ≡ 5
-        at_five = ap (λ (x : ℕ). stage_of (epoch_of x)) ended.step.found ∙ end_told.anchors.1 ∙ ap stage_held tab2
-
-        at_six : stage_of (epoch_of (raised ended.found 1)) ≡ 6
-        at_six = stage_of-raised ended.found 1 (let e = at_five in omega arith) ∙ (let e = at_five in omega arith)
-
-        not_left : is_left_over (raised ended.found 1) ≡ false
-        not_left = by_bool (is_left_over (raised ended.found 1)) refl
-          where
-            by_bool : (b : Bool) → is_left_over (raised ended.found 1) ≡ b → b ≡ false
-            by_bool false e = refl
-            by_bool true e = absurd (⊎_elim (λ (h : _ ≡ 4). let z = at_six in omega arith) (λ h. let z = at_six in omega arith) (stage_of-left_over (raised ended.found 1) e))
-
-        abbrev end_added : Added
-        end_added = added_by (view p2) (Raise inner Stage.Gone) (found_as g.setting ended.step.state (view p2) (Raise inner Stage.Gone) ended.found)
+        abbrev last_added : Added
+        last_added = ending.end_added tells state offers s p2 own2 last tab2 still_on gave.all.rest gave.all.none m p3 ended
 
         anchor_is : last.anchor ≡ f.anchor
         anchor_is = gave.all.anchor ∙ ap Freer.anchor same
-
-        abbrev left_there : ℕ
-        left_there = left_by (view p2) (Raise inner Stage.Gone) ended.found
-
-        left_is : left_there ≡ raised ended.found 1
-        left_is = ap (λ (x : Tab (List ℕ)). raised ended.found (6 - stage_held x)) tab2
-
-        a_is : anchor_of (tab_at (view p2) inner) ≡ f.anchor
-        a_is = ap anchor_of tab2 ∙ anchor_is
-
-        only_anchor : (q : Place) (b : Bool) → Contains (cond b [] (Anchor (anchor_of (tab_at (view p2) inner)) ∷ [])) q → q ≡ Anchor (anchor_of (tab_at (view p2) inner))
-        only_anchor q true c = absurd (contains_none q c)
-        only_anchor q false (zero, lt, e) = sym e
-        only_anchor q false (suc k, lt, e) = absurd (omega arith)
 
         pub freed_gone : Freed g (view p) (view p3)
         freed_gone = record {
           freer = f;
           was = may.is;
-          added = together end_added rest_added;
-          went = went_then g (view p) (view p2) (view p3) rest_added end_added rest_went (went_one g (view p2) (view p3) (Raise inner Stage.Gone) ended.found ended.step ended.own.stands);
-          gave = λ slot c. let o = given slot c in (o.0, Contains-append_right end_added.items rest_added.items _ o.1);
-          tabs = ap View.tabs ended.step.leaves ∙ (λ i. set (view p2).tabs inner (raised_tab (tab2 i) Stage.Gone (left_is i))) ∙ (λ i. set (view p2).tabs inner (cond (not_left i) (Tab.Last last.anchor) Free))
-              ∙ ap (λ (xs : List (Tab (List ℕ))). set xs inner Free) tabs0 ∙ set_again (view p).tabs inner (emptied last) Free;
-          changed = λ q c. ⊎_elim (λ l. inr (on, only_anchor q (left_there == ended.found) l ∙ ap Anchor a_is)) (λ l. inl (changes q l)) (Contains-append_cases end_added.changed rest_added.changed q c);
+          added = together last_added rest_added;
+          went = went_then g (view p) (view p2) (view p3) rest_added last_added rest_went (ending.end_went tells state offers s p2 own2 last tab2 still_on gave.all.rest gave.all.none m p3 ended);
+          gave = λ slot c. let o = given slot c in (o.0, Contains-append_right last_added.items rest_added.items _ o.1);
+          tabs = ending.gone_tabs tells state offers s p2 own2 last tab2 still_on gave.all.rest gave.all.none m p3 ended ∙ ap (λ (xs : List (Tab (List ℕ))). set xs inner Free) tabs0 ∙ set_again (view p).tabs inner (emptied last) Free;
+          changed = λ q c. ⊎_elim (λ l. inr (on, ending.end_changed tells state offers s p2 own2 last tab2 still_on gave.all.rest gave.all.none m p3 ended q l ∙ ap Anchor anchor_is)) (λ l. inl (changes q l)) (Contains-append_cases last_added.changed rest_added.changed q c);
           gone = λ e. (
             ended.found,
-            ap (λ xs. end_added.done ++ xs) rest_quiet.1 ∙ (λ i. record { pass = rest_went.pass i; kind = Raised; anchor = a_is i; epoch = epoch_of (left_is i); was_idle = false } ∷ []),
-            at_six,
-            has_left g (view p2) (view p3) (Raise inner Stage.Gone) ended.found (Anchor (anchor_of (tab_at (view p2) inner))) (Anchor f.anchor) ended.step refl (ap (λ (a : ℕ). 5 * a) a_is) ∙ left_is,
+            ap (λ xs. last_added.done ++ xs) rest_quiet.1 ∙ ap (λ xs. xs ++ []) (ending.end_done tells state offers s p2 own2 last tab2 still_on gave.all.rest gave.all.none m p3 ended)
+                ∙ (λ i. record { pass = rest_went.pass i; kind = Raised; anchor = anchor_is i; epoch = epoch_of (raised ended.found 1); was_idle = false } ∷ []),
+            ending.at_six tells state offers s p2 own2 last tab2 still_on gave.all.rest gave.all.none m p3 ended,
+            subst (λ (a : ℕ). has g (view p3) (Anchor a) ≡ raised ended.found 1) anchor_is (ending.end_has tells state offers s p2 own2 last tab2 still_on gave.all.rest gave.all.none m p3 ended),
           );
           quiet = λ off. absurd (false≢true (sym off ∙ on));
         }

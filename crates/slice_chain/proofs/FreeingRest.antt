@@ -57,11 +57,11 @@ same_freer {X} f h e = ap (freer_or f) e
     freer_or d (Freeing x) = x
     freer_or d _ = d
 
-head_there : (slot : ℕ) (xs : List ℕ) → Some slot ≡ head_of xs → xs ≡ slot ∷ rest_of xs
+pub head_there : (slot : ℕ) (xs : List ℕ) → Some slot ≡ head_of xs → xs ≡ slot ∷ rest_of xs
 head_there slot [] e = cc
 head_there slot (x ∷ xs) e = ap (λ (y : ℕ). y ∷ xs) (sym (ap (λ (o : Option ℕ). unwrap_or o slot) e))
 
-not_empty : (slot : ℕ) (xs : List ℕ) → xs ≡ slot ∷ rest_of xs → xs ≢ []
+pub not_empty : (slot : ℕ) (xs : List ℕ) → xs ≡ slot ∷ rest_of xs → xs ≢ []
 not_empty slot xs e z = cons_nil (sym e ∙ z)
   where
     cons_nil : slot ∷ rest_of xs ≡ [] → ⊥

@@ -4,4 +4,8 @@ pub mod Writing
 pub mod ReadingSlots
 pub mod Freeing
 pub mod FreeingRest
+pub mod Gone
 pub mod FreeingChain
+pub mod Evicting
+pub mod KeepingFirst
+pub mod EvictingOne

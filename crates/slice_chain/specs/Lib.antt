@@ -4,3 +4,4 @@ pub mod Written
 pub mod Writes
 pub mod Reads
 pub mod Freeing
+pub mod Victims

@@ -51,7 +51,7 @@ fn frees_anchor<C>(pass: &Pass<C>) -> bool
 }
 
 // The slot that a Start word names.
-fn first_slot(start: u64) -> Option<u32>
+pub(crate) fn first_slot(start: u64) -> Option<u32>
     requires { start ≤ 4294967296 }
     ensures { result ≡ slot_named start }
 {
@@ -59,7 +59,11 @@ fn first_slot(start: u64) -> Option<u32>
 }
 
 // Gives back the slots of the chain that the inner tab frees, of which this is the first, if there is one.
-fn free_rest<C: Cell, O: Origin>(store: &Store<C, O>, pass: &mut Pass<C>, front: Option<u32>)
+pub(crate) fn free_rest<C: Cell, O: Origin>(
+    store: &Store<C, O>,
+    pass: &mut Pass<C>,
+    front: Option<u32>,
+)
     requires { MayFreeRest C.tells C.state O.offers store.now pass.old front }
     ensures freed { RestFreed (basis C.tells C.state O.offers store.now) (view pass.old) (view pass.new) }
     ensures others { Follows C.tells C.state O.offers store.now inner pass.old pass.new }

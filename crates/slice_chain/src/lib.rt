@@ -9,8 +9,10 @@ mod chains;
 mod links;
 mod names;
 mod slots;
+mod victims;
 
 pub use chains::free_chain;
 pub use links::{link, publish};
 pub use names::{entry_key, entry_offer, name_entry};
 pub use slots::{read_slot, write_slot};
+pub use victims::{NoVictim, evict_one};
