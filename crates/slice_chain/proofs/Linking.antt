@@ -58,6 +58,22 @@ module _ {X : Type 0} (g : Ground X) (v : View X) (st : Stands g v) where
       by_case false e = e
       by_case true e = absurd (stands.grows (m.1.stage_is ∙ ap (λ (b : Bool). cond b 2 1) e) (ends (chain_of st.state w.anchor).slots (chain_of st.state w.anchor).end (ap Chain.slots holds.chain ∙ none) stands.fits))
 
+-- a tab that has published no slot, as its pass has it at hand
+pub none_published : {X : Type 0} (y : Tab X) (x : WritingAt) → Some x ≡ writing_of y → x.published ≡ 0 → OfWriter (λ w. w.published ≡ []) y
+none_published (Tab.Writing w) x e none = empty w.published (sym (published_of x _ e) ∙ none)
+  where
+    empty : (xs : List ℕ) → length xs ≡ 0 → xs ≡ []
+    empty [] h = refl
+    empty (y ∷ ys) h = cc
+
+    published_of : (y z : WritingAt) → Some y ≡ Some z → y.published ≡ z.published
+    published_of y z h = ap (λ o. WritingAt.published (Rattle.std.proofs.Common.unwrap_or o y)) h
+none_published Tab.Free x e none = cc
+none_published (Tab.Retreating a) x e none = cc
+none_published (Tab.Reading r) x e none = cc
+none_published (Tab.Last a) x e none = cc
+none_published (Tab.Freeing f) x e none = cc
+
 module _ {C O : Type 0} (tells : Bool) (state : C → CellState) (offers : O → Offers) (s : Store C O) (p q : Pass C) (t slot : ℕ) where
   pub may_start : (next : Option ℕ) (x : WritingAt) → MayPublishSlot tells state offers s p t slot next → Some x ≡ writing_of (tab_at (view p) t) → x.published ≡ 0 → Made tells state offers s p (Publish t slot (next_link next)) 0 q
       → May tells state offers s q (StoreSide t Start (slot + 1))

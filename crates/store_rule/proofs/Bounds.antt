@@ -61,7 +61,7 @@ module _ {X : Type 0} (g : Ground X) (s : State X) (r : Rule g s) where
       let a = le_sum_at slots_held v.tabs t x there in let b = le_sum_at (count slots_held) s.views i v at in omega arith
 
 -- a count of slots has 32 bits
-pub few_slots : (slots s : ℕ) → slots ≡ s → slots ≤ 4294967295 → s ≤ 4294967295
+pub few_slots : (slots s : ℕ) → slots ≡ s → slots ≤ 1048576 → s ≤ 4294967295
 few_slots slots s is le = omega arith
 
 module _ {X : Type 0} (g : Ground X) (v w : View X) where

@@ -17,3 +17,4 @@ pub mod SlotHands
 pub mod LinkMoves
 pub mod Turning
 pub mod Lending
+pub mod Drafting

@@ -7,5 +7,6 @@ pub mod Tabs
 pub mod Notes
 pub mod Passes
 pub mod Lending
+pub mod Drafts
 pub mod Turns
 pub mod Closing

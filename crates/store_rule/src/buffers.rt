@@ -32,7 +32,7 @@ impl Desk {
 /// The desks of a pass, one for each tab.
 #[derive(Drop)]
 pub(crate) struct Desks {
-    items: Vec<Desk>,
+    pub(crate) items: Vec<Desk>,
 }
 
 impl Model for Desks {

@@ -5,6 +5,7 @@
 mod buffers;
 mod cells;
 mod closing;
+mod drafts;
 mod layout;
 mod links;
 mod machine;
@@ -20,6 +21,7 @@ mod tabs;
 mod turns;
 
 pub use buffers::lending_keeps_passes;
+pub use drafts::{Draft, drafts_keep_passes};
 pub use opening::NoRoom;
 pub use rule::{About, Origin};
 pub use store::{Desk, Note, Pass, Store};

@@ -10,6 +10,7 @@ ghost use Rattle.store_rule.specs.Passes.{AreHands};
 
 use crate::buffers::Desks;
 use crate::cells::{from_places, to_places};
+use crate::drafts::NO_DRAFT;
 use crate::rule::{About, Off, Origin, Rule};
 use crate::store::{Desk, Pass, Store};
 use crate::tabs::At;
@@ -36,7 +37,11 @@ fn new_desk(alloc: Global, slot: u32) -> Result<Desk, AllocError>
 {
     let buffer = vec![in alloc; 0u8; slot as usize]?;
     let url = Vec::with_capacity(alloc, URL_ROOM)?;
-    Ok(Desk { buffer, url })
+    Ok(Desk {
+        buffer,
+        url,
+        draft: NO_DRAFT,
+    })
 }
 
 fn desks(alloc: Global, slot: u32) -> Result<Vec<Desk>, AllocError>
@@ -217,6 +222,7 @@ impl<C: Cell, O: Origin> Store<C, O> {
         origin: O,
     ) -> Result<(Store<C, O>, Vec<Pass<C>>), NoRoom<C>>
         requires passes { (0 < passes) × (passes ≤ 32) }
+        requires anchors { 0 < anchors }
         requires slots { length cells.items ≤ 1048576 }
         requires cells { IsRow C.state slot cells.items × All (IsSettled C.tells C.state) cells.items }
         ensures counts { IfOk result (λ r. ((basis C.tells C.state O.offers r.0).setting.anchors ≡ anchors) × ((basis C.tells C.state O.offers r.0).setting.slots ≡ length cells.items) × ((basis C.tells C.state O.offers r.0).setting.passes ≡ passes) × ((basis C.tells C.state O.offers r.0).slot ≡ slot)) }

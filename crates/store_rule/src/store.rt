@@ -4,6 +4,7 @@ ghost use Rattle.store_rule.specs.Told.{the_view};
 ghost use Rattle.store_rule.specs.Tabs.{tabs_at};
 
 use crate::buffers::Desks;
+use crate::drafts::Draft;
 use crate::rule::{About, Origin, Rule};
 use crate::tabs::{At, FreeingAt, ReadingAt, WritingAt, anchor_at, held_at};
 use atomic_table::{Seat, Table};
@@ -24,7 +25,8 @@ pub struct Store<C: Cell, O: Origin> {
     ghost anchors_are: { anchors ≡ table.shared.key.anchors },
     ghost slots_are: { slots ≡ table.shared.key.slots },
     ghost slot_is: { slot ≡ table.shared.key.slot },
-    ghost few: { slots ≤ 4294967295 },
+    ghost few: { slots ≤ 1048576 },
+    ghost some: { 0 < anchors },
     ghost sized: { table.shared.table_id.words ≡ 5 * anchors + 3 * slots + 1 },
 }
 
@@ -56,6 +58,7 @@ pub struct Desk {
     pub(crate) buffer: Vec<u8>,
     /// The URL of the entry that it reads, at most 2,048 bytes.
     pub(crate) url: Vec<u8>,
+    pub(crate) draft: Draft,
 }
 
 /// What a pass has seen, and nothing else of it.
@@ -170,19 +173,21 @@ impl<C> Pass<C> {
 }
 
 impl<C: Cell, O: Origin> Store<C, O> {
-    ghost use Rattle.std.specs.Prelude.{◌≡◌};
+    ghost use Rattle.std.specs.Prelude.{◌<◌, ◌≡◌, ◌≤◌};
     ghost use Rattle.store_rule.specs.Passes.{basis};
 
-    /// How many anchors there are.
+    /// How many anchors there are, at least one.
     pub fn anchors(&self) -> u32
-        ensures { result ≡ (basis C.tells C.state O.offers self.now).setting.anchors }
+        ensures value { result ≡ (basis C.tells C.state O.offers self.now).setting.anchors }
+        ensures some { 0 < result }
     {
         self.anchors
     }
 
-    /// How many slots there are.
+    /// How many slots there are, at most 1,048,576.
     pub fn slots(&self) -> u32
-        ensures { result ≡ (basis C.tells C.state O.offers self.now).setting.slots }
+        ensures value { result ≡ (basis C.tells C.state O.offers self.now).setting.slots }
+        ensures few { result ≤ 1048576 }
     {
         self.slots
     }

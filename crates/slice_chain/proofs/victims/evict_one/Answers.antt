@@ -16,14 +16,14 @@ loop-steps-init g c = record {
 }
 
 pub keep_first-slot-requires-after_bounds : goal.keep_first-slot-requires-after_bounds
-keep_first-slot-requires-after_bounds g c κs within = let b = basis g.C.Cell.tells g.C.Cell.state g.O.Origin.offers c.args.store.now in let many = c.anchors-anchors.ensures in
+keep_first-slot-requires-after_bounds g c κs within = let b = basis g.C.Cell.tells g.C.Cell.state g.O.Origin.offers c.args.store.now in let many = c.anchors-anchors.ensures.value in
     let below = c.loop-steps-test.true in
     let hand_is = c.first_in_round-hand.ensures ∙ (λ i. hand_in (many i) (c.hand.ensures i)) in
     may_keep g.C.Cell.tells g.C.Cell.state g.O.Origin.offers c.args.store.now c.args.tab c.args.pass.now c.requires c.first_in_round-hand.result c.loop-steps.steps (round_begins _ _ _ hand_is (omega arith)) (omega arith) (view c.loop-steps.pass) c.loop-steps.invariant.passed c.try_evict.new.pass
     c.try_evict.ensures.others.own (subst (λ (a : ℕ). Won b a (view c.loop-steps.pass) (view c.try_evict.new.pass)) (c.next_in_round-anchor.ensures.value ∙ ap (λ (n : ℕ). onward n c.first_in_round-hand.result c.loop-steps.steps) many) (c.try_evict.ensures.won c.if-try_evict.true))
 
 pub returns-then-try_evict-clause-ok : goal.returns-then-try_evict-clause-ok
-returns-then-try_evict-clause-ok g c = let b = basis g.C.Cell.tells g.C.Cell.state g.O.Origin.offers c.args.store.now in let many = c.anchors-anchors.ensures in let p = c.args.pass.now in
+returns-then-try_evict-clause-ok g c = let b = basis g.C.Cell.tells g.C.Cell.state g.O.Origin.offers c.args.store.now in let many = c.anchors-anchors.ensures.value in let p = c.args.pass.now in
     let below = c.loop-steps-test.true in
     let hand_is = c.first_in_round-hand.ensures ∙ (λ i. hand_in (many i) (c.hand.ensures i)) in
     let anchor_is = c.next_in_round-anchor.ensures.value ∙ ap (λ (n : ℕ). onward n c.first_in_round-hand.result c.loop-steps.steps) many in
@@ -39,7 +39,7 @@ returns-then-try_evict-clause-others g c = moved_follows g.C.Cell.tells g.C.Cell
     (follows_on g.C.Cell.tells g.C.Cell.state g.O.Origin.offers c.args.store.now inner c.args.pass.now c.loop-steps.pass c.try_evict.new.pass c.loop-steps.invariant.follows c.try_evict.ensures.others) c.keep_first-slot.ensures.others c.set_hand.ensures.kept
 
 pub loop-steps-preserved : goal.loop-steps-preserved
-loop-steps-preserved g c = let b = basis g.C.Cell.tells g.C.Cell.state g.O.Origin.offers c.args.store.now in let many = c.anchors-anchors.ensures in
+loop-steps-preserved g c = let b = basis g.C.Cell.tells g.C.Cell.state g.O.Origin.offers c.args.store.now in let many = c.anchors-anchors.ensures.value in
     let below = c.loop-steps-test.true in
     let hand_is = c.first_in_round-hand.ensures ∙ (λ i. hand_in (many i) (c.hand.ensures i)) in record {
       to = omega arith;
@@ -49,7 +49,7 @@ loop-steps-preserved g c = let b = basis g.C.Cell.tells g.C.Cell.state g.O.Origi
     }
 
 pub returns-clause-err : goal.returns-clause-err
-returns-clause-err g c = let b = basis g.C.Cell.tells g.C.Cell.state g.O.Origin.offers c.args.store.now in let many = c.anchors-anchors.ensures in let p = c.args.pass.now in
+returns-clause-err g c = let b = basis g.C.Cell.tells g.C.Cell.state g.O.Origin.offers c.args.store.now in let many = c.anchors-anchors.ensures.value in let p = c.args.pass.now in
     let hand_is = c.first_in_round-hand.ensures ∙ (λ i. hand_in (many i) (c.hand.ensures i)) in let past = c.loop-steps-test.false in let to = c.loop-steps.invariant.to in
     let all : c.loop-steps.steps ≡ b.setting.anchors = omega arith in
     subst (λ (h : ℕ). NoneIdle b h (view p) (view c.loop-steps.pass)) hand_is (none_idle b c.first_in_round-hand.result (view p) (view c.loop-steps.pass) (begins_or_none _ _ _ hand_is)
