@@ -1,0 +1,151 @@
+-- A tab that has come to an entry may look at its names, and may leave it.
+use Rattle.std.proofs.Common.{Bool, Contains, Err, List, Ok, Result, Some, ap, arith, get_or, inl, inr, get_or-set_other, get_or-set_same, set, subst, sym, ◌<◌, ◌≡◌, ◌∙◌, ℕ}
+use Rattle.std.proofs.lemmas.List.{set-get_or}
+use Rattle.std.specs.Result.{IfErr, IfOk, OnErr, OnOk}
+use Rattle.lock_word.specs.Life.{IsReadable}
+use Rattle.lock_word.specs.Words.{epoch_number, epoch_of}
+use Rattle.lock_word.specs.Cause.{cause_of}
+use Rattle.lock_word.specs.declared.cause.Cause.{Cause}
+use Rattle.lock_word.specs.declared.epoch.Epoch.{Epoch}
+use Rattle.rock_disk.specs.Cell.{CellState}
+use Rattle.store_key.specs.Key.{key_of}
+use Rattle.core_model.specs.AnchorMoves.{entered}
+use Rattle.core_model.specs.Tabs.{InnerIsFree, OfReader, holds_turn, inner, is_counted, is_free, tab_at, with_tab}
+use Rattle.core_model.specs.declared.moves.Move.TheVariants.{Enter}
+use Rattle.core_model.specs.declared.tab.Tab.{Tab}
+use Rattle.core_model.specs.declared.view.Sight.{Sight}
+use Rattle.core_model.specs.declared.view.View.{View}
+use Rattle.store_rule.specs.declared.store.Pass.{Pass}
+use Rattle.store_rule.specs.declared.store.Store.{Store}
+use Rattle.store_rule.specs.Ground.{Ground, MayName, Offers}
+use Rattle.store_rule.specs.Passes.{IsOf, May, basis, view}
+use Rattle.store_rule.specs.Told.{Steps}
+use Rattle.store_rule.proofs.Passing.{pass_of}
+use Rattle.pass_calls.specs.Calls.{IsFresh}
+use Rattle.rw_anchor.specs.Calls.{Found}
+use Rattle.slice_chain.specs.Names.{MayLoadNames}
+use Rattle.slice_chain.proofs.Writing.{set_again}
+use Rattle.rock_reader.specs.Closing.{MayPart, Parted}
+use Rattle.rock_reader.specs.Opening.{Accepted, Came, Declined, MayJudge, MayOpen, OpenedEntry, Refused, home_of, opened}
+use Rattle.rock_reader.proofs.Coming.{came_tabs, entered_else, entered_readable, fresh_on, key_sees, parted_sees, step_sees}
+
+module _ {C O : Type 0} (tells : Bool) (state : C → CellState) (offers : O → Offers) (s : Store C O) (t : ℕ) where
+  abbrev g : Ground (List ℕ)
+  g = basis tells state offers s
+
+  module _ (p : Pass C) (url : List ℕ) (may : MayOpen tells state offers s p t url) where
+    pub may_share : (a : ℕ) → a ≡ home_of g url → a < g.setting.anchors → May tells state offers s p (Enter t a)
+    may_share a e lt = record {
+      own = may.own;
+      can = record { allowed = (lt, (let b = may.below in omega arith), may.free); chooses = tt; names = subst (MayName g (view p)) (sym e) may.names };
+    }
+
+    module _ (a : ℕ) (e : Epoch) (q : Pass C) (found : Found tells state offers s p (Enter t a) a e q) where
+      told : epoch_of found.made.found ≡ epoch_number e
+      told = ap epoch_of (sym found.made.answers) ∙ found.epoch
+
+      tabs : (view q).tabs ≡ with_tab (view p) t (entered a (epoch_number e))
+      tabs = came_tabs g (view p) (view q) t a found.made.found found.made.step ∙ ap (λ (n : ℕ). with_tab (view p) t (entered a n)) told
+
+      tab : tab_at (view q) t ≡ entered a (epoch_number e)
+      tab = ap (λ (xs : List (Tab (List ℕ))). get_or xs t Tab.Free) tabs
+          ∙ get_or-set_same (view p).tabs t (entered a (epoch_number e)) Tab.Free (let n = pass_of p in let b = may.below in omega arith)
+
+      inner_free : InnerIsFree (view q)
+      inner_free = ap (λ (xs : List (Tab (List ℕ))). is_free (get_or xs inner Tab.Free)) tabs
+          ∙ ap is_free (get_or-set_other (view p).tabs t inner (entered a (epoch_number e)) Tab.Free (λ z. let b = may.below in omega arith)) ∙ may.inner_free
+
+      pub may_judge : IsReadable e → MayJudge tells state offers s q t e
+      may_judge h = record { own = found.made.own; below = may.below; inner_free = inner_free; anchor = a; is = tab ∙ entered_readable a e h; readable = h }
+
+      pub may_retreat : (IsReadable e → ⊥) → MayPart tells state offers s q t
+      may_retreat h = let is : tab_at (view q) t ≡ Tab.Retreating a = tab ∙ entered_else a e h in record {
+        own = found.made.own;
+        below = may.below;
+        inner_free = inner_free;
+        counted = ap is_counted is;
+        idle = ap holds_turn is;
+      }
+
+      -- where it was opened
+      pub opened_tabs : IsReadable e → (view q).tabs ≡ with_tab (view p) t (Tab.Reading (opened a e.version))
+      opened_tabs h = tabs ∙ ap (with_tab (view p) t) (entered_readable a e h)
+
+      -- where it left again
+      pub free_again : (w : View (List ℕ)) → w.tabs ≡ with_tab (view q) t Tab.Free → w.tabs ≡ (view p).tabs
+      free_again w e2 = e2 ∙ ap (λ (xs : List (Tab (List ℕ))). set xs t Tab.Free) tabs ∙ set_again (view p).tabs t (entered a (epoch_number e)) Tab.Free
+          ∙ ap (set (view p).tabs t) (sym may.free) ∙ set-get_or (view p).tabs t Tab.Free
+
+      came : a ≡ home_of g url → (w : View (List ℕ)) → ((x : Sight) → Contains (view q).seen x → Contains w.seen x) → Came g t url (view p) e (view q) w
+      came same w on = record {
+        found = found.made.found;
+        enter = subst (λ (z : ℕ). Steps g (view p) (Enter t z) found.made.found (view q)) same found.made.step;
+        epoch_is = told;
+        fresh = subst (λ (z : ℕ). IsFresh z (epoch_number e) (view p) w) same (fresh_on a (epoch_number e) (view p) (view q) w found.fresh on);
+      }
+
+      -- What the call comes to.
+
+      pub opened_entry : a ≡ home_of g url → IsReadable e → (version : ℕ) (w : View (List ℕ)) → w.tabs ≡ (view q).tabs → Accepted g t (key_of url) e (view q) version w → OpenedEntry g t url (view p) version w
+      opened_entry same h version w stays ok = record {
+        epoch = e;
+        entered = view q;
+        came = came same w (λ x c. step_sees g ok.keyed w _ _ x ok.loaded (key_sees g (view q) ok.keyed t (key_of url) x ok.key c));
+        readable = h;
+        accepted = ok;
+        tabs = stays ∙ opened_tabs h ∙ (λ i. with_tab (view p) t (Tab.Reading (opened (same i) (sym ok.version_is i))));
+      }
+
+      pub turned_away : a ≡ home_of g url → (IsReadable e → ⊥) → (cause : Cause) (w : View (List ℕ)) → ((key : List ℕ) → cause_of e key (key_of url) ≡ Some cause) → Parted g t (view q) w → Refused g t url (view p) cause w
+      turned_away same h cause w is parted = inl record {
+        epoch = e;
+        entered = view q;
+        came = came same w (λ x c. parted_sees g (view q) w t x parted c);
+        unreadable = h;
+        cause_is = is;
+        parted = parted;
+      }
+
+      pub found_other : a ≡ home_of g url → IsReadable e → (cause : Cause) (w : View (List ℕ)) → Declined g t (key_of url) e (view q) cause w → Refused g t url (view p) cause w
+      found_other same h cause w declined = inr record {
+        epoch = e;
+        entered = view q;
+        came = came same w (λ x c. parted_sees g declined.keyed w t x declined.parted (key_sees g (view q) declined.keyed t declined.key x declined.loaded c));
+        readable = h;
+        declined = declined;
+      }
+
+      -- by what judging it came to
+      module _ (same : a ≡ home_of g url) (h : IsReadable e) (wanted : List ℕ) (key : wanted ≡ key_of url) (w : View (List ℕ)) where
+        pub judged_open : (r : Result ℕ Cause) → IfOk r (λ version. Accepted g t wanted e (view q) version w) → OnOk r (w.tabs ≡ (view q).tabs) → IfOk r (λ version. OpenedEntry g t url (view p) version w)
+        judged_open (Ok version) ok stays = opened_entry same h version w stays (subst (λ (k : List ℕ). Accepted g t k e (view q) version w) key ok)
+        judged_open (Err cause) ok stays = tt
+
+        pub judged_other : (r : Result ℕ Cause) → IfErr r (λ cause. Declined g t wanted e (view q) cause w) → IfErr r (λ cause. Refused g t url (view p) cause w)
+        judged_other (Ok version) err = tt
+        judged_other (Err cause) err = found_other same h cause w (subst (λ (k : List ℕ). Declined g t k e (view q) cause w) key err)
+
+        pub judged_free : (r : Result ℕ Cause) → OnErr r (w.tabs ≡ with_tab (view q) t Tab.Free) → OnErr r (w.tabs ≡ (view p).tabs)
+        judged_free (Ok version) err = tt
+        judged_free (Err cause) err = free_again w err
+
+  -- while it judges
+  module _ (p : Pass C) (e : Epoch) (may : MayJudge tells state offers s p t e) where
+    pub may_load : MayLoadNames tells state offers s p t
+    may_load = record { own = may.own; below = (let b = may.below in omega arith); reads = subst (OfReader (λ r. Unit {0})) (sym may.is) tt }
+
+    module _ (q : Pass C) (own : IsOf tells state offers s q) (same : (view q).tabs ≡ (view p).tabs) where
+      now : tab_at (view q) t ≡ Tab.Reading (opened may.anchor e.version)
+      now = ap (λ (xs : List (Tab (List ℕ))). get_or xs t Tab.Free) same ∙ may.is
+
+      pub may_load_more : MayLoadNames tells state offers s q t
+      may_load_more = record { own = own; below = (let b = may.below in omega arith); reads = subst (OfReader (λ r. Unit {0})) (sym now) tt }
+
+      pub may_decline : MayPart tells state offers s q t
+      may_decline = record {
+        own = own;
+        below = may.below;
+        inner_free = ap (λ (xs : List (Tab (List ℕ))). is_free (get_or xs inner Tab.Free)) same ∙ may.inner_free;
+        counted = ap is_counted now;
+        idle = ap holds_turn now;
+      }

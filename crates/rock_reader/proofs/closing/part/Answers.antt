@@ -1,0 +1,18 @@
+use Rattle.std.proofs.Common.{inl}
+use Rattle.store_rule.specs.Passes.{basis, view}
+use Rattle.store_rule.proofs.Passing.{pass_of}
+use Rattle.rock_reader.proofs.Parting.{done_tabs, freed_tabs, may_free}
+use Rattle.rock_reader.proofs.closing.part.Goals as goal
+
+pub free_chain-requires-after_bounds : goal.free_chain-requires-after_bounds
+free_chain-requires-after_bounds g c κs within = may_free g.C.Cell.tells g.C.Cell.state g.O.Origin.offers c.args.store.now c.args.pass.now c.args.tab c.leave.new.pass c.requires
+    (basis g.C.Cell.tells g.C.Cell.state g.O.Origin.offers c.args.store.now) c.in-MustFree.ensures.left c.in-MustFree.ensures.others.own
+
+pub returns-in-Done-clause-parted : goal.returns-in-Done-clause-parted
+returns-in-Done-clause-parted g c = inl record { leaves = c.in-Done.ensures.left }
+
+pub returns-in-Done-clause-free : goal.returns-in-Done-clause-free
+returns-in-Done-clause-free g c = done_tabs (basis g.C.Cell.tells g.C.Cell.state g.O.Origin.offers c.args.store.now) c.args.tab (view c.args.pass.now) (pass_of c.args.pass.now) c.requires.below c.requires.inner_free c.requires.counted (view c.leave.new.pass) c.in-Done.ensures.left
+
+pub returns-in-MustFree-clause-free : goal.returns-in-MustFree-clause-free
+returns-in-MustFree-clause-free g c = freed_tabs (basis g.C.Cell.tells g.C.Cell.state g.O.Origin.offers c.args.store.now) c.args.tab (view c.args.pass.now) (pass_of c.args.pass.now) c.requires.below c.requires.inner_free c.requires.counted (view c.leave.new.pass) (view c.free_chain.new.pass) c.in-MustFree.ensures.left c.free_chain.ensures.freed

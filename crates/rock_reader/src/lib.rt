@@ -1,0 +1,12 @@
+//! Reading entries of the shared store, also while they grow: an entry is opened for a tab, read slot by
+//! slot, and closed again.
+//!
+//! None of these calls takes memory. A tab is the number of one of the nine tabs of the pass, 8 being the
+//! inner one.
+#![tactic(auto)]
+
+mod closing;
+mod opening;
+
+pub use closing::close_entry;
+pub use opening::open_entry;
