@@ -1,5 +1,5 @@
 -- What holds of each item of a list holds of the last one, which is popped, and of the others.
-use Rattle.std.proofs.Common.{◌≡◌, ℕ, zero, suc, ◌<◌, List, [], ◌∷◌, ◌++◌, length, get_or, refl, ap, ◌∙◌, subst, arith, Option, Some, All}
+use Rattle.std.proofs.Common.{sym, ◌≡◌, ℕ, zero, suc, ◌<◌, List, [], ◌∷◌, ◌++◌, length, get_or, refl, ap, ◌∙◌, subst, arith, Option, Some, All}
 use Rattle.std.specs.Option.{option_to_list}
 
 module _ {A : Type 0} where
@@ -21,3 +21,12 @@ module _ {A : Type 0} where
     (λ k d lt. subst P (other_at xs y k d lt) (all k d (omega arith))),
     subst P (last_at xs y y) (all (length xs) y (omega arith)),
   )
+
+  -- what holds of two items holds of a list to which they were pushed
+  pub all_two : {B : Type 0} (f : A → B) (Q : B → Type 0) (xs ys zs : List A) (x y : A) → xs ≡ [] → ys ≡ xs ++ x ∷ [] → zs ≡ ys ++ y ∷ [] → Q (f x) → Q (f y) → All (λ (z : A). Q (f z)) zs
+  all_two f Q xs ys zs x y empty first second p q = subst (All (λ (z : A). Q (f z))) (sym (second ∙ ap (λ (z : List A). z ++ y ∷ []) (first ∙ ap (λ (z : List A). z ++ x ∷ []) empty))) two
+    where
+      two : All (λ (z : A). Q (f z)) (x ∷ y ∷ [])
+      two zero d lt = p
+      two (suc zero) d lt = q
+      two (suc (suc k)) d lt = absurd (omega arith)

@@ -4,9 +4,13 @@
 //! The functions here do nothing. What they ensure are laws on the steps of a pass.
 #![tactic(auto)]
 
-ghost use Rattle.std.specs.Prelude.{◌≡◌, ◌≢◌, List, Some, ℕ};
-ghost use Rattle.lock_word.specs.Words.{epoch_of};
+ghost use Rattle.std.specs.Prelude.{◌+◌, ◌<◌, ◌∷◌, ◌≡◌, ◌≢◌, List, Some, false, ℕ};
+ghost use Rattle.lock_word.specs.Words.{doom_of, doomed, epoch_of, readers_of};
+ghost use Rattle.core_model.specs.AnchorMoves.{deed_of};
+ghost use Rattle.core_model.specs.Tabs.{anchor_of, tab_at};
 ghost use Rattle.core_model.specs.declared.moves.Move.{Move};
+ghost use Rattle.core_model.specs.declared.moves.Move.TheVariants.{Doom, Enter};
+ghost use Rattle.core_model.specs.declared.view.Kind.TheVariants.{Doomed, Entered};
 ghost use Rattle.core_model.specs.declared.view.Place.TheVariants.{Anchor};
 ghost use Rattle.core_model.specs.declared.view.View.{View};
 ghost use Rattle.core_model.specs.Table.{answer, left_by, place};
@@ -28,6 +32,20 @@ pub fn steps_leave_other_tabs<X>()
 pub fn epochs_are_fresh<X>()
     ensures { (g : Ground X) (v w : View X) (m : Move) (n a : ℕ) → Steps g v m n w → place v m ≡ Some (Anchor a) → Misses v m n
         → IsFresh a (epoch_of (answer v m n)) v w }
+{}
+
+/// No step but an entering leaves the word of an anchor with more readers, and none but a doom leaves it
+/// doomed where it was not. Each of the two is a deed of its pass: a call that adds no such deed has counted no
+/// reader, or doomed nothing.
+pub fn enterings_count_and_dooms_doom<X>()
+    ensures counts { (g : Ground X) (v w : View X) (m : Move) (n a : ℕ) → Steps g v m n w → place v m ≡ Some (Anchor a)
+        → readers_of n < readers_of (left_by v m n) → (t : ℕ) × (m ≡ Enter t a) }
+    ensures dooms { (g : Ground X) (v w : View X) (m : Move) (n a : ℕ) → Steps g v m n w → place v m ≡ Some (Anchor a)
+        → doom_of (epoch_of n) ≡ 0 → doom_of (epoch_of (left_by v m n)) ≡ 1 → (t : ℕ) × (m ≡ Doom t) }
+    ensures entered { (g : Ground X) (v w : View X) (n t a : ℕ) → Steps g v (Enter t a) n w
+        → w.deeds ≡ deed_of v Entered a (n + 1) false ∷ v.deeds }
+    ensures doomed { (g : Ground X) (v w : View X) (n t : ℕ) → Steps g v (Doom t) n w
+        → w.deeds ≡ deed_of v Doomed (anchor_of (tab_at v t)) (doomed n) false ∷ v.deeds }
 {}
 
 /// What steps add to what a pass knows and to its records adds up: of no step, of one, and of some behind

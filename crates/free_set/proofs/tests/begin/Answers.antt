@@ -26,11 +26,11 @@ returns-clause-writes g c = let b = basis g.C.Cell.tells g.C.Cell.state g.O.Orig
     let inner_free = ap is_free (ap (λ z. get_or z inner Tab.Free) (c.draw.ensures.tabs ∙ c.look-looked.ensures.tabs) ∙ ap (λ z. tab_at z inner) c.requires.pass.fresh) in
     let vacant = ap is_vacant (sym made.answers) ∙ sym c.is_vacant.ensures.number ∙ c.if-not-is_vacant.false in
     let won = sym made.answers ∙ m.answers ∙ sym (looked_last b _ _ _ c.args.anchor m.step) ∙ sym (same_find b (view c.look-looked.new.pass) (view c.draw.new.pass) c.in-Ok.version c.in-Ok.ensures.ok c.args.anchor) in
-    let first = took_vacant b (view c.draw.new.pass) (view c.take.new.pass) made.found 0 c.args.anchor c.in-Ok.version made.step (pass_of c.draw.new.pass) (omega arith) won vacant in (c.in-Ok.version, first.0)
+    let first = took_vacant b (view c.draw.new.pass) (view c.take.new.pass) made.found 0 c.args.anchor c.in-Ok.version made.step (pass_of c.draw.new.pass) (omega arith) won vacant in λ told. (c.in-Ok.version, first.0)
 
 pub returns-clause-inner : goal.returns-clause-inner
 returns-clause-inner g c = let b = basis g.C.Cell.tells g.C.Cell.state g.O.Origin.offers c.args.store.now in let m = c.look-looked.ensures.made in let made = c.in-Ok-take.ensures.ok in
     let inner_free = ap is_free (ap (λ z. get_or z inner Tab.Free) (c.draw.ensures.tabs ∙ c.look-looked.ensures.tabs) ∙ ap (λ z. tab_at z inner) c.requires.pass.fresh) in
     let vacant = ap is_vacant (sym made.answers) ∙ sym c.is_vacant.ensures.number ∙ c.if-not-is_vacant.false in
     let won = sym made.answers ∙ m.answers ∙ sym (looked_last b _ _ _ c.args.anchor m.step) ∙ sym (same_find b (view c.look-looked.new.pass) (view c.draw.new.pass) c.in-Ok.version c.in-Ok.ensures.ok c.args.anchor) in
-    let first = took_vacant b (view c.draw.new.pass) (view c.take.new.pass) made.found 0 c.args.anchor c.in-Ok.version made.step (pass_of c.draw.new.pass) (omega arith) won vacant in first.1 inner_free
+    let first = took_vacant b (view c.draw.new.pass) (view c.take.new.pass) made.found 0 c.args.anchor c.in-Ok.version made.step (pass_of c.draw.new.pass) (omega arith) won vacant in λ told. first.1 inner_free
