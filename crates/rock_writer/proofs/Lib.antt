@@ -1,0 +1,15 @@
+pub mod Standing
+pub mod GivingBack
+pub mod Parting
+pub mod Unlinking
+pub mod Resting
+pub mod Publishing
+pub mod Following
+pub mod Sizes
+pub mod Growing
+pub mod Desks
+pub mod Pieces
+pub mod Taking
+pub mod Seeing
+pub mod Ending
+pub mod Begun

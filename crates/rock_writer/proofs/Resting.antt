@@ -1,0 +1,106 @@
+-- A tab that writes, from one step of its pass to the next.
+use Rattle.std.proofs.Common.{Bool, List, None, Option, Some, [], ap, arith, false, get_or, get_or-set_other, get_or-set_same, inl, inr, length, length-set, refl, set, subst, sym, true, unwrap_or, ◌++◌, ◌+◌, ◌<◌, ◌≡◌, ◌≢◌, ◌≤◌, ◌⊎◌, ◌∙◌, ◌∷◌, ⊎_elim, ℕ}
+use Rattle.std.proofs.lemmas.List.{length_push}
+use Rattle.link_word.specs.declared.link.Link.{Link}
+use Rattle.link_word.specs.declared.link.Link.TheVariants.{Last as LastLink, Next, NotWritten}
+use Rattle.rock_disk.specs.Cell.{CellState}
+use Rattle.core_model.specs.Chains.{slots_of_link}
+use Rattle.core_model.specs.SlotMoves.{MayReserve, reserves}
+use Rattle.core_model.specs.Tabs.{InnerIsFree, IsPass, OfWriter, inner, is_free, tab_at, with_tab}
+use Rattle.core_model.specs.declared.tab.Piece.{Piece}
+use Rattle.core_model.specs.declared.tab.Tab.{Tab}
+use Rattle.core_model.specs.declared.tab.Tab.TheVariants.{Writing}
+use Rattle.core_model.specs.declared.tab.Writer.{Writer}
+use Rattle.core_model.specs.declared.view.View.{View}
+use Rattle.store_rule.specs.declared.store.Pass.{Pass}
+use Rattle.store_rule.specs.declared.store.Store.{Store}
+use Rattle.store_rule.specs.Ground.{Ground, Offers}
+use Rattle.store_rule.specs.Passes.{IsOf, basis, view}
+use Rattle.store_rule.specs.Tabs.{head_of}
+use Rattle.store_rule.proofs.Passing.{pass_of}
+use Rattle.free_set.specs.Claims.{MayClaim}
+use Rattle.slice_chain.specs.Writes.{reserved_first}
+use Rattle.rock_writer.specs.Entries.{Entry, GoesOn, Rests, writer_as}
+use Rattle.rock_writer.specs.Flushing.{LacksSlot, SlotFor}
+use Rattle.rock_writer.specs.Halting.{MayHalt}
+use Rattle.rock_writer.specs.Reserving.{RanOut, Reserved}
+
+module _ {X : Type 0} (t : ℕ) (v w : View X) (x : Tab X) (pass : IsPass v) (below : t < inner) (is : w.tabs ≡ with_tab v t x) where
+  pub tab_now : tab_at w t ≡ x
+  tab_now = ap (λ xs. get_or xs t Tab.Free) is ∙ get_or-set_same v.tabs t x Tab.Free (let p = pass in let b = below in omega arith)
+
+  pub inner_now : InnerIsFree v → InnerIsFree w
+  inner_now free = ap (λ xs. is_free (get_or xs inner Tab.Free)) is ∙ ap is_free (get_or-set_other v.tabs t inner x Tab.Free (λ e. let b = below in omega arith)) ∙ free
+
+  pub nine_now : IsPass w
+  nine_now = ap length is ∙ length-set v.tabs t x ∙ pass
+
+pub open_end : (published : List ℕ) (end : Link) → GoesOn published end → end ≢ LastLink
+open_end [] end h e = not_last (sym h ∙ e)
+  where
+    not_last : NotWritten ≡ LastLink → ⊥
+    not_last z = cc
+open_end (x ∷ xs) end h e = not_last (sym h.1 ∙ e)
+  where
+    not_last : Next h.0 ≡ LastLink → ⊥
+    not_last z = cc
+
+module _ {C O : Type 0} (tells : Bool) (state : C → CellState) (offers : O → Offers) (s : Store C O) (t : ℕ) (e : Entry) (published : List ℕ) (end : Link) where
+  abbrev g : Ground (List ℕ)
+  g = basis tells state offers s
+
+  pub may_claim : (p : Pass C) (rs : List ℕ) → Rests tells state offers s p t e published end rs → length rs < 2 → MayClaim tells state offers s p t
+  may_claim p rs h few = record {
+    own = h.own;
+    below = h.below;
+    inner_free = h.inner_free;
+    may = subst (OfWriter MayReserve) (sym h.is) record { room = few; chosen = λ q e. absurd (no_piece q e); open_end = open_end published end h.goes_on; goes_on = refl };
+  }
+    where
+      no_piece : (q : Piece) → None ≡ Some q → ⊥
+      no_piece q e = cc
+
+  pub may_halt : (p : Pass C) (rs : List ℕ) → Rests tells state offers s p t e published end rs → MayHalt tells state offers s p t
+  may_halt p rs h = record {
+    own = h.own;
+    below = h.below;
+    inner_free = h.inner_free;
+    writer = _;
+    is = h.is;
+    turn = refl;
+    open_end = open_end published end h.goes_on;
+    start = λ e. refl;
+  }
+
+  -- the same tab at another pass
+  pub rests_at : (p q : Pass C) (rs more : List ℕ) → Rests tells state offers s p t e published end rs → IsOf tells state offers s q → tab_at (view q) t ≡ Writing (writer_as g e published end more) → InnerIsFree (view q)
+      → Rests tells state offers s q t e published end more
+  rests_at p q rs more h own is free = record { own = own; below = h.below; inner_free = free; goes_on = h.goes_on; is = is; from = h.from; fits = h.fits }
+
+  pub rests_on : (p q : Pass C) (rs : List ℕ) → Rests tells state offers s p t e published end rs → IsOf tells state offers s q → (view q).tabs ≡ (view p).tabs → Rests tells state offers s q t e published end rs
+  rests_on p q rs h own same = rests_at p q rs rs h own (ap (λ xs. get_or xs t Tab.Free) same ∙ h.is) (ap (λ xs. is_free (get_or xs inner Tab.Free)) same ∙ h.inner_free)
+
+  -- it reserved a slot
+  pub reserved_rests : (p q : Pass C) (rs : List ℕ) (slot hand hand_after : ℕ) → Rests tells state offers s p t e published end rs → Reserved g t hand (view p) slot (view q) hand_after → IsOf tells state offers s q
+      → Rests tells state offers s q t e published end (rs ++ slot ∷ [])
+  reserved_rests p q rs slot hand hand_after h r own = rests_at p q rs (rs ++ slot ∷ []) h own
+      (tab_now t (view p) (view q) (reserves (tab_at (view p) t) slot) (pass_of p) h.below r.tabs ∙ ap (λ z. reserves z slot) h.is)
+      (inner_now t (view p) (view q) (reserves (tab_at (view p) t) slot) (pass_of p) h.below r.tabs h.inner_free)
+
+  -- the slot for its next piece
+  pub slot_rests : (p q : Pass C) (slot hand hand_after : ℕ) → Rests tells state offers s p t e published end (slots_of_link end) → SlotFor g t hand (view p) slot (view q) hand_after → IsOf tells state offers s q
+      → Rests tells state offers s q t e published end (slot ∷ [])
+  slot_rests p q slot hand hand_after h found own = ⊎_elim
+      (λ (has : Rattle.rock_writer.specs.Flushing.HasSlot g t hand (view p) slot (view q) hand_after). subst (Rests tells state offers s q t e published end) (linked end (sym (ap reserved_first h.is) ∙ has.first)) (rests_on p q (slots_of_link end) h own (ap View.tabs has.same)))
+      (λ (needs : Rattle.rock_writer.specs.Flushing.NeedsSlot g t hand (view p) slot (view q) hand_after). subst (λ (xs : List ℕ). Rests tells state offers s q t e published end (xs ++ slot ∷ [])) (unlinked end (sym (ap reserved_first h.is) ∙ needs.none)) (reserved_rests p q (slots_of_link end) slot hand hand_after h needs.reserved own))
+      found
+    where
+      linked : (end : Link) → head_of (slots_of_link end) ≡ Some slot → slots_of_link end ≡ slot ∷ []
+      linked NotWritten e = cc
+      linked LastLink e = cc
+      linked (Next x) e = ap (λ o. unwrap_or o 0 ∷ []) e
+
+      unlinked : (end : Link) → head_of (slots_of_link end) ≡ None → slots_of_link end ≡ []
+      unlinked NotWritten e = refl
+      unlinked LastLink e = refl
+      unlinked (Next x) e = cc

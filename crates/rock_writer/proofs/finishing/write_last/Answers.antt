@@ -1,0 +1,41 @@
+use Rattle.std.proofs.Common.{ap}
+use Rattle.store_key.specs.Key.{key_of}
+use Rattle.store_rule.specs.Passes.{basis, view}
+use Rattle.core_model.specs.Chains.{slots_of_link}
+use Rattle.rock_writer.specs.Entries.{url_in}
+use Rattle.rock_writer.proofs.Ending.{may_close, may_publish_last}
+use Rattle.rock_writer.proofs.Following.{on_err, writing_evicting, writing_on}
+use Rattle.rock_writer.proofs.Publishing.{may_halt}
+use Rattle.rock_writer.proofs.Resting as resting
+use Rattle.rock_writer.proofs.Resting.{rests_on, slot_rests}
+use Rattle.rock_writer.proofs.Sizes.{whole_size}
+use Rattle.rock_writer.proofs.finishing.write_last.Goals as goal
+
+pub returns-in_default-clause-halts : goal.returns-in_default-clause-halts
+returns-in_default-clause-halts g c = let e = c.requires.0 in let h = c.requires.1 in
+    resting.may_halt g.C.Cell.tells g.C.Cell.state g.O.Origin.offers c.args.store.now c.args.tab e h.writes.published h.writes.end c.slot_for_piece.new.pass (slots_of_link h.writes.end)
+    (rests_on g.C.Cell.tells g.C.Cell.state g.O.Origin.offers c.args.store.now c.args.tab e h.writes.published h.writes.end c.args.pass.now c.slot_for_piece.new.pass (slots_of_link h.writes.end) h.writes.rests c.slot_for_piece.ensures.others.own c.in_default.ensures.err.out.tabs)
+
+pub returns-in_default-clause-others : goal.returns-in_default-clause-others
+returns-in_default-clause-others g c = writing_evicting g.C.Cell.tells g.C.Cell.state g.O.Origin.offers c.args.store.now c.args.tab c.args.pass.now c.slot_for_piece.new.pass c.slot_for_piece.ensures.others
+
+pub publish_piece-requires-after_bounds : goal.publish_piece-requires-after_bounds
+publish_piece-requires-after_bounds g c κs within = let e = c.requires.0 in let h = c.requires.1 in let ws = whole_size (basis g.C.Cell.tells g.C.Cell.state g.O.Origin.offers c.args.store.now) e (c.written_meta_is_spelled.ensures.size (key_of (url_in (basis g.C.Cell.tells g.C.Cell.state g.O.Origin.offers c.args.store.now) e)) (url_in (basis g.C.Cell.tells g.C.Cell.state g.O.Origin.offers c.args.store.now) e) (c.keys_have_16_bytes.ensures.length (url_in (basis g.C.Cell.tells g.C.Cell.state g.O.Origin.offers c.args.store.now) e))) in let r = slot_rests g.C.Cell.tells g.C.Cell.state g.O.Origin.offers c.args.store.now c.args.tab e h.writes.published h.writes.end c.args.pass.now c.slot_for_piece.new.pass c.in-Ok.slot c.args.pass.now.hand c.slot_for_piece.new.pass.hand h.writes.rests c.in-Ok.ensures.ok c.slot_for_piece.ensures.others.own in
+    may_publish_last g.C.Cell.tells g.C.Cell.state g.O.Origin.offers c.args.store.now c.args.pass.now c.args.tab e h ws c.slot_for_piece.new.pass c.in-Ok.slot c.size-size.result r c.slot_for_piece.ensures.others.desks (c.size-size.ensures e h.writes)
+
+pub returns-in-Ok-publish_piece-clause-closes : goal.returns-in-Ok-publish_piece-clause-closes
+returns-in-Ok-publish_piece-clause-closes g c e h = let ws = whole_size (basis g.C.Cell.tells g.C.Cell.state g.O.Origin.offers c.args.store.now) e (c.written_meta_is_spelled.ensures.size (key_of (url_in (basis g.C.Cell.tells g.C.Cell.state g.O.Origin.offers c.args.store.now) e)) (url_in (basis g.C.Cell.tells g.C.Cell.state g.O.Origin.offers c.args.store.now) e) (c.keys_have_16_bytes.ensures.length (url_in (basis g.C.Cell.tells g.C.Cell.state g.O.Origin.offers c.args.store.now) e))) in let r = slot_rests g.C.Cell.tells g.C.Cell.state g.O.Origin.offers c.args.store.now c.args.tab e h.writes.published h.writes.end c.args.pass.now c.slot_for_piece.new.pass c.in-Ok.slot c.args.pass.now.hand c.slot_for_piece.new.pass.hand h.writes.rests c.in-Ok.ensures.ok c.slot_for_piece.ensures.others.own in
+    may_close g.C.Cell.tells g.C.Cell.state g.O.Origin.offers c.args.store.now c.args.pass.now c.args.tab e h ws c.slot_for_piece.new.pass c.in-Ok.slot c.size-size.result r c.slot_for_piece.ensures.others.desks (c.size-size.ensures e h.writes)
+    c.publish_piece.new.pass _ c.in-Ok-publish_piece.ensures.ok c.publish_piece.ensures.others.own
+
+pub returns-in-Ok-publish_piece-clause-others : goal.returns-in-Ok-publish_piece-clause-others
+returns-in-Ok-publish_piece-clause-others g c = writing_on g.C.Cell.tells g.C.Cell.state g.O.Origin.offers c.args.store.now c.args.tab c.args.pass.now c.slot_for_piece.new.pass c.publish_piece.new.pass (writing_evicting g.C.Cell.tells g.C.Cell.state g.O.Origin.offers c.args.store.now c.args.tab c.args.pass.now c.slot_for_piece.new.pass c.slot_for_piece.ensures.others) c.publish_piece.ensures.others
+
+pub returns-in-Err-clause-halts : goal.returns-in-Err-clause-halts
+returns-in-Err-clause-halts g c = let e = c.requires.0 in let h = c.requires.1 in let ws = whole_size (basis g.C.Cell.tells g.C.Cell.state g.O.Origin.offers c.args.store.now) e (c.written_meta_is_spelled.ensures.size (key_of (url_in (basis g.C.Cell.tells g.C.Cell.state g.O.Origin.offers c.args.store.now) e)) (url_in (basis g.C.Cell.tells g.C.Cell.state g.O.Origin.offers c.args.store.now) e) (c.keys_have_16_bytes.ensures.length (url_in (basis g.C.Cell.tells g.C.Cell.state g.O.Origin.offers c.args.store.now) e))) in let r = slot_rests g.C.Cell.tells g.C.Cell.state g.O.Origin.offers c.args.store.now c.args.tab e h.writes.published h.writes.end c.args.pass.now c.slot_for_piece.new.pass c.in-Ok.slot c.args.pass.now.hand c.slot_for_piece.new.pass.hand h.writes.rests c.in-Ok.ensures.ok c.slot_for_piece.ensures.others.own in
+    may_halt g.C.Cell.tells g.C.Cell.state g.O.Origin.offers c.args.store.now c.slot_for_piece.new.pass c.args.tab c.in-Ok.slot _
+    (may_publish_last g.C.Cell.tells g.C.Cell.state g.O.Origin.offers c.args.store.now c.args.pass.now c.args.tab e h ws c.slot_for_piece.new.pass c.in-Ok.slot c.size-size.result r c.slot_for_piece.ensures.others.desks (c.size-size.ensures e h.writes))
+    c.publish_piece.new.pass _ _ c.in-Err.ensures.err c.publish_piece.ensures.others.own
+
+pub returns-in-Err-clause-others : goal.returns-in-Err-clause-others
+returns-in-Err-clause-others g c = writing_on g.C.Cell.tells g.C.Cell.state g.O.Origin.offers c.args.store.now c.args.tab c.args.pass.now c.slot_for_piece.new.pass c.publish_piece.new.pass (writing_evicting g.C.Cell.tells g.C.Cell.state g.O.Origin.offers c.args.store.now c.args.tab c.args.pass.now c.slot_for_piece.new.pass c.slot_for_piece.ensures.others) c.publish_piece.ensures.others

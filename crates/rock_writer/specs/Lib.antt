@@ -1,0 +1,9 @@
+pub mod Passes
+pub mod Halting
+pub mod Reserving
+pub mod Entries
+pub mod Drafting
+pub mod Flushing
+pub mod Appending
+pub mod Finishing
+pub mod Beginning
