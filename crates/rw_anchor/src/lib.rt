@@ -7,11 +7,15 @@
 //! being the inner one.
 #![tactic(auto)]
 
-ghost use Rattle.std.specs.Prelude.{IfErr, IfOk, OnOk, ◌≡◌, ◌≢◌, ◌≤◌, ◌⊎◌, false, true};
+ghost use Rattle.std.specs.Prelude.{IfErr, IfOk, OnOk, ◌<◌, ◌≡◌, ◌≢◌, ◌≤◌, ◌⊎◌, false, true, ℕ};
 ghost use Rattle.lock_word.specs.Life.{IsReadable};
-ghost use Rattle.lock_word.specs.Words.{IsInRange, epoch_number, epoch_of, word_number};
+ghost use Rattle.lock_word.specs.Words.{IsInRange, epoch_number, epoch_of, is_idle, is_vacant, word_number};
+ghost use Rattle.core_model.specs.AllowedByView.{AllowedByView};
 ghost use Rattle.core_model.specs.Tabs.{InnerIsFree, anchor_of, inner, tab_at};
-ghost use Rattle.core_model.specs.Trails.{last_find};
+ghost use Rattle.core_model.specs.Trails.{has_find, last_find};
+ghost use Rattle.core_model.specs.declared.tab.Tab.TheVariants.{Free};
+ghost use Rattle.core_model.specs.declared.view.View.{View};
+ghost use Rattle.store_rule.specs.Ground.{Ground};
 ghost use Rattle.core_model.specs.declared.moves.Move.TheVariants.{Doom, Enter, Leave, Look, Raise, Take};
 ghost use Rattle.pass_calls.specs.Calls.{Follows, IsFresh};
 ghost use Rattle.rw_anchor.specs.Calls.{Drew, Found, GivenUp, Leaves, MayGiveUp, SpentAtDraw, SpentAtLook};
@@ -135,6 +139,15 @@ pub fn draw<C: Cell, O: Origin>(store: &Store<C, O>, pass: &mut Pass<C>) -> Resu
     }
     Ok((found + 1) as u32)
 }
+
+/// A version that a pass drew behind its last look at an anchor lets a free tab take that anchor, where it was
+/// found vacant, or idle while the inner tab is free. The function does nothing: the proof of a function that
+/// calls it may use what it ensures.
+pub fn drawn_versions_may_take<X>()
+    ensures { (g : Ground X) (u w : View X) (version t a : ℕ) → Drew g u version w → a < g.setting.anchors → t < inner → tab_at u t ≡ Free
+        → has_find a u.trail ≡ true → (is_vacant (last_find a u.trail) ≡ true) ⊎ ((is_idle (last_find a u.trail) ≡ true) × InnerIsFree u)
+        → AllowedByView g.setting w (Take t a version) }
+{}
 
 /// Takes a vacant or idle anchor for a new entry of a version that the pass drew since it looked, by a
 /// single try. Where the word was an idle entry's, the inner tab has its slots afterwards.
