@@ -1,7 +1,7 @@
 -- A tab that has come to an entry may look at its names, and may leave it.
 use Rattle.std.proofs.Common.{Bool, Contains, Err, List, Ok, Result, Some, ap, arith, get_or, inl, inr, get_or-set_other, get_or-set_same, set, subst, sym, ◌<◌, ◌≡◌, ◌∙◌, ℕ}
 use Rattle.std.proofs.lemmas.List.{set-get_or}
-use Rattle.std.specs.Result.{IfErr, IfOk, OnErr, OnOk}
+use Rattle.std.specs.Result.{IfErr, IfOk, OnOk}
 use Rattle.lock_word.specs.Life.{IsReadable}
 use Rattle.lock_word.specs.Words.{epoch_number, epoch_of}
 use Rattle.lock_word.specs.Cause.{cause_of}
@@ -124,10 +124,6 @@ module _ {C O : Type 0} (tells : Bool) (state : C → CellState) (offers : O →
         pub judged_other : (r : Result ℕ Cause) → IfErr r (λ cause. Declined g t wanted e (view q) cause w) → IfErr r (λ cause. Refused g t url (view p) cause w)
         judged_other (Ok version) err = tt
         judged_other (Err cause) err = found_other same h cause w (subst (λ (k : List ℕ). Declined g t k e (view q) cause w) key err)
-
-        pub judged_free : (r : Result ℕ Cause) → OnErr r (w.tabs ≡ with_tab (view q) t Tab.Free) → OnErr r (w.tabs ≡ (view p).tabs)
-        judged_free (Ok version) err = tt
-        judged_free (Err cause) err = free_again w err
 
   -- while it judges
   module _ (p : Pass C) (e : Epoch) (may : MayJudge tells state offers s p t e) where

@@ -5,8 +5,16 @@
 //! inner one.
 #![tactic(auto)]
 
+mod answer;
+mod bodies;
 mod closing;
+mod laws;
 mod opening;
+mod reading;
+mod wanted;
 
+pub use answer::More;
 pub use closing::close_entry;
+pub use laws::bodies_are_given_from_the_front;
 pub use opening::open_entry;
+pub use reading::more;

@@ -4,11 +4,15 @@ ghost use Rattle.core_model.specs.declared.tab.Tab.TheVariants.{Free};
 ghost use Rattle.lock_word.specs.Cause.{cause_of};
 ghost use Rattle.lock_word.specs.Life.{IsReadable};
 ghost use Rattle.rock_reader.specs.Closing.{FollowsTab};
-ghost use Rattle.rock_reader.specs.Opening.{Accepted, Declined, MayJudge, MayOpen, OpenedEntry, Refused};
+ghost use Rattle.rock_reader.specs.Opening.{Accepted, Declined, MayJudge, MayOpen, OpenedEntry, Refused, home_of};
+ghost use Rattle.rock_reader.specs.Reading.{ReadsAs, newly};
+ghost use Rattle.rock_reader.specs.Wanted.{FollowsReader};
 ghost use Rattle.std.specs.Prelude.{IfErr, IfOk, List, OnErr, OnOk, Some, ◌≡◌, ℕ};
 ghost use Rattle.store_rule.specs.Passes.{basis, view};
 
 use crate::closing::part;
+use crate::laws::slots_are_small;
+use crate::wanted::keep_url;
 use lock_word::{Cause, Epoch, cause_of, hits_are_readable};
 use rock_disk::Cell;
 use rw_anchor::share;
@@ -17,7 +21,8 @@ use store_key::{anchor_of, key_of};
 use store_rule::{Origin, Pass, Store};
 
 /// Opens the entry of a URL for a free tab, and answers its version. The tab reads it from its first slot on,
-/// and is to be closed.
+/// and is to be closed. Its buffer then has the URL, which is compared with that of the entry when the first
+/// slot is read.
 ///
 /// # Errors
 ///
@@ -32,13 +37,22 @@ pub fn open_entry<C: Cell, O: Origin>(
     requires { MayOpen C.tells C.state O.offers store.now pass.old tab url.now }
     ensures ok { IfOk result (λ version. OpenedEntry (basis C.tells C.state O.offers store.now) tab url.now (view pass.old) version (view pass.new)) }
     ensures err { IfErr result (λ cause. Refused (basis C.tells C.state O.offers store.now) tab url.now (view pass.old) cause (view pass.new)) }
+    ensures reads { IfOk result (λ version. (offer : ℕ) × ReadsAs C.tells C.state O.offers store.now pass.new tab (newly (home_of (basis C.tells C.state O.offers store.now) url.now) version offer url.now)) }
     ensures free { OnErr result ((view pass.new).tabs ≡ (view pass.old).tabs) }
-    ensures others { FollowsTab C.tells C.state O.offers store.now tab pass.old pass.new }
+    ensures refused { OnErr result (FollowsTab C.tells C.state O.offers store.now tab pass.old pass.new) }
+    ensures others { FollowsReader C.tells C.state O.offers store.now tab pass.old pass.new }
 {
+    slots_are_small(store);
     let key = key_of(url);
     let anchor = anchor_of(&key, store.anchors());
     match share(store, pass, tab, anchor) {
-        Ok(epoch) => judge(store, pass, tab, &key, &epoch),
+        Ok(epoch) => match judge(store, pass, tab, &key, &epoch) {
+            Ok(version) => {
+                keep_url(pass, tab, url);
+                Ok(version)
+            }
+            Err(cause) => Err(cause),
+        },
         Err(epoch) => {
             part(store, pass, tab);
             Err(unread_cause(&epoch, &key))

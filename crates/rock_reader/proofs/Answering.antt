@@ -1,0 +1,53 @@
+-- What a reading tab is that does not look again: it was given all, or its entry turned out to be another one.
+use Rattle.std.proofs.Common.{Bool, List, None, arith, false, refl, subst, true, ◌<◌, ◌≡◌, ◌≢◌, ◌⊎◌, inl, inr, ⊎_elim, ℕ}
+use Rattle.rock_disk.specs.Cell.{CellState}
+use Rattle.core_model.specs.Tabs.{OfReader, tab_at}
+use Rattle.store_rule.specs.declared.store.Pass.{Pass}
+use Rattle.store_rule.specs.declared.store.Store.{Store}
+use Rattle.store_rule.specs.Ground.{Offers}
+use Rattle.store_rule.specs.Passes.{view}
+use Rattle.slice_chain.specs.Links.{MayLocate}
+use Rattle.rock_reader.specs.Reading.{IsAtEnd, MayRead, ReadsAs, Standing, StaysOther}
+use Rattle.rock_reader.specs.Wanted.{held_at}
+use Rattle.rock_reader.proofs.Looking.{of_reader}
+use Rattle.rock_reader.proofs.ReadingOn.{reader_of_tab}
+
+is_true : (b : Bool) → (b ≡ false → ⊥) → b ≡ true
+is_true true h = refl
+is_true false h = absurd (h refl)
+
+not_other : (b : Bool) → (b ≡ true → ⊥) → b ≡ false
+not_other true h = absurd (h refl)
+not_other false h = refl
+
+module _ {C O : Type 0} (tells : Bool) (state : C → CellState) (offers : O → Offers) (s : Store C O) (t : ℕ) (p : Pass C) where
+  module _ (e : Standing) (reads : ReadsAs tells state offers s p t e) (bytes : List ℕ) where
+    pub ended : OfReader (λ r. (0 < r.place) × (r.slot ≡ None) × (0 < held_at p.desks t)) (tab_at (view p) t) → IsAtEnd tells state offers s t p e bytes bytes p
+    ended h = let r = reader_of_tab (λ r. (0 < r.place) × (r.slot ≡ None) × (0 < held_at p.desks t)) (tab_at (view p) t) reads.reader reads.is h in
+        let some_place : 0 < e.place = subst (λ (n : ℕ). 0 < n) reads.place_is r.0 in record {
+          was = not_other e.is_other (λ o. let z = (reads.other o).1 in let y = r.2 in absurd (omega arith));
+          some = some_place;
+          all = reads.at_end r.1 some_place;
+          still = refl;
+          same = refl;
+        }
+
+    pub turned_out : OfReader (λ r. (0 < r.place) × (held_at p.desks t ≡ 0)) (tab_at (view p) t) → StaysOther tells state offers s t p e bytes bytes p
+    turned_out h = let r = reader_of_tab (λ r. (0 < r.place) × (held_at p.desks t ≡ 0)) (tab_at (view p) t) reads.reader reads.is h in record {
+      was = is_true e.is_other (λ f. let y = (reads.given f (subst (λ (n : ℕ). 0 < n) reads.place_is r.0)).0 in let z = r.1 in absurd (omega arith));
+      still = refl;
+      same = refl;
+    }
+
+  -- a tab that has a slot at its place may look
+  pub may_locate : (room : ℕ) → MayRead tells state offers s p t room → OfReader (λ r. (r.place ≡ 0) ⊎ ((r.slot ≢ None) × (0 < held_at p.desks t))) (tab_at (view p) t) → MayLocate tells state offers s p t
+  may_locate room may h = record {
+    own = may.own;
+    below = (let b = may.below in omega arith);
+    reads = of_reader (λ r. (r.place ≡ 0) ⊎ ((r.slot ≢ None) × (0 < held_at p.desks t))) (λ r. (r.place ≡ 0) ⊎ (r.slot ≢ None)) (tab_at (view p) t)
+        (λ r o. ⊎_elim (λ (z : r.place ≡ 0). inl z) (λ (z : (r.slot ≢ None) × (0 < held_at p.desks t)). inr z.0) o) h;
+  }
+
+  pub has_held : OfReader (λ r. (r.place ≡ 0) ⊎ ((r.slot ≢ None) × (0 < held_at p.desks t))) (tab_at (view p) t) → OfReader (λ r. 0 < r.place → 0 < held_at p.desks t) (tab_at (view p) t)
+  has_held h = of_reader (λ r. (r.place ≡ 0) ⊎ ((r.slot ≢ None) × (0 < held_at p.desks t))) (λ r. 0 < r.place → 0 < held_at p.desks t) (tab_at (view p) t)
+      (λ r o some. ⊎_elim (λ (z : r.place ≡ 0). absurd (omega arith)) (λ (z : (r.slot ≢ None) × (0 < held_at p.desks t)). z.1) o) h
