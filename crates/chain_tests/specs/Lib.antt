@@ -1,0 +1,3 @@
+pub mod Sheets
+pub mod Offers
+pub mod Tabs
