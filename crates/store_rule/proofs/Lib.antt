@@ -7,6 +7,7 @@ pub mod Bounds
 pub mod AtHand
 pub mod Noting
 pub mod Fresh
+pub mod Keeping
 pub mod Passing
 pub mod Alone
 pub mod NewPasses

@@ -1,4 +1,5 @@
 pub mod Ground
+pub mod Rebuilding
 pub mod Ruled
 pub mod Setting
 pub mod Told

@@ -1,5 +1,8 @@
 -- What a caller sees of a store and of its passes.
-use Rattle.std.specs.Prelude.{◌≡◌, ◌∷◌, All, Bool, List, None, Option, Some, length, replicate, slice_set, [], ℕ}
+use Rattle.std.specs.Prelude.{◌≡◌, ◌≤◌, ◌∷◌, All, Bool, List, None, Option, Some, length, replicate, slice_set, vec_capacity, vec_len, [], ℕ}
+use Rattle.std.specs.Global.{Vec}
+use mathlib.Core.Option.{some}
+use lib.ListN.{get_elem?}
 use Rattle.atomic_table.specs.Table.{rest}
 use Rattle.core_model.specs.declared.moves.Move.TheVariants.{EndTurn, Leave, Raise, TryTurn}
 use Rattle.rock_disk.specs.Cell.{CellState}
@@ -53,6 +56,20 @@ pub record AreHands (slot : ℕ) (h : Hands) : Type 0 where
   pub left : h.left ≡ replicate 9 0
   pub desks : length h.desks ≡ 9
   pub buffers : All (λ (d : Desk). length d.buffer.items ≡ slot) h.desks
+
+-- the passes stand in the order of their numbers, from 0 on
+abbrev pub AreNumbered : {C : Type 0} → List (Pass C) → Type 0
+AreNumbered {C} passes = (j : ℕ) (p : Pass C) → get_elem? passes j ≡ some p → (view p).pass ≡ j
+
+-- the vector that the first of these passes keeps, or this one where there is none
+abbrev pub first_cells : {C : Type 0} → List (Pass C) → Vec C → Vec C
+first_cells [] cells = cells
+first_cells (p ∷ passes) cells = p.cells
+
+-- the first of these passes keeps an emptied vector with room for so many cells
+abbrev pub KeepsRoom : {C : Type 0} → (slots : ℕ) → List (Pass C) → Type 0
+KeepsRoom slots [] = ⊥
+KeepsRoom slots (p ∷ passes) = (p.cells.items ≡ []) × (vec_len p.cells ≡ 0) × (slots ≤ vec_capacity p.cells)
 
 -- a step that moves no cell leaves the places that the pass has out
 abbrev pub PlacesStay : {C : Type 0} → Move → List (ℕ × Option C) → List (ℕ × Option C) → Type 0

@@ -10,6 +10,7 @@ use Rattle.core_model.specs.declared.tab.Cell.{Cell}
 use Rattle.core_model.specs.declared.tab.Piece.{Piece}
 use Rattle.store_rule.specs.declared.rule.About.{About}
 use Rattle.store_rule.specs.Ground.{Ground, Offers}
+use Rattle.store_rule.specs.Rebuilding.{chain_kept}
 use Rattle.store_rule.specs.Ruled.{Form}
 
 -- A cell as the core sees it. Cells that do not tell all hold the same.
@@ -60,7 +61,7 @@ module _ {C O : Type 0} (tells : Bool) (state : C → CellState) (offers : O →
       contents = map (now_in tells state) about.places.value.items;
       image = image_in tells (offers about.origin.value) about.slots about.slot;
     };
-    chain = λ a. [];
+    chain = chain_kept about.kept.value about.anchors;
     slot = about.slot;
     offers = offers about.origin.value;
   }

@@ -12,6 +12,7 @@ mod machine;
 mod notes;
 mod opening;
 mod owners;
+mod rebuilt;
 mod rule;
 mod sides;
 mod steps;

@@ -1,5 +1,5 @@
 // The store at the opening.
-ghost use Rattle.std.specs.Prelude.{◌+◌, ◌*◌, ◌<◌, ◌≡◌, ◌≤◌, ◌∷◌, All, IfErr, IfOk, List, Some, [], length, map, replicate, vec_len, ℕ};
+ghost use Rattle.std.specs.Prelude.{◌+◌, ◌*◌, ◌<◌, ◌≡◌, ◌∷◌, All, IfErr, IfOk, List, Some, [], length, map, replicate, vec_len, ℕ};
 ghost use Rattle.core_model.specs.declared.tab.Tab.TheVariants.{Free};
 ghost use Rattle.store_rule.specs.declared.store.Desk.{Desk};
 ghost use Rattle.store_rule.specs.declared.tabs.At.{At};
@@ -7,6 +7,7 @@ ghost use Rattle.core_model.specs.Opening.{new_view, new_views};
 ghost use Rattle.store_rule.specs.Setting.{IsRow, IsSettled, basis_of};
 ghost use Rattle.store_rule.specs.Told.{Stands, the_view};
 ghost use Rattle.store_rule.specs.Passes.{AreHands};
+ghost use Rattle.store_rule.specs.Rebuilding.{MayOpen, none_kept};
 
 use crate::buffers::Desks;
 use crate::cells::{from_places, to_places};
@@ -16,8 +17,10 @@ use crate::store::{Desk, Pass, Store};
 use crate::tabs::At;
 use atomic_table::{Refused, Seat, Table};
 use core_model::{Row, View};
+use core_table::{Opening, opening_of};
+use rebuild_model::{FoundList, Rebuilt};
 use rock_disk::Cell;
-use rock_io::Octets;
+use rock_io::{Numbers, Octets};
 use std::alloc::{AllocError, Global};
 use std::snapshot::Snapshot;
 
@@ -77,36 +80,23 @@ fn all_hands(alloc: Global, slot: u32, passes: u32) -> Result<Vec<Hands>, AllocE
     Ok(all)
 }
 
-/// All memory of a store but that of its table.
+/// What the passes of a store take.
 struct Memory<C> {
-    words: Vec<u64>,
     hands: Vec<Hands>,
     passes: Vec<Pass<C>>,
 }
 
 impl<C> Memory<C> {
-    ghost use Rattle.std.specs.Prelude.{◌≡◌, ◌+◌, ◌*◌, ◌≤◌, [], All, IfOk, replicate, vec_len, vec_capacity};
+    ghost use Rattle.std.specs.Prelude.{◌≡◌, ◌≤◌, [], All, IfOk, vec_len, vec_capacity};
     ghost use Rattle.store_rule.specs.Passes.{AreHands};
 
-    fn new(
-        alloc: Global,
-        slot: u32,
-        anchors: u32,
-        slots: u32,
-        passes: u32,
-    ) -> Result<Memory<C>, AllocError>
-        ensures words { IfOk result (λ m. m.words.items ≡ replicate (5 * anchors + 3 * slots + 1) 0) }
+    fn new(alloc: Global, slot: u32, passes: u32) -> Result<Memory<C>, AllocError>
         ensures hands { IfOk result (λ m. (vec_len m.hands ≡ passes) × All (AreHands slot) m.hands.items) }
         ensures passes { IfOk result (λ m. (m.passes.items ≡ []) × (vec_len m.passes ≡ 0) × (passes ≤ vec_capacity m.passes)) }
     {
-        let words = vec![in alloc; 0u64; 5 * anchors as usize + 3 * slots as usize + 1]?;
         let hands = all_hands(alloc, slot, passes)?;
         let passes = Vec::with_capacity(alloc, passes as usize)?;
-        Ok(Memory {
-            words,
-            hands,
-            passes,
-        })
+        Ok(Memory { hands, passes })
     }
 }
 
@@ -115,17 +105,17 @@ type Parts<C, O> = (
     Seat<Option<C>, Row<View<Octets>>>,
 );
 
-// The table of an empty store, and the seat that has the views of all passes.
+// The table of a store at its opening, and the seat that has the views of all passes.
 fn new_table<C: Cell, O: Origin>(
     alloc: Global,
     words: &[u64],
     places: Vec<Option<C>>,
     about: &About<C, O>,
 ) -> Result<Parts<C, O>, Vec<Option<C>>>
-    requires words { (about.now.words.value.items ≡ words.now) × (words.now ≡ replicate (5 * about.now.anchors + 3 * about.now.slots + 1) 0) }
+    requires words { (about.now.words.value.items ≡ words.now) × (length words.now ≡ 5 * about.now.anchors + 3 * about.now.slots + 1) }
     requires places { about.now.places.value.items ≡ places.items }
-    requires passes { about.now.passes ≤ 32 }
-    requires cells { (cells : List C) × (places.items ≡ map Some cells) × (length cells ≡ about.now.slots) × IsRow C.state about.now.slot cells × All (IsSettled C.tells C.state) cells }
+    requires rule { MayOpen (basis_of C.tells C.state O.offers about.now) about.now.kept.value }
+    requires cells { (cells : List C) × (places.items ≡ map Some cells) × IsRow C.state about.now.slot cells × All (IsSettled C.tells C.state) cells }
     ensures key { IfOk result (λ r. r.0.shared.key ≡ about.now) }
     ensures sized { IfOk result (λ r. r.0.shared.table_id.words ≡ 5 * r.0.shared.key.anchors + 3 * r.0.shared.key.slots + 1) }
     ensures seat { IfOk result (λ r. (r.1.table_id ≡ r.0.shared.table_id) × (r.1.me ≡ (new_views (basis_of C.tells C.state O.offers r.0.shared.key).setting 0 r.0.shared.key.passes, []))) }
@@ -145,11 +135,12 @@ pub struct NoRoom<C> {
 }
 
 impl<C: Cell, O: Origin> Store<C, O> {
-    ghost use Rattle.std.specs.Prelude.{◌≡◌, ℕ, ◌+◌, ◌<◌, ◌≤◌, [], ◌∷◌, IfErr, IfOk, vec_len, vec_capacity, All, length};
+    ghost use Rattle.std.specs.Prelude.{◌≡◌, ℕ, ◌+◌, ◌<◌, ◌≤◌, [], ◌∷◌, IfErr, IfOk, vec_len, vec_capacity, All, length, map};
     ghost use Rattle.core_model.specs.Opening.{new_view, new_views};
     ghost use Rattle.store_rule.specs.Told.{Stands};
-    ghost use Rattle.store_rule.specs.Setting.{IsRow, IsSettled};
-    ghost use Rattle.store_rule.specs.Passes.{basis, AreHands, IsNewOf};
+    ghost use Rattle.store_rule.specs.Setting.{IsRow, IsSettled, shown};
+    ghost use Rattle.store_rule.specs.Passes.{AreHands, AreNumbered, IsNewOf, KeepsRoom, basis, first_cells};
+    ghost use Rattle.store_rule.specs.Rebuilding.{IsKept, IsOpenedWith};
 
     // The next pass is cut off.
     fn part(
@@ -183,7 +174,10 @@ impl<C: Cell, O: Origin> Store<C, O> {
         requires stands { (n : ℕ) → n < vec_len hands → Stands (basis C.tells C.state O.offers self.now) (new_view (basis C.tells C.state O.offers self.now).setting n) }
         requires hands { All (AreHands (basis C.tells C.state O.offers self.now).slot) hands.items }
         requires made { (made.items ≡ []) × (vec_len made ≡ 0) × (vec_len hands ≤ vec_capacity made) }
-        ensures { (vec_len result ≡ vec_len hands) × All (IsNewOf C.tells C.state O.offers self.now) result.items }
+        ensures many { vec_len result ≡ vec_len hands }
+        ensures new { All (IsNewOf C.tells C.state O.offers self.now) result.items }
+        ensures numbered { AreNumbered result.items }
+        ensures first { first_cells result.items cells ≡ cells }
     {
         let passes = hands.len() as u32;
         for number in 1..passes {
@@ -215,7 +209,7 @@ impl<C: Cell, O: Origin> Store<C, O> {
     /// Want of memory.
     pub fn fresh(
         alloc: Global,
-        mut cells: Vec<C>,
+        cells: Vec<C>,
         slot: u32,
         anchors: u32,
         passes: u32,
@@ -228,17 +222,52 @@ impl<C: Cell, O: Origin> Store<C, O> {
         ensures counts { IfOk result (λ r. ((basis C.tells C.state O.offers r.0).setting.anchors ≡ anchors) × ((basis C.tells C.state O.offers r.0).setting.slots ≡ length cells.items) × ((basis C.tells C.state O.offers r.0).setting.passes ≡ passes) × ((basis C.tells C.state O.offers r.0).slot ≡ slot)) }
         ensures offers { IfOk result (λ r. (basis C.tells C.state O.offers r.0).offers ≡ O.offers origin) }
         ensures passes { IfOk result (λ r. (vec_len r.1 ≡ passes) × All (IsNewOf C.tells C.state O.offers r.0) r.1.items) }
+        ensures numbered { IfOk result (λ r. AreNumbered r.1.items) }
+        ensures room { IfOk result (λ r. KeepsRoom (length cells.items) r.1.items) }
         ensures err { IfErr result (λ r. r.cells.items ≡ cells.items) }
     {
         let slots = cells.as_slice().len() as u32;
-        let Ok(memory) = Memory::new(alloc, slot, anchors, slots, passes) else {
+        let Ok(nothing) = nothing_kept(alloc, slots) else {
             return Err(NoRoom { cells });
         };
-        let Memory {
-            words,
+        Store::over(alloc, cells, &nothing, slot, anchors, passes, origin)
+    }
+
+    /// A store over these cells and what a rebuild kept.
+    pub(crate) fn over(
+        alloc: Global,
+        mut cells: Vec<C>,
+        rebuilt: &Rebuilt,
+        slot: u32,
+        anchors: u32,
+        passes: u32,
+        origin: O,
+    ) -> Result<(Store<C, O>, Vec<Pass<C>>), NoRoom<C>>
+        requires passes { (0 < passes) × (passes ≤ 32) }
+        requires anchors { 0 < anchors }
+        requires slots { length cells.items ≤ 1048576 }
+        requires cells { IsRow C.state slot cells.items × All (IsSettled C.tells C.state) cells.items }
+        requires kept { IsKept anchors (length cells.items) rebuilt.now }
+        ensures counts { IfOk result (λ r. ((basis C.tells C.state O.offers r.0).setting.anchors ≡ anchors) × ((basis C.tells C.state O.offers r.0).setting.slots ≡ length cells.items) × ((basis C.tells C.state O.offers r.0).setting.passes ≡ passes) × ((basis C.tells C.state O.offers r.0).slot ≡ slot)) }
+        ensures offers { IfOk result (λ r. (basis C.tells C.state O.offers r.0).offers ≡ O.offers origin) }
+        ensures contents { IfOk result (λ r. (basis C.tells C.state O.offers r.0).setting.contents ≡ map (λ c. (shown C.tells C.state c).now) cells.items) }
+        ensures opened { IfOk result (λ r. IsOpenedWith (basis C.tells C.state O.offers r.0) rebuilt.now) }
+        ensures passes { IfOk result (λ r. (vec_len r.1 ≡ passes) × All (IsNewOf C.tells C.state O.offers r.0) r.1.items) }
+        ensures numbered { IfOk result (λ r. AreNumbered r.1.items) }
+        ensures room { IfOk result (λ r. KeepsRoom (length cells.items) r.1.items) }
+        ensures err { IfErr result (λ r. r.cells.items ≡ cells.items) }
+    {
+        let slots = cells.as_slice().len() as u32;
+        let Ok(Opening { words, .. }) = opening_of(alloc, rebuilt, anchors, slots, passes) else {
+            return Err(NoRoom { cells });
+        };
+        let Ok(Memory {
             hands,
             passes: made,
-        } = memory;
+        }) = Memory::new(alloc, slot, passes)
+        else {
+            return Err(NoRoom { cells });
+        };
         let Ok(places) = to_places(alloc, &mut cells) else {
             return Err(NoRoom { cells });
         };
@@ -249,6 +278,7 @@ impl<C: Cell, O: Origin> Store<C, O> {
             slot,
             words: Snapshot::of(&words),
             places: Snapshot::of(&places),
+            kept: Snapshot::of(&rebuilt.winners),
             origin: Snapshot::of(&origin),
         };
         match new_table(alloc, words.as_slice(), places, &about) {
@@ -269,6 +299,18 @@ impl<C: Cell, O: Origin> Store<C, O> {
             }
         }
     }
+}
+
+/// What a rebuild keeps of a file of so many slots in which there is no entry.
+fn nothing_kept(alloc: Global, slots: u32) -> Result<Rebuilt, AllocError>
+    ensures { IfOk result (λ r. r ≡ none_kept slots) }
+{
+    let owner = vec![in alloc; 0u32; slots as usize]?;
+    Ok(Rebuilt {
+        winners: FoundList::from_vec(Vec::new(alloc)),
+        owner: Numbers::from_vec(owner),
+        greatest: 0,
+    })
 }
 
 fn new_pass<C>(seat: Seat<Option<C>, Row<View<Octets>>>, hands: Hands, cells: Vec<C>) -> Pass<C>

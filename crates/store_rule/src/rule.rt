@@ -1,6 +1,7 @@
 // What a store is opened with, the rule of its table, and what a step tells.
 use atomic_table::{Join, Play, Split, TableRule};
 use core_model::{Move, Row, View};
+use rebuild_model::FoundList;
 use rock_disk::Cell;
 use rock_io::Octets;
 use std::marker::{Brand, PhantomData};
@@ -25,6 +26,8 @@ pub struct About<C, O> {
     pub words: Snapshot<Vec<u64>>,
     /// The places of the slots, each with its cell.
     pub places: Snapshot<Vec<Option<C>>>,
+    /// The entries of the file that a rebuild kept.
+    pub kept: Snapshot<FoundList>,
     pub origin: Snapshot<O>,
 }
 

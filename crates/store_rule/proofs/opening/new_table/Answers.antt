@@ -1,23 +1,22 @@
-use Rattle.std.proofs.Common.{ap, arith, length, map, refl, subst, sym, ◌∙◌}
+use Rattle.std.proofs.Common.{ap, arith, map, subst, sym, ◌∙◌}
 use Rattle.atomic_table.specs.Table.{opening}
 use Rattle.core_model.specs.Opening.{new_view, new_views}
 use Rattle.store_rule.specs.Ruled.{Ruled}
 use Rattle.store_rule.specs.Setting.{basis_of, form_of, now_in}
 use Rattle.store_rule.specs.Told.{Stands}
 use Rattle.store_rule.specs.declared.rule.About.{About}
-use Rattle.store_rule.proofs.Fresh.{new_stands, opens_ruled, many_now}
+use Rattle.store_rule.proofs.Fresh.{opens_ruled}
+use Rattle.store_rule.proofs.Keeping.{opened_stands}
 use Rattle.store_rule.proofs.opening.new_table.Goals as goal
 
 pub new-requires : goal.new-requires
 new-requires g c = let r = c.requires in let cells = r.cells in let b = basis_of g.C.Cell.tells g.C.Cell.state g.O.Origin.offers c.args.about.now in
     subst (λ z. Ruled (form_of g.C.Cell.tells g.C.Cell.state) b (opening c.args.words.now z (new_views b.setting 0 b.setting.passes))) (sym cells.1)
-    (opens_ruled g.C.Cell.tells g.C.Cell.state b c.args.words.now cells.0 (r.words.0 ∙ r.words.1) r.passes cells.2 (sym r.words.0)
-    (ap (map (now_in g.C.Cell.tells g.C.Cell.state)) (r.places ∙ cells.1)) cells.4 cells.3 (λ a. refl))
+    (opens_ruled g.C.Cell.tells g.C.Cell.state b c.args.about.now.kept.value c.args.words.now cells.0 (sym r.words.0)
+    (ap (map (now_in g.C.Cell.tells g.C.Cell.state)) (r.places ∙ cells.1)) cells.3 cells.2 r.rule)
 
 pub returns-in-Ok-clause-stands : goal.returns-in-Ok-clause-stands
-returns-in-Ok-clause-stands g c n lt = let r = c.requires in let cells = r.cells in let key = c.in-Ok.ensures.ok.5 in
+returns-in-Ok-clause-stands g c n lt = let r = c.requires in let key = c.in-Ok.ensures.ok.5 in
     let b = basis_of g.C.Cell.tells g.C.Cell.state g.O.Origin.offers c.args.about.now in
     subst (λ (a : About g.row.C.Denot g.row.O.Denot). Stands (basis_of g.C.Cell.tells g.C.Cell.state g.O.Origin.offers a) (new_view (basis_of g.C.Cell.tells g.C.Cell.state g.O.Origin.offers a).setting n)) (sym key)
-    (new_stands b.setting (r.words.0 ∙ r.words.1) r.passes
-    (ap (λ z. length (map (now_in g.C.Cell.tells g.C.Cell.state) z)) (r.places ∙ cells.1) ∙ many_now g.C.Cell.tells g.C.Cell.state cells.0 ∙ cells.2) b refl (λ a. refl) n
-    (let z = ap About.passes key in omega arith))
+    (opened_stands b c.args.about.now.kept.value r.rule n (let z = ap About.passes key in omega arith))

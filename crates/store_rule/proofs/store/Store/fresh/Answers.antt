@@ -1,6 +1,9 @@
-use Rattle.std.proofs.Common.{sym, ◌∙◌}
-use Rattle.store_rule.proofs.CellLists.{same_cells}
+use Rattle.std.proofs.Common.{length, subst, sym}
+use Rattle.store_rule.specs.Rebuilding.{IsKept, none_kept}
+use Rattle.store_rule.proofs.Fresh.{nothing_is_kept}
 use Rattle.store_rule.proofs.store.Store.fresh.Goals as goal
 
-pub returns-in-Err-clause-err : goal.returns-in-Err-clause-err
-returns-in-Err-clause-err g c = same_cells _ _ (sym c.from_places.ensures ∙ c.in-Err.ensures.err ∙ c.in-Ok-to_places.ensures.ok.0)
+pub over-requires-clause-kept : goal.over-requires-clause-kept
+over-requires-clause-kept g c κs within = let cells = c.args.cells.items in
+    subst (IsKept c.args.anchors (length cells)) (sym c.in-Ok.ensures)
+    (subst (λ z. IsKept c.args.anchors (length cells) (none_kept (length z))) (sym c.as_slice.ensures.value) (nothing_is_kept (length cells) c.args.anchors))

@@ -1,9 +1,9 @@
-use Rattle.std.proofs.Common.{◌+◌, ◌-◌, ◌≡◌, ◌∙◌, [], arith}
+use Rattle.std.proofs.Common.{◌+◌, ◌-◌, ◌≡◌, ◌∙◌, [], ap, arith}
 use Rattle.core_model.specs.Opening.{new_views}
-use Rattle.store_rule.specs.Passes.{AreHands, IsNewOf, basis}
+use Rattle.store_rule.specs.Passes.{AreHands, IsNewOf, basis, first_cells}
 use Rattle.store_rule.proofs.CellLists.{front_all, last_all, popped_is}
 use Rattle.store_rule.proofs.Fresh.{all_end}
-use Rattle.store_rule.proofs.NewPasses.{is_new, nine_words}
+use Rattle.store_rule.proofs.NewPasses.{first_end, is_new, nine_words, numbered_end, numbered_so}
 use Rattle.store_rule.proofs.store.Store.part_all.Goals as goal
 
 pub loop-number-preserved : goal.loop-number-preserved
@@ -21,6 +21,8 @@ loop-number-preserved g c = let l = c.loop-number in let i = l.invariant in let 
       good = front_all (AreHands b.slot) _ c.in-Some.hand _ popped i.good;
       count = let q = p.len in omega arith;
       room = let r = i.room in let q = p.capacity in omega arith;
+      numbered = numbered_end _ c.new_pass.result _ (l.number - 1) p.items i.numbered (let n = i.count in omega arith) (numbered_so b.setting c.new_pass.result _ (l.number - 1) made.0 (λ j. (e.part.1 j).0));
+      first = first_end _ c.new_pass.result _ _ p.items ∙ ap (first_cells l.made.items) made.5 ∙ i.first;
       fresh = all_end (IsNewOf g.C.Cell.tells g.C.Cell.state g.O.Origin.offers c.args.self.now) _ _ _ p.items i.fresh
           (is_new g.C.Cell.tells g.C.Cell.state g.O.Origin.offers c.args.self.now _ _ c.in-Some.hand (l.number - 1) made.0 made.3 made.4 (e.part.0 ∙ i.own) (λ j. (e.part.1 j).0) (λ j. (e.part.1 j).1)
           (c.requires.stands (l.number - 1) (omega (arith, c.loop-number-test.true))) hand);
@@ -30,14 +32,26 @@ pub new_pass-requires-2-clause-hands : goal.new_pass-requires-2-clause-hands
 new_pass-requires-2-clause-hands g c = let i = c.loop-number.invariant in let b = basis g.C.Cell.tells g.C.Cell.state g.O.Origin.offers c.args.self.now in
     let hand = last_all (AreHands b.slot) _ c.in-Some-pop.hand _ (popped_is _ _ _ c.in-Some-pop.hand c.pop-2.ensures.items c.in-Some-pop.is) i.good in (hand.tabs, nine_words _ hand.left, hand.desks)
 
-pub returns : goal.returns
-returns g c = let l = c.loop-number in let i = l.invariant in let from = i.from in let to = i.to in let count = i.count in let done = c.loop-number-test.false in
-    let p = c.in-Ok-push.ensures in let q = p.len in let b = basis g.C.Cell.tells g.C.Cell.state g.O.Origin.offers c.args.self.now in let many = c.len-passes.ensures in let some = c.requires.some in
+pub returns-clause-many : goal.returns-clause-many
+returns-clause-many g c = let l = c.loop-number in let i = l.invariant in let from = i.from in let to = i.to in let count = i.count in let done = c.loop-number-test.false in
+    let p = c.in-Ok-push.ensures in let q = p.len in let many = c.len-passes.ensures in let some = c.requires.some in omega arith
+
+pub returns-clause-new : goal.returns-clause-new
+returns-clause-new g c = let l = c.loop-number in let i = l.invariant in let from = i.from in let to = i.to in let count = i.count in let done = c.loop-number-test.false in
+    let p = c.in-Ok-push.ensures in let b = basis g.C.Cell.tells g.C.Cell.state g.O.Origin.offers c.args.self.now in let many = c.len-passes.ensures in let some = c.requires.some in
     let one : c.len-passes.result - l.number + 1 ≡ 1 = omega arith in
     let made = c.new_pass-2.ensures in
-    let hand = last_all (AreHands b.slot) _ c.in-Some-pop.hand _ (popped_is _ _ _ c.in-Some-pop.hand c.pop-2.ensures.items c.in-Some-pop.is) i.good in (
-      omega arith,
-      all_end (IsNewOf g.C.Cell.tells g.C.Cell.state g.O.Origin.offers c.args.self.now) _ _ _ p.items i.fresh
-          (is_new g.C.Cell.tells g.C.Cell.state g.O.Origin.offers c.args.self.now _ _ c.in-Some-pop.hand (l.number - 1) made.0 made.3 made.4 i.own
-          (λ j. ((i.left ∙ (λ r. (new_views b.setting (l.number - 1) (one r), []))) j).0) (λ j. (i.left j).1) (c.requires.stands (l.number - 1) (omega arith)) hand),
-    )
+    let hand = last_all (AreHands b.slot) _ c.in-Some-pop.hand _ (popped_is _ _ _ c.in-Some-pop.hand c.pop-2.ensures.items c.in-Some-pop.is) i.good in
+    all_end (IsNewOf g.C.Cell.tells g.C.Cell.state g.O.Origin.offers c.args.self.now) _ _ _ p.items i.fresh
+        (is_new g.C.Cell.tells g.C.Cell.state g.O.Origin.offers c.args.self.now _ _ c.in-Some-pop.hand (l.number - 1) made.0 made.3 made.4 i.own
+        (λ j. ((i.left ∙ (λ r. (new_views b.setting (l.number - 1) (one r), []))) j).0) (λ j. (i.left j).1) (c.requires.stands (l.number - 1) (omega arith)) hand)
+
+pub returns-clause-numbered : goal.returns-clause-numbered
+returns-clause-numbered g c = let l = c.loop-number in let i = l.invariant in let from = i.from in let to = i.to in let done = c.loop-number-test.false in
+    let b = basis g.C.Cell.tells g.C.Cell.state g.O.Origin.offers c.args.self.now in let many = c.len-passes.ensures in let some = c.requires.some in
+    let one : c.len-passes.result - l.number + 1 ≡ 1 = omega arith in
+    numbered_end _ c.new_pass-2.result _ (l.number - 1) c.in-Ok-push.ensures.items i.numbered (let n = i.count in omega arith)
+    (numbered_so b.setting c.new_pass-2.result _ (l.number - 1) c.new_pass-2.ensures.0 (λ j. ((i.left ∙ (λ r. (new_views b.setting (l.number - 1) (one r), []))) j).0))
+
+pub returns-clause-first : goal.returns-clause-first
+returns-clause-first g c = let l = c.loop-number in first_end _ c.new_pass-2.result _ _ c.in-Ok-push.ensures.items ∙ ap (first_cells l.made.items) c.new_pass-2.ensures.5 ∙ l.invariant.first

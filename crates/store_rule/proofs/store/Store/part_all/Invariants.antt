@@ -1,6 +1,6 @@
 use Rattle.std.specs.Prelude.{◌+◌, ◌-◌, ◌≡◌, ◌≤◌, All, [], vec_capacity, vec_len}
 use Rattle.core_model.specs.Opening.{new_views}
-use Rattle.store_rule.specs.Passes.{AreHands, IsNewOf, basis}
+use Rattle.store_rule.specs.Passes.{AreHands, AreNumbered, IsNewOf, basis, first_cells}
 use Rattle.store_rule.proofs.store.Store.part_all.Given as goal
 
 abbrev pub invariant-loop-number : goal.invariant-loop-number
@@ -13,5 +13,7 @@ invariant-loop-number g l = let b = basis g.C.Cell.tells g.C.Cell.state g.O.Orig
   good : All (AreHands b.slot) l.hands.items;
   count : vec_len l.made ≡ l.number - 1;
   room : l.passes ≤ vec_capacity l.made;
+  numbered : AreNumbered l.made.items;
+  first : first_cells l.made.items l.cells ≡ l.fn.cells;
   fresh : All (IsNewOf g.C.Cell.tells g.C.Cell.state g.O.Origin.offers l.self) l.made.items;
 }
