@@ -1,5 +1,7 @@
 -- Cells that go into places and come out again.
-use Rattle.std.proofs.Common.{◌≡◌, zero, suc, List, [], ◌∷◌, ◌++◌, map, length, reverse, sym, refl, ap, ◌∙◌, subst, arith, Option, Some, None, All, unwrap_or}
+use Rattle.std.proofs.Common.{◌≡◌, ◌≢◌, ◌+◌, ℕ, zero, suc, Bool, false, List, [], ◌∷◌, ◌++◌, map, get_or, get_or-set_other, length, reverse, set, sym, refl, ap, ◌∙◌, subst, take, arith, Option, Some, None, All, unwrap_or}
+use mathlib.Core.Option.{some, some-injective, some-ne-none}
+use lib.ListN.{get_elem?}
 use Rattle.std.specs.Option.{option_to_list}
 use Rattle.std.proofs.lemmas.List.{append_assoc, map-append, reverse-append, reverse-reverse}
 
@@ -67,3 +69,36 @@ module _ {A : Type 0} (P : A → Type 0) where
       last : (xs : List A) → All P (xs ++ y ∷ []) → P y
       last [] h = h 0 y (omega arith)
       last (x ∷ xs) h = last xs (λ i e l. h (suc i) e (omega arith))
+
+module _ {C : Type 0} where
+  -- a place of a row that each have a cell has one
+  pub some_there : (row : List C) (xs : List (Option C)) (k : ℕ) (x : Option C) → xs ≡ map Some row → get_elem? xs k ≡ some x → (c : C) × (x ≡ Some c)
+  some_there row xs k x is at = there row k (subst (λ (z : List (Option C)). get_elem? z k ≡ some x) is at)
+    where
+      there : (row : List C) (k : ℕ) → get_elem? (map Some row) k ≡ some x → (c : C) × (x ≡ Some c)
+      there [] k e = absurd (some-ne-none x (sym e))
+      there (c ∷ row) zero e = (c, sym (some-injective (Some c) x e))
+      there (c ∷ row) (suc k) e = there row k e
+
+  -- the cell of the next place goes behind those that were taken
+  pub takes_next : (cells cells' : List C) (xs : List (Option C)) (k : ℕ) (x : Option C) (c : C) → map Some cells ≡ take k xs → get_elem? xs k ≡ some x → x ≡ Some c → cells' ≡ cells ++ c ∷ [] → map Some cells' ≡ take (k + 1) xs
+  takes_next cells cells' xs k x c were at is are = ap (map Some) are ∙ map-append Some cells (c ∷ []) ∙ ap (λ (z : List (Option C)). z ++ Some c ∷ []) were ∙ ap (λ (z : Option C). take k xs ++ z ∷ []) (sym is)
+      ∙ sym (next xs k at) ∙ (let more : suc k ≡ k + 1 = omega arith in ap (λ (n : ℕ). take n xs) more)
+    where
+      next : (xs : List (Option C)) (k : ℕ) → get_elem? xs k ≡ some x → take (suc k) xs ≡ take k xs ++ x ∷ []
+      next [] k e = absurd (some-ne-none x (sym e))
+      next (y ∷ ys) zero e = ap (λ (z : Option C). z ∷ []) (some-injective y x e)
+      next (y ∷ ys) (suc k) e = ap (λ (z : List (Option C)). y ∷ z) (next ys k e)
+
+-- a place that was emptied is not full
+pub emptied : (fs gs : List Bool) (k j : ℕ) → gs ≡ set fs k false → j ≡ k → get_or gs j false ≡ false
+emptied fs gs k j is same = ap (λ (z : List Bool). get_or z j false) is ∙ ap (λ (n : ℕ). get_or (set fs k false) n false) same ∙ here fs k
+  where
+    here : (fs : List Bool) (k : ℕ) → get_or (set fs k false) k false ≡ false
+    here [] k = refl
+    here (f ∷ fs) zero = refl
+    here (f ∷ fs) (suc k) = here fs k
+
+-- and each other one is as it was
+pub not_emptied : (fs gs : List Bool) (k j : ℕ) → gs ≡ set fs k false → j ≢ k → get_or gs j false ≡ get_or fs j false
+not_emptied fs gs k j is ne = ap (λ (z : List Bool). get_or z j false) is ∙ rw get_or-set_other refl

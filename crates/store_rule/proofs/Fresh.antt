@@ -1,5 +1,5 @@
 -- A store that was just made.
-use Rattle.std.proofs.Common.{◌≡◌, ℕ, zero, suc, ◌+◌, ◌*◌, ◌<◌, ◌≤◌, List, [], ◌∷◌, ◌++◌, map, length, get_or, replicate, sym, refl, ap, ◌∙◌, subst, arith, Option, Some, None, All, Bool, rules, unwrap_or}
+use Rattle.std.proofs.Common.{◌≡◌, ℕ, zero, suc, ◌+◌, ◌<◌, List, [], ◌∷◌, ◌++◌, map, length, get_or, replicate, sym, refl, ap, ◌∙◌, subst, arith, Option, Some, All, Bool, rules, unwrap_or}
 use Rattle.std.proofs.lemmas.List.{length-replicate}
 use mathlib.Core.Option.{some, some-injective, some-ne-none}
 use lib.ListN.{get_elem?}
@@ -22,7 +22,7 @@ use Rattle.store_rule.specs.Setting.{IsRow, IsSettled, form_of, now_in, shown}
 use Rattle.store_rule.specs.Ruled.{Ruled, Seated, place_shown}
 use Rattle.store_rule.specs.Told.{Stands, the_view}
 
-same_at : {A : Type 0} → (n i : ℕ) (d : A) → get_or (replicate n d) i d ≡ d
+pub same_at : {A : Type 0} → (n i : ℕ) (d : A) → get_or (replicate n d) i d ≡ d
 same_at zero i d = refl
 same_at (suc n) zero d = refl
 same_at (suc n) (suc i) d = same_at n i d

@@ -1,16 +1,14 @@
 -- A row of views is joined with another: the rule holds afterwards.
-use Rattle.std.proofs.Common.{◌≤◌, List, Option, [], ap, arith, cond, length, ltb, refl, set, subst, suc, sym, zero, ◌+◌, ◌++◌, ◌-◌, ◌<◌, ◌==◌, ◌≡◌, ◌≢◌, ◌⊎◌, ◌∙◌, ◌∷◌, ⊎_elim, inl, inr, eq-eqb, ne_eqb, ℕ}
+use Rattle.std.proofs.Common.{◌≤◌, List, [], ap, arith, cond, length, ltb, refl, set, subst, suc, sym, zero, ◌+◌, ◌++◌, ◌-◌, ◌<◌, ◌==◌, ◌≡◌, ◌≢◌, ◌⊎◌, ◌∙◌, ◌∷◌, ⊎_elim, inl, inr, eq-eqb, ne_eqb, ℕ}
 use Rattle.std.proofs.lemmas.Bool.{le-ltb, lt-ltb}
 use mathlib.Core.Option.{some, some-ne-none}
 use lib.ListN.{get_elem?}
-use Rattle.atomic_table.specs.Table.{Joins, Me, Allows, keeps}
+use Rattle.atomic_table.specs.Table.{Joins}
 use Rattle.core_model.proofs.Lists.{at_set, set_else}
-use Rattle.core_model.proofs.Telling.{set_again}
 use Rattle.core_model.specs.declared.view.View.{View}
-use Rattle.store_rule.specs.Closing.{Gathered, in_front}
+use Rattle.store_rule.specs.Closing.{in_front}
 use Rattle.store_rule.specs.Ground.{Ground}
-use Rattle.store_rule.specs.Ruled.{Form, Ruled, Seated, state_of}
-use Rattle.store_rule.proofs.Noting.{set_same}
+use Rattle.store_rule.specs.Ruled.{Form, Ruled, Seated}
 
 module _ {A : Type 0} where
   -- where an item of two lists in a row was
@@ -99,22 +97,3 @@ module _ {C X : Type 0} (form : Form C X) (g : Ground X) where
     rule = r.rule;
     homes = r.homes;
   }
-
-  pub gathers_granted : (d : Ground X) (slots id i : ℕ) (me : Me (Option C) (List (View X))) → g ≡ d → Allows (Ruled form g) slots id me i (λ n. n) (λ n me'. (me' ≡ me) × Gathered d me.0)
-  gathers_granted d slots id i me named = subst (λ (z : Ground X). Allows (Ruled form g) slots id me i (λ n. n) (λ n me'. (me' ≡ me) × Gathered z me.0)) named
-      (λ s r deep at fits. (
-        me.0,
-        keeps,
-        tt,
-        subst (λ (z : List ℕ × List (List (View X))). Ruled form g record { words = z.0; homes = s.homes; views = z.1 }) (λ j. (sym (set_again s.words i) j, sym (set_same s.views id me.0 at) j)) r,
-        (
-          refl,
-          record {
-            state = state_of form s r.views r.chains;
-            rule = r.rule;
-            index = λ j. r.seated.index id j;
-            at = λ j v e. r.seated.at id j me.0 v at e;
-            apart = λ j q v w e f same. (r.seated.apart id j id q me.0 me.0 v w at e at f same).1;
-          },
-        ),
-      ))

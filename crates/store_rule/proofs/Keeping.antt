@@ -1,12 +1,9 @@
 -- A store that was just opened with what a rebuild kept keeps the rule.
 use Rattle.std.proofs.Common.{◌≡◌, ◌+◌, ◌*◌, ◌<◌, ◌≤◌, ◌∷◌, ◌∙◌, Bool, List, Option, Some, None, [], ap, arith, get_or, length, map, refl, subst, suc, sym, zero, ℕ}
-use Rattle.std.specs.Prelude.{slice_index_or}
 use mathlib.Core.Option.{some, some-injective, some-ne-none}
 use lib.ListN.{get_elem?}
 use Rattle.rebuild_model.specs.declared.found.Found.{Found}
 use Rattle.rebuild_model.specs.declared.rebuilt.Rebuilt.{Rebuilt}
-use Rattle.rebuild_model.specs.Rebuilt.{IsRebuilt}
-use Rattle.core_model.specs.declared.tab.Cell.{Cell}
 use Rattle.core_model.specs.declared.tab.Piece.{Piece}
 use Rattle.core_model.specs.Anchors.{IsSetting}
 use Rattle.core_model.specs.Layout.{Setting}

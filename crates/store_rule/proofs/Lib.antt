@@ -14,6 +14,7 @@ pub mod NewPasses
 pub mod SideMoves
 pub mod Joining
 pub mod Gathering
+pub mod Ending
 pub mod SlotHands
 pub mod LinkMoves
 pub mod Turning

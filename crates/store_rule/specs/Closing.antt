@@ -1,13 +1,16 @@
--- All passes of a store, joined again into one row.
-use Rattle.std.specs.Prelude.{List, Option, ◌++◌, ◌≡◌, map, ℕ}
+-- All passes of a store, joined again into one row, and the cells that have come home.
+use Rattle.std.specs.Prelude.{List, Some, [], length, map, true, Bool, ◌++◌, ◌<◌, ◌≡◌, ◌⊎◌, ℕ}
 use mathlib.Core.Option.{some}
 use lib.ListN.{get_elem?}
-use Rattle.atomic_table.specs.Table.{Me, Step}
+use Rattle.rock_disk.specs.Cell.{CellState}
 use Rattle.core_model.specs.declared.view.View.{View}
+use Rattle.core_model.specs.Holders.{AllFree}
 use Rattle.core_model.specs.State.{State}
+use Rattle.core_model.specs.Tabs.{is_free, tab_at}
 use Rattle.store_rule.specs.declared.store.Pass.{Pass}
 use Rattle.store_rule.specs.Ground.{Ground, Rule}
-use Rattle.store_rule.specs.Passes.{view}
+use Rattle.store_rule.specs.Passes.{hand, view}
+use Rattle.store_rule.specs.Setting.{IsRow, shown}
 
 -- In one state that keeps the rule these views stand, each whole, and no two are the same one.
 pub record Gathered {X : Type 0} (g : Ground X) (views : List (View X)) : Type 0 where
@@ -25,6 +28,17 @@ views_of passes = map view passes
 abbrev pub in_front : {X : Type 0} → List (View X) → List (View X) → List (View X)
 in_front row other = other ++ row
 
--- nothing came of it
-abbrev pub gathers : {C X : Type 0} → Ground X → Step (Option C) → Me (Option C) (List (View X)) → ℕ → Me (Option C) (List (View X)) → Type 0
-gathers g step me n me' = (me' ≡ me) × Gathered g me.0
+-- all tabs of the pass are free, and it has no place out
+pub record IsResting {C : Type 0} (p : Pass C) : Type 0 where
+  pub free : (tab : ℕ) → tab < 9 → is_free (tab_at (view p) tab) ≡ true
+  pub home : hand p ≡ []
+
+-- The store ended in one state that keeps the rule. The views of all passes stand in it, each whole. All tabs are free, and no other view
+-- has one. These cells are those of the slots, in order, and each is at home in its place.
+pub record Closed {C : Type 0} (tells : Bool) (cell : C → CellState) (g : Ground (List ℕ)) (views : List (View (List ℕ))) (cells : List C) : Type 0 where
+  pub gathered : Gathered g views
+  pub others : (i : ℕ) (v : View (List ℕ)) → get_elem? gathered.state.views i ≡ some v → ((j : ℕ) × (j < length views) × (gathered.index j ≡ i)) ⊎ (v.tabs ≡ [])
+  pub free : AllFree gathered.state
+  pub home : gathered.state.places ≡ map (λ c. Some (shown tells cell c)) cells
+  pub many : length cells ≡ g.setting.slots
+  pub row : IsRow cell g.slot cells

@@ -1,6 +1,8 @@
 // The cells go into the places of a table and come out again. Both take no memory but that of the places.
 ghost use Rattle.std.specs.Prelude.{◌≡◌, ◌≤◌, [], IfOk, List, OnErr, Some, map, vec_len, vec_capacity};
+ghost use Rattle.std.specs.Mem.Slots.{IsFull, slots_items, slots_len};
 
+use atomic_table::Closed;
 use std::alloc::{AllocError, Global};
 
 /// The cells, each in a place, in their order. The emptied vector keeps its room. Where there is no
@@ -38,4 +40,29 @@ pub(crate) fn from_places<C: Drop>(mut places: Vec<Option<C>>, cells: &mut Vec<C
             unreachable!()
         };
     }
+}
+
+/// The cells of a table that is shared no more, each place of which has one, in their order, in this
+/// emptied vector.
+pub(crate) fn take_cells<C: Drop>(
+    mut closed: Closed<Option<C>, Global>,
+    mut cells: Vec<C>,
+) -> Vec<C>
+    requires full { IsFull closed.slots }
+    requires each { (row : List C) × (slots_items closed.slots ≡ map Some row) }
+    requires empty { (cells.items ≡ []) × (vec_len cells ≡ 0) }
+    requires room { slots_len closed.slots ≤ vec_capacity cells }
+    ensures { slots_items closed.slots ≡ map Some result.items }
+{
+    let count = closed.slot_count();
+    for at in 0..count {
+        let Some(cell) = closed.take(at) else {
+            unreachable!()
+        };
+        let Ok(()) = cells.push(cell) else {
+            unreachable!()
+        };
+    }
+    closed.free();
+    cells
 }

@@ -22,6 +22,7 @@ mod tabs;
 mod turns;
 
 pub use buffers::lending_keeps_passes;
+pub use closing::new_passes_rest;
 pub use drafts::{Draft, drafts_keep_passes};
 pub use opening::NoRoom;
 pub use rule::{About, Origin};

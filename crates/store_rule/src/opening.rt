@@ -115,9 +115,10 @@ fn new_table<C: Cell, O: Origin>(
     requires words { (about.now.words.value.items ≡ words.now) × (length words.now ≡ 5 * about.now.anchors + 3 * about.now.slots + 1) }
     requires places { about.now.places.value.items ≡ places.items }
     requires rule { MayOpen (basis_of C.tells C.state O.offers about.now) about.now.kept.value }
-    requires cells { (cells : List C) × (places.items ≡ map Some cells) × IsRow C.state about.now.slot cells × All (IsSettled C.tells C.state) cells }
+    requires cells { (cells : List C) × (places.items ≡ map Some cells) × (length cells ≡ about.now.slots) × IsRow C.state about.now.slot cells × All (IsSettled C.tells C.state) cells }
     ensures key { IfOk result (λ r. r.0.shared.key ≡ about.now) }
     ensures sized { IfOk result (λ r. r.0.shared.table_id.words ≡ 5 * r.0.shared.key.anchors + 3 * r.0.shared.key.slots + 1) }
+    ensures placed { IfOk result (λ r. r.0.shared.table_id.slots ≡ r.0.shared.key.slots) }
     ensures seat { IfOk result (λ r. (r.1.table_id ≡ r.0.shared.table_id) × (r.1.me ≡ (new_views (basis_of C.tells C.state O.offers r.0.shared.key).setting 0 r.0.shared.key.passes, []))) }
     ensures stands { IfOk result (λ r. (n : ℕ) → n < r.0.shared.key.passes → Stands (basis_of C.tells C.state O.offers r.0.shared.key) (new_view (basis_of C.tells C.state O.offers r.0.shared.key).setting n)) }
     ensures err { IfErr result (λ r. r.items ≡ places.items) }
@@ -261,10 +262,12 @@ impl<C: Cell, O: Origin> Store<C, O> {
         let Ok(Opening { words, .. }) = opening_of(alloc, rebuilt, anchors, slots, passes) else {
             return Err(NoRoom { cells });
         };
-        let Ok(Memory {
-            hands,
-            passes: made,
-        }) = Memory::new(alloc, slot, passes)
+        let Ok(
+            Memory {
+                hands,
+                passes: made,
+            },
+        ) = Memory::new(alloc, slot, passes)
         else {
             return Err(NoRoom { cells });
         };

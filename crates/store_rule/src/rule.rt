@@ -138,14 +138,3 @@ impl Join<Row<View<Octets>>> for Joined {
 
     ghost spent = { [] };
 }
-
-/// A load that is no step of the core. It tells that the views of the seat stand in one state.
-pub struct Gathers<D> {
-    marker: PhantomData<D>,
-}
-
-impl<C: Cell, D: Deed> Play<Option<C>, Row<View<Octets>>> for Gathers<D> {
-    ghost use Rattle.store_rule.specs.Closing.{gathers};
-
-    ghost then = { gathers D.basis };
-}

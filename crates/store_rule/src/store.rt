@@ -28,6 +28,7 @@ pub struct Store<C: Cell, O: Origin> {
     ghost few: { slots ≤ 1048576 },
     ghost some: { 0 < anchors },
     ghost sized: { table.shared.table_id.words ≡ 5 * anchors + 3 * slots + 1 },
+    ghost placed: { table.shared.table_id.slots ≡ slots },
 }
 
 /// What one worker steps with: its nine tabs, the last of them the inner one. All its memory is taken

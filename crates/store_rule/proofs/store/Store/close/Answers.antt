@@ -1,35 +1,15 @@
-use Rattle.std.proofs.Common.{[], ap, sym, ◌++◌, ◌≡◌, ◌∙◌}
-use Rattle.store_rule.specs.Closing.{views_of}
-use Rattle.store_rule.specs.Passes.{IsOf, basis, hand}
-use Rattle.store_rule.specs.Setting.{form_of}
-use Rattle.store_rule.proofs.CellLists.{front_all, last_all, popped_is}
-use Rattle.store_rule.proofs.Gathering.{row_grows, views_end}
-use Rattle.store_rule.proofs.Joining.{pass_joins}
-use Rattle.store_rule.proofs.Moves.{some_word}
+use Rattle.std.proofs.Common.{sym, ◌∙◌}
+use Rattle.std.specs.Mem.Slots.{slots_counts}
+use Rattle.store_rule.specs.Passes.{basis}
+use Rattle.store_rule.proofs.Ending.{closes, each_has_one}
 use Rattle.store_rule.proofs.store.Store.close.Goals as goal
 
-pub loop-pass-init : goal.loop-pass-init
-loop-pass-init g c = let popped = popped_is _ _ _ c.in-Some.last c.pop.ensures.items c.in-Some.is in let seat = c.into_seat-seat.ensures in record {
-  own = ap (λ z. z.table_id) seat ∙ (last_all (IsOf g.C.Cell.tells g.C.Cell.state g.O.Origin.offers c.args.self) _ c.in-Some.last _ popped c.requires.own).table;
-  row = views_end _ c.in-Some.last _ popped ∙ ap (λ z. views_of c.pop.new.self.items ++ z.me.0) (sym seat);
-  all = front_all (IsOf g.C.Cell.tells g.C.Cell.state g.O.Origin.offers c.args.self) _ c.in-Some.last _ popped c.requires.own;
-  home = front_all (λ p. hand p ≡ []) _ c.in-Some.last _ popped c.requires.home;
-}
+pub take_cells-requires-clause-each : goal.take_cells-requires-clause-each
+take_cells-requires-clause-each g c = let r = c.requires in let s = c.args.self in let b = basis g.C.Cell.tells g.C.Cell.state g.O.Origin.offers s in let values = c.close_with.ensures.values in
+    each_has_one g.C.Cell.tells g.C.Cell.state b c.args.passes.items (sym c.args.passes.ok.0 ∙ r.all) r.rest _ _ c.joined-seat.ensures.row _ _ values.2
+    (sym (slots_counts c.close_with.result.slots).0 ∙ c.close_with.ensures.counts.1 ∙ s.placed ∙ s.slots_are)
 
-pub join_seat-requires : goal.join_seat-requires
-join_seat-requires g c = let i = c.loop-pass.invariant in let s = c.args.self in let popped = popped_is _ _ _ c.in-Some-pop.pass c.pop-in-loop-pass.ensures.items c.in-Some-pop.is in let seat = c.into_seat.ensures in (
-  i.own,
-  ap (λ z. z.table_id) seat ∙ (last_all (IsOf g.C.Cell.tells g.C.Cell.state g.O.Origin.offers c.args.self) _ c.in-Some-pop.pass _ popped i.all).table,
-  ap (λ z. z.me.1) seat ∙ last_all (λ p. hand p ≡ []) _ c.in-Some-pop.pass _ popped i.home,
-  some_word _ _ _ s.sized,
-  pass_joins (form_of g.C.Cell.tells g.C.Cell.state) (basis g.C.Cell.tells g.C.Cell.state g.O.Origin.offers c.args.self) _ _ _ _,
-)
-
-pub loop-pass-preserved : goal.loop-pass-preserved
-loop-pass-preserved g c = let i = c.loop-pass.invariant in let popped = popped_is _ _ _ c.in-Some-pop.pass c.pop-in-loop-pass.ensures.items c.in-Some-pop.is in let seat = c.into_seat.ensures in let e = c.join_seat.ensures in record {
-  own = e.0 ∙ i.own;
-  row = row_grows _ _ c.in-Some-pop.pass _ _ popped i.row ∙ ap (λ z. views_of c.pop-in-loop-pass.new.self.items ++ (z.me.0 ++ c.loop-pass.seat.me.0)) (sym seat)
-      ∙ ap (λ z. views_of c.pop-in-loop-pass.new.self.items ++ z.0) (sym e.2);
-  all = front_all (IsOf g.C.Cell.tells g.C.Cell.state g.O.Origin.offers c.args.self) _ c.in-Some-pop.pass _ popped i.all;
-  home = front_all (λ p. hand p ≡ []) _ c.in-Some-pop.pass _ popped i.home;
-}
+pub returns : goal.returns
+returns g c = let r = c.requires in let s = c.args.self in let b = basis g.C.Cell.tells g.C.Cell.state g.O.Origin.offers s in let values = c.close_with.ensures.values in
+    closes g.C.Cell.tells g.C.Cell.state b c.args.passes.items (sym c.args.passes.ok.0 ∙ r.all) r.rest _ _ c.joined-seat.ensures.row _ _ values.2
+    (sym (slots_counts c.close_with.result.slots).0 ∙ c.close_with.ensures.counts.1 ∙ s.placed ∙ s.slots_are) c.take_cells.result.items c.take_cells.ensures

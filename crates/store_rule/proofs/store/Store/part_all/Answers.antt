@@ -43,8 +43,8 @@ returns-clause-new g c = let l = c.loop-number in let i = l.invariant in let fro
     let made = c.new_pass-2.ensures in
     let hand = last_all (AreHands b.slot) _ c.in-Some-pop.hand _ (popped_is _ _ _ c.in-Some-pop.hand c.pop-2.ensures.items c.in-Some-pop.is) i.good in
     all_end (IsNewOf g.C.Cell.tells g.C.Cell.state g.O.Origin.offers c.args.self.now) _ _ _ p.items i.fresh
-        (is_new g.C.Cell.tells g.C.Cell.state g.O.Origin.offers c.args.self.now _ _ c.in-Some-pop.hand (l.number - 1) made.0 made.3 made.4 i.own
-        (λ j. ((i.left ∙ (λ r. (new_views b.setting (l.number - 1) (one r), []))) j).0) (λ j. (i.left j).1) (c.requires.stands (l.number - 1) (omega arith)) hand)
+    (is_new g.C.Cell.tells g.C.Cell.state g.O.Origin.offers c.args.self.now _ _ c.in-Some-pop.hand (l.number - 1) made.0 made.3 made.4 i.own
+    (λ j. ((i.left ∙ (λ r. (new_views b.setting (l.number - 1) (one r), []))) j).0) (λ j. (i.left j).1) (c.requires.stands (l.number - 1) (omega arith)) hand)
 
 pub returns-clause-numbered : goal.returns-clause-numbered
 returns-clause-numbered g c = let l = c.loop-number in let i = l.invariant in let from = i.from in let to = i.to in let done = c.loop-number-test.false in
