@@ -7,6 +7,7 @@ use lock_word::is_vacant;
 use std::process::Abort;
 use std::test::Fail;
 use std::thread::{self, Threads};
+use store_rule::new_passes_rest;
 
 /// A cell that tells nothing.
 #[derive(Drop)]
@@ -260,6 +261,9 @@ fn the_passes_of_a_new_store_are_joined_again(rt: HostRuntime) -> Result<(), Fai
         panic!(rt; "there is memory for one slot")
     };
     assert_eq!(rt; passes.len(), 3);
-    store.close(passes);
+    new_passes_rest::<Blank, Nothing>();
+    let cells = store.close(passes);
+    assert_eq!(rt; cells.len(), 1);
+    assert_eq!(rt; cells[0].number(), 0);
     Ok(())
 }
