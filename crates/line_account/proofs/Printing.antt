@@ -250,6 +250,9 @@ module _ {X : Type 0} (r : Run X) (crew : List (Worker X)) (c : Closed r crew) w
   pub long_told : (p : LineIn crew (λ earlier s. s.answer ≡ answer.LongUrl)) → IsLong r p.line_of.line
   long_told p = (tells_at r crew c (λ earlier s. s.answer ≡ answer.LongUrl) p).long p.line_of.so
 
+  pub short_told : (url : List ℕ) (body : Body) (p : LineIn crew (λ earlier s. Offers s.line.request url body × Fits earlier s.line.request)) → r.room < 32 + length url → p.line_of.line.answer ≡ answer.LongUrl
+  short_told url body p far = (tells_at r crew c (λ earlier s. Offers s.line.request url body × Fits earlier s.line.request) p).short url body p.line_of.so.0 p.line_of.so.1 far
+
   pub part_told : (epoch : Epoch) (bytes : List ℕ) → LineIn crew (λ earlier s. s.answer ≡ answer.Part epoch bytes) → stage_of (epoch_number epoch) ≡ 2
   part_told epoch bytes p = (tells_at r crew c (λ earlier s. s.answer ≡ answer.Part epoch bytes) p).part epoch bytes p.line_of.so
 

@@ -1,5 +1,5 @@
 -- A put and a get have an account.
-use Rattle.std.proofs.Common.{◌≡◌, inl, inr, ⊎_elim, ℕ, ◌+◌, ◌<◌, List, [], ◌∷◌, sym, refl, ap, ◌∙◌, subst, arith, true, false, Contains}
+use Rattle.std.proofs.Common.{length, ◌≡◌, inl, inr, ⊎_elim, ℕ, ◌+◌, ◌<◌, List, [], ◌∷◌, sym, refl, ap, ◌∙◌, subst, arith, true, false, Contains}
 use Rattle.std.specs.Prelude.{Some}
 use Rattle.std.proofs.lemmas.List.Elements.{Contains-append_right}
 use Rattle.store_key.specs.Anchor.{anchor_of, back_half, front_half}
@@ -177,6 +177,7 @@ module _ {X : Type 0} (r : Run X) (url : List ℕ) (o : OffersNothing r url) whe
     gave_up = λ h. absurd (let z : false ≡ true = h in cc);
     large = λ h. absurd (let z : answer.Stored x ≡ answer.Large = h in cc);
     long = λ h. absurd (let z : answer.Stored x ≡ answer.LongUrl = h in cc);
+    short = λ u body h fits far. absurd (let e = ap length h.0 in let room = o.short in omega arith);
     busy = λ looked other h. absurd (let z : answer.Stored x ≡ answer.Busy looked other = h in cc);
     spent = λ n h. absurd (let z : answer.Stored x ≡ answer.Spent n = h in cc);
     offered = put_offers;
@@ -239,6 +240,7 @@ module _ {X : Type 0} (r : Run X) (url : List ℕ) (o : OffersNothing r url) whe
     gave_up = λ h. absurd (let z : false ≡ true = h in cc);
     large = λ h. absurd (let z : answer.Hit x [] ≡ answer.Large = h in cc);
     long = λ h. absurd (let z : answer.Hit x [] ≡ answer.LongUrl = h in cc);
+    short = λ u body h fits far. absurd h;
     busy = λ looked other h. absurd (let z : answer.Hit x [] ≡ answer.Busy looked other = h in cc);
     spent = λ n h. absurd (let z : answer.Hit x [] ≡ answer.Spent n = h in cc);
     offered = λ u body h. absurd h;

@@ -279,8 +279,9 @@ silent_unmet = record {
 
 module _ {X : Type 0} (r : Run X) where
   silent_tells : (v : View X) (earlier : List Served) (s : Served) → IsSilent s.answer → IsAnswerTo s.line.request s.answer → s.drew ≡ None
-      → ((url : List ℕ) (body : Body) → Offers s.line.request url body → IsOffered r s url body) → ((s.answer ≡ answer.Tab) ↔ ¬ Fits earlier s.line.request) → Tells r v earlier s
-  silent_tells v earlier s q may none offered tab = record {
+      → ((url : List ℕ) (body : Body) → Offers s.line.request url body → IsOffered r s url body) → ((url : List ℕ) (body : Body) → Offers s.line.request url body → Fits earlier s.line.request → ⊥)
+      → ((s.answer ≡ answer.Tab) ↔ ¬ Fits earlier s.line.request) → Tells r v earlier s
+  silent_tells v earlier s q may none offered unfit tab = record {
     shown = λ a e h. absurd (contains_none e (subst (λ (l : List ℕ). Contains l e) (q.epochs s.opened s.looked) h.shown));
     answers = may;
     drew = λ n. absurd (n none);
@@ -289,6 +290,7 @@ module _ {X : Type 0} (r : Run X) where
     gave_up = λ h. absurd (let z : true ≡ false = sym h ∙ q.gave_up in cc);
     large = λ h. absurd (q.large h);
     long = λ h. absurd (q.long h);
+    short = λ url body h fits far. absurd (unfit url body h fits);
     busy = λ looked other h. absurd (q.busy looked other h);
     spent = λ n h. absurd (q.spent n h);
     offered = offered;
@@ -397,7 +399,7 @@ module _ {X : Type 0} (r : Run X) where
   mark_adds v w earlier s m idle =
       let q = mark_silent s.line.request s.answer m.at in
       silent_adds v w earlier s q m.drew
-      (silent_tells w earlier s q (mark_answers s.line.request s.answer m.at) m.drew (λ url body h. absurd (not_offered s s.line.request s.answer m.at url body h))
+      (silent_tells w earlier s q (mark_answers s.line.request s.answer m.at) m.drew (λ url body h. absurd (not_offered s s.line.request s.answer m.at url body h)) (λ url body h fits. not_offered s s.line.request s.answer m.at url body h)
       ((λ h. absurd (mark_no_tab s.line.request s.answer m.at h)), (λ n. absurd (n (mark_fits earlier s.line.request s.answer m.at)))))
       idle
 
@@ -422,6 +424,6 @@ module _ {X : Type 0} (r : Run X) where
   tab_adds v w earlier s m idle =
       let q : IsSilent s.answer = subst IsSilent (sym m.answered) silent_tab in
       silent_adds v w earlier s q m.drew
-      (silent_tells w earlier s q (subst (IsAnswerTo s.line.request) (sym m.answered) (tab_answers earlier s.line.request m.unfit)) m.drew m.offered
+      (silent_tells w earlier s q (subst (IsAnswerTo s.line.request) (sym m.answered) (tab_answers earlier s.line.request m.unfit)) m.drew m.offered (λ url body h fits. m.unfit fits)
       ((λ h. m.unfit), (λ n. m.answered)))
       idle

@@ -1,6 +1,6 @@
 -- The laws on versions and epochs.
 use Rattle.std.proofs.Common.{◌≡◌, ◌≢◌, ◌⊎◌, inl, inr, ⊎_elim, ℕ, ◌+◌, ◌<◌, ◌≤◌, List, [], ◌∷◌, Contains, sym, refl, ap, ◌∙◌, subst, arith}
-use Rattle.std.specs.Prelude.{Some}
+use Rattle.std.specs.Prelude.{Option, Some, true, unwrap_or}
 use Rattle.lock_word.specs.Words.{doom_of, epoch_at, stage_of, version_of}
 use Rattle.core_model.specs.declared.view.Deed.{Deed}
 use Rattle.core_model.specs.declared.view.Kind.TheVariants.{Changed, Doomed, Raised}
@@ -10,8 +10,12 @@ use Rattle.core_model.specs.Deeds.{DoomedVersion, HaltedVersion, IsDone, LeftEpo
 use Rattle.core_model.proofs.DeedsTell.{known_halted, known_old, known_quiet, known_taken}
 use Rattle.store_key.specs.Anchor.{anchor_of}
 use Rattle.store_key.specs.Key.{key_of}
-use Rattle.line_account.specs.Lines.{IsAnchorOf, IsAt, Served, url_in}
-use Rattle.line_account.specs.Deeds.{Begins, Halts, IsDeedOf, IsDeedOfEnd, IsWriting, Purges}
+use Rattle.line_account.specs.Lines.{IsAnchorOf, IsAt, Served, offers, url_in}
+use Rattle.script_text.specs.declared.answer.Answer.{Answer}
+use Rattle.script_text.specs.declared.answer.Answer.TheVariants as answer
+use Rattle.script_text.specs.declared.request.Request.{Request}
+use Rattle.script_text.specs.declared.request.Request.TheVariants.{Begin, Put, Save}
+use Rattle.line_account.specs.Deeds.{Began, BeganAndEnded, BeganOnTab, Begins, Halts, IsDeedOf, IsDeedOfEnd, IsWriting, PrintsBegun, Purges}
 use Rattle.line_account.specs.Answers.{Run}
 use Rattle.line_account.specs.Accounts.{epochs_of}
 use Rattle.line_account.specs.Closing.{BegunIn, Closed, HaltedIn, IsSameLine, LineIn, PrintsDoomed, PrintsHalted, PurgedIn, PurgesVersion, ShownIn, SomeHalted, StoredIn, Stores, Worker, offered}
@@ -154,3 +158,26 @@ module _ {X : Type 0} (r : Run X) (crew : List (Worker X)) (c : Closed r crew) w
       let doom : doom_of (epoch_at x 11) ≡ 1 = omega arith in
       let version : version_of (epoch_at x 11) ≡ x = omega arith in
       subst (PurgedIn r crew a) version (purged_by a (epoch_at x 11) shown doom)
+
+-- a line begins one version
+pub begun_alone : (anchors : ℕ) (s : Served) (a b x y : ℕ) → Begins anchors s a x → Begins anchors s b y → x ≡ y
+begun_alone anchors s a b x y p q = ap (λ (o : Option ℕ). unwrap_or o x) (sym p.drew ∙ q.drew)
+
+-- its answer is one of six
+on_tab : (a : Answer) (x : ℕ) → BeganOnTab a x → PrintsBegun a
+on_tab (answer.Begun version) x h = tt
+on_tab _ x h = absurd h
+
+at_once : (a : Answer) (x : ℕ) → BeganAndEnded a x → PrintsBegun a
+at_once (answer.Stored version) x h = tt
+at_once (answer.Doomed version) x h = tt
+at_once answer.Full x h = tt
+at_once answer.Large x h = tt
+at_once answer.Fault x h = tt
+at_once _ x h = absurd h
+
+pub began_prints : (request : Request) (a : Answer) (x : ℕ) → Began request a x → (offers request ≡ true) × PrintsBegun a
+began_prints (Put url body) a x h = (refl, at_once a x h)
+began_prints (Save url body) a x h = (refl, at_once a x h)
+began_prints (Begin tab url body) a x h = (refl, on_tab a x h)
+began_prints _ a x h = absurd h

@@ -1,5 +1,5 @@
 -- The account of a worker: what it knows, and which line each of its deeds belongs to.
-use Rattle.std.specs.Prelude.{Bool, IsTrue, List, None, Option, Some, [], count_by, false, true, ◌+◌, ◌++◌, ◌<◌, ◌==◌, ◌∷◌, ◌↔◌, ◌≡◌, ◌≢◌, ◌⊎◌, Contains, ℕ}
+use Rattle.std.specs.Prelude.{Bool, IsTrue, List, None, Option, Some, [], count_by, false, length, true, ◌+◌, ◌++◌, ◌<◌, ◌==◌, ◌∷◌, ◌↔◌, ◌≡◌, ◌≢◌, ◌⊎◌, Contains, ℕ}
 use Rattle.lock_word.specs.Words.{epoch_at, epoch_number, stage_of}
 use Rattle.lock_word.specs.declared.cause.Cause.{Cause}
 use Rattle.lock_word.specs.declared.cause.Cause.TheVariants.{Absent, Leaving, OtherKey, Writing}
@@ -80,6 +80,7 @@ pub record Tells {X : Type 0} (r : Run X) (v : View X) (earlier : List Served) (
   pub gave_up : gives_up s.answer ≡ true → HasGivenUp r.setting.anchors earlier s
   pub large : s.answer ≡ answer.Large → IsLarge r earlier s  -- nor may the entry have as many slots as its body needs
   pub long : s.answer ≡ answer.LongUrl → IsLong r s
+  pub short : (url : List ℕ) (body : Body) → Offers s.line.request url body → Fits earlier s.line.request → r.room < 32 + length url → s.answer ≡ answer.LongUrl  -- it comes wherever the URL is long
   pub busy : (looked other : Word) → s.answer ≡ answer.Busy looked other → IsBusy r v earlier s looked other
   pub spent : (n : ℕ) → s.answer ≡ answer.Spent n → IsSpent v s n
   pub offered : (url : List ℕ) (body : Body) → Offers s.line.request url body → IsOffered r s url body  -- what it offers is the offer of its number

@@ -42,6 +42,16 @@ BeganAndEnded answer.Large x = Unit {0}
 BeganAndEnded answer.Fault x = Unit {0}
 BeganAndEnded _ x = ⊥
 
+-- the answers to lines that began a version
+abbrev pub PrintsBegun : Answer → Type 0
+PrintsBegun (answer.Begun version) = Unit {0}
+PrintsBegun (answer.Stored version) = Unit {0}
+PrintsBegun (answer.Doomed version) = Unit {0}
+PrintsBegun answer.Full = Unit {0}
+PrintsBegun answer.Large = Unit {0}
+PrintsBegun answer.Fault = Unit {0}
+PrintsBegun _ = ⊥
+
 -- the line offers a body, and its answer is that of one that began the version x
 abbrev pub Began : Request → Answer → ℕ → Type 0
 Began (Put url body) a x = BeganAndEnded a x

@@ -16,8 +16,8 @@ ghost use Rattle.core_model.specs.Opening.{new_view, new_views};
 ghost use Rattle.core_model.specs.Sound.{Sound};
 ghost use Rattle.core_model.specs.State.{State};
 ghost use Rattle.core_model.specs.Anchors.{opening_counter, opening_epoch};
-ghost use Rattle.line_account.specs.Lines.{Fits, Offers, Served, added, given};
-ghost use Rattle.line_account.specs.Deeds.{Begins};
+ghost use Rattle.line_account.specs.Lines.{Fits, Offers, Served, added, given, offers};
+ghost use Rattle.line_account.specs.Deeds.{Begins, PrintsBegun};
 ghost use Rattle.line_account.specs.Requests.{IsAnswerTo};
 ghost use Rattle.line_account.specs.Parts.{AddsTo, GivesOf, IsCourseOf, PrintsPart};
 ghost use Rattle.line_account.specs.Scripts.{ServesScript, offering};
@@ -35,8 +35,11 @@ ghost use Rattle.line_account.specs.Steps.{IsAfter, IsIdle, IsMarkLine, IsTabLin
 ghost use Rattle.line_account.specs.Printed.{AnotherComes, EndsBegun, AreFirstOnes, ReadsOf, GivenBackIn, PrintsAdded, HasBusyWords, HasOtherUrl, HitIn, IsBodyOfLine, IsKeyOfLine, IsOldBody, IsOldUrl, KeyIn, NeedsTooMany, PrintsLarge, PrintsOther, PrintsReaders};
 ghost use Rattle.line_account.specs.Closing.{Closed, Worker, BegunIn, ShownIn, StoredIn, HaltedIn, PurgedIn, IsSameLine, LineIn, PrintsHalted, PrintsDoomed, SomeHalted, offered};
 
-/// Each version is begun by one line, and at one anchor.
+/// Each version is begun by one line, and at one anchor, and a line begins one version at most. It offers a
+/// body, and printed BEGUN, STORED, DOOMED, FULL, LARGE or FAULT.
 pub fn versions_are_begun_by_one_line<X>()
+    ensures version { (anchors : ℕ) (s : Served) (a b x y : ℕ) → Begins anchors s a x → Begins anchors s b y → x ≡ y }
+    ensures printed { (anchors : ℕ) (s : Served) (a x : ℕ) → Begins anchors s a x → (offers s.line.request ≡ true) × PrintsBegun s.answer }
     ensures line { (r : Run X) (crew : List (Worker X)) (a b x : ℕ) → Closed r crew → (p : BegunIn r crew a x) → (q : BegunIn r crew b x)
         → IsSameLine crew (λ earlier s. Begins r.setting.anchors s a x) (λ earlier s. Begins r.setting.anchors s b x) p q }
     ensures anchor { (r : Run X) (crew : List (Worker X)) (a b x : ℕ) → Closed r crew → BegunIn r crew a x → BegunIn r crew b x → a ≡ b }
@@ -145,10 +148,11 @@ pub fn spent_numbers_have_bounds<X>()
         → (version_limit ≤ n) × (n < opening_counter r.setting + offered crew) }
 {}
 
-/// Each answer is one that its request may get, and refusals have their causes. That of MISS and NONE is the one of the epoch and the key that it tells, for
-/// the URL of the line. LARGE comes only where the body of the line, or of the one that began its tab's
-/// writing, needs more slots than an entry may have. TAB comes exactly where the tab is not as the request
-/// needs it. The epoch of PART is at APPENDING.
+/// Each answer is one that its request may get, and refusals have their causes. That of MISS and NONE is the
+/// one of the epoch and the key that it tells, for the URL of the line. LARGE comes only where the body of the line, or of the one that began its tab's
+/// writing, needs more slots than an entry may have. LONGURL comes exactly where a body is offered under a URL
+/// that leaves no room for its metadata, on a tab that is as the request needs it. TAB comes exactly where the
+/// tab is not so. The epoch of PART is at APPENDING.
 pub fn refusals_have_causes<X>()
     ensures answer { (r : Run X) (crew : List (Worker X)) → Closed r crew → (p : LineIn crew (λ earlier s. Unit {0})) → IsAnswerTo p.line_of.line.line.request p.line_of.line.answer }
     ensures cause { (r : Run X) (crew : List (Worker X)) (cause : Cause) → Closed r crew → (p : LineIn crew (λ earlier s. Refuses s.answer cause)) → IsCauseOf p.line_of.line (epoch_in cause) cause }
@@ -156,6 +160,8 @@ pub fn refusals_have_causes<X>()
     ensures large { (r : Run X) (crew : List (Worker X)) (first : Served) (url : List ℕ) (body : Body) → Closed r crew
         → LineIn crew (λ earlier s. PrintsLarge earlier s first) → Offers first.line.request url body → NeedsTooMany r url body }
     ensures long { (r : Run X) (crew : List (Worker X)) → Closed r crew → (p : LineIn crew (λ earlier s. s.answer ≡ Answer.LongUrl)) → IsLong r p.line_of.line }
+    ensures short { (r : Run X) (crew : List (Worker X)) (url : List ℕ) (body : Body) → Closed r crew
+        → (p : LineIn crew (λ earlier s. Offers s.line.request url body × Fits earlier s.line.request)) → r.room < 32 + length url → p.line_of.line.answer ≡ Answer.LongUrl }
     ensures tab { (r : Run X) (crew : List (Worker X)) → Closed r crew → (p : LineIn crew (λ earlier s. Unit {0})) → ((p.line_of.line.answer ≡ Answer.Tab) ↔ ¬ Fits p.line_of.earlier p.line_of.line.line.request) }
     ensures part { (r : Run X) (crew : List (Worker X)) (epoch : Epoch) (bytes : List ℕ) → Closed r crew → LineIn crew (λ earlier s. s.answer ≡ Answer.Part epoch bytes) → stage_of (epoch_number epoch) ≡ 2 }
 {}

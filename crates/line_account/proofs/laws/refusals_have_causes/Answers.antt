@@ -1,4 +1,4 @@
-use Rattle.line_account.proofs.Printing.{answer_told, busy_words, cause_told, long_told, part_told, tab_told, too_large}
+use Rattle.line_account.proofs.Printing.{answer_told, busy_words, cause_told, long_told, part_told, short_told, tab_told, too_large}
 use Rattle.line_account.proofs.laws.refusals_have_causes.Goals as goal
 
 pub returns-clause-answer : goal.returns-clause-answer
@@ -15,6 +15,9 @@ returns-clause-large c start r crew first url body closed p offers = too_large r
 
 pub returns-clause-long : goal.returns-clause-long
 returns-clause-long c start r crew closed p = long_told r crew closed p
+
+pub returns-clause-short : goal.returns-clause-short
+returns-clause-short c start r crew url body closed p far = short_told r crew closed url body p far
 
 pub returns-clause-tab : goal.returns-clause-tab
 returns-clause-tab c start r crew closed p = tab_told r crew closed (λ earlier s. Unit {0}) p

@@ -1,4 +1,4 @@
-use Rattle.line_account.proofs.Versions.{begun_at_one, begun_once}
+use Rattle.line_account.proofs.Versions.{began_prints, begun_alone, begun_at_one, begun_once}
 use Rattle.line_account.proofs.laws.versions_are_begun_by_one_line.Goals as goal
 
 pub returns-clause-line : goal.returns-clause-line
@@ -6,3 +6,9 @@ returns-clause-line c start r crew a b x closed p q = begun_once r crew closed a
 
 pub returns-clause-anchor : goal.returns-clause-anchor
 returns-clause-anchor c start r crew a b x closed p q = begun_at_one r crew closed a b x p q
+
+pub returns-clause-version : goal.returns-clause-version
+returns-clause-version c start anchors s a b x y p q = begun_alone anchors s a b x y p q
+
+pub returns-clause-printed : goal.returns-clause-printed
+returns-clause-printed c start anchors s a x p = began_prints s.line.request s.answer x p.began
