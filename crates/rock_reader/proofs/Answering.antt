@@ -1,12 +1,14 @@
 -- What a reading tab is that does not look again: it was given all, or its entry turned out to be another one.
-use Rattle.std.proofs.Common.{Bool, List, None, arith, false, refl, subst, true, ◌<◌, ◌≡◌, ◌≢◌, ◌⊎◌, inl, inr, ⊎_elim, ℕ}
+use Rattle.std.proofs.Common.{Bool, List, None, ap, arith, false, refl, subst, sym, true, ◌+◌, ◌<◌, ◌≡◌, ◌≢◌, ◌≤◌, ◌⊎◌, inl, inr, ⊎_elim, ℕ}
 use Rattle.rock_disk.specs.Cell.{CellState}
-use Rattle.core_model.specs.Tabs.{OfReader, tab_at}
+use Rattle.core_model.specs.Tabs.{InnerIsFree, OfReader, has_turn, tab_at}
+use Rattle.core_model.specs.declared.tab.Turn.TheVariants.{NoTurn}
 use Rattle.store_rule.specs.declared.store.Pass.{Pass}
 use Rattle.store_rule.specs.declared.store.Store.{Store}
 use Rattle.store_rule.specs.Ground.{Offers}
-use Rattle.store_rule.specs.Passes.{view}
+use Rattle.store_rule.specs.Passes.{basis, view}
 use Rattle.slice_chain.specs.Links.{MayLocate}
+use Rattle.rock_reader.specs.Closing.{MayClose}
 use Rattle.rock_reader.specs.Reading.{IsAtEnd, MayRead, ReadsAs, Standing, StaysOther}
 use Rattle.rock_reader.specs.Wanted.{held_at}
 use Rattle.rock_reader.proofs.Looking.{of_reader}
@@ -51,3 +53,26 @@ module _ {C O : Type 0} (tells : Bool) (state : C → CellState) (offers : O →
   pub has_held : OfReader (λ r. (r.place ≡ 0) ⊎ ((r.slot ≢ None) × (0 < held_at p.desks t))) (tab_at (view p) t) → OfReader (λ r. 0 < r.place → 0 < held_at p.desks t) (tab_at (view p) t)
   has_held h = of_reader (λ r. (r.place ≡ 0) ⊎ ((r.slot ≢ None) × (0 < held_at p.desks t))) (λ r. 0 < r.place → 0 < held_at p.desks t) (tab_at (view p) t)
       (λ r o some. ⊎_elim (λ (z : r.place ≡ 0). absurd (omega arith)) (λ (z : (r.slot ≢ None) × (0 < held_at p.desks t)). z.1) o) h
+
+module _ {C O : Type 0} (tells : Bool) (state : C → CellState) (offers : O → Offers) (s : Store C O) (p : Pass C) (t : ℕ) (e : Standing) (reads : ReadsAs tells state offers s p t e) where
+  -- it may go on, and be closed
+  pub may_go_on : (room : ℕ) → (basis tells state offers s).slot ≤ room + 40 → MayRead tells state offers s p t room
+  may_go_on room le = record {
+    own = reads.own;
+    below = reads.below;
+    reads = subst (OfReader (λ r. r.turn ≡ NoTurn)) (sym reads.is) reads.idle;
+    held = by_kind e.is_other refl;
+    enough = le;
+  }
+    where
+      by_kind : (b : Bool) → e.is_other ≡ b → held_at p.desks t ≤ (basis tells state offers s).slot
+      by_kind true h = let z = (reads.other h).1 in omega arith
+      by_kind false h = reads.held h
+
+  pub may_be_closed : InnerIsFree (view p) → MayClose tells state offers s p t
+  may_be_closed free = record {
+    own = reads.own;
+    below = reads.below;
+    inner_free = free;
+    reads = subst (OfReader (λ r. has_turn r.turn ≡ false)) (sym reads.is) (ap has_turn reads.idle);
+  }

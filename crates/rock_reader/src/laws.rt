@@ -1,8 +1,13 @@
 // Laws, for proofs. These functions do nothing.
 ghost use Rattle.rock_reader.specs.Responses.{IsResponse, body_below, pieces_of};
-ghost use Rattle.std.specs.Prelude.{List, ◌++◌, ◌<◌, ◌≡◌, ◌≤◌, ℕ};
+ghost use Rattle.std.specs.Prelude.{List, ◌+◌, ◌++◌, ◌<◌, ◌≡◌, ◌≤◌, ℕ};
 ghost use Rattle.store_rule.specs.Ground.{Ground};
-ghost use Rattle.store_rule.specs.Passes.{basis};
+ghost use Rattle.core_model.specs.Tabs.{InnerIsFree};
+ghost use Rattle.rock_reader.specs.Closing.{MayClose};
+ghost use Rattle.rock_reader.specs.Reading.{MayRead, ReadsAs, Standing};
+ghost use Rattle.store_rule.specs.Passes.{basis, view};
+ghost use Rattle.store_rule.specs.declared.store.Pass.{Pass};
+ghost use Rattle.store_rule.specs.declared.store.Store.{Store};
 
 use entry_cut::pieces_make_the_content;
 use rock_disk::Cell;
@@ -18,6 +23,15 @@ pub fn bodies_are_given_from_the_front()
 {
     pieces_make_the_content();
 }
+
+/// A tab that reads an entry may read on, where there is room for what a slot may add to a body, and be
+/// closed, where the inner tab is free.
+pub fn reading_tabs_may_go_on<C: Cell, O: Origin>()
+    ensures more { (store : Store C O) (pass : Pass C) (tab room : ℕ) (e : Standing) → ReadsAs C.tells C.state O.offers store pass tab e
+        → (basis C.tells C.state O.offers store).slot ≤ room + 40 → MayRead C.tells C.state O.offers store pass tab room }
+    ensures close { (store : Store C O) (pass : Pass C) (tab : ℕ) (e : Standing) → ReadsAs C.tells C.state O.offers store pass tab e
+        → InnerIsFree (view pass) → MayClose C.tells C.state O.offers store pass tab }
+{}
 
 /// The size of a slot has 32 bits.
 pub(crate) fn slots_are_small<C: Cell, O: Origin>(store: &Store<C, O>)
