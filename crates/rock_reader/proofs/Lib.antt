@@ -17,3 +17,4 @@ pub mod Answering
 pub mod GivenBodies
 pub mod Opened
 pub mod Prefix
+pub mod FileHeld

@@ -1,6 +1,9 @@
 // Laws, for proofs. These functions do nothing.
-ghost use Rattle.rock_reader.specs.Responses.{IsResponse, body_below, pieces_of};
-ghost use Rattle.std.specs.Prelude.{List, ◌+◌, ◌++◌, ◌<◌, ◌≡◌, ◌≤◌, ℕ};
+ghost use Rattle.rebuild_model.specs.Rebuilt.{IsRebuilt};
+ghost use Rattle.rebuild_model.specs.declared.rebuilt.Rebuilt.{Rebuilt};
+ghost use Rattle.store_rule.specs.Rebuilding.{chain_kept};
+ghost use Rattle.rock_reader.specs.Responses.{HoldsFile, IsResponse, body_below, pieces_of};
+ghost use Rattle.std.specs.Prelude.{List, length, ◌+◌, ◌++◌, ◌<◌, ◌≡◌, ◌≤◌, ℕ};
 ghost use Rattle.store_rule.specs.Ground.{Ground};
 ghost use Rattle.core_model.specs.Tabs.{InnerIsFree};
 ghost use Rattle.rock_reader.specs.Closing.{MayClose};
@@ -23,6 +26,12 @@ pub fn bodies_are_given_from_the_front()
 {
     pieces_make_the_content();
 }
+
+/// A store that was opened with what a rebuild kept of its file holds the complete entries of the file.
+pub fn opened_stores_hold_their_files()
+    ensures { (g : Ground (List ℕ)) (rebuilt : Rebuilt) → length g.setting.contents ≡ g.setting.slots
+        → IsRebuilt g.slot g.setting.contents g.setting.anchors rebuilt → g.chain ≡ chain_kept rebuilt.winners g.setting.anchors → HoldsFile g }
+{}
 
 /// A tab that reads an entry may read on, where there is room for what a slot may add to a body, and be
 /// closed, where the inner tab is free.

@@ -15,6 +15,8 @@ mod wanted;
 
 pub use answer::More;
 pub use closing::close_entry;
-pub use laws::{bodies_are_given_from_the_front, reading_tabs_may_go_on};
+pub use laws::{
+    bodies_are_given_from_the_front, opened_stores_hold_their_files, reading_tabs_may_go_on,
+};
 pub use opening::open_entry;
 pub use reading::more;
