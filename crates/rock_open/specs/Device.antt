@@ -1,0 +1,29 @@
+-- What an opening makes of the counts of a volume: of its faults, of the stations that it made, and of the faults with which they were ended.
+use Rattle.std.specs.Prelude.{◌≡◌, ◌⊎◌, ℕ, ◌+◌, ◌<◌, List, [], ◌∷◌, ◌++◌}
+use Rattle.rock_io.specs.Faults.{Rose}
+
+pub record Counts : Type 0 where
+  pub faults : ℕ
+  pub made : ℕ
+  pub ended : List ℕ
+
+abbrev pub counts : (faults made : ℕ) → List ℕ → Counts
+counts faults made ended = record { faults = faults; made = made; ended = ended }
+
+-- no station was made, and none ended
+pub record NoStation (before after : Counts) : Type 0 where
+  pub made : after.made ≡ before.made
+  pub ended : after.ended ≡ before.ended
+
+-- one station was made, and it was ended with this count of faults
+pub record OneStation (count : ℕ) (before after : Counts) : Type 0 where
+  pub made : after.made ≡ before.made + 1
+  pub ended : after.ended ≡ before.ended ++ count ∷ []
+
+-- each station that was made was ended
+abbrev pub EachEnded : Counts → Counts → Type 0
+EachEnded before after = NoStation before after ⊎ ((count : ℕ) × OneStation count before after)
+
+-- the volume failed, or the station that was made
+abbrev pub HasFailed : Counts → Counts → Type 0
+HasFailed before after = Rose before.faults after.faults ⊎ ((count : ℕ) × OneStation count before after × (0 < count))

@@ -1,0 +1,98 @@
+-- When a file is opened as a store, and what that makes of it.
+use Rattle.std.specs.Prelude.{◌≡◌, ◌⊎◌, ℕ, ◌+◌, ◌<◌, ◌≤◌, All, Bool, IsTrue, List, None, Some, length, map, vec_len}
+use Rattle.std.specs.FinMap.{get}
+use Rattle.std.specs.Global.{Vec}
+use Rattle.db_layout.specs.Layout.{IsSlotSize, slots_of}
+use Rattle.db_layout.specs.declared.layout.TheConstants.{HEADER_BYTES}
+use Rattle.rebuild_model.specs.declared.rebuilt.Rebuilt.{Rebuilt}
+use Rattle.rock_disk.specs.Cell.{CellState}
+use Rattle.rock_disk.specs.File.{File, Files, bytes_of}
+use Rattle.rock_disk.specs.Opened.{HasShape, IsOpened, IsSmall}
+use Rattle.store_rule.specs.declared.store.Pass.{Pass}
+use Rattle.store_rule.specs.declared.store.Store.{Store}
+use Rattle.store_rule.specs.Ground.{Offers}
+use Rattle.store_rule.specs.Passes.{AreNumbered, IsNewOf, KeepsRoom, basis}
+use Rattle.store_rule.specs.Rebuilding.{IsOpenedWith, IsRebuildOf}
+use Rattle.store_rule.specs.Setting.{shown}
+use Rattle.rock_open.specs.declared.fault.OpenStoreFault.{OpenStoreFault}
+use Rattle.rock_open.specs.declared.fault.OpenStoreFault.TheVariants.{BadGeometry, Failed, Memory, Missing, Small}
+use Rattle.rock_open.specs.Device.{Counts, HasFailed, NoStation}
+
+-- as many passes as a store may have
+pub record IsPasses (passes : ℕ) : Type 0 where
+  pub from : 1 ≤ passes
+  pub to : passes ≤ 32
+
+-- as many anchors as a store of so many slots may have
+pub record IsAnchors (anchors slots : ℕ) : Type 0 where
+  pub from : 1 ≤ anchors
+  pub to : anchors ≤ slots
+
+-- the file of this name is long enough, and has so many slots
+pub record HasSlots (files : Files) (name : List ℕ) (slot slots : ℕ) : Type 0 where
+  pub was : File
+  pub there : get files name ≡ Some was
+  pub long : HEADER_BYTES + slot ≤ length (bytes_of was)
+  pub count : slots ≡ slots_of (length (bytes_of was)) slot
+
+-- how a rebuild may be refused
+abbrev pub RebuildEnds : (before after : Counts) → OpenStoreFault → Type 0
+RebuildEnds before after Failed = HasFailed before after
+RebuildEnds before after Memory = Unit {0}
+RebuildEnds before after fault = ⊥
+
+-- How an opened file of so many slots may be refused: by their number, before a station is made, or by the counts of faults.
+abbrev pub KeepingEnds : (anchors slots : ℕ) → (before after : Counts) → OpenStoreFault → Type 0
+KeepingEnds anchors slots before after (BadGeometry field) = (field ≡ 2) × ¬ IsAnchors anchors slots × NoStation before after
+KeepingEnds anchors slots before after Missing = ⊥
+KeepingEnds anchors slots before after (Small bytes) = ⊥
+KeepingEnds anchors slots before after Failed = HasFailed before after
+KeepingEnds anchors slots before after Memory = Unit {0}
+
+-- how a file may be refused whose slot size and passes are within their limits, by numbers and counts
+abbrev pub ReadingEnds : (slot anchors : ℕ) → (before after : Counts) → OpenStoreFault → Type 0
+ReadingEnds slot anchors before after (BadGeometry field) = (field ≡ 2) × ((slots : ℕ) × ¬ IsAnchors anchors slots) × NoStation before after
+ReadingEnds slot anchors before after Missing = NoStation before after
+ReadingEnds slot anchors before after (Small bytes) = (bytes < HEADER_BYTES + slot) × NoStation before after
+ReadingEnds slot anchors before after Failed = HasFailed before after
+ReadingEnds slot anchors before after Memory = Unit {0}
+
+-- and any file
+abbrev pub OpeningEnds : (slot anchors passes : ℕ) → (before after : Counts) → OpenStoreFault → Type 0
+OpeningEnds slot anchors passes before after (BadGeometry field) =
+    ((field ≡ 1) × ¬ IsSlotSize slot × NoStation before after)
+    ⊎ (((field ≡ 3) × IsSlotSize slot × ¬ IsPasses passes × NoStation before after)
+    ⊎ ((field ≡ 2) × IsSlotSize slot × IsPasses passes × ((slots : ℕ) × ¬ IsAnchors anchors slots) × NoStation before after))
+OpeningEnds slot anchors passes before after fault = IsSlotSize slot × IsPasses passes × ReadingEnds slot anchors before after fault
+
+-- what a refusal says of the file
+abbrev pub FileSays : Files → (name : List ℕ) → (slot anchors : ℕ) → OpenStoreFault → Type 0
+FileSays files name slot anchors (BadGeometry field) = field ≡ 2 → (slots : ℕ) × HasSlots files name slot slots × ¬ IsAnchors anchors slots
+FileSays files name slot anchors Missing = get files name ≡ None
+FileSays files name slot anchors (Small bytes) = IsSmall files name slot bytes
+FileSays files name slot anchors Failed = Unit {0}
+FileSays files name slot anchors Memory = Unit {0}
+
+-- A store and its passes, new, over these cells, with these numbers and this origin: what a rebuild of the cells kept stands, and all else is free.
+pub record IsStoreOver {C O : Type 0} (tells : Bool) (cell : C → CellState) (offers : O → Offers) (slot anchors passes : ℕ) (origin : O) (cells : List C) (s : Store C O) (ps : Vec (Pass C)) : Type 0 where
+  pub rebuilt : Rebuilt
+  pub kept : IsRebuildOf tells cell slot anchors cells rebuilt
+  pub opened : IsOpenedWith (basis tells cell offers s) rebuilt
+  pub anchors_are : (basis tells cell offers s).setting.anchors ≡ anchors
+  pub slots_are : (basis tells cell offers s).setting.slots ≡ length cells
+  pub passes_are : (basis tells cell offers s).setting.passes ≡ passes
+  pub slot_is : (basis tells cell offers s).slot ≡ slot
+  pub offers_are : (basis tells cell offers s).offers ≡ offers origin
+  pub contents : (basis tells cell offers s).setting.contents ≡ map (λ c. (shown tells cell c).now) cells
+  pub many : vec_len ps ≡ passes
+  pub new : All (IsNewOf tells cell offers s) ps.items
+  pub numbered : AreNumbered ps.items
+  pub room : KeepsRoom (length cells) ps.items
+
+-- The file of this name is out. The store is over cells that are as its slots were, and this is its header area.
+pub record OpensStore {C O : Type 0} (volume_tells tells : Bool) (cell : C → CellState) (offers : O → Offers) (before after : Files) (name : List ℕ) (slot anchors passes : ℕ) (origin : O) (header : C) (s : Store C O) (ps : Vec (Pass C)) : Type 0 where
+  pub bytes : ℕ
+  pub cells : List C
+  pub shape : HasShape slot bytes (cell header) (map cell cells)
+  pub out : IsTrue volume_tells → IsOpened before after name slot bytes (cell header) (map cell cells)
+  pub store : IsStoreOver tells cell offers slot anchors passes origin cells s ps
