@@ -13,3 +13,4 @@ pub mod Taking
 pub mod Seeing
 pub mod Ending
 pub mod Begun
+pub mod Staying

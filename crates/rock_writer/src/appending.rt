@@ -1,5 +1,5 @@
 // Bytes of a body are taken.
-ghost use Rattle.std.specs.Prelude.{IfErr, IfOk, IsErrOf, length, ◌-◌, ◌<◌, ◌==◌, ◌≡◌, ℕ};
+ghost use Rattle.std.specs.Prelude.{IfErr, IfOk, IsErrOf, [], length, ◌-◌, ◌<◌, ◌==◌, ◌≡◌, ◌≢◌, ◌≤◌, ℕ};
 ghost use Rattle.entry_cut.specs.Content.{room_of};
 ghost use Rattle.rock_io.specs.Faults.{Rose};
 ghost use Rattle.rock_writer.specs.Appending.{Appended, MayAppend, NotAppended};
@@ -18,7 +18,7 @@ use slot_cell::HEADER_SIZE;
 use store_rule::{Origin, Pass, Store};
 
 /// Takes bytes of the body of the entry that a tab writes, and answers how many: as many as the slot has room
-/// for that is being filled. Where that one is full it is written and published first, and synced before it is
+/// for that is being filled, and at least one where there are any. Where that one is full it is written and published first, and synced before it is
 /// published if the entry is to be durable.
 ///
 /// # Errors
@@ -34,6 +34,8 @@ pub fn append<C: Cell, O: Origin, St: Station<C = C>>(
     requires { (e : Entry) × MayAppend C.tells C.state O.offers store.now tab e bytes.now pass.old }
     ensures ok { (e : Entry) → MayAppend C.tells C.state O.offers store.now tab e bytes.now pass.old
         → IfOk result (λ count. Appended C.tells C.state O.offers store.now tab e bytes.now pass.old pass.new count) }
+    ensures some { bytes.now ≢ [] → IfOk result (λ count. 0 < count) }
+    ensures within { IfOk result (λ count. count ≤ length bytes.now) }
     ensures err { (e : Entry) → MayAppend C.tells C.state O.offers store.now tab e bytes.now pass.old
         → IfErr result (λ fault. NotAppended C.tells C.state O.offers store.now tab e bytes.now pass.old pass.new fault) }
     ensures others { FollowsWriting C.tells C.state O.offers store.now tab pass.old pass.new }

@@ -10,9 +10,11 @@ mod fault;
 mod finishing;
 mod flushing;
 mod halting;
+mod laws;
 mod reserving;
 
 pub use appending::append;
 pub use beginning::begin;
 pub use fault::{BeginFault, Ended, WriteFault};
 pub use finishing::{abort, finish};
+pub use laws::writing_tabs_stay;

@@ -1,0 +1,19 @@
+// What holds of tabs that write while others work. The functions here do nothing: the proof of a function that
+// calls one may use what it ensures.
+ghost use Rattle.std.specs.Prelude.{◌≢◌, ℕ};
+ghost use Rattle.core_model.specs.Tabs.{InnerIsFree};
+ghost use Rattle.rock_writer.specs.Entries.{Entry, WritesAs};
+ghost use Rattle.rock_writer.specs.Passes.{FollowsWriting};
+ghost use Rattle.store_rule.specs.Passes.{view};
+ghost use Rattle.store_rule.specs.declared.store.Pass.{Pass};
+ghost use Rattle.store_rule.specs.declared.store.Store.{Store};
+
+use rock_disk::Cell;
+use store_rule::Origin;
+
+/// A tab writes its entry still when a call was made for another one.
+pub fn writing_tabs_stay<C: Cell, O: Origin>()
+    ensures { (store : Store C O) (tab other : ℕ) (entry : Entry) (before after : Pass C) → WritesAs C.tells C.state O.offers store before tab entry
+        → FollowsWriting C.tells C.state O.offers store other before after → tab ≢ other → InnerIsFree (view after)
+        → WritesAs C.tells C.state O.offers store after tab entry }
+{}
