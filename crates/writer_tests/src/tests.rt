@@ -1,0 +1,207 @@
+ghost use Rattle.std.specs.Prelude.{All, false, length, ◌<◌, ◌≤◌};
+ghost use Rattle.store_rule.specs.Setting.{IsRow, IsSettled};
+ghost use Rattle.writer_tests.specs.Books.{blank_state};
+
+use super::*;
+use rock_writer::{BeginFault, Ended, WriteFault};
+use std::alloc::Global;
+use std::process::Abort;
+use std::test::Fail;
+use store_key::check_url;
+use store_rule::Store;
+
+/// The URL of most tests. Metadata and URL are 42 bytes, so that a slot has room for 430 bytes of body.
+const URL: &[u8] = b"http://a/b";
+
+/// The MD5 of a byte 1 and this URL, by the program md5sum.
+const KEY: [u8; 16] = [
+    0x1a, 0x68, 0xc1, 0x0d, 0x6c, 0x8b, 0x32, 0x66, 0x57, 0xc7, 0x75, 0xf5, 0x3c, 0x86, 0x6d, 0xd1,
+];
+
+/// The metadata of its entry.
+const META: &[u8] =
+    b"\x03\x2a\0\0\0\x03\x10\0\0\0\x1a\x68\xc1\x0d\x6c\x8b\x32\x66\x57\xc7\x75\xf5\x3c\x86\x6d\xd1\x04\x0b\0\0\0http://a/b\0";
+
+/// What a test asks for: the response, how many bytes are appended at a time, whether the entry is to be
+/// durable, and which calls of the station fail.
+#[derive(Clone, Copy)]
+struct Row<'a> {
+    url: &'a [u8],
+    body: &'a [u8],
+    step: usize,
+    durable: bool,
+    fail: &'a [u64],
+}
+
+/// Stores one response in a new store over these cells, and answers what became of it, and the book.
+fn run<R: Abort>(rt: &R, alloc: Global, cells: Vec<Blank>, row: Row) -> Result<(Came, Book), Fail>
+    requires cells { IsRow blank_state 512 cells.items × All (IsSettled false blank_state) cells.items }
+    requires few { length cells.items ≤ 4 }
+    requires step { 0 < row.step }
+{
+    let first = Response {
+        url: Vec::from_slice(alloc, row.url)?,
+        body: Vec::from_slice(alloc, row.body)?,
+    };
+    let second = Response {
+        url: Vec::new(alloc),
+        body: Vec::new(alloc),
+    };
+    let pages = vec![in alloc; 0u8; 2_048]?;
+    let mut book = Book::new(pages, Vec::from_slice(alloc, row.fail)?);
+    let Ok((store, mut passes)) = Store::fresh(alloc, cells, 512, 1, 1, Offered { first, second })
+    else {
+        panic!(rt; "there is memory for four slots")
+    };
+    let mut pass = passes.pop().expect(rt, "a pass");
+    let offer = store.slots() as u64;
+    if check_url(row.url).is_err() {
+        panic!(rt; "it is a URL")
+    }
+    let came = store_whole(
+        &store,
+        &mut pass,
+        &mut book,
+        0,
+        offer,
+        row.url,
+        row.body,
+        row.step,
+        row.durable,
+    );
+    Ok((came, book))
+}
+
+#[test]
+fn an_entry_of_430_bytes_fills_one_slot(rt: HostRuntime) -> Result<(), Fail> {
+    let alloc = rt.alloc();
+    let body = vec![in alloc; b'x'; 430]?;
+    let stored = Came::Ended(Ended::Stored { version: 1 });
+    let failed = Came::NotWritten(WriteFault::Fault);
+    // Whether the entry is to be durable, which call fails, what becomes of it, and how many syncs there were.
+    let rows: [(bool, &[u64], Came, u32); 5] = [
+        (false, &[], stored, 0),
+        (true, &[], stored, 1),
+        (false, &[0], failed, 0),
+        (true, &[0], failed, 0),
+        (true, &[1], failed, 0),
+    ];
+    for (durable, fail, wanted, syncs) in rows {
+        let row = Row {
+            url: URL,
+            body: &body,
+            step: 430,
+            durable,
+            fail,
+        };
+        let (came, book) = run(&rt, alloc, Blank::one(alloc)?, row)?;
+        assert_eq!(rt; came, wanted);
+        assert_eq!(rt; book.syncs(), syncs);
+        if came == stored {
+            let pages = book.pages();
+            assert_eq!(rt; pages.get(..16), Some(KEY.as_slice()));
+            let sizes = b"\xd8\x01\0\0\0\0\0\0\xd8\x01\0\0\x01\0\0\0\0\0\0\0\xff\xff\xff\xff";
+            assert_eq!(rt; pages.get(16..40), Some(sizes.as_slice()));
+            assert_eq!(rt; pages.get(40..82), Some(META));
+            assert_eq!(rt; pages.get(82..512), Some(body.as_slice()));
+        }
+    }
+    Ok(())
+}
+
+/// The pages of a book in which this response was stored, of version 1, from the first page on.
+fn pages_of(alloc: Global, body: &[u8]) -> Result<Vec<u8>, Fail> {
+    let mut content = Vec::from_slice(alloc, META)?;
+    content.extend_from_slice(body)?;
+    let mut pages = Vec::new(alloc);
+    let mut next = 0u32;
+    for chunk in content.chunks(472) {
+        next = next.saturating_add(1);
+        let is_last = next as usize * 472 >= content.len();
+        let size = if is_last { content.len() as u64 } else { 0 };
+        let link = if is_last { u32::MAX } else { next };
+        pages.extend_from_slice(&KEY)?;
+        pages.extend_from_slice(&size.to_le_bytes())?;
+        pages.extend_from_slice(&(chunk.len() as u32).to_le_bytes())?;
+        pages.extend_from_slice(&1u32.to_le_bytes())?;
+        pages.extend_from_slice(&0u32.to_le_bytes())?;
+        pages.extend_from_slice(&link.to_le_bytes())?;
+        pages.extend_from_slice(chunk)?;
+    }
+    pages.resize(2_048, 0)?;
+    Ok(pages)
+}
+
+#[test]
+fn bodies_of_up_to_three_slots_are_cut_into_slots(rt: HostRuntime) -> Result<(), Fail> {
+    let alloc = rt.alloc();
+    let mut body = Vec::new(alloc);
+    // Three slots have room for 1,374 bytes of body. A body of each length near the ends of slots is appended byte
+    // by byte, seven bytes at a time, and at once.
+    for length in 0..=1_374u32 {
+        let behind = (length + 42) % 472;
+        let steps: &[usize] = if length < 2 || behind < 2 || behind > 470 {
+            &[1, 7, 2_000]
+        } else {
+            &[]
+        };
+        for step in steps {
+            let step = *step;
+            let wanted = pages_of(alloc, &body)?;
+            let row = Row {
+                url: URL,
+                body: &body,
+                step,
+                durable: false,
+                fail: &[],
+            };
+            let (came, book) = run(&rt, alloc, Blank::four(alloc)?, row)?;
+            assert_eq!(rt;
+                came,
+                Came::Ended(Ended::Stored { version: 1 }),
+                "{length} by {step}"
+            );
+            assert!(rt; book.pages() == wanted.as_slice(), "{length} by {step}");
+        }
+        body.push((length % 251) as u8)?;
+    }
+    Ok(())
+}
+
+#[test]
+fn a_response_that_does_not_fit_is_refused(rt: HostRuntime) -> Result<(), Fail> {
+    let alloc = rt.alloc();
+    let mut fitting = Vec::from_slice(alloc, b"http://a/")?;
+    fitting.resize(440, b'b')?;
+    let mut longer = fitting.clone()?;
+    longer.push(b'b')?;
+    let body = vec![in alloc; b'x'; 431]?;
+    let stored = Came::Ended(Ended::Stored { version: 1 });
+    // A URL of 440 bytes fills a slot with its metadata, and one byte more is too long.
+    let fits = Row {
+        url: &fitting,
+        body: &[],
+        step: 1,
+        durable: false,
+        fail: &[],
+    };
+    let (came, _book) = run(&rt, alloc, Blank::one(alloc)?, fits)?;
+    assert_eq!(rt; came, stored);
+    let too_long = Row {
+        url: &longer,
+        ..fits
+    };
+    let (came, book) = run(&rt, alloc, Blank::one(alloc)?, too_long)?;
+    assert_eq!(rt; came, Came::NotBegun(BeginFault::LongUrl));
+    assert!(rt; book.pages().iter().all(|byte| *byte == 0));
+    // A body of 431 bytes is too large for one slot.
+    let large = Row {
+        url: URL,
+        body: &body,
+        ..fits
+    };
+    let (came, book) = run(&rt, alloc, Blank::one(alloc)?, large)?;
+    assert_eq!(rt; came, Came::NotWritten(WriteFault::Large));
+    assert!(rt; book.pages().iter().all(|byte| *byte == 0));
+    Ok(())
+}
