@@ -49,3 +49,12 @@ module _ {X : Type 0} (g : Ground X) (o : Offered) (is : g.offers ≡ offers_of 
     good = good;
     alone = nobody;
   }
+
+  pub is_second : (offer : ℕ) (url body : List ℕ) → offer ≡ g.setting.slots + 1 → o.second.url.items ≡ url → o.second.body.items ≡ body → IsUrl url → IsOffer g offer url body
+  is_second offer url body at u b good = let one : offer - g.setting.slots ≡ 1 = omega (arith, at) in record {
+    from = omega (arith, at);
+    url_is = ap (λ (z : Offers). z.url (offer - g.setting.slots)) is ∙ ap (either o.first.url.items o.second.url.items) one ∙ u;
+    body_is = ap (λ (z : Offers). z.body (offer - g.setting.slots)) is ∙ ap (either o.first.body.items o.second.body.items) one ∙ b;
+    good = good;
+    alone = nobody;
+  }

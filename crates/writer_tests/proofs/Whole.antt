@@ -2,7 +2,7 @@
 use Rattle.std.proofs.Common.{Bool, List, [], ap, arith, drop, length, length-drop, length-take, refl, subst, sym, take, ◌+◌, ◌-◌, ◌<◌, ◌≡◌, ◌≢◌, ◌≤◌, ◌∙◌, ℕ}
 use Rattle.std.proofs.lemmas.List.{take_min}
 use Rattle.rock_disk.specs.Cell.{CellState}
-use Rattle.core_model.specs.Tabs.{inner, tab_at}
+use Rattle.core_model.specs.Tabs.{InnerIsFree, inner, tab_at}
 use Rattle.store_key.specs.Url.{IsUrl}
 use Rattle.store_rule.specs.declared.store.Pass.{Pass}
 use Rattle.store_rule.specs.declared.store.Store.{Store}
@@ -46,6 +46,10 @@ module _ {C O : Type 0} (tells : Bool) (state : C → CellState) (offers : O →
   -- a tab that has parted from its anchor is idle
   pub parted_idle : (q : Pass C) (v : View (List ℕ)) → IsOf tells state offers s q → t < inner → Parted (basis tells state offers s) t v (view q) → IsIdle tells state offers s q t
   parted_idle q v own below parted = record { own = own; below = below; free = parted.free; inner_free = parted.inner_free }
+
+  -- another tab stays idle
+  pub stays_idle : (u : ℕ) (p q : Pass C) → FollowsWriting tells state offers s t p q → IsIdle tells state offers s p u → u ≢ t → InnerIsFree (view q) → IsIdle tells state offers s q u
+  stays_idle u p q follows is ne free = record { own = follows.own; below = is.below; free = follows.others u ne (λ z. let b = is.below in omega arith) ∙ is.free; inner_free = free }
 
   pub follows_none : (p : Pass C) → IsOf tells state offers s p → FollowsWriting tells state offers s t p p
   follows_none p own = record { own = own; others = λ j ne far. refl; left = λ j ne far. refl; places = refl; desks = λ j ne. refl; cells = refl }
