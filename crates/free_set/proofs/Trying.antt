@@ -1,5 +1,5 @@
 -- One try for a slot behind others.
-use Rattle.std.proofs.Common.{All, Bool, Contains, List, Option, [], ap, arith, cond, eq-eqb, false, ne_eqb, refl, set, subst, suc, sym, true, unwrap_or, zero, ◌+◌, ◌++◌, ◌<◌, ◌==◌, ◌∷◌, ◌≡◌, ◌≢◌, ◌≤◌, ◌∙◌, ℕ}
+use Rattle.std.proofs.Common.{All, Bool, Contains, List, Option, [], ap, arith, cond, eq-eqb, false, length, ne_eqb, refl, set, subst, suc, sym, true, unwrap_or, zero, ◌+◌, ◌++◌, ◌<◌, ◌==◌, ◌∷◌, ◌≡◌, ◌≢◌, ◌≤◌, ◌∙◌, ℕ}
 use Rattle.std.proofs.lemmas.List.Elements.{Contains-append_right}
 use mathlib.Core.Logic.{dite}
 use native.Mathlib.Decide.{ℕ_discrete}
@@ -36,6 +36,7 @@ module _ {X : Type 0} (g : Ground X) where
       below = λ j lt. absurd (omega arith);
       taken = λ j lt. absurd (omega arith);
     };
+    once = refl;
     tabs = refl;
     same = λ j lt mine. refl;
   }
@@ -57,6 +58,9 @@ module _ {X : Type 0} (g : Ground X) where
     was_below : (j : ℕ) → j < slot → (m : ℕ) × Contains more.items (tried j m) × (m ≢ 0)
     was_below j lt = let b = h.passed.below j lt in (b.0, Contains-append_right (tried slot n ∷ []) h.added.items (tried j b.0) b.1, b.2)
 
+    one_more : length more.items ≡ slot + 1
+    one_more = let many = h.once in omega arith
+
     pub lost : n ≢ 0 → HasTried g v (slot + 1) w
     lost ne = record {
       added = more;
@@ -71,6 +75,7 @@ module _ {X : Type 0} (g : Ground X) where
             (λ e. subst (λ (z : ℕ). is_free_slot g v z ≡ false) (sym e) (ne_eqb (has g v (Owner slot)) 0 (λ z. ne (found mine ∙ z))))
             (λ other. h.passed.taken j (omega arith) mine);
       };
+      once = one_more;
       tabs = ap View.tabs st.leaves ∙ (let b = ne_eqb n 0 ne in rw b h.tabs);
       same = λ j lt mine. dite (ℕ_discrete (index g.setting (Owner slot)) (index g.setting (Owner j)))
           (λ e. has_left g u w (Own t slot) n (Owner slot) (Owner j) st refl e ∙ (let b = ne_eqb n 0 ne in rw b refl) ∙ found mine ∙ ap (λ (z : ℕ). has g v (Owner z)) (let q = e in omega arith))
@@ -87,6 +92,7 @@ module _ {X : Type 0} (g : Ground X) where
         below = was_below;
         taken = h.passed.taken;
       };
+      once = one_more;
       there = there;
       won = (0, omega arith, ap (tried slot) e);
       was = λ mine. eq-eqb (has g v (Owner slot)) 0 (sym (found mine) ∙ e);

@@ -1,5 +1,5 @@
 -- What a claim of a slot comes to.
-use Rattle.std.specs.Prelude.{All, Bool, Contains, [], false, true, ◌<◌, ◌≡◌, ◌≢◌, ℕ}
+use Rattle.std.specs.Prelude.{All, Bool, Contains, [], false, length, true, ◌+◌, ◌<◌, ◌≡◌, ◌≢◌, ℕ}
 use Rattle.rock_disk.specs.Cell.{CellState}
 use Rattle.core_model.specs.SlotMoves.{MayReserve, reserves}
 use Rattle.core_model.specs.Tabs.{InnerIsFree, OfWriter, inner, tab_at, with_tab}
@@ -33,17 +33,19 @@ pub record Passed {X : Type 0} (g : Ground X) (v : View X) (slot : ℕ) (d : Add
   pub below : (j : ℕ) → j < slot → (n : ℕ) × Contains d.items (tried j n) × (n ≢ 0)
   pub taken : (j : ℕ) → j < slot → Mine g v (Owner j) → is_free_slot g v j ≡ false
 
--- The same where none of the tries took one: no tab has changed, and no owner.
+-- The same, with one try for each slot, where none of them took one: no tab has changed, and no owner.
 pub record HasTried {X : Type 0} (g : Ground X) (v : View X) (slot : ℕ) (w : View X) : Type 0 where
   pub added : Added
   pub passed : Passed g v slot added w
+  pub once : length added.items ≡ slot
   pub tabs : w.tabs ≡ v.tabs
   pub same : (j : ℕ) → j < g.setting.slots → Mine g v (Owner j) → has g w (Owner j) ≡ has g v (Owner j)
 
--- The tab reserved this slot, which was free.
+-- The tab reserved this slot, which was free. There was one try for each slot up to it.
 pub record Claimed {X : Type 0} (g : Ground X) (t : ℕ) (v : View X) (slot : ℕ) (w : View X) : Type 0 where
   pub added : Added
   pub passed : Passed g v slot added w
+  pub once : length added.items ≡ slot + 1
   pub there : slot < g.setting.slots
   pub won : Contains added.items (tried slot 0)
   pub was : Mine g v (Owner slot) → is_free_slot g v slot ≡ true
