@@ -15,3 +15,6 @@ pub claim-requires-2-after_bounds : goal.claim-requires-2-after_bounds
 claim-requires-2-after_bounds g c κs within = let begun = c.if-not-begin.ensures.writes refl in
     let one = claimed_writer g.C.Cell.tells g.C.Cell.state g.O.Origin.offers c.args.store.now 0 c.begin.new.pass c.claim.new.pass _ c.in-Ok.first begun.1 c.in-Ok.ensures.ok c.claim.ensures.others.own in
     may_claim g.C.Cell.tells g.C.Cell.state g.O.Origin.offers c.args.store.now 0 c.claim.new.pass _ one (omega arith) refl (λ e. cc) refl
+
+pub leave_and_free-requires-after_bounds : goal.leave_and_free-requires-after_bounds
+leave_and_free-requires-after_bounds g c κs within = let reads = c.if-not-open.ensures refl in (reads.reader, reads.reads)
