@@ -1,6 +1,6 @@
 -- How a file is refused, and what its refusal says.
-use Rattle.std.proofs.Common.{◌≡◌, ◌<◌, ◌+◌, ◌∙◌, inl, inr, List, Some, ap, length, refl, subst, sym, ℕ}
-use Rattle.std.specs.Prelude.{Err, IsErrOf, None, Option, Result, ◌↔◌}
+use Rattle.std.proofs.Common.{◌≡◌, ◌<◌, ◌≤◌, ◌+◌, ◌∙◌, arith, inl, inr, List, Some, ap, length, refl, subst, suc, sym, zero, ℕ}
+use Rattle.std.specs.Prelude.{Err, IsErrOf, IsOk, None, Ok, Option, Result, ◌↔◌, ◌⊎◌}
 use Rattle.std.specs.FinMap.{get}
 use Rattle.db_layout.specs.Layout.{IsSlotSize, slots_of}
 use Rattle.db_layout.specs.declared.layout.TheConstants.{HEADER_BYTES}
@@ -15,7 +15,7 @@ use Rattle.rock_rebuild.specs.declared.outcome.RebuildFault.{RebuildFault}
 use Rattle.rock_rebuild.specs.declared.outcome.RebuildFault.TheVariants as rebuilding
 use Rattle.rock_open.specs.declared.fault.OpenStoreFault.{OpenStoreFault}
 use Rattle.rock_open.specs.declared.fault.OpenStoreFault.TheVariants.{BadGeometry, Failed, Memory, Missing, Small}
-use Rattle.rock_open.specs.Device.{Counts, EachEnded, HasFailed, NoStation, OneStation, counts}
+use Rattle.rock_open.specs.Device.{Counts, EachEnded, HasFailed, NoStation, NoneFailed, OneStation, counts}
 use Rattle.rock_open.specs.Faults.{fault_of_open, fault_of_rebuild, fault_of_station}
 use Rattle.rock_open.specs.Opening.{FileSays, HasSlots, IsPasses, KeepingEnds, OpeningEnds, ReadingEnds, RebuildEnds}
 
@@ -52,6 +52,16 @@ module _ {T : Type 0} where
   pub open_told : {U : Type 0} (f g : OpenFault) (e : OpenStoreFault) → e ≡ fault_of_open f → IsErrOf {T = T} (Err f) g → IsErrOf {T = U} (Err e) (fault_of_open g)
   open_told f g e is told = ap (λ z. Err z) (is ∙ ap fault_of_open (same_error told))
 
+-- what is kept is no error
+pub ok_is_no_error : {A E : Type 0} {e : E} (r : Result A E) → IsOk r → IsErrOf r e → ⊥
+ok_is_no_error (Ok x) ok is = cc
+ok_is_no_error (Err e) ok is = cc
+
+-- where the answer is no failure, what was handed up is none
+pub handed_up : {A B : Type 0} (kept : Result A OpenStoreFault) (f : OpenStoreFault) → (kept ≡ Err f) ⊎ (IsOk kept × (f ≡ Memory)) → (IsErrOf {T = B} (Err f) Failed → ⊥) → IsErrOf kept Failed → ⊥
+handed_up kept f (inl same) not is = not (ap Err (same_error (sym same ∙ is)))
+handed_up kept f (inr told) not is = ok_is_no_error kept told.0 is
+
 -- a rebuild is refused as an opened file is
 pub keeping_of : (anchors slots : ℕ) (before after : Counts) (f : OpenStoreFault) → RebuildEnds before after f → KeepingEnds anchors slots before after f
 keeping_of anchors slots before after (BadGeometry field) ends = absurd ends
@@ -71,16 +81,19 @@ module _ (v m : ℕ) (e : List ℕ) (v1 m1 : ℕ) (e1 : List ℕ) (v2 m2 : ℕ) 
   pub none_around : NoStation (counts v1 m1 e1) (counts v2 m2 e2) → NoStation (counts v m e) (counts v' m' e')
   none_around h = moved NoStation h
 
+  pub unfailed_around : NoneFailed (counts v1 m1 e1) (counts v2 m2 e2) → NoneFailed (counts v m e) (counts v' m' e')
+  unfailed_around h = moved NoneFailed h
+
   pub one_around : OneStation 0 (counts v1 m1 e1) (counts v2 m2 e2) → OneStation 0 (counts v m e) (counts v' m' e')
   one_around h = moved (OneStation 0) h
 
-  -- an opened file is refused as a file is
-  pub opened_refused : (slot anchors slots : ℕ) (f : OpenStoreFault) → KeepingEnds anchors slots (counts v1 m1 e1) (counts v2 m2 e2) f → ReadingEnds slot anchors (counts v m e) (counts v' m' e') f
-  opened_refused slot anchors slots (BadGeometry field) ends = (ends.0, (slots, ends.1), moved NoStation ends.2)
-  opened_refused slot anchors slots Missing ends = absurd ends
-  opened_refused slot anchors slots (Small bytes) ends = absurd ends
-  opened_refused slot anchors slots Failed ends = moved HasFailed ends
-  opened_refused slot anchors slots Memory ends = tt
+  -- an opened file, which has slots, is refused as a file is
+  pub opened_refused : (slot anchors slots : ℕ) (f : OpenStoreFault) → 0 < slots → KeepingEnds anchors slots (counts v1 m1 e1) (counts v2 m2 e2) f → ReadingEnds slot anchors (counts v m e) (counts v' m' e') f
+  opened_refused slot anchors slots (BadGeometry field) some ends = (ends.0, (slots, some, ends.1), moved NoStation ends.2)
+  opened_refused slot anchors slots Missing some ends = absurd ends
+  opened_refused slot anchors slots (Small bytes) some ends = absurd ends
+  opened_refused slot anchors slots Failed some ends = moved HasFailed ends
+  opened_refused slot anchors slots Memory some ends = tt
 
 pub opened_says : (files : Files) (name : List ℕ) (slot anchors slots : ℕ) (before after : Counts) (f : OpenStoreFault) → HasSlots files name slot slots → KeepingEnds anchors slots before after f → FileSays files name slot anchors f
 opened_says files name slot anchors slots before after (BadGeometry field) has ends = λ is. (slots, has, ends.1)
@@ -88,6 +101,11 @@ opened_says files name slot anchors slots before after Missing has ends = absurd
 opened_says files name slot anchors slots before after (Small bytes) has ends = absurd ends
 opened_says files name slot anchors slots before after Failed has ends = tt
 opened_says files name slot anchors slots before after Memory has ends = tt
+
+-- a file that is long enough for a slot has one
+pub has_slots : (bytes slot n : ℕ) → HEADER_BYTES + slot ≤ bytes → n ≡ slots_of bytes slot → (slots_of bytes slot ≡ 0 → bytes < HEADER_BYTES + slot) → 0 < n
+has_slots bytes slot zero room is none = let short = none (sym is) in omega arith
+has_slots bytes slot (suc n) room is none = omega arith
 
 -- a file whose numbers are within their limits is refused as any file
 pub opening_of : (slot anchors passes : ℕ) (before after : Counts) (f : OpenStoreFault) → IsSlotSize slot → IsPasses passes → ReadingEnds slot anchors before after f → OpeningEnds slot anchors passes before after f

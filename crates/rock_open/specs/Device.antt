@@ -27,3 +27,8 @@ EachEnded before after = NoStation before after ⊎ ((count : ℕ) × OneStation
 -- the volume failed, or the station that was made
 abbrev pub HasFailed : Counts → Counts → Type 0
 HasFailed before after = Rose before.faults after.faults ⊎ ((count : ℕ) × OneStation count before after × (0 < count))
+
+-- no call failed: the volume's count of faults is as it was, and if a station was made, it was ended with none
+pub record NoneFailed (before after : Counts) : Type 0 where
+  pub faults : after.faults ≡ before.faults
+  pub station : (count : ℕ) → OneStation count before after → count ≡ 0

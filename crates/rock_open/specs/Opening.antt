@@ -49,9 +49,13 @@ KeepingEnds anchors slots before after (Small bytes) = ⊥
 KeepingEnds anchors slots before after Failed = HasFailed before after
 KeepingEnds anchors slots before after Memory = Unit {0}
 
+-- a file that has slots may have too few for so many anchors
+abbrev pub IsBeyond : ℕ → Type 0
+IsBeyond anchors = (slots : ℕ) × (0 < slots) × ¬ IsAnchors anchors slots
+
 -- how a file may be refused whose slot size and passes are within their limits, by numbers and counts
 abbrev pub ReadingEnds : (slot anchors : ℕ) → (before after : Counts) → OpenStoreFault → Type 0
-ReadingEnds slot anchors before after (BadGeometry field) = (field ≡ 2) × ((slots : ℕ) × ¬ IsAnchors anchors slots) × NoStation before after
+ReadingEnds slot anchors before after (BadGeometry field) = (field ≡ 2) × IsBeyond anchors × NoStation before after
 ReadingEnds slot anchors before after Missing = NoStation before after
 ReadingEnds slot anchors before after (Small bytes) = (bytes < HEADER_BYTES + slot) × NoStation before after
 ReadingEnds slot anchors before after Failed = HasFailed before after
@@ -62,7 +66,7 @@ abbrev pub OpeningEnds : (slot anchors passes : ℕ) → (before after : Counts)
 OpeningEnds slot anchors passes before after (BadGeometry field) =
     ((field ≡ 1) × ¬ IsSlotSize slot × NoStation before after)
     ⊎ (((field ≡ 3) × IsSlotSize slot × ¬ IsPasses passes × NoStation before after)
-    ⊎ ((field ≡ 2) × IsSlotSize slot × IsPasses passes × ((slots : ℕ) × ¬ IsAnchors anchors slots) × NoStation before after))
+    ⊎ ((field ≡ 2) × IsSlotSize slot × IsPasses passes × IsBeyond anchors × NoStation before after))
 OpeningEnds slot anchors passes before after fault = IsSlotSize slot × IsPasses passes × ReadingEnds slot anchors before after fault
 
 -- what a refusal says of the file

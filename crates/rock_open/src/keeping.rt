@@ -4,7 +4,7 @@ ghost use Rattle.rebuild_model.specs.Rebuilt.{IsRebuilt};
 ghost use Rattle.rock_disk.specs.File.{IsThere};
 ghost use Rattle.rock_disk.specs.Opened.{AreSlots};
 ghost use Rattle.rock_rebuild.specs.Read.{AreImagesOf};
-ghost use Rattle.rock_open.specs.Device.{EachEnded, NoStation, OneStation, counts};
+ghost use Rattle.rock_open.specs.Device.{EachEnded, NoStation, NoneFailed, OneStation, counts};
 ghost use Rattle.rock_open.specs.Opening.{IsAnchors, KeepingEnds, RebuildEnds};
 
 use crate::fault::{OpenStoreFault, of_rebuild, of_station};
@@ -40,6 +40,9 @@ fn rebuilt_by_station<V: Volume>(
     ensures cells { map V.C.state cells.new ≡ map V.C.state cells.old }
     ensures files { V.files volume.new ≡ V.files volume.old }
     ensures faults { V.faults volume.old ≤ V.faults volume.new }
+    ensures unfailed { (IsErrOf result OpenStoreFault.Failed → ⊥) → NoneFailed
+        (counts (V.faults volume.old) (V.made volume.old) (V.ended volume.old))
+        (counts (V.faults volume.new) (V.made volume.new) (V.ended volume.new)) }
     ensures ended { EachEnded
         (counts (V.faults volume.old) (V.made volume.old) (V.ended volume.old))
         (counts (V.faults volume.new) (V.made volume.new) (V.ended volume.new)) }
@@ -79,6 +82,9 @@ pub(crate) fn kept_of<V: Volume>(
     ensures cells { map V.C.state cells.new ≡ map V.C.state cells.old }
     ensures files { V.files volume.new ≡ V.files volume.old }
     ensures faults { V.faults volume.old ≤ V.faults volume.new }
+    ensures unfailed { (IsErrOf result OpenStoreFault.Failed → ⊥) → NoneFailed
+        (counts (V.faults volume.old) (V.made volume.old) (V.ended volume.old))
+        (counts (V.faults volume.new) (V.made volume.new) (V.ended volume.new)) }
     ensures ended { EachEnded
         (counts (V.faults volume.old) (V.made volume.old) (V.ended volume.old))
         (counts (V.faults volume.new) (V.made volume.new) (V.ended volume.new)) }

@@ -4,14 +4,14 @@ ghost use Rattle.std.specs.FinMap.{get};
 ghost use Rattle.db_layout.specs.Layout.{IsSlotSize};
 ghost use Rattle.rock_disk.specs.File.{IsKept, IsNotAway};
 ghost use Rattle.rock_disk.specs.Opened.{IsSmall};
-ghost use Rattle.rock_open.specs.Device.{EachEnded, NoStation, OneStation, counts};
+ghost use Rattle.rock_open.specs.Device.{EachEnded, NoStation, NoneFailed, OneStation, counts};
 ghost use Rattle.store_rule.specs.Rebuilding.{IsRebuildOf};
 ghost use Rattle.store_rule.specs.Setting.{IsRow, IsSettled};
 ghost use Rattle.rock_open.specs.Opening.{FileSays, HasSlots, IsAnchors, IsPasses, IsStoreOver, OpeningEnds, OpensStore, ReadingEnds};
 
 use crate::fault::{OpenStoreFault, of_open};
 use crate::keeping::kept_of;
-use db_layout::slot_size_ok;
+use db_layout::{MOST_SLOTS, slot_size_ok, slots_are_whole};
 use rebuild_model::Rebuilt;
 use rock_disk::{
     Cell, Opened, Volume, opened_cells_are_the_files, opened_cells_may_be_given_back,
@@ -56,13 +56,13 @@ fn store_of<C: Cell, O: Origin>(
 ) -> Result<Made<C, O>, Refused<C>>
     requires passes { IsPasses passes }
     requires anchors { OnOk kept (0 < anchors) }
-    requires slots { length cells.items ≤ 1048576 }
+    requires slots { length cells.items ≤ MOST_SLOTS }
     requires row { IsRow C.state slot cells.items }
     requires sure { All (IsSettled C.tells C.state) cells.items }
     requires kept { IfOk kept (IsRebuildOf C.tells C.state slot anchors cells.items) }
     ensures made { IfOk result (λ r. IsStoreOver C.tells C.state O.offers slot anchors passes origin cells.items r.0 r.1) }
     ensures cells { IfErr result (λ r. r.cells.items ≡ cells.items) }
-    ensures fault { IfErr result (λ r. (kept ≡ Err r.fault) ⊎ (r.fault ≡ OpenStoreFault.Memory)) }
+    ensures fault { IfErr result (λ r. (kept ≡ Err r.fault) ⊎ (IsOk kept × (r.fault ≡ OpenStoreFault.Memory))) }
     ensures ok { OnOk result (IsOk kept) }
 {
     let rebuilt = match kept {
@@ -112,10 +112,14 @@ fn open_within<V: Volume, O: Origin>(
         (counts (V.faults volume.old) (V.made volume.old) (V.ended volume.old))
         (counts (V.faults volume.new) (V.made volume.new) (V.ended volume.new)) }
     ensures faults { V.faults volume.old ≤ V.faults volume.new }
+    ensures unfailed { (IsErrOf result OpenStoreFault.Failed → ⊥) → NoneFailed
+        (counts (V.faults volume.old) (V.made volume.old) (V.ended volume.old))
+        (counts (V.faults volume.new) (V.made volume.new) (V.ended volume.new)) }
 {
     opened_slots_are_wide_and_few();
     opened_cells_are_the_files();
     opened_cells_may_be_given_back();
+    slots_are_whole();
     let Opened {
         header,
         mut cells,
@@ -197,6 +201,9 @@ pub fn open_store<V: Volume, O: Origin>(
         (counts (V.faults volume.old) (V.made volume.old) (V.ended volume.old))
         (counts (V.faults volume.new) (V.made volume.new) (V.ended volume.new)) }
     ensures faults { V.faults volume.old ≤ V.faults volume.new }
+    ensures unfailed { (IsErrOf result OpenStoreFault.Failed → ⊥) → NoneFailed
+        (counts (V.faults volume.old) (V.made volume.old) (V.ended volume.old))
+        (counts (V.faults volume.new) (V.made volume.new) (V.ended volume.new)) }
 {
     if !slot_size_ok(slot) {
         return Err(OpenStoreFault::BadGeometry { field: 1 });

@@ -1,14 +1,16 @@
-ghost use Rattle.std.specs.Prelude.{◌≤◌, IfOk};
+ghost use Rattle.std.specs.Prelude.{◌≡◌, ◌<◌, ◌≤◌, All, IfOk, length};
+ghost use Rattle.store_rule.specs.Passes.{IsNewOf, basis};
 ghost use Rattle.rock_disk.specs.File.{NoneAway};
 ghost use Rattle.rock_disk.specs.Memory.{volume_files};
 
 use super::*;
+use lock_word::{Epoch, Stage, Word};
 use rock_disk::{
-    MemCell, MemVolume, Volume, opened_cells_are_the_files, opened_slots_are_wide_and_few,
+    Cell, MemCell, MemVolume, Volume, opened_cells_are_the_files, opened_slots_are_wide_and_few,
 };
 use std::alloc::Global;
 use std::test::Fail;
-use store_rule::{Origin, new_passes_rest};
+use store_rule::{Origin, Pass, Store, new_passes_rest};
 
 /// An origin that offers nothing.
 #[derive(Drop)]
@@ -151,5 +153,101 @@ fn a_file_that_was_opened_and_closed_is_as_it_was(rt: HostRuntime) -> Result<(),
     assert_eq!(rt; cells.len(), 2);
     assert!(rt; bytes.as_slice().get(16_384..16_896) == Some(cells[0].now()));
     assert!(rt; bytes.as_slice().get(16_896..17_408) == Some(cells[1].now()));
+    Ok(())
+}
+
+/// The image of a slot.
+type Image = [u8; 512];
+
+/// The MD5 of a byte 1 and `http://a/b`, by the program md5sum. Of two anchors it belongs to anchor 1: its halves,
+/// as numbers that begin with the least byte, are an even one and an odd one.
+const KEY: [u8; 16] = [
+    0x1a, 0x68, 0xc1, 0x0d, 0x6c, 0x8b, 0x32, 0x66, 0x57, 0xc7, 0x75, 0xf5, 0x3c, 0x86, 0x6d, 0xd1,
+];
+
+/// Metadata with `http://a/b` and its key.
+const META: [u8; 42] = [
+    3, 0x2a, 0, 0, 0, 3, 0x10, 0, 0, 0, 0x1a, 0x68, 0xc1, 0x0d, 0x6c, 0x8b, 0x32, 0x66, 0x57, 0xc7,
+    0x75, 0xf5, 0x3c, 0x86, 0x6d, 0xd1, 4, 0x0b, 0, 0, 0, 0x68, 0x74, 0x74, 0x70, 0x3a, 0x2f, 0x2f,
+    0x61, 0x2f, 0x62, 0,
+];
+
+/// Puts bytes into an image, as far as they fit.
+fn put(image: &mut Image, at: usize, bytes: &[u8]) {
+    for (i, byte) in bytes.iter().enumerate() {
+        if let Some(place) = image.get_mut(at.saturating_add(i)) {
+            *place = *byte;
+        }
+    }
+}
+
+/// A slot of `http://a/b` that is the first one of its entry and has its metadata: the size of the entry and of
+/// the payload, the version, the number of the slot, and the next one.
+fn first_slot(size: u32, version: u32, number: i32, next: i32) -> Image {
+    let mut image = [0; 512];
+    put(&mut image, 0, &KEY);
+    put(&mut image, 16, &u64::from(size).to_le_bytes());
+    put(&mut image, 24, &size.to_le_bytes());
+    put(&mut image, 28, &version.to_le_bytes());
+    put(&mut image, 32, &number.to_le_bytes());
+    put(&mut image, 36, &next.to_le_bytes());
+    put(&mut image, 40, &META);
+    image
+}
+
+/// A file with these slots.
+fn file_with(alloc: Global, slots: &[Image]) -> Result<Vec<u8>, Fail> {
+    let mut file = Vec::new(alloc);
+    file.resize(16_384, 0)?;
+    for image in slots {
+        file.extend_from_slice(image)?;
+    }
+    Ok(file)
+}
+
+/// What the first of these new passes finds at a store of two anchors: the words of both, and the counter of
+/// versions.
+fn what_stands<C: Cell, O: Origin>(store: &Store<C, O>, passes: &mut [Pass<C>]) -> (Word, Word, u64)
+    requires some { 0 < length passes.old }
+    requires new { All (IsNewOf C.tells C.state O.offers store.now) passes.old }
+    requires anchors { (basis C.tells C.state O.offers store.now).setting.anchors ≡ 2 }
+{
+    new_passes_rest::<C, O>();
+    let pass = &mut passes[0];
+    let front = store.look(pass, 0);
+    let back = store.look(pass, 1);
+    let counter = store.versions(pass);
+    (front, back, counter)
+}
+
+/// The word of an anchor that nobody uses.
+fn word_of(version: u32, stage: Stage) -> Word {
+    Word {
+        epoch: Epoch {
+            version,
+            doom: false,
+            stage,
+        },
+        readers: 0,
+    }
+}
+
+#[test]
+fn what_was_kept_is_closed_and_the_counter_is_at_the_greatest_sane_version(
+    rt: HostRuntime,
+) -> Result<(), Fail> {
+    let alloc = rt.alloc();
+    // An entry of version 3, and a chain of version 5 that goes round: that slot is in no entry.
+    let slots = [first_slot(43, 3, 0, -1), first_slot(472, 5, 1, 1), [0; 512]];
+    let mut volume = volume_of(alloc, &file_with(alloc, &slots)?, &[], &[])?;
+    let OpenStore {
+        store,
+        mut passes,
+        ..
+    } = open_store(alloc, &mut volume, "db", 512, 2, 1, Nothing)?;
+    let found = what_stands(&store, passes.as_mut_slice());
+    let empty = word_of(0, Stage::Empty);
+    let kept = word_of(3, Stage::Closed);
+    assert_eq!(rt; found, (empty, kept, 5));
     Ok(())
 }

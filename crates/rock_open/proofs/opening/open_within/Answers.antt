@@ -1,4 +1,5 @@
 use Rattle.std.proofs.Common.{ap, arith, drop, length, map, refl, subst, sym, ◌++◌, ◌≡◌, ◌∙◌, ⊎_elim, take}
+use Rattle.std.proofs.lemmas.List.{length-map}
 use Rattle.rock_disk.specs.Cell.{shape}
 use Rattle.rock_disk.specs.File.{bytes_of}
 use Rattle.rock_disk.specs.Opened.{HasShape}
@@ -7,7 +8,7 @@ use Rattle.rock_open.specs.Device.{counts}
 use Rattle.rock_open.specs.Opening.{FileSays, IsAnchors, ReadingEnds}
 use Rattle.rock_open.proofs.Cells.{few_of, rebuilds, row_of, sure_of}
 use Rattle.rock_open.proofs.Files.{filled, handed_back, of_error, on_ok, out_still, slots_when_opened}
-use Rattle.rock_open.proofs.Refusals.{ended_around, none_around, one_count, open_told, opened_refused, opened_says}
+use Rattle.rock_open.proofs.Refusals.{ended_around, has_slots, none_around, one_count, handed_up, ok_is_no_error, open_told, opened_refused, opened_says, unfailed_around}
 use Rattle.rock_open.proofs.opening.open_within.Goals as goal
 
 pub returns-in-Err-clause-small : goal.returns-in-Err-clause-small
@@ -73,8 +74,11 @@ returns-in-Err-store_of-clause-refused g c =
     let after = counts (g.V.Volume.faults c.give_back.new.self) (g.V.Volume.made c.give_back.new.self) (g.V.Volume.ended c.give_back.new.self) in
     ⊎_elim
     (λ e. opened_refused _ _ _ _ _ _ _ _ _ _ _ _ (c.in-Ok.ensures.unfailed (λ w. cc)) c.in-Ok.ensures.made c.in-Ok.ensures.ended c.give_back.ensures.faults c.give_back.ensures.made c.give_back.ensures.ended
-    c.args.slot c.args.anchors slots fault (of_error _ c.kept_of-kept.result fault e c.kept_of-kept.ensures.refused))
-    (λ e. subst (ReadingEnds c.args.slot c.args.anchors before after) (sym e) tt)
+    c.args.slot c.args.anchors slots fault
+    (has_slots c.in-Ok.opened.bytes c.args.slot _ c.in-Ok.ensures.shape.room (ap length c.deref_mut.ensures.value ∙ sym (length-map c.in-Ok.opened.cells.items g.V.C.Cell.state) ∙ c.opened_slots_are_wide_and_few.ensures.count _ _ _ _ c.in-Ok.ensures.shape)
+    (c.slots_are_whole.ensures.none c.in-Ok.opened.bytes c.args.slot (let size = c.requires.size.from in omega arith)).0)
+    (of_error _ c.kept_of-kept.result fault e c.kept_of-kept.ensures.refused))
+    (λ e. subst (ReadingEnds c.args.slot c.args.anchors before after) (sym e.1) tt)
     c.in-Err-store_of.ensures.fault
 
 pub returns-in-Err-store_of-clause-says : goal.returns-in-Err-store_of-clause-says
@@ -84,7 +88,7 @@ returns-in-Err-store_of-clause-says g c t =
     ⊎_elim
     (λ e. opened_says files c.args.name.now c.args.slot c.args.anchors (length c.deref_mut.result.now) _ _ fault (rw c.deref_mut.ensures.value mine)
     (of_error _ c.kept_of-kept.result fault e c.kept_of-kept.ensures.refused))
-    (λ e. subst (FileSays files c.args.name.now c.args.slot c.args.anchors) (sym e) tt)
+    (λ e. subst (FileSays files c.args.name.now c.args.slot c.args.anchors) (sym e.1) tt)
     c.in-Err-store_of.ensures.fault
 
 pub returns-in-Err-store_of-clause-unfit : goal.returns-in-Err-store_of-clause-unfit
@@ -104,3 +108,12 @@ returns-in-Err-store_of-clause-kept g c t =
     ∙ (ap (map g.V.C.Cell.state) whole ∙ (c.kept_of-kept.ensures.cells ∙ ap (map g.V.C.Cell.state) c.deref_mut.ensures.value)) in
     c.opened_cells_may_be_given_back.ensures.kept _ _ _ _ _ _ _ _ ((c.in-Ok.ensures.opened t).1)
     (handed_back _ _ (g.V.Volume.files c.give_back.new.self) c.args.name.now _ _ _ c.kept_of-kept.ensures.files same (λ slots slot rest found. c.give_back.ensures.back slots slot rest t found))
+
+pub returns-in-Ok-store_of-clause-unfailed : goal.returns-in-Ok-store_of-clause-unfailed
+returns-in-Ok-store_of-clause-unfailed g c none = unfailed_around _ _ _ _ _ _ _ _ _ _ _ _ (c.in-Ok.ensures.unfailed (λ w. cc)) c.in-Ok.ensures.made c.in-Ok.ensures.ended refl refl refl
+    (c.kept_of-kept.ensures.unfailed (ok_is_no_error c.kept_of-kept.result c.in-Ok-store_of.ensures.ok))
+
+pub returns-in-Err-store_of-clause-unfailed : goal.returns-in-Err-store_of-clause-unfailed
+returns-in-Err-store_of-clause-unfailed g c none = unfailed_around _ _ _ _ _ _ _ _ _ _ _ _ (c.in-Ok.ensures.unfailed (λ w. cc)) c.in-Ok.ensures.made c.in-Ok.ensures.ended
+    c.give_back.ensures.faults c.give_back.ensures.made c.give_back.ensures.ended
+    (c.kept_of-kept.ensures.unfailed (handed_up c.kept_of-kept.result c.in-Err-store_of.field-0.fault c.in-Err-store_of.ensures.fault none))
