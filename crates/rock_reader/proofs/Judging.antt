@@ -17,7 +17,7 @@ use Rattle.core_model.specs.declared.view.Sight.{Sight}
 use Rattle.core_model.specs.declared.view.View.{View}
 use Rattle.store_rule.specs.declared.store.Pass.{Pass}
 use Rattle.store_rule.specs.declared.store.Store.{Store}
-use Rattle.store_rule.specs.Ground.{Ground, MayName, Offers}
+use Rattle.store_rule.specs.Ground.{Ground, MayName, Offers, anchor_for}
 use Rattle.store_rule.specs.Passes.{IsOf, May, basis, view}
 use Rattle.store_rule.specs.Told.{Steps}
 use Rattle.store_rule.proofs.Passing.{pass_of}
@@ -26,7 +26,7 @@ use Rattle.rw_anchor.specs.Calls.{Found}
 use Rattle.slice_chain.specs.Names.{MayLoadNames}
 use Rattle.slice_chain.proofs.Writing.{set_again}
 use Rattle.rock_reader.specs.Closing.{MayPart, Parted}
-use Rattle.rock_reader.specs.Opening.{Accepted, Came, Declined, MayJudge, MayOpen, OpenedEntry, Refused, home_of, opened}
+use Rattle.rock_reader.specs.Opening.{Accepted, Came, Declined, MayJudge, MayOpen, OpenedEntry, Refused, opened}
 use Rattle.rock_reader.proofs.Coming.{came_tabs, entered_else, entered_readable, fresh_on, key_sees, parted_sees, step_sees}
 
 module _ {C O : Type 0} (tells : Bool) (state : C → CellState) (offers : O → Offers) (s : Store C O) (t : ℕ) where
@@ -34,7 +34,7 @@ module _ {C O : Type 0} (tells : Bool) (state : C → CellState) (offers : O →
   g = basis tells state offers s
 
   module _ (p : Pass C) (url : List ℕ) (may : MayOpen tells state offers s p t url) where
-    pub may_share : (a : ℕ) → a ≡ home_of g url → a < g.setting.anchors → May tells state offers s p (Enter t a)
+    pub may_share : (a : ℕ) → a ≡ anchor_for g url → a < g.setting.anchors → May tells state offers s p (Enter t a)
     may_share a e lt = record {
       own = may.own;
       can = record { allowed = (lt, (let b = may.below in omega arith), may.free); chooses = tt; names = subst (MayName g (view p)) (sym e) may.names };
@@ -76,7 +76,7 @@ module _ {C O : Type 0} (tells : Bool) (state : C → CellState) (offers : O →
       free_again w e2 = e2 ∙ ap (λ (xs : List (Tab (List ℕ))). set xs t Tab.Free) tabs ∙ set_again (view p).tabs t (entered a (epoch_number e)) Tab.Free
           ∙ ap (set (view p).tabs t) (sym may.free) ∙ set-get_or (view p).tabs t Tab.Free
 
-      came : a ≡ home_of g url → (w : View (List ℕ)) → ((x : Sight) → Contains (view q).seen x → Contains w.seen x) → Came g t url (view p) e (view q) w
+      came : a ≡ anchor_for g url → (w : View (List ℕ)) → ((x : Sight) → Contains (view q).seen x → Contains w.seen x) → Came g t url (view p) e (view q) w
       came same w on = record {
         found = found.made.found;
         enter = subst (λ (z : ℕ). Steps g (view p) (Enter t z) found.made.found (view q)) same found.made.step;
@@ -86,7 +86,7 @@ module _ {C O : Type 0} (tells : Bool) (state : C → CellState) (offers : O →
 
       -- What the call comes to.
 
-      pub opened_entry : a ≡ home_of g url → IsReadable e → (version : ℕ) (w : View (List ℕ)) → w.tabs ≡ (view q).tabs → Accepted g t (key_of url) e (view q) version w → OpenedEntry g t url (view p) version w
+      pub opened_entry : a ≡ anchor_for g url → IsReadable e → (version : ℕ) (w : View (List ℕ)) → w.tabs ≡ (view q).tabs → Accepted g t (key_of url) e (view q) version w → OpenedEntry g t url (view p) version w
       opened_entry same h version w stays ok = record {
         epoch = e;
         entered = view q;
@@ -96,7 +96,7 @@ module _ {C O : Type 0} (tells : Bool) (state : C → CellState) (offers : O →
         tabs = stays ∙ opened_tabs h ∙ (λ i. with_tab (view p) t (Tab.Reading (opened (same i) (sym ok.version_is i))));
       }
 
-      pub turned_away : a ≡ home_of g url → (IsReadable e → ⊥) → (cause : Cause) (w : View (List ℕ)) → ((key : List ℕ) → cause_of e key (key_of url) ≡ Some cause) → Parted g t (view q) w → Refused g t url (view p) cause w
+      pub turned_away : a ≡ anchor_for g url → (IsReadable e → ⊥) → (cause : Cause) (w : View (List ℕ)) → ((key : List ℕ) → cause_of e key (key_of url) ≡ Some cause) → Parted g t (view q) w → Refused g t url (view p) cause w
       turned_away same h cause w is parted = inl record {
         epoch = e;
         entered = view q;
@@ -106,7 +106,7 @@ module _ {C O : Type 0} (tells : Bool) (state : C → CellState) (offers : O →
         parted = parted;
       }
 
-      pub found_other : a ≡ home_of g url → IsReadable e → (cause : Cause) (w : View (List ℕ)) → Declined g t (key_of url) e (view q) cause w → Refused g t url (view p) cause w
+      pub found_other : a ≡ anchor_for g url → IsReadable e → (cause : Cause) (w : View (List ℕ)) → Declined g t (key_of url) e (view q) cause w → Refused g t url (view p) cause w
       found_other same h cause w declined = inr record {
         epoch = e;
         entered = view q;
@@ -116,7 +116,7 @@ module _ {C O : Type 0} (tells : Bool) (state : C → CellState) (offers : O →
       }
 
       -- by what judging it came to
-      module _ (same : a ≡ home_of g url) (h : IsReadable e) (wanted : List ℕ) (key : wanted ≡ key_of url) (w : View (List ℕ)) where
+      module _ (same : a ≡ anchor_for g url) (h : IsReadable e) (wanted : List ℕ) (key : wanted ≡ key_of url) (w : View (List ℕ)) where
         pub judged_open : (r : Result ℕ Cause) → IfOk r (λ version. Accepted g t wanted e (view q) version w) → OnOk r (w.tabs ≡ (view q).tabs) → IfOk r (λ version. OpenedEntry g t url (view p) version w)
         judged_open (Ok version) ok stays = opened_entry same h version w stays (subst (λ (k : List ℕ). Accepted g t k e (view q) version w) key ok)
         judged_open (Err cause) ok stays = tt

@@ -14,15 +14,15 @@ use Rattle.store_rule.specs.declared.store.Desk.{Desk}
 use Rattle.store_rule.specs.declared.store.Pass.{Pass}
 use Rattle.store_rule.specs.declared.store.Store.{Store}
 use Rattle.store_rule.specs.Drafts.{draft_at}
-use Rattle.store_rule.specs.Ground.{Ground, Offers}
+use Rattle.store_rule.specs.Ground.{Ground, Offers, anchor_for}
 use Rattle.store_rule.specs.Lending.{buffer_at, with_buffer_at, with_bytes}
 use Rattle.store_rule.specs.Passes.{IsOf, basis, view}
 use Rattle.store_rule.specs.Told.{the_view}
 use Rattle.store_rule.proofs.Drafting.{drafted_own}
 use Rattle.store_rule.proofs.Lending.{lent_own}
 use Rattle.store_rule.proofs.Passing.{pass_of}
-use Rattle.rock_reader.specs.Closing.{FollowsTab}
-use Rattle.rock_reader.specs.Opening.{OpenedEntry, home_of, opened}
+use Rattle.slice_chain.specs.Freeing.{FollowsTab}
+use Rattle.rock_reader.specs.Opening.{OpenedEntry, opened}
 use Rattle.rock_reader.specs.Reading.{ReadsAs, newly}
 use Rattle.rock_reader.specs.Wanted.{FollowsReader, KeepsUrl, kept_of}
 use Rattle.rock_reader.proofs.Coming.{load_tabs, offer_start}
@@ -70,28 +70,28 @@ module _ {C O : Type 0} (tells : Bool) (state : C → CellState) (offers : O →
       pub opened_kept : OpenedEntry g t url (view p) version (view q)
       opened_kept = subst (OpenedEntry g t url (view p) version) (sym view_is) entry
 
-      tab_is : tab_at (view u) t ≡ Reading (opened (home_of g url) version)
-      tab_is = ap (λ (xs : List (Tab (List ℕ))). get_or xs t Tab.Free) entry.tabs ∙ get_or-set_same (view p).tabs t (Reading (opened (home_of g url) version)) Tab.Free (let n = pass_of p in let b = below in omega arith)
+      tab_is : tab_at (view u) t ≡ Reading (opened (anchor_for g url) version)
+      tab_is = ap (λ (xs : List (Tab (List ℕ))). get_or xs t Tab.Free) entry.tabs ∙ get_or-set_same (view p).tabs t (Reading (opened (anchor_for g url) version)) Tab.Free (let n = pass_of p in let b = below in omega arith)
 
-      keyed_is : tab_at entry.accepted.keyed t ≡ Reading (opened (home_of g url) version)
+      keyed_is : tab_at entry.accepted.keyed t ≡ Reading (opened (anchor_for g url) version)
       keyed_is = ap (λ (xs : List (Tab (List ℕ))). get_or xs t Tab.Free) (sym (load_tabs g entry.accepted.keyed (view u) t _ Offer offer_start entry.accepted.loaded)) ∙ tab_is
 
-      seen_is : (view u).seen ≡ Named (home_of g url) version Offer entry.accepted.offer ∷ entry.accepted.keyed.seen
+      seen_is : (view u).seen ≡ Named (anchor_for g url) version Offer entry.accepted.offer ∷ entry.accepted.keyed.seen
       seen_is = ap View.seen entry.accepted.loaded.leaves ∙ ap (λ (x : Tab (List ℕ)). loads x Offer entry.accepted.offer ++ entry.accepted.keyed.seen) keyed_is
 
-      pub reads_kept : slot ≡ g.slot → (offer : ℕ) × ReadsAs tells state offers s q t (newly (home_of g url) version offer url)
+      pub reads_kept : slot ≡ g.slot → (offer : ℕ) × ReadsAs tells state offers s q t (newly (anchor_for g url) version offer url)
       reads_kept wide = (
         entry.accepted.offer,
         record {
           own = own_is;
           below = below;
-          reader = opened (home_of g url) version;
+          reader = opened (anchor_for g url) version;
           is = ap (λ (v : View (List ℕ)). tab_at v t) view_is ∙ tab_is;
           idle = refl;
           anchor_is = refl;
           version_is = refl;
           place_is = refl;
-          offer_seen = subst (λ (xs : List Sight). Contains xs (Named (home_of g url) version Offer entry.accepted.offer)) (sym (ap View.seen view_is ∙ seen_is)) (0, omega arith, refl);
+          offer_seen = subst (λ (xs : List Sight). Contains xs (Named (anchor_for g url) version Offer entry.accepted.offer)) (sym (ap View.seen view_is ∙ seen_is)) (0, omega arith, refl);
           inside = omega arith;
           at_end = λ none some. absurd (omega arith);
           wanted = λ f. keeps.kept ∙ ap (λ (n : ℕ). kept_of n url) wide;

@@ -20,9 +20,9 @@ use Rattle.store_rule.proofs.Passing.{pass_of}
 use Rattle.pass_calls.specs.Calls.{Follows}
 use Rattle.rw_anchor.specs.Calls.{GivenUp, Gone, LeftLast, Leaves}
 use Rattle.rw_anchor.specs.declared.Left.{Left}
-use Rattle.slice_chain.specs.Freeing.{Freed, MayFreeChain}
+use Rattle.slice_chain.specs.Freeing.{FollowsTab, Freed, MayFreeChain}
 use Rattle.slice_chain.proofs.Writing.{set_again}
-use Rattle.rock_reader.specs.Closing.{FollowsTab, MayClose, MayPart}
+use Rattle.rock_reader.specs.Closing.{MayClose, MayPart}
 
 module _ {X : Type 0} where
   -- a tab that is counted is not last

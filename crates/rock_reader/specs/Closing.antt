@@ -1,13 +1,12 @@
 -- A tab leaves the entry that it reads, or the anchor where it found nothing to read.
-use Rattle.std.specs.Prelude.{Bool, false, slice_index, true, ◌<◌, ◌≡◌, ◌≢◌, ◌⊎◌, ℕ}
+use Rattle.std.specs.Prelude.{Bool, false, true, ◌<◌, ◌≡◌, ◌⊎◌, ℕ}
 use Rattle.rock_disk.specs.Cell.{CellState}
 use Rattle.core_model.specs.Tabs.{InnerIsFree, OfReader, has_turn, holds_turn, inner, is_counted, tab_at}
 use Rattle.core_model.specs.declared.view.View.{View}
 use Rattle.store_rule.specs.declared.store.Pass.{Pass}
 use Rattle.store_rule.specs.declared.store.Store.{Store}
 use Rattle.store_rule.specs.Ground.{Ground, Offers}
-use Rattle.store_rule.specs.Passes.{IsOf, hand, view}
-use Rattle.pass_calls.specs.Calls.{Others}
+use Rattle.store_rule.specs.Passes.{IsOf, view}
 use Rattle.rw_anchor.specs.Calls.{Leaves}
 use Rattle.rw_anchor.specs.declared.Left.{Left}
 use Rattle.slice_chain.specs.Freeing.{Freed}
@@ -27,16 +26,6 @@ module _ {C O : Type 0} (tells : Bool) (state : C → CellState) (offers : O →
     pub below : t < inner
     pub inner_free : InnerIsFree (view p)
     pub reads : OfReader (λ r. has_turn r.turn ≡ false) (tab_at (view p) t)
-
-  -- the pass is of the store still, and all but this tab and the inner one is as it was
-  pub record FollowsTab (s : Store C O) (t : ℕ) (p q : Pass C) : Type 0 where
-    pub own : IsOf tells state offers s q
-    pub others : Others t (view p) (view q)
-    pub left : (j : ℕ) → j ≢ t → j ≢ inner → slice_index q.left j ≡ slice_index p.left j
-    pub places : hand q ≡ hand p
-    pub desks : q.desks ≡ p.desks
-    pub hand : q.hand ≡ p.hand
-    pub cells : q.cells ≡ p.cells
 
 module _ {X : Type 0} (g : Ground X) (t : ℕ) (v w : View X) where
   -- it left, and there is nothing that this pass has to free

@@ -7,7 +7,6 @@ use Rattle.lock_word.specs.declared.cause.Cause.{Cause}
 use Rattle.lock_word.specs.declared.epoch.Epoch.{Epoch}
 use Rattle.link_word.specs.declared.link.Link.TheVariants.{NotWritten}
 use Rattle.rock_disk.specs.Cell.{CellState}
-use Rattle.store_key.specs.Anchor.{anchor_of}
 use Rattle.store_key.specs.Key.{key_of}
 use Rattle.core_model.specs.Tabs.{InnerIsFree, inner, tab_at, with_tab}
 use Rattle.core_model.specs.declared.moves.Move.TheVariants.{Enter, LoadSide}
@@ -18,16 +17,12 @@ use Rattle.core_model.specs.declared.tab.Turn.TheVariants.{NoTurn}
 use Rattle.core_model.specs.declared.view.View.{View}
 use Rattle.store_rule.specs.declared.store.Pass.{Pass}
 use Rattle.store_rule.specs.declared.store.Store.{Store}
-use Rattle.store_rule.specs.Ground.{Ground, MayName, Offers}
+use Rattle.store_rule.specs.Ground.{Ground, MayName, Offers, anchor_for}
 use Rattle.store_rule.specs.Passes.{IsOf, basis, view}
 use Rattle.store_rule.specs.Told.{Steps}
 use Rattle.pass_calls.specs.Calls.{IsFresh}
 use Rattle.slice_chain.specs.Names.{KeyLoaded}
 use Rattle.rock_reader.specs.Closing.{Parted}
-
--- the anchor that entries of a URL belong to
-abbrev pub home_of : {X : Type 0} → Ground X → List ℕ → ℕ
-home_of g url = anchor_of (key_of url) g.setting.anchors
 
 -- a tab that has just been opened reads from the first slot on
 abbrev pub opened : {X : Type 0} → (anchor version : ℕ) → Reader X
@@ -39,7 +34,7 @@ pub record MayOpen {C O : Type 0} (tells : Bool) (state : C → CellState) (offe
   pub below : t < inner
   pub free : tab_at (view p) t ≡ Free
   pub inner_free : InnerIsFree (view p)
-  pub names : MayName (basis tells state offers s) (view p) (home_of (basis tells state offers s) url)
+  pub names : MayName (basis tells state offers s) (view p) (anchor_for (basis tells state offers s) url)
 
 -- The tab has just been opened, and so far nothing but the epoch of its entry is known.
 pub record MayJudge {C O : Type 0} (tells : Bool) (state : C → CellState) (offers : O → Offers) (s : Store C O) (p : Pass C) (t : ℕ) (epoch : Epoch) : Type 0 where
@@ -73,9 +68,9 @@ module _ {X : Type 0} (g : Ground X) (t : ℕ) (url : List ℕ) (v : View X) whe
   -- seen there.
   pub record Came (epoch : Epoch) (entered w : View X) : Type 0 where
     pub found : ℕ
-    pub enter : Steps g v (Enter t (home_of g url)) found entered
+    pub enter : Steps g v (Enter t (anchor_for g url)) found entered
     pub epoch_is : epoch_of found ≡ epoch_number epoch
-    pub fresh : IsFresh (home_of g url) (epoch_number epoch) v w
+    pub fresh : IsFresh (anchor_for g url) (epoch_number epoch) v w
 
   -- The entry could be read, and has the URL's key. The tab reads it.
   pub record OpenedEntry (version : ℕ) (w : View X) : Type 0 where
@@ -84,7 +79,7 @@ module _ {X : Type 0} (g : Ground X) (t : ℕ) (url : List ℕ) (v : View X) whe
     pub came : Came epoch entered w
     pub readable : IsReadable epoch
     pub accepted : Accepted g t (key_of url) epoch entered version w
-    pub tabs : w.tabs ≡ with_tab v t (Reading (opened (home_of g url) version))
+    pub tabs : w.tabs ≡ with_tab v t (Reading (opened (anchor_for g url) version))
 
   -- there was no entry to read, whatever its key, and the tab left again
   pub record TurnedAway (cause : Cause) (w : View X) : Type 0 where

@@ -5,6 +5,7 @@ use Rattle.lock_word.specs.declared.epoch.Epoch.{Epoch}
 use Rattle.lock_word.specs.declared.stage.Stage.{Stage}
 use Rattle.link_word.specs.declared.link.Link.{Link}
 use Rattle.link_word.specs.declared.link.Link.TheVariants.{NotWritten}
+use Rattle.slot_cell.specs.declared.header.TheConstants.{HEADER_SIZE}
 use Rattle.rock_disk.specs.Cell.{CellState}
 use Rattle.core_model.specs.Tabs.{OfReader, anchor_of, inner, tab_at}
 use Rattle.core_model.specs.declared.moves.Move.TheVariants.{Look}
@@ -81,7 +82,7 @@ module _ {C O : Type 0} (tells : Bool) (state : C → CellState) (offers : O →
     pub below : t < inner
     pub reads : OfReader (λ r. r.turn ≡ NoTurn) (tab_at (view p) t)
     pub held : held_at p.desks t ≤ (basis tells state offers s).slot
-    pub enough : (basis tells state offers s).slot ≤ room + 40
+    pub enough : (basis tells state offers s).slot ≤ room + HEADER_SIZE
 
 module _ {X : Type 0} (g : Ground X) (t : ℕ) where
   -- the anchor of the tab was looked at, and then the link of the slot at its place

@@ -1,7 +1,8 @@
 // A tab leaves the entry that it reads.
 ghost use Rattle.core_model.specs.Tabs.{tab_at, with_tab};
 ghost use Rattle.core_model.specs.declared.tab.Tab.TheVariants.{Free};
-ghost use Rattle.rock_reader.specs.Closing.{FollowsTab, MayClose, MayPart, Parted};
+ghost use Rattle.rock_reader.specs.Closing.{MayClose, MayPart, Parted};
+ghost use Rattle.slice_chain.specs.Freeing.{FollowsTab};
 ghost use Rattle.std.specs.Prelude.{◌≡◌};
 ghost use Rattle.store_rule.specs.Passes.{basis, view};
 

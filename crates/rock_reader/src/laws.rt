@@ -4,6 +4,7 @@ ghost use Rattle.rebuild_model.specs.declared.rebuilt.Rebuilt.{Rebuilt};
 ghost use Rattle.store_rule.specs.Rebuilding.{chain_kept};
 ghost use Rattle.rock_reader.specs.Responses.{HoldsFile, IsResponse, body_below, pieces_of};
 ghost use Rattle.std.specs.Prelude.{List, length, ◌+◌, ◌++◌, ◌<◌, ◌≡◌, ◌≤◌, ℕ};
+ghost use Rattle.slot_cell.specs.declared.header.TheConstants.{HEADER_SIZE};
 ghost use Rattle.store_rule.specs.Ground.{Ground};
 ghost use Rattle.core_model.specs.Tabs.{InnerIsFree};
 ghost use Rattle.rock_reader.specs.Closing.{MayClose};
@@ -37,7 +38,7 @@ pub fn opened_stores_hold_their_files()
 /// closed, where the inner tab is free.
 pub fn reading_tabs_may_go_on<C: Cell, O: Origin>()
     ensures more { (store : Store C O) (pass : Pass C) (tab room : ℕ) (e : Standing) → ReadsAs C.tells C.state O.offers store pass tab e
-        → (basis C.tells C.state O.offers store).slot ≤ room + 40 → MayRead C.tells C.state O.offers store pass tab room }
+        → (basis C.tells C.state O.offers store).slot ≤ room + HEADER_SIZE → MayRead C.tells C.state O.offers store pass tab room }
     ensures close { (store : Store C O) (pass : Pass C) (tab : ℕ) (e : Standing) → ReadsAs C.tells C.state O.offers store pass tab e
         → InnerIsFree (view pass) → MayClose C.tells C.state O.offers store pass tab }
 {}

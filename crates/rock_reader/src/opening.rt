@@ -3,8 +3,9 @@ ghost use Rattle.core_model.specs.Tabs.{with_tab};
 ghost use Rattle.core_model.specs.declared.tab.Tab.TheVariants.{Free};
 ghost use Rattle.lock_word.specs.Cause.{cause_of};
 ghost use Rattle.lock_word.specs.Life.{IsReadable};
-ghost use Rattle.rock_reader.specs.Closing.{FollowsTab};
-ghost use Rattle.rock_reader.specs.Opening.{Accepted, Declined, MayJudge, MayOpen, OpenedEntry, Refused, home_of};
+ghost use Rattle.slice_chain.specs.Freeing.{FollowsTab};
+ghost use Rattle.store_rule.specs.Ground.{anchor_for};
+ghost use Rattle.rock_reader.specs.Opening.{Accepted, Declined, MayJudge, MayOpen, OpenedEntry, Refused};
 ghost use Rattle.rock_reader.specs.Reading.{ReadsAs, newly};
 ghost use Rattle.rock_reader.specs.Wanted.{FollowsReader};
 ghost use Rattle.std.specs.Prelude.{IfErr, IfOk, List, OnErr, OnOk, Some, ◌≡◌, ℕ};
@@ -37,7 +38,7 @@ pub fn open_entry<C: Cell, O: Origin>(
     requires { MayOpen C.tells C.state O.offers store.now pass.old tab url.now }
     ensures ok { IfOk result (λ version. OpenedEntry (basis C.tells C.state O.offers store.now) tab url.now (view pass.old) version (view pass.new)) }
     ensures err { IfErr result (λ cause. Refused (basis C.tells C.state O.offers store.now) tab url.now (view pass.old) cause (view pass.new)) }
-    ensures reads { IfOk result (λ version. (offer : ℕ) × ReadsAs C.tells C.state O.offers store.now pass.new tab (newly (home_of (basis C.tells C.state O.offers store.now) url.now) version offer url.now)) }
+    ensures reads { IfOk result (λ version. (offer : ℕ) × ReadsAs C.tells C.state O.offers store.now pass.new tab (newly (anchor_for (basis C.tells C.state O.offers store.now) url.now) version offer url.now)) }
     ensures free { OnErr result ((view pass.new).tabs ≡ (view pass.old).tabs) }
     ensures refused { OnErr result (FollowsTab C.tells C.state O.offers store.now tab pass.old pass.new) }
     ensures others { FollowsReader C.tells C.state O.offers store.now tab pass.old pass.new }

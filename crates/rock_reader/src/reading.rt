@@ -8,6 +8,7 @@ ghost use Rattle.rock_reader.specs.Bodies.{IsOfEntry, body_of};
 ghost use Rattle.rock_reader.specs.Reading.{Delivered, Gave, LookedAt, MayRead, ReadsAs, Standing};
 ghost use Rattle.rock_reader.specs.Wanted.{FollowsReader, held_at, kept_at};
 ghost use Rattle.slice_chain.specs.Links.{MayLocate};
+ghost use Rattle.slot_cell.specs.declared.header.TheConstants.{HEADER_SIZE};
 ghost use Rattle.std.specs.Prelude.{None, ◌+◌, ◌≡◌, ◌≢◌, ◌<◌, ◌≤◌, ◌↔◌, ◌⊎◌, ◌++◌, drop, length, take};
 ghost use Rattle.store_rule.specs.Drafts.{draft_at};
 ghost use Rattle.store_rule.specs.Lending.{buffer_at};
@@ -182,7 +183,7 @@ fn give<C: Cell, O: Origin>(
 ) -> More
     requires below { tab < 8 }
     requires held { held_at pass.old.desks tab ≤ length (buffer_at pass.old.desks tab) }
-    requires room { length (buffer_at pass.old.desks inner) ≤ length out.old + 40 }
+    requires room { length (buffer_at pass.old.desks inner) ≤ length out.old + HEADER_SIZE }
     ensures given { Delivered tab (basis C.tells C.state O.offers store.now).setting.slots place pass.old out.old out.new pass.new result }
     ensures length { length out.new ≡ length out.old }
 {

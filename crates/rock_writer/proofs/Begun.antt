@@ -1,14 +1,13 @@
 -- An anchor is taken for a new entry, and the entry named.
-use Rattle.std.proofs.Common.{Bool, Contains, List, None, Option, Some, [], ap, arith, eq-eqb, false, get_or, get_or-set_other, get_or-set_same, inl, inr, length, length-set, max, refl, set, subst, sym, true, unwrap_or, ◌+◌, ◌-◌, ◌<◌, ◌≡◌, ◌≢◌, ◌≤◌, ◌⊎◌, ◌∙◌, ⊎_elim, ℕ}
+use Rattle.std.proofs.Common.{Bool, List, None, Some, [], ap, arith, eq-eqb, false, get_or, get_or-set_other, get_or-set_same, inl, inr, length, length-set, refl, set, subst, sym, true, ◌+◌, ◌<◌, ◌≡◌, ◌≤◌, ◌⊎◌, ◌∙◌, ⊎_elim, ℕ}
 use Rattle.std.proofs.lemmas.Bool.{false≢true}
 use Rattle.lock_word.proofs.Testing.{vacant-idle}
-use Rattle.lock_word.specs.Words.{IsInRange, epoch_number, epoch_of, is_idle, is_vacant, word_number}
-use Rattle.lock_word.specs.declared.word.Word.{Word}
+use Rattle.lock_word.specs.Words.{epoch_of, is_idle, is_vacant}
 use Rattle.rock_disk.specs.Cell.{CellState}
 use Rattle.store_key.specs.Anchor.{anchor_of, back_half, front_half}
 use Rattle.store_key.specs.Key.{key_of}
 use Rattle.entry_cut.specs.Content.{room_of}
-use Rattle.core_model.specs.AnchorMoves.{freer_of, taken_tabs, writer_of}
+use Rattle.core_model.specs.AnchorMoves.{freer_of, writer_of}
 use Rattle.core_model.specs.SlotMoves.{stored, stores}
 use Rattle.core_model.specs.Steps.{chain_found}
 use Rattle.core_model.specs.Tabs.{InnerIsFree, IsPass, OfWriter, inner, is_free, tab_at, with_tab}
@@ -23,15 +22,15 @@ use Rattle.core_model.proofs.AnchorKinds.{sees_now}
 use Rattle.link_word.specs.declared.link.Link.TheVariants.{NotWritten}
 use Rattle.store_rule.specs.declared.store.Pass.{Pass}
 use Rattle.store_rule.specs.declared.store.Store.{Store}
-use Rattle.store_rule.specs.Ground.{Ground, IsOfferFor, MayName, Offers, url_of}
-use Rattle.store_rule.specs.Passes.{IsOf, Made, May, basis, view}
-use Rattle.store_rule.specs.Told.{Steps, found_as}
+use Rattle.store_rule.specs.Ground.{Ground, IsOfferFor, Offers, anchor_for, url_of}
+use Rattle.store_rule.specs.Passes.{IsOf, May, basis, view}
+use Rattle.store_rule.specs.Told.{Steps}
 use Rattle.store_rule.proofs.Passing.{pass_of}
 use Rattle.rw_anchor.specs.Calls.{Drew}
 use Rattle.rw_anchor.proofs.Drawing.{may_take, same_find, same_tabs}
 use Rattle.slice_chain.specs.Freeing.{Freed}
 use Rattle.slice_chain.specs.Names.{MayNameEntry, Named}
-use Rattle.rock_writer.specs.Beginning.{IsTooLong, MayBegin, MayClear, MayTakeAnchor, TookAnchor, WasIdle, WasVacant, anchor_for, begun}
+use Rattle.rock_writer.specs.Beginning.{IsTooLong, MayBegin, MayClear, MayTakeAnchor, TookAnchor, WasIdle, WasVacant, begun}
 use Rattle.rock_writer.specs.Entries.{Drafts, WritesAs, writer_as}
 use Rattle.rock_writer.proofs.Resting.{inner_now, nine_now, tab_now}
 use Rattle.rock_writer.proofs.Seeing.{Grows, grows_on, grows_step}

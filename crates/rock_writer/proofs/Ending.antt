@@ -1,8 +1,8 @@
 -- The last piece of an entry, and the entry closed.
-use Rattle.std.proofs.Common.{Bool, List, None, Option, Some, [], ap, arith, false, inl, length, refl, subst, sym, true, ◌*◌, ◌++◌, ◌+◌, ◌-◌, ◌/◌, ◌<◌, ◌≡◌, ◌≤◌, ◌↔◌, ◌∙◌, ◌∷◌, ℕ}
+use Rattle.std.proofs.Common.{Bool, List, None, [], ap, arith, false, inl, length, refl, subst, sym, true, ◌++◌, ◌+◌, ◌-◌, ◌/◌, ◌≡◌, ◌↔◌, ◌∙◌, ◌∷◌, ℕ}
 use Rattle.std.proofs.lemmas.Bool.{false≢true}
 use Rattle.link_word.specs.declared.link.Link.TheVariants.{Last as LastLink}
-use Rattle.lock_word.specs.Words.{IsInRange, doom_number, doom_of, epoch_number, epoch_of, word_number}
+use Rattle.lock_word.specs.Words.{IsInRange, doom_number, doom_of, epoch_of, word_number}
 use Rattle.lock_word.specs.declared.stage.Stage.TheVariants.{Closed}
 use Rattle.lock_word.specs.declared.word.Word.{Word}
 use Rattle.lock_word.proofs.Parts.{doom_of-epoch_number, epoch_of-word_number}
@@ -12,9 +12,8 @@ use Rattle.entry_cut.specs.declared.piece.Behind.TheVariants.{End}
 use Rattle.core_model.specs.AllowedByView.{StoredStart}
 use Rattle.core_model.specs.AnchorMoves.{MayRaise}
 use Rattle.core_model.specs.Chains.{first_of}
-use Rattle.core_model.specs.Tabs.{InnerIsFree, OfWriter, anchor_of, tab_at}
+use Rattle.core_model.specs.Tabs.{OfWriter, anchor_of, tab_at}
 use Rattle.core_model.specs.declared.moves.Move.TheVariants.{Raise}
-use Rattle.core_model.specs.declared.tab.Tab.TheVariants.{Writing}
 use Rattle.store_rule.specs.declared.store.Desk.{Desk}
 use Rattle.store_rule.specs.declared.store.Pass.{Pass}
 use Rattle.store_rule.specs.declared.store.Store.{Store}

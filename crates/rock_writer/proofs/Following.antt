@@ -1,16 +1,17 @@
 -- What a call leaves as it was, from one call that it makes to the next.
-use Rattle.std.proofs.Common.{Bool, ap, refl, ◌≡◌, ◌≢◌, ◌∙◌, ℕ}
+use Rattle.std.proofs.Common.{Bool, ap, refl, ◌≡◌, ◌∙◌, ℕ}
 use Rattle.rock_disk.specs.Cell.{CellState}
 use Rattle.core_model.specs.Tabs.{tab_at}
 use Rattle.store_rule.specs.declared.store.Pass.{Pass}
 use Rattle.store_rule.specs.declared.store.Store.{Store}
 use Rattle.store_rule.specs.Ground.{Offers}
 use Rattle.core_model.specs.declared.tab.Tab.{Tab}
-use Rattle.store_rule.specs.Passes.{IsOf, Keeps, hand, view}
+use Rattle.store_rule.specs.Passes.{IsOf, Keeps, view}
 use Rattle.pass_calls.specs.Calls.{Follows}
 use Rattle.slice_chain.specs.Victims.{FollowsEvicting}
 use Rattle.rock_writer.specs.Drafting.{DeskMoves}
-use Rattle.rock_writer.specs.Passes.{FollowsHalting, FollowsWriting}
+use Rattle.slice_chain.specs.Freeing.{FollowsTab}
+use Rattle.rock_writer.specs.Passes.{FollowsWriting}
 use Rattle.rock_writer.proofs.Publishing.{same_view}
 use Rattle.std.specs.Prelude.{Err, IsErrOf, Ok, OnErr, OnOk, Result, slice_get}
 
@@ -60,7 +61,7 @@ module _ {C O : Type 0} (tells : Bool) (state : C → CellState) (offers : O →
   pub writing_evicting : (p q : Pass C) → FollowsEvicting tells state offers s t p q → FollowsWriting tells state offers s t p q
   writing_evicting p q h = record { own = h.own; others = h.others; left = h.left; places = h.places; desks = λ j ne. ap (λ d. slice_get d j) h.desks; cells = h.cells }
 
-  pub writing_halting : (p q : Pass C) → FollowsHalting tells state offers s t p q → FollowsWriting tells state offers s t p q
+  pub writing_halting : (p q : Pass C) → FollowsTab tells state offers s t p q → FollowsWriting tells state offers s t p q
   writing_halting p q h = record { own = h.own; others = h.others; left = h.left; places = h.places; desks = λ j ne. ap (λ d. slice_get d j) h.desks; cells = h.cells }
 
   pub writing_desk : (p q : Pass C) → DeskMoves t p q → IsOf tells state offers s q → FollowsWriting tells state offers s t p q

@@ -1,5 +1,5 @@
 -- Slots that a tab reserved and did not link are given back.
-use Rattle.std.proofs.Common.{Bool, Contains, List, None, Option, Some, [], ap, arith, cond, eq-eqb, false, get_or, get_or-set_other, get_or-set_same, inl, length, length-set, ne_eqb, not, refl, set, subst, sym, true, unwrap_or, ◌+◌, ◌<◌, ◌==◌, ◌≡◌, ◌≢◌, ◌≤◌, ◌∙◌, ◌∷◌, ℕ}
+use Rattle.std.proofs.Common.{Contains, List, None, Option, Some, [], ap, arith, eq-eqb, false, get_or-set_other, get_or-set_same, length, length-set, ne_eqb, refl, subst, sym, true, unwrap_or, ◌+◌, ◌<◌, ◌≡◌, ◌≢◌, ◌≤◌, ◌∙◌, ◌∷◌, ℕ}
 use Rattle.link_word.specs.declared.link.Link.{Link}
 use Rattle.link_word.specs.declared.link.Link.TheVariants.{Last as LastLink, Next, NotWritten}
 use Rattle.lock_word.specs.declared.stage.Stage.TheVariants.{Halted}

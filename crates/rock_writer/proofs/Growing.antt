@@ -4,7 +4,7 @@ use Rattle.std.proofs.lemmas.List.{length_push}
 use mathlib.Core.Logic.{dite}
 use native.Mathlib.Decide.{ℕ_discrete}
 use Rattle.link_word.specs.declared.link.Link.{Link}
-use Rattle.link_word.specs.declared.link.Link.TheVariants.{Last as LastLink, Next, NotWritten}
+use Rattle.link_word.specs.declared.link.Link.TheVariants.{Next}
 use Rattle.lock_word.specs.declared.stage.Stage.TheVariants.{Appending}
 use Rattle.rock_disk.specs.Cell.{CellState}
 use Rattle.entry_cut.specs.Content.{room_of}
@@ -16,7 +16,6 @@ use Rattle.core_model.specs.SlotMoves.{publishes, stores}
 use Rattle.core_model.specs.Tabs.{InnerIsFree, IsPass, OfWriter, inner, tab_at}
 use Rattle.core_model.specs.declared.moves.Move.TheVariants.{Raise}
 use Rattle.core_model.specs.declared.moves.Side.TheVariants.{Start}
-use Rattle.core_model.specs.declared.tab.Tab.{Tab}
 use Rattle.core_model.specs.declared.tab.Tab.TheVariants.{Writing}
 use Rattle.core_model.specs.declared.tab.Writer.{Writer}
 use Rattle.core_model.specs.declared.view.View.{View}
@@ -24,13 +23,13 @@ use Rattle.store_rule.specs.declared.store.Desk.{Desk}
 use Rattle.store_rule.specs.declared.store.Pass.{Pass}
 use Rattle.store_rule.specs.declared.store.Store.{Store}
 use Rattle.store_rule.specs.Drafts.{draft_at}
-use Rattle.store_rule.specs.Ground.{Ground, Offers, cut_of}
+use Rattle.store_rule.specs.Ground.{Ground, Offers}
 use Rattle.store_rule.specs.Passes.{IsOf, Made, May, basis, view}
 use Rattle.store_rule.proofs.Passing.{pass_of}
-use Rattle.slice_chain.specs.Links.{Published, PublishedFirst, PublishedMore, next_link}
-use Rattle.slice_chain.specs.Writes.{WroteSlot, chose}
+use Rattle.slice_chain.specs.Links.{Published, next_link}
+use Rattle.slice_chain.specs.Writes.{chose}
 use Rattle.rock_writer.specs.Drafting.{IsWhole}
-use Rattle.rock_writer.specs.Entries.{Drafts, Entry, GoesOn, Rests, WritesWith, not_empty, size_of, whole_in, writer_as, body_in, url_in}
+use Rattle.rock_writer.specs.Entries.{Entry, GoesOn, Rests, WritesWith, not_empty, whole_in, writer_as, body_in, url_in}
 use Rattle.core_model.specs.Table.{left_by}
 use Rattle.store_rule.specs.Told.{Steps}
 use Rattle.rock_writer.specs.Flushing.{MayFlush, MayPublishPiece, RaisedBefore, RaisedFirst, WrotePiece}

@@ -1,5 +1,5 @@
 -- A tab that raised its entry to an end parts from it.
-use Rattle.std.proofs.Common.{Bool, List, None, Option, Some, ap, arith, cond, eq-eqb, false, get_or, get_or-set_other, get_or-set_same, inl, inr, length-set, ne_eqb, refl, set, subst, sym, true, ◌<◌, ◌≡◌, ◌≢◌, ◌⊎◌, ◌∙◌, ⊎_elim, ℕ}
+use Rattle.std.proofs.Common.{Bool, List, ap, arith, eq-eqb, false, get_or, get_or-set_other, get_or-set_same, inl, inr, length-set, ne_eqb, refl, set, subst, sym, true, ◌<◌, ◌≡◌, ◌≢◌, ◌∙◌, ⊎_elim, ℕ}
 use Rattle.std.proofs.lemmas.Bool.{false≢true}
 use mathlib.Core.Option.{some}
 use lib.ListN.{get_elem?}
@@ -14,7 +14,7 @@ use Rattle.core_model.specs.Tabs.{InnerIsFree, IsPass, anchor_of, inner, is_free
 use Rattle.core_model.specs.Trails.{last_find}
 use Rattle.core_model.specs.declared.moves.Move.TheVariants.{Evict, Raise}
 use Rattle.core_model.specs.declared.tab.Tab.{Tab}
-use Rattle.core_model.specs.declared.tab.Tab.TheVariants.{Free, Freeing, Last, Writing}
+use Rattle.core_model.specs.declared.tab.Tab.TheVariants.{Freeing, Last, Writing}
 use Rattle.core_model.specs.declared.tab.Writer.{Writer}
 use Rattle.core_model.specs.declared.view.View.{View}
 use Rattle.core_model.proofs.Tabs.{tab_there}
@@ -23,27 +23,25 @@ use Rattle.store_rule.specs.declared.store.Store.{Store}
 use Rattle.store_rule.specs.Ground.{Ground, Offers}
 use Rattle.store_rule.specs.Passes.{IsOf, Made, basis, view}
 use Rattle.store_rule.specs.Tabs.{is_last}
-use Rattle.store_rule.specs.Told.{Steps}
 use Rattle.store_rule.proofs.Passing.{pass_of}
 use Rattle.pass_calls.specs.Calls.{Follows}
 use Rattle.rw_anchor.specs.Calls.{GivenUp, Leaves, MayGiveUp}
 use Rattle.rw_anchor.specs.declared.Left.{Left}
-use Rattle.slice_chain.specs.Freeing.{Freed, MayFreeChain}
-use Rattle.rock_writer.specs.Halting.{MayPart, Parted}
-use Rattle.rock_writer.specs.Passes.{FollowsHalting}
+use Rattle.slice_chain.specs.Freeing.{FollowsTab, Freed, MayFreeChain}
+use Rattle.rock_writer.specs.Halting.{MayPart}
 use Rattle.rock_writer.proofs.Standing as standing
 
 module _ {C O : Type 0} (tells : Bool) (state : C → CellState) (offers : O → Offers) (s : Store C O) where
-  pub halting_of : (t : ℕ) (p q : Pass C) → Follows tells state offers s t p q → FollowsHalting tells state offers s t p q
+  pub halting_of : (t : ℕ) (p q : Pass C) → Follows tells state offers s t p q → FollowsTab tells state offers s t p q
   halting_of t p q h = record { own = h.own; others = h.others; left = λ j ne far. h.left j ne; places = h.places; desks = h.desks; hand = h.hand; cells = h.cells }
 
-  pub halting_inner : (t : ℕ) (p q : Pass C) → Follows tells state offers s inner p q → FollowsHalting tells state offers s t p q
+  pub halting_inner : (t : ℕ) (p q : Pass C) → Follows tells state offers s inner p q → FollowsTab tells state offers s t p q
   halting_inner t p q h = record { own = h.own; others = λ j ne far. h.others j far far; left = λ j ne far. h.left j far; places = h.places; desks = h.desks; hand = h.hand; cells = h.cells }
 
-  pub halting_none : (t : ℕ) (p : Pass C) → IsOf tells state offers s p → FollowsHalting tells state offers s t p p
+  pub halting_none : (t : ℕ) (p : Pass C) → IsOf tells state offers s p → FollowsTab tells state offers s t p p
   halting_none t p own = record { own = own; others = λ j ne far. refl; left = λ j ne far. refl; places = refl; desks = refl; hand = refl; cells = refl }
 
-  pub halting_on : (t : ℕ) (p u q : Pass C) → FollowsHalting tells state offers s t p u → FollowsHalting tells state offers s t u q → FollowsHalting tells state offers s t p q
+  pub halting_on : (t : ℕ) (p u q : Pass C) → FollowsTab tells state offers s t p u → FollowsTab tells state offers s t u q → FollowsTab tells state offers s t p q
   halting_on t p u q a b = record {
     own = b.own;
     others = λ j ne far. b.others j ne far ∙ a.others j ne far;

@@ -1,10 +1,9 @@
 -- A piece is written into the first slot that its tab reserved, and the slot published.
-use Rattle.std.proofs.Common.{Bool, Contains, IsTrue, List, None, Option, Some, [], ap, arith, false, inl, inr, length, ne_eqb, refl, set, subst, sym, true, ◌++◌, ◌+◌, ◌<◌, ◌≡◌, ◌≢◌, ◌≤◌, ◌↔◌, ◌⊎◌, ◌∙◌, ◌∷◌, ⊎_elim, ℕ, ℤ, pos, negsuc}
+use Rattle.std.proofs.Common.{Bool, Contains, IsTrue, List, [], ap, arith, false, length, refl, set, subst, sym, true, ◌++◌, ◌+◌, ◌<◌, ◌≡◌, ◌≤◌, ◌↔◌, ◌∙◌, ◌∷◌, ℕ}
 use Rattle.std.proofs.lemmas.Bool.{false≢true}
 use mathlib.Core.Option.{some}
 use lib.ListN.{get_elem?}
-use Rattle.link_word.specs.declared.link.Link.{Link}
-use Rattle.link_word.specs.declared.link.Link.TheVariants.{Last as LastLink, Next, NotWritten}
+use Rattle.link_word.specs.declared.link.Link.TheVariants.{Last as LastLink, Next}
 use Rattle.rock_disk.specs.Cell.{CellState}
 use Rattle.entry_cut.specs.Content.{count, image}
 use Rattle.entry_cut.specs.Labels.{ComesBehind, Fits, next_of}
@@ -12,14 +11,13 @@ use Rattle.entry_cut.specs.declared.piece.Behind.{Behind}
 use Rattle.entry_cut.specs.declared.piece.Behind.TheVariants.{End, Slot}
 use Rattle.core_model.specs.AllowedByView.{WroteFirst}
 use Rattle.core_model.specs.CellMoves.{piece_of}
-use Rattle.core_model.specs.Chains.{first_of, link_to, rest_of}
+use Rattle.core_model.specs.Chains.{first_of, link_to}
 use Rattle.core_model.specs.Offers.{KeepsTo}
-use Rattle.core_model.specs.Tabs.{InnerIsFree, IsPass, OfWriter, inner, tab_at}
+use Rattle.core_model.specs.Tabs.{InnerIsFree, OfWriter, tab_at}
 use Rattle.core_model.specs.declared.tab.Piece.{Piece}
 use Rattle.core_model.specs.declared.tab.Tab.{Tab}
 use Rattle.core_model.specs.declared.tab.Tab.TheVariants.{Writing}
 use Rattle.core_model.specs.declared.tab.Writer.{Writer}
-use Rattle.core_model.specs.declared.view.View.{View}
 use Rattle.core_model.proofs.Tabs.{tab_there}
 use Rattle.store_rule.specs.declared.store.Pass.{Pass}
 use Rattle.store_rule.specs.declared.store.Store.{Store}
@@ -35,7 +33,7 @@ use Rattle.rock_writer.specs.Drafting.{DeskMoves, IsWhole}
 use Rattle.rock_writer.specs.Entries.{Entry, writer_as}
 use Rattle.rock_writer.specs.Flushing.{MayPublishPiece, next_behind, slots_behind}
 use Rattle.rock_writer.specs.Halting.{MayHalt}
-use Rattle.rock_writer.proofs.Resting.{inner_now, nine_now, open_end, tab_now}
+use Rattle.rock_writer.proofs.Resting.{inner_now, open_end, tab_now}
 use Rattle.rock_writer.proofs.Standing as standing
 
 -- where only a desk moves the pass has the same view

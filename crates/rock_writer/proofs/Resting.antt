@@ -1,6 +1,5 @@
 -- A tab that writes, from one step of its pass to the next.
-use Rattle.std.proofs.Common.{Bool, List, None, Option, Some, [], ap, arith, false, get_or, get_or-set_other, get_or-set_same, inl, inr, length, length-set, refl, set, subst, sym, true, unwrap_or, ◌++◌, ◌+◌, ◌<◌, ◌≡◌, ◌≢◌, ◌≤◌, ◌⊎◌, ◌∙◌, ◌∷◌, ⊎_elim, ℕ}
-use Rattle.std.proofs.lemmas.List.{length_push}
+use Rattle.std.proofs.Common.{Bool, List, None, Some, [], ap, arith, get_or, get_or-set_other, get_or-set_same, length, length-set, refl, subst, sym, unwrap_or, ◌++◌, ◌<◌, ◌≡◌, ◌≢◌, ◌∙◌, ◌∷◌, ⊎_elim, ℕ}
 use Rattle.link_word.specs.declared.link.Link.{Link}
 use Rattle.link_word.specs.declared.link.Link.TheVariants.{Last as LastLink, Next, NotWritten}
 use Rattle.rock_disk.specs.Cell.{CellState}
@@ -10,7 +9,6 @@ use Rattle.core_model.specs.Tabs.{InnerIsFree, IsPass, OfWriter, inner, is_free,
 use Rattle.core_model.specs.declared.tab.Piece.{Piece}
 use Rattle.core_model.specs.declared.tab.Tab.{Tab}
 use Rattle.core_model.specs.declared.tab.Tab.TheVariants.{Writing}
-use Rattle.core_model.specs.declared.tab.Writer.{Writer}
 use Rattle.core_model.specs.declared.view.View.{View}
 use Rattle.store_rule.specs.declared.store.Pass.{Pass}
 use Rattle.store_rule.specs.declared.store.Store.{Store}
@@ -23,7 +21,7 @@ use Rattle.slice_chain.specs.Writes.{reserved_first}
 use Rattle.rock_writer.specs.Entries.{Entry, GoesOn, Rests, writer_as}
 use Rattle.rock_writer.specs.Flushing.{LacksSlot, SlotFor}
 use Rattle.rock_writer.specs.Halting.{MayHalt}
-use Rattle.rock_writer.specs.Reserving.{RanOut, Reserved}
+use Rattle.rock_writer.specs.Reserving.{Reserved}
 
 module _ {X : Type 0} (t : ℕ) (v w : View X) (x : Tab X) (pass : IsPass v) (below : t < inner) (is : w.tabs ≡ with_tab v t x) where
   pub tab_now : tab_at w t ≡ x

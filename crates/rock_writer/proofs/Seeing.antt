@@ -1,5 +1,5 @@
 -- What a pass has seen grows with its steps.
-use Rattle.std.proofs.Common.{Contains, List, [], ap, arith, refl, sym, ◌++◌, ◌∷◌, ◌≡◌, ◌≤◌, ◌⊎◌, ◌∙◌, ⊎_elim, max, subst, true, Bool, ℕ}
+use Rattle.std.proofs.Common.{Contains, List, [], ap, arith, sym, ◌++◌, ◌∷◌, ◌≡◌, ◌≤◌, ◌⊎◌, ◌∙◌, ⊎_elim, subst, true, Bool, ℕ}
 use Rattle.std.proofs.lemmas.List.{append_assoc}
 use Rattle.std.proofs.lemmas.List.Elements.{Contains-append_right}
 use Rattle.core_model.specs.Layout.{Setting}

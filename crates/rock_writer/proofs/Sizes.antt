@@ -1,13 +1,12 @@
 -- How many slots a content needs, and which of them is being filled.
-use Rattle.std.proofs.Common.{arith, suc-mul, sym, ◌*◌, ◌+◌, ◌-◌, ◌/◌, ◌<◌, ◌≡◌, ◌≢◌, ◌≤◌, ◌∙◌, ap, ℕ, List, length, length-append, take, drop, min}
+use Rattle.std.proofs.Common.{arith, suc-mul, ◌*◌, ◌+◌, ◌-◌, ◌/◌, ◌<◌, ◌≡◌, ◌≢◌, ◌≤◌, ◌∙◌, ap, ℕ, List, length, length-append, take, drop}
 use Rattle.std.proofs.lemmas.List.{length-drop, length-take}
 use Rattle.std.proofs.lemmas.Nat.{div-mul-add, le-div}
-use Rattle.std.proofs.Math.Nat.{lt-div-mul-add}
 use Rattle.store_key.specs.Key.{key_of}
 use Rattle.swap_meta.specs.Meta.{meta_bytes}
 use Rattle.store_rule.specs.Ground.{Ground}
 use Rattle.rock_writer.specs.Entries.{Entry, body_in, url_in, whole_in}
-use Rattle.entry_cut.specs.Content.{piece, room_of, slots_needed}
+use Rattle.entry_cut.specs.Content.{piece}
 
 -- one slot more has so many bytes more
 pub next_room : (k r : ℕ) → (k + 1) * r ≡ k * r + r

@@ -1,5 +1,5 @@
 -- What holds of a tab that writes, by the rule.
-use Rattle.std.proofs.Common.{Bool, Contains, List, [], ap, arith, length, ltb, subst, sym, ◌++◌, ◌∷◌, ◌<◌, ◌≡◌, ◌≤◌, ◌∙◌, ℕ, refl, true, false}
+use Rattle.std.proofs.Common.{Bool, Contains, List, [], ap, arith, length, ltb, subst, sym, ◌++◌, ◌∷◌, ◌<◌, ◌≡◌, ◌≤◌, ℕ, refl, true, false}
 use mathlib.Core.Option.{some}
 use lib.ListN.{get_elem?}
 use Rattle.lock_word.specs.Words.{epoch_of, stage_of}

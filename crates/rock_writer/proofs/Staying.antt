@@ -1,9 +1,9 @@
 -- A tab writes its entry still when a call was made for another one.
-use Rattle.std.proofs.Common.{Bool, List, Option, None, Some, [], ap, arith, length, map, refl, suc, sym, zero, ◌*◌, ◌<◌, ◌≡◌, ◌≢◌, ◌∙◌, ◌∷◌, ℕ}
+use Rattle.std.proofs.Common.{Bool, List, Option, None, Some, [], ap, arith, length, map, refl, suc, sym, zero, ◌*◌, ◌≡◌, ◌≢◌, ◌∙◌, ◌∷◌, ℕ}
 use Rattle.std.specs.Prelude.{drop, slice_get, slice_index_or, take}
 use Rattle.entry_cut.specs.Content.{room_of}
 use Rattle.rock_disk.specs.Cell.{CellState}
-use Rattle.core_model.specs.Tabs.{InnerIsFree, inner}
+use Rattle.core_model.specs.Tabs.{InnerIsFree}
 use Rattle.store_rule.specs.declared.drafts.Draft.{Draft}
 use Rattle.store_rule.specs.declared.store.Desk.{Desk}
 use Rattle.store_rule.specs.declared.store.Pass.{Pass}

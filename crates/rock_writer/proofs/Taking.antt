@@ -1,5 +1,5 @@
 -- A tab takes bytes of its entry.
-use Rattle.std.proofs.Common.{Bool, List, [], ap, arith, length, min, refl, subst, sym, ◌*◌, ◌+◌, ◌-◌, ◌/◌, ◌<◌, ◌≡◌, ◌≢◌, ◌≤◌, ◌∙◌, ℕ}
+use Rattle.std.proofs.Common.{Bool, List, ap, arith, length, subst, sym, ◌*◌, ◌+◌, ◌-◌, ◌/◌, ◌<◌, ◌≡◌, ◌≢◌, ◌≤◌, ◌∙◌, ℕ}
 use Rattle.rock_disk.specs.Cell.{CellState}
 use Rattle.entry_cut.specs.Content.{room_of}
 use Rattle.core_model.specs.Tabs.{InnerIsFree, tab_at}
@@ -7,8 +7,8 @@ use Rattle.store_rule.specs.declared.store.Pass.{Pass}
 use Rattle.store_rule.specs.declared.store.Store.{Store}
 use Rattle.store_rule.specs.Drafts.{draft_at}
 use Rattle.store_rule.specs.Ground.{Ground, Offers}
-use Rattle.store_rule.specs.Passes.{IsOf, basis, view}
-use Rattle.rock_writer.specs.Appending.{IsFull, MayAppend, place_of, room_in}
+use Rattle.store_rule.specs.Passes.{IsOf, basis}
+use Rattle.rock_writer.specs.Appending.{IsFull, place_of, room_in}
 use Rattle.rock_writer.specs.Drafting.{DeskMoves}
 use Rattle.rock_writer.specs.Entries.{Continues, Drafts, Entry, WritesAs, WritesWith, body_in, size_of, with_taken}
 use Rattle.rock_writer.specs.Flushing.{MayFlush}

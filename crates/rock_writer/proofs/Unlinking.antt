@@ -1,20 +1,18 @@
 -- What a tab that is halted asks of the pass, and gives back.
-use Rattle.std.proofs.Common.{Bool, List, None, Option, Some, ap, arith, false, inl, subst, sym, unwrap_or, ◌<◌, ◌≡◌, ◌≢◌, ◌∙◌, ◌∷◌, [], ℕ, refl, length}
+use Rattle.std.proofs.Common.{Bool, List, None, Option, Some, ap, arith, inl, subst, sym, unwrap_or, ◌≡◌, ◌≢◌, ◌∙◌, ◌∷◌, [], ℕ, refl, length}
 use mathlib.Core.Option.{some}
 use lib.ListN.{get_elem?}
-use Rattle.link_word.specs.declared.link.Link.TheVariants.{Last as LastLink}
 use Rattle.lock_word.specs.declared.stage.Stage.TheVariants.{Halted}
 use Rattle.rock_disk.specs.Cell.{CellState}
 use Rattle.core_model.specs.AllowedByView.{StoredStart}
 use Rattle.core_model.specs.AnchorMoves.{MayRaise}
 use Rattle.core_model.specs.Chains.{rest_of}
 use Rattle.core_model.specs.SlotMoves.{MayGiveBack}
-use Rattle.core_model.specs.Tabs.{InnerIsFree, OfWriter, inner, tab_at}
-use Rattle.core_model.specs.declared.moves.Move.TheVariants.{Disown, Raise}
+use Rattle.core_model.specs.Tabs.{InnerIsFree, OfWriter, tab_at}
+use Rattle.core_model.specs.declared.moves.Move.TheVariants.{Raise}
 use Rattle.core_model.specs.declared.tab.Tab.{Tab}
 use Rattle.core_model.specs.declared.tab.Tab.TheVariants.{Writing}
 use Rattle.core_model.specs.declared.tab.Writer.{Writer}
-use Rattle.core_model.specs.declared.view.View.{View}
 use Rattle.core_model.proofs.Tabs.{tab_there}
 use Rattle.store_rule.specs.declared.store.Pass.{Pass}
 use Rattle.store_rule.specs.declared.store.Store.{Store}

@@ -1,5 +1,5 @@
 -- More bytes of a body are taken, or the entry is given up.
-use Rattle.std.specs.Prelude.{Bool, List, [], length, min, ◌*◌, ◌+◌, ◌-◌, ◌/◌, ◌<◌, ◌≡◌, ◌≢◌, ◌⊎◌, ℕ}
+use Rattle.std.specs.Prelude.{Bool, List, [], length, min, ◌*◌, ◌+◌, ◌-◌, ◌/◌, ◌≡◌, ◌≢◌, ◌⊎◌, ℕ}
 use Rattle.rock_disk.specs.Cell.{CellState}
 use Rattle.entry_cut.specs.Content.{room_of}
 use Rattle.core_model.specs.declared.view.View.{View}
@@ -8,7 +8,7 @@ use Rattle.store_rule.specs.declared.store.Store.{Store}
 use Rattle.store_rule.specs.Ground.{Ground, Offers}
 use Rattle.store_rule.specs.Passes.{basis, view}
 use Rattle.rock_writer.specs.declared.fault.WriteFault.{WriteFault}
-use Rattle.rock_writer.specs.declared.fault.WriteFault.TheVariants.{Fault, Full, Large}
+use Rattle.rock_writer.specs.declared.fault.WriteFault.TheVariants.{Large}
 use Rattle.rock_writer.specs.Entries.{Continues, Entry, WritesAs, size_of, with_taken}
 use Rattle.rock_writer.specs.Flushing.{Flushed, IsAtLimit, NotFlushed}
 use Rattle.rock_writer.specs.Halting.{Halts}

@@ -1,9 +1,8 @@
 -- An entry is begun, or its anchor is not taken.
-use Rattle.std.specs.Prelude.{Bool, List, false, length, true, ◌+◌, ◌-◌, ◌<◌, ◌≡◌, ◌≢◌, ◌≤◌, ◌⊎◌, ℕ}
-use Rattle.lock_word.specs.Words.{IsInRange, epoch_number, is_idle, is_vacant, word_number}
+use Rattle.std.specs.Prelude.{Bool, List, false, length, true, ◌+◌, ◌<◌, ◌≡◌, ◌≢◌, ◌≤◌, ◌⊎◌, ℕ}
+use Rattle.lock_word.specs.Words.{epoch_number, is_idle, is_vacant, word_number}
 use Rattle.lock_word.specs.declared.word.Word.{Word}
 use Rattle.rock_disk.specs.Cell.{CellState}
-use Rattle.store_key.specs.Anchor.{anchor_of}
 use Rattle.store_key.specs.Key.{key_of}
 use Rattle.store_key.specs.Url.{IsUrl}
 use Rattle.entry_cut.specs.Content.{room_of}
@@ -13,7 +12,7 @@ use Rattle.core_model.specs.declared.tab.Tab.TheVariants.{Free}
 use Rattle.core_model.specs.declared.view.View.{View}
 use Rattle.store_rule.specs.declared.store.Pass.{Pass}
 use Rattle.store_rule.specs.declared.store.Store.{Store}
-use Rattle.store_rule.specs.Ground.{Ground, MayName, Offers, url_of}
+use Rattle.store_rule.specs.Ground.{Ground, MayName, Offers, anchor_for, url_of}
 use Rattle.store_rule.specs.Passes.{IsOf, basis, view}
 use Rattle.store_rule.specs.Told.{Steps}
 use Rattle.pass_calls.specs.Calls.{IsFresh}
@@ -27,10 +26,6 @@ use Rattle.rock_writer.specs.Entries.{Entry, WritesAs}
 -- a slot has no room for the metadata of the URL
 abbrev pub IsTooLong : {X : Type 0} → Ground X → List ℕ → Type 0
 IsTooLong g url = room_of g.slot < 32 + length url
-
--- the anchor of a URL
-abbrev pub anchor_for : {X : Type 0} → Ground X → List ℕ → ℕ
-anchor_for g url = anchor_of (key_of url) g.setting.anchors
 
 -- A free tab may take this anchor.
 pub record MayTakeAnchor {C O : Type 0} (tells : Bool) (state : C → CellState) (offers : O → Offers) (s : Store C O) (p : Pass C) (t a : ℕ) : Type 0 where

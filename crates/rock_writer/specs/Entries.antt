@@ -1,5 +1,5 @@
 -- What a tab that writes an entry is to its caller.
-use Rattle.std.specs.Prelude.{Bool, List, None, Some, [], drop, false, length, take, true, ◌*◌, ◌+◌, ◌-◌, ◌/◌, ◌<◌, ◌∷◌, ◌≡◌, ◌≤◌, ℕ}
+use Rattle.std.specs.Prelude.{Bool, List, None, Some, [], drop, false, length, take, true, ◌*◌, ◌+◌, ◌-◌, ◌<◌, ◌∷◌, ◌≡◌, ◌≤◌, ℕ}
 use Rattle.link_word.specs.declared.link.Link.{Link}
 use Rattle.link_word.specs.declared.link.Link.TheVariants.{Next, NotWritten}
 use Rattle.rock_disk.specs.Cell.{CellState}

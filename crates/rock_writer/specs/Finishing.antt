@@ -1,5 +1,5 @@
 -- The last piece of an entry is written, and the entry closed.
-use Rattle.std.specs.Prelude.{Bool, List, None, Option, false, length, true, ◌<◌, ◌↔◌, ◌≡◌, ◌⊎◌, ℕ}
+use Rattle.std.specs.Prelude.{Bool, List, None, false, length, true, ◌<◌, ◌↔◌, ◌≡◌, ℕ}
 use Rattle.lock_word.specs.declared.stage.Stage.TheVariants.{Closed}
 use Rattle.lock_word.specs.Words.{doom_of, epoch_of}
 use Rattle.rock_disk.specs.Cell.{CellState}

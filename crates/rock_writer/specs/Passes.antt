@@ -9,17 +9,6 @@ use Rattle.store_rule.specs.Ground.{Offers}
 use Rattle.store_rule.specs.Passes.{IsOf, hand, view}
 
 module _ {C O : Type 0} (tells : Bool) (state : C → CellState) (offers : O → Offers) where
-  -- The pass is of the store still. Every tab but this and the inner one is as it was, with the word that it left; all buffers and
-  -- drafts are, and the place where the next search for an entry to evict begins.
-  pub record FollowsHalting (s : Store C O) (t : ℕ) (p q : Pass C) : Type 0 where
-    pub own : IsOf tells state offers s q
-    pub others : Others t (view p) (view q)
-    pub left : (j : ℕ) → j ≢ t → j ≢ inner → slice_index q.left j ≡ slice_index p.left j
-    pub places : hand q ≡ hand p
-    pub desks : q.desks ≡ p.desks
-    pub hand : q.hand ≡ p.hand
-    pub cells : q.cells ≡ p.cells
-
   -- The pass is of the store still. Every tab but this and the inner one is as it was, with the word that it left, its buffer and its
   -- draft.
   pub record FollowsWriting (s : Store C O) (t : ℕ) (p q : Pass C) : Type 0 where

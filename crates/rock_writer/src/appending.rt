@@ -17,9 +17,10 @@ use rock_disk::{Cell, Station};
 use slot_cell::HEADER_SIZE;
 use store_rule::{Origin, Pass, Store};
 
-/// Takes bytes of the body of the entry that a tab writes, and answers how many: as many as the slot has room
-/// for that is being filled, and at least one where there are any. Where that one is full it is written and published first, and synced before it is
-/// published if the entry is to be durable.
+/// Takes bytes of the body of the entry that a tab writes, and answers how many: at least one where there
+/// are any, and no more than fit into the slot that is being filled. Where that slot is full, it is written
+/// and published first, and the bytes go into the next one. A slot of an entry that is to be durable is
+/// synced before it is published.
 ///
 /// # Errors
 ///

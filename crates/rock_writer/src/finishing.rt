@@ -4,7 +4,8 @@ ghost use Rattle.rock_io.specs.Faults.{Rose};
 ghost use Rattle.rock_writer.specs.Entries.{Entry, WritesAs, size_of};
 ghost use Rattle.rock_writer.specs.Finishing.{Finished, MayClose, MayFinish, NotFinished, NotWrittenLast, WroteLast, is_doomed, version_of};
 ghost use Rattle.rock_writer.specs.Halting.{Halts, MayHalt};
-ghost use Rattle.rock_writer.specs.Passes.{FollowsHalting, FollowsWriting};
+ghost use Rattle.rock_writer.specs.Passes.{FollowsWriting};
+ghost use Rattle.slice_chain.specs.Freeing.{FollowsTab};
 ghost use Rattle.store_rule.specs.Passes.{basis, view};
 
 use crate::fault::{Ended, WriteFault};
@@ -57,7 +58,7 @@ pub fn finish<C: Cell, O: Origin, St: Station<C = C>>(
 pub fn abort<C: Cell, O: Origin>(store: &Store<C, O>, pass: &mut Pass<C>, tab: u8)
     requires { (e : Entry) × WritesAs C.tells C.state O.offers store.now pass.old tab e }
     ensures halts { Halts (basis C.tells C.state O.offers store.now) tab (view pass.old) (view pass.new) }
-    ensures others { FollowsHalting C.tells C.state O.offers store.now tab pass.old pass.new }
+    ensures others { FollowsTab C.tells C.state O.offers store.now tab pass.old pass.new }
 {
     halt(store, pass, tab);
 }

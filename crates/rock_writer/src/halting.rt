@@ -2,7 +2,7 @@
 ghost use Rattle.std.specs.Prelude.{None, ◌≡◌, ◌≢◌};
 ghost use Rattle.pass_calls.specs.Calls.{Follows};
 ghost use Rattle.rock_writer.specs.Halting.{GaveBack, GaveUnlinked, Halts, MayGive, MayHalt, MayPart, Parted};
-ghost use Rattle.rock_writer.specs.Passes.{FollowsHalting};
+ghost use Rattle.slice_chain.specs.Freeing.{FollowsTab};
 ghost use Rattle.store_rule.specs.Passes.{basis, view};
 
 use free_set::give;
@@ -17,7 +17,7 @@ use store_rule::{Origin, Pass, Store, WritingAt};
 pub(crate) fn halt<C: Cell, O: Origin>(store: &Store<C, O>, pass: &mut Pass<C>, tab: u8)
     requires { MayHalt C.tells C.state O.offers store.now pass.old tab }
     ensures halts { Halts (basis C.tells C.state O.offers store.now) tab (view pass.old) (view pass.new) }
-    ensures others { FollowsHalting C.tells C.state O.offers store.now tab pass.old pass.new }
+    ensures others { FollowsTab C.tells C.state O.offers store.now tab pass.old pass.new }
 {
     give_unlinked(store, pass, tab);
     advance(store, pass, tab, Stage::Halted);
@@ -69,7 +69,7 @@ fn give_back<C: Cell, O: Origin>(
 pub(crate) fn part<C: Cell, O: Origin>(store: &Store<C, O>, pass: &mut Pass<C>, tab: u8)
     requires { MayPart C.tells C.state O.offers store.now pass.old tab }
     ensures parted { Parted (basis C.tells C.state O.offers store.now) tab (view pass.old) (view pass.new) }
-    ensures others { FollowsHalting C.tells C.state O.offers store.now tab pass.old pass.new }
+    ensures others { FollowsTab C.tells C.state O.offers store.now tab pass.old pass.new }
 {
     if !pass.is_last(tab) {
         return;

@@ -1,11 +1,12 @@
 -- The slots of an entry that is given up are given back, one after the other.
-use Rattle.std.specs.Prelude.{Bool, Contains, List, None, Option, Some, [], cond, false, length, true, ◌-◌, ◌==◌, ◌∷◌, ◌≡◌, ◌≢◌, ◌⊎◌, ℕ}
+use Rattle.std.specs.Prelude.{Bool, Contains, List, None, Option, Some, [], cond, false, length, slice_index, true, ◌-◌, ◌==◌, ◌∷◌, ◌≡◌, ◌≢◌, ◌⊎◌, ℕ}
 use Rattle.lock_word.specs.Words.{epoch_of, raised, stage_of}
 use Rattle.core_model.specs.AnchorMoves.{deed_of}
 use Rattle.core_model.specs.declared.view.Item.{Item}
 use Rattle.core_model.specs.declared.view.Kind.TheVariants.{Disowned, Raised}
 use Rattle.core_model.specs.declared.view.Place.{Place}
 use Rattle.core_model.specs.declared.view.Place.TheVariants.{Anchor, Link}
+use Rattle.pass_calls.specs.Calls.{Others}
 use Rattle.pass_calls.specs.Runs.{Added, Went}
 use Rattle.pass_calls.specs.Words.{has}
 use Rattle.rock_disk.specs.Cell.{CellState}
@@ -20,7 +21,7 @@ use Rattle.core_model.specs.declared.view.View.{View}
 use Rattle.store_rule.specs.declared.store.Pass.{Pass}
 use Rattle.store_rule.specs.declared.store.Store.{Store}
 use Rattle.store_rule.specs.Ground.{Ground, Offers}
-use Rattle.store_rule.specs.Passes.{IsOf, view}
+use Rattle.store_rule.specs.Passes.{IsOf, hand, view}
 use Rattle.store_rule.specs.Tabs.{head_of}
 use Rattle.store_rule.specs.Told.{Stands, Steps}
 
@@ -71,6 +72,18 @@ pub record MayFreeChain {C O : Type 0} (tells : Bool) (state : C → CellState) 
   pub is : tab_at (view p) inner ≡ Freeing freer
   pub whole : freer.is_whole ≡ true
   pub none : freer.loose ≡ []
+
+module _ {C O : Type 0} (tells : Bool) (state : C → CellState) (offers : O → Offers) where
+  -- The pass is of the store still. Every tab but this and the inner one is as it was, with the word that it left; all buffers and
+  -- drafts are, and the place where the next search for an entry to evict begins.
+  pub record FollowsTab (s : Store C O) (t : ℕ) (p q : Pass C) : Type 0 where
+    pub own : IsOf tells state offers s q
+    pub others : Others t (view p) (view q)
+    pub left : (j : ℕ) → j ≢ t → j ≢ inner → slice_index q.left j ≡ slice_index p.left j
+    pub places : hand q ≡ hand p
+    pub desks : q.desks ≡ p.desks
+    pub hand : q.hand ≡ p.hand
+    pub cells : q.cells ≡ p.cells
 
 -- how many slots are left in the chain that a tab frees
 abbrev pub rest_length : {X : Type 0} → Tab X → ℕ

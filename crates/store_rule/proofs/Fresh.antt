@@ -9,15 +9,17 @@ use Rattle.rebuild_model.specs.Entry.{Entry, IsComplete}
 use Rattle.rebuild_model.specs.Rebuilt.{IsRebuilt}
 use Rattle.rock_disk.specs.Cell.{CellState}
 use Rattle.core_model.specs.declared.tab.Cell.{Cell}
+use Rattle.core_model.specs.declared.chain.Chain.{Chain}
 use Rattle.core_model.specs.declared.tab.Tab.{Tab}
 use Rattle.core_model.specs.declared.view.View.{View}
+use Rattle.core_model.specs.Chains.{no_chain}
 use Rattle.core_model.specs.Layout.{Setting}
 use Rattle.core_model.specs.Opening.{new_view, new_views}
 use Rattle.core_table.specs.Kept.{opened_chains}
 use Rattle.core_model.proofs.Lists.{contains_none}
 use Rattle.rebuild_model.specs.declared.found.Found.{Found}
 use Rattle.store_rule.specs.Ground.{Ground, Rule}
-use Rattle.store_rule.specs.Rebuilding.{IsKept, at_home, none_kept, opened_state}
+use Rattle.store_rule.specs.Rebuilding.{IsKept, at_home, chain_kept, none_kept, opened_state}
 use Rattle.store_rule.specs.Setting.{IsRow, IsSettled, form_of, now_in, shown}
 use Rattle.store_rule.specs.Ruled.{Ruled, Seated, place_shown}
 use Rattle.store_rule.specs.Told.{Stands, the_view}
@@ -26,6 +28,10 @@ pub same_at : {A : Type 0} → (n i : ℕ) (d : A) → get_or (replicate n d) i 
 same_at zero i d = refl
 same_at (suc n) zero d = refl
 same_at (suc n) (suc i) d = same_at n i d
+
+-- where nothing was kept, no anchor has a chain
+pub none_chained : (anchors a : ℕ) → chain_kept [] anchors a ≡ []
+none_chained anchors a = ap Chain.slots (same_at anchors a no_chain)
 
 not_sane : (images : List (List ℕ)) (s : ℕ) → IsSaneAt 0 images s → ⊥
 not_sane images s h = let z = h.sane.payload_to in omega arith

@@ -44,11 +44,15 @@ cut_of g offer version first = record {
   first = first;
 }
 
+-- the anchor of a URL
+abbrev pub anchor_for : {X : Type 0} → Ground X → List ℕ → ℕ
+anchor_for g url = anchor_of (key_of url) g.setting.anchors
+
 -- an offer with a good URL that leaves room in a slot, for this anchor and these halves of its key
 pub record IsOfferFor {X : Type 0} (g : Ground X) (offer a x y : ℕ) : Type 0 where
   pub url : IsUrl (url_of g offer)
   pub short : length (url_of g offer) + 72 ≤ g.slot
-  pub anchor : anchor_of (key_of (url_of g offer)) g.setting.anchors ≡ a
+  pub anchor : anchor_for g (url_of g offer) ≡ a
   pub key0 : x ≡ from_le_bytes w64 (take 8 (key_of (url_of g offer)))
   pub key1 : y ≡ from_le_bytes w64 (drop 8 (key_of (url_of g offer)))
 

@@ -141,7 +141,7 @@ impl<C: Cell, O: Origin> Store<C, O> {
     ghost use Rattle.store_rule.specs.Told.{Stands};
     ghost use Rattle.store_rule.specs.Setting.{IsRow, IsSettled, shown};
     ghost use Rattle.store_rule.specs.Passes.{AreHands, AreNumbered, IsNewOf, KeepsRoom, basis, first_cells};
-    ghost use Rattle.store_rule.specs.Rebuilding.{IsKept, IsOpenedWith};
+    ghost use Rattle.store_rule.specs.Rebuilding.{IsKept, IsOpenedWith, none_kept};
 
     // The next pass is cut off.
     fn part(
@@ -222,6 +222,9 @@ impl<C: Cell, O: Origin> Store<C, O> {
         requires cells { IsRow C.state slot cells.items × All (IsSettled C.tells C.state) cells.items }
         ensures counts { IfOk result (λ r. ((basis C.tells C.state O.offers r.0).setting.anchors ≡ anchors) × ((basis C.tells C.state O.offers r.0).setting.slots ≡ length cells.items) × ((basis C.tells C.state O.offers r.0).setting.passes ≡ passes) × ((basis C.tells C.state O.offers r.0).slot ≡ slot)) }
         ensures offers { IfOk result (λ r. (basis C.tells C.state O.offers r.0).offers ≡ O.offers origin) }
+        ensures contents { IfOk result (λ r. (basis C.tells C.state O.offers r.0).setting.contents ≡ map (λ c. (shown C.tells C.state c).now) cells.items) }
+        ensures opened { IfOk result (λ r. IsOpenedWith (basis C.tells C.state O.offers r.0) (none_kept (length cells.items))) }
+        ensures empty { IfOk result (λ r. (a : ℕ) → (basis C.tells C.state O.offers r.0).chain a ≡ []) }
         ensures passes { IfOk result (λ r. (vec_len r.1 ≡ passes) × All (IsNewOf C.tells C.state O.offers r.0) r.1.items) }
         ensures numbered { IfOk result (λ r. AreNumbered r.1.items) }
         ensures room { IfOk result (λ r. KeepsRoom (length cells.items) r.1.items) }

@@ -3,11 +3,9 @@ use Rattle.std.proofs.lemmas.Bool.{eqb-true, false≢true}
 use Rattle.entry_cut.specs.Content.{room_of}
 use Rattle.store_rule.specs.Drafts.{draft_at}
 use Rattle.store_rule.specs.Passes.{basis, view}
-use Rattle.rock_writer.specs.Appending.{place_of}
 use Rattle.rock_writer.specs.Flushing.{Flushed, IsAtLimit, NotFlushed}
 use Rattle.rock_writer.proofs.Following.{err_is, err_of, no_err, writing_desk, writing_halting, writing_on}
 use Rattle.rock_writer.proofs.Publishing.{same_view}
-use Rattle.rock_writer.proofs.Sizes as sizes
 use Rattle.rock_writer.proofs.Taking.{full_there, may_flush, not_full, place_there, room_there, took}
 use Rattle.rock_writer.proofs.appending.append.Goals as goal
 

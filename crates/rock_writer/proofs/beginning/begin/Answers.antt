@@ -1,10 +1,8 @@
 use Rattle.std.proofs.Common.{ap, refl, subst, sym, ◌∙◌}
-use Rattle.std.proofs.lemmas.Bool.{false≢true}
 use Rattle.store_key.specs.Key.{key_of}
-use Rattle.core_model.specs.Tabs.{inner}
 use Rattle.slice_chain.specs.Names.{MayNameEntry, Named}
 use Rattle.store_rule.specs.Passes.{basis, view}
-use Rattle.rock_writer.specs.Beginning.{TookAnchor, anchor_for}
+use Rattle.rock_writer.specs.Beginning.{TookAnchor}
 use Rattle.rock_writer.proofs.Begun.{cleared, may_clear, may_name, room, writes_begun}
 use Rattle.rock_writer.proofs.Following.{no_err, writing_desk, writing_halting, writing_on, writing_one}
 use Rattle.rock_writer.proofs.Parting.{halting_inner}

@@ -12,7 +12,7 @@ use Rattle.store_rule.specs.declared.tabs.WritingAt.{WritingAt}
 use Rattle.rock_writer.specs.Entries.{writer_as}
 use Rattle.rock_writer.specs.Finishing.{NotWrittenLast, WroteLast}
 use Rattle.rock_writer.proofs.Ending.{at_anchor, doom_is, may_part_closed, may_raise_closed}
-use Rattle.rock_writer.proofs.Following.{err_of, no_err, writing_halting, writing_on, writing_one}
+use Rattle.rock_writer.proofs.Following.{err_of, writing_halting, writing_on, writing_one}
 use Rattle.rock_writer.proofs.Seeing.{fresh_grows, grows_last, grows_parted}
 use Rattle.rock_writer.proofs.Unlinking.{at_hand}
 use Rattle.rock_writer.proofs.finishing.finish.Goals as goal

@@ -1,10 +1,9 @@
-use Rattle.std.proofs.Common.{ap}
 use Rattle.store_key.specs.Key.{key_of}
-use Rattle.store_rule.specs.Passes.{basis, view}
+use Rattle.store_rule.specs.Passes.{basis}
 use Rattle.core_model.specs.Chains.{slots_of_link}
 use Rattle.rock_writer.specs.Entries.{url_in}
 use Rattle.rock_writer.proofs.Ending.{may_close, may_publish_last}
-use Rattle.rock_writer.proofs.Following.{on_err, writing_evicting, writing_on}
+use Rattle.rock_writer.proofs.Following.{writing_evicting, writing_on}
 use Rattle.rock_writer.proofs.Publishing.{may_halt}
 use Rattle.rock_writer.proofs.Resting as resting
 use Rattle.rock_writer.proofs.Resting.{rests_on, slot_rests}

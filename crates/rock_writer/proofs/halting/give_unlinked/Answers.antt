@@ -1,4 +1,4 @@
-use Rattle.std.proofs.Common.{ap, refl, subst, sym, ◌∙◌}
+use Rattle.std.proofs.Common.{ap, subst, sym, ◌∙◌}
 use Rattle.store_rule.specs.Passes.{basis, view}
 use Rattle.store_rule.specs.declared.tabs.WritingAt.{WritingAt}
 use Rattle.rock_writer.specs.Halting.{GaveBack, first_of, second_of}

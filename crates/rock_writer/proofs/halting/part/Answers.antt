@@ -1,8 +1,8 @@
-use Rattle.std.proofs.Common.{inl, inr, subst, sym, true, ◌∙◌, refl}
+use Rattle.std.proofs.Common.{inl, inr, subst, sym, ◌∙◌}
 use Rattle.store_rule.specs.Passes.{basis, view}
 use Rattle.rw_anchor.specs.Calls.{Leaves}
 use Rattle.rw_anchor.specs.declared.Left.{Left}
-use Rattle.rock_writer.proofs.Parting.{freed_tabs, gave_up_done, gives_up, halting_inner, halting_of, halting_on, may_free}
+use Rattle.rock_writer.proofs.Parting.{freed_tabs, gave_up_done, gives_up, may_free}
 use Rattle.store_rule.proofs.Passing.{pass_of}
 use Rattle.rock_writer.proofs.halting.part.Goals as goal
 
