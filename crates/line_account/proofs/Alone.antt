@@ -8,7 +8,7 @@ use Rattle.store_key.specs.Anchor.{anchor_of}
 use Rattle.store_key.specs.Key.{key_of}
 use Rattle.lock_word.specs.Words.{doom_of, epoch_at, epoch_number, stage_of, version_limit, version_of, doom_number}
 use Rattle.lock_word.specs.declared.cause.Cause.{Cause}
-use Rattle.lock_word.specs.declared.cause.Cause.TheVariants.{Leaving}
+use Rattle.lock_word.specs.declared.cause.Cause.TheVariants.{Absent, Leaving}
 use Rattle.lock_word.specs.declared.epoch.Epoch.{Epoch}
 use Rattle.lock_word.proofs.Parts.{doom_of-epoch_number}
 use Rattle.plain_model.specs.Serving.{bytes_of}
@@ -31,7 +31,7 @@ use Rattle.line_account.specs.Parts.{IsCourseOf}
 use Rattle.line_account.specs.Alone.{alone, next_version}
 use Rattle.line_account.proofs.Gathered.{one_line, same_line}
 use Rattle.line_account.proofs.Versions.{bounded, halted_by}
-use Rattle.line_account.proofs.Printing.{hit_of_new, spent_bounds}
+use Rattle.line_account.proofs.Printing.{given_back_halted, hit_of_new, spent_bounds}
 use Rattle.line_account.proofs.Ordering.{not_below_earlier, stage_in, not_below_met}
 
 abbrev one_of : Bool → ℕ
@@ -142,18 +142,18 @@ module _ {X : Type 0} (r : Run X) (w : Worker X) (c : Closed r (alone w)) where
       counts_first h = subst (λ (z : Answer). Contains (counts_as z) (epoch_at x 3)) (sym h) (0, omega arith, refl)
 
   -- no line gave a writing up, and no tab writes
-  halts_not : (s : Served) (url : List ℕ) (e : Epoch) (a x : ℕ) → w.served ≡ s ∷ [] → s.line.request ≡ Get url → s.answer ≡ answer.Miss (Leaving e) → HaltedIn r (alone w) a x → ⊥
-  halts_not s url e a x is q m (inl h) = by_place h.j h.worker h.at h.line_of
+  halts_not : (s : Served) (url : List ℕ) (a x : ℕ) → w.served ≡ s ∷ [] → s.line.request ≡ Get url → gives_up s.answer ≡ false → HaltedIn r (alone w) a x → ⊥
+  halts_not s url a x is q m (inl h) = by_place h.j h.worker h.at h.line_of
     where
       in_one : (later earlier : List Served) (t : Served) → s ∷ [] ≡ later ++ t ∷ earlier → gives_up t.answer ≡ true → ⊥
-      in_one [] earlier t k g = let same : s ≡ t = cc in let no : gives_up t.answer ≡ false = ap (λ (z : Served). gives_up z.answer) (sym same) ∙ ap gives_up m in let f : true ≡ false = sym g ∙ no in cc
+      in_one [] earlier t k g = let same : s ≡ t = cc in let no : gives_up t.answer ≡ false = ap (λ (z : Served). gives_up z.answer) (sym same) ∙ m in let f : true ≡ false = sym g ∙ no in cc
       in_one (y ∷ []) earlier t k g = let f : [] ≡ t ∷ earlier = cc in cc
       in_one (y ∷ z ∷ later) earlier t k g = let f : [] ≡ z ∷ (later ++ t ∷ earlier) = cc in cc
 
       by_place : (j : ℕ) (u : Worker X) → get_elem? (alone w) j ≡ some u → LineOf u.served (λ earlier t. Halts r.setting.anchors earlier t a x) → ⊥
       by_place zero u k l = let same : w ≡ u = some-injective w u k in in_one l.later l.earlier l.line (sym is ∙ ap Worker.served same ∙ l.split) l.so.gave_up
       by_place (suc j) u k l = absurd (some-ne-none u (sym k))
-  halts_not s url e a x is q m (inr h) = by_place h.j h.worker h.at h.writing.tab h.writing.writes.first h.writing.writes.begun_is
+  halts_not s url a x is q m (inr h) = by_place h.j h.worker h.at h.writing.tab h.writing.writes.first h.writing.writes.begun_is
     where
       none : (t : ℕ) → writing t (s ∷ []) ≡ None
       none t = ap (λ (z : Request). cond (begins t z s.answer) (Some s) (cond (ends t z s.answer) None None)) q
@@ -169,7 +169,21 @@ module _ {X : Type 0} (r : Run X) (w : Worker X) (c : Closed r (alone w)) where
         at = record { url = url; named_is = ap (url_at []) q; anchor = refl };
         shown = subst (λ (z : Answer). Contains (epochs_of s.opened s.looked z) (epoch_number e)) (sym m) (0, omega arith, refl);
       }) in
-      halts_not s url e a (version_of (epoch_number e)) is q m (halted_by r (alone w) c a (epoch_number e) shown four)
+      halts_not s url a (version_of (epoch_number e)) is q (ap gives_up m) (halted_by r (alone w) c a (epoch_number e) shown four)
+
+  not_false : (d : Bool) → (d ≡ false → ⊥) → d ≡ true
+  not_false true h = refl
+  not_false false h = absurd (h refl)
+
+  pub none_gone : IsTrue r.fits → (s : Served) (url : List ℕ) (e : Epoch) → w.served ≡ s ∷ [] → s.line.request ≡ Get url → s.answer ≡ answer.Miss (Absent e) → stage_of (epoch_number e) ≡ 6 → e.doom ≡ true
+  none_gone fit s url e is q m six =
+      let a : ℕ = anchor_of (key_of url) r.setting.anchors in
+      let shown : ShownIn r (alone w) a (epoch_number e) = line_in [] s [] is (λ earlier t. Shows r.setting.anchors earlier t a (epoch_number e)) (record {
+        at = record { url = url; named_is = ap (url_at []) q; anchor = refl };
+        shown = subst (λ (z : Answer). Contains (epochs_of s.opened s.looked z) (epoch_number e)) (sym m) (0, omega arith, refl);
+      }) in
+      not_false e.doom (λ n. halts_not s url a (version_of (epoch_number e)) is q (ap gives_up m)
+      (given_back_halted r (alone w) c fit a (epoch_number e) shown (doom_of-epoch_number e ∙ ap doom_number n) (omega arith)))
 
 module _ {X : Type 0} (r : Run X) (w : Worker X) where
   pub no_hit : (start : View X) (p g : Stage X) (url bytes : List ℕ) (e : Epoch) (y : ℕ) → IsCourseOf r w start (g ∷ p ∷ []) → p.served.line.request ≡ Purge url → p.served.answer ≡ answer.Purged e

@@ -22,24 +22,24 @@ module _ {X : Type 0} (k : Setting X) (v w : View X) (h : Keeps v w) where
   grows_later : (earlier : List Served) (s : Served) (a x : ℕ) → Grows k v earlier s a x → Grows k w earlier s a x
   grows_later earlier s a x g = record { writes = g.writes; named = named_later a x g.writes.first g.named }
 
-  deed_later : (d : Deed) (earlier : List Served) (s : Served) → IsDeedOf k v d earlier s → IsDeedOf k w d earlier s
+module _ {X : Type 0} (r : Run X) (v w : View X) (h : Keeps v w) where
+  deed_later : (d : Deed) (earlier : List Served) (s : Served) → IsDeedOf r v d earlier s → IsDeedOf r w d earlier s
   deed_later d earlier s o = record {
     entered = o.entered;
     changed = o.changed;
     took = o.took;
     evicted = o.evicted;
-    grew = λ q g. grows_later earlier s d.anchor _ (o.grew q g);
+    grew = λ q g. grows_later r.setting v w h earlier s d.anchor _ (o.grew q g);
     closed = o.closed;
     halted = o.halted;
     doomed = o.doomed;
     with_doom = o.with_doom;
   }
 
-  line_later : (d : Deed) (served : List Served) (at_end : Bool) → HasLine k v d served at_end → HasLine k w d served at_end
+  line_later : (d : Deed) (served : List Served) (at_end : Bool) → HasLine r v d served at_end → HasLine r w d served at_end
   line_later d served at_end (inl l) = inl record { later = l.later; line = l.line; earlier = l.earlier; split = l.split; so = deed_later d l.earlier l.line l.so }
   line_later d served at_end (inr l) = inr l
 
-module _ {X : Type 0} (r : Run X) (v w : View X) (h : Keeps v w) where
   item_later : (kind : Kind) (n : ℕ) → HasItem v kind n → HasItem w kind n
   item_later kind n i = record { item = i.item; among = h.trail i.item i.among; kind_is = i.kind_is; found_is = i.found_is }
 
@@ -132,6 +132,7 @@ module _ {X : Type 0} (r : Run X) (v w : View X) (h : Keeps v w) where
     began = t.began;
     finished = λ x q. finished_later earlier s x (t.finished x q);
     gave_up = t.gave_up;
+    full = t.full;
     large = t.large;
     long = t.long;
     short = t.short;
@@ -168,7 +169,7 @@ module _ {X : Type 0} (r : Run X) where
     lines = λ later earlier s e. absurd (no_line later earlier s e);
   }
 
-  one_more : (v : View X) (d : Deed) (served : List Served) (s : Served) → HasLine r.setting v d served false → HasLine r.setting v d (s ∷ served) false
+  one_more : (v : View X) (d : Deed) (served : List Served) (s : Served) → HasLine r v d served false → HasLine r v d (s ∷ served) false
   one_more v d served s (inl l) = inl record { later = s ∷ l.later; line = l.line; earlier = l.earlier; split = ap (λ (z : List Served). s ∷ z) l.split; so = l.so }
   one_more v d served s (inr l) = absurd (let q : false ≡ true = l.0 in cc)
 
@@ -186,13 +187,13 @@ module _ {X : Type 0} (r : Run X) where
     drawn = λ x. let c = count_line (drew_version x) s served in n.drawn x ∙ ap (λ m. one_if (drew_version x s) + m) (a.drawn x) ∙ sym c;
     draws = let c = count_line drew_some s served in n.draws ∙ ap (λ m. one_if (drew_some s) + m) a.draws ∙ sym c;
     deeds = λ d h. ⊎_elim
-        (λ (q : Contains v.deeds d). let o = a.deeds d q in (o.0 ∙ sym n.keeps.pass, one_more w d served s (line_later r.setting v w n.keeps d served false o.1)))
-        (λ (q : (d.pass ≡ v.pass) × IsDeedOf r.setting w d served s). (q.0 ∙ sym n.keeps.pass, inl record { later = []; line = s; earlier = served; split = refl; so = q.1 }))
+        (λ (q : Contains v.deeds d). let o = a.deeds d q in (o.0 ∙ sym n.keeps.pass, one_more w d served s (line_later r v w n.keeps d served false o.1)))
+        (λ (q : (d.pass ≡ v.pass) × IsDeedOf r w d served s). (q.0 ∙ sym n.keeps.pass, inl record { later = []; line = s; earlier = served; split = refl; so = q.1 }))
         (n.deeds d h);
     lines = lines_more w served s n.tells (λ later earlier x e. tells_later r v w n.keeps earlier x (a.lines later earlier x e));
   }
 
-  at_its_end : (w : View X) (d : Deed) (served : List Served) → HasLine r.setting w d served false → HasLine r.setting w d served true
+  at_its_end : (w : View X) (d : Deed) (served : List Served) → HasLine r w d served false → HasLine r w d served true
   at_its_end w d served (inl l) = inl l
   at_its_end w d served (inr l) = absurd (let q : false ≡ true = l.0 in cc)
 
@@ -202,7 +203,7 @@ module _ {X : Type 0} (r : Run X) where
     drawn = λ x. n.drawn x ∙ a.drawn x;
     draws = n.draws ∙ a.draws;
     deeds = λ d h. ⊎_elim
-        (λ (q : Contains v.deeds d). let o = a.deeds d q in (o.0 ∙ sym n.keeps.pass, at_its_end w d served (line_later r.setting v w n.keeps d served false o.1)))
+        (λ (q : Contains v.deeds d). let o = a.deeds d q in (o.0 ∙ sym n.keeps.pass, at_its_end w d served (line_later r v w n.keeps d served false o.1)))
         (λ (q : (d.pass ≡ v.pass) × IsDeedOfEnd r.setting d served). (q.0 ∙ sym n.keeps.pass, inr (refl, q.1)))
         (n.deeds d h);
     lines = λ later earlier x e. tells_later r v w n.keeps earlier x (a.lines later earlier x e);

@@ -84,7 +84,7 @@ module _ {X : Type 0} (r : Run X) (crew : List (Worker X)) (c : Closed r crew) w
     pub deed : Deed
     pub so : P deed
     pub own : deed.pass ≡ worker.view.pass
-    pub line : HasLine r.setting worker.view deed worker.served true
+    pub line : HasLine r worker.view deed worker.served true
 
   pub deed_in : (P : Deed → Type 0) → IsDone c.state P → DeedIn P
   deed_in P done =
@@ -105,11 +105,11 @@ module _ {X : Type 0} (r : Run X) (crew : List (Worker X)) (c : Closed r crew) w
 
   -- a deed has its line, or belongs to the end of its worker
   pub by_view : (P : Deed → Type 0) (Q : View X → List Served → Served → Type 0) (R : List Served → Type 0)
-      → ((v : View X) (d : Deed) (earlier : List Served) (s : Served) → P d → d.pass ≡ v.pass → IsDeedOf r.setting v d earlier s → Q v earlier s)
+      → ((v : View X) (d : Deed) (earlier : List Served) (s : Served) → P d → d.pass ≡ v.pass → IsDeedOf r v d earlier s → Q v earlier s)
       → ((d : Deed) (served : List Served) → P d → IsDeedOfEnd r.setting d served → R served)
       → IsDone c.state P → ByWorker Q ⊎ AtEnd R
   by_view P Q R of_line of_end done = let d = deed_in P done in ⊎_elim
-      (λ (l : LineOf d.worker.served (IsDeedOf r.setting d.worker.view d.deed)). inl (record {
+      (λ (l : LineOf d.worker.served (IsDeedOf r d.worker.view d.deed)). inl (record {
         j = d.j;
         worker = d.worker;
         at = d.at;
@@ -125,13 +125,13 @@ module _ {X : Type 0} (r : Run X) (crew : List (Worker X)) (c : Closed r crew) w
       d.line
 
   pub by_worker : (P : Deed → Type 0) (Q : View X → List Served → Served → Type 0)
-      → ((v : View X) (d : Deed) (earlier : List Served) (s : Served) → P d → d.pass ≡ v.pass → IsDeedOf r.setting v d earlier s → Q v earlier s)
+      → ((v : View X) (d : Deed) (earlier : List Served) (s : Served) → P d → d.pass ≡ v.pass → IsDeedOf r v d earlier s → Q v earlier s)
       → ((d : Deed) (served : List Served) → P d → IsDeedOfEnd r.setting d served → ⊥)
       → IsDone c.state P → ByWorker Q
   by_worker P Q of_line of_end done = ⊎_elim (λ (l : ByWorker Q). l) (λ (l : AtEnd (λ served. ⊥)). absurd l.3) (by_view P Q (λ served. ⊥) of_line of_end done)
 
   pub by_cause : (P : Deed → Type 0) (Q : List Served → Served → Type 0) (R : List Served → Type 0)
-      → ((v : View X) (d : Deed) (earlier : List Served) (s : Served) → P d → IsDeedOf r.setting v d earlier s → Q earlier s)
+      → ((v : View X) (d : Deed) (earlier : List Served) (s : Served) → P d → IsDeedOf r v d earlier s → Q earlier s)
       → ((d : Deed) (served : List Served) → P d → IsDeedOfEnd r.setting d served → R served)
       → IsDone c.state P → LineIn crew Q ⊎ AtEnd R
   by_cause P Q R of_line of_end done = ⊎_elim
@@ -140,7 +140,7 @@ module _ {X : Type 0} (r : Run X) (crew : List (Worker X)) (c : Closed r crew) w
       (by_view P (λ v. Q) R (λ v d earlier s p own o. of_line v d earlier s p o) of_end done)
 
   pub by_line : (P : Deed → Type 0) (Q : List Served → Served → Type 0)
-      → ((v : View X) (d : Deed) (earlier : List Served) (s : Served) → P d → IsDeedOf r.setting v d earlier s → Q earlier s)
+      → ((v : View X) (d : Deed) (earlier : List Served) (s : Served) → P d → IsDeedOf r v d earlier s → Q earlier s)
       → ((d : Deed) (served : List Served) → P d → IsDeedOfEnd r.setting d served → ⊥)
       → IsDone c.state P → LineIn crew Q
   by_line P Q of_line of_end done = ⊎_elim

@@ -94,7 +94,7 @@ module _ {X : Type 0} (r : Run X) (crew : List (Worker X)) (c : Closed r crew) w
   abbrev GrowsAt : ℕ → ℕ → View X → List Served → Served → Type 0
   GrowsAt a x v earlier s = Grows r.setting v earlier s a x
 
-  grown_line : (a e : ℕ) → is_readable e ≡ true → (v : View X) (d : Deed) (earlier : List Served) (s : Served) → LeftEpoch a e d → d.pass ≡ v.pass → IsDeedOf r.setting v d earlier s → GrowsAt a (version_of e) v earlier s
+  grown_line : (a e : ℕ) → is_readable e ≡ true → (v : View X) (d : Deed) (earlier : List Served) (s : Served) → LeftEpoch a e d → d.pass ≡ v.pass → IsDeedOf r v d earlier s → GrowsAt a (version_of e) v earlier s
   grown_line a e read v d earlier s p own h = ⊎_elim
       (λ (q : d.kind ≡ Changed). absurd (⊎_elim (λ (z : stage_of d.epoch ≡ 1). wrong 1 z (inl (omega arith))) (λ (z : stage_of d.epoch ≡ 5). wrong 5 z (inr (omega arith))) (h.changed q)))
       (λ (q : (d.kind ≡ Raised) ⊎ (d.kind ≡ Doomed)). ⊎_elim

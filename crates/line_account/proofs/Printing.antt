@@ -12,7 +12,8 @@ use lib.ListN.{get_elem?}
 use Rattle.store_key.specs.Anchor.{anchor_of, back_half, front_half}
 use Rattle.store_key.specs.Key.{key_of}
 use Rattle.store_key.proofs.KeyFacts.{key_is_bytes, key_is_long}
-use Rattle.lock_word.specs.Words.{doom_of, epoch_number, stage_of, version_limit, version_of}
+use Rattle.lock_word.specs.Words.{doom_of, epoch_number, is_readable, stage_of, version_limit, version_of}
+use Rattle.lock_word.proofs.Testing.{stage_of-readable}
 use Rattle.lock_word.specs.declared.cause.Cause.{Cause}
 use Rattle.lock_word.specs.declared.epoch.Epoch.{Epoch}
 use Rattle.lock_word.specs.declared.word.Word.{Word}
@@ -26,16 +27,17 @@ use Rattle.core_model.specs.declared.moves.Side.TheVariants.{Key0, Key1, Offer}
 use Rattle.core_model.specs.declared.view.Kind.TheVariants.{Counted, Drew}
 use Rattle.core_model.specs.declared.view.Sight.TheVariants.{Stood}
 use Rattle.core_model.specs.declared.view.View.{View}
-use Rattle.core_model.specs.Anchors.{opening_counter}
-use Rattle.core_model.specs.Deeds.{EnteredByAnother, EvictedVersion, HaltedVersion, IsDone, IsEpochAt}
+use Rattle.core_model.specs.Anchors.{opening_counter, opening_epoch}
+use Rattle.core_model.specs.Deeds.{EnteredByAnother, EvictedVersion, HaltedVersion, IsDone, IsEpochAt, LeftEpoch}
+use Rattle.core_model.proofs.DeedsTell.{known_old}
 use Rattle.line_account.specs.Lines.{Fits, LineOf, Offers, Served, added, begun_of, url_in, writing}
 use Rattle.line_account.specs.Deeds.{Began, BeganOnTab, Begins, ComesTo, IsDeedOf, IsDeedOfEnd, MayEvict}
 use Rattle.line_account.specs.Requests.{IsAnswerTo}
 use Rattle.line_account.specs.Answers.{ComesIn, HasGiven, HasItem, IsSure, bytes_with, HasOther, IsCauseOf, IsEntryAt, IsLong, IsSpent, ReadAs, Refuses, Run}
 use Rattle.line_account.specs.Accounts.{epoch_in}
-use Rattle.line_account.specs.Closing.{BegunIn, Closed, LineIn, ShownIn, Worker, offered}
-use Rattle.line_account.specs.Printed.{AnotherComes, EndsBegun, AreFirstOnes, IsStored, ReadsOf, GivenBackIn, HasBusyWords, HasOtherUrl, HitIn, IsBodyOfLine, IsKeyOfLine, IsOldBody, IsOldUrl, KeyIn, NeedsTooMany, PrintsAdded, PrintsHit, PrintsKey, PrintsLarge, PrintsOther, PrintsReaders, old_offer}
-use Rattle.line_account.proofs.Gathered.{DeedIn, by_line, counter_below, counter_is, deed_in, shown_known, tells_at}
+use Rattle.line_account.specs.Closing.{BegunIn, Closed, HaltedIn, LineIn, ShownIn, Worker, offered}
+use Rattle.line_account.specs.Printed.{AnotherComes, EndsBegun, AreFirstOnes, IsStored, ReadsOf, GivenBackIn, HadEntry, HasBusyWords, HasOtherUrl, HitIn, IsBodyOfLine, IsKeyOfLine, IsOldBody, IsOldUrl, KeyIn, NeedsTooMany, PrintsAdded, PrintsHit, PrintsKey, PrintsLarge, PrintsOther, PrintsReaders, old_offer}
+use Rattle.line_account.proofs.Gathered.{DeedIn, by_line, counter_below, counter_is, deed_in, inside, shown_known, tells_at}
 use Rattle.line_account.proofs.Versions.{halted_in}
 use Rattle.line_account.proofs.Names.{HasOffer, begun_among, names_of, offer_of, offered_url}
 
@@ -65,6 +67,28 @@ same_key key other long long2 small small2 front back =
 module _ {X : Type 0} (r : Run X) (crew : List (Worker X)) (c : Closed r crew) where
   known : (P : List Served → Served → Type 0) (p : LineIn crew P) (a e : ℕ) → Contains p.worker.view.seen (Stood a e) → IsEpochAt r.setting c.state a e
   known P p a e h = inr (c.index p.j, p.worker.view, c.at p.j p.worker p.at, h)
+
+  -- an entry of the opening that may be read was there then
+  old_kept : (a e : ℕ) → IsEpochAt r.setting c.state a e → is_readable e ≡ true → version_of e ≤ opening_counter r.setting → HadEntry r a
+  old_kept a e h read low = ⊎_elim
+      (λ (z : stage_of (opening_epoch r.setting a) ≡ 0). absurd (⊎_elim
+      (λ (q : stage_of e ≡ stage_of (opening_epoch r.setting a)). not_below (omega arith))
+      (λ (q : 5 ≤ stage_of e). not_above q)
+      (known_old r.setting c.state c.sound a e h low).stage))
+      (λ (z : stage_of (opening_epoch r.setting a) ≡ 3). z)
+      (c.sound.anchors.setting.stage a (inside r crew c a e h))
+    where
+      not_below : stage_of e ≡ 0 → ⊥
+      not_below n = ⊎_elim (λ (z : stage_of e ≡ 2). omega arith) (λ (z : stage_of e ≡ 3). omega arith) (stage_of-readable e read)
+
+      not_above : 5 ≤ stage_of e → ⊥
+      not_above n = ⊎_elim (λ (z : stage_of e ≡ 2). omega arith) (λ (z : stage_of e ≡ 3). omega arith) (stage_of-readable e read)
+
+  pub key_kept : (a : ℕ) (epoch : Epoch) (key : List ℕ) → KeyIn r crew a epoch key → version_of (epoch_number epoch) ≤ opening_counter r.setting → HadEntry r a
+  key_kept a epoch key p low =
+      let P : List Served → Served → Type 0 = λ earlier s. PrintsKey r.setting.anchors earlier s a epoch key in
+      let k = (tells_at r crew c P p).key epoch key a p.line_of.so.printed p.line_of.so.at in
+      old_kept a (epoch_number epoch) (known P p a (epoch_number epoch) k.seen) k.readable low
 
   pub key_of_old : (a : ℕ) (epoch : Epoch) (key url : List ℕ) → KeyIn r crew a epoch key → version_of (epoch_number epoch) ≤ opening_counter r.setting → IsOldUrl r a url → key ≡ key_of url
   key_of_old a epoch key url p low old =
@@ -125,7 +149,8 @@ module _ {X : Type 0} (r : Run X) (crew : List (Worker X)) (c : Closed r crew) w
       let version : x ≡ version_of s.opened = hit_version s url bytes x p.line_of.so.request p.line_of.so.printed h.opened.told in
       let there : anchor_of (key_of h.opened.url) r.setting.anchors ≡ a = ap (λ u. anchor_of (key_of u) r.setting.anchors) same ∙ sym p.line_of.so.anchor in
       let offer : h.opened.entry.offer ≡ old_offer r a = h.opened.entry.old (omega arith) ∙ ap (old_offer r) there in
-      record { whole = h.whole ∙ ap r.body offer; url_is = sym (ap r.url offer) ∙ h.same ∙ same }
+      let kept = old_kept (anchor_of (key_of h.opened.url) r.setting.anchors) s.opened (known (Hits a x url bytes) p (anchor_of (key_of h.opened.url) r.setting.anchors) s.opened h.opened.entry.seen) h.opened.entry.readable (omega arith) in
+      record { there = subst (HadEntry r) there kept; whole = h.whole ∙ ap r.body offer; url_is = sym (ap r.url offer) ∙ h.same ∙ same }
 
   pub hit_of_new : IsTrue r.tells → (a x : ℕ) (url bytes : List ℕ) → HitIn r crew a x url bytes → opening_counter r.setting < x → IsBodyOfLine r crew a x url bytes
   hit_of_new y a x url bytes p high =
@@ -164,10 +189,13 @@ module _ {X : Type 0} (r : Run X) (crew : List (Worker X)) (c : Closed r crew) w
       a : ℕ
       a = anchor_of (key_of told.url) r.setting.anchors
 
-      source : (r.url (old_offer r (anchor_of (key_of told.url) r.setting.anchors)) ≡ r.url told.entry.offer)
+      source : (HadEntry r (anchor_of (key_of told.url) r.setting.anchors) × (r.url (old_offer r (anchor_of (key_of told.url) r.setting.anchors)) ≡ r.url told.entry.offer))
           ⊎ ((x : ℕ) × (q : BegunIn r crew (anchor_of (key_of told.url) r.setting.anchors) x) × (url_in q.line_of.line.line.request ≡ Some (r.url told.entry.offer)))
       source = dite (dec_le (version_of told.first.opened) (opening_counter r.setting))
-          (λ low. inl (sym (ap r.url (told.entry.old low))))
+          (λ low. inl (
+            old_kept (anchor_of (key_of told.url) r.setting.anchors) told.first.opened (known (λ earlier s. PrintsOther earlier s url) p (anchor_of (key_of told.url) r.setting.anchors) told.first.opened told.entry.seen) told.entry.readable low,
+            sym (ap r.url (told.entry.old low)),
+          ))
           (λ high. let o = of_line (λ earlier s. PrintsOther earlier s url) p (anchor_of (key_of told.url) r.setting.anchors) told.first.opened told.url told.entry (omega arith) in
           inr (version_of told.first.opened, o.begun, offered_url o.begun.line_of.line.line.request o.made.url o.made.body o.made.offers ∙ ap Some (sym o.url_is)))
 
@@ -184,7 +212,7 @@ module _ {X : Type 0} (r : Run X) (crew : List (Worker X)) (c : Closed r crew) w
 
       of_deed : DeedIn r crew c (EnteredByAnother a p.worker.view.pass) → AnotherComes r crew p.j a
       of_deed d = ⊎_elim
-          (λ (l : LineOf d.worker.served (IsDeedOf r.setting d.worker.view d.deed)). record {
+          (λ (l : LineOf d.worker.served (IsDeedOf r d.worker.view d.deed)). record {
             comes = record {
               j = d.j;
               worker = d.worker;
@@ -282,10 +310,47 @@ module _ {X : Type 0} (r : Run X) (crew : List (Worker X)) (c : Closed r crew) w
   given_back a e p undoomed four = ⊎_elim
       (λ (h : IsDone c.state (HaltedVersion a (version_of e))). inl (halted_in r crew c a (version_of e) h))
       (λ (h : IsDone c.state (EvictedVersion a (version_of e))). inr (by_line r crew c (EvictedVersion a (version_of e)) (λ earlier s. MayEvict s.line.request)
-      (λ v d earlier s q o. o.evicted q.0 q.3 q.4)
+      (λ v d earlier s q o. (o.evicted q.0 q.3 q.4).may)
       (λ d served q o. absurd (let f : true ≡ false = sym q.4 ∙ (o.changed q.0).1 in cc))
       h))
       (c.sound.anchors.deeds.undoomed a e (shown_known r crew c a e p) undoomed four)
+
+  -- Runs that fit.
+
+  given_back_deed : IsTrue r.fits → (a e : ℕ) → ShownIn r crew a e → doom_of e ≡ 0 → 4 ≤ stage_of e → IsDone c.state (HaltedVersion a (version_of e))
+  given_back_deed fit a e p undoomed four = ⊎_elim
+      (λ (h : IsDone c.state (HaltedVersion a (version_of e))). h)
+      (λ (h : IsDone c.state (EvictedVersion a (version_of e))). absurd (by_line r crew c (EvictedVersion a (version_of e)) (λ earlier s. ⊥)
+      (λ v d earlier s q o. absurd (let f : true ≡ false = sym fit ∙ (o.evicted q.0 q.3 q.4).wants in cc))
+      (λ d served q o. absurd (let f : true ≡ false = sym q.4 ∙ (o.changed q.0).1 in cc))
+      h).line_of.so)
+      (c.sound.anchors.deeds.undoomed a e (shown_known r crew c a e p) undoomed four)
+
+  pub given_back_halted : IsTrue r.fits → (a e : ℕ) → ShownIn r crew a e → doom_of e ≡ 0 → 4 ≤ stage_of e → HaltedIn r crew a (version_of e)
+  given_back_halted fit a e p undoomed four = halted_in r crew c a (version_of e) (given_back_deed fit a e p undoomed four)
+
+  -- no writing of a version of the opening was halted
+  halted_new : (a x : ℕ) → a < r.setting.anchors → IsDone c.state (HaltedVersion a x) → opening_counter r.setting < x
+  halted_new a x lt h = dite (dec_le x (opening_counter r.setting)) (λ low. absurd (not_old low)) (λ high. omega arith)
+    where
+      not_old : x ≤ opening_counter r.setting → ⊥
+      not_old low =
+          let left : IsDone c.state (LeftEpoch a h.deed.epoch) = record { i = h.i; view = h.view; at = h.at; deed = h.deed; done = h.done; so = ((h.so.1, inr (inl h.so.0)), refl) } in
+          let version = h.so.2 in
+          let four = h.so.3 in
+          ⊎_elim
+          (λ (q : stage_of h.deed.epoch ≡ stage_of (opening_epoch r.setting a)). ⊎_elim
+          (λ (z : stage_of (opening_epoch r.setting a) ≡ 0). omega arith)
+          (λ (z : stage_of (opening_epoch r.setting a) ≡ 3). omega arith)
+          (c.sound.anchors.setting.stage a lt))
+          (λ (q : 5 ≤ stage_of h.deed.epoch). omega arith)
+          (c.sound.deeds_tell.old a h.deed.epoch left (omega arith)).stage
+
+  pub given_back_new : IsTrue r.fits → (a e : ℕ) → ShownIn r crew a e → doom_of e ≡ 0 → 4 ≤ stage_of e → opening_counter r.setting < version_of e
+  given_back_new fit a e p undoomed four = halted_new a (version_of e) (inside r crew c a e (shown_known r crew c a e p)) (given_back_deed fit a e p undoomed four)
+
+  pub never_full : IsTrue r.fits → LineIn crew (λ earlier s. s.answer ≡ answer.Full) → ⊥
+  never_full fit p = let f : true ≡ false = sym fit ∙ (tells_at r crew c (λ earlier s. s.answer ≡ answer.Full) p).full p.line_of.so in cc
 
   -- Bytes.
 
@@ -318,7 +383,9 @@ module _ {X : Type 0} (r : Run X) (crew : List (Worker X)) (c : Closed r crew) w
 
       stored : IsStored r crew g.url (r.body g.entry.offer)
       stored = dite (dec_le (version_of g.first.opened) (opening_counter r.setting))
-          (λ low. let is = g.entry.old low in record { source = inl (record { whole = ap r.body is; url_is = sym (ap r.url is) ∙ url_is }) })
+          (λ low. let is = g.entry.old low in
+          let kept = old_kept (anchor_of (key_of g.url) r.setting.anchors) g.first.opened (known (λ earlier s. ReadsOf earlier s first url) p (anchor_of (key_of g.url) r.setting.anchors) g.first.opened g.entry.seen) g.entry.readable low in
+          record { source = inl (record { there = kept; whole = ap r.body is; url_is = sym (ap r.url is) ∙ url_is }) })
           (λ high. let o = of_line (λ earlier s. ReadsOf earlier s first url) p (anchor_of (key_of g.url) r.setting.anchors) g.first.opened g.url g.entry (omega arith) in
           record {
             source = inr (

@@ -96,7 +96,7 @@ module _ {X : Type 0} (r : Run X) (url : List ℕ) (o : OffersNothing r url) whe
   abbrev taken : Deed
   taken = record { pass = 0; kind = Changed; anchor = a; epoch = epoch_at x 1; was_idle = false }
 
-  entered_line : IsDeedOf r.setting v entered (put ∷ []) get
+  entered_line : IsDeedOf r v entered (put ∷ []) get
   entered_line = record {
     entered = λ q. record { url = url; comes = refl; anchor = refl };
     changed = λ q. absurd (let z : Entered ≡ Changed = q in cc);
@@ -109,7 +109,7 @@ module _ {X : Type 0} (r : Run X) (url : List ℕ) (o : OffersNothing r url) whe
     with_doom = λ q. absurd (let z : Entered ≡ Doomed = q in cc);
   }
 
-  closed_line : IsDeedOf r.setting v closed [] put
+  closed_line : IsDeedOf r v closed [] put
   closed_line = record {
     entered = λ q. absurd (let z : Raised ≡ Entered = q in cc);
     changed = λ q. absurd (let z : Raised ≡ Changed = q in cc);
@@ -122,7 +122,7 @@ module _ {X : Type 0} (r : Run X) (url : List ℕ) (o : OffersNothing r url) whe
     with_doom = λ q. absurd (let z : Raised ≡ Doomed = q in cc);
   }
 
-  taken_line : IsDeedOf r.setting v taken [] put
+  taken_line : IsDeedOf r v taken [] put
   taken_line = record {
     entered = λ q. absurd (let z : Changed ≡ Entered = q in cc);
     changed = λ q. inl (omega arith);
@@ -139,7 +139,7 @@ module _ {X : Type 0} (r : Run X) (url : List ℕ) (o : OffersNothing r url) whe
   both = get ∷ put ∷ []
 
   abbrev HasOne : Deed → Type 0
-  HasOne d = (d.pass ≡ 0) × HasLine r.setting v d both true
+  HasOne d = (d.pass ≡ 0) × HasLine r v d both true
 
   deeds : (d : Deed) → Contains (entered ∷ closed ∷ taken ∷ []) d → HasOne d
   deeds d h = ⊎_elim
@@ -175,6 +175,7 @@ module _ {X : Type 0} (r : Run X) (url : List ℕ) (o : OffersNothing r url) whe
         (λ (q : answer.Stored x ≡ answer.Doomed y). absurd cc)
         h;
     gave_up = λ h. absurd (let z : false ≡ true = h in cc);
+    full = λ h. absurd (let z : answer.Stored x ≡ answer.Full = h in cc);
     large = λ h. absurd (let z : answer.Stored x ≡ answer.Large = h in cc);
     long = λ h. absurd (let z : answer.Stored x ≡ answer.LongUrl = h in cc);
     short = λ u body h fits far. absurd (let e = ap length h.0 in let room = o.short in omega arith);
@@ -238,6 +239,7 @@ module _ {X : Type 0} (r : Run X) (url : List ℕ) (o : OffersNothing r url) whe
         (λ (q : answer.Hit x [] ≡ answer.Doomed y). absurd cc)
         h;
     gave_up = λ h. absurd (let z : false ≡ true = h in cc);
+    full = λ h. absurd (let z : answer.Hit x [] ≡ answer.Full = h in cc);
     large = λ h. absurd (let z : answer.Hit x [] ≡ answer.Large = h in cc);
     long = λ h. absurd (let z : answer.Hit x [] ≡ answer.LongUrl = h in cc);
     short = λ u body h fits far. absurd h;

@@ -59,6 +59,7 @@ record IsSilent (a : Answer) : Type 0 where
   began : (q : Request) (x : ℕ) → Began q a x → ⊥
   finished : (x : ℕ) → (a ≡ answer.Stored x) ⊎ (a ≡ answer.Doomed x) → ⊥
   gave_up : gives_up a ≡ false
+  full : a ≢ answer.Full
   large : a ≢ answer.Large
   long : a ≢ answer.LongUrl
   busy : (looked other : Word) → a ≢ answer.Busy looked other
@@ -109,6 +110,7 @@ silent_tab = record {
   began = began_tab;
   finished = λ x h. ⊎_elim (λ (q : answer.Tab ≡ answer.Stored x). cc) (λ (q : answer.Tab ≡ answer.Doomed x). cc) h;
   gave_up = refl;
+  full = λ h. cc;
   large = λ h. cc;
   long = λ h. cc;
   busy = λ looked other h. cc;
@@ -160,6 +162,7 @@ silent_marked = record {
   began = began_marked;
   finished = λ x h. ⊎_elim (λ (q : answer.Marked ≡ answer.Stored x). cc) (λ (q : answer.Marked ≡ answer.Doomed x). cc) h;
   gave_up = refl;
+  full = λ h. cc;
   large = λ h. cc;
   long = λ h. cc;
   busy = λ looked other h. cc;
@@ -211,6 +214,7 @@ silent_met = record {
   began = began_met;
   finished = λ x h. ⊎_elim (λ (q : answer.Met ≡ answer.Stored x). cc) (λ (q : answer.Met ≡ answer.Doomed x). cc) h;
   gave_up = refl;
+  full = λ h. cc;
   large = λ h. cc;
   long = λ h. cc;
   busy = λ looked other h. cc;
@@ -262,6 +266,7 @@ silent_unmet = record {
   began = began_unmet;
   finished = λ x h. ⊎_elim (λ (q : answer.Unmet ≡ answer.Stored x). cc) (λ (q : answer.Unmet ≡ answer.Doomed x). cc) h;
   gave_up = refl;
+  full = λ h. cc;
   large = λ h. cc;
   long = λ h. cc;
   busy = λ looked other h. cc;
@@ -288,6 +293,7 @@ module _ {X : Type 0} (r : Run X) where
     began = λ x h. absurd (q.began s.line.request x h);
     finished = λ x h. absurd (q.finished x h);
     gave_up = λ h. absurd (let z : true ≡ false = sym h ∙ q.gave_up in cc);
+    full = λ h. absurd (q.full h);
     large = λ h. absurd (q.large h);
     long = λ h. absurd (q.long h);
     short = λ url body h fits far. absurd (unfit url body h fits);

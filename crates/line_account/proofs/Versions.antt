@@ -15,11 +15,39 @@ use Rattle.script_text.specs.declared.answer.Answer.{Answer}
 use Rattle.script_text.specs.declared.answer.Answer.TheVariants as answer
 use Rattle.script_text.specs.declared.request.Request.{Request}
 use Rattle.script_text.specs.declared.request.Request.TheVariants.{Begin, Put, Save}
-use Rattle.line_account.specs.Deeds.{Began, BeganAndEnded, BeganOnTab, Begins, Halts, IsDeedOf, IsDeedOfEnd, IsWriting, PrintsBegun, Purges}
+use Rattle.line_account.specs.Deeds.{Began, BeganAndEnded, BeganOnTab, Begins, Halts, IsDeedOf, IsDeedOfEnd, IsWriting, PrintsBegun, PrintsBegunVersion, Purges, TellsBegun, TellsEnded}
 use Rattle.line_account.specs.Answers.{Run}
 use Rattle.line_account.specs.Accounts.{epochs_of}
 use Rattle.line_account.specs.Closing.{BegunIn, Closed, HaltedIn, IsSameLine, LineIn, PrintsDoomed, PrintsHalted, PurgedIn, PurgesVersion, ShownIn, SomeHalted, StoredIn, Stores, Worker, offered}
 use Rattle.line_account.proofs.Gathered.{AtEnd, by_cause, by_line, counter_is, drawn_some, inside, one_line, same_line, shown_known, tells_at}
+
+-- Answers that tell the version that a line began.
+
+ended_began : (a : Answer) (x : ℕ) → TellsEnded a x → BeganAndEnded a x
+ended_began (answer.Stored version) x h = h
+ended_began (answer.Doomed version) x h = h
+ended_began _ x h = absurd h
+
+told_began : (q : Request) (a : Answer) (x : ℕ) → TellsBegun q a x → Began q a x
+told_began (Put url body) a x h = ended_began a x h
+told_began (Save url body) a x h = ended_began a x h
+told_began (Begin tab url body) a x h = h
+told_began _ a x h = absurd h
+
+one_ended : (a : Answer) (x y : ℕ) → TellsEnded a x → BeganAndEnded a y → x ≡ y
+one_ended (answer.Stored version) x y h g = sym h ∙ g
+one_ended (answer.Doomed version) x y h g = sym h ∙ g
+one_ended _ x y h g = absurd h
+
+one_on_tab : (a : Answer) (x y : ℕ) → BeganOnTab a x → BeganOnTab a y → x ≡ y
+one_on_tab (answer.Begun version) x y h g = sym h ∙ g
+one_on_tab _ x y h g = absurd h
+
+one_told : (q : Request) (a : Answer) (x y : ℕ) → TellsBegun q a x → Began q a y → x ≡ y
+one_told (Put url body) a x y h g = one_ended a x y h g
+one_told (Save url body) a x y h g = one_ended a x y h g
+one_told (Begin tab url body) a x y h g = one_on_tab a x y h g
+one_told _ a x y h g = absurd h
 
 module _ {X : Type 0} (r : Run X) (crew : List (Worker X)) (c : Closed r crew) where
   pub begun_once : (a b x : ℕ) (p : BegunIn r crew a x) (q : BegunIn r crew b x) → IsSameLine crew (λ earlier s. Begins r.setting.anchors s a x) (λ earlier s. Begins r.setting.anchors s b x) p q
@@ -35,6 +63,20 @@ module _ {X : Type 0} (r : Run X) (crew : List (Worker X)) (c : Closed r crew) w
           let k : Some h.url ≡ Some g.url = sym h.named_is ∙ ap (λ (u : Served). url_in u.line.request) same ∙ g.named_is in
           let e : h.url ≡ g.url = cc in
           h.anchor ∙ ap (λ (u : List ℕ). anchor_of (key_of u) r.setting.anchors) e ∙ sym g.anchor
+
+  abbrev TellsSo : ℕ → ℕ → List Served → Served → Type 0
+  TellsSo a x earlier s = PrintsBegunVersion r.setting.anchors s a x
+
+  -- a line that printed that it began a version did so
+  pub told_begun : (a x : ℕ) (p : LineIn crew (TellsSo a x)) → Begins r.setting.anchors p.line_of.line a x
+  told_begun a x p =
+      let s : Served = p.line_of.line in
+      let began = told_began s.line.request s.answer x p.line_of.so.told in
+      let h = (tells_at r crew c (TellsSo a x) p).began x began in
+      record { anchor = p.line_of.so.anchor; drew = h.drew ∙ ap Some (sym (one_told s.line.request s.answer x h.version p.line_of.so.told h.began)); began = began }
+
+  pub told_once : (a b x : ℕ) (p : LineIn crew (TellsSo a x)) (q : LineIn crew (TellsSo b x)) → IsSameLine crew (TellsSo a x) (TellsSo b x) p q
+  told_once a b x p q = one_line r crew c (TellsSo a x) (TellsSo b x) p q x (told_begun a x p).drew (told_begun b x q).drew
 
   pub bounded : (a x : ℕ) → BegunIn r crew a x → (opening_counter r.setting < x) × (x ≤ opening_counter r.setting + offered crew)
   bounded a x p =
@@ -56,6 +98,9 @@ module _ {X : Type 0} (r : Run X) (crew : List (Worker X)) (c : Closed r crew) w
       let quiet = known_quiet r.setting c.state c.sound a e known low in
       ((known_old r.setting c.state c.sound a e known low).version, quiet.0, quiet.1, quiet.2)
 
+  pub stage_of_old : (a e : ℕ) → ShownIn r crew a e → version_of e ≤ opening_counter r.setting → (stage_of e ≡ stage_of (opening_epoch r.setting a)) ⊎ (5 ≤ stage_of e)
+  stage_of_old a e p low = (known_old r.setting c.state c.sound a e (shown_known r crew c a e p) low).stage
+
   pub version_of_new : (a e : ℕ) → ShownIn r crew a e → opening_counter r.setting < version_of e → BegunIn r crew a (version_of e)
   version_of_new a e p high = taken_by_line a (version_of e) (known_taken r.setting c.state c.sound a e (shown_known r crew c a e p) high)
 
@@ -67,7 +112,7 @@ module _ {X : Type 0} (r : Run X) (crew : List (Worker X)) (c : Closed r crew) w
       (c.sound.anchors.deeds.left a e (shown_known r crew c a e p))
 
   -- what a deed left that left an undoomed epoch at CLOSED
-  stored_line : (a e : ℕ) → doom_of e ≡ 0 → stage_of e ≡ 3 → (v : View X) (d : Deed) (earlier : List Served) (s : Served) → LeftEpoch a e d → IsDeedOf r.setting v d earlier s → Stores r.setting.anchors earlier s a (version_of e)
+  stored_line : (a e : ℕ) → doom_of e ≡ 0 → stage_of e ≡ 3 → (v : View X) (d : Deed) (earlier : List Served) (s : Served) → LeftEpoch a e d → IsDeedOf r v d earlier s → Stores r.setting.anchors earlier s a (version_of e)
   stored_line a e undoomed three v d earlier s p h = ⊎_elim
       (λ (q : d.kind ≡ Changed). absurd (⊎_elim (λ (z : stage_of d.epoch ≡ 1). wrong_stage 1 z (omega arith)) (λ (z : stage_of d.epoch ≡ 5). wrong_stage 5 z (omega arith)) (h.changed q)))
       (λ (q : (d.kind ≡ Raised) ⊎ (d.kind ≡ Doomed)). ⊎_elim

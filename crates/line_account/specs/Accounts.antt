@@ -78,6 +78,7 @@ pub record Tells {X : Type 0} (r : Run X) (v : View X) (earlier : List Served) (
   pub began : (x : ℕ) → Began s.line.request s.answer x → HasBegun s  -- and it drew the version that it began
   pub finished : (x : ℕ) → (s.answer ≡ answer.Stored x) ⊎ (s.answer ≡ answer.Doomed x) → HasFinished r.setting v earlier s x
   pub gave_up : gives_up s.answer ≡ true → HasGivenUp r.setting.anchors earlier s
+  pub full : s.answer ≡ answer.Full → r.fits ≡ false  -- a slot was wanting
   pub large : s.answer ≡ answer.Large → IsLarge r earlier s  -- nor may the entry have as many slots as its body needs
   pub long : s.answer ≡ answer.LongUrl → IsLong r s
   pub short : (url : List ℕ) (body : Body) → Offers s.line.request url body → Fits earlier s.line.request → r.room < 32 + length url → s.answer ≡ answer.LongUrl  -- it comes wherever the URL is long
@@ -117,5 +118,5 @@ pub record Account {X : Type 0} (r : Run X) (v : View X) (served : List Served) 
   pub opening : (a : ℕ) → a < r.setting.anchors → Contains v.seen (Stood a (opening_epoch r.setting a))  -- it has seen the epochs of the opening
   pub drawn : (x : ℕ) → drawn x v.trail ≡ count_by (drew_version x) served  -- a version was drawn as often as lines drew it
   pub draws : draws v.trail ≡ count_by drew_some served  -- and one by as many lines as drew one
-  pub deeds : (d : Deed) → Contains v.deeds d → (d.pass ≡ v.pass) × HasLine r.setting v d served at_end  -- each deed is the worker's own, and has its line
+  pub deeds : (d : Deed) → Contains v.deeds d → (d.pass ≡ v.pass) × HasLine r v d served at_end  -- each deed is the worker's own, and has its line
   pub lines : (later earlier : List Served) (s : Served) → served ≡ later ++ s ∷ earlier → Tells r v earlier s  -- each line tells what it should

@@ -27,11 +27,13 @@ use Rattle.line_account.specs.Lines.{IsAt, Served, added, begun_by, bytes_given,
 
 -- What does not change during a run: the setting of the store, how many bytes of a content a slot takes, and the URL and the body of
 -- each offer. One below the slots is the entry of the file that begins at this slot, and another is that of a line. Where the cells do
--- not tell what they hold, nothing is said of bytes.
+-- not tell what they hold, nothing is said of bytes. A run fits where the slots suffice for the most that each anchor ever holds, and
+-- the store keeps to it that none is wanting then; else nothing is said of that.
 pub record Run (X : Type 0) : Type 0 where
   pub setting : Setting X
   pub room : ℕ
   pub tells : Bool
+  pub fits : Bool
   pub url : ℕ → List ℕ
   pub body : ℕ → List ℕ
 

@@ -9,7 +9,7 @@ use Rattle.core_model.specs.Sound.{Sound}
 use Rattle.core_model.specs.State.{State}
 use Rattle.core_model.specs.Tabs.{IsPass}
 use Rattle.line_account.specs.Lines.{IsAt, LineOf, Served, Writes, offers}
-use Rattle.line_account.specs.Deeds.{Begins, Halts, IsWriting, Purges}
+use Rattle.line_account.specs.Deeds.{Begins, Halts, IsWriting, PrintsBegunVersion, Purges}
 use Rattle.line_account.specs.Accounts.{Account, Shows}
 use Rattle.line_account.specs.Answers.{Run}
 
@@ -51,6 +51,10 @@ offered crew = sum_by offered_by crew
 -- a line began the version x at the anchor a
 abbrev pub BegunIn : {X : Type 0} → Run X → List (Worker X) → (a x : ℕ) → Type 0
 BegunIn r crew a x = LineIn crew (λ earlier s. Begins r.setting.anchors s a x)
+
+-- a line printed that it began the version x at the anchor a
+abbrev pub TellsBegunIn : {X : Type 0} → Run X → List (Worker X) → (a x : ℕ) → Type 0
+TellsBegunIn r crew a x = LineIn crew (λ earlier s. PrintsBegunVersion r.setting.anchors s a x)
 
 -- a line shows the epoch e at the anchor a
 abbrev pub ShownIn : {X : Type 0} → Run X → List (Worker X) → (a e : ℕ) → Type 0

@@ -32,7 +32,7 @@ pub record Adds {X : Type 0} (r : Run X) (v : View X) (earlier : List Served) (s
   pub keeps : Keeps v w
   pub drawn : (x : ℕ) → drawn x w.trail ≡ one_if (drew_version x s) + drawn x v.trail
   pub draws : draws w.trail ≡ one_if (drew_some s) + draws v.trail
-  pub deeds : (d : Deed) → Contains w.deeds d → Contains v.deeds d ⊎ ((d.pass ≡ v.pass) × IsDeedOf r.setting w d earlier s)
+  pub deeds : (d : Deed) → Contains w.deeds d → Contains v.deeds d ⊎ ((d.pass ≡ v.pass) × IsDeedOf r w d earlier s)
   pub fresh : (a e : ℕ) → Shows r.setting.anchors earlier s a e → seen_at a v.seen ≤ e
   pub tells : Tells r w earlier s
   pub parts : IsTrue r.tells → (e : Epoch) (bytes : List ℕ) → s.answer ≡ answer.Part e bytes → HasPart r v w earlier s (epoch_number e)  -- PART gives what the worker had seen published

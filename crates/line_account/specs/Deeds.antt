@@ -15,6 +15,7 @@ use Rattle.core_model.specs.declared.view.Sight.TheVariants.{Named}
 use Rattle.core_model.specs.declared.view.View.{View}
 use Rattle.core_model.specs.Layout.{Setting}
 use Rattle.line_account.specs.Lines.{IsAnchorOf, IsWritingOf, LineOf, Served, Writes, gives_up, url_in, writing}
+use Rattle.line_account.specs.Answers.{Run}
 
 -- a request that comes to the entry of a URL to read or to purge it
 abbrev pub Comes : Request → List ℕ → Type 0
@@ -65,6 +66,24 @@ pub record Begins (anchors : ℕ) (s : Served) (a x : ℕ) : Type 0 where
   pub drew : s.drew ≡ Some x
   pub began : Began s.line.request s.answer x
 
+-- the answers to a line that began and ended a writing which tell its version
+abbrev pub TellsEnded : Answer → ℕ → Type 0
+TellsEnded (answer.Stored version) x = version ≡ x
+TellsEnded (answer.Doomed version) x = version ≡ x
+TellsEnded _ x = ⊥
+
+-- the answers to a line that offers a body which tell that it began the version x
+abbrev pub TellsBegun : Request → Answer → ℕ → Type 0
+TellsBegun (Put url body) a x = TellsEnded a x
+TellsBegun (Save url body) a x = TellsEnded a x
+TellsBegun (Begin tab url body) a x = BeganOnTab a x
+TellsBegun _ a x = ⊥
+
+-- a line printed that it began the version x at the anchor a
+pub record PrintsBegunVersion (anchors : ℕ) (s : Served) (a x : ℕ) : Type 0 where
+  pub anchor : IsAnchorOf anchors (url_in s.line.request) a
+  pub told : TellsBegun s.line.request s.answer x
+
 -- a line may have to evict an entry for a slot that it needs
 abbrev pub MayEvict : Request → Type 0
 MayEvict (Put url body) = Unit {0}
@@ -72,6 +91,11 @@ MayEvict (Save url body) = Unit {0}
 MayEvict (Add tab count) = Unit {0}
 MayEvict (End tab) = Unit {0}
 MayEvict _ = ⊥
+
+-- a line that evicted an entry, in a run that does not fit
+pub record Evicts {X : Type 0} (r : Run X) (s : Served) : Type 0 where
+  pub may : MayEvict s.line.request
+  pub wants : r.fits ≡ false
 
 -- what the worker knows of the entry of version x, at the anchor a, that a line of its own began: its key and its offer
 pub record IsNamed {X : Type 0} (k : Setting X) (v : View X) (a x : ℕ) (first : Served) : Type 0 where
@@ -107,15 +131,15 @@ pub record Purges (anchors : ℕ) (s : Served) (a e : ℕ) : Type 0 where
 
 -- The deed belongs to the line s, which has these before it; v is what its worker knows. It entered an anchor, or changed, raised or
 -- doomed one, and each of these has the lines that may do so.
-pub record IsDeedOf {X : Type 0} (k : Setting X) (v : View X) (d : Deed) (earlier : List Served) (s : Served) : Type 0 where
-  pub entered : d.kind ≡ Entered → ComesTo k.anchors s.line.request d.anchor
+pub record IsDeedOf {X : Type 0} (r : Run X) (v : View X) (d : Deed) (earlier : List Served) (s : Served) : Type 0 where
+  pub entered : d.kind ≡ Entered → ComesTo r.setting.anchors s.line.request d.anchor
   pub changed : d.kind ≡ Changed → (stage_of d.epoch ≡ 1) ⊎ (stage_of d.epoch ≡ 5)  -- it took the anchor for a new entry, or began to free its entry
-  pub took : d.kind ≡ Changed → stage_of d.epoch ≡ 1 → Begins k.anchors s d.anchor (version_of d.epoch)
-  pub evicted : d.kind ≡ Changed → stage_of d.epoch ≡ 5 → d.was_idle ≡ true → MayEvict s.line.request
-  pub grew : d.kind ≡ Raised → (stage_of d.epoch ≡ 2) ⊎ (stage_of d.epoch ≡ 3) → Grows k v earlier s d.anchor (version_of d.epoch)
+  pub took : d.kind ≡ Changed → stage_of d.epoch ≡ 1 → Begins r.setting.anchors s d.anchor (version_of d.epoch)
+  pub evicted : d.kind ≡ Changed → stage_of d.epoch ≡ 5 → d.was_idle ≡ true → Evicts r s
+  pub grew : d.kind ≡ Raised → (stage_of d.epoch ≡ 2) ⊎ (stage_of d.epoch ≡ 3) → Grows r.setting v earlier s d.anchor (version_of d.epoch)
   pub closed : d.kind ≡ Raised → stage_of d.epoch ≡ 3 → Finishes s.answer d.epoch
-  pub halted : d.kind ≡ Raised → stage_of d.epoch ≡ 4 → Halts k.anchors earlier s d.anchor (version_of d.epoch)
-  pub doomed : d.kind ≡ Doomed → Purges k.anchors s d.anchor d.epoch
+  pub halted : d.kind ≡ Raised → stage_of d.epoch ≡ 4 → Halts r.setting.anchors earlier s d.anchor (version_of d.epoch)
+  pub doomed : d.kind ≡ Doomed → Purges r.setting.anchors s d.anchor d.epoch
   pub with_doom : d.kind ≡ Doomed → doom_of d.epoch ≡ 1
 
 -- some tab writes the version x at the anchor a after these lines
@@ -132,5 +156,5 @@ pub record IsDeedOfEnd {X : Type 0} (k : Setting X) (d : Deed) (served : List Se
   pub doomed : d.kind ≡ Doomed → ⊥
 
 -- the deed belongs to one of these lines, or to the end, if the worker is there
-abbrev pub HasLine : {X : Type 0} → Setting X → View X → Deed → List Served → Bool → Type 0
-HasLine k v d served at_end = LineOf served (IsDeedOf k v d) ⊎ ((at_end ≡ true) × IsDeedOfEnd k d served)
+abbrev pub HasLine : {X : Type 0} → Run X → View X → Deed → List Served → Bool → Type 0
+HasLine r v d served at_end = LineOf served (IsDeedOf r v d) ⊎ ((at_end ≡ true) × IsDeedOfEnd r.setting d served)

@@ -1,7 +1,7 @@
 pub mod Lines
 pub mod Requests
-pub mod Deeds
 pub mod Answers
+pub mod Deeds
 pub mod Accounts
 pub mod Courses
 pub mod Closing

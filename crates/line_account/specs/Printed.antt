@@ -2,7 +2,7 @@
 use Rattle.std.specs.Prelude.{List, Some, [], length, min, take, ◌*◌, ◌+◌, ◌<◌, ◌≡◌, ◌≢◌, ◌≤◌, ◌⊎◌, ℕ}
 use Rattle.store_key.specs.Anchor.{anchor_of, back_half, front_half}
 use Rattle.store_key.specs.Key.{key_of}
-use Rattle.lock_word.specs.Words.{epoch_number}
+use Rattle.lock_word.specs.Words.{epoch_number, stage_of}
 use Rattle.lock_word.specs.declared.cause.Cause.TheVariants.{OtherKey}
 use Rattle.lock_word.specs.declared.epoch.Epoch.{Epoch}
 use Rattle.lock_word.specs.declared.word.Word.{Word}
@@ -13,6 +13,7 @@ use Rattle.script_text.specs.declared.body.Body.{Body}
 use Rattle.script_text.specs.declared.request.Request.TheVariants.{Add, Begin, End, Get}
 use Rattle.core_model.specs.declared.moves.Side.TheVariants.{Key0, Key1, Offer}
 use Rattle.core_model.specs.declared.view.Place.TheVariants.{Beside}
+use Rattle.core_model.specs.Anchors.{opening_epoch}
 use Rattle.core_model.specs.Layout.{word_in}
 use Rattle.line_account.specs.Lines.{IsAt, Offers, Served, begun_by, opened_by, url_in, writing}
 use Rattle.line_account.specs.Deeds.{ComesTo, MayEvict}
@@ -41,7 +42,11 @@ pub record IsKeyOfLine {X : Type 0} (r : Run X) (crew : List (Worker X)) (a x : 
   pub url_is : url_in begun.line_of.line.line.request ≡ Some url
   pub key_is : key ≡ key_of url
 
--- the offer of the entry that the anchor a had at the opening
+-- the anchor a had an entry at the opening
+abbrev pub HadEntry : {X : Type 0} → Run X → ℕ → Type 0
+HadEntry r a = stage_of (opening_epoch r.setting a) ≡ 3
+
+-- and its offer
 abbrev pub old_offer : {X : Type 0} → Run X → ℕ → ℕ
 old_offer r a = word_in r.setting r.setting.words (Beside Offer a)
 
@@ -63,6 +68,7 @@ pub record IsBodyOfLine {X : Type 0} (r : Run X) (crew : List (Worker X)) (a x :
 
 -- they are the body of the entry that the anchor had at the opening, and the URL is its URL
 pub record IsOldBody {X : Type 0} (r : Run X) (a : ℕ) (url bytes : List ℕ) : Type 0 where
+  pub there : HadEntry r a
   pub whole : bytes ≡ r.body (old_offer r a)
   pub url_is : r.url (old_offer r a) ≡ url
 
@@ -71,7 +77,7 @@ pub record IsOldBody {X : Type 0} (r : Run X) (a : ℕ) (url bytes : List ℕ) :
 pub record IsOtherUrl {X : Type 0} (r : Run X) (crew : List (Worker X)) (url other : List ℕ) : Type 0 where
   pub same_key : key_of other ≡ key_of url
   pub differs : other ≢ url
-  pub source : (r.url (old_offer r (anchor_of (key_of url) r.setting.anchors)) ≡ other)
+  pub source : (HadEntry r (anchor_of (key_of url) r.setting.anchors) × (r.url (old_offer r (anchor_of (key_of url) r.setting.anchors)) ≡ other))
       ⊎ ((x : ℕ) × (p : BegunIn r crew (anchor_of (key_of url) r.setting.anchors) x) × (url_in p.line_of.line.line.request ≡ Some other))
 
 -- some URL is such a one

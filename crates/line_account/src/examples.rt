@@ -55,6 +55,12 @@ pub fn nothing_is_halted_by_itself<X>()
         → s.answer ≡ Answer.Miss (Cause.Leaving e) → stage_of (epoch_number e) ≡ 4 → ⊥ }
 {}
 
+/// In a run that fits it shows no epoch at GONE that is not doomed either.
+pub fn nothing_gives_way_where_lines_fit<X>()
+    ensures { (r : Run X) (w : Worker X) (s : Served) (url : List ℕ) (e : Epoch) → Closed r (alone w) → IsTrue r.fits → w.served ≡ s ∷ [] → s.line.request ≡ Request.Get url
+        → s.answer ≡ Answer.Miss (Cause.Absent e) → stage_of (epoch_number e) ≡ 6 → e.doom ≡ true }
+{}
+
 /// Where a worker met the mark that another set behind a `put` that printed STORED, its `get` of the URL
 /// misses at no epoch below that of the stored entry.
 pub fn no_old_miss_follows_a_mark<X>()

@@ -17,7 +17,7 @@ ghost use Rattle.core_model.specs.Sound.{Sound};
 ghost use Rattle.core_model.specs.State.{State};
 ghost use Rattle.core_model.specs.Anchors.{opening_counter, opening_epoch};
 ghost use Rattle.line_account.specs.Lines.{Fits, Offers, Served, added, given, offers};
-ghost use Rattle.line_account.specs.Deeds.{Begins, PrintsBegun};
+ghost use Rattle.line_account.specs.Deeds.{Begins, PrintsBegun, PrintsBegunVersion};
 ghost use Rattle.line_account.specs.Requests.{IsAnswerTo};
 ghost use Rattle.line_account.specs.Parts.{AddsTo, GivesOf, IsCourseOf, PrintsPart};
 ghost use Rattle.line_account.specs.Scripts.{ServesScript, offering};
@@ -32,17 +32,22 @@ ghost use Rattle.core_model.specs.Trails.{drawn, draws};
 ghost use Rattle.line_account.specs.Accounts.{Account, epoch_in};
 ghost use Rattle.line_account.specs.Courses.{Adds, Begins as BeginsWork, Course, Keeps, Leaves, Stage, lines_in};
 ghost use Rattle.line_account.specs.Steps.{IsAfter, IsIdle, IsMarkLine, IsTabLine};
-ghost use Rattle.line_account.specs.Printed.{AnotherComes, EndsBegun, AreFirstOnes, ReadsOf, GivenBackIn, PrintsAdded, HasBusyWords, HasOtherUrl, HitIn, IsBodyOfLine, IsKeyOfLine, IsOldBody, IsOldUrl, KeyIn, NeedsTooMany, PrintsLarge, PrintsOther, PrintsReaders};
-ghost use Rattle.line_account.specs.Closing.{Closed, Worker, BegunIn, ShownIn, StoredIn, HaltedIn, PurgedIn, IsSameLine, LineIn, PrintsHalted, PrintsDoomed, SomeHalted, offered};
+ghost use Rattle.line_account.specs.Printed.{AnotherComes, EndsBegun, AreFirstOnes, ReadsOf, GivenBackIn, HadEntry, PrintsAdded, HasBusyWords, HasOtherUrl, HitIn, IsBodyOfLine, IsKeyOfLine, IsOldBody, IsOldUrl, KeyIn, NeedsTooMany, PrintsLarge, PrintsOther, PrintsReaders};
+ghost use Rattle.line_account.specs.Closing.{Closed, Worker, BegunIn, TellsBegunIn, ShownIn, StoredIn, HaltedIn, PurgedIn, IsSameLine, LineIn, PrintsHalted, PrintsDoomed, SomeHalted, offered};
 
 /// Each version is begun by one line, and at one anchor, and a line begins one version at most. It offers a
-/// body, and printed BEGUN, STORED, DOOMED, FULL, LARGE or FAULT.
+/// body, and printed BEGUN, STORED, DOOMED, FULL, LARGE or FAULT. A `begin` that printed BEGUN with a version
+/// began it, and so did a `put` or a `save` that printed STORED or DOOMED with it. So no two lines print so
+/// of one version.
 pub fn versions_are_begun_by_one_line<X>()
     ensures version { (anchors : ℕ) (s : Served) (a b x y : ℕ) → Begins anchors s a x → Begins anchors s b y → x ≡ y }
     ensures printed { (anchors : ℕ) (s : Served) (a x : ℕ) → Begins anchors s a x → (offers s.line.request ≡ true) × PrintsBegun s.answer }
     ensures line { (r : Run X) (crew : List (Worker X)) (a b x : ℕ) → Closed r crew → (p : BegunIn r crew a x) → (q : BegunIn r crew b x)
         → IsSameLine crew (λ earlier s. Begins r.setting.anchors s a x) (λ earlier s. Begins r.setting.anchors s b x) p q }
     ensures anchor { (r : Run X) (crew : List (Worker X)) (a b x : ℕ) → Closed r crew → BegunIn r crew a x → BegunIn r crew b x → a ≡ b }
+    ensures told { (r : Run X) (crew : List (Worker X)) (a x : ℕ) → Closed r crew → (p : TellsBegunIn r crew a x) → Begins r.setting.anchors p.line_of.line a x }
+    ensures once { (r : Run X) (crew : List (Worker X)) (a b x : ℕ) → Closed r crew → (p : TellsBegunIn r crew a x) → (q : TellsBegunIn r crew b x)
+        → IsSameLine crew (λ earlier s. PrintsBegunVersion r.setting.anchors s a x) (λ earlier s. PrintsBegunVersion r.setting.anchors s b x) p q }
 {}
 
 /// A version that a line began is above the counter of the opening, and at most that and one for each
@@ -53,10 +58,13 @@ pub fn begun_versions_have_bounds<X>()
 {}
 
 /// The version of an epoch that a line shows is the one that its anchor had at the opening, and then the
-/// epoch is not TAKEN, APPENDING or HALTED; or a line began it there.
+/// epoch is not TAKEN, APPENDING or HALTED: it is at the stage that it had then, or its entry is given back.
+/// Or a line began it there.
 pub fn epochs_have_versions<X>()
     ensures old { (r : Run X) (crew : List (Worker X)) (a e : ℕ) → Closed r crew → ShownIn r crew a e → version_of e ≤ opening_counter r.setting
         → (version_of e ≡ version_of (opening_epoch r.setting a)) × (stage_of e ≢ 1) × (stage_of e ≢ 2) × (stage_of e ≢ 4) }
+    ensures stage { (r : Run X) (crew : List (Worker X)) (a e : ℕ) → Closed r crew → ShownIn r crew a e → version_of e ≤ opening_counter r.setting
+        → (stage_of e ≡ stage_of (opening_epoch r.setting a)) ⊎ (5 ≤ stage_of e) }
     ensures new { (r : Run X) (crew : List (Worker X)) (a e : ℕ) → Closed r crew → ShownIn r crew a e → opening_counter r.setting < version_of e
         → BegunIn r crew a (version_of e) }
 {}
@@ -104,10 +112,12 @@ pub fn accounts_grow<X>()
 {}
 
 /// A key that a line prints is that of one URL: of the entry that the anchor had at the opening, where its
-/// version is of then, or of the line that began its version there.
+/// version is of then, and the anchor did have one; or of the line that began its version there.
 pub fn keys_are_of_lines<X>()
     ensures old { (r : Run X) (crew : List (Worker X)) (a : ℕ) (epoch : Epoch) (key url : List ℕ) → Closed r crew → KeyIn r crew a epoch key
         → version_of (epoch_number epoch) ≤ opening_counter r.setting → IsOldUrl r a url → key ≡ key_of url }
+    ensures kept { (r : Run X) (crew : List (Worker X)) (a : ℕ) (epoch : Epoch) (key : List ℕ) → Closed r crew → KeyIn r crew a epoch key
+        → version_of (epoch_number epoch) ≤ opening_counter r.setting → HadEntry r a }
     ensures new { (r : Run X) (crew : List (Worker X)) (a : ℕ) (epoch : Epoch) (key : List ℕ) → Closed r crew → KeyIn r crew a epoch key
         → opening_counter r.setting < version_of (epoch_number epoch) → IsKeyOfLine r crew a (version_of (epoch_number epoch)) key }
 {}
@@ -188,6 +198,15 @@ pub fn lines_are_in_order_after_marks<X>()
 /// halted, or some line is one of those that may evict an entry.
 pub fn entries_are_given_back_by_lines<X>()
     ensures { (r : Run X) (crew : List (Worker X)) (a e : ℕ) → Closed r crew → ShownIn r crew a e → doom_of e ≡ 0 → 4 ≤ stage_of e → GivenBackIn r crew a (version_of e) }
+{}
+
+/// In a run that fits nothing is evicted and no slot is wanting: an epoch at HALTED, FREEING or GONE that is
+/// not doomed comes only where the writing of its version was halted, so with no version of the opening;
+/// and no line prints FULL.
+pub fn runs_that_fit_lose_nothing<X>()
+    ensures given_back { (r : Run X) (crew : List (Worker X)) (a e : ℕ) → Closed r crew → IsTrue r.fits → ShownIn r crew a e → doom_of e ≡ 0 → 4 ≤ stage_of e → HaltedIn r crew a (version_of e) }
+    ensures old { (r : Run X) (crew : List (Worker X)) (a e : ℕ) → Closed r crew → IsTrue r.fits → ShownIn r crew a e → doom_of e ≡ 0 → 4 ≤ stage_of e → opening_counter r.setting < version_of e }
+    ensures full { (r : Run X) (crew : List (Worker X)) → Closed r crew → IsTrue r.fits → LineIn crew (λ earlier s. s.answer ≡ Answer.Full) → ⊥ }
 {}
 
 /// The count of ADDED is that which was asked for, or what the body had left, if that is less.

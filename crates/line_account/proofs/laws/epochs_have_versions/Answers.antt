@@ -1,4 +1,4 @@
-use Rattle.line_account.proofs.Versions.{version_of_new, version_of_old}
+use Rattle.line_account.proofs.Versions.{stage_of_old, version_of_new, version_of_old}
 use Rattle.line_account.proofs.laws.epochs_have_versions.Goals as goal
 
 pub returns-clause-old : goal.returns-clause-old
@@ -6,3 +6,6 @@ returns-clause-old c start r crew a e closed p low = version_of_old r crew close
 
 pub returns-clause-new : goal.returns-clause-new
 returns-clause-new c start r crew a e closed p high = version_of_new r crew closed a e p high
+
+pub returns-clause-stage : goal.returns-clause-stage
+returns-clause-stage c start r crew a e closed p low = stage_of_old r crew closed a e p low
