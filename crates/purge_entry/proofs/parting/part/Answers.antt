@@ -1,0 +1,21 @@
+use Rattle.std.proofs.Common.{inl}
+use Rattle.store_rule.specs.Passes.{basis, view}
+use Rattle.pass_calls.proofs.Following.{follows_on}
+use Rattle.purge_entry.proofs.PartedTabs.{done_tabs, freed_tabs, may_free}
+use Rattle.purge_entry.proofs.parting.part.Goals as goal
+
+pub free_chain-requires-after_bounds : goal.free_chain-requires-after_bounds
+free_chain-requires-after_bounds g c κs within = may_free g.C.Cell.tells g.C.Cell.state g.O.Origin.offers c.args.store.now c.args.pass.now c.requires c.leave.new.pass
+    (basis g.C.Cell.tells g.C.Cell.state g.O.Origin.offers c.args.store.now) c.in-MustFree.ensures.left c.in-MustFree.ensures.others.own
+
+pub returns-in-Done-clause-parted : goal.returns-in-Done-clause-parted
+returns-in-Done-clause-parted g c = inl record { leaves = c.in-Done.ensures.left }
+
+pub returns-in-Done-clause-free : goal.returns-in-Done-clause-free
+returns-in-Done-clause-free g c = done_tabs (basis g.C.Cell.tells g.C.Cell.state g.O.Origin.offers c.args.store.now) (view c.args.pass.now) c.requires.counted (view c.leave.new.pass) c.in-Done.ensures.left
+
+pub returns-in-MustFree-clause-free : goal.returns-in-MustFree-clause-free
+returns-in-MustFree-clause-free g c = freed_tabs (basis g.C.Cell.tells g.C.Cell.state g.O.Origin.offers c.args.store.now) (view c.args.pass.now) c.requires.counted (view c.leave.new.pass) (view c.free_chain.new.pass) c.in-MustFree.ensures.left c.free_chain.ensures.freed
+
+pub returns-in-MustFree-clause-others : goal.returns-in-MustFree-clause-others
+returns-in-MustFree-clause-others g c = follows_on g.C.Cell.tells g.C.Cell.state g.O.Origin.offers c.args.store.now 8 c.args.pass.now c.leave.new.pass c.free_chain.new.pass c.in-MustFree.ensures.others c.free_chain.ensures.others

@@ -1,0 +1,5 @@
+//! Tests of purging, with entries that are written and read meanwhile.
+#![tactic(auto)]
+
+#[cfg(test)]
+mod tests;
