@@ -1,5 +1,5 @@
 -- A new store is ready for a test.
-use Rattle.std.proofs.Common.{All, Bool, List, None, Option, Some, [], ap, arith, false, get_or, length, length-append, refl, replicate, subst, suc, sym, zero, ◌++◌, ◌+◌, ◌-◌, ◌<◌, ◌∷◌, ◌≡◌, ◌≤◌, ◌∙◌, ℕ}
+use Rattle.std.proofs.Common.{All, Bool, List, None, Option, Some, [], ap, arith, false, get_or, length, length-append, refl, replicate, subst, suc, sym, take, zero, ◌++◌, ◌+◌, ◌-◌, ◌<◌, ◌∷◌, ◌≡◌, ◌∙◌, ℕ}
 use Rattle.std.proofs.lemmas.Bool.{false≢true}
 use Rattle.std.specs.Option.{option_to_list}
 use Rattle.std.specs.Prelude.{Err, Ok, Result}
@@ -11,9 +11,10 @@ use Rattle.store_key.specs.Url.{IsUrl}
 use Rattle.store_rule.specs.declared.store.Pass.{Pass}
 use Rattle.store_rule.specs.declared.store.Store.{Store}
 use Rattle.store_rule.specs.Ground.{Ground, Offers}
-use Rattle.store_rule.specs.Passes.{IsNewOf, view}
+use Rattle.store_rule.specs.Passes.{IsNewOf}
+use Rattle.writer_tests.specs.declared.offered.Fronts.{Fronts}
 use Rattle.writer_tests.specs.declared.offered.Offered.{Offered}
-use Rattle.writer_tests.specs.Offers.{either, offers_of}
+use Rattle.writer_tests.specs.Offers.{either, fronts_of, offers_of}
 use Rattle.writer_tests.specs.Tabs.{IsIdle, IsOffer}
 
 all_free : {X : Type 0} (n t : ℕ) → get_or {A = Tab X} (replicate n Tab.Free) t Tab.Free ≡ Tab.Free
@@ -32,6 +33,15 @@ popped P zs xs o y all is some = subst P (last_at xs y y) (subst (All P) (is ∙
     last_at : {A : Type 0} (xs : List A) (y d : A) → get_or (xs ++ y ∷ []) (length xs) d ≡ y
     last_at [] y d = refl
     last_at (x ∷ xs) y d = last_at xs y d
+
+-- and of each item that is left
+pub popped_rest : {A : Type 0} (P : A → Type 0) (zs xs : List A) (o : Option A) (y : A) → All P zs → zs ≡ xs ++ option_to_list o → o ≡ Some y → All P xs
+popped_rest P zs xs o y all is some = λ k d lt. subst P (other_at xs y k d lt) (subst (All P) (is ∙ ap (λ z. xs ++ option_to_list z) some) all k d (let l = length-append xs (y ∷ []) in omega (arith, l, lt)))
+  where
+    other_at : {A : Type 0} (xs : List A) (y : A) (k : ℕ) (d : A) → k < length xs → get_or (xs ++ y ∷ []) k d ≡ get_or xs k d
+    other_at [] y k d lt = absurd (omega (arith, lt))
+    other_at (x ∷ xs) y zero d lt = refl
+    other_at (x ∷ xs) y (suc k) d lt = other_at xs y k d (omega (arith, lt))
 
 pub is_ok_of : {T E : Type 0} (r : Result T E) → is_err r ≡ false → IsOk r
 is_ok_of (Ok x) e = refl
@@ -58,3 +68,13 @@ module _ {X : Type 0} (g : Ground X) (o : Offered) (is : g.offers ≡ offers_of 
     good = good;
     alone = nobody;
   }
+
+-- the offer n of the fronts of a body has its first n bytes
+pub is_front : {X : Type 0} (g : Ground X) (o : Fronts) (n : ℕ) (url body : List ℕ) → g.offers ≡ fronts_of o → o.whole.url.items ≡ url → o.whole.body.items ≡ body → IsUrl url → IsOffer g (g.setting.slots + n) url (take n body)
+is_front g o n url body is u b good = let same : g.setting.slots + n - g.setting.slots ≡ n = omega arith in record {
+  from = omega arith;
+  url_is = ap (λ (z : Offers). z.url (g.setting.slots + n - g.setting.slots)) is ∙ u;
+  body_is = ap (λ (z : Offers). z.body (g.setting.slots + n - g.setting.slots)) is ∙ ap (λ (k : ℕ). take k o.whole.body.items) same ∙ ap (take n) b;
+  good = good;
+  alone = λ a. ap (λ (z : Offers). z.alone a) is;
+}

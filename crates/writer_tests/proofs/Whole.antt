@@ -1,18 +1,14 @@
 -- A response is stored whole.
-use Rattle.std.proofs.Common.{Bool, List, [], ap, arith, drop, length, length-drop, length-take, refl, subst, sym, take, ◌+◌, ◌-◌, ◌<◌, ◌≡◌, ◌≢◌, ◌≤◌, ◌∙◌, ℕ}
+use Rattle.std.proofs.Common.{Bool, List, [], ap, arith, drop, length, length-drop, length-take, refl, sym, take, ◌-◌, ◌<◌, ◌≡◌, ◌≢◌, ◌≤◌, ◌∙◌, ℕ}
 use Rattle.std.proofs.lemmas.List.{take_min}
 use Rattle.rock_disk.specs.Cell.{CellState}
-use Rattle.core_model.specs.Tabs.{InnerIsFree, inner, tab_at}
-use Rattle.store_key.specs.Url.{IsUrl}
+use Rattle.core_model.specs.Tabs.{InnerIsFree, inner}
 use Rattle.store_rule.specs.declared.store.Pass.{Pass}
 use Rattle.store_rule.specs.declared.store.Store.{Store}
-use Rattle.store_rule.specs.Ground.{Ground, Offers}
+use Rattle.store_rule.specs.Ground.{Offers}
 use Rattle.store_rule.specs.Passes.{IsOf, basis, view}
-use Rattle.rock_writer.specs.Appending.{MayAppend, NotAppended}
 use Rattle.rock_writer.specs.Beginning.{MayBegin}
-use Rattle.rock_writer.specs.Entries.{Continues, Entry, WritesAs, body_in, with_taken}
-use Rattle.rock_writer.specs.Finishing.{MayFinish}
-use Rattle.rock_writer.specs.Halting.{Halts, Parted}
+use Rattle.rock_writer.specs.Halting.{Parted}
 use Rattle.rock_writer.specs.Passes.{FollowsWriting}
 use Rattle.core_model.specs.declared.view.View.{View}
 use Rattle.writer_tests.specs.Tabs.{IsIdle, IsOffer}

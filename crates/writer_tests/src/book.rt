@@ -26,6 +26,15 @@ impl Blank {
         Ok(cells)
     }
 
+    /// The cells of a store of two slots.
+    pub fn two(alloc: Global) -> Result<Vec<Blank>, AllocError>
+        ensures length { IfOk result (λ cells. length cells.items ≡ 2) }
+        ensures cells { IfOk result (λ cells. IsRow blank_state 512 cells.items × All (IsSettled false blank_state) cells.items) }
+    {
+        let cells = Vec::from_array(alloc, [Blank { number: 0 }, Blank { number: 1 }])?;
+        Ok(cells)
+    }
+
     /// The cells of a store of four slots.
     pub fn four(alloc: Global) -> Result<Vec<Blank>, AllocError>
         ensures length { IfOk result (λ cells. length cells.items ≡ 4) }

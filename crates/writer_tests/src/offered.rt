@@ -20,3 +20,15 @@ impl Origin for Offered {
 
     ghost offers = { offers_of };
 }
+
+/// The fronts of one body under one URL: the offer n has the first n bytes. No anchor is left to one pass.
+#[derive(Drop)]
+pub struct Fronts {
+    pub whole: Response,
+}
+
+impl Origin for Fronts {
+    ghost use Rattle.writer_tests.specs.Offers.{fronts_of};
+
+    ghost offers = { fronts_of };
+}

@@ -36,15 +36,45 @@ pub fn store_whole<C: Cell, O: Origin, St: Station<C = C>>(
     ensures idle { IsIdle C.tells C.state O.offers store.now pass.new tab }
     ensures others { FollowsWriting C.tells C.state O.offers store.now tab pass.old pass.new }
 {
-    if let Err(fault) = begin(store, pass, tab, offer, url, durable) {
-        return Came::NotBegun(fault);
-    }
-    if let Err(fault) = append_all(store, pass, station, tab, body, step) {
-        return Came::NotWritten(fault);
+    if let Err(came) = write_all(store, pass, station, tab, offer, url, body, step, durable) {
+        return came;
     }
     match finish(store, pass, station, tab) {
         Ok(ended) => Came::Ended(ended),
         Err(fault) => Came::NotWritten(fault),
+    }
+}
+
+/// Begins an entry at a free tab and appends its whole body, so many bytes at a time. It answers the version.
+///
+/// # Errors
+///
+/// What became of the response. The tab is free.
+pub fn write_all<C: Cell, O: Origin, St: Station<C = C>>(
+    store: &Store<C, O>,
+    pass: &mut Pass<C>,
+    station: &mut St,
+    tab: u8,
+    offer: u64,
+    url: &[u8],
+    body: &[u8],
+    step: usize,
+    durable: bool,
+) -> Result<u32, Came>
+    requires idle { IsIdle C.tells C.state O.offers store.now pass.old tab }
+    requires offer { IsOffer (basis C.tells C.state O.offers store.now) offer url.now body.now }
+    requires step { 0 < step }
+    ensures ok { OnOk result ((e : Entry) × MayFinish C.tells C.state O.offers store.now tab e pass.new) }
+    ensures err { OnErr result (IsIdle C.tells C.state O.offers store.now pass.new tab) }
+    ensures others { FollowsWriting C.tells C.state O.offers store.now tab pass.old pass.new }
+{
+    let version = match begin(store, pass, tab, offer, url, durable) {
+        Ok(version) => version,
+        Err(fault) => return Err(Came::NotBegun(fault)),
+    };
+    match append_all(store, pass, station, tab, body, step) {
+        Ok(()) => Ok(version),
+        Err(fault) => Err(Came::NotWritten(fault)),
     }
 }
 

@@ -5,6 +5,7 @@ ghost use Rattle.store_rule.specs.Setting.{IsRow, IsSettled};
 ghost use Rattle.writer_tests.specs.Books.{blank_state};
 
 use super::*;
+use crate::pages::{KEY, META, URL};
 use lock_word::{Epoch, Stage, Word};
 use rock_disk::{Cell, Station};
 use rock_writer::{BeginFault, Ended, WriteFault, begin, finish};
@@ -13,18 +14,6 @@ use std::process::Abort;
 use std::test::Fail;
 use store_key::check_url;
 use store_rule::{Origin, Pass, Store};
-
-/// The URL of most tests. Metadata and URL are 42 bytes, so that a slot has room for 430 bytes of body.
-const URL: &[u8] = b"http://a/b";
-
-/// The MD5 of a byte 1 and this URL, by the program md5sum.
-const KEY: [u8; 16] = [
-    0x1a, 0x68, 0xc1, 0x0d, 0x6c, 0x8b, 0x32, 0x66, 0x57, 0xc7, 0x75, 0xf5, 0x3c, 0x86, 0x6d, 0xd1,
-];
-
-/// The metadata of its entry.
-const META: &[u8] =
-    b"\x03\x2a\0\0\0\x03\x10\0\0\0\x1a\x68\xc1\x0d\x6c\x8b\x32\x66\x57\xc7\x75\xf5\x3c\x86\x6d\xd1\x04\x0b\0\0\0http://a/b\0";
 
 /// What a test asks for: the response, how many bytes are appended at a time, whether the entry is to be
 /// durable, and which calls of the station fail.
@@ -109,65 +98,6 @@ fn an_entry_of_430_bytes_fills_one_slot(rt: HostRuntime) -> Result<(), Fail> {
             assert_eq!(rt; pages.get(40..82), Some(META));
             assert_eq!(rt; pages.get(82..512), Some(body.as_slice()));
         }
-    }
-    Ok(())
-}
-
-/// The pages of a book in which this response was stored, of version 1, from the first page on.
-fn pages_of(alloc: Global, body: &[u8]) -> Result<Vec<u8>, Fail> {
-    let mut content = Vec::from_slice(alloc, META)?;
-    content.extend_from_slice(body)?;
-    let mut pages = Vec::new(alloc);
-    let mut next = 0u32;
-    for chunk in content.chunks(472) {
-        next = next.saturating_add(1);
-        let is_last = next as usize * 472 >= content.len();
-        let size = if is_last { content.len() as u64 } else { 0 };
-        let link = if is_last { u32::MAX } else { next };
-        pages.extend_from_slice(&KEY)?;
-        pages.extend_from_slice(&size.to_le_bytes())?;
-        pages.extend_from_slice(&(chunk.len() as u32).to_le_bytes())?;
-        pages.extend_from_slice(&1u32.to_le_bytes())?;
-        pages.extend_from_slice(&0u32.to_le_bytes())?;
-        pages.extend_from_slice(&link.to_le_bytes())?;
-        pages.extend_from_slice(chunk)?;
-    }
-    pages.resize(2_048, 0)?;
-    Ok(pages)
-}
-
-#[test]
-fn bodies_of_up_to_three_slots_are_cut_into_slots(rt: HostRuntime) -> Result<(), Fail> {
-    let alloc = rt.alloc();
-    let mut body = Vec::new(alloc);
-    // Three slots have room for 1,374 bytes of body. A body of each length near the ends of slots is appended byte
-    // by byte, seven bytes at a time, and at once.
-    for length in 0..=1_374u32 {
-        let behind = (length + 42) % 472;
-        let steps: &[usize] = if length < 2 || behind < 2 || behind > 470 {
-            &[1, 7, 2_000]
-        } else {
-            &[]
-        };
-        for step in steps {
-            let step = *step;
-            let wanted = pages_of(alloc, &body)?;
-            let row = Row {
-                url: URL,
-                body: &body,
-                step,
-                durable: false,
-                fail: &[],
-            };
-            let (came, book) = run(&rt, alloc, Blank::four(alloc)?, row)?;
-            assert_eq!(rt;
-                came,
-                Came::Ended(Ended::Stored { version: 1 }),
-                "{length} by {step}"
-            );
-            assert!(rt; book.pages() == wanted.as_slice(), "{length} by {step}");
-        }
-        body.push((length % 251) as u8)?;
     }
     Ok(())
 }

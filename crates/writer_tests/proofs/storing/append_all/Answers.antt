@@ -1,6 +1,6 @@
 use Rattle.std.proofs.Common.{ap, arith}
 use Rattle.rock_writer.specs.Entries.{body_in, with_taken}
-use Rattle.store_rule.specs.Passes.{basis, view}
+use Rattle.store_rule.specs.Passes.{basis}
 use Rattle.writer_tests.proofs.Whole.{follows_on, goes_on, on_err, parted_idle, some_bytes}
 use Rattle.writer_tests.proofs.storing.append_all.Goals as goal
 

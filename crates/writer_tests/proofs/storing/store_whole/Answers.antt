@@ -1,23 +1,14 @@
-use Rattle.std.proofs.Common.{ap, refl, sym, ◌∙◌}
-use Rattle.rock_writer.specs.Beginning.{begun}
-use Rattle.store_rule.specs.Passes.{basis, view}
-use Rattle.writer_tests.proofs.Whole.{follows_on, may_begin, parted_idle}
+use Rattle.writer_tests.proofs.Whole.{follows_on, parted_idle}
 use Rattle.writer_tests.proofs.storing.store_whole.Goals as goal
 
-pub append_all-requires-clause-writes : goal.append_all-requires-clause-writes
-append_all-requires-clause-writes g c κs within = (begun g.C.Cell.tells g.C.Cell.state g.O.Origin.offers c.args.store.now c.args.tab c.args.offer c.args.url.now c.args.durable c.args.pass.now c.begin.new.pass c.in_default.field-0, c.in_default.ensures.ok.writes, c.requires.offer.body_is)
-
-pub returns-in-Err-append_all-clause-others : goal.returns-in-Err-append_all-clause-others
-returns-in-Err-append_all-clause-others g c = follows_on g.C.Cell.tells g.C.Cell.state g.O.Origin.offers c.args.store.now c.args.tab c.args.pass.now c.begin.new.pass c.append_all.new.pass c.begin.ensures.others c.append_all.ensures.others
-
 pub returns-in-Ok-clause-idle : goal.returns-in-Ok-clause-idle
-returns-in-Ok-clause-idle g c = let may = c.in_default-append_all.ensures.ok in let f = c.in-Ok.ensures.ok may.0 may.1 in parted_idle g.C.Cell.tells g.C.Cell.state g.O.Origin.offers c.args.store.now c.args.tab c.finish.new.pass _ c.finish.ensures.others.own c.requires.idle.below f.parted
+returns-in-Ok-clause-idle g c = let may = c.in_default.ensures.ok in let f = c.in-Ok.ensures.ok may.0 may.1 in parted_idle g.C.Cell.tells g.C.Cell.state g.O.Origin.offers c.args.store.now c.args.tab c.finish.new.pass _ c.finish.ensures.others.own c.requires.idle.below f.parted
 
 pub returns-in-Ok-clause-others : goal.returns-in-Ok-clause-others
-returns-in-Ok-clause-others g c = follows_on g.C.Cell.tells g.C.Cell.state g.O.Origin.offers c.args.store.now c.args.tab c.args.pass.now c.append_all.new.pass c.finish.new.pass (follows_on g.C.Cell.tells g.C.Cell.state g.O.Origin.offers c.args.store.now c.args.tab c.args.pass.now c.begin.new.pass c.append_all.new.pass c.begin.ensures.others c.append_all.ensures.others) c.finish.ensures.others
+returns-in-Ok-clause-others g c = follows_on g.C.Cell.tells g.C.Cell.state g.O.Origin.offers c.args.store.now c.args.tab c.args.pass.now c.write_all.new.pass c.finish.new.pass c.write_all.ensures.others c.finish.ensures.others
 
 pub returns-in-Err-finish-clause-idle : goal.returns-in-Err-finish-clause-idle
-returns-in-Err-finish-clause-idle g c = let may = c.in_default-append_all.ensures.ok in let f = c.in-Err-finish.ensures.err may.0 may.1 in parted_idle g.C.Cell.tells g.C.Cell.state g.O.Origin.offers c.args.store.now c.args.tab c.finish.new.pass _ c.finish.ensures.others.own c.requires.idle.below f.halts.parted
+returns-in-Err-finish-clause-idle g c = let may = c.in_default.ensures.ok in let f = c.in-Err-finish.ensures.err may.0 may.1 in parted_idle g.C.Cell.tells g.C.Cell.state g.O.Origin.offers c.args.store.now c.args.tab c.finish.new.pass _ c.finish.ensures.others.own c.requires.idle.below f.halts.parted
 
 pub returns-in-Err-finish-clause-others : goal.returns-in-Err-finish-clause-others
-returns-in-Err-finish-clause-others g c = follows_on g.C.Cell.tells g.C.Cell.state g.O.Origin.offers c.args.store.now c.args.tab c.args.pass.now c.append_all.new.pass c.finish.new.pass (follows_on g.C.Cell.tells g.C.Cell.state g.O.Origin.offers c.args.store.now c.args.tab c.args.pass.now c.begin.new.pass c.append_all.new.pass c.begin.ensures.others c.append_all.ensures.others) c.finish.ensures.others
+returns-in-Err-finish-clause-others g c = follows_on g.C.Cell.tells g.C.Cell.state g.O.Origin.offers c.args.store.now c.args.tab c.args.pass.now c.write_all.new.pass c.finish.new.pass c.write_all.ensures.others c.finish.ensures.others

@@ -1,7 +1,7 @@
-use Rattle.std.proofs.Common.{ap, arith, false, get_or, subst, sym, ◌∙◌, ◌≢◌, ℕ}
-use Rattle.core_model.specs.Tabs.{InnerIsFree, inner, is_free, tab_at}
+use Rattle.std.proofs.Common.{ap, arith, false, get_or, subst, sym, ◌∙◌}
+use Rattle.core_model.specs.Tabs.{inner, is_free}
 use Rattle.core_model.specs.declared.tab.Tab.{Tab}
-use Rattle.store_rule.specs.Passes.{basis, view}
+use Rattle.store_rule.specs.Passes.{basis}
 use Rattle.rock_writer.specs.Beginning.{begun}
 use Rattle.rock_writer.proofs.Staying.{stays}
 use Rattle.writer_tests.specs.Tabs.{IsOffer}
