@@ -1,0 +1,12 @@
+use Rattle.std.proofs.Common.{refl}
+use Rattle.reader_tests.proofs.Readers.{closed_idle, may_close}
+use Rattle.reader_tests.proofs.reading.close.Goals as goal
+
+pub close_entry-requires-after_bounds : goal.close_entry-requires-after_bounds
+close_entry-requires-after_bounds g c κs within = may_close g.C.Cell.tells g.C.Cell.state g.O.Origin.offers c.args.store.now c.args.tab c.args.pass.now c.args.pass.now c.requires.reads refl c.requires.reads.reads.own
+
+pub returns : goal.returns
+returns g c = record {
+  idle = closed_idle g.C.Cell.tells g.C.Cell.state g.O.Origin.offers c.args.store.now c.args.tab c.args.pass.now c.close_entry.new.pass
+      (may_close g.C.Cell.tells g.C.Cell.state g.O.Origin.offers c.args.store.now c.args.tab c.args.pass.now c.args.pass.now c.requires.reads refl c.requires.reads.reads.own) c.close_entry.ensures.free c.close_entry.ensures.others.own;
+}
