@@ -1,0 +1,3 @@
+mod Adds
+mod Ends
+mod Letters

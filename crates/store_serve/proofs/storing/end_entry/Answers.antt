@@ -1,0 +1,44 @@
+use Rattle.std.proofs.Common.{inl, inr, subst, ◌∙◌}
+use Rattle.std.proofs.lemmas.Result.{IfErr-weaker, IfOk-weaker}
+use Rattle.rock_io.specs.Faults.{Rose}
+use Rattle.store_serve.proofs.Adds.{error_as, follows_on}
+use Rattle.store_serve.proofs.Ends.{added_all, may_all, may_finish}
+use Rattle.store_serve.proofs.storing.end_entry.Goals as goal
+
+pub finish-requires-after_bounds : goal.finish-requires-after_bounds
+finish-requires-after_bounds g c κs within = let e = c.requires.0 in let may = c.requires.1 in let whole = c.body_length-upto.ensures in
+    let h = added_all g.C.Cell.tells g.C.Cell.state g.O.Origin.offers c.args.store.now c.args.tab e _ c.args.from c.body_length-upto.result c.args.pass.now may whole c.add_bytes.new.pass
+    (c.in-Ok.ensures.ok e (may_all g.C.Cell.tells g.C.Cell.state g.O.Origin.offers c.args.store.now c.args.tab e _ c.args.from c.body_length-upto.result c.args.pass.now may whole)) in
+    (_, may_finish g.C.Cell.tells g.C.Cell.state g.O.Origin.offers c.args.store.now c.args.tab e _ c.args.from c.body_length-upto.result c.args.pass.now may whole c.add_bytes.new.pass h)
+
+pub returns-in-Ok-clause-ok : goal.returns-in-Ok-clause-ok
+returns-in-Ok-clause-ok g c e may = let whole = c.body_length-upto.ensures in
+    let h = added_all g.C.Cell.tells g.C.Cell.state g.O.Origin.offers c.args.store.now c.args.tab e _ c.args.from c.body_length-upto.result c.args.pass.now may whole c.add_bytes.new.pass
+    (c.in-Ok.ensures.ok e (may_all g.C.Cell.tells g.C.Cell.state g.O.Origin.offers c.args.store.now c.args.tab e _ c.args.from c.body_length-upto.result c.args.pass.now may whole)) in
+    let f = may_finish g.C.Cell.tells g.C.Cell.state g.O.Origin.offers c.args.store.now c.args.tab e _ c.args.from c.body_length-upto.result c.args.pass.now may whole c.add_bytes.new.pass h in
+    IfOk-weaker c.finish.result _ _ (λ ended closed. record { middle = c.add_bytes.new.pass; added = h; finished = closed }) (c.finish.ensures.ok _ f)
+
+pub returns-in-Ok-clause-err : goal.returns-in-Ok-clause-err
+returns-in-Ok-clause-err g c e may = let whole = c.body_length-upto.ensures in
+    let h = added_all g.C.Cell.tells g.C.Cell.state g.O.Origin.offers c.args.store.now c.args.tab e _ c.args.from c.body_length-upto.result c.args.pass.now may whole c.add_bytes.new.pass
+    (c.in-Ok.ensures.ok e (may_all g.C.Cell.tells g.C.Cell.state g.O.Origin.offers c.args.store.now c.args.tab e _ c.args.from c.body_length-upto.result c.args.pass.now may whole)) in
+    let f = may_finish g.C.Cell.tells g.C.Cell.state g.O.Origin.offers c.args.store.now c.args.tab e _ c.args.from c.body_length-upto.result c.args.pass.now may whole c.add_bytes.new.pass h in
+    IfErr-weaker c.finish.result _ _ (λ fault stopped. inr record { middle = c.add_bytes.new.pass; added = h; stopped = stopped }) (c.finish.ensures.err _ f)
+
+pub returns-in-Ok-clause-others : goal.returns-in-Ok-clause-others
+returns-in-Ok-clause-others g c = follows_on _ _ _ _ _ _ _ _ c.in-Ok.ensures.others c.finish.ensures.others
+
+pub returns-in-Ok-clause-unfailed : goal.returns-in-Ok-clause-unfailed
+returns-in-Ok-clause-unfailed g c not = c.finish.ensures.unfailed not ∙ c.in-Ok.ensures.unfailed (λ w. cc)
+
+pub returns-in-Ok-clause-failed : goal.returns-in-Ok-clause-failed
+returns-in-Ok-clause-failed g c w = subst (λ z. Rose z (g.St.Station.faults c.finish.new.station)) (c.in-Ok.ensures.unfailed (λ w. cc)) (c.finish.ensures.failed w)
+
+pub returns-in-Err-clause-err : goal.returns-in-Err-clause-err
+returns-in-Err-clause-err g c e may = inl (c.in-Err.ensures.err e (may_all g.C.Cell.tells g.C.Cell.state g.O.Origin.offers c.args.store.now c.args.tab e _ c.args.from _ c.args.pass.now may c.body_length-upto.ensures))
+
+pub returns-in-Err-clause-unfailed : goal.returns-in-Err-clause-unfailed
+returns-in-Err-clause-unfailed g c not = c.in-Err.ensures.unfailed (λ w. not (error_as w))
+
+pub returns-in-Err-clause-failed : goal.returns-in-Err-clause-failed
+returns-in-Err-clause-failed g c w = c.in-Err.ensures.failed (error_as w)

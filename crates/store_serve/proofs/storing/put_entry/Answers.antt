@@ -1,0 +1,25 @@
+use Rattle.std.proofs.Common.{arith, refl}
+use Rattle.store_serve.proofs.Adds.{follows_on}
+use Rattle.store_serve.proofs.Ends.{write_as, write_from}
+use Rattle.store_serve.proofs.storing.put_entry.Goals as goal
+
+pub returns-in-Ok-clause-ok : goal.returns-in-Ok-clause-ok
+returns-in-Ok-clause-ok g c = let began = c.in_default.ensures.ok in record { middle = c.begin.new.pass; version = c.in_default.field-0; began = began; ends = c.in-Ok.ensures.ok _ record { writes = began.writes; body_is = c.requires.body; from_is = refl; order = omega arith; inside = omega arith } }
+
+pub returns-in-Ok-clause-others : goal.returns-in-Ok-clause-others
+returns-in-Ok-clause-others g c = follows_on _ _ _ _ _ _ _ _ c.begin.ensures.others c.in-Ok.ensures.others
+
+pub returns-in-Ok-clause-unfailed : goal.returns-in-Ok-clause-unfailed
+returns-in-Ok-clause-unfailed g c not = c.in-Ok.ensures.unfailed (λ w. cc)
+
+pub returns-in-Err-end_entry-clause-err : goal.returns-in-Err-end_entry-clause-err
+returns-in-Err-end_entry-clause-err g c = let began = c.in_default.ensures.ok in record { middle = c.begin.new.pass; version = c.in_default.field-0; began = began; stopped = c.in-Err-end_entry.ensures.err _ record { writes = began.writes; body_is = c.requires.body; from_is = refl; order = omega arith; inside = omega arith } }
+
+pub returns-in-Err-end_entry-clause-others : goal.returns-in-Err-end_entry-clause-others
+returns-in-Err-end_entry-clause-others g c = follows_on _ _ _ _ _ _ _ _ c.begin.ensures.others c.in-Err-end_entry.ensures.others
+
+pub returns-in-Err-end_entry-clause-unfailed : goal.returns-in-Err-end_entry-clause-unfailed
+returns-in-Err-end_entry-clause-unfailed g c not = c.in-Err-end_entry.ensures.unfailed (λ w. not (write_as w))
+
+pub returns-in-Err-end_entry-clause-failed : goal.returns-in-Err-end_entry-clause-failed
+returns-in-Err-end_entry-clause-failed g c w = c.in-Err-end_entry.ensures.failed (write_from w)
