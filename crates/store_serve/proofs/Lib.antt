@@ -1,3 +1,4 @@
 mod Adds
 mod Ends
+mod Gives
 mod Letters

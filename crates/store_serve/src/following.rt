@@ -35,9 +35,9 @@ pub fn read_on<R: Wait, C: Cell, O: Origin, St: Station<C = C>>(
     ensures stays { OnErr result ((e : Standing) × ReadsAs C.tells C.state O.offers store.now pass.new tab e) }
     ensures others { FollowsReader C.tells C.state O.offers store.now tab pass.old pass.new }
     ensures length { length piece.new ≡ length piece.old }
-    ensures faults { St.faults station.old ≤ St.faults station.new }
     ensures failed { IfOk result (λ answer. answer ≡ More.Fault → Rose (St.faults station.old) (St.faults station.new)) }
     ensures unfailed { IfOk result (λ answer. answer ≢ More.Fault → St.faults station.new ≡ St.faults station.old) }
+    ensures memory { OnErr result (St.faults station.new ≡ St.faults station.old) }
 {
     reading_tabs_may_go_on::<C, O>();
     for _ in rt.forever() {

@@ -1,0 +1,15 @@
+use Rattle.std.proofs.Common.{length, ◌≡◌}
+use Rattle.rock_reader.specs.Reading.{ReadsAs, Standing}
+use Rattle.rock_reader.specs.Wanted.{FollowsReader}
+use Rattle.store_serve.proofs.Gives.{HasRead}
+use Rattle.store_serve.proofs.following.read_on.Given as goal
+
+abbrev pub invariant-loop : goal.invariant-loop
+invariant-loop g l = record {
+  next : (goal.iterator-loop g).can_next l.iterator';
+  finite : (goal.iterator-loop g).is_finite l.iterator';
+  room : length l.piece ≡ length l.initial.piece;
+  read : (e : Standing) → ReadsAs g.C.Cell.tells g.C.Cell.state g.O.Origin.offers l.store l.initial.pass l.tab e → HasRead g.C.Cell.tells g.C.Cell.state g.O.Origin.offers l.store l.tab e l.initial.pass l.pass l.initial.out.items l.out.items;
+  follows : FollowsReader g.C.Cell.tells g.C.Cell.state g.O.Origin.offers l.store l.tab l.initial.pass l.pass;
+  station : g.St.Station.faults l.station ≡ g.St.Station.faults l.initial.station;
+}
