@@ -1,4 +1,6 @@
 mod Adds
 mod Ends
+mod Gets
 mod Gives
+mod Inner
 mod Letters

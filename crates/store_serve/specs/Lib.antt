@@ -1,3 +1,4 @@
 pub mod Adding
 pub mod Following
+pub mod Getting
 pub mod Storing

@@ -1,10 +1,11 @@
 // A tab reads on, as far as its entry goes.
 ghost use Rattle.std.specs.Prelude.{IfOk, List, OnErr, [], length, ◌++◌, ◌+◌, ◌≡◌, ◌≢◌, ◌≤◌, ℕ};
+ghost use Rattle.core_model.specs.Tabs.{inner, tab_at};
 ghost use Rattle.rock_io.specs.Faults.{Rose};
 ghost use Rattle.rock_reader.specs.Reading.{ReadsAs, Standing};
 ghost use Rattle.rock_reader.specs.Wanted.{FollowsReader};
 ghost use Rattle.slot_cell.specs.declared.header.TheConstants.{HEADER_SIZE};
-ghost use Rattle.store_rule.specs.Passes.{basis};
+ghost use Rattle.store_rule.specs.Passes.{basis, view};
 ghost use Rattle.store_serve.specs.Following.{WentOn};
 
 use rock_disk::{Cell, Station};
@@ -34,6 +35,7 @@ pub fn read_on<R: Wait, C: Cell, O: Origin, St: Station<C = C>>(
         → IfOk result (λ answer. (bytes : List ℕ) × (out.new.items ≡ out.old.items ++ bytes) × WentOn C.tells C.state O.offers store.now tab e pass.old pass.new bytes answer) }
     ensures stays { OnErr result ((e : Standing) × ReadsAs C.tells C.state O.offers store.now pass.new tab e) }
     ensures others { FollowsReader C.tells C.state O.offers store.now tab pass.old pass.new }
+    ensures inner { tab_at (view pass.new) inner ≡ tab_at (view pass.old) inner }
     ensures length { length piece.new ≡ length piece.old }
     ensures failed { IfOk result (λ answer. answer ≡ More.Fault → Rose (St.faults station.old) (St.faults station.new)) }
     ensures unfailed { IfOk result (λ answer. answer ≢ More.Fault → St.faults station.new ≡ St.faults station.old) }

@@ -5,9 +5,11 @@
 mod adding;
 mod bodies;
 mod following;
+mod getting;
 mod storing;
 
 pub use adding::add_bytes;
 pub use bodies::body_length;
 pub use following::read_on;
+pub use getting::{Got, get_entry};
 pub use storing::{PutFault, end_entry, put_entry};

@@ -1,4 +1,6 @@
 use Rattle.std.proofs.Common.{length, ◌≡◌}
+use Rattle.core_model.specs.Tabs.{inner, tab_at}
+use Rattle.store_rule.specs.Passes.{view}
 use Rattle.rock_reader.specs.Reading.{ReadsAs, Standing}
 use Rattle.rock_reader.specs.Wanted.{FollowsReader}
 use Rattle.store_serve.proofs.Gives.{HasRead}
@@ -11,5 +13,6 @@ invariant-loop g l = record {
   room : length l.piece ≡ length l.initial.piece;
   read : (e : Standing) → ReadsAs g.C.Cell.tells g.C.Cell.state g.O.Origin.offers l.store l.initial.pass l.tab e → HasRead g.C.Cell.tells g.C.Cell.state g.O.Origin.offers l.store l.tab e l.initial.pass l.pass l.initial.out.items l.out.items;
   follows : FollowsReader g.C.Cell.tells g.C.Cell.state g.O.Origin.offers l.store l.tab l.initial.pass l.pass;
+  inner : tab_at (view l.pass) inner ≡ tab_at (view l.initial.pass) inner;
   station : g.St.Station.faults l.station ≡ g.St.Station.faults l.initial.station;
 }
