@@ -5,12 +5,12 @@ use Rattle.rock_disk.specs.Cell.{CellState}
 use Rattle.store_rule.specs.declared.store.Pass.{Pass}
 use Rattle.store_rule.specs.declared.store.Store.{Store}
 use Rattle.store_rule.specs.Ground.{Offers}
-use Rattle.store_rule.specs.Passes.{IsOf, basis}
+use Rattle.store_rule.specs.Passes.{IsOf}
 use Rattle.rock_writer.specs.declared.fault.WriteFault.{WriteFault}
 use Rattle.rock_writer.specs.Appending.{Appended, MayAppend, NotAppended}
-use Rattle.rock_writer.specs.Entries.{Entry, WritesAs, body_in, with_taken}
+use Rattle.rock_writer.specs.Entries.{Entry, WritesAs, with_taken}
 use Rattle.rock_writer.specs.Passes.{FollowsWriting}
-use Rattle.store_serve.specs.Adding.{Added, Call, MayAdd, NotAdded, Took, taken_on}
+use Rattle.store_serve.specs.Adding.{Added, MayAdd, NotAdded, taken_on}
 
 pub same_error : {T E : Type 0} {f g : E} → ◌≡◌ {A = Result T E} (Err f) (Err g) → f ≡ g
 same_error e = cc

@@ -1,19 +1,21 @@
 -- The rest of a body is taken, and the entry ended.
-use Rattle.std.proofs.Common.{◌≡◌, ℕ, ◌+◌, ◌-◌, ◌≤◌, ◌∙◌, List, Bool, ap, arith, length, subst}
-use Rattle.std.specs.Prelude.{Err, IsErrOf, Result}
+use Rattle.std.proofs.Common.{◌≡◌, ℕ, ◌-◌, List, Bool, ap, arith, inl, inr, length, subst}
+use Rattle.std.specs.Prelude.{Err, IfErr, IfOk, IsErrOf, Ok, Result}
 use Rattle.rock_disk.specs.Cell.{CellState}
 use Rattle.store_rule.specs.declared.store.Pass.{Pass}
 use Rattle.store_rule.specs.declared.store.Store.{Store}
 use Rattle.store_rule.specs.Ground.{Offers}
-use Rattle.store_rule.specs.Passes.{basis}
+use Rattle.store_rule.specs.Passes.{view}
+use Rattle.core_model.specs.Tabs.{InnerIsFree, tab_at}
+use Rattle.core_model.specs.declared.tab.Tab.TheVariants.{Free}
+use Rattle.rock_writer.specs.declared.fault.Ended.{Ended}
 use Rattle.rock_writer.specs.declared.fault.WriteFault.{WriteFault}
-use Rattle.rock_writer.specs.declared.fault.WriteFault.TheVariants.{Fault}
-use Rattle.rock_writer.specs.Entries.{Entry, body_in}
+use Rattle.rock_writer.specs.Entries.{Entry}
 use Rattle.rock_writer.specs.Finishing.{MayFinish}
 use Rattle.store_serve.specs.declared.storing.PutFault.{PutFault}
 use Rattle.store_serve.specs.declared.storing.PutFault.TheVariants.{Write}
 use Rattle.store_serve.specs.Adding.{Added, MayAdd, taken_on}
-use Rattle.store_serve.specs.Storing.{left_of}
+use Rattle.store_serve.specs.Storing.{EndedWhole, NotEnded, left_of}
 use Rattle.store_serve.proofs.Adds.{same_error}
 
 same_write : {T : Type 0} {f g : WriteFault} → ◌≡◌ {A = Result T PutFault} (Err (Write f)) (Err (Write g)) → f ≡ g
@@ -38,3 +40,16 @@ module _ {C O : Type 0} (tells : Bool) (state : C → CellState) (offers : O →
 
   pub may_finish : (q : Pass C) → Added tells state offers s t e p q (left_of tells state offers s t e p p) → MayFinish tells state offers s t (taken_on e (left_of tells state offers s t e p p)) q
   may_finish q added = record { writes = added.writes; all = let a = ap length may.body_is in let b = may.from_is in let c = may.order in omega arith }
+
+module _ {C O : Type 0} (tells : Bool) (state : C → CellState) (offers : O → Offers) (s : Store C O) (t : ℕ) (e : Entry) (p q : Pass C) where
+  -- The tab has parted from its entry, however that ended.
+  pub ended_free : (ended : Ended) → EndedWhole tells state offers s t e p q ended → (tab_at (view q) t ≡ Free) × InnerIsFree (view q)
+  ended_free ended h = (h.finished.parted.free, h.finished.parted.inner_free)
+
+  pub given_up_free : (fault : WriteFault) → NotEnded tells state offers s t e p q fault → (tab_at (view q) t ≡ Free) × InnerIsFree (view q)
+  given_up_free fault (inl h) = (h.stopped.halts.parted.free, h.stopped.halts.parted.inner_free)
+  given_up_free fault (inr h) = (h.stopped.halts.parted.free, h.stopped.halts.parted.inner_free)
+
+  pub either_free : (r : Result Ended WriteFault) → IfOk r (λ ended. EndedWhole tells state offers s t e p q ended) → IfErr r (λ fault. NotEnded tells state offers s t e p q fault) → (tab_at (view q) t ≡ Free) × InnerIsFree (view q)
+  either_free (Ok ended) ok err = ended_free ended ok
+  either_free (Err fault) ok err = given_up_free fault err

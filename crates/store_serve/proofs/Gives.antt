@@ -1,5 +1,5 @@
 -- A tab is given the bytes of one slot after the other.
-use Rattle.std.proofs.Common.{◌≡◌, ℕ, ◌+◌, ◌++◌, ◌∙◌, ◌≤◌, [], ◌∷◌, List, Bool, ap, inl, inr, refl, subst, sym, take}
+use Rattle.std.proofs.Common.{◌≡◌, ℕ, ◌++◌, ◌∙◌, [], ◌∷◌, List, Bool, ap, inl, inr, refl, subst, sym, take}
 use Rattle.std.specs.Prelude.{Err, Ok, OnErr, Result, ◌≢◌}
 use Rattle.std.proofs.lemmas.List.{append_assoc}
 use Rattle.rock_disk.specs.Cell.{CellState}

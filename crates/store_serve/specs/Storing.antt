@@ -1,13 +1,10 @@
 -- An entry is written to its end, and a response is stored whole.
-use Rattle.std.specs.Prelude.{Bool, List, length, ◌-◌, ◌≡◌, ◌⊎◌, ℕ}
+use Rattle.std.specs.Prelude.{Bool, List, length, ◌-◌, ◌⊎◌, ℕ}
 use Rattle.rock_disk.specs.Cell.{CellState}
-use Rattle.core_model.specs.Tabs.{tab_at}
-use Rattle.core_model.specs.declared.tab.Tab.TheVariants.{Free}
 use Rattle.store_rule.specs.declared.store.Pass.{Pass}
 use Rattle.store_rule.specs.declared.store.Store.{Store}
 use Rattle.store_rule.specs.Ground.{Offers, anchor_for}
 use Rattle.store_rule.specs.Passes.{basis, view}
-use Rattle.rock_writer.specs.declared.fault.BeginFault.{BeginFault}
 use Rattle.rock_writer.specs.declared.fault.Ended.{Ended}
 use Rattle.rock_writer.specs.declared.fault.WriteFault.{WriteFault}
 use Rattle.rock_writer.specs.Beginning.{Began, NotTaken, begun}

@@ -1,11 +1,13 @@
 // An entry is written to its end, and a response is stored whole.
 ghost use Rattle.std.specs.Prelude.{IfErr, IfOk, IsErrOf, OnErr, length, ◌-◌, ◌≡◌, ℕ};
+ghost use Rattle.core_model.specs.Tabs.{InnerIsFree, tab_at};
+ghost use Rattle.core_model.specs.declared.tab.Tab.TheVariants.{Free};
 ghost use Rattle.plain_model.specs.Serving.{bytes_of};
 ghost use Rattle.rock_io.specs.Faults.{Rose};
 ghost use Rattle.rock_writer.specs.Beginning.{MayBegin};
 ghost use Rattle.rock_writer.specs.Entries.{Entry};
 ghost use Rattle.rock_writer.specs.Passes.{FollowsWriting};
-ghost use Rattle.store_rule.specs.Passes.{basis};
+ghost use Rattle.store_rule.specs.Passes.{basis, view};
 ghost use Rattle.store_serve.specs.Adding.{MayAdd};
 ghost use Rattle.store_serve.specs.Storing.{EndedWhole, NotEnded, NotPut, PutWhole};
 
@@ -44,6 +46,8 @@ pub fn end_entry<C: Cell, O: Origin, St: Station<C = C>>(
         → IfOk result (λ ended. EndedWhole C.tells C.state O.offers store.now tab e pass.old pass.new ended) }
     ensures err { (e : Entry) → MayAdd C.tells C.state O.offers store.now tab e (bytes_of body.now) from (length (bytes_of body.now)) pass.old
         → IfErr result (λ fault. NotEnded C.tells C.state O.offers store.now tab e pass.old pass.new fault) }
+    ensures free { tab_at (view pass.new) tab ≡ Free }
+    ensures inner { InnerIsFree (view pass.new) }
     ensures others { FollowsWriting C.tells C.state O.offers store.now tab pass.old pass.new }
     ensures unfailed { (IsErrOf result WriteFault.Fault → ⊥) → St.faults station.new ≡ St.faults station.old }
     ensures failed { IsErrOf result WriteFault.Fault → Rose (St.faults station.old) (St.faults station.new) }
@@ -76,6 +80,8 @@ pub fn put_entry<C: Cell, O: Origin, St: Station<C = C>>(
     requires body { (basis C.tells C.state O.offers store.now).offers.body (offer - (basis C.tells C.state O.offers store.now).setting.slots) ≡ bytes_of body.now }
     ensures ok { IfOk result (λ ended. PutWhole C.tells C.state O.offers store.now tab offer url.now durable pass.old pass.new ended) }
     ensures err { IfErr result (λ fault. NotPut C.tells C.state O.offers store.now tab offer url.now durable pass.old pass.new fault) }
+    ensures free { tab_at (view pass.new) tab ≡ Free }
+    ensures inner { InnerIsFree (view pass.new) }
     ensures others { FollowsWriting C.tells C.state O.offers store.now tab pass.old pass.new }
     ensures unfailed { (IsErrOf result (PutFault.Write WriteFault.Fault) → ⊥) → St.faults station.new ≡ St.faults station.old }
     ensures failed { IsErrOf result (PutFault.Write WriteFault.Fault) → Rose (St.faults station.old) (St.faults station.new) }

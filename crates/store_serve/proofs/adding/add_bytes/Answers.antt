@@ -1,4 +1,4 @@
-use Rattle.std.proofs.Common.{arith, refl, subst, ◌-◌, ◌∙◌, ℕ}
+use Rattle.std.proofs.Common.{arith, refl, subst, ◌∙◌, ℕ}
 use Rattle.rock_io.specs.Faults.{Rose}
 use Rattle.store_serve.specs.Adding.{Added}
 use Rattle.store_serve.proofs.Adds.{added_none, added_not, added_on, adds_still, error_as, follows_none, follows_on}

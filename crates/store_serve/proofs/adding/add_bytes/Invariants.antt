@@ -1,4 +1,4 @@
-use Rattle.std.proofs.Common.{◌-◌, ◌≡◌, ◌≤◌, ℕ}
+use Rattle.std.proofs.Common.{◌-◌, ◌≡◌, ◌≤◌}
 use Rattle.plain_model.specs.Serving.{bytes_of}
 use Rattle.rock_writer.specs.Entries.{Entry}
 use Rattle.rock_writer.specs.Passes.{FollowsWriting}

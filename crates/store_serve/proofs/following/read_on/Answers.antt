@@ -1,4 +1,4 @@
-use Rattle.std.proofs.Common.{arith, length, refl, subst, sym, ◌∙◌}
+use Rattle.std.proofs.Common.{arith, refl, subst, sym, ◌∙◌}
 use Rattle.std.proofs.lemmas.List.{length-take-le}
 use Rattle.rock_io.specs.Faults.{Rose}
 use Rattle.rock_reader.specs.Reading.{Gave}

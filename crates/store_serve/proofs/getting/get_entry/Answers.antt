@@ -13,15 +13,19 @@ close_entry-requires-after_bounds g c κs within = let reads = c.in-Ok.ensures.r
     (inner_stays (view c.args.pass.now) (view c.open_entry.new.pass) (other_tab c.args.tab (view c.args.pass.now) (view c.open_entry.new.pass) _ inner (not_inner c.args.tab c.requires.may.below) c.in-Ok.ensures.ok.tabs) c.requires.may.inner_free))
 
 pub returns-in-Ok-ended-clause-got : goal.returns-in-Ok-ended-clause-got
-returns-in-Ok-ended-clause-got g c = let reads = c.in-Ok.ensures.reads in let went = c.in-Ok-ended.ensures.went _ reads.1 in (went.0, went.1, record {
-  opened = c.open_entry.new.pass;
-  opens = c.in-Ok.ensures.ok;
-  offer = reads.0;
-  reads = reads.1;
-  read = c.read_on-ended.new.pass;
-  went = went.2;
-  parted = c.close_entry.ensures.parted;
-})
+returns-in-Ok-ended-clause-got g c = let reads = c.in-Ok.ensures.reads in let went = c.in-Ok-ended.ensures.went _ reads.1 in (
+  went.0,
+  went.1,
+  record {
+    opened = c.open_entry.new.pass;
+    opens = c.in-Ok.ensures.ok;
+    offer = reads.0;
+    reads = reads.1;
+    read = c.read_on-ended.new.pass;
+    went = went.2;
+    parted = c.close_entry.ensures.parted;
+  },
+)
 
 pub returns-in-Ok-ended-clause-free : goal.returns-in-Ok-ended-clause-free
 returns-in-Ok-ended-clause-free g c = tabs_back c.args.tab (view c.args.pass.now) (view c.open_entry.new.pass) (view c.read_on-ended.new.pass) (view c.close_entry.new.pass) _ c.requires.may.free c.requires.may.below c.in-Ok.ensures.ok.tabs c.read_on-ended.ensures.others.others c.read_on-ended.ensures.inner c.close_entry.ensures.free

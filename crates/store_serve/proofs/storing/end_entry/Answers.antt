@@ -2,7 +2,7 @@ use Rattle.std.proofs.Common.{inl, inr, subst, ◌∙◌}
 use Rattle.std.proofs.lemmas.Result.{IfErr-weaker, IfOk-weaker}
 use Rattle.rock_io.specs.Faults.{Rose}
 use Rattle.store_serve.proofs.Adds.{error_as, follows_on}
-use Rattle.store_serve.proofs.Ends.{added_all, may_all, may_finish}
+use Rattle.store_serve.proofs.Ends.{added_all, either_free, may_all, may_finish}
 use Rattle.store_serve.proofs.storing.end_entry.Goals as goal
 
 pub finish-requires-after_bounds : goal.finish-requires-after_bounds
@@ -42,3 +42,31 @@ returns-in-Err-clause-unfailed g c not = c.in-Err.ensures.unfailed (λ w. not (e
 
 pub returns-in-Err-clause-failed : goal.returns-in-Err-clause-failed
 returns-in-Err-clause-failed g c w = c.in-Err.ensures.failed (error_as w)
+
+pub returns-in-Ok-clause-free : goal.returns-in-Ok-clause-free
+returns-in-Ok-clause-free g c = (
+    let e = c.requires.0 in let may = c.requires.1 in let whole = c.body_length-upto.ensures in
+    let h = added_all g.C.Cell.tells g.C.Cell.state g.O.Origin.offers c.args.store.now c.args.tab e _ c.args.from c.body_length-upto.result c.args.pass.now may whole c.add_bytes.new.pass
+    (c.in-Ok.ensures.ok e (may_all g.C.Cell.tells g.C.Cell.state g.O.Origin.offers c.args.store.now c.args.tab e _ c.args.from c.body_length-upto.result c.args.pass.now may whole)) in
+    let f = may_finish g.C.Cell.tells g.C.Cell.state g.O.Origin.offers c.args.store.now c.args.tab e _ c.args.from c.body_length-upto.result c.args.pass.now may whole c.add_bytes.new.pass h in
+    either_free g.C.Cell.tells g.C.Cell.state g.O.Origin.offers c.args.store.now c.args.tab e c.args.pass.now c.finish.new.pass c.finish.result
+    (IfOk-weaker c.finish.result _ _ (λ ended closed. record { middle = c.add_bytes.new.pass; added = h; finished = closed }) (c.finish.ensures.ok _ f))
+    (IfErr-weaker c.finish.result _ _ (λ fault stopped. inr record { middle = c.add_bytes.new.pass; added = h; stopped = stopped }) (c.finish.ensures.err _ f))).0
+
+pub returns-in-Ok-clause-inner : goal.returns-in-Ok-clause-inner
+returns-in-Ok-clause-inner g c = (
+    let e = c.requires.0 in let may = c.requires.1 in let whole = c.body_length-upto.ensures in
+    let h = added_all g.C.Cell.tells g.C.Cell.state g.O.Origin.offers c.args.store.now c.args.tab e _ c.args.from c.body_length-upto.result c.args.pass.now may whole c.add_bytes.new.pass
+    (c.in-Ok.ensures.ok e (may_all g.C.Cell.tells g.C.Cell.state g.O.Origin.offers c.args.store.now c.args.tab e _ c.args.from c.body_length-upto.result c.args.pass.now may whole)) in
+    let f = may_finish g.C.Cell.tells g.C.Cell.state g.O.Origin.offers c.args.store.now c.args.tab e _ c.args.from c.body_length-upto.result c.args.pass.now may whole c.add_bytes.new.pass h in
+    either_free g.C.Cell.tells g.C.Cell.state g.O.Origin.offers c.args.store.now c.args.tab e c.args.pass.now c.finish.new.pass c.finish.result
+    (IfOk-weaker c.finish.result _ _ (λ ended closed. record { middle = c.add_bytes.new.pass; added = h; finished = closed }) (c.finish.ensures.ok _ f))
+    (IfErr-weaker c.finish.result _ _ (λ fault stopped. inr record { middle = c.add_bytes.new.pass; added = h; stopped = stopped }) (c.finish.ensures.err _ f))).1
+
+pub returns-in-Err-clause-free : goal.returns-in-Err-clause-free
+returns-in-Err-clause-free g c = let whole = c.body_length-upto.ensures in
+    let h = c.in-Err.ensures.err c.requires.0 (may_all g.C.Cell.tells g.C.Cell.state g.O.Origin.offers c.args.store.now c.args.tab c.requires.0 _ c.args.from c.body_length-upto.result c.args.pass.now c.requires.1 whole) in h.stopped.halts.parted.free
+
+pub returns-in-Err-clause-inner : goal.returns-in-Err-clause-inner
+returns-in-Err-clause-inner g c = let whole = c.body_length-upto.ensures in
+    let h = c.in-Err.ensures.err c.requires.0 (may_all g.C.Cell.tells g.C.Cell.state g.O.Origin.offers c.args.store.now c.args.tab c.requires.0 _ c.args.from c.body_length-upto.result c.args.pass.now c.requires.1 whole) in h.stopped.halts.parted.inner_free

@@ -1,4 +1,6 @@
-use Rattle.std.proofs.Common.{arith, refl}
+use Rattle.std.proofs.Common.{ap, arith, get_or, refl, ◌∙◌}
+use Rattle.core_model.specs.Tabs.{inner, is_free}
+use Rattle.core_model.specs.declared.tab.Tab.{Tab}
 use Rattle.store_serve.proofs.Adds.{follows_on}
 use Rattle.store_serve.proofs.Ends.{write_as, write_from}
 use Rattle.store_serve.proofs.storing.put_entry.Goals as goal
@@ -23,3 +25,9 @@ returns-in-Err-end_entry-clause-unfailed g c not = c.in-Err-end_entry.ensures.un
 
 pub returns-in-Err-end_entry-clause-failed : goal.returns-in-Err-end_entry-clause-failed
 returns-in-Err-end_entry-clause-failed g c w = c.in-Err-end_entry.ensures.failed (write_from w)
+
+pub returns-in-Err-clause-free : goal.returns-in-Err-clause-free
+returns-in-Err-clause-free g c = ap (λ xs. get_or xs c.args.tab Tab.Free) c.in-Err.ensures.tabs ∙ c.requires.may.free
+
+pub returns-in-Err-clause-inner : goal.returns-in-Err-clause-inner
+returns-in-Err-clause-inner g c = ap (λ xs. is_free (get_or xs inner Tab.Free)) c.in-Err.ensures.tabs ∙ c.requires.may.inner_free
