@@ -1,0 +1,5 @@
+//! Tests of the calls of which requests are made.
+#![tactic(auto)]
+
+#[cfg(test)]
+mod tests;
