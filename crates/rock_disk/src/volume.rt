@@ -191,4 +191,7 @@ pub trait Volume {
 
     /// No station was ended that was not made.
     ghost ended_were_made: { (volume : Self) → length (ended volume) ≤ made volume };
+
+    /// Where cells tell what they hold, so do the volumes that they come from.
+    ghost cells_tell: { IsTrue Self.C.tells → IsTrue tells };
 }

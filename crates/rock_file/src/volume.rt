@@ -200,4 +200,6 @@ where
     }
 
     ghost ended_were_made = { λ volume. volume.stations.within };
+
+    ghost cells_tell = { λ told. told };
 }

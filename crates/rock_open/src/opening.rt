@@ -90,7 +90,6 @@ fn open_within<V: Volume, O: Origin>(
 ) -> Result<OpenStore<V::C, O>, OpenStoreFault>
     requires size { IsSlotSize slot }
     requires passes { IsPasses passes }
-    requires tells { IsTrue V.C.tells → IsTrue V.tells }
     requires home { IsTrue V.tells → IsNotAway (get (V.files volume.old) name.now) }
     ensures opened { IfOk result (λ o. OpensStore V.tells V.C.tells V.C.state O.offers (V.files volume.old) (V.files volume.new)
         name.now slot anchors passes origin o.header o.store o.passes) }
@@ -146,8 +145,7 @@ fn open_within<V: Volume, O: Origin>(
 /// memory of the store is taken. Each entry that the rebuild keeps stands closed with its version, any
 /// other anchor is empty with version 0, and the counter of versions is at the greatest sane version.
 ///
-/// `slot` is the size of a slot in bytes. The cells of the file are not out. Where cells tell what they
-/// hold, so does their volume.
+/// `slot` is the size of a slot in bytes. The cells of the file are not out.
 ///
 /// # Errors
 ///
@@ -167,7 +165,6 @@ pub fn open_store<V: Volume, O: Origin>(
     passes: u32,
     origin: O,
 ) -> Result<OpenStore<V::C, O>, OpenStoreFault>
-    requires tells { IsTrue V.C.tells → IsTrue V.tells }
     requires home { IsTrue V.tells → IsNotAway (get (V.files volume.old) name.now) }
 
     ensures opened { IfOk result (λ o. OpensStore V.tells V.C.tells V.C.state O.offers (V.files volume.old) (V.files volume.new)

@@ -252,4 +252,6 @@ impl Volume for MemVolume {
     }
 
     ghost ended_were_made = { λ volume. volume.stations.within };
+
+    ghost cells_tell = { λ told. told };
 }
