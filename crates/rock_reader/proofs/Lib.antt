@@ -15,6 +15,7 @@ pub mod Decoding
 pub mod DecodedRead
 pub mod Answering
 pub mod GivenBodies
+pub mod InnerTab
 pub mod Opened
 pub mod Prefix
 pub mod FileHeld

@@ -65,6 +65,7 @@ pub fn more<R: Wait, C: Cell, O: Origin, St: Station<C = C>>(
     ensures gave { (e : Standing) → ReadsAs C.tells C.state O.offers store.now pass.old tab e
         → Gave C.tells C.state O.offers store.now tab pass.old e out.old out.new pass.new result }
     ensures others { FollowsReader C.tells C.state O.offers store.now tab pass.old pass.new }
+    ensures inner { tab_at (view pass.new) inner ≡ tab_at (view pass.old) inner }
     ensures length { length out.new ≡ length out.old }
     ensures failed { result ≡ More.Fault → Rose (St.faults station.old) (St.faults station.new) }
     ensures unfailed { result ≢ More.Fault → St.faults station.new ≡ St.faults station.old }
@@ -130,6 +131,7 @@ fn read_on<R: Wait, C: Cell, O: Origin, St: Station<C = C>>(
     ensures gave { (e : Standing) → ReadsAs C.tells C.state O.offers store.now pass.old tab e
         → Gave C.tells C.state O.offers store.now tab pass.old e out.old out.new pass.new result }
     ensures others { FollowsReader C.tells C.state O.offers store.now tab pass.old pass.new }
+    ensures inner { tab_at (view pass.new) inner ≡ tab_at (view pass.old) inner }
     ensures length { length out.new ≡ length out.old }
     ensures failed { result ≡ More.Fault → Rose (St.faults station.old) (St.faults station.new) }
     ensures unfailed { result ≢ More.Fault → St.faults station.new ≡ St.faults station.old }

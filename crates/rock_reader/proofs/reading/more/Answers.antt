@@ -35,6 +35,9 @@ returns-in-Slot-clause-gave g c = c.read_on.ensures.gave
 pub returns-in-Slot-clause-others : goal.returns-in-Slot-clause-others
 returns-in-Slot-clause-others g c = c.read_on.ensures.others
 
+pub returns-in-Slot-clause-inner : goal.returns-in-Slot-clause-inner
+returns-in-Slot-clause-inner g c = c.read_on.ensures.inner
+
 pub returns-in-Slot-clause-length : goal.returns-in-Slot-clause-length
 returns-in-Slot-clause-length g c = c.read_on.ensures.length
 
@@ -50,6 +53,9 @@ returns-in-End-clause-gave g c e reads = ended g.C.Cell.tells g.C.Cell.state g.O
 pub returns-in-End-clause-others : goal.returns-in-End-clause-others
 returns-in-End-clause-others g c = follows_still g.C.Cell.tells g.C.Cell.state g.O.Origin.offers c.args.store.now c.args.tab c.args.pass.now c.requires.own
 
+pub returns-in-End-clause-inner : goal.returns-in-End-clause-inner
+returns-in-End-clause-inner g c = refl
+
 pub returns-in-End-clause-length : goal.returns-in-End-clause-length
 returns-in-End-clause-length g c = refl
 
@@ -64,6 +70,9 @@ returns-in-Other-clause-gave g c e reads = inl (turned_out g.C.Cell.tells g.C.Ce
 
 pub returns-in-Other-clause-others : goal.returns-in-Other-clause-others
 returns-in-Other-clause-others g c = follows_still g.C.Cell.tells g.C.Cell.state g.O.Origin.offers c.args.store.now c.args.tab c.args.pass.now c.requires.own
+
+pub returns-in-Other-clause-inner : goal.returns-in-Other-clause-inner
+returns-in-Other-clause-inner g c = refl
 
 pub returns-in-Other-clause-length : goal.returns-in-Other-clause-length
 returns-in-Other-clause-length g c = refl

@@ -1,9 +1,10 @@
-use Rattle.std.proofs.Common.{arith, length, refl, ◌≡◌}
+use Rattle.std.proofs.Common.{arith, false, length, refl, true, ◌≡◌, ◌∙◌}
 use Rattle.core_model.specs.Tabs.{inner, tab_at}
 use Rattle.core_model.specs.declared.tab.Turn.TheVariants.{NoTurn}
 use Rattle.store_rule.specs.Passes.{basis, view}
 use Rattle.slice_chain.proofs.Writing.{buffer_long}
 use Rattle.rock_reader.proofs.GivenBodies.{gave_read}
+use Rattle.rock_reader.proofs.InnerTab.{given_inner, looked_inner, not_inner, read_inner}
 use Rattle.rock_reader.proofs.Looking.{of_reader}
 use Rattle.rock_reader.proofs.ReaderFollows.{follows_given, follows_looked, follows_read, not_fault, read_held}
 use Rattle.rock_reader.proofs.ReadingOn.{fails, gave_none, may_read}
@@ -24,6 +25,9 @@ returns-in-NotWritten-clause-gave g c e reads = gave_none g.C.Cell.tells g.C.Cel
 
 pub returns-in-NotWritten-clause-others : goal.returns-in-NotWritten-clause-others
 returns-in-NotWritten-clause-others g c = follows_looked g.C.Cell.tells g.C.Cell.state g.O.Origin.offers c.args.store.now c.args.tab c.args.pass.now c.look_on-found.new.pass c.look_on-found.ensures.others
+
+pub returns-in-NotWritten-clause-inner : goal.returns-in-NotWritten-clause-inner
+returns-in-NotWritten-clause-inner g c = (looked_inner (basis g.C.Cell.tells g.C.Cell.state g.O.Origin.offers c.args.store.now) c.args.tab (not_inner c.args.tab c.requires.may.below) c.look_on-found.result.epoch c.look_on-found.result.link (view c.args.pass.now) (view c.look_on-found.new.pass) c.look_on-found.ensures.found)
 
 pub returns-in-NotWritten-clause-length : goal.returns-in-NotWritten-clause-length
 returns-in-NotWritten-clause-length g c = refl
@@ -62,6 +66,12 @@ returns-in-Ok-clause-others g c = follows_given g.C.Cell.tells g.C.Cell.state g.
     c.args.out.now c.give.new.out c.give.result
     (follows_read g.C.Cell.tells g.C.Cell.state g.O.Origin.offers c.args.store.now c.args.tab c.args.pass.now c.look_on-found.new.pass c.read_slot.new.pass c.look_on-found.ensures.others c.read_slot.ensures.others) c.give.ensures.given
 
+pub returns-in-Ok-clause-inner : goal.returns-in-Ok-clause-inner
+returns-in-Ok-clause-inner g c = 
+    (given_inner c.args.tab (basis g.C.Cell.tells g.C.Cell.state g.O.Origin.offers c.args.store.now).setting.slots c.place_of-place.result c.read_slot.new.pass c.args.out.now c.give.new.out c.give.new.pass c.give.result c.give.ensures.given)
+    ∙ (read_inner (basis g.C.Cell.tells g.C.Cell.state g.O.Origin.offers c.args.store.now) c.args.tab (not_inner c.args.tab c.requires.may.below) true c.in-Ok.ensures.ok.0 (view c.look_on-found.new.pass) (view c.read_slot.new.pass) c.in-Ok.ensures.ok.1.read)
+    ∙ (looked_inner (basis g.C.Cell.tells g.C.Cell.state g.O.Origin.offers c.args.store.now) c.args.tab (not_inner c.args.tab c.requires.may.below) c.look_on-found.result.epoch c.look_on-found.result.link (view c.args.pass.now) (view c.look_on-found.new.pass) c.look_on-found.ensures.found)
+
 pub returns-in-Ok-clause-length : goal.returns-in-Ok-clause-length
 returns-in-Ok-clause-length g c = c.give.ensures.length
 
@@ -77,6 +87,11 @@ returns-in-Err-clause-gave g c e reads = fails g.C.Cell.tells g.C.Cell.state g.O
 
 pub returns-in-Err-clause-others : goal.returns-in-Err-clause-others
 returns-in-Err-clause-others g c = follows_read g.C.Cell.tells g.C.Cell.state g.O.Origin.offers c.args.store.now c.args.tab c.args.pass.now c.look_on-found.new.pass c.read_slot.new.pass c.look_on-found.ensures.others c.read_slot.ensures.others
+
+pub returns-in-Err-clause-inner : goal.returns-in-Err-clause-inner
+returns-in-Err-clause-inner g c = 
+    (read_inner (basis g.C.Cell.tells g.C.Cell.state g.O.Origin.offers c.args.store.now) c.args.tab (not_inner c.args.tab c.requires.may.below) false c.in-Err.ensures.err.0 (view c.look_on-found.new.pass) (view c.read_slot.new.pass) c.in-Err.ensures.err.1)
+    ∙ (looked_inner (basis g.C.Cell.tells g.C.Cell.state g.O.Origin.offers c.args.store.now) c.args.tab (not_inner c.args.tab c.requires.may.below) c.look_on-found.result.epoch c.look_on-found.result.link (view c.args.pass.now) (view c.look_on-found.new.pass) c.look_on-found.ensures.found)
 
 pub returns-in-Err-clause-length : goal.returns-in-Err-clause-length
 returns-in-Err-clause-length g c = refl
