@@ -1,10 +1,10 @@
 -- The responses that are offered, as the model has them.
-use Rattle.std.specs.Prelude.{◌≡◌, ℕ, ◌+◌, ◌≤◌, length}
+use Rattle.std.specs.Prelude.{◌≡◌, ℕ}
 use Rattle.store_key.specs.Anchor.{anchor_of}
 use Rattle.store_key.specs.Key.{key_of}
 use Rattle.store_key.specs.Url.{IsUrl}
 use Rattle.rebuild_model.specs.declared.image.FileImage.{FileImage}
-use Rattle.entry_cut.specs.Content.{count}
+use Rattle.entry_cut.specs.Content.{LeavesRoom, count}
 use Rattle.core_model.specs.State.{chain_of}
 use Rattle.core_model.specs.Offers.{Offering, OffersStand}
 use Rattle.core_table.specs.Machine.{Machine, setting_of, state_of}
@@ -13,7 +13,7 @@ use Rattle.core_runs.specs.Responses.{Offers, cut_of, key0_of, key1_of}
 -- an offer with a good URL that leaves room in a slot, for this anchor and key
 pub record IsOfferFor (file : FileImage) (o : Offers) (anchors n a x y : ℕ) : Type 0 where
   pub url : IsUrl (o.url n)
-  pub short : length (o.url n) + 72 ≤ file.slot
+  pub short : LeavesRoom file.slot (o.url n)
   pub anchor : anchor_of (key_of (o.url n)) anchors ≡ a
   pub key0 : x ≡ key0_of (o.url n)
   pub key1 : y ≡ key1_of (o.url n)

@@ -1,6 +1,7 @@
 // The pure core.
 ghost use Rattle.std.specs.Prelude.{◌≡◌, ◌<◌, ◌≤◌, ℕ, List, All, length, IfOk, OnErr, IsErrOf};
 ghost use Rattle.db_layout.specs.Layout.{IsSlotSize};
+ghost use Rattle.db_layout.specs.declared.layout.TheConstants.{MOST_SLOTS};
 ghost use Rattle.core_table.specs.New.{IsNew};
 ghost use Rattle.core_model.specs.Sound.{Sound};
 ghost use Rattle.core_state.specs.declared.act.StepFault.TheVariants as fault;
@@ -50,7 +51,7 @@ impl Core {
         requires size { IsSlotSize image.now.slot }
         requires wide { All (λ (slot : List ℕ). length slot ≡ image.now.slot) image.now.slots }
         requires some_slot { 0 < length image.now.slots }
-        requires few_slots { length image.now.slots ≤ 1048576 }
+        requires few_slots { length image.now.slots ≤ MOST_SLOTS }
         requires some_anchor { 0 < anchors }
         requires few_anchors { anchors ≤ length image.now.slots }
         requires some_pass { 0 < passes }

@@ -1,11 +1,12 @@
 -- The content of an entry, and how it is cut into slots.
-use Rattle.std.specs.Prelude.{ℕ, ◌+◌, ◌-◌, ◌*◌, ◌/◌, ◌==◌, cond, ℤ, pos, List, ◌++◌, length, take, drop}
+use Rattle.std.specs.Prelude.{ℕ, ◌+◌, ◌-◌, ◌*◌, ◌/◌, ◌==◌, ◌≤◌, cond, ℤ, pos, List, ◌++◌, length, take, drop}
 use Rattle.std.specs.Int.{w64, from_le_bytes}
 use Rattle.slot_cell.specs.Header.{slot_image}
 use Rattle.slot_cell.specs.declared.header.Header.{Header}
 use Rattle.slot_cell.specs.declared.header.TheConstants.{HEADER_SIZE}
 use Rattle.store_key.specs.Key.{key_of}
 use Rattle.swap_meta.specs.Meta.{meta_bytes}
+use Rattle.swap_meta.specs.declared.writing.TheConstants.{META_SIZE}
 
 -- metadata with the URL and its key, and then the body
 abbrev pub content_of : (url body : List ℕ) → List ℕ
@@ -14,6 +15,14 @@ content_of url body = meta_bytes (key_of url) url ++ body
 -- how many bytes of payload a slot has room for, behind its header
 abbrev pub room_of : ℕ → ℕ
 room_of slot = slot - HEADER_SIZE
+
+-- how many bytes the first slot of an entry has in front of the body, beside the URL
+abbrev pub front_size : ℕ
+front_size = META_SIZE + HEADER_SIZE
+
+-- the URL leaves room for itself in the first slot of an entry
+abbrev pub LeavesRoom : (slot : ℕ) → List ℕ → Type 0
+LeavesRoom slot url = length url + front_size ≤ slot
 
 -- how many slots so many bytes need: their number over the room of a slot, rounded up
 abbrev pub slots_needed : (size slot : ℕ) → ℕ

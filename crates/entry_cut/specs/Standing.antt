@@ -6,12 +6,12 @@ use Rattle.rebuild_model.specs.Image.{image_at}
 use Rattle.slot_cell.specs.declared.header.TheConstants.{GREATEST_VERSION}
 use Rattle.store_key.specs.Key.{key_of}
 use Rattle.store_key.specs.Url.{IsUrl}
-use Rattle.entry_cut.specs.Content.{Cut, count, image}
+use Rattle.entry_cut.specs.Content.{Cut, LeavesRoom, count, image}
 
 -- an entry that a store of so many slots may write
 pub record IsWritable (c : Cut) : Type 0 where
   pub url : IsUrl c.url
-  pub short : length c.url + 72 ≤ c.slot
+  pub short : LeavesRoom c.slot c.url
   pub sized : c.slot < 2 ^ 32
   pub version_from : 0 < c.version
   pub version_to : c.version ≤ GREATEST_VERSION

@@ -3,7 +3,7 @@ use Rattle.std.specs.Prelude.{List, [], cond, drop, length, nat_lt, slice_index,
 use Rattle.swap_meta.specs.Meta.{whole_length}
 use Rattle.rebuild_model.specs.Entry.{Entry, IsComplete}
 use Rattle.rebuild_model.specs.Image.{payload_at}
-use Rattle.entry_cut.specs.Content.{count, payload}
+use Rattle.entry_cut.specs.Content.{LeavesRoom, count, payload}
 use Rattle.store_rule.specs.Ground.{Ground, cut_of, url_of}
 
 -- An offer below the number of slots is an entry of the opening, whose slots are those that its anchor had then. Any other is one of the
@@ -39,7 +39,7 @@ module _ (g : Ground (List ℕ)) (anchor offer : ℕ) where
   pub record IsOffered (url body : List ℕ) : Type 0 where
     pub url_is : url_of g offer ≡ url
     pub body_is : g.offers.body (offer - g.setting.slots) ≡ body
-    pub short : length url + 72 ≤ g.slot
+    pub short : LeavesRoom g.slot url
 
   -- the response of the offer has this URL and this body
   pub record IsResponse (url body : List ℕ) : Type 0 where

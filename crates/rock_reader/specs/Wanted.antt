@@ -1,6 +1,7 @@
 -- The URL that a reading tab wants, as its pass keeps it.
 use Rattle.std.specs.Prelude.{Bool, List, [], cond, length, nat_le, slice_index, take, ◌+◌, ◌≡◌, ◌≢◌, ◌≤◌, ℕ}
 use Rattle.rock_disk.specs.Cell.{CellState}
+use Rattle.entry_cut.specs.Content.{front_size}
 use Rattle.core_model.specs.Tabs.{inner}
 use Rattle.store_rule.specs.declared.drafts.Draft.{Draft}
 use Rattle.store_rule.specs.declared.store.Desk.{Desk}
@@ -22,7 +23,7 @@ kept_at desks t = take (held_at desks t) (buffer_at desks t)
 
 -- Of a URL that leaves no room for itself in a first slot nothing is kept: no entry has it.
 abbrev pub kept_of : (slot : ℕ) → List ℕ → List ℕ
-kept_of slot url = cond (nat_le (length url + 72) slot) url []
+kept_of slot url = cond (nat_le (length url + front_size) slot) url []
 
 -- the URL is kept for a tab, and all else of the pass is as it was
 pub record KeepsUrl {C : Type 0} (slot t : ℕ) (url : List ℕ) (p q : Pass C) : Type 0 where

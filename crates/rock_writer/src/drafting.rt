@@ -2,7 +2,7 @@
 // put in front of them when the piece is whole.
 ghost use Rattle.std.specs.Prelude.{List, drop, length, min, take, ◌++◌, ◌+◌, ◌-◌, ◌<◌, ◌^◌, ◌≡◌, ◌≤◌, ℕ};
 ghost use Rattle.core_model.specs.Tabs.{inner};
-ghost use Rattle.entry_cut.specs.Content.{image, room_of};
+ghost use Rattle.entry_cut.specs.Content.{LeavesRoom, image, room_of};
 ghost use Rattle.entry_cut.specs.Labels.{Fits, next_of};
 ghost use Rattle.rock_writer.specs.Drafting.{DeskMoves, IsBegun, IsWhole};
 ghost use Rattle.rock_writer.specs.Entries.{Continues, Drafts, Entry, with_taken};
@@ -31,7 +31,7 @@ pub(crate) fn start<C: Cell, O: Origin>(
 )
     requires own { IsOf C.tells C.state O.offers store.now pass.old }
     requires below { tab < inner }
-    requires room { length url.now + 72 ≤ (basis C.tells C.state O.offers store.now).slot }
+    requires room { LeavesRoom (basis C.tells C.state O.offers store.now).slot url.now }
     requires short { length url.now ≤ 2048 }
     ensures started { (e : Entry) → IsBegun (basis C.tells C.state O.offers store.now) e key.now url.now → e.is_durable ≡ is_durable
         → Drafts (basis C.tells C.state O.offers store.now) 1 pass.new.desks tab e 0 }
@@ -54,7 +54,7 @@ pub(crate) fn start<C: Cell, O: Origin>(
 // Puts metadata into a tab's buffer behind room for a header, and answers how many bytes they are.
 fn put_meta<C>(pass: &mut Pass<C>, tab: u8, key: &[u8; 16], url: &[u8]) -> usize
     requires below { tab < inner }
-    requires room { length url.now + 72 ≤ length (buffer_at pass.old.desks tab) }
+    requires room { LeavesRoom (length (buffer_at pass.old.desks tab)) url.now }
     requires short { length url.now ≤ 2048 }
     ensures size { result ≡ 32 + length url.now }
     ensures put { (bytes : List ℕ) × (pass.new ≡ with_bytes pass.old tab bytes) × (length bytes ≡ length (buffer_at pass.old.desks tab))

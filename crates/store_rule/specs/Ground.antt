@@ -1,10 +1,10 @@
 -- What does not change while a store is open, and what holds of its table between any two steps.
-use Rattle.std.specs.Prelude.{◌+◌, ◌-◌, ◌≡◌, ◌≢◌, ◌≤◌, List, Option, Some, drop, length, take, ℕ}
+use Rattle.std.specs.Prelude.{◌-◌, ◌≡◌, ◌≢◌, List, Option, Some, drop, take, ℕ}
 use Rattle.std.specs.Int.{from_le_bytes, w64}
 use Rattle.store_key.specs.Anchor.{anchor_of}
 use Rattle.store_key.specs.Key.{key_of}
 use Rattle.store_key.specs.Url.{IsUrl}
-use Rattle.entry_cut.specs.Content.{Cut, count}
+use Rattle.entry_cut.specs.Content.{Cut, LeavesRoom, count}
 use Rattle.core_model.specs.declared.moves.Move.{Move}
 use Rattle.core_model.specs.declared.moves.Move.TheVariants.{Enter, Take}
 use Rattle.core_model.specs.declared.tab.Freer.{Freer}
@@ -51,7 +51,7 @@ anchor_for g url = anchor_of (key_of url) g.setting.anchors
 -- an offer with a good URL that leaves room in a slot, for this anchor and these halves of its key
 pub record IsOfferFor {X : Type 0} (g : Ground X) (offer a x y : ℕ) : Type 0 where
   pub url : IsUrl (url_of g offer)
-  pub short : length (url_of g offer) + 72 ≤ g.slot
+  pub short : LeavesRoom g.slot (url_of g offer)
   pub anchor : anchor_for g (url_of g offer) ≡ a
   pub key0 : x ≡ from_le_bytes w64 (take 8 (key_of (url_of g offer)))
   pub key1 : y ≡ from_le_bytes w64 (drop 8 (key_of (url_of g offer)))

@@ -4,6 +4,7 @@ ghost use Rattle.core_model.specs.declared.tab.Tab.TheVariants.{Free};
 ghost use Rattle.store_rule.specs.declared.store.Desk.{Desk};
 ghost use Rattle.store_rule.specs.declared.tabs.At.{At};
 ghost use Rattle.core_model.specs.Opening.{new_view, new_views};
+ghost use Rattle.db_layout.specs.declared.layout.TheConstants.{MOST_SLOTS};
 ghost use Rattle.store_rule.specs.Setting.{IsRow, IsSettled, basis_of};
 ghost use Rattle.store_rule.specs.Told.{Stands, the_view};
 ghost use Rattle.store_rule.specs.Passes.{AreHands};
@@ -218,7 +219,7 @@ impl<C: Cell, O: Origin> Store<C, O> {
     ) -> Result<(Store<C, O>, Vec<Pass<C>>), NoRoom<C>>
         requires passes { (0 < passes) × (passes ≤ 32) }
         requires anchors { 0 < anchors }
-        requires slots { length cells.items ≤ 1048576 }
+        requires slots { length cells.items ≤ MOST_SLOTS }
         requires cells { IsRow C.state slot cells.items × All (IsSettled C.tells C.state) cells.items }
         ensures counts { IfOk result (λ r. ((basis C.tells C.state O.offers r.0).setting.anchors ≡ anchors) × ((basis C.tells C.state O.offers r.0).setting.slots ≡ length cells.items) × ((basis C.tells C.state O.offers r.0).setting.passes ≡ passes) × ((basis C.tells C.state O.offers r.0).slot ≡ slot)) }
         ensures offers { IfOk result (λ r. (basis C.tells C.state O.offers r.0).offers ≡ O.offers origin) }
@@ -249,7 +250,7 @@ impl<C: Cell, O: Origin> Store<C, O> {
     ) -> Result<(Store<C, O>, Vec<Pass<C>>), NoRoom<C>>
         requires passes { (0 < passes) × (passes ≤ 32) }
         requires anchors { 0 < anchors }
-        requires slots { length cells.items ≤ 1048576 }
+        requires slots { length cells.items ≤ MOST_SLOTS }
         requires cells { IsRow C.state slot cells.items × All (IsSettled C.tells C.state) cells.items }
         requires kept { IsKept anchors (length cells.items) rebuilt.now }
         ensures counts { IfOk result (λ r. ((basis C.tells C.state O.offers r.0).setting.anchors ≡ anchors) × ((basis C.tells C.state O.offers r.0).setting.slots ≡ length cells.items) × ((basis C.tells C.state O.offers r.0).setting.passes ≡ passes) × ((basis C.tells C.state O.offers r.0).slot ≡ slot)) }

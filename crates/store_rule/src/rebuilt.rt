@@ -8,6 +8,7 @@ use std::alloc::Global;
 
 impl<C: Cell, O: Origin> Store<C, O> {
     ghost use Rattle.std.specs.Prelude.{◌≡◌, ◌<◌, ◌≤◌, IfErr, IfOk, vec_len, All, length, map};
+    ghost use Rattle.db_layout.specs.declared.layout.TheConstants.{MOST_SLOTS};
     ghost use Rattle.store_rule.specs.Setting.{IsRow, IsSettled, shown};
     ghost use Rattle.store_rule.specs.Passes.{AreNumbered, IsNewOf, KeepsRoom, basis};
     ghost use Rattle.store_rule.specs.Rebuilding.{IsOpenedWith, IsRebuildOf};
@@ -34,7 +35,7 @@ impl<C: Cell, O: Origin> Store<C, O> {
     ) -> Result<(Store<C, O>, Vec<Pass<C>>), NoRoom<C>>
         requires passes { (0 < passes) × (passes ≤ 32) }
         requires anchors { 0 < anchors }
-        requires slots { length cells.items ≤ 1048576 }
+        requires slots { length cells.items ≤ MOST_SLOTS }
         requires cells { IsRow C.state slot cells.items × All (IsSettled C.tells C.state) cells.items }
         requires kept { IsRebuildOf C.tells C.state slot anchors cells.items rebuilt.now }
         ensures counts { IfOk result (λ r. ((basis C.tells C.state O.offers r.0).setting.anchors ≡ anchors) × ((basis C.tells C.state O.offers r.0).setting.slots ≡ length cells.items) × ((basis C.tells C.state O.offers r.0).setting.passes ≡ passes) × ((basis C.tells C.state O.offers r.0).slot ≡ slot)) }

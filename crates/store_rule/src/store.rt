@@ -1,5 +1,6 @@
 // The store and its passes.
 ghost use Rattle.std.specs.Prelude.{◌≡◌, ◌+◌, ◌*◌, ◌<◌, ◌≤◌, [], ◌∷◌, length};
+ghost use Rattle.db_layout.specs.declared.layout.TheConstants.{MOST_SLOTS};
 ghost use Rattle.store_rule.specs.Told.{the_view};
 ghost use Rattle.store_rule.specs.Tabs.{tabs_at};
 
@@ -25,7 +26,7 @@ pub struct Store<C: Cell, O: Origin> {
     ghost anchors_are: { anchors ≡ table.shared.key.anchors },
     ghost slots_are: { slots ≡ table.shared.key.slots },
     ghost slot_is: { slot ≡ table.shared.key.slot },
-    ghost few: { slots ≤ 1048576 },
+    ghost few: { slots ≤ MOST_SLOTS },
     ghost some: { 0 < anchors },
     ghost sized: { table.shared.table_id.words ≡ 5 * anchors + 3 * slots + 1 },
     ghost placed: { table.shared.table_id.slots ≡ slots },
@@ -188,7 +189,7 @@ impl<C: Cell, O: Origin> Store<C, O> {
     /// How many slots there are, at most 1,048,576.
     pub fn slots(&self) -> u32
         ensures value { result ≡ (basis C.tells C.state O.offers self.now).setting.slots }
-        ensures few { result ≤ 1048576 }
+        ensures few { result ≤ MOST_SLOTS }
     {
         self.slots
     }
