@@ -11,7 +11,7 @@ use Rattle.rock_reader.specs.declared.answer.More.{More}
 use Rattle.rock_reader.specs.declared.answer.More.TheVariants.{End, Fault, Halted, NotYet, OtherUrl, Piece}
 use Rattle.rock_reader.specs.Reading.{Gave, IsPiece, ReadsAs, Standing, onward}
 use Rattle.rock_reader.specs.Wanted.{FollowsReader}
-use Rattle.store_serve.specs.Following.{Given, Gives, WentOn}
+use Rattle.store_serve.specs.Following.{GaveSome, Given, Gives, WentOn}
 
 pub no_fault : {r : More} {count : ℕ} → r ≡ Piece count → r ≢ Fault
 no_fault is w = cc
@@ -47,6 +47,17 @@ module _ {C O : Type 0} (tells : Bool) (state : C → CellState) (offers : O →
     all_is = grown ∙ ap (λ z. z ++ take count after) h.all_is ∙ append_assoc front h.bytes (take count after);
     reads = piece.reads;
   }
+
+  pub some_given : (e : Standing) (p u q : Pass C) (front all before after : List ℕ) (count : ℕ) (h : HasRead e p u front all) → IsPiece tells state offers s t u h.standing before after q count → (bytes : List ℕ) × GaveSome tells state offers s t e p q bytes
+  some_given e p u q front all before after count h piece = (
+    h.bytes ++ take count after,
+    record {
+      calls = record { before = before; after = after; count = count; left = q } ∷ h.calls;
+      standing = onward h.standing;
+      gives = (h.standing, u, h.bytes, h.gives, piece, refl, refl, refl);
+      reads = piece.reads;
+    },
+  )
 
   -- whatever else the answer is, the tab reads still
   pub reads_after : (e : Standing) (p q : Pass C) (before after : List ℕ) (answer : More) → ReadsAs tells state offers s p t e → Gave tells state offers s t p e before after q answer → ((count : ℕ) → answer ≢ Piece count)

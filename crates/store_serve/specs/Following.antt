@@ -22,6 +22,13 @@ module _ {C O : Type 0} (tells : Bool) (state : C → CellState) (offers : O →
   Gives e p (c ∷ earlier) f q bytes =
       (standing : Standing) × (middle : Pass C) × (front : List ℕ) × Gives e p earlier standing middle front × IsPiece tells state offers s t middle standing c.before c.after c.left c.count × (f ≡ onward standing) × (q ≡ c.left) × (bytes ≡ front ++ take c.count c.after)
 
+  -- The tab was given these bytes, and reads on.
+  pub record GaveSome (e : Standing) (p q : Pass C) (bytes : List ℕ) : Type 0 where
+    pub calls : List (Given C)
+    pub standing : Standing
+    pub gives : Gives e p calls standing q bytes
+    pub reads : ReadsAs tells state offers s q t standing
+
   -- The tab was given these bytes, and then there was no more to give, for this cause.
   pub record WentOn (e : Standing) (p q : Pass C) (bytes : List ℕ) (answer : More) : Type 0 where
     pub calls : List (Given C)

@@ -6,7 +6,7 @@ ghost use Rattle.rock_reader.specs.Reading.{ReadsAs, Standing};
 ghost use Rattle.rock_reader.specs.Wanted.{FollowsReader};
 ghost use Rattle.slot_cell.specs.declared.header.TheConstants.{HEADER_SIZE};
 ghost use Rattle.store_rule.specs.Passes.{basis, view};
-ghost use Rattle.store_serve.specs.Following.{WentOn};
+ghost use Rattle.store_serve.specs.Following.{GaveSome, WentOn};
 
 use rock_disk::{Cell, Station};
 use rock_reader::{More, more, reading_tabs_may_go_on};
@@ -33,6 +33,8 @@ pub fn read_on<R: Wait, C: Cell, O: Origin, St: Station<C = C>>(
     requires room { (basis C.tells C.state O.offers store.now).slot ≤ length piece.old + HEADER_SIZE }
     ensures went { (e : Standing) → ReadsAs C.tells C.state O.offers store.now pass.old tab e
         → IfOk result (λ answer. (bytes : List ℕ) × (out.new.items ≡ out.old.items ++ bytes) × WentOn C.tells C.state O.offers store.now tab e pass.old pass.new bytes answer) }
+    ensures stopped { (e : Standing) → ReadsAs C.tells C.state O.offers store.now pass.old tab e
+        → OnErr result ((bytes : List ℕ) × GaveSome C.tells C.state O.offers store.now tab e pass.old pass.new bytes) }
     ensures stays { OnErr result ((e : Standing) × ReadsAs C.tells C.state O.offers store.now pass.new tab e) }
     ensures others { FollowsReader C.tells C.state O.offers store.now tab pass.old pass.new }
     ensures inner { tab_at (view pass.new) inner ≡ tab_at (view pass.old) inner }

@@ -30,8 +30,29 @@ returns-in-Ok-ended-clause-got g c = let reads = c.in-Ok.ensures.reads in let we
 pub returns-in-Ok-ended-clause-free : goal.returns-in-Ok-ended-clause-free
 returns-in-Ok-ended-clause-free g c = tabs_back c.args.tab (view c.args.pass.now) (view c.open_entry.new.pass) (view c.read_on-ended.new.pass) (view c.close_entry.new.pass) _ c.requires.may.free c.requires.may.below c.in-Ok.ensures.ok.tabs c.read_on-ended.ensures.others.others c.read_on-ended.ensures.inner c.close_entry.ensures.free
 
+pub returns-in-Ok-ended-clause-failed : goal.returns-in-Ok-ended-clause-failed
+returns-in-Ok-ended-clause-failed g c is = c.in-Ok-ended.ensures.failed is
+
+pub returns-in-Ok-ended-clause-unfailed : goal.returns-in-Ok-ended-clause-unfailed
+returns-in-Ok-ended-clause-unfailed g c not = c.in-Ok-ended.ensures.unfailed not
+
 pub returns-in-Ok-ended-clause-others : goal.returns-in-Ok-ended-clause-others
 returns-in-Ok-ended-clause-others g c = reader_on g.C.Cell.tells g.C.Cell.state g.O.Origin.offers c.args.store.now c.args.tab _ _ _ (reader_on g.C.Cell.tells g.C.Cell.state g.O.Origin.offers c.args.store.now c.args.tab _ _ _ c.in-Ok.ensures.others c.read_on-ended.ensures.others) (reader_tab g.C.Cell.tells g.C.Cell.state g.O.Origin.offers c.args.store.now c.args.tab _ _ c.close_entry.ensures.others)
+
+pub returns-in-Err-ended-clause-stopped : goal.returns-in-Err-ended-clause-stopped
+returns-in-Err-ended-clause-stopped g c = let reads = c.in-Ok.ensures.reads in let some = c.in-Err-ended.ensures.stopped _ reads.1 in (
+  some.0,
+  record {
+    version = _;
+    opened = c.open_entry.new.pass;
+    opens = c.in-Ok.ensures.ok;
+    offer = reads.0;
+    reads = reads.1;
+    read = c.read_on-ended.new.pass;
+    some = some.1;
+    parted = c.close_entry.ensures.parted;
+  },
+)
 
 pub returns-in-Err-ended-clause-free : goal.returns-in-Err-ended-clause-free
 returns-in-Err-ended-clause-free g c = tabs_back c.args.tab (view c.args.pass.now) (view c.open_entry.new.pass) (view c.read_on-ended.new.pass) (view c.close_entry.new.pass) _ c.requires.may.free c.requires.may.below c.in-Ok.ensures.ok.tabs c.read_on-ended.ensures.others.others c.read_on-ended.ensures.inner c.close_entry.ensures.free
