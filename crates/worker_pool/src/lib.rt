@@ -4,6 +4,7 @@
 
 mod crew;
 mod gate;
+mod laws;
 mod meeting;
 mod notes;
 mod run;
@@ -12,6 +13,7 @@ mod setters;
 mod worker;
 
 pub use gate::{Gate, OpenGate};
+pub use laws::scripts_may_be_run;
 pub use notes::Of;
 pub use run::{Ran, run_workers};
 
