@@ -17,6 +17,7 @@ use Rattle.core_model.specs.AllowedByView.{MayMake}
 use Rattle.store_rule.specs.Told.{Becomes, Told, found_as, the_view}
 use Rattle.store_rule.specs.Machine.{CanAct, OnWord, Same}
 use Rattle.core_model.proofs.AllowedByView.{may_step}
+use Rattle.store_rule.proofs.HaltedShort.{short_after, short_rewritten}
 use Rattle.store_rule.proofs.RestsEnd.{rests_end_after, rests_end_rewritten}
 use Rattle.store_rule.proofs.Seating.{reseated, set_twice}
 use Rattle.core_model.specs.Tabs.{IsPass}
@@ -39,6 +40,7 @@ becomes_so {X} g s i v u r at pass (inr h) = subst (λ (z : View X). Rule g (ren
   offered = offers_stay (offering_of g) g.setting s (renewed s (set s.views i (with_hold v h.tab h.writer h.new)))
       (rewritten_tells s i v h.tab h.writer h.new v.trail at h.may.writes) r.offered;
   rests = rests_end_rewritten s i v h.tab h.writer h.new at r.rests;
+  halted = short_rewritten (offering_of g) s i v h.tab h.writer h.new at r.halted;
 }
 
 module _ {C X : Type 0} (form : Form C X) (g : Ground X) where
@@ -60,7 +62,14 @@ module _ {C X : Type 0} (form : Form C X) (g : Ground X) where
       let step = may_step k c a u m rule.sound there may in
       let w : View X = view_after u m (finding k c u m) in
       let act = act s renewed_views r.chains rule a there in
-      let left : Rule g (after k c a u m) = record { sound = keeps_sound k c a u m rule.sound there step; offered = offers_kept (offering_of g) k c a u m rule.sound rule.offered there step chooses; rests = rests_end_after k c a u m there rule.rests } in
+      let sound = keeps_sound k c a u m rule.sound there step in
+      let offered = offers_kept (offering_of g) k c a u m rule.sound rule.offered there step chooses in
+      let left : Rule g (after k c a u m) = record {
+        sound = sound;
+        offered = offered;
+        rests = rests_end_after k c a u m there rule.rests;
+        halted = short_after (offering_of g) k c a u m rule.sound there step may.allowed (ap State.views (on.leaves c a)) sound offered rule.halted;
+      } in
       let after_word = subst (Rule g) (on.leaves c a) left in
       let twice : set renewed_views a w ≡ set r.views a w = set_twice r.views a u w in (
         w ∷ [],

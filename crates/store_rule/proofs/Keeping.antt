@@ -27,6 +27,7 @@ use Rattle.store_rule.specs.Setting.{basis_of, now_in, shown}
 use Rattle.store_rule.specs.Rebuilding.{IsKept, IsOpenedWith, MayOpen, at_home, chain_kept, opened_state}
 use Rattle.store_rule.specs.Told.{Stands}
 use Rattle.store_rule.proofs.Fresh.{many_now, new_free, views_at}
+use Rattle.store_rule.proofs.HaltedShort.{short_new}
 use Rattle.store_rule.proofs.RestsEnd.{rests_end_new}
 
 pub slots_within : (r : Rebuilt) (anchors slots : ℕ) → IsKept anchors slots r → AreWithin r.winners slots
@@ -71,7 +72,7 @@ module _ {X : Type 0} (o : Opening) (r : Rebuilt) (contents : List X) (image : P
 -- the words are those of an opening, and the cells hold anything
 pub opens_with : {X : Type 0} → (g : Ground X) (o : Opening) (r : Rebuilt) → IsOpening o r g.setting.anchors g.setting.slots g.setting.passes → IsKept g.setting.anchors g.setting.slots r → 0 < g.setting.anchors → g.setting.passes ≤ 32
     → g.setting.words ≡ o.words.items → length g.setting.contents ≡ g.setting.slots → g.chain ≡ chain_kept r.winners g.setting.anchors → IsOpenedWith g r
-opens_with {X} g o r is kept some_anchor few words many chain = record { opened = opened; rule = record { sound = sound; offered = offered; rests = rests }; chain = chain }
+opens_with {X} g o r is kept some_anchor few words many chain = record { opened = opened; rule = record { sound = sound; offered = offered; rests = rests; halted = short_new (offering_of g) k s k.passes refl }; chain = chain }
   where
     k : Setting X
     k = g.setting

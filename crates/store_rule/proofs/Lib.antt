@@ -1,6 +1,7 @@
 pub mod CellLists
 pub mod Seating
 pub mod RestsEnd
+pub mod HaltedShort
 pub mod Granted
 pub mod Moves
 pub mod Bounds

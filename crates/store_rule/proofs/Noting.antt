@@ -23,6 +23,7 @@ use Rattle.core_model.proofs.NotesRenewed.{noted, learned, learns_goes, pass_ren
 use Rattle.store_rule.specs.Ruled.{Form, Ruled, Seated, state_of}
 use Rattle.store_rule.specs.Told.{the_view, Stands}
 use Rattle.store_rule.specs.Notes.{noting, learning, noting_row, note_row, learning_row, others, first_row}
+use Rattle.store_rule.proofs.HaltedShort.{short_renewed}
 use Rattle.store_rule.proofs.RestsEnd.{rests_end_renewed}
 use Rattle.store_rule.proofs.Seating.{only, reseated}
 
@@ -34,6 +35,7 @@ renews_rule g s views r so = record {
   sound = renews_sound g.setting s views r so.sound;
   offered = offers_stay (offering_of g) g.setting s (renewed s views) (renews_tells g.setting s views r) so.offered;
   rests = rests_end_renewed g.setting s views r so.rests;
+  halted = short_renewed (offering_of g) g.setting s views r so.halted;
 }
 
 module _ {X : Type 0} (g : Ground X) (s : State X) (so : Rule g s) (i : ℕ) (v : View X) (at : get_elem? s.views i ≡ some v) (pass : IsPass v) where

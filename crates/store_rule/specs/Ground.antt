@@ -1,14 +1,19 @@
 -- What does not change while a store is open, and what holds of its table between any two steps.
-use Rattle.std.specs.Prelude.{◌-◌, ◌≡◌, ◌≢◌, List, Option, Some, drop, take, ℕ}
+use Rattle.std.specs.Prelude.{◌-◌, ◌<◌, ◌≡◌, ◌≢◌, Contains, List, Option, Some, drop, take, ℕ}
+use mathlib.Core.Option.{some}
+use lib.ListN.{get_elem?}
 use Rattle.std.specs.Int.{from_le_bytes, w64}
+use Rattle.lock_word.specs.Words.{stage_of, version_of}
 use Rattle.store_key.specs.Anchor.{anchor_of}
 use Rattle.store_key.specs.Key.{key_of}
 use Rattle.store_key.specs.Url.{IsUrl}
 use Rattle.entry_cut.specs.Content.{Cut, LeavesRoom, count}
 use Rattle.core_model.specs.declared.moves.Move.{Move}
 use Rattle.core_model.specs.declared.moves.Move.TheVariants.{Enter, Take}
+use Rattle.core_model.specs.declared.moves.Side.TheVariants.{Offer}
 use Rattle.core_model.specs.declared.tab.Freer.{Freer}
 use Rattle.core_model.specs.declared.tab.Tab.TheVariants.{Freeing}
+use Rattle.core_model.specs.declared.view.Sight.TheVariants.{Named, Published, Stood}
 use Rattle.core_model.specs.declared.view.View.{View}
 use Rattle.core_model.specs.Holders.{IsTab}
 use Rattle.link_word.specs.declared.link.Link.TheVariants.{Next}
@@ -67,11 +72,19 @@ offering_of g = record {
 abbrev pub RestsEnd : {X : Type 0} → State X → Type 0
 RestsEnd s = (i t : ℕ) (f : Freer) → IsTab s i t (Freeing f) → (slot : ℕ) → f.behind ≢ Next slot
 
--- The rule: the state is sound, each entry is the opening's or one of its offer, and what is given back has an end.
+-- An entry that was halted was never whole: where a version was seen at HALTED, by a pass or a note, fewer slots of it were seen
+-- published than its offer has pieces. That stays so after the version has gone.
+pub record HaltedShort {X : Type 0} (o : Offering) (s : State X) : Type 0 where
+  pub short : (i j l : ℕ) (u v w : View X) → get_elem? s.views i ≡ some u → get_elem? s.views j ≡ some v → get_elem? s.views l ≡ some w → (a e many offer : ℕ) → stage_of e ≡ 4
+      → Contains u.seen (Stood a e) → Contains v.seen (Published a (version_of e) many) → Contains w.seen (Named a (version_of e) Offer offer) → many < o.pieces offer
+
+-- The rule: the state is sound, each entry is the opening's or one of its offer, what is given back has an end, and what was halted was
+-- never whole.
 pub record Rule {X : Type 0} (g : Ground X) (s : State X) : Type 0 where
   pub sound : Sound g.setting s
   pub offered : OffersStand (offering_of g) g.setting s
   pub rests : RestsEnd s
+  pub halted : HaltedShort (offering_of g) s
 
 -- an anchor that is left alone is named by its own pass
 abbrev pub MayName : {X : Type 0} → Ground X → View X → ℕ → Type 0
