@@ -1,8 +1,10 @@
 -- The examples of one worker.
-use Rattle.std.proofs.Common.{◌≡◌, inl, inr, ℕ, ◌≤◌, zero, suc, List, [], ◌∷◌, ◌++◌, sym, refl, ap, ◌∙◌, subst, arith, Bool, true, false, cond, Contains}
+use Rattle.std.proofs.Common.{◌≡◌, ◌⊎◌, inl, inr, ⊎_elim, ℕ, ◌-◌, ◌≤◌, zero, suc, List, [], ◌∷◌, ◌++◌, sym, refl, ap, ◌∙◌, subst, arith, Bool, true, false, cond, Contains}
 use Rattle.std.specs.Prelude.{IsTrue, None, Some, count_by}
 use Rattle.std.proofs.lemmas.List.Sums.{sum_by-cons}
 use mathlib.Core.Option.{some, some-injective, some-ne-none}
+use mathlib.Core.Logic.{dite}
+use native.Mathlib.Decide.{ℕ_discrete}
 use lib.ListN.{get_elem?}
 use Rattle.store_key.specs.Anchor.{anchor_of}
 use Rattle.store_key.specs.Key.{key_of}
@@ -20,17 +22,18 @@ use Rattle.script_text.specs.declared.request.Request.TheVariants.{Get, Purge, P
 use Rattle.core_model.specs.declared.view.View.{View}
 use Rattle.core_model.specs.Anchors.{opening_counter}
 use Rattle.line_account.specs.Lines.{LineOf, Offers, Served, gives_up, offers, url_in, writing, url_at, begins, ends}
-use Rattle.line_account.specs.Deeds.{Began, Begins as BeginsVersion, Halts}
+use Rattle.line_account.specs.Deeds.{Began, Begins as BeginsVersion, Halts, PrintsBegunVersion, TellsBegun}
 use Rattle.line_account.specs.Answers.{Run}
 use Rattle.line_account.specs.Accounts.{Shows, epochs_of, epoch_in}
 use Rattle.line_account.specs.Courses.{Stage, lines_in, Course}
 use Rattle.line_account.specs.Closing.{BegunIn, Closed, HaltedIn, LineIn, ShownIn, Worker, offered, offered_by}
-use Rattle.line_account.specs.Printed.{HitIn, PrintsHit}
+use Rattle.line_account.specs.Printed.{HitIn, IsBodyAsPrinted, PrintsHit}
 use Rattle.line_account.specs.Order.{NotBelow, counts_as, version_alone, OpensOrStores, HandsOver, printed}
 use Rattle.line_account.specs.Parts.{IsCourseOf}
 use Rattle.line_account.specs.Alone.{alone, next_version}
 use Rattle.line_account.proofs.Gathered.{one_line, same_line}
 use Rattle.line_account.proofs.Versions.{bounded, halted_by}
+use Rattle.line_account.proofs.HitVersions.{hit_body_printed, told_at_once}
 use Rattle.line_account.proofs.Printing.{given_back_halted, hit_of_new, spent_bounds}
 use Rattle.line_account.proofs.Ordering.{not_below_earlier, stage_in, not_below_met}
 
@@ -184,6 +187,39 @@ module _ {X : Type 0} (r : Run X) (w : Worker X) (c : Closed r (alone w)) where
       }) in
       not_false e.doom (λ n. halts_not s url a (version_of (epoch_number e)) is q (ap gives_up m)
       (given_back_halted r (alone w) c fit a (epoch_number e) shown (doom_of-epoch_number e ∙ ap doom_number n) (omega arith)))
+
+  -- Behind a put that was given up.
+
+  pub given_up_not_hit : IsTrue r.tells → (p g : Served) (url bytes : List ℕ) (body : Body) (y : ℕ) → w.served ≡ g ∷ p ∷ [] → p.line.request ≡ Put url body → gives_up p.answer ≡ true
+      → g.line.request ≡ Get url → g.answer ≡ answer.Hit y bytes → y ≤ opening_counter r.setting
+  given_up_not_hit tells p g url bytes body y e pq pa gq ga = dite (ℕ_discrete (y - opening_counter r.setting) 0)
+      (λ z. omega arith)
+      (λ z. absurd (none (hit_body_printed r (alone w) c tells a y url bytes
+      (line_in [] g (p ∷ []) e (λ earlier s. PrintsHit r.setting.anchors s a y url bytes) (record { request = gq; anchor = refl; printed = ga })) (omega arith))))
+    where
+      a : ℕ
+      a = anchor_of (key_of url) r.setting.anchors
+
+      in_two : (later earlier : List Served) (t : Served) → g ∷ p ∷ [] ≡ later ++ t ∷ earlier → (g ≡ t) ⊎ (p ≡ t)
+      in_two [] earlier t k = inl cc
+      in_two (u ∷ []) earlier t k = inr cc
+      in_two (u ∷ v ∷ []) earlier t k = let f : [] ≡ t ∷ earlier = cc in cc
+      in_two (u ∷ v ∷ z ∷ later) earlier t k = let f : [] ≡ z ∷ (later ++ t ∷ earlier) = cc in cc
+
+      not_told : (t : Served) → (g ≡ t) ⊎ (p ≡ t) → TellsBegun t.line.request t.answer y → ⊥
+      not_told t (inl same) h = subst (λ (q : Request). TellsBegun q t.answer y) (ap (λ (z : Served). z.line.request) (sym same) ∙ gq) h
+      not_told t (inr same) h = ⊎_elim (λ (q : p.answer ≡ answer.Stored y). not_given (ap gives_up q)) (λ (q : p.answer ≡ answer.Doomed y). not_given (ap gives_up q))
+          (told_at_once (Put url body) p.answer y tt (subst (λ (q : Request). TellsBegun q p.answer y) pq (subst (λ (z : Served). TellsBegun z.line.request z.answer y) (sym same) h)))
+        where
+          not_given : gives_up p.answer ≡ false → ⊥
+          not_given q = let f : true ≡ false = sym pa ∙ q in cc
+
+      by_place : (j : ℕ) (u : Worker X) → get_elem? (alone w) j ≡ some u → LineOf u.served (λ earlier t. PrintsBegunVersion r.setting.anchors t a y) → ⊥
+      by_place zero u k l = let same : w ≡ u = some-injective w u k in not_told l.line (in_two l.later l.earlier l.line (sym e ∙ ap Worker.served same ∙ l.split)) l.so.told
+      by_place (suc j) u k l = absurd (some-ne-none u (sym k))
+
+      none : IsBodyAsPrinted r (alone w) a y url bytes → ⊥
+      none b = by_place b.begun.j b.begun.worker b.begun.at b.begun.line_of
 
 module _ {X : Type 0} (r : Run X) (w : Worker X) where
   pub no_hit : (start : View X) (p g : Stage X) (url bytes : List ℕ) (e : Epoch) (y : ℕ) → IsCourseOf r w start (g ∷ p ∷ []) → p.served.line.request ≡ Purge url → p.served.answer ≡ answer.Purged e

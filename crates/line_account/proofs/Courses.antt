@@ -12,7 +12,7 @@ use Rattle.core_model.proofs.Lists.{contains_none}
 use Rattle.line_account.specs.Lines.{Served}
 use Rattle.line_account.specs.Deeds.{Grows, HasLine, IsDeedOf, IsDeedOfEnd, IsNamed}
 use Rattle.line_account.specs.Answers.{HasAdded, HasGiven, HasHit, HasItem, HasOpened, HasOther, IsEntryAt, IsKeyRead, IsSpent, Run}
-use Rattle.line_account.specs.Accounts.{Account, HasFinished, Tells, drew_some, drew_version}
+use Rattle.line_account.specs.Accounts.{Account, HasFinished, HasGivenUp, Tells, drew_some, drew_version}
 use Rattle.line_account.specs.Courses.{Adds, Begins, Course, Keeps, Leaves, Stage, lines_in, one_if}
 
 module _ {X : Type 0} (k : Setting X) (v w : View X) (h : Keeps v w) where
@@ -123,6 +123,17 @@ module _ {X : Type 0} (r : Run X) (v w : View X) (h : Keeps v w) where
   finished_later : (earlier : List Served) (s : Served) (x : ℕ) → HasFinished r.setting v earlier s x → HasFinished r.setting w earlier s x
   finished_later earlier s x f = record { anchor = f.anchor; grows = grows_later r.setting v w h earlier s f.anchor x f.grows }
 
+  given_up_later : (earlier : List Served) (s : Served) → HasGivenUp r.setting.anchors v earlier s → HasGivenUp r.setting.anchors w earlier s
+  given_up_later earlier s g = record {
+    anchor = g.anchor;
+    version = g.version;
+    writes = g.writes;
+    epoch = g.epoch;
+    version_is = g.version_is;
+    halted = g.halted;
+    seen = h.seen (Stood g.anchor g.epoch) g.seen;
+  }
+
   -- what a line tells stays told
   pub tells_later : (earlier : List Served) (s : Served) → Tells r v earlier s → Tells r w earlier s
   tells_later earlier s t = record {
@@ -131,7 +142,7 @@ module _ {X : Type 0} (r : Run X) (v w : View X) (h : Keeps v w) where
     drew = t.drew;
     began = t.began;
     finished = λ x q. finished_later earlier s x (t.finished x q);
-    gave_up = t.gave_up;
+    gave_up = λ q. given_up_later earlier s (t.gave_up q);
     full = t.full;
     large = t.large;
     long = t.long;

@@ -1,17 +1,20 @@
 -- The workers of a store that was just opened, and who served nothing, are closed.
-use Rattle.std.proofs.Common.{◌≡◌, inl, ℕ, ◌+◌, ◌<◌, zero, suc, List, [], ◌∷◌, length, sym, refl, ap, ◌∙◌, subst, arith, Contains, true}
+use Rattle.std.proofs.Common.{◌≡◌, inl, ⊎_elim, ℕ, ◌+◌, ◌<◌, zero, suc, List, [], ◌∷◌, length, sym, refl, ap, ◌∙◌, subst, arith, Contains, true}
 use Rattle.std.proofs.lemmas.List.Elements.{Contains-append_right}
 use mathlib.Core.Option.{some, some-injective, some-ne-none}
 use mathlib.Core.Logic.{dite}
 use native.Mathlib.Decide.{ℕ_discrete}
 use lib.ListN.{get_elem?}
 use Rattle.core_model.specs.declared.view.Sight.{Sight}
-use Rattle.core_model.specs.declared.view.Sight.TheVariants.{Stood}
+use Rattle.core_model.specs.declared.view.Sight.TheVariants.{Published, Stood}
+use Rattle.core_model.specs.declared.view.View.{View}
 use Rattle.core_model.specs.Anchors.{opening_epoch}
 use Rattle.core_model.specs.Opening.{new_view, new_views, sights_below}
 use Rattle.core_model.specs.Sound.{Sound}
 use Rattle.core_model.specs.State.{State}
 use Rattle.core_model.specs.Tabs.{IsPass}
+use Rattle.core_model.proofs.Lists.{cons_contains, contains_none}
+use Rattle.lock_word.specs.Words.{version_of}
 use Rattle.line_account.specs.Answers.{Run}
 use Rattle.line_account.specs.Accounts.{Account}
 use Rattle.line_account.specs.Courses.{Begins}
@@ -59,10 +62,30 @@ module _ {X : Type 0} (r : Run X) where
   idle_count from zero = refl
   idle_count from (suc count) = let h = idle_count (from + 1) count in omega arith
 
+  -- a new view has seen no published slot
+  none_published : (n a x many : ℕ) → Contains (sights_below r.setting n) (Published a x many) → ⊥
+  none_published zero a x many h = contains_none (Published a x many) h
+  none_published (suc n) a x many h = ⊎_elim
+      (λ q. not_stood (opening_epoch r.setting n) q)
+      (λ (q : Contains (sights_below r.setting n) (Published a x many)). none_published n a x many q)
+      (cons_contains (Stood n (opening_epoch r.setting n)) (Published a x many) (sights_below r.setting n) h)
+    where
+      not_stood : (e : ℕ) → ◌≡◌ {A = Sight} (Stood n e) (Published a x many) → ⊥
+      not_stood e q = cc
+
+  new_seen : (count from i : ℕ) (v : View X) → get_elem? (new_views r.setting from count) i ≡ some v → v.seen ≡ sights_below r.setting r.setting.anchors
+  new_seen zero from i v e = absurd (some-ne-none v (sym e))
+  new_seen (suc count) from zero v e = sym (ap View.seen (some-injective (new_view r.setting from) v e))
+  new_seen (suc count) from (suc i) v e = new_seen count (from + 1) i v e
+
   pub idle_closed : (s : State X) → Sound r.setting s → s.views ≡ new_views r.setting 0 r.setting.passes → Closed r (idle_workers r.setting 0 r.setting.passes)
   idle_closed s so is = record {
     state = s;
     sound = so;
+    halted = record {
+      short = λ i j l u v z au av az a e many number four stood shown named.
+          absurd (none_published r.setting.anchors a (version_of e) many (subst (λ (y : List Sight). Contains y (Published a (version_of e) many)) (new_seen r.setting.passes 0 j v (ap (λ y. get_elem? y j) (sym is) ∙ av)) shown));
+    };
     index = λ j. j;
     at = λ j w e. ap (λ l. get_elem? l j) is ∙ view_at 0 r.setting.passes j w e;
     apart = λ j l w x e g h. h;

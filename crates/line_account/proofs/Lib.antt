@@ -4,6 +4,7 @@ pub mod Versions
 pub mod Courses
 pub mod Names
 pub mod Printing
+pub mod HitVersions
 pub mod Ordering
 pub mod Parts
 pub mod Scripts

@@ -1,6 +1,6 @@
 -- The account of a worker: what it knows, and which line each of its deeds belongs to.
 use Rattle.std.specs.Prelude.{Bool, IsTrue, List, None, Option, Some, [], count_by, false, length, true, ◌+◌, ◌++◌, ◌<◌, ◌==◌, ◌∷◌, ◌↔◌, ◌≡◌, ◌≢◌, ◌⊎◌, Contains, ℕ}
-use Rattle.lock_word.specs.Words.{epoch_at, epoch_number, stage_of}
+use Rattle.lock_word.specs.Words.{epoch_at, epoch_number, stage_of, version_of}
 use Rattle.lock_word.specs.declared.cause.Cause.{Cause}
 use Rattle.lock_word.specs.declared.cause.Cause.TheVariants.{Absent, Leaving, OtherKey, Writing}
 use Rattle.lock_word.specs.declared.epoch.Epoch.{Epoch}
@@ -55,15 +55,20 @@ pub record HasBegun (s : Served) : Type 0 where
   pub drew : s.drew ≡ Some version
   pub began : Began s.line.request s.answer version
 
--- a line finished its writing of this version, or gave one up
+-- a line finished its writing of this version
 pub record HasFinished {X : Type 0} (k : Setting X) (v : View X) (earlier : List Served) (s : Served) (x : ℕ) : Type 0 where
   pub anchor : ℕ
   pub grows : Grows k v earlier s anchor x
 
-pub record HasGivenUp (anchors : ℕ) (earlier : List Served) (s : Served) : Type 0 where
+-- or gave one up, and the worker has seen the version at HALTED
+pub record HasGivenUp {X : Type 0} (anchors : ℕ) (v : View X) (earlier : List Served) (s : Served) : Type 0 where
   pub anchor : ℕ
   pub version : ℕ
   pub writes : Writes anchors earlier s anchor version
+  pub epoch : ℕ
+  pub version_is : version_of epoch ≡ version
+  pub halted : stage_of epoch ≡ 4
+  pub seen : Contains v.seen (Stood anchor epoch)
 
 -- what a line offers is the offer of its number, behind the slots
 pub record IsOffered {X : Type 0} (r : Run X) (s : Served) (url : List ℕ) (body : Body) : Type 0 where
@@ -77,7 +82,7 @@ pub record Tells {X : Type 0} (r : Run X) (v : View X) (earlier : List Served) (
   pub drew : s.drew ≢ None → offers s.line.request ≡ true  -- only a line that offers a body draws a version
   pub began : (x : ℕ) → Began s.line.request s.answer x → HasBegun s  -- and it drew the version that it began
   pub finished : (x : ℕ) → (s.answer ≡ answer.Stored x) ⊎ (s.answer ≡ answer.Doomed x) → HasFinished r.setting v earlier s x
-  pub gave_up : gives_up s.answer ≡ true → HasGivenUp r.setting.anchors earlier s
+  pub gave_up : gives_up s.answer ≡ true → HasGivenUp r.setting.anchors v earlier s
   pub full : s.answer ≡ answer.Full → r.fits ≡ false  -- a slot was wanting
   pub large : s.answer ≡ answer.Large → IsLarge r earlier s  -- nor may the entry have as many slots as its body needs
   pub long : s.answer ≡ answer.LongUrl → IsLong r s

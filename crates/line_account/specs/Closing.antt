@@ -1,9 +1,11 @@
 -- All workers at the end, and what is said of their lines together.
-use Rattle.std.specs.Prelude.{List, count_by, length, sum_by, true, ◌≡◌, ◌⊎◌, ℕ}
+use Rattle.std.specs.Prelude.{List, count_by, length, sum_by, true, ◌*◌, ◌+◌, ◌<◌, ◌≡◌, ◌⊎◌, Contains, ℕ}
 use mathlib.Core.Option.{some}
 use lib.ListN.{get_elem?}
-use Rattle.lock_word.specs.Words.{version_of}
+use Rattle.lock_word.specs.Words.{stage_of, version_of}
 use Rattle.script_text.specs.declared.answer.Answer.TheVariants as answer
+use Rattle.core_model.specs.declared.moves.Side.TheVariants.{Offer}
+use Rattle.core_model.specs.declared.view.Sight.TheVariants.{Named, Published, Stood}
 use Rattle.core_model.specs.declared.view.View.{View}
 use Rattle.core_model.specs.Sound.{Sound}
 use Rattle.core_model.specs.State.{State}
@@ -18,10 +20,19 @@ pub record Worker (X : Type 0) : Type 0 where
   pub view : View X
   pub served : List Served
 
--- The workers ended. Their views stand in one sound state, no two at the same place, there are as many as passes, and each has its account.
+-- An entry that was halted was never whole: where a version was seen at HALTED, and so many slots of it were seen published, and the offer
+-- of a line was seen as its offer, these slots hold less than the content of that offer, which is its metadata and its body.
+pub record HaltedShort {X : Type 0} (r : Run X) (s : State X) : Type 0 where
+  pub short : (i j l : ℕ) (u v w : View X) → get_elem? s.views i ≡ some u → get_elem? s.views j ≡ some v → get_elem? s.views l ≡ some w → (a e many number : ℕ) → stage_of e ≡ 4
+      → Contains u.seen (Stood a e) → Contains v.seen (Published a (version_of e) many) → Contains w.seen (Named a (version_of e) Offer (r.setting.slots + number))
+      → many * r.room < 32 + length (r.url (r.setting.slots + number)) + length (r.body (r.setting.slots + number))
+
+-- The workers ended. Their views stand in one sound state, where what was halted was never whole. No two are at the same place, there are as
+-- many as passes, and each has its account.
 pub record Closed {X : Type 0} (r : Run X) (crew : List (Worker X)) : Type 0 where
   pub state : State X
   pub sound : Sound r.setting state
+  pub halted : HaltedShort r state
   pub index : ℕ → ℕ
   pub at : (j : ℕ) (w : Worker X) → get_elem? crew j ≡ some w → get_elem? state.views (index j) ≡ some w.view
   pub apart : (j l : ℕ) (w x : Worker X) → get_elem? crew j ≡ some w → get_elem? crew l ≡ some x → index j ≡ index l → j ≡ l

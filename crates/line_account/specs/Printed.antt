@@ -10,7 +10,8 @@ use Rattle.plain_model.specs.Serving.{bytes_of}
 use Rattle.script_text.specs.declared.answer.Answer.{Answer}
 use Rattle.script_text.specs.declared.answer.Answer.TheVariants as answer
 use Rattle.script_text.specs.declared.body.Body.{Body}
-use Rattle.script_text.specs.declared.request.Request.TheVariants.{Add, Begin, End, Get}
+use Rattle.script_text.specs.declared.request.Request.{Request}
+use Rattle.script_text.specs.declared.request.Request.TheVariants.{Add, Begin, End, Get, Put, Save}
 use Rattle.core_model.specs.declared.moves.Side.TheVariants.{Key0, Key1, Offer}
 use Rattle.core_model.specs.declared.view.Place.TheVariants.{Beside}
 use Rattle.core_model.specs.Anchors.{opening_epoch}
@@ -18,7 +19,7 @@ use Rattle.core_model.specs.Layout.{word_in}
 use Rattle.line_account.specs.Lines.{IsAt, Offers, Served, begun_by, opened_by, url_in, writing}
 use Rattle.line_account.specs.Deeds.{ComesTo, MayEvict}
 use Rattle.line_account.specs.Answers.{IsHeld, IsOvertaken, IsSure, IsWhole, Reads, Refuses, Run, bytes_with, readers_at}
-use Rattle.line_account.specs.Closing.{BegunIn, HaltedIn, LineIn, Worker}
+use Rattle.line_account.specs.Closing.{BegunIn, HaltedIn, LineIn, TellsBegunIn, Worker}
 
 -- Names and bodies.
 
@@ -65,6 +66,19 @@ pub record IsBodyOfLine {X : Type 0} (r : Run X) (crew : List (Worker X)) (a x :
   pub body : Body
   pub offers : Offers begun.line_of.line.line.request url body
   pub whole : bytes ≡ bytes_of body
+
+-- they are the body that a line offers under this URL which printed that it began the version x at the anchor a
+pub record IsBodyAsPrinted {X : Type 0} (r : Run X) (crew : List (Worker X)) (a x : ℕ) (url bytes : List ℕ) : Type 0 where
+  pub begun : TellsBegunIn r crew a x
+  pub body : Body
+  pub offers : Offers begun.line_of.line.line.request url body
+  pub whole : bytes ≡ bytes_of body
+
+-- a request that begins a writing and ends it
+abbrev pub OffersAtOnce : Request → Type 0
+OffersAtOnce (Put url body) = Unit {0}
+OffersAtOnce (Save url body) = Unit {0}
+OffersAtOnce _ = ⊥
 
 -- they are the body of the entry that the anchor had at the opening, and the URL is its URL
 pub record IsOldBody {X : Type 0} (r : Run X) (a : ℕ) (url bytes : List ℕ) : Type 0 where

@@ -9,7 +9,7 @@ ghost use Rattle.script_text.specs.declared.request.Request.{Request};
 ghost use Rattle.lock_word.specs.declared.cause.Cause.{Cause};
 ghost use Rattle.core_model.specs.Anchors.{opening_counter};
 ghost use Rattle.core_model.specs.declared.view.View.{View};
-ghost use Rattle.line_account.specs.Lines.{Served};
+ghost use Rattle.line_account.specs.Lines.{Served, gives_up};
 ghost use Rattle.line_account.specs.Accounts.{Account, epoch_in};
 ghost use Rattle.line_account.specs.Answers.{Run};
 ghost use Rattle.line_account.specs.Courses.{Course, Stage};
@@ -47,6 +47,13 @@ pub fn no_hit_follows_a_purge<X>()
     ensures { (r : Run X) (w : Worker X) (start : View X) (p g : Stage X) (url bytes : List ℕ) (e : Epoch) (y : ℕ) → IsCourseOf r w start (g ∷ p ∷ [])
         → p.served.line.request ≡ Request.Purge url → p.served.answer ≡ Answer.Purged e
         → g.served.line.request ≡ Request.Get url → g.served.answer ≡ Answer.Hit y bytes → version_of (epoch_number e) ≡ y → ⊥ }
+{}
+
+/// Behind a `put` that printed FULL, LARGE or FAULT no hit of the URL has its version: it is that of an entry
+/// of the opening.
+pub fn nothing_given_up_is_hit<X>()
+    ensures { (r : Run X) (w : Worker X) (p g : Served) (url bytes : List ℕ) (body : Body) (y : ℕ) → Closed r (alone w) → IsTrue r.tells → w.served ≡ g ∷ p ∷ []
+        → p.line.request ≡ Request.Put url body → gives_up p.answer ≡ true → g.line.request ≡ Request.Get url → g.answer ≡ Answer.Hit y bytes → y ≤ opening_counter r.setting }
 {}
 
 /// Where the one line of a worker only looks, and no line gave a writing up, it shows no epoch at HALTED.

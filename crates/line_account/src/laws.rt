@@ -32,7 +32,7 @@ ghost use Rattle.core_model.specs.Trails.{drawn, draws};
 ghost use Rattle.line_account.specs.Accounts.{Account, epoch_in};
 ghost use Rattle.line_account.specs.Courses.{Adds, Begins as BeginsWork, Course, Keeps, Leaves, Stage, lines_in};
 ghost use Rattle.line_account.specs.Steps.{IsAfter, IsIdle, IsMarkLine, IsTabLine};
-ghost use Rattle.line_account.specs.Printed.{AnotherComes, EndsBegun, AreFirstOnes, ReadsOf, GivenBackIn, HadEntry, PrintsAdded, HasBusyWords, HasOtherUrl, HitIn, IsBodyOfLine, IsKeyOfLine, IsOldBody, IsOldUrl, KeyIn, NeedsTooMany, PrintsLarge, PrintsOther, PrintsReaders};
+ghost use Rattle.line_account.specs.Printed.{AnotherComes, EndsBegun, AreFirstOnes, ReadsOf, GivenBackIn, HadEntry, PrintsAdded, HasBusyWords, HasOtherUrl, HitIn, IsBodyAsPrinted, IsBodyOfLine, IsKeyOfLine, IsOldBody, IsOldUrl, KeyIn, NeedsTooMany, OffersAtOnce, PrintsFinished, PrintsLarge, PrintsOther, PrintsReaders};
 ghost use Rattle.line_account.specs.Closing.{Closed, Worker, BegunIn, TellsBegunIn, ShownIn, StoredIn, HaltedIn, PurgedIn, IsSameLine, LineIn, PrintsHalted, PrintsDoomed, SomeHalted, offered};
 
 /// Each version is begun by one line, and at one anchor, and a line begins one version at most. It offers a
@@ -129,6 +129,18 @@ pub fn hits_are_of_lines<X>()
         → x ≤ opening_counter r.setting → IsOldBody r a url bytes }
     ensures new { (r : Run X) (crew : List (Worker X)) (a x : ℕ) (url bytes : List ℕ) → Closed r crew → IsTrue r.tells → HitIn r crew a x url bytes
         → opening_counter r.setting < x → IsBodyOfLine r crew a x url bytes }
+{}
+
+/// A version that is hit, and that a line began, was printed by that line: by BEGUN, or by STORED or DOOMED
+/// of a `put` or a `save`. So the body of the hit is the one that this line offers. None that was given up
+/// is hit.
+pub fn hit_versions_were_printed<X>()
+    ensures begun { (r : Run X) (crew : List (Worker X)) (a x : ℕ) (url bytes : List ℕ) → Closed r crew → IsTrue r.tells → HitIn r crew a x url bytes
+        → (p : BegunIn r crew a x) → PrintsBegunVersion r.setting.anchors p.line_of.line a x }
+    ensures finished { (r : Run X) (crew : List (Worker X)) (a x : ℕ) (url bytes : List ℕ) → Closed r crew → IsTrue r.tells → HitIn r crew a x url bytes
+        → (p : BegunIn r crew a x) → OffersAtOnce p.line_of.line.line.request → PrintsFinished p.line_of.line x }
+    ensures body { (r : Run X) (crew : List (Worker X)) (a x : ℕ) (url bytes : List ℕ) → Closed r crew → IsTrue r.tells → HitIn r crew a x url bytes
+        → opening_counter r.setting < x → IsBodyAsPrinted r crew a x url bytes }
 {}
 
 /// The bytes that lines gave of an entry since it was opened are the first ones of a body that is stored
