@@ -37,7 +37,7 @@ store_of-requires-clause-sure g c κs within =
     let whole = filled c.kept_of-kept.new.cells (drop (length c.kept_of-kept.new.cells) c.in-Ok.opened.cells.items) c.in-Ok.opened.cells.len (omega arith) in
     let same = ap (map g.V.C.Cell.state) whole ∙ (c.kept_of-kept.ensures.cells ∙ ap (map g.V.C.Cell.state) c.deref_mut.ensures.value) in
     sure_of g.V.C.Cell.state g.V.C.Cell.tells c.args.slot _
-    (λ told. let opened = (c.in-Ok.ensures.opened (g.V.Volume.cells_tell told)).1 in (bytes_of opened.was, same ∙ opened.cells_are))
+    (λ told. let opened = (c.in-Ok.ensures.opened (g.met.V.Volume.cells_tell told)).1 in (bytes_of opened.was, same ∙ opened.cells_are))
 
 pub store_of-requires-clause-kept : goal.store_of-requires-clause-kept
 store_of-requires-clause-kept g c κs within =
