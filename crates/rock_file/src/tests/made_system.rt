@@ -176,7 +176,9 @@ fn a_file_is_made_once_it_is_synced(rt: HostRuntime) {
         ("new", 3, Ok(()), 0),
         ("new and loose", 3, Err(CreateFault::Failed), 1),
         ("new", 4, Err(CreateFault::Failed), 2),
-        ("old", 3, Err(CreateFault::Exists), 2),
+        // cut to 32 bits the length would be that of 3 slots
+        ("new", 4_194_307, Err(CreateFault::Failed), 3),
+        ("old", 3, Err(CreateFault::Exists), 3),
     ] {
         assert_eq!(rt; volume.create(name, slots, 1024), made, "{name} {slots}");
         assert_eq!(rt; volume.faults, faults, "{name} {slots}");
