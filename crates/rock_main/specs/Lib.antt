@@ -8,3 +8,4 @@ pub mod Device
 pub mod Status
 pub mod Report
 pub mod Create
+pub mod Ending

@@ -1,10 +1,15 @@
 // How the program ends.
-ghost use Rattle.std.specs.Prelude.{◌≡◌, ◌↔◌, IsTrue};
+ghost use Rattle.std.specs.Prelude.{◌≡◌, ◌↔◌, ℕ, List, IsTrue};
 ghost use Rattle.std.specs.Process.{exit_status};
 ghost use Rattle.rock_disk.specs.File.{NoneAway};
 ghost use Rattle.rock_io.specs.Faults.{Rose};
-ghost use Rattle.rock_main.specs.CommandLine.{IsCommandLine};
+ghost use Rattle.rock_main.specs.CommandLine.{IsList, IsCheck, IsCreate, IsCommandLine};
+ghost use Rattle.rock_main.specs.Create.{CreateEnds, CreateSays, IsCreateRefused, CreateLeaves};
+ghost use Rattle.rock_main.specs.Ending.{EndsFor};
+ghost use Rattle.rock_main.specs.Listing.{Lists};
+ghost use Rattle.rock_main.specs.Report.{AnyCount, IsAnchors, OfFile, ReportEnds, ReportSays, IsRefused, ReportPrints};
 ghost use Rattle.rock_main.specs.Status.{code_of};
+ghost use Rattle.rock_main.specs.Summary.{Sums};
 
 use crate::message::{Asked, explanation};
 use crate::rock::rock;
@@ -37,6 +42,29 @@ where
     // Whatever else it ends with, the output was taken as far as it was given out, and at 0 all was read.
     ensures sink_unfailed { (exit_status result ≡ 5 → ⊥) → K.faults out.new ≡ K.faults out.old }
     ensures device_unfailed { (exit_status result ≡ 6 → ⊥) → V.faults volume.new ≡ V.faults volume.old }
+
+    // Of each command: it is the code of a status with the causes that the command gives it, by the numbers and the
+    // counts of faults, and by the files; which is the one that the numbers and the files ask for where they
+    // refuse the command; and what was printed, or made, is what that status says.
+    ensures list { (name : List ℕ) (slot : ℕ) → IsList words.now name slot → EndsFor (λ status.
+        ReportEnds AnyCount slot (K.faults out.old) (K.faults out.new)
+        (V.faults volume.old) (V.faults volume.new) (V.ended volume.old) (V.ended volume.new) status
+        × (IsTrue V.tells → ReportSays AnyCount (V.files volume.old) name slot status)
+        × IsRefused V.tells AnyCount (V.files volume.old) name slot status
+        × (IsTrue K.tells → ReportPrints (λ text. IsTrue V.tells → OfFile (Lists slot) (V.files volume.old) name slot text)
+        (K.taken out.old) (K.taken out.new) status)) (exit_status result) }
+    ensures check { (name : List ℕ) (slot anchors : ℕ) → IsCheck words.now name slot anchors → EndsFor (λ status.
+        ReportEnds (IsAnchors anchors) slot (K.faults out.old) (K.faults out.new)
+        (V.faults volume.old) (V.faults volume.new) (V.ended volume.old) (V.ended volume.new) status
+        × (IsTrue V.tells → ReportSays (IsAnchors anchors) (V.files volume.old) name slot status)
+        × IsRefused V.tells (IsAnchors anchors) (V.files volume.old) name slot status
+        × (IsTrue K.tells → ReportPrints (λ text. IsTrue V.tells → OfFile (Sums anchors slot) (V.files volume.old) name slot text)
+        (K.taken out.old) (K.taken out.new) status)) (exit_status result) }
+    ensures create { (name : List ℕ) (slot slots : ℕ) → IsCreate words.now name slot slots → EndsFor (λ status.
+        CreateEnds slot slots (V.faults volume.old) (V.faults volume.new) status
+        × (IsTrue V.tells → CreateSays (V.files volume.old) name status)
+        × IsCreateRefused V.tells (V.files volume.old) name slot slots status
+        × CreateLeaves V.tells slot slots name (V.files volume.old) (V.files volume.new) status) (exit_status result) }
 {
     let status = rock(rt, alloc, words, volume, script, out);
     let asked = Asked {
