@@ -426,6 +426,11 @@ fn chains_are_followed_from_slot_to_slot(rt: HostRuntime) -> Result<(), Fail> {
             [Some((473, 1, 4, 2, -1)), None, front],
             "ENTRY 2 4 2 431 http://a/b\n",
         ),
+        // a slot that 430 bytes fill
+        (
+            [Some((472, 472, 1, 0, -1)), None, None],
+            "ENTRY 0 1 1 430 http://a/b\n",
+        ),
         // the last slot names another first
         ([Some((473, 1, 4, 0, -1)), None, front], ""),
         // one byte less than there are, and one more
