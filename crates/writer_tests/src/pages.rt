@@ -1,21 +1,20 @@
 // What pages hold, by the format of a slot.
-use std::alloc::Global;
-use std::test::Fail;
+use std::alloc::{AllocError, Global};
 
 /// The URL of most tests. Metadata and URL are 42 bytes, so that a slot has room for 430 bytes of body.
-pub(crate) const URL: &[u8] = b"http://a/b";
+pub const URL: &[u8] = b"http://a/b";
 
 /// The MD5 of a byte 1 and this URL, by the program md5sum.
-pub(crate) const KEY: [u8; 16] = [
+pub const KEY: [u8; 16] = [
     0x1a, 0x68, 0xc1, 0x0d, 0x6c, 0x8b, 0x32, 0x66, 0x57, 0xc7, 0x75, 0xf5, 0x3c, 0x86, 0x6d, 0xd1,
 ];
 
 /// The metadata of its entry.
-pub(crate) const META: &[u8] =
+pub const META: &[u8] =
     b"\x03\x2a\0\0\0\x03\x10\0\0\0\x1a\x68\xc1\x0d\x6c\x8b\x32\x66\x57\xc7\x75\xf5\x3c\x86\x6d\xd1\x04\x0b\0\0\0http://a/b\0";
 
 /// The pages of the entry of this version and body, which has as many slots as it needs from slot 0 on.
-pub(crate) fn pages_of(alloc: Global, version: u32, body: &[u8]) -> Result<Vec<u8>, Fail> {
+pub fn pages_of(alloc: Global, version: u32, body: &[u8]) -> Result<Vec<u8>, AllocError> {
     let mut content = Vec::from_slice(alloc, META)?;
     content.extend_from_slice(body)?;
     let mut pages = Vec::new(alloc);

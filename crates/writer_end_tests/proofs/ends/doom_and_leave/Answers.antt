@@ -1,7 +1,7 @@
 use Rattle.std.proofs.Common.{arith}
 use Rattle.writer_tests.proofs.Whole.{parted_idle}
-use Rattle.writer_tests.proofs.Ended.{may_doom, may_look, still_closes, still_idle}
-use Rattle.writer_tests.proofs.ends.doom_and_leave.Goals as goal
+use Rattle.writer_end_tests.proofs.Ended.{may_doom, may_look, still_closes, still_idle}
+use Rattle.writer_end_tests.proofs.ends.doom_and_leave.Goals as goal
 
 pub doom-doomed-requires-after_bounds : goal.doom-doomed-requires-after_bounds
 doom-doomed-requires-after_bounds g c κs within = may_doom g.C.Cell.tells g.C.Cell.state g.O.Origin.offers c.args.store.now 0 c.write_and_open.new.reader c.write_and_open.ensures.reads

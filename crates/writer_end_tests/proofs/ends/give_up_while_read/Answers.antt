@@ -1,6 +1,6 @@
 use Rattle.std.proofs.Common.{arith}
 use Rattle.writer_tests.proofs.Whole.{parted_idle}
-use Rattle.writer_tests.proofs.ends.give_up_while_read.Goals as goal
+use Rattle.writer_end_tests.proofs.ends.give_up_while_read.Goals as goal
 
 pub abort-requires-after_bounds : goal.abort-requires-after_bounds
 abort-requires-after_bounds g c κs within = let f = c.write_and_open.ensures.writes in (f.0, f.1.writes)

@@ -1,5 +1,5 @@
-use Rattle.writer_tests.proofs.Ended.{may_open, opened_closes}
-use Rattle.writer_tests.proofs.ends.write_and_open.Goals as goal
+use Rattle.writer_end_tests.proofs.Ended.{may_open, opened_closes}
+use Rattle.writer_end_tests.proofs.ends.write_and_open.Goals as goal
 
 pub open_entry-requires-after_bounds : goal.open_entry-requires-after_bounds
 open_entry-requires-after_bounds g c κs within = may_open g.C.Cell.tells g.C.Cell.state g.O.Origin.offers c.args.store.now 0 c.args.reader.now _ c.args.first.url.now c.args.first.body.now c.requires.reader c.requires.first

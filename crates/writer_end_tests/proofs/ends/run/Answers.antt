@@ -3,7 +3,7 @@ use Rattle.store_rule.specs.Passes.{IsNewOf, basis}
 use Rattle.writer_tests.specs.Books.{blank_state}
 use Rattle.writer_tests.specs.Offers.{offers_of}
 use Rattle.writer_tests.proofs.Ready.{is_first, is_ok_of, is_second, new_idle, popped, popped_rest}
-use Rattle.writer_tests.proofs.ends.run.Goals as goal
+use Rattle.writer_end_tests.proofs.ends.run.Goals as goal
 
 pub end-requires-clause-writer : goal.end-requires-clause-writer
 end-requires-clause-writer g c κs within = new_idle false blank_state offers_of c.in-Ok.store c.expect-writer.result 0 (omega arith)

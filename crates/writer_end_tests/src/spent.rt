@@ -2,8 +2,6 @@
 ghost use Rattle.std.specs.Prelude.{IfOk, length, ◌≡◌};
 ghost use Rattle.rebuild_model.specs.Image.{IsFile};
 
-use super::*;
-use crate::pages::{URL, pages_of};
 use lock_word::{Epoch, Stage, Word};
 use rebuild_model::{FileImage, Images, rebuilt_of};
 use rock_io::Octets;
@@ -14,6 +12,7 @@ use std::process::Abort;
 use std::test::Fail;
 use store_key::check_url;
 use store_rule::Store;
+use writer_tests::{Blank, Book, Came, Offered, Response, URL, pages_of, store_whole};
 
 /// The greatest version.
 const GREATEST: u32 = 4_294_901_760;

@@ -6,7 +6,6 @@ ghost use Rattle.rock_writer.specs.Finishing.{MayFinish};
 ghost use Rattle.store_rule.specs.Passes.{basis};
 ghost use Rattle.writer_tests.specs.Tabs.{AreOffered, IsIdle, IsOffer};
 
-use super::*;
 use lock_word::{Epoch, Stage, Word};
 use rock_disk::{Cell, Station};
 use rock_reader::{close_entry, open_entry};
@@ -17,6 +16,7 @@ use std::process::Abort;
 use std::test::Fail;
 use store_key::check_url;
 use store_rule::{Origin, Pass, Store};
+use writer_tests::{Blank, Book, Came, Offered, Response, store_whole, write_all};
 
 /// The word of an anchor with the first entry of a store.
 fn word(doom: bool, stage: Stage, readers: u16) -> Word {

@@ -1,5 +1,5 @@
-use Rattle.writer_tests.proofs.Ended.{may_look, still_closes}
-use Rattle.writer_tests.proofs.ends.leave_last.Goals as goal
+use Rattle.writer_end_tests.proofs.Ended.{may_look, still_closes}
+use Rattle.writer_end_tests.proofs.ends.leave_last.Goals as goal
 
 pub look-stands-requires-after_bounds : goal.look-stands-requires-after_bounds
 look-stands-requires-after_bounds g c κs within = may_look g.C.Cell.tells g.C.Cell.state g.O.Origin.offers c.args.store.now 0 c.args.reader.now 0 c.requires.reads.own c.requires.anchors

@@ -1,7 +1,7 @@
 use Rattle.std.proofs.Common.{arith}
 use Rattle.writer_tests.proofs.Whole.{parted_idle}
-use Rattle.writer_tests.proofs.Ended.{may_look, still_idle}
-use Rattle.writer_tests.proofs.ends.give_up.Goals as goal
+use Rattle.writer_end_tests.proofs.Ended.{may_look, still_idle}
+use Rattle.writer_end_tests.proofs.ends.give_up.Goals as goal
 
 pub abort-requires-after_bounds : goal.abort-requires-after_bounds
 abort-requires-after_bounds g c κs within = let f = c.in-Ok.ensures.ok in (f.0, f.1.writes)

@@ -5,7 +5,7 @@ use Rattle.store_rule.specs.Passes.{IsNewOf, basis}
 use Rattle.writer_tests.specs.Books.{blank_state}
 use Rattle.writer_tests.specs.Offers.{offers_of}
 use Rattle.writer_tests.proofs.Ready.{is_first, is_ok_of, new_idle, popped}
-use Rattle.writer_tests.proofs.spent.store_two.Goals as goal
+use Rattle.writer_end_tests.proofs.spent.store_two.Goals as goal
 
 pub of_rebuild-requires-clause-kept : goal.of_rebuild-requires-clause-kept
 of_rebuild-requires-clause-kept g c κs = record { images = c.in_ok-file.file.slots; many = c.in_ok-file.ensures.2 ∙ sym c.in_ok-cells.ensures.length; told = λ z. absurd (false≢true z); rebuilt = subst (λ slot. IsRebuilt slot c.in_ok-file.file.slots 1 c.in-Ok.kept) c.in_ok-file.ensures.1 c.in-Ok.ensures }
