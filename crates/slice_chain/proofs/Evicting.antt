@@ -26,6 +26,7 @@ use Rattle.store_rule.specs.Told.{Stands, Steps, found_as}
 use Rattle.pass_calls.specs.Runs.{added_by, changed_at, together}
 use Rattle.pass_calls.specs.Words.{Mine}
 use Rattle.pass_calls.proofs.AddingUp.{found_mine, has_left, went_one, went_then}
+use Rattle.slice_chain.proofs.Drawing.{none_drawn}
 use Rattle.slice_chain.specs.Victims.{LooksAt}
 use Rattle.slice_chain.proofs.ReadingSlots.{set_there}
 
@@ -58,6 +59,7 @@ module _ {X : Type 0} (g : Ground X) (a : ℕ) where
     added = added_by v (Look a) (found_as g.setting st.state v (Look a) n);
     went = went_one g v w (Look a) n st after;
     calm = (refl, (let e = eq-eqb n n refl in rw e refl));
+    undrawn = refl;
     tabs = ap View.tabs st.leaves;
     stands = after;
     last = let h = eq-eqb a a refl in ap (λ (z : View X). last_find a z.trail) st.leaves ∙ (rw h refl);
@@ -95,6 +97,7 @@ module _ {X : Type 0} (g : Ground X) (a : ℕ) where
       added = together (added_by u (Evict inner a) (found_as g.setting st.state u (Evict inner a) m)) h.added;
       went = went_then g v u w h.added _ h.went (went_one g u w (Evict inner a) m st after);
       calm = ((rw missed h.calm.0), ap (λ xs. changed_at (Some (Anchor a)) (left_by u (Evict inner a) m) m ++ xs) h.calm.1 ∙ unchanged);
+      undrawn = none_drawn (added_by u (Evict inner a) (found_as g.setting st.state u (Evict inner a) m)).items h.added.items refl h.undrawn;
       tabs = ap View.tabs st.leaves ∙ (rw missed (ap (λ (xs : List (Tab X)). set xs inner Tab.Free) h.tabs)) ∙ tabs_same;
       stands = after;
       last = let q = eq-eqb a a refl in ap (λ (z : View X). last_find a z.trail) st.leaves ∙ (rw q refl);

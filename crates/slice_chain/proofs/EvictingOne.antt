@@ -38,6 +38,7 @@ use Rattle.pass_calls.specs.Runs.{Added, Went, added_by, nothing_added, together
 use Rattle.pass_calls.specs.Words.{Mine, has}
 use Rattle.pass_calls.proofs.AddingUp.{went_none, went_one, went_then}
 use Rattle.slice_chain.specs.Victims.{Evicted, FollowsEvicting, FoundBusy, KeptFirst, MayEvictOne, MayKeepFirst, NoneIdle, PassedSome, Spared, Won, hand_in, onward}
+use Rattle.slice_chain.proofs.Drawing.{none_drawn}
 use Rattle.slice_chain.proofs.FreeingRest.{same_freer}
 use Rattle.slice_chain.proofs.KeepingFirst.{evicting_inner, evicting_on}
 use Rattle.slice_chain.proofs.ReadingSlots.{set_there}
@@ -71,7 +72,7 @@ later_found xs ys a h = record { word = h.word; found = ⊎_elim (λ c. inl (Con
 
 module _ {X : Type 0} (g : Ground X) (hand : ℕ) (v : View X) where
   pub passed_none : PassedSome g hand v 0 v
-  passed_none = record { added = nothing_added; went = went_none g v; calm = (refl, refl); tabs = refl; passed = λ j lt. absurd (omega arith); was = λ j lt. absurd (omega arith) }
+  passed_none = record { added = nothing_added; went = went_none g v; calm = (refl, refl); undrawn = refl; tabs = refl; passed = λ j lt. absurd (omega arith); was = λ j lt. absurd (omega arith) }
 
   module _ (begins : hand < g.setting.anchors) (steps : ℕ) (below : steps < g.setting.anchors) (u : View X) (h : PassedSome g hand v steps u) where
     abbrev a : ℕ
@@ -86,6 +87,7 @@ module _ {X : Type 0} (g : Ground X) (hand : ℕ) (v : View X) where
       added = together x.looked.added h.added;
       went = went_then g v u w h.added x.looked.added h.went x.looked.went;
       calm = (ap (λ xs. xs ++ h.added.done) x.looked.calm.0 ∙ h.calm.0, ap (λ xs. xs ++ h.added.changed) x.looked.calm.1 ∙ h.calm.1);
+      undrawn = none_drawn x.looked.added.items h.added.items x.looked.undrawn h.undrawn;
       tabs = x.looked.tabs ∙ h.tabs;
       passed = λ j lt. dite (ℕ_discrete j steps)
           (λ e. subst (λ (z : ℕ). FoundBusy (x.looked.added.items ++ h.added.items) (onward g.setting.anchors hand z)) (sym e) here)
@@ -184,6 +186,7 @@ module _ {X : Type 0} (g : Ground X) (hand : ℕ) (v : View X) where
         chain = same;
         added = together k.added front;
         went = went_then g v won w front k.added front_went k.went;
+        undrawn = none_drawn k.added.items front.items k.undrawn (none_drawn evict_added.items (together x.looked.added h.added).items refl (none_drawn x.looked.added.items h.added.items x.looked.undrawn h.undrawn));
         tabs = k.tabs ∙ (λ i. set (set (won_tabs i) inner Free) t (reserves (won_other t other i) slot)) ∙ ap (λ (xs : List (Tab X)). set xs t (reserves (tab_at v t) slot)) (set_again v.tabs inner (Freeing (freer_of a true (chain_of x.step.state a))) Free
             ∙ ap (set v.tabs inner) (sym (free_tab (tab_at v inner) free)) ∙ set_there v.tabs inner Tab.Free (let n = pass in omega arith));
         changed = λ q c. ⊎_elim (λ l. ⊎_elim (λ y. inl y) (λ (e : q ≡ Anchor k.freer.anchor). inr (e ∙ ap Anchor (ap Freer.anchor same))) (k.changed q l)) (λ l. inr (front_changed q l)) (Contains-append_cases k.added.changed front.changed q c);
@@ -200,6 +203,7 @@ module _ {X : Type 0} (g : Ground X) (hand : ℕ) (v : View X) where
     added = h.added;
     went = h.went;
     calm = h.calm;
+    undrawn = h.undrawn;
     tabs = h.tabs;
     each = λ a lt. let r = in_round g.setting.anchors hand a (in_all a lt begins) lt in subst (FoundBusy h.added.items) r.2 (h.passed r.0 r.1);
     was = λ a lt mine. let r = in_round g.setting.anchors hand a (in_all a lt begins) lt in subst (λ (z : ℕ). is_idle (has g v (Anchor z)) ≡ false) r.2 (h.was r.0 r.1 mine);

@@ -13,6 +13,7 @@ use Rattle.core_model.specs.Slots.{FreerHolds}
 use Rattle.core_model.specs.Steps.{number_found}
 use Rattle.core_model.specs.Tabs.{inner, tab_at, with_tab}
 use Rattle.core_model.specs.Told.{NameFound, Tells}
+use Rattle.core_model.specs.Trails.{draws}
 use Rattle.core_model.specs.declared.moves.Move.TheVariants.{LoadSide, Raise}
 use Rattle.core_model.specs.declared.moves.Side.TheVariants.{Start}
 use Rattle.core_model.specs.declared.tab.Freer.{Freer}
@@ -39,6 +40,7 @@ use Rattle.pass_calls.specs.Runs.{Added, added_by, changed_at, together}
 use Rattle.pass_calls.proofs.AddingUp.{went_one, went_then}
 use Rattle.pass_calls.proofs.Following.{follows_on, made_follows}
 use Rattle.slice_chain.specs.Freeing.{Freed, MayFreeChain, MayFreeRest, RestFreed, WasGiven, slot_named}
+use Rattle.slice_chain.proofs.Drawing.{none_drawn}
 use Rattle.slice_chain.proofs.FreeingRest.{same_freer, still_frees}
 use Rattle.slice_chain.proofs.Gone as ending
 use Rattle.pass_calls.specs.Words.{has}
@@ -124,6 +126,9 @@ module _ {C O : Type 0} (tells : Bool) (state : C → CellState) (offers : O →
     rest_quiet : (rest_added.sights ≡ []) × (rest_added.done ≡ []) × (rest_added.meetings ≡ [])
     rest_quiet = let q = gave.all.quiet in let o = load_quiet in (ap (λ xs. xs ++ load_added.sights) q.0 ∙ o.0, ap (λ xs. xs ++ load_added.done) q.1 ∙ o.1, ap (λ xs. xs ++ load_added.meetings) q.2 ∙ o.2)
 
+    rest_undrawn : draws rest_added.items ≡ 0
+    rest_undrawn = none_drawn gave.all.added.items load_added.items gave.all.undrawn refl
+
     -- where the anchor was taken for a new entry
     pub freed_other : f.is_freeing ≡ false → Freed g (view p) (view p2)
     freed_other off = record {
@@ -131,6 +136,7 @@ module _ {C O : Type 0} (tells : Bool) (state : C → CellState) (offers : O →
       was = may.is;
       added = rest_added;
       went = rest_went;
+      undrawn = rest_undrawn;
       gave = given;
       tabs = tabs0 ∙ ap (set (view p).tabs inner) (λ i. cond ((length (gave.all.rest i) == 0) && (length (gave.all.none i) == 0) && not ((is_freeing_still ∙ off) i)) Free (Freeing last));
       changed = λ q c. inl (changes q c);
@@ -165,6 +171,7 @@ module _ {C O : Type 0} (tells : Bool) (state : C → CellState) (offers : O →
           was = may.is;
           added = together last_added rest_added;
           went = went_then g (view p) (view p2) (view p3) rest_added last_added rest_went (ending.end_went tells state offers s p2 own2 last tab2 still_on gave.all.rest gave.all.none m p3 ended);
+          undrawn = none_drawn last_added.items rest_added.items refl rest_undrawn;
           gave = λ slot c. let o = given slot c in (o.0, Contains-append_right last_added.items rest_added.items _ o.1);
           tabs = ending.gone_tabs tells state offers s p2 own2 last tab2 still_on gave.all.rest gave.all.none m p3 ended ∙ ap (λ (xs : List (Tab (List ℕ))). set xs inner Free) tabs0 ∙ set_again (view p).tabs inner (emptied last) Free;
           changed = λ q c. ⊎_elim (λ l. inr (on, ending.end_changed tells state offers s p2 own2 last tab2 still_on gave.all.rest gave.all.none m p3 ended q l ∙ ap Anchor anchor_is)) (λ l. inl (changes q l)) (Contains-append_cases last_added.changed rest_added.changed q c);

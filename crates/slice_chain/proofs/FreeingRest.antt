@@ -5,6 +5,7 @@ use Rattle.rock_disk.specs.Cell.{CellState}
 use Rattle.core_model.specs.Chains.{rest_of}
 use Rattle.core_model.specs.SlotMoves.{emptied}
 use Rattle.core_model.specs.Tabs.{IsPass, inner, tab_at, with_tab}
+use Rattle.core_model.specs.Trails.{draws}
 use Rattle.core_model.specs.declared.moves.Move.TheVariants.{Disown, GetLink, Loosen}
 use Rattle.core_model.specs.declared.tab.Freer.{Freer}
 use Rattle.core_model.specs.declared.tab.Tab.{Tab}
@@ -23,6 +24,7 @@ use Rattle.store_rule.proofs.Passing.{pass_of}
 use Rattle.pass_calls.specs.Runs.{Added, Went, added_by, changed_at, nothing_added, together}
 use Rattle.pass_calls.proofs.AddingUp.{went_none, went_one, went_then}
 use Rattle.slice_chain.specs.Freeing.{FreedSome, FrontFreed, MayFreeFront, MayFreeRest, RestFreed, RestLeft, WasGiven, rest_length, with_less}
+use Rattle.slice_chain.proofs.Drawing.{none_drawn}
 use Rattle.slice_chain.proofs.ReadingSlots.{set_there}
 use Rattle.slice_chain.proofs.Writing.{set_again}
 
@@ -81,6 +83,9 @@ module _ {X : Type 0} (g : Ground X) (slot : ℕ) (u w : View X) (next : Option 
   front_quiet : (front_added.sights ≡ []) × (front_added.done ≡ []) × (front_added.meetings ≡ [])
   front_quiet = (Rattle.std.proofs.Common.subst (λ (x : Tab X). Rattle.core_model.specs.SlotMoves.follows x h.link ≡ []) (sym h.was) refl, refl, refl)
 
+  front_undrawn : draws front_added.items ≡ 0
+  front_undrawn = refl
+
   front_changed : (p : Place) → Contains front_added.changed p → p ≡ Link slot
   front_changed p c = of_word (0 == h.word) (subst (λ (xs : List Place). Contains (cond (0 == h.word) [] (Link slot ∷ []) ++ xs) p) no_look c)
     where
@@ -113,6 +118,7 @@ module _ {X : Type 0} (g : Ground X) (v : View X) (pass : IsPass v) where
       added = together (front_added g slot u w next h) r.some.added;
       went = went_then g v u w r.some.added (front_added g slot u w next h) r.some.went (front_went g slot u w next h);
       quiet = let q = front_quiet g slot u w next h in let o = r.some.quiet in (ap (λ xs. xs ++ r.some.added.sights) q.0 ∙ o.0, ap (λ xs. xs ++ r.some.added.done) q.1 ∙ o.1, ap (λ xs. xs ++ r.some.added.meetings) q.2 ∙ o.2);
+      undrawn = none_drawn (front_added g slot u w next h).items r.some.added.items (front_undrawn g slot u w next h) r.some.undrawn;
       changed = λ p c. ⊎_elim (λ n. (slot, front_changed g slot u w next h p n, r.some.inside slot (subst (λ (xs : List ℕ). Contains xs slot) (sym there) (0, omega arith, refl)))) (λ o. r.some.changed p o)
           (Contains-append_cases (front_added g slot u w next h).changed r.some.added.changed p c);
       gave = λ j c. ⊎_elim (λ l. left_or_given j (subst (λ (xs : List ℕ). Contains xs j) there l)) (λ (o : WasGiven r.some.added.items j). inr (o.0, Contains-append_right (front_added g slot u w next h).items r.some.added.items _ o.1)) (r.some.gave j c);
@@ -156,6 +162,7 @@ module _ {C O : Type 0} (tells : Bool) (state : C → CellState) (offers : O →
       added = nothing_added;
       went = went_none (basis tells state offers s) (view p);
       quiet = (refl, refl, refl);
+      undrawn = refl;
       changed = λ q c. absurd (Rattle.core_model.proofs.Lists.contains_none q c);
       gave = λ j c. inl c;
       inside = λ j c. c;

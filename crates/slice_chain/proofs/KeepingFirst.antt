@@ -36,6 +36,7 @@ use Rattle.pass_calls.proofs.AddingUp.{went_one, went_then}
 use Rattle.pass_calls.proofs.Following.{made_follows}
 use Rattle.slice_chain.specs.Freeing.{MayFreeFront, MayFreeRest, RestFreed, WasGiven, slot_named}
 use Rattle.slice_chain.specs.Victims.{FollowsEvicting, KeptFirst, MayKeepFirst}
+use Rattle.slice_chain.proofs.Drawing.{none_drawn}
 use Rattle.slice_chain.proofs.Freeing as front
 use Rattle.slice_chain.proofs.FreeingChain as chain
 use Rattle.slice_chain.proofs.FreeingRest.{head_there, same_freer, still_frees}
@@ -230,6 +231,7 @@ module _ {C O : Type 0} (tells : Bool) (state : C → CellState) (offers : O →
               first = first;
               added = together end_added (together gave.all.added before);
               went = went_then g (view p) (view p4) (view p5) (together gave.all.added before) end_added rest_went (ending.end_went tells state offers s p4 follows4.own last inner4 on gave.all.rest gave.all.none k p5 ended);
+              undrawn = none_drawn end_added.items (together gave.all.added before).items refl (none_drawn gave.all.added.items before.items gave.all.undrawn refl);
               gave = λ j c. let o = given j c in (o.0, Contains-append_right end_added.items (together gave.all.added before).items _ (Contains-append_left gave.all.added.items before.items _ o.1));
               tabs = tabs5;
               changed = λ q c. ⊎_elim (λ l. inr (ending.end_changed tells state offers s p4 follows4.own last inner4 on gave.all.rest gave.all.none k p5 ended q l ∙ ap Anchor anchor_is)) (λ l. inl (rest_changed q l))

@@ -1,3 +1,4 @@
+pub mod Drawing
 pub mod Naming
 pub mod Linking
 pub mod Writing

@@ -13,6 +13,7 @@ use Rattle.rock_disk.specs.Cell.{CellState}
 use Rattle.core_model.specs.Chains.{rest_of}
 use Rattle.core_model.specs.SlotMoves.{emptied}
 use Rattle.core_model.specs.Tabs.{inner, tab_at, with_tab}
+use Rattle.core_model.specs.Trails.{draws}
 use Rattle.core_model.specs.declared.moves.Move.TheVariants.{Disown, GetLink, Loosen}
 use Rattle.core_model.specs.declared.tab.Freer.{Freer}
 use Rattle.core_model.specs.declared.tab.Tab.{Tab}
@@ -104,11 +105,12 @@ WasGiven items slot = (n : ℕ) × Contains items record { kind = Disowned; at =
 
 module _ {X : Type 0} (g : Ground X) where
   -- Of the chain of the tab `f` these slots are left, and each other one was given back. The steps changed links of that chain alone, and
-  -- saw and did nothing.
+  -- saw, did and drew nothing.
   pub record FreedSome (f : Freer) (v : View X) (left : List ℕ) (w : View X) : Type 0 where
     pub added : Added
     pub went : Went g v added w
     pub quiet : (added.sights ≡ []) × (added.done ≡ []) × (added.meetings ≡ [])
+    pub undrawn : draws added.items ≡ 0
     pub changed : (p : Place) → Contains added.changed p → (slot : ℕ) × (p ≡ Link slot) × Contains f.rest slot
     pub gave : (slot : ℕ) → Contains f.rest slot → Contains left slot ⊎ WasGiven added.items slot
     pub inside : (slot : ℕ) → Contains left slot → Contains f.rest slot
@@ -134,12 +136,13 @@ module _ {X : Type 0} (g : Ground X) where
     pub all : FreedSome freer v [] w
 
   -- Every slot of the chain was given back, and the inner tab is free. The steps may have changed the links of that chain and, where its
-  -- anchor was at FREEING, the word of that one, which is at GONE then, and nothing else but owners.
+  -- anchor was at FREEING, the word of that one, which is at GONE then, and nothing else but owners. They drew no version.
   pub record Freed (v w : View X) : Type 0 where
     pub freer : Freer
     pub was : tab_at v inner ≡ Freeing freer
     pub added : Added
     pub went : Went g v added w
+    pub undrawn : draws added.items ≡ 0
     pub gave : (slot : ℕ) → Contains freer.rest slot → WasGiven added.items slot
     pub tabs : w.tabs ≡ with_tab v inner Free
     pub changed : (p : Place) → Contains added.changed p → ((slot : ℕ) × (p ≡ Link slot) × Contains freer.rest slot) ⊎ ((freer.is_freeing ≡ true) × (p ≡ Anchor freer.anchor))

@@ -7,7 +7,7 @@ use Rattle.core_model.specs.Chains.{rest_of}
 use Rattle.core_model.specs.SlotMoves.{MayReserve, reserves}
 use Rattle.core_model.specs.Tabs.{InnerIsFree, OfWriter, inner, tab_at, with_tab}
 use Rattle.core_model.specs.State.{chain_of}
-use Rattle.core_model.specs.Trails.{last_find, seen_at}
+use Rattle.core_model.specs.Trails.{draws, last_find, seen_at}
 use Rattle.core_model.specs.declared.moves.Move.TheVariants.{Evict}
 use Rattle.core_model.specs.declared.tab.Freer.{Freer}
 use Rattle.core_model.specs.declared.tab.Tab.TheVariants.{Free, Freeing}
@@ -31,11 +31,12 @@ abbrev pub WasFound : List Item → (a n : ℕ) → Type 0
 WasFound items a n = Contains items record { kind = Looked; at = a; found = n } ⊎ Contains items record { kind = Changed; at = a; found = n }
 
 module _ {X : Type 0} (g : Ground X) (a : ℕ) (v : View X) where
-  -- After looks at the anchor and tries that were lost: this was the word there last, and the pass did and changed nothing.
+  -- After looks at the anchor and tries that were lost: this was the word there last, and the pass did, changed and drew nothing.
   pub record LooksAt (n : ℕ) (w : View X) : Type 0 where
     pub added : Added
     pub went : Went g v added w
     pub calm : (added.done ≡ []) × (added.changed ≡ [])
+    pub undrawn : draws added.items ≡ 0
     pub tabs : w.tabs ≡ v.tabs
     pub stands : Stands g w
     pub last : last_find a w.trail ≡ n
@@ -68,13 +69,14 @@ pub record MayKeepFirst {C O : Type 0} (tells : Bool) (state : C → CellState) 
   pub some : chain.freer.rest ≢ []
   pub may : OfWriter MayReserve (tab_at (view p) t)
 
--- The first slot of the chain was reserved by the tab, and each other one given back. The anchor is at GONE.
+-- The first slot of the chain was reserved by the tab, and each other one given back. The anchor is at GONE. No version was drawn.
 pub record KeptFirst {X : Type 0} (g : Ground X) (t : ℕ) (v : View X) (slot : ℕ) (w : View X) : Type 0 where
   pub freer : Freer
   pub was : tab_at v inner ≡ Freeing freer
   pub first : freer.rest ≡ slot ∷ rest_of freer.rest
   pub added : Added
   pub went : Went g v added w
+  pub undrawn : draws added.items ≡ 0
   pub gave : (j : ℕ) → Contains (rest_of freer.rest) j → WasGiven added.items j
   pub tabs : w.tabs ≡ slice_set (with_tab v inner Free) t (reserves (tab_at v t) slot)
   pub changed : (q : Place) → Contains added.changed q → ((j : ℕ) × (q ≡ Link j) × Contains freer.rest j) ⊎ (q ≡ Anchor freer.anchor)
@@ -114,17 +116,19 @@ pub record FoundBusy (items : List Item) (a : ℕ) : Type 0 where
   pub busy : is_idle word ≡ false
 
 module _ {X : Type 0} (g : Ground X) (hand : ℕ) (v : View X) where
-  -- So many anchors from the hand on were found without an idle entry. The pass did and changed nothing.
+  -- So many anchors from the hand on were found without an idle entry. The pass did, changed and drew nothing.
   pub record PassedSome (steps : ℕ) (w : View X) : Type 0 where
     pub added : Added
     pub went : Went g v added w
     pub calm : (added.done ≡ []) × (added.changed ≡ [])
+    pub undrawn : draws added.items ≡ 0
     pub tabs : w.tabs ≡ v.tabs
     pub passed : (j : ℕ) → j < steps → FoundBusy added.items (onward g.setting.anchors hand j)
     pub was : (j : ℕ) → j < steps → Mine g v (Anchor (onward g.setting.anchors hand j)) → is_idle (has g v (Anchor (onward g.setting.anchors hand j))) ≡ false
 
   -- The first anchor from the hand on whose entry was found idle had it evicted, for the tab t. Its first slot is that tab's, each other one
-  -- was given back, and the anchor is at GONE. But for owners, only links of that chain and the word of that anchor may have changed.
+  -- was given back, and the anchor is at GONE. But for owners, only links of that chain and the word of that anchor may have changed. No
+  -- version was drawn.
   pub record Evicted (t slot : ℕ) (w : View X) (hand_after : ℕ) : Type 0 where
     pub steps : ℕ
     pub moved : hand_after ≡ onward g.setting.anchors (onward g.setting.anchors hand steps) 1
@@ -138,16 +142,18 @@ module _ {X : Type 0} (g : Ground X) (hand : ℕ) (v : View X) where
     pub chain : kept.freer ≡ freer_of (onward g.setting.anchors hand steps) true (chain_of victim.step.state (onward g.setting.anchors hand steps))
     pub added : Added
     pub went : Went g v added w
+    pub undrawn : draws added.items ≡ 0
     pub tabs : w.tabs ≡ with_tab v t (reserves (tab_at v t) slot)
     pub changed : (q : Place) → Contains added.changed q → ((j : ℕ) × (q ≡ Link j) × Contains kept.freer.rest j) ⊎ (q ≡ Anchor (onward g.setting.anchors hand steps))
     pub done : added.done ≡ deed_of v Raised (onward g.setting.anchors hand steps) kept.word false ∷ deed_of v Changed (onward g.setting.anchors hand steps) (evicted victim.word) true ∷ []
     pub left : has g w (Anchor (onward g.setting.anchors hand steps)) ≡ kept.word
 
-  -- Each anchor was found without an idle entry.
+  -- Each anchor was found without an idle entry. The pass did, changed and drew nothing.
   pub record NoneIdle (w : View X) : Type 0 where
     pub added : Added
     pub went : Went g v added w
     pub calm : (added.done ≡ []) × (added.changed ≡ [])
+    pub undrawn : draws added.items ≡ 0
     pub tabs : w.tabs ≡ v.tabs
     pub each : (a : ℕ) → a < g.setting.anchors → FoundBusy added.items a
     pub was : (a : ℕ) → a < g.setting.anchors → Mine g v (Anchor a) → is_idle (has g v (Anchor a)) ≡ false
