@@ -6,3 +6,12 @@ pub mod Readers
 pub mod Purges
 pub mod Serving
 pub mod Standing
+pub mod AddingUp
+pub mod AnchorDeeds
+pub mod SlotDeeds
+pub mod EntryTabs
+pub mod WriterDeeds
+pub mod ReaderDeeds
+pub mod PurgeDeeds
+pub mod ServingDeeds
+pub mod Counts

@@ -13,8 +13,8 @@ use Rattle.rock_writer.specs.Entries.{Entry}
 use Rattle.rock_writer.specs.declared.fault.Ended.{Ended}
 use Rattle.rock_writer.specs.declared.fault.WriteFault.{WriteFault}
 use Rattle.store_serve.specs.Adding.{Added, Call, NotAdded, Took, taken_on}
-use Rattle.store_serve.specs.Following.{Given, Gives, WentOn}
-use Rattle.store_serve.specs.Getting.{GotAs, GotEntry}
+use Rattle.store_serve.specs.Following.{GaveSome, Given, Gives, WentOn}
+use Rattle.store_serve.specs.Getting.{GotAs, GotEntry, StoppedGetting}
 use Rattle.store_serve.specs.Storing.{EndedWhole, GaveUpPut, NotClosed, NotEnded, NotPut, PutWhole, left_of}
 use Rattle.store_serve.specs.declared.getting.Got.{Got}
 use Rattle.store_serve.specs.declared.getting.Got.TheVariants.{Found, Missing}
@@ -66,7 +66,13 @@ module _ {C O : Type 0} (tells : Bool) (state : C → CellState) (offers : O →
   pub went_on : {e : Standing} {p q : Pass C} {bytes : List ℕ} {answer : More} → WentOn tells state offers s t e p q bytes answer → Grew (view p) (view q)
   went_on {e} {p} {q} {bytes} {answer} h = on (gives e p h.calls h.standing h.middle bytes h.gives) (reading.gave tells state offers s t h.standing h.middle h.before h.after q answer h.ends)
 
+  pub gave_some : {e : Standing} {p q : Pass C} {bytes : List ℕ} → GaveSome tells state offers s t e p q bytes → Grew (view p) (view q)
+  gave_some {e} {p} {q} {bytes} h = gives e p h.calls h.standing q bytes h.gives
+
   module _ (url : List ℕ) (p q : Pass C) (bytes : List ℕ) where
+    pub stopped : StoppedGetting tells state offers s t url p q bytes → Grew (view p) (view q)
+    stopped h = on (reading.opened (basis tells state offers s) t h.opens) (on (gave_some h.some) (reading.parted (basis tells state offers s) t (view h.read) (view q) h.parted))
+
     got_entry : {version : ℕ} {end : More} → GotEntry tells state offers s t url p q bytes version end → Grew (view p) (view q)
     got_entry {version} {end} h = on (reading.opened (basis tells state offers s) t h.opens) (on (went_on h.went) (reading.parted (basis tells state offers s) t (view h.read) (view q) h.parted))
 

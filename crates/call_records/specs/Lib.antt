@@ -1,1 +1,5 @@
 pub mod Growing
+pub mod Acting
+pub mod Deeds
+pub mod Refusing
+pub mod Showing

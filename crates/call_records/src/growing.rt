@@ -28,8 +28,8 @@ ghost use Rattle.rock_reader.specs.declared.answer.More.{More};
 ghost use Rattle.purge_entry.specs.Judging.{Refused as PurgeRefused};
 ghost use Rattle.purge_entry.specs.Purging.{Purged};
 ghost use Rattle.store_serve.specs.Adding.{Added as BytesAdded, NotAdded};
-ghost use Rattle.store_serve.specs.Following.{WentOn};
-ghost use Rattle.store_serve.specs.Getting.{GotAs};
+ghost use Rattle.store_serve.specs.Following.{GaveSome, WentOn};
+ghost use Rattle.store_serve.specs.Getting.{GotAs, StoppedGetting};
 ghost use Rattle.store_serve.specs.Storing.{EndedWhole, NotEnded, NotPut, PutWhole};
 ghost use Rattle.store_serve.specs.declared.getting.Got.{Got};
 ghost use Rattle.store_serve.specs.declared.storing.PutFault.{PutFault};
@@ -79,7 +79,8 @@ pub fn purging_grows<X>()
 {}
 
 /// At each answer of a call of which requests are made: where bytes were added or not, an entry was ended or not, a
-/// response was stored or not, a tab read on as far as it could, and the entry of a URL was got or not.
+/// response was stored or not, a tab read on as far as it could, and the entry of a URL was got or not; and where
+/// reading on, or getting, stopped for want of memory.
 pub fn serving_grows<C: Cell, O: Origin>()
     ensures added { (s : Store C O) (t total : ℕ) (e : Entry) (p q : Pass C) → BytesAdded C.tells C.state O.offers s t e p q total → Grew (view p) (view q) }
     ensures not_added { (s : Store C O) (t : ℕ) (e : Entry) (fault : WriteFault) (p q : Pass C)
@@ -94,8 +95,12 @@ pub fn serving_grows<C: Cell, O: Origin>()
         → NotPut C.tells C.state O.offers s t offer url durable p q fault → Grew (view p) (view q) }
     ensures went { (s : Store C O) (t : ℕ) (e : Standing) (bytes : List ℕ) (answer : More) (p q : Pass C)
         → WentOn C.tells C.state O.offers s t e p q bytes answer → Grew (view p) (view q) }
+    ensures gave_some { (s : Store C O) (t : ℕ) (e : Standing) (bytes : List ℕ) (p q : Pass C)
+        → GaveSome C.tells C.state O.offers s t e p q bytes → Grew (view p) (view q) }
     ensures got { (s : Store C O) (t : ℕ) (url bytes : List ℕ) (got : Got) (p q : Pass C)
         → GotAs C.tells C.state O.offers s t url p q bytes got → Grew (view p) (view q) }
+    ensures stopped { (s : Store C O) (t : ℕ) (url bytes : List ℕ) (p q : Pass C)
+        → StoppedGetting C.tells C.state O.offers s t url p q bytes → Grew (view p) (view q) }
 {}
 
 /// A tab reads so still in a later pass of the store that knows what this one knew, where the tab, its buffer and its

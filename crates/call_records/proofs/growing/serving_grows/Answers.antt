@@ -24,3 +24,9 @@ returns-clause-went g c s t e bytes answer p q h = serving.went_on g.C.Cell.tell
 
 pub returns-clause-got : goal.returns-clause-got
 returns-clause-got g c s t url bytes got p q h = serving.got g.C.Cell.tells g.C.Cell.state g.O.Origin.offers s t url p q bytes got h
+
+pub returns-clause-gave_some : goal.returns-clause-gave_some
+returns-clause-gave_some g c s t e bytes p q h = serving.gave_some g.C.Cell.tells g.C.Cell.state g.O.Origin.offers s t h
+
+pub returns-clause-stopped : goal.returns-clause-stopped
+returns-clause-stopped g c s t url bytes p q h = serving.stopped g.C.Cell.tells g.C.Cell.state g.O.Origin.offers s t url p q bytes h
