@@ -67,7 +67,7 @@ returns-in-Ok-clause-others g c = follows_given g.C.Cell.tells g.C.Cell.state g.
     (follows_read g.C.Cell.tells g.C.Cell.state g.O.Origin.offers c.args.store.now c.args.tab c.args.pass.now c.look_on-found.new.pass c.read_slot.new.pass c.look_on-found.ensures.others c.read_slot.ensures.others) c.give.ensures.given
 
 pub returns-in-Ok-clause-inner : goal.returns-in-Ok-clause-inner
-returns-in-Ok-clause-inner g c = 
+returns-in-Ok-clause-inner g c =
     (given_inner c.args.tab (basis g.C.Cell.tells g.C.Cell.state g.O.Origin.offers c.args.store.now).setting.slots c.place_of-place.result c.read_slot.new.pass c.args.out.now c.give.new.out c.give.new.pass c.give.result c.give.ensures.given)
     ∙ (read_inner (basis g.C.Cell.tells g.C.Cell.state g.O.Origin.offers c.args.store.now) c.args.tab (not_inner c.args.tab c.requires.may.below) true c.in-Ok.ensures.ok.0 (view c.look_on-found.new.pass) (view c.read_slot.new.pass) c.in-Ok.ensures.ok.1.read)
     ∙ (looked_inner (basis g.C.Cell.tells g.C.Cell.state g.O.Origin.offers c.args.store.now) c.args.tab (not_inner c.args.tab c.requires.may.below) c.look_on-found.result.epoch c.look_on-found.result.link (view c.args.pass.now) (view c.look_on-found.new.pass) c.look_on-found.ensures.found)
@@ -89,7 +89,7 @@ pub returns-in-Err-clause-others : goal.returns-in-Err-clause-others
 returns-in-Err-clause-others g c = follows_read g.C.Cell.tells g.C.Cell.state g.O.Origin.offers c.args.store.now c.args.tab c.args.pass.now c.look_on-found.new.pass c.read_slot.new.pass c.look_on-found.ensures.others c.read_slot.ensures.others
 
 pub returns-in-Err-clause-inner : goal.returns-in-Err-clause-inner
-returns-in-Err-clause-inner g c = 
+returns-in-Err-clause-inner g c =
     (read_inner (basis g.C.Cell.tells g.C.Cell.state g.O.Origin.offers c.args.store.now) c.args.tab (not_inner c.args.tab c.requires.may.below) false c.in-Err.ensures.err.0 (view c.look_on-found.new.pass) (view c.read_slot.new.pass) c.in-Err.ensures.err.1)
     ∙ (looked_inner (basis g.C.Cell.tells g.C.Cell.state g.O.Origin.offers c.args.store.now) c.args.tab (not_inner c.args.tab c.requires.may.below) c.look_on-found.result.epoch c.look_on-found.result.link (view c.args.pass.now) (view c.look_on-found.new.pass) c.look_on-found.ensures.found)
 
