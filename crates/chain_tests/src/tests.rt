@@ -591,12 +591,12 @@ fn write_or_read<R: Wait, C: Cell, O: Origin, St: Station<C = C>>(
 }
 
 /// Each worker writes or reads, on a thread of its own.
-fn write_and_read<R: Threads + Wait + Sync, C: Cell, O: Origin, St: Station<C = C> + Send>(
-    rt: &R,
-    store: &Store<C, O>,
-    workers: &mut [Worker<C, St>],
-    url: &[u8],
-)
+fn write_and_read<
+    R: Threads + Wait + Sync,
+    C: Cell + Send,
+    O: Origin + Send + Sync,
+    St: Station<C = C> + Send,
+>(rt: &R, store: &Store<C, O>, workers: &mut [Worker<C, St>], url: &[u8])
     requires silent { C.tells ≡ false }
     requires ready { IsReady (basis C.tells C.state O.offers store.now) 2 }
     requires url { url.now ≡ (basis C.tells C.state O.offers store.now).offers.url 1 }

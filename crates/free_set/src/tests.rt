@@ -138,7 +138,7 @@ fn claim_twice<C: Cell, O: Origin>(store: &Store<C, O>, worker: &mut Claimer<C>)
 }
 
 /// Each worker claims, on a thread of its own.
-fn claim_at_once<R: Threads + Sync, C: Cell, O: Origin>(
+fn claim_at_once<R: Threads + Sync, C: Cell + Send, O: Origin + Send + Sync>(
     rt: &R,
     store: &Store<C, O>,
     workers: &mut [Claimer<C>],

@@ -4,8 +4,8 @@ ghost use Rattle.rock_disk.specs.Cell.{CellState};
 /// The number of a header area. No slot has it, since there are fewer of them.
 pub const HEADER_NUMBER: u32 = 4_294_967_295;
 
-/// One slot of a file, or its header area. A cell can move between threads.
-pub trait Cell: Send + Drop {
+/// One slot of a file, or its header area. The cells of a volume can move between threads.
+pub trait Cell: Drop {
     /// Whether cells of this type tell what they hold. Where they don't, no clause on contents says
     /// anything of them.
     ghost tells: { Bool };

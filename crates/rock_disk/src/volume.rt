@@ -91,7 +91,7 @@ pub struct Opened<C> {
 
 /// Files by name. A call that answers otherwise than `Failed` leaves the count of faults as it was.
 pub trait Volume {
-    type C: Cell;
+    type C: Cell + Send;
 
     type St: Station<C = Self::C>;
 

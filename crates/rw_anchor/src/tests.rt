@@ -208,7 +208,7 @@ fn try_once<C: Cell, O: Origin>(store: &Store<C, O>, worker: &mut Attempt<C>)
 }
 
 /// Each worker tries, on a thread of its own.
-fn try_at_once<R: Threads + Sync, C: Cell, O: Origin>(
+fn try_at_once<R: Threads + Sync, C: Cell + Send, O: Origin + Send + Sync>(
     rt: &R,
     store: &Store<C, O>,
     workers: &mut [Attempt<C>],

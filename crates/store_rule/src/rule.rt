@@ -8,7 +8,7 @@ use std::marker::{Brand, PhantomData};
 use std::snapshot::Snapshot;
 
 /// Where the responses come from that a store is offered.
-pub trait Origin: Send + Sync + Drop {
+pub trait Origin: Drop {
     ghost use Rattle.store_rule.specs.Ground.{Offers};
 
     /// The URL and the body of each offer, and the pass to which an anchor is left alone.
