@@ -5,10 +5,10 @@ use Rattle.chain_tests.specs.Offers.{AreAt, offers_of}
 use Rattle.chain_tests.specs.Sheets.{sheet_state}
 use Rattle.chain_tests.specs.Tabs.{IsIdle}
 use Rattle.chain_tests.specs.declared.offered.Offered.{Offered}
-use Rattle.chain_tests.specs.declared.tests.Worker.{Worker}
+use Rattle.chain_tests.specs.declared.tests.threads.Worker.{Worker}
 use Rattle.chain_tests.proofs.Fresh.{new_is_idle, of_some}
 use Rattle.chain_tests.proofs.Popped.{all_two, popped}
-use Rattle.chain_tests.proofs.tests.two_threads_write_and_read_one_chain.Goals as goal
+use Rattle.chain_tests.proofs.tests.threads.two_threads_write_and_read_one_chain.Goals as goal
 
 pub write_and_read-requires-clause-ready : goal.write_and_read-requires-clause-ready
 write_and_read-requires-clause-ready g c κs = let o = c.expect-offered.result in let e = c.in-Ok.ensures in
