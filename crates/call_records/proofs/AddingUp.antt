@@ -51,13 +51,13 @@ other_draw false n e = omega arith
 
 module _ {X : Type 0} where
   pub at_rest : {P : Deed → Type 0} (v : View X) → Acted None P v v
-  at_rest v = record { grew = grown.stays v; drawn = λ x. omega arith; draws = omega arith; deeds = λ d c. inl c }
+  at_rest v = record { keeps = grown.stays v; drawn = λ x. omega arith; draws = omega arith; deeds = λ d c. inl c }
 
   pub same : {P : Deed → Type 0} {v w : View X} → w ≡ v → Acted None P v w
   same {P} {v} {w} e = subst (λ (z : View X). Acted None P v z) (sym e) (at_rest v)
 
   pub wider : {drew : Option ℕ} {P Q : Deed → Type 0} {v w : View X} → ((d : Deed) → P d → Q d) → Acted drew P v w → Acted drew Q v w
-  wider f h = record { grew = h.grew; drawn = h.drawn; draws = h.draws; deeds = λ d c. ⊎_elim (λ o. inl o) (λ n. inr (n.0, f d n.1)) (h.deeds d c) }
+  wider f h = record { keeps = h.keeps; drawn = h.drawn; draws = h.draws; deeds = λ d c. ⊎_elim (λ o. inl o) (λ n. inr (n.0, f d n.1)) (h.deeds d c) }
 
   deeds_on : (P : Deed → Type 0) (u v w : View X) → v.pass ≡ u.pass → ((d : Deed) → Contains v.deeds d → Contains u.deeds d ⊎ ((d.pass ≡ u.pass) × P d))
       → ((d : Deed) → Contains w.deeds d → Contains v.deeds d ⊎ ((d.pass ≡ v.pass) × P d)) → (d : Deed) → Contains w.deeds d → Contains u.deeds d ⊎ ((d.pass ≡ u.pass) × P d)
@@ -66,18 +66,18 @@ module _ {X : Type 0} where
   -- first something, and then more without a draw; and the other way round
   pub on : {drew : Option ℕ} {P : Deed → Type 0} {u v w : View X} → Acted drew P u v → Acted None P v w → Acted drew P u w
   on {drew} {P} {u} {v} {w} h k = record {
-    grew = grown.on h.grew k.grew;
+    keeps = grown.on h.keeps k.keeps;
     drawn = λ x. let a = h.drawn x in let b = k.drawn x in omega arith;
     draws = let a = h.draws in let b = k.draws in omega arith;
-    deeds = deeds_on P u v w h.grew.pass h.deeds k.deeds;
+    deeds = deeds_on P u v w h.keeps.pass h.deeds k.deeds;
   }
 
   pub behind : {drew : Option ℕ} {P : Deed → Type 0} {u v w : View X} → Acted None P u v → Acted drew P v w → Acted drew P u w
   behind {drew} {P} {u} {v} {w} h k = record {
-    grew = grown.on h.grew k.grew;
+    keeps = grown.on h.keeps k.keeps;
     drawn = λ x. let a = h.drawn x in let b = k.drawn x in omega arith;
     draws = let a = h.draws in let b = k.draws in omega arith;
-    deeds = deeds_on P u v w h.grew.pass h.deeds k.deeds;
+    deeds = deeds_on P u v w h.keeps.pass h.deeds k.deeds;
   }
 
   -- the other records alone are longer
@@ -89,7 +89,7 @@ module _ {X : Type 0} {g : Ground X} where
   -- steps of which none drew
   pub by_run : {P : Deed → Type 0} {v w : View X} {added : Added} → Went g v added w → draws added.items ≡ 0 → ((d : Deed) → Contains added.done d → (d.pass ≡ v.pass) × P d) → Acted None P v w
   by_run {P} {v} {w} {added} went none so = record {
-    grew = grown.by_run went;
+    keeps = grown.by_run went;
     drawn = λ x. let a = undrawn x added.items none in let b = drawn-append x added.items v.trail in ap (drawn x) went.trail ∙ (omega arith);
     draws = let b = draws-append added.items v.trail in ap draws went.trail ∙ (omega arith);
     deeds = deeds_added {P = P} v w added.done went.deeds so;
@@ -101,7 +101,7 @@ module _ {X : Type 0} {g : Ground X} where
   -- one step
   pub by_step : {P : Deed → Type 0} {v w : View X} {m : Move} {n : ℕ} → Steps g v m n w → is_draw (kind_of m) ≡ false → ((d : Deed) → Contains (deeds_of v m n) d → (d.pass ≡ v.pass) × P d) → Acted None P v w
   by_step {P} {v} {w} {m} {n} st none so = record {
-    grew = grown.by_step st;
+    keeps = grown.by_step st;
     drawn = λ x. ap (drawn x) (ap View.trail st.leaves) ∙ other_item (is_draw (kind_of m)) ((item_of v m n).found + 1 == x) (drawn x v.trail) none ∙ (omega arith);
     draws = ap draws (ap View.trail st.leaves) ∙ other_draw (is_draw (kind_of m)) (draws v.trail) none ∙ (omega arith);
     deeds = deeds_added {P = P} v w (deeds_of v m n) (ap View.deeds st.leaves) so;
@@ -117,7 +117,7 @@ module _ {X : Type 0} {g : Ground X} where
   -- a draw
   pub draw_step : {P : Deed → Type 0} {v w : View X} {n : ℕ} → Steps g v Draw n w → Acted (Some (n + 1)) P v w
   draw_step {P} {v} {w} {n} st = record {
-    grew = grown.by_step st;
+    keeps = grown.by_step st;
     drawn = λ x. ap (drawn x) (ap View.trail st.leaves);
     draws = ap draws (ap View.trail st.leaves);
     deeds = deeds_added {P = P} v w [] (ap View.deeds st.leaves) (λ d c. absurd (none_there d c));

@@ -16,6 +16,7 @@ use Rattle.rock_writer.specs.Entries.{Entry}
 use Rattle.rock_writer.specs.Finishing.{version_of}
 use Rattle.rock_writer.specs.declared.fault.Ended.{Ended}
 use Rattle.rock_writer.specs.declared.fault.WriteFault.{WriteFault}
+use Rattle.line_account.specs.Courses.{Keeps}
 use Rattle.store_serve.specs.Adding.{Added, Call, NotAdded, Took, taken_on}
 use Rattle.store_serve.specs.Following.{GaveSome, Given, Gives, WentOn}
 use Rattle.store_serve.specs.Getting.{GotAs, GotEntry, StoppedGetting}
@@ -25,7 +26,6 @@ use Rattle.store_serve.specs.declared.getting.Got.TheVariants.{Found, Missing}
 use Rattle.store_serve.specs.declared.storing.PutFault.{PutFault}
 use Rattle.store_serve.specs.declared.storing.PutFault.TheVariants.{Begin, Write}
 use Rattle.call_records.specs.Acting.{Acted}
-use Rattle.call_records.specs.Growing.{Grew}
 use Rattle.call_records.proofs.Grown as grown
 use Rattle.call_records.specs.Deeds.{Naming, name_of, OfEnding, OfGivingUp, OfPublishing, OfPutting, OfPuttingInVain, OfVisiting}
 use Rattle.call_records.specs.Refusing.{NotStoredBy}
@@ -45,13 +45,13 @@ module _ {C O : Type 0} (tells : Bool) (state : C → CellState) (offers : O →
       → Acted None (OfPublishing (name_of (basis tells state offers s) e) (view q).seen) v (view m)
   later e m q h f = wider (λ d x. publishing_on (name_of (basis tells state offers s) e) (view m).seen (view q).seen d f x) h
 
-  same_seen : {p q : Pass C} → q ≡ p → Grew (view p) (view q)
+  same_seen : {p q : Pass C} → q ≡ p → Keeps (view p) (view q)
   same_seen e = grown.same (ap view e)
 
   took : (e : Entry) (p : Pass C) (calls : List (Call C)) (q : Pass C) (total : ℕ) → HasEntry t (name_of (basis tells state offers s) e) (view p) → Took tells state offers s t e p calls q total → TookSome e p q
   took e p [] q total h k = record { acted = same (ap view k.0); entry = Rattle.call_records.proofs.EntryTabs.same_view h (ap view k.0) }
   took e p (c ∷ earlier) q total h k = let first = took e p earlier k.0 k.1 h k.2 in record {
-    acted = on (later e k.0 q first.acted (λ x c. (same_seen k.4).seen x ((appended tells state offers s t (taken_on e k.1) first.entry k.3).grew.seen x c)))
+    acted = on (later e k.0 q first.acted (λ x c. (same_seen k.4).seen x ((appended tells state offers s t (taken_on e k.1) first.entry k.3).keeps.seen x c)))
         (on (later e c.after q (appended tells state offers s t (taken_on e k.1) first.entry k.3) (same_seen k.4).seen) (same (ap view k.4)));
     entry = Rattle.call_records.proofs.EntryTabs.same_view (entry_of tells state offers s t (taken_on (taken_on e k.1) c.count) k.3.writes) (ap view k.4);
   }
@@ -66,7 +66,7 @@ module _ {C O : Type 0} (tells : Bool) (state : C → CellState) (offers : O →
     pub not_added : {fault : WriteFault} → HasEntry t (name_of (basis tells state offers s) e) (view p) → NotAdded tells state offers s t e p q fault → Acted None (OfGivingUp (name_of (basis tells state offers s) e) (view q).seen) (view p) (view q)
     not_added h k = let first = took e p k.calls k.middle k.total h k.took in
         let last = not_appended tells state offers s t (taken_on e k.total) first.entry k.stopped in
-        on (wider (λ d x. inl x) (later e k.middle q first.acted last.grew.seen)) (wider (λ d x. inr x) last)
+        on (wider (λ d x. inl x) (later e k.middle q first.acted last.keeps.seen)) (wider (λ d x. inr x) last)
 
   module _ (e : Entry) (p q : Pass C) where
     abbrev left : ℕ
@@ -75,12 +75,12 @@ module _ {C O : Type 0} (tells : Bool) (state : C → CellState) (offers : O →
     pub ended : {end : Ended} → HasEntry t (name_of (basis tells state offers s) e) (view p) → EndedWhole tells state offers s t e p q end → Acted None (OfEnding (name_of (basis tells state offers s) e) (view q).seen end) (view p) (view q)
     ended h k = let first = took_all e p k.middle h k.added in
         let last = finished tells state offers s t (taken_on e left) first.entry k.finished in
-        on (wider (λ d x. inl x) (later e k.middle q first.acted last.grew.seen)) (wider (λ d x. inr x) last)
+        on (wider (λ d x. inl x) (later e k.middle q first.acted last.keeps.seen)) (wider (λ d x. inr x) last)
 
     not_closed : {fault : WriteFault} → HasEntry t (name_of (basis tells state offers s) e) (view p) → NotClosed tells state offers s t e p q fault → Acted None (OfGivingUp (name_of (basis tells state offers s) e) (view q).seen) (view p) (view q)
     not_closed h k = let first = took_all e p k.middle h k.added in
         let last = not_finished tells state offers s t (taken_on e left) first.entry k.stopped in
-        on (wider (λ d x. inl x) (later e k.middle q first.acted last.grew.seen)) (wider (λ d x. inr x) last)
+        on (wider (λ d x. inl x) (later e k.middle q first.acted last.keeps.seen)) (wider (λ d x. inr x) last)
 
     pub not_ended : (fault : WriteFault) → HasEntry t (name_of (basis tells state offers s) e) (view p) → NotEnded tells state offers s t e p q fault → Acted None (OfGivingUp (name_of (basis tells state offers s) e) (view q).seen) (view p) (view q)
     not_ended why h (inl k) = not_added e p q h k

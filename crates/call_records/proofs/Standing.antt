@@ -11,11 +11,11 @@ use Rattle.store_rule.specs.Ground.{Offers}
 use Rattle.store_rule.specs.Passes.{IsOf, basis, view}
 use Rattle.rock_reader.specs.Reading.{ReadsAs, Standing}
 use Rattle.rock_reader.specs.Wanted.{SameDesk, held_at, kept_at}
-use Rattle.call_records.specs.Growing.{Grew}
+use Rattle.line_account.specs.Courses.{Keeps}
 
 module _ {C O : Type 0} (tells : Bool) (state : C → CellState) (offers : O → Offers) (s : Store C O) where
-  pub stays : (p q : Pass C) (t : ℕ) (e : Standing) → ReadsAs tells state offers s p t e → IsOf tells state offers s q → tab_at (view q) t ≡ tab_at (view p) t → SameDesk p.desks q.desks t → Grew (view p) (view q) → ReadsAs tells state offers s q t e
-  stays p q t e h own tab desk grew = record {
+  pub stays : (p q : Pass C) (t : ℕ) (e : Standing) → ReadsAs tells state offers s p t e → IsOf tells state offers s q → tab_at (view q) t ≡ tab_at (view p) t → SameDesk p.desks q.desks t → Keeps (view p) (view q) → ReadsAs tells state offers s q t e
+  stays p q t e h own tab desk keeps = record {
     own = own;
     below = h.below;
     reader = h.reader;
@@ -24,7 +24,7 @@ module _ {C O : Type 0} (tells : Bool) (state : C → CellState) (offers : O →
     anchor_is = h.anchor_is;
     version_is = h.version_is;
     place_is = h.place_is;
-    offer_seen = grew.seen (Named e.anchor e.version Offer e.offer) h.offer_seen;
+    offer_seen = keeps.seen (Named e.anchor e.version Offer e.offer) h.offer_seen;
     inside = h.inside;
     at_end = h.at_end;
     wanted = λ is. kept ∙ h.wanted is;

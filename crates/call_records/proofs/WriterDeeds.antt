@@ -240,7 +240,7 @@ module _ {C O : Type 0} (tells : Bool) (state : C → CellState) (offers : O →
     pub finished : {p q : Pass C} {ended : Ended} → HasEntry t (name_of (basis tells state offers s) e) (view p) → Finished tells state offers s t e p q ended → Acted None (OfClosing (name_of (basis tells state offers s) e) (view q).seen ended) (view p) (view q)
     finished {p} {q} {ended} h k = let first = wrote_last (basis tells state offers s) t (name_of (basis tells state offers s) e) h k.wrote in
         let parts = parted (basis tells state offers s) t (name_of (basis tells state offers s) e) k.parted in
-        let names : HasNames (name_of (basis tells state offers s) e) (view q).seen = names_on first.names (λ x c. parts.grew.seen x ((grown.by_step k.closes).seen x c)) in
+        let names : HasNames (name_of (basis tells state offers s) e) (view q).seen = names_on first.names (λ x c. parts.keeps.seen x ((grown.by_step k.closes).seen x c)) in
         on (on (wider (λ d x. inr (inl x)) first.wrote.acted) (raise_acted Closed first.wrote.entry k.closes (omega arith) (omega arith)
         (inl (record { raised = record { raised = raises Closed first.wrote.entry k.closes (omega arith) (omega arith); names = names }; answered = k.version; doomed = k.doomed }))))
         (wider (λ d x. inr (inr x)) parts)

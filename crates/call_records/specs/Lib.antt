@@ -1,4 +1,3 @@
-pub mod Growing
 pub mod Acting
 pub mod Deeds
 pub mod Refusing

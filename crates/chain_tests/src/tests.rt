@@ -281,9 +281,9 @@ fn follow<R: Abort + Wait, C: Cell, O: Origin, St: Station<C = C>>(
     rt: &R,
     store: &Store<C, O>,
     writer: &mut Pass<C>,
-    pen: &mut St,
+    writer_station: &mut St,
     reader: &mut Pass<C>,
-    glass: &mut St,
+    reader_station: &mut St,
     url: &[u8],
 )
     requires silent { C.tells ≡ false }
@@ -292,20 +292,20 @@ fn follow<R: Abort + Wait, C: Cell, O: Origin, St: Station<C = C>>(
     requires writer { IsIdle C.tells C.state O.offers store.now writer.old 0 }
     requires reader { IsIdle C.tells C.state O.offers store.now reader.old 0 }
 {
-    if !write_front(store, writer, pen, url, 1) || !open(store, reader, 1) {
+    if !write_front(store, writer, writer_station, url, 1) || !open(store, reader, 1) {
         panic!(rt; "nobody came in between")
     }
-    let Seen::More(byte) = read_piece(rt, store, reader, glass) else {
+    let Seen::More(byte) = read_piece(rt, store, reader, reader_station) else {
         panic!(rt; "the first piece was published")
     };
     assert_eq!(rt; byte, b'a');
-    let Seen::NotWritten = read_piece(rt, store, reader, glass) else {
+    let Seen::NotWritten = read_piece(rt, store, reader, reader_station) else {
         panic!(rt; "the second piece is not there yet")
     };
-    if !write_back(store, writer, pen) {
+    if !write_back(store, writer, writer_station) {
         panic!(rt; "the station works")
     }
-    let Seen::End(byte) = read_piece(rt, store, reader, glass) else {
+    let Seen::End(byte) = read_piece(rt, store, reader, reader_station) else {
         panic!(rt; "the second piece was published")
     };
     assert_eq!(rt; byte, b'b');
@@ -319,9 +319,9 @@ fn write_again<R: Abort + Wait, C: Cell, O: Origin, St: Station<C = C>>(
     rt: &R,
     store: &Store<C, O>,
     writer: &mut Pass<C>,
-    pen: &mut St,
+    writer_station: &mut St,
     reader: &mut Pass<C>,
-    glass: &mut St,
+    reader_station: &mut St,
     url: &[u8],
 )
     requires silent { C.tells ≡ false }
@@ -330,13 +330,13 @@ fn write_again<R: Abort + Wait, C: Cell, O: Origin, St: Station<C = C>>(
     requires writer { IsIdle C.tells C.state O.offers store.now writer.old 0 }
     requires reader { IsIdle C.tells C.state O.offers store.now reader.old 0 }
 {
-    if !write_whole(store, writer, pen, url, 1, b'c') || !open(store, reader, 1) {
+    if !write_whole(store, writer, writer_station, url, 1, b'c') || !open(store, reader, 1) {
         panic!(rt; "the second write is made")
     }
-    let Seen::Failed = read_piece(rt, store, reader, glass) else {
+    let Seen::Failed = read_piece(rt, store, reader, reader_station) else {
         panic!(rt; "the first read fails")
     };
-    let Seen::End(byte) = read_piece(rt, store, reader, glass) else {
+    let Seen::End(byte) = read_piece(rt, store, reader, reader_station) else {
         panic!(rt; "the second read is made")
     };
     assert_eq!(rt; byte, b'c');
@@ -362,7 +362,7 @@ fn halt_with_tail<R: Abort, C: Cell, O: Origin, St: Station<C = C>>(
     rt: &R,
     store: &Store<C, O>,
     writer: &mut Pass<C>,
-    pen: &mut St,
+    writer_station: &mut St,
     reader: &mut Pass<C>,
     url: &[u8],
 )
@@ -372,7 +372,7 @@ fn halt_with_tail<R: Abort, C: Cell, O: Origin, St: Station<C = C>>(
     requires writer { IsIdle C.tells C.state O.offers store.now writer.old 0 }
     requires reader { IsIdle C.tells C.state O.offers store.now reader.old 0 }
 {
-    if !write_front(store, writer, pen, url, 1) || !open(store, reader, 1) {
+    if !write_front(store, writer, writer_station, url, 1) || !open(store, reader, 1) {
         panic!(rt; "nobody came in between")
     }
     advance(store, writer, 0, Stage::Halted);
@@ -396,7 +396,7 @@ fn doom_and_free<R: Abort, C: Cell, O: Origin, St: Station<C = C>>(
     rt: &R,
     store: &Store<C, O>,
     writer: &mut Pass<C>,
-    pen: &mut St,
+    writer_station: &mut St,
     reader: &mut Pass<C>,
     url: &[u8],
 )
@@ -406,7 +406,7 @@ fn doom_and_free<R: Abort, C: Cell, O: Origin, St: Station<C = C>>(
     requires writer { IsIdle C.tells C.state O.offers store.now writer.old 0 }
     requires reader { IsIdle C.tells C.state O.offers store.now reader.old 0 }
 {
-    if !write_whole(store, writer, pen, url, 1, b'd') || !open(store, reader, 1) {
+    if !write_whole(store, writer, writer_station, url, 1, b'd') || !open(store, reader, 1) {
         panic!(rt; "nobody came in between")
     }
     let word = doom(store, reader, 0);
@@ -429,7 +429,7 @@ fn ask<R: Abort, C: Cell, O: Origin, St: Station<C = C>>(
     rt: &R,
     store: &Store<C, O>,
     writer: &mut Pass<C>,
-    pen: &mut St,
+    writer_station: &mut St,
     first: &mut Pass<C>,
     second: &mut Pass<C>,
     url: &[u8],
@@ -441,7 +441,9 @@ fn ask<R: Abort, C: Cell, O: Origin, St: Station<C = C>>(
     requires first { IsIdle C.tells C.state O.offers store.now first.old 0 }
     requires second { IsIdle C.tells C.state O.offers store.now second.old 0 }
 {
-    if !write_front(store, writer, pen, url, 1) || !write_back(store, writer, pen) {
+    if !write_front(store, writer, writer_station, url, 1)
+        || !write_back(store, writer, writer_station)
+    {
         panic!(rt; "nobody came in between")
     }
     if !begin(store, first, 0, 3) || !begin(store, second, 0, 4) {
@@ -472,7 +474,7 @@ fn go_round<R: Abort, C: Cell, O: Origin, St: Station<C = C>>(
     rt: &R,
     store: &Store<C, O>,
     writer: &mut Pass<C>,
-    pen: &mut St,
+    writer_station: &mut St,
     reader: &mut Pass<C>,
     evictor: &mut Pass<C>,
     urls: &[[u8; 11]; 3],
@@ -485,9 +487,9 @@ fn go_round<R: Abort, C: Cell, O: Origin, St: Station<C = C>>(
     requires evictor { IsIdle C.tells C.state O.offers store.now evictor.old 0 }
     requires other { IsIdle C.tells C.state O.offers store.now evictor.old 1 }
 {
-    if !write_whole(store, writer, pen, &urls[0], 0, b'a')
-        || !write_whole(store, writer, pen, &urls[1], 1, b'b')
-        || !write_whole(store, writer, pen, &urls[2], 2, b'c')
+    if !write_whole(store, writer, writer_station, &urls[0], 0, b'a')
+        || !write_whole(store, writer, writer_station, &urls[1], 1, b'b')
+        || !write_whole(store, writer, writer_station, &urls[2], 2, b'c')
     {
         panic!(rt; "there are three slots")
     }
@@ -526,15 +528,15 @@ fn one_pass_follows_what_another_writes(rt: HostRuntime) -> Result<(), Fail> {
     };
     let mut reader = passes.pop().expect(&rt, "a second pass");
     let mut writer = passes.pop().expect(&rt, "a first pass");
-    let mut pen = Clerk::new(Vec::new(alloc));
-    let mut glass = Clerk::new(Vec::new(alloc));
+    let mut writer_station = Clerk::new(Vec::new(alloc));
+    let mut reader_station = Clerk::new(Vec::new(alloc));
     follow(
         &rt,
         &store,
         &mut writer,
-        &mut pen,
+        &mut writer_station,
         &mut reader,
-        &mut glass,
+        &mut reader_station,
         &offered.urls[1],
     );
     Ok(())
@@ -554,17 +556,17 @@ fn a_write_that_fails_is_made_again(rt: HostRuntime) -> Result<(), Fail> {
     let mut writer = passes.pop().expect(&rt, "a pass");
     let mut fail = Vec::new(alloc);
     fail.push(0)?;
-    let mut pen = Clerk::new(fail);
+    let mut writer_station = Clerk::new(fail);
     let mut fail = Vec::new(alloc);
     fail.push(0)?;
-    let mut glass = Clerk::new(fail);
+    let mut reader_station = Clerk::new(fail);
     write_again(
         &rt,
         &store,
         &mut writer,
-        &mut pen,
+        &mut writer_station,
         &mut reader,
-        &mut glass,
+        &mut reader_station,
         &offered.urls[1],
     );
     Ok(())
@@ -583,12 +585,12 @@ fn a_halted_entry_is_freed_with_its_tail(rt: HostRuntime) -> Result<(), Fail> {
     };
     let mut reader = passes.pop().expect(&rt, "a pass");
     let mut writer = passes.pop().expect(&rt, "a pass");
-    let mut pen = Clerk::new(Vec::new(alloc));
+    let mut writer_station = Clerk::new(Vec::new(alloc));
     halt_with_tail(
         &rt,
         &store,
         &mut writer,
-        &mut pen,
+        &mut writer_station,
         &mut reader,
         &offered.urls[1],
     );
@@ -607,12 +609,12 @@ fn a_doomed_entry_is_freed_by_its_last_reader(rt: HostRuntime) -> Result<(), Fai
     };
     let mut reader = passes.pop().expect(&rt, "a pass");
     let mut writer = passes.pop().expect(&rt, "a pass");
-    let mut pen = Clerk::new(Vec::new(alloc));
+    let mut writer_station = Clerk::new(Vec::new(alloc));
     doom_and_free(
         &rt,
         &store,
         &mut writer,
-        &mut pen,
+        &mut writer_station,
         &mut reader,
         &offered.urls[1],
     );
@@ -633,12 +635,12 @@ fn a_victim_is_freed_while_two_others_ask_for_slots(rt: HostRuntime) -> Result<(
     let mut second = passes.pop().expect(&rt, "a pass");
     let mut first = passes.pop().expect(&rt, "a pass");
     let mut writer = passes.pop().expect(&rt, "a pass");
-    let mut pen = Clerk::new(Vec::new(alloc));
+    let mut writer_station = Clerk::new(Vec::new(alloc));
     ask(
         &rt,
         &store,
         &mut writer,
-        &mut pen,
+        &mut writer_station,
         &mut first,
         &mut second,
         &offered.urls[1],
@@ -661,12 +663,12 @@ fn the_hand_goes_round_and_passes_over_what_is_read(rt: HostRuntime) -> Result<(
     let mut evictor = passes.pop().expect(&rt, "a pass");
     let mut reader = passes.pop().expect(&rt, "a pass");
     let mut writer = passes.pop().expect(&rt, "a pass");
-    let mut pen = Clerk::new(Vec::new(alloc));
+    let mut writer_station = Clerk::new(Vec::new(alloc));
     go_round(
         &rt,
         &store,
         &mut writer,
-        &mut pen,
+        &mut writer_station,
         &mut reader,
         &mut evictor,
         &offered.urls,

@@ -6,7 +6,7 @@ ghost use Rattle.store_rule.specs.Passes.{basis};
 ghost use Rattle.writer_tests.specs.Tabs.{IsIdle};
 
 use crate::expecting::{expect, expect_open, expect_piece};
-use crate::images::{Slot, URL, body_of, image_of, part};
+use crate::images::{Slot, body_of, image_of, part};
 use reader_tests::close;
 use rock_disk::{Cell, MemVolume, Station, Volume, opened_cells_are_the_files};
 use rock_open::{OpenStore, open_store};
@@ -16,7 +16,7 @@ use std::process::Abort;
 use std::sync::Wait;
 use std::test::Fail;
 use store_rule::{Origin, Pass, Store};
-use writer_tests::{Offered, Response};
+use writer_tests::{Offered, Response, URL};
 
 /// The items of the key and of the URL.
 const KEY_ITEM: &[u8] =

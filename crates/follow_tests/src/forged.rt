@@ -5,7 +5,7 @@ ghost use Rattle.store_rule.specs.Passes.{basis};
 ghost use Rattle.writer_tests.specs.Tabs.{IsIdle, IsOffer};
 
 use crate::expecting::{expect, expect_open, expect_piece};
-use crate::images::{Slot, URL, image_of};
+use crate::images::{Slot, image_of};
 use chain_tests::{Clerk, Sheet};
 use reader_tests::{close, two_passes};
 use rock_disk::{Cell, Station};
@@ -17,7 +17,7 @@ use std::process::Abort;
 use std::sync::Wait;
 use std::test::Fail;
 use store_rule::{Origin, Pass, Store};
-use writer_tests::{Came, store_whole};
+use writer_tests::{Came, META, URL, store_whole};
 
 /// A station that gives the bytes which a test chose, whatever a cell holds, and writes nothing. The cells tell
 /// proofs nothing of what they hold. No call of it fails.
@@ -50,11 +50,7 @@ impl Station for Forger {
 /// The body of the entry that is written, and of the slots that are given in place of it.
 const BODY: &[u8] = b"hello";
 
-/// The metadata of the entry that is written.
-const META: &[u8] =
-    b"\x03\x2a\0\0\0\x03\x10\0\0\0\x1a\x68\xc1\x0d\x6c\x8b\x32\x66\x57\xc7\x75\xf5\x3c\x86\x6d\xd1\x04\x0b\0\0\0http://a/b\0";
-
-/// The same with another URL, but its key.
+/// `META`, the metadata of the entry that is written, with another URL, but its key.
 const META_OF_ANOTHER: &[u8] =
     b"\x03\x2a\0\0\0\x03\x10\0\0\0\x1a\x68\xc1\x0d\x6c\x8b\x32\x66\x57\xc7\x75\xf5\x3c\x86\x6d\xd1\x04\x0b\0\0\0http://a/c\0";
 
@@ -97,7 +93,7 @@ fn expect_stored<R: Abort, C: Cell, O: Origin, St: Station<C = C>>(
     rt: &R,
     store: &Store<C, O>,
     writer: &mut Pass<C>,
-    pen: &mut St,
+    station: &mut St,
     url: &[u8],
     body: &[u8],
     version: u32,
@@ -107,7 +103,7 @@ fn expect_stored<R: Abort, C: Cell, O: Origin, St: Station<C = C>>(
     ensures idle { IsIdle C.tells C.state O.offers store.now writer.new 0 }
 {
     let offer = store.slots() as u64;
-    let came = store_whole(store, writer, pen, 0, offer, url, body, 5, false);
+    let came = store_whole(store, writer, station, 0, offer, url, body, 5, false);
     assert_eq!(rt; came, Came::Ended(Ended::Stored { version }));
 }
 
@@ -170,19 +166,19 @@ fn read_forged<R: Abort + Wait, O: Origin>(
     requires writer { IsIdle false sheet_state O.offers store.now writer.old 0 }
     requires reader { IsIdle false sheet_state O.offers store.now reader.old 0 }
 {
-    let mut pen = Clerk::new(Vec::new(alloc));
+    let mut station = Clerk::new(Vec::new(alloc));
     let mut version = 1;
-    expect_stored(rt, store, writer, &mut pen, url, body, version);
+    expect_stored(rt, store, writer, &mut station, url, body, version);
     let page = image_of(alloc, &WRITTEN)?;
     expect_whole(rt, store, reader, &mut Forger { page }, url, version);
     for other in others {
         version = version.saturating_add(1);
-        expect_stored(rt, store, writer, &mut pen, url, body, version);
+        expect_stored(rt, store, writer, &mut station, url, body, version);
         let page = image_of(alloc, other)?;
         expect_other(rt, store, reader, &mut Forger { page }, url, version);
     }
     version = version.saturating_add(1);
-    expect_stored(rt, store, writer, &mut pen, url, body, version);
+    expect_stored(rt, store, writer, &mut station, url, body, version);
     Ok(())
 }
 

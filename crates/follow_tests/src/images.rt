@@ -1,16 +1,9 @@
 // Images of slots, built from the format by hand.
 use std::alloc::Global;
 use std::test::Fail;
+use writer_tests::KEY;
 
-/// The URL of the tests, which belongs to anchor 1 of two.
-pub(crate) const URL: &[u8] = b"http://a/b";
-
-/// The MD5 of a byte 1 and this URL, by the program md5sum.
-pub(crate) const KEY: [u8; 16] = [
-    0x1a, 0x68, 0xc1, 0x0d, 0x6c, 0x8b, 0x32, 0x66, 0x57, 0xc7, 0x75, 0xf5, 0x3c, 0x86, 0x6d, 0xd1,
-];
-
-/// A slot of an entry with this key: the fields of its header behind the key, and its payload, in two parts.
+/// A slot of an entry with the key `KEY`: the fields of its header behind the key, and its payload, in two parts.
 #[derive(Clone, Copy)]
 pub(crate) struct Slot<'a> {
     pub entry_size: u64,

@@ -4,7 +4,7 @@ ghost use Rattle.std.specs.Prelude.{All, None, OnOk, length, ◌≡◌, ◌≤�
 ghost use Rattle.store_rule.specs.Passes.{basis};
 ghost use Rattle.writer_tests.specs.Tabs.{IsIdle, IsOffer};
 
-use crate::images::{URL, body_of};
+use crate::images::body_of;
 use chain_tests::Clerk;
 use reader_tests::{TwoPasses, append_to, close, end, open, read_on, start, two_passes};
 use rock_disk::{Cell, Station};
@@ -15,6 +15,7 @@ use std::sync::atomic::{AtomicUsize, Ordering};
 use std::test::Fail;
 use std::thread::{self, Threads};
 use store_rule::{Origin, Pass, Store};
+use writer_tests::URL;
 
 /// How often a thread looks for what another one does.
 const LOOKS: u32 = 10_000_000;

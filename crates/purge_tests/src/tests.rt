@@ -10,12 +10,7 @@ use std::process::Abort;
 use std::test::Fail;
 use store_key::check_url;
 use store_rule::{Origin, Pass, Store};
-use writer_tests::{Blank, Book, Came, Offered, Response, append_all, store_whole};
-
-/// The MD5 of a byte 1 and `http://a/b`, by the program md5sum.
-const KEY: [u8; 16] = [
-    0x1a, 0x68, 0xc1, 0x0d, 0x6c, 0x8b, 0x32, 0x66, 0x57, 0xc7, 0x75, 0xf5, 0x3c, 0x86, 0x6d, 0xd1,
-];
+use writer_tests::{Blank, Book, Came, KEY, Offered, Response, URL, append_all, store_whole};
 
 /// An epoch of this version.
 fn epoch(version: u32, doom: bool, stage: Stage) -> Epoch {
@@ -133,16 +128,15 @@ fn purge_while_written<R: Abort, C: Cell, O: Origin, St: Station<C = C>>(
 #[test]
 fn entries_are_purged_while_they_are_read_and_written(rt: HostRuntime) -> Result<(), Fail> {
     let alloc = rt.alloc();
-    let url: &[u8] = b"http://a/b";
     let other_url: &[u8] = b"http://a/c";
-    if check_url(url).is_err() {
+    if check_url(URL).is_err() {
         panic!(rt; "it is a URL")
     }
     // With metadata and URL, which are 42 bytes, it fills four slots but for two bytes.
     let content = vec![in alloc; b'x'; 1_844]?;
     let body = content.as_slice();
     let first = Response {
-        url: Vec::from_slice(alloc, url)?,
+        url: Vec::from_slice(alloc, URL)?,
         body: Vec::from_slice(alloc, body)?,
     };
     let second = Response {
@@ -156,10 +150,10 @@ fn entries_are_purged_while_they_are_read_and_written(rt: HostRuntime) -> Result
         panic!(rt; "there is memory for four slots")
     };
     let mut pass = passes.pop().expect(&rt, "a pass");
-    purge_while_read(&rt, &store, &mut pass, &mut book, url, other_url, body);
+    purge_while_read(&rt, &store, &mut pass, &mut book, URL, other_url, body);
     // Each of these entries needs all slots, so the one before has given them back.
-    purge_unused(&rt, &store, &mut pass, &mut book, url, body, 2);
-    purge_unused(&rt, &store, &mut pass, &mut book, url, body, 3);
-    purge_while_written(&rt, &store, &mut pass, &mut book, url, body);
+    purge_unused(&rt, &store, &mut pass, &mut book, URL, body, 2);
+    purge_unused(&rt, &store, &mut pass, &mut book, URL, body, 3);
+    purge_while_written(&rt, &store, &mut pass, &mut book, URL, body);
     Ok(())
 }

@@ -1,5 +1,5 @@
 -- A store with a pass that writes and one that reads.
-use Rattle.std.specs.Prelude.{List, None, false, ◌<◌, ◌≡◌, ℕ}
+use Rattle.std.specs.Prelude.{List, false, ◌<◌, ◌≡◌, ℕ}
 use Rattle.store_rule.specs.Ground.{Ground}
 use Rattle.store_rule.specs.Passes.{basis}
 use Rattle.chain_tests.specs.Sheets.{sheet_state}
@@ -14,6 +14,5 @@ ground_of two = basis false sheet_state offers_of two.store
 pub record IsReady (url body : List ℕ) (two : TwoPasses) : Type 0 where
   pub slot : (ground_of two).slot ≡ 512
   pub offer : IsOffer (ground_of two) (ground_of two).setting.slots url body
-  pub alone : (a : ℕ) → (ground_of two).offers.alone a ≡ None
   pub writer : (t : ℕ) → t < 8 → IsIdle false sheet_state offers_of two.store two.writer t
   pub reader : (t : ℕ) → t < 8 → IsIdle false sheet_state offers_of two.store two.reader t

@@ -14,22 +14,15 @@ use std::process::Abort;
 use std::sync::Wait;
 use std::test::Fail;
 use store_rule::{Origin, Pass, Store};
+use writer_tests::{KEY, URL};
 
-/// The URL of most tests, which belongs to anchor 1 of two. Metadata and URL are 42 bytes, so that the first
-/// slot has room for 430 bytes of body, and each other one for 472.
-const URL: &[u8] = b"http://a/b";
-
-/// The MD5 of a byte 1 and this URL, by the program md5sum.
-const KEY: [u8; 16] = [
-    0x1a, 0x68, 0xc1, 0x0d, 0x6c, 0x8b, 0x32, 0x66, 0x57, 0xc7, 0x75, 0xf5, 0x3c, 0x86, 0x6d, 0xd1,
-];
-
-/// These belong to anchor 0 and anchor 1 of two, by md5sum.
+/// These belong to anchor 0 and anchor 1 of two, and `URL` to anchor 1, by md5sum.
 const URL_ELSEWHERE: &[u8] = b"http://a/6";
 
 const URL_BESIDE: &[u8] = b"http://a/0";
 
-/// A body of 1,374 bytes, which is three slots, and of which neighbours differ.
+/// A body of 1,374 bytes, of which neighbours differ. With `URL` and metadata, which are 42 bytes, it is three
+/// slots: the first has room for 430 bytes of it, and each other one for 472.
 fn three_pieces(alloc: Global) -> Result<Vec<u8>, AllocError> {
     let mut body = Vec::new(alloc);
     for number in 0..1_374u32 {
@@ -222,9 +215,9 @@ fn store_and_read<R: Abort + Wait, C: Cell, O: Origin, St: Station<C = C>>(
     rt: &R,
     store: &Store<C, O>,
     writer: &mut Pass<C>,
-    pen: &mut St,
+    writer_station: &mut St,
     reader: &mut Pass<C>,
-    glass: &mut St,
+    reader_station: &mut St,
     url: &[u8],
     body: &[u8],
 )
@@ -237,10 +230,10 @@ fn store_and_read<R: Abort + Wait, C: Cell, O: Origin, St: Station<C = C>>(
     expect_start(rt, store, writer, url, body, 1);
     let taken = epoch(1, false, Stage::Taken);
     expect_none(rt, store, reader, url, Cause::Writing { epoch: taken });
-    expect_append(rt, store, writer, pen, body, 0, 1_374);
-    expect_stored(rt, store, writer, pen, body, 1);
+    expect_append(rt, store, writer, writer_station, body, 0, 1_374);
+    expect_stored(rt, store, writer, writer_station, body, 1);
     expect_open(rt, store, reader, url, 1);
-    expect_three(rt, store, reader, glass, body);
+    expect_three(rt, store, reader, reader_station, body);
     close(store, reader, 0);
     let empty = epoch(0, false, Stage::Empty);
     expect_none(
@@ -263,9 +256,9 @@ fn follow_with_a_note<R: Abort + Wait, C: Cell, O: Origin, St: Station<C = C>>(
     rt: &R,
     store: &Store<C, O>,
     writer: &mut Pass<C>,
-    pen: &mut St,
+    writer_station: &mut St,
     reader: &mut Pass<C>,
-    glass: &mut St,
+    reader_station: &mut St,
     url: &[u8],
     body: &[u8],
 )
@@ -279,18 +272,30 @@ fn follow_with_a_note<R: Abort + Wait, C: Cell, O: Origin, St: Station<C = C>>(
     let taken = epoch(1, false, Stage::Taken);
     expect_none(rt, store, reader, url, Cause::Writing { epoch: taken });
     // The byte behind the first slot has that slot written.
-    expect_append(rt, store, writer, pen, body, 0, 431);
+    expect_append(rt, store, writer, writer_station, body, 0, 431);
     tell(store, writer, reader);
     expect_open(rt, store, reader, url, 1);
-    expect_piece(rt, store, reader, glass, part(body, 0, 430));
+    expect_piece(rt, store, reader, reader_station, part(body, 0, 430));
     let grows = epoch(1, false, Stage::Appending);
-    expect_answer(rt, store, reader, glass, More::NotYet { epoch: grows });
-    expect_append(rt, store, writer, pen, body, 431, 1_374);
-    expect_piece(rt, store, reader, glass, part(body, 430, 902));
-    expect_answer(rt, store, reader, glass, More::NotYet { epoch: grows });
-    expect_stored(rt, store, writer, pen, body, 1);
-    expect_piece(rt, store, reader, glass, part(body, 902, 1_374));
-    expect_answer(rt, store, reader, glass, More::End);
+    expect_answer(
+        rt,
+        store,
+        reader,
+        reader_station,
+        More::NotYet { epoch: grows },
+    );
+    expect_append(rt, store, writer, writer_station, body, 431, 1_374);
+    expect_piece(rt, store, reader, reader_station, part(body, 430, 902));
+    expect_answer(
+        rt,
+        store,
+        reader,
+        reader_station,
+        More::NotYet { epoch: grows },
+    );
+    expect_stored(rt, store, writer, writer_station, body, 1);
+    expect_piece(rt, store, reader, reader_station, part(body, 902, 1_374));
+    expect_answer(rt, store, reader, reader_station, More::End);
     close(store, reader, 0);
 }
 
@@ -300,9 +305,9 @@ fn read_doomed<R: Abort + Wait, C: Cell, O: Origin, St: Station<C = C>>(
     rt: &R,
     store: &Store<C, O>,
     writer: &mut Pass<C>,
-    pen: &mut St,
+    writer_station: &mut St,
     reader: &mut Pass<C>,
-    glass: &mut St,
+    reader_station: &mut St,
     url: &[u8],
     body: &[u8],
 )
@@ -311,7 +316,7 @@ fn read_doomed<R: Abort + Wait, C: Cell, O: Origin, St: Station<C = C>>(
     requires writer { IsIdle C.tells C.state O.offers store.now writer.old 0 }
     requires reader { IsIdle C.tells C.state O.offers store.now reader.old 0 }
 {
-    write_three(rt, store, writer, pen, url, body, 1);
+    write_three(rt, store, writer, writer_station, url, body, 1);
     expect_open(rt, store, reader, url, 1);
     let doomed = epoch(1, true, Stage::Closed);
     let left = Word {
@@ -320,11 +325,11 @@ fn read_doomed<R: Abort + Wait, C: Cell, O: Origin, St: Station<C = C>>(
     };
     assert_eq!(rt; doom_entry(store, writer, 0, url), Some(left));
     expect_none(rt, store, writer, url, Cause::Leaving { epoch: doomed });
-    expect_three(rt, store, reader, glass, body);
+    expect_three(rt, store, reader, reader_station, body);
     close(store, reader, 0);
     let gone = epoch(1, true, Stage::Gone);
     expect_none(rt, store, writer, url, Cause::Absent { epoch: gone });
-    write_three(rt, store, writer, pen, url, body, 2);
+    write_three(rt, store, writer, writer_station, url, body, 2);
 }
 
 /// The writer of an entry gives up behind its first slot. A reader is given that slot, and no more. As the last
@@ -333,9 +338,9 @@ fn read_halted<R: Abort + Wait, C: Cell, O: Origin, St: Station<C = C>>(
     rt: &R,
     store: &Store<C, O>,
     writer: &mut Pass<C>,
-    pen: &mut St,
+    writer_station: &mut St,
     reader: &mut Pass<C>,
-    glass: &mut St,
+    reader_station: &mut St,
     url: &[u8],
     body: &[u8],
 )
@@ -346,18 +351,18 @@ fn read_halted<R: Abort + Wait, C: Cell, O: Origin, St: Station<C = C>>(
     requires reader { IsIdle C.tells C.state O.offers store.now reader.old 0 }
 {
     expect_start(rt, store, writer, url, body, 1);
-    expect_append(rt, store, writer, pen, body, 0, 431);
+    expect_append(rt, store, writer, writer_station, body, 0, 431);
     expect_open(rt, store, reader, url, 1);
     give_up(store, writer, 0);
-    expect_piece(rt, store, reader, glass, part(body, 0, 430));
-    expect_answer(rt, store, reader, glass, More::Halted);
-    expect_answer(rt, store, reader, glass, More::Halted);
+    expect_piece(rt, store, reader, reader_station, part(body, 0, 430));
+    expect_answer(rt, store, reader, reader_station, More::Halted);
+    expect_answer(rt, store, reader, reader_station, More::Halted);
     let halted = epoch(1, false, Stage::Halted);
     expect_none(rt, store, writer, url, Cause::Leaving { epoch: halted });
     close(store, reader, 0);
     let gone = epoch(1, false, Stage::Gone);
     expect_none(rt, store, writer, url, Cause::Absent { epoch: gone });
-    write_three(rt, store, writer, pen, url, body, 2);
+    write_three(rt, store, writer, writer_station, url, body, 2);
 }
 
 /// The second read of a station fails, and is made once more.
@@ -365,9 +370,9 @@ fn read_again<R: Abort + Wait, C: Cell, O: Origin, St: Station<C = C>>(
     rt: &R,
     store: &Store<C, O>,
     writer: &mut Pass<C>,
-    pen: &mut St,
+    writer_station: &mut St,
     reader: &mut Pass<C>,
-    glass: &mut St,
+    reader_station: &mut St,
     url: &[u8],
     body: &[u8],
 )
@@ -376,15 +381,15 @@ fn read_again<R: Abort + Wait, C: Cell, O: Origin, St: Station<C = C>>(
     requires writer { IsIdle C.tells C.state O.offers store.now writer.old 0 }
     requires reader { IsIdle C.tells C.state O.offers store.now reader.old 0 }
 {
-    write_three(rt, store, writer, pen, url, body, 1);
+    write_three(rt, store, writer, writer_station, url, body, 1);
     expect_open(rt, store, reader, url, 1);
-    expect_piece(rt, store, reader, glass, part(body, 0, 430));
+    expect_piece(rt, store, reader, reader_station, part(body, 0, 430));
     let before = place_of(reader);
-    expect_answer(rt, store, reader, glass, More::Fault);
+    expect_answer(rt, store, reader, reader_station, More::Fault);
     assert_eq!(rt; place_of(reader), before);
-    expect_piece(rt, store, reader, glass, part(body, 430, 902));
-    expect_piece(rt, store, reader, glass, part(body, 902, 1_374));
-    expect_answer(rt, store, reader, glass, More::End);
+    expect_piece(rt, store, reader, reader_station, part(body, 430, 902));
+    expect_piece(rt, store, reader, reader_station, part(body, 902, 1_374));
+    expect_answer(rt, store, reader, reader_station, More::End);
     close(store, reader, 0);
 }
 
@@ -401,15 +406,15 @@ fn an_entry_of_three_slots_is_read_whole(rt: HostRuntime) -> Result<(), Fail> {
     let body = pieces.as_slice();
     assert!(rt; body.len() == 1_374);
     let mut two = two_passes(alloc, URL, body).expect(&rt, "there is memory for three slots");
-    let mut pen = Clerk::new(Vec::new(alloc));
-    let mut glass = Clerk::new(Vec::new(alloc));
+    let mut writer_station = Clerk::new(Vec::new(alloc));
+    let mut reader_station = Clerk::new(Vec::new(alloc));
     store_and_read(
         &rt,
         &two.store,
         &mut two.writer,
-        &mut pen,
+        &mut writer_station,
         &mut two.reader,
-        &mut glass,
+        &mut reader_station,
         URL,
         body,
     );
@@ -423,15 +428,15 @@ fn a_slot_that_a_note_tells_of_is_given(rt: HostRuntime) -> Result<(), Fail> {
     let body = pieces.as_slice();
     assert!(rt; body.len() == 1_374);
     let mut two = two_passes(alloc, URL, body).expect(&rt, "there is memory for three slots");
-    let mut pen = Clerk::new(Vec::new(alloc));
-    let mut glass = Clerk::new(Vec::new(alloc));
+    let mut writer_station = Clerk::new(Vec::new(alloc));
+    let mut reader_station = Clerk::new(Vec::new(alloc));
     follow_with_a_note(
         &rt,
         &two.store,
         &mut two.writer,
-        &mut pen,
+        &mut writer_station,
         &mut two.reader,
-        &mut glass,
+        &mut reader_station,
         URL,
         body,
     );
@@ -445,15 +450,15 @@ fn a_doomed_entry_is_given_whole_and_freed_by_its_last_reader(rt: HostRuntime) -
     let body = pieces.as_slice();
     assert!(rt; body.len() == 1_374);
     let mut two = two_passes(alloc, URL, body).expect(&rt, "there is memory for three slots");
-    let mut pen = Clerk::new(Vec::new(alloc));
-    let mut glass = Clerk::new(Vec::new(alloc));
+    let mut writer_station = Clerk::new(Vec::new(alloc));
+    let mut reader_station = Clerk::new(Vec::new(alloc));
     read_doomed(
         &rt,
         &two.store,
         &mut two.writer,
-        &mut pen,
+        &mut writer_station,
         &mut two.reader,
-        &mut glass,
+        &mut reader_station,
         URL,
         body,
     );
@@ -467,15 +472,15 @@ fn a_halted_entry_is_given_as_far_as_it_came_and_freed(rt: HostRuntime) -> Resul
     let body = pieces.as_slice();
     assert!(rt; body.len() == 1_374);
     let mut two = two_passes(alloc, URL, body).expect(&rt, "there is memory for three slots");
-    let mut pen = Clerk::new(Vec::new(alloc));
-    let mut glass = Clerk::new(Vec::new(alloc));
+    let mut writer_station = Clerk::new(Vec::new(alloc));
+    let mut reader_station = Clerk::new(Vec::new(alloc));
     read_halted(
         &rt,
         &two.store,
         &mut two.writer,
-        &mut pen,
+        &mut writer_station,
         &mut two.reader,
-        &mut glass,
+        &mut reader_station,
         URL,
         body,
     );
@@ -489,15 +494,15 @@ fn a_read_that_fails_is_made_again(rt: HostRuntime) -> Result<(), Fail> {
     let body = pieces.as_slice();
     assert!(rt; body.len() == 1_374);
     let mut two = two_passes(alloc, URL, body).expect(&rt, "there is memory for three slots");
-    let mut pen = Clerk::new(Vec::new(alloc));
-    let mut glass = Clerk::new(Vec::from_slice(alloc, &[1])?);
+    let mut writer_station = Clerk::new(Vec::new(alloc));
+    let mut reader_station = Clerk::new(Vec::from_slice(alloc, &[1])?);
     read_again(
         &rt,
         &two.store,
         &mut two.writer,
-        &mut pen,
+        &mut writer_station,
         &mut two.reader,
-        &mut glass,
+        &mut reader_station,
         URL,
         body,
     );

@@ -16,7 +16,7 @@ use Rattle.rock_reader.specs.declared.answer.More.{More}
 use Rattle.rock_reader.specs.Reading.{ReadsAs, Standing}
 use Rattle.rock_reader.specs.Wanted.{FollowsReader}
 use Rattle.slice_chain.specs.Freeing.{FollowsTab}
-use Rattle.store_serve.specs.Following.{WentOn}
+use Rattle.store_serve.specs.Following.{GaveSome, WentOn}
 use Rattle.store_serve.proofs.Inner.{other_tab}
 
 pub nothing_behind : (xs : List ℕ) → xs ≡ xs ++ []
@@ -44,9 +44,9 @@ tabs_back t v o m w tab free below opens others same closes j = at (eqb_tells j 
 module _ {C O : Type 0} (tells : Bool) (state : C → CellState) (offers : O → Offers) (s : Store C O) (t : ℕ) where
   -- whatever reading came to, the tab reads still
   pub reads_still : {E : Type 0} (e : Standing) (p q : Pass C) (front all : List ℕ) (r : Result More E) → IfOk r (λ answer. (bytes : List ℕ) × (all ≡ front ++ bytes) × WentOn tells state offers s t e p q bytes answer)
-      → OnErr r ((f : Standing) × ReadsAs tells state offers s q t f) → (f : Standing) × ReadsAs tells state offers s q t f
-  reads_still e p q front all (Ok answer) went stays = (went.2.last, went.2.reads)
-  reads_still e p q front all (Err fault) went stays = stays
+      → OnErr r ((bytes : List ℕ) × GaveSome tells state offers s t e p q bytes) → (f : Standing) × ReadsAs tells state offers s q t f
+  reads_still e p q front all (Ok answer) went stopped = (went.2.last, went.2.reads)
+  reads_still e p q front all (Err fault) went stopped = (stopped.1.standing, stopped.1.reads)
 
   pub reader_tab : (p q : Pass C) → FollowsTab tells state offers s t p q → FollowsReader tells state offers s t p q
   reader_tab p q h = record { own = h.own; others = h.others; left = h.left; places = h.places; desks = λ j ne far. same_desk j; hand = h.hand; cells = h.cells }

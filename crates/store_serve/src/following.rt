@@ -35,7 +35,6 @@ pub fn read_on<R: Wait, C: Cell, O: Origin, St: Station<C = C>>(
         → IfOk result (λ answer. (bytes : List ℕ) × (out.new.items ≡ out.old.items ++ bytes) × WentOn C.tells C.state O.offers store.now tab e pass.old pass.new bytes answer) }
     ensures stopped { (e : Standing) → ReadsAs C.tells C.state O.offers store.now pass.old tab e
         → OnErr result ((bytes : List ℕ) × GaveSome C.tells C.state O.offers store.now tab e pass.old pass.new bytes) }
-    ensures stays { OnErr result ((e : Standing) × ReadsAs C.tells C.state O.offers store.now pass.new tab e) }
     ensures others { FollowsReader C.tells C.state O.offers store.now tab pass.old pass.new }
     ensures inner { tab_at (view pass.new) inner ≡ tab_at (view pass.old) inner }
     ensures length { length piece.new ≡ length piece.old }

@@ -42,7 +42,7 @@ fn fill_again<R: Abort, C: Cell, O: Origin, St: Station<C = C>>(
     rt: &R,
     store: &Store<C, O>,
     writer: &mut Pass<C>,
-    pen: &mut St,
+    station: &mut St,
     second: Asked,
     version: u32,
 )
@@ -53,7 +53,7 @@ fn fill_again<R: Abort, C: Cell, O: Origin, St: Station<C = C>>(
     let came = store_whole(
         store,
         writer,
-        pen,
+        station,
         0,
         offer,
         second.url,
@@ -70,7 +70,7 @@ fn leave_last<R: Abort, C: Cell, O: Origin, St: Station<C = C>>(
     rt: &R,
     store: &Store<C, O>,
     writer: &mut Pass<C>,
-    pen: &mut St,
+    station: &mut St,
     reader: &mut Pass<C>,
     second: Asked,
     ended: Word,
@@ -86,7 +86,7 @@ fn leave_last<R: Abort, C: Cell, O: Origin, St: Station<C = C>>(
     let came = store_whole(
         store,
         writer,
-        pen,
+        station,
         0,
         offer,
         second.url,
@@ -98,7 +98,7 @@ fn leave_last<R: Abort, C: Cell, O: Origin, St: Station<C = C>>(
     close_entry(store, reader, 0);
     let left = look(store, reader, 0);
     assert_eq!(rt; left, word(ended.epoch.doom, Stage::Gone, 0));
-    fill_again(rt, store, writer, pen, second, 3);
+    fill_again(rt, store, writer, station, second, 3);
 }
 
 /// The first response is written up to its end, and opened for a tab of another pass.
@@ -106,7 +106,7 @@ fn write_and_open<R: Abort, C: Cell, O: Origin, St: Station<C = C>>(
     rt: &R,
     store: &Store<C, O>,
     writer: &mut Pass<C>,
-    pen: &mut St,
+    station: &mut St,
     reader: &mut Pass<C>,
     first: Asked,
 )
@@ -118,7 +118,7 @@ fn write_and_open<R: Abort, C: Cell, O: Origin, St: Station<C = C>>(
 {
     let offer = store.slots() as u64;
     let Ok(version) = write_all(
-        store, writer, pen, 0, offer, first.url, first.body, 500, false,
+        store, writer, station, 0, offer, first.url, first.body, 500, false,
     ) else {
         panic!(rt; "both slots are free")
     };
@@ -133,7 +133,7 @@ fn give_up<R: Abort, C: Cell, O: Origin, St: Station<C = C>>(
     rt: &R,
     store: &Store<C, O>,
     writer: &mut Pass<C>,
-    pen: &mut St,
+    station: &mut St,
     first: Asked,
     second: Asked,
 )
@@ -142,7 +142,7 @@ fn give_up<R: Abort, C: Cell, O: Origin, St: Station<C = C>>(
 {
     let offer = store.slots() as u64;
     let Ok(version) = write_all(
-        store, writer, pen, 0, offer, first.url, first.body, 500, false,
+        store, writer, station, 0, offer, first.url, first.body, 500, false,
     ) else {
         panic!(rt; "both slots are free")
     };
@@ -150,7 +150,7 @@ fn give_up<R: Abort, C: Cell, O: Origin, St: Station<C = C>>(
     abort(store, writer, 0);
     let left = look(store, writer, 0);
     assert_eq!(rt; left, word(false, Stage::Gone, 0));
-    fill_again(rt, store, writer, pen, second, 2);
+    fill_again(rt, store, writer, station, second, 2);
 }
 
 /// The writer gives up while another pass reads.
@@ -158,7 +158,7 @@ fn give_up_while_read<R: Abort, C: Cell, O: Origin, St: Station<C = C>>(
     rt: &R,
     store: &Store<C, O>,
     writer: &mut Pass<C>,
-    pen: &mut St,
+    station: &mut St,
     reader: &mut Pass<C>,
     first: Asked,
     second: Asked,
@@ -167,10 +167,10 @@ fn give_up_while_read<R: Abort, C: Cell, O: Origin, St: Station<C = C>>(
     requires reader { IsIdle C.tells C.state O.offers store.now reader.old 0 }
     requires offered { AreOffered (basis C.tells C.state O.offers store.now) first.url.now first.body.now second.url.now second.body.now }
 {
-    write_and_open(rt, store, writer, pen, reader, first);
+    write_and_open(rt, store, writer, station, reader, first);
     abort(store, writer, 0);
     let ended = word(false, Stage::Halted, 1);
-    leave_last(rt, store, writer, pen, reader, second, ended);
+    leave_last(rt, store, writer, station, reader, second, ended);
 }
 
 /// Another pass dooms the entry and leaves before the writer has finished.
@@ -178,7 +178,7 @@ fn doom_and_leave<R: Abort, C: Cell, O: Origin, St: Station<C = C>>(
     rt: &R,
     store: &Store<C, O>,
     writer: &mut Pass<C>,
-    pen: &mut St,
+    station: &mut St,
     reader: &mut Pass<C>,
     first: Asked,
     second: Asked,
@@ -187,17 +187,17 @@ fn doom_and_leave<R: Abort, C: Cell, O: Origin, St: Station<C = C>>(
     requires reader { IsIdle C.tells C.state O.offers store.now reader.old 0 }
     requires offered { AreOffered (basis C.tells C.state O.offers store.now) first.url.now first.body.now second.url.now second.body.now }
 {
-    write_and_open(rt, store, writer, pen, reader, first);
+    write_and_open(rt, store, writer, station, reader, first);
     let doomed = doom(store, reader, 0);
     assert_eq!(rt; doomed, word(true, Stage::Appending, 1));
     close_entry(store, reader, 0);
-    let Ok(ended) = finish(store, writer, pen, 0) else {
+    let Ok(ended) = finish(store, writer, station, 0) else {
         panic!(rt; "no station fails")
     };
     assert_eq!(rt; ended, Ended::Doomed { version: 1 });
     let left = look(store, writer, 0);
     assert_eq!(rt; left, word(true, Stage::Gone, 0));
-    fill_again(rt, store, writer, pen, second, 2);
+    fill_again(rt, store, writer, station, second, 2);
 }
 
 /// Another pass dooms the entry, and reads it until the writer has finished.
@@ -205,7 +205,7 @@ fn doom_while_read<R: Abort, C: Cell, O: Origin, St: Station<C = C>>(
     rt: &R,
     store: &Store<C, O>,
     writer: &mut Pass<C>,
-    pen: &mut St,
+    station: &mut St,
     reader: &mut Pass<C>,
     first: Asked,
     second: Asked,
@@ -214,15 +214,15 @@ fn doom_while_read<R: Abort, C: Cell, O: Origin, St: Station<C = C>>(
     requires reader { IsIdle C.tells C.state O.offers store.now reader.old 0 }
     requires offered { AreOffered (basis C.tells C.state O.offers store.now) first.url.now first.body.now second.url.now second.body.now }
 {
-    write_and_open(rt, store, writer, pen, reader, first);
+    write_and_open(rt, store, writer, station, reader, first);
     let doomed = doom(store, reader, 0);
     assert_eq!(rt; doomed, word(true, Stage::Appending, 1));
-    let Ok(finished) = finish(store, writer, pen, 0) else {
+    let Ok(finished) = finish(store, writer, station, 0) else {
         panic!(rt; "no station fails")
     };
     assert_eq!(rt; finished, Ended::Doomed { version: 1 });
     let ended = word(true, Stage::Closed, 1);
-    leave_last(rt, store, writer, pen, reader, second, ended);
+    leave_last(rt, store, writer, station, reader, second, ended);
 }
 
 /// How the first entry of a store comes to its end.
@@ -239,7 +239,7 @@ fn end<R: Abort, C: Cell, O: Origin, St: Station<C = C>>(
     rt: &R,
     store: &Store<C, O>,
     writer: &mut Pass<C>,
-    pen: &mut St,
+    station: &mut St,
     reader: &mut Pass<C>,
     first: Asked,
     second: Asked,
@@ -250,12 +250,12 @@ fn end<R: Abort, C: Cell, O: Origin, St: Station<C = C>>(
     requires offered { AreOffered (basis C.tells C.state O.offers store.now) first.url.now first.body.now second.url.now second.body.now }
 {
     match case {
-        Case::GivenUp => give_up(rt, store, writer, pen, first, second),
+        Case::GivenUp => give_up(rt, store, writer, station, first, second),
         Case::GivenUpWhileRead => {
-            give_up_while_read(rt, store, writer, pen, reader, first, second)
+            give_up_while_read(rt, store, writer, station, reader, first, second)
         }
-        Case::Doomed => doom_and_leave(rt, store, writer, pen, reader, first, second),
-        Case::DoomedWhileRead => doom_while_read(rt, store, writer, pen, reader, first, second),
+        Case::Doomed => doom_and_leave(rt, store, writer, station, reader, first, second),
+        Case::DoomedWhileRead => doom_while_read(rt, store, writer, station, reader, first, second),
     }
 }
 

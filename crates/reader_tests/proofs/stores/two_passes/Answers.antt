@@ -1,7 +1,6 @@
-use Rattle.std.proofs.Common.{ap, false, refl, sym, ◌∙◌}
+use Rattle.std.proofs.Common.{false, refl, sym, ◌∙◌}
 use Rattle.chain_tests.specs.Sheets.{sheet_state}
 use Rattle.chain_tests.proofs.Popped.{popped}
-use Rattle.store_rule.specs.Ground.{Offers}
 use Rattle.store_rule.specs.Passes.{IsNewOf, basis}
 use Rattle.writer_tests.specs.Offers.{offers_of}
 use Rattle.writer_tests.proofs.Ready.{is_first, is_ok_of, new_idle}
@@ -14,7 +13,6 @@ returns c = let e = c.in-Ok-fresh.ensures in
       slot = e.counts.3;
       offer = is_first (basis false sheet_state offers_of c.in-Ok-fresh.store) record { first = c.in-Ok.first; second = record { url = c.new.result; body = c.new-2.result } } e.offers _ _ _ refl c.in-Ok.ensures.url c.in-Ok.ensures.body
           (c.check_url.ensures.ok.0 (is_ok_of c.check_url.result (sym c.is_err.ensures.value ∙ c.if-is_err.false)));
-      alone = λ a. ap (λ (z : Offers). z.alone a) e.offers;
       writer = λ t lt. new_idle false sheet_state offers_of c.in-Ok-fresh.store c.in_ok-writer.writer t lt first.1;
       reader = λ t lt. new_idle false sheet_state offers_of c.in-Ok-fresh.store c.in_ok-reader.reader t lt last.1;
     }

@@ -26,7 +26,6 @@ returns-in_default g c = let i = c.loop.invariant in record {
   went = λ e reads. let h = i.read e reads in went_on g.C.Cell.tells g.C.Cell.state g.O.Origin.offers c.args.store.now c.args.tab e c.args.pass.now c.loop.pass c.more-answer.new.pass c.args.out.now.items c.loop.out.items c.loop.piece c.more-answer.new.out c.more-answer.result h
       (c.more-answer.ensures.gave h.standing h.reads) c.in_default.not-Piece;
   stopped = λ e reads. tt;
-  stays = tt;
   others = reader_on g.C.Cell.tells g.C.Cell.state g.O.Origin.offers c.args.store.now c.args.tab c.args.pass.now c.loop.pass c.more-answer.new.pass i.follows c.more-answer.ensures.others;
   inner = c.more-answer.ensures.inner ∙ i.inner;
   length = c.more-answer.ensures.length ∙ i.room;
@@ -60,10 +59,6 @@ pub returns-in_err-extend_from_slice-clause-stopped : goal.returns-in_err-extend
 returns-in_err-extend_from_slice-clause-stopped g c e reads = let h = c.loop.invariant.read e reads in
     let piece = subst (λ (z : More). Gave g.C.Cell.tells g.C.Cell.state g.O.Origin.offers c.args.store.now c.args.tab c.loop.pass h.standing c.loop.piece c.more-answer.new.out c.more-answer.new.pass z) c.in-Piece.is (c.more-answer.ensures.gave h.standing h.reads) in
     on_err _ c.from_residual.result (some_given g.C.Cell.tells g.C.Cell.state g.O.Origin.offers c.args.store.now c.args.tab e c.args.pass.now c.loop.pass c.more-answer.new.pass c.args.out.now.items c.loop.out.items c.loop.piece c.more-answer.new.out c.in-Piece.count h piece)
-
-pub returns-in_err-extend_from_slice-clause-stays : goal.returns-in_err-extend_from_slice-clause-stays
-returns-in_err-extend_from_slice-clause-stays g c = let i = c.loop.invariant in let h = i.read c.requires.reads.0 c.requires.reads.1 in
-    let piece = subst (λ (z : More). Gave g.C.Cell.tells g.C.Cell.state g.O.Origin.offers c.args.store.now c.args.tab c.loop.pass h.standing c.loop.piece c.more-answer.new.out c.more-answer.new.pass z) c.in-Piece.is (c.more-answer.ensures.gave h.standing h.reads) in on_err _ c.from_residual.result (_, piece.reads)
 
 pub returns-in_err-extend_from_slice-clause-others : goal.returns-in_err-extend_from_slice-clause-others
 returns-in_err-extend_from_slice-clause-others g c = reader_on g.C.Cell.tells g.C.Cell.state g.O.Origin.offers c.args.store.now c.args.tab c.args.pass.now c.loop.pass c.more-answer.new.pass c.loop.invariant.follows c.more-answer.ensures.others
