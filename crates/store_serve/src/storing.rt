@@ -1,10 +1,10 @@
 // An entry is written to its end, and a response is stored whole.
-ghost use Rattle.std.specs.Prelude.{IfErr, IfOk, IsErrOf, OnErr, length, ◌-◌, ◌≡◌, ℕ};
+ghost use Rattle.std.specs.Prelude.{IfErr, IfOk, IsErrOf, OnErr, length, ◌-◌, ◌≡◌, ◌↔◌, ℕ};
 ghost use Rattle.core_model.specs.Tabs.{InnerIsFree, tab_at};
 ghost use Rattle.core_model.specs.declared.tab.Tab.TheVariants.{Free};
 ghost use Rattle.plain_model.specs.Serving.{bytes_of};
 ghost use Rattle.rock_io.specs.Faults.{Rose};
-ghost use Rattle.rock_writer.specs.Beginning.{MayBegin};
+ghost use Rattle.rock_writer.specs.Beginning.{IsTooLong, MayBegin};
 ghost use Rattle.rock_writer.specs.Entries.{Entry};
 ghost use Rattle.rock_writer.specs.Passes.{FollowsWriting};
 ghost use Rattle.store_rule.specs.Passes.{basis, view};
@@ -80,6 +80,7 @@ pub fn put_entry<C: Cell, O: Origin, St: Station<C = C>>(
     requires body { (basis C.tells C.state O.offers store.now).offers.body (offer - (basis C.tells C.state O.offers store.now).setting.slots) ≡ bytes_of body.now }
     ensures ok { IfOk result (λ ended. PutWhole C.tells C.state O.offers store.now tab offer url.now durable pass.old pass.new ended) }
     ensures err { IfErr result (λ fault. NotPut C.tells C.state O.offers store.now tab offer url.now durable pass.old pass.new fault) }
+    ensures long { IsErrOf result (PutFault.Begin BeginFault.LongUrl) ↔ IsTooLong (basis C.tells C.state O.offers store.now) url.now }
     ensures free { tab_at (view pass.new) tab ≡ Free }
     ensures inner { InnerIsFree (view pass.new) }
     ensures others { FollowsWriting C.tells C.state O.offers store.now tab pass.old pass.new }

@@ -4,7 +4,7 @@ use Rattle.rw_anchor.proofs.LastTabs.{may_give_up}
 use Rattle.rw_anchor.proofs.leave.Goals as goal
 
 pub give_up-requires-2-clause-last : goal.give_up-requires-2-clause-last
-give_up-requires-2-clause-last g c κs within = may_give_up g.C.Cell.tells g.C.Cell.state g.O.Origin.offers c.args.store.now c.args.pass.now c.exit-word.new.pass c.args.tab _ c.requires.tab
+give_up-requires-2-clause-last g c = may_give_up g.C.Cell.tells g.C.Cell.state g.O.Origin.offers c.args.store.now c.args.pass.now c.exit-word.new.pass c.args.tab _ c.requires.tab
     (c.requires.counted (sym c.is_last.ensures ∙ c.if-is_last.false)) c.exit-word.ensures.made (sym c.is_left_over.ensures.number ∙ c.if-not-is_left_over.false) c.requires.inner
 
 pub returns-clause-others : goal.returns-clause-others

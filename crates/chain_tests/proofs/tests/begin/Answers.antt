@@ -10,7 +10,7 @@ use Rattle.rw_anchor.proofs.TwoPasses.{free_to_name, looked_find, looked_last}
 use Rattle.chain_tests.proofs.tests.begin.Goals as goal
 
 pub take-requires-clause-may : goal.take-requires-clause-may
-take-requires-clause-may g c κs within = let b = basis g.C.Cell.tells g.C.Cell.state g.O.Origin.offers c.args.store.now in let m = c.look-looked.ensures.made in record {
+take-requires-clause-may g c = let b = basis g.C.Cell.tells g.C.Cell.state g.O.Origin.offers c.args.store.now in let m = c.look-looked.ensures.made in record {
   own = c.draw.ensures.kept.own;
   can = record {
     allowed = may_take b (view c.look-looked.new.pass) (view c.draw.new.pass) c.in-Ok.version c.in-Ok.ensures.ok c.args.tab c.args.anchor c.requires.anchor c.requires.idle.below

@@ -9,14 +9,14 @@ use Rattle.chain_tests.proofs.Popped.{popped}
 use Rattle.chain_tests.proofs.tests.one_pass_follows_what_another_writes.Goals as goal
 
 pub follow-requires-clause-ready : goal.follow-requires-clause-ready
-follow-requires-clause-ready g c κs = let o = c.expect-offered.result in let e = c.in-Ok.ensures in
+follow-requires-clause-ready g c = let o = c.expect-offered.result in let e = c.in-Ok.ensures in
     c.stores_are_ready.ensures.two (basis false sheet_state offers_of c.in-Ok.store) o e.counts.0 e.counts.3 e.offers (of_some (λ (z : Offered). AreAt 5 z.urls) _ o c.expect-offered.ensures c.new.ensures.urls) (of_some (λ (z : Offered). z.body ≡ 500) _ o c.expect-offered.ensures c.new.ensures.body)
 
 pub follow-requires-clause-url : goal.follow-requires-clause-url
-follow-requires-clause-url g c κs = sym (ap (λ (z : Offers). z.url 1) c.in-Ok.ensures.offers)
+follow-requires-clause-url g c = sym (ap (λ (z : Offers). z.url 1) c.in-Ok.ensures.offers)
 
 pub follow-requires-clause-writer : goal.follow-requires-clause-writer
-follow-requires-clause-writer g c κs = let a0 = popped (IsNewOf _ _ _ c.in-Ok.store) _ _ _ _ c.in-Ok.ensures.passes.1 c.pop.ensures.items c.expect-reader.ensures in let a1 = popped (IsNewOf _ _ _ c.in-Ok.store) _ _ _ _ a0.0 c.pop-2.ensures.items c.expect-writer.ensures in new_is_idle _ _ _ c.in-Ok.store c.expect-writer.result a1.1
+follow-requires-clause-writer g c = let a0 = popped (IsNewOf _ _ _ c.in-Ok.store) _ _ _ _ c.in-Ok.ensures.passes.1 c.pop.ensures.items c.expect-reader.ensures in let a1 = popped (IsNewOf _ _ _ c.in-Ok.store) _ _ _ _ a0.0 c.pop-2.ensures.items c.expect-writer.ensures in new_is_idle _ _ _ c.in-Ok.store c.expect-writer.result a1.1
 
 pub follow-requires-clause-reader : goal.follow-requires-clause-reader
-follow-requires-clause-reader g c κs = let a0 = popped (IsNewOf _ _ _ c.in-Ok.store) _ _ _ _ c.in-Ok.ensures.passes.1 c.pop.ensures.items c.expect-reader.ensures in new_is_idle _ _ _ c.in-Ok.store c.expect-reader.result a0.1
+follow-requires-clause-reader g c = let a0 = popped (IsNewOf _ _ _ c.in-Ok.store) _ _ _ _ c.in-Ok.ensures.passes.1 c.pop.ensures.items c.expect-reader.ensures in new_is_idle _ _ _ c.in-Ok.store c.expect-reader.result a0.1

@@ -4,22 +4,22 @@ use Rattle.chain_tests.proofs.Writers.{claimed_writer, grown_writer, may_claim, 
 use Rattle.chain_tests.proofs.tests.write_front.Goals as goal
 
 pub claim-requires-after_bounds : goal.claim-requires-after_bounds
-claim-requires-after_bounds g c κs within = let begun = c.if-not-begin_entry.ensures refl in
+claim-requires-after_bounds g c = let begun = c.if-not-begin_entry.ensures refl in
     may_claim g.C.Cell.tells g.C.Cell.state g.O.Origin.offers c.args.store.now 0 c.begin_entry.new.pass _ begun.1 (omega arith) refl (λ e. cc) refl
 
 pub claim-requires-2-after_bounds : goal.claim-requires-2-after_bounds
-claim-requires-2-after_bounds g c κs within = let begun = c.if-not-begin_entry.ensures refl in
+claim-requires-2-after_bounds g c = let begun = c.if-not-begin_entry.ensures refl in
     let one = claimed_writer g.C.Cell.tells g.C.Cell.state g.O.Origin.offers c.args.store.now 0 c.begin_entry.new.pass c.claim.new.pass _ c.in-Ok._front begun.1 c.in-Ok.ensures.ok c.claim.ensures.others.own in
     may_claim g.C.Cell.tells g.C.Cell.state g.O.Origin.offers c.args.store.now 0 c.claim.new.pass _ one (omega arith) refl (λ e. cc) refl
 
 pub write_piece-requires-clause-may : goal.write_piece-requires-clause-may
-write_piece-requires-clause-may g c κs within = let begun = c.if-not-begin_entry.ensures refl in
+write_piece-requires-clause-may g c = let begun = c.if-not-begin_entry.ensures refl in
     let one = claimed_writer g.C.Cell.tells g.C.Cell.state g.O.Origin.offers c.args.store.now 0 c.begin_entry.new.pass c.claim.new.pass _ c.in-Ok._front begun.1 c.in-Ok.ensures.ok c.claim.ensures.others.own in
     let two = claimed_writer g.C.Cell.tells g.C.Cell.state g.O.Origin.offers c.args.store.now 0 c.claim.new.pass c.claim-2.new.pass _ c.in-Ok-claim._back one c.in-Ok-claim.ensures.ok c.claim-2.ensures.others.own in
     may_front g.C.Cell.tells g.C.Cell.state g.O.Origin.offers c.args.store.now 0 c.args.entry begun.0 c.in-Ok._front c.requires.entry c.claim-2.new.pass c.in-Ok-claim._back c.requires.ready two
 
 pub advance-requires-after_bounds : goal.advance-requires-after_bounds
-advance-requires-after_bounds g c κs within = let begun = c.if-not-begin_entry.ensures refl in
+advance-requires-after_bounds g c = let begun = c.if-not-begin_entry.ensures refl in
     let one = claimed_writer g.C.Cell.tells g.C.Cell.state g.O.Origin.offers c.args.store.now 0 c.begin_entry.new.pass c.claim.new.pass _ c.in-Ok._front begun.1 c.in-Ok.ensures.ok c.claim.ensures.others.own in
     let two = claimed_writer g.C.Cell.tells g.C.Cell.state g.O.Origin.offers c.args.store.now 0 c.claim.new.pass c.claim-2.new.pass _ c.in-Ok-claim._back one c.in-Ok-claim.ensures.ok c.claim-2.ensures.others.own in
     may_raise g.C.Cell.tells g.C.Cell.state g.O.Origin.offers c.args.store.now 0 c.write_piece.new.pass _ Stage.Appending (c.if-not-write_piece.ensures.done refl _ two.is) (refl, (c.in-Ok-claim._back, refl)) (λ e. refl)

@@ -3,4 +3,4 @@ use Rattle.reader_tests.specs.Tabs.{IsWriter}
 use Rattle.follow_tests.proofs.threads.write_slowly.Goals as goal
 
 pub end-requires-clause-writes : goal.end-requires-clause-writes
-end-requires-clause-writes g c κs within = subst (IsWriter g.C.Cell.tells g.C.Cell.state g.O.Origin.offers c.args.store.now c.write_on-4.new.pass 0 c.args.body.now) (sym c.requires.long) c.in_ok-write_on-4.ensures.writes
+end-requires-clause-writes g c = subst (IsWriter g.C.Cell.tells g.C.Cell.state g.O.Origin.offers c.args.store.now c.write_on-4.new.pass 0 c.args.body.now) (sym c.requires.long) c.in_ok-write_on-4.ensures.writes

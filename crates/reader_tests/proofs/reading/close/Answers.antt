@@ -3,7 +3,7 @@ use Rattle.reader_tests.proofs.Readers.{closed_idle, may_close}
 use Rattle.reader_tests.proofs.reading.close.Goals as goal
 
 pub close_entry-requires-after_bounds : goal.close_entry-requires-after_bounds
-close_entry-requires-after_bounds g c κs within = may_close g.C.Cell.tells g.C.Cell.state g.O.Origin.offers c.args.store.now c.args.tab c.args.pass.now c.args.pass.now c.requires.reads refl c.requires.reads.reads.own
+close_entry-requires-after_bounds g c = may_close g.C.Cell.tells g.C.Cell.state g.O.Origin.offers c.args.store.now c.args.tab c.args.pass.now c.args.pass.now c.requires.reads refl c.requires.reads.reads.own
 
 pub returns : goal.returns
 returns g c = record {

@@ -18,21 +18,21 @@ pub kept_of-kept-requires-clause-slots : goal.kept_of-kept-requires-clause-slots
 kept_of-kept-requires-clause-slots g c κs within = rw c.deref_mut.ensures.value (c.opened_slots_are_wide_and_few.ensures.slots _ _ _ _ c.requires.size c.in-Ok.ensures.shape)
 
 pub store_of-requires-clause-slots : goal.store_of-requires-clause-slots
-store_of-requires-clause-slots g c κs within =
+store_of-requires-clause-slots g c =
     let long : length c.kept_of-kept.new.cells ≡ length c.deref_mut.result.now = c.kept_of-kept.auto.cells in
     let whole = filled c.kept_of-kept.new.cells (drop (length c.kept_of-kept.new.cells) c.in-Ok.opened.cells.items) c.in-Ok.opened.cells.len (omega arith) in
     let same = ap (map g.V.C.Cell.state) whole ∙ (c.kept_of-kept.ensures.cells ∙ ap (map g.V.C.Cell.state) c.deref_mut.ensures.value) in
     few_of g.V.C.Cell.state _ _ same (c.opened_slots_are_wide_and_few.ensures.few _ _ _ _ c.in-Ok.ensures.shape)
 
 pub store_of-requires-clause-row : goal.store_of-requires-clause-row
-store_of-requires-clause-row g c κs within =
+store_of-requires-clause-row g c =
     let long : length c.kept_of-kept.new.cells ≡ length c.deref_mut.result.now = c.kept_of-kept.auto.cells in
     let whole = filled c.kept_of-kept.new.cells (drop (length c.kept_of-kept.new.cells) c.in-Ok.opened.cells.items) c.in-Ok.opened.cells.len (omega arith) in
     let same = ap (map g.V.C.Cell.state) whole ∙ (c.kept_of-kept.ensures.cells ∙ ap (map g.V.C.Cell.state) c.deref_mut.ensures.value) in
     row_of g.V.C.Cell.state c.args.slot _ _ (ap (map shape) same ∙ c.in-Ok.ensures.shape.cell_shapes)
 
 pub store_of-requires-clause-sure : goal.store_of-requires-clause-sure
-store_of-requires-clause-sure g c κs within =
+store_of-requires-clause-sure g c =
     let long : length c.kept_of-kept.new.cells ≡ length c.deref_mut.result.now = c.kept_of-kept.auto.cells in
     let whole = filled c.kept_of-kept.new.cells (drop (length c.kept_of-kept.new.cells) c.in-Ok.opened.cells.items) c.in-Ok.opened.cells.len (omega arith) in
     let same = ap (map g.V.C.Cell.state) whole ∙ (c.kept_of-kept.ensures.cells ∙ ap (map g.V.C.Cell.state) c.deref_mut.ensures.value) in
@@ -40,7 +40,7 @@ store_of-requires-clause-sure g c κs within =
     (λ told. let opened = (c.in-Ok.ensures.opened (g.met.V.Volume.cells_tell told)).1 in (bytes_of opened.was, same ∙ opened.cells_are))
 
 pub store_of-requires-clause-kept : goal.store_of-requires-clause-kept
-store_of-requires-clause-kept g c κs within =
+store_of-requires-clause-kept g c =
     let long : length c.kept_of-kept.new.cells ≡ length c.deref_mut.result.now = c.kept_of-kept.auto.cells in
     let whole = filled c.kept_of-kept.new.cells (drop (length c.kept_of-kept.new.cells) c.in-Ok.opened.cells.items) c.in-Ok.opened.cells.len (omega arith) in
     rebuilds g.V.C.Cell.state g.V.C.Cell.tells c.args.slot c.args.anchors _ _ c.kept_of-kept.result (ap (map g.V.C.Cell.state) whole ∙ c.kept_of-kept.ensures.cells) c.kept_of-kept.ensures.kept

@@ -21,13 +21,13 @@ pub known_of-requires-clause-reads : goal.known_of-requires-clause-reads
 known_of-requires-clause-reads g c = of_reader (λ r. r.turn ≡ NoTurn) (λ r. Unit {0}) (tab_at (view c.args.pass.now) c.args.tab) (λ r h. tt) c.requires.reads
 
 pub read_on-requires-clause-may : goal.read_on-requires-clause-may
-read_on-requires-clause-may g c κs within = c.requires
+read_on-requires-clause-may g c = c.requires
 
 pub read_on-requires-clause-there : goal.read_on-requires-clause-there
-read_on-requires-clause-there g c κs within = may_locate g.C.Cell.tells g.C.Cell.state g.O.Origin.offers c.args.store.now c.args.tab c.args.pass.now (length c.args.out.now) c.requires (c.in-Slot.ensures.slot refl)
+read_on-requires-clause-there g c = may_locate g.C.Cell.tells g.C.Cell.state g.O.Origin.offers c.args.store.now c.args.tab c.args.pass.now (length c.args.out.now) c.requires (c.in-Slot.ensures.slot refl)
 
 pub read_on-requires-clause-known : goal.read_on-requires-clause-known
-read_on-requires-clause-known g c κs within = has_held g.C.Cell.tells g.C.Cell.state g.O.Origin.offers c.args.store.now c.args.tab c.args.pass.now (c.in-Slot.ensures.slot refl)
+read_on-requires-clause-known g c = has_held g.C.Cell.tells g.C.Cell.state g.O.Origin.offers c.args.store.now c.args.tab c.args.pass.now (c.in-Slot.ensures.slot refl)
 
 pub returns-in-Slot-clause-gave : goal.returns-in-Slot-clause-gave
 returns-in-Slot-clause-gave g c = c.read_on.ensures.gave

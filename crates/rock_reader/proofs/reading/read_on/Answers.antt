@@ -17,7 +17,7 @@ pub place_of-place-requires-clause-reads : goal.place_of-place-requires-clause-r
 place_of-place-requires-clause-reads g c = of_reader (λ r. r.turn ≡ NoTurn) (λ r. Unit {0}) (tab_at (view c.args.pass.now) c.args.tab) (λ r h. tt) c.requires.may.reads
 
 pub look_on-found-requires-after_bounds : goal.look_on-found-requires-after_bounds
-look_on-found-requires-after_bounds g c κs within = c.requires.there
+look_on-found-requires-after_bounds g c = c.requires.there
 
 pub returns-in-NotWritten-clause-gave : goal.returns-in-NotWritten-clause-gave
 returns-in-NotWritten-clause-gave g c e reads = gave_none g.C.Cell.tells g.C.Cell.state g.O.Origin.offers c.args.store.now c.args.tab c.args.pass.now e reads c.look_on-found.new.pass c.look_on-found.result.epoch c.look_on-found.result.link
@@ -39,20 +39,20 @@ pub returns-in-NotWritten-clause-unfailed : goal.returns-in-NotWritten-clause-un
 returns-in-NotWritten-clause-unfailed g c ne = refl
 
 pub read_slot-requires-after_bounds : goal.read_slot-requires-after_bounds
-read_slot-requires-after_bounds g c κs within = may_read g.C.Cell.tells g.C.Cell.state g.O.Origin.offers c.args.store.now c.args.tab c.args.pass.now (length c.args.out.now) c.requires.may c.look_on-found.new.pass c.look_on-found.result.epoch c.look_on-found.result.link
+read_slot-requires-after_bounds g c = may_read g.C.Cell.tells g.C.Cell.state g.O.Origin.offers c.args.store.now c.args.tab c.args.pass.now (length c.args.out.now) c.requires.may c.look_on-found.new.pass c.look_on-found.result.epoch c.look_on-found.result.link
     c.look_on-found.ensures.found c.in_default.not-NotWritten c.look_on-found.ensures.others.own
 
 pub give-requires-clause-below : goal.give-requires-clause-below
-give-requires-clause-below g c κs within = c.requires.may.below
+give-requires-clause-below g c = c.requires.may.below
 
 pub give-requires-clause-held : goal.give-requires-clause-held
-give-requires-clause-held g c κs within = let b = c.requires.may.below in let h = c.requires.may.held in
+give-requires-clause-held g c = let b = c.requires.may.below in let h = c.requires.may.held in
     let same = read_held g.C.Cell.tells g.C.Cell.state g.O.Origin.offers c.args.store.now c.args.tab c.args.pass.now c.look_on-found.new.pass c.read_slot.new.pass (λ z. absurd (omega arith)) c.look_on-found.ensures.others c.read_slot.ensures.others in
     let long = buffer_long g.C.Cell.tells g.C.Cell.state g.O.Origin.offers c.args.store.now c.read_slot.new.pass c.args.tab (omega arith) c.read_slot.ensures.others.own in
     omega (arith, same, long)
 
 pub give-requires-clause-room : goal.give-requires-clause-room
-give-requires-clause-room g c κs within = let n = c.requires.may.enough in
+give-requires-clause-room g c = let n = c.requires.may.enough in
     let long = buffer_long g.C.Cell.tells g.C.Cell.state g.O.Origin.offers c.args.store.now c.read_slot.new.pass inner (omega arith) c.read_slot.ensures.others.own in omega (arith, long)
 
 pub returns-in-Ok-clause-gave : goal.returns-in-Ok-clause-gave

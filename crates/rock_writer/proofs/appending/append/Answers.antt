@@ -47,7 +47,7 @@ pub returns-in-Err-clause-failed : goal.returns-in-Err-clause-failed
 returns-in-Err-clause-failed g c is = c.in-Err.ensures.failed (err_of _ _ is)
 
 pub fill-requires-2-clause-within : goal.fill-requires-2-clause-within
-fill-requires-2-clause-within g c κs within = let ne0 : length c.args.bytes.now ≢ 0 = (λ z. false≢true (sym (sym c.is_empty.ensures ∙ c.if-is_empty.false) ∙ eq-eqb (length c.args.bytes.now) 0 z)) in let e = c.requires.0 in let may = c.requires.1 in let h = may.writes in let full : (draft_at c.args.pass.now.desks c.args.tab).held ≡ room_of (basis g.C.Cell.tells g.C.Cell.state g.O.Origin.offers c.args.store.now).slot = eqb-true _ _ (sym c.is_full.ensures ∙ c.if-not-is_full.false) in
+fill-requires-2-clause-within g c = let ne0 : length c.args.bytes.now ≢ 0 = (λ z. false≢true (sym (sym c.is_empty.ensures ∙ c.if-is_empty.false) ∙ eq-eqb (length c.args.bytes.now) 0 z)) in let e = c.requires.0 in let may = c.requires.1 in let h = may.writes in let full : (draft_at c.args.pass.now.desks c.args.tab).held ≡ room_of (basis g.C.Cell.tells g.C.Cell.state g.O.Origin.offers c.args.store.now).slot = eqb-true _ _ (sym c.is_full.ensures ∙ c.if-not-is_full.false) in
     let u = c.in_default.ensures.next e (may_flush g.C.Cell.tells g.C.Cell.state g.O.Origin.offers c.args.store.now c.args.tab e c.args.pass.now h c.args.bytes.now may.continues ne0 full) in u.0.drafts.within
 
 pub returns-clause-some : goal.returns-clause-some

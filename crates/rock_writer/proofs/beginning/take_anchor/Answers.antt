@@ -11,7 +11,7 @@ use Rattle.rock_writer.proofs.Seeing.{fresh_grows, grows_on, grows_same, grows_s
 use Rattle.rock_writer.proofs.beginning.take_anchor.Goals as goal
 
 pub take-requires-clause-may : goal.take-requires-clause-may
-take-requires-clause-may g c κs within = let looks = subst (λ n. Steps (basis g.C.Cell.tells g.C.Cell.state g.O.Origin.offers c.args.store.now) (view c.args.pass.now) (Look c.args.anchor) n (view c.look-looked.new.pass)) (sym c.look-looked.ensures.made.answers) c.look-looked.ensures.made.step in
+take-requires-clause-may g c = let looks = subst (λ n. Steps (basis g.C.Cell.tells g.C.Cell.state g.O.Origin.offers c.args.store.now) (view c.args.pass.now) (Look c.args.anchor) n (view c.look-looked.new.pass)) (sym c.look-looked.ensures.made.answers) c.look-looked.ensures.made.step in
     take_may g.C.Cell.tells g.C.Cell.state g.O.Origin.offers c.args.store.now c.args.pass.now c.look-looked.new.pass c.draw.new.pass c.args.tab c.args.anchor (word_number c.look-looked.result) c.in-Ok.version c.requires looks c.in-Ok.ensures.ok c.draw.ensures.kept.own (c.is_open.ensures.free c.if-not-is_open.false)
 
 pub returns-in-Ok-take-clause-ok : goal.returns-in-Ok-take-clause-ok

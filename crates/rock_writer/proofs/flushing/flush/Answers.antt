@@ -20,7 +20,7 @@ pub returns-in_default-reserve_both-clause-others : goal.returns-in_default-rese
 returns-in_default-reserve_both-clause-others g c = writing_evicting g.C.Cell.tells g.C.Cell.state g.O.Origin.offers c.args.store.now c.args.tab c.args.pass.now c.reserve_both.new.pass c.reserve_both.ensures.others
 
 pub publish_piece-requires-after_bounds : goal.publish_piece-requires-after_bounds
-publish_piece-requires-after_bounds g c κs within = let e = c.requires.0 in let h = c.requires.1 in let ws = whole_size (basis g.C.Cell.tells g.C.Cell.state g.O.Origin.offers c.args.store.now) e (c.written_meta_is_spelled.ensures.size (key_of (url_in (basis g.C.Cell.tells g.C.Cell.state g.O.Origin.offers c.args.store.now) e)) (url_in (basis g.C.Cell.tells g.C.Cell.state g.O.Origin.offers c.args.store.now) e) (c.keys_have_16_bytes.ensures.length (url_in (basis g.C.Cell.tells g.C.Cell.state g.O.Origin.offers c.args.store.now) e))) in
+publish_piece-requires-after_bounds g c = let e = c.requires.0 in let h = c.requires.1 in let ws = whole_size (basis g.C.Cell.tells g.C.Cell.state g.O.Origin.offers c.args.store.now) e (c.written_meta_is_spelled.ensures.size (key_of (url_in (basis g.C.Cell.tells g.C.Cell.state g.O.Origin.offers c.args.store.now) e)) (url_in (basis g.C.Cell.tells g.C.Cell.state g.O.Origin.offers c.args.store.now) e) (c.keys_have_16_bytes.ensures.length (url_in (basis g.C.Cell.tells g.C.Cell.state g.O.Origin.offers c.args.store.now) e))) in
     may_publish_piece g.C.Cell.tells g.C.Cell.state g.O.Origin.offers c.args.store.now c.args.pass.now c.args.tab e h ws c.reserve_both.new.pass c.in-Ok.slot c.in-Ok.next (c.in-Ok.ensures.rests e h.writes) c.reserve_both.ensures.others.desks
 
 pub returns-in-Err-clause-err : goal.returns-in-Err-clause-err
@@ -42,7 +42,7 @@ returns-in-Err-clause-others g c = writing_on g.C.Cell.tells g.C.Cell.state g.O.
     (writing_evicting g.C.Cell.tells g.C.Cell.state g.O.Origin.offers c.args.store.now c.args.tab c.args.pass.now c.reserve_both.new.pass c.reserve_both.ensures.others) c.publish_piece.ensures.others
 
 pub raise_first-requires-clause-may : goal.raise_first-requires-clause-may
-raise_first-requires-clause-may g c κs within none = let e = c.requires.0 in let h = c.requires.1 in let ws = whole_size (basis g.C.Cell.tells g.C.Cell.state g.O.Origin.offers c.args.store.now) e (c.written_meta_is_spelled.ensures.size (key_of (url_in (basis g.C.Cell.tells g.C.Cell.state g.O.Origin.offers c.args.store.now) e)) (url_in (basis g.C.Cell.tells g.C.Cell.state g.O.Origin.offers c.args.store.now) e) (c.keys_have_16_bytes.ensures.length (url_in (basis g.C.Cell.tells g.C.Cell.state g.O.Origin.offers c.args.store.now) e))) in let x = at_hand (tab_at (view c.args.pass.now) c.args.tab) (writer_as (basis g.C.Cell.tells g.C.Cell.state g.O.Origin.offers c.args.store.now) e h.writes.published h.writes.end (Rattle.core_model.specs.Chains.slots_of_link h.writes.end)) c.in-Some.writing h.writes.rests.is (sym c.in-Some.is ∙ c.writing.ensures) in
+raise_first-requires-clause-may g c none = let e = c.requires.0 in let h = c.requires.1 in let ws = whole_size (basis g.C.Cell.tells g.C.Cell.state g.O.Origin.offers c.args.store.now) e (c.written_meta_is_spelled.ensures.size (key_of (url_in (basis g.C.Cell.tells g.C.Cell.state g.O.Origin.offers c.args.store.now) e)) (url_in (basis g.C.Cell.tells g.C.Cell.state g.O.Origin.offers c.args.store.now) e) (c.keys_have_16_bytes.ensures.length (url_in (basis g.C.Cell.tells g.C.Cell.state g.O.Origin.offers c.args.store.now) e))) in let x = at_hand (tab_at (view c.args.pass.now) c.args.tab) (writer_as (basis g.C.Cell.tells g.C.Cell.state g.O.Origin.offers c.args.store.now) e h.writes.published h.writes.end (Rattle.core_model.specs.Chains.slots_of_link h.writes.end)) c.in-Some.writing h.writes.rests.is (sym c.in-Some.is ∙ c.writing.ensures) in
     may_raise g.C.Cell.tells g.C.Cell.state g.O.Origin.offers c.args.store.now c.args.pass.now c.args.tab e h ws c.reserve_both.new.pass c.in-Ok.slot c.in-Ok.next (c.in-Ok.ensures.rests e h.writes) c.reserve_both.ensures.others.desks
     c.publish_piece.new.pass _ c.in_default-publish_piece.ensures.ok c.publish_piece.ensures.others.own (sym (ap WritingAt.published x) ∙ none)
 

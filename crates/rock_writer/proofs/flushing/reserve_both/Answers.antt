@@ -12,7 +12,7 @@ returns-in_err-slot-clause-halts g c = let e = c.requires.0 in let h = c.require
     (rests_on g.C.Cell.tells g.C.Cell.state g.O.Origin.offers c.args.store.now c.args.tab e h.published h.end c.args.pass.now c.slot_for_piece.new.pass (slots_of_link h.end) h.rests c.in_err-slot.ensures.others.own c.in_err-slot.ensures.err.out.tabs))
 
 pub reserve-requires-after_bounds : goal.reserve-requires-after_bounds
-reserve-requires-after_bounds g c κs within = let e = c.requires.0 in let h = c.requires.1 in
+reserve-requires-after_bounds g c = let e = c.requires.0 in let h = c.requires.1 in
     may_claim g.C.Cell.tells g.C.Cell.state g.O.Origin.offers c.args.store.now c.args.tab e h.published h.end c.slot_for_piece.new.pass (c.in_ok-slot.slot ∷ [])
     (slot_rests g.C.Cell.tells g.C.Cell.state g.O.Origin.offers c.args.store.now c.args.tab e h.published h.end c.args.pass.now c.slot_for_piece.new.pass c.in_ok-slot.slot c.args.pass.now.hand c.slot_for_piece.new.pass.hand h.rests c.in_ok-slot.ensures.ok c.in_ok-slot.ensures.others.own) (omega arith)
 

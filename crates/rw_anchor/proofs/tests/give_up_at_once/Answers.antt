@@ -19,7 +19,7 @@ use Rattle.rw_anchor.proofs.TwoPasses.{free_to_name, looked_find, looked_last}
 use Rattle.rw_anchor.proofs.tests.give_up_at_once.Goals as goal
 
 pub take-requires-clause-may : goal.take-requires-clause-may
-take-requires-clause-may g c κs within = let b = basis g.C.Cell.tells g.C.Cell.state g.O.Origin.offers c.args.store.now in let m = c.look-looked.ensures.made in let one = c.requires.anchors in record {
+take-requires-clause-may g c = let b = basis g.C.Cell.tells g.C.Cell.state g.O.Origin.offers c.args.store.now in let m = c.look-looked.ensures.made in let one = c.requires.anchors in record {
   own = c.draw.ensures.kept.own;
   can = record {
     allowed = may_take b (view c.look-looked.new.pass) (view c.draw.new.pass) c.in-Ok.version c.in-Ok.ensures.ok 0 0 (omega arith) (omega arith)
@@ -31,7 +31,7 @@ take-requires-clause-may g c κs within = let b = basis g.C.Cell.tells g.C.Cell.
 }
 
 pub store_side-requires-after_bounds : goal.store_side-requires-after_bounds
-store_side-requires-after_bounds g c κs within = let b = basis g.C.Cell.tells g.C.Cell.state g.O.Origin.offers c.args.store.now in let one = c.requires.anchors in let m = c.look-looked.ensures.made in let made = c.in-Ok-take.ensures.ok in
+store_side-requires-after_bounds g c = let b = basis g.C.Cell.tells g.C.Cell.state g.O.Origin.offers c.args.store.now in let one = c.requires.anchors in let m = c.look-looked.ensures.made in let made = c.in-Ok-take.ensures.ok in
     let inner_free = ap is_free (ap (λ z. get_or z inner Tab.Free) (c.draw.ensures.tabs ∙ c.look-looked.ensures.tabs) ∙ ap (λ z. tab_at z inner) c.requires.pass.fresh) in
     let vacant = ap is_vacant (sym made.answers) ∙ sym c.is_vacant.ensures.number ∙ c.if-not-is_vacant.false in
     let won = sym made.answers ∙ m.answers ∙ sym (looked_last b _ _ _ 0 m.step) ∙ sym (same_find b (view c.look-looked.new.pass) (view c.draw.new.pass) c.in-Ok.version c.in-Ok.ensures.ok 0) in
@@ -41,7 +41,7 @@ store_side-requires-after_bounds g c κs within = let b = basis g.C.Cell.tells g
     }
 
 pub load_side-requires-after_bounds : goal.load_side-requires-after_bounds
-load_side-requires-after_bounds g c κs within = let b = basis g.C.Cell.tells g.C.Cell.state g.O.Origin.offers c.args.store.now in let one = c.requires.anchors in let m = c.look-looked.ensures.made in let made = c.in-Ok-take.ensures.ok in
+load_side-requires-after_bounds g c = let b = basis g.C.Cell.tells g.C.Cell.state g.O.Origin.offers c.args.store.now in let one = c.requires.anchors in let m = c.look-looked.ensures.made in let made = c.in-Ok-take.ensures.ok in
     let inner_free = ap is_free (ap (λ z. get_or z inner Tab.Free) (c.draw.ensures.tabs ∙ c.look-looked.ensures.tabs) ∙ ap (λ z. tab_at z inner) c.requires.pass.fresh) in
     let vacant = ap is_vacant (sym made.answers) ∙ sym c.is_vacant.ensures.number ∙ c.if-not-is_vacant.false in
     let won = sym made.answers ∙ m.answers ∙ sym (looked_last b _ _ _ 0 m.step) ∙ sym (same_find b (view c.look-looked.new.pass) (view c.draw.new.pass) c.in-Ok.version c.in-Ok.ensures.ok 0) in
@@ -52,7 +52,7 @@ load_side-requires-after_bounds g c κs within = let b = basis g.C.Cell.tells g.
     }
 
 pub advance-word-requires-after_bounds : goal.advance-word-requires-after_bounds
-advance-word-requires-after_bounds g c κs within = let b = basis g.C.Cell.tells g.C.Cell.state g.O.Origin.offers c.args.store.now in let one = c.requires.anchors in let m = c.look-looked.ensures.made in let made = c.in-Ok-take.ensures.ok in
+advance-word-requires-after_bounds g c = let b = basis g.C.Cell.tells g.C.Cell.state g.O.Origin.offers c.args.store.now in let one = c.requires.anchors in let m = c.look-looked.ensures.made in let made = c.in-Ok-take.ensures.ok in
     let inner_free = ap is_free (ap (λ z. get_or z inner Tab.Free) (c.draw.ensures.tabs ∙ c.look-looked.ensures.tabs) ∙ ap (λ z. tab_at z inner) c.requires.pass.fresh) in
     let vacant = ap is_vacant (sym made.answers) ∙ sym c.is_vacant.ensures.number ∙ c.if-not-is_vacant.false in
     let won = sym made.answers ∙ m.answers ∙ sym (looked_last b _ _ _ 0 m.step) ∙ sym (same_find b (view c.look-looked.new.pass) (view c.draw.new.pass) c.in-Ok.version c.in-Ok.ensures.ok 0) in
@@ -68,10 +68,10 @@ advance-word-requires-after_bounds g c κs within = let b = basis g.C.Cell.tells
     }
 
 pub leave-requires-clause-counted : goal.leave-requires-clause-counted
-leave-requires-clause-counted g c κs within none = absurd (false≢true (sym none ∙ sym c.is_last.ensures ∙ c.if-not-is_last.false))
+leave-requires-clause-counted g c none = absurd (false≢true (sym none ∙ sym c.is_last.ensures ∙ c.if-not-is_last.false))
 
 pub leave-requires-clause-last : goal.leave-requires-clause-last
-leave-requires-clause-last g c κs within is = let b = basis g.C.Cell.tells g.C.Cell.state g.O.Origin.offers c.args.store.now in let one = c.requires.anchors in let m = c.look-looked.ensures.made in let made = c.in-Ok-take.ensures.ok in
+leave-requires-clause-last g c is = let b = basis g.C.Cell.tells g.C.Cell.state g.O.Origin.offers c.args.store.now in let one = c.requires.anchors in let m = c.look-looked.ensures.made in let made = c.in-Ok-take.ensures.ok in
     let inner_free = ap is_free (ap (λ z. get_or z inner Tab.Free) (c.draw.ensures.tabs ∙ c.look-looked.ensures.tabs) ∙ ap (λ z. tab_at z inner) c.requires.pass.fresh) in
     let vacant = ap is_vacant (sym made.answers) ∙ sym c.is_vacant.ensures.number ∙ c.if-not-is_vacant.false in
     let won = sym made.answers ∙ m.answers ∙ sym (looked_last b _ _ _ 0 m.step) ∙ sym (same_find b (view c.look-looked.new.pass) (view c.draw.new.pass) c.in-Ok.version c.in-Ok.ensures.ok 0) in
@@ -94,7 +94,7 @@ leave-requires-clause-last g c κs within is = let b = basis g.C.Cell.tells g.C.
     }
 
 pub leave-requires-clause-inner : goal.leave-requires-clause-inner
-leave-requires-clause-inner g c κs within = let b = basis g.C.Cell.tells g.C.Cell.state g.O.Origin.offers c.args.store.now in let one = c.requires.anchors in let m = c.look-looked.ensures.made in let made = c.in-Ok-take.ensures.ok in
+leave-requires-clause-inner g c = let b = basis g.C.Cell.tells g.C.Cell.state g.O.Origin.offers c.args.store.now in let one = c.requires.anchors in let m = c.look-looked.ensures.made in let made = c.in-Ok-take.ensures.ok in
     let inner_free = ap is_free (ap (λ z. get_or z inner Tab.Free) (c.draw.ensures.tabs ∙ c.look-looked.ensures.tabs) ∙ ap (λ z. tab_at z inner) c.requires.pass.fresh) in
     let vacant = ap is_vacant (sym made.answers) ∙ sym c.is_vacant.ensures.number ∙ c.if-not-is_vacant.false in
     let won = sym made.answers ∙ m.answers ∙ sym (looked_last b _ _ _ 0 m.step) ∙ sym (same_find b (view c.look-looked.new.pass) (view c.draw.new.pass) c.in-Ok.version c.in-Ok.ensures.ok 0) in

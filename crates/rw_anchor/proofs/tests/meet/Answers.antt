@@ -9,7 +9,7 @@ use Rattle.rw_anchor.proofs.TwoPasses.{entered_counted, entered_free_hands, ente
 use Rattle.rw_anchor.proofs.tests.meet.Goals as goal
 
 pub take-requires-clause-may : goal.take-requires-clause-may
-take-requires-clause-may g c κs within = let b = basis g.C.Cell.tells g.C.Cell.state g.O.Origin.offers c.args.store.now in let m = c.look-looked.ensures.made in let one = c.requires.anchors in record {
+take-requires-clause-may g c = let b = basis g.C.Cell.tells g.C.Cell.state g.O.Origin.offers c.args.store.now in let m = c.look-looked.ensures.made in let one = c.requires.anchors in record {
   own = c.draw.ensures.kept.own;
   can = record {
     allowed = may_take b (view c.look-looked.new.pass) (view c.draw.new.pass) c.in-Ok.version c.in-Ok.ensures.ok 0 0 (omega arith) (omega arith)
@@ -21,7 +21,7 @@ take-requires-clause-may g c κs within = let b = basis g.C.Cell.tells g.C.Cell.
 }
 
 pub share-requires-after_bounds : goal.share-requires-after_bounds
-share-requires-after_bounds g c κs within = let one = c.requires.anchors in record {
+share-requires-after_bounds g c = let one = c.requires.anchors in record {
   own = c.requires.second.own;
   can = record {
     allowed = (omega arith, omega arith, ap (λ z. tab_at z 0) c.requires.second.fresh);
@@ -31,7 +31,7 @@ share-requires-after_bounds g c κs within = let one = c.requires.anchors in rec
 }
 
 pub leave-requires-clause-counted : goal.leave-requires-clause-counted
-leave-requires-clause-counted g c κs within not_last = let b = basis g.C.Cell.tells g.C.Cell.state g.O.Origin.offers c.args.store.now in let f = c.in-Err.ensures.err.0 in record {
+leave-requires-clause-counted g c not_last = let b = basis g.C.Cell.tells g.C.Cell.state g.O.Origin.offers c.args.store.now in let f = c.in-Err.ensures.err.0 in record {
   own = f.made.own;
   can = record {
     allowed = (omega arith, entered_counted b _ _ _ 0 0 f.made.step (pass_of c.args.second.now) (omega arith), entered_free_hands b _ _ _ 0 0 f.made.step (pass_of c.args.second.now) (omega arith));
@@ -41,11 +41,11 @@ leave-requires-clause-counted g c κs within not_last = let b = basis g.C.Cell.t
 }
 
 pub leave-requires-clause-last : goal.leave-requires-clause-last
-leave-requires-clause-last g c κs within last = let b = basis g.C.Cell.tells g.C.Cell.state g.O.Origin.offers c.args.store.now in let f = c.in-Err.ensures.err.0 in
+leave-requires-clause-last g c last = let b = basis g.C.Cell.tells g.C.Cell.state g.O.Origin.offers c.args.store.now in let f = c.in-Err.ensures.err.0 in
     absurd (Rattle.std.proofs.lemmas.Bool.false≢true (sym (entered_not_last b _ _ _ 0 0 f.made.step (pass_of c.args.second.now) (omega arith)) ∙ last))
 
 pub take-requires-2-clause-may : goal.take-requires-2-clause-may
-take-requires-2-clause-may g c κs within = let b = basis g.C.Cell.tells g.C.Cell.state g.O.Origin.offers c.args.store.now in let one = c.requires.anchors in let m = c.look-looked.ensures.made in let took = c.in-Ok-take.ensures.ok in record {
+take-requires-2-clause-may g c = let b = basis g.C.Cell.tells g.C.Cell.state g.O.Origin.offers c.args.store.now in let one = c.requires.anchors in let m = c.look-looked.ensures.made in let took = c.in-Ok-take.ensures.ok in record {
   own = c.draw-2.ensures.kept.own;
   can = record {
     allowed = may_take b (view c.take.new.pass) (view c.draw-2.new.pass) c.in-Ok-draw.next c.in-Ok-draw.ensures.ok 1 0 (omega arith) (omega arith)
@@ -59,5 +59,5 @@ take-requires-2-clause-may g c κs within = let b = basis g.C.Cell.tells g.C.Cel
 }
 
 pub take-requires-2-clause-looked : goal.take-requires-2-clause-looked
-take-requires-2-clause-looked g c κs within = let b = basis g.C.Cell.tells g.C.Cell.state g.O.Origin.offers c.args.store.now in let took = c.in-Ok-take.ensures.ok in
+take-requires-2-clause-looked g c = let b = basis g.C.Cell.tells g.C.Cell.state g.O.Origin.offers c.args.store.now in let took = c.in-Ok-take.ensures.ok in
     took.answers ∙ sym (took_last b _ _ _ 0 0 _ took.step) ∙ sym (same_find b (view c.take.new.pass) (view c.draw-2.new.pass) c.in-Ok-draw.next c.in-Ok-draw.ensures.ok 0)

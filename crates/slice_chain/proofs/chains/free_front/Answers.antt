@@ -3,13 +3,13 @@ use Rattle.slice_chain.proofs.Freeing.{front_follows, front_freed, may_give, may
 use Rattle.slice_chain.proofs.chains.free_front.Goals as goal
 
 pub get_link-link-requires-after_bounds : goal.get_link-link-requires-after_bounds
-get_link-link-requires-after_bounds g c κs within = may_look g.C.Cell.tells g.C.Cell.state g.O.Origin.offers c.args.store.now c.args.pass.now c.args.slot c.requires
+get_link-link-requires-after_bounds g c = may_look g.C.Cell.tells g.C.Cell.state g.O.Origin.offers c.args.store.now c.args.pass.now c.args.slot c.requires
 
 pub loosen-requires-after_bounds : goal.loosen-requires-after_bounds
-loosen-requires-after_bounds g c κs within = may_leave g.C.Cell.tells g.C.Cell.state g.O.Origin.offers c.args.store.now c.args.pass.now c.args.slot c.requires _ c.get_link-link.new.pass c.get_link-link.ensures
+loosen-requires-after_bounds g c = may_leave g.C.Cell.tells g.C.Cell.state g.O.Origin.offers c.args.store.now c.args.pass.now c.args.slot c.requires _ c.get_link-link.new.pass c.get_link-link.ensures
 
 pub disown-requires-after_bounds : goal.disown-requires-after_bounds
-disown-requires-after_bounds g c κs within = may_give g.C.Cell.tells g.C.Cell.state g.O.Origin.offers c.args.store.now c.args.pass.now c.args.slot c.requires _ c.get_link-link.new.pass c.get_link-link.ensures c.loosen.result c.loosen.new.pass c.loosen.ensures
+disown-requires-after_bounds g c = may_give g.C.Cell.tells g.C.Cell.state g.O.Origin.offers c.args.store.now c.args.pass.now c.args.slot c.requires _ c.get_link-link.new.pass c.get_link-link.ensures c.loosen.result c.loosen.new.pass c.loosen.ensures
 
 pub returns-clause-freed : goal.returns-clause-freed
 returns-clause-freed g c = front_freed g.C.Cell.tells g.C.Cell.state g.O.Origin.offers c.args.store.now c.args.pass.now c.args.slot c.requires _ c.get_link-link.new.pass c.get_link-link.ensures c.loosen.result c.loosen.new.pass c.loosen.ensures c.disown.result c.disown.new.pass c.disown.ensures

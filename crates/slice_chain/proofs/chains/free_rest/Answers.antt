@@ -14,7 +14,7 @@ loop-front-init g c = record {
 }
 
 pub free_front-front-requires-after_bounds : goal.free_front-front-requires-after_bounds
-free_front-front-requires-after_bounds g c κs within = may_front g.C.Cell.tells g.C.Cell.state g.O.Origin.offers c.args.store.now c.args.pass.now c.args.front c.requires c.loop-front.pass c.in-Some.slot c.loop-front.invariant.follows.own
+free_front-front-requires-after_bounds g c = may_front g.C.Cell.tells g.C.Cell.state g.O.Origin.offers c.args.store.now c.args.pass.now c.args.front c.requires c.loop-front.pass c.in-Some.slot c.loop-front.invariant.follows.own
     (subst (λ (o : Option ℕ). RestLeft (basis g.C.Cell.tells g.C.Cell.state g.O.Origin.offers c.args.store.now) (view c.args.pass.now) o (view c.loop-front.pass)) c.in-Some.is c.loop-front.invariant.left)
 
 pub loop-front-preserved : goal.loop-front-preserved

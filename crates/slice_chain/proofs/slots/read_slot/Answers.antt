@@ -6,24 +6,24 @@ use Rattle.slice_chain.proofs.ReadingSlots.{follows, has_returned, known_slot, m
 use Rattle.slice_chain.proofs.slots.read_slot.Goals as goal
 
 pub read_cell-result-requires-after_bounds : goal.read_cell-result-requires-after_bounds
-read_cell-result-requires-after_bounds g c κs within = let a = c.args in let s = a.store.now in let p = a.pass.now in let may = c.requires in let slot = c.in-Some.slot in
+read_cell-result-requires-after_bounds g c = let a = c.args in let s = a.store.now in let p = a.pass.now in let may = c.requires in let slot = c.in-Some.slot in
     let e = known_slot g.C.Cell.tells g.C.Cell.state g.O.Origin.offers s a.tab p may slot (sym c.in-Some.is ∙ c.slot_at.ensures) in let out = c.cell_out-cell in
     wide_enough g.C.Cell.tells g.C.Cell.state g.O.Origin.offers s a.tab p may slot e c.wait_turn.new.pass c.wait_turn.ensures out.result out.new.pass out.ensures.out out.ensures.kept
 
 pub cell_in-requires-clause-own : goal.cell_in-requires-clause-own
-cell_in-requires-clause-own g c κs within = let a = c.args in let s = a.store.now in let p = a.pass.now in let may = c.requires in let slot = c.in-Some.slot in
+cell_in-requires-clause-own g c = let a = c.args in let s = a.store.now in let p = a.pass.now in let may = c.requires in let slot = c.in-Some.slot in
     let e = known_slot g.C.Cell.tells g.C.Cell.state g.O.Origin.offers s a.tab p may slot (sym c.in-Some.is ∙ c.slot_at.ensures) in let out = c.cell_out-cell in let got = c.read_cell-result in
     own3 g.C.Cell.tells g.C.Cell.state g.O.Origin.offers s a.tab p may slot e c.wait_turn.new.pass c.wait_turn.ensures out.result out.new.pass out.ensures.out out.ensures.kept
     got.new.cell got.ensures.cell got.ensures.lent.0 got.new.pass got.ensures.lent.1
 
 pub cell_in-requires-clause-home : goal.cell_in-requires-clause-home
-cell_in-requires-clause-home g c κs within = let a = c.args in let s = a.store.now in let p = a.pass.now in let may = c.requires in let slot = c.in-Some.slot in
+cell_in-requires-clause-home g c = let a = c.args in let s = a.store.now in let p = a.pass.now in let may = c.requires in let slot = c.in-Some.slot in
     let e = known_slot g.C.Cell.tells g.C.Cell.state g.O.Origin.offers s a.tab p may slot (sym c.in-Some.is ∙ c.slot_at.ensures) in let out = c.cell_out-cell in let got = c.read_cell-result in
     may_put g.C.Cell.tells g.C.Cell.state g.O.Origin.offers s a.tab p may slot e c.wait_turn.new.pass c.wait_turn.ensures out.result out.new.pass out.ensures.out out.ensures.kept
     got.new.cell got.ensures.cell got.ensures.lent.0 got.new.pass got.ensures.lent.1
 
 pub end_turn-requires-clause-may : goal.end_turn-requires-clause-may
-end_turn-requires-clause-may g c κs within = let a = c.args in let s = a.store.now in let p = a.pass.now in let may = c.requires in let slot = c.in-Some.slot in
+end_turn-requires-clause-may g c = let a = c.args in let s = a.store.now in let p = a.pass.now in let may = c.requires in let slot = c.in-Some.slot in
     let e = known_slot g.C.Cell.tells g.C.Cell.state g.O.Origin.offers s a.tab p may slot (sym c.in-Some.is ∙ c.slot_at.ensures) in let out = c.cell_out-cell in let got = c.read_cell-result in
     may_end_turn g.C.Cell.tells g.C.Cell.state g.O.Origin.offers s a.tab p may slot e c.wait_turn.new.pass c.wait_turn.ensures out.result out.new.pass out.ensures.out out.ensures.kept
     got.new.cell got.ensures.cell got.ensures.lent.0 got.new.pass got.ensures.lent.1
@@ -31,7 +31,7 @@ end_turn-requires-clause-may g c κs within = let a = c.args in let s = a.store.
     c.is_ok.result
 
 pub end_turn-requires-clause-home : goal.end_turn-requires-clause-home
-end_turn-requires-clause-home g c κs within = let a = c.args in let s = a.store.now in let p = a.pass.now in let may = c.requires in let slot = c.in-Some.slot in
+end_turn-requires-clause-home g c = let a = c.args in let s = a.store.now in let p = a.pass.now in let may = c.requires in let slot = c.in-Some.slot in
     let e = known_slot g.C.Cell.tells g.C.Cell.state g.O.Origin.offers s a.tab p may slot (sym c.in-Some.is ∙ c.slot_at.ensures) in let out = c.cell_out-cell in let got = c.read_cell-result in
     has_returned g.C.Cell.tells g.C.Cell.state g.O.Origin.offers s a.tab p may slot e c.wait_turn.new.pass c.wait_turn.ensures out.result out.new.pass out.ensures.out out.ensures.kept
     got.new.cell got.ensures.cell got.ensures.lent.0 got.new.pass got.ensures.lent.1

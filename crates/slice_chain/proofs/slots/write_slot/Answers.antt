@@ -7,14 +7,14 @@ use Rattle.slice_chain.proofs.Writing.{on_err, always_won, follows, may_end_turn
 use Rattle.slice_chain.proofs.slots.write_slot.Goals as goal
 
 pub write_cell-result-requires-after_bounds : goal.write_cell-result-requires-after_bounds
-write_cell-result-requires-after_bounds g c κs within = let a = c.args in let s = a.store.now in let p = a.pass.now in let may = c.requires in let slot = c.in-Some.slot in
+write_cell-result-requires-after_bounds g c = let a = c.args in let s = a.store.now in let p = a.pass.now in let may = c.requires in let slot = c.in-Some.slot in
     let e = slot_is g.C.Cell.tells g.C.Cell.state g.O.Origin.offers s p a.tab may slot (sym c.in-Some.is ∙ c.first_reserved.ensures) in let p1 = c.try_turn.new.pass in
     let found = subst (λ (b : Bool). TurnFound g.C.Cell.tells g.C.Cell.state g.O.Origin.offers s p a.tab slot b p1) (c.try_turn.ensures.writes (always_won g.C.Cell.tells g.C.Cell.state g.O.Origin.offers s p a.tab may)) c.try_turn.ensures in
     let out = c.cell_out-cell in
     ap length c.buffer.ensures ∙ wide_enough g.C.Cell.tells g.C.Cell.state g.O.Origin.offers s a.tab p may slot e p1 found out.result out.new.pass out.ensures.out out.ensures.kept
 
 pub cell_in-requires-clause-home : goal.cell_in-requires-clause-home
-cell_in-requires-clause-home g c κs within = let a = c.args in let s = a.store.now in let p = a.pass.now in let may = c.requires in let slot = c.in-Some.slot in
+cell_in-requires-clause-home g c = let a = c.args in let s = a.store.now in let p = a.pass.now in let may = c.requires in let slot = c.in-Some.slot in
     let e = slot_is g.C.Cell.tells g.C.Cell.state g.O.Origin.offers s p a.tab may slot (sym c.in-Some.is ∙ c.first_reserved.ensures) in let p1 = c.try_turn.new.pass in
     let found = subst (λ (b : Bool). TurnFound g.C.Cell.tells g.C.Cell.state g.O.Origin.offers s p a.tab slot b p1) (c.try_turn.ensures.writes (always_won g.C.Cell.tells g.C.Cell.state g.O.Origin.offers s p a.tab may)) c.try_turn.ensures in
     let out = c.cell_out-cell in
@@ -22,7 +22,7 @@ cell_in-requires-clause-home g c κs within = let a = c.args in let s = a.store.
     c.write_cell-result.new.cell c.write_cell-result.ensures.shape (λ told x h. subst (λ (bytes : List ℕ). MayBeLeft bytes (g.C.Cell.state out.result) (g.C.Cell.state c.write_cell-result.new.cell)) c.buffer.ensures (c.write_cell-result.ensures.possible told) x h)
 
 pub end_turn-requires-clause-may : goal.end_turn-requires-clause-may
-end_turn-requires-clause-may g c κs within = let a = c.args in let s = a.store.now in let p = a.pass.now in let may = c.requires in let slot = c.in-Some.slot in
+end_turn-requires-clause-may g c = let a = c.args in let s = a.store.now in let p = a.pass.now in let may = c.requires in let slot = c.in-Some.slot in
     let e = slot_is g.C.Cell.tells g.C.Cell.state g.O.Origin.offers s p a.tab may slot (sym c.in-Some.is ∙ c.first_reserved.ensures) in let p1 = c.try_turn.new.pass in
     let found = subst (λ (b : Bool). TurnFound g.C.Cell.tells g.C.Cell.state g.O.Origin.offers s p a.tab slot b p1) (c.try_turn.ensures.writes (always_won g.C.Cell.tells g.C.Cell.state g.O.Origin.offers s p a.tab may)) c.try_turn.ensures in
     let out = c.cell_out-cell in
@@ -31,7 +31,7 @@ end_turn-requires-clause-may g c κs within = let a = c.args in let s = a.store.
     c.cell_in.new.pass c.cell_in.ensures.home c.cell_in.ensures.kept
 
 pub end_turn-requires-clause-home : goal.end_turn-requires-clause-home
-end_turn-requires-clause-home g c κs within = let a = c.args in let s = a.store.now in let p = a.pass.now in let may = c.requires in let slot = c.in-Some.slot in
+end_turn-requires-clause-home g c = let a = c.args in let s = a.store.now in let p = a.pass.now in let may = c.requires in let slot = c.in-Some.slot in
     let e = slot_is g.C.Cell.tells g.C.Cell.state g.O.Origin.offers s p a.tab may slot (sym c.in-Some.is ∙ c.first_reserved.ensures) in let p1 = c.try_turn.new.pass in
     let found = subst (λ (b : Bool). TurnFound g.C.Cell.tells g.C.Cell.state g.O.Origin.offers s p a.tab slot b p1) (c.try_turn.ensures.writes (always_won g.C.Cell.tells g.C.Cell.state g.O.Origin.offers s p a.tab may)) c.try_turn.ensures in
     let out = c.cell_out-cell in

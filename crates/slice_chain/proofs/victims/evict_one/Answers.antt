@@ -16,7 +16,7 @@ loop-steps-init g c = record {
 }
 
 pub keep_first-slot-requires-after_bounds : goal.keep_first-slot-requires-after_bounds
-keep_first-slot-requires-after_bounds g c κs within = let b = basis g.C.Cell.tells g.C.Cell.state g.O.Origin.offers c.args.store.now in let many = c.anchors-anchors.ensures.value in
+keep_first-slot-requires-after_bounds g c = let b = basis g.C.Cell.tells g.C.Cell.state g.O.Origin.offers c.args.store.now in let many = c.anchors-anchors.ensures.value in
     let below = c.loop-steps-test.true in
     let hand_is = c.first_in_round-hand.ensures ∙ (λ i. hand_in (many i) (c.hand.ensures i)) in
     may_keep g.C.Cell.tells g.C.Cell.state g.O.Origin.offers c.args.store.now c.args.tab c.args.pass.now c.requires c.first_in_round-hand.result c.loop-steps.steps (round_begins _ _ _ hand_is (omega arith)) (omega arith) (view c.loop-steps.pass) c.loop-steps.invariant.passed c.try_evict.new.pass

@@ -14,7 +14,7 @@ loop-taken-init g c = let may = c.requires.1 in record {
 }
 
 pub append_some-requires-clause-may : goal.append_some-requires-clause-may
-append_some-requires-clause-may g c κs within = let i = c.loop-taken.invariant in let e = c.requires.0 in let may = c.requires.1 in
+append_some-requires-clause-may g c = let i = c.loop-taken.invariant in let e = c.requires.0 in let may = c.requires.1 in
     (_, adds_still g.C.Cell.tells g.C.Cell.state g.O.Origin.offers c.args.store.now c.args.tab e c.args.pass.now _ c.args.from c.args.upto c.loop-taken.taken c.loop-taken.pass may i.over i.under (i.added e may))
 
 pub loop-taken-preserved : goal.loop-taken-preserved

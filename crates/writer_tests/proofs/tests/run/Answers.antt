@@ -6,8 +6,8 @@ use Rattle.writer_tests.proofs.Ready.{is_first, is_ok_of, new_idle, popped}
 use Rattle.writer_tests.proofs.tests.run.Goals as goal
 
 pub store_whole-came-requires-clause-idle : goal.store_whole-came-requires-clause-idle
-store_whole-came-requires-clause-idle g c κs = new_idle false blank_state offers_of c.in-Ok.store c.expect-pass.result 0 (omega arith)
+store_whole-came-requires-clause-idle g c = new_idle false blank_state offers_of c.in-Ok.store c.expect-pass.result 0 (omega arith)
     (popped (IsNewOf false blank_state offers_of c.in-Ok.store) _ _ _ _ c.in-Ok.ensures.passes.1 c.pop.ensures.items c.expect-pass.ensures)
 
 pub store_whole-came-requires-clause-offer : goal.store_whole-came-requires-clause-offer
-store_whole-came-requires-clause-offer g c κs = is_first (basis false blank_state offers_of c.in-Ok.store) record { first = record { url = c.in_ok-from_slice.field-0; body = c.in_ok-from_slice-2.field-0 }; second = record { url = c.new.result; body = c.new-2.result } } c.in-Ok.ensures.offers c.slots-offer.result _ _ c.slots-offer.ensures.value c.in_ok-from_slice.ensures.items c.in_ok-from_slice-2.ensures.items (c.check_url.ensures.ok.0 (is_ok_of c.check_url.result (sym c.is_err.ensures.value ∙ c.if-is_err.false)))
+store_whole-came-requires-clause-offer g c = is_first (basis false blank_state offers_of c.in-Ok.store) record { first = record { url = c.in_ok-from_slice.field-0; body = c.in_ok-from_slice-2.field-0 }; second = record { url = c.new.result; body = c.new-2.result } } c.in-Ok.ensures.offers c.slots-offer.result _ _ c.slots-offer.ensures.value c.in_ok-from_slice.ensures.items c.in_ok-from_slice-2.ensures.items (c.check_url.ensures.ok.0 (is_ok_of c.check_url.result (sym c.is_err.ensures.value ∙ c.if-is_err.false)))

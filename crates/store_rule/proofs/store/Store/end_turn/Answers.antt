@@ -11,7 +11,7 @@ use Rattle.store_rule.proofs.Turning.{has_next, ended_from, ended_hand, ended_in
 use Rattle.store_rule.proofs.store.Store.end_turn.Goals as goal
 
 pub swap_as-requires-clause-step : goal.swap_as-requires-clause-step
-swap_as-requires-clause-step g c κs within = let s = c.args.self.now in let b = basis g.C.Cell.tells g.C.Cell.state g.O.Origin.offers c.args.self.now in
+swap_as-requires-clause-step g c = let s = c.args.self.now in let b = basis g.C.Cell.tells g.C.Cell.state g.O.Origin.offers c.args.self.now in
     let form = form_of g.C.Cell.tells g.C.Cell.state in let p = c.args.pass.now in let h = c.requires.home in let v = view p in
     let may = may_of p c.requires.may.can.allowed in
     ends_ form b s.table.shared.table_id p.seat c.requires.may.own.table (wide _ _ _ _ _ s.sized s.anchors_are s.slots_are) p.one c.args.tab c.args.slot _ c.args.goes_on h.cell _ _ _

@@ -6,7 +6,7 @@ use Rattle.store_rule.proofs.Fresh.{none_chained, nothing_is_kept}
 use Rattle.store_rule.proofs.store.Store.fresh.Goals as goal
 
 pub over-requires-clause-kept : goal.over-requires-clause-kept
-over-requires-clause-kept g c κs within = let cells = c.args.cells.items in
+over-requires-clause-kept g c = let cells = c.args.cells.items in
     subst (IsKept c.args.anchors (length cells)) (sym c.in-Ok.ensures)
     (subst (λ z. IsKept c.args.anchors (length cells) (none_kept (length z))) (sym c.as_slice.ensures.value) (nothing_is_kept (length cells) c.args.anchors))
 

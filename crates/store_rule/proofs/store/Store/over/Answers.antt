@@ -10,14 +10,14 @@ pub opening_of-requires-clause-within : goal.opening_of-requires-clause-within
 opening_of-requires-clause-within g c = slots_within c.args.rebuilt.now c.args.anchors _ (subst (λ z. IsKept c.args.anchors (length z) c.args.rebuilt.now) (sym c.as_slice.ensures.value) c.requires.kept)
 
 pub new_table-requires-clause-words : goal.new_table-requires-clause-words
-new_table-requires-clause-words g c κs within = let words = c.as_slice-2.ensures.value in let r = c.requires in
+new_table-requires-clause-words g c = let words = c.as_slice-2.ensures.value in let r = c.requires in
     let kept = subst (λ z. IsKept c.args.anchors (length z) c.args.rebuilt.now) (sym c.as_slice.ensures.value) r.kept in (
       ap (λ z. z.items) c.of.ensures ∙ sym words,
       many_words c.in-Ok.field-0 c.args.rebuilt.now c.args.anchors (length c.as_slice.result.now) c.args.passes c.in-Ok.ensures kept r.anchors r.passes.1 c.as_slice-2.result.now (words),
     )
 
 pub new_table-requires-clause-rule : goal.new_table-requires-clause-rule
-new_table-requires-clause-rule g c κs within = let r = c.requires in
+new_table-requires-clause-rule g c = let r = c.requires in
     let kept = subst (λ z. IsKept c.args.anchors (length z) c.args.rebuilt.now) (sym c.as_slice.ensures.value) r.kept in
     let about : About g.row.C.Denot g.row.O.Denot = record { anchors = c.args.anchors; slots = length c.as_slice.result.now; passes = c.args.passes; slot = c.args.slot; words = c.of.result; places = c.of-2.result; kept = c.of-3.result; origin = c.of-4.result } in
     may_open g.C.Cell.tells g.C.Cell.state g.O.Origin.offers about c.args.rebuilt.now c.of-3.ensures
@@ -25,7 +25,7 @@ new_table-requires-clause-rule g c κs within = let r = c.requires in
     (ap (λ z. z.items) c.of.ensures) (ap (λ z. z.items) c.of-2.ensures ∙ c.in-Ok-to_places.ensures.ok.0) (ap length (sym c.as_slice.ensures.value)) c.of-3.ensures)
 
 pub part_all-made-requires-clause-stands : goal.part_all-made-requires-clause-stands
-part_all-made-requires-clause-stands g c κs within n lt = let table = c.in-Ok-new_table.ensures in table.stands n (let key = ap About.passes table.key in let hands = c.in-Ok-new.ensures.hands.0 in omega arith)
+part_all-made-requires-clause-stands g c n lt = let table = c.in-Ok-new_table.ensures in table.stands n (let key = ap About.passes table.key in let hands = c.in-Ok-new.ensures.hands.0 in omega arith)
 
 pub returns-in-Err-clause-err : goal.returns-in-Err-clause-err
 returns-in-Err-clause-err g c = same_cells _ _ (sym c.from_places.ensures ∙ c.in-Err.ensures.err ∙ c.in-Ok-to_places.ensures.ok.0)
