@@ -4,12 +4,12 @@ use Rattle.slice_chain.specs.Reads.{went_on}
 use Rattle.chain_tests.proofs.Readers.{goes_on, has_found, looked, looks_again, stays_there}
 use Rattle.chain_tests.proofs.tests.read_piece.Goals as goal
 
-pub read_byte-requires-after_bounds : goal.read_byte-requires-after_bounds
-read_byte-requires-after_bounds g c = has_found g.C.Cell.tells g.C.Cell.state g.O.Origin.offers c.args.store.now 0 c.args.pass.now c.link.new.pass Last
+pub read_byte-requires : goal.read_byte-requires
+read_byte-requires g c = has_found g.C.Cell.tells g.C.Cell.state g.O.Origin.offers c.args.store.now 0 c.args.pass.now c.link.new.pass Last
     (looked g.C.Cell.tells g.C.Cell.state g.O.Origin.offers c.args.store.now 0 c.args.pass.now c.link.new.pass Last c.requires c.in-Last.ensures.linked c.link.ensures.others.own) (λ e. cc)
 
-pub read_byte-requires-in-Next-after_bounds : goal.read_byte-requires-in-Next-after_bounds
-read_byte-requires-in-Next-after_bounds g c = has_found g.C.Cell.tells g.C.Cell.state g.O.Origin.offers c.args.store.now 0 c.args.pass.now c.link.new.pass (Next c.in-Next.field-0)
+pub read_byte-requires-in-Next : goal.read_byte-requires-in-Next
+read_byte-requires-in-Next g c = has_found g.C.Cell.tells g.C.Cell.state g.O.Origin.offers c.args.store.now 0 c.args.pass.now c.link.new.pass (Next c.in-Next.field-0)
     (looked g.C.Cell.tells g.C.Cell.state g.O.Origin.offers c.args.store.now 0 c.args.pass.now c.link.new.pass (Next c.in-Next.field-0) c.requires c.in-Next.ensures.linked c.link.ensures.others.own) (λ e. cc)
 
 pub returns-in-NotWritten : goal.returns-in-NotWritten

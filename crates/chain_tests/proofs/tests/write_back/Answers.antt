@@ -7,8 +7,8 @@ pub write_piece-requires-clause-may : goal.write_piece-requires-clause-may
 write_piece-requires-clause-may g c = let h = c.requires.half in
     may_back g.C.Cell.tells g.C.Cell.state g.O.Origin.offers c.args.store.now 0 h.entry h.version h.x h.offered c.args.pass.now h.y c.requires.ready h.writes
 
-pub advance-requires-after_bounds : goal.advance-requires-after_bounds
-advance-requires-after_bounds g c = let h = c.requires.half in
+pub advance-requires : goal.advance-requires
+advance-requires g c = let h = c.requires.half in
     may_raise g.C.Cell.tells g.C.Cell.state g.O.Origin.offers c.args.store.now 0 c.write_piece.new.pass _ Stage.Closed (c.if-not-write_piece.ensures.done refl _ h.writes.is) refl (λ e. cc)
 
 pub returns : goal.returns

@@ -1,8 +1,8 @@
 use Rattle.chain_tests.proofs.Writers.{done_piece, failed_piece, may_write_slot}
 use Rattle.chain_tests.proofs.tests.write_piece.Goals as goal
 
-pub write_slot-requires-after_bounds : goal.write_slot-requires-after_bounds
-write_slot-requires-after_bounds g c = may_write_slot g.C.Cell.tells g.C.Cell.state g.O.Origin.offers c.args.store.now c.args.tab c.args.pass.now c.fill.new.pass c.fill.ensures.lent.0 c.requires.silent c.requires.may c.fill.ensures.lent.1
+pub write_slot-requires : goal.write_slot-requires
+write_slot-requires g c = may_write_slot g.C.Cell.tells g.C.Cell.state g.O.Origin.offers c.args.store.now c.args.tab c.args.pass.now c.fill.new.pass c.fill.ensures.lent.0 c.requires.silent c.requires.may c.fill.ensures.lent.1
 
 pub returns-in_default-write_slot-clause-failed : goal.returns-in_default-write_slot-clause-failed
 returns-in_default-write_slot-clause-failed g c = λ e w is. failed_piece g.C.Cell.tells g.C.Cell.state g.O.Origin.offers c.args.store.now c.args.tab c.args.pass.now c.requires.may c.fill.new.pass c.write_slot.new.pass c.fill.ensures.lent.0 _ c.fill.ensures.lent.1

@@ -4,8 +4,8 @@ use Rattle.pass_calls.proofs.Following.{follows_on}
 use Rattle.purge_entry.proofs.PartedTabs.{done_tabs, freed_tabs, may_free}
 use Rattle.purge_entry.proofs.parting.part.Goals as goal
 
-pub free_chain-requires-after_bounds : goal.free_chain-requires-after_bounds
-free_chain-requires-after_bounds g c = may_free g.C.Cell.tells g.C.Cell.state g.O.Origin.offers c.args.store.now c.args.pass.now c.requires c.leave.new.pass
+pub free_chain-requires : goal.free_chain-requires
+free_chain-requires g c = may_free g.C.Cell.tells g.C.Cell.state g.O.Origin.offers c.args.store.now c.args.pass.now c.requires c.leave.new.pass
     (basis g.C.Cell.tells g.C.Cell.state g.O.Origin.offers c.args.store.now) c.in-MustFree.ensures.left c.in-MustFree.ensures.others.own
 
 pub returns-in-Done-clause-parted : goal.returns-in-Done-clause-parted

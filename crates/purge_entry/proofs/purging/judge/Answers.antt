@@ -8,14 +8,14 @@ use Rattle.purge_entry.proofs.Coming.{key_tabs}
 use Rattle.purge_entry.proofs.Judging.{doom_follows, doomed_entry, may_decline, may_doom, may_part}
 use Rattle.purge_entry.proofs.purging.judge.Goals as goal
 
-pub part-requires-after_bounds : goal.part-requires-after_bounds
-part-requires-after_bounds g c = may_decline g.C.Cell.tells g.C.Cell.state g.O.Origin.offers c.args.store.now c.args.pass.now c.requires.0 c.args.epoch.now c.requires.1 c.entry_key-key.new.pass c.entry_key-key.ensures.others.own c.entry_key-key.result c.entry_key-key.ensures.loaded
+pub part-requires : goal.part-requires
+part-requires g c = may_decline g.C.Cell.tells g.C.Cell.state g.O.Origin.offers c.args.store.now c.args.pass.now c.requires.0 c.args.epoch.now c.requires.1 c.entry_key-key.new.pass c.entry_key-key.ensures.others.own c.entry_key-key.result c.entry_key-key.ensures.loaded
 
-pub doom-word-requires-after_bounds : goal.doom-word-requires-after_bounds
-doom-word-requires-after_bounds g c = may_doom g.C.Cell.tells g.C.Cell.state g.O.Origin.offers c.args.store.now c.args.pass.now c.requires.0 c.args.epoch.now c.requires.1 c.entry_key-key.new.pass c.entry_key-key.ensures.others.own c.entry_key-key.result c.entry_key-key.ensures.loaded
+pub doom-word-requires : goal.doom-word-requires
+doom-word-requires g c = may_doom g.C.Cell.tells g.C.Cell.state g.O.Origin.offers c.args.store.now c.args.pass.now c.requires.0 c.args.epoch.now c.requires.1 c.entry_key-key.new.pass c.entry_key-key.ensures.others.own c.entry_key-key.result c.entry_key-key.ensures.loaded
 
-pub part-requires-in-None-after_bounds : goal.part-requires-in-None-after_bounds
-part-requires-in-None-after_bounds g c = may_part g.C.Cell.tells g.C.Cell.state g.O.Origin.offers c.args.store.now c.args.pass.now c.requires.0 c.args.epoch.now c.requires.1 c.entry_key-key.new.pass c.entry_key-key.ensures.others.own c.entry_key-key.result c.entry_key-key.ensures.loaded c.doom-word.new.pass _ c.doom-word.ensures.made
+pub part-requires-in-None : goal.part-requires-in-None
+part-requires-in-None g c = may_part g.C.Cell.tells g.C.Cell.state g.O.Origin.offers c.args.store.now c.args.pass.now c.requires.0 c.args.epoch.now c.requires.1 c.entry_key-key.new.pass c.entry_key-key.ensures.others.own c.entry_key-key.result c.entry_key-key.ensures.loaded c.doom-word.new.pass _ c.doom-word.ensures.made
 
 pub returns-in-None-clause-ok : goal.returns-in-None-clause-ok
 returns-in-None-clause-ok g c = λ anchor may. doomed_entry g.C.Cell.tells g.C.Cell.state g.O.Origin.offers c.args.store.now c.args.pass.now anchor c.args.epoch.now may c.entry_key-key.new.pass c.entry_key-key.ensures.others.own c.entry_key-key.result c.entry_key-key.ensures.loaded c.doom-word.new.pass _ c.doom-word.ensures.made

@@ -9,19 +9,19 @@ use Rattle.purge_entry.proofs.purging.purge.Goals as goal
 pub anchor_of-anchor-requires : goal.anchor_of-anchor-requires
 anchor_of-anchor-requires g c = c.anchors.ensures.some
 
-pub share-requires-after_bounds : goal.share-requires-after_bounds
-share-requires-after_bounds g c = may_share g.C.Cell.tells g.C.Cell.state g.O.Origin.offers c.args.store.now c.args.pass.now c.args.url.now c.requires c.anchor_of-anchor.result
+pub share-requires : goal.share-requires
+share-requires g c = may_share g.C.Cell.tells g.C.Cell.state g.O.Origin.offers c.args.store.now c.args.pass.now c.args.url.now c.requires c.anchor_of-anchor.result
     (c.anchor_of-anchor.ensures.value ∙ (λ i. anchor_of (c.key_of-key.ensures i) (c.anchors.ensures.value i))) (subst (λ (n : ℕ). c.anchor_of-anchor.result < n) c.anchors.ensures.value c.anchor_of-anchor.ensures.below)
 
-pub judge-requires-after_bounds : goal.judge-requires-after_bounds
-judge-requires-after_bounds g c = (
+pub judge-requires : goal.judge-requires
+judge-requires g c = (
   c.anchor_of-anchor.result,
   may_judge g.C.Cell.tells g.C.Cell.state g.O.Origin.offers c.args.store.now c.args.pass.now c.args.url.now c.requires
       c.anchor_of-anchor.result c.in-Ok.epoch c.share.new.pass c.in-Ok.ensures.ok.0 c.in-Ok.ensures.ok.1,
 )
 
-pub part-requires-after_bounds : goal.part-requires-after_bounds
-part-requires-after_bounds g c = may_retreat g.C.Cell.tells g.C.Cell.state g.O.Origin.offers c.args.store.now c.args.pass.now c.args.url.now c.requires
+pub part-requires : goal.part-requires
+part-requires g c = may_retreat g.C.Cell.tells g.C.Cell.state g.O.Origin.offers c.args.store.now c.args.pass.now c.args.url.now c.requires
     c.anchor_of-anchor.result c.in-Err.epoch c.share.new.pass c.in-Err.ensures.err.0 c.in-Err.ensures.err.1
 
 pub unread_cause-requires : goal.unread_cause-requires

@@ -2,8 +2,8 @@ use Rattle.std.proofs.Common.{refl}
 use Rattle.reader_tests.proofs.Readers.{closed_idle, may_close}
 use Rattle.reader_tests.proofs.reading.close.Goals as goal
 
-pub close_entry-requires-after_bounds : goal.close_entry-requires-after_bounds
-close_entry-requires-after_bounds g c = may_close g.C.Cell.tells g.C.Cell.state g.O.Origin.offers c.args.store.now c.args.tab c.args.pass.now c.args.pass.now c.requires.reads refl c.requires.reads.reads.own
+pub close_entry-requires : goal.close_entry-requires
+close_entry-requires g c = may_close g.C.Cell.tells g.C.Cell.state g.O.Origin.offers c.args.store.now c.args.tab c.args.pass.now c.args.pass.now c.requires.reads refl c.requires.reads.reads.own
 
 pub returns : goal.returns
 returns g c = record {

@@ -9,8 +9,8 @@ use Rattle.reader_tests.proofs.writing.append_to.Goals as goal
 step_inside : (body : List ℕ) (taken to count : ℕ) → count ≤ length (take (to - taken) (drop taken body)) → taken < to → taken + count ≤ to
 step_inside body taken to count le lt = let l = length-take (to - taken) (drop taken body) in omega (arith, l, le, lt)
 
-pub append-requires-after_bounds : goal.append-requires-after_bounds
-append-requires-after_bounds g c = let e = c.loop-taken.invariant.writes in (with_taken e.entry c.loop-taken.taken, record { writes = e.writes; continues = goes_on c.args.body.now (body_in (basis g.C.Cell.tells g.C.Cell.state g.O.Origin.offers c.args.store.now) e.entry) c.loop-taken.taken _ e.body_is })
+pub append-requires : goal.append-requires
+append-requires g c = let e = c.loop-taken.invariant.writes in (with_taken e.entry c.loop-taken.taken, record { writes = e.writes; continues = goes_on c.args.body.now (body_in (basis g.C.Cell.tells g.C.Cell.state g.O.Origin.offers c.args.store.now) e.entry) c.loop-taken.taken _ e.body_is })
 
 pub returns-in_err-taken-clause-idle : goal.returns-in_err-taken-clause-idle
 returns-in_err-taken-clause-idle g c = let e = c.loop-taken.invariant.writes in

@@ -3,8 +3,8 @@ use Rattle.rock_writer.specs.Entries.{with_taken}
 use Rattle.reader_tests.proofs.Writers.{ended_idle, may_finish}
 use Rattle.reader_tests.proofs.writing.end.Goals as goal
 
-pub finish-requires-after_bounds : goal.finish-requires-after_bounds
-finish-requires-after_bounds g c = (with_taken c.requires.writes.entry (length c.args.body.now), may_finish g.C.Cell.tells g.C.Cell.state g.O.Origin.offers c.args.store.now c.args.tab c.args.pass.now c.args.body.now c.requires.writes)
+pub finish-requires : goal.finish-requires
+finish-requires g c = (with_taken c.requires.writes.entry (length c.args.body.now), may_finish g.C.Cell.tells g.C.Cell.state g.O.Origin.offers c.args.store.now c.args.tab c.args.pass.now c.args.body.now c.requires.writes)
 
 pub returns : goal.returns
 returns g c = record {

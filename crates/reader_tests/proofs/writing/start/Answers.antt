@@ -5,8 +5,8 @@ use Rattle.writer_tests.proofs.Whole.{may_begin}
 use Rattle.reader_tests.proofs.Writers.{began_result}
 use Rattle.reader_tests.proofs.writing.start.Goals as goal
 
-pub begin-requires-after_bounds : goal.begin-requires-after_bounds
-begin-requires-after_bounds g c = let at = subst (λ n. IsOffer (basis g.C.Cell.tells g.C.Cell.state g.O.Origin.offers c.args.store.now) n c.args.url.now c.args.body.now) (sym c.slots-offer.ensures.value) c.requires.offer in
+pub begin-requires : goal.begin-requires
+begin-requires g c = let at = subst (λ n. IsOffer (basis g.C.Cell.tells g.C.Cell.state g.O.Origin.offers c.args.store.now) n c.args.url.now c.args.body.now) (sym c.slots-offer.ensures.value) c.requires.offer in
     may_begin g.C.Cell.tells g.C.Cell.state g.O.Origin.offers c.args.store.now c.args.tab c.args.pass.now c.slots-offer.result c.args.url.now c.args.body.now c.requires.idle at
 
 pub returns : goal.returns

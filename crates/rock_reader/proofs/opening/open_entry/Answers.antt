@@ -9,12 +9,12 @@ use Rattle.rock_reader.proofs.Judging.{free_again, judged_open, judged_other, ma
 use Rattle.rock_reader.proofs.Parting.{follows_both, follows_tab}
 use Rattle.rock_reader.proofs.opening.open_entry.Goals as goal
 
-pub judge-requires-after_bounds : goal.judge-requires-after_bounds
-judge-requires-after_bounds g c = may_judge g.C.Cell.tells g.C.Cell.state g.O.Origin.offers c.args.store.now c.args.tab c.args.pass.now c.args.url.now c.requires
+pub judge-requires : goal.judge-requires
+judge-requires g c = may_judge g.C.Cell.tells g.C.Cell.state g.O.Origin.offers c.args.store.now c.args.tab c.args.pass.now c.args.url.now c.requires
     c.anchor_of-anchor.result c.in-Ok.epoch c.share.new.pass c.in-Ok.ensures.ok.0 c.in-Ok.ensures.ok.1
 
-pub part-requires-after_bounds : goal.part-requires-after_bounds
-part-requires-after_bounds g c = may_retreat g.C.Cell.tells g.C.Cell.state g.O.Origin.offers c.args.store.now c.args.tab c.args.pass.now c.args.url.now c.requires
+pub part-requires : goal.part-requires
+part-requires g c = may_retreat g.C.Cell.tells g.C.Cell.state g.O.Origin.offers c.args.store.now c.args.tab c.args.pass.now c.args.url.now c.requires
     c.anchor_of-anchor.result c.in-Err.epoch c.share.new.pass c.in-Err.ensures.err.0 c.in-Err.ensures.err.1
 
 pub returns-in-Err-clause-err : goal.returns-in-Err-clause-err
@@ -29,8 +29,8 @@ returns-in-Err-clause-free g c = free_again g.C.Cell.tells g.C.Cell.state g.O.Or
 pub anchor_of-anchor-requires : goal.anchor_of-anchor-requires
 anchor_of-anchor-requires g c = c.anchors.ensures.some
 
-pub share-requires-after_bounds : goal.share-requires-after_bounds
-share-requires-after_bounds g c = may_share g.C.Cell.tells g.C.Cell.state g.O.Origin.offers c.args.store.now c.args.tab c.args.pass.now c.args.url.now c.requires c.anchor_of-anchor.result
+pub share-requires : goal.share-requires
+share-requires g c = may_share g.C.Cell.tells g.C.Cell.state g.O.Origin.offers c.args.store.now c.args.tab c.args.pass.now c.args.url.now c.requires c.anchor_of-anchor.result
     (c.anchor_of-anchor.ensures.value ∙ (λ i. anchor_of (c.key_of-key.ensures i) (c.anchors.ensures.value i))) (subst (λ (n : ℕ). c.anchor_of-anchor.result < n) c.anchors.ensures.value c.anchor_of-anchor.ensures.below)
 
 pub keep_url-requires-clause-below : goal.keep_url-requires-clause-below

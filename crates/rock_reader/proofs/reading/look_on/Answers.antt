@@ -1,8 +1,8 @@
 use Rattle.rock_reader.proofs.Looking.{look_follows, look_fresh, looked_at, may_look}
 use Rattle.rock_reader.proofs.reading.look_on.Goals as goal
 
-pub look-word-requires-after_bounds : goal.look-word-requires-after_bounds
-look-word-requires-after_bounds g c = may_look g.C.Cell.tells g.C.Cell.state g.O.Origin.offers c.args.store.now c.args.tab c.args.pass.now c.requires c.anchor-anchor.result c.anchor-anchor.ensures
+pub look-word-requires : goal.look-word-requires
+look-word-requires g c = may_look g.C.Cell.tells g.C.Cell.state g.O.Origin.offers c.args.store.now c.args.tab c.args.pass.now c.requires c.anchor-anchor.result c.anchor-anchor.ensures
 
 pub returns-clause-found : goal.returns-clause-found
 returns-clause-found g c = looked_at g.C.Cell.tells g.C.Cell.state g.O.Origin.offers c.args.store.now c.args.tab c.args.pass.now c.requires c.anchor-anchor.result c.anchor-anchor.ensures

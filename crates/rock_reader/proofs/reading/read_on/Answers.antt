@@ -16,8 +16,8 @@ place_of-place-requires-clause-below g c = let b = c.requires.may.below in omega
 pub place_of-place-requires-clause-reads : goal.place_of-place-requires-clause-reads
 place_of-place-requires-clause-reads g c = of_reader (λ r. r.turn ≡ NoTurn) (λ r. Unit {0}) (tab_at (view c.args.pass.now) c.args.tab) (λ r h. tt) c.requires.may.reads
 
-pub look_on-found-requires-after_bounds : goal.look_on-found-requires-after_bounds
-look_on-found-requires-after_bounds g c = c.requires.there
+pub look_on-found-requires : goal.look_on-found-requires
+look_on-found-requires g c = c.requires.there
 
 pub returns-in-NotWritten-clause-gave : goal.returns-in-NotWritten-clause-gave
 returns-in-NotWritten-clause-gave g c e reads = gave_none g.C.Cell.tells g.C.Cell.state g.O.Origin.offers c.args.store.now c.args.tab c.args.pass.now e reads c.look_on-found.new.pass c.look_on-found.result.epoch c.look_on-found.result.link
@@ -38,8 +38,8 @@ returns-in-NotWritten-clause-failed g c e = absurd (c.unwritten.ensures.never e)
 pub returns-in-NotWritten-clause-unfailed : goal.returns-in-NotWritten-clause-unfailed
 returns-in-NotWritten-clause-unfailed g c ne = refl
 
-pub read_slot-requires-after_bounds : goal.read_slot-requires-after_bounds
-read_slot-requires-after_bounds g c = may_read g.C.Cell.tells g.C.Cell.state g.O.Origin.offers c.args.store.now c.args.tab c.args.pass.now (length c.args.out.now) c.requires.may c.look_on-found.new.pass c.look_on-found.result.epoch c.look_on-found.result.link
+pub read_slot-requires : goal.read_slot-requires
+read_slot-requires g c = may_read g.C.Cell.tells g.C.Cell.state g.O.Origin.offers c.args.store.now c.args.tab c.args.pass.now (length c.args.out.now) c.requires.may c.look_on-found.new.pass c.look_on-found.result.epoch c.look_on-found.result.link
     c.look_on-found.ensures.found c.in_default.not-NotWritten c.look_on-found.ensures.others.own
 
 pub give-requires-clause-below : goal.give-requires-clause-below

@@ -9,13 +9,13 @@ use Rattle.rock_writer.proofs.Parting.{halting_inner}
 use Rattle.rock_writer.proofs.Publishing.{same_view}
 use Rattle.rock_writer.proofs.beginning.begin.Goals as goal
 
-pub clear-requires-after_bounds : goal.clear-requires-after_bounds
-clear-requires-after_bounds g c = let at = c.anchor_of-anchor.ensures.value ∙ ap (λ k. Rattle.store_key.specs.Anchor.anchor_of k c.anchors.result) c.key_of-key.ensures ∙ ap (Rattle.store_key.specs.Anchor.anchor_of (key_of c.args.url.now)) c.anchors.ensures.value in
+pub clear-requires : goal.clear-requires
+clear-requires g c = let at = c.anchor_of-anchor.ensures.value ∙ ap (λ k. Rattle.store_key.specs.Anchor.anchor_of k c.anchors.result) c.key_of-key.ensures ∙ ap (Rattle.store_key.specs.Anchor.anchor_of (key_of c.args.url.now)) c.anchors.ensures.value in
     let took = subst (λ a. TookAnchor (basis g.C.Cell.tells g.C.Cell.state g.O.Origin.offers c.args.store.now) c.args.tab a (view c.args.pass.now) c.in-Ok.ensures.ok.0 c.in-Ok.version (view c.take_anchor.new.pass)) at c.in-Ok.ensures.ok.1 in
     may_clear g.C.Cell.tells g.C.Cell.state g.O.Origin.offers c.args.store.now c.args.pass.now c.take_anchor.new.pass c.args.tab c.args.offer c.args.url.now c.requires _ c.in-Ok.version took c.take_anchor.ensures.others.own
 
-pub name_entry-requires-after_bounds : goal.name_entry-requires-after_bounds
-name_entry-requires-after_bounds g c = let at = c.anchor_of-anchor.ensures.value ∙ ap (λ k. Rattle.store_key.specs.Anchor.anchor_of k c.anchors.result) c.key_of-key.ensures ∙ ap (Rattle.store_key.specs.Anchor.anchor_of (key_of c.args.url.now)) c.anchors.ensures.value in
+pub name_entry-requires : goal.name_entry-requires
+name_entry-requires g c = let at = c.anchor_of-anchor.ensures.value ∙ ap (λ k. Rattle.store_key.specs.Anchor.anchor_of k c.anchors.result) c.key_of-key.ensures ∙ ap (Rattle.store_key.specs.Anchor.anchor_of (key_of c.args.url.now)) c.anchors.ensures.value in
     let took = subst (λ a. TookAnchor (basis g.C.Cell.tells g.C.Cell.state g.O.Origin.offers c.args.store.now) c.args.tab a (view c.args.pass.now) c.in-Ok.ensures.ok.0 c.in-Ok.version (view c.take_anchor.new.pass)) at c.in-Ok.ensures.ok.1 in
     subst (λ k. MayNameEntry g.C.Cell.tells g.C.Cell.state g.O.Origin.offers c.args.store.now c.clear.new.pass c.args.tab k c.args.offer) (sym c.key_of-key.ensures)
     (may_name g.C.Cell.tells g.C.Cell.state g.O.Origin.offers c.args.store.now c.args.pass.now c.take_anchor.new.pass c.args.tab c.args.offer c.args.url.now c.requires _ c.in-Ok.version took c.take_anchor.ensures.others.own c.clear.new.pass c.clear.ensures.others.own c.clear.ensures.free c.clear.ensures.freed (c.is_too_long.ensures.short c.if-is_too_long.false))

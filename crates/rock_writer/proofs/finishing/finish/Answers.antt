@@ -30,11 +30,11 @@ returns-in-Err-clause-others g c = writing_on g.C.Cell.tells g.C.Cell.state g.O.
 pub returns-in-Err-clause-unfailed : goal.returns-in-Err-clause-unfailed
 returns-in-Err-clause-unfailed g c none = c.in-Err.ensures.unfailed (λ z. none (err_of _ _ z))
 
-pub advance-word-requires-after_bounds : goal.advance-word-requires-after_bounds
-advance-word-requires-after_bounds g c = let e = c.requires.0 in let may = c.requires.1 in may_raise_closed g.C.Cell.tells g.C.Cell.state g.O.Origin.offers c.args.store.now c.args.tab e c.write_last.new.pass (c.in_default-write_last.ensures.closes e may)
+pub advance-word-requires : goal.advance-word-requires
+advance-word-requires g c = let e = c.requires.0 in let may = c.requires.1 in may_raise_closed g.C.Cell.tells g.C.Cell.state g.O.Origin.offers c.args.store.now c.args.tab e c.write_last.new.pass (c.in_default-write_last.ensures.closes e may)
 
-pub part-requires-after_bounds : goal.part-requires-after_bounds
-part-requires-after_bounds g c = let e = c.requires.0 in let may = c.requires.1 in may_part_closed g.C.Cell.tells g.C.Cell.state g.O.Origin.offers c.args.store.now c.args.tab e c.write_last.new.pass (c.in_default-write_last.ensures.closes e may) c.advance-word.new.pass (word_number c.advance-word.result) c.advance-word.ensures.made
+pub part-requires : goal.part-requires
+part-requires g c = let e = c.requires.0 in let may = c.requires.1 in may_part_closed g.C.Cell.tells g.C.Cell.state g.O.Origin.offers c.args.store.now c.args.tab e c.write_last.new.pass (c.in_default-write_last.ensures.closes e may) c.advance-word.new.pass (word_number c.advance-word.result) c.advance-word.ensures.made
 
 pub returns-clause-ok : goal.returns-clause-ok
 returns-clause-ok g c e may =

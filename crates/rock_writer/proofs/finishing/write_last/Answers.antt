@@ -18,8 +18,8 @@ returns-in_default-clause-halts g c = let e = c.requires.0 in let h = c.requires
 pub returns-in_default-clause-others : goal.returns-in_default-clause-others
 returns-in_default-clause-others g c = writing_evicting g.C.Cell.tells g.C.Cell.state g.O.Origin.offers c.args.store.now c.args.tab c.args.pass.now c.slot_for_piece.new.pass c.slot_for_piece.ensures.others
 
-pub publish_piece-requires-after_bounds : goal.publish_piece-requires-after_bounds
-publish_piece-requires-after_bounds g c = let e = c.requires.0 in let h = c.requires.1 in let ws = whole_size (basis g.C.Cell.tells g.C.Cell.state g.O.Origin.offers c.args.store.now) e (c.written_meta_is_spelled.ensures.size (key_of (url_in (basis g.C.Cell.tells g.C.Cell.state g.O.Origin.offers c.args.store.now) e)) (url_in (basis g.C.Cell.tells g.C.Cell.state g.O.Origin.offers c.args.store.now) e) (c.keys_have_16_bytes.ensures.length (url_in (basis g.C.Cell.tells g.C.Cell.state g.O.Origin.offers c.args.store.now) e))) in let r = slot_rests g.C.Cell.tells g.C.Cell.state g.O.Origin.offers c.args.store.now c.args.tab e h.writes.published h.writes.end c.args.pass.now c.slot_for_piece.new.pass c.in-Ok.slot c.args.pass.now.hand c.slot_for_piece.new.pass.hand h.writes.rests c.in-Ok.ensures.ok c.slot_for_piece.ensures.others.own in
+pub publish_piece-requires : goal.publish_piece-requires
+publish_piece-requires g c = let e = c.requires.0 in let h = c.requires.1 in let ws = whole_size (basis g.C.Cell.tells g.C.Cell.state g.O.Origin.offers c.args.store.now) e (c.written_meta_is_spelled.ensures.size (key_of (url_in (basis g.C.Cell.tells g.C.Cell.state g.O.Origin.offers c.args.store.now) e)) (url_in (basis g.C.Cell.tells g.C.Cell.state g.O.Origin.offers c.args.store.now) e) (c.keys_have_16_bytes.ensures.length (url_in (basis g.C.Cell.tells g.C.Cell.state g.O.Origin.offers c.args.store.now) e))) in let r = slot_rests g.C.Cell.tells g.C.Cell.state g.O.Origin.offers c.args.store.now c.args.tab e h.writes.published h.writes.end c.args.pass.now c.slot_for_piece.new.pass c.in-Ok.slot c.args.pass.now.hand c.slot_for_piece.new.pass.hand h.writes.rests c.in-Ok.ensures.ok c.slot_for_piece.ensures.others.own in
     may_publish_last g.C.Cell.tells g.C.Cell.state g.O.Origin.offers c.args.store.now c.args.pass.now c.args.tab e h ws c.slot_for_piece.new.pass c.in-Ok.slot c.size-size.result r c.slot_for_piece.ensures.others.desks (c.size-size.ensures e h.writes)
 
 pub returns-in-Ok-publish_piece-clause-closes : goal.returns-in-Ok-publish_piece-clause-closes

@@ -19,8 +19,8 @@ use Rattle.rock_writer.proofs.flushing.flush.Goals as goal
 pub returns-in_default-reserve_both-clause-others : goal.returns-in_default-reserve_both-clause-others
 returns-in_default-reserve_both-clause-others g c = writing_evicting g.C.Cell.tells g.C.Cell.state g.O.Origin.offers c.args.store.now c.args.tab c.args.pass.now c.reserve_both.new.pass c.reserve_both.ensures.others
 
-pub publish_piece-requires-after_bounds : goal.publish_piece-requires-after_bounds
-publish_piece-requires-after_bounds g c = let e = c.requires.0 in let h = c.requires.1 in let ws = whole_size (basis g.C.Cell.tells g.C.Cell.state g.O.Origin.offers c.args.store.now) e (c.written_meta_is_spelled.ensures.size (key_of (url_in (basis g.C.Cell.tells g.C.Cell.state g.O.Origin.offers c.args.store.now) e)) (url_in (basis g.C.Cell.tells g.C.Cell.state g.O.Origin.offers c.args.store.now) e) (c.keys_have_16_bytes.ensures.length (url_in (basis g.C.Cell.tells g.C.Cell.state g.O.Origin.offers c.args.store.now) e))) in
+pub publish_piece-requires : goal.publish_piece-requires
+publish_piece-requires g c = let e = c.requires.0 in let h = c.requires.1 in let ws = whole_size (basis g.C.Cell.tells g.C.Cell.state g.O.Origin.offers c.args.store.now) e (c.written_meta_is_spelled.ensures.size (key_of (url_in (basis g.C.Cell.tells g.C.Cell.state g.O.Origin.offers c.args.store.now) e)) (url_in (basis g.C.Cell.tells g.C.Cell.state g.O.Origin.offers c.args.store.now) e) (c.keys_have_16_bytes.ensures.length (url_in (basis g.C.Cell.tells g.C.Cell.state g.O.Origin.offers c.args.store.now) e))) in
     may_publish_piece g.C.Cell.tells g.C.Cell.state g.O.Origin.offers c.args.store.now c.args.pass.now c.args.tab e h ws c.reserve_both.new.pass c.in-Ok.slot c.in-Ok.next (c.in-Ok.ensures.rests e h.writes) c.reserve_both.ensures.others.desks
 
 pub returns-in-Err-clause-err : goal.returns-in-Err-clause-err

@@ -19,8 +19,8 @@ seal-requires-clause-first g c = let r = c.requires in
 pub seal-requires-clause-next : goal.seal-requires-clause-next
 seal-requires-clause-next g c = next_fits g.C.Cell.tells g.C.Cell.state g.O.Origin.offers c.args.store.now c.args.pass.now c.args.tab c.args.slot c.args.behind c.requires
 
-pub write_slot-requires-after_bounds : goal.write_slot-requires-after_bounds
-write_slot-requires-after_bounds g c = let r = c.requires in
+pub write_slot-requires : goal.write_slot-requires
+write_slot-requires g c = let r = c.requires in
     let x = at_hand (tab_at (view c.args.pass.now) c.args.tab) (w g.C.Cell.tells g.C.Cell.state g.O.Origin.offers c.args.store.now c.args.pass.now c.args.tab c.args.slot c.args.behind r) c.in-Some.writing r.rests.is (sym c.in-Some.is ∙ c.writing.ensures) in
     let first = c.first_slot.ensures r.published (sym (ap WritingAt.start x)) in
     may_write g.C.Cell.tells g.C.Cell.state g.O.Origin.offers c.args.store.now c.args.pass.now c.args.tab c.args.slot c.args.behind r c.seal.new.pass c.seal.ensures.own c.seal.ensures.kept
@@ -31,8 +31,8 @@ returns-in-Err-clause-others g c = writing_on g.C.Cell.tells g.C.Cell.state g.O.
     (writing_desk g.C.Cell.tells g.C.Cell.state g.O.Origin.offers c.args.store.now c.args.tab c.args.pass.now c.seal.new.pass c.seal.ensures.kept c.seal.ensures.own)
     (writing_one g.C.Cell.tells g.C.Cell.state g.O.Origin.offers c.args.store.now c.args.tab c.seal.new.pass c.write_slot.new.pass c.write_slot.ensures.others)
 
-pub publish-requires-after_bounds : goal.publish-requires-after_bounds
-publish-requires-after_bounds g c = let r = c.requires in
+pub publish-requires : goal.publish-requires
+publish-requires g c = let r = c.requires in
     subst (MayPublishSlot g.C.Cell.tells g.C.Cell.state g.O.Origin.offers c.args.store.now c.write_slot.new.pass c.args.tab c.args.slot) (sym c.slot_behind.ensures)
     (may_publish g.C.Cell.tells g.C.Cell.state g.O.Origin.offers c.args.store.now c.args.pass.now c.args.tab c.args.slot c.args.behind r c.write_slot.new.pass _ _
     (subst (λ v. WroteSlot (basis g.C.Cell.tells g.C.Cell.state g.O.Origin.offers c.args.store.now) c.args.tab v c.draft-draft.result.is_durable true (view c.write_slot.new.pass)) (same_view c.args.tab c.args.pass.now c.seal.new.pass c.seal.ensures.kept)

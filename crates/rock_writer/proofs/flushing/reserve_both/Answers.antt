@@ -11,8 +11,8 @@ returns-in_err-slot-clause-halts g c = let e = c.requires.0 in let h = c.require
     on_err c.from_residual.result (may_halt g.C.Cell.tells g.C.Cell.state g.O.Origin.offers c.args.store.now c.args.tab e h.published h.end c.slot_for_piece.new.pass (slots_of_link h.end)
     (rests_on g.C.Cell.tells g.C.Cell.state g.O.Origin.offers c.args.store.now c.args.tab e h.published h.end c.args.pass.now c.slot_for_piece.new.pass (slots_of_link h.end) h.rests c.in_err-slot.ensures.others.own c.in_err-slot.ensures.err.out.tabs))
 
-pub reserve-requires-after_bounds : goal.reserve-requires-after_bounds
-reserve-requires-after_bounds g c = let e = c.requires.0 in let h = c.requires.1 in
+pub reserve-requires : goal.reserve-requires
+reserve-requires g c = let e = c.requires.0 in let h = c.requires.1 in
     may_claim g.C.Cell.tells g.C.Cell.state g.O.Origin.offers c.args.store.now c.args.tab e h.published h.end c.slot_for_piece.new.pass (c.in_ok-slot.slot ∷ [])
     (slot_rests g.C.Cell.tells g.C.Cell.state g.O.Origin.offers c.args.store.now c.args.tab e h.published h.end c.args.pass.now c.slot_for_piece.new.pass c.in_ok-slot.slot c.args.pass.now.hand c.slot_for_piece.new.pass.hand h.rests c.in_ok-slot.ensures.ok c.in_ok-slot.ensures.others.own) (omega arith)
 

@@ -6,12 +6,12 @@ use Rattle.rock_writer.proofs.Unlinking.{at_hand, first_is, may_first, may_secon
 use Rattle.core_model.specs.Tabs.{tab_at}
 use Rattle.rock_writer.proofs.halting.give_unlinked.Goals as goal
 
-pub give_back-requires-after_bounds : goal.give_back-requires-after_bounds
-give_back-requires-after_bounds g c = let x = at_hand (tab_at (view c.args.pass.now) c.args.tab) c.requires.writer c.in-Some.writing c.requires.is (sym c.in-Some.is ∙ c.writing.ensures) in
+pub give_back-requires : goal.give_back-requires
+give_back-requires g c = let x = at_hand (tab_at (view c.args.pass.now) c.args.tab) c.requires.writer c.in-Some.writing c.requires.is (sym c.in-Some.is ∙ c.writing.ensures) in
     may_second g.C.Cell.tells g.C.Cell.state g.O.Origin.offers c.args.store.now c.args.pass.now c.args.tab c.requires c.in-Some.writing.second (ap WritingAt.second x)
 
-pub give_back-requires-2-after_bounds : goal.give_back-requires-2-after_bounds
-give_back-requires-2-after_bounds g c = let x = at_hand (tab_at (view c.args.pass.now) c.args.tab) c.requires.writer c.in-Some.writing c.requires.is (sym c.in-Some.is ∙ c.writing.ensures) in
+pub give_back-requires-2 : goal.give_back-requires-2
+give_back-requires-2 g c = let x = at_hand (tab_at (view c.args.pass.now) c.args.tab) c.requires.writer c.in-Some.writing c.requires.is (sym c.in-Some.is ∙ c.writing.ensures) in
     may_first g.C.Cell.tells g.C.Cell.state g.O.Origin.offers c.args.store.now c.args.pass.now c.args.tab c.requires c.give_back.new.pass c.give_back.ensures.others.own
     (subst (λ o. GaveBack (basis g.C.Cell.tells g.C.Cell.state g.O.Origin.offers c.args.store.now) c.args.tab o (view c.args.pass.now) (view c.give_back.new.pass)) (ap WritingAt.second x) c.give_back.ensures.gave)
     c.first_unlinked.result

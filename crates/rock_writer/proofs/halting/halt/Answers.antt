@@ -4,11 +4,11 @@ use Rattle.rock_writer.proofs.Parting.{may_part}
 use Rattle.rock_writer.proofs.Unlinking.{after, last, may_halt}
 use Rattle.rock_writer.proofs.halting.halt.Goals as goal
 
-pub advance-requires-after_bounds : goal.advance-requires-after_bounds
-advance-requires-after_bounds g c = may_halt g.C.Cell.tells g.C.Cell.state g.O.Origin.offers c.args.store.now c.args.pass.now c.args.tab c.requires c.give_unlinked.new.pass c.give_unlinked.ensures.others.own c.give_unlinked.ensures.gave
+pub advance-requires : goal.advance-requires
+advance-requires g c = may_halt g.C.Cell.tells g.C.Cell.state g.O.Origin.offers c.args.store.now c.args.pass.now c.args.tab c.requires c.give_unlinked.new.pass c.give_unlinked.ensures.others.own c.give_unlinked.ensures.gave
 
-pub part-requires-after_bounds : goal.part-requires-after_bounds
-part-requires-after_bounds g c = let now = after g.C.Cell.tells g.C.Cell.state g.O.Origin.offers c.args.store.now c.args.pass.now c.args.tab c.requires c.give_unlinked.new.pass c.give_unlinked.ensures.others.own c.give_unlinked.ensures.gave in
+pub part-requires : goal.part-requires
+part-requires g c = let now = after g.C.Cell.tells g.C.Cell.state g.O.Origin.offers c.args.store.now c.args.pass.now c.args.tab c.requires c.give_unlinked.new.pass c.give_unlinked.ensures.others.own c.give_unlinked.ensures.gave in
     may_part g.C.Cell.tells g.C.Cell.state g.O.Origin.offers c.args.store.now c.give_unlinked.new.pass c.advance.new.pass c.args.tab _ Stage.Halted
     (last g.C.Cell.tells g.C.Cell.state g.O.Origin.offers c.args.store.now c.args.pass.now c.args.tab c.requires c.give_unlinked.new.pass c.give_unlinked.ensures.others.own c.give_unlinked.ensures.gave)
     c.give_unlinked.ensures.others.own c.requires.below now.1 now.0 (λ n. refl) c.advance.ensures.made

@@ -6,8 +6,8 @@ use Rattle.rock_writer.proofs.Parting.{freed_tabs, gave_up_done, gives_up, may_f
 use Rattle.store_rule.proofs.Passing.{pass_of}
 use Rattle.rock_writer.proofs.halting.part.Goals as goal
 
-pub free_chain-requires-after_bounds : goal.free_chain-requires-after_bounds
-free_chain-requires-after_bounds g c = may_free g.C.Cell.tells g.C.Cell.state g.O.Origin.offers c.args.store.now c.args.pass.now c.leave.new.pass c.args.tab c.requires
+pub free_chain-requires : goal.free_chain-requires
+free_chain-requires g c = may_free g.C.Cell.tells g.C.Cell.state g.O.Origin.offers c.args.store.now c.args.pass.now c.leave.new.pass c.args.tab c.requires
     (gives_up (basis g.C.Cell.tells g.C.Cell.state g.O.Origin.offers c.args.store.now) (view c.args.pass.now) (view c.leave.new.pass) c.args.tab Left.MustFree (sym c.is_last.ensures ∙ c.if-not-is_last.false)
     (subst (λ l. Leaves (basis g.C.Cell.tells g.C.Cell.state g.O.Origin.offers c.args.store.now) (view c.args.pass.now) c.args.tab l (view c.leave.new.pass)) c.in-MustFree.is c.leave.ensures.left)) c.leave.ensures.others.own
 

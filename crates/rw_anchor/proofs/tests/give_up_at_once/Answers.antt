@@ -30,8 +30,8 @@ take-requires-clause-may g c = let b = basis g.C.Cell.tells g.C.Cell.state g.O.O
   };
 }
 
-pub store_side-requires-after_bounds : goal.store_side-requires-after_bounds
-store_side-requires-after_bounds g c = let b = basis g.C.Cell.tells g.C.Cell.state g.O.Origin.offers c.args.store.now in let one = c.requires.anchors in let m = c.look-looked.ensures.made in let made = c.in-Ok-take.ensures.ok in
+pub store_side-requires : goal.store_side-requires
+store_side-requires g c = let b = basis g.C.Cell.tells g.C.Cell.state g.O.Origin.offers c.args.store.now in let one = c.requires.anchors in let m = c.look-looked.ensures.made in let made = c.in-Ok-take.ensures.ok in
     let inner_free = ap is_free (ap (λ z. get_or z inner Tab.Free) (c.draw.ensures.tabs ∙ c.look-looked.ensures.tabs) ∙ ap (λ z. tab_at z inner) c.requires.pass.fresh) in
     let vacant = ap is_vacant (sym made.answers) ∙ sym c.is_vacant.ensures.number ∙ c.if-not-is_vacant.false in
     let won = sym made.answers ∙ m.answers ∙ sym (looked_last b _ _ _ 0 m.step) ∙ sym (same_find b (view c.look-looked.new.pass) (view c.draw.new.pass) c.in-Ok.version c.in-Ok.ensures.ok 0) in
@@ -40,8 +40,8 @@ store_side-requires-after_bounds g c = let b = basis g.C.Cell.tells g.C.Cell.sta
       can = record { allowed = (omega arith, first.1 inner_free, subst (OfWriter (λ w. (w.is_appending ≡ false) × MayStore b.setting w Side.Start 0)) (sym first.0) (refl, refl)); chooses = tt; names = tt };
     }
 
-pub load_side-requires-after_bounds : goal.load_side-requires-after_bounds
-load_side-requires-after_bounds g c = let b = basis g.C.Cell.tells g.C.Cell.state g.O.Origin.offers c.args.store.now in let one = c.requires.anchors in let m = c.look-looked.ensures.made in let made = c.in-Ok-take.ensures.ok in
+pub load_side-requires : goal.load_side-requires
+load_side-requires g c = let b = basis g.C.Cell.tells g.C.Cell.state g.O.Origin.offers c.args.store.now in let one = c.requires.anchors in let m = c.look-looked.ensures.made in let made = c.in-Ok-take.ensures.ok in
     let inner_free = ap is_free (ap (λ z. get_or z inner Tab.Free) (c.draw.ensures.tabs ∙ c.look-looked.ensures.tabs) ∙ ap (λ z. tab_at z inner) c.requires.pass.fresh) in
     let vacant = ap is_vacant (sym made.answers) ∙ sym c.is_vacant.ensures.number ∙ c.if-not-is_vacant.false in
     let won = sym made.answers ∙ m.answers ∙ sym (looked_last b _ _ _ 0 m.step) ∙ sym (same_find b (view c.look-looked.new.pass) (view c.draw.new.pass) c.in-Ok.version c.in-Ok.ensures.ok 0) in
@@ -51,8 +51,8 @@ load_side-requires-after_bounds g c = let b = basis g.C.Cell.tells g.C.Cell.stat
       can = record { allowed = (omega arith, ap is_using second.0); chooses = tt; names = tt };
     }
 
-pub advance-word-requires-after_bounds : goal.advance-word-requires-after_bounds
-advance-word-requires-after_bounds g c = let b = basis g.C.Cell.tells g.C.Cell.state g.O.Origin.offers c.args.store.now in let one = c.requires.anchors in let m = c.look-looked.ensures.made in let made = c.in-Ok-take.ensures.ok in
+pub advance-word-requires : goal.advance-word-requires
+advance-word-requires g c = let b = basis g.C.Cell.tells g.C.Cell.state g.O.Origin.offers c.args.store.now in let one = c.requires.anchors in let m = c.look-looked.ensures.made in let made = c.in-Ok-take.ensures.ok in
     let inner_free = ap is_free (ap (λ z. get_or z inner Tab.Free) (c.draw.ensures.tabs ∙ c.look-looked.ensures.tabs) ∙ ap (λ z. tab_at z inner) c.requires.pass.fresh) in
     let vacant = ap is_vacant (sym made.answers) ∙ sym c.is_vacant.ensures.number ∙ c.if-not-is_vacant.false in
     let won = sym made.answers ∙ m.answers ∙ sym (looked_last b _ _ _ 0 m.step) ∙ sym (same_find b (view c.look-looked.new.pass) (view c.draw.new.pass) c.in-Ok.version c.in-Ok.ensures.ok 0) in

@@ -20,8 +20,8 @@ take-requires-clause-may g c = let b = basis g.C.Cell.tells g.C.Cell.state g.O.O
   };
 }
 
-pub share-requires-after_bounds : goal.share-requires-after_bounds
-share-requires-after_bounds g c = let one = c.requires.anchors in record {
+pub share-requires : goal.share-requires
+share-requires g c = let one = c.requires.anchors in record {
   own = c.requires.second.own;
   can = record {
     allowed = (omega arith, omega arith, ap (λ z. tab_at z 0) c.requires.second.fresh);

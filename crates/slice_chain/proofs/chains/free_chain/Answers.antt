@@ -6,12 +6,12 @@ use Rattle.slice_chain.proofs.chains.free_chain.Goals as goal
 pub first_slot-requires : goal.first_slot-requires
 first_slot-requires g c = start_fits g.C.Cell.tells g.C.Cell.state g.O.Origin.offers c.args.store.now c.args.pass.now c.requires c.load_side-start.result c.load_side-start.new.pass c.load_side-start.ensures
 
-pub free_rest-requires-after_bounds : goal.free_rest-requires-after_bounds
-free_rest-requires-after_bounds g c = subst (λ (o : Option ℕ). MayFreeRest g.C.Cell.tells g.C.Cell.state g.O.Origin.offers c.args.store.now c.load_side-start.new.pass o) (sym c.first_slot.ensures)
+pub free_rest-requires : goal.free_rest-requires
+free_rest-requires g c = subst (λ (o : Option ℕ). MayFreeRest g.C.Cell.tells g.C.Cell.state g.O.Origin.offers c.args.store.now c.load_side-start.new.pass o) (sym c.first_slot.ensures)
     (may_rest g.C.Cell.tells g.C.Cell.state g.O.Origin.offers c.args.store.now c.args.pass.now c.requires c.load_side-start.result c.load_side-start.new.pass c.load_side-start.ensures)
 
-pub raise-requires-after_bounds : goal.raise-requires-after_bounds
-raise-requires-after_bounds g c = let on = ap is_freeing_anchor (sym c.requires.is) ∙ sym c.frees_anchor-is_freeing.ensures ∙ c.if-is_freeing.true in
+pub raise-requires : goal.raise-requires
+raise-requires g c = let on = ap is_freeing_anchor (sym c.requires.is) ∙ sym c.frees_anchor-is_freeing.ensures ∙ c.if-is_freeing.true in
     may_end g.C.Cell.tells g.C.Cell.state g.O.Origin.offers c.args.store.now c.args.pass.now c.requires c.load_side-start.result c.load_side-start.new.pass c.load_side-start.ensures c.free_rest.new.pass c.free_rest.ensures.freed c.free_rest.ensures.others.own on
 
 pub returns-then-is_freeing-clause-freed : goal.returns-then-is_freeing-clause-freed

@@ -2,14 +2,14 @@ use Rattle.std.proofs.Common.{refl}
 use Rattle.slice_chain.proofs.Freeing.{front_follows, front_freed, may_give, may_leave, may_look}
 use Rattle.slice_chain.proofs.chains.free_front.Goals as goal
 
-pub get_link-link-requires-after_bounds : goal.get_link-link-requires-after_bounds
-get_link-link-requires-after_bounds g c = may_look g.C.Cell.tells g.C.Cell.state g.O.Origin.offers c.args.store.now c.args.pass.now c.args.slot c.requires
+pub get_link-link-requires : goal.get_link-link-requires
+get_link-link-requires g c = may_look g.C.Cell.tells g.C.Cell.state g.O.Origin.offers c.args.store.now c.args.pass.now c.args.slot c.requires
 
-pub loosen-requires-after_bounds : goal.loosen-requires-after_bounds
-loosen-requires-after_bounds g c = may_leave g.C.Cell.tells g.C.Cell.state g.O.Origin.offers c.args.store.now c.args.pass.now c.args.slot c.requires _ c.get_link-link.new.pass c.get_link-link.ensures
+pub loosen-requires : goal.loosen-requires
+loosen-requires g c = may_leave g.C.Cell.tells g.C.Cell.state g.O.Origin.offers c.args.store.now c.args.pass.now c.args.slot c.requires _ c.get_link-link.new.pass c.get_link-link.ensures
 
-pub disown-requires-after_bounds : goal.disown-requires-after_bounds
-disown-requires-after_bounds g c = may_give g.C.Cell.tells g.C.Cell.state g.O.Origin.offers c.args.store.now c.args.pass.now c.args.slot c.requires _ c.get_link-link.new.pass c.get_link-link.ensures c.loosen.result c.loosen.new.pass c.loosen.ensures
+pub disown-requires : goal.disown-requires
+disown-requires g c = may_give g.C.Cell.tells g.C.Cell.state g.O.Origin.offers c.args.store.now c.args.pass.now c.args.slot c.requires _ c.get_link-link.new.pass c.get_link-link.ensures c.loosen.result c.loosen.new.pass c.loosen.ensures
 
 pub returns-clause-freed : goal.returns-clause-freed
 returns-clause-freed g c = front_freed g.C.Cell.tells g.C.Cell.state g.O.Origin.offers c.args.store.now c.args.pass.now c.args.slot c.requires _ c.get_link-link.new.pass c.get_link-link.ensures c.loosen.result c.loosen.new.pass c.loosen.ensures c.disown.result c.disown.new.pass c.disown.ensures

@@ -13,8 +13,8 @@ loop-front-init g c = record {
   follows = follows_none g.C.Cell.tells g.C.Cell.state g.O.Origin.offers c.args.store.now inner c.args.pass.now c.requires.own;
 }
 
-pub free_front-front-requires-after_bounds : goal.free_front-front-requires-after_bounds
-free_front-front-requires-after_bounds g c = may_front g.C.Cell.tells g.C.Cell.state g.O.Origin.offers c.args.store.now c.args.pass.now c.args.front c.requires c.loop-front.pass c.in-Some.slot c.loop-front.invariant.follows.own
+pub free_front-front-requires : goal.free_front-front-requires
+free_front-front-requires g c = may_front g.C.Cell.tells g.C.Cell.state g.O.Origin.offers c.args.store.now c.args.pass.now c.args.front c.requires c.loop-front.pass c.in-Some.slot c.loop-front.invariant.follows.own
     (subst (λ (o : Option ℕ). RestLeft (basis g.C.Cell.tells g.C.Cell.state g.O.Origin.offers c.args.store.now) (view c.args.pass.now) o (view c.loop-front.pass)) c.in-Some.is c.loop-front.invariant.left)
 
 pub loop-front-preserved : goal.loop-front-preserved

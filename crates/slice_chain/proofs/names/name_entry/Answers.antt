@@ -8,13 +8,13 @@ use Rattle.pass_calls.proofs.Following.{follows_on}
 use Rattle.slice_chain.proofs.Naming.{Ready, may_store, ready_on, stored_follows}
 use Rattle.slice_chain.proofs.names.name_entry.Goals as goal
 
-pub store_side-requires-3-after_bounds : goal.store_side-requires-3-after_bounds
-store_side-requires-3-after_bounds g c = let r = c.requires in let start : Ready g.C.Cell.tells g.C.Cell.state g.O.Origin.offers c.args.store.now c.args.tab r.below c.args.pass.now = record { own = r.own; inner_free = r.inner_free; unchosen = r.unchosen } in
+pub store_side-requires-3 : goal.store_side-requires-3
+store_side-requires-3 g c = let r = c.requires in let start : Ready g.C.Cell.tells g.C.Cell.state g.O.Origin.offers c.args.store.now c.args.tab r.below c.args.pass.now = record { own = r.own; inner_free = r.inner_free; unchosen = r.unchosen } in
     let one = ready_on g.C.Cell.tells g.C.Cell.state g.O.Origin.offers c.args.store.now c.args.tab r.below c.args.pass.now c.store_side.new.pass Side.Key0 _ start c.store_side.ensures in
     let two = ready_on g.C.Cell.tells g.C.Cell.state g.O.Origin.offers c.args.store.now c.args.tab r.below c.store_side.new.pass c.store_side-2.new.pass Side.Key1 _ one c.store_side-2.ensures in may_store g.C.Cell.tells g.C.Cell.state g.O.Origin.offers c.args.store.now c.args.tab r.below c.store_side-2.new.pass Side.Offer c.args.offer two (λ w u. (u.1, u.2, r.from))
 
-pub store_side-requires-4-after_bounds : goal.store_side-requires-4-after_bounds
-store_side-requires-4-after_bounds g c = let r = c.requires in let start : Ready g.C.Cell.tells g.C.Cell.state g.O.Origin.offers c.args.store.now c.args.tab r.below c.args.pass.now = record { own = r.own; inner_free = r.inner_free; unchosen = r.unchosen } in
+pub store_side-requires-4 : goal.store_side-requires-4
+store_side-requires-4 g c = let r = c.requires in let start : Ready g.C.Cell.tells g.C.Cell.state g.O.Origin.offers c.args.store.now c.args.tab r.below c.args.pass.now = record { own = r.own; inner_free = r.inner_free; unchosen = r.unchosen } in
     let one = ready_on g.C.Cell.tells g.C.Cell.state g.O.Origin.offers c.args.store.now c.args.tab r.below c.args.pass.now c.store_side.new.pass Side.Key0 _ start c.store_side.ensures in
     let two = ready_on g.C.Cell.tells g.C.Cell.state g.O.Origin.offers c.args.store.now c.args.tab r.below c.store_side.new.pass c.store_side-2.new.pass Side.Key1 _ one c.store_side-2.ensures in
     let three = ready_on g.C.Cell.tells g.C.Cell.state g.O.Origin.offers c.args.store.now c.args.tab r.below c.store_side-2.new.pass c.store_side-3.new.pass Side.Offer _ two c.store_side-3.ensures in

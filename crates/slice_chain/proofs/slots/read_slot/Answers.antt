@@ -5,8 +5,8 @@ use Rattle.slice_chain.specs.Reads.{ReadSlot}
 use Rattle.slice_chain.proofs.ReadingSlots.{follows, has_returned, known_slot, may_end_turn, may_put, own3, read, read_bytes, taken, when_err, when_ok, wide_enough}
 use Rattle.slice_chain.proofs.slots.read_slot.Goals as goal
 
-pub read_cell-result-requires-after_bounds : goal.read_cell-result-requires-after_bounds
-read_cell-result-requires-after_bounds g c = let a = c.args in let s = a.store.now in let p = a.pass.now in let may = c.requires in let slot = c.in-Some.slot in
+pub read_cell-result-requires : goal.read_cell-result-requires
+read_cell-result-requires g c = let a = c.args in let s = a.store.now in let p = a.pass.now in let may = c.requires in let slot = c.in-Some.slot in
     let e = known_slot g.C.Cell.tells g.C.Cell.state g.O.Origin.offers s a.tab p may slot (sym c.in-Some.is ∙ c.slot_at.ensures) in let out = c.cell_out-cell in
     wide_enough g.C.Cell.tells g.C.Cell.state g.O.Origin.offers s a.tab p may slot e c.wait_turn.new.pass c.wait_turn.ensures out.result out.new.pass out.ensures.out out.ensures.kept
 

@@ -6,8 +6,8 @@ use Rattle.slice_chain.specs.Written.{IsWrittenCell, MayBeLeft}
 use Rattle.slice_chain.proofs.Writing.{on_err, always_won, follows, may_end_turn, may_put, has_returned, slot_is, wide_enough, wrote}
 use Rattle.slice_chain.proofs.slots.write_slot.Goals as goal
 
-pub write_cell-result-requires-after_bounds : goal.write_cell-result-requires-after_bounds
-write_cell-result-requires-after_bounds g c = let a = c.args in let s = a.store.now in let p = a.pass.now in let may = c.requires in let slot = c.in-Some.slot in
+pub write_cell-result-requires : goal.write_cell-result-requires
+write_cell-result-requires g c = let a = c.args in let s = a.store.now in let p = a.pass.now in let may = c.requires in let slot = c.in-Some.slot in
     let e = slot_is g.C.Cell.tells g.C.Cell.state g.O.Origin.offers s p a.tab may slot (sym c.in-Some.is ∙ c.first_reserved.ensures) in let p1 = c.try_turn.new.pass in
     let found = subst (λ (b : Bool). TurnFound g.C.Cell.tells g.C.Cell.state g.O.Origin.offers s p a.tab slot b p1) (c.try_turn.ensures.writes (always_won g.C.Cell.tells g.C.Cell.state g.O.Origin.offers s p a.tab may)) c.try_turn.ensures in
     let out = c.cell_out-cell in

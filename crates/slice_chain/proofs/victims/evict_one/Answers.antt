@@ -15,8 +15,8 @@ loop-steps-init g c = record {
   follows = follows_none g.C.Cell.tells g.C.Cell.state g.O.Origin.offers c.args.store.now inner c.args.pass.now c.requires.own;
 }
 
-pub keep_first-slot-requires-after_bounds : goal.keep_first-slot-requires-after_bounds
-keep_first-slot-requires-after_bounds g c = let b = basis g.C.Cell.tells g.C.Cell.state g.O.Origin.offers c.args.store.now in let many = c.anchors-anchors.ensures.value in
+pub keep_first-slot-requires : goal.keep_first-slot-requires
+keep_first-slot-requires g c = let b = basis g.C.Cell.tells g.C.Cell.state g.O.Origin.offers c.args.store.now in let many = c.anchors-anchors.ensures.value in
     let below = c.loop-steps-test.true in
     let hand_is = c.first_in_round-hand.ensures ∙ (λ i. hand_in (many i) (c.hand.ensures i)) in
     may_keep g.C.Cell.tells g.C.Cell.state g.O.Origin.offers c.args.store.now c.args.tab c.args.pass.now c.requires c.first_in_round-hand.result c.loop-steps.steps (round_begins _ _ _ hand_is (omega arith)) (omega arith) (view c.loop-steps.pass) c.loop-steps.invariant.passed c.try_evict.new.pass

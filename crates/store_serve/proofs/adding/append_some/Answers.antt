@@ -18,8 +18,8 @@ returns-in-Text-clause-err g c e may = let next = let text = c.as_slice.ensures 
     (subst (λ z. bytes ≡ take (length bytes) (drop c.args.from z)) text (next_ones c.as_slice.result.now c.args.from (c.args.upto - c.args.from) (let l = ap length text in let a = may.inside in let b = may.order in omega arith))) in
     IfErr-weaker c.append.result _ _ (λ fault stopped. (_, stopped)) (c.append.ensures.err e next)
 
-pub append-requires-in-Made-after_bounds : goal.append-requires-in-Made-after_bounds
-append-requires-in-Made-after_bounds g c = let e = c.requires.may.0 in let may = c.requires.may.1 in (
+pub append-requires-in-Made : goal.append-requires-in-Made
+append-requires-in-Made g c = let e = c.requires.may.0 in let may = c.requires.may.1 in (
   e,
   let bytes = take c.min-count.result c.letters-piece.result in let body = ap bytes_of c.in-Made.is in
       may_append g.C.Cell.tells g.C.Cell.state g.O.Origin.offers c.args.store.now c.args.tab e _ c.args.from c.args.upto c.args.pass.now bytes may

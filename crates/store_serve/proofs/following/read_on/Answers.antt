@@ -17,8 +17,8 @@ loop-init g c = record {
   station = refl;
 }
 
-pub more-answer-requires-after_bounds : goal.more-answer-requires-after_bounds
-more-answer-requires-after_bounds g c = let i = c.loop.invariant in let h = i.read c.requires.reads.0 c.requires.reads.1 in
+pub more-answer-requires : goal.more-answer-requires
+more-answer-requires g c = let i = c.loop.invariant in let h = i.read c.requires.reads.0 c.requires.reads.1 in
     c.reading_tabs_may_go_on.ensures.more _ _ _ _ h.standing h.reads (let room = c.requires.room in let same = i.room in omega arith)
 
 pub returns-in_default : goal.returns-in_default

@@ -5,8 +5,8 @@ use Rattle.store_serve.proofs.Gives.{reader_on}
 use Rattle.store_serve.proofs.Inner.{not_inner, other_tab}
 use Rattle.store_serve.proofs.getting.get_entry.Goals as goal
 
-pub close_entry-requires-after_bounds : goal.close_entry-requires-after_bounds
-close_entry-requires-after_bounds g c = let reads = c.in-Ok.ensures.reads in
+pub close_entry-requires : goal.close_entry-requires
+close_entry-requires g c = let reads = c.in-Ok.ensures.reads in
     let still = reads_still g.C.Cell.tells g.C.Cell.state g.O.Origin.offers c.args.store.now c.args.tab _ c.open_entry.new.pass c.read_on-ended.new.pass _ _ c.read_on-ended.result (c.read_on-ended.ensures.went _ reads.1) (c.read_on-ended.ensures.stopped _ reads.1) in
     c.reading_tabs_may_go_on.ensures.close _ _ _ still.0 still.1
     (inner_stays (view c.open_entry.new.pass) (view c.read_on-ended.new.pass) c.read_on-ended.ensures.inner

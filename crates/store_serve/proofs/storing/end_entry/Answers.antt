@@ -5,8 +5,8 @@ use Rattle.store_serve.proofs.Adds.{error_as, follows_on}
 use Rattle.store_serve.proofs.Ends.{added_all, either_free, may_all, may_finish}
 use Rattle.store_serve.proofs.storing.end_entry.Goals as goal
 
-pub finish-requires-after_bounds : goal.finish-requires-after_bounds
-finish-requires-after_bounds g c = let e = c.requires.0 in let may = c.requires.1 in let whole = c.body_length-upto.ensures in
+pub finish-requires : goal.finish-requires
+finish-requires g c = let e = c.requires.0 in let may = c.requires.1 in let whole = c.body_length-upto.ensures in
     let h = added_all g.C.Cell.tells g.C.Cell.state g.O.Origin.offers c.args.store.now c.args.tab e _ c.args.from c.body_length-upto.result c.args.pass.now may whole c.add_bytes.new.pass
     (c.in-Ok.ensures.ok e (may_all g.C.Cell.tells g.C.Cell.state g.O.Origin.offers c.args.store.now c.args.tab e _ c.args.from c.body_length-upto.result c.args.pass.now may whole)) in
     (_, may_finish g.C.Cell.tells g.C.Cell.state g.O.Origin.offers c.args.store.now c.args.tab e _ c.args.from c.body_length-upto.result c.args.pass.now may whole c.add_bytes.new.pass h)
