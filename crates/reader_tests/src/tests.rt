@@ -203,7 +203,7 @@ fn expect_stored<R: Abort, C: Cell, O: Origin, St: Station<C = C>>(
     body: &[u8],
     version: u32,
 )
-    requires writes { IsWriter C.tells C.state O.offers store.now pass.old 0 body.now (length body.now) }
+    requires { IsWriter C.tells C.state O.offers store.now pass.old 0 body.now (length body.now) }
     ensures idle { IsIdle C.tells C.state O.offers store.now pass.new 0 }
 {
     let ended = end(store, pass, station, 0, body);

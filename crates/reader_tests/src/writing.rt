@@ -55,7 +55,7 @@ pub fn end<C: Cell, O: Origin, St: Station<C = C>>(
     tab: u8,
     body: &[u8],
 ) -> Result<Ended, WriteFault>
-    requires writes { IsWriter C.tells C.state O.offers store.now pass.old tab body.now (length body.now) }
+    requires { IsWriter C.tells C.state O.offers store.now pass.old tab body.now (length body.now) }
     ensures idle { IsIdle C.tells C.state O.offers store.now pass.new tab }
 {
     finish(store, pass, station, tab)
@@ -63,7 +63,7 @@ pub fn end<C: Cell, O: Origin, St: Station<C = C>>(
 
 /// Gives the entry up.
 pub fn give_up<C: Cell, O: Origin>(store: &Store<C, O>, pass: &mut Pass<C>, tab: u8)
-    requires writes { (body : List ℕ) × (taken : ℕ) × IsWriter C.tells C.state O.offers store.now pass.old tab body taken }
+    requires { (body : List ℕ) × (taken : ℕ) × IsWriter C.tells C.state O.offers store.now pass.old tab body taken }
     ensures idle { IsIdle C.tells C.state O.offers store.now pass.new tab }
 {
     abort(store, pass, tab);

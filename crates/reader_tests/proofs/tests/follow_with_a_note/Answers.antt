@@ -14,5 +14,5 @@ expect_open-requires-clause-idle g c = c.tell.ensures.idle 0 c.expect_none.ensur
 pub expect_append-requires-2-clause-writes : goal.expect_append-requires-2-clause-writes
 expect_append-requires-2-clause-writes g c = c.tell.ensures.writes 0 431 c.args.body.now c.expect_append.ensures.writes
 
-pub expect_stored-requires-clause-writes : goal.expect_stored-requires-clause-writes
-expect_stored-requires-clause-writes g c = subst (IsWriter g.C.Cell.tells g.C.Cell.state g.O.Origin.offers c.args.store.now c.expect_append-2.new.pass 0 c.args.body.now) (sym c.requires.long) c.expect_append-2.ensures.writes
+pub expect_stored-requires : goal.expect_stored-requires
+expect_stored-requires g c = subst (IsWriter g.C.Cell.tells g.C.Cell.state g.O.Origin.offers c.args.store.now c.expect_append-2.new.pass 0 c.args.body.now) (sym c.requires.long) c.expect_append-2.ensures.writes
