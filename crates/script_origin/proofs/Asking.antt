@@ -1,0 +1,79 @@
+-- What may be asked of a store that is offered what the lines of a script offer.
+use Rattle.std.proofs.Common.{◌∙◌, ◌+◌, ◌-◌, ◌≡◌, ◌≢◌, Bool, Contains, List, [], ap, arith, refl, ℕ}
+use Rattle.std.specs.Prelude.{None, Option, Some, option_and_then}
+use Rattle.std.specs.Option.{option_map_or}
+use Rattle.rock_disk.specs.Cell.{CellState}
+use Rattle.store_key.specs.Url.{IsUrl}
+use Rattle.script_text.specs.Lines.{AreLines}
+use Rattle.script_text.specs.Requests.{SpellsRequest}
+use Rattle.script_text.specs.declared.body.Body.{Body}
+use Rattle.script_text.specs.declared.line.Line.{Line}
+use Rattle.script_text.specs.declared.request.Request.{Request}
+use Rattle.script_text.specs.declared.request.Request.TheVariants.{Add, Await, Begin, CloseTab, DropTab, End, Get, Mark, More, OpenTab, Purge, Put, Save}
+use Rattle.script_text.specs.declared.verb.Verb.{Verb}
+use Rattle.plain_model.specs.Serving.{bytes_of}
+use Rattle.store_rule.specs.Ground.{Offers, anchor_for}
+use Rattle.store_rule.specs.Passes.{basis}
+use Rattle.store_rule.specs.declared.store.Pass.{Pass}
+use Rattle.store_rule.specs.declared.store.Store.{Store}
+use Rattle.serve_lines.specs.Serving.{MayAsk, offer_of}
+use Rattle.serve_lines.specs.Tabs.{IsOffered, MayGo}
+use Rattle.script_origin.specs.Offered.{Response, offered_by, offered_in, offers_of}
+use Rattle.script_origin.proofs.Found.{found, spelled}
+
+-- what a line of a script offers is found by its number
+offered : {workers : ℕ} {texts : List (List ℕ)} {lines : List Line} → AreLines workers texts lines → (line : Line) → Contains lines line → offered_by lines line.number ≡ offered_in line.request
+offered are line among = ap (option_and_then (λ (l : Line). offered_in l.request)) (found are line among)
+
+url_offered : (lines : List Line) (number : ℕ) (url : List ℕ) (body : Body) → offered_by lines number ≡ Some record { url = url; body = body } → (offers_of lines).url number ≡ url
+unfolding offers_of
+url_offered lines number url body e = ap (λ (o : Option Response). option_map_or (λ (r : Response). r.url) o []) e
+
+body_offered : (lines : List Line) (number : ℕ) (url : List ℕ) (body : Body) → offered_by lines number ≡ Some record { url = url; body = body } → (offers_of lines).body number ≡ bytes_of body
+unfolding offers_of
+body_offered lines number url body e = ap (λ (o : Option Response). option_map_or (λ (r : Response). bytes_of r.body) o []) e
+
+left_to_none : (lines : List Line) (a : ℕ) → (offers_of lines).alone a ≡ None
+unfolding offers_of
+left_to_none lines a = refl
+
+behind : (slots number : ℕ) → (slots + number) - slots ≡ number
+behind slots number = omega arith
+
+module _ {C O : Type 0} (tells : Bool) (state : C → CellState) (offers : O → Offers) (s : Store C O) (lines : List Line) (given : (basis tells state offers s).offers ≡ offers_of lines) where
+  is_offered : (number : ℕ) (url : List ℕ) (body : Body) → IsUrl url → offered_by lines number ≡ Some record { url = url; body = body }
+      → IsOffered tells state offers s (offer_of tells state offers s number) url body
+  is_offered number url body good e = record {
+    from = omega arith;
+    url_is = ap (basis tells state offers s).offers.url (behind (basis tells state offers s).setting.slots number)
+        ∙ (ap (λ (o : Offers). o.url number) given ∙ url_offered lines number url body e);
+    body_is = ap (basis tells state offers s).offers.body (behind (basis tells state offers s).setting.slots number)
+        ∙ (ap (λ (o : Offers). o.body number) given ∙ body_offered lines number url body e);
+    good = good;
+  }
+
+  may_ask : (number : ℕ) (request : Request) (name : Verb) (words : List (List ℕ)) → SpellsRequest request name words → offered_by lines number ≡ offered_in request
+      → ((mark : ℕ) → request ≢ Mark mark) → ((mark : ℕ) → request ≢ Await mark) → MayAsk tells state offers s number request
+  may_ask number (Put url body) name words h e marks awaits = is_offered number url body h.1.0 e
+  may_ask number (Save url body) name words h e marks awaits = is_offered number url body h.1.0 e
+  may_ask number (Get url) name words h e marks awaits = h.1.0
+  may_ask number (Purge url) name words h e marks awaits = h.1.0
+  may_ask number (Begin tab url body) name words h e marks awaits = let le = h.1.0 in (omega arith, is_offered number url body h.1.1 e)
+  may_ask number (Add tab count) name words h e marks awaits = let le = h.1.0 in omega arith
+  may_ask number (End tab) name words h e marks awaits = let le = h.1.0 in omega arith
+  may_ask number (DropTab tab) name words h e marks awaits = let le = h.1.0 in omega arith
+  may_ask number (OpenTab tab url) name words h e marks awaits = let le = h.1.0 in (omega arith, h.1.1)
+  may_ask number (More tab) name words h e marks awaits = let le = h.1.0 in omega arith
+  may_ask number (CloseTab tab) name words h e marks awaits = let le = h.1.0 in omega arith
+  may_ask number (Mark mark) name words h e marks awaits = marks mark refl
+  may_ask number (Await mark) name words h e marks awaits = awaits mark refl
+
+  pub asks : {workers : ℕ} {texts : List (List ℕ)} → AreLines workers texts lines → (line : Line) → Contains lines line
+      → ((mark : ℕ) → line.request ≢ Mark mark) → ((mark : ℕ) → line.request ≢ Await mark) → MayAsk tells state offers s line.number line.request
+  asks are line among marks awaits =
+      let is = spelled are line among in may_ask line.number line.request is.name is.words is.spells (offered are line among) marks awaits
+
+  pub goes : (p : Pass C) (url : List ℕ) → MayGo tells state offers s p url
+  goes p url pass e =
+      let a : ℕ = anchor_for (basis tells state offers s) url in
+      cc (ap (λ (o : Offers). o.alone a) given, left_to_none lines a, e)

@@ -1,0 +1,33 @@
+-- What the lines of a script offer to a store.
+use Rattle.std.specs.Prelude.{◌==◌, List, None, Option, Some, [], find, option_and_then, ℕ}
+use Rattle.std.specs.Option.{option_map_or}
+use Rattle.script_text.specs.declared.body.Body.{Body}
+use Rattle.script_text.specs.declared.line.Line.{Line}
+use Rattle.script_text.specs.declared.request.Request.{Request}
+use Rattle.script_text.specs.declared.request.Request.TheVariants.{Begin, Put, Save}
+use Rattle.plain_model.specs.Serving.{bytes_of}
+use Rattle.store_rule.specs.Ground.{Offers}
+
+-- a body under a URL
+pub record Response : Type 0 where
+  pub url : List ℕ
+  pub body : Body
+
+-- what a request offers, if it offers a response
+abbrev pub offered_in : Request → Option Response
+offered_in (Put url body) = Some record { url = url; body = body }
+offered_in (Save url body) = Some record { url = url; body = body }
+offered_in (Begin tab url body) = Some record { url = url; body = body }
+offered_in _ = None
+
+-- what the line of this number offers, if there is one and it offers a response
+abbrev pub offered_by : List Line → ℕ → Option Response
+offered_by lines number = option_and_then (λ line. offered_in line.request) (find (λ line. line.number == number) lines)
+
+-- The offer of a number is what the line of this number offers, and an empty one where it offers nothing. No anchor is left to one pass.
+unfoldable pub offers_of : List Line → Offers
+offers_of lines = record {
+  url = λ number. option_map_or (λ response. response.url) (offered_by lines number) [];
+  body = λ number. option_map_or (λ response. bytes_of response.body) (offered_by lines number) [];
+  alone = λ anchor. None;
+}

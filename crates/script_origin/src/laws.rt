@@ -1,0 +1,30 @@
+// What may be asked of a store that is offered what a script offers. The function does nothing: the proof of a function
+// that calls it may use what it ensures.
+ghost use Rattle.std.specs.Prelude.{◌≡◌, ◌≢◌, Contains, List, ℕ};
+ghost use Rattle.script_text.specs.Script.{IsScript};
+ghost use Rattle.script_text.specs.declared.line.Line.{Line};
+ghost use Rattle.script_text.specs.declared.request.Request.TheVariants.{Await, Mark};
+ghost use Rattle.store_rule.specs.Passes.{basis};
+ghost use Rattle.store_rule.specs.declared.store.Pass.{Pass};
+ghost use Rattle.store_rule.specs.declared.store.Store.{Store};
+ghost use Rattle.serve_lines.specs.Serving.{MayAsk, Takes};
+ghost use Rattle.serve_lines.specs.Tabs.{MayGo};
+ghost use Rattle.script_origin.specs.Offered.{offers_of};
+
+use rock_disk::Cell;
+use store_rule::Origin;
+
+/// A store that is offered what the lines of a script offer, one that was read, may be asked for each of them but those of
+/// marks, and every pass may go to every URL. So each pass takes each of these lines.
+pub fn script_lines_may_be_asked<C: Cell, O: Origin>()
+    ensures asks { (s : Store C O) (workers : ℕ) (text : List ℕ) (lines : List Line) (line : Line)
+        → (basis C.tells C.state O.offers s).offers ≡ offers_of lines → IsScript workers text lines → Contains lines line
+        → ((mark : ℕ) → line.request ≢ Mark mark) → ((mark : ℕ) → line.request ≢ Await mark)
+        → MayAsk C.tells C.state O.offers s line.number line.request }
+    ensures goes { (s : Store C O) (lines : List Line) (p : Pass C) (url : List ℕ)
+        → (basis C.tells C.state O.offers s).offers ≡ offers_of lines → MayGo C.tells C.state O.offers s p url }
+    ensures takes { (s : Store C O) (workers : ℕ) (text : List ℕ) (lines : List Line) (line : Line) (p : Pass C)
+        → (basis C.tells C.state O.offers s).offers ≡ offers_of lines → IsScript workers text lines → Contains lines line
+        → ((mark : ℕ) → line.request ≢ Mark mark) → ((mark : ℕ) → line.request ≢ Await mark)
+        → Takes C.tells C.state O.offers s p line }
+{}

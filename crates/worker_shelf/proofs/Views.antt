@@ -1,0 +1,89 @@
+-- A shelf's pass after a note was made or learned, and what a shelf is to its callers.
+use Rattle.std.proofs.Common.{Bool, Contains, List, [], ap, arith, inl, inr, refl, subst, sym, ◌<◌, ◌∷◌, ◌≡◌, ◌∙◌, ◌⊎◌, false, true, ℕ}
+use Rattle.std.specs.Prelude.{◌≢◌}
+use Rattle.std.proofs.Math.Dec.{eqb}
+use Rattle.std.proofs.lemmas.Bool.Decides.{eqb_tells}
+use Rattle.std.proofs.lemmas.List.Elements.{Contains-append_left, Contains-append_right}
+use Rattle.rock_disk.specs.Cell.{CellState}
+use Rattle.script_text.specs.declared.line.Line.{Line}
+use Rattle.core_model.specs.Tabs.{inner, is_free, tab_at}
+use Rattle.core_model.specs.declared.view.Item.{Item}
+use Rattle.core_model.specs.declared.view.Sight.{Sight}
+use Rattle.core_model.specs.declared.view.View.{View}
+use Rattle.line_account.specs.Courses.{Keeps as Knows}
+use Rattle.store_rule.specs.declared.store.Desk.{Desk}
+use Rattle.store_rule.specs.declared.store.Pass.{Pass}
+use Rattle.store_rule.specs.declared.store.Store.{Store}
+use Rattle.store_rule.specs.Drafts.{draft_at}
+use Rattle.store_rule.specs.Ground.{Offers}
+use Rattle.store_rule.specs.Lending.{buffer_at}
+use Rattle.store_rule.specs.Notes.{sees}
+use Rattle.store_rule.specs.Passes.{Keeps, view}
+use Rattle.serve_lines.specs.Serving.{Takes}
+use Rattle.serve_lines.specs.Tabs.{IsFree, IsReady, Leaves}
+use Rattle.serve_lines.specs.Whole.{whole_tab}
+use Rattle.serve_lines.specs.declared.tabs.ScriptTab.{ScriptTab}
+use Rattle.worker_shelf.specs.Shelves.{AllFree, AllHold, HasShelf, Left, LeftBelow, OnShelf}
+use Rattle.worker_shelf.proofs.Holding.{Stays, all_hold_whole}
+
+abbrev pub on_shelf : {C O St : Type 0} → Store C O → Pass C → St → OnShelf C O St
+on_shelf s p st = record { store = s; pass = p; station = st }
+
+-- what a pass knows that has seen more
+knows_more : {X : Type 0} (v : View X) (sights : List Sight) (item : Item) → Knows v (sees v sights item)
+knows_more v sights item = record {
+  pass = refl;
+  seen = λ x h. Contains-append_right sights v.seen x h;
+  trail = λ x h. Contains-append_right (item ∷ []) v.trail x h;
+  met = λ a h. h;
+}
+
+-- all that a shelf knew, its pass knows still, and what a note tells it knows too
+pub knew : {C O St : Type 0} (o : OnShelf C O St) (s : Store C O) (p q : Pass C) (st : St) (sights : List Sight) (item : Item) → on_shelf s p st ≡ o → view q ≡ sees (view p) sights item → (x : Sight) → Contains (view o.pass).seen x → Contains (view q).seen x
+knew {C = C} {O = O} {St = St} o s p q st sights item is more x h = subst (λ (z : List Sight). Contains z x) (sym (ap View.seen more)) (Contains-append_right sights (view p).seen x (subst (λ (z : List Sight). Contains z x) (ap (λ (z : OnShelf C O St). (view z.pass).seen) (sym is)) h))
+
+pub learned : {C : Type 0} (p q : Pass C) (sights : List Sight) (item : Item) → view q ≡ sees (view p) sights item → (x : Sight) → Contains sights x → Contains (view q).seen x
+learned p q sights item more x h = subst (λ (z : List Sight). Contains z x) (sym (ap View.seen more)) (Contains-append_left sights (view p).seen x h)
+
+module _ {C O : Type 0} (tells : Bool) (state : C → CellState) (offers : O → Offers) where
+  takes_one : (s : Store C O) (p q : Pass C) (line : Line) → (view q).pass ≡ (view p).pass → Takes tells state offers s p line → Takes tells state offers s q line
+  takes_one s p q line same h = record { asks = h.asks; goes = λ url is pass alone. h.goes url is pass alone ∙ sym same }
+
+  -- a shelf takes the lines that it took
+  pub takes_stay : {St : Type 0} (o : OnShelf C O St) (s : Store C O) (p q : Pass C) (st : St) → on_shelf s p st ≡ o → (view q).pass ≡ (view p).pass → (line : Line)
+      → (Takes tells state offers s q line → Takes tells state offers o.store o.pass line) × (Takes tells state offers o.store o.pass line → Takes tells state offers s q line)
+  takes_stay {St = St} o s p q st is same line = subst (λ (z : OnShelf C O St). (Takes tells state offers s q line → Takes tells state offers z.store z.pass line) × (Takes tells state offers z.store z.pass line → Takes tells state offers s q line)) is
+      (takes_one s q p line (sym same), takes_one s p q line same)
+
+  -- it left its tabs
+  pub left_of : {St : Type 0} (o : OnShelf C O St) (s : Store C O) (p q : Pass C) (st : St) → on_shelf s p st ≡ o → LeftBelow tells state offers s whole_tab p q → Left tells state offers o (on_shelf s q st)
+  left_of {St = St} o s p q st is left = subst (λ (z : OnShelf C O St). Left tells state offers z (on_shelf s q st)) is record { store = refl; station = refl; left = left }
+
+  module _ (s : Store C O) where
+    -- where a pass has seen more, and has at hand what it had, its tabs are as they were
+    leaves_note : (p q : Pass C) (sights : List Sight) (item : Item) → Keeps tells state offers s p q → view q ≡ sees (view p) sights item → IsReady tells state offers s p → Leaves tells state offers s whole_tab p q
+    leaves_note p q sights item keeps more ready = record {
+      own = keeps.own;
+      inner_free = ap (λ (v : View (List ℕ)). is_free (tab_at v inner)) more ∙ ready.inner_free;
+      others = λ j ne far. ap (λ (v : View (List ℕ)). tab_at v j) more;
+      desks = λ j ne far. (ap (λ (ds : List Desk). buffer_at ds j) keeps.desks, ap (λ (ds : List Desk). draft_at ds j) keeps.desks);
+      keeps = subst (λ (v : View (List ℕ)). Knows (view p) v) (sym more) (knows_more (view p) sights item);
+      places = keeps.places;
+      cells = keeps.cells;
+    }
+
+    pub shelf_still : Stays tells state offers s → (p q : Pass C) (tabs : List ScriptTab) (piece : List ℕ) (sights : List Sight) (item : Item) → Keeps tells state offers s p q → view q ≡ sees (view p) sights item
+        → HasShelf tells state offers s p tabs piece → HasShelf tells state offers s q tabs piece
+    shelf_still stays p q tabs piece sights item keeps more h = record {
+      holds = all_hold_whole tells state offers s stays whole_tab p q (leaves_note p q sights item keeps more h.holds.ready) tabs refl h.holds (ap (λ (v : View (List ℕ)). tab_at v whole_tab) more ∙ h.holds.whole);
+      room = h.room;
+    }
+
+    -- all tabs are free once those of the script are
+    pub all_free : (q : Pass C) (tabs : List ScriptTab) → AllHold tells state offers s q tabs → ((t : ℕ) → t < whole_tab → IsFree q t) → AllFree q
+    all_free q tabs all free t lt = at (eqb_tells t whole_tab) (eqb_tells t inner)
+      where
+        at : ((eqb t whole_tab ≡ true) × (t ≡ whole_tab)) ⊎ ((eqb t whole_tab ≡ false) × (t ≢ whole_tab)) → ((eqb t inner ≡ true) × (t ≡ inner)) ⊎ ((eqb t inner ≡ false) × (t ≢ inner)) → is_free (tab_at (view q) t) ≡ true
+        at (inl is) _ = ap is_free (ap (tab_at (view q)) is.1 ∙ all.whole)
+        at (inr ne) (inl is) = ap (λ (n : ℕ). is_free (tab_at (view q) n)) is.1 ∙ all.ready.inner_free
+        at (inr ne) (inr far) = ap is_free (free t (let a = ne.1 in let b = far.1 in omega arith))

@@ -1,0 +1,14 @@
+use Rattle.std.proofs.Common.{◌<◌, ℕ}
+use Rattle.line_account.specs.Courses.{Keeps}
+use Rattle.store_rule.specs.Passes.{view}
+use Rattle.serve_lines.specs.Tabs.{IsFree}
+use Rattle.worker_shelf.specs.Shelves.{AllHold, LeftBelow}
+use Rattle.worker_shelf.proofs.leaving.leave_tabs.Given as goal
+
+abbrev pub invariant-loop-tab : goal.invariant-loop-tab
+invariant-loop-tab g l = record {
+  left : LeftBelow g.C.Cell.tells g.C.Cell.state g.O.Origin.offers l.store l.tab l.fn.pass l.pass;
+  holds : AllHold g.C.Cell.tells g.C.Cell.state g.O.Origin.offers l.store l.pass l.tabs;
+  free : (t : ℕ) → t < l.tab → IsFree l.pass t;
+  keeps : Keeps (view l.fn.pass) (view l.pass);
+}

@@ -1,0 +1,182 @@
+// A worker's shelf.
+ghost use Rattle.std.specs.Prelude.{IfOk, ◌+◌, ◌≡◌, ◌≤◌, length, replicate, vec_len};
+ghost use Rattle.slot_cell.specs.declared.header.TheConstants.{HEADER_SIZE};
+ghost use Rattle.serve_lines.specs.declared.tabs.ScriptTab.TheVariants.{Free as Unused};
+
+use crate::leaving::leave_tabs;
+use crate::serving::serve_line;
+use rock_disk::{Cell, Station};
+use rock_io::Memory;
+use script_text::{Answer, Line, Shelf};
+use serve_lines::{ScriptTab, requests_keep_other_tabs};
+use slot_cell::HEADER_SIZE;
+use std::alloc::Global;
+use std::marker::Model;
+use std::sync::Wait;
+use store_rule::{Note, Origin, Pass, Store};
+
+/// What one worker serves its lines on: its pass of the store, its station, and what is kept of the script's tabs.
+/// Whole requests use tab 7, those of a script tabs 0 to 6. The offer of a line is its number, behind the slots. A shelf
+/// may be let go only where its station may.
+#[derive(Drop)]
+pub struct WorkerShelf<'a, C: Cell, O: Origin, St: Station<C = C>> {
+    store: &'a Store<C, O>,
+    pass: Pass<C>,
+    station: St,
+    tabs: Vec<ScriptTab>,
+    /// Room for what a slot adds to a body.
+    piece: Vec<u8>,
+}
+
+impl<'a, C: Cell, O: Origin, St: Station<C = C>> Model for WorkerShelf<'a, C, O, St> {
+    ghost use Rattle.worker_shelf.specs.Shelves.{HasShelf, OnShelf};
+
+    ghost Value = { OnShelf C O St };
+
+    ghost view = { λ s. record { store = s.store.now; pass = s.pass; station = s.station } };
+
+    ghost invariant = { λ s. HasShelf C.tells C.state O.offers s.store.now s.pass s.tabs.items s.piece.items };
+}
+
+impl<'a, C: Cell, O: Origin, St: Station<C = C>> WorkerShelf<'a, C, O, St> {
+    ghost use Rattle.std.specs.Prelude.{IfErr, IfOk, ◌<◌, ◌≡◌, ℕ};
+    ghost use Rattle.core_model.specs.Tabs.{tab_at};
+    ghost use Rattle.core_model.specs.declared.tab.Tab.TheVariants.{Free};
+    ghost use Rattle.store_rule.specs.Passes.{IsOf, view};
+    ghost use Rattle.worker_shelf.specs.Shelves.{AllFree};
+
+    /// A shelf over a pass of the store whose tabs are all free.
+    ///
+    /// # Errors
+    ///
+    /// Want of memory. The pass and the station come back.
+    pub fn new(
+        alloc: Global,
+        store: &'a Store<C, O>,
+        pass: Pass<C>,
+        station: St,
+    ) -> Result<Self, (Pass<C>, St)>
+        requires own { IsOf C.tells C.state O.offers store.now pass }
+        requires free { AllFree pass }
+        ensures shelf { IfOk result (λ shelf. (shelf.store ≡ store.now) × (shelf.pass ≡ pass) × (shelf.station ≡ station)) }
+        ensures back { IfErr result (λ back. back ≡ (pass, station)) }
+    {
+        let Ok(room) = make_room(alloc, store.slot_size()) else {
+            return Err((pass, station));
+        };
+        let Room { tabs, piece } = room;
+        Ok(WorkerShelf {
+            store,
+            pass,
+            station,
+            tabs,
+            piece,
+        })
+    }
+
+    /// Gives the pass and the station back, once all tabs were left.
+    pub fn into_parts(self) -> (Pass<C>, St)
+        requires { AllFree self.pass }
+        ensures { result ≡ (self.entry.pass, self.entry.station) }
+    {
+        let WorkerShelf {
+            store: _store,
+            pass,
+            station,
+            tabs: _tabs,
+            piece: _piece,
+        } = self;
+        (pass, station)
+    }
+}
+
+/// What a shelf keeps beside its pass and its station.
+struct Room {
+    tabs: Vec<ScriptTab>,
+    piece: Vec<u8>,
+}
+
+// Free tabs of the script, and room for what a slot of this size may add to a body.
+fn make_room(alloc: Global, slot: u32) -> Result<Room, Memory>
+    ensures tabs { IfOk result (λ room. room.tabs.items ≡ replicate 7 Unused) }
+    ensures piece { IfOk result (λ room. slot ≤ vec_len room.piece + HEADER_SIZE) }
+{
+    let tabs = Vec::from_array(
+        alloc,
+        [
+            ScriptTab::Free,
+            ScriptTab::Free,
+            ScriptTab::Free,
+            ScriptTab::Free,
+            ScriptTab::Free,
+            ScriptTab::Free,
+            ScriptTab::Free,
+        ],
+    )?;
+    let piece = vec![in alloc; 0; (slot as usize).saturating_sub(HEADER_SIZE)]?;
+    Ok(Room { tabs, piece })
+}
+
+impl<'a, C: Cell + Send, O: Origin, St: Station<C = C>> Shelf for WorkerShelf<'a, C, O, St> {
+    ghost use Rattle.std.specs.Prelude.{◌≡◌, Contains, ℕ};
+    ghost use Rattle.atomic_table.specs.Seated.{TableId};
+    ghost use Rattle.core_model.specs.declared.view.Sight.{Sight};
+    ghost use Rattle.store_rule.specs.Passes.{note_seen, view};
+    ghost use Rattle.serve_lines.specs.Serving.{Takes};
+    ghost use Rattle.worker_shelf.specs.Shelves.{HasFree, Learned, Left, Noted, Went};
+
+    type N = Note<C>;
+
+    ghost takes = { λ shelf line. Takes C.tells C.state O.offers shelf.store shelf.pass line };
+
+    ghost went = { λ before line answer after. Went C.tells C.state O.offers St.faults before line answer after };
+
+    ghost Fact = { Sight };
+
+    ghost knows = { λ shelf sight. Contains (view shelf.pass).seen sight };
+
+    ghost note_knows = { λ note sight. Contains (note_seen note) sight };
+
+    ghost Home = { TableId };
+
+    ghost home = { λ shelf. shelf.store.table.shared.table_id };
+
+    ghost note_home = { λ note. note.seat.table_id };
+
+    ghost name = { λ shelf. (view shelf.pass).pass };
+
+    ghost is_free = { λ shelf tab. HasFree shelf.pass tab };
+
+    ghost noted = { λ before note after. Noted C.tells C.state O.offers before note after };
+
+    ghost learned = { λ before note after. Learned C.tells C.state O.offers before note after };
+
+    ghost left = { λ before after. Left C.tells C.state O.offers before after };
+
+    fn serve<R: Wait>(&mut self, rt: &R, alloc: Global, line: &Line) -> Result<Answer, Memory> {
+        serve_line(
+            rt,
+            alloc,
+            self.store,
+            &mut self.pass,
+            &mut self.station,
+            &mut self.tabs,
+            &mut self.piece,
+            line,
+        )
+    }
+
+    fn note(&mut self) -> Note<C> {
+        requests_keep_other_tabs::<C, O>();
+        self.store.note(&mut self.pass)
+    }
+
+    fn learn(&mut self, note: Note<C>) {
+        requests_keep_other_tabs::<C, O>();
+        self.store.learn(&mut self.pass, note);
+    }
+
+    fn leave_all(&mut self) {
+        leave_tabs(self.store, &mut self.pass, &mut self.tabs);
+    }
+}
