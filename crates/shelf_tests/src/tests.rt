@@ -89,7 +89,10 @@ fn an_entry_is_followed_ended_dropped_and_doomed(rt: HostRuntime) -> Result<(), 
     let rows = [
         ("begin 0 http://a/b #1300:0", "BEGUN 1", 0, 0),
         ("open 1 http://a/b", "MISS writing 1.1", 0, 0),
+        ("get http://a/b", "MISS writing 1.1", 0, 0),
+        ("purge http://a/b", "NONE writing 1.1", 0, 0),
         ("add 0 900", "ADDED 900", 0, 0),
+        ("get http://a/b", "PART 1.2 430 ", 0, 430),
         ("open 1 http://a/b", "OPEN 1", 0, 0),
         ("more 1", "PART 1.2 430 ", 0, 430),
         ("more 1", "PART 1.2 0 -", 0, 0),
@@ -103,6 +106,9 @@ fn an_entry_is_followed_ended_dropped_and_doomed(rt: HostRuntime) -> Result<(), 
         ("drop 6", "DROPPED", 0, 0),
         ("more 5", "HALTED 430 ", 0, 430),
         ("get http://a/b", "MISS leaving 2.4", 0, 0),
+        ("open 4 http://a/b", "MISS leaving 2.4", 0, 0),
+        ("purge http://a/b", "NONE leaving 2.4", 0, 0),
+        ("begin 3 http://a/b =x", "BUSY 2.4/1 2.4/1", 0, 0),
         ("close 5", "CLOSED", 0, 0),
         ("get http://a/b", "MISS absent 2.6", 0, 0),
         ("begin 0 http://a/b #900:0", "BEGUN 3", 0, 0),
@@ -156,6 +162,11 @@ fn slots_are_wanting(rt: HostRuntime) -> Result<(), Fail> {
         ("put http://a/b #902:0", "STORED 1", 0, 0),
         ("put http://a/b #903:0", "LARGE", 0, 0),
         ("get http://a/b", "MISS absent 2.6", 0, 0),
+        ("begin 0 http://a/b #903:0", "BEGUN 3", 0, 0),
+        ("add 0 903", "LARGE", 0, 0),
+        ("begin 0 http://a/b #903:0", "BEGUN 4", 0, 0),
+        ("end 0", "LARGE", 0, 0),
+        ("get http://a/b", "MISS absent 4.6", 0, 0),
     ];
     shows(&rt, alloc, Blank::two(alloc)?, 1, &[], &large)?;
     let (u, w) = (url_at(alloc, 0)?, url_at(alloc, 1)?);
@@ -165,8 +176,9 @@ fn slots_are_wanting(rt: HostRuntime) -> Result<(), Fail> {
         format!(in alloc; "open 0 {u}")?,
         format!(in alloc; "get {u}")?,
     );
-    let (put_w, put_x, get_w) = (
+    let (put_w, begin_w, put_x, get_w) = (
         format!(in alloc; "put {w} #901:0")?,
+        format!(in alloc; "begin 1 {w} #901:0")?,
         format!(in alloc; "put {w} =x")?,
         format!(in alloc; "get {w}")?,
     );
@@ -175,9 +187,13 @@ fn slots_are_wanting(rt: HostRuntime) -> Result<(), Fail> {
         (open_u.as_str(), "OPEN 1", 0, 0),
         (put_w.as_str(), "FULL", 0, 0),
         (get_w.as_str(), "MISS absent 2.6", 0, 0),
+        (begin_w.as_str(), "BEGUN 3", 0, 0),
+        ("add 1 901", "FULL", 0, 0),
+        (begin_w.as_str(), "BEGUN 4", 0, 0),
+        ("end 1", "FULL", 0, 0),
         ("close 0", "CLOSED", 0, 0),
-        (put_x.as_str(), "STORED 3", 0, 0),
-        (get_w.as_str(), "HIT 3 1 78", 0, 0),
+        (put_x.as_str(), "STORED 5", 0, 0),
+        (get_w.as_str(), "HIT 5 1 78", 0, 0),
         (get_u.as_str(), "MISS absent 1.6", 0, 0),
     ];
     shows(&rt, alloc, Blank::two(alloc)?, 2, &[], &full)
@@ -190,23 +206,44 @@ fn urls_are_long_and_stations_fail(rt: HostRuntime) -> Result<(), Fail> {
     let longest = [b'a'; 440];
     let longer = std::str::from_utf8(&longer).map_err(|_| "no text")?;
     let longest = std::str::from_utf8(&longest).map_err(|_| "no text")?;
-    let (put_longer, put_longest, get_longest) = (
+    let (put_longer, begin_longer, put_longest, get_longest) = (
         format!(in alloc; "put {longer} =x")?,
+        format!(in alloc; "begin 0 {longer} =x")?,
         format!(in alloc; "put {longest} =x")?,
         format!(in alloc; "get {longest}")?,
     );
     let rows = [
         (put_longer.as_str(), "LONGURL", 0, 0),
+        (begin_longer.as_str(), "LONGURL", 0, 0),
         (put_longest.as_str(), "STORED 1", 0, 0),
         (get_longest.as_str(), "HIT 1 1 78", 0, 0),
     ];
     shows(&rt, alloc, Blank::four(alloc)?, 1, &[], &rows)?;
-    // The station fails its first call, the write of the first line, and the first read behind it.
+    // The station fails a write and a read of whole requests and of tabs, each once, and a sync.
     let rows = [
         ("put http://a/b =x", "FAULT", 0, 0),
         ("put http://a/b =x", "STORED 2", 0, 0),
         ("get http://a/b", "FAULT 0 -", 0, 0),
         ("get http://a/b", "HIT 2 1 78", 0, 0),
+        ("open 0 http://a/b", "OPEN 2", 0, 0),
+        ("more 0", "FAULT 0 -", 0, 0),
+        ("more 0", "END 1 78", 0, 0),
+        ("close 0", "CLOSED", 0, 0),
+        ("begin 1 http://a/b #900:0", "BEGUN 3", 0, 0),
+        ("add 1 900", "FAULT", 0, 0),
+        ("begin 1 http://a/b =y", "BEGUN 4", 0, 0),
+        ("end 1", "FAULT", 0, 0),
+        ("get http://a/b", "MISS absent 4.6", 0, 0),
+        ("save http://a/b =z", "FAULT", 0, 0),
+        ("save http://a/b =z", "STORED 6", 0, 0),
+        ("get http://a/b", "HIT 6 1 7a", 0, 0),
     ];
-    shows(&rt, alloc, Blank::four(alloc)?, 1, &[0, 2], &rows)
+    shows(
+        &rt,
+        alloc,
+        Blank::four(alloc)?,
+        1,
+        &[0, 2, 4, 6, 7, 9],
+        &rows,
+    )
 }
