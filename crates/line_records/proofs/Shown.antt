@@ -1,0 +1,70 @@
+-- The epochs that a line shows.
+use Rattle.std.proofs.Common.{Contains, List, Option, Some, [], ap, arith, inl, inr, max, refl, subst, sym, ⊎_elim, ◌∙◌, ◌∷◌, ◌≡◌, ◌⊎◌, ◌≤◌, ℕ}
+use Rattle.std.proofs.lemmas.List.Elements.{Contains-append_right}
+use Rattle.store_key.specs.Anchor.{anchor_of}
+use Rattle.store_key.specs.Key.{key_of}
+use Rattle.core_model.specs.Trails.{seen_at, stood}
+use Rattle.core_model.specs.declared.view.Sight.{Sight}
+use Rattle.core_model.specs.declared.view.Sight.TheVariants.{Stood}
+use Rattle.core_model.specs.declared.view.View.{View}
+use Rattle.core_model.proofs.Lists.{cons_contains, contains_none}
+use Rattle.line_account.specs.Lines.{IsAnchorOf, Served, url_at}
+use Rattle.line_account.specs.Accounts.{Shows, epochs_of}
+use Rattle.line_account.specs.Courses.{Keeps}
+use Rattle.pass_calls.specs.Calls.{IsFresh}
+
+-- What was seen is not above what is seen later.
+
+stood_below : (a : ℕ) (x : Sight) (ys : List Sight) → Contains ys x → stood a x ≤ seen_at a ys
+stood_below a x [] h = absurd (contains_none x h)
+stood_below a x (y ∷ ys) h = ⊎_elim
+    (λ (q : y ≡ x). let e : stood a y ≡ stood a x = ap (stood a) q in omega arith)
+    (λ (q : Contains ys x). let r = stood_below a x ys q in omega arith)
+    (cons_contains y x ys h)
+
+seen_below : (a : ℕ) (xs ys : List Sight) → ((x : Sight) → Contains xs x → Contains ys x) → seen_at a xs ≤ seen_at a ys
+seen_below a [] ys f = omega arith
+seen_below a (x ∷ xs) ys f =
+    let first = stood_below a x ys (f x (0, omega arith, refl)) in
+    let rest = seen_below a xs ys (λ y c. f y (Contains-append_right (x ∷ []) xs y c)) in
+    omega arith
+
+module _ {X : Type 0} where
+  -- it was fresh for a pass that knew less
+  pub fresh_from : {a e : ℕ} {u v w : View X} → Keeps u v → IsFresh a e v w → IsFresh a e u w
+  fresh_from {a} {e} {u} {v} {w} keeps h = record { above = let m = seen_below a u.seen v.seen keeps.seen in let k = h.above in omega arith; seen = h.seen }
+
+  pub fresh_to : {a e : ℕ} {u v w : View X} → IsFresh a e u v → Keeps v w → IsFresh a e u w
+  fresh_to h keeps = record { above = h.above; seen = keeps.seen _ h.seen }
+
+pub one_there : (e x : ℕ) → Contains (e ∷ []) x → e ≡ x
+one_there e x h = ⊎_elim (λ (q : e ≡ x). q) (λ (q : Contains [] x). absurd (contains_none x q)) (cons_contains e x [] h)
+
+same_url : (url other : List ℕ) → Some url ≡ Some other → url ≡ other
+same_url url other e = cc
+
+-- the anchor of a line that names this URL
+pub anchor_at : (anchors : ℕ) (named : Option (List ℕ)) (url : List ℕ) (a : ℕ) → named ≡ Some url → IsAnchorOf anchors named a → anchor_of (key_of url) anchors ≡ a
+anchor_at anchors named url a is h = ap (λ (u : List ℕ). anchor_of (key_of u) anchors) (same_url url h.url (sym is ∙ h.named_is)) ∙ sym h.anchor
+
+module _ {X : Type 0} (anchors : ℕ) (v w : View X) (earlier : List Served) (s : Served) where
+  -- each epoch that the line shows is not below what the worker had seen there, and it has seen it
+  abbrev pub ShowsFresh : Type 0
+  ShowsFresh = (a e : ℕ) → Shows anchors earlier s a e → IsFresh a e v w
+
+  pub shows_none : epochs_of s.opened s.looked s.answer ≡ [] → ShowsFresh
+  shows_none none a e h = absurd (contains_none e (subst (λ (l : List ℕ). Contains l e) none h.shown))
+
+  module _ (url : List ℕ) (named : url_at earlier s.line.request ≡ Some url) where
+    there : (a e f : ℕ) → Shows anchors earlier s a e → f ≡ e → IsFresh (anchor_of (key_of url) anchors) f v w → IsFresh a e v w
+    there a e f h same fresh = subst (λ (z : ℕ). IsFresh a z v w) same
+        (subst (λ (b : ℕ). IsFresh b f v w) (anchor_at anchors (url_at earlier s.line.request) url a named h.at) fresh)
+
+    pub shows_one : (f : ℕ) → epochs_of s.opened s.looked s.answer ≡ f ∷ [] → IsFresh (anchor_of (key_of url) anchors) f v w → ShowsFresh
+    shows_one f one fresh a e h = there a e f h (one_there f e (subst (λ (l : List ℕ). Contains l e) one h.shown)) fresh
+
+    pub shows_two : (f g : ℕ) → epochs_of s.opened s.looked s.answer ≡ f ∷ g ∷ [] → IsFresh (anchor_of (key_of url) anchors) f v w → IsFresh (anchor_of (key_of url) anchors) g v w → ShowsFresh
+    shows_two f g both first second a e h = ⊎_elim
+        (λ (q : f ≡ e). there a e f h q first)
+        (λ (q : Contains (g ∷ []) e). there a e g h (one_there g e q) second)
+        (cons_contains f e (g ∷ []) (subst (λ (l : List ℕ). Contains l e) both h.shown))

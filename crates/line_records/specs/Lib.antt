@@ -1,0 +1,4 @@
+pub mod Runs
+pub mod Tracks
+pub mod Lines
+pub mod Bytes
