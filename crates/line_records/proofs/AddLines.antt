@@ -1,8 +1,6 @@
 -- A line that adds bytes of a body.
-use Rattle.std.proofs.Common.{Bool, Contains, Err, List, None, Ok, Result, Some, [], ap, arith, cond, eq-eqb, false, inl, inr, length, min, refl, subst, sym, true, ⊎_elim, ◌&&◌, ◌+◌, ◌-◌, ◌/◌, ◌<◌, ◌==◌, ◌∙◌, ◌∷◌, ◌≡◌, ◌⊎◌, ℕ}
+use Rattle.std.proofs.Common.{Bool, Contains, Err, List, None, Ok, Result, ap, arith, cond, eq-eqb, false, inl, inr, length, min, refl, subst, sym, true, ⊎_elim, ◌&&◌, ◌+◌, ◌-◌, ◌/◌, ◌<◌, ◌==◌, ◌∙◌, ◌∷◌, ◌≡◌, ℕ}
 use Rattle.std.specs.Result.{IfErr, IfOk}
-use Rattle.store_key.specs.Anchor.{anchor_of}
-use Rattle.store_key.specs.Key.{key_of}
 use Rattle.entry_cut.specs.Content.{room_of}
 use Rattle.rock_disk.specs.Cell.{CellState}
 use Rattle.script_text.specs.declared.answer.Answer.{Answer}

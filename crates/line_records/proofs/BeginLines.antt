@@ -1,5 +1,5 @@
 -- A line that begins an entry on a tab.
-use Rattle.std.proofs.Common.{Bool, Err, List, None, Ok, Result, Some, ap, eq-eqb, false, inl, inr, refl, subst, sym, true, ⊎_elim, ◌&&◌, ◌+◌, ◌<◌, ◌==◌, ◌∙◌, ◌≡◌, ◌⊎◌, ℕ}
+use Rattle.std.proofs.Common.{Bool, Err, List, None, Ok, Result, Some, false, inl, inr, refl, subst, sym, ⊎_elim, ◌+◌, ◌<◌, ◌∙◌, ◌≡◌, ℕ}
 use Rattle.std.specs.Prelude.{◌↔◌}
 use Rattle.std.specs.Result.{IfErr, IfOk, OnErr}
 use Rattle.lock_word.specs.Words.{epoch_at}

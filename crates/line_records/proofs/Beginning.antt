@@ -1,5 +1,5 @@
 -- A line that begins an entry: what it found, and what it left.
-use Rattle.std.proofs.Common.{Bool, Contains, List, None, Option, Some, [], ap, arith, cond, eq-eqb, inl, inr, refl, subst, sum_by, sym, true, ◌+◌, ◌++◌, ◌<◌, ◌==◌, ◌∙◌, ◌∷◌, ◌≡◌, ◌≤◌, ◌⊎◌, ⊎_elim, ℕ}
+use Rattle.std.proofs.Common.{Bool, Contains, List, [], ap, arith, cond, eq-eqb, inl, inr, refl, subst, sum_by, sym, true, ◌++◌, ◌<◌, ◌==◌, ◌∙◌, ◌∷◌, ◌≡◌, ◌⊎◌, ℕ}
 use Rattle.std.proofs.lemmas.Bool.{lt-ltb}
 use Rattle.std.proofs.Common.{ltb}
 use Rattle.lock_word.specs.Words.{epoch_at, epoch_of, readers_of, version_of, word_at}

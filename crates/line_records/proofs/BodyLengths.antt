@@ -1,5 +1,5 @@
 -- How many bytes of a body of the origin its first slots hold.
-use Rattle.std.proofs.Common.{List, ap, arith, drop, length, length-append, length-drop, min, refl, subst, suc, sym, take, zero, ◌*◌, ◌+◌, ◌++◌, ◌-◌, ◌<◌, ◌^◌, ◌∙◌, ◌≡◌, ◌≤◌, ℕ}
+use Rattle.std.proofs.Common.{List, ap, arith, drop, length, length-append, length-drop, min, refl, subst, suc, sym, take, zero, ◌*◌, ◌+◌, ◌-◌, ◌<◌, ◌^◌, ◌∙◌, ◌≡◌, ◌≤◌, ℕ}
 use Rattle.std.proofs.Math.Nat.{le-div_iff_mul-le, suc-mul, zero-mul}
 use Rattle.std.proofs.lemmas.Bool.{le-ltb}
 use Rattle.std.proofs.lemmas.List.{length-take, take-take}

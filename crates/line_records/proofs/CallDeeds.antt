@@ -9,7 +9,7 @@ use Rattle.core_model.specs.declared.view.Deed.{Deed}
 use Rattle.core_model.specs.declared.view.Sight.{Sight}
 use Rattle.core_model.specs.declared.view.View.{View}
 use Rattle.line_account.specs.Lines.{Served}
-use Rattle.line_account.specs.Deeds.{Begins, ComesTo, Evicts, Finishes, Grows, Halts, IsDeedOf, MayEvict, Purges}
+use Rattle.line_account.specs.Deeds.{Begins, ComesTo, Evicts, Finishes, Grows, Halts, IsDeedOf, Purges}
 use Rattle.line_account.specs.Answers.{HasPart, Run}
 use Rattle.line_account.specs.Accounts.{Shows, Tells}
 use Rattle.line_account.specs.Courses.{Adds}

@@ -1,5 +1,5 @@
 -- The cause for which a look-up of a key finds no entry to read.
-use Rattle.std.proofs.Common.{Bool, List, None, Option, Some, ap, cond, false, inl, inr, refl, sym, true, ◌∙◌, ◌≡◌, ℕ}
+use Rattle.std.proofs.Common.{Bool, List, None, Some, ap, false, inl, inr, refl, sym, true, ◌∙◌, ◌≡◌, ℕ}
 use Rattle.std.specs.Str.{bytes_eq}
 use Rattle.std.specs.Prelude.{if◌then◌else◌}
 use Rattle.lock_word.specs.Cause.{cause_of}

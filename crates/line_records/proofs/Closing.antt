@@ -1,5 +1,5 @@
 -- A line that closes what its tab reads.
-use Rattle.std.proofs.Common.{Bool, List, None, inl, refl, subst, sym, ⊎_elim, ◌<◌, ◌≡◌, ◌⊎◌, ℕ}
+use Rattle.std.proofs.Common.{Bool, List, None, inl, refl, subst, sym, ⊎_elim, ◌<◌, ◌≡◌, ℕ}
 use Rattle.rock_disk.specs.Cell.{CellState}
 use Rattle.script_text.specs.declared.answer.Answer.{Answer}
 use Rattle.script_text.specs.declared.answer.Answer.TheVariants as answer

@@ -1,5 +1,5 @@
 -- A tab came to the anchor of a URL, and what it read there was refused.
-use Rattle.std.proofs.Common.{Bool, Contains, List, Some, ap, arith, get_or, get_or-set_same, inl, inr, subst, sym, ◌∙◌, ◌≡◌, ℕ}
+use Rattle.std.proofs.Common.{Bool, List, Some, ap, arith, get_or, get_or-set_same, inl, inr, subst, sym, ◌∙◌, ◌≡◌, ℕ}
 use Rattle.lock_word.specs.Life.{IsReadable}
 use Rattle.lock_word.specs.Words.{epoch_number, epoch_of}
 use Rattle.lock_word.specs.declared.cause.Cause.{Cause}

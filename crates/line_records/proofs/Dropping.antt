@@ -1,6 +1,5 @@
 -- A line that gives up what its tab writes.
-use Rattle.std.proofs.Common.{Bool, List, None, ap, eq-eqb, inl, inr, refl, subst, sym, true, ⊎_elim, ◌&&◌, ◌==◌, ◌<◌, ◌∷◌, ◌≡◌, ◌⊎◌, ℕ}
-use Rattle.std.specs.Prelude.{◌≢◌}
+use Rattle.std.proofs.Common.{Bool, List, None, ap, eq-eqb, inl, refl, subst, sym, true, ⊎_elim, ◌&&◌, ◌==◌, ◌<◌, ◌≡◌, ℕ}
 use Rattle.rock_disk.specs.Cell.{CellState}
 use Rattle.script_text.specs.declared.answer.Answer.{Answer}
 use Rattle.script_text.specs.declared.answer.Answer.TheVariants as answer
@@ -19,7 +18,7 @@ use Rattle.serve_lines.specs.Whole.{whole_tab}
 use Rattle.serve_lines.specs.Writing.{Drops, DropsOn}
 use Rattle.line_records.specs.Lines.{AddsLine, served_as}
 use Rattle.line_records.specs.Runs.{Past, run_of}
-use Rattle.line_records.specs.Tracks.{IsTracked, IsWriter, Tracks}
+use Rattle.line_records.specs.Tracks.{IsWriter, Tracks}
 use Rattle.line_records.proofs.CallDeeds.{adds_by, of_halting}
 use Rattle.line_records.proofs.Fitting.{on_writer, writer_fits}
 use Rattle.line_records.proofs.Halting.{halts_seen}

@@ -1,14 +1,13 @@
 -- A line that writes an entry to its end.
-use Rattle.std.proofs.Common.{Bool, Err, List, None, Ok, Result, Some, ap, inl, inr, refl, subst, sym, ⊎_elim, ◌<◌, ◌∙◌, ◌≡◌, ◌⊎◌, ℕ}
+use Rattle.std.proofs.Common.{Bool, Err, List, None, Ok, Result, ap, inl, inr, refl, subst, sym, ⊎_elim, ◌<◌, ◌∙◌, ◌≡◌, ℕ}
 use Rattle.std.specs.Result.{IfErr, IfOk}
 use Rattle.rock_disk.specs.Cell.{CellState}
 use Rattle.script_text.specs.declared.answer.Answer.{Answer}
-use Rattle.script_text.specs.declared.answer.Answer.TheVariants as answer
 use Rattle.script_text.specs.declared.line.Line.{Line}
 use Rattle.script_text.specs.declared.request.Request.TheVariants.{End}
 use Rattle.line_account.specs.Accounts.{HasFinished}
-use Rattle.line_account.specs.Answers.{ComesIn, Run}
-use Rattle.line_account.specs.Deeds.{Began, Grows}
+use Rattle.line_account.specs.Answers.{Run}
+use Rattle.line_account.specs.Deeds.{Grows}
 use Rattle.line_account.specs.Lines.{Served, url_named, writing}
 use Rattle.line_account.specs.Requests.{AnswersEnd}
 use Rattle.store_rule.specs.declared.store.Pass.{Pass}

@@ -1,5 +1,5 @@
 -- An entry that was written to its end: what its pass has seen, and the epoch that this left.
-use Rattle.std.proofs.Common.{Bool, List, ap, arith, false, inl, inr, refl, subst, sym, true, ◌*◌, ◌+◌, ◌/◌, ◌%◌, ◌<◌, ◌∙◌, ◌≡◌, ℕ}
+use Rattle.std.proofs.Common.{Bool, arith, false, refl, subst, sym, true, ◌*◌, ◌+◌, ◌<◌, ◌∙◌, ◌≡◌, ℕ}
 use Rattle.std.specs.Prelude.{◌↔◌}
 use Rattle.lock_word.specs.Words.{doom_of, epoch_of, mode_of, stage_of, version_of as version_in}
 use Rattle.lock_word.specs.declared.stage.Stage.TheVariants.{Closed}
@@ -12,8 +12,8 @@ use Rattle.store_rule.specs.declared.store.Store.{Store}
 use Rattle.store_rule.specs.Ground.{Offers}
 use Rattle.store_rule.specs.Passes.{basis, view}
 use Rattle.pass_calls.specs.Calls.{IsFresh}
-use Rattle.rock_writer.specs.Entries.{Entry, WritesAs}
-use Rattle.rock_writer.specs.Finishing.{Finished, is_doomed, version_of}
+use Rattle.rock_writer.specs.Entries.{Entry}
+use Rattle.rock_writer.specs.Finishing.{is_doomed, version_of}
 use Rattle.rock_writer.specs.declared.fault.Ended.{Ended}
 use Rattle.rock_writer.specs.declared.fault.Ended.TheVariants.{Doomed, Stored}
 use Rattle.store_serve.specs.Adding.{taken_on}

@@ -1,12 +1,10 @@
 -- The bytes that lines gave of an entry, where bytes are told of.
-use Rattle.std.proofs.Common.{Bool, Contains, List, Option, Some, [], add-one, ap, append_assoc, arith, cond, drop, false, inl, inr, length, refl, subst, suc, sym, take, true, zero, ⊎_elim, ◌*◌, ◌+◌, ◌++◌, ◌-◌, ◌<◌, ◌∙◌, ◌∷◌, ◌≡◌, ◌≤◌, ℕ}
+use Rattle.std.proofs.Common.{Bool, Contains, List, Some, [], add-one, ap, append_assoc, arith, cond, false, length, refl, subst, sym, take, ⊎_elim, ◌*◌, ◌+◌, ◌++◌, ◌-◌, ◌<◌, ◌∙◌, ◌∷◌, ◌≡◌, ◌≤◌, ℕ}
 use Rattle.std.specs.Prelude.{IsTrue}
 use Rattle.std.proofs.lemmas.Bool.{cases_lt, lt-ltb}
 use Rattle.std.proofs.lemmas.List.{append-nil, take-append-le, take_all}
 use Rattle.lock_word.specs.Words.{version_of}
 use Rattle.rock_disk.specs.Cell.{CellState}
-use Rattle.store_key.specs.Anchor.{anchor_of}
-use Rattle.store_key.specs.Key.{key_of}
 use Rattle.entry_cut.specs.Content.{count, room_of}
 use Rattle.plain_model.specs.Store.{meta_size}
 use Rattle.core_model.specs.Anchors.{opening_counter}
@@ -15,7 +13,7 @@ use Rattle.core_model.specs.declared.moves.Side.TheVariants.{Offer}
 use Rattle.core_model.specs.declared.view.Place.TheVariants.{Beside}
 use Rattle.core_model.specs.declared.view.Sight.TheVariants.{Named, Published, Stood}
 use Rattle.core_model.specs.declared.view.View.{View}
-use Rattle.line_account.specs.Answers.{HasGiven, HasPart, IsEntryAt, IsSure, IsWhole, Run, bytes_behind, bytes_with, given_with}
+use Rattle.line_account.specs.Answers.{HasGiven, HasPart, IsEntryAt, IsSure, IsWhole, Run, bytes_with}
 use Rattle.line_account.specs.Lines.{Served, opened_by, url_in}
 use Rattle.store_rule.specs.declared.store.Pass.{Pass}
 use Rattle.store_rule.specs.declared.store.Store.{Store}

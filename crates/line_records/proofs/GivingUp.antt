@@ -1,6 +1,5 @@
 -- A line whose writing was given up.
-use Rattle.std.proofs.Common.{Bool, List, None, Option, Some, ap, eq-eqb, false, inl, inr, length, min, refl, subst, sym, true, ◌&&◌, ◌*◌, ◌+◌, ◌-◌, ◌<◌, ◌==◌, ◌||◌, ◌∙◌, ◌∷◌, ◌≡◌, ◌≤◌, [], arith, ℕ}
-use Rattle.script_text.specs.declared.answer.Answer.{Answer}
+use Rattle.std.proofs.Common.{Bool, List, Some, ap, eq-eqb, false, length, min, refl, subst, sym, true, ◌&&◌, ◌*◌, ◌+◌, ◌<◌, ◌==◌, ◌||◌, ◌∙◌, ◌∷◌, ◌≡◌, ◌≤◌, [], arith, ℕ}
 use Rattle.script_text.specs.declared.answer.Answer.TheVariants as answer
 use Rattle.core_model.specs.declared.view.View.{View}
 use Rattle.entry_cut.specs.Content.{room_of}
@@ -9,7 +8,7 @@ use Rattle.line_account.specs.Answers.{IsLarge, Run}
 use Rattle.line_account.specs.Lines.{Served, begun_by, gives_up, is_finished, is_refused}
 use Rattle.lock_word.specs.Words.{epoch_at}
 use Rattle.lock_word.specs.declared.epoch.Epoch.{Epoch}
-use Rattle.store_rule.specs.Ground.{Ground, url_of}
+use Rattle.store_rule.specs.Ground.{Ground}
 use Rattle.rock_writer.specs.Entries.{Entry, body_in, url_in}
 use Rattle.rock_writer.specs.Finishing.{version_of}
 use Rattle.rock_writer.specs.declared.fault.Ended.{Ended}

@@ -20,7 +20,7 @@ use Rattle.call_records.proofs.AddingUp.{on, same, wider}
 use Rattle.call_records.proofs.ReaderDeeds.{parted}
 use Rattle.call_records.proofs.WriterDeeds.{entry_of, halts}
 use Rattle.serve_lines.specs.Whole.{whole_tab}
-use Rattle.worker_shelf.specs.Shelves.{LeavesFree, LeavesReader, LeavesWriter, LeftBelow, LeftTab}
+use Rattle.worker_shelf.specs.Shelves.{LeavesFree, LeavesReader, LeavesWriter, LeftBelow}
 use Rattle.line_records.specs.Runs.{Past, run_of}
 use Rattle.line_records.specs.Tracks.{IsTracked, Tracks}
 use Rattle.line_records.proofs.Fitting.{writer_of}

@@ -1,5 +1,5 @@
 -- A line that set or met a mark, or did not meet it.
-use Rattle.std.proofs.Common.{Bool, Contains, List, None, [], ap, arith, get_or, inl, inr, refl, subst, sym, ◌++◌, ◌<◌, ◌∙◌, ◌∷◌, ◌≡◌, ℕ}
+use Rattle.std.proofs.Common.{Bool, Contains, List, None, [], ap, arith, get_or, inl, inr, refl, subst, sym, ◌++◌, ◌∙◌, ◌∷◌, ◌≡◌, ℕ}
 use Rattle.std.proofs.lemmas.List.Elements.{Contains-append_right}
 use Rattle.std.specs.Prelude.{◌≢◌}
 use Rattle.rock_disk.specs.Cell.{CellState}
@@ -62,6 +62,17 @@ module _ {X : Type 0} where
     deeds = ap View.deeds is;
   }
 
+  both_still : (u v w : View X) → IsStill u v → IsStill v w → IsStill u w
+  both_still u v w a b = record {
+    keeps = let h = a.keeps in let k = b.keeps in record { pass = k.pass ∙ h.pass; seen = λ x z. k.seen x (h.seen x z); trail = λ x z. k.trail x (h.trail x z); met = λ x z. k.met x (h.met x z) };
+    drawn = λ x. b.drawn x ∙ a.drawn x;
+    draws = b.draws ∙ a.draws;
+    deeds = b.deeds ∙ a.deeds;
+  }
+
+both_hands : {C O : Type 0} (tells : Bool) (state : C → CellState) (offers : O → Offers) (s : Store C O) (p m q : Pass C) → KeepsHands tells state offers s p m → KeepsHands tells state offers s m q → KeepsHands tells state offers s p q
+both_hands tells state offers s p m q a b = record { own = b.own; left = b.left ∙ a.left; places = b.places ∙ a.places; desks = b.desks ∙ a.desks; hand = b.hand ∙ a.hand; cells = b.cells ∙ a.cells }
+
 module _ {C O : Type 0} (tells : Bool) (state : C → CellState) (offers : O → Offers) (s : Store C O) (told : Bool) (past : Past) (served : List Served) (line : Line) (p : Pass C) (a : Answer) (q : Pass C) where
   all_left : Tracks tells state offers s told past served p → KeepsHands tells state offers s p q → (view q).tabs ≡ (view p).tabs → Keeps (view p) (view q) → Leaves tells state offers s inner p q
   all_left tracks hands tabs keeps = record {
@@ -99,10 +110,11 @@ module _ {C O : Type 0} (tells : Bool) (state : C → CellState) (offers : O →
   set_adds tracks hands is = seen_adds tells state offers s told past served (record { worker = worker; number = number; request = Mark mark }) p answer.Marked q refl (λ j. elsewhere (Mark mark) answer.Marked j (λ z. z)) tracks hands
       (ap View.tabs is) (noted_still (view p) (view q) is)
 
-  pub met_adds : (sights : List Sight) → Tracks tells state offers s told past served p → KeepsHands tells state offers s p q → view q ≡ learning (view p) sights
+  pub met_adds : (m : Pass C) (sights : List Sight) → Tracks tells state offers s told past served p → KeepsHands tells state offers s p m → view m ≡ learning (view p) sights → KeepsHands tells state offers s m q → view q ≡ noting (view m)
       → AddsLine tells state offers s told past served (record { worker = worker; number = number; request = Await mark }) p answer.Met q
-  met_adds sights tracks hands is = seen_adds tells state offers s told past served (record { worker = worker; number = number; request = Await mark }) p answer.Met q (inl refl) (λ j. elsewhere (Await mark) answer.Met j (λ z. z)) tracks hands
-      (ap View.tabs is) (learned_still (view p) (view q) sights is)
+  met_adds m sights tracks learns is notes again = seen_adds tells state offers s told past served (record { worker = worker; number = number; request = Await mark }) p answer.Met q (inl refl) (λ j. elsewhere (Await mark) answer.Met j (λ z. z)) tracks
+      (both_hands tells state offers s p m q learns notes) (ap View.tabs again ∙ ap View.tabs is)
+      (both_still (view p) (view m) (view q) (learned_still (view p) (view m) sights is) (noted_still (view m) (view q) again))
 
   pub unmet_adds : Tracks tells state offers s told past served p → q ≡ p → AddsLine tells state offers s told past served (record { worker = worker; number = number; request = Await mark }) p answer.Unmet q
   unmet_adds tracks same = record {

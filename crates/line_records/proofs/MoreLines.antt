@@ -1,6 +1,6 @@
 -- A line that reads on, on a tab.
-use Rattle.std.proofs.Common.{Bool, Contains, List, None, Some, [], ap, arith, cond, eq-eqb, false, inl, inr, refl, subst, sym, true, ⊎_elim, ◌+◌, ◌++◌, ◌<◌, ◌∙◌, ◌∷◌, ◌≡◌, ◌≤◌, ◌⊎◌, ℕ}
-use Rattle.std.specs.Prelude.{IsTrue, ◌≢◌}
+use Rattle.std.proofs.Common.{Bool, Contains, List, None, Some, [], ap, arith, cond, eq-eqb, false, inl, inr, refl, subst, sym, true, ⊎_elim, ◌++◌, ◌<◌, ◌∙◌, ◌∷◌, ◌≡◌, ◌≤◌, ◌⊎◌, ℕ}
+use Rattle.std.specs.Prelude.{IsTrue}
 use Rattle.std.proofs.lemmas.List.{append-nil}
 use Rattle.lock_word.specs.Words.{epoch_number, stage_number, stage_of, version_of}
 use Rattle.lock_word.specs.declared.epoch.Epoch.{Epoch}

@@ -1,6 +1,6 @@
 -- A line that offers a body, of which no entry was begun.
-use Rattle.std.proofs.Common.{Bool, Contains, List, None, Option, Some, ap, arith, inl, inr, refl, subst, sum_by, sym, true, ◌+◌, ◌<◌, ◌∙◌, ◌≡◌, ◌≤◌, ◌⊎◌, ⊎_elim, ℕ}
-use Rattle.std.specs.Prelude.{◌≢◌, ◌↔◌}
+use Rattle.std.proofs.Common.{Bool, Contains, List, None, Option, Some, ap, arith, inl, inr, refl, subst, sum_by, sym, ◌+◌, ◌<◌, ◌≡◌, ◌⊎◌, ⊎_elim, ℕ}
+use Rattle.std.specs.Prelude.{◌↔◌}
 use Rattle.lock_word.specs.Words.{epoch_number, word_number}
 use Rattle.lock_word.specs.declared.word.Word.{Word}
 use Rattle.rock_disk.specs.Cell.{CellState}

@@ -1,5 +1,5 @@
 -- Lines that offer a body.
-use Rattle.std.proofs.Common.{Bool, Contains, List, None, Some, length, refl, subst, sym, true, ◌+◌, ◌<◌, ◌≡◌, ℕ}
+use Rattle.std.proofs.Common.{Bool, Contains, List, Some, length, refl, subst, sym, true, ◌+◌, ◌<◌, ◌≡◌, ℕ}
 use Rattle.std.specs.Prelude.{◌≢◌, ◌↔◌}
 use Rattle.lock_word.specs.declared.word.Word.{Word}
 use Rattle.rock_disk.specs.Cell.{CellState}

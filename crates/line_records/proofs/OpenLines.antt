@@ -1,7 +1,7 @@
 -- A line that opens an entry on a tab.
-use Rattle.std.proofs.Common.{Bool, Err, List, None, Ok, Result, Some, Contains, ap, arith, eq-eqb, false, inl, inr, refl, subst, sym, true, ⊎_elim, ◌&&◌, ◌<◌, ◌==◌, ◌∙◌, ◌≡◌, ◌≤◌, ◌⊎◌, ℕ}
+use Rattle.std.proofs.Common.{Bool, Err, List, None, Ok, Result, Contains, arith, false, inl, inr, refl, subst, sym, true, ⊎_elim, ◌<◌, ◌∙◌, ◌≡◌, ◌≤◌, ℕ}
 use Rattle.std.specs.Result.{IfErr, IfOk, OnErr}
-use Rattle.lock_word.specs.Words.{epoch_number, version_of}
+use Rattle.lock_word.specs.Words.{epoch_number}
 use Rattle.lock_word.specs.declared.cause.Cause.{Cause}
 use Rattle.rock_disk.specs.Cell.{CellState}
 use Rattle.script_text.specs.declared.answer.Answer.{Answer}

@@ -1,8 +1,7 @@
 -- What a pass knows of an entry that it opened.
-use Rattle.std.proofs.Common.{Bool, Contains, List, Some, ap, arith, refl, subst, sym, ◌<◌, ◌∙◌, ◌≡◌, ◌≤◌, ℕ}
+use Rattle.std.proofs.Common.{Bool, Contains, List, arith, refl, subst, sym, ◌<◌, ◌∙◌, ◌≡◌, ◌≤◌, ℕ}
 use Rattle.lock_word.specs.Words.{epoch_number, version_of}
 use Rattle.lock_word.proofs.Parts.{version_of-epoch_number}
-use Rattle.rock_disk.specs.Cell.{CellState}
 use Rattle.store_key.specs.Anchor.{back_half, front_half}
 use Rattle.store_key.specs.Key.{key_of}
 use Rattle.core_model.specs.Anchors.{opening_counter}

@@ -1,5 +1,5 @@
 -- A line that purges an entry.
-use Rattle.std.proofs.Common.{Bool, Err, List, None, Ok, Result, Some, ap, refl, subst, sym, ◌<◌, ◌∙◌, ◌≡◌, ℕ}
+use Rattle.std.proofs.Common.{Bool, Err, List, None, Ok, Result, ap, refl, subst, sym, ◌∙◌, ◌≡◌, ℕ}
 use Rattle.std.proofs.Common.{get_or}
 use Rattle.std.specs.Result.{IfErr, IfOk}
 use Rattle.lock_word.specs.Words.{epoch_number}

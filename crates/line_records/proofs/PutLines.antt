@@ -1,5 +1,5 @@
 -- A line that stores a whole response.
-use Rattle.std.proofs.Common.{Bool, Err, List, None, Ok, Result, Some, refl, subst, sym, true, ◌+◌, ◌∙◌, ◌≡◌, ℕ}
+use Rattle.std.proofs.Common.{Bool, Err, List, Ok, Result, Some, refl, subst, sym, ◌+◌, ◌≡◌, ℕ}
 use Rattle.std.specs.Prelude.{◌≢◌, ◌↔◌}
 use Rattle.std.specs.Result.{IfErr, IfOk}
 use Rattle.rock_disk.specs.Cell.{CellState}
@@ -9,7 +9,6 @@ use Rattle.script_text.specs.declared.body.Body.{Body}
 use Rattle.script_text.specs.declared.line.Line.{Line}
 use Rattle.script_text.specs.declared.request.Request.{Request}
 use Rattle.script_text.specs.declared.request.Request.TheVariants.{Put, Save}
-use Rattle.plain_model.specs.Serving.{bytes_of}
 use Rattle.line_account.specs.Accounts.{HasFinished}
 use Rattle.line_account.specs.Answers.{Run}
 use Rattle.line_account.specs.Deeds.{Began, Grows, MayEvict}
@@ -17,7 +16,7 @@ use Rattle.line_account.specs.Lines.{Fits, Served}
 use Rattle.line_account.specs.Requests.{IsAnswerTo}
 use Rattle.store_rule.specs.declared.store.Pass.{Pass}
 use Rattle.store_rule.specs.declared.store.Store.{Store}
-use Rattle.store_rule.specs.Ground.{Ground, Offers, anchor_for, url_of}
+use Rattle.store_rule.specs.Ground.{Ground, Offers, anchor_for}
 use Rattle.store_rule.specs.Passes.{basis, view}
 use Rattle.pass_calls.specs.Calls.{IsFresh}
 use Rattle.rock_writer.specs.Beginning.{IsTooLong, begun}

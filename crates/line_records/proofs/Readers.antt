@@ -1,19 +1,18 @@
 -- How many tabs of a pass read at an anchor, by its view and by the lines.
-use Rattle.std.proofs.Common.{Bool, Contains, List, Option, Some, [], ap, arith, cond, get_or, inl, inr, length, refl, subst, sum_by, suc, sym, true, zero, ◌+◌, ◌++◌, ◌<◌, ◌==◌, ◌∙◌, ◌∷◌, ◌≡◌, ◌≤◌, ℕ}
+use Rattle.std.proofs.Common.{Bool, List, Option, [], ap, arith, cond, get_or, inl, inr, length, refl, sum_by, sym, true, ◌+◌, ◌<◌, ◌==◌, ◌∙◌, ◌∷◌, ◌≡◌, ◌≤◌, ℕ}
 use Rattle.rock_disk.specs.Cell.{CellState}
 use Rattle.store_key.specs.Anchor.{anchor_of}
 use Rattle.store_key.specs.Key.{key_of}
-use Rattle.core_model.specs.Tabs.{InnerIsFree, counts, inner, is_free, tab_at}
+use Rattle.core_model.specs.Tabs.{counts, inner, is_free, tab_at}
 use Rattle.core_model.specs.declared.tab.Tab.{Tab}
 use Rattle.core_model.specs.declared.tab.Tab.TheVariants.{Free, Freeing, Last, Reading, Retreating, Writing}
 use Rattle.line_account.specs.Answers.{is_anchor_of, reads_at, readers_at}
-use Rattle.line_account.specs.Lines.{Served, reading, url_in}
+use Rattle.line_account.specs.Lines.{Served, reading}
 use Rattle.store_rule.specs.declared.store.Pass.{Pass}
 use Rattle.store_rule.specs.declared.store.Store.{Store}
 use Rattle.store_rule.specs.Ground.{Offers}
 use Rattle.store_rule.specs.Passes.{basis, view}
 use Rattle.store_rule.proofs.Passing.{pass_of}
-use Rattle.serve_lines.specs.Whole.{whole_tab}
 use Rattle.line_records.specs.Runs.{Past}
 use Rattle.line_records.specs.Tracks.{IsTracked, Tracks}
 

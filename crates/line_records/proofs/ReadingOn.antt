@@ -1,5 +1,5 @@
 -- A tab that reads on stays at its entry, and its pass has seen as many slots as it was given.
-use Rattle.std.proofs.Common.{Bool, Contains, List, [], ap, arith, cond, false, get_or, get_or-set_same, inl, inr, refl, subst, sym, true, ◌+◌, ◌++◌, ◌<◌, ◌==◌, ◌∙◌, ◌∷◌, ◌≡◌, ◌≤◌, ◌⊎◌, ne_eqb, ℕ}
+use Rattle.std.proofs.Common.{Bool, Contains, List, [], ap, arith, cond, get_or, get_or-set_same, inl, inr, refl, subst, sym, true, ◌+◌, ◌++◌, ◌<◌, ◌∙◌, ◌∷◌, ◌≡◌, ◌≤◌, ne_eqb, ℕ}
 use Rattle.std.specs.Prelude.{◌≢◌}
 use Rattle.lock_word.specs.declared.epoch.Epoch.{Epoch}
 use Rattle.link_word.specs.Words.{link_number}
@@ -8,9 +8,7 @@ use Rattle.link_word.specs.declared.link.Link.TheVariants.{Last, Next, NotWritte
 use Rattle.rock_disk.specs.Cell.{CellState}
 use Rattle.core_model.specs.SlotMoves.{follows, loaded}
 use Rattle.core_model.specs.Tabs.{OfReader, tab_at}
-use Rattle.core_model.specs.declared.moves.Move.TheVariants.{GetLink, LoadSide}
 use Rattle.core_model.specs.declared.moves.Side.TheVariants.{Start}
-use Rattle.core_model.specs.declared.tab.Reader.{Reader}
 use Rattle.core_model.specs.declared.tab.Tab.{Tab}
 use Rattle.core_model.specs.declared.tab.Tab.TheVariants as tab
 use Rattle.core_model.specs.declared.view.Sight.{Sight}
@@ -21,9 +19,8 @@ use Rattle.store_rule.specs.declared.store.Pass.{Pass}
 use Rattle.store_rule.specs.declared.store.Store.{Store}
 use Rattle.store_rule.specs.Ground.{Ground, Offers}
 use Rattle.store_rule.specs.Passes.{basis, view}
-use Rattle.store_rule.specs.Told.{Steps}
 use Rattle.slice_chain.specs.Links.{Linked, Located}
-use Rattle.rock_reader.specs.Reading.{HasTried, IsPiece, LookedAt, ReadsAs, Standing, onward}
+use Rattle.rock_reader.specs.Reading.{HasTried, LookedAt, ReadsAs, Standing, onward}
 use Rattle.rock_reader.specs.declared.answer.More.TheVariants.{Piece}
 use Rattle.store_serve.specs.Following.{Given, Gives}
 use Rattle.call_records.proofs.Grown.{on, same}

@@ -3,25 +3,21 @@ use Rattle.std.proofs.Common.{Bool, Contains, List, Some, ap, arith, length, sub
 use Rattle.std.specs.Prelude.{slice_index_or}
 use Rattle.lock_word.specs.Cause.{cause_of}
 use Rattle.lock_word.specs.Life.{IsReadable}
-use Rattle.lock_word.specs.Words.{epoch_number, version_of}
+use Rattle.lock_word.specs.Words.{epoch_number}
 use Rattle.lock_word.specs.declared.cause.Cause.{Cause}
-use Rattle.lock_word.specs.declared.cause.Cause.TheVariants.{OtherKey}
 use Rattle.lock_word.specs.declared.epoch.Epoch.{Epoch}
 use Rattle.lock_word.proofs.Parts.{version_of-epoch_number}
-use Rattle.store_key.specs.Anchor.{anchor_of, back_half, front_half}
+use Rattle.store_key.specs.Anchor.{back_half, front_half}
 use Rattle.store_key.specs.Key.{key_of}
-use Rattle.core_model.specs.Anchors.{opening_counter}
-use Rattle.core_model.specs.Layout.{word_in}
 use Rattle.core_model.specs.Tabs.{tab_at}
 use Rattle.core_model.specs.declared.moves.Side.TheVariants.{Key0, Key1}
 use Rattle.core_model.specs.declared.tab.Tab.TheVariants.{Reading}
-use Rattle.core_model.specs.declared.view.Place.TheVariants.{Beside}
 use Rattle.core_model.specs.declared.view.Sight.{Sight}
 use Rattle.core_model.specs.declared.view.Sight.TheVariants.{Named}
 use Rattle.core_model.specs.declared.view.View.{View}
 use Rattle.line_account.specs.Answers.{IsKeyRead, Run}
 use Rattle.line_account.specs.Accounts.{epoch_in}
-use Rattle.line_account.specs.Lines.{IsAt, Served, url_at, url_in}
+use Rattle.line_account.specs.Lines.{Served, url_at, url_in}
 use Rattle.store_rule.specs.Ground.{Ground, anchor_for}
 use Rattle.pass_calls.specs.Calls.{IsFresh}
 use Rattle.slice_chain.specs.Names.{KeyLoaded}

@@ -1,5 +1,5 @@
 -- The offers of a run, from the slots on.
-use Rattle.std.proofs.Common.{Bool, List, ap, cond, false, ◌+◌, ◌-◌, ◌≡◌, ◌≤◌, ◌∙◌, arith, ℕ}
+use Rattle.std.proofs.Common.{Bool, List, ap, cond, ◌+◌, ◌-◌, ◌≡◌, ◌≤◌, ◌∙◌, arith, ℕ}
 use Rattle.std.proofs.lemmas.Bool.{le-ltb}
 use Rattle.rock_disk.specs.Cell.{CellState}
 use Rattle.script_text.specs.declared.body.Body.{Body}

@@ -1,11 +1,10 @@
 -- The epochs that a line shows.
-use Rattle.std.proofs.Common.{Contains, List, Option, Some, [], ap, arith, inl, inr, max, refl, subst, sym, ⊎_elim, ◌∙◌, ◌∷◌, ◌≡◌, ◌⊎◌, ◌≤◌, ℕ}
+use Rattle.std.proofs.Common.{Contains, List, Option, Some, [], ap, arith, refl, subst, sym, ⊎_elim, ◌∙◌, ◌∷◌, ◌≡◌, ◌≤◌, ℕ}
 use Rattle.std.proofs.lemmas.List.Elements.{Contains-append_right}
 use Rattle.store_key.specs.Anchor.{anchor_of}
 use Rattle.store_key.specs.Key.{key_of}
 use Rattle.core_model.specs.Trails.{seen_at, stood}
 use Rattle.core_model.specs.declared.view.Sight.{Sight}
-use Rattle.core_model.specs.declared.view.Sight.TheVariants.{Stood}
 use Rattle.core_model.specs.declared.view.View.{View}
 use Rattle.core_model.proofs.Lists.{cons_contains, contains_none}
 use Rattle.line_account.specs.Lines.{IsAnchorOf, Served, url_at}

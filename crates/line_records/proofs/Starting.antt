@@ -1,7 +1,6 @@
 -- A pass of which no line was served.
-use Rattle.std.proofs.Common.{Bool, List, [], ap, get_or, inl, refl, replicate, suc, zero, ◌<◌, ◌∙◌, ◌≡◌, ℕ}
+use Rattle.std.proofs.Common.{Bool, List, [], ap, get_or, inl, refl, replicate, suc, zero, ◌∙◌, ◌≡◌, ℕ}
 use Rattle.rock_disk.specs.Cell.{CellState}
-use Rattle.core_model.specs.Opening.{new_view}
 use Rattle.core_model.specs.Tabs.{inner, is_free, tab_at}
 use Rattle.core_model.specs.declared.tab.Tab.{Tab}
 use Rattle.core_model.specs.declared.tab.Tab.TheVariants.{Free}
@@ -9,7 +8,7 @@ use Rattle.core_model.specs.declared.view.View.{View}
 use Rattle.store_rule.specs.declared.store.Pass.{Pass}
 use Rattle.store_rule.specs.declared.store.Store.{Store}
 use Rattle.store_rule.specs.Ground.{Offers}
-use Rattle.store_rule.specs.Passes.{IsNewOf, basis, view}
+use Rattle.store_rule.specs.Passes.{IsNewOf, view}
 use Rattle.serve_lines.specs.Whole.{whole_tab}
 use Rattle.line_records.specs.Runs.{Past}
 use Rattle.line_records.specs.Tracks.{Tracks}

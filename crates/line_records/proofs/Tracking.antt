@@ -22,7 +22,7 @@ use Rattle.serve_lines.specs.Tabs.{IsFree, Leaves}
 use Rattle.serve_lines.specs.Whole.{whole_tab}
 use Rattle.serve_lines.proofs.Standing.{writes_still}
 use Rattle.line_records.specs.Runs.{Past, run_of}
-use Rattle.line_records.specs.Tracks.{IsIdle, IsReader, IsTracked, IsWriter, Tracks}
+use Rattle.line_records.specs.Tracks.{IsTracked, Tracks}
 use Rattle.line_records.proofs.TabLines.{LeavesAlone, added_on, given_on, reading_on, writing_on}
 
 pub shown_on : {X : Type 0} (g : Ground X) (e : Entry) (seen all : List Sight) → ((x : Sight) → Contains seen x → Contains all x) → HasShown g e seen → HasShown g e all

@@ -1,5 +1,5 @@
 -- A reading tab found the link at its place not written: it was given all slots that are published, some, and not the last one.
-use Rattle.std.proofs.Common.{Contains, List, Option, Some, [], ap, arith, cond, inl, inr, length, length-set, refl, subst, suc, sym, zero, ⊎_elim, ◌+◌, ◌++◌, ◌<◌, ◌∙◌, ◌∷◌, ◌≡◌, ◌≤◌, ◌⊎◌, ℕ}
+use Rattle.std.proofs.Common.{Contains, List, [], ap, arith, inr, length, length-set, subst, suc, sym, zero, ⊎_elim, ◌++◌, ◌<◌, ◌∷◌, ◌≡◌, ◌≤◌, ℕ}
 use Rattle.std.specs.Prelude.{◌≢◌}
 use Rattle.std.proofs.lemmas.Bool.{cases_lt}
 use Rattle.std.proofs.lemmas.List.Elements.{Contains-append_right}
@@ -7,12 +7,12 @@ use mathlib.Core.Option.{some}
 use lib.ListN.{get_elem?}
 use Rattle.lock_word.specs.Words.{epoch_of, stage_of, version_of}
 use Rattle.lock_word.specs.declared.epoch.Epoch.{Epoch}
-use Rattle.link_word.specs.declared.link.Link.TheVariants.{Last as LastLink, NotWritten}
+use Rattle.link_word.specs.declared.link.Link.TheVariants.{NotWritten}
 use Rattle.entry_cut.specs.Content.{count}
 use Rattle.core_model.specs.Anchors.{IsReadAt, opening_counter}
 use Rattle.core_model.specs.Chains.{slots_of_link}
 use Rattle.core_model.specs.SlotMoves.{IsFront, IsNext}
-use Rattle.core_model.specs.State.{State, chain_of, side_word, word}
+use Rattle.core_model.specs.State.{State, chain_of, side_word}
 use Rattle.core_model.specs.Tabs.{IsPass, OfFreer, OfReader, inner, tab_at}
 use Rattle.core_model.specs.Told.{LinkFound}
 use Rattle.core_model.specs.Trails.{seen_at}

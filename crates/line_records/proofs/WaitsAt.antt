@@ -1,5 +1,5 @@
 -- A tab that waits behind a slot was given some, and of a new entry not the last one.
-use Rattle.std.proofs.Common.{Bool, Contains, List, arith, subst, sym, ◌<◌, ◌≡◌, ◌≤◌, ℕ}
+use Rattle.std.proofs.Common.{Bool, Contains, List, arith, subst, sym, ◌<◌, ℕ}
 use Rattle.lock_word.specs.declared.epoch.Epoch.{Epoch}
 use Rattle.rock_disk.specs.Cell.{CellState}
 use Rattle.entry_cut.specs.Content.{count}

@@ -1,15 +1,14 @@
 -- What the line is that writes on a tab.
-use Rattle.std.proofs.Common.{Bool, Contains, List, Option, Some, ap, subst, sym, true, ◌+◌, ◌≡◌, ◌∙◌, ℕ}
+use Rattle.std.proofs.Common.{Bool, Contains, List, Some, subst, true, ◌+◌, ◌≡◌, ℕ}
 use Rattle.rock_disk.specs.Cell.{CellState}
 use Rattle.store_key.specs.Anchor.{back_half, front_half}
 use Rattle.store_key.specs.Key.{key_of}
 use Rattle.core_model.specs.declared.moves.Side.TheVariants.{Key0, Key1, Offer}
-use Rattle.core_model.specs.declared.view.Sight.{Sight}
 use Rattle.core_model.specs.declared.view.Sight.TheVariants.{Named}
 use Rattle.core_model.specs.declared.view.View.{View}
 use Rattle.line_account.specs.Accounts.{HasGivenUp}
 use Rattle.line_account.specs.Deeds.{Grows, Halts, IsNamed}
-use Rattle.line_account.specs.Lines.{IsAnchorOf, IsWritingOf, Served, Writes, begun_by, gives_up, url_in, writing}
+use Rattle.line_account.specs.Lines.{IsAnchorOf, Served, Writes, begun_by, gives_up, url_in}
 use Rattle.store_rule.specs.declared.store.Pass.{Pass}
 use Rattle.store_rule.specs.declared.store.Store.{Store}
 use Rattle.store_rule.specs.Ground.{Ground, Offers, anchor_for, url_of}

@@ -42,14 +42,15 @@ pub fn lines_add<C: Cell, O: Origin>()
 }
 
 /// A line at a mark adds to the account of its worker what it should: one that sets a mark (`set`), for which the pass
-/// noted what it has seen; one that meets it (`met`), by which the pass learned what a note tells; and one that does not
+/// noted what it has seen; one that meets it (`met`), by which the pass learned what a note tells, and noted what it has seen then; and one that does not
 /// (`unmet`).
 pub fn marks_add<C: Cell, O: Origin>()
     ensures set { (s : Store C O) (told : Bool) (past : Past) (served : List Served) (worker number mark : ℕ) (p q : Pass C)
         → Tracks C.tells C.state O.offers s told past served p → Keeps C.tells C.state O.offers s p q → view q ≡ noting (view p)
         → AddsLine C.tells C.state O.offers s told past served (line_with worker number (Request.Mark mark)) p Answer.Marked q }
-    ensures met { (s : Store C O) (told : Bool) (past : Past) (served : List Served) (worker number mark : ℕ) (p q : Pass C) (sights : List Sight)
-        → Tracks C.tells C.state O.offers s told past served p → Keeps C.tells C.state O.offers s p q → view q ≡ learning (view p) sights
+    ensures met { (s : Store C O) (told : Bool) (past : Past) (served : List Served) (worker number mark : ℕ) (p m q : Pass C) (sights : List Sight)
+        → Tracks C.tells C.state O.offers s told past served p → Keeps C.tells C.state O.offers s p m → view m ≡ learning (view p) sights
+        → Keeps C.tells C.state O.offers s m q → view q ≡ noting (view m)
         → AddsLine C.tells C.state O.offers s told past served (line_with worker number (Request.Await mark)) p Answer.Met q }
     ensures unmet { (s : Store C O) (told : Bool) (past : Past) (served : List Served) (worker number mark : ℕ) (p q : Pass C)
         → Tracks C.tells C.state O.offers s told past served p → q ≡ p

@@ -1,0 +1,66 @@
+-- The course of a worker on a shelf, and what is asked of its answers.
+use Rattle.std.specs.Prelude.{Bool, IsTrue, List, [], map, ◌++◌, ◌∷◌, ◌≡◌, ◌⊎◌, ℕ}
+use Rattle.rock_disk.specs.Cell.{CellState}
+use Rattle.script_text.specs.declared.answer.Answer.{Answer}
+use Rattle.script_text.specs.declared.line.Line.{Line}
+use Rattle.script_text.specs.declared.answer.Answer.TheVariants as answer
+use Rattle.script_text.specs.declared.request.Request.{Request}
+use Rattle.script_text.specs.declared.request.Request.TheVariants.{Await, Mark}
+use Rattle.line_account.specs.Courses.{Course, Stage as Told, lines_in}
+use Rattle.store_rule.specs.declared.store.Note.{Note}
+use Rattle.store_rule.specs.declared.store.Store.{Store}
+use Rattle.store_rule.specs.Ground.{Offers}
+use Rattle.store_rule.specs.Passes.{basis, view}
+use Rattle.worker_pool.specs.Courses.{IsServed, Stage}
+use Rattle.serve_lines.specs.Serving.{Takes}
+use Rattle.worker_shelf.specs.Shelves.{Learned, Noted, OnShelf, Went}
+use Rattle.line_records.specs.Bytes.{OtherIsSo}
+use Rattle.line_records.specs.Lines.{IsPrintable, LargeIsSo}
+use Rattle.line_records.specs.Runs.{Past, run_of}
+use Rattle.line_records.specs.Tracks.{Tracks}
+
+-- the lines of an account with their answers, the first one first
+abbrev pub in_order : {X : Type 0} → List (Told X) → List (Line × Answer)
+in_order [] = []
+in_order (x ∷ earlier) = in_order earlier ++ (x.served.line, x.served.answer) ∷ []
+
+module _ {C O St : Type 0} (tells : Bool) (state : C → CellState) (offers : O → Offers) (faults : St → ℕ) where
+  -- a shelf made a note
+  pub record Notes (before after : OnShelf C O St) : Type 0 where
+    pub note : Note C
+    pub noted : Noted tells state offers before note after
+
+  -- it learned one, and made another
+  pub record Meets (before after : OnShelf C O St) : Type 0 where
+    pub note : Note C
+    pub learned : OnShelf C O St
+    pub learns : Learned tells state offers before note learned
+    pub again : Note C
+    pub notes : Noted tells state offers learned again after
+
+  -- what a shelf makes of a line with this request: it notes something at a mark that it sets, learns something at one that it meets, and
+  -- serves all else
+  abbrev pub StepOn : Request → (before : OnShelf C O St) → Line → Answer → (after : OnShelf C O St) → Type 0
+  StepOn (Mark mark) before line a after = (a ≡ answer.Marked) × Notes before after
+  StepOn (Await mark) before line a after = ((a ≡ answer.Met) × Meets before after) ⊎ ((a ≡ answer.Unmet) × (after ≡ before))
+  StepOn _ before line a after = Went tells state offers faults before line a after
+
+  abbrev pub IsStep : Stage (OnShelf C O St) → Type 0
+  IsStep x = StepOn x.line.request x.before x.line x.answer x.after
+
+module _ {C O St : Type 0} (tells : Bool) (state : C → CellState) (offers : O → Offers) (s : Store C O) (told : Bool) (past : Past) where
+  -- What the laws on lines ask of a line that was served: the pass takes it, and its answer is as those laws ask.
+  pub record IsFair (x : Stage (OnShelf C O St)) : Type 0 where
+    pub takes : IsServed x.line.request → Takes tells state offers s x.before.pass x.line
+    pub printable : IsPrintable x.answer
+    pub large : LargeIsSo tells state offers s x.before.pass x.line.request x.answer
+    pub other : IsTrue told → OtherIsSo tells state offers s (run_of (basis tells state offers s) told past) x.before.pass x.line.request x.answer
+
+  -- The account of a worker that served these lines has a course of the same lines and answers, from what its pass knew at the start to what
+  -- it knows at the end. The pass is of the same store still, and tracks the lines.
+  pub record HasCourse (start end : OnShelf C O St) (stages : List (Stage (OnShelf C O St))) : Type 0 where
+    pub course : List (Told (List ℕ))
+    pub is : Course (run_of (basis tells state offers s) told past) (view start.pass) course (view end.pass)
+    pub lines : in_order course ≡ map (λ x. (x.line, x.answer)) stages
+    pub store : end.store ≡ s
+    pub tracks : Tracks tells state offers s told past (lines_in course) end.pass
