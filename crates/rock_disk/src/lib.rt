@@ -1,5 +1,5 @@
-//! Database files, as the store sees them: cells that can move between threads, stations that read
-//! and write them, and volumes that make and open files by name.
+//! Database files, as the store sees them: cells, stations that read and write them, and volumes
+//! that make and open files by name. The cells of a volume can move between threads.
 //!
 //! The traits say what a caller may rely on. The kinds in memory keep everything that they say
 //! visible, and fail where they are told to.

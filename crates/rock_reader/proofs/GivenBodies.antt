@@ -30,7 +30,7 @@ use Rattle.rock_reader.proofs.Decoded.{Decoded}
 use Rattle.rock_reader.proofs.DecodedRead.{decoded_read}
 use Rattle.rock_reader.proofs.Decoding.{Fit}
 use Rattle.rock_reader.proofs.KnownRead.{KnownRead, known_read}
-use Rattle.rock_reader.proofs.ReadingOn.{anchor2, gave_given, holds, is_reader, place2, reader_of_tab}
+use Rattle.rock_reader.proofs.ReadingOn.{anchor2, gave_given, holds, is_reader, known_held, place2, reader_of_tab}
 
 module _ {C O : Type 0} (tells : Bool) (state : C → CellState) (offers : O → Offers) (s : Store C O) (t : ℕ) (p : Pass C) (e : Standing) (reads : ReadsAs tells state offers s p t e) (q : Pass C) (epoch : Epoch) (link : Link)
     (found : LookedAt (basis tells state offers s) t epoch link (view p) (view q)) (follows : Follows tells state offers s t p q) (written : link ≢ NotWritten) (u : Pass C) (cell : Cell (List ℕ)) (has : HasRead tells state offers s t q u cell)
@@ -62,5 +62,5 @@ module _ {C O : Type 0} (tells : Bool) (state : C → CellState) (offers : O →
   pub gave_read : OfReader (λ r. 0 < r.place → 0 < held_at p.desks t) (tab_at (view p) t) → (place : ℕ) → OfReader (λ r. r.place ≡ place) (tab_at (view p) t) → (before after : List ℕ) (w : Pass C) (r : More)
       → Delivered t g.setting.slots place u before after w r → Gave tells state offers s t p e before after w r
   gave_read known place at before after w r d = gave_given tells state offers s t p e reads q epoch link found follows written u cell has.read reading
-      (λ some. reader_of_tab (λ x. 0 < x.place → 0 < held_at p.desks t) (tab_at (view p) t) reads.reader reads.is known (subst (λ (n : ℕ). 0 < n) (sym reads.place_is) some)) dec
+      (known_held tells state offers s t p e reads known) dec
       place (sym (reader_of_tab (λ x. x.place ≡ place) (tab_at (view p) t) reads.reader reads.is at) ∙ reads.place_is) before after w r d

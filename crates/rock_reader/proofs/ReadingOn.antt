@@ -123,6 +123,10 @@ module _ {C O : Type 0} (tells : Bool) (state : C → CellState) (offers : O →
     idle = r.2;
   }
 
+  -- what is known of the tab, of where it stands
+  pub known_held : (e : Standing) → ReadsAs tells state offers s p t e → OfReader (λ r. 0 < r.place → 0 < held_at p.desks t) (tab_at (view p) t) → 0 < e.place → 0 < held_at p.desks t
+  known_held e reads known some = reader_of_tab (λ x. 0 < x.place → 0 < held_at p.desks t) (tab_at (view p) t) reads.reader reads.is known (subst (λ (n : ℕ). 0 < n) (sym reads.place_is) some)
+
   module _ (e : Standing) (reads : ReadsAs tells state offers s p t e) (q : Pass C) (epoch : Epoch) (link : Link) (found : LookedAt g t epoch link (view p) (view q)) (follows : Follows tells state offers s t p q) where
     le : t ≤ inner
     le = let b = reads.below in omega arith
@@ -141,6 +145,10 @@ module _ {C O : Type 0} (tells : Bool) (state : C → CellState) (offers : O →
 
     held1 : held_at q.desks t ≡ held_at p.desks t
     held1 = ap (λ (ds : List Desk). held_at ds t) follows.desks
+
+    -- of a tab that was given a slot, and has a URL that it wants, no slot was of another entry
+    not_turned : (0 < e.place → 0 < held_at p.desks t) → e.is_other ≡ false
+    not_turned known = is_false e.is_other (λ o. let h = reads.other o in let k = known h.0 in absurd (omega (arith, k, h.1)))
 
     -- a tab that looked reads as before
     pub stays : ReadsAs tells state offers s q t e
@@ -168,8 +176,9 @@ module _ {C O : Type 0} (tells : Bool) (state : C → CellState) (offers : O →
       found0 : LookedAt g t epoch NotWritten (view p) (view q)
       found0 = subst (λ (l : Link). LookedAt g t epoch l (view p) (view q)) none found
 
-      waits : (before after : List ℕ) → after ≡ before → Waits tells state offers s t p e before after q epoch
-      waits before after same = record {
+      waits : (0 < e.place → 0 < held_at p.desks t) → (before after : List ℕ) → after ≡ before → Waits tells state offers s t p e before after q epoch
+      waits known before after same = record {
+        was = not_turned known;
         found = found0;
         fresh = subst (λ (z : ℕ). IsFresh z (epoch_number epoch) (view p) (view q)) (ap anchor_of reads.is ∙ reads.anchor_is) fresh;
         version_is = unwritten.version_is g t (view p) (view q) epoch (pass_of p) le reads.reader reads.is found0 ∙ reads.version_is;
@@ -179,14 +188,14 @@ module _ {C O : Type 0} (tells : Bool) (state : C → CellState) (offers : O →
         same = same;
       }
 
-      pub gave_none : (before after : List ℕ) → after ≡ before → (r : More) → (epoch.stage ≡ Stage.Appending → r ≡ More.NotYet epoch) → (epoch.stage ≢ Stage.Appending → r ≡ More.Halted) → Gave tells state offers s t p e before after q r
-      gave_none before after same r grows halted = ⊎_elim
+      pub gave_none : (0 < e.place → 0 < held_at p.desks t) → (before after : List ℕ) → after ≡ before → (r : More) → (epoch.stage ≡ Stage.Appending → r ≡ More.NotYet epoch) → (epoch.stage ≢ Stage.Appending → r ≡ More.Halted) → Gave tells state offers s t p e before after q r
+      gave_none known before after same r grows halted = ⊎_elim
           (λ (h : epoch.stage ≡ Stage.Appending). subst (Gave tells state offers s t p e before after q) (sym (grows h)) record {
-            waits = waits before after same;
+            waits = waits known before after same;
             grows = h;
             stages = λ f c v. unwritten.none_later g t (view p) (view q) epoch (pass_of p) le reads.reader reads.is found0 h f (subst (λ (z : ℕ). Contains (view q).seen (Stood z f)) (sym reads.anchor_is) c) (v ∙ sym reads.version_is);
           })
-          (λ (h : epoch.stage ≡ Stage.Halted). subst (Gave tells state offers s t p e before after q) (sym (halted (λ a. halted_appending (sym h ∙ a)))) record { epoch = epoch; waits = waits before after same; halted = h })
+          (λ (h : epoch.stage ≡ Stage.Halted). subst (Gave tells state offers s t p e before after q) (sym (halted (λ a. halted_appending (sym h ∙ a)))) record { epoch = epoch; waits = waits known before after same; halted = h })
           (unwritten.grows_or_halted g t (view p) (view q) epoch (pass_of p) le reads.reader reads.is found0)
 
     -- Where it is written, and the slot was read, or not.
@@ -221,8 +230,9 @@ module _ {C O : Type 0} (tells : Bool) (state : C → CellState) (offers : O →
     -- Where it could not be read.
 
     module _ (written : link ≢ NotWritten) (u : Pass C) (cell : Cell (List ℕ)) (read : ReadSlot g t (view q) false cell (view u)) (reading : FollowsReading tells state offers s t q u) where
-      pub fails : (before after : List ℕ) → after ≡ before → Fails tells state offers s t p e before after u
-      fails before after same = record {
+      pub fails : (0 < e.place → 0 < held_at p.desks t) → (before after : List ℕ) → after ≡ before → Fails tells state offers s t p e before after u
+      fails known before after same = record {
+        was = not_turned known;
         tried = record { epoch = epoch; link = link; middle = view q; found = found; written = written; cell = cell; read = read };
         stays = record {
           own = reading.own;
@@ -336,6 +346,7 @@ module _ {C O : Type 0} (tells : Bool) (state : C → CellState) (offers : O →
 
           piece_at : IsPiece tells state offers s t p e before after u count
           piece_at = record {
+            was = not_turned known;
             tried = tried u refl before after;
             found = is_of;
             bytes = λ told file. d.bytes ∙ ap (body_of image) at ∙ body_is g e.anchor e.offer e.place image (dec told file);
@@ -372,6 +383,7 @@ module _ {C O : Type 0} (tells : Bool) (state : C → CellState) (offers : O →
 
           turns_out : TurnsOut tells state offers s t p e before after w
           turns_out = record {
+            was = not_turned known;
             tried = tried w (drafted_view t _ u w d.forgot) before after;
             other = λ h. not_of (subst (λ (x : List ℕ). IsOfEntry x g.setting.slots e.place (kept_at p.desks t)) same_image h);
             url = λ told file. (at_first told file, other_url told file);

@@ -116,9 +116,10 @@ module _ {C O : Type 0} (tells : Bool) (state : C → CellState) (offers : O →
   abbrev g : Ground (List ℕ)
   g = basis tells state offers s
 
-  -- The link at its place was found not written, behind a look that found this epoch. The pass has seen no more published slots than the
-  -- tab was given.
+  -- No slot was found before that is of another entry, and the link at its place was found not written, behind a look that found this epoch.
+  -- The pass has seen no more published slots than the tab was given.
   pub record Waits (epoch : Epoch) : Type 0 where
+    pub was : e.is_other ≡ false
     pub found : LookedAt g t epoch NotWritten (view p) (view q)
     pub fresh : IsFresh e.anchor (epoch_number epoch) (view p) (view q)
     pub version_is : epoch.version ≡ e.version
@@ -148,9 +149,10 @@ module _ {C O : Type 0} (tells : Bool) (state : C → CellState) (offers : O →
     pub cell : Cell (List ℕ)
     pub read : ReadSlot g t middle done cell (view q)
 
-  -- The slot is of an entry of the wanted URL. What it adds to the body was given, and where cells tell that is what the slot at this place
+  -- The slot is of an entry of the wanted URL, and so were those before. What it adds to the body was given, and where cells tell that is what the slot at this place
   -- of the offer's response adds.
   pub record IsPiece (count : ℕ) : Type 0 where
+    pub was : e.is_other ≡ false
     pub tried : HasTried true
     pub found : IsOfEntry (buffer_at q.desks inner) g.setting.slots e.place (kept_at p.desks t)
     pub bytes : IsTrue tells → HoldsFile g → take count after ≡ body_at g e.anchor e.offer e.place
@@ -160,6 +162,7 @@ module _ {C O : Type 0} (tells : Bool) (state : C → CellState) (offers : O →
 
   -- A slot was read that is not of such an entry. Where cells tell it was the first one, and the offer's response has another URL.
   pub record TurnsOut : Type 0 where
+    pub was : e.is_other ≡ false
     pub tried : HasTried true
     pub other : IsOfEntry (buffer_at q.desks inner) g.setting.slots e.place (kept_at p.desks t) → ⊥
     pub url : IsTrue tells → HoldsFile g → (e.place ≡ 0) × ((url body : List ℕ) → IsResponse g e.anchor e.offer url body → url ≢ e.url)
@@ -182,6 +185,7 @@ module _ {C O : Type 0} (tells : Bool) (state : C → CellState) (offers : O →
 
   -- the slot could not be read
   pub record Fails : Type 0 where
+    pub was : e.is_other ≡ false
     pub tried : HasTried false
     pub stays : ReadsAs tells state offers s q t e
     pub same : after ≡ before

@@ -63,9 +63,11 @@ module _ {C O : Type 0} (tells : Bool) (state : C → CellState) (offers : O →
       pub how : TookNone count ⊎ TookHere count ⊎ TookBehind count
       pub writes : WritesAs tells state offers s q t (with_taken e (e.taken + count))
 
-    -- The slot that is being filled is full, more bytes came, and it was not published for this cause. The entry is halted, and the tab free.
+    -- The slot that is being filled is full, more bytes of the body came, and it was not published for this cause. The entry is halted, and
+    -- the tab free.
     pub record NotAppended (fault : WriteFault) : Type 0 where
       pub some : bytes ≢ []
+      pub continues : Continues g e bytes
       pub full : IsFull g e
       pub limit : (fault ≡ Large → IsAtLimit g (place_of g e)) × (fault ≢ Large → ¬ IsAtLimit g (place_of g e))
       pub middle : View (List ℕ)

@@ -7,7 +7,7 @@ use Rattle.rock_reader.proofs.GivenBodies.{gave_read}
 use Rattle.rock_reader.proofs.InnerTab.{given_inner, looked_inner, not_inner, read_inner}
 use Rattle.rock_reader.proofs.Looking.{of_reader}
 use Rattle.rock_reader.proofs.ReaderFollows.{follows_given, follows_looked, follows_read, not_fault, read_held}
-use Rattle.rock_reader.proofs.ReadingOn.{fails, gave_none, may_read}
+use Rattle.rock_reader.proofs.ReadingOn.{fails, gave_none, known_held, may_read}
 use Rattle.rock_reader.proofs.reading.read_on.Goals as goal
 
 pub place_of-place-requires-clause-below : goal.place_of-place-requires-clause-below
@@ -21,7 +21,8 @@ look_on-found-requires g c = c.requires.there
 
 pub returns-in-NotWritten-clause-gave : goal.returns-in-NotWritten-clause-gave
 returns-in-NotWritten-clause-gave g c e reads = gave_none g.C.Cell.tells g.C.Cell.state g.O.Origin.offers c.args.store.now c.args.tab c.args.pass.now e reads c.look_on-found.new.pass c.look_on-found.result.epoch c.look_on-found.result.link
-    c.look_on-found.ensures.found c.look_on-found.ensures.others c.in-NotWritten.is c.look_on-found.ensures.fresh c.args.out.now c.args.out.now refl c.unwritten.result c.unwritten.ensures.grows c.unwritten.ensures.halted
+    c.look_on-found.ensures.found c.look_on-found.ensures.others c.in-NotWritten.is c.look_on-found.ensures.fresh
+    (known_held g.C.Cell.tells g.C.Cell.state g.O.Origin.offers c.args.store.now c.args.tab c.args.pass.now e reads c.requires.known) c.args.out.now c.args.out.now refl c.unwritten.result c.unwritten.ensures.grows c.unwritten.ensures.halted
 
 pub returns-in-NotWritten-clause-others : goal.returns-in-NotWritten-clause-others
 returns-in-NotWritten-clause-others g c = follows_looked g.C.Cell.tells g.C.Cell.state g.O.Origin.offers c.args.store.now c.args.tab c.args.pass.now c.look_on-found.new.pass c.look_on-found.ensures.others
@@ -83,7 +84,8 @@ returns-in-Ok-clause-unfailed g c ne = c.in-Ok.ensures.unfailed
 
 pub returns-in-Err-clause-gave : goal.returns-in-Err-clause-gave
 returns-in-Err-clause-gave g c e reads = fails g.C.Cell.tells g.C.Cell.state g.O.Origin.offers c.args.store.now c.args.tab c.args.pass.now e reads c.look_on-found.new.pass c.look_on-found.result.epoch c.look_on-found.result.link
-    c.look_on-found.ensures.found c.look_on-found.ensures.others c.in_default.not-NotWritten c.read_slot.new.pass c.in-Err.ensures.err.0 c.in-Err.ensures.err.1 c.read_slot.ensures.others c.args.out.now c.args.out.now refl
+    c.look_on-found.ensures.found c.look_on-found.ensures.others c.in_default.not-NotWritten c.read_slot.new.pass c.in-Err.ensures.err.0 c.in-Err.ensures.err.1 c.read_slot.ensures.others
+    (known_held g.C.Cell.tells g.C.Cell.state g.O.Origin.offers c.args.store.now c.args.tab c.args.pass.now e reads c.requires.known) c.args.out.now c.args.out.now refl
 
 pub returns-in-Err-clause-others : goal.returns-in-Err-clause-others
 returns-in-Err-clause-others g c = follows_read g.C.Cell.tells g.C.Cell.state g.O.Origin.offers c.args.store.now c.args.tab c.args.pass.now c.look_on-found.new.pass c.read_slot.new.pass c.look_on-found.ensures.others c.read_slot.ensures.others

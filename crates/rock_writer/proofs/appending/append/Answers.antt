@@ -30,6 +30,7 @@ returns-in-Err-clause-err g c e may = let ne0 : length c.args.bytes.now ≢ 0 = 
     let f = may_flush g.C.Cell.tells g.C.Cell.state g.O.Origin.offers c.args.store.now c.args.tab e c.args.pass.now h c.args.bytes.now may.continues ne0 full in
     let limit = c.in-Err.ensures.limit e f in record {
       some = λ z. ne0 (ap length z);
+      continues = may.continues;
       full = full_there g.C.Cell.tells g.C.Cell.state g.O.Origin.offers c.args.store.now c.args.tab e c.args.pass.now h full;
       limit = ((λ z. subst (IsAtLimit (basis g.C.Cell.tells g.C.Cell.state g.O.Origin.offers c.args.store.now)) (sym at) (limit.0 (ap Err z))), (λ ne z. ne (err_is _ _ (limit.1 (subst (IsAtLimit (basis g.C.Cell.tells g.C.Cell.state g.O.Origin.offers c.args.store.now)) at z)))));
       middle = view c.flush.new.pass;
