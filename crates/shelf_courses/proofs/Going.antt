@@ -13,7 +13,7 @@ use Rattle.worker_shelf.specs.Shelves.{OnShelf}
 use Rattle.line_records.specs.Lines.{served_as}
 use Rattle.line_records.specs.Runs.{IsTold, Past, run_of}
 use Rattle.line_records.specs.Tracks.{Tracks}
-use Rattle.shelf_courses.specs.Courses.{HasCourse, IsFair, IsStep, in_order}
+use Rattle.shelf_courses.specs.Courses.{HasCourse, IsFair, IsStep, in_order, stage_shown, with_views}
 use Rattle.shelf_courses.proofs.Steps.{Laws, goes}
 
 here : {A : Type 0} (x : A) (xs : List A) → Contains (x ∷ xs) x
@@ -42,6 +42,7 @@ module _ {C O St : Type 0} (tells : Bool) (state : C → CellState) (offers : O 
   pub record Reaches (now end : OnShelf C O St) (r : Reached now) (stages : List (Stage (OnShelf C O St))) : Type 0 where
     pub reached : Reached end
     pub more : in_order reached.course ≡ in_order r.course ++ map (λ x. (x.line, x.answer)) stages
+    pub more_views : with_views reached.course ≡ with_views r.course ++ map stage_shown stages
 
   one_more : (now : OnShelf C O St) (r : Reached now) (x : Stage (OnShelf C O St)) → x.before ≡ now → IsStep tells state offers faults x → IsFair tells state offers s told past x → Reaches now x.after r (x ∷ [])
   one_more now r x is step fair = let store = ap OnShelf.store is ∙ r.store in let tracks = subst (λ (z : OnShelf C O St). Tracks tells state offers s told past (lines_in r.course) z.pass) (sym is) r.tracks in
@@ -54,6 +55,7 @@ module _ {C O St : Type 0} (tells : Bool) (state : C → CellState) (offers : O 
           tracks = h.adds.tracks;
         };
         more = refl;
+        more_views = refl;
       }
 
   pub all_on : (now : OnShelf C O St) (r : Reached now) (stages : List (Stage (OnShelf C O St))) (end : OnShelf C O St) → Linked now stages end → ((x : Stage (OnShelf C O St)) → Contains stages x → IsStep tells state offers faults x)
@@ -66,11 +68,13 @@ module _ {C O St : Type 0} (tells : Bool) (state : C → CellState) (offers : O 
       tracks = subst (λ (z : OnShelf C O St). Tracks tells state offers s told past (lines_in r.course) z.pass) (sym linked) r.tracks;
     };
     more = sym (nothing_behind (in_order r.course));
+    more_views = sym (nothing_behind (with_views r.course));
   }
   all_on now r (x ∷ stages) end linked steps fair = let one = one_more now r x linked.0 (steps x (here x stages)) (fair x (here x stages)) in
       let rest = all_on x.after one.reached stages end linked.1 (λ y h. steps y (there x stages y h)) (λ y h. fair y (there x stages y h)) in record {
         reached = rest.reached;
         more = rest.more ∙ ap (λ ys. ys ++ map (λ y. (y.line, y.answer)) stages) one.more ∙ joined (in_order r.course) (x.line, x.answer) (map (λ y. (y.line, y.answer)) stages);
+        more_views = rest.more_views ∙ ap (λ ys. ys ++ map stage_shown stages) one.more_views ∙ joined (with_views r.course) (stage_shown x) (map stage_shown stages);
       }
 
   -- from the start on
@@ -80,6 +84,7 @@ module _ {C O St : Type 0} (tells : Bool) (state : C → CellState) (offers : O 
     course = all.reached.course;
     is = all.reached.is;
     lines = all.more;
+    views = all.more_views;
     store = all.reached.store;
     tracks = all.reached.tracks;
   }

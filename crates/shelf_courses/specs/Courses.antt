@@ -6,6 +6,7 @@ use Rattle.script_text.specs.declared.line.Line.{Line}
 use Rattle.script_text.specs.declared.answer.Answer.TheVariants as answer
 use Rattle.script_text.specs.declared.request.Request.{Request}
 use Rattle.script_text.specs.declared.request.Request.TheVariants.{Await, Mark}
+use Rattle.core_model.specs.declared.view.View.{View}
 use Rattle.line_account.specs.Courses.{Course, Stage as Told, lines_in}
 use Rattle.store_rule.specs.declared.store.Note.{Note}
 use Rattle.store_rule.specs.declared.store.Store.{Store}
@@ -23,6 +24,15 @@ use Rattle.line_records.specs.Tracks.{Tracks}
 abbrev pub in_order : {X : Type 0} → List (Told X) → List (Line × Answer)
 in_order [] = []
 in_order (x ∷ earlier) = in_order earlier ++ (x.served.line, x.served.answer) ∷ []
+
+-- the same, each between the views before it and after it
+abbrev pub with_views : {X : Type 0} → List (Told X) → List (View X × Line × Answer × View X)
+with_views [] = []
+with_views (x ∷ earlier) = with_views earlier ++ (x.before, x.served.line, x.served.answer, x.after) ∷ []
+
+-- a stage of a worker on a shelf, in the same words
+abbrev pub stage_shown : {C O St : Type 0} → Stage (OnShelf C O St) → View (List ℕ) × Line × Answer × View (List ℕ)
+stage_shown x = (view x.before.pass, x.line, x.answer, view x.after.pass)
 
 module _ {C O St : Type 0} (tells : Bool) (state : C → CellState) (offers : O → Offers) (faults : St → ℕ) where
   -- a shelf made a note
@@ -62,5 +72,6 @@ module _ {C O St : Type 0} (tells : Bool) (state : C → CellState) (offers : O 
     pub course : List (Told (List ℕ))
     pub is : Course (run_of (basis tells state offers s) told past) (view start.pass) course (view end.pass)
     pub lines : in_order course ≡ map (λ x. (x.line, x.answer)) stages
+    pub views : with_views course ≡ map stage_shown stages  -- each between what the pass knew before it and after it
     pub store : end.store ≡ s
     pub tracks : Tracks tells state offers s told past (lines_in course) end.pass
