@@ -1,5 +1,5 @@
 -- Counts that rise.
-use Rattle.std.proofs.Common.{Bool, arith, ◌+◌, ◌<◌, ◌≡◌, ◌≤◌, ℕ}
+use Rattle.std.proofs.Common.{arith, ◌+◌, ◌≤◌, ℕ}
 use Rattle.std.specs.Prelude.{min}
 
 -- a count that rose by one and then by more, unless it stands at its end, rose by all of it

@@ -25,7 +25,7 @@ use Rattle.store_rule.specs.declared.store.Store.{Store}
 use Rattle.store_rule.specs.Ground.{Offers}
 use Rattle.store_rule.specs.Passes.{IsNewOf, basis, view}
 use Rattle.store_rule.proofs.Passing.{pass_of}
-use Rattle.worker_pool.specs.Courses.{At, IsServed, Linked, Stage}
+use Rattle.worker_pool.specs.Courses.{IsServed, Linked, Stage}
 use Rattle.worker_pool.specs.Running.{Account}
 use Rattle.serve_lines.specs.Serving.{Takes}
 use Rattle.worker_shelf.specs.Shelves.{Left, OnShelf}

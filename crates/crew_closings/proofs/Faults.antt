@@ -1,9 +1,8 @@
 -- The answers that tell a fault, and the count of a station.
-use Rattle.std.proofs.Common.{Bool, Contains, List, [], ap, arith, false, inl, inr, refl, subst, sym, true, ◌+◌, ◌-◌, ◌^◌, ◌∙◌, ◌∷◌, ◌≡◌, ◌≤◌, ℕ}
+use Rattle.std.proofs.Common.{Bool, Contains, List, [], ap, arith, false, inl, inr, refl, sym, true, ◌+◌, ◌-◌, ◌^◌, ◌∙◌, ◌∷◌, ◌≡◌, ◌≤◌, ℕ}
 use Rattle.std.specs.Prelude.{cond, count_by, min}
 use Rattle.std.proofs.lemmas.List.Sums.{sum_by-cons}
 use Rattle.rock_disk.specs.Cell.{CellState}
-use Rattle.rock_io.specs.Faults.{Rose}
 use Rattle.script_text.specs.declared.answer.Answer.{Answer}
 use Rattle.script_text.specs.declared.request.Request.{Request}
 use Rattle.script_text.specs.declared.request.Request.TheVariants.{Add, Await, Begin, CloseTab, DropTab, End, Get, Mark, More, OpenTab, Purge, Put, Save}

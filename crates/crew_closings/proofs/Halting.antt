@@ -1,6 +1,5 @@
 -- What was halted was never whole: in slots, and so in bytes.
-use Rattle.std.proofs.Common.{Bool, List, ap, arith, cond, false, length, subst, sym, ◌*◌, ◌+◌, ◌-◌, ◌<◌, ◌≡◌, ℕ}
-use Rattle.std.specs.Prelude.{nat_lt}
+use Rattle.std.proofs.Common.{Bool, List, arith, cond, length, subst, sym, ◌*◌, ◌+◌, ◌-◌, ◌<◌, ◌≡◌, ℕ}
 use Rattle.std.proofs.lemmas.Bool.{le-ltb}
 use Rattle.store_key.specs.Key.{key_of}
 use Rattle.swap_meta.specs.Meta.{meta_bytes}

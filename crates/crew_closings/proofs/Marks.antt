@@ -1,5 +1,5 @@
 -- The stages of a course are those of its worker, so what the marks hand on is handed on between courses.
-use Rattle.std.proofs.Common.{Contains, List, [], ap, inl, inr, map, refl, subst, sym, take, ◌++◌, ◌∙◌, ◌∷◌, ◌≡◌, ◌⊎◌, ℕ}
+use Rattle.std.proofs.Common.{Contains, List, [], ap, arith, inl, inr, map, subst, sym, take, ◌++◌, ◌∙◌, ◌∷◌, ◌≡◌, ◌⊎◌, ℕ}
 use Rattle.std.proofs.lemmas.List.Elements.{Contains-append_left, Contains-append_right}
 use mathlib.Core.Option.{some, some-injective}
 use lib.ListN.{get_elem?}
@@ -7,13 +7,11 @@ use Rattle.script_text.specs.declared.answer.Answer.{Answer}
 use Rattle.script_text.specs.declared.answer.Answer.TheVariants.{Met}
 use Rattle.script_text.specs.declared.line.Line.{Line}
 use Rattle.script_text.specs.declared.request.Request.TheVariants.{Await, Mark}
-use Rattle.core_model.specs.declared.view.Sight.{Sight}
 use Rattle.core_model.specs.declared.view.View.{View}
 use Rattle.core_model.proofs.Lists.{cons_contains, contains_none}
 use Rattle.core_model.proofs.SlotsOpened.{contains_map}
 use Rattle.line_account.specs.Courses.{Stage as Told}
 use Rattle.line_account.specs.Order.{HandsOver}
-use Rattle.store_rule.specs.Passes.{view}
 use Rattle.worker_pool.specs.Courses.{Stage, lines_of}
 use Rattle.worker_pool.specs.Running.{Account}
 use Rattle.worker_shelf.specs.Shelves.{OnShelf}
@@ -27,11 +25,11 @@ shown m = (m.before, m.served.line, m.served.answer, m.after)
 
 is_shown : {X : Type 0} → (course : List (Told X)) (m : Told X) → Contains course m → Contains (with_views course) (shown m)
 is_shown [] m h = absurd (contains_none m h)
-is_shown (x ∷ earlier) m h = either (cons_contains x m earlier h)
+is_shown (x ∷ earlier) m h = either (cons_contains x m earlier h) (is_shown earlier m)
   where
-    either : (x ≡ m) ⊎ Contains earlier m → Contains (with_views earlier ++ shown x ∷ []) (shown m)
-    either (inl e) = Contains-append_right (with_views earlier) (shown x ∷ []) (shown m) (0, omega arith, ap shown e)
-    either (inr r) = Contains-append_left (with_views earlier) (shown x ∷ []) (shown m) (is_shown earlier m r)
+    either : (x ≡ m) ⊎ Contains earlier m → (Contains earlier m → Contains (with_views earlier) (shown m)) → Contains (with_views earlier ++ shown x ∷ []) (shown m)
+    either (inl e) rest = Contains-append_right (with_views earlier) (shown x ∷ []) (shown m) (0, omega arith, ap shown e)
+    either (inr h) rest = Contains-append_left (with_views earlier) (shown x ∷ []) (shown m) (rest h)
 
 module _ {C O St : Type 0} where
   -- a line of the course is a stage of the worker

@@ -1,5 +1,5 @@
 -- How many bytes so many slots hold.
-use Rattle.std.proofs.Common.{List, ap, arith, length, length-append, suc, zero, ◌*◌, ◌++◌, ◌+◌, ◌-◌, ◌/◌, ◌<◌, ◌∙◌, ◌≡◌, ℕ}
+use Rattle.std.proofs.Common.{List, ap, arith, length, length-append, suc, zero, ◌*◌, ◌+◌, ◌-◌, ◌/◌, ◌<◌, ◌∙◌, ◌≡◌, ℕ}
 use Rattle.std.proofs.Math.Nat.{div-zero, le-div_iff_mul-le, suc-mul}
 use Rattle.store_key.specs.Key.{key_of}
 use Rattle.swap_meta.specs.Meta.{meta_bytes}
