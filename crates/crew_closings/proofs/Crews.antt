@@ -36,7 +36,8 @@ use Rattle.crew_closings.specs.Playing.{HasRun, IsPlayed}
 use Rattle.crew_closings.proofs.Halting.{halted_short}
 use Rattle.crew_closings.proofs.Lists.{Beside, as_many, beside, each_of, image, image_at, place_of, there}
 use Rattle.crew_closings.proofs.Marks.{awaited, hands_over}
-use Rattle.crew_closings.proofs.Scripts.{script_lines}
+use Rattle.crew_closings.proofs.Scripts.{in_script, script_lines}
+use Rattle.crew_closings.proofs.Taking.{still_takes}
 
 -- no line takes another pass
 pass_kept : {X : Type 0} (r : Run X) (start end : View X) (stages : List (Told X)) → Course r start stages end → end.pass ≡ start.pass
@@ -69,7 +70,9 @@ module _ {C O St : Type 0} (tells : Bool) (state : C → CellState) (offers : O 
     course_of : (w : ℕ) (a : Account (OnShelf C O St)) → IsPlayed tells state offers faults s script w a → (c : Played (List ℕ)) × IsDone w a c
     course_of w a h =
         let has = h.has_steps in
-        let c = laws.course a.start a.last a.stages h.store h.fresh has.linked has.steps h.takes in
+        let c = laws.course a.start a.last a.stages h.store h.fresh has.linked has.steps
+            (still_takes tells state offers faults s a.stages a.start a.last has.linked has.steps
+            (λ x among. let o = in_script (w + 1) script a.stages h.each x among in h.takes x.line o.0 o.1)) in
         let leaves = laws.leaves a.start a.last a.end a.stages c has.left in
         let begins = subst (λ (v : View (List ℕ)). Begins run v) (sym h.fresh.fresh) (laws.opened (view a.start.pass).pass) in
         let account = laws.ends (view a.last.pass) (view a.end.pass) (lines_in c.course) (laws.grows (view a.start.pass) (view a.last.pass) c.course begins c.is) leaves in (

@@ -5,4 +5,5 @@ mod Scripts
 mod Halting
 mod Marks
 mod Faults
+mod Taking
 mod Crews

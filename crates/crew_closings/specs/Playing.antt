@@ -41,14 +41,14 @@ module _ {C O St : Type 0} (tells : Bool) (state : C → CellState) (offers : O 
 
   module _ (s : Store C O) (script : List Line) where
     -- The worker with the pass w, from 0 on, whose number in the script is w + 1, began on a new pass of the store, and served its lines,
-    -- each once and in their order. The pass takes each line that it is asked for, and `await` is answered by the script.
+    -- each once and in their order. At the start the pass takes each of them that is served, and `await` is answered by the script.
     pub record IsPlayed (w : ℕ) (a : Account (OnShelf C O St)) : Type 0 where
       pub store : a.start.store ≡ s
       pub fresh : IsNewOf tells state offers s a.start.pass
       pub number : (view a.start.pass).pass ≡ w
       pub each : map (λ x. (x.place, x.line)) a.stages ≡ lines_of (w + 1) script
       pub has_steps : HasSteps a
-      pub takes : (x : Stage (OnShelf C O St)) → Contains a.stages x → IsServed x.line.request → Takes tells state offers s x.before.pass x.line
+      pub takes : (line : Line) → Contains script line → line.worker ≡ w + 1 → IsServed line.request → Takes tells state offers s a.start.pass line
       pub awaits : (x : Stage (OnShelf C O St)) → Contains a.stages x → (mark : ℕ) → x.line.request ≡ Await mark → x.answer ≡ answer_to_await (take x.place script) mark
 
     -- Workers did so, one for each pass of the store, and told one another at marks what they knew. The store was closed with their passes.
