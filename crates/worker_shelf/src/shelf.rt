@@ -1,11 +1,12 @@
 // A worker's shelf.
 ghost use Rattle.std.specs.Prelude.{IfOk, ◌+◌, ◌≡◌, ◌≤◌, length, replicate, vec_len};
 ghost use Rattle.slot_cell.specs.declared.header.TheConstants.{HEADER_SIZE};
+ghost use Rattle.serve_lines.specs.Whole.{whole_tab};
 ghost use Rattle.serve_lines.specs.declared.tabs.ScriptTab.TheVariants.{Free as Unused};
 
 use crate::leaving::leave_tabs;
 use crate::noting::ShelfNote;
-use crate::serving::serve_line;
+use crate::serving::{serve_line, with_types};
 use rock_disk::{Cell, Station};
 use rock_io::Memory;
 use script_text::{Answer, Line, Shelf};
@@ -104,7 +105,7 @@ struct Room {
 
 // Free tabs of the script, and room for what a slot of this size may add to a body.
 fn make_room(alloc: Global, slot: u32) -> Result<Room, Memory>
-    ensures tabs { IfOk result (λ room. room.tabs.items ≡ replicate 7 Unused) }
+    ensures tabs { IfOk result (λ room. room.tabs.items ≡ replicate whole_tab Unused) }
     ensures piece { IfOk result (λ room. slot ≤ vec_len room.piece + HEADER_SIZE) }
 {
     let tabs = Vec::from_array(
@@ -160,7 +161,7 @@ impl<'a, C: Cell + Send, O: Origin, St: Station<C = C>> Shelf for WorkerShelf<'a
     ghost left = { λ before after. Left C.tells C.state O.offers before after };
 
     fn serve<R: Wait>(&mut self, rt: &R, alloc: Global, line: &Line) -> Result<Answer, Memory> {
-        serve_line(
+        let answer = serve_line(
             rt,
             alloc,
             self.store,
@@ -169,7 +170,8 @@ impl<'a, C: Cell + Send, O: Origin, St: Station<C = C>> Shelf for WorkerShelf<'a
             &mut self.tabs,
             &mut self.piece,
             line,
-        )
+        )?;
+        Ok(with_types(answer))
     }
 
     fn note(&mut self) -> ShelfNote<C, O> {
