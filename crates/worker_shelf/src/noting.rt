@@ -1,7 +1,6 @@
 // What a shelf tells others.
 use rock_disk::Cell;
 use std::marker::Model;
-use std::mem::size_of;
 use std::snapshot::Snapshot;
 use store_rule::{Note, Origin, Store};
 
