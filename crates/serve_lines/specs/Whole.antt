@@ -20,10 +20,11 @@ use Rattle.store_serve.specs.declared.getting.Got.{Got}
 use Rattle.store_serve.specs.declared.storing.PutFault.{PutFault}
 use Rattle.serve_lines.specs.Answers.{AnswersGet, answer_to_purge, answer_to_put}
 use Rattle.serve_lines.specs.Tabs.{IsFree}
+use Rattle.serve_lines.specs.declared.whole.TheConstants.{WHOLE_TAB}
 
 -- the tab of whole requests
 abbrev pub whole_tab : ℕ
-whole_tab = 7
+whole_tab = WHOLE_TAB
 
 module _ {C O : Type 0} (tells : Bool) (state : C → CellState) (offers : O → Offers) (s : Store C O) (url : List ℕ) (p : Pass C) (a : Answer) (q : Pass C) where
   -- A response was stored whole on the tab of whole requests, or not: its entry was not begun, or it was and was given up.

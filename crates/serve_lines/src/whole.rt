@@ -20,7 +20,8 @@ use store_serve::{get_entry, put_entry};
 /// The tab of whole requests. Those of a script are below it.
 pub const WHOLE_TAB: u8 = 7;
 
-/// Stores a whole response. If `durable`, each slot is synced before it is published.
+/// Stores a whole response. Its offer is numbered from the number of slots on. If `durable`, each slot is synced before
+/// it is published.
 pub fn put_whole<C: Cell, O: Origin, St: Station<C = C>>(
     store: &Store<C, O>,
     pass: &mut Pass<C>,

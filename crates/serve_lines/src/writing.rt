@@ -18,7 +18,7 @@ use std::alloc::Global;
 use store_rule::{Origin, Pass, Store};
 use store_serve::{add_bytes, body_length, end_entry};
 
-/// Begins the entry of an offer on a free tab.
+/// Begins the entry of an offer on a free tab. The offer is numbered from the number of slots on.
 ///
 /// # Errors
 ///
@@ -81,7 +81,7 @@ fn copied(alloc: Global, body: &Body) -> Result<Body, Memory>
     }
 }
 
-/// Takes the next bytes of the body of the entry that a tab writes, so many or all that are left.
+/// Takes the next bytes of the body of the entry that a tab writes: `count` bytes, or all that are left.
 pub fn add_to_tab<C: Cell, O: Origin, St: Station<C = C>>(
     store: &Store<C, O>,
     pass: &mut Pass<C>,

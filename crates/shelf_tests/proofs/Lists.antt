@@ -16,6 +16,14 @@ module _ {A : Type 0} where
   popped P zs xs o y h is some = let all : All P (xs ++ y ∷ []) = subst (All P) (is ∙ ap (λ (z : Option A). xs ++ option_to_list z) some) h in
       subst P (last_at xs y y) (all (length xs) y (longer xs y))
 
+  -- where a list has one item, it is the one that was popped
+  pub alone : (zs xs : List A) (o : Option A) (y : A) → length zs ≡ 1 → zs ≡ xs ++ option_to_list o → o ≡ Some y → zs ≡ y ∷ []
+  alone zs xs o y one is some = at xs (is ∙ ap (λ (z : Option A). xs ++ option_to_list z) some)
+    where
+      at : (xs : List A) → zs ≡ xs ++ y ∷ [] → zs ≡ y ∷ []
+      at [] e = e
+      at (x ∷ xs) e = let n = ap length e in let l = longer xs y in let m = one in absurd (omega arith)
+
   -- an item of a list to which one was pushed is that one
   pub only : (xs ys : List A) (x y : A) (w : ℕ) → xs ≡ [] → ys ≡ xs ++ x ∷ [] → w < length ys → get_or ys w y ≡ y → x ≡ y
   only xs ys x y w empty pushed lt is = at w (subst (λ (z : List A). w < length z) one lt) (subst (λ (z : List A). get_or z w y ≡ y) one is)

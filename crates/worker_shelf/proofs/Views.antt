@@ -1,6 +1,7 @@
 -- A shelf's pass after a note was made or learned, and what a shelf is to its callers.
 use Rattle.std.proofs.Common.{Bool, Contains, List, [], ap, arith, inl, inr, refl, subst, sym, ◌<◌, ◌∷◌, ◌≡◌, ◌∙◌, ◌⊎◌, false, true, ℕ}
-use Rattle.std.specs.Prelude.{◌≢◌}
+use Rattle.std.specs.Global.{Vec}
+use Rattle.std.specs.Prelude.{length, vec_capacity, vec_len, ◌+◌, ◌≤◌, ◌≢◌}
 use Rattle.std.proofs.Math.Dec.{eqb}
 use Rattle.std.proofs.lemmas.Bool.Decides.{eqb_tells}
 use Rattle.std.proofs.lemmas.List.Elements.{Contains-append_left, Contains-append_right}
@@ -18,12 +19,12 @@ use Rattle.store_rule.specs.Drafts.{draft_at}
 use Rattle.store_rule.specs.Ground.{Offers}
 use Rattle.store_rule.specs.Lending.{buffer_at}
 use Rattle.store_rule.specs.Notes.{sees}
-use Rattle.store_rule.specs.Passes.{Keeps, view}
+use Rattle.store_rule.specs.Passes.{Keeps, basis, hand, view}
 use Rattle.serve_lines.specs.Serving.{Takes}
 use Rattle.serve_lines.specs.Tabs.{IsFree, IsReady, Leaves}
 use Rattle.serve_lines.specs.Whole.{whole_tab}
 use Rattle.serve_lines.specs.declared.tabs.ScriptTab.{ScriptTab}
-use Rattle.worker_shelf.specs.Shelves.{AllFree, AllHold, HasShelf, Left, LeftBelow, OnShelf}
+use Rattle.worker_shelf.specs.Shelves.{AllFree, AllHold, HasShelf, KeepsCells, Left, LeftBelow, OnShelf}
 use Rattle.worker_shelf.proofs.Holding.{Stays, all_hold_whole}
 
 abbrev pub on_shelf : {C O St : Type 0} → Store C O → Pass C → St → OnShelf C O St
@@ -72,11 +73,27 @@ module _ {C O : Type 0} (tells : Bool) (state : C → CellState) (offers : O →
       cells = keeps.cells;
     }
 
+    -- the pass keeps the room for all cells, if it did
+    cells_kept : (p q : Pass C) → (view q).pass ≡ (view p).pass → q.cells ≡ p.cells → KeepsCells tells state offers s p → KeepsCells tells state offers s q
+    cells_kept p q same cells h first = subst (λ (z : Vec C). (z.items ≡ []) × (vec_len z ≡ 0) × ((basis tells state offers s).setting.slots ≤ vec_capacity z)) (sym cells) (h (sym same ∙ first))
+
     pub shelf_still : Stays tells state offers s → (p q : Pass C) (tabs : List ScriptTab) (piece : List ℕ) (sights : List Sight) (item : Item) → Keeps tells state offers s p q → view q ≡ sees (view p) sights item
         → HasShelf tells state offers s p tabs piece → HasShelf tells state offers s q tabs piece
     shelf_still stays p q tabs piece sights item keeps more h = record {
       holds = all_hold_whole tells state offers s stays whole_tab p q (leaves_note p q sights item keeps more h.holds.ready) tabs refl h.holds (ap (λ (v : View (List ℕ)). tab_at v whole_tab) more ∙ h.holds.whole);
+      home = keeps.places ∙ h.home;
+      cells = cells_kept p q (ap View.pass more) keeps.cells h.cells;
       room = h.room;
+    }
+
+    -- a shelf is one still, where its pass has at hand what the end of the store asks for
+    pub shelf_on : (p q : Pass C) (tabs_before tabs : List ScriptTab) (piece_before piece : List ℕ) → HasShelf tells state offers s p tabs_before piece_before → AllHold tells state offers s q tabs
+        → Knows (view p) (view q) → hand q ≡ hand p → q.cells ≡ p.cells → length piece ≡ length piece_before → HasShelf tells state offers s q tabs piece
+    shelf_on p q tabs_before tabs piece_before piece h holds keeps places cells long = record {
+      holds = holds;
+      home = places ∙ h.home;
+      cells = cells_kept p q keeps.pass cells h.cells;
+      room = let r = h.room in let l = long in omega arith;
     }
 
     -- all tabs are free once those of the script are

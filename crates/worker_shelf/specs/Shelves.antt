@@ -1,17 +1,15 @@
 -- What a worker's shelf is to its callers, and what leaving its tabs comes to.
-use Rattle.std.specs.Prelude.{Bool, List, length, slice_index_or, suc, true, zero, ◌+◌, ◌<◌, ◌≡◌, ◌≤◌, ◌⊎◌, ℕ}
+use Rattle.std.specs.Prelude.{Bool, List, [], length, replicate, slice_index_or, suc, true, zero, ◌+◌, ◌<◌, ◌∷◌, ◌≡◌, ◌≤◌, ◌⊎◌, ℕ}
 use Rattle.rock_disk.specs.Cell.{CellState}
 use Rattle.core_model.specs.Tabs.{is_free, tab_at}
 use Rattle.slot_cell.specs.declared.header.TheConstants.{HEADER_SIZE}
 use Rattle.script_text.specs.declared.answer.Answer.{Answer}
 use Rattle.script_text.specs.declared.line.Line.{Line}
-use Rattle.script_text.specs.declared.request.Request.{Request}
-use Rattle.script_text.specs.declared.request.Request.TheVariants.{Add, Begin, CloseTab, DropTab, End, More, OpenTab}
 use Rattle.store_rule.specs.declared.store.Pass.{Pass}
 use Rattle.store_rule.specs.declared.store.Store.{Store}
 use Rattle.store_rule.specs.Ground.{Offers}
 use Rattle.store_rule.specs.Notes.{learning, noting}
-use Rattle.store_rule.specs.Passes.{IsNoteOf, Keeps, basis, note_seen, view}
+use Rattle.store_rule.specs.Passes.{IsNoteOf, Keeps, KeepsRoom, basis, hand, note_seen, view}
 use Rattle.store_rule.specs.declared.store.Note.{Note}
 use Rattle.rock_reader.specs.Closing.{Parted}
 use Rattle.rock_writer.specs.Halting.{Halts}
@@ -20,17 +18,8 @@ use Rattle.serve_lines.specs.Tabs.{Holds, IsFree, IsReading, IsReady, IsWriting,
 use Rattle.serve_lines.specs.Whole.{whole_tab}
 use Rattle.serve_lines.specs.declared.tabs.ScriptTab.{ScriptTab}
 use Rattle.serve_lines.specs.declared.tabs.ScriptTab.TheVariants.{Free}
-
--- the request names this tab of the script
-abbrev pub OnTab : Request → ℕ → Type 0
-OnTab (Begin named url body) tab = tab ≡ named
-OnTab (Add named count) tab = tab ≡ named
-OnTab (End named) tab = tab ≡ named
-OnTab (DropTab named) tab = tab ≡ named
-OnTab (OpenTab named url) tab = tab ≡ named
-OnTab (More named) tab = tab ≡ named
-OnTab (CloseTab named) tab = tab ≡ named
-OnTab _ tab = ⊥
+use Rattle.worker_shelf.specs.declared.shelf.ShelfRoom.{ShelfRoom}
+use Rattle.worker_shelf.specs.Typed.{IsTyped}
 
 abbrev pub kept_at : List ScriptTab → ℕ → ScriptTab
 kept_at tabs t = slice_index_or tabs t Free
@@ -40,6 +29,16 @@ pub record OnShelf (C O St : Type 0) : Type 0 where
   pub store : Store C O
   pub pass : Pass C
   pub station : St
+
+-- what a shelf tells others: what a pass of this store had seen
+pub record OfShelf (C O : Type 0) : Type 0 where
+  pub store : Store C O
+  pub note : Note C
+
+-- room for a shelf of a store with slots of this size: nothing is kept of any tab, and what a slot may add to a body fits
+pub record IsRoomFor (slot : ℕ) (room : ShelfRoom) : Type 0 where
+  pub tabs : room.tabs.items ≡ replicate whole_tab Free
+  pub piece : slot ≤ length room.piece.items + HEADER_SIZE
 
 -- the tab is free, where the pass has one of this number
 abbrev pub HasFree : {C : Type 0} → Pass C → ℕ → Type 0
@@ -77,16 +76,24 @@ module _ {C O : Type 0} (tells : Bool) (state : C → CellState) (offers : O →
   LeftBelow zero p q = q ≡ p
   LeftBelow (suc t) p q = (middle : Pass C) × LeftBelow t p middle × LeftTab t middle q
 
-  -- a shelf keeps its tabs so, and has room for what a slot may add to a body
+  -- If it is the first pass of the store, it keeps an emptied vector with room for all cells.
+  abbrev pub KeepsCells : Pass C → Type 0
+  KeepsCells p = (view p).pass ≡ 0 → KeepsRoom (basis tells state offers s).setting.slots (p ∷ [])
+
+  -- A shelf keeps its tabs so, and has room for what a slot may add to a body. Its pass has no place out, and keeps what the end of the
+  -- store asks for.
   pub record HasShelf (p : Pass C) (tabs : List ScriptTab) (piece : List ℕ) : Type 0 where
     pub holds : AllHold p tabs
+    pub home : hand p ≡ []
+    pub cells : KeepsCells p
     pub room : (basis tells state offers s).slot ≤ length piece + HEADER_SIZE
 
 module _ {C O St : Type 0} (tells : Bool) (state : C → CellState) (offers : O → Offers) (faults : St → ℕ) where
-  -- A shelf served a line, on its store, with its pass and its station.
+  -- A shelf served a line, on its store, with its pass and its station. The answer fits its types.
   pub record Went (before : OnShelf C O St) (line : Line) (a : Answer) (after : OnShelf C O St) : Type 0 where
     pub store : after.store ≡ before.store
     pub serves : Serves tells state offers before.store line before.pass a after.pass (faults before.station) (faults after.station)
+    pub typed : IsTyped a
 
 module _ {C O St : Type 0} (tells : Bool) (state : C → CellState) (offers : O → Offers) where
   -- It told what its pass had seen, in a note, or learned what one has seen: the pass stood and had at hand what it did.

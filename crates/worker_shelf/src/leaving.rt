@@ -1,14 +1,14 @@
 // All tabs of the script are left.
 ghost use Rattle.std.specs.Prelude.{◌<◌, ◌≡◌, ℕ};
 ghost use Rattle.line_account.specs.Courses.{Keeps};
-ghost use Rattle.store_rule.specs.Passes.{view};
+ghost use Rattle.store_rule.specs.Passes.{hand, view};
 ghost use Rattle.serve_lines.specs.Tabs.{Holds, IsFree, IsReady};
 ghost use Rattle.serve_lines.specs.Whole.{whole_tab};
 ghost use Rattle.worker_shelf.specs.Shelves.{AllHold, LeftBelow, LeftTab};
 
 use rock_disk::Cell;
 use rock_writer::abort;
-use serve_lines::{ScriptTab, close_tab, drop_tab, requests_keep_other_tabs};
+use serve_lines::{ScriptTab, WHOLE_TAB, close_tab, drop_tab, requests_keep_other_tabs};
 use std::mem;
 use store_rule::{Origin, Pass, Store};
 
@@ -23,9 +23,11 @@ pub(crate) fn leave_tabs<C: Cell, O: Origin>(
     ensures holds { AllHold C.tells C.state O.offers store.now pass.new tabs.new }
     ensures free { (tab : ℕ) → tab < whole_tab → IsFree pass.new tab }
     ensures keeps { Keeps (view pass.old) (view pass.new) }
+    ensures places { hand pass.new ≡ hand pass.old }
+    ensures cells { pass.new.cells ≡ pass.old.cells }
 {
     requests_keep_other_tabs::<C, O>();
-    for tab in 0..7u8 {
+    for tab in 0..WHOLE_TAB {
         let kept = mem::replace(&mut tabs[tab as usize], ScriptTab::Free);
         leave(store, pass, tab, kept);
     }

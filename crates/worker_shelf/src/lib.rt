@@ -3,7 +3,9 @@
 #![tactic(auto)]
 
 mod leaving;
+mod noting;
 mod serving;
 mod shelf;
 
-pub use shelf::WorkerShelf;
+pub use noting::ShelfNote;
+pub use shelf::{ShelfRoom, WorkerShelf};

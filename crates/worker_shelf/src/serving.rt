@@ -3,12 +3,13 @@ ghost use Rattle.std.specs.Prelude.{IfOk, OnErr, length, ◌+◌, ◌<◌, ◌�
 ghost use Rattle.slot_cell.specs.declared.header.TheConstants.{HEADER_SIZE};
 ghost use Rattle.script_text.specs.Tabs.{UsesTab};
 ghost use Rattle.line_account.specs.Courses.{Keeps};
-ghost use Rattle.store_rule.specs.Passes.{basis, view};
+ghost use Rattle.store_rule.specs.Passes.{basis, hand, view};
 ghost use Rattle.serve_lines.specs.Answers.{TellsFaults};
 ghost use Rattle.serve_lines.specs.Serving.{Serves, ServesRequest, Takes, offer_of};
 ghost use Rattle.serve_lines.specs.Tabs.{Holds, IsFree, IsReady, Leaves};
 ghost use Rattle.serve_lines.specs.Whole.{whole_tab};
-ghost use Rattle.worker_shelf.specs.Shelves.{AllHold, OnTab};
+ghost use Rattle.worker_shelf.specs.Shelves.{AllHold};
+ghost use Rattle.worker_shelf.specs.Typed.{IsTyped};
 
 use rock_disk::{Cell, Station};
 use rock_io::Memory;
@@ -44,6 +45,8 @@ pub(crate) fn serve_line<R: Wait, C: Cell, O: Origin, St: Station<C = C>>(
     ensures holds { AllHold C.tells C.state O.offers store.now pass.new tabs.new }
     ensures free { OnErr result ((tab : ℕ) → UsesTab line.now.request tab → IsFree pass.new tab) }
     ensures keeps { Keeps (view pass.old) (view pass.new) }
+    ensures places { hand pass.new ≡ hand pass.old }
+    ensures cells { pass.new.cells ≡ pass.old.cells }
     ensures length { length piece.new ≡ length piece.old }
 {
     requests_keep_other_tabs::<C, O>();
@@ -82,6 +85,14 @@ pub(crate) fn serve_line<R: Wait, C: Cell, O: Origin, St: Station<C = C>>(
     }
 }
 
+// The answer as it is: its numbers and bytes fit their types.
+pub(crate) fn with_types(answer: Answer) -> Answer
+    ensures same { result ≡ answer }
+    ensures typed { IsTyped result }
+{
+    answer
+}
+
 // Serves a line that names a tab of the script.
 fn serve_on_tab<R: Wait, C: Cell, O: Origin, St: Station<C = C>>(
     rt: &R,
@@ -97,7 +108,7 @@ fn serve_on_tab<R: Wait, C: Cell, O: Origin, St: Station<C = C>>(
 ) -> Result<Answer, Memory>
     requires holds { AllHold C.tells C.state O.offers store.now pass.old tabs.old }
     requires below { tab < whole_tab }
-    requires names { OnTab line.now.request tab }
+    requires names { UsesTab line.now.request tab }
     requires offer { offer ≡ offer_of C.tells C.state O.offers store.now line.now.number }
     requires takes { Takes C.tells C.state O.offers store.now pass.old line.now }
     requires room { (basis C.tells C.state O.offers store.now).slot ≤ length piece.old + HEADER_SIZE }
@@ -136,7 +147,7 @@ fn on_tab<R: Wait, C: Cell, O: Origin, St: Station<C = C>>(
 ) -> Result<Told, Memory>
     requires ready { IsReady C.tells C.state O.offers store.now pass.old }
     requires below { tab < whole_tab }
-    requires names { OnTab line.now.request tab }
+    requires names { UsesTab line.now.request tab }
     requires holds { Holds C.tells C.state O.offers store.now pass.old tab kept }
     requires offer { offer ≡ offer_of C.tells C.state O.offers store.now line.now.number }
     requires takes { Takes C.tells C.state O.offers store.now pass.old line.now }

@@ -1,10 +1,9 @@
 // A worker's shelf.
-ghost use Rattle.std.specs.Prelude.{IfOk, ◌+◌, ◌≡◌, ◌≤◌, length, replicate, vec_len};
-ghost use Rattle.slot_cell.specs.declared.header.TheConstants.{HEADER_SIZE};
-ghost use Rattle.serve_lines.specs.declared.tabs.ScriptTab.TheVariants.{Free as Unused};
+ghost use Rattle.std.specs.Prelude.{IfOk, ◌≡◌};
 
 use crate::leaving::leave_tabs;
-use crate::serving::serve_line;
+use crate::noting::ShelfNote;
+use crate::serving::{serve_line, with_types};
 use rock_disk::{Cell, Station};
 use rock_io::Memory;
 use script_text::{Answer, Line, Shelf};
@@ -13,7 +12,7 @@ use slot_cell::HEADER_SIZE;
 use std::alloc::Global;
 use std::marker::Model;
 use std::sync::Wait;
-use store_rule::{Note, Origin, Pass, Store};
+use store_rule::{Origin, Pass, Store};
 
 /// What one worker serves its lines on: its pass of the store, its station, and what is kept of the script's tabs.
 /// Whole requests use tab 7, those of a script tabs 0 to 6. The offer of a line is its number, behind the slots. A shelf
@@ -42,10 +41,11 @@ impl<'a, C: Cell, O: Origin, St: Station<C = C>> WorkerShelf<'a, C, O, St> {
     ghost use Rattle.std.specs.Prelude.{IfErr, IfOk, ◌<◌, ◌≡◌, ℕ};
     ghost use Rattle.core_model.specs.Tabs.{tab_at};
     ghost use Rattle.core_model.specs.declared.tab.Tab.TheVariants.{Free};
-    ghost use Rattle.store_rule.specs.Passes.{IsOf, view};
-    ghost use Rattle.worker_shelf.specs.Shelves.{AllFree};
+    ghost use Rattle.store_rule.specs.Closing.{IsResting};
+    ghost use Rattle.store_rule.specs.Passes.{IsOf, basis, view};
+    ghost use Rattle.worker_shelf.specs.Shelves.{AllFree, IsRoomFor, KeepsCells};
 
-    /// A shelf over a pass of the store whose tabs are all free.
+    /// A shelf over a pass of the store whose tabs are all free and which has no place out.
     ///
     /// # Errors
     ///
@@ -57,27 +57,42 @@ impl<'a, C: Cell, O: Origin, St: Station<C = C>> WorkerShelf<'a, C, O, St> {
         station: St,
     ) -> Result<Self, (Pass<C>, St)>
         requires own { IsOf C.tells C.state O.offers store.now pass }
-        requires free { AllFree pass }
+        requires rest { IsResting pass }
+        requires cells { KeepsCells C.tells C.state O.offers store.now pass }
         ensures shelf { IfOk result (λ shelf. (shelf.store ≡ store.now) × (shelf.pass ≡ pass) × (shelf.station ≡ station)) }
         ensures back { IfErr result (λ back. back ≡ (pass, station)) }
     {
-        let Ok(room) = make_room(alloc, store.slot_size()) else {
-            return Err((pass, station));
-        };
-        let Room { tabs, piece } = room;
-        Ok(WorkerShelf {
+        match ShelfRoom::new(alloc, store.slot_size()) {
+            Ok(room) => Ok(WorkerShelf::with_room(store, pass, station, room)),
+            Err(_) => Err((pass, station)),
+        }
+    }
+
+    /// The same, in room that was taken before.
+    pub fn with_room(store: &'a Store<C, O>, pass: Pass<C>, station: St, room: ShelfRoom) -> Self
+        requires own { IsOf C.tells C.state O.offers store.now pass }
+        requires rest { IsResting pass }
+        requires cells { KeepsCells C.tells C.state O.offers store.now pass }
+        requires room { IsRoomFor (basis C.tells C.state O.offers store.now).slot room }
+        ensures { (result.store ≡ store.now) × (result.pass ≡ pass) × (result.station ≡ station) }
+    {
+        let ShelfRoom { tabs, piece } = room;
+        WorkerShelf {
             store,
             pass,
             station,
             tabs,
             piece,
-        })
+        }
     }
 
-    /// Gives the pass and the station back, once all tabs were left.
+    /// Gives the pass and the station back, once all tabs were left. The store may be closed with the pass.
     pub fn into_parts(self) -> (Pass<C>, St)
         requires { AllFree self.pass }
-        ensures { result ≡ (self.entry.pass, self.entry.station) }
+        ensures parts { result ≡ (self.entry.pass, self.entry.station) }
+        ensures own { IsOf C.tells C.state O.offers self.entry.store result.0 }
+        ensures rest { IsResting result.0 }
+        ensures cells { KeepsCells C.tells C.state O.offers self.entry.store result.0 }
     {
         let WorkerShelf {
             store: _store,
@@ -90,42 +105,52 @@ impl<'a, C: Cell, O: Origin, St: Station<C = C>> WorkerShelf<'a, C, O, St> {
     }
 }
 
-/// What a shelf keeps beside its pass and its station.
-struct Room {
+/// The room that a shelf needs beside its pass and its station: for what is kept of the script's tabs, and for what a slot
+/// may add to a body.
+#[derive(Drop)]
+pub struct ShelfRoom {
     tabs: Vec<ScriptTab>,
     piece: Vec<u8>,
 }
 
-// Free tabs of the script, and room for what a slot of this size may add to a body.
-fn make_room(alloc: Global, slot: u32) -> Result<Room, Memory>
-    ensures tabs { IfOk result (λ room. room.tabs.items ≡ replicate 7 Unused) }
-    ensures piece { IfOk result (λ room. slot ≤ vec_len room.piece + HEADER_SIZE) }
-{
-    let tabs = Vec::from_array(
-        alloc,
-        [
-            ScriptTab::Free,
-            ScriptTab::Free,
-            ScriptTab::Free,
-            ScriptTab::Free,
-            ScriptTab::Free,
-            ScriptTab::Free,
-            ScriptTab::Free,
-        ],
-    )?;
-    let piece = vec![in alloc; 0; (slot as usize).saturating_sub(HEADER_SIZE)]?;
-    Ok(Room { tabs, piece })
+impl ShelfRoom {
+    ghost use Rattle.std.specs.Prelude.{IfOk};
+    ghost use Rattle.worker_shelf.specs.Shelves.{IsRoomFor};
+
+    /// Room for a shelf of a store whose slots have so many bytes.
+    ///
+    /// # Errors
+    ///
+    /// Want of memory.
+    pub fn new(alloc: Global, slot: u32) -> Result<Self, Memory>
+        ensures { IfOk result (IsRoomFor slot) }
+    {
+        let tabs = Vec::from_array(
+            alloc,
+            [
+                ScriptTab::Free,
+                ScriptTab::Free,
+                ScriptTab::Free,
+                ScriptTab::Free,
+                ScriptTab::Free,
+                ScriptTab::Free,
+                ScriptTab::Free,
+            ],
+        )?;
+        let piece = vec![in alloc; 0; (slot as usize).saturating_sub(HEADER_SIZE)]?;
+        Ok(ShelfRoom { tabs, piece })
+    }
 }
 
 impl<'a, C: Cell + Send, O: Origin, St: Station<C = C>> Shelf for WorkerShelf<'a, C, O, St> {
     ghost use Rattle.std.specs.Prelude.{◌≡◌, Contains, ℕ};
-    ghost use Rattle.atomic_table.specs.Seated.{TableId};
     ghost use Rattle.core_model.specs.declared.view.Sight.{Sight};
     ghost use Rattle.store_rule.specs.Passes.{note_seen, view};
+    ghost use Rattle.store_rule.specs.declared.store.Store.{Store};
     ghost use Rattle.serve_lines.specs.Serving.{Takes};
     ghost use Rattle.worker_shelf.specs.Shelves.{HasFree, Learned, Left, Noted, Went};
 
-    type N = Note<C>;
+    type N = ShelfNote<C, O>;
 
     ghost takes = { λ shelf line. Takes C.tells C.state O.offers shelf.store shelf.pass line };
 
@@ -135,26 +160,26 @@ impl<'a, C: Cell + Send, O: Origin, St: Station<C = C>> Shelf for WorkerShelf<'a
 
     ghost knows = { λ shelf sight. Contains (view shelf.pass).seen sight };
 
-    ghost note_knows = { λ note sight. Contains (note_seen note) sight };
+    ghost note_knows = { λ note sight. Contains (note_seen note.note) sight };
 
-    ghost Home = { TableId };
+    ghost Home = { Store C O };
 
-    ghost home = { λ shelf. shelf.store.table.shared.table_id };
+    ghost home = { λ shelf. shelf.store };
 
-    ghost note_home = { λ note. note.seat.table_id };
+    ghost note_home = { λ note. note.store };
 
     ghost name = { λ shelf. (view shelf.pass).pass };
 
     ghost is_free = { λ shelf tab. HasFree shelf.pass tab };
 
-    ghost noted = { λ before note after. Noted C.tells C.state O.offers before note after };
+    ghost noted = { λ before note after. Noted C.tells C.state O.offers before note.note after };
 
-    ghost learned = { λ before note after. Learned C.tells C.state O.offers before note after };
+    ghost learned = { λ before note after. Learned C.tells C.state O.offers before note.note after };
 
     ghost left = { λ before after. Left C.tells C.state O.offers before after };
 
     fn serve<R: Wait>(&mut self, rt: &R, alloc: Global, line: &Line) -> Result<Answer, Memory> {
-        serve_line(
+        let answer = serve_line(
             rt,
             alloc,
             self.store,
@@ -163,17 +188,19 @@ impl<'a, C: Cell + Send, O: Origin, St: Station<C = C>> Shelf for WorkerShelf<'a
             &mut self.tabs,
             &mut self.piece,
             line,
-        )
+        )?;
+        Ok(with_types(answer))
     }
 
-    fn note(&mut self) -> Note<C> {
+    fn note(&mut self) -> ShelfNote<C, O> {
         requests_keep_other_tabs::<C, O>();
-        self.store.note(&mut self.pass)
+        let note = self.store.note(&mut self.pass);
+        ShelfNote::of(self.store, note)
     }
 
-    fn learn(&mut self, note: Note<C>) {
+    fn learn(&mut self, note: ShelfNote<C, O>) {
         requests_keep_other_tabs::<C, O>();
-        self.store.learn(&mut self.pass, note);
+        self.store.learn(&mut self.pass, note.into_note());
     }
 
     fn leave_all(&mut self) {

@@ -1,3 +1,4 @@
+use Rattle.serve_lines.specs.Whole.{whole_tab}
 use Rattle.serve_lines.proofs.Faults.{as_told, faults_of_put}
 use Rattle.serve_lines.proofs.Leaving.{leaves_writing}
 use Rattle.serve_lines.proofs.Outcomes.{either_way, put_long}
@@ -15,9 +16,9 @@ returns-clause-served g c = record {
 
 pub returns-clause-leaves : goal.returns-clause-leaves
 returns-clause-leaves g c = let p = c.args.pass.now in let q = c.put_entry-outcome.new.pass in
-    leaves_writing g.C.Cell.tells g.C.Cell.state g.O.Origin.offers c.args.store.now 7 p q c.put_entry-outcome.ensures.others c.put_entry-outcome.ensures.inner
-    (either_way c.put_entry-outcome.result (λ ended h. c.serving_grows.ensures.put c.args.store.now 7 c.args.offer c.args.url.now c.args.durable ended p q h)
-    (λ fault h. c.serving_grows.ensures.not_put c.args.store.now 7 c.args.offer c.args.url.now c.args.durable fault p q h) c.put_entry-outcome.ensures.ok c.put_entry-outcome.ensures.err)
+    leaves_writing g.C.Cell.tells g.C.Cell.state g.O.Origin.offers c.args.store.now whole_tab p q c.put_entry-outcome.ensures.others c.put_entry-outcome.ensures.inner
+    (either_way c.put_entry-outcome.result (λ ended h. c.serving_grows.ensures.put c.args.store.now whole_tab c.args.offer c.args.url.now c.args.durable ended p q h)
+    (λ fault h. c.serving_grows.ensures.not_put c.args.store.now whole_tab c.args.offer c.args.url.now c.args.durable fault p q h) c.put_entry-outcome.ensures.ok c.put_entry-outcome.ensures.err)
 
 pub returns-clause-faults : goal.returns-clause-faults
 returns-clause-faults g c = as_told _ _ _ _ c.stored.ensures (faults_of_put c.put_entry-outcome.result _ _ c.put_entry-outcome.ensures.unfailed c.put_entry-outcome.ensures.failed)

@@ -11,7 +11,7 @@ use Rattle.worker_shelf.proofs.Partings.{left_on}
 use Rattle.worker_shelf.proofs.leaving.leave_tabs.Goals as goal
 
 pub loop-tab-init : goal.loop-tab-init
-loop-tab-init g c = record { left = refl; holds = c.requires; free = λ t lt. absurd (omega arith); keeps = nothing_lost (view c.args.pass.now) }
+loop-tab-init g c = record { left = refl; holds = c.requires; free = λ t lt. absurd (omega arith); keeps = nothing_lost (view c.args.pass.now); places = refl; cells = refl }
 
 pub leave-requires-clause-ready : goal.leave-requires-clause-ready
 leave-requires-clause-ready g c = c.loop-tab.invariant.holds.ready
@@ -28,6 +28,8 @@ loop-tab-preserved g c = let i = c.loop-tab.invariant in let p = c.loop-tab.pass
       let at : ((eqb j t ≡ true) × (j ≡ t)) ⊎ ((eqb j t ≡ false) × (j ≢ t)) → IsFree q j = λ w. elim w [ inl is ↦ subst (λ (z : ℕ). IsFree q z) (sym is.1) left.free | inr ne ↦ left.leaves.others j ne.1 (λ e. let z = e in omega arith) ∙ i.free j (let z = ne.1 in omega arith) ] in
       at (eqb_tells j t);
   keeps = both_kept (view c.args.pass.now) (view p) (view q) i.keeps left.leaves.keeps;
+  places = left.leaves.places ∙ i.places;
+  cells = left.leaves.cells ∙ i.cells;
 }
 
 pub returns-clause-left : goal.returns-clause-left

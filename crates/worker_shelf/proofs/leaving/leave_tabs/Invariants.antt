@@ -1,6 +1,6 @@
-use Rattle.std.proofs.Common.{◌<◌, ℕ}
+use Rattle.std.proofs.Common.{◌<◌, ◌≡◌, ℕ}
 use Rattle.line_account.specs.Courses.{Keeps}
-use Rattle.store_rule.specs.Passes.{view}
+use Rattle.store_rule.specs.Passes.{hand, view}
 use Rattle.serve_lines.specs.Tabs.{IsFree}
 use Rattle.worker_shelf.specs.Shelves.{AllHold, LeftBelow}
 use Rattle.worker_shelf.proofs.leaving.leave_tabs.Given as goal
@@ -11,4 +11,6 @@ invariant-loop-tab g l = record {
   holds : AllHold g.C.Cell.tells g.C.Cell.state g.O.Origin.offers l.store l.pass l.tabs;
   free : (t : ℕ) → t < l.tab → IsFree l.pass t;
   keeps : Keeps (view l.fn.pass) (view l.pass);
+  places : hand l.pass ≡ hand l.fn.pass;
+  cells : l.pass.cells ≡ l.fn.pass.cells;
 }

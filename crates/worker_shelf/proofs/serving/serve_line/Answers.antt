@@ -1,24 +1,30 @@
 use Rattle.std.proofs.Common.{List, ap, get_or, refl, subst, sym, ◌∙◌, ℕ}
 use Rattle.core_model.specs.declared.tab.Tab.TheVariants.{Free}
 use Rattle.serve_lines.specs.Serving.{ServesRequest}
-use Rattle.serve_lines.specs.Whole.{Purges}
+use Rattle.serve_lines.specs.Whole.{Purges, whole_tab}
 use Rattle.worker_shelf.proofs.Holding.{all_hold_whole}
 use Rattle.worker_shelf.proofs.serving.serve_line.Goals as goal
 
 pub returns-in-Put-clause-holds : goal.returns-in-Put-clause-holds
-returns-in-Put-clause-holds g c = all_hold_whole g.C.Cell.tells g.C.Cell.state g.O.Origin.offers c.args.store.now record { writes = c.requests_keep_other_tabs.ensures.writes c.args.store.now; reads = c.requests_keep_other_tabs.ensures.reads c.args.store.now } 7 c.args.pass.now c.put_whole.new.pass c.put_whole.ensures.leaves c.args.tabs.now refl c.requires.holds c.put_whole.ensures.served.free
+returns-in-Put-clause-holds g c = all_hold_whole g.C.Cell.tells g.C.Cell.state g.O.Origin.offers c.args.store.now record { writes = c.requests_keep_other_tabs.ensures.writes c.args.store.now; reads = c.requests_keep_other_tabs.ensures.reads c.args.store.now } whole_tab c.args.pass.now c.put_whole.new.pass c.put_whole.ensures.leaves c.args.tabs.now refl c.requires.holds c.put_whole.ensures.served.free
 
 pub returns-in-Get-clause-holds : goal.returns-in-Get-clause-holds
-returns-in-Get-clause-holds g c = all_hold_whole g.C.Cell.tells g.C.Cell.state g.O.Origin.offers c.args.store.now record { writes = c.requests_keep_other_tabs.ensures.writes c.args.store.now; reads = c.requests_keep_other_tabs.ensures.reads c.args.store.now } 7 c.args.pass.now c.get_whole.new.pass c.get_whole.ensures.leaves c.args.tabs.now refl c.requires.holds c.get_whole.ensures.free
+returns-in-Get-clause-holds g c = all_hold_whole g.C.Cell.tells g.C.Cell.state g.O.Origin.offers c.args.store.now record { writes = c.requests_keep_other_tabs.ensures.writes c.args.store.now; reads = c.requests_keep_other_tabs.ensures.reads c.args.store.now } whole_tab c.args.pass.now c.get_whole.new.pass c.get_whole.ensures.leaves c.args.tabs.now refl c.requires.holds c.get_whole.ensures.free
 
 pub returns-in-Purge-clause-holds : goal.returns-in-Purge-clause-holds
-returns-in-Purge-clause-holds g c = all_hold_whole g.C.Cell.tells g.C.Cell.state g.O.Origin.offers c.args.store.now record { writes = c.requests_keep_other_tabs.ensures.writes c.args.store.now; reads = c.requests_keep_other_tabs.ensures.reads c.args.store.now } 7 c.args.pass.now c.purge_url.new.pass (c.purge_url.ensures.leaves 7) c.args.tabs.now refl c.requires.holds (ap (λ xs. get_or xs 7 Free) c.purge_url.ensures.served.same ∙ c.requires.holds.whole)
+returns-in-Purge-clause-holds g c = all_hold_whole g.C.Cell.tells g.C.Cell.state g.O.Origin.offers c.args.store.now record { writes = c.requests_keep_other_tabs.ensures.writes c.args.store.now; reads = c.requests_keep_other_tabs.ensures.reads c.args.store.now } whole_tab c.args.pass.now c.purge_url.new.pass (c.purge_url.ensures.leaves whole_tab) c.args.tabs.now refl c.requires.holds (ap (λ xs. get_or xs whole_tab Free) c.purge_url.ensures.served.same ∙ c.requires.holds.whole)
 
 pub returns-in-Purge-clause-keeps : goal.returns-in-Purge-clause-keeps
-returns-in-Purge-clause-keeps g c = (c.purge_url.ensures.leaves 7).keeps
+returns-in-Purge-clause-keeps g c = (c.purge_url.ensures.leaves whole_tab).keeps
+
+pub returns-in-Purge-clause-places : goal.returns-in-Purge-clause-places
+returns-in-Purge-clause-places g c = (c.purge_url.ensures.leaves whole_tab).places
+
+pub returns-in-Purge-clause-cells : goal.returns-in-Purge-clause-cells
+returns-in-Purge-clause-cells g c = (c.purge_url.ensures.leaves whole_tab).cells
 
 pub returns-in-Save-clause-holds : goal.returns-in-Save-clause-holds
-returns-in-Save-clause-holds g c = all_hold_whole g.C.Cell.tells g.C.Cell.state g.O.Origin.offers c.args.store.now record { writes = c.requests_keep_other_tabs.ensures.writes c.args.store.now; reads = c.requests_keep_other_tabs.ensures.reads c.args.store.now } 7 c.args.pass.now c.put_whole-in-Save.new.pass c.put_whole-in-Save.ensures.leaves c.args.tabs.now refl c.requires.holds c.put_whole-in-Save.ensures.served.free
+returns-in-Save-clause-holds g c = all_hold_whole g.C.Cell.tells g.C.Cell.state g.O.Origin.offers c.args.store.now record { writes = c.requests_keep_other_tabs.ensures.writes c.args.store.now; reads = c.requests_keep_other_tabs.ensures.reads c.args.store.now } whole_tab c.args.pass.now c.put_whole-in-Save.new.pass c.put_whole-in-Save.ensures.leaves c.args.tabs.now refl c.requires.holds c.put_whole-in-Save.ensures.served.free
 
 pub returns-in-Purge-clause-served : goal.returns-in-Purge-clause-served
 returns-in-Purge-clause-served g c = record {
