@@ -1,5 +1,5 @@
--- The course of a worker on a shelf, and what is asked of its answers.
-use Rattle.std.specs.Prelude.{Bool, IsTrue, List, [], map, ◌++◌, ◌∷◌, ◌≡◌, ◌⊎◌, ℕ}
+-- The course of a worker on a shelf.
+use Rattle.std.specs.Prelude.{Bool, List, [], map, ◌++◌, ◌∷◌, ◌≡◌, ◌⊎◌, ℕ}
 use Rattle.rock_disk.specs.Cell.{CellState}
 use Rattle.script_text.specs.declared.answer.Answer.{Answer}
 use Rattle.script_text.specs.declared.line.Line.{Line}
@@ -12,11 +12,8 @@ use Rattle.store_rule.specs.declared.store.Note.{Note}
 use Rattle.store_rule.specs.declared.store.Store.{Store}
 use Rattle.store_rule.specs.Ground.{Offers}
 use Rattle.store_rule.specs.Passes.{basis, view}
-use Rattle.worker_pool.specs.Courses.{IsServed, Stage}
-use Rattle.serve_lines.specs.Serving.{Takes}
+use Rattle.worker_pool.specs.Courses.{Stage}
 use Rattle.worker_shelf.specs.Shelves.{Learned, Noted, OnShelf, Went}
-use Rattle.line_records.specs.Bytes.{OtherIsSo}
-use Rattle.line_records.specs.Lines.{IsPrintable, LargeIsSo}
 use Rattle.line_records.specs.Runs.{Past, run_of}
 use Rattle.line_records.specs.Tracks.{Tracks}
 
@@ -59,13 +56,6 @@ module _ {C O St : Type 0} (tells : Bool) (state : C → CellState) (offers : O 
   IsStep x = StepOn x.line.request x.before x.line x.answer x.after
 
 module _ {C O St : Type 0} (tells : Bool) (state : C → CellState) (offers : O → Offers) (s : Store C O) (told : Bool) (past : Past) where
-  -- What the laws on lines ask of a line that was served: the pass takes it, and its answer is as those laws ask.
-  pub record IsFair (x : Stage (OnShelf C O St)) : Type 0 where
-    pub takes : IsServed x.line.request → Takes tells state offers s x.before.pass x.line
-    pub printable : IsPrintable x.answer
-    pub large : LargeIsSo tells state offers s x.before.pass x.line.request x.answer
-    pub other : IsTrue told → OtherIsSo tells state offers s (run_of (basis tells state offers s) told past) x.before.pass x.line.request x.answer
-
   -- The account of a worker that served these lines has a course of the same lines and answers, from what its pass knew at the start to what
   -- it knows at the end. The pass is of the same store still, and tracks the lines.
   pub record HasCourse (start end : OnShelf C O St) (stages : List (Stage (OnShelf C O St))) : Type 0 where
