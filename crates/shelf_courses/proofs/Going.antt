@@ -1,9 +1,7 @@
 -- Lines that follow one another, and the course that they make.
-use Rattle.std.proofs.Common.{Bool, Contains, IsTrue, List, [], map, refl, subst, sym, ◌++◌, ◌∷◌, ◌≡◌, ◌∙◌, ap, arith, length, ℕ}
+use Rattle.std.proofs.Common.{Bool, Contains, IsTrue, List, [], map, refl, subst, sym, ◌++◌, ◌∷◌, ◌≡◌, ◌∙◌, ap, arith, ℕ}
 use Rattle.std.proofs.lemmas.List.Elements.{Contains-append_right}
 use Rattle.rock_disk.specs.Cell.{CellState}
-use Rattle.script_text.specs.declared.answer.Answer.{Answer}
-use Rattle.script_text.specs.declared.line.Line.{Line}
 use Rattle.line_account.specs.Courses.{Course, Stage as Told, lines_in}
 use Rattle.store_rule.specs.declared.store.Store.{Store}
 use Rattle.store_rule.specs.Ground.{Offers}
@@ -30,6 +28,13 @@ nothing_behind : {A : Type 0} (xs : List A) → xs ++ [] ≡ xs
 nothing_behind [] = refl
 nothing_behind (x ∷ xs) = ap (λ ys. x ∷ ys) (nothing_behind xs)
 
+-- one line more
+told_next : {X : Type 0} (course : List (Told X)) (x : Told X) → in_order (x ∷ course) ≡ in_order course ++ (x.served.line, x.served.answer) ∷ []
+told_next course x = refl
+
+shown_next : {X : Type 0} (course : List (Told X)) (x : Told X) → with_views (x ∷ course) ≡ with_views course ++ (x.before, x.served.line, x.served.answer, x.after) ∷ []
+shown_next course x = refl
+
 module _ {C O St : Type 0} (tells : Bool) (state : C → CellState) (offers : O → Offers) (faults : St → ℕ) (s : Store C O) (told : Bool) (past : Past)
     (laws : Laws tells state offers faults s told past) (is_told : IsTrue told → IsTold (basis tells state offers s) told past tells) (start : OnShelf C O St) where
   -- a worker that has come so far goes on
@@ -47,15 +52,15 @@ module _ {C O St : Type 0} (tells : Bool) (state : C → CellState) (offers : O 
   one_more : (now : OnShelf C O St) (r : Reached now) (x : Stage (OnShelf C O St)) → x.before ≡ now → IsStep tells state offers faults x → MayServe tells state offers s x → Reaches now x.after r (x ∷ [])
   one_more now r x is step takes = let store = ap OnShelf.store is ∙ r.store in let tracks = subst (λ (z : OnShelf C O St). Tracks tells state offers s told past (lines_in r.course) z.pass) (sym is) r.tracks in
       let h = goes tells state offers faults s told past laws is_told (lines_in r.course) x store tracks takes x.line.request refl step in
-      let l = served_as x.line x.answer h.adds.drew h.adds.opened h.adds.looked in record {
+      let line : Told (List ℕ) = record { before = view x.before.pass; served = served_as x.line x.answer h.adds.drew h.adds.opened h.adds.looked; after = view x.after.pass } in record {
         reached = record {
-          course = record { before = view x.before.pass; served = l; after = view x.after.pass } ∷ r.course;
+          course = line ∷ r.course;
           is = (refl, h.adds.adds, subst (λ (z : OnShelf C O St). Course (run_of (basis tells state offers s) told past) (view start.pass) r.course (view z.pass)) (sym is) r.is);
           store = h.store;
           tracks = h.adds.tracks;
         };
-        more = refl;
-        more_views = refl;
+        more = told_next r.course line;
+        more_views = shown_next r.course line;
       }
 
   pub all_on : (now : OnShelf C O St) (r : Reached now) (stages : List (Stage (OnShelf C O St))) (end : OnShelf C O St) → Linked now stages end → ((x : Stage (OnShelf C O St)) → Contains stages x → IsStep tells state offers faults x)

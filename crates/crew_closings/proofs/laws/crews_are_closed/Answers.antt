@@ -1,4 +1,3 @@
-use Rattle.std.proofs.Common.{IsTrue}
 use Rattle.store_key.specs.Key.{key_of}
 use Rattle.store_rule.specs.Passes.{basis}
 use Rattle.line_records.specs.Runs.{run_of}

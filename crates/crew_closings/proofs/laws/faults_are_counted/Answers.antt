@@ -1,4 +1,4 @@
-use Rattle.std.proofs.Common.{ap, subst, sym, ◌+◌, ◌-◌, ◌^◌, ◌∙◌, ◌≤◌, ℕ}
+use Rattle.std.proofs.Common.{ap, subst, sym, ◌+◌, ◌-◌, ◌^◌, ◌∙◌, ◌≤◌}
 use Rattle.std.specs.Prelude.{min}
 use Rattle.crew_closings.specs.Playing.{fault_answers}
 use Rattle.crew_closings.proofs.Faults.{risen, stays}
