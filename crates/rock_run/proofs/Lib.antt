@@ -1,0 +1,4 @@
+pub mod Accounts
+pub mod Back
+pub mod Opened
+pub mod Devices
