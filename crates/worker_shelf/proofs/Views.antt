@@ -1,8 +1,9 @@
 -- A shelf's pass after a note was made or learned, and what a shelf is to its callers.
 use Rattle.std.proofs.Common.{Bool, Contains, List, [], ap, arith, inl, inr, refl, subst, sym, ◌<◌, ◌∷◌, ◌≡◌, ◌∙◌, ◌⊎◌, false, true, ℕ}
 use Rattle.std.specs.Global.{Vec}
-use Rattle.std.specs.Prelude.{length, vec_capacity, vec_len, ◌+◌, ◌≤◌, ◌≢◌}
+use Rattle.std.specs.Prelude.{drop, length, take, vec_capacity, vec_len, ◌++◌, ◌+◌, ◌≤◌, ◌≢◌}
 use Rattle.std.proofs.Math.Dec.{eqb}
+use Rattle.std.proofs.Math.Seq.{take-append_seam}
 use Rattle.std.proofs.lemmas.Bool.Decides.{eqb_tells}
 use Rattle.std.proofs.lemmas.List.Elements.{Contains-append_left, Contains-append_right}
 use Rattle.rock_disk.specs.Cell.{CellState}
@@ -38,6 +39,10 @@ knows_more v sights item = record {
   trail = λ x h. Contains-append_right (item ∷ []) v.trail x h;
   met = λ a h. h;
 }
+
+-- where a list was handed out whole and one of this length came back, that one is there
+pub put_back : {A : Type 0} (n : ℕ) (before after : List A) → n ≡ length after → take n (after ++ drop (length after) before) ≡ after
+put_back n before after is = ap (λ (m : ℕ). take m (after ++ drop (length after) before)) is ∙ take-append_seam after (drop (length after) before)
 
 -- all that a shelf knew, its pass knows still, and what a note tells it knows too
 pub knew : {C O St : Type 0} (o : OnShelf C O St) (s : Store C O) (p q : Pass C) (st : St) (sights : List Sight) (item : Item) → on_shelf s p st ≡ o → view q ≡ sees (view p) sights item → (x : Sight) → Contains (view o.pass).seen x → Contains (view q).seen x
@@ -86,7 +91,7 @@ module _ {C O : Type 0} (tells : Bool) (state : C → CellState) (offers : O →
       room = h.room;
     }
 
-    -- a shelf is one still, where its pass has at hand what the end of the store asks for
+    -- a shelf is one still, where its pass keeps what the end of the store asks for
     pub shelf_on : (p q : Pass C) (tabs_before tabs : List ScriptTab) (piece_before piece : List ℕ) → HasShelf tells state offers s p tabs_before piece_before → AllHold tells state offers s q tabs
         → Knows (view p) (view q) → hand q ≡ hand p → q.cells ≡ p.cells → length piece ≡ length piece_before → HasShelf tells state offers s q tabs piece
     shelf_on p q tabs_before tabs piece_before piece h holds keeps places cells long = record {
@@ -95,6 +100,12 @@ module _ {C O : Type 0} (tells : Bool) (state : C → CellState) (offers : O →
       cells = cells_kept p q keeps.pass cells h.cells;
       room = let r = h.room in let l = long in omega arith;
     }
+
+    -- what is kept of its tabs and its room, back in their places
+    pub handed_back : (q : Pass C) (tabs_before tabs : List ScriptTab) (piece_before piece : List ℕ) (n m : ℕ) → HasShelf tells state offers s q tabs piece → n ≡ length tabs → m ≡ length piece
+        → HasShelf tells state offers s q (take n (tabs ++ drop (length tabs) tabs_before)) (take m (piece ++ drop (length piece) piece_before))
+    handed_back q tabs_before tabs piece_before piece n m h is long = subst (λ (z : List ScriptTab). HasShelf tells state offers s q z (take m (piece ++ drop (length piece) piece_before))) (sym (put_back n tabs_before tabs is))
+        (subst (λ (z : List ℕ). HasShelf tells state offers s q tabs z) (sym (put_back m piece_before piece long)) h)
 
     -- all tabs are free once those of the script are
     pub all_free : (q : Pass C) (tabs : List ScriptTab) → AllHold tells state offers s q tabs → ((t : ℕ) → t < whole_tab → IsFree q t) → AllFree q
