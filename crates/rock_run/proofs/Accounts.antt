@@ -27,13 +27,13 @@ module _ {C O St N : Type 0} (tells : Bool) (state : C → CellState) (offers : 
     (learned : (b : OnShelf C O St) (n : N) (c : OnShelf C O St) → g.learned b n c → Learned tells state offers b (note_of n) c)
     (left : (b c : OnShelf C O St) → g.left b c → Left tells state offers b c)
     (fact : Sight → g.Fact) (knows : (b : OnShelf C O St) (x : Sight) → Contains (view b.pass).seen x → g.knows b (fact x)) (known : (b : OnShelf C O St) (x : Sight) → g.knows b (fact x) → Contains (view b.pass).seen x) where
-  notes : (b c : OnShelf C O St) → Noting g b c → Notes tells state offers b c
+  notes : (b c : OnShelf C O St) → Noting g b c → Notes tells state offers faults b c
   notes b c h = record { note = note_of h.note; noted = noted b h.note c h.step }
 
-  meets : (b c : OnShelf C O St) → Meeting g b c → Meets tells state offers b c
+  meets : (b c : OnShelf C O St) → Meeting g b c → Meets tells state offers faults b c
   meets b c h = record { note = note_of h.note; learned = h.learned; learns = learned b h.note h.learned h.learns; again = note_of h.again; notes = noted h.learned h.again c h.notes }
 
-  awaited : (is_set : Bool) (b : OnShelf C O St) (a : Answer) (c : OnShelf C O St) → Awaited g is_set b a c → ((a ≡ Met) × Meets tells state offers b c) ⊎ ((a ≡ Unmet) × (c ≡ b))
+  awaited : (is_set : Bool) (b : OnShelf C O St) (a : Answer) (c : OnShelf C O St) → Awaited g is_set b a c → ((a ≡ Met) × Meets tells state offers faults b c) ⊎ ((a ≡ Unmet) × (c ≡ b))
   awaited true b a c h = inl (h.0, meets b c h.1)
   awaited false b a c h = inr h
 

@@ -27,8 +27,8 @@ module _ {A : Type 0} where
   -- a list that is as long has something at the same place
   pub beside : (xs : List A) (k : ℕ) → k < length xs → (x : A) × At xs k x
   beside [] k lt = absurd (omega (arith, lt))
-  beside (x ∷ xs) zero lt = (x, lt, refl)
-  beside (x ∷ xs) (suc k) lt = let h = beside xs k (omega (arith, lt)) in (h.0, lt, h.1.1)
+  beside (x ∷ xs) zero lt = (x, (lt, refl))
+  beside (x ∷ xs) (suc k) lt = let h = beside xs k (omega (arith, lt)) in (h.0, (lt, h.1.1))
 
 module _ {A B : Type 0} (f : A → B) where
   -- what stands in a list of images is the image of what stands in the list

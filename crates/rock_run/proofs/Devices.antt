@@ -3,10 +3,11 @@ use Rattle.std.proofs.Common.{List, [], ap, append_assoc, arith, inl, inr, lengt
 use Rattle.std.proofs.lemmas.List.{append_cancel_left}
 use Rattle.rock_io.specs.Faults.{Rose}
 use Rattle.db_layout.specs.Layout.{IsSlotSize}
+use Rattle.rock_disk.specs.File.{Files}
 use Rattle.rock_open.specs.declared.fault.OpenStoreFault.{OpenStoreFault}
 use Rattle.rock_open.specs.declared.fault.OpenStoreFault.TheVariants.{BadGeometry, Failed, Memory, Missing, Small}
 use Rattle.rock_open.specs.Device.{Counts, HasFailed as OpenFailed, EachEnded as OpenEnded, NoneFailed as OpenUnfailed, NoStation, OneStation}
-use Rattle.rock_open.specs.Opening.{IsPasses, OpeningEnds, ReadingEnds}
+use Rattle.rock_open.specs.Opening.{FileSays, IsPasses, OpeningEnds, ReadingEnds}
 use Rattle.rock_run.specs.Device.{EachEnded, HasEnded, HasFailed, NoneFailed, RunEnds, ServingEnds, StartingEnds}
 
 -- lists with the same front go on with the same
@@ -76,3 +77,11 @@ module _ (before opened after : Counts) (counts : List ℕ) (one : OneStation 0 
   ends_serving slot anchors workers (Small bytes) size passes first h = absurd h
   ends_serving slot anchors workers Failed size passes first h = (size, passes, inl (subst (λ (n : ℕ). Rose n after.faults) first h))
   ends_serving slot anchors workers Memory size passes first h = (size, passes, tt)
+
+-- What a refusal of serving says of the file is nothing.
+pub says_serving : (before after : ℕ) (files : Files) (name : List ℕ) (slot anchors : ℕ) (fault : OpenStoreFault) → ServingEnds before after fault → FileSays files name slot anchors fault
+says_serving before after files name slot anchors (BadGeometry field) h = absurd h
+says_serving before after files name slot anchors Missing h = absurd h
+says_serving before after files name slot anchors (Small bytes) h = absurd h
+says_serving before after files name slot anchors Failed h = tt
+says_serving before after files name slot anchors Memory h = tt

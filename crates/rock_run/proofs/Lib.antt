@@ -2,3 +2,5 @@ pub mod Accounts
 pub mod Back
 pub mod Opened
 pub mod Devices
+pub mod Outcomes
+pub mod Fronts

@@ -42,8 +42,8 @@ module _ {C : Type 0} where
 
   -- and where the pass of number 0 keeps it, the first one does
   pub keeps_first : (slots : ℕ) (ps : List (Pass C)) → 0 < length ps → AreNumbered ps → ((k : ℕ) (p : Pass C) → get_elem? ps k ≡ some p → (view p).pass ≡ 0 → KeepsRoom slots (p ∷ [])) → KeepsRoom slots ps
-  keeps_first slots [] some numbered keeps = absurd (omega (arith, some))
-  keeps_first slots (q ∷ ps) some numbered keeps = keeps 0 q refl (numbered 0 q refl)
+  keeps_first slots [] lt numbered keeps = absurd (omega (arith, lt))
+  keeps_first slots (q ∷ ps) lt numbered keeps = keeps 0 q refl (numbered 0 q refl)
 
 module _ {C O : Type 0} (tells : Bool) (state : C → CellState) (offers : O → Offers) (s : Store C O) (ps : List (Pass C)) where
   -- passes that rest may be put on shelves
@@ -61,4 +61,4 @@ module _ {C O : Type 0} (tells : Bool) (state : C → CellState) (offers : O →
   rest_all all k d lt = (all k d lt).rest
 
   pub room_all : 0 < length ps → AreNumbered ps → All (MayRest tells state offers s) ps → KeepsRoom (basis tells state offers s).setting.slots ps
-  room_all some numbered all = keeps_first (basis tells state offers s).setting.slots ps some numbered (λ k p at none. (All-contains (MayRest tells state offers s) ps p all (k, at_length ps k p at, at_or ps k p p at)).cells none)
+  room_all lt numbered all = keeps_first (basis tells state offers s).setting.slots ps lt numbered (λ k p at none. (All-contains (MayRest tells state offers s) ps p all (k, at_length ps k p at, at_or ps k p p at)).cells none)

@@ -1,5 +1,5 @@
 -- The passes and the stations of a run, as shelves and by themselves.
-use Rattle.std.specs.Prelude.{Bool, List, map, ◌×◌, ◌≡◌}
+use Rattle.std.specs.Prelude.{Bool, List, map, ◌≡◌}
 use Rattle.std.specs.List.{Contains}
 use Rattle.rock_disk.specs.Cell.{CellState}
 use Rattle.store_rule.specs.declared.store.Pass.{Pass}

@@ -1,5 +1,5 @@
 // The shelves of workers are made of passes and stations, and taken apart again.
-ghost use Rattle.std.specs.Prelude.{All, Contains, IfOk, [], map, vec_capacity, vec_len, ◌×◌, ◌≡◌, ◌≤◌};
+ghost use Rattle.std.specs.Prelude.{All, Contains, IfOk, [], map, vec_capacity, vec_len, ◌≡◌, ◌≤◌};
 ghost use Rattle.store_rule.specs.Closing.{IsResting};
 ghost use Rattle.store_rule.specs.Passes.{basis};
 ghost use Rattle.worker_shelf.specs.Shelves.{AllFree, IsRoomFor, OnShelf};
@@ -62,9 +62,9 @@ pub(crate) fn dismiss<C: Cell, O: Origin, St: Station<C = C>>(
     requires free { (shelf : OnShelf C O St) → Contains shelves.items shelf → AllFree shelf.pass }
     requires empty { (passes.old.items ≡ []) × (stations.old.items ≡ []) }
     requires room { (vec_len shelves ≤ vec_capacity passes.old) × (vec_len shelves ≤ vec_capacity stations.old) }
-    ensures passes { passes.new.items ≡ map (λ (shelf : OnShelf C O St). shelf.pass) shelves.items }
-    ensures stations { stations.new.items ≡ map (λ (shelf : OnShelf C O St). shelf.station) shelves.items }
-    ensures rest { All (λ (shelf : OnShelf C O St). MayRest C.tells C.state O.offers shelf.store shelf.pass) shelves.items }
+    ensures passes { passes.new.items ≡ map (λ (shelf : OnShelf C O St). shelf.pass) shelves.entry.items }
+    ensures stations { stations.new.items ≡ map (λ (shelf : OnShelf C O St). shelf.station) shelves.entry.items }
+    ensures rest { All (λ (shelf : OnShelf C O St). MayRest C.tells C.state O.offers shelf.store shelf.pass) shelves.entry.items }
 {
     for _ in 0..shelves.len() {
         let (pass, station) = shelves.remove(0).into_parts();

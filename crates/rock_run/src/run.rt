@@ -15,25 +15,27 @@ ghost use Rattle.rock_run.specs.Runs.{HasClosed, HasRun, HasServed};
 
 use crate::serving::serve;
 use crate::stations::{end_stations, make_stations};
-use rock_disk::{StationFault, Volume};
+use rock_disk::{
+    StationFault, Volume, opened_cells_are_the_files, opened_slots_are_wide_and_few,
+};
 use rock_open::{OpenStore, OpenStoreFault, close_store, closed_cells_may_be_given_back, open_store};
 use script_origin::ScriptOrigin;
 use script_text::{Answer, Script};
 use std::alloc::Global;
 use std::sync::Wait;
 use std::thread::Threads;
-use store_rule::{Origin, Pass, Store, new_passes_rest};
+use store_rule::{Pass, Store, new_passes_rest};
 
 /// The numbers of the lines of each worker, with their answers.
 type Answers = Vec<Vec<(u32, Answer)>>;
 
 // Makes the stations of the workers, and serves the script.
-fn serve_by_stations<R: Threads + Wait + Sync, V: Volume, O: Origin + Send + Sync>(
+fn serve_by_stations<R: Threads + Wait + Sync, V: Volume>(
     rt: &R,
     alloc: Global,
     volume: &mut V,
     name: &str,
-    store: &Store<V::C, O>,
+    store: &Store<V::C, ScriptOrigin>,
     passes: &mut Vec<Pass<V::C>>,
     stations: &mut Vec<V::St>,
     script: &Script,
@@ -41,17 +43,17 @@ fn serve_by_stations<R: Threads + Wait + Sync, V: Volume, O: Origin + Send + Syn
 where
     V::St: Send,
     requires there { IsTrue V.tells → IsThere (V.files volume.old) name.now }
-    requires new { All (IsNewOf V.C.tells V.C.state O.offers store.now) passes.old.items }
-    requires rest { All (MayRest V.C.tells V.C.state O.offers store.now) passes.old.items }
+    requires new { All (IsNewOf V.C.tells V.C.state offers_of store.now) passes.old.items }
+    requires rest { All (MayRest V.C.tells V.C.state offers_of store.now) passes.old.items }
     requires numbered { AreNumbered passes.old.items }
     requires count { (1 ≤ vec_len passes.old) × (vec_len passes.old ≤ 32) }
     requires empty { stations.old.items ≡ [] }
-    requires offers { (basis V.C.tells V.C.state O.offers store.now).offers ≡ offers_of script.now.lines }
+    requires offers { (basis V.C.tells V.C.state offers_of store.now).offers ≡ offers_of script.now.lines }
     requires read { (text : List ℕ) × IsScript (vec_len passes.old) text script.now.lines }
-    ensures played { IfOk result (λ answers. HasServed V.C.tells V.C.state O.offers V.St.faults store.now script.now.lines
+    ensures played { IfOk result (λ answers. HasServed V.C.tells V.C.state offers_of V.St.faults store.now script.now.lines
         passes.old.items passes.new.items stations.new.items (map (λ each. each.items) answers.items)) }
     ensures refused { IfErr result (ServingEnds (V.faults volume.old) (V.faults volume.new)) }
-    ensures rest { All (MayRest V.C.tells V.C.state O.offers store.now) passes.new.items }
+    ensures rest { All (MayRest V.C.tells V.C.state offers_of store.now) passes.new.items }
     ensures numbered { AreNumbered passes.new.items }
     ensures count { vec_len passes.new ≡ vec_len passes.old }
     ensures made { V.made volume.new ≡ V.made volume.old + vec_len stations.new }
@@ -141,20 +143,18 @@ where
         (counts (V.faults volume.new) (V.made volume.new) (V.ended volume.new)) }
 {
     new_passes_rest::<V::C, ScriptOrigin>();
+    opened_cells_are_the_files();
+    opened_slots_are_wide_and_few();
     closed_cells_may_be_given_back::<V::C>();
+    let origin = ScriptOrigin::new(script);
     let OpenStore {
         store,
         mut passes,
         header,
-    } = open_store(
-        alloc,
-        volume,
-        name,
-        slot,
-        anchors,
-        workers,
-        ScriptOrigin::new(script),
-    )?;
+    } = match open_store(alloc, volume, name, slot, anchors, workers, origin) {
+        Ok(open) => open,
+        Err(fault) => return Err(fault),
+    };
     let mut stations = Vec::new(alloc);
     let served = serve_by_stations(
         rt,

@@ -3,4 +3,4 @@ use Rattle.worker_shelf.specs.Shelves.{IsRoomFor}
 use Rattle.rock_run.proofs.crew.make_rooms.Given as goal
 
 abbrev pub invariant-loop : goal.invariant-loop
-invariant-loop g l = (l.rooms.len ≡ l.counter) × All (IsRoomFor l.slot) l.rooms.items × (l.count ≤ vec_capacity l.rooms)
+invariant-loop l = (l.rooms.len ≡ l.counter) × All (IsRoomFor l.slot) l.rooms.items × (l.count ≤ vec_capacity l.rooms)
