@@ -25,7 +25,8 @@ use Rattle.serve_lines.specs.Answers.{answer_to_begin, answer_to_refusal}
 use Rattle.serve_lines.specs.Tabs.{IsFree, IsOffered, IsTurnedAway, Leaves}
 use Rattle.serve_lines.specs.Whole.{whole_tab}
 use Rattle.serve_lines.specs.Writing.{Begins, BeginsOn}
-use Rattle.line_records.specs.Lines.{AddsLine, IsPrintable, served_as}
+use Rattle.worker_shelf.specs.Typed.{IsTyped}
+use Rattle.line_records.specs.Lines.{AddsLine, served_as}
 use Rattle.line_records.specs.Runs.{Past, run_of}
 use Rattle.line_records.specs.Tracks.{IsIdle, Tracks}
 use Rattle.line_records.proofs.Beginning.{begun_fresh}
@@ -88,7 +89,7 @@ module _ {C O : Type 0} (tells : Bool) (state : C → CellState) (offers : O →
               }))) tracks;
         }
 
-    was_refused : (fault : BeginFault) → IsPrintable (answer_to_refusal fault) → ((answer_to_refusal fault ≡ answer.LongUrl) ↔ IsTooLong g url) → IsFree q t → NotTaken g t (anchor_for g url) (view p) fault (view q)
+    was_refused : (fault : BeginFault) → IsTyped (answer_to_refusal fault) → ((answer_to_refusal fault ≡ answer.LongUrl) ↔ IsTooLong g url) → IsFree q t → NotTaken g t (anchor_for g url) (view p) fault (view q)
         → AddsLine tells state offers s told past served line p (answer_to_refusal fault) q
     was_refused fault fit long free b =
         let some = not_begun tells state offers s told past served line url body t p q tracks (begins t url body) body_is (h.writes, h.reads) fault fit long b in
@@ -103,14 +104,14 @@ module _ {C O : Type 0} (tells : Bool) (state : C → CellState) (offers : O →
               (inl (record { writes = writing_on t l served alone ∙ h.writes; reads = reading_on t l served alone ∙ h.reads; free = free })) tracks;
         }
 
-    by_outcome : (a : Answer) (o : Result ℕ BeginFault) → IsPrintable a → a ≡ answer_to_begin o → ((a ≡ answer.LongUrl) ↔ IsTooLong g url) → IfOk o (λ version. Began tells state offers s t offer url false p q version)
+    by_outcome : (a : Answer) (o : Result ℕ BeginFault) → IsTyped a → a ≡ answer_to_begin o → ((a ≡ answer.LongUrl) ↔ IsTooLong g url) → IfOk o (λ version. Began tells state offers s t offer url false p q version)
         → IfErr o (λ fault. NotTaken g t (anchor_for g url) (view p) fault (view q)) → OnErr o (IsFree q t) → AddsLine tells state offers s told past served line p a q
     by_outcome a (Ok version) fit is long ok err free = subst (λ (z : Answer). AddsLine tells state offers s told past served line p z q) (sym is)
         (was_begun version (subst (λ (z : Answer). (z ≡ answer.LongUrl) ↔ IsTooLong g url) is long) ok)
     by_outcome a (Err fault) fit is long ok err free = subst (λ (z : Answer). AddsLine tells state offers s told past served line p z q) (sym is)
-        (was_refused fault (subst IsPrintable is fit) (subst (λ (z : Answer). (z ≡ answer.LongUrl) ↔ IsTooLong g url) is long) free err)
+        (was_refused fault (subst IsTyped is fit) (subst (λ (z : Answer). (z ≡ answer.LongUrl) ↔ IsTooLong g url) is long) free err)
 
-  pub begin_adds : (a : Answer) → Tracks tells state offers s told past served p → Leaves tells state offers s t p q → IsOffered tells state offers s offer url body → IsPrintable a → BeginsOn tells state offers s t p a q offer url
+  pub begin_adds : (a : Answer) → Tracks tells state offers s told past served p → Leaves tells state offers s t p q → IsOffered tells state offers s offer url body → IsTyped a → BeginsOn tells state offers s t p a q offer url
       → AddsLine tells state offers s told past served line p a q
   begin_adds a tracks leaves body_is fit met = ⊎_elim
       (λ (m : IsIdle tells state offers s told past served p t × Begins tells state offers s t p a q offer url).

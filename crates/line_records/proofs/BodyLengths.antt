@@ -13,7 +13,7 @@ use Rattle.rock_reader.specs.Responses.{IsOffered, body_below, payload_of, piece
 use Rattle.rock_reader.proofs.Metadata.{spelled_length}
 
 -- so many more rooms
-more_rooms : (n room : ℕ) → suc n * room ≡ n * room + room
+pub more_rooms : (n room : ℕ) → suc n * room ≡ n * room + room
 more_rooms n room = suc-mul n room
 
 piece_length : (room n : ℕ) (xs : List ℕ) → length (take room (drop n xs)) ≡ min room (length xs - n)

@@ -26,7 +26,7 @@ use Rattle.call_records.proofs.Anchors.{leaves}
 use Rattle.call_records.proofs.Grown.{on}
 use Rattle.call_records.proofs.Readers as readers
 use Rattle.call_records.proofs.Slots.{freed}
-use Rattle.line_records.specs.Lines.{TellsKey}
+use Rattle.worker_shelf.specs.Typed.{TellsKey}
 use Rattle.line_records.specs.Runs.{Past, run_of}
 use Rattle.line_records.proofs.Refusing.{away_cause, other_cause}
 use Rattle.line_records.proofs.Telling.{ForCause}

@@ -29,7 +29,7 @@ use Rattle.serve_lines.specs.Answers.{answer_to_end, answer_to_ended, answer_to_
 use Rattle.serve_lines.specs.Tabs.{IsFree, IsTurnedAway, Leaves}
 use Rattle.serve_lines.specs.Whole.{whole_tab}
 use Rattle.serve_lines.specs.Writing.{EndsEntry, EndsOn}
-use Rattle.line_records.specs.Lines.{AddsLine, LargeOnTab, served_as}
+use Rattle.line_records.specs.Lines.{AddsLine, served_as}
 use Rattle.line_records.specs.Runs.{Past, run_of}
 use Rattle.line_records.specs.Tracks.{IsWriter, Tracks}
 use Rattle.line_records.proofs.CallDeeds.{adds_by, of_ending, of_giving_up}
@@ -40,6 +40,7 @@ use Rattle.line_records.proofs.Halting.{not_ended_seen}
 use Rattle.line_records.proofs.Shown.{shows_none, shows_one}
 use Rattle.line_records.proofs.TabLines.{elsewhere, no_more_writes}
 use Rattle.line_records.proofs.Telling.{plain, tells_by}
+use Rattle.line_records.proofs.TooLarge.{not_ended_large}
 use Rattle.line_records.proofs.Tracking.{tracks_on_tab}
 use Rattle.line_records.proofs.TurningAway.{away_adds}
 use Rattle.line_records.proofs.WriterLines.{begun_by_first, given_up, grows, halts}
@@ -94,8 +95,8 @@ module _ {C O : Type 0} (tells : Bool) (state : C → CellState) (offers : O →
               (inl (record { writes = no_more_writes t l served refl (self_both t _ (ends_ended ended)); reads = h.reads; free = k.finished.parted.free })) tracks;
         }
 
-    was_given_up : (fault : WriteFault) → LargeOnTab tells state offers s p t (answer_to_fault fault) → NotEnded tells state offers s t h.entry p q fault → AddsLine tells state offers s told past served line p (answer_to_fault fault) q
-    was_given_up fault large k =
+    was_given_up : (fault : WriteFault) → NotEnded tells state offers s t h.entry p q fault → AddsLine tells state offers s told past served line p (answer_to_fault fault) q
+    was_given_up fault k =
         let l = served_as line (answer_to_fault fault) None 0 0 in
         let first = begun_by_first tells state offers s told past served p t h in
         let none = shows_none r.setting.anchors (view p) (view q) served l (shows_no_epoch fault) in
@@ -108,22 +109,22 @@ module _ {C O : Type 0} (tells : Bool) (state : C → CellState) (offers : O →
               (serving.not_ended tells state offers s t e p q fault (entry_of tells state offers s t e h.is) k)
               (λ d. of_giving_up r (view q) served l d (record { may = tt; wants = refl }) (name_of g e) (view q).seen (grows g e h.first first served l h.writes (view q)) (halts g e h.first first served l h.writes (gives_up_fault fault)))
               (λ b f z. (none b f z).above)
-              (tells_by r (view q) served l (fault_told r (view q) served l fault up refl (λ z. large_of g told past e h.first first h.is.rests.from served l h.writes (large z e h.is)))
+              (tells_by r (view q) served l (fault_told r (view q) served l fault up refl (λ z. large_of g told past e h.first first h.is.rests.from served l h.writes (not_ended_large tells state offers s t e p q fault k z)))
               (plain r (view q) served l (λ b f z. (none b f z).seen) (answers_fault fault) refl (λ x z. z) (λ x z. z) (λ url body z. z) (writer_fits tells state offers s told past served p t (answer_to_fault fault) q h) (fault_no_tab fault)))
               (λ y f bytes z. absurd (fault_no_part fault f bytes z));
           tracks = tracks_on_tab tells state offers s told past served p q t l below leaves (λ j ne. elsewhere (End t) (answer_to_fault fault) j ne)
               (inl (record { writes = no_more_writes t l served refl (self_both t _ (ends_fault fault)); reads = h.reads; free = free_again e fault k })) tracks;
         }
 
-    by_outcome : (a : Answer) (o : Result Ended WriteFault) → LargeOnTab tells state offers s p t a → a ≡ answer_to_end o → IfOk o (λ ended. EndedWhole tells state offers s t h.entry p q ended) → IfErr o (λ fault. NotEnded tells state offers s t h.entry p q fault)
+    by_outcome : (a : Answer) (o : Result Ended WriteFault) → a ≡ answer_to_end o → IfOk o (λ ended. EndedWhole tells state offers s t h.entry p q ended) → IfErr o (λ fault. NotEnded tells state offers s t h.entry p q fault)
         → AddsLine tells state offers s told past served line p a q
-    by_outcome a (Ok ended) large is ok err = subst (λ (z : Answer). AddsLine tells state offers s told past served line p z q) (sym is) (was_ended ended ok)
-    by_outcome a (Err fault) large is ok err = subst (λ (z : Answer). AddsLine tells state offers s told past served line p z q) (sym is) (was_given_up fault (subst (LargeOnTab tells state offers s p t) is large) err)
+    by_outcome a (Ok ended) is ok err = subst (λ (z : Answer). AddsLine tells state offers s told past served line p z q) (sym is) (was_ended ended ok)
+    by_outcome a (Err fault) is ok err = subst (λ (z : Answer). AddsLine tells state offers s told past served line p z q) (sym is) (was_given_up fault err)
 
-  pub end_adds : (a : Answer) → Tracks tells state offers s told past served p → Leaves tells state offers s t p q → LargeOnTab tells state offers s p t a → EndsOn tells state offers s t p a q → AddsLine tells state offers s told past served line p a q
-  end_adds a tracks leaves large met = ⊎_elim
+  pub end_adds : (a : Answer) → Tracks tells state offers s told past served p → Leaves tells state offers s t p q → EndsOn tells state offers s t p a q → AddsLine tells state offers s told past served line p a q
+  end_adds a tracks leaves met = ⊎_elim
       (λ (m : IsWriter tells state offers s told past served p t × ((e : Entry) → WritesAs tells state offers s p t e → EndsEntry tells state offers s t p a q e)).
-      let to = m.1 m.0.entry m.0.is in by_outcome tracks leaves m.0 a to.outcome large to.answer_is to.ended to.given_up)
+      let to = m.1 m.0.entry m.0.is in by_outcome tracks leaves m.0 a to.outcome to.answer_is to.ended to.given_up)
       (λ (m : (writing t served ≡ None) × IsTurnedAway p a q).
       away_adds tells state offers s told past served line p a q m.1 (λ fits. fits m.0) (λ url body z. absurd z) tracks)
       (on_writer tells state offers s told past served p t a q ((e : Entry) → WritesAs tells state offers s p t e → EndsEntry tells state offers s t p a q e) met (tracks.each t below))

@@ -1,5 +1,5 @@
 -- A line that gets the entry of a URL.
-use Rattle.std.proofs.Common.{Bool, Contains, List, None, Some, ap, arith, refl, subst, sym, ◌<◌, ◌∙◌, ◌≡◌, ◌≤◌, ℕ}
+use Rattle.std.proofs.Common.{Bool, Contains, List, None, Some, ap, arith, inl, inr, refl, subst, sym, ◌<◌, ◌∙◌, ◌≡◌, ◌≤◌, ◌⊎◌, ℕ}
 use Rattle.std.specs.Prelude.{IsTrue}
 use Rattle.lock_word.specs.Words.{epoch_number, version_of}
 use Rattle.lock_word.specs.declared.cause.Cause.{Cause}
@@ -30,7 +30,7 @@ use Rattle.store_rule.specs.Ground.{Ground, Offers, anchor_for, cut_of}
 use Rattle.store_rule.specs.Passes.{basis, view}
 use Rattle.pass_calls.specs.Calls.{IsFresh}
 use Rattle.rock_reader.specs.Opening.{Refused}
-use Rattle.rock_reader.specs.Reading.{Standing, newly}
+use Rattle.rock_reader.specs.Reading.{Standing, StaysOther, TurnsOut, newly}
 use Rattle.rock_reader.specs.Responses.{body_below, pieces_of}
 use Rattle.rock_reader.specs.declared.answer.More.{More}
 use Rattle.rock_reader.specs.declared.answer.More.TheVariants as more
@@ -45,15 +45,16 @@ use Rattle.call_records.proofs.ServingDeeds as serving
 use Rattle.serve_lines.specs.Answers.{AnswersGet, AnswersWhole}
 use Rattle.serve_lines.specs.Tabs.{IsFree, Leaves}
 use Rattle.serve_lines.specs.Whole.{Gets, whole_tab}
-use Rattle.line_records.specs.Bytes.{GetsRight, IsOtherUrl}
-use Rattle.line_records.specs.Lines.{AddsLine, IsPrintable, TellsKey, served_as}
+use Rattle.worker_shelf.specs.Typed.{IsTyped, TellsKey}
+use Rattle.line_records.specs.Lines.{AddsLine, served_as}
 use Rattle.line_records.specs.Runs.{IsTold, Past, run_of}
-use Rattle.line_records.specs.Tracks.{Tracks}
+use Rattle.line_records.specs.Tracks.{IsOtherUrl, Tracks}
 use Rattle.line_records.proofs.CallDeeds.{adds_by, of_visiting}
 use Rattle.line_records.proofs.Coming.{refused}
 use Rattle.line_records.proofs.GivenBytes.{IsFromFront, all_of_it, given_of, gives_bytes, known, part_of}
-use Rattle.line_records.proofs.MoreLines.{at_stage, same_part}
+use Rattle.line_records.proofs.MoreLines.{at_stage, one_bool, same_part}
 use Rattle.line_records.proofs.Opened.{one_offer, opened_entry, opened_new, version_is}
+use Rattle.line_records.proofs.OtherUrls.{entry_key, other_url}
 use Rattle.line_records.proofs.ReadingOn.{ReadOn, gives_on}
 use Rattle.line_records.proofs.Shown.{ShowsFresh, fresh_from, fresh_to, shows_none, shows_one}
 use Rattle.line_records.proofs.TabLines.{elsewhere}
@@ -200,21 +201,32 @@ module _ {C O : Type 0} (tells : Bool) (state : C → CellState) (offers : O →
             same = ap r.url (sym same_offer) ∙ (known tells state offers s told past (told_so y) y whole_tab k.went.middle f so.reads so.other new old some).url_is ∙ so.entry.url;
           }
 
-      has_other : (looked : ℕ) → IsOtherUrl r (newly (anchor_for g url) version k.offer url) → HasOther r (view q) served (served_as line answer.OtherUrl None (epoch_number k.opens.epoch) looked)
-      has_other looked other = record {
-        first = served_as line answer.OtherUrl None (epoch_number k.opens.epoch) looked;
-        opened_is = refl;
-        url = url;
-        named = refl;
-        entry = entry.0;
-        good = subst (λ (o : ℕ). IsUrl (r.url o)) (sym offer_is) other.good;
-        same_key = ap (λ (o : ℕ). key_of (r.url o)) offer_is ∙ other.same_key;
-        differs = λ z. other.differs (ap r.url (sym offer_is) ∙ z);
-      }
+      -- it turned out to be of another URL
+      is_other_url : StaysOther tells state offers s whole_tab k.went.middle f k.went.before k.went.after k.read ⊎ TurnsOut tells state offers s whole_tab k.went.middle f k.went.before k.went.after k.read → IsTrue told → IsOtherUrl r f
+      is_other_url (inl w) y = absurd (one_bool f.is_other w.was so.other)
+      is_other_url (inr w) y = other_url tells state offers s told past (told_so y) y whole_tab k.went.middle f so.reads
+          (entry_key r (view k.went.middle) (anchor_for g url) (epoch_number k.opens.epoch) url f
+          (entry_on r (view k.opened) (view k.went.middle) (anchor_for g url) (epoch_number k.opens.epoch) url so.keeps (opened_entry g told past whole_tab url (view p) (view k.opened) version k.opens)).0
+          (sym so.entry.anchor) version_same (sym so.entry.url))
+          (w.url ((told_so y).cells y) ((told_so y).file y)).1
 
-    by_ending : (version : ℕ) (ended : More) (bytes : List ℕ) (a : Answer) → GotEntry tells state offers s whole_tab url p q bytes version ended → (IsTrue told → GetsRight tells state offers s r p a url) → AnswersWhole version ended bytes a → AddsLine tells state offers s told past served line p a q
-    by_ending version (more.Piece count) bytes a k right is = absurd is
-    by_ending version (more.NotYet epoch) bytes a k right is =
+      has_other : (looked : ℕ) → IsOtherUrl r f → HasOther r (view q) served (served_as line answer.OtherUrl None (epoch_number k.opens.epoch) looked)
+      has_other looked other =
+          let offer : entry.0.offer ≡ f.offer = offer_is ∙ sym so.entry.offer in
+          record {
+            first = served_as line answer.OtherUrl None (epoch_number k.opens.epoch) looked;
+            opened_is = refl;
+            url = url;
+            named = refl;
+            entry = entry.0;
+            good = subst (λ (o : ℕ). IsUrl (r.url o)) (sym offer) other.good;
+            same_key = ap (λ (o : ℕ). key_of (r.url o)) offer ∙ other.same_key ∙ ap key_of so.entry.url;
+            differs = λ z. other.differs (ap r.url (sym offer) ∙ z ∙ sym so.entry.url);
+          }
+
+    by_ending : (version : ℕ) (ended : More) (bytes : List ℕ) (a : Answer) → GotEntry tells state offers s whole_tab url p q bytes version ended → AnswersWhole version ended bytes a → AddsLine tells state offers s told past served line p a q
+    by_ending version (more.Piece count) bytes a k is = absurd is
+    by_ending version (more.NotYet epoch) bytes a k is =
         let w = k.went.ends.waits in
         let l = served_as line (answer.Part epoch bytes) None (epoch_number k.opens.epoch) 0 in
         let on_it = so version (more.NotYet epoch) bytes k in
@@ -232,7 +244,7 @@ module _ {C O : Type 0} (tells : Bool) (state : C → CellState) (offers : O →
         (λ n c. w.published n ((on (on (opening_keeps g whole_tab k.opens) on_it.keeps) (ended_keeps version (more.NotYet epoch) bytes k)).seen _ c))))
         tt
         (version_of-epoch_number epoch ∙ w.version_is ∙ on_it.entry.version ∙ sym (same version (more.NotYet epoch) bytes k)) (λ z. cc))
-    by_ending version more.End bytes a k right is =
+    by_ending version more.End bytes a k is =
         let w = k.went.ends in
         let l = served_as line (answer.Hit version bytes) None (epoch_number k.opens.epoch) 0 in
         let comes = sym (same version more.End bytes k) in
@@ -241,7 +253,7 @@ module _ {C O : Type 0} (tells : Bool) (state : C → CellState) (offers : O →
         (shows_one r.setting.anchors (view p) (view q) served l url refl (epoch_number k.opens.epoch) refl (opened_fresh version more.End bytes k))
         (λ y. (has_hit version more.End bytes k (answer.Hit version bytes) 0 comes y w.some w.all, has_given version more.End bytes k (answer.Hit version bytes) 0 refl y (λ z. w.some) (λ z. (w.some, w.all))))
         (λ y e gave z. absurd (let x : answer.Hit version bytes ≡ answer.Part e gave = z in cc)) tt comes (λ z. cc))
-    by_ending version more.Halted bytes a k right is =
+    by_ending version more.Halted bytes a k is =
         let w = k.went.ends in
         let l = served_as line (answer.Halted bytes) None (epoch_number k.opens.epoch) (epoch_number w.epoch) in
         let some = waits_some tells state offers s whole_tab k.went.middle k.read k.went.standing k.went.before k.went.after w.epoch (so version more.Halted bytes k).reads w.waits in
@@ -250,23 +262,23 @@ module _ {C O : Type 0} (tells : Bool) (state : C → CellState) (offers : O →
         (shows_one r.setting.anchors (view p) (view q) served l url refl (epoch_number w.epoch) refl (found_fresh version more.Halted bytes k (epoch_number w.epoch) w.waits.fresh))
         (at_stage w.epoch Stage.Halted w.halted, (λ y. has_given version more.Halted bytes k (answer.Halted bytes) (epoch_number w.epoch) refl y (λ z. some) (λ z. absurd z)))
         (λ y e gave z. absurd (let x : answer.Halted bytes ≡ answer.Part e gave = z in cc)) tt tt (λ z. cc))
-    by_ending version more.OtherUrl bytes a k right is =
+    by_ending version more.OtherUrl bytes a k is =
         let l = served_as line answer.OtherUrl None (epoch_number k.opens.epoch) 0 in
         subst (λ (z : Answer). AddsLine tells state offers s told past served line p z q) (sym is)
         (add_it version more.OtherUrl bytes k answer.OtherUrl 0 (shows_none r.setting.anchors (view p) (view q) served l refl)
-        (λ y. has_other version more.OtherUrl bytes k 0 (right y is k.opened version k.offer k.opens k.reads))
+        (λ y. has_other version more.OtherUrl bytes k 0 (is_other_url version more.OtherUrl bytes k k.went.ends y))
         (λ y e gave z. absurd (let x : answer.OtherUrl ≡ answer.Part e gave = z in cc)) tt tt (λ z. cc))
-    by_ending version more.Fault bytes a k right is =
+    by_ending version more.Fault bytes a k is =
         let l = served_as line (answer.ReadFault bytes) None (epoch_number k.opens.epoch) 0 in
         subst (λ (z : Answer). AddsLine tells state offers s told past served line p z q) (sym is)
         (add_it version more.Fault bytes k (answer.ReadFault bytes) 0 (shows_none r.setting.anchors (view p) (view q) served l refl)
         (λ y. has_given version more.Fault bytes k (answer.ReadFault bytes) 0 refl y (λ z. absurd z) (λ z. absurd z))
         (λ y e gave z. absurd (let x : answer.ReadFault bytes ≡ answer.Part e gave = z in cc)) tt tt (λ z. cc))
 
-    by_got : (got : Got) (bytes : List ℕ) (a : Answer) → IsPrintable a → (IsTrue told → GetsRight tells state offers s r p a url) → AnswersGet got bytes a → GotAs tells state offers s whole_tab url p q bytes got → AddsLine tells state offers s told past served line p a q
-    by_got (Missing c) bytes a fit right is k = subst (λ (z : Answer). AddsLine tells state offers s told past served line p z q) (sym is) (was_refused c (subst IsPrintable is fit) k.1)
-    by_got (Found version ended) bytes a fit right is k = by_ending version ended bytes a k right is
+    by_got : (got : Got) (bytes : List ℕ) (a : Answer) → IsTyped a → AnswersGet got bytes a → GotAs tells state offers s whole_tab url p q bytes got → AddsLine tells state offers s told past served line p a q
+    by_got (Missing c) bytes a fit is k = subst (λ (z : Answer). AddsLine tells state offers s told past served line p z q) (sym is) (was_refused c (subst IsTyped is fit) k.1)
+    by_got (Found version ended) bytes a fit is k = by_ending version ended bytes a k is
 
-  pub get_adds : (a : Answer) → Tracks tells state offers s told past served p → Leaves tells state offers s whole_tab p q → IsPrintable a → (IsTrue told → GetsRight tells state offers s r p a url) → Gets tells state offers s url p a q
+  pub get_adds : (a : Answer) → Tracks tells state offers s told past served p → Leaves tells state offers s whole_tab p q → IsTyped a → Gets tells state offers s url p a q
       → AddsLine tells state offers s told past served line p a q
-  get_adds a tracks leaves fit right h = by_got tracks leaves h.free h.got h.bytes a fit right h.answer_is h.went
+  get_adds a tracks leaves fit h = by_got tracks leaves h.free h.got h.bytes a fit h.answer_is h.went

@@ -24,6 +24,7 @@ use Rattle.rock_reader.specs.Responses.{IsResponse, body_at, body_below, pieces_
 use Rattle.store_serve.specs.Following.{Given, Gives}
 use Rattle.line_records.specs.Runs.{IsTold, Past, run_of}
 use Rattle.line_records.proofs.BodyLengths.{few_below, full_below}
+use Rattle.line_records.proofs.OpenedLengths.{few_opened}
 use Rattle.line_records.proofs.ReadingOn.{gives_on}
 use Rattle.line_records.proofs.Running.{new_body, new_url}
 
@@ -97,7 +98,7 @@ module _ {C O : Type 0} (tells : Bool) (state : C → CellState) (offers : O →
 
     few_of : Known f → length (body_below g f.anchor f.offer f.place) ≤ f.place * room_of g.slot - meta_size f.url
     few_of k = ⊎_elim {C = length (body_below g f.anchor f.offer f.place) ≤ f.place * room_of g.slot - meta_size f.url}
-        (λ (low : f.offer < g.setting.slots). so.short y f.anchor f.offer f.place f.url k.body inside low (k.response.old low) h.inside)
+        (λ (low : f.offer < g.setting.slots). few_opened g f.anchor f.offer f.url k.body low (k.response.old low) f.place h.inside)
         (λ (high : g.setting.slots ≤ f.offer). let its = k.response.new high in let few = few_below g f.anchor f.offer f.url k.body so.small high its f.place in let e = ap length its.url_is in omega arith)
         (cases_lt f.offer g.setting.slots)
 

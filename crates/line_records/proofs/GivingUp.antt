@@ -16,10 +16,10 @@ use Rattle.rock_writer.specs.declared.fault.Ended.TheVariants.{Doomed, Stored}
 use Rattle.rock_writer.specs.declared.fault.WriteFault.{WriteFault}
 use Rattle.rock_writer.specs.declared.fault.WriteFault.TheVariants.{Fault, Full, Large}
 use Rattle.serve_lines.specs.Answers.{answer_to_ended, answer_to_fault}
-use Rattle.line_records.specs.Lines.{NeedsTooMany}
 use Rattle.line_records.specs.Runs.{Past, run_of}
 use Rattle.line_records.proofs.Running.{new_body, new_url}
 use Rattle.line_records.proofs.Telling.{ToTell}
+use Rattle.line_records.proofs.TooLarge.{NeedsTooMany}
 use Rattle.line_records.proofs.WriterLines.{IsBegunBy}
 
 pub self_both : (t : ℕ) (b : Bool) → b ≡ true → ((t == t) && b) ≡ true

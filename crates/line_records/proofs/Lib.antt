@@ -6,6 +6,11 @@ pub mod Tracking
 pub mod CallDeeds
 pub mod Halting
 pub mod Running
+pub mod ReadNames
+pub mod OneKey
+pub mod OtherUrls
+pub mod TooLarge
+pub mod OpenedLengths
 pub mod Fitting
 pub mod TurningAway
 pub mod WriterLines

@@ -40,13 +40,13 @@ use Rattle.serve_lines.specs.Answers.{AnswersMore}
 use Rattle.serve_lines.specs.Reading.{ReadsMore, ReadsOn}
 use Rattle.serve_lines.specs.Tabs.{IsTurnedAway, Leaves}
 use Rattle.serve_lines.specs.Whole.{whole_tab}
-use Rattle.line_records.specs.Bytes.{IsOtherUrl, TurnsRight}
 use Rattle.line_records.specs.Lines.{AddsLine, served_as}
 use Rattle.line_records.specs.Runs.{IsTold, Past, run_of}
-use Rattle.line_records.specs.Tracks.{IsReader, Tracks}
+use Rattle.line_records.specs.Tracks.{IsOtherUrl, IsReader, Tracks}
 use Rattle.line_records.proofs.CallDeeds.{adds_by}
 use Rattle.line_records.proofs.Fitting.{on_reader, reader_fits}
 use Rattle.line_records.proofs.GivenBytes.{IsFromFront, given_of, gives_bytes, part_of}
+use Rattle.line_records.proofs.OtherUrls.{entry_key, other_on, other_url}
 use Rattle.line_records.proofs.ReadingOn.{HasSeen, IsSameEntry, ReadOn, gives_on, tried_seen}
 use Rattle.line_records.proofs.Shown.{ShowsFresh, fresh_from, shows_none, shows_one}
 use Rattle.line_records.proofs.TabLines.{elsewhere}
@@ -89,15 +89,7 @@ module _ {C O : Type 0} (tells : Bool) (state : C → CellState) (offers : O →
 pub same_part : (e f : Epoch) (xs ys : List ℕ) → answer.Part e xs ≡ answer.Part f ys → e ≡ f
 same_part e f xs ys h = cc
 
--- of the same offer and URL
-pub other_on : (r : Run (List ℕ)) (e f : Standing) → f.offer ≡ e.offer → f.url ≡ e.url → IsOtherUrl r e → IsOtherUrl r f
-other_on r e f offer url h = record {
-  good = subst (λ (o : ℕ). IsUrl (r.url o)) (sym offer) h.good;
-  same_key = ap (λ (o : ℕ). key_of (r.url o)) offer ∙ h.same_key ∙ ap key_of (sym url);
-  differs = λ z. h.differs (ap r.url (sym offer) ∙ z ∙ url);
-}
-
-one_bool : (b : Bool) → b ≡ true → b ≡ false → ⊥
+pub one_bool : (b : Bool) → b ≡ true → b ≡ false → ⊥
 one_bool b e f = let z : true ≡ false = sym e ∙ f in cc
 
 module _ {C O : Type 0} (tells : Bool) (state : C → CellState) (offers : O → Offers) (s : Store C O) (told : Bool) (past : Past) (served : List Served) (worker number t : ℕ) (p q : Pass C) (below : t < whole_tab) (from : IsFromFront)
@@ -119,8 +111,9 @@ module _ {C O : Type 0} (tells : Bool) (state : C → CellState) (offers : O →
     -- the tab is as the lines say with this one, which gave these bytes
     abbrev reader_at : (a : Answer) (looked : ℕ) (at : EndedAt tells state offers s t went.standing went.middle q)
         → (IsTrue told → at.last.is_other ≡ false → bytes_given t (served_as line a None 0 looked ∷ served) ≡ body_below g at.last.anchor at.last.offer at.last.place)
-        → (IsTrue told → at.last.is_other ≡ true → bytes_given t (served_as line a None 0 looked ∷ served) ≡ []) → IsReader tells state offers s told past (served_as line a None 0 looked ∷ served) q t
-    reader_at a looked at given none =
+        → (IsTrue told → at.last.is_other ≡ true → bytes_given t (served_as line a None 0 looked ∷ served) ≡ []) → (IsTrue told → at.last.is_other ≡ true → IsOtherUrl r at.last)
+        → IsReader tells state offers s told past (served_as line a None 0 looked ∷ served) q t
+    reader_at a looked at given none other =
         let last = at.last in
         let anchor : last.anchor ≡ h.standing.anchor = at.entry.anchor ∙ so.entry.anchor in
         let version : last.version ≡ h.standing.version = at.entry.version ∙ so.entry.version in
@@ -142,6 +135,7 @@ module _ {C O : Type 0} (tells : Bool) (state : C → CellState) (offers : O →
           new = λ high. subst (λ (n : ℕ). g.setting.slots ≤ n) (sym offer) (h.new (subst (λ (n : ℕ). opening_counter g.setting < n) version high));
           given = given;
           none = none;
+          other = other;
           shown = at.seen (so.seen h.shown);
         }
 
@@ -184,44 +178,48 @@ module _ {C O : Type 0} (tells : Bool) (state : C → CellState) (offers : O →
     all_bytes y mine a looked is = with_bytes a looked ∙ (λ i. h.given y mine i ++ is i) ∙ gives_bytes tells state offers s told past (told_so y) y t h.standing p went.calls went.standing went.middle bytes h.is went.gives
         ∙ (λ i. body_below g (sym so.entry.anchor i) (sym so.entry.offer i) went.standing.place)
 
-    module _ (a : Answer) (looked : ℕ) (is : bytes_in a ≡ bytes) (not_other : a ≡ answer.OtherUrl → ⊥) (right : IsTrue told → TurnsRight tells state offers s r p a t) where
-      -- it has not turned
-      mine : IsTrue told → h.standing.is_other ≡ false
-      mine y = by_bool h.standing.is_other refl
-        where
-          by_bool : (b : Bool) → h.standing.is_other ≡ b → h.standing.is_other ≡ false
-          by_bool true e = absurd (not_other ((right y).turned h.standing h.is e))
-          by_bool false e = e
+    module _ (a : Answer) (looked : ℕ) (is : bytes_in a ≡ bytes) (was : went.standing.is_other ≡ false) where
+      -- it had not turned
+      mine : h.standing.is_other ≡ false
+      mine = sym so.other ∙ was
 
       -- the tab stays at the entry, with all bytes that were given
       abbrev stays_reader : ReadsAs tells state offers s q t went.standing → IsReader tells state offers s told past (served_as line a None 0 looked ∷ served) q t
-      stays_reader reads = reader_at a looked (stays_at tells state offers s t went.standing went.middle q reads keeps_on) (λ y z. all_bytes y (mine y) a looked is) (λ y z. absurd (one_bool went.standing.is_other z (so.other ∙ mine y)))
+      stays_reader reads = reader_at a looked (stays_at tells state offers s t went.standing went.middle q reads keeps_on) (λ y z. all_bytes y mine a looked is)
+          (λ y z. absurd (one_bool went.standing.is_other z was)) (λ y z. absurd (one_bool went.standing.is_other z was))
 
       -- and the line has given what it should
       has_given : (reads : ReadsAs tells state offers s q t went.standing) → IsTrue told → (IsSure a → 0 < went.standing.place) → (IsWhole a → (0 < went.standing.place) × (went.standing.place ≡ pieces_of g went.standing.anchor went.standing.offer))
           → HasGiven r (view q) served (served_as line a None 0 looked)
       has_given reads y sure whole =
           let reader = stays_reader reads in
-          given_of tells state offers s told past (told_so y) y t q went.standing reads (so.other ∙ mine y) reader.new
+          given_of tells state offers s told past (told_so y) y t q went.standing reads was reader.new
           (λ low. sym reader.offer ∙ reader.entry.old (let v = reader.version in omega arith)) from (view q) served (served_as line a None 0 looked) h.first h.reads reader.named reader.anchor reader.version reader.entry reader.offer
-          (all_bytes y (mine y) a looked is) reader.shown sure whole
+          (all_bytes y mine a looked is) reader.shown sure whole
 
       has_part : (reads : ReadsAs tells state offers s q t went.standing) → IsTrue told → (e : ℕ) → (IsSure a → 0 < went.standing.place) → (IsWhole a → ⊥) → version_of e ≡ went.standing.version → Contains (view q).seen (Stood went.standing.anchor e)
           → 0 < went.standing.place → g.setting.slots ≤ went.standing.offer → went.standing.place < count (cut_of g went.standing.offer 0 0)
           → ((n : ℕ) → Contains (view p).seen (Published went.standing.anchor went.standing.version n) → n ≤ went.standing.place) → HasPart r (view p) (view q) served (served_as line a None 0 looked) e
       has_part reads y e sure whole version seen some high more least =
           let reader = stays_reader reads in
-          part_of tells state offers s told past (told_so y) y t q went.standing reads (so.other ∙ mine y) reader.new
+          part_of tells state offers s told past (told_so y) y t q went.standing reads was reader.new
           (λ low. sym reader.offer ∙ reader.entry.old (let v = reader.version in omega arith)) from (view q) served (served_as line a None 0 looked) h.first h.reads reader.named reader.anchor reader.version reader.entry reader.offer
-          (all_bytes y (mine y) a looked is) reader.shown sure (λ z. absurd (whole z)) (view p) e version seen some high more least
+          (all_bytes y mine a looked is) reader.shown sure (λ z. absurd (whole z)) (view p) e version seen some high more least
 
     -- where the tab turned from the entry, or had
-    has_other : (a : Answer) → a ≡ answer.OtherUrl → (IsTrue told → TurnsRight tells state offers s r p a t) → IsTrue told → HasOther r (view q) served (served_as line a None 0 0)
-    has_other a is right y =
-        let other = (right y).other h.standing h.is is in
+    is_other_url : StaysOther tells state offers s t went.middle went.standing went.before went.after q ⊎ TurnsOut tells state offers s t went.middle went.standing went.before went.after q → IsTrue told → IsOtherUrl r went.standing
+    is_other_url (inl k) y = other_on r h.standing went.standing so.entry.offer so.entry.url (h.other y (sym so.other ∙ k.was))
+    is_other_url (inr k) y = other_url tells state offers s told past (told_so y) y t went.middle went.standing so.reads
+        (entry_key r (view went.middle) h.standing.anchor h.first.opened h.standing.url went.standing (entry_on r (view p) (view went.middle) h.standing.anchor h.first.opened h.standing.url so.keeps h.entry).0
+        (sym so.entry.anchor) (h.version ∙ sym so.entry.version) (sym so.entry.url))
+        (k.url ((told_so y).cells y) ((told_so y).file y)).1
+
+    has_other : (IsTrue told → IsOtherUrl r went.standing) → IsTrue told → HasOther r (view q) served (served_as line answer.OtherUrl None 0 0)
+    has_other its y =
+        let other = its y in
         let entry = entry_on r (view p) (view q) h.standing.anchor h.first.opened h.standing.url leaves.keeps h.entry in
         let moved = entry_moved r (view q) h.standing.anchor (anchor_for g h.standing.url) h.first.opened h.standing.url h.standing.url h.anchor refl entry.0 in
-        let offer : moved.0.offer ≡ h.standing.offer = moved.1 ∙ entry.1 ∙ h.offer in
+        let offer : moved.0.offer ≡ went.standing.offer = moved.1 ∙ entry.1 ∙ h.offer ∙ sym so.entry.offer in
         record {
           first = h.first;
           opened_is = h.reads;
@@ -229,87 +227,80 @@ module _ {C O : Type 0} (tells : Bool) (state : C → CellState) (offers : O →
           named = h.named;
           entry = moved.0;
           good = subst (λ (o : ℕ). IsUrl (r.url o)) (sym offer) other.good;
-          same_key = ap (λ (o : ℕ). key_of (r.url o)) offer ∙ other.same_key;
-          differs = λ z. other.differs (ap r.url (sym offer) ∙ z);
+          same_key = ap (λ (o : ℕ). key_of (r.url o)) offer ∙ other.same_key ∙ ap key_of so.entry.url;
+          differs = λ z. other.differs (ap r.url (sym offer) ∙ z ∙ sym so.entry.url);
         }
 
     no_bytes : bytes_given t (served_as line answer.OtherUrl None 0 0 ∷ served) ≡ bytes_given t served
     no_bytes = with_bytes answer.OtherUrl 0 ∙ append-nil (bytes_given t served)
 
-    none_before : IsTrue told → went.standing.place ≡ 0 → bytes_given t served ≡ []
-    none_before y first = by_bool h.standing.is_other refl
-      where
-        by_bool : (b : Bool) → h.standing.is_other ≡ b → bytes_given t served ≡ []
-        by_bool true e = h.none y e
-        by_bool false e = h.given y e ∙ ap (body_below g h.standing.anchor h.standing.offer) (let z = so.onward in let w : h.standing.place ≡ 0 = omega arith in w)
+    none_before : IsTrue told → went.standing.is_other ≡ false → went.standing.place ≡ 0 → bytes_given t served ≡ []
+    none_before y was first = h.given y (sym so.other ∙ was) ∙ ap (body_below g h.standing.anchor h.standing.offer) (let z = so.onward in let w : h.standing.place ≡ 0 = omega arith in w)
 
-    turned_reader : StaysOther tells state offers s t went.middle went.standing went.before went.after q ⊎ TurnsOut tells state offers s t went.middle went.standing went.before went.after q
+    turned_reader : StaysOther tells state offers s t went.middle went.standing went.before went.after q ⊎ TurnsOut tells state offers s t went.middle went.standing went.before went.after q → (IsTrue told → IsOtherUrl r went.standing)
         → IsReader tells state offers s told past (served_as line answer.OtherUrl None 0 0 ∷ served) q t
-    turned_reader (inl k) = reader_at answer.OtherUrl 0 (still_at tells state offers s t went.standing went.middle q so.reads k.still) (λ y z. absurd (one_bool went.standing.is_other k.was z)) (λ y z. no_bytes ∙ h.none y (sym so.other ∙ k.was))
-    turned_reader (inr k) = reader_at answer.OtherUrl 0 (turned_out tells state offers s t went.standing went.middle q went.before went.after so.reads k) (λ y z. absurd (let w : true ≡ false = z in cc))
-        (λ y z. no_bytes ∙ none_before y (k.url ((told_so y).cells y) ((told_so y).file y)).0)
+    turned_reader (inl k) its = reader_at answer.OtherUrl 0 (still_at tells state offers s t went.standing went.middle q so.reads k.still) (λ y z. absurd (one_bool went.standing.is_other k.was z))
+        (λ y z. no_bytes ∙ h.none y (sym so.other ∙ k.was)) (λ y z. its y)
+    turned_reader (inr k) its = reader_at answer.OtherUrl 0 (turned_out tells state offers s t went.standing went.middle q went.before went.after so.reads k) (λ y z. absurd (let w : true ≡ false = z in cc))
+        (λ y z. no_bytes ∙ none_before y k.was (k.url ((told_so y).cells y) ((told_so y).file y)).0) (λ y z. other_on r went.standing (turned went.standing) refl refl (its y))
 
   more_read : (tracks : Tracks tells state offers s told past served p) (leaves : Leaves tells state offers s t p q) (h : IsReader tells state offers s told past served p t) (why : More) (bytes : List ℕ)
-      (went : WentOn tells state offers s t h.standing p q bytes why) (a : Answer) → (IsTrue told → TurnsRight tells state offers s r p a t) → AnswersMore why bytes a → AddsLine tells state offers s told past served line p a q
-  more_read tracks leaves h (more.Piece count) bytes went a right is = absurd is
-  more_read tracks leaves h (more.NotYet epoch) bytes went a right is =
+      (went : WentOn tells state offers s t h.standing p q bytes why) (a : Answer) → AnswersMore why bytes a → AddsLine tells state offers s told past served line p a q
+  more_read tracks leaves h (more.Piece count) bytes went a is = absurd is
+  more_read tracks leaves h (more.NotYet epoch) bytes went a is =
       let k = went.ends in
       let l = served_as line (answer.Part epoch bytes) None 0 0 in
-      let right_so : IsTrue told → TurnsRight tells state offers s r p (answer.Part epoch bytes) t = subst (λ (z : Answer). IsTrue told → TurnsRight tells state offers s r p z t) is right in
       let some = waits_some tells state offers s t went.middle q went.standing went.before went.after epoch (so tracks leaves h (more.NotYet epoch) bytes went).reads k.waits in
       let stage = at_stage epoch Stage.Appending k.grows in
       let version : version_of (epoch_number epoch) ≡ went.standing.version = version_of-epoch_number epoch ∙ k.waits.version_is in
       let high = subst (λ (n : ℕ). opening_counter g.setting < n) version (grown_version g (view q) went.standing.anchor (epoch_number epoch) k.waits.stays.own.stands k.waits.fresh.seen stage) in
-      let reader = stays_reader tracks leaves h (more.NotYet epoch) bytes went (answer.Part epoch bytes) 0 refl (λ z. cc) right_so k.waits.stays in
+      let reader = stays_reader tracks leaves h (more.NotYet epoch) bytes went (answer.Part epoch bytes) 0 refl k.waits.was k.waits.stays in
       subst (λ (z : Answer). AddsLine tells state offers s told past served line p z q) (sym is)
       (add_it tracks leaves h (more.NotYet epoch) bytes went (answer.Part epoch bytes) 0
       (shows_one r.setting.anchors (view p) (view q) served l h.standing.url (at_url tracks leaves h (more.NotYet epoch) bytes went) (epoch_number epoch) refl (found_fresh tracks leaves h (more.NotYet epoch) bytes went (epoch_number epoch) k.waits.fresh))
       reader
-      (stage, (λ y. has_given tracks leaves h (more.NotYet epoch) bytes went (answer.Part epoch bytes) 0 refl (λ z. cc) right_so k.waits.stays y (λ z. some) (λ z. absurd z)))
-      (λ y e gave z. part_at e gave z (has_part tracks leaves h (more.NotYet epoch) bytes went (answer.Part epoch bytes) 0 refl (λ x. cc) right_so k.waits.stays y (epoch_number epoch) (λ x. some) (λ x. x) version k.waits.fresh.seen some (reader.new high)
+      (stage, (λ y. has_given tracks leaves h (more.NotYet epoch) bytes went (answer.Part epoch bytes) 0 refl k.waits.was k.waits.stays y (λ z. some) (λ z. absurd z)))
+      (λ y e gave z. part_at e gave z (has_part tracks leaves h (more.NotYet epoch) bytes went (answer.Part epoch bytes) 0 refl k.waits.was k.waits.stays y (epoch_number epoch) (λ x. some) (λ x. x) version k.waits.fresh.seen some (reader.new high)
       (waits_more tells state offers s t went.middle q went.standing went.before went.after epoch (so tracks leaves h (more.NotYet epoch) bytes went).reads k.waits high) (λ n c. k.waits.published n (leaves.keeps.seen _ c))))
       tt (λ x z. z) (λ x z. z) (λ z. cc))
     where
       part_at : (e : Epoch) (gave : List ℕ) → answer.Part epoch bytes ≡ answer.Part e gave → HasPart r (view p) (view q) served (served_as line (answer.Part epoch bytes) None 0 0) (epoch_number epoch) → HasPart r (view p) (view q) served (served_as line (answer.Part epoch bytes) None 0 0) (epoch_number e)
       part_at e gave z part = subst (λ (f : Epoch). HasPart r (view p) (view q) served (served_as line (answer.Part epoch bytes) None 0 0) (epoch_number f)) (same_part epoch e bytes gave z) part
-  more_read tracks leaves h more.End bytes went a right is =
+  more_read tracks leaves h more.End bytes went a is =
       let k = went.ends in
-      let right_so : IsTrue told → TurnsRight tells state offers s r p (answer.End bytes) t = subst (λ (z : Answer). IsTrue told → TurnsRight tells state offers s r p z t) is right in
       let reads = subst (λ (z : Pass C). ReadsAs tells state offers s z t went.standing) (sym k.still) (so tracks leaves h more.End bytes went).reads in
       subst (λ (z : Answer). AddsLine tells state offers s told past served line p z q) (sym is)
       (add_it tracks leaves h more.End bytes went (answer.End bytes) 0 (no_epoch tracks leaves h more.End bytes went (answer.End bytes) refl)
-      (stays_reader tracks leaves h more.End bytes went (answer.End bytes) 0 refl (λ z. cc) right_so reads)
-      (λ y. has_given tracks leaves h more.End bytes went (answer.End bytes) 0 refl (λ z. cc) right_so reads y (λ z. k.some) (λ z. (k.some, k.all)))
+      (stays_reader tracks leaves h more.End bytes went (answer.End bytes) 0 refl k.was reads)
+      (λ y. has_given tracks leaves h more.End bytes went (answer.End bytes) 0 refl k.was reads y (λ z. k.some) (λ z. (k.some, k.all)))
       (λ y e gave z. absurd (let w : answer.End bytes ≡ answer.Part e gave = z in cc)) tt (λ x z. z) (λ x z. z) (λ z. cc))
-  more_read tracks leaves h more.Halted bytes went a right is =
+  more_read tracks leaves h more.Halted bytes went a is =
       let k = went.ends in
       let l = served_as line (answer.Halted bytes) None 0 (epoch_number k.epoch) in
-      let right_so : IsTrue told → TurnsRight tells state offers s r p (answer.Halted bytes) t = subst (λ (z : Answer). IsTrue told → TurnsRight tells state offers s r p z t) is right in
       let some = waits_some tells state offers s t went.middle q went.standing went.before went.after k.epoch (so tracks leaves h more.Halted bytes went).reads k.waits in
       subst (λ (z : Answer). AddsLine tells state offers s told past served line p z q) (sym is)
       (add_it tracks leaves h more.Halted bytes went (answer.Halted bytes) (epoch_number k.epoch)
       (shows_one r.setting.anchors (view p) (view q) served l h.standing.url (at_url tracks leaves h more.Halted bytes went) (epoch_number k.epoch) refl (found_fresh tracks leaves h more.Halted bytes went (epoch_number k.epoch) k.waits.fresh))
-      (stays_reader tracks leaves h more.Halted bytes went (answer.Halted bytes) (epoch_number k.epoch) refl (λ z. cc) right_so k.waits.stays)
-      (at_stage k.epoch Stage.Halted k.halted, (λ y. has_given tracks leaves h more.Halted bytes went (answer.Halted bytes) (epoch_number k.epoch) refl (λ z. cc) right_so k.waits.stays y (λ z. some) (λ z. absurd z)))
+      (stays_reader tracks leaves h more.Halted bytes went (answer.Halted bytes) (epoch_number k.epoch) refl k.waits.was k.waits.stays)
+      (at_stage k.epoch Stage.Halted k.halted, (λ y. has_given tracks leaves h more.Halted bytes went (answer.Halted bytes) (epoch_number k.epoch) refl k.waits.was k.waits.stays y (λ z. some) (λ z. absurd z)))
       (λ y e gave z. absurd (let w : answer.Halted bytes ≡ answer.Part e gave = z in cc)) tt (λ x z. z) (λ x z. z) (λ z. cc))
-  more_read tracks leaves h more.OtherUrl bytes went a right is =
-      let right_so : IsTrue told → TurnsRight tells state offers s r p answer.OtherUrl t = subst (λ (z : Answer). IsTrue told → TurnsRight tells state offers s r p z t) is right in
+  more_read tracks leaves h more.OtherUrl bytes went a is =
+      let its = is_other_url tracks leaves h more.OtherUrl bytes went went.ends in
       subst (λ (z : Answer). AddsLine tells state offers s told past served line p z q) (sym is)
-      (add_it tracks leaves h more.OtherUrl bytes went answer.OtherUrl 0 (no_epoch tracks leaves h more.OtherUrl bytes went answer.OtherUrl refl) (turned_reader tracks leaves h more.OtherUrl bytes went went.ends)
-      (λ y. has_other tracks leaves h more.OtherUrl bytes went answer.OtherUrl refl right_so y)
+      (add_it tracks leaves h more.OtherUrl bytes went answer.OtherUrl 0 (no_epoch tracks leaves h more.OtherUrl bytes went answer.OtherUrl refl) (turned_reader tracks leaves h more.OtherUrl bytes went went.ends its)
+      (λ y. has_other tracks leaves h more.OtherUrl bytes went its y)
       (λ y e gave z. absurd (let w : answer.OtherUrl ≡ answer.Part e gave = z in cc)) tt (λ x z. z) (λ x z. z) (λ z. cc))
-  more_read tracks leaves h more.Fault bytes went a right is =
-      let right_so : IsTrue told → TurnsRight tells state offers s r p (answer.ReadFault bytes) t = subst (λ (z : Answer). IsTrue told → TurnsRight tells state offers s r p z t) is right in
+  more_read tracks leaves h more.Fault bytes went a is =
       subst (λ (z : Answer). AddsLine tells state offers s told past served line p z q) (sym is)
       (add_it tracks leaves h more.Fault bytes went (answer.ReadFault bytes) 0 (no_epoch tracks leaves h more.Fault bytes went (answer.ReadFault bytes) refl)
-      (stays_reader tracks leaves h more.Fault bytes went (answer.ReadFault bytes) 0 refl (λ z. cc) right_so went.ends.stays)
-      (λ y. has_given tracks leaves h more.Fault bytes went (answer.ReadFault bytes) 0 refl (λ z. cc) right_so went.ends.stays y (λ z. absurd z) (λ z. absurd z))
+      (stays_reader tracks leaves h more.Fault bytes went (answer.ReadFault bytes) 0 refl went.ends.was went.ends.stays)
+      (λ y. has_given tracks leaves h more.Fault bytes went (answer.ReadFault bytes) 0 refl went.ends.was went.ends.stays y (λ z. absurd z) (λ z. absurd z))
       (λ y e gave z. absurd (let w : answer.ReadFault bytes ≡ answer.Part e gave = z in cc)) tt (λ x z. z) (λ x z. z) (λ z. cc))
 
-  pub more_adds : (a : Answer) → Tracks tells state offers s told past served p → Leaves tells state offers s t p q → (IsTrue told → TurnsRight tells state offers s r p a t) → ReadsMore tells state offers s t p a q → AddsLine tells state offers s told past served line p a q
-  more_adds a tracks leaves right met = ⊎_elim
+  pub more_adds : (a : Answer) → Tracks tells state offers s told past served p → Leaves tells state offers s t p q → ReadsMore tells state offers s t p a q → AddsLine tells state offers s told past served line p a q
+  more_adds a tracks leaves met = ⊎_elim
       (λ (m : IsReader tells state offers s told past served p t × ((e : Standing) → ReadsAs tells state offers s p t e → ReadsOn tells state offers s t p a q e)).
-      let on = m.1 m.0.standing m.0.is in more_read tracks leaves m.0 on.why on.bytes on.went a right on.answer_is)
+      let on = m.1 m.0.standing m.0.is in more_read tracks leaves m.0 on.why on.bytes on.went a on.answer_is)
       (λ (m : (reading t served ≡ None) × IsTurnedAway p a q).
       away_adds tells state offers s told past served line p a q m.1 (λ fits. fits m.0) (λ u body z. absurd z) tracks)
       (on_reader tells state offers s told past served p t a q ((e : Standing) → ReadsAs tells state offers s p t e → ReadsOn tells state offers s t p a q e) met (tracks.each t below))

@@ -26,7 +26,8 @@ use Rattle.call_records.specs.Refusing.{CountedAll, DrewInVain}
 use Rattle.call_records.proofs.WriterDeeds.{not_taken}
 use Rattle.serve_lines.specs.Answers.{answer_to_refusal}
 use Rattle.serve_lines.specs.Tabs.{IsOffered}
-use Rattle.line_records.specs.Lines.{IsPrintable, served_as}
+use Rattle.worker_shelf.specs.Typed.{IsTyped}
+use Rattle.line_records.specs.Lines.{served_as}
 use Rattle.line_records.specs.Runs.{Past, run_of}
 use Rattle.line_records.specs.Tracks.{Tracks}
 use Rattle.line_records.proofs.Beginning.{busy_met}
@@ -114,7 +115,7 @@ module _ {C O : Type 0} (tells : Bool) (state : C → CellState) (offers : O →
       spent_how (inl h) = spent_with None h.acted (record { offers = is.offers; limit = h.limit; found = inl (refl, record { item = record { kind = Counted; at = 0; found = versions }; among = h.found; kind_is = refl; found_is = refl }) })
       spent_how (inr h) = spent_with (Some (versions + 1)) h.acted (record { offers = is.offers; limit = h.limit; found = inr (refl, record { item = record { kind = Drew; at = 0; found = versions }; among = h.found; kind_is = refl; found_is = refl }) })
 
-    pub not_begun : (fault : BeginFault) → IsPrintable (answer_to_refusal fault) → ((answer_to_refusal fault ≡ answer.LongUrl) ↔ IsTooLong g url) → NotTaken g t (anchor_for g url) (view p) fault (view q) → AddsSome (answer_to_refusal fault)
+    pub not_begun : (fault : BeginFault) → IsTyped (answer_to_refusal fault) → ((answer_to_refusal fault ≡ answer.LongUrl) ↔ IsTooLong g url) → NotTaken g t (anchor_for g url) (view p) fault (view q) → AddsSome (answer_to_refusal fault)
     not_begun LongUrl fit long h = long_url h long
     not_begun (Busy looked found) fit long h = let acted = not_taken g t (anchor_for g url) (view p) (Busy looked found) (view q) h in busy_with looked found fit.0 fit.1 long acted.0 acted.1 h.0 h.1
     not_begun (Spent versions) fit long h = spent_how versions long (not_taken g t (anchor_for g url) (view p) (Spent versions) (view q) h)

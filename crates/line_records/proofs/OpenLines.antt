@@ -25,7 +25,8 @@ use Rattle.serve_lines.specs.Answers.{answer_to_open}
 use Rattle.serve_lines.specs.Reading.{Opens, OpensOn}
 use Rattle.serve_lines.specs.Tabs.{IsFree, IsTurnedAway, Leaves}
 use Rattle.serve_lines.specs.Whole.{whole_tab}
-use Rattle.line_records.specs.Lines.{AddsLine, IsPrintable, TellsKey, served_as}
+use Rattle.worker_shelf.specs.Typed.{IsTyped, TellsKey}
+use Rattle.line_records.specs.Lines.{AddsLine, served_as}
 use Rattle.line_records.specs.Runs.{Past, run_of}
 use Rattle.line_records.specs.Tracks.{IsIdle, Tracks}
 use Rattle.line_records.proofs.CallDeeds.{adds_by, of_visiting}
@@ -94,6 +95,7 @@ module _ {C O : Type 0} (tells : Bool) (state : C → CellState) (offers : O →
                 new = λ high. subst (λ (n : ℕ). g.setting.slots ≤ n) agrees (opened_new g told past t url (view p) (view q) version k high);
                 given = λ y z. none_given t l served (self_true t);
                 none = λ y z. absurd (let c : false ≡ true = z in cc);
+                other = λ y z. absurd (let c : false ≡ true = z in cc);
                 shown = λ some. absurd (omega arith);
               }))) tracks;
         }
@@ -118,13 +120,13 @@ module _ {C O : Type 0} (tells : Bool) (state : C → CellState) (offers : O →
               (inl (record { writes = writing_on t l served alone ∙ h.writes; reads = reading_on t l served alone ∙ h.reads; free = free })) tracks;
         }
 
-    by_outcome : (a : Answer) (o : Result ℕ Cause) → IsPrintable a → a ≡ answer_to_open o → IfOk o (λ version. OpenedEntry g t url (view p) version (view q))
+    by_outcome : (a : Answer) (o : Result ℕ Cause) → IsTyped a → a ≡ answer_to_open o → IfOk o (λ version. OpenedEntry g t url (view p) version (view q))
         → IfOk o (λ version. (offer : ℕ) × ReadsAs tells state offers s q t (newly (anchor_for g url) version offer url)) → IfErr o (λ c. Refused g t url (view p) c (view q)) → OnErr o (IsFree q t)
         → AddsLine tells state offers s told past served line p a q
     by_outcome a (Ok version) fit is ok reads err free = subst (λ (z : Answer). AddsLine tells state offers s told past served line p z q) (sym is) (was_opened version ok reads)
-    by_outcome a (Err c) fit is ok reads err free = subst (λ (z : Answer). AddsLine tells state offers s told past served line p z q) (sym is) (was_refused c (subst IsPrintable is fit) free err)
+    by_outcome a (Err c) fit is ok reads err free = subst (λ (z : Answer). AddsLine tells state offers s told past served line p z q) (sym is) (was_refused c (subst IsTyped is fit) free err)
 
-  pub open_adds : (a : Answer) → Tracks tells state offers s told past served p → Leaves tells state offers s t p q → IsPrintable a → OpensOn tells state offers s t p a q url → AddsLine tells state offers s told past served line p a q
+  pub open_adds : (a : Answer) → Tracks tells state offers s told past served p → Leaves tells state offers s t p q → IsTyped a → OpensOn tells state offers s t p a q url → AddsLine tells state offers s told past served line p a q
   open_adds a tracks leaves fit met = ⊎_elim
       (λ (m : IsIdle tells state offers s told past served p t × Opens tells state offers s t p a q url).
       by_outcome tracks leaves m.0 a m.1.outcome fit m.1.answer_is m.1.opened m.1.reads m.1.refused m.1.free)

@@ -27,7 +27,8 @@ use Rattle.call_records.proofs.PurgeDeeds as purges
 use Rattle.serve_lines.specs.Answers.{answer_to_purge}
 use Rattle.serve_lines.specs.Tabs.{IsFree, Leaves}
 use Rattle.serve_lines.specs.Whole.{Purges, whole_tab}
-use Rattle.line_records.specs.Lines.{AddsLine, IsPrintable, TellsKey, served_as}
+use Rattle.worker_shelf.specs.Typed.{IsTyped, TellsKey}
+use Rattle.line_records.specs.Lines.{AddsLine, served_as}
 use Rattle.line_records.specs.Runs.{Past, run_of}
 use Rattle.line_records.specs.Tracks.{Tracks}
 use Rattle.line_records.proofs.CallDeeds.{adds_by, of_purging, of_visiting}
@@ -86,12 +87,12 @@ module _ {C O : Type 0} (tells : Bool) (state : C → CellState) (offers : O →
           tracks = tracks_whole tells state offers s told past served p q l leaves free (λ j ne. elsewhere (Purge url) (answer.NoEntry c) j ne) tracks;
         }
 
-    by_outcome : (a : Answer) (o : Result Epoch Cause) → IsPrintable a → a ≡ answer_to_purge o → IfOk o (λ left. Purged g inner url (view p) left (view q)) → IfErr o (λ c. Refused g inner url (view p) c (view q))
+    by_outcome : (a : Answer) (o : Result Epoch Cause) → IsTyped a → a ≡ answer_to_purge o → IfOk o (λ left. Purged g inner url (view p) left (view q)) → IfErr o (λ c. Refused g inner url (view p) c (view q))
         → AddsLine tells state offers s told past served line p a q
     by_outcome a (Ok left) fits is ok err = subst (λ (z : Answer). AddsLine tells state offers s told past served line p z q) (sym is) (purged left ok)
-    by_outcome a (Err c) fits is ok err = subst (λ (z : Answer). AddsLine tells state offers s told past served line p z q) (sym is) (refused c (subst IsPrintable is fits) err)
+    by_outcome a (Err c) fits is ok err = subst (λ (z : Answer). AddsLine tells state offers s told past served line p z q) (sym is) (refused c (subst IsTyped is fits) err)
 
-  pub purge_adds : (a : Answer) → Tracks tells state offers s told past served p → Leaves tells state offers s whole_tab p q → IsPrintable a → Purges tells state offers s url p a q → AddsLine tells state offers s told past served line p a q
+  pub purge_adds : (a : Answer) → Tracks tells state offers s told past served p → Leaves tells state offers s whole_tab p q → IsTyped a → Purges tells state offers s url p a q → AddsLine tells state offers s told past served line p a q
   purge_adds a tracks leaves fits h =
       let free : IsFree q whole_tab = ap (λ (xs : List (Tab (List ℕ))). get_or xs whole_tab Free) h.same ∙ tracks.whole in
       by_outcome tracks leaves free a h.outcome fits h.answer_is h.purged h.refused

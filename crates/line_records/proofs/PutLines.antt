@@ -36,7 +36,8 @@ use Rattle.call_records.proofs.Writers.{began}
 use Rattle.serve_lines.specs.Answers.{answer_to_ended, answer_to_fault, answer_to_put, answer_to_refusal}
 use Rattle.serve_lines.specs.Tabs.{IsFree, IsOffered, Leaves}
 use Rattle.serve_lines.specs.Whole.{Puts, whole_tab}
-use Rattle.line_records.specs.Lines.{AddsLine, IsPrintable, LargeWhole, NeedsTooMany, served_as}
+use Rattle.worker_shelf.specs.Typed.{IsTyped}
+use Rattle.line_records.specs.Lines.{AddsLine, served_as}
 use Rattle.line_records.specs.Runs.{Past, run_of}
 use Rattle.line_records.specs.Tracks.{Tracks}
 use Rattle.line_records.proofs.CallDeeds.{adds_by, of_putting, of_putting_in_vain}
@@ -48,6 +49,7 @@ use Rattle.line_records.proofs.Offering.{IsOffering, offering}
 use Rattle.line_records.proofs.Shown.{fresh_from, shows_none, shows_one}
 use Rattle.line_records.proofs.TabLines.{LeavesAlone, elsewhere}
 use Rattle.line_records.proofs.Telling.{tells_by}
+use Rattle.line_records.proofs.TooLarge.{NeedsTooMany, not_ended_large}
 use Rattle.line_records.proofs.Tracking.{tracks_whole}
 use Rattle.line_records.proofs.WriterLines.{IsBegunBy, given_up, grows, halts}
 
@@ -136,9 +138,9 @@ module _ {C O : Type 0} (tells : Bool) (state : C → CellState) (offers : O →
           tracks = tracks_whole tells state offers s told past served p q l leaves free (λ j ne. putting.alone (answer_to_ended ended) j ne) tracks;
         }
 
-    was_given_up : (fault : WriteFault) → ((answer_to_fault fault ≡ answer.LongUrl) ↔ IsTooLong g url) → LargeWhole tells state offers s url body (answer_to_fault fault) → GaveUpPut tells state offers s whole_tab offer url durable p q fault
+    was_given_up : (fault : WriteFault) → ((answer_to_fault fault ≡ answer.LongUrl) ↔ IsTooLong g url) → GaveUpPut tells state offers s whole_tab offer url durable p q fault
         → AddsLine tells state offers s told past served line p (answer_to_fault fault) q
-    was_given_up fault long large k =
+    was_given_up fault long k =
         let x = k.version in
         let l = served_as line (answer_to_fault fault) (Some x) 0 0 in
         let e = entry x in
@@ -146,8 +148,8 @@ module _ {C O : Type 0} (tells : Bool) (state : C → CellState) (offers : O →
         let begun_is = is.begun served l in
         let none = shows_none r.setting.anchors (view p) (view q) served l (shows_no_epoch fault) in
         let up = given_up g e l first served l begun_is (view q) (gave_up_seen tells state offers s whole_tab offer url durable p q fault k) in
-        let many : answer_to_fault fault ≡ answer.Large → NeedsTooMany g (url_in g e) (body_in g e) = λ z.
-        subst (λ (u : List ℕ). NeedsTooMany g u (body_in g e)) (sym body_is.url_is) (subst (λ (b : List ℕ). NeedsTooMany g url b) (sym body_is.body_is) (large z)) in
+        let many : answer_to_fault fault ≡ answer.Large → NeedsTooMany g (url_in g e) (body_in g e) =
+        not_ended_large tells state offers s whole_tab (begun tells state offers s whole_tab offer url durable p k.middle k.version) k.middle q fault k.stopped in
         record {
           drew = Some x;
           opened = 0;
@@ -165,7 +167,7 @@ module _ {C O : Type 0} (tells : Bool) (state : C → CellState) (offers : O →
           tracks = tracks_whole tells state offers s told past served p q l leaves free (λ j ne. putting.alone (answer_to_fault fault) j ne) tracks;
         }
 
-    was_refused : (fault : BeginFault) → IsPrintable (answer_to_refusal fault) → ((answer_to_refusal fault ≡ answer.LongUrl) ↔ IsTooLong g url) → NotPut tells state offers s whole_tab offer url durable p q (Begin fault)
+    was_refused : (fault : BeginFault) → IsTyped (answer_to_refusal fault) → ((answer_to_refusal fault ≡ answer.LongUrl) ↔ IsTooLong g url) → NotPut tells state offers s whole_tab offer url durable p q (Begin fault)
         → AddsLine tells state offers s told past served line p (answer_to_refusal fault) q
     was_refused fault fit long k =
         let some = not_begun tells state offers s told past served line url body whole_tab p q tracks is body_is (putting.fits served) fault fit long k in
@@ -177,16 +179,16 @@ module _ {C O : Type 0} (tells : Bool) (state : C → CellState) (offers : O →
           tracks = tracks_whole tells state offers s told past served p q (served_as line (answer_to_refusal fault) some.drew 0 0) leaves free (λ j ne. putting.alone (answer_to_refusal fault) j ne) tracks;
         }
 
-    by_outcome : (a : Answer) (o : Result Ended PutFault) → IsPrintable a → LargeWhole tells state offers s url body a → a ≡ answer_to_put o → ((a ≡ answer.LongUrl) ↔ IsTooLong g url)
+    by_outcome : (a : Answer) (o : Result Ended PutFault) → IsTyped a → a ≡ answer_to_put o → ((a ≡ answer.LongUrl) ↔ IsTooLong g url)
         → IfOk o (λ ended. PutWhole tells state offers s whole_tab offer url durable p q ended) → IfErr o (λ fault. NotPut tells state offers s whole_tab offer url durable p q fault) → AddsLine tells state offers s told past served line p a q
-    by_outcome a (Ok ended) fit large at long ok err = subst (λ (z : Answer). AddsLine tells state offers s told past served line p z q) (sym at)
+    by_outcome a (Ok ended) fit at long ok err = subst (λ (z : Answer). AddsLine tells state offers s told past served line p z q) (sym at)
         (was_stored ended (subst (λ (z : Answer). (z ≡ answer.LongUrl) ↔ IsTooLong g url) at long) ok)
-    by_outcome a (Err (Begin fault)) fit large at long ok err = subst (λ (z : Answer). AddsLine tells state offers s told past served line p z q) (sym at)
-        (was_refused fault (subst IsPrintable at fit) (subst (λ (z : Answer). (z ≡ answer.LongUrl) ↔ IsTooLong g url) at long) err)
-    by_outcome a (Err (Write fault)) fit large at long ok err = subst (λ (z : Answer). AddsLine tells state offers s told past served line p z q) (sym at)
-        (was_given_up fault (subst (λ (z : Answer). (z ≡ answer.LongUrl) ↔ IsTooLong g url) at long) (subst (LargeWhole tells state offers s url body) at large) err)
+    by_outcome a (Err (Begin fault)) fit at long ok err = subst (λ (z : Answer). AddsLine tells state offers s told past served line p z q) (sym at)
+        (was_refused fault (subst IsTyped at fit) (subst (λ (z : Answer). (z ≡ answer.LongUrl) ↔ IsTooLong g url) at long) err)
+    by_outcome a (Err (Write fault)) fit at long ok err = subst (λ (z : Answer). AddsLine tells state offers s told past served line p z q) (sym at)
+        (was_given_up fault (subst (λ (z : Answer). (z ≡ answer.LongUrl) ↔ IsTooLong g url) at long) err)
 
   pub put_adds : (a : Answer) → IsOffering line.request url body → IsPutting line.request → Tracks tells state offers s told past served p → Leaves tells state offers s whole_tab p q
-      → IsOffered tells state offers s ((basis tells state offers s).setting.slots + line.number) url body → IsPrintable a → LargeWhole tells state offers s url body a → Puts tells state offers s url p a q offer durable
+      → IsOffered tells state offers s ((basis tells state offers s).setting.slots + line.number) url body → IsTyped a → Puts tells state offers s url p a q offer durable
       → AddsLine tells state offers s told past served line p a q
-  put_adds a is putting tracks leaves body_is fit large h = by_outcome tracks leaves h.free is putting body_is a h.outcome fit large h.answer_is h.long h.stored h.refused
+  put_adds a is putting tracks leaves body_is fit h = by_outcome tracks leaves h.free is putting body_is a h.outcome fit h.answer_is h.long h.stored h.refused

@@ -23,7 +23,7 @@ use Rattle.pass_calls.specs.Calls.{IsFresh}
 use Rattle.slice_chain.specs.Names.{KeyLoaded}
 use Rattle.rock_reader.specs.Opening.{opened}
 use Rattle.rock_reader.proofs.Coming.{readable_is}
-use Rattle.line_records.specs.Lines.{TellsKey}
+use Rattle.worker_shelf.specs.Typed.{TellsKey}
 use Rattle.line_records.specs.Runs.{Past, run_of}
 use Rattle.line_records.proofs.Causes.{causes_tell}
 use Rattle.line_records.proofs.Loading.{back_loaded, front_loaded}

@@ -80,6 +80,7 @@ module _ {C O : Type 0} (tells : Bool) (state : C → CellState) (offers : O →
     new = h.new;
     given = λ y other. given_on j l served alone ∙ h.given y other;
     none = λ y other. given_on j l served alone ∙ h.none y other;
+    other = h.other;
     shown = h.shown;
   }))
 
@@ -116,6 +117,7 @@ module _ {C O : Type 0} (tells : Bool) (state : C → CellState) (offers : O →
         new = h.new;
         given = h.given;
         none = h.none;
+        other = h.other;
         shown = λ some. leaves.keeps.seen _ (h.shown some);
       }))
 

@@ -1,4 +1,3 @@
 pub mod Runs
 pub mod Tracks
 pub mod Lines
-pub mod Bytes

@@ -1,13 +1,14 @@
 -- The run of a store: what does not change while lines are served on it.
-use Rattle.std.specs.Prelude.{Bool, IsTrue, List, cond, false, length, nat_lt, ◌*◌, ◌-◌, ◌<◌, ◌≡◌, ◌≤◌, ℕ}
+use Rattle.std.specs.Prelude.{Bool, IsTrue, List, cond, false, nat_lt, ◌-◌, ◌<◌, ◌≡◌, ℕ}
+use Rattle.store_key.specs.Anchor.{back_half, front_half}
+use Rattle.store_key.specs.Key.{key_of}
 use Rattle.entry_cut.specs.Content.{room_of}
-use Rattle.plain_model.specs.Store.{meta_size}
 use Rattle.core_model.specs.Layout.{word_in}
-use Rattle.core_model.specs.declared.moves.Side.TheVariants.{Offer}
+use Rattle.core_model.specs.declared.moves.Side.TheVariants.{Key0, Key1, Offer}
 use Rattle.core_model.specs.declared.view.Place.TheVariants.{Beside}
 use Rattle.line_account.specs.Answers.{Run}
 use Rattle.store_rule.specs.Ground.{Ground, url_of}
-use Rattle.rock_reader.specs.Responses.{HoldsFile, IsOpened, body_below, pieces_of}
+use Rattle.rock_reader.specs.Responses.{HoldsFile, IsOpened}
 
 -- what is said of the offers below the slots, which are those of entries of the opening
 pub record Past : Type 0 where
@@ -28,13 +29,14 @@ module _ (g : Ground (List ℕ)) (told : Bool) (past : Past) where
   }
 
   -- Where something is said of bytes, the cells tell what they hold, and the opening's entries were those of the file. Where an anchor had an
-  -- offer below the slots then, this has the URL and the body of the entry that the anchor had, whose first slots have no more bytes of it than
-  -- they have room for behind the metadata. The size of a slot has 32 bits.
+  -- offer below the slots then, this has the URL and the body of the entry that the anchor had, and the halves of the key of this URL stood
+  -- beside the anchor. The size of a slot has 32 bits.
   pub record IsTold (tells : Bool) : Type 0 where
     pub cells : IsTrue told → IsTrue tells
     pub file : IsTrue told → HoldsFile g
     pub old : IsTrue told → (a offer : ℕ) (url body : List ℕ) → a < g.setting.anchors → offer < g.setting.slots → word_in g.setting g.setting.words (Beside Offer a) ≡ offer
         → IsOpened g a offer url body → (past.url offer ≡ url) × (past.body offer ≡ body)
+    pub keyed : IsTrue told → (a offer : ℕ) (url body : List ℕ) → a < g.setting.anchors → offer < g.setting.slots → word_in g.setting g.setting.words (Beside Offer a) ≡ offer
+        → IsOpened g a offer url body
+        → (word_in g.setting g.setting.words (Beside Key0 a) ≡ front_half (key_of url)) × (word_in g.setting g.setting.words (Beside Key1 a) ≡ back_half (key_of url))
     pub small : g.slot < 4294967296
-    pub short : IsTrue told → (a offer places : ℕ) (url body : List ℕ) → a < g.setting.anchors → offer < g.setting.slots → IsOpened g a offer url body → places ≤ pieces_of g a offer
-        → length (body_below g a offer places) ≤ places * room_of g.slot - meta_size url

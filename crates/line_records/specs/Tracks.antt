@@ -1,10 +1,12 @@
 -- What the lines that a worker served say of the script's tabs, and what its pass has of them.
-use Rattle.std.specs.Prelude.{Bool, Contains, IsTrue, List, None, Some, [], false, true, ◌+◌, ◌<◌, ◌≡◌, ◌≤◌, ◌⊎◌, ℕ}
+use Rattle.std.specs.Prelude.{Bool, Contains, IsTrue, List, None, Some, [], false, true, ◌+◌, ◌<◌, ◌≡◌, ◌≢◌, ◌≤◌, ◌⊎◌, ℕ}
 use Rattle.lock_word.specs.Words.{version_of}
 use Rattle.rock_disk.specs.Cell.{CellState}
+use Rattle.store_key.specs.Key.{key_of}
+use Rattle.store_key.specs.Url.{IsUrl}
 use Rattle.core_model.specs.Anchors.{opening_counter}
 use Rattle.core_model.specs.declared.view.Sight.TheVariants.{Published}
-use Rattle.line_account.specs.Answers.{IsEntryAt}
+use Rattle.line_account.specs.Answers.{IsEntryAt, Run}
 use Rattle.line_account.specs.Lines.{Served, added, bytes_given, reading, url_in, writing}
 use Rattle.store_rule.specs.declared.store.Pass.{Pass}
 use Rattle.store_rule.specs.declared.store.Store.{Store}
@@ -17,6 +19,12 @@ use Rattle.call_records.specs.Showing.{HasShown}
 use Rattle.serve_lines.specs.Tabs.{IsFree, IsReady}
 use Rattle.serve_lines.specs.Whole.{whole_tab}
 use Rattle.line_records.specs.Runs.{Past, run_of}
+
+-- the offer that a tab reads has another URL than it wants, with the same key
+pub record IsOtherUrl (r : Run (List ℕ)) (e : Standing) : Type 0 where
+  pub good : IsUrl (r.url e.offer)
+  pub same_key : key_of (r.url e.offer) ≡ key_of e.url
+  pub differs : r.url e.offer ≢ e.url
 
 module _ {C O : Type 0} (tells : Bool) (state : C → CellState) (offers : O → Offers) (s : Store C O) (told : Bool) (past : Past) (served : List Served) (p : Pass C) where
   module _ (t : ℕ) where
@@ -44,7 +52,8 @@ module _ {C O : Type 0} (tells : Bool) (state : C → CellState) (offers : O →
       pub shown : HasShown (basis tells state offers s) entry (view p).seen
 
     -- By the lines it reads, and it does: the URL and the epoch are those of the line that opened it, and the bytes that lines gave are those of
-    -- the slots that it was given, none where the entry turned out to be of another URL. The pass has seen how many slots it was given.
+    -- the slots that it was given. Where it turned from its entry these are none, and the offer has another URL. The pass has seen how many slots
+    -- it was given.
     pub record IsReader : Type 0 where
       pub writes : writing t served ≡ None
       pub first : Served
@@ -59,6 +68,7 @@ module _ {C O : Type 0} (tells : Bool) (state : C → CellState) (offers : O →
       pub new : opening_counter (basis tells state offers s).setting < standing.version → (basis tells state offers s).setting.slots ≤ standing.offer
       pub given : IsTrue told → standing.is_other ≡ false → bytes_given t served ≡ body_below (basis tells state offers s) standing.anchor standing.offer standing.place
       pub none : IsTrue told → standing.is_other ≡ true → bytes_given t served ≡ []
+      pub other : IsTrue told → standing.is_other ≡ true → IsOtherUrl (run_of (basis tells state offers s) told past) standing
       pub shown : 0 < standing.place → Contains (view p).seen (Published standing.anchor standing.version standing.place)
 
     abbrev pub IsTracked : Type 0

@@ -14,8 +14,8 @@ ghost use Rattle.store_rule.specs.Passes.{IsNewOf, Keeps, basis, view};
 ghost use Rattle.serve_lines.specs.Serving.{Serves, Takes};
 ghost use Rattle.serve_lines.specs.Whole.{whole_tab};
 ghost use Rattle.worker_shelf.specs.Shelves.{LeftBelow};
-ghost use Rattle.line_records.specs.Bytes.{OtherIsSo};
-ghost use Rattle.line_records.specs.Lines.{AddsLine, IsPrintable, LargeIsSo, line_with};
+ghost use Rattle.worker_shelf.specs.Typed.{IsTyped};
+ghost use Rattle.line_records.specs.Lines.{AddsLine, line_with};
 ghost use Rattle.line_records.specs.Runs.{IsTold, Past, run_of};
 ghost use Rattle.line_records.specs.Tracks.{Tracks};
 
@@ -28,15 +28,13 @@ pub fn new_passes_track<C: Cell, O: Origin>()
     ensures { (s : Store C O) (told : Bool) (past : Past) (p : Pass C) → IsNewOf C.tells C.state O.offers s p → Tracks C.tells C.state O.offers s told past [] p }
 {}
 
-/// Each line that is served adds to the account of its worker what it should, where LARGE comes only of bodies that
-/// need too many slots, and where bytes are told of, as `IsTold` says, OTHERURL comes as it should.
+/// Each line that is served adds to the account of its worker what it should. Its answer fits its types, and where bytes
+/// are told of, this is as `IsTold` says.
 pub fn lines_add<C: Cell, O: Origin>()
     ensures { (s : Store C O) (told : Bool) (past : Past) (served : List Served) (line : Line) (p q : Pass C) (a : Answer) (before after : ℕ)
         → (IsTrue told → IsTold (basis C.tells C.state O.offers s) told past C.tells)
         → Tracks C.tells C.state O.offers s told past served p → Takes C.tells C.state O.offers s p line → Serves C.tells C.state O.offers s line p a q before after
-        → IsPrintable a → LargeIsSo C.tells C.state O.offers s p line.request a
-        → (IsTrue told → OtherIsSo C.tells C.state O.offers s (run_of (basis C.tells C.state O.offers s) told past) p line.request a)
-        → AddsLine C.tells C.state O.offers s told past served line p a q }
+        → IsTyped a → AddsLine C.tells C.state O.offers s told past served line p a q }
 {
     bodies_are_given_from_the_front();
 }

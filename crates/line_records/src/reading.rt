@@ -8,20 +8,20 @@ ghost use Rattle.store_rule.specs.declared.store.Pass.{Pass};
 ghost use Rattle.store_rule.specs.declared.store.Store.{Store};
 ghost use Rattle.store_rule.specs.Passes.{basis};
 ghost use Rattle.serve_lines.specs.Serving.{Serves, Takes};
-ghost use Rattle.line_records.specs.Bytes.{GetsRight, TurnsRight};
-ghost use Rattle.line_records.specs.Lines.{AddsLine, IsPrintable, line_with};
-ghost use Rattle.line_records.specs.Runs.{IsTold, Past, run_of};
+ghost use Rattle.worker_shelf.specs.Typed.{IsTyped};
+ghost use Rattle.line_records.specs.Lines.{AddsLine, line_with};
+ghost use Rattle.line_records.specs.Runs.{IsTold, Past};
 ghost use Rattle.line_records.specs.Tracks.{Tracks};
 
 use rock_disk::Cell;
 use rock_reader::bodies_are_given_from_the_front;
 use store_rule::Origin;
 
-/// A line that purges the entry of a URL adds to the account of its worker what it should.
+/// A line that purges the entry of a URL, whose answer fits its types, adds to the account of its worker what it should.
 pub fn purges_add<C: Cell, O: Origin>()
     ensures { (s : Store C O) (told : Bool) (past : Past) (served : List Served) (worker number : ℕ) (url : List ℕ) (p q : Pass C) (a : Answer) (before after : ℕ)
         → Tracks C.tells C.state O.offers s told past served p → Takes C.tells C.state O.offers s p (line_with worker number (Request.Purge url))
-        → Serves C.tells C.state O.offers s (line_with worker number (Request.Purge url)) p a q before after → IsPrintable a
+        → Serves C.tells C.state O.offers s (line_with worker number (Request.Purge url)) p a q before after → IsTyped a
         → AddsLine C.tells C.state O.offers s told past served (line_with worker number (Request.Purge url)) p a q }
 {}
 
@@ -29,7 +29,7 @@ pub fn purges_add<C: Cell, O: Origin>()
 pub fn opens_add<C: Cell, O: Origin>()
     ensures { (s : Store C O) (told : Bool) (past : Past) (served : List Served) (worker number t : ℕ) (url : List ℕ) (p q : Pass C) (a : Answer) (before after : ℕ)
         → Tracks C.tells C.state O.offers s told past served p → Takes C.tells C.state O.offers s p (line_with worker number (Request.OpenTab t url))
-        → Serves C.tells C.state O.offers s (line_with worker number (Request.OpenTab t url)) p a q before after → IsPrintable a
+        → Serves C.tells C.state O.offers s (line_with worker number (Request.OpenTab t url)) p a q before after → IsTyped a
         → AddsLine C.tells C.state O.offers s told past served (line_with worker number (Request.OpenTab t url)) p a q }
 {}
 
@@ -41,13 +41,12 @@ pub fn closes_add<C: Cell, O: Origin>()
         → AddsLine C.tells C.state O.offers s told past served (line_with worker number (Request.CloseTab t)) p a q }
 {}
 
-/// So does one that reads on, where bytes are told of only as `IsTold` says, and OTHERURL comes as it should then.
+/// So does one that reads on, where bytes are told of only as `IsTold` says.
 pub fn mores_add<C: Cell, O: Origin>()
     ensures { (s : Store C O) (told : Bool) (past : Past) (served : List Served) (worker number t : ℕ) (p q : Pass C) (a : Answer) (before after : ℕ)
         → (IsTrue told → IsTold (basis C.tells C.state O.offers s) told past C.tells)
         → Tracks C.tells C.state O.offers s told past served p → Takes C.tells C.state O.offers s p (line_with worker number (Request.More t))
         → Serves C.tells C.state O.offers s (line_with worker number (Request.More t)) p a q before after
-        → (IsTrue told → TurnsRight C.tells C.state O.offers s (run_of (basis C.tells C.state O.offers s) told past) p a t)
         → AddsLine C.tells C.state O.offers s told past served (line_with worker number (Request.More t)) p a q }
 {
     bodies_are_given_from_the_front();
@@ -58,8 +57,7 @@ pub fn gets_add<C: Cell, O: Origin>()
     ensures { (s : Store C O) (told : Bool) (past : Past) (served : List Served) (worker number : ℕ) (url : List ℕ) (p q : Pass C) (a : Answer) (before after : ℕ)
         → (IsTrue told → IsTold (basis C.tells C.state O.offers s) told past C.tells)
         → Tracks C.tells C.state O.offers s told past served p → Takes C.tells C.state O.offers s p (line_with worker number (Request.Get url))
-        → Serves C.tells C.state O.offers s (line_with worker number (Request.Get url)) p a q before after → IsPrintable a
-        → (IsTrue told → GetsRight C.tells C.state O.offers s (run_of (basis C.tells C.state O.offers s) told past) p a url)
+        → Serves C.tells C.state O.offers s (line_with worker number (Request.Get url)) p a q before after → IsTyped a
         → AddsLine C.tells C.state O.offers s told past served (line_with worker number (Request.Get url)) p a q }
 {
     bodies_are_given_from_the_front();

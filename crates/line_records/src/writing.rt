@@ -7,23 +7,24 @@ ghost use Rattle.line_account.specs.Lines.{Served};
 ghost use Rattle.store_rule.specs.declared.store.Pass.{Pass};
 ghost use Rattle.store_rule.specs.declared.store.Store.{Store};
 ghost use Rattle.serve_lines.specs.Serving.{Serves, Takes};
-ghost use Rattle.line_records.specs.Lines.{AddsLine, IsPrintable, LargeOnTab, LargeWhole, line_with};
+ghost use Rattle.worker_shelf.specs.Typed.{IsTyped};
+ghost use Rattle.line_records.specs.Lines.{AddsLine, line_with};
 ghost use Rattle.line_records.specs.Runs.{Past};
 ghost use Rattle.line_records.specs.Tracks.{Tracks};
 
 use rock_disk::Cell;
 use store_rule::Origin;
 
-/// A line that stores a whole response (`put`), or stores it durably (`save`), adds to the account of its worker
-/// what it should, where LARGE comes only of bodies that need too many slots.
+/// A line that stores a whole response (`put`), or stores it durably (`save`), and whose answer fits its types, adds to
+/// the account of its worker what it should.
 pub fn puts_add<C: Cell, O: Origin>()
     ensures put { (s : Store C O) (told : Bool) (past : Past) (served : List Served) (worker number : ℕ) (url : List ℕ) (body : Body) (p q : Pass C) (a : Answer) (before after : ℕ)
         → Tracks C.tells C.state O.offers s told past served p → Takes C.tells C.state O.offers s p (line_with worker number (Request.Put url body))
-        → Serves C.tells C.state O.offers s (line_with worker number (Request.Put url body)) p a q before after → IsPrintable a → LargeWhole C.tells C.state O.offers s url body a
+        → Serves C.tells C.state O.offers s (line_with worker number (Request.Put url body)) p a q before after → IsTyped a
         → AddsLine C.tells C.state O.offers s told past served (line_with worker number (Request.Put url body)) p a q }
     ensures save { (s : Store C O) (told : Bool) (past : Past) (served : List Served) (worker number : ℕ) (url : List ℕ) (body : Body) (p q : Pass C) (a : Answer) (before after : ℕ)
         → Tracks C.tells C.state O.offers s told past served p → Takes C.tells C.state O.offers s p (line_with worker number (Request.Save url body))
-        → Serves C.tells C.state O.offers s (line_with worker number (Request.Save url body)) p a q before after → IsPrintable a → LargeWhole C.tells C.state O.offers s url body a
+        → Serves C.tells C.state O.offers s (line_with worker number (Request.Save url body)) p a q before after → IsTyped a
         → AddsLine C.tells C.state O.offers s told past served (line_with worker number (Request.Save url body)) p a q }
 {}
 
@@ -31,7 +32,7 @@ pub fn puts_add<C: Cell, O: Origin>()
 pub fn begins_add<C: Cell, O: Origin>()
     ensures { (s : Store C O) (told : Bool) (past : Past) (served : List Served) (worker number t : ℕ) (url : List ℕ) (body : Body) (p q : Pass C) (a : Answer) (before after : ℕ)
         → Tracks C.tells C.state O.offers s told past served p → Takes C.tells C.state O.offers s p (line_with worker number (Request.Begin t url body))
-        → Serves C.tells C.state O.offers s (line_with worker number (Request.Begin t url body)) p a q before after → IsPrintable a
+        → Serves C.tells C.state O.offers s (line_with worker number (Request.Begin t url body)) p a q before after → IsTyped a
         → AddsLine C.tells C.state O.offers s told past served (line_with worker number (Request.Begin t url body)) p a q }
 {}
 
@@ -39,7 +40,7 @@ pub fn begins_add<C: Cell, O: Origin>()
 pub fn adds_add<C: Cell, O: Origin>()
     ensures { (s : Store C O) (told : Bool) (past : Past) (served : List Served) (worker number t asked : ℕ) (p q : Pass C) (a : Answer) (before after : ℕ)
         → Tracks C.tells C.state O.offers s told past served p → Takes C.tells C.state O.offers s p (line_with worker number (Request.Add t asked))
-        → Serves C.tells C.state O.offers s (line_with worker number (Request.Add t asked)) p a q before after → LargeOnTab C.tells C.state O.offers s p t a
+        → Serves C.tells C.state O.offers s (line_with worker number (Request.Add t asked)) p a q before after
         → AddsLine C.tells C.state O.offers s told past served (line_with worker number (Request.Add t asked)) p a q }
 {}
 
@@ -47,7 +48,7 @@ pub fn adds_add<C: Cell, O: Origin>()
 pub fn ends_add<C: Cell, O: Origin>()
     ensures { (s : Store C O) (told : Bool) (past : Past) (served : List Served) (worker number t : ℕ) (p q : Pass C) (a : Answer) (before after : ℕ)
         → Tracks C.tells C.state O.offers s told past served p → Takes C.tells C.state O.offers s p (line_with worker number (Request.End t))
-        → Serves C.tells C.state O.offers s (line_with worker number (Request.End t)) p a q before after → LargeOnTab C.tells C.state O.offers s p t a
+        → Serves C.tells C.state O.offers s (line_with worker number (Request.End t)) p a q before after
         → AddsLine C.tells C.state O.offers s told past served (line_with worker number (Request.End t)) p a q }
 {}
 

@@ -13,8 +13,8 @@ use Rattle.worker_shelf.specs.Shelves.{OnShelf}
 use Rattle.line_records.specs.Lines.{served_as}
 use Rattle.line_records.specs.Runs.{IsTold, Past, run_of}
 use Rattle.line_records.specs.Tracks.{Tracks}
-use Rattle.shelf_courses.specs.Courses.{HasCourse, IsFair, IsStep, in_order}
-use Rattle.shelf_courses.proofs.Steps.{Laws, goes}
+use Rattle.shelf_courses.specs.Courses.{HasCourse, IsStep, in_order, stage_shown, with_views}
+use Rattle.shelf_courses.proofs.Steps.{Laws, MayServe, goes}
 
 here : {A : Type 0} (x : A) (xs : List A) → Contains (x ∷ xs) x
 here x xs = (0, (omega arith), refl)
@@ -42,10 +42,11 @@ module _ {C O St : Type 0} (tells : Bool) (state : C → CellState) (offers : O 
   pub record Reaches (now end : OnShelf C O St) (r : Reached now) (stages : List (Stage (OnShelf C O St))) : Type 0 where
     pub reached : Reached end
     pub more : in_order reached.course ≡ in_order r.course ++ map (λ x. (x.line, x.answer)) stages
+    pub more_views : with_views reached.course ≡ with_views r.course ++ map stage_shown stages
 
-  one_more : (now : OnShelf C O St) (r : Reached now) (x : Stage (OnShelf C O St)) → x.before ≡ now → IsStep tells state offers faults x → IsFair tells state offers s told past x → Reaches now x.after r (x ∷ [])
-  one_more now r x is step fair = let store = ap OnShelf.store is ∙ r.store in let tracks = subst (λ (z : OnShelf C O St). Tracks tells state offers s told past (lines_in r.course) z.pass) (sym is) r.tracks in
-      let h = goes tells state offers faults s told past laws is_told (lines_in r.course) x store tracks fair x.line.request refl step in
+  one_more : (now : OnShelf C O St) (r : Reached now) (x : Stage (OnShelf C O St)) → x.before ≡ now → IsStep tells state offers faults x → MayServe tells state offers s x → Reaches now x.after r (x ∷ [])
+  one_more now r x is step takes = let store = ap OnShelf.store is ∙ r.store in let tracks = subst (λ (z : OnShelf C O St). Tracks tells state offers s told past (lines_in r.course) z.pass) (sym is) r.tracks in
+      let h = goes tells state offers faults s told past laws is_told (lines_in r.course) x store tracks takes x.line.request refl step in
       let l = served_as x.line x.answer h.adds.drew h.adds.opened h.adds.looked in record {
         reached = record {
           course = record { before = view x.before.pass; served = l; after = view x.after.pass } ∷ r.course;
@@ -54,11 +55,12 @@ module _ {C O St : Type 0} (tells : Bool) (state : C → CellState) (offers : O 
           tracks = h.adds.tracks;
         };
         more = refl;
+        more_views = refl;
       }
 
   pub all_on : (now : OnShelf C O St) (r : Reached now) (stages : List (Stage (OnShelf C O St))) (end : OnShelf C O St) → Linked now stages end → ((x : Stage (OnShelf C O St)) → Contains stages x → IsStep tells state offers faults x)
-      → ((x : Stage (OnShelf C O St)) → Contains stages x → IsFair tells state offers s told past x) → Reaches now end r stages
-  all_on now r [] end linked steps fair = record {
+      → ((x : Stage (OnShelf C O St)) → Contains stages x → MayServe tells state offers s x) → Reaches now end r stages
+  all_on now r [] end linked steps takes = record {
     reached = record {
       course = r.course;
       is = subst (λ (z : OnShelf C O St). Course (run_of (basis tells state offers s) told past) (view start.pass) r.course (view z.pass)) (sym linked) r.is;
@@ -66,20 +68,23 @@ module _ {C O St : Type 0} (tells : Bool) (state : C → CellState) (offers : O 
       tracks = subst (λ (z : OnShelf C O St). Tracks tells state offers s told past (lines_in r.course) z.pass) (sym linked) r.tracks;
     };
     more = sym (nothing_behind (in_order r.course));
+    more_views = sym (nothing_behind (with_views r.course));
   }
-  all_on now r (x ∷ stages) end linked steps fair = let one = one_more now r x linked.0 (steps x (here x stages)) (fair x (here x stages)) in
-      let rest = all_on x.after one.reached stages end linked.1 (λ y h. steps y (there x stages y h)) (λ y h. fair y (there x stages y h)) in record {
+  all_on now r (x ∷ stages) end linked steps takes = let one = one_more now r x linked.0 (steps x (here x stages)) (takes x (here x stages)) in
+      let rest = all_on x.after one.reached stages end linked.1 (λ y h. steps y (there x stages y h)) (λ y h. takes y (there x stages y h)) in record {
         reached = rest.reached;
         more = rest.more ∙ ap (λ ys. ys ++ map (λ y. (y.line, y.answer)) stages) one.more ∙ joined (in_order r.course) (x.line, x.answer) (map (λ y. (y.line, y.answer)) stages);
+        more_views = rest.more_views ∙ ap (λ ys. ys ++ map stage_shown stages) one.more_views ∙ joined (with_views r.course) (stage_shown x) (map stage_shown stages);
       }
 
   -- from the start on
   pub from_start : start.store ≡ s → Tracks tells state offers s told past [] start.pass → (stages : List (Stage (OnShelf C O St))) (end : OnShelf C O St) → Linked start stages end → ((x : Stage (OnShelf C O St)) → Contains stages x → IsStep tells state offers faults x)
-      → ((x : Stage (OnShelf C O St)) → Contains stages x → IsFair tells state offers s told past x) → HasCourse tells state offers s told past start end stages
-  from_start store tracks stages end linked steps fair = let all = all_on start record { course = []; is = refl; store = store; tracks = tracks } stages end linked steps fair in record {
+      → ((x : Stage (OnShelf C O St)) → Contains stages x → MayServe tells state offers s x) → HasCourse tells state offers s told past start end stages
+  from_start store tracks stages end linked steps takes = let all = all_on start record { course = []; is = refl; store = store; tracks = tracks } stages end linked steps takes in record {
     course = all.reached.course;
     is = all.reached.is;
     lines = all.more;
+    views = all.more_views;
     store = all.reached.store;
     tracks = all.reached.tracks;
   }

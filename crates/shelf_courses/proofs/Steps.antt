@@ -17,17 +17,21 @@ use Rattle.store_rule.specs.Passes.{IsOf, Keeps, basis, note_seen, view}
 use Rattle.worker_pool.specs.Courses.{IsServed, Stage}
 use Rattle.serve_lines.specs.Serving.{Serves, Takes}
 use Rattle.worker_shelf.specs.Shelves.{Learned, Noted, OnShelf, Went}
-use Rattle.line_records.specs.Bytes.{OtherIsSo}
-use Rattle.line_records.specs.Lines.{AddsLine, IsPrintable, LargeIsSo, line_with}
-use Rattle.line_records.specs.Runs.{IsTold, Past, run_of}
+use Rattle.worker_shelf.specs.Typed.{IsTyped}
+use Rattle.line_records.specs.Lines.{AddsLine, line_with}
+use Rattle.line_records.specs.Runs.{IsTold, Past}
 use Rattle.line_records.specs.Tracks.{Tracks}
-use Rattle.shelf_courses.specs.Courses.{IsFair, Meets, Notes, StepOn}
+use Rattle.shelf_courses.specs.Courses.{Meets, Notes, StepOn}
+
+-- the pass takes the line, where it is served
+abbrev pub MayServe : {C O St : Type 0} → Bool → (C → CellState) → (O → Offers) → Store C O → Stage (OnShelf C O St) → Type 0
+MayServe tells state offers s x = IsServed x.line.request → Takes tells state offers s x.before.pass x.line
 
 module _ {C O St : Type 0} (tells : Bool) (state : C → CellState) (offers : O → Offers) (faults : St → ℕ) (s : Store C O) (told : Bool) (past : Past) where
   -- what the laws of lines say, as they are used here
   pub record Laws : Type 0 where
     pub line : (served : List Served) (line : Line) (p q : Pass C) (a : Answer) (before after : ℕ) → (IsTrue told → IsTold (basis tells state offers s) told past tells) → Tracks tells state offers s told past served p → Takes tells state offers s p line
-        → Serves tells state offers s line p a q before after → IsPrintable a → LargeIsSo tells state offers s p line.request a → (IsTrue told → OtherIsSo tells state offers s (run_of (basis tells state offers s) told past) p line.request a)
+        → Serves tells state offers s line p a q before after → IsTyped a
         → AddsLine tells state offers s told past served line p a q
     pub set : (served : List Served) (worker number mark : ℕ) (p q : Pass C) → Tracks tells state offers s told past served p → Keeps tells state offers s p q → view q ≡ noting (view p)
         → AddsLine tells state offers s told past served (line_with worker number (Mark mark)) p answer.Marked q
@@ -42,12 +46,12 @@ module _ {C O St : Type 0} (tells : Bool) (state : C → CellState) (offers : O 
     pub adds : AddsLine tells state offers s told past served x.line x.before.pass x.answer x.after.pass
 
   module _ (laws : Laws) (is_told : IsTrue told → IsTold (basis tells state offers s) told past tells) (served : List Served) (x : Stage (OnShelf C O St))
-      (store : x.before.store ≡ s) (tracks : Tracks tells state offers s told past served x.before.pass) (fair : IsFair tells state offers s told past x) where
+      (store : x.before.store ≡ s) (tracks : Tracks tells state offers s told past served x.before.pass) (takes : MayServe tells state offers s x) where
     served_one : Went tells state offers faults x.before x.line x.answer x.after → Takes tells state offers s x.before.pass x.line → Goes served x
-    served_one h takes = record {
+    served_one h may = record {
       store = h.store ∙ store;
-      adds = laws.line served x.line x.before.pass x.after.pass x.answer (faults x.before.station) (faults x.after.station) is_told tracks takes
-          (subst (λ (z : Store C O). Serves tells state offers z x.line x.before.pass x.answer x.after.pass (faults x.before.station) (faults x.after.station)) store h.serves) fair.printable fair.large fair.other;
+      adds = laws.line served x.line x.before.pass x.after.pass x.answer (faults x.before.station) (faults x.after.station) is_told tracks may
+          (subst (λ (z : Store C O). Serves tells state offers z x.line x.before.pass x.answer x.after.pass (faults x.before.station) (faults x.after.station)) store h.serves) h.typed;
     }
 
     -- a line is its worker, its number and its request
@@ -86,14 +90,14 @@ module _ {C O St : Type 0} (tells : Bool) (state : C → CellState) (offers : O 
     pub goes : (request : Request) → x.line.request ≡ request → StepOn tells state offers faults request x.before x.line x.answer x.after → Goes served x
     goes (Mark mark) is step = set_one mark is step
     goes (Await mark) is step = met_one mark is step
-    goes (Put url body) is step = served_one step (fair.takes (asked (Put url body) is tt))
-    goes (Save url body) is step = served_one step (fair.takes (asked (Save url body) is tt))
-    goes (Get url) is step = served_one step (fair.takes (asked (Get url) is tt))
-    goes (Purge url) is step = served_one step (fair.takes (asked (Purge url) is tt))
-    goes (Begin tab url body) is step = served_one step (fair.takes (asked (Begin tab url body) is tt))
-    goes (Add tab count) is step = served_one step (fair.takes (asked (Add tab count) is tt))
-    goes (End tab) is step = served_one step (fair.takes (asked (End tab) is tt))
-    goes (DropTab tab) is step = served_one step (fair.takes (asked (DropTab tab) is tt))
-    goes (OpenTab tab url) is step = served_one step (fair.takes (asked (OpenTab tab url) is tt))
-    goes (More tab) is step = served_one step (fair.takes (asked (More tab) is tt))
-    goes (CloseTab tab) is step = served_one step (fair.takes (asked (CloseTab tab) is tt))
+    goes (Put url body) is step = served_one step (takes (asked (Put url body) is tt))
+    goes (Save url body) is step = served_one step (takes (asked (Save url body) is tt))
+    goes (Get url) is step = served_one step (takes (asked (Get url) is tt))
+    goes (Purge url) is step = served_one step (takes (asked (Purge url) is tt))
+    goes (Begin tab url body) is step = served_one step (takes (asked (Begin tab url body) is tt))
+    goes (Add tab count) is step = served_one step (takes (asked (Add tab count) is tt))
+    goes (End tab) is step = served_one step (takes (asked (End tab) is tt))
+    goes (DropTab tab) is step = served_one step (takes (asked (DropTab tab) is tt))
+    goes (OpenTab tab url) is step = served_one step (takes (asked (OpenTab tab url) is tt))
+    goes (More tab) is step = served_one step (takes (asked (More tab) is tt))
+    goes (CloseTab tab) is step = served_one step (takes (asked (CloseTab tab) is tt))

@@ -1,5 +1,5 @@
 -- What a worker's shelf is to its callers, and what leaving its tabs comes to.
-use Rattle.std.specs.Prelude.{Bool, List, [], length, slice_index_or, suc, true, zero, ◌+◌, ◌<◌, ◌∷◌, ◌≡◌, ◌≤◌, ◌⊎◌, ℕ}
+use Rattle.std.specs.Prelude.{Bool, List, [], length, replicate, slice_index_or, suc, true, zero, ◌+◌, ◌<◌, ◌∷◌, ◌≡◌, ◌≤◌, ◌⊎◌, ℕ}
 use Rattle.rock_disk.specs.Cell.{CellState}
 use Rattle.core_model.specs.Tabs.{is_free, tab_at}
 use Rattle.slot_cell.specs.declared.header.TheConstants.{HEADER_SIZE}
@@ -18,6 +18,7 @@ use Rattle.serve_lines.specs.Tabs.{Holds, IsFree, IsReading, IsReady, IsWriting,
 use Rattle.serve_lines.specs.Whole.{whole_tab}
 use Rattle.serve_lines.specs.declared.tabs.ScriptTab.{ScriptTab}
 use Rattle.serve_lines.specs.declared.tabs.ScriptTab.TheVariants.{Free}
+use Rattle.worker_shelf.specs.declared.shelf.ShelfRoom.{ShelfRoom}
 use Rattle.worker_shelf.specs.Typed.{IsTyped}
 
 abbrev pub kept_at : List ScriptTab → ℕ → ScriptTab
@@ -33,6 +34,11 @@ pub record OnShelf (C O St : Type 0) : Type 0 where
 pub record OfShelf (C O : Type 0) : Type 0 where
   pub store : Store C O
   pub note : Note C
+
+-- room for a shelf of a store with slots of this size: nothing is kept of any tab, and what a slot may add to a body fits
+pub record IsRoomFor (slot : ℕ) (room : ShelfRoom) : Type 0 where
+  pub tabs : room.tabs.items ≡ replicate whole_tab Free
+  pub piece : slot ≤ length room.piece.items + HEADER_SIZE
 
 -- the tab is free, where the pass has one of this number
 abbrev pub HasFree : {C : Type 0} → Pass C → ℕ → Type 0

@@ -8,4 +8,4 @@ mod serving;
 mod shelf;
 
 pub use noting::ShelfNote;
-pub use shelf::WorkerShelf;
+pub use shelf::{ShelfRoom, WorkerShelf};

@@ -1,8 +1,5 @@
 // A worker's shelf.
-ghost use Rattle.std.specs.Prelude.{IfOk, ◌+◌, ◌≡◌, ◌≤◌, length, replicate, vec_len};
-ghost use Rattle.slot_cell.specs.declared.header.TheConstants.{HEADER_SIZE};
-ghost use Rattle.serve_lines.specs.Whole.{whole_tab};
-ghost use Rattle.serve_lines.specs.declared.tabs.ScriptTab.TheVariants.{Free as Unused};
+ghost use Rattle.std.specs.Prelude.{IfOk, ◌≡◌};
 
 use crate::leaving::leave_tabs;
 use crate::noting::ShelfNote;
@@ -45,8 +42,8 @@ impl<'a, C: Cell, O: Origin, St: Station<C = C>> WorkerShelf<'a, C, O, St> {
     ghost use Rattle.core_model.specs.Tabs.{tab_at};
     ghost use Rattle.core_model.specs.declared.tab.Tab.TheVariants.{Free};
     ghost use Rattle.store_rule.specs.Closing.{IsResting};
-    ghost use Rattle.store_rule.specs.Passes.{IsOf, view};
-    ghost use Rattle.worker_shelf.specs.Shelves.{AllFree, KeepsCells};
+    ghost use Rattle.store_rule.specs.Passes.{IsOf, basis, view};
+    ghost use Rattle.worker_shelf.specs.Shelves.{AllFree, IsRoomFor, KeepsCells};
 
     /// A shelf over a pass of the store whose tabs are all free and which has no place out.
     ///
@@ -65,17 +62,28 @@ impl<'a, C: Cell, O: Origin, St: Station<C = C>> WorkerShelf<'a, C, O, St> {
         ensures shelf { IfOk result (λ shelf. (shelf.store ≡ store.now) × (shelf.pass ≡ pass) × (shelf.station ≡ station)) }
         ensures back { IfErr result (λ back. back ≡ (pass, station)) }
     {
-        let Ok(room) = make_room(alloc, store.slot_size()) else {
-            return Err((pass, station));
-        };
-        let Room { tabs, piece } = room;
-        Ok(WorkerShelf {
+        match ShelfRoom::new(alloc, store.slot_size()) {
+            Ok(room) => Ok(WorkerShelf::with_room(store, pass, station, room)),
+            Err(_) => Err((pass, station)),
+        }
+    }
+
+    /// The same, in room that was taken before.
+    pub fn with_room(store: &'a Store<C, O>, pass: Pass<C>, station: St, room: ShelfRoom) -> Self
+        requires own { IsOf C.tells C.state O.offers store.now pass }
+        requires rest { IsResting pass }
+        requires cells { KeepsCells C.tells C.state O.offers store.now pass }
+        requires room { IsRoomFor (basis C.tells C.state O.offers store.now).slot room }
+        ensures { (result.store ≡ store.now) × (result.pass ≡ pass) × (result.station ≡ station) }
+    {
+        let ShelfRoom { tabs, piece } = room;
+        WorkerShelf {
             store,
             pass,
             station,
             tabs,
             piece,
-        })
+        }
     }
 
     /// Gives the pass and the station back, once all tabs were left. The store may be closed with the pass.
@@ -97,31 +105,41 @@ impl<'a, C: Cell, O: Origin, St: Station<C = C>> WorkerShelf<'a, C, O, St> {
     }
 }
 
-/// What a shelf keeps beside its pass and its station.
-struct Room {
+/// The room that a shelf needs beside its pass and its station: for what is kept of the script's tabs, and for what a slot
+/// may add to a body.
+#[derive(Drop)]
+pub struct ShelfRoom {
     tabs: Vec<ScriptTab>,
     piece: Vec<u8>,
 }
 
-// Free tabs of the script, and room for what a slot of this size may add to a body.
-fn make_room(alloc: Global, slot: u32) -> Result<Room, Memory>
-    ensures tabs { IfOk result (λ room. room.tabs.items ≡ replicate whole_tab Unused) }
-    ensures piece { IfOk result (λ room. slot ≤ vec_len room.piece + HEADER_SIZE) }
-{
-    let tabs = Vec::from_array(
-        alloc,
-        [
-            ScriptTab::Free,
-            ScriptTab::Free,
-            ScriptTab::Free,
-            ScriptTab::Free,
-            ScriptTab::Free,
-            ScriptTab::Free,
-            ScriptTab::Free,
-        ],
-    )?;
-    let piece = vec![in alloc; 0; (slot as usize).saturating_sub(HEADER_SIZE)]?;
-    Ok(Room { tabs, piece })
+impl ShelfRoom {
+    ghost use Rattle.std.specs.Prelude.{IfOk};
+    ghost use Rattle.worker_shelf.specs.Shelves.{IsRoomFor};
+
+    /// Room for a shelf of a store whose slots have so many bytes.
+    ///
+    /// # Errors
+    ///
+    /// Want of memory.
+    pub fn new(alloc: Global, slot: u32) -> Result<Self, Memory>
+        ensures { IfOk result (IsRoomFor slot) }
+    {
+        let tabs = Vec::from_array(
+            alloc,
+            [
+                ScriptTab::Free,
+                ScriptTab::Free,
+                ScriptTab::Free,
+                ScriptTab::Free,
+                ScriptTab::Free,
+                ScriptTab::Free,
+                ScriptTab::Free,
+            ],
+        )?;
+        let piece = vec![in alloc; 0; (slot as usize).saturating_sub(HEADER_SIZE)]?;
+        Ok(ShelfRoom { tabs, piece })
+    }
 }
 
 impl<'a, C: Cell + Send, O: Origin, St: Station<C = C>> Shelf for WorkerShelf<'a, C, O, St> {

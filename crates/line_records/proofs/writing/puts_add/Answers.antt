@@ -6,9 +6,9 @@ use Rattle.line_records.proofs.PutLines.{put_adds, puts_whole, saves_whole}
 use Rattle.line_records.proofs.writing.puts_add.Goals as goal
 
 pub returns-clause-put : goal.returns-clause-put
-returns-clause-put g c s told past served worker number url body p q a before after tracks takes serves fit large =
-    put_adds g.C.Cell.tells g.C.Cell.state g.O.Origin.offers s told past served (line_with worker number (Put url body)) url body false p q a (puts url body) (puts_whole url body) tracks (serves.leaves 7 refl) takes.asks fit large serves.request
+returns-clause-put g c s told past served worker number url body p q a before after tracks takes serves fit =
+    put_adds g.C.Cell.tells g.C.Cell.state g.O.Origin.offers s told past served (line_with worker number (Put url body)) url body false p q a (puts url body) (puts_whole url body) tracks (serves.leaves 7 refl) takes.asks fit serves.request
 
 pub returns-clause-save : goal.returns-clause-save
-returns-clause-save g c s told past served worker number url body p q a before after tracks takes serves fit large =
-    put_adds g.C.Cell.tells g.C.Cell.state g.O.Origin.offers s told past served (line_with worker number (Save url body)) url body true p q a (saves url body) (saves_whole url body) tracks (serves.leaves 7 refl) takes.asks fit large serves.request
+returns-clause-save g c s told past served worker number url body p q a before after tracks takes serves fit =
+    put_adds g.C.Cell.tells g.C.Cell.state g.O.Origin.offers s told past served (line_with worker number (Save url body)) url body true p q a (saves url body) (saves_whole url body) tracks (serves.leaves 7 refl) takes.asks fit serves.request

@@ -1,0 +1,9 @@
+mod Lists
+mod Pieces
+mod Counting
+mod Scripts
+mod Halting
+mod Marks
+mod Faults
+mod Taking
+mod Crews

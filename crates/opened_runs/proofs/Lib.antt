@@ -1,0 +1,5 @@
+mod Begun
+mod AtAnchors
+mod Pasts
+mod OldEntries
+mod Stores
