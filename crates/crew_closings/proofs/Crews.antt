@@ -71,8 +71,8 @@ module _ {C O St : Type 0} (tells : Bool) (state : C → CellState) (offers : O 
     course_of w a h =
         let has = h.has_steps in
         let c = laws.course a.start a.last a.stages h.store h.fresh has.linked has.steps
-            (still_takes tells state offers faults s a.stages a.start a.last has.linked has.steps
-            (λ x among. let o = in_script (w + 1) script a.stages h.each x among in h.takes x.line o.0 o.1)) in
+        (still_takes tells state offers faults s a.stages a.start a.last has.linked has.steps
+        (λ x among. let o = in_script (w + 1) script a.stages h.each x among in h.takes x.line o.0 o.1)) in
         let leaves = laws.leaves a.start a.last a.end a.stages c has.left in
         let begins = subst (λ (v : View (List ℕ)). Begins run v) (sym h.fresh.fresh) (laws.opened (view a.start.pass).pass) in
         let account = laws.ends (view a.last.pass) (view a.end.pass) (lines_in c.course) (laws.grows (view a.start.pass) (view a.last.pass) c.course begins c.is) leaves in (

@@ -72,5 +72,5 @@ module _ {C O St : Type 0} (tells : Bool) (state : C → CellState) (offers : O 
       let t = told x x.line.request (steps x (first x stages)) in
       let all = sym (count_first x stages) ∙ none in
       stays stages x.after last linked.1 (λ y h. steps y (behind x stages y h)) (no_more (fault_of x) (count_by fault_of stages) all)
-          ∙ t.same (no_first (fault_of x) (count_by fault_of stages) all)
-          ∙ ap (λ (z : OnShelf C O St). faults z.station) linked.0
+      ∙ t.same (no_first (fault_of x) (count_by fault_of stages) all)
+      ∙ ap (λ (z : OnShelf C O St). faults z.station) linked.0

@@ -70,6 +70,6 @@ module _ {C O St : Type 0} where
       let t = image (λ x. (x.line, x.answer)) stages k (line, answer) (ap (λ xs. get_elem? xs k) (sym told) ∙ at_answer) in
       let same = some-injective t.item p.item (sym t.at ∙ p.at) in
       sym (ap (λ y. y.1) t.is)
-          ∙ ap Stage.answer same
-          ∙ awaits p.item (there stages k p.item p.at) mark (ap (λ y. y.1.request) p.is ∙ is)
-          ∙ ap (λ n. answer_to_await (take n script) mark) (ap (λ y. y.0) p.is)
+      ∙ ap Stage.answer same
+      ∙ awaits p.item (there stages k p.item p.at) mark (ap (λ y. y.1.request) p.is ∙ is)
+      ∙ ap (λ n. answer_to_await (take n script) mark) (ap (λ y. y.0) p.is)

@@ -65,8 +65,8 @@ pub script_lines : {X H : Type 0} (w : ℕ) (script : List Line) (course : List 
     → map (λ x. (x.place, x.line)) stages ≡ lines_of w script → lines_of_served (lines_in course) ≡ filter (λ l. l.worker == w) script
 script_lines w script course stages told each =
     sym (course_lines course)
-        ∙ ap (map line_told) told
-        ∙ both (λ x. (x.line, x.answer)) line_told stages
-        ∙ sym (both (λ x. (x.place, x.line)) line_at stages)
-        ∙ ap (map line_at) each
-        ∙ own_lines w 0 script
+    ∙ ap (map line_told) told
+    ∙ both (λ x. (x.line, x.answer)) line_told stages
+    ∙ sym (both (λ x. (x.place, x.line)) line_at stages)
+    ∙ ap (map line_at) each
+    ∙ own_lines w 0 script

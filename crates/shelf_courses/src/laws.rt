@@ -21,7 +21,7 @@ pub fn shelves_have_courses<C: Cell, O: Origin, St: Station<C = C>>()
         → (IsTrue told → IsTold (basis C.tells C.state O.offers s) told past C.tells)
         → start.store ≡ s → IsNewOf C.tells C.state O.offers s start.pass → Linked start stages end
         → ((x : Stage (OnShelf C O St)) → Contains stages x → IsStep C.tells C.state O.offers St.faults x
-            × (IsServed x.line.request → Takes C.tells C.state O.offers s x.before.pass x.line))
+        × (IsServed x.line.request → Takes C.tells C.state O.offers s x.before.pass x.line))
         → HasCourse C.tells C.state O.offers s told past start end stages }
     ensures leaves { (s : Store C O) (told : Bool) (past : Past) (start end last : OnShelf C O St) (stages : List (Stage (OnShelf C O St)))
         → (h : HasCourse C.tells C.state O.offers s told past start end stages) → Left C.tells C.state O.offers end last
