@@ -6,8 +6,6 @@ use Rattle.rock_disk.specs.Cell.{CellState}
 use Rattle.store_key.specs.Anchor.{back_half, front_half}
 use Rattle.store_key.specs.Key.{key_of}
 use Rattle.store_key.specs.Url.{IsUrl}
-use Rattle.entry_cut.specs.Content.{LeavesRoom}
-use Rattle.rebuild_model.specs.Entry.{Entry, IsComplete}
 use Rattle.core_model.specs.Anchors.{opening_counter}
 use Rattle.core_model.specs.Layout.{word_in}
 use Rattle.core_model.specs.declared.moves.Side.{Side}

@@ -27,7 +27,7 @@ some_bytes : (xs : List ℕ) → xs ≢ [] → length xs ≢ 0
 some_bytes [] some e = some refl
 some_bytes (x ∷ xs) some e = omega arith
 
-is_large : (fault : WriteFault) → answer_to_fault fault ≡ answer.Large → fault ≡ Large
+is_large : (cause : WriteFault) → answer_to_fault cause ≡ answer.Large → cause ≡ Large
 is_large Large is = refl
 is_large Full is = cc
 is_large Fault is = cc
@@ -43,19 +43,19 @@ module _ {C O : Type 0} (tells : Bool) (state : C → CellState) (offers : O →
   abbrev g : Ground (List ℕ)
   g = basis tells state offers s
 
-  appended_large : (e : Entry) (bytes : List ℕ) (p q : Pass C) (fault : WriteFault) → NotAppended tells state offers s t e bytes p q fault → fault ≡ Large → NeedsTooMany g (url_in g e) (body_in g e)
-  appended_large e bytes p q fault k is = at_limit g e (k.limit.0 is) k.full (more_there (body_in g e) bytes e.taken k.continues (some_bytes bytes k.some))
+  appended_large : (e : Entry) (bytes : List ℕ) (p q : Pass C) (cause : WriteFault) → NotAppended tells state offers s t e bytes p q cause → cause ≡ Large → NeedsTooMany g (url_in g e) (body_in g e)
+  appended_large e bytes p q cause k is = at_limit g e (k.limit.0 is) k.full (more_there (body_in g e) bytes e.taken k.continues (some_bytes bytes k.some))
 
-  added_large : (e : Entry) (p q : Pass C) (fault : WriteFault) → NotAdded tells state offers s t e p q fault → fault ≡ Large → NeedsTooMany g (url_in g e) (body_in g e)
-  added_large e p q fault k is = appended_large (taken_on e k.total) k.bytes k.middle q fault k.stopped is
+  added_large : (e : Entry) (p q : Pass C) (cause : WriteFault) → NotAdded tells state offers s t e p q cause → cause ≡ Large → NeedsTooMany g (url_in g e) (body_in g e)
+  added_large e p q cause k is = appended_large (taken_on e k.total) k.bytes k.middle q cause k.stopped is
 
   -- where bytes of the body were to be added, and where it was to be written to its end
-  pub not_added_large : (e : Entry) (p q : Pass C) (fault : WriteFault) → NotAdded tells state offers s t e p q fault → answer_to_fault fault ≡ answer.Large → NeedsTooMany g (url_in g e) (body_in g e)
-  not_added_large e p q fault k is = added_large e p q fault k (is_large fault is)
+  pub not_added_large : (e : Entry) (p q : Pass C) (cause : WriteFault) → NotAdded tells state offers s t e p q cause → answer_to_fault cause ≡ answer.Large → NeedsTooMany g (url_in g e) (body_in g e)
+  not_added_large e p q cause k is = added_large e p q cause k (is_large cause is)
 
-  pub not_ended_large : (e : Entry) (p q : Pass C) (fault : WriteFault) → NotEnded tells state offers s t e p q fault → answer_to_fault fault ≡ answer.Large → NeedsTooMany g (url_in g e) (body_in g e)
-  not_ended_large e p q fault (inl k) is = added_large e p q fault k (is_large fault is)
-  not_ended_large e p q fault (inr k) is = absurd (not_last fault (is_large fault is) k.stopped.stopped)
+  pub not_ended_large : (e : Entry) (p q : Pass C) (cause : WriteFault) → NotEnded tells state offers s t e p q cause → answer_to_fault cause ≡ answer.Large → NeedsTooMany g (url_in g e) (body_in g e)
+  not_ended_large e p q cause (inl k) is = added_large e p q cause k (is_large cause is)
+  not_ended_large e p q cause (inr k) is = absurd (not_last cause (is_large cause is) k.stopped.stopped)
     where
       not_last : (f : WriteFault) → f ≡ Large → NotWrittenLast g t k.middle.hand e.is_durable (view k.middle) f k.stopped.middle q.hand → ⊥
       not_last Large same h = h

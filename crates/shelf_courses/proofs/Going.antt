@@ -1,9 +1,7 @@
 -- Lines that follow one another, and the course that they make.
-use Rattle.std.proofs.Common.{Bool, Contains, IsTrue, List, [], map, refl, subst, sym, ◌++◌, ◌∷◌, ◌≡◌, ◌∙◌, ap, arith, length, ℕ}
+use Rattle.std.proofs.Common.{Bool, Contains, IsTrue, List, [], map, refl, subst, sym, ◌++◌, ◌∷◌, ◌≡◌, ◌∙◌, ap, arith, ℕ}
 use Rattle.std.proofs.lemmas.List.Elements.{Contains-append_right}
 use Rattle.rock_disk.specs.Cell.{CellState}
-use Rattle.script_text.specs.declared.answer.Answer.{Answer}
-use Rattle.script_text.specs.declared.line.Line.{Line}
 use Rattle.line_account.specs.Courses.{Course, Stage as Told, lines_in}
 use Rattle.store_rule.specs.declared.store.Store.{Store}
 use Rattle.store_rule.specs.Ground.{Offers}

@@ -1,5 +1,5 @@
 -- A line that a worker served on a shelf adds to its account what it should.
-use Rattle.std.proofs.Common.{Bool, IsTrue, List, ap, inl, inr, refl, subst, sym, ◌≡◌, ◌∙◌, ◌⊎◌, ℕ}
+use Rattle.std.proofs.Common.{Bool, IsTrue, List, ap, inl, inr, subst, sym, ◌≡◌, ◌∙◌, ◌⊎◌, ℕ}
 use Rattle.rock_disk.specs.Cell.{CellState}
 use Rattle.script_text.specs.declared.answer.Answer.{Answer}
 use Rattle.script_text.specs.declared.answer.Answer.TheVariants as answer
@@ -13,10 +13,10 @@ use Rattle.store_rule.specs.declared.store.Pass.{Pass}
 use Rattle.store_rule.specs.declared.store.Store.{Store}
 use Rattle.store_rule.specs.Ground.{Offers}
 use Rattle.store_rule.specs.Notes.{learning, noting}
-use Rattle.store_rule.specs.Passes.{IsOf, Keeps, basis, note_seen, view}
+use Rattle.store_rule.specs.Passes.{Keeps, basis, note_seen, view}
 use Rattle.worker_pool.specs.Courses.{IsServed, Stage}
 use Rattle.serve_lines.specs.Serving.{Serves, Takes}
-use Rattle.worker_shelf.specs.Shelves.{Learned, Noted, OnShelf, Went}
+use Rattle.worker_shelf.specs.Shelves.{Noted, OnShelf, Went}
 use Rattle.worker_shelf.specs.Typed.{IsTyped}
 use Rattle.line_records.specs.Lines.{AddsLine, line_with}
 use Rattle.line_records.specs.Runs.{IsTold, Past}

@@ -1,7 +1,6 @@
-use Rattle.std.proofs.Common.{subst, ◌≡◌}
-use Rattle.line_account.specs.Courses.{Leaves, lines_in}
+use Rattle.std.proofs.Common.{subst}
+use Rattle.line_account.specs.Courses.{lines_in}
 use Rattle.store_rule.specs.declared.store.Store.{Store}
-use Rattle.store_rule.specs.Passes.{basis, view}
 use Rattle.serve_lines.specs.Whole.{whole_tab}
 use Rattle.worker_shelf.specs.Shelves.{LeftBelow}
 use Rattle.shelf_courses.proofs.Going.{from_start}
