@@ -1,7 +1,7 @@
 -- A shelf's pass after a note was made or learned, and what a shelf is to its callers.
 use Rattle.std.proofs.Common.{Bool, Contains, List, [], ap, arith, inl, inr, refl, subst, sym, ◌<◌, ◌∷◌, ◌≡◌, ◌∙◌, ◌⊎◌, false, true, ℕ}
 use Rattle.std.specs.Global.{Vec}
-use Rattle.std.specs.Prelude.{drop, length, take, vec_capacity, vec_len, ◌++◌, ◌+◌, ◌≤◌, ◌≢◌}
+use Rattle.std.specs.Prelude.{drop, length, take, vec_capacity, vec_len, ◌++◌, ◌≤◌, ◌≢◌}
 use Rattle.std.proofs.Math.Dec.{eqb}
 use Rattle.std.proofs.Math.Seq.{take-append_seam}
 use Rattle.std.proofs.lemmas.Bool.Decides.{eqb_tells}

@@ -30,11 +30,6 @@ pub record OnShelf (C O St : Type 0) : Type 0 where
   pub pass : Pass C
   pub station : St
 
--- what a shelf tells others: what a pass of this store had seen
-pub record OfShelf (C O : Type 0) : Type 0 where
-  pub store : Store C O
-  pub note : Note C
-
 -- room for a shelf of a store with slots of this size: nothing is kept of any tab, and what a slot may add to a body fits
 pub record IsRoomFor (slot : ℕ) (room : ShelfRoom) : Type 0 where
   pub tabs : room.tabs.items ≡ replicate whole_tab Free

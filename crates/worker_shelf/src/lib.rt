@@ -3,9 +3,7 @@
 #![tactic(auto)]
 
 mod leaving;
-mod noting;
 mod serving;
 mod shelf;
 
-pub use noting::ShelfNote;
 pub use shelf::{ShelfRoom, WorkerShelf};

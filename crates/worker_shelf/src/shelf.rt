@@ -2,7 +2,6 @@
 ghost use Rattle.std.specs.Prelude.{IfOk, ◌≡◌};
 
 use crate::leaving::leave_tabs;
-use crate::noting::ShelfNote;
 use crate::serving::{serve_line, with_types};
 use rock_disk::{Cell, Station};
 use rock_io::Memory;
@@ -11,8 +10,9 @@ use serve_lines::{ScriptTab, requests_keep_other_tabs};
 use slot_cell::HEADER_SIZE;
 use std::alloc::Global;
 use std::marker::Model;
+use std::snapshot::Snapshot;
 use std::sync::Wait;
-use store_rule::{Origin, Pass, Store};
+use store_rule::{Note, Origin, Pass, Store};
 
 /// What one worker serves its lines on: its pass of the store, its station, and what is kept of the script's tabs.
 /// Whole requests use tab 7, those of a script tabs 0 to 6. The offer of a line is its number, behind the slots. A shelf
@@ -144,13 +144,15 @@ impl ShelfRoom {
 
 impl<'a, C: Cell + Send, O: Origin, St: Station<C = C>> Shelf for WorkerShelf<'a, C, O, St> {
     ghost use Rattle.std.specs.Prelude.{◌≡◌, Contains, ℕ};
+    ghost use Rattle.atomic_table.specs.Seated.{TableId};
     ghost use Rattle.core_model.specs.declared.view.Sight.{Sight};
     ghost use Rattle.store_rule.specs.Passes.{note_seen, view};
     ghost use Rattle.store_rule.specs.declared.store.Store.{Store};
     ghost use Rattle.serve_lines.specs.Serving.{Takes};
     ghost use Rattle.worker_shelf.specs.Shelves.{HasFree, Learned, Left, Noted, Went};
 
-    type N = ShelfNote<C, O>;
+    /// What the pass of a shelf had seen, and the store that it is of. Contracts alone read the store, so it takes no memory.
+    type N = (Note<C>, Snapshot<Store<C, O>>);
 
     ghost takes = { λ shelf line. Takes C.tells C.state O.offers shelf.store shelf.pass line };
 
@@ -160,21 +162,21 @@ impl<'a, C: Cell + Send, O: Origin, St: Station<C = C>> Shelf for WorkerShelf<'a
 
     ghost knows = { λ shelf sight. Contains (view shelf.pass).seen sight };
 
-    ghost note_knows = { λ note sight. Contains (note_seen note.note) sight };
+    ghost note_knows = { λ note sight. Contains (note_seen note.0) sight };
 
-    ghost Home = { Store C O };
+    ghost Home = { Store C O × TableId };
 
-    ghost home = { λ shelf. shelf.store };
+    ghost home = { λ shelf. (shelf.store, shelf.store.table.shared.table_id) };
 
-    ghost note_home = { λ note. note.store };
+    ghost note_home = { λ note. (note.1.value, note.0.seat.table_id) };
 
     ghost name = { λ shelf. (view shelf.pass).pass };
 
     ghost is_free = { λ shelf tab. HasFree shelf.pass tab };
 
-    ghost noted = { λ before note after. Noted C.tells C.state O.offers before note.note after };
+    ghost noted = { λ before note after. Noted C.tells C.state O.offers before note.0 after };
 
-    ghost learned = { λ before note after. Learned C.tells C.state O.offers before note.note after };
+    ghost learned = { λ before note after. Learned C.tells C.state O.offers before note.0 after };
 
     ghost left = { λ before after. Left C.tells C.state O.offers before after };
 
@@ -192,15 +194,16 @@ impl<'a, C: Cell + Send, O: Origin, St: Station<C = C>> Shelf for WorkerShelf<'a
         Ok(with_types(answer))
     }
 
-    fn note(&mut self) -> ShelfNote<C, O> {
+    fn note(&mut self) -> (Note<C>, Snapshot<Store<C, O>>) {
         requests_keep_other_tabs::<C, O>();
         let note = self.store.note(&mut self.pass);
-        ShelfNote::of(self.store, note)
+        (note, Snapshot::of(self.store))
     }
 
-    fn learn(&mut self, note: ShelfNote<C, O>) {
+    fn learn(&mut self, note: (Note<C>, Snapshot<Store<C, O>>)) {
         requests_keep_other_tabs::<C, O>();
-        self.store.learn(&mut self.pass, note.into_note());
+        let (note, _store) = note;
+        self.store.learn(&mut self.pass, note);
     }
 
     fn leave_all(&mut self) {

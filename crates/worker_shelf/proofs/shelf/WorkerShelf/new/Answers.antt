@@ -1,4 +1,4 @@
-use Rattle.std.proofs.Common.{subst, sym}
+use Rattle.std.proofs.Common.{subst}
 use Rattle.worker_shelf.specs.Shelves.{IsRoomFor}
 use Rattle.worker_shelf.proofs.shelf.WorkerShelf.new.Goals as goal
 
