@@ -1,0 +1,6 @@
+pub mod Accounts
+pub mod Back
+pub mod Opened
+pub mod Devices
+pub mod Outcomes
+pub mod Fronts

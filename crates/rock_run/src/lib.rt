@@ -1,0 +1,13 @@
+//! A script is run over a file: the file is opened as a store, workers serve the lines of the script on threads, the
+//! store is closed, and its cells are given back.
+#![tactic(auto)]
+
+mod crew;
+mod run;
+mod serving;
+mod stations;
+
+pub use run::run_script;
+
+#[cfg(test)]
+mod tests;
