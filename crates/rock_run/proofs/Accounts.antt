@@ -8,25 +8,23 @@ use Rattle.script_text.specs.declared.line.Line.{Line}
 use Rattle.script_text.specs.declared.request.Request.{Request}
 use Rattle.script_text.specs.declared.request.Request.TheVariants.{Add, Await, Begin, CloseTab, DropTab, End, Get, Mark, More, OpenTab, Purge, Put, Save}
 use Rattle.script_text.specs.declared.shelf.Shelf.{Ghosts}
-use Rattle.core_model.specs.declared.view.Sight.{Sight}
 use Rattle.store_rule.specs.declared.store.Note.{Note}
 use Rattle.store_rule.specs.declared.store.Pass.{Pass}
 use Rattle.store_rule.specs.declared.store.Store.{Store}
 use Rattle.store_rule.specs.Ground.{Offers}
 use Rattle.store_rule.specs.Passes.{IsNewOf, view}
 use Rattle.worker_pool.specs.Courses.{Awaited, IsServed, Meeting, Noting, Stage, Step, StepOf, sets}
-use Rattle.worker_pool.specs.Running.{Account, IsWhole, Meets as MeetsBy}
+use Rattle.worker_pool.specs.Running.{Account, IsWhole}
 use Rattle.serve_lines.specs.Serving.{Takes}
 use Rattle.worker_shelf.specs.Shelves.{Learned, Left, Noted, OnShelf, Went}
 use Rattle.shelf_courses.specs.Courses.{IsStep, Meets, Notes, StepOn}
-use Rattle.crew_closings.specs.Playing.{IsPlayed, TellsAtMarks, answer_to_await}
+use Rattle.crew_closings.specs.Playing.{IsPlayed, answer_to_await}
 
 module _ {C O St N : Type 0} (tells : Bool) (state : C → CellState) (offers : O → Offers) (faults : St → ℕ) (g : Ghosts (OnShelf C O St) N) (note_of : N → Note C)
     (went : (b : OnShelf C O St) (line : Line) (a : Answer) (c : OnShelf C O St) → g.went b line a c → Went tells state offers faults b line a c)
     (noted : (b : OnShelf C O St) (n : N) (c : OnShelf C O St) → g.noted b n c → Noted tells state offers b (note_of n) c)
     (learned : (b : OnShelf C O St) (n : N) (c : OnShelf C O St) → g.learned b n c → Learned tells state offers b (note_of n) c)
-    (left : (b c : OnShelf C O St) → g.left b c → Left tells state offers b c)
-    (fact : Sight → g.Fact) (knows : (b : OnShelf C O St) (x : Sight) → Contains (view b.pass).seen x → g.knows b (fact x)) (known : (b : OnShelf C O St) (x : Sight) → g.knows b (fact x) → Contains (view b.pass).seen x) where
+    (left : (b c : OnShelf C O St) → g.left b c → Left tells state offers b c) where
   notes : (b c : OnShelf C O St) → Noting g b c → Notes tells state offers faults b c
   notes b c h = record { note = note_of h.note; noted = noted b h.note c h.step }
 
@@ -73,6 +71,3 @@ module _ {C O St N : Type 0} (tells : Bool) (state : C → CellState) (offers : 
       awaits = λ x among mark is. answer_is (list_any (sets mark) (take x.place lines)) x.before x.answer x.after
           (subst (λ (r : Request). StepOf g r (take x.place lines) x.line x.before x.answer x.after) is (whole.course.steps x among));
     }
-
-  pub tells_at_marks : (a b : Account (OnShelf C O St)) → MeetsBy g a.stages b.stages → TellsAtMarks a b
-  tells_at_marks a b h m n mark among_a among_b sets_it awaits_it met x seen = known n.after x (h m n mark among_a among_b sets_it awaits_it met (fact x) (knows m.before x seen))

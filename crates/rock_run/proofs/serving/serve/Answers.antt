@@ -10,7 +10,7 @@ use Rattle.store_rule.specs.Passes.{AreNumbered, IsNewOf}
 use Rattle.serve_lines.specs.Serving.{Takes}
 use Rattle.worker_pool.specs.Courses.{At, IsServed}
 use Rattle.rock_run.specs.Crews.{MayRest}
-use Rattle.rock_run.proofs.Accounts.{played, tells_at_marks}
+use Rattle.rock_run.proofs.Accounts.{played}
 use Rattle.rock_run.proofs.Back.{among, at_place, image_at, image_of, numbers, place_at, rest}
 use Rattle.rock_run.proofs.serving.serve.Goals as goal
 
@@ -59,12 +59,12 @@ returns-in-Ok-clause-played g c =
       each = λ w a at.
           let shelf_at = subst (λ l. get_elem? l w ≡ some a.start) h.starts (image_at (λ b. b.start) h.accounts w a (at_place h.accounts w a at)) in
           let pass_at = subst (λ l. get_elem? l w ≡ some a.start.pass) are.passes_are (image_at (λ shelf. shelf.pass) shelves w a.start shelf_at) in
-          played g.C.Cell.tells g.C.Cell.state offers_of g.St.Station.faults _ (λ n. n.0) (λ b line x d went. went) (λ b n d noted. noted) (λ b n d learned. learned) (λ b d left. left) (λ x. x) (λ b x seen. seen) (λ b x known. known) s lines w a (h.each w a at)
+          played g.C.Cell.tells g.C.Cell.state offers_of g.St.Station.faults _ (λ n. n.0) (λ b line x d went. went) (λ b n d noted. noted) (λ b n d learned. learned) (λ b d left. left) s lines w a (h.each w a at)
           (are.stores a.start (among shelves w a.start (place_at shelves w a.start shelf_at)))
           (All-contains (IsNewOf g.C.Cell.tells g.C.Cell.state offers_of s) passes a.start.pass c.requires.new (w, at_length passes w a.start.pass pass_at, at_or passes w a.start.pass a.start.pass pass_at))
           (c.requires.numbered w a.start.pass pass_at)
           (λ line there served. c.script_lines_may_be_asked.ensures.takes s _ _ lines line a.start.pass c.requires.offers c.requires.read.1 there (λ m e. subst IsServed e served) (λ m e. subst IsServed e served));
-      told = λ a b in_a in_b. tells_at_marks g.C.Cell.tells g.C.Cell.state offers_of g.St.Station.faults _ (λ n. n.0) (λ d line x e went. went) (λ d n e noted. noted) (λ d n e learned. learned) (λ d e left. left) (λ x. x) (λ d x seen. seen) (λ d x known. known) a b (h.meets a b in_a in_b);
+      told = λ a b in_a in_b m n mark among_a among_b sets_it awaits_it met x seen. h.meets a b in_a in_b m n mark among_a among_b sets_it awaits_it met x seen;
       passes_are = sym (map-map (λ shelf. shelf.pass) (λ a. a.start) h.accounts) ∙ ap (map (λ shelf. shelf.pass)) h.starts ∙ are.passes_are;
       stations_are = sym (map-map (λ shelf. shelf.station) (λ a. a.start) h.accounts) ∙ ap (map (λ shelf. shelf.station)) h.starts ∙ are.stations_are;
       passes_left_are = sym (map-map (λ shelf. shelf.pass) (λ a. a.end) h.accounts) ∙ ap (map (λ shelf. shelf.pass)) h.ends ∙ sym c.dismiss.ensures.passes;
