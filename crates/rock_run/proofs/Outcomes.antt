@@ -1,5 +1,5 @@
 -- What an outcome tells.
-use Rattle.std.specs.Prelude.{Err, IfErr, IfOk, IsErr, IsErrOf, Ok, OnErr, Result, ◌≡◌}
+use Rattle.std.specs.Prelude.{Err, IfErr, IfOk, IsErrOf, Ok, OnErr, Result, ◌≡◌}
 
 module _ {T E : Type 0} where
   pub ok_not_err : (x : T) (e : E) → IsErrOf {T = T} {E = E} (Ok x) e → ⊥
@@ -16,9 +16,6 @@ module _ {T E : Type 0} where
   pub if_err : (P Q : E → Type 0) (r : Result T E) → ((e : E) → P e → Q e) → IfErr r P → IfErr r Q
   if_err P Q (Ok x) follows h = tt
   if_err P Q (Err e) follows h = follows e h
-
-pub ok_no_err : {T : Type 0} (E : Type 0) (x : T) → IsErr {T = T} {E = E} (Ok x) → ⊥
-ok_no_err E x z = cc
 
 -- an error is the same whatever would have come of it
 pub err_same : {T U E : Type 0} (e f : E) → IsErrOf {T = T} {E = E} (Err e) f → IsErrOf {T = U} {E = E} (Err e) f

@@ -15,10 +15,10 @@ ghost use Rattle.rock_run.specs.Runs.{HasClosed, HasRun, HasServed};
 
 use crate::serving::serve;
 use crate::stations::{end_stations, make_stations};
-use rock_disk::{
-    StationFault, Volume, opened_cells_are_the_files, opened_slots_are_wide_and_few,
+use rock_disk::{StationFault, Volume, opened_cells_are_the_files, opened_slots_are_wide_and_few};
+use rock_open::{
+    OpenStore, OpenStoreFault, close_store, closed_cells_may_be_given_back, open_store,
 };
-use rock_open::{OpenStore, OpenStoreFault, close_store, closed_cells_may_be_given_back, open_store};
 use script_origin::ScriptOrigin;
 use script_text::{Answer, Script};
 use std::alloc::Global;

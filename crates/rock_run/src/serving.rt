@@ -23,11 +23,7 @@ use worker_pool::{OpenGate, Ran, run_workers, scripts_may_be_run};
 /// # Errors
 ///
 /// Want of memory. Lines may have been served.
-pub(crate) fn serve<
-    R: Threads + Wait + Sync,
-    C: Cell + Send,
-    St: Station<C = C> + Send,
->(
+pub(crate) fn serve<R: Threads + Wait + Sync, C: Cell + Send, St: Station<C = C> + Send>(
     rt: &R,
     alloc: Global,
     store: &Store<C, ScriptOrigin>,

@@ -79,7 +79,7 @@ fn printed<R: Threads + Wait + Sync>(
 }
 
 /// A response is stored, and got by another worker, which waits at a mark. A third one does nothing. The file has what was
-/// stored, and a second run finds it.
+/// stored.
 #[test]
 fn workers_share_a_file(rt: HostRuntime) -> Result<(), Fail> {
     let alloc = rt.alloc();
@@ -87,10 +87,16 @@ fn workers_share_a_file(rt: HostRuntime) -> Result<(), Fail> {
     let first = b"1 put http://a/b =hello\n1 mark 0\n2 await 0\n2 get http://a/b\n2 await 5\n";
     let lines = printed(&rt, alloc, &mut volume, "db", (512, 1, 3), first)?;
     let wanted = b"1 1 STORED 1\n1 2 MARKED\n2 3 MET\n2 4 HIT 1 5 68656c6c6f\n2 5 UNMET\n";
-    assert!(&rt; lines.is_ok_and(|lines| lines.as_slice() == wanted));
-    assert!(&rt; volume.cells("db").is_some_and(|cells| cells.len() == 4));
-    let lines = printed(&rt, alloc, &mut volume, "db", (512, 1, 1), b"1 get http://a/b\n")?;
-    assert!(&rt; lines.is_ok_and(|lines| lines.as_slice() == b"1 1 HIT 1 5 68656c6c6f\n"));
+    assert!(&rt; lines.is_ok_and(|lines| lines.as_slice() == wanted.as_slice()));
+    let Some(cells) = volume.cells("db") else {
+        return Err(Fail::from("the file is in the volume"));
+    };
+    assert_eq!(&rt; cells.len(), 4);
+    let Some(cell) = cells.first() else {
+        return Err(Fail::from("the file has slots"));
+    };
+    // The body stands behind 40 bytes of header and 42 of metadata.
+    assert!(&rt; cell.now().get(82..87) == Some(b"hello".as_slice()));
     Ok(())
 }
 
@@ -102,7 +108,7 @@ fn a_fault_of_a_station_is_a_line(rt: HostRuntime) -> Result<(), Fail> {
     let text = b"1 put http://a/b =x\n1 get http://a/b\n1 get http://a/b\n";
     let lines = printed(&rt, alloc, &mut volume, "db", (512, 1, 1), text)?;
     let wanted = b"1 1 STORED 1\n1 2 FAULT 0 -\n1 3 HIT 1 1 78\n";
-    assert!(&rt; lines.is_ok_and(|lines| lines.as_slice() == wanted));
+    assert!(&rt; lines.is_ok_and(|lines| lines.as_slice() == wanted.as_slice()));
     Ok(())
 }
 
@@ -128,11 +134,22 @@ fn refusal<R: Threads + Wait + Sync>(
 fn each_refusal_leaves_the_file_in_the_volume(rt: HostRuntime) -> Result<(), Fail> {
     let alloc = rt.alloc();
     let bad = |field: u8| (Some(OpenStoreFault::BadGeometry { field }), true);
-    let of = |name: &str, bytes: usize, asked: Asked| refusal(&rt, alloc, bytes, &[], &[], name, asked);
+    let of = |name: &str, bytes: usize, asked: Asked| refusal(
+        &rt,
+        alloc,
+        bytes,
+        &[],
+        &[],
+        name,
+        asked,
+    );
     assert_eq!(&rt; of("db", 100, (500, 0, 0))?, bad(1));
     assert_eq!(&rt; of("db", 100, (512, 0, 0))?, bad(3));
     assert_eq!(&rt; of("no", 100, (512, 0, 33))?, bad(3));
-    assert_eq!(&rt; of("no", 100, (512, 0, 1))?, (Some(OpenStoreFault::Missing), true));
+    assert_eq!(&rt;
+        of("no", 100, (512, 0, 1))?,
+        (Some(OpenStoreFault::Missing), true)
+    );
     let small = OpenStoreFault::Small { bytes: 16_484 };
     assert_eq!(&rt; of("db", 100, (512, 0, 1))?, (Some(small), true));
     assert_eq!(&rt; of("db", 2048, (512, 0, 1))?, bad(2));
@@ -144,7 +161,13 @@ fn each_refusal_leaves_the_file_in_the_volume(rt: HostRuntime) -> Result<(), Fai
         let found = refusal(&rt, alloc, 2048, &[call], &[], "db", (512, 1, 2))?;
         assert_eq!(&rt; found, failed);
     }
-    assert_eq!(&rt; refusal(&rt, alloc, 2048, &[4], &[], "db", (512, 1, 2))?, (None, true));
-    assert_eq!(&rt; refusal(&rt, alloc, 2048, &[], &[&[2]], "db", (512, 1, 2))?, failed);
+    assert_eq!(&rt;
+        refusal(&rt, alloc, 2048, &[4], &[], "db", (512, 1, 2))?,
+        (None, true)
+    );
+    assert_eq!(&rt;
+        refusal(&rt, alloc, 2048, &[], &[&[2]], "db", (512, 1, 2))?,
+        failed
+    );
     Ok(())
 }

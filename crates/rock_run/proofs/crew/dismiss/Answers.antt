@@ -1,4 +1,4 @@
-use Rattle.std.proofs.Common.{All, List, ap, arith, length, refl, subst, sym, take, ◌+◌, ◌++◌, ◌<◌, ◌∙◌, ◌∷◌, ◌≡◌, [], ℕ}
+use Rattle.std.proofs.Common.{All, ap, arith, length, subst, sym, take, ◌<◌, ◌∙◌}
 use Rattle.std.proofs.lemmas.List.Elements.{All-push}
 use Rattle.rock_run.specs.Crews.{MayRest}
 use Rattle.rock_run.proofs.Fronts.{image_put, next, taken}

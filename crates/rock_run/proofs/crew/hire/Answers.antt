@@ -1,4 +1,4 @@
-use Rattle.std.proofs.Common.{Contains, List, ap, arith, length, refl, subst, sym, ⊎_elim, ◌+◌, ◌++◌, ◌<◌, ◌∙◌, ◌∷◌, ◌≡◌, [], ℕ}
+use Rattle.std.proofs.Common.{Contains, ap, arith, length, subst, sym, ⊎_elim, ◌<◌, ◌∙◌}
 use Rattle.std.proofs.lemmas.List.Elements.{Contains-push_cases}
 use Rattle.worker_shelf.specs.Shelves.{OnShelf}
 use Rattle.rock_run.proofs.Fronts.{next, put_image, taken}

@@ -1,4 +1,5 @@
 use Rattle.std.proofs.Common.{List, ap, arith, inr, length, map, subst, sym, ◌+◌, ◌++◌, ◌∷◌, ◌≡◌, ◌∙◌, [], ℕ}
+use Rattle.std.proofs.lemmas.Bool.{false≢true}
 use Rattle.std.proofs.lemmas.List.{length-append, length-map}
 use Rattle.std.specs.FinMap.{get, insert}
 use Rattle.std.specs.Prelude.{Some}
@@ -13,7 +14,7 @@ use Rattle.rock_open.specs.Opening.{OpensStore}
 use Rattle.rock_run.specs.Device.{ServingEnds}
 use Rattle.rock_run.proofs.Devices.{all_ended, ends_serving, none_failed, says_serving, unfailed_alone}
 use Rattle.rock_run.proofs.Opened.{as_passes, may_rest, own_all, rest_all, room_all, sized}
-use Rattle.rock_run.proofs.Outcomes.{at_err, err_same, if_err, if_ok, ok_no_err, ok_not_err}
+use Rattle.rock_run.proofs.Outcomes.{at_err, err_same, if_err, if_ok, ok_not_err}
 use Rattle.rock_run.proofs.run.run_script.Goals as goal
 
 pub returns-in-Err-clause-small : goal.returns-in-Err-clause-small
@@ -99,13 +100,13 @@ returns-clause-refused g c =
     let passes = as_passes c.args.workers (λ n. ok_not_err _ _ (c.in-Ok.ensures.bad_passes size n)) in
     let first = (c.in-Ok.ensures.unfailed (ok_not_err _ _)).faults in
     if_err _ _ c.serve_by_stations-served.result (λ fault ends. ends_serving (counts (g.V.Volume.faults c.args.volume.now) (g.V.Volume.made c.args.volume.now) (g.V.Volume.ended c.args.volume.now)) middle (counts (g.V.Volume.faults c.end_stations.new.volume) (g.V.Volume.made c.end_stations.new.volume) (g.V.Volume.ended c.end_stations.new.volume)) (map g.V.St.Station.faults stations.items) c.in-Ok.ensures.one made ended c.args.slot c.args.anchors c.args.workers fault size passes first
-        (subst (λ (n : ℕ). ServingEnds (g.V.Volume.faults c.open_store.new.volume) n fault) (sym (c.end_stations.ensures.faults ∙ c.give_back.ensures.faults)) ends)) c.serve_by_stations-served.ensures.refused
+    (subst (λ (n : ℕ). ServingEnds (g.V.Volume.faults c.open_store.new.volume) n fault) (sym (c.end_stations.ensures.faults ∙ c.give_back.ensures.faults)) ends)) c.serve_by_stations-served.ensures.refused
 
 pub returns-clause-says : goal.returns-clause-says
 returns-clause-says g c t = if_err _ _ c.serve_by_stations-served.result (λ fault ends. says_serving _ _ _ _ _ _ fault ends) c.serve_by_stations-served.ensures.refused
 
 pub returns-clause-bad_anchors : goal.returns-clause-bad_anchors
-returns-clause-bad_anchors g c t slots has not = absurd (ok_no_err _ _ (c.in-Ok.ensures.bad_anchors t slots has not).0)
+returns-clause-bad_anchors g c t slots has not = absurd (false≢true (c.in-Ok.ensures.bad_anchors t slots has not).0)
 
 pub returns-clause-kept : goal.returns-clause-kept
 returns-clause-kept g c = let opened = subst (λ (o : List Line). OpensStore g.V.Volume.tells g.V.C.Cell.tells g.V.C.Cell.state offers_of (g.V.Volume.files c.args.volume.now) (g.V.Volume.files c.open_store.new.volume) c.args.name.now c.args.slot c.args.anchors c.args.workers o c.in-Ok.open.header c.in-Ok.open.store c.in-Ok.open.passes) c.new-origin.ensures c.in-Ok.ensures.opened in at_err c.serve_by_stations-served.result (inr record {
@@ -137,4 +138,4 @@ returns-clause-unfailed g c none =
     let made = c.end_stations.ensures.made ∙ c.give_back.ensures.made ∙ c.serve_by_stations-served.ensures.made ∙ ap (λ (n : ℕ). g.V.Volume.made c.open_store.new.volume + n) (stations.ok.0 ∙ sym (length-map stations.items g.V.St.Station.faults)) in
     let ended = c.end_stations.ensures.ended ∙ ap (λ (xs : List ℕ). xs ++ map g.V.St.Station.faults stations.items) (c.give_back.ensures.ended ∙ c.serve_by_stations-served.ensures.ended) in
     none_failed (counts (g.V.Volume.faults c.args.volume.now) (g.V.Volume.made c.args.volume.now) (g.V.Volume.ended c.args.volume.now)) middle (counts (g.V.Volume.faults c.end_stations.new.volume) (g.V.Volume.made c.end_stations.new.volume) (g.V.Volume.ended c.end_stations.new.volume)) (map g.V.St.Station.faults stations.items) c.in-Ok.ensures.one made ended (c.in-Ok.ensures.unfailed (ok_not_err _ _)).faults
-        (c.end_stations.ensures.faults ∙ c.give_back.ensures.faults ∙ c.serve_by_stations-served.ensures.unfailed none)
+    (c.end_stations.ensures.faults ∙ c.give_back.ensures.faults ∙ c.serve_by_stations-served.ensures.unfailed none)

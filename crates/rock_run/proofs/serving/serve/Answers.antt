@@ -1,4 +1,4 @@
-use Rattle.std.proofs.Common.{All, Contains, List, ap, arith, length, map, refl, rules, subst, sym, ◌+◌, ◌<◌, ◌∙◌, ◌≡◌, ℕ}
+use Rattle.std.proofs.Common.{All, ap, arith, length, map, subst, sym, ◌∙◌, ◌≡◌}
 use Rattle.std.proofs.lemmas.List.{length-map}
 use Rattle.std.proofs.lemmas.List.Elements.{All-contains}
 use Rattle.std.proofs.lemmas.Simd.{map-map}
@@ -8,10 +8,10 @@ use Rattle.core_model.proofs.Lists.{at_length, at_or}
 use Rattle.script_origin.specs.Offered.{offers_of}
 use Rattle.store_rule.specs.Passes.{AreNumbered, IsNewOf}
 use Rattle.serve_lines.specs.Serving.{Takes}
-use Rattle.worker_pool.specs.Courses.{At, IsServed}
+use Rattle.worker_pool.specs.Courses.{IsServed}
 use Rattle.rock_run.specs.Crews.{MayRest}
 use Rattle.rock_run.proofs.Accounts.{played}
-use Rattle.rock_run.proofs.Back.{among, at_place, image_at, image_of, numbers, place_at, rest}
+use Rattle.rock_run.proofs.Back.{among, at_place, image_at, numbers, place_at, rest}
 use Rattle.rock_run.proofs.serving.serve.Goals as goal
 
 pub run_workers-requires-clause-home : goal.run_workers-requires-clause-home

@@ -1,4 +1,4 @@
-use Rattle.std.proofs.Common.{length, drop, map, take, ◌+◌, ◌++◌, ◌≡◌}
+use Rattle.std.proofs.Common.{drop, map, take, ◌++◌, ◌≡◌}
 use Rattle.rock_run.proofs.stations.end_stations.Given as goal
 
 abbrev pub invariant-loop : goal.invariant-loop
