@@ -1,5 +1,5 @@
 -- What run_workers says of its shelves, where these are those of workers of a store, as accounts.
-use Rattle.std.proofs.Common.{Bool, Contains, List, ap, cond, false, inl, inr, refl, subst, true, ◌+◌, ◌≡◌, ◌∙◌, ◌⊎◌, ℕ, take}
+use Rattle.std.proofs.Common.{Bool, Contains, List, cond, false, inl, inr, subst, true, ◌+◌, ◌≡◌, ◌⊎◌, ℕ, take}
 use Rattle.std.specs.List.{list_any}
 use Rattle.rock_disk.specs.Cell.{CellState}
 use Rattle.script_text.specs.declared.answer.Answer.{Answer}
@@ -9,16 +9,15 @@ use Rattle.script_text.specs.declared.request.Request.{Request}
 use Rattle.script_text.specs.declared.request.Request.TheVariants.{Add, Await, Begin, CloseTab, DropTab, End, Get, Mark, More, OpenTab, Purge, Put, Save}
 use Rattle.script_text.specs.declared.shelf.Shelf.{Ghosts}
 use Rattle.store_rule.specs.declared.store.Note.{Note}
-use Rattle.store_rule.specs.declared.store.Pass.{Pass}
 use Rattle.store_rule.specs.declared.store.Store.{Store}
 use Rattle.store_rule.specs.Ground.{Offers}
 use Rattle.store_rule.specs.Passes.{IsNewOf, view}
-use Rattle.worker_pool.specs.Courses.{Awaited, IsServed, Meeting, Noting, Stage, Step, StepOf, sets}
+use Rattle.worker_pool.specs.Courses.{Awaited, IsServed, Meeting, Noting, StepOf, sets}
 use Rattle.worker_pool.specs.Running.{Account, IsWhole}
 use Rattle.serve_lines.specs.Serving.{Takes}
 use Rattle.worker_shelf.specs.Shelves.{Learned, Left, Noted, OnShelf, Went}
-use Rattle.shelf_courses.specs.Courses.{IsStep, Meets, Notes, StepOn}
-use Rattle.crew_closings.specs.Playing.{IsPlayed, answer_to_await}
+use Rattle.shelf_courses.specs.Courses.{Meets, Notes, StepOn}
+use Rattle.crew_closings.specs.Playing.{IsPlayed}
 
 module _ {C O St N : Type 0} (tells : Bool) (state : C → CellState) (offers : O → Offers) (faults : St → ℕ) (g : Ghosts (OnShelf C O St) N) (note_of : N → Note C)
     (went : (b : OnShelf C O St) (line : Line) (a : Answer) (c : OnShelf C O St) → g.went b line a c → Went tells state offers faults b line a c)

@@ -1,5 +1,5 @@
 -- How the counts of a volume stand after an opening and after a run.
-use Rattle.std.proofs.Common.{List, [], ap, append_assoc, arith, inl, inr, length, subst, sym, ◌+◌, ◌++◌, ◌<◌, ◌∙◌, ◌∷◌, ◌≡◌, ◌⊎◌, ℕ, ⊎_elim}
+use Rattle.std.proofs.Common.{List, [], ap, append_assoc, arith, inl, inr, length, subst, sym, ◌+◌, ◌++◌, ◌∙◌, ◌∷◌, ◌≡◌, ℕ, ⊎_elim}
 use Rattle.std.proofs.lemmas.List.{append_cancel_left}
 use Rattle.rock_io.specs.Faults.{Rose}
 use Rattle.db_layout.specs.Layout.{IsSlotSize}

@@ -1,5 +1,5 @@
 -- The first item of what is left of a list is taken.
-use Rattle.std.proofs.Common.{List, ap, length, map, refl, sym, take, drop, ◌+◌, ◌++◌, ◌<◌, ◌∙◌, ◌∷◌, ◌≡◌, [], ℕ}
+use Rattle.std.proofs.Common.{List, ap, length, map, sym, take, drop, ◌+◌, ◌++◌, ◌<◌, ◌∙◌, ◌∷◌, ◌≡◌, [], ℕ}
 use Rattle.std.proofs.lemmas.List.{map-append}
 use Rattle.std.specs.Prelude.{slice_index_or}
 use Rattle.worker_pool.proofs.Places.{first_left, front_more, next_left}

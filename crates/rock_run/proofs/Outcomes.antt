@@ -1,5 +1,5 @@
 -- What an outcome tells.
-use Rattle.std.specs.Prelude.{Err, IfErr, IfOk, IsErrOf, Ok, OnErr, Result, ◌≡◌}
+use Rattle.std.specs.Prelude.{Err, IfErr, IfOk, IsErrOf, Ok, OnErr, Result}
 
 module _ {T E : Type 0} where
   pub ok_not_err : (x : T) (e : E) → IsErrOf {T = T} {E = E} (Ok x) e → ⊥

@@ -2,11 +2,10 @@ use Rattle.std.proofs.Common.{List, ap, arith, inr, length, map, subst, sym, ◌
 use Rattle.std.proofs.lemmas.Bool.{false≢true}
 use Rattle.std.proofs.lemmas.List.{length-append, length-map}
 use Rattle.std.specs.FinMap.{get, insert}
-use Rattle.std.specs.Prelude.{Some}
 use Rattle.rock_disk.specs.File.{bytes_of, rest_cut}
-use Rattle.rock_disk.specs.File.File.{Away, Home}
+use Rattle.rock_disk.specs.File.File.{Home}
 use Rattle.script_origin.specs.Offered.{offers_of}
-use Rattle.store_rule.specs.Passes.{KeepsRoom, basis}
+use Rattle.store_rule.specs.Passes.{KeepsRoom}
 use Rattle.store_rule.specs.Setting.{IsRow}
 use Rattle.script_text.specs.declared.line.Line.{Line}
 use Rattle.rock_open.specs.Device.{counts}
