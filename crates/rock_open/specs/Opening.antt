@@ -93,12 +93,13 @@ pub record IsStoreOver {C O : Type 0} (tells : Bool) (cell : C → CellState) (o
   pub numbered : AreNumbered ps.items
   pub room : KeepsRoom (length cells) ps.items
 
--- The file of this name is out. The store is over cells that are as its slots were, and this is its header area. A volume that tells its files has
--- cells that tell what they hold.
+-- The file of this name is out. The store is over cells that are as its slots were, which suffice for the anchors, and this is its header area. A
+-- volume that tells its files has cells that tell what they hold.
 pub record OpensStore {C O : Type 0} (volume_tells tells : Bool) (cell : C → CellState) (offers : O → Offers) (before after : Files) (name : List ℕ) (slot anchors passes : ℕ) (origin : O) (header : C) (s : Store C O) (ps : Vec (Pass C)) : Type 0 where
   pub bytes : ℕ
   pub cells : List C
   pub shape : HasShape slot bytes (cell header) (map cell cells)
+  pub fit : IsAnchors anchors (length cells)
   pub told : IsTrue volume_tells → IsTrue tells
   pub out : IsTrue volume_tells → IsOpened before after name slot bytes (cell header) (map cell cells)
   pub store : IsStoreOver tells cell offers slot anchors passes origin cells s ps

@@ -53,6 +53,7 @@ returns-in-Ok-store_of-clause-opened g c =
       bytes = c.in-Ok.opened.bytes;
       cells = take c.in-Ok.opened.cells.len (c.kept_of-kept.new.cells ++ drop (length c.kept_of-kept.new.cells) c.in-Ok.opened.cells.items);
       shape = subst (λ z. HasShape c.args.slot c.in-Ok.opened.bytes (g.V.C.Cell.state c.in-Ok.opened.header) z) (sym same) c.in-Ok.ensures.shape;
+      fit = subst (λ n. IsAnchors c.args.anchors n) (sym (ap length whole ∙ long)) (on_ok (IsAnchors c.args.anchors (length c.deref_mut.result.now)) c.kept_of-kept.result c.in-Ok-store_of.ensures.ok c.kept_of-kept.ensures.fit);
       told = λ t. (c.in-Ok.ensures.opened t).0;
       out = λ t. out_still _ _ _ _ _ _ _ _ _ c.kept_of-kept.ensures.files same ((c.in-Ok.ensures.opened t).1);
       store = c.in-Ok-store_of.ensures.made;

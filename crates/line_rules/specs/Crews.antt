@@ -1,0 +1,51 @@
+-- The courses of workers, and where a line stands among those that its worker served.
+use Rattle.std.specs.Prelude.{Contains, List, ◌++◌, ◌∷◌, ◌≡◌, ℕ}
+use mathlib.Core.Option.{some}
+use lib.ListN.{get_elem?}
+use Rattle.script_text.specs.declared.answer.Answer.TheVariants.{Met}
+use Rattle.script_text.specs.declared.request.Request.TheVariants.{Await, Mark}
+use Rattle.core_model.specs.declared.view.View.{View}
+use Rattle.line_account.specs.Answers.{Run}
+use Rattle.line_account.specs.Closing.{Worker}
+use Rattle.line_account.specs.Courses.{Stage}
+use Rattle.line_account.specs.Lines.{Served}
+use Rattle.line_account.specs.Order.{HandsOver}
+use Rattle.line_account.specs.Parts.{IsCourseOf}
+
+-- a worker came to its end along a course
+pub record HasCourse {X : Type 0} (r : Run X) (w : Worker X) : Type 0 where
+  pub start : View X
+  pub stages : List (Stage X)
+  pub is : IsCourseOf r w start stages
+
+-- Each worker did so. Where one met a mark that the same or another worker set, this hands over what its setter knew.
+pub record HaveCourses {X : Type 0} (r : Run X) (crew : List (Worker X)) : Type 0 where
+  pub course : (j : ℕ) (w : Worker X) → get_elem? crew j ≡ some w → HasCourse r w
+  pub meets : (j l : ℕ) (w u : Worker X) (setter : get_elem? crew j ≡ some w) (other : get_elem? crew l ≡ some u) (m n : Stage X) (mark : ℕ)
+      → Contains (course j w setter).stages m → Contains (course l u other).stages n
+      → m.served.line.request ≡ Mark mark → n.served.line.request ≡ Await mark → n.served.answer ≡ Met → HandsOver m n
+
+-- the line is among these, the newest of which stands first, with those before it
+pub record IsAmong (served : List Served) (line : Served) (earlier : List Served) : Type 0 where
+  pub later : List Served
+  pub split : served ≡ later ++ line ∷ earlier
+
+-- Of two lines of a worker, the line t comes behind the other one, s.
+pub record IsBehind (served : List Served) (t : Served) (before : List Served) (s : Served) (earlier : List Served) : Type 0 where
+  pub line : IsAmong served t before
+  pub other : IsAmong before s earlier
+
+-- The line t comes behind one that met a mark, and the line s of the worker that set the mark comes before this was done.
+pub record IsBehindMark (served others : List Served) (t : Served) (before : List Served) (s : Served) (earlier : List Served) : Type 0 where
+  pub line : IsAmong served t before
+  pub mark : ℕ
+  pub met : Served
+  pub between : List Served
+  pub awaits : IsAmong before met between
+  pub asked : met.line.request ≡ Await mark
+  pub meets : met.answer ≡ Met
+  pub setter : Served
+  pub marked : List Served
+  pub sets : IsAmong others setter marked
+  pub set : setter.line.request ≡ Mark mark
+  pub other : IsAmong marked s earlier
