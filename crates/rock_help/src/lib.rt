@@ -10,7 +10,8 @@ use std::alloc::{AllocError, Global};
 const USAGE: &str = "\
 rock create <NAME> <SLOT> <SLOTS>
        rock list <NAME> <SLOT>
-       rock check <NAME> <SLOT> <ANCHORS>";
+       rock check <NAME> <SLOT> <ANCHORS>
+       rock run <NAME> <SLOT> <ANCHORS> <WORKERS>";
 
 /// What stands behind the lists of commands and words.
 const NOTES: &str = "\
@@ -18,16 +19,19 @@ Example:
   rock create cache.db 16384 4096
   rock list cache.db 16384
   rock check cache.db 16384 1024
+  rock run cache.db 16384 1024 1 < script
 
 Output:
   list   ENTRY first-slot version slots body-bytes URL
   check  slots=S kept=K used=U free=F version=G
+  run    worker line answer, for each line of the script
 
-A number is decimal, without a sign or a leading zero. A run that does not end
-well says why in one line on standard error. Exit status:
+A number is decimal, without a sign or a leading zero. A command that does not
+end well says why in one line on standard error. Exit status:
   0 done                    6 the disk failed
-  2 no command line         8 no such file, or a wrong size or number
-  3 out of memory           9 there is a file of that name already
+  2 no command line         7 the script has a bad line
+  3 out of memory           8 no such file, or a wrong size or number
+  4 standard input failed   9 there is a file of that name already
   5 standard output failed";
 
 /// What `rock --help` prints, and what follows a command line that is none: plain text in lines of at most
@@ -43,6 +47,9 @@ fn with_commands<'a>(alloc: Global) -> Result<Command<'a>, AllocError> {
     let check = Command::new(alloc, "check").about(
         "Print one line on what a store keeps of a file",
     );
+    let run = Command::new(alloc, "run").about(
+        "Serve a script from standard input on a file, and print its answers",
+    );
     Command::new(alloc, "rock")
         .about("The store of a caching proxy in one database file")
         .override_usage(USAGE)
@@ -51,7 +58,8 @@ fn with_commands<'a>(alloc: Global) -> Result<Command<'a>, AllocError> {
         .disable_help_subcommand(true)
         .subcommand(create)?
         .subcommand(list)?
-        .subcommand(check)
+        .subcommand(check)?
+        .subcommand(run)
 }
 
 /// The words of the commands, and those that stand alone.
@@ -66,6 +74,10 @@ fn with_words<'a>(alloc: Global, command: Command<'a>) -> Result<Command<'a>, Al
         (
             "ANCHORS",
             "The anchors of a store, from 1 to the slots of the file",
+        ),
+        (
+            "WORKERS",
+            "The workers of the script, each with a thread, from 1 to 32",
         ),
     ];
     let mut command = command;

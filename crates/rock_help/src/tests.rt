@@ -7,17 +7,20 @@ The store of a caching proxy in one database file
 Usage: rock create <NAME> <SLOT> <SLOTS>
        rock list <NAME> <SLOT>
        rock check <NAME> <SLOT> <ANCHORS>
+       rock run <NAME> <SLOT> <ANCHORS> <WORKERS>
 
 Commands:
   create  Make a file of empty slots
   list    Print a line for each complete entry of a file
   check   Print one line on what a store keeps of a file
+  run     Serve a script from standard input on a file, and print its answers
 
 Arguments:
   <NAME>     The file; its name does not begin with -
   <SLOT>     The bytes of a slot: a multiple of 512 from 512 to 32768
   <SLOTS>    The slots of a new file, from 1 to 1048576
   <ANCHORS>  The anchors of a store, from 1 to the slots of the file
+  <WORKERS>  The workers of the script, each with a thread, from 1 to 32
 
 Options:
       --help     Print this text
@@ -27,16 +30,19 @@ Example:
   rock create cache.db 16384 4096
   rock list cache.db 16384
   rock check cache.db 16384 1024
+  rock run cache.db 16384 1024 1 < script
 
 Output:
   list   ENTRY first-slot version slots body-bytes URL
   check  slots=S kept=K used=U free=F version=G
+  run    worker line answer, for each line of the script
 
-A number is decimal, without a sign or a leading zero. A run that does not end
-well says why in one line on standard error. Exit status:
+A number is decimal, without a sign or a leading zero. A command that does not
+end well says why in one line on standard error. Exit status:
   0 done                    6 the disk failed
-  2 no command line         8 no such file, or a wrong size or number
-  3 out of memory           9 there is a file of that name already
+  2 no command line         7 the script has a bad line
+  3 out of memory           8 no such file, or a wrong size or number
+  4 standard input failed   9 there is a file of that name already
   5 standard output failed
 ";
 
