@@ -1,0 +1,5 @@
+pub mod Kept
+pub mod LineFacts
+pub mod Lines
+pub mod Printing
+pub mod Telling

@@ -1,0 +1,7 @@
+pub mod Listing
+pub mod Room
+pub mod Summary
+pub mod Faults
+pub mod Device
+pub mod Report
+pub mod Create

@@ -1,0 +1,181 @@
+// Commands that read a whole file and print what they tell of it.
+ghost use Rattle.std.specs.Prelude.{◌≡◌, ℕ, ◌≤◌, IsTrue, IfOk, IsErrOf, OnOk, OnErr, length, map, vec_capacity, ◌++◌, [], None, ◌↔◌};
+ghost use Rattle.std.specs.FinMap.{get};
+ghost use Rattle.rock_io.specs.Faults.{Rose};
+ghost use Rattle.rock_io.specs.Sink.{TakesPrefix};
+ghost use Rattle.rock_disk.specs.Cell.{CellState};
+ghost use Rattle.rock_disk.specs.File.{IsNotAway, IsKept};
+ghost use Rattle.rock_disk.specs.Opened.{AreSlots, IsSmall};
+ghost use Rattle.db_layout.specs.Layout.{IsSlotSize};
+ghost use Rattle.file_commands.specs.Device.{EndedOne, DeviceKept};
+ghost use Rattle.file_commands.specs.Report.{IsAnchors, Fits, Prints, OfFile, HasSlots, ReportEnds, ReportSays, ReportPrints, PrintEnds, text_of};
+
+use crate::buffer::BUFFER_BYTES;
+use crate::listing::{ListedEntries, listed, print_lines};
+use crate::read::read_file;
+use crate::summary::{print_summary, summed};
+use db_layout::slot_size_ok;
+use rock_disk::{Station, Volume};
+use rock_io::{Failed, Sink};
+use rock_rebuild::{RebuildFault, Tally};
+use rock_status::Status;
+use std::alloc::Global;
+
+/// What a command prints of a file.
+#[derive(Clone, Copy, Debug, PartialEq, Eq)]
+pub enum Report {
+    /// A line for each complete entry, in order of first slot.
+    Listing,
+    /// One line on what a store with so many anchors keeps.
+    Summary { anchors: u32 },
+}
+
+/// What was read of a file for a report.
+#[derive(Debug, Drop)]
+pub enum Reading {
+    Entries(ListedEntries),
+    Sums(Tally),
+}
+
+impl Report {
+    /// Whether it may be made of a file with so many slots.
+    pub fn is_for(self, slots: usize) -> bool
+        ensures { IsTrue result ↔ Fits self slots }
+    {
+        match self {
+            Report::Listing => true,
+            Report::Summary { anchors } => are_anchors(anchors, slots),
+        }
+    }
+
+    /// Reads the slots of a file by a station. The cells are as they were, whatever the answer.
+    pub fn read<St: Station>(
+        self,
+        alloc: Global,
+        station: &mut St,
+        cells: &mut [St::C],
+        slot: u32,
+    ) -> Result<Reading, RebuildFault>
+        requires fits { Fits self (length cells.old) }
+        requires slots { AreSlots slot (map St.C.state cells.old) }
+        ensures prints { IfOk result (λ reading. IsTrue St.C.tells
+            → Prints self slot (map (λ (c : CellState). c.now) (map St.C.state cells.old)) (text_of reading)) }
+        ensures cells { map St.C.state cells.new ≡ map St.C.state cells.old }
+        ensures faults { St.faults station.old ≤ St.faults station.new }
+        ensures failed { IsErrOf result RebuildFault.Failed
+            → Rose (St.faults station.old) (St.faults station.new) }
+        ensures unfailed { (IsErrOf result RebuildFault.Failed → ⊥)
+            → St.faults station.new ≡ St.faults station.old }
+    {
+        match self {
+            Report::Listing => {
+                let entries = listed(alloc, station, cells, slot)?;
+                Ok(Reading::Entries(entries))
+            }
+            Report::Summary { anchors } => {
+                let sums = summed(alloc, station, cells, slot, anchors)?;
+                Ok(Reading::Sums(sums))
+            }
+        }
+    }
+}
+
+/// Whether a file with so many slots may have so many anchors.
+fn are_anchors(anchors: u32, slots: usize) -> bool
+    ensures { IsTrue result ↔ IsAnchors anchors slots }
+{
+    1 <= anchors && anchors as usize <= slots
+}
+
+/// Prints what was read, through an empty buffer.
+fn print_through<K: Sink>(
+    out: &mut K,
+    buffer: &mut Vec<u8>,
+    reading: &Reading,
+) -> Result<(), Failed>
+    requires room { BUFFER_BYTES ≤ vec_capacity buffer.old }
+    requires empty { buffer.old.items ≡ [] }
+    ensures all { OnOk result (IsTrue K.tells
+        → K.taken out.new ≡ K.taken out.old ++ text_of reading.now) }
+    ensures prefix { OnErr result (IsTrue K.tells
+        → TakesPrefix (K.taken out.old) (K.taken out.new) (text_of reading.now)) }
+    ensures faults { K.faults out.old ≤ K.faults out.new }
+    ensures unfailed { OnOk result (K.faults out.new ≡ K.faults out.old) }
+    ensures failed { OnErr result (Rose (K.faults out.old) (K.faults out.new)) }
+{
+    match reading {
+        Reading::Entries(listed) => print_lines(out, buffer, listed.found.as_slice()),
+        Reading::Sums(tally) => print_summary(out, buffer, tally),
+    }
+}
+
+/// Prints what was read, through one buffer. Nothing is printed where there is no memory for it.
+fn print_reading<K: Sink>(alloc: Global, out: &mut K, reading: &Reading) -> Status
+    ensures ends { PrintEnds (K.faults out.old) (K.faults out.new) result }
+    ensures prints { IsTrue K.tells
+        → ReportPrints (λ text. text ≡ text_of reading.now) (K.taken out.old) (K.taken out.new) result }
+    ensures sink_faults { K.faults out.old ≤ K.faults out.new }
+    ensures sink_unfailed { (result ≡ Status.SinkFault → ⊥) → K.faults out.new ≡ K.faults out.old }
+{
+    let Ok(mut buffer) = Vec::with_capacity(alloc, BUFFER_BYTES) else {
+        return Status::Memory;
+    };
+    match print_through(out, &mut buffer, reading) {
+        Ok(()) => Status::Done,
+        Err(_failed) => Status::SinkFault,
+    }
+}
+
+/// Prints a report of a file. Nothing is printed before the whole file was read and given back.
+pub fn print_report<V: Volume, K: Sink>(
+    alloc: Global,
+    volume: &mut V,
+    out: &mut K,
+    name: &str,
+    slot: u32,
+    report: Report,
+) -> Status
+    requires { IsTrue V.tells → IsNotAway (get (V.files volume.old) name.now) }
+
+    // When each status comes.
+    ensures ends { ReportEnds (Fits report) slot (K.faults out.old) (K.faults out.new)
+        (V.faults volume.old) (V.faults volume.new) (V.ended volume.old) (V.ended volume.new) result }
+    ensures says { IsTrue V.tells → ReportSays (Fits report) (V.files volume.old) name.now slot result }
+    ensures refused { (IsSlotSize slot → ⊥) → result ≡ Status.BadGeometry 1 }
+    ensures missing { IsTrue V.tells → IsSlotSize slot → get (V.files volume.old) name.now ≡ None
+        → result ≡ Status.Missing }
+    ensures small { IsTrue V.tells → IsSlotSize slot → (bytes : ℕ)
+        → IsSmall (V.files volume.old) name.now slot bytes → result ≡ Status.Small bytes }
+
+    // What was printed.
+    ensures prints { IsTrue K.tells
+        → ReportPrints (λ text. IsTrue V.tells
+        → OfFile (Prints report slot) (V.files volume.old) name.now slot text)
+        (K.taken out.old) (K.taken out.new) result }
+
+    ensures kept { IsTrue V.tells → IsKept slot name.now (V.files volume.old) (V.files volume.new) }
+    ensures ended { EndedOne (V.made volume.old) (V.made volume.new)
+        (V.ended volume.old) (V.ended volume.new) }
+    ensures faults { V.faults volume.old ≤ V.faults volume.new }
+    ensures sink_faults { K.faults out.old ≤ K.faults out.new }
+
+    // A fault is told as a fault.
+    ensures sink_unfailed { (result ≡ Status.SinkFault → ⊥) → K.faults out.new ≡ K.faults out.old }
+    ensures device_unfailed { (result ≡ Status.DeviceFault → ⊥)
+        → DeviceKept (V.faults volume.old) (V.faults volume.new)
+        (V.ended volume.old) (V.ended volume.new) }
+
+    // Where the report is not for a file with so many slots, no station is made.
+    ensures early { IsTrue V.tells → (slots : ℕ)
+        → HasSlots (V.files volume.old) name.now slot slots → (Fits report slots → ⊥)
+        → (V.made volume.new ≡ V.made volume.old) × (V.ended volume.new ≡ V.ended volume.old)
+        × (result ≡ Status.DeviceFault → Rose (V.faults volume.old) (V.faults volume.new)) }
+{
+    if !slot_size_ok(slot) {
+        return Status::BadGeometry { field: 1 };
+    }
+    match read_file(alloc, volume, name, slot, report) {
+        Ok(reading) => print_reading(alloc, out, &reading),
+        Err(status) => status,
+    }
+}

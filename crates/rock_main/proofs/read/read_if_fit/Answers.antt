@@ -1,6 +1,0 @@
-use Rattle.std.proofs.Common.{refl}
-use Rattle.rock_main.proofs.Telling.{none_ended}
-use Rattle.rock_main.proofs.read.read_if_fit.Goals as goal
-
-pub returns-then-not-is_for-clause-unfailed : goal.returns-then-not-is_for-clause-unfailed
-returns-then-not-is_for-clause-unfailed g c none = none_ended refl refl
