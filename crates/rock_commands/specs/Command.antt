@@ -1,8 +1,8 @@
 -- What a command line asks for.
 use Rattle.std.specs.Prelude.{ℕ, List}
-use Rattle.rock_main.specs.CommandLine.{IsList, IsCheck, IsCreate}
-use Rattle.rock_main.specs.declared.command.Command.{Command}
-use Rattle.rock_main.specs.declared.command.Command.TheVariants as command
+use Rattle.rock_commands.specs.CommandLine.{IsList, IsCheck, IsCreate}
+use Rattle.rock_commands.specs.declared.command.Command.{Command}
+use Rattle.rock_commands.specs.declared.command.Command.TheVariants as command
 
 -- the words are this command
 abbrev pub IsCommand : List (List ℕ) → Command → Type 0

@@ -1,14 +1,22 @@
--- When a report is made.
-use Rattle.std.proofs.Common.{◌≡◌, ◌⊎◌, inl, inr, ℕ, List, length, refl, ap, sym, ◌∙◌, subst, arith, Some, None}
+-- When a report is made, and that no station is ended where none was made.
+use Rattle.std.proofs.Common.{◌≡◌, ◌⊎◌, inl, inr, ℕ, List, [], ◌∷◌, ◌++◌, length, length-append, refl, ap, sym, ◌∙◌, subst, arith, Some, None}
 use Rattle.std.specs.Prelude.{Option}
 use Rattle.rock_disk.specs.File.{File, Files, bytes_of}
 use Rattle.db_layout.specs.Layout.{slots_of}
 use Rattle.rock_disk.specs.Opened.{IsSmall}
 use Rattle.db_layout.specs.Layout.{IsSlotSize}
-use Rattle.rock_main.specs.Device.{DeviceFailed, NoFault}
-use Rattle.rock_main.specs.Report.{HasSlots, IsFit, ReportEnds, ReportSays, MayReport, ReportsOrLacksMemory}
-use Rattle.rock_main.specs.declared.status.Status.{Status}
-use Rattle.rock_main.specs.declared.status.Status.TheVariants.{Done, Usage, Memory, SourceFault, SinkFault, DeviceFault, BadScript, Missing, Small, BadGeometry, Exists}
+use Rattle.file_commands.specs.Device.{DeviceFailed, DeviceKept, NoFault}
+use Rattle.file_commands.specs.Report.{HasSlots, IsFit, ReportEnds, ReportSays, MayReport, ReportsOrLacksMemory}
+use Rattle.rock_status.specs.declared.status.Status.{Status}
+use Rattle.rock_status.specs.declared.status.Status.TheVariants.{Done, Usage, Memory, SourceFault, SinkFault, DeviceFault, BadScript, Missing, Small, BadGeometry, Exists}
+
+-- a list that grew is not as it was
+grew : (before : List ℕ) (count : ℕ) → before ≡ before ++ count ∷ [] → ⊥
+grew before count e = let longer = ap length e ∙ length-append before (count ∷ []) in omega (arith, longer)
+
+-- no station was ended
+pub none_ended : {v v' : ℕ} {e e' : List ℕ} → v' ≡ v → e' ≡ e → DeviceKept v v' e e'
+none_ended {e = e} same ended = record { volume = same; station = λ count is. absurd (grew e count (sym ended ∙ is)) }
 
 lacks_no_file : {f : File} {o : Option File} → o ≡ None → o ≡ Some f → ⊥
 lacks_no_file e k = cc
@@ -21,7 +29,7 @@ not_failed (inl rose) none = none.volume rose
 not_failed (inr ended) none = let count = none.station ended.0 ended.1 in absurd (omega (arith, count, ended.2))
 
 -- a file has one number of slots
-pub one_count : (files : Files) (name : List ℕ) (slot n m : ℕ) → HasSlots files name slot n → HasSlots files name slot m → n ≡ m
+one_count : (files : Files) (name : List ℕ) (slot n m : ℕ) → HasSlots files name slot n → HasSlots files name slot m → n ≡ m
 one_count files name slot n m h k = h.count ∙ ap (λ f. slots_of (length (bytes_of f)) slot) (one_file h.there k.there) ∙ sym k.count
 
 not_short : (files : Files) (name : List ℕ) (slot n bytes : ℕ) → HasSlots files name slot n → IsSmall files name slot bytes → ⊥

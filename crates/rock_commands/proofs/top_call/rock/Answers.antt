@@ -1,22 +1,21 @@
-use Rattle.std.proofs.Common.{◌≡◌, ℕ, IsTrue, None, inr, refl, subst}
+use Rattle.std.proofs.Common.{◌≡◌, IsTrue, None, inr, refl, subst}
 use Rattle.std.specs.FinMap.{get}
 use Rattle.rock_io.specs.Faults.{Rose}
 use Rattle.rock_disk.specs.File.{IsKept, IsThere}
 use Rattle.rock_disk.specs.Opened.{IsSmall}
 use Rattle.db_layout.specs.Layout.{IsSlotSize}
 use Rattle.std.specs.Prelude.{MatchOption}
-use Rattle.rock_main.specs.Command.{IsCommand}
-use Rattle.rock_main.specs.CommandLine.{IsCommandLine}
-use Rattle.rock_main.specs.Create.{IsSlotCount, IsGeometry, CreateEnds, CreateSays, CreateLeaves}
-use Rattle.rock_main.specs.Listing.{Lists}
-use Rattle.rock_main.specs.Summary.{Sums}
-use Rattle.rock_main.specs.Report.{AnyCount, IsAnchors, OfFile, HasSlots, ReportEnds, ReportSays, ReportPrints}
-use Rattle.rock_main.specs.declared.status.Status.TheVariants as status
-use Rattle.rock_main.proofs.CommandFacts.{of_each, of_each_check, of_each_create}
-use Rattle.rock_main.proofs.CreateFacts.{complete_create, home_when_left}
-use Rattle.rock_main.proofs.ReportFacts.{complete, unfit}
-use Rattle.rock_main.proofs.Telling.{none_ended}
-use Rattle.rock_main.proofs.rock.rock.Goals as goal
+use Rattle.rock_commands.specs.Command.{IsCommand}
+use Rattle.rock_commands.specs.CommandLine.{IsCommandLine}
+use Rattle.file_commands.specs.Create.{IsSlotCount, IsGeometry, CreateEnds, CreateSays, CreateLeaves}
+use Rattle.file_commands.specs.Listing.{Lists}
+use Rattle.file_commands.specs.Summary.{Sums}
+use Rattle.file_commands.specs.Report.{AnyCount, IsAnchors, OfFile, HasSlots, ReportEnds, ReportSays, ReportPrints}
+use Rattle.rock_status.specs.declared.status.Status.TheVariants as status
+use Rattle.rock_commands.proofs.CommandFacts.{of_each, of_each_check, of_each_create}
+use Rattle.rock_commands.proofs.CreateFacts.{complete_create, home_when_left}
+use Rattle.rock_commands.proofs.ReportFacts.{complete, none_ended, unfit}
+use Rattle.rock_commands.proofs.top_call.rock.Goals as goal
 
 pub returns-in-List-clause-list_ends : goal.returns-in-List-clause-list_ends
 returns-in-List-clause-list_ends g c name slot asked =

@@ -1,7 +1,7 @@
 // The command line, by the product's own table.
 ghost use Rattle.std.specs.Prelude.{◌≡◌, ◌⊎◌, ℕ, List, ◌^◌, ◌<◌, ◌↔◌, Some, None, IsTrue, IsSome, IfSome, MatchOption, codes, decimal};
-ghost use Rattle.rock_main.specs.CommandLine.{IsName, IsCommandLine};
-ghost use Rattle.rock_main.specs.Command.{IsCommand};
+ghost use Rattle.rock_commands.specs.CommandLine.{IsName, IsCommandLine};
+ghost use Rattle.rock_commands.specs.Command.{IsCommand};
 
 use itoa::Buffer;
 use rock_io::Words;

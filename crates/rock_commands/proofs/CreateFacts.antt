@@ -1,14 +1,14 @@
 -- When a file is made, and that no file is out then.
-use Rattle.std.proofs.Common.{inl, inr, ◌+◌, ◌*◌, ℕ, List, Bool, refl, sym, subst}
+use Rattle.std.proofs.Common.{inl, inr, ℕ, List, Bool, refl, sym, subst}
 use Rattle.std.specs.Prelude.{IsTrue}
 use Rattle.rock_io.specs.Faults.{Rose}
 use Rattle.rock_disk.specs.File.{Files, NoneAway}
 use Rattle.rock_disk.specs.Created.{IsCreated, IsMaybeCreated}
 use Rattle.db_layout.specs.Layout.{file_size}
-use Rattle.rock_main.specs.Create.{CreateEnds, CreateSays, CreateLeaves, MayCreate}
-use Rattle.rock_main.specs.Report.{ReportsOrLacksMemory}
-use Rattle.rock_main.specs.declared.status.Status.{Status}
-use Rattle.rock_main.specs.declared.status.Status.TheVariants.{Done, Usage, Memory, SourceFault, SinkFault, DeviceFault, BadScript, Missing, Small, BadGeometry, Exists}
+use Rattle.file_commands.specs.Create.{CreateEnds, CreateSays, CreateLeaves, MayCreate}
+use Rattle.file_commands.specs.Report.{ReportsOrLacksMemory}
+use Rattle.rock_status.specs.declared.status.Status.{Status}
+use Rattle.rock_status.specs.declared.status.Status.TheVariants.{Done, Usage, Memory, SourceFault, SinkFault, DeviceFault, BadScript, Missing, Small, BadGeometry, Exists}
 
 -- where nothing refuses the command and the volume did not fail, it is done, unless memory ran out
 pub complete_create : (files : Files) (name : List ℕ) (slot slots v v' : ℕ) (status : Status) → CreateEnds slot slots v v' status → CreateSays files name status → MayCreate files name slot slots → (Rose v v' → ⊥)

@@ -2,19 +2,18 @@
 ghost use Rattle.std.specs.Prelude.{◌≡◌, ℕ, List, ◌≤◌, IsTrue, ◌↔◌};
 ghost use Rattle.rock_io.specs.Faults.{Rose};
 ghost use Rattle.rock_disk.specs.File.{NoneAway, IsKept, HaveSameBytes};
-ghost use Rattle.rock_main.specs.CommandLine.{IsList, IsCheck, IsCreate, IsCommandLine};
-ghost use Rattle.rock_main.specs.Create.{CreateEnds, CreateSays, IsCreateRefused, CreateLeaves, MayCreate};
-ghost use Rattle.rock_main.specs.Device.{EndedOne, NoFault, DeviceKept};
-ghost use Rattle.rock_main.specs.Listing.{Lists};
-ghost use Rattle.rock_main.specs.Report.{AnyCount, IsAnchors, OfFile, HasSlots, ReportEnds, ReportSays, IsRefused, MayReport, ReportsOrLacksMemory, ReportPrints};
-ghost use Rattle.rock_main.specs.Summary.{Sums};
+ghost use Rattle.rock_commands.specs.CommandLine.{IsList, IsCheck, IsCreate, IsCommandLine};
+ghost use Rattle.file_commands.specs.Create.{CreateEnds, CreateSays, IsCreateRefused, CreateLeaves, MayCreate};
+ghost use Rattle.file_commands.specs.Device.{EndedOne, NoFault, DeviceKept};
+ghost use Rattle.file_commands.specs.Listing.{Lists};
+ghost use Rattle.file_commands.specs.Report.{AnyCount, IsAnchors, OfFile, HasSlots, ReportEnds, ReportSays, IsRefused, MayReport, ReportsOrLacksMemory, ReportPrints};
+ghost use Rattle.file_commands.specs.Summary.{Sums};
 
 use crate::command::Command;
-use crate::create::create_file;
-use crate::report::{Report, print_report};
-use crate::status::Status;
+use file_commands::{Report, create_file, print_report};
 use rock_disk::{Volume, created_files_are_in, kept_files_have_their_bytes};
 use rock_io::{Sink, Source, Words};
+use rock_status::Status;
 use std::alloc::Global;
 use std::sync::Wait;
 use std::thread::Threads;

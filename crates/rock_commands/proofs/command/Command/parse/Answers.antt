@@ -1,9 +1,9 @@
 use Rattle.std.proofs.Common.{◌≡◌, length, None, Some, sym, ◌∙◌, subst, refl, arith}
 use Rattle.std.specs.Prelude.{Option, MatchOption, string_bytes}
-use Rattle.rock_main.specs.Command.{IsCommand}
-use Rattle.rock_main.specs.CommandLine.{IsName, IsCommandLine}
-use Rattle.rock_main.proofs.CommandFacts.{three_words, four_words, no_numbers, found_equal}
-use Rattle.rock_main.proofs.command.Command.parse.Goals as goal
+use Rattle.rock_commands.specs.Command.{IsCommand}
+use Rattle.rock_commands.specs.CommandLine.{IsName, IsCommandLine}
+use Rattle.rock_commands.proofs.CommandFacts.{three_words, four_words, no_numbers, found_equal}
+use Rattle.rock_commands.proofs.command.Command.parse.Goals as goal
 
 none_is_none : {X : Type 0} {o : Option X} {x : X} → o ≡ None → o ≡ Some x → ⊥
 none_is_none e k = cc

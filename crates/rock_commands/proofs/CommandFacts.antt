@@ -4,7 +4,7 @@ use Rattle.std.specs.Prelude.{decimal}
 use Rattle.std.specs.Str.{bytes_eq}
 use Rattle.std.proofs.lemmas.Slice.Eq.{bytes_eq-Decides}
 use Rattle.std.proofs.lemmas.Fmt.{decimal_injective}
-use Rattle.rock_main.specs.CommandLine.{IsName, IsList, IsCheck, IsCreate, IsCommandLine}
+use Rattle.rock_commands.specs.CommandLine.{IsName, IsList, IsCheck, IsCreate, IsCommandLine}
 
 third : {a b c a' b' c' : List ℕ} → a ∷ b ∷ c ∷ [] ≡ a' ∷ b' ∷ c' ∷ [] → (b ≡ b') × (c ≡ c')
 third e = (cc, cc)

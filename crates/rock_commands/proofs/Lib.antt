@@ -1,0 +1,4 @@
+pub mod Numbers
+pub mod CommandFacts
+pub mod ReportFacts
+pub mod CreateFacts
