@@ -1,7 +1,7 @@
 -- How a command ends the program.
 use Rattle.std.specs.Prelude.{◌≡◌, ℕ}
-use Rattle.rock_main.specs.Status.{code_of}
-use Rattle.rock_main.specs.declared.status.Status.{Status}
+use Rattle.rock_status.specs.Status.{code_of}
+use Rattle.rock_status.specs.declared.status.Status.{Status}
 
 -- the program ended with the code of a status that has these causes
 pub record EndsFor (Causes : Status → Type 0) (code : ℕ) : Type 0 where

@@ -1,11 +1,1 @@
-pub mod CommandLine
-pub mod Command
-pub mod Listing
-pub mod Room
-pub mod Summary
-pub mod Faults
-pub mod Device
-pub mod Status
-pub mod Report
-pub mod Create
 pub mod Ending

@@ -1,27 +1,18 @@
 //! The program `rock`: the store of a caching proxy in one database file.
 //!
-//! The call [`rock::rock`] carries out a command line over any volume, and `main` makes it over the
+//! The call [`rock_commands::rock`] carries out a command line over any volume, and `main` makes it over the
 //! files of the system. A run that does not end well says so in one line on standard error.
 #![tactic(auto)]
 
-mod buffer;
-mod command;
-mod create;
-mod listing;
 mod message;
-mod read;
-mod report;
-mod rock;
 mod run;
-mod status;
-mod summary;
 
 use message::Asked;
 use rock_file::FileVolume;
 use rock_help::help_text;
 use rock_io::{StdSink, StdSource, Words};
+use rock_status::Status;
 use run::{end, run};
-use status::Status;
 use std::alloc::AllocError;
 use std::env;
 use std::io::ErrorKind;

@@ -1,26 +1,6 @@
 // What the program says on standard error of a run that did not end well.
-use crate::status::Status;
+use rock_status::Status;
 use std::alloc::{AllocError, Global};
-use std::fmt;
-
-impl fmt::Display for Status {
-    /// The status's name, and its numbers as `name=value`.
-    fn fmt<W: fmt::Write>(&self, f: &mut fmt::Formatter<W>) -> fmt::Result {
-        match self {
-            Status::Done => f.write_str("Done"),
-            Status::Usage => f.write_str("Usage"),
-            Status::Memory => f.write_str("Memory"),
-            Status::SourceFault => f.write_str("SourceFault"),
-            Status::SinkFault => f.write_str("SinkFault"),
-            Status::DeviceFault => f.write_str("DeviceFault"),
-            Status::BadScript { line, cause } => write!(f, "BadScript line={line} cause={cause}"),
-            Status::Missing => f.write_str("Missing"),
-            Status::Small { bytes } => write!(f, "Small bytes={bytes}"),
-            Status::BadGeometry { field } => write!(f, "BadGeometry field={field}"),
-            Status::Exists => f.write_str("Exists"),
-        }
-    }
-}
 
 /// The words of a command line behind the command's own, or empty ones where they are wanting.
 #[derive(Clone, Copy, Debug)]

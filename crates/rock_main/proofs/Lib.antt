@@ -1,9 +1,0 @@
-pub mod Numbers
-pub mod Kept
-pub mod LineFacts
-pub mod Lines
-pub mod Printing
-pub mod CommandFacts
-pub mod ReportFacts
-pub mod CreateFacts
-pub mod Telling
