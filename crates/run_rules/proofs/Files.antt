@@ -1,0 +1,109 @@
+-- What lines print of the file: the URLs, the bodies and the keys of its entries.
+use Rattle.std.proofs.Common.{IsTrue, List, ap, inl, inr, refl, subst, sym, ⊎_elim, ◌%◌, ◌+◌, ◌<◌, ◌^◌, ◌∙◌, ◌≡◌, ◌≤◌, ℕ}
+use Rattle.std.specs.Prelude.{Some}
+use Rattle.std.proofs.Math.Nat.{mod-lt}
+use Rattle.rebuild_model.specs.Entry.{Entry, IsStored as IsInFile}
+use Rattle.rebuild_model.specs.Rebuilt.{IsWinner}
+use Rattle.store_key.specs.Anchor.{anchor_of, back_half, front_half}
+use Rattle.store_key.specs.Key.{key_of}
+use Rattle.plain_model.specs.Serving.{bytes_of}
+use Rattle.script_text.specs.declared.line.Line.{Line}
+use Rattle.core_model.specs.Anchors.{opening_counter}
+use Rattle.line_account.specs.Answers.{Run, bytes_with}
+use Rattle.line_account.specs.Closing.{BegunIn, LineIn, Worker}
+use Rattle.line_account.specs.Deeds.{Begins, PrintsBegunVersion}
+use Rattle.line_account.specs.Lines.{Served, url_in}
+use Rattle.line_account.specs.Printed.{HadEntry, HasOtherUrl, HitIn, IsBodyAsPrinted, IsBodyOfLine, IsOldBody, IsOldUrl, IsStored, ReadsOf, old_offer}
+use Rattle.line_account.specs.Scripts.{ServesScript}
+use Rattle.line_rules.specs.Rules.{KeepsRules}
+use Rattle.run_rules.specs.Printed.{AreKeysOfWinners, AreResponses, IsOfWinner}
+use Rattle.run_rules.specs.Responses.{HasTwin, IsFrontOf, IsOffered, IsResponse, IsUsed}
+use Rattle.run_rules.proofs.Lists.{not_above}
+use Rattle.run_rules.proofs.Scripts.{offer_of, offered}
+
+-- there is an anchor of each key
+anchor_below : (key : List ℕ) (n : ℕ) → 0 < n → anchor_of key n < n
+anchor_below key n some = mod-lt ((front_half key + back_half key) % 2 ^ 64) some
+
+module _ (r : Run (List ℕ)) (slot anchors : ℕ) (images : List (List ℕ)) where
+  -- the anchor had the file's winner at the opening: its key stood beside it, and the run says of its offer what the file has, where it tells of bytes
+  pub record OldWinner (a : ℕ) : Type 0 where
+    pub entry : Entry
+    pub winner : IsWinner slot images anchors a entry
+    pub keyed : IsOldUrl r a entry.url
+    pub url_is : IsTrue r.tells → r.url (old_offer r a) ≡ entry.url
+    pub body_is : IsTrue r.tells → r.body (old_offer r a) ≡ entry.body
+
+  module _ (script : List Line) (crew : List (Worker (List ℕ))) (rules : KeepsRules r script crew) (serves : ServesScript script crew) (same : r.setting.anchors ≡ anchors) (some : 0 < anchors)
+      (kept : (a : ℕ) → a < anchors → HadEntry r a → OldWinner a) where
+    below : (url : List ℕ) (a : ℕ) → a ≡ anchor_of (key_of url) r.setting.anchors → a < anchors
+    below url a e = subst (λ n. n < anchors) (sym (e ∙ ap (λ n. anchor_of (key_of url) n) same)) (anchor_below (key_of url) anchors some)
+
+    here : (url : List ℕ) → anchor_of (key_of url) r.setting.anchors < anchors
+    here url = below url (anchor_of (key_of url) r.setting.anchors) refl
+
+    pub keys : AreKeysOfWinners r slot anchors images script crew
+    keys a epoch key p low =
+        let at = p.line_of.so.at in
+        let w = kept a (below at.url a at.anchor) (rules.keys.kept a epoch key p low) in
+        record { entry = w.entry; winner = w.winner; key_is = rules.keys.old a epoch key w.entry.url p low w.keyed }
+
+    module _ (tells : IsTrue r.tells) where
+      of_winner : (a : ℕ) (url bytes : List ℕ) → a < anchors → IsOldBody r a url bytes → IsOfWinner r slot anchors images script crew a url bytes
+      of_winner a url bytes small b = let w = kept a small b.there in record {
+        entry = w.entry;
+        winner = w.winner;
+        url_is = sym b.url_is ∙ w.url_is tells;
+        body_is = b.whole ∙ w.body_is tells;
+      }
+
+      in_file : (a : ℕ) (url bytes : List ℕ) → a < anchors → IsOldBody r a url bytes → IsInFile slot images url bytes
+      in_file a url bytes small b = let w = of_winner a url bytes small b in record { entry = w.entry; complete = w.winner.complete; url_is = sym w.url_is; body_is = sym w.body_is }
+
+      in_script : (a x : ℕ) (url bytes : List ℕ) → IsBodyOfLine r crew a x url bytes → IsOffered script url bytes
+      in_script a x url bytes b = subst (λ z. IsOffered script url z) (sym b.whole) (offered script crew (λ earlier s. Begins r.setting.anchors s a x) serves b.begun url b.body b.offers)
+
+      as_printed : (a x : ℕ) (url bytes : List ℕ) → IsBodyAsPrinted r crew a x url bytes → IsOffered script url bytes
+      as_printed a x url bytes b = subst (λ z. IsOffered script url z) (sym b.whole) (offered script crew (λ earlier s. PrintsBegunVersion r.setting.anchors s a x) serves b.begun url b.body b.offers)
+
+      hit_old : (a x : ℕ) (url bytes : List ℕ) → HitIn r crew a x url bytes → x ≤ opening_counter r.setting → IsOfWinner r slot anchors images script crew a url bytes
+      hit_old a x url bytes p low = of_winner a url bytes (below url a p.line_of.so.anchor) ((rules.bodies tells).hit_old a x url bytes p low)
+
+      hit : (a x : ℕ) (url bytes : List ℕ) → HitIn r crew a x url bytes → IsResponse slot images script url bytes
+      hit a x url bytes p = ⊎_elim
+          (λ (low : x ≤ opening_counter r.setting). inl (in_file a url bytes (below url a p.line_of.so.anchor) ((rules.bodies tells).hit_old a x url bytes p low)))
+          (λ (high : opening_counter r.setting < x). inr (as_printed a x url bytes ((rules.bodies tells).hit_new a x url bytes p high)))
+          (not_above x (opening_counter r.setting))
+
+      stored : (url bytes : List ℕ) → IsStored r crew url bytes → IsResponse slot images script url bytes
+      stored url bytes s = ⊎_elim
+          (λ (old : IsOldBody r (anchor_of (key_of url) r.setting.anchors) url bytes). inl (in_file (anchor_of (key_of url) r.setting.anchors) url bytes (here url) old))
+          (λ (new : (x : ℕ) × IsBodyOfLine r crew (anchor_of (key_of url) r.setting.anchors) x url bytes). inr (in_script (anchor_of (key_of url) r.setting.anchors) new.0 url bytes new.1))
+          s.source
+
+      bytes : (first : Served) (url : List ℕ) → (p : LineIn crew (λ earlier s. ReadsOf earlier s first url))
+          → IsFrontOf slot images script p.line_of.line.answer url (bytes_with p.line_of.earlier p.line_of.line)
+      bytes first url p = let f = (rules.bodies tells).bytes first url p in record { body = f.body; response = stored url f.body f.stored; first_ones = f.first_ones; whole = f.whole }
+
+      old_url : (url other : List ℕ) → HadEntry r (anchor_of (key_of url) r.setting.anchors) → r.url (old_offer r (anchor_of (key_of url) r.setting.anchors)) ≡ other → IsUsed slot images script other
+      old_url url other there is = let w = kept (anchor_of (key_of url) r.setting.anchors) (here url) there in inl (w.entry, w.winner.complete, sym (w.url_is tells) ∙ is)
+
+      new_url : (a x : ℕ) (other : List ℕ) → (p : BegunIn r crew a x) → url_in p.line_of.line.line.request ≡ Some other → IsUsed slot images script other
+      new_url a x other p named =
+          let o = offer_of p.line_of.line.line.request other ((rules.versions.printed a x p).0) named in
+          inr (bytes_of o.0, offered script crew (λ earlier s. Begins r.setting.anchors s a x) serves p other o.0 o.1)
+
+      twin : (url : List ℕ) → HasOtherUrl r crew url → HasTwin slot images script url
+      twin url h = record {
+        other = h.other;
+        used = ⊎_elim
+            (λ (old : HadEntry r (anchor_of (key_of url) r.setting.anchors) × (r.url (old_offer r (anchor_of (key_of url) r.setting.anchors)) ≡ h.other)). old_url url h.other old.0 old.1)
+            (λ (new : (x : ℕ) × (p : BegunIn r crew (anchor_of (key_of url) r.setting.anchors) x) × (url_in p.line_of.line.line.request ≡ Some h.other)).
+            new_url (anchor_of (key_of url) r.setting.anchors) new.0 h.other new.1 new.2)
+            h.is.source;
+        same_key = h.is.same_key;
+        differs = h.is.differs;
+      }
+
+      pub responses : AreResponses r slot anchors images script crew
+      responses = record { hit = hit; hit_old = hit_old; bytes = bytes; other = λ url p. twin url (rules.answers.other tells url p) }

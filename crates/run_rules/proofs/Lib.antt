@@ -1,0 +1,5 @@
+mod Lists
+mod Scripts
+mod Files
+mod Crews
+mod Opened

@@ -1,0 +1,164 @@
+-- A run that came to its end is explained.
+use Rattle.std.proofs.Common.{Bool, IsTrue, List, ap, arith, cond, inl, inr, length, map, min, subst, sym, ⊎_elim, ◌+◌, ◌-◌, ◌<◌, ◌^◌, ◌∙◌, ◌≡◌, ◌≤◌, ℕ}
+use Rattle.std.specs.Prelude.{nat_lt}
+use Rattle.std.proofs.lemmas.Bool.{lt-ltb}
+use Rattle.std.proofs.lemmas.List.{length-map}
+use Rattle.rock_disk.specs.Cell.{CellState}
+use Rattle.rock_disk.specs.File.{Files}
+use Rattle.entry_cut.specs.Content.{room_of}
+use Rattle.lock_word.specs.Words.{stage_of}
+use Rattle.rebuild_model.specs.Image.{IsGreatest}
+use Rattle.rebuild_model.specs.Rebuilt.{IsWinner}
+use Rattle.store_key.specs.Anchor.{back_half, front_half}
+use Rattle.script_text.specs.declared.answer.Answer.{Answer}
+use Rattle.script_text.specs.declared.line.Line.{Line}
+use Rattle.core_model.specs.Anchors.{opening_epoch}
+use Rattle.line_account.specs.Answers.{Run}
+use Rattle.line_account.specs.Closing.{Closed as ClosedCrew, Worker}
+use Rattle.line_account.specs.Printed.{HadEntry}
+use Rattle.line_account.specs.Scripts.{ServesScript}
+use Rattle.line_rules.specs.Crews.{HaveCourses}
+use Rattle.line_rules.specs.Rules.{KeepsRules}
+use Rattle.store_rule.specs.Closing.{Closed}
+use Rattle.store_rule.specs.Ground.{Ground}
+use Rattle.store_rule.specs.Passes.{basis, view}
+use Rattle.rock_open.specs.Device.{Counts}
+use Rattle.line_records.specs.Runs.{IsTold, Past, run_of}
+use Rattle.opened_runs.specs.Openings.{HadKept, HadNone, HasPast, OpenedAsKept}
+use Rattle.script_origin.specs.Offered.{offers_of}
+use Rattle.worker_pool.specs.Running.{Account}
+use Rattle.worker_shelf.specs.Shelves.{OnShelf}
+use Rattle.crew_closings.specs.Closings.{HasClosing, crew_of, worker_of}
+use Rattle.crew_closings.specs.Playing.{HasRun as HasPlayed, HasSteps, fault_answers}
+use Rattle.rock_run.specs.Runs.{HasRun}
+use Rattle.run_rules.specs.Openings.{BeganWithFile}
+use Rattle.run_rules.specs.Runs.{IsExplained}
+use Rattle.run_rules.proofs.Crews.{are_counted, have_courses, met, printed}
+use Rattle.run_rules.proofs.Files.{OldWinner, keys, responses}
+use Rattle.run_rules.proofs.Lists.{at_place, both}
+
+-- where a is below b the first of two is taken
+first_taken : (a b : ℕ) (x y : List ℕ) → a < b → cond (nat_lt a b) x y ≡ x
+first_taken a b x y lt = ap (λ (t : Bool). cond t x y) (lt-ltb a b lt)
+
+-- the past of a store has the URL and the body of each entry that a rebuild of its file keeps
+module _ {C : Type 0} (told : Bool) (state : C → CellState) (g : Ground (List ℕ)) (past : Past) (slot anchors : ℕ) (cells : List C) (o : OpenedAsKept told state g slot anchors cells)
+    (winners : IsTrue told → (a : ℕ) (e : Rattle.rebuild_model.specs.Entry.Entry) → IsWinner slot (map (λ c. (state c).now) cells) anchors a e → (past.url e.first ≡ e.url) × (past.body e.first ≡ e.body)) where
+  abbrev run : Run (List ℕ)
+  run = run_of g told past
+
+  images : List (List ℕ)
+  images = o.kept.images
+
+  told_of : (a : ℕ) (h : HadKept g slot anchors o.kept.images a) → IsTrue told → (past.url h.entry.first ≡ h.entry.url) × (past.body h.entry.first ≡ h.entry.body)
+  told_of a h t = winners t a h.entry (subst (λ z. IsWinner slot z anchors a h.entry) (o.kept.told t) h.winner)
+
+  winner_of : (a : ℕ) → HadKept g slot anchors o.kept.images a → OldWinner run slot anchors o.kept.images a
+  winner_of a h = record {
+    entry = h.entry;
+    winner = h.winner;
+    keyed = record { front = h.key0 ∙ ap front_half h.winner.complete.key_of_url; back = h.key1 ∙ ap back_half h.winner.complete.key_of_url };
+    url_is = λ t. ap run.url h.offer ∙ first_taken h.entry.first g.setting.slots (past.url h.entry.first) _ h.below ∙ (told_of a h t).0;
+    body_is = λ t. ap run.body h.offer ∙ first_taken h.entry.first g.setting.slots (past.body h.entry.first) _ h.below ∙ (told_of a h t).1;
+  }
+
+  -- an anchor that had nothing had no entry
+  none_had : (a : ℕ) → HadNone g slot anchors o.kept.images a → HadEntry run a → ⊥
+  none_had a h there = let none : stage_of (opening_epoch g.setting a) ≡ 0 = ap stage_of h.epoch in omega arith
+
+  pub old_winner : (a : ℕ) → a < anchors → HadEntry run a → OldWinner run slot anchors o.kept.images a
+  old_winner a small there = ⊎_elim
+      (λ (h : HadKept g slot anchors o.kept.images a). winner_of a h)
+      (λ (h : HadNone g slot anchors o.kept.images a). absurd (none_had a h there))
+      (o.each a small)
+
+  pub began : BeganWithFile run slot anchors o.kept.images
+  began = record {
+    each = λ a small. ⊎_elim
+        (λ (h : HadKept g slot anchors o.kept.images a). inl record { entry = h.entry; winner = h.winner; epoch = h.epoch })
+        (λ (h : HadNone g slot anchors o.kept.images a). inr record { none = h.none; epoch = h.epoch })
+        (o.each a small);
+    counter = subst (IsGreatest slot o.kept.images) (sym o.counter) o.kept.rebuilt.greatest;
+  }
+
+module _ {C St : Type 0} (volume_tells told : Bool) (state : C → CellState) (faults : St → ℕ) (files left : Files) (name : List ℕ) (slot anchors workers : ℕ) (script : List Line) (answers : List (List (ℕ × Answer)))
+    (before after : Counts) (h : HasRun volume_tells told state files left name slot anchors workers script faults answers before after) where
+  abbrev g : Ground (List ℕ)
+  g = basis told state offers_of h.closed.store
+
+  abbrev accounts : List (Account (OnShelf C (List Line) St))
+  accounts = h.served.played.accounts
+
+  -- as many workers as passes
+  as_many : length accounts ≡ workers
+  as_many =
+      sym (length-map accounts (λ a. a.start.pass)) ∙ ap length h.served.played.passes_are ∙ sym h.closed.passes.ok.0 ∙ h.closed.opened.store.many
+
+  -- the store was closed with the passes of the workers
+  closed_behind : Closed told state g (map (λ (a : Account (OnShelf C (List Line) St)). view a.end.pass) accounts) h.closed.cells
+  closed_behind =
+      subst (λ vs. Closed told state g vs h.closed.cells)
+      (ap (map view) (sym h.served.played.passes_left_are) ∙ both (λ (a : Account (OnShelf C (List Line) St)). a.end.pass) view accounts) h.closed.closed
+
+  pub has_played : HasPlayed told state offers_of faults h.closed.store script accounts h.closed.cells
+  has_played = record {
+    count = as_many ∙ sym h.closed.opened.store.passes_are;
+    each = h.served.played.each;
+    told = h.served.played.told;
+    closed = closed_behind;
+  }
+
+  -- what other laws say, as they are used here
+  pub record Laws : Type 0 where
+    pub past : HasPast told state offers_of slot anchors h.closed.opened.cells h.closed.store
+    pub opening : OpenedAsKept told state g slot anchors h.closed.opened.cells
+    pub closes : (past : Past) → IsTold g told past told → HasClosing {C = C} {O = List Line} {St = St} (run_of g told past) script accounts
+    pub keeps : (r : Run (List ℕ)) (crew : List (Worker (List ℕ))) → ClosedCrew r crew → ServesScript script crew → HaveCourses r crew → KeepsRules r script crew
+    pub counts : (a : Account (OnShelf C (List Line) St)) → HasSteps told state offers_of faults a → min (faults a.start.station + fault_answers a) (2 ^ 64 - 1) ≤ faults a.end.station
+
+  module _ (laws : Laws) where
+    abbrev r : Run (List ℕ)
+    r = run_of g told laws.past.past
+
+    abbrev closing : HasClosing {C = C} {O = List Line} {St = St} r script accounts
+    closing = laws.closes laws.past.past laws.past.told
+
+    abbrev crew : List (Worker (List ℕ))
+    crew = crew_of closing.courses
+
+    rules : KeepsRules r script crew
+    rules = laws.keeps r crew closing.closed closing.serves (have_courses r script accounts closing)
+
+    kept : (a : ℕ) → a < anchors → HadEntry r a → OldWinner r slot anchors laws.opening.kept.images a
+    kept = old_winner told state g laws.past.past slot anchors h.closed.opened.cells laws.opening laws.past.winners
+
+    above_none : 0 < anchors
+    above_none = let from = h.closed.opened.fit.from in omega (arith, from)
+
+    pub explained : IsExplained volume_tells files name slot anchors workers script answers before after
+    explained = record {
+      run = r;
+      crew = crew;
+      images = laws.opening.kept.images;
+      file = λ t. let out = h.closed.opened.out t in record {
+        was = out.was;
+        there = out.found;
+        images_are = laws.opening.kept.told (h.closed.opened.told t) ∙ sym (both state (λ (c : CellState). c.now) h.closed.opened.cells) ∙ ap (map (λ (c : CellState). c.now)) out.cells_are;
+      };
+      tells_are = λ t. h.closed.opened.told t;
+      room_is = ap room_of h.closed.opened.store.slot_is;
+      slots_are = h.closed.opened.store.slots_are ∙ sym laws.opening.kept.many;
+      anchors_are = h.closed.opened.store.anchors_are;
+      began = began told state g laws.past.past slot anchors h.closed.opened.cells laws.opening laws.past.winners;
+      count = length-map closing.courses worker_of ∙ closing.count ∙ as_many;
+      serves = closing.serves;
+      printed = printed r script accounts closing answers h.served.played.answers_are;
+      met = met told state offers_of faults h.closed.store script accounts (λ j a at. h.served.played.each j a (at_place accounts j a at)) answers h.served.played.answers_are;
+      stations = map faults h.stations;
+      ended = h.ended;
+      faults = are_counted told state offers_of faults h.closed.store script accounts (λ j a at. h.served.played.each j a (at_place accounts j a at)) laws.counts
+          answers h.stations h.served.played.answers_are h.served.played.stations_left_are;
+      rules = rules;
+      responses = λ t. responses r slot anchors laws.opening.kept.images script crew rules closing.serves h.closed.opened.store.anchors_are above_none kept (h.closed.opened.told t);
+      keys = keys r slot anchors laws.opening.kept.images script crew rules closing.serves h.closed.opened.store.anchors_are above_none kept;
+    }

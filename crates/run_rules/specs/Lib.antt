@@ -1,0 +1,4 @@
+pub mod Responses
+pub mod Openings
+pub mod Printed
+pub mod Runs

@@ -1,0 +1,45 @@
+-- What lines print of the file and of the script.
+use Rattle.std.specs.Prelude.{List, ◌≡◌, ◌≤◌, ℕ}
+use Rattle.lock_word.specs.Words.{epoch_number, version_of}
+use Rattle.lock_word.specs.declared.epoch.Epoch.{Epoch}
+use Rattle.rebuild_model.specs.Entry.{Entry}
+use Rattle.rebuild_model.specs.Rebuilt.{IsWinner}
+use Rattle.store_key.specs.Key.{key_of}
+use Rattle.script_text.specs.declared.line.Line.{Line}
+use Rattle.core_model.specs.Anchors.{opening_counter}
+use Rattle.line_account.specs.Answers.{Run, bytes_with}
+use Rattle.line_account.specs.Closing.{LineIn, Worker}
+use Rattle.line_account.specs.Lines.{Served}
+use Rattle.line_account.specs.Printed.{HitIn, KeyIn, PrintsOther, ReadsOf}
+use Rattle.run_rules.specs.Responses.{HasTwin, IsFrontOf, IsResponse}
+
+module _ {X : Type 0} (r : Run X) (slot anchors : ℕ) (images : List (List ℕ)) (script : List Line) (crew : List (Worker X)) where
+  -- the winner of an anchor, whose URL and body these are
+  pub record IsOfWinner (a : ℕ) (url body : List ℕ) : Type 0 where
+    pub entry : Entry
+    pub winner : IsWinner slot images anchors a entry
+    pub url_is : url ≡ entry.url
+    pub body_is : body ≡ entry.body
+
+  -- and its key
+  pub record IsKeyOfWinner (a : ℕ) (key : List ℕ) : Type 0 where
+    pub entry : Entry
+    pub winner : IsWinner slot images anchors a entry
+    pub key_is : key ≡ key_of entry.url
+
+  -- Where the volume tells its files.
+  pub record AreResponses : Type 0 where
+    -- the URL and the body of each HIT are a stored response
+    pub hit : (a x : ℕ) (url bytes : List ℕ) → HitIn r crew a x url bytes → IsResponse slot images script url bytes
+    -- and with a version of the opening they are those of the file's winner at the anchor
+    pub hit_old : (a x : ℕ) (url bytes : List ℕ) → HitIn r crew a x url bytes → x ≤ opening_counter r.setting → IsOfWinner a url bytes
+    -- the bytes of each PART, HALTED and FAULT of a `get`, and all that the `more` lines of a tab gave since its `open`, are the first ones of one stored response under the URL, and all
+    -- of it where HIT or END came. A FAULT before a slot was read gives no byte, and nothing is said of it.
+    pub bytes : (first : Served) (url : List ℕ) → (p : LineIn crew (λ earlier s. ReadsOf earlier s first url))
+        → IsFrontOf slot images script p.line_of.line.answer url (bytes_with p.line_of.earlier p.line_of.line)
+    -- OTHERURL comes only where another URL of the file or of the script has the key of the URL
+    pub other : (url : List ℕ) → LineIn crew (λ earlier s. PrintsOther earlier s url) → HasTwin slot images script url
+
+  -- a printed key with a version of the opening is that of the URL of the file's winner at the anchor
+  abbrev pub AreKeysOfWinners : Type 0
+  AreKeysOfWinners = (a : ℕ) (epoch : Epoch) (key : List ℕ) → KeyIn r crew a epoch key → version_of (epoch_number epoch) ≤ opening_counter r.setting → IsKeyOfWinner a key

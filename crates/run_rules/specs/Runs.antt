@@ -1,0 +1,74 @@
+-- What a run over a file prints, by the rules of lines, by its file and by its script.
+use Rattle.std.specs.Prelude.{Bool, IsTrue, List, Some, [], count_by, length, map, min, take, ◌+◌, ◌++◌, ◌-◌, ◌∷◌, ◌^◌, ◌≡◌, ◌≤◌, ℕ}
+use Rattle.std.specs.FinMap.{get}
+use mathlib.Core.Option.{some}
+use lib.ListN.{get_elem?}
+use Rattle.rock_disk.specs.File.{File, Files, bytes_of, slots_cut}
+use Rattle.entry_cut.specs.Content.{room_of}
+use Rattle.script_text.specs.declared.answer.Answer.{Answer}
+use Rattle.script_text.specs.declared.line.Line.{Line}
+use Rattle.script_text.specs.declared.request.Request.TheVariants.{Await}
+use Rattle.line_account.specs.Answers.{Run}
+use Rattle.line_account.specs.Closing.{Worker}
+use Rattle.line_account.specs.Lines.{Served}
+use Rattle.line_account.specs.Scripts.{ServesScript}
+use Rattle.line_rules.specs.Rules.{KeepsRules}
+use Rattle.rock_open.specs.Device.{Counts}
+use Rattle.worker_pool.specs.Courses.{lines_of}
+use Rattle.serve_lines.specs.Answers.{is_fault}
+use Rattle.crew_closings.specs.Playing.{answer_to_await}
+use Rattle.rock_run.specs.Device.{HasEnded}
+use Rattle.run_rules.specs.Openings.{BeganWithFile}
+use Rattle.run_rules.specs.Printed.{AreKeysOfWinners, AreResponses}
+
+-- the file of this name has slots with these images
+pub record HasImages (files : Files) (name : List ℕ) (slot : ℕ) (images : List (List ℕ)) : Type 0 where
+  pub was : File
+  pub there : get files name ≡ Some was
+  pub images_are : images ≡ map (λ c. c.now) (slots_cut slot (bytes_of was))
+
+-- the numbers and the answers of the lines that a worker served, the first one first
+abbrev pub printed_by : List Served → List (ℕ × Answer)
+printed_by [] = []
+printed_by (s ∷ earlier) = printed_by earlier ++ (s.line.number, s.answer) ∷ []
+
+-- how many of these answers are FAULT
+abbrev pub faults_in : List (ℕ × Answer) → ℕ
+faults_in answers = count_by (λ x. is_fault x.1) answers
+
+module _ (script : List Line) (answers : List (List (ℕ × Answer))) where
+  -- Each `await` is answered MET where an earlier line of the script sets its mark, and UNMET elsewhere. The worker numbered j from 0 on has the number j + 1 in the script.
+  abbrev pub AreMet : Type 0
+  AreMet = (j k place mark number : ℕ) (line : Line) (answer : Answer) (mine : List (ℕ × Answer)) → get_elem? answers j ≡ some mine
+      → get_elem? (lines_of (j + 1) script) k ≡ some (place, line) → get_elem? mine k ≡ some (number, answer) → line.request ≡ Await mark → answer ≡ answer_to_await (take place script) mark
+
+-- A worker has at most as many FAULT answers as the count with which its station was ended. A count at its greatest value no longer rises.
+abbrev pub AreCounted : List (List (ℕ × Answer)) → (stations : List ℕ) → Type 0
+AreCounted answers stations = (j count : ℕ) (mine : List (ℕ × Answer)) → get_elem? answers j ≡ some mine → get_elem? stations j ≡ some count → min (faults_in mine) (2 ^ 64 - 1) ≤ count
+
+-- The lines that a run printed are explained by what its workers did, `crew`, in a run of a store that was opened over the file. Where the volume does not tell its files, the images are those of some
+-- file.
+pub record IsExplained (tells : Bool) (files : Files) (name : List ℕ) (slot anchors workers : ℕ) (script : List Line) (answers : List (List (ℕ × Answer))) (before after : Counts) : Type 0 where
+  pub run : Run (List ℕ)
+  pub crew : List (Worker (List ℕ))
+  pub images : List (List ℕ)
+  -- the store was opened over the file
+  pub file : IsTrue tells → HasImages files name slot images
+  pub tells_are : IsTrue tells → IsTrue run.tells
+  pub room_is : run.room ≡ room_of slot
+  pub slots_are : run.setting.slots ≡ length images
+  pub anchors_are : run.setting.anchors ≡ anchors
+  pub began : BeganWithFile run slot anchors images
+  -- there is one answer for each line of the script, workers in order, and the lines of each in order
+  pub count : length crew ≡ workers
+  pub serves : ServesScript script crew
+  pub printed : map (λ w. printed_by w.served) crew ≡ answers
+  pub met : AreMet script answers
+  -- the stations of the workers were ended, in their order, behind that of the rebuild, and each FAULT was counted
+  pub stations : List ℕ
+  pub ended : HasEnded 0 stations before after
+  pub faults : AreCounted answers stations
+  -- the lines keep all rules
+  pub rules : KeepsRules run script crew
+  pub responses : IsTrue tells → AreResponses run slot anchors images script crew
+  pub keys : AreKeysOfWinners run slot anchors images script crew

@@ -1,0 +1,30 @@
+// What a run printed is explained. The function here does nothing: the proof of a function that calls it may use what it
+// ensures.
+ghost use Rattle.std.specs.Prelude.{Bool, List, ◌<◌, ℕ};
+ghost use Rattle.rock_disk.specs.File.{Files};
+ghost use Rattle.script_text.specs.declared.answer.Answer.{Answer};
+ghost use Rattle.script_text.specs.declared.line.Line.{Line};
+ghost use Rattle.rock_open.specs.Device.{Counts};
+ghost use Rattle.rock_run.specs.Runs.{HasRun};
+ghost use Rattle.run_rules.specs.Runs.{IsExplained};
+
+use crew_closings::{crews_are_closed, faults_are_counted};
+use line_rules::closed_crews_keep_the_rules;
+use opened_runs::opened_stores_have_runs;
+use rock_disk::{Cell, Station};
+use rock_io::Octets;
+use script_origin::ScriptOrigin;
+
+/// What `run_script` ensures of a run that came to its end (`HasRun`), in the words of what it prints: there is one answer
+/// for each line of the script, the lines keep all rules, and their URLs, bodies and keys are those of the file and of the
+/// script. The size of a slot has 32 bits.
+pub fn runs_keep_the_rules<C: Cell, St: Station<C = C>>()
+    ensures { (tells : Bool) (files left : Files) (name : List ℕ) (slot anchors workers : ℕ) (script : List Line) (answers : List (List (ℕ × Answer))) (before after : Counts)
+        → slot < 4294967296 → HasRun tells C.tells C.state files left name slot anchors workers script St.faults answers before after
+        → IsExplained tells files name slot anchors workers script answers before after }
+{
+    crews_are_closed::<C, ScriptOrigin, St>();
+    faults_are_counted::<C, ScriptOrigin, St>();
+    opened_stores_have_runs::<C, ScriptOrigin>();
+    closed_crews_keep_the_rules::<Octets>();
+}
