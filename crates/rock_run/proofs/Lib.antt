@@ -4,3 +4,4 @@ pub mod Opened
 pub mod Devices
 pub mod Outcomes
 pub mod Fronts
+pub mod Homes

@@ -17,7 +17,7 @@ use Rattle.rock_open.specs.Opening.{IsPasses}
 use Rattle.rock_run.specs.Crews.{MayRest}
 
 -- whether numbers are in their limits can be told
-at_most : (m n : ℕ) → ((m ≤ n → ⊥) → ⊥) → m ≤ n
+pub at_most : (m n : ℕ) → ((m ≤ n → ⊥) → ⊥) → m ≤ n
 at_most m n h = ⊎_elim (λ (lt : n < m). absurd (h (λ z. absurd (omega (arith, z, lt))))) (λ (le : m ≤ n). le) (cases_lt n m)
 
 same_number : (m n : ℕ) → ((m ≡ n → ⊥) → ⊥) → m ≡ n

@@ -1,13 +1,9 @@
 -- What an outcome tells.
-use Rattle.std.specs.Prelude.{Err, IfErr, IfOk, IsErrOf, Ok, OnErr, Result}
+use Rattle.std.specs.Prelude.{Err, IfErr, IfOk, IsErrOf, Ok, Result}
 
 module _ {T E : Type 0} where
   pub ok_not_err : (x : T) (e : E) → IsErrOf {T = T} {E = E} (Ok x) e → ⊥
   ok_not_err x e z = cc
-
-  pub at_err : {A : Type 0} (r : Result T E) → A → OnErr r A
-  at_err (Ok x) told = tt
-  at_err (Err e) told = told
 
   pub if_ok : (P Q : T → Type 0) (r : Result T E) → ((x : T) → P x → Q x) → IfOk r P → IfOk r Q
   if_ok P Q (Ok x) follows h = follows x h

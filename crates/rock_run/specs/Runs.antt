@@ -1,5 +1,5 @@
 -- A run of a script over a file: what was opened, what the workers did, and what was left.
-use Rattle.std.specs.Prelude.{All, Bool, Contains, IsTrue, List, map, ◌≡◌, ℕ}
+use Rattle.std.specs.Prelude.{All, Bool, Contains, IsTrue, List, map, ◌≡◌, ◌⊎◌, ℕ}
 use Rattle.std.specs.FinMap.{insert}
 use Rattle.std.specs.Global.{Vec}
 use Rattle.rock_disk.specs.Cell.{CellState}
@@ -12,6 +12,8 @@ use Rattle.store_rule.specs.declared.store.Store.{Store}
 use Rattle.store_rule.specs.Closing.{Closed, views_of}
 use Rattle.store_rule.specs.Ground.{Offers}
 use Rattle.store_rule.specs.Passes.{basis}
+use Rattle.rock_open.specs.declared.fault.OpenStoreFault.{OpenStoreFault}
+use Rattle.rock_open.specs.declared.fault.OpenStoreFault.TheVariants.{BadGeometry, Failed, Memory, Missing, Small}
 use Rattle.rock_open.specs.Device.{Counts}
 use Rattle.rock_open.specs.Opening.{OpensStore}
 use Rattle.worker_pool.specs.Courses.{At}
@@ -61,3 +63,11 @@ module _ {C : Type 0} (volume_tells tells : Bool) (state : C → CellState) (bef
     pub stations : List St
     pub served : HasServed tells state offers_of faults closed.store lines closed.passes.items closed.left stations answers
     pub ended : HasEnded 0 (map faults stations) counts_before counts_after
+
+-- What a refusal leaves of the files: they are kept, but at a fault or want of memory the store may have been open, and was closed then.
+abbrev pub RefusalLeaves : (Kept Closed : Type 0) → OpenStoreFault → Type 0
+RefusalLeaves Kept Closed (BadGeometry field) = Kept
+RefusalLeaves Kept Closed Missing = Kept
+RefusalLeaves Kept Closed (Small bytes) = Kept
+RefusalLeaves Kept Closed Failed = Kept ⊎ Closed
+RefusalLeaves Kept Closed Memory = Kept ⊎ Closed

@@ -1,8 +1,8 @@
 // A script is run over a file.
-ghost use Rattle.std.specs.Prelude.{All, IfErr, IfOk, IsErr, IsErrOf, IsTrue, List, None, OnErr, [], map, vec_len, ◌+◌, ◌≡◌, ◌≤◌, ◌⊎◌, ℕ};
+ghost use Rattle.std.specs.Prelude.{All, IfErr, IfOk, IsErr, IsErrOf, IsTrue, List, None, [], map, vec_len, ◌+◌, ◌≡◌, ◌≤◌, ℕ};
 ghost use Rattle.std.specs.FinMap.{get};
 ghost use Rattle.db_layout.specs.Layout.{IsSlotSize};
-ghost use Rattle.rock_disk.specs.File.{IsKept, IsNotAway, IsThere};
+ghost use Rattle.rock_disk.specs.File.{IsKept, IsNotAway, IsThere, NoneAway};
 ghost use Rattle.rock_disk.specs.Opened.{IsSmall};
 ghost use Rattle.script_text.specs.Script.{IsScript};
 ghost use Rattle.store_rule.specs.Passes.{AreNumbered, IsNewOf, basis};
@@ -11,7 +11,7 @@ ghost use Rattle.rock_open.specs.Opening.{FileSays, HasSlots, IsAnchors, IsPasse
 ghost use Rattle.script_origin.specs.Offered.{offers_of};
 ghost use Rattle.rock_run.specs.Crews.{MayRest};
 ghost use Rattle.rock_run.specs.Device.{EachEnded, NoneFailed, RunEnds, ServingEnds};
-ghost use Rattle.rock_run.specs.Runs.{HasClosed, HasRun, HasServed};
+ghost use Rattle.rock_run.specs.Runs.{HasClosed, HasRun, HasServed, RefusalLeaves};
 
 use crate::serving::serve;
 use crate::stations::{end_stations, make_stations};
@@ -131,9 +131,10 @@ where
         (counts (V.faults volume.new) (V.made volume.new) (V.ended volume.new)) }
 
     // What is left of the volume: at each refusal before the store was open the file is as it was, or as opening cuts it, and
-    // else its cells are back as the store left them.
-    ensures kept { OnErr result ((IsTrue V.tells → IsKept slot name.now (V.files volume.old) (V.files volume.new))
-        ⊎ HasClosed V.tells V.C.tells V.C.state (V.files volume.old) (V.files volume.new) name.now slot anchors workers script.now.lines) }
+    // else its cells are back as the store left them. Where a number or the file refuses the run, the store was not open.
+    ensures kept { IfErr result (RefusalLeaves (IsTrue V.tells → IsKept slot name.now (V.files volume.old) (V.files volume.new))
+        (HasClosed V.tells V.C.tells V.C.state (V.files volume.old) (V.files volume.new) name.now slot anchors workers script.now.lines)) }
+    ensures back { IsTrue V.tells → NoneAway (V.files volume.old) → NoneAway (V.files volume.new) }
     ensures ended { EachEnded
         (counts (V.faults volume.old) (V.made volume.old) (V.ended volume.old))
         (counts (V.faults volume.new) (V.made volume.new) (V.ended volume.new)) }

@@ -4,6 +4,7 @@ use Rattle.std.proofs.lemmas.List.{length-append, length-map}
 use Rattle.std.specs.FinMap.{get, insert}
 use Rattle.rock_disk.specs.File.{bytes_of, rest_cut}
 use Rattle.rock_disk.specs.File.File.{Home}
+use Rattle.rock_disk.proofs.Homes.{none_away_kept}
 use Rattle.script_origin.specs.Offered.{offers_of}
 use Rattle.store_rule.specs.Passes.{KeepsRoom}
 use Rattle.store_rule.specs.Setting.{IsRow}
@@ -12,8 +13,9 @@ use Rattle.rock_open.specs.Device.{counts}
 use Rattle.rock_open.specs.Opening.{OpensStore}
 use Rattle.rock_run.specs.Device.{ServingEnds}
 use Rattle.rock_run.proofs.Devices.{all_ended, ends_serving, none_failed, says_serving, unfailed_alone}
+use Rattle.rock_run.proofs.Homes.{home_again, leaves_closed, leaves_kept}
 use Rattle.rock_run.proofs.Opened.{as_passes, may_rest, own_all, rest_all, room_all, sized}
-use Rattle.rock_run.proofs.Outcomes.{at_err, err_same, if_err, if_ok, ok_not_err}
+use Rattle.rock_run.proofs.Outcomes.{err_same, if_err, if_ok, ok_not_err}
 use Rattle.rock_run.proofs.run.run_script.Goals as goal
 
 pub returns-in-Err-clause-small : goal.returns-in-Err-clause-small
@@ -108,19 +110,34 @@ pub returns-clause-bad_anchors : goal.returns-clause-bad_anchors
 returns-clause-bad_anchors g c t slots has not = absurd (false≢true (c.in-Ok.ensures.bad_anchors t slots has not).0)
 
 pub returns-clause-kept : goal.returns-clause-kept
-returns-clause-kept g c = let opened = subst (λ (o : List Line). OpensStore g.V.Volume.tells g.V.C.Cell.tells g.V.C.Cell.state offers_of (g.V.Volume.files c.args.volume.now) (g.V.Volume.files c.open_store.new.volume) c.args.name.now c.args.slot c.args.anchors c.args.workers o c.in-Ok.open.header c.in-Ok.open.store c.in-Ok.open.passes) c.new-origin.ensures c.in-Ok.ensures.opened in at_err c.serve_by_stations-served.result (inr record {
-  store = c.in-Ok.open.store;
-  header = c.in-Ok.open.header;
-  passes = c.in-Ok.open.passes;
-  middle = g.V.Volume.files c.open_store.new.volume;
-  opened = opened;
-  left = c.serve_by_stations-served.new.passes.items;
-  cells = c.close_store.result.items;
-  closed = c.close_store.ensures;
-  back = λ t. c.end_stations.ensures.files
-      ∙ c.give_back.ensures.back _ _ _ t (ap (λ files. get files c.args.name.now) c.serve_by_stations-served.ensures.files ∙ c.opened_cells_are_the_files.ensures.away _ _ _ _ _ _ _ (opened.out t))
-      ∙ ap (λ files. insert files c.args.name.now (Home (g.V.C.Cell.state c.in-Ok.open.header) (map g.V.C.Cell.state c.close_store.result.items) (rest_cut c.args.slot (bytes_of (opened.out t).was)))) c.serve_by_stations-served.ensures.files;
-})
+returns-clause-kept g c = let opened = subst (λ (o : List Line). OpensStore g.V.Volume.tells g.V.C.Cell.tells g.V.C.Cell.state offers_of (g.V.Volume.files c.args.volume.now) (g.V.Volume.files c.open_store.new.volume) c.args.name.now c.args.slot c.args.anchors c.args.workers o c.in-Ok.open.header c.in-Ok.open.store c.in-Ok.open.passes) c.new-origin.ensures c.in-Ok.ensures.opened in
+    if_err _ _ c.serve_by_stations-served.result (λ fault ends. leaves_closed _ _ _ _ fault ends record {
+      store = c.in-Ok.open.store;
+      header = c.in-Ok.open.header;
+      passes = c.in-Ok.open.passes;
+      middle = g.V.Volume.files c.open_store.new.volume;
+      opened = opened;
+      left = c.serve_by_stations-served.new.passes.items;
+      cells = c.close_store.result.items;
+      closed = c.close_store.ensures;
+      back = λ t. c.end_stations.ensures.files
+          ∙ c.give_back.ensures.back _ _ _ t (ap (λ files. get files c.args.name.now) c.serve_by_stations-served.ensures.files ∙ c.opened_cells_are_the_files.ensures.away _ _ _ _ _ _ _ (opened.out t))
+          ∙ ap (λ files. insert files c.args.name.now (Home (g.V.C.Cell.state c.in-Ok.open.header) (map g.V.C.Cell.state c.close_store.result.items) (rest_cut c.args.slot (bytes_of (opened.out t).was)))) c.serve_by_stations-served.ensures.files;
+    }) c.serve_by_stations-served.ensures.refused
+
+pub returns-in-Err-clause-kept : goal.returns-in-Err-clause-kept
+returns-in-Err-clause-kept g c = leaves_kept _ _ c.in-Err.fault c.in-Err.ensures.kept
+
+pub returns-in-Err-clause-back : goal.returns-in-Err-clause-back
+returns-in-Err-clause-back g c t home = none_away_kept c.args.slot c.args.name.now (g.V.Volume.files c.args.volume.now) (g.V.Volume.files c.open_store.new.volume) (c.in-Err.ensures.kept t) home
+
+pub returns-clause-back : goal.returns-clause-back
+returns-clause-back g c t home =
+    let files = g.V.Volume.files c.serve_by_stations-served.new.volume in
+    let out = c.in-Ok.ensures.opened.out t in
+    let away = ap (λ m. get m c.args.name.now) c.serve_by_stations-served.ensures.files ∙ c.opened_cells_are_the_files.ensures.away _ _ _ _ _ _ _ out in
+    home_again (g.V.Volume.files c.args.volume.now) files (g.V.Volume.files c.end_stations.new.volume) c.args.name.now _ _ tt
+    (c.serve_by_stations-served.ensures.files ∙ out.out) (c.end_stations.ensures.files ∙ c.give_back.ensures.back _ _ _ t away) home
 
 pub returns-clause-ended : goal.returns-clause-ended
 returns-clause-ended g c =
