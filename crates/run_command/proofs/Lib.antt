@@ -1,0 +1,4 @@
+pub mod Filed
+pub mod Unread
+pub mod Refused
+pub mod Printed

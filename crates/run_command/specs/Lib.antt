@@ -1,0 +1,5 @@
+pub mod Faults
+pub mod Ends
+pub mod Says
+pub mod Prints
+pub mod Leaves

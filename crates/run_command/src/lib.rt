@@ -1,0 +1,10 @@
+//! The command `run`: a script is read, run over a file, and what its workers were answered is printed.
+#![tactic(auto)]
+
+mod command;
+mod faults;
+
+pub use command::{RunTarget, run_command};
+
+#[cfg(test)]
+mod tests;
