@@ -46,6 +46,47 @@ row() {
 
 disk="could not be read or made; look at its disk and its permissions"
 
+# A run: the status, what is printed, how the first line on standard error begins, the script, and the words.
+run_row() {
+    local status=$1 printed=$2 said=$3 first
+    printf '%s' "$4" >script
+    shift 4
+    "${as[@]}" ./rock run "$@" >printed 2>said <script
+    local ended=$?
+    first=$(head -n 1 said)
+    printf '%s' "$printed" | cmp -s - printed && [ "$ended" -eq "$status" ] &&
+        { [ "$first" = "$said" ] || { [ -n "$said" ] && [[ $first == "$said"* ]]; }; }
+    holds "rock run $*: script '$(head -c 200 script)', status $ended, printed '$(head -c 200 printed)', said '$first'" $?
+}
+
+# The hexadecimal text of so many bytes of a made body, from a place on.
+made() {
+    awk -v from="$1" -v count="$2" 'BEGIN { for (i = from; i < from + count; i++) printf "%02x", 97 + i % 26 }'
+}
+
+# A run over a file that is there, by so many anchors and workers. Each line of standard input is a line of the
+# script, a | and its answer. Behind an @ stand the place and the number of the bytes of a made body.
+served() {
+    local name=$1 slot=$2 anchors=$3 workers=$4 number=0 script='' answers='' line answer place count
+    while IFS='|' read -r line answer; do
+        number=$((number + 1))
+        script+=$line$'\n'
+        if [[ $answer == *@* ]]; then
+            read -r place count <<<"${answer#*@}"
+            answer=${answer%@*}$(made "$place" "$count")
+        fi
+        answers+="${line%% *} $number $answer"$'\n'
+    done
+    # The workers' answers come one worker after the other.
+    answers=$(printf '%s' "$answers" | sort -s -n -k 1,1 && printf .)
+    run_row 0 "${answers%.}" '' "$script" "$name" "$slot" "$anchors" "$workers"
+}
+
+# The same over a new file of so many slots of 512 bytes.
+new_served() {
+    rm -f new && row 0 '' '' create new 512 "$1" && served new 512 "$2" "$3"
+}
+
 # A file is made, read and summed up, and made once.
 row 0 '' '' create db 512 4
 head -c 18432 /dev/zero | cmp -s - db
@@ -77,6 +118,272 @@ row 9 '' 'rock: Exists: there is a file pages already' create pages 512 1
 row 6 '' "rock: DeviceFault: pipe $disk" list pipe 512
 row 6 '' "rock: DeviceFault: none/db $disk" create none/db 512 1
 
+# The example of OPERATING.md as it stands there: each line behind a $ is run, and what it prints compared.
+awk '/^## / { on = $0 == "## An example" } on && /^    / { print substr($0, 5) }' "$root/docs/OPERATING.md" >example
+awk '/^\$/ { on = $0 == "$ cat script"; next } on' example >script
+while IFS= read -r line; do
+    case $line in '$ '*) printf '%s\n' "$line" && (set -e && PATH=$folder:$PATH && eval "${line#'$ '}" </dev/null) ;; esac
+done <example >printed
+[ "$(grep -c '^\$' example)" -eq 5 ] && cmp -s example printed
+holds 'the example of OPERATING.md prints what stands there' $?
+
+# The same run with every byte, and a later run, which finds what the first one left in the file. The slot of what
+# was purged was not written anew.
+new_served 8 8 1 <<'END'
+1 put http://a/b =hello|STORED 1
+1 get http://a/b|HIT 1 5 68656c6c6f
+1 begin 0 http://a/c #1300:0|BEGUN 2
+1 open 1 http://a/c|MISS writing 2.1
+1 add 0 900|ADDED 900
+1 open 1 http://a/c|OPEN 2
+1 more 1|PART 2.2 430 @0 430
+1 end 0|STORED 2
+1 more 1|END 870 @430 870
+1 close 1|CLOSED
+1 purge http://a/b|PURGED 1.3d
+1 get http://a/b|MISS absent 1.6d
+END
+row 0 $'ENTRY 0 1 1 5 http://a/b\nENTRY 1 2 3 1300 http://a/c\n' '' list new 512
+row 0 $'slots=8 kept=2 used=4 free=4 version=2\n' '' check new 512 8
+served new 512 8 1 <<'END'
+1 get http://a/c|HIT 2 1300 @0 1300
+1 get http://a/b|HIT 1 5 68656c6c6f
+1 put http://a/b =again|STORED 3
+END
+row 0 $'ENTRY 0 3 1 5 http://a/b\nENTRY 1 2 3 1300 http://a/c\n' '' list new 512
+run_row 0 '' '' '' new 512 8 1
+row 0 $'slots=8 kept=2 used=4 free=4 version=3\n' '' check new 512 8
+
+# The examples of SCRIPT.md.
+new_served 4 1 1 <<'END'
+1 put http://a/b =hello|STORED 1
+1 get http://a/b|HIT 1 5 68656c6c6f
+END
+new_served 4 1 1 <<'END'
+1 put http://a/b =x|STORED 1
+1 put http://a/c =y|STORED 2
+1 get http://a/b|MISS other 2.3 4877c9348b6d7299e213896f839c80b8
+1 get http://a/c|HIT 2 1 79
+1 purge http://a/b|NONE other 2.3 4877c9348b6d7299e213896f839c80b8
+END
+row 0 $'ENTRY 0 2 1 1 http://a/c\n' '' list new 512
+new_served 4 1 1 <<'END'
+1 put http://a/b =x|STORED 1
+1 open 0 http://a/b|OPEN 1
+1 put http://a/b =y|BUSY 1.3/1 1.3/1
+1 close 0|CLOSED
+1 put http://a/b =y|STORED 2
+END
+new_served 4 1 1 <<'END'
+1 put http://a/b =x|STORED 1
+1 open 0 http://a/b|OPEN 1
+1 purge http://a/b|PURGED 1.3d
+1 get http://a/b|MISS leaving 1.3d
+1 more 0|END 1 78
+1 close 0|CLOSED
+1 get http://a/b|MISS absent 1.6d
+1 purge http://a/b|NONE absent 1.6d
+END
+new_served 8 1 1 <<'END'
+1 begin 0 http://a/b #1300:0|BEGUN 1
+1 open 1 http://a/b|MISS writing 1.1
+1 add 0 900|ADDED 900
+1 open 1 http://a/b|OPEN 1
+1 more 1|PART 1.2 430 @0 430
+1 more 1|PART 1.2 0 -
+1 end 0|STORED 1
+1 more 1|END 870 @430 870
+1 more 1|END 0 -
+1 close 1|CLOSED
+END
+new_served 8 1 1 <<'END'
+1 begin 0 http://a/b #1300:0|BEGUN 1
+1 add 0 900|ADDED 900
+1 open 1 http://a/b|OPEN 1
+1 drop 0|DROPPED
+1 more 1|HALTED 430 @0 430
+1 get http://a/b|MISS leaving 1.4
+1 close 1|CLOSED
+1 get http://a/b|MISS absent 1.6
+END
+
+# The examples of SERVING.md. With two anchors http://a/02 is at the first, and http://a/00 at the second.
+new_served 3 2 1 <<'END'
+1 put http://a/02 #901:0|STORED 1
+1 open 0 http://a/02|OPEN 1
+1 put http://a/00 #901:0|FULL
+1 get http://a/00|MISS absent 2.6
+1 put http://a/00 =x|STORED 3
+1 get http://a/00|HIT 3 1 78
+END
+new_served 2 2 1 <<'END'
+1 put http://a/02 #901:0|STORED 1
+1 put http://a/00 =x|STORED 2
+1 get http://a/02|MISS absent 1.6
+END
+new_served 2 1 1 <<'END'
+1 put http://a/b #902:0|STORED 1
+1 put http://a/b #903:0|LARGE
+1 get http://a/b|MISS absent 2.6
+END
+new_served 4 1 1 <<'END'
+1 begin 0 http://a/b #900:0|BEGUN 1
+1 add 0 900|ADDED 900
+1 purge http://a/b|PURGED 1.2d
+1 end 0|DOOMED 1
+1 get http://a/b|MISS absent 1.6d
+END
+short=$(printf 'http://a/%431s' '' | tr ' ' u)
+new_served 4 1 1 <<END
+1 put ${short}u =x|LONGURL
+1 put $short =x|STORED 1
+1 get $short|HIT 1 1 78
+END
+row 0 "ENTRY 0 1 2 1 $short"$'\n' '' list new 512
+new_served 4 1 1 <<'END'
+1 add 0 5|TAB
+1 more 0|TAB
+1 begin 0 http://a/b =xy|BEGUN 1
+1 open 0 http://a/b|TAB
+1 close 0|TAB
+1 add 0 1|ADDED 1
+1 add 0 5|ADDED 1
+1 end 0|STORED 1
+END
+new_served 4 1 1 <<'END'
+1 await 5|UNMET
+1 mark 5|MARKED
+1 await 5|MET
+END
+new_served 4 2 1 <<'END'
+1 put http://a/00 =x|STORED 1
+1 put http://a/02 =y|STORED 2
+1 get http://a/00|HIT 1 1 78
+1 get http://a/02|HIT 2 1 79
+END
+
+# What a rebuild keeps, with fewer anchors than before, and a file with the last version there is.
+new_served 2 2 1 <<'END'
+1 put http://a/b =x|STORED 1
+1 put http://a/c =y|STORED 2
+END
+served new 512 1 1 <<'END'
+1 get http://a/b|MISS other 2.3 4877c9348b6d7299e213896f839c80b8
+1 get http://a/c|HIT 2 1 79
+END
+cp "$root/crates/rock_main/data/db" new
+printf '\0\0\377\377' | dd of=new bs=1 seek=16412 conv=notrunc status=none
+served new 512 1 1 <<'END'
+1 put http://a/b =x|SPENT 4294901760
+1 get http://a/b|HIT 4294901760 5 68656c6c6f
+END
+
+# Several workers. Marks make the answers the same in every run.
+new_served 4 1 2 <<'END'
+1 mark 0|MARKED
+2 mark 1|MARKED
+1 await 1|MET
+2 await 0|MET
+END
+new_served 8 8 2 <<'END'
+2 put http://a/b =x|STORED 1
+1 get http://a/c|MISS absent 0.0
+2 get http://a/b|HIT 1 1 78
+END
+new_served 3 2 2 <<'END'
+1 put http://a/02 #901:0|STORED 1
+1 mark 0|MARKED
+2 await 0|MET
+2 get http://a/02|HIT 1 901 @0 901
+2 put http://a/00 #901:0|STORED 2
+2 get http://a/00|HIT 2 901 @0 901
+2 get http://a/02|MISS absent 1.6
+END
+chain_of_marks() {
+    local worker
+    printf '1 put http://a/b =x|STORED 1\n1 mark 1|MARKED\n'
+    for worker in {2..32}; do
+        printf '%d await %d|MET\n%d get http://a/b|HIT 1 1 78\n' "$worker" $((worker - 1)) "$worker"
+        printf '%d mark %d|MARKED\n' "$worker" "$worker"
+    done
+}
+new_served 4 1 32 < <(chain_of_marks)
+rm -f new && row 0 '' '' create new 16384 64
+long=http://a/$(printf '%191s' '' | tr ' ' u)
+served new 16384 16 3 <<END
+1 begin 0 $long #120000:0|BEGUN 1
+1 add 0 60000|ADDED 60000
+1 mark 0|MARKED
+2 await 0|MET
+2 open 0 $long|OPEN 1
+2 more 0|PART 1.2 48800 @0 48800
+2 mark 1|MARKED
+3 await 0|MET
+3 open 0 $long|OPEN 1
+3 more 0|PART 1.2 48800 @0 48800
+3 mark 2|MARKED
+1 await 1|MET
+1 await 2|MET
+1 end 0|STORED 1
+1 mark 3|MARKED
+2 await 3|MET
+2 more 0|END 71200 @48800 71200
+2 close 0|CLOSED
+3 await 3|MET
+3 more 0|END 71200 @48800 71200
+3 close 0|CLOSED
+END
+row 0 "ENTRY 0 1 8 120000 $long"$'\n' '' list new 16384
+
+# Refusals of a run, in their order, and the file is as it was.
+cp one new
+run_row 7 '' 'rock: BadScript line=1 cause=4: ' $'1 fetch http://a/b\n' gone 500 0 33
+run_row 8 '' 'rock: BadGeometry field=1: ' '' gone 500 0 33
+run_row 8 '' 'rock: BadGeometry field=3: ' '' gone 512 0 33
+run_row 8 '' 'rock: BadGeometry field=3: ' '' gone 512 0 0
+run_row 8 '' 'rock: BadGeometry field=3: ' $'33 get http://a/b\n' gone 512 0 33
+run_row 8 '' 'rock: Missing: there is no file gone' '' gone 512 0 1
+truncate -s 16895 small
+run_row 8 '' 'rock: Small bytes=16895: ' '' small 512 0 1
+run_row 8 '' 'rock: BadGeometry field=2: ' '' new 512 0 1
+run_row 8 '' 'rock: BadGeometry field=2: ' '' new 512 2 1
+run_row 6 '' 'rock: DeviceFault: pages ' '' pages 512 1 1
+run_row 2 '' 'rock: Usage: ' '' new 512 1
+run_row 2 '' 'rock: Usage: ' '' new 512 1 01
+
+# What is wrong with a line.
+bad() { run_row 7 '' "rock: BadScript line=$1 cause=$2: " "$3" new 512 1 "${4:-1}"; }
+spaces=$(printf '%8193s' '')
+bad 1 1 "$spaces"$'\n'
+bad 1 2 $'1\tget http://a/b\n'
+bad 1 2 $'1 get http://a/b\r\n'
+bad 1 3 $'2 get http://a/b\n'
+bad 2 3 $'1 get http://a/b\n\n'
+bad 1 3 $'1 get http://a/b\n' 0
+bad 1 4 $'1  get http://a/b\n'
+bad 1 5 $'1 put http://a/b\n'
+bad 1 5 $'1 get'
+bad 1 6 $'1 more 7\n'
+bad 1 7 "1 get $(printf '%2049s' '' | tr ' ' u)"
+bad 1 8 $'1 put http://a/b x\n'
+bad 1 8 $'1 put http://a/b #4194305:0\n'
+bad 1 9 $'1 mark 64\n'
+bad 2 9 $'1 mark 3\n1 mark 3\n'
+bad 4097 1 "$(yes '1 await 0' | head -n 4096)"$'\n1'
+cmp -s one new
+holds 'a run that is refused leaves the file as it was' $?
+run_row 0 $'1 1 MISS other 7.3 1a68c10d6c8b326657c775f53c866dd1\n' '' '1 get -' new 512 1 1
+cmp -s one new
+holds 'a run that stores nothing leaves the file as it was' $?
+
+# A script that can't be read.
+./rock run new 512 1 1 <pages >printed 2>said
+[ $? -eq 4 ] && [ ! -s printed ] && [ "$(cat said)" = 'rock: SourceFault: standard input could not be read' ]
+holds 'a folder for a script is a fault of the source' $?
+./rock run new 512 1 1 <&- >printed 2>said
+[ $? -eq 4 ] && [ ! -s printed ]
+holds 'a closed standard input is a fault of the source' $?
+
 # Files that are too short, or end within a slot.
 truncate -s 16895 db
 row 8 '' 'rock: Small bytes=16895: db is shorter than the header area and one slot' list db 512
@@ -94,14 +401,36 @@ if [ "$(id -u)" -eq 0 ]; then as=(setpriv --reuid=65534 --regid=65534 --clear-gr
 if "${as[@]}" true 2>/dev/null; then
     row 0 $'ENTRY 0 7 1 5 http://a/b\n' '' list one 512
     row 6 '' "rock: DeviceFault: secret $disk" list secret 512
+    run_row 6 '' 'rock: DeviceFault: secret ' '' secret 512 1 1
+    # A file that may only be read is served, and nothing is stored.
+    served one 512 1 1 <<'END'
+1 get http://a/b|HIT 7 5 68656c6c6f
+1 put http://a/b =x|FAULT
+1 get http://a/b|MISS absent 8.6
+END
+    row 0 $'ENTRY 0 7 1 5 http://a/b\n' '' list one 512
     row 6 '' "rock: DeviceFault: closed/db $disk" create closed/db 512 1
 else
     skip 'permissions: there is no other user to run as'
 fi
 as=()
 
-# A disk that has no room for one file more, and a file longer than the system allows.
+# A disk that has no room for a slot is told by a line, and no status.
 mkdir full
+if mount -t tmpfs -o size=64k,nr_inodes=4 tmpfs full 2>/dev/null; then
+    row 0 '' '' create full/db 16384 16
+    # These URLs have six anchors of sixteen.
+    for number in 1 2 3 6 8 9; do printf '1 put http://a/%d #16000:0\n' "$number"; done >script
+    ./rock run full/db 16384 16 1 >printed 2>said <script
+    [ $? -eq 0 ] && [ ! -s said ] && [ "$(head -n 1 printed)" = '1 1 STORED 1' ] &&
+        [ "$(tail -n 1 printed)" = '1 6 FAULT' ]
+    holds 'a full disk is the answer FAULT' $?
+    umount full
+else
+    skip 'a full disk under a run: no file system can be mounted here'
+fi
+
+# A disk that has no room for one file more, and a file longer than the system allows.
 if mount -t tmpfs -o size=64k,nr_inodes=1 tmpfs full 2>/dev/null; then
     row 6 '' "rock: DeviceFault: full/db $disk" create full/db 512 1
     umount full
@@ -137,6 +466,13 @@ if [ -e /dev/full ]; then
     ./rock list one 512 2>said >/dev/full
     [ $? -eq 5 ] && [ "$(cat said)" = 'rock: SinkFault: standard output did not take all of the answer' ]
     holds 'a full output is a fault of the sink' $?
+    # A run whose output fails has served all lines.
+    rm -f new && row 0 '' '' create new 512 4
+    printf '1 put http://a/b =x\n' >script
+    ./rock run new 512 4 1 2>said >/dev/full <script
+    [ $? -eq 5 ] && [ "$(cat said)" = 'rock: SinkFault: standard output did not take all of the answer' ]
+    holds 'a full output is a fault of the sink for a run' $?
+    row 0 $'ENTRY 0 1 1 1 http://a/b\n' '' list new 512
     full_output() { ./rock "$@" >/dev/full 2>/dev/null; }
     ends 'a full output is a fault of the sink for the help' 5 full_output --help
     ends 'a full output is a fault of the sink for the version' 5 full_output --version
@@ -158,14 +494,26 @@ closed_pipe() {
     return "$(cat ended)"
 }
 ends 'a reader that closed the pipe is a fault of the sink' 5 closed_pipe list one 512
+printf '1 get http://a/b\n' >script
+closed_output() { ./rock "$@" >&- 2>/dev/null <script; }
+ends 'a closed output is a fault of the sink for a run' 5 closed_output run one 512 1 1
+cmp -s one copy
+holds 'answers that find no output are written to no file' $?
 
 # A new file is brought to the disk before it is told as made.
 if command -v strace >/dev/null && strace -o calls true 2>/dev/null; then
     strace -o calls -e trace=ftruncate,fsync,fdatasync ./rock create synced 512 4 2>said
     [ $? -eq 0 ] && grep -q '^ftruncate(.*, 18432) *= 0' calls && tail -n 2 calls | grep -q '^fsync(.*) *= 0'
     holds 'a new file has its length and is synced' $?
+    # What put stores is written and not synced, and what save stores is synced behind each slot.
+    rm -f new && row 0 '' '' create new 512 8
+    printf '1 put http://a/b #431:0\n1 save http://a/b #431:0\n' >script
+    strace -f -o calls -e trace=pwrite64,fsync,fdatasync ./rock run new 512 8 1 <script >printed 2>said
+    [ $? -eq 0 ] && [ "$(grep -o 'pwrite64\|fdatasync\|fsync' calls | tr '\n' ' ')" = \
+        'pwrite64 pwrite64 pwrite64 fdatasync pwrite64 fdatasync ' ]
+    holds 'save syncs each slot, and put none' $?
 else
-    skip 'the sync of a new file: there is no strace that runs here'
+    skip 'the sync of a new file and of save: there is no strace that runs here'
 fi
 
 # Help: on standard output where it is asked for, behind the line on standard error after a faulty line, and
