@@ -4,7 +4,7 @@ use Rattle.std.specs.Prelude.{decimal}
 use Rattle.std.specs.Str.{bytes_eq}
 use Rattle.std.proofs.lemmas.Slice.Eq.{bytes_eq-Decides}
 use Rattle.std.proofs.lemmas.Fmt.{decimal_injective}
-use Rattle.rock_commands.specs.CommandLine.{IsName, IsList, IsCheck, IsCreate, IsCommandLine}
+use Rattle.rock_commands.specs.CommandLine.{IsName, IsList, IsCheck, IsCreate, IsRun, IsCommandLine}
 
 third : {a b c a' b' c' : List ℕ} → a ∷ b ∷ c ∷ [] ≡ a' ∷ b' ∷ c' ∷ [] → (b ≡ b') × (c ≡ c')
 third e = (cc, cc)
@@ -12,8 +12,17 @@ third e = (cc, cc)
 fourth : {a b c d a' b' c' d' : List ℕ} → a ∷ b ∷ c ∷ d ∷ [] ≡ a' ∷ b' ∷ c' ∷ d' ∷ [] → (b ≡ b') × (c ≡ c') × (d ≡ d')
 fourth e = (cc, cc, cc)
 
+fifth : {a b c d e a' b' c' d' e' : List ℕ} → a ∷ b ∷ c ∷ d ∷ e ∷ [] ≡ a' ∷ b' ∷ c' ∷ d' ∷ e' ∷ [] → (b ≡ b') × (c ≡ c') × (d ≡ d') × (e ≡ e')
+fifth same = (cc, cc, cc, cc)
+
 three_are_not_four : {A : Type 0} {a b c a' b' c' d' : A} → a ∷ b ∷ c ∷ [] ≡ a' ∷ b' ∷ c' ∷ d' ∷ [] → ⊥
 three_are_not_four e = let counts = ap length e in omega (arith, counts)
+
+three_are_not_five : {A : Type 0} {a b c a' b' c' d' e' : A} → a ∷ b ∷ c ∷ [] ≡ a' ∷ b' ∷ c' ∷ d' ∷ e' ∷ [] → ⊥
+three_are_not_five e = let counts = ap length e in omega (arith, counts)
+
+four_are_not_five : {A : Type 0} {a b c d a' b' c' d' e' : A} → a ∷ b ∷ c ∷ d ∷ [] ≡ a' ∷ b' ∷ c' ∷ d' ∷ e' ∷ [] → ⊥
+four_are_not_five e = let counts = ap length e in omega (arith, counts)
 
 -- what holds of the name and the slot size of one reading of the words holds of those of each
 pub of_each : (words : List (List ℕ)) (P : List ℕ → ℕ → Type 0) {name : List ℕ} {slot : ℕ} (name' : List ℕ) (slot' : ℕ) → IsList words name slot → IsList words name' slot' → P name slot → P name' slot'
@@ -37,6 +46,25 @@ of_each_create words P {name = name} {slot = slot} {slots = slots} name' slot' s
     subst (λ a. P name' slot' a) (decimal_injective slots slots' (omega (arith, p.slots_fit)) (omega (arith, q.slots_fit)) parts.2)
     (subst (λ s. P name' s slots) (decimal_injective slot slot' (omega (arith, p.fits)) (omega (arith, q.fits)) parts.1) (subst (λ n. P n slot slots) parts.0 holds))
 
+-- and of its anchors and workers
+pub of_each_run : (words : List (List ℕ)) (P : List ℕ → ℕ → ℕ → ℕ → Type 0) {name : List ℕ} {slot anchors workers : ℕ} (name' : List ℕ) (slot' anchors' workers' : ℕ) → IsRun words name slot anchors workers → IsRun words name' slot' anchors' workers'
+    → P name slot anchors workers → P name' slot' anchors' workers'
+of_each_run words P {name = name} {slot = slot} {anchors = anchors} {workers = workers} name' slot' anchors' workers' p q holds =
+    let parts = fifth (sym p.words_are ∙ q.words_are) in
+    subst (λ w. P name' slot' anchors' w) (decimal_injective workers workers' (omega (arith, p.workers_fit)) (omega (arith, q.workers_fit)) parts.3)
+    (subst (λ a. P name' slot' a workers) (decimal_injective anchors anchors' (omega (arith, p.anchors_fit)) (omega (arith, q.anchors_fit)) parts.2)
+    (subst (λ s. P name' s anchors workers) (decimal_injective slot slot' (omega (arith, p.fits)) (omega (arith, q.fits)) parts.1) (subst (λ n. P n slot anchors workers) parts.0 holds)))
+
+-- a line `run` is no line of another command
+pub list_is_no_run : {words : List (List ℕ)} {name name' : List ℕ} {slot slot' anchors workers : ℕ} → IsList words name slot → IsRun words name' slot' anchors workers → ⊥
+list_is_no_run l r = three_are_not_five (sym l.words_are ∙ r.words_are)
+
+pub check_is_no_run : {words : List (List ℕ)} {name name' : List ℕ} {slot count slot' anchors workers : ℕ} → IsCheck words name slot count → IsRun words name' slot' anchors workers → ⊥
+check_is_no_run k r = four_are_not_five (sym k.words_are ∙ r.words_are)
+
+pub create_is_no_run : {words : List (List ℕ)} {name name' : List ℕ} {slot count slot' anchors workers : ℕ} → IsCreate words name slot count → IsRun words name' slot' anchors workers → ⊥
+create_is_no_run k r = four_are_not_five (sym k.words_are ∙ r.words_are)
+
 -- a list of three is its elements
 pub three : {A : Type 0} (xs : List A) (a b c : A) → length xs ≡ 3 → a ≡ get_or xs 0 a → b ≡ get_or xs 1 b → c ≡ get_or xs 2 c → xs ≡ a ∷ b ∷ c ∷ []
 three [] a b c long p q r = absurd (omega arith)
@@ -54,6 +82,16 @@ four (x ∷ y ∷ z ∷ []) a b c d long p q r s = absurd (omega arith)
 four (x ∷ y ∷ z ∷ w ∷ []) a b c d long p q r s = cc
 four (x ∷ y ∷ z ∷ w ∷ v ∷ xs) a b c d long p q r s = absurd (omega arith)
 
+-- and one of five
+pub five : {A : Type 0} (xs : List A) (a b c d e : A) → length xs ≡ 5 → a ≡ get_or xs 0 a → b ≡ get_or xs 1 b → c ≡ get_or xs 2 c → d ≡ get_or xs 3 d → e ≡ get_or xs 4 e → xs ≡ a ∷ b ∷ c ∷ d ∷ e ∷ []
+five [] a b c d e long p q r s t = absurd (omega arith)
+five (x ∷ []) a b c d e long p q r s t = absurd (omega arith)
+five (x ∷ y ∷ []) a b c d e long p q r s t = absurd (omega arith)
+five (x ∷ y ∷ z ∷ []) a b c d e long p q r s t = absurd (omega arith)
+five (x ∷ y ∷ z ∷ w ∷ []) a b c d e long p q r s t = absurd (omega arith)
+five (x ∷ y ∷ z ∷ w ∷ v ∷ []) a b c d e long p q r s t = cc
+five (x ∷ y ∷ z ∷ w ∷ v ∷ u ∷ xs) a b c d e long p q r s t = absurd (omega arith)
+
 -- three words, by what is seen of each
 pub three_words : {A : Type 0} (view : A → List ℕ) (xs : List A) (a b c : A) (words : List (List ℕ)) (first second last : List ℕ) → map view xs ≡ words → length xs ≡ 3
     → a ≡ get_or xs 0 a → b ≡ get_or xs 1 b → c ≡ get_or xs 2 c → view a ≡ first → view b ≡ second → view c ≡ last → words ≡ first ∷ second ∷ last ∷ []
@@ -64,6 +102,12 @@ pub four_words : {A : Type 0} (view : A → List ℕ) (xs : List A) (a b c d : A
     → a ≡ get_or xs 0 a → b ≡ get_or xs 1 b → c ≡ get_or xs 2 c → d ≡ get_or xs 3 d → view a ≡ first → view b ≡ second → view c ≡ next → view d ≡ last → words ≡ first ∷ second ∷ next ∷ last ∷ []
 four_words view xs a b c d words first second next last seen long p q r s one two three end = sym seen ∙ ap (map view) (four xs a b c d long p q r s) ∙ cc (one, two, three, end)
 
+-- and five
+pub five_words : {A : Type 0} (view : A → List ℕ) (xs : List A) (a b c d e : A) (words : List (List ℕ)) (first second next then last : List ℕ) → map view xs ≡ words → length xs ≡ 5
+    → a ≡ get_or xs 0 a → b ≡ get_or xs 1 b → c ≡ get_or xs 2 c → d ≡ get_or xs 3 d → e ≡ get_or xs 4 e
+    → view a ≡ first → view b ≡ second → view c ≡ next → view d ≡ then → view e ≡ last → words ≡ first ∷ second ∷ next ∷ then ∷ last ∷ []
+five_words view xs a b c d e words first second next then last seen long p q r s t one two three four end = sym seen ∙ ap (map view) (five xs a b c d e long p q r s t) ∙ cc (one, two, three, four, end)
+
 -- four words are no command line where the last three are no name and two numbers
 pub no_numbers : (words : List (List ℕ)) (first second next last : List ℕ) → words ≡ first ∷ second ∷ next ∷ last ∷ []
     → ((slot count : ℕ) → slot < 2 ^ 32 → count < 2 ^ 32 → IsName second → next ≡ decimal slot → last ≡ decimal count → ⊥) → IsCommandLine words → ⊥
@@ -71,9 +115,20 @@ no_numbers words first second next last are not (inl l) = three_are_not_four (sy
 no_numbers words first second next last are not (inr (inl k)) =
     let parts = fourth (sym are ∙ k.3.words_are) in
     not k.1 k.2 k.3.fits k.3.anchors_fit (subst IsName (sym parts.0) k.3.named) parts.1 parts.2
-no_numbers words first second next last are not (inr (inr k)) =
+no_numbers words first second next last are not (inr (inr (inl k))) =
     let parts = fourth (sym are ∙ k.3.words_are) in
     not k.1 k.2 k.3.fits k.3.slots_fit (subst IsName (sym parts.0) k.3.named) parts.1 parts.2
+no_numbers words first second next last are not (inr (inr (inr r))) = four_are_not_five (sym are ∙ r.4.words_are)
+
+-- nor are five where the last four are no name and three numbers
+pub no_run : (words : List (List ℕ)) (first second next then last : List ℕ) → words ≡ first ∷ second ∷ next ∷ then ∷ last ∷ []
+    → ((slot anchors workers : ℕ) → slot < 2 ^ 32 → anchors < 2 ^ 32 → workers < 2 ^ 32 → IsName second → next ≡ decimal slot → then ≡ decimal anchors → last ≡ decimal workers → ⊥) → IsCommandLine words → ⊥
+no_run words first second next then last are not (inl l) = three_are_not_five (sym l.2.words_are ∙ are)
+no_run words first second next then last are not (inr (inl k)) = four_are_not_five (sym k.3.words_are ∙ are)
+no_run words first second next then last are not (inr (inr (inl k))) = four_are_not_five (sym k.3.words_are ∙ are)
+no_run words first second next then last are not (inr (inr (inr r))) =
+    let parts = fifth (sym are ∙ r.4.words_are) in
+    not r.1 r.2 r.3 r.4.fits r.4.anchors_fit r.4.workers_fit (subst IsName (sym parts.0) r.4.named) parts.1 parts.2 parts.3
 
 pub found_equal : (a b : List ℕ) → true ≡ bytes_eq a b → a ≡ b
 found_equal a b e = (bytes_eq-Decides a b).0 (sym e)

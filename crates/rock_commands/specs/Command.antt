@@ -1,6 +1,6 @@
 -- What a command line asks for.
 use Rattle.std.specs.Prelude.{ℕ, List}
-use Rattle.rock_commands.specs.CommandLine.{IsList, IsCheck, IsCreate}
+use Rattle.rock_commands.specs.CommandLine.{IsList, IsCheck, IsCreate, IsRun}
 use Rattle.rock_commands.specs.declared.command.Command.{Command}
 use Rattle.rock_commands.specs.declared.command.Command.TheVariants as command
 
@@ -9,3 +9,4 @@ abbrev pub IsCommand : List (List ℕ) → Command → Type 0
 IsCommand words (command.List target) = IsList words target.name.now target.slot
 IsCommand words (command.Check target anchors) = IsCheck words target.name.now target.slot anchors
 IsCommand words (command.Create target slots) = IsCreate words target.name.now target.slot slots
+IsCommand words (command.Run target anchors workers) = IsRun words target.name.now target.slot anchors workers

@@ -26,8 +26,21 @@ pub record IsCreate (words : List (List ℕ)) (name : List ℕ) (slot slots : �
   pub fits : slot < 2 ^ 32
   pub slots_fit : slots < 2 ^ 32
 
+-- `run NAME SLOT ANCHORS WORKERS`
+pub record IsRun (words : List (List ℕ)) (name : List ℕ) (slot anchors workers : ℕ) : Type 0 where
+  pub words_are : words ≡ codes "run" ∷ name ∷ decimal slot ∷ decimal anchors ∷ decimal workers ∷ []
+  pub named : IsName name
+  pub fits : slot < 2 ^ 32
+  pub anchors_fit : anchors < 2 ^ 32
+  pub workers_fit : workers < 2 ^ 32
+
+-- the words are a line `run`
+abbrev pub IsRunLine : List (List ℕ) → Type 0
+IsRunLine words = (name : List ℕ) × (slot anchors workers : ℕ) × IsRun words name slot anchors workers
+
 -- the words are a command line of the table
 abbrev pub IsCommandLine : List (List ℕ) → Type 0
 IsCommandLine words =
     ((name : List ℕ) × (slot : ℕ) × IsList words name slot)
-    ⊎ (((name : List ℕ) × (slot anchors : ℕ) × IsCheck words name slot anchors) ⊎ ((name : List ℕ) × (slot slots : ℕ) × IsCreate words name slot slots))
+    ⊎ (((name : List ℕ) × (slot anchors : ℕ) × IsCheck words name slot anchors)
+    ⊎ (((name : List ℕ) × (slot slots : ℕ) × IsCreate words name slot slots) ⊎ IsRunLine words))

@@ -17,11 +17,26 @@ pub struct Target<'a> {
 #[derive(Clone, Copy, Debug, PartialEq, Eq)]
 pub enum Command<'a> {
     /// `list NAME SLOT`: list the complete entries of a file.
-    List { target: Target<'a> },
+    List {
+        target: Target<'a>,
+    },
     /// `check NAME SLOT ANCHORS`: sum up what a store with so many anchors keeps of a file.
-    Check { target: Target<'a>, anchors: u32 },
+    Check {
+        target: Target<'a>,
+        anchors: u32,
+    },
     /// `create NAME SLOT SLOTS`: make a file of so many empty slots.
-    Create { target: Target<'a>, slots: u32 },
+    Create {
+        target: Target<'a>,
+        slots: u32,
+    },
+    /// `run NAME SLOT ANCHORS WORKERS`: run a script over a file, by a store with so many anchors and so
+    /// many workers.
+    Run {
+        target: Target<'a>,
+        anchors: u32,
+        workers: u32,
+    },
 }
 
 impl<'a> Command<'a> {
@@ -37,6 +52,11 @@ impl<'a> Command<'a> {
             [command, name, slot, count] => {
                 let target = Target::parse(name.as_str(), slot.as_str())?;
                 Command::of_four(command.as_str(), target, number(count.as_str())?)
+            }
+            [command, name, slot, anchors, workers] => {
+                let target = Target::parse(name.as_str(), slot.as_str())?;
+                let anchors = number(anchors.as_str())?;
+                Command::of_five(command.as_str(), target, anchors, number(workers.as_str())?)
             }
             _ => None,
         }
@@ -57,6 +77,22 @@ impl<'a> Command<'a> {
             Some(Command::Create {
                 target,
                 slots: count,
+            })
+        } else {
+            None
+        }
+    }
+
+    /// The command of five words: its own, what it is about, and two numbers.
+    fn of_five(command: &str, target: Target<'a>, anchors: u32, workers: u32) -> Option<Command<'a>>
+        ensures run { command.now ≡ codes "run" → result ≡ Some (Command.Run target.entry anchors workers) }
+        ensures only { IsSome result → command.now ≡ codes "run" }
+    {
+        if command == "run" {
+            Some(Command::Run {
+                target,
+                anchors,
+                workers,
             })
         } else {
             None

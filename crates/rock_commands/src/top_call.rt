@@ -2,18 +2,26 @@
 ghost use Rattle.std.specs.Prelude.{◌≡◌, ℕ, List, ◌≤◌, IsTrue, ◌↔◌};
 ghost use Rattle.rock_io.specs.Faults.{Rose};
 ghost use Rattle.rock_disk.specs.File.{NoneAway, IsKept, HaveSameBytes};
-ghost use Rattle.rock_commands.specs.CommandLine.{IsList, IsCheck, IsCreate, IsCommandLine};
+ghost use Rattle.rock_open.specs.Device.{counts};
+ghost use Rattle.rock_run.specs.Device.{EachEnded, NoneFailed};
+ghost use Rattle.script_text.specs.Script.{IsTakenFrom};
+ghost use Rattle.rock_commands.specs.CommandLine.{IsList, IsCheck, IsCreate, IsRun, IsRunLine, IsCommandLine};
 ghost use Rattle.file_commands.specs.Create.{CreateEnds, CreateSays, IsCreateRefused, CreateLeaves, MayCreate};
 ghost use Rattle.file_commands.specs.Device.{EndedOne, NoFault, DeviceKept};
 ghost use Rattle.file_commands.specs.Listing.{Lists};
 ghost use Rattle.file_commands.specs.Report.{AnyCount, IsAnchors, OfFile, HasSlots, ReportEnds, ReportSays, IsRefused, MayReport, ReportsOrLacksMemory, ReportPrints};
 ghost use Rattle.file_commands.specs.Summary.{Sums};
+ghost use Rattle.run_command.specs.Ends.{NoFault as NoRunFault, RunEnds, RunsOrLacksMemory};
+ghost use Rattle.run_command.specs.Leaves.{RunLeaves};
+ghost use Rattle.run_command.specs.Prints.{IsRunText, RunPrints};
+ghost use Rattle.run_command.specs.Says.{IsRunRefused, MayRun, RunSays};
 
 use crate::command::Command;
 use file_commands::{Report, create_file, print_report};
 use rock_disk::{Volume, created_files_are_in, kept_files_have_their_bytes};
 use rock_io::{Sink, Source, Words};
 use rock_status::Status;
+use run_command::{RunTarget, run_command};
 use std::alloc::Global;
 use std::sync::Wait;
 use std::thread::Threads;
@@ -25,7 +33,12 @@ use std::thread::Threads;
 /// one line `slots=S kept=K used=U free=F version=G`: the file's slots, the entries that a store with
 /// ANCHORS anchors keeps, the slots that they take, those that are free, and the greatest version of a
 /// sane slot. `create NAME SLOT SLOTS` makes a file of zeros, of a header area and SLOTS slots of SLOT
-/// bytes, and prints nothing. None of them reads a script.
+/// bytes, and prints nothing. None of them reads the script.
+///
+/// `run NAME SLOT ANCHORS WORKERS` reads the script to its end, opens the file NAME as a store with ANCHORS
+/// anchors, and lets workers 1 to WORKERS serve their lines on threads. Then it closes the store, gives the
+/// cells back to the file, and prints a line for each line of the script, worker by worker. It alone reads the
+/// script, starts threads and waits.
 pub fn rock<R: Threads + Wait + Sync, V: Volume, S: Source, K: Sink>(
     rt: &R,
     alloc: Global,
@@ -43,12 +56,13 @@ where
     ensures untouched { result ≡ Status.Usage
         → (V.files volume.new ≡ V.files volume.old) × (V.faults volume.new ≡ V.faults volume.old)
         × (V.made volume.new ≡ V.made volume.old) × (V.ended volume.new ≡ V.ended volume.old)
-        × (K.taken out.new ≡ K.taken out.old) × (K.faults out.new ≡ K.faults out.old) }
+        × (K.taken out.new ≡ K.taken out.old) × (K.faults out.new ≡ K.faults out.old)
+        × (S.left script.new ≡ S.left script.old) × (S.faults script.new ≡ S.faults script.old) }
 
     // Of each command: when each status comes, by the numbers and the counts of faults, and by the
     // files; that it is refused where the numbers or the file refuse it; that where nothing refuses
-    // it and no fault comes it is done, unless memory runs out; what was printed; and that the file
-    // keeps its bytes.
+    // it and no fault comes it is done, unless memory runs out; what was printed; and what is left of
+    // the files, of which `list` and `check` keep the bytes.
 
     // `list NAME SLOT` prints the lines of the complete entries, whatever the number of slots.
     ensures list_ends { (name : List ℕ) (slot : ℕ) → IsList words.now name slot
@@ -117,26 +131,78 @@ where
     ensures create_leaves { (name : List ℕ) (slot slots : ℕ) → IsCreate words.now name slot slots
         → CreateLeaves V.tells slot slots name (V.files volume.old) (V.files volume.new) result }
 
-    // Each station that was made was ended.
-    ensures ended { EndedOne (V.made volume.old) (V.made volume.new)
-        (V.ended volume.old) (V.ended volume.new) }
-    ensures faults { V.faults volume.old ≤ V.faults volume.new }
-    ensures sink_faults { K.faults out.old ≤ K.faults out.new }
+    // `run NAME SLOT ANCHORS WORKERS` runs a script over the file by so many workers, and prints what they were
+    // answered. It is refused by the script, by a number, and by the file, in this order. A fault of a worker's
+    // station is a line of the answers, and no status.
+    ensures run_ends { (name : List ℕ) (slot anchors workers : ℕ) → IsRun words.now name slot anchors workers
+        → RunEnds slot anchors workers
+        (S.faults script.old) (S.faults script.new) (K.faults out.old) (K.faults out.new)
+        (counts (V.faults volume.old) (V.made volume.old) (V.ended volume.old))
+        (counts (V.faults volume.new) (V.made volume.new) (V.ended volume.new)) result }
+    ensures run_says { (name : List ℕ) (slot anchors workers : ℕ) → IsRun words.now name slot anchors workers
+        → RunSays S.tells V.tells workers (S.left script.old) (S.left script.new)
+        (V.files volume.old) name slot anchors result }
+    ensures run_refused { (name : List ℕ) (slot anchors workers : ℕ) → IsRun words.now name slot anchors workers
+        → IsRunRefused S.tells V.tells (S.left script.old) (V.files volume.old) name slot anchors workers
+        (counts (V.faults volume.old) (V.made volume.old) (V.ended volume.old))
+        (counts (V.faults volume.new) (V.made volume.new) (V.ended volume.new)) result }
+    ensures run_complete { (name : List ℕ) (slot anchors workers : ℕ) → IsRun words.now name slot anchors workers
+        → IsTrue S.tells → IsTrue V.tells
+        → MayRun (S.left script.old) (V.files volume.old) name slot anchors workers
+        → NoRunFault (S.faults script.old) (S.faults script.new) (K.faults out.old) (K.faults out.new)
+        (counts (V.faults volume.old) (V.made volume.old) (V.ended volume.old))
+        (counts (V.faults volume.new) (V.made volume.new) (V.ended volume.new))
+        → RunsOrLacksMemory result }
+    ensures run_prints { (name : List ℕ) (slot anchors workers : ℕ) → IsRun words.now name slot anchors workers
+        → IsTrue K.tells → RunPrints (IsRunText S.tells V.tells V.C.tells V.C.state V.St.faults
+        (S.left script.old) (S.left script.new) (V.files volume.old) (V.files volume.new)
+        name slot anchors workers
+        (counts (V.faults volume.old) (V.made volume.old) (V.ended volume.old))
+        (counts (V.faults volume.new) (V.made volume.new) (V.ended volume.new)))
+        (K.taken out.old) (K.taken out.new) result }
+    ensures run_leaves { (name : List ℕ) (slot anchors workers : ℕ) → IsRun words.now name slot anchors workers
+        → RunLeaves S.tells V.tells V.C.tells V.C.state (S.left script.old) (S.left script.new)
+        (V.files volume.old) (V.files volume.new) name slot anchors workers result }
 
-    // A fault is told as a fault: at any status but that of a fault of the sink, the sink's count is
-    // as it was, and at any but that of a fault of the disk, so is the volume's, and the station was
-    // ended with none.
-    ensures sink_unfailed { (result ≡ Status.SinkFault → ⊥) → K.faults out.new ≡ K.faults out.old }
-    ensures device_unfailed { (result ≡ Status.DeviceFault → ⊥)
+    // Its stations are that of the rebuild and those of the workers: each that was made was ended. What is left
+    // of the script is what was not read of it.
+    ensures run_stations { IsRunLine words.now → EachEnded
+        (counts (V.faults volume.old) (V.made volume.old) (V.ended volume.old))
+        (counts (V.faults volume.new) (V.made volume.new) (V.ended volume.new)) }
+    ensures run_script { IsRunLine words.now → IsTakenFrom S.tells (S.left script.old) (S.left script.new) }
+
+    // At any status but that of a fault of the disk the volume's count is as it was, and the station of the
+    // rebuild was ended with none.
+    ensures run_unfailed { IsRunLine words.now → (result ≡ Status.DeviceFault → ⊥) → NoneFailed
+        (counts (V.faults volume.old) (V.made volume.old) (V.ended volume.old))
+        (counts (V.faults volume.new) (V.made volume.new) (V.ended volume.new)) }
+
+    // No other command makes more than one station, which is ended, and at any status but that of a fault of
+    // the disk was ended with none.
+    ensures ended { ¬ IsRunLine words.now → EndedOne (V.made volume.old) (V.made volume.new)
+        (V.ended volume.old) (V.ended volume.new) }
+    ensures device_unfailed { ¬ IsRunLine words.now → (result ≡ Status.DeviceFault → ⊥)
         → DeviceKept (V.faults volume.old) (V.faults volume.new)
         (V.ended volume.old) (V.ended volume.new) }
 
+    // Nor does another read the script.
+    ensures script { ¬ IsRunLine words.now → S.left script.new ≡ S.left script.old }
+    ensures script_faults { ¬ IsRunLine words.now → S.faults script.new ≡ S.faults script.old }
+
+    // No count of faults falls.
+    ensures faults { V.faults volume.old ≤ V.faults volume.new }
+    ensures sink_faults { K.faults out.old ≤ K.faults out.new }
+    ensures source_faults { S.faults script.old ≤ S.faults script.new }
+
+    // A fault is told as a fault: at any status but that of a fault of the sink, the sink's count is
+    // as it was, and so are the volume's at any but that of a fault of the disk, and the source's at any
+    // but that of a fault of the source.
+    ensures sink_unfailed { (result ≡ Status.SinkFault → ⊥) → K.faults out.new ≡ K.faults out.old }
+    ensures volume_unfailed { (result ≡ Status.DeviceFault → ⊥) → V.faults volume.new ≡ V.faults volume.old }
+    ensures source_unfailed { (result ≡ Status.SourceFault → ⊥) → S.faults script.new ≡ S.faults script.old }
+
     // No file is out.
     ensures back { IsTrue V.tells → NoneAway (V.files volume.new) }
-
-    // The script is not read.
-    ensures script { S.left script.new ≡ S.left script.old }
-    ensures script_faults { S.faults script.new ≡ S.faults script.old }
 {
     kept_files_have_their_bytes();
     created_files_are_in();
@@ -153,5 +219,18 @@ where
             print_report(alloc, volume, out, target.name, target.slot, summary)
         }
         Command::Create { target, slots } => create_file(volume, target.name, target.slot, slots),
+        Command::Run {
+            target,
+            anchors,
+            workers,
+        } => {
+            let run = RunTarget {
+                name: target.name,
+                slot: target.slot,
+                anchors,
+                workers,
+            };
+            run_command(rt, alloc, volume, script, out, &run)
+        }
     }
 }

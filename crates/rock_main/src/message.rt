@@ -7,8 +7,10 @@ use std::alloc::{AllocError, Global};
 pub struct Asked<'a> {
     pub name: &'a str,
     pub slot: &'a str,
-    /// The anchors of `check`, or the slots of `create`.
+    /// The anchors of `check` and `run`, or the slots of `create`.
     pub count: &'a str,
+    /// The workers of `run`.
+    pub workers: &'a str,
 }
 
 impl Asked<'static> {
@@ -17,6 +19,7 @@ impl Asked<'static> {
         name: "",
         slot: "",
         count: "",
+        workers: "",
     };
 }
 
@@ -36,9 +39,12 @@ pub fn explanation(
         Status::SourceFault => format!(in alloc; "standard input could not be read"),
         Status::SinkFault => format!(in alloc; "standard output did not take all of the answer"),
         Status::DeviceFault => format!(in alloc;
-            "{name} could not be read or made; look at its disk and its permissions"
+            "{name} could not be read, written or made; look at its disk and its permissions"
         ),
-        Status::BadScript { line, .. } => format!(in alloc; "line {line} of the script is wrong"),
+        Status::BadScript { line, cause } => format!(in alloc;
+            "line {line} of the script is wrong: {}",
+            wrong_with_line(*cause)
+        ),
         Status::Missing => format!(in alloc; "there is no file {name}"),
         Status::Small { .. } => {
             format!(in alloc; "{name} is shorter than the header area and one slot")
@@ -46,6 +52,10 @@ pub fn explanation(
         Status::BadGeometry { field: 2 } => format!(in alloc;
             "the number of anchors {} is not from 1 to the number of slots of {name}",
             asked.count
+        ),
+        Status::BadGeometry { field: 3 } => format!(in alloc;
+            "the number of workers {} is not from 1 to 32",
+            asked.workers
         ),
         Status::BadGeometry { field: 4 } => format!(in alloc;
             "the number of slots {} is not from 1 to 1048576",
@@ -56,5 +66,20 @@ pub fn explanation(
             asked.slot
         ),
         Status::Exists => format!(in alloc; "there is a file {name} already"),
+    }
+}
+
+/// What is wrong with a line of a script, by the number of the cause.
+fn wrong_with_line(cause: u8) -> &'static str {
+    match cause {
+        1 => "it has more than 8192 bytes, or 4096 lines are before it",
+        2 => "it has a byte outside 0x20 to 0x7e",
+        3 => "its first word is no worker from 1 to the number of workers",
+        4 => "its second word is no name of a request",
+        5 => "its request has another number of words",
+        6 => "its tab is no number from 0 to 6",
+        7 => "its URL is not of 1 to 2048 bytes from 0x21 to 0x7e",
+        8 => "its body is none, or makes all bodies more than 67108864 bytes",
+        _ => "its number of bytes or its mark is none, or an earlier line sets the mark",
     }
 }

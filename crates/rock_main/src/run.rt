@@ -3,13 +3,18 @@ ghost use Rattle.std.specs.Prelude.{◌≡◌, ◌↔◌, ℕ, List, IsTrue};
 ghost use Rattle.std.specs.Process.{exit_status};
 ghost use Rattle.rock_disk.specs.File.{NoneAway};
 ghost use Rattle.rock_io.specs.Faults.{Rose};
-ghost use Rattle.rock_commands.specs.CommandLine.{IsList, IsCheck, IsCreate, IsCommandLine};
+ghost use Rattle.rock_open.specs.Device.{counts};
+ghost use Rattle.rock_commands.specs.CommandLine.{IsList, IsCheck, IsCreate, IsRun, IsCommandLine};
 ghost use Rattle.file_commands.specs.Create.{CreateEnds, CreateSays, IsCreateRefused, CreateLeaves};
 ghost use Rattle.rock_main.specs.Ending.{EndsFor};
 ghost use Rattle.file_commands.specs.Listing.{Lists};
 ghost use Rattle.file_commands.specs.Report.{AnyCount, IsAnchors, OfFile, ReportEnds, ReportSays, IsRefused, ReportPrints};
 ghost use Rattle.rock_status.specs.Status.{code_of};
 ghost use Rattle.file_commands.specs.Summary.{Sums};
+ghost use Rattle.run_command.specs.Ends.{RunEnds};
+ghost use Rattle.run_command.specs.Leaves.{RunLeaves};
+ghost use Rattle.run_command.specs.Prints.{IsRunText, RunPrints};
+ghost use Rattle.run_command.specs.Says.{IsRunRefused, RunSays};
 
 use crate::message::{Asked, explanation};
 use rock_commands::rock;
@@ -37,9 +42,12 @@ where
     requires home { IsTrue V.tells → NoneAway (V.files volume.old) }
 
     ensures usage { (exit_status result ≡ 2) ↔ (IsCommandLine words.now → ⊥) }
+    ensures source_fault { exit_status result ≡ 4 → Rose (S.faults script.old) (S.faults script.new) }
     ensures sink_fault { exit_status result ≡ 5 → Rose (K.faults out.old) (K.faults out.new) }
 
-    // Whatever else it ends with, the output was taken as far as it was given out, and at 0 all was read.
+    // Whatever else it ends with, the script was given as far as it was read, the output was taken as far as it
+    // was given out, and no call of the volume failed.
+    ensures source_unfailed { (exit_status result ≡ 4 → ⊥) → S.faults script.new ≡ S.faults script.old }
     ensures sink_unfailed { (exit_status result ≡ 5 → ⊥) → K.faults out.new ≡ K.faults out.old }
     ensures device_unfailed { (exit_status result ≡ 6 → ⊥) → V.faults volume.new ≡ V.faults volume.old }
 
@@ -65,12 +73,28 @@ where
         × (IsTrue V.tells → CreateSays (V.files volume.old) name status)
         × IsCreateRefused V.tells (V.files volume.old) name slot slots status
         × CreateLeaves V.tells slot slots name (V.files volume.old) (V.files volume.new) status) (exit_status result) }
+    ensures run { (name : List ℕ) (slot anchors workers : ℕ) → IsRun words.now name slot anchors workers → EndsFor (λ status.
+        RunEnds slot anchors workers (S.faults script.old) (S.faults script.new) (K.faults out.old) (K.faults out.new)
+        (counts (V.faults volume.old) (V.made volume.old) (V.ended volume.old))
+        (counts (V.faults volume.new) (V.made volume.new) (V.ended volume.new)) status
+        × RunSays S.tells V.tells workers (S.left script.old) (S.left script.new) (V.files volume.old) name slot anchors status
+        × IsRunRefused S.tells V.tells (S.left script.old) (V.files volume.old) name slot anchors workers
+        (counts (V.faults volume.old) (V.made volume.old) (V.ended volume.old))
+        (counts (V.faults volume.new) (V.made volume.new) (V.ended volume.new)) status
+        × (IsTrue K.tells → RunPrints (IsRunText S.tells V.tells V.C.tells V.C.state V.St.faults
+        (S.left script.old) (S.left script.new) (V.files volume.old) (V.files volume.new) name slot anchors workers
+        (counts (V.faults volume.old) (V.made volume.old) (V.ended volume.old))
+        (counts (V.faults volume.new) (V.made volume.new) (V.ended volume.new)))
+        (K.taken out.old) (K.taken out.new) status)
+        × RunLeaves S.tells V.tells V.C.tells V.C.state (S.left script.old) (S.left script.new)
+        (V.files volume.old) (V.files volume.new) name slot anchors workers status) (exit_status result) }
 {
     let status = rock(rt, alloc, words, volume, script, out);
     let asked = Asked {
         name: word_at(words, 1),
         slot: word_at(words, 2),
         count: word_at(words, 3),
+        workers: word_at(words, 4),
     };
     end(rt, alloc, &status, &asked)
 }

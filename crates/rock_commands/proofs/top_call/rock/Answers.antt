@@ -1,21 +1,31 @@
-use Rattle.std.proofs.Common.{◌≡◌, IsTrue, None, inr, refl, subst}
+use Rattle.std.proofs.Common.{◌≡◌, IsTrue, None, inl, inr, refl, subst}
 use Rattle.std.specs.FinMap.{get}
 use Rattle.rock_io.specs.Faults.{Rose}
 use Rattle.rock_disk.specs.File.{IsKept, IsThere}
 use Rattle.rock_disk.specs.Opened.{IsSmall}
 use Rattle.db_layout.specs.Layout.{IsSlotSize}
-use Rattle.std.specs.Prelude.{MatchOption}
+use Rattle.std.specs.Prelude.{List, MatchOption, Option, ℕ}
 use Rattle.rock_commands.specs.Command.{IsCommand}
 use Rattle.rock_commands.specs.CommandLine.{IsCommandLine}
+use Rattle.rock_commands.specs.declared.command.Command.{Command}
+use Rattle.rock_open.specs.Device.{counts}
+use Rattle.run_command.specs.Ends.{RunEnds, RunsOrLacksMemory}
+use Rattle.run_command.specs.Leaves.{RunLeaves}
+use Rattle.run_command.specs.Prints.{IsRunText, RunPrints}
+use Rattle.run_command.specs.Says.{IsRunRefused, MayRun, RunSays}
 use Rattle.file_commands.specs.Create.{IsSlotCount, IsGeometry, CreateEnds, CreateSays, CreateLeaves}
 use Rattle.file_commands.specs.Listing.{Lists}
 use Rattle.file_commands.specs.Summary.{Sums}
 use Rattle.file_commands.specs.Report.{AnyCount, IsAnchors, OfFile, HasSlots, ReportEnds, ReportSays, ReportPrints}
 use Rattle.rock_status.specs.declared.status.Status.TheVariants as status
-use Rattle.rock_commands.proofs.CommandFacts.{of_each, of_each_check, of_each_create}
+use Rattle.rock_commands.proofs.CommandFacts.{of_each, of_each_check, of_each_create, of_each_run}
 use Rattle.rock_commands.proofs.CreateFacts.{complete_create, home_when_left}
 use Rattle.rock_commands.proofs.ReportFacts.{complete, none_ended, unfit}
 use Rattle.rock_commands.proofs.top_call.rock.Goals as goal
+
+-- words that were not read are no command line
+not_read : {words : List (List ℕ)} {o : Option Command} → o ≡ None → MatchOption o (IsCommandLine words → ⊥) (IsCommand words) → IsCommandLine words → ⊥
+not_read {words = words} is read = subst (λ r. MatchOption r (IsCommandLine words → ⊥) (IsCommand words)) is read
 
 pub returns-in-List-clause-list_ends : goal.returns-in-List-clause-list_ends
 returns-in-List-clause-list_ends g c name slot asked =
@@ -89,7 +99,7 @@ returns-in-Check-clause-back g c t =
 pub returns-in-Create-clause-usage : goal.returns-in-Create-clause-usage
 returns-in-Create-clause-usage g c = (
   λ is. absurd (subst (CreateEnds c.in-Create.target.slot c.in-Create.slots (g.V.Volume.faults c.args.volume.now) (g.V.Volume.faults c.create_file.new.volume)) is c.create_file.ensures.ends),
-  λ none. absurd (none (inr (inr (c.in-Create.target.name.now, c.in-Create.target.slot, c.in-Create.slots, subst (IsCommand c.args.words.now) c.in-Create.is c.in-Some.ensures)))),
+  λ none. absurd (none (inr (inr (inl (c.in-Create.target.name.now, c.in-Create.target.slot, c.in-Create.slots, subst (IsCommand c.args.words.now) c.in-Create.is c.in-Some.ensures))))),
 )
 
 pub returns-in-Create-clause-create_ends : goal.returns-in-Create-clause-create_ends
@@ -121,7 +131,19 @@ returns-in-Create-clause-back g c t =
     home_when_left c.created_files_are_in.ensures.created c.created_files_are_in.ensures.maybe g.V.Volume.tells c.in-Create.target.slot c.in-Create.slots c.in-Create.target.name.now (g.V.Volume.files c.args.volume.now) (g.V.Volume.files c.create_file.new.volume) c.create_file.result t c.create_file.ensures.leaves (c.requires.home t)
 
 pub returns-in_default-clause-create_complete : goal.returns-in_default-clause-create_complete
-returns-in_default-clause-create_complete g c name slot slots asked t may none = absurd (subst (λ r. MatchOption r (IsCommandLine c.args.words.now → ⊥) (IsCommand c.args.words.now)) c.in_default.is c.parse.ensures (inr (inr (name, slot, slots, asked))))
+returns-in_default-clause-create_complete g c name slot slots asked t may none = absurd (not_read c.in_default.is c.parse.ensures (inr (inr (inl (name, slot, slots, asked)))))
+
+pub returns-in_default-clause-create_ends : goal.returns-in_default-clause-create_ends
+returns-in_default-clause-create_ends g c name slot slots asked = absurd (not_read c.in_default.is c.parse.ensures (inr (inr (inl (name, slot, slots, asked)))))
+
+pub returns-in_default-clause-run_ends : goal.returns-in_default-clause-run_ends
+returns-in_default-clause-run_ends g c name slot anchors workers asked = absurd (not_read c.in_default.is c.parse.ensures (inr (inr (inr (name, slot, anchors, workers, asked)))))
+
+pub returns-in_default-clause-run_refused : goal.returns-in_default-clause-run_refused
+returns-in_default-clause-run_refused g c name slot anchors workers asked = absurd (not_read c.in_default.is c.parse.ensures (inr (inr (inr (name, slot, anchors, workers, asked)))))
+
+pub returns-in_default-clause-run_complete : goal.returns-in_default-clause-run_complete
+returns-in_default-clause-run_complete g c name slot anchors workers asked st vt may none = absurd (not_read c.in_default.is c.parse.ensures (inr (inr (inr (name, slot, anchors, workers, asked)))))
 
 pub returns-in-List-clause-list_bytes : goal.returns-in-List-clause-list_bytes
 returns-in-List-clause-list_bytes g c name slot asked t =
@@ -139,7 +161,54 @@ returns-in-Check-clause-check_early g c name slot anchors slots asked t =
     name slot anchors (subst (IsCommand c.args.words.now) c.in-Check.is c.in-Some.ensures) asked (c.print_report-in-Check.ensures.early t slots)
 
 pub returns-in-Create-clause-device_unfailed : goal.returns-in-Create-clause-device_unfailed
-returns-in-Create-clause-device_unfailed g c none = none_ended (c.create_file.ensures.unfailed none) c.create_file.ensures.ended
+returns-in-Create-clause-device_unfailed g c other none = none_ended (c.create_file.ensures.unfailed none) c.create_file.ensures.ended
 
 pub returns-in_default-clause-device_unfailed : goal.returns-in_default-clause-device_unfailed
-returns-in_default-clause-device_unfailed g c none = none_ended refl refl
+returns-in_default-clause-device_unfailed g c other none = none_ended refl refl
+
+pub returns-in-Run-clause-run_ends : goal.returns-in-Run-clause-run_ends
+returns-in-Run-clause-run_ends g c name slot anchors workers asked =
+    of_each_run c.args.words.now (λ n s a w. RunEnds s a w (g.S.Source.faults c.args.script.now) (g.S.Source.faults c.run_command.new.script) (g.K.Sink.faults c.args.out.now) (g.K.Sink.faults c.run_command.new.out)
+    (counts (g.V.Volume.faults c.args.volume.now) (g.V.Volume.made c.args.volume.now) (g.V.Volume.ended c.args.volume.now))
+    (counts (g.V.Volume.faults c.run_command.new.volume) (g.V.Volume.made c.run_command.new.volume) (g.V.Volume.ended c.run_command.new.volume)) c.run_command.result)
+    name slot anchors workers (subst (IsCommand c.args.words.now) c.in-Run.is c.in-Some.ensures) asked c.run_command.ensures.ends
+
+pub returns-in-Run-clause-run_says : goal.returns-in-Run-clause-run_says
+returns-in-Run-clause-run_says g c name slot anchors workers asked =
+    of_each_run c.args.words.now (λ n s a w. RunSays g.S.Source.tells g.V.Volume.tells w (g.S.Source.left c.args.script.now) (g.S.Source.left c.run_command.new.script) (g.V.Volume.files c.args.volume.now) n s a c.run_command.result)
+    name slot anchors workers (subst (IsCommand c.args.words.now) c.in-Run.is c.in-Some.ensures) asked c.run_command.ensures.says
+
+pub returns-in-Run-clause-run_refused : goal.returns-in-Run-clause-run_refused
+returns-in-Run-clause-run_refused g c name slot anchors workers asked =
+    of_each_run c.args.words.now (λ n s a w. IsRunRefused g.S.Source.tells g.V.Volume.tells (g.S.Source.left c.args.script.now) (g.V.Volume.files c.args.volume.now) n s a w
+    (counts (g.V.Volume.faults c.args.volume.now) (g.V.Volume.made c.args.volume.now) (g.V.Volume.ended c.args.volume.now))
+    (counts (g.V.Volume.faults c.run_command.new.volume) (g.V.Volume.made c.run_command.new.volume) (g.V.Volume.ended c.run_command.new.volume)) c.run_command.result)
+    name slot anchors workers (subst (IsCommand c.args.words.now) c.in-Run.is c.in-Some.ensures) asked c.run_command.ensures.refused
+
+pub returns-in-Run-clause-run_complete : goal.returns-in-Run-clause-run_complete
+returns-in-Run-clause-run_complete g c name slot anchors workers asked st vt may none =
+    of_each_run c.args.words.now (λ n s a w. MayRun (g.S.Source.left c.args.script.now) (g.V.Volume.files c.args.volume.now) n s a w → RunsOrLacksMemory c.run_command.result)
+    name slot anchors workers (subst (IsCommand c.args.words.now) c.in-Run.is c.in-Some.ensures) asked (λ m. c.run_command.ensures.complete st vt m none) may
+
+pub returns-in-Run-clause-run_prints : goal.returns-in-Run-clause-run_prints
+returns-in-Run-clause-run_prints g c name slot anchors workers asked k =
+    of_each_run c.args.words.now (λ n s a w. RunPrints (IsRunText g.S.Source.tells g.V.Volume.tells g.V.C.Cell.tells g.V.C.Cell.state g.V.St.Station.faults
+    (g.S.Source.left c.args.script.now) (g.S.Source.left c.run_command.new.script) (g.V.Volume.files c.args.volume.now) (g.V.Volume.files c.run_command.new.volume) n s a w
+    (counts (g.V.Volume.faults c.args.volume.now) (g.V.Volume.made c.args.volume.now) (g.V.Volume.ended c.args.volume.now))
+    (counts (g.V.Volume.faults c.run_command.new.volume) (g.V.Volume.made c.run_command.new.volume) (g.V.Volume.ended c.run_command.new.volume)))
+    (g.K.Sink.taken c.args.out.now) (g.K.Sink.taken c.run_command.new.out) c.run_command.result)
+    name slot anchors workers (subst (IsCommand c.args.words.now) c.in-Run.is c.in-Some.ensures) asked (c.run_command.ensures.prints k)
+
+pub returns-in-Run-clause-run_leaves : goal.returns-in-Run-clause-run_leaves
+returns-in-Run-clause-run_leaves g c name slot anchors workers asked =
+    of_each_run c.args.words.now (λ n s a w. RunLeaves g.S.Source.tells g.V.Volume.tells g.V.C.Cell.tells g.V.C.Cell.state (g.S.Source.left c.args.script.now) (g.S.Source.left c.run_command.new.script)
+    (g.V.Volume.files c.args.volume.now) (g.V.Volume.files c.run_command.new.volume) n s a w c.run_command.result)
+    name slot anchors workers (subst (IsCommand c.args.words.now) c.in-Run.is c.in-Some.ensures) asked c.run_command.ensures.kept
+
+pub returns-in-Run-clause-usage : goal.returns-in-Run-clause-usage
+returns-in-Run-clause-usage g c = (
+  λ is. absurd (subst (RunEnds c.in-Run.target.slot c.in-Run.anchors c.in-Run.workers (g.S.Source.faults c.args.script.now) (g.S.Source.faults c.run_command.new.script) (g.K.Sink.faults c.args.out.now) (g.K.Sink.faults c.run_command.new.out)
+      (counts (g.V.Volume.faults c.args.volume.now) (g.V.Volume.made c.args.volume.now) (g.V.Volume.ended c.args.volume.now))
+      (counts (g.V.Volume.faults c.run_command.new.volume) (g.V.Volume.made c.run_command.new.volume) (g.V.Volume.ended c.run_command.new.volume))) is c.run_command.ensures.ends),
+  λ none. absurd (none (inr (inr (inr (c.in-Run.target.name.now, c.in-Run.target.slot, c.in-Run.anchors, c.in-Run.workers, subst (IsCommand c.args.words.now) c.in-Run.is c.in-Some.ensures))))),
+)
