@@ -44,7 +44,7 @@ row() {
     holds "rock $*: status $ended, printed '$(head -c 200 printed)', said '$(head -n 1 said)'" $?
 }
 
-disk="could not be read or made; look at its disk and its permissions"
+disk="could not be read, written or made; look at its disk and its permissions"
 
 # A run: the status, what is printed, how the first line on standard error begins, the script, and the words.
 run_row() {
