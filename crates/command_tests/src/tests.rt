@@ -352,6 +352,33 @@ fn each_status_has_its_cause(rt: HostRuntime) -> Result<(), Fail> {
     Ok(())
 }
 
+#[test]
+fn words_that_are_no_line_run_change_nothing(rt: HostRuntime) -> Result<(), Fail> {
+    let alloc = rt.alloc();
+    let file = one_entry(alloc)?;
+    let rows: [&[&str]; 11] = [
+        &["run"],
+        &["run", "db", "512", "1"],
+        &["run", "db", "512", "1", "1", "1"],
+        &["run", "-db", "512", "1", "1"],
+        &["run", "", "512", "1", "1"],
+        &["run", "db", "0512", "1", "1"],
+        &["run", "db", "512", "01", "1"],
+        &["run", "db", "512", "1", "01"],
+        &["run", "db", "512", "1", "+1"],
+        &["run", "db", "512", "1", "4294967296"],
+        &["check", "db", "512", "1", "1"],
+    ];
+    for words in rows {
+        let mut volume = volume_of(alloc, Some(&file), &[], &[])?;
+        let (ended, printed) = run(&rt, alloc, words, &mut volume, 99)?;
+        assert_eq!(rt; ended, Status::Usage, "{words:?}");
+        assert_eq!(rt; printed.len(), 0, "{words:?}");
+        assert_eq!(rt; volume.cells("db").is_some(), true, "{words:?}");
+    }
+    Ok(())
+}
+
 /// What is printed of a file of slots of 512 bytes.
 fn printed<R: Threads + Wait + Sync>(
     rt: &R,
