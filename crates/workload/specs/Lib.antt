@@ -1,0 +1,5 @@
+pub mod Numbers
+pub mod Urls
+pub mod Shares
+pub mod Requests
+pub mod Script
