@@ -1,5 +1,5 @@
 -- The request of a kind.
-use Rattle.std.proofs.Common.{◌≡◌, ℕ, ◌<◌, ◌≤◌, List, Bool, false, nat_lt, ◌==◌, if◌then◌else◌, refl, ap, ◌∙◌, lt-ltb, le-ltb}
+use Rattle.std.proofs.Common.{◌≡◌, ℕ, ◌<◌, ◌≤◌, List, Bool, false, nat_lt, ◌==◌, if◌then◌else◌, ap, ◌∙◌, lt-ltb, le-ltb}
 use Rattle.script_text.specs.declared.body.Body.{Body}
 use Rattle.script_text.specs.declared.request.Request.{Request}
 use Rattle.script_text.specs.declared.request.Request.TheVariants.{Get, Put, Save, Purge}

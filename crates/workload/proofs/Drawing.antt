@@ -1,5 +1,5 @@
 -- Numbers are drawn one behind the other.
-use Rattle.std.proofs.Common.{◌≡◌, ℕ, zero, suc, ◌+◌, ◌*◌, ◌/◌, ◌^◌, refl, arith, sym, ap, ◌∙◌}
+use Rattle.std.proofs.Common.{◌≡◌, ℕ, zero, suc, ◌+◌, ◌/◌, ◌^◌, refl, arith, sym, ap, ◌∙◌}
 use Rattle.std.specs.Fn.{iterate}
 use Rattle.workload.specs.Numbers.{next, number_at, drawn}
 

@@ -1,5 +1,5 @@
 -- The URLs of a worker, and the workers that have one, one number further.
-use Rattle.std.proofs.Common.{◌≡◌, ℕ, ◌+◌, ◌*◌, ◌<◌, ◌≤◌, List, [], ◌∷◌, ◌++◌, map, length, Bool, true, false, cond, nat_lt, ◌==◌, get_or, refl, arith, sym, ap, ◌∙◌, lt-ltb, le-ltb, eq-eqb, ne_eqb, eqb-true, true≢false, append-nil}
+use Rattle.std.proofs.Common.{◌≡◌, ℕ, ◌+◌, ◌*◌, ◌<◌, ◌≤◌, List, [], ◌∷◌, ◌++◌, map, length, Bool, true, false, cond, nat_lt, ◌==◌, get_or, arith, sym, ap, ◌∙◌, lt-ltb, le-ltb, eq-eqb, ne_eqb, eqb-true, true≢false, append-nil}
 use Rattle.std.specs.List.{range_with_len, filter}
 use Rattle.std.proofs.lemmas.List.FromFn.{filter_of_map_range_with_len_more}
 use Rattle.workload.specs.declared.shares.Share.{Share}

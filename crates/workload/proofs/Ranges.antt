@@ -1,7 +1,7 @@
 -- Lists over ranges of numbers, one number further.
 use Rattle.std.proofs.Common.{◌≡◌, ℕ, ◌+◌, ◌<◌, List, [], ◌∷◌, ◌++◌, map, length, Bool, cond, get_or, arith, sym, ap, ◌∙◌}
-use Rattle.std.specs.List.{range_with_len, filter, flat_map}
-use Rattle.std.proofs.lemmas.List.{map-id, flat_map_more}
+use Rattle.std.specs.List.{range_with_len, filter}
+use Rattle.std.proofs.lemmas.List.{map-id}
 use Rattle.std.proofs.lemmas.List.FromFn.{map-range_with_len_more, filter_of_map_range_with_len_more, length-map-range_with_len, get_or-map-range_with_len}
 
 pub range_more : (n : ℕ) → range_with_len 0 (n + 1) ≡ range_with_len 0 n ++ n ∷ []

@@ -1,5 +1,5 @@
 -- The turns of rounds, and how many there are.
-use Rattle.std.proofs.Common.{◌≡◌, ℕ, zero, suc, ◌+◌, ◌*◌, ◌<◌, ◌≤◌, List, [], ◌∷◌, ◌++◌, map, length, not, true, refl, arith, sym, ap, ◌∙◌, subst, length-append}
+use Rattle.std.proofs.Common.{◌≡◌, ℕ, zero, suc, ◌+◌, ◌*◌, ◌<◌, ◌≤◌, List, [], ◌++◌, map, length, not, true, refl, arith, sym, ap, ◌∙◌, subst, length-append}
 use Rattle.std.specs.Prelude.{All, Bool}
 use Rattle.std.specs.List.{range_with_len, filter, flat_map}
 use Rattle.std.proofs.lemmas.List.{flat_map_more}
@@ -7,7 +7,6 @@ use Rattle.std.proofs.lemmas.List.FromFn.{length-map-range_with_len}
 use Rattle.std.proofs.lemmas.List.Filters.{length-filter_both}
 use Rattle.std.proofs.lemmas.List.Elements.{filter_passes}
 use Rattle.std.proofs.Math.Nat.{mul-le-mul}
-use Rattle.workload.specs.declared.shares.Share.{Share}
 use Rattle.workload.specs.Shares.{share_of, has_url, shares_of}
 use Rattle.workload.specs.Script.{turns_of}
 use Rattle.workload.proofs.Ranges.{range_more}

@@ -1,4 +1,4 @@
-use Rattle.std.proofs.Common.{ℕ, ◌*◌}
+use Rattle.std.proofs.Common.{◌*◌}
 use Rattle.std.proofs.Math.Nat.{mod-add-mod}
 use Rattle.workload.specs.Numbers.{next}
 use Rattle.workload.proofs.numbers.next.Goals as goal

@@ -1,5 +1,3 @@
-use Rattle.std.proofs.Common.{◌≡◌}
-use Rattle.workload.specs.Shares.{shares_of}
 use Rattle.workload.specs.Script.{turns_of, IsDraft}
 use Rattle.workload.proofs.script.bench_script.Given as goal
 

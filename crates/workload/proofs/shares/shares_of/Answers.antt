@@ -1,4 +1,4 @@
-use Rattle.std.proofs.Common.{◌≡◌, ℕ, ◌+◌, ◌<◌, length, Vec, Global, refl, arith, ap, ◌∙◌}
+use Rattle.std.proofs.Common.{◌≡◌, ◌+◌, ◌<◌, length, Vec, Global, refl, arith, ap, ◌∙◌}
 use Rattle.workload.specs.declared.shares.Share.{Share}
 use Rattle.workload.specs.Shares.{shares_of}
 use Rattle.workload.proofs.Kept.{shares_below, share_kept, share_left, are_some, are_none}

@@ -1,4 +1,4 @@
-use Rattle.std.proofs.Common.{◌≡◌, ◌*◌, map}
+use Rattle.std.proofs.Common.{◌≡◌, map}
 use Rattle.std.specs.List.{range_with_len, filter}
 use Rattle.workload.specs.Shares.{has_url, share_of}
 use Rattle.workload.proofs.shares.shares_of.Given as goal

@@ -1,4 +1,4 @@
-use Rattle.std.proofs.Common.{◌≡◌, ℕ, ◌+◌, ◌*◌, length, Vec, Global, arith, ap, ◌∙◌}
+use Rattle.std.proofs.Common.{◌≡◌, ℕ, ◌*◌, length, Vec, Global, arith, ap, ◌∙◌}
 use Rattle.workload.specs.Urls.{home_of, urls_of}
 use Rattle.workload.proofs.Ranges.{length_listed}
 use Rattle.workload.proofs.Kept.{urls_below, url_kept, url_left}
