@@ -384,6 +384,41 @@ holds 'a folder for a script is a fault of the source' $?
 [ $? -eq 4 ] && [ ! -s printed ]
 holds 'a closed standard input is a fault of the source' $?
 
+# A script that comes slowly, by pieces that end within lines.
+slow_script() {
+    for piece in $'1 put http://a/b =he' $'llo\n1 ge' $'t http://a/b\n'; do
+        printf '%s' "$piece"
+        sleep 0.2
+    done
+}
+rm -f new && ./rock create new 512 4
+slow_script | ./rock run new 512 1 1 >printed 2>said
+[ $? -eq 0 ] && [ ! -s said ] && printf '1 1 STORED 1\n1 2 HIT 1 5 68656c6c6f\n' | cmp -s - printed
+holds 'a script from a slow pipe is read to its end' $?
+
+# A run that is killed while it stores printed nothing. What is listed then are responses of its script, whole, and
+# another run finds them. A body of the script has as many letters as its number, from the first letter on.
+for number in $(seq 1 1200); do printf '1 save http://a/%d #%d:0\n' "$number" "$number"; done >many
+rm -f new && ./rock create new 512 4096
+./rock run new 512 4096 1 <many >printed 2>said &
+run=$!
+for _ in $(seq 200); do
+    sleep 0.01
+    [ "$(./rock list new 512 | head -n 2 | wc -l)" -eq 2 ] && break
+done
+kill -9 "$run" && ! wait "$run" 2>said && [ ! -s printed ]
+holds 'a run that is killed printed nothing' $?
+./rock list new 512 >listed && [ -s listed ] && [ "$(wc -l <listed)" -lt 1200 ] &&
+    awk '$6 != "http://a/" $5 { exit 1 }' listed
+holds 'a run that was killed left responses of its script' $?
+awk '{ print "1 get " $6 }' listed >gets
+while read -r _ _ version _ length _; do
+    printf 'HIT %d %d %s\n' "$version" "$length" "$(made 0 "$length")"
+done <listed >wanted
+./rock run new 512 4096 1 <gets | cut -d ' ' -f 3- >got
+paste -d '|' wanted got | awk -F '|' '$2 != $1 && $2 !~ /^MISS other / { exit 1 } $2 == $1 { hits++ } END { exit !hits }'
+holds 'what a killed run left is served whole' $?
+
 # Files that are too short, or end within a slot.
 truncate -s 16895 db
 row 8 '' 'rock: Small bytes=16895: db is shorter than the header area and one slot' list db 512
