@@ -137,11 +137,6 @@ impl Meeting {
         })
     }
 
-    /// How many signs were made.
-    pub fn signs(&self) -> usize {
-        self.signs.load(Ordering::SeqCst)
-    }
-
     /// The part of the next station.
     fn next_part(&self) -> Part {
         self.parts
