@@ -178,46 +178,48 @@ module _ (t : ℕ) (s : Setting) (p : Plain) where
       on (Reading a given is_other) w = rw w own_refl
       on (Writing a) w = rw w (close_writer_else t (IsOwn t p) a w GivenUp p)
 
-  pub close_keeps : KeepsElse t (IsOwn t p) p (close t p).after
-  close_keeps = on (tab_at p t) refl
+-- Of these the tab owns nothing.
+module _ (t : ℕ) (Own : ℕ → Type 0) (s : Setting) (p : Plain) where
+  pub close_else : KeepsElse t Own p (close t p).after
+  close_else = on (tab_at p t) refl
     where
-      on : (x : Tab) → tab_at p t ≡ x → KeepsElse t (IsOwn t p) p (close t p).after
-      on Free w = rw w own_refl
-      on (Writing a) w = rw w own_refl
-      on (Reading a given is_other) w = rw w (else_trans t (IsOwn t p) p (with_tab p t Free) (settle a (with_tab p t Free)) (else_tab t (IsOwn t p) p Free) (else_settle t (IsOwn t p) a (with_tab p t Free)))
+      on : (x : Tab) → tab_at p t ≡ x → KeepsElse t Own p (close t p).after
+      on Free w = rw w (else_refl t Own p)
+      on (Writing a) w = rw w (else_refl t Own p)
+      on (Reading a given is_other) w = rw w (else_trans t Own p (with_tab p t Free) (settle a (with_tab p t Free)) (else_tab t Own p Free) (else_settle t Own a (with_tab p t Free)))
 
-  pub more_keeps : KeepsElse t (IsOwn t p) p (more s t p).after
-  more_keeps = on (tab_at p t) refl
+  pub more_else : KeepsElse t Own p (more s t p).after
+  more_else = on (tab_at p t) refl
     where
-      to : (a given : ℕ) (o : Option Entry) → entry_at p a ≡ o → tab_at p t ≡ Reading a given false → KeepsElse t (IsOwn t p) p (more s t p).after
-      to a given None e w = rw (w, e) own_refl
-      to a given (Some x) e w = rw (w, e) (else_tab t (IsOwn t p) p (Reading a (length (available s.room x)) false))
+      to : (a given : ℕ) (o : Option Entry) → entry_at p a ≡ o → tab_at p t ≡ Reading a given false → KeepsElse t Own p (more s t p).after
+      to a given None e w = rw (w, e) (else_refl t Own p)
+      to a given (Some x) e w = rw (w, e) (else_tab t Own p (Reading a (length (available s.room x)) false))
 
-      on : (x : Tab) → tab_at p t ≡ x → KeepsElse t (IsOwn t p) p (more s t p).after
-      on Free w = rw w own_refl
-      on (Writing a) w = rw w own_refl
-      on (Reading a given true) w = rw w own_refl
+      on : (x : Tab) → tab_at p t ≡ x → KeepsElse t Own p (more s t p).after
+      on Free w = rw w (else_refl t Own p)
+      on (Writing a) w = rw w (else_refl t Own p)
+      on (Reading a given true) w = rw w (else_refl t Own p)
       on (Reading a given false) w = to a given (entry_at p a) refl w
 
-  pub open_keeps : (url : List ℕ) → KeepsElse t (IsOwn t p) p (open_tab s t url p).after
-  open_keeps url = on (tab_at p t) refl
+  pub open_else : (url : List ℕ) → KeepsElse t Own p (open_tab s t url p).after
+  open_else url = on (tab_at p t) refl
     where
       a : ℕ
       a = anchor_of (key_of url) s.anchors
 
-      judged : (o : Option Cause) → judge s p (anchor_of (key_of url) s.anchors) (key_of url) ≡ o → tab_at p t ≡ Free → KeepsElse t (IsOwn t p) p (open_tab s t url p).after
-      judged None e w = rw (w, e) (else_tab t (IsOwn t p) p (Reading (anchor_of (key_of url) s.anchors) 0 (not (has_url url (entry_at p (anchor_of (key_of url) s.anchors))))))
-      judged (Some cause) e w = rw (w, e) own_refl
+      judged : (o : Option Cause) → judge s p (anchor_of (key_of url) s.anchors) (key_of url) ≡ o → tab_at p t ≡ Free → KeepsElse t Own p (open_tab s t url p).after
+      judged None e w = rw (w, e) (else_tab t Own p (Reading (anchor_of (key_of url) s.anchors) 0 (not (has_url url (entry_at p (anchor_of (key_of url) s.anchors))))))
+      judged (Some cause) e w = rw (w, e) (else_refl t Own p)
 
-      on : (x : Tab) → tab_at p t ≡ x → KeepsElse t (IsOwn t p) p (open_tab s t url p).after
-      on (Writing b) w = rw w own_refl
-      on (Reading b given is_other) w = rw w own_refl
+      on : (x : Tab) → tab_at p t ≡ x → KeepsElse t Own p (open_tab s t url p).after
+      on (Writing b) w = rw w (else_refl t Own p)
+      on (Reading b given is_other) w = rw w (else_refl t Own p)
       on Free w = judged (judge s p (anchor_of (key_of url) s.anchors) (key_of url)) refl w
 
-  pub purge_keeps : (url : List ℕ) → KeepsElse t (IsOwn t p) p (purge s url p).after
-  purge_keeps url = judged (anchor_of (key_of url) s.anchors) (judge s p (anchor_of (key_of url) s.anchors) (key_of url)) refl
+  pub purge_else : (url : List ℕ) → KeepsElse t Own p (purge s url p).after
+  purge_else url = judged (anchor_of (key_of url) s.anchors) (judge s p (anchor_of (key_of url) s.anchors) (key_of url)) refl
     where
-      dooms : (x : ℕ) → KeepsElse t (IsOwn t p) p (doom_at x p)
+      dooms : (x : ℕ) → KeepsElse t Own p (doom_at x p)
       dooms x = record { tabs = λ j ne. refl; eight = refl; entries = λ b g o. of_place (λ y. y.entry) b refl; versions = λ b g o. of_place (λ y. y.version) b refl }
         where
           of_place : {A : Type 0} (f : Place → A) (b : ℕ) → f (doomed (place_at p x)) ≡ f (place_at p x) → f (place_at (doom_at x p) b) ≡ f (place_at p b)
@@ -226,9 +228,9 @@ module _ (t : ℕ) (s : Setting) (p : Plain) where
             | inr h ↦ ap f h
           ]
 
-      judged : (x : ℕ) (o : Option Cause) → judge s p x (key_of url) ≡ o → KeepsElse t (IsOwn t p) p (purge_at s x (key_of url) p).after
-      judged x None e = rw e (else_trans t (IsOwn t p) p (doom_at x p) (settle x (doom_at x p)) (dooms x) (else_settle t (IsOwn t p) x (doom_at x p)))
-      judged x (Some cause) e = rw e own_refl
+      judged : (x : ℕ) (o : Option Cause) → judge s p x (key_of url) ≡ o → KeepsElse t Own p (purge_at s x (key_of url) p).after
+      judged x None e = rw e (else_trans t Own p (doom_at x p) (settle x (doom_at x p)) (dooms x) (else_settle t Own x (doom_at x p)))
+      judged x (Some cause) e = rw e (else_refl t Own p)
 
 -- beginning an entry, and a response that is stored or got whole
 module _ (s : Setting) (p : Plain) where
@@ -243,3 +245,46 @@ module _ (s : Setting) (p : Plain) where
 
   pub begin_keeps : (t : ℕ) (url body : List ℕ) (offer : ℕ) → KeepsElse t (IsOwn t p) p (begin s t url body offer p).after
   begin_keeps t url body offer = begin_keeps_as t url body offer (begins s t url body offer p (tab_at p t) refl)
+
+  -- of two requests on one tab, where the second may change what the first began
+  then_else : (t : ℕ) (q r : Plain) → ((b : ℕ) → IsGrowing (entry_at p b) → IsOwn t q b → IsOwn t p b) → KeepsElse t (IsOwn t p) p q → KeepsElse t (IsOwn t q) q r → KeepsElse t (IsOwn t p) p r
+  then_else t q r own h k = record {
+    tabs = λ j ne. k.tabs j ne ∙ h.tabs j ne;
+    eight = k.eight ∙ h.eight;
+    entries = λ b g o. k.entries b (still b g o) (λ w. o (own b g w)) ∙ h.entries b g o;
+    versions = λ b g o. k.versions b (still b g o) (λ w. o (own b g w)) ∙ h.versions b g o;
+  }
+    where
+      still : (b : ℕ) → IsGrowing (entry_at p b) → (IsOwn t p b → ⊥) → IsGrowing (entry_at q b)
+      still b g o = subst IsGrowing (sym (h.entries b g o)) g
+
+  taken_own : (t a : ℕ) (x : Entry) → (IsGrowing (entry_at p a) → ⊥) → tab_at p t ≡ Free → (b : ℕ) → IsGrowing (entry_at p b) → IsOwn t (taken_by t a x p) b → IsOwn t p b
+  taken_own t a x never free b g w = elim (set_there p.tabs t t (Writing a) Free) [
+    | inl h ↦ (let same : Writing a ≡ Writing b = sym h.1 ∙ w in absurd (never (subst (λ (z : ℕ). IsGrowing (entry_at p z)) (sym (anchor_is same)) g)))
+    | inr h ↦ sym h ∙ w
+  ]
+    where
+      anchor_is : Writing a ≡ Writing b → a ≡ b
+      anchor_is e = cc
+
+  put_keeps_as : (url body : List ℕ) (offer : ℕ) → BeginsAs s 7 url body offer p → KeepsElse 7 (IsOwn 7 p) p (put s url body offer p).after
+  put_keeps_as url body offer (BeginsAs.in_use e) = rw e (own_refl 7 s p)
+  put_keeps_as url body offer (BeginsAs.long e) = rw e (own_refl 7 s p)
+  put_keeps_as url body offer (BeginsAs.busy w e) = rw e (own_refl 7 s p)
+  put_keeps_as url body offer (BeginsAs.spent h e) = rw e (own_refl 7 s p)
+  put_keeps_as url body offer (BeginsAs.begun free fits able e) = let a = anchor_of (key_of url) s.anchors in let x = entry_of url body offer in let q = taken_by 7 a x p in
+      let first : KeepsElse 7 (IsOwn 7 p) p (begin s 7 url body offer p).after = begin_keeps_as 7 url body offer (BeginsAs.begun free fits able e) in
+      let same : KeepsElse 7 (IsOwn 7 p) p q = subst (λ (z : Step). KeepsElse 7 (IsOwn 7 p) p z.after) e first in
+      rw e (then_else 7 q (end s 7 q).after (taken_own 7 a x (able_not p a able) free) same (end_keeps 7 s q))
+
+  pub put_keeps : (url body : List ℕ) (offer : ℕ) → KeepsElse 7 (IsOwn 7 p) p (put s url body offer p).after
+  put_keeps url body offer = put_keeps_as url body offer (begins s 7 url body offer p (tab_at p 7) refl)
+
+  get_as : (Own : ℕ → Type 0) (url : List ℕ) → Opens s url p → KeepsElse 7 Own p (get s url p).after
+  get_as Own url (Opens.missed cause e) = rw e (else_refl 7 Own p)
+  get_as Own url (Opens.in_use e) = rw e (else_refl 7 Own p)
+  get_as Own url (Opens.opened j t e) = rw e (let q = with_tab p 7 (Reading (anchor_of (key_of url) s.anchors) 0 (not (has_url url (entry_at p (anchor_of (key_of url) s.anchors))))) in let r = (more s 7 q).after in
+      else_trans 7 Own p q (close 7 r).after (else_tab 7 Own p _) (else_trans 7 Own q r (close 7 r).after (more_else 7 Own s q) (close_else 7 Own s r)))
+
+  pub get_else : (Own : ℕ → Type 0) (url : List ℕ) → KeepsElse 7 Own p (get s url p).after
+  get_else Own url = get_as Own url (opens s url p (tab_at p 7) refl)
