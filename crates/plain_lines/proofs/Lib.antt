@@ -1,3 +1,5 @@
 pub mod Frames
 pub mod Chains
 pub mod OtherTabs
+pub mod PlainWords
+pub mod ShowingOthers
