@@ -3,3 +3,4 @@ pub mod Chains
 pub mod OtherTabs
 pub mod PlainWords
 pub mod ShowingOthers
+pub mod Lines
