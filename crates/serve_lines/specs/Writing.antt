@@ -27,6 +27,7 @@ module _ {C O : Type 0} (tells : Bool) (state : C → CellState) (offers : O →
     pub refused : IfErr outcome (λ fault. NotTaken (basis tells state offers s) t (anchor_for (basis tells state offers s) url) (view p) fault (view q))
     pub long : (a ≡ answer.LongUrl) ↔ IsTooLong (basis tells state offers s) url
     pub free : OnErr outcome (IsFree q t)
+    pub stays : q.hand ≡ p.hand
 
   -- Of the body of the entry e so many bytes were taken, or all that are left if these are fewer; or it was given up.
   pub record AddsTo (count : ℕ) (e : Entry) : Type 0 where
@@ -47,6 +48,7 @@ module _ {C O : Type 0} (tells : Bool) (state : C → CellState) (offers : O →
   pub record Drops : Type 0 where
     pub answer_is : a ≡ answer.Dropped
     pub halts : Halts (basis tells state offers s) t (view p) (view q)
+    pub stays : q.hand ≡ p.hand
 
   -- The requests. Whatever entry the tab writes, it is served so.
   abbrev pub BeginsOn : (offer : ℕ) (url : List ℕ) → Type 0
