@@ -2,7 +2,7 @@
 use Rattle.std.proofs.Common.{Bool, Option, None, Some, ap, arith, cond, false, length, refl, sym, true, ◌*◌, ◌+◌, ◌<◌, ◌≡◌, ◌≢◌, ◌≤◌, ◌∙◌, ne_eqb, ℕ}
 use Rattle.std.specs.Prelude.{◌&&◌, ◌==◌, ◌||◌, is_none, not}
 use Rattle.std.proofs.Math.Bool.{and_comm}
-use Rattle.std.proofs.lemmas.List.Sums.{count_by-le-length}
+use Rattle.std.proofs.lemmas.List.Sums.{count_by-le-length, sum_by-set}
 use Rattle.lock_word.specs.declared.epoch.Epoch.{Epoch}
 use Rattle.lock_word.specs.declared.stage.Stage.TheVariants.{Appending, Empty, Gone, Taken}
 use Rattle.lock_word.specs.declared.word.Word.{Word}
@@ -13,7 +13,9 @@ use Rattle.plain_model.specs.declared.entry.Life.{Life}
 use Rattle.plain_model.specs.declared.entry.Life.TheVariants.{GivenUp, Growing, Whole}
 use Rattle.plain_model.specs.declared.store.Plain.{Plain}
 use Rattle.plain_model.specs.declared.store.Setting.{Setting}
-use Rattle.plain_model.specs.Store.{entry_at, epoch_of as epoch_in, has_life, is_idle_at, is_left_over_at, is_vacant_at, place_at, published, readers, reads_at, stage_of as stage_in, stage_of_entry, word_at}
+use Rattle.plain_model.specs.declared.store.Tab.{Tab}
+use Rattle.plain_model.specs.declared.store.Tab.TheVariants.{Free}
+use Rattle.plain_model.specs.Store.{entry_at, epoch_of as epoch_in, has_life, is_idle_at, is_left_over_at, is_vacant_at, place_at, published, readers, reads_at, stage_of as stage_in, stage_of_entry, tab_at, with_tab, word_at}
 use Rattle.plain_laws.specs.Renaming.{renamed_epoch, renamed_word}
 
 -- Numbers with so many readers more than a word has.
@@ -56,6 +58,10 @@ readers_few p a = count_by-le-length (reads_at a) p.tabs
 
 pub readers_fit : (p : Plain) (a guests : ℕ) → length p.tabs ≡ 8 → guests ≤ 1 → readers p a + guests < 65536
 readers_fit p a guests eight one = let k = readers_few p a in omega arith
+
+-- one tab more or less that reads there
+pub readers_put : (p : Plain) (t a : ℕ) (x : Tab) → t < length p.tabs → readers (with_tab p t x) a + cond (reads_at a (tab_at p t)) 1 0 ≡ readers p a + cond (reads_at a x) 1 0
+readers_put p t a x inside = sum_by-set (λ (y : Tab). cond (reads_at a y) 1 0) p.tabs t x Free inside
 
 -- the tests of a number, by the parts of a place
 vacant_stage : (room version : ℕ) (o : Option Entry) → ((stage_number (stage_in room version o) == 0) || (stage_number (stage_in room version o) == 6)) ≡ is_none o
