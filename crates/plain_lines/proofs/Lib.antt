@@ -1,3 +1,4 @@
 pub mod Frames
+pub mod Chains
 pub mod PlainWords
 pub mod Beginning
