@@ -3,4 +3,5 @@ pub mod Chains
 pub mod OtherTabs
 pub mod PlainWords
 pub mod ShowingOthers
+pub mod Lines
 pub mod Beginning

@@ -67,6 +67,13 @@ module _ (begins : OneBegins) (g : Ground (List ℕ)) (a offer : ℕ) where
       of_file x y = sym x.url_is ∙ ap (λ (e : FileEntry). e.url) (begins g.slot g.setting.contents x.entry y.entry x.complete y.complete
           (firsts (sym x.complete.chain.begins ∙ (x.chain_is ∙ sym y.chain_is) ∙ y.complete.chain.begins))) ∙ y.url_is
 
+module _ {C O : Type 0} (tells : Bool) (state : C → CellState) (offers : O → Offers) (s : Store C O) (rename : ℕ → ℕ) where
+  -- What a request on one tab has to say: what the pass knows, where its hand is, and what the tab is. The other tabs are shown then.
+  pub record ShowsOn (q : Pass C) (p' : Plain) (t : ℕ) : Type 0 where
+    pub knows : Knows (basis tells state offers s) rename (view q) p' no_guests
+    pub hand : hand_in (basis tells state offers s).setting.anchors q.hand ≡ p'.hand
+    pub tab : ShowsTab tells state offers s rename q p' t (tab_at p' t)
+
 module _ {C O : Type 0} (tells : Bool) (state : C → CellState) (offers : O → Offers) (s : Store C O) (rename : ℕ → ℕ) (begins : OneBegins) (stays : Stays tells state offers s) (lone : IsLone (basis tells state offers s)) where
   abbrev g : Ground (List ℕ)
   g = basis tells state offers s
@@ -164,13 +171,7 @@ module _ {C O : Type 0} (tells : Bool) (state : C → CellState) (offers : O →
       record { view = view pass; at = st.at; there = tab_there (view pass) j _ (let nine = pass_of pass in let b = k.writes.rests.below in omega arith) k.writes.rests.is }
       h.anchor_is k.anchor_is).1
 
-  -- What a request on one tab has to say: what the pass knows, where its hand is, and what the tab is. The other tabs are shown then.
-  pub record ShowsOn (q : Pass C) (p' : Plain) (t : ℕ) : Type 0 where
-    pub knows : Knows g rename (view q) p' no_guests
-    pub hand : hand_in g.setting.anchors q.hand ≡ p'.hand
-    pub tab : ShowsTab tells state offers s rename q p' t (tab_at p' t)
-
-  pub shows_after : (pass q : Pass C) (p p' : Plain) (t : ℕ) → Shows tells state offers s rename pass p → Leaves tells state offers s t pass q → KeepsElse t (IsOwn t p) p p' → ShowsOn q p' t → t < 8 → Shows tells state offers s rename q p'
+  pub shows_after : (pass q : Pass C) (p p' : Plain) (t : ℕ) → Shows tells state offers s rename pass p → Leaves tells state offers s t pass q → KeepsElse t (IsOwn t p) p p' → ShowsOn tells state offers s rename q p' t → t < 8 → Shows tells state offers s rename q p'
   shows_after pass q p p' t h leaves keeps served below = record {
     own = leaves.own;
     inner_free = leaves.inner_free;
