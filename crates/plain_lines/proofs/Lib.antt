@@ -2,6 +2,7 @@ pub mod Frames
 pub mod Chains
 pub mod OtherTabs
 pub mod PlainWords
+pub mod OwnVersions
 pub mod ShowingOthers
 pub mod Lines
 pub mod Beginning
