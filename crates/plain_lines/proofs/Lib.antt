@@ -1,2 +1,8 @@
+pub mod Frames
+pub mod Chains
+pub mod OtherTabs
+pub mod PlainWords
+pub mod ShowingOthers
+pub mod Lines
 pub mod Freeing
 pub mod Leaving
