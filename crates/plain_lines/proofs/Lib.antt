@@ -5,4 +5,6 @@ pub mod PlainWords
 pub mod OwnVersions
 pub mod ShowingOthers
 pub mod Lines
+pub mod Freeing
+pub mod Leaving
 pub mod Beginning
