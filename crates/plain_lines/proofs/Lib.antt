@@ -8,3 +8,4 @@ pub mod Lines
 pub mod Freeing
 pub mod Leaving
 pub mod Beginning
+pub mod BeginLines
