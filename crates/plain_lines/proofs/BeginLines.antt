@@ -20,9 +20,9 @@ use Rattle.plain_model.specs.declared.store.Plain.{Plain}
 use Rattle.plain_model.specs.declared.store.Setting.{Setting}
 use Rattle.plain_model.specs.declared.store.Tab.TheVariants.{Free, Writing}
 use Rattle.plain_model.specs.Place.{nothing}
-use Rattle.plain_model.specs.Serving.{bytes_of}
+use Rattle.plain_model.specs.Serving.{bytes_of, put}
 use Rattle.plain_model.specs.Store.{is_idle_at, is_vacant_at, meta_size, place_at, tab_at, word_at}
-use Rattle.plain_model.specs.Writing.{Step, begin, begin_free, entry_of, step, taken_by}
+use Rattle.plain_model.specs.Writing.{Step, begin, begin_free, end, entry_of, step, taken_by}
 use Rattle.plain_laws.specs.Renaming.{renamed, renamed_word}
 use Rattle.store_rule.specs.declared.store.Pass.{Pass}
 use Rattle.store_rule.specs.declared.store.Store.{Store}
@@ -99,16 +99,18 @@ module _ {C O : Type 0} (tells : Bool) (state : C → CellState) (offers : O →
   both_false : (x y : Bool) → x ≡ false → y ≡ false → (x || y) ≡ false
   both_false x y e f = rw (e, f) refl
 
-  -- no entry was begun: why, and what is known then
+  -- No entry was begun, there and in the plain store: why, and what is known then.
   pub record NotBegun (fault : BeginFault) (q : Pass C) : Type 0 where
-    pub answer_is : answer_to_refusal fault ≡ renamed rename begins.answer
-    pub after_is : begins.after ≡ p
+    pub plain_fault : BeginFault
+    pub begins_is : begins ≡ step (answer_to_refusal plain_fault) p
+    pub answer_is : answer_to_refusal fault ≡ renamed rename (answer_to_refusal plain_fault)
     pub knows : Knows g rename (view q) p no_guests
 
   pub not_begun : (fault : BeginFault) (q : Pass C) → NotTaken g t a (view pass) fault (view q) → ((answer_to_refusal fault ≡ answer.LongUrl) ↔ IsTooLong g url) → IsTyped (answer_to_refusal fault) → NotBegun fault q
-  not_begun LongUrl q same long typed = let e = begin_long (setting_of g) t url (bytes_of body) offer p (long.0 refl) in record {
-    answer_is = ap (λ (r : Step). renamed rename r.answer) (sym e);
-    after_is = ap (λ (r : Step). r.after) e;
+  not_begun LongUrl q same long typed = record {
+    plain_fault = LongUrl;
+    begins_is = begin_long (setting_of g) t url (bytes_of body) offer p (long.0 refl);
+    answer_is = refl;
     knows = subst (λ (z : View (List ℕ)). Knows g rename z p no_guests) (sym same) shows.knows;
   }
   not_begun (Busy looked found) q h long typed = of_busy h.0
@@ -119,8 +121,9 @@ module _ {C O : Type 0} (tells : Bool) (state : C → CellState) (offers : O →
       of_busy : InUse g t a (view pass) looked found (view q) ⊎ Overtaken g t a (view pass) looked found (view q) → NotBegun (Busy looked found) q
       of_busy (inr o) = absurd (never_overtaken g lone rename t a (view pass) (view q) looked found o)
       of_busy (inl u) = record {
-        answer_is = ap (λ (w : Word). answer.Busy looked w) u.same ∙ ap (λ (w : Word). answer.Busy w w) looked_word ∙ ap (λ (r : Step). renamed rename r.answer) (sym e);
-        after_is = ap (λ (r : Step). r.after) e;
+        plain_fault = Busy (word_at (setting_of g) p a) (word_at (setting_of g) p a);
+        begins_is = begin_busy (setting_of g) t url (bytes_of body) offer p short (sym (open_is (word_number looked) lt found_is) ∙ both_false _ _ u.used.0 u.used.1);
+        answer_is = ap (λ (w : Word). answer.Busy looked w) u.same ∙ ap (λ (w : Word). answer.Busy w w) looked_word;
         knows = knows_same g rename (view pass) (view q) p no_guests shows.knows (looked_same g lone (view pass) (view q) a (word_number looked) u.looks);
       }
         where
@@ -132,9 +135,6 @@ module _ {C O : Type 0} (tells : Bool) (state : C → CellState) (offers : O →
 
           looked_word : looked ≡ renamed_word rename (word_at (setting_of g) p a)
           looked_word = word_there rename (setting_of g) p a looked (found_is ∙ (shows.knows.each a lt).word) typed.0 (let f = few a in omega arith)
-
-          e : begins ≡ step (answer.Busy (word_at (setting_of g) p a) (word_at (setting_of g) p a)) p
-          e = begin_busy (setting_of g) t url (bytes_of body) offer p short (sym (open_is (word_number looked) lt found_is) ∙ both_false _ _ u.used.0 u.used.1)
   not_begun (Spent versions) q h long typed = of_spent h.spent
     where
       short : meta_size url ≤ (setting_of g).room
@@ -151,25 +151,26 @@ module _ {C O : Type 0} (tells : Bool) (state : C → CellState) (offers : O →
 
       of_spent : SpentAtLook g h.seen versions (view q) ⊎ SpentAtDraw g h.seen versions (view q) → NotBegun (Spent versions) q
       of_spent (inr d) = absurd (never_spent_at_draw g lone rename h.seen (view q) versions p no_guests seen_knows d)
-      of_spent (inl l) = let k = spent_at_look g lone rename h.seen (view q) versions p no_guests seen_knows l in let e = begin_spent (setting_of g) t url (bytes_of body) offer p short open_to k.1 in record {
-        answer_is = ap answer.Spent k.0 ∙ ap (λ (r : Step). renamed rename r.answer) (sym e);
-        after_is = ap (λ (r : Step). r.after) e;
+      of_spent (inl l) = let k = spent_at_look g lone rename h.seen (view q) versions p no_guests seen_knows l in record {
+        plain_fault = Spent p.counter;
+        begins_is = begin_spent (setting_of g) t url (bytes_of body) offer p short open_to k.1;
+        answer_is = ap answer.Spent k.0;
         knows = k.2;
       }
 
   -- An entry was begun, with the next version.
   pub record IsBegun (version : ℕ) (q : Pass C) : Type 0 where
-    pub answer_is : answer.Begun version ≡ renamed rename begins.answer
-    pub after_is : begins.after ≡ taken_by t a (entry_of url (bytes_of body) offer) p
-    pub knows : Knows g rename (view q) begins.after no_guests
-    pub tab : ShowsWriting tells state offers s rename q begins.after t a
+    pub version_is : version ≡ rename (p.counter + 1)
+    pub begins_is : begins ≡ step (answer.Begun (p.counter + 1)) (taken_by t a (entry_of url (bytes_of body) offer) p)
+    pub knows : Knows g rename (view q) (taken_by t a (entry_of url (bytes_of body) offer) p) no_guests
+    pub tab : ShowsWriting tells state offers s rename q (taken_by t a (entry_of url (bytes_of body) offer) p) t a
 
   pub is_begun : (durable : Bool) (version : ℕ) (q : Pass C) → rename (p.counter + 1) ≡ p.counter + 1 → Began tells state offers s t offer url durable pass q version → IsBegun version q
   is_begun durable version q next b = record {
-    answer_is = ap answer.Begun (d.version_is ∙ sym next) ∙ ap (λ (r : Step). renamed rename r.answer) (sym e);
-    after_is = ap (λ (r : Step). r.after) e;
-    knows = subst (λ (r : Step). Knows g rename (view q) r.after no_guests) (sym e) knows;
-    tab = subst (λ (r : Step). ShowsWriting tells state offers s rename q r.after t a) (sym e) writing;
+    version_is = d.version_is ∙ sym next;
+    begins_is = begin_begun (setting_of g) t url (bytes_of body) offer p short (took_open g lone rename t a b.n version (view pass) b.middle shows.inner_free p shows.knows few free inside_tabs b.took) d.left;
+    knows = began_knows g lone rename t a b.n version (view pass) b.middle shows.inner_free p shows.knows few free inside_tabs b.took offer url (bytes_of body) response offered.from refl next (view q) b.named;
+    tab = writing;
   }
     where
       begun : Entry
@@ -183,12 +184,6 @@ module _ {C O : Type 0} (tells : Bool) (state : C → CellState) (offers : O →
 
       d : DrewNext g lone rename b.took.took.drawn version p no_guests
       d = took_next g lone rename t a b.n version (view pass) b.middle shows.inner_free p shows.knows few free inside_tabs b.took
-
-      e : begins ≡ step (answer.Begun (p.counter + 1)) (taken_by t a begun p)
-      e = begin_begun (setting_of g) t url (bytes_of body) offer p short (took_open g lone rename t a b.n version (view pass) b.middle shows.inner_free p shows.knows few free inside_tabs b.took) d.left
-
-      knows : Knows g rename (view q) (taken_by t a begun p) no_guests
-      knows = began_knows g lone rename t a b.n version (view pass) b.middle shows.inner_free p shows.knows few free inside_tabs b.took offer url (bytes_of body) response offered.from refl next (view q) b.named
 
       lt : a < g.setting.anchors
       lt = b.took.took.looks.may.allowed
@@ -210,9 +205,8 @@ module _ {C O : Type 0} (tells : Bool) (state : C → CellState) (offers : O →
         size = ap (λ (u : List ℕ). 32 + length u + 0) offered.url_is ∙ (omega arith);
       }
 
-  -- the tab is one of those that this plain store has
-  shows_begun : (durable : Bool) (version : ℕ) (q : Pass C) → IsBegun version q → ShowsTab tells state offers s rename q begins.after t (tab_at begins.after t)
-  shows_begun durable version q b = subst (ShowsTab tells state offers s rename q begins.after t) (sym (ap (λ (r : Plain). tab_at r t) b.after_is ∙ get_or-set_same p.tabs t (Writing a) Free inside_tabs)) b.tab
+  begun_tab : (version : ℕ) (q : Pass C) → IsBegun version q → ShowsTab tells state offers s rename q (taken_by t a (entry_of url (bytes_of body) offer) p) t (tab_at (taken_by t a (entry_of url (bytes_of body) offer) p) t)
+  begun_tab version q b = subst (ShowsTab tells state offers s rename q (taken_by t a (entry_of url (bytes_of body) offer) p) t) (sym (get_or-set_same p.tabs t (Writing a) Free inside_tabs)) b.tab
 
   -- What is answered to a line that begins an entry on a free tab, and what it leaves.
   pub record BeginsRight (given : Answer) (q : Pass C) : Type 0 where
@@ -224,23 +218,30 @@ module _ {C O : Type 0} (tells : Bool) (state : C → CellState) (offers : O →
   pub begins_right : (given : Answer) (q : Pass C) → rename (p.counter + 1) ≡ p.counter + 1 → Begins tells state offers s t pass given q offer url → IsTyped given → q.hand ≡ pass.hand → BeginsRight given q
   begins_right given q next h typed hand = of_outcome h.outcome h.answer_is h.began h.refused h.free
     where
-      hand_is : (after : Plain) → after.hand ≡ p.hand → hand_in g.setting.anchors q.hand ≡ after.hand
-      hand_is after same = ap (hand_in g.setting.anchors) hand ∙ shows.hand ∙ sym same
+      right : (r : Step) → begins ≡ r → given ≡ renamed rename r.answer → r.after.hand ≡ p.hand → Knows g rename (view q) r.after no_guests → ShowsTab tells state offers s rename q r.after t (tab_at r.after t) → BeginsRight given q
+      right r is answered same knows tab = record {
+        answer_is = answered ∙ ap (λ (x : Step). renamed rename x.answer) (sym is);
+        knows = subst (λ (x : Step). Knows g rename (view q) x.after no_guests) (sym is) knows;
+        hand = ap (hand_in g.setting.anchors) hand ∙ shows.hand ∙ sym same ∙ ap (λ (x : Step). x.after.hand) (sym is);
+        tab = subst (λ (x : Step). ShowsTab tells state offers s rename q x.after t (tab_at x.after t)) (sym is) tab;
+      }
 
       of_outcome : (outcome : Result ℕ BeginFault) → given ≡ answer_to_begin outcome → IfOk outcome (λ version. Began tells state offers s t offer url false pass q version)
           → IfErr outcome (λ fault. NotTaken g t a (view pass) fault (view q)) → OnErr outcome (IsFree q t) → BeginsRight given q
-      of_outcome (Ok version) is began refused free_there = let b = is_begun false version q next began in record {
-        answer_is = is ∙ b.answer_is;
-        knows = b.knows;
-        hand = hand_is begins.after (ap (λ (r : Plain). r.hand) b.after_is);
-        tab = shows_begun false version q b;
-      }
-      of_outcome (Err fault) is began refused free_there = let b = not_begun fault q refused (subst (λ (z : Answer). (z ≡ answer.LongUrl) ↔ IsTooLong g url) is h.long) (subst IsTyped is typed) in record {
-        answer_is = is ∙ b.answer_is;
-        knows = subst (λ (r : Plain). Knows g rename (view q) r no_guests) (sym b.after_is) b.knows;
-        hand = hand_is begins.after (ap (λ (r : Plain). r.hand) b.after_is);
-        tab = subst (λ (r : Plain). ShowsTab tells state offers s rename q r t (tab_at r t)) (sym b.after_is) (subst (ShowsTab tells state offers s rename q p t) (sym free) free_there);
-      }
+      of_outcome (Ok version) is began refused free_there = let b = is_begun false version q next began in
+          right (step (answer.Begun (p.counter + 1)) (taken_by t a (entry_of url (bytes_of body) offer) p)) b.begins_is (is ∙ ap answer.Begun b.version_is) refl b.knows (begun_tab version q b)
+      of_outcome (Err fault) is began refused free_there = let b = not_begun fault q refused (subst (λ (z : Answer). (z ≡ answer.LongUrl) ↔ IsTooLong g url) is h.long) (subst IsTyped is typed) in
+          right (step (answer_to_refusal b.plain_fault) p) b.begins_is (is ∙ b.answer_is) refl b.knows (subst (ShowsTab tells state offers s rename q p t) (sym free) free_there)
+
+-- A whole response is stored by beginning its entry on the last tab and ending it, or its entry is not begun.
+module _ (s : Setting) (url body : List ℕ) (offer : ℕ) (p : Plain) (free : tab_at p 7 ≡ Free) where
+  pub put_ends : (version : ℕ) (after : Plain) → begin_free s 7 url body offer p ≡ step (answer.Begun version) after → put s url body offer p ≡ end s 7 after
+  put_ends version after is = rw (free, is) refl
+
+  pub put_refused : (fault : BeginFault) → begin_free s 7 url body offer p ≡ step (answer_to_refusal fault) p → put s url body offer p ≡ step (answer_to_refusal fault) p
+  put_refused LongUrl is = rw (free, is) refl
+  put_refused (Busy looked found) is = rw (free, is) refl
+  put_refused (Spent versions) is = rw (free, is) refl
 
 -- The same where each version stands for itself, as of the request.
 module _ {C O : Type 0} (tells : Bool) (state : C → CellState) (offers : O → Offers) (s : Store C O) (lone : IsLone (basis tells state offers s)) where
