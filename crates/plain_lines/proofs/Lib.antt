@@ -9,3 +9,13 @@ pub mod Freeing
 pub mod Leaving
 pub mod Beginning
 pub mod BeginLines
+pub mod Bodies
+pub mod Judging
+pub mod QuietSteps
+pub mod AnchorWords
+pub mod Coming
+pub mod Reading
+pub mod InnerTabs
+pub mod Opening
+pub mod GetLines
+pub mod PurgeLines
