@@ -264,7 +264,7 @@ module _ (g : Ground (List ℕ)) (rename : ℕ → ℕ) (lone : IsLone g) where
 
   -- The anchor's word is a stage on from the one that the pass knew.
   pub raised_from : (v w : View (List ℕ)) → (h : Freed g v w) → h.freer.is_freeing ≡ true → has g w (Anchor h.freer.anchor) ≡ raised (has g v (Anchor h.freer.anchor)) 1
-  raised_from v w h freeing = ?
+  raised_from v w h freeing = h.from freeing (freer_inside g lone v h.freer (freed_stands v w h).0 h.was) lone
 
   -- Links of the chain changed, and the word of its anchor where that was at FREEING.
   abbrev pub FreedAt : Freer → Place → Type 0
