@@ -9,14 +9,14 @@ use lib.ListN.{get_elem?}
 use Rattle.lock_word.specs.Words.{epoch_of as epoch_in, evicted, is_idle, raised, stage_number, stage_of as stage_in, word_at as word_at_stage, word_number}
 use Rattle.lock_word.specs.declared.stage.Stage.TheVariants as stage
 use Rattle.lock_word.specs.declared.word.Word.{Word}
-use Rattle.lock_word.proofs.Parts.{doom_below, epoch_of-word_number, stage_below, stage_of-epoch_number}
+use Rattle.lock_word.proofs.Parts.{epoch_of-word_number, stage_of-epoch_number}
 use Rattle.core_model.specs.AnchorMoves.{freer_of, writer_of}
 use Rattle.core_model.specs.Anchors.{tabs_in}
 use Rattle.link_word.specs.declared.link.Link.{Link as LinkOf}
 use Rattle.link_word.specs.declared.link.Link.TheVariants.{Last as LastLink, Next, NotWritten}
 use Rattle.core_model.specs.Chains.{Fits, no_chain, slots_of_link}
 use Rattle.core_model.specs.State.{chain_of, word}
-use Rattle.core_model.specs.Layout.{IsPlace, index}
+use Rattle.core_model.specs.Layout.{IsPlace}
 use Rattle.core_model.specs.Table.{place}
 use Rattle.core_model.specs.Tabs.{IsPass, inner, tab_at}
 use Rattle.core_model.specs.Trails.{last_find}
@@ -51,6 +51,7 @@ use Rattle.slice_chain.specs.Freeing.{Freed}
 use Rattle.plain_lines.specs.Words.{HasChain, IsLone, Knows, ShowsAt, ShowsEntryIf, setting_of}
 use Rattle.plain_lines.proofs.Frames.{LeavesAlone, SameBut, same_none, same_weaker, shows_elsewhere, step_same, went_same}
 use Rattle.plain_lines.proofs.Chains.{chain_is, not_resting, own_tab, word_is}
+use Rattle.plain_lines.proofs.PlainWords.{stage_there}
 
 anchor_in : Place → ℕ
 anchor_in (Anchor a) = a
@@ -140,11 +141,8 @@ module _ (g : Ground (List ℕ)) (rename : ℕ → ℕ) where
 abbrev pub FewReaders : Plain → (ℕ → ℕ) → Type 0
 FewReaders p guests = (b : ℕ) → readers p b + guests b < 65536
 
-stage_of_word : (w : Word) (n : ℕ) → w.readers + n < 65536 → stage_in (epoch_in (word_number w + n)) ≡ stage_number w.epoch.stage
-stage_of_word w n few = let s = stage_below w.epoch.stage in let d = doom_below w.epoch.doom in omega arith
-
 -- The slots of other entries are in no chain that is given back.
-module _ (g : Ground (List ℕ)) (rename : ℕ → ℕ) (lone : IsLone g) (v : View (List ℕ)) (st : Stands g v) (pass : IsPass v) (f : Freer) (is : tab_at v inner ≡ Freeing f)
+module _ (g : Ground (List ℕ)) (lone : IsLone g) (v : View (List ℕ)) (st : Stands g v) (pass : IsPass v) (f : Freer) (is : tab_at v inner ≡ Freeing f)
     (b version : ℕ) (lt : b < g.setting.anchors) (e : Entry) (h : HasChain g v b e) where
   abbrev stage_here : ℕ
   stage_here = stage_in (epoch_in (word st.state b))
@@ -175,9 +173,8 @@ module _ (g : Ground (List ℕ)) (rename : ℕ → ℕ) (lone : IsLone g) (v : V
 
 chained_apart_rest : (g : Ground (List ℕ)) (rename : ℕ → ℕ) → IsLone g → (v : View (List ℕ)) → Stands g v → IsPass v → (p : Plain) (n b : ℕ) → readers p b + n < 65536 → b < g.setting.anchors → ShowsAt g rename v p n b
     → (e : Entry) → entry_at p b ≡ Some e → (h : HasChain g v b e) → (f : Freer) → tab_at v inner ≡ Freeing f → (j : ℕ) → Contains (h.slots ++ slots_of_link h.end) j → Contains f.rest j → ⊥
-chained_apart_rest g rename lone v st pass p n b few lt shown e there h f is j c d = apart_life g rename lone v st pass f is b (place_at p b).version lt e h e.life refl
-    (ap (λ z. stage_in (epoch_in z)) (word_is g lone st.state st.index v st.rule st.at pass (Anchor b) lt ∙ shown.word)
-    ∙ stage_of_word (renamed_word rename (word_at (setting_of g) p b)) n few ∙ ap (λ o. stage_number (stage_of (room_of g.slot) (place_at p b).version o)) there) j c d
+chained_apart_rest g rename lone v st pass p n b few lt shown e there h f is j c d = apart_life g lone v st pass f is b (place_at p b).version lt e h e.life refl
+    (stage_there rename (setting_of g) p n b (word st.state b) (word_is g lone st.state st.index v st.rule st.at pass (Anchor b) lt ∙ shown.word) few ∙ ap (λ o. stage_number (stage_of (room_of g.slot) (place_at p b).version o)) there) j c d
 
 module _ (g : Ground (List ℕ)) (lone : IsLone g) where
   -- a pass whose inner tab gives slots back has nine tabs
@@ -267,7 +264,7 @@ module _ (g : Ground (List ℕ)) (rename : ℕ → ℕ) (lone : IsLone g) where
 
   -- The anchor's word is a stage on from the one that the pass knew.
   pub raised_from : (v w : View (List ℕ)) → (h : Freed g v w) → h.freer.is_freeing ≡ true → has g w (Anchor h.freer.anchor) ≡ raised (has g v (Anchor h.freer.anchor)) 1
-  raised_from v w h freeing = ?
+  raised_from v w h freeing = h.from freeing (freer_inside g lone v h.freer (freed_stands v w h).0 h.was) lone
 
   -- Links of the chain changed, and the word of its anchor where that was at FREEING.
   abbrev pub FreedAt : Freer → Place → Type 0
@@ -301,13 +298,10 @@ module _ (g : Ground (List ℕ)) (rename : ℕ → ℕ) (lone : IsLone g) where
       (λ b lt ne. record { word = λ none. none; sides = λ side none. none; links = λ e there chain j c none. none }) h
 
   -- An entry at FREEING was given back: the plain store has it no more.
-  pub freed_right : (v w : View (List ℕ)) (p : Plain) (guests : ℕ → ℕ) (a : ℕ) → FewReaders p guests → (h : Freed g v w) → h.freer.anchor ≡ a → h.freer.is_freeing ≡ true
-      → KnowsBut g rename v p guests a → 0 < (place_at p a).version → has g v (Anchor a) ≡ word_number (renamed_word rename (freeing_word p a)) + guests a → Knows g rename w (vacated_at a p) guests
-  freed_right v w p guests a few h at freeing but some_version was = knows_all g rename w (vacated_at a p) guests a (but_put w p guests a (vacated (place_at p a)) (freed_but v w p guests a few h at but)) here
+  pub gave_right : (w : View (List ℕ)) (p : Plain) (guests : ℕ → ℕ) (a n : ℕ) → KnowsBut g rename w p guests a → 0 < (place_at p a).version → n ≡ word_number (renamed_word rename (freeing_word p a)) + guests a
+      → has g w (Anchor a) ≡ raised n 1 → Knows g rename w (vacated_at a p) guests
+  gave_right w p guests a n but some_version was left = knows_all g rename w (vacated_at a p) guests a (but_put w p guests a (vacated (place_at p a)) but) here
     where
-      left : has g w (Anchor a) ≡ raised (has g v (Anchor a)) 1
-      left = subst (λ (z : ℕ). has g w (Anchor z) ≡ raised (has g v (Anchor z)) 1) at (raised_from v w h freeing)
-
       here : a < g.setting.anchors → ShowsAt g rename w (vacated_at a p) (guests a) a
       here lt = record {
         word = left ∙ ap (λ z. raised z 1) was ∙ sym (raised_word rename (room_of g.slot) (place_at p a) (readers p a) (guests a) some_version)
@@ -317,6 +311,11 @@ module _ (g : Ground (List ℕ)) (rename : ℕ → ℕ) (lone : IsLone g) where
         where
           there : place_at (vacated_at a p) a ≡ vacated (place_at p a)
           there = get_or-set_same p.places a (vacated (place_at p a)) nothing (let n = but.many in omega arith)
+
+  pub freed_right : (v w : View (List ℕ)) (p : Plain) (guests : ℕ → ℕ) (a : ℕ) → FewReaders p guests → (h : Freed g v w) → h.freer.anchor ≡ a → h.freer.is_freeing ≡ true
+      → KnowsBut g rename v p guests a → 0 < (place_at p a).version → has g v (Anchor a) ≡ word_number (renamed_word rename (freeing_word p a)) + guests a → Knows g rename w (vacated_at a p) guests
+  freed_right v w p guests a few h at freeing but some_version was = gave_right w p guests a (has g v (Anchor a)) (freed_but v w p guests a few h at but) some_version was
+      (subst (λ (z : ℕ). has g w (Anchor z) ≡ raised (has g v (Anchor z)) 1) at (raised_from v w h freeing))
 
 -- the word that an eviction leaves
 low_stage : (room version : ℕ) (e : Entry) (life : Life) → e.life ≡ life → stage_number (stage_of room version (Some e)) ≤ 5
@@ -351,35 +350,51 @@ module _ (g : Ground (List ℕ)) where
       ∙ get_or-set_same v.tabs inner (Freeing (freer_of a false (chain_of st.state a))) Free (let n = st.may.pass in omega arith)
 
 module _ (g : Ground (List ℕ)) (rename : ℕ → ℕ) (lone : IsLone g) where
-  -- An entry that nobody reads was evicted, and given back: the plain store has it no more.
-  pub evict_freed : (v u w : View (List ℕ)) (t a n : ℕ) (p : Plain) (guests : ℕ → ℕ) (e : Entry) → FewReaders p guests → Knows g rename v p guests → (st : Steps g v (Evict t a) n u) → n ≡ last_find a v.trail
-      → Freed g u w → entry_at p a ≡ Some e → readers p a ≡ 0 → guests a ≡ 0 → Knows g rename w (vacated_at a p) guests
-  evict_freed v u w t a n p guests e few knows st won freed there unread alone = freed_right g rename lone u w p guests a few freed (ap (λ (z : Freer). z.anchor) freer_is) (ap (λ (z : Freer). z.is_freeing) freer_is)
-      (but_step g rename v u (Evict t a) n p p guests a st refl inside (same_else p a) (knows_but g rename v p guests a knows)) drawn word_left
+  -- After an entry that nobody reads was evicted its chain is at the inner tab, and its anchor at FREEING.
+  pub record EvictedAt (u : View (List ℕ)) (a : ℕ) (p : Plain) (guests : ℕ → ℕ) : Type 0 where
+    pub inside : a < g.setting.anchors
+    pub freer : Freer
+    pub is : tab_at u inner ≡ Freeing freer
+    pub anchor_is : freer.anchor ≡ a
+    pub freeing : freer.is_freeing ≡ true
+    pub others : KnowsBut g rename u p guests a
+    pub drawn : 0 < (place_at p a).version
+    pub word : has g u (Anchor a) ≡ word_number (renamed_word rename (freeing_word p a)) + guests a
+
+  pub evict_leaves : (v u : View (List ℕ)) (t a n : ℕ) (p : Plain) (guests : ℕ → ℕ) (e : Entry) → Knows g rename v p guests → (st : Steps g v (Evict t a) n u) → n ≡ last_find a v.trail
+      → entry_at p a ≡ Some e → readers p a ≡ 0 → guests a ≡ 0 → EvictedAt u a p guests
+  evict_leaves v u t a n p guests e knows st won there unread alone = record {
+    inside = inside_;
+    freer = freer_of a true (chain_of st.state a);
+    is = evict_freer g v u t a n st won;
+    anchor_is = refl;
+    freeing = refl;
+    others = but_step g rename v u (Evict t a) n p p guests a st refl inside_ (same_else p a) (knows_but g rename v p guests a knows);
+    drawn = drawn_ (entry_at p a) there shown.entry;
+    word = has_left g v u (Evict t a) n (Anchor a) (Anchor a) st refl refl ∙ (let z = eq-eqb n (last_find a v.trail) won in rw z refl) ∙ ap evicted found
+        ∙ evicted_number (renamed_word rename (word_at (setting_of g) p a)) unread (subst (λ o. stage_number (stage_of (room_of g.slot) (place_at p a).version o) ≤ 5) (sym there) (low_stage (room_of g.slot) (place_at p a).version e e.life refl))
+        ∙ (let z = alone in omega arith);
+  }
     where
-      inside : a < g.setting.anchors
-      inside = st.may.allowed.0
+      inside_ : a < g.setting.anchors
+      inside_ = st.may.allowed.0
 
       shown : ShowsAt g rename v p (guests a) a
-      shown = knows.each a inside
+      shown = knows.each a inside_
 
-      freer_is : freed.freer ≡ freer_of a true (chain_of st.state a)
-      freer_is = same_freer freed.freer (freer_of a true (chain_of st.state a)) (sym freed.was ∙ evict_freer g v u t a n st won)
-
-      drawn : 0 < (place_at p a).version
-      drawn = of_entry (entry_at p a) there shown.entry
-        where
-          of_entry : (o : Option Entry) → o ≡ Some e → ShowsEntryIf g v a (place_at p a).version o → 0 < (place_at p a).version
-          of_entry None is h = let k : None ≡ Some e = is in absurd (cc)
-          of_entry (Some x) is h = h.drawn
+      drawn_ : (o : Option Entry) → o ≡ Some e → ShowsEntryIf g v a (place_at p a).version o → 0 < (place_at p a).version
+      drawn_ None is h = let k : None ≡ Some e = is in absurd (cc)
+      drawn_ (Some x) is h = h.drawn
 
       found : n ≡ word_number (renamed_word rename (word_at (setting_of g) p a))
       found = found_mine g v u (Evict t a) n (Anchor a) st lone refl ∙ shown.word ∙ (let z = alone in omega arith)
 
-      word_left : has g u (Anchor a) ≡ word_number (renamed_word rename (freeing_word p a)) + guests a
-      word_left = has_left g v u (Evict t a) n (Anchor a) (Anchor a) st refl refl ∙ (let z = eq-eqb n (last_find a v.trail) won in rw z refl) ∙ ap evicted found
-          ∙ evicted_number (renamed_word rename (word_at (setting_of g) p a)) unread (subst (λ o. stage_number (stage_of (room_of g.slot) (place_at p a).version o) ≤ 5) (sym there) (low_stage (room_of g.slot) (place_at p a).version e e.life refl))
-          ∙ (let z = alone in omega arith)
+  -- Then it was given back: the plain store has it no more.
+  pub evict_freed : (u w : View (List ℕ)) (a : ℕ) (p : Plain) (guests : ℕ → ℕ) → FewReaders p guests → EvictedAt u a p guests → Freed g u w → Knows g rename w (vacated_at a p) guests
+  evict_freed u w a p guests few h freed = freed_right g rename lone u w p guests a few freed (ap (λ (z : Freer). z.anchor) same ∙ h.anchor_is) (ap (λ (z : Freer). z.is_freeing) same ∙ h.freeing) h.others h.drawn h.word
+    where
+      same : freed.freer ≡ h.freer
+      same = same_freer freed.freer h.freer (sym freed.was ∙ h.is)
 
   -- The anchor of an idle entry was taken, and what it had was given back: nothing is said of that anchor but its word.
   pub record TookOver (w : View (List ℕ)) (a version : ℕ) (p : Plain) (guests : ℕ → ℕ) : Type 0 where

@@ -1,14 +1,11 @@
 -- A tab leaves its anchor, and what nobody uses any more goes from the plain store.
-use Rattle.std.proofs.Common.{Bool, List, None, Option, Some, ap, add-zero, arith, cond, eq-eqb, false, get_or, get_or-set_other, get_or-set_same, inl, inr, length, ne_eqb, refl, set, subst, sym, true, ◌&&◌, ◌+◌, ◌-◌, ◌*◌, ◌<◌, ◌==◌, ◌||◌, ◌≤◌, ◌∙◌, ◌≡◌, ◌≢◌, ◌⊎◌, ℕ}
+use Rattle.std.proofs.Common.{Bool, List, None, Option, Some, ap, arith, cond, eq-eqb, false, get_or, get_or-set_other, get_or-set_same, inl, inr, length, ne_eqb, refl, set, subst, sym, true, ◌&&◌, ◌+◌, ◌-◌, ◌<◌, ◌==◌, ◌||◌, ◌≤◌, ◌∙◌, ◌≡◌, ◌≢◌, ◌⊎◌, ℕ}
 use Rattle.std.proofs.lemmas.Bool.{false≢true}
-use Rattle.std.proofs.lemmas.List.Sums.{count_by-le-length}
 use mathlib.Core.Logic.{dite}
 use native.Mathlib.Decide.{ℕ_discrete}
-use Rattle.lock_word.specs.Words.{doom_number, is_left_over, mode_of, raised, stage_number, stage_of as stage_in, word_number}
+use Rattle.lock_word.specs.Words.{is_left_over, word_number}
 use Rattle.lock_word.specs.declared.stage.Stage.{Stage}
 use Rattle.lock_word.specs.declared.stage.Stage.TheVariants as stage
-use Rattle.lock_word.specs.declared.word.Word.{Word}
-use Rattle.lock_word.proofs.Parts.{epoch_of-word_number, mode_of-epoch_number, readers_of-word_number, stage_of-epoch_number}
 use Rattle.core_model.specs.AnchorMoves.{left_tab, raised_tab}
 use Rattle.core_model.specs.State.{word}
 use Rattle.core_model.specs.Table.{left_by, place}
@@ -22,11 +19,9 @@ use Rattle.core_model.specs.declared.view.Place.TheVariants.{Anchor}
 use Rattle.core_model.specs.declared.view.View.{View}
 use Rattle.core_model.proofs.Lists.{at_or}
 use Rattle.plain_model.specs.declared.entry.Entry.{Entry}
-use Rattle.plain_model.specs.declared.entry.Life.{Life}
-use Rattle.plain_model.specs.declared.entry.Life.TheVariants.{GivenUp, Growing, Whole}
+use Rattle.plain_model.specs.declared.entry.Life.TheVariants.{GivenUp, Whole}
 use Rattle.plain_model.specs.declared.store.Plain.{Plain}
-use Rattle.plain_model.specs.declared.store.Setting.{Setting}
-use Rattle.plain_model.specs.Store.{entry_at, has_life, is_left_over_at, place_at, published, readers, reads_at, stage_of, word_at}
+use Rattle.plain_model.specs.Store.{entry_at, has_life, is_left_over_at, place_at, readers, word_at}
 use Rattle.plain_model.specs.Writing.{settle}
 use Rattle.plain_laws.specs.Renaming.{renamed_word}
 use Rattle.plain_laws.proofs.Beginning.{set_here}
@@ -47,63 +42,12 @@ use Rattle.rock_writer.specs.Halting.{FreedLast, LeftToOther, Parted as WriterPa
 use Rattle.plain_lines.specs.Words.{IsLone, Knows, ShowsAt, ShowsEntryIf, no_guests, setting_of}
 use Rattle.plain_lines.proofs.Frames.{SameBut, chain_same, names_same, step_same}
 use Rattle.plain_lines.proofs.Chains.{only_tabs, word_is}
-use Rattle.plain_lines.proofs.Freeing.{FewReaders, but_guests, but_step, evict_freed, knows_all, knows_but, same_else, vacated_at}
+use Rattle.plain_lines.proofs.PlainWords.{left_over_there, readers_fit}
+use Rattle.plain_lines.proofs.Freeing.{FewReaders, but_guests, but_step, evict_freed, evict_leaves, knows_all, knows_but, same_else, vacated_at}
 
--- Whether an entry is left over stands in its word.
-
-abbrev told_over : Stage → (doom none_read : Bool) → Bool
-told_over s doom none_read = none_read && ((stage_number s == 4) || ((8 * doom_number doom + stage_number s) == 11))
-
-never_over : (s : Stage) → (s ≡ stage.Empty) ⊎ (s ≡ stage.Gone) ⊎ (s ≡ stage.Taken) ⊎ (s ≡ stage.Appending) → (doom none_read : Bool) → told_over s doom none_read ≡ false
-never_over s is doom false = refl
-never_over s (inl e) false true = rw e refl
-never_over s (inl e) true true = rw e refl
-never_over s (inr (inl e)) false true = rw e refl
-never_over s (inr (inl e)) true true = rw e refl
-never_over s (inr (inr (inl e))) false true = rw e refl
-never_over s (inr (inr (inl e))) true true = rw e refl
-never_over s (inr (inr (inr e))) false true = rw e refl
-never_over s (inr (inr (inr e))) true true = rw e refl
-
-over_whole : (doom none_read : Bool) → told_over stage.Closed doom none_read ≡ (doom && none_read)
-over_whole false false = refl
-over_whole false true = refl
-over_whole true false = refl
-over_whole true true = refl
-
-over_given_up : (doom none_read : Bool) → told_over stage.Halted doom none_read ≡ none_read
-over_given_up false false = refl
-over_given_up false true = refl
-over_given_up true false = refl
-over_given_up true true = refl
-
-over_life : (room version : ℕ) (doom none_read : Bool) (e : Entry) (life : Life) → e.life ≡ life
-    → told_over (stage_of room version (Some e)) doom none_read ≡ ((has_life GivenUp (Some e) || (has_life Whole (Some e) && doom)) && none_read)
-over_life room version doom none_read e Whole l = rw l (over_whole doom none_read)
-over_life room version doom none_read e GivenUp l = rw l (over_given_up doom none_read)
-over_life room version doom none_read e Growing l = rw l (either (λ s. told_over s doom none_read ≡ false) (published room e.content == 0) stage.Taken stage.Appending
-    (λ y. never_over stage.Taken (inr (inr (inl refl))) doom none_read) (λ y. never_over stage.Appending (inr (inr (inr refl))) doom none_read))
-
-over_entry : (room version : ℕ) (doom none_read : Bool) (o : Option Entry)
-    → told_over (stage_of room version o) doom none_read ≡ ((has_life GivenUp o || (has_life Whole o && doom)) && none_read)
-over_entry room version doom none_read None = either (λ s. told_over s doom none_read ≡ false) (version == 0) stage.Empty stage.Gone
-    (λ y. never_over stage.Empty (inl refl) doom none_read) (λ y. never_over stage.Gone (inr (inl refl)) doom none_read)
-over_entry room version doom none_read (Some e) = over_life room version doom none_read e e.life refl
-
-over_number : (w : Word) → w.readers < 65536 → is_left_over (word_number w) ≡ told_over w.epoch.stage w.epoch.doom (w.readers == 0)
-over_number w few = let r = readers_of-word_number w few in let e = epoch_of-word_number w few in
-    (λ i. (r i == 0) && ((stage_in (e i) == 4) || (mode_of (e i) == 11)))
-    ∙ (let s = stage_of-epoch_number w.epoch in let m = mode_of-epoch_number w.epoch in λ i. (w.readers == 0) && ((s i == 4) || (m i == 11)))
-
-pub left_over_is : (rename : ℕ → ℕ) (s : Setting) (p : Plain) (a : ℕ) → readers p a < 65536 → is_left_over (word_number (renamed_word rename (word_at s p a))) ≡ is_left_over_at p a
-left_over_is rename s p a few = over_number (renamed_word rename (word_at s p a)) few ∙ over_entry s.room (place_at p a).version (place_at p a).doom (readers p a == 0) (entry_at p a)
-
--- eight tabs read at an anchor at most
-pub few_read : (p : Plain) (a : ℕ) → length p.tabs ≡ 8 → readers p a ≤ 8
-few_read p a eight = let n = count_by-le-length (reads_at a) p.tabs in omega arith
-
+-- eight tabs read at each anchor at most
 pub few_all : (p : Plain) (guests : ℕ → ℕ) → length p.tabs ≡ 8 → ((b : ℕ) → guests b ≤ 1) → FewReaders p guests
-few_all p guests eight most b = let r = few_read p b eight in let m = most b in omega arith
+few_all p guests eight most b = readers_fit p b (guests b) eight (most b)
 
 -- What settling comes to.
 
@@ -186,11 +130,11 @@ module _ (g : Ground (List ℕ)) (rename : ℕ → ℕ) where
     pub last_right : (v u w : View (List ℕ)) (t a n : ℕ) (p : Plain) → length p.tabs ≡ 8 → Knows g rename v p no_guests → is_left_over_at p a ≡ true → Steps g v (Evict t a) n u → n ≡ last_find a v.trail → Freed g u w
         → Knows g rename w (settle a p) no_guests
     last_right v u w t a n p eight knows over st won freed = let o = is_over p a over in subst (λ q. Knows g rename w q no_guests) (sym (settle_gone p a over))
-        (evict_freed g rename lone v u w t a n p no_guests o.entry (few_all p no_guests eight (λ b. omega arith)) knows st won freed o.there o.unread refl)
+        (evict_freed g rename lone u w a p no_guests (few_all p no_guests eight (λ b. omega arith)) (evict_leaves g rename lone v u t a n p no_guests o.entry knows st won o.there o.unread refl) freed)
 
     -- what the word of an anchor tells of its entry
     pub over_known : (v : View (List ℕ)) (a : ℕ) (p : Plain) → length p.tabs ≡ 8 → a < g.setting.anchors → Knows g rename v p no_guests → is_left_over (has g v (Anchor a)) ≡ is_left_over_at p a
-    over_known v a p eight lt knows = ap is_left_over ((knows.each a lt).word ∙ add-zero _) ∙ left_over_is rename (setting_of g) p a (let f = few_read p a eight in omega arith)
+    over_known v a p eight lt knows = left_over_there rename (setting_of g) p 0 a (has g v (Anchor a)) (knows.each a lt).word (readers_fit p a 0 eight (omega arith)) refl
 
     -- the pass found its own word there last, where it left one that is left over
     won_there : (v w : View (List ℕ)) (t a n : ℕ) → Steps g v (Evict t a) n w → last_find a v.trail ≡ has g v (Anchor a) → n ≡ last_find a v.trail
@@ -199,9 +143,6 @@ module _ (g : Ground (List ℕ)) (rename : ℕ → ℕ) where
     -- A tab that is counted leaves its anchor: of a last one nobody comes before.
     module _ (v : View (List ℕ)) (t a : ℕ) (p : Plain) (eight : length p.tabs ≡ 8) (counted : is_counted (tab_at v t) ≡ true) (at : anchor_of (tab_at v t) ≡ a) (lt : a < g.setting.anchors)
         (knows : Knows g rename v p (guest_at a)) where
-      few : readers p a < 65536
-      few = let f = few_read p a eight in omega arith
-
       module _ (u : View (List ℕ)) (n : ℕ) (st : Steps g v (Leave t) n u) where
         knows_left : Knows g rename u p no_guests
         knows_left = (leave_knows v u t a n p st at lt knows).0
@@ -210,7 +151,7 @@ module _ (g : Ground (List ℕ)) (rename : ℕ → ℕ) where
         left_is = let f = (leave_knows v u t a n p st at lt knows).1 in omega arith
 
         over_is : is_left_over (n - 1) ≡ is_left_over_at p a
-        over_is = ap is_left_over left_is ∙ left_over_is rename (setting_of g) p a few
+        over_is = left_over_there rename (setting_of g) p 0 a (n - 1) (let e = left_is in omega arith) (readers_fit p a 0 eight (omega arith)) refl
 
         find_is : last_find a u.trail ≡ n - 1
         find_is = ap (λ (z : View (List ℕ)). last_find a z.trail) st.leaves ∙ (let e = eq-eqb (anchor_of (tab_at v t)) a at in rw e refl)

@@ -3,6 +3,7 @@ use Rattle.std.proofs.Common.{Bool, IsTrue, List, None, Option, Some, ap, arith,
 use Rattle.rock_disk.specs.Cell.{CellState}
 use Rattle.store_key.specs.Url.{IsUrl}
 use Rattle.db_layout.specs.Layout.{IsSlotSize}
+use Rattle.script_text.specs.Tabs.{UsesTab}
 use Rattle.script_text.specs.declared.answer.Answer.{Answer}
 use Rattle.script_text.specs.declared.answer.Answer.TheVariants as answer
 use Rattle.script_text.specs.declared.body.Body.{Body}
@@ -142,3 +143,46 @@ module _ {C O : Type 0} (tells : Bool) (state : C → CellState) (offers : O →
         of_tab (Writing at) is (inr m) = turned_away a q made m.1 (writes at is)
         of_tab (Reading at given is_other) is (inl m) = right at given is_other is m.1
         of_tab (Reading at given is_other) is (inr m) = let r = subst (ShowsTab tells state offers s (λ v. v) p plain t) is shown in absurd (m.0 (r.standing, r.reads))
+
+  -- The lines of all requests.
+  module _ (right : RequestsRight) (script : List Line) (number : ℕ) (p q : Pass C) (a : Answer) (plain : Plain) (h : ShowsPlain p plain) (whole : tab_at plain whole_tab ≡ Free) (fair : is_fault a ≡ false) where
+    -- what is left is what the plain store leaves, with all its tabs
+    abbrev Goal : Step → Type 0
+    Goal made = (a ≡ made.answer) × ShowsPlain q made.after
+
+    module _ (begins : OneBegins) (stays : Stays tells state offers s) (lone : IsLone g) where
+      after_all : (t : ℕ) (made : Step) → t < 8 → Leaves tells state offers s t p q → IsAs a q t made → KeepsElse t (IsOwn t plain) plain made.after → Goal made
+      after_all t made below leaves is keeps = (is.answered, shows_after tells state offers s (λ v. v) begins stays lone p q plain made.after t h leaves keeps is.shows below)
+
+      abbrev offer : ℕ
+      offer = offer_of tells state offers s number
+
+      pub request_right : (request : Request) → MayAsk tells state offers s number request → ServesRequest tells state offers s number p a q request
+          → ((t : ℕ) → UsesTab request t → Leaves tells state offers s t p q) → Goal (serve setting script record { worker = 1; number = number; request = request } plain)
+      request_right (Put url body) asks served leaves = after_all 7 _ (omega arith) (leaves 7 refl) (right.puts offer url body false p q a plain h whole fair asks served) (put_keeps setting plain url (bytes_of body) offer)
+      request_right (Save url body) asks served leaves = after_all 7 _ (omega arith) (leaves 7 refl) (right.puts offer url body true p q a plain h whole fair asks served) (put_keeps setting plain url (bytes_of body) offer)
+      request_right (Get url) asks served leaves = after_all 7 _ (omega arith) (leaves 7 refl) (right.gets url p q a plain h whole asks fair served) (get_else setting plain (IsOwn 7 plain) url)
+      request_right (Purge url) asks served leaves = after_all 7 _ (omega arith) (leaves 7 refl) (right.purges url p q a plain h whole asks served) (purge_else 7 (IsOwn 7 plain) setting plain url)
+      request_right (Begin t url body) asks served leaves = let below : t < 8 = let b = asks.0 in omega arith in after_all t _ below (leaves t refl)
+          (on_free p plain h t below a q _ (Begins tells state offers s t p a q offer url) served (λ free met. right.begins t offer url body p q a plain below h free asks.1 met) (λ at is. rw is refl) (λ at given is_other is. rw is refl))
+          (begin_keeps setting plain t url (bytes_of body) offer)
+      request_right (Add t count) asks served leaves = let below : t < 8 = omega arith in after_all t _ below (leaves t refl)
+          (on_writer p plain h t below a q _ ((e : Entry) → WritesAs tells state offers s p t e → AddsTo tells state offers s t p a q count e) served (λ at is met. right.adds t count at p q a plain below h is fair met) (λ is. rw is refl) (λ at given is_other is. rw is refl))
+          (add_keeps t setting plain count)
+      request_right (End t) asks served leaves = let below : t < 8 = omega arith in after_all t _ below (leaves t refl)
+          (on_writer p plain h t below a q _ ((e : Entry) → WritesAs tells state offers s p t e → EndsEntry tells state offers s t p a q e) served (λ at is met. right.ends t at p q a plain below h is fair met) (λ is. rw is refl) (λ at given is_other is. rw is refl))
+          (end_keeps t setting plain)
+      request_right (DropTab t) asks served leaves = let below : t < 8 = omega arith in after_all t _ below (leaves t refl)
+          (on_writer p plain h t below a q _ (Drops tells state offers s t p a q) served (λ at is met. right.drops t at p q a plain below h is met) (λ is. rw is refl) (λ at given is_other is. rw is refl))
+          (give_up_keeps t setting plain)
+      request_right (OpenTab t url) asks served leaves = let below : t < 8 = let b = asks.0 in omega arith in after_all t _ below (leaves t refl)
+          (on_free p plain h t below a q _ (Opens tells state offers s t p a q url) served (λ free met. right.opens t url p q a plain below h free asks.1 met) (λ at is. rw is refl) (λ at given is_other is. rw is refl))
+          (open_else t (IsOwn t plain) setting plain url)
+      request_right (More t) asks served leaves = let below : t < 8 = omega arith in after_all t _ below (leaves t refl)
+          (on_reader p plain h t below a q _ ((e : Standing) → ReadsAs tells state offers s p t e → ReadsOn tells state offers s t p a q e) served (λ at given is_other is met. right.mores t at given is_other p q a plain below h is fair met) (λ is. rw is refl) (λ at is. rw is refl))
+          (more_else t (IsOwn t plain) setting plain)
+      request_right (CloseTab t) asks served leaves = let below : t < 8 = omega arith in after_all t _ below (leaves t refl)
+          (on_reader p plain h t below a q _ (Closes tells state offers s t p a q) served (λ at given is_other is met. right.closes t at given is_other p q a plain below h is met) (λ is. rw is refl) (λ at is. rw is refl))
+          (close_else t (IsOwn t plain) setting plain)
+      request_right (Mark mark) asks served leaves = absurd served
+      request_right (Await mark) asks served leaves = absurd served
