@@ -75,22 +75,45 @@ abbrev key_in : Option Entry → List ℕ
 key_in None = []
 key_in (Some e) = e.key
 
-module _ (g : Ground (List ℕ)) (rename : ℕ → ℕ) (lone : IsLone g) (t a found : ℕ) (v came : View (List ℕ)) (p : Plain) (eight : length p.tabs ≡ 8) (knows : Knows g rename v p no_guests) (enter : Steps g v (Enter t a) found came)
-    (epoch : Epoch) (epoch_is : epoch_of found ≡ epoch_number epoch) where
+-- A tab came to the anchor, where its pass knew the plain store, and found this epoch there.
+pub record HasCome (g : Ground (List ℕ)) (rename : ℕ → ℕ) (t a : ℕ) : Type 0 where
+  pub store : Plain
+  pub eight : length store.tabs ≡ 8
+  pub before : View (List ℕ)
+  pub knows : Knows g rename before store no_guests
+  pub found : ℕ
+  pub came : View (List ℕ)
+  pub enter : Steps g before (Enter t a) found came
+  pub epoch : Epoch
+  pub epoch_is : epoch_of found ≡ epoch_number epoch
+
+module _ (g : Ground (List ℕ)) (rename : ℕ → ℕ) (lone : IsLone g) (t a : ℕ) (come : HasCome g rename t a) where
+  abbrev p : Plain
+  p = come.store
+
+  abbrev v : View (List ℕ)
+  v = come.before
+
+  abbrev came : View (List ℕ)
+  came = come.came
+
+  abbrev epoch : Epoch
+  epoch = come.epoch
+
   pub inside : a < g.setting.anchors
-  inside = enter.may.allowed.0
+  inside = come.enter.may.allowed.0
 
   abbrev epoch_plain : Epoch
   epoch_plain = plain.epoch_of (room_of g.slot) (place_at p a)
 
   shows : ShowsAt g rename v p 0 a
-  shows = knows.each a inside
+  shows = come.knows.each a inside
 
   few : readers p a + 0 < 65536
-  few = readers_fit p a 0 eight (omega arith)
+  few = readers_fit p a 0 come.eight (omega arith)
 
   pub epoch_same : epoch ≡ renamed_epoch rename epoch_plain
-  epoch_same = epoch_found g rename v p 0 a shows few found epoch (found_mine g v came (Enter t a) found (Anchor a) enter lone refl) epoch_is
+  epoch_same = epoch_found g rename v p 0 a shows few come.found epoch (found_mine g v came (Enter t a) come.found (Anchor a) come.enter lone refl) come.epoch_is
 
   pub version_same : epoch.version ≡ rename (place_at p a).version
   version_same = ap Epoch.version epoch_same
@@ -99,11 +122,11 @@ module _ (g : Ground (List ℕ)) (rename : ℕ → ℕ) (lone : IsLone g) (t a f
   undoomed h = sym (ap Epoch.doom epoch_same) ∙ h.1
 
   pub came_knows : Knows g rename came p (guest_at a)
-  came_knows = enter_knows g rename lone v came p t a found knows enter
+  came_knows = enter_knows g rename lone v came p t a come.found come.knows come.enter
 
   came_tab : tab_at came t ≡ entered a (epoch_number epoch)
-  came_tab = ap (λ (xs : List (Tab (List ℕ))). get_or xs t Free) (came_tabs g v came t a found enter)
-      ∙ get_or-set_same v.tabs t (entered a (epoch_of found)) Free (let nine = enter.may.pass in let low = enter.may.allowed.1 in omega arith) ∙ ap (entered a) epoch_is
+  came_tab = ap (λ (xs : List (Tab (List ℕ))). get_or xs t Free) (came_tabs g v came t a come.found come.enter)
+      ∙ get_or-set_same v.tabs t (entered a (epoch_of come.found)) Free (let nine = come.enter.may.pass in let low = come.enter.may.allowed.1 in omega arith) ∙ ap (entered a) come.epoch_is
 
   pub retreats : (IsReadable epoch → ⊥) → tab_at came t ≡ Retreating a
   retreats h = came_tab ∙ entered_else a epoch h

@@ -3,6 +3,7 @@ use Rattle.std.proofs.Common.{Bool, List, None, Option, Some, ap, arith, false, 
 use Rattle.std.specs.Prelude.{Err, IfErr, IfOk, IsTrue, Ok, OnErr, Result, not}
 use Rattle.std.proofs.lemmas.Bool.{cases_lt, false≢true}
 use Rattle.std.proofs.lemmas.List.{get_or_past}
+use Rattle.lock_word.specs.declared.epoch.Epoch.{Epoch}
 use Rattle.lock_word.specs.declared.cause.Cause.{Cause}
 use Rattle.rock_disk.specs.Cell.{CellState}
 use Rattle.script_text.specs.declared.answer.Answer.{Answer}
@@ -32,7 +33,7 @@ use Rattle.store_rule.specs.Told.{Steps}
 use Rattle.store_rule.proofs.Passing.{pass_of}
 use Rattle.slice_chain.specs.Victims.{hand_in}
 use Rattle.rock_reader.specs.Closing.{Parted}
-use Rattle.rock_reader.specs.Opening.{OpenedEntry, Refused, opened}
+use Rattle.rock_reader.specs.Opening.{Came, OpenedEntry, Refused, opened}
 use Rattle.rock_reader.specs.Reading.{ReadsAs, Standing, newly}
 use Rattle.rock_reader.specs.Responses.{HoldsFile}
 use Rattle.rock_reader.proofs.Coming.{came_tabs, key_tabs}
@@ -44,7 +45,7 @@ use Rattle.line_records.proofs.GivenBytes.{IsFromFront}
 use Rattle.plain_lines.specs.Shows.{Shows, ShowsReading, ShowsTab}
 use Rattle.plain_lines.specs.Words.{IsLone, Knows, no_guests, setting_of}
 use Rattle.plain_lines.proofs.AnchorWords.{closed_knows, opened_knows}
-use Rattle.plain_lines.proofs.Coming.{away_judged, came_knows, entry, entry_there, hit_judged, inside, key_hit, keyed_knows, keyed_tab, other_judged, reads, retreats, shown, version_same}
+use Rattle.plain_lines.proofs.Coming.{HasCome, away_judged, came_knows, entry, entry_there, hit_judged, inside, key_hit, keyed_knows, keyed_tab, other_judged, reads, retreats, shown, version_same}
 use Rattle.plain_lines.proofs.Frames.{knows_same}
 use Rattle.plain_lines.proofs.Leaving.{guest_at, none_left_over, parts_right, settle_stays}
 use Rattle.plain_lines.proofs.Lines.{IsAs}
@@ -98,23 +99,26 @@ module _ {C O : Type 0} (tells : Bool) (state : C → CellState) (offers : O →
     low : t < inner
     low = omega arith
 
+    abbrev come : (epoch : Epoch) (entered w : View (List ℕ)) → Came g t url (view p) epoch entered w → HasCome g rename t a
+    come epoch entered w c = record { store = pl; eight = h.eight; before = view p; knows = h.knows; found = c.found; came = entered; enter = c.enter; epoch = epoch; epoch_is = c.epoch_is }
+
     pub refused_right : (w : View (List ℕ)) (c : Cause) → TellsKey c → Refused g t url (view p) c w → MissRight a (key_of url) c pl w
     refused_right w c typed (inl r) =
         let st = r.came.enter in
-        let told = away_judged g rename lone t a r.came.found (view p) r.entered pl h.eight h.knows st r.epoch r.came.epoch_is (key_of url) c r.cause_is in
-        let tab = retreats g rename lone t a r.came.found (view p) r.entered pl h.eight h.knows st r.epoch r.came.epoch_is r.unreadable in
+        let told = away_judged g rename lone t a (come r.epoch r.entered w r.came) (key_of url) c r.cause_is in
+        let tab = retreats g rename lone t a (come r.epoch r.entered w r.came) r.unreadable in
         let left = parts_right g rename lone r.entered w t a pl h.eight (came_long (view p) r.entered t a r.came.found st) low (came_inner (view p) r.entered t a r.came.found low h.inner_free st)
-        (ap core.is_counted tab) (ap core.anchor_of tab) st.may.allowed.0 (came_knows g rename lone t a r.came.found (view p) r.entered pl h.eight h.knows st r.epoch r.came.epoch_is) r.parted in
+        (ap core.is_counted tab) (ap core.anchor_of tab) st.may.allowed.0 (came_knows g rename lone t a (come r.epoch r.entered w r.came)) r.parted in
         record { cause = told.0; judged = told.1; cause_is = told.2; knows = subst (λ (x : Plain). Knows g rename w x no_guests) (settled p pl h a st.may.allowed.0) left.knows }
     refused_right w c typed (inr r) =
         let st = r.came.enter in
         let d = r.declined in
-        let told = other_judged g rename lone t a r.came.found (view p) r.entered pl h.eight h.knows st r.epoch r.came.epoch_is r.readable d.key d.keyed d.loaded (key_of url) c typed d.other d.cause_is in
-        let tab = keyed_tab g rename lone t a r.came.found (view p) r.entered pl h.eight h.knows st r.epoch r.came.epoch_is r.readable d.key d.keyed d.loaded in
+        let told = other_judged g rename lone t a (come r.epoch r.entered w r.came) r.readable d.key d.keyed d.loaded (key_of url) c typed d.other d.cause_is in
+        let tab = keyed_tab g rename lone t a (come r.epoch r.entered w r.came) r.readable d.key d.keyed d.loaded in
         let tabs = key_tabs g r.entered d.keyed t d.key d.loaded in
         let left = parts_right g rename lone d.keyed w t a pl h.eight (ap length tabs ∙ came_long (view p) r.entered t a r.came.found st) low
         (ap (λ (xs : List (core_tab.Tab (List ℕ))). core.is_free (get_or xs inner core_tab.Tab.Free)) tabs ∙ came_inner (view p) r.entered t a r.came.found low h.inner_free st)
-        (ap core.is_counted tab) (ap core.anchor_of tab) st.may.allowed.0 (keyed_knows g rename lone t a r.came.found (view p) r.entered pl h.eight h.knows st r.epoch r.came.epoch_is r.readable d.key d.keyed d.loaded) d.parted in
+        (ap core.is_counted tab) (ap core.anchor_of tab) st.may.allowed.0 (keyed_knows g rename lone t a (come r.epoch r.entered w r.came) r.readable d.key d.keyed d.loaded) d.parted in
         record { cause = told.0; judged = told.1; cause_is = told.2; knows = subst (λ (x : Plain). Knows g rename w x no_guests) (settled p pl h a st.may.allowed.0) left.knows }
 
     -- Where there is an entry the plain store opens it too.
@@ -139,29 +143,29 @@ module _ {C O : Type 0} (tells : Bool) (state : C → CellState) (offers : O →
       within = o.came.enter.may.allowed.0
 
       abbrev x : Entry
-      x = entry g rename lone t (anchor_for g url) o.came.found (view p) o.entered pl h.eight h.knows o.came.enter o.epoch o.came.epoch_is o.readable
+      x = entry g rename lone t a (come o.epoch o.entered (view q) o.came) o.readable
 
       there : entry_at pl a ≡ Some x
-      there = entry_there g rename lone t a o.came.found (view p) o.entered pl h.eight h.knows o.came.enter o.epoch o.came.epoch_is o.readable
+      there = entry_there g rename lone t a (come o.epoch o.entered (view q) o.came) o.readable
 
       kept : x.key ≡ key_of url
-      kept = key_hit g rename lone t a o.came.found (view p) o.entered pl h.eight h.knows o.came.enter o.epoch o.came.epoch_is o.readable (key_of url) o.accepted.keyed o.accepted.key url refl
+      kept = key_hit g rename lone t a (come o.epoch o.entered (view q) o.came) o.readable (key_of url) o.accepted.keyed o.accepted.key url refl
 
       counted : Knows g rename (view q) pl (guest_at a)
       counted = knows_same g rename o.accepted.keyed (view q) pl (guest_at a)
-          (keyed_knows g rename lone t a o.came.found (view p) o.entered pl h.eight h.knows o.came.enter o.epoch o.came.epoch_is o.readable (key_of url) o.accepted.keyed o.accepted.key)
+          (keyed_knows g rename lone t a (come o.epoch o.entered (view q) o.came) o.readable (key_of url) o.accepted.keyed o.accepted.key)
           (step_quiet g lone o.accepted.keyed (view q) (LoadSide t Offer) o.accepted.offer o.accepted.loaded refl)
 
       version_there : version ≡ rename (place_at pl a).version
-      version_there = o.accepted.version_is ∙ version_same g rename lone t a o.came.found (view p) o.entered pl h.eight h.knows o.came.enter o.epoch o.came.epoch_is
+      version_there = o.accepted.version_is ∙ version_same g rename lone t a (come o.epoch o.entered (view q) o.came)
 
       offer_there : offer ≡ x.offer
       offer_there = read_offer tells state offers s rename lone t q (newly (anchor_for g url) version offer url) reading
-          ∙ (shown g rename lone t a o.came.found (view p) o.entered pl h.eight h.knows o.came.enter o.epoch o.came.epoch_is o.readable (view q) (guest_at a) counted).names.offer
+          ∙ (shown g rename lone t a (come o.epoch o.entered (view q) o.came) o.readable (view q) (guest_at a) counted).names.offer
 
       pub opened_right : OpenRight version offer q reading
       opened_right = record {
-        judged = hit_judged g rename lone t a o.came.found (view p) o.entered pl h.eight h.knows o.came.enter o.epoch o.came.epoch_is o.readable (key_of url) o.accepted.keyed o.accepted.key url refl;
+        judged = hit_judged g rename lone t a (come o.epoch o.entered (view q) o.came) o.readable (key_of url) o.accepted.keyed o.accepted.key url refl;
         version_is = version_there;
         knows = opened_knows g rename (view q) pl t a 0 other_url h.eight below free counted;
         tab = record {
