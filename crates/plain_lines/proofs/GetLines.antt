@@ -40,7 +40,7 @@ use Rattle.plain_lines.specs.Words.{IsLone, setting_of}
 use Rattle.plain_lines.proofs.InnerTabs.{went_inner}
 use Rattle.plain_lines.proofs.Lines.{IsAs}
 use Rattle.plain_lines.proofs.Opening.{OpenRight, closed_shows, opened_right, opened_store, other_url, refused_right}
-use Rattle.plain_lines.proofs.OwnVersions.{same_answer}
+use Rattle.plain_lines.proofs.Renamed.{IsRenamed, own_step, renamed_step}
 use Rattle.plain_lines.proofs.Reading.{ReadRight, more_hand, more_long, more_reads, went_right}
 use Rattle.plain_lines.proofs.ShowingOthers.{OneBegins, ShowsOn}
 
@@ -80,15 +80,12 @@ module _ {C O : Type 0} (tells : Bool) (state : C → CellState) (offers : O →
         (close 7 (more (setting_of g) 7 (opened_store tells state offers s rename lone 7 url p pl h below)).after).after
     get_hits j = rw (free, j) refl
 
-  pub record GetsRight (given : Answer) : Type 0 where
-    pub answer_is : given ≡ renamed rename (get (setting_of g) url pl).answer
-    pub shows : ShowsOn tells state offers s rename q (get (setting_of g) url pl).after 7
+  -- so it is answered
+  abbrev GetsRight : Answer → Type 0
+  GetsRight given = IsRenamed tells state offers s rename given q 7 (get (setting_of g) url pl)
 
   is_step : (given : Answer) (r : Step) → get (setting_of g) url pl ≡ r → given ≡ renamed rename r.answer → ShowsOn tells state offers s rename q r.after 7 → GetsRight given
-  is_step given r e answered shows = record {
-    answer_is = answered ∙ ap (λ (z : Step). renamed rename z.answer) (sym e);
-    shows = subst (λ (z : Step). ShowsOn tells state offers s rename q z.after 7) (sym e) shows;
-  }
+  is_step given r e answered shows = renamed_step tells state offers s rename given q 7 (get (setting_of g) url pl) r e answered shows
 
   module _ (free : tab_at pl 7 ≡ Free) (given : Answer) (typed : IsTyped given) (fair : is_fault given ≡ false) (hand : q.hand ≡ p.hand) (freed : IsFree q 7) where
     hand_is : hand_in g.setting.anchors q.hand ≡ pl.hand
@@ -138,12 +135,16 @@ module _ {C O : Type 0} (tells : Bool) (state : C → CellState) (offers : O →
       of_entry : GetsRight given
       of_entry = is_step given (step (hit_by (place_at pl a).version (more (setting_of g) 7 pl1).answer) (close 7 pl2).after) (get_hits free r.judged) answered closed
 
-    pub got_right : (got : Got) (bytes : List ℕ) → AnswersGet got bytes given → GotAs tells state offers s 7 url p q bytes got → GetsRight given
+    got_right : (got : Got) (bytes : List ℕ) → AnswersGet got bytes given → GotAs tells state offers s 7 url p q bytes got → GetsRight given
     got_right (Missing cause) bytes is got =
         let r = refused_right tells state offers s rename lone 7 url p pl h below (view q) cause (subst IsTyped is typed) got.1 in
         is_step given (step (answer.Miss r.cause) pl) (get_misses free r.cause r.judged) (is ∙ ap answer.Miss r.cause_is)
         record { knows = r.knows; hand = hand_is; tab = subst (ShowsTab tells state offers s rename q pl 7) (sym free) freed }
     got_right (Found version ended) bytes is got = of_entry version ended bytes is got
+
+  -- A request to get the entry of a URL.
+  pub gets_right : (given : Answer) → tab_at pl whole_tab ≡ Free → IsTyped given → is_fault given ≡ false → q.hand ≡ p.hand → Gets tells state offers s url p given q → IsRenamed tells state offers s rename given q whole_tab (get (setting_of g) url pl)
+  gets_right given free typed fair hand k = got_right free given typed fair hand k.free k.got k.bytes k.answer_is k.went
 
 -- The request, where each version stands for itself.
 module _ {C O : Type 0} (tells : Bool) (state : C → CellState) (offers : O → Offers) (s : Store C O) (lone : IsLone (basis tells state offers s)) where
@@ -151,5 +152,4 @@ module _ {C O : Type 0} (tells : Bool) (state : C → CellState) (offers : O →
       → Shows tells state offers s (λ v. v) p plain → tab_at plain whole_tab ≡ Free → IsTyped given → is_fault given ≡ false → q.hand ≡ p.hand → Gets tells state offers s url p given q
       → IsAs tells state offers s given q whole_tab (get (setting_of (basis tells state offers s)) url plain)
   gets_as begins known file from sized url p q given plain shows free typed fair hand h =
-      let r = got_right tells state offers s (λ v. v) lone begins known file from sized url p q plain shows free given typed fair hand h.free h.got h.bytes h.answer_is h.went in
-      record { answered = r.answer_is ∙ same_answer _; shows = r.shows }
+      own_step tells state offers s given q whole_tab _ (gets_right tells state offers s (λ v. v) lone begins known file from sized url p q plain shows given free typed fair hand h)

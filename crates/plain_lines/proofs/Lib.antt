@@ -9,6 +9,7 @@ pub mod Freeing
 pub mod Leaving
 pub mod Beginning
 pub mod BeginLines
+pub mod Renamed
 pub mod Bodies
 pub mod Judging
 pub mod QuietSteps

@@ -49,9 +49,9 @@ use Rattle.plain_lines.proofs.Coming.{HasCome, away_judged, came_knows, entry, e
 use Rattle.plain_lines.proofs.Frames.{knows_same}
 use Rattle.plain_lines.proofs.Leaving.{guest_at, none_left_over, parts_right, settle_stays}
 use Rattle.plain_lines.proofs.Lines.{IsAs}
-use Rattle.plain_lines.proofs.OwnVersions.{same_answer}
+use Rattle.plain_lines.proofs.Renamed.{IsRenamed, own_step, renamed_step}
 use Rattle.plain_lines.proofs.QuietSteps.{step_quiet}
-use Rattle.plain_lines.proofs.Reading.{more_hand, no_fault, read_offer, went_right}
+use Rattle.plain_lines.proofs.Reading.{ReadRight, more_hand, no_fault, read_offer, went_right}
 use Rattle.plain_lines.proofs.ShowingOthers.{OneBegins, ShowsOn}
 
 module _ {C O : Type 0} (tells : Bool) (state : C → CellState) (offers : O → Offers) (s : Store C O) (rename : ℕ → ℕ) (lone : IsLone (basis tells state offers s)) where
@@ -190,21 +190,14 @@ module _ {C O : Type 0} (tells : Bool) (state : C → CellState) (offers : O →
     open_free : tab_at pl t ≡ Free → open_tab (setting_of g) t url pl ≡ open_at (setting_of g) t a url pl
     open_free free = rw free refl
 
-    pub record OpensRight (given : Answer) (q : Pass C) : Type 0 where
-      pub answer_is : given ≡ renamed rename (open_tab (setting_of g) t url pl).answer
-      pub shows : ShowsOn tells state offers s rename q (open_tab (setting_of g) t url pl).after t
-
-    pub opens_right : (given : Answer) (q : Pass C) → tab_at pl t ≡ Free → IsTyped given → q.hand ≡ p.hand → Opens tells state offers s t p given q url → OpensRight given q
+    pub opens_right : (given : Answer) (q : Pass C) → tab_at pl t ≡ Free → IsTyped given → q.hand ≡ p.hand → Opens tells state offers s t p given q url → IsRenamed tells state offers s rename given q t (open_tab (setting_of g) t url pl)
     opens_right given q free typed hand k = of_outcome k.outcome k.answer_is k.opened k.reads k.refused k.free
       where
         hand_is : hand_in g.setting.anchors q.hand ≡ pl.hand
         hand_is = ap (hand_in g.setting.anchors) hand ∙ h.hand
 
-        is_step : (r : Step) → open_tab (setting_of g) t url pl ≡ r → given ≡ renamed rename r.answer → ShowsOn tells state offers s rename q r.after t → OpensRight given q
-        is_step r e answered shows = record {
-          answer_is = answered ∙ ap (λ (z : Step). renamed rename z.answer) (sym e);
-          shows = subst (λ (z : Step). ShowsOn tells state offers s rename q z.after t) (sym e) shows;
-        }
+        is_step : (r : Step) → open_tab (setting_of g) t url pl ≡ r → given ≡ renamed rename r.answer → ShowsOn tells state offers s rename q r.after t → IsRenamed tells state offers s rename given q t (open_tab (setting_of g) t url pl)
+        is_step r e answered shows = renamed_step tells state offers s rename given q t (open_tab (setting_of g) t url pl) r e answered shows
 
         opened_step : judge (setting_of g) pl a (key_of url) ≡ None → open_at (setting_of g) t a url pl ≡ step (answer.Opened (place_at pl a).version) opened_store
         opened_step j = rw j refl
@@ -216,7 +209,7 @@ module _ {C O : Type 0} (tells : Bool) (state : C → CellState) (offers : O →
         opened_tab = get_or-set_same pl.tabs t (Reading (anchor_for g url) 0 (not (has_url url (entry_at pl (anchor_for g url))))) Free (let e = h.eight in omega arith)
 
         of_outcome : (outcome : Result ℕ Cause) → given ≡ answer_to_open outcome → IfOk outcome (λ version. OpenedEntry g t url (view p) version (view q))
-            → IfOk outcome (λ version. (offer : ℕ) × ReadsAs tells state offers s q t (newly (anchor_for g url) version offer url)) → IfErr outcome (λ cause. Refused g t url (view p) cause (view q)) → OnErr outcome (IsFree q t) → OpensRight given q
+            → IfOk outcome (λ version. (offer : ℕ) × ReadsAs tells state offers s q t (newly (anchor_for g url) version offer url)) → IfErr outcome (λ cause. Refused g t url (view p) cause (view q)) → OnErr outcome (IsFree q t) → IsRenamed tells state offers s rename given q t (open_tab (setting_of g) t url pl)
         of_outcome (Ok version) is o reading refused freed =
             let r = opened_right free q version o reading.0 reading.1 in
             is_step (step (answer.Opened (place_at pl a).version) opened_store) (open_free free ∙ opened_step r.judged) (is ∙ ap answer.Opened r.version_is)
@@ -257,40 +250,44 @@ module _ {C O : Type 0} (tells : Bool) (state : C → CellState) (offers : O →
     closed_shows parted free hand = subst (λ (z : Step). ShowsOn tells state offers s rename q z.after t) (sym (close_is t a given other pl at))
         record { knows = parted_right parted; hand = hand ∙ sym hand_after; tab = subst (ShowsTab tells state offers s rename q (settle a (with_tab pl t Free)) t) (sym free_after) free }
 
-    pub closed_answer : (close t pl).answer ≡ answer.Closed
-    closed_answer = ap Step.answer (close_is t a given other pl at)
+  -- A request to close the entry that a tab reads.
+  pub closes_right : (t a given : ℕ) (other : Bool) (p q : Pass C) (told : Answer) (pl : Plain) → t < 8 → Shows tells state offers s rename p pl → tab_at pl t ≡ Reading a given other → q.hand ≡ p.hand → Closes tells state offers s t p told q
+      → IsRenamed tells state offers s rename told q t (close t pl)
+  closes_right t a given other p q told pl below shows at hand h = record {
+    answered = h.answer_is ∙ ap (λ (z : Step). renamed rename z.answer) (sym (close_is t a given other pl at));
+    shows = closed_shows t p q pl a given other shows.eight below shows.inner_free shows.knows at (subst (ShowsTab tells state offers s rename p pl t) at (shows.tabs t below)) h.parted h.free (ap (hand_in g.setting.anchors) hand ∙ shows.hand);
+  }
+
+  -- A request to read on.
+  pub mores_right : OneBegins → IsTrue tells → HoldsFile g → IsFromFront → g.slot < 4294967296 → (t a given : ℕ) (other : Bool) (p q : Pass C) (told : Answer) (pl : Plain) → t < 8 → Shows tells state offers s rename p pl
+      → tab_at pl t ≡ Reading a given other → is_fault told ≡ false → q.hand ≡ p.hand → ((e : Standing) → ReadsAs tells state offers s p t e → ReadsOn tells state offers s t p told q e)
+      → IsRenamed tells state offers s rename told q t (more (setting_of g) t pl)
+  mores_right begins known file from sized t a given other p q told pl below shows at fair hand h = record {
+    answered = right.answer told on.answer_is;
+    shows = record { knows = right.knows; hand = ap (hand_in g.setting.anchors) hand ∙ shows.hand ∙ sym (more_hand (setting_of g) t pl); tab = right.tab };
+  }
+    where
+      sh : ShowsReading tells state offers s rename p pl t a given other
+      sh = subst (ShowsTab tells state offers s rename p pl t) at (shows.tabs t below)
+
+      on : ReadsOn tells state offers s t p told q sh.standing
+      on = h sh.standing sh.reads
+
+      right : ReadRight tells state offers s rename lone t on.why on.bytes q (more (setting_of g) t pl)
+      right = went_right tells state offers s rename lone t begins known file from sized p q pl a given shows.eight below shows.knows other at sh on.why on.bytes on.went (no_fault on.why on.bytes told on.answer_is fair)
 
 -- The requests, where each version stands for itself.
 module _ {C O : Type 0} (tells : Bool) (state : C → CellState) (offers : O → Offers) (s : Store C O) (lone : IsLone (basis tells state offers s)) where
   pub opens_as : (t : ℕ) (url : List ℕ) (p q : Pass C) (given : Answer) (plain : Plain) → t < 8 → Shows tells state offers s (λ v. v) p plain → tab_at plain t ≡ Free → IsTyped given → q.hand ≡ p.hand
       → Opens tells state offers s t p given q url → IsAs tells state offers s given q t (open_tab (setting_of (basis tells state offers s)) t url plain)
-  opens_as t url p q given plain below shows free typed hand h = let r = opens_right tells state offers s (λ v. v) lone t url p plain shows below given q free typed hand h in
-      record { answered = r.answer_is ∙ same_answer _; shows = r.shows }
+  opens_as t url p q given plain below shows free typed hand h = own_step tells state offers s given q t _ (opens_right tells state offers s (λ v. v) lone t url p plain shows below given q free typed hand h)
 
   pub closes_as : (t anchor given : ℕ) (other : Bool) (p q : Pass C) (told : Answer) (plain : Plain) → t < 8 → Shows tells state offers s (λ v. v) p plain → tab_at plain t ≡ Reading anchor given other → q.hand ≡ p.hand
       → Closes tells state offers s t p told q → IsAs tells state offers s told q t (close t plain)
-  closes_as t anchor given other p q told plain below shows at hand h =
-      let sh = subst (ShowsTab tells state offers s (λ v. v) p plain t) at (shows.tabs t below) in
-      record {
-        answered = h.answer_is ∙ sym (closed_answer tells state offers s (λ v. v) lone t p q plain anchor given other shows.eight below shows.inner_free shows.knows at sh);
-        shows = closed_shows tells state offers s (λ v. v) lone t p q plain anchor given other shows.eight below shows.inner_free shows.knows at sh h.parted h.free (ap (hand_in (basis tells state offers s).setting.anchors) hand ∙ shows.hand);
-      }
+  closes_as t anchor given other p q told plain below shows at hand h = own_step tells state offers s told q t _ (closes_right tells state offers s (λ v. v) lone t anchor given other p q told plain below shows at hand h)
 
-  pub mores_as : (begins : OneBegins) → IsTrue tells → HoldsFile (basis tells state offers s) → IsFromFront → (basis tells state offers s).slot < 4294967296 → (t anchor given : ℕ) (other : Bool) (p q : Pass C) (told : Answer) (plain : Plain) → t < 8
+  pub mores_as : OneBegins → IsTrue tells → HoldsFile (basis tells state offers s) → IsFromFront → (basis tells state offers s).slot < 4294967296 → (t anchor given : ℕ) (other : Bool) (p q : Pass C) (told : Answer) (plain : Plain) → t < 8
       → Shows tells state offers s (λ v. v) p plain → tab_at plain t ≡ Reading anchor given other → is_fault told ≡ false → q.hand ≡ p.hand
       → ((e : Standing) → ReadsAs tells state offers s p t e → ReadsOn tells state offers s t p told q e) → IsAs tells state offers s told q t (more (setting_of (basis tells state offers s)) t plain)
   mores_as begins known file from sized t anchor given other p q told plain below shows at fair hand h =
-      let r = went_right tells state offers s (λ v. v) lone t begins known file from sized p q plain anchor given shows.eight below shows.knows other at sh on.why on.bytes on.went (no_fault on.why on.bytes told on.answer_is fair) in
-      record {
-        answered = r.answer told on.answer_is ∙ same_answer _;
-        shows = record { knows = r.knows; hand = ap (hand_in (basis tells state offers s).setting.anchors) hand ∙ shows.hand ∙ sym hand_after; tab = r.tab };
-      }
-    where
-      sh : ShowsReading tells state offers s (λ v. v) p plain t anchor given other
-      sh = subst (ShowsTab tells state offers s (λ v. v) p plain t) at (shows.tabs t below)
-
-      on : ReadsOn tells state offers s t p told q sh.standing
-      on = h sh.standing sh.reads
-
-      hand_after : (more (setting_of (basis tells state offers s)) t plain).after.hand ≡ plain.hand
-      hand_after = more_hand (setting_of (basis tells state offers s)) t plain
+      own_step tells state offers s told q t _ (mores_right tells state offers s (λ v. v) lone begins known file from sized t anchor given other p q told plain below shows at fair hand h)

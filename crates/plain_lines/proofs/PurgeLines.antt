@@ -41,9 +41,8 @@ use Rattle.plain_lines.proofs.Coming.{HasCome, away_judged, came_knows, hit_judg
 use Rattle.plain_lines.proofs.Leaving.{guest_at, purge_parts_right}
 use Rattle.plain_lines.proofs.Lines.{IsAs}
 use Rattle.plain_lines.proofs.Opening.{MissRight, settled}
-use Rattle.plain_lines.proofs.OwnVersions.{same_answer}
+use Rattle.plain_lines.proofs.Renamed.{IsRenamed, own_step, renamed_step}
 use Rattle.plain_lines.proofs.PlainWords.{readers_fit}
-use Rattle.plain_lines.proofs.ShowingOthers.{ShowsOn}
 
 module _ {C O : Type 0} (tells : Bool) (state : C → CellState) (offers : O → Offers) (s : Store C O) (rename : ℕ → ℕ) (lone : IsLone (basis tells state offers s)) (url : List ℕ) (p : Pass C) (pl : Plain) (h : Shows tells state offers s rename p pl) where
   abbrev g : Ground (List ℕ)
@@ -111,22 +110,16 @@ module _ {C O : Type 0} (tells : Bool) (state : C → CellState) (offers : O →
     }
 
   -- A request to purge.
-  pub record PurgesRight (given : Answer) (q : Pass C) : Type 0 where
-    pub answer_is : given ≡ renamed rename (purge (setting_of g) url pl).answer
-    pub shows : ShowsOn tells state offers s rename q (purge (setting_of g) url pl).after whole_tab
-
-  pub purges_right : (given : Answer) (q : Pass C) → tab_at pl whole_tab ≡ Free → IsTyped given → q.hand ≡ p.hand → Purges tells state offers s url p given q → PurgesRight given q
+  pub purges_right : (given : Answer) (q : Pass C) → tab_at pl whole_tab ≡ Free → IsTyped given → q.hand ≡ p.hand → Purges tells state offers s url p given q → IsRenamed tells state offers s rename given q whole_tab (purge (setting_of g) url pl)
   purges_right given q free typed hand k = of_outcome k.outcome k.answer_is k.purged k.refused
     where
       free_still : IsFree q whole_tab
       free_still = ap (λ (xs : List (core_tab.Tab (List ℕ))). get_or xs whole_tab core_tab.Tab.Free) k.same ∙ subst (ShowsTab tells state offers s rename p pl whole_tab) free (h.tabs whole_tab (omega arith))
 
-      is_step : (r : Step) → purge (setting_of g) url pl ≡ r → given ≡ renamed rename r.answer → r.after.hand ≡ pl.hand → tab_at r.after whole_tab ≡ Free → Knows g rename (view q) r.after no_guests → PurgesRight given q
-      is_step r e answered same_hand same_tab knows = record {
-        answer_is = answered ∙ ap (λ (z : Step). renamed rename z.answer) (sym e);
-        shows = subst (λ (z : Step). ShowsOn tells state offers s rename q z.after whole_tab) (sym e)
-            record { knows = knows; hand = ap (hand_in g.setting.anchors) hand ∙ h.hand ∙ sym same_hand; tab = subst (ShowsTab tells state offers s rename q r.after whole_tab) (sym same_tab) free_still };
-      }
+      is_step : (r : Step) → purge (setting_of g) url pl ≡ r → given ≡ renamed rename r.answer → r.after.hand ≡ pl.hand → tab_at r.after whole_tab ≡ Free → Knows g rename (view q) r.after no_guests
+          → IsRenamed tells state offers s rename given q whole_tab (purge (setting_of g) url pl)
+      is_step r e answered same_hand same_tab knows = renamed_step tells state offers s rename given q whole_tab (purge (setting_of g) url pl) r e answered
+          record { knows = knows; hand = ap (hand_in g.setting.anchors) hand ∙ h.hand ∙ sym same_hand; tab = subst (ShowsTab tells state offers s rename q r.after whole_tab) (sym same_tab) free_still }
 
       purged_step : judge (setting_of g) pl a (key_of url) ≡ None → purge (setting_of g) url pl ≡ step (answer.Purged (plain.epoch_of (room_of g.slot) (place_at (doom_at a pl) a))) (settle a (doom_at a pl))
       purged_step j = rw j refl
@@ -142,7 +135,8 @@ module _ {C O : Type 0} (tells : Bool) (state : C → CellState) (offers : O →
       settled_tab true e = rw e free
       settled_tab false e = rw e free
 
-      of_outcome : (outcome : Result Epoch Cause) → given ≡ answer_to_purge outcome → IfOk outcome (λ left. Purged g inner url (view p) left (view q)) → IfErr outcome (λ cause. Refused g inner url (view p) cause (view q)) → PurgesRight given q
+      of_outcome : (outcome : Result Epoch Cause) → given ≡ answer_to_purge outcome → IfOk outcome (λ left. Purged g inner url (view p) left (view q)) → IfErr outcome (λ cause. Refused g inner url (view p) cause (view q))
+          → IsRenamed tells state offers s rename given q whole_tab (purge (setting_of g) url pl)
       of_outcome (Ok left) is purged refused =
           let r = purged_right (view q) left purged in
           is_step (step (answer.Purged (plain.epoch_of (room_of g.slot) (place_at (doom_at a pl) a))) (settle a (doom_at a pl))) (purged_step r.judged) (is ∙ ap answer.Purged r.left_is)
@@ -155,4 +149,4 @@ module _ {C O : Type 0} (tells : Bool) (state : C → CellState) (offers : O →
 module _ {C O : Type 0} (tells : Bool) (state : C → CellState) (offers : O → Offers) (s : Store C O) (lone : IsLone (basis tells state offers s)) where
   pub purges_as : (url : List ℕ) (p q : Pass C) (given : Answer) (plain : Plain) → Shows tells state offers s (λ v. v) p plain → tab_at plain whole_tab ≡ Free → IsTyped given → q.hand ≡ p.hand
       → Purges tells state offers s url p given q → IsAs tells state offers s given q whole_tab (purge (setting_of (basis tells state offers s)) url plain)
-  purges_as url p q given plain shows free typed hand h = let r = purges_right tells state offers s (λ v. v) lone url p plain shows given q free typed hand h in record { answered = r.answer_is ∙ same_answer _; shows = r.shows }
+  purges_as url p q given plain shows free typed hand h = own_step tells state offers s given q whole_tab _ (purges_right tells state offers s (λ v. v) lone url p plain shows given q free typed hand h)
