@@ -1,6 +1,7 @@
 -- What the plain store makes of an entry that grows, over calls that each add some bytes.
-use Rattle.std.proofs.Common.{Bool, List, [], ap, arith, cond, false, get_or, refl, set, suc, sym, true, zero, ◌*◌, ◌+◌, ◌-◌, ◌<◌, ◌∙◌, ◌≡◌, ◌≤◌, ◌∷◌, ℕ}
+use Rattle.std.proofs.Common.{Bool, List, [], ap, arith, cond, eq-eqb, false, get_or, ne_eqb, refl, set, suc, sym, true, zero, ◌*◌, ◌+◌, ◌-◌, ◌<◌, ◌∙◌, ◌≡◌, ◌≢◌, ◌≤◌, ◌∷◌, ℕ}
 use Rattle.std.specs.Prelude.{None, Option, Some, is_some, nat_le, ◌/◌, ◌==◌}
+use Rattle.std.proofs.lemmas.Bool.Decides.{nat_tests}
 use Rattle.std.proofs.lemmas.Nat.{div-mul-add}
 use Rattle.plain_model.specs.declared.entry.Entry.{Entry}
 use Rattle.plain_model.specs.declared.entry.Place.{Place}
@@ -66,6 +67,43 @@ publish_is s a filled p = refl
 
 pub publish_resized : (s : Setting) (a filled c : ℕ) (p : Plain) → publish s a filled (resize a c p) ≡ publish s a filled p
 publish_resized s a filled c p = publish_is s a filled (resize a c p) ∙ (ap (published_as s filled) (resize_twice a c (filled * s.room) p) ∙ sym (publish_is s a filled p))
+
+-- what a claim makes of a store that needs it
+abbrev pub grown_of : Claimed → Grown
+grown_of c = record { store = c.store; refusal = cond c.done None (Some Full) }
+
+pub grown_done : (c : Claimed) → c.done ≡ true → grown_of c ≡ grown_as c.store None
+grown_done c e = ap (λ (b : Bool). grown_as c.store (cond b None (Some Full))) e
+
+pub grown_not : (c : Claimed) → c.done ≡ false → grown_of c ≡ grown_as c.store (Some Full)
+grown_not c e = ap (λ (b : Bool). grown_as c.store (cond b None (Some Full))) e
+
+pub two_done : (s : Setting) (p : Plain) → (claim s 0 p).done ≡ true → claim_two s p ≡ claim s 1 (claim s 0 p).store
+two_done s p e = ap (λ (b : Bool). cond b (claim s 1 (claim s 0 p).store) (claim s 0 p)) e
+
+pub two_not : (s : Setting) (p : Plain) → (claim s 0 p).done ≡ false → claim_two s p ≡ claim s 0 p
+two_not s p e = ap (λ (b : Bool). cond b (claim s 1 (claim s 0 p).store) (claim s 0 p)) e
+
+-- Of an entry whose slots are full, so many of them, the last is published: it is too large, or needs slots.
+module _ (s : Setting) (a filled : ℕ) (p : Plain) (e : Entry) (there : entry_at p a ≡ Some e) (full : e.content ≡ filled * s.room) where
+  publish_full : publish s a filled p ≡ published_as s filled p
+  publish_full = publish_is s a filled p ∙ ap (published_as s filled) (resize_same a (filled * s.room) p e there full)
+
+  pub publish_large : limit s ≤ filled → publish s a filled p ≡ grown_as p (Some Large)
+  unfolding published_as
+  publish_large le = let t : nat_le (limit s) filled ≡ true = grind (arith, nat_tests) in
+      publish_full ∙ ap (λ (b : Bool). cond b (grown_as p (Some Large)) (grown_of (cond (filled == 1) (claim_two s p) (claim s 0 p)))) t
+
+  publish_small : filled < limit s → publish s a filled p ≡ grown_of (cond (filled == 1) (claim_two s p) (claim s 0 p))
+  unfolding published_as
+  publish_small lt = let t : nat_le (limit s) filled ≡ false = grind (arith, nat_tests) in
+      publish_full ∙ ap (λ (b : Bool). cond b (grown_as p (Some Large)) (grown_of (cond (filled == 1) (claim_two s p) (claim s 0 p)))) t
+
+  pub publish_first : filled < limit s → filled ≡ 1 → publish s a filled p ≡ grown_of (claim_two s p)
+  publish_first lt is = publish_small lt ∙ ap (λ (b : Bool). grown_of (cond b (claim_two s p) (claim s 0 p))) (eq-eqb filled 1 is)
+
+  pub publish_later : filled < limit s → filled ≢ 1 → publish s a filled p ≡ grown_of (claim s 0 p)
+  publish_later lt ne = publish_small lt ∙ ap (λ (b : Bool). grown_of (cond b (claim_two s p) (claim s 0 p))) (ne_eqb filled 1 ne)
 
 after_publish : (s : Setting) (a d m filled : ℕ) → Grown → Grown
 after_publish s a d m filled g = cond (is_some g.refusal) g (grow s a d m (filled + 1) g.store)

@@ -1,1 +1,5 @@
 pub mod Growth
+pub mod Published
+pub mod Reserving
+pub mod Publishing
+pub mod Flushing
