@@ -3,3 +3,4 @@ pub mod Published
 pub mod Reserving
 pub mod Publishing
 pub mod Flushing
+pub mod Adding

@@ -19,7 +19,7 @@ use Rattle.plain_model.specs.declared.entry.Place.{Place as PlaceOf}
 use Rattle.plain_model.specs.declared.store.Plain.{Plain}
 use Rattle.plain_model.specs.declared.store.Setting.{Setting}
 use Rattle.plain_model.specs.Place.{nothing, vacated}
-use Rattle.plain_model.specs.Slots.{claim, evicted}
+use Rattle.plain_model.specs.Slots.{Claimed, claim}
 use Rattle.plain_model.specs.Store.{entry_at, is_idle_at, place_at, readers}
 use Rattle.plain_laws.proofs.Evicting.{idle_whole}
 use Rattle.pass_calls.specs.Calls.{Others}
@@ -30,7 +30,8 @@ use Rattle.slice_chain.specs.Victims.{hand_in}
 use Rattle.store_rule.specs.Ground.{Ground}
 use Rattle.store_rule.specs.Told.{Stands}
 use Rattle.plain_lines.specs.Words.{IsLone, Knows, no_guests, setting_of, spare, spare_of}
-use Rattle.plain_lines.proofs.Claims.{claim_made, claims_right, runs_out_right}
+use Rattle.plain_lines.proofs.Claims.{ClaimsRight, GaveWay, RunsOutRight, claims_right, runs_out_right}
+use Rattle.plain_lines.proofs.Victims.{KeptTells}
 use Rattle.plain_lines.proofs.Holding.{AllRaised}
 use Rattle.plain_lines.proofs.PlainWords.{readers_fit}
 use Rattle.plain_lines.proofs.Totals.{sum_only}
@@ -40,18 +41,15 @@ pub record ClaimStays (p q : Plain) (a : ℕ) : Type 0 where
   pub tabs : q.tabs ≡ p.tabs
   pub place : place_at q a ≡ place_at p a
 
-pub claim_stays : (s : Setting) (n a : ℕ) (p : Plain) (x : Entry) → entry_at p a ≡ Some x → x.life ≡ Growing → ClaimStays p (claim s n p).store a
-claim_stays s n a p x there grows = of_case (claim_made s n p)
+pub claim_stays : (g : Ground (List ℕ)) (rename : ℕ → ℕ) (a : ℕ) (p q : Plain) (x : Entry) → entry_at p a ≡ Some x → x.life ≡ Growing → (q ≡ p) ⊎ GaveWay g rename p q → ClaimStays p q a
+claim_stays g rename a p q x there grows (inl e) = record { tabs = ap Plain.tabs e; place = ap (λ (q : Plain). place_at q a) e }
+claim_stays g rename a p q x there grows (inr gave) = let w = idle_whole p gave.anchor gave.idle in record {
+  tabs = ap Plain.tabs gave.is;
+  place = ap (λ (q : Plain). place_at q a) gave.is ∙ get_or-set_other p.places gave.anchor a (vacated (place_at p gave.anchor)) nothing (λ same. differ w.0 (sym there ∙ ap (entry_at p) same ∙ w.1) w.2);
+}
   where
-    of_case : ((claim s n p).store ≡ p) ⊎ ((b : ℕ) × (is_idle_at p b ≡ true) × ((claim s n p).store ≡ evicted s b p)) → ClaimStays p (claim s n p).store a
-    of_case (inl e) = record { tabs = ap Plain.tabs e; place = ap (λ (q : Plain). place_at q a) e }
-    of_case (inr (b, idle, e)) = let w = idle_whole p b idle in record {
-      tabs = ap Plain.tabs e;
-      place = ap (λ (q : Plain). place_at q a) e ∙ get_or-set_other p.places b a (vacated (place_at p b)) nothing (λ same. differ w.0 (sym there ∙ ap (entry_at p) same ∙ w.1) w.2);
-    }
-      where
-        differ : (y : Entry) → Some x ≡ Some y → y.life ≡ Whole → ⊥
-        differ y e whole = let same : x ≡ y = cc in let k : Growing ≡ Whole = sym grows ∙ (ap (λ (z : Entry). z.life) same ∙ whole) in cc
+    differ : (y : Entry) → Some x ≡ Some y → y.life ≡ Whole → ⊥
+    differ y e whole = let same : x ≡ y = cc in let k : Growing ≡ Whole = sym grows ∙ (ap (λ (z : Entry). z.life) same ∙ whole) in cc
 
 -- A tab that writes and is at rest has reserved no slot but the one that it linked, and has published none before its entry may be read.
 abbrev pub IsQuiet : {X : Type 0} → Tab X → Type 0
@@ -111,6 +109,7 @@ module _ (g : Ground (List ℕ)) (lone : IsLone g) (rename : ℕ → ℕ) where
     pub quiet : AreQuiet t v
     pub hand_is : hand_in g.setting.anchors hand ≡ p.hand
     pub eight : length p.tabs ≡ 8
+    pub kept : KeptTells g t
 
   -- the slot is claimed in the plain store too, and there is nothing else
   pub record HasClaimed (t n a : ℕ) (v u : View (List ℕ)) (p : Plain) (hand slot : ℕ) : Type 0 where
@@ -130,56 +129,54 @@ module _ (g : Ground (List ℕ)) (lone : IsLone g) (rename : ℕ → ℕ) where
 
   module _ (t : ℕ) (v : View (List ℕ)) (p : Plain) (hand : ℕ) (h : IsReadied t v p hand) (below : t < inner) (w : Writer (List ℕ)) (is : tab_at v t ≡ Writing w) (raised : w.is_appending ≡ false → w.published ≡ [])
       (n : ℕ) (extra : length w.reserved - length (slots_of_link w.end) ≡ n) where
-    few : (a : ℕ) → a < g.setting.anchors → readers p a < 65536
-    few a lt = let k = readers_fit p a 0 h.eight (omega arith) in omega arith
-
     spare_is : spare v ≡ n
     spare_is = quiet_spare t v w h.pass below h.quiet h.inner_free is ∙ extra
 
     others_set : (u : View (List ℕ)) (x : Tab (List ℕ)) → u.tabs ≡ with_tab v t x → Others t v u
     others_set u x tabs j ne far = ap (λ (xs : List (Tab (List ℕ))). get_or xs j Free) tabs ∙ get_or-set_other v.tabs t j x Free ne
 
-    went_stands : {u m : View (List ℕ)} → Stands g v → (u ≡ m) ⊎ (Stands g m × Stands g u) → (m ≡ v) ⊎ (Stands g v × Stands g m) → Stands g u
-    went_stands st (inl e) (inl f) = subst (Stands g) (sym (e ∙ f)) st
-    went_stands st (inl e) (inr s) = subst (Stands g) (sym e) s.1
-    went_stands st (inr s) f = s.1
-
     pub reserves_right : (u : View (List ℕ)) (slot hand_after a : ℕ) (x : Entry) → entry_at p a ≡ Some x → x.life ≡ Growing → Reserved g t hand v slot u hand_after → HasClaimed t n a v u p hand_after slot
     reserves_right u slot hand_after a x there grows r =
-        let c = claims_right g rename lone v u p t slot hand hand_after w h.stands h.pass h.knows few (quiet_raised t v w h.quiet h.inner_free is raised) h.inner_free below is h.hand_is r in
-        let stays = claim_stays (setting_of g) n a p x there grows in record {
-          done = subst (λ (m : ℕ). (claim (setting_of g) m p).done ≡ true) spare_is c.done;
-          readied = record {
-            knows = subst (λ (m : ℕ). Knows g rename u (claim (setting_of g) m p).store no_guests) spare_is c.knows;
-            stands = of_how r.how;
-            pass = nine_now t v u (reserves (tab_at v t) slot) h.pass below r.tabs;
-            inner_free = c.inner_free;
-            quiet = quiet_on t v u h.quiet (others_set u (reserves (tab_at v t) slot) r.tabs);
-            hand_is = subst (λ (m : ℕ). hand_in g.setting.anchors hand_after ≡ (claim (setting_of g) m p).store.hand) spare_is c.hand;
-            eight = ap length stays.tabs ∙ h.eight;
-          };
-          tab = tab_now t v u (reserves (tab_at v t) slot) h.pass below r.tabs;
-          others = others_set u (reserves (tab_at v t) slot) r.tabs;
-          stays = stays;
-        }
+        let c = claims_right g lone rename v p h.knows h.eight h.stands h.pass h.inner_free (quiet_raised t v w h.quiet h.inner_free is raised) t w is slot u hand hand_after h.hand_is h.kept r in
+        of_claim (claim (setting_of g) (spare v) p) c (ap (λ (m : ℕ). claim (setting_of g) m p) spare_is)
       where
-        of_how : Rattle.rock_writer.specs.Reserving.ByClaim g t hand v slot u hand_after ⊎ Rattle.rock_writer.specs.Reserving.ByEviction g t hand v slot u hand_after → Stands g u
-        of_how (inl b) = went_stands h.stands b.claimed.passed.went.stands (inl refl)
-        of_how (inr b) = went_stands h.stands b.evicted.went.stands b.none.passed.went.stands
+        of_claim : (c : Claimed) → ClaimsRight g rename p v u hand_after c → c ≡ claim (setting_of g) n p → HasClaimed t n a v u p hand_after slot
+        of_claim c k same = let right = subst (ClaimsRight g rename p v u hand_after) same k in
+            let stays = claim_stays g rename a p (claim (setting_of g) n p).store x there grows right.how in record {
+              done = right.done;
+              readied = record {
+                knows = right.knows;
+                stands = right.stands;
+                pass = right.pass;
+                inner_free = right.inner_free;
+                quiet = quiet_on t v u h.quiet (others_set u (reserves (tab_at v t) slot) r.tabs);
+                hand_is = right.hand;
+                eight = ap length stays.tabs ∙ h.eight;
+                kept = h.kept;
+              };
+              tab = tab_now t v u (reserves (tab_at v t) slot) h.pass below r.tabs;
+              others = others_set u (reserves (tab_at v t) slot) r.tabs;
+              stays = stays;
+            }
 
     pub runs_out : (u : View (List ℕ)) → RanOut g t hand v u → HasRunOut t n v u p hand
     runs_out u r =
-        let c = runs_out_right g rename lone v u p t hand h.stands h.pass h.knows few (quiet_raised t v w h.quiet h.inner_free is raised) h.inner_free h.hand_is r in record {
-          none = subst (λ (m : ℕ). (claim (setting_of g) m p).done ≡ false) spare_is c.none;
-          same = subst (λ (m : ℕ). (claim (setting_of g) m p).store ≡ p) spare_is c.same;
+        let c = runs_out_right g lone rename v p h.knows h.eight h.stands h.pass h.inner_free (quiet_raised t v w h.quiet h.inner_free is raised) t hand u h.hand_is r in
+        of_claim (claim (setting_of g) (spare v) p) c (ap (λ (m : ℕ). claim (setting_of g) m p) spare_is)
+      where
+        of_claim : (c : Claimed) → RunsOutRight g rename p u c → c ≡ claim (setting_of g) n p → HasRunOut t n v u p hand
+        of_claim c k same = let right = subst (RunsOutRight g rename p u) same k in record {
+          none = right.done;
+          same = right.store;
           readied = record {
-            knows = c.knows;
-            stands = went_stands h.stands r.busy.went.stands r.none.passed.went.stands;
+            knows = right.knows;
+            stands = right.stands;
             pass = ap length r.tabs ∙ h.pass;
             inner_free = ap (λ (xs : List (Tab (List ℕ))). is_free (get_or xs inner Free)) r.tabs ∙ h.inner_free;
             quiet = quiet_on t v u h.quiet (λ j ne far. ap (λ (xs : List (Tab (List ℕ))). get_or xs j Free) r.tabs);
             hand_is = h.hand_is;
             eight = h.eight;
+            kept = h.kept;
           };
           tab = ap (λ (xs : List (Tab (List ℕ))). get_or xs t Free) r.tabs;
           others = λ j ne far. ap (λ (xs : List (Tab (List ℕ))). get_or xs j Free) r.tabs;
