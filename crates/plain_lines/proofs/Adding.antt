@@ -19,9 +19,11 @@ use Rattle.plain_model.specs.declared.store.Setting.{Setting}
 use Rattle.plain_model.specs.Slots.{Grown, grown_as, limit, publish, resize}
 use Rattle.plain_model.specs.Store.{entry_at, meta_size, place_at, published, stage_of_entry}
 use Rattle.plain_model.specs.Writing.{append}
+use Rattle.plain_laws.proofs.Alone.{published_le}
 use Rattle.plain_laws.proofs.Filling.{resized_there}
 use Rattle.pass_calls.specs.Calls.{Others}
 use Rattle.pass_calls.specs.Words.{has}
+use Rattle.pass_calls.proofs.OtherTabs.{others_go_on}
 use Rattle.rock_writer.specs.Appending.{Appended, IsFull, TookBehind, TookHere, TookNone, place_of, room_in}
 use Rattle.rock_writer.specs.Entries.{Entry as Writing_, WritesAs, body_in, size_of, url_in, with_taken, writer_as}
 use Rattle.rock_writer.specs.Flushing.{IsAtLimit}
@@ -33,10 +35,11 @@ use Rattle.store_rule.specs.Drafts.{draft_at}
 use Rattle.store_rule.specs.Ground.{Ground, Offers}
 use Rattle.store_rule.specs.Passes.{basis, view}
 use Rattle.store_rule.proofs.Passing.{pass_of}
+use Rattle.store_serve.specs.Adding.{Call, Took, taken_on}
 use Rattle.plain_lines.specs.Words.{HasChain, HasNames, IsLone, IsOfOffer, Knows, ShowsAt, ShowsEntry, no_guests, setting_of}
 use Rattle.plain_lines.proofs.Flushing.{HasFlushed, entry_shown, flushed_right, knows_grown, resized_at, resized_offer, staged, word_staged}
 use Rattle.plain_lines.proofs.Freeing.{KnowsBut, knows_but}
-use Rattle.plain_lines.proofs.Growth.{append_behind, append_here, published_is}
+use Rattle.plain_lines.proofs.Growth.{append_behind, append_here, append_on, published_is}
 use Rattle.plain_lines.proofs.Published.{anchor_there, chain_of_tab}
 use Rattle.plain_lines.proofs.Reserving.{IsReadied, quiet_on}
 
@@ -266,3 +269,41 @@ module _ {C O : Type 0} (tells : Bool) (state : C → CellState) (offers : O →
     appended_right bytes (inl none) = stayed none.same none.hand (ap (published room) (let z = none.zero_is in omega arith))
     appended_right bytes (inr (inl b)) = here bytes b
     appended_right bytes (inr (inr b)) = behind bytes b
+
+  pub some_room : (pass : Pass C) (e : Writing_) → WritesAs tells state offers st pass t e → 0 < room
+  some_room pass e w = let d = w.drafts.least in let k = w.drafts.within in omega arith
+
+  -- Of one call after others.
+  then_right : (pass middle q : Pass C) (p : Plain) (e : Writing_) (x : Entry) (before count total : ℕ) → 0 < room → total ≡ before + count → (a : HasAppended pass middle p e x before)
+      → HasAppended middle q a.store (taken_on e before) (record x { content = x.content + before }) count → HasAppended pass q p e x total
+  then_right pass middle q p e x before count total some_ sum a b = record {
+    store = b.store;
+    grown = ap (λ (n : ℕ). append s e.anchor n x.content p) sum
+        ∙ (sym (append_on s e.anchor before count x.content p (published_le room x.content (x.content + before) some_ (omega arith)) (published_le room (x.content + before) (x.content + before + count) some_ (omega arith)) (ap Grown.refusal a.grown))
+        ∙ (ap (λ (z : Grown). append s e.anchor count (x.content + before) z.store) a.grown ∙ b.grown));
+    ready = b.ready;
+    grows = subst (λ z. z) (λ i. Grows q b.store (with_taken e (taken i)) (record x { content = content i })) b.grows;
+    tabs = b.tabs ∙ a.tabs;
+    others = others_go_on (view pass) (view middle) (view q) t a.others b.others;
+    version = b.version ∙ a.version;
+  }
+    where
+      taken : e.taken + before + count ≡ e.taken + total
+      taken = let z = sum in omega arith
+
+      content : x.content + before + count ≡ x.content + total
+      content = let z = sum in omega arith
+
+  -- So many bytes were taken by calls, one behind the other, and the plain store has added them.
+  pub took_right : (pass : Pass C) (p : Plain) (e : Writing_) (x : Entry) → IsReadied g lone rename t (view pass) p pass.hand → Grows pass p e x → (calls : List (Call C)) (q : Pass C) (total : ℕ)
+      → Took tells state offers st t e pass calls q total → HasAppended pass q p e x total
+  took_right pass p e x ready h [] q total (same, none) =
+      stayed pass q p e x ready h total (subst (λ z. z) (λ i. WritesAs tells state offers st (sym same i) t (with_taken e (taken i))) h.writes) (ap view same) (ap (λ (z : Pass C). z.hand) same)
+      (ap (published room) (let z = none in omega arith))
+    where
+      taken : e.taken ≡ e.taken + total
+      taken = let z = none in omega arith
+  took_right pass p e x ready h (c ∷ earlier) q total (middle, before, took, appended, is, sum) =
+      let a = took_right pass p e x ready h earlier middle before took in
+      let b = appended_right middle c.after a.store (taken_on e before) (record x { content = x.content + before }) a.ready a.grows c.count appended.writes c.bytes appended.how in
+      subst (λ (z : Pass C). HasAppended pass z p e x total) (sym is) (then_right pass middle c.after p e x before c.count total (some_room pass e h.writes) sum a b)

@@ -4,3 +4,4 @@ pub mod Reserving
 pub mod Publishing
 pub mod Flushing
 pub mod Adding
+pub mod Halting
