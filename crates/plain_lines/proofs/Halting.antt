@@ -145,7 +145,29 @@ ends_either Growing to h = absurd h
 ends_either Whole to h = inl h
 ends_either GivenUp to h = inr h
 
+pub growing_stage : (room content : ℕ) → stage_number (stage_of_entry room Growing content) ≤ 2
+growing_stage room content = either (λ (k : Stage). stage_number k ≤ 2) (published room content == 0) stage.Taken stage.Appending (λ z. omega arith) (λ z. omega arith)
+
 module _ (g : Ground (List ℕ)) (lone : IsLone g) (rename : ℕ → ℕ) (t : ℕ) (below : t < inner) where
+  -- The tab raises the word of its anchor to this stage.
+  pub raised_so : (from to : Stage) (u v : View (List ℕ)) (p : Plain) (y : Writer (List ℕ)) (a n : ℕ) → stage_number from ≤ stage_number to → y.anchor ≡ a → tab_at u t ≡ Writing y → length p.tabs ≡ 8 → has g u (Anchor a) ≡ staged rename p a from
+      → Steps g u (Raise t to) n v → (has g v (Anchor a) ≡ staged rename p a to) × (left_by u (Raise t to) n ≡ staged rename p a to)
+  raised_so from to u v p y a n le same is eight word raises = (left.1 ∙ raises_to, left.2 ∙ raises_to)
+    where
+      left : (n ≡ has g u (Anchor a)) × (has g v (Anchor a) ≡ raised n (stage_number to - stage_in (epoch_in n))) × (left_by u (Raise t to) n ≡ raised n (stage_number to - stage_in (epoch_in n)))
+      left = subst (λ (z : ℕ). (n ≡ has g u (Anchor z)) × (has g v (Anchor z) ≡ raised n (stage_number to - stage_in (epoch_in n))) × (left_by u (Raise t to) n ≡ raised n (stage_number to - stage_in (epoch_in n)))) same
+          (raise_left g lone u v t n to y is raises)
+
+      found : n ≡ staged rename p a from
+      found = left.0 ∙ word
+
+      stage_is : stage_in (epoch_in (staged rename p a from)) ≡ stage_number from
+      stage_is = stage_counted (renamed_word rename record { epoch = record { version = (place_at p a).version; doom = (place_at p a).doom; stage = from }; readers = readers p a })
+          0 (staged rename p a from) (omega arith) (readers_fit p a 0 eight (omega arith))
+
+      raises_to : raised n (stage_number to - stage_in (epoch_in n)) ≡ staged rename p a to
+      raises_to = ap (λ (z : ℕ). raised z (stage_number to - stage_in (epoch_in z))) found ∙ (ap (λ (k : ℕ). raised (staged rename p a from) (stage_number to - k)) stage_is ∙ staged_raised rename p a from to le)
+
   -- The tab ends its entry and parts from it.
   pub ended_right : (life : Life) (from to : Stage) (u v w : View (List ℕ)) (p : Plain) (x : Entry) (y : Writer (List ℕ)) (a n : ℕ) → y.anchor ≡ a → EndsAs life to → stage_number from ≤ stage_number to → IsPass u → Stands g u → tab_at u t ≡ Writing y
       → length p.tabs ≡ 8 → plain_tab p t ≡ plain.Writing a → entry_at p a ≡ Some x → KnowsBut g rename u p no_guests a → has g u (Anchor a) ≡ staged rename p a from
@@ -162,19 +184,8 @@ module _ (g : Ground (List ℕ)) (lone : IsLone g) (rename : ℕ → ℕ) (t : �
       here : place u (Raise t to) ≡ Some (Anchor a)
       here = ap (λ (z : Tab (List ℕ)). Some (Anchor (anchor_of z))) is ∙ ap (λ (z : ℕ). Some (Anchor z)) same
 
-      left : (n ≡ has g u (Anchor a)) × (has g v (Anchor a) ≡ raised n (stage_number to - stage_in (epoch_in n))) × (left_by u (Raise t to) n ≡ raised n (stage_number to - stage_in (epoch_in n)))
-      left = subst (λ (z : ℕ). (n ≡ has g u (Anchor z)) × (has g v (Anchor z) ≡ raised n (stage_number to - stage_in (epoch_in n))) × (left_by u (Raise t to) n ≡ raised n (stage_number to - stage_in (epoch_in n)))) same
-          (raise_left g lone u v t n to y is raises)
-
-      found : n ≡ staged rename p a from
-      found = left.0 ∙ word
-
-      stage_is : stage_in (epoch_in (staged rename p a from)) ≡ stage_number from
-      stage_is = stage_counted (renamed_word rename record { epoch = record { version = (place_at p a).version; doom = (place_at p a).doom; stage = from }; readers = readers p a })
-          0 (staged rename p a from) (omega arith) (readers_fit p a 0 eight (omega arith))
-
       word_after : has g v (Anchor a) ≡ staged rename p a to
-      word_after = left.1 ∙ (ap (λ (z : ℕ). raised z (stage_number to - stage_in (epoch_in z))) found ∙ (ap (λ (k : ℕ). raised (staged rename p a from) (stage_number to - k)) stage_is ∙ staged_raised rename p a from to le))
+      word_after = (raised_so from to u v p y a n le same is eight word raises).0
 
       at_place : place_at (ended_with life t a p) a ≡ record (place_at p a) { entry = Some (record x { life = life }) } → ShowsAt g rename v (ended_with life t a p) 0 a
       at_place now = record {
@@ -219,9 +230,6 @@ module _ (g : Ground (List ℕ)) (lone : IsLone g) (rename : ℕ → ℕ) (t : �
 
       given_whole : GivenUp ≡ Whole → ⊥
       given_whole e = cc
-
-  growing_stage : (room content : ℕ) → stage_number (stage_of_entry room Growing content) ≤ 2
-  growing_stage room content = either (λ (k : Stage). stage_number k ≤ 2) (published room content == 0) stage.Taken stage.Appending (λ z. omega arith) (λ z. omega arith)
 
   -- What halting leaves: the plain store gave the entry up.
   pub record HasHalted (v w : View (List ℕ)) (a : ℕ) (p : Plain) : Type 0 where

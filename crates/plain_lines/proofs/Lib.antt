@@ -5,3 +5,5 @@ pub mod Publishing
 pub mod Flushing
 pub mod Adding
 pub mod Halting
+pub mod Ending
+pub mod Stopping

@@ -59,7 +59,7 @@ module _ (g : Ground (List ℕ)) (lone : IsLone g) (rename : ℕ → ℕ) (t : �
 
   -- A slot for the first piece, where nothing is published, and for a later one.
   module _ (v : View (List ℕ)) (p : Plain) (hand : ℕ) (h : IsReadied g lone rename t v p hand) (x : Entry) (there : entry_at p e.anchor ≡ Some x) (grows : x.life ≡ Growing) where
-    first_claimed : (slot hand_after : ℕ) (u : View (List ℕ)) → tab_at v t ≡ W [] NotWritten [] → SlotFor g t hand v slot u hand_after → HasClaimed g lone rename t 0 e.anchor v u p hand_after slot
+    pub first_claimed : (slot hand_after : ℕ) (u : View (List ℕ)) → tab_at v t ≡ W [] NotWritten [] → SlotFor g t hand v slot u hand_after → HasClaimed g lone rename t 0 e.anchor v u p hand_after slot
     first_claimed slot after u is (inl has) = absurd (some_none (sym (ap reserved_first (sym is) ∙ has.first)))
     first_claimed slot after u is (inr needs) = reserves_right g lone rename t v p hand h below (writer_as g e [] NotWritten []) is (λ z. refl) 0 refl u slot after e.anchor x there grows needs.reserved
 
