@@ -206,6 +206,7 @@ module _ {C O : Type 0} (tells : Bool) (state : C → CellState) (offers : O →
     pub record HasFinished (q : Pass C) (ended : Ended) : Type 0 where
       pub store : Plain
       pub slot : last_slot (setting_of g) x.content p ≡ grown_as store None
+      pub tabs : store.tabs ≡ p.tabs
       pub hand_is : hand_in g.setting.anchors q.hand ≡ store.hand
       pub knows : Knows g rename (view q) (close_writer Whole t e.anchor store) no_guests
       pub free : tab_at (view q) t ≡ Free
@@ -215,6 +216,7 @@ module _ {C O : Type 0} (tells : Bool) (state : C → CellState) (offers : O →
     finished_right q ended f = record {
       store = store;
       slot = sr.1;
+      tabs = hg.stays.tabs;
       hand_is = hg.readied.hand_is;
       knows = ended_right g lone rename t below Whole from stage.Closed f.linked f.closed (view q) store x y e.anchor f.word refl refl le po.pass (stands_before f.closes) po.tab hg.readied.eight plain_after there but word shown f.closes f.parted;
       free = f.parted.free;

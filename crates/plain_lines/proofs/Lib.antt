@@ -7,3 +7,4 @@ pub mod Adding
 pub mod Halting
 pub mod Ending
 pub mod Stopping
+pub mod Giving

@@ -73,6 +73,7 @@ module _ {C O : Type 0} (tells : Bool) (state : C → CellState) (offers : O →
     pub answered : answer_to_fault fault ≡ refused_by refusal
     pub store : Plain
     pub refused : publish s a (k + 1) p ≡ grown_as store (Some refusal)
+    pub tabs : store.tabs ≡ p.tabs
     pub gave_up : HasGivenUp q a store
 
   module _ (pass q : Pass C) (p : Plain) (e : Writing_) (x : Entry) (ready : IsReadied g lone rename t (view pass) p pass.hand) (h : Grows tells state offers st lone rename t pass p e x) (plain_is : plain_tab p t ≡ plain.Writing e.anchor) where
@@ -96,6 +97,7 @@ module _ {C O : Type 0} (tells : Bool) (state : C → CellState) (offers : O →
       answered = refl;
       store = p;
       refused = publish_large s e.anchor (length ps + 1) p x h.there (full_is n.full) (let l = n.limit.0 refl in let k = place_is in omega arith);
+      tabs = refl;
       gave_up = record { knows = done.knows; hand_is = ap (hand_in g.setting.anchors) n.stopped.1 ∙ ready.hand_is; free = done.free };
     }
       where
@@ -107,6 +109,7 @@ module _ {C O : Type 0} (tells : Bool) (state : C → CellState) (offers : O →
       answered = refl;
       store = short.0;
       refused = short.1;
+      tabs = short.3.stays.tabs;
       gave_up = given_up_so below (view pass) n.middle q p short.0 e x ps h.writes.end short.2 plain_is h.there h.grows short.3 n.halts;
     }
       where
@@ -146,6 +149,7 @@ module _ {C O : Type 0} (tells : Bool) (state : C → CellState) (offers : O →
     pub answered : answer_to_fault fault ≡ refused_by refusal
     pub store : Plain
     pub refused : append s e.anchor most x.content p ≡ grown_as store (Some refusal)
+    pub tabs : store.tabs ≡ p.tabs
     pub gave_up : HasGivenUp q e.anchor store
 
   pub not_added_right : (pass q : Pass C) (p : Plain) (e : Writing_) (x : Entry) → IsReadied g lone rename t (view pass) p pass.hand → Grows tells state offers st lone rename t pass p e x → plain_tab p t ≡ plain.Writing e.anchor
@@ -158,6 +162,7 @@ module _ {C O : Type 0} (tells : Bool) (state : C → CellState) (offers : O →
         ∙ (sym (append_on s e.anchor n.total (most - n.total) x.content p (published_le room x.content (x.content + n.total) some_ (omega arith)) (published_le room (x.content + n.total) (x.content + n.total + (most - n.total)) some_ (omega arith)) (ap Grown.refusal a.grown))
         ∙ (ap (λ (z : Grown). append s e.anchor (most - n.total) (x.content + n.total) z.store) a.grown
         ∙ (append_stops s e.anchor (most - n.total) (x.content + n.total) k a.store stop.refusal level more (ap Grown.refusal stop.refused) ∙ stop.refused)));
+    tabs = stop.tabs ∙ a.tabs;
     gave_up = stop.gave_up;
   }
     where
