@@ -8,3 +8,4 @@ pub mod Halting
 pub mod Ending
 pub mod Stopping
 pub mod Giving
+pub mod Putting
