@@ -9,3 +9,4 @@ pub mod Ending
 pub mod Stopping
 pub mod Giving
 pub mod Putting
+pub mod WritingLines
