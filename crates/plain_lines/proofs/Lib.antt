@@ -4,3 +4,6 @@ pub mod Totals
 pub mod Stages
 pub mod Holding
 pub mod Counting
+pub mod Rounds
+pub mod Evicting
+pub mod Victims
