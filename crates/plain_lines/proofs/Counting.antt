@@ -1,15 +1,15 @@
 -- The free slots, those that the entries of the plain store hold, and those that tabs have spare are together all.
-use Rattle.std.proofs.Common.{Bool, List, [], ap, arith, eq-eqb, false, length, refl, subst, sum_by, sym, true, ◌+◌, ◌-◌, ◌<◌, ◌∙◌, ◌≡◌, ◌≢◌, ◌≤◌, ◌∷◌, ℕ}
+use Rattle.std.proofs.Common.{List, ap, arith, length, refl, sum_by, sym, ◌+◌, ◌<◌, ◌∙◌, ◌≡◌, ◌≤◌, ℕ}
 use Rattle.std.proofs.lemmas.Bool.{false≢true}
 use mathlib.Core.Option.{some}
 use lib.ListN.{get_elem?}
 use Rattle.core_model.proofs.Lists.{at_or}
 use Rattle.core_model.proofs.SlotsCounted.{slots_counted}
-use Rattle.core_model.specs.Chains.{Tied, no_chain, rest_of, slots_of_link}
+use Rattle.core_model.specs.Chains.{Tied, no_chain, slots_of_link}
 use Rattle.core_model.specs.Layout.{Setting}
 use Rattle.core_model.specs.Spots.{free_below, slots_chained, slots_held}
 use Rattle.core_model.specs.State.{State}
-use Rattle.core_model.specs.Tabs.{InnerIsFree, IsPass, count, inner, is_free, tab_at}
+use Rattle.core_model.specs.Tabs.{InnerIsFree, IsPass, count, is_free, tab_at}
 use Rattle.core_model.specs.declared.tab.Freer.{Freer}
 use Rattle.core_model.specs.declared.tab.Tab.{Tab}
 use Rattle.core_model.specs.declared.tab.Tab.TheVariants.{Free, Freeing, Last as LastTab, Reading, Retreating, Writing}

@@ -1,18 +1,14 @@
 -- The entry at an anchor is gone with its chain, and all else of the plain store is as it was.
-use Rattle.std.proofs.Common.{Bool, Contains, List, None, Option, Some, [], ap, arith, cond, eq-eqb, false, get_or, get_or-set_other, get_or-set_same, inl, inr, length, length-set, ne_eqb, refl, set, subst, suc, sym, true, ⊎_elim, ◌&&◌, ◌++◌, ◌+◌, ◌-◌, ◌*◌, ◌<◌, ◌==◌, ◌∙◌, ◌≡◌, ◌≢◌, ◌≤◌, ◌⊎◌, ◌∷◌, ℕ}
-use Rattle.std.proofs.lemmas.List.Elements.{Contains-append_cases, Contains-append_left}
+use Rattle.std.proofs.Common.{Contains, List, Option, Some, [], ap, arith, cond, get_or, get_or-set_other, get_or-set_same, inl, inr, length, length-set, ne_eqb, refl, set, subst, sym, ◌++◌, ◌+◌, ◌*◌, ◌<◌, ◌∙◌, ◌≡◌, ◌≢◌, ◌≤◌, ◌⊎◌, ◌∷◌, ℕ}
 use mathlib.Core.Logic.{dite}
-use mathlib.Core.Option.{some}
 use native.Mathlib.Decide.{ℕ_discrete}
-use lib.ListN.{get_elem?}
 use Rattle.core_model.proofs.Lists.{by_eq, contains_none}
 use Rattle.core_model.proofs.OwnsKept.{held_slot, tab_was}
 use Rattle.core_model.proofs.Tabs.{contains_times}
 use Rattle.core_model.specs.Chains.{Fits, slots_of_link}
 use Rattle.core_model.specs.Layout.{IsPlace, Setting}
-use Rattle.core_model.specs.State.{State, chain_of, word}
-use Rattle.core_model.specs.Tabs.{InnerIsFree, IsPass, inner, tab_at}
-use Rattle.core_model.specs.declared.moves.Move.TheVariants.{Evict}
+use Rattle.core_model.specs.State.{chain_of, word}
+use Rattle.core_model.specs.Tabs.{IsPass, inner, tab_at}
 use Rattle.core_model.specs.declared.moves.Side.{Side}
 use Rattle.core_model.specs.declared.moves.Side.TheVariants.{Start}
 use Rattle.core_model.specs.declared.tab.Freer.{Freer}
@@ -23,27 +19,21 @@ use Rattle.core_model.specs.declared.view.View.{View}
 use Rattle.entry_cut.specs.Content.{room_of}
 use Rattle.link_word.specs.declared.link.Link.{Link as LinkOf}
 use Rattle.link_word.specs.declared.link.Link.TheVariants.{Last, Next, NotWritten}
-use Rattle.lock_word.specs.Words.{doom_number, epoch_of, evicted, is_idle, raised, stage_number, stage_of, word_number}
+use Rattle.lock_word.specs.Words.{doom_number, epoch_of, stage_number, stage_of, word_number}
 use Rattle.lock_word.specs.declared.stage.Stage.TheVariants as stage
 use Rattle.pass_calls.specs.Words.{has}
-use Rattle.pass_calls.proofs.AddingUp.{has_left}
 use Rattle.plain_laws.specs.Renaming.{renamed_word}
-use Rattle.plain_lines.specs.Words.{HasChain, IsLone, Knows, ShowsAt, ShowsEntry, ShowsEntryIf, link_known, no_guests, setting_of}
+use Rattle.plain_lines.specs.Words.{HasChain, IsLone, Knows, ShowsAt, ShowsEntryIf, link_known, setting_of}
 use Rattle.plain_lines.proofs.Chains as told
-use Rattle.plain_lines.proofs.Frames.{LeavesAlone, SameBut, link_same, same_on, same_weaker, shows_elsewhere, spelled_same, step_same, went_same}
-use Rattle.plain_lines.proofs.Frames as frame
-use Rattle.plain_lines.proofs.Rounds.{onward_inside, victim_is}
-use Rattle.plain_lines.proofs.Stages.{few_readers, idle_shown, stage_shown}
+use Rattle.plain_lines.proofs.Frames.{LeavesAlone, SameBut, link_same, shows_elsewhere, spelled_same}
+use Rattle.plain_lines.proofs.Stages.{stage_shown}
 use Rattle.plain_model.specs.declared.entry.Entry.{Entry}
 use Rattle.plain_model.specs.declared.entry.Life.{Life}
 use Rattle.plain_model.specs.declared.entry.Life.TheVariants.{GivenUp, Growing, Whole}
 use Rattle.plain_model.specs.declared.entry.Place.{Place as PlaceOf}
 use Rattle.plain_model.specs.declared.store.Plain.{Plain}
 use Rattle.plain_model.specs.Place.{nothing, vacated}
-use Rattle.plain_model.specs.Slots.{evicted as without, victim}
-use Rattle.plain_model.specs.Store.{entry_at, epoch_of as epoch_at, has_life, is_idle_at, place_at, published, readers, stage_of as stage_at, word_at}
-use Rattle.slice_chain.proofs.EvictingOne.{won_tabs}
-use Rattle.slice_chain.specs.Victims.{Evicted, KeptFirst, onward}
+use Rattle.plain_model.specs.Store.{entry_at, epoch_of as epoch_at, place_at, published, readers, stage_of as stage_at, word_at}
 use Rattle.store_rule.specs.Ground.{Ground}
 use Rattle.store_rule.specs.Told.{Stands}
 

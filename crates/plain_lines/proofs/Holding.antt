@@ -1,5 +1,5 @@
 -- How many slots the entry at an anchor holds, as the chain and the tabs of the pass have it.
-use Rattle.std.proofs.Common.{Bool, Contains, List, None, Option, Some, [], ap, arith, cond, eq-eqb, false, get_or, inl, inr, length, ne_eqb, refl, subst, suc, sum_by, sym, true, zero, ⊎_elim, ◌+◌, ◌-◌, ◌<◌, ◌==◌, ◌∙◌, ◌≡◌, ◌≢◌, ◌≤◌, ◌⊎◌, ◌∷◌, ℕ}
+use Rattle.std.proofs.Common.{Bool, List, None, Option, Some, [], ap, arith, cond, eq-eqb, false, inl, inr, length, ne_eqb, refl, subst, sum_by, sym, true, ⊎_elim, ◌+◌, ◌<◌, ◌==◌, ◌∙◌, ◌≡◌, ◌≢◌, ◌≤◌, ◌⊎◌, ◌∷◌, ℕ}
 use mathlib.Core.Logic.{dite}
 use mathlib.Core.Option.{some}
 use native.Mathlib.Decide.{ℕ_discrete}
@@ -8,10 +8,10 @@ use Rattle.core_model.proofs.Lists.{at_or, by_eq}
 use Rattle.core_model.proofs.Matching.{has_writer, matches_writer, one_writer}
 use Rattle.core_model.proofs.SlotAnchors.{written_few}
 use Rattle.core_model.proofs.Telling.{told_in}
-use Rattle.core_model.specs.Chains.{Fits, Tied, no_chain, slots_of_link}
-use Rattle.core_model.specs.Holders.{HasWriter, IsTab, MatchesWriter}
+use Rattle.core_model.specs.Chains.{Fits, slots_of_link}
+use Rattle.core_model.specs.Holders.{IsTab, MatchesWriter}
 use Rattle.core_model.specs.Layout.{Setting}
-use Rattle.core_model.specs.Slots.{ChainStands, slot_words}
+use Rattle.core_model.specs.Slots.{slot_words}
 use Rattle.core_model.specs.Spots.{slots_chained}
 use Rattle.core_model.specs.State.{State, chain_of, word}
 use Rattle.core_model.specs.Tabs.{IsPass, stage_written, tab_at}
@@ -26,7 +26,6 @@ use Rattle.link_word.specs.declared.link.Link.{Link}
 use Rattle.link_word.specs.declared.link.Link.TheVariants.{Last, Next, NotWritten}
 use Rattle.lock_word.specs.Words.{epoch_of, is_written, stage_number, stage_of}
 use Rattle.lock_word.specs.declared.stage.Stage.TheVariants as stage
-use Rattle.pass_calls.specs.Words.{has}
 use Rattle.plain_laws.proofs.Sums.{held_unfinished, held_whole, hold}
 use Rattle.plain_lines.specs.Words.{HasChain, IsLone, ShowsAt, ShowsEntry, ShowsEntryIf}
 use Rattle.plain_lines.proofs.Chains as told

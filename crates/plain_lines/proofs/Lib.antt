@@ -7,3 +7,4 @@ pub mod Counting
 pub mod Rounds
 pub mod Evicting
 pub mod Victims
+pub mod Claims

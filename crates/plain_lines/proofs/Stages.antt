@@ -1,20 +1,20 @@
 -- What the word of an anchor tells of the place that the plain store has there.
-use Rattle.std.proofs.Common.{Bool, List, None, Option, Some, ap, arith, cond, false, length, not, refl, subst, sum_by, sym, true, ◌&&◌, ◌*◌, ◌+◌, ◌<◌, ◌==◌, ◌∙◌, ◌≡◌, ◌≤◌, ℕ}
+use Rattle.std.proofs.Common.{Bool, List, None, Option, Some, ap, arith, cond, false, length, not, refl, true, ◌&&◌, ◌*◌, ◌+◌, ◌<◌, ◌==◌, ◌∙◌, ◌≡◌, ◌≤◌, ℕ}
 use Rattle.core_model.proofs.Lists.{by_eq, sum_ones}
 use Rattle.core_model.specs.declared.view.Place.TheVariants.{Anchor}
 use Rattle.core_model.specs.declared.view.View.{View}
-use Rattle.lock_word.specs.Words.{doom_number, doom_of, epoch_number, epoch_of, is_idle, mode_of, readers_of, stage_number, stage_of, version_of, word_number}
+use Rattle.lock_word.specs.Words.{doom_number, epoch_number, epoch_of, is_idle, mode_of, readers_of, stage_number, stage_of, version_of, word_number}
 use Rattle.lock_word.specs.declared.stage.Stage.TheVariants as stage
 use Rattle.lock_word.specs.declared.word.Word.{Word}
 use Rattle.lock_word.proofs.Parts as part
 use Rattle.pass_calls.specs.Words.{has}
-use Rattle.plain_laws.specs.Renaming.{renamed_epoch, renamed_word}
+use Rattle.plain_laws.specs.Renaming.{renamed_epoch}
 use Rattle.plain_lines.specs.Words.{ShowsAt, setting_of}
 use Rattle.plain_model.specs.declared.entry.Entry.{Entry}
 use Rattle.plain_model.specs.declared.entry.Life.{Life}
 use Rattle.plain_model.specs.declared.entry.Life.TheVariants.{GivenUp, Growing, Whole}
 use Rattle.plain_model.specs.declared.store.Plain.{Plain}
-use Rattle.plain_model.specs.Store.{entry_at, epoch_of as epoch_at, has_life, is_idle_at, place_at, published, readers, reads_at, stage_of as stage_at, stage_of_entry, word_at}
+use Rattle.plain_model.specs.Store.{entry_at, epoch_of as epoch_at, has_life, is_idle_at, place_at, published, readers, reads_at, stage_of as stage_at}
 use Rattle.store_rule.specs.Ground.{Ground}
 
 -- a tab reads at one anchor at most

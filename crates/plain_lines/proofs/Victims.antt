@@ -1,20 +1,18 @@
 -- The entry that is evicted for a slot is the victim of the plain store.
-use Rattle.std.proofs.Common.{Bool, Contains, List, None, Option, Some, ap, arith, cond, eq-eqb, false, get_or, get_or-set_same, inl, inr, length-set, refl, set, subst, sym, true, ◌+◌, ◌-◌, ◌*◌, ◌<◌, ◌∙◌, ◌≡◌, ◌≢◌, ◌≤◌, ◌⊎◌, ◌==◌, ℕ, length}
+use Rattle.std.proofs.Common.{Contains, List, Some, ap, arith, eq-eqb, false, get_or-set_same, inl, inr, length-set, refl, subst, sym, true, ◌+◌, ◌*◌, ◌<◌, ◌∙◌, ◌≡◌, ◌⊎◌, ℕ, length}
 use Rattle.core_model.specs.AnchorMoves.{freer_of}
 use Rattle.core_model.specs.Layout.{Setting}
 use Rattle.core_model.specs.State.{chain_of}
-use Rattle.core_model.specs.Tabs.{InnerIsFree, IsPass, inner, tab_at}
+use Rattle.core_model.specs.Tabs.{InnerIsFree, IsPass, inner}
 use Rattle.core_model.specs.Trails.{last_find}
 use Rattle.core_model.specs.declared.moves.Move.TheVariants.{Evict}
 use Rattle.core_model.specs.declared.tab.Freer.{Freer}
-use Rattle.core_model.specs.declared.tab.Tab.{Tab}
 use Rattle.core_model.specs.declared.tab.Tab.TheVariants.{Freeing}
 use Rattle.core_model.specs.declared.view.Place.{Place}
 use Rattle.core_model.specs.declared.view.Place.TheVariants.{Anchor}
 use Rattle.core_model.specs.declared.view.View.{View}
 use Rattle.entry_cut.specs.Content.{room_of}
-use Rattle.lock_word.specs.Words.{doom_number, epoch_of, evicted, is_idle, mode_of, raised, readers_of, stage_number, stage_of, word_number}
-use Rattle.lock_word.specs.declared.word.Word.{Word}
+use Rattle.lock_word.specs.Words.{doom_number, epoch_of, evicted, is_idle, raised, stage_of, word_number}
 use Rattle.lock_word.proofs.Testing.{mode_of-idle, readers_of-idle}
 use Rattle.pass_calls.specs.Words.{has}
 use Rattle.pass_calls.proofs.AddingUp.{has_left}
@@ -25,13 +23,13 @@ use Rattle.plain_lines.proofs.Evicting.{IsGivenBack, given_there, knows_vacated,
 use Rattle.plain_lines.proofs.Frames.{SameBut, same_on, same_weaker, step_same, went_same}
 use Rattle.plain_lines.proofs.Frames as frame
 use Rattle.plain_lines.proofs.Rounds.{onward_inside, victim_is}
-use Rattle.plain_lines.proofs.Stages.{few_readers, idle_shown, mode_shown, readers_shown, stage_shown}
+use Rattle.plain_lines.proofs.Stages.{few_readers, idle_shown, mode_shown, readers_shown}
 use Rattle.plain_model.specs.declared.entry.Entry.{Entry}
 use Rattle.plain_model.specs.declared.entry.Place.{Place as PlaceOf}
 use Rattle.plain_model.specs.declared.store.Plain.{Plain}
 use Rattle.plain_model.specs.Place.{nothing, vacated}
 use Rattle.plain_model.specs.Slots.{evicted as without, victim}
-use Rattle.plain_model.specs.Store.{entry_at, epoch_of as epoch_at, is_idle_at, place_at, readers, stage_of as stage_at, word_at}
+use Rattle.plain_model.specs.Store.{entry_at, epoch_of as epoch_at, is_idle_at, place_at, readers, word_at}
 use Rattle.slice_chain.proofs.EvictingOne.{won_tabs}
 use Rattle.slice_chain.specs.Victims.{Evicted, KeptFirst, onward}
 use Rattle.store_rule.specs.Ground.{Ground}
