@@ -18,6 +18,7 @@ use Rattle.core_model.specs.declared.view.View.{View}
 use Rattle.entry_cut.specs.Content.{room_of}
 use Rattle.free_set.specs.Claims.{FoundAllTaken}
 use Rattle.pass_calls.specs.Words.{is_free_slot}
+use Rattle.plain_laws.proofs.Evicting.{Untouched, claim_leaves, untouched_refl}
 use Rattle.plain_lines.specs.Words.{IsLone, Knows, no_guests, setting_of, spare, spare_of}
 use Rattle.plain_lines.proofs.Chains as told
 use Rattle.plain_lines.proofs.Counting.{slots_add_up, writer_tied}
@@ -60,6 +61,8 @@ module _ (g : Ground (List ℕ)) (rename : ℕ → ℕ) (p : Plain) where
     pub knows : Knows g rename u c.store no_guests
     pub hand : hand_in g.setting.anchors hand_after ≡ c.store.hand
     pub how : (c.store ≡ p) ⊎ GaveWay c.store
+    pub counter : c.store.counter ≡ p.counter
+    pub untouched : Untouched p c.store
     pub spares : spare u ≡ spare v + 1
     pub inner_free : InnerIsFree u
     pub stands : Stands g u
@@ -73,7 +76,7 @@ module _ (g : Ground (List ℕ)) (rename : ℕ → ℕ) (p : Plain) where
     pub knows : Knows g rename u p no_guests
     pub stands : Stands g u
 
-module _ (g : Ground (List ℕ)) (lone : IsLone g) (rename : ℕ → ℕ) (v : View (List ℕ)) (p : Plain) (knows : Knows g rename v p no_guests) (eight : length p.tabs ≡ 8) (stands : Stands g v) (pass : IsPass v) (free_ : InnerIsFree v) (raised : AllRaised v) where
+module _ (g : Ground (List ℕ)) (lone : IsLone g) (rename : ℕ → ℕ) (v : View (List ℕ)) (p : Plain) (knows : Knows g rename v p no_guests) (eight : length p.tabs ≡ 8) (stands : Stands g v) (pass : IsPass v) (inner_free : InnerIsFree v) (raised : AllRaised v) where
   abbrev k : Setting (List ℕ)
   k = g.setting
 
@@ -84,7 +87,7 @@ module _ (g : Ground (List ℕ)) (lone : IsLone g) (rename : ℕ → ℕ) (v : V
   few a lt = let h = few_readers p a eight in omega arith
 
   all : free_below k s k.slots + sum_by (held (room_of g.slot)) p.places + spare v ≡ k.slots
-  all = slots_add_up g lone s stands.index v stands.rule stands.at pass rename p no_guests knows few raised free_
+  all = slots_add_up g lone s stands.index v stands.rule stands.at pass rename p no_guests knows few raised inner_free
 
   some_below : (n j : ℕ) → j < n → word_in k s.words (Owner j) ≡ 0 → 0 < free_below k s n
   some_below zero j lt e = absurd (omega arith)
@@ -101,10 +104,13 @@ module _ (g : Ground (List ℕ)) (lone : IsLone g) (rename : ℕ → ℕ) (v : V
 
   -- a free slot is claimed
   claims_free : 0 < free_below k s k.slots → claim (setting_of g) (spare v) p ≡ record { store = p; done = true }
-  claims_free some_ = rw (lt-ltb (spare v) (free (setting_of g) p) (let h = all in omega arith)) refl
+  claims_free any = rw (lt-ltb (spare v) (free (setting_of g) p) (let h = all in omega arith)) refl
 
   claims_else : free_below k s k.slots ≡ 0 → claim (setting_of g) (spare v) p ≡ claim_of (setting_of g) p (victim (setting_of g) p)
   claims_else none = rw (le-ltb (spare v) (free (setting_of g) p) (let h = all in omega arith)) refl
+
+  leaves : Untouched p (claim (setting_of g) (spare v) p).store
+  leaves = (claim_leaves (setting_of g) (spare v) p (let h = all in omega arith)).untouched
 
   all_taken : (w : View (List ℕ)) → FoundAllTaken g v w → free_below k s k.slots ≡ 0
   all_taken w h = none_below k.slots (λ j lt. test_is j lt ∙ h.passed.taken j lt lone)
@@ -131,7 +137,7 @@ module _ (g : Ground (List ℕ)) (lone : IsLone g) (rename : ℕ → ℕ) (v : V
     pass_after = ap length none.tabs ∙ pass
 
     free_after : InnerIsFree m
-    free_after = ap (λ (xs : List (Tab (List ℕ))). is_free (get_or xs inner Free)) none.tabs ∙ free_
+    free_after = ap (λ (xs : List (Tab (List ℕ))). is_free (get_or xs inner Free)) none.tabs ∙ inner_free
 
   -- no slot is free, and no entry idle
   pub runs_out_right : (t hand : ℕ) (u : View (List ℕ)) → hand_in k.anchors hand ≡ p.hand → RanOut g t hand v u → RunsOutRight g rename p u (claim (setting_of g) (spare v) p)
@@ -164,7 +170,7 @@ module _ (g : Ground (List ℕ)) (lone : IsLone g) (rename : ℕ → ℕ) (v : V
     pass_reserved = ap length tabs_are ∙ length-set v.tabs t (Writing y) ∙ pass
 
     other : t ≢ inner
-    other e = false≢true (sym (ap is_free (subst (λ z. tab_at v z ≡ Writing x) e writes)) ∙ free_)
+    other e = false≢true (sym (ap is_free (subst (λ z. tab_at v z ≡ Writing x) e writes)) ∙ inner_free)
 
     at_t : tab_at u t ≡ Writing y
     at_t = ap (λ (xs : List (Tab (List ℕ))). get_or xs t Free) tabs_are ∙ get_or-set_same v.tabs t (Writing y) Free t_inside
@@ -173,7 +179,7 @@ module _ (g : Ground (List ℕ)) (lone : IsLone g) (rename : ℕ → ℕ) (v : V
     at_other j ne = ap (λ (xs : List (Tab (List ℕ))). get_or xs j Free) tabs_are ∙ get_or-set_other v.tabs t j (Writing y) Free ne
 
     free_reserved : InnerIsFree u
-    free_reserved = ap is_free (at_other inner (λ e. other (sym e))) ∙ free_
+    free_reserved = ap is_free (at_other inner (λ e. other (sym e))) ∙ inner_free
 
     spares : spare u ≡ spare v + 1
     spares = let sums = sum_by-set spare_of v.tabs t (Writing y) Free t_inside in let had = ap spare_of writes in let same = ap (sum_by spare_of) tabs_are in
@@ -197,6 +203,8 @@ module _ (g : Ground (List ℕ)) (lone : IsLone g) (rename : ℕ → ℕ) (v : V
         knows = knows_same g rename v u p no_guests knows (frame.went_none g lone v u h.claimed.added h.claimed.passed.went h.claimed.passed.quiet.3);
         hand = ap (hand_in k.anchors) h.stays ∙ hand_is;
         how = inl refl;
+        counter = refl;
+        untouched = untouched_refl p;
         spares = spares;
         inner_free = free_reserved;
         stands = of_stands h.claimed.passed.went.stands;
@@ -232,6 +240,8 @@ module _ (g : Ground (List ℕ)) (lone : IsLone g) (rename : ℕ → ℕ) (v : V
                 idle = gone.idle g lone rename h.middle p (knows_after h.middle h.none) eight (pass_after h.middle h.none) (free_after h.middle h.none) (hand_in k.anchors hand) hand_is begins t slot u hand_after h.evicted tells;
                 is = refl;
               };
+              counter = refl;
+              untouched = subst (λ (c : Claimed). Untouched p c.store) is leaves;
               spares = spares;
               inner_free = free_reserved;
               stands = of_stands h.evicted.went.stands;
