@@ -8,3 +8,7 @@ pub mod Rounds
 pub mod Evicting
 pub mod Victims
 pub mod Claims
+pub mod OtherTabs
+pub mod PlainWords
+pub mod ShowingOthers
+pub mod Lines
