@@ -12,3 +12,5 @@ pub mod OtherTabs
 pub mod PlainWords
 pub mod ShowingOthers
 pub mod Lines
+pub mod Freeing
+pub mod Leaving
