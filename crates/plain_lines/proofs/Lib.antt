@@ -22,7 +22,10 @@ pub mod Victims
 pub mod Claims
 pub mod OtherTabs
 pub mod PlainWords
+pub mod OwnVersions
 pub mod ShowingOthers
 pub mod Lines
 pub mod Freeing
 pub mod Leaving
+pub mod Beginning
+pub mod BeginLines
