@@ -13,25 +13,25 @@ use Rattle.core_model.specs.Tabs.{InnerIsFree, IsPass, inner, is_free, tab_at, w
 use Rattle.core_model.specs.declared.tab.Tab.{Tab}
 use Rattle.core_model.specs.declared.tab.Tab.TheVariants.{Free, Writing}
 use Rattle.core_model.specs.declared.tab.Writer.{Writer}
-use Rattle.core_model.specs.declared.view.Place.TheVariants.{Owner}
+use Rattle.core_model.specs.declared.view.Place.TheVariants.{Anchor, Owner}
 use Rattle.core_model.specs.declared.view.View.{View}
 use Rattle.entry_cut.specs.Content.{room_of}
 use Rattle.free_set.specs.Claims.{FoundAllTaken}
-use Rattle.pass_calls.specs.Words.{is_free_slot}
+use Rattle.pass_calls.specs.Words.{has, is_free_slot}
 use Rattle.plain_laws.proofs.Evicting.{Untouched, claim_leaves, untouched_refl}
 use Rattle.plain_lines.specs.Words.{IsLone, Knows, no_guests, setting_of, spare, spare_of}
 use Rattle.plain_lines.proofs.Chains as told
 use Rattle.plain_lines.proofs.Counting.{slots_add_up, writer_tied}
+use Rattle.plain_lines.proofs.Freeing.{FewReaders}
 use Rattle.plain_lines.proofs.Frames.{knows_same}
 use Rattle.plain_lines.proofs.Frames as frame
 use Rattle.plain_lines.proofs.Holding.{AllRaised}
+use Rattle.plain_lines.proofs.PlainWords.{idle_there, readers_fit}
 use Rattle.plain_lines.proofs.Rounds.{hand_inside, no_victim, onward_inside, onward_is}
-use Rattle.plain_lines.proofs.Stages.{few_readers, idle_shown}
-use Rattle.plain_lines.proofs.Victims.{KeptTells}
-use Rattle.plain_lines.proofs.Victims as gone
+use Rattle.plain_lines.proofs.Evicting as gone
 use Rattle.plain_model.specs.declared.store.Plain.{Plain}
 use Rattle.plain_model.specs.Slots.{Claimed, claim, claim_of, evicted, free, held, victim}
-use Rattle.plain_model.specs.Store.{is_idle_at, readers}
+use Rattle.plain_model.specs.Store.{is_idle_at}
 use Rattle.rock_writer.specs.Reserving.{ByClaim, ByEviction, RanOut, Reserved}
 use Rattle.slice_chain.proofs.EvictingOne.{round_begins}
 use Rattle.slice_chain.specs.Victims.{hand_in, onward}
@@ -83,8 +83,8 @@ module _ (g : Ground (List ℕ)) (lone : IsLone g) (rename : ℕ → ℕ) (v : V
   abbrev s : State (List ℕ)
   s = stands.state
 
-  few : (a : ℕ) → a < k.anchors → readers p a + no_guests a < 65536
-  few a lt = let h = few_readers p a eight in omega arith
+  few : FewReaders p no_guests
+  few a = readers_fit p a 0 eight (omega arith)
 
   all : free_below k s k.slots + sum_by (held (room_of g.slot)) p.places + spare v ≡ k.slots
   all = slots_add_up g lone s stands.index v stands.rule stands.at pass rename p no_guests knows few raised inner_free
@@ -133,12 +133,6 @@ module _ (g : Ground (List ℕ)) (lone : IsLone g) (rename : ℕ → ℕ) (v : V
         of_stands (inl e) = subst (Stands g) (sym e) stands
         of_stands (inr h) = h.1
 
-    pass_after : IsPass m
-    pass_after = ap length none.tabs ∙ pass
-
-    free_after : InnerIsFree m
-    free_after = ap (λ (xs : List (Tab (List ℕ))). is_free (get_or xs inner Free)) none.tabs ∙ inner_free
-
   -- no slot is free, and no entry idle
   pub runs_out_right : (t hand : ℕ) (u : View (List ℕ)) → hand_in k.anchors hand ≡ p.hand → RanOut g t hand v u → RunsOutRight g rename p u (claim (setting_of g) (spare v) p)
   runs_out_right t hand u hand_is out = let none = claims_else (all_taken out.middle out.none) ∙ ap (claim_of (setting_of g) p) no_one in record {
@@ -149,7 +143,7 @@ module _ (g : Ground (List ℕ)) (lone : IsLone g) (rename : ℕ → ℕ) (v : V
   }
     where
       no_one : victim (setting_of g) p ≡ None
-      no_one = no_victim (setting_of g) p (λ a lt. sym (idle_shown g rename out.middle p a ((knows_after out.middle out.none).each a lt) (let h = few_readers p a eight in omega arith)) ∙ out.busy.was a lt lone)
+      no_one = no_victim (setting_of g) p (λ a lt. sym (idle_there rename (setting_of g) p 0 a (has g out.middle (Anchor a)) ((knows_after out.middle out.none).each a lt).word (few a) refl) ∙ out.busy.was a lt lone)
 
       of_stands : (u ≡ out.middle) ⊎ (Stands g out.middle × Stands g u) → Stands g u
       of_stands (inl e) = subst (Stands g) (sym e) (stands_after out.middle out.none)
@@ -216,7 +210,7 @@ module _ (g : Ground (List ℕ)) (lone : IsLone g) (rename : ℕ → ℕ) (v : V
           of_stands (inl e) = subst (Stands g) (sym e) stands
           of_stands (inr h) = h.1
 
-      module _ (tells : KeptTells g t) (h : ByEviction g t hand v slot u hand_after) where
+      module _ (h : ByEviction g t hand v slot u hand_after) where
         begins : hand_in k.anchors hand < k.anchors
         begins = round_begins k.anchors (hand_in k.anchors hand) hand refl (let lt = h.evicted.within in omega arith)
 
@@ -228,16 +222,16 @@ module _ (g : Ground (List ℕ)) (lone : IsLone g) (rename : ℕ → ℕ) (v : V
 
         by_eviction : ClaimsRight g rename p v u hand_after (claim (setting_of g) (spare v) p)
         by_eviction = let is = claims_else (all_taken h.middle h.none) ∙ ap (claim_of (setting_of g) p)
-            (gone.victim_here g lone rename h.middle p (knows_after h.middle h.none) eight (pass_after h.middle h.none) (free_after h.middle h.none) (hand_in k.anchors hand) hand_is begins t slot u hand_after h.evicted tells) in
+            (gone.victim_here g lone rename h.middle p (knows_after h.middle h.none) few (hand_in k.anchors hand) hand_is begins t slot u hand_after h.evicted) in
             subst (ClaimsRight g rename p v u hand_after) (sym is) record {
               done = refl;
-              knows = gone.knows_without g lone rename h.middle p (knows_after h.middle h.none) eight (pass_after h.middle h.none) (free_after h.middle h.none) (hand_in k.anchors hand) hand_is begins t slot u hand_after h.evicted tells;
+              knows = gone.knows_without g lone rename h.middle p (knows_after h.middle h.none) few (hand_in k.anchors hand) hand_is begins t slot u hand_after h.evicted;
               hand = ap (hand_in k.anchors) (h.evicted.moved ∙ onward_is k.anchors a 1 inside (let lt = inside in omega arith))
                   ∙ hand_inside k.anchors _ (let e = onward_is k.anchors a 1 inside (let lt = inside in omega arith) in let lt = onward_inside k.anchors a 1 inside (let lt = inside in omega arith) in omega arith);
               how = inr record {
                 anchor = a;
                 inside = inside;
-                idle = gone.idle g lone rename h.middle p (knows_after h.middle h.none) eight (pass_after h.middle h.none) (free_after h.middle h.none) (hand_in k.anchors hand) hand_is begins t slot u hand_after h.evicted tells;
+                idle = gone.idle g lone rename h.middle p (knows_after h.middle h.none) few (hand_in k.anchors hand) hand_is begins t slot u hand_after h.evicted;
                 is = refl;
               };
               counter = refl;
@@ -254,10 +248,10 @@ module _ (g : Ground (List ℕ)) (lone : IsLone g) (rename : ℕ → ℕ) (v : V
             of_stands (inr h) = h.1
 
   -- The slot that a tab reserves is the one that the plain store claims.
-  pub claims_right : (t : ℕ) (x : Writer (List ℕ)) → tab_at v t ≡ Writing x → (slot : ℕ) (u : View (List ℕ)) (hand hand_after : ℕ) → hand_in k.anchors hand ≡ p.hand → KeptTells g t → Reserved g t hand v slot u hand_after
+  pub claims_right : (t : ℕ) (x : Writer (List ℕ)) → tab_at v t ≡ Writing x → (slot : ℕ) (u : View (List ℕ)) (hand hand_after : ℕ) → hand_in k.anchors hand ≡ p.hand → Reserved g t hand v slot u hand_after
       → ClaimsRight g rename p v u hand_after (claim (setting_of g) (spare v) p)
-  claims_right t x writes slot u hand hand_after hand_is tells h = of_way h.how
+  claims_right t x writes slot u hand hand_after hand_is h = of_way h.how
     where
       of_way : ByClaim g t hand v slot u hand_after ⊎ ByEviction g t hand v slot u hand_after → ClaimsRight g rename p v u hand_after (claim (setting_of g) (spare v) p)
       of_way (inl c) = by_claim t x writes slot u h.tabs hand hand_after hand_is c
-      of_way (inr e) = by_eviction t x writes slot u h.tabs hand hand_after hand_is tells e
+      of_way (inr e) = by_eviction t x writes slot u h.tabs hand hand_after hand_is e

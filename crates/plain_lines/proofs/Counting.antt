@@ -20,11 +20,12 @@ use Rattle.link_word.specs.declared.link.Link.{Link}
 use Rattle.link_word.specs.declared.link.Link.TheVariants.{Last, Next, NotWritten}
 use Rattle.plain_lines.specs.Words.{IsLone, Knows, spare, spare_of}
 use Rattle.plain_lines.proofs.Chains as told
+use Rattle.plain_lines.proofs.Freeing.{FewReaders}
 use Rattle.plain_lines.proofs.Holding.{AllRaised, holds_at, linked, linked_at}
 use Rattle.plain_lines.proofs.Totals.{sum_only, sum_plus, sum_same, sums_match, total, total_none, total_of_sums, total_only}
 use Rattle.plain_model.specs.Place.{nothing}
 use Rattle.plain_model.specs.Slots.{held}
-use Rattle.plain_model.specs.Store.{place_at, readers}
+use Rattle.plain_model.specs.Store.{place_at}
 use Rattle.plain_model.specs.declared.store.Plain.{Plain}
 use Rattle.store_rule.specs.Ground.{Ground, Rule}
 
@@ -71,13 +72,13 @@ module _ (g : Ground (List ℕ)) (lone : IsLone g) (s : State (List ℕ)) (i : �
   all_linked : total (λ a. sum_by (linked_at a) v.tabs) 0 k.anchors ≡ sum_by linked v.tabs
   all_linked = total_of_sums linked_at v.tabs 0 k.anchors ∙ sum_same (λ (x : Tab (List ℕ)). total (λ a. linked_at a x) 0 k.anchors) linked v.tabs linked_of
 
-  module _ (rename : ℕ → ℕ) (p : Plain) (guests : ℕ → ℕ) (knows : Knows g rename v p guests) (few : (a : ℕ) → a < k.anchors → readers p a + guests a < 65536) (raised : AllRaised v) where
+  module _ (rename : ℕ → ℕ) (p : Plain) (guests : ℕ → ℕ) (knows : Knows g rename v p guests) (few : FewReaders p guests) (raised : AllRaised v) where
     abbrev room : ℕ
     room = room_of g.slot
 
     at_place : (a : ℕ) → a < length s.chains → slots_chained (Rattle.core_model.specs.State.chain_of s a) + sum_by (linked_at (0 + a)) v.tabs ≡ held room (place_at p a)
     at_place a lt = let inside : a < k.anchors = (let e = rule.sound.anchors.shaped.chains in omega arith) in
-        let h = holds_at g lone s i v rule at pass a inside rename p (guests a) (knows.each a inside) (few a inside) raised in let e = ap (λ z. sum_by (linked_at z) v.tabs) (zero_first a) in omega arith
+        let h = holds_at g lone s i v rule at pass a inside rename p (guests a) (knows.each a inside) (few a) raised in let e = ap (λ z. sum_by (linked_at z) v.tabs) (zero_first a) in omega arith
       where
         zero_first : (n : ℕ) → 0 + n ≡ n
         zero_first n = omega arith

@@ -26,10 +26,11 @@ use Rattle.link_word.specs.declared.link.Link.{Link}
 use Rattle.link_word.specs.declared.link.Link.TheVariants.{Last, Next, NotWritten}
 use Rattle.lock_word.specs.Words.{epoch_of, is_written, stage_number, stage_of}
 use Rattle.lock_word.specs.declared.stage.Stage.TheVariants as stage
+use Rattle.pass_calls.specs.Words.{has}
 use Rattle.plain_laws.proofs.Sums.{held_unfinished, held_whole, hold}
-use Rattle.plain_lines.specs.Words.{HasChain, IsLone, ShowsAt, ShowsEntry, ShowsEntryIf}
+use Rattle.plain_lines.specs.Words.{HasChain, IsLone, ShowsAt, ShowsEntry, ShowsEntryIf, setting_of}
 use Rattle.plain_lines.proofs.Chains as told
-use Rattle.plain_lines.proofs.Stages.{stage_shown}
+use Rattle.plain_lines.proofs.PlainWords.{stage_there}
 use Rattle.plain_lines.proofs.Totals.{sum_none, sum_only}
 use Rattle.plain_model.specs.declared.entry.Entry.{Entry}
 use Rattle.plain_model.specs.declared.entry.Life.{Life}
@@ -145,7 +146,7 @@ module _ (g : Ground (List ℕ)) (lone : IsLone g) (s : State (List ℕ)) (i : �
       room = room_of g.slot
 
       stage_here : stage_in a ≡ stage_number (stage_at room (place_at p a).version (entry_at p a))
-      stage_here = ap (λ z. stage_of (epoch_of z)) (told.word_is g lone s i v rule at pass (Anchor a) lt) ∙ stage_shown g rename v p n a shown few
+      stage_here = ap (λ z. stage_of (epoch_of z)) (told.word_is g lone s i v rule at pass (Anchor a) lt) ∙ stage_there rename (setting_of g) p n a (has g v (Anchor a)) shown.word few
 
       none_there : entry_at p a ≡ None → slots_chained c + sum_by (linked_at a) v.tabs ≡ 0
       none_there is = let st = stage_here ∙ ap (λ (o : Option Entry). stage_number (stage_at room (place_at p a).version o)) is in of_version st
