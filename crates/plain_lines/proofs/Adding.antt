@@ -171,7 +171,6 @@ module _ {C O : Type 0} (tells : Bool) (state : C → CellState) (offers : O →
         quiet = quiet_on t (view pass) (view q) ready.quiet others;
         hand_is = ap (λ (n : ℕ). Rattle.slice_chain.specs.Victims.hand_in g.setting.anchors n) hand ∙ ready.hand_is;
         eight = ready.eight;
-        kept = ready.kept;
       };
       grows = grown_on p h.there refl;
       tabs = refl;
@@ -202,7 +201,6 @@ module _ {C O : Type 0} (tells : Bool) (state : C → CellState) (offers : O →
         quiet = quiet_on t (view pass) (view q) ready.quiet f.others;
         hand_is = f.hand_is;
         eight = ap length f.stays.tabs ∙ ready.eight;
-        kept = ready.kept;
       };
       grows = grown_on f.store there version;
       tabs = f.stays.tabs;

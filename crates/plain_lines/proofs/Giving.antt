@@ -53,7 +53,7 @@ use Rattle.store_key.specs.Key.{key_of}
 use Rattle.store_rule.specs.Ground.{Ground, Offers, anchor_for}
 use Rattle.store_rule.specs.Passes.{basis, view}
 use Rattle.store_rule.proofs.Passing.{pass_of}
-use Rattle.store_serve.specs.Adding.{NotAdded, taken_on}
+use Rattle.store_serve.specs.Adding.{NotAdded, StoppedBelow, taken_on}
 use Rattle.store_serve.specs.Storing.{EndedWhole, NotClosed, NotEnded, left_of}
 use Rattle.store_serve.specs.declared.storing.PutFault.TheVariants.{Begin, Write}
 use Rattle.worker_shelf.specs.Typed.{IsTyped}
@@ -66,7 +66,6 @@ use Rattle.plain_lines.proofs.Halting.{HasHalted, ended_with, halts_right}
 use Rattle.plain_lines.proofs.Reserving.{AreQuiet, IsQuiet, IsReadied, quiet_on}
 use Rattle.plain_lines.proofs.ShowingOthers.{ShowsOn}
 use Rattle.plain_lines.proofs.Stopping.{HasGivenUp, HasNotAdded, HasNotFinished, not_added_right, not_finished_right}
-use Rattle.plain_lines.proofs.Victims.{KeptTells}
 
 -- what settling and closing leave of tabs and of the hand
 pub settle_tabs : (a : ℕ) (p : Plain) → (settle a p).tabs ≡ p.tabs
@@ -89,7 +88,7 @@ refused_same : (rename : ℕ → ℕ) (r : Refusal) → renamed rename (refused_
 refused_same rename Full = refl
 refused_same rename Large = refl
 
-module _ {C O : Type 0} (tells : Bool) (state : C → CellState) (offers : O → Offers) (st : Store C O) (lone : IsLone (basis tells state offers st)) (rename : ℕ → ℕ) (t : ℕ) (below : t < 8) (kept : KeptTells (basis tells state offers st) t) where
+module _ {C O : Type 0} (tells : Bool) (state : C → CellState) (offers : O → Offers) (st : Store C O) (lone : IsLone (basis tells state offers st)) (rename : ℕ → ℕ) (t : ℕ) (below : t < 8) where
   abbrev g : Ground (List ℕ)
   g = basis tells state offers st
 
@@ -121,7 +120,7 @@ module _ {C O : Type 0} (tells : Bool) (state : C → CellState) (offers : O →
         of_tab (plain.Reading a given is_other) r = subst IsQuiet (sym r.reads.is) tt
 
     ready : IsReadied g lone rename t (view pass) p pass.hand
-    ready = record { knows = h.knows; stands = h.own.stands; pass = pass_of pass; inner_free = h.inner_free; quiet = quiet; hand_is = h.hand; eight = h.eight; kept = kept }
+    ready = record { knows = h.knows; stands = h.own.stands; pass = pass_of pass; inner_free = h.inner_free; quiet = quiet; hand_is = h.hand; eight = h.eight }
 
     pub writing_shown : (anchor : ℕ) → plain_tab p t ≡ plain.Writing anchor → ShowsWriting tells state offers st rename pass p t anchor
     writing_shown anchor writes = subst (ShowsTab tells state offers st rename pass p t) writes (h.tabs t below)
@@ -188,13 +187,17 @@ module _ {C O : Type 0} (tells : Bool) (state : C → CellState) (offers : O →
         record { answered = answered ∙ sym (refused_same rename refusal); shows = gave_up_so q store tabs gave }
 
     -- Bytes were added, or the entry was given up while fewer were than were asked for.
-    adds_so : (count : ℕ) (a : Answer) (q : Pass C) → is_fault a ≡ false → (d : AddsTo tells state offers st t pass a q count e)
-        → IfErr d.outcome (λ fault. (n : NotAdded tells state offers st t e pass q fault) × (n.total < min count (left_of tells state offers st t e pass q))) → IsGiven a q (add s t count p)
-    adds_so count a q fair d stops = given_as a q (add s t count p) (unless_refused t anchor (step (answer.Added (min count (lacking x)))) (append s anchor (min count (lacking x)) x.content p)) (add_is s t count anchor p x writes w.there)
-        (of_outcome d.outcome d.answer_is d.all d.added stops)
+    adds_so : (count : ℕ) (a : Answer) (q : Pass C) → is_fault a ≡ false → AddsTo tells state offers st t pass a q count e → IsGiven a q (add s t count p)
+    adds_so count a q fair d = given_as a q (add s t count p) (unless_refused t anchor (step (answer.Added (min count (lacking x)))) (append s anchor (min count (lacking x)) x.content p)) (add_is s t count anchor p x writes w.there)
+        (of_outcome d.outcome d.answer_is d.all d.added (below_of d.outcome d.fewer))
       where
         made : Grown
         made = append s anchor (min count (lacking x)) x.content p
+
+        below_of : (outcome : Result ℕ WriteFault) → IfErr outcome (λ fault. StoppedBelow tells state offers st t e pass q (min count (left_of tells state offers st t e pass q)) fault)
+            → IfErr outcome (λ fault. (n : NotAdded tells state offers st t e pass q fault) × (n.total < min count (left_of tells state offers st t e pass q)))
+        below_of (Ok total) h = tt
+        below_of (Err fault) h = (h.not_added, h.fewer)
 
         most : min count (left_of tells state offers st t e pass q) ≡ min count (lacking x)
         most = ap (λ (n : ℕ). min count n) (left_is q)
@@ -290,10 +293,8 @@ module _ {C O : Type 0} (tells : Bool) (state : C → CellState) (offers : O →
       w : ShowsWriting tells state offers st rename pass p t anchor
       w = writing_shown pass p h anchor writes
 
-      pub adds_right : (count : ℕ) → is_fault a ≡ false → (served : (e : Writing_) → WritesAs tells state offers st pass t e → AddsTo tells state offers st t pass a q count e)
-          → ((e : Writing_) (k : WritesAs tells state offers st pass t e) → IfErr (served e k).outcome (λ fault. (n : NotAdded tells state offers st t e pass q fault) × (n.total < min count (left_of tells state offers st t e pass q))))
-          → IsGiven a q (add s t count p)
-      adds_right count fair served stops = adds_so pass p (ready pass p h) anchor writes w count a q fair (served w.written w.writes) (stops w.written w.writes)
+      pub adds_right : (count : ℕ) → is_fault a ≡ false → ((e : Writing_) → WritesAs tells state offers st pass t e → AddsTo tells state offers st t pass a q count e) → IsGiven a q (add s t count p)
+      adds_right count fair served = adds_so pass p (ready pass p h) anchor writes w count a q fair (served w.written w.writes)
 
       pub ends_right : is_fault a ≡ false → ((e : Writing_) → WritesAs tells state offers st pass t e → EndsEntry tells state offers st t pass a q e) → IsGiven a q (end s t p)
       ends_right fair served = ends_so pass p (ready pass p h) anchor writes w a q fair (served w.written w.writes)

@@ -38,3 +38,4 @@ pub mod InnerTabs
 pub mod Opening
 pub mod GetLines
 pub mod PurgeLines
+pub mod Served

@@ -29,7 +29,7 @@ use Rattle.store_rule.specs.declared.store.Store.{Store}
 use Rattle.store_rule.specs.Ground.{Ground, Offers, anchor_for}
 use Rattle.store_rule.specs.Passes.{basis, view}
 use Rattle.store_rule.proofs.Passing.{pass_of}
-use Rattle.store_serve.specs.Storing.{NotPut, PutWhole}
+use Rattle.store_serve.specs.Storing.{NotPut, PutWhole, StaysUnlessBegun}
 use Rattle.store_serve.specs.declared.storing.PutFault.{PutFault}
 use Rattle.store_serve.specs.declared.storing.PutFault.TheVariants.{Begin, Write}
 use Rattle.worker_shelf.specs.Typed.{IsTyped}
@@ -38,9 +38,8 @@ use Rattle.plain_lines.specs.Shows.{Shows, ShowsTab, ShowsWriting}
 use Rattle.plain_lines.proofs.BeginLines.{IsBegun, NotBegun, is_begun, not_begun, put_ends, put_refused}
 use Rattle.plain_lines.proofs.Giving.{IsGiven, began_others, ends_so, quiet}
 use Rattle.plain_lines.proofs.Reserving.{IsReadied, quiet_on}
-use Rattle.plain_lines.proofs.Victims.{KeptTells}
 
-module _ {C O : Type 0} (tells : Bool) (state : C → CellState) (offers : O → Offers) (st : Store C O) (lone : IsLone (basis tells state offers st)) (rename : ℕ → ℕ) (below : 7 < 8) (kept : KeptTells (basis tells state offers st) 7) (pass q : Pass C) (p : Plain) (a : Answer)
+module _ {C O : Type 0} (tells : Bool) (state : C → CellState) (offers : O → Offers) (st : Store C O) (lone : IsLone (basis tells state offers st)) (rename : ℕ → ℕ) (below : 7 < 8) (pass q : Pass C) (p : Plain) (a : Answer)
     (h : Shows tells state offers st rename pass p) (free : plain_tab p 7 ≡ plain.Free) (fair : is_fault a ≡ false) (offer : ℕ) (url : List ℕ) (body : Body) (durable : Bool) (offered : IsOffered tells state offers st offer url body) (next : rename (p.counter + 1) ≡ p.counter + 1) where
   abbrev g : Ground (List ℕ)
   g = basis tells state offers st
@@ -58,7 +57,7 @@ module _ {C O : Type 0} (tells : Bool) (state : C → CellState) (offers : O →
   begun = taken_by 7 at entry p
 
   abbrev Given : Step → Type 0
-  Given made = IsGiven tells state offers st lone rename 7 below kept a q made
+  Given made = IsGiven tells state offers st lone rename 7 below a q made
 
   -- An entry was begun. Where the hand stayed, it is ended as by the plain store.
   module _ (middle : Pass C) (version : ℕ) (b : Began tells state offers st 7 offer url durable pass middle version) (hand : middle.hand ≡ pass.hand) where
@@ -71,10 +70,9 @@ module _ {C O : Type 0} (tells : Bool) (state : C → CellState) (offers : O →
       stands = b.writes.rests.own.stands;
       pass = pass_of middle;
       inner_free = b.writes.rests.inner_free;
-      quiet = quiet_on 7 (view pass) (view middle) (quiet tells state offers st lone rename 7 below kept pass p h) (began_others tells state offers st lone rename 7 below kept pass middle offer version url durable b);
+      quiet = quiet_on 7 (view pass) (view middle) (quiet tells state offers st lone rename 7 below pass p h) (began_others tells state offers st lone rename 7 below pass middle offer version url durable b);
       hand_is = ap (hand_in g.setting.anchors) hand ∙ h.hand;
       eight = length-set p.tabs 7 (plain.Writing at) ∙ h.eight;
-      kept = kept;
     }
 
     writes : plain_tab begun 7 ≡ plain.Writing at
@@ -99,22 +97,20 @@ module _ {C O : Type 0} (tells : Bool) (state : C → CellState) (offers : O →
 
     given_end : EndsEntry tells state offers st 7 middle a q (begun_as tells state offers st 7 offer url durable pass middle version) → Given (put s url (bytes_of body) offer p)
     unfolding shown
-    given_end e = subst Given (sym (put_ends s url (bytes_of body) offer p free (p.counter + 1) begun one_begun.begins_is)) (ends_so tells state offers st lone rename 7 below kept middle begun ready at writes shown a q fair e)
+    given_end e = subst Given (sym (put_ends s url (bytes_of body) offer p free (p.counter + 1) begun one_begun.begins_is)) (ends_so tells state offers st lone rename 7 below middle begun ready at writes shown a q fair e)
 
-  -- Nothing is said yet of the hand where an entry is begun or not: it stays.
-  pub puts_right : IsTyped a → (d : Puts tells state offers st url pass a q offer durable) → ((middle : Pass C) (version : ℕ) → Began tells state offers st 7 offer url durable pass middle version → middle.hand ≡ pass.hand)
-      → ((fault : BeginFault) → d.outcome ≡ Err (Begin fault) → q.hand ≡ pass.hand) → Given (put s url (bytes_of body) offer p)
-  puts_right typed d began_hand refused_hand = of_outcome d.outcome refl d.answer_is d.stored d.refused
+  pub puts_right : IsTyped a → Puts tells state offers st url pass a q offer durable → Given (put s url (bytes_of body) offer p)
+  puts_right typed d = of_outcome d.outcome d.answer_is d.stored d.refused d.stays
     where
-      of_outcome : (o : Result Ended PutFault) → d.outcome ≡ o → a ≡ answer_to_put o → IfOk o (λ ended. PutWhole tells state offers st 7 offer url durable pass q ended) → IfErr o (λ fault. NotPut tells state offers st 7 offer url durable pass q fault)
-          → Given (put s url (bytes_of body) offer p)
-      of_outcome (Ok ended) o is w n = given_end w.middle w.version w.began (began_hand w.middle w.version w.began) record { outcome = Ok ended; answer_is = is; ended = w.ends; given_up = tt }
-      of_outcome (Err (Write fault)) o is w n = given_end n.middle n.version n.began (began_hand n.middle n.version n.began) record { outcome = Err fault; answer_is = is; ended = tt; given_up = n.stopped }
-      of_outcome (Err (Begin fault)) o is w n = subst Given (sym (put_refused s url (bytes_of body) offer p free nb.plain_fault nb.begins_is)) record {
+      of_outcome : (o : Result Ended PutFault) → a ≡ answer_to_put o → IfOk o (λ ended. PutWhole tells state offers st 7 offer url durable pass q ended) → IfErr o (λ fault. NotPut tells state offers st 7 offer url durable pass q fault)
+          → IfErr o (λ fault. StaysUnlessBegun fault pass.hand q.hand) → Given (put s url (bytes_of body) offer p)
+      of_outcome (Ok ended) is w n hand = given_end w.middle w.version w.began w.stays record { outcome = Ok ended; answer_is = is; ended = w.ends; given_up = tt }
+      of_outcome (Err (Write fault)) is w n hand = given_end n.middle n.version n.began n.stays record { outcome = Err fault; answer_is = is; ended = tt; given_up = n.stopped }
+      of_outcome (Err (Begin fault)) is w n hand = subst Given (sym (put_refused s url (bytes_of body) offer p free nb.plain_fault nb.begins_is)) record {
         answered = is ∙ nb.answer_is;
         shows = record {
           knows = nb.knows;
-          hand = ap (hand_in g.setting.anchors) (refused_hand fault o) ∙ h.hand;
+          hand = ap (hand_in g.setting.anchors) hand ∙ h.hand;
           tab = subst (ShowsTab tells state offers st rename q p 7) (sym free) d.free;
         };
       }

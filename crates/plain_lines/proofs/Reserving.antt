@@ -31,7 +31,6 @@ use Rattle.store_rule.specs.Ground.{Ground}
 use Rattle.store_rule.specs.Told.{Stands}
 use Rattle.plain_lines.specs.Words.{IsLone, Knows, no_guests, setting_of, spare, spare_of}
 use Rattle.plain_lines.proofs.Claims.{ClaimsRight, GaveWay, RunsOutRight, claims_right, runs_out_right}
-use Rattle.plain_lines.proofs.Victims.{KeptTells}
 use Rattle.plain_lines.proofs.Holding.{AllRaised}
 use Rattle.plain_lines.proofs.PlainWords.{readers_fit}
 use Rattle.plain_lines.proofs.Totals.{sum_only}
@@ -109,7 +108,6 @@ module _ (g : Ground (List ℕ)) (lone : IsLone g) (rename : ℕ → ℕ) where
     pub quiet : AreQuiet t v
     pub hand_is : hand_in g.setting.anchors hand ≡ p.hand
     pub eight : length p.tabs ≡ 8
-    pub kept : KeptTells g t
 
   -- the slot is claimed in the plain store too, and there is nothing else
   pub record HasClaimed (t n a : ℕ) (v u : View (List ℕ)) (p : Plain) (hand slot : ℕ) : Type 0 where
@@ -137,7 +135,7 @@ module _ (g : Ground (List ℕ)) (lone : IsLone g) (rename : ℕ → ℕ) where
 
     pub reserves_right : (u : View (List ℕ)) (slot hand_after a : ℕ) (x : Entry) → entry_at p a ≡ Some x → x.life ≡ Growing → Reserved g t hand v slot u hand_after → HasClaimed t n a v u p hand_after slot
     reserves_right u slot hand_after a x there grows r =
-        let c = claims_right g lone rename v p h.knows h.eight h.stands h.pass h.inner_free (quiet_raised t v w h.quiet h.inner_free is raised) t w is slot u hand hand_after h.hand_is h.kept r in
+        let c = claims_right g lone rename v p h.knows h.eight h.stands h.pass h.inner_free (quiet_raised t v w h.quiet h.inner_free is raised) t w is slot u hand hand_after h.hand_is r in
         of_claim (claim (setting_of g) (spare v) p) c (ap (λ (m : ℕ). claim (setting_of g) m p) spare_is)
       where
         of_claim : (c : Claimed) → ClaimsRight g rename p v u hand_after c → c ≡ claim (setting_of g) n p → HasClaimed t n a v u p hand_after slot
@@ -152,7 +150,6 @@ module _ (g : Ground (List ℕ)) (lone : IsLone g) (rename : ℕ → ℕ) where
                 quiet = quiet_on t v u h.quiet (others_set u (reserves (tab_at v t) slot) r.tabs);
                 hand_is = right.hand;
                 eight = ap length stays.tabs ∙ h.eight;
-                kept = h.kept;
               };
               tab = tab_now t v u (reserves (tab_at v t) slot) h.pass below r.tabs;
               others = others_set u (reserves (tab_at v t) slot) r.tabs;
@@ -176,7 +173,6 @@ module _ (g : Ground (List ℕ)) (lone : IsLone g) (rename : ℕ → ℕ) where
             quiet = quiet_on t v u h.quiet (λ j ne far. ap (λ (xs : List (Tab (List ℕ))). get_or xs j Free) r.tabs);
             hand_is = h.hand_is;
             eight = h.eight;
-            kept = h.kept;
           };
           tab = ap (λ (xs : List (Tab (List ℕ))). get_or xs t Free) r.tabs;
           others = λ j ne far. ap (λ (xs : List (Tab (List ℕ))). get_or xs j Free) r.tabs;

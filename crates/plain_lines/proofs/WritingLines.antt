@@ -31,30 +31,27 @@ use Rattle.plain_lines.proofs.Giving.{IsGiven, adds_right, drops_right, ends_rig
 use Rattle.plain_lines.proofs.Lines.{IsAs}
 use Rattle.plain_lines.proofs.OwnVersions.{same_answer}
 use Rattle.plain_lines.proofs.Putting.{puts_right}
-use Rattle.plain_lines.proofs.Victims.{KeptTells}
 
 module _ {C O : Type 0} (tells : Bool) (state : C → CellState) (offers : O → Offers) (s : Store C O) (lone : IsLone (basis tells state offers s)) where
   abbrev setting : Setting
   setting = setting_of (basis tells state offers s)
 
-  as_given : (t : ℕ) (below : t < 8) (kept : KeptTells (basis tells state offers s) t) (a : Answer) (q : Pass C) (made : Step) → IsGiven tells state offers s lone (λ v. v) t below kept a q made → IsAs tells state offers s a q t made
-  as_given t below kept a q made h = record { answered = h.answered ∙ same_answer made.answer; shows = h.shows }
+  as_given : (t : ℕ) (below : t < 8) (a : Answer) (q : Pass C) (made : Step) → IsGiven tells state offers s lone (λ v. v) t below a q made → IsAs tells state offers s a q t made
+  as_given t below a q made h = record { answered = h.answered ∙ same_answer made.answer; shows = h.shows }
 
-  pub adds_as : (t count anchor : ℕ) (p q : Pass C) (a : Answer) (plain : Plain) → KeptTells (basis tells state offers s) t → t < 8 → Shows tells state offers s (λ v. v) p plain → tab_at plain t ≡ Writing anchor → is_fault a ≡ false
-      → (served : (e : Entry) → WritesAs tells state offers s p t e → AddsTo tells state offers s t p a q count e)
-      → ((e : Entry) (w : WritesAs tells state offers s p t e) → IfErr (served e w).outcome (λ fault. (n : NotAdded tells state offers s t e p q fault) × (n.total < min count (left_of tells state offers s t e p q)))) → IsAs tells state offers s a q t (add setting t count plain)
-  adds_as t count anchor p q a plain kept below shows writes fair served fewer = as_given t below kept a q (add setting t count plain) (adds_right tells state offers s lone (λ v. v) t below kept p q plain a shows anchor writes count fair served fewer)
+  pub adds_as : (t count anchor : ℕ) (p q : Pass C) (a : Answer) (plain : Plain) → t < 8 → Shows tells state offers s (λ v. v) p plain → tab_at plain t ≡ Writing anchor → is_fault a ≡ false
+      → ((e : Entry) → WritesAs tells state offers s p t e → AddsTo tells state offers s t p a q count e) → IsAs tells state offers s a q t (add setting t count plain)
+  adds_as t count anchor p q a plain below shows writes fair served = as_given t below a q (add setting t count plain) (adds_right tells state offers s lone (λ v. v) t below p q plain a shows anchor writes count fair served)
 
-  pub ends_as : (t anchor : ℕ) (p q : Pass C) (a : Answer) (plain : Plain) → KeptTells (basis tells state offers s) t → t < 8 → Shows tells state offers s (λ v. v) p plain → tab_at plain t ≡ Writing anchor → is_fault a ≡ false
+  pub ends_as : (t anchor : ℕ) (p q : Pass C) (a : Answer) (plain : Plain) → t < 8 → Shows tells state offers s (λ v. v) p plain → tab_at plain t ≡ Writing anchor → is_fault a ≡ false
       → ((e : Entry) → WritesAs tells state offers s p t e → EndsEntry tells state offers s t p a q e) → IsAs tells state offers s a q t (end setting t plain)
-  ends_as t anchor p q a plain kept below shows writes fair served = as_given t below kept a q (end setting t plain) (ends_right tells state offers s lone (λ v. v) t below kept p q plain a shows anchor writes fair served)
+  ends_as t anchor p q a plain below shows writes fair served = as_given t below a q (end setting t plain) (ends_right tells state offers s lone (λ v. v) t below p q plain a shows anchor writes fair served)
 
-  pub drops_as : (t anchor : ℕ) (p q : Pass C) (a : Answer) (plain : Plain) → KeptTells (basis tells state offers s) t → t < 8 → Shows tells state offers s (λ v. v) p plain → tab_at plain t ≡ Writing anchor → q.hand ≡ p.hand
+  pub drops_as : (t anchor : ℕ) (p q : Pass C) (a : Answer) (plain : Plain) → t < 8 → Shows tells state offers s (λ v. v) p plain → tab_at plain t ≡ Writing anchor → q.hand ≡ p.hand
       → Drops tells state offers s t p a q → IsAs tells state offers s a q t (give_up t plain)
-  drops_as t anchor p q a plain kept below shows writes hand d = as_given t below kept a q (give_up t plain) (drops_right tells state offers s lone (λ v. v) t below kept p q plain a shows anchor writes hand d)
+  drops_as t anchor p q a plain below shows writes hand d = as_given t below a q (give_up t plain) (drops_right tells state offers s lone (λ v. v) t below p q plain a shows anchor writes hand d)
 
-  pub puts_as : (offer : ℕ) (url : List ℕ) (body : Body) (durable : Bool) (p q : Pass C) (a : Answer) (plain : Plain) → KeptTells (basis tells state offers s) 7 → Shows tells state offers s (λ v. v) p plain → tab_at plain whole_tab ≡ Free → is_fault a ≡ false
-      → IsOffered tells state offers s offer url body → IsTyped a → (d : Puts tells state offers s url p a q offer durable) → ((middle : Pass C) (version : ℕ) → Began tells state offers s 7 offer url durable p middle version → middle.hand ≡ p.hand)
-      → ((fault : BeginFault) → d.outcome ≡ Err (Begin fault) → q.hand ≡ p.hand) → IsAs tells state offers s a q whole_tab (put setting url (bytes_of body) offer plain)
-  puts_as offer url body durable p q a plain kept shows free fair offered typed d began_hand refused_hand = as_given 7 (omega arith) kept a q (put setting url (bytes_of body) offer plain)
-      (puts_right tells state offers s lone (λ v. v) (omega arith) kept p q plain a shows free fair offer url body durable offered refl typed d began_hand refused_hand)
+  pub puts_as : (offer : ℕ) (url : List ℕ) (body : Body) (durable : Bool) (p q : Pass C) (a : Answer) (plain : Plain) → Shows tells state offers s (λ v. v) p plain → tab_at plain whole_tab ≡ Free → is_fault a ≡ false
+      → IsOffered tells state offers s offer url body → IsTyped a → Puts tells state offers s url p a q offer durable → IsAs tells state offers s a q whole_tab (put setting url (bytes_of body) offer plain)
+  puts_as offer url body durable p q a plain shows free fair offered typed d = as_given 7 (omega arith) a q (put setting url (bytes_of body) offer plain)
+      (puts_right tells state offers s lone (λ v. v) (omega arith) p q plain a shows free fair offer url body durable offered refl typed d)
