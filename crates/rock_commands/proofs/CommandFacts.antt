@@ -1,6 +1,6 @@
 -- A command line is one command, with one reading.
-use Rattle.std.proofs.Common.{◌≡◌, ◌⊎◌, inl, inr, ℕ, ◌^◌, ◌<◌, List, [], ◌∷◌, length, get_or, map, true, ap, sym, ◌∙◌, subst, arith}
-use Rattle.std.specs.Prelude.{codes, decimal}
+use Rattle.std.proofs.Common.{◌≡◌, inl, inr, ℕ, ◌^◌, ◌<◌, List, [], ◌∷◌, length, get_or, map, true, ap, sym, ◌∙◌, subst, arith}
+use Rattle.std.specs.Prelude.{decimal}
 use Rattle.std.specs.Str.{bytes_eq}
 use Rattle.std.proofs.lemmas.Slice.Eq.{bytes_eq-Decides}
 use Rattle.std.proofs.lemmas.Fmt.{decimal_injective}
@@ -14,9 +14,6 @@ fourth e = (cc, cc, cc)
 
 fifth : {a b c d e a' b' c' d' e' : List ℕ} → a ∷ b ∷ c ∷ d ∷ e ∷ [] ≡ a' ∷ b' ∷ c' ∷ d' ∷ e' ∷ [] → (b ≡ b') × (c ≡ c') × (d ≡ d') × (e ≡ e')
 fifth same = (cc, cc, cc, cc)
-
-foremost : {a b c d e a' b' c' d' e' : List ℕ} → a ∷ b ∷ c ∷ d ∷ e ∷ [] ≡ a' ∷ b' ∷ c' ∷ d' ∷ e' ∷ [] → a ≡ a'
-foremost same = cc
 
 three_are_not_four : {A : Type 0} {a b c a' b' c' d' : A} → a ∷ b ∷ c ∷ [] ≡ a' ∷ b' ∷ c' ∷ d' ∷ [] → ⊥
 three_are_not_four e = let counts = ap length e in omega (arith, counts)
@@ -145,26 +142,6 @@ no_two_numbers words first second next then last are not (inr (inr (inr (inl r))
 no_two_numbers words first second next then last are not (inr (inr (inr (inr b)))) =
     let parts = fifth (sym are ∙ b.4.words_are) in
     not b.2 b.3 b.4.workers_fit b.4.count_fit parts.2 parts.3
-
--- the word behind a name is a number below this bound
-pub record HasNumber (name word : List ℕ) (bound : ℕ) : Type 0 where
-  pub named : IsName name
-  pub number : ℕ
-  pub fits : number < bound
-  pub spelled : word ≡ decimal number
-
--- five words whose last two are numbers are a line `run`, or a line `bench`
-pub of_five : (command name first last end : List ℕ) → IsCommandLine (command ∷ name ∷ first ∷ last ∷ end ∷ [])
-    → ((command ≡ codes "run") × HasNumber name first (2 ^ 32)) ⊎ ((command ≡ codes "bench") × HasNumber name first (2 ^ 64))
-of_five command name first last end (inl l) = absurd (three_are_not_five (sym l.2.words_are))
-of_five command name first last end (inr (inl k)) = absurd (four_are_not_five (sym k.3.words_are))
-of_five command name first last end (inr (inr (inl k))) = absurd (four_are_not_five (sym k.3.words_are))
-of_five command name first last end (inr (inr (inr (inl r)))) =
-    let parts = fifth r.4.words_are in
-    inl (foremost r.4.words_are, record { named = subst IsName (sym parts.0) r.4.named; number = r.1; fits = r.4.fits; spelled = parts.1 })
-of_five command name first last end (inr (inr (inr (inr b)))) =
-    let parts = fifth b.4.words_are in
-    inr (foremost b.4.words_are, record { named = subst IsName (sym parts.0) b.4.named; number = b.1; fits = b.4.fits; spelled = parts.1 })
 
 pub found_equal : (a b : List ℕ) → true ≡ bytes_eq a b → a ≡ b
 found_equal a b e = (bytes_eq-Decides a b).0 (sym e)

@@ -166,10 +166,10 @@ returns-in-Check-clause-check_early g c name slot anchors slots asked t =
     name slot anchors (subst (IsCommand c.args.words.now) c.in-Check.is c.in-Some.ensures) asked (c.print_report-in-Check.ensures.early t slots)
 
 pub returns-in-Create-clause-device_unfailed : goal.returns-in-Create-clause-device_unfailed
-returns-in-Create-clause-device_unfailed g c other none = none_ended (c.create_file.ensures.unfailed none) c.create_file.ensures.ended
+returns-in-Create-clause-device_unfailed g c other bench none = none_ended (c.create_file.ensures.unfailed none) c.create_file.ensures.ended
 
 pub returns-in_default-clause-device_unfailed : goal.returns-in_default-clause-device_unfailed
-returns-in_default-clause-device_unfailed g c other none = none_ended refl refl
+returns-in_default-clause-device_unfailed g c other bench none = none_ended refl refl
 
 pub returns-in-Run-clause-run_ends : goal.returns-in-Run-clause-run_ends
 returns-in-Run-clause-run_ends g c name slot anchors workers asked =
@@ -264,3 +264,16 @@ returns-in-Bench-clause-usage g c = (
 
 pub returns-in_default-clause-bench_ends : goal.returns-in_default-clause-bench_ends
 returns-in_default-clause-bench_ends g c name seed workers count asked = absurd (not_read c.in_default.is c.parse.ensures (inr (inr (inr (inr (name, seed, workers, count, asked))))))
+
+pub returns-in_default-clause-bench_refused : goal.returns-in_default-clause-bench_refused
+returns-in_default-clause-bench_refused g c name seed workers count asked = absurd (not_read c.in_default.is c.parse.ensures (inr (inr (inr (inr (name, seed, workers, count, asked))))))
+
+pub returns-in_default-clause-bench_complete : goal.returns-in_default-clause-bench_complete
+returns-in_default-clause-bench_complete g c name seed workers count asked t may sink device = absurd (not_read c.in_default.is c.parse.ensures (inr (inr (inr (inr (name, seed, workers, count, asked))))))
+
+pub returns-in-Bench-clause-device_unfailed : goal.returns-in-Bench-clause-device_unfailed
+returns-in-Bench-clause-device_unfailed g c other bench none =
+    absurd (bench (c.in-Bench.target.name.now, c.in-Bench.target.seed, c.in-Bench.target.workers, c.in-Bench.target.count, subst (IsCommand c.args.words.now) c.in-Bench.is c.in-Some.ensures))
+
+pub returns-in-Bench-clause-back : goal.returns-in-Bench-clause-back
+returns-in-Bench-clause-back g c t = c.bench_command.ensures.back t (c.requires.home t)
