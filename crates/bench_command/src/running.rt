@@ -84,7 +84,9 @@ where
         return Status::Memory;
     };
     let anchors = ANCHORS_EACH * workers;
-    match run_script(rt, alloc, volume, name, SLOT_BYTES, anchors, workers, &script) {
+    match run_script(
+        rt, alloc, volume, name, SLOT_BYTES, anchors, workers, &script,
+    ) {
         Ok(answers) => print_summary(alloc, out, answers),
         Err(fault) => status_of_run(fault),
     }

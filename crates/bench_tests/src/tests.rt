@@ -16,11 +16,7 @@ mod refused;
 
 /// A volume with no file. Its listed calls fail, and those of its stations: the first is that of the rebuild, and then come
 /// those of the workers.
-fn volume_of(
-    alloc: Global,
-    fail: &[u64],
-    stations: &[&[u64]],
-) -> Result<MemVolume, AllocError>
+fn volume_of(alloc: Global, fail: &[u64], stations: &[&[u64]]) -> Result<MemVolume, AllocError>
     ensures { IfOk result (λ volume. NoneAway (volume_files volume)) }
 {
     let mut lists = Vec::new(alloc);
@@ -71,8 +67,7 @@ fn benches<R: Abort + Threads + Wait + Sync>(
 #[test]
 fn a_benchmark_prints_one_line(rt: HostRuntime) -> Result<(), Fail> {
     let alloc = rt.alloc();
-    let none =
-        "bench requests=0 hits=0 misses=0 stored=0 purged=0 none=0 other=0 bytes=0";
+    let none = "bench requests=0 hits=0 misses=0 stored=0 purged=0 none=0 other=0 bytes=0";
     let rows = [
         ("bench db 0 1 0", none, 64),
         ("bench db 1 2 0", none, 128),

@@ -61,7 +61,13 @@ impl<'a> Command<'a> {
             [command, name, first, second, third] => {
                 let second = number(second.as_str())?;
                 let third = number(third.as_str())?;
-                Command::of_five(command.as_str(), name.as_str(), first.as_str(), second, third)
+                Command::of_five(
+                    command.as_str(),
+                    name.as_str(),
+                    first.as_str(),
+                    second,
+                    third,
+                )
             }
             _ => None,
         }

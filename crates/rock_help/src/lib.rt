@@ -86,7 +86,10 @@ fn with_words<'a>(alloc: Global, command: Command<'a>) -> Result<Command<'a>, Al
             "WORKERS",
             "The workers of the script, each with a thread, from 1 to 32",
         ),
-        ("SEED", "The number that the script of a benchmark is made from"),
+        (
+            "SEED",
+            "The number that the script of a benchmark is made from",
+        ),
         ("COUNT", "The rounds of a benchmark, at most 10000"),
     ];
     let mut command = command;

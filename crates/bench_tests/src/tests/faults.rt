@@ -15,6 +15,7 @@ use std::thread::Threads;
 
 /// Ten requests of two workers, over 128 slots, and their line.
 const SHORT: &str = "bench db 7 2 5";
+
 const SHORT_LINE: &[u8] =
     b"bench requests=10 hits=0 misses=6 stored=2 purged=0 none=2 other=0 bytes=0\n";
 
@@ -105,7 +106,11 @@ fn takes<R: Abort + Threads + Wait + Sync>(
     let mut out = MemSink::new(alloc, room, 16, fails.to_vec(alloc)?)?;
     let status = call_between(rt, alloc, &mut volume, SHORT, &mut source, &mut out)?;
     let is_whole = taken == SHORT_LINE.len();
-    let due = if is_whole { Status::Done } else { Status::SinkFault };
+    let due = if is_whole {
+        Status::Done
+    } else {
+        Status::SinkFault
+    };
     assert_eq!(rt; status, due);
     assert_eq!(rt; out.taken().len(), taken);
     assert!(rt; SHORT_LINE.starts_with(out.taken()));
