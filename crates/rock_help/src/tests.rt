@@ -41,7 +41,8 @@ Output:
   list   ENTRY first-slot version slots body-bytes URL
   check  slots=S kept=K used=U free=F version=G
   run    worker line answer, for each line of the script
-  bench  bench requests=R hits=H misses=M stored=T purged=P none=N other=O bytes=B
+  bench  bench requests=R hits=H misses=M stored=T purged=P none=N other=O
+         bytes=B, in one line
 
 A number is decimal, without a sign or a leading zero. A command that does not
 end well says why in one line on standard error. Exit status:
