@@ -1,13 +1,13 @@
 -- What follows where the file of a benchmark was made.
-use Rattle.std.proofs.Common.{Bool, List, ap, arith, inl, inr, length, refl, subst, sym, ◌*◌, ◌+◌, ◌-◌, ◌/◌, ◌∙◌, ◌≡◌, ◌≤◌, ℕ}
+use Rattle.std.proofs.Common.{Bool, List, ap, arith, inl, inr, length, refl, subst, sym, ◌*◌, ◌+◌, ◌-◌, ◌/◌, ◌∙◌, ◌≡◌, ℕ}
 use Rattle.std.proofs.lemmas.List.{length-replicate}
-use Rattle.std.specs.Prelude.{IsTrue, Some}
+use Rattle.std.specs.Prelude.{Some}
 use Rattle.std.specs.FinMap.{get}
-use Rattle.db_layout.specs.Layout.{file_size, slots_of}
+use Rattle.db_layout.specs.Layout.{file_size}
 use Rattle.file_commands.specs.Report.{ReportsOrLacksMemory}
 use Rattle.rock_disk.specs.Cell.{CellState}
 use Rattle.rock_disk.specs.Created.{IsCreated}
-use Rattle.rock_disk.specs.File.{File, Files, IsNotAway, IsThere, uncut, zeros}
+use Rattle.rock_disk.specs.File.{Files, IsNotAway, IsThere, uncut, zeros}
 use Rattle.rock_disk.proofs.Out.{get_inserted}
 use Rattle.rock_io.specs.Faults.{Rose}
 use Rattle.rock_open.specs.Device.{Counts, counts}

@@ -1,5 +1,5 @@
 -- What was printed, and how the command ends where the line was to be printed.
-use Rattle.std.proofs.Common.{List, ◌≡◌, ℕ}
+use Rattle.std.proofs.Common.{List, ℕ}
 use Rattle.file_commands.specs.Report.{PrintEnds, ReportPrints}
 use Rattle.rock_status.specs.declared.status.Status.{Status}
 use Rattle.rock_status.specs.declared.status.Status.TheVariants.{BadGeometry, BadScript, DeviceFault, Done, Exists, Memory, Missing, SinkFault, Small, SourceFault, Usage}

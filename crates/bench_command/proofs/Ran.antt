@@ -1,5 +1,5 @@
 -- What a refused run leaves of its file.
-use Rattle.std.proofs.Common.{Bool, List, ◌⊎◌, ℕ}
+use Rattle.std.proofs.Common.{Bool, List, ℕ}
 use Rattle.rock_disk.specs.Cell.{CellState}
 use Rattle.rock_disk.specs.File.{Files}
 use Rattle.rock_open.specs.declared.fault.OpenStoreFault.{OpenStoreFault}

@@ -5,7 +5,7 @@ use Rattle.rock_disk.specs.Cell.{CellState}
 use Rattle.rock_disk.specs.File.{Files, IsKept}
 use Rattle.rock_run.specs.Runs.{HasClosed}
 use Rattle.rock_status.specs.declared.status.Status.{Status}
-use Rattle.rock_status.specs.declared.status.Status.TheVariants.{BadGeometry, BadScript, DeviceFault, Done, Exists, Memory, Missing, SinkFault, Small, SourceFault, Usage}
+use Rattle.rock_status.specs.declared.status.Status.TheVariants.{BadGeometry, DeviceFault, Done, Memory, Missing, SinkFault, Small}
 use Rattle.script_text.specs.declared.line.Line.{Line}
 use Rattle.bench_command.specs.Numbers.{IsMade, anchors_for, slot_size, slots_for}
 

@@ -1,5 +1,5 @@
 // The command `bench`.
-ghost use Rattle.std.specs.Prelude.{IsTrue, ℕ, ◌≡◌, ◌≤◌, ◌↔◌};
+ghost use Rattle.std.specs.Prelude.{IsTrue, ◌≡◌, ◌≤◌, ◌↔◌};
 ghost use Rattle.file_commands.specs.Report.{ReportPrints, ReportsOrLacksMemory};
 ghost use Rattle.rock_disk.specs.File.{NoneAway};
 ghost use Rattle.rock_io.specs.Faults.{Rose};

@@ -1,5 +1,5 @@
 // The script of a benchmark is run over a file that was made for it.
-ghost use Rattle.std.specs.Prelude.{IsTrue, ℕ, ◌≡◌, ◌≤◌};
+ghost use Rattle.std.specs.Prelude.{IsTrue, ◌≡◌, ◌≤◌};
 ghost use Rattle.std.specs.FinMap.{get};
 ghost use Rattle.file_commands.specs.Report.{ReportPrints};
 ghost use Rattle.rock_disk.specs.File.{IsNotAway, NoneAway};

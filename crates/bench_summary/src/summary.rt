@@ -1,5 +1,5 @@
 // Answers are counted, and told in a line.
-ghost use Rattle.std.specs.Prelude.{◌≡◌, ◌<◌, ◌+◌, ◌^◌, sum_by, string_bytes, IfOk};
+ghost use Rattle.std.specs.Prelude.{◌≡◌, ◌+◌, sum_by, string_bytes, IfOk};
 ghost use Rattle.bench_summary.specs.Kinds.{hit_bytes};
 ghost use Rattle.bench_summary.specs.Counts.{count_of, summary_of};
 ghost use Rattle.bench_summary.specs.Text.{first_part, second_part, third_part, last_part, summary_line};

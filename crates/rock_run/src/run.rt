@@ -1,5 +1,5 @@
 // A script is run over a file.
-ghost use Rattle.std.specs.Prelude.{All, IfErr, IfOk, IsErr, IsErrOf, IsTrue, List, None, [], map, vec_len, ◌+◌, ◌≡◌, ◌≤◌, ℕ};
+ghost use Rattle.std.specs.Prelude.{All, IfErr, IfOk, IsErr, IsErrOf, IsTrue, None, [], map, vec_len, ◌+◌, ◌≡◌, ◌≤◌, ℕ};
 ghost use Rattle.std.specs.FinMap.{get};
 ghost use Rattle.db_layout.specs.Layout.{IsSlotSize};
 ghost use Rattle.rock_disk.specs.File.{IsKept, IsNotAway, IsThere, NoneAway};

@@ -1,18 +1,16 @@
 -- Whose lines a benchmark has, under which numbers, and what they ask.
-use Rattle.std.proofs.Common.{◌≡◌, ℕ, zero, suc, ◌+◌, ◌*◌, ◌<◌, ◌≤◌, ◌%◌, List, [], ◌∷◌, ◌++◌, map, length, Bool, true, false, cond, nat_lt, ◌==◌, get_or, refl, arith, sym, ap, ◌∙◌, subst, ltb-true}
-use Rattle.std.specs.Prelude.{All, Contains, Some, None, Option, find, if◌then◌else◌, slice_index}
-use Rattle.std.specs.List.{range_with_len, filter, flat_map, enumerate_from}
+use Rattle.std.proofs.Common.{◌≡◌, ℕ, zero, suc, ◌+◌, ◌*◌, ◌<◌, ◌≤◌, ◌%◌, List, [], ◌∷◌, ◌++◌, map, length, Bool, true, false, cond, nat_lt, ◌==◌, refl, arith, ap, ◌∙◌, ltb-true}
+use Rattle.std.specs.Prelude.{All, Contains, Some, find, if◌then◌else◌, slice_index}
+use Rattle.std.specs.List.{range_with_len, enumerate_from}
 use Rattle.std.proofs.lemmas.Bool.{eq-eqb, ne_eqb}
 use Rattle.std.proofs.lemmas.List.FromFn.{get_or-range_with_len, length-range_with_len}
 use Rattle.std.proofs.lemmas.List.Elements.{All-nil, All-cons, All-head, All-tail, All-append, All-map, All-filter, All-same, All-contains, All-from_get_or, All-weaker, filter_passes}
 use Rattle.store_key.specs.Url.{IsUrl}
 use Rattle.script_text.specs.declared.body.Body.{Body}
 use Rattle.script_text.specs.declared.line.Line.{Line}
-use Rattle.script_text.specs.declared.request.Request.{Request}
 use Rattle.script_text.specs.declared.request.Request.TheVariants.{Get, Put, Save, Purge}
 use Rattle.workload.specs.declared.shares.Share.{Share}
-use Rattle.workload.specs.Numbers.{drawn}
-use Rattle.workload.specs.Requests.{NamesUrl, asked, body_of, request_of}
+use Rattle.workload.specs.Requests.{NamesUrl, body_of, request_of}
 use Rattle.workload.specs.Shares.{has_url, share_of, shares_of}
 use Rattle.workload.specs.Script.{bench_lines, line_of, lines_of, turns_of}
 use Rattle.workload.specs.Urls.{home_of, url_of, urls_of}

@@ -1,5 +1,4 @@
 use Rattle.std.proofs.Common.{List, Vec, Global, map, ap, sym, ◌++◌, ◌∷◌, [], ◌∙◌, ◌≡◌, ℕ}
-use Rattle.std.specs.List.{flat_map}
 use Rattle.std.proofs.lemmas.Grind.{flat_map-append}
 use Rattle.std.proofs.lemmas.List.{append-nil, map-append, map-id}
 use Rattle.std.proofs.lemmas.Iterator.Adapters.{YieldsList-from_vec}

@@ -1,7 +1,5 @@
-use Rattle.std.proofs.Common.{List, subst, sym, ◌≡◌, ℕ}
-use Rattle.std.specs.Prelude.{IsTrue}
+use Rattle.std.proofs.Common.{subst, sym, ◌≡◌}
 use Rattle.rock_open.specs.Device.{Counts, counts}
-use Rattle.rock_open.specs.Opening.{IsPasses}
 use Rattle.rock_run.specs.Device.{HasFailed}
 use Rattle.rock_status.specs.declared.status.Status.{Status}
 use Rattle.rock_status.specs.declared.status.Status.TheVariants as status

@@ -1,4 +1,4 @@
-use Rattle.std.proofs.Common.{List, ap, subst, ◌∙◌, ◌≡◌, ℕ}
+use Rattle.std.proofs.Common.{ap, subst, ◌∙◌, ◌≡◌}
 use Rattle.bench_summary.specs.Counts.{summary_of}
 use Rattle.bench_summary.specs.Text.{summary_line}
 use Rattle.bench_summary.specs.declared.summary.Summary.{Summary}

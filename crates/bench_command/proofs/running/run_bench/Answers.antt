@@ -1,6 +1,6 @@
-use Rattle.std.proofs.Common.{List, inr, map, subst, sym, ◌≡◌, ℕ}
+use Rattle.std.proofs.Common.{List, inr, map, subst, sym}
 use Rattle.rock_open.specs.Device.{counts}
-use Rattle.rock_run.specs.Runs.{HasClosed, HasRun, RefusalLeaves}
+use Rattle.rock_run.specs.Runs.{HasRun, RefusalLeaves}
 use Rattle.rock_run.specs.Scripts.{MayBeServed}
 use Rattle.script_text.specs.declared.line.Line.{Line}
 use Rattle.bench_command.specs.Ends.{RunSays}
