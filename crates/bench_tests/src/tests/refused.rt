@@ -41,15 +41,15 @@ fn a_benchmark_is_refused_by_the_first_cause(rt: HostRuntime) -> Result<(), Fail
 #[test]
 fn a_file_that_is_there_is_kept(rt: HostRuntime) -> Result<(), Fail> {
     let alloc = rt.alloc();
-    let mut volume = volume_of(alloc, &[], &[])?;
-    let made = call(&rt, alloc, &mut volume, "create db 512 3", b"")?;
-    assert_eq!(&rt; made.status, Status::Done);
     let rows = [
         ("bench db 0 33 0", Status::BadGeometry { field: 3 }, 8),
         ("bench db 0 1 10001", Status::BadGeometry { field: 4 }, 8),
         ("bench db 0 1 10000", Status::Exists, 9),
     ];
     for (command, status, code) in rows {
+        let mut volume = volume_of(alloc, &[], &[])?;
+        let made = call(&rt, alloc, &mut volume, "create db 512 3", b"")?;
+        assert_eq!(&rt; made.status, Status::Done);
         let ended = call(&rt, alloc, &mut volume, command, b"")?;
         assert_eq!(&rt; ended.status, status, "{command}");
         assert_eq!(&rt; ended.status.code(), code, "{command}");
