@@ -45,8 +45,10 @@ row() {
 }
 
 disk="could not be read, written or made; look at its disk and its permissions"
+usage='this is no command line; rock --help prints the lines that are'
+output='rock: SinkFault: standard output did not take all of the answer'
 
-# A run: the status, what is printed, how the first line on standard error begins, the script, and the words.
+# A run: the status, what is printed, the first line on standard error, the script, and the words.
 run_row() {
     local status=$1 printed=$2 said=$3 first
     printf '%s' "$4" >script
@@ -54,8 +56,7 @@ run_row() {
     "${as[@]}" ./rock run "$@" >printed 2>said <script
     local ended=$?
     first=$(head -n 1 said)
-    printf '%s' "$printed" | cmp -s - printed && [ "$ended" -eq "$status" ] &&
-        { [ "$first" = "$said" ] || { [ -n "$said" ] && [[ $first == "$said"* ]]; }; }
+    printf '%s' "$printed" | cmp -s - printed && [ "$ended" -eq "$status" ] && [ "$first" = "$said" ]
     holds "rock run $*: script '$(head -c 200 script)', status $ended, printed '$(head -c 200 printed)', said '$first'" $?
 }
 
@@ -104,7 +105,7 @@ holds 'a file that is there stays as it was' $?
 row 8 '' 'rock: BadGeometry field=1: the slot size 500 is no multiple of 512 from 512 to 32768' create new 500 0
 row 8 '' 'rock: BadGeometry field=4: the number of slots 0 is not from 1 to 1048576' create new 512 0
 row 8 '' 'rock: BadGeometry field=2: the number of anchors 5 is not from 1 to the number of slots of db' check db 512 5
-row 2 '' 'rock: Usage: this is no command line; rock --help prints the lines that are' create new 512
+row 2 '' "rock: Usage: $usage" create new 512
 [ ! -e new ]
 holds 'a refused create makes no file' $?
 
@@ -335,24 +336,38 @@ served new 16384 16 3 <<END
 END
 row 0 "ENTRY 0 1 8 120000 $long"$'\n' '' list new 16384
 
+# What is wrong with a line of a script, by its cause, as OPERATING.md says it.
+wrong() {
+    awk -F ' *[|] *' -v cause="$1" '
+        /^#/ { on = $0 == "### Bad scripts" }
+        on && $2 == cause { gsub("`", "", $3); print $3 }' "$root/docs/OPERATING.md"
+}
+
+# A bad line: its number, the cause, the script, and the workers, 1 where none are given.
+bad() {
+    run_row 7 '' "rock: BadScript line=$1 cause=$2: line $1 of the script is wrong: $(wrong "$2")" "$3" \
+        "${5:-new}" "${6:-512}" "${7:-1}" "${4:-1}"
+}
+
 # Refusals of a run, in their order, and the file is as it was.
 cp one new
-run_row 7 '' 'rock: BadScript line=1 cause=4: ' $'1 fetch http://a/b\n' gone 500 0 33
-run_row 8 '' 'rock: BadGeometry field=1: ' '' gone 500 0 33
-run_row 8 '' 'rock: BadGeometry field=3: ' '' gone 512 0 33
-run_row 8 '' 'rock: BadGeometry field=3: ' '' gone 512 0 0
-run_row 8 '' 'rock: BadGeometry field=3: ' $'33 get http://a/b\n' gone 512 0 33
+slots_of_new='is not from 1 to the number of slots of new'
+bad 1 4 $'1 fetch http://a/b\n' 33 gone 500 0
+run_row 8 '' 'rock: BadGeometry field=1: the slot size 500 is no multiple of 512 from 512 to 32768' '' gone 500 0 33
+run_row 8 '' 'rock: BadGeometry field=3: the number of workers 33 is not from 1 to 32' '' gone 512 0 33
+run_row 8 '' 'rock: BadGeometry field=3: the number of workers 0 is not from 1 to 32' '' gone 512 0 0
+run_row 8 '' 'rock: BadGeometry field=3: the number of workers 33 is not from 1 to 32' $'33 get http://a/b\n' \
+    gone 512 0 33
 run_row 8 '' 'rock: Missing: there is no file gone' '' gone 512 0 1
 truncate -s 16895 small
-run_row 8 '' 'rock: Small bytes=16895: ' '' small 512 0 1
-run_row 8 '' 'rock: BadGeometry field=2: ' '' new 512 0 1
-run_row 8 '' 'rock: BadGeometry field=2: ' '' new 512 2 1
-run_row 6 '' 'rock: DeviceFault: pages ' '' pages 512 1 1
-run_row 2 '' 'rock: Usage: ' '' new 512 1
-run_row 2 '' 'rock: Usage: ' '' new 512 1 01
+run_row 8 '' 'rock: Small bytes=16895: small is shorter than the header area and one slot' '' small 512 0 1
+run_row 8 '' "rock: BadGeometry field=2: the number of anchors 0 $slots_of_new" '' new 512 0 1
+run_row 8 '' "rock: BadGeometry field=2: the number of anchors 2 $slots_of_new" '' new 512 2 1
+run_row 6 '' "rock: DeviceFault: pages $disk" '' pages 512 1 1
+run_row 2 '' "rock: Usage: $usage" '' new 512 1
+run_row 2 '' "rock: Usage: $usage" '' new 512 1 01
 
 # What is wrong with a line.
-bad() { run_row 7 '' "rock: BadScript line=$1 cause=$2: " "$3" new 512 1 "${4:-1}"; }
 spaces=$(printf '%8193s' '')
 bad 1 1 "$spaces"$'\n'
 bad 1 2 $'1\tget http://a/b\n'
@@ -381,7 +396,7 @@ holds 'a run that stores nothing leaves the file as it was' $?
 [ $? -eq 4 ] && [ ! -s printed ] && [ "$(cat said)" = 'rock: SourceFault: standard input could not be read' ]
 holds 'a folder for a script is a fault of the source' $?
 ./rock run new 512 1 1 <&- >printed 2>said
-[ $? -eq 4 ] && [ ! -s printed ]
+[ $? -eq 4 ] && [ ! -s printed ] && [ "$(cat said)" = 'rock: SourceFault: standard input could not be read' ]
 holds 'a closed standard input is a fault of the source' $?
 
 # A script that comes slowly, by pieces that end within lines.
@@ -406,16 +421,20 @@ for _ in $(seq 200); do
     sleep 0.01
     [ "$(./rock list new 512 | head -n 2 | wc -l)" -eq 2 ] && break
 done
-kill -9 "$run" && ! wait "$run" 2>said && [ ! -s printed ]
-holds 'a run that is killed printed nothing' $?
-./rock list new 512 >listed && [ -s listed ] && [ "$(wc -l <listed)" -lt 1200 ] &&
+kill -9 "$run"
+wait "$run" 2>killed
+[ $? -eq 137 ] && [ ! -s printed ] && [ ! -s said ]
+holds 'a run that is killed ends with 137, printed nothing and said nothing' $?
+./rock list new 512 >listed 2>said && [ ! -s said ] && [ -s listed ] && [ "$(wc -l <listed)" -lt 1200 ] &&
     awk '$6 != "http://a/" $5 { exit 1 }' listed
 holds 'a run that was killed left responses of its script' $?
 awk '{ print "1 get " $6 }' listed >gets
 while read -r _ _ version _ length _; do
     printf 'HIT %d %d %s\n' "$version" "$length" "$(made 0 "$length")"
 done <listed >wanted
-./rock run new 512 4096 1 <gets | cut -d ' ' -f 3- >got
+./rock run new 512 4096 1 <gets 2>said | cut -d ' ' -f 3- >got
+[ "${PIPESTATUS[0]}" -eq 0 ] && [ ! -s said ]
+holds 'a file that a killed run left is served' $?
 paste -d '|' wanted got | awk -F '|' '$2 != $1 && $2 !~ /^MISS other / { exit 1 } $2 == $1 { hits++ } END { exit !hits }'
 holds 'what a killed run left is served whole' $?
 
@@ -429,6 +448,30 @@ row 0 $'slots=2 kept=0 used=0 free=2 version=0\n' '' check db 512 2
 row 0 '' '' create great 32768 1048576
 [ "$(stat -c %s great)" -eq 34359754752 ] && [ "$(stat -c %b great)" -lt 2048 ]
 holds 'the greatest file has its length and no blocks' $?
+rm great
+
+# As many slots as there may be, with a run that stores in them. A slot more is ignored.
+row 0 '' '' create great 512 1048576
+served great 512 1048576 2 <<'END'
+1 put http://a/b =hello|STORED 1
+1 mark 0|MARKED
+2 await 0|MET
+2 get http://a/b|HIT 1 5 68656c6c6f
+END
+row 0 $'ENTRY 0 1 1 5 http://a/b\n' '' list great 512
+truncate -s +512 great
+row 0 $'slots=1048576 kept=1 used=1 free=1048575 version=1\n' '' check great 512 1048576
+run_row 0 $'1 1 HIT 1 5 68656c6c6f\n' '' '1 get http://a/b' great 512 1 1
+run_row 8 '' 'rock: BadGeometry field=2: the number of anchors 1048577 is not from 1 to the number of slots of great' '' \
+    great 512 1048577 1
+(
+    failed=0
+    ulimit -v 65536
+    run_row 3 '' 'rock: Memory: memory ran out; free some and try again' '1 get http://a/b' great 512 1 1
+    [ "$failed" -eq 0 ]
+)
+holds 'the greatest file asks for more than 64 MiB' $?
+rm great
 
 # Permissions, as another user where this one may do everything.
 chmod 444 one && cp one secret && chmod 000 secret && mkdir closed && chmod 555 closed
@@ -436,7 +479,7 @@ if [ "$(id -u)" -eq 0 ]; then as=(setpriv --reuid=65534 --regid=65534 --clear-gr
 if "${as[@]}" true 2>/dev/null; then
     row 0 $'ENTRY 0 7 1 5 http://a/b\n' '' list one 512
     row 6 '' "rock: DeviceFault: secret $disk" list secret 512
-    run_row 6 '' 'rock: DeviceFault: secret ' '' secret 512 1 1
+    run_row 6 '' "rock: DeviceFault: secret $disk" '' secret 512 1 1
     # A file that may only be read is served, and nothing is stored.
     served one 512 1 1 <<'END'
 1 get http://a/b|HIT 7 5 68656c6c6f
@@ -445,6 +488,20 @@ if "${as[@]}" true 2>/dev/null; then
 END
     row 0 $'ENTRY 0 7 1 5 http://a/b\n' '' list one 512
     row 6 '' "rock: DeviceFault: closed/db $disk" create closed/db 512 1
+    # Of a file that another user owns counts what its mode gives to others.
+    if [ "$(id -u)" -eq 0 ]; then
+        cp copy theirs && chmod 600 theirs
+        run_row 6 '' "rock: DeviceFault: theirs $disk" '1 get http://a/b' theirs 512 1 1
+        chmod 644 theirs
+        run_row 0 $'1 1 HIT 7 5 68656c6c6f\n1 2 FAULT\n' '' $'1 get http://a/b\n1 put http://a/b =x\n' theirs 512 1 1
+        cmp -s copy theirs
+        holds 'a file of another user that may only be read stays as it was' $?
+        chmod 666 theirs
+        run_row 0 $'1 1 STORED 8\n' '' '1 put http://a/b =x' theirs 512 1 1
+        row 0 $'ENTRY 0 8 1 1 http://a/b\n' '' list theirs 512
+    else
+        skip 'a file of another user: only the superuser can make one'
+    fi
 else
     skip 'permissions: there is no other user to run as'
 fi
@@ -460,6 +517,15 @@ if mount -t tmpfs -o size=64k,nr_inodes=4 tmpfs full 2>/dev/null; then
     [ $? -eq 0 ] && [ ! -s said ] && [ "$(head -n 1 printed)" = '1 1 STORED 1' ] &&
         [ "$(tail -n 1 printed)" = '1 6 FAULT' ]
     holds 'a full disk is the answer FAULT' $?
+    [ "$(./rock list full/db 16384 | wc -l)" -eq "$(grep -c ' STORED ' printed)" ]
+    holds 'what was stored before the disk was full is listed' $?
+    umount full
+    # Room that a file was given before is there, however full the disk is then.
+    mount -t tmpfs -o size=512k tmpfs full && row 0 '' '' create full/db 16384 16 && fallocate -l 278528 full/db
+    yes | head -c 1048576 2>/dev/null >full/rest
+    ./rock run full/db 16384 16 1 >printed 2>said <script
+    [ $? -eq 0 ] && [ ! -s said ] && [ "$(grep -c ' STORED ' printed)" -eq 6 ] && [ "$(stat -f -c %f full)" -eq 0 ]
+    holds 'a file that was given its room meets no full disk' $?
     umount full
 else
     skip 'a full disk under a run: no file system can be mounted here'
@@ -499,13 +565,13 @@ ends 'a closed standard error leaves the status of what is done' 0 closed_error 
 # An output that takes nothing.
 if [ -e /dev/full ]; then
     ./rock list one 512 2>said >/dev/full
-    [ $? -eq 5 ] && [ "$(cat said)" = 'rock: SinkFault: standard output did not take all of the answer' ]
+    [ $? -eq 5 ] && [ "$(cat said)" = "$output" ]
     holds 'a full output is a fault of the sink' $?
     # A run whose output fails has served all lines.
     rm -f new && row 0 '' '' create new 512 4
     printf '1 put http://a/b =x\n' >script
     ./rock run new 512 4 1 2>said >/dev/full <script
-    [ $? -eq 5 ] && [ "$(cat said)" = 'rock: SinkFault: standard output did not take all of the answer' ]
+    [ $? -eq 5 ] && [ "$(cat said)" = "$output" ]
     holds 'a full output is a fault of the sink for a run' $?
     row 0 $'ENTRY 0 1 1 1 http://a/b\n' '' list new 512
     full_output() { ./rock "$@" >/dev/full 2>/dev/null; }
@@ -535,6 +601,21 @@ ends 'a closed output is a fault of the sink for a run' 5 closed_output run one 
 cmp -s one copy
 holds 'answers that find no output are written to no file' $?
 
+# A reader that ends in the middle of the answers, of which each get has 200,000 bytes. All lines were served.
+rm -f new && row 0 '' '' create new 512 512
+{
+    printf '1 put http://a/b #100000:0\n'
+    for number in 1 2 3 4; do printf '1 get http://a/b\n'; done
+    printf '1 put http://a/c =x\n'
+} >script
+(
+    ./rock run new 512 512 1 2>said <script
+    echo $? >ended
+) | head -c 30 >printed
+[ "$(cat ended)" -eq 5 ] && [ "$(cat said)" = "$output" ] && [ "$(cat printed)" = $'1 1 STORED 1\n1 2 HIT 1 100000 ' ]
+holds 'a reader that ends in the middle of a run is a fault of the sink' $?
+row 0 $'slots=512 kept=2 used=213 free=299 version=2\n' '' check new 512 512
+
 # A new file is brought to the disk before it is told as made.
 if command -v strace >/dev/null && strace -o calls true 2>/dev/null; then
     strace -o calls -e trace=ftruncate,fsync,fdatasync ./rock create synced 512 4 2>said
@@ -550,6 +631,8 @@ if command -v strace >/dev/null && strace -o calls true 2>/dev/null; then
 else
     skip 'the sync of a new file and of save: there is no strace that runs here'
 fi
+
+# The rows of bench go here.
 
 # Help: on standard output where it is asked for, behind the line on standard error after a faulty line, and
 # the same whatever the terminal.

@@ -1,5 +1,5 @@
 // Answers are counted, and told in a line.
-ghost use Rattle.std.specs.Prelude.{◌≡◌, ◌<◌, ◌+◌, ◌^◌, sum_by, string_bytes, IfOk};
+ghost use Rattle.std.specs.Prelude.{◌≡◌, ◌+◌, sum_by, string_bytes, IfOk};
 ghost use Rattle.bench_summary.specs.Kinds.{hit_bytes};
 ghost use Rattle.bench_summary.specs.Counts.{count_of, summary_of};
 ghost use Rattle.bench_summary.specs.Text.{first_part, second_part, third_part, last_part, summary_line};
@@ -22,7 +22,7 @@ pub struct Summary {
     /// Answers of any other kind.
     pub other: u64,
     /// How many bytes of bodies the hits gave.
-    pub bytes: u64,
+    pub bytes: u128,
 }
 
 /// How many answers are of a kind.
@@ -33,20 +33,18 @@ fn count_of(kind: Kind, answers: &[Answer]) -> u64
 }
 
 /// How many bytes the hits give.
-fn bytes_of(answers: &[Answer]) -> u64
-    requires { sum_by hit_bytes answers.now < 2 ^ 64 }
+fn bytes_of(answers: &[Answer]) -> u128
     ensures { result ≡ sum_by hit_bytes answers.now }
 {
-    let mut bytes = 0;
+    let mut bytes = 0u128;
     'answers: for answer in answers {
-        bytes += hit_bytes(answer);
+        bytes += u128::from(hit_bytes(answer));
     }
     bytes
 }
 
-/// Counts answers. The bytes of all hits together are counted in 64 bits.
+/// Counts answers. The bytes of all hits together are counted in 128 bits, which suffice for any list of answers.
 pub fn summary_of(answers: &[Answer]) -> Summary
-    requires bytes { sum_by hit_bytes answers.now < 2 ^ 64 }
     ensures counts { result ≡ summary_of answers.now }
     ensures whole { result.requests ≡ result.hits + result.misses + result.stored + result.purged + result.none + result.other }
 {
@@ -87,7 +85,7 @@ fn third_part(alloc: Global, purged: u64, none: u64) -> Result<String, AllocErro
 }
 
 /// The end of the line, with its line feed.
-fn last_part(alloc: Global, other: u64, bytes: u64) -> Result<String, AllocError>
+fn last_part(alloc: Global, other: u64, bytes: u128) -> Result<String, AllocError>
     ensures { IfOk result (λ text. string_bytes text ≡ last_part other bytes) }
 {
     let text = format!(in alloc; " other={other} bytes={bytes}\n")?;

@@ -4,7 +4,7 @@ use Rattle.std.specs.Prelude.{decimal}
 use Rattle.std.specs.Str.{bytes_eq}
 use Rattle.std.proofs.lemmas.Slice.Eq.{bytes_eq-Decides}
 use Rattle.std.proofs.lemmas.Fmt.{decimal_injective}
-use Rattle.rock_commands.specs.CommandLine.{IsName, IsList, IsCheck, IsCreate, IsRun, IsCommandLine}
+use Rattle.rock_commands.specs.CommandLine.{IsName, IsList, IsCheck, IsCreate, IsRun, IsBench, IsCommandLine}
 
 third : {a b c a' b' c' : List ℕ} → a ∷ b ∷ c ∷ [] ≡ a' ∷ b' ∷ c' ∷ [] → (b ≡ b') × (c ≡ c')
 third e = (cc, cc)
@@ -54,6 +54,15 @@ of_each_run words P {name = name} {slot = slot} {anchors = anchors} {workers = w
     subst (λ w. P name' slot' anchors' w) (decimal_injective workers workers' (omega (arith, p.workers_fit)) (omega (arith, q.workers_fit)) parts.3)
     (subst (λ a. P name' slot' a workers) (decimal_injective anchors anchors' (omega (arith, p.anchors_fit)) (omega (arith, q.anchors_fit)) parts.2)
     (subst (λ s. P name' s anchors workers) (decimal_injective slot slot' (omega (arith, p.fits)) (omega (arith, q.fits)) parts.1) (subst (λ n. P n slot anchors workers) parts.0 holds)))
+
+-- and of its seed, workers and rounds
+pub of_each_bench : (words : List (List ℕ)) (P : List ℕ → ℕ → ℕ → ℕ → Type 0) {name : List ℕ} {seed workers count : ℕ} (name' : List ℕ) (seed' workers' count' : ℕ) → IsBench words name seed workers count → IsBench words name' seed' workers' count'
+    → P name seed workers count → P name' seed' workers' count'
+of_each_bench words P {name = name} {seed = seed} {workers = workers} {count = count} name' seed' workers' count' p q holds =
+    let parts = fifth (sym p.words_are ∙ q.words_are) in
+    subst (λ k. P name' seed' workers' k) (decimal_injective count count' (omega (arith, p.count_fit)) (omega (arith, q.count_fit)) parts.3)
+    (subst (λ w. P name' seed' w count) (decimal_injective workers workers' (omega (arith, p.workers_fit)) (omega (arith, q.workers_fit)) parts.2)
+    (subst (λ s. P name' s workers count) (decimal_injective seed seed' (omega (arith, p.fits)) (omega (arith, q.fits)) parts.1) (subst (λ n. P n seed workers count) parts.0 holds)))
 
 -- a line `run` is no line of another command
 pub list_is_no_run : {words : List (List ℕ)} {name name' : List ℕ} {slot slot' anchors workers : ℕ} → IsList words name slot → IsRun words name' slot' anchors workers → ⊥
@@ -118,17 +127,21 @@ no_numbers words first second next last are not (inr (inl k)) =
 no_numbers words first second next last are not (inr (inr (inl k))) =
     let parts = fourth (sym are ∙ k.3.words_are) in
     not k.1 k.2 k.3.fits k.3.slots_fit (subst IsName (sym parts.0) k.3.named) parts.1 parts.2
-no_numbers words first second next last are not (inr (inr (inr r))) = four_are_not_five (sym are ∙ r.4.words_are)
+no_numbers words first second next last are not (inr (inr (inr (inl r)))) = four_are_not_five (sym are ∙ r.4.words_are)
+no_numbers words first second next last are not (inr (inr (inr (inr b)))) = four_are_not_five (sym are ∙ b.4.words_are)
 
--- nor are five where the last four are no name and three numbers
-pub no_run : (words : List (List ℕ)) (first second next then last : List ℕ) → words ≡ first ∷ second ∷ next ∷ then ∷ last ∷ []
-    → ((slot anchors workers : ℕ) → slot < 2 ^ 32 → anchors < 2 ^ 32 → workers < 2 ^ 32 → IsName second → next ≡ decimal slot → then ≡ decimal anchors → last ≡ decimal workers → ⊥) → IsCommandLine words → ⊥
-no_run words first second next then last are not (inl l) = three_are_not_five (sym l.2.words_are ∙ are)
-no_run words first second next then last are not (inr (inl k)) = four_are_not_five (sym k.3.words_are ∙ are)
-no_run words first second next then last are not (inr (inr (inl k))) = four_are_not_five (sym k.3.words_are ∙ are)
-no_run words first second next then last are not (inr (inr (inr r))) =
+-- nor are five where the last two are no numbers
+pub no_two_numbers : (words : List (List ℕ)) (first second next then last : List ℕ) → words ≡ first ∷ second ∷ next ∷ then ∷ last ∷ []
+    → ((a b : ℕ) → a < 2 ^ 32 → b < 2 ^ 32 → then ≡ decimal a → last ≡ decimal b → ⊥) → IsCommandLine words → ⊥
+no_two_numbers words first second next then last are not (inl l) = three_are_not_five (sym l.2.words_are ∙ are)
+no_two_numbers words first second next then last are not (inr (inl k)) = four_are_not_five (sym k.3.words_are ∙ are)
+no_two_numbers words first second next then last are not (inr (inr (inl k))) = four_are_not_five (sym k.3.words_are ∙ are)
+no_two_numbers words first second next then last are not (inr (inr (inr (inl r)))) =
     let parts = fifth (sym are ∙ r.4.words_are) in
-    not r.1 r.2 r.3 r.4.fits r.4.anchors_fit r.4.workers_fit (subst IsName (sym parts.0) r.4.named) parts.1 parts.2 parts.3
+    not r.2 r.3 r.4.anchors_fit r.4.workers_fit parts.2 parts.3
+no_two_numbers words first second next then last are not (inr (inr (inr (inr b)))) =
+    let parts = fifth (sym are ∙ b.4.words_are) in
+    not b.2 b.3 b.4.workers_fit b.4.count_fit parts.2 parts.3
 
 pub found_equal : (a b : List ℕ) → true ≡ bytes_eq a b → a ≡ b
 found_equal a b e = (bytes_eq-Decides a b).0 (sym e)

@@ -1,6 +1,6 @@
 -- What a command line asks for.
 use Rattle.std.specs.Prelude.{ℕ, List}
-use Rattle.rock_commands.specs.CommandLine.{IsList, IsCheck, IsCreate, IsRun}
+use Rattle.rock_commands.specs.CommandLine.{IsList, IsCheck, IsCreate, IsRun, IsBench}
 use Rattle.rock_commands.specs.declared.command.Command.{Command}
 use Rattle.rock_commands.specs.declared.command.Command.TheVariants as command
 
@@ -10,3 +10,4 @@ IsCommand words (command.List target) = IsList words target.name.now target.slot
 IsCommand words (command.Check target anchors) = IsCheck words target.name.now target.slot anchors
 IsCommand words (command.Create target slots) = IsCreate words target.name.now target.slot slots
 IsCommand words (command.Run target anchors workers) = IsRun words target.name.now target.slot anchors workers
+IsCommand words (command.Bench target) = IsBench words target.name.now target.seed target.workers target.count

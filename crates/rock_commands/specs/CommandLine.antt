@@ -38,9 +38,21 @@ pub record IsRun (words : List (List ℕ)) (name : List ℕ) (slot anchors worke
 abbrev pub IsRunLine : List (List ℕ) → Type 0
 IsRunLine words = (name : List ℕ) × (slot anchors workers : ℕ) × IsRun words name slot anchors workers
 
+-- `bench NAME SEED WORKERS COUNT`
+pub record IsBench (words : List (List ℕ)) (name : List ℕ) (seed workers count : ℕ) : Type 0 where
+  pub words_are : words ≡ codes "bench" ∷ name ∷ decimal seed ∷ decimal workers ∷ decimal count ∷ []
+  pub named : IsName name
+  pub fits : seed < 2 ^ 64
+  pub workers_fit : workers < 2 ^ 32
+  pub count_fit : count < 2 ^ 32
+
+-- the words are a line `bench`
+abbrev pub IsBenchLine : List (List ℕ) → Type 0
+IsBenchLine words = (name : List ℕ) × (seed workers count : ℕ) × IsBench words name seed workers count
+
 -- the words are a command line of the table
 abbrev pub IsCommandLine : List (List ℕ) → Type 0
 IsCommandLine words =
     ((name : List ℕ) × (slot : ℕ) × IsList words name slot)
     ⊎ (((name : List ℕ) × (slot anchors : ℕ) × IsCheck words name slot anchors)
-    ⊎ (((name : List ℕ) × (slot slots : ℕ) × IsCreate words name slot slots) ⊎ IsRunLine words))
+    ⊎ (((name : List ℕ) × (slot slots : ℕ) × IsCreate words name slot slots) ⊎ (IsRunLine words ⊎ IsBenchLine words)))

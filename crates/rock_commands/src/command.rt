@@ -1,8 +1,9 @@
 // The command line, by the product's own table.
-ghost use Rattle.std.specs.Prelude.{◌≡◌, ◌⊎◌, ℕ, List, ◌^◌, ◌<◌, ◌↔◌, Some, None, IsTrue, IsSome, IfSome, MatchOption, codes, decimal};
+ghost use Rattle.std.specs.Prelude.{◌≡◌, ◌⊎◌, ℕ, List, [], ◌∷◌, ◌^◌, ◌<◌, ◌↔◌, Some, None, IsTrue, IsSome, IfSome, MatchOption, codes, decimal};
 ghost use Rattle.rock_commands.specs.CommandLine.{IsName, IsCommandLine};
 ghost use Rattle.rock_commands.specs.Command.{IsCommand};
 
+use bench_command::BenchTarget;
 use itoa::Buffer;
 use rock_io::Words;
 
@@ -37,6 +38,10 @@ pub enum Command<'a> {
         anchors: u32,
         workers: u32,
     },
+    /// `bench NAME SEED WORKERS COUNT`: run the script of a benchmark over a new file.
+    Bench {
+        target: BenchTarget<'a>,
+    },
 }
 
 impl<'a> Command<'a> {
@@ -53,10 +58,16 @@ impl<'a> Command<'a> {
                 let target = Target::parse(name.as_str(), slot.as_str())?;
                 Command::of_four(command.as_str(), target, number(count.as_str())?)
             }
-            [command, name, slot, anchors, workers] => {
-                let target = Target::parse(name.as_str(), slot.as_str())?;
-                let anchors = number(anchors.as_str())?;
-                Command::of_five(command.as_str(), target, anchors, number(workers.as_str())?)
+            [command, name, first, second, third] => {
+                let second = number(second.as_str())?;
+                let third = number(third.as_str())?;
+                Command::of_five(
+                    command.as_str(),
+                    name.as_str(),
+                    first.as_str(),
+                    second,
+                    third,
+                )
             }
             _ => None,
         }
@@ -83,21 +94,49 @@ impl<'a> Command<'a> {
         }
     }
 
-    /// The command of five words: its own, what it is about, and two numbers.
-    fn of_five(command: &str, target: Target<'a>, anchors: u32, workers: u32) -> Option<Command<'a>>
-        ensures run { command.now ≡ codes "run" → result ≡ Some (Command.Run target.entry anchors workers) }
-        ensures only { IsSome result → command.now ≡ codes "run" }
+    /// The command of five words: its own, the name of a file, a word that is to be a number, and two numbers.
+    fn of_five(
+        command: &str,
+        name: &'a str,
+        first: &str,
+        second: u32,
+        third: u32,
+    ) -> Option<Command<'a>>
+        ensures { MatchOption result
+            (IsCommandLine (command.now ∷ name.now ∷ first.now ∷ decimal second ∷ decimal third ∷ []) → ⊥)
+            (IsCommand (command.now ∷ name.now ∷ first.now ∷ decimal second ∷ decimal third ∷ [])) }
     {
         if command == "run" {
             Some(Command::Run {
-                target,
-                anchors,
-                workers,
+                target: Target::parse(name, first)?,
+                anchors: second,
+                workers: third,
+            })
+        } else if command == "bench" {
+            Some(Command::Bench {
+                target: bench_target(name, first, second, third)?,
             })
         } else {
             None
         }
     }
+}
+
+/// Reads the name of a benchmark's file, and the number that its script is made from.
+fn bench_target<'a>(name: &'a str, seed: &str, workers: u32, count: u32) -> Option<BenchTarget<'a>>
+    ensures some { IfSome result (λ t. IsName name.now × (t.name.now ≡ name.now) × (seed.now ≡ decimal t.seed)
+        × (t.seed < 2 ^ 64) × (t.workers ≡ workers) × (t.count ≡ count)) }
+    ensures none { (n : ℕ) → n < 2 ^ 64 → IsName name.now → seed.now ≡ decimal n → result ≡ None → ⊥ }
+{
+    if !is_name(name) {
+        return None;
+    }
+    Some(BenchTarget {
+        name,
+        seed: long_number(seed)?,
+        workers,
+        count,
+    })
 }
 
 impl<'a> Target<'a> {
@@ -127,12 +166,24 @@ fn is_name(word: &str) -> bool
     }
 }
 
-/// A number is decimal digits with no sign, and no leading zero unless it is `0`.
+/// A number of 32 bits.
 fn number(word: &str) -> Option<u32>
     ensures some { IfSome result (λ n. word.now ≡ decimal n) }
     ensures none { (n : ℕ) → n < 2 ^ 32 → word.now ≡ decimal n → result ≡ Some n }
 {
-    let Ok(number) = word.parse::<u32>() else {
+    let number = long_number(word)?;
+    if number > u64::from(u32::MAX) {
+        return None;
+    }
+    Some(number as u32)
+}
+
+/// A number is decimal digits with no sign, and no leading zero unless it is `0`.
+fn long_number(word: &str) -> Option<u64>
+    ensures some { IfSome result (λ n. word.now ≡ decimal n) }
+    ensures none { (n : ℕ) → n < 2 ^ 64 → word.now ≡ decimal n → result ≡ Some n }
+{
+    let Ok(number) = word.parse::<u64>() else {
         return None;
     };
     let mut buffer = Buffer::new();

@@ -3,9 +3,9 @@ ghost use Rattle.std.specs.Prelude.{◌≡◌, ℕ, List, ◌≤◌, IsTrue, ◌
 ghost use Rattle.rock_io.specs.Faults.{Rose};
 ghost use Rattle.rock_disk.specs.File.{NoneAway, IsKept, HaveSameBytes};
 ghost use Rattle.rock_open.specs.Device.{counts};
-ghost use Rattle.rock_run.specs.Device.{EachEnded, NoneFailed};
+ghost use Rattle.rock_run.specs.Device.{EachEnded, HasFailed, NoneFailed};
 ghost use Rattle.script_text.specs.Script.{IsTakenFrom};
-ghost use Rattle.rock_commands.specs.CommandLine.{IsList, IsCheck, IsCreate, IsRun, IsRunLine, IsCommandLine};
+ghost use Rattle.rock_commands.specs.CommandLine.{IsList, IsCheck, IsCreate, IsRun, IsRunLine, IsBench, IsBenchLine, IsCommandLine};
 ghost use Rattle.file_commands.specs.Create.{CreateEnds, CreateSays, IsCreateRefused, CreateLeaves, MayCreate};
 ghost use Rattle.file_commands.specs.Device.{EndedOne, NoFault, DeviceKept};
 ghost use Rattle.file_commands.specs.Listing.{Lists};
@@ -15,8 +15,14 @@ ghost use Rattle.run_command.specs.Ends.{NoFault as NoRunFault, RunEnds, RunsOrL
 ghost use Rattle.run_command.specs.Leaves.{RunLeaves};
 ghost use Rattle.run_command.specs.Prints.{IsRunText, RunPrints};
 ghost use Rattle.run_command.specs.Says.{IsRunRefused, MayRun, RunSays};
+ghost use Rattle.workload.specs.Script.{bench_lines};
+ghost use Rattle.bench_command.specs.Ends.{BenchEnds, BenchSays, IsBenchRefused};
+ghost use Rattle.bench_command.specs.Leaves.{BenchLeaves};
+ghost use Rattle.bench_command.specs.Numbers.{MayBench};
+ghost use Rattle.bench_command.specs.Prints.{IsBenchText};
 
 use crate::command::Command;
+use bench_command::bench_command;
 use file_commands::{Report, create_file, print_report};
 use rock_disk::{Volume, created_files_are_in, kept_files_have_their_bytes};
 use rock_io::{Sink, Source, Words};
@@ -38,7 +44,11 @@ use std::thread::Threads;
 /// `run NAME SLOT ANCHORS WORKERS` reads the script to its end, opens the file NAME as a store with ANCHORS
 /// anchors, and lets workers 1 to WORKERS serve their lines on threads. Then it closes the store, gives the
 /// cells back to the file, and prints a line for each line of the script, worker by worker. It alone reads the
-/// script, starts threads and waits.
+/// script.
+///
+/// `bench NAME SEED WORKERS COUNT` makes the file NAME with 64 slots of 512 bytes for each worker, runs the script of a
+/// benchmark over it, which is made from SEED and has COUNT rounds, and prints the one line
+/// `bench requests=R hits=H misses=M stored=T purged=P none=N other=O bytes=B`. It and `run` start threads and wait.
 pub fn rock<R: Threads + Wait + Sync, V: Volume, S: Source, K: Sink>(
     rt: &R,
     alloc: Global,
@@ -177,15 +187,51 @@ where
         (counts (V.faults volume.old) (V.made volume.old) (V.ended volume.old))
         (counts (V.faults volume.new) (V.made volume.new) (V.ended volume.new)) }
 
+    // `bench NAME SEED WORKERS COUNT` makes a file of 64 slots of 512 bytes for each worker, runs the script of a
+    // benchmark over it by so many workers, and prints the line that sums up what they were answered. It is
+    // refused by a number, and by the name, in this order.
+    ensures bench_ends { (name : List ℕ) (seed workers count : ℕ) → IsBench words.now name seed workers count
+        → BenchEnds workers count (K.faults out.old) (K.faults out.new)
+        (counts (V.faults volume.old) (V.made volume.old) (V.ended volume.old))
+        (counts (V.faults volume.new) (V.made volume.new) (V.ended volume.new)) result }
+    ensures bench_says { (name : List ℕ) (seed workers count : ℕ) → IsBench words.now name seed workers count
+        → IsTrue V.tells → BenchSays (V.files volume.old) name result }
+    ensures bench_refused { (name : List ℕ) (seed workers count : ℕ) → IsBench words.now name seed workers count
+        → IsBenchRefused V.tells (V.files volume.old) name workers count result }
+    ensures bench_complete { (name : List ℕ) (seed workers count : ℕ) → IsBench words.now name seed workers count
+        → IsTrue V.tells → MayBench (V.files volume.old) name workers count
+        → ¬ Rose (K.faults out.old) (K.faults out.new)
+        → ¬ HasFailed
+        (counts (V.faults volume.old) (V.made volume.old) (V.ended volume.old))
+        (counts (V.faults volume.new) (V.made volume.new) (V.ended volume.new))
+        → ReportsOrLacksMemory result }
+    ensures bench_prints { (name : List ℕ) (seed workers count : ℕ) → IsBench words.now name seed workers count
+        → IsTrue K.tells → ReportPrints (IsBenchText V.tells V.C.tells V.C.state V.St.faults
+        (V.files volume.old) (V.files volume.new) name seed workers count
+        (counts (V.faults volume.old) (V.made volume.old) (V.ended volume.old))
+        (counts (V.faults volume.new) (V.made volume.new) (V.ended volume.new)))
+        (K.taken out.old) (K.taken out.new) result }
+    ensures bench_leaves { (name : List ℕ) (seed workers count : ℕ) → IsBench words.now name seed workers count
+        → BenchLeaves V.tells V.C.tells V.C.state (V.files volume.old) (V.files volume.new)
+        name workers (bench_lines seed workers count) result }
+
+    // Its stations are those of its run, and so is what a fault of the disk shows.
+    ensures bench_stations { IsBenchLine words.now → EachEnded
+        (counts (V.faults volume.old) (V.made volume.old) (V.ended volume.old))
+        (counts (V.faults volume.new) (V.made volume.new) (V.ended volume.new)) }
+    ensures bench_unfailed { IsBenchLine words.now → (result ≡ Status.DeviceFault → ⊥) → NoneFailed
+        (counts (V.faults volume.old) (V.made volume.old) (V.ended volume.old))
+        (counts (V.faults volume.new) (V.made volume.new) (V.ended volume.new)) }
+
     // No other command makes more than one station, which is ended, and at any status but that of a fault of
     // the disk was ended with none.
-    ensures ended { ¬ IsRunLine words.now → EndedOne (V.made volume.old) (V.made volume.new)
+    ensures ended { ¬ IsRunLine words.now → ¬ IsBenchLine words.now → EndedOne (V.made volume.old) (V.made volume.new)
         (V.ended volume.old) (V.ended volume.new) }
-    ensures device_unfailed { ¬ IsRunLine words.now → (result ≡ Status.DeviceFault → ⊥)
+    ensures device_unfailed { ¬ IsRunLine words.now → ¬ IsBenchLine words.now → (result ≡ Status.DeviceFault → ⊥)
         → DeviceKept (V.faults volume.old) (V.faults volume.new)
         (V.ended volume.old) (V.ended volume.new) }
 
-    // Nor does another read the script.
+    // No other command than `run` reads the script.
     ensures script { ¬ IsRunLine words.now → S.left script.new ≡ S.left script.old }
     ensures script_faults { ¬ IsRunLine words.now → S.faults script.new ≡ S.faults script.old }
 
@@ -232,5 +278,6 @@ where
             };
             run_command(rt, alloc, volume, script, out, &run)
         }
+        Command::Bench { target } => bench_command(rt, alloc, volume, out, &target),
     }
 }

@@ -11,7 +11,8 @@ const USAGE: &str = "\
 rock create <NAME> <SLOT> <SLOTS>
        rock list <NAME> <SLOT>
        rock check <NAME> <SLOT> <ANCHORS>
-       rock run <NAME> <SLOT> <ANCHORS> <WORKERS>";
+       rock run <NAME> <SLOT> <ANCHORS> <WORKERS>
+       rock bench <NAME> <SEED> <WORKERS> <COUNT>";
 
 /// What stands behind the lists of commands and words.
 const NOTES: &str = "\
@@ -20,11 +21,14 @@ Example:
   rock list cache.db 16384
   rock check cache.db 16384 1024
   rock run cache.db 16384 1024 1 < script
+  rock bench bench.db 7 1 10000
 
 Output:
   list   ENTRY first-slot version slots body-bytes URL
   check  slots=S kept=K used=U free=F version=G
   run    worker line answer, for each line of the script
+  bench  bench requests=R hits=H misses=M stored=T purged=P none=N other=O
+         bytes=B, in one line
 
 A number is decimal, without a sign or a leading zero. A command that does not
 end well says why in one line on standard error. Exit status:
@@ -50,6 +54,9 @@ fn with_commands<'a>(alloc: Global) -> Result<Command<'a>, AllocError> {
     let run = Command::new(alloc, "run").about(
         "Serve a script from standard input on a file, and print its answers",
     );
+    let bench = Command::new(alloc, "bench").about(
+        "Serve a made script on a new file, and count its answers in one line",
+    );
     Command::new(alloc, "rock")
         .about("The store of a caching proxy in one database file")
         .override_usage(USAGE)
@@ -59,7 +66,8 @@ fn with_commands<'a>(alloc: Global) -> Result<Command<'a>, AllocError> {
         .subcommand(create)?
         .subcommand(list)?
         .subcommand(check)?
-        .subcommand(run)
+        .subcommand(run)?
+        .subcommand(bench)
 }
 
 /// The words of the commands, and those that stand alone.
@@ -79,6 +87,11 @@ fn with_words<'a>(alloc: Global, command: Command<'a>) -> Result<Command<'a>, Al
             "WORKERS",
             "The workers of the script, each with a thread, from 1 to 32",
         ),
+        (
+            "SEED",
+            "The number that the script of a benchmark is made from",
+        ),
+        ("COUNT", "The rounds of a benchmark, at most 10000"),
     ];
     let mut command = command;
     for (word, help) in words {

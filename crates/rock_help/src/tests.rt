@@ -8,12 +8,14 @@ Usage: rock create <NAME> <SLOT> <SLOTS>
        rock list <NAME> <SLOT>
        rock check <NAME> <SLOT> <ANCHORS>
        rock run <NAME> <SLOT> <ANCHORS> <WORKERS>
+       rock bench <NAME> <SEED> <WORKERS> <COUNT>
 
 Commands:
   create  Make a file of empty slots
   list    Print a line for each complete entry of a file
   check   Print one line on what a store keeps of a file
   run     Serve a script from standard input on a file, and print its answers
+  bench   Serve a made script on a new file, and count its answers in one line
 
 Arguments:
   <NAME>     The file; its name does not begin with -
@@ -21,6 +23,8 @@ Arguments:
   <SLOTS>    The slots of a new file, from 1 to 1048576
   <ANCHORS>  The anchors of a store, from 1 to the slots of the file
   <WORKERS>  The workers of the script, each with a thread, from 1 to 32
+  <SEED>     The number that the script of a benchmark is made from
+  <COUNT>    The rounds of a benchmark, at most 10000
 
 Options:
       --help     Print this text
@@ -31,11 +35,14 @@ Example:
   rock list cache.db 16384
   rock check cache.db 16384 1024
   rock run cache.db 16384 1024 1 < script
+  rock bench bench.db 7 1 10000
 
 Output:
   list   ENTRY first-slot version slots body-bytes URL
   check  slots=S kept=K used=U free=F version=G
   run    worker line answer, for each line of the script
+  bench  bench requests=R hits=H misses=M stored=T purged=P none=N other=O
+         bytes=B, in one line
 
 A number is decimal, without a sign or a leading zero. A command that does not
 end well says why in one line on standard error. Exit status:

@@ -9,8 +9,10 @@ pub struct Asked<'a> {
     pub slot: &'a str,
     /// The anchors of `check` and `run`, or the slots of `create`.
     pub count: &'a str,
-    /// The workers of `run`.
+    /// The workers of `run` and `bench`.
     pub workers: &'a str,
+    /// The rounds of `bench`; none for other commands.
+    pub rounds: Option<&'a str>,
 }
 
 impl Asked<'static> {
@@ -20,6 +22,7 @@ impl Asked<'static> {
         slot: "",
         count: "",
         workers: "",
+        rounds: None,
     };
 }
 
@@ -57,10 +60,13 @@ pub fn explanation(
             "the number of workers {} is not from 1 to 32",
             asked.workers
         ),
-        Status::BadGeometry { field: 4 } => format!(in alloc;
-            "the number of slots {} is not from 1 to 1048576",
-            asked.count
-        ),
+        Status::BadGeometry { field: 4 } => match asked.rounds {
+            Some(rounds) => format!(in alloc; "the number of rounds {rounds} is above 10000"),
+            None => format!(in alloc;
+                "the number of slots {} is not from 1 to 1048576",
+                asked.count
+            ),
+        },
         Status::BadGeometry { .. } => format!(in alloc;
             "the slot size {} is no multiple of 512 from 512 to 32768",
             asked.slot

@@ -4,7 +4,7 @@ ghost use Rattle.std.specs.Process.{exit_status};
 ghost use Rattle.rock_disk.specs.File.{NoneAway};
 ghost use Rattle.rock_io.specs.Faults.{Rose};
 ghost use Rattle.rock_open.specs.Device.{counts};
-ghost use Rattle.rock_commands.specs.CommandLine.{IsList, IsCheck, IsCreate, IsRun, IsCommandLine};
+ghost use Rattle.rock_commands.specs.CommandLine.{IsList, IsCheck, IsCreate, IsRun, IsBench, IsCommandLine};
 ghost use Rattle.file_commands.specs.Create.{CreateEnds, CreateSays, IsCreateRefused, CreateLeaves};
 ghost use Rattle.rock_main.specs.Ending.{EndsFor};
 ghost use Rattle.file_commands.specs.Listing.{Lists};
@@ -15,6 +15,10 @@ ghost use Rattle.run_command.specs.Ends.{RunEnds};
 ghost use Rattle.run_command.specs.Leaves.{RunLeaves};
 ghost use Rattle.run_command.specs.Prints.{IsRunText, RunPrints};
 ghost use Rattle.run_command.specs.Says.{IsRunRefused, RunSays};
+ghost use Rattle.workload.specs.Script.{bench_lines};
+ghost use Rattle.bench_command.specs.Ends.{BenchEnds, BenchSays, IsBenchRefused};
+ghost use Rattle.bench_command.specs.Leaves.{BenchLeaves};
+ghost use Rattle.bench_command.specs.Prints.{IsBenchText};
 
 use crate::message::{Asked, explanation};
 use rock_commands::rock;
@@ -88,15 +92,41 @@ where
         (K.taken out.old) (K.taken out.new) status)
         × RunLeaves S.tells V.tells V.C.tells V.C.state (S.left script.old) (S.left script.new)
         (V.files volume.old) (V.files volume.new) name slot anchors workers status) (exit_status result) }
+    ensures bench { (name : List ℕ) (seed workers count : ℕ) → IsBench words.now name seed workers count → EndsFor (λ status.
+        BenchEnds workers count (K.faults out.old) (K.faults out.new)
+        (counts (V.faults volume.old) (V.made volume.old) (V.ended volume.old))
+        (counts (V.faults volume.new) (V.made volume.new) (V.ended volume.new)) status
+        × (IsTrue V.tells → BenchSays (V.files volume.old) name status)
+        × IsBenchRefused V.tells (V.files volume.old) name workers count status
+        × (IsTrue K.tells → ReportPrints (IsBenchText V.tells V.C.tells V.C.state V.St.faults
+        (V.files volume.old) (V.files volume.new) name seed workers count
+        (counts (V.faults volume.old) (V.made volume.old) (V.ended volume.old))
+        (counts (V.faults volume.new) (V.made volume.new) (V.ended volume.new)))
+        (K.taken out.old) (K.taken out.new) status)
+        × BenchLeaves V.tells V.C.tells V.C.state (V.files volume.old) (V.files volume.new)
+        name workers (bench_lines seed workers count) status) (exit_status result) }
 {
     let status = rock(rt, alloc, words, volume, script, out);
-    let asked = Asked {
+    end(rt, alloc, &status, &asked_by(words))
+}
+
+/// The words of a command line by what they say.
+fn asked_by(words: &Words) -> Asked<'_> {
+    if word_at(words, 0) == "bench" {
+        return Asked {
+            name: word_at(words, 1),
+            workers: word_at(words, 3),
+            rounds: Some(word_at(words, 4)),
+            ..Asked::NOTHING
+        };
+    }
+    Asked {
         name: word_at(words, 1),
         slot: word_at(words, 2),
         count: word_at(words, 3),
         workers: word_at(words, 4),
-    };
-    end(rt, alloc, &status, &asked)
+        rounds: None,
+    }
 }
 
 fn word_at(words: &Words, place: usize) -> &str {

@@ -8,6 +8,7 @@ const ASKED: Asked<'static> = Asked {
     slot: "500",
     count: "7",
     workers: "33",
+    rounds: None,
 };
 
 #[test]
@@ -71,6 +72,19 @@ fn each_status_is_told_with_its_numbers(rt: HostRuntime) -> Result<(), Fail> {
         assert_eq!(rt; format!(in alloc; "{status}")?.as_str(), name);
         assert_eq!(rt; explanation(alloc, &status, &ASKED)?.as_str(), sentence);
     }
+    Ok(())
+}
+
+#[test]
+fn too_many_rounds_are_told(rt: HostRuntime) -> Result<(), Fail> {
+    let asked = Asked {
+        rounds: Some("10001"),
+        ..ASKED
+    };
+    assert_eq!(rt;
+        explanation(rt.alloc(), &Status::BadGeometry { field: 4 }, &asked)?.as_str(),
+        "the number of rounds 10001 is above 10000"
+    );
     Ok(())
 }
 

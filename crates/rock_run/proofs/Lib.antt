@@ -1,3 +1,4 @@
+pub mod Asking
 pub mod Accounts
 pub mod Back
 pub mod Opened

@@ -1,3 +1,5 @@
+pub mod Faults
+pub mod Scripts
 pub mod Device
 pub mod Crews
 pub mod Runs

@@ -3,10 +3,14 @@
 #![tactic(auto)]
 
 mod crew;
+mod faults;
+mod laws;
 mod run;
 mod serving;
 mod stations;
 
+pub use faults::status_of_run;
+pub use laws::read_scripts_may_be_served;
 pub use run::run_script;
 
 #[cfg(test)]

@@ -1,10 +1,9 @@
 // A script is run over a file.
-ghost use Rattle.std.specs.Prelude.{All, IfErr, IfOk, IsErr, IsErrOf, IsTrue, List, None, [], map, vec_len, ◌+◌, ◌≡◌, ◌≤◌, ℕ};
+ghost use Rattle.std.specs.Prelude.{All, IfErr, IfOk, IsErr, IsErrOf, IsTrue, None, [], map, vec_len, ◌+◌, ◌≡◌, ◌≤◌, ℕ};
 ghost use Rattle.std.specs.FinMap.{get};
 ghost use Rattle.db_layout.specs.Layout.{IsSlotSize};
 ghost use Rattle.rock_disk.specs.File.{IsKept, IsNotAway, IsThere, NoneAway};
 ghost use Rattle.rock_disk.specs.Opened.{IsSmall};
-ghost use Rattle.script_text.specs.Script.{IsScript};
 ghost use Rattle.store_rule.specs.Passes.{AreNumbered, IsNewOf, basis};
 ghost use Rattle.rock_open.specs.Device.{NoStation, counts};
 ghost use Rattle.rock_open.specs.Opening.{FileSays, HasSlots, IsAnchors, IsPasses};
@@ -12,6 +11,7 @@ ghost use Rattle.script_origin.specs.Offered.{offers_of};
 ghost use Rattle.rock_run.specs.Crews.{MayRest};
 ghost use Rattle.rock_run.specs.Device.{EachEnded, NoneFailed, RunEnds, ServingEnds};
 ghost use Rattle.rock_run.specs.Runs.{HasClosed, HasRun, HasServed, RefusalLeaves};
+ghost use Rattle.rock_run.specs.Scripts.{MayBeServed};
 
 use crate::serving::serve;
 use crate::stations::{end_stations, make_stations};
@@ -49,7 +49,7 @@ where
     requires count { (1 ≤ vec_len passes.old) × (vec_len passes.old ≤ 32) }
     requires empty { stations.old.items ≡ [] }
     requires offers { (basis V.C.tells V.C.state offers_of store.now).offers ≡ offers_of script.now.lines }
-    requires read { (text : List ℕ) × IsScript (vec_len passes.old) text script.now.lines }
+    requires lines { MayBeServed (vec_len passes.old) script.now.lines }
     ensures played { IfOk result (λ answers. HasServed V.C.tells V.C.state offers_of V.St.faults store.now script.now.lines
         passes.old.items passes.new.items stations.new.items (map (λ each. each.items) answers.items)) }
     ensures refused { IfErr result (ServingEnds (V.faults volume.old) (V.faults volume.new)) }
@@ -104,7 +104,7 @@ pub fn run_script<R: Threads + Wait + Sync, V: Volume>(
 where
     V::St: Send,
     requires home { IsTrue V.tells → IsNotAway (get (V.files volume.old) name.now) }
-    requires read { (text : List ℕ) × IsScript workers text script.now.lines }
+    requires lines { MayBeServed workers script.now.lines }
 
     ensures ran { IfOk result (λ answers. HasRun V.tells V.C.tells V.C.state (V.files volume.old) (V.files volume.new)
         name.now slot anchors workers script.now.lines V.St.faults (map (λ each. each.items) answers.items)

@@ -1,10 +1,10 @@
 // Workers serve a script on a store, each with a pass and a station.
-ghost use Rattle.std.specs.Prelude.{All, IfOk, List, map, vec_capacity, vec_len, ◌≡◌, ◌≤◌, ℕ};
-ghost use Rattle.script_text.specs.Script.{IsScript};
+ghost use Rattle.std.specs.Prelude.{All, IfOk, map, vec_capacity, vec_len, ◌≡◌, ◌≤◌};
 ghost use Rattle.store_rule.specs.Passes.{AreNumbered, IsNewOf, basis};
 ghost use Rattle.script_origin.specs.Offered.{offers_of};
 ghost use Rattle.rock_run.specs.Crews.{MayRest};
 ghost use Rattle.rock_run.specs.Runs.{HasPlayed};
+ghost use Rattle.rock_run.specs.Scripts.{MayBeServed};
 
 use crate::crew::{dismiss, hire, make_rooms};
 use rock_disk::{Cell, Station};
@@ -15,7 +15,7 @@ use std::alloc::Global;
 use std::sync::Wait;
 use std::thread::Threads;
 use store_rule::{Pass, Store};
-use worker_pool::{OpenGate, Ran, run_workers, scripts_may_be_run};
+use worker_pool::{OpenGate, Ran, run_workers};
 
 /// Serves a script, whose origin the store has, by as many workers as there are passes. Passes and stations are there again
 /// afterwards, in their order.
@@ -37,14 +37,13 @@ pub(crate) fn serve<R: Threads + Wait + Sync, C: Cell + Send, St: Station<C = C>
     requires count { (1 ≤ vec_len passes.old) × (vec_len passes.old ≤ 32) }
     requires stations { vec_len stations.old ≡ vec_len passes.old }
     requires offers { (basis C.tells C.state offers_of store.now).offers ≡ offers_of script.now.lines }
-    requires read { (text : List ℕ) × IsScript (vec_len passes.old) text script.now.lines }
+    requires lines { MayBeServed (vec_len passes.old) script.now.lines }
     ensures played { IfOk result (λ answers. HasPlayed C.tells C.state offers_of St.faults store.now script.now.lines
         passes.old.items stations.old.items passes.new.items stations.new.items (map (λ each. each.items) answers.items)) }
     ensures rest { All (MayRest C.tells C.state offers_of store.now) passes.new.items }
     ensures numbered { AreNumbered passes.new.items }
     ensures count { (vec_len passes.new ≡ vec_len passes.old) × (vec_len stations.new ≡ vec_len stations.old) }
 {
-    scripts_may_be_run();
     script_lines_may_be_asked::<C, ScriptOrigin>();
     let count = passes.len();
     let rooms = make_rooms(alloc, store.slot_size(), count)?;

@@ -1,9 +1,9 @@
-ghost use Rattle.std.specs.Prelude.{IfOk, List, vec_len, ◌≡◌, ◌≤◌, ℕ};
+ghost use Rattle.std.specs.Prelude.{IfOk, ◌≤◌};
 ghost use Rattle.rock_disk.specs.File.{NoneAway};
 ghost use Rattle.rock_disk.specs.Memory.{volume_files};
-ghost use Rattle.script_text.specs.Script.{IsScript};
+ghost use Rattle.rock_run.specs.Scripts.{MayBeServed};
 
-use crate::run::run_script;
+use crate::{read_scripts_may_be_served, run_script};
 use answer_text::answer_line;
 use rock_disk::MemVolume;
 use rock_io::{MemSource, Memory};
@@ -22,11 +22,13 @@ type Asked = (u32, u32, u32);
 
 /// A script that was read for so many workers.
 fn script_of(alloc: Global, text: &[u8], workers: u32) -> Result<Script, ScriptFault>
-    ensures { IfOk result (λ script. (read : List ℕ) × IsScript workers read script.lines) }
+    ensures { IfOk result (λ script. MayBeServed workers script.lines) }
 {
+    read_scripts_may_be_served();
     let bytes = text.to_vec(alloc).map_err(Memory::from)?;
     let mut source = MemSource::new(bytes, 4096, Vec::new(alloc));
-    read_script(alloc, &mut source, workers)
+    let script = read_script(alloc, &mut source, workers)?;
+    Ok(script)
 }
 
 /// A volume with a file `db` of zeros, of a header area and so many bytes behind it. Its listed calls fail, and those of

@@ -11,12 +11,12 @@ use Rattle.rock_open.specs.declared.fault.OpenStoreFault.TheVariants.{BadGeometr
 use Rattle.rock_open.specs.Device.{Counts, NoStation}
 use Rattle.rock_open.specs.Opening.{FileSays as OpeningSays, HasSlots, IsAnchors, IsPasses}
 use Rattle.rock_run.specs.Device.{RunEnds as RefusalEnds}
+use Rattle.rock_run.specs.Faults.{status_of_run}
 use Rattle.rock_run.specs.Runs.{HasClosed, RefusalLeaves}
 use Rattle.rock_status.specs.declared.status.Status.{Status}
 use Rattle.rock_status.specs.declared.status.Status.TheVariants as status
 use Rattle.script_text.specs.Script.{GivesScript, IsBadScript}
 use Rattle.script_text.specs.declared.line.Line.{Line}
-use Rattle.run_command.specs.Faults.{status_of_run}
 use Rattle.run_command.specs.Leaves.{LeavesKept, RunLeaves}
 use Rattle.run_command.specs.Says.{IsRunRefused, OrUnread}
 use Rattle.run_command.proofs.Filed.{lacks_no_file, not_short}

@@ -1,10 +1,8 @@
 -- How the command ends at a fault of one of its parts.
 use Rattle.answer_printer.specs.declared.print.PrintFault.{PrintFault}
 use Rattle.answer_printer.specs.declared.print.PrintFault.TheVariants as printing
-use Rattle.rock_open.specs.declared.fault.OpenStoreFault.{OpenStoreFault}
-use Rattle.rock_open.specs.declared.fault.OpenStoreFault.TheVariants as running
 use Rattle.rock_status.specs.declared.status.Status.{Status}
-use Rattle.rock_status.specs.declared.status.Status.TheVariants.{BadGeometry, BadScript, DeviceFault, Memory, Missing, SinkFault, Small, SourceFault}
+use Rattle.rock_status.specs.declared.status.Status.TheVariants.{BadScript, Memory, SinkFault, SourceFault}
 use Rattle.script_text.specs.declared.fault.ScriptFault.{ScriptFault}
 use Rattle.script_text.specs.declared.fault.ScriptFault.TheVariants as reading
 
@@ -13,14 +11,6 @@ abbrev pub status_of_script : ScriptFault → Status
 status_of_script (reading.BadLine line cause) = BadScript line cause
 status_of_script reading.Failed = SourceFault
 status_of_script reading.Memory = Memory
-
--- where it was not run
-abbrev pub status_of_run : OpenStoreFault → Status
-status_of_run (running.BadGeometry field) = BadGeometry field
-status_of_run running.Missing = Missing
-status_of_run (running.Small bytes) = Small bytes
-status_of_run running.Failed = DeviceFault
-status_of_run running.Memory = Memory
 
 -- where its answers were not printed
 abbrev pub status_of_print : PrintFault → Status

@@ -11,11 +11,11 @@ ghost use Rattle.run_command.specs.Leaves.{RunLeaves};
 ghost use Rattle.run_command.specs.Prints.{IsRunText, PrintEnds, RunPrints};
 ghost use Rattle.run_command.specs.Says.{IsRunRefused, MayRun, RunSays};
 
-use crate::faults::{of_print, of_run, of_script};
+use crate::faults::{of_print, of_script};
 use answer_printer::print_answers;
 use rock_disk::Volume;
 use rock_io::{Sink, Source};
-use rock_run::run_script;
+use rock_run::{read_scripts_may_be_served, run_script, status_of_run};
 use rock_status::Status;
 use run_rules::runs_keep_the_rules;
 use script_text::{Answer, read_script};
@@ -120,6 +120,7 @@ where
         (counts (V.faults volume.old) (V.made volume.old) (V.ended volume.old))
         (counts (V.faults volume.new) (V.made volume.new) (V.ended volume.new)) }
 {
+    read_scripts_may_be_served();
     runs_keep_the_rules::<V::C, V::St>();
     let RunTarget {
         name,
@@ -133,6 +134,6 @@ where
     };
     match run_script(rt, alloc, volume, name, slot, anchors, workers, &lines) {
         Ok(answers) => print(alloc, out, &answers),
-        Err(fault) => of_run(fault),
+        Err(fault) => status_of_run(fault),
     }
 }

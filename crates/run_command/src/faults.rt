@@ -1,9 +1,8 @@
 // How the command ends at a fault of one of its parts.
 ghost use Rattle.std.specs.Prelude.{◌≡◌};
-ghost use Rattle.run_command.specs.Faults.{status_of_print, status_of_run, status_of_script};
+ghost use Rattle.run_command.specs.Faults.{status_of_print, status_of_script};
 
 use answer_printer::PrintFault;
-use rock_open::OpenStoreFault;
 use rock_status::Status;
 use script_text::ScriptFault;
 
@@ -14,18 +13,6 @@ pub(crate) fn of_script(fault: ScriptFault) -> Status
         ScriptFault::BadLine { line, cause } => Status::BadScript { line, cause },
         ScriptFault::Failed => Status::SourceFault,
         ScriptFault::Memory => Status::Memory,
-    }
-}
-
-pub(crate) fn of_run(fault: OpenStoreFault) -> Status
-    ensures { result ≡ status_of_run fault }
-{
-    match fault {
-        OpenStoreFault::BadGeometry { field } => Status::BadGeometry { field },
-        OpenStoreFault::Missing => Status::Missing,
-        OpenStoreFault::Small { bytes } => Status::Small { bytes },
-        OpenStoreFault::Failed => Status::DeviceFault,
-        OpenStoreFault::Memory => Status::Memory,
     }
 }
 

@@ -61,4 +61,4 @@ module _ {C O : Type 0} (tells : Bool) (state : C → CellState) (offers : O →
 -- where no entry was begun, the place where the next search for an entry to evict begins is as it was
 abbrev pub StaysUnlessBegun : PutFault → (hand hand_after : ℕ) → Type 0
 StaysUnlessBegun (Begin fault) hand hand_after = hand_after ≡ hand
-StaysUnlessBegun (Write fault) hand hand_after = Unit {0}
+StaysUnlessBegun (Write _) hand hand_after = Unit {0}

@@ -5,3 +5,5 @@ pub mod Turns
 pub mod Drafts
 pub mod Rounds
 pub mod Asked
+pub mod Named
+pub mod Served

@@ -1,5 +1,6 @@
 -- What a request asks for, by the three numbers that are drawn for it.
 use Rattle.std.specs.Prelude.{ℕ, ◌%◌, ◌==◌, nat_lt, List, length, slice_index, if◌then◌else◌}
+use Rattle.store_key.specs.Url.{IsUrl}
 use Rattle.script_text.specs.declared.body.Body.{Body}
 use Rattle.script_text.specs.declared.body.Body.TheVariants.{Made}
 use Rattle.script_text.specs.declared.request.Request.{Request}
@@ -18,3 +19,11 @@ body_of drawn = Made (drawn % 1301) (drawn % 26)
 -- the first number tells which of the URLs, the second the kind, and the third the body
 unfoldable pub request_of : (urls : List ℕ) (first second third : ℕ) → Request
 request_of urls first second third = asked (second % 8) (url_of (slice_index urls (first % length urls))) (body_of third)
+
+-- the request gets, stores or purges a response under a URL
+abbrev pub NamesUrl : Request → Type 0
+NamesUrl (Get url) = IsUrl url
+NamesUrl (Put url body) = IsUrl url
+NamesUrl (Save url body) = IsUrl url
+NamesUrl (Purge url) = IsUrl url
+NamesUrl _ = ⊥

@@ -13,12 +13,17 @@ use Rattle.run_command.specs.Ends.{RunEnds, RunsOrLacksMemory}
 use Rattle.run_command.specs.Leaves.{RunLeaves}
 use Rattle.run_command.specs.Prints.{IsRunText, RunPrints}
 use Rattle.run_command.specs.Says.{IsRunRefused, MayRun, RunSays}
+use Rattle.workload.specs.Script.{bench_lines}
+use Rattle.bench_command.specs.Ends.{BenchEnds, BenchSays, IsBenchRefused}
+use Rattle.bench_command.specs.Leaves.{BenchLeaves}
+use Rattle.bench_command.specs.Numbers.{MayBench}
+use Rattle.bench_command.specs.Prints.{IsBenchText}
 use Rattle.file_commands.specs.Create.{IsSlotCount, IsGeometry, CreateEnds, CreateSays, CreateLeaves}
 use Rattle.file_commands.specs.Listing.{Lists}
 use Rattle.file_commands.specs.Summary.{Sums}
-use Rattle.file_commands.specs.Report.{AnyCount, IsAnchors, OfFile, HasSlots, ReportEnds, ReportSays, ReportPrints}
+use Rattle.file_commands.specs.Report.{AnyCount, IsAnchors, OfFile, HasSlots, ReportEnds, ReportSays, ReportPrints, ReportsOrLacksMemory}
 use Rattle.rock_status.specs.declared.status.Status.TheVariants as status
-use Rattle.rock_commands.proofs.CommandFacts.{of_each, of_each_check, of_each_create, of_each_run}
+use Rattle.rock_commands.proofs.CommandFacts.{of_each, of_each_bench, of_each_check, of_each_create, of_each_run}
 use Rattle.rock_commands.proofs.CreateFacts.{complete_create, home_when_left}
 use Rattle.rock_commands.proofs.ReportFacts.{complete, none_ended, unfit}
 use Rattle.rock_commands.proofs.top_call.rock.Goals as goal
@@ -137,13 +142,13 @@ pub returns-in_default-clause-create_ends : goal.returns-in_default-clause-creat
 returns-in_default-clause-create_ends g c name slot slots asked = absurd (not_read c.in_default.is c.parse.ensures (inr (inr (inl (name, slot, slots, asked)))))
 
 pub returns-in_default-clause-run_ends : goal.returns-in_default-clause-run_ends
-returns-in_default-clause-run_ends g c name slot anchors workers asked = absurd (not_read c.in_default.is c.parse.ensures (inr (inr (inr (name, slot, anchors, workers, asked)))))
+returns-in_default-clause-run_ends g c name slot anchors workers asked = absurd (not_read c.in_default.is c.parse.ensures (inr (inr (inr (inl (name, slot, anchors, workers, asked))))))
 
 pub returns-in_default-clause-run_refused : goal.returns-in_default-clause-run_refused
-returns-in_default-clause-run_refused g c name slot anchors workers asked = absurd (not_read c.in_default.is c.parse.ensures (inr (inr (inr (name, slot, anchors, workers, asked)))))
+returns-in_default-clause-run_refused g c name slot anchors workers asked = absurd (not_read c.in_default.is c.parse.ensures (inr (inr (inr (inl (name, slot, anchors, workers, asked))))))
 
 pub returns-in_default-clause-run_complete : goal.returns-in_default-clause-run_complete
-returns-in_default-clause-run_complete g c name slot anchors workers asked st vt may none = absurd (not_read c.in_default.is c.parse.ensures (inr (inr (inr (name, slot, anchors, workers, asked)))))
+returns-in_default-clause-run_complete g c name slot anchors workers asked st vt may none = absurd (not_read c.in_default.is c.parse.ensures (inr (inr (inr (inl (name, slot, anchors, workers, asked))))))
 
 pub returns-in-List-clause-list_bytes : goal.returns-in-List-clause-list_bytes
 returns-in-List-clause-list_bytes g c name slot asked t =
@@ -161,10 +166,10 @@ returns-in-Check-clause-check_early g c name slot anchors slots asked t =
     name slot anchors (subst (IsCommand c.args.words.now) c.in-Check.is c.in-Some.ensures) asked (c.print_report-in-Check.ensures.early t slots)
 
 pub returns-in-Create-clause-device_unfailed : goal.returns-in-Create-clause-device_unfailed
-returns-in-Create-clause-device_unfailed g c other none = none_ended (c.create_file.ensures.unfailed none) c.create_file.ensures.ended
+returns-in-Create-clause-device_unfailed g c other bench none = none_ended (c.create_file.ensures.unfailed none) c.create_file.ensures.ended
 
 pub returns-in_default-clause-device_unfailed : goal.returns-in_default-clause-device_unfailed
-returns-in_default-clause-device_unfailed g c other none = none_ended refl refl
+returns-in_default-clause-device_unfailed g c other bench none = none_ended refl refl
 
 pub returns-in-Run-clause-run_ends : goal.returns-in-Run-clause-run_ends
 returns-in-Run-clause-run_ends g c name slot anchors workers asked =
@@ -210,5 +215,65 @@ returns-in-Run-clause-usage g c = (
   λ is. absurd (subst (RunEnds c.in-Run.target.slot c.in-Run.anchors c.in-Run.workers (g.S.Source.faults c.args.script.now) (g.S.Source.faults c.run_command.new.script) (g.K.Sink.faults c.args.out.now) (g.K.Sink.faults c.run_command.new.out)
       (counts (g.V.Volume.faults c.args.volume.now) (g.V.Volume.made c.args.volume.now) (g.V.Volume.ended c.args.volume.now))
       (counts (g.V.Volume.faults c.run_command.new.volume) (g.V.Volume.made c.run_command.new.volume) (g.V.Volume.ended c.run_command.new.volume))) is c.run_command.ensures.ends),
-  λ none. absurd (none (inr (inr (inr (c.in-Run.target.name.now, c.in-Run.target.slot, c.in-Run.anchors, c.in-Run.workers, subst (IsCommand c.args.words.now) c.in-Run.is c.in-Some.ensures))))),
+  λ none. absurd (none (inr (inr (inr (inl (c.in-Run.target.name.now, c.in-Run.target.slot, c.in-Run.anchors, c.in-Run.workers, subst (IsCommand c.args.words.now) c.in-Run.is c.in-Some.ensures)))))),
 )
+
+pub returns-in-Bench-clause-bench_ends : goal.returns-in-Bench-clause-bench_ends
+returns-in-Bench-clause-bench_ends g c name seed workers count asked =
+    of_each_bench c.args.words.now (λ n x w k. BenchEnds w k (g.K.Sink.faults c.args.out.now) (g.K.Sink.faults c.bench_command.new.out)
+    (counts (g.V.Volume.faults c.args.volume.now) (g.V.Volume.made c.args.volume.now) (g.V.Volume.ended c.args.volume.now))
+    (counts (g.V.Volume.faults c.bench_command.new.volume) (g.V.Volume.made c.bench_command.new.volume) (g.V.Volume.ended c.bench_command.new.volume)) c.bench_command.result)
+    name seed workers count (subst (IsCommand c.args.words.now) c.in-Bench.is c.in-Some.ensures) asked c.bench_command.ensures.ends
+
+pub returns-in-Bench-clause-bench_says : goal.returns-in-Bench-clause-bench_says
+returns-in-Bench-clause-bench_says g c name seed workers count asked t =
+    of_each_bench c.args.words.now (λ n x w k. BenchSays (g.V.Volume.files c.args.volume.now) n c.bench_command.result)
+    name seed workers count (subst (IsCommand c.args.words.now) c.in-Bench.is c.in-Some.ensures) asked (c.bench_command.ensures.says t)
+
+pub returns-in-Bench-clause-bench_refused : goal.returns-in-Bench-clause-bench_refused
+returns-in-Bench-clause-bench_refused g c name seed workers count asked =
+    of_each_bench c.args.words.now (λ n x w k. IsBenchRefused g.V.Volume.tells (g.V.Volume.files c.args.volume.now) n w k c.bench_command.result)
+    name seed workers count (subst (IsCommand c.args.words.now) c.in-Bench.is c.in-Some.ensures) asked c.bench_command.ensures.refused
+
+pub returns-in-Bench-clause-bench_complete : goal.returns-in-Bench-clause-bench_complete
+returns-in-Bench-clause-bench_complete g c name seed workers count asked t may sink device =
+    of_each_bench c.args.words.now (λ n x w k. MayBench (g.V.Volume.files c.args.volume.now) n w k → ReportsOrLacksMemory c.bench_command.result)
+    name seed workers count (subst (IsCommand c.args.words.now) c.in-Bench.is c.in-Some.ensures) asked (λ m. c.bench_command.ensures.complete t m sink device) may
+
+pub returns-in-Bench-clause-bench_prints : goal.returns-in-Bench-clause-bench_prints
+returns-in-Bench-clause-bench_prints g c name seed workers count asked k =
+    of_each_bench c.args.words.now (λ n x w r. ReportPrints (IsBenchText g.V.Volume.tells g.V.C.Cell.tells g.V.C.Cell.state g.V.St.Station.faults
+    (g.V.Volume.files c.args.volume.now) (g.V.Volume.files c.bench_command.new.volume) n x w r
+    (counts (g.V.Volume.faults c.args.volume.now) (g.V.Volume.made c.args.volume.now) (g.V.Volume.ended c.args.volume.now))
+    (counts (g.V.Volume.faults c.bench_command.new.volume) (g.V.Volume.made c.bench_command.new.volume) (g.V.Volume.ended c.bench_command.new.volume)))
+    (g.K.Sink.taken c.args.out.now) (g.K.Sink.taken c.bench_command.new.out) c.bench_command.result)
+    name seed workers count (subst (IsCommand c.args.words.now) c.in-Bench.is c.in-Some.ensures) asked (c.bench_command.ensures.prints k)
+
+pub returns-in-Bench-clause-bench_leaves : goal.returns-in-Bench-clause-bench_leaves
+returns-in-Bench-clause-bench_leaves g c name seed workers count asked =
+    of_each_bench c.args.words.now (λ n x w k. BenchLeaves g.V.Volume.tells g.V.C.Cell.tells g.V.C.Cell.state (g.V.Volume.files c.args.volume.now) (g.V.Volume.files c.bench_command.new.volume) n w (bench_lines x w k) c.bench_command.result)
+    name seed workers count (subst (IsCommand c.args.words.now) c.in-Bench.is c.in-Some.ensures) asked c.bench_command.ensures.leaves
+
+pub returns-in-Bench-clause-usage : goal.returns-in-Bench-clause-usage
+returns-in-Bench-clause-usage g c = (
+  λ is. absurd (subst (BenchEnds c.in-Bench.target.workers c.in-Bench.target.count (g.K.Sink.faults c.args.out.now) (g.K.Sink.faults c.bench_command.new.out)
+      (counts (g.V.Volume.faults c.args.volume.now) (g.V.Volume.made c.args.volume.now) (g.V.Volume.ended c.args.volume.now))
+      (counts (g.V.Volume.faults c.bench_command.new.volume) (g.V.Volume.made c.bench_command.new.volume) (g.V.Volume.ended c.bench_command.new.volume))) is c.bench_command.ensures.ends),
+  λ none. absurd (none (inr (inr (inr (inr (c.in-Bench.target.name.now, c.in-Bench.target.seed, c.in-Bench.target.workers, c.in-Bench.target.count, subst (IsCommand c.args.words.now) c.in-Bench.is c.in-Some.ensures)))))),
+)
+
+pub returns-in_default-clause-bench_ends : goal.returns-in_default-clause-bench_ends
+returns-in_default-clause-bench_ends g c name seed workers count asked = absurd (not_read c.in_default.is c.parse.ensures (inr (inr (inr (inr (name, seed, workers, count, asked))))))
+
+pub returns-in_default-clause-bench_refused : goal.returns-in_default-clause-bench_refused
+returns-in_default-clause-bench_refused g c name seed workers count asked = absurd (not_read c.in_default.is c.parse.ensures (inr (inr (inr (inr (name, seed, workers, count, asked))))))
+
+pub returns-in_default-clause-bench_complete : goal.returns-in_default-clause-bench_complete
+returns-in_default-clause-bench_complete g c name seed workers count asked t may sink device = absurd (not_read c.in_default.is c.parse.ensures (inr (inr (inr (inr (name, seed, workers, count, asked))))))
+
+pub returns-in-Bench-clause-device_unfailed : goal.returns-in-Bench-clause-device_unfailed
+returns-in-Bench-clause-device_unfailed g c other bench none =
+    absurd (bench (c.in-Bench.target.name.now, c.in-Bench.target.seed, c.in-Bench.target.workers, c.in-Bench.target.count, subst (IsCommand c.args.words.now) c.in-Bench.is c.in-Some.ensures))
+
+pub returns-in-Bench-clause-back : goal.returns-in-Bench-clause-back
+returns-in-Bench-clause-back g c t = c.bench_command.ensures.back t (c.requires.home t)

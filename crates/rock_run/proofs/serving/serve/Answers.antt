@@ -8,9 +8,9 @@ use Rattle.core_model.proofs.Lists.{at_length, at_or}
 use Rattle.script_origin.specs.Offered.{offers_of}
 use Rattle.store_rule.specs.Passes.{AreNumbered, IsNewOf}
 use Rattle.serve_lines.specs.Serving.{Takes}
-use Rattle.worker_pool.specs.Courses.{IsServed}
 use Rattle.rock_run.specs.Crews.{MayRest}
 use Rattle.rock_run.proofs.Accounts.{played}
+use Rattle.rock_run.proofs.Asking.{takes}
 use Rattle.rock_run.proofs.Back.{among, at_place, image_at, numbers, place_at, rest}
 use Rattle.rock_run.proofs.serving.serve.Goals as goal
 
@@ -19,17 +19,18 @@ run_workers-requires-clause-home g c κs within a b in_a in_b = let are = c.hire
 
 pub run_workers-requires-clause-workers : goal.run_workers-requires-clause-workers
 run_workers-requires-clause-workers g c κs within line there =
-    let h = c.scripts_may_be_run.ensures.workers _ _ c.args.script.now.lines line c.requires.read.1 there in
+    let h = c.requires.lines.within line there in
     let long = ap length c.hire.ensures.hired.passes_are in let same = length-map c.hire.new.shelves.items (λ shelf. shelf.pass) in
     let n = c.hire.new.shelves.ok.0 in let m = c.args.passes.now.ok.0 in (h.0, let most = h.1 in omega (arith, long, same, n, m, most))
 
 pub run_workers-requires-clause-takes : goal.run_workers-requires-clause-takes
 run_workers-requires-clause-takes g c κs within w k shelf line at is mine served =
     subst (λ s. Takes g.C.Cell.tells g.C.Cell.state offers_of s shelf.pass line) (sym (c.hire.ensures.hired.stores shelf (among c.hire.new.shelves.items w shelf at)))
-    (c.script_lines_may_be_asked.ensures.takes c.args.store.now _ _ c.args.script.now.lines line shelf.pass c.requires.offers c.requires.read.1 (k, is.0, is.1) (λ m e. subst IsServed e served) (λ m e. subst IsServed e served))
+    (takes g.C.Cell.tells g.C.Cell.state offers_of c.args.store.now c.args.script.now.lines c.requires.offers shelf.pass line
+    (λ url. c.script_lines_may_be_asked.ensures.goes c.args.store.now c.args.script.now.lines shelf.pass url c.requires.offers) (c.requires.lines.found line (k, is.0, is.1)) (c.requires.lines.asked line (k, is.0, is.1)) served)
 
 pub run_workers-requires-clause-marks : goal.run_workers-requires-clause-marks
-run_workers-requires-clause-marks g c κs within = c.scripts_may_be_run.ensures.marks _ _ c.args.script.now.lines c.requires.read.1
+run_workers-requires-clause-marks g c κs within = c.requires.lines.marks
 
 pub returns-in-Ok-clause-rest : goal.returns-in-Ok-clause-rest
 returns-in-Ok-clause-rest g c = subst (All (MayRest g.C.Cell.tells g.C.Cell.state offers_of c.args.store.now)) (sym c.dismiss.ensures.passes)
@@ -63,7 +64,8 @@ returns-in-Ok-clause-played g c =
           (are.stores a.start (among shelves w a.start (place_at shelves w a.start shelf_at)))
           (All-contains (IsNewOf g.C.Cell.tells g.C.Cell.state offers_of s) passes a.start.pass c.requires.new (w, at_length passes w a.start.pass pass_at, at_or passes w a.start.pass a.start.pass pass_at))
           (c.requires.numbered w a.start.pass pass_at)
-          (λ line there served. c.script_lines_may_be_asked.ensures.takes s _ _ lines line a.start.pass c.requires.offers c.requires.read.1 there (λ m e. subst IsServed e served) (λ m e. subst IsServed e served));
+          (λ line there served. takes g.C.Cell.tells g.C.Cell.state offers_of s lines c.requires.offers a.start.pass line
+          (λ url. c.script_lines_may_be_asked.ensures.goes s lines a.start.pass url c.requires.offers) (c.requires.lines.found line there) (c.requires.lines.asked line there) served);
       told = λ a b in_a in_b m n mark among_a among_b sets_it awaits_it met x seen. h.meets a b in_a in_b m n mark among_a among_b sets_it awaits_it met x seen;
       passes_are = sym (map-map (λ shelf. shelf.pass) (λ a. a.start) h.accounts) ∙ ap (map (λ shelf. shelf.pass)) h.starts ∙ are.passes_are;
       stations_are = sym (map-map (λ shelf. shelf.station) (λ a. a.start) h.accounts) ∙ ap (map (λ shelf. shelf.station)) h.starts ∙ are.stations_are;

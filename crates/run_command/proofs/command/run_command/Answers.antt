@@ -12,6 +12,9 @@ use Rattle.run_command.proofs.command.run_command.Goals as goal
 pub returns-in-Err-clause-refused : goal.returns-in-Err-clause-refused
 returns-in-Err-clause-refused g c = rw c.of_script.ensures (unread_refused _ _ _ _ _ _ _ _ _ _ c.in-Err.fault c.in-Err.ensures.good c.in-Err.ensures.bad)
 
+pub run_script-requires-clause-lines : goal.run_script-requires-clause-lines
+run_script-requires-clause-lines g c κs within = c.read_scripts_may_be_served.ensures _ _ c.in-Ok.lines.lines c.in-Ok.ensures.script.1
+
 pub print-requires : goal.print-requires
 print-requires g c =
     let limits = within c.args.target.now.slot c.args.target.now.workers (λ not. ok_not_err _ _ (c.in-Ok-run_script.ensures.bad_slot not)) (λ sized not. ok_not_err _ _ (c.in-Ok-run_script.ensures.bad_workers sized not)) in
@@ -63,9 +66,9 @@ returns-in-Ok-run_script-clause-kept g c =
 
 pub returns-clause-refused : goal.returns-clause-refused
 returns-clause-refused g c =
-    rw c.of_run.ensures (refused_refused _ _ _ _ _ _ _ _ _ _ c.in-Err-run_script.fault c.in-Ok.ensures.bad c.in-Err-run_script.ensures.refused c.in-Err-run_script.ensures.says
+    rw c.status_of_run.ensures (refused_refused _ _ _ _ _ _ _ _ _ _ c.in-Err-run_script.fault c.in-Ok.ensures.bad c.in-Err-run_script.ensures.refused c.in-Err-run_script.ensures.says
     c.in-Err-run_script.ensures.bad_slot c.in-Err-run_script.ensures.bad_workers c.in-Err-run_script.ensures.missing c.in-Err-run_script.ensures.small
     (λ told slots has not. (c.in-Err-run_script.ensures.bad_anchors told slots has not).1))
 
 pub returns-clause-kept : goal.returns-clause-kept
-returns-clause-kept g c = rw c.of_run.ensures (refused_leaves _ _ _ _ _ _ _ _ _ _ _ _ c.in-Ok.lines.lines c.in-Ok.ensures.script c.in-Err-run_script.fault c.in-Err-run_script.ensures.kept)
+returns-clause-kept g c = rw c.status_of_run.ensures (refused_leaves _ _ _ _ _ _ _ _ _ _ _ _ c.in-Ok.lines.lines c.in-Ok.ensures.script c.in-Err-run_script.fault c.in-Err-run_script.ensures.kept)

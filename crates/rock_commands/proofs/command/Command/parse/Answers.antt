@@ -2,7 +2,7 @@ use Rattle.std.proofs.Common.{◌≡◌, length, None, Some, sym, ◌∙◌, sub
 use Rattle.std.specs.Prelude.{Option, MatchOption, string_bytes}
 use Rattle.rock_commands.specs.Command.{IsCommand}
 use Rattle.rock_commands.specs.CommandLine.{IsName, IsCommandLine}
-use Rattle.rock_commands.proofs.CommandFacts.{three_words, four_words, five_words, no_numbers, no_run, found_equal}
+use Rattle.rock_commands.proofs.CommandFacts.{three_words, four_words, five_words, no_numbers, no_two_numbers, found_equal}
 use Rattle.rock_commands.proofs.command.Command.parse.Goals as goal
 
 none_is_none : {X : Type 0} {o : Option X} {x : X} → o ≡ None → o ≡ Some x → ⊥
@@ -28,35 +28,35 @@ returns-in_err-number-in-len4 c =
     subst (λ r. MatchOption r (IsCommandLine c.args.words.now → ⊥) (IsCommand c.args.words.now)) (sym c.from_residual-in_err-number-in-len4.ensures)
     (no_numbers c.args.words.now _ _ _ _ are (λ slot count fits small named spelled other. none_is_none refl (c.in_err-number-in-len4.ensures.none count small other)))
 
-pub returns-in_err-target-in-len5 : goal.returns-in_err-target-in-len5
-returns-in_err-target-in-len5 c =
+pub returns-in_err-second-in-len5 : goal.returns-in_err-second-in-len5
+returns-in_err-second-in-len5 c =
     let long : length c.as_slice.result.now ≡ 5 = omega (arith, c.in-len5.len_at_least, c.in-len5.len_below) in
-    let are = five_words string_bytes c.as_slice.result.now c.command-item-then-this-lt6.result c.name-item-then-this-lt6.result c.slot-item-then-this-lt6.result c.anchors-item.result c.workers-item.result c.args.words.now _ _ _ _ _
-    c.as_slice.ensures long c.command-item-then-this-lt6.is c.name-item-then-this-lt6.is c.slot-item-then-this-lt6.is c.anchors-item.is c.workers-item.is
-    refl (sym c.as_str-in-len5.ensures.value) (sym c.as_str-in-len5-2.ensures.value) refl refl
+    let are = five_words string_bytes c.as_slice.result.now c.command-item-then-this-lt6.result c.name-item-then-this-lt6.result c.first-item.result c.second-item.result c.third-item.result c.args.words.now _ _ _ _ _
+    c.as_slice.ensures long c.command-item-then-this-lt6.is c.name-item-then-this-lt6.is c.first-item.is c.second-item.is c.third-item.is
+    refl refl refl (sym c.as_str-in-len5.ensures.value) refl
     in
-    subst (λ r. MatchOption r (IsCommandLine c.args.words.now → ⊥) (IsCommand c.args.words.now)) (sym c.from_residual-in_err-target-in-len5.ensures)
-    (no_run c.args.words.now _ _ _ _ _ are (λ slot anchors workers fits some many named spelled other last. c.in_err-target-in-len5.ensures.none slot fits named spelled refl))
+    subst (λ r. MatchOption r (IsCommandLine c.args.words.now → ⊥) (IsCommand c.args.words.now)) (sym c.from_residual-in_err-second-in-len5.ensures)
+    (no_two_numbers c.args.words.now _ _ _ _ _ are (λ a b fits more spelled last. none_is_none refl (c.in_err-second-in-len5.ensures.none a fits spelled)))
 
-pub returns-in_err-anchors-in-len5 : goal.returns-in_err-anchors-in-len5
-returns-in_err-anchors-in-len5 c =
+pub returns-in_err-third-in-len5 : goal.returns-in_err-third-in-len5
+returns-in_err-third-in-len5 c =
     let long : length c.as_slice.result.now ≡ 5 = omega (arith, c.in-len5.len_at_least, c.in-len5.len_below) in
-    let are = five_words string_bytes c.as_slice.result.now c.command-item-then-this-lt6.result c.name-item-then-this-lt6.result c.slot-item-then-this-lt6.result c.anchors-item.result c.workers-item.result c.args.words.now _ _ _ _ _
-    c.as_slice.ensures long c.command-item-then-this-lt6.is c.name-item-then-this-lt6.is c.slot-item-then-this-lt6.is c.anchors-item.is c.workers-item.is
-    refl refl refl (sym c.as_str-in-len5-3.ensures.value) refl
+    let are = five_words string_bytes c.as_slice.result.now c.command-item-then-this-lt6.result c.name-item-then-this-lt6.result c.first-item.result c.second-item.result c.third-item.result c.args.words.now _ _ _ _ _
+    c.as_slice.ensures long c.command-item-then-this-lt6.is c.name-item-then-this-lt6.is c.first-item.is c.second-item.is c.third-item.is
+    refl refl refl refl (sym c.as_str-in-len5-2.ensures.value)
     in
-    subst (λ r. MatchOption r (IsCommandLine c.args.words.now → ⊥) (IsCommand c.args.words.now)) (sym c.from_residual-in_err-anchors-in-len5.ensures)
-    (no_run c.args.words.now _ _ _ _ _ are (λ slot anchors workers fits some many named spelled other last. none_is_none refl (c.in_err-anchors-in-len5.ensures.none anchors some other)))
+    subst (λ r. MatchOption r (IsCommandLine c.args.words.now → ⊥) (IsCommand c.args.words.now)) (sym c.from_residual-in_err-third-in-len5.ensures)
+    (no_two_numbers c.args.words.now _ _ _ _ _ are (λ a b fits more spelled last. none_is_none refl (c.in_err-third-in-len5.ensures.none b more last)))
 
-pub returns-in_err-number-in-len5 : goal.returns-in_err-number-in-len5
-returns-in_err-number-in-len5 c =
+pub returns-in_ok-third-in-len5 : goal.returns-in_ok-third-in-len5
+returns-in_ok-third-in-len5 c =
     let long : length c.as_slice.result.now ≡ 5 = omega (arith, c.in-len5.len_at_least, c.in-len5.len_below) in
-    let are = five_words string_bytes c.as_slice.result.now c.command-item-then-this-lt6.result c.name-item-then-this-lt6.result c.slot-item-then-this-lt6.result c.anchors-item.result c.workers-item.result c.args.words.now _ _ _ _ _
-    c.as_slice.ensures long c.command-item-then-this-lt6.is c.name-item-then-this-lt6.is c.slot-item-then-this-lt6.is c.anchors-item.is c.workers-item.is
-    refl refl refl refl (sym c.as_str-in-len5-5.ensures.value)
+    let are = five_words string_bytes c.as_slice.result.now c.command-item-then-this-lt6.result c.name-item-then-this-lt6.result c.first-item.result c.second-item.result c.third-item.result c.args.words.now _ _ _ _ _
+    c.as_slice.ensures long c.command-item-then-this-lt6.is c.name-item-then-this-lt6.is c.first-item.is c.second-item.is c.third-item.is
+    (sym c.as_str-in-len5-3.ensures.value) (sym c.as_str-in-len5-4.ensures.value) (sym c.as_str-in-len5-5.ensures.value)
+    (sym c.as_str-in-len5.ensures.value ∙ c.in_ok-second-in-len5.ensures.some) (sym c.as_str-in-len5-2.ensures.value ∙ c.in_ok-third-in-len5.ensures.some)
     in
-    subst (λ r. MatchOption r (IsCommandLine c.args.words.now → ⊥) (IsCommand c.args.words.now)) (sym c.from_residual-in_err-number-in-len5.ensures)
-    (no_run c.args.words.now _ _ _ _ _ are (λ slot anchors workers fits some many named spelled other last. none_is_none refl (c.in_err-number-in-len5.ensures.none workers many last)))
+    subst (λ words. MatchOption c.of_five.result (IsCommandLine words → ⊥) (IsCommand words)) (sym are) c.of_five.ensures
 
 pub returns-in_ok-parse-in-len3 : goal.returns-in_ok-parse-in-len3
 returns-in_ok-parse-in-len3 c =

@@ -1,7 +1,7 @@
 use Rattle.std.proofs.Common.{Some, sym, ◌∙◌, ap}
 use Rattle.std.specs.Prelude.{decimal}
 use Rattle.rock_commands.proofs.Numbers.{parsed_number, never_refused, never_differ}
-use Rattle.rock_commands.proofs.command.number.Goals as goal
+use Rattle.rock_commands.proofs.command.long_number.Goals as goal
 
 pub returns-in_default-clause-none : goal.returns-in_default-clause-none
 returns-in_default-clause-none c n fits spelled =

@@ -1,0 +1,4 @@
+pub mod Served
+pub mod Printed
+pub mod Ran
+pub mod Made

@@ -1,0 +1,101 @@
+-- What follows where the file of a benchmark was made.
+use Rattle.std.proofs.Common.{Bool, List, ap, arith, inl, inr, length, refl, subst, sym, ◌*◌, ◌+◌, ◌-◌, ◌/◌, ◌∙◌, ◌≡◌, ℕ}
+use Rattle.std.proofs.lemmas.List.{length-replicate}
+use Rattle.std.specs.Prelude.{Some}
+use Rattle.std.specs.FinMap.{get}
+use Rattle.db_layout.specs.Layout.{file_size}
+use Rattle.file_commands.specs.Report.{ReportsOrLacksMemory}
+use Rattle.rock_disk.specs.Cell.{CellState}
+use Rattle.rock_disk.specs.Created.{IsCreated}
+use Rattle.rock_disk.specs.File.{Files, IsNotAway, IsThere, uncut, zeros}
+use Rattle.rock_disk.proofs.Out.{get_inserted}
+use Rattle.rock_io.specs.Faults.{Rose}
+use Rattle.rock_open.specs.Device.{Counts, counts}
+use Rattle.rock_open.specs.Opening.{HasSlots, IsPasses}
+use Rattle.rock_run.specs.Device.{HasFailed}
+use Rattle.rock_status.specs.declared.status.Status.{Status}
+use Rattle.rock_status.specs.declared.status.Status.TheVariants.{BadGeometry, BadScript, DeviceFault, Done, Exists, Memory, Missing, SinkFault, Small, SourceFault, Usage}
+use Rattle.script_text.specs.declared.line.Line.{Line}
+use Rattle.bench_command.specs.Ends.{BenchSays, RunEnds, RunSays}
+use Rattle.bench_command.specs.Leaves.{BenchLeaves, LeavesMade, RunLeaves}
+use Rattle.bench_command.specs.Numbers.{IsMade, slot_size, slots_for}
+
+zeros_long : (n : ℕ) → length (zeros n) ≡ n
+unfolding zeros
+zeros_long n = length-replicate n 0
+
+-- it is there
+made_there : (before after : Files) (name : List ℕ) (size : ℕ) → IsCreated before after name size → get after name ≡ Some (uncut (zeros size))
+made_there before after name size is = ap (λ (files : Files). get files name) is ∙ get_inserted before name (uncut (zeros size))
+
+-- and it is not out
+pub made_home : (before after : Files) (name : List ℕ) (size : ℕ) → IsCreated before after name size → IsNotAway (get after name)
+made_home before after name size is = subst IsNotAway (sym (made_there before after name size is)) tt
+
+whole_slots : (n : ℕ) → (16384 + n * 512 - 16384) / 512 ≡ n
+whole_slots n = omega arith
+
+-- it has slots for the workers
+pub made_slots : (before after : Files) (name : List ℕ) (workers : ℕ) → IsPasses workers → IsCreated before after name (file_size (slots_for workers) slot_size) → HasSlots after name slot_size (slots_for workers)
+made_slots before after name workers passes is =
+    let size : ℕ = 16384 + 64 * workers * 512 in
+    let long : length (zeros (16384 + 64 * workers * 512)) ≡ 16384 + 64 * workers * 512 = zeros_long (16384 + 64 * workers * 512) in
+    let from = passes.from in
+    let to = passes.to in
+    record {
+      was = uncut (zeros (file_size (slots_for workers) slot_size));
+      there = made_there before after name (file_size (slots_for workers) slot_size) is;
+      long = omega (arith, long, from);
+      count = omega (arith, long, to);
+    }
+
+-- a volume that did not fail has its counts
+pub same_counts : {f f' m m' : ℕ} {e e' : List ℕ} → f ≡ f' → m ≡ m' → e ≡ e' → counts f m e ≡ counts f' m' e'
+same_counts f m e = cc
+
+-- what the run says of the files is what the benchmark says
+pub says_of_run : (workers k k' : ℕ) (before after : Counts) (files : Files) (name : List ℕ) (status : Status) → ¬ IsThere files name → RunEnds workers k k' before after status → RunSays status → BenchSays files name status
+says_of_run workers k k' before after files name Done free ends says = free
+says_of_run workers k k' before after files name Usage free ends says = tt
+says_of_run workers k k' before after files name Memory free ends says = free
+says_of_run workers k k' before after files name SourceFault free ends says = tt
+says_of_run workers k k' before after files name SinkFault free ends says = free
+says_of_run workers k k' before after files name DeviceFault free ends says = free
+says_of_run workers k k' before after files name (BadScript line cause) free ends says = tt
+says_of_run workers k k' before after files name Missing free ends says = says
+says_of_run workers k k' before after files name (Small bytes) free ends says = says
+says_of_run workers k k' before after files name (BadGeometry field) free ends says = absurd says
+says_of_run workers k k' before after files name Exists free ends says = absurd ends
+
+-- where no fault came it was done, unless memory ran out
+pub done_or_memory : (workers k k' : ℕ) (before after : Counts) (status : Status) → ¬ Rose k k' → ¬ HasFailed before after → RunEnds workers k k' before after status → RunSays status → ReportsOrLacksMemory status
+done_or_memory workers k k' before after Done sink device ends says = inl refl
+done_or_memory workers k k' before after Usage sink device ends says = absurd ends
+done_or_memory workers k k' before after Memory sink device ends says = inr refl
+done_or_memory workers k k' before after SourceFault sink device ends says = absurd ends
+done_or_memory workers k k' before after SinkFault sink device ends says = absurd (sink ends)
+done_or_memory workers k k' before after DeviceFault sink device ends says = absurd (device ends)
+done_or_memory workers k k' before after (BadScript line cause) sink device ends says = absurd ends
+done_or_memory workers k k' before after Missing sink device ends says = absurd says
+done_or_memory workers k k' before after (Small bytes) sink device ends says = absurd says
+done_or_memory workers k k' before after (BadGeometry field) sink device ends says = absurd says
+done_or_memory workers k k' before after Exists sink device ends says = absurd ends
+
+module _ {C : Type 0} (volume_tells tells : Bool) (state : C → CellState) (before middle after : Files) (name : List ℕ) (workers : ℕ) (lines : List Line) (made : IsMade volume_tells before middle name workers) where
+  left_by : (status : Status) → RunLeaves volume_tells tells state middle after name workers lines status → LeavesMade volume_tells tells state before after name workers lines status
+  left_by status left = record { middle = middle; made = made; left = left }
+
+  -- what the run leaves is what the benchmark leaves
+  pub leaves_of_run : (k k' : ℕ) (counted counted_after : Counts) (status : Status) → RunEnds workers k k' counted counted_after status → RunLeaves volume_tells tells state middle after name workers lines status
+      → BenchLeaves volume_tells tells state before after name workers lines status
+  leaves_of_run k k' counted counted_after Done ends left = left_by Done left
+  leaves_of_run k k' counted counted_after Usage ends left = absurd ends
+  leaves_of_run k k' counted counted_after Memory ends left = inr (left_by Memory left)
+  leaves_of_run k k' counted counted_after SourceFault ends left = absurd ends
+  leaves_of_run k k' counted counted_after SinkFault ends left = left_by SinkFault left
+  leaves_of_run k k' counted counted_after DeviceFault ends left = inr (left_by DeviceFault left)
+  leaves_of_run k k' counted counted_after (BadScript line cause) ends left = absurd ends
+  leaves_of_run k k' counted counted_after Missing ends left = left_by Missing left
+  leaves_of_run k k' counted counted_after (Small bytes) ends left = left_by (Small bytes) left
+  leaves_of_run k k' counted counted_after (BadGeometry field) ends left = inr (ends.0, left_by (BadGeometry field) left)
+  leaves_of_run k k' counted counted_after Exists ends left = absurd ends

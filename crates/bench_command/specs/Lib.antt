@@ -1,0 +1,5 @@
+pub mod Answers
+pub mod Numbers
+pub mod Ends
+pub mod Prints
+pub mod Leaves
