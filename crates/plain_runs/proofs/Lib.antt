@@ -1,1 +1,4 @@
 pub mod Spelled
+pub mod Filled
+pub mod Kept
+pub mod AtAnchors
