@@ -2,3 +2,4 @@ pub mod Spelled
 pub mod Filled
 pub mod Kept
 pub mod AtAnchors
+pub mod Opened
