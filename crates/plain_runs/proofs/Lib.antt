@@ -3,3 +3,4 @@ pub mod Filled
 pub mod Kept
 pub mod AtAnchors
 pub mod Opened
+pub mod Marks
