@@ -3,4 +3,7 @@ pub mod Filled
 pub mod Kept
 pub mod AtAnchors
 pub mod Opened
+pub mod Lines
 pub mod Marks
+pub mod Awaits
+pub mod Courses

@@ -25,16 +25,13 @@ use Rattle.rock_reader.specs.Reading.{ReadsAs, Standing}
 use Rattle.rock_writer.specs.Entries.{Entry, WritesAs}
 use Rattle.serve_lines.specs.Tabs.{IsFree, Leaves}
 use Rattle.serve_lines.specs.Whole.{whole_tab}
+use Rattle.worker_shelf.proofs.Holding.{Stays}
 use Rattle.plain_lines.specs.Shows.{ShowsTab}
 use Rattle.plain_lines.specs.Words.{Knows, no_guests}
+use Rattle.plain_lines.proofs.Frames.{knows_same}
 use Rattle.plain_runs.specs.Runs.{ShowsPlain}
 
 module _ {C O : Type 0} (tells : Bool) (state : C → CellState) (offers : O → Offers) (s : Store C O) where
-  -- the laws that other tabs than that of a request write and read what they did
-  pub record Stay : Type 0 where
-    pub writes : (p q : Pass C) (t j : ℕ) (e : Entry) → Leaves tells state offers s t p q → j ≢ t → WritesAs tells state offers s p j e → WritesAs tells state offers s q j e
-    pub reads : (p q : Pass C) (t j : ℕ) (e : Standing) → Leaves tells state offers s t p q → j ≢ t → ReadsAs tells state offers s p j e → ReadsAs tells state offers s q j e
-
   -- the pass has seen more, and stands otherwise as it did
   pub record SeesMore (p q : Pass C) : Type 0 where
     pub keeps : Keeps tells state offers s p q
@@ -42,7 +39,7 @@ module _ {C O : Type 0} (tells : Bool) (state : C → CellState) (offers : O →
     pub item : Item
     pub view_is : view q ≡ sees (view p) sights item
 
-  module _ (stay : Stay) (p q : Pass C) (more : SeesMore p q) where
+  module _ (stays : Stays tells state offers s) (p q : Pass C) (more : SeesMore p q) where
     same_tab : (t : ℕ) → tab_at (view q) t ≡ tab_at (view p) t
     same_tab t = ap (λ (v : View (List ℕ)). tab_at v t) more.view_is
 
@@ -81,7 +78,7 @@ module _ {C O : Type 0} (tells : Bool) (state : C → CellState) (offers : O →
         there = h.there;
         grows = h.grows;
         written = h.written;
-        writes = stay.writes p q 9 t h.written leaves (λ e. omega arith) h.writes;
+        writes = stays.writes p q 9 t h.written leaves (λ e. omega arith) h.writes;
         anchor_is = h.anchor_is;
         version_is = h.version_is;
         offer_is = h.offer_is;
@@ -92,7 +89,7 @@ module _ {C O : Type 0} (tells : Bool) (state : C → CellState) (offers : O →
         entry = h.entry;
         there = h.there;
         standing = h.standing;
-        reads = stay.reads p q 9 t h.standing leaves (λ e. omega arith) h.reads;
+        reads = stays.reads p q 9 t h.standing leaves (λ e. omega arith) h.reads;
         anchor_is = h.anchor_is;
         version_is = h.version_is;
         offer_is = h.offer_is;
@@ -113,6 +110,7 @@ module _ {C O : Type 0} (tells : Bool) (state : C → CellState) (offers : O →
         tabs = λ t lt. tab_still t lt (plain_tab plain t) (shows.tabs t lt);
       }
         where
-          -- what is known is the mirror alone
+          -- no word has changed
           knows_more : Knows (basis tells state offers s) (λ v. v) (view q) plain no_guests
-          knows_more = subst (λ (v : View (List ℕ)). Knows (basis tells state offers s) (λ v. v) v plain no_guests) (sym more.view_is) shows.knows
+          knows_more = subst (λ (v : View (List ℕ)). Knows (basis tells state offers s) (λ v. v) v plain no_guests) (sym more.view_is)
+              (knows_same (basis tells state offers s) (λ v. v) (view p) (sees (view p) more.sights more.item) plain no_guests shows.knows record { same = λ place known here none. refl })
