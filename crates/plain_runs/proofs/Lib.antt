@@ -7,3 +7,5 @@ pub mod Lines
 pub mod Marks
 pub mod Awaits
 pub mod Courses
+pub mod Leaving
+pub mod Ends

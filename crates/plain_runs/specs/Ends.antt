@@ -1,5 +1,6 @@
 -- What the file holds that a store gives back: the responses of its closed entries.
 use Rattle.std.specs.Prelude.{List, None, Some, length, slice_index_or, ◌<◌, ◌≡◌, ℕ}
+use Rattle.store_key.specs.Anchor.{anchor_of}
 use Rattle.lock_word.specs.Words.{epoch_of, version_of}
 use Rattle.rebuild_model.specs.Entry.{Entry, IsComplete}
 use Rattle.rebuild_model.specs.Image.{image_at}
@@ -8,6 +9,10 @@ use Rattle.core_model.specs.State.{State, chain_of, word}
 use Rattle.core_model.specs.declared.tab.Cell.{Cell}
 use Rattle.core_model.specs.declared.tab.Piece.{Piece}
 use Rattle.entry_cut.specs.Content.{image}
+use Rattle.plain_model.specs.declared.entry.Entry.{Entry as PlainEntry}
+use Rattle.plain_model.specs.declared.entry.Life.TheVariants.{Whole}
+use Rattle.plain_model.specs.declared.store.Plain.{Plain}
+use Rattle.plain_model.specs.Store.{entry_at, place_at}
 use Rattle.store_rule.specs.Ground.{Ground, cut_of}
 use Rattle.store_rule.specs.Setting.{next_number}
 
@@ -32,3 +37,16 @@ pub record SpellsResponse (g : Ground (List ℕ)) (s : State (List ℕ)) (images
   pub version : entry.version ≡ version_of (epoch_of (word s a))
   pub url_is : entry.url ≡ url
   pub body_is : entry.body ≡ body
+
+-- These images have a complete entry with this version, at this anchor, under the URL of the plain store's entry and with its body.
+pub record HoldsEntry (slot anchors : ℕ) (images : List (List ℕ)) (a version : ℕ) (e : PlainEntry) : Type 0 where
+  pub entry : Entry
+  pub complete : IsComplete slot images entry
+  pub at : anchor_of entry.key anchors ≡ a
+  pub version_is : entry.version ≡ version
+  pub url_is : entry.url ≡ e.url
+  pub body_is : entry.body ≡ e.body
+
+-- They have each entry of the plain store that is whole.
+abbrev pub HoldsWhole : (slot anchors : ℕ) → List (List ℕ) → Plain → Type 0
+HoldsWhole slot anchors images p = (a : ℕ) (e : PlainEntry) → a < anchors → entry_at p a ≡ Some e → e.life ≡ Whole → HoldsEntry slot anchors images a (place_at p a).version e
