@@ -9,3 +9,5 @@ pub mod Awaits
 pub mod Courses
 pub mod Leaving
 pub mod Ends
+pub mod Closings
+pub mod Runs
