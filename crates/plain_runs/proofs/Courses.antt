@@ -116,7 +116,7 @@ module _ {C O St : Type 0} (tells : Bool) (state : C → CellState) (offers : O 
         let asked = subst IsServed (sym is) served in
         let takes = h.takes asked in
         let here : Takes tells state offers s x.before.pass x.line = record { asks = takes.asks; goes = λ url named pass alone. takes.goes url named pass alone ∙ sym r.number } in
-        let right = lines.line script x.line x.before.pass x.after.pass x.answer (faults x.before.station) (faults x.after.station) plain here serves h.fair r.shows
+        let right = lines.line script x.line x.before.pass x.after.pass x.answer (faults x.before.station) (faults x.after.station) plain here serves went.typed h.fair r.shows
         (plain_free tells state offers s x.before.pass plain whole_tab (omega arith) r.shows r.whole) in
         let t = uses tells state offers s x.line.request asked in record {
           answered = right.0;

@@ -4,7 +4,7 @@ use Rattle.std.specs.Prelude.{IsTrue, None, Option, Some, slice_index_or}
 use Rattle.std.proofs.lemmas.List.{length-map}
 use mathlib.Core.Option.{some}
 use lib.ListN.{get_elem?}
-use Rattle.lock_word.specs.Words.{epoch_of, stage_number, stage_of, version_of, word_number}
+use Rattle.lock_word.specs.Words.{epoch_of, stage_number, stage_of, version_of}
 use Rattle.store_key.specs.Anchor.{anchor_of}
 use Rattle.store_key.specs.Key.{key_of}
 use Rattle.rock_disk.specs.Cell.{CellState}
@@ -22,8 +22,8 @@ use Rattle.plain_model.specs.declared.entry.Entry.{Entry}
 use Rattle.plain_model.specs.declared.entry.Life.{Life}
 use Rattle.plain_model.specs.declared.entry.Life.TheVariants.{Whole}
 use Rattle.plain_model.specs.declared.store.Plain.{Plain}
-use Rattle.plain_model.specs.Store.{entry_at, place_at, stage_of as stage_of_place, stage_of_entry, word_at}
-use Rattle.plain_laws.specs.Renaming.{renamed_word}
+use Rattle.plain_model.specs.Store.{entry_at, place_at, stage_of as stage_of_place, stage_of_entry}
+use Rattle.pass_calls.specs.Words.{has}
 use Rattle.store_rule.specs.Ground.{Ground, Rule}
 use Rattle.store_rule.specs.Setting.{shown}
 use Rattle.rock_reader.specs.Responses.{IsResponse}
@@ -64,14 +64,18 @@ module _ (g : Ground (List ℕ)) (lone : IsLone g) (s : State (List ℕ)) (i : �
     (pieces : TellsPieces g) (versions : HasVersions g) (images : List (List ℕ)) (home : IsHomeAs g s images) (many : length g.setting.contents ≡ g.setting.slots)
     (sized : g.slot < 2 ^ 32) (few : g.setting.slots ≤ 1048576) (placed : PlacedPieces) (p : Plain) (knows : Knows g (λ v. v) v p no_guests) (eight : length p.tabs ≡ 8) where
   module _ (a : ℕ) (e : Entry) (lt : a < g.setting.anchors) (there : entry_at p a ≡ Some e) (whole : e.life ≡ Whole) where
-    word_there : word s a ≡ word_number (renamed_word (λ v. v) (word_at (setting_of g) p a)) + 0
-    word_there = word_is g lone s i v rule at pass (Anchor a) lt ∙ (knows.each a lt).word
+    word_there : word s a ≡ has g v (Anchor a)
+    word_there = word_is g lone s i v rule at pass (Anchor a) lt
 
     closed : stage_of (epoch_of (word s a)) ≡ 3
-    closed = stage_there (λ v. v) (setting_of g) p 0 a (word s a) word_there (readers_fit p a 0 eight (omega arith)) ∙ ap (λ (o : Option Entry). stage_number (stage_of_place (room_of g.slot) (place_at p a).version o)) there ∙ ap (λ (life : Life). stage_number (stage_of_entry (room_of g.slot) life e.content)) whole
+    closed = ap (λ (n : ℕ). stage_of (epoch_of n)) word_there
+        ∙ stage_there (λ v. v) (setting_of g) p 0 a (has g v (Anchor a)) (knows.each a lt).word (readers_fit p a 0 eight (omega arith))
+        ∙ ap (λ (o : Option Entry). stage_number (stage_of_place (room_of g.slot) (place_at p a).version o)) there
+        ∙ ap (λ (life : Life). stage_number (stage_of_entry (room_of g.slot) life e.content)) whole
 
     version_is : version_of (epoch_of (word s a)) ≡ (place_at p a).version
-    version_is = version_there (λ v. v) (setting_of g) p 0 a (word s a) word_there (readers_fit p a 0 eight (omega arith))
+    version_is = ap (λ (n : ℕ). version_of (epoch_of n)) word_there
+        ∙ version_there (λ v. v) (setting_of g) p 0 a (has g v (Anchor a)) (knows.each a lt).word (readers_fit p a 0 eight (omega arith))
 
     entry_there : ShowsEntry g v a (place_at p a).version e
     entry_there = subst (ShowsEntryIf g v a (place_at p a).version) there (knows.each a lt).entry

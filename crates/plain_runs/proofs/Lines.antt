@@ -17,6 +17,7 @@ use Rattle.serve_lines.specs.Answers.{is_fault}
 use Rattle.serve_lines.specs.Serving.{Serves, Takes}
 use Rattle.serve_lines.specs.Whole.{whole_tab}
 use Rattle.worker_shelf.specs.Shelves.{LeftTab}
+use Rattle.worker_shelf.specs.Typed.{IsTyped}
 use Rattle.plain_lines.specs.Words.{IsLone, setting_of}
 use Rattle.plain_runs.specs.Runs.{ShowsPlain}
 
@@ -32,7 +33,7 @@ module _ {C O : Type 0} (tells : Bool) (state : C → CellState) (offers : O →
   -- between lines.
   pub record LinesRight : Type 0 where
     pub line : (script : List Line) (line : Line) (p q : Pass C) (a : Answer) (before after : ℕ) (plain : Plain) → Takes tells state offers s p line → Serves tells state offers s line p a q before after
-        → is_fault a ≡ false → ShowsPlain tells state offers s p plain → tab_at plain whole_tab ≡ Free
+        → IsTyped a → is_fault a ≡ false → ShowsPlain tells state offers s p plain → tab_at plain whole_tab ≡ Free
         → (a ≡ (serve (setting_of (basis tells state offers s)) script line plain).answer) × ShowsPlain tells state offers s q (serve (setting_of (basis tells state offers s)) script line plain).after
     pub leaves : (t : ℕ) (p q : Pass C) (plain : Plain) → t < whole_tab → LeftTab tells state offers s t p q → ShowsPlain tells state offers s p plain → ShowsPlain tells state offers s q (leave t plain)
 

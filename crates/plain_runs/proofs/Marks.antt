@@ -1,5 +1,5 @@
 -- Marks change nothing of what a pass shows.
-use Rattle.std.proofs.Common.{Bool, List, [], ap, arith, refl, subst, sym, true, ◌<◌, ◌∷◌, ◌≡◌, ◌∙◌, ℕ}
+use Rattle.std.proofs.Common.{Contains, Bool, List, [], ap, arith, refl, subst, sym, true, ◌<◌, ◌∷◌, ◌≡◌, ◌∙◌, ℕ}
 use Rattle.std.specs.Prelude.{◌≢◌}
 use Rattle.std.proofs.lemmas.List.Elements.{Contains-append_right}
 use Rattle.rock_disk.specs.Cell.{CellState}
@@ -7,7 +7,6 @@ use Rattle.core_model.specs.Tabs.{inner, is_free, tab_at}
 use Rattle.core_model.specs.declared.view.Item.{Item}
 use Rattle.core_model.specs.declared.view.Sight.{Sight}
 use Rattle.core_model.specs.declared.view.View.{View}
-use Rattle.line_account.specs.Courses.{Keeps as Remembers}
 use Rattle.plain_model.specs.declared.store.Plain.{Plain}
 use Rattle.plain_model.specs.declared.store.Tab.{Tab}
 use Rattle.plain_model.specs.declared.store.Tab.TheVariants.{Free, Reading, Writing}
@@ -20,9 +19,7 @@ use Rattle.store_rule.specs.Ground.{Ground, Offers}
 use Rattle.store_rule.specs.Lending.{buffer_at}
 use Rattle.store_rule.specs.Notes.{sees}
 use Rattle.store_rule.specs.Passes.{Keeps, basis, view}
-use Rattle.slice_chain.specs.Victims.{hand_in}
 use Rattle.rock_reader.specs.Reading.{ReadsAs, Standing}
-use Rattle.rock_writer.specs.Entries.{Entry, WritesAs}
 use Rattle.serve_lines.specs.Tabs.{IsFree, Leaves}
 use Rattle.serve_lines.specs.Whole.{whole_tab}
 use Rattle.worker_shelf.proofs.Holding.{Stays}
@@ -46,14 +43,6 @@ module _ {C O : Type 0} (tells : Bool) (state : C → CellState) (offers : O →
     pub free_still : (t : ℕ) → IsFree p t → IsFree q t
     free_still t free = same_tab t ∙ free
 
-    remembers : Remembers (view p) (view q)
-    remembers = subst (λ (v : View (List ℕ)). Remembers (view p) v) (sym more.view_is) record {
-      pass = refl;
-      seen = λ x h. Contains-append_right more.sights (view p).seen x h;
-      trail = λ x h. Contains-append_right (more.item ∷ []) (view p).trail x h;
-      met = λ a h. h;
-    }
-
     -- no tab has changed, so each tab below the inner one is another than this
     leaves_all : is_free (tab_at (view p) inner) ≡ true → Leaves tells state offers s 9 p q
     leaves_all free = record {
@@ -61,7 +50,12 @@ module _ {C O : Type 0} (tells : Bool) (state : C → CellState) (offers : O →
       inner_free = ap is_free (same_tab inner) ∙ free;
       others = λ j ne far. same_tab j;
       desks = λ j ne far. (ap (λ (ds : List Desk). buffer_at ds j) more.keeps.desks, ap (λ (ds : List Desk). draft_at ds j) more.keeps.desks);
-      keeps = remembers;
+      keeps = record {
+        pass = ap View.pass more.view_is;
+        seen = λ x h. subst (λ (v : View (List ℕ)). Contains v.seen x) (sym more.view_is) (Contains-append_right more.sights (view p).seen x h);
+        trail = λ x h. subst (λ (v : View (List ℕ)). Contains v.trail x) (sym more.view_is) (Contains-append_right (more.item ∷ []) (view p).trail x h);
+        met = λ a h. subst (λ (v : View (List ℕ)). Contains v.met a) (sym more.view_is) h;
+      };
       places = more.keeps.places;
       cells = more.keeps.cells;
     }
@@ -105,7 +99,7 @@ module _ {C O : Type 0} (tells : Bool) (state : C → CellState) (offers : O →
         own = more.keeps.own;
         inner_free = leaves.inner_free;
         knows = knows_more;
-        hand = ap (hand_in (basis tells state offers s).setting.anchors) more.keeps.hand ∙ shows.hand;
+        hand = (cc (more.keeps.hand, shows.hand));
         eight = shows.eight;
         tabs = λ t lt. tab_still t lt (plain_tab plain t) (shows.tabs t lt);
       }

@@ -28,7 +28,6 @@ use Rattle.store_rule.specs.Ground.{Ground, Offers}
 use Rattle.store_rule.specs.Passes.{IsNewOf, basis, view}
 use Rattle.store_rule.specs.Rebuilding.{chain_kept}
 use Rattle.store_rule.specs.Setting.{image_in, shown}
-use Rattle.slice_chain.specs.Victims.{hand_in}
 use Rattle.rock_open.specs.Opening.{IsStoreOver}
 use Rattle.rock_reader.specs.Responses.{HoldsFile}
 use Rattle.plain_lines.specs.Shows.{ShowsTab}
@@ -129,7 +128,7 @@ module _ {C O : Type 0} (tells : Bool) (state : C → CellState) (offers : O →
         own = new.own;
         inner_free = ap is_free (new_free 8);
         knows = knows_it;
-        hand = ap (hand_in g.setting.anchors) new.hand ∙ first_hand (nat_lt 0 g.setting.anchors);
+        hand = ap (λ (n : ℕ). cond (nat_lt n g.setting.anchors) n 0) new.hand ∙ first_hand (nat_lt 0 g.setting.anchors);
         eight = refl;
         tabs = λ t lt. subst (ShowsTab tells state offers s (λ v. v) p first t) (sym (free_tab 8 t)) (new_free t);
       }
