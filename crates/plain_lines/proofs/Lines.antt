@@ -36,7 +36,7 @@ use Rattle.serve_lines.specs.Tabs.{IsFree, IsMet, IsOffered, IsReading, IsTurned
 use Rattle.serve_lines.specs.Whole.{Gets, Purges, Puts, whole_tab}
 use Rattle.serve_lines.specs.Writing.{AddsTo, Begins, Drops, EndsEntry}
 use Rattle.worker_shelf.proofs.Holding.{Stays}
-use Rattle.worker_shelf.specs.Shelves.{LeftTab}
+use Rattle.worker_shelf.specs.Typed.{IsTyped}
 use Rattle.plain_lines.specs.Words.{IsLone, setting_of}
 use Rattle.plain_lines.specs.Shows.{Shows, ShowsReading, ShowsTab, ShowsWriting}
 use Rattle.plain_lines.proofs.OtherTabs.{IsOwn, KeepsElse, add_keeps, begin_keeps, close_else, end_keeps, get_else, give_up_keeps, more_else, open_else, purge_else, put_keeps}
@@ -60,7 +60,7 @@ module _ {C O : Type 0} (tells : Bool) (state : C → CellState) (offers : O →
 
   -- What is known of requests that were met, each on a tab that the plain store has so.
   pub record RequestsRight : Type 0 where
-    pub begins : (t offer : ℕ) (url : List ℕ) (body : Body) (p q : Pass C) (a : Answer) (plain : Plain) → t < 8 → ShowsPlain p plain → tab_at plain t ≡ Free → IsOffered tells state offers s offer url body
+    pub begins : (t offer : ℕ) (url : List ℕ) (body : Body) (p q : Pass C) (a : Answer) (plain : Plain) → t < 8 → ShowsPlain p plain → tab_at plain t ≡ Free → IsOffered tells state offers s offer url body → IsTyped a
         → Begins tells state offers s t p a q offer url → IsAs a q t (begin setting t url (bytes_of body) offer plain)
     pub adds : (t count anchor : ℕ) (p q : Pass C) (a : Answer) (plain : Plain) → t < 8 → ShowsPlain p plain → tab_at plain t ≡ Writing anchor → is_fault a ≡ false
         → ((e : Entry) → WritesAs tells state offers s p t e → AddsTo tells state offers s t p a q count e) → IsAs a q t (add setting t count plain)
@@ -68,35 +68,35 @@ module _ {C O : Type 0} (tells : Bool) (state : C → CellState) (offers : O →
         → ((e : Entry) → WritesAs tells state offers s p t e → EndsEntry tells state offers s t p a q e) → IsAs a q t (end setting t plain)
     pub drops : (t anchor : ℕ) (p q : Pass C) (a : Answer) (plain : Plain) → t < 8 → ShowsPlain p plain → tab_at plain t ≡ Writing anchor → Drops tells state offers s t p a q → IsAs a q t (give_up t plain)
     pub puts : (offer : ℕ) (url : List ℕ) (body : Body) (durable : Bool) (p q : Pass C) (a : Answer) (plain : Plain) → ShowsPlain p plain → tab_at plain whole_tab ≡ Free → is_fault a ≡ false
-        → IsOffered tells state offers s offer url body → Puts tells state offers s url p a q offer durable → IsAs a q whole_tab (put setting url (bytes_of body) offer plain)
-    pub opens : (t : ℕ) (url : List ℕ) (p q : Pass C) (a : Answer) (plain : Plain) → t < 8 → ShowsPlain p plain → tab_at plain t ≡ Free → IsUrl url → Opens tells state offers s t p a q url → IsAs a q t (open_tab setting t url plain)
+        → IsOffered tells state offers s offer url body → IsTyped a → Puts tells state offers s url p a q offer durable → IsAs a q whole_tab (put setting url (bytes_of body) offer plain)
+    pub opens : (t : ℕ) (url : List ℕ) (p q : Pass C) (a : Answer) (plain : Plain) → t < 8 → ShowsPlain p plain → tab_at plain t ≡ Free → IsTyped a → Opens tells state offers s t p a q url → IsAs a q t (open_tab setting t url plain)
     pub mores : (t anchor given : ℕ) (is_other : Bool) (p q : Pass C) (a : Answer) (plain : Plain) → t < 8 → ShowsPlain p plain → tab_at plain t ≡ Reading anchor given is_other → is_fault a ≡ false
         → ((e : Standing) → ReadsAs tells state offers s p t e → ReadsOn tells state offers s t p a q e) → IsAs a q t (more setting t plain)
     pub closes : (t anchor given : ℕ) (is_other : Bool) (p q : Pass C) (a : Answer) (plain : Plain) → t < 8 → ShowsPlain p plain → tab_at plain t ≡ Reading anchor given is_other → Closes tells state offers s t p a q → IsAs a q t (close t plain)
-    pub gets : (url : List ℕ) (p q : Pass C) (a : Answer) (plain : Plain) → ShowsPlain p plain → tab_at plain whole_tab ≡ Free → IsUrl url → is_fault a ≡ false → Gets tells state offers s url p a q → IsAs a q whole_tab (get setting url plain)
-    pub purges : (url : List ℕ) (p q : Pass C) (a : Answer) (plain : Plain) → ShowsPlain p plain → tab_at plain whole_tab ≡ Free → IsUrl url → Purges tells state offers s url p a q → IsAs a q whole_tab (purge setting url plain)
+    pub gets : (url : List ℕ) (p q : Pass C) (a : Answer) (plain : Plain) → ShowsPlain p plain → tab_at plain whole_tab ≡ Free → IsTyped a → is_fault a ≡ false → Gets tells state offers s url p a q → IsAs a q whole_tab (get setting url plain)
+    pub purges : (url : List ℕ) (p q : Pass C) (a : Answer) (plain : Plain) → ShowsPlain p plain → tab_at plain whole_tab ≡ Free → IsTyped a → Purges tells state offers s url p a q → IsAs a q whole_tab (purge setting url plain)
 
   -- What a tab of the pass is, the plain store has it as.
   module _ (p : Pass C) (plain : Plain) (h : ShowsPlain p plain) (t : ℕ) (below : t < 8) where
     shown : ShowsTab tells state offers s (λ v. v) p plain t (tab_at plain t)
     shown = h.tabs t below
 
-    writes_not_free : (a : ℕ) → ShowsWriting tells state offers s (λ v. v) p plain t a → IsFree p t → ⊥
+    pub writes_not_free : (a : ℕ) → ShowsWriting tells state offers s (λ v. v) p plain t a → IsFree p t → ⊥
     writes_not_free a w free = let k = sym w.writes.rests.is ∙ free in cc
 
-    reads_not_free : (a given : ℕ) (is_other : Bool) → ShowsReading tells state offers s (λ v. v) p plain t a given is_other → IsFree p t → ⊥
+    pub reads_not_free : (a given : ℕ) (is_other : Bool) → ShowsReading tells state offers s (λ v. v) p plain t a given is_other → IsFree p t → ⊥
     reads_not_free a given is_other r free = let k = sym r.reads.is ∙ free in cc
 
-    reads_not_writing : (a given : ℕ) (is_other : Bool) → ShowsReading tells state offers s (λ v. v) p plain t a given is_other → IsWriting tells state offers s p t → ⊥
+    pub reads_not_writing : (a given : ℕ) (is_other : Bool) → ShowsReading tells state offers s (λ v. v) p plain t a given is_other → IsWriting tells state offers s p t → ⊥
     reads_not_writing a given is_other r w = let k = sym r.reads.is ∙ w.1.rests.is in cc
 
-    writes_not_reading : (a : ℕ) → ShowsWriting tells state offers s (λ v. v) p plain t a → IsReading tells state offers s p t → ⊥
+    pub writes_not_reading : (a : ℕ) → ShowsWriting tells state offers s (λ v. v) p plain t a → IsReading tells state offers s p t → ⊥
     writes_not_reading a w r = let k = sym r.1.is ∙ w.writes.rests.is in cc
 
-    free_not_writing : IsFree p t → IsWriting tells state offers s p t → ⊥
+    pub free_not_writing : IsFree p t → IsWriting tells state offers s p t → ⊥
     free_not_writing free w = let k = sym w.1.rests.is ∙ free in cc
 
-    free_not_reading : IsFree p t → IsReading tells state offers s p t → ⊥
+    pub free_not_reading : IsFree p t → IsReading tells state offers s p t → ⊥
     free_not_reading free r = let k = sym r.1.is ∙ free in cc
 
     -- a tab that is turned away changed nothing
@@ -145,7 +145,7 @@ module _ {C O : Type 0} (tells : Bool) (state : C → CellState) (offers : O →
         of_tab (Reading at given is_other) is (inr m) = let r = subst (ShowsTab tells state offers s (λ v. v) p plain t) is shown in absurd (m.0 (r.standing, r.reads))
 
   -- The lines of all requests.
-  module _ (right : RequestsRight) (script : List Line) (number : ℕ) (p q : Pass C) (a : Answer) (plain : Plain) (h : ShowsPlain p plain) (whole : tab_at plain whole_tab ≡ Free) (fair : is_fault a ≡ false) where
+  module _ (right : RequestsRight) (script : List Line) (number : ℕ) (p q : Pass C) (a : Answer) (plain : Plain) (h : ShowsPlain p plain) (whole : tab_at plain whole_tab ≡ Free) (fair : is_fault a ≡ false) (typed : IsTyped a) where
     -- what is left is what the plain store leaves, with all its tabs
     abbrev Goal : Step → Type 0
     Goal made = (a ≡ made.answer) × ShowsPlain q made.after
@@ -159,12 +159,12 @@ module _ {C O : Type 0} (tells : Bool) (state : C → CellState) (offers : O →
 
       pub request_right : (request : Request) → MayAsk tells state offers s number request → ServesRequest tells state offers s number p a q request
           → ((t : ℕ) → UsesTab request t → Leaves tells state offers s t p q) → Goal (serve setting script record { worker = 1; number = number; request = request } plain)
-      request_right (Put url body) asks served leaves = after_all 7 _ (omega arith) (leaves 7 refl) (right.puts offer url body false p q a plain h whole fair asks served) (put_keeps setting plain url (bytes_of body) offer)
-      request_right (Save url body) asks served leaves = after_all 7 _ (omega arith) (leaves 7 refl) (right.puts offer url body true p q a plain h whole fair asks served) (put_keeps setting plain url (bytes_of body) offer)
-      request_right (Get url) asks served leaves = after_all 7 _ (omega arith) (leaves 7 refl) (right.gets url p q a plain h whole asks fair served) (get_else setting plain (IsOwn 7 plain) url)
-      request_right (Purge url) asks served leaves = after_all 7 _ (omega arith) (leaves 7 refl) (right.purges url p q a plain h whole asks served) (purge_else 7 (IsOwn 7 plain) setting plain url)
+      request_right (Put url body) asks served leaves = after_all 7 _ (omega arith) (leaves 7 refl) (right.puts offer url body false p q a plain h whole fair asks typed served) (put_keeps setting plain url (bytes_of body) offer)
+      request_right (Save url body) asks served leaves = after_all 7 _ (omega arith) (leaves 7 refl) (right.puts offer url body true p q a plain h whole fair asks typed served) (put_keeps setting plain url (bytes_of body) offer)
+      request_right (Get url) asks served leaves = after_all 7 _ (omega arith) (leaves 7 refl) (right.gets url p q a plain h whole typed fair served) (get_else setting plain (IsOwn 7 plain) url)
+      request_right (Purge url) asks served leaves = after_all 7 _ (omega arith) (leaves 7 refl) (right.purges url p q a plain h whole typed served) (purge_else 7 (IsOwn 7 plain) setting plain url)
       request_right (Begin t url body) asks served leaves = let below : t < 8 = let b = asks.0 in omega arith in after_all t _ below (leaves t refl)
-          (on_free p plain h t below a q _ (Begins tells state offers s t p a q offer url) served (λ free met. right.begins t offer url body p q a plain below h free asks.1 met) (λ at is. rw is refl) (λ at given is_other is. rw is refl))
+          (on_free p plain h t below a q _ (Begins tells state offers s t p a q offer url) served (λ free met. right.begins t offer url body p q a plain below h free asks.1 typed met) (λ at is. rw is refl) (λ at given is_other is. rw is refl))
           (begin_keeps setting plain t url (bytes_of body) offer)
       request_right (Add t count) asks served leaves = let below : t < 8 = omega arith in after_all t _ below (leaves t refl)
           (on_writer p plain h t below a q _ ((e : Entry) → WritesAs tells state offers s p t e → AddsTo tells state offers s t p a q count e) served (λ at is met. right.adds t count at p q a plain below h is fair met) (λ is. rw is refl) (λ at given is_other is. rw is refl))
@@ -176,7 +176,7 @@ module _ {C O : Type 0} (tells : Bool) (state : C → CellState) (offers : O →
           (on_writer p plain h t below a q _ (Drops tells state offers s t p a q) served (λ at is met. right.drops t at p q a plain below h is met) (λ is. rw is refl) (λ at given is_other is. rw is refl))
           (give_up_keeps t setting plain)
       request_right (OpenTab t url) asks served leaves = let below : t < 8 = let b = asks.0 in omega arith in after_all t _ below (leaves t refl)
-          (on_free p plain h t below a q _ (Opens tells state offers s t p a q url) served (λ free met. right.opens t url p q a plain below h free asks.1 met) (λ at is. rw is refl) (λ at given is_other is. rw is refl))
+          (on_free p plain h t below a q _ (Opens tells state offers s t p a q url) served (λ free met. right.opens t url p q a plain below h free typed met) (λ at is. rw is refl) (λ at given is_other is. rw is refl))
           (open_else t (IsOwn t plain) setting plain url)
       request_right (More t) asks served leaves = let below : t < 8 = omega arith in after_all t _ below (leaves t refl)
           (on_reader p plain h t below a q _ ((e : Standing) → ReadsAs tells state offers s p t e → ReadsOn tells state offers s t p a q e) served (λ at given is_other is met. right.mores t at given is_other p q a plain below h is fair met) (λ is. rw is refl) (λ at is. rw is refl))

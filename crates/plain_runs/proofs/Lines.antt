@@ -1,6 +1,5 @@
--- What is asked of the laws on lines: a line that a lone pass serves is answered as by the plain store, and a tab that it leaves is left as there.
-use Rattle.std.specs.Prelude.{Bool, IsTrue, List, false, ◌<◌, ◌≡◌, ℕ}
-use Rattle.db_layout.specs.Layout.{IsSlotSize}
+-- Lines that a lone pass serves, and tabs that it leaves, as the proofs on courses use them.
+use Rattle.std.specs.Prelude.{Bool, IsTrue, List, false, ◌++◌, ◌<◌, ◌≡◌, ◌≤◌, ℕ}
 use Rattle.rock_disk.specs.Cell.{CellState}
 use Rattle.script_text.specs.declared.answer.Answer.{Answer}
 use Rattle.script_text.specs.declared.line.Line.{Line}
@@ -10,33 +9,41 @@ use Rattle.plain_model.specs.Serving.{leave, serve}
 use Rattle.plain_model.specs.Store.{tab_at}
 use Rattle.store_rule.specs.declared.store.Pass.{Pass}
 use Rattle.store_rule.specs.declared.store.Store.{Store}
-use Rattle.store_rule.specs.Ground.{Offers}
+use Rattle.store_rule.specs.Ground.{Ground, Offers}
 use Rattle.store_rule.specs.Passes.{basis}
-use Rattle.rock_reader.specs.Responses.{HoldsFile}
+use Rattle.rock_reader.specs.Responses.{HoldsFile, IsResponse, body_below, pieces_of}
 use Rattle.serve_lines.specs.Answers.{is_fault}
 use Rattle.serve_lines.specs.Serving.{Serves, Takes}
 use Rattle.serve_lines.specs.Whole.{whole_tab}
 use Rattle.worker_shelf.specs.Shelves.{LeftTab}
 use Rattle.worker_shelf.specs.Typed.{IsTyped}
+use Rattle.worker_shelf.proofs.Holding.{Stays}
 use Rattle.plain_lines.specs.Words.{IsLone, setting_of}
+use Rattle.plain_lines.proofs.Served.{leaves_right, line_right}
+use Rattle.plain_lines.proofs.ShowingOthers.{OneBegins}
 use Rattle.plain_runs.specs.Runs.{ShowsPlain}
 
-module _ {C O : Type 0} (tells : Bool) (state : C → CellState) (offers : O → Offers) (s : Store C O) where
-  -- what holds of a store that was opened for one pass, over cells that tell what they hold
-  pub record IsAlone : Type 0 where
-    pub lone : IsLone (basis tells state offers s)
-    pub told : IsTrue tells
-    pub file : HoldsFile (basis tells state offers s)
-    pub sized : IsSlotSize (basis tells state offers s).slot
+-- the laws on what a reader was given: a front of the body, and at the last slot the whole
+abbrev pub GivesFronts : Type 0
+GivesFronts = (g : Ground (List ℕ)) (anchor offer places : ℕ) (url body : List ℕ) → g.slot < 4294967296 → IsResponse g anchor offer url body
+    → places ≤ pieces_of g anchor offer → (rest : List ℕ) × (body ≡ body_below g anchor offer places ++ rest)
 
-  -- What the laws say of such a store: of a line that it takes and that meets no fault, and of a tab that is left. The tab of whole requests is free
-  -- between lines.
+abbrev pub GivesWholes : Type 0
+GivesWholes = (g : Ground (List ℕ)) (anchor offer : ℕ) (url body : List ℕ) → g.slot < 4294967296 → IsResponse g anchor offer url body
+    → body ≡ body_below g anchor offer (pieces_of g anchor offer)
+
+module _ {C O : Type 0} (tells : Bool) (state : C → CellState) (offers : O → Offers) (s : Store C O) where
+  -- A line that the pass takes and that meets no fault, and a tab that is left. The tab of whole requests is free between lines.
   pub record LinesRight : Type 0 where
     pub line : (script : List Line) (line : Line) (p q : Pass C) (a : Answer) (before after : ℕ) (plain : Plain) → Takes tells state offers s p line → Serves tells state offers s line p a q before after
         → IsTyped a → is_fault a ≡ false → ShowsPlain tells state offers s p plain → tab_at plain whole_tab ≡ Free
         → (a ≡ (serve (setting_of (basis tells state offers s)) script line plain).answer) × ShowsPlain tells state offers s q (serve (setting_of (basis tells state offers s)) script line plain).after
     pub leaves : (t : ℕ) (p q : Pass C) (plain : Plain) → t < whole_tab → LeftTab tells state offers s t p q → ShowsPlain tells state offers s p plain → ShowsPlain tells state offers s q (leave t plain)
 
-  -- Not yet there: plain_lines is to say so.
-  pub lines_right : IsAlone → LinesRight
-  lines_right alone = ?
+  pub lines_right : IsLone (basis tells state offers s) → OneBegins → Stays tells state offers s → IsTrue tells → HoldsFile (basis tells state offers s) → GivesFronts → GivesWholes
+      → (basis tells state offers s).slot < 4294967296 → LinesRight
+  lines_right lone begins stays told file fronts wholes sized = record {
+    line = λ script line p q a before after plain takes serves typed fair shows whole.
+        line_right tells state offers s lone begins stays told file record { front = fronts; whole = wholes } sized script line p q a before after plain takes serves typed fair shows whole;
+    leaves = λ t p q plain below left shows. leaves_right tells state offers s lone begins stays t p q plain below left shows;
+  }

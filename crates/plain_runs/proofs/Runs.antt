@@ -9,7 +9,6 @@ use mathlib.Core.Option.{some}
 use lib.ListN.{get_elem?}
 use Rattle.rock_disk.specs.Cell.{CellState}
 use Rattle.rock_disk.specs.Opened.{AreSlots}
-use Rattle.db_layout.specs.Layout.{IsSlotSize}
 use Rattle.entry_cut.specs.Content.{room_of}
 use Rattle.script_text.specs.declared.answer.Answer.{Answer}
 use Rattle.script_text.specs.declared.answer.Answer.TheVariants.{Met, Unmet}
@@ -35,6 +34,7 @@ use Rattle.worker_shelf.specs.Shelves.{LeftBelow, OnShelf}
 use Rattle.worker_shelf.proofs.Holding.{Stays}
 use Rattle.crew_closings.specs.Playing.{HasRun, HasSteps, IsPlayed, fault_answers}
 use Rattle.plain_lines.specs.Words.{setting_of}
+use Rattle.plain_lines.proofs.ShowingOthers.{OneBegins}
 use Rattle.plain_runs.specs.Ends.{HoldsWhole}
 use Rattle.plain_runs.specs.Runs.{IsPlainRun, ShowsPlain, setting_over}
 use Rattle.plain_runs.proofs.AtAnchors.{OneKept}
@@ -42,7 +42,7 @@ use Rattle.plain_runs.proofs.Awaits.{IsOwnLine, Numbered, awaits_alike, served_l
 use Rattle.plain_runs.proofs.Courses.{AllRight, IsFair, Reached, all_right}
 use Rattle.plain_runs.proofs.Ends.{PlacedPieces, holds_whole, home_as}
 use Rattle.plain_runs.proofs.Leaving.{leaves_all}
-use Rattle.plain_runs.proofs.Lines.{IsAlone, LinesRight}
+use Rattle.plain_runs.proofs.Lines.{GivesFronts, GivesWholes, LinesRight, lines_right}
 use Rattle.plain_runs.proofs.Opened.{HoldsKept, as_many, has_versions, holds_file, new_free, shows_opened, tells_pieces}
 
 -- where none is counted, none is so
@@ -64,18 +64,14 @@ module _ {C O St : Type 0} (tells : Bool) (state : C → CellState) (offers : O 
     (over : IsStoreOver tells state offers slot anchors 1 origin cells s ps) (told : IsTrue tells) (as_wide : (c : C) → IsTrue tells → length (state c).now ≡ (state c).width)
     (slots : AreSlots slot (map state cells)) (one : OneKept) (holds : HoldsKept) (placed : PlacedPieces) (stays : Stays tells state offers s)
     (rose : (a : Account (OnShelf C O St)) → HasSteps tells state offers faults a → min (faults a.start.station + fault_answers a) (2 ^ 64 - 1) ≤ faults a.end.station)
-    (lines : IsAlone tells state offers s → LinesRight tells state offers s)
+    (begins : OneBegins) (fronts : GivesFronts) (wholes : GivesWholes)
     (script : List Line) (numbers : Numbered 0 script) (plain : Plain) (o : IsOpened slot (map (λ c. (state c).now) cells) anchors plain) where
   abbrev g : Ground (List ℕ)
   g = basis tells state offers s
 
-  alone : IsAlone tells state offers s
-  alone = record {
-    lone = over.passes_are;
-    told = told;
-    file = holds_file tells state offers slot anchors 1 origin cells s ps over told holds;
-    sized = subst IsSlotSize (sym over.slot_is) slots.size;
-  }
+  lines : LinesRight tells state offers s
+  lines = lines_right tells state offers s over.passes_are begins stays told (holds_file tells state offers slot anchors 1 origin cells s ps over told holds) fronts wholes
+      (let z = slots.size.to in let e = over.slot_is in omega arith)
 
   setting_is : setting_of g ≡ setting_over slot anchors (length cells)
   setting_is i = record { slots = over.slots_are i; room = room_of (over.slot_is i); anchors = over.anchors_are i }
@@ -87,7 +83,7 @@ module _ {C O St : Type 0} (tells : Bool) (state : C → CellState) (offers : O 
     own : (x : Stage (OnShelf C O St)) → Contains a.stages x → IsOwnLine 1 0 script x.place x.line
     own x c = served_line 1 script a.stages numbers h.each x c
 
-    fair : (x : Stage (OnShelf C O St)) → Contains a.stages x → IsFair tells state offers faults s script (lines alone) stays a.start.pass x
+    fair : (x : Stage (OnShelf C O St)) → Contains a.stages x → IsFair tells state offers faults s script lines stays a.start.pass x
     fair x c = record {
       step = h.has_steps.steps x c;
       takes = λ served. h.takes x.line (own x c).among (own x c).mine served;
@@ -95,7 +91,7 @@ module _ {C O St : Type 0} (tells : Bool) (state : C → CellState) (offers : O 
       awaits = λ mark is. h.awaits x c mark is ∙ ap (λ (b : Bool). cond b Met Unmet) (awaits_alike script mark 1 x.place x.line numbers (own x c));
     }
 
-    started : Reached tells state offers faults s script (lines alone) stays a.start.pass a.start plain
+    started : Reached tells state offers faults s script lines stays a.start.pass a.start plain
     started = record {
       store = h.store;
       number = refl;
@@ -103,8 +99,8 @@ module _ {C O St : Type 0} (tells : Bool) (state : C → CellState) (offers : O 
       whole = new_free tells state offers slot anchors 1 origin cells s ps over told as_wide slots one a.start.pass h.fresh plain o whole_tab;
     }
 
-    done : AllRight tells state offers faults s script (lines alone) stays a.start.pass a.stages a.last plain
-    done = all_right tells state offers faults s script (lines alone) stays a.start.pass a.stages a.start a.last plain h.has_steps.linked fair started
+    done : AllRight tells state offers faults s script lines stays a.start.pass a.stages a.last plain
+    done = all_right tells state offers faults s script lines stays a.start.pass a.stages a.start a.last plain h.has_steps.linked fair started
 
     own_lines : map (λ x. x.line) a.stages ≡ lines_for 1 script
     own_lines = served_lines 1 script a.stages h.each
@@ -112,7 +108,7 @@ module _ {C O St : Type 0} (tells : Bool) (state : C → CellState) (offers : O 
     -- what the script leaves
     left_shown : ShowsPlain tells state offers s a.end.pass (left_by (setting_of g) script 1 plain)
     left_shown = subst (λ (ls : List Line). ShowsPlain tells state offers s a.end.pass (leave_all (range_with_len 0 8) (after (setting_of g) script ls plain))) own_lines
-        (leaves_all tells state offers s (lines alone) a.last.pass a.end.pass (after (setting_of g) script (map (λ x. x.line) a.stages) plain)
+        (leaves_all tells state offers s lines a.last.pass a.end.pass (after (setting_of g) script (map (λ x. x.line) a.stages) plain)
         (subst (λ (z : Store C O). LeftBelow tells state offers z whole_tab a.last.pass a.end.pass) done.reached.store h.has_steps.left.left) done.reached.shows done.reached.whole)
 
     module _ (accounts : List (Account (OnShelf C O St))) (at : At accounts 0 a) (left : List C) (closed : Closed tells state g (map (λ b. view b.end.pass) accounts) left) where

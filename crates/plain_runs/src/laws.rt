@@ -26,9 +26,9 @@ ghost use Rattle.plain_runs.specs.Runs.{IsPlainRun, ShowsPlain};
 
 use crew_closings::faults_are_counted;
 use entry_cut::placed_pieces_are_an_entry;
-use rebuild_model::one_winner_at_an_anchor;
+use rebuild_model::{one_entry_at_a_slot, one_winner_at_an_anchor};
 use rock_disk::{Cell, Station};
-use rock_reader::opened_stores_hold_their_files;
+use rock_reader::{bodies_are_given_from_the_front, opened_stores_hold_their_files};
 use serve_lines::requests_keep_other_tabs;
 use store_rule::Origin;
 
@@ -73,7 +73,9 @@ pub fn lone_runs_are_plain<C: Cell, O: Origin, St: Station<C = C>>()
         → St.faults a.end.station ≡ 0 → IsOpened slot (map (λ c. (C.state c).now) cells) anchors plain
         → IsPlainRun C.tells C.state O.offers s slot anchors (length cells) script plain a left }
 {
+    one_entry_at_a_slot();
     one_winner_at_an_anchor();
+    bodies_are_given_from_the_front();
     opened_stores_hold_their_files();
     placed_pieces_are_an_entry();
     requests_keep_other_tabs::<C, O>();

@@ -25,6 +25,7 @@ module _ {C O : Type 0} (tells : Bool) (state : C → CellState) (offers : O →
     pub reads : IfOk outcome (λ version. (offer : ℕ) × ReadsAs tells state offers s q t (newly (anchor_for (basis tells state offers s) url) version offer url))
     pub refused : IfErr outcome (λ cause. Refused (basis tells state offers s) t url (view p) cause (view q))
     pub free : OnErr outcome (IsFree q t)
+    pub stays : q.hand ≡ p.hand
 
   -- the tab that stood so was given these bytes, and then there was no more to give, for this cause
   pub record ReadsOn (e : Standing) : Type 0 where
@@ -32,12 +33,14 @@ module _ {C O : Type 0} (tells : Bool) (state : C → CellState) (offers : O →
     pub bytes : List ℕ
     pub answer_is : AnswersMore why bytes a
     pub went : WentOn tells state offers s t e p q bytes why
+    pub stays : q.hand ≡ p.hand
 
   -- it left its entry
   pub record Closes : Type 0 where
     pub answer_is : a ≡ answer.Closed
     pub parted : Parted (basis tells state offers s) t (view p) (view q)
     pub free : IsFree q t
+    pub stays : q.hand ≡ p.hand
 
   -- The requests. However the tab reads, it is served so.
   abbrev pub OpensOn : (url : List ℕ) → Type 0

@@ -15,7 +15,7 @@ use Rattle.rock_writer.specs.declared.fault.Ended.{Ended}
 use Rattle.purge_entry.specs.Judging.{Refused}
 use Rattle.purge_entry.specs.Purging.{Purged}
 use Rattle.store_serve.specs.Getting.{GotAs}
-use Rattle.store_serve.specs.Storing.{NotPut, PutWhole}
+use Rattle.store_serve.specs.Storing.{NotPut, PutWhole, StaysUnlessBegun}
 use Rattle.store_serve.specs.declared.getting.Got.{Got}
 use Rattle.store_serve.specs.declared.storing.PutFault.{PutFault}
 use Rattle.serve_lines.specs.Answers.{AnswersGet, answer_to_purge, answer_to_put}
@@ -35,6 +35,7 @@ module _ {C O : Type 0} (tells : Bool) (state : C → CellState) (offers : O →
     pub refused : IfErr outcome (λ fault. NotPut tells state offers s whole_tab offer url durable p q fault)
     pub long : (a ≡ answer.LongUrl) ↔ IsTooLong (basis tells state offers s) url
     pub free : IsFree q whole_tab
+    pub stays : IfErr outcome (λ fault. StaysUnlessBegun fault p.hand q.hand)
 
   -- the entry of the URL was got, or there was none
   pub record Gets : Type 0 where
@@ -43,6 +44,7 @@ module _ {C O : Type 0} (tells : Bool) (state : C → CellState) (offers : O →
     pub answer_is : AnswersGet got bytes a
     pub went : GotAs tells state offers s whole_tab url p q bytes got
     pub free : IsFree q whole_tab
+    pub stays : q.hand ≡ p.hand
 
   -- it was purged, or there was none
   pub record Purges : Type 0 where
@@ -51,3 +53,4 @@ module _ {C O : Type 0} (tells : Bool) (state : C → CellState) (offers : O →
     pub purged : IfOk outcome (λ left. Purged (basis tells state offers s) inner url (view p) left (view q))
     pub refused : IfErr outcome (λ cause. Refused (basis tells state offers s) inner url (view p) cause (view q))
     pub same : (view q).tabs ≡ (view p).tabs
+    pub stays : q.hand ≡ p.hand

@@ -13,7 +13,7 @@ use Rattle.rock_writer.specs.Halting.{Halts}
 use Rattle.rock_writer.specs.declared.fault.BeginFault.{BeginFault}
 use Rattle.rock_writer.specs.declared.fault.Ended.{Ended}
 use Rattle.rock_writer.specs.declared.fault.WriteFault.{WriteFault}
-use Rattle.store_serve.specs.Adding.{Added, NotAdded}
+use Rattle.store_serve.specs.Adding.{Added, NotAdded, StoppedBelow}
 use Rattle.store_serve.specs.Storing.{EndedWhole, NotEnded, left_of}
 use Rattle.serve_lines.specs.Answers.{answer_to_add, answer_to_begin, answer_to_end}
 use Rattle.serve_lines.specs.Tabs.{IsFree, IsMet, IsWriting}
@@ -27,6 +27,7 @@ module _ {C O : Type 0} (tells : Bool) (state : C → CellState) (offers : O →
     pub refused : IfErr outcome (λ fault. NotTaken (basis tells state offers s) t (anchor_for (basis tells state offers s) url) (view p) fault (view q))
     pub long : (a ≡ answer.LongUrl) ↔ IsTooLong (basis tells state offers s) url
     pub free : OnErr outcome (IsFree q t)
+    pub stays : q.hand ≡ p.hand
 
   -- Of the body of the entry e so many bytes were taken, or all that are left if these are fewer; or it was given up.
   pub record AddsTo (count : ℕ) (e : Entry) : Type 0 where
@@ -35,6 +36,7 @@ module _ {C O : Type 0} (tells : Bool) (state : C → CellState) (offers : O →
     pub all : IfOk outcome (λ added. added ≡ min count (left_of tells state offers s t e p q))
     pub added : IfOk outcome (λ added. Added tells state offers s t e p q added)
     pub given_up : IfErr outcome (λ fault. NotAdded tells state offers s t e p q fault)
+    pub fewer : IfErr outcome (λ fault. StoppedBelow tells state offers s t e p q (min count (left_of tells state offers s t e p q)) fault)
 
   -- the rest of it was taken and the entry closed, or it was given up
   pub record EndsEntry (e : Entry) : Type 0 where
@@ -47,6 +49,7 @@ module _ {C O : Type 0} (tells : Bool) (state : C → CellState) (offers : O →
   pub record Drops : Type 0 where
     pub answer_is : a ≡ answer.Dropped
     pub halts : Halts (basis tells state offers s) t (view p) (view q)
+    pub stays : q.hand ≡ p.hand
 
   -- The requests. Whatever entry the tab writes, it is served so.
   abbrev pub BeginsOn : (offer : ℕ) (url : List ℕ) → Type 0

@@ -6,6 +6,7 @@ use mathlib.Core.Option.{some}
 use lib.ListN.{get_elem?}
 use Rattle.lock_word.specs.declared.stage.Stage.{Stage}
 use Rattle.lock_word.specs.Words.{epoch_of, raised}
+use Rattle.core_model.specs.Layout.{index}
 use Rattle.rock_disk.specs.Cell.{CellState}
 use Rattle.core_model.specs.Chains.{start_number, times}
 use Rattle.core_model.specs.SlotMoves.{emptied, loaded}
@@ -141,6 +142,7 @@ module _ {C O : Type 0} (tells : Bool) (state : C → CellState) (offers : O →
       tabs = tabs0 ∙ ap (set (view p).tabs inner) (λ i. cond ((length (gave.all.rest i) == 0) && (length (gave.all.none i) == 0) && not ((is_freeing_still ∙ off) i)) Free (Freeing last));
       changed = λ q c. inl (changes q c);
       gone = λ on. absurd (false≢true (sym off ∙ on));
+      from = λ on. absurd (false≢true (sym off ∙ on));
       quiet = λ e. rest_quiet;
     }
 
@@ -182,8 +184,15 @@ module _ {C O : Type 0} (tells : Bool) (state : C → CellState) (offers : O →
             ending.at_six tells state offers s p2 own2 last tab2 still_on gave.all.rest gave.all.none m p3 ended,
             subst (λ (a : ℕ). has g (view p3) (Anchor a) ≡ raised ended.found 1) anchor_is (ending.end_has tells state offers s p2 own2 last tab2 still_on gave.all.rest gave.all.none m p3 ended),
           );
+          from = λ e lt mine. subst (λ (a : ℕ). has g (view p3) (Anchor a) ≡ raised ended.found 1) anchor_is (ending.end_has tells state offers s p2 own2 last tab2 still_on gave.all.rest gave.all.none m p3 ended)
+              ∙ ap (λ (n : ℕ). raised n 1) (ending.end_found tells state offers s p2 own2 last tab2 still_on gave.all.rest gave.all.none m p3 ended mine
+              ∙ ap (λ (a : ℕ). has g (view p2) (Anchor a)) anchor_is
+              ∙ rest_went.steady (Anchor f.anchor) tt lt mine (λ q c same. let x = changes q c in behind_anchors x.0 lt (ap (index g.setting) (sym x.1) ∙ same)));
           quiet = λ off. absurd (false≢true (sym off ∙ on));
         }
+          where
+            behind_anchors : (slot : ℕ) → f.anchor < g.setting.anchors → index g.setting (Link slot) ≡ index g.setting (Anchor f.anchor) → ⊥
+            behind_anchors slot lt e = omega arith
 
 module _ {C O : Type 0} (tells : Bool) (state : C → CellState) (offers : O → Offers) (s : Store C O) (p p1 p2 p3 : Pass C) (n m : ℕ) where
   pub chain_follows : Made tells state offers s p (LoadSide inner Start) n p1 → Follows tells state offers s inner p1 p2 → Made tells state offers s p2 (Raise inner Stage.Gone) m p3 → Follows tells state offers s inner p p3

@@ -26,8 +26,8 @@ use Rattle.store_rule.specs.Ground.{Ground, Offers}
 use Rattle.store_rule.specs.Passes.{IsOf, Made, May, basis, view}
 use Rattle.store_rule.specs.Told.{found_as}
 use Rattle.pass_calls.specs.Runs.{Added, Went, added_by}
-use Rattle.pass_calls.specs.Words.{has}
-use Rattle.pass_calls.proofs.AddingUp.{has_left, went_one}
+use Rattle.pass_calls.specs.Words.{Mine, has}
+use Rattle.pass_calls.proofs.AddingUp.{found_mine, has_left, went_one}
 
 module _ {C O : Type 0} (tells : Bool) (state : C → CellState) (offers : O → Offers) (s : Store C O) (p : Pass C) (own : IsOf tells state offers s p) (last : Freer) (tab : tab_at (view p) inner ≡ Freeing last)
     (on : last.is_freeing ≡ true) (rest : last.rest ≡ []) (loose : last.loose ≡ []) where
@@ -88,3 +88,7 @@ module _ {C O : Type 0} (tells : Bool) (state : C → CellState) (offers : O →
 
     pub end_has : has g (view q) (Anchor last.anchor) ≡ raised ended.found 1
     end_has = has_left g (view p) (view q) (Raise inner Stage.Gone) ended.found (Anchor (anchor_of (tab_at (view p) inner))) (Anchor last.anchor) ended.step refl (ap (λ (a : ℕ). 5 * a) a_is) ∙ left_is
+
+    -- where nobody else changes the word, it found what the pass knew there
+    pub end_found : Mine g (view p) (Anchor last.anchor) → ended.found ≡ has g (view p) (Anchor last.anchor)
+    end_found mine = found_mine g (view p) (view q) (Raise inner Stage.Gone) ended.found (Anchor (anchor_of (tab_at (view p) inner))) ended.step mine refl ∙ ap (λ (a : ℕ). has g (view p) (Anchor a)) a_is

@@ -1,10 +1,11 @@
 -- An entry is given back but for its first slot, which a writing tab reserved.
-use Rattle.std.proofs.Common.{Bool, Contains, List, None, Option, Some, [], ap, arith, cond, eq-eqb, false, get_or, get_or-set_other, get_or-set_same, inl, inr, ne_eqb, refl, set, subst, suc, sym, true, unwrap_or, zero, ⊎_elim, ◌++◌, ◌==◌, ◌≡◌, ◌≢◌, ◌∙◌, ◌∷◌, ℕ}
+use Rattle.std.proofs.Common.{Bool, Contains, List, None, Option, Some, [], ap, arith, cond, eq-eqb, false, get_or, get_or-set_other, get_or-set_same, inl, inr, ne_eqb, refl, set, subst, suc, sym, true, unwrap_or, zero, ⊎_elim, ◌++◌, ◌==◌, ◌<◌, ◌≡◌, ◌≢◌, ◌∙◌, ◌∷◌, ℕ}
 use Rattle.std.proofs.lemmas.Bool.{false≢true}
 use Rattle.std.proofs.lemmas.List.{set_comm}
 use Rattle.std.proofs.lemmas.List.Elements.{Contains-append_cases, Contains-append_left, Contains-append_right}
 use Rattle.lock_word.specs.declared.stage.Stage.{Stage}
 use Rattle.lock_word.specs.Words.{epoch_of, raised}
+use Rattle.core_model.specs.Layout.{index}
 use Rattle.link_word.specs.Words.{link_number}
 use Rattle.link_word.specs.declared.link.Link.{Link as LinkOf}
 use Rattle.rock_disk.specs.Cell.{CellState}
@@ -241,7 +242,13 @@ module _ {C O : Type 0} (tells : Bool) (state : C → CellState) (offers : O →
                   ∙ (λ i. record { pass = rest_went.pass i; kind = Raised; anchor = anchor_is i; epoch = epoch_of (raised ended.found 1); was_idle = false } ∷ []);
               gone = ending.at_six tells state offers s p4 follows4.own last inner4 on gave.all.rest gave.all.none k p5 ended;
               left = subst (λ (a : ℕ). has g (view p5) (Anchor a) ≡ raised ended.found 1) anchor_is (ending.end_has tells state offers s p4 follows4.own last inner4 on gave.all.rest gave.all.none k p5 ended);
+              from = λ lt mine. ap (λ (n : ℕ). raised n 1) (ending.end_found tells state offers s p4 follows4.own last inner4 on gave.all.rest gave.all.none k p5 ended mine
+                  ∙ ap (λ (a : ℕ). has g (view p4) (Anchor a)) anchor_is
+                  ∙ rest_went.steady (Anchor f.anchor) tt lt mine (λ q c same. let x = rest_changed q c in behind_anchors x.0 lt (ap (index g.setting) (sym x.1) ∙ same)));
             }
+              where
+                behind_anchors : (j : ℕ) → f.anchor < g.setting.anchors → index g.setting (Link j) ≡ index g.setting (Anchor f.anchor) → ⊥
+                behind_anchors j lt e = omega arith
 
             pub kept_follows : FollowsEvicting tells state offers s t p p5
             kept_follows = evicting_on tells state offers s t p p4 p5

@@ -1,5 +1,5 @@
 -- The slots of an entry that is given up are given back, one after the other.
-use Rattle.std.specs.Prelude.{Bool, Contains, List, None, Option, Some, [], cond, false, length, slice_index, true, ◌-◌, ◌==◌, ◌∷◌, ◌≡◌, ◌≢◌, ◌⊎◌, ℕ}
+use Rattle.std.specs.Prelude.{Bool, Contains, List, None, Option, Some, [], cond, false, length, slice_index, true, ◌-◌, ◌<◌, ◌==◌, ◌∷◌, ◌≡◌, ◌≢◌, ◌⊎◌, ℕ}
 use Rattle.lock_word.specs.Words.{epoch_of, raised, stage_of}
 use Rattle.core_model.specs.AnchorMoves.{deed_of}
 use Rattle.core_model.specs.declared.view.Item.{Item}
@@ -8,7 +8,7 @@ use Rattle.core_model.specs.declared.view.Place.{Place}
 use Rattle.core_model.specs.declared.view.Place.TheVariants.{Anchor, Link}
 use Rattle.pass_calls.specs.Calls.{Others}
 use Rattle.pass_calls.specs.Runs.{Added, Went}
-use Rattle.pass_calls.specs.Words.{has}
+use Rattle.pass_calls.specs.Words.{Mine, has}
 use Rattle.rock_disk.specs.Cell.{CellState}
 use Rattle.core_model.specs.Chains.{rest_of}
 use Rattle.core_model.specs.SlotMoves.{emptied}
@@ -147,4 +147,5 @@ module _ {X : Type 0} (g : Ground X) where
     pub tabs : w.tabs ≡ with_tab v inner Free
     pub changed : (p : Place) → Contains added.changed p → ((slot : ℕ) × (p ≡ Link slot) × Contains freer.rest slot) ⊎ ((freer.is_freeing ≡ true) × (p ≡ Anchor freer.anchor))
     pub gone : freer.is_freeing ≡ true → (n : ℕ) × (added.done ≡ deed_of v Raised freer.anchor (raised n 1) false ∷ []) × (stage_of (epoch_of (raised n 1)) ≡ 6) × (has g w (Anchor freer.anchor) ≡ raised n 1)
+    pub from : freer.is_freeing ≡ true → freer.anchor < g.setting.anchors → Mine g v (Anchor freer.anchor) → has g w (Anchor freer.anchor) ≡ raised (has g v (Anchor freer.anchor)) 1
     pub quiet : freer.is_freeing ≡ false → (added.sights ≡ []) × (added.done ≡ []) × (added.meetings ≡ [])

@@ -1,6 +1,6 @@
 -- An idle entry is evicted for a slot that a writer needs.
 use Rattle.std.specs.Prelude.{Bool, Contains, List, [], cond, false, nat_lt, slice_index, slice_set, true, ◌+◌, ◌-◌, ◌<◌, ◌≡◌, ◌≢◌, ◌≤◌, ◌⊎◌, ◌∷◌, ℕ}
-use Rattle.lock_word.specs.Words.{IsWord, epoch_of, evicted, is_idle, stage_of}
+use Rattle.lock_word.specs.Words.{IsWord, epoch_of, evicted, is_idle, raised, stage_of}
 use Rattle.rock_disk.specs.Cell.{CellState}
 use Rattle.core_model.specs.AnchorMoves.{deed_of, freer_of}
 use Rattle.core_model.specs.Chains.{rest_of}
@@ -84,6 +84,7 @@ pub record KeptFirst {X : Type 0} (g : Ground X) (t : ℕ) (v : View X) (slot : 
   pub done : added.done ≡ deed_of v Raised freer.anchor word false ∷ []
   pub gone : stage_of (epoch_of word) ≡ 6
   pub left : has g w (Anchor freer.anchor) ≡ word
+  pub from : freer.anchor < g.setting.anchors → Mine g v (Anchor freer.anchor) → word ≡ raised (has g v (Anchor freer.anchor)) 1
 
 module _ {C O : Type 0} (tells : Bool) (state : C → CellState) (offers : O → Offers) where
   -- The pass is of the store still, and all but this tab, the inner one and the hand is as it was.

@@ -1,5 +1,5 @@
 -- Bytes are taken by calls, one behind the other.
-use Rattle.std.proofs.Common.{◌≡◌, ℕ, ◌+◌, ◌-◌, ◌≤◌, ◌∙◌, [], ◌∷◌, List, Bool, ap, arith, drop, length, refl, subst, sym, take}
+use Rattle.std.proofs.Common.{◌<◌, ◌≡◌, ℕ, ◌+◌, ◌-◌, ◌≤◌, ◌∙◌, [], ◌∷◌, List, Bool, ap, arith, drop, length, refl, subst, sym, take}
 use Rattle.std.specs.Prelude.{Err, IsErrOf, Result}
 use Rattle.rock_disk.specs.Cell.{CellState}
 use Rattle.store_rule.specs.declared.store.Pass.{Pass}
@@ -10,7 +10,7 @@ use Rattle.rock_writer.specs.declared.fault.WriteFault.{WriteFault}
 use Rattle.rock_writer.specs.Appending.{Appended, MayAppend, NotAppended}
 use Rattle.rock_writer.specs.Entries.{Entry, WritesAs, with_taken}
 use Rattle.rock_writer.specs.Passes.{FollowsWriting}
-use Rattle.store_serve.specs.Adding.{Added, MayAdd, NotAdded, taken_on}
+use Rattle.store_serve.specs.Adding.{Added, MayAdd, NotAdded, StoppedBelow, taken_on}
 
 pub same_error : {T E : Type 0} {f g : E} → ◌≡◌ {A = Result T E} (Err f) (Err g) → f ≡ g
 same_error e = cc
@@ -50,6 +50,10 @@ module _ {C O : Type 0} (tells : Bool) (state : C → CellState) (offers : O →
     pub added_not : (u q : Pass C) (total : ℕ) (bytes : List ℕ) (fault : WriteFault) → Added tells state offers s t e p u total → NotAppended tells state offers s t (taken_on e total) bytes u q fault
         → NotAdded tells state offers s t e p q fault
     added_not u q total bytes fault added stopped = record { calls = added.calls; middle = u; total = total; took = added.took; bytes = bytes; stopped = stopped }
+
+    pub added_below : (u q : Pass C) (total most : ℕ) (bytes : List ℕ) (fault : WriteFault) → total < most → Added tells state offers s t e p u total → NotAppended tells state offers s t (taken_on e total) bytes u q fault
+        → StoppedBelow tells state offers s t e p q most fault
+    added_below u q total most bytes fault less added stopped = record { not_added = record { calls = added.calls; middle = u; total = total; took = added.took; bytes = bytes; stopped = stopped }; fewer = less }
 
     -- so more may be taken
     pub adds_still : (body : List ℕ) (from upto taken : ℕ) (u : Pass C) → MayAdd tells state offers s t e body from upto p → from ≤ taken → taken ≤ upto → Added tells state offers s t e p u (taken - from)

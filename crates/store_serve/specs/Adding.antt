@@ -1,5 +1,5 @@
 -- Bytes of a body are taken by calls, one behind the other.
-use Rattle.std.specs.Prelude.{Bool, List, [], length, ◌+◌, ◌∷◌, ◌≡◌, ◌≤◌, ℕ}
+use Rattle.std.specs.Prelude.{Bool, List, [], length, ◌+◌, ◌<◌, ◌∷◌, ◌≡◌, ◌≤◌, ℕ}
 use Rattle.rock_disk.specs.Cell.{CellState}
 use Rattle.store_rule.specs.declared.store.Pass.{Pass}
 use Rattle.store_rule.specs.declared.store.Store.{Store}
@@ -49,3 +49,8 @@ module _ {C O : Type 0} (tells : Bool) (state : C → CellState) (offers : O →
       pub took : Took e p calls middle total
       pub bytes : List ℕ
       pub stopped : NotAppended tells state offers s t (taken_on e total) bytes middle q fault
+
+    -- the same, where fewer than so many had been taken before
+    pub record StoppedBelow (most : ℕ) (fault : WriteFault) : Type 0 where
+      pub not_added : NotAdded fault
+      pub fewer : not_added.total < most

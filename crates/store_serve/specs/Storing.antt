@@ -1,5 +1,5 @@
 -- An entry is written to its end, and a response is stored whole.
-use Rattle.std.specs.Prelude.{Bool, List, length, ◌-◌, ◌⊎◌, ℕ}
+use Rattle.std.specs.Prelude.{Bool, List, length, ◌-◌, ◌≡◌, ◌⊎◌, ℕ}
 use Rattle.rock_disk.specs.Cell.{CellState}
 use Rattle.store_rule.specs.declared.store.Pass.{Pass}
 use Rattle.store_rule.specs.declared.store.Store.{Store}
@@ -42,6 +42,7 @@ module _ {C O : Type 0} (tells : Bool) (state : C → CellState) (offers : O →
       pub middle : Pass C
       pub version : ℕ
       pub began : Began tells state offers s t offer url durable p middle version
+      pub stays : middle.hand ≡ p.hand
       pub ends : EndedWhole (begun tells state offers s t offer url durable p middle version) middle q ended
 
     -- or given up
@@ -49,9 +50,15 @@ module _ {C O : Type 0} (tells : Bool) (state : C → CellState) (offers : O →
       pub middle : Pass C
       pub version : ℕ
       pub began : Began tells state offers s t offer url durable p middle version
+      pub stays : middle.hand ≡ p.hand
       pub stopped : NotEnded (begun tells state offers s t offer url durable p middle version) middle q fault
 
     -- no entry was begun, for this cause; or it was given up
     abbrev pub NotPut : PutFault → Type 0
     NotPut (Begin fault) = NotTaken (basis tells state offers s) t (anchor_for (basis tells state offers s) url) (view p) fault (view q)
     NotPut (Write fault) = GaveUpPut fault
+
+-- where no entry was begun, the place where the next search for an entry to evict begins is as it was
+abbrev pub StaysUnlessBegun : PutFault → (hand hand_after : ℕ) → Type 0
+StaysUnlessBegun (Begin fault) hand hand_after = hand_after ≡ hand
+StaysUnlessBegun (Write fault) hand hand_after = Unit {0}

@@ -5,7 +5,7 @@ ghost use Rattle.rock_io.specs.Faults.{Rose};
 ghost use Rattle.rock_writer.specs.Appending.{Appended, NotAppended};
 ghost use Rattle.rock_writer.specs.Entries.{Entry};
 ghost use Rattle.rock_writer.specs.Passes.{FollowsWriting};
-ghost use Rattle.store_serve.specs.Adding.{Added, MayAdd, NotAdded};
+ghost use Rattle.store_serve.specs.Adding.{Added, MayAdd, NotAdded, StoppedBelow};
 
 use crate::bodies::{PIECE, letters};
 use rock_disk::{Cell, Station};
@@ -32,6 +32,8 @@ pub fn add_bytes<C: Cell, O: Origin, St: Station<C = C>>(
         → IfOk result (λ done. Added C.tells C.state O.offers store.now tab e pass.old pass.new (upto - from)) }
     ensures err { (e : Entry) → MayAdd C.tells C.state O.offers store.now tab e (bytes_of body.now) from upto pass.old
         → IfErr result (λ fault. NotAdded C.tells C.state O.offers store.now tab e pass.old pass.new fault) }
+    ensures fewer { (e : Entry) → MayAdd C.tells C.state O.offers store.now tab e (bytes_of body.now) from upto pass.old
+        → IfErr result (λ fault. StoppedBelow C.tells C.state O.offers store.now tab e pass.old pass.new (upto - from) fault) }
     ensures others { FollowsWriting C.tells C.state O.offers store.now tab pass.old pass.new }
     ensures unfailed { (IsErrOf result WriteFault.Fault → ⊥) → St.faults station.new ≡ St.faults station.old }
     ensures failed { IsErrOf result WriteFault.Fault → Rose (St.faults station.old) (St.faults station.new) }

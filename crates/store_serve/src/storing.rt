@@ -9,7 +9,7 @@ ghost use Rattle.rock_writer.specs.Entries.{Entry};
 ghost use Rattle.rock_writer.specs.Passes.{FollowsWriting};
 ghost use Rattle.store_rule.specs.Passes.{basis, view};
 ghost use Rattle.store_serve.specs.Adding.{MayAdd};
-ghost use Rattle.store_serve.specs.Storing.{EndedWhole, NotEnded, NotPut, PutWhole};
+ghost use Rattle.store_serve.specs.Storing.{EndedWhole, NotEnded, NotPut, PutWhole, StaysUnlessBegun};
 
 use crate::adding::add_bytes;
 use crate::bodies::body_length;
@@ -81,6 +81,7 @@ pub fn put_entry<C: Cell, O: Origin, St: Station<C = C>>(
     ensures ok { IfOk result (λ ended. PutWhole C.tells C.state O.offers store.now tab offer url.now durable pass.old pass.new ended) }
     ensures err { IfErr result (λ fault. NotPut C.tells C.state O.offers store.now tab offer url.now durable pass.old pass.new fault) }
     ensures long { IsErrOf result (PutFault.Begin BeginFault.LongUrl) ↔ IsTooLong (basis C.tells C.state O.offers store.now) url.now }
+    ensures stays { IfErr result (λ fault. StaysUnlessBegun fault pass.old.hand pass.new.hand) }
     ensures free { tab_at (view pass.new) tab ≡ Free }
     ensures inner { InnerIsFree (view pass.new) }
     ensures others { FollowsWriting C.tells C.state O.offers store.now tab pass.old pass.new }

@@ -16,7 +16,7 @@ module _ {C O : Type 0} (tells : Bool) (state : C → CellState) (offers : O →
   left_reader closes reads leaves = at closes.met
     where
       at : (IsReading tells state offers s p t × Closes tells state offers s t p a q) ⊎ ((IsReading tells state offers s p t → ⊥) × IsTurnedAway p a q) → LeftTab tells state offers s t p q
-      at (inl h) = record { how = inr (inl (reads, h.1.parted)); free = h.1.free; leaves = leaves }
+      at (inl h) = record { how = inr (inl (reads, h.1.parted)); free = h.1.free; leaves = leaves; stays = h.1.stays }
       at (inr h) = absurd (h.0 reads)
 
   -- and what one writes is given up
@@ -24,7 +24,7 @@ module _ {C O : Type 0} (tells : Bool) (state : C → CellState) (offers : O →
   left_writer drops writes leaves = at drops.met
     where
       at : (IsWriting tells state offers s p t × Drops tells state offers s t p a q) ⊎ ((IsWriting tells state offers s p t → ⊥) × IsTurnedAway p a q) → LeftTab tells state offers s t p q
-      at (inl h) = record { how = inr (inr (writes, h.1.halts)); free = h.1.halts.parted.free; leaves = leaves }
+      at (inl h) = record { how = inr (inr (writes, h.1.halts)); free = h.1.halts.parted.free; leaves = leaves; stays = h.1.stays }
       at (inr h) = absurd (h.0 writes)
 
 module _ {C O : Type 0} (tells : Bool) (state : C → CellState) (offers : O → Offers) (s : Store C O) where

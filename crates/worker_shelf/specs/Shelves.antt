@@ -65,6 +65,7 @@ module _ {C O : Type 0} (tells : Bool) (state : C → CellState) (offers : O →
     pub how : LeavesFree t p q ⊎ LeavesReader t p q ⊎ LeavesWriter t p q
     pub free : IsFree q t
     pub leaves : Leaves tells state offers s t p q
+    pub stays : q.hand ≡ p.hand
 
   -- the tabs below this one were left, one after the other, from tab 0 on
   abbrev pub LeftBelow : ℕ → (p q : Pass C) → Type 0

@@ -18,6 +18,7 @@ returns-in-Ok-clause-served g c e reads = let h = c.in-Ok.ensures.went e reads i
   bytes = h.0;
   answer_is = subst (λ z. AnswersMore c.in-Ok.why z c.read.result) (c.from_vec.ensures ∙ h.1 ∙ ap (λ z. z ++ h.0) c.new-out.ensures.items) c.read.ensures;
   went = h.2;
+  stays = c.in-Ok.ensures.others.hand;
 }
 
 pub returns-in-Ok-clause-reads : goal.returns-in-Ok-clause-reads

@@ -12,6 +12,7 @@ returns-clause-served g c = record {
   refused = c.put_entry-outcome.ensures.err;
   long = put_long _ _ _ c.stored.ensures c.put_entry-outcome.ensures.long;
   free = c.put_entry-outcome.ensures.free;
+  stays = c.put_entry-outcome.ensures.stays;
 }
 
 pub returns-clause-leaves : goal.returns-clause-leaves

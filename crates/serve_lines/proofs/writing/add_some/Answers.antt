@@ -14,6 +14,7 @@ returns-in-Ok-clause-served g c e writes = let h = c.requires.writes in
       all = let a = ap length may.body_is in let b = may.from_is in let d = h.inside in omega arith;
       added = c.in-Ok.ensures.ok e may;
       given_up = tt;
+      fewer = tt;
     }
 
 pub returns-in-Ok-clause-holds : goal.returns-in-Ok-clause-holds
@@ -42,6 +43,7 @@ returns-in-Err-clause-served g c e writes = let h = c.requires.writes in
       all = tt;
       added = tt;
       given_up = c.in-Err.ensures.err e may;
+      fewer = let f = c.in-Err.ensures.fewer e may in record { not_added = f.not_added; fewer = let lt = f.fewer in let a = ap length may.body_is in let b = may.from_is in let d = h.inside in omega arith };
     }
 
 pub returns-in-Err-clause-holds : goal.returns-in-Err-clause-holds

@@ -1,7 +1,7 @@
 use Rattle.std.proofs.Common.{arith, refl, subst, ◌∙◌, ℕ}
 use Rattle.rock_io.specs.Faults.{Rose}
 use Rattle.store_serve.specs.Adding.{Added}
-use Rattle.store_serve.proofs.Adds.{added_none, added_not, added_on, adds_still, error_as, follows_none, follows_on}
+use Rattle.store_serve.proofs.Adds.{added_below, added_none, added_not, added_on, adds_still, error_as, follows_none, follows_on}
 use Rattle.store_serve.proofs.adding.add_bytes.Goals as goal
 
 pub loop-taken-init : goal.loop-taken-init
@@ -32,6 +32,12 @@ pub returns-in-Err-clause-err : goal.returns-in-Err-clause-err
 returns-in-Err-clause-err g c e may = let i = c.loop-taken.invariant in let a = i.added e may in
     let h = c.in-Err.ensures.err _ (adds_still g.C.Cell.tells g.C.Cell.state g.O.Origin.offers c.args.store.now c.args.tab e c.args.pass.now _ c.args.from c.args.upto c.loop-taken.taken c.loop-taken.pass may i.over i.under a) in
     added_not g.C.Cell.tells g.C.Cell.state g.O.Origin.offers c.args.store.now c.args.tab e c.args.pass.now c.loop-taken.pass c.append_some.new.pass _ h.0 c.in-Err.fault a h.1
+
+pub returns-in-Err-clause-fewer : goal.returns-in-Err-clause-fewer
+returns-in-Err-clause-fewer g c e may = let i = c.loop-taken.invariant in let a = i.added e may in
+    let h = c.in-Err.ensures.err _ (adds_still g.C.Cell.tells g.C.Cell.state g.O.Origin.offers c.args.store.now c.args.tab e c.args.pass.now _ c.args.from c.args.upto c.loop-taken.taken c.loop-taken.pass may i.over i.under a) in
+    added_below g.C.Cell.tells g.C.Cell.state g.O.Origin.offers c.args.store.now c.args.tab e c.args.pass.now c.loop-taken.pass c.append_some.new.pass _ _ h.0 c.in-Err.fault
+    (let over = i.over in let below = c.loop-taken-test.true in omega arith) a h.1
 
 pub returns-in-Err-clause-others : goal.returns-in-Err-clause-others
 returns-in-Err-clause-others g c = follows_on g.C.Cell.tells g.C.Cell.state g.O.Origin.offers c.args.store.now c.args.tab c.args.pass.now c.loop-taken.pass c.append_some.new.pass c.loop-taken.invariant.follows c.in-Err.ensures.others

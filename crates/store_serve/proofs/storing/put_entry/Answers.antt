@@ -6,7 +6,7 @@ use Rattle.store_serve.proofs.Ends.{write_as, write_from}
 use Rattle.store_serve.proofs.storing.put_entry.Goals as goal
 
 pub returns-in-Ok-clause-ok : goal.returns-in-Ok-clause-ok
-returns-in-Ok-clause-ok g c = let began = c.in_default.ensures.ok in record { middle = c.begin.new.pass; version = c.in_default.field-0; began = began; ends = c.in-Ok.ensures.ok _ record { writes = began.writes; body_is = c.requires.body; from_is = refl; order = omega arith; inside = omega arith } }
+returns-in-Ok-clause-ok g c = let began = c.in_default.ensures.ok in record { middle = c.begin.new.pass; version = c.in_default.field-0; began = began; stays = c.begin.ensures.hand; ends = c.in-Ok.ensures.ok _ record { writes = began.writes; body_is = c.requires.body; from_is = refl; order = omega arith; inside = omega arith } }
 
 pub returns-in-Ok-clause-others : goal.returns-in-Ok-clause-others
 returns-in-Ok-clause-others g c = follows_on _ _ _ _ _ _ _ _ c.begin.ensures.others c.in-Ok.ensures.others
@@ -15,7 +15,7 @@ pub returns-in-Ok-clause-unfailed : goal.returns-in-Ok-clause-unfailed
 returns-in-Ok-clause-unfailed g c not = c.in-Ok.ensures.unfailed (λ w. cc)
 
 pub returns-in-Err-end_entry-clause-err : goal.returns-in-Err-end_entry-clause-err
-returns-in-Err-end_entry-clause-err g c = let began = c.in_default.ensures.ok in record { middle = c.begin.new.pass; version = c.in_default.field-0; began = began; stopped = c.in-Err-end_entry.ensures.err _ record { writes = began.writes; body_is = c.requires.body; from_is = refl; order = omega arith; inside = omega arith } }
+returns-in-Err-end_entry-clause-err g c = let began = c.in_default.ensures.ok in record { middle = c.begin.new.pass; version = c.in_default.field-0; began = began; stays = c.begin.ensures.hand; stopped = c.in-Err-end_entry.ensures.err _ record { writes = began.writes; body_is = c.requires.body; from_is = refl; order = omega arith; inside = omega arith } }
 
 pub returns-in-Err-end_entry-clause-others : goal.returns-in-Err-end_entry-clause-others
 returns-in-Err-end_entry-clause-others g c = follows_on _ _ _ _ _ _ _ _ c.begin.ensures.others c.in-Err-end_entry.ensures.others
