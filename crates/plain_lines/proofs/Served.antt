@@ -9,8 +9,9 @@ use Rattle.plain_model.specs.declared.store.Tab.{Tab}
 use Rattle.plain_model.specs.declared.store.Tab.TheVariants.{Free, Reading, Writing}
 use Rattle.plain_model.specs.Reading.{close}
 use Rattle.plain_model.specs.Serving.{leave, serve}
-use Rattle.plain_model.specs.Store.{tab_at}
-use Rattle.plain_model.specs.Writing.{give_up}
+use Rattle.plain_model.specs.Store.{tab_at, with_tab}
+use Rattle.plain_model.specs.declared.entry.Life.TheVariants.{GivenUp}
+use Rattle.plain_model.specs.Writing.{close_writer, give_up, settle}
 use Rattle.store_rule.specs.declared.store.Pass.{Pass}
 use Rattle.store_rule.specs.declared.store.Store.{Store}
 use Rattle.store_rule.specs.Ground.{Offers}
@@ -75,16 +76,28 @@ module _ {C O : Type 0} (tells : Bool) (state : C → CellState) (offers : O →
         (shows_after tells state offers s (λ v. v) begins stays lone p q plain (close t plain).after t h left.leaves (close_else t (IsOwn t plain) (setting_of (basis tells state offers s)) plain)
         (closes_as tells state offers s lone t anchor given is_other p q answer.Closed plain eighth h is left.stays record { answer_is = refl; parted = parted; free = left.free; stays = left.stays }).shows eighth)
       where
+        closes_so : (close t plain).after ≡ settle anchor (with_tab plain t Free)
+        closes_so = rw is refl
+
+        leave_so : leave t plain ≡ settle anchor (with_tab plain t Free)
+        leave_so = rw is closes_so
+
         leaves_so : leave t plain ≡ (close t plain).after
-        leaves_so = rw is refl
+        leaves_so = leave_so ∙ sym closes_so
 
     dropped : (anchor : ℕ) → tab_at plain t ≡ Writing anchor → Halts (basis tells state offers s) t (view p) (view q) → Shows tells state offers s (λ v. v) q (leave t plain)
     dropped anchor is halts = subst (λ (x : Plain). Shows tells state offers s (λ v. v) q x) (sym leaves_so)
         (shows_after tells state offers s (λ v. v) begins stays lone p q plain (give_up t plain).after t h left.leaves (give_up_keeps t (setting_of (basis tells state offers s)) plain)
         (drops_as tells state offers s lone t anchor p q answer.Dropped plain eighth h is left.stays record { answer_is = refl; halts = halts; stays = left.stays }).shows eighth)
       where
+        gives_up_so : (give_up t plain).after ≡ close_writer GivenUp t anchor plain
+        gives_up_so = rw is refl
+
+        leave_so : leave t plain ≡ close_writer GivenUp t anchor plain
+        leave_so = rw is gives_up_so
+
         leaves_so : leave t plain ≡ (give_up t plain).after
-        leaves_so = rw is refl
+        leaves_so = leave_so ∙ sym gives_up_so
 
     stayed : tab_at plain t ≡ Free → q ≡ p → Shows tells state offers s (λ v. v) q (leave t plain)
     stayed is same = subst (λ (x : Plain). Shows tells state offers s (λ v. v) q x) (sym leaves_so) (subst (λ (x : Pass C). Shows tells state offers s (λ v. v) x plain) (sym same) h)
