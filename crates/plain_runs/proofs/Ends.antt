@@ -1,0 +1,101 @@
+-- What a lone pass shows when its store is closed stands in the file that is given back.
+use Rattle.std.proofs.Common.{Bool, List, [], ap, arith, length, map, refl, subst, suc, sym, zero, ◌+◌, ◌<◌, ◌∙◌, ◌∷◌, ◌≡◌, ◌≤◌, ◌^◌, ℕ}
+use Rattle.std.specs.Prelude.{IsTrue, None, Option, Some, slice_index_or}
+use Rattle.std.proofs.lemmas.List.{length-map}
+use mathlib.Core.Option.{some}
+use lib.ListN.{get_elem?}
+use Rattle.lock_word.specs.Words.{epoch_of, stage_number, stage_of, version_of}
+use Rattle.store_key.specs.Anchor.{anchor_of}
+use Rattle.store_key.specs.Key.{key_of}
+use Rattle.rock_disk.specs.Cell.{CellState}
+use Rattle.rebuild_model.specs.Entry.{IsComplete}
+use Rattle.rebuild_model.specs.Image.{image_at}
+use Rattle.entry_cut.specs.Content.{Cut, room_of}
+use Rattle.entry_cut.specs.Standing.{IsWritable, Stand, entry_of}
+use Rattle.core_model.specs.declared.moves.Side.TheVariants.{Offer}
+use Rattle.core_model.specs.declared.tab.Cell.{Cell}
+use Rattle.core_model.specs.declared.view.Place.TheVariants.{Anchor, Beside}
+use Rattle.core_model.specs.declared.view.View.{View}
+use Rattle.core_model.specs.State.{State, side_word, word}
+use Rattle.core_model.specs.Tabs.{IsPass}
+use Rattle.plain_model.specs.declared.entry.Entry.{Entry}
+use Rattle.plain_model.specs.declared.entry.Life.{Life}
+use Rattle.plain_model.specs.declared.entry.Life.TheVariants.{Whole}
+use Rattle.plain_model.specs.declared.store.Plain.{Plain}
+use Rattle.plain_model.specs.Store.{entry_at, place_at, stage_of as stage_of_place, stage_of_entry}
+use Rattle.pass_calls.specs.Words.{has}
+use Rattle.store_rule.specs.Ground.{Ground, Rule}
+use Rattle.store_rule.specs.Setting.{shown}
+use Rattle.rock_reader.specs.Responses.{IsResponse}
+use Rattle.plain_lines.specs.Words.{IsLone, Knows, ShowsAt, ShowsEntry, ShowsEntryIf, no_guests, setting_of}
+use Rattle.plain_lines.proofs.Chains.{word_is}
+use Rattle.plain_lines.proofs.PlainWords.{readers_fit, stage_there, version_there}
+use Rattle.plain_runs.specs.Ends.{HasVersions, HoldsEntry, HoldsWhole, IsHomeAs, SpellsResponse, TellsPieces}
+use Rattle.plain_runs.proofs.Spelled.{spells}
+
+-- the law that the pieces of an entry are one where they stand in a file
+abbrev pub PlacedPieces : Type 0
+PlacedPieces = (cut : Cut) (images : List (List ℕ)) (chain : List ℕ) → IsWritable cut → length images ≤ 1048576 → Stand cut images chain → IsComplete cut.slot images (entry_of cut chain)
+
+-- cells that tell what they hold, each in its place
+module _ {C : Type 0} (tells : Bool) (state : C → CellState) (told : IsTrue tells) where
+  record HasCellAt (xs : List C) (k : ℕ) : Type 0 where
+    pub cell : C
+    pub place : slice_index_or (map (λ c. Some (shown tells state c)) xs) k None ≡ Some (shown tells state cell)
+    pub image : slice_index_or (map (λ c. (state c).now) xs) k [] ≡ (state cell).now
+
+  cell_at : (xs : List C) (k : ℕ) → k < length xs → HasCellAt xs k
+  cell_at [] k lt = absurd (omega arith)
+  cell_at (c ∷ xs) zero lt = record { cell = c; place = refl; image = refl }
+  cell_at (c ∷ xs) (suc k) lt = let h = cell_at xs k (omega arith) in record { cell = h.cell; place = h.place; image = h.image }
+
+  pub home_as : (g : Ground (List ℕ)) (s : State (List ℕ)) (cells : List C) → length cells ≡ g.setting.slots → s.places ≡ map (λ c. Some (shown tells state c)) cells
+      → IsHomeAs g s (map (λ c. (state c).now) cells)
+  home_as g s cells many home = record {
+    many = length-map cells (λ (c : C). (state c).now) ∙ many;
+    cells = λ slot lt. let h = cell_at cells slot (let n = many in omega arith) in (
+      shown tells state h.cell,
+      ap (λ (xs : List (Option (Cell (List ℕ)))). slice_index_or xs slot None) home ∙ h.place,
+      h.image ∙ sym (ap (λ (b : Bool). (shown b state h.cell).now) told),
+    );
+  }
+
+module _ (g : Ground (List ℕ)) (lone : IsLone g) (s : State (List ℕ)) (i : ℕ) (v : View (List ℕ)) (rule : Rule g s) (at : get_elem? s.views i ≡ some v) (pass : IsPass v)
+    (pieces : TellsPieces g) (versions : HasVersions g) (images : List (List ℕ)) (home : IsHomeAs g s images) (many : length g.setting.contents ≡ g.setting.slots)
+    (sized : g.slot < 2 ^ 32) (few : g.setting.slots ≤ 1048576) (placed : PlacedPieces) (p : Plain) (knows : Knows g (λ v. v) v p no_guests) (eight : length p.tabs ≡ 8) where
+  module _ (a : ℕ) (e : Entry) (lt : a < g.setting.anchors) (there : entry_at p a ≡ Some e) (whole : e.life ≡ Whole) where
+    word_there : word s a ≡ has g v (Anchor a)
+    word_there = word_is g lone s i v rule at pass (Anchor a) lt
+
+    closed : stage_of (epoch_of (word s a)) ≡ 3
+    closed = ap (λ (n : ℕ). stage_of (epoch_of n)) word_there
+        ∙ stage_there (λ v. v) (setting_of g) p 0 a (has g v (Anchor a)) (knows.each a lt).word (readers_fit p a 0 eight (omega arith))
+        ∙ ap (λ (o : Option Entry). stage_number (stage_of_place (room_of g.slot) (place_at p a).version o)) there
+        ∙ ap (λ (life : Life). stage_number (stage_of_entry (room_of g.slot) life e.content)) whole
+
+    version_is : version_of (epoch_of (word s a)) ≡ (place_at p a).version
+    version_is = ap (λ (n : ℕ). version_of (epoch_of n)) word_there
+        ∙ version_there (λ v. v) (setting_of g) p 0 a (has g v (Anchor a)) (knows.each a lt).word (readers_fit p a 0 eight (omega arith))
+
+    entry_there : ShowsEntry g v a (place_at p a).version e
+    entry_there = subst (ShowsEntryIf g v a (place_at p a).version) there (knows.each a lt).entry
+
+    offer_is : side_word g.setting s Offer a ≡ e.offer
+    offer_is = word_is g lone s i v rule at pass (Beside Offer a) lt ∙ entry_there.names.offer
+
+    spelled : SpellsResponse g s images a e.url e.body
+    spelled = spells g s rule pieces versions images home a lt closed many sized few placed e.url e.body
+        (subst (λ (n : ℕ). IsResponse g a n e.url e.body) (sym offer_is) entry_there.offer.response)
+
+    held : HoldsEntry g.slot g.setting.anchors images a (place_at p a).version e
+    held = record {
+      entry = spelled.entry;
+      complete = spelled.complete;
+      at = ap (λ (key : List ℕ). anchor_of key g.setting.anchors) spelled.complete.key_of_url ∙ ap (λ (url : List ℕ). anchor_of (key_of url) g.setting.anchors) spelled.url_is ∙ entry_there.offer.at;
+      version_is = spelled.version ∙ version_is;
+      url_is = spelled.url_is;
+      body_is = spelled.body_is;
+    }
+
+  pub holds_whole : HoldsWhole g.slot g.setting.anchors images p
+  holds_whole a e lt there whole = held a e lt there whole

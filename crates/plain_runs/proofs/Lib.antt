@@ -1,0 +1,13 @@
+pub mod Spelled
+pub mod Filled
+pub mod Kept
+pub mod AtAnchors
+pub mod Opened
+pub mod Lines
+pub mod Marks
+pub mod Awaits
+pub mod Courses
+pub mod Leaving
+pub mod Ends
+pub mod Closings
+pub mod Runs
