@@ -14,11 +14,7 @@ use Rattle.core_model.proofs.Lists.{cons_contains, contains_none}
 use Rattle.core_model.proofs.SlotsOpened.{map_contains}
 use Rattle.plain_model.specs.Serving.{is_set_before, lines_for, sets as sets_in}
 use Rattle.worker_pool.specs.Courses.{Stage, lines_from, lines_of, sets, sets_by}
-
--- the lines have the numbers behind n, in order
-abbrev pub Numbered : ℕ → List Line → Type 0
-Numbered n [] = Unit {0}
-Numbered n (line ∷ lines) = (line.number ≡ n + 1) × Numbered (n + 1) lines
+use Rattle.plain_runs.specs.Runs.{Numbered}
 
 numbered_push : (n : ℕ) (lines : List Line) (line : Line) → Numbered n lines → line.number ≡ n + length lines + 1 → Numbered n (lines ++ line ∷ [])
 numbered_push n [] line h is = (omega arith, tt)

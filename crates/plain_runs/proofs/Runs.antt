@@ -36,14 +36,14 @@ use Rattle.crew_closings.specs.Playing.{HasRun, HasSteps, IsPlayed, fault_answer
 use Rattle.plain_lines.specs.Words.{setting_of}
 use Rattle.plain_lines.proofs.ShowingOthers.{OneBegins}
 use Rattle.plain_runs.specs.Ends.{HoldsWhole}
-use Rattle.plain_runs.specs.Runs.{IsPlainRun, ShowsPlain, setting_over}
 use Rattle.plain_runs.proofs.AtAnchors.{OneKept}
-use Rattle.plain_runs.proofs.Awaits.{IsOwnLine, Numbered, awaits_alike, served_line, served_lines}
+use Rattle.plain_runs.proofs.Awaits.{IsOwnLine, awaits_alike, served_line, served_lines}
 use Rattle.plain_runs.proofs.Courses.{AllRight, IsFair, Reached, all_right}
 use Rattle.plain_runs.proofs.Ends.{PlacedPieces, holds_whole, home_as}
 use Rattle.plain_runs.proofs.Leaving.{leaves_all}
 use Rattle.plain_runs.proofs.Lines.{GivesFronts, GivesWholes, LinesRight, lines_right}
 use Rattle.plain_runs.proofs.Opened.{HoldsKept, as_many, has_versions, holds_file, new_free, shows_opened, tells_pieces}
+use Rattle.plain_runs.specs.Runs.{IsPlainRun, Numbered, ShowsPlain, setting_over}
 
 -- where none is counted, none is so
 none_counted : {X : Type 0} (f : X → Bool) (xs : List X) → count_by f xs ≡ 0 → (x : X) → Contains xs x → f x ≡ false

@@ -1,5 +1,5 @@
 -- What the only pass of a store shows of the plain store, at the opening and after a run.
-use Rattle.std.specs.Prelude.{Bool, List, map, ◌≡◌, ℕ}
+use Rattle.std.specs.Prelude.{Bool, List, [], map, ◌+◌, ◌∷◌, ◌≡◌, ℕ}
 use Rattle.rock_disk.specs.Cell.{CellState}
 use Rattle.entry_cut.specs.Content.{room_of}
 use Rattle.script_text.specs.declared.line.Line.{Line}
@@ -13,6 +13,11 @@ use Rattle.worker_pool.specs.Running.{Account}
 use Rattle.worker_shelf.specs.Shelves.{OnShelf}
 use Rattle.plain_lines.specs.Shows.{Shows}
 use Rattle.plain_runs.specs.Ends.{HoldsWhole}
+
+-- the lines have the numbers behind n, in order
+abbrev pub Numbered : ℕ → List Line → Type 0
+Numbered n [] = Unit {0}
+Numbered n (line ∷ lines) = (line.number ≡ n + 1) × Numbered (n + 1) lines
 
 -- the plain store over so many slots of this size
 abbrev pub setting_over : (slot anchors slots : ℕ) → Setting

@@ -22,7 +22,7 @@ ghost use Rattle.worker_pool.specs.Running.{Account};
 ghost use Rattle.worker_shelf.specs.Shelves.{OnShelf};
 ghost use Rattle.crew_closings.specs.Playing.{HasRun};
 ghost use Rattle.plain_runs.specs.Ends.{SpellsResponse};
-ghost use Rattle.plain_runs.specs.Runs.{IsPlainRun, ShowsPlain};
+ghost use Rattle.plain_runs.specs.Runs.{IsPlainRun, Numbered, ShowsPlain};
 
 use crew_closings::faults_are_counted;
 use entry_cut::placed_pieces_are_an_entry;
@@ -61,15 +61,15 @@ pub fn closed_entries_are_complete<C: Cell, O: Origin>()
     placed_pieces_are_an_entry();
 }
 
-/// Where one worker served a script that was read, on the only pass of a store that was opened over cells that tell what
+/// Where one worker served a script whose lines are numbered in order, on the only pass of a store that was opened over cells that tell what
 /// they hold, and its station met no fault, the worker's lines are answered as by each plain store that is opened on the
 /// images of the cells. When the store was closed, the pass showed what the script leaves of the plain store, and the cells
 /// that were left hold each entry of it that is whole.
 pub fn lone_runs_are_plain<C: Cell, O: Origin, St: Station<C = C>>()
-    ensures { (slot anchors : ℕ) (origin : O) (cells left : List C) (s : Store C O) (ps : Vec (Pass C)) (script : List Line) (text : List ℕ)
+    ensures { (slot anchors : ℕ) (origin : O) (cells left : List C) (s : Store C O) (ps : Vec (Pass C)) (script : List Line)
         (accounts : List (Account (OnShelf C O St))) (a : Account (OnShelf C O St)) (plain : Plain) → IsTrue C.tells
         → AreSlots slot (map C.state cells) → IsStoreOver C.tells C.state O.offers slot anchors 1 origin cells s ps
-        → IsScript 1 text script → HasRun C.tells C.state O.offers St.faults s script accounts left → At accounts 0 a
+        → Numbered 0 script → HasRun C.tells C.state O.offers St.faults s script accounts left → At accounts 0 a
         → St.faults a.end.station ≡ 0 → IsOpened slot (map (λ c. (C.state c).now) cells) anchors plain
         → IsPlainRun C.tells C.state O.offers s slot anchors (length cells) script plain a left }
 {
@@ -81,3 +81,8 @@ pub fn lone_runs_are_plain<C: Cell, O: Origin, St: Station<C = C>>()
     requests_keep_other_tabs::<C, O>();
     faults_are_counted::<C, O, St>();
 }
+
+/// The lines of a script that was read are numbered in order, from 1 on.
+pub fn read_lines_are_numbered()
+    ensures { (workers : ℕ) (text : List ℕ) (lines : List Line) → IsScript workers text lines → Numbered 0 lines }
+{}

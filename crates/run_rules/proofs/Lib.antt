@@ -3,3 +3,4 @@ mod Scripts
 mod Files
 mod Crews
 mod Opened
+mod Lone

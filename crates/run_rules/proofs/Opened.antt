@@ -90,7 +90,7 @@ module _ {C St : Type 0} (volume_tells told : Bool) (state : C → CellState) (f
   accounts = h.served.played.accounts
 
   -- as many workers as passes
-  as_many : length accounts ≡ workers
+  pub as_many : length accounts ≡ workers
   as_many =
       sym (length-map accounts (λ a. a.start.pass)) ∙ ap length h.served.played.passes_are ∙ sym h.closed.passes.ok.0 ∙ h.closed.opened.store.many
 

@@ -2,3 +2,4 @@ pub mod Responses
 pub mod Openings
 pub mod Printed
 pub mod Runs
+pub mod Plain

@@ -1,8 +1,8 @@
 //! What a run of a script over a file prints, by the rules that lines keep, by the file and by the script.
 //!
-//! The function here does nothing. What it ensures is a law.
+//! The functions here do nothing. What they ensure are laws.
 #![tactic(auto)]
 
 mod laws;
 
-pub use laws::runs_keep_the_rules;
+pub use laws::{lone_runs_are_answered_plainly, runs_keep_the_rules};

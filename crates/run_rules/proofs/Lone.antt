@@ -1,0 +1,96 @@
+-- A run of one worker over a file is answered as by a plain store that is opened on the file.
+use Rattle.std.proofs.Common.{All, Bool, IsTrue, List, Some, [], ap, arith, length, map, refl, subst, sym, ◌<◌, ◌∙◌, ◌≡◌, ◌∷◌, ◌≤◌, ℕ}
+use Rattle.std.proofs.lemmas.List.{length-map}
+use Rattle.std.specs.FinMap.{get}
+use Rattle.std.proofs.lemmas.List.Elements.{All-head}
+use lib.ListN.{get_elem?}
+use mathlib.Core.Option.{some}
+use Rattle.db_layout.specs.Layout.{IsSlotSize}
+use Rattle.rock_disk.specs.Cell.{CellState}
+use Rattle.rock_disk.specs.File.{Files, bytes_of, rest_cut}
+use Rattle.rock_disk.specs.Opened.{AreSlots}
+use Rattle.rock_disk.proofs.Out.{get_inserted}
+use Rattle.script_text.specs.declared.answer.Answer.{Answer}
+use Rattle.script_text.specs.declared.line.Line.{Line}
+use Rattle.plain_model.specs.declared.store.Plain.{Plain}
+use Rattle.plain_model.specs.Opening.{IsOpened}
+use Rattle.plain_model.specs.Serving.{answers_of, left_by, lines_for}
+use Rattle.rock_open.specs.Device.{Counts}
+use Rattle.script_origin.specs.Offered.{offers_of}
+use Rattle.worker_pool.specs.Courses.{At, Stage}
+use Rattle.worker_pool.specs.Running.{Account, answers_of as account_answers}
+use Rattle.worker_shelf.specs.Shelves.{OnShelf}
+use Rattle.plain_runs.specs.Ends.{HoldsWhole}
+use Rattle.plain_runs.specs.Runs.{IsPlainRun, setting_over}
+use Rattle.crew_closings.specs.Playing.{HasRun as HasPlayed}
+use Rattle.rock_run.specs.Runs.{HasRun}
+use Rattle.run_rules.specs.Plain.{HasSlots, IsAnsweredPlainly, NoneFailedServing, numbered}
+use Rattle.run_rules.proofs.Lists.{both}
+use Rattle.run_rules.proofs.Opened.{as_many, has_played}
+
+-- lines with their answers, each with its number
+numbered_stages : {H : Type 0} (stages : List (Stage H)) → map (λ s. (s.line.number, s.answer)) stages ≡ numbered (map (λ s. s.line) stages) (map (λ s. s.answer) stages)
+numbered_stages [] = refl
+numbered_stages (s ∷ stages) = ap (λ xs. (s.line.number, s.answer) ∷ xs) (numbered_stages stages)
+
+-- there is one account
+pub record OneOf {A : Type 0} (xs : List A) : Type 0 where
+  pub only : A
+  pub is : xs ≡ only ∷ []
+
+one_of : {A : Type 0} (xs : List A) → length xs ≡ 1 → OneOf xs
+one_of [] e = absurd (omega arith)
+one_of (x ∷ []) e = record { only = x; is = refl }
+one_of (x ∷ y ∷ xs) e = absurd (omega arith)
+
+module _ {C St : Type 0} (volume_tells told : Bool) (state : C → CellState) (faults : St → ℕ) (files left : Files) (name : List ℕ) (slot anchors : ℕ) (script : List Line) (answers : List (List (ℕ × Answer)))
+    (before after : Counts) (h : HasRun volume_tells told state files left name slot anchors 1 script faults answers before after) (tells : IsTrue volume_tells) where
+  abbrev accounts : List (Account (OnShelf C (List Line) St))
+  accounts = h.served.played.accounts
+
+  pub one : OneOf accounts
+  one = one_of accounts (as_many volume_tells told state faults files left name slot anchors 1 script answers before after h)
+
+  pub at_first : At accounts 0 one.only
+  at_first = ap (λ (xs : List (Account (OnShelf C (List Line) St))). get_elem? xs 0) one.is
+
+  -- its station was ended with no fault
+  pub station_none : NoneFailedServing before after → faults one.only.end.station ≡ 0
+  station_none none = All-head (λ (n : ℕ). n ≡ 0) (faults one.only.end.station) [] (subst (All (λ (n : ℕ). n ≡ 0)) stations_are (none (map faults h.stations) h.ended))
+    where
+      stations_are : map faults h.stations ≡ faults one.only.end.station ∷ []
+      stations_are = ap (map faults) (sym h.served.played.stations_left_are) ∙ ap (λ (xs : List (Account (OnShelf C (List Line) St))). map faults (map (λ (a : Account (OnShelf C (List Line) St)). a.end.station) xs)) one.is
+
+  pub has_alone : HasPlayed told state offers_of faults h.closed.store script accounts h.closed.cells
+  has_alone = has_played volume_tells told state faults files left name slot anchors 1 script answers before after h
+
+  abbrev images : List (List ℕ)
+  images = map (λ (c : C). (state c).now) h.closed.opened.cells
+
+  -- what a plain run of the worker says of the file
+  pub plainly : (plain : Plain) → IsOpened slot images anchors plain
+      → IsPlainRun told state offers_of h.closed.store slot anchors (length h.closed.opened.cells) script plain one.only h.closed.cells → IsAnsweredPlainly files left name slot anchors script answers
+  plainly plain opened run = let out = h.closed.opened.out tells in record {
+    images = images;
+    file = record {
+      was = out.was;
+      there = out.found;
+      images_are = sym (both state (λ (c : CellState). c.now) h.closed.opened.cells) ∙ ap (map (λ (c : CellState). c.now)) out.cells_are;
+    };
+    plain = plain;
+    opened = opened;
+    answered = sym h.served.played.answers_are ∙ ap (map account_answers) one.is ∙ ap (λ xs. xs ∷ []) (numbered_stages one.only.stages ∙ (λ i. numbered (run.lines i) (run.answers i))
+        ∙ ap (λ (n : ℕ). numbered (lines_for 1 script) (answers_of (setting_over slot anchors n) script 1 plain)) many);
+    back = map (λ (c : C). (state c).now) h.closed.cells;
+    given_back = record {
+      header = state h.closed.header;
+      cells = map state h.closed.cells;
+      rest = rest_cut slot (bytes_of out.was);
+      there = ap (λ m. get m name) (h.closed.back tells) ∙ get_inserted h.closed.middle name _;
+      images_are = sym (both state (λ (c : CellState). c.now) h.closed.cells);
+    };
+    entries = subst (λ (n : ℕ). HoldsWhole slot anchors (map (λ (c : C). (state c).now) h.closed.cells) (left_by (setting_over slot anchors n) script 1 plain)) many run.entries;
+  }
+    where
+      many : length h.closed.opened.cells ≡ length images
+      many = sym (length-map h.closed.opened.cells (λ (c : C). (state c).now))

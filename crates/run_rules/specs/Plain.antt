@@ -1,0 +1,46 @@
+-- What one worker is answered that runs a script alone over a file, by the plain store.
+use Rattle.std.specs.Prelude.{All, List, Some, [], length, map, ◌∷◌, ◌≡◌, ℕ}
+use Rattle.std.specs.FinMap.{get}
+use Rattle.rock_disk.specs.Cell.{CellState}
+use Rattle.rock_disk.specs.File.{Files}
+use Rattle.rock_disk.specs.File.File.{Home}
+use Rattle.script_text.specs.declared.answer.Answer.{Answer}
+use Rattle.script_text.specs.declared.line.Line.{Line}
+use Rattle.plain_model.specs.declared.store.Plain.{Plain}
+use Rattle.plain_model.specs.Opening.{IsOpened}
+use Rattle.plain_model.specs.Serving.{answers_of, left_by, lines_for}
+use Rattle.rock_open.specs.Device.{Counts}
+use Rattle.rock_run.specs.Device.{HasEnded}
+use Rattle.plain_runs.specs.Ends.{HoldsWhole}
+use Rattle.plain_runs.specs.Runs.{setting_over}
+use Rattle.run_rules.specs.Runs.{HasImages}
+
+-- lines with these answers, by their numbers
+abbrev pub numbered : List Line → List Answer → List (ℕ × Answer)
+numbered [] given = []
+numbered (line ∷ lines) [] = []
+numbered (line ∷ lines) (answer ∷ given) = (line.number, answer) ∷ numbered lines given
+
+-- the file of this name is in, and a read of its slots gives these images
+pub record HasSlots (files : Files) (name : List ℕ) (images : List (List ℕ)) : Type 0 where
+  pub header : CellState
+  pub cells : List CellState
+  pub rest : List ℕ
+  pub there : get files name ≡ Some (Home header cells rest)
+  pub images_are : images ≡ map (λ c. c.now) cells
+
+-- the stations of workers were ended with no fault
+abbrev pub NoneFailedServing : Counts → Counts → Type 0
+NoneFailedServing before after = (workers : List ℕ) → HasEnded 0 workers before after → All (λ count. count ≡ 0) workers
+
+-- The worker was answered as by a plain store that is opened on the file: the store has these answers to its lines, each with the line's number.
+-- The file that was given back has each entry that is whole in what the lines leave of that store.
+pub record IsAnsweredPlainly (files left : Files) (name : List ℕ) (slot anchors : ℕ) (script : List Line) (answers : List (List (ℕ × Answer))) : Type 0 where
+  pub images : List (List ℕ)
+  pub file : HasImages files name slot images
+  pub plain : Plain
+  pub opened : IsOpened slot images anchors plain
+  pub answered : answers ≡ numbered (lines_for 1 script) (answers_of (setting_over slot anchors (length images)) script 1 plain) ∷ []
+  pub back : List (List ℕ)
+  pub given_back : HasSlots left name back
+  pub entries : HoldsWhole slot anchors back (left_by (setting_over slot anchors (length images)) script 1 plain)
