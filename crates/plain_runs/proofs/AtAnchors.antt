@@ -1,15 +1,14 @@
 -- A new pass of a store that was opened on what a rebuild kept shows the plain store that is opened on it.
-use Rattle.std.proofs.Common.{Contains, List, [], ap, arith, cond, drop, inl, length, map, refl, subst, sym, zero, suc, ⊎_elim, ◌*◌, ◌+◌, ◌<◌, ◌∙◌, ◌∷◌, ◌≡◌, ◌≤◌, Bool, ℕ}
-use Rattle.std.specs.Prelude.{All, None, Some, count_by, nat_lt, replicate, slice_index_or}
+use Rattle.std.proofs.Common.{Contains, List, [], ap, arith, cond, length, map, refl, subst, sym, zero, suc, ⊎_elim, ◌*◌, ◌+◌, ◌<◌, ◌∙◌, ◌∷◌, ◌≡◌, ◌≤◌, Bool, ℕ}
+use Rattle.std.specs.Prelude.{All, Some, count_by, replicate}
 use Rattle.std.proofs.lemmas.Bool.{lt-ltb}
 use Rattle.std.proofs.lemmas.List.Elements.{All-contains, All-head}
 use Rattle.std.proofs.lemmas.List.FromFn.{length-map-range_with_len}
 use Rattle.std.proofs.lemmas.List.Sums.{sum_by-cons}
 use Rattle.link_word.specs.declared.link.Link.{Link}
 use Rattle.link_word.specs.declared.link.Link.TheVariants.{Last}
-use Rattle.lock_word.specs.Words.{epoch_number, word_number}
+use Rattle.lock_word.specs.Words.{epoch_number}
 use Rattle.store_key.specs.Anchor.{anchor_of}
-use Rattle.store_key.specs.Key.{key_of}
 use Rattle.rebuild_model.specs.declared.found.Found.{Found}
 use Rattle.rebuild_model.specs.declared.rebuilt.Rebuilt.{Rebuilt}
 use Rattle.rebuild_model.specs.Entry.{Entry as FileEntry, IsComplete, content_of, found_of}
@@ -18,7 +17,7 @@ use Rattle.rebuild_model.specs.Rebuilt.{IsRebuilt, IsWinner}
 use Rattle.core_model.specs.declared.chain.Chain.{Chain}
 use Rattle.core_model.specs.declared.view.Place.TheVariants as place
 use Rattle.core_model.specs.declared.view.View.{View}
-use Rattle.core_model.specs.Chains.{Fits, IsSpelled, Spells, link_to, start_number}
+use Rattle.core_model.specs.Chains.{Fits, Spells, start_number}
 use Rattle.core_model.specs.Layout.{word_in}
 use Rattle.core_model.specs.Opening.{IsEmptyAt, IsKeptAt, new_view}
 use Rattle.core_model.specs.Slots.{told}
@@ -27,7 +26,6 @@ use Rattle.core_model.proofs.SlotsOpened.{contains_map, map_contains}
 use Rattle.core_model.proofs.Telling.{told_in}
 use Rattle.entry_cut.specs.Content.{count, room_of}
 use Rattle.plain_model.specs.declared.entry.Entry.{Entry}
-use Rattle.plain_model.specs.declared.entry.Life.TheVariants.{Whole}
 use Rattle.plain_model.specs.declared.entry.Place.{Place}
 use Rattle.plain_model.specs.declared.kept.Kept.{Kept}
 use Rattle.plain_model.specs.declared.store.Plain.{Plain}
@@ -37,8 +35,7 @@ use Rattle.plain_model.specs.Place.{nothing}
 use Rattle.plain_model.specs.Store.{epoch_of, place_at, published, readers, reads_at}
 use Rattle.store_rule.specs.Ground.{Ground, cut_of}
 use Rattle.store_rule.specs.Rebuilding.{IsOpenedWith, opened_state}
-use Rattle.rock_reader.specs.Responses.{pieces_of}
-use Rattle.plain_lines.specs.Words.{HasChain, HasNames, IsOfOffer, Knows, ShowsAt, ShowsEntry, ShowsEntryIf, link_known, no_guests}
+use Rattle.plain_lines.specs.Words.{HasChain, HasNames, IsOfOffer, Knows, ShowsAt, ShowsEntry, ShowsEntryIf, no_guests}
 use Rattle.plain_runs.specs.Ends.{HasVersions}
 use Rattle.plain_runs.proofs.Filled.{slots_filled}
 use Rattle.plain_runs.proofs.Kept.{HasNone, HasOne, one_kept, opened_place}

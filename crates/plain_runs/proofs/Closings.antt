@@ -1,5 +1,5 @@
 -- Closed entries of a store that was closed, in the cells that were left.
-use Rattle.std.proofs.Common.{Bool, List, arith, length, map, ◌+◌, ◌<◌, ◌≡◌, ◌≤◌, ℕ}
+use Rattle.std.proofs.Common.{Bool, List, arith, length, map, ◌<◌, ◌≡◌, ℕ}
 use Rattle.std.specs.Prelude.{IsTrue}
 use Rattle.std.specs.Global.{Vec}
 use Rattle.std.proofs.lemmas.List.{length-map}

@@ -1,7 +1,6 @@
 -- The course of a worker on a lone pass: its lines are answered as by the plain store, and its pass shows what they leave of that.
-use Rattle.std.proofs.Common.{Bool, Contains, List, [], ap, arith, cond, false, inl, inr, map, refl, subst, suc, sym, take, ◌<◌, ◌∙◌, ◌∷◌, ◌≡◌, ◌⊎◌, ℕ}
-use Rattle.std.specs.Prelude.{slice_index_or, ◌≢◌}
-use Rattle.std.specs.List.{list_any}
+use Rattle.std.proofs.Common.{Bool, Contains, List, [], ap, arith, cond, false, inl, inr, map, refl, subst, suc, sym, ◌<◌, ◌∙◌, ◌∷◌, ◌≡◌, ◌⊎◌, ℕ}
+use Rattle.std.specs.Prelude.{slice_index_or}
 use Rattle.rock_disk.specs.Cell.{CellState}
 use Rattle.script_text.specs.Tabs.{UsesTab}
 use Rattle.script_text.specs.declared.answer.Answer.{Answer}
@@ -9,7 +8,6 @@ use Rattle.script_text.specs.declared.answer.Answer.TheVariants as answer
 use Rattle.script_text.specs.declared.line.Line.{Line}
 use Rattle.script_text.specs.declared.request.Request.{Request}
 use Rattle.script_text.specs.declared.request.Request.TheVariants.{Add, Await, Begin, CloseTab, DropTab, End, Get, Mark, More, OpenTab, Purge, Put, Save}
-use Rattle.core_model.specs.Tabs.{inner, tab_at as view_tab}
 use Rattle.core_model.specs.declared.tab.Tab.{Tab}
 use Rattle.core_model.specs.declared.tab.Tab.TheVariants as tab
 use Rattle.core_model.specs.declared.view.View.{View}
@@ -25,7 +23,7 @@ use Rattle.store_rule.specs.declared.store.Pass.{Pass}
 use Rattle.store_rule.specs.declared.store.Store.{Store}
 use Rattle.store_rule.specs.Ground.{Offers}
 use Rattle.store_rule.specs.Passes.{Keeps, basis, note_seen, view}
-use Rattle.worker_pool.specs.Courses.{IsServed, Linked, Stage, sets}
+use Rattle.worker_pool.specs.Courses.{IsServed, Linked, Stage}
 use Rattle.serve_lines.specs.Answers.{is_fault}
 use Rattle.serve_lines.specs.Serving.{MayAsk, Serves, ServesRequest, Takes}
 use Rattle.serve_lines.specs.Tabs.{IsFree, Leaves}

@@ -1,5 +1,5 @@
 -- What a lone pass shows when its store is closed stands in the file that is given back.
-use Rattle.std.proofs.Common.{Bool, List, [], ap, arith, length, map, refl, subst, suc, sym, zero, ◌+◌, ◌<◌, ◌∙◌, ◌∷◌, ◌≡◌, ◌≤◌, ◌^◌, ℕ}
+use Rattle.std.proofs.Common.{Bool, List, [], ap, arith, length, map, refl, subst, suc, sym, zero, ◌<◌, ◌∙◌, ◌∷◌, ◌≡◌, ◌≤◌, ◌^◌, ℕ}
 use Rattle.std.specs.Prelude.{IsTrue, None, Option, Some, slice_index_or}
 use Rattle.std.proofs.lemmas.List.{length-map}
 use mathlib.Core.Option.{some}
@@ -9,7 +9,6 @@ use Rattle.store_key.specs.Anchor.{anchor_of}
 use Rattle.store_key.specs.Key.{key_of}
 use Rattle.rock_disk.specs.Cell.{CellState}
 use Rattle.rebuild_model.specs.Entry.{IsComplete}
-use Rattle.rebuild_model.specs.Image.{image_at}
 use Rattle.entry_cut.specs.Content.{Cut, room_of}
 use Rattle.entry_cut.specs.Standing.{IsWritable, Stand, entry_of}
 use Rattle.core_model.specs.declared.moves.Side.TheVariants.{Offer}
@@ -27,7 +26,7 @@ use Rattle.pass_calls.specs.Words.{has}
 use Rattle.store_rule.specs.Ground.{Ground, Rule}
 use Rattle.store_rule.specs.Setting.{shown}
 use Rattle.rock_reader.specs.Responses.{IsResponse}
-use Rattle.plain_lines.specs.Words.{IsLone, Knows, ShowsAt, ShowsEntry, ShowsEntryIf, no_guests, setting_of}
+use Rattle.plain_lines.specs.Words.{IsLone, Knows, ShowsEntry, ShowsEntryIf, no_guests, setting_of}
 use Rattle.plain_lines.proofs.Chains.{word_is}
 use Rattle.plain_lines.proofs.PlainWords.{readers_fit, stage_there, version_there}
 use Rattle.plain_runs.specs.Ends.{HasVersions, HoldsEntry, HoldsWhole, IsHomeAs, SpellsResponse, TellsPieces}

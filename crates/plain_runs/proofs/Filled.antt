@@ -1,5 +1,5 @@
 -- A complete entry has as many slots as its content needs: all but the last are full.
-use Rattle.std.proofs.Common.{List, [], arith, length, subst, sum_by, sym, ◌*◌, ◌+◌, ◌-◌, ◌/◌, ◌<◌, ◌∙◌, ◌∷◌, ◌≡◌, ◌≤◌, ℕ}
+use Rattle.std.proofs.Common.{List, [], arith, length, subst, sum_by, sym, ◌*◌, ◌+◌, ◌-◌, ◌<◌, ◌∷◌, ◌≡◌, ◌≤◌, ℕ}
 use Rattle.std.specs.List.{AllByRecursion}
 use Rattle.std.proofs.Math.Nat.{div-lt_iff_lt-mul, le-div_iff_mul-le}
 use Rattle.std.proofs.lemmas.List.Elements.{recursion_from_All}

@@ -1,13 +1,11 @@
 -- What the plain store has at an anchor that is opened on what a rebuild keeps: the entry that is kept there, or nothing.
-use Rattle.std.proofs.Common.{Bool, Contains, List, [], arith, false, inl, inr, map, refl, suc, true, ⊎_elim, ◌+◌, ◌<◌, ◌∙◌, ◌∷◌, ◌≡◌, ◌⊎◌, ℕ}
-use Rattle.std.specs.Prelude.{None, Option, Some, cond, find, slice_index_or, ◌==◌}
-use Rattle.std.specs.List.{range_with_len}
+use Rattle.std.proofs.Common.{Bool, Contains, List, [], arith, false, inl, inr, map, refl, suc, true, ⊎_elim, ◌<◌, ◌∷◌, ◌≡◌, ◌⊎◌, ℕ}
+use Rattle.std.specs.Prelude.{None, Some, ◌==◌}
 use Rattle.std.proofs.lemmas.Bool.Decides.{nat_tests}
 use Rattle.std.proofs.lemmas.List.FromFn.{get_or-map-range_with_len}
 use Rattle.store_key.specs.Anchor.{anchor_of}
 use Rattle.rebuild_model.specs.Entry.{Entry}
 use Rattle.core_model.proofs.Lists.{cons_contains, contains_none}
-use Rattle.plain_model.specs.declared.entry.Place.{Place}
 use Rattle.plain_model.specs.declared.kept.Kept.{Kept}
 use Rattle.plain_model.specs.Opening.{kept_at, kept_of, opened, place_kept}
 use Rattle.plain_model.specs.Place.{nothing}

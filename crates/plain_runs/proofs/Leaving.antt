@@ -1,5 +1,5 @@
 -- A worker leaves its tabs as the plain store leaves its own.
-use Rattle.std.proofs.Common.{Bool, arith, refl, subst, suc, sym, zero, ◌+◌, ◌<◌, ◌∙◌, ◌≡◌, ◌≤◌, ℕ}
+use Rattle.std.proofs.Common.{Bool, arith, refl, subst, suc, sym, zero, ◌∙◌, ◌≡◌, ◌≤◌, ℕ}
 use Rattle.std.specs.List.{range_with_len}
 use Rattle.rock_disk.specs.Cell.{CellState}
 use Rattle.plain_model.specs.declared.store.Plain.{Plain}

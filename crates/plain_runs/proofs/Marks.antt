@@ -1,6 +1,5 @@
 -- Marks change nothing of what a pass shows.
 use Rattle.std.proofs.Common.{Contains, Bool, List, [], ap, arith, refl, subst, sym, true, ◌<◌, ◌∷◌, ◌≡◌, ◌∙◌, ℕ}
-use Rattle.std.specs.Prelude.{◌≢◌}
 use Rattle.std.proofs.lemmas.List.Elements.{Contains-append_right}
 use Rattle.rock_disk.specs.Cell.{CellState}
 use Rattle.core_model.specs.Tabs.{inner, is_free, tab_at}
@@ -15,13 +14,11 @@ use Rattle.store_rule.specs.declared.store.Desk.{Desk}
 use Rattle.store_rule.specs.declared.store.Pass.{Pass}
 use Rattle.store_rule.specs.declared.store.Store.{Store}
 use Rattle.store_rule.specs.Drafts.{draft_at}
-use Rattle.store_rule.specs.Ground.{Ground, Offers}
+use Rattle.store_rule.specs.Ground.{Offers}
 use Rattle.store_rule.specs.Lending.{buffer_at}
 use Rattle.store_rule.specs.Notes.{sees}
 use Rattle.store_rule.specs.Passes.{Keeps, basis, view}
-use Rattle.rock_reader.specs.Reading.{ReadsAs, Standing}
 use Rattle.serve_lines.specs.Tabs.{IsFree, Leaves}
-use Rattle.serve_lines.specs.Whole.{whole_tab}
 use Rattle.worker_shelf.proofs.Holding.{Stays}
 use Rattle.plain_lines.specs.Shows.{ShowsTab}
 use Rattle.plain_lines.specs.Words.{Knows, no_guests}

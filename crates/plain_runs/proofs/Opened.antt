@@ -1,27 +1,22 @@
 -- A store that was opened over cells that tell what they hold: a new pass shows the plain store, and what else is asked of such a store holds.
-use Rattle.std.proofs.Common.{All, Bool, Contains, List, [], ap, arith, cond, false, length, map, refl, subst, suc, sym, true, zero, ⊎_elim, ◌+◌, ◌<◌, ◌∙◌, ◌∷◌, ◌≡◌, ◌≤◌, ℕ}
+use Rattle.std.proofs.Common.{Bool, Contains, List, ap, arith, cond, false, length, map, refl, subst, suc, sym, true, zero, ◌∙◌, ◌≡◌, ℕ}
 use Rattle.std.specs.Prelude.{IsTrue, nat_lt, replicate, slice_index_or}
 use Rattle.std.specs.Global.{Vec}
 use Rattle.std.proofs.lemmas.List.{length-map}
 use Rattle.std.proofs.lemmas.List.Elements.{All-contains, All-contains_itself, All-map, All-weaker}
-use Rattle.lock_word.specs.Words.{epoch_of, version_of}
 use Rattle.rock_disk.specs.Cell.{CellState}
 use Rattle.rock_disk.specs.Opened.{AreSlots}
 use Rattle.rebuild_model.specs.declared.rebuilt.Rebuilt.{Rebuilt}
-use Rattle.rebuild_model.specs.Entry.{Entry, IsComplete}
-use Rattle.rebuild_model.specs.Image.{IsFile, header_at}
+use Rattle.rebuild_model.specs.Image.{IsFile}
 use Rattle.rebuild_model.specs.Rebuilt.{IsRebuilt}
-use Rattle.core_model.specs.Opening.{new_view}
-use Rattle.core_model.specs.Tabs.{InnerIsFree, is_free, tab_at}
+use Rattle.core_model.specs.Tabs.{is_free, tab_at}
 use Rattle.core_model.specs.declared.tab.Tab.{Tab}
 use Rattle.core_model.specs.declared.tab.Tab.TheVariants as tab
 use Rattle.core_model.specs.declared.view.View.{View}
 use Rattle.core_model.proofs.SlotsOpened.{map_contains}
 use Rattle.plain_model.specs.declared.store.Plain.{Plain}
-use Rattle.plain_model.specs.declared.store.Tab.{Tab as PlainTab}
 use Rattle.plain_model.specs.declared.store.Tab.TheVariants.{Free}
 use Rattle.plain_model.specs.Opening.{IsOpened, kept_of, opened}
-use Rattle.plain_model.specs.Store.{tab_at as plain_tab}
 use Rattle.store_rule.specs.declared.store.Pass.{Pass}
 use Rattle.store_rule.specs.declared.store.Store.{Store}
 use Rattle.store_rule.specs.Ground.{Ground, Offers}

@@ -1,5 +1,5 @@
 -- A run of one worker whose station met no fault.
-use Rattle.std.proofs.Common.{Bool, Contains, List, [], ap, arith, cond, false, inl, inr, length, map, refl, subst, suc, sym, take, true, zero, ⊎_elim, ◌+◌, ◌-◌, ◌<◌, ◌∙◌, ◌∷◌, ◌≡◌, ◌≤◌, ◌^◌, ℕ}
+use Rattle.std.proofs.Common.{Bool, Contains, List, [], ap, arith, cond, false, length, map, refl, subst, suc, sym, true, zero, ◌+◌, ◌-◌, ◌∙◌, ◌∷◌, ◌≡◌, ◌≤◌, ◌^◌, ℕ}
 use Rattle.std.specs.Prelude.{IsTrue, count_by, min}
 use Rattle.std.specs.List.{range_with_len}
 use Rattle.std.specs.Global.{Vec}
@@ -10,11 +10,8 @@ use lib.ListN.{get_elem?}
 use Rattle.rock_disk.specs.Cell.{CellState}
 use Rattle.rock_disk.specs.Opened.{AreSlots}
 use Rattle.entry_cut.specs.Content.{room_of}
-use Rattle.script_text.specs.declared.answer.Answer.{Answer}
 use Rattle.script_text.specs.declared.answer.Answer.TheVariants.{Met, Unmet}
 use Rattle.script_text.specs.declared.line.Line.{Line}
-use Rattle.script_text.specs.declared.request.Request.TheVariants.{Await}
-use Rattle.core_model.specs.declared.view.View.{View}
 use Rattle.plain_model.specs.declared.store.Plain.{Plain}
 use Rattle.plain_model.specs.declared.store.Setting.{Setting}
 use Rattle.plain_model.specs.Opening.{IsOpened}
@@ -32,7 +29,7 @@ use Rattle.serve_lines.specs.Answers.{is_fault}
 use Rattle.serve_lines.specs.Whole.{whole_tab}
 use Rattle.worker_shelf.specs.Shelves.{LeftBelow, OnShelf}
 use Rattle.worker_shelf.proofs.Holding.{Stays}
-use Rattle.crew_closings.specs.Playing.{HasRun, HasSteps, IsPlayed, fault_answers}
+use Rattle.crew_closings.specs.Playing.{HasSteps, IsPlayed, fault_answers}
 use Rattle.plain_lines.specs.Words.{setting_of}
 use Rattle.plain_lines.proofs.ShowingOthers.{OneBegins}
 use Rattle.plain_runs.specs.Ends.{HoldsWhole}
