@@ -1,10 +1,8 @@
 -- In a script that was read the lines before one are those of lesser numbers: so `await` is answered as in the plain store.
-use Rattle.std.proofs.Common.{Bool, Contains, List, [], ap, arith, cond, false, length, map, refl, subst, suc, sym, take, true, zero, ⊎_elim, ◌++◌, ◌+◌, ◌<◌, ◌∙◌, ◌∷◌, ◌≡◌, ◌≤◌, ◌==◌, ℕ}
+use Rattle.std.proofs.Common.{Bool, Contains, List, [], ap, arith, cond, false, length, map, refl, subst, suc, sym, take, true, zero, ⊎_elim, ◌+◌, ◌<◌, ◌∙◌, ◌∷◌, ◌≡◌, ◌≤◌, ◌==◌, ℕ}
 use Rattle.std.specs.Prelude.{nat_lt, ◌&&◌, ◌||◌}
 use Rattle.std.specs.List.{list_any}
 use Rattle.std.proofs.lemmas.Bool.{eqb-true, le-ltb, lt-ltb}
-use Rattle.script_text.specs.Lines.{AreLines}
-use Rattle.script_text.specs.Lines.AreLines.{no_line, one_more}
 use Rattle.script_text.specs.declared.line.Line.{Line}
 use Rattle.script_text.specs.declared.request.Request.{Request}
 use Rattle.script_text.specs.declared.request.Request.TheVariants.{Add, Await, Begin, CloseTab, DropTab, End, Get, Mark, More, OpenTab, Purge, Put, Save}
@@ -13,14 +11,6 @@ use Rattle.core_model.proofs.SlotsOpened.{map_contains}
 use Rattle.plain_model.specs.Serving.{is_set_before, lines_for, sets as sets_in}
 use Rattle.worker_pool.specs.Courses.{Stage, lines_from, lines_of, sets, sets_by}
 use Rattle.plain_runs.specs.Runs.{Numbered}
-
-numbered_push : (n : ℕ) (lines : List Line) (line : Line) → Numbered n lines → line.number ≡ n + length lines + 1 → Numbered n (lines ++ line ∷ [])
-numbered_push n [] line h is = (omega arith, tt)
-numbered_push n (x ∷ lines) line h is = (h.0, numbered_push (n + 1) lines line h.1 (omega arith))
-
-pub numbered : {workers : ℕ} {texts : List (List ℕ)} {lines : List Line} → AreLines workers texts lines → Numbered 0 lines
-numbered no_line = tt
-numbered (one_more {lines = lines} {line = line} before is) = numbered_push 0 lines line (numbered before) (let n = is.numbered in omega arith)
 
 -- whether a request sets a mark is said twice
 same_sets : (mark : ℕ) (request : Request) → sets_in mark request ≡ sets_by mark request

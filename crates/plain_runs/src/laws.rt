@@ -7,7 +7,6 @@ ghost use Rattle.rock_disk.specs.Opened.{AreSlots};
 ghost use Rattle.core_model.specs.declared.moves.Side.TheVariants.{Offer};
 ghost use Rattle.core_model.specs.declared.view.View.{View};
 ghost use Rattle.core_model.specs.State.{side_word, word};
-ghost use Rattle.script_text.specs.Script.{IsScript};
 ghost use Rattle.script_text.specs.declared.line.Line.{Line};
 ghost use Rattle.plain_model.specs.declared.store.Plain.{Plain};
 ghost use Rattle.plain_model.specs.Opening.{IsOpened};
@@ -61,10 +60,10 @@ pub fn closed_entries_are_complete<C: Cell, O: Origin>()
     placed_pieces_are_an_entry();
 }
 
-/// Where one worker served a script whose lines are numbered in order, on the only pass of a store that was opened over cells that tell what
-/// they hold, and its station met no fault, the worker's lines are answered as by each plain store that is opened on the
-/// images of the cells. When the store was closed, the pass showed what the script leaves of the plain store, and the cells
-/// that were left hold each entry of it that is whole.
+/// Where one worker served a script whose lines are numbered in order, on the only pass of a store that was opened over
+/// cells that tell what they hold, and its station met no fault, the worker's lines are answered as by each plain store
+/// that is opened on the images of the cells. When the store was closed, the pass showed what the script leaves of the
+/// plain store, and the cells that were left hold each entry of it that is whole.
 pub fn lone_runs_are_plain<C: Cell, O: Origin, St: Station<C = C>>()
     ensures { (slot anchors : ℕ) (origin : O) (cells left : List C) (s : Store C O) (ps : Vec (Pass C)) (script : List Line)
         (accounts : List (Account (OnShelf C O St))) (a : Account (OnShelf C O St)) (plain : Plain) → IsTrue C.tells
@@ -81,8 +80,3 @@ pub fn lone_runs_are_plain<C: Cell, O: Origin, St: Station<C = C>>()
     requests_keep_other_tabs::<C, O>();
     faults_are_counted::<C, O, St>();
 }
-
-/// The lines of a script that was read are numbered in order, from 1 on.
-pub fn read_lines_are_numbered()
-    ensures { (workers : ℕ) (text : List ℕ) (lines : List Line) → IsScript workers text lines → Numbered 0 lines }
-{}

@@ -5,4 +5,4 @@
 
 mod laws;
 
-pub use laws::{closed_entries_are_complete, lone_runs_are_plain, new_passes_show_plain_stores, read_lines_are_numbered};
+pub use laws::{closed_entries_are_complete, lone_runs_are_plain, new_passes_show_plain_stores};

@@ -13,6 +13,7 @@ ghost use Rattle.file_commands.specs.Report.{AnyCount, IsAnchors, OfFile, HasSlo
 ghost use Rattle.file_commands.specs.Summary.{Sums};
 ghost use Rattle.run_command.specs.Ends.{NoFault as NoRunFault, RunEnds, RunsOrLacksMemory};
 ghost use Rattle.run_command.specs.Leaves.{RunLeaves};
+ghost use Rattle.run_command.specs.Plain.{PrintsPlainly};
 ghost use Rattle.run_command.specs.Prints.{IsRunText, RunPrints};
 ghost use Rattle.run_command.specs.Says.{IsRunRefused, MayRun, RunSays};
 ghost use Rattle.workload.specs.Script.{bench_lines};
@@ -173,6 +174,17 @@ where
     ensures run_leaves { (name : List ℕ) (slot anchors workers : ℕ) → IsRun words.now name slot anchors workers
         → RunLeaves S.tells V.tells V.C.tells V.C.state (S.left script.old) (S.left script.new)
         (V.files volume.old) (V.files volume.new) name slot anchors workers result }
+
+    // With one worker and no fault, it prints what a plain store answers that is opened on the file, and the file
+    // that is given back has each entry that is whole in what the script leaves of that store. No thread and no lock
+    // is in the plain store, which `plain_model` defines.
+    ensures run_plain { (name : List ℕ) (slot anchors : ℕ) → IsRun words.now name slot anchors 1
+        → IsTrue S.tells → IsTrue V.tells → IsTrue K.tells → result ≡ Status.Done
+        → NoRunFault (S.faults script.old) (S.faults script.new) (K.faults out.old) (K.faults out.new)
+        (counts (V.faults volume.old) (V.made volume.old) (V.ended volume.old))
+        (counts (V.faults volume.new) (V.made volume.new) (V.ended volume.new))
+        → PrintsPlainly (S.left script.old) (V.files volume.old) (V.files volume.new) name slot anchors
+        (K.taken out.old) (K.taken out.new) }
 
     // Its stations are that of the rebuild and those of the workers: each that was made was ended. What is left
     // of the script is what was not read of it.

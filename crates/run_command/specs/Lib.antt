@@ -2,4 +2,5 @@ pub mod Faults
 pub mod Ends
 pub mod Says
 pub mod Prints
+pub mod Plain
 pub mod Leaves

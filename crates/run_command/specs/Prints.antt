@@ -1,5 +1,5 @@
 -- What a run prints.
-use Rattle.std.specs.Prelude.{Bool, List, ◌++◌, ◌≡◌, ◌⊎◌, ℕ}
+use Rattle.std.specs.Prelude.{Bool, IsTrue, List, ◌++◌, ◌≡◌, ◌⊎◌, ℕ}
 use Rattle.answer_printer.specs.Text.{text_of}
 use Rattle.rock_disk.specs.Cell.{CellState}
 use Rattle.rock_disk.specs.File.{Files}
@@ -7,6 +7,7 @@ use Rattle.rock_io.specs.Faults.{Rose}
 use Rattle.rock_io.specs.Sink.{TakesPrefix}
 use Rattle.rock_open.specs.Device.{Counts}
 use Rattle.rock_run.specs.Runs.{HasRun}
+use Rattle.run_rules.specs.Plain.{IsAnsweredPlainly, NoneFailedServing}
 use Rattle.run_rules.specs.Runs.{IsExplained}
 use Rattle.rock_status.specs.declared.status.Status.{Status}
 use Rattle.rock_status.specs.declared.status.Status.TheVariants.{Done, Memory, SinkFault}
@@ -15,7 +16,7 @@ use Rattle.script_text.specs.declared.answer.Answer.{Answer}
 use Rattle.script_text.specs.declared.line.Line.{Line}
 
 -- The text is what a run prints: the source gave a script to its end, these lines were run over the file, and the text is that of their answers,
--- which are explained by what the workers did.
+-- which are explained by what the workers did. Those of one worker whose station met no fault are those of a plain store.
 pub record IsRunText {C St : Type 0} (source_tells volume_tells tells : Bool) (state : C → CellState) (faults : St → ℕ) (script left : List ℕ) (files files_after : Files) (name : List ℕ) (slot anchors workers : ℕ) (before after : Counts) (text : List ℕ) : Type 0 where
   pub lines : List Line
   pub answers : List (List (ℕ × Answer))
@@ -23,6 +24,7 @@ pub record IsRunText {C St : Type 0} (source_tells volume_tells tells : Bool) (s
   pub read : GivesScript source_tells workers script left lines
   pub ran : HasRun volume_tells tells state files files_after name slot anchors workers lines faults answers before after
   pub explained : IsExplained volume_tells files name slot anchors workers lines answers before after
+  pub plain : workers ≡ 1 → IsTrue volume_tells → NoneFailedServing before after → IsAnsweredPlainly files files_after name slot anchors lines answers
 
 -- What was printed behind what the sink had taken: at `Done` the text, at a fault of the sink a first part of it, at want of memory nothing or
 -- such a part, and else nothing.

@@ -17,7 +17,7 @@ use rock_disk::Volume;
 use rock_io::{Sink, Source};
 use rock_run::{read_scripts_may_be_served, run_script, status_of_run};
 use rock_status::Status;
-use run_rules::runs_keep_the_rules;
+use run_rules::{lone_runs_are_answered_plainly, read_lines_are_numbered, runs_keep_the_rules};
 use script_text::{Answer, read_script};
 use std::alloc::Global;
 use std::sync::Wait;
@@ -122,6 +122,8 @@ where
 {
     read_scripts_may_be_served();
     runs_keep_the_rules::<V::C, V::St>();
+    read_lines_are_numbered();
+    lone_runs_are_answered_plainly::<V::C, V::St>();
     let RunTarget {
         name,
         slot,

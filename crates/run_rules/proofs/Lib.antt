@@ -3,4 +3,5 @@ mod Scripts
 mod Files
 mod Crews
 mod Opened
+mod Numbers
 mod Lone

@@ -3,6 +3,7 @@
 ghost use Rattle.std.specs.Prelude.{Bool, IsTrue, List, ◌<◌, ℕ};
 ghost use Rattle.db_layout.specs.Layout.{IsSlotSize};
 ghost use Rattle.rock_disk.specs.File.{Files};
+ghost use Rattle.script_text.specs.Script.{IsScript};
 ghost use Rattle.script_text.specs.declared.answer.Answer.{Answer};
 ghost use Rattle.script_text.specs.declared.line.Line.{Line};
 ghost use Rattle.rock_open.specs.Device.{Counts};
@@ -45,3 +46,8 @@ pub fn lone_runs_are_answered_plainly<C: Cell, St: Station<C = C>>()
     lone_runs_are_plain::<C, ScriptOrigin, St>();
     opened_slots_are_wide_and_few();
 }
+
+/// The lines of a script that was read are numbered in order, from 1 on.
+pub fn read_lines_are_numbered()
+    ensures { (workers : ℕ) (text : List ℕ) (lines : List Line) → IsScript workers text lines → Numbered 0 lines }
+{}

@@ -5,4 +5,4 @@
 
 mod laws;
 
-pub use laws::{lone_runs_are_answered_plainly, runs_keep_the_rules};
+pub use laws::{lone_runs_are_answered_plainly, read_lines_are_numbered, runs_keep_the_rules};

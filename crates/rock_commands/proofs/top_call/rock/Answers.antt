@@ -1,4 +1,4 @@
-use Rattle.std.proofs.Common.{◌≡◌, IsTrue, None, inl, inr, refl, subst}
+use Rattle.std.proofs.Common.{◌≡◌, IsTrue, None, ap, inl, inr, refl, subst, ◌++◌, ◌∙◌}
 use Rattle.std.specs.FinMap.{get}
 use Rattle.rock_io.specs.Faults.{Rose}
 use Rattle.rock_disk.specs.File.{IsKept, IsThere}
@@ -23,6 +23,7 @@ use Rattle.file_commands.specs.Listing.{Lists}
 use Rattle.file_commands.specs.Summary.{Sums}
 use Rattle.file_commands.specs.Report.{AnyCount, IsAnchors, OfFile, HasSlots, ReportEnds, ReportSays, ReportPrints, ReportsOrLacksMemory}
 use Rattle.rock_status.specs.declared.status.Status.TheVariants as status
+use Rattle.script_text.specs.Script.{IsScript}
 use Rattle.rock_commands.proofs.CommandFacts.{of_each, of_each_bench, of_each_check, of_each_create, of_each_run}
 use Rattle.rock_commands.proofs.CreateFacts.{complete_create, home_when_left}
 use Rattle.rock_commands.proofs.ReportFacts.{complete, none_ended, unfit}
@@ -203,6 +204,22 @@ returns-in-Run-clause-run_prints g c name slot anchors workers asked k =
     (counts (g.V.Volume.faults c.run_command.new.volume) (g.V.Volume.made c.run_command.new.volume) (g.V.Volume.ended c.run_command.new.volume)))
     (g.K.Sink.taken c.args.out.now) (g.K.Sink.taken c.run_command.new.out) c.run_command.result)
     name slot anchors workers (subst (IsCommand c.args.words.now) c.in-Run.is c.in-Some.ensures) asked (c.run_command.ensures.prints k)
+
+pub returns-in-Run-clause-run_plain : goal.returns-in-Run-clause-run_plain
+returns-in-Run-clause-run_plain g c name slot anchors asked st vt k done none =
+    let told = subst (RunPrints (IsRunText g.S.Source.tells g.V.Volume.tells g.V.C.Cell.tells g.V.C.Cell.state g.V.St.Station.faults
+        (g.S.Source.left c.args.script.now) (g.S.Source.left c.run_command.new.script) (g.V.Volume.files c.args.volume.now) (g.V.Volume.files c.run_command.new.volume) name slot anchors 1
+        (counts (g.V.Volume.faults c.args.volume.now) (g.V.Volume.made c.args.volume.now) (g.V.Volume.ended c.args.volume.now))
+        (counts (g.V.Volume.faults c.run_command.new.volume) (g.V.Volume.made c.run_command.new.volume) (g.V.Volume.ended c.run_command.new.volume)))
+        (g.K.Sink.taken c.args.out.now) (g.K.Sink.taken c.run_command.new.out)) done (returns-in-Run-clause-run_prints g c name slot anchors 1 asked k) in
+    let text = told.1 in
+    record {
+      lines = text.lines;
+      read = subst (λ (script : List ℕ). IsScript 1 script text.lines) (text.read.2 st).0 text.read.1;
+      answers = text.answers;
+      answered = text.plain refl vt (λ workers ended. (none.stations_none 0 workers ended).1);
+      printed = told.2 ∙ ap (λ (printed : List ℕ). g.K.Sink.taken c.args.out.now ++ printed) text.is;
+    }
 
 pub returns-in-Run-clause-run_leaves : goal.returns-in-Run-clause-run_leaves
 returns-in-Run-clause-run_leaves g c name slot anchors workers asked =

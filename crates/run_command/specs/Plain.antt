@@ -1,0 +1,17 @@
+-- What a run of one worker prints that meets no fault.
+use Rattle.std.specs.Prelude.{List, ◌++◌, ◌≡◌, ℕ}
+use Rattle.answer_printer.specs.Text.{text_of}
+use Rattle.rock_disk.specs.File.{Files}
+use Rattle.run_rules.specs.Plain.{IsAnsweredPlainly}
+use Rattle.script_text.specs.Script.{IsScript}
+use Rattle.script_text.specs.declared.answer.Answer.{Answer}
+use Rattle.script_text.specs.declared.line.Line.{Line}
+
+-- This is the text of a script for one worker, and what was printed is the text of the answers of a plain store to it that is opened on the file. The file that was given back has each entry that is
+-- whole in what the script leaves of that store.
+pub record PrintsPlainly (script : List ℕ) (files files_after : Files) (name : List ℕ) (slot anchors : ℕ) (taken taken_after : List ℕ) : Type 0 where
+  pub lines : List Line
+  pub read : IsScript 1 script lines
+  pub answers : List (List (ℕ × Answer))
+  pub answered : IsAnsweredPlainly files files_after name slot anchors lines answers
+  pub printed : taken_after ≡ taken ++ text_of answers
