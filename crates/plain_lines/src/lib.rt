@@ -2,3 +2,7 @@
 //!
 //! The functions here do nothing. What they ensure are laws on what lines are answered.
 #![tactic(auto)]
+
+mod laws;
+
+pub use laws::{lone_lines_are_plain, lone_tabs_are_left_plainly};
