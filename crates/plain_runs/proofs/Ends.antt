@@ -1,10 +1,10 @@
 -- What a lone pass shows when its store is closed stands in the file that is given back.
-use Rattle.std.proofs.Common.{Bool, List, [], ap, arith, length, map, refl, subst, suc, sym, zero, ◌<◌, ◌∙◌, ◌∷◌, ◌≡◌, ◌≤◌, ◌^◌, ℕ}
+use Rattle.std.proofs.Common.{Bool, List, [], ap, arith, length, map, refl, subst, suc, sym, zero, ◌+◌, ◌<◌, ◌∙◌, ◌∷◌, ◌≡◌, ◌≤◌, ◌^◌, ℕ}
 use Rattle.std.specs.Prelude.{IsTrue, None, Option, Some, slice_index_or}
 use Rattle.std.proofs.lemmas.List.{length-map}
 use mathlib.Core.Option.{some}
 use lib.ListN.{get_elem?}
-use Rattle.lock_word.specs.Words.{epoch_of, stage_number, stage_of, version_of}
+use Rattle.lock_word.specs.Words.{epoch_of, stage_number, stage_of, version_of, word_number}
 use Rattle.store_key.specs.Anchor.{anchor_of}
 use Rattle.store_key.specs.Key.{key_of}
 use Rattle.rock_disk.specs.Cell.{CellState}
@@ -21,15 +21,21 @@ use Rattle.plain_model.specs.declared.entry.Entry.{Entry}
 use Rattle.plain_model.specs.declared.entry.Life.{Life}
 use Rattle.plain_model.specs.declared.entry.Life.TheVariants.{Whole}
 use Rattle.plain_model.specs.declared.store.Plain.{Plain}
-use Rattle.plain_model.specs.Store.{entry_at, place_at, stage_of as stage_of_place, stage_of_entry}
+use Rattle.plain_model.specs.Store.{entry_at, place_at, stage_of as stage_of_place, stage_of_entry, word_at}
 use Rattle.pass_calls.specs.Words.{has}
-use Rattle.store_rule.specs.Ground.{Ground, Rule}
+use Rattle.store_rule.specs.declared.store.Pass.{Pass}
+use Rattle.store_rule.specs.declared.store.Store.{Store}
+use Rattle.store_rule.specs.Closing.{Closed}
+use Rattle.store_rule.specs.Ground.{Ground, Offers, Rule}
+use Rattle.store_rule.specs.Passes.{basis, view}
+use Rattle.store_rule.proofs.Passing.{pass_of}
 use Rattle.store_rule.specs.Setting.{shown}
 use Rattle.rock_reader.specs.Responses.{IsResponse}
 use Rattle.plain_lines.specs.Words.{IsLone, Knows, ShowsEntry, ShowsEntryIf, no_guests, setting_of}
 use Rattle.plain_lines.proofs.Chains.{word_is}
 use Rattle.plain_lines.proofs.PlainWords.{readers_fit, stage_there, version_there}
 use Rattle.plain_runs.specs.Ends.{HasVersions, HoldsEntry, HoldsWhole, IsHomeAs, SpellsResponse, TellsPieces}
+use Rattle.plain_runs.specs.Runs.{ShowsPlain}
 use Rattle.plain_runs.proofs.Spelled.{spells}
 
 -- the law that the pieces of an entry are one where they stand in a file
@@ -98,3 +104,15 @@ module _ (g : Ground (List ℕ)) (lone : IsLone g) (s : State (List ℕ)) (i : �
 
   pub holds_whole : HoldsWhole g.slot g.setting.anchors images p
   holds_whole a e lt there whole = held a e lt there whole
+
+-- When a store with one pass was closed, each anchor had the word of the plain store that the pass showed.
+module _ {C O : Type 0} (tells : Bool) (state : C → CellState) (offers : O → Offers) (s : Store C O) (p : Pass C) (plain : Plain) (views : List (View (List ℕ))) (left : List C)
+    (closed : Closed tells state (basis tells state offers s) views left) (a : ℕ) (lone : IsLone (basis tells state offers s)) (first : get_elem? views 0 ≡ some (view p))
+    (shows : ShowsPlain tells state offers s p plain) (lt : a < (basis tells state offers s).setting.anchors) where
+  pub closed_word : word closed.gathered.state a ≡ word_number (word_at (setting_of (basis tells state offers s)) plain a)
+  closed_word = let gathered = closed.gathered in
+      word_is (basis tells state offers s) lone gathered.state (gathered.index 0) (view p) gathered.rule (gathered.at 0 (view p) first) (pass_of p) (Anchor a) lt
+      ∙ (shows.knows.each a lt).word ∙ plus_none _
+    where
+      plus_none : (n : ℕ) → n + 0 ≡ n
+      plus_none n = omega arith

@@ -2,7 +2,9 @@
 // what it ensures.
 ghost use Rattle.std.specs.Prelude.{Contains, IsTrue, List, length, map, ◌<◌, ◌≡◌, ℕ};
 ghost use Rattle.std.specs.Global.{Vec};
-ghost use Rattle.lock_word.specs.Words.{epoch_of, stage_of};
+ghost use lib.ListN.{get_elem?};
+ghost use mathlib.Core.Option.{some};
+ghost use Rattle.lock_word.specs.Words.{epoch_of, stage_of, word_number};
 ghost use Rattle.rock_disk.specs.Opened.{AreSlots};
 ghost use Rattle.core_model.specs.declared.moves.Side.TheVariants.{Offer};
 ghost use Rattle.core_model.specs.declared.view.View.{View};
@@ -10,16 +12,18 @@ ghost use Rattle.core_model.specs.State.{side_word, word};
 ghost use Rattle.script_text.specs.declared.line.Line.{Line};
 ghost use Rattle.plain_model.specs.declared.store.Plain.{Plain};
 ghost use Rattle.plain_model.specs.Opening.{IsOpened};
+ghost use Rattle.plain_model.specs.Store.{word_at};
 ghost use Rattle.store_rule.specs.declared.store.Pass.{Pass};
 ghost use Rattle.store_rule.specs.declared.store.Store.{Store};
 ghost use Rattle.store_rule.specs.Closing.{Closed};
-ghost use Rattle.store_rule.specs.Passes.{IsNewOf, basis};
+ghost use Rattle.store_rule.specs.Passes.{IsNewOf, basis, view};
 ghost use Rattle.rock_open.specs.Opening.{IsStoreOver};
 ghost use Rattle.rock_reader.specs.Responses.{IsResponse};
 ghost use Rattle.worker_pool.specs.Courses.{At};
 ghost use Rattle.worker_pool.specs.Running.{Account};
 ghost use Rattle.worker_shelf.specs.Shelves.{OnShelf};
 ghost use Rattle.crew_closings.specs.Playing.{HasRun};
+ghost use Rattle.plain_lines.specs.Words.{IsLone, setting_of};
 ghost use Rattle.plain_runs.specs.Ends.{SpellsResponse};
 ghost use Rattle.plain_runs.specs.Runs.{IsPlainRun, Numbered, ShowsPlain};
 
@@ -59,6 +63,15 @@ pub fn closed_entries_are_complete<C: Cell, O: Origin>()
     one_winner_at_an_anchor();
     placed_pieces_are_an_entry();
 }
+
+/// When a store with one pass was closed, each anchor had the word of the plain store that the pass showed: its version, its
+/// stage and its doom, and as many readers as tabs read there.
+pub fn closed_words_are_plain<C: Cell, O: Origin>()
+    ensures { (s : Store C O) (p : Pass C) (plain : Plain) (views : List (View (List ℕ))) (left : List C)
+        (closed : Closed C.tells C.state (basis C.tells C.state O.offers s) views left) (a : ℕ) → IsLone (basis C.tells C.state O.offers s)
+        → get_elem? views 0 ≡ some (view p) → ShowsPlain C.tells C.state O.offers s p plain → a < (basis C.tells C.state O.offers s).setting.anchors
+        → word closed.gathered.state a ≡ word_number (word_at (setting_of (basis C.tells C.state O.offers s)) plain a) }
+{}
 
 /// Where one worker served a script whose lines are numbered in order, on the only pass of a store that was opened over
 /// cells that tell what they hold, and its station met no fault, the worker's lines are answered as by each plain store

@@ -7,7 +7,7 @@ use Rattle.rock_io.specs.Faults.{Rose}
 use Rattle.rock_io.specs.Sink.{TakesPrefix}
 use Rattle.rock_open.specs.Device.{Counts}
 use Rattle.rock_run.specs.Runs.{HasRun}
-use Rattle.run_rules.specs.Plain.{IsAnsweredPlainly, NoneFailedServing}
+use Rattle.run_rules.specs.Plain.{EndedPlainly, IsAnsweredPlainly, NoneFailedServing}
 use Rattle.run_rules.specs.Runs.{IsExplained}
 use Rattle.rock_status.specs.declared.status.Status.{Status}
 use Rattle.rock_status.specs.declared.status.Status.TheVariants.{Done, Memory, SinkFault}
@@ -24,7 +24,7 @@ pub record IsRunText {C St : Type 0} (source_tells volume_tells tells : Bool) (s
   pub read : GivesScript source_tells workers script left lines
   pub ran : HasRun volume_tells tells state files files_after name slot anchors workers lines faults answers before after
   pub explained : IsExplained volume_tells files name slot anchors workers lines answers before after
-  pub plain : workers ≡ 1 → IsTrue volume_tells → NoneFailedServing before after → IsAnsweredPlainly files files_after name slot anchors lines answers
+  pub plain : workers ≡ 1 → IsTrue volume_tells → NoneFailedServing before after → (plainly : IsAnsweredPlainly files files_after name slot anchors lines answers) × EndedPlainly ran.closed.closed.gathered.state plainly
 
 -- What was printed behind what the sink had taken: at `Done` the text, at a fault of the sink a first part of it, at want of memory nothing or
 -- such a part, and else nothing.

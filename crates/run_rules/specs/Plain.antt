@@ -1,14 +1,17 @@
 -- What one worker is answered that runs a script alone over a file, by the plain store.
-use Rattle.std.specs.Prelude.{All, List, Some, [], length, map, ◌∷◌, ◌≡◌, ℕ}
+use Rattle.std.specs.Prelude.{All, List, Some, [], length, map, ◌<◌, ◌∷◌, ◌≡◌, ℕ}
 use Rattle.std.specs.FinMap.{get}
+use Rattle.lock_word.specs.Words.{word_number}
 use Rattle.rock_disk.specs.Cell.{CellState}
 use Rattle.rock_disk.specs.File.{Files}
 use Rattle.rock_disk.specs.File.File.{Home}
 use Rattle.script_text.specs.declared.answer.Answer.{Answer}
 use Rattle.script_text.specs.declared.line.Line.{Line}
+use Rattle.core_model.specs.State.{State, word}
 use Rattle.plain_model.specs.declared.store.Plain.{Plain}
 use Rattle.plain_model.specs.Opening.{IsOpened}
 use Rattle.plain_model.specs.Serving.{answers_of, left_by, lines_for}
+use Rattle.plain_model.specs.Store.{word_at}
 use Rattle.rock_open.specs.Device.{Counts}
 use Rattle.rock_run.specs.Device.{HasEnded}
 use Rattle.plain_runs.specs.Ends.{HoldsWhole}
@@ -44,3 +47,8 @@ pub record IsAnsweredPlainly (files left : Files) (name : List ℕ) (slot anchor
   pub back : List (List ℕ)
   pub given_back : HasSlots left name back
   pub entries : HoldsWhole slot anchors back (left_by (setting_over slot anchors (length images)) script 1 plain)
+
+-- At the end each anchor had the word of what the lines leave of that store: its version, its stage and its doom. So the entries that were closed then, and not doomed, are the plain store's.
+abbrev pub EndedPlainly : {files left : Files} {name : List ℕ} {slot anchors : ℕ} {script : List Line} {answers : List (List (ℕ × Answer))} → State (List ℕ) → IsAnsweredPlainly files left name slot anchors script answers → Type 0
+EndedPlainly {slot = slot} {anchors = anchors} {script = script} last plainly = let setting = setting_over slot anchors (length plainly.images) in
+    (a : ℕ) → a < anchors → word last a ≡ word_number (word_at setting (left_by setting script 1 plainly.plain) a)

@@ -1,6 +1,6 @@
 // What a run printed is explained. The function here does nothing: the proof of a function that calls it may use what it
 // ensures.
-ghost use Rattle.std.specs.Prelude.{Bool, IsTrue, List, ◌<◌, ℕ};
+ghost use Rattle.std.specs.Prelude.{Bool, IsTrue, List, ◌<◌, ◌≡◌, ℕ};
 ghost use Rattle.db_layout.specs.Layout.{IsSlotSize};
 ghost use Rattle.rock_disk.specs.File.{Files};
 ghost use Rattle.script_text.specs.Script.{IsScript};
@@ -9,13 +9,13 @@ ghost use Rattle.script_text.specs.declared.line.Line.{Line};
 ghost use Rattle.rock_open.specs.Device.{Counts};
 ghost use Rattle.rock_run.specs.Runs.{HasRun};
 ghost use Rattle.plain_runs.specs.Runs.{Numbered};
-ghost use Rattle.run_rules.specs.Plain.{IsAnsweredPlainly, NoneFailedServing};
+ghost use Rattle.run_rules.specs.Plain.{EndedPlainly, IsAnsweredPlainly, NoneFailedServing};
 ghost use Rattle.run_rules.specs.Runs.{IsExplained};
 
 use crew_closings::{crews_are_closed, faults_are_counted};
 use line_rules::closed_crews_keep_the_rules;
 use opened_runs::opened_stores_have_runs;
-use plain_runs::{lone_runs_are_plain, new_passes_show_plain_stores};
+use plain_runs::{closed_words_are_plain, lone_runs_are_plain, new_passes_show_plain_stores};
 use rock_disk::{Cell, Station, opened_slots_are_wide_and_few};
 use rock_io::Octets;
 use script_origin::ScriptOrigin;
@@ -35,15 +35,17 @@ pub fn runs_keep_the_rules<C: Cell, St: Station<C = C>>()
 }
 
 /// A run of one worker over a file that the volume tells, whose station met no fault, is answered as by a plain store that
-/// is opened on the file, and the file that was given back has the whole entries of what the script leaves of that. The
-/// lines of the script are numbered in order.
+/// is opened on the file, and the file that was given back has the whole entries of what the script leaves of that. When
+/// the store was closed, each anchor had the word of that. The lines of the script are numbered in order.
 pub fn lone_runs_are_answered_plainly<C: Cell, St: Station<C = C>>()
-    ensures { (tells : Bool) (files left : Files) (name : List ℕ) (slot anchors : ℕ) (script : List Line) (answers : List (List (ℕ × Answer))) (before after : Counts)
-        → IsSlotSize slot → Numbered 0 script → HasRun tells C.tells C.state files left name slot anchors 1 script St.faults answers before after
-        → IsTrue tells → NoneFailedServing before after → IsAnsweredPlainly files left name slot anchors script answers }
+    ensures { (tells : Bool) (files left : Files) (name : List ℕ) (slot anchors workers : ℕ) (script : List Line) (answers : List (List (ℕ × Answer))) (before after : Counts)
+        → IsSlotSize slot → Numbered 0 script → (ran : HasRun tells C.tells C.state files left name slot anchors workers script St.faults answers before after)
+        → workers ≡ 1 → IsTrue tells → NoneFailedServing before after
+        → (plainly : IsAnsweredPlainly files left name slot anchors script answers) × EndedPlainly ran.closed.closed.gathered.state plainly }
 {
     new_passes_show_plain_stores::<C, ScriptOrigin>();
     lone_runs_are_plain::<C, ScriptOrigin, St>();
+    closed_words_are_plain::<C, ScriptOrigin>();
     opened_slots_are_wide_and_few();
 }
 

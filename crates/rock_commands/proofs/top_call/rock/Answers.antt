@@ -217,7 +217,7 @@ returns-in-Run-clause-run_plain g c name slot anchors asked st vt k done none =
       lines = text.lines;
       read = subst (λ (script : List ℕ). IsScript 1 script text.lines) (text.read.2 st).0 text.read.1;
       answers = text.answers;
-      answered = text.plain refl vt (λ workers ended. (none.stations_none 0 workers ended).1);
+      answered = (text.plain refl vt (λ workers ended. (none.stations_none 0 workers ended).1)).0;
       printed = told.2 ∙ ap (λ (printed : List ℕ). g.K.Sink.taken c.args.out.now ++ printed) text.is;
     }
 

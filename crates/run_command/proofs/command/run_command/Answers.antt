@@ -1,9 +1,7 @@
-use Rattle.std.proofs.Common.{ap, arith, length, map, subst, ◌∙◌, ℕ}
+use Rattle.std.proofs.Common.{ap, arith, length, map, ◌∙◌}
 use Rattle.std.proofs.lemmas.Bool.{false≢true}
 use Rattle.std.proofs.lemmas.List.{length-map}
 use Rattle.answer_printer.specs.Text.{text_of}
-use Rattle.rock_open.specs.Device.{counts}
-use Rattle.rock_run.specs.Runs.{HasRun}
 use Rattle.rock_run.proofs.Outcomes.{ok_not_err}
 use Rattle.run_command.proofs.Filed.{fits_when_opened}
 use Rattle.run_command.proofs.Printed.{many, printed_complete, printed_ends, printed_leaves, printed_prints, printed_refused, printed_says, within}
@@ -60,12 +58,7 @@ returns-in-Ok-run_script-clause-prints g c told =
       read = c.in-Ok.ensures.script;
       ran = c.in-Ok-run_script.ensures.ran;
       explained = c.runs_keep_the_rules.ensures _ _ _ _ _ _ _ _ _ _ _ (let most = limits.0.to in omega (arith, most)) c.in-Ok-run_script.ensures.ran;
-      plain = λ alone told none. c.lone_runs_are_answered_plainly.ensures _ _ _ _ _ _ _ _ _ _ limits.0 (c.read_lines_are_numbered.ensures _ _ _ c.in-Ok.ensures.script.1)
-          (subst (λ (workers : ℕ). HasRun g.V.Volume.tells g.V.C.Cell.tells g.V.C.Cell.state (g.V.Volume.files c.args.volume.now) (g.V.Volume.files c.run_script.new.volume) c.args.target.now.name.now c.args.target.now.slot c.args.target.now.anchors workers
-              c.in-Ok.lines.lines g.V.St.Station.faults (map (λ each. each.items) c.in-Ok-run_script.answers.items)
-              (counts (g.V.Volume.faults c.args.volume.now) (g.V.Volume.made c.args.volume.now) (g.V.Volume.ended c.args.volume.now))
-              (counts (g.V.Volume.faults c.run_script.new.volume) (g.V.Volume.made c.run_script.new.volume) (g.V.Volume.ended c.run_script.new.volume))) alone c.in-Ok-run_script.ensures.ran)
-          told none;
+      plain = λ alone told none. c.lone_runs_are_answered_plainly.ensures _ _ _ _ _ _ _ _ _ _ _ limits.0 (c.read_lines_are_numbered.ensures _ _ _ c.in-Ok.ensures.script.1) c.in-Ok-run_script.ensures.ran alone told none;
     }) c.print.ensures.ends (c.print.ensures.prints told)
 
 pub returns-in-Ok-run_script-clause-kept : goal.returns-in-Ok-run_script-clause-kept
