@@ -5,4 +5,7 @@
 
 mod laws;
 
-pub use laws::{closed_entries_are_complete, closed_words_are_plain, lone_runs_are_plain, new_passes_show_plain_stores};
+pub use laws::{
+    closed_entries_are_complete, closed_words_are_plain, lone_runs_are_plain,
+    new_passes_show_plain_stores,
+};

@@ -117,7 +117,7 @@ module _ {C St : Type 0} (volume_tells told : Bool) (state : C → CellState) (f
   pub words_over : (plain : Plain) (opened : IsOpened slot images anchors plain)
       → (run : IsPlainRun told state offers_of h.closed.store slot anchors (length h.closed.opened.cells) script plain one.only h.closed.cells)
       → ((a : ℕ) → a < (basis told state offers_of h.closed.store).setting.anchors
-          → word h.closed.closed.gathered.state a ≡ word_number (word_at (setting_of (basis told state offers_of h.closed.store)) (left_by (setting_over slot anchors (length h.closed.opened.cells)) script 1 plain) a))
+      → word h.closed.closed.gathered.state a ≡ word_number (word_at (setting_of (basis told state offers_of h.closed.store)) (left_by (setting_over slot anchors (length h.closed.opened.cells)) script 1 plain) a))
       → EndedPlainly h.closed.closed.gathered.state (plainly plain opened run)
   unfolding plainly
   words_over plain opened run words a lt =

@@ -208,10 +208,10 @@ returns-in-Run-clause-run_prints g c name slot anchors workers asked k =
 pub returns-in-Run-clause-run_plain : goal.returns-in-Run-clause-run_plain
 returns-in-Run-clause-run_plain g c name slot anchors asked st vt k done none =
     let told = subst (RunPrints (IsRunText g.S.Source.tells g.V.Volume.tells g.V.C.Cell.tells g.V.C.Cell.state g.V.St.Station.faults
-        (g.S.Source.left c.args.script.now) (g.S.Source.left c.run_command.new.script) (g.V.Volume.files c.args.volume.now) (g.V.Volume.files c.run_command.new.volume) name slot anchors 1
-        (counts (g.V.Volume.faults c.args.volume.now) (g.V.Volume.made c.args.volume.now) (g.V.Volume.ended c.args.volume.now))
-        (counts (g.V.Volume.faults c.run_command.new.volume) (g.V.Volume.made c.run_command.new.volume) (g.V.Volume.ended c.run_command.new.volume)))
-        (g.K.Sink.taken c.args.out.now) (g.K.Sink.taken c.run_command.new.out)) done (returns-in-Run-clause-run_prints g c name slot anchors 1 asked k) in
+    (g.S.Source.left c.args.script.now) (g.S.Source.left c.run_command.new.script) (g.V.Volume.files c.args.volume.now) (g.V.Volume.files c.run_command.new.volume) name slot anchors 1
+    (counts (g.V.Volume.faults c.args.volume.now) (g.V.Volume.made c.args.volume.now) (g.V.Volume.ended c.args.volume.now))
+    (counts (g.V.Volume.faults c.run_command.new.volume) (g.V.Volume.made c.run_command.new.volume) (g.V.Volume.ended c.run_command.new.volume)))
+    (g.K.Sink.taken c.args.out.now) (g.K.Sink.taken c.run_command.new.out)) done (returns-in-Run-clause-run_prints g c name slot anchors 1 asked k) in
     let text = told.1 in
     record {
       lines = text.lines;
