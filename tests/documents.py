@@ -4,8 +4,9 @@
 The layers in README.md, its table, and the levels and the table of docs/CRATES.md have each crate of crates.txt once,
 and no other. A crate stands on crates of its own layer and of those below it, and of lower levels alone. README.md
 tells rightly which crates the program does without, and how many it takes. The way of a line names crates alone.
-docs/OPERATING.md has each sentence that the program says on standard error. This reads files alone, and stands outside
-the gate. Its status is 0 where all is so.
+docs/OPERATING.md has each line that the program says on standard error, with its code, and no other; a test of rock_main
+and a row of tests/real_files.sh have each too. docs/FORMATS.md and docs/rock.1 have the codes. This reads files alone,
+and stands outside the gate. Its status is 0 where all is so.
 """
 import os
 import re
@@ -97,17 +98,65 @@ def spelled(sentence):
     return "[A-Z]+".join(map(re.escape, re.split(r"\{\w*\}", sentence)))
 
 
+def sentences():
+    """The sentences of rock_main: the status, its field or none, and the sentence. An arm may have two of them."""
+    source = re.search(r"(?s)pub fn explanation\(.*?\n}\n", read("crates/rock_main/src/message.rt")).group()
+    arms = re.split(r"\n        (?=Status::)", source)[1:]
+    heads = [re.match(r"Status::(\w+)(?: \{ field: (\d) \})?", arm).groups() for arm in arms]
+    told = [(*head, sentence) for head, arm in zip(heads, arms) for sentence in re.findall(r'"([^"\n]+)"', arm)]
+    # The slot size has the field that is left, and nothing is said where all was done.
+    told = [(name, field or ("1" if name == "BadGeometry" else None), text) for name, field, text in told]
+    return [line for line in told if line[0] != "Done"]
+
+
+def statuses():
+    """Of each status the code, and its text with a word in capitals for each number, by rock_status."""
+    source = read("crates/rock_status/src/status.rt")
+    codes = {name: code for names, code in re.findall(r"(?m)^ {12}(Status::.*) => (\d+),$", source)
+             for name in re.findall(r"Status::(\w+)", names)}
+    texts = dict(re.findall(r'Status::(\w+)[^"\n]*"(\w[^"]*)"', source))
+    return codes, {name: spelled(text) for name, text in texts.items()}
+
+
+def unfolded(text):
+    """A script, with the text of each variable that is set to quoted words in a line of its own."""
+    for name, _, words in re.findall(r"(?m)^(\w+)=(['\"])([^'\"$\n]*)\2$", text):
+        text = text.replace(f"${name}", words)
+    return text
+
+
 def messages():
-    """The lines on standard error, by the sentences of rock_main, stand in docs/OPERATING.md."""
-    source, told = read("crates/rock_main/src/message.rt"), read("docs/OPERATING.md")
-    lines = re.findall(r'Status::(\w+)(?: \{ field: (\d) \})?[^"]*"([^"\n]+)"', source)
-    causes = re.findall(r'(?m)^ +(\d|_) => "([^"\n]+)"', source)
-    holds("the sentences are found", len(lines) >= 14 and len(causes) == 9)
+    """The lines on standard error, by the sentences of rock_main, stand in docs/OPERATING.md with their codes, and no
+    others. A test of rock_main reads each sentence, and a row of tests/real_files.sh each line."""
+    told, tests = read("docs/OPERATING.md"), read("crates/rock_main/src/tests.rt")
+    rows = unfolded(read("tests/real_files.sh"))
+    lines = sentences()
+    codes, texts = statuses()
+    causes = re.findall(r'(?m)^ +(\d|_) => "([^"\n]+)"', read("crates/rock_main/src/message.rt"))
+    holds("the sentences are found", len(lines) == 14 and len(causes) == 9)
+    holds("the statuses are found", len(codes) == 11 and set(codes) == set(texts))
+    holds("each status has a sentence", {name for name, _, _ in lines} == set(codes) - {"Done"})
+    listed = re.findall(r"(?m)^\| (\d+) \| `(rock: .*?)` \|", told)
+    holds("docs/OPERATING.md has a line for each sentence alone", len(listed) == len(lines))
     for status, field, sentence in lines:
-        form = f"`rock: {status}{' field=' + field if field else '[^:]*'}: {spelled(sentence)}`"
-        holds(f"docs/OPERATING.md has the line: {status}: {sentence}", status == "Done" or re.search(form, told))
+        form = f"rock: {texts[status].replace('[A-Z]+', field or '[A-Z]+')}: {spelled(sentence)}"
+        found = [code for code, line in listed if re.fullmatch(form, line)]
+        holds(f"docs/OPERATING.md has the line once, with its code: {status}: {sentence}", found == [codes[status]])
+        seen = form.replace("[A-Z]+", r"(?:\$\(.*?\)|[^ ])+")
+        holds(f"tests/real_files.sh has the line: {status}: {sentence}", re.search(seen, rows))
+        read_form = spelled(sentence).replace("[A-Z]+", ".+")
+        holds(f"a test of rock_main reads: {status}: {sentence}", re.search(f'"{read_form}"', tests))
+        holds(f"a test of rock_main reads the status: {status}", re.search(rf'"{status}[ "]', tests))
     for cause, sentence in causes:
-        holds(f"docs/OPERATING.md has cause {cause}", f"\n| {cause.replace('_', '9')} | `{sentence}` |" in told)
+        number = cause.replace("_", "9")
+        holds(f"docs/OPERATING.md has cause {number}", f"\n| {number} | `{sentence}` |" in told)
+        holds(f"a test of rock_main reads cause {number}", f': {sentence}"' in tests and f'cause={number}"' in tests)
+        holds(f"tests/real_files.sh has cause {number}", re.search(rf"(?m)^bad \d+ {number} ", rows))
+    named = re.findall(r"(?m)^\| (\d+) \| ([A-Z]\w+(?:, [A-Z]\w+)*) \|", read("docs/FORMATS.md"))
+    pairs = {name: code for code, names in named for name in names.split(", ")}
+    holds("docs/FORMATS.md has each status with its code", pairs == codes)
+    manual = re.findall(r"(?m)^\.B (\d+)$", read("docs/rock.1"))
+    holds("docs/rock.1 has each code once", sorted(manual) == sorted(set(codes.values())))
 
 
 def main():

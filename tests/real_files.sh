@@ -1,17 +1,21 @@
 #!/usr/bin/env bash
 # The program over files of the system, in a temporary folder: each row runs it once and compares its
 # status, its standard output and the first line on standard error. Run it by hand; it builds the program
-# first where it is out of date. Rows that the machine does not allow are skipped aloud. Its status is 0
-# where all rows that ran are as they should be.
+# first where it is out of date, or takes the one that the variable ROCK names. Rows that the machine does not
+# allow are skipped aloud. Its status is 0 where all rows that ran are as they should be.
 set -u -o pipefail
 
 root=$(cd "$(dirname "${BASH_SOURCE[0]}")/.." && pwd)
-"$root/rock" --version >/dev/null || exit 1
+program=${ROCK:-}
+if [ -z "$program" ]; then
+    "$root/rock" --version >/dev/null || exit 1
+    program=$root/crates/rock_main/out/rock_main
+fi
 folder=$(mktemp -d) || exit 1
 full=$folder/full
 trap 'mountpoint -q "$full" && umount "$full"; chmod -R u+rwx "$folder"; rm -rf "$folder"' EXIT
 chmod 755 "$folder"
-cp "$root/crates/rock_main/out/rock_main" "$folder/rock" || exit 1
+cp "$program" "$folder/rock" || exit 1
 cd "$folder" || exit 1
 
 passed=0
@@ -435,7 +439,10 @@ done <listed >wanted
 ./rock run new 512 4096 1 <gets 2>said | cut -d ' ' -f 3- >got
 [ "${PIPESTATUS[0]}" -eq 0 ] && [ ! -s said ]
 holds 'a file that a killed run left is served' $?
-paste -d '|' wanted got | awk -F '|' '$2 != $1 && $2 !~ /^MISS other / { exit 1 } $2 == $1 { hits++ } END { exit !hits }'
+paste -d '|' wanted got | awk -F '|' '
+    $2 == $1 { hits++; next }
+    $2 !~ /^MISS other / { wrong = 1 }
+    END { exit wrong || !hits }'
 holds 'what a killed run left is served whole' $?
 
 # Files that are too short, or end within a slot.
@@ -632,7 +639,292 @@ else
     skip 'the sync of a new file and of save: there is no strace that runs here'
 fi
 
-# The rows of bench go here.
+# A benchmark. Each URL of its script is http://bench/N, with N below 64 for each worker, and each body has at most 1,300
+# bytes. What is listed behind it are such responses, each with the slots that its content needs: 32 bytes, the URL's and
+# the body's, of which a slot has room for 472. So many were stored at most, and no version is above this.
+listed_of_bench() {
+    ./rock list "$1" 512 >listed 2>said && [ ! -s said ] &&
+        awk -v urls=$((64 * $2)) -v stored="$3" '
+            $1 != "ENTRY" || NF != 6 || $6 !~ /^http:\/\/bench\/(0|[1-9][0-9]*)$/ { exit 1 }
+            substr($6, 14) + 0 >= urls + 0 || $5 > 1300 || $3 < 1 || $3 > stored + 0 { exit 1 }
+            $4 != int((32 + length($6) + $5 + 471) / 472) { exit 1 }' listed
+}
+
+# What a check says of such a file: it has the slots, they are used or free, each anchor keeps one entry at most, and
+# something is kept exactly where something is listed.
+checked_of_bench() {
+    local slots kept used free version
+    ./rock check "$1" 512 $((16 * $2)) >checked 2>said && [ ! -s said ] &&
+        IFS=' =' read -r _ slots _ kept _ used _ free _ version <checked &&
+        [ "$slots" -eq $((64 * $2)) ] && [ $((used + free)) -eq "$slots" ] && [ "$used" -ge "$kept" ] &&
+        [ "$kept" -le $((16 * $2)) ] && [ "$kept" -le "$(wc -l <listed)" ] &&
+        [ $((kept > 0)) -eq $((version > 0)) ] && [ "$version" -le "$3" ] &&
+        { [ "$2" -ne 1 ] || [ "$version" -eq "$3" ]; }
+}
+
+# A benchmark over a new file: its counts, and its seed, workers and rounds. One worker's last version is in the file.
+benched() {
+    local counts=$1 workers=$3 stored
+    shift
+    stored=${counts#*stored=}
+    stored=${stored%% *}
+    rm -f new && row 0 "bench $counts"$'\n' '' bench new "$@"
+    [ "$(stat -c %s new)" -eq $((16384 + 64 * workers * 512)) ]
+    holds "rock bench new $*: the file has 64 slots of 512 bytes for each worker" $?
+    listed_of_bench new "$workers" "$stored"
+    holds "rock bench new $*: what is listed are responses of its script" $?
+    checked_of_bench new "$workers" "$stored"
+    holds "rock bench new $*: a check says '$(head -c 200 checked)' of the file" $?
+}
+
+# The line in OPERATING.md, and others, which come from a program in another language, by the definition of the script
+# and the rules of one worker's store. No two workers share an anchor, and the file has room for all that they hold, so
+# several workers have one line too.
+nothing='requests=0 hits=0 misses=0 stored=0 purged=0 none=0 other=0 bytes=0'
+counts=$(awk '/^    \$ rock bench bench.db 7 1 10000$/ { getline; print substr($0, 11) }' "$root/docs/OPERATING.md")
+case $counts in *' other=0 '*) true ;; *) false ;; esac
+holds 'no answer of the benchmark in OPERATING.md is another one' $?
+[ "${counts%% *}" = requests=10000 ]
+holds 'the benchmark in OPERATING.md has 10,000 requests' $?
+benched "$counts" 7 1 10000
+counts='requests=30 hits=0 misses=14 stored=10 purged=0 none=6 other=0 bytes=0'
+benched "$counts" 7 1 30
+mv new twin
+benched "$counts" 7 1 30
+cmp -s new twin
+holds 'one worker leaves the same file twice' $?
+benched "$nothing" 7 1 0
+head -c 49152 /dev/zero | cmp -s - new
+holds 'a benchmark of no round leaves a file of zeros' $?
+benched "$nothing" 0 32 0
+benched 'requests=1 hits=0 misses=1 stored=0 purged=0 none=0 other=0 bytes=0' 0 1 1
+head -c 49152 /dev/zero | cmp -s - new
+holds 'a benchmark that stores nothing leaves a file of zeros' $?
+benched 'requests=120 hits=7 misses=48 stored=51 purged=2 none=12 other=0 bytes=2740' 18446744073709551615 3 40
+for _ in 1 2; do
+    benched 'requests=2000 hits=215 misses=759 stored=795 purged=46 none=185 other=0 bytes=137231' 7 4 500
+    benched 'requests=3200 hits=238 misses=1333 stored=1240 purged=72 none=317 other=0 bytes=139527' 7 32 100
+done
+
+# The script of one worker's benchmark, by the definition: its seed and its rounds. All URLs are the worker's. The numbers
+# of the shell are those of 64 bits.
+bench_script() {
+    local last=$1 round place url body drawn=()
+    for ((round = 0; round < $2; round++)); do
+        for place in 0 1 2; do
+            last=$((last * 6364136223846793005 + 1442695040888963407))
+            drawn[place]=$(((last >> 32) & 0xffffffff))
+        done
+        url=http://bench/$((drawn[0] % 64))
+        body="#$((drawn[2] % 1301)):$((drawn[2] % 26))"
+        case $((drawn[1] % 8)) in
+        [0-3]) printf '1 get %s\n' "$url" ;;
+        4 | 5) printf '1 put %s %s\n' "$url" "$body" ;;
+        6) printf '1 save %s %s\n' "$url" "$body" ;;
+        7) printf '1 purge %s\n' "$url" ;;
+        esac
+    done
+}
+
+# The line of a benchmark, by the answers of a run.
+summed() {
+    awk '{ kinds[$3]++ } $3 == "HIT" { bytes += $5 } END {
+        printf "bench requests=%d hits=%d misses=%d", NR, kinds["HIT"], kinds["MISS"]
+        told = kinds["HIT"] + kinds["MISS"] + kinds["STORED"] + kinds["PURGED"] + kinds["NONE"]
+        printf " stored=%d purged=%d none=%d", kinds["STORED"], kinds["PURGED"], kinds["NONE"]
+        printf " other=%d bytes=%d\n", NR - told, bytes }'
+}
+
+# A benchmark of one worker is a run of its script over a new file: it counts the same answers and leaves the same file.
+bench_script 7 4096 >script
+rm -f new ran && row 0 '' '' create ran 512 64
+./rock run ran 512 16 1 <script 2>said | summed >wanted
+[ "${PIPESTATUS[0]}" -eq 0 ] && [ ! -s said ] && grep -q '^bench requests=4096 .* other=0 ' wanted
+holds 'a run of the script of a benchmark answers 4,096 lines' $?
+row 0 "$(cat wanted)"$'\n' '' bench new 7 1 4096
+cmp -s new ran
+holds 'a benchmark leaves the file that a run of its script leaves' $?
+
+# It reads no standard input.
+printf '1 get http://a/b\n' >script
+rm -f new && { ./rock bench new 7 1 10 >printed 2>said && cat; } <script | cmp -s - script
+[ "${PIPESTATUS[0]}" -eq 0 ] && [ ! -s said ] && [ -s printed ]
+holds 'a benchmark leaves standard input unread' $?
+rm -f new && ./rock bench new 0 1 0 >printed 2>said <&-
+[ $? -eq 0 ] && [ ! -s said ] && [ "$(cat printed)" = "bench $nothing" ]
+holds 'a benchmark needs no standard input' $?
+
+# Refusals of a benchmark, in their order: the words, the workers, the rounds, the name. The old file is as it was.
+rm -f new
+row 2 '' "rock: Usage: $usage" bench
+row 2 '' "rock: Usage: $usage" bench new 7 1
+row 2 '' "rock: Usage: $usage" bench new 7 1 10 10
+row 2 '' "rock: Usage: $usage" bench new 07 1 10
+row 2 '' "rock: Usage: $usage" bench new 7 01 10
+row 2 '' "rock: Usage: $usage" bench new 7 1 010
+row 2 '' "rock: Usage: $usage" bench new +7 1 10
+row 2 '' "rock: Usage: $usage" bench new 7 1 ten
+row 2 '' "rock: Usage: $usage" bench new 7 0 ''
+row 2 '' "rock: Usage: $usage" bench '' 7 1 10
+row 2 '' "rock: Usage: $usage" bench -new 7 1 10
+row 2 '' "rock: Usage: $usage" bench new 18446744073709551616 1 10
+row 2 '' "rock: Usage: $usage" bench new 7 4294967296 10
+row 2 '' "rock: Usage: $usage" bench new 7 1 4294967296
+for name in new one; do
+    row 8 '' 'rock: BadGeometry field=3: the number of workers 0 is not from 1 to 32' bench $name 7 0 10001
+    row 8 '' 'rock: BadGeometry field=3: the number of workers 33 is not from 1 to 32' bench $name 7 33 10
+    row 8 '' 'rock: BadGeometry field=3: the number of workers 4294967295 is not from 1 to 32' \
+        bench $name 7 4294967295 10
+    row 8 '' 'rock: BadGeometry field=4: the number of rounds 10001 is above 10000' bench $name 7 1 10001
+    row 8 '' 'rock: BadGeometry field=4: the number of rounds 4294967295 is above 10000' bench $name 7 32 4294967295
+done
+row 8 '' 'rock: BadGeometry field=4: the number of rounds 10001 is above 10000' bench none/db 7 1 10001
+[ ! -e new ]
+holds 'a refused benchmark makes no file' $?
+row 9 '' 'rock: Exists: there is a file one already' bench one 7 1 10
+row 9 '' 'rock: Exists: there is a file one already' bench one 7 1 0
+row 9 '' 'rock: Exists: there is a file twin already' bench twin 7 32 10000
+row 9 '' 'rock: Exists: there is a file pages already' bench pages 7 1 10
+row 9 '' 'rock: Exists: there is a file pipe already' bench pipe 7 1 10
+ln -s nowhere link
+row 9 '' 'rock: Exists: there is a file link already' bench link 7 1 10
+[ ! -e nowhere ] && cmp -s one copy
+holds 'a benchmark of a name that is there leaves what is there' $?
+row 6 '' "rock: DeviceFault: none/db $disk" bench none/db 7 1 10
+row 6 '' "rock: DeviceFault: one/db $disk" bench one/db 7 1 10
+
+# Permissions. The folder `closed` may not be written, `locked` may not be entered, and in `open` everybody may make files.
+mkdir locked open && chmod 000 locked && chmod 777 open
+if [ "$(id -u)" -eq 0 ]; then as=(setpriv --reuid=65534 --regid=65534 --clear-groups); fi
+if "${as[@]}" true 2>/dev/null; then
+    row 6 '' "rock: DeviceFault: closed/db $disk" bench closed/db 7 1 10
+    row 6 '' "rock: DeviceFault: locked/db $disk" bench locked/db 7 1 10
+    row 9 '' 'rock: Exists: there is a file secret already' bench secret 7 1 10
+    "${as[@]}" bash -c 'umask 027 && ./rock bench open/db 0 1 1' >printed 2>said </dev/null
+    [ $? -eq 0 ] && [ ! -s said ] && [ "$(stat -c %a open/db)" = 640 ]
+    holds 'a benchmark makes its file as the umask allows' $?
+    # A name that another user has is taken, whatever may be done with the file.
+    if [ "$(id -u)" -eq 0 ]; then
+        for mode in 600 644 666; do
+            rm -f open/theirs && cp copy open/theirs && chmod $mode open/theirs
+            row 9 '' 'rock: Exists: there is a file open/theirs already' bench open/theirs 7 1 10
+            cmp -s copy open/theirs
+            holds "a benchmark leaves a file of another user with mode $mode as it was" $?
+        done
+    else
+        skip 'a benchmark of the name of another user: only the superuser can make such a file'
+    fi
+    # Where the system gives no threads the workers run one after another. Nobody else is to have this user's number.
+    if [ "$(id -u)" -eq 0 ] && as=(setpriv --reuid=64137 --regid=64137 --clear-groups) && "${as[@]}" true 2>/dev/null; then
+        "${as[@]}" bash -c 'ulimit -u 1 && exec ./rock bench open/alone 7 4 500' >printed 2>said </dev/null
+        [ $? -eq 0 ] && [ ! -s said ] && [ "$(cat printed)" = \
+            'bench requests=2000 hits=215 misses=759 stored=795 purged=46 none=185 other=0 bytes=137231' ]
+        holds 'a benchmark without threads prints the same line' $?
+    else
+        skip 'a benchmark without threads: there is no other user to run as'
+    fi
+else
+    skip 'permissions of a benchmark: there is no other user to run as'
+fi
+as=()
+chmod 755 locked
+
+# A disk that has no room for a slot is an answer that is counted, as a run has it, and no status.
+if mount -t tmpfs -o size=8k tmpfs full 2>/dev/null; then
+    bench_script 7 200 >script
+    row 0 '' '' create full/db 512 64
+    ./rock run full/db 512 16 1 <script 2>said >answers
+    [ $? -eq 0 ] && [ ! -s said ] && [ "$(grep -c ' FAULT' answers)" -gt 1 ]
+    holds 'a full disk is met by a run of the script of a benchmark' $?
+    rm full/db && row 0 "$(summed <answers)"$'\n' '' bench full/db 7 1 200
+    grep -q "^bench requests=200 .* other=$(grep -c ' FAULT' answers) " printed
+    holds 'of a full disk each other answer of a benchmark is a FAULT' $?
+    listed_of_bench full/db 1 200 && [ -s listed ]
+    holds 'what a benchmark stored before the disk was full is listed' $?
+    umount full
+else
+    skip 'a full disk under a benchmark: no file system can be mounted here'
+fi
+if mount -t tmpfs -o size=64k,nr_inodes=1 tmpfs full 2>/dev/null; then
+    row 6 '' "rock: DeviceFault: full/db $disk" bench full/db 7 1 10
+    umount full
+else
+    skip 'a benchmark on a disk that is full of files: no file system can be mounted here'
+fi
+(
+    trap '' XFSZ
+    ulimit -f 16
+    ./rock bench cut 7 1 10 2>said >printed
+    [ $? -eq 6 ] && [ ! -s printed ] && [ "$(cat said)" = "rock: DeviceFault: cut $disk" ]
+)
+holds 'a benchmark whose file is longer than the limit of the process is a fault of the disk' $?
+(
+    ulimit -v 16384
+    ./rock bench short 7 32 10000 2>said >printed
+    [ $? -eq 3 ] && [ ! -s printed ] && [ "$(cat said)" = 'rock: Memory: memory ran out; free some and try again' ]
+)
+holds 'a benchmark that finds too little memory says so and prints nothing' $?
+
+# An output that takes nothing. All lines were served, so the file is the one of a benchmark that is done.
+rm -f new && ./rock bench whole 7 1 200 >printed 2>said </dev/null
+[ $? -eq 0 ] && [ ! -s said ] && [ "$(wc -l <printed)" -eq 1 ]
+holds 'a benchmark of 200 rounds is done' $?
+same_as_whole() {
+    cmp -s new whole
+    holds "$1 leaves the file of a benchmark that is done" $?
+    rm -f new
+}
+if [ -e /dev/full ]; then
+    ./rock bench new 7 1 200 2>said >/dev/full </dev/null
+    [ $? -eq 5 ] && [ "$(cat said)" = "$output" ]
+    holds 'a full output is a fault of the sink for a benchmark' $?
+    row 9 '' 'rock: Exists: there is a file new already' bench new 7 1 200
+    same_as_whole 'a benchmark with a full output'
+    both_out() { ./rock "$@" >/dev/full 2>&-; }
+    ends 'a closed standard error leaves the status of a benchmark with a full output' 5 both_out bench new 7 1 200
+    same_as_whole 'a benchmark with a full output and no standard error'
+else
+    skip 'a full output of a benchmark: there is no /dev/full'
+fi
+ends 'a reader that closed the pipe is a fault of the sink for a benchmark' 5 closed_pipe bench new 7 1 200
+same_as_whole 'a benchmark whose reader closed the pipe'
+ends 'a closed output is a fault of the sink for a benchmark' 5 closed_output bench new 7 1 200
+same_as_whole 'a benchmark with a closed output'
+ends 'a closed standard error leaves the status of a benchmark that is done' 0 closed_error bench new 7 1 200
+same_as_whole 'a benchmark with a closed standard error'
+ends 'a closed standard error leaves the status of a benchmark of too many rounds' 8 closed_error bench new 7 1 10001
+
+# A benchmark that is killed while it stores printed nothing. What is listed then are responses of its script, and a run
+# finds them whole: each body is letters in their order, round. The name is taken.
+./rock bench half 7 32 10000 >printed 2>said </dev/null &
+run=$!
+for _ in $(seq 1000); do
+    sleep 0.01
+    [ "$(./rock list half 512 2>/dev/null | head -n 2 | wc -l)" -eq 2 ] && break
+done
+kill -9 "$run"
+wait "$run" 2>ended
+[ $? -eq 137 ] && [ ! -s printed ] && [ ! -s said ]
+holds 'a benchmark that is killed ends with 137, printed nothing and said nothing' $?
+[ "$(stat -c %s half)" -eq 1064960 ] && listed_of_bench half 32 320000 && [ -s listed ]
+holds 'a benchmark that was killed left responses of its script' $?
+checked_of_bench half 32 320000
+holds 'a check reads what a killed benchmark left' $?
+awk '{ print "1 get " $6 }' listed >gets
+./rock run half 512 512 1 <gets 2>said >got
+[ $? -eq 0 ] && [ ! -s said ]
+holds 'a file that a killed benchmark left is served' $?
+paste -d ' ' gets got | awk -v letters="$(made 0 26)" '
+    BEGIN { for (i = 1; i < 52; i += 2) follows[substr(letters, i, 2)] = substr(letters letters, i + 2, 2) }
+    NR == FNR { has[$6 " " $3 " " $5]; next }
+    $6 == "MISS" && $7 == "other" { next }
+    $6 != "HIT" || !($3 " " $7 " " $8 in has) { wrong = 1 }
+    { hits++ }
+    $8 > 0 && length($9) != 2 * $8 { wrong = 1 }
+    { for (i = 1; i < 2 * $8 - 1; i += 2) if (substr($9, i + 2, 2) != follows[substr($9, i, 2)]) wrong = 1 }
+    END { exit wrong || !hits }' listed -
+holds 'what a killed benchmark left is served whole' $?
+row 9 '' 'rock: Exists: there is a file half already' bench half 7 32 10000
 
 # Help: on standard output where it is asked for, behind the line on standard error after a faulty line, and
 # the same whatever the terminal.
