@@ -19,7 +19,7 @@ import sys
 import tempfile
 
 sys.dont_write_bytecode = True
-from changed_files import GREATEST_VERSION, HEADER_AREA, PROGRAM, ROOT, SLOT, URLS, Header  # noqa: E402
+from changed_files import GREATEST_VERSION, HEADER_AREA, PROGRAM, ROOT, SLOT, Header  # noqa: E402
 from changed_files import anchor_of, entry_at, image, key_of, listing, meta, meta_of, random_file  # noqa: E402
 
 ROCK = os.environ.get("ROCK", PROGRAM)
@@ -44,6 +44,7 @@ KINDS = """
     put save get purge begin add end drop open more close mark await
     evicted evicted_behind_the_hand evicted_in_vain refused_at_the_first_publishing refused_at_a_later_publishing
     refused_at_the_last_slot HIT_of_the_file HIT_of_many_slots replaced found_whole
+    tied_in_the_file counter_of_no_entry
 """.split()
 
 
@@ -105,8 +106,10 @@ class Store:
         self.hand, self.tabs, self.places, self.marks = 0, [None] * 8, [Place() for _ in range(anchors)], set()
         self.counter = self.greatest = max((h.version for h in headers if h.is_sane), default=0)
         self.complete = [found for start in range(len(images)) if (found := entry_at(images, headers, start))]
+        self.counts["counter_of_no_entry"] += self.counter > max((found[1] for found in self.complete), default=0)
         for _, version, _, url, _, chain in self.complete:
             content = b"".join(images[s][40 : 40 + headers[s].size] for s in chain)
+            self.counts["tied_in_the_file"] += self.place(url).version == version
             if self.place(url).version < version:
                 entry = Entry(url, content[meta_of(content)[2] :], len(content), "whole")
                 self.places[self.anchor(url)] = Place(version, entry)
@@ -365,7 +368,9 @@ def url_for(chance, store, urls, name):
     vacant = [url for url in urls if causes[url] and causes[url].startswith("absent")]
     readable = [url for url in urls if causes[url] is None]
     grows = [url for url in readable if store.place(url).stage() == APPENDING]
-    fitting = vacant if name in ("put", "save", "begin") else grows or readable
+    leaving = [url for url in urls if causes[url] and causes[url].startswith("leaving")]
+    others = leaving or grows or readable if name == "purge" else grows or readable
+    fitting = vacant if name in ("put", "save", "begin") else others
     return chance.choice(fitting if fitting and chance.random() < 0.5 else urls)
 
 
@@ -403,9 +408,9 @@ def near_the_last(chance):
 
 def make_file(chance, name):
     """A new file; or one of the bytes that a choice gives."""
-    kind = chance.choices(["new", "near the last", "random"], [8, 1, 1])[0]
+    kind = chance.choices(["new", "near the last", "random"], [7, 1, 2])[0]
     if kind == "new":
-        rock("create", name, SLOT, chance.choice([4, 6, chance.randint(1, 8)]))
+        rock("create", name, SLOT, slots_for(chance))
         return
     images = near_the_last(chance) if kind == "near the last" else random_file(chance)
     with open(name, "wb") as file:
@@ -418,6 +423,17 @@ def images_of(name):
     return [content[at : at + SLOT] for at in range(0, len(content), SLOT)]
 
 
+def setting_for(chance, slots):
+    """How many anchors a store with so many slots has, and URLs for it."""
+    most = min(6, slots)
+    urls = chance.sample(POOL, max(chance.randint(1, 9), chance.randint(1, 9)))
+    return chance.choice([most, most, chance.randint(1, most)]), urls + [b"L" * 441] * (chance.random() < 0.1)
+
+
+def slots_for(chance):
+    return chance.choice([4, 6, chance.randint(1, 8)])
+
+
 # Comparisons.
 def rock(*words, script=b""):
     """What the program prints, and behind it what it says where it fails."""
@@ -425,21 +441,31 @@ def rock(*words, script=b""):
     return ran.stdout + (b"status %d: " % ran.returncode + ran.stderr if ran.returncode else b"")
 
 
-def run_agrees(chance, name, store, urls):
-    """Whether a random script is answered as by the plain store; where it is not, what differs is told."""
+def script_for(chance, store, urls):
+    """The lines of a random script and of its answers by the plain store, which serves them."""
     lines, expected, shares = [], [], chance.choice(SHARES)
     for number in range(1, max(chance.randint(1, 60), chance.randint(1, 60)) + 1):
         shares = chance.choice(SHARES) if chance.random() < 0.1 else shares
         words = line_for(chance, store, urls, shares)
         lines.append(f"1 {text_of(words)}\n")
         expected.append(f"1 {number} {store.serve(words)}\n")
+    return lines, expected
+
+
+def run_agrees(chance, name, store, urls):
+    """Whether a random script is answered as by the plain store; where it is not, what differs is told."""
+    lines, expected = script_for(chance, store, urls)
     printed = rock("run", name, SLOT, store.anchors, 1, script="".join(lines).encode()).decode()
     if printed == "".join(expected):
         return True
-    told = printed.splitlines(keepends=True)
+    tell_difference(lines, expected, printed.splitlines(keepends=True))
+    return False
+
+
+def tell_difference(lines, expected, told):
+    """Prints a script up to the first answer that differs, and both answers."""
     same = len(os.path.commonprefix([expected, told]))
     print(*lines[: same + 1], "expected: ", *expected[same:][:1], "printed: ", *told[same:][:1], sep="")
-    return False
 
 
 def is_kept(place, found):
@@ -453,11 +479,9 @@ def compare(chance, name, counts):
     """What failed of a file: of two scripts, of the entries behind them, or of the listings of these."""
     make_file(chance, name)
     images = images_of(name)
-    most = min(6, len(images))
-    anchors = chance.choice([most, most, chance.randint(1, most)])
-    urls = chance.sample(POOL, max(chance.randint(1, 9), chance.randint(1, 9))) + [b"L" * 441] * (chance.random() < 0.1)
-    urls += [u for h in URLS if b" " not in (u := h + b"%d" % chance.randint(0, 5)) and any(u in i for i in images)]
+    anchors, urls = setting_for(chance, len(images))
     store = Store(images, anchors, counts)
+    urls += chance.sample([found[3] for found in store.complete], min(4, len(store.complete)))
     for turn in ("first", "second"):
         if not run_agrees(chance, name, store, urls):
             yield f"the answers to the {turn} script"
