@@ -345,7 +345,7 @@ def kind_of(name, answer):
 # Files and scripts.
 # The requests that are made: those that a tab is ready for, those that free it, those of no tab, and all. At times a
 # script has other shares of each.
-READY = {type(None): "begin open open", Writer: "add add add add add end drop", Reader: "more more more close"}
+READY = {type(None): "begin open open", Writer: "add add add add add purge end drop", Reader: "more more more close"}
 FREEING = {type(None): "put get", Writer: "end drop", Reader: "close"}
 WHOLE = "put put put put save save get get get get purge purge mark await"
 EVERY = "put save get purge begin add end drop open more close mark await"
