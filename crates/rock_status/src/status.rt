@@ -25,7 +25,8 @@ pub enum Status {
     Missing,
     /// The file has only so many bytes, fewer than the header area and one slot.
     Small { bytes: u64 },
-    /// A number is out of its range: 1 the slot size, 2 the anchors, 3 the workers, 4 the slots.
+    /// A number is out of its range: 1 the slot size, 2 the anchors, 3 the workers, 4 the slots, or the rounds of a
+    /// benchmark.
     BadGeometry { field: u8 },
     /// There is a file of that name already.
     Exists,
