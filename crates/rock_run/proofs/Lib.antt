@@ -1,4 +1,3 @@
-pub mod Asking
 pub mod Accounts
 pub mod Back
 pub mod Opened

@@ -5,6 +5,7 @@ ghost use Rattle.script_text.specs.Script.{IsScript};
 ghost use Rattle.script_text.specs.declared.line.Line.{Line};
 ghost use Rattle.rock_run.specs.Scripts.{MayBeServed};
 
+use script_origin::read_lines_may_be_asked;
 use worker_pool::scripts_may_be_run;
 
 /// The workers that a script was read for may serve its lines.
@@ -12,4 +13,5 @@ pub fn read_scripts_may_be_served()
     ensures { (workers : ℕ) (text : List ℕ) (lines : List Line) → IsScript workers text lines → MayBeServed workers lines }
 {
     scripts_may_be_run();
+    read_lines_may_be_asked();
 }

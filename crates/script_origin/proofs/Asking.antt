@@ -18,12 +18,25 @@ use Rattle.store_rule.specs.declared.store.Pass.{Pass}
 use Rattle.store_rule.specs.declared.store.Store.{Store}
 use Rattle.serve_lines.specs.Serving.{MayAsk, offer_of}
 use Rattle.serve_lines.specs.Tabs.{IsOffered, MayGo}
+use Rattle.script_origin.specs.Asked.{IsAsked, IsFound}
 use Rattle.script_origin.specs.Offered.{Response, offered_by, offered_in, offers_of}
 use Rattle.script_origin.proofs.Found.{found, spelled}
 
--- what a line of a script offers is found by its number
-offered : {workers : ℕ} {texts : List (List ℕ)} {lines : List Line} → AreLines workers texts lines → (line : Line) → Contains lines line → offered_by lines line.number ≡ offered_in line.request
-offered are line among = ap (option_and_then (λ (l : Line). offered_in l.request)) (found are line among)
+-- a request that is spelled by words of a script names a tab and a URL of one
+asked_by_words : (request : Request) (name : Verb) (words : List (List ℕ)) → SpellsRequest request name words → IsAsked request
+asked_by_words (Put url body) name words h = h.1.0
+asked_by_words (Save url body) name words h = h.1.0
+asked_by_words (Get url) name words h = h.1.0
+asked_by_words (Purge url) name words h = h.1.0
+asked_by_words (Begin tab url body) name words h = (h.1.0, h.1.1)
+asked_by_words (Add tab count) name words h = h.1.0
+asked_by_words (End tab) name words h = h.1.0
+asked_by_words (DropTab tab) name words h = h.1.0
+asked_by_words (OpenTab tab url) name words h = (h.1.0, h.1.1)
+asked_by_words (More tab) name words h = h.1.0
+asked_by_words (CloseTab tab) name words h = h.1.0
+asked_by_words (Mark mark) name words h = tt
+asked_by_words (Await mark) name words h = tt
 
 url_offered : (lines : List Line) (number : ℕ) (url : List ℕ) (body : Body) → offered_by lines number ≡ Some record { url = url; body = body } → (offers_of lines).url number ≡ url
 unfolding offers_of
@@ -52,28 +65,33 @@ module _ {C O : Type 0} (tells : Bool) (state : C → CellState) (offers : O →
     good = good;
   }
 
-  may_ask : (number : ℕ) (request : Request) (name : Verb) (words : List (List ℕ)) → SpellsRequest request name words → offered_by lines number ≡ offered_in request
+  may_ask : (number : ℕ) (request : Request) → IsAsked request → offered_by lines number ≡ offered_in request
       → ((mark : ℕ) → request ≢ Mark mark) → ((mark : ℕ) → request ≢ Await mark) → MayAsk tells state offers s number request
-  may_ask number (Put url body) name words h e marks awaits = is_offered number url body h.1.0 e
-  may_ask number (Save url body) name words h e marks awaits = is_offered number url body h.1.0 e
-  may_ask number (Get url) name words h e marks awaits = h.1.0
-  may_ask number (Purge url) name words h e marks awaits = h.1.0
-  may_ask number (Begin tab url body) name words h e marks awaits = let le = h.1.0 in (omega arith, is_offered number url body h.1.1 e)
-  may_ask number (Add tab count) name words h e marks awaits = let le = h.1.0 in omega arith
-  may_ask number (End tab) name words h e marks awaits = let le = h.1.0 in omega arith
-  may_ask number (DropTab tab) name words h e marks awaits = let le = h.1.0 in omega arith
-  may_ask number (OpenTab tab url) name words h e marks awaits = let le = h.1.0 in (omega arith, h.1.1)
-  may_ask number (More tab) name words h e marks awaits = let le = h.1.0 in omega arith
-  may_ask number (CloseTab tab) name words h e marks awaits = let le = h.1.0 in omega arith
-  may_ask number (Mark mark) name words h e marks awaits = marks mark refl
-  may_ask number (Await mark) name words h e marks awaits = awaits mark refl
+  may_ask number (Put url body) h e marks awaits = is_offered number url body h e
+  may_ask number (Save url body) h e marks awaits = is_offered number url body h e
+  may_ask number (Get url) h e marks awaits = h
+  may_ask number (Purge url) h e marks awaits = h
+  may_ask number (Begin tab url body) h e marks awaits = let le = h.0 in (omega arith, is_offered number url body h.1 e)
+  may_ask number (Add tab count) h e marks awaits = omega arith
+  may_ask number (End tab) h e marks awaits = omega arith
+  may_ask number (DropTab tab) h e marks awaits = omega arith
+  may_ask number (OpenTab tab url) h e marks awaits = let le = h.0 in (omega arith, h.1)
+  may_ask number (More tab) h e marks awaits = omega arith
+  may_ask number (CloseTab tab) h e marks awaits = omega arith
+  may_ask number (Mark mark) h e marks awaits = marks mark refl
+  may_ask number (Await mark) h e marks awaits = awaits mark refl
 
-  pub asks : {workers : ℕ} {texts : List (List ℕ)} → AreLines workers texts lines → (line : Line) → Contains lines line
+  -- a line that is the first of its number may ask for what it asks
+  pub asks : (line : Line) → IsFound lines line → IsAsked line.request
       → ((mark : ℕ) → line.request ≢ Mark mark) → ((mark : ℕ) → line.request ≢ Await mark) → MayAsk tells state offers s line.number line.request
-  asks are line among marks awaits =
-      let is = spelled are line among in may_ask line.number line.request is.name is.words is.spells (offered are line among) marks awaits
+  asks line found asked marks awaits =
+      may_ask line.number line.request asked (ap (option_and_then (λ (l : Line). offered_in l.request)) found) marks awaits
 
   pub goes : (p : Pass C) (url : List ℕ) → MayGo tells state offers s p url
   goes p url pass e =
       let a : ℕ = anchor_for (basis tells state offers s) url in
       cc (ap (λ (o : Offers). o.alone a) given, left_to_none lines a, e)
+
+-- each line of a script that was read is the first of its number, and asks for what one may ask
+pub read : {workers : ℕ} {texts : List (List ℕ)} {lines : List Line} → AreLines workers texts lines → (line : Line) → Contains lines line → IsFound lines line × IsAsked line.request
+read are line among = let is = spelled are line among in (found are line among, asked_by_words line.request is.name is.words is.spells)

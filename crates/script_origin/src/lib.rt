@@ -5,5 +5,5 @@
 mod laws;
 mod origin;
 
-pub use laws::script_lines_may_be_asked;
+pub use laws::{read_lines_may_be_asked, script_lines_may_be_asked};
 pub use origin::ScriptOrigin;

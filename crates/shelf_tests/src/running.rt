@@ -6,7 +6,7 @@ ghost use Rattle.writer_tests.specs.Books.{blank_state};
 
 use answer_text::answer_line;
 use rock_io::{MemSource, Memory};
-use script_origin::{ScriptOrigin, script_lines_may_be_asked};
+use script_origin::{ScriptOrigin, read_lines_may_be_asked, script_lines_may_be_asked};
 use script_text::{Answer, Script, ScriptFault, read_script};
 use std::alloc::Global;
 use std::sync::Wait;
@@ -43,6 +43,7 @@ pub(crate) fn printed<R: Threads + Wait + Sync>(
     scripts_may_be_run();
     new_passes_rest::<Blank, ScriptOrigin>();
     script_lines_may_be_asked::<Blank, ScriptOrigin>();
+    read_lines_may_be_asked();
     let script = script_of(alloc, text)?;
     let origin = ScriptOrigin::new(&script);
     let Ok((store, mut passes)) = Store::fresh(alloc, cells, 512, anchors, 1, origin) else {

@@ -8,9 +8,9 @@ use Rattle.core_model.proofs.Lists.{at_length, at_or}
 use Rattle.script_origin.specs.Offered.{offers_of}
 use Rattle.store_rule.specs.Passes.{AreNumbered, IsNewOf}
 use Rattle.serve_lines.specs.Serving.{Takes}
+use Rattle.worker_pool.specs.Courses.{IsServed}
 use Rattle.rock_run.specs.Crews.{MayRest}
 use Rattle.rock_run.proofs.Accounts.{played}
-use Rattle.rock_run.proofs.Asking.{takes}
 use Rattle.rock_run.proofs.Back.{among, at_place, image_at, numbers, place_at, rest}
 use Rattle.rock_run.proofs.serving.serve.Goals as goal
 
@@ -26,8 +26,8 @@ run_workers-requires-clause-workers g c κs within line there =
 pub run_workers-requires-clause-takes : goal.run_workers-requires-clause-takes
 run_workers-requires-clause-takes g c κs within w k shelf line at is mine served =
     subst (λ s. Takes g.C.Cell.tells g.C.Cell.state offers_of s shelf.pass line) (sym (c.hire.ensures.hired.stores shelf (among c.hire.new.shelves.items w shelf at)))
-    (takes g.C.Cell.tells g.C.Cell.state offers_of c.args.store.now c.args.script.now.lines c.requires.offers shelf.pass line
-    (λ url. c.script_lines_may_be_asked.ensures.goes c.args.store.now c.args.script.now.lines shelf.pass url c.requires.offers) (c.requires.lines.found line (k, is.0, is.1)) (c.requires.lines.asked line (k, is.0, is.1)) served)
+    (c.script_lines_may_be_asked.ensures.takes c.args.store.now c.args.script.now.lines line shelf.pass c.requires.offers (c.requires.lines.found line (k, is.0, is.1)) (c.requires.lines.asked line (k, is.0, is.1))
+    (λ mark e. subst IsServed e served) (λ mark e. subst IsServed e served))
 
 pub run_workers-requires-clause-marks : goal.run_workers-requires-clause-marks
 run_workers-requires-clause-marks g c κs within = c.requires.lines.marks
@@ -64,8 +64,8 @@ returns-in-Ok-clause-played g c =
           (are.stores a.start (among shelves w a.start (place_at shelves w a.start shelf_at)))
           (All-contains (IsNewOf g.C.Cell.tells g.C.Cell.state offers_of s) passes a.start.pass c.requires.new (w, at_length passes w a.start.pass pass_at, at_or passes w a.start.pass a.start.pass pass_at))
           (c.requires.numbered w a.start.pass pass_at)
-          (λ line there served. takes g.C.Cell.tells g.C.Cell.state offers_of s lines c.requires.offers a.start.pass line
-          (λ url. c.script_lines_may_be_asked.ensures.goes s lines a.start.pass url c.requires.offers) (c.requires.lines.found line there) (c.requires.lines.asked line there) served);
+          (λ line there served. c.script_lines_may_be_asked.ensures.takes s lines line a.start.pass c.requires.offers (c.requires.lines.found line there) (c.requires.lines.asked line there)
+          (λ mark e. subst IsServed e served) (λ mark e. subst IsServed e served));
       told = λ a b in_a in_b m n mark among_a among_b sets_it awaits_it met x seen. h.meets a b in_a in_b m n mark among_a among_b sets_it awaits_it met x seen;
       passes_are = sym (map-map (λ shelf. shelf.pass) (λ a. a.start) h.accounts) ∙ ap (map (λ shelf. shelf.pass)) h.starts ∙ are.passes_are;
       stations_are = sym (map-map (λ shelf. shelf.station) (λ a. a.start) h.accounts) ∙ ap (map (λ shelf. shelf.station)) h.starts ∙ are.stations_are;

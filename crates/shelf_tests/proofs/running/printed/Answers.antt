@@ -24,6 +24,7 @@ run_workers-requires-clause-workers g c κs within line among = let h = c.script
 
 pub run_workers-requires-clause-takes : goal.run_workers-requires-clause-takes
 run_workers-requires-clause-takes g c κs within w k shelf line at is mine served = let first = c.in-Ok-new.shelf in
+    let read = c.read_lines_may_be_asked.ensures 1 _ c.in_ok-script.script.lines line c.in_ok-script.ensures.1 (k, is.0, is.1) in
     let offers = subst (λ s. (basis false blank_state offers_of s).offers ≡ offers_of c.in_ok-script.script.lines) (sym c.in-Ok-new.ensures.shelf.0) (c.in-Ok.ensures.offers ∙ ap offers_of c.new-origin.ensures) in
     subst (λ z. Takes false blank_state offers_of z.store z.pass line) (only c.new-shelves.result.items c.push.new.self.items first shelf w c.new-shelves.ensures.items c.in_ok-push.ensures.items at.0 at.1)
-    (c.script_lines_may_be_asked.ensures.takes first.store 1 _ c.in_ok-script.script.lines line first.pass offers c.in_ok-script.ensures.1 (k, is.0, is.1) (λ m e. subst IsServed e served) (λ m e. subst IsServed e served))
+    (c.script_lines_may_be_asked.ensures.takes first.store c.in_ok-script.script.lines line first.pass offers read.0 read.1 (λ m e. subst IsServed e served) (λ m e. subst IsServed e served))
