@@ -2,3 +2,4 @@ pub mod Served
 pub mod Printed
 pub mod Ran
 pub mod Made
+pub mod Plain

@@ -20,12 +20,12 @@ use Rattle.bench_command.specs.Ends.{BenchSays, RunEnds, RunSays}
 use Rattle.bench_command.specs.Leaves.{BenchLeaves, LeavesMade, RunLeaves}
 use Rattle.bench_command.specs.Numbers.{IsMade, slot_size, slots_for}
 
-zeros_long : (n : ℕ) → length (zeros n) ≡ n
+pub zeros_long : (n : ℕ) → length (zeros n) ≡ n
 unfolding zeros
 zeros_long n = length-replicate n 0
 
 -- it is there
-made_there : (before after : Files) (name : List ℕ) (size : ℕ) → IsCreated before after name size → get after name ≡ Some (uncut (zeros size))
+pub made_there : (before after : Files) (name : List ℕ) (size : ℕ) → IsCreated before after name size → get after name ≡ Some (uncut (zeros size))
 made_there before after name size is = ap (λ (files : Files). get files name) is ∙ get_inserted before name (uncut (zeros size))
 
 -- and it is not out

@@ -1,5 +1,6 @@
 pub mod Answers
 pub mod Numbers
 pub mod Ends
+pub mod Plain
 pub mod Prints
 pub mod Leaves

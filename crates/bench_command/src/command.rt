@@ -14,6 +14,7 @@ ghost use Rattle.bench_command.specs.Prints.{IsBenchText};
 
 use crate::running::{BenchTarget, SLOT_BYTES, run_bench};
 use file_commands::create_file;
+use plain_laws::unwritten_slots_open_fresh_stores;
 use rock_disk::{Volume, created_files_are_in};
 use rock_io::Sink;
 use rock_status::Status;
@@ -95,6 +96,7 @@ where
         (counts (V.faults volume.new) (V.made volume.new) (V.ended volume.new)) }
 {
     created_files_are_in();
+    unwritten_slots_open_fresh_stores();
     if !is_workers(target.workers) {
         return Status::BadGeometry { field: 3 };
     }

@@ -13,10 +13,12 @@ ghost use Rattle.bench_command.specs.Numbers.{AreBenchNumbers, slot_size, slots_
 ghost use Rattle.bench_command.specs.Prints.{IsLineOfRun};
 
 use crate::printing::print_summary;
+use bench_summary::answers_are_of_one_kind;
 use rock_disk::Volume;
 use rock_io::Sink;
 use rock_run::{run_script, status_of_run};
 use rock_status::Status;
+use run_rules::{each_line_has_one_answer, lone_runs_are_answered_plainly, runs_keep_the_rules};
 use std::alloc::Global;
 use std::sync::Wait;
 use std::thread::Threads;
@@ -74,6 +76,10 @@ where
         (counts (V.faults volume.new) (V.made volume.new) (V.ended volume.new)) }
 {
     bench_lines_may_be_served();
+    runs_keep_the_rules::<V::C, V::St>();
+    lone_runs_are_answered_plainly::<V::C, V::St>();
+    each_line_has_one_answer::<V::C, V::St>();
+    answers_are_of_one_kind();
     let BenchTarget {
         name,
         seed,

@@ -1,5 +1,5 @@
 -- The summary of answers.
-use Rattle.std.specs.Prelude.{ℕ, List, length, count_by, sum_by}
+use Rattle.std.specs.Prelude.{ℕ, ◌+◌, List, length, count_by, sum_by}
 use Rattle.script_text.specs.declared.answer.Answer.{Answer}
 use Rattle.bench_summary.specs.declared.kind.Kind.{Kind}
 use Rattle.bench_summary.specs.declared.kind.Kind.TheVariants.{Hit, Miss, Stored, Purged, NoEntry, Other}
@@ -21,3 +21,7 @@ summary_of answers = record {
   other = count_of Other answers;
   bytes = sum_by hit_bytes answers;
 }
+
+-- the six kinds together
+abbrev pub kinds_in : Summary → ℕ
+kinds_in s = s.hits + s.misses + s.stored + s.purged + s.none + s.other

@@ -1,7 +1,7 @@
 // Answers are counted, and told in a line.
-ghost use Rattle.std.specs.Prelude.{◌≡◌, ◌+◌, sum_by, string_bytes, IfOk};
+ghost use Rattle.std.specs.Prelude.{◌≡◌, sum_by, string_bytes, IfOk};
 ghost use Rattle.bench_summary.specs.Kinds.{hit_bytes};
-ghost use Rattle.bench_summary.specs.Counts.{count_of, summary_of};
+ghost use Rattle.bench_summary.specs.Counts.{count_of, kinds_in, summary_of};
 ghost use Rattle.bench_summary.specs.Text.{first_part, second_part, third_part, last_part, summary_line};
 
 use crate::kind::{Kind, hit_bytes};
@@ -46,7 +46,7 @@ fn bytes_of(answers: &[Answer]) -> u128
 /// Counts answers. The bytes of all hits together are counted in 128 bits, which suffice for any list of answers.
 pub fn summary_of(answers: &[Answer]) -> Summary
     ensures counts { result ≡ summary_of answers.now }
-    ensures whole { result.requests ≡ result.hits + result.misses + result.stored + result.purged + result.none + result.other }
+    ensures whole { result.requests ≡ kinds_in result }
 {
     Summary {
         requests: answers.len() as u64,

@@ -30,6 +30,7 @@ pub mod Parted
 pub mod Standing
 pub mod PrivateLines
 pub mod Openings
+pub mod Unwritten
 pub mod Fewer
 pub mod Filed
 pub mod Tabbed

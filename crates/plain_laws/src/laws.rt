@@ -1,5 +1,5 @@
 // The laws.
-ghost use Rattle.std.specs.Prelude.{◌≡◌, ◌⊎◌, ◌+◌, ◌<◌, ◌≤◌, ℕ, List, length, map, filter, Contains, Bool, Some};
+ghost use Rattle.std.specs.Prelude.{◌≡◌, ◌⊎◌, ◌+◌, ◌<◌, ◌≤◌, ℕ, List, length, map, filter, All, Contains, Bool, Some};
 ghost use Rattle.script_text.specs.Script.{IsScript};
 ghost use Rattle.script_text.specs.declared.line.Line.{Line};
 ghost use Rattle.script_text.specs.declared.answer.Answer.{Answer};
@@ -96,4 +96,10 @@ pub fn stores_begin_at_rest()
     ensures file { (s : Setting) (images : List (List ℕ)) (p : Plain)
         → s.slots ≡ length images → IsOpened (s.room + HEADER_SIZE) images s.anchors p
         → IsAtRest p × HoldsItsSlots s p × (length p.places ≡ s.anchors) × CountsVersions p }
+{}
+
+/// A store that is opened on slots of zeros is one that was never written.
+pub fn unwritten_slots_open_fresh_stores()
+    ensures { (slot : ℕ) (images : List (List ℕ)) (anchors : ℕ) (p : Plain)
+        → All (λ image. All (λ b. b ≡ 0) image) images → IsOpened slot images anchors p → p ≡ fresh anchors }
 {}

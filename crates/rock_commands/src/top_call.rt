@@ -1,5 +1,5 @@
 // The top call.
-ghost use Rattle.std.specs.Prelude.{◌≡◌, ℕ, List, ◌≤◌, IsTrue, ◌↔◌};
+ghost use Rattle.std.specs.Prelude.{◌≡◌, ℕ, List, ◌++◌, ◌≤◌, IsTrue, ◌↔◌};
 ghost use Rattle.rock_io.specs.Faults.{Rose};
 ghost use Rattle.rock_disk.specs.File.{NoneAway, IsKept, HaveSameBytes};
 ghost use Rattle.rock_open.specs.Device.{counts};
@@ -20,6 +20,7 @@ ghost use Rattle.workload.specs.Script.{bench_lines};
 ghost use Rattle.bench_command.specs.Ends.{BenchEnds, BenchSays, IsBenchRefused};
 ghost use Rattle.bench_command.specs.Leaves.{BenchLeaves};
 ghost use Rattle.bench_command.specs.Numbers.{MayBench};
+ghost use Rattle.bench_command.specs.Plain.{NoWorkerFailed, plain_line};
 ghost use Rattle.bench_command.specs.Prints.{IsBenchText};
 
 use crate::command::Command;
@@ -226,6 +227,15 @@ where
     ensures bench_leaves { (name : List ℕ) (seed workers count : ℕ) → IsBench words.now name seed workers count
         → BenchLeaves V.tells V.C.tells V.C.state (V.files volume.old) (V.files volume.new)
         name workers (bench_lines seed workers count) result }
+
+    // With one worker whose station met no fault it prints the one line of a plain store that was never written, which
+    // the seed and the rounds alone determine.
+    ensures bench_plain { (name : List ℕ) (seed count : ℕ) → IsBench words.now name seed 1 count
+        → IsTrue V.tells → IsTrue K.tells → result ≡ Status.Done
+        → NoWorkerFailed
+        (counts (V.faults volume.old) (V.made volume.old) (V.ended volume.old))
+        (counts (V.faults volume.new) (V.made volume.new) (V.ended volume.new))
+        → K.taken out.new ≡ K.taken out.old ++ plain_line seed count }
 
     // Its stations are those of its run, and so is what a fault of the disk shows.
     ensures bench_stations { IsBenchLine words.now → EachEnded

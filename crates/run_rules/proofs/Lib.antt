@@ -5,3 +5,4 @@ mod Crews
 mod Opened
 mod Numbers
 mod Lone
+pub mod Counts

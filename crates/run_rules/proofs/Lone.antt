@@ -34,7 +34,7 @@ use Rattle.plain_runs.specs.Ends.{HoldsWhole}
 use Rattle.plain_runs.specs.Runs.{IsPlainRun, setting_over}
 use Rattle.crew_closings.specs.Playing.{HasRun as HasPlayed}
 use Rattle.rock_run.specs.Runs.{HasRun}
-use Rattle.run_rules.specs.Plain.{EndedPlainly, HasSlots, IsAnsweredPlainly, NoneFailedServing, numbered}
+use Rattle.run_rules.specs.Plain.{EndedPlainly, IsAnsweredPlainly, NoneFailedServing, numbered}
 use Rattle.run_rules.proofs.Lists.{both}
 use Rattle.run_rules.proofs.Opened.{as_many, has_played}
 

@@ -1,6 +1,9 @@
 -- What one worker is answered that runs a script alone over a file, by the plain store.
-use Rattle.std.specs.Prelude.{All, List, Some, [], length, map, ◌<◌, ◌∷◌, ◌≡◌, ℕ}
+use Rattle.std.specs.Prelude.{All, List, Some, [], length, map, ◌+◌, ◌<◌, ◌∷◌, ◌≡◌, ℕ}
 use Rattle.std.specs.FinMap.{get}
+use Rattle.std.specs.List.{zip}
+use mathlib.Core.Option.{some}
+use lib.ListN.{get_elem?}
 use Rattle.lock_word.specs.Words.{word_number}
 use Rattle.rock_disk.specs.Cell.{CellState}
 use Rattle.rock_disk.specs.File.{Files}
@@ -18,14 +21,16 @@ use Rattle.plain_runs.specs.Ends.{HoldsWhole}
 use Rattle.plain_runs.specs.Runs.{setting_over}
 use Rattle.run_rules.specs.Runs.{HasImages}
 
+-- each line has the number behind its place
+abbrev pub AreInOrder : List Line → Type 0
+AreInOrder lines = (k : ℕ) (line : Line) → get_elem? lines k ≡ some line → line.number ≡ k + 1
+
 -- lines with these answers, by their numbers
 abbrev pub numbered : List Line → List Answer → List (ℕ × Answer)
-numbered [] given = []
-numbered (line ∷ lines) [] = []
-numbered (line ∷ lines) (answer ∷ given) = (line.number, answer) ∷ numbered lines given
+numbered lines given = zip (map (λ line. line.number) lines) given
 
--- the file of this name is in, and a read of its slots gives these images
-pub record HasSlots (files : Files) (name : List ℕ) (images : List (List ℕ)) : Type 0 where
+-- the file of this name is in, and a read of its cells gives these images
+pub record HasCells (files : Files) (name : List ℕ) (images : List (List ℕ)) : Type 0 where
   pub header : CellState
   pub cells : List CellState
   pub rest : List ℕ
@@ -45,7 +50,7 @@ pub record IsAnsweredPlainly (files left : Files) (name : List ℕ) (slot anchor
   pub opened : IsOpened slot images anchors plain
   pub answered : answers ≡ numbered (lines_for 1 script) (answers_of (setting_over slot anchors (length images)) script 1 plain) ∷ []
   pub back : List (List ℕ)
-  pub given_back : HasSlots left name back
+  pub given_back : HasCells left name back
   pub entries : HoldsWhole slot anchors back (left_by (setting_over slot anchors (length images)) script 1 plain)
 
 -- At the end each anchor had the word of what the lines leave of that store: its version, its stage and its doom. So the entries that were closed then, and not doomed, are the plain store's.

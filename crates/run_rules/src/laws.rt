@@ -1,6 +1,6 @@
 // What a run printed is explained. The function here does nothing: the proof of a function that calls it may use what it
 // ensures.
-ghost use Rattle.std.specs.Prelude.{Bool, IsTrue, List, ◌<◌, ◌≡◌, ℕ};
+ghost use Rattle.std.specs.Prelude.{Bool, Contains, IsTrue, List, length, sum_by, ◌<◌, ◌≡◌, ◌≤◌, ℕ};
 ghost use Rattle.db_layout.specs.Layout.{IsSlotSize};
 ghost use Rattle.rock_disk.specs.File.{Files};
 ghost use Rattle.script_text.specs.Script.{IsScript};
@@ -8,8 +8,7 @@ ghost use Rattle.script_text.specs.declared.answer.Answer.{Answer};
 ghost use Rattle.script_text.specs.declared.line.Line.{Line};
 ghost use Rattle.rock_open.specs.Device.{Counts};
 ghost use Rattle.rock_run.specs.Runs.{HasRun};
-ghost use Rattle.plain_runs.specs.Runs.{Numbered};
-ghost use Rattle.run_rules.specs.Plain.{EndedPlainly, IsAnsweredPlainly, NoneFailedServing};
+ghost use Rattle.run_rules.specs.Plain.{AreInOrder, EndedPlainly, IsAnsweredPlainly, NoneFailedServing};
 ghost use Rattle.run_rules.specs.Runs.{IsExplained};
 
 use crew_closings::{crews_are_closed, faults_are_counted};
@@ -36,10 +35,10 @@ pub fn runs_keep_the_rules<C: Cell, St: Station<C = C>>()
 
 /// A run of one worker over a file that the volume tells, whose station met no fault, is answered as by a plain store that
 /// is opened on the file, and the file that was given back has the whole entries of what the script leaves of that. When
-/// the store was closed, each anchor had the word of that. The lines of the script are numbered in order.
+/// the store was closed, each anchor had the word of that. Each line of the script has the number behind its place.
 pub fn lone_runs_are_answered_plainly<C: Cell, St: Station<C = C>>()
     ensures { (tells : Bool) (files left : Files) (name : List ℕ) (slot anchors workers : ℕ) (script : List Line) (answers : List (List (ℕ × Answer))) (before after : Counts)
-        → IsSlotSize slot → Numbered 0 script → (ran : HasRun tells C.tells C.state files left name slot anchors workers script St.faults answers before after)
+        → IsSlotSize slot → AreInOrder script → (ran : HasRun tells C.tells C.state files left name slot anchors workers script St.faults answers before after)
         → workers ≡ 1 → IsTrue tells → NoneFailedServing before after
         → (plainly : IsAnsweredPlainly files left name slot anchors script answers) × EndedPlainly ran.closed.closed.gathered.state plainly }
 {
@@ -49,7 +48,16 @@ pub fn lone_runs_are_answered_plainly<C: Cell, St: Station<C = C>>()
     opened_slots_are_wide_and_few();
 }
 
-/// The lines of a script that was read are numbered in order, from 1 on.
+/// Each line of a script that was read has the number behind its place.
 pub fn read_lines_are_numbered()
-    ensures { (workers : ℕ) (text : List ℕ) (lines : List Line) → IsScript workers text lines → Numbered 0 lines }
+    ensures { (workers : ℕ) (text : List ℕ) (lines : List Line) → IsScript workers text lines → AreInOrder lines }
+{}
+
+/// Each line of a script has one answer in a run that came to its end, where each line is for one of the workers: there are
+/// as many answers as lines.
+pub fn each_line_has_one_answer<C: Cell, St: Station<C = C>>()
+    ensures { (tells : Bool) (files left : Files) (name : List ℕ) (slot anchors workers : ℕ) (script : List Line) (answers : List (List (ℕ × Answer))) (before after : Counts)
+        → ((line : Line) → Contains script line → (1 ≤ line.worker) × (line.worker ≤ workers))
+        → HasRun tells C.tells C.state files left name slot anchors workers script St.faults answers before after
+        → sum_by (λ mine. length mine) answers ≡ length script }
 {}

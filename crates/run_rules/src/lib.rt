@@ -5,4 +5,7 @@
 
 mod laws;
 
-pub use laws::{lone_runs_are_answered_plainly, read_lines_are_numbered, runs_keep_the_rules};
+pub use laws::{
+    each_line_has_one_answer, lone_runs_are_answered_plainly, read_lines_are_numbered,
+    runs_keep_the_rules,
+};

@@ -1,9 +1,11 @@
 -- Whose lines a benchmark has, under which numbers, and what they ask.
-use Rattle.std.proofs.Common.{◌≡◌, ℕ, zero, suc, ◌+◌, ◌*◌, ◌<◌, ◌≤◌, ◌%◌, List, [], ◌∷◌, ◌++◌, map, length, Bool, true, false, cond, nat_lt, ◌==◌, refl, arith, ap, ◌∙◌, ltb-true}
+use Rattle.std.proofs.Common.{◌≡◌, ℕ, zero, suc, ◌+◌, ◌*◌, ◌<◌, ◌≤◌, ◌%◌, List, [], ◌∷◌, ◌++◌, map, length, Bool, true, false, cond, nat_lt, ◌==◌, refl, arith, ap, sym, ◌∙◌, ltb-true}
 use Rattle.std.specs.Prelude.{All, Contains, Some, find, if◌then◌else◌, slice_index}
 use Rattle.std.specs.List.{range_with_len, enumerate_from}
 use Rattle.std.proofs.lemmas.Bool.{eq-eqb, ne_eqb}
 use Rattle.std.proofs.lemmas.List.FromFn.{get_or-range_with_len, length-range_with_len}
+use mathlib.Core.Option.{some, some-injective, some-ne-none}
+use lib.ListN.{get_elem?}
 use Rattle.std.proofs.lemmas.List.Elements.{All-nil, All-cons, All-head, All-tail, All-append, All-map, All-filter, All-same, All-contains, All-from_get_or, All-weaker, filter_passes}
 use Rattle.store_key.specs.Url.{IsUrl}
 use Rattle.script_text.specs.declared.body.Body.{Body}
@@ -148,3 +150,14 @@ first_of_all seed n (x ∷ xs) =
 pub found : (seed workers count : ℕ) (line : Line) → Contains (bench_lines seed workers count) line → find (λ (other : Line). other.number == line.number) (bench_lines seed workers count) ≡ Some line
 unfolding lines_of
 found seed workers count line among = All-contains (IsFirst (lines_of seed (turns_of workers count))) (lines_of seed (turns_of workers count)) line (first_of_all seed 0 (turns_of workers count)) among
+
+-- each line has the number behind its place
+number_at : (seed n : ℕ) (turns : List Share) (k : ℕ) (line : Line) → get_elem? (map (line_at seed) (enumerate_from n turns)) k ≡ some line → line.number ≡ n + k + 1
+number_at seed n [] k line at = absurd (some-ne-none line (sym at))
+number_at seed n (x ∷ xs) zero line at =
+    let same = ap (λ (l : Line). l.number) (some-injective (line_of seed n x) line at) in let is = number_is seed n x in omega (arith, same, is)
+number_at seed n (x ∷ xs) (suc k) line at = let is = number_at seed (n + 1) xs k line at in omega (arith, is)
+
+pub numbers : (seed workers count k : ℕ) (line : Line) → get_elem? (bench_lines seed workers count) k ≡ some line → line.number ≡ k + 1
+unfolding lines_of
+numbers seed workers count k line at = let is = number_at seed 0 (turns_of workers count) k line at in omega (arith, is)

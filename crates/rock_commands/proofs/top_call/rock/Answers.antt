@@ -266,6 +266,15 @@ returns-in-Bench-clause-bench_prints g c name seed workers count asked k =
     (g.K.Sink.taken c.args.out.now) (g.K.Sink.taken c.bench_command.new.out) c.bench_command.result)
     name seed workers count (subst (IsCommand c.args.words.now) c.in-Bench.is c.in-Some.ensures) asked (c.bench_command.ensures.prints k)
 
+pub returns-in-Bench-clause-bench_plain : goal.returns-in-Bench-clause-bench_plain
+returns-in-Bench-clause-bench_plain g c name seed count asked vt k done none =
+    let told = subst (ReportPrints (IsBenchText g.V.Volume.tells g.V.C.Cell.tells g.V.C.Cell.state g.V.St.Station.faults
+    (g.V.Volume.files c.args.volume.now) (g.V.Volume.files c.bench_command.new.volume) name seed 1 count
+    (counts (g.V.Volume.faults c.args.volume.now) (g.V.Volume.made c.args.volume.now) (g.V.Volume.ended c.args.volume.now))
+    (counts (g.V.Volume.faults c.bench_command.new.volume) (g.V.Volume.made c.bench_command.new.volume) (g.V.Volume.ended c.bench_command.new.volume)))
+    (g.K.Sink.taken c.args.out.now) (g.K.Sink.taken c.bench_command.new.out)) done (returns-in-Bench-clause-bench_prints g c name seed 1 count asked k) in
+    told.2 ∙ ap (λ (printed : List ℕ). g.K.Sink.taken c.args.out.now ++ printed) (told.1.plain refl vt none)
+
 pub returns-in-Bench-clause-bench_leaves : goal.returns-in-Bench-clause-bench_leaves
 returns-in-Bench-clause-bench_leaves g c name seed workers count asked =
     of_each_bench c.args.words.now (λ n x w k. BenchLeaves g.V.Volume.tells g.V.C.Cell.tells g.V.C.Cell.state (g.V.Volume.files c.args.volume.now) (g.V.Volume.files c.bench_command.new.volume) n w (bench_lines x w k) c.bench_command.result)

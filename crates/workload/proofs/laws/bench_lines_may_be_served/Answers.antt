@@ -1,4 +1,4 @@
-use Rattle.workload.proofs.Served.{found, named, within}
+use Rattle.workload.proofs.Served.{found, named, numbers, within}
 use Rattle.workload.proofs.laws.bench_lines_may_be_served.Goals as goal
 
 pub returns-clause-within : goal.returns-clause-within
@@ -9,3 +9,6 @@ returns-clause-found c seed workers count line among = found seed workers count 
 
 pub returns-clause-named : goal.returns-clause-named
 returns-clause-named c seed workers count line few among = named seed workers count line few among
+
+pub returns-clause-numbers : goal.returns-clause-numbers
+returns-clause-numbers c seed workers count k line at = numbers seed workers count k line at

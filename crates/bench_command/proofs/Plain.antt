@@ -1,0 +1,107 @@
+-- One worker of a benchmark is answered as by a plain store that was never written.
+use Rattle.std.proofs.Common.{◌≡◌, ◌∙◌, ◌*◌, ◌+◌, ◌++◌, ◌∷◌, List, [], ap, arith, length, map, refl, subst, suc, sym, zero, ℕ}
+use Rattle.std.specs.Prelude.{All, Option, Some, drop, take}
+use Rattle.std.specs.FinMap.{get}
+use Rattle.std.specs.List.{zip}
+use Rattle.std.proofs.lemmas.List.{append-nil, length-map}
+use Rattle.std.proofs.lemmas.List.Elements.{All-cons, All-drop, All-nil, All-replicate, All-take}
+use Rattle.std.proofs.lemmas.Slice.Zip.{seconds-zip}
+use Rattle.bench_summary.specs.Counts.{summary_of}
+use Rattle.bench_summary.specs.Text.{summary_line}
+use Rattle.db_layout.specs.Layout.{IsSlotSize, file_size}
+use Rattle.plain_model.specs.declared.store.Plain.{Plain}
+use Rattle.plain_model.specs.declared.store.Setting.{Setting}
+use Rattle.plain_model.specs.Opening.{IsOpened}
+use Rattle.plain_model.specs.Serving.{answers, answers_of, fresh, lines_for, serve}
+use Rattle.rock_disk.specs.Cell.{CellState}
+use Rattle.rock_disk.specs.Created.{IsCreated}
+use Rattle.rock_disk.specs.File.{File, Files, bytes_of, slots_cut, slots_from, uncut, zeros}
+use Rattle.run_rules.specs.Plain.{IsAnsweredPlainly}
+use Rattle.run_rules.specs.Runs.{HasImages}
+use Rattle.script_text.specs.declared.answer.Answer.{Answer}
+use Rattle.script_text.specs.declared.line.Line.{Line}
+use Rattle.workload.specs.Script.{bench_lines}
+use Rattle.bench_command.specs.Answers.{answers_in}
+use Rattle.bench_command.specs.Numbers.{anchors_for, slot_size, slots_for}
+use Rattle.bench_command.specs.Plain.{plain_answers, plain_line, setting_of_one}
+use Rattle.bench_command.proofs.Made.{made_there, zeros_long}
+
+pub sized : IsSlotSize slot_size
+sized = record { from = omega arith; to = omega arith; multiple = omega arith }
+
+abbrev AreZeros : List ℕ → Type 0
+AreZeros bytes = All (λ b. b ≡ 0) bytes
+
+abbrev images_from : (number n slot : ℕ) → List ℕ → List (List ℕ)
+images_from number n slot bytes = map (λ (c : CellState). c.now) (slots_from number n slot bytes)
+
+-- slots that are cut from zeros are zeros
+zeros_cut : (number n slot : ℕ) (bytes : List ℕ) → AreZeros bytes → All AreZeros (images_from number n slot bytes)
+zeros_cut number zero slot bytes h = All-nil AreZeros
+zeros_cut number (suc n) slot bytes h =
+    All-cons AreZeros (take slot bytes) (images_from (number + 1) n slot (drop slot bytes)) (All-take (λ b. b ≡ 0) slot bytes h)
+    (zeros_cut (number + 1) n slot (drop slot bytes) (All-drop (λ b. b ≡ 0) slot bytes h))
+
+as_many : (number n slot : ℕ) (bytes : List ℕ) → length (images_from number n slot bytes) ≡ n
+as_many number zero slot bytes = refl
+as_many number (suc n) slot bytes = let rest = as_many (number + 1) n slot (drop slot bytes) in omega (arith, rest)
+
+are_zeros : (n : ℕ) → AreZeros (zeros n)
+unfolding zeros
+are_zeros n = All-replicate (λ b. b ≡ 0) n 0 refl
+
+-- there is one answer to each line
+one_each : (s : Setting) (script lines : List Line) (p : Plain) → length (answers s script lines p) ≡ length lines
+one_each s script [] p = refl
+one_each s script (line ∷ lines) p = let rest = one_each s script lines (serve s script line p).after in omega (arith, rest)
+
+-- the answers without the numbers of their lines
+without_numbers : (lines : List Line) (given : List Answer) → length given ≡ length lines → answers_in (zip (map (λ (line : Line). line.number) lines) given ∷ []) ≡ given
+without_numbers lines given same =
+    append-nil (map (λ (numbered : ℕ × Answer). numbered.1) (zip (map (λ (line : Line). line.number) lines) given))
+    ∙ seconds-zip (map (λ (line : Line). line.number) lines) given (same ∙ sym (length-map lines (λ (line : Line). line.number)))
+
+abbrev size_of_one : ℕ
+size_of_one = file_size (slots_for 1) slot_size
+
+abbrev made_slots : List (List ℕ)
+made_slots = map (λ (c : CellState). c.now) (slots_cut slot_size (zeros size_of_one))
+
+module _ (before middle left : Files) (name : List ℕ) (made : IsCreated before middle name size_of_one) where
+  one_file : (f : File) → get middle name ≡ Some f → f ≡ uncut (zeros size_of_one)
+  one_file f there = let is = made_there before middle name size_of_one made in cc
+
+  images_are : (images : List (List ℕ)) → HasImages middle name slot_size images → images ≡ made_slots
+  images_are images h = h.images_are ∙ ap (λ (f : File). map (λ (c : CellState). c.now) (slots_cut slot_size (bytes_of f))) (one_file h.was h.there)
+
+  images_zeros : (images : List (List ℕ)) → HasImages middle name slot_size images → All AreZeros images
+  images_zeros images h = subst (All AreZeros) (sym (images_are images h))
+      (zeros_cut 0 _ slot_size (drop 16384 (zeros size_of_one)) (All-drop (λ b. b ≡ 0) 16384 (zeros size_of_one) (are_zeros size_of_one)))
+
+  many : (images : List (List ℕ)) → HasImages middle name slot_size images → length images ≡ slots_for 1
+  many images h =
+      let long = zeros_long size_of_one in
+      let count = as_many 0 _ slot_size (drop 16384 (zeros size_of_one)) in
+      ap length (images_are images h) ∙ count ∙ omega (arith, long)
+
+  pub answered_plainly : (seed count : ℕ) (answers_given : List (List (ℕ × Answer)))
+      → ((images : List (List ℕ)) (p : Plain) → All AreZeros images → IsOpened slot_size images (anchors_for 1) p → p ≡ fresh (anchors_for 1))
+      → IsAnsweredPlainly middle left name slot_size (anchors_for 1) (bench_lines seed 1 count) answers_given → answers_in answers_given ≡ plain_answers seed count
+  answered_plainly seed count answers_given law h =
+      let lines : List Line = bench_lines seed 1 count in
+      let new : h.plain ≡ fresh (anchors_for 1) = law h.images h.plain (images_zeros h.images h.file) h.opened in
+      ap answers_in h.answered
+      ∙ without_numbers (lines_for 1 lines) _ (one_each _ lines (lines_for 1 lines) h.plain)
+      ∙ ap (λ (n : ℕ). answers_of (record { slots = n; room = setting_of_one.room; anchors = anchors_for 1 }) lines 1 h.plain) (many h.images h.file)
+      ∙ ap (answers_of setting_of_one lines 1) new
+
+module _ (before middle left : Files) (name : List ℕ) (seed workers count : ℕ) (answers_given : List (List (ℕ × Answer))) where
+  -- the same of a worker that is told to be the only one
+  pub line_of_one : workers ≡ 1
+      → ((images : List (List ℕ)) (p : Plain) → All AreZeros images → IsOpened slot_size images (anchors_for 1) p → p ≡ fresh (anchors_for 1))
+      → IsCreated before middle name (file_size (slots_for workers) slot_size)
+      → IsAnsweredPlainly middle left name slot_size (anchors_for workers) (bench_lines seed workers count) answers_given → summary_line (summary_of (answers_in answers_given)) ≡ plain_line seed count
+  line_of_one alone law made h =
+      let made_for_one = subst (λ (w : ℕ). IsCreated before middle name (file_size (slots_for w) slot_size)) alone made in
+      let answered = subst (λ (w : ℕ). IsAnsweredPlainly middle left name slot_size (anchors_for w) (bench_lines seed w count) answers_given) alone h in
+      ap (λ (given : List Answer). summary_line (summary_of given)) (answered_plainly before middle left name made_for_one seed count answers_given law answered)
