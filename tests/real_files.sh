@@ -56,12 +56,12 @@ unread='rock: SourceFault: standard input could not be read; see whether it is o
 taken='already; choose another name, Rock writes over no file'
 absent='look at the name, or make the file with rock create'
 too_short='is shorter than the header area and one slot; name a whole file, or make one with rock create'
-size='is no multiple of 512 from 512 to 32768; give one that is, for a file that is there the one that it was made with'
-few_slots='is not from 1 to the number of slots of'
+size_limits='is no multiple of 512 from 512 to 32768; give one that is, for a file that is there the one that it was made with'
+anchor_limits='is not from 1 to the number of slots of'
 counted='1 prints how many slots there are'
-crew='is not from 1 to 32; give one that is, for a script as many as it names'
-room='is not from 1 to 1048576; give one that is, for a larger store with larger slots'
-too_many='is above 10000; take fewer rounds'
+worker_limits='is not from 1 to 32; give one that is, for a script as many as it names'
+slot_limits='is not from 1 to 1048576; give one that is, for a larger store with larger slots'
+round_limit='is above 10000; take fewer rounds'
 mend='mend this line, or take it out'
 
 # A run: the status, what is printed, the first line on standard error, the script, and the words.
@@ -118,9 +118,9 @@ cmp -s one copy
 holds 'a file that is there stays as it was' $?
 
 # Numbers and words that are refused.
-row 8 '' "rock: BadGeometry field=1: the slot size 500 $size" create new 500 0
-row 8 '' "rock: BadGeometry field=4: the number of slots 0 $room" create new 512 0
-row 8 '' "rock: BadGeometry field=2: the number of anchors 5 $few_slots db; rock check db 512 $counted" check db 512 5
+row 8 '' "rock: BadGeometry field=1: the slot size 500 $size_limits" create new 500 0
+row 8 '' "rock: BadGeometry field=4: the number of slots 0 $slot_limits" create new 512 0
+row 8 '' "rock: BadGeometry field=2: the number of anchors 5 $anchor_limits db; rock check db 512 $counted" check db 512 5
 row 2 '' "rock: Usage: $usage" create new 512
 [ ! -e new ]
 holds 'a refused create makes no file' $?
@@ -367,12 +367,12 @@ bad() {
 
 # Refusals of a run, in their order, and the file is as it was.
 cp one new
-slots_of_new="$few_slots new; rock check new 512 $counted"
+slots_of_new="$anchor_limits new; rock check new 512 $counted"
 bad 1 4 $'1 fetch http://a/b\n' 33 gone 500 0
-run_row 8 '' "rock: BadGeometry field=1: the slot size 500 $size" '' gone 500 0 33
-run_row 8 '' "rock: BadGeometry field=3: the number of workers 33 $crew" '' gone 512 0 33
-run_row 8 '' "rock: BadGeometry field=3: the number of workers 0 $crew" '' gone 512 0 0
-run_row 8 '' "rock: BadGeometry field=3: the number of workers 33 $crew" $'33 get http://a/b\n' gone 512 0 33
+run_row 8 '' "rock: BadGeometry field=1: the slot size 500 $size_limits" '' gone 500 0 33
+run_row 8 '' "rock: BadGeometry field=3: the number of workers 33 $worker_limits" '' gone 512 0 33
+run_row 8 '' "rock: BadGeometry field=3: the number of workers 0 $worker_limits" '' gone 512 0 0
+run_row 8 '' "rock: BadGeometry field=3: the number of workers 33 $worker_limits" $'33 get http://a/b\n' gone 512 0 33
 run_row 8 '' "rock: Missing: there is no file gone; $absent" '' gone 512 0 1
 truncate -s 16895 small
 run_row 8 '' "rock: Small bytes=16895: small $too_short" '' small 512 0 1
@@ -488,8 +488,9 @@ row 0 $'ENTRY 0 1 1 5 http://a/b\n' '' list great 512
 truncate -s +512 great
 row 0 $'slots=1048576 kept=1 used=1 free=1048575 version=1\n' '' check great 512 1048576
 run_row 0 $'1 1 HIT 1 5 68656c6c6f\n' '' '1 get http://a/b' great 512 1 1
-run_row 8 '' "rock: BadGeometry field=2: the number of anchors 1048577 $few_slots great; rock check great 512 $counted" '' \
-    great 512 1048577 1
+run_row 8 '' \
+    "rock: BadGeometry field=2: the number of anchors 1048577 $anchor_limits great; rock check great 512 $counted" \
+    '' great 512 1048577 1
 (
     failed=0
     ulimit -v 65536
@@ -790,13 +791,13 @@ row 2 '' "rock: Usage: $usage" bench new 18446744073709551616 1 10
 row 2 '' "rock: Usage: $usage" bench new 7 4294967296 10
 row 2 '' "rock: Usage: $usage" bench new 7 1 4294967296
 for name in new one; do
-    row 8 '' "rock: BadGeometry field=3: the number of workers 0 $crew" bench $name 7 0 10001
-    row 8 '' "rock: BadGeometry field=3: the number of workers 33 $crew" bench $name 7 33 10
-    row 8 '' "rock: BadGeometry field=3: the number of workers 4294967295 $crew" bench $name 7 4294967295 10
-    row 8 '' "rock: BadGeometry field=4: the number of rounds 10001 $too_many" bench $name 7 1 10001
-    row 8 '' "rock: BadGeometry field=4: the number of rounds 4294967295 $too_many" bench $name 7 32 4294967295
+    row 8 '' "rock: BadGeometry field=3: the number of workers 0 $worker_limits" bench $name 7 0 10001
+    row 8 '' "rock: BadGeometry field=3: the number of workers 33 $worker_limits" bench $name 7 33 10
+    row 8 '' "rock: BadGeometry field=3: the number of workers 4294967295 $worker_limits" bench $name 7 4294967295 10
+    row 8 '' "rock: BadGeometry field=4: the number of rounds 10001 $round_limit" bench $name 7 1 10001
+    row 8 '' "rock: BadGeometry field=4: the number of rounds 4294967295 $round_limit" bench $name 7 32 4294967295
 done
-row 8 '' "rock: BadGeometry field=4: the number of rounds 10001 $too_many" bench none/db 7 1 10001
+row 8 '' "rock: BadGeometry field=4: the number of rounds 10001 $round_limit" bench none/db 7 1 10001
 [ ! -e new ]
 holds 'a refused benchmark makes no file' $?
 row 9 '' "rock: Exists: there is a file one $taken" bench one 7 1 10
