@@ -98,14 +98,20 @@ def spelled(sentence):
     return "[A-Z]+".join(map(re.escape, re.split(r"\{\w*\}", sentence)))
 
 
+def arms(function, front):
+    """The arms of a function of rock_main that tells sentences: the word behind what stands in front of each, and the
+    sentences, of which an arm may have two."""
+    source = re.search(rf"(?s)\nfn {function}\(.*?\n}}\n", read("crates/rock_main/src/message.rt")).group()
+    found = re.split(rf"\n        {front}(?=\w)", source)[1:]
+    return [(re.match(r"\w+", arm).group(), re.findall(r'"([^"\n]+)"', arm)) for arm in found]
+
+
 def sentences():
-    """The sentences of rock_main: the status, its field or none, and the sentence. An arm may have two of them."""
-    source = re.search(r"(?s)pub fn explanation\(.*?\n}\n", read("crates/rock_main/src/message.rt")).group()
-    arms = re.split(r"\n        (?=Status::)", source)[1:]
-    heads = [re.match(r"Status::(\w+)(?: \{ field: (\d) \})?", arm).groups() for arm in arms]
-    told = [(*head, sentence) for head, arm in zip(heads, arms) for sentence in re.findall(r'"([^"\n]+)"', arm)]
+    """The sentences of rock_main: the status, its field or none, and the sentence."""
+    told = [(name, None, text) for name, texts in arms("explanation", "Status::") for text in texts]
+    fields = arms("outside_limits", "")
     # The slot size has the field that is left, and nothing is said where all was done.
-    told = [(name, field or ("1" if name == "BadGeometry" else None), text) for name, field, text in told]
+    told += [("BadGeometry", field.replace("_", "1"), text) for field, texts in fields for text in texts]
     return [line for line in told if line[0] != "Done"]
 
 
@@ -119,15 +125,18 @@ def statuses():
 
 
 def unfolded(text):
-    """A script, with the text of each variable that is set to quoted words in a line of its own."""
-    for name, _, words in re.findall(r"(?m)^(\w+)=(['\"])([^'\"$\n]*)\2$", text):
-        text = text.replace(f"${name}", words)
-    return text
+    """A script, with the text of each variable that is set to quoted words in a line of its own, and without these
+    lines."""
+    setting = r"(?m)^(\w+)=(['\"])([^'\"$\n]*)\2$"
+    rows = re.sub(setting, "", text)
+    for name, _, words in re.findall(setting, text):
+        rows = re.sub(rf"\${name}\b", lambda _: words, rows)
+    return rows
 
 
 def messages():
     """The lines on standard error, by the sentences of rock_main, stand in docs/OPERATING.md with their codes, and no
-    others. A test of rock_main reads each sentence, and a row of tests/real_files.sh each line."""
+    others. A test of rock_main and a row of tests/real_files.sh have each line too."""
     told, tests = read("docs/OPERATING.md"), read("crates/rock_main/src/tests.rt")
     rows = unfolded(read("tests/real_files.sh"))
     lines = sentences()
@@ -144,13 +153,15 @@ def messages():
         holds(f"docs/OPERATING.md has the line once, with its code: {status}: {sentence}", found == [codes[status]])
         seen = form.replace("[A-Z]+", r"(?:\$\(.*?\)|[^ ])+")
         holds(f"tests/real_files.sh has the line: {status}: {sentence}", re.search(seen, rows))
-        read_form = spelled(sentence).replace("[A-Z]+", ".+")
+        read_form = form.replace("[A-Z]+", '[^"\n]+')
         holds(f"a test of rock_main reads: {status}: {sentence}", re.search(f'"{read_form}"', tests))
-        holds(f"a test of rock_main reads the status: {status}", re.search(rf'"{status}[ "]', tests))
+    wrong, behind = next(sentence for status, _, sentence in lines if status == "BadScript").split("{}")
     for cause, sentence in causes:
         number = cause.replace("_", "9")
         holds(f"docs/OPERATING.md has cause {number}", f"\n| {number} | `{sentence}` |" in told)
-        holds(f"a test of rock_main reads cause {number}", f': {sentence}"' in tests and f'cause={number}"' in tests)
+        front = spelled(f"rock: BadScript line={{line}} cause={number}: {wrong}").replace("[A-Z]+", r"\d+")
+        whole = f'"{front}{re.escape(sentence + behind)}"'
+        holds(f"a test of rock_main reads cause {number}", re.search(whole, tests))
         holds(f"tests/real_files.sh has cause {number}", re.search(rf"(?m)^bad \d+ {number} ", rows))
     named = re.findall(r"(?m)^\| (\d+) \| ([A-Z]\w+(?:, [A-Z]\w+)*) \|", read("docs/FORMATS.md"))
     pairs = {name: code for code, names in named for name in names.split(", ")}

@@ -48,9 +48,21 @@ row() {
     holds "rock $*: status $ended, printed '$(head -c 200 printed)', said '$(head -n 1 said)'" $?
 }
 
+# What rows share of the lines on standard error.
 disk="could not be read, written or made; look at its disk and its permissions"
 usage='this is no command line; rock --help prints the lines that are'
-output='rock: SinkFault: standard output did not take all of the answer'
+output='rock: SinkFault: standard output did not take all of the answer; do not use what was printed'
+unread='rock: SourceFault: standard input could not be read; see whether it is open, and no folder'
+taken='already; choose another name, Rock writes over no file'
+absent='look at the name, or make the file with rock create'
+too_short='is shorter than the header area and one slot; name a whole file, or make one with rock create'
+size_limits='is no multiple of 512 from 512 to 32768; give one that is, for a file that is there the one that it was made with'
+anchor_limits='is not from 1 to the number of slots of'
+counted='1 prints how many slots there are'
+worker_limits='is not from 1 to 32; give one that is, for a script as many as it names'
+slot_limits='is not from 1 to 1048576; give one that is, for a larger store with larger slots'
+round_limit='is above 10000; take fewer rounds'
+mend='mend this line, or take it out'
 
 # A run: the status, what is printed, the first line on standard error, the script, and the words.
 run_row() {
@@ -99,27 +111,27 @@ holds 'a new file of four slots of 512 bytes is 18,432 zeros' $?
 row 0 '' '' list db 512
 row 0 $'slots=4 kept=0 used=0 free=4 version=0\n' '' check db 512 4
 cp "$root/crates/rock_main/data/db" one && cp one copy
-row 9 '' 'rock: Exists: there is a file one already' create one 512 1
+row 9 '' "rock: Exists: there is a file one $taken" create one 512 1
 row 0 $'ENTRY 0 7 1 5 http://a/b\n' '' list one 512
 row 0 $'slots=1 kept=1 used=1 free=0 version=7\n' '' check one 512 1
 cmp -s one copy
 holds 'a file that is there stays as it was' $?
 
 # Numbers and words that are refused.
-row 8 '' 'rock: BadGeometry field=1: the slot size 500 is no multiple of 512 from 512 to 32768' create new 500 0
-row 8 '' 'rock: BadGeometry field=4: the number of slots 0 is not from 1 to 1048576' create new 512 0
-row 8 '' 'rock: BadGeometry field=2: the number of anchors 5 is not from 1 to the number of slots of db' check db 512 5
+row 8 '' "rock: BadGeometry field=1: the slot size 500 $size_limits" create new 500 0
+row 8 '' "rock: BadGeometry field=4: the number of slots 0 $slot_limits" create new 512 0
+row 8 '' "rock: BadGeometry field=2: the number of anchors 5 $anchor_limits db; rock check db 512 $counted" check db 512 5
 row 2 '' "rock: Usage: $usage" create new 512
 [ ! -e new ]
 holds 'a refused create makes no file' $?
 
 # Names.
-row 8 '' 'rock: Missing: there is no file gone' list gone 512
+row 8 '' "rock: Missing: there is no file gone; $absent" list gone 512
 row 0 '' '' create 'a name with spaces' 16384 2
 row 0 $'slots=2 kept=0 used=0 free=2 version=0\n' '' check 'a name with spaces' 16384 1
 mkdir pages && mkfifo pipe
 row 6 '' "rock: DeviceFault: pages $disk" list pages 512
-row 9 '' 'rock: Exists: there is a file pages already' create pages 512 1
+row 9 '' "rock: Exists: there is a file pages $taken" create pages 512 1
 row 6 '' "rock: DeviceFault: pipe $disk" list pipe 512
 row 6 '' "rock: DeviceFault: none/db $disk" create none/db 512 1
 
@@ -349,22 +361,21 @@ wrong() {
 
 # A bad line: its number, the cause, the script, and the workers, 1 where none are given.
 bad() {
-    run_row 7 '' "rock: BadScript line=$1 cause=$2: line $1 of the script is wrong: $(wrong "$2")" "$3" \
+    run_row 7 '' "rock: BadScript line=$1 cause=$2: line $1 of the script is wrong: $(wrong "$2"); $mend" "$3" \
         "${5:-new}" "${6:-512}" "${7:-1}" "${4:-1}"
 }
 
 # Refusals of a run, in their order, and the file is as it was.
 cp one new
-slots_of_new='is not from 1 to the number of slots of new'
+slots_of_new="$anchor_limits new; rock check new 512 $counted"
 bad 1 4 $'1 fetch http://a/b\n' 33 gone 500 0
-run_row 8 '' 'rock: BadGeometry field=1: the slot size 500 is no multiple of 512 from 512 to 32768' '' gone 500 0 33
-run_row 8 '' 'rock: BadGeometry field=3: the number of workers 33 is not from 1 to 32' '' gone 512 0 33
-run_row 8 '' 'rock: BadGeometry field=3: the number of workers 0 is not from 1 to 32' '' gone 512 0 0
-run_row 8 '' 'rock: BadGeometry field=3: the number of workers 33 is not from 1 to 32' $'33 get http://a/b\n' \
-    gone 512 0 33
-run_row 8 '' 'rock: Missing: there is no file gone' '' gone 512 0 1
+run_row 8 '' "rock: BadGeometry field=1: the slot size 500 $size_limits" '' gone 500 0 33
+run_row 8 '' "rock: BadGeometry field=3: the number of workers 33 $worker_limits" '' gone 512 0 33
+run_row 8 '' "rock: BadGeometry field=3: the number of workers 0 $worker_limits" '' gone 512 0 0
+run_row 8 '' "rock: BadGeometry field=3: the number of workers 33 $worker_limits" $'33 get http://a/b\n' gone 512 0 33
+run_row 8 '' "rock: Missing: there is no file gone; $absent" '' gone 512 0 1
 truncate -s 16895 small
-run_row 8 '' 'rock: Small bytes=16895: small is shorter than the header area and one slot' '' small 512 0 1
+run_row 8 '' "rock: Small bytes=16895: small $too_short" '' small 512 0 1
 run_row 8 '' "rock: BadGeometry field=2: the number of anchors 0 $slots_of_new" '' new 512 0 1
 run_row 8 '' "rock: BadGeometry field=2: the number of anchors 2 $slots_of_new" '' new 512 2 1
 run_row 6 '' "rock: DeviceFault: pages $disk" '' pages 512 1 1
@@ -397,10 +408,10 @@ holds 'a run that stores nothing leaves the file as it was' $?
 
 # A script that can't be read.
 ./rock run new 512 1 1 <pages >printed 2>said
-[ $? -eq 4 ] && [ ! -s printed ] && [ "$(cat said)" = 'rock: SourceFault: standard input could not be read' ]
+[ $? -eq 4 ] && [ ! -s printed ] && [ "$(cat said)" = "$unread" ]
 holds 'a folder for a script is a fault of the source' $?
 ./rock run new 512 1 1 <&- >printed 2>said
-[ $? -eq 4 ] && [ ! -s printed ] && [ "$(cat said)" = 'rock: SourceFault: standard input could not be read' ]
+[ $? -eq 4 ] && [ ! -s printed ] && [ "$(cat said)" = "$unread" ]
 holds 'a closed standard input is a fault of the source' $?
 
 # A script that comes slowly, by pieces that end within lines.
@@ -415,20 +426,28 @@ slow_script | ./rock run new 512 1 1 >printed 2>said
 [ $? -eq 0 ] && [ ! -s said ] && printf '1 1 STORED 1\n1 2 HIT 1 5 68656c6c6f\n' | cmp -s - printed
 holds 'a script from a slow pipe is read to its end' $?
 
+# Runs the program and kills it while it stores, as soon as two entries of its file are listed: what is run, in words,
+# its standard input, and the words of its command line, of which the second one is the file.
+killed() {
+    local what=$1 from=$2 name=$4 run
+    shift 2
+    ./rock "$@" <"$from" >printed 2>said &
+    run=$!
+    for _ in $(seq 1000); do
+        sleep 0.01
+        [ "$(./rock list "$name" 512 2>/dev/null | head -n 2 | wc -l)" -eq 2 ] && break
+    done
+    kill -9 "$run"
+    wait "$run" 2>ended
+    [ $? -eq 137 ] && [ ! -s printed ] && [ ! -s said ]
+    holds "$what that is killed ends with 137, printed nothing and said nothing" $?
+}
+
 # A run that is killed while it stores printed nothing. What is listed then are responses of its script, whole, and
 # another run finds them. A body of the script has as many letters as its number, from the first letter on.
 for number in $(seq 1 1200); do printf '1 save http://a/%d #%d:0\n' "$number" "$number"; done >many
 rm -f new && ./rock create new 512 4096
-./rock run new 512 4096 1 <many >printed 2>said &
-run=$!
-for _ in $(seq 200); do
-    sleep 0.01
-    [ "$(./rock list new 512 | head -n 2 | wc -l)" -eq 2 ] && break
-done
-kill -9 "$run"
-wait "$run" 2>killed
-[ $? -eq 137 ] && [ ! -s printed ] && [ ! -s said ]
-holds 'a run that is killed ends with 137, printed nothing and said nothing' $?
+killed 'a run' many run new 512 4096 1
 ./rock list new 512 >listed 2>said && [ ! -s said ] && [ -s listed ] && [ "$(wc -l <listed)" -lt 1200 ] &&
     awk '$6 != "http://a/" $5 { exit 1 }' listed
 holds 'a run that was killed left responses of its script' $?
@@ -447,7 +466,7 @@ holds 'what a killed run left is served whole' $?
 
 # Files that are too short, or end within a slot.
 truncate -s 16895 db
-row 8 '' 'rock: Small bytes=16895: db is shorter than the header area and one slot' list db 512
+row 8 '' "rock: Small bytes=16895: db $too_short" list db 512
 truncate -s 17508 db
 row 0 $'slots=2 kept=0 used=0 free=2 version=0\n' '' check db 512 2
 
@@ -469,8 +488,9 @@ row 0 $'ENTRY 0 1 1 5 http://a/b\n' '' list great 512
 truncate -s +512 great
 row 0 $'slots=1048576 kept=1 used=1 free=1048575 version=1\n' '' check great 512 1048576
 run_row 0 $'1 1 HIT 1 5 68656c6c6f\n' '' '1 get http://a/b' great 512 1 1
-run_row 8 '' 'rock: BadGeometry field=2: the number of anchors 1048577 is not from 1 to the number of slots of great' '' \
-    great 512 1048577 1
+run_row 8 '' \
+    "rock: BadGeometry field=2: the number of anchors 1048577 $anchor_limits great; rock check great 512 $counted" \
+    '' great 512 1048577 1
 (
     failed=0
     ulimit -v 65536
@@ -771,23 +791,22 @@ row 2 '' "rock: Usage: $usage" bench new 18446744073709551616 1 10
 row 2 '' "rock: Usage: $usage" bench new 7 4294967296 10
 row 2 '' "rock: Usage: $usage" bench new 7 1 4294967296
 for name in new one; do
-    row 8 '' 'rock: BadGeometry field=3: the number of workers 0 is not from 1 to 32' bench $name 7 0 10001
-    row 8 '' 'rock: BadGeometry field=3: the number of workers 33 is not from 1 to 32' bench $name 7 33 10
-    row 8 '' 'rock: BadGeometry field=3: the number of workers 4294967295 is not from 1 to 32' \
-        bench $name 7 4294967295 10
-    row 8 '' 'rock: BadGeometry field=4: the number of rounds 10001 is above 10000' bench $name 7 1 10001
-    row 8 '' 'rock: BadGeometry field=4: the number of rounds 4294967295 is above 10000' bench $name 7 32 4294967295
+    row 8 '' "rock: BadGeometry field=3: the number of workers 0 $worker_limits" bench $name 7 0 10001
+    row 8 '' "rock: BadGeometry field=3: the number of workers 33 $worker_limits" bench $name 7 33 10
+    row 8 '' "rock: BadGeometry field=3: the number of workers 4294967295 $worker_limits" bench $name 7 4294967295 10
+    row 8 '' "rock: BadGeometry field=4: the number of rounds 10001 $round_limit" bench $name 7 1 10001
+    row 8 '' "rock: BadGeometry field=4: the number of rounds 4294967295 $round_limit" bench $name 7 32 4294967295
 done
-row 8 '' 'rock: BadGeometry field=4: the number of rounds 10001 is above 10000' bench none/db 7 1 10001
+row 8 '' "rock: BadGeometry field=4: the number of rounds 10001 $round_limit" bench none/db 7 1 10001
 [ ! -e new ]
 holds 'a refused benchmark makes no file' $?
-row 9 '' 'rock: Exists: there is a file one already' bench one 7 1 10
-row 9 '' 'rock: Exists: there is a file one already' bench one 7 1 0
-row 9 '' 'rock: Exists: there is a file twin already' bench twin 7 32 10000
-row 9 '' 'rock: Exists: there is a file pages already' bench pages 7 1 10
-row 9 '' 'rock: Exists: there is a file pipe already' bench pipe 7 1 10
+row 9 '' "rock: Exists: there is a file one $taken" bench one 7 1 10
+row 9 '' "rock: Exists: there is a file one $taken" bench one 7 1 0
+row 9 '' "rock: Exists: there is a file twin $taken" bench twin 7 32 10000
+row 9 '' "rock: Exists: there is a file pages $taken" bench pages 7 1 10
+row 9 '' "rock: Exists: there is a file pipe $taken" bench pipe 7 1 10
 ln -s nowhere link
-row 9 '' 'rock: Exists: there is a file link already' bench link 7 1 10
+row 9 '' "rock: Exists: there is a file link $taken" bench link 7 1 10
 [ ! -e nowhere ] && cmp -s one copy
 holds 'a benchmark of a name that is there leaves what is there' $?
 row 6 '' "rock: DeviceFault: none/db $disk" bench none/db 7 1 10
@@ -799,7 +818,7 @@ if [ "$(id -u)" -eq 0 ]; then as=(setpriv --reuid=65534 --regid=65534 --clear-gr
 if "${as[@]}" true 2>/dev/null; then
     row 6 '' "rock: DeviceFault: closed/db $disk" bench closed/db 7 1 10
     row 6 '' "rock: DeviceFault: locked/db $disk" bench locked/db 7 1 10
-    row 9 '' 'rock: Exists: there is a file secret already' bench secret 7 1 10
+    row 9 '' "rock: Exists: there is a file secret $taken" bench secret 7 1 10
     "${as[@]}" bash -c 'umask 027 && ./rock bench open/db 0 1 1' >printed 2>said </dev/null
     [ $? -eq 0 ] && [ ! -s said ] && [ "$(stat -c %a open/db)" = 640 ]
     holds 'a benchmark makes its file as the umask allows' $?
@@ -807,7 +826,7 @@ if "${as[@]}" true 2>/dev/null; then
     if [ "$(id -u)" -eq 0 ]; then
         for mode in 600 644 666; do
             rm -f open/theirs && cp copy open/theirs && chmod $mode open/theirs
-            row 9 '' 'rock: Exists: there is a file open/theirs already' bench open/theirs 7 1 10
+            row 9 '' "rock: Exists: there is a file open/theirs $taken" bench open/theirs 7 1 10
             cmp -s copy open/theirs
             holds "a benchmark leaves a file of another user with mode $mode as it was" $?
         done
@@ -878,7 +897,7 @@ if [ -e /dev/full ]; then
     ./rock bench new 7 1 200 2>said >/dev/full </dev/null
     [ $? -eq 5 ] && [ "$(cat said)" = "$output" ]
     holds 'a full output is a fault of the sink for a benchmark' $?
-    row 9 '' 'rock: Exists: there is a file new already' bench new 7 1 200
+    row 9 '' "rock: Exists: there is a file new $taken" bench new 7 1 200
     same_as_whole 'a benchmark with a full output'
     both_out() { ./rock "$@" >/dev/full 2>&-; }
     ends 'a closed standard error leaves the status of a benchmark with a full output' 5 both_out bench new 7 1 200
@@ -896,16 +915,7 @@ ends 'a closed standard error leaves the status of a benchmark of too many round
 
 # A benchmark that is killed while it stores printed nothing. What is listed then are responses of its script, and a run
 # finds them whole: each body is letters in their order, round. The name is taken.
-./rock bench half 7 32 10000 >printed 2>said </dev/null &
-run=$!
-for _ in $(seq 1000); do
-    sleep 0.01
-    [ "$(./rock list half 512 2>/dev/null | head -n 2 | wc -l)" -eq 2 ] && break
-done
-kill -9 "$run"
-wait "$run" 2>ended
-[ $? -eq 137 ] && [ ! -s printed ] && [ ! -s said ]
-holds 'a benchmark that is killed ends with 137, printed nothing and said nothing' $?
+killed 'a benchmark' /dev/null bench half 7 32 10000
 [ "$(stat -c %s half)" -eq 1064960 ] && listed_of_bench half 32 320000 && [ -s listed ]
 holds 'a benchmark that was killed left responses of its script' $?
 checked_of_bench half 32 320000
@@ -924,7 +934,7 @@ paste -d ' ' gets got | awk -v letters="$(made 0 26)" '
     { for (i = 1; i < 2 * $8 - 1; i += 2) if (substr($9, i + 2, 2) != follows[substr($9, i, 2)]) wrong = 1 }
     END { exit wrong || !hits }' listed -
 holds 'what a killed benchmark left is served whole' $?
-row 9 '' 'rock: Exists: there is a file half already' bench half 7 32 10000
+row 9 '' "rock: Exists: there is a file half $taken" bench half 7 32 10000
 
 # Help: on standard output where it is asked for, behind the line on standard error after a faulty line, and
 # the same whatever the terminal.

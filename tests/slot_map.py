@@ -174,6 +174,15 @@ def middles(group):
     return " ".join(f"{cell['x'] + cell['width'] // 2},{cell['y'] + cell['height'] // 2}" for cell in cells)
 
 
+def long_name(folder):
+    """Of a name that is too long for the width of a map its end is drawn."""
+    name = f"{folder}/{'/'.join(['long'] * 20)}/db"
+    os.makedirs(os.path.dirname(name))
+    write_file(name, 1, {})
+    drawn = told(compare(name, 1, "slots=1 kept=0 used=0 free=1 version=0", 0, [0, 0, 0, 1]), "name")
+    holds(f"the end of a long name: {drawn}", drawn == "Slots of ..." + name[-77:])
+
+
 def nearly_entries(folder):
     """Slot 0 is an entry with items of a foreign type. All others are damaged, each entry in one way."""
     name, key, url = f"{folder}/nearly", item(3, key_of(B)), item(4, B + b"\0")
@@ -312,6 +321,7 @@ def main():
     with tempfile.TemporaryDirectory() as folder:
         one_entry()
         chains_and_damage(folder)
+        long_name(folder)
         nearly_entries(folder)
         many_slots(folder)
         greatest_file(folder)

@@ -257,6 +257,7 @@ class Map:
 STEP, CELL = 14, 12
 LEFT, TOP, LINE = 70, 196, 20
 LEAST_WIDTH = 800
+MOST_LETTERS = 80
 STYLE = """
 .entry circle, .entry polyline { pointer-events: none }
 .entry:hover rect { stroke: #000; stroke-width: 2 }
@@ -406,8 +407,8 @@ def average(counts):
 
 def draw_legend(drawn, run):
     """The numbers of the file, and what the colours mean."""
-    yield text(LEFT, 26, f"Slots of {readable(drawn.name)}", ' font-weight="bold"')
-    scale = "one cell a slot, one colour an entry, a dot on its first slot"
+    yield text(LEFT, 26, f"Slots of {shortened(readable(drawn.name))}", ' font-weight="bold" id="name"')
+    scale = "one cell a slot, one colour an entry, pale where it is not kept, a dot on its first slot"
     if run > 1:
         scale = f"one cell for {run} slots, in the average of their colours, with a dark border where one is damaged"
     yield text(LEFT, 46, f"slot size {drawn.slot}, anchors {drawn.anchors}; {scale}")
@@ -422,6 +423,11 @@ def draw_legend(drawn, run):
 def readable(content):
     """A text without what may not stand in a line or in XML."""
     return "".join(letter if letter.isprintable() else "?" for letter in content)
+
+
+def shortened(name):
+    """A name, without its front where it is too long for the least width."""
+    return name if len(name) <= MOST_LETTERS else "..." + name[3 - MOST_LETTERS :]
 
 
 def draw(drawn):

@@ -26,12 +26,14 @@ impl Asked<'static> {
     };
 }
 
+/// The line on standard error: the status with its numbers, and its sentence.
+pub fn line_of(alloc: Global, status: &Status, asked: &Asked<'_>) -> Result<String, AllocError> {
+    let text = explanation(alloc, status, asked)?;
+    format!(in alloc; "rock: {status}: {text}")
+}
+
 /// A sentence for people on what happened to a command, and what to do.
-pub fn explanation(
-    alloc: Global,
-    status: &Status,
-    asked: &Asked<'_>,
-) -> Result<String, AllocError> {
+fn explanation(alloc: Global, status: &Status, asked: &Asked<'_>) -> Result<String, AllocError> {
     let name = asked.name;
     match status {
         Status::Done => format!(in alloc; "all was printed"),
@@ -39,39 +41,54 @@ pub fn explanation(
             "this is no command line; rock --help prints the lines that are"
         ),
         Status::Memory => format!(in alloc; "memory ran out; free some and try again"),
-        Status::SourceFault => format!(in alloc; "standard input could not be read"),
-        Status::SinkFault => format!(in alloc; "standard output did not take all of the answer"),
+        Status::SourceFault => format!(in alloc;
+            "standard input could not be read; see whether it is open, and no folder"
+        ),
+        Status::SinkFault => format!(in alloc;
+            "standard output did not take all of the answer; do not use what was printed"
+        ),
         Status::DeviceFault => format!(in alloc;
             "{name} could not be read, written or made; look at its disk and its permissions"
         ),
         Status::BadScript { line, cause } => format!(in alloc;
-            "line {line} of the script is wrong: {}",
+            "line {line} of the script is wrong: {}; mend this line, or take it out",
             wrong_with_line(*cause)
         ),
-        Status::Missing => format!(in alloc; "there is no file {name}"),
-        Status::Small { .. } => {
-            format!(in alloc; "{name} is shorter than the header area and one slot")
-        }
-        Status::BadGeometry { field: 2 } => format!(in alloc;
-            "the number of anchors {} is not from 1 to the number of slots of {name}",
-            asked.count
+        Status::Missing => format!(in alloc;
+            "there is no file {name}; look at the name, or make the file with rock create"
         ),
-        Status::BadGeometry { field: 3 } => format!(in alloc;
-            "the number of workers {} is not from 1 to 32",
+        Status::Small { .. } => format!(in alloc;
+            "{name} is shorter than the header area and one slot; name a whole file, or make one with rock create"
+        ),
+        Status::BadGeometry { field } => outside_limits(alloc, *field, asked),
+        Status::Exists => format!(in alloc;
+            "there is a file {name} already; choose another name, Rock writes over no file"
+        ),
+    }
+}
+
+/// The sentence of a number that is outside its limits, by the number of its field.
+fn outside_limits(alloc: Global, field: u8, asked: &Asked<'_>) -> Result<String, AllocError> {
+    let (name, slot, count) = (asked.name, asked.slot, asked.count);
+    match field {
+        2 => format!(in alloc;
+            "the number of anchors {count} is not from 1 to the number of slots of {name}; rock check {name} {slot} 1 prints how many slots there are"
+        ),
+        3 => format!(in alloc;
+            "the number of workers {} is not from 1 to 32; give one that is, for a script as many as it names",
             asked.workers
         ),
-        Status::BadGeometry { field: 4 } => match asked.rounds {
-            Some(rounds) => format!(in alloc; "the number of rounds {rounds} is above 10000"),
+        4 => match asked.rounds {
+            Some(rounds) => format!(in alloc;
+                "the number of rounds {rounds} is above 10000; take fewer rounds"
+            ),
             None => format!(in alloc;
-                "the number of slots {} is not from 1 to 1048576",
-                asked.count
+                "the number of slots {count} is not from 1 to 1048576; give one that is, for a larger store with larger slots"
             ),
         },
-        Status::BadGeometry { .. } => format!(in alloc;
-            "the slot size {} is no multiple of 512 from 512 to 32768",
-            asked.slot
+        _ => format!(in alloc;
+            "the slot size {slot} is no multiple of 512 from 512 to 32768; give one that is, for a file that is there the one that it was made with"
         ),
-        Status::Exists => format!(in alloc; "there is a file {name} already"),
     }
 }
 

@@ -20,7 +20,7 @@ ghost use Rattle.bench_command.specs.Ends.{BenchEnds, BenchSays, IsBenchRefused}
 ghost use Rattle.bench_command.specs.Leaves.{BenchLeaves};
 ghost use Rattle.bench_command.specs.Prints.{IsBenchText};
 
-use crate::message::{Asked, explanation};
+use crate::message::{Asked, line_of};
 use rock_commands::rock;
 use rock_disk::Volume;
 use rock_help::help_text;
@@ -136,15 +136,15 @@ fn word_at(words: &Words, place: usize) -> &str {
     }
 }
 
-/// Says on standard error what went wrong, after Usage also what would have been right, and gives the
-/// status's code. Where memory is wanting, the sentence or the help text is left out, and where standard
+/// Says on standard error what went wrong and what to do, after Usage also what would have been right, and
+/// gives the status's code. Where memory is wanting, the sentence or the help text is left out, and where standard
 /// error takes nothing, nothing is said: the code is the same.
 pub fn end<R: Eprint>(rt: &R, alloc: Global, status: &Status, asked: &Asked<'_>) -> ExitCode
     ensures { exit_status result ≡ code_of status.now }
 {
     if *status != Status::Done {
-        let _ = match explanation(alloc, status, asked) {
-            Ok(text) => eprintln!(rt; "rock: {status}: {text}"),
+        let _ = match line_of(alloc, status, asked) {
+            Ok(line) => eprintln!(rt; "{line}"),
             Err(AllocError) => eprintln!(rt; "rock: {status}"),
         };
     }
