@@ -10,7 +10,7 @@ use Rattle.store_rule.specs.Ground.{Ground}
 use Rattle.line_account.specs.Answers.{Run}
 use Rattle.line_account.specs.Printed.{HadEntry, old_offer}
 use Rattle.opened_runs.specs.Openings.{HadKept, HadNone, IsOldEntry}
-use Rattle.line_records.specs.Runs.{Past, run_of}
+use Rattle.crew_accounts.specs.Runs.{Past, run_of}
 
 -- where a is below b the first of two is taken
 first_taken : (a b : ℕ) (x y : List ℕ) → a < b → cond (nat_lt a b) x y ≡ x

@@ -12,7 +12,7 @@ use Rattle.store_rule.specs.Ground.{Ground}
 use Rattle.store_rule.specs.Rebuilding.{chain_kept}
 use Rattle.rock_reader.specs.Responses.{HoldsFile, IsOpened}
 use Rattle.opened_runs.specs.Openings.{HadKept, HadNone}
-use Rattle.line_records.specs.Runs.{Past}
+use Rattle.crew_accounts.specs.Runs.{Past}
 use Rattle.opened_runs.proofs.AtAnchors.{OneKept, among}
 use Rattle.opened_runs.proofs.Begun.{AreApart, begun, begun_at}
 

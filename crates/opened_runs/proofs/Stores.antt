@@ -12,7 +12,7 @@ use Rattle.store_rule.specs.Ground.{Ground, Offers}
 use Rattle.store_rule.specs.Passes.{basis}
 use Rattle.store_rule.specs.Setting.{shown}
 use Rattle.rock_open.specs.Opening.{IsStoreOver}
-use Rattle.line_records.specs.Runs.{IsTold, Past, run_of}
+use Rattle.crew_accounts.specs.Runs.{IsTold, Past, run_of}
 use Rattle.opened_runs.specs.Openings.{HadKept, HadNone, HasPast, IsOldEntry, OpenedAsKept}
 use Rattle.opened_runs.proofs.AtAnchors.{OneKept, had}
 use Rattle.opened_runs.proofs.OldEntries.{old_entry}

@@ -17,7 +17,7 @@ use Rattle.store_rule.specs.declared.store.Store.{Store}
 use Rattle.store_rule.specs.Ground.{Ground, Offers}
 use Rattle.store_rule.specs.Passes.{basis}
 use Rattle.store_rule.specs.Rebuilding.{IsRebuildOf}
-use Rattle.line_records.specs.Runs.{IsTold, Past, run_of}
+use Rattle.crew_accounts.specs.Runs.{IsTold, Past, run_of}
 
 -- A rebuild of a file with these images and so many anchors keeps an entry at the anchor a, and the anchor had it at the opening: it was closed
 -- with the version of the entry, and not doomed; beside it stood the first slot as its offer, and the halves of the key; and it had the slots.

@@ -14,8 +14,8 @@ use Rattle.plain_model.specs.declared.entry.Life.TheVariants.{GivenUp, Growing, 
 use Rattle.plain_model.specs.Store.{available, meta_size, published}
 use Rattle.store_rule.specs.Ground.{Ground, cut_of}
 use Rattle.rock_reader.specs.Responses.{IsOffered, body_below, pieces_of}
-use Rattle.line_records.proofs.GivenBytes.{IsFromFront}
-use Rattle.line_records.proofs.BodyLengths.{full_below, pieces_are}
+use Rattle.crew_accounts.proofs.GivenBytes.{IsFromFront}
+use Rattle.crew_accounts.proofs.BodyLengths.{full_below, pieces_are}
 use Rattle.plain_lines.specs.Words.{IsOfOffer, slots_published}
 
 -- a front of a list is so many of its items

@@ -35,8 +35,8 @@ use Rattle.slice_chain.specs.Names.{KeyLoaded}
 use Rattle.rock_reader.specs.Opening.{opened}
 use Rattle.rock_reader.proofs.Coming.{came_tabs, entered_else, entered_readable}
 use Rattle.worker_shelf.specs.Typed.{TellsKey}
-use Rattle.line_records.proofs.Loading.{keyed_reads, still_reads}
-use Rattle.line_records.proofs.OneKey.{one_key}
+use Rattle.crew_accounts.proofs.Loading.{keyed_reads, still_reads}
+use Rattle.crew_accounts.proofs.OneKey.{one_key}
 use Rattle.plain_lines.specs.Words.{IsLone, Knows, ShowsAt, ShowsEntry, ShowsEntryIf, no_guests, setting_of}
 use Rattle.plain_lines.proofs.AnchorWords.{enter_knows}
 use Rattle.plain_lines.proofs.Frames.{knows_same}

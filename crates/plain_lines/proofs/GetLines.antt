@@ -34,7 +34,7 @@ use Rattle.serve_lines.specs.Answers.{AnswersGet, AnswersMore, AnswersWhole, is_
 use Rattle.serve_lines.specs.Tabs.{IsFree}
 use Rattle.serve_lines.specs.Whole.{Gets, whole_tab}
 use Rattle.worker_shelf.specs.Typed.{IsTyped}
-use Rattle.line_records.proofs.GivenBytes.{IsFromFront}
+use Rattle.crew_accounts.proofs.GivenBytes.{IsFromFront}
 use Rattle.plain_lines.specs.Shows.{Shows, ShowsTab}
 use Rattle.plain_lines.specs.Words.{IsLone, setting_of}
 use Rattle.plain_lines.proofs.InnerTabs.{went_inner}

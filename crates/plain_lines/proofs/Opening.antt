@@ -41,7 +41,7 @@ use Rattle.serve_lines.specs.Answers.{answer_to_open, is_fault}
 use Rattle.serve_lines.specs.Reading.{Closes, Opens, ReadsOn}
 use Rattle.serve_lines.specs.Tabs.{IsFree}
 use Rattle.worker_shelf.specs.Typed.{IsTyped, TellsKey}
-use Rattle.line_records.proofs.GivenBytes.{IsFromFront}
+use Rattle.crew_accounts.proofs.GivenBytes.{IsFromFront}
 use Rattle.plain_lines.specs.Shows.{Shows, ShowsReading, ShowsTab}
 use Rattle.plain_lines.specs.Words.{IsLone, Knows, no_guests, setting_of}
 use Rattle.plain_lines.proofs.AnchorWords.{closed_knows, opened_knows}

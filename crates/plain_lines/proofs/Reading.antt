@@ -58,9 +58,9 @@ use Rattle.rock_reader.specs.declared.answer.More.TheVariants as more_answer
 use Rattle.rock_reader.proofs.LookedTab.{at_slot, middle_tab}
 use Rattle.store_serve.specs.Following.{Given, Gives, WentOn}
 use Rattle.serve_lines.specs.Answers.{AnswersMore, is_fault}
-use Rattle.line_records.proofs.GivenBytes.{IsFromFront}
-use Rattle.line_records.proofs.ReadingOn.{IsSameEntry, ReadOn, gives_on}
-use Rattle.line_records.proofs.WaitsAt.{waits_some}
+use Rattle.crew_accounts.proofs.GivenBytes.{IsFromFront}
+use Rattle.crew_accounts.proofs.ReadingOn.{IsSameEntry, ReadOn, gives_on}
+use Rattle.crew_accounts.proofs.WaitsAt.{waits_some}
 use Rattle.plain_lines.specs.Shows.{ShowsReading, ShowsTab}
 use Rattle.plain_lines.specs.Words.{IsLone, IsOfOffer, Knows, ShowsEntry, ShowsEntryIf, no_guests, setting_of, slots_published}
 use Rattle.plain_lines.proofs.AnchorWords.{read_knows}

@@ -27,7 +27,7 @@ use Rattle.serve_lines.specs.Whole.{whole_tab}
 use Rattle.worker_shelf.proofs.Holding.{Stays}
 use Rattle.worker_shelf.specs.Shelves.{LeavesFree, LeavesReader, LeavesWriter, LeftTab}
 use Rattle.worker_shelf.specs.Typed.{IsTyped}
-use Rattle.line_records.proofs.GivenBytes.{IsFromFront}
+use Rattle.crew_accounts.proofs.GivenBytes.{IsFromFront}
 use Rattle.plain_lines.specs.Shows.{Shows, ShowsTab}
 use Rattle.plain_lines.specs.Words.{IsLone, setting_of}
 use Rattle.plain_lines.proofs.BeginLines.{begins_as}

@@ -22,12 +22,12 @@ ghost use Rattle.rock_reader.specs.Responses.{IsResponse};
 ghost use Rattle.worker_pool.specs.Courses.{At};
 ghost use Rattle.worker_pool.specs.Running.{Account};
 ghost use Rattle.worker_shelf.specs.Shelves.{OnShelf};
-ghost use Rattle.crew_closings.specs.Playing.{HasRun};
+ghost use Rattle.crew_accounts.specs.Playing.{HasRun};
 ghost use Rattle.plain_lines.specs.Words.{IsLone, setting_of};
 ghost use Rattle.plain_runs.specs.Ends.{SpellsResponse};
 ghost use Rattle.plain_runs.specs.Runs.{IsPlainRun, Numbered, ShowsPlain};
 
-use crew_closings::faults_are_counted;
+use crew_accounts::faults_are_counted;
 use entry_cut::placed_pieces_are_an_entry;
 use rebuild_model::{one_entry_at_a_slot, one_winner_at_an_anchor};
 use rock_disk::{Cell, Station};

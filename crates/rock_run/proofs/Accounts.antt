@@ -16,8 +16,8 @@ use Rattle.worker_pool.specs.Courses.{Awaited, IsServed, Meeting, Noting, StepOf
 use Rattle.worker_pool.specs.Running.{Account, IsWhole}
 use Rattle.serve_lines.specs.Serving.{Takes}
 use Rattle.worker_shelf.specs.Shelves.{Learned, Left, Noted, OnShelf, Went}
-use Rattle.shelf_courses.specs.Courses.{Meets, Notes, StepOn}
-use Rattle.crew_closings.specs.Playing.{IsPlayed}
+use Rattle.crew_accounts.specs.Courses.{Meets, Notes, StepOn}
+use Rattle.crew_accounts.specs.Playing.{IsPlayed}
 
 module _ {C O St N : Type 0} (tells : Bool) (state : C → CellState) (offers : O → Offers) (faults : St → ℕ) (g : Ghosts (OnShelf C O St) N) (note_of : N → Note C)
     (went : (b : OnShelf C O St) (line : Line) (a : Answer) (c : OnShelf C O St) → g.went b line a c → Went tells state offers faults b line a c)

@@ -19,7 +19,7 @@ use Rattle.rock_open.specs.Opening.{OpensStore}
 use Rattle.worker_pool.specs.Courses.{At}
 use Rattle.worker_pool.specs.Running.{Account, answers_of}
 use Rattle.worker_shelf.specs.Shelves.{OnShelf}
-use Rattle.crew_closings.specs.Playing.{IsPlayed, TellsAtMarks}
+use Rattle.crew_accounts.specs.Playing.{IsPlayed, TellsAtMarks}
 use Rattle.script_origin.specs.Offered.{offers_of}
 use Rattle.rock_run.specs.Device.{HasEnded}
 

@@ -32,7 +32,7 @@ use Rattle.worker_pool.specs.Running.{Account, answers_of as account_answers}
 use Rattle.worker_shelf.specs.Shelves.{OnShelf}
 use Rattle.plain_runs.specs.Ends.{HoldsWhole}
 use Rattle.plain_runs.specs.Runs.{IsPlainRun, setting_over}
-use Rattle.crew_closings.specs.Playing.{HasRun as HasPlayed}
+use Rattle.crew_accounts.specs.Playing.{HasRun as HasPlayed}
 use Rattle.rock_run.specs.Runs.{HasRun}
 use Rattle.run_rules.specs.Plain.{EndedPlainly, IsAnsweredPlainly, NoneFailedServing, numbered}
 use Rattle.run_rules.proofs.Lists.{both}

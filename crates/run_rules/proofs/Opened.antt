@@ -23,13 +23,13 @@ use Rattle.store_rule.specs.Closing.{Closed}
 use Rattle.store_rule.specs.Ground.{Ground}
 use Rattle.store_rule.specs.Passes.{basis, view}
 use Rattle.rock_open.specs.Device.{Counts}
-use Rattle.line_records.specs.Runs.{IsTold, Past, run_of}
+use Rattle.crew_accounts.specs.Runs.{IsTold, Past, run_of}
 use Rattle.opened_runs.specs.Openings.{HadKept, HadNone, HasPast, OpenedAsKept}
 use Rattle.script_origin.specs.Offered.{offers_of}
 use Rattle.worker_pool.specs.Running.{Account}
 use Rattle.worker_shelf.specs.Shelves.{OnShelf}
-use Rattle.crew_closings.specs.Closings.{HasClosing, crew_of, worker_of}
-use Rattle.crew_closings.specs.Playing.{HasRun as HasPlayed, HasSteps, fault_answers}
+use Rattle.crew_accounts.specs.Closings.{HasClosing, crew_of, worker_of}
+use Rattle.crew_accounts.specs.Playing.{HasRun as HasPlayed, HasSteps, fault_answers}
 use Rattle.rock_run.specs.Runs.{HasRun}
 use Rattle.run_rules.specs.Openings.{BeganWithFile}
 use Rattle.run_rules.specs.Runs.{IsExplained}

@@ -1,0 +1,57 @@
+pub mod Telling
+pub mod DeedLines
+pub mod TabLines
+pub mod Shown
+pub mod Tracking
+pub mod CallDeeds
+pub mod Halting
+pub mod Running
+pub mod ReadNames
+pub mod OneKey
+pub mod OtherUrls
+pub mod TooLarge
+pub mod OpenedLengths
+pub mod Fitting
+pub mod TurningAway
+pub mod WriterLines
+pub mod Dropping
+pub mod Closing
+pub mod Causes
+pub mod Loading
+pub mod Refusing
+pub mod Coming
+pub mod Purging
+pub mod Readers
+pub mod Beginning
+pub mod Offering
+pub mod NotBegun
+pub mod BeginLines
+pub mod GivingUp
+pub mod AddLines
+pub mod Ended
+pub mod EndLines
+pub mod PutLines
+pub mod Opened
+pub mod OpenLines
+pub mod ReadingOn
+pub mod MoreLines
+pub mod GetLines
+pub mod LeavingTabs
+pub mod MarkLines
+pub mod Starting
+pub mod AnyLine
+pub mod Waiting
+pub mod BodyLengths
+pub mod GivenBytes
+pub mod WaitsAt
+mod Steps
+mod Going
+mod CrewLists
+mod Pieces
+mod Counting
+mod ScriptLines
+mod Halted
+mod MarksMet
+mod Faults
+mod Taking
+mod Crews

@@ -1,0 +1,306 @@
+-- A line that reads on, on a tab.
+use Rattle.std.proofs.Common.{Bool, Contains, List, None, Some, [], ap, arith, cond, eq-eqb, false, inl, inr, refl, subst, sym, true, ⊎_elim, ◌++◌, ◌<◌, ◌∙◌, ◌∷◌, ◌≡◌, ◌≤◌, ◌⊎◌, ℕ}
+use Rattle.std.specs.Prelude.{IsTrue}
+use Rattle.std.proofs.lemmas.List.{append-nil}
+use Rattle.lock_word.specs.Words.{epoch_number, stage_number, stage_of, version_of}
+use Rattle.lock_word.specs.declared.epoch.Epoch.{Epoch}
+use Rattle.lock_word.specs.declared.stage.Stage.{Stage}
+use Rattle.lock_word.proofs.Parts.{stage_of-epoch_number, version_of-epoch_number}
+use Rattle.rock_disk.specs.Cell.{CellState}
+use Rattle.script_text.specs.declared.answer.Answer.{Answer}
+use Rattle.script_text.specs.declared.answer.Answer.TheVariants as answer
+use Rattle.script_text.specs.declared.line.Line.{Line}
+use Rattle.store_key.specs.Key.{key_of}
+use Rattle.store_key.specs.Url.{IsUrl}
+use Rattle.entry_cut.specs.Content.{count}
+use Rattle.core_model.specs.Anchors.{opening_counter}
+use Rattle.core_model.specs.declared.view.Sight.TheVariants.{Published, Stood}
+use Rattle.script_text.specs.declared.request.Request.TheVariants.{More as MoreOf}
+use Rattle.line_account.specs.Accounts.{epochs_of}
+use Rattle.line_account.specs.Answers.{ComesIn, HasGiven, HasOther, HasPart, IsSure, IsWhole, Run}
+use Rattle.line_account.specs.Courses.{Keeps}
+use Rattle.line_account.specs.Deeds.{Began}
+use Rattle.line_account.specs.Lines.{Served, bytes_given, bytes_in, reading, url_named}
+use Rattle.line_account.specs.Requests.{IsAnswerTo}
+use Rattle.store_rule.specs.declared.store.Pass.{Pass}
+use Rattle.store_rule.specs.declared.store.Store.{Store}
+use Rattle.store_rule.specs.Ground.{Ground, Offers, anchor_for, cut_of}
+use Rattle.store_rule.specs.Passes.{basis, view}
+use Rattle.pass_calls.specs.Calls.{IsFresh}
+use Rattle.rock_reader.specs.Reading.{ReadsAs, Standing, StaysOther, TurnsOut, turned}
+use Rattle.rock_reader.specs.Responses.{body_below, pieces_of}
+use Rattle.rock_reader.specs.declared.answer.More.{More}
+use Rattle.rock_reader.specs.declared.answer.More.TheVariants as more
+use Rattle.store_serve.specs.Following.{WentOn}
+use Rattle.call_records.specs.Deeds.{NoDeed}
+use Rattle.call_records.proofs.Grown.{same}
+use Rattle.call_records.proofs.ServingDeeds as serving
+use Rattle.call_records.proofs.Readers.{gave}
+use Rattle.serve_lines.specs.Answers.{AnswersMore}
+use Rattle.serve_lines.specs.Reading.{ReadsMore, ReadsOn}
+use Rattle.serve_lines.specs.Tabs.{IsTurnedAway, Leaves}
+use Rattle.serve_lines.specs.Whole.{whole_tab}
+use Rattle.crew_accounts.specs.Lines.{AddsLine, served_as}
+use Rattle.crew_accounts.specs.Runs.{IsTold, Past, run_of}
+use Rattle.crew_accounts.specs.Tracks.{IsOtherUrl, IsReader, Tracks}
+use Rattle.crew_accounts.proofs.CallDeeds.{adds_by}
+use Rattle.crew_accounts.proofs.Fitting.{on_reader, reader_fits}
+use Rattle.crew_accounts.proofs.GivenBytes.{IsFromFront, given_of, gives_bytes, part_of}
+use Rattle.crew_accounts.proofs.OtherUrls.{entry_key, other_on, other_url}
+use Rattle.crew_accounts.proofs.ReadingOn.{HasSeen, IsSameEntry, ReadOn, gives_on, tried_seen}
+use Rattle.crew_accounts.proofs.Shown.{ShowsFresh, fresh_from, shows_none, shows_one}
+use Rattle.crew_accounts.proofs.TabLines.{elsewhere}
+use Rattle.crew_accounts.proofs.Telling.{ToTell, plain, tells_by}
+use Rattle.crew_accounts.proofs.Tracking.{entry_moved, entry_on, tracks_on_tab}
+use Rattle.crew_accounts.proofs.TurningAway.{away_adds}
+use Rattle.crew_accounts.proofs.Waiting.{grown_version}
+use Rattle.crew_accounts.proofs.WaitsAt.{waits_more, waits_some}
+
+pub at_stage : (e : Epoch) (stage : Stage) → e.stage ≡ stage → stage_of (epoch_number e) ≡ stage_number stage
+at_stage e stage is = stage_of-epoch_number e ∙ ap stage_number is
+
+module _ {C O : Type 0} (tells : Bool) (state : C → CellState) (offers : O → Offers) (s : Store C O) (t : ℕ) where
+  -- where the tab is once reading on ended, and what its pass has seen
+  pub record EndedAt (f : Standing) (m q : Pass C) : Type 0 where
+    pub last : Standing
+    pub entry : IsSameEntry f last
+    pub reads : ReadsAs tells state offers s q t last
+    pub seen : HasSeen tells state offers s t f m → HasSeen tells state offers s t last q
+
+  abbrev pub itself : (f : Standing) → IsSameEntry f f
+  itself f = record { anchor = refl; version = refl; offer = refl; url = refl }
+
+  -- it stays
+  abbrev pub stays_at : (f : Standing) (m q : Pass C) → ReadsAs tells state offers s q t f → Keeps (view m) (view q) → EndedAt f m q
+  stays_at f m q reads keeps = record { last = f; entry = itself f; reads = reads; seen = λ so some. keeps.seen _ (so some) }
+
+  abbrev pub still_at : (f : Standing) (m q : Pass C) → ReadsAs tells state offers s m t f → q ≡ m → EndedAt f m q
+  still_at f m q reads is = stays_at f m q (subst (λ (z : Pass C). ReadsAs tells state offers s z t f) (sym is) reads) (same (ap view is))
+
+  -- or it has turned from the entry
+  abbrev pub turned_out : (f : Standing) (m q : Pass C) (before after : List ℕ) → ReadsAs tells state offers s m t f → TurnsOut tells state offers s t m f before after q → EndedAt f m q
+  turned_out f m q before after reads k = record {
+    last = turned f;
+    entry = record { anchor = refl; version = refl; offer = refl; url = refl };
+    reads = k.reads;
+    seen = λ so some. tried_seen tells state offers s t f m q before after true reads k.tried;
+  }
+
+pub same_part : (e f : Epoch) (xs ys : List ℕ) → answer.Part e xs ≡ answer.Part f ys → e ≡ f
+same_part e f xs ys h = cc
+
+pub one_bool : (b : Bool) → b ≡ true → b ≡ false → ⊥
+one_bool b e f = let z : true ≡ false = sym e ∙ f in cc
+
+module _ {C O : Type 0} (tells : Bool) (state : C → CellState) (offers : O → Offers) (s : Store C O) (told : Bool) (past : Past) (served : List Served) (worker number t : ℕ) (p q : Pass C) (below : t < whole_tab) (from : IsFromFront)
+    (told_so : IsTrue told → IsTold (basis tells state offers s) told past tells) where
+  abbrev g : Ground (List ℕ)
+  g = basis tells state offers s
+
+  abbrev r : Run (List ℕ)
+  r = run_of (basis tells state offers s) told past
+
+  abbrev line : Line
+  line = record { worker = worker; number = number; request = MoreOf t }
+
+  module _ (tracks : Tracks tells state offers s told past served p) (leaves : Leaves tells state offers s t p q) (h : IsReader tells state offers s told past served p t) (why : More) (bytes : List ℕ)
+      (went : WentOn tells state offers s t h.standing p q bytes why) where
+    so : ReadOn tells state offers s t h.standing p went.standing went.middle
+    so = gives_on tells state offers s t h.standing p went.calls went.standing went.middle bytes h.is went.gives
+
+    -- the tab is as the lines say with this one, which gave these bytes
+    abbrev reader_at : (a : Answer) (looked : ℕ) (at : EndedAt tells state offers s t went.standing went.middle q)
+        → (IsTrue told → at.last.is_other ≡ false → bytes_given t (served_as line a None 0 looked ∷ served) ≡ body_below g at.last.anchor at.last.offer at.last.place)
+        → (IsTrue told → at.last.is_other ≡ true → bytes_given t (served_as line a None 0 looked ∷ served) ≡ []) → (IsTrue told → at.last.is_other ≡ true → IsOtherUrl r at.last)
+        → IsReader tells state offers s told past (served_as line a None 0 looked ∷ served) q t
+    reader_at a looked at given none other =
+        let last = at.last in
+        let anchor : last.anchor ≡ h.standing.anchor = at.entry.anchor ∙ so.entry.anchor in
+        let version : last.version ≡ h.standing.version = at.entry.version ∙ so.entry.version in
+        let url : last.url ≡ h.standing.url = at.entry.url ∙ so.entry.url in
+        let offer : last.offer ≡ h.standing.offer = at.entry.offer ∙ so.entry.offer in
+        let entry = entry_on r (view p) (view q) h.standing.anchor h.first.opened h.standing.url leaves.keeps h.entry in
+        let moved = entry_moved r (view q) h.standing.anchor last.anchor h.first.opened h.standing.url last.url (sym anchor) (sym url) entry.0 in
+        record {
+          writes = h.writes;
+          first = h.first;
+          reads = h.reads;
+          standing = last;
+          is = at.reads;
+          named = h.named ∙ ap Some (sym url);
+          anchor = anchor ∙ h.anchor ∙ ap (anchor_for g) (sym url);
+          version = h.version ∙ sym version;
+          entry = moved.0;
+          offer = moved.1 ∙ entry.1 ∙ h.offer ∙ sym offer;
+          new = λ high. subst (λ (n : ℕ). g.setting.slots ≤ n) (sym offer) (h.new (subst (λ (n : ℕ). opening_counter g.setting < n) version high));
+          given = given;
+          none = none;
+          other = other;
+          shown = at.seen (so.seen h.shown);
+        }
+
+    -- the line adds what it should, whatever it tells
+    add_it : (a : Answer) (looked : ℕ) → ShowsFresh r.setting.anchors (view p) (view q) served (served_as line a None 0 looked) → IsReader tells state offers s told past (served_as line a None 0 looked ∷ served) q t
+        → ToTell r (view q) served (served_as line a None 0 looked) a
+        → (IsTrue r.tells → (e : Epoch) (bytes : List ℕ) → a ≡ answer.Part e bytes → HasPart r (view p) (view q) served (served_as line a None 0 looked) (epoch_number e))
+        → IsAnswerTo (MoreOf t) a → ((x : ℕ) → Began (MoreOf t) a x → ⊥) → ((x : ℕ) → ComesIn (MoreOf t) a x → ⊥) → (a ≡ answer.Tab → ⊥) → AddsLine tells state offers s told past served line p a q
+    add_it a looked shows reader to parts may none_begun none_opened no_tab =
+        let l = served_as line a None 0 looked in
+        record {
+          drew = None;
+          opened = 0;
+          looked = looked;
+          adds = adds_by r (view p) (view q) served l NoDeed (serving.went_on tells state offers s t went) (λ d z. absurd z) (λ b e z. (shows b e z).above)
+              (tells_by r (view q) served l to
+              (plain r (view q) served l (λ b e z. (shows b e z).seen) may refl none_begun none_opened (λ u body z. z) (reader_fits tells state offers s told past served p t a q h) no_tab))
+              parts;
+          tracks = tracks_on_tab tells state offers s told past served p q t l below leaves (λ j ne. elsewhere (MoreOf t) a j ne) (inr (inr reader)) tracks;
+        }
+
+    -- an epoch that was found behind the pieces is fresh for the line
+    found_fresh : (e : ℕ) → IsFresh went.standing.anchor e (view went.middle) (view q) → IsFresh (anchor_for g h.standing.url) e (view p) (view q)
+    found_fresh e fresh = subst (λ (b : ℕ). IsFresh b e (view p) (view q)) (so.entry.anchor ∙ h.anchor) (fresh_from so.keeps fresh)
+
+    at_url : url_named (reading t served) ≡ Some h.standing.url
+    at_url = ap url_named h.reads ∙ h.named
+
+    no_epoch : (a : Answer) → epochs_of 0 0 a ≡ [] → ShowsFresh r.setting.anchors (view p) (view q) served (served_as line a None 0 0)
+    no_epoch a none = shows_none r.setting.anchors (view p) (view q) served (served_as line a None 0 0) none
+
+    keeps_on : Keeps (view went.middle) (view q)
+    keeps_on = gave tells state offers s t went.standing went.middle went.before went.after q why went.ends
+
+    -- the bytes of an answer, behind those of before
+    with_bytes : (a : Answer) (looked : ℕ) → bytes_given t (served_as line a None 0 looked ∷ served) ≡ bytes_given t served ++ bytes_in a
+    with_bytes a looked = λ i. bytes_given t served ++ cond (eq-eqb t t refl i) (bytes_in a) []
+
+    all_bytes : IsTrue told → h.standing.is_other ≡ false → (a : Answer) (looked : ℕ) → bytes_in a ≡ bytes → bytes_given t (served_as line a None 0 looked ∷ served) ≡ body_below g went.standing.anchor went.standing.offer went.standing.place
+    all_bytes y mine a looked is = with_bytes a looked ∙ (λ i. h.given y mine i ++ is i) ∙ gives_bytes tells state offers s told past (told_so y) y t h.standing p went.calls went.standing went.middle bytes h.is went.gives
+        ∙ (λ i. body_below g (sym so.entry.anchor i) (sym so.entry.offer i) went.standing.place)
+
+    module _ (a : Answer) (looked : ℕ) (is : bytes_in a ≡ bytes) (was : went.standing.is_other ≡ false) where
+      -- it had not turned
+      mine : h.standing.is_other ≡ false
+      mine = sym so.other ∙ was
+
+      -- the tab stays at the entry, with all bytes that were given
+      abbrev stays_reader : ReadsAs tells state offers s q t went.standing → IsReader tells state offers s told past (served_as line a None 0 looked ∷ served) q t
+      stays_reader reads = reader_at a looked (stays_at tells state offers s t went.standing went.middle q reads keeps_on) (λ y z. all_bytes y mine a looked is)
+          (λ y z. absurd (one_bool went.standing.is_other z was)) (λ y z. absurd (one_bool went.standing.is_other z was))
+
+      -- and the line has given what it should
+      has_given : (reads : ReadsAs tells state offers s q t went.standing) → IsTrue told → (IsSure a → 0 < went.standing.place) → (IsWhole a → (0 < went.standing.place) × (went.standing.place ≡ pieces_of g went.standing.anchor went.standing.offer))
+          → HasGiven r (view q) served (served_as line a None 0 looked)
+      has_given reads y sure whole =
+          let reader = stays_reader reads in
+          given_of tells state offers s told past (told_so y) y t q went.standing reads was reader.new
+          (λ low. sym reader.offer ∙ reader.entry.old (let v = reader.version in omega arith)) from (view q) served (served_as line a None 0 looked) h.first h.reads reader.named reader.anchor reader.version reader.entry reader.offer
+          (all_bytes y mine a looked is) reader.shown sure whole
+
+      has_part : (reads : ReadsAs tells state offers s q t went.standing) → IsTrue told → (e : ℕ) → (IsSure a → 0 < went.standing.place) → (IsWhole a → ⊥) → version_of e ≡ went.standing.version → Contains (view q).seen (Stood went.standing.anchor e)
+          → 0 < went.standing.place → g.setting.slots ≤ went.standing.offer → went.standing.place < count (cut_of g went.standing.offer 0 0)
+          → ((n : ℕ) → Contains (view p).seen (Published went.standing.anchor went.standing.version n) → n ≤ went.standing.place) → HasPart r (view p) (view q) served (served_as line a None 0 looked) e
+      has_part reads y e sure whole version seen some high more least =
+          let reader = stays_reader reads in
+          part_of tells state offers s told past (told_so y) y t q went.standing reads was reader.new
+          (λ low. sym reader.offer ∙ reader.entry.old (let v = reader.version in omega arith)) from (view q) served (served_as line a None 0 looked) h.first h.reads reader.named reader.anchor reader.version reader.entry reader.offer
+          (all_bytes y mine a looked is) reader.shown sure (λ z. absurd (whole z)) (view p) e version seen some high more least
+
+    -- where the tab turned from the entry, or had
+    is_other_url : StaysOther tells state offers s t went.middle went.standing went.before went.after q ⊎ TurnsOut tells state offers s t went.middle went.standing went.before went.after q → IsTrue told → IsOtherUrl r went.standing
+    is_other_url (inl k) y = other_on r h.standing went.standing so.entry.offer so.entry.url (h.other y (sym so.other ∙ k.was))
+    is_other_url (inr k) y = other_url tells state offers s told past (told_so y) y t went.middle went.standing so.reads
+        (entry_key r (view went.middle) h.standing.anchor h.first.opened h.standing.url went.standing (entry_on r (view p) (view went.middle) h.standing.anchor h.first.opened h.standing.url so.keeps h.entry).0
+        (sym so.entry.anchor) (h.version ∙ sym so.entry.version) (sym so.entry.url))
+        (k.url ((told_so y).cells y) ((told_so y).file y)).1
+
+    has_other : (IsTrue told → IsOtherUrl r went.standing) → IsTrue told → HasOther r (view q) served (served_as line answer.OtherUrl None 0 0)
+    has_other its y =
+        let other = its y in
+        let entry = entry_on r (view p) (view q) h.standing.anchor h.first.opened h.standing.url leaves.keeps h.entry in
+        let moved = entry_moved r (view q) h.standing.anchor (anchor_for g h.standing.url) h.first.opened h.standing.url h.standing.url h.anchor refl entry.0 in
+        let offer : moved.0.offer ≡ went.standing.offer = moved.1 ∙ entry.1 ∙ h.offer ∙ sym so.entry.offer in
+        record {
+          first = h.first;
+          opened_is = h.reads;
+          url = h.standing.url;
+          named = h.named;
+          entry = moved.0;
+          good = subst (λ (o : ℕ). IsUrl (r.url o)) (sym offer) other.good;
+          same_key = ap (λ (o : ℕ). key_of (r.url o)) offer ∙ other.same_key ∙ ap key_of so.entry.url;
+          differs = λ z. other.differs (ap r.url (sym offer) ∙ z ∙ sym so.entry.url);
+        }
+
+    no_bytes : bytes_given t (served_as line answer.OtherUrl None 0 0 ∷ served) ≡ bytes_given t served
+    no_bytes = with_bytes answer.OtherUrl 0 ∙ append-nil (bytes_given t served)
+
+    none_before : IsTrue told → went.standing.is_other ≡ false → went.standing.place ≡ 0 → bytes_given t served ≡ []
+    none_before y was first = h.given y (sym so.other ∙ was) ∙ ap (body_below g h.standing.anchor h.standing.offer) (let z = so.onward in let w : h.standing.place ≡ 0 = omega arith in w)
+
+    turned_reader : StaysOther tells state offers s t went.middle went.standing went.before went.after q ⊎ TurnsOut tells state offers s t went.middle went.standing went.before went.after q → (IsTrue told → IsOtherUrl r went.standing)
+        → IsReader tells state offers s told past (served_as line answer.OtherUrl None 0 0 ∷ served) q t
+    turned_reader (inl k) its = reader_at answer.OtherUrl 0 (still_at tells state offers s t went.standing went.middle q so.reads k.still) (λ y z. absurd (one_bool went.standing.is_other k.was z))
+        (λ y z. no_bytes ∙ h.none y (sym so.other ∙ k.was)) (λ y z. its y)
+    turned_reader (inr k) its = reader_at answer.OtherUrl 0 (turned_out tells state offers s t went.standing went.middle q went.before went.after so.reads k) (λ y z. absurd (let w : true ≡ false = z in cc))
+        (λ y z. no_bytes ∙ none_before y k.was (k.url ((told_so y).cells y) ((told_so y).file y)).0) (λ y z. other_on r went.standing (turned went.standing) refl refl (its y))
+
+  more_read : (tracks : Tracks tells state offers s told past served p) (leaves : Leaves tells state offers s t p q) (h : IsReader tells state offers s told past served p t) (why : More) (bytes : List ℕ)
+      (went : WentOn tells state offers s t h.standing p q bytes why) (a : Answer) → AnswersMore why bytes a → AddsLine tells state offers s told past served line p a q
+  more_read tracks leaves h (more.Piece count) bytes went a is = absurd is
+  more_read tracks leaves h (more.NotYet epoch) bytes went a is =
+      let k = went.ends in
+      let l = served_as line (answer.Part epoch bytes) None 0 0 in
+      let some = waits_some tells state offers s t went.middle q went.standing went.before went.after epoch (so tracks leaves h (more.NotYet epoch) bytes went).reads k.waits in
+      let stage = at_stage epoch Stage.Appending k.grows in
+      let version : version_of (epoch_number epoch) ≡ went.standing.version = version_of-epoch_number epoch ∙ k.waits.version_is in
+      let high = subst (λ (n : ℕ). opening_counter g.setting < n) version (grown_version g (view q) went.standing.anchor (epoch_number epoch) k.waits.stays.own.stands k.waits.fresh.seen stage) in
+      let reader = stays_reader tracks leaves h (more.NotYet epoch) bytes went (answer.Part epoch bytes) 0 refl k.waits.was k.waits.stays in
+      subst (λ (z : Answer). AddsLine tells state offers s told past served line p z q) (sym is)
+      (add_it tracks leaves h (more.NotYet epoch) bytes went (answer.Part epoch bytes) 0
+      (shows_one r.setting.anchors (view p) (view q) served l h.standing.url (at_url tracks leaves h (more.NotYet epoch) bytes went) (epoch_number epoch) refl (found_fresh tracks leaves h (more.NotYet epoch) bytes went (epoch_number epoch) k.waits.fresh))
+      reader
+      (stage, (λ y. has_given tracks leaves h (more.NotYet epoch) bytes went (answer.Part epoch bytes) 0 refl k.waits.was k.waits.stays y (λ z. some) (λ z. absurd z)))
+      (λ y e gave z. part_at e gave z (has_part tracks leaves h (more.NotYet epoch) bytes went (answer.Part epoch bytes) 0 refl k.waits.was k.waits.stays y (epoch_number epoch) (λ x. some) (λ x. x) version k.waits.fresh.seen some (reader.new high)
+      (waits_more tells state offers s t went.middle q went.standing went.before went.after epoch (so tracks leaves h (more.NotYet epoch) bytes went).reads k.waits high) (λ n c. k.waits.published n (leaves.keeps.seen _ c))))
+      tt (λ x z. z) (λ x z. z) (λ z. cc))
+    where
+      part_at : (e : Epoch) (gave : List ℕ) → answer.Part epoch bytes ≡ answer.Part e gave → HasPart r (view p) (view q) served (served_as line (answer.Part epoch bytes) None 0 0) (epoch_number epoch) → HasPart r (view p) (view q) served (served_as line (answer.Part epoch bytes) None 0 0) (epoch_number e)
+      part_at e gave z part = subst (λ (f : Epoch). HasPart r (view p) (view q) served (served_as line (answer.Part epoch bytes) None 0 0) (epoch_number f)) (same_part epoch e bytes gave z) part
+  more_read tracks leaves h more.End bytes went a is =
+      let k = went.ends in
+      let reads = subst (λ (z : Pass C). ReadsAs tells state offers s z t went.standing) (sym k.still) (so tracks leaves h more.End bytes went).reads in
+      subst (λ (z : Answer). AddsLine tells state offers s told past served line p z q) (sym is)
+      (add_it tracks leaves h more.End bytes went (answer.End bytes) 0 (no_epoch tracks leaves h more.End bytes went (answer.End bytes) refl)
+      (stays_reader tracks leaves h more.End bytes went (answer.End bytes) 0 refl k.was reads)
+      (λ y. has_given tracks leaves h more.End bytes went (answer.End bytes) 0 refl k.was reads y (λ z. k.some) (λ z. (k.some, k.all)))
+      (λ y e gave z. absurd (let w : answer.End bytes ≡ answer.Part e gave = z in cc)) tt (λ x z. z) (λ x z. z) (λ z. cc))
+  more_read tracks leaves h more.Halted bytes went a is =
+      let k = went.ends in
+      let l = served_as line (answer.Halted bytes) None 0 (epoch_number k.epoch) in
+      let some = waits_some tells state offers s t went.middle q went.standing went.before went.after k.epoch (so tracks leaves h more.Halted bytes went).reads k.waits in
+      subst (λ (z : Answer). AddsLine tells state offers s told past served line p z q) (sym is)
+      (add_it tracks leaves h more.Halted bytes went (answer.Halted bytes) (epoch_number k.epoch)
+      (shows_one r.setting.anchors (view p) (view q) served l h.standing.url (at_url tracks leaves h more.Halted bytes went) (epoch_number k.epoch) refl (found_fresh tracks leaves h more.Halted bytes went (epoch_number k.epoch) k.waits.fresh))
+      (stays_reader tracks leaves h more.Halted bytes went (answer.Halted bytes) (epoch_number k.epoch) refl k.waits.was k.waits.stays)
+      (at_stage k.epoch Stage.Halted k.halted, (λ y. has_given tracks leaves h more.Halted bytes went (answer.Halted bytes) (epoch_number k.epoch) refl k.waits.was k.waits.stays y (λ z. some) (λ z. absurd z)))
+      (λ y e gave z. absurd (let w : answer.Halted bytes ≡ answer.Part e gave = z in cc)) tt (λ x z. z) (λ x z. z) (λ z. cc))
+  more_read tracks leaves h more.OtherUrl bytes went a is =
+      let its = is_other_url tracks leaves h more.OtherUrl bytes went went.ends in
+      subst (λ (z : Answer). AddsLine tells state offers s told past served line p z q) (sym is)
+      (add_it tracks leaves h more.OtherUrl bytes went answer.OtherUrl 0 (no_epoch tracks leaves h more.OtherUrl bytes went answer.OtherUrl refl) (turned_reader tracks leaves h more.OtherUrl bytes went went.ends its)
+      (λ y. has_other tracks leaves h more.OtherUrl bytes went its y)
+      (λ y e gave z. absurd (let w : answer.OtherUrl ≡ answer.Part e gave = z in cc)) tt (λ x z. z) (λ x z. z) (λ z. cc))
+  more_read tracks leaves h more.Fault bytes went a is =
+      subst (λ (z : Answer). AddsLine tells state offers s told past served line p z q) (sym is)
+      (add_it tracks leaves h more.Fault bytes went (answer.ReadFault bytes) 0 (no_epoch tracks leaves h more.Fault bytes went (answer.ReadFault bytes) refl)
+      (stays_reader tracks leaves h more.Fault bytes went (answer.ReadFault bytes) 0 refl went.ends.was went.ends.stays)
+      (λ y. has_given tracks leaves h more.Fault bytes went (answer.ReadFault bytes) 0 refl went.ends.was went.ends.stays y (λ z. absurd z) (λ z. absurd z))
+      (λ y e gave z. absurd (let w : answer.ReadFault bytes ≡ answer.Part e gave = z in cc)) tt (λ x z. z) (λ x z. z) (λ z. cc))
+
+  pub more_adds : (a : Answer) → Tracks tells state offers s told past served p → Leaves tells state offers s t p q → ReadsMore tells state offers s t p a q → AddsLine tells state offers s told past served line p a q
+  more_adds a tracks leaves met = ⊎_elim
+      (λ (m : IsReader tells state offers s told past served p t × ((e : Standing) → ReadsAs tells state offers s p t e → ReadsOn tells state offers s t p a q e)).
+      let on = m.1 m.0.standing m.0.is in more_read tracks leaves m.0 on.why on.bytes on.went a on.answer_is)
+      (λ (m : (reading t served ≡ None) × IsTurnedAway p a q).
+      away_adds tells state offers s told past served line p a q m.1 (λ fits. fits m.0) (λ u body z. absurd z) tracks)
+      (on_reader tells state offers s told past served p t a q ((e : Standing) → ReadsAs tells state offers s p t e → ReadsOn tells state offers s t p a q e) met (tracks.each t below))

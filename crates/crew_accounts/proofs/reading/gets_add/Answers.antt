@@ -1,0 +1,8 @@
+use Rattle.std.proofs.Common.{refl}
+use Rattle.crew_accounts.proofs.GetLines.{get_adds}
+use Rattle.crew_accounts.proofs.reading.gets_add.Goals as goal
+
+pub returns : goal.returns
+returns g c s told past served worker number url p q a before after told_so tracks takes serves fit =
+    get_adds g.C.Cell.tells g.C.Cell.state g.O.Origin.offers s told past served worker number url p q
+    record { front = c.bodies_are_given_from_the_front.ensures.front; whole = c.bodies_are_given_from_the_front.ensures.whole } told_so a tracks (serves.leaves 7 refl) fit serves.request

@@ -1,0 +1,67 @@
+-- The course of a worker on a shelf.
+use Rattle.std.specs.Prelude.{Bool, List, [], map, ◌++◌, ◌∷◌, ◌≡◌, ◌⊎◌, ℕ}
+use Rattle.rock_disk.specs.Cell.{CellState}
+use Rattle.script_text.specs.declared.answer.Answer.{Answer}
+use Rattle.script_text.specs.declared.line.Line.{Line}
+use Rattle.script_text.specs.declared.answer.Answer.TheVariants as answer
+use Rattle.script_text.specs.declared.request.Request.{Request}
+use Rattle.script_text.specs.declared.request.Request.TheVariants.{Await, Mark}
+use Rattle.core_model.specs.declared.view.View.{View}
+use Rattle.line_account.specs.Courses.{Course, Stage as Told, lines_in}
+use Rattle.store_rule.specs.declared.store.Note.{Note}
+use Rattle.store_rule.specs.declared.store.Store.{Store}
+use Rattle.store_rule.specs.Ground.{Offers}
+use Rattle.store_rule.specs.Passes.{basis, view}
+use Rattle.worker_pool.specs.Courses.{Stage}
+use Rattle.worker_shelf.specs.Shelves.{Learned, Noted, OnShelf, Went}
+use Rattle.crew_accounts.specs.Runs.{Past, run_of}
+use Rattle.crew_accounts.specs.Tracks.{Tracks}
+
+-- the lines of an account with their answers, the first one first
+abbrev pub in_order : {X : Type 0} → List (Told X) → List (Line × Answer)
+in_order [] = []
+in_order (x ∷ earlier) = in_order earlier ++ (x.served.line, x.served.answer) ∷ []
+
+-- the same, each between the views before it and after it
+abbrev pub with_views : {X : Type 0} → List (Told X) → List (View X × Line × Answer × View X)
+with_views [] = []
+with_views (x ∷ earlier) = with_views earlier ++ (x.before, x.served.line, x.served.answer, x.after) ∷ []
+
+-- a stage of a worker on a shelf, in the same words
+abbrev pub stage_shown : {C O St : Type 0} → Stage (OnShelf C O St) → View (List ℕ) × Line × Answer × View (List ℕ)
+stage_shown x = (view x.before.pass, x.line, x.answer, view x.after.pass)
+
+module _ {C O St : Type 0} (tells : Bool) (state : C → CellState) (offers : O → Offers) (faults : St → ℕ) where
+  -- a shelf made a note
+  pub record Notes (before after : OnShelf C O St) : Type 0 where
+    pub note : Note C
+    pub noted : Noted tells state offers before note after
+
+  -- it learned one, and made another
+  pub record Meets (before after : OnShelf C O St) : Type 0 where
+    pub note : Note C
+    pub learned : OnShelf C O St
+    pub learns : Learned tells state offers before note learned
+    pub again : Note C
+    pub notes : Noted tells state offers learned again after
+
+  -- what a shelf makes of a line with this request: it notes something at a mark that it sets, learns something at one that it meets, and
+  -- serves all else
+  abbrev pub StepOn : Request → (before : OnShelf C O St) → Line → Answer → (after : OnShelf C O St) → Type 0
+  StepOn (Mark mark) before line a after = (a ≡ answer.Marked) × Notes before after
+  StepOn (Await mark) before line a after = ((a ≡ answer.Met) × Meets before after) ⊎ ((a ≡ answer.Unmet) × (after ≡ before))
+  StepOn _ before line a after = Went tells state offers faults before line a after
+
+  abbrev pub IsStep : Stage (OnShelf C O St) → Type 0
+  IsStep x = StepOn x.line.request x.before x.line x.answer x.after
+
+module _ {C O St : Type 0} (tells : Bool) (state : C → CellState) (offers : O → Offers) (s : Store C O) (told : Bool) (past : Past) where
+  -- The account of a worker that served these lines has a course of the same lines and answers, from what its pass knew at the start to what
+  -- it knows at the end. The pass is of the same store still, and tracks the lines.
+  pub record HasCourse (start end : OnShelf C O St) (stages : List (Stage (OnShelf C O St))) : Type 0 where
+    pub course : List (Told (List ℕ))
+    pub is : Course (run_of (basis tells state offers s) told past) (view start.pass) course (view end.pass)
+    pub lines : in_order course ≡ map (λ x. (x.line, x.answer)) stages
+    pub views : with_views course ≡ map stage_shown stages  -- each between what the pass knew before it and after it
+    pub store : end.store ≡ s
+    pub tracks : Tracks tells state offers s told past (lines_in course) end.pass

@@ -1,0 +1,6 @@
+pub mod Runs
+pub mod Tracks
+pub mod Lines
+pub mod Courses
+pub mod Playing
+pub mod Closings

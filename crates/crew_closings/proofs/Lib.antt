@@ -1,9 +1,0 @@
-mod Lists
-mod Pieces
-mod Counting
-mod Scripts
-mod Halting
-mod Marks
-mod Faults
-mod Taking
-mod Crews

@@ -1,5 +1,0 @@
-use Rattle.line_records.proofs.Starting.{new_tracks}
-use Rattle.line_records.proofs.course.new_passes_track.Goals as goal
-
-pub returns : goal.returns
-returns g c s told past p h = new_tracks g.C.Cell.tells g.C.Cell.state g.O.Origin.offers s told past p h

@@ -1,7 +1,0 @@
-use Rattle.std.proofs.Common.{refl}
-use Rattle.line_records.proofs.Purging.{purge_adds}
-use Rattle.line_records.proofs.reading.purges_add.Goals as goal
-
-pub returns : goal.returns
-returns g c s told past served worker number url p q a before after tracks takes serves fit =
-    purge_adds g.C.Cell.tells g.C.Cell.state g.O.Origin.offers s told past served worker number url p q a tracks (serves.leaves 7 refl) fit serves.request

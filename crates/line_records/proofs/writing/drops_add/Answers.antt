@@ -1,7 +1,0 @@
-use Rattle.std.proofs.Common.{refl}
-use Rattle.line_records.proofs.Dropping.{drop_adds}
-use Rattle.line_records.proofs.writing.drops_add.Goals as goal
-
-pub returns : goal.returns
-returns g c s told past served worker number t p q a before after tracks takes serves =
-    drop_adds g.C.Cell.tells g.C.Cell.state g.O.Origin.offers s told past served worker number t p a q takes.asks tracks (serves.leaves t refl) serves.request
