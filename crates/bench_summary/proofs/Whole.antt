@@ -1,6 +1,5 @@
 -- Each answer is of one kind.
-use Rattle.std.proofs.Common.{◌≡◌, ℕ, ◌+◌, List, [], ◌∷◌, length, arith, refl, cond, Bool, true, false}
-use Rattle.std.specs.Prelude.{count_by}
+use Rattle.std.proofs.Common.{◌≡◌, ℕ, ◌+◌, List, [], ◌∷◌, length, arith, refl, cond, Bool}
 use Rattle.std.proofs.lemmas.List.Sums.{sum_by-cons}
 use Rattle.script_text.specs.declared.answer.Answer.{Answer}
 use Rattle.bench_summary.specs.declared.kind.Kind.{Kind}

@@ -1,10 +1,10 @@
 -- A store that is opened on slots of zeros is one that was never written.
-use Rattle.std.proofs.Common.{◌≡◌, ◌∙◌, ℕ, zero, suc, ◌<◌, List, [], ◌∷◌, map, refl, subst, arith}
+use Rattle.std.proofs.Common.{◌≡◌, ◌∙◌, ℕ, zero, suc, List, [], ◌∷◌, map, refl, subst, arith}
 use Rattle.std.specs.Prelude.{All, Contains, drop, slice_index, take}
 use Rattle.std.proofs.lemmas.List.Elements.{All-drop, All-head, All-nil, All-tail, All-take}
 use Rattle.store_key.specs.Anchor.{anchor_of}
 use Rattle.slot_cell.specs.Header.{header_of}
-use Rattle.rebuild_model.specs.Image.{BelongsTo, IsGreatest, IsSaneAt, header_at, image_at}
+use Rattle.rebuild_model.specs.Image.{BelongsTo, IsGreatest, IsSaneAt, image_at}
 use Rattle.rebuild_model.specs.Entry.{Entry, IsComplete}
 use Rattle.rebuild_model.specs.Rebuilt.{IsWinner}
 use Rattle.plain_model.specs.declared.store.Plain.{Plain}
