@@ -1,5 +1,5 @@
 -- Each line of a script has one answer, where each is for one of the workers.
-use Rattle.std.proofs.Common.{Bool, Contains, List, [], ap, arith, cond, false, length, map, refl, subst, suc, sym, true, zero, ⊎_elim, ◌+◌, ◌<◌, ◌==◌, ◌∙◌, ◌∷◌, ◌≡◌, ◌≤◌, ℕ}
+use Rattle.std.proofs.Common.{Bool, Contains, List, [], ap, arith, cond, false, length, map, refl, suc, sym, true, zero, ⊎_elim, ◌+◌, ◌<◌, ◌==◌, ◌∙◌, ◌∷◌, ◌≡◌, ◌≤◌, ℕ}
 use Rattle.std.proofs.lemmas.Bool.{eq-eqb, ne_eqb}
 use Rattle.std.proofs.lemmas.List.{length-map}
 use Rattle.std.proofs.lemmas.List.Elements.{Contains-append_right}
@@ -36,20 +36,20 @@ counted_from worker n (line ∷ lines) =
     ∙ sym (one_more worker line lines)
 
 -- how many lines are for one of so many workers, behind the n-th one
-lines_behind : (n many : ℕ) → List Line → ℕ
+abbrev lines_behind : (n many : ℕ) → List Line → ℕ
 lines_behind n zero lines = 0
 lines_behind n (suc many) lines = lines_for (n + 1) lines + lines_behind (n + 1) many lines
 
 none_behind : (n many : ℕ) → lines_behind n many [] ≡ 0
 none_behind n zero = refl
-none_behind n (suc many) = none_behind (n + 1) many
+none_behind n (suc many) = let rest = none_behind (n + 1) many in omega (arith, rest)
 
 -- a line of an earlier worker counts for none of them
 earlier : (n many : ℕ) (line : Line) (lines : List Line) → line.worker ≤ n → lines_behind n many (line ∷ lines) ≡ lines_behind n many lines
 earlier n zero line lines low = refl
 earlier n (suc many) line lines low =
     let other : (line.worker == n + 1) ≡ false = ne_eqb line.worker (n + 1) (λ e. omega arith) in
-    let first : lines_for (n + 1) (line ∷ lines) ≡ lines_for (n + 1) lines = one_more (n + 1) line lines ∙ ap (λ (b : Bool). cond b 1 0 + lines_for (n + 1) lines) other in
+    let first : lines_for (n + 1) (line ∷ lines) ≡ 0 + lines_for (n + 1) lines = one_more (n + 1) line lines ∙ ap (λ (b : Bool). cond b 1 0 + lines_for (n + 1) lines) other in
     let rest = earlier (n + 1) many line lines (omega arith) in
     omega (arith, first, rest)
 
@@ -65,7 +65,7 @@ within_counts n (suc many) line lines low high =
     omega (arith, here, rest))
     (λ (later : n + 1 < line.worker).
     let other : (line.worker == n + 1) ≡ false = ne_eqb line.worker (n + 1) (λ e. omega arith) in
-    let here : lines_for (n + 1) (line ∷ lines) ≡ lines_for (n + 1) lines = one_more (n + 1) line lines ∙ ap (λ (b : Bool). cond b 1 0 + lines_for (n + 1) lines) other in
+    let here : lines_for (n + 1) (line ∷ lines) ≡ 0 + lines_for (n + 1) lines = one_more (n + 1) line lines ∙ ap (λ (b : Bool). cond b 1 0 + lines_for (n + 1) lines) other in
     let rest = within_counts (n + 1) many line lines later (omega arith) in
     omega (arith, here, rest))
     (not_above line.worker (n + 1))
