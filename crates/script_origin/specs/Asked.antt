@@ -1,5 +1,5 @@
 -- What the lines of a script may ask.
-use Rattle.std.specs.Prelude.{◌==◌, ◌≡◌, ◌≤◌, List, Some, find, ℕ}
+use Rattle.std.specs.Prelude.{◌==◌, ◌≡◌, ◌≤◌, List, Some, find}
 use Rattle.store_key.specs.Url.{IsUrl}
 use Rattle.script_text.specs.declared.line.Line.{Line}
 use Rattle.script_text.specs.declared.request.Request.{Request}
