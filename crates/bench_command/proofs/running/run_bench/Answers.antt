@@ -46,7 +46,6 @@ returns-in-Ok-run_script-clause-prints g c told =
     (counts (g.V.Volume.faults c.args.volume.now) (g.V.Volume.made c.args.volume.now) (g.V.Volume.ended c.args.volume.now))
     (counts (g.V.Volume.faults c.run_script.new.volume) (g.V.Volume.made c.run_script.new.volume) (g.V.Volume.ended c.run_script.new.volume))) c.in-Ok.ensures c.in-Ok-run_script.ensures.ran in
     let given = map (λ each. each.items) c.in-Ok-run_script.answers.items in
-    let numbered = λ k line at. c.bench_lines_may_be_served.ensures.numbers t.seed t.workers t.count k line at in
     told_so _ _ _ _ c.print_summary.result (λ text is. record {
       answers = given;
       ran = ran;
@@ -54,7 +53,7 @@ returns-in-Ok-run_script-clause-prints g c told =
       requests = length-flat_map (λ (answers : List (ℕ × Answer)). map (λ (numbered : ℕ × Answer). numbered.1) answers) given
           ∙ lengths given ∙ c.each_line_has_one_answer.ensures _ _ _ _ _ _ _ _ _ _ _ (λ line among. c.bench_lines_may_be_served.ensures.within t.seed t.workers t.count line among) ran;
       kinds = c.answers_are_of_one_kind.ensures (answers_in given);
-      plain = λ alone tells none. (c.lone_runs_are_answered_plainly.ensures _ _ _ _ _ _ _ _ _ _ _ sized numbered ran alone tells none).0;
+      plain = λ alone tells none. (c.lone_runs_are_answered_plainly.ensures _ _ _ _ _ _ _ _ _ _ _ sized (λ k line at. c.bench_lines_may_be_served.ensures.numbers t.seed t.workers t.count k line at) ran alone tells none).0;
       is = is;
     }) (c.print_summary.ensures.prints told)
 
