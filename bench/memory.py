@@ -83,13 +83,14 @@ def large_tables(folder, rock):
         slot, anchor = ((after - before) / SLOTS for before, after in zip(figures, figures[1:]))
         return slot, anchor
 
+    workers.told_row("bytes", "a slot", "an anchor", "both")
     for title, call, words, more in (
         ("check, peak", lambda words: peak(folder, words), ["check"], []),
         ("run, peak", lambda words: peak(folder, words), ["run"], ["1"]),
         ("run, kept", lambda words: kept(words, saves, name), ["run"], ["1"]),
     ):
         slot, anchor = taken(call, words, more)
-        print(f"{title:<12}: a slot {slot:.1f} bytes, an anchor {anchor:.1f}, both {slot + anchor:.1f}")
+        workers.told_row(title, *(f"{it:.1f}" for it in (slot, anchor, slot + anchor)))
     workers.promised(f"  the table takes at most {MOST_OF_SLOT} bytes a slot with its anchor", slot + anchor <= MOST_OF_SLOT)
     os.remove(name)
 
@@ -107,10 +108,8 @@ def warm_run(folder, rock, kind, anchors):
     least = [[min(it) for it in zip(*took)] for took in taken]
     for title, took in zip(("run", "check"), taken):
         seconds, peaks, processor = zip(*took)
-        print(
-            f"{kind:<9}{anchors:>8} {title:<6}{min(seconds):>7.3f} s {statistics.median(seconds):>7.3f} s"
-            f"{min(processor):>7.3f} s of the processor {max(peaks) / SLOTS:>6.1f} bytes a slot"
-        )
+        times = min(seconds), statistics.median(seconds), min(processor)
+        workers.told_row(kind, anchors, title, *(f"{it:.3f}" for it in times), f"{max(peaks) / SLOTS:.1f}")
     ratio = least[0][0] / least[1][0]
     workers.promised(f"  {ratio:.2f} times check, at most {MOST_OF_CHECK}", ratio <= MOST_OF_CHECK)
 
@@ -120,6 +119,7 @@ def main(folder, rock):
     subprocess.run([compiler, "-O2", "-o", f"{folder}/run_once", f"{run.HERE}/run_once.c"], check=True)
     three_workers(folder, rock)
     large_tables(folder, rock)
+    workers.told_row("file", "anchors", "command", "s, least", "median", "s of the processor", "peak, bytes a slot")
     for kind in ("empty", "entries", "one-slot"):
         if kind == "empty":
             sparse(folder, kind, SLOT, SLOTS)

@@ -5,8 +5,10 @@ The requests are those of `rock bench`, served by `rock bench` itself; the same 
 bench/plain_workers.c makes these calls in the same order on as many threads, with an MD5 of the URL's key for each
 request, and nothing of a store. That it makes them is seen by `strace` too.
 
-Both run by turns, each on a file like the first, with what they read in the page cache and the output thrown away. Needs
-strace and a C compiler. The files are made in FOLDER (default: a new folder under /tmp, removed at the end).
+Both run by turns, each on a file like the first, with what they read in the page cache and the output thrown away. The
+time is that of the whole program. In turns of their own bench/served_time.c tells how long requests were served, without
+the reading of the script and the printing of the answers. Needs strace and a C compiler. The files are made in FOLDER
+(default: a new folder under /tmp, removed at the end).
 """
 import os
 import re
@@ -216,11 +218,11 @@ def write_list(name, threads, steps):
         file.writelines(url_of(number) for number in numbers)
 
 
-def build_plain(folder):
-    program = f"{folder}/plain_workers"
-    words = [os.environ.get("CC", "cc"), "-O2", "-pthread", "-o", program, f"{HERE}/plain_workers.c"]
-    subprocess.run(words, check=True)
-    return program
+def build(folder, name, *flags):
+    made = f"{folder}/{name}"
+    compiler = [os.environ.get("CC", "cc"), "-O2", *flags, "-o", made, f"{HERE}/{name}.c"]
+    subprocess.run(compiler, check=True)
+    return made
 
 
 def begin_anew(case, name):
@@ -247,35 +249,45 @@ def plain_for(case, asked, anchors, slot, plain, name):
     return words
 
 
-def by_turns(case, others, turns, name):
-    """The seconds and the processor seconds of each turn, of the program and of others. The first turn does not count."""
+def by_turns(case, others, turns, name, measure=run.measured):
+    """What is measured in each turn, of the program and of others. The first turn does not count."""
     taken = [[] for _ in (case.words, *others)]
     for turn in range(turns + 1):
         for words, took in zip((case.words, *others), taken):
             begin_anew(case, name)
-            measured = run.measured(words, case.script or os.devnull)
+            measured = measure(words, case.script or os.devnull)
             if turn > 0:
                 took.append(measured)
     return taken
 
 
-def told(case, taken):
+def served(words, script):
+    """How many seconds a program served requests."""
+    folder = os.path.dirname(words[2])
+    env = {**os.environ, "LD_PRELOAD": f"{folder}/served_time", "SERVED": f"{folder}/served"}
+    with open(script, "rb") as given:
+        subprocess.run(words, stdin=given, stdout=subprocess.DEVNULL, env=env, check=True)
+    with open(env["SERVED"]) as told:
+        return float(told.read())
+
+
+def told(case, taken, served_taken):
     """Prints the figures of the program and of the plain one, and answers the ratio by the least seconds."""
-    rates = []
-    for name, took in zip(("rock", "plain"), taken):
+    rows = []
+    for took, serving in zip(taken, served_taken):
         seconds, processor, _ = zip(*took)
-        figures = min(seconds), statistics.median(seconds)
-        rates.append([case.requests / it for it in figures])
+        times = [min(seconds), statistics.median(seconds), min(serving), statistics.median(serving)]
         each = [1e6 * it / case.requests for it in (min(processor), statistics.median(processor))]
-        print(
-            f"{case.name:<18} {name:<6}"
-            + "".join(f"{it:>9.4f}" for it in figures)
-            + "".join(f"{it:>10.0f}" for it in rates[-1])
-            + "".join(f"{it:>9.2f}" for it in each)
-        )
-    ratios = [ours / theirs for ours, theirs in zip(*rates)]
-    print(f"{case.name:<18} {'ratio':<6}{'':>18}" + "".join(f"{it:>10.2f}" for it in ratios))
+        rows.append([case.requests / it for it in times] + each)
+    ratios = [ours / theirs for ours, theirs in zip(*rows)]
+    for name, row, place in (("rock", rows[0], 0), ("plain", rows[1], 0), ("ratio", ratios, 2)):
+        told_row(case.name, name, *(f"{it:.{place}f}" for it in row[:4]), *(f"{it:.2f}" for it in row[4:]))
     return ratios[0]
+
+
+def told_row(*cells):
+    """A row of a table, as docs/PERFORMANCE.md has it."""
+    print("| " + " | ".join(cells) + " |", flush=True)
 
 
 def promised(text, holds):
@@ -313,8 +325,9 @@ def run_case(folder, rock, name, workers, saves, length):
 
 def time_case(rock, plain, name, made, workers, turns, least=None):
     case, asked, slot = made
-    taken = by_turns(case, [plain_for(case, asked, 16 * workers, slot, plain, name)], turns, name)
-    ratio = told(case, taken)
+    others = [plain_for(case, asked, 16 * workers, slot, plain, name)]
+    taken = by_turns(case, others, turns, name)
+    ratio = told(case, taken, by_turns(case, others, turns // 2, name, served))
     if least:
         promised(f"{case.name}: at least {least} of the plain program's requests a second", ratio >= least)
 
@@ -338,23 +351,24 @@ def time_gets(folder, rock, plain, name, length):
     for case, words in zip(cases, plains):
         least.append([min(it for _, it, _ in took) for took in by_turns(case, [words], 41, name)])
     rock_each, plain_each = (1e6 * (gets - lines) / GETS for gets, lines in zip(*least))
-    print(f"a get of {length} bytes: {rock_each:.2f} us, plain {plain_each:.2f} us, beside that {rock_each - plain_each:.2f} us")
+    told_row(f"a get of {length} bytes", *(f"{it:.2f}" for it in (rock_each, plain_each, rock_each - plain_each)))
     return rock_each - plain_each
 
 
 def main(folder, rock):
-    name, plain = f"{folder}/db", build_plain(folder)
-    head = ("least s", "median s", "req/s", "median", "cpu us", "median")
-    print(f"{'':<25}" + "".join(f"{it:>{width}}" for it, width in zip(head, (9, 9, 10, 10, 9, 9))), flush=True)
+    name, plain = f"{folder}/db", build(folder, "plain_workers", "-pthread")
+    build(folder, "served_time", "-shared", "-fPIC")
+    told_row("run", "program", "requests a second, most", "median", "served a second, most", "median", "us, least", "median")
     for workers in (1, 2, 4):
-        time_case(rock, plain, name, bench_case(folder, rock, name, workers), workers, 15, 0.9)
+        time_case(rock, plain, name, bench_case(folder, rock, name, workers), workers, 14, 0.9)
     for workers in (1, 2, 4):
         made = run_case(folder, rock, name, workers, False, None)
-        time_case(rock, plain, name, made, workers, 41, 0.6 if workers != 2 else None)
+        time_case(rock, plain, name, made, workers, 40, 0.6 if workers != 2 else None)
     for saves in (True, False):
         for workers in (1, 2, 4):
             made = run_case(folder, rock, name, workers, saves, LONG)
-            time_case(rock, plain, name, made, workers, 7 if saves else 15)
+            time_case(rock, plain, name, made, workers, 6 if saves else 14)
+    told_row("us of the processor", "run", "plain", "beside that")
     took = [time_gets(folder, rock, plain, name, length) for length in (1, 430)]
     promised("a get of one slot takes at most 2 us of the processor beside the call and the MD5", max(took) <= 2)
 
