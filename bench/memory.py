@@ -72,7 +72,8 @@ def three_workers(folder, rock):
 
 def large_tables(folder, rock):
     """What a slot and an anchor take over a large file of empty slots: peaks, and what is kept while lines are served."""
-    saves = workers.made_script(folder, "saves", (b"1 save http://bench/%d -\n" % it for it in range(workers.MOST_LINES)))
+    lines = (b"1 save http://bench/%d -\n" % it for it in range(workers.MOST_LINES))
+    saves = workers.made_script(folder, "saves", lines)
     name = f"{folder}/large"
 
     def taken(call, words, more):

@@ -17,7 +17,6 @@ import statistics
 import struct
 import subprocess
 import sys
-import tempfile
 from collections import namedtuple
 
 import run
@@ -262,9 +261,11 @@ def by_turns(case, others, turns, name, measure=run.measured):
 
 
 def served(words, script):
-    """How many seconds a program served requests."""
+    """How many seconds a program served requests; no number where it lets nothing be loaded before it."""
     folder = os.path.dirname(words[2])
     env = {**os.environ, "LD_PRELOAD": f"{folder}/served_time", "SERVED": f"{folder}/served"}
+    with open(env["SERVED"], "w") as told:
+        told.write("nan")
     with open(script, "rb") as given:
         subprocess.run(words, stdin=given, stdout=subprocess.DEVNULL, env=env, check=True)
     with open(env["SERVED"]) as told:
@@ -351,14 +352,15 @@ def time_gets(folder, rock, plain, name, length):
     for case, words in zip(cases, plains):
         least.append([min(it for _, it, _ in took) for took in by_turns(case, [words], 41, name)])
     rock_each, plain_each = (1e6 * (gets - lines) / GETS for gets, lines in zip(*least))
-    told_row(f"a get of {length} bytes", *(f"{it:.2f}" for it in (rock_each, plain_each, rock_each - plain_each)))
+    told_row(f"a get, body of {length}", *(f"{it:.2f}" for it in (rock_each, plain_each, rock_each - plain_each)))
     return rock_each - plain_each
 
 
 def main(folder, rock):
     name, plain = f"{folder}/db", build(folder, "plain_workers", "-pthread")
     build(folder, "served_time", "-shared", "-fPIC")
-    told_row("run", "program", "requests a second, most", "median", "served a second, most", "median", "us, least", "median")
+    head = ("requests a second, most", "median", "served a second, most", "median", "us, least", "median")
+    told_row("run", "program", *head)
     for workers in (1, 2, 4):
         time_case(rock, plain, name, bench_case(folder, rock, name, workers), workers, 14, 0.9)
     for workers in (1, 2, 4):
