@@ -15,7 +15,7 @@ one_slot = f"{folder}/one-slot"
 
 def measured(*words):
     told = subprocess.run([f"{folder}/run_once", *words], capture_output=True, check=True)
-    seconds, peak = told.stdout.split()
+    seconds, peak, _ = told.stdout.split()
     return float(seconds), int(peak)
 
 

@@ -141,7 +141,7 @@ def build_plain(folder, calls, lines, answers):
 
 
 def measured(words, script):
-    """The seconds that a program takes from its start to its end, and those of the processor."""
+    """The seconds that a program takes from its start to its end, those of the processor, and its peak of memory in KiB."""
     actions = [
         (os.POSIX_SPAWN_OPEN, 0, script, os.O_RDONLY, 0),
         (os.POSIX_SPAWN_OPEN, 1, "/dev/null", os.O_WRONLY, 0),
@@ -152,11 +152,11 @@ def measured(words, script):
     ended = time.perf_counter()
     if status:
         sys.exit(f"{words[0]} ended with status {os.waitstatus_to_exitcode(status)}")
-    return ended - began, used.ru_utime + used.ru_stime
+    return ended - began, used.ru_utime + used.ru_stime, used.ru_maxrss
 
 
 def told(name, taken):
-    seconds, processor = [at for at, _ in taken], [at for _, at in taken]
+    seconds, processor, _ = zip(*taken)
     figures = min(seconds), statistics.median(seconds), min(processor), statistics.median(processor)
     print(f"{name:<10}" + "".join(f"{at:>11.4f}" for at in figures))
     return figures
@@ -212,14 +212,19 @@ NAMES = {
     "w": "write of answers",
 }
 
-if __name__ == "__main__":
+def with_program(call, prefix):
+    """Calls with the folder and the program of the command line: a new folder and the built program where they are not named."""
     root = os.path.dirname(HERE)
     wanted = sys.argv[2] if len(sys.argv) > 2 else f"{root}/crates/rock_main/out/rock_main"
     if len(sys.argv) < 3:
         subprocess.run([f"{root}/rock", "--version"], stdout=subprocess.DEVNULL, check=True)
     if len(sys.argv) > 1:
         os.makedirs(sys.argv[1], exist_ok=True)
-        main(os.path.abspath(sys.argv[1]), os.path.abspath(wanted))
+        call(os.path.abspath(sys.argv[1]), os.path.abspath(wanted))
     else:
-        with tempfile.TemporaryDirectory(prefix="run-") as made_folder:
-            main(made_folder, wanted)
+        with tempfile.TemporaryDirectory(prefix=prefix) as made_folder:
+            call(made_folder, wanted)
+
+
+if __name__ == "__main__":
+    with_program(main, "run-")

@@ -49,34 +49,7 @@ int main(int count, char **words) {
 }
 END
 "${CC:-cc}" -O2 -o "$folder/plain_sums" "$root/bench/plain_sums.c"
-"${CC:-cc}" -O2 -x c -o "$folder/run_once" - <<'END'
-// Runs a program with its output thrown away, and prints the seconds that it took and its peak memory in
-// KiB: run_once PROGRAM WORD ..
-#include <fcntl.h>
-#include <stdio.h>
-#include <sys/resource.h>
-#include <sys/wait.h>
-#include <time.h>
-#include <unistd.h>
-
-int main(int count, char **words) {
-    struct timespec from, to;
-    struct rusage used;
-    int status;
-    if (count < 2) return 2;
-    clock_gettime(CLOCK_MONOTONIC, &from);
-    pid_t child = fork();
-    if (child == 0) {
-        dup2(open("/dev/null", O_WRONLY), 1);
-        execv(words[1], words + 1);
-        _exit(127);
-    }
-    if (child < 0 || wait4(child, &status, 0, &used) < 0 || status != 0) return 1;
-    clock_gettime(CLOCK_MONOTONIC, &to);
-    printf("%.6f %ld\n", (to.tv_sec - from.tv_sec) + (to.tv_nsec - from.tv_nsec) / 1e9, used.ru_maxrss);
-    return 0;
-}
-END
+"${CC:-cc}" -O2 -o "$folder/run_once" "$root/bench/run_once.c"
 printf '%5s %6s %-10s %9s %9s %7s %8s %7s %10s %9s %7s %7s %9s %7s %7s\n' MiB slot file entries plain_s list_s list_MB/s ratio peak_MiB bytes/slot check_s to_list bytes/slot sums_s of_rate
 for mib in "$@"; do
     for slot in 512 4096 16384; do
