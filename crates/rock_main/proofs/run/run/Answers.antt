@@ -9,6 +9,48 @@ returns-clause-usage g c = (
   λ none. c.end.ensures ∙ ap code_of (c.rock-status.ensures.usage.1 none),
 )
 
+pub returns-clause-list : goal.returns-clause-list
+returns-clause-list g c name slot asked =
+    let said = c.rock-status.ensures in
+    record {
+      status = c.rock-status.result;
+      is = c.end.ensures;
+      causes = (
+        said.list_ends name slot asked,
+        λ told. said.list_says name slot asked told,
+        said.list_refused name slot asked,
+        λ told. said.list_prints name slot asked told,
+      );
+    }
+
+pub returns-clause-check : goal.returns-clause-check
+returns-clause-check g c name slot anchors asked =
+    let said = c.rock-status.ensures in
+    record {
+      status = c.rock-status.result;
+      is = c.end.ensures;
+      causes = (
+        said.check_ends name slot anchors asked,
+        λ told. said.check_says name slot anchors asked told,
+        said.check_refused name slot anchors asked,
+        λ told. said.check_prints name slot anchors asked told,
+      );
+    }
+
+pub returns-clause-create : goal.returns-clause-create
+returns-clause-create g c name slot slots asked =
+    let said = c.rock-status.ensures in
+    record {
+      status = c.rock-status.result;
+      is = c.end.ensures;
+      causes = (
+        said.create_ends name slot slots asked,
+        λ told. said.create_says name slot slots asked told,
+        said.create_refused name slot slots asked,
+        said.create_leaves name slot slots asked,
+      );
+    }
+
 pub returns-clause-run : goal.returns-clause-run
 returns-clause-run g c name slot anchors workers asked =
     let said = c.rock-status.ensures in
