@@ -3,7 +3,7 @@
 #
 # The edits that tell most of a crate stand in its own must-fail/, and the gate tries them. The others stand in
 # tests/edits/, a folder for each crate. Here those of the crates that are named, or of all, are put into a copy of the
-# repository beside it, and tried there by `rt must-fail`: the prover must refuse each. It proves the crates first that
+# repository, and tried there by `rt must-fail`: the prover must refuse each. It proves the crates first that
 # are not proved yet, so for all it takes hours. Its status is 0 where each edit was refused.
 set -u -o pipefail
 
