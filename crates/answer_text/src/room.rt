@@ -1,5 +1,5 @@
 // Bytes that are added where room for them was reserved, so that no memory is taken.
-ghost use Rattle.std.specs.Prelude.{decimal};
+ghost use Rattle.std.specs.Prelude.{decimal, length, ◌≤◌};
 ghost use Rattle.hex.specs.Hex.{encode_lower};
 ghost use Rattle.answer_text.specs.Room.{HasRoom, Adds};
 
@@ -25,21 +25,34 @@ pub fn put_number(line: &mut Vec<u8>, number: u64)
     put(line, Buffer::new().format(number).as_bytes());
 }
 
-/// Adds two digits for each byte, with lower case letters.
-#[tactic(auto, using(crate::proofs::Sizes::digits_length))]
+/// How many bytes are written as digits at once.
+const PIECE: usize = 64;
+
+/// Adds two digits for each of a few bytes.
+fn put_piece(line: &mut Vec<u8>, piece: &[u8])
+    requires few { length piece.now ≤ PIECE }
+    requires room { HasRoom line.old (encode_lower piece.now) }
+    ensures { Adds line.old line.new (encode_lower piece.now) }
+{
+    let mut room = [0; 2 * PIECE];
+    let digits = &mut room[..2 * piece.len()];
+    match hex::encode_to_slice(piece, digits) {
+        Ok(()) => put(line, digits),
+        // There is room for two digits a byte.
+        Err(_) => unreachable!(),
+    }
+}
+
+/// Adds two digits for each byte, with lower case letters. They are made piece by piece, so that the line
+/// is written once, and not first with zeros.
 pub fn put_hex(line: &mut Vec<u8>, bytes: &[u8])
     requires { HasRoom line.old (encode_lower bytes.now) }
     ensures { Adds line.old line.new (encode_lower bytes.now) }
 {
-    let start = line.len();
-    match line.resize(start + 2 * bytes.len(), b'0') {
-        Ok(()) => (),
-        // The room was reserved.
-        Err(_) => unreachable!(),
-    }
-    match hex::encode_to_slice(bytes, &mut line[start..]) {
-        Ok(()) => (),
-        // The digits fill what was added.
-        Err(_) => unreachable!(),
+    let mut taken = 0;
+    while taken < bytes.len() {
+        let count = PIECE.min(bytes.len() - taken);
+        put_piece(line, &bytes[taken..taken + count]);
+        taken += count;
     }
 }

@@ -42,12 +42,17 @@ alone byte plain zero d within = no_feed byte plain
 alone byte plain (suc k) d within = absurd (omega arith)
 
 -- one byte more of a line
-pub unbroken_more : (line : List ℕ) (byte : ℕ) → byte ≢ 10 → IsUnbroken line → IsUnbroken (line ++ byte ∷ [])
+unbroken_more : (line : List ℕ) (byte : ℕ) → byte ≢ 10 → IsUnbroken line → IsUnbroken (line ++ byte ∷ [])
 unbroken_more line byte plain whole = All-append (λ b. (b == 10) ≡ false) line (byte ∷ []) whole (alone byte plain)
 
-pub not_empty : (line : List ℕ) (byte : ℕ) → line ++ byte ∷ [] ≢ []
+not_empty : (line : List ℕ) (byte : ℕ) → line ++ byte ∷ [] ≢ []
 not_empty [] byte is = cc
 not_empty (x ∷ xs) byte is = cc
+
+pub has_bytes : (line part : List ℕ) → 0 < length part → line ++ part ≢ []
+has_bytes [] [] some is = absurd (omega arith)
+has_bytes [] (x ∷ xs) some is = cc
+has_bytes (y ∷ ys) part some is = cc
 
 -- a line that was begun goes on in the first line of what follows
 pub first_line : (rest line : List ℕ) → IsUnbroken line → line ≢ [] → (more : List ℕ) × (behind : List (List ℕ)) × (lines_of (line ++ rest) ≡ (line ++ more) ∷ behind)

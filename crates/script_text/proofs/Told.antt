@@ -1,7 +1,7 @@
 -- Bad lines, told by their numbers.
-use Rattle.std.proofs.Common.{◌≡◌, ℕ, ◌+◌, ◌<◌, List, ◌∷◌, ◌++◌, length, get_or, take, drop, ap, sym, ◌∙◌, subst, append_assoc, add-one}
-use Rattle.std.proofs.Math.Seq.{drop-cons}
-use Rattle.std.proofs.lemmas.List.{take-append-drop}
+use Rattle.std.proofs.Common.{◌≡◌, ℕ, ◌+◌, ◌-◌, ◌<◌, List, ◌∷◌, ◌++◌, length, get_or, take, drop, ap, sym, ◌∙◌, subst, append_assoc, add-one}
+use Rattle.std.proofs.Math.Seq.{drop-cons, take-add}
+use Rattle.std.proofs.lemmas.List.{take-append-drop, take_rest}
 use Rattle.script_text.specs.Reading.{lines_read, IsFront}
 use Rattle.script_text.specs.Refusals.{IfBad, IfBadLine, fault_behind}
 use Rattle.script_text.specs.Script.{IsBadScript}
@@ -16,21 +16,31 @@ pub told : (lines : ℕ) (refusal : Refusal) (fault : ScriptFault) (Has : ℕ �
 told lines (Bad cause) fault Has Is same has so = subst (λ (f : ScriptFault). IfBadLine Is f) (sym same) (so cause has)
 told lines Memory fault Has Is same has so = subst (λ (f : ScriptFault). IfBadLine Is f) (sym same) tt
 
--- a text at one of its bytes
-pub cut_at : (front bytes rest : List ℕ) (i : ℕ) → i < length bytes → (front ++ take i bytes) ++ get_or bytes i 0 ∷ (drop (i + 1) bytes ++ rest) ≡ (front ++ bytes) ++ rest
-cut_at front bytes rest i within =
-    let whole : take i bytes ++ (get_or bytes i 0 ∷ drop (i + 1) bytes) ≡ bytes =
-    ap (λ n. take i bytes ++ (get_or bytes i 0 ∷ drop n bytes)) (add-one i) ∙ ap (λ l. take i bytes ++ l) (sym (drop-cons bytes i 0 within)) ∙ take-append-drop i bytes in
-    sym (append_assoc (front ++ take i bytes) (get_or bytes i 0 ∷ drop (i + 1) bytes) rest)
-    ∙ ap (λ l. l ++ rest) (append_assoc front (take i bytes) (get_or bytes i 0 ∷ drop (i + 1) bytes) ∙ ap (λ l. front ++ l) whole)
+-- a text that is cut at one of its line feeds
+pub cut_at_feed : (bytes rest : List ℕ) (end : ℕ) → end < length bytes → get_or bytes end 0 ≡ 10 → take end bytes ++ 10 ∷ (drop (end + 1) bytes ++ rest) ≡ bytes ++ rest
+cut_at_feed bytes rest end within feed =
+    let whole : take end bytes ++ (10 ∷ drop (end + 1) bytes) ≡ bytes =
+    ap (λ b. take end bytes ++ (b ∷ drop (end + 1) bytes)) (sym feed) ∙ ap (λ n. take end bytes ++ (get_or bytes end 0 ∷ drop n bytes)) (add-one end)
+    ∙ ap (λ l. take end bytes ++ l) (sym (drop-cons bytes end 0 within)) ∙ take-append-drop end bytes in
+    sym (append_assoc (take end bytes) (10 ∷ drop (end + 1) bytes) rest) ∙ ap (λ l. l ++ rest) whole
 
--- a bad line at one of the bytes that were taken
-pub bad_at : (old now : Reading) (bytes : List ℕ) (i number : ℕ) (cause : ℕ) → i < length bytes → number ≡ length (lines_read now) → now.workers ≡ old.workers
-    → ((front : List ℕ) → IsFront old front → IsFront now (front ++ take i bytes))
-    → ((front rest : List ℕ) → IsFront now front → IsBadScript now.workers (front ++ get_or bytes i 0 ∷ rest) (length (lines_read now) + 1) cause)
+-- a bad line behind the bytes that were taken
+pub bad_at : (old now : Reading) (bytes : List ℕ) (taken number : ℕ) (cause : ℕ) → number ≡ length (lines_read now) → now.workers ≡ old.workers
+    → ((front : List ℕ) → IsFront old front → IsFront now (front ++ take taken bytes))
+    → ((front rest : List ℕ) → IsFront now front → IsBadScript now.workers (front ++ (take (length bytes - taken) (drop taken bytes) ++ rest)) (length (lines_read now) + 1) cause)
     → (front rest : List ℕ) → IsFront old front → IsBadScript old.workers ((front ++ bytes) ++ rest) (number + 1) cause
-bad_at old now bytes i number cause within same workers fronts bad front rest was =
+bad_at old now bytes taken number cause same workers fronts bad front rest was =
+    let whole : (front ++ take taken bytes) ++ (take (length bytes - taken) (drop taken bytes) ++ rest) ≡ (front ++ bytes) ++ rest =
+    ap (λ l. (front ++ take taken bytes) ++ (l ++ rest)) (take_rest bytes taken)
+    ∙ sym (append_assoc (front ++ take taken bytes) (drop taken bytes) rest)
+    ∙ ap (λ l. l ++ rest) (append_assoc front (take taken bytes) (drop taken bytes) ∙ ap (λ l. front ++ l) (take-append-drop taken bytes)) in
     subst (λ (n : ℕ). IsBadScript old.workers ((front ++ bytes) ++ rest) (n + 1) cause) (sym same)
     (subst (λ (w : ℕ). IsBadScript w ((front ++ bytes) ++ rest) (length (lines_read now) + 1) cause) workers
-    (subst (λ (text : List ℕ). IsBadScript now.workers text (length (lines_read now) + 1) cause) (cut_at front bytes rest i within)
-    (bad (front ++ take i bytes) (drop (i + 1) bytes ++ rest) (fronts front was))))
+    (subst (λ (text : List ℕ). IsBadScript now.workers text (length (lines_read now) + 1) cause) whole
+    (bad (front ++ take taken bytes) rest (fronts front was))))
+
+-- the bytes that were taken, and then some of the others
+pub front_on : (now : Reading) (front bytes : List ℕ) (taken count : ℕ) → IsFront now ((front ++ take taken bytes) ++ take count (take (length bytes - taken) (drop taken bytes)))
+    → IsFront now (front ++ take (taken + count) bytes)
+front_on now front bytes taken count = subst (λ (text : List ℕ). IsFront now text)
+    (append_assoc front (take taken bytes) _ ∙ ap (λ l. front ++ (take taken bytes ++ take count l)) (take_rest bytes taken) ∙ ap (λ l. front ++ l) (sym (take-add taken count bytes)))

@@ -54,6 +54,10 @@ pub record IsFront (reading : Reading) (front : List ℕ) : Type 0 where
   pub lines : AreLines reading.workers texts (lines_read reading)
   pub cut : (rest : List ℕ) → lines_of (front ++ rest) ≡ texts ++ lines_of (reading.begun.items ++ rest)
 
+-- the line that was begun is one too many, or too long with this part
+abbrev pub IsTooLong : Reading → List ℕ → Type 0
+IsTooLong reading part = (4096 ≤ length (lines_read reading)) ⊎ (8192 < length reading.begun.items + length part)
+
 -- how far the reading is: each byte takes it further
 abbrev pub place_of : Reading → ℕ
 place_of reading = 8193 * length (lines_read reading) + length reading.begun.items

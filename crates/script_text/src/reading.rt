@@ -1,6 +1,7 @@
 // The lines that were read so far, and the line that follows them.
-ghost use Rattle.std.specs.Prelude.{◌≡◌, ◌≢◌, ℕ, ◌≤◌, MatchOption, false, slice_index_or};
+ghost use Rattle.std.specs.Prelude.{◌≡◌, ◌≢◌, ℕ, ◌<◌, ◌≤◌, length, take, MatchOption, false, slice_index, slice_index_or};
 ghost use Rattle.script_text.specs.Fields.{body_size};
+ghost use Rattle.script_text.specs.Reading.{IsUnbroken};
 ghost use Rattle.script_text.specs.Requests.{offered_size};
 ghost use Rattle.script_text.specs.declared.request.Request.TheVariants.{Mark};
 
@@ -62,6 +63,13 @@ fn mark_of(request: &Request) -> Option<u8>
     }
 }
 
+/// Where the first line feed stands.
+fn feed_in(bytes: &[u8]) -> Option<usize>
+    ensures { MatchOption result (IsUnbroken bytes.now) (λ end. (end < length bytes.now) × (slice_index bytes.now end ≡ 10) × IsUnbroken (take end bytes.now)) }
+{
+    bytes.iter().position(|byte| *byte == b'\n')
+}
+
 /// The lines that were read so far, and what later lines are judged by.
 #[derive(Debug, Drop)]
 pub struct Reading {
@@ -76,10 +84,10 @@ pub struct Reading {
 }
 
 impl Reading {
-    ghost use Rattle.std.specs.Prelude.{◌≡◌, ℕ, ◌+◌, ◌<◌, ◌≤◌, List, [], ◌∷◌, ◌++◌, length, map, OnOk, OnErr, IfOk, IfErr};
+    ghost use Rattle.std.specs.Prelude.{◌≡◌, ℕ, ◌+◌, ◌<◌, ◌≤◌, List, [], ◌∷◌, ◌++◌, length, map, take, OnOk, OnErr, IfOk, IfErr};
     ghost use Rattle.script_text.specs.Causes.{HasCause, HasRequestCause, IsFirst};
     ghost use Rattle.script_text.specs.Lines.{IsLine};
-    ghost use Rattle.script_text.specs.Reading.{lines_read, place_of, IsReading, IsFront, IsInBounds, IsAdmitted, IsBarred};
+    ghost use Rattle.script_text.specs.Reading.{lines_read, place_of, IsReading, IsFront, IsInBounds, IsAdmitted, IsBarred, IsTooLong};
     ghost use Rattle.script_text.specs.Refusals.{ReadOr, IfBad, IfBadLine, fault_behind};
     ghost use Rattle.script_text.specs.Requests.{SpellsRequest};
     ghost use Rattle.script_text.specs.Script.{IsScript, IsBadScript};
@@ -186,27 +194,64 @@ impl Reading {
         Ok(())
     }
 
-    /// Takes the next byte of a script.
-    fn take_byte(&mut self, alloc: Global, byte: u8) -> Result<(), Refusal>
-        requires { IsReading self.old }
+    /// Takes bytes of a line, none of which ends it.
+    fn take_part(&mut self, part: &[u8]) -> Result<(), Refusal>
+        requires reading { IsReading self.old }
+        requires unbroken { IsUnbroken part.now }
         ensures reading { OnOk result (IsReading self.new) }
-        ensures front { OnOk result ((front : List ℕ) → IsFront self.old front → IsFront self.new (front ++ byte ∷ [])) }
-        ensures bad { IfErr result (IfBad (λ cause. (front rest : List ℕ) → IsFront self.old front
-            → IsBadScript self.old.workers (front ++ byte ∷ rest) (length (lines_read self.old) + 1) cause)) }
-        ensures kept { OnErr result (lines_read self.new ≡ lines_read self.old) }
+        ensures begun { OnOk result (self.new.begun.items ≡ self.old.begun.items ++ part.now) }
+        ensures bad { IfErr result (IfBad (λ cause. (cause ≡ 1) × IsTooLong self.old part.now)) }
+        ensures kept { lines_read self.new ≡ lines_read self.old }
         ensures workers { self.new.workers ≡ self.old.workers }
-        ensures further { OnOk result (place_of self.old < place_of self.new) }
     {
-        if byte == b'\n' {
-            return self.end_line(alloc);
-        }
-        if self.lines.len() >= MOST_LINES || self.begun.len() >= LONGEST_LINE {
+        if self.lines.len() >= MOST_LINES || part.len() > LONGEST_LINE - self.begun.len() {
             return Err(Refusal::Bad { cause: LIMITS });
         }
-        if self.begun.push(byte).is_err() {
+        if self.begun.extend_from_slice(part).is_err() {
             return Err(Refusal::Memory);
         }
         Ok(())
+    }
+
+    /// Takes the last bytes of a line, and the line feed behind them.
+    fn take_end(&mut self, alloc: Global, part: &[u8]) -> Result<(), Refusal>
+        requires reading { IsReading self.old }
+        requires unbroken { IsUnbroken part.now }
+        ensures reading { OnOk result (IsReading self.new) }
+        ensures front { OnOk result ((front : List ℕ) → IsFront self.old front → IsFront self.new (front ++ (part.now ++ 10 ∷ []))) }
+        ensures bad { IfErr result (IfBad (λ cause. (front rest : List ℕ) → IsFront self.old front
+            → IsBadScript self.old.workers (front ++ (part.now ++ 10 ∷ rest)) (length (lines_read self.old) + 1) cause)) }
+        ensures kept { OnErr result (lines_read self.new ≡ lines_read self.old) }
+        ensures workers { self.new.workers ≡ self.old.workers }
+        ensures further { OnOk result (place_of self.old + length part.now + 1 ≤ place_of self.new) }
+    {
+        self.take_part(part)?;
+        self.end_line(alloc)
+    }
+
+    /// Takes the next bytes of a script up to the end of a line, or all, and answers how many.
+    fn take_some(&mut self, alloc: Global, bytes: &[u8]) -> Result<usize, Refusal>
+        requires reading { IsReading self.old }
+        requires some { 0 < length bytes.now }
+        ensures reading { OnOk result (IsReading self.new) }
+        ensures count { IfOk result (λ count. (0 < count) × (count ≤ length bytes.now)) }
+        ensures front { IfOk result (λ count. (front : List ℕ) → IsFront self.old front → IsFront self.new (front ++ take count bytes.now)) }
+        ensures bad { IfErr result (IfBad (λ cause. (front rest : List ℕ) → IsFront self.old front
+            → IsBadScript self.old.workers (front ++ (bytes.now ++ rest)) (length (lines_read self.old) + 1) cause)) }
+        ensures kept { OnErr result (lines_read self.new ≡ lines_read self.old) }
+        ensures workers { self.new.workers ≡ self.old.workers }
+        ensures further { IfOk result (λ count. place_of self.old + count ≤ place_of self.new) }
+    {
+        match feed_in(bytes) {
+            Some(end) => {
+                self.take_end(alloc, &bytes[..end])?;
+                Ok(end + 1)
+            }
+            None => {
+                self.take_part(bytes)?;
+                Ok(bytes.len())
+            }
+        }
     }
 
     /// A line that was refused, told by its number.
@@ -233,9 +278,11 @@ impl Reading {
         ensures workers { self.new.workers ≡ self.old.workers }
         ensures further { OnOk result (place_of self.old + length bytes.now ≤ place_of self.new) }
     {
-        for byte in bytes {
-            if let Err(refusal) = self.take_byte(alloc, *byte) {
-                return Err(self.fault_of(refusal));
+        let mut taken = 0;
+        while taken < bytes.len() {
+            match self.take_some(alloc, &bytes[taken..]) {
+                Ok(count) => taken += count,
+                Err(refusal) => return Err(self.fault_of(refusal)),
             }
         }
         Ok(())

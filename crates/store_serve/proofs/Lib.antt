@@ -1,4 +1,5 @@
 mod Adds
+mod Alphabet
 mod Ends
 mod Gets
 mod Gives

@@ -72,9 +72,8 @@ fn append_some<C: Cell, O: Origin, St: Station<C = C>>(
     match body {
         Body::Text(text) => append(store, pass, station, tab, &text.as_slice()[from..upto]),
         Body::Made { shift, .. } => {
-            let piece = letters(from, *shift);
             let count = PIECE.min(upto - from);
-            append(store, pass, station, tab, &piece[..count])
+            append(store, pass, station, tab, &letters(from, *shift)[..count])
         }
     }
 }

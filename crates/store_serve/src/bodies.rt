@@ -14,17 +14,24 @@ pub fn body_length(body: &Body) -> usize
     }
 }
 
-/// How many bytes are made at once of a body that is given by its length and shift.
+/// How many bytes are given at once of a body that is told by its length and shift.
 pub(crate) const PIECE: usize = 512;
 
-/// Bytes of a body that is given by its length and shift, from this place on.
-pub(crate) fn letters(from: usize, shift: u8) -> [u8; PIECE]
-    ensures many { length result ≡ PIECE }
-    ensures letters { (i : ℕ) → i < PIECE → slice_index result i ≡ 97 + (from + i + shift) % 26 }
+// The alphabet, 21 times: a piece fits in it from each letter of the first one on.
+static LETTERS: [u8; 546] = *b"\
+    abcdefghijklmnopqrstuvwxyzabcdefghijklmnopqrstuvwxyzabcdefghijklmnopqrstuvwxyz\
+    abcdefghijklmnopqrstuvwxyzabcdefghijklmnopqrstuvwxyzabcdefghijklmnopqrstuvwxyz\
+    abcdefghijklmnopqrstuvwxyzabcdefghijklmnopqrstuvwxyzabcdefghijklmnopqrstuvwxyz\
+    abcdefghijklmnopqrstuvwxyzabcdefghijklmnopqrstuvwxyzabcdefghijklmnopqrstuvwxyz\
+    abcdefghijklmnopqrstuvwxyzabcdefghijklmnopqrstuvwxyzabcdefghijklmnopqrstuvwxyz\
+    abcdefghijklmnopqrstuvwxyzabcdefghijklmnopqrstuvwxyzabcdefghijklmnopqrstuvwxyz\
+    abcdefghijklmnopqrstuvwxyzabcdefghijklmnopqrstuvwxyzabcdefghijklmnopqrstuvwxyz";
+
+/// Bytes of a body that is told by its length and shift, from this place on.
+pub(crate) fn letters(from: usize, shift: u8) -> &'static [u8]
+    ensures many { length result.now ≡ PIECE }
+    ensures letters { (i : ℕ) → i < PIECE → slice_index result.now i ≡ 97 + (from + i + shift) % 26 }
 {
-    let mut piece = [0; PIECE];
-    for i in 0..PIECE {
-        piece[i] = 97 + ((from % 26 + i + shift as usize) % 26) as u8;
-    }
-    piece
+    let first = (from % 26 + shift as usize) % 26;
+    &LETTERS[first..first + PIECE]
 }

@@ -21,30 +21,30 @@ returns-in-Text-clause-err g c e may = let next = let text = c.as_slice.ensures 
 pub append-requires-in-Made : goal.append-requires-in-Made
 append-requires-in-Made g c = let e = c.requires.may.0 in let may = c.requires.may.1 in (
   e,
-  let bytes = take c.min-count.result c.letters-piece.result in let body = ap bytes_of c.in-Made.is in
+  let bytes = take c.min-count.result c.letters.result.now in let body = ap bytes_of c.in-Made.is in
       may_append g.C.Cell.tells g.C.Cell.state g.O.Origin.offers c.args.store.now c.args.tab e _ c.args.from c.args.upto c.args.pass.now bytes may
       (subst (λ z. bytes ≡ take (length bytes) (drop c.args.from z)) (sym body)
-      (taken_letters c.in-Made.shift c.in-Made.length c.args.from c.args.upto c.min-count.result c.letters-piece.result c.letters-piece.ensures.many (omega arith) (let o = c.requires.some in omega arith)
-      (let l = ap length body in let m = letters_many c.in-Made.shift c.in-Made.length in let a = may.inside in omega arith) c.letters-piece.ensures.letters)),
+      (taken_letters c.in-Made.shift c.in-Made.length c.args.from c.args.upto c.min-count.result c.letters.result.now c.letters.ensures.many (omega arith) (let o = c.requires.some in omega arith)
+      (let l = ap length body in let m = letters_many c.in-Made.shift c.in-Made.length in let a = may.inside in omega arith) c.letters.ensures.letters)),
 )
 
 pub returns-in-Made-clause-ok : goal.returns-in-Made-clause-ok
-returns-in-Made-clause-ok g c e may = let next = let bytes = take c.min-count.result c.letters-piece.result in let body = ap bytes_of c.in-Made.is in
+returns-in-Made-clause-ok g c e may = let next = let bytes = take c.min-count.result c.letters.result.now in let body = ap bytes_of c.in-Made.is in
     may_append g.C.Cell.tells g.C.Cell.state g.O.Origin.offers c.args.store.now c.args.tab e _ c.args.from c.args.upto c.args.pass.now bytes may
     (subst (λ z. bytes ≡ take (length bytes) (drop c.args.from z)) (sym body)
-    (taken_letters c.in-Made.shift c.in-Made.length c.args.from c.args.upto c.min-count.result c.letters-piece.result c.letters-piece.ensures.many (omega arith) (let o = c.requires.some in omega arith)
-    (let l = ap length body in let m = letters_many c.in-Made.shift c.in-Made.length in let a = may.inside in omega arith) c.letters-piece.ensures.letters)) in
+    (taken_letters c.in-Made.shift c.in-Made.length c.args.from c.args.upto c.min-count.result c.letters.result.now c.letters.ensures.many (omega arith) (let o = c.requires.some in omega arith)
+    (let l = ap length body in let m = letters_many c.in-Made.shift c.in-Made.length in let a = may.inside in omega arith) c.letters.ensures.letters)) in
     IfOk-weaker c.append-in-Made.result _ _ (λ count appended. (_, appended)) (c.append-in-Made.ensures.ok e next)
 
 pub returns-in-Made-clause-err : goal.returns-in-Made-clause-err
-returns-in-Made-clause-err g c e may = let next = let bytes = take c.min-count.result c.letters-piece.result in let body = ap bytes_of c.in-Made.is in
+returns-in-Made-clause-err g c e may = let next = let bytes = take c.min-count.result c.letters.result.now in let body = ap bytes_of c.in-Made.is in
     may_append g.C.Cell.tells g.C.Cell.state g.O.Origin.offers c.args.store.now c.args.tab e _ c.args.from c.args.upto c.args.pass.now bytes may
     (subst (λ z. bytes ≡ take (length bytes) (drop c.args.from z)) (sym body)
-    (taken_letters c.in-Made.shift c.in-Made.length c.args.from c.args.upto c.min-count.result c.letters-piece.result c.letters-piece.ensures.many (omega arith) (let o = c.requires.some in omega arith)
-    (let l = ap length body in let m = letters_many c.in-Made.shift c.in-Made.length in let a = may.inside in omega arith) c.letters-piece.ensures.letters)) in
+    (taken_letters c.in-Made.shift c.in-Made.length c.args.from c.args.upto c.min-count.result c.letters.result.now c.letters.ensures.many (omega arith) (let o = c.requires.some in omega arith)
+    (let l = ap length body in let m = letters_many c.in-Made.shift c.in-Made.length in let a = may.inside in omega arith) c.letters.ensures.letters)) in
     IfErr-weaker c.append-in-Made.result _ _ (λ fault stopped. (_, stopped)) (c.append-in-Made.ensures.err e next)
 
 pub returns-in-Made-clause-some : goal.returns-in-Made-clause-some
-returns-in-Made-clause-some g c = let long = length-take-le c.min-count.result c.letters-piece.result (let m = c.letters-piece.ensures.many in omega arith) in
+returns-in-Made-clause-some g c = let long = length-take-le c.min-count.result c.letters.result.now (let m = c.letters.ensures.many in omega arith) in
     IfOk-weaker c.append-in-Made.result _ _ (λ count both. (both.0, let h = both.1 in let o = c.requires.some in omega arith))
     (both_ok _ _ c.append-in-Made.result (c.append-in-Made.ensures.some (some_bytes _ (let o = c.requires.some in omega arith))) c.append-in-Made.ensures.within)
