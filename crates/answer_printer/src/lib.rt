@@ -5,6 +5,3 @@ mod buffer;
 mod print;
 
 pub use print::{PrintFault, print_answers};
-
-#[cfg(test)]
-mod tests;

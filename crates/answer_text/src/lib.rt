@@ -19,6 +19,3 @@ mod room;
 
 pub use laws::one_reading;
 pub use line::answer_line;
-
-#[cfg(test)]
-mod tests;

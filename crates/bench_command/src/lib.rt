@@ -9,6 +9,3 @@ mod running;
 
 pub use command::bench_command;
 pub use running::BenchTarget;
-
-#[cfg(test)]
-mod tests;

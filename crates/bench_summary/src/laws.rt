@@ -1,5 +1,5 @@
 // What holds of every summary. The function does nothing: the proof of a function that calls it may use what it ensures.
-ghost use Rattle.std.specs.Prelude.{◌≡◌, ◌+◌, List};
+ghost use Rattle.std.specs.Prelude.{◌≡◌, List};
 ghost use Rattle.script_text.specs.declared.answer.Answer.{Answer};
 ghost use Rattle.bench_summary.specs.Counts.{kinds_in, summary_of};
 

@@ -11,6 +11,3 @@ mod summary;
 pub use kind::Kind;
 pub use laws::answers_are_of_one_kind;
 pub use summary::{Summary, summary_line, summary_of};
-
-#[cfg(test)]
-mod tests;

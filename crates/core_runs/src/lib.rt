@@ -9,6 +9,3 @@ pub use laws::{
     slots_are_apart_along_runs,
 };
 pub use run::{RunEnd, run_steps};
-
-#[cfg(test)]
-mod tests;

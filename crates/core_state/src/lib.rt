@@ -14,6 +14,3 @@ mod step;
 pub use act::{Act, Picks, Step, StepFault};
 pub use core_table::Content;
 pub use machine::Core;
-
-#[cfg(test)]
-mod tests;

@@ -16,6 +16,3 @@ pub use layout::{
     GREATEST_SLOT, HEADER_BYTES, LEAST_SLOT, MOST_SLOTS, file_size, offset_of, slot_size_ok,
     slots_of,
 };
-
-#[cfg(test)]
-mod tests;

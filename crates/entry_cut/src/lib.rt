@@ -15,6 +15,3 @@ pub use cutter::Cutter;
 pub use laws::{filled_pages_are_pieces, pieces_make_the_content, placed_pieces_are_an_entry};
 pub use piece::{Behind, Label, piece_header, put_header};
 pub use sizes::{published, slots_needed};
-
-#[cfg(test)]
-mod tests;

@@ -8,6 +8,3 @@ mod owner;
 pub use laws::{numbers_of_links, numbers_of_owners};
 pub use link::{Link, pack_link, unpack_link};
 pub use owner::{Owner, pack_owner, unpack_owner};
-
-#[cfg(test)]
-mod tests;

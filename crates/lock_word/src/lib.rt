@@ -25,6 +25,3 @@ pub use number::{
 };
 pub use stage::Stage;
 pub use word::{Word, is_idle, is_left_over, is_vacant, pack, unpack, word_of};
-
-#[cfg(test)]
-mod tests;

@@ -12,6 +12,3 @@ pub use home::Home;
 pub use places::Marks;
 pub use seat::MarkSeat;
 pub use view::View;
-
-#[cfg(test)]
-mod tests;

@@ -13,6 +13,4 @@ mod writing;
 pub use laws::good_lines_are_servable;
 pub use opening::{fresh, opened};
 pub use serving::{Served, answers_of};
-
-#[cfg(test)]
-mod tests;
+pub use slots::held;

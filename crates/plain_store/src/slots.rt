@@ -9,8 +9,8 @@ use plain_model::{Life, Place, Plain, Refusal, Setting, Size};
 /// The most slots that an entry may have, whatever the store has.
 const MOST_SLOTS: u64 = 4096;
 
-/// How many slots an anchor's entry holds.
-pub(crate) fn held(room: u32, place: &Place) -> u64
+/// How many slots an anchor's entry holds, where a slot has room for so many bytes.
+pub fn held(room: u32, place: &Place) -> u64
     requires { 0 < room }
     ensures { result ≡ held room place.now }
 {

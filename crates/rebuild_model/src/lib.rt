@@ -23,6 +23,3 @@ pub use laws::{
 };
 pub use plain::complete_at;
 pub use rebuilt::Rebuilt;
-
-#[cfg(test)]
-mod tests;

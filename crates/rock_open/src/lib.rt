@@ -9,6 +9,3 @@ mod opening;
 pub use closing::{close_store, closed_cells_may_be_given_back};
 pub use fault::OpenStoreFault;
 pub use opening::{OpenStore, open_store};
-
-#[cfg(test)]
-mod tests;

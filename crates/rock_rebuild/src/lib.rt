@@ -33,6 +33,3 @@ pub use rebuild_model::{Found, FoundList, Rebuilt};
 pub use rebuilding::rebuild;
 pub use scanning::scan;
 pub use tallying::tally;
-
-#[cfg(test)]
-mod tests;

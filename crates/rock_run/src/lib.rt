@@ -12,6 +12,3 @@ mod stations;
 pub use faults::status_of_run;
 pub use laws::read_scripts_may_be_served;
 pub use run::run_script;
-
-#[cfg(test)]
-mod tests;

@@ -5,6 +5,3 @@ mod command;
 mod faults;
 
 pub use command::{RunTarget, run_command};
-
-#[cfg(test)]
-mod tests;

@@ -26,6 +26,3 @@ pub use line::{Line, Lines, Script};
 pub use request::Request;
 pub use script::read_script;
 pub use shelf::Shelf;
-
-#[cfg(test)]
-mod tests;

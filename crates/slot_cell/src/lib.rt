@@ -8,6 +8,3 @@ mod laws;
 pub use header::{GREATEST_VERSION, HEADER_SIZE, Header};
 pub use image::{build_image, read_image};
 pub use laws::{headers_are_read_as_written, images_are_read_as_built, limits_are_these};
-
-#[cfg(test)]
-mod tests;

@@ -10,6 +10,3 @@ pub use anchor::anchor_of;
 pub use key::key_of;
 pub use laws::keys_have_16_bytes;
 pub use url::{UrlFault, check_url};
-
-#[cfg(test)]
-mod tests;

@@ -16,6 +16,3 @@ pub use gate::{Gate, OpenGate};
 pub use laws::scripts_may_be_run;
 pub use notes::Of;
 pub use run::{Ran, run_workers};
-
-#[cfg(test)]
-mod tests;

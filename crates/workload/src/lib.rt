@@ -10,6 +10,3 @@ mod urls;
 
 pub use laws::bench_lines_may_be_served;
 pub use script::bench_script;
-
-#[cfg(test)]
-mod tests;

@@ -1,0 +1,18 @@
+//! Tests of the lowest crates: sources and sinks, the words, headers, keys and offsets of a database file, and
+//! how an entry is cut into slots.
+#![tactic(auto)]
+
+#[cfg(test)]
+mod cells;
+#[cfg(test)]
+mod cuts;
+#[cfg(test)]
+mod keys;
+#[cfg(test)]
+mod layouts;
+#[cfg(test)]
+mod links;
+#[cfg(test)]
+mod locks;
+#[cfg(test)]
+mod streams;

@@ -1,0 +1,5 @@
+//! Tests of lists of steps of the pure core.
+#![tactic(auto)]
+
+#[cfg(test)]
+mod runs;

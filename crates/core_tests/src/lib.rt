@@ -1,0 +1,5 @@
+//! Tests of the pure core: steps, and what each answers.
+#![tactic(auto)]
+
+#[cfg(test)]
+mod steps;

@@ -1,0 +1,11 @@
+//! Tests of marks and of workers on threads, and of the script and the summary of a benchmark.
+#![tactic(auto)]
+
+#[cfg(test)]
+mod loads;
+#[cfg(test)]
+mod marking;
+#[cfg(test)]
+mod summaries;
+#[cfg(test)]
+mod workers;

@@ -1,0 +1,295 @@
+ghost use Rattle.std.specs.Prelude.{◌≡◌, ◌≤◌, IfOk, length, vec_len};
+ghost use Rattle.std.specs.List.{Contains};
+ghost use Rattle.script_text.specs.declared.line.Line.{Line};
+ghost use Rattle.worker_pool.specs.Knowing.{HasMarks};
+
+use rock_io::{MemSource, Memory};
+use script_text::{Answer, Line, Script, ScriptFault, Shelf, read_script};
+use std::alloc::{AllocError, Global};
+use std::fmt::Write;
+use std::sync::Wait;
+use std::sync::atomic::{AtomicBool, Ordering};
+use std::test::Fail;
+use std::thread;
+use std::thread::Threads;
+use worker_pool::{Gate, OpenGate, Ran, run_workers};
+
+/// A shelf that counts the lines that it served, and those of others that it heard of.
+#[derive(Drop)]
+struct Counter {
+    count: u32,
+    /// How many lines it serves before it wants memory.
+    room: u32,
+    has_left: bool,
+}
+
+/// A note that knows each number below its count.
+#[derive(Drop)]
+struct Count {
+    count: u32,
+}
+
+impl Shelf for Counter {
+    ghost use Rattle.std.specs.Prelude.{◌≡◌, ℕ, ◌<◌, ◌≤◌, true};
+    ghost use Rattle.script_text.specs.declared.line.Line.{Line};
+    ghost use Rattle.script_text.specs.declared.answer.Answer.TheVariants.{Added};
+
+    type N = Count;
+
+    ghost takes = { λ _ _. Unit {0} };
+
+    ghost went = { λ before _ answer after. (answer ≡ Added after.count) × (before.count ≤ after.count) };
+
+    ghost Fact = { ℕ };
+
+    ghost knows = { λ shelf n. n < shelf.count };
+
+    ghost note_knows = { λ note n. n < note.count };
+
+    ghost Home = { Unit {0} };
+
+    ghost home = { λ _. tt };
+
+    ghost note_home = { λ _. tt };
+
+    ghost name = { λ _. 0 };
+
+    ghost is_free = { λ _ _. Unit {0} };
+
+    ghost noted = { λ before note after. (note.count ≡ before.count) × (after ≡ before) };
+
+    ghost learned = { λ before note after. (before.count ≤ after.count) × (note.count ≤ after.count) };
+
+    ghost left = { λ before after. (after.count ≡ before.count) × (after.has_left ≡ true) };
+
+    fn serve<R: Wait>(&mut self, _rt: &R, _alloc: Global, _line: &Line) -> Result<Answer, Memory> {
+        if self.room == 0 {
+            return Err(Memory);
+        }
+        self.room -= 1;
+        self.count = self.count.saturating_add(1);
+        Ok(Answer::Added { count: self.count })
+    }
+
+    fn note(&mut self) -> Count {
+        Count { count: self.count }
+    }
+
+    fn learn(&mut self, note: Count) {
+        self.count = self.count.max(note.count);
+    }
+
+    fn leave_all(&mut self) {
+        self.has_left = true;
+    }
+}
+
+/// What a line was answered.
+#[derive(Debug, Drop, PartialEq)]
+enum Told {
+    Count(u32),
+    Marked,
+    Met,
+    Unmet,
+    Other,
+}
+
+fn outcome(answer: &Answer) -> Told {
+    match answer {
+        Answer::Added { count } => Told::Count(*count),
+        Answer::Marked => Told::Marked,
+        Answer::Met => Told::Met,
+        Answer::Unmet => Told::Unmet,
+        _ => Told::Other,
+    }
+}
+
+/// A script that was read.
+fn script_of(alloc: Global, text: &[u8], workers: u32) -> Result<Script, ScriptFault>
+    ensures marks { IfOk result (λ script. HasMarks script.lines) }
+    ensures workers { IfOk result (λ script. (line : Line) → Contains script.lines line → (1 ≤ line.worker) × (line.worker ≤ workers)) }
+{
+    let bytes = text.to_vec(alloc).map_err(Memory::from)?;
+    let mut source = MemSource::new(bytes, 4096, Vec::new(alloc));
+    read_script(alloc, &mut source, workers)
+}
+
+/// Shelves of these rooms.
+fn shelves_of(alloc: Global, rooms: &[u32]) -> Result<Vec<Counter>, Memory>
+    ensures { IfOk result (λ shelves. vec_len shelves ≡ length rooms.now) }
+{
+    let mut shelves = Vec::new(alloc);
+    for room in rooms {
+        shelves.push(Counter {
+            count: 0,
+            room: *room,
+            has_left: false,
+        })?;
+    }
+    Ok(shelves)
+}
+
+fn run<R: Threads + Wait + Sync, G: Gate + Sync>(
+    rt: &R,
+    alloc: Global,
+    text: &[u8],
+    rooms: &[u32],
+    gate: &G,
+) -> Result<Result<Ran<Counter>, Vec<Counter>>, ScriptFault>
+    requires { (1 ≤ length rooms.now) × (length rooms.now ≤ 32) }
+{
+    let script = script_of(alloc, text, rooms.len() as u32)?;
+    let shelves = shelves_of(alloc, rooms)?;
+    Ok(run_workers(rt, alloc, shelves, &script, gate))
+}
+
+/// The lines of each worker in its order, with what they were answered.
+fn rows_of(alloc: Global, ran: &Ran<Counter>) -> Result<Vec<(u32, Told)>, Memory> {
+    let mut rows = Vec::new(alloc);
+    for answers in &ran.answers {
+        for (number, answer) in answers {
+            rows.push((*number, outcome(answer)))?;
+        }
+    }
+    Ok(rows)
+}
+
+/// Holds a line back until another one was asked for, for so many turns at most.
+#[derive(Drop)]
+struct Order {
+    held: u32,
+    until: u32,
+    was_asked: AtomicBool,
+    is_late: AtomicBool,
+}
+
+impl Order {
+    fn new(held: u32, until: u32) -> Self {
+        Order {
+            held,
+            until,
+            was_asked: AtomicBool::new(false),
+            is_late: AtomicBool::new(false),
+        }
+    }
+
+    fn hold(&self) {
+        for turn in 0..100_000_000u32 {
+            if self.was_asked.load(Ordering::SeqCst) {
+                return;
+            }
+            if turn % 1024 == 0 {
+                thread::yield_now();
+            }
+        }
+        self.is_late.store(true, Ordering::SeqCst);
+    }
+}
+
+impl Gate for Order {
+    fn before(&self, _worker: u32, number: u32) {
+        if number == self.until {
+            self.was_asked.store(true, Ordering::SeqCst);
+        }
+        if number == self.held {
+            self.hold();
+        }
+    }
+}
+
+#[test]
+fn two_workers_meet(rt: HostRuntime) -> Result<(), Fail> {
+    let order = Order::new(1, 2);
+    let ran = run(&rt, rt.alloc(), b"1 more 0\n2 more 0\n", &[9, 9], &order)?;
+    assert!(rt; ran.is_ok());
+    assert!(rt; !order.is_late.load(Ordering::SeqCst));
+    Ok(())
+}
+
+#[test]
+fn marks_are_met_before_and_after_they_were_set(rt: HostRuntime) -> Result<(), Fail> {
+    let text = b"1 more 0\n1 mark 5\n1 more 0\n2 await 5\n2 more 0\n";
+    // The mark is held back until it is awaited, and then the other way round.
+    for (held, until) in [(2, 4), (4, 3)] {
+        let order = Order::new(held, until);
+        let Ok(ran) = run(&rt, rt.alloc(), text, &[9, 9], &order)? else {
+            assert!(rt; false, "memory was wanted");
+            return Ok(());
+        };
+        let rows = rows_of(rt.alloc(), &ran)?;
+        let expected = [
+            (1, Told::Count(1)),
+            (2, Told::Marked),
+            (3, Told::Count(2)),
+            (4, Told::Met),
+            (5, Told::Count(2)),
+        ];
+        assert_eq!(rt; rows.as_slice(), expected.as_slice(), "{held}");
+        assert!(rt; !order.is_late.load(Ordering::SeqCst), "{held}");
+        assert!(rt; ran.shelves.iter().all(|shelf| shelf.has_left), "{held}");
+    }
+    Ok(())
+}
+
+#[test]
+fn a_mark_is_unmet_where_no_earlier_line_sets_it(rt: HostRuntime) -> Result<(), Fail> {
+    let text = b"1 await 3\n1 more 0\n2 mark 3\n2 await 3\n2 await 4\n2 more 0\n";
+    let Ok(ran) = run(&rt, rt.alloc(), text, &[9, 9], &OpenGate)? else {
+        assert!(rt; false, "memory was wanted");
+        return Ok(());
+    };
+    let rows = rows_of(rt.alloc(), &ran)?;
+    let expected = [
+        (1, Told::Unmet),
+        (2, Told::Count(1)),
+        (3, Told::Marked),
+        (4, Told::Met),
+        (5, Told::Unmet),
+        (6, Told::Count(1)),
+    ];
+    assert_eq!(rt; rows.as_slice(), expected.as_slice());
+    Ok(())
+}
+
+#[test]
+fn a_worker_that_wants_memory_still_sets_its_marks(rt: HostRuntime) -> Result<(), Fail> {
+    let text = b"1 more 0\n1 more 0\n1 mark 7\n1 more 0\n2 await 7\n2 more 0\n";
+    let Err(shelves) = run(&rt, rt.alloc(), text, &[1, 9], &OpenGate)? else {
+        assert!(rt; false, "no memory was wanted");
+        return Ok(());
+    };
+    for (place, count) in [(0, 1), (1, 2)] {
+        let shelf = shelves
+            .get(place)
+            .map(|shelf| (shelf.count, shelf.has_left));
+        assert_eq!(rt; shelf, Some((count, true)), "{place}");
+    }
+    Ok(())
+}
+
+/// A script in which each worker waits for the mark of the one before, serves a line and sets its own mark.
+fn chain_of(alloc: Global, workers: u32) -> Result<String, AllocError> {
+    let mut text = String::new(alloc);
+    for worker in 1..=workers {
+        write!(
+            text,
+            "{worker} await {}\n{worker} more 0\n{worker} mark {worker}\n",
+            worker - 1
+        )?;
+    }
+    Ok(text)
+}
+
+#[test]
+fn thirty_two_workers_wait_for_one_another(rt: HostRuntime) -> Result<(), Fail> {
+    let text = chain_of(rt.alloc(), 32)?;
+    let Ok(ran) = run(&rt, rt.alloc(), text.as_bytes(), &[9; 32], &OpenGate)? else {
+        assert!(rt; false, "memory was wanted");
+        return Ok(());
+    };
+    assert_eq!(rt; ran.shelves.len(), 32);
+    for (place, shelf) in ran.shelves.iter().enumerate() {
+        assert_eq!(rt; shelf.count as usize, place + 1);
+    }
+    Ok(())
+}
