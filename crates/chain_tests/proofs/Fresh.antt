@@ -9,7 +9,7 @@ use Rattle.store_rule.specs.declared.store.Store.{Store}
 use Rattle.store_rule.specs.Ground.{Offers}
 use Rattle.store_rule.specs.Passes.{IsNewOf, IsOf, view}
 use Rattle.core_model.specs.declared.tab.Writer.{Writer}
-use Rattle.pass_calls.specs.Calls.{Others}
+use Rattle.store_rule.specs.Calls.{Others}
 use Rattle.chain_tests.specs.Tabs.{IsIdle, IsWriter}
 
 pub new_is_idle : {C O : Type 0} → (tells : Bool) (state : C → CellState) (offers : O → Offers) (s : Store C O) (p : Pass C) → IsNewOf tells state offers s p → IsIdle tells state offers s p 0

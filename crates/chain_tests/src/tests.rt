@@ -4,7 +4,7 @@ ghost use Rattle.core_model.specs.Tabs.{tab_at};
 ghost use Rattle.core_model.specs.declared.tab.Tab.TheVariants.{Reading, Writing};
 ghost use Rattle.core_model.specs.declared.tab.Reader.{Reader};
 ghost use Rattle.core_model.specs.declared.tab.Writer.{Writer};
-ghost use Rattle.pass_calls.specs.Calls.{Others};
+ghost use Rattle.store_rule.specs.Calls.{Others};
 ghost use Rattle.slice_chain.specs.Reads.{went_on};
 ghost use Rattle.store_rule.specs.Lending.{with_bytes};
 ghost use Rattle.store_rule.specs.Passes.{basis, view};

@@ -23,11 +23,11 @@ use Rattle.rock_writer.specs.Entries.{Entry, WritesAs, size_of}
 use Rattle.rock_writer.specs.declared.fault.WriteFault.{WriteFault}
 use Rattle.store_serve.specs.Adding.{Added, NotAdded, taken_on}
 use Rattle.store_serve.specs.Storing.{left_of}
-use Rattle.call_records.specs.Deeds.{OfGivingUp, OfPublishing, name_of}
-use Rattle.call_records.specs.Showing.{HasShown}
-use Rattle.call_records.proofs.Counts as counts
-use Rattle.call_records.proofs.ServingDeeds as serving
-use Rattle.call_records.proofs.WriterDeeds.{entry_of}
+use Rattle.serve_lines.specs.Deeds.{OfGivingUp, OfPublishing, name_of}
+use Rattle.serve_lines.specs.Showing.{HasShown}
+use Rattle.serve_lines.proofs.Counts as counts
+use Rattle.serve_lines.proofs.ServingDeeds as serving
+use Rattle.serve_lines.proofs.WriterDeeds.{entry_of}
 use Rattle.serve_lines.specs.Answers.{answer_to_add, answer_to_fault}
 use Rattle.serve_lines.specs.Tabs.{IsTurnedAway, Leaves}
 use Rattle.serve_lines.specs.Whole.{whole_tab}

@@ -17,10 +17,10 @@ use Rattle.store_rule.specs.Ground.{Ground, Offers, anchor_for}
 use Rattle.store_rule.specs.Passes.{basis, view}
 use Rattle.rock_writer.specs.Beginning.{Began, IsTooLong, NotTaken, begun}
 use Rattle.rock_writer.specs.declared.fault.BeginFault.{BeginFault}
-use Rattle.call_records.specs.Deeds.{OfBeginning}
-use Rattle.call_records.proofs.Counts as counts
-use Rattle.call_records.proofs.Slots.{named as naming_keeps}
-use Rattle.call_records.proofs.WriterDeeds.{began as began_acted}
+use Rattle.serve_lines.specs.Deeds.{OfBeginning}
+use Rattle.serve_lines.proofs.Counts as counts
+use Rattle.serve_lines.proofs.Slots.{named as naming_keeps}
+use Rattle.serve_lines.proofs.WriterDeeds.{began as began_acted}
 use Rattle.serve_lines.specs.Answers.{answer_to_begin, answer_to_refusal}
 use Rattle.serve_lines.specs.Tabs.{IsFree, IsOffered, IsTurnedAway, Leaves}
 use Rattle.serve_lines.specs.Whole.{whole_tab}

@@ -18,11 +18,11 @@ use Rattle.line_account.specs.Courses.{Keeps}
 use Rattle.store_rule.specs.Ground.{Ground}
 use Rattle.store_rule.specs.Told.{Steps}
 use Rattle.store_rule.proofs.Moves.{known_of}
-use Rattle.pass_calls.specs.Calls.{IsFresh}
+use Rattle.store_rule.specs.Calls.{IsFresh}
 use Rattle.rock_writer.specs.Beginning.{InUse, Overtaken, Took, TookAnchor, WasIdle, WasVacant}
-use Rattle.call_records.proofs.Anchors.{drew}
-use Rattle.call_records.proofs.Grown.{by_step, on, same}
-use Rattle.call_records.proofs.Slots.{freed}
+use Rattle.serve_lines.proofs.Anchors.{drew}
+use Rattle.serve_lines.proofs.Grown.{by_step, on, same}
+use Rattle.serve_lines.proofs.Slots.{freed}
 use Rattle.crew_accounts.proofs.Shown.{fresh_from, fresh_to}
 
 module _ {X : Type 0} {g : Ground X} {t a : ℕ} {v : View X} where

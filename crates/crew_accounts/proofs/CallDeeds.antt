@@ -17,8 +17,8 @@ use Rattle.rock_writer.specs.declared.fault.Ended.{Ended}
 use Rattle.rock_writer.specs.declared.fault.Ended.TheVariants.{Doomed, Stored}
 use Rattle.rock_writer.specs.Finishing.{is_doomed, version_of}
 use Rattle.serve_lines.specs.Answers.{answer_to_ended}
-use Rattle.call_records.specs.Acting.{Acted}
-use Rattle.call_records.specs.Deeds.{HasNames, Naming, OfBeginning, OfClosing, OfEnding, OfGivingUp, OfHalting, OfLeaving, OfPublishing, OfPurging, OfPutting, OfPuttingInVain, OfRefusing, OfReserving, OfVisiting}
+use Rattle.serve_lines.specs.Acting.{Acted}
+use Rattle.serve_lines.specs.Deeds.{HasNames, Naming, OfBeginning, OfClosing, OfEnding, OfGivingUp, OfHalting, OfLeaving, OfPublishing, OfPurging, OfPutting, OfPuttingInVain, OfRefusing, OfReserving, OfVisiting}
 use Rattle.crew_accounts.proofs.DeedLines as deed
 
 -- how an entry ended, as its answer tells it

@@ -11,8 +11,8 @@ use Rattle.store_rule.specs.declared.store.Pass.{Pass}
 use Rattle.store_rule.specs.declared.store.Store.{Store}
 use Rattle.store_rule.specs.Ground.{Ground, Offers}
 use Rattle.store_rule.specs.Passes.{basis, view}
-use Rattle.call_records.specs.Deeds.{OfLeaving}
-use Rattle.call_records.proofs.ReaderDeeds.{parted}
+use Rattle.serve_lines.specs.Deeds.{OfLeaving}
+use Rattle.serve_lines.proofs.ReaderDeeds.{parted}
 use Rattle.serve_lines.specs.Reading.{Closes, ClosesOn}
 use Rattle.serve_lines.specs.Tabs.{IsTurnedAway, Leaves}
 use Rattle.serve_lines.specs.Whole.{whole_tab}

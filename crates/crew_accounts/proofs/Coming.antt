@@ -15,17 +15,17 @@ use Rattle.line_account.specs.Courses.{Keeps}
 use Rattle.line_account.specs.Lines.{Served, url_at, url_in}
 use Rattle.store_rule.specs.Ground.{Ground, anchor_for}
 use Rattle.store_rule.specs.Told.{Steps}
-use Rattle.pass_calls.specs.Calls.{IsFresh}
+use Rattle.store_rule.specs.Calls.{IsFresh}
 use Rattle.rw_anchor.specs.declared.Left.{Left}
 use Rattle.rock_reader.specs.Opening.{opened}
 use Rattle.rock_reader.specs.Opening as reader
 use Rattle.rock_reader.proofs.Coming.{came_tabs, entered_readable}
 use Rattle.purge_entry.specs.Judging as purge
 use Rattle.purge_entry.specs.Parting.{Parted}
-use Rattle.call_records.proofs.Anchors.{leaves}
-use Rattle.call_records.proofs.Grown.{on}
-use Rattle.call_records.proofs.Readers as readers
-use Rattle.call_records.proofs.Slots.{freed}
+use Rattle.serve_lines.proofs.Anchors.{leaves}
+use Rattle.serve_lines.proofs.Grown.{on}
+use Rattle.serve_lines.proofs.Readers as readers
+use Rattle.serve_lines.proofs.Slots.{freed}
 use Rattle.worker_shelf.specs.Typed.{TellsKey}
 use Rattle.crew_accounts.specs.Runs.{Past, run_of}
 use Rattle.crew_accounts.proofs.Refusing.{away_cause, other_cause}

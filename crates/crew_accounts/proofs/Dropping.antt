@@ -11,8 +11,8 @@ use Rattle.store_rule.specs.declared.store.Pass.{Pass}
 use Rattle.store_rule.specs.declared.store.Store.{Store}
 use Rattle.store_rule.specs.Ground.{Ground, Offers}
 use Rattle.store_rule.specs.Passes.{basis, view}
-use Rattle.call_records.specs.Deeds.{OfHalting, name_of}
-use Rattle.call_records.proofs.WriterDeeds.{entry_of, halts as halts_acted}
+use Rattle.serve_lines.specs.Deeds.{OfHalting, name_of}
+use Rattle.serve_lines.proofs.WriterDeeds.{entry_of, halts as halts_acted}
 use Rattle.serve_lines.specs.Tabs.{IsTurnedAway, Leaves}
 use Rattle.serve_lines.specs.Whole.{whole_tab}
 use Rattle.serve_lines.specs.Writing.{Drops, DropsOn}

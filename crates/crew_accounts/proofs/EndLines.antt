@@ -14,7 +14,7 @@ use Rattle.store_rule.specs.declared.store.Pass.{Pass}
 use Rattle.store_rule.specs.declared.store.Store.{Store}
 use Rattle.store_rule.specs.Ground.{Ground, Offers}
 use Rattle.store_rule.specs.Passes.{basis, view}
-use Rattle.pass_calls.specs.Calls.{IsFresh}
+use Rattle.store_rule.specs.Calls.{IsFresh}
 use Rattle.rock_writer.specs.Entries.{Entry, WritesAs}
 use Rattle.rock_writer.specs.Finishing.{version_of}
 use Rattle.rock_writer.specs.declared.fault.Ended.{Ended}
@@ -22,9 +22,9 @@ use Rattle.rock_writer.specs.declared.fault.Ended.TheVariants.{Doomed, Stored}
 use Rattle.rock_writer.specs.declared.fault.WriteFault.{WriteFault}
 use Rattle.rock_writer.specs.declared.fault.WriteFault.TheVariants.{Fault, Full, Large}
 use Rattle.store_serve.specs.Storing.{EndedWhole, NotEnded}
-use Rattle.call_records.specs.Deeds.{OfEnding, OfGivingUp, name_of}
-use Rattle.call_records.proofs.ServingDeeds as serving
-use Rattle.call_records.proofs.WriterDeeds.{entry_of}
+use Rattle.serve_lines.specs.Deeds.{OfEnding, OfGivingUp, name_of}
+use Rattle.serve_lines.proofs.ServingDeeds as serving
+use Rattle.serve_lines.proofs.WriterDeeds.{entry_of}
 use Rattle.serve_lines.specs.Answers.{answer_to_end, answer_to_ended, answer_to_fault}
 use Rattle.serve_lines.specs.Tabs.{IsFree, IsTurnedAway, Leaves}
 use Rattle.serve_lines.specs.Whole.{whole_tab}

@@ -11,16 +11,16 @@ use Rattle.store_rule.specs.declared.store.Pass.{Pass}
 use Rattle.store_rule.specs.declared.store.Store.{Store}
 use Rattle.store_rule.specs.Ground.{Offers}
 use Rattle.store_rule.specs.Passes.{basis, view}
-use Rattle.pass_calls.specs.Calls.{IsFresh}
+use Rattle.store_rule.specs.Calls.{IsFresh}
 use Rattle.rock_writer.specs.Entries.{Entry}
 use Rattle.rock_writer.specs.Finishing.{is_doomed, version_of}
 use Rattle.rock_writer.specs.declared.fault.Ended.{Ended}
 use Rattle.rock_writer.specs.declared.fault.Ended.TheVariants.{Doomed, Stored}
 use Rattle.store_serve.specs.Adding.{taken_on}
 use Rattle.store_serve.specs.Storing.{EndedWhole, left_of}
-use Rattle.call_records.specs.Deeds.{HasNames, name_of}
-use Rattle.call_records.proofs.Serving.{added}
-use Rattle.call_records.proofs.WriterDeeds.{entry_of}
+use Rattle.serve_lines.specs.Deeds.{HasNames, name_of}
+use Rattle.serve_lines.proofs.Serving.{added}
+use Rattle.serve_lines.proofs.WriterDeeds.{entry_of}
 use Rattle.crew_accounts.proofs.GivingUp.{closed_epoch}
 use Rattle.crew_accounts.proofs.Halting.{finished_names, finished_word}
 use Rattle.crew_accounts.proofs.Shown.{fresh_from}

@@ -28,7 +28,7 @@ use Rattle.store_rule.specs.declared.store.Pass.{Pass}
 use Rattle.store_rule.specs.declared.store.Store.{Store}
 use Rattle.store_rule.specs.Ground.{Ground, Offers, anchor_for, cut_of}
 use Rattle.store_rule.specs.Passes.{basis, view}
-use Rattle.pass_calls.specs.Calls.{IsFresh}
+use Rattle.store_rule.specs.Calls.{IsFresh}
 use Rattle.rock_reader.specs.Opening.{Refused}
 use Rattle.rock_reader.specs.Reading.{Standing, StaysOther, TurnsOut, newly}
 use Rattle.rock_reader.specs.Responses.{body_below, pieces_of}
@@ -37,11 +37,11 @@ use Rattle.rock_reader.specs.declared.answer.More.TheVariants as more
 use Rattle.store_serve.specs.Getting.{GotAs, GotEntry}
 use Rattle.store_serve.specs.declared.getting.Got.{Got}
 use Rattle.store_serve.specs.declared.getting.Got.TheVariants.{Found, Missing}
-use Rattle.call_records.specs.Deeds.{OfVisiting}
-use Rattle.call_records.proofs.Grown.{on}
-use Rattle.call_records.proofs.ReaderDeeds as reader
-use Rattle.call_records.proofs.Readers.{gave, opened as opening_keeps, parted}
-use Rattle.call_records.proofs.ServingDeeds as serving
+use Rattle.serve_lines.specs.Deeds.{OfVisiting}
+use Rattle.serve_lines.proofs.Grown.{on}
+use Rattle.serve_lines.proofs.ReaderDeeds as reader
+use Rattle.serve_lines.proofs.Readers.{gave, opened as opening_keeps, parted}
+use Rattle.serve_lines.proofs.ServingDeeds as serving
 use Rattle.serve_lines.specs.Answers.{AnswersGet, AnswersWhole}
 use Rattle.serve_lines.specs.Tabs.{IsFree, Leaves}
 use Rattle.serve_lines.specs.Whole.{Gets, whole_tab}

@@ -26,11 +26,11 @@ use Rattle.rock_writer.specs.Flushing.{NotFlushed, RanShort, SlotFor}
 use Rattle.rock_writer.specs.Halting.{GaveBack, GaveUnlinked, Halts, first_of, second_of}
 use Rattle.store_serve.specs.Adding.{Call, NotAdded, Took, taken_on}
 use Rattle.store_serve.specs.Storing.{GaveUpPut, NotEnded, left_of}
-use Rattle.call_records.specs.Deeds.{HasNames, Naming, name_of}
-use Rattle.call_records.proofs.EntryTabs.{HasEntry, gave_tab, names_on, published_names, published_tab, raises, reserved_tab, same_tabs, same_view, wrote_tab}
-use Rattle.call_records.proofs.Grown.{by_step}
-use Rattle.call_records.proofs.WriterDeeds.{entry_of, has_both}
-use Rattle.call_records.proofs.Writers.{parted}
+use Rattle.serve_lines.specs.Deeds.{HasNames, Naming, name_of}
+use Rattle.serve_lines.proofs.EntryTabs.{HasEntry, gave_tab, names_on, published_names, published_tab, raises, reserved_tab, same_tabs, same_view, wrote_tab}
+use Rattle.serve_lines.proofs.Grown.{by_step}
+use Rattle.serve_lines.proofs.WriterDeeds.{entry_of, has_both}
+use Rattle.serve_lines.proofs.Writers.{parted}
 
 -- the pass has seen the version at HALTED
 pub record SeenHalted (n : Naming) (sights : List Sight) : Type 0 where

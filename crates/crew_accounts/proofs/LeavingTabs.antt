@@ -14,11 +14,11 @@ use Rattle.store_rule.specs.declared.store.Pass.{Pass}
 use Rattle.store_rule.specs.declared.store.Store.{Store}
 use Rattle.store_rule.specs.Ground.{Offers}
 use Rattle.store_rule.specs.Passes.{basis, view}
-use Rattle.call_records.specs.Acting.{Acted}
-use Rattle.call_records.specs.Deeds.{OfHalting, OfLeaving, name_of}
-use Rattle.call_records.proofs.AddingUp.{on, same, wider}
-use Rattle.call_records.proofs.ReaderDeeds.{parted}
-use Rattle.call_records.proofs.WriterDeeds.{entry_of, halts}
+use Rattle.serve_lines.specs.Acting.{Acted}
+use Rattle.serve_lines.specs.Deeds.{OfHalting, OfLeaving, name_of}
+use Rattle.serve_lines.proofs.AddingUp.{on, same, wider}
+use Rattle.serve_lines.proofs.ReaderDeeds.{parted}
+use Rattle.serve_lines.proofs.WriterDeeds.{entry_of, halts}
 use Rattle.serve_lines.specs.Whole.{whole_tab}
 use Rattle.worker_shelf.specs.Shelves.{LeavesFree, LeavesReader, LeavesWriter, LeftBelow}
 use Rattle.crew_accounts.specs.Runs.{Past, run_of}

@@ -26,16 +26,16 @@ use Rattle.store_rule.specs.declared.store.Pass.{Pass}
 use Rattle.store_rule.specs.declared.store.Store.{Store}
 use Rattle.store_rule.specs.Ground.{Ground, Offers, anchor_for, cut_of}
 use Rattle.store_rule.specs.Passes.{basis, view}
-use Rattle.pass_calls.specs.Calls.{IsFresh}
+use Rattle.store_rule.specs.Calls.{IsFresh}
 use Rattle.rock_reader.specs.Reading.{ReadsAs, Standing, StaysOther, TurnsOut, turned}
 use Rattle.rock_reader.specs.Responses.{body_below, pieces_of}
 use Rattle.rock_reader.specs.declared.answer.More.{More}
 use Rattle.rock_reader.specs.declared.answer.More.TheVariants as more
 use Rattle.store_serve.specs.Following.{WentOn}
-use Rattle.call_records.specs.Deeds.{NoDeed}
-use Rattle.call_records.proofs.Grown.{same}
-use Rattle.call_records.proofs.ServingDeeds as serving
-use Rattle.call_records.proofs.Readers.{gave}
+use Rattle.serve_lines.specs.Deeds.{NoDeed}
+use Rattle.serve_lines.proofs.Grown.{same}
+use Rattle.serve_lines.proofs.ServingDeeds as serving
+use Rattle.serve_lines.proofs.Readers.{gave}
 use Rattle.serve_lines.specs.Answers.{AnswersMore}
 use Rattle.serve_lines.specs.Reading.{ReadsMore, ReadsOn}
 use Rattle.serve_lines.specs.Tabs.{IsTurnedAway, Leaves}

@@ -20,10 +20,10 @@ use Rattle.store_rule.specs.Passes.{basis, view}
 use Rattle.rock_writer.specs.Beginning.{AreFresh, InUse, IsTooLong, NotTaken, Overtaken}
 use Rattle.rock_writer.specs.declared.fault.BeginFault.{BeginFault}
 use Rattle.rock_writer.specs.declared.fault.BeginFault.TheVariants.{Busy, LongUrl, Spent}
-use Rattle.call_records.specs.Acting.{Acted}
-use Rattle.call_records.specs.Deeds.{NoDeed}
-use Rattle.call_records.specs.Refusing.{CountedAll, DrewInVain}
-use Rattle.call_records.proofs.WriterDeeds.{not_taken}
+use Rattle.serve_lines.specs.Acting.{Acted}
+use Rattle.serve_lines.specs.Deeds.{NoDeed}
+use Rattle.serve_lines.specs.Refusing.{CountedAll, DrewInVain}
+use Rattle.serve_lines.proofs.WriterDeeds.{not_taken}
 use Rattle.serve_lines.specs.Answers.{answer_to_refusal}
 use Rattle.serve_lines.specs.Tabs.{IsOffered}
 use Rattle.worker_shelf.specs.Typed.{IsTyped}

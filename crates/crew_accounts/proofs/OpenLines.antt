@@ -19,8 +19,8 @@ use Rattle.store_rule.specs.Ground.{Ground, Offers, anchor_for}
 use Rattle.store_rule.specs.Passes.{basis, view}
 use Rattle.rock_reader.specs.Opening.{OpenedEntry, Refused}
 use Rattle.rock_reader.specs.Reading.{ReadsAs, newly}
-use Rattle.call_records.specs.Deeds.{Enters, OfVisiting}
-use Rattle.call_records.proofs.ReaderDeeds as reader
+use Rattle.serve_lines.specs.Deeds.{Enters, OfVisiting}
+use Rattle.serve_lines.proofs.ReaderDeeds as reader
 use Rattle.serve_lines.specs.Answers.{answer_to_open}
 use Rattle.serve_lines.specs.Reading.{Opens, OpensOn}
 use Rattle.serve_lines.specs.Tabs.{IsFree, IsTurnedAway, Leaves}

@@ -22,8 +22,8 @@ use Rattle.store_rule.specs.Ground.{Ground, Offers, anchor_for}
 use Rattle.store_rule.specs.Passes.{basis, view}
 use Rattle.purge_entry.specs.Judging.{Refused}
 use Rattle.purge_entry.specs.Purging.{Purged}
-use Rattle.call_records.specs.Deeds.{OfPurging, OfVisiting}
-use Rattle.call_records.proofs.PurgeDeeds as purges
+use Rattle.serve_lines.specs.Deeds.{OfPurging, OfVisiting}
+use Rattle.serve_lines.proofs.PurgeDeeds as purges
 use Rattle.serve_lines.specs.Answers.{answer_to_purge}
 use Rattle.serve_lines.specs.Tabs.{IsFree, Leaves}
 use Rattle.serve_lines.specs.Whole.{Purges, whole_tab}

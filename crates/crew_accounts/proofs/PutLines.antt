@@ -18,7 +18,7 @@ use Rattle.store_rule.specs.declared.store.Pass.{Pass}
 use Rattle.store_rule.specs.declared.store.Store.{Store}
 use Rattle.store_rule.specs.Ground.{Ground, Offers, anchor_for}
 use Rattle.store_rule.specs.Passes.{basis, view}
-use Rattle.pass_calls.specs.Calls.{IsFresh}
+use Rattle.store_rule.specs.Calls.{IsFresh}
 use Rattle.rock_writer.specs.Beginning.{IsTooLong, begun}
 use Rattle.rock_writer.specs.Entries.{Entry, body_in, url_in}
 use Rattle.rock_writer.specs.Finishing.{version_of}
@@ -30,9 +30,9 @@ use Rattle.rock_writer.specs.declared.fault.WriteFault.TheVariants.{Fault, Full,
 use Rattle.store_serve.specs.Storing.{GaveUpPut, NotPut, PutWhole}
 use Rattle.store_serve.specs.declared.storing.PutFault.{PutFault}
 use Rattle.store_serve.specs.declared.storing.PutFault.TheVariants.{Begin, Write}
-use Rattle.call_records.specs.Deeds.{HasNames, OfPutting, OfPuttingInVain, name_of}
-use Rattle.call_records.proofs.ServingDeeds as serving
-use Rattle.call_records.proofs.Writers.{began}
+use Rattle.serve_lines.specs.Deeds.{HasNames, OfPutting, OfPuttingInVain, name_of}
+use Rattle.serve_lines.proofs.ServingDeeds as serving
+use Rattle.serve_lines.proofs.Writers.{began}
 use Rattle.serve_lines.specs.Answers.{answer_to_ended, answer_to_fault, answer_to_put, answer_to_refusal}
 use Rattle.serve_lines.specs.Tabs.{IsFree, IsOffered, Leaves}
 use Rattle.serve_lines.specs.Whole.{Puts, whole_tab}

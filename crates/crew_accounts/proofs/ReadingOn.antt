@@ -23,9 +23,9 @@ use Rattle.slice_chain.specs.Links.{Linked, Located}
 use Rattle.rock_reader.specs.Reading.{HasTried, LookedAt, ReadsAs, Standing, onward}
 use Rattle.rock_reader.specs.declared.answer.More.TheVariants.{Piece}
 use Rattle.store_serve.specs.Following.{Given, Gives}
-use Rattle.call_records.proofs.Grown.{on, same}
-use Rattle.call_records.proofs.Readers.{gave}
-use Rattle.call_records.proofs.Slots.{read_slot}
+use Rattle.serve_lines.proofs.Grown.{on, same}
+use Rattle.serve_lines.proofs.Readers.{gave}
+use Rattle.serve_lines.proofs.Slots.{read_slot}
 
 -- the same entry, read from the same URL
 pub record IsSameEntry (e f : Standing) : Type 0 where

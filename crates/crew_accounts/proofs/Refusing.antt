@@ -19,7 +19,7 @@ use Rattle.line_account.specs.Answers.{IsKeyRead, Run}
 use Rattle.line_account.specs.Accounts.{epoch_in}
 use Rattle.line_account.specs.Lines.{Served, url_at, url_in}
 use Rattle.store_rule.specs.Ground.{Ground, anchor_for}
-use Rattle.pass_calls.specs.Calls.{IsFresh}
+use Rattle.store_rule.specs.Calls.{IsFresh}
 use Rattle.slice_chain.specs.Names.{KeyLoaded}
 use Rattle.rock_reader.specs.Opening.{opened}
 use Rattle.rock_reader.proofs.Coming.{readable_is}

@@ -10,7 +10,7 @@ use Rattle.core_model.proofs.Lists.{cons_contains, contains_none}
 use Rattle.line_account.specs.Lines.{IsAnchorOf, Served, url_at}
 use Rattle.line_account.specs.Accounts.{Shows, epochs_of}
 use Rattle.line_account.specs.Courses.{Keeps}
-use Rattle.pass_calls.specs.Calls.{IsFresh}
+use Rattle.store_rule.specs.Calls.{IsFresh}
 
 -- What was seen is not above what is seen later.
 

@@ -15,9 +15,9 @@ use Rattle.store_rule.specs.declared.store.Store.{Store}
 use Rattle.store_rule.specs.Ground.{Ground, Offers}
 use Rattle.store_rule.specs.Passes.{basis, view}
 use Rattle.rock_writer.specs.Entries.{Entry}
-use Rattle.call_records.specs.Showing.{HasShown}
-use Rattle.call_records.proofs.EntryTabs.{names_on}
-use Rattle.call_records.proofs.Standing.{stays}
+use Rattle.serve_lines.specs.Showing.{HasShown}
+use Rattle.serve_lines.proofs.EntryTabs.{names_on}
+use Rattle.serve_lines.proofs.StandingReaders.{stays}
 use Rattle.serve_lines.specs.Tabs.{IsFree, Leaves}
 use Rattle.serve_lines.specs.Whole.{whole_tab}
 use Rattle.serve_lines.proofs.Standing.{writes_still}

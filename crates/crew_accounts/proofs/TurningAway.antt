@@ -14,7 +14,7 @@ use Rattle.store_rule.specs.declared.store.Pass.{Pass}
 use Rattle.store_rule.specs.declared.store.Store.{Store}
 use Rattle.store_rule.specs.Ground.{Offers}
 use Rattle.store_rule.specs.Passes.{basis, view}
-use Rattle.call_records.proofs.Grown as grown
+use Rattle.serve_lines.proofs.Grown as grown
 use Rattle.serve_lines.specs.Tabs.{IsTurnedAway}
 use Rattle.crew_accounts.specs.Lines.{AddsLine, served_as}
 use Rattle.crew_accounts.specs.Runs.{Past, run_of}

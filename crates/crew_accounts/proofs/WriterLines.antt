@@ -14,7 +14,7 @@ use Rattle.store_rule.specs.declared.store.Store.{Store}
 use Rattle.store_rule.specs.Ground.{Ground, Offers, anchor_for, url_of}
 use Rattle.store_rule.specs.Passes.{basis}
 use Rattle.rock_writer.specs.Entries.{Entry}
-use Rattle.call_records.specs.Deeds.{HasNames, name_of}
+use Rattle.serve_lines.specs.Deeds.{HasNames, name_of}
 use Rattle.crew_accounts.specs.Runs.{Past}
 use Rattle.crew_accounts.specs.Tracks.{IsWriter}
 use Rattle.crew_accounts.proofs.Halting.{SeenHalted}

@@ -15,7 +15,7 @@ use Rattle.store_rule.specs.Passes.{basis, view}
 use Rattle.rock_reader.specs.Reading.{ReadsAs, Standing}
 use Rattle.rock_reader.specs.Responses.{body_below}
 use Rattle.rock_writer.specs.Entries.{Entry, WritesAs}
-use Rattle.call_records.specs.Showing.{HasShown}
+use Rattle.serve_lines.specs.Showing.{HasShown}
 use Rattle.serve_lines.specs.Tabs.{IsFree, IsReady}
 use Rattle.serve_lines.specs.Whole.{whole_tab}
 use Rattle.crew_accounts.specs.Runs.{Past, run_of}

@@ -18,11 +18,11 @@ use Rattle.store_rule.specs.declared.store.Store.{Store}
 use Rattle.store_rule.specs.Ground.{Ground, Offers}
 use Rattle.store_rule.specs.Passes.{Made, May, basis, view}
 use Rattle.store_rule.specs.Told.{Stands, Steps, found_as}
-use Rattle.pass_calls.specs.Calls.{Follows}
-use Rattle.pass_calls.specs.Runs.{Added, added_by, nothing_added, together}
-use Rattle.pass_calls.specs.Words.{Mine, has, is_free_slot}
-use Rattle.pass_calls.proofs.AddingUp.{found_mine, has_else, has_left, went_none, went_one, went_then}
-use Rattle.pass_calls.proofs.Following.{follows_on, made_follows}
+use Rattle.store_rule.specs.Calls.{Follows}
+use Rattle.store_rule.specs.Runs.{Added, added_by, nothing_added, together}
+use Rattle.store_rule.specs.Words.{Mine, has, is_free_slot}
+use Rattle.store_rule.proofs.AddingUp.{found_mine, has_else, has_left, went_none, went_one, went_then}
+use Rattle.store_rule.proofs.Following.{follows_on, made_follows}
 use Rattle.free_set.specs.Claims.{Claimed, HasTried, MayClaim, tried}
 
 module _ {X : Type 0} (g : Ground X) where

@@ -11,8 +11,8 @@ use Rattle.store_rule.specs.declared.store.Pass.{Pass}
 use Rattle.store_rule.specs.declared.store.Store.{Store}
 use Rattle.store_rule.specs.Ground.{Ground, Offers}
 use Rattle.store_rule.specs.Passes.{IsOf, view}
-use Rattle.pass_calls.specs.Runs.{Added, Went}
-use Rattle.pass_calls.specs.Words.{Mine, has, is_free_slot}
+use Rattle.store_rule.specs.Runs.{Added, Went}
+use Rattle.store_rule.specs.Words.{Mine, has, is_free_slot}
 
 -- a try to reserve the slot j, which found its owner word as n
 abbrev pub tried : ℕ → ℕ → Item

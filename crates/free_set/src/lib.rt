@@ -6,7 +6,7 @@
 ghost use Rattle.std.specs.Prelude.{IfOk, OnErr, ℕ};
 ghost use Rattle.core_model.specs.declared.moves.Move.TheVariants.{Disown};
 ghost use Rattle.free_set.specs.Claims.{Claimed, FoundAllTaken, MayClaim};
-ghost use Rattle.pass_calls.specs.Calls.{Follows};
+ghost use Rattle.store_rule.specs.Calls.{Follows};
 ghost use Rattle.store_rule.specs.Passes.{Made, May, basis, view};
 
 use rock_disk::Cell;

@@ -35,7 +35,7 @@ use Rattle.plain_model.specs.Place.{nothing}
 use Rattle.plain_model.specs.Store.{epoch_of, place_at, published, readers, reads_at}
 use Rattle.store_rule.specs.Ground.{Ground, cut_of}
 use Rattle.store_rule.specs.Rebuilding.{IsOpenedWith, opened_state}
-use Rattle.plain_lines.specs.Words.{HasChain, HasNames, IsOfOffer, Knows, ShowsAt, ShowsEntry, ShowsEntryIf, no_guests}
+use Rattle.plain_runs.specs.Words.{HasChain, HasNames, IsOfOffer, Knows, ShowsAt, ShowsEntry, ShowsEntryIf, no_guests}
 use Rattle.plain_runs.specs.Ends.{HasVersions}
 use Rattle.plain_runs.proofs.Filled.{slots_filled}
 use Rattle.plain_runs.proofs.Kept.{HasNone, HasOne, one_kept, opened_place}

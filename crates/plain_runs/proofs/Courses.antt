@@ -31,8 +31,8 @@ use Rattle.serve_lines.specs.Whole.{whole_tab}
 use Rattle.worker_shelf.specs.Shelves.{Learned, Noted, OnShelf, Went}
 use Rattle.worker_shelf.proofs.Holding.{Stays}
 use Rattle.crew_accounts.specs.Courses.{IsStep, Meets, Notes, StepOn}
-use Rattle.plain_lines.specs.Shows.{ShowsTab}
-use Rattle.plain_lines.specs.Words.{setting_of}
+use Rattle.plain_runs.specs.Shows.{ShowsTab}
+use Rattle.plain_runs.specs.Words.{setting_of}
 use Rattle.plain_runs.specs.Runs.{ShowsPlain}
 use Rattle.plain_runs.proofs.Lines.{LinesRight}
 use Rattle.plain_runs.proofs.Marks.{SeesMore, free_still, shows_still}

@@ -22,7 +22,7 @@ use Rattle.plain_model.specs.declared.entry.Life.{Life}
 use Rattle.plain_model.specs.declared.entry.Life.TheVariants.{Whole}
 use Rattle.plain_model.specs.declared.store.Plain.{Plain}
 use Rattle.plain_model.specs.Store.{entry_at, place_at, stage_of as stage_of_place, stage_of_entry, word_at}
-use Rattle.pass_calls.specs.Words.{has}
+use Rattle.store_rule.specs.Words.{has}
 use Rattle.store_rule.specs.declared.store.Pass.{Pass}
 use Rattle.store_rule.specs.declared.store.Store.{Store}
 use Rattle.store_rule.specs.Closing.{Closed}
@@ -31,9 +31,9 @@ use Rattle.store_rule.specs.Passes.{basis, view}
 use Rattle.store_rule.proofs.Passing.{pass_of}
 use Rattle.store_rule.specs.Setting.{shown}
 use Rattle.rock_reader.specs.Responses.{IsResponse}
-use Rattle.plain_lines.specs.Words.{IsLone, Knows, ShowsEntry, ShowsEntryIf, no_guests, setting_of}
-use Rattle.plain_lines.proofs.Chains.{word_is}
-use Rattle.plain_lines.proofs.PlainWords.{readers_fit, stage_there, version_there}
+use Rattle.plain_runs.specs.Words.{IsLone, Knows, ShowsEntry, ShowsEntryIf, no_guests, setting_of}
+use Rattle.plain_runs.proofs.Chains.{word_is}
+use Rattle.plain_runs.proofs.PlainWords.{readers_fit, stage_there, version_there}
 use Rattle.plain_runs.specs.Ends.{HasVersions, HoldsEntry, HoldsWhole, IsHomeAs, SpellsResponse, TellsPieces}
 use Rattle.plain_runs.specs.Runs.{ShowsPlain}
 use Rattle.plain_runs.proofs.Spelled.{spells}

@@ -18,9 +18,9 @@ use Rattle.serve_lines.specs.Whole.{whole_tab}
 use Rattle.worker_shelf.specs.Shelves.{LeftTab}
 use Rattle.worker_shelf.specs.Typed.{IsTyped}
 use Rattle.worker_shelf.proofs.Holding.{Stays}
-use Rattle.plain_lines.specs.Words.{IsLone, setting_of}
-use Rattle.plain_lines.proofs.Served.{leaves_right, line_right}
-use Rattle.plain_lines.proofs.ShowingOthers.{OneBegins}
+use Rattle.plain_runs.specs.Words.{IsLone, setting_of}
+use Rattle.plain_runs.proofs.Served.{leaves_right, line_right}
+use Rattle.plain_runs.proofs.ShowingOthers.{OneBegins}
 use Rattle.plain_runs.specs.Runs.{ShowsPlain}
 
 -- the laws on what a reader was given: a front of the body, and at the last slot the whole

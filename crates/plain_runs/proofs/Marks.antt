@@ -20,9 +20,9 @@ use Rattle.store_rule.specs.Notes.{sees}
 use Rattle.store_rule.specs.Passes.{Keeps, basis, view}
 use Rattle.serve_lines.specs.Tabs.{IsFree, Leaves}
 use Rattle.worker_shelf.proofs.Holding.{Stays}
-use Rattle.plain_lines.specs.Shows.{ShowsTab}
-use Rattle.plain_lines.specs.Words.{Knows, no_guests}
-use Rattle.plain_lines.proofs.Frames.{knows_same}
+use Rattle.plain_runs.specs.Shows.{ShowsTab}
+use Rattle.plain_runs.specs.Words.{Knows, no_guests}
+use Rattle.plain_runs.proofs.Frames.{knows_same}
 use Rattle.plain_runs.specs.Runs.{ShowsPlain}
 
 module _ {C O : Type 0} (tells : Bool) (state : C → CellState) (offers : O → Offers) (s : Store C O) where

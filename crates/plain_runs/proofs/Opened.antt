@@ -25,8 +25,8 @@ use Rattle.store_rule.specs.Rebuilding.{chain_kept}
 use Rattle.store_rule.specs.Setting.{image_in, shown}
 use Rattle.rock_open.specs.Opening.{IsStoreOver}
 use Rattle.rock_reader.specs.Responses.{HoldsFile}
-use Rattle.plain_lines.specs.Shows.{ShowsTab}
-use Rattle.plain_lines.specs.Words.{Knows, no_guests}
+use Rattle.plain_runs.specs.Shows.{ShowsTab}
+use Rattle.plain_runs.specs.Words.{Knows, no_guests}
 use Rattle.plain_runs.specs.Ends.{HasVersions, TellsPieces}
 use Rattle.plain_runs.specs.Runs.{ShowsPlain}
 use Rattle.plain_runs.proofs.AtAnchors.{OneKept, knows_opened, versions_there}

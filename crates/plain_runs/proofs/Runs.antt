@@ -30,8 +30,8 @@ use Rattle.serve_lines.specs.Whole.{whole_tab}
 use Rattle.worker_shelf.specs.Shelves.{LeftBelow, OnShelf}
 use Rattle.worker_shelf.proofs.Holding.{Stays}
 use Rattle.crew_accounts.specs.Playing.{HasSteps, IsPlayed, fault_answers}
-use Rattle.plain_lines.specs.Words.{setting_of}
-use Rattle.plain_lines.proofs.ShowingOthers.{OneBegins}
+use Rattle.plain_runs.specs.Words.{setting_of}
+use Rattle.plain_runs.proofs.ShowingOthers.{OneBegins}
 use Rattle.plain_runs.specs.Ends.{HoldsWhole}
 use Rattle.plain_runs.proofs.AtAnchors.{OneKept}
 use Rattle.plain_runs.proofs.Awaits.{IsOwnLine, awaits_alike, served_line, served_lines}

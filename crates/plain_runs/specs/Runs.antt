@@ -11,7 +11,7 @@ use Rattle.store_rule.specs.declared.store.Store.{Store}
 use Rattle.store_rule.specs.Ground.{Offers}
 use Rattle.worker_pool.specs.Running.{Account}
 use Rattle.worker_shelf.specs.Shelves.{OnShelf}
-use Rattle.plain_lines.specs.Shows.{Shows}
+use Rattle.plain_runs.specs.Shows.{Shows}
 use Rattle.plain_runs.specs.Ends.{HoldsWhole}
 
 -- the lines have the numbers behind n, in order

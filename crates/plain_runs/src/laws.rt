@@ -23,7 +23,7 @@ ghost use Rattle.worker_pool.specs.Courses.{At};
 ghost use Rattle.worker_pool.specs.Running.{Account};
 ghost use Rattle.worker_shelf.specs.Shelves.{OnShelf};
 ghost use Rattle.crew_accounts.specs.Playing.{HasRun};
-ghost use Rattle.plain_lines.specs.Words.{IsLone, setting_of};
+ghost use Rattle.plain_runs.specs.Words.{IsLone, setting_of};
 ghost use Rattle.plain_runs.specs.Ends.{SpellsResponse};
 ghost use Rattle.plain_runs.specs.Runs.{IsPlainRun, Numbered, ShowsPlain};
 

@@ -25,8 +25,8 @@ use Rattle.store_rule.specs.Passes.{May, basis, view}
 use Rattle.store_rule.specs.Told.{Steps}
 use Rattle.store_rule.proofs.Moves.{known_of}
 use Rattle.store_rule.proofs.Passing.{pass_of}
-use Rattle.pass_calls.specs.Calls.{Follows, IsFresh}
-use Rattle.pass_calls.proofs.FreshEpochs.{fresh_epochs}
+use Rattle.store_rule.specs.Calls.{Follows, IsFresh}
+use Rattle.store_rule.proofs.FreshEpochs.{fresh_epochs}
 use Rattle.rw_anchor.specs.Calls.{Found}
 use Rattle.slice_chain.specs.Freeing.{FollowsTab}
 use Rattle.slice_chain.proofs.Writing.{set_again}

@@ -10,7 +10,7 @@ use Rattle.core_model.specs.declared.view.Sight.TheVariants.{Stood}
 use Rattle.core_model.specs.declared.view.View.{View}
 use Rattle.store_rule.specs.Ground.{Ground}
 use Rattle.store_rule.specs.Told.{Steps, found_as}
-use Rattle.pass_calls.specs.Calls.{IsFresh}
+use Rattle.store_rule.specs.Calls.{IsFresh}
 use Rattle.rw_anchor.specs.Calls.{Leaves}
 use Rattle.rw_anchor.specs.declared.Left.{Left}
 use Rattle.slice_chain.specs.Freeing.{Freed}

@@ -11,8 +11,8 @@ use Rattle.store_rule.specs.declared.store.Pass.{Pass}
 use Rattle.store_rule.specs.declared.store.Store.{Store}
 use Rattle.store_rule.specs.Ground.{Ground, Offers}
 use Rattle.store_rule.specs.Passes.{IsOf, Made, May, basis, view}
-use Rattle.pass_calls.specs.Calls.{Follows}
-use Rattle.pass_calls.proofs.Following.{made_follows}
+use Rattle.store_rule.specs.Calls.{Follows}
+use Rattle.store_rule.proofs.Following.{made_follows}
 use Rattle.slice_chain.specs.Names.{KeyLoaded}
 use Rattle.purge_entry.specs.Judging.{opened}
 use Rattle.purge_entry.specs.Parting.{Parted}

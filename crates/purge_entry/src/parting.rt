@@ -1,7 +1,7 @@
 // The inner tab leaves the anchor that it came to.
 ghost use Rattle.core_model.specs.Tabs.{inner, with_tab};
 ghost use Rattle.core_model.specs.declared.tab.Tab.TheVariants.{Free};
-ghost use Rattle.pass_calls.specs.Calls.{Follows};
+ghost use Rattle.store_rule.specs.Calls.{Follows};
 ghost use Rattle.purge_entry.specs.Parting.{Parted};
 ghost use Rattle.purge_entry.specs.Purging.{MayPart};
 ghost use Rattle.std.specs.Prelude.{◌≡◌};

@@ -3,7 +3,7 @@ ghost use Rattle.core_model.specs.Tabs.{inner, with_tab};
 ghost use Rattle.core_model.specs.declared.tab.Tab.TheVariants.{Free};
 ghost use Rattle.lock_word.specs.Cause.{cause_of};
 ghost use Rattle.lock_word.specs.Life.{IsReadable};
-ghost use Rattle.pass_calls.specs.Calls.{Follows};
+ghost use Rattle.store_rule.specs.Calls.{Follows};
 ghost use Rattle.purge_entry.specs.Judging.{Declined, Refused};
 ghost use Rattle.purge_entry.specs.Purging.{DoomedEntry, MayJudge, MayPurge, Purged};
 ghost use Rattle.slice_chain.specs.Freeing.{FollowsTab};

@@ -19,7 +19,7 @@ use Rattle.store_rule.specs.Lending.{buffer_at}
 use Rattle.store_rule.specs.Passes.{basis, view}
 use Rattle.store_rule.specs.Turns.{new_hold}
 use Rattle.store_rule.proofs.Passing.{pass_of}
-use Rattle.pass_calls.specs.Calls.{Follows}
+use Rattle.store_rule.specs.Calls.{Follows}
 use Rattle.slice_chain.specs.Reads.{FollowsReading, HasRead}
 use Rattle.slice_chain.proofs.Writing.{buffer_long}
 use Rattle.rock_reader.specs.Reading.{Delivered, Gave, LookedAt, ReadsAs, Standing}

@@ -21,7 +21,7 @@ use Rattle.store_rule.specs.Ground.{Ground, MayName, Offers, anchor_for}
 use Rattle.store_rule.specs.Passes.{IsOf, May, basis, view}
 use Rattle.store_rule.specs.Told.{Steps}
 use Rattle.store_rule.proofs.Passing.{pass_of}
-use Rattle.pass_calls.specs.Calls.{IsFresh}
+use Rattle.store_rule.specs.Calls.{IsFresh}
 use Rattle.rw_anchor.specs.Calls.{Found}
 use Rattle.slice_chain.specs.Names.{MayLoadNames}
 use Rattle.slice_chain.proofs.Writing.{set_again}

@@ -18,8 +18,8 @@ use Rattle.store_rule.specs.Passes.{Made, May, basis, view}
 use Rattle.store_rule.specs.Told.{Steps}
 use Rattle.store_rule.proofs.Moves.{not_free, tab_inside}
 use Rattle.store_rule.proofs.Passing.{pass_of}
-use Rattle.pass_calls.specs.Calls.{Follows, IsFresh}
-use Rattle.pass_calls.proofs.Following.{follows_on, made_follows}
+use Rattle.store_rule.specs.Calls.{Follows, IsFresh}
+use Rattle.store_rule.proofs.Following.{follows_on, made_follows}
 use Rattle.slice_chain.specs.Links.{Linked, Located, MayLocate}
 use Rattle.rock_reader.specs.Reading.{LookedAt}
 use Rattle.rock_reader.proofs.Coming.{fresh_on, step_sees}

@@ -17,7 +17,7 @@ use Rattle.store_rule.specs.Passes.{IsOf, May, view}
 use Rattle.store_rule.specs.Tabs.{is_last}
 use Rattle.store_rule.specs.Told.{found_as}
 use Rattle.store_rule.proofs.Passing.{pass_of}
-use Rattle.pass_calls.specs.Calls.{Follows}
+use Rattle.store_rule.specs.Calls.{Follows}
 use Rattle.rw_anchor.specs.Calls.{GivenUp, Gone, LeftLast, Leaves}
 use Rattle.rw_anchor.specs.declared.Left.{Left}
 use Rattle.slice_chain.specs.Freeing.{FollowsTab, Freed, MayFreeChain}

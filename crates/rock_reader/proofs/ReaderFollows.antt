@@ -13,7 +13,7 @@ use Rattle.store_rule.specs.Lending.{buffer_at}
 use Rattle.store_rule.specs.Passes.{IsOf, hand, view}
 use Rattle.store_rule.specs.Told.{the_view}
 use Rattle.store_rule.proofs.Drafting.{drafted_own}
-use Rattle.pass_calls.specs.Calls.{Follows}
+use Rattle.store_rule.specs.Calls.{Follows}
 use Rattle.slice_chain.specs.Reads.{FollowsReading}
 use Rattle.rock_reader.specs.Reading.{Delivered}
 use Rattle.rock_reader.specs.Wanted.{FollowsReader, held_at}

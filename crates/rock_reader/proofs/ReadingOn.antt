@@ -30,7 +30,7 @@ use Rattle.store_rule.specs.Passes.{IsOf, basis, view}
 use Rattle.store_rule.specs.Turns.{Lost, new_hold}
 use Rattle.store_rule.proofs.Drafting.{drafted_own}
 use Rattle.store_rule.proofs.Passing.{pass_of}
-use Rattle.pass_calls.specs.Calls.{Follows, IsFresh}
+use Rattle.store_rule.specs.Calls.{Follows, IsFresh}
 use Rattle.slice_chain.specs.Reads.{FollowsReading, HoldsPiece, MayReadSlot, ReadSlot, went_on}
 use Rattle.rock_reader.specs.Bodies.{HasUrl, IsOfEntry, body_of}
 use Rattle.rock_reader.specs.Reading.{Delivered, Fails, Gave, GaveBody, GaveNone, HasResponse, HasTried, IsPiece, LookedAt, MayRead, ReadsAs, Standing, TurnsOut, Waits, onward, turned}

@@ -23,7 +23,7 @@ use Rattle.store_rule.specs.Drafts.{DraftMoves, draft_at}
 use Rattle.store_rule.specs.Lending.{buffer_at}
 use Rattle.store_rule.specs.Passes.{IsOf, basis, view}
 use Rattle.store_rule.specs.Told.{Steps}
-use Rattle.pass_calls.specs.Calls.{IsFresh}
+use Rattle.store_rule.specs.Calls.{IsFresh}
 use Rattle.slice_chain.specs.Links.{Linked}
 use Rattle.slice_chain.specs.Reads.{ReadSlot}
 use Rattle.rock_reader.specs.Bodies.{IsOfEntry, body_of}

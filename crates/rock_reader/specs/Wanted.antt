@@ -11,7 +11,7 @@ use Rattle.store_rule.specs.Drafts.{draft_at, with_draft_at}
 use Rattle.store_rule.specs.Ground.{Offers}
 use Rattle.store_rule.specs.Lending.{buffer_at, with_buffer_at}
 use Rattle.store_rule.specs.Passes.{IsOf, hand, view}
-use Rattle.pass_calls.specs.Calls.{Others}
+use Rattle.store_rule.specs.Calls.{Others}
 
 -- how many bytes of a tab's buffer are the URL that it wants
 abbrev pub held_at : List Desk → ℕ → ℕ

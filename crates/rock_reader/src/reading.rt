@@ -2,7 +2,7 @@
 ghost use Rattle.core_model.specs.Tabs.{OfReader, anchor_of, inner, tab_at};
 ghost use Rattle.link_word.specs.declared.link.Link.TheVariants.{NotWritten};
 ghost use Rattle.lock_word.specs.Words.{epoch_number};
-ghost use Rattle.pass_calls.specs.Calls.{Follows, IsFresh};
+ghost use Rattle.store_rule.specs.Calls.{Follows, IsFresh};
 ghost use Rattle.rock_io.specs.Faults.{Rose};
 ghost use Rattle.rock_reader.specs.Bodies.{IsOfEntry, body_of};
 ghost use Rattle.rock_reader.specs.Reading.{Delivered, Gave, LookedAt, MayRead, ReadsAs, Standing};

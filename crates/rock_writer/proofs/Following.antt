@@ -7,7 +7,7 @@ use Rattle.store_rule.specs.declared.store.Store.{Store}
 use Rattle.store_rule.specs.Ground.{Offers}
 use Rattle.core_model.specs.declared.tab.Tab.{Tab}
 use Rattle.store_rule.specs.Passes.{IsOf, Keeps, view}
-use Rattle.pass_calls.specs.Calls.{Follows}
+use Rattle.store_rule.specs.Calls.{Follows}
 use Rattle.slice_chain.specs.Victims.{FollowsEvicting}
 use Rattle.rock_writer.specs.Drafting.{DeskMoves}
 use Rattle.slice_chain.specs.Freeing.{FollowsTab}

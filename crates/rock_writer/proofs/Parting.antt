@@ -24,7 +24,7 @@ use Rattle.store_rule.specs.Ground.{Ground, Offers}
 use Rattle.store_rule.specs.Passes.{IsOf, Made, basis, view}
 use Rattle.store_rule.specs.Tabs.{is_last}
 use Rattle.store_rule.proofs.Passing.{pass_of}
-use Rattle.pass_calls.specs.Calls.{Follows}
+use Rattle.store_rule.specs.Calls.{Follows}
 use Rattle.rw_anchor.specs.Calls.{GivenUp, Leaves, MayGiveUp}
 use Rattle.rw_anchor.specs.declared.Left.{Left}
 use Rattle.slice_chain.specs.Freeing.{FollowsTab, Freed, MayFreeChain}

@@ -15,8 +15,8 @@ use Rattle.core_model.specs.declared.view.View.{View}
 use Rattle.store_rule.specs.Ground.{Ground}
 use Rattle.store_rule.specs.Told.{Steps, found_as}
 use Rattle.store_rule.specs.Turns.{IsReturned}
-use Rattle.pass_calls.specs.Calls.{IsFresh}
-use Rattle.pass_calls.specs.Runs.{Added, Went}
+use Rattle.store_rule.specs.Calls.{IsFresh}
+use Rattle.store_rule.specs.Runs.{Added, Went}
 use Rattle.slice_chain.specs.Links.{PublishedFirst, PublishedMore}
 use Rattle.slice_chain.specs.Writes.{WroteSlot}
 use Rattle.rock_writer.specs.Finishing.{WroteLast}

@@ -15,7 +15,7 @@ use Rattle.store_rule.specs.declared.store.Store.{Store}
 use Rattle.store_rule.specs.Ground.{Ground, MayName, Offers, anchor_for, url_of}
 use Rattle.store_rule.specs.Passes.{IsOf, basis, view}
 use Rattle.store_rule.specs.Told.{Steps}
-use Rattle.pass_calls.specs.Calls.{IsFresh}
+use Rattle.store_rule.specs.Calls.{IsFresh}
 use Rattle.rw_anchor.specs.Calls.{Drew, SpentAtDraw, SpentAtLook}
 use Rattle.slice_chain.specs.Freeing.{Freed, MayFreeChain}
 use Rattle.slice_chain.specs.Names.{Named}

@@ -2,7 +2,7 @@
 use Rattle.std.specs.Prelude.{Bool, slice_get, slice_index, ◌≡◌, ◌≢◌, ℕ}
 use Rattle.rock_disk.specs.Cell.{CellState}
 use Rattle.core_model.specs.Tabs.{inner}
-use Rattle.pass_calls.specs.Calls.{Others}
+use Rattle.store_rule.specs.Calls.{Others}
 use Rattle.store_rule.specs.declared.store.Pass.{Pass}
 use Rattle.store_rule.specs.declared.store.Store.{Store}
 use Rattle.store_rule.specs.Ground.{Offers}

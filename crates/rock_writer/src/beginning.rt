@@ -2,7 +2,7 @@
 ghost use Rattle.std.specs.Prelude.{IfErr, IfOk, IsErrOf, OnErr, false, true, ◌↔◌, ◌≡◌, ◌⊎◌, ℕ};
 ghost use Rattle.core_model.specs.Tabs.{InnerIsFree, inner};
 ghost use Rattle.lock_word.specs.Words.{is_idle, is_vacant, word_number};
-ghost use Rattle.pass_calls.specs.Calls.{Follows};
+ghost use Rattle.store_rule.specs.Calls.{Follows};
 ghost use Rattle.rock_writer.specs.Beginning.{Began, IsTooLong, MayBegin, MayClear, MayTakeAnchor, NotTaken, TookAnchor};
 ghost use Rattle.store_rule.specs.Ground.{anchor_for};
 ghost use Rattle.rock_writer.specs.Passes.{FollowsWriting};

@@ -13,7 +13,7 @@ ghost use Rattle.store_rule.specs.Drafts.{draft_at};
 ghost use Rattle.store_rule.specs.Passes.{IsOf, Made, May, basis, view};
 ghost use Rattle.core_model.specs.declared.moves.Move.TheVariants.{Raise};
 ghost use Rattle.lock_word.specs.declared.stage.Stage.TheVariants.{Appending};
-ghost use Rattle.pass_calls.specs.Calls.{Follows};
+ghost use Rattle.store_rule.specs.Calls.{Follows};
 
 use crate::drafting::{next_piece, seal};
 use crate::fault::WriteFault;

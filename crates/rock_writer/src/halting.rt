@@ -1,6 +1,6 @@
 // An entry is given up, and a tab parts from its anchor.
 ghost use Rattle.std.specs.Prelude.{None, ◌≡◌, ◌≢◌};
-ghost use Rattle.pass_calls.specs.Calls.{Follows};
+ghost use Rattle.store_rule.specs.Calls.{Follows};
 ghost use Rattle.rock_writer.specs.Halting.{GaveBack, GaveUnlinked, Halts, MayGive, MayHalt, MayPart, Parted};
 ghost use Rattle.slice_chain.specs.Freeing.{FollowsTab};
 ghost use Rattle.store_rule.specs.Passes.{basis, view};

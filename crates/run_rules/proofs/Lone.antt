@@ -15,7 +15,7 @@ use Rattle.script_text.specs.declared.line.Line.{Line}
 use Rattle.core_model.specs.State.{word}
 use Rattle.entry_cut.specs.Content.{room_of}
 use Rattle.lock_word.specs.Words.{word_number}
-use Rattle.plain_lines.specs.Words.{setting_of}
+use Rattle.plain_runs.specs.Words.{setting_of}
 use Rattle.plain_model.specs.declared.store.Plain.{Plain}
 use Rattle.plain_model.specs.declared.store.Setting.{Setting}
 use Rattle.plain_model.specs.Opening.{IsOpened}

@@ -19,8 +19,8 @@ use Rattle.store_rule.specs.declared.store.Pass.{Pass}
 use Rattle.store_rule.specs.declared.store.Store.{Store}
 use Rattle.store_rule.proofs.Moves.{not_free, tab_inside}
 use Rattle.store_rule.proofs.Passing.{pass_of}
-use Rattle.pass_calls.specs.Calls.{Follows}
-use Rattle.pass_calls.proofs.Following.{made_follows}
+use Rattle.store_rule.specs.Calls.{Follows}
+use Rattle.store_rule.proofs.Following.{made_follows}
 use Rattle.rw_anchor.specs.Calls.{MayGiveUp}
 
 module _ {X : Type 0} (g : Ground X) (v w : View X) (t n : ℕ) (st : Steps g v (Leave t) n w) (pass : IsPass v) (le : t ≤ inner) where

@@ -10,8 +10,8 @@ use Rattle.store_rule.specs.Ground.{Offers}
 use Rattle.store_rule.specs.Passes.{Made, view}
 use Rattle.store_rule.specs.declared.store.Pass.{Pass}
 use Rattle.store_rule.specs.declared.store.Store.{Store}
-use Rattle.pass_calls.specs.Calls.{Follows, IsFresh}
-use Rattle.pass_calls.proofs.Following.{fresh_word, made_follows}
+use Rattle.store_rule.specs.Calls.{Follows, IsFresh}
+use Rattle.store_rule.proofs.Following.{fresh_word, made_follows}
 
 module _ {C O : Type 0} (tells : Bool) (state : C → CellState) (offers : O → Offers) (s : Store C O) (p q : Pass C) (t a version : ℕ) where
   took_follows : (told : ℕ) → Made tells state offers s p (Take t a version) told q → Follows tells state offers s t p q

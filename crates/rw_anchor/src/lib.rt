@@ -17,7 +17,7 @@ ghost use Rattle.core_model.specs.declared.tab.Tab.TheVariants.{Free};
 ghost use Rattle.core_model.specs.declared.view.View.{View};
 ghost use Rattle.store_rule.specs.Ground.{Ground};
 ghost use Rattle.core_model.specs.declared.moves.Move.TheVariants.{Doom, Enter, Leave, Look, Raise, Take};
-ghost use Rattle.pass_calls.specs.Calls.{Follows, IsFresh};
+ghost use Rattle.store_rule.specs.Calls.{Follows, IsFresh};
 ghost use Rattle.rw_anchor.specs.Calls.{Drew, Found, GivenUp, Leaves, MayGiveUp, SpentAtDraw, SpentAtLook};
 ghost use Rattle.store_rule.specs.Passes.{IsOf, Keeps, Made, May, basis, view};
 ghost use Rattle.store_rule.specs.Tabs.{is_last};

@@ -4,3 +4,7 @@ pub mod Whole
 pub mod Writing
 pub mod Reading
 pub mod Serving
+pub mod Acting
+pub mod Deeds
+pub mod Refusing
+pub mod Showing

@@ -13,7 +13,7 @@ use Rattle.store_rule.specs.declared.store.Pass.{Pass}
 use Rattle.store_rule.specs.declared.store.Store.{Store}
 use Rattle.store_rule.specs.Ground.{MayName, Offers, anchor_for, url_of}
 use Rattle.store_rule.specs.Passes.{IsOf, basis, hand, view}
-use Rattle.pass_calls.specs.Calls.{Others}
+use Rattle.store_rule.specs.Calls.{Others}
 use Rattle.rock_reader.specs.Reading.{ReadsAs, Standing}
 use Rattle.rock_reader.specs.Wanted.{SameDesk}
 use Rattle.rock_writer.specs.Entries.{Entry, WritesAs, body_in}

@@ -7,7 +7,7 @@ ghost use Rattle.rock_reader.specs.Reading.{ReadsAs, Standing};
 ghost use Rattle.rock_writer.specs.Entries.{Entry, WritesAs};
 ghost use Rattle.serve_lines.specs.Tabs.{IsFree, Leaves};
 
-use call_records::readers_stay;
+use crate::readers_stay;
 use rock_disk::Cell;
 use store_rule::Origin;
 

@@ -10,7 +10,7 @@ ghost use Rattle.serve_lines.specs.Tabs.{Holds, IsFree, IsReady, IsReading, Leav
 
 use crate::answers::read;
 use crate::tabs::{ScriptTab, Told};
-use call_records::{reading_grows, serving_grows};
+use crate::{reading_grows, serving_grows};
 use rock_disk::{Cell, Station};
 use rock_io::{Memory, Octets};
 use rock_reader::{close_entry, open_entry, reading_tabs_may_go_on};

@@ -7,7 +7,7 @@ ghost use Rattle.serve_lines.specs.Tabs.{IsFree, IsOffered, IsReady, Leaves, May
 ghost use Rattle.serve_lines.specs.Whole.{Gets, Purges, Puts, whole_tab};
 
 use crate::answers::{got, purged, stored};
-use call_records::{purging_grows, serving_grows};
+use crate::{purging_grows, serving_grows};
 use purge_entry::purge;
 use rock_disk::{Cell, Station};
 use rock_io::{Memory, Octets};

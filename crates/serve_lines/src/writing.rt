@@ -9,7 +9,7 @@ ghost use Rattle.serve_lines.specs.Writing.{AddsOn, AddsTo, BeginsOn, DropsOn, E
 
 use crate::answers::{ended, given_up, refused};
 use crate::tabs::{ScriptTab, Told};
-use call_records::{serving_grows, writing_grows};
+use crate::{serving_grows, writing_grows};
 use rock_disk::{Cell, Station};
 use rock_io::{Memory, Octets};
 use rock_writer::{abort, begin};

@@ -20,12 +20,12 @@ use Rattle.store_rule.specs.declared.store.Pass.{Pass}
 use Rattle.store_rule.specs.declared.store.Store.{Store}
 use Rattle.store_rule.specs.Ground.{Ground, Offers}
 use Rattle.store_rule.specs.Passes.{Made}
-use Rattle.pass_calls.specs.Calls.{Follows}
-use Rattle.pass_calls.proofs.Following.{follows_on, made_follows}
+use Rattle.store_rule.specs.Calls.{Follows}
+use Rattle.store_rule.proofs.Following.{follows_on, made_follows}
 use Rattle.store_rule.specs.Told.{Stands, Steps, found_as}
-use Rattle.pass_calls.specs.Runs.{added_by, changed_at, together}
-use Rattle.pass_calls.specs.Words.{Mine}
-use Rattle.pass_calls.proofs.AddingUp.{found_mine, has_left, went_one, went_then}
+use Rattle.store_rule.specs.Runs.{added_by, changed_at, together}
+use Rattle.store_rule.specs.Words.{Mine}
+use Rattle.store_rule.proofs.AddingUp.{found_mine, has_left, went_one, went_then}
 use Rattle.slice_chain.proofs.Drawing.{none_drawn}
 use Rattle.slice_chain.specs.Victims.{LooksAt}
 use Rattle.slice_chain.proofs.ReadingSlots.{set_there}

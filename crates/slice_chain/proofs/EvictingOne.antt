@@ -33,10 +33,10 @@ use Rattle.store_rule.specs.Ground.{Ground, Offers}
 use Rattle.store_rule.specs.Passes.{HandMoves, IsOf, basis, hand, view}
 use Rattle.store_rule.specs.Told.{found_as, the_view}
 use Rattle.store_rule.proofs.Passing.{pass_of}
-use Rattle.pass_calls.specs.Calls.{Follows}
-use Rattle.pass_calls.specs.Runs.{Added, Went, added_by, nothing_added, together}
-use Rattle.pass_calls.specs.Words.{Mine, has}
-use Rattle.pass_calls.proofs.AddingUp.{went_none, went_one, went_then}
+use Rattle.store_rule.specs.Calls.{Follows}
+use Rattle.store_rule.specs.Runs.{Added, Went, added_by, nothing_added, together}
+use Rattle.store_rule.specs.Words.{Mine, has}
+use Rattle.store_rule.proofs.AddingUp.{went_none, went_one, went_then}
 use Rattle.slice_chain.specs.Victims.{Evicted, FollowsEvicting, FoundBusy, KeptFirst, MayEvictOne, MayKeepFirst, NoneIdle, PassedSome, Spared, Won, hand_in, onward}
 use Rattle.slice_chain.proofs.Drawing.{none_drawn}
 use Rattle.slice_chain.proofs.FreeingRest.{same_freer}

@@ -26,8 +26,8 @@ use Rattle.store_rule.specs.Ground.{Ground, Offers}
 use Rattle.store_rule.specs.Passes.{Made, May, basis, view}
 use Rattle.store_rule.specs.Tabs.{head_of}
 use Rattle.store_rule.proofs.Passing.{pass_of}
-use Rattle.pass_calls.specs.Calls.{Follows}
-use Rattle.pass_calls.proofs.Following.{follows_on, made_follows}
+use Rattle.store_rule.specs.Calls.{Follows}
+use Rattle.store_rule.proofs.Following.{follows_on, made_follows}
 use Rattle.slice_chain.specs.Freeing.{FrontFreed, MayFreeFront, with_less}
 use Rattle.slice_chain.proofs.Writing.{set_again}
 

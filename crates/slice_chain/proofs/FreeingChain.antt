@@ -36,15 +36,15 @@ use Rattle.store_rule.specs.Passes.{IsOf, Made, May, basis, view}
 use Rattle.store_rule.specs.Tabs.{head_of}
 use Rattle.store_rule.specs.Told.{found_as}
 use Rattle.store_rule.proofs.Passing.{pass_of}
-use Rattle.pass_calls.specs.Calls.{Follows}
-use Rattle.pass_calls.specs.Runs.{Added, added_by, changed_at, together}
-use Rattle.pass_calls.proofs.AddingUp.{went_one, went_then}
-use Rattle.pass_calls.proofs.Following.{follows_on, made_follows}
+use Rattle.store_rule.specs.Calls.{Follows}
+use Rattle.store_rule.specs.Runs.{Added, added_by, changed_at, together}
+use Rattle.store_rule.proofs.AddingUp.{went_one, went_then}
+use Rattle.store_rule.proofs.Following.{follows_on, made_follows}
 use Rattle.slice_chain.specs.Freeing.{Freed, MayFreeChain, MayFreeRest, RestFreed, WasGiven, slot_named}
 use Rattle.slice_chain.proofs.Drawing.{none_drawn}
 use Rattle.slice_chain.proofs.FreeingRest.{same_freer, still_frees}
 use Rattle.slice_chain.proofs.Gone as ending
-use Rattle.pass_calls.specs.Words.{has}
+use Rattle.store_rule.specs.Words.{has}
 use Rattle.slice_chain.proofs.Writing.{set_again}
 
 pub named_head : (xs : List ℕ) (n : ℕ) → n ≡ start_number xs → slot_named n ≡ head_of xs
@@ -121,7 +121,7 @@ module _ {C O : Type 0} (tells : Bool) (state : C → CellState) (offers : O →
     changes q c = ⊎_elim (λ l. let x = gave.all.changed q l in (x.0, x.1, subst (λ (y : Freer). Contains y.rest x.0) same x.2)) (λ l. absurd (contains_none q (subst (λ (xs : List Place). Contains xs q) load_quiet.3 l)))
         (Contains-append_cases gave.all.added.changed load_added.changed q c)
 
-    rest_went : Rattle.pass_calls.specs.Runs.Went g (view p) rest_added (view p2)
+    rest_went : Rattle.store_rule.specs.Runs.Went g (view p) rest_added (view p2)
     rest_went = went_then g (view p) (view p1) (view p2) load_added gave.all.added (went_one g (view p) (view p1) (LoadSide inner Start) loaded_.found loaded_.step loaded_.own.stands) gave.all.went
 
     rest_quiet : (rest_added.sights ≡ []) × (rest_added.done ≡ []) × (rest_added.meetings ≡ [])

@@ -21,8 +21,8 @@ use Rattle.store_rule.specs.Passes.{IsOf, basis, view}
 use Rattle.store_rule.specs.Tabs.{head_of}
 use Rattle.store_rule.specs.Told.{found_as}
 use Rattle.store_rule.proofs.Passing.{pass_of}
-use Rattle.pass_calls.specs.Runs.{Added, Went, added_by, changed_at, nothing_added, together}
-use Rattle.pass_calls.proofs.AddingUp.{went_none, went_one, went_then}
+use Rattle.store_rule.specs.Runs.{Added, Went, added_by, changed_at, nothing_added, together}
+use Rattle.store_rule.proofs.AddingUp.{went_none, went_one, went_then}
 use Rattle.slice_chain.specs.Freeing.{FreedSome, FrontFreed, MayFreeFront, MayFreeRest, RestFreed, RestLeft, WasGiven, rest_length, with_less}
 use Rattle.slice_chain.proofs.Drawing.{none_drawn}
 use Rattle.slice_chain.proofs.ReadingSlots.{set_there}

@@ -25,9 +25,9 @@ use Rattle.store_rule.specs.declared.store.Store.{Store}
 use Rattle.store_rule.specs.Ground.{Ground, Offers}
 use Rattle.store_rule.specs.Passes.{IsOf, Made, May, basis, view}
 use Rattle.store_rule.specs.Told.{found_as}
-use Rattle.pass_calls.specs.Runs.{Added, Went, added_by}
-use Rattle.pass_calls.specs.Words.{Mine, has}
-use Rattle.pass_calls.proofs.AddingUp.{found_mine, has_left, went_one}
+use Rattle.store_rule.specs.Runs.{Added, Went, added_by}
+use Rattle.store_rule.specs.Words.{Mine, has}
+use Rattle.store_rule.proofs.AddingUp.{found_mine, has_left, went_one}
 
 module _ {C O : Type 0} (tells : Bool) (state : C → CellState) (offers : O → Offers) (s : Store C O) (p : Pass C) (own : IsOf tells state offers s p) (last : Freer) (tab : tab_at (view p) inner ≡ Freeing last)
     (on : last.is_freeing ≡ true) (rest : last.rest ≡ []) (loose : last.loose ≡ []) where

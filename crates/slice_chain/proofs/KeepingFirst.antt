@@ -30,11 +30,11 @@ use Rattle.store_rule.specs.Passes.{Made, May, basis, view}
 use Rattle.store_rule.specs.Tabs.{head_of}
 use Rattle.store_rule.specs.Told.{found_as}
 use Rattle.store_rule.proofs.Passing.{pass_of}
-use Rattle.pass_calls.specs.Calls.{Follows}
-use Rattle.pass_calls.specs.Runs.{Added, Went, added_by, together}
-use Rattle.pass_calls.specs.Words.{has}
-use Rattle.pass_calls.proofs.AddingUp.{went_one, went_then}
-use Rattle.pass_calls.proofs.Following.{made_follows}
+use Rattle.store_rule.specs.Calls.{Follows}
+use Rattle.store_rule.specs.Runs.{Added, Went, added_by, together}
+use Rattle.store_rule.specs.Words.{has}
+use Rattle.store_rule.proofs.AddingUp.{went_one, went_then}
+use Rattle.store_rule.proofs.Following.{made_follows}
 use Rattle.slice_chain.specs.Freeing.{MayFreeFront, MayFreeRest, RestFreed, WasGiven, slot_named}
 use Rattle.slice_chain.specs.Victims.{FollowsEvicting, KeptFirst, MayKeepFirst}
 use Rattle.slice_chain.proofs.Drawing.{none_drawn}

@@ -12,8 +12,8 @@ use Rattle.store_rule.specs.declared.store.Store.{Store}
 use Rattle.store_rule.specs.Ground.{Offers}
 use Rattle.store_rule.specs.Passes.{IsOf, Made, May, basis, view}
 use Rattle.store_rule.proofs.Passing.{pass_of}
-use Rattle.pass_calls.specs.Calls.{Follows}
-use Rattle.pass_calls.proofs.Following.{made_follows}
+use Rattle.store_rule.specs.Calls.{Follows}
+use Rattle.store_rule.proofs.Following.{made_follows}
 
 abbrev pub Unchosen : {X : Type 0} → Writer X → Type 0
 Unchosen w = (w.is_appending ≡ false) × (w.chosen ≡ None) × (w.published ≡ [])

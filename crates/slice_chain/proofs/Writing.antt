@@ -19,7 +19,7 @@ use Rattle.core_model.specs.declared.tab.Writer.{Writer}
 use Rattle.core_model.specs.declared.view.View.{View}
 use Rattle.core_model.proofs.Tabs.{tab_there}
 use Rattle.std.proofs.lemmas.Bool.{eqb-true}
-use Rattle.pass_calls.specs.Calls.{Follows}
+use Rattle.store_rule.specs.Calls.{Follows}
 use Rattle.store_rule.specs.declared.store.Desk.{Desk}
 use Rattle.store_rule.specs.declared.store.Pass.{Pass}
 use Rattle.store_rule.specs.declared.store.Store.{Store}

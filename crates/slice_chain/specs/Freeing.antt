@@ -6,9 +6,9 @@ use Rattle.core_model.specs.declared.view.Item.{Item}
 use Rattle.core_model.specs.declared.view.Kind.TheVariants.{Disowned, Raised}
 use Rattle.core_model.specs.declared.view.Place.{Place}
 use Rattle.core_model.specs.declared.view.Place.TheVariants.{Anchor, Link}
-use Rattle.pass_calls.specs.Calls.{Others}
-use Rattle.pass_calls.specs.Runs.{Added, Went}
-use Rattle.pass_calls.specs.Words.{Mine, has}
+use Rattle.store_rule.specs.Calls.{Others}
+use Rattle.store_rule.specs.Runs.{Added, Went}
+use Rattle.store_rule.specs.Words.{Mine, has}
 use Rattle.rock_disk.specs.Cell.{CellState}
 use Rattle.core_model.specs.Chains.{rest_of}
 use Rattle.core_model.specs.SlotMoves.{emptied}

@@ -22,7 +22,7 @@ use Rattle.store_rule.specs.Lending.{buffer_at, with_buffer_at}
 use Rattle.store_rule.specs.Passes.{IsOf, basis, hand, view}
 use Rattle.store_rule.specs.Told.{Steps}
 use Rattle.store_rule.specs.Turns.{Lost, new_hold}
-use Rattle.pass_calls.specs.Calls.{Others}
+use Rattle.store_rule.specs.Calls.{Others}
 
 -- The tab reads, knows the slot at its place, and found its link written.
 pub record MayReadSlot {C O : Type 0} (tells : Bool) (state : C → CellState) (offers : O → Offers) (s : Store C O) (p : Pass C) (t : ℕ) : Type 0 where

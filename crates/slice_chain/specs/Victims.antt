@@ -21,9 +21,9 @@ use Rattle.store_rule.specs.declared.store.Store.{Store}
 use Rattle.store_rule.specs.Ground.{Ground, Offers}
 use Rattle.store_rule.specs.Passes.{IsOf, hand, view}
 use Rattle.store_rule.specs.Told.{Stands, Steps}
-use Rattle.pass_calls.specs.Calls.{Others}
-use Rattle.pass_calls.specs.Runs.{Added, Went}
-use Rattle.pass_calls.specs.Words.{Mine, has}
+use Rattle.store_rule.specs.Calls.{Others}
+use Rattle.store_rule.specs.Runs.{Added, Went}
+use Rattle.store_rule.specs.Words.{Mine, has}
 use Rattle.slice_chain.specs.Freeing.{MayFreeChain, WasGiven}
 
 -- a look at the anchor a, or a try to have its entry freed, found this word

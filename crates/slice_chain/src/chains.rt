@@ -1,7 +1,7 @@
 // The slots of an entry that is given up are given back.
 ghost use Rattle.std.specs.Prelude.{◌≡◌, ◌≤◌};
 ghost use Rattle.core_model.specs.Tabs.{inner, tab_at};
-ghost use Rattle.pass_calls.specs.Calls.{Follows};
+ghost use Rattle.store_rule.specs.Calls.{Follows};
 ghost use Rattle.slice_chain.specs.Freeing.{Freed, FrontFreed, MayFreeChain, MayFreeFront, MayFreeRest, RestFreed, is_freeing_anchor, slot_named};
 ghost use Rattle.store_rule.specs.Passes.{basis, view};
 

@@ -1,6 +1,6 @@
 // The links of an entry's slots: a writer publishes a slot, and a reader looks where its entry goes on.
 ghost use Rattle.link_word.specs.Words.{link_number};
-ghost use Rattle.pass_calls.specs.Calls.{Follows};
+ghost use Rattle.store_rule.specs.Calls.{Follows};
 ghost use Rattle.slice_chain.specs.Links.{Linked, Located, MayLocate, MayPublishSlot, Published, next_link, slot_known};
 ghost use Rattle.core_model.specs.Tabs.{tab_at};
 ghost use Rattle.std.specs.Prelude.{◌<◌, ◌≡◌};

@@ -2,7 +2,7 @@
 ghost use Rattle.std.specs.Prelude.{length, ◌≡◌};
 ghost use Rattle.core_model.specs.declared.moves.Move.TheVariants.{LoadSide};
 ghost use Rattle.core_model.specs.declared.moves.Side.{Side};
-ghost use Rattle.pass_calls.specs.Calls.{Follows};
+ghost use Rattle.store_rule.specs.Calls.{Follows};
 ghost use Rattle.slice_chain.specs.Names.{KeyLoaded, MayLoadNames, MayNameEntry, Named};
 ghost use Rattle.store_key.specs.Anchor.{back_half, front_half};
 ghost use Rattle.store_rule.specs.Passes.{Made, basis, view};

@@ -1,5 +1,5 @@
 // Slots of an entry are written and read, under the turns of their cells.
-ghost use Rattle.pass_calls.specs.Calls.{Follows};
+ghost use Rattle.store_rule.specs.Calls.{Follows};
 ghost use Rattle.rock_io.specs.Faults.{Rose};
 ghost use Rattle.core_model.specs.Tabs.{inner, tab_at};
 ghost use Rattle.core_model.specs.declared.tab.Cell.{Cell as CoreCell};

@@ -1,7 +1,7 @@
 // An idle entry is evicted for a slot that a writer needs.
 ghost use Rattle.std.specs.Prelude.{IfOk, OnErr, false, true, ◌<◌, ◌≡◌, ◌≤◌};
 ghost use Rattle.core_model.specs.Tabs.{InnerIsFree};
-ghost use Rattle.pass_calls.specs.Calls.{Follows};
+ghost use Rattle.store_rule.specs.Calls.{Follows};
 ghost use Rattle.core_model.specs.Tabs.{inner};
 ghost use Rattle.slice_chain.specs.Victims.{Evicted, FollowsEvicting, KeptFirst, MayEvictOne, MayKeepFirst, NoneIdle, Spared, Won, hand_in, onward};
 ghost use Rattle.store_rule.specs.Passes.{IsOf, basis, view};

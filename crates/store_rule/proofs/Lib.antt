@@ -21,3 +21,8 @@ pub mod LinkMoves
 pub mod Turning
 pub mod Lending
 pub mod Drafting
+pub mod OtherTabs
+pub mod FreshEpochs
+pub mod Following
+pub mod AddingUp
+pub mod Counting

@@ -11,3 +11,7 @@ pub mod Lending
 pub mod Drafts
 pub mod Turns
 pub mod Closing
+pub mod Calls
+pub mod Steps
+pub mod Words
+pub mod Runs

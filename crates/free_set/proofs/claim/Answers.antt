@@ -1,6 +1,6 @@
 use Rattle.std.proofs.Common.{arith, sym, ◌∙◌}
 use Rattle.store_rule.specs.Passes.{basis, view}
-use Rattle.pass_calls.proofs.Following.{follows_none}
+use Rattle.store_rule.proofs.Following.{follows_none}
 use Rattle.free_set.proofs.Trying.{lost, tried_follows, tried_none, won}
 use Rattle.free_set.proofs.claim.Goals as goal
 

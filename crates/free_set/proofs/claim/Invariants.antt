@@ -1,5 +1,5 @@
 use Rattle.std.specs.Prelude.{◌≤◌}
-use Rattle.pass_calls.specs.Calls.{Follows}
+use Rattle.store_rule.specs.Calls.{Follows}
 use Rattle.store_rule.specs.Passes.{basis, view}
 use Rattle.free_set.specs.Claims.{HasTried}
 use Rattle.free_set.proofs.claim.Given as goal

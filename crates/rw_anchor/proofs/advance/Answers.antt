@@ -1,5 +1,5 @@
 use Rattle.std.proofs.Common.{refl}
-use Rattle.pass_calls.proofs.Following.{fresh_word}
+use Rattle.store_rule.proofs.Following.{fresh_word}
 use Rattle.rw_anchor.proofs.advance.Goals as goal
 
 pub returns-clause-fresh : goal.returns-clause-fresh

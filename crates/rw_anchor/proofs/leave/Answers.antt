@@ -1,5 +1,5 @@
 use Rattle.std.proofs.Common.{Option, ap, sym, unwrap_or, ◌∙◌, ℕ}
-use Rattle.pass_calls.proofs.Following.{follows_on, made_follows}
+use Rattle.store_rule.proofs.Following.{follows_on, made_follows}
 use Rattle.rw_anchor.proofs.LastTabs.{may_give_up}
 use Rattle.rw_anchor.proofs.leave.Goals as goal
 

@@ -1,7 +1,7 @@
 use Rattle.std.proofs.Common.{refl}
 use Rattle.std.proofs.lemmas.Bool.{false≢true}
 use Rattle.lock_word.proofs.Parts.{epoch_of-word_number}
-use Rattle.pass_calls.proofs.Following.{fresh_word}
+use Rattle.store_rule.proofs.Following.{fresh_word}
 use Rattle.rw_anchor.proofs.share.Goals as goal
 
 pub returns-then-readable-clause-ok : goal.returns-then-readable-clause-ok

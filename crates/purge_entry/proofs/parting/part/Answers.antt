@@ -1,6 +1,6 @@
 use Rattle.std.proofs.Common.{inl}
 use Rattle.store_rule.specs.Passes.{basis, view}
-use Rattle.pass_calls.proofs.Following.{follows_on}
+use Rattle.store_rule.proofs.Following.{follows_on}
 use Rattle.purge_entry.proofs.PartedTabs.{done_tabs, freed_tabs, may_free}
 use Rattle.purge_entry.proofs.parting.part.Goals as goal
 

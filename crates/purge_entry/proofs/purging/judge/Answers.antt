@@ -3,7 +3,7 @@ use Rattle.lock_word.proofs.Parts.{epoch_of-word_number}
 use Rattle.core_model.specs.Tabs.{inner}
 use Rattle.core_model.specs.declared.tab.Tab.{Tab}
 use Rattle.store_rule.specs.Passes.{basis, view}
-use Rattle.pass_calls.proofs.Following.{follows_on}
+use Rattle.store_rule.proofs.Following.{follows_on}
 use Rattle.purge_entry.proofs.Coming.{key_tabs}
 use Rattle.purge_entry.proofs.Judging.{doom_follows, doomed_entry, may_decline, may_doom, may_part}
 use Rattle.purge_entry.proofs.purging.judge.Goals as goal

@@ -2,7 +2,7 @@ use Rattle.std.proofs.Common.{List, Some, subst, ◌<◌, ◌≡◌, ◌∙◌, 
 use Rattle.store_key.specs.Anchor.{anchor_of}
 use Rattle.lock_word.specs.Cause.{cause_of}
 use Rattle.store_rule.specs.Passes.{view}
-use Rattle.pass_calls.proofs.Following.{follows_on}
+use Rattle.store_rule.proofs.Following.{follows_on}
 use Rattle.purge_entry.proofs.Answering.{follows_tab, free_again, judged_other, judged_purged, may_judge, may_retreat, may_share, turned_away}
 use Rattle.purge_entry.proofs.purging.purge.Goals as goal
 

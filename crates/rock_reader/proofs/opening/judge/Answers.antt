@@ -1,6 +1,6 @@
 use Rattle.std.proofs.Common.{◌∙◌}
 use Rattle.store_rule.specs.Passes.{basis, view}
-use Rattle.pass_calls.proofs.Following.{follows_on}
+use Rattle.store_rule.proofs.Following.{follows_on}
 use Rattle.rock_reader.proofs.Coming.{key_tabs, load_tabs, offer_start}
 use Rattle.rock_reader.proofs.Parting.{follows_both, follows_tab}
 use Rattle.rock_reader.proofs.opening.judge.Goals as goal

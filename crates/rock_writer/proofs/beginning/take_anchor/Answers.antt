@@ -4,7 +4,7 @@ use Rattle.lock_word.proofs.Parts.{epoch_of-word_number}
 use Rattle.core_model.specs.declared.moves.Move.TheVariants.{Look, Take}
 use Rattle.store_rule.specs.Passes.{basis, view}
 use Rattle.store_rule.specs.Told.{Steps}
-use Rattle.pass_calls.proofs.Following.{follows_on}
+use Rattle.store_rule.proofs.Following.{follows_on}
 use Rattle.rock_writer.proofs.Begun.{grows_drew, looked_seen, take_may}
 use Rattle.rock_writer.proofs.Following.{kept_follows}
 use Rattle.rock_writer.proofs.Seeing.{fresh_grows, grows_on, grows_same, grows_step, seen_grows}

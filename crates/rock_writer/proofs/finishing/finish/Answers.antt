@@ -6,7 +6,7 @@ use Rattle.core_model.specs.Chains.{slots_of_link}
 use Rattle.core_model.specs.Table.{answer}
 use Rattle.core_model.specs.Tabs.{tab_at}
 use Rattle.core_model.specs.declared.moves.Move.TheVariants.{Raise}
-use Rattle.pass_calls.specs.Calls.{IsFresh}
+use Rattle.store_rule.specs.Calls.{IsFresh}
 use Rattle.store_rule.specs.Passes.{basis, view}
 use Rattle.store_rule.specs.declared.tabs.WritingAt.{WritingAt}
 use Rattle.rock_writer.specs.Entries.{writer_as}

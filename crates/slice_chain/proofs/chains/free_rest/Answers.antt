@@ -1,5 +1,5 @@
 use Rattle.std.proofs.Common.{Option, subst, ℕ}
-use Rattle.pass_calls.proofs.Following.{follows_none, follows_on}
+use Rattle.store_rule.proofs.Following.{follows_none, follows_on}
 use Rattle.core_model.specs.Tabs.{inner}
 use Rattle.store_rule.specs.Passes.{basis, view}
 use Rattle.store_rule.proofs.Passing.{pass_of}

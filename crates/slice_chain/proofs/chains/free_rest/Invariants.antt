@@ -1,5 +1,5 @@
 use Rattle.core_model.specs.Tabs.{inner, tab_at}
-use Rattle.pass_calls.specs.Calls.{Follows}
+use Rattle.store_rule.specs.Calls.{Follows}
 use Rattle.store_rule.specs.Passes.{basis, view}
 use Rattle.slice_chain.specs.Freeing.{RestLeft, rest_length}
 use Rattle.slice_chain.proofs.chains.free_rest.Given as goal

@@ -4,7 +4,7 @@ use Rattle.core_model.specs.declared.moves.Move.TheVariants.{StoreSide}
 use Rattle.core_model.specs.declared.moves.Side.{Side}
 use Rattle.store_rule.specs.Passes.{basis, view}
 use Rattle.store_rule.specs.Told.{Steps}
-use Rattle.pass_calls.proofs.Following.{follows_on}
+use Rattle.store_rule.proofs.Following.{follows_on}
 use Rattle.slice_chain.proofs.Naming.{Ready, may_store, ready_on, stored_follows}
 use Rattle.slice_chain.proofs.names.name_entry.Goals as goal
 

@@ -3,7 +3,7 @@ use Rattle.core_model.specs.Tabs.{inner}
 use Rattle.store_rule.specs.Passes.{basis, view}
 use Rattle.store_rule.specs.Told.{the_view}
 use Rattle.store_rule.proofs.Passing.{pass_of}
-use Rattle.pass_calls.proofs.Following.{follows_none, follows_on}
+use Rattle.store_rule.proofs.Following.{follows_none, follows_on}
 use Rattle.slice_chain.specs.Victims.{Evicted, KeptFirst, NoneIdle, PassedSome, Spared, Won, hand_in, onward}
 use Rattle.slice_chain.proofs.EvictingOne.{begins_or_none, evicts, may_keep, moved_follows, none_idle, not_inner, passed_more, passed_none, round_begins}
 use Rattle.slice_chain.proofs.victims.evict_one.Goals as goal

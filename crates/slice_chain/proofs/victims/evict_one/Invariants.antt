@@ -1,6 +1,6 @@
 use Rattle.std.specs.Prelude.{◌≤◌}
 use Rattle.core_model.specs.Tabs.{inner}
-use Rattle.pass_calls.specs.Calls.{Follows}
+use Rattle.store_rule.specs.Calls.{Follows}
 use Rattle.store_rule.specs.Passes.{basis, view}
 use Rattle.slice_chain.specs.Victims.{PassedSome}
 use Rattle.slice_chain.proofs.victims.evict_one.Given as goal

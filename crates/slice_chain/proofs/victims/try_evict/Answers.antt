@@ -6,7 +6,7 @@ use Rattle.lock_word.proofs.Parts.{epoch_of-word_number}
 use Rattle.core_model.specs.Tabs.{inner}
 use Rattle.store_rule.specs.Passes.{basis, view}
 use Rattle.store_rule.proofs.Passing.{pass_of}
-use Rattle.pass_calls.proofs.Following.{made_follows}
+use Rattle.store_rule.proofs.Following.{made_follows}
 use Rattle.slice_chain.specs.Victims.{LooksAt}
 use Rattle.slice_chain.proofs.Evicting.{evict_follows, falls, looks_again, looks_first, not_below}
 use Rattle.slice_chain.proofs.victims.try_evict.Goals as goal

@@ -1,7 +1,7 @@
 use Rattle.std.specs.Prelude.{cond, ◌*◌, ◌+◌, ◌-◌}
 use Rattle.lock_word.specs.Words.{IsInRange, epoch_number, is_idle, word_number}
 use Rattle.core_model.specs.Tabs.{inner}
-use Rattle.pass_calls.specs.Calls.{Follows}
+use Rattle.store_rule.specs.Calls.{Follows}
 use Rattle.store_rule.specs.Passes.{basis, view}
 use Rattle.slice_chain.specs.Victims.{LooksAt}
 use Rattle.slice_chain.proofs.victims.try_evict.Given as goal

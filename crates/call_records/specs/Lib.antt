@@ -1,4 +1,0 @@
-pub mod Acting
-pub mod Deeds
-pub mod Refusing
-pub mod Showing

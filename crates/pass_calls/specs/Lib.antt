@@ -1,4 +1,0 @@
-pub mod Calls
-pub mod Steps
-pub mod Words
-pub mod Runs

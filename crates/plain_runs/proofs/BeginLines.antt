@@ -1,0 +1,253 @@
+-- An entry that a line begins is begun as in the plain store.
+use Rattle.std.proofs.Common.{Bool, Err, List, Ok, Result, Some, ap, arith, false, get_or-set_same, inl, inr, length, nat_lt, refl, subst, sym, true, ◌+◌, ◌-◌, ◌<◌, ◌∙◌, ◌≡◌, ◌≤◌, ◌⊎◌, ℕ}
+use Rattle.std.specs.Prelude.{IfErr, IfOk, OnErr, nat_le, ◌||◌, ◌↔◌}
+use Rattle.std.proofs.lemmas.Bool.Decides.{nat_tests}
+use Rattle.rock_disk.specs.Cell.{CellState}
+use Rattle.lock_word.specs.Words.{is_idle, is_vacant, version_limit, word_number}
+use Rattle.lock_word.specs.declared.word.Word.{Word}
+use Rattle.script_text.specs.declared.answer.Answer.{Answer}
+use Rattle.script_text.specs.declared.answer.Answer.TheVariants as answer
+use Rattle.script_text.specs.declared.body.Body.{Body}
+use Rattle.store_key.specs.Anchor.{anchor_of}
+use Rattle.store_key.specs.Key.{key_of}
+use Rattle.entry_cut.specs.Content.{LeavesRoom}
+use Rattle.core_model.specs.declared.view.Place.TheVariants.{Anchor}
+use Rattle.core_model.specs.declared.view.View.{View}
+use Rattle.store_rule.specs.Words.{has}
+use Rattle.plain_model.specs.declared.entry.Entry.{Entry}
+use Rattle.plain_model.specs.declared.entry.Place.{Place as PlaceOf}
+use Rattle.plain_model.specs.declared.store.Plain.{Plain}
+use Rattle.plain_model.specs.declared.store.Setting.{Setting}
+use Rattle.plain_model.specs.declared.store.Tab.TheVariants.{Free, Writing}
+use Rattle.plain_model.specs.Place.{nothing}
+use Rattle.plain_model.specs.Serving.{bytes_of, put}
+use Rattle.plain_model.specs.Store.{is_idle_at, is_vacant_at, meta_size, place_at, tab_at, word_at}
+use Rattle.plain_model.specs.Writing.{Step, begin, begin_free, end, entry_of, step, taken_by}
+use Rattle.plain_laws.specs.Renaming.{renamed, renamed_word}
+use Rattle.store_rule.specs.declared.store.Pass.{Pass}
+use Rattle.store_rule.specs.declared.store.Store.{Store}
+use Rattle.store_rule.specs.Ground.{Ground, Offers, anchor_for}
+use Rattle.store_rule.specs.Passes.{basis, view}
+use Rattle.slice_chain.specs.Victims.{hand_in}
+use Rattle.rock_reader.specs.Responses.{IsOffered as IsResponseOf}
+use Rattle.rock_writer.specs.Beginning.{Began, InUse, IsTooLong, NotTaken, Overtaken}
+use Rattle.rock_writer.specs.declared.fault.BeginFault.{BeginFault}
+use Rattle.rock_writer.specs.declared.fault.BeginFault.TheVariants.{Busy, LongUrl, Spent}
+use Rattle.rw_anchor.specs.Calls.{SpentAtDraw, SpentAtLook}
+use Rattle.serve_lines.specs.Answers.{answer_to_begin, answer_to_refusal}
+use Rattle.serve_lines.specs.Tabs.{IsFree, IsOffered}
+use Rattle.serve_lines.specs.Writing.{Begins}
+use Rattle.worker_shelf.specs.Typed.{IsTyped}
+use Rattle.plain_runs.specs.Words.{IsLone, Knows, no_guests, setting_of}
+use Rattle.plain_runs.specs.Shows.{Shows, ShowsTab, ShowsWriting}
+use Rattle.plain_runs.proofs.Beginning.{DrewNext, began_knows, looked_is, looked_same, never_overtaken, never_spent_at_draw, spent_at_look, took_next, took_open}
+use Rattle.plain_runs.proofs.Frames.{knows_same}
+use Rattle.plain_runs.proofs.Freeing.{FewReaders}
+use Rattle.plain_runs.proofs.ServedLines.{IsAs}
+use Rattle.plain_runs.proofs.OwnVersions.{same_answer}
+use Rattle.plain_runs.proofs.PlainWords.{idle_there, readers_fit, vacant_there, word_there}
+
+-- What the plain store does by its tests.
+
+module _ (s : Setting) (tab : ℕ) (url body : List ℕ) (offer : ℕ) (p : Plain) where
+  abbrev there : ℕ
+  there = anchor_of (key_of url) s.anchors
+
+  begin_long : s.room < meta_size url → begin_free s tab url body offer p ≡ step answer.LongUrl p
+  begin_long long = let t : nat_lt s.room (meta_size url) ≡ true = grind (arith, nat_tests) in rw t refl
+
+  module _ (short : meta_size url ≤ s.room) where
+    short_test : nat_lt s.room (meta_size url) ≡ false
+    short_test = grind (arith, nat_tests)
+
+    begin_busy : (is_vacant_at p there || is_idle_at p there) ≡ false → begin_free s tab url body offer p ≡ step (answer.Busy (word_at s p there) (word_at s p there)) p
+    begin_busy busy = rw (short_test, busy) refl
+
+    begin_spent : (is_vacant_at p there || is_idle_at p there) ≡ true → version_limit ≤ p.counter → begin_free s tab url body offer p ≡ step (answer.Spent p.counter) p
+    begin_spent open_to spent = let t : nat_le 4294901760 p.counter ≡ true = grind (arith, nat_tests) in rw (short_test, open_to, t) refl
+
+    begin_begun : (is_vacant_at p there || is_idle_at p there) ≡ true → p.counter < version_limit → begin_free s tab url body offer p ≡ step (answer.Begun (p.counter + 1)) (taken_by tab there (entry_of url body offer) p)
+    begin_begun open_to left = let t : nat_le 4294901760 p.counter ≡ false = grind (arith, nat_tests) in rw (short_test, open_to, t) refl
+
+module _ {C O : Type 0} (tells : Bool) (state : C → CellState) (offers : O → Offers) (s : Store C O) (rename : ℕ → ℕ) (lone : IsLone (basis tells state offers s)) (pass : Pass C) (p : Plain)
+    (shows : Shows tells state offers s rename pass p) (t : ℕ) (free : tab_at p t ≡ Free) (below : t < 8) (offer : ℕ) (url : List ℕ) (body : Body) (offered : IsOffered tells state offers s offer url body) where
+  abbrev g : Ground (List ℕ)
+  g = basis tells state offers s
+
+  abbrev a : ℕ
+  a = anchor_for g url
+
+  abbrev begins : Step
+  begins = begin_free (setting_of g) t url (bytes_of body) offer p
+
+  few : FewReaders p no_guests
+  few b = readers_fit p b 0 shows.eight (omega arith)
+
+  inside_tabs : t < length p.tabs
+  inside_tabs = let n = shows.eight in omega arith
+
+  -- what the word of the anchor allows, the plain store allows
+  open_is : (n : ℕ) → a < g.setting.anchors → n ≡ has g (view pass) (Anchor a) → (is_vacant n || is_idle n) ≡ (is_vacant_at p a || is_idle_at p a)
+  open_is n lt is = let k : n ≡ word_number (renamed_word rename (word_at (setting_of g) p a)) + 0 = is ∙ (shows.knows.each a lt).word in
+      ap (λ (z : Bool). z || is_idle n) (vacant_there rename (setting_of g) p 0 a n k (few a) refl) ∙ ap (λ (z : Bool). is_vacant_at p a || z) (idle_there rename (setting_of g) p 0 a n k (few a) refl)
+
+  either_true : (x y : Bool) → (x ≡ true) ⊎ (y ≡ true) → (x || y) ≡ true
+  either_true x y (inl e) = rw e refl
+  either_true true y (inr e) = refl
+  either_true false y (inr e) = e
+
+  both_false : (x y : Bool) → x ≡ false → y ≡ false → (x || y) ≡ false
+  both_false x y e f = rw (e, f) refl
+
+  -- No entry was begun, there and in the plain store: why, and what is known then.
+  pub record NotBegun (fault : BeginFault) (q : Pass C) : Type 0 where
+    pub plain_fault : BeginFault
+    pub begins_is : begins ≡ step (answer_to_refusal plain_fault) p
+    pub answer_is : answer_to_refusal fault ≡ renamed rename (answer_to_refusal plain_fault)
+    pub knows : Knows g rename (view q) p no_guests
+
+  pub not_begun : (fault : BeginFault) (q : Pass C) → NotTaken g t a (view pass) fault (view q) → ((answer_to_refusal fault ≡ answer.LongUrl) ↔ IsTooLong g url) → IsTyped (answer_to_refusal fault) → NotBegun fault q
+  not_begun LongUrl q same long typed = record {
+    plain_fault = LongUrl;
+    begins_is = begin_long (setting_of g) t url (bytes_of body) offer p (long.0 refl);
+    answer_is = refl;
+    knows = subst (λ (z : View (List ℕ)). Knows g rename z p no_guests) (sym same) shows.knows;
+  }
+  not_begun (Busy looked found) q h long typed = of_busy h.0
+    where
+      short : meta_size url ≤ (setting_of g).room
+      short = let no : IsTooLong g url → ⊥ = λ l. let z : answer.Busy looked found ≡ answer.LongUrl = long.1 l in cc in omega arith
+
+      of_busy : InUse g t a (view pass) looked found (view q) ⊎ Overtaken g t a (view pass) looked found (view q) → NotBegun (Busy looked found) q
+      of_busy (inr o) = absurd (never_overtaken g lone rename t a (view pass) (view q) looked found o)
+      of_busy (inl u) = record {
+        plain_fault = Busy (word_at (setting_of g) p a) (word_at (setting_of g) p a);
+        begins_is = begin_busy (setting_of g) t url (bytes_of body) offer p short (sym (open_is (word_number looked) lt found_is) ∙ both_false _ _ u.used.0 u.used.1);
+        answer_is = ap (λ (w : Word). answer.Busy looked w) u.same ∙ ap (λ (w : Word). answer.Busy w w) looked_word;
+        knows = knows_same g rename (view pass) (view q) p no_guests shows.knows (looked_same g lone (view pass) (view q) a (word_number looked) u.looks);
+      }
+        where
+          lt : a < g.setting.anchors
+          lt = u.looks.may.allowed
+
+          found_is : word_number looked ≡ has g (view pass) (Anchor a)
+          found_is = looked_is g lone (view pass) (view q) a (word_number looked) u.looks
+
+          looked_word : looked ≡ renamed_word rename (word_at (setting_of g) p a)
+          looked_word = word_there rename (setting_of g) p a looked (found_is ∙ (shows.knows.each a lt).word) typed.0 (let f = few a in omega arith)
+  not_begun (Spent versions) q h long typed = of_spent h.spent
+    where
+      short : meta_size url ≤ (setting_of g).room
+      short = let no : IsTooLong g url → ⊥ = λ l. let z : answer.Spent versions ≡ answer.LongUrl = long.1 l in cc in omega arith
+
+      lt : a < g.setting.anchors
+      lt = h.looks.may.allowed
+
+      seen_knows : Knows g rename h.seen p no_guests
+      seen_knows = knows_same g rename (view pass) h.seen p no_guests shows.knows (looked_same g lone (view pass) h.seen a h.n h.looks)
+
+      open_to : (is_vacant_at p a || is_idle_at p a) ≡ true
+      open_to = sym (open_is h.n lt (looked_is g lone (view pass) h.seen a h.n h.looks)) ∙ either_true _ _ h.open_to
+
+      of_spent : SpentAtLook g h.seen versions (view q) ⊎ SpentAtDraw g h.seen versions (view q) → NotBegun (Spent versions) q
+      of_spent (inr d) = absurd (never_spent_at_draw g lone rename h.seen (view q) versions p no_guests seen_knows d)
+      of_spent (inl l) = let k = spent_at_look g lone rename h.seen (view q) versions p no_guests seen_knows l in record {
+        plain_fault = Spent p.counter;
+        begins_is = begin_spent (setting_of g) t url (bytes_of body) offer p short open_to k.1;
+        answer_is = ap answer.Spent k.0;
+        knows = k.2;
+      }
+
+  -- An entry was begun, with the next version.
+  pub record IsBegun (version : ℕ) (q : Pass C) : Type 0 where
+    pub version_is : version ≡ rename (p.counter + 1)
+    pub begins_is : begins ≡ step (answer.Begun (p.counter + 1)) (taken_by t a (entry_of url (bytes_of body) offer) p)
+    pub knows : Knows g rename (view q) (taken_by t a (entry_of url (bytes_of body) offer) p) no_guests
+    pub tab : ShowsWriting tells state offers s rename q (taken_by t a (entry_of url (bytes_of body) offer) p) t a
+
+  pub is_begun : (durable : Bool) (version : ℕ) (q : Pass C) → rename (p.counter + 1) ≡ p.counter + 1 → Began tells state offers s t offer url durable pass q version → IsBegun version q
+  is_begun durable version q next b = record {
+    version_is = d.version_is ∙ sym next;
+    begins_is = begin_begun (setting_of g) t url (bytes_of body) offer p short (took_open g lone rename t a b.n version (view pass) b.middle shows.inner_free p shows.knows few free inside_tabs b.took) d.left;
+    knows = began_knows g lone rename t a b.n version (view pass) b.middle shows.inner_free p shows.knows few free inside_tabs b.took offer url (bytes_of body) response offered.from refl next (view q) b.named;
+    tab = writing;
+  }
+    where
+      begun : Entry
+      begun = entry_of url (bytes_of body) offer
+
+      response : IsResponseOf g a offer url (bytes_of body)
+      response = record { url_is = offered.url_is; body_is = offered.body_is; short = subst (LeavesRoom g.slot) offered.url_is b.writes.rests.fits.short }
+
+      short : meta_size url ≤ (setting_of g).room
+      short = let l = response.short in omega arith
+
+      d : DrewNext g lone rename b.took.took.drawn version p no_guests
+      d = took_next g lone rename t a b.n version (view pass) b.middle shows.inner_free p shows.knows few free inside_tabs b.took
+
+      lt : a < g.setting.anchors
+      lt = b.took.took.looks.may.allowed
+
+      placed : place_at (taken_by t a begun p) a ≡ record { version = p.counter + 1; doom = false; entry = Some begun }
+      placed = get_or-set_same p.places a (record { version = p.counter + 1; doom = false; entry = Some begun }) nothing (let m = shows.knows.many in let l = lt in omega arith)
+
+      writing : ShowsWriting tells state offers s rename q (taken_by t a begun p) t a
+      writing = record {
+        inside = lt;
+        entry = begun;
+        there = ap (λ (x : PlaceOf). x.entry) placed;
+        grows = refl;
+        written = _;
+        writes = b.writes;
+        anchor_is = refl;
+        version_is = d.version_is ∙ sym next ∙ ap (λ (x : PlaceOf). rename x.version) (sym placed);
+        offer_is = refl;
+        size = ap (λ (u : List ℕ). 32 + length u + 0) offered.url_is ∙ (omega arith);
+      }
+
+  begun_tab : (version : ℕ) (q : Pass C) → IsBegun version q → ShowsTab tells state offers s rename q (taken_by t a (entry_of url (bytes_of body) offer) p) t (tab_at (taken_by t a (entry_of url (bytes_of body) offer) p) t)
+  begun_tab version q b = subst (ShowsTab tells state offers s rename q (taken_by t a (entry_of url (bytes_of body) offer) p) t) (sym (get_or-set_same p.tabs t (Writing a) Free inside_tabs)) b.tab
+
+  -- What is answered to a line that begins an entry on a free tab, and what it leaves.
+  pub record BeginsRight (given : Answer) (q : Pass C) : Type 0 where
+    pub answer_is : given ≡ renamed rename begins.answer
+    pub knows : Knows g rename (view q) begins.after no_guests
+    pub hand : hand_in g.setting.anchors q.hand ≡ begins.after.hand
+    pub tab : ShowsTab tells state offers s rename q begins.after t (tab_at begins.after t)
+
+  pub begins_right : (given : Answer) (q : Pass C) → rename (p.counter + 1) ≡ p.counter + 1 → Begins tells state offers s t pass given q offer url → IsTyped given → q.hand ≡ pass.hand → BeginsRight given q
+  begins_right given q next h typed hand = of_outcome h.outcome h.answer_is h.began h.refused h.free
+    where
+      right : (r : Step) → begins ≡ r → given ≡ renamed rename r.answer → r.after.hand ≡ p.hand → Knows g rename (view q) r.after no_guests → ShowsTab tells state offers s rename q r.after t (tab_at r.after t) → BeginsRight given q
+      right r is answered same knows tab = record {
+        answer_is = answered ∙ ap (λ (x : Step). renamed rename x.answer) (sym is);
+        knows = subst (λ (x : Step). Knows g rename (view q) x.after no_guests) (sym is) knows;
+        hand = ap (hand_in g.setting.anchors) hand ∙ shows.hand ∙ sym same ∙ ap (λ (x : Step). x.after.hand) (sym is);
+        tab = subst (λ (x : Step). ShowsTab tells state offers s rename q x.after t (tab_at x.after t)) (sym is) tab;
+      }
+
+      of_outcome : (outcome : Result ℕ BeginFault) → given ≡ answer_to_begin outcome → IfOk outcome (λ version. Began tells state offers s t offer url false pass q version)
+          → IfErr outcome (λ fault. NotTaken g t a (view pass) fault (view q)) → OnErr outcome (IsFree q t) → BeginsRight given q
+      of_outcome (Ok version) is began refused free_there = let b = is_begun false version q next began in
+          right (step (answer.Begun (p.counter + 1)) (taken_by t a (entry_of url (bytes_of body) offer) p)) b.begins_is (is ∙ ap answer.Begun b.version_is) refl b.knows (begun_tab version q b)
+      of_outcome (Err fault) is began refused free_there = let b = not_begun fault q refused (subst (λ (z : Answer). (z ≡ answer.LongUrl) ↔ IsTooLong g url) is h.long) (subst IsTyped is typed) in
+          right (step (answer_to_refusal b.plain_fault) p) b.begins_is (is ∙ b.answer_is) refl b.knows (subst (ShowsTab tells state offers s rename q p t) (sym free) free_there)
+
+-- A whole response is stored by beginning its entry on the last tab and ending it, or its entry is not begun.
+module _ (s : Setting) (url body : List ℕ) (offer : ℕ) (p : Plain) (free : tab_at p 7 ≡ Free) where
+  pub put_ends : (version : ℕ) (after : Plain) → begin_free s 7 url body offer p ≡ step (answer.Begun version) after → put s url body offer p ≡ end s 7 after
+  put_ends version after is = rw (free, is) refl
+
+  pub put_refused : (fault : BeginFault) → begin_free s 7 url body offer p ≡ step (answer_to_refusal fault) p → put s url body offer p ≡ step (answer_to_refusal fault) p
+  put_refused LongUrl is = rw (free, is) refl
+  put_refused (Busy looked found) is = rw (free, is) refl
+  put_refused (Spent versions) is = rw (free, is) refl
+
+-- The same where each version stands for itself, as of the request.
+module _ {C O : Type 0} (tells : Bool) (state : C → CellState) (offers : O → Offers) (s : Store C O) (lone : IsLone (basis tells state offers s)) where
+  pub begins_as : (t offer : ℕ) (url : List ℕ) (body : Body) (p q : Pass C) (given : Answer) (plain : Plain) → t < 8 → Shows tells state offers s (λ v. v) p plain → tab_at plain t ≡ Free
+      → IsOffered tells state offers s offer url body → IsTyped given → q.hand ≡ p.hand → Begins tells state offers s t p given q offer url
+      → IsAs tells state offers s given q t (begin (setting_of (basis tells state offers s)) t url (bytes_of body) offer plain)
+  begins_as t offer url body p q given plain below shows free offered typed hand h = let r = begins_right tells state offers s (λ v. v) lone p plain shows t free below offer url body offered given q refl h typed hand in
+      let e : begin (setting_of (basis tells state offers s)) t url (bytes_of body) offer plain ≡ begin_free (setting_of (basis tells state offers s)) t url (bytes_of body) offer plain = rw free refl in
+      subst (IsAs tells state offers s given q t) (sym e) record { answered = r.answer_is ∙ same_answer _; shows = record { knows = r.knows; hand = r.hand; tab = r.tab } }

@@ -1,0 +1,420 @@
+-- What is known of the plain store once the inner tab has given back the chain of an anchor.
+use Rattle.std.proofs.Common.{Contains, List, None, Option, Some, [], ap, arith, eq-eqb, false, get_or, get_or-set_other, get_or-set_same, inl, inr, length, length-set, refl, set, subst, sym, true, ◌+◌, ◌-◌, ◌*◌, ◌<◌, ◌==◌, ◌≤◌, ◌∙◌, ◌≡◌, ◌≢◌, ◌⊎◌, ◌∷◌, ℕ, ◌++◌, ne_eqb}
+use Rattle.std.proofs.lemmas.Bool.{false≢true}
+use Rattle.std.proofs.lemmas.List.{get_or_past}
+use mathlib.Core.Logic.{dite}
+use mathlib.Core.Option.{some}
+use native.Mathlib.Decide.{ℕ_discrete}
+use lib.ListN.{get_elem?}
+use Rattle.lock_word.specs.Words.{epoch_of as epoch_in, evicted, is_idle, raised, stage_number, stage_of as stage_in, word_at as word_at_stage, word_number}
+use Rattle.lock_word.specs.declared.stage.Stage.TheVariants as stage
+use Rattle.lock_word.specs.declared.word.Word.{Word}
+use Rattle.lock_word.proofs.Parts.{epoch_of-word_number, stage_of-epoch_number}
+use Rattle.core_model.specs.AnchorMoves.{freer_of, writer_of}
+use Rattle.core_model.specs.Anchors.{tabs_in}
+use Rattle.link_word.specs.declared.link.Link.{Link as LinkOf}
+use Rattle.link_word.specs.declared.link.Link.TheVariants.{Last as LastLink, Next, NotWritten}
+use Rattle.core_model.specs.Chains.{Fits, no_chain, slots_of_link}
+use Rattle.core_model.specs.State.{chain_of, word}
+use Rattle.core_model.specs.Layout.{IsPlace}
+use Rattle.core_model.specs.Table.{place}
+use Rattle.core_model.specs.Tabs.{IsPass, inner, tab_at}
+use Rattle.core_model.specs.Trails.{last_find}
+use Rattle.core_model.specs.declared.moves.Move.{Move}
+use Rattle.core_model.specs.declared.moves.Move.TheVariants.{Evict, Take}
+use Rattle.core_model.specs.declared.moves.Side.{Side}
+use Rattle.core_model.specs.declared.tab.Freer.{Freer}
+use Rattle.core_model.specs.declared.tab.Tab.{Tab}
+use Rattle.core_model.specs.declared.tab.Tab.TheVariants.{Free, Freeing, Writing}
+use Rattle.core_model.specs.declared.view.Place.{Place}
+use Rattle.core_model.specs.declared.view.Place.TheVariants.{Anchor, Beside, Counter, Link}
+use Rattle.core_model.specs.declared.view.View.{View}
+use Rattle.core_model.proofs.Lists.{contains_none, le_sum_at}
+use Rattle.core_model.proofs.OwnsKept.{held_slot}
+use Rattle.core_model.proofs.Tabs.{contains_times, tab_there}
+use Rattle.plain_model.specs.declared.entry.Entry.{Entry}
+use Rattle.plain_model.specs.declared.entry.Place.{Place as PlaceOf}
+use Rattle.plain_model.specs.declared.store.Plain.{Plain}
+use Rattle.plain_model.specs.Place.{nothing, vacated}
+use Rattle.plain_model.specs.declared.entry.Life.{Life}
+use Rattle.plain_model.specs.declared.entry.Life.TheVariants.{GivenUp, Growing, Whole}
+use Rattle.plain_model.specs.Store.{entry_at, epoch_of, place_at, published, readers, stage_of, word_at}
+use Rattle.entry_cut.specs.Content.{room_of}
+use Rattle.plain_laws.specs.Renaming.{renamed_word}
+use Rattle.plain_laws.proofs.Choosing.{either}
+use Rattle.store_rule.specs.Ground.{Ground}
+use Rattle.store_rule.specs.Told.{Stands, Steps}
+use Rattle.store_rule.specs.Runs.{Added, Went}
+use Rattle.store_rule.specs.Words.{has}
+use Rattle.store_rule.proofs.AddingUp.{found_mine, has_left}
+use Rattle.slice_chain.specs.Freeing.{Freed}
+use Rattle.plain_runs.specs.Words.{HasChain, IsLone, Knows, ShowsAt, ShowsEntryIf, setting_of}
+use Rattle.plain_runs.proofs.Frames.{LeavesAlone, SameBut, same_none, same_weaker, shows_elsewhere, step_same, went_same}
+use Rattle.plain_runs.proofs.Chains.{chain_is, not_resting, own_tab, word_is}
+use Rattle.plain_runs.proofs.PlainWords.{stage_there}
+
+anchor_in : Place → ℕ
+anchor_in (Anchor a) = a
+anchor_in q = 0
+
+link_in : Place → ℕ
+link_in (Link slot) = slot
+link_in q = 0
+
+same_anchor : (a b : ℕ) → Anchor a ≡ Anchor b → a ≡ b
+unfolding anchor_in
+same_anchor a b e = ap anchor_in e
+
+same_link : (a b : ℕ) → Link a ≡ Link b → a ≡ b
+unfolding link_in
+same_link a b e = ap link_in e
+
+-- The plain store q is p, but for what it has at the anchor a.
+pub record SameElse (p q : Plain) (a : ℕ) : Type 0 where
+  pub counter : q.counter ≡ p.counter
+  pub many : length q.places ≡ length p.places
+  pub places : (b : ℕ) → b ≢ a → place_at q b ≡ place_at p b
+  pub readers : (b : ℕ) → b ≢ a → readers q b ≡ readers p b
+
+pub same_else : (p : Plain) (a : ℕ) → SameElse p p a
+same_else p a = record { counter = refl; many = refl; places = λ b ne. refl; readers = λ b ne. refl }
+
+-- the anchor a has another place
+abbrev pub put_at : ℕ → PlaceOf → Plain → Plain
+put_at a x p = record p { places = set p.places a x }
+
+pub put_else : (p : Plain) (a : ℕ) (x : PlaceOf) → SameElse p (put_at a x p) a
+put_else p a x = record {
+  counter = refl;
+  many = length-set p.places a x;
+  places = λ b ne. get_or-set_other p.places a b x nothing ne;
+  readers = λ b ne. refl;
+}
+
+-- its entry is gone
+abbrev pub vacated_at : ℕ → Plain → Plain
+vacated_at a p = put_at a (vacated (place_at p a)) p
+
+module _ (g : Ground (List ℕ)) (rename : ℕ → ℕ) where
+  -- What the pass knows is the plain store p, but for the anchor a, of which this says nothing.
+  pub record KnowsBut (v : View (List ℕ)) (p : Plain) (guests : ℕ → ℕ) (a : ℕ) : Type 0 where
+    pub counter : has g v Counter ≡ p.counter
+    pub many : length p.places ≡ g.setting.anchors
+    pub each : (b : ℕ) → b < g.setting.anchors → b ≢ a → ShowsAt g rename v p (guests b) b
+
+  pub knows_but : (v : View (List ℕ)) (p : Plain) (guests : ℕ → ℕ) (a : ℕ) → Knows g rename v p guests → KnowsBut v p guests a
+  knows_but v p guests a h = record { counter = h.counter; many = h.many; each = λ b lt ne. h.each b lt }
+
+  pub knows_all : (v : View (List ℕ)) (p : Plain) (guests : ℕ → ℕ) (a : ℕ) → KnowsBut v p guests a → (a < g.setting.anchors → ShowsAt g rename v p (guests a) a) → Knows g rename v p guests
+  knows_all v p guests a h here = record {
+    counter = h.counter;
+    many = h.many;
+    each = λ b lt. dite (ℕ_discrete b a)
+        (λ e. subst (λ (z : ℕ). ShowsAt g rename v p (guests z) z) (sym e) (here (subst (λ (z : ℕ). z < g.setting.anchors) e lt)))
+        (λ ne. h.each b lt ne);
+  }
+
+  -- where other readers are counted beside those of the plain store at no other anchor
+  pub but_guests : (v : View (List ℕ)) (p : Plain) (guests others : ℕ → ℕ) (a : ℕ) → ((b : ℕ) → b ≢ a → others b ≡ guests b) → KnowsBut v p guests a → KnowsBut v p others a
+  but_guests v p guests others a same h = record {
+    counter = h.counter;
+    many = h.many;
+    each = λ b lt ne. subst (λ (n : ℕ). ShowsAt g rename v p n b) (sym (same b ne)) (h.each b lt ne);
+  }
+
+  -- the words change, and the plain store at the anchor a
+  pub but_moved : (v w : View (List ℕ)) (Changed : Place → Type 0) (p q : Plain) (guests : ℕ → ℕ) (a : ℕ) → SameBut g v w Changed → SameElse p q a → (Changed Counter → ⊥)
+      → ((b : ℕ) → b < g.setting.anchors → b ≢ a → LeavesAlone g v Changed b (entry_at p b)) → KnowsBut v p guests a → KnowsBut w q guests a
+  but_moved v w Changed p q guests a s other still alone h = record {
+    counter = s.same Counter tt tt still ∙ h.counter ∙ sym other.counter;
+    many = other.many ∙ h.many;
+    each = λ b lt ne. shows_elsewhere g rename v w Changed p q (guests b) b lt (h.each b lt ne) (other.places b ne) (other.readers b ne) s (alone b lt ne);
+  }
+
+  -- a step on the word of the anchor a
+  pub but_step : (v w : View (List ℕ)) (m : Move) (n : ℕ) (p q : Plain) (guests : ℕ → ℕ) (a : ℕ) → Steps g v m n w → place v m ≡ Some (Anchor a) → a < g.setting.anchors → SameElse p q a
+      → KnowsBut v p guests a → KnowsBut w q guests a
+  but_step v w m n p q guests a st is lt other h = but_moved v w (λ r. r ≡ Anchor a) p q guests a (step_same g v w m n (Anchor a) st is lt) other (λ e. cc)
+      (λ b here ne. record { word = λ e. ne (same_anchor b a e); sides = λ side e. cc; links = λ x there chain j c e. cc }) h
+
+-- No more readers are counted than the word of an anchor has room for.
+abbrev pub FewReaders : Plain → (ℕ → ℕ) → Type 0
+FewReaders p guests = (b : ℕ) → readers p b + guests b < 65536
+
+-- The slots of other entries are in no chain that is given back.
+module _ (g : Ground (List ℕ)) (lone : IsLone g) (v : View (List ℕ)) (st : Stands g v) (pass : IsPass v) (f : Freer) (is : tab_at v inner ≡ Freeing f)
+    (b version : ℕ) (lt : b < g.setting.anchors) (e : Entry) (h : HasChain g v b e) where
+  abbrev stage_here : ℕ
+  stage_here = stage_in (epoch_in (word st.state b))
+
+  -- an entry of which slots are published
+  apart_spelled : 2 ≤ stage_here → stage_here ≤ 4 → (j : ℕ) → Contains (h.slots ++ slots_of_link h.end) j → Contains f.rest j → ⊥
+  apart_spelled least most j c d = let same = chain_is g lone st.state st.index v st.rule st.at pass b lt e h least most in
+      not_resting g lone st.state st.index v st.rule st.at pass b lt j st.index inner f
+      (subst (λ (z : LinkOf). Contains ((chain_of st.state b).slots ++ slots_of_link z) j) same.1 (subst (λ (z : List ℕ). Contains (z ++ slots_of_link h.end) j) same.0 c))
+      (own_tab g lone st.state st.index v st.rule st.at pass inner (Freeing f) (omega arith) is) d
+
+  -- one of which none is
+  apart_none : length h.slots ≡ 0 → (j : ℕ) → Contains (h.slots ++ slots_of_link h.end) j → ⊥
+  apart_none none j c = nothing_there h.slots h.end none h.spelled.fits c
+    where
+      nothing_there : (slots : List ℕ) (end : LinkOf) → length slots ≡ 0 → Fits slots end → Contains (slots ++ slots_of_link end) j → ⊥
+      nothing_there [] NotWritten n fits c = contains_none j c
+      nothing_there [] LastLink n fits c = fits
+      nothing_there [] (Next x) n fits c = fits
+      nothing_there (x ∷ xs) end n fits c = absurd (omega arith)
+
+  apart_life : (life : Life) → e.life ≡ life → stage_here ≡ stage_number (stage_of (room_of g.slot) version (Some e)) → (j : ℕ) → Contains (h.slots ++ slots_of_link h.end) j → Contains f.rest j → ⊥
+  apart_life Whole l s j c d = let k : stage_here ≡ 3 = s ∙ (rw l refl) in apart_spelled (omega arith) (omega arith) j c d
+  apart_life GivenUp l s j c d = let k : stage_here ≡ 4 = s ∙ (rw l refl) in apart_spelled (omega arith) (omega arith) j c d
+  apart_life Growing l s j c d = dite (ℕ_discrete (published (room_of g.slot) e.content) 0)
+      (λ none. apart_none (h.many ∙ (rw l none)) j c)
+      (λ some_. let k : stage_here ≡ 2 = s ∙ (let z = ne_eqb (published (room_of g.slot) e.content) 0 some_ in rw (l, z) refl) in apart_spelled (omega arith) (omega arith) j c d)
+
+chained_apart_rest : (g : Ground (List ℕ)) (rename : ℕ → ℕ) → IsLone g → (v : View (List ℕ)) → Stands g v → IsPass v → (p : Plain) (n b : ℕ) → readers p b + n < 65536 → b < g.setting.anchors → ShowsAt g rename v p n b
+    → (e : Entry) → entry_at p b ≡ Some e → (h : HasChain g v b e) → (f : Freer) → tab_at v inner ≡ Freeing f → (j : ℕ) → Contains (h.slots ++ slots_of_link h.end) j → Contains f.rest j → ⊥
+chained_apart_rest g rename lone v st pass p n b few lt shown e there h f is j c d = apart_life g lone v st pass f is b (place_at p b).version lt e h e.life refl
+    (stage_there rename (setting_of g) p n b (word st.state b) (word_is g lone st.state st.index v st.rule st.at pass (Anchor b) lt ∙ shown.word) few ∙ ap (λ o. stage_number (stage_of (room_of g.slot) (place_at p b).version o)) there) j c d
+
+module _ (g : Ground (List ℕ)) (lone : IsLone g) where
+  -- a pass whose inner tab gives slots back has nine tabs
+  pub nine_tabs : (v : View (List ℕ)) (f : Freer) → Stands g v → tab_at v inner ≡ Freeing f → IsPass v
+  nine_tabs v f st is = dite (ℕ_discrete (length v.tabs - 8) 0)
+      (λ short. absurd (none_there (get_or_past v.tabs 8 Free (omega arith)) is))
+      (λ long. let one = le_sum_at tabs_in st.state.views st.index v st.at in let all = st.rule.sound.anchors.shaped.tabs in exactly one all lone (omega arith))
+    where
+      none_there : {x : Tab (List ℕ)} → x ≡ Free → x ≡ Freeing f → ⊥
+      none_there {x} e h = let k : Free ≡ Freeing f = sym e ∙ h in cc
+
+      exactly : {x n p : ℕ} → x ≤ n → n ≡ 9 * p → p ≡ 1 → 8 < x → x ≡ 9
+      exactly one all p long = omega arith
+
+module _ (g : Ground (List ℕ)) (lone : IsLone g) (v : View (List ℕ)) (f : Freer) (st : Stands g v) (is : tab_at v inner ≡ Freeing f) where
+  nine : IsPass v
+  nine = nine_tabs g lone v f st is
+
+  here : get_elem? v.tabs inner ≡ some (Freeing f)
+  here = tab_there v inner (Freeing f) (let n = nine in omega arith) is
+
+  pub freer_inside : f.anchor < g.setting.anchors
+  freer_inside = (st.rule.sound.anchors.tabs st.index v st.at inner (Freeing f) here).0
+
+  pub rest_inside : (slot : ℕ) → Contains f.rest slot → slot < g.setting.slots
+  rest_inside slot c = held_slot g.setting st.state st.index v st.rule.sound.anchors st.rule.sound.slots st.at nine slot inner (Freeing f) here (let z = contains_times slot f.rest c in omega arith)
+
+-- The word of an anchor whose entry is given back, with the readers that the plain store counts there.
+abbrev pub freeing_word : Plain → ℕ → Word
+freeing_word p a = record { epoch = record { version = (place_at p a).version; doom = (place_at p a).doom; stage = stage.Freeing }; readers = readers p a }
+
+raised_word : (rename : ℕ → ℕ) (room : ℕ) (x : PlaceOf) (counted n : ℕ) → 0 < x.version
+    → word_number (renamed_word rename record { epoch = epoch_of room (vacated x); readers = counted }) + n
+    ≡ raised (word_number (renamed_word rename record { epoch = record { version = x.version; doom = x.doom; stage = stage.Freeing }; readers = counted }) + n) 1
+raised_word rename room x counted n some_version = let none = ne_eqb x.version 0 (λ e. absurd (omega arith)) in rw none (omega arith)
+
+module _ (g : Ground (List ℕ)) (rename : ℕ → ℕ) (lone : IsLone g) where
+  -- Where slots of a chain are given back, and the word of its anchor may have changed, other entries stay.
+  pub gave_but : (v w : View (List ℕ)) (f : Freer) (d : Added) (p : Plain) (guests : ℕ → ℕ) → FewReaders p guests → Stands g v → tab_at v inner ≡ Freeing f → Went g v d w
+      → ((q : Place) → Contains d.changed q → ((slot : ℕ) × (q ≡ Link slot) × Contains f.rest slot) ⊎ (q ≡ Anchor f.anchor)) → KnowsBut g rename v p guests f.anchor → KnowsBut g rename w p guests f.anchor
+  gave_but v w f d p guests few st is went only h = but_moved g rename v w (Contains d.changed) p p guests f.anchor (went_same g lone v w d went there) (same_else p f.anchor) (λ c. no_counter (only Counter c))
+      (λ b lt ne. record { word = λ c. no_anchor b ne (only (Anchor b) c); sides = λ side c. no_side side b (only (Beside side b) c); links = λ e here chain j c k. no_link b lt ne e here chain j c (only (Link j) k) }) h
+    where
+      OneOf : Place → Type 0
+      OneOf q = ((slot : ℕ) × (q ≡ Link slot) × Contains f.rest slot) ⊎ (q ≡ Anchor f.anchor)
+
+      there : (q : Place) → Contains d.changed q → IsPlace g.setting q
+      there q c = of_one q (only q c)
+        where
+          of_one : (q : Place) → ((slot : ℕ) × (q ≡ Link slot) × Contains f.rest slot) ⊎ (q ≡ Anchor f.anchor) → IsPlace g.setting q
+          of_one q (inl x) = subst (IsPlace g.setting) (sym x.1) (rest_inside g lone v f st is x.0 x.2)
+          of_one q (inr e) = subst (IsPlace g.setting) (sym e) (freer_inside g lone v f st is)
+
+      no_counter : ((slot : ℕ) × (Counter ≡ Link slot) × Contains f.rest slot) ⊎ (Counter ≡ Anchor f.anchor) → ⊥
+      no_counter (inl x) = let e = x.1 in cc
+      no_counter (inr e) = cc
+
+      no_anchor : (b : ℕ) → b ≢ f.anchor → ((slot : ℕ) × (Anchor b ≡ Link slot) × Contains f.rest slot) ⊎ (Anchor b ≡ Anchor f.anchor) → ⊥
+      no_anchor b ne (inl x) = let e = x.1 in cc
+      no_anchor b ne (inr e) = ne (same_anchor b f.anchor e)
+
+      no_side : (side : Side) (b : ℕ) → ((slot : ℕ) × (Beside side b ≡ Link slot) × Contains f.rest slot) ⊎ (Beside side b ≡ Anchor f.anchor) → ⊥
+      no_side side b (inl x) = let e = x.1 in cc
+      no_side side b (inr e) = cc
+
+      no_link : (b : ℕ) → b < g.setting.anchors → b ≢ f.anchor → (e : Entry) → entry_at p b ≡ Some e → (chain : HasChain g v b e) → (j : ℕ) → Contains (chain.slots ++ slots_of_link chain.end) j
+          → ((slot : ℕ) × (Link j ≡ Link slot) × Contains f.rest slot) ⊎ (Link j ≡ Anchor f.anchor) → ⊥
+      no_link b lt ne e here chain j c (inl x) = chained_apart_rest g rename lone v st (nine_tabs g lone v f st is) p (guests b) b (few b) lt (h.each b lt ne) e here chain f is j c
+          (subst (λ (z : ℕ). Contains f.rest z) (sym (same_link j x.0 x.1)) x.2)
+      no_link b lt ne e here chain j c (inr k) = cc
+
+  -- The pass had an inner tab that gave back a chain: so its view is that of some state.
+  freed_stands : (v w : View (List ℕ)) → Freed g v w → Stands g v × Stands g w
+  freed_stands v w h = of_went h.went.stands
+    where
+      of_went : (w ≡ v) ⊎ (Stands g v × Stands g w) → Stands g v × Stands g w
+      of_went (inl e) = absurd (still (get_or_set_free v.tabs) (sym (ap (λ (u : View (List ℕ)). tab_at u inner) e) ∙ ap (λ (xs : List (Tab (List ℕ))). get_or xs inner Free) h.tabs) h.was)
+        where
+          get_or_set_free : (xs : List (Tab (List ℕ))) → get_or (set xs inner Free) inner Free ≡ Free
+          get_or_set_free xs = dite (ℕ_discrete (length xs - 8) 0)
+              (λ short. get_or_past (set xs inner Free) inner Free (let n = length-set xs inner Free in omega arith))
+              (λ long. get_or-set_same xs inner Free Free (omega arith))
+
+          still : {x y : Tab (List ℕ)} → x ≡ Free → y ≡ x → y ≡ Freeing h.freer → ⊥
+          still {x} {y} e k is = let z : Free ≡ Freeing h.freer = sym e ∙ sym k ∙ is in cc
+      of_went (inr s) = s
+
+  -- The anchor's word is a stage on from the one that the pass knew.
+  pub raised_from : (v w : View (List ℕ)) → (h : Freed g v w) → h.freer.is_freeing ≡ true → has g w (Anchor h.freer.anchor) ≡ raised (has g v (Anchor h.freer.anchor)) 1
+  raised_from v w h freeing = h.from freeing (freer_inside g lone v h.freer (freed_stands v w h).0 h.was) lone
+
+  -- Links of the chain changed, and the word of its anchor where that was at FREEING.
+  abbrev pub FreedAt : Freer → Place → Type 0
+  FreedAt f q = ((slot : ℕ) × (q ≡ Link slot) × Contains f.rest slot) ⊎ ((f.is_freeing ≡ true) × (q ≡ Anchor f.anchor))
+
+  pub freed_same : (v w : View (List ℕ)) → (h : Freed g v w) → SameBut g v w (FreedAt h.freer)
+  freed_same v w h = same_weaker g v w (Contains h.added.changed) (FreedAt h.freer) (λ q c. h.changed q c) (went_same g lone v w h.added h.went there)
+    where
+      st : Stands g v
+      st = (freed_stands v w h).0
+
+      placed : {q : Place} → FreedAt h.freer q → IsPlace g.setting q
+      placed (inl x) = subst (IsPlace g.setting) (sym x.1) (rest_inside g lone v h.freer st h.was x.0 x.2)
+      placed (inr x) = subst (IsPlace g.setting) (sym x.1) (freer_inside g lone v h.freer st h.was)
+
+      there : (q : Place) → Contains h.added.changed q → IsPlace g.setting q
+      there q c = placed (h.changed q c)
+
+  -- Whatever becomes of the anchor, other entries stay where a chain was given back.
+  pub freed_but : (v w : View (List ℕ)) (p : Plain) (guests : ℕ → ℕ) (a : ℕ) → FewReaders p guests → (h : Freed g v w) → h.freer.anchor ≡ a → KnowsBut g rename v p guests a → KnowsBut g rename w p guests a
+  freed_but v w p guests a few h at but = subst (KnowsBut g rename w p guests) at
+      (gave_but v w h.freer h.added p guests few (freed_stands v w h).0 h.was h.went (λ q c. may_be (h.changed q c)) (subst (KnowsBut g rename v p guests) (sym at) but))
+    where
+      may_be : {q : Place} → FreedAt h.freer q → ((slot : ℕ) × (q ≡ Link slot) × Contains h.freer.rest slot) ⊎ (q ≡ Anchor h.freer.anchor)
+      may_be (inl x) = inl x
+      may_be (inr x) = inr x.1
+
+  -- the plain store changes at an anchor of which nothing is said
+  pub but_put : (v : View (List ℕ)) (p : Plain) (guests : ℕ → ℕ) (a : ℕ) (x : PlaceOf) → KnowsBut g rename v p guests a → KnowsBut g rename v (put_at a x p) guests a
+  but_put v p guests a x h = but_moved g rename v v (λ q. ⊥) p (put_at a x p) guests a (same_none g v (λ q. ⊥)) (put_else p a x) (λ none. none)
+      (λ b lt ne. record { word = λ none. none; sides = λ side none. none; links = λ e there chain j c none. none }) h
+
+  -- An entry at FREEING was given back: the plain store has it no more.
+  pub gave_right : (w : View (List ℕ)) (p : Plain) (guests : ℕ → ℕ) (a n : ℕ) → KnowsBut g rename w p guests a → 0 < (place_at p a).version → n ≡ word_number (renamed_word rename (freeing_word p a)) + guests a
+      → has g w (Anchor a) ≡ raised n 1 → Knows g rename w (vacated_at a p) guests
+  gave_right w p guests a n but some_version was left = knows_all g rename w (vacated_at a p) guests a (but_put w p guests a (vacated (place_at p a)) but) here
+    where
+      here : a < g.setting.anchors → ShowsAt g rename w (vacated_at a p) (guests a) a
+      here lt = record {
+        word = left ∙ ap (λ z. raised z 1) was ∙ sym (raised_word rename (room_of g.slot) (place_at p a) (readers p a) (guests a) some_version)
+            ∙ ap (λ (y : PlaceOf). word_number (renamed_word rename record { epoch = epoch_of (room_of g.slot) y; readers = readers p a }) + guests a) (sym there);
+        entry = subst (λ (y : PlaceOf). ShowsEntryIf g w a y.version y.entry) (sym there) tt;
+      }
+        where
+          there : place_at (vacated_at a p) a ≡ vacated (place_at p a)
+          there = get_or-set_same p.places a (vacated (place_at p a)) nothing (let n = but.many in omega arith)
+
+  pub freed_right : (v w : View (List ℕ)) (p : Plain) (guests : ℕ → ℕ) (a : ℕ) → FewReaders p guests → (h : Freed g v w) → h.freer.anchor ≡ a → h.freer.is_freeing ≡ true
+      → KnowsBut g rename v p guests a → 0 < (place_at p a).version → has g v (Anchor a) ≡ word_number (renamed_word rename (freeing_word p a)) + guests a → Knows g rename w (vacated_at a p) guests
+  freed_right v w p guests a few h at freeing but some_version was = gave_right w p guests a (has g v (Anchor a)) (freed_but v w p guests a few h at but) some_version was
+      (subst (λ (z : ℕ). has g w (Anchor z) ≡ raised (has g v (Anchor z)) 1) at (raised_from v w h freeing))
+
+-- the word that an eviction leaves
+low_stage : (room version : ℕ) (e : Entry) (life : Life) → e.life ≡ life → stage_number (stage_of room version (Some e)) ≤ 5
+low_stage room version e Whole l = rw l (omega arith)
+low_stage room version e GivenUp l = rw l (omega arith)
+low_stage room version e Growing l = rw l (either (λ s. stage_number s ≤ 5) (published room e.content == 0) stage.Taken stage.Appending (λ y. omega arith) (λ y. omega arith))
+
+evicted_number : (w : Word) → w.readers ≡ 0 → stage_number w.epoch.stage ≤ 5 → evicted (word_number w) ≡ word_number (record w { epoch = record w.epoch { stage = stage.Freeing } })
+evicted_number w none low = let e = epoch_of-word_number w (omega arith) in let s = stage_of-epoch_number w.epoch in let t : stage_in (epoch_in (word_number w)) ≡ stage_number w.epoch.stage = ap stage_in e ∙ s in omega arith
+
+freer_in : Tab (List ℕ) → Freer
+freer_in (Freeing f) = f
+freer_in tab = freer_of 0 true no_chain
+
+abbrev freeing_tab : Freer → Tab (List ℕ)
+freeing_tab f = Freeing f
+
+pub same_freer : (f h : Freer) → freeing_tab f ≡ freeing_tab h → f ≡ h
+unfolding freer_in
+same_freer f h e = ap freer_in e
+
+module _ (g : Ground (List ℕ)) where
+  -- the chain of an entry that is evicted goes to the inner tab
+  pub evict_freer : (v u : View (List ℕ)) (t a n : ℕ) → (st : Steps g v (Evict t a) n u) → n ≡ last_find a v.trail → tab_at u inner ≡ Freeing (freer_of a true (chain_of st.state a))
+  evict_freer v u t a n st won = ap (λ (z : View (List ℕ)). tab_at z inner) st.leaves ∙ (let z = eq-eqb n (last_find a v.trail) won in rw z refl)
+      ∙ get_or-set_same (set v.tabs t Free) inner (Freeing (freer_of a true (chain_of st.state a))) Free (let n = st.may.pass in let m = length-set v.tabs t Free in omega arith)
+
+  -- and so does that of an idle one whose anchor is taken
+  pub take_freer : (v u : View (List ℕ)) (t a version n : ℕ) → (st : Steps g v (Take t a version) n u) → n ≡ last_find a v.trail → is_idle n ≡ true → tab_at u inner ≡ Freeing (freer_of a false (chain_of st.state a))
+  take_freer v u t a version n st won idle = ap (λ (z : View (List ℕ)). tab_at z inner) st.leaves ∙ (let z = eq-eqb n (last_find a v.trail) won in rw (z, idle) refl)
+      ∙ get_or-set_other (set v.tabs inner (Freeing (freer_of a false (chain_of st.state a)))) t inner (Writing (writer_of a version)) Free (let w = st.may.allowed.1.writes in omega arith)
+      ∙ get_or-set_same v.tabs inner (Freeing (freer_of a false (chain_of st.state a))) Free (let n = st.may.pass in omega arith)
+
+module _ (g : Ground (List ℕ)) (rename : ℕ → ℕ) (lone : IsLone g) where
+  -- After an entry that nobody reads was evicted its chain is at the inner tab, and its anchor at FREEING.
+  pub record EvictedAt (u : View (List ℕ)) (a : ℕ) (p : Plain) (guests : ℕ → ℕ) : Type 0 where
+    pub inside : a < g.setting.anchors
+    pub freer : Freer
+    pub is : tab_at u inner ≡ Freeing freer
+    pub anchor_is : freer.anchor ≡ a
+    pub freeing : freer.is_freeing ≡ true
+    pub others : KnowsBut g rename u p guests a
+    pub drawn : 0 < (place_at p a).version
+    pub word : has g u (Anchor a) ≡ word_number (renamed_word rename (freeing_word p a)) + guests a
+
+  pub evict_leaves : (v u : View (List ℕ)) (t a n : ℕ) (p : Plain) (guests : ℕ → ℕ) (e : Entry) → Knows g rename v p guests → (st : Steps g v (Evict t a) n u) → n ≡ last_find a v.trail
+      → entry_at p a ≡ Some e → readers p a ≡ 0 → guests a ≡ 0 → EvictedAt u a p guests
+  evict_leaves v u t a n p guests e knows st won there unread alone = record {
+    inside = inside_;
+    freer = freer_of a true (chain_of st.state a);
+    is = evict_freer g v u t a n st won;
+    anchor_is = refl;
+    freeing = refl;
+    others = but_step g rename v u (Evict t a) n p p guests a st refl inside_ (same_else p a) (knows_but g rename v p guests a knows);
+    drawn = drawn_ (entry_at p a) there shown.entry;
+    word = has_left g v u (Evict t a) n (Anchor a) (Anchor a) st refl refl ∙ (let z = eq-eqb n (last_find a v.trail) won in rw z refl) ∙ ap evicted found
+        ∙ evicted_number (renamed_word rename (word_at (setting_of g) p a)) unread (subst (λ o. stage_number (stage_of (room_of g.slot) (place_at p a).version o) ≤ 5) (sym there) (low_stage (room_of g.slot) (place_at p a).version e e.life refl))
+        ∙ (let z = alone in omega arith);
+  }
+    where
+      inside_ : a < g.setting.anchors
+      inside_ = st.may.allowed.0
+
+      shown : ShowsAt g rename v p (guests a) a
+      shown = knows.each a inside_
+
+      drawn_ : (o : Option Entry) → o ≡ Some e → ShowsEntryIf g v a (place_at p a).version o → 0 < (place_at p a).version
+      drawn_ None is h = let k : None ≡ Some e = is in absurd (cc)
+      drawn_ (Some x) is h = h.drawn
+
+      found : n ≡ word_number (renamed_word rename (word_at (setting_of g) p a))
+      found = found_mine g v u (Evict t a) n (Anchor a) st lone refl ∙ shown.word ∙ (let z = alone in omega arith)
+
+  -- Then it was given back: the plain store has it no more.
+  pub evict_freed : (u w : View (List ℕ)) (a : ℕ) (p : Plain) (guests : ℕ → ℕ) → FewReaders p guests → EvictedAt u a p guests → Freed g u w → Knows g rename w (vacated_at a p) guests
+  evict_freed u w a p guests few h freed = freed_right g rename lone u w p guests a few freed (ap (λ (z : Freer). z.anchor) same ∙ h.anchor_is) (ap (λ (z : Freer). z.is_freeing) same ∙ h.freeing) h.others h.drawn h.word
+    where
+      same : freed.freer ≡ h.freer
+      same = same_freer freed.freer h.freer (sym freed.was ∙ h.is)
+
+  -- The anchor of an idle entry was taken, and what it had was given back: nothing is said of that anchor but its word.
+  pub record TookOver (w : View (List ℕ)) (a version : ℕ) (p : Plain) (guests : ℕ → ℕ) : Type 0 where
+    pub others : KnowsBut g rename w p guests a
+    pub word : has g w (Anchor a) ≡ word_at_stage version 1
+
+  pub take_freed : (v u w : View (List ℕ)) (t a version n : ℕ) (p : Plain) (guests : ℕ → ℕ) → FewReaders p guests → Knows g rename v p guests → (st : Steps g v (Take t a version) n u) → n ≡ last_find a v.trail → is_idle n ≡ true
+      → Freed g u w → TookOver w a version p guests
+  take_freed v u w t a version n p guests few knows st won idle freed = record {
+    others = freed_but g rename lone u w p guests a few freed (ap (λ (z : Freer). z.anchor) freer_is) (but_step g rename v u (Take t a version) n p p guests a st refl inside (same_else p a) (knows_but g rename v p guests a knows));
+    word = (freed_same g rename lone u w freed).same (Anchor a) tt inside (not_freed (ap (λ (z : Freer). z.is_freeing) freer_is)) ∙ has_left g v u (Take t a version) n (Anchor a) (Anchor a) st refl refl
+        ∙ (let z = eq-eqb n (last_find a v.trail) won in rw z refl);
+  }
+    where
+      inside : a < g.setting.anchors
+      inside = st.may.allowed.0
+
+      freer_is : freed.freer ≡ freer_of a false (chain_of st.state a)
+      freer_is = same_freer freed.freer (freer_of a false (chain_of st.state a)) (sym freed.was ∙ take_freer g v u t a version n st won idle)
+
+      not_freed : freed.freer.is_freeing ≡ false → FreedAt g rename lone freed.freer (Anchor a) → ⊥
+      not_freed off (inl x) = let e = x.1 in cc
+      not_freed off (inr x) = false≢true (sym off ∙ x.0)

@@ -1,0 +1,152 @@
+-- An entry is purged as by the plain store.
+use Rattle.std.proofs.Common.{Bool, List, None, Some, ap, arith, false, get_or, inl, inr, refl, subst, sym, true, ◌<◌, ◌∙◌, ◌≡◌, ℕ}
+use Rattle.std.specs.Prelude.{Err, IfErr, IfOk, Ok, Result}
+use Rattle.lock_word.specs.Words.{epoch_number, epoch_of}
+use Rattle.lock_word.specs.declared.cause.Cause.{Cause}
+use Rattle.lock_word.specs.declared.epoch.Epoch.{Epoch}
+use Rattle.lock_word.proofs.Parts.{same_epoch}
+use Rattle.rock_disk.specs.Cell.{CellState}
+use Rattle.script_text.specs.declared.answer.Answer.{Answer}
+use Rattle.script_text.specs.declared.answer.Answer.TheVariants as answer
+use Rattle.store_key.specs.Key.{key_of}
+use Rattle.core_model.specs.Tabs as core
+use Rattle.core_model.specs.Tabs.{inner}
+use Rattle.core_model.specs.declared.tab.Tab as core_tab
+use Rattle.core_model.specs.declared.view.View.{View}
+use Rattle.entry_cut.specs.Content.{room_of}
+use Rattle.plain_model.specs.declared.entry.Place.{Place as PlaceOf}
+use Rattle.plain_model.specs.declared.store.Plain.{Plain}
+use Rattle.plain_model.specs.declared.store.Tab.{Tab}
+use Rattle.plain_model.specs.declared.store.Tab.TheVariants.{Free}
+use Rattle.plain_model.specs.Reading.{doom_at, judge, purge}
+use Rattle.plain_model.specs.Store as plain
+use Rattle.plain_model.specs.Store.{is_left_over_at, place_at, tab_at}
+use Rattle.plain_model.specs.Writing.{Step, settle, step}
+use Rattle.plain_laws.specs.Renaming.{renamed, renamed_epoch}
+use Rattle.store_rule.specs.declared.store.Pass.{Pass}
+use Rattle.store_rule.specs.declared.store.Store.{Store}
+use Rattle.store_rule.specs.Ground.{Ground, Offers, anchor_for}
+use Rattle.store_rule.specs.Passes.{basis, view}
+use Rattle.slice_chain.specs.Victims.{hand_in}
+use Rattle.purge_entry.specs.Judging.{Came, Refused}
+use Rattle.purge_entry.specs.Purging.{Purged}
+use Rattle.serve_lines.specs.Answers.{answer_to_purge}
+use Rattle.serve_lines.specs.Tabs.{IsFree}
+use Rattle.serve_lines.specs.Whole.{Purges, whole_tab}
+use Rattle.worker_shelf.specs.Typed.{IsTyped, TellsKey}
+use Rattle.plain_runs.specs.Shows.{Shows, ShowsTab}
+use Rattle.plain_runs.specs.Words.{IsLone, Knows, no_guests, setting_of}
+use Rattle.plain_runs.proofs.AnchorWords.{doom_knows, doomed_there, left_epoch}
+use Rattle.plain_runs.proofs.Coming.{HasCome, away_judged, came_knows, hit_judged, keyed_knows, keyed_tab, other_judged, retreats, undoomed}
+use Rattle.plain_runs.proofs.LeftTabs.{guest_at, purge_parts_right}
+use Rattle.plain_runs.proofs.ServedLines.{IsAs}
+use Rattle.plain_runs.proofs.Opening.{MissRight, settled}
+use Rattle.plain_runs.proofs.Renamed.{IsRenamed, own_step, renamed_step}
+use Rattle.plain_runs.proofs.PlainWords.{readers_fit}
+
+module _ {C O : Type 0} (tells : Bool) (state : C → CellState) (offers : O → Offers) (s : Store C O) (rename : ℕ → ℕ) (lone : IsLone (basis tells state offers s)) (url : List ℕ) (p : Pass C) (pl : Plain) (h : Shows tells state offers s rename p pl) where
+  abbrev g : Ground (List ℕ)
+  g = basis tells state offers s
+
+  abbrev a : ℕ
+  a = anchor_for g url
+
+  abbrev come : (epoch : Epoch) (entered w : View (List ℕ)) → Came g inner url (view p) epoch entered w → HasCome g rename inner a
+  come epoch entered w c = record { store = pl; eight = h.eight; before = view p; knows = h.knows; found = c.found; came = entered; enter = c.enter; epoch = epoch; epoch_is = c.epoch_is }
+
+  -- There was nothing to purge.
+  pub purge_refused : (w : View (List ℕ)) (c : Cause) → TellsKey c → Refused g inner url (view p) c w → MissRight tells state offers s rename lone a (key_of url) c pl w
+  purge_refused w c typed (inl r) =
+      let st = r.came.enter in
+      let told = away_judged g rename lone inner a (come r.epoch r.entered w r.came) (key_of url) c r.cause_is in
+      let tab = retreats g rename lone inner a (come r.epoch r.entered w r.came) r.unreadable in
+      let left = purge_parts_right g rename lone r.entered w a pl h.eight (ap core.is_counted tab) (ap core.anchor_of tab) st.may.allowed.0
+      (came_knows g rename lone inner a (come r.epoch r.entered w r.came)) r.parted in
+      record { cause = told.0; judged = told.1; cause_is = told.2; knows = subst (λ (x : Plain). Knows g rename w x no_guests) (settled tells state offers s rename lone p pl h a st.may.allowed.0) left.knows }
+  purge_refused w c typed (inr r) =
+      let st = r.came.enter in
+      let d = r.declined in
+      let told = other_judged g rename lone inner a (come r.epoch r.entered w r.came) r.readable d.key d.keyed d.loaded (key_of url) c typed d.other d.cause_is in
+      let tab = keyed_tab g rename lone inner a (come r.epoch r.entered w r.came) r.readable d.key d.keyed d.loaded in
+      let left = purge_parts_right g rename lone d.keyed w a pl h.eight (ap core.is_counted tab) (ap core.anchor_of tab) st.may.allowed.0
+      (keyed_knows g rename lone inner a (come r.epoch r.entered w r.came) r.readable d.key d.keyed d.loaded) d.parted in
+      record { cause = told.0; judged = told.1; cause_is = told.2; knows = subst (λ (x : Plain). Knows g rename w x no_guests) (settled tells state offers s rename lone p pl h a st.may.allowed.0) left.knows }
+
+  -- An entry was doomed.
+  pub record PurgedRight (left : Epoch) (w : View (List ℕ)) : Type 0 where
+    pub judged : judge (setting_of g) pl a (key_of url) ≡ None
+    pub left_is : left ≡ renamed_epoch rename (plain.epoch_of (room_of g.slot) (place_at (doom_at a pl) a))
+    pub knows : Knows g rename w (settle a (doom_at a pl)) no_guests
+
+  module _ (w : View (List ℕ)) (left : Epoch) (o : Purged g inner url (view p) left w) where
+    within : a < g.setting.anchors
+    within = o.came.enter.may.allowed.0
+
+    loaded : Knows g rename o.entry.keyed pl (guest_at a)
+    loaded = keyed_knows g rename lone inner a (come o.epoch o.entered w o.came) o.readable (key_of url) o.entry.keyed o.entry.key
+
+    at : core.anchor_of (core.tab_at o.entry.keyed inner) ≡ a
+    at = ap core.anchor_of o.entry.reads
+
+    not_yet : (place_at pl a).doom ≡ false
+    not_yet = undoomed g rename lone inner a (come o.epoch o.entered w o.came) o.readable
+
+    doomed_knows : Knows g rename o.entry.after (doom_at a pl) (guest_at a)
+    doomed_knows = doom_knows g rename lone o.entry.keyed o.entry.after pl inner a o.entry.word within at not_yet (readers_fit pl a 1 h.eight (omega arith)) loaded o.entry.doom
+
+    epoch_left : left ≡ renamed_epoch rename (plain.epoch_of (room_of g.slot) (place_at (doom_at a pl) a))
+    epoch_left = same_epoch left (renamed_epoch rename (plain.epoch_of (room_of g.slot) (place_at (doom_at a pl) a)))
+        (o.entry.left_is ∙ left_epoch g rename lone o.entry.keyed o.entry.after pl inner a o.entry.word within at not_yet (readers_fit pl a 1 h.eight (omega arith)) loaded o.entry.doom
+        ∙ ap (λ (x : PlaceOf). epoch_number (renamed_epoch rename (plain.epoch_of (room_of g.slot) x))) (sym (doomed_there g rename lone o.entry.keyed o.entry.after pl inner a o.entry.word within at not_yet (readers_fit pl a 1 h.eight (omega arith)) loaded o.entry.doom)))
+
+    reads_still : core.tab_at o.entry.after inner ≡ core.tab_at o.entry.keyed inner
+    reads_still = ap (λ (v : View (List ℕ)). core.tab_at v inner) o.entry.doom.leaves
+
+    pub purged_right : PurgedRight left w
+    purged_right = record {
+      judged = hit_judged g rename lone inner a (come o.epoch o.entered w o.came) o.readable (key_of url) o.entry.keyed o.entry.key url refl;
+      left_is = epoch_left;
+      knows = (purge_parts_right g rename lone o.entry.after w a (doom_at a pl) h.eight (ap core.is_counted (reads_still ∙ o.entry.reads)) (ap core.anchor_of reads_still ∙ at) within doomed_knows o.entry.parted).knows;
+    }
+
+  -- A request to purge.
+  pub purges_right : (given : Answer) (q : Pass C) → tab_at pl whole_tab ≡ Free → IsTyped given → q.hand ≡ p.hand → Purges tells state offers s url p given q → IsRenamed tells state offers s rename given q whole_tab (purge (setting_of g) url pl)
+  purges_right given q free typed hand k = of_outcome k.outcome k.answer_is k.purged k.refused
+    where
+      free_still : IsFree q whole_tab
+      free_still = ap (λ (xs : List (core_tab.Tab (List ℕ))). get_or xs whole_tab core_tab.Tab.Free) k.same ∙ subst (ShowsTab tells state offers s rename p pl whole_tab) free (h.tabs whole_tab (omega arith))
+
+      is_step : (r : Step) → purge (setting_of g) url pl ≡ r → given ≡ renamed rename r.answer → r.after.hand ≡ pl.hand → tab_at r.after whole_tab ≡ Free → Knows g rename (view q) r.after no_guests
+          → IsRenamed tells state offers s rename given q whole_tab (purge (setting_of g) url pl)
+      is_step r e answered same_hand same_tab knows = renamed_step tells state offers s rename given q whole_tab (purge (setting_of g) url pl) r e answered
+          record { knows = knows; hand = ap (hand_in g.setting.anchors) hand ∙ h.hand ∙ sym same_hand; tab = subst (ShowsTab tells state offers s rename q r.after whole_tab) (sym same_tab) free_still }
+
+      purged_step : judge (setting_of g) pl a (key_of url) ≡ None → purge (setting_of g) url pl ≡ step (answer.Purged (plain.epoch_of (room_of g.slot) (place_at (doom_at a pl) a))) (settle a (doom_at a pl))
+      purged_step j = rw j refl
+
+      missed_step : (c : Cause) → judge (setting_of g) pl a (key_of url) ≡ Some c → purge (setting_of g) url pl ≡ step (answer.NoEntry c) pl
+      missed_step c j = rw j refl
+
+      settled_hand : (b : Bool) → is_left_over_at (doom_at a pl) a ≡ b → (settle a (doom_at a pl)).hand ≡ pl.hand
+      settled_hand true e = rw e refl
+      settled_hand false e = rw e refl
+
+      settled_tab : (b : Bool) → is_left_over_at (doom_at a pl) a ≡ b → tab_at (settle a (doom_at a pl)) whole_tab ≡ Free
+      settled_tab true e = rw e free
+      settled_tab false e = rw e free
+
+      of_outcome : (outcome : Result Epoch Cause) → given ≡ answer_to_purge outcome → IfOk outcome (λ left. Purged g inner url (view p) left (view q)) → IfErr outcome (λ cause. Refused g inner url (view p) cause (view q))
+          → IsRenamed tells state offers s rename given q whole_tab (purge (setting_of g) url pl)
+      of_outcome (Ok left) is purged refused =
+          let r = purged_right (view q) left purged in
+          is_step (step (answer.Purged (plain.epoch_of (room_of g.slot) (place_at (doom_at a pl) a))) (settle a (doom_at a pl))) (purged_step r.judged) (is ∙ ap answer.Purged r.left_is)
+          (settled_hand (is_left_over_at (doom_at a pl) a) refl) (settled_tab (is_left_over_at (doom_at a pl) a) refl) r.knows
+      of_outcome (Err cause) is purged refused =
+          let r = purge_refused (view q) cause (subst IsTyped is typed) refused in
+          is_step (step (answer.NoEntry r.cause) pl) (missed_step r.cause r.judged) (is ∙ ap answer.NoEntry r.cause_is) refl free r.knows
+
+-- The request, where each version stands for itself.
+module _ {C O : Type 0} (tells : Bool) (state : C → CellState) (offers : O → Offers) (s : Store C O) (lone : IsLone (basis tells state offers s)) where
+  pub purges_as : (url : List ℕ) (p q : Pass C) (given : Answer) (plain : Plain) → Shows tells state offers s (λ v. v) p plain → tab_at plain whole_tab ≡ Free → IsTyped given → q.hand ≡ p.hand
+      → Purges tells state offers s url p given q → IsAs tells state offers s given q whole_tab (purge (setting_of (basis tells state offers s)) url plain)
+  purges_as url p q given plain shows free typed hand h = own_step tells state offers s given q whole_tab _ (purges_right tells state offers s (λ v. v) lone url p plain shows given q free typed hand h)

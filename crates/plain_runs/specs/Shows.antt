@@ -1,0 +1,67 @@
+-- The plain store that a pass shows between two lines, with its tabs and its hand.
+use Rattle.std.specs.Prelude.{Bool, List, Some, false, length, not, true, ◌<◌, ◌≡◌, ℕ}
+use Rattle.std.specs.Str.{bytes_eq}
+use Rattle.rock_disk.specs.Cell.{CellState}
+use Rattle.store_key.specs.Key.{key_of}
+use Rattle.core_model.specs.Tabs.{InnerIsFree}
+use Rattle.plain_model.specs.declared.entry.Entry.{Entry}
+use Rattle.plain_model.specs.declared.entry.Life.TheVariants.{Growing}
+use Rattle.plain_model.specs.declared.store.Plain.{Plain}
+use Rattle.plain_model.specs.declared.store.Tab.{Tab}
+use Rattle.plain_model.specs.declared.store.Tab.TheVariants.{Free, Reading, Writing}
+use Rattle.plain_model.specs.Store.{entry_at, place_at, tab_at}
+use Rattle.store_rule.specs.declared.store.Pass.{Pass}
+use Rattle.store_rule.specs.declared.store.Store.{Store}
+use Rattle.store_rule.specs.Ground.{Offers}
+use Rattle.store_rule.specs.Passes.{IsOf, basis, view}
+use Rattle.slice_chain.specs.Victims.{hand_in}
+use Rattle.rock_reader.specs.Reading.{ReadsAs, Standing}
+use Rattle.rock_reader.specs.Responses.{body_below}
+use Rattle.rock_writer.specs.Entries.{Entry as Writing_, WritesAs, size_of}
+use Rattle.serve_lines.specs.Tabs.{IsFree}
+use Rattle.plain_runs.specs.Words.{Knows, no_guests}
+
+module _ {C O : Type 0} (tells : Bool) (state : C → CellState) (offers : O → Offers) (s : Store C O) (rename : ℕ → ℕ) (pass : Pass C) (p : Plain) where
+  -- the tab writes the entry that grows at the anchor
+  pub record ShowsWriting (t a : ℕ) : Type 0 where
+    pub inside : a < (basis tells state offers s).setting.anchors
+    pub entry : Entry
+    pub there : entry_at p a ≡ Some entry
+    pub grows : entry.life ≡ Growing
+    pub written : Writing_
+    pub writes : WritesAs tells state offers s pass t written
+    pub anchor_is : written.anchor ≡ a
+    pub version_is : written.version ≡ rename (place_at p a).version
+    pub offer_is : written.offer ≡ entry.offer
+    pub size : size_of (basis tells state offers s) written ≡ entry.content
+
+  -- It reads the entry at the anchor, by its key, and was given so many bytes of its body. Where the entry has another URL than the one that
+  -- the tab wants, it was given none; whether the tab has found that out does not matter.
+  pub record ShowsReading (t a given : ℕ) (is_other : Bool) : Type 0 where
+    pub inside : a < (basis tells state offers s).setting.anchors
+    pub entry : Entry
+    pub there : entry_at p a ≡ Some entry
+    pub standing : Standing
+    pub reads : ReadsAs tells state offers s pass t standing
+    pub anchor_is : standing.anchor ≡ a
+    pub version_is : standing.version ≡ rename (place_at p a).version
+    pub offer_is : standing.offer ≡ entry.offer
+    pub key_is : entry.key ≡ key_of standing.url
+    pub other_is : is_other ≡ not (bytes_eq entry.url standing.url)
+    pub turned : standing.is_other ≡ true → is_other ≡ true
+    pub unread : is_other ≡ true → standing.is_other ≡ false → standing.place ≡ 0
+    pub given_is : is_other ≡ false → given ≡ length (body_below (basis tells state offers s) a entry.offer standing.place)
+
+  abbrev pub ShowsTab : ℕ → Tab → Type 0
+  ShowsTab t Free = IsFree pass t
+  ShowsTab t (Writing a) = ShowsWriting t a
+  ShowsTab t (Reading a given is_other) = ShowsReading t a given is_other
+
+  -- The pass shows the plain store p: by the words that it knows, its tabs and its hand.
+  pub record Shows : Type 0 where
+    pub own : IsOf tells state offers s pass
+    pub inner_free : InnerIsFree (view pass)
+    pub knows : Knows (basis tells state offers s) rename (view pass) p no_guests
+    pub hand : hand_in (basis tells state offers s).setting.anchors pass.hand ≡ p.hand
+    pub eight : length p.tabs ≡ 8
+    pub tabs : (t : ℕ) → t < 8 → ShowsTab t (tab_at p t)
