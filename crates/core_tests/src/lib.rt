@@ -1,5 +1,9 @@
-//! Tests of the pure core: steps, and what each answers.
+//! Tests of the pure core: steps, and what each answers; and lists of steps.
 #![tactic(auto)]
 
+#[cfg(test)]
+mod blank;
+#[cfg(test)]
+mod runs;
 #[cfg(test)]
 mod steps;

@@ -1,54 +1,14 @@
-ghost use Rattle.std.specs.Prelude.{◌≡◌, ℕ, List, All, length, IsTrue};
-
-use core_state::{Act, Core, Picks, Step, StepFault};
-
 mod cells;
 mod images;
 mod rows;
 
-use rebuild_model::{FileImage, Images};
-use rock_io::Octets;
+use crate::blank::blank_core;
+use core_state::{Act, Core, Picks, Step, StepFault};
 use rows::{
     BEGIN, CLOSES, ENDS, GROWS, HOLDER, NOT_WRITTEN, READ_0, READ_2, WRITE_0, WRITE_2, scripts,
 };
-use std::alloc::Global;
 use std::process::Abort;
 use std::test::Fail;
-
-/// A core over a file of so many empty slots of 512 bytes.
-fn blank_core<R: Abort>(
-    rt: &R,
-    alloc: Global,
-    slots: usize,
-    anchors: u32,
-    passes: u32,
-) -> Result<Core, Fail> {
-    let mut images = Vec::new(alloc);
-    for _slot in 0..slots {
-        images.push(Octets::from_vec(vec![in alloc; 0; 512]?))?;
-    }
-    let image = FileImage {
-        slot: 512,
-        slots: Images::from_vec(images),
-    };
-    let count = image.slots.as_slice().len();
-    assert!(rt; 1 <= count && count <= 1_048_576);
-    assert!(rt; 1 <= anchors && anchors as usize <= count);
-    assert!(rt; 1 <= passes && passes <= 32);
-    assert!(rt; has_width(&image));
-    Ok(Core::new(alloc, &image, anchors, passes)?)
-}
-
-fn has_width(image: &FileImage) -> bool
-    ensures { IsTrue result → All (λ (slot : List ℕ). length slot ≡ image.now.slot) image.now.slots }
-{
-    let width = image.slot as usize;
-    image
-        .slots
-        .as_slice()
-        .iter()
-        .all(|slot| slot.as_slice().len() == width)
-}
 
 /// What a row expects: a number, the word of an anchor with this version, stage and readers, or that the
 /// kind is refused.
@@ -66,7 +26,7 @@ type Row = (u32, u8, u8, u32, u64, Wanted);
 #[derive(Drop)]
 struct Script {
     what: &'static str,
-    slots: usize,
+    slots: u32,
     anchors: u32,
     passes: u32,
     rows: &'static [Row],

@@ -1,7 +1,8 @@
 // Cells and notes, as the views have them.
 use super::Wanted::{Found, Refused};
 use super::rows::BEGIN;
-use super::{Core, Row, blank_core, play};
+use super::{Core, Row, play};
+use crate::blank::blank_core;
 use core_model::{Cell, Tab, Turn};
 use core_state::Content;
 use std::process::Abort;

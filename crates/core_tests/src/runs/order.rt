@@ -1,6 +1,7 @@
 // An entry's life across two workers, as docs/STATE-MACHINE.md draws it: two slots are written and read one
 // after the other, the entry is doomed, and its last user frees it.
-use super::{Core, Step, StepFault, act_of, blank_core};
+use super::{Core, Step, StepFault, act_of};
+use crate::blank::blank_core;
 use core_model::Piece;
 use core_state::Content;
 use link_word::Link;

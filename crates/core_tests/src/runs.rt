@@ -1,48 +1,11 @@
-ghost use Rattle.std.specs.Prelude.{◌≡◌, ℕ, List, All, length, IsTrue};
-
-use core_runs::{RunEnd, run_steps};
-
 mod order;
 mod walk;
 
+use crate::blank::blank_core;
+use core_runs::{RunEnd, run_steps};
 use core_state::{Act, Core, Step, StepFault};
-use rebuild_model::{FileImage, Images};
-use rock_io::Octets;
 use std::alloc::{AllocError, Global};
-use std::process::Abort;
 use std::test::Fail;
-
-/// A core over a file of so many empty slots of 512 bytes.
-fn blank_core<R: Abort>(
-    rt: &R,
-    alloc: Global,
-    slots: u32,
-    anchors: u32,
-    passes: u32,
-) -> Result<Core, Fail> {
-    let mut images = Vec::new(alloc);
-    for _slot in 0..slots {
-        images.push(Octets::from_vec(vec![in alloc; 0; 512]?))?;
-    }
-    let image = FileImage {
-        slot: 512,
-        slots: Images::from_vec(images),
-    };
-    let count = image.slots.as_slice().len();
-    assert!(rt; 1 <= count && count <= 1_048_576);
-    assert!(rt; 1 <= anchors && anchors as usize <= count);
-    assert!(rt; 1 <= passes && passes <= 32);
-    assert!(rt; has_width(&image));
-    Ok(Core::new(alloc, &image, anchors, passes)?)
-}
-
-fn has_width(image: &FileImage) -> bool
-    ensures { IsTrue result → All (λ (slot : List ℕ). length slot ≡ image.now.slot) image.now.slots }
-{
-    let width = image.slot as usize;
-    let slots = image.slots.as_slice();
-    slots.iter().all(|slot| slot.as_slice().len() == width)
-}
 
 fn act_of(pass: u32, tab: u8, kind: u8, at: u32, value: u64) -> Act {
     Act {

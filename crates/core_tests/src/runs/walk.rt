@@ -11,7 +11,8 @@ mod table;
 mod watch;
 mod writing;
 
-use super::{Act, Core, Step, StepFault, act_of, blank_core};
+use super::{Act, Core, Step, StepFault, act_of};
+use crate::blank::blank_core;
 use choice::{Seat, calm_of, choose, next_seat};
 use random::Numbers;
 use rows::Tally;

@@ -1,5 +1,0 @@
-//! Tests of lists of steps of the pure core.
-#![tactic(auto)]
-
-#[cfg(test)]
-mod runs;
