@@ -1,3 +1,1 @@
 pub mod Trying
-pub mod Writing
-pub mod Popped

@@ -12,9 +12,6 @@ ghost use Rattle.store_rule.specs.Passes.{Made, May, basis, view};
 use rock_disk::Cell;
 use store_rule::{Origin, Pass, Store};
 
-#[cfg(test)]
-mod tests;
-
 /// Every slot was found taken.
 #[derive(Clone, Copy, Debug, PartialEq, Eq)]
 pub struct AllTaken;

@@ -26,9 +26,6 @@ use lock_word::{Epoch, Stage, Word, is_left_over, readable};
 use rock_disk::Cell;
 use store_rule::{Origin, Pass, Store};
 
-#[cfg(test)]
-mod tests;
-
 /// The greatest version that may be drawn.
 const LAST_VERSION: u64 = 4_294_901_760;
 

@@ -9,8 +9,6 @@ mod chains;
 mod links;
 mod names;
 mod slots;
-#[cfg(test)]
-mod tests;
 mod victims;
 
 pub use chains::free_chain;

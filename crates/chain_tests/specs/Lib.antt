@@ -1,3 +1,0 @@
-pub mod Sheets
-pub mod Offers
-pub mod Tabs

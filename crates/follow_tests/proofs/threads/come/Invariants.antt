@@ -1,5 +1,0 @@
-use Rattle.writer_tests.specs.Tabs.{IsIdle}
-use Rattle.follow_tests.proofs.threads.come.Given as goal
-
-abbrev pub invariant-loop-turn : goal.invariant-loop-turn
-invariant-loop-turn g l = IsIdle g.C.Cell.tells g.C.Cell.state g.O.Origin.offers l.store l.pass 0

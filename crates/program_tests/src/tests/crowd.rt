@@ -1,0 +1,166 @@
+// Many workers at once. What each is answered depends on the others, and is judged by rules.
+ghost use Rattle.std.specs.Prelude.{◌<◌};
+
+use super::calls::{Pipes, call};
+use super::rules::{Asked, Kind, body_of, judge};
+use rock_disk::MemVolume;
+use rock_status::Status;
+use std::alloc::{AllocError, Global};
+use std::process::Abort;
+use std::sync::Wait;
+use std::test::Fail;
+use std::thread::Threads;
+
+const WORKERS: u32 = 32;
+
+/// How many rounds of requests each worker makes.
+const ROUNDS: u32 = 6;
+
+/// What each worker asks for in a round, and how many URLs behind the first one of the round.
+const ROUND: [(Kind, u32); 6] = [
+    (Kind::Put, 0),
+    (Kind::Get, 0),
+    (Kind::Save, 1),
+    (Kind::Get, 1),
+    (Kind::Purge, 2),
+    (Kind::Get, 2),
+];
+
+fn ask(lines: &mut Vec<Asked>, worker: u32, kind: Kind, about: u32) -> Result<(), AllocError> {
+    lines.push(Asked {
+        worker,
+        kind,
+        about,
+    })?;
+    Ok(())
+}
+
+/// Each worker but the last waits until the last one is there.
+fn ask_to_begin(lines: &mut Vec<Asked>) -> Result<(), AllocError> {
+    ask(lines, WORKERS, Kind::Mark, 0)?;
+    for worker in 1..WORKERS {
+        ask(lines, worker, Kind::Await, 0)?;
+    }
+    Ok(())
+}
+
+/// The requests of a worker in a round, about so many URLs.
+fn ask_a_round(lines: &mut Vec<Asked>, round: u32, worker: u32, urls: u32) -> Result<(), AllocError>
+    requires { 0 < urls }
+{
+    let first = worker.wrapping_mul(5).wrapping_add(round.wrapping_mul(3));
+    for (kind, behind) in ROUND {
+        ask(lines, worker, kind, first.wrapping_add(behind) % urls)?;
+    }
+    Ok(())
+}
+
+/// The first worker waits for all others, and stores and gets a response.
+fn ask_to_end(lines: &mut Vec<Asked>) -> Result<(), AllocError> {
+    for mark in 1..WORKERS {
+        ask(lines, mark + 1, Kind::Mark, mark)?;
+    }
+    for mark in 1..WORKERS {
+        ask(lines, 1, Kind::Await, mark)?;
+    }
+    ask(lines, 1, Kind::Put, 0)?;
+    ask(lines, 1, Kind::Get, 0)
+}
+
+/// The lines of a script about so many URLs.
+fn lines_about(alloc: Global, urls: u32) -> Result<Vec<Asked>, AllocError>
+    requires { 0 < urls }
+{
+    let mut lines = Vec::new(alloc);
+    ask_to_begin(&mut lines)?;
+    for turn in 0..ROUNDS * WORKERS {
+        ask_a_round(&mut lines, turn / WORKERS, turn % WORKERS + 1, urls)?;
+    }
+    ask_to_end(&mut lines)?;
+    Ok(lines)
+}
+
+/// The text of a line, and its line feed.
+fn text_of(alloc: Global, asked: Asked, number: u32) -> Result<String, AllocError> {
+    let Asked {
+        worker,
+        kind,
+        about,
+    } = asked;
+    let (length, letter) = body_of(number);
+    match kind {
+        Kind::Put => { format!(in alloc; "{worker} put http://a/{about:02} #{length}:{letter}\n") }
+        Kind::Save => {
+            format!(in alloc; "{worker} save http://a/{about:02} #{length}:{letter}\n")
+        }
+        Kind::Get => format!(in alloc; "{worker} get http://a/{about:02}\n"),
+        Kind::Purge => format!(in alloc; "{worker} purge http://a/{about:02}\n"),
+        Kind::Mark => format!(in alloc; "{worker} mark {about}\n"),
+        Kind::Await => format!(in alloc; "{worker} await {about}\n"),
+    }
+}
+
+fn script_of(alloc: Global, lines: &[Asked]) -> Result<Vec<u8>, AllocError> {
+    let mut text = Vec::new(alloc);
+    let mut number: u32 = 1;
+    for asked in lines {
+        text.extend_from_slice(text_of(alloc, *asked, number)?.as_bytes())?;
+        number = number.wrapping_add(1);
+    }
+    Ok(text)
+}
+
+/// Runs such a script over a new file, with more slots than all workers hold at once, and judges what is printed. Another
+/// run finds what the first worker stored at last.
+fn crowds<R: Abort + Threads + Wait + Sync>(
+    rt: &R,
+    alloc: Global,
+    anchors: u32,
+    urls: u32,
+) -> Result<(), Fail>
+    requires { 0 < urls }
+{
+    let lines = lines_about(alloc, urls)?;
+    let pipes = Pipes::new(alloc);
+    let mut volume = MemVolume::new(alloc, Vec::new(alloc), Vec::new(alloc));
+    let made = call(rt, alloc, &mut volume, &pipes, "create db 512 512", b"")?;
+    assert_eq!(rt; made.status, Status::Done);
+    let run = format!(in alloc; "run db 512 {anchors} {WORKERS}")?;
+    let script = script_of(alloc, &lines)?;
+    let ended = call(rt, alloc, &mut volume, &pipes, run.as_str(), &script)?;
+    assert_eq!(rt; ended.status, Status::Done);
+    let Ok(printed) = std::str::from_utf8(&ended.printed) else {
+        return Err(Fail::from("answers are text"));
+    };
+    let last = judge(rt, alloc, &lines, anchors, printed)?;
+    let again = format!(in alloc; "run db 512 {anchors} 1")?;
+    let ended = call(
+        rt,
+        alloc,
+        &mut volume,
+        &pipes,
+        again.as_str(),
+        b"1 get http://a/00",
+    )?;
+    let last = format!(in alloc; "1 1 {last}\n")?;
+    assert_eq!(rt; std::str::from_utf8(&ended.printed), Ok(last.as_str()));
+    Ok(())
+}
+
+#[test]
+fn workers_crowd_at_one_anchor(rt: HostRuntime) -> Result<(), Fail> {
+    for turn in 0..4u32 {
+        let _ = turn;
+        crowds(&rt, rt.alloc(), 1, 2)?;
+    }
+    Ok(())
+}
+
+#[test]
+fn workers_crowd_at_32_anchors(rt: HostRuntime) -> Result<(), Fail> {
+    for turn in 0..4u32 {
+        let _ = turn;
+        crowds(&rt, rt.alloc(), 32, 64)?;
+    }
+    Ok(())
+}

@@ -1,3 +1,0 @@
-pub mod Readers
-pub mod Writers
-pub mod Telling
