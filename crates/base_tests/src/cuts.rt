@@ -1,27 +1,59 @@
+ghost use Rattle.entry_cut.specs.Labels.{Fits};
+
+use crate::rows::{fields, numbers, short};
 use entry_cut::{Behind, Cutter, Label, piece_header, published, put_header, slots_needed};
 use std::alloc::{AllocError, Global};
 use std::test::Fail;
 
-#[test]
-fn contents_need_the_slots_that_they_fill(rt: HostRuntime) {
-    for slot in [512, 4_096, 32_768] {
-        let room = u64::from(slot) - 40;
-        // Bytes of a content, the slots that it needs, and those that are published while it grows.
-        let rows = [
-            (1, 1, 0),
-            (room - 1, 1, 0),
-            (room, 1, 0),
-            (room + 1, 2, 1),
-            (2 * room, 2, 1),
-            (2 * room + 1, 3, 2),
-        ];
-        assert_eq!(rt; slots_needed(0, slot), 0);
-        for (content, needed, there) in rows {
-            assert_eq!(rt; slots_needed(content, slot), needed, "{content} in {slot}");
-            assert_eq!(rt; published(content, slot), there, "{content} in {slot}");
-        }
+// The size of a slot and the bytes of a content; the slots that it needs, and those that are published while it
+// grows. Of nothing none is published, and what is can't be asked.
+const NEEDED: &str = "\
+512 0;0 0
+512 1;1 0
+512 471;1 0
+512 472;1 0
+512 473;2 1
+512 944;2 1
+512 945;3 2
+4096 0;0 0
+4096 1;1 0
+4096 4055;1 0
+4096 4056;1 0
+4096 4057;2 1
+4096 8112;2 1
+4096 8113;3 2
+32768 0;0 0
+32768 1;1 0
+32768 32727;1 0
+32768 32728;1 0
+32768 32729;2 1
+32768 65456;2 1
+32768 65457;3 2
+41 18446744073709551615;18446744073709551615 18446744073709551614";
+
+fn needed(alloc: Global, asked: &str) -> Result<String, Fail> {
+    let [slot, content] = numbers::<2>(asked)?;
+    let slot = short(slot);
+    if slot <= 40 {
+        return Err(Fail::from("a slot without room"));
     }
-    assert_eq!(rt; slots_needed(u64::MAX, 41), u64::MAX);
+    let needed = slots_needed(content, slot);
+    let there = match content {
+        0 => 0,
+        _ => published(content, slot),
+    };
+    Ok(format!(in alloc; "{needed} {there}")?)
+}
+
+#[test]
+fn contents_need_the_slots_that_they_fill(rt: HostRuntime) -> Result<(), Fail> {
+    assert_eq!(rt; NEEDED.lines().count(), 22);
+    for row in NEEDED.lines() {
+        let (asked, wanted) = fields(row)?;
+        let told = needed(rt.alloc(), asked)?;
+        assert!(rt; told.as_str() == wanted, "{row}");
+    }
+    Ok(())
 }
 
 /// The sizes of the pieces of a content, which comes in parts of seven bytes, and the pieces, joined.
@@ -51,96 +83,109 @@ fn pieces_of(
     Ok((sizes, joined))
 }
 
+// Bytes of a content, the room of a slot, and the sizes of the pieces.
+const PIECES: &str = "\
+0 472;[]
+1 472;[1]
+472 472;[472]
+473 472;[472, 1]
+1000 472;[472, 472, 56]
+4056 4056;[4056]
+4057 4056;[4056, 1]
+32728 32728;[32728]
+32729 32728;[32728, 1]";
+
+/// The sizes of the pieces of a content, which joined are the content again.
+fn cut(alloc: Global, asked: &str) -> Result<String, Fail> {
+    let [length, room] = numbers::<2>(asked)?;
+    let mut content = Vec::new(alloc);
+    for at in 0..length {
+        content.push((at % 251) as u8)?;
+    }
+    let (sizes, joined) = pieces_of(alloc, &content, short(room) as usize)?;
+    if joined.as_slice() != content.as_slice() {
+        return Err(Fail::from("pieces of another content"));
+    }
+    Ok(format!(in alloc; "{sizes:?}")?)
+}
+
 #[test]
 fn pages_are_filled_piece_after_piece(rt: HostRuntime) -> Result<(), Fail> {
-    let alloc = rt.alloc();
-    // Bytes of a content, the room of a slot, and the sizes of the pieces.
-    let rows: [(usize, usize, &[usize]); 9] = [
-        (0, 472, &[]),
-        (1, 472, &[1]),
-        (472, 472, &[472]),
-        (473, 472, &[472, 1]),
-        (1_000, 472, &[472, 472, 56]),
-        (4_056, 4_056, &[4_056]),
-        (4_057, 4_056, &[4_056, 1]),
-        (32_728, 32_728, &[32_728]),
-        (32_729, 32_728, &[32_728, 1]),
-    ];
-    for (length, room, wanted) in rows {
-        let mut content = Vec::new(alloc);
-        for at in 0..length {
-            content.push((at % 251) as u8)?;
-        }
-        let (sizes, joined) = pieces_of(alloc, &content, room)?;
-        assert!(rt;
-            sizes.as_slice() == wanted && joined.as_slice() == content.as_slice(),
-            "{length} in {room}: {sizes:?}"
-        );
+    assert_eq!(rt; PIECES.lines().count(), 9);
+    for row in PIECES.lines() {
+        let (asked, wanted) = fields(row)?;
+        let told = cut(rt.alloc(), asked)?;
+        assert!(rt; told.as_str() == wanted, "{row}");
     }
     Ok(())
 }
 
-// The front of a slot with the one entry http://a/b of version 7, whose body is "hello". The key is
-// the MD5 of a byte 1 and the URL, by the program md5sum.
-const FRONT: [u8; 87] = [
-    0x1a, 0x68, 0xc1, 0x0d, 0x6c, 0x8b, 0x32, 0x66, 0x57, 0xc7, 0x75, 0xf5, 0x3c, 0x86, 0x6d, 0xd1,
-    0x2f, 0, 0, 0, 0, 0, 0, 0, 0x2f, 0, 0, 0, 7, 0, 0, 0, 0, 0, 0, 0, 0xff, 0xff, 0xff, 0xff, 3,
-    0x2a, 0, 0, 0, 3, 0x10, 0, 0, 0, 0x1a, 0x68, 0xc1, 0x0d, 0x6c, 0x8b, 0x32, 0x66, 0x57, 0xc7,
-    0x75, 0xf5, 0x3c, 0x86, 0x6d, 0xd1, 4, 0x0b, 0, 0, 0, 0x68, 0x74, 0x74, 0x70, 0x3a, 0x2f, 0x2f,
-    0x61, 0x2f, 0x62, 0, 0x68, 0x65, 0x6c, 0x6c, 0x6f,
-];
+// The key of http://a/b: the MD5 of a byte 1 and the URL, by the program md5sum.
+const KEY: [u8; 16] = *b"\x1a\x68\xc1\x0d\x6c\x8b\x32\x66\x57\xc7\x75\xf5\x3c\x86\x6d\xd1";
 
-/// The sizes and slots that a header of this entry says, from byte 16 on, and where its payload ends.
-type Row = (&'static [u8], u32, Behind, &'static [u8; 24], usize);
+// A payload, in hexadecimal: how often a part stands there, and the part. Then the first slot, the slot behind this one, or
+// -1 for none, and the size of the whole, where that is told; and the front of the image behind the key: the sizes and slots
+// that the header says, and the payload. The first is the whole entry http://a/b of version 7, whose body is "hello"; the
+// second and the third are its two slots, the second of them slot 0, with 430 and 5 bytes of body.
+const IMAGES: &str = "\
+1;032a00000003100000001a68c10d6c8b326657c775f53c866dd1040b000000687474703a2f2f612f620068656c6c6f;\
+0 -1 47;2f000000000000002f0000000700000000000000ffffffff
+472;78;2 0 0;0000000000000000d8010000070000000200000000000000
+1;68656c6c6f;2 -1 477;dd01000000000000050000000700000002000000ffffffff
+1;78;2147483647 2147483646 0;00000000000000000100000007000000ffffff7ffeffff7f";
+
+/// What comes behind a piece: a slot, or, in place of the greatest number, the end of the whole.
+fn behind(next: u64, whole: u64) -> Behind
+    ensures { Fits result }
+{
+    if next < 2_147_483_648 {
+        Behind::Slot(next as u32)
+    } else {
+        Behind::End(whole)
+    }
+}
+
+/// The image of a slot with this payload, over other bytes.
+fn image_of(payload: &[u8], asked: &str) -> Result<[u8; 512], Fail> {
+    let [first, next, whole] = numbers::<3>(asked)?;
+    let first = short(first);
+    if first >= 2_147_483_648 {
+        return Err(Fail::from("a first slot with a greater number"));
+    }
+    let label = Label {
+        key: KEY,
+        version: 7,
+        first,
+    };
+    let mut image = [0xaa; 512];
+    let mut cutter = Cutter::new(472);
+    cutter.fill(&mut image[40..], payload);
+    let header = piece_header(&label, cutter.held() as u32, behind(next, whole));
+    put_header(&header, &mut image);
+    Ok(image)
+}
+
+/// The image as it should be: the key, fields, the payload and zeros.
+fn image_with(alloc: Global, fields: &str, payload: &[u8]) -> Result<Vec<u8>, Fail> {
+    let mut image = KEY.to_vec(alloc)?;
+    image.extend_from_slice(&hex::decode(alloc, fields)?)?;
+    image.extend_from_slice(payload)?;
+    image.resize(512, 0)?;
+    Ok(image)
+}
 
 #[test]
-fn images_are_made_in_place(rt: HostRuntime) {
-    let key = *FRONT.first_chunk().unwrap_or(&[0; 16]);
-    let rows: [Row; 4] = [
-        (
-            &FRONT[40..],
-            0,
-            Behind::End(47),
-            b"\x2f\0\0\0\0\0\0\0\x2f\0\0\0\x07\0\0\0\0\0\0\0\xff\xff\xff\xff",
-            87,
-        ),
-        // Two slots, the second of them slot 0, with 430 and 5 bytes of body.
-        (
-            &[b'x'; 472],
-            2,
-            Behind::Slot(0),
-            b"\0\0\0\0\0\0\0\0\xd8\x01\0\0\x07\0\0\0\x02\0\0\0\0\0\0\0",
-            512,
-        ),
-        (
-            b"hello",
-            2,
-            Behind::End(477),
-            b"\xdd\x01\0\0\0\0\0\0\x05\0\0\0\x07\0\0\0\x02\0\0\0\xff\xff\xff\xff",
-            45,
-        ),
-        (
-            b"x",
-            2_147_483_647,
-            Behind::Slot(2_147_483_646),
-            b"\0\0\0\0\0\0\0\0\x01\0\0\0\x07\0\0\0\xff\xff\xff\x7f\xfe\xff\xff\x7f",
-            41,
-        ),
-    ];
-    for (payload, first, behind, fields, end) in rows {
-        let mut image = [0xaa; 512];
-        let mut cutter = Cutter::new(472);
-        cutter.fill(&mut image[40..], payload);
-        let label = Label {
-            key,
-            version: 7,
-            first,
-        };
-        let header = piece_header(&label, cutter.held() as u32, behind);
-        put_header(&header, &mut image);
-        assert_eq!(rt; image.get(..16), Some(&FRONT[..16]));
-        assert_eq!(rt; image.get(16..40), Some(fields.as_slice()), "{behind:?}");
-        assert_eq!(rt; image.get(40..end), Some(payload), "{behind:?}");
-        assert!(rt; image.iter().skip(end).all(|byte| *byte == 0), "{behind:?}");
+fn images_are_made_in_place(rt: HostRuntime) -> Result<(), Fail> {
+    let alloc = rt.alloc();
+    assert_eq!(rt; IMAGES.lines().count(), 4);
+    for row in IMAGES.lines() {
+        let (copies, rest) = fields(row)?;
+        let (part, rest) = fields(rest)?;
+        let (asked, wanted) = fields(rest)?;
+        let payload = hex::decode(alloc, part.repeat(alloc, copies.parse()?)?)?;
+        let image = image_of(&payload, asked)?;
+        let wanted = image_with(alloc, wanted, &payload)?;
+        assert!(rt; image.as_slice() == wanted.as_slice(), "{row}");
     }
+    Ok(())
 }

@@ -1,56 +1,69 @@
+use crate::rows::{fields, numbers, short};
 use db_layout::{file_size, offset_of, slot_size_ok, slots_of};
+use std::alloc::Global;
+use std::test::Fail;
+
+// A number of slots and the size of one; the length of a file of these slots, the offset of the slot behind them,
+// and how many slots of at most 1,048,576 the file has, where slots may have that size.
+const FILES: &str = "\
+0 512;16384 16384 0
+0 1024;16384 16384 0
+0 16384;16384 16384 0
+0 32256;16384 16384 0
+0 32768;16384 16384 0
+1 512;16896 16896 1
+3 512;17920 17920 3
+4 512;18432 18432 4
+1 16384;32768 32768 1
+64 16384;1064960 1064960 64
+1048576 32768;34359754752 34359754752 1048576
+4294967295 32768;140737488338944 140737488338944 1048576
+0 0;no size
+0 1;no size
+0 500;no size
+0 511;no size
+0 513;no size
+0 1000;no size
+0 16383;no size
+0 32767;no size
+0 33280;no size
+0 65536;no size
+0 4294967295;no size";
+
+fn file_of(alloc: Global, asked: &str) -> Result<String, Fail> {
+    let [number, slot] = numbers::<2>(asked)?;
+    let (number, slot) = (short(number), short(slot));
+    if !slot_size_ok(slot) {
+        return Ok(String::from_str(alloc, "no size")?);
+    }
+    let (bytes, offset) = (file_size(number, slot), offset_of(number, slot));
+    let slots = slots_of(bytes, slot);
+    Ok(format!(in alloc; "{bytes} {offset} {slots}")?)
+}
 
 #[test]
-fn sizes_and_offsets_are_as_tabled(rt: HostRuntime) {
-    for slot in [512, 1024, 16_384, 32_256, 32_768] {
-        assert!(rt; slot_size_ok(slot), "{slot}");
+fn sizes_and_offsets_are_as_tabled(rt: HostRuntime) -> Result<(), Fail> {
+    assert_eq!(rt; FILES.lines().count(), 23);
+    for row in FILES.lines() {
+        let (asked, wanted) = fields(row)?;
+        let told = file_of(rt.alloc(), asked)?;
+        assert!(rt; told.as_str() == wanted, "{row}");
     }
-    for slot in [
-        0,
-        1,
-        500,
-        511,
-        513,
-        1000,
-        16_383,
-        32_767,
-        33_280,
-        65_536,
-        u32::MAX,
-    ] {
-        assert!(rt; !slot_size_ok(slot), "{slot}");
-    }
-    // Slots, the size of one, and the length of the file.
-    let made = [
-        (0, 512, 16_384),
-        (1, 512, 16_896),
-        (4, 512, 18_432),
-        (64, 16_384, 1_064_960),
-        (1_048_576, 32_768, 34_359_754_752),
-    ];
-    for (slots, slot, bytes) in made {
-        assert_eq!(rt; file_size(slots, slot), bytes, "{slots} of {slot}");
-        assert_eq!(rt; slots_of(bytes, slot), slots, "{slots} of {slot}");
-    }
-    // The length of a file, the size of a slot, and how many it has.
+    Ok(())
+}
+
+#[test]
+fn files_of_any_length_have_whole_slots(rt: HostRuntime) {
+    // The length of a file, and how many slots of 512 bytes it has.
     let found = [
-        (0, 512, 0),
-        (16_383, 512, 0),
-        (16_895, 512, 0),
-        (17_508, 512, 2),
-        (18_431, 512, 3),
-        (u64::MAX, 512, 1_048_576),
+        (0, 0),
+        (16_383, 0),
+        (16_895, 0),
+        (17_508, 2),
+        (18_431, 3),
+        (u64::MAX, 1_048_576),
     ];
-    for (bytes, slot, slots) in found {
-        assert_eq!(rt; slots_of(bytes, slot), slots, "{bytes} by {slot}");
-    }
-    let offsets = [
-        (0, 512, 16_384),
-        (3, 512, 17_920),
-        (1, 16_384, 32_768),
-        (u32::MAX, 32_768, 140_737_488_338_944),
-    ];
-    for (number, slot, offset) in offsets {
-        assert_eq!(rt; offset_of(number, slot), offset, "{number} of {slot}");
+    for (bytes, slots) in found {
+        assert_eq!(rt; slots_of(bytes, 512), slots, "{bytes}");
     }
 }

@@ -1,42 +1,53 @@
+use crate::rows::{numbers, short};
 use lock_word::{
     Cause, Epoch, Stage, Word, cause_of, is_idle, is_idle_number, is_left_over,
     is_left_over_number, is_readable_number, is_vacant, is_vacant_number, pack, readable, unpack,
     word_of,
 };
+use std::alloc::Global;
+use std::test::Fail;
 
-const KEY: [u8; 16] = [0, 1, 2, 3, 4, 5, 6, 7, 8, 9, 10, 11, 12, 13, 14, 15];
-
-const OTHER: [u8; 16] = [0, 1, 2, 3, 4, 5, 6, 7, 8, 9, 10, 11, 12, 13, 14, 16];
-
-fn word(version: u32, doom: bool, stage: Stage, readers: u16) -> Word {
+/// A word of these numbers: its version, whether it is doomed, its stage and its readers.
+pub(crate) fn word(numbers: [u64; 4]) -> Result<Word, Fail> {
+    let [version, doom, stage, readers] = numbers;
     let epoch = Epoch {
-        version,
-        doom,
-        stage,
+        version: short(version),
+        doom: doom == 1,
+        stage: Stage::from_number(stage).ok_or("a stage")?,
     };
-    Word { epoch, readers }
+    Ok(Word {
+        epoch,
+        readers: u16::try_from(readers)?,
+    })
+}
+
+// Words and their bits.
+const WORDS: &str = "\
+1 false Closed 1 0x0000000100030001
+1 true Closed 0 0x00000001000b0000
+1 true Gone 0 0x00000001000e0000
+0 false Empty 0 0
+2 false Taken 3 0x0000000200010003
+7 false Appending 288 0x0000000700020120
+7 true Halted 1 0x00000007000c0001
+7 false Freeing 0 0x0000000700050000
+0xffffffff true Gone 0xffff 0xffffffff000effff";
+
+/// Whether a word has its bits, and its stage the name that stands in the row.
+fn has_its_bits(alloc: Global, row: &str) -> Result<bool, Fail> {
+    let [version, doom, stage, readers, bits] = numbers::<5>(row)?;
+    let word = word([version, doom, stage, readers])?;
+    let name = format!(in alloc; " {:?} ", word.epoch.stage)?;
+    Ok(pack(&word) == bits && unpack(bits) == Some(word) && row.contains(name.as_str()))
 }
 
 #[test]
-fn words_have_their_bits(rt: HostRuntime) {
-    let rows = [
-        (word(1, false, Stage::Closed, 1), 0x0000_0001_0003_0001),
-        (word(1, true, Stage::Closed, 0), 0x0000_0001_000b_0000),
-        (word(1, true, Stage::Gone, 0), 0x0000_0001_000e_0000),
-        (word(0, false, Stage::Empty, 0), 0),
-        (word(2, false, Stage::Taken, 3), 0x0000_0002_0001_0003),
-        (word(7, false, Stage::Appending, 288), 0x0000_0007_0002_0120),
-        (word(7, true, Stage::Halted, 1), 0x0000_0007_000c_0001),
-        (word(7, false, Stage::Freeing, 0), 0x0000_0007_0005_0000),
-        (
-            word(0xffff_ffff, true, Stage::Gone, 0xffff),
-            0xffff_ffff_000e_ffff,
-        ),
-    ];
-    for (word, bits) in rows {
-        assert_eq!(rt; pack(&word), bits, "{word:?}");
-        assert_eq!(rt; unpack(bits), Some(word), "{bits:#018x}");
+fn words_have_their_bits(rt: HostRuntime) -> Result<(), Fail> {
+    assert_eq!(rt; WORDS.lines().count(), 9);
+    for row in WORDS.lines() {
+        assert!(rt; has_its_bits(rt.alloc(), row)?, "{row}");
     }
+    Ok(())
 }
 
 #[test]
@@ -53,94 +64,124 @@ fn no_word_has_stage_7_or_a_reserved_bit(rt: HostRuntime) {
     }
 }
 
-#[test]
-fn epochs_rise_by_version_then_doom_then_stage(rt: HostRuntime) {
-    let rising = [
-        word(0, false, Stage::Empty, 0),
-        word(1, false, Stage::Taken, 0),
-        word(1, false, Stage::Appending, 0),
-        word(1, false, Stage::Gone, 0),
-        word(1, true, Stage::Appending, 0),
-        word(1, true, Stage::Closed, 0),
-        word(2, false, Stage::Taken, 0),
-        word(0xffff_ffff, false, Stage::Taken, 0),
-    ];
-    for (low, high) in rising.iter().zip(rising[1..].iter()) {
-        assert!(rt; low.epoch < high.epoch, "{low:?} {high:?}");
-    }
+// Words, each of a greater epoch than the one before it.
+const RISING: &str = "\
+0 false Empty 0
+1 false Taken 0
+1 false Appending 0
+1 false Gone 0
+1 true Appending 0
+1 true Closed 0
+2 false Taken 0
+0xffffffff false Taken 0";
+
+fn epoch(row: &str) -> Result<Epoch, Fail> {
+    Ok(word(numbers::<4>(row)?)?.epoch)
 }
 
 #[test]
-fn what_words_allow(rt: HostRuntime) {
-    // stage, doom, readers, and whether that is readable, idle, vacant and left over
-    let rows = [
-        (Stage::Empty, false, 0, false, false, true, false),
-        (Stage::Empty, false, 1, false, false, false, false),
-        (Stage::Taken, false, 0, false, false, false, false),
-        (Stage::Appending, false, 0, true, false, false, false),
-        (Stage::Appending, true, 0, false, false, false, false),
-        (Stage::Closed, false, 0, true, true, false, false),
-        (Stage::Closed, false, 1, true, false, false, false),
-        (Stage::Closed, true, 0, false, false, false, true),
-        (Stage::Closed, true, 1, false, false, false, false),
-        (Stage::Halted, false, 0, false, false, false, true),
-        (Stage::Halted, true, 0, false, false, false, true),
-        (Stage::Halted, false, 1, false, false, false, false),
-        (Stage::Freeing, false, 0, false, false, false, false),
-        (Stage::Gone, true, 0, false, false, true, false),
-        (Stage::Gone, false, 1, false, false, false, false),
-    ];
-    for (stage, doom, readers, may_read, idle, vacant, left_over) in rows {
-        let word = word(1, doom, stage, readers);
-        let bits = pack(&word);
-        assert_eq!(rt; readable(&word.epoch), may_read, "{word:?}");
-        assert_eq!(rt; is_readable_number(bits), may_read, "{word:?}");
-        assert_eq!(rt; word_of(bits), word, "{bits:#018x}");
-        assert_eq!(rt; is_idle(&word), idle, "{word:?}");
-        assert_eq!(rt; is_idle_number(bits), idle, "{word:?}");
-        assert_eq!(rt; is_vacant(&word), vacant, "{word:?}");
-        assert_eq!(rt; is_vacant_number(bits), vacant, "{word:?}");
-        assert_eq!(rt; is_left_over(&word), left_over, "{word:?}");
-        assert_eq!(rt; is_left_over_number(bits), left_over, "{word:?}");
+fn epochs_rise_by_version_then_doom_then_stage(rt: HostRuntime) -> Result<(), Fail> {
+    assert_eq!(rt; RISING.lines().count(), 8);
+    for (low, high) in RISING.lines().zip(RISING.lines().skip(1)) {
+        assert!(rt; epoch(low)? < epoch(high)?, "{low}, {high}");
     }
+    Ok(())
 }
 
-// The cause by its name, where it carries this epoch and key.
-fn name_of(cause: Option<Cause>, at: Epoch) -> &'static str {
-    match cause {
-        None => "hit",
-        Some(Cause::Absent { epoch }) if epoch == at => "absent",
-        Some(Cause::Writing { epoch }) if epoch == at => "writing",
-        Some(Cause::Leaving { epoch }) if epoch == at => "leaving",
-        Some(Cause::OtherKey { epoch, key }) if epoch == at && key == KEY => "other key",
-        Some(_) => "another epoch or key",
-    }
+// A word, and whether it is readable, idle, vacant and left over.
+const ALLOWED: &str = "\
+1 false Empty 0 false false true false
+1 false Empty 1 false false false false
+1 false Taken 0 false false false false
+1 false Appending 0 true false false false
+1 true Appending 0 false false false false
+1 false Closed 0 true true false false
+1 false Closed 1 true false false false
+1 true Closed 0 false false false true
+1 true Closed 1 false false false false
+1 false Halted 0 false false false true
+1 true Halted 0 false false false true
+1 false Halted 1 false false false false
+1 false Freeing 0 false false false false
+1 true Gone 0 false false true false
+1 false Gone 1 false false false false";
+
+/// Whether a word, and its bits alone, allow what stands in the row.
+fn allows(row: &str) -> Result<bool, Fail> {
+    let [version, doom, stage, readers, may_read, idle, vacant, left] = numbers::<8>(row)?;
+    let word = word([version, doom, stage, readers])?;
+    let bits = pack(&word);
+    let wanted = [may_read == 1, idle == 1, vacant == 1, left == 1];
+    let told = [
+        readable(&word.epoch),
+        is_idle(&word),
+        is_vacant(&word),
+        is_left_over(&word),
+    ];
+    let by_bits = [
+        is_readable_number(bits),
+        is_idle_number(bits),
+        is_vacant_number(bits),
+        is_left_over_number(bits),
+    ];
+    Ok(word_of(bits) == word && told == wanted && by_bits == wanted)
 }
 
 #[test]
-fn causes_come_in_order(rt: HostRuntime) {
-    // the stage, and the cause: not doomed with the wanted key and with another, and doomed with
-    // the wanted key and with another
-    let rows = [
-        (Stage::Empty, ["absent", "absent", "absent", "absent"]),
-        (Stage::Taken, ["writing", "writing", "writing", "writing"]),
-        (Stage::Appending, ["hit", "other key", "leaving", "leaving"]),
-        (Stage::Closed, ["hit", "other key", "leaving", "leaving"]),
-        (Stage::Halted, ["leaving", "leaving", "leaving", "leaving"]),
-        (Stage::Freeing, ["leaving", "leaving", "leaving", "leaving"]),
-        (Stage::Gone, ["absent", "absent", "absent", "absent"]),
-    ];
-    for (stage, [hit, other, doomed, other_doomed]) in rows {
-        let cases = [
-            (false, &KEY, hit),
-            (false, &OTHER, other),
-            (true, &KEY, doomed),
-            (true, &OTHER, other_doomed),
-        ];
-        for (doom, wanted, name) in cases {
-            let epoch = word(5, doom, stage, 0).epoch;
-            let cause = cause_of(&epoch, &KEY, wanted);
-            assert_eq!(rt; name_of(cause, epoch), name, "{epoch:?} {wanted:?}");
-        }
+fn what_words_allow(rt: HostRuntime) -> Result<(), Fail> {
+    assert_eq!(rt; ALLOWED.lines().count(), 15);
+    for row in ALLOWED.lines() {
+        assert!(rt; allows(row)?, "{row}");
     }
+    Ok(())
+}
+
+const KEY: [u8; 16] = *b"\x00\x01\x02\x03\x04\x05\x06\x07\x08\x09\x0a\x0b\x0c\x0d\x0e\x0f";
+
+const OTHER: [u8; 16] = *b"\x00\x01\x02\x03\x04\x05\x06\x07\x08\x09\x0a\x0b\x0c\x0d\x0e\x10";
+
+/// The cause of this number, with this epoch and key. 0 is a hit.
+pub(crate) fn cause(number: u64, epoch: Epoch, key: [u8; 16]) -> Result<Option<Cause>, Fail> {
+    match number {
+        0 => Ok(None),
+        1 => Ok(Some(Cause::Absent { epoch })),
+        2 => Ok(Some(Cause::Writing { epoch })),
+        3 => Ok(Some(Cause::Leaving { epoch })),
+        4 => Ok(Some(Cause::OtherKey { epoch, key })),
+        _ => Err(Fail::from("a cause")),
+    }
+}
+
+// A word, and the causes for its key and for another one.
+const CAUSES: &str = "\
+5 false Empty 0 absent absent
+5 true Empty 0 absent absent
+5 false Taken 0 writing writing
+5 true Taken 0 writing writing
+5 false Appending 0 hit other_key
+5 true Appending 0 leaving leaving
+5 false Closed 0 hit other_key
+5 true Closed 0 leaving leaving
+5 false Halted 0 leaving leaving
+5 true Halted 0 leaving leaving
+5 false Freeing 0 leaving leaving
+5 true Freeing 0 leaving leaving
+5 false Gone 0 absent absent
+5 true Gone 0 absent absent";
+
+/// Whether the causes are those of the row.
+fn has_its_causes(row: &str) -> Result<bool, Fail> {
+    let [version, doom, stage, readers, own, other] = numbers::<6>(row)?;
+    let epoch = word([version, doom, stage, readers])?.epoch;
+    let (own, other) = (cause(own, epoch, KEY)?, cause(other, epoch, KEY)?);
+    Ok(cause_of(&epoch, &KEY, &KEY) == own && cause_of(&epoch, &KEY, &OTHER) == other)
+}
+
+#[test]
+fn causes_come_in_order(rt: HostRuntime) -> Result<(), Fail> {
+    assert_eq!(rt; CAUSES.lines().count(), 14);
+    for row in CAUSES.lines() {
+        assert!(rt; has_its_causes(row)?, "{row}");
+    }
+    Ok(())
 }

@@ -1,6 +1,8 @@
+use crate::rows::fields;
 use rock_io::{
     Failed, MemSink, MemSource, Numbers, Octets, Sink, Source, StdSink, StdSource, Words, write_all,
 };
+use std::alloc::Global;
 use std::io;
 use std::io::{Cursor, Read, Write};
 use std::test::Fail;
@@ -41,41 +43,63 @@ impl Write for Broken {
 
 fn is_send<T: Send + Drop>(_value: T) {}
 
+// What each call of a source answers, and what it leaves in a buffer of eight bytes.
+const GIVEN: &str = "\
+Ok(3);abc.....
+Err(Failed);........
+Ok(3);def.....
+Ok(2);gh......
+Ok(0);........
+Ok(0);........";
+
+/// What a call of a source answers, and what it leaves in a buffer of eight bytes.
+fn given(alloc: Global, source: &mut MemSource) -> Result<String, Fail> {
+    let mut buf = *b"........";
+    let answer = source.read(&mut buf);
+    let left = str::from_utf8(&buf)?;
+    Ok(format!(in alloc; "{answer:?};{left}")?)
+}
+
 #[test]
 fn mem_source_gives_pieces_to_the_end(rt: HostRuntime) -> Result<(), Fail> {
     let bytes = b"abcdefgh".to_vec(rt.alloc())?;
     let mut source = MemSource::new(bytes, 3, [1].to_vec(rt.alloc())?);
-    let calls = [
-        (Ok(3), *b"abc....."),
-        (Err(Failed), *b"........"),
-        (Ok(3), *b"def....."),
-        (Ok(2), *b"gh......"),
-        (Ok(0), *b"........"),
-        (Ok(0), *b"........"),
-    ];
-    for (answer, given) in calls {
-        let mut buf = *b"........";
-        assert_eq!(rt; source.read(&mut buf), answer);
-        assert_eq!(rt; buf, given);
+    assert_eq!(rt; GIVEN.lines().count(), 6);
+    for row in GIVEN.lines() {
+        assert!(rt; given(rt.alloc(), &mut source)?.as_str() == row, "{row}");
     }
     Ok(())
 }
 
+// The room of a sink, the call that fails, if one does, the answers, and what the sink then holds. The write of no byte is
+// call 0.
+const TAKEN: &str = "\
+9;;Ok(0) Ok(());abcdefg
+9;3;Ok(0) Err(Failed);abcd
+5;;Ok(0) Err(Failed);abcde
+0;;Ok(0) Err(Failed);";
+
+/// What a sink of this room answers that fails this call, and what it holds.
+fn taken(alloc: Global, room: &str, call: &str) -> Result<String, Fail> {
+    let mut fail = Vec::new(alloc);
+    if !call.is_empty() {
+        fail.push(call.parse()?)?;
+    }
+    let mut sink = MemSink::new(alloc, room.parse()?, 2, fail)?;
+    let none = sink.write(b"");
+    let answer = write_all(&mut sink, b"abcdefg");
+    let taken = str::from_utf8(sink.taken())?;
+    Ok(format!(in alloc; "{none:?} {answer:?};{taken}")?)
+}
+
 #[test]
 fn mem_sink_keeps_a_first_part(rt: HostRuntime) -> Result<(), Fail> {
-    // The write of no byte is call 0.
-    let listed: [u64; 1] = [3];
-    let cases: [(usize, &[u64], Result<(), Failed>, &[u8]); 4] = [
-        (9, &[], Ok(()), b"abcdefg"),
-        (9, &listed, Err(Failed), b"abcd"),
-        (5, &[], Err(Failed), b"abcde"),
-        (0, &[], Err(Failed), b""),
-    ];
-    for (room, fail, answer, taken) in cases {
-        let mut sink = MemSink::new(rt.alloc(), room, 2, fail.to_vec(rt.alloc())?)?;
-        assert_eq!(rt; sink.write(b""), Ok(0));
-        assert_eq!(rt; write_all(&mut sink, b"abcdefg"), answer, "room {room}");
-        assert_eq!(rt; sink.taken(), taken, "room {room}");
+    assert_eq!(rt; TAKEN.lines().count(), 4);
+    for row in TAKEN.lines() {
+        let (room, rest) = fields(row)?;
+        let (call, wanted) = fields(rest)?;
+        let told = taken(rt.alloc(), room, call)?;
+        assert!(rt; told.as_str() == wanted, "{row}");
     }
     Ok(())
 }

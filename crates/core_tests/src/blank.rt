@@ -8,17 +8,20 @@ use std::alloc::Global;
 use std::process::Abort;
 use std::test::Fail;
 
-/// A core over a file of so many empty slots of 512 bytes.
-pub(crate) fn blank_core<R: Abort>(
+/// The bytes of a slot.
+pub(crate) const SLOT: usize = 512;
+
+/// A core over a file of these bytes, in slots of 512 bytes.
+pub(crate) fn core_over<R: Abort>(
     rt: &R,
     alloc: Global,
-    slots: u32,
+    bytes: &[u8],
     anchors: u32,
     passes: u32,
 ) -> Result<Core, Fail> {
     let mut images = Vec::new(alloc);
-    for _slot in 0..slots {
-        images.push(Octets::from_vec(vec![in alloc; 0; 512]?))?;
+    for slot in bytes.chunks(SLOT) {
+        images.push(Octets::from_vec(slot.to_vec(alloc)?))?;
     }
     let image = FileImage {
         slot: 512,
@@ -32,7 +35,20 @@ pub(crate) fn blank_core<R: Abort>(
     Ok(Core::new(alloc, &image, anchors, passes)?)
 }
 
-pub(crate) fn has_width(image: &FileImage) -> bool
+/// A core over a file of so many empty slots.
+pub(crate) fn blank_core<R: Abort>(
+    rt: &R,
+    alloc: Global,
+    slots: u32,
+    anchors: u32,
+    passes: u32,
+) -> Result<Core, Fail> {
+    let bytes = vec![in alloc; 0; slots as usize * SLOT]?;
+    core_over(rt, alloc, &bytes, anchors, passes)
+}
+
+/// Whether each slot of a file is as wide as the file says.
+fn has_width(image: &FileImage) -> bool
     ensures { IsTrue result → All (λ (slot : List ℕ). length slot ≡ image.now.slot) image.now.slots }
 {
     let width = image.slot as usize;

@@ -4,6 +4,8 @@
 #[cfg(test)]
 mod blank;
 #[cfg(test)]
+mod play;
+#[cfg(test)]
 mod runs;
 #[cfg(test)]
 mod steps;

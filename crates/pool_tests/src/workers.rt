@@ -1,18 +1,17 @@
-ghost use Rattle.std.specs.Prelude.{◌≡◌, ◌≤◌, IfOk, length, vec_len};
-ghost use Rattle.std.specs.List.{Contains};
-ghost use Rattle.script_text.specs.declared.line.Line.{Line};
-ghost use Rattle.worker_pool.specs.Knowing.{HasMarks};
+ghost use Rattle.std.specs.Prelude.{◌≡◌, ◌≤◌, ℕ, List, IfOk, length, vec_len};
+ghost use Rattle.script_text.specs.Script.{IsScript};
 
 use rock_io::{MemSource, Memory};
 use script_text::{Answer, Line, Script, ScriptFault, Shelf, read_script};
 use std::alloc::{AllocError, Global};
 use std::fmt::Write;
+use std::process::Abort;
 use std::sync::Wait;
 use std::sync::atomic::{AtomicBool, Ordering};
 use std::test::Fail;
 use std::thread;
 use std::thread::Threads;
-use worker_pool::{Gate, OpenGate, Ran, run_workers};
+use worker_pool::{Gate, OpenGate, Ran, run_workers, scripts_may_be_run};
 
 /// A shelf that counts the lines that it served, and those of others that it heard of.
 #[derive(Drop)]
@@ -84,30 +83,9 @@ impl Shelf for Counter {
     }
 }
 
-/// What a line was answered.
-#[derive(Debug, Drop, PartialEq)]
-enum Told {
-    Count(u32),
-    Marked,
-    Met,
-    Unmet,
-    Other,
-}
-
-fn outcome(answer: &Answer) -> Told {
-    match answer {
-        Answer::Added { count } => Told::Count(*count),
-        Answer::Marked => Told::Marked,
-        Answer::Met => Told::Met,
-        Answer::Unmet => Told::Unmet,
-        _ => Told::Other,
-    }
-}
-
 /// A script that was read.
 fn script_of(alloc: Global, text: &[u8], workers: u32) -> Result<Script, ScriptFault>
-    ensures marks { IfOk result (λ script. HasMarks script.lines) }
-    ensures workers { IfOk result (λ script. (line : Line) → Contains script.lines line → (1 ≤ line.worker) × (line.worker ≤ workers)) }
+    ensures { IfOk result (λ script. (read : List ℕ) × IsScript workers read script.lines) }
 {
     let bytes = text.to_vec(alloc).map_err(Memory::from)?;
     let mut source = MemSource::new(bytes, 4096, Vec::new(alloc));
@@ -138,20 +116,10 @@ fn run<R: Threads + Wait + Sync, G: Gate + Sync>(
 ) -> Result<Result<Ran<Counter>, Vec<Counter>>, ScriptFault>
     requires { (1 ≤ length rooms.now) × (length rooms.now ≤ 32) }
 {
+    scripts_may_be_run();
     let script = script_of(alloc, text, rooms.len() as u32)?;
     let shelves = shelves_of(alloc, rooms)?;
     Ok(run_workers(rt, alloc, shelves, &script, gate))
-}
-
-/// The lines of each worker in its order, with what they were answered.
-fn rows_of(alloc: Global, ran: &Ran<Counter>) -> Result<Vec<(u32, Told)>, Memory> {
-    let mut rows = Vec::new(alloc);
-    for answers in &ran.answers {
-        for (number, answer) in answers {
-            rows.push((*number, outcome(answer)))?;
-        }
-    }
-    Ok(rows)
 }
 
 /// Holds a line back until another one was asked for, for so many turns at most.
@@ -197,57 +165,91 @@ impl Gate for Order {
     }
 }
 
-#[test]
-fn two_workers_meet(rt: HostRuntime) -> Result<(), Fail> {
-    let order = Order::new(1, 2);
-    let ran = run(&rt, rt.alloc(), b"1 more 0\n2 more 0\n", &[9, 9], &order)?;
-    assert!(rt; ran.is_ok());
-    assert!(rt; !order.is_late.load(Ordering::SeqCst));
-    Ok(())
-}
+/// Scripts of two workers, with what their lines are answered. The head of a section has a name, the line that is held back, and
+/// the line that is to be asked for first; line 0 is none.
+const RUNS: &str = "
+== two_workers_meet; 1; 2
+1 more 0 -> Added { count: 1 }
+2 more 0 -> Added { count: 1 }
 
-#[test]
-fn marks_are_met_before_and_after_they_were_set(rt: HostRuntime) -> Result<(), Fail> {
-    let text = b"1 more 0\n1 mark 5\n1 more 0\n2 await 5\n2 more 0\n";
-    // The mark is held back until it is awaited, and then the other way round.
-    for (held, until) in [(2, 4), (4, 3)] {
-        let order = Order::new(held, until);
-        let Ok(ran) = run(&rt, rt.alloc(), text, &[9, 9], &order)? else {
-            assert!(rt; false, "memory was wanted");
-            return Ok(());
-        };
-        let rows = rows_of(rt.alloc(), &ran)?;
-        let expected = [
-            (1, Told::Count(1)),
-            (2, Told::Marked),
-            (3, Told::Count(2)),
-            (4, Told::Met),
-            (5, Told::Count(2)),
-        ];
-        assert_eq!(rt; rows.as_slice(), expected.as_slice(), "{held}");
-        assert!(rt; !order.is_late.load(Ordering::SeqCst), "{held}");
-        assert!(rt; ran.shelves.iter().all(|shelf| shelf.has_left), "{held}");
-    }
-    Ok(())
-}
+== a_mark_is_met_before_it_was_set; 2; 4
+1 more 0 -> Added { count: 1 }
+1 mark 5 -> Marked
+1 more 0 -> Added { count: 2 }
+2 await 5 -> Met
+2 more 0 -> Added { count: 2 }
 
-#[test]
-fn a_mark_is_unmet_where_no_earlier_line_sets_it(rt: HostRuntime) -> Result<(), Fail> {
-    let text = b"1 await 3\n1 more 0\n2 mark 3\n2 await 3\n2 await 4\n2 more 0\n";
-    let Ok(ran) = run(&rt, rt.alloc(), text, &[9, 9], &OpenGate)? else {
-        assert!(rt; false, "memory was wanted");
-        return Ok(());
+== a_mark_is_met_after_it_was_set; 4; 3
+1 more 0 -> Added { count: 1 }
+1 mark 5 -> Marked
+1 more 0 -> Added { count: 2 }
+2 await 5 -> Met
+2 more 0 -> Added { count: 2 }
+
+== a_mark_is_unmet_where_no_earlier_line_sets_it; 0; 0
+1 await 3 -> Unmet
+1 more 0 -> Added { count: 1 }
+2 mark 3 -> Marked
+2 await 3 -> Met
+2 await 4 -> Unmet
+2 more 0 -> Added { count: 1 }
+";
+
+/// Runs a section. Tells how many rows it has.
+fn plays<R: Abort + AllocGlobal + Threads + Wait + Sync>(
+    rt: &R,
+    section: &str,
+) -> Result<u32, Fail> {
+    let alloc = rt.alloc();
+    let (head, rows) = section.split_once("\n").ok_or("a head is a line")?;
+    let fields: Vec<&str> = head.split("; ").collect(alloc)?;
+    let [name, held, until] = fields.as_slice() else {
+        return Err(Fail::from(head));
     };
-    let rows = rows_of(rt.alloc(), &ran)?;
-    let expected = [
-        (1, Told::Unmet),
-        (2, Told::Count(1)),
-        (3, Told::Marked),
-        (4, Told::Met),
-        (5, Told::Unmet),
-        (6, Told::Count(1)),
-    ];
-    assert_eq!(rt; rows.as_slice(), expected.as_slice());
+    let order = Order::new(held.parse()?, until.parse()?);
+    let mut text = String::new(alloc);
+    let mut wanted = String::new(alloc);
+    let mut number: u32 = 0;
+    for row in rows.lines() {
+        if row.is_empty() {
+            continue;
+        }
+        let (line, answer) = row.split_once(" -> ").ok_or("a row has an answer")?;
+        number = number.wrapping_add(1);
+        write!(text, "{line}\n")?;
+        write!(wanted, "{number} {answer}\n")?;
+    }
+    let Ok(ran) = run(rt, alloc, text.as_bytes(), &[9, 9], &order)? else {
+        return Err(Fail::from("memory was wanted"));
+    };
+    assert_eq!(rt;
+        answers_of(alloc, &ran)?.as_str(),
+        wanted.as_str(),
+        "{name}"
+    );
+    assert!(rt; !order.is_late.load(Ordering::SeqCst), "{name}");
+    assert!(rt; ran.shelves.iter().all(|shelf| shelf.has_left), "{name}");
+    Ok(number)
+}
+
+/// The lines of each worker in its order, each with its answer.
+fn answers_of(alloc: Global, ran: &Ran<Counter>) -> Result<String, AllocError> {
+    let mut text = String::new(alloc);
+    for answers in &ran.answers {
+        for (number, answer) in answers {
+            write!(text, "{number} {answer:?}\n")?;
+        }
+    }
+    Ok(text)
+}
+
+#[test]
+fn scripts_of_two_workers(rt: HostRuntime) -> Result<(), Fail> {
+    let mut count: u32 = 0;
+    for section in RUNS.split("\n== ").skip(1) {
+        count = count.wrapping_add(plays(&rt, section)?);
+    }
+    assert_eq!(rt; count, 18);
     Ok(())
 }
 

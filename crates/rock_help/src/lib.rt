@@ -111,6 +111,3 @@ fn with_words<'a>(alloc: Global, command: Command<'a>) -> Result<Command<'a>, Al
     }
     Ok(command)
 }
-
-#[cfg(test)]
-mod tests;

@@ -11,9 +11,10 @@ mod table;
 mod watch;
 mod writing;
 
-use super::{Act, Core, Step, StepFault, act_of};
 use crate::blank::blank_core;
+use crate::play::make;
 use choice::{Seat, calm_of, choose, next_seat};
+use core_state::{Act, Core, Step, StepFault};
 use random::Numbers;
 use rows::Tally;
 use std::alloc::Global;
@@ -50,7 +51,7 @@ fn walk_from<R: Abort>(rt: &R, alloc: Global, seed: u32, tally: &mut Tally) -> R
         seat = next_seat(&mut numbers, &core, seat, calm);
         let act = choose(&mut numbers, &core, seat);
         let before = Before::new(&core, &act);
-        match core.apply(&Step::Act(act)) {
+        match make(&mut core, &Step::Act(act)) {
             Ok(number) => {
                 made = made.saturating_add(1);
                 watch.note_step(rt, &core, &act, &before, number, tally);
@@ -71,9 +72,6 @@ fn random_steps_bring_about_each_row(rt: HostRuntime) -> Result<(), Fail> {
     for seed in 1..=WALKS {
         walk_from(&rt, rt.alloc(), seed, &mut tally)?;
     }
-    let named = tally.named(rt.alloc())?;
-    for (row, count) in named.iter() {
-        assert!(rt; *count > 0, "{row:?} never came about: {named:?}");
-    }
+    tally.assert_all(&rt);
     Ok(())
 }

@@ -8,7 +8,7 @@ use super::reading::reader_act;
 use super::straying::stray_act;
 use super::table::hold_of;
 use super::writing::writer_act;
-use super::{ANCHORS, Act, Core, PASSES, act_of};
+use super::{ANCHORS, Act, Core, PASSES};
 use core_model::{Kind, Tab, View};
 use core_state::Content;
 use lock_word::{Word, is_idle, is_vacant, unpack};
@@ -45,7 +45,7 @@ const AT_END: u32 = 9;
 const VALUE_END: u32 = 9;
 
 /// A pass and a tab of it.
-#[derive(Clone, Copy, Debug, PartialEq, Eq)]
+#[derive(Clone, Copy)]
 pub(super) struct Seat {
     pub pass: u32,
     pub tab: u8,
@@ -53,7 +53,13 @@ pub(super) struct Seat {
 
 impl Seat {
     pub fn act(self, kind: u8, at: u32, value: u64) -> Act {
-        act_of(self.pass, self.tab, kind, at, value)
+        Act {
+            pass: self.pass,
+            tab: self.tab,
+            kind,
+            at,
+            value,
+        }
     }
 
     /// The inner tab of this pass.
@@ -134,18 +140,23 @@ fn note_act(core: &Core, seat: Seat) -> Act {
 
 /// A step of any kind, also of none that there is, with any numbers.
 fn any_act(numbers: &mut Numbers, core: &Core) -> Act {
-    let pass = numbers.below(PASSES + 1);
-    let tab = numbers.below(u32::from(INNER) + 2) as u8;
+    let seat = Seat {
+        pass: numbers.below(PASSES + 1),
+        tab: numbers.below(u32::from(INNER) + 2) as u8,
+    };
     let kind = numbers.below(KIND_END) as u8;
     let at = numbers.below(AT_END);
-    let held = core.views().get(pass as usize).and_then(newest_version);
+    let held = core
+        .views()
+        .get(seat.pass as usize)
+        .and_then(newest_version);
     let value = match numbers.below(4) {
         0 => 0,
         1 => u64::MAX,
         2 => held.map_or(0, u64::from),
         _ => u64::from(numbers.below(VALUE_END)),
     };
-    act_of(pass, tab, kind, at, value)
+    seat.act(kind, at, value)
 }
 
 pub(super) fn newest_version(view: &View<Content>) -> Option<u32> {
@@ -181,7 +192,7 @@ fn is_inner_free(view: &View<Content>) -> bool {
 }
 
 /// What the trail of a pass tells of an anchor and of versions.
-#[derive(Clone, Copy, Debug, PartialEq, Eq)]
+#[derive(Clone, Copy)]
 struct Knowledge {
     /// The word as the pass last found it.
     word: Option<Word>,

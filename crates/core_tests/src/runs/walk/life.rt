@@ -31,64 +31,34 @@ fn is_doomed(before: &Word, after: &Word) -> bool {
 /// epoch may become this one so.
 pub(super) fn life_row(before: &Word, after: &Word, published: usize) -> Option<Row> {
     let (from, to) = (before.epoch.stage, after.epoch.stage);
-    if to == Stage::Taken {
-        return begun_row(before).filter(|_| is_begun(before, after));
-    }
-    if from == to {
-        return doomed_row(from).filter(|_| is_doomed(before, after));
-    }
-    let row = match to {
-        Stage::Halted => halted_row(from, published),
-        Stage::Freeing => freed_row(before),
-        _ => grown_row(from, to),
+    let may_be = match to {
+        Stage::Taken => is_begun(before, after),
+        _ if from == to => is_doomed(before, after),
+        _ => is_raised(before, after),
     };
-    row.filter(|_| is_raised(before, after))
-}
-
-fn begun_row(before: &Word) -> Option<Row> {
-    match before.epoch.stage {
-        Stage::Empty => Some(Row::EmptyIsTaken),
-        Stage::Gone => Some(Row::GoneIsTaken),
-        Stage::Closed if !before.epoch.doom => Some(Row::ClosedIsTaken),
-        _ => None,
+    if !may_be {
+        return None;
     }
-}
-
-fn doomed_row(stage: Stage) -> Option<Row> {
-    match stage {
-        Stage::Appending => Some(Row::AppendingIsDoomed),
-        Stage::Closed => Some(Row::ClosedIsDoomed),
-        Stage::Halted => Some(Row::HaltedIsDoomed),
-        _ => None,
-    }
-}
-
-fn halted_row(from: Stage, published: usize) -> Option<Row> {
-    match (from, published) {
-        (Stage::Taken, 0) => Some(Row::TakenIsHaltedWithNothing),
-        (Stage::Taken, _) => Some(Row::TakenIsHaltedWithSlots),
-        (Stage::Appending, _) => Some(Row::AppendingIsHalted),
-        _ => None,
-    }
-}
-
-/// Nobody is counted where an entry begins to be freed.
-fn freed_row(before: &Word) -> Option<Row> {
-    match before.epoch.stage {
-        _ if before.readers > 0 => None,
-        Stage::Closed if before.epoch.doom => Some(Row::DoomedIsFreed),
-        Stage::Closed => Some(Row::ClosedIsEvicted),
-        Stage::Halted => Some(Row::HaltedIsFreed),
-        _ => None,
-    }
-}
-
-fn grown_row(from: Stage, to: Stage) -> Option<Row> {
-    match (from, to) {
-        (Stage::Taken, Stage::Appending) => Some(Row::TakenIsAppending),
-        (Stage::Taken, Stage::Closed) => Some(Row::TakenIsClosed),
-        (Stage::Appending, Stage::Closed) => Some(Row::AppendingIsClosed),
-        (Stage::Freeing, Stage::Gone) => Some(Row::FreedIsGone),
-        _ => None,
-    }
+    let row = match (from, to) {
+        (Stage::Empty, Stage::Taken) => Row::EmptyIsTaken,
+        (Stage::Gone, Stage::Taken) => Row::GoneIsTaken,
+        (Stage::Closed, Stage::Taken) if !before.epoch.doom => Row::ClosedIsTaken,
+        (Stage::Appending, Stage::Appending) => Row::AppendingIsDoomed,
+        (Stage::Closed, Stage::Closed) => Row::ClosedIsDoomed,
+        (Stage::Halted, Stage::Halted) => Row::HaltedIsDoomed,
+        (Stage::Taken, Stage::Halted) if published == 0 => Row::TakenIsHaltedWithNothing,
+        (Stage::Taken, Stage::Halted) => Row::TakenIsHaltedWithSlots,
+        (Stage::Appending, Stage::Halted) => Row::AppendingIsHalted,
+        (Stage::Taken, Stage::Appending) => Row::TakenIsAppending,
+        (Stage::Taken, Stage::Closed) => Row::TakenIsClosed,
+        (Stage::Appending, Stage::Closed) => Row::AppendingIsClosed,
+        (Stage::Freeing, Stage::Gone) => Row::FreedIsGone,
+        // Nobody is counted where an entry begins to be freed.
+        _ if before.readers > 0 => return None,
+        (Stage::Closed, Stage::Freeing) if before.epoch.doom => Row::DoomedIsFreed,
+        (Stage::Closed, Stage::Freeing) => Row::ClosedIsEvicted,
+        (Stage::Halted, Stage::Freeing) => Row::HaltedIsFreed,
+        _ => return None,
+    };
+    Some(row)
 }

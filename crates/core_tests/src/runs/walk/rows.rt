@@ -1,8 +1,8 @@
 // What comes about on a walk, and how often.
-use std::alloc::{AllocError, Global};
+use std::process::Abort;
 
 /// What can come about, each to be counted.
-#[derive(Clone, Copy, Debug, PartialEq, Eq)]
+#[derive(Clone, Copy)]
 pub(super) enum Row {
     // The kinds of steps.
     Look,
@@ -74,78 +74,76 @@ pub(super) enum Row {
     ReadThreeSlots,
 }
 
-use Row::*;
-
 const ROW_COUNT: usize = 65;
 
-/// All of them, in order.
-const ROWS: [Row; ROW_COUNT] = [
-    Look,
-    Enter,
-    Leave,
-    Count,
-    Draw,
-    Take,
-    Evict,
-    Raise,
-    Doom,
-    LoadSide,
-    StoreSide,
-    Own,
-    Disown,
-    Publish,
-    Loosen,
-    GetLink,
-    TryTurn,
-    EndTurn,
-    CellOut,
-    CellIn,
-    Note,
-    Learn,
-    Write,
-    Sync,
-    EmptyIsTaken,
-    GoneIsTaken,
-    ClosedIsTaken,
-    ClosedIsEvicted,
-    TakenIsAppending,
-    TakenIsClosed,
-    AppendingIsClosed,
-    TakenIsHaltedWithNothing,
-    TakenIsHaltedWithSlots,
-    AppendingIsHalted,
-    AppendingIsDoomed,
-    ClosedIsDoomed,
-    HaltedIsDoomed,
-    DoomedIsFreed,
-    HaltedIsFreed,
-    FreedIsGone,
-    HandOver,
-    DoomedGetLink,
-    DoomedTryTurn,
-    DoomedEndTurn,
-    DoomedCellOut,
-    DoomedCellIn,
-    RetreatingIsLast,
-    RetreatedFrees,
-    EndingHalts,
-    LostTake,
-    LostEvictByInner,
-    LostEvictByLast,
-    LostOwn,
-    LostTryTurn,
-    LearnedFromAnother,
-    WroteNothing,
-    WroteKept,
-    WroteUnsure,
-    WroteKeptUnsure,
-    SyncedNot,
-    SyncedKept,
-    ClosedWithOneSlot,
-    ClosedWithTwoSlots,
-    ClosedWithThreeSlots,
-    ReadThreeSlots,
-];
+/// The names of all of them, in order.
+const NAMES: &str = "\
+Look
+Enter
+Leave
+Count
+Draw
+Take
+Evict
+Raise
+Doom
+LoadSide
+StoreSide
+Own
+Disown
+Publish
+Loosen
+GetLink
+TryTurn
+EndTurn
+CellOut
+CellIn
+Note
+Learn
+Write
+Sync
+EmptyIsTaken
+GoneIsTaken
+ClosedIsTaken
+ClosedIsEvicted
+TakenIsAppending
+TakenIsClosed
+AppendingIsClosed
+TakenIsHaltedWithNothing
+TakenIsHaltedWithSlots
+AppendingIsHalted
+AppendingIsDoomed
+ClosedIsDoomed
+HaltedIsDoomed
+DoomedIsFreed
+HaltedIsFreed
+FreedIsGone
+HandOver
+DoomedGetLink
+DoomedTryTurn
+DoomedEndTurn
+DoomedCellOut
+DoomedCellIn
+RetreatingIsLast
+RetreatedFrees
+EndingHalts
+LostTake
+LostEvictByInner
+LostEvictByLast
+LostOwn
+LostTryTurn
+LearnedFromAnother
+WroteNothing
+WroteKept
+WroteUnsure
+WroteKeptUnsure
+SyncedNot
+SyncedKept
+ClosedWithOneSlot
+ClosedWithTwoSlots
+ClosedWithThreeSlots
+ReadThreeSlots
+";
 
 /// How often each came about.
 #[derive(Drop)]
@@ -160,19 +158,21 @@ impl Tally {
         }
     }
 
-    /// It came about once more.
-    pub fn add(&mut self, row: Row) {
+    /// It came about once more, where anything did.
+    pub fn add(&mut self, row: Option<Row>) {
+        let Some(row) = row else {
+            return;
+        };
         if let Some(count) = self.counts.get_mut(row as usize) {
             *count = count.saturating_add(1);
         }
     }
 
-    /// Each with its count.
-    pub fn named(&self, alloc: Global) -> Result<Vec<(Row, u32)>, AllocError> {
-        let mut named = Vec::new(alloc);
-        for (row, count) in ROWS.iter().zip(self.counts.iter()) {
-            named.push((*row, *count))?;
+    /// Each of them came about.
+    pub fn assert_all<R: Abort>(&self, rt: &R) {
+        assert_eq!(rt; NAMES.lines().count(), ROW_COUNT);
+        for (name, count) in NAMES.lines().zip(self.counts.iter()) {
+            assert!(rt; *count > 0, "{name} never came about: {:?}", self.counts);
         }
-        Ok(named)
     }
 }

@@ -30,12 +30,18 @@ pub(super) fn chain_of(core: &Core, anchor: u32) -> Option<&Chain> {
 
 /// The slots that are published at an anchor.
 pub(super) fn published_at(core: &Core, anchor: u32) -> &[u32] {
-    chain_of(core, anchor).map_or(&[], |chain| chain.slots.as_slice())
+    match chain_of(core, anchor) {
+        Some(chain) => chain.slots.as_slice(),
+        None => &[],
+    }
 }
 
 /// The number of the Start word of these slots: 1 more than the first of them, or 0.
 pub(super) fn start_number(slots: &[u32]) -> u64 {
-    slots.first().map_or(0, |slot| u64::from(*slot) + 1)
+    match slots.first() {
+        Some(slot) => u64::from(*slot) + 1,
+        None => 0,
+    }
 }
 
 /// The turn that a tab holds.

@@ -22,7 +22,7 @@ const SEATS: usize = TABS * PASSES as usize;
 const NOTES: usize = 32;
 
 /// What a tab was before its step.
-#[derive(Clone, Copy, Debug, PartialEq, Eq)]
+#[derive(Clone, Copy)]
 enum Role {
     Free,
     Retreating,
@@ -33,7 +33,7 @@ enum Role {
 }
 
 /// What stood before a step.
-#[derive(Clone, Copy, Debug)]
+#[derive(Clone, Copy)]
 pub(super) struct Before {
     words: [Option<Word>; ANCHORS as usize],
     role: Role,
@@ -74,14 +74,21 @@ impl Before {
 
     /// The word of an anchor.
     fn word(&self, anchor: u32) -> Option<Word> {
-        self.words.get(anchor as usize).copied().flatten()
+        match self.words.get(anchor as usize) {
+            Some(word) => *word,
+            None => None,
+        }
     }
 
     /// Whether the tab was at an anchor whose entry was doomed.
     fn is_doomed(&self) -> bool {
-        self.anchor
-            .and_then(|anchor| self.word(anchor))
-            .is_some_and(|word| word.epoch.doom)
+        let Some(anchor) = self.anchor else {
+            return false;
+        };
+        match self.word(anchor) {
+            Some(word) => word.epoch.doom,
+            None => false,
+        }
     }
 }
 
@@ -196,12 +203,6 @@ fn writer_row(act: &Act, before: &Before, published: usize) -> Option<Row> {
     }
 }
 
-fn add_if(tally: &mut Tally, row: Option<Row>) {
-    if let Some(row) = row {
-        tally.add(row);
-    }
-}
-
 /// What a step made of each anchor: its epoch is the same, or changed as in the life of an anchor. One
 /// anchor changes at most, and by one reader at most.
 fn watch_anchors<R: Abort>(rt: &R, core: &Core, before: &Before, tally: &mut Tally) -> bool {
@@ -223,7 +224,7 @@ fn watch_anchors<R: Abort>(rt: &R, core: &Core, before: &Before, tally: &mut Tal
         }
         let row = life_row(&from, &to, published_at(core, anchor).len());
         assert!(rt; row.is_some(), "{from:?} became {to:?}");
-        add_if(tally, row);
+        tally.add(row);
     }
     is_same
 }
@@ -249,18 +250,19 @@ impl Watch {
     ) {
         let kind = kind_row(act);
         assert!(rt; kind.is_some(), "no step is {act:?}");
-        add_if(tally, kind);
+        tally.add(kind);
         let is_same = watch_anchors(rt, core, before, tally);
-        add_if(tally, doomed_row(act, before));
-        add_if(tally, lost_row(act, before, number, is_same));
-        add_if(tally, end_row(act));
-        let published = before
-            .anchor
-            .map_or(0, |anchor| published_at(core, anchor).len());
-        add_if(tally, writer_row(act, before, published));
-        add_if(tally, self.read_row(act, before));
-        add_if(tally, self.last_row(core, act, before, is_same));
-        add_if(tally, self.note_row(act, number));
+        tally.add(doomed_row(act, before));
+        tally.add(lost_row(act, before, number, is_same));
+        tally.add(end_row(act));
+        let published = match before.anchor {
+            Some(anchor) => published_at(core, anchor).len(),
+            None => 0,
+        };
+        tally.add(writer_row(act, before, published));
+        tally.add(self.read_row(act, before));
+        tally.add(self.last_row(core, act, before, is_same));
+        tally.add(self.note_row(act, number));
     }
 
     /// Whether a reader has read three slots of its entry now.

@@ -1,5 +1,6 @@
 ghost use Rattle.std.specs.Prelude.{IfOk, vec_len, ◌≤◌};
 
+use crate::rows::{numbers, short};
 use answer_printer::{PrintFault, print_answers};
 use rock_io::{MemSink, Octets};
 use script_text::Answer;
@@ -55,14 +56,16 @@ fn printed(
 #[test]
 fn each_answer_has_its_line(rt: HostRuntime) -> Result<(), Fail> {
     let alloc = rt.alloc();
-    for count in [
-        1, 5, 32_747, 32_748, 32_753, 32_754, 32_759, 32_760, 40_000, 150_000,
-    ] {
+    let counts = "1 5 32747 32748 32753 32754 32759 32760 40000 150000";
+    for count in numbers::<10>(counts)? {
+        let count = short(count) as usize;
         let wanted = lines(alloc, count)?;
         for most in [7, 400_000] {
             let (outcome, taken) = printed(alloc, count, most, Vec::new(alloc))?;
-            assert_eq!(&rt; outcome, Ok(()));
-            assert!(&rt; taken.as_slice() == wanted.as_slice());
+            assert!(&rt;
+                outcome == Ok(()) && taken.as_slice() == wanted.as_slice(),
+                "{count}"
+            );
         }
     }
     Ok(())
