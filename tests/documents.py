@@ -154,13 +154,13 @@ def messages():
         seen = form.replace("[A-Z]+", r"(?:\$\(.*?\)|[^ ])+")
         holds(f"tests/real_files.sh has the line: {status}: {sentence}", re.search(seen, rows))
         read_form = form.replace("[A-Z]+", '[^"\n]+')
-        holds(f"a test of rock_main reads: {status}: {sentence}", re.search(f'"{read_form}"', tests))
+        holds(f"a test of rock_main reads: {status}: {sentence}", re.search(f'(?m); {read_form}(";)?$', tests))
     wrong, behind = next(sentence for status, _, sentence in lines if status == "BadScript").split("{}")
     for cause, sentence in causes:
         number = cause.replace("_", "9")
         holds(f"docs/OPERATING.md has cause {number}", f"\n| {number} | `{sentence}` |" in told)
         front = spelled(f"rock: BadScript line={{line}} cause={number}: {wrong}").replace("[A-Z]+", r"\d+")
-        whole = f'"{front}{re.escape(sentence + behind)}"'
+        whole = f'(?m); {front}{re.escape(sentence + behind)}(";)?$'
         holds(f"a test of rock_main reads cause {number}", re.search(whole, tests))
         holds(f"tests/real_files.sh has cause {number}", re.search(rf"(?m)^bad \d+ {number} ", rows))
     named = re.findall(r"(?m)^\| (\d+) \| ([A-Z]\w+(?:, [A-Z]\w+)*) \|", read("docs/FORMATS.md"))
