@@ -33,7 +33,7 @@ use Rattle.store_rule.proofs.OtherTabs.{others_go_on, others_stay}
 use Rattle.rock_writer.specs.Halting.{GaveBack, GaveUnlinked, Halts, Parted, first_of, second_of}
 use Rattle.rock_writer.proofs.GivingBack.{gave_nine, gave_tab, given}
 use Rattle.store_rule.specs.Ground.{Ground}
-use Rattle.store_rule.specs.Tabs.{is_last}
+use Rattle.tab_states.specs.Tabs.{is_last}
 use Rattle.store_rule.specs.Told.{Stands, Steps}
 use Rattle.plain_runs.specs.Words.{EndsSo, IsLone, IsOfOffer, Knows, ShowsAt, ShowsEntry, ShowsEntryIf, no_guests, setting_of, slots_published}
 use Rattle.plain_laws.specs.Renaming.{renamed_word}

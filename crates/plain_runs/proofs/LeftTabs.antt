@@ -27,7 +27,7 @@ use Rattle.plain_laws.specs.Renaming.{renamed_word}
 use Rattle.plain_laws.proofs.Beginning.{set_here}
 use Rattle.plain_laws.proofs.Choosing.{either}
 use Rattle.store_rule.specs.Ground.{Ground}
-use Rattle.store_rule.specs.Tabs.{is_last}
+use Rattle.tab_states.specs.Tabs.{is_last}
 use Rattle.store_rule.specs.Told.{Stands, Steps}
 use Rattle.store_rule.specs.Words.{has}
 use Rattle.store_rule.proofs.AddingUp.{found_mine, has_left}

@@ -13,7 +13,7 @@ use Rattle.core_model.specs.declared.tab.Tab.TheVariants.{Writing}
 use Rattle.core_model.specs.declared.tab.Writer.{Writer}
 use Rattle.core_model.specs.declared.view.View.{View}
 use Rattle.store_rule.specs.Ground.{Ground}
-use Rattle.store_rule.specs.Tabs.{head_of}
+use Rattle.tab_states.specs.Tabs.{head_of}
 use Rattle.rock_writer.specs.Halting.{GaveBack, unlinked}
 
 abbrev pub given : {X : Type 0} → Option ℕ → Writer X → Writer X

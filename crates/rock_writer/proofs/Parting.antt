@@ -22,7 +22,7 @@ use Rattle.store_rule.specs.declared.store.Pass.{Pass}
 use Rattle.store_rule.specs.declared.store.Store.{Store}
 use Rattle.store_rule.specs.Ground.{Ground, Offers}
 use Rattle.store_rule.specs.Passes.{IsOf, Made, basis, view}
-use Rattle.store_rule.specs.Tabs.{is_last}
+use Rattle.tab_states.specs.Tabs.{is_last}
 use Rattle.store_rule.proofs.Passing.{pass_of}
 use Rattle.store_rule.specs.Calls.{Follows}
 use Rattle.rw_anchor.specs.Calls.{GivenUp, Leaves, MayGiveUp}

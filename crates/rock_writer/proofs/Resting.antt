@@ -14,7 +14,7 @@ use Rattle.store_rule.specs.declared.store.Pass.{Pass}
 use Rattle.store_rule.specs.declared.store.Store.{Store}
 use Rattle.store_rule.specs.Ground.{Ground, Offers}
 use Rattle.store_rule.specs.Passes.{IsOf, basis, view}
-use Rattle.store_rule.specs.Tabs.{head_of}
+use Rattle.tab_states.specs.Tabs.{head_of}
 use Rattle.store_rule.proofs.Passing.{pass_of}
 use Rattle.free_set.specs.Claims.{MayClaim}
 use Rattle.slice_chain.specs.Writes.{reserved_first}

@@ -16,10 +16,10 @@ use Rattle.core_model.specs.declared.tab.Writer.{Writer}
 use Rattle.core_model.proofs.Tabs.{tab_there}
 use Rattle.store_rule.specs.declared.store.Pass.{Pass}
 use Rattle.store_rule.specs.declared.store.Store.{Store}
-use Rattle.store_rule.specs.declared.tabs.WritingAt.{WritingAt}
+use Rattle.tab_states.specs.declared.tabs.WritingAt.{WritingAt}
 use Rattle.store_rule.specs.Ground.{Ground, Offers}
 use Rattle.store_rule.specs.Passes.{IsOf, May, basis, view}
-use Rattle.store_rule.specs.Tabs.{head_of, writing_at, writing_of}
+use Rattle.tab_states.specs.Tabs.{head_of, writing_at, writing_of}
 use Rattle.store_rule.proofs.Passing.{pass_of}
 use Rattle.rock_writer.specs.Halting.{GaveBack, GaveUnlinked, MayGive, MayHalt, first_of, second_of, unlinked}
 use Rattle.rock_writer.proofs.GivingBack.{first_may, gave_nine, gave_tab, given, may_raise, second_may}

@@ -15,7 +15,7 @@ use Rattle.store_rule.specs.declared.store.Pass.{Pass}
 use Rattle.store_rule.specs.declared.store.Store.{Store}
 use Rattle.store_rule.specs.Ground.{Can, Ground, Offers}
 use Rattle.store_rule.specs.Passes.{IsOf, basis, view}
-use Rattle.store_rule.specs.Tabs.{head_of, is_last}
+use Rattle.tab_states.specs.Tabs.{head_of, is_last}
 use Rattle.store_rule.specs.Told.{Steps}
 use Rattle.rw_anchor.specs.Calls.{GivenUp, MayGiveUp}
 use Rattle.rw_anchor.specs.declared.Left.{Left}

@@ -1,7 +1,7 @@
 // A piece that is whole is written into a slot, and the slot published.
 ghost use Rattle.std.specs.Prelude.{IfErr, IfOk, IsErrOf, List, OnErr, OnOk, [], false, length, ◌++◌, ◌↔◌, ◌∷◌, ◌≡◌, ◌≢◌, ℕ};
 ghost use Rattle.core_model.specs.Chains.{first_of};
-ghost use Rattle.store_rule.specs.Tabs.{head_of};
+ghost use Rattle.tab_states.specs.Tabs.{head_of};
 ghost use Rattle.rock_io.specs.Faults.{Rose};
 ghost use Rattle.rock_writer.specs.Entries.{Entry, Rests, WritesAs, WritesWith};
 ghost use Rattle.rock_writer.specs.Flushing.{Flushed, HasBoth, IsAtLimit, LacksSlot, MayFlush, MayPublishPiece, NotFlushed, RanShort, SlotFor, WrotePiece, next_behind};
@@ -25,8 +25,9 @@ use rock_io::Failed;
 use rw_anchor::advance;
 use slice_chain::{NoVictim, publish, write_slot};
 use store_key::keys_have_16_bytes;
-use store_rule::{Origin, Pass, Store, WritingAt};
+use store_rule::{Origin, Pass, Store};
 use swap_meta::written_meta_is_spelled;
+use tab_states::WritingAt;
 
 /// The most slots that an entry may have.
 const MOST_SLOTS: u32 = 4_096;

@@ -10,7 +10,8 @@ use lock_word::Stage;
 use rock_disk::Cell;
 use rw_anchor::{Left, advance, leave};
 use slice_chain::free_chain;
-use store_rule::{Origin, Pass, Store, WritingAt};
+use store_rule::{Origin, Pass, Store};
+use tab_states::WritingAt;
 
 /// Halts the entry that a tab writes: the tab gives back what it reserved and did not link, and is free. Where
 /// nobody uses the entry any more it is freed.

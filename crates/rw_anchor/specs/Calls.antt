@@ -13,7 +13,7 @@ use Rattle.store_rule.specs.declared.store.Store.{Store}
 use Rattle.store_rule.specs.Ground.{Ground, Offers}
 use Rattle.store_rule.specs.Passes.{Made, May, view}
 use Rattle.store_rule.specs.Calls.{IsFresh}
-use Rattle.store_rule.specs.Tabs.{is_last}
+use Rattle.tab_states.specs.Tabs.{is_last}
 use Rattle.store_rule.specs.Told.{Steps}
 use Rattle.rw_anchor.specs.declared.Left.{Left}
 

@@ -20,7 +20,7 @@ ghost use Rattle.core_model.specs.declared.moves.Move.TheVariants.{Doom, Enter, 
 ghost use Rattle.store_rule.specs.Calls.{Follows, IsFresh};
 ghost use Rattle.rw_anchor.specs.Calls.{Drew, Found, GivenUp, Leaves, MayGiveUp, SpentAtDraw, SpentAtLook};
 ghost use Rattle.store_rule.specs.Passes.{IsOf, Keeps, Made, May, basis, view};
-ghost use Rattle.store_rule.specs.Tabs.{is_last};
+ghost use Rattle.tab_states.specs.Tabs.{is_last};
 
 use lock_word::{Epoch, Stage, Word, is_left_over, readable};
 use rock_disk::Cell;

@@ -12,7 +12,7 @@ use Rattle.core_model.specs.declared.view.Deed.{Deed}
 use Rattle.core_model.specs.declared.view.Kind.TheVariants.{Changed}
 use Rattle.core_model.specs.declared.view.View.{View}
 use Rattle.store_rule.specs.Ground.{Ground}
-use Rattle.store_rule.specs.Tabs.{is_last}
+use Rattle.tab_states.specs.Tabs.{is_last}
 use Rattle.store_rule.specs.Told.{Steps}
 use Rattle.rw_anchor.specs.Calls.{Drew, GivenUp, Gone, LeftLast, Leaves, SpentAtDraw, SpentAtLook}
 use Rattle.rw_anchor.specs.declared.Left.{Left}

@@ -24,7 +24,7 @@ use Rattle.store_rule.specs.declared.store.Pass.{Pass}
 use Rattle.store_rule.specs.declared.store.Store.{Store}
 use Rattle.store_rule.specs.Ground.{Ground, Offers}
 use Rattle.store_rule.specs.Passes.{Made, May, basis, view}
-use Rattle.store_rule.specs.Tabs.{head_of}
+use Rattle.tab_states.specs.Tabs.{head_of}
 use Rattle.store_rule.proofs.Passing.{pass_of}
 use Rattle.store_rule.specs.Calls.{Follows}
 use Rattle.store_rule.proofs.Following.{follows_on, made_follows}

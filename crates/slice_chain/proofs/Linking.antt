@@ -26,10 +26,10 @@ use Rattle.core_model.proofs.Telling.{stage_told}
 use Rattle.core_model.proofs.Tells.{tells as steps_tell}
 use Rattle.store_rule.specs.declared.store.Pass.{Pass}
 use Rattle.store_rule.specs.declared.store.Store.{Store}
-use Rattle.store_rule.specs.declared.tabs.WritingAt.{WritingAt}
+use Rattle.tab_states.specs.declared.tabs.WritingAt.{WritingAt}
 use Rattle.store_rule.specs.Ground.{Ground, Offers}
 use Rattle.store_rule.specs.Passes.{Made, May, basis, view}
-use Rattle.store_rule.specs.Tabs.{writing_of}
+use Rattle.tab_states.specs.Tabs.{writing_of}
 use Rattle.store_rule.specs.Told.{Stands}
 use Rattle.store_rule.proofs.Passing.{pass_of}
 use Rattle.slice_chain.specs.Links.{MayLocate, MayPublishSlot, next_link, slot_known}

@@ -28,7 +28,7 @@ use Rattle.store_rule.specs.Lending.{buffer_at}
 use Rattle.store_rule.specs.Passes.{HasCell, HasRoom, IsOf, May, basis, hand, view}
 use Rattle.store_rule.specs.Ruled.{IsFitting}
 use Rattle.store_rule.specs.Setting.{form_of, image_in, shown, shown_in}
-use Rattle.store_rule.specs.Tabs.{head_of}
+use Rattle.tab_states.specs.Tabs.{head_of}
 use Rattle.store_rule.specs.Told.{Steps}
 use Rattle.store_rule.specs.Turns.{HasReturned, HasTaken, IsReturned, MayComeHome, MayReturn, MovesCell, TurnEnded, TurnFound, new_hold}
 use Rattle.store_rule.proofs.Passing.{pass_of}

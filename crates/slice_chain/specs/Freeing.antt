@@ -23,7 +23,7 @@ use Rattle.store_rule.specs.declared.store.Pass.{Pass}
 use Rattle.store_rule.specs.declared.store.Store.{Store}
 use Rattle.store_rule.specs.Ground.{Ground, Offers}
 use Rattle.store_rule.specs.Passes.{IsOf, hand, view}
-use Rattle.store_rule.specs.Tabs.{head_of}
+use Rattle.tab_states.specs.Tabs.{head_of}
 use Rattle.store_rule.specs.Told.{Stands, Steps}
 
 -- the inner tab frees a chain of which this is the first slot, and has none that left it

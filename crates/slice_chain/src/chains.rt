@@ -8,7 +8,8 @@ ghost use Rattle.store_rule.specs.Passes.{basis, view};
 use core_model::Side;
 use lock_word::Stage;
 use rock_disk::Cell;
-use store_rule::{Origin, Pass, Store, next_slot};
+use store_rule::{Origin, Pass, Store};
+use tab_states::next_slot;
 
 /// The inner tab, which gives slots back.
 const INNER: u8 = 8;

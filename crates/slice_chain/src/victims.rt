@@ -10,7 +10,8 @@ use crate::chains::{first_slot, free_rest};
 use core_model::Side;
 use lock_word::{Stage, is_idle, pack};
 use rock_disk::Cell;
-use store_rule::{Origin, Pass, Store, next_slot};
+use store_rule::{Origin, Pass, Store};
+use tab_states::next_slot;
 
 /// The inner tab, which gives slots back.
 const INNER: u8 = 8;

@@ -22,9 +22,9 @@ use Rattle.core_model.proofs.FollowsKept.{link_of_number}
 use Rattle.core_model.specs.SlotMoves.{loaded, looks, stores}
 use Rattle.core_model.specs.CellMoves.{tries, ends}
 use Rattle.core_model.specs.AnchorMoves.{entered, left_tab, raised_tab, writer_of, freer_of, taken_tabs, evicted_tabs}
-use Rattle.store_rule.specs.Tabs.{at_of, tabs_at, anchor_here, stage_here, entered_here, left_here, raised_here, taken_here, new_writing, whole_here, evicted_here, ended_here, followed_here, freeing_at, loaded_here}
+use Rattle.tab_states.specs.Tabs.{at_of, tabs_at, anchor_here, stage_here, entered_here, left_here, raised_here, taken_here, new_writing, whole_here, evicted_here, ended_here, followed_here, freeing_at, loaded_here}
 use Rattle.store_rule.specs.Told.{Steps, found_as}
-use Rattle.store_rule.specs.declared.tabs.At.{At}
+use Rattle.tab_states.specs.declared.tabs.At.{At}
 
 module _ (X : Type 0) where
   at_cond : (b : Bool) (x y : Tab X) → at_of (cond b x y) ≡ cond b (at_of x) (at_of y)

@@ -20,7 +20,7 @@ use Rattle.core_model.proofs.Lists.{le_sum_at}
 use Rattle.core_model.proofs.SlotsLoosened.{standing_few}
 use Rattle.core_model.proofs.Spelling.{one_same}
 use Rattle.store_rule.specs.Ground.{Ground, Rule}
-use Rattle.store_rule.specs.Tabs.{HasNumber, at_of}
+use Rattle.tab_states.specs.Tabs.{HasNumber, at_of}
 use Rattle.store_rule.specs.Told.{Steps}
 use Rattle.store_rule.proofs.Moves.{known_of}
 

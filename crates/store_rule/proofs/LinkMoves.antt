@@ -28,13 +28,13 @@ use Rattle.core_model.proofs.FollowsKept.{followed, link_of_number}
 use Rattle.store_rule.specs.Ground.{Ground, Rule}
 use Rattle.store_rule.specs.Machine.{StepsOn}
 use Rattle.store_rule.specs.Ruled.{Form}
-use Rattle.store_rule.specs.Tabs.{HasLooseRoom, HasPlace, at_of, freeing_at, is_next, link_seen, loosened_here, loosened_tabs, reserved_here, tabs_at}
+use Rattle.tab_states.specs.Tabs.{HasLooseRoom, HasPlace, at_of, freeing_at, is_next, link_seen, loosened_here, loosened_tabs, reserved_here, tabs_at}
 use Rattle.store_rule.specs.Told.{Stands, Steps, the_view}
 use Rattle.lock_word.specs.Words.{epoch_of, stage_of}
 use Rattle.core_model.specs.AllowedByView.{AllowedByView, KnowsSlot, WroteFirst}
 use Rattle.core_model.specs.Table.{tabs_after}
 use Rattle.store_rule.specs.Told.{found_as}
-use Rattle.store_rule.specs.declared.tabs.At.{At}
+use Rattle.tab_states.specs.declared.tabs.At.{At}
 use Rattle.core_model.specs.Chains.{Tied}
 use Rattle.core_model.specs.SlotMoves.{IsFront, MayLoosen, MayReserve, loosens, reserves}
 use Rattle.core_model.specs.Slots.{ChainStands, slot_words}

@@ -5,10 +5,10 @@ use Rattle.core_model.specs.declared.moves.Move.{Move}
 use Rattle.core_model.specs.Layout.{Setting}
 use Rattle.core_model.specs.Tabs.{IsPass}
 use Rattle.store_rule.specs.declared.store.Pass.{Pass}
-use Rattle.store_rule.specs.declared.tabs.At.{At}
+use Rattle.tab_states.specs.declared.tabs.At.{At}
 use Rattle.core_model.specs.AllowedByView.{AllowedByView, MayMake}
 use Rattle.store_rule.specs.Passes.{view}
-use Rattle.store_rule.specs.Tabs.{at_of, taken_here, new_writing, whole_here, evicted_here}
+use Rattle.tab_states.specs.Tabs.{at_of, taken_here, new_writing, whole_here, evicted_here}
 
 as_many : {X : Type 0} → (xs : List (Tab X)) → length (map at_of xs) ≡ length xs
 as_many [] = refl

@@ -26,9 +26,9 @@ use lib.ListN.{get_elem?}
 use Rattle.store_rule.specs.Ground.{Ground, Rule}
 use Rattle.store_rule.specs.Machine.{StepsOn}
 use Rattle.store_rule.specs.Ruled.{Form}
-use Rattle.store_rule.specs.Tabs.{HasLoose, at_of, freed_here, freeing_at, given_back_here, head_of, is_slot, is_spent, or_slot, published_here, reserved_by, reserved_here, tabs_at, writing_at}
+use Rattle.tab_states.specs.Tabs.{HasLoose, at_of, freed_here, freeing_at, given_back_here, head_of, is_slot, is_spent, or_slot, published_here, reserved_by, reserved_here, tabs_at, writing_at}
 use Rattle.store_rule.specs.Told.{Stands, Steps, the_view}
-use Rattle.store_rule.specs.declared.tabs.At.{At}
+use Rattle.tab_states.specs.declared.tabs.At.{At}
 use Rattle.store_rule.proofs.AtHand.{same_tabs, tab_set}
 use Rattle.store_rule.proofs.Moves.{either_is, quiet}
 

@@ -46,8 +46,8 @@ use Rattle.store_rule.specs.Ruled.{Form, HomesFit, IsFitting, cell_shown, place_
 use Rattle.store_rule.specs.Setting.{shown}
 use Rattle.store_rule.specs.Told.{Becomes, Stands, Steps, Told, the_view}
 use Rattle.store_rule.specs.Turns.{IsBack, IsReturned, MayReturn, TurnFound, new_hold}
-use Rattle.store_rule.specs.Tabs.{HasNext, at_of, ended_here, tabs_at}
-use Rattle.store_rule.specs.declared.tabs.At.{At}
+use Rattle.tab_states.specs.Tabs.{HasNext, at_of, ended_here, tabs_at}
+use Rattle.tab_states.specs.declared.tabs.At.{At}
 use Rattle.store_rule.proofs.AtHand.{at_get, ends_at, same_hand, tab_set, tries_at}
 use Rattle.store_rule.proofs.Bounds.{chain_short}
 use Rattle.store_rule.proofs.Moves.{either_is, known_of, some_writer}

@@ -14,7 +14,7 @@ use Rattle.store_rule.specs.declared.store.Store.{Store}
 use Rattle.store_rule.specs.declared.store.Pass.{Pass}
 use Rattle.store_rule.specs.declared.store.Desk.{Desk}
 use Rattle.store_rule.specs.declared.opening.Hands.{Hands}
-use Rattle.store_rule.specs.declared.tabs.At.{At}
+use Rattle.tab_states.specs.declared.tabs.At.{At}
 use Rattle.store_rule.specs.declared.store.Note.{Note}
 use Rattle.core_model.specs.declared.view.Sight.{Sight}
 use Rattle.store_rule.specs.Ground.{Can, Ground, Offers}

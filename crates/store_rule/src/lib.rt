@@ -18,8 +18,6 @@ mod rule;
 mod sides;
 mod steps;
 mod store;
-mod tab_slots;
-mod tabs;
 mod turns;
 
 pub use buffers::lending_keeps_passes;
@@ -32,5 +30,3 @@ pub use pass_laws::{
 };
 pub use rule::{About, Origin};
 pub use store::{Desk, Note, Pass, Store};
-pub use tab_slots::next_slot;
-pub use tabs::{FreeingAt, ReadingAt, WritingAt};

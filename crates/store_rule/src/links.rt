@@ -2,11 +2,11 @@
 use crate::layout::link_word;
 use crate::rule::Origin;
 use crate::store::{Pass, Store};
-use crate::tab_slots::{followed_at, loosen_at, published_at};
 use core_model::Move;
 use link_word::{Link, pack_link, unpack_link};
 use rock_disk::Cell;
 use std::marker::Brand;
+use tab_states::{followed_at, loosen_at, published_at};
 
 impl<C: Cell, O: Origin> Store<C, O> {
     ghost use Rattle.core_model.specs.declared.moves.Move.TheVariants.{GetLink, Loosen, Publish};

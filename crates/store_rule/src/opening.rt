@@ -2,7 +2,7 @@
 ghost use Rattle.std.specs.Prelude.{◌+◌, ◌*◌, ◌<◌, ◌≡◌, ◌∷◌, All, IfErr, IfOk, List, Some, [], length, map, replicate, vec_len, ℕ};
 ghost use Rattle.core_model.specs.declared.tab.Tab.TheVariants.{Free};
 ghost use Rattle.store_rule.specs.declared.store.Desk.{Desk};
-ghost use Rattle.store_rule.specs.declared.tabs.At.{At};
+ghost use Rattle.tab_states.specs.declared.tabs.At.{At};
 ghost use Rattle.core_model.specs.Opening.{new_view, new_views};
 ghost use Rattle.db_layout.specs.declared.layout.TheConstants.{MOST_SLOTS};
 ghost use Rattle.store_rule.specs.Setting.{IsRow, IsSettled, basis_of};
@@ -15,7 +15,6 @@ use crate::cells::{from_places, to_places};
 use crate::drafts::NO_DRAFT;
 use crate::rule::{About, Off, Origin, Rule};
 use crate::store::{Desk, Pass, Store};
-use crate::tabs::At;
 use atomic_table::{Refused, Seat, Table};
 use core_model::{Row, View};
 use core_table::{Opening, opening_of};
@@ -24,6 +23,7 @@ use rock_disk::Cell;
 use rock_io::{Numbers, Octets};
 use std::alloc::{AllocError, Global};
 use std::snapshot::Snapshot;
+use tab_states::At;
 
 /// What a pass has at hand before it has a seat.
 #[derive(Drop)]

@@ -2,10 +2,10 @@
 use crate::layout::owner_word;
 use crate::rule::Origin;
 use crate::store::{Pass, Store};
-use crate::tab_slots::{given_back_at, reserved_at};
 use core_model::Move;
 use rock_disk::Cell;
 use std::marker::Brand;
+use tab_states::{given_back_at, reserved_at};
 
 impl<C: Cell, O: Origin> Store<C, O> {
     ghost use Rattle.core_model.specs.declared.moves.Move.TheVariants.{Disown, Own};

@@ -2,10 +2,10 @@
 use crate::layout::side_word;
 use crate::rule::Origin;
 use crate::store::{Pass, Store};
-use crate::tab_slots::loaded_at;
 use core_model::{Move, Side};
 use rock_disk::Cell;
 use std::marker::Brand;
+use tab_states::loaded_at;
 
 impl<C: Cell, O: Origin> Store<C, O> {
     ghost use Rattle.core_model.specs.declared.moves.Move.TheVariants.{LoadSide, StoreSide};

@@ -5,11 +5,11 @@ ghost use Rattle.lock_word.specs.Words.{IsWord, IsInRange, word_number};
 use crate::layout::{anchor_word, counter_word};
 use crate::rule::Origin;
 use crate::store::{Pass, Store};
-use crate::tabs::{At, entered_at, evict_at, left_at, raised_at, take_at};
 use core_model::Move;
 use lock_word::{Epoch, Stage, Word, is_idle, pack, word_of};
 use rock_disk::Cell;
 use std::marker::Brand;
+use tab_states::{At, entered_at, evict_at, left_at, raised_at, take_at};
 
 impl<C: Cell, O: Origin> Store<C, O> {
     ghost use Rattle.std.specs.Prelude.{◌≡◌, ◌≢◌, OnOk, IfErr};

@@ -2,17 +2,17 @@
 ghost use Rattle.std.specs.Prelude.{◌≡◌, ◌+◌, ◌*◌, ◌<◌, ◌≤◌, [], ◌∷◌, length};
 ghost use Rattle.db_layout.specs.declared.layout.TheConstants.{MOST_SLOTS};
 ghost use Rattle.store_rule.specs.Told.{the_view};
-ghost use Rattle.store_rule.specs.Tabs.{tabs_at};
+ghost use Rattle.tab_states.specs.Tabs.{tabs_at};
 
 use crate::buffers::Desks;
 use crate::drafts::Draft;
 use crate::rule::{About, Origin, Rule};
-use crate::tabs::{At, FreeingAt, ReadingAt, WritingAt, anchor_at, held_at};
 use atomic_table::{Seat, Table};
 use core_model::{Row, View};
 use rock_disk::Cell;
 use rock_io::Octets;
 use std::alloc::Global;
+use tab_states::{At, FreeingAt, ReadingAt, WritingAt, anchor_at, held_at};
 
 /// The shared store: the words of all anchors and slots, and the cells of the slots, each in its place.
 /// Workers share it by reference, and each steps on it with its own [`Pass`].
@@ -76,7 +76,7 @@ impl<C> Pass<C> {
     ghost use Rattle.std.specs.Prelude.{◌≡◌, ◌<◌, slice_index};
     ghost use Rattle.core_model.specs.Tabs.{tab_at, is_free, anchor_of};
     ghost use Rattle.core_model.specs.Tabs.{stage_held};
-    ghost use Rattle.store_rule.specs.Tabs.{at_of, freeing_of, is_last, reading_of, writing_of};
+    ghost use Rattle.tab_states.specs.Tabs.{at_of, freeing_of, is_last, reading_of, writing_of};
     ghost use Rattle.store_rule.specs.Passes.{HandMoves, view};
 
     pub(crate) fn at(&self, tab: u8) -> At

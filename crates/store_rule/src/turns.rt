@@ -4,12 +4,12 @@ ghost use Rattle.std.specs.Prelude.{Contains, IsTrue};
 use crate::layout::turn_word;
 use crate::rule::Origin;
 use crate::store::{Pass, Store};
-use crate::tab_slots::ended_at;
 use core_model::Move;
 use rock_disk::Cell;
 use std::marker::Brand;
 use std::sync::Wait;
 use std::thread;
+use tab_states::ended_at;
 
 // A law of cells, for proofs: what a read gives may outlive a crash. The function does nothing.
 fn reads_may_stay<C: Cell>()

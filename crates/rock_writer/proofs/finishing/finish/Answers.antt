@@ -8,7 +8,7 @@ use Rattle.core_model.specs.Tabs.{tab_at}
 use Rattle.core_model.specs.declared.moves.Move.TheVariants.{Raise}
 use Rattle.store_rule.specs.Calls.{IsFresh}
 use Rattle.store_rule.specs.Passes.{basis, view}
-use Rattle.store_rule.specs.declared.tabs.WritingAt.{WritingAt}
+use Rattle.tab_states.specs.declared.tabs.WritingAt.{WritingAt}
 use Rattle.rock_writer.specs.Entries.{writer_as}
 use Rattle.rock_writer.specs.Finishing.{NotWrittenLast, WroteLast}
 use Rattle.rock_writer.proofs.Ending.{at_anchor, doom_is, may_part_closed, may_raise_closed}

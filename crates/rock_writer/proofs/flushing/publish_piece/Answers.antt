@@ -2,7 +2,7 @@ use Rattle.std.proofs.Common.{ap, refl, subst, sym, true, ◌<◌, ◌∙◌, �
 use Rattle.core_model.specs.Tabs.{tab_at}
 use Rattle.store_rule.specs.Lending.{buffer_at}
 use Rattle.store_rule.specs.Passes.{basis, view}
-use Rattle.store_rule.specs.declared.tabs.WritingAt.{WritingAt}
+use Rattle.tab_states.specs.declared.tabs.WritingAt.{WritingAt}
 use Rattle.slice_chain.specs.Links.{MayPublishSlot}
 use Rattle.slice_chain.specs.Writes.{WroteSlot}
 use Rattle.rock_writer.proofs.Publishing.{first_fits, may_publish, may_write, next_fits, same_view, sealed_is, w}

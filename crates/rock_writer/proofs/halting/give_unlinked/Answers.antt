@@ -1,6 +1,6 @@
 use Rattle.std.proofs.Common.{ap, subst, sym, ◌∙◌}
 use Rattle.store_rule.specs.Passes.{basis, view}
-use Rattle.store_rule.specs.declared.tabs.WritingAt.{WritingAt}
+use Rattle.tab_states.specs.declared.tabs.WritingAt.{WritingAt}
 use Rattle.rock_writer.specs.Halting.{GaveBack, first_of, second_of}
 use Rattle.rock_writer.proofs.Unlinking.{at_hand, first_is, may_first, may_second}
 use Rattle.core_model.specs.Tabs.{tab_at}

@@ -3,8 +3,8 @@ use Rattle.store_rule.specs.Passes.{basis, view}
 use Rattle.store_rule.proofs.Moves.{wide}
 use Rattle.std.proofs.Common.{ap, sym, ◌∙◌}
 use Rattle.core_model.specs.Tabs.{tab_at}
-use Rattle.store_rule.specs.Tabs.{HasLoose, given_back_here}
-use Rattle.store_rule.specs.declared.tabs.At.{At}
+use Rattle.tab_states.specs.Tabs.{HasLoose, given_back_here}
+use Rattle.tab_states.specs.declared.tabs.At.{At}
 use Rattle.store_rule.proofs.Passing.{kept_nine, may_of}
 use Rattle.store_rule.proofs.SlotHands.{disowned_hand, disowns, has_loose, owned_at}
 use Rattle.store_rule.proofs.store.Store.disown.Goals as goal

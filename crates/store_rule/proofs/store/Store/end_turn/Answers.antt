@@ -1,6 +1,6 @@
 use Rattle.std.proofs.Common.{ap, refl, subst, sym, ◌∙◌}
-use Rattle.store_rule.specs.Tabs.{HasNext, ended_here}
-use Rattle.store_rule.specs.declared.tabs.At.{At}
+use Rattle.tab_states.specs.Tabs.{HasNext, ended_here}
+use Rattle.tab_states.specs.declared.tabs.At.{At}
 use Rattle.store_rule.proofs.Bounds.{few_slots}
 use Rattle.core_model.specs.Tabs.{tab_at}
 use Rattle.store_rule.specs.Setting.{form_of, shown}

@@ -1,7 +1,7 @@
 use Rattle.std.proofs.Common.{◌∙◌}
 use Rattle.store_rule.specs.Setting.{form_of}
 use Rattle.store_rule.specs.Passes.{basis, view}
-use Rattle.store_rule.specs.Tabs.{followed_here}
+use Rattle.tab_states.specs.Tabs.{followed_here}
 use Rattle.store_rule.proofs.AtHand.{followed_hand}
 use Rattle.store_rule.proofs.Bounds.{few_slots}
 use Rattle.store_rule.proofs.LinkMoves.{follows_, link_fits, link_is, linked_at}

@@ -5,8 +5,8 @@ use Rattle.store_rule.proofs.SideMoves.{loads, beside_at}
 use Rattle.store_rule.proofs.AtHand.{loaded_hand}
 use Rattle.std.proofs.Common.{ap, sym, subst, ◌∙◌}
 use Rattle.store_rule.specs.Passes.{view}
-use Rattle.store_rule.specs.Tabs.{HasNumber, loaded_here}
-use Rattle.store_rule.specs.declared.tabs.At.{At}
+use Rattle.tab_states.specs.Tabs.{HasNumber, loaded_here}
+use Rattle.tab_states.specs.declared.tabs.At.{At}
 use Rattle.store_rule.proofs.Passing.{kept_nine, may_of}
 use Rattle.store_rule.proofs.Bounds.{few_slots, has_number}
 use Rattle.store_rule.proofs.store.Store.load_side.Goals as goal

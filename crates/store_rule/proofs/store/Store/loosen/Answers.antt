@@ -1,8 +1,8 @@
 use Rattle.std.proofs.Common.{ap, get_or, subst, sym, ◌∙◌, List}
 use Rattle.store_rule.specs.Setting.{form_of}
 use Rattle.store_rule.specs.Passes.{basis, view}
-use Rattle.store_rule.specs.Tabs.{HasLooseRoom}
-use Rattle.store_rule.specs.declared.tabs.At.{At}
+use Rattle.tab_states.specs.Tabs.{HasLooseRoom}
+use Rattle.tab_states.specs.declared.tabs.At.{At}
 use Rattle.store_rule.proofs.AtHand.{at_get}
 use Rattle.store_rule.proofs.Bounds.{few_slots}
 use Rattle.store_rule.proofs.LinkMoves.{has_loose_room, linked_at, loosened_hand, loosened_nine, loosens_}

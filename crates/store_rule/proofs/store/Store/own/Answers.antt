@@ -4,8 +4,8 @@ use Rattle.store_rule.proofs.Moves.{wide}
 use Rattle.std.proofs.Common.{ap, ◌+◌, ◌∙◌, ℕ}
 use Rattle.store_rule.proofs.Passing.{kept_nine, may_of}
 use Rattle.store_rule.proofs.SlotHands.{owned_at, owned_hand, owns, refused_hand}
-use Rattle.store_rule.specs.Tabs.{reserved_here}
-use Rattle.store_rule.specs.declared.tabs.At.{At}
+use Rattle.tab_states.specs.Tabs.{reserved_here}
+use Rattle.tab_states.specs.declared.tabs.At.{At}
 use Rattle.store_rule.proofs.store.Store.own.Goals as goal
 
 pub exchange_as-found-requires-clause-step : goal.exchange_as-found-requires-clause-step

@@ -4,8 +4,8 @@ use Rattle.store_rule.proofs.Moves.{anchored_at, raised_word, raises, wide}
 use Rattle.std.proofs.Common.{ap, refl, set, sym, ◌∙◌, ℕ}
 use Rattle.std.specs.Prelude.{◌*◌, ◌-◌}
 use Rattle.lock_word.specs.Words.{word_number}
-use Rattle.store_rule.specs.declared.tabs.At.{At}
-use Rattle.store_rule.specs.Tabs.{raised_here}
+use Rattle.tab_states.specs.declared.tabs.At.{At}
+use Rattle.tab_states.specs.Tabs.{raised_here}
 use Rattle.store_rule.proofs.AtHand.{raised_hand}
 use Rattle.store_rule.proofs.Passing.{kept_left, kept_nine, may_of}
 use Rattle.store_rule.proofs.store.Store.raise.Goals as goal

@@ -1,8 +1,8 @@
 use Rattle.std.proofs.Common.{ap, refl, subst, sym, ◌∙◌}
 use Rattle.store_rule.specs.Setting.{form_of}
 use Rattle.store_rule.specs.Passes.{basis, view}
-use Rattle.store_rule.specs.Tabs.{HasPlace, published_here}
-use Rattle.store_rule.specs.declared.tabs.At.{At}
+use Rattle.tab_states.specs.Tabs.{HasPlace, published_here}
+use Rattle.tab_states.specs.declared.tabs.At.{At}
 use Rattle.store_rule.proofs.Bounds.{few_slots}
 use Rattle.store_rule.proofs.LinkMoves.{has_place, linked_at, publishes_, was_unwritten}
 use Rattle.store_rule.proofs.Moves.{wide}

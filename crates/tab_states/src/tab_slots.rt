@@ -1,8 +1,8 @@
 // What a pass has at hand of its tabs, after steps on slots and on what stands beside an anchor.
 ghost use Rattle.std.specs.Prelude.{length, slice_index_or, ◌≡◌, ◌≤◌};
-ghost use Rattle.store_rule.specs.declared.tabs.At.{At};
+ghost use Rattle.tab_states.specs.declared.tabs.At.{At};
 ghost use Rattle.core_model.specs.CellMoves;
-ghost use Rattle.store_rule.specs.Tabs.{HasLoose, HasLooseRoom, HasNext, HasNumber, HasPlace, ended_here, followed_here, freed_here, given_back_here, loaded_here, loosened_here, loosened_tabs, published_here, reserved_here};
+ghost use Rattle.tab_states.specs.Tabs.{HasLoose, HasLooseRoom, HasNext, HasNumber, HasPlace, ended_here, followed_here, freed_here, given_back_here, loaded_here, loosened_here, loosened_tabs, published_here, reserved_here};
 
 use crate::tabs::{At, FreeingAt, ReadingAt, WritingAt};
 use core_model::{Row, Side};
@@ -10,7 +10,7 @@ use link_word::Link;
 
 /// What a tab is at that loaded a word beside its anchor. A tab that reads learns from the start where it
 /// begins.
-pub(crate) fn loaded_at(at: At, side: Side, number: u64) -> At
+pub fn loaded_at(at: At, side: Side, number: u64) -> At
     requires { HasNumber at side number }
     ensures { result ≡ loaded_here at side number }
 {
@@ -24,7 +24,7 @@ pub(crate) fn loaded_at(at: At, side: Side, number: u64) -> At
 }
 
 /// What a tab is at that reserved a slot.
-pub(crate) fn reserved_at(at: At, slot: u32) -> At
+pub fn reserved_at(at: At, slot: u32) -> At
     ensures { result ≡ reserved_here at slot }
 {
     match at {
@@ -41,7 +41,7 @@ pub(crate) fn reserved_at(at: At, slot: u32) -> At
 }
 
 /// What a tab is at that published its first reserved slot.
-pub(crate) fn published_at(at: At, slot: u32) -> At
+pub fn published_at(at: At, slot: u32) -> At
     requires { HasPlace at }
     ensures { result ≡ published_here at slot }
 {
@@ -58,7 +58,7 @@ pub(crate) fn published_at(at: At, slot: u32) -> At
 }
 
 /// What a tab is at that looked at the link of its slot.
-pub(crate) fn followed_at(at: At, found: Link) -> At
+pub fn followed_at(at: At, found: Link) -> At
     ensures { result ≡ followed_here at found }
 {
     match at {
@@ -69,7 +69,7 @@ pub(crate) fn followed_at(at: At, found: Link) -> At
 }
 
 /// What a tab is at that gave a turn back. One that reads may go on to the next slot.
-pub(crate) fn ended_at(at: At, goes_on: bool) -> At
+pub fn ended_at(at: At, goes_on: bool) -> At
     requires { HasNext at goes_on }
     ensures { result ≡ ended_here at goes_on }
 {
@@ -96,7 +96,7 @@ pub fn next_slot(link: Link) -> Option<u32>
 
 /// What a tab is at that gave a slot back. An inner tab that has no slot left is free, unless its anchor is
 /// at FREEING.
-pub(crate) fn given_back_at(at: At, slot: u32) -> At
+pub fn given_back_at(at: At, slot: u32) -> At
     requires { HasLoose at }
     ensures { result ≡ given_back_here at slot }
 {
@@ -133,7 +133,7 @@ fn freed_at(freeing: FreeingAt) -> At
 
 /// The first slot of the chain that the inner tab frees has left it: it is loose, or where `tab` is another
 /// one that tab has reserved it.
-pub(crate) fn loosen_at(tabs: &mut Row<At>, tab: u8, slot: u32)
+pub fn loosen_at(tabs: &mut Row<At>, tab: u8, slot: u32)
     requires sized { (length tabs.old ≡ 9) × (tab ≤ 8) }
     requires room { HasLooseRoom (slice_index_or tabs.old 8 At.Free) }
     ensures { tabs.new ≡ loosened_tabs tabs.old tab slot }

@@ -15,10 +15,10 @@ use Rattle.core_model.specs.declared.tab.Freer.{Freer}
 use Rattle.core_model.specs.declared.tab.Tab.{Tab}
 use Rattle.core_model.specs.declared.tab.Tab.TheVariants.{Free, Retreating, Reading, Writing, Last, Freeing}
 use Rattle.core_model.specs.declared.view.View.{View}
-use Rattle.store_rule.specs.declared.tabs.At.{At}
-use Rattle.store_rule.specs.declared.tabs.FreeingAt.{FreeingAt}
-use Rattle.store_rule.specs.declared.tabs.ReadingAt.{ReadingAt}
-use Rattle.store_rule.specs.declared.tabs.WritingAt.{WritingAt}
+use Rattle.tab_states.specs.declared.tabs.At.{At}
+use Rattle.tab_states.specs.declared.tabs.FreeingAt.{FreeingAt}
+use Rattle.tab_states.specs.declared.tabs.ReadingAt.{ReadingAt}
+use Rattle.tab_states.specs.declared.tabs.WritingAt.{WritingAt}
 
 -- the chain is known to have no slot left: not before a slot has left it
 abbrev pub is_spent : Freer → Bool

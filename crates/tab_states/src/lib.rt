@@ -1,0 +1,15 @@
+//! What a pass of the shared store has at hand of its tabs: what each is at, and what it is at after each
+//! step of the pass.
+#![tactic(auto)]
+
+mod tab_slots;
+mod tabs;
+
+pub use tab_slots::{
+    ended_at, followed_at, given_back_at, loaded_at, loosen_at, next_slot, published_at,
+    reserved_at,
+};
+pub use tabs::{
+    At, FreeingAt, ReadingAt, WritingAt, anchor_at, entered_at, evict_at, held_at, left_at,
+    raised_at, take_at,
+};
