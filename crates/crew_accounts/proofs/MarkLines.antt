@@ -19,12 +19,11 @@ use Rattle.line_account.specs.Courses.{Keeps}
 use Rattle.line_account.specs.Lines.{Served}
 use Rattle.line_account.specs.Steps.{AtMark, IsIdle as IsStill}
 use Rattle.line_account.proofs.Quiet.{mark_adds}
-use Rattle.store_rule.specs.declared.store.Desk.{Desk}
+use Rattle.tab_states.specs.declared.desks.Desk.{Desk}
 use Rattle.store_rule.specs.declared.store.Pass.{Pass}
 use Rattle.store_rule.specs.declared.store.Store.{Store}
-use Rattle.store_rule.specs.Drafts.{draft_at}
+use Rattle.tab_states.specs.Desks.{buffer_at, draft_at}
 use Rattle.store_rule.specs.Ground.{Offers}
-use Rattle.store_rule.specs.Lending.{buffer_at}
 use Rattle.store_rule.specs.Notes.{learning, noting}
 use Rattle.store_rule.specs.Passes.{Keeps as KeepsHands, basis, view}
 use Rattle.serve_lines.specs.Tabs.{Leaves}

@@ -53,7 +53,7 @@ use Rattle.slice_chain.specs.Victims.{hand_in}
 use Rattle.slice_chain.specs.Writes.{reserved_first}
 use Rattle.store_rule.specs.declared.store.Pass.{Pass}
 use Rattle.store_rule.specs.declared.store.Store.{Store}
-use Rattle.store_rule.specs.Drafts.{draft_at}
+use Rattle.tab_states.specs.Desks.{draft_at}
 use Rattle.store_rule.specs.Ground.{Ground, Offers, cut_of, url_of}
 use Rattle.store_rule.specs.Passes.{basis, view}
 use Rattle.plain_runs.specs.Words.{IsLone, IsOfOffer, Knows, ShowsAt, ShowsEntry, no_guests, setting_of}

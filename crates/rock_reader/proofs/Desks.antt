@@ -1,10 +1,9 @@
 -- What a tab works on, where the buffer or the draft of one is another one.
 use Rattle.std.proofs.Common.{List, [], ap, arith, length, refl, suc, take, zero, ◌<◌, ◌≡◌, ◌≢◌, ◌∙◌, ◌∷◌, sym, ℕ}
 use Rattle.std.proofs.lemmas.List.{with_items_is}
-use Rattle.store_rule.specs.declared.drafts.Draft.{Draft}
-use Rattle.store_rule.specs.declared.store.Desk.{Desk}
-use Rattle.store_rule.specs.Drafts.{draft_at, with_draft_at}
-use Rattle.store_rule.specs.Lending.{buffer_at, with_buffer_at}
+use Rattle.tab_states.specs.declared.desks.Draft.{Draft}
+use Rattle.tab_states.specs.declared.desks.Desk.{Desk}
+use Rattle.tab_states.specs.Desks.{buffer_at, draft_at, with_buffer_at, with_draft_at}
 use Rattle.rock_reader.specs.Wanted.{held_at, kept_at}
 
 pub draft_same : (ds : List Desk) (t : ℕ) (d : Draft) → t < length ds → draft_at (with_draft_at ds t d) t ≡ d
@@ -48,9 +47,9 @@ buffer_other (x ∷ ds) (suc t) (suc j) bytes ne = buffer_other ds t j bytes (λ
 -- what is kept for a tab
 pub kept_there : (ds qs : List Desk) (t : ℕ) (bytes : List ℕ) (d : Draft) → t < length ds → length bytes ≡ length (buffer_at ds t) → qs ≡ with_draft_at (with_buffer_at ds t bytes) t d → kept_at qs t ≡ take d.held bytes
 kept_there ds qs t bytes d lt e is = ap (λ (z : List Desk). kept_at z t) is
-    ∙ ap (λ (z : Draft). take z.held (buffer_at (with_draft_at (with_buffer_at ds t bytes) t d) t)) (draft_same (with_buffer_at ds t bytes) t d (let l = Rattle.store_rule.specs.Lending.as_many ds t bytes in omega arith))
+    ∙ ap (λ (z : Draft). take z.held (buffer_at (with_draft_at (with_buffer_at ds t bytes) t d) t)) (draft_same (with_buffer_at ds t bytes) t d (let l = Rattle.tab_states.specs.Desks.as_many ds t bytes in omega arith))
     ∙ ap (take d.held) (buffer_drafted (with_buffer_at ds t bytes) t t d ∙ buffer_same ds t bytes lt e)
 
 pub held_there : (ds qs : List Desk) (t : ℕ) (bytes : List ℕ) (d : Draft) → t < length ds → qs ≡ with_draft_at (with_buffer_at ds t bytes) t d → held_at qs t ≡ d.held
 held_there ds qs t bytes d lt is = ap (λ (z : List Desk). held_at z t) is
-    ∙ ap (λ (z : Draft). z.held) (draft_same (with_buffer_at ds t bytes) t d (let l = Rattle.store_rule.specs.Lending.as_many ds t bytes in omega arith))
+    ∙ ap (λ (z : Draft). z.held) (draft_same (with_buffer_at ds t bytes) t d (let l = Rattle.tab_states.specs.Desks.as_many ds t bytes in omega arith))

@@ -15,7 +15,7 @@ use Rattle.lock_word.specs.Words.{version_limit}
 use Rattle.store_rule.specs.declared.store.Pass.{Pass}
 use Rattle.store_rule.specs.declared.store.Store.{Store}
 use Rattle.store_rule.specs.Ground.{Ground, Offers}
-use Rattle.store_rule.specs.Lending.{buffer_at}
+use Rattle.tab_states.specs.Desks.{buffer_at}
 use Rattle.store_rule.specs.Passes.{basis, view}
 use Rattle.store_rule.specs.Turns.{new_hold}
 use Rattle.store_rule.proofs.Passing.{pass_of}

@@ -10,12 +10,12 @@ use Rattle.core_model.specs.declared.tab.Tab.TheVariants.{Reading}
 use Rattle.core_model.specs.declared.view.Sight.{Sight}
 use Rattle.core_model.specs.declared.view.Sight.TheVariants.{Named}
 use Rattle.core_model.specs.declared.view.View.{View}
-use Rattle.store_rule.specs.declared.store.Desk.{Desk}
+use Rattle.tab_states.specs.declared.desks.Desk.{Desk}
 use Rattle.store_rule.specs.declared.store.Pass.{Pass}
 use Rattle.store_rule.specs.declared.store.Store.{Store}
-use Rattle.store_rule.specs.Drafts.{draft_at}
+use Rattle.tab_states.specs.Desks.{buffer_at, draft_at, with_buffer_at}
 use Rattle.store_rule.specs.Ground.{Ground, Offers, anchor_for}
-use Rattle.store_rule.specs.Lending.{buffer_at, with_buffer_at, with_bytes}
+use Rattle.store_rule.specs.Lending.{with_bytes}
 use Rattle.store_rule.specs.Passes.{IsOf, basis, view}
 use Rattle.store_rule.specs.Told.{the_view}
 use Rattle.store_rule.proofs.Drafting.{drafted_own}

@@ -3,13 +3,13 @@ use Rattle.std.proofs.Common.{Bool, List, ap, get_or, refl, subst, sym, ◌≡�
 use Rattle.rock_disk.specs.Cell.{CellState}
 use Rattle.core_model.specs.Tabs.{inner, tab_at}
 use Rattle.core_model.specs.declared.view.View.{View}
-use Rattle.store_rule.specs.declared.drafts.Draft.{Draft}
-use Rattle.store_rule.specs.declared.store.Desk.{Desk}
+use Rattle.tab_states.specs.declared.desks.Draft.{Draft}
+use Rattle.tab_states.specs.declared.desks.Desk.{Desk}
 use Rattle.store_rule.specs.declared.store.Pass.{Pass}
 use Rattle.store_rule.specs.declared.store.Store.{Store}
-use Rattle.store_rule.specs.Drafts.{DraftMoves, draft_at}
+use Rattle.store_rule.specs.Drafts.{DraftMoves}
+use Rattle.tab_states.specs.Desks.{buffer_at, draft_at}
 use Rattle.store_rule.specs.Ground.{Offers}
-use Rattle.store_rule.specs.Lending.{buffer_at}
 use Rattle.store_rule.specs.Passes.{IsOf, hand, view}
 use Rattle.store_rule.specs.Told.{the_view}
 use Rattle.store_rule.proofs.Drafting.{drafted_own}

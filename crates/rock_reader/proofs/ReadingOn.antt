@@ -19,13 +19,12 @@ use Rattle.core_model.specs.declared.tab.Turn.TheVariants.{Has, NoTurn}
 use Rattle.core_model.specs.declared.view.Sight.{Sight}
 use Rattle.core_model.specs.declared.view.Sight.TheVariants.{Named, Published, Stood}
 use Rattle.core_model.specs.declared.view.View.{View}
-use Rattle.store_rule.specs.declared.drafts.Draft.{Draft}
-use Rattle.store_rule.specs.declared.store.Desk.{Desk}
+use Rattle.tab_states.specs.declared.desks.Draft.{Draft}
+use Rattle.tab_states.specs.declared.desks.Desk.{Desk}
 use Rattle.store_rule.specs.declared.store.Pass.{Pass}
 use Rattle.store_rule.specs.declared.store.Store.{Store}
-use Rattle.store_rule.specs.Drafts.{draft_at}
+use Rattle.tab_states.specs.Desks.{buffer_at, draft_at}
 use Rattle.store_rule.specs.Ground.{Ground, Offers}
-use Rattle.store_rule.specs.Lending.{buffer_at}
 use Rattle.store_rule.specs.Passes.{IsOf, basis, view}
 use Rattle.store_rule.specs.Turns.{Lost, new_hold}
 use Rattle.store_rule.proofs.Drafting.{drafted_own}

@@ -3,13 +3,12 @@ use Rattle.std.specs.Prelude.{Bool, List, [], cond, length, nat_le, slice_index,
 use Rattle.rock_disk.specs.Cell.{CellState}
 use Rattle.entry_cut.specs.Content.{front_size}
 use Rattle.core_model.specs.Tabs.{inner}
-use Rattle.store_rule.specs.declared.drafts.Draft.{Draft}
-use Rattle.store_rule.specs.declared.store.Desk.{Desk}
+use Rattle.tab_states.specs.declared.desks.Draft.{Draft}
+use Rattle.tab_states.specs.declared.desks.Desk.{Desk}
 use Rattle.store_rule.specs.declared.store.Pass.{Pass}
 use Rattle.store_rule.specs.declared.store.Store.{Store}
-use Rattle.store_rule.specs.Drafts.{draft_at, with_draft_at}
+use Rattle.tab_states.specs.Desks.{buffer_at, draft_at, with_buffer_at, with_draft_at}
 use Rattle.store_rule.specs.Ground.{Offers}
-use Rattle.store_rule.specs.Lending.{buffer_at, with_buffer_at}
 use Rattle.store_rule.specs.Passes.{IsOf, hand, view}
 use Rattle.store_rule.specs.Calls.{Others}
 

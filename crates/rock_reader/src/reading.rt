@@ -10,8 +10,7 @@ ghost use Rattle.rock_reader.specs.Wanted.{FollowsReader, held_at, kept_at};
 ghost use Rattle.slice_chain.specs.Links.{MayLocate};
 ghost use Rattle.slot_cell.specs.declared.header.TheConstants.{HEADER_SIZE};
 ghost use Rattle.std.specs.Prelude.{None, ◌+◌, ◌≡◌, ◌≢◌, ◌<◌, ◌≤◌, ◌↔◌, ◌⊎◌, ◌++◌, drop, length, take};
-ghost use Rattle.store_rule.specs.Drafts.{draft_at};
-ghost use Rattle.store_rule.specs.Lending.{buffer_at};
+ghost use Rattle.tab_states.specs.Desks.{buffer_at, draft_at};
 ghost use Rattle.store_rule.specs.Passes.{basis, view};
 
 use crate::answer::More;

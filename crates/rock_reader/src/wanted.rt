@@ -2,12 +2,13 @@
 // nothing else, and how long it is in the tab's draft.
 ghost use Rattle.rock_reader.specs.Wanted.{KeepsUrl, held_at, kept_at, kept_of};
 ghost use Rattle.std.specs.Prelude.{length, take, ◌<◌, ◌≡◌, ◌≤◌};
-ghost use Rattle.store_rule.specs.Drafts.{DraftMoves, draft_at};
-ghost use Rattle.store_rule.specs.Lending.{buffer_at};
+ghost use Rattle.store_rule.specs.Drafts.{DraftMoves};
+ghost use Rattle.tab_states.specs.Desks.{buffer_at, draft_at};
 
 use slot_cell::HEADER_SIZE;
-use store_rule::{Draft, Pass};
+use store_rule::Pass;
 use swap_meta::META_SIZE;
+use tab_states::Draft;
 
 /// Keeps the URL that a tab wants. Of one that leaves no room for itself in a first slot nothing is kept.
 pub(crate) fn keep_url<C>(pass: &mut Pass<C>, tab: u8, url: &[u8])

@@ -14,7 +14,7 @@ use Rattle.core_model.specs.AnchorMoves.{MayRaise}
 use Rattle.core_model.specs.Chains.{first_of}
 use Rattle.core_model.specs.Tabs.{OfWriter, anchor_of, tab_at}
 use Rattle.core_model.specs.declared.moves.Move.TheVariants.{Raise}
-use Rattle.store_rule.specs.declared.store.Desk.{Desk}
+use Rattle.tab_states.specs.declared.desks.Desk.{Desk}
 use Rattle.store_rule.specs.declared.store.Pass.{Pass}
 use Rattle.store_rule.specs.declared.store.Store.{Store}
 use Rattle.store_rule.specs.Ground.{Ground, Offers}

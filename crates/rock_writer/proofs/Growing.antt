@@ -19,10 +19,10 @@ use Rattle.core_model.specs.declared.moves.Side.TheVariants.{Start}
 use Rattle.core_model.specs.declared.tab.Tab.TheVariants.{Writing}
 use Rattle.core_model.specs.declared.tab.Writer.{Writer}
 use Rattle.core_model.specs.declared.view.View.{View}
-use Rattle.store_rule.specs.declared.store.Desk.{Desk}
+use Rattle.tab_states.specs.declared.desks.Desk.{Desk}
 use Rattle.store_rule.specs.declared.store.Pass.{Pass}
 use Rattle.store_rule.specs.declared.store.Store.{Store}
-use Rattle.store_rule.specs.Drafts.{draft_at}
+use Rattle.tab_states.specs.Desks.{draft_at}
 use Rattle.store_rule.specs.Ground.{Ground, Offers}
 use Rattle.store_rule.specs.Passes.{IsOf, Made, May, basis, view}
 use Rattle.store_rule.proofs.Passing.{pass_of}
@@ -140,14 +140,14 @@ module _ {C O : Type 0} (tells : Bool) (state : C → CellState) (offers : O →
           end = Next next;
           rests = record { own = own2; below = rests.below; inner_free = free; goes_on = grown ps; is = is; from = rests.from; fits = rests.fits };
           drafts = let d = h.writes.drafts in record {
-            key = ap Rattle.store_rule.specs.declared.drafts.Draft.Draft.key draft ∙ d.key;
-            durable = ap Rattle.store_rule.specs.declared.drafts.Draft.Draft.is_durable draft ∙ d.durable;
-            count = let f = h.full in let z = d.count in let k = ap Rattle.store_rule.specs.declared.drafts.Draft.Draft.held draft in
+            key = ap Rattle.tab_states.specs.declared.desks.Draft.Draft.key draft ∙ d.key;
+            durable = ap Rattle.tab_states.specs.declared.desks.Draft.Draft.is_durable draft ∙ d.durable;
+            count = let f = h.full in let z = d.count in let k = ap Rattle.tab_states.specs.declared.desks.Draft.Draft.held draft in
                 let l : length (ps ++ slot ∷ []) ≡ length ps + 1 = omega (arith, length_push ps slot) in let m = ap (λ (n : ℕ). n * room_of g.slot) l ∙ next_room (length ps) (room_of g.slot) in omega arith;
             least = omega arith;
-            within = let k = ap Rattle.store_rule.specs.declared.drafts.Draft.Draft.held draft in omega arith;
+            within = let k = ap Rattle.tab_states.specs.declared.desks.Draft.Draft.held draft in omega arith;
             inside = d.inside;
-            bytes = let k = ap Rattle.store_rule.specs.declared.drafts.Draft.Draft.held draft in (λ i. Rattle.std.proofs.Common.take (k i) (Rattle.std.proofs.Common.drop 40 (Rattle.store_rule.specs.Lending.buffer_at u.desks t)))
+            bytes = let k = ap Rattle.tab_states.specs.declared.desks.Draft.Draft.held draft in (λ i. Rattle.std.proofs.Common.take (k i) (Rattle.std.proofs.Common.drop 40 (Rattle.tab_states.specs.Desks.buffer_at u.desks t)))
                 ∙ sym (λ i. Rattle.std.proofs.Common.take (k i) (Rattle.std.proofs.Common.drop (length (ps ++ slot ∷ []) * room_of g.slot) (whole_in g e)));
           };
         }

@@ -11,11 +11,10 @@ use Rattle.slot_cell.specs.Header.{slot_image}
 use Rattle.slot_cell.specs.declared.header.Header.{Header}
 use Rattle.slot_cell.specs.declared.header.TheConstants.{HEADER_SIZE}
 use Rattle.store_key.specs.Key.{key_of}
-use Rattle.store_rule.specs.declared.drafts.Draft.{Draft}
-use Rattle.store_rule.specs.declared.store.Desk.{Desk}
-use Rattle.store_rule.specs.Drafts.{draft_at}
+use Rattle.tab_states.specs.declared.desks.Draft.{Draft}
+use Rattle.tab_states.specs.declared.desks.Desk.{Desk}
+use Rattle.tab_states.specs.Desks.{buffer_at, draft_at}
 use Rattle.store_rule.specs.Ground.{Ground, cut_of}
-use Rattle.store_rule.specs.Lending.{buffer_at}
 use Rattle.swap_meta.specs.Meta.{meta_bytes}
 use Rattle.rock_writer.specs.Drafting.{IsBegun, IsWhole}
 use Rattle.rock_writer.specs.Entries.{Continues, Drafts, Entry, body_in, size_of, url_in, whole_in, with_taken}

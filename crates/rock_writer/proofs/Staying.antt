@@ -4,13 +4,12 @@ use Rattle.std.specs.Prelude.{drop, slice_get, slice_index_or, take}
 use Rattle.entry_cut.specs.Content.{room_of}
 use Rattle.rock_disk.specs.Cell.{CellState}
 use Rattle.core_model.specs.Tabs.{InnerIsFree}
-use Rattle.store_rule.specs.declared.drafts.Draft.{Draft}
-use Rattle.store_rule.specs.declared.store.Desk.{Desk}
+use Rattle.tab_states.specs.declared.desks.Draft.{Draft}
+use Rattle.tab_states.specs.declared.desks.Desk.{Desk}
 use Rattle.store_rule.specs.declared.store.Pass.{Pass}
 use Rattle.store_rule.specs.declared.store.Store.{Store}
-use Rattle.store_rule.specs.Drafts.{draft_at}
+use Rattle.tab_states.specs.Desks.{buffer_at, draft_at}
 use Rattle.store_rule.specs.Ground.{Offers}
-use Rattle.store_rule.specs.Lending.{buffer_at}
 use Rattle.store_rule.specs.Passes.{basis, view}
 use Rattle.rock_writer.specs.Entries.{Entry, WritesAs, whole_in}
 use Rattle.rock_writer.specs.Passes.{FollowsWriting}

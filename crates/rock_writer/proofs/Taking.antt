@@ -5,7 +5,7 @@ use Rattle.entry_cut.specs.Content.{room_of}
 use Rattle.core_model.specs.Tabs.{InnerIsFree, tab_at}
 use Rattle.store_rule.specs.declared.store.Pass.{Pass}
 use Rattle.store_rule.specs.declared.store.Store.{Store}
-use Rattle.store_rule.specs.Drafts.{draft_at}
+use Rattle.tab_states.specs.Desks.{draft_at}
 use Rattle.store_rule.specs.Ground.{Ground, Offers}
 use Rattle.store_rule.specs.Passes.{IsOf, basis}
 use Rattle.rock_writer.specs.Appending.{IsFull, place_of, room_in}

@@ -4,9 +4,9 @@ use Rattle.entry_cut.specs.Content.{payload}
 use Rattle.entry_cut.specs.Labels.{ComesBehind}
 use Rattle.entry_cut.specs.declared.piece.Behind.{Behind}
 use Rattle.store_key.specs.Key.{key_of}
-use Rattle.store_rule.specs.declared.store.Desk.{Desk}
+use Rattle.tab_states.specs.declared.desks.Desk.{Desk}
 use Rattle.store_rule.specs.declared.store.Pass.{Pass}
-use Rattle.store_rule.specs.Drafts.{draft_at}
+use Rattle.tab_states.specs.Desks.{draft_at}
 use Rattle.store_rule.specs.Ground.{Ground, cut_of}
 use Rattle.rock_writer.specs.Entries.{Drafts, Entry, url_in}
 

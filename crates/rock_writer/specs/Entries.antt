@@ -12,12 +12,11 @@ use Rattle.core_model.specs.Tabs.{InnerIsFree, inner, tab_at}
 use Rattle.core_model.specs.declared.tab.Tab.TheVariants.{Writing}
 use Rattle.core_model.specs.declared.tab.Turn.TheVariants.{NoTurn}
 use Rattle.core_model.specs.declared.tab.Writer.{Writer}
-use Rattle.store_rule.specs.declared.store.Desk.{Desk}
+use Rattle.tab_states.specs.declared.desks.Desk.{Desk}
 use Rattle.store_rule.specs.declared.store.Pass.{Pass}
 use Rattle.store_rule.specs.declared.store.Store.{Store}
-use Rattle.store_rule.specs.Drafts.{draft_at}
+use Rattle.tab_states.specs.Desks.{buffer_at, draft_at}
 use Rattle.store_rule.specs.Ground.{Ground, IsOfferFor, Offers, url_of}
-use Rattle.store_rule.specs.Lending.{buffer_at}
 use Rattle.store_rule.specs.Passes.{IsOf, basis, view}
 
 -- an entry that a tab writes: where, of which version and offer, whether its slots are synced, and how many bytes of its body were taken

@@ -21,7 +21,7 @@ use Rattle.rock_writer.specs.declared.fault.WriteFault.TheVariants.{Fault, Full,
 use Rattle.rock_writer.specs.Drafting.{IsWhole}
 use Rattle.rock_writer.specs.Entries.{Entry, Rests, WritesAs, body_in}
 use Rattle.entry_cut.specs.Content.{room_of}
-use Rattle.store_rule.specs.Drafts.{draft_at}
+use Rattle.tab_states.specs.Desks.{draft_at}
 use Rattle.rock_writer.specs.Reserving.{RanOut, Reserved}
 
 -- the slots that a piece names behind it

@@ -6,7 +6,7 @@ ghost use Rattle.rock_writer.specs.Appending.{Appended, MayAppend, NotAppended};
 ghost use Rattle.rock_writer.specs.Entries.{Entry};
 ghost use Rattle.rock_writer.specs.Passes.{FollowsWriting};
 ghost use Rattle.slot_cell.specs.declared.header.TheConstants.{HEADER_SIZE};
-ghost use Rattle.store_rule.specs.Drafts.{draft_at};
+ghost use Rattle.tab_states.specs.Desks.{draft_at};
 ghost use Rattle.store_rule.specs.Passes.{basis};
 
 use crate::drafting::fill;

@@ -7,9 +7,9 @@ ghost use Rattle.entry_cut.specs.Labels.{Fits, next_of};
 ghost use Rattle.rock_writer.specs.Drafting.{DeskMoves, IsBegun, IsWhole};
 ghost use Rattle.rock_writer.specs.Entries.{Continues, Drafts, Entry, with_taken};
 ghost use Rattle.slot_cell.specs.declared.header.TheConstants.{HEADER_SIZE};
-ghost use Rattle.store_rule.specs.Drafts.{draft_at};
+ghost use Rattle.tab_states.specs.Desks.{buffer_at, draft_at};
 ghost use Rattle.store_rule.specs.Ground.{cut_of};
-ghost use Rattle.store_rule.specs.Lending.{buffer_at, with_bytes};
+ghost use Rattle.store_rule.specs.Lending.{with_bytes};
 ghost use Rattle.store_rule.specs.Passes.{IsOf, basis};
 ghost use Rattle.swap_meta.specs.Meta.{meta_bytes};
 
@@ -17,8 +17,9 @@ use entry_cut::{Behind, Label, piece_header, put_header};
 use rock_disk::Cell;
 use slot_cell::HEADER_SIZE;
 use store_key::keys_have_16_bytes;
-use store_rule::{Draft, Origin, Pass, Store, drafts_keep_passes, lending_keeps_passes};
+use store_rule::{Origin, Pass, Store, drafts_keep_passes, lending_keeps_passes};
 use swap_meta::{write_meta, written_meta_is_spelled};
+use tab_states::Draft;
 
 /// Begins the first piece of an entry: its metadata lies in the buffer afterwards, and nothing else of it.
 pub(crate) fn start<C: Cell, O: Origin>(

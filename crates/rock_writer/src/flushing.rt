@@ -9,7 +9,7 @@ ghost use Rattle.rock_writer.specs.Halting.{MayHalt};
 ghost use Rattle.rock_writer.specs.Passes.{FollowsWriting};
 ghost use Rattle.slice_chain.specs.Victims.{FollowsEvicting};
 ghost use Rattle.slice_chain.specs.Writes.{WroteSlot};
-ghost use Rattle.store_rule.specs.Drafts.{draft_at};
+ghost use Rattle.tab_states.specs.Desks.{draft_at};
 ghost use Rattle.store_rule.specs.Passes.{IsOf, Made, May, basis, view};
 ghost use Rattle.core_model.specs.declared.moves.Move.TheVariants.{Raise};
 ghost use Rattle.lock_word.specs.declared.stage.Stage.TheVariants.{Appending};

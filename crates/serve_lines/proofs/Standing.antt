@@ -5,7 +5,7 @@ use Rattle.slot_cell.specs.declared.header.TheConstants.{HEADER_SIZE}
 use Rattle.entry_cut.specs.Content.{room_of}
 use Rattle.rock_disk.specs.Cell.{CellState}
 use Rattle.core_model.specs.Tabs.{inner}
-use Rattle.store_rule.specs.declared.drafts.Draft.{Draft}
+use Rattle.tab_states.specs.declared.desks.Draft.{Draft}
 use Rattle.store_rule.specs.declared.store.Pass.{Pass}
 use Rattle.store_rule.specs.declared.store.Store.{Store}
 use Rattle.store_rule.specs.Ground.{Offers}

@@ -22,11 +22,12 @@ use Rattle.core_model.specs.declared.view.Sight.TheVariants.{Named}
 use Rattle.core_model.specs.declared.view.View.{View}
 use Rattle.core_model.proofs.OffersTold.{reads_seen}
 use Rattle.core_model.proofs.Tabs.{tab_there}
-use Rattle.store_rule.specs.declared.store.Desk.{Desk}
+use Rattle.tab_states.specs.declared.desks.Desk.{Desk}
 use Rattle.store_rule.specs.declared.store.Pass.{Pass}
 use Rattle.store_rule.specs.declared.store.Store.{Store}
 use Rattle.store_rule.specs.Ground.{Ground, Offers, offering_of}
-use Rattle.store_rule.specs.Lending.{buffer_at, with_buffer_at, with_bytes}
+use Rattle.store_rule.specs.Lending.{with_bytes}
+use Rattle.tab_states.specs.Desks.{buffer_at, with_buffer_at}
 use Rattle.store_rule.specs.Passes.{HasCell, HasRoom, IsOf, May, basis, hand, view}
 use Rattle.store_rule.specs.Ruled.{IsFitting}
 use Rattle.store_rule.specs.Setting.{form_of, shown, shown_in}

@@ -20,11 +20,11 @@ use Rattle.core_model.specs.declared.view.View.{View}
 use Rattle.core_model.proofs.Tabs.{tab_there}
 use Rattle.std.proofs.lemmas.Bool.{eqb-true}
 use Rattle.store_rule.specs.Calls.{Follows}
-use Rattle.store_rule.specs.declared.store.Desk.{Desk}
+use Rattle.tab_states.specs.declared.desks.Desk.{Desk}
 use Rattle.store_rule.specs.declared.store.Pass.{Pass}
 use Rattle.store_rule.specs.declared.store.Store.{Store}
 use Rattle.store_rule.specs.Ground.{Ground, Offers}
-use Rattle.store_rule.specs.Lending.{buffer_at}
+use Rattle.tab_states.specs.Desks.{buffer_at}
 use Rattle.store_rule.specs.Passes.{HasCell, HasRoom, IsOf, May, basis, hand, view}
 use Rattle.store_rule.specs.Ruled.{IsFitting}
 use Rattle.store_rule.specs.Setting.{form_of, image_in, shown, shown_in}

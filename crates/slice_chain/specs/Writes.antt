@@ -15,7 +15,7 @@ use Rattle.core_model.specs.declared.view.View.{View}
 use Rattle.store_rule.specs.declared.store.Pass.{Pass}
 use Rattle.store_rule.specs.declared.store.Store.{Store}
 use Rattle.store_rule.specs.Ground.{Ground, Offers, offering_of}
-use Rattle.store_rule.specs.Lending.{buffer_at}
+use Rattle.tab_states.specs.Desks.{buffer_at}
 use Rattle.store_rule.specs.Passes.{IsOf, basis, view}
 use Rattle.tab_states.specs.Tabs.{head_of}
 use Rattle.store_rule.specs.Told.{Steps}

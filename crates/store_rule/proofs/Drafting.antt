@@ -2,19 +2,15 @@
 use Rattle.std.proofs.Common.{All, Bool, List, [], ap, arith, length, refl, set, subst, sym, suc, zero, ◌≡◌, ◌∙◌, ◌∷◌, ℕ}
 use Rattle.std.specs.Prelude.{slice_index_or}
 use Rattle.rock_disk.specs.Cell.{CellState}
-use Rattle.store_rule.specs.declared.drafts.Draft.{Draft}
-use Rattle.store_rule.specs.declared.store.Desk.{Desk}
+use Rattle.tab_states.specs.declared.desks.Draft.{Draft}
+use Rattle.tab_states.specs.declared.desks.Desk.{Desk}
 use Rattle.store_rule.specs.declared.store.Pass.{Pass}
 use Rattle.store_rule.specs.declared.store.Store.{Store}
-use Rattle.store_rule.specs.Drafts.{DraftMoves, with_draft_at}
+use Rattle.store_rule.specs.Drafts.{DraftMoves}
+use Rattle.tab_states.specs.Desks.{with_draft_at}
 use Rattle.store_rule.specs.Ground.{Offers}
 use Rattle.store_rule.specs.Passes.{IsOf, basis}
 use Rattle.store_rule.specs.Told.{Stands, the_view}
-
-pub set_draft : (ds : List Desk) (at : ℕ) (d : Desk) (draft : Draft) → d ≡ slice_index_or ds at d → set ds at (record d { draft = draft }) ≡ with_draft_at ds at draft
-set_draft [] at d draft e = refl
-set_draft (x ∷ ds) zero d draft e = ap (λ (z : Desk). record z { draft = draft } ∷ ds) e
-set_draft (x ∷ ds) (suc at) d draft e = ap (λ (z : List Desk). x ∷ z) (set_draft ds at d draft e)
 
 all_long : (slot : ℕ) (ds : List Desk) (at : ℕ) (draft : Draft) → All (λ (d : Desk). length d.buffer.items ≡ slot) ds → All (λ (d : Desk). length d.buffer.items ≡ slot) (with_draft_at ds at draft)
 all_long slot [] at draft h j d lt = h j d lt
@@ -30,8 +26,3 @@ module _ {C O : Type 0} (tells : Bool) (state : C → CellState) (offers : O →
     stands = subst (λ (seat : _). Stands (basis tells state offers s) (the_view seat.me.0)) (sym m.seat) own.stands;
     buffers = subst (λ (ds : List Desk). All (λ (d : Desk). length d.buffer.items ≡ (basis tells state offers s).slot) ds) (sym m.desks) (all_long _ p.desks t draft own.buffers);
   }
-
-pub as_many : (ds : List Desk) (at : ℕ) (draft : Draft) → length (with_draft_at ds at draft) ≡ length ds
-as_many [] at draft = refl
-as_many (d ∷ ds) zero draft = refl
-as_many (d ∷ ds) (suc at) draft = ap suc (as_many ds at draft)

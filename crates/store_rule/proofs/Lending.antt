@@ -2,22 +2,13 @@
 use Rattle.std.proofs.Common.{All, Bool, List, Option, Some, [], ap, arith, length, refl, set, sym, suc, zero, ◌≡◌, ◌∙◌, ◌∷◌, ℕ}
 use Rattle.std.specs.Prelude.{slice_get, unwrap_or}
 use Rattle.rock_disk.specs.Cell.{CellState}
-use Rattle.store_rule.specs.declared.store.Desk.{Desk}
+use Rattle.tab_states.specs.declared.desks.Desk.{Desk}
 use Rattle.store_rule.specs.declared.store.Pass.{Pass}
 use Rattle.store_rule.specs.declared.store.Store.{Store}
 use Rattle.store_rule.specs.Ground.{Offers}
-use Rattle.store_rule.specs.Lending.{buffer_at, with_buffer, with_buffer_at, with_bytes}
+use Rattle.store_rule.specs.Lending.{with_bytes}
+use Rattle.tab_states.specs.Desks.{buffer_at, with_buffer, with_buffer_at}
 use Rattle.store_rule.specs.Passes.{IsOf}
-
-pub set_buffer : (ds : List Desk) (at : ℕ) (d : Desk) (bytes : List ℕ) → slice_get ds at ≡ Some d → set ds at (with_buffer d bytes) ≡ with_buffer_at ds at bytes
-set_buffer [] at d bytes e = refl
-set_buffer (x ∷ ds) zero d bytes e = sym (ap (λ (z : Option Desk). with_buffer (unwrap_or z d) bytes ∷ ds) e)
-set_buffer (x ∷ ds) (suc at) d bytes e = ap (λ (z : List Desk). x ∷ z) (set_buffer ds at d bytes e)
-
-pub buffer_there : (ds : List Desk) (at : ℕ) (d : Desk) → slice_get ds at ≡ Some d → d.buffer.items ≡ buffer_at ds at
-buffer_there [] at d e = cc
-buffer_there (x ∷ ds) zero d e = sym (ap (λ (z : Option Desk). (unwrap_or z d).buffer.items) e)
-buffer_there (x ∷ ds) (suc at) d e = buffer_there ds at d e
 
 all_long : (slot : ℕ) (ds : List Desk) (at : ℕ) (bytes : List ℕ) → All (λ (d : Desk). length d.buffer.items ≡ slot) ds → All (λ (d : Desk). length d.buffer.items ≡ slot) (with_buffer_at ds at bytes)
 all_long slot [] at bytes h j d lt = h j d lt

@@ -8,7 +8,7 @@ use Rattle.rock_disk.specs.Cell.{CellState}
 use Rattle.core_model.specs.declared.view.View.{View}
 use Rattle.core_model.specs.Opening.{new_view}
 use Rattle.store_rule.specs.declared.opening.Hands.{Hands}
-use Rattle.store_rule.specs.declared.store.Desk.{Desk}
+use Rattle.tab_states.specs.declared.desks.Desk.{Desk}
 use Rattle.store_rule.specs.declared.store.Pass.{Pass}
 use Rattle.store_rule.specs.declared.store.Store.{Store}
 use Rattle.store_rule.specs.Ground.{Offers}

@@ -12,7 +12,7 @@ use Rattle.core_model.specs.Opening.{new_view}
 use Rattle.core_model.specs.Table.{answer}
 use Rattle.store_rule.specs.declared.store.Store.{Store}
 use Rattle.store_rule.specs.declared.store.Pass.{Pass}
-use Rattle.store_rule.specs.declared.store.Desk.{Desk}
+use Rattle.tab_states.specs.declared.desks.Desk.{Desk}
 use Rattle.store_rule.specs.declared.opening.Hands.{Hands}
 use Rattle.tab_states.specs.declared.tabs.At.{At}
 use Rattle.store_rule.specs.declared.store.Note.{Note}

@@ -22,11 +22,11 @@ mod turns;
 
 pub use buffers::lending_keeps_passes;
 pub use closing::new_passes_rest;
-pub use drafts::{Draft, drafts_keep_passes};
+pub use drafts::drafts_keep_passes;
 pub use opening::NoRoom;
 pub use pass_laws::{
     enterings_count_and_dooms_doom, epochs_are_fresh, runs_add_up, steps_leave_other_tabs,
     words_are_known,
 };
 pub use rule::{About, Origin};
-pub use store::{Desk, Note, Pass, Store};
+pub use store::{Note, Pass, Store};

@@ -1,7 +1,7 @@
 // The store at the opening.
 ghost use Rattle.std.specs.Prelude.{◌+◌, ◌*◌, ◌<◌, ◌≡◌, ◌∷◌, All, IfErr, IfOk, List, Some, [], length, map, replicate, vec_len, ℕ};
 ghost use Rattle.core_model.specs.declared.tab.Tab.TheVariants.{Free};
-ghost use Rattle.store_rule.specs.declared.store.Desk.{Desk};
+ghost use Rattle.tab_states.specs.declared.desks.Desk.{Desk};
 ghost use Rattle.tab_states.specs.declared.tabs.At.{At};
 ghost use Rattle.core_model.specs.Opening.{new_view, new_views};
 ghost use Rattle.db_layout.specs.declared.layout.TheConstants.{MOST_SLOTS};
@@ -10,11 +10,9 @@ ghost use Rattle.store_rule.specs.Told.{Stands, the_view};
 ghost use Rattle.store_rule.specs.Passes.{AreHands};
 ghost use Rattle.store_rule.specs.Rebuilding.{MayOpen, none_kept};
 
-use crate::buffers::Desks;
 use crate::cells::{from_places, to_places};
-use crate::drafts::NO_DRAFT;
 use crate::rule::{About, Off, Origin, Rule};
-use crate::store::{Desk, Pass, Store};
+use crate::store::{Pass, Store};
 use atomic_table::{Refused, Seat, Table};
 use core_model::{Row, View};
 use core_table::{Opening, opening_of};
@@ -23,7 +21,7 @@ use rock_disk::Cell;
 use rock_io::{Numbers, Octets};
 use std::alloc::{AllocError, Global};
 use std::snapshot::Snapshot;
-use tab_states::At;
+use tab_states::{At, Desk, Desks, NO_DRAFT};
 
 /// What a pass has at hand before it has a seat.
 #[derive(Drop)]
@@ -33,17 +31,12 @@ pub(crate) struct Hands {
     pub(crate) desks: Desks,
 }
 
-/// The longest URL that a script can name, in bytes.
-const URL_ROOM: usize = 2048;
-
 fn new_desk(alloc: Global, slot: u32) -> Result<Desk, AllocError>
     ensures { IfOk result (λ d. length d.buffer.items ≡ slot) }
 {
     let buffer = vec![in alloc; 0u8; slot as usize]?;
-    let url = Vec::with_capacity(alloc, URL_ROOM)?;
     Ok(Desk {
         buffer,
-        url,
         draft: NO_DRAFT,
     })
 }

@@ -4,15 +4,13 @@ ghost use Rattle.db_layout.specs.declared.layout.TheConstants.{MOST_SLOTS};
 ghost use Rattle.store_rule.specs.Told.{the_view};
 ghost use Rattle.tab_states.specs.Tabs.{tabs_at};
 
-use crate::buffers::Desks;
-use crate::drafts::Draft;
 use crate::rule::{About, Origin, Rule};
 use atomic_table::{Seat, Table};
 use core_model::{Row, View};
 use rock_disk::Cell;
 use rock_io::Octets;
 use std::alloc::Global;
-use tab_states::{At, FreeingAt, ReadingAt, WritingAt, anchor_at, held_at};
+use tab_states::{At, Desks, FreeingAt, ReadingAt, WritingAt, anchor_at, held_at};
 
 /// The shared store: the words of all anchors and slots, and the cells of the slots, each in its place.
 /// Workers share it by reference, and each steps on it with its own [`Pass`].
@@ -51,16 +49,6 @@ pub struct Pass<C> {
     ghost nine_left: { length left ≡ 9 },
     ghost nine_desks: { length desks ≡ 9 },
     ghost at_hand: { tabs ≡ tabs_at (the_view seat.me.0) },
-}
-
-/// What a tab works on.
-#[derive(Drop)]
-pub struct Desk {
-    /// As many bytes as a slot has.
-    pub(crate) buffer: Vec<u8>,
-    /// The URL of the entry that it reads, at most 2,048 bytes.
-    pub(crate) url: Vec<u8>,
-    pub(crate) draft: Draft,
 }
 
 /// What a pass has seen, and nothing else of it.

@@ -52,4 +52,4 @@ module _ {C O : Type 0} (tells : Bool) (state : C → CellState) (offers : O →
   reader_tab p q h = record { own = h.own; others = h.others; left = h.left; places = h.places; desks = λ j ne far. same_desk j; hand = h.hand; cells = h.cells }
     where
       same_desk : (j : ℕ) → Rattle.rock_reader.specs.Wanted.SameDesk p.desks q.desks j
-      same_desk j = (ap (λ d. Rattle.store_rule.specs.Lending.buffer_at d j) h.desks, ap (λ d. Rattle.store_rule.specs.Drafts.draft_at d j) h.desks)
+      same_desk j = (ap (λ d. Rattle.tab_states.specs.Desks.buffer_at d j) h.desks, ap (λ d. Rattle.tab_states.specs.Desks.draft_at d j) h.desks)

@@ -1,10 +1,12 @@
 //! What a pass of the shared store has at hand of its tabs: what each is at, and what it is at after each
-//! step of the pass.
+//! step of the pass. And what each tab works on: its buffer, and the draft of what it writes.
 #![tactic(auto)]
 
+mod desks;
 mod tab_slots;
 mod tabs;
 
+pub use desks::{Desk, Desks, Draft, NO_DRAFT};
 pub use tab_slots::{
     ended_at, followed_at, given_back_at, loaded_at, loosen_at, next_slot, published_at,
     reserved_at,

@@ -13,12 +13,11 @@ use Rattle.core_model.specs.declared.view.Item.{Item}
 use Rattle.core_model.specs.declared.view.Sight.{Sight}
 use Rattle.core_model.specs.declared.view.View.{View}
 use Rattle.line_account.specs.Courses.{Keeps as Knows}
-use Rattle.store_rule.specs.declared.store.Desk.{Desk}
+use Rattle.tab_states.specs.declared.desks.Desk.{Desk}
 use Rattle.store_rule.specs.declared.store.Pass.{Pass}
 use Rattle.store_rule.specs.declared.store.Store.{Store}
-use Rattle.store_rule.specs.Drafts.{draft_at}
+use Rattle.tab_states.specs.Desks.{buffer_at, draft_at}
 use Rattle.store_rule.specs.Ground.{Offers}
-use Rattle.store_rule.specs.Lending.{buffer_at}
 use Rattle.store_rule.specs.Notes.{sees}
 use Rattle.store_rule.specs.Passes.{Keeps, basis, hand, view}
 use Rattle.serve_lines.specs.Serving.{Takes}

@@ -1,5 +1,5 @@
 use Rattle.std.proofs.Common.{Err, List, Ok, Some, arith, length, subst, ◌<◌, ◌≡◌, ◌∙◌, ℕ}
-use Rattle.store_rule.specs.Lending.{buffer_at}
+use Rattle.tab_states.specs.Desks.{buffer_at}
 use Rattle.slice_chain.proofs.Writing.{buffer_long}
 use Rattle.rock_reader.proofs.Opened.{follows_as, follows_kept, opened_kept, reads_kept}
 use Rattle.store_key.specs.Anchor.{anchor_of}

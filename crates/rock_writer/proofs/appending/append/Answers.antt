@@ -1,7 +1,7 @@
 use Rattle.std.proofs.Common.{Err, [], ap, arith, eq-eqb, inl, inr, length, refl, subst, sym, ◌-◌, ◌≡◌, ◌≢◌, ◌∙◌}
 use Rattle.std.proofs.lemmas.Bool.{eqb-true, false≢true}
 use Rattle.entry_cut.specs.Content.{room_of}
-use Rattle.store_rule.specs.Drafts.{draft_at}
+use Rattle.tab_states.specs.Desks.{draft_at}
 use Rattle.store_rule.specs.Passes.{basis, view}
 use Rattle.rock_writer.specs.Flushing.{Flushed, IsAtLimit, NotFlushed}
 use Rattle.rock_writer.proofs.Following.{err_is, err_of, no_err, writing_desk, writing_halting, writing_on}

@@ -4,7 +4,7 @@ use Rattle.entry_cut.specs.Content.{room_of}
 use Rattle.slot_cell.specs.declared.header.TheConstants.{HEADER_SIZE}
 use Rattle.store_key.specs.Key.{key_of}
 use Rattle.store_rule.specs.declared.store.Pass.{Pass}
-use Rattle.store_rule.specs.Lending.{buffer_at}
+use Rattle.tab_states.specs.Desks.{buffer_at}
 use Rattle.store_rule.specs.Passes.{IsOf, basis}
 use Rattle.rock_writer.specs.Entries.{url_in}
 use Rattle.rock_writer.proofs.Desks.{buffer_long, drafted_buffer, drafted_draft, drafted_moves, lent_buffer, lent_moves, move_twice}

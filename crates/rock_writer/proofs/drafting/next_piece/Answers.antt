@@ -1,5 +1,5 @@
 use Rattle.std.proofs.Common.{ap, ◌∙◌}
-use Rattle.store_rule.specs.declared.drafts.Draft.{Draft}
+use Rattle.tab_states.specs.declared.desks.Draft.{Draft}
 use Rattle.rock_writer.proofs.Desks.{drafted_draft, drafted_moves}
 use Rattle.rock_writer.proofs.drafting.next_piece.Goals as goal
 

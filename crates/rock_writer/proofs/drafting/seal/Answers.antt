@@ -2,7 +2,7 @@ use Rattle.std.proofs.Common.{List, ap, arith, drop, length, refl, take, ◌∙�
 use Rattle.slot_cell.specs.Header.{slot_image}
 use Rattle.slot_cell.specs.declared.header.Header.{Header}
 use Rattle.slot_cell.specs.declared.header.TheConstants.{HEADER_SIZE}
-use Rattle.store_rule.specs.declared.drafts.Draft.{Draft}
+use Rattle.tab_states.specs.declared.desks.Draft.{Draft}
 use Rattle.store_rule.specs.Ground.{cut_of}
 use Rattle.store_rule.specs.Passes.{basis}
 use Rattle.rock_writer.proofs.Desks.{buffer_long, lent_buffer, lent_draft, lent_moves}

@@ -1,7 +1,7 @@
 use Rattle.std.proofs.Common.{List, ap, arith, drop, length, refl, subst, sym, take, ◌+◌, ◌∙◌, ℕ}
 use Rattle.slot_cell.specs.declared.header.TheConstants.{HEADER_SIZE}
 use Rattle.store_key.specs.Key.{key_of}
-use Rattle.store_rule.specs.declared.drafts.Draft.{Draft}
+use Rattle.tab_states.specs.declared.desks.Draft.{Draft}
 use Rattle.store_rule.specs.declared.store.Pass.{Pass}
 use Rattle.store_rule.specs.Passes.{IsOf, basis}
 use Rattle.rock_writer.specs.Entries.{url_in}

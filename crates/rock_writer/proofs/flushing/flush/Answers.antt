@@ -1,10 +1,10 @@
 use Rattle.std.proofs.Common.{List, Some, ap, arith, refl, subst, sym, ◌∙◌}
 use Rattle.core_model.specs.Tabs.{tab_at}
 use Rattle.store_key.specs.Key.{key_of}
-use Rattle.store_rule.specs.declared.drafts.Draft.{Draft}
+use Rattle.tab_states.specs.declared.desks.Draft.{Draft}
 use Rattle.tab_states.specs.declared.tabs.WritingAt.{WritingAt}
-use Rattle.store_rule.specs.declared.store.Desk.{Desk}
-use Rattle.store_rule.specs.Drafts.{draft_at}
+use Rattle.tab_states.specs.declared.desks.Desk.{Desk}
+use Rattle.tab_states.specs.Desks.{draft_at}
 use Rattle.store_rule.specs.Passes.{basis, view}
 use Rattle.rock_writer.specs.Entries.{url_in, writer_as}
 use Rattle.rock_writer.specs.Flushing.{HasBoth, WrotePiece}

@@ -1,6 +1,6 @@
 use Rattle.std.proofs.Common.{ap, refl, subst, sym, true, ◌<◌, ◌∙◌, ℕ}
 use Rattle.core_model.specs.Tabs.{tab_at}
-use Rattle.store_rule.specs.Lending.{buffer_at}
+use Rattle.tab_states.specs.Desks.{buffer_at}
 use Rattle.store_rule.specs.Passes.{basis, view}
 use Rattle.tab_states.specs.declared.tabs.WritingAt.{WritingAt}
 use Rattle.slice_chain.specs.Links.{MayPublishSlot}

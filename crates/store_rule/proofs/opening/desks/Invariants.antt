@@ -1,5 +1,5 @@
 use Rattle.std.specs.Prelude.{◌≡◌, ◌≤◌, All, length, vec_len}
-use Rattle.store_rule.specs.declared.store.Desk.{Desk}
+use Rattle.tab_states.specs.declared.desks.Desk.{Desk}
 use Rattle.store_rule.proofs.opening.desks.Given as goal
 
 abbrev pub invariant-loop-tab : goal.invariant-loop-tab

@@ -1,5 +1,5 @@
 use Rattle.std.proofs.Common.{◌∙◌}
-use Rattle.store_rule.specs.Lending.{as_many}
+use Rattle.tab_states.specs.Desks.{as_many}
 use Rattle.store_rule.proofs.store.Pass.buffer_mut.Goals as goal
 
 pub invariant_of-self-lent : goal.invariant_of-self-lent

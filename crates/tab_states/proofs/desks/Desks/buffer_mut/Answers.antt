@@ -1,6 +1,6 @@
 use Rattle.std.proofs.Common.{refl, ◌∙◌}
-use Rattle.store_rule.proofs.Lending.{buffer_there, set_buffer}
-use Rattle.store_rule.proofs.buffers.Desks.buffer_mut.Goals as goal
+use Rattle.tab_states.proofs.AtDesks.{buffer_there, set_buffer}
+use Rattle.tab_states.proofs.desks.Desks.buffer_mut.Goals as goal
 
 pub returns : goal.returns
 returns c = let d = c.desk_mut-desk in (
