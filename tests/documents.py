@@ -4,7 +4,7 @@
 The layers in README.md, its table, and the levels and the table of docs/CRATES.md have each crate of crates.txt once,
 and no other. A crate stands on crates of its own layer and of those below it, and of lower levels alone. README.md
 tells rightly which crates the program does without, and how many it takes. The way of a line names crates alone.
-docs/OPERATING.md has each line that the program says on standard error, with its code, and no other; a test of rock_main
+docs/OPERATING.md has each line that the program says on standard error, with its code, and no other; a test of help_tests
 and a row of tests/real_files.sh have each too. docs/FORMATS.md and docs/rock.1 have the codes. This reads files alone,
 and stands outside the gate. Its status is 0 where all is so.
 """
@@ -99,15 +99,15 @@ def spelled(sentence):
 
 
 def arms(function, front):
-    """The arms of a function of rock_main that tells sentences: the word behind what stands in front of each, and the
+    """The arms of a function of rock_help that tells sentences: the word behind what stands in front of each, and the
     sentences, of which an arm may have two."""
-    source = re.search(rf"(?s)\nfn {function}\(.*?\n}}\n", read("crates/rock_main/src/message.rt")).group()
+    source = re.search(rf"(?s)\nfn {function}\(.*?\n}}\n", read("crates/rock_help/src/message.rt")).group()
     found = re.split(rf"\n        {front}(?=\w)", source)[1:]
     return [(re.match(r"\w+", arm).group(), re.findall(r'"([^"\n]+)"', arm)) for arm in found]
 
 
 def sentences():
-    """The sentences of rock_main: the status, its field or none, and the sentence."""
+    """The sentences of rock_help: the status, its field or none, and the sentence."""
     told = [(name, None, text) for name, texts in arms("explanation", "Status::") for text in texts]
     fields = arms("outside_limits", "")
     # The slot size has the field that is left, and nothing is said where all was done.
@@ -135,13 +135,13 @@ def unfolded(text):
 
 
 def messages():
-    """The lines on standard error, by the sentences of rock_main, stand in docs/OPERATING.md with their codes, and no
-    others. A test of rock_main and a row of tests/real_files.sh have each line too."""
-    told, tests = read("docs/OPERATING.md"), read("crates/rock_main/src/tests.rt")
+    """The lines on standard error, by the sentences of rock_help, stand in docs/OPERATING.md with their codes, and no
+    others. A test of help_tests and a row of tests/real_files.sh have each line too."""
+    told, tests = read("docs/OPERATING.md"), read("crates/help_tests/src/lines.rt")
     rows = unfolded(read("tests/real_files.sh"))
     lines = sentences()
     codes, texts = statuses()
-    causes = re.findall(r'(?m)^ +(\d|_) => "([^"\n]+)"', read("crates/rock_main/src/message.rt"))
+    causes = re.findall(r'(?m)^ +(\d|_) => "([^"\n]+)"', read("crates/rock_help/src/message.rt"))
     holds("the sentences are found", len(lines) == 14 and len(causes) == 9)
     holds("the statuses are found", len(codes) == 11 and set(codes) == set(texts))
     holds("each status has a sentence", {name for name, _, _ in lines} == set(codes) - {"Done"})
@@ -154,14 +154,14 @@ def messages():
         seen = form.replace("[A-Z]+", r"(?:\$\(.*?\)|[^ ])+")
         holds(f"tests/real_files.sh has the line: {status}: {sentence}", re.search(seen, rows))
         read_form = form.replace("[A-Z]+", '[^"\n]+')
-        holds(f"a test of rock_main reads: {status}: {sentence}", re.search(f'(?m); {read_form}(";)?$', tests))
+        holds(f"a test of help_tests reads: {status}: {sentence}", re.search(f'(?m); {read_form}(";)?$', tests))
     wrong, behind = next(sentence for status, _, sentence in lines if status == "BadScript").split("{}")
     for cause, sentence in causes:
         number = cause.replace("_", "9")
         holds(f"docs/OPERATING.md has cause {number}", f"\n| {number} | `{sentence}` |" in told)
         front = spelled(f"rock: BadScript line={{line}} cause={number}: {wrong}").replace("[A-Z]+", r"\d+")
         whole = f'(?m); {front}{re.escape(sentence + behind)}(";)?$'
-        holds(f"a test of rock_main reads cause {number}", re.search(whole, tests))
+        holds(f"a test of help_tests reads cause {number}", re.search(whole, tests))
         holds(f"tests/real_files.sh has cause {number}", re.search(rf"(?m)^bad \d+ {number} ", rows))
     named = re.findall(r"(?m)^\| (\d+) \| ([A-Z]\w+(?:, [A-Z]\w+)*) \|", read("docs/FORMATS.md"))
     pairs = {name: code for code, names in named for name in names.split(", ")}

@@ -1,10 +1,9 @@
 -- A file whose cells are out, as a caller needs it.
-use Rattle.std.proofs.Common.{◌≡◌, inr, ◌+◌, ◌++◌, [], ◌∷◌, ℕ, zero, suc, List, length, map, take, arith, Bool, cond, true, false, refl, ap, sym, ◌∙◌, subst, Some}
+use Rattle.std.proofs.Common.{◌≡◌, inr, ◌+◌, ◌++◌, [], ◌∷◌, ℕ, zero, suc, List, length, map, arith, Bool, cond, true, false, refl, ap, sym, ◌∙◌, Some}
 use Rattle.std.specs.Prelude.{All, Option}
 use Rattle.std.proofs.lemmas.Slice.Eq.{bytes_eq-Decides}
 use Rattle.std.proofs.lemmas.Map.Text.{is_eq-slice_cmp}
-use Rattle.std.proofs.lemmas.List.{length-map, take-append-le}
-use Rattle.std.proofs.Math.Seq.{take-length}
+use Rattle.std.proofs.lemmas.List.{length-map}
 use Rattle.std.specs.Ordering.{nat_cmp, eq_by_cmp}
 use Rattle.std.specs.Cmp.Lexicographic.{slice_cmp}
 use Rattle.std.proofs.lemmas.Cmp.{nat_list_cmp_total, eq_by_cmp_equiv}
@@ -105,11 +104,6 @@ out_when_shaped {before = before} {name = name} {slot = slot} {bytes = bytes} {c
       cell_shapes = self_shaped cells_now (slots_of bytes slot) slot shapes;
     }
 
-pub out_when_opened : {before after now : Files} {name : List ℕ} {slot bytes : ℕ} {header header_now : CellState} {cells cells_now : List CellState}
-    → HasShape slot bytes header cells → IsOpened before after name slot bytes header cells → now ≡ after → header_now ≡ header → cells_now ≡ cells → IsOut now name header_now cells_now
-out_when_opened {name = name} {header_now = header_now} {cells_now = cells_now} s o files h c =
-    subst (λ f. IsOut f name header_now cells_now) (sym files) (out_when_shaped s o (ap shape h) (ap (map shape) c))
-
 -- an opened file that gets its cells back as they are is as opening cuts it
 pub kept_when_back : {before after final : Files} {name : List ℕ} {slot bytes : ℕ} {header : CellState} {cells : List CellState} → IsOpened before after name slot bytes header cells
     → ((slots slot : ℕ) (rest : List ℕ) → get after name ≡ Some (Away slots slot rest) → final ≡ insert after name (Home header cells rest)) → IsKept slot name before final
@@ -124,7 +118,3 @@ kept_when_back {before = before} {after = after} {final = final} {name = name} {
           ∙ (inserted_twice before name (Home header cells rest) away
           ∙ (ap (λ x. insert before name (Home x cells rest)) o.header_is ∙ ap (λ x. insert before name (Home (header_cut (bytes_of o.was)) x rest)) o.cells_are))),
     )
-
--- a slice that a call has filled is the whole of the buffer
-pub filled : {A : Type 0} (new old : List A) (n : ℕ) → length new ≡ n → take n (new ++ old) ≡ new
-filled new old n e = take-append-le n new old (omega arith) ∙ (ap (λ k. take k new) (sym e) ∙ take-length new)

@@ -5,8 +5,6 @@ mod cutting;
 mod entry;
 mod file;
 mod station;
-#[cfg(test)]
-mod tests;
 mod volume;
 
 pub use cell::MemCell;

@@ -11,11 +11,18 @@ use std::alloc::Global;
 #[derive(Debug, Drop)]
 pub struct FileCell {
     number: u32,
-    pub(crate) width: u32,
+    width: u32,
 }
 
 impl FileCell {
     ghost use Rattle.rock_file.specs.Cell.{cell_state};
+
+    /// How many bytes it has.
+    pub fn width(&self) -> u32
+        ensures { result ≡ (cell_state self.now).width }
+    {
+        self.width
+    }
 
     pub(crate) fn header() -> FileCell
         ensures { shape (cell_state result) ≡ (HEADER_NUMBER, HEADER_BYTES) }

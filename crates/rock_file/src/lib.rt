@@ -8,8 +8,6 @@
 mod cell;
 mod opening;
 mod station;
-#[cfg(test)]
-mod tests;
 mod volume;
 
 pub use cell::FileCell;

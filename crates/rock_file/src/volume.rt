@@ -20,8 +20,8 @@ use std::rt::Files;
 #[derive(Drop)]
 pub struct FileVolume<R> {
     rt: R,
-    pub(crate) faults: u64,
-    pub(crate) stations: Stations,
+    faults: u64,
+    stations: Stations,
 }
 
 impl<R: Files + Drop> FileVolume<R> {
@@ -38,6 +38,20 @@ impl<R: Files + Drop> FileVolume<R> {
             faults: 0,
             stations: Stations::new(alloc),
         }
+    }
+
+    /// How many of its calls have failed.
+    pub fn faults(&self) -> u64
+        ensures { result ≡ volume_faults self.now }
+    {
+        self.faults
+    }
+
+    /// The counts of faults with which stations were ended, in that order.
+    pub fn ended(&self) -> &[u64]
+        ensures { result.now ≡ volume_ended self.now }
+    {
+        self.stations.ended()
     }
 
     fn count_fault(&mut self)

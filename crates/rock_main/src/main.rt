@@ -4,12 +4,10 @@
 //! files of the system. A run that does not end well says so in one line on standard error.
 #![tactic(auto)]
 
-mod message;
 mod run;
 
-use message::Asked;
 use rock_file::FileVolume;
-use rock_help::help_text;
+use rock_help::{Asked, help_text};
 use rock_io::{StdSink, StdSource, Words};
 use rock_status::Status;
 use run::{end, run};
@@ -68,6 +66,3 @@ fn print_text<R: Print + Eprint + AllocGlobal>(rt: &R, text: &str) -> ExitCode {
         Err(_) => end(rt, rt.alloc(), &Status::SinkFault, &Asked::NOTHING),
     }
 }
-
-#[cfg(test)]
-mod tests;

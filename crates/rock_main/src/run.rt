@@ -20,10 +20,9 @@ ghost use Rattle.bench_command.specs.Ends.{BenchEnds, BenchSays, IsBenchRefused}
 ghost use Rattle.bench_command.specs.Leaves.{BenchLeaves};
 ghost use Rattle.bench_command.specs.Prints.{IsBenchText};
 
-use crate::message::{Asked, line_of};
 use rock_commands::rock;
 use rock_disk::Volume;
-use rock_help::help_text;
+use rock_help::{Asked, help_text, line_of};
 use rock_io::{Sink, Source, Words};
 use rock_status::Status;
 use std::alloc::{AllocError, Global};

@@ -53,33 +53,3 @@ fn put(out: &mut [u8], at: usize, part: &[u8]) -> usize
     out[at..end].copy_from_slice(part);
     end
 }
-
-#[cfg(test)]
-mod tests {
-    use super::*;
-    use crate::reading::{Meta, read_meta};
-
-    // The key of http://a/b.
-    const OBJECT: [u8; 16] = [
-        0x1a, 0x68, 0xc1, 0x0d, 0x6c, 0x8b, 0x32, 0x66, 0x57, 0xc7, 0x75, 0xf5, 0x3c, 0x86, 0x6d,
-        0xd1,
-    ];
-
-    const WRITTEN: &[u8] =
-        b"\x03\x2a\0\0\0\x03\x10\0\0\0\x1a\x68\xc1\x0d\x6c\x8b\x32\x66\x57\xc7\x75\xf5\x3c\x86\x6d\xd1\x04\x0b\0\0\0http://a/b\0";
-
-    #[test]
-    fn metadata_is_written_and_read_with_bytes_behind(rt: HostRuntime) {
-        let mut out = [0xaa; 47];
-        let end = write_meta(&OBJECT, b"http://a/b", &mut out);
-        assert_eq!(rt; end, 42);
-        assert_eq!(rt; &out[..42], WRITTEN);
-        assert_eq!(rt; &out[42..], &[0xaa; 5][..]);
-        let meta = Meta {
-            key: OBJECT,
-            url: b"http://a/b",
-            length: 42,
-        };
-        assert_eq!(rt; read_meta(&out), Ok(meta));
-    }
-}

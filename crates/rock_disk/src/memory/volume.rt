@@ -74,6 +74,13 @@ impl MemVolume {
         self.entries[place].file.cells()
     }
 
+    /// The counts of faults with which stations were ended, in that order.
+    pub fn ended(&self) -> &[u64]
+        ensures { result.now ≡ volume_ended self.now }
+    {
+        self.stations.ended()
+    }
+
     /// A copy of the list for the next station.
     fn next_list(&self) -> Result<Vec<u64>, Memory>
         ensures { IfOk result (λ fail. fail.items ≡ get_or (volume_lists self.now) (volume_made self.now) []) }

@@ -1,7 +1,7 @@
-// The line that is said of each status on standard error, and the help text.
-use crate::message::{Asked, line_of};
-use rock_help::help_text;
+// The line that is said of each status on standard error.
+use rock_help::{Asked, line_of};
 use rock_status::Status;
+use std::alloc::Global;
 use std::test::Fail;
 
 /// Each status, with all its fields and causes: its name and its numbers, the words that were asked, and the whole line. That
@@ -31,31 +31,44 @@ BadGeometry 4; command; rock: BadGeometry field=4: the number of slots 7 is not 
 BadGeometry 4; bench; rock: BadGeometry field=4: the number of rounds 10001 is above 10000; take fewer rounds
 Exists; command; rock: Exists: there is a file db already; choose another name, Rock writes over no file";
 
+/// The statuses that have no numbers.
+const PLAIN: [Status; 8] = [
+    Status::Done,
+    Status::Usage,
+    Status::Memory,
+    Status::SourceFault,
+    Status::SinkFault,
+    Status::DeviceFault,
+    Status::Missing,
+    Status::Exists,
+];
+
 /// A status by its name and its numbers.
-fn status_of(text: &str) -> Result<Status, Fail> {
-    let (name, numbers) = text.split_once(" ").unwrap_or((text, ""));
+fn status_of(alloc: Global, text: &str) -> Result<Status, Fail> {
+    for status in PLAIN {
+        if format!(in alloc; "{status}")?.as_str() == text {
+            return Ok(status);
+        }
+    }
+    status_with_numbers(text)
+}
+
+fn status_with_numbers(text: &str) -> Result<Status, Fail> {
+    let (name, numbers) = text.split_once(' ').ok_or("a name and numbers")?;
     match name {
-        "Done" => Ok(Status::Done),
-        "Usage" => Ok(Status::Usage),
-        "Memory" => Ok(Status::Memory),
-        "SourceFault" => Ok(Status::SourceFault),
-        "SinkFault" => Ok(Status::SinkFault),
-        "DeviceFault" => Ok(Status::DeviceFault),
         "BadScript" => {
-            let (line, cause) = numbers.split_once(" ").ok_or("a line and a cause")?;
+            let (line, cause) = numbers.split_once(' ').ok_or("a line and a cause")?;
             Ok(Status::BadScript {
                 line: line.parse()?,
                 cause: cause.parse()?,
             })
         }
-        "Missing" => Ok(Status::Missing),
         "Small" => Ok(Status::Small {
             bytes: numbers.parse()?,
         }),
         "BadGeometry" => Ok(Status::BadGeometry {
             field: numbers.parse()?,
         }),
-        "Exists" => Ok(Status::Exists),
         _ => Err(Fail::from("no such status")),
     }
 }
@@ -83,77 +96,13 @@ fn asked_of(text: &str) -> Result<Asked<'static>, Fail> {
 
 #[test]
 fn each_status_is_told_in_one_line(rt: HostRuntime) -> Result<(), Fail> {
+    let alloc = rt.alloc();
+    assert_eq!(rt; LINES.lines().count(), 23);
     for row in LINES.lines() {
         let (status, rest) = row.split_once("; ").ok_or("a row has words")?;
         let (asked, line) = rest.split_once("; ").ok_or("a row has a line")?;
-        let told = line_of(rt.alloc(), &status_of(status)?, &asked_of(asked)?)?;
-        assert_eq!(rt; told.as_str(), line);
-    }
-    assert_eq!(rt; LINES.lines().count(), 23);
-    Ok(())
-}
-
-/// What `--help` prints.
-const HELP: &str = "\
-The store of a caching proxy in one database file
-
-Usage: rock create <NAME> <SLOT> <SLOTS>
-       rock list <NAME> <SLOT>
-       rock check <NAME> <SLOT> <ANCHORS>
-       rock run <NAME> <SLOT> <ANCHORS> <WORKERS>
-       rock bench <NAME> <SEED> <WORKERS> <COUNT>
-
-Commands:
-  create  Make a file of empty slots
-  list    Print a line for each complete entry of a file
-  check   Print one line on what a store keeps of a file
-  run     Serve a script from standard input on a file, and print its answers
-  bench   Serve a made script on a new file, and count its answers in one line
-
-Arguments:
-  <NAME>     The file; its name does not begin with -
-  <SLOT>     The bytes of a slot: a multiple of 512 from 512 to 32768
-  <SLOTS>    The slots of a new file, from 1 to 1048576
-  <ANCHORS>  The anchors of a store, from 1 to the slots of the file
-  <WORKERS>  The workers of the script, each with a thread, from 1 to 32
-  <SEED>     The number that the script of a benchmark is made from
-  <COUNT>    The rounds of a benchmark, at most 10000
-
-Options:
-      --help     Print this text
-      --version  Print the version
-
-Example:
-  rock create cache.db 16384 4096
-  rock list cache.db 16384
-  rock check cache.db 16384 1024
-  rock run cache.db 16384 1024 1 < script
-  rock bench bench.db 7 1 10000
-
-Output:
-  list   ENTRY first-slot version slots body-bytes URL
-  check  slots=S kept=K used=U free=F version=G
-  run    worker line answer, for each line of the script
-  bench  bench requests=R hits=H misses=M stored=T purged=P none=N other=O
-         bytes=B, in one line
-
-A number is decimal, without a sign or a leading zero. A command that does not
-end well says why in one line on standard error. Exit status:
-  0 done                    6 the disk failed
-  2 no command line         7 the script has a bad line
-  3 out of memory           8 no such file, or a wrong size or number
-  4 standard input failed   9 there is a file of that name already
-  5 standard output failed
-";
-
-#[test]
-fn the_help_is_plain_text_of_80_columns(rt: HostRuntime) -> Result<(), Fail> {
-    let text = help_text(rt.alloc())?;
-    assert!(rt; text.as_str() == HELP, "{text}");
-    for line in text.lines() {
-        // A terminal's escapes are control characters.
-        let is_plain = line.bytes().all(|byte| (32..=126).contains(&byte));
-        assert!(rt; line.len() <= 80 && is_plain, "{line}");
+        let told = line_of(alloc, &status_of(alloc, status)?, &asked_of(asked)?)?;
+        assert!(rt; told.as_str() == line, "{row}");
     }
     Ok(())
 }

@@ -1,7 +1,7 @@
 use Rattle.std.proofs.Common.{◌∙◌}
 use Rattle.std.proofs.Math.Seq.{map-set_same}
 use Rattle.rock_disk.specs.Memory.{cell_state}
-use Rattle.rock_disk.proofs.memory.tests.read_cells.Goals as goal
+use Rattle.disk_tests.proofs.volumes.read_cells.Goals as goal
 
 pub returns-in_err-ok-2 : goal.returns-in_err-ok-2
 returns-in_err-ok-2 c =

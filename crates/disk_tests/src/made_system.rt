@@ -1,9 +1,10 @@
 // A made system, in place of the machine's, shows what is asked of a system.
 ghost use Rattle.std.specs.Prelude.{IsErr};
 
-use crate::{FileCell, FileStation, FileVolume};
-use rock_disk::{CreateFault, Opened, Station, Volume};
-use std::alloc::{Allocator, Global};
+use crate::rows::three_fields;
+use rock_disk::{Cell, Opened, Station, Volume};
+use rock_file::{FileCell, FileStation, FileVolume};
+use std::alloc::{AllocError, Allocator, Global};
 use std::fs::{Metadata, OpenFile, OpenOptions};
 use std::io;
 use std::io::{ErrorKind, Read, Seek, SeekFrom, Write};
@@ -169,69 +170,84 @@ impl Files for Made {
     }
 }
 
+// The name of a new file and how many slots of 1,024 bytes it is to have, what the call answers, and how many calls have failed
+// by then. Cut to 32 bits the length of the fourth would be that of 3 slots.
+const CREATED: &str = "\
+new;3;Ok(()) 0
+new and loose;3;Err(Failed) 1
+new;4;Err(Failed) 2
+new;4194307;Err(Failed) 3
+old;3;Err(Exists) 3";
+
 #[test]
-fn a_file_is_made_once_it_is_synced(rt: HostRuntime) {
+fn a_file_is_made_once_it_is_synced(rt: HostRuntime) -> Result<(), Fail> {
     let mut volume = FileVolume::new(Made, rt.alloc());
-    for (name, slots, made, faults) in [
-        ("new", 3, Ok(()), 0),
-        ("new and loose", 3, Err(CreateFault::Failed), 1),
-        ("new", 4, Err(CreateFault::Failed), 2),
-        // cut to 32 bits the length would be that of 3 slots
-        ("new", 4_194_307, Err(CreateFault::Failed), 3),
-        ("old", 3, Err(CreateFault::Exists), 3),
-    ] {
-        assert_eq!(rt; volume.create(name, slots, 1024), made, "{name} {slots}");
-        assert_eq!(rt; volume.faults, faults, "{name} {slots}");
+    assert_eq!(rt; CREATED.lines().count(), 5);
+    for row in CREATED.lines() {
+        let (name, slots, wanted) = three_fields(row)?;
+        let answer = volume.create(name, slots.parse()?, 1024);
+        let faults = volume.faults();
+        let told = format!(in rt.alloc(); "{answer:?} {faults}")?;
+        assert!(rt; told.as_str() == wanted, "{row}");
     }
+    Ok(())
 }
 
-/// What came of a read, a write and a sync of one slot.
-#[derive(Debug, Drop)]
-struct Tried {
-    /// What was read, if the read succeeded.
-    read: Option<Vec<u8>>,
-    is_written: bool,
-    is_synced: bool,
+/// Whether these are the bytes of a slot that begins there.
+fn is_at(bytes: &[u8], offset: u64) -> bool {
+    let mut at = offset;
+    for byte in bytes {
+        if u64::from(*byte) != at % 253 {
+            return false;
+        }
+        at = at.wrapping_add(1);
+    }
+    bytes.len() == 32_768
 }
 
-fn try_slot(
+/// Reads, writes and syncs a slot. Whether its bytes are read, from its place, it is written and it is synced.
+fn tried(
     alloc: Global,
     station: &mut FileStation<MadeFile>,
     cell: &mut FileCell,
-) -> Option<Tried> {
+) -> Result<String, AllocError> {
     let mut buf = Vec::new(alloc);
-    buf.resize(cell.width as usize, 0).ok()?;
-    let is_read = station.read(cell, &mut buf).is_ok();
+    buf.resize(cell.width() as usize, 0)?;
+    let offset = 16_384 + 32_768 * u64::from(cell.number());
+    let is_read = station.read(cell, &mut buf).is_ok() && is_at(&buf, offset);
     let is_written = station.write(cell, &buf).is_ok();
     let is_synced = station.sync(cell).is_ok();
-    Some(Tried {
-        read: if is_read { Some(buf) } else { None },
-        is_written,
-        is_synced,
-    })
+    format!(in alloc; "{is_read} {is_written} {is_synced}")
 }
 
 /// Tries the slot of this number of the greatest file, by a station of its own.
-fn try_by_station(
+fn tried_by_station(
     volume: &mut FileVolume<Made>,
     alloc: Global,
     name: &str,
-    number: u32,
-) -> Result<Option<Tried>, Fail> {
+    number: usize,
+) -> Result<String, Fail> {
     let Opened {
         header,
         mut cells,
         bytes: _,
     } = volume.open_file(alloc, name, 32_768)?;
     let mut station = volume.station(name)?;
-    let answer = match cells.get_mut(number as usize) {
-        Some(cell) => try_slot(alloc, &mut station, cell),
-        None => None,
+    let told = match cells.get_mut(number) {
+        Some(cell) => tried(alloc, &mut station, cell),
+        None => String::from_str(alloc, "no slot"),
     };
     volume.end_station(station);
     volume.give_back(name, header, cells);
-    Ok(answer)
+    Ok(told?)
 }
+
+// The name of a file, the number of a slot, and whether its bytes are read, from its place, it is written and it is synced.
+const TRIED: &str = "\
+loose;1048575;true false false
+loose;1048574;true true false
+firm;0;true true true
+locked;1048575;true false true";
 
 #[test]
 fn the_last_slot_of_the_greatest_file_is_reached(rt: HostRuntime) -> Result<(), Fail> {
@@ -242,27 +258,13 @@ fn the_last_slot_of_the_greatest_file_is_reached(rt: HostRuntime) -> Result<(), 
         cells,
         bytes,
     } = volume.open_file(alloc, "loose", 32_768)?;
-    assert_eq!(rt; (bytes, cells.len()), (LENGTH, 1_048_576));
-    for (name, number, is_written, is_synced) in [
-        ("loose", 1_048_575, false, false),
-        ("loose", 1_048_574, true, false),
-        ("firm", 0, true, true),
-        ("locked", 1_048_575, false, true),
-    ] {
-        let tried = try_by_station(&mut volume, alloc, name, number)?.ok_or("no slot")?;
-        assert_eq!(rt; tried.is_written, is_written, "{name} {number}");
-        assert_eq!(rt; tried.is_synced, is_synced, "{name} {number}");
-        let offset = 16_384 + 32_768 * u64::from(number);
-        let read = tried.read.ok_or("a read failed")?;
-        assert_eq!(rt; read.len(), 32_768);
-        for (i, byte) in read.iter().enumerate() {
-            assert_eq!(rt;
-                u64::from(*byte),
-                offset.wrapping_add(i as u64) % 253,
-                "{name} {number}"
-            );
-        }
+    assert!(rt; bytes == LENGTH && cells.len() == 1_048_576);
+    assert_eq!(rt; TRIED.lines().count(), 4);
+    for row in TRIED.lines() {
+        let (name, number, wanted) = three_fields(row)?;
+        let told = tried_by_station(&mut volume, alloc, name, number.parse()?)?;
+        assert!(rt; told.as_str() == wanted, "{row}");
     }
-    assert_eq!(rt; volume.stations.ended(), [2, 1, 0, 1].as_slice());
+    assert!(rt; volume.ended() == [2, 1, 0, 1].as_slice());
     Ok(())
 }
