@@ -9,7 +9,7 @@ use store_key::{anchor_of, key_of};
 /// - `KEY(url)` is the key of a URL, and `MADE(i,n)` are the n bytes from place i of the body `#1300:0`, of which each
 ///   byte is the letter after that of the byte before it, and `a` is the first and comes after `z`. Both are written in
 ///   hexadecimal.
-pub(super) fn push_text(
+pub fn push_text(
     alloc: Global,
     out: &mut Vec<u8>,
     text: &str,
@@ -27,31 +27,28 @@ pub(super) fn push_text(
 }
 
 fn push_word(alloc: Global, out: &mut Vec<u8>, word: &str, anchors: u32) -> Result<(), AllocError> {
-    if let Some(url) = within(word, "KEY(") {
-        let mut named = Vec::new(alloc);
-        push_url(alloc, &mut named, url, anchors)?;
-        return push_hex(alloc, out, &key_of(&named));
+    let (name, inside) = named(word).unwrap_or(("", word));
+    match name {
+        "KEY" => push_key(alloc, out, inside, anchors),
+        "MADE" => push_made(alloc, out, inside),
+        "URL" => push_many(out, b'a', inside),
+        "ONES" => push_many(out, b'1', inside),
+        _ => push_url(alloc, out, word, anchors),
     }
-    if let Some((from, count)) = within(word, "MADE(").and_then(|made| made.split_once(',')) {
-        return push_made(
-            alloc,
-            out,
-            from.parse().unwrap_or(0),
-            count.parse().unwrap_or(0),
-        );
-    }
-    push_url(alloc, out, word, anchors)
+}
+
+/// Adds the key of a URL.
+fn push_key(alloc: Global, out: &mut Vec<u8>, url: &str, anchors: u32) -> Result<(), AllocError> {
+    let mut named = Vec::new(alloc);
+    push_url(alloc, &mut named, url, anchors)?;
+    push_hex(alloc, out, &key_of(&named))
 }
 
 /// Adds the URL of this name, or the word itself where it is none.
 fn push_url(alloc: Global, out: &mut Vec<u8>, word: &str, anchors: u32) -> Result<(), AllocError> {
-    if let Some(anchor) = anchor_named(word) {
-        return push_url_at(alloc, out, anchor, anchors);
-    }
-    match (within(word, "URL("), within(word, "ONES(")) {
-        (Some(length), _) => push_many(out, b'a', length),
-        (None, Some(length)) => push_many(out, b'1', length),
-        (None, None) => out.extend_from_slice(word.as_bytes()),
+    match anchor_named(word) {
+        Some(anchor) => push_url_at(alloc, out, anchor, anchors),
+        None => out.extend_from_slice(word.as_bytes()),
     }
 }
 
@@ -65,9 +62,15 @@ fn anchor_named(word: &str) -> Option<u32> {
     word.strip_prefix('u')?.parse().ok()
 }
 
-/// What stands in brackets behind a name.
-fn within<'a>(word: &'a str, name: &str) -> Option<&'a str> {
-    word.strip_prefix(name)?.strip_suffix(')')
+/// A name, and what stands in brackets behind it.
+fn named(word: &str) -> Option<(&str, &str)> {
+    let (name, rest) = word.split_once('(')?;
+    let (inside, behind) = rest.split_once(')')?;
+    if behind.is_empty() {
+        Some((name, inside))
+    } else {
+        None
+    }
 }
 
 /// Adds the first of `http://a/00`, `http://a/01` and so on with this anchor.
@@ -93,10 +96,13 @@ fn push_hex(alloc: Global, out: &mut Vec<u8>, bytes: &[u8]) -> Result<(), AllocE
     Ok(())
 }
 
-fn push_made(alloc: Global, out: &mut Vec<u8>, from: u32, count: u32) -> Result<(), AllocError> {
+/// Adds the bytes of a body from a place on. Both numbers stand with a comma between them.
+fn push_made(alloc: Global, out: &mut Vec<u8>, numbers: &str) -> Result<(), AllocError> {
+    let (from, count) = numbers.split_once(',').unwrap_or((numbers, ""));
+    let from: u32 = from.parse().unwrap_or(0);
+    let count: u32 = count.parse().unwrap_or(0);
     for i in from..from.saturating_add(count) {
-        let letter = b'a' + (i % 26) as u8;
-        push_hex(alloc, out, &[letter])?;
+        push_hex(alloc, out, &[b'a' + (i % 26) as u8])?;
     }
     Ok(())
 }

@@ -1,17 +1,34 @@
-// Many workers at once. What each is answered depends on the others, and is judged by rules.
+// The lines of a script of many workers.
 ghost use Rattle.std.specs.Prelude.{◌<◌};
 
-use super::calls::{Pipes, call};
-use super::rules::{Asked, Kind, body_of, judge};
-use rock_disk::MemVolume;
-use rock_status::Status;
 use std::alloc::{AllocError, Global};
-use std::process::Abort;
-use std::sync::Wait;
-use std::test::Fail;
-use std::thread::Threads;
 
-const WORKERS: u32 = 32;
+/// What a line asks for.
+#[derive(Clone, Copy)]
+pub enum Kind {
+    Put,
+    Save,
+    Get,
+    Purge,
+    Mark,
+    Await,
+}
+
+/// A line of a script. It is about the URL, or the mark, of a number.
+#[derive(Clone, Copy)]
+pub struct Asked {
+    pub worker: u32,
+    pub kind: Kind,
+    pub about: u32,
+}
+
+/// The length of the body that the line of this number offers, and its first letter, from 0. The longest needs three slots.
+pub fn body_of(number: u32) -> (u32, u32) {
+    (number.wrapping_mul(37) % 1_301, number % 26)
+}
+
+/// How many workers there are.
+pub const WORKERS: u32 = 32;
 
 /// How many rounds of requests each worker makes.
 const ROUNDS: u32 = 6;
@@ -68,7 +85,7 @@ fn ask_to_end(lines: &mut Vec<Asked>) -> Result<(), AllocError> {
 }
 
 /// The lines of a script about so many URLs.
-fn lines_about(alloc: Global, urls: u32) -> Result<Vec<Asked>, AllocError>
+pub fn lines_about(alloc: Global, urls: u32) -> Result<Vec<Asked>, AllocError>
     requires { 0 < urls }
 {
     let mut lines = Vec::new(alloc);
@@ -100,7 +117,7 @@ fn text_of(alloc: Global, asked: Asked, number: u32) -> Result<String, AllocErro
     }
 }
 
-fn script_of(alloc: Global, lines: &[Asked]) -> Result<Vec<u8>, AllocError> {
+pub fn script_of(alloc: Global, lines: &[Asked]) -> Result<Vec<u8>, AllocError> {
     let mut text = Vec::new(alloc);
     let mut number: u32 = 1;
     for asked in lines {
@@ -108,59 +125,4 @@ fn script_of(alloc: Global, lines: &[Asked]) -> Result<Vec<u8>, AllocError> {
         number = number.wrapping_add(1);
     }
     Ok(text)
-}
-
-/// Runs such a script over a new file, with more slots than all workers hold at once, and judges what is printed. Another
-/// run finds what the first worker stored at last.
-fn crowds<R: Abort + Threads + Wait + Sync>(
-    rt: &R,
-    alloc: Global,
-    anchors: u32,
-    urls: u32,
-) -> Result<(), Fail>
-    requires { 0 < urls }
-{
-    let lines = lines_about(alloc, urls)?;
-    let pipes = Pipes::new(alloc);
-    let mut volume = MemVolume::new(alloc, Vec::new(alloc), Vec::new(alloc));
-    let made = call(rt, alloc, &mut volume, &pipes, "create db 512 512", b"")?;
-    assert_eq!(rt; made.status, Status::Done);
-    let run = format!(in alloc; "run db 512 {anchors} {WORKERS}")?;
-    let script = script_of(alloc, &lines)?;
-    let ended = call(rt, alloc, &mut volume, &pipes, run.as_str(), &script)?;
-    assert_eq!(rt; ended.status, Status::Done);
-    let Ok(printed) = std::str::from_utf8(&ended.printed) else {
-        return Err(Fail::from("answers are text"));
-    };
-    let last = judge(rt, alloc, &lines, anchors, printed)?;
-    let again = format!(in alloc; "run db 512 {anchors} 1")?;
-    let ended = call(
-        rt,
-        alloc,
-        &mut volume,
-        &pipes,
-        again.as_str(),
-        b"1 get http://a/00",
-    )?;
-    let last = format!(in alloc; "1 1 {last}\n")?;
-    assert_eq!(rt; std::str::from_utf8(&ended.printed), Ok(last.as_str()));
-    Ok(())
-}
-
-#[test]
-fn workers_crowd_at_one_anchor(rt: HostRuntime) -> Result<(), Fail> {
-    for turn in 0..4u32 {
-        let _ = turn;
-        crowds(&rt, rt.alloc(), 1, 2)?;
-    }
-    Ok(())
-}
-
-#[test]
-fn workers_crowd_at_32_anchors(rt: HostRuntime) -> Result<(), Fail> {
-    for turn in 0..4u32 {
-        let _ = turn;
-        crowds(&rt, rt.alloc(), 32, 64)?;
-    }
-    Ok(())
 }

@@ -1,5 +1,5 @@
 // Files that are made by hand, by the format of the file.
-use super::story::number;
+use crate::numbers::{number, wrong};
 use std::alloc::{AllocError, Global};
 use std::test::Fail;
 use store_key::key_of;
@@ -9,30 +9,36 @@ const HEADER: usize = 16_384;
 
 const SLOT: usize = 512;
 
+/// The file that these lines make up.
+pub fn file_of(alloc: Global, lines: &str) -> Result<Vec<u8>, Fail> {
+    let mut file = empty_file(alloc)?;
+    for line in lines.lines() {
+        push_line(alloc, &mut file, line)?;
+    }
+    Ok(file)
+}
+
 /// A file of a header area and no slot.
-pub(super) fn empty_file(alloc: Global) -> Result<Vec<u8>, AllocError> {
+fn empty_file(alloc: Global) -> Result<Vec<u8>, AllocError> {
     let mut file = Vec::new(alloc);
     file.resize(HEADER, 0)?;
     Ok(file)
 }
 
-/// The front of a slot: its key, and the sizes of the entry and of the payload, its version, and the first and the next slot
-/// of its chain.
+/// The front of a slot: its key, and the sizes of the entry (of 8 bytes, of which the upper 4 are 0) and of the payload, its
+/// version, and the first and the next slot of its chain.
 fn push_header(
     file: &mut Vec<u8>,
     url: &str,
-    entry: u64,
-    payload: u32,
-    version: u32,
-    chain: [u32; 2],
+    entry: u32,
+    others: &[u32],
 ) -> Result<(), AllocError> {
-    let [first, next] = chain;
     file.extend_from_slice(&key_of(url.as_bytes()))?;
-    file.extend_from_slice(&entry.to_le_bytes())?;
-    file.extend_from_slice(&payload.to_le_bytes())?;
-    file.extend_from_slice(&version.to_le_bytes())?;
-    file.extend_from_slice(&first.to_le_bytes())?;
-    file.extend_from_slice(&next.to_le_bytes())
+    file.extend_from_slice(&u64::from(entry).to_le_bytes())?;
+    for number in others {
+        file.extend_from_slice(&number.to_le_bytes())?;
+    }
+    Ok(())
 }
 
 /// How many bytes of metadata stand beside a URL.
@@ -72,45 +78,45 @@ fn push_entry(file: &mut Vec<u8>, version: u32, url: &str, body: &str) -> Result
     let payload = u32::try_from(body.len())
         .unwrap_or(0)
         .saturating_add(meta_size(url));
-    push_header(
-        file,
-        url,
-        u64::from(payload),
-        payload,
-        version,
-        [slot, u32::MAX],
-    )?;
+    push_header(file, url, payload, &[payload, version, slot, u32::MAX])?;
     push_meta(file, url)?;
     file.extend_from_slice(body.as_bytes())
 }
 
 /// A slot of `http://a/b`: the sizes of its entry and of its payload, its version, and the first and the next slot. Where it is
 /// the first one itself it has the metadata.
-fn push_linked(file: &mut Vec<u8>, numbers: &str) -> Result<(), Fail> {
+fn push_linked(alloc: Global, file: &mut Vec<u8>, words: &str) -> Result<(), Fail> {
+    let numbers = numbers_of(alloc, words)?;
     let slot = slots_in(file);
-    let mut words = numbers.split(' ');
-    let entry = number(words.next().unwrap_or(""))?;
-    let payload = number(words.next().unwrap_or(""))?;
-    let version = number(words.next().unwrap_or(""))?;
-    let first = place_of(words.next().unwrap_or(""))?;
-    let next = place_of(words.next().unwrap_or(""))?;
     let url = "http://a/b";
-    push_header(file, url, u64::from(entry), payload, version, [first, next])?;
-    if first == slot {
+    match numbers.as_slice().split_first() {
+        Some((entry, others)) if others.len() == 4 => push_header(file, url, *entry, others)?,
+        _ => return Err(wrong("a slot has five numbers")),
+    }
+    if numbers.get(3) == Some(&slot) {
         push_meta(file, url)?;
     }
     Ok(())
 }
 
+/// The numbers of a header.
+fn numbers_of(alloc: Global, words: &str) -> Result<Vec<u32>, Fail> {
+    let mut numbers = Vec::new(alloc);
+    for word in words.split(' ') {
+        numbers.push(place_of(word)?)?;
+    }
+    Ok(numbers)
+}
+
 /// The bytes that hexadecimal digits stand for.
-pub(super) fn bytes_of(alloc: Global, digits: &str) -> Result<Vec<u8>, Fail> {
+pub fn bytes_of(alloc: Global, digits: &str) -> Result<Vec<u8>, Fail> {
     let mut bytes = Vec::new(alloc);
     let mut high: Option<u8> = None;
     for digit in digits.bytes() {
         let value = match digit {
             b'0'..=b'9' => digit - b'0',
             b'a'..=b'f' => digit - b'a' + 10,
-            _ => return Err(Fail::from("a digit that is none")),
+            _ => return Err(wrong("a digit that is none")),
         };
         match high.take() {
             None => high = Some(value),
@@ -119,7 +125,7 @@ pub(super) fn bytes_of(alloc: Global, digits: &str) -> Result<Vec<u8>, Fail> {
     }
     match high {
         None => Ok(bytes),
-        Some(_) => Err(Fail::from("half a byte")),
+        Some(_) => Err(wrong("half a byte")),
     }
 }
 
@@ -131,7 +137,7 @@ fn patch(file: &mut [u8], at: u32, bytes: &[u8]) -> Result<(), Fail> {
             place.copy_from_slice(bytes);
             Ok(())
         }
-        None => Err(Fail::from("a place that is not in the file")),
+        None => Err(wrong("a place that is not in the file")),
     }
 }
 
@@ -150,7 +156,7 @@ fn fill_slot(file: &mut Vec<u8>, slots: u32) -> Result<(), AllocError> {
 /// - `empty`: a slot of zeros;
 /// - `zeros COUNT`: so many zeros behind the header area;
 /// - `patch AT HEX`: other bytes from this place behind the header area on.
-pub(super) fn push_line(alloc: Global, file: &mut Vec<u8>, line: &str) -> Result<(), Fail> {
+fn push_line(alloc: Global, file: &mut Vec<u8>, line: &str) -> Result<(), Fail> {
     let (kind, words) = line.split_once(' ').unwrap_or((line, ""));
     let slots = slots_in(file);
     match kind {
@@ -159,7 +165,7 @@ pub(super) fn push_line(alloc: Global, file: &mut Vec<u8>, line: &str) -> Result
             let (url, body) = rest.split_once(' ').unwrap_or(("", ""));
             push_entry(file, number(version)?, url, body)?;
         }
-        "slot" => push_linked(file, words)?,
+        "slot" => push_linked(alloc, file, words)?,
         "empty" => {}
         "zeros" => {
             let end = file.len().saturating_add(number(words)? as usize);
@@ -171,7 +177,7 @@ pub(super) fn push_line(alloc: Global, file: &mut Vec<u8>, line: &str) -> Result
             let bytes = bytes_of(alloc, digits)?;
             return patch(file, number(at)?, &bytes);
         }
-        _ => return Err(Fail::from("a line of a file that is none")),
+        _ => return Err(wrong("a line of a file that is none")),
     }
     fill_slot(file, slots)?;
     Ok(())

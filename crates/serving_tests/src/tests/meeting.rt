@@ -1,13 +1,13 @@
 // Workers of which one waits for another.
-use super::calls::{Pipes, call};
-use super::meetings::{Meeting, Part};
-use super::story::Act;
+use super::calls::call;
+use odd_volumes::{Meeting, Part};
 use rock_status::Status;
 use std::alloc::Global;
 use std::process::Abort;
 use std::sync::Wait;
 use std::test::Fail;
 use std::thread::Threads;
+use story_text::{Act, Pipes};
 
 /// No part.
 const REST: Part = Part {
@@ -44,7 +44,7 @@ fn meet<R: Abort + Threads + Wait + Sync>(
     assert_eq!(rt; ended.status, Status::Done);
     let mut is_listed = false;
     for list in lists.split("\n\n") {
-        let mut act = Act::read(alloc, list, anchors)?;
+        let act = Act::read(alloc, list, anchors)?;
         let answers = act.wanted(alloc, anchors)?;
         is_listed = is_listed || ended.printed.as_slice() == answers.as_slice();
     }

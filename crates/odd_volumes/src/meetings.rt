@@ -23,11 +23,11 @@ const LOOKS: u32 = 100_000_000;
 
 /// What a station does for a meeting. A write to the header area is none of these writes.
 #[derive(Clone, Copy, Debug, PartialEq, Eq)]
-pub(super) struct Part {
+pub struct Part {
     /// At which of its writes, from 1, it makes a sign before it writes. 0: at none.
-    pub(super) sign_at: u64,
+    pub sign_at: u64,
     /// How many signs there must be before it makes its first write. If they do not come, the write fails.
-    pub(super) signs: usize,
+    pub signs: usize,
 }
 
 /// A station that makes no sign and waits for none.
@@ -50,7 +50,7 @@ fn has_signs(made: &AtomicUsize, wanted: usize) -> bool {
 }
 
 /// A station of a volume in memory, and its part in a meeting.
-pub(super) struct MeetingStation {
+pub struct MeetingStation {
     inner: MemStation,
     part: Part,
     made: Arc<AtomicUsize, Global>,
@@ -115,8 +115,8 @@ impl Station for MeetingStation {
 
 /// A volume in memory whose stations may wait for each other.
 #[derive(Drop)]
-pub(super) struct Meeting {
-    inner: MemVolume,
+pub struct Meeting {
+    pub inner: MemVolume,
     /// The parts of the stations, in the order in which they are made.
     parts: [Part; 3],
     signs: Arc<AtomicUsize, Global>,
@@ -126,7 +126,7 @@ pub(super) struct Meeting {
 
 impl Meeting {
     /// A volume without files.
-    pub(super) fn new(alloc: Global, parts: [Part; 3]) -> Result<Meeting, Memory>
+    pub fn new(alloc: Global, parts: [Part; 3]) -> Result<Meeting, Memory>
         ensures { IfOk result (λ meeting. NoneAway (volume_files meeting.inner)) }
     {
         Ok(Meeting {

@@ -1,35 +1,11 @@
 // The rules that what several workers print must keep, whatever their order.
 ghost use Rattle.std.specs.Prelude.{◌<◌};
 
-use super::texts::push_text;
+use crate::lines::{Asked, Kind, body_of};
 use std::alloc::{AllocError, Global};
-use std::process::Abort;
 use std::test::Fail;
 use store_key::{anchor_of, key_of};
-
-/// What a line asks for.
-#[derive(Clone, Copy, Debug, PartialEq, Eq)]
-pub(super) enum Kind {
-    Put,
-    Save,
-    Get,
-    Purge,
-    Mark,
-    Await,
-}
-
-/// A line of a script. It is about the URL, or the mark, of a number.
-#[derive(Clone, Copy, Debug, PartialEq, Eq)]
-pub(super) struct Asked {
-    pub(super) worker: u32,
-    pub(super) kind: Kind,
-    pub(super) about: u32,
-}
-
-/// The length of the body that the line of this number offers, and its first letter, from 0. The longest needs three slots.
-pub(super) fn body_of(number: u32) -> (u32, u32) {
-    (number.wrapping_mul(37) % 1_301, number % 26)
-}
+use story_text::push_text;
 
 /// What is printed of versions by all workers.
 #[derive(Drop)]
@@ -123,19 +99,20 @@ fn by_worker(alloc: Global, lines: &[Asked]) -> Result<Vec<(u32, Asked)>, AllocE
 }
 
 /// Each printed line is that of one line of the script, the first worker's in front.
-fn answers<'a, R: Abort>(
-    rt: &R,
+fn answers<'a>(
     alloc: Global,
     lines: &[Asked],
     printed: &'a str,
 ) -> Result<Vec<Answered<'a>>, Fail> {
     let sorted = by_worker(alloc, lines)?;
-    assert_eq!(rt; printed.lines().count(), sorted.len());
+    if printed.lines().count() != sorted.len() {
+        return Err(Fail::new("there is a printed line for each line"));
+    }
     let mut answers = Vec::new(alloc);
     for ((number, asked), line) in sorted.into_iter().zip(printed.lines()) {
         let front = format!(in alloc; "{} {number} ", asked.worker)?;
         let Some(answer) = line.strip_prefix(front.as_str()) else {
-            return Err(Fail::from("a line is missing"));
+            return Err(Fail::new("a line is missing"));
         };
         answers.push(Answered {
             number,
@@ -147,8 +124,7 @@ fn answers<'a, R: Abort>(
 }
 
 /// What is printed of versions. Each is begun by one line.
-fn told_of<'a, R: Abort>(
-    rt: &R,
+fn told_of<'a>(
     alloc: Global,
     lines: &'a [Asked],
     anchors: u32,
@@ -161,7 +137,9 @@ fn told_of<'a, R: Abort>(
         match word(answer, 0) {
             "STORED" | "DOOMED" => {
                 let is_new = begun.iter().all(|(other, _)| *other != version);
-                assert!(rt; is_new && version > 0, "{number}: {answer}");
+                if !is_new || version == 0 {
+                    return Err(broken(*number, answer));
+                }
                 begun.push((version, *number))?;
             }
             "PURGED" => purged.push(version)?,
@@ -276,9 +254,13 @@ fn is_busy(answer: &str) -> bool {
     (is_free && readers == "0") == (looked != found)
 }
 
+/// The failure of a test by an answer that may not stand at the line of this number.
+fn broken(number: u32, answer: &str) -> Fail {
+    Fail::new(format_args!("{number}: {answer}"))
+}
+
 /// Judges an answer. `seen` has the greatest epoch that the worker was shown at each anchor.
-fn judge_one<R: Abort>(
-    rt: &R,
+fn judge_one(
     alloc: Global,
     told: &Told<'_>,
     one: Answered<'_>,
@@ -289,38 +271,36 @@ fn judge_one<R: Abort>(
         asked,
         answer,
     } = one;
-    assert!(rt;
-        may_answer(asked.kind, word(answer, 0)),
-        "{number}: {answer}"
-    );
+    if !may_answer(asked.kind, word(answer, 0)) {
+        return Err(broken(number, answer));
+    }
     let Some((most, found)) = shown(answer) else {
         return Ok(());
     };
-    assert!(rt; told.allows(alloc, one, found)?, "{number}: {answer}");
-    assert!(rt;
-        told.was_purged(most) && told.was_purged(found),
-        "{number}: {answer}"
-    );
+    if !told.allows(alloc, one, found)? || !told.was_purged(most) || !told.was_purged(found) {
+        return Err(broken(number, answer));
+    }
     let url = url_of(alloc, asked)?;
     let anchor = anchor_of(&key_of(url.as_bytes()), told.anchors.max(1));
     let Some(before) = seen.get_mut(anchor as usize) else {
-        return Err(Fail::from("there is an anchor for each URL"));
+        return Err(Fail::new("there is an anchor for each URL"));
     };
-    assert!(rt; *before <= most, "{number}: {answer} behind {before}");
+    if *before > most {
+        return Err(Fail::new(format_args!("{number}: {answer} behind {before}")));
+    }
     *before = (*before).max(found);
     Ok(())
 }
 
 /// Judges what was printed, and answers what the first worker was answered at last.
-pub(super) fn judge<'a, R: Abort>(
-    rt: &R,
+pub fn judge<'a>(
     alloc: Global,
     lines: &[Asked],
     anchors: u32,
     printed: &'a str,
 ) -> Result<&'a str, Fail> {
-    let answers = answers(rt, alloc, lines, printed)?;
-    let told = told_of(rt, alloc, lines, anchors, &answers)?;
+    let answers = answers(alloc, lines, printed)?;
+    let told = told_of(alloc, lines, anchors, &answers)?;
     let mut seen = vec![in alloc; 0u64; anchors as usize]?;
     let mut worker: u32 = 0;
     let mut last = "";
@@ -329,11 +309,13 @@ pub(super) fn judge<'a, R: Abort>(
             seen.fill(0);
             worker = one.asked.worker;
         }
-        judge_one(rt, alloc, &told, *one, &mut seen)?;
+        judge_one(alloc, &told, *one, &mut seen)?;
         if worker == 1 {
             last = one.answer;
         }
     }
-    assert!(rt; last.starts_with("HIT "), "{last}");
+    if word(last, 0) != "HIT" {
+        return Err(Fail::new(last));
+    }
     Ok(last)
 }

@@ -1,0 +1,9 @@
+mod calls;
+mod crowd;
+mod entries;
+mod faults;
+mod lying;
+mod meeting;
+mod serving;
+mod sharing;
+mod story;
