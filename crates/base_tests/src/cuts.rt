@@ -2,8 +2,7 @@ ghost use Rattle.entry_cut.specs.Labels.{Fits};
 
 use crate::rows::{fields, numbers, short};
 use entry_cut::{Behind, Cutter, Label, piece_header, published, put_header, slots_needed};
-use std::alloc::{AllocError, Global};
-use std::test::Fail;
+use std::alloc::Global;
 
 // The size of a slot and the bytes of a content; the slots that it needs, and those that are published while it
 // grows. Of nothing none is published, and what is can't be asked.
@@ -31,56 +30,64 @@ const NEEDED: &str = "\
 32768 65457;3 2
 41 18446744073709551615;18446744073709551615 18446744073709551614";
 
-fn needed(alloc: Global, asked: &str) -> Result<String, Fail> {
-    let [slot, content] = numbers::<2>(asked)?;
+/// Whether a content needs the slots of its row, and has those that are published.
+fn needs_its_slots(row: &str) -> Option<bool> {
+    let (asked, wanted) = fields(row)?;
+    let ([slot, content], [needed, there]) = (numbers::<2>(asked)?, numbers::<2>(wanted)?);
     let slot = short(slot);
     if slot <= 40 {
-        return Err(Fail::from("a slot without room"));
+        return None;
     }
-    let needed = slots_needed(content, slot);
-    let there = match content {
-        0 => 0,
-        _ => published(content, slot),
+    let is_published = if content == 0 {
+        there == 0
+    } else {
+        published(content, slot) == there
     };
-    Ok(format!(in alloc; "{needed} {there}")?)
+    Some(slots_needed(content, slot) == needed && is_published)
 }
 
 #[test]
-fn contents_need_the_slots_that_they_fill(rt: HostRuntime) -> Result<(), Fail> {
+fn contents_need_the_slots_that_they_fill(rt: HostRuntime) {
     assert_eq!(rt; NEEDED.lines().count(), 22);
     for row in NEEDED.lines() {
-        let (asked, wanted) = fields(row)?;
-        let told = needed(rt.alloc(), asked)?;
-        assert!(rt; told.as_str() == wanted, "{row}");
+        assert!(rt; needs_its_slots(row) == Some(true), "{row}");
     }
-    Ok(())
 }
 
-/// The sizes of the pieces of a content, which comes in parts of seven bytes, and the pieces, joined.
-fn pieces_of(
-    alloc: Global,
-    content: &[u8],
-    room: usize,
-) -> Result<(Vec<usize>, Vec<u8>), AllocError> {
+/// The pieces of a content: their sizes, and all of them joined.
+#[derive(Drop)]
+struct Pieces {
+    sizes: Vec<usize>,
+    joined: Vec<u8>,
+}
+
+/// Adds what the cutter holds in a page to the pieces.
+fn keep(pieces: &mut Pieces, page: &[u8], held: usize) -> Option<()> {
+    pieces.joined.extend_from_slice(page.get(..held)?).ok()?;
+    pieces.sizes.push(held).ok()
+}
+
+/// The pieces of a content, which comes in parts of seven bytes.
+fn pieces_of(alloc: Global, content: &[u8], room: usize) -> Option<Pieces> {
     let mut page = Vec::new(alloc);
-    page.resize(room, 0)?;
-    let mut sizes = Vec::new(alloc);
-    let mut joined = Vec::new(alloc);
+    page.resize(room, 0).ok()?;
+    let mut pieces = Pieces {
+        sizes: Vec::new(alloc),
+        joined: Vec::new(alloc),
+    };
     let mut cutter = Cutter::new(room);
     for part in content.chunks(7) {
         let taken = cutter.fill(&mut page, part);
         if cutter.is_full() {
-            joined.extend_from_slice(&page)?;
-            sizes.push(cutter.held())?;
+            keep(&mut pieces, &page, cutter.held())?;
             cutter.next();
-            cutter.fill(&mut page, part.get(taken..).unwrap_or(&[]));
+            cutter.fill(&mut page, part.get(taken..)?);
         }
     }
     if cutter.held() > 0 {
-        joined.extend_from_slice(page.get(..cutter.held()).unwrap_or(&[]))?;
-        sizes.push(cutter.held())?;
+        keep(&mut pieces, &page, cutter.held())?;
     }
-    Ok((sizes, joined))
+    Some(pieces)
 }
 
 // Bytes of a content, the room of a slot, and the sizes of the pieces.
@@ -95,33 +102,26 @@ const PIECES: &str = "\
 32728 32728;[32728]
 32729 32728;[32728, 1]";
 
-/// The sizes of the pieces of a content, which joined are the content again.
-fn cut(alloc: Global, asked: &str) -> Result<String, Fail> {
+/// Whether the pieces of a content have the sizes of the row, and joined are the content again.
+fn is_cut(alloc: Global, row: &str) -> Option<bool> {
+    let (asked, wanted) = fields(row)?;
     let [length, room] = numbers::<2>(asked)?;
     let mut content = Vec::new(alloc);
     for at in 0..length {
-        content.push((at % 251) as u8)?;
+        content.push((at % 251) as u8).ok()?;
     }
-    let (sizes, joined) = pieces_of(alloc, &content, short(room) as usize)?;
-    if joined.as_slice() != content.as_slice() {
-        return Err(Fail::from("pieces of another content"));
-    }
-    Ok(format!(in alloc; "{sizes:?}")?)
+    let pieces = pieces_of(alloc, &content, short(room) as usize)?;
+    let sizes = format!(in alloc; "{:?}", pieces.sizes).ok()?;
+    Some(sizes.as_str() == wanted && pieces.joined.as_slice() == content.as_slice())
 }
 
 #[test]
-fn pages_are_filled_piece_after_piece(rt: HostRuntime) -> Result<(), Fail> {
+fn pages_are_filled_piece_after_piece(rt: HostRuntime) {
     assert_eq!(rt; PIECES.lines().count(), 9);
     for row in PIECES.lines() {
-        let (asked, wanted) = fields(row)?;
-        let told = cut(rt.alloc(), asked)?;
-        assert!(rt; told.as_str() == wanted, "{row}");
+        assert!(rt; is_cut(rt.alloc(), row) == Some(true), "{row}");
     }
-    Ok(())
 }
-
-// The key of http://a/b: the MD5 of a byte 1 and the URL, by the program md5sum.
-const KEY: [u8; 16] = *b"\x1a\x68\xc1\x0d\x6c\x8b\x32\x66\x57\xc7\x75\xf5\x3c\x86\x6d\xd1";
 
 // A payload, in hexadecimal: how often a part stands there, and the part. Then the first slot, the slot behind this one, or
 // -1 for none, and the size of the whole, where that is told; and the front of the image behind the key: the sizes and slots
@@ -145,12 +145,15 @@ fn behind(next: u64, whole: u64) -> Behind
     }
 }
 
+// The key of http://a/b: the MD5 of a byte 1 and the URL, by the program md5sum.
+const KEY: [u8; 16] = *b"\x1a\x68\xc1\x0d\x6c\x8b\x32\x66\x57\xc7\x75\xf5\x3c\x86\x6d\xd1";
+
 /// The image of a slot with this payload, over other bytes.
-fn image_of(payload: &[u8], asked: &str) -> Result<[u8; 512], Fail> {
+fn image_of(payload: &[u8], asked: &str) -> Option<[u8; 512]> {
     let [first, next, whole] = numbers::<3>(asked)?;
     let first = short(first);
     if first >= 2_147_483_648 {
-        return Err(Fail::from("a first slot with a greater number"));
+        return None;
     }
     let label = Label {
         key: KEY,
@@ -162,30 +165,35 @@ fn image_of(payload: &[u8], asked: &str) -> Result<[u8; 512], Fail> {
     cutter.fill(&mut image[40..], payload);
     let header = piece_header(&label, cutter.held() as u32, behind(next, whole));
     put_header(&header, &mut image);
-    Ok(image)
+    Some(image)
 }
 
-/// The image as it should be: the key, fields, the payload and zeros.
-fn image_with(alloc: Global, fields: &str, payload: &[u8]) -> Result<Vec<u8>, Fail> {
-    let mut image = KEY.to_vec(alloc)?;
-    image.extend_from_slice(&hex::decode(alloc, fields)?)?;
-    image.extend_from_slice(payload)?;
-    image.resize(512, 0)?;
-    Ok(image)
+/// The image as it should be: the key, the fields in hexadecimal, the payload and zeros.
+fn image_with(alloc: Global, fields: &str, payload: &[u8]) -> Option<Vec<u8>> {
+    let mut image = KEY.to_vec(alloc).ok()?;
+    image
+        .extend_from_slice(&hex::decode(alloc, fields).ok()?)
+        .ok()?;
+    image.extend_from_slice(payload).ok()?;
+    image.resize(512, 0).ok()?;
+    Some(image)
+}
+
+/// Whether the image of a row is as it should be.
+fn is_made(alloc: Global, row: &str) -> Option<bool> {
+    let (copies, rest) = fields(row)?;
+    let (part, rest) = fields(rest)?;
+    let (asked, wanted) = fields(rest)?;
+    let part = part.repeat(alloc, copies.parse().ok()?).ok()?;
+    let payload = hex::decode(alloc, part).ok()?;
+    let image = image_of(&payload, asked)?;
+    Some(image.as_slice() == image_with(alloc, wanted, &payload)?.as_slice())
 }
 
 #[test]
-fn images_are_made_in_place(rt: HostRuntime) -> Result<(), Fail> {
-    let alloc = rt.alloc();
+fn images_are_made_in_place(rt: HostRuntime) {
     assert_eq!(rt; IMAGES.lines().count(), 4);
     for row in IMAGES.lines() {
-        let (copies, rest) = fields(row)?;
-        let (part, rest) = fields(rest)?;
-        let (asked, wanted) = fields(rest)?;
-        let payload = hex::decode(alloc, part.repeat(alloc, copies.parse()?)?)?;
-        let image = image_of(&payload, asked)?;
-        let wanted = image_with(alloc, wanted, &payload)?;
-        assert!(rt; image.as_slice() == wanted.as_slice(), "{row}");
+        assert!(rt; is_made(rt.alloc(), row) == Some(true), "{row}");
     }
-    Ok(())
 }

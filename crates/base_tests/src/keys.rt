@@ -1,6 +1,5 @@
-use crate::rows::fields;
+use crate::rows::{fields, numbers, short};
 use std::alloc::Global;
-use std::test::Fail;
 use store_key::{anchor_of, check_url, key_of};
 
 // How often a piece stands in a URL, the piece, and what the check of the URL answers.
@@ -12,38 +11,61 @@ const URLS: &str = "\
 2048;a;Ok(())
 2049;a;Err(LongUrl)";
 
-/// What the check of a URL answers.
-fn checked(alloc: Global, copies: &str, piece: &str) -> Result<String, Fail> {
-    let url = piece.repeat(alloc, copies.parse()?)?;
+/// Whether the check of a URL answers as it stands in the row.
+fn is_checked(alloc: Global, row: &str) -> Option<bool> {
+    let (copies, rest) = fields(row)?;
+    let (piece, wanted) = fields(rest)?;
+    let url = piece.repeat(alloc, copies.parse().ok()?).ok()?;
     let checked = check_url(url.as_bytes());
-    Ok(format!(in alloc; "{checked:?}")?)
+    let told = format!(in alloc; "{checked:?}").ok()?;
+    Some(told.as_str() == wanted)
 }
 
 #[test]
-fn urls_are_checked(rt: HostRuntime) -> Result<(), Fail> {
+fn urls_are_checked(rt: HostRuntime) {
     assert_eq!(rt; URLS.lines().count(), 6);
     for row in URLS.lines() {
-        let (copies, rest) = fields(row)?;
-        let (piece, wanted) = fields(rest)?;
-        let told = checked(rt.alloc(), copies, piece)?;
-        assert!(rt; told.as_str() == wanted, "{row}");
+        assert!(rt; is_checked(rt.alloc(), row) == Some(true), "{row}");
     }
-    Ok(())
 }
 
-/// The MD5 of a byte 1 and `http://a/b`, by the program md5sum.
-const KEY_B: [u8; 16] = *b"\x1a\x68\xc1\x0d\x6c\x8b\x32\x66\x57\xc7\x75\xf5\x3c\x86\x6d\xd1";
+// URLs and their keys: the MD5 of a byte 1 and the URL, by the program md5sum.
+const KEYS: &str = "\
+http://a/b;1a68c10d6c8b326657c775f53c866dd1
+http://a/c;4877c9348b6d7299e213896f839c80b8";
 
-/// The same of `http://a/c`.
-const KEY_C: [u8; 16] = *b"\x48\x77\xc9\x34\x8b\x6d\x72\x99\xe2\x13\x89\x6f\x83\x9c\x80\xb8";
+/// Whether a URL has its key.
+fn has_its_key(alloc: Global, row: &str) -> Option<bool> {
+    let (url, wanted) = fields(row)?;
+    let wanted = hex::decode(alloc, wanted).ok()?;
+    Some(key_of(url.as_bytes()).as_slice() == wanted.as_slice())
+}
 
-const COUNTED: [u8; 16] = *b"\x00\x01\x02\x03\x04\x05\x06\x07\x08\x09\x0a\x0b\x0c\x0d\x0e\x0f";
+// Keys, how many anchors there are, and the anchor of the key.
+const ANCHORS: &str = "\
+000102030405060708090a0b0c0d0e0f;16 8
+000102030405060708090a0b0c0d0e0f;1 0
+ffffffffffffffffffffffffffffffff;5 4";
+
+/// Whether a key has its anchor.
+fn has_its_anchor(alloc: Global, row: &str) -> Option<bool> {
+    let (key, rest) = fields(row)?;
+    let key = hex::decode(alloc, key).ok()?;
+    let [anchors, wanted] = numbers::<2>(rest)?;
+    let anchors = short(anchors);
+    if anchors == 0 {
+        return None;
+    }
+    Some(u64::from(anchor_of(key.first_chunk()?, anchors)) == wanted)
+}
 
 #[test]
 fn urls_have_keys_and_anchors(rt: HostRuntime) {
-    assert_eq!(rt; key_of(b"http://a/b"), KEY_B);
-    assert_eq!(rt; key_of(b"http://a/c"), KEY_C);
-    assert_eq!(rt; anchor_of(&COUNTED, 16), 8);
-    assert_eq!(rt; anchor_of(&COUNTED, 1), 0);
-    assert_eq!(rt; anchor_of(&[0xff; 16], 5), 4);
+    assert_eq!(rt; (KEYS.lines().count(), ANCHORS.lines().count()), (2, 3));
+    for row in KEYS.lines() {
+        assert!(rt; has_its_key(rt.alloc(), row) == Some(true), "{row}");
+    }
+    for row in ANCHORS.lines() {
+        assert!(rt; has_its_anchor(rt.alloc(), row) == Some(true), "{row}");
+    }
 }

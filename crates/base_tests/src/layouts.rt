@@ -1,7 +1,6 @@
 use crate::rows::{fields, numbers, short};
 use db_layout::{file_size, offset_of, slot_size_ok, slots_of};
 use std::alloc::Global;
-use std::test::Fail;
 
 // A number of slots and the size of one; the length of a file of these slots, the offset of the slot behind them,
 // and how many slots of at most 1,048,576 the file has, where slots may have that size.
@@ -30,40 +29,51 @@ const FILES: &str = "\
 0 65536;no size
 0 4294967295;no size";
 
-fn file_of(alloc: Global, asked: &str) -> Result<String, Fail> {
+/// What is told of the file that is asked for.
+fn file_of(alloc: Global, asked: &str) -> Option<String> {
     let [number, slot] = numbers::<2>(asked)?;
     let (number, slot) = (short(number), short(slot));
     if !slot_size_ok(slot) {
-        return Ok(String::from_str(alloc, "no size")?);
+        return String::from_str(alloc, "no size").ok();
     }
     let (bytes, offset) = (file_size(number, slot), offset_of(number, slot));
     let slots = slots_of(bytes, slot);
-    Ok(format!(in alloc; "{bytes} {offset} {slots}")?)
+    format!(in alloc; "{bytes} {offset} {slots}").ok()
+}
+
+/// Whether a file is as it stands in the row.
+fn is_as_tabled(alloc: Global, row: &str) -> Option<bool> {
+    let (asked, wanted) = fields(row)?;
+    Some(file_of(alloc, asked)?.as_str() == wanted)
 }
 
 #[test]
-fn sizes_and_offsets_are_as_tabled(rt: HostRuntime) -> Result<(), Fail> {
+fn sizes_and_offsets_are_as_tabled(rt: HostRuntime) {
     assert_eq!(rt; FILES.lines().count(), 23);
     for row in FILES.lines() {
-        let (asked, wanted) = fields(row)?;
-        let told = file_of(rt.alloc(), asked)?;
-        assert!(rt; told.as_str() == wanted, "{row}");
+        assert!(rt; is_as_tabled(rt.alloc(), row) == Some(true), "{row}");
     }
-    Ok(())
+}
+
+// The length of a file, and how many slots of 512 bytes it has.
+const LENGTHS: &str = "\
+0 0
+16383 0
+16895 0
+17508 2
+18431 3
+18446744073709551615 1048576";
+
+/// Whether a file of this length has so many slots.
+fn has_slots(row: &str) -> Option<bool> {
+    let [bytes, slots] = numbers::<2>(row)?;
+    Some(u64::from(slots_of(bytes, 512)) == slots)
 }
 
 #[test]
 fn files_of_any_length_have_whole_slots(rt: HostRuntime) {
-    // The length of a file, and how many slots of 512 bytes it has.
-    let found = [
-        (0, 0),
-        (16_383, 0),
-        (16_895, 0),
-        (17_508, 2),
-        (18_431, 3),
-        (u64::MAX, 1_048_576),
-    ];
-    for (bytes, slots) in found {
-        assert_eq!(rt; slots_of(bytes, 512), slots, "{bytes}");
+    assert_eq!(rt; LENGTHS.lines().count(), 6);
+    for row in LENGTHS.lines() {
+        assert!(rt; has_slots(row) == Some(true), "{row}");
     }
 }

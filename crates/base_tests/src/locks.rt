@@ -5,19 +5,18 @@ use lock_word::{
     word_of,
 };
 use std::alloc::Global;
-use std::test::Fail;
 
 /// A word of these numbers: its version, whether it is doomed, its stage and its readers.
-pub(crate) fn word(numbers: [u64; 4]) -> Result<Word, Fail> {
+fn word(numbers: [u64; 4]) -> Option<Word> {
     let [version, doom, stage, readers] = numbers;
     let epoch = Epoch {
         version: short(version),
         doom: doom == 1,
-        stage: Stage::from_number(stage).ok_or("a stage")?,
+        stage: Stage::from_number(stage)?,
     };
-    Ok(Word {
+    Some(Word {
         epoch,
-        readers: u16::try_from(readers)?,
+        readers: u16::try_from(readers).ok()?,
     })
 }
 
@@ -34,33 +33,41 @@ const WORDS: &str = "\
 0xffffffff true Gone 0xffff 0xffffffff000effff";
 
 /// Whether a word has its bits, and its stage the name that stands in the row.
-fn has_its_bits(alloc: Global, row: &str) -> Result<bool, Fail> {
+fn has_its_bits(alloc: Global, row: &str) -> Option<bool> {
     let [version, doom, stage, readers, bits] = numbers::<5>(row)?;
     let word = word([version, doom, stage, readers])?;
-    let name = format!(in alloc; " {:?} ", word.epoch.stage)?;
-    Ok(pack(&word) == bits && unpack(bits) == Some(word) && row.contains(name.as_str()))
+    let name = format!(in alloc; " {:?} ", word.epoch.stage).ok()?;
+    Some(pack(&word) == bits && unpack(bits) == Some(word) && row.contains(name.as_str()))
 }
 
 #[test]
-fn words_have_their_bits(rt: HostRuntime) -> Result<(), Fail> {
+fn words_have_their_bits(rt: HostRuntime) {
     assert_eq!(rt; WORDS.lines().count(), 9);
     for row in WORDS.lines() {
-        assert!(rt; has_its_bits(rt.alloc(), row)?, "{row}");
+        assert!(rt; has_its_bits(rt.alloc(), row) == Some(true), "{row}");
     }
-    Ok(())
+}
+
+// Bits of no word.
+const NO_WORDS: &str = "\
+0x0000000000070000
+0x00000001000f0001
+0x0000000100130000
+0x0000000180030000
+0x00000001fff30000
+0xffffffffffffffff";
+
+/// Whether the bits of a row are those of no word.
+fn is_no_word(row: &str) -> Option<bool> {
+    let [bits] = numbers::<1>(row)?;
+    Some(unpack(bits).is_none())
 }
 
 #[test]
 fn no_word_has_stage_7_or_a_reserved_bit(rt: HostRuntime) {
-    for bits in [
-        0x0000_0000_0007_0000,
-        0x0000_0001_000f_0001,
-        0x0000_0001_0013_0000,
-        0x0000_0001_8003_0000,
-        0x0000_0001_fff3_0000,
-        u64::MAX,
-    ] {
-        assert_eq!(rt; unpack(bits), None, "{bits:#018x}");
+    assert_eq!(rt; NO_WORDS.lines().count(), 6);
+    for row in NO_WORDS.lines() {
+        assert!(rt; is_no_word(row) == Some(true), "{row}");
     }
 }
 
@@ -75,17 +82,18 @@ const RISING: &str = "\
 2 false Taken 0
 0xffffffff false Taken 0";
 
-fn epoch(row: &str) -> Result<Epoch, Fail> {
-    Ok(word(numbers::<4>(row)?)?.epoch)
+/// Whether the first row has the lower epoch.
+fn is_lower(low: &str, high: &str) -> Option<bool> {
+    let (low, high) = (word(numbers::<4>(low)?)?, word(numbers::<4>(high)?)?);
+    Some(low.epoch < high.epoch)
 }
 
 #[test]
-fn epochs_rise_by_version_then_doom_then_stage(rt: HostRuntime) -> Result<(), Fail> {
+fn epochs_rise_by_version_then_doom_then_stage(rt: HostRuntime) {
     assert_eq!(rt; RISING.lines().count(), 8);
     for (low, high) in RISING.lines().zip(RISING.lines().skip(1)) {
-        assert!(rt; epoch(low)? < epoch(high)?, "{low}, {high}");
+        assert!(rt; is_lower(low, high) == Some(true), "{low}, {high}");
     }
-    Ok(())
 }
 
 // A word, and whether it is readable, idle, vacant and left over.
@@ -107,7 +115,7 @@ const ALLOWED: &str = "\
 1 false Gone 1 false false false false";
 
 /// Whether a word, and its bits alone, allow what stands in the row.
-fn allows(row: &str) -> Result<bool, Fail> {
+fn allows(row: &str) -> Option<bool> {
     let [version, doom, stage, readers, may_read, idle, vacant, left] = numbers::<8>(row)?;
     let word = word([version, doom, stage, readers])?;
     let bits = pack(&word);
@@ -124,31 +132,30 @@ fn allows(row: &str) -> Result<bool, Fail> {
         is_vacant_number(bits),
         is_left_over_number(bits),
     ];
-    Ok(word_of(bits) == word && told == wanted && by_bits == wanted)
+    Some(word_of(bits) == word && told == wanted && by_bits == wanted)
 }
 
 #[test]
-fn what_words_allow(rt: HostRuntime) -> Result<(), Fail> {
+fn what_words_allow(rt: HostRuntime) {
     assert_eq!(rt; ALLOWED.lines().count(), 15);
     for row in ALLOWED.lines() {
-        assert!(rt; allows(row)?, "{row}");
+        assert!(rt; allows(row) == Some(true), "{row}");
     }
-    Ok(())
 }
 
 const KEY: [u8; 16] = *b"\x00\x01\x02\x03\x04\x05\x06\x07\x08\x09\x0a\x0b\x0c\x0d\x0e\x0f";
 
 const OTHER: [u8; 16] = *b"\x00\x01\x02\x03\x04\x05\x06\x07\x08\x09\x0a\x0b\x0c\x0d\x0e\x10";
 
-/// The cause of this number, with this epoch and key. 0 is a hit.
-pub(crate) fn cause(number: u64, epoch: Epoch, key: [u8; 16]) -> Result<Option<Cause>, Fail> {
+/// Whether a cause is the one of this number, with this epoch and the key. 0 is a hit.
+fn is_cause(cause: Option<Cause>, number: u64, epoch: Epoch) -> bool {
     match number {
-        0 => Ok(None),
-        1 => Ok(Some(Cause::Absent { epoch })),
-        2 => Ok(Some(Cause::Writing { epoch })),
-        3 => Ok(Some(Cause::Leaving { epoch })),
-        4 => Ok(Some(Cause::OtherKey { epoch, key })),
-        _ => Err(Fail::from("a cause")),
+        0 => cause.is_none(),
+        1 => cause == Some(Cause::Absent { epoch }),
+        2 => cause == Some(Cause::Writing { epoch }),
+        3 => cause == Some(Cause::Leaving { epoch }),
+        4 => cause == Some(Cause::OtherKey { epoch, key: KEY }),
+        _ => false,
     }
 }
 
@@ -170,18 +177,17 @@ const CAUSES: &str = "\
 5 true Gone 0 absent absent";
 
 /// Whether the causes are those of the row.
-fn has_its_causes(row: &str) -> Result<bool, Fail> {
+fn has_its_causes(row: &str) -> Option<bool> {
     let [version, doom, stage, readers, own, other] = numbers::<6>(row)?;
     let epoch = word([version, doom, stage, readers])?.epoch;
-    let (own, other) = (cause(own, epoch, KEY)?, cause(other, epoch, KEY)?);
-    Ok(cause_of(&epoch, &KEY, &KEY) == own && cause_of(&epoch, &KEY, &OTHER) == other)
+    let (hit, miss) = (cause_of(&epoch, &KEY, &KEY), cause_of(&epoch, &KEY, &OTHER));
+    Some(is_cause(hit, own, epoch) && is_cause(miss, other, epoch))
 }
 
 #[test]
-fn causes_come_in_order(rt: HostRuntime) -> Result<(), Fail> {
+fn causes_come_in_order(rt: HostRuntime) {
     assert_eq!(rt; CAUSES.lines().count(), 14);
     for row in CAUSES.lines() {
-        assert!(rt; has_its_causes(row)?, "{row}");
+        assert!(rt; has_its_causes(row) == Some(true), "{row}");
     }
-    Ok(())
 }

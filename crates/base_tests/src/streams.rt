@@ -5,7 +5,6 @@ use rock_io::{
 use std::alloc::Global;
 use std::io;
 use std::io::{Cursor, Read, Write};
-use std::test::Fail;
 
 /// Takes no byte.
 #[derive(Drop)]
@@ -43,32 +42,64 @@ impl Write for Broken {
 
 fn is_send<T: Send + Drop>(_value: T) {}
 
-// What each call of a source answers, and what it leaves in a buffer of eight bytes.
-const GIVEN: &str = "\
-Ok(3);abc.....
-Err(Failed);........
-Ok(3);def.....
-Ok(2);gh......
-Ok(0);........
-Ok(0);........";
-
-/// What a call of a source answers, and what it leaves in a buffer of eight bytes.
-fn given(alloc: Global, source: &mut MemSource) -> Result<String, Fail> {
-    let mut buf = *b"........";
+/// What a call of a source answers, and what it leaves in a buffer of four bytes.
+fn given<S: Source>(alloc: Global, source: &mut S) -> Option<String> {
+    let mut buf = *b"....";
     let answer = source.read(&mut buf);
-    let left = str::from_utf8(&buf)?;
-    Ok(format!(in alloc; "{answer:?};{left}")?)
+    let left = str::from_utf8(&buf).ok()?;
+    format!(in alloc; "{answer:?};{left}").ok()
+}
+
+/// Whether the next call gives what stands in the row.
+fn gives<S: Source>(alloc: Global, source: &mut S, row: &str) -> bool {
+    match given(alloc, source) {
+        Some(told) => told.as_str() == row,
+        None => false,
+    }
+}
+
+// What the calls give of eight bytes in pieces of three, where call 1 fails.
+const PIECES: &str = "\
+Ok(3);abc.
+Err(Failed);....
+Ok(3);def.
+Ok(2);gh..
+Ok(0);....
+Ok(0);....";
+
+/// A source of eight bytes that gives pieces of three, and fails call 1.
+fn pieces(alloc: Global) -> Option<MemSource> {
+    let mut fail = Vec::new(alloc);
+    fail.push(1).ok()?;
+    Some(MemSource::new(b"abcdefgh".to_vec(alloc).ok()?, 3, fail))
 }
 
 #[test]
-fn mem_source_gives_pieces_to_the_end(rt: HostRuntime) -> Result<(), Fail> {
-    let bytes = b"abcdefgh".to_vec(rt.alloc())?;
-    let mut source = MemSource::new(bytes, 3, [1].to_vec(rt.alloc())?);
-    assert_eq!(rt; GIVEN.lines().count(), 6);
-    for row in GIVEN.lines() {
-        assert!(rt; given(rt.alloc(), &mut source)?.as_str() == row, "{row}");
+fn mem_source_gives_pieces_to_the_end(rt: HostRuntime) {
+    let Some(mut source) = pieces(rt.alloc()) else {
+        assert!(rt; false, "no source");
+        return;
+    };
+    assert_eq!(rt; PIECES.lines().count(), 6);
+    for row in PIECES.lines() {
+        assert!(rt; gives(rt.alloc(), &mut source, row), "{row}");
     }
-    Ok(())
+}
+
+// What the calls give where the reader has five bytes.
+const READ: &str = "\
+Ok(4);abcd
+Ok(1);e...
+Ok(0);....";
+
+#[test]
+fn std_source_gives_what_the_reader_gives(rt: HostRuntime) {
+    let mut source = StdSource::new(b"abcde".as_slice());
+    assert_eq!(rt; READ.lines().count(), 3);
+    for row in READ.lines() {
+        assert!(rt; gives(rt.alloc(), &mut source, row), "{row}");
+    }
+    assert!(rt; gives(rt.alloc(), &mut StdSource::new(Broken), "Err(Failed);...."));
 }
 
 // The room of a sink, the call that fails, if one does, the answers, and what the sink then holds. The write of no byte is
@@ -80,80 +111,94 @@ const TAKEN: &str = "\
 0;;Ok(0) Err(Failed);";
 
 /// What a sink of this room answers that fails this call, and what it holds.
-fn taken(alloc: Global, room: &str, call: &str) -> Result<String, Fail> {
+fn taken(alloc: Global, room: &str, call: &str) -> Option<String> {
     let mut fail = Vec::new(alloc);
     if !call.is_empty() {
-        fail.push(call.parse()?)?;
+        fail.push(call.parse().ok()?).ok()?;
     }
-    let mut sink = MemSink::new(alloc, room.parse()?, 2, fail)?;
+    let mut sink = MemSink::new(alloc, room.parse().ok()?, 2, fail).ok()?;
     let none = sink.write(b"");
     let answer = write_all(&mut sink, b"abcdefg");
-    let taken = str::from_utf8(sink.taken())?;
-    Ok(format!(in alloc; "{none:?} {answer:?};{taken}")?)
+    let taken = str::from_utf8(sink.taken()).ok()?;
+    format!(in alloc; "{none:?} {answer:?};{taken}").ok()
+}
+
+/// Whether a sink answers and holds what stands in the row.
+fn takes(alloc: Global, row: &str) -> Option<bool> {
+    let (room, rest) = fields(row)?;
+    let (call, wanted) = fields(rest)?;
+    Some(taken(alloc, room, call)?.as_str() == wanted)
 }
 
 #[test]
-fn mem_sink_keeps_a_first_part(rt: HostRuntime) -> Result<(), Fail> {
+fn mem_sink_keeps_a_first_part(rt: HostRuntime) {
     assert_eq!(rt; TAKEN.lines().count(), 4);
     for row in TAKEN.lines() {
-        let (room, rest) = fields(row)?;
-        let (call, wanted) = fields(rest)?;
-        let told = taken(rt.alloc(), room, call)?;
-        assert!(rt; told.as_str() == wanted, "{row}");
+        assert!(rt; takes(rt.alloc(), row) == Some(true), "{row}");
     }
-    Ok(())
 }
 
-#[test]
-fn std_source_gives_what_the_reader_gives(rt: HostRuntime) {
-    let mut source = StdSource::new(b"abcde".as_slice());
-    for (answer, given) in [(4, *b"abcd"), (1, *b"e..."), (0, *b"....")] {
-        let mut buf = *b"....";
-        assert_eq!(rt; source.read(&mut buf), Ok(answer));
-        assert_eq!(rt; buf, given);
-    }
-    let mut source = StdSource::new(Broken);
-    assert_eq!(rt; source.read(&mut [0]), Err(Failed));
-}
-
-#[test]
-fn std_sink_hands_all_to_the_writer(rt: HostRuntime) -> Result<(), Fail> {
-    let mut written = Vec::new(rt.alloc());
+/// Whether the writer has all bytes of the text that was handed to it.
+fn is_handed_on(alloc: Global, text: &str) -> bool {
+    let mut written = Vec::new(alloc);
     let mut sink = StdSink::new(&mut written);
-    assert_eq!(rt; write_all(&mut sink, b"abc"), Ok(()));
-    assert_eq!(rt; written.as_slice(), b"abc".as_slice());
+    let is_taken = write_all(&mut sink, text.as_bytes()).is_ok();
+    is_taken && written.as_slice() == text.as_bytes()
+}
 
+#[test]
+fn std_sink_hands_all_to_the_writer(rt: HostRuntime) {
+    assert!(rt; is_handed_on(rt.alloc(), "abc"));
     let mut sink = StdSink::new(Stuck);
-    assert_eq!(rt; sink.write(b""), Ok(0));
-    assert_eq!(rt; sink.write(b"a"), Err(Failed));
+    assert!(rt; sink.write(b"") == Ok(0));
+    assert!(rt; sink.write(b"a") == Err(Failed));
     let mut sink = StdSink::new(Broken);
-    assert_eq!(rt; write_all(&mut sink, b"a"), Err(Failed));
-    Ok(())
+    assert!(rt; write_all(&mut sink, b"a") == Err(Failed));
+}
+
+/// Whether a list of the bytes of a text gives them back.
+fn are_bytes_given_back(alloc: Global, text: &str) -> Option<bool> {
+    let bytes = Octets::from_vec(text.as_bytes().to_vec(alloc).ok()?);
+    let is_seen = bytes.as_slice() == text.as_bytes();
+    Some(is_seen && bytes.into_vec().as_slice() == text.as_bytes())
+}
+
+/// Whether a list of one number gives it back.
+fn is_number_given_back(alloc: Global, number: u32) -> Option<bool> {
+    let mut list = Vec::new(alloc);
+    list.push(number).ok()?;
+    let numbers = Numbers::from_vec(list);
+    let is_seen = numbers.as_slice() == [number].as_slice();
+    Some(is_seen && numbers.into_vec().as_slice() == [number].as_slice())
+}
+
+/// Whether a list of one word gives it back.
+fn is_word_given_back(alloc: Global, word: &str) -> Option<bool> {
+    let mut list = Vec::new(alloc);
+    list.push(String::from_str(alloc, word).ok()?).ok()?;
+    let words = Words::from_vec(list);
+    let is_alone = words.as_slice().len() == 1;
+    Some(is_alone && words.into_vec().pop()?.as_str() == word)
 }
 
 #[test]
-fn lists_give_back_what_they_took(rt: HostRuntime) -> Result<(), Fail> {
-    let bytes = Octets::from_vec([7, 8].to_vec(rt.alloc())?);
-    assert_eq!(rt; bytes.as_slice(), [7, 8].as_slice());
-    assert_eq!(rt; bytes.into_vec().as_slice(), [7, 8].as_slice());
-
-    let numbers = Numbers::from_vec([70000].to_vec(rt.alloc())?);
-    assert_eq!(rt; numbers.as_slice(), [70000].as_slice());
-    assert_eq!(rt; numbers.into_vec().as_slice(), [70000].as_slice());
-
-    let words = Words::from_vec(vec![in rt.alloc(); format!(in rt.alloc(); "one")?]?);
-    assert_eq!(rt; words.as_slice().len(), 1);
-    assert_eq!(rt; words.into_vec().pop().ok_or("no word")?.as_str(), "one");
-    Ok(())
+fn lists_give_back_what_they_took(rt: HostRuntime) {
+    let alloc = rt.alloc();
+    assert!(rt; are_bytes_given_back(alloc, "two") == Some(true));
+    assert!(rt; is_number_given_back(alloc, 70_000) == Some(true));
+    assert!(rt; is_word_given_back(alloc, "one") == Some(true));
 }
 
-#[test]
-fn sources_and_sinks_are_send(rt: HostRuntime) -> Result<(), Fail> {
-    let none = Vec::new(rt.alloc());
-    is_send(MemSource::new(Vec::new(rt.alloc()), 1, none));
-    let none = Vec::new(rt.alloc());
-    is_send(MemSink::new(rt.alloc(), 1, 1, none)?);
+/// Whether values of these types may be sent to another thread, which is shown before this is run.
+fn are_sent(alloc: Global) -> Option<()> {
+    is_send(MemSource::new(Vec::new(alloc), 1, Vec::new(alloc)));
+    is_send(MemSink::new(alloc, 1, 1, Vec::new(alloc)).ok()?);
     is_send(StdSource::new(Cursor::new(b"a".as_slice())));
-    is_send(StdSink::new(Vec::<u8>::new(rt.alloc())));
-    Ok(())
+    is_send(StdSink::new(Vec::<u8>::new(alloc)));
+    Some(())
+}
+
+#[test]
+fn sources_and_sinks_are_send(rt: HostRuntime) {
+    assert!(rt; are_sent(rt.alloc()).is_some());
 }

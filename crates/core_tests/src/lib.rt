@@ -2,8 +2,6 @@
 #![tactic(auto)]
 
 #[cfg(test)]
-mod blank;
-#[cfg(test)]
 mod play;
 #[cfg(test)]
 mod runs;

@@ -1,11 +1,10 @@
 mod order;
-mod walk;
 
-use crate::blank::blank_core;
 use crate::play::{act_in, word_in};
-use core_runs::{RunEnd, run_steps};
+use blank_core::blank_core;
+use core_runs::run_steps;
 use core_state::{Core, Step};
-use std::test::Fail;
+use std::alloc::Global;
 
 /// Runs of steps, one after the other over one core of two slots: the steps, and behind them how the run ended
 /// and, where it says so, what the word of the anchor is then.
@@ -36,34 +35,42 @@ end RunEnd { done: 4, fault: None }
 stands 1 6 0
 ";
 
-/// Makes the steps. Nothing is ensured: what calls this is proved quickly.
-fn run(core: &mut Core, steps: &[Step]) -> RunEnd {
-    run_steps(core, steps)
+/// Makes the steps, and tells how that ended. Nothing is ensured: what calls this is proved quickly.
+fn run(alloc: Global, core: &mut Core, steps: &[Step]) -> Option<String> {
+    let end = run_steps(core, steps);
+    format!(in alloc; "{end:?}").ok()
+}
+
+/// Whether the line is as it should be: the steps end so, or the word of the anchor is this one, or it is one step more. It is
+/// a comment else.
+fn is_so(alloc: Global, core: &mut Core, steps: &mut Vec<Step>, line: &str) -> Option<bool> {
+    if let Some(wanted) = line.strip_prefix("end ") {
+        let end = run(alloc, core, steps)?;
+        steps.clear();
+        return Some(end.as_str() == wanted);
+    }
+    if let Some(word) = line.strip_prefix("stands ") {
+        return Some(*core.words().first()? == word_in(word)?);
+    }
+    if !line.starts_with("# ") {
+        steps.push(Step::Act(act_in(line)?)).ok()?;
+    }
+    Some(true)
 }
 
 #[test]
-fn a_run_ends_at_the_first_step_that_is_refused(rt: HostRuntime) -> Result<(), Fail> {
+fn a_run_ends_at_the_first_step_that_is_refused(rt: HostRuntime) {
     let alloc = rt.alloc();
-    let mut core = blank_core(&rt, alloc, 2, 1, 1)?;
+    let Some(mut core) = blank_core(alloc, 2, 1, 1) else {
+        assert!(rt; false, "no core");
+        return;
+    };
     let mut steps = Vec::new(alloc);
-    let mut ends = 0u32;
+    assert_eq!(rt; RUNS.lines().count(), 24);
     for line in RUNS.lines() {
-        if let Some(wanted) = line.strip_prefix("end ") {
-            let end = run(&mut core, &steps);
-            assert_eq!(rt; format!(in alloc; "{end:?}")?.as_str(), wanted);
-            steps.clear();
-            ends = ends.saturating_add(1);
-        } else if let Some(word) = line.strip_prefix("stands ") {
-            assert_eq!(rt; core.words().first().copied(), word_in(word), "{line}");
-            ends = ends.saturating_add(1);
-        } else if !line.starts_with("# ") {
-            let act = act_in(line);
-            assert!(rt; act.is_some(), "no step is {line}");
-            if let Some(act) = act {
-                steps.push(Step::Act(act))?;
-            }
-        }
+        assert!(rt;
+            is_so(alloc, &mut core, &mut steps, line) == Some(true),
+            "{line}"
+        );
     }
-    assert_eq!(rt; ends, 5);
-    Ok(())
 }

@@ -6,6 +6,8 @@ mod loads;
 #[cfg(test)]
 mod marking;
 #[cfg(test)]
+mod rows;
+#[cfg(test)]
 mod summaries;
 #[cfg(test)]
 mod workers;

@@ -1,11 +1,11 @@
+use crate::rows::parted;
 use script_text::{Body, Line, Request, Script};
 use std::alloc::Global;
-use std::test::Fail;
 use workload::bench_script;
 
 /// A line as a text: its worker, its number, the name of its request, the URL, and the body's length and shift,
 /// which are 0 where it has none.
-fn told(alloc: Global, line: &Line) -> Result<String, Fail> {
+fn told(alloc: Global, line: &Line) -> Option<String> {
     let (name, url, length, shift) = match &line.request {
         Request::Get { url } => ("get", url.as_slice(), 0, 0),
         Request::Put {
@@ -19,27 +19,25 @@ fn told(alloc: Global, line: &Line) -> Result<String, Fail> {
         Request::Purge { url } => ("purge", url.as_slice(), 0, 0),
         _ => ("other", b"".as_slice(), 0, 0),
     };
-    let (worker, number, url) = (line.worker, line.number, std::str::from_utf8(url)?);
-    Ok(format!(in alloc; "{worker} {number} {name} {url} {length} {shift}")?)
+    let (worker, number, url) = (line.worker, line.number, str::from_utf8(url).ok()?);
+    format!(in alloc; "{worker} {number} {name} {url} {length} {shift}").ok()
 }
 
 /// The script of a benchmark, told as `SEED WORKERS ROUNDS`.
-fn script_of(alloc: Global, words: &str) -> Result<Script, Fail> {
-    let words: Vec<&str> = words.split(" ").collect(alloc)?;
-    let [seed, workers, rounds] = words.as_slice() else {
-        return Err(Fail::from("a script has three numbers"));
-    };
-    let (workers, rounds): (u32, u32) = (workers.parse()?, rounds.parse()?);
+fn script_of(alloc: Global, words: &str) -> Option<Script> {
+    let (seed, rest) = parted(words, " ")?;
+    let (workers, rounds) = parted(rest, " ")?;
+    let (workers, rounds): (u32, u32) = (workers.parse().ok()?, rounds.parse().ok()?);
     if workers == 0 || workers > 32 || rounds > 10_000 {
-        return Err(Fail::from("no benchmark has so many"));
+        return None;
     }
-    Ok(bench_script(alloc, seed.parse()?, workers, rounds)?)
+    bench_script(alloc, seed.parse().ok()?, workers, rounds).ok()
 }
 
 /// The lines of two workers in eight rounds from the greatest seed, and the line of one worker in one round from seed 0, by a
 /// program in another language.
-const LINES: &str = "
-== 18446744073709551615 2 8
+const LINES: &str = "\
+18446744073709551615 2 8
 1 1 purge http://bench/74 0 0
 2 2 get http://bench/55 0 0
 1 3 purge http://bench/58 0 0
@@ -56,25 +54,30 @@ const LINES: &str = "
 2 14 get http://bench/77 0 0
 1 15 put http://bench/24 179 10
 2 16 put http://bench/0 87 15
-== 0 1 1
-1 1 get http://bench/62 0 0
-";
+
+0 1 1
+1 1 get http://bench/62 0 0";
+
+/// Whether the script of a section's head has the lines that stand below.
+fn has_lines(alloc: Global, section: &str) -> Option<bool> {
+    let (head, rows) = parted(section, "\n")?;
+    let script = script_of(alloc, head)?;
+    let lines = script.lines.as_slice();
+    for (line, row) in lines.iter().zip(rows.lines()) {
+        if told(alloc, line)?.as_str() != row {
+            return None;
+        }
+    }
+    Some(lines.len() == rows.lines().count())
+}
 
 #[test]
-fn lines_are_as_another_program_makes_them(rt: HostRuntime) -> Result<(), Fail> {
-    let mut count: usize = 0;
-    for section in LINES.split("\n== ").skip(1) {
-        let (head, rows) = section.split_once("\n").ok_or("a head is a line")?;
-        let script = script_of(rt.alloc(), head)?;
-        let lines = script.lines.as_slice();
-        assert_eq!(rt; lines.len(), rows.lines().count(), "{head}");
-        for (line, row) in lines.iter().zip(rows.lines()) {
-            assert_eq!(rt; told(rt.alloc(), line)?.as_str(), row);
-        }
-        count = count.wrapping_add(lines.len());
+fn lines_are_as_another_program_makes_them(rt: HostRuntime) {
+    // 17 rows, 2 heads, and a line between the sections.
+    assert_eq!(rt; LINES.lines().count(), 20);
+    for section in LINES.split("\n\n") {
+        assert!(rt; has_lines(rt.alloc(), section) == Some(true), "{section}");
     }
-    assert_eq!(rt; count, 17);
-    Ok(())
 }
 
 /// Scripts, and how many lines they have.
@@ -83,12 +86,17 @@ const COUNTS: &str = "\
 0 1 10000 -> 10000
 0 32 3 -> 96";
 
+/// Whether the script of a row has so many lines.
+fn has_count(alloc: Global, row: &str) -> Option<bool> {
+    let (words, count) = parted(row, " -> ")?;
+    let count: usize = count.parse().ok()?;
+    Some(script_of(alloc, words)?.lines.as_slice().len() == count)
+}
+
 #[test]
-fn scripts_have_a_line_for_each_round_and_worker(rt: HostRuntime) -> Result<(), Fail> {
+fn scripts_have_a_line_for_each_round_and_worker(rt: HostRuntime) {
+    assert_eq!(rt; COUNTS.lines().count(), 3);
     for row in COUNTS.lines() {
-        let (words, count) = row.split_once(" -> ").ok_or("a row has a count")?;
-        let script = script_of(rt.alloc(), words)?;
-        assert_eq!(rt; Ok(script.lines.as_slice().len()), count.parse(), "{words}");
+        assert!(rt; has_count(rt.alloc(), row) == Some(true), "{row}");
     }
-    Ok(())
 }

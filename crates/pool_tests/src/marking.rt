@@ -3,7 +3,6 @@ ghost use Rattle.std.specs.Prelude.{◌<◌};
 use marks::{Home, Marks};
 use rock_io::Memory;
 use std::alloc::Global;
-use std::test::Fail;
 
 /// A note that tells each number below its count.
 #[derive(Drop)]
@@ -31,7 +30,7 @@ impl Home<Tally> for Town {
 }
 
 /// What looks at a mark find: before it was set, after it, after the note was taken out, and after another was put.
-#[derive(Debug, Drop, PartialEq)]
+#[derive(Drop, PartialEq)]
 struct Found {
     before: Option<u32>,
     after: Option<u32>,
@@ -71,17 +70,16 @@ fn looks_at(alloc: Global, mark: u8) -> Result<Found, Memory>
 }
 
 #[test]
-fn a_note_is_found_once_it_was_set(rt: HostRuntime) -> Result<(), Fail> {
-    let expected = Found {
-        before: None,
-        after: Some(5),
-        taken: None,
-        put: Some(9),
-    };
+fn a_note_is_found_once_it_was_set(rt: HostRuntime) {
     for mark in [0, 1, 31, 62, 63] {
-        assert_eq!(rt; looks_at(rt.alloc(), mark)?, expected, "{mark}");
+        let wanted = Found {
+            before: None,
+            after: Some(5),
+            taken: None,
+            put: Some(9),
+        };
+        assert!(rt; looks_at(rt.alloc(), mark) == Ok(wanted), "{mark}");
     }
-    Ok(())
 }
 
 /// Takes only what threads may share, and what may move to another.
@@ -90,10 +88,13 @@ fn may_cross<M: Sync, S: Send>(_marks: &M, seats: &Vec<S>) -> usize {
 }
 
 #[test]
-fn marks_are_shared_and_seats_move(rt: HostRuntime) -> Result<(), Fail> {
+fn marks_are_shared_and_seats_move(rt: HostRuntime) {
     for workers in [1, 2, 32] {
-        let (marks, seats) = Marks::<Tally, Town>::new(rt.alloc(), &[0; 64], workers, &())?;
-        assert_eq!(rt; may_cross(&marks, &seats), workers as usize);
+        let Ok((marks, seats)) = Marks::<Tally, Town>::new(rt.alloc(), &[0; 64], workers, &())
+        else {
+            assert!(rt; false, "memory was wanted");
+            return;
+        };
+        assert!(rt; may_cross(&marks, &seats) == workers as usize, "{workers}");
     }
-    Ok(())
 }

@@ -1,14 +1,13 @@
 ghost use Rattle.std.specs.Prelude.{◌≡◌, ◌≤◌, ℕ, List, IfOk, length, vec_len};
 ghost use Rattle.script_text.specs.Script.{IsScript};
 
+use crate::rows::parted;
 use rock_io::{MemSource, Memory};
 use script_text::{Answer, Line, Script, ScriptFault, Shelf, read_script};
-use std::alloc::{AllocError, Global};
+use std::alloc::Global;
 use std::fmt::Write;
-use std::process::Abort;
 use std::sync::Wait;
 use std::sync::atomic::{AtomicBool, Ordering};
-use std::test::Fail;
 use std::thread;
 use std::thread::Threads;
 use worker_pool::{Gate, OpenGate, Ran, run_workers, scripts_may_be_run};
@@ -167,131 +166,138 @@ impl Gate for Order {
 
 /// Scripts of two workers, with what their lines are answered. The head of a section has a name, the line that is held back, and
 /// the line that is to be asked for first; line 0 is none.
-const RUNS: &str = "
-== two_workers_meet; 1; 2
+const RUNS: &str = "\
+two_workers_meet; 1; 2
 1 more 0 -> Added { count: 1 }
 2 more 0 -> Added { count: 1 }
 
-== a_mark_is_met_before_it_was_set; 2; 4
+a_mark_is_met_before_it_was_set; 2; 4
 1 more 0 -> Added { count: 1 }
 1 mark 5 -> Marked
 1 more 0 -> Added { count: 2 }
 2 await 5 -> Met
 2 more 0 -> Added { count: 2 }
 
-== a_mark_is_met_after_it_was_set; 4; 3
+a_mark_is_met_after_it_was_set; 4; 3
 1 more 0 -> Added { count: 1 }
 1 mark 5 -> Marked
 1 more 0 -> Added { count: 2 }
 2 await 5 -> Met
 2 more 0 -> Added { count: 2 }
 
-== a_mark_is_unmet_where_no_earlier_line_sets_it; 0; 0
+a_mark_is_unmet_where_no_earlier_line_sets_it; 0; 0
 1 await 3 -> Unmet
 1 more 0 -> Added { count: 1 }
 2 mark 3 -> Marked
 2 await 3 -> Met
 2 await 4 -> Unmet
-2 more 0 -> Added { count: 1 }
-";
+2 more 0 -> Added { count: 1 }";
 
-/// Runs a section. Tells how many rows it has.
-fn plays<R: Abort + AllocGlobal + Threads + Wait + Sync>(
-    rt: &R,
-    section: &str,
-) -> Result<u32, Fail> {
-    let alloc = rt.alloc();
-    let (head, rows) = section.split_once("\n").ok_or("a head is a line")?;
-    let fields: Vec<&str> = head.split("; ").collect(alloc)?;
-    let [name, held, until] = fields.as_slice() else {
-        return Err(Fail::from(head));
-    };
-    let order = Order::new(held.parse()?, until.parse()?);
-    let mut text = String::new(alloc);
-    let mut wanted = String::new(alloc);
-    let mut number: u32 = 0;
-    for row in rows.lines() {
-        if row.is_empty() {
-            continue;
-        }
-        let (line, answer) = row.split_once(" -> ").ok_or("a row has an answer")?;
-        number = number.wrapping_add(1);
-        write!(text, "{line}\n")?;
-        write!(wanted, "{number} {answer}\n")?;
+/// The order that the head of a section asks for.
+fn order_of(head: &str) -> Option<Order> {
+    let (_, rest) = parted(head, "; ")?;
+    let (held, until) = parted(rest, "; ")?;
+    Some(Order::new(held.parse().ok()?, until.parse().ok()?))
+}
+
+/// The lines of rows, and their answers, each with the number of its line.
+fn columns_of(alloc: Global, rows: &str) -> Option<(String, String)> {
+    let mut lines = String::new(alloc);
+    let mut answers = String::new(alloc);
+    for (place, row) in rows.lines().enumerate() {
+        let (line, answer) = parted(row, " -> ")?;
+        let number = place + 1;
+        write!(lines, "{line}\n").ok()?;
+        write!(answers, "{number} {answer}\n").ok()?;
     }
-    let Ok(ran) = run(rt, alloc, text.as_bytes(), &[9, 9], &order)? else {
-        return Err(Fail::from("memory was wanted"));
-    };
-    assert_eq!(rt;
-        answers_of(alloc, &ran)?.as_str(),
-        wanted.as_str(),
-        "{name}"
-    );
-    assert!(rt; !order.is_late.load(Ordering::SeqCst), "{name}");
-    assert!(rt; ran.shelves.iter().all(|shelf| shelf.has_left), "{name}");
-    Ok(number)
+    Some((lines, answers))
 }
 
 /// The lines of each worker in its order, each with its answer.
-fn answers_of(alloc: Global, ran: &Ran<Counter>) -> Result<String, AllocError> {
+fn answers_of(alloc: Global, ran: &Ran<Counter>) -> Option<String> {
     let mut text = String::new(alloc);
     for answers in &ran.answers {
         for (number, answer) in answers {
-            write!(text, "{number} {answer:?}\n")?;
+            write!(text, "{number} {answer:?}\n").ok()?;
         }
     }
-    Ok(text)
+    Some(text)
 }
 
-#[test]
-fn scripts_of_two_workers(rt: HostRuntime) -> Result<(), Fail> {
-    let mut count: u32 = 0;
-    for section in RUNS.split("\n== ").skip(1) {
-        count = count.wrapping_add(plays(&rt, section)?);
-    }
-    assert_eq!(rt; count, 18);
-    Ok(())
-}
-
-#[test]
-fn a_worker_that_wants_memory_still_sets_its_marks(rt: HostRuntime) -> Result<(), Fail> {
-    let text = b"1 more 0\n1 more 0\n1 mark 7\n1 more 0\n2 await 7\n2 more 0\n";
-    let Err(shelves) = run(&rt, rt.alloc(), text, &[1, 9], &OpenGate)? else {
-        assert!(rt; false, "no memory was wanted");
-        return Ok(());
+/// Whether a section is answered as its rows say, in its order, and all shelves are left then.
+fn is_answered<R: Threads + Wait + Sync>(rt: &R, alloc: Global, section: &str) -> Option<bool> {
+    let (head, rows) = parted(section, "\n")?;
+    let order = order_of(head)?;
+    let (lines, wanted) = columns_of(alloc, rows)?;
+    let Ok(Ok(ran)) = run(rt, alloc, lines.as_bytes(), &[9, 9], &order) else {
+        return None;
     };
-    for (place, count) in [(0, 1), (1, 2)] {
-        let shelf = shelves
-            .get(place)
-            .map(|shelf| (shelf.count, shelf.has_left));
-        assert_eq!(rt; shelf, Some((count, true)), "{place}");
+    let answers = answers_of(alloc, &ran)?;
+    let is_late = order.is_late.load(Ordering::SeqCst);
+    let are_left = ran.shelves.iter().all(|shelf| shelf.has_left);
+    Some(answers.as_str() == wanted.as_str() && !is_late && are_left)
+}
+
+#[test]
+fn scripts_of_two_workers(rt: HostRuntime) {
+    // 18 rows, 4 heads, and 3 lines between the sections.
+    assert_eq!(rt; RUNS.lines().count(), 25);
+    for section in RUNS.split("\n\n") {
+        assert!(rt;
+            is_answered(&rt, rt.alloc(), section) == Some(true),
+            "{section}"
+        );
     }
-    Ok(())
+}
+
+/// Whether the shelf at a place has served so many lines, and was left.
+fn has_served(shelves: &[Counter], place: usize, count: usize) -> bool {
+    match shelves.get(place) {
+        Some(shelf) => shelf.count as usize == count && shelf.has_left,
+        None => false,
+    }
+}
+
+#[test]
+fn a_worker_that_wants_memory_still_sets_its_marks(rt: HostRuntime) {
+    let text = b"1 more 0\n1 more 0\n1 mark 7\n1 more 0\n2 await 7\n2 more 0\n";
+    let Ok(Err(shelves)) = run(&rt, rt.alloc(), text, &[1, 9], &OpenGate) else {
+        assert!(rt; false, "no memory was wanted");
+        return;
+    };
+    assert!(rt; has_served(&shelves, 0, 1));
+    assert!(rt; has_served(&shelves, 1, 2));
 }
 
 /// A script in which each worker waits for the mark of the one before, serves a line and sets its own mark.
-fn chain_of(alloc: Global, workers: u32) -> Result<String, AllocError> {
+fn chain_of(alloc: Global, workers: u32) -> Option<String> {
     let mut text = String::new(alloc);
-    for worker in 1..=workers {
+    for before in 0..workers {
+        let worker = before + 1;
         write!(
             text,
-            "{worker} await {}\n{worker} more 0\n{worker} mark {worker}\n",
-            worker - 1
-        )?;
+            "{worker} await {before}\n{worker} more 0\n{worker} mark {worker}\n"
+        )
+        .ok()?;
     }
-    Ok(text)
+    Some(text)
+}
+
+/// How many workers of such a script served their lines, each one more than the one before it.
+fn served_in_chain<R: Threads + Wait + Sync>(rt: &R, alloc: Global) -> Option<usize> {
+    let text = chain_of(alloc, 32)?;
+    let Ok(Ok(ran)) = run(rt, alloc, text.as_bytes(), &[9; 32], &OpenGate) else {
+        return None;
+    };
+    for place in 0..ran.shelves.len() {
+        if !has_served(&ran.shelves, place, place + 1) {
+            return None;
+        }
+    }
+    Some(ran.shelves.len())
 }
 
 #[test]
-fn thirty_two_workers_wait_for_one_another(rt: HostRuntime) -> Result<(), Fail> {
-    let text = chain_of(rt.alloc(), 32)?;
-    let Ok(ran) = run(&rt, rt.alloc(), text.as_bytes(), &[9; 32], &OpenGate)? else {
-        assert!(rt; false, "memory was wanted");
-        return Ok(());
-    };
-    assert_eq!(rt; ran.shelves.len(), 32);
-    for (place, shelf) in ran.shelves.iter().enumerate() {
-        assert_eq!(rt; shelf.count as usize, place + 1);
-    }
-    Ok(())
+fn thirty_two_workers_wait_for_one_another(rt: HostRuntime) {
+    assert_eq!(rt; served_in_chain(&rt, rt.alloc()), Some(32));
 }

@@ -1,4 +1,4 @@
-//! Tests of the program's command lines, over files in memory. Most are stories: texts that are played.
+//! Tests of the program's command lines, over files in memory. All are stories: texts that are played.
 #![tactic(auto)]
 
 #[cfg(test)]

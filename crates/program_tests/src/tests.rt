@@ -1,7 +1,11 @@
 mod benching;
 mod calls;
 mod cutting;
+mod entries;
+mod faults;
 mod found;
 mod listing;
 mod refused;
+mod serving;
+mod sharing;
 mod story;

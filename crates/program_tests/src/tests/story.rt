@@ -5,11 +5,12 @@ ghost use Rattle.rock_disk.specs.Memory.{volume_files};
 
 use super::calls::call;
 use std::alloc::Global;
+use std::ops::Range;
 use std::process::Abort;
 use std::sync::Wait;
 use std::test::Fail;
 use std::thread::Threads;
-use story_text::{Command, Stage};
+use story_text::{Command, Stage, with_number};
 
 /// Carries out a command, and compares how it ends and what it prints.
 fn carry_out<R: Abort + Threads + Wait + Sync>(
@@ -53,5 +54,19 @@ pub(super) fn plays<R: Abort + Threads + Wait + Sync>(
         }
     }
     assert!(rt; stage.commands() > 0);
+    Ok(())
+}
+
+/// Plays a story once for each of these numbers, which stands where the text has `@`.
+pub(super) fn plays_each<R: Abort + Threads + Wait + Sync>(
+    rt: &R,
+    alloc: Global,
+    numbers: Range<u32>,
+    story: &str,
+) -> Result<(), Fail> {
+    for number in numbers {
+        let text = with_number(alloc, story, number)?;
+        plays(rt, alloc, text.as_str())?;
+    }
     Ok(())
 }

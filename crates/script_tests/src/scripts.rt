@@ -5,11 +5,10 @@ use rock_io::{Failed, MemSource, Memory, Source};
 use script_text::{Answer, Body, Line, Request, Script, ScriptFault, Shelf, read_script};
 use std::alloc::Global;
 use std::sync::Wait;
-use std::test::Fail;
 
 /// The bytes of a text, in which `|` stands for a line feed.
-fn bytes_of(alloc: Global, text: &str) -> Result<Vec<u8>, Fail> {
-    Ok(text.replace(alloc, '|', "\n")?.into_bytes())
+fn bytes_of(alloc: Global, text: &str) -> Option<Vec<u8>> {
+    Some(text.replace(alloc, '|', "\n").ok()?.into_bytes())
 }
 
 /// Reads this text from a source that gives at most so many bytes in a call, and fails the listed calls.
@@ -19,23 +18,24 @@ fn read(
     workers: u32,
     most: usize,
     fail: &[u64],
-) -> Result<Result<Script, ScriptFault>, Fail> {
-    let fail = fail.to_vec(alloc)?;
+) -> Option<Result<Script, ScriptFault>> {
+    let fail = fail.to_vec(alloc).ok()?;
     let mut source = MemSource::new(bytes_of(alloc, text)?, most.max(1), fail);
-    Ok(read_script(alloc, &mut source, workers))
+    Some(read_script(alloc, &mut source, workers))
+}
+
+/// How many lines a script has.
+fn count_of(script: Result<Script, ScriptFault>) -> Result<usize, ScriptFault> {
+    match script {
+        Ok(script) => Ok(script.lines.as_slice().len()),
+        Err(fault) => Err(fault),
+    }
 }
 
 /// How many lines such a text has, or what is wrong with it.
-fn told(
-    alloc: Global,
-    text: &str,
-    workers: u32,
-    most: usize,
-    fail: &[u64],
-) -> Result<String, Fail> {
-    let script = read(alloc, text, workers, most, fail)?;
-    let count = script.map(|script| script.lines.as_slice().len());
-    Ok(format!(in alloc; "{count:?}")?)
+fn told(alloc: Global, text: &str, workers: u32, most: usize, fail: &[u64]) -> Option<String> {
+    let count = count_of(read(alloc, text, workers, most, fail)?);
+    format!(in alloc; "{count:?}").ok()
 }
 
 // How many workers there are, a text, and how many lines it has, or what is wrong with it.
@@ -91,20 +91,25 @@ const SHORT: &str = "\
 4294967295;4294967295 more 0;Ok(1)
 4294967295;4294967296 more 0;Err(BadLine { line: 1, cause: 3 })";
 
+/// Whether a text is good or bad as its row says, where at most so many bytes are given in a call.
+fn is_short_told(alloc: Global, row: &str, most: usize) -> Option<bool> {
+    let (workers, rest) = fields(row)?;
+    let (text, wanted) = fields(rest)?;
+    let told = told(alloc, text, workers.parse().ok()?, most, &[])?;
+    Some(told.as_str() == wanted)
+}
+
 #[test]
-fn short_scripts_are_good_or_bad_as_tabled(rt: HostRuntime) -> Result<(), Fail> {
-    let alloc = rt.alloc();
+fn short_scripts_are_good_or_bad_as_tabled(rt: HostRuntime) {
     assert_eq!(rt; SHORT.lines().count(), 50);
     for row in SHORT.lines() {
-        let (workers, rest) = fields(row)?;
-        let (text, wanted) = fields(rest)?;
-        let workers = workers.parse()?;
         for most in [1, 7, 8192] {
-            let told = told(alloc, text, workers, most, &[])?;
-            assert!(rt; told.as_str() == wanted, "{row} by {most}");
+            assert!(rt;
+                is_short_told(rt.alloc(), row, most) == Some(true),
+                "{row} by {most}"
+            );
         }
     }
-    Ok(())
 }
 
 // How a text begins, a piece, how often that follows, and how many lines there are, or what is wrong.
@@ -124,22 +129,28 @@ const LONG: &str = "\
 ;1 put b #4194304:0|;17;Err(BadLine { line: 17, cause: 8 })
 1 put b =a|;1 begin 0 b #4194304:0|;16;Err(BadLine { line: 17, cause: 8 })";
 
+/// The same as `is_short_told`.
+fn is_long_told(alloc: Global, row: &str, most: usize) -> Option<bool> {
+    let (front, rest) = fields(row)?;
+    let (piece, rest) = fields(rest)?;
+    let (copies, wanted) = fields(rest)?;
+    let pieces = piece.repeat(alloc, copies.parse().ok()?).ok()?;
+    let text = format!(in alloc; "{front}{pieces}").ok()?;
+    let told = told(alloc, text.as_str(), 1, most, &[])?;
+    Some(told.as_str() == wanted)
+}
+
 #[test]
-fn long_scripts_are_good_or_bad_as_tabled(rt: HostRuntime) -> Result<(), Fail> {
-    let alloc = rt.alloc();
+fn long_scripts_are_good_or_bad_as_tabled(rt: HostRuntime) {
     assert_eq!(rt; LONG.lines().count(), 14);
     for row in LONG.lines() {
-        let (front, rest) = fields(row)?;
-        let (piece, rest) = fields(rest)?;
-        let (copies, wanted) = fields(rest)?;
-        let mut text = String::from_str(alloc, front)?;
-        text.push_str(piece.repeat(alloc, copies.parse()?)?.as_str())?;
         for most in [7, 8192] {
-            let told = told(alloc, text.as_str(), 1, most, &[])?;
-            assert!(rt; told.as_str() == wanted, "{row} by {most}");
+            assert!(rt;
+                is_long_told(rt.alloc(), row, most) == Some(true),
+                "{row} by {most}"
+            );
         }
     }
-    Ok(())
 }
 
 /// The number that a request has, or else 0, and the lengths of its URL and its body.
@@ -169,66 +180,77 @@ fn length_of(body: &Body) -> usize {
     }
 }
 
-// A line, and what its request has: its number, and the lengths of its URL and its body.
+// A line, its worker and its number, and what its request has: its number, and the lengths of its URL and its body.
 const REQUESTS: &str = "\
-1 put http://a/b =hello;(0, 10, 5)
-1 save http://a/b #100:7;(0, 10, 107)
-1 get http://a/b;(0, 10, 0)
-1 purge http://a/b;(0, 10, 0)
-1 begin 0 http://a/b -;(0, 10, 0)
-1 add 1 90;(901, 0, 0)
-1 end 2;(2, 0, 0)
-1 drop 3;(3, 0, 0)
-1 open 4 http://a/b;(4, 10, 0)
-1 more 5;(5, 0, 0)
-1 close 6;(6, 0, 0)
-2 mark 0;(0, 0, 0)
-1 await 63;(63, 0, 0)";
+1 put http://a/b =hello;1 1 (0, 10, 5)
+1 save http://a/b #100:7;1 2 (0, 10, 107)
+1 get http://a/b;1 3 (0, 10, 0)
+1 purge http://a/b;1 4 (0, 10, 0)
+1 begin 0 http://a/b -;1 5 (0, 10, 0)
+1 add 1 90;1 6 (901, 0, 0)
+1 end 2;1 7 (2, 0, 0)
+1 drop 3;1 8 (3, 0, 0)
+1 open 4 http://a/b;1 9 (4, 10, 0)
+1 more 5;1 10 (5, 0, 0)
+1 close 6;1 11 (6, 0, 0)
+2 mark 0;2 12 (0, 0, 0)
+1 await 63;1 13 (63, 0, 0)";
 
-/// The lines of the rows, as one text.
-fn request_lines(alloc: Global) -> Result<String, Fail> {
+/// The lines of the rows, as they are read.
+fn read_requests(alloc: Global) -> Option<Script> {
     let mut text = String::new(alloc);
     for row in REQUESTS.lines() {
         let (line, _) = fields(row)?;
-        text.push_str(line)?;
-        text.push_str("|")?;
+        text.push_str(line).ok()?;
+        text.push_str("|").ok()?;
     }
-    text.pop();
-    Ok(text)
+    read(alloc, text.as_str(), 2, 8192, &[])?.ok()
 }
 
-/// What the request of a line has.
-fn parts_of(alloc: Global, line: &Line) -> Result<String, Fail> {
-    let parts = parts(&line.request);
-    Ok(format!(in alloc; "{parts:?}")?)
+/// Whether a line has what stands in the row.
+fn has_parts(alloc: Global, line: &Line, row: &str) -> Option<bool> {
+    let (_, wanted) = fields(row)?;
+    let (worker, number, parts) = (line.worker, line.number, parts(&line.request));
+    let told = format!(in alloc; "{worker} {number} {parts:?}").ok()?;
+    Some(told.as_str() == wanted)
 }
 
 #[test]
-fn each_request_is_read(rt: HostRuntime) -> Result<(), Fail> {
-    let alloc = rt.alloc();
-    let script = read(alloc, request_lines(alloc)?.as_str(), 2, 8192, &[])??;
+fn each_request_is_read(rt: HostRuntime) {
+    let Some(script) = read_requests(rt.alloc()) else {
+        assert!(rt; false, "no script was read");
+        return;
+    };
     let lines = script.lines.as_slice();
-    assert_eq!(rt; lines.len(), 13);
+    assert_eq!(rt; (lines.len(), REQUESTS.lines().count()), (13, 13));
     for (line, row) in lines.iter().zip(REQUESTS.lines()) {
-        let (_, wanted) = fields(row)?;
-        assert!(rt; parts_of(alloc, line)?.as_str() == wanted, "{row}");
+        assert!(rt; has_parts(rt.alloc(), line, row) == Some(true), "{row}");
     }
-    assert_eq!(rt; (lines[11].worker, lines[11].number), (2, 12));
-    Ok(())
+}
+
+// A call that fails, and how many lines there are then, or what is wrong.
+const FAILED: &str = "\
+0;Err(Failed)
+1;Err(Failed)
+2;Err(Failed)
+3;Err(Failed)
+4;Err(Failed)
+5;Ok(2)";
+
+/// Whether two lines are read as their row says, in pieces of seven bytes.
+fn is_failure_told(alloc: Global, row: &str) -> Option<bool> {
+    let (call, wanted) = fields(row)?;
+    let call = call.parse().ok()?;
+    let told = told(alloc, "1 get http://a/b|1 more 0|", 1, 7, &[call])?;
+    Some(told.as_str() == wanted)
 }
 
 #[test]
-fn a_source_that_fails_is_told(rt: HostRuntime) -> Result<(), Fail> {
-    let alloc = rt.alloc();
-    for call in 0..6 {
-        let told = told(alloc, "1 get http://a/b|1 more 0|", 1, 7, &[call])?;
-        let wanted = match call {
-            5 => "Ok(2)",
-            _ => "Err(Failed)",
-        };
-        assert!(rt; told.as_str() == wanted, "{call}");
+fn a_source_that_fails_is_told(rt: HostRuntime) {
+    assert_eq!(rt; FAILED.lines().count(), 6);
+    for row in FAILED.lines() {
+        assert!(rt; is_failure_told(rt.alloc(), row) == Some(true), "{row}");
     }
-    Ok(())
 }
 
 /// Gives the same lines in each call, without end, and counts its calls.
@@ -262,27 +284,25 @@ const ENDLESS: &str = "\
 1 more 0|1 fe;Err(BadLine { line: 2, cause: 4 });2
 1 more 0|;Err(BadLine { line: 4097, cause: 1 });4097";
 
-/// What is wrong with these lines, and how many calls it takes to tell.
-fn read_on(alloc: Global, lines: &str) -> Result<String, Fail> {
+/// Whether it is told as in the row what is wrong with lines, by so many calls.
+fn is_end_told(alloc: Global, row: &str) -> Option<bool> {
+    let (lines, wanted) = fields(row)?;
     let mut source = Endless {
         lines: bytes_of(alloc, lines)?,
         calls: 0,
     };
-    let count = read_script(alloc, &mut source, 1).map(|script| script.lines.as_slice().len());
+    let count = count_of(read_script(alloc, &mut source, 1));
     let calls = source.calls;
-    Ok(format!(in alloc; "{count:?};{calls}")?)
+    let told = format!(in alloc; "{count:?};{calls}").ok()?;
+    Some(told.as_str() == wanted)
 }
 
 #[test]
-fn reading_stops_behind_the_first_bad_line(rt: HostRuntime) -> Result<(), Fail> {
-    let alloc = rt.alloc();
+fn reading_stops_behind_the_first_bad_line(rt: HostRuntime) {
     assert_eq!(rt; ENDLESS.lines().count(), 3);
     for row in ENDLESS.lines() {
-        let (lines, wanted) = fields(row)?;
-        let told = read_on(alloc, lines)?;
-        assert!(rt; told.as_str() == wanted, "{row}");
+        assert!(rt; is_end_told(rt.alloc(), row) == Some(true), "{row}");
     }
-    Ok(())
 }
 
 /// A shelf that holds nothing and knows nothing.
@@ -343,10 +363,12 @@ fn serve_all<R: Wait, H: Shelf>(rt: &R, alloc: Global, shelf: &mut H, line: &Lin
 }
 
 #[test]
-fn a_shelf_can_be_had(rt: HostRuntime) -> Result<(), Fail> {
-    let script = read(rt.alloc(), "1 more 0", 1, 1, &[])??;
+fn a_shelf_can_be_had(rt: HostRuntime) {
+    let Some(script) = read_requests(rt.alloc()) else {
+        assert!(rt; false, "no script was read");
+        return;
+    };
     for line in script.lines.as_slice() {
         assert!(rt; serve_all(&rt, rt.alloc(), &mut Bare, line));
     }
-    Ok(())
 }

@@ -1,0 +1,59 @@
+//! Cores that tests of the core begin with, and a step of one.
+#![tactic(auto)]
+
+ghost use Rattle.std.specs.Prelude.{◌≡◌, ℕ, List, All, length, IsTrue};
+
+use core_state::{Core, Step, StepFault};
+use rebuild_model::{FileImage, Images};
+use rock_io::Octets;
+use std::alloc::Global;
+
+/// The bytes of a slot.
+pub const SLOT: usize = 512;
+
+/// A core over a file of these bytes, in slots of 512 bytes. None where there is no such core, or no memory.
+pub fn core_over(alloc: Global, bytes: &[u8], anchors: u32, passes: u32) -> Option<Core> {
+    let mut images = Vec::new(alloc);
+    for slot in bytes.chunks(SLOT) {
+        images
+            .push(Octets::from_vec(slot.to_vec(alloc).ok()?))
+            .ok()?;
+    }
+    let image = FileImage {
+        slot: 512,
+        slots: Images::from_vec(images),
+    };
+    let count = image.slots.as_slice().len();
+    if count < 1 || count > 1_048_576 || anchors < 1 || anchors as usize > count {
+        return None;
+    }
+    if passes < 1 || passes > 32 || !has_width(&image) {
+        return None;
+    }
+    Core::new(alloc, &image, anchors, passes).ok()
+}
+
+/// A core over a file of so many empty slots.
+pub fn blank_core(alloc: Global, slots: u32, anchors: u32, passes: u32) -> Option<Core> {
+    let mut bytes = Vec::new(alloc);
+    bytes.resize(slots as usize * SLOT, 0).ok()?;
+    core_over(alloc, &bytes, anchors, passes)
+}
+
+/// Whether each slot of a file is as wide as the file says.
+fn has_width(image: &FileImage) -> bool
+    ensures { IsTrue result → All (λ (slot : List ℕ). length slot ≡ image.now.slot) image.now.slots }
+{
+    let width = image.slot as usize;
+    let slots = image.slots.as_slice();
+    slots.iter().all(|slot| slot.as_slice().len() == width)
+}
+
+/// Makes a step. Nothing is ensured: what calls this is proved quickly, without all that a step keeps.
+///
+/// # Errors
+///
+/// The step is refused, and the core as it was.
+pub fn make(core: &mut Core, step: &Step) -> Result<u64, StepFault> {
+    core.apply(step)
+}

@@ -1,0 +1,4 @@
+mod calls;
+mod crowd;
+mod lying;
+mod meeting;

@@ -1,9 +1,0 @@
-mod calls;
-mod crowd;
-mod entries;
-mod faults;
-mod lying;
-mod meeting;
-mod serving;
-mod sharing;
-mod story;
