@@ -1,5 +1,5 @@
 #!/usr/bin/env bash
-# Plays the random walk of core_tests, and after each step reads off the state what must hold between two steps:
+# Plays the random walk of walk_tests, and after each step reads off the state what must hold between two steps:
 # readers, writers, freers and last tabs, the counter, what was seen, the place of each slot, the links of
 # chains, turns and their holders, and what cells hold. Clauses say all of this of every step, so this tries
 # the tools and not the code, and it is no part of the gate. It works on a copy. The first run proves the
@@ -12,7 +12,7 @@ trap 'rm -rf "$copy"' EXIT
 
 cd "$root"
 git ls-files -z crates crates.txt HANDLES | xargs -0 cp --parents -t "$copy"
-walk=$copy/crates/core_tests/src/runs/walk
+walk=$copy/crates/walk_tests/src/walk
 mkdir "$walk/checks"
 for file in tests/state_walk/*.txt; do
     name=$(basename "$file" .txt)
@@ -24,5 +24,5 @@ sed -i 's/^mod choice;$/mod checks;\nmod choice;/
     s/^\( *\)watch\.note_step(.*$/&\n\1checks::check(rt, \&core);/' "$walk.rt"
 grep -q 'checks::check' "$walk.rt"
 
-cd "$copy/crates/core_tests"
+cd "$copy/crates/walk_tests"
 RT_SECONDS=${RT_SECONDS:-600} rt test
