@@ -3,7 +3,7 @@ ghost use Rattle.std.specs.Prelude.{◌≡◌, ◌<◌, ◌*◌, ◌++◌, All, 
 ghost use Rattle.store_key.specs.Anchor.{front_half, back_half};
 ghost use Rattle.core_table.specs.Kept.{entry_word, column_index, with_column, chained, link_words, anchor_words, with_turns, opened_words, AreWithin};
 
-use crate::table::{anchor_index, beside_index};
+use crate::layout::{anchor_index, beside_index};
 use core_model::Side;
 use link_word::{Link, pack_link};
 use lock_word::{Epoch, Stage, Word, pack};

@@ -7,9 +7,11 @@
 
 mod content;
 mod kept;
+mod layout;
 mod opened;
 mod table;
 
 pub use content::Content;
+pub use layout::{anchor_index, beside_index, counter_index, link_index, owner_index, turn_index};
 pub use opened::{no_chain, opened_table, opening_of};
 pub use table::{Opening, Table};

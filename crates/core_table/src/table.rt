@@ -2,10 +2,13 @@
 ghost use Rattle.std.specs.Prelude.{◌≡◌, ◌<◌, ◌≤◌, length, drop, slice_index, slice_get, MatchOption, Some};
 ghost use Rattle.lock_word.specs.Words.{IsInRange, word_number};
 ghost use Rattle.core_model.specs.Anchors.{Shaped};
-ghost use Rattle.core_model.specs.Layout.{anchor_index, beside_index, index};
+ghost use Rattle.core_model.specs.Layout.{anchor_index, index};
 
 use crate::content::Content;
-use core_model::{Cell, Chain, Place, Side, View};
+use crate::layout::{
+    anchor_index, beside_index, counter_index, link_index, owner_index, turn_index,
+};
+use core_model::{Cell, Chain, Place, View};
 use lock_word::{Word, word_of};
 
 /// How many tabs a pass has. A note has none.
@@ -31,26 +34,6 @@ pub struct Table {
     pub chains: Vec<Chain>,
 }
 
-/// Where the word of an anchor stands in the table: in front of the four beside it.
-pub(crate) fn anchor_index(anchor: u32) -> usize
-    ensures { result ≡ anchor_index anchor }
-{
-    5 * anchor as usize
-}
-
-/// Where a word beside an anchor stands.
-pub(crate) fn beside_index(side: Side, anchor: u32) -> usize
-    ensures { result ≡ beside_index side anchor }
-{
-    let first = anchor_index(anchor) + 1;
-    match side {
-        Side::Key0 => first,
-        Side::Key1 => first + 1,
-        Side::Offer => first + 2,
-        Side::Start => first + 3,
-    }
-}
-
 impl Opening {
     ghost use Rattle.core_table.specs.Inside.{setting};
 
@@ -58,15 +41,13 @@ impl Opening {
     pub fn index_of(&self, place: Place) -> usize
         ensures { result ≡ index (setting self.now) place }
     {
-        let anchors = self.anchors as usize;
-        let slots = self.slots as usize;
         match place {
             Place::Anchor(anchor) => anchor_index(anchor),
             Place::Beside(side, anchor) => beside_index(side, anchor),
-            Place::Link(slot) => 5 * anchors + 2 * slot as usize,
-            Place::Turn(slot) => 5 * anchors + 2 * slot as usize + 1,
-            Place::Owner(slot) => 5 * anchors + 2 * slots + slot as usize,
-            Place::Counter => 5 * anchors + 3 * slots,
+            Place::Link(slot) => link_index(self.anchors, slot),
+            Place::Turn(slot) => turn_index(self.anchors, slot),
+            Place::Owner(slot) => owner_index(self.anchors, self.slots, slot),
+            Place::Counter => counter_index(self.anchors, self.slots),
         }
     }
 }

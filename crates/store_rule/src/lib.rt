@@ -6,7 +6,6 @@ mod buffers;
 mod cells;
 mod closing;
 mod drafts;
-mod layout;
 mod links;
 mod machine;
 mod notes;

@@ -1,8 +1,8 @@
 // The step calls on the links of slots.
-use crate::layout::link_word;
 use crate::rule::Origin;
 use crate::store::{Pass, Store};
 use core_model::Move;
+use core_table::link_index;
 use link_word::{Link, pack_link, unpack_link};
 use rock_disk::Cell;
 use std::marker::Brand;
@@ -21,7 +21,7 @@ impl<C: Cell, O: Origin> Store<C, O> {
     {
         let at = pass.at(tab);
         let made = Move::Publish { tab, slot, link };
-        let place = link_word(self.anchors, slot);
+        let place = link_index(self.anchors, slot);
         self.swap_as::<Brand>(&mut pass.seat, place, pack_link(link), made);
         pass.tabs.set(tab as usize, published_at(at, slot));
     }
@@ -34,7 +34,7 @@ impl<C: Cell, O: Origin> Store<C, O> {
         ensures { Made C.tells C.state O.offers self.now pass.old (Loosen tab slot) result pass.new }
     {
         let made = Move::Loosen { tab, slot };
-        let place = link_word(self.anchors, slot);
+        let place = link_index(self.anchors, slot);
         let found = self.swap_as::<Brand>(&mut pass.seat, place, 0, made);
         loosen_at(&mut pass.tabs, tab, slot);
         found
@@ -47,7 +47,7 @@ impl<C: Cell, O: Origin> Store<C, O> {
     {
         let at = pass.at(tab);
         let made = Move::GetLink { tab, slot };
-        let place = link_word(self.anchors, slot);
+        let place = link_index(self.anchors, slot);
         let found = self.load_as::<Brand>(&mut pass.seat, place, made);
         let link = link_found(found);
         pass.tabs.set(tab as usize, followed_at(at, link));

@@ -1,8 +1,8 @@
 // The step calls on the owners of slots.
-use crate::layout::owner_word;
 use crate::rule::Origin;
 use crate::store::{Pass, Store};
 use core_model::Move;
+use core_table::owner_index;
 use rock_disk::Cell;
 use std::marker::Brand;
 use tab_states::{given_back_at, reserved_at};
@@ -21,7 +21,7 @@ impl<C: Cell, O: Origin> Store<C, O> {
         let anchor = pass.anchor(tab);
         let owner = anchor as u64 + 1;
         let made = Move::Own { tab, slot };
-        let place = owner_word(self.anchors, self.slots, slot);
+        let place = owner_index(self.anchors, self.slots, slot);
         let found = self.exchange_as::<Brand>(&mut pass.seat, place, 0, owner, made);
         if found != 0 {
             return found;
@@ -38,7 +38,7 @@ impl<C: Cell, O: Origin> Store<C, O> {
     {
         let at = pass.at(tab);
         let made = Move::Disown { tab, slot };
-        let place = owner_word(self.anchors, self.slots, slot);
+        let place = owner_index(self.anchors, self.slots, slot);
         let found = self.swap_as::<Brand>(&mut pass.seat, place, 0, made);
         pass.tabs.set(tab as usize, given_back_at(at, slot));
         found

@@ -1,8 +1,8 @@
 // The step calls on the words beside an anchor.
-use crate::layout::side_word;
 use crate::rule::Origin;
 use crate::store::{Pass, Store};
 use core_model::{Move, Side};
+use core_table::beside_index;
 use rock_disk::Cell;
 use std::marker::Brand;
 use tab_states::loaded_at;
@@ -19,7 +19,7 @@ impl<C: Cell, O: Origin> Store<C, O> {
         let anchor = pass.anchor(tab);
         let made = Move::LoadSide { tab, side };
         let at = pass.at(tab);
-        let place = side_word(anchor, side);
+        let place = beside_index(side, anchor);
         let found = self.load_as::<Brand>(&mut pass.seat, place, made);
         pass.tabs.set(tab as usize, loaded_at(at, side, found));
         found
@@ -32,7 +32,7 @@ impl<C: Cell, O: Origin> Store<C, O> {
     {
         let anchor = pass.anchor(tab);
         let made = Move::StoreSide { tab, side, value };
-        let place = side_word(anchor, side);
+        let place = beside_index(side, anchor);
         self.swap_as::<Brand>(&mut pass.seat, place, value, made);
     }
 }

@@ -2,10 +2,10 @@
 ghost use Rattle.std.specs.Prelude.{◌≡◌};
 ghost use Rattle.lock_word.specs.Words.{IsWord, IsInRange, word_number};
 
-use crate::layout::{anchor_word, counter_word};
 use crate::rule::Origin;
 use crate::store::{Pass, Store};
 use core_model::Move;
+use core_table::{anchor_index, counter_index};
 use lock_word::{Epoch, Stage, Word, is_idle, pack, word_of};
 use rock_disk::Cell;
 use std::marker::Brand;
@@ -25,7 +25,7 @@ impl<C: Cell, O: Origin> Store<C, O> {
         ensures in_range { IsInRange result }
     {
         let made = Move::Look { anchor };
-        let place = anchor_word(anchor);
+        let place = anchor_index(anchor);
         let found = self.load_as::<Brand>(&mut pass.seat, place, made);
         word_of(found)
     }
@@ -37,7 +37,7 @@ impl<C: Cell, O: Origin> Store<C, O> {
         ensures in_range { IsInRange result }
     {
         let made = Move::Enter { tab, anchor };
-        let place = anchor_word(anchor);
+        let place = anchor_index(anchor);
         let found = self.add_as::<Brand>(&mut pass.seat, place, 1, made);
         let word = word_of(found);
         pass.tabs.set(tab as usize, entered_at(anchor, &word));
@@ -49,7 +49,7 @@ impl<C: Cell, O: Origin> Store<C, O> {
         requires { May C.tells C.state O.offers self.now pass.old Count }
         ensures made { Made C.tells C.state O.offers self.now pass.old Count result pass.new }
     {
-        let place = counter_word(self.anchors, self.slots);
+        let place = counter_index(self.anchors, self.slots);
         self.load_as::<Brand>(&mut pass.seat, place, Move::Count)
     }
 
@@ -61,7 +61,7 @@ impl<C: Cell, O: Origin> Store<C, O> {
     {
         let anchor = pass.anchor(tab);
         let made = Move::Leave { tab };
-        let place = anchor_word(anchor);
+        let place = anchor_index(anchor);
         let found = self.sub_as::<Brand>(&mut pass.seat, place, 1, made);
         let left = found - 1;
         let word = word_of(left);
@@ -75,7 +75,7 @@ impl<C: Cell, O: Origin> Store<C, O> {
         requires { May C.tells C.state O.offers self.now pass.old Draw }
         ensures made { Made C.tells C.state O.offers self.now pass.old Draw result pass.new }
     {
-        let place = counter_word(self.anchors, self.slots);
+        let place = counter_index(self.anchors, self.slots);
         self.add_as::<Brand>(&mut pass.seat, place, 1, Move::Draw)
     }
 
@@ -89,7 +89,7 @@ impl<C: Cell, O: Origin> Store<C, O> {
         let anchor = pass.anchor(tab);
         let by = 65536 * (to.number() - pass.stage(tab));
         let made = Move::Raise { tab, to };
-        let place = anchor_word(anchor);
+        let place = anchor_index(anchor);
         let found = self.add_as::<Brand>(&mut pass.seat, place, by, made);
         let left = found + by;
         let word = word_of(left);
@@ -106,7 +106,7 @@ impl<C: Cell, O: Origin> Store<C, O> {
     {
         let anchor = pass.anchor(tab);
         let made = Move::Doom { tab };
-        let place = anchor_word(anchor);
+        let place = anchor_index(anchor);
         let found = self.or_as::<Brand>(&mut pass.seat, place, 524288, made);
         word_of(found | 524288)
     }
@@ -140,7 +140,7 @@ impl<C: Cell, O: Origin> Store<C, O> {
             anchor,
             version,
         };
-        let place = anchor_word(anchor);
+        let place = anchor_index(anchor);
         let found = self.exchange_as::<Brand>(&mut pass.seat, place, before, after, made);
         if found != before {
             return Err(word_of(found));
@@ -159,7 +159,7 @@ impl<C: Cell, O: Origin> Store<C, O> {
     {
         let freed = old + 65536 * (5 - old / 65536 % 8);
         let made = Move::Evict { tab, anchor };
-        let place = anchor_word(anchor);
+        let place = anchor_index(anchor);
         let found = self.exchange_as::<Brand>(&mut pass.seat, place, old, freed, made);
         if found != old {
             pass.tabs.set(tab as usize, At::Free);

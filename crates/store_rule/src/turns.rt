@@ -1,10 +1,10 @@
 // The step calls on the turns of cells, and the moves of a cell under its turn.
 ghost use Rattle.std.specs.Prelude.{Contains, IsTrue};
 
-use crate::layout::turn_word;
 use crate::rule::Origin;
 use crate::store::{Pass, Store};
 use core_model::Move;
+use core_table::turn_index;
 use rock_disk::Cell;
 use std::marker::Brand;
 use std::sync::Wait;
@@ -29,7 +29,7 @@ impl<C: Cell, O: Origin> Store<C, O> {
         ensures { TurnFound C.tells C.state O.offers self.now pass.old tab slot result pass.new }
     {
         let made = Move::TryTurn { tab, slot };
-        let place = turn_word(self.anchors, slot);
+        let place = turn_index(self.anchors, slot);
         let found = self.exchange_as::<Brand>(&mut pass.seat, place, 0, 1, made);
         found == 0
     }
@@ -86,7 +86,7 @@ impl<C: Cell, O: Origin> Store<C, O> {
         reads_may_stay::<C>();
         let at = pass.at(tab);
         let made = Move::EndTurn { tab, slot, goes_on };
-        let place = turn_word(self.anchors, slot);
+        let place = turn_index(self.anchors, slot);
         self.swap_as::<Brand>(&mut pass.seat, place, 0, made);
         pass.tabs.set(tab as usize, ended_at(at, goes_on));
     }

@@ -11,7 +11,7 @@ use Rattle.store_rule.proofs.store.Store.disown.Goals as goal
 
 pub swap_as-found-requires-clause-step : goal.swap_as-found-requires-clause-step
 swap_as-found-requires-clause-step g c = let s = c.args.self.now in
-    disowns (form_of g.C.Cell.tells g.C.Cell.state) (basis g.C.Cell.tells g.C.Cell.state g.O.Origin.offers c.args.self.now) s.table.shared.table_id c.args.pass.now.seat c.requires.own.table (wide _ _ _ _ _ s.sized s.anchors_are s.slots_are) c.args.pass.now.one c.args.tab c.args.slot _ (owned_at _ _ _ _ _ _ c.owner_word-place.ensures s.anchors_are s.slots_are) c.requires.own.stands (may_of c.args.pass.now c.requires.can.allowed)
+    disowns (form_of g.C.Cell.tells g.C.Cell.state) (basis g.C.Cell.tells g.C.Cell.state g.O.Origin.offers c.args.self.now) s.table.shared.table_id c.args.pass.now.seat c.requires.own.table (wide _ _ _ _ _ s.sized s.anchors_are s.slots_are) c.args.pass.now.one c.args.tab c.args.slot _ (owned_at _ _ _ _ _ _ c.owner_index-place.ensures s.anchors_are s.slots_are) c.requires.own.stands (may_of c.args.pass.now c.requires.can.allowed)
 
 pub given_back_at-requires : goal.given_back_at-requires
 given_back_at-requires g c = Rattle.std.proofs.Common.subst HasLoose (sym c.at-at.ensures) (has_loose c.args.slot (tab_at (view c.args.pass.now) c.args.tab) c.requires.can.allowed.1)
