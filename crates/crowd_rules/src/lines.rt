@@ -117,6 +117,7 @@ fn text_of(alloc: Global, asked: Asked, number: u32) -> Result<String, AllocErro
     }
 }
 
+/// The text of a script of these lines, which are numbered from 1 on.
 pub fn script_of(alloc: Global, lines: &[Asked]) -> Result<Vec<u8>, AllocError> {
     let mut text = Vec::new(alloc);
     let mut number: u32 = 1;

@@ -1,6 +1,7 @@
 -- The first item of what is left of a list is taken.
-use Rattle.std.proofs.Common.{List, ap, length, map, sym, take, drop, ◌+◌, ◌++◌, ◌<◌, ◌∙◌, ◌∷◌, ◌≡◌, [], ℕ}
+use Rattle.std.proofs.Common.{Contains, List, ap, length, map, subst, sym, take, drop, ⊎_elim, ◌+◌, ◌++◌, ◌<◌, ◌∙◌, ◌∷◌, ◌≡◌, [], ℕ}
 use Rattle.std.proofs.lemmas.List.{map-append}
+use Rattle.std.proofs.lemmas.List.Elements.{Contains-push_cases}
 use Rattle.std.specs.Prelude.{slice_index_or}
 use Rattle.worker_pool.proofs.Places.{first_left, front_more, next_left}
 
@@ -20,3 +21,7 @@ module _ {A B : Type 0} (f : A → B) where
   pub put_image : (ys zs : List A) (k : ℕ) (xs : List B) (x : B) (y : A) → take (k + 1) xs ≡ take k xs ++ x ∷ [] → map f ys ≡ take k xs → zs ≡ ys ++ y ∷ [] → f y ≡ x → map f zs ≡ take (k + 1) xs
   put_image ys zs k xs x y more is put same =
       ap (map f) put ∙ map-append f ys (y ∷ []) ∙ ap (λ (l : List B). l ++ f y ∷ []) is ∙ ap (λ (z : B). take k xs ++ z ∷ []) same ∙ sym more
+
+  -- what is said of the image of each item is said of one more
+  pub all_put : (ys zs : List A) (y : A) (b : B) → zs ≡ ys ++ y ∷ [] → ((z : A) → Contains ys z → f z ≡ b) → f y ≡ b → (z : A) → Contains zs z → f z ≡ b
+  all_put ys zs y b put each same z among = ⊎_elim (each z) (λ is. ap f (sym is) ∙ same) (Contains-push_cases ys y z (subst (λ (l : List A). Contains l z) put among))

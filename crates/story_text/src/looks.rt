@@ -37,7 +37,7 @@ fn has_contents(cells: &[MemCell], numbers: &str) -> Result<bool, Fail> {
     let count = number(count)? as usize;
     match cells.get(slot) {
         Some(cell) => Ok(cell.possible().len() == count),
-        None => Ok(count == 0),
+        None => Ok(false),
     }
 }
 

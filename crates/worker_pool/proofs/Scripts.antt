@@ -1,14 +1,10 @@
 -- Scripts that were read meet the conditions of a run.
 use Rattle.std.proofs.Common.{◌≡◌, ⊎_elim, ℕ, ◌<◌, ◌≤◌, Bool, true, false, List, [], ◌∷◌, ◌++◌, take, length, get_or, sym, refl, ap, ◌∙◌, subst, arith, Contains, eqb-true}
-use Rattle.std.specs.Prelude.{Result, Ok, Err, IfOk}
 use Rattle.std.specs.List.{list_any}
 use Rattle.std.proofs.lemmas.List.{take-append-le}
 use Rattle.std.proofs.lemmas.List.Folds.{list_any_none}
 use Rattle.std.proofs.lemmas.List.Elements.{Contains-push_cases, Contains-get_or}
 use Rattle.script_text.specs.declared.line.Line.{Line}
-use Rattle.script_text.specs.Script.{GivesScript}
-use Rattle.script_text.specs.declared.line.Script.{Script}
-use Rattle.script_text.specs.declared.fault.ScriptFault.{ScriptFault}
 use Rattle.script_text.specs.declared.request.Request.{Request}
 use Rattle.script_text.specs.declared.request.Request.TheVariants.{Put, Save, Get, Purge, Begin, Add, End, DropTab, OpenTab, More, CloseTab, Mark, Await}
 use Rattle.script_text.specs.declared.verb.Verb.{Verb}
@@ -74,13 +70,3 @@ has_workers {workers = workers} (one_more {lines = lines} {line = line} before i
     (λ (old : Contains lines x). has_workers before x old)
     (λ (same : line ≡ x). subst (λ (l : Line). (1 ≤ l.worker) × (l.worker ≤ workers)) same (is.from, is.to))
     (Contains-push_cases lines line x h)
-
--- what `read_script` says at Ok
-pub read_marks : (workers : ℕ) (tells : Bool) (before after : List ℕ) (r : Result Script ScriptFault) → IfOk r (λ script. GivesScript tells workers before after script.lines) → IfOk r (λ script. HasMarks script.lines)
-read_marks workers tells before after (Ok script) h = has_marks h.1
-read_marks workers tells before after (Err fault) h = h
-
-pub read_workers : (workers : ℕ) (tells : Bool) (before after : List ℕ) (r : Result Script ScriptFault) → IfOk r (λ script. GivesScript tells workers before after script.lines)
-    → IfOk r (λ script. (line : Line) → Contains script.lines line → (1 ≤ line.worker) × (line.worker ≤ workers))
-read_workers workers tells before after (Ok script) h = has_workers h.1
-read_workers workers tells before after (Err fault) h = h

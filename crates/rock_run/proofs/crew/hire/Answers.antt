@@ -1,7 +1,5 @@
-use Rattle.std.proofs.Common.{Contains, ap, arith, length, subst, sym, ⊎_elim, ◌<◌, ◌∙◌}
-use Rattle.std.proofs.lemmas.List.Elements.{Contains-push_cases}
-use Rattle.worker_shelf.specs.Shelves.{OnShelf}
-use Rattle.rock_run.proofs.Fronts.{next, put_image, taken}
+use Rattle.std.proofs.Common.{arith, length, ◌<◌, ◌∙◌}
+use Rattle.rock_run.proofs.Fronts.{all_put, next, put_image, taken}
 use Rattle.rock_run.proofs.crew.hire.Goals as goal
 
 pub loop-preserved : goal.loop-preserved
@@ -17,7 +15,7 @@ loop-preserved g c =
       next c.args.rooms.items c.loop.rooms.items c.remove.new.self.items k c.remove.result i.2 lt2 c.remove.ensures.value c.remove.ensures.by_index.2,
       put_image (λ shelf. shelf.pass) c.loop.shelves.items c.push_reserved.new.self.items k c.args.passes.now.items c.remove-pass.result x pass i.3 c.push_reserved.ensures.items c.with_room.ensures.1,
       put_image (λ shelf. shelf.station) c.loop.shelves.items c.push_reserved.new.self.items k c.args.stations.now.items c.remove-station.result x station i.4 c.push_reserved.ensures.items c.with_room.ensures.2,
-      (λ shelf among. ⊎_elim (i.5 shelf) (λ is. ap (λ (z : OnShelf _ _ _). z.store) (sym is) ∙ c.with_room.ensures.0) (Contains-push_cases c.loop.shelves.items x shelf (subst (λ l. Contains l shelf) c.push_reserved.ensures.items among))),
+      all_put (λ shelf. shelf.store) c.loop.shelves.items c.push_reserved.new.self.items x _ c.push_reserved.ensures.items i.5 c.with_room.ensures.0,
       omega arith,
       c.push_reserved.ensures.capacity ∙ i.7,
       c.remove-pass.ensures.capacity ∙ i.8,
