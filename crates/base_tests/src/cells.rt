@@ -1,4 +1,5 @@
-use crate::rows::{fields, numbers, short};
+use crate::rows::numbers;
+use row_text::{fields, short};
 use slot_cell::{Header, build_image, read_image};
 use std::alloc::Global;
 

@@ -1,7 +1,8 @@
 ghost use Rattle.entry_cut.specs.Labels.{Fits};
 
-use crate::rows::{fields, numbers, short};
+use crate::rows::numbers;
 use entry_cut::{Behind, Cutter, Label, piece_header, published, put_header, slots_needed};
+use row_text::{fields, short};
 use std::alloc::Global;
 
 // The size of a slot and the bytes of a content; the slots that it needs, and those that are published while it

@@ -1,4 +1,5 @@
-use crate::rows::{fields, numbers, short};
+use crate::rows::numbers;
+use row_text::{fields, short};
 use std::alloc::Global;
 use store_key::{anchor_of, check_url, key_of};
 

@@ -1,5 +1,6 @@
-use crate::rows::{fields, numbers, short};
+use crate::rows::numbers;
 use db_layout::{file_size, offset_of, slot_size_ok, slots_of};
+use row_text::{fields, short};
 use std::alloc::Global;
 
 // A number of slots and the size of one; the length of a file of these slots, the offset of the slot behind them,

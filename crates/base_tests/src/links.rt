@@ -1,5 +1,6 @@
-use crate::rows::{fields, numbers};
+use crate::rows::numbers;
 use link_word::{Link, Owner, pack_link, pack_owner, unpack_link, unpack_owner};
+use row_text::fields;
 use std::alloc::Global;
 
 // The bits of a word, and the owner of these bits and the link of these bits.

@@ -1,9 +1,10 @@
-use crate::rows::{numbers, short};
+use crate::rows::numbers;
 use lock_word::{
     Cause, Epoch, Stage, Word, cause_of, is_idle, is_idle_number, is_left_over,
     is_left_over_number, is_readable_number, is_vacant, is_vacant_number, pack, readable, unpack,
     word_of,
 };
+use row_text::short;
 use std::alloc::Global;
 
 /// A word of these numbers: its version, whether it is doomed, its stage and its readers.

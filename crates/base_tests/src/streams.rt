@@ -1,7 +1,7 @@
-use crate::rows::fields;
 use rock_io::{
     Failed, MemSink, MemSource, Numbers, Octets, Sink, Source, StdSink, StdSource, Words, write_all,
 };
+use row_text::fields;
 use std::alloc::Global;
 use std::io;
 use std::io::{Cursor, Read, Write};

@@ -3,11 +3,12 @@ ghost use Rattle.std.specs.Prelude.{◌≡◌, ◌<◌, ◌≤◌, length, IfOk,
 ghost use Rattle.rock_disk.specs.File.{NoneAway};
 ghost use Rattle.rock_disk.specs.Memory.{cell_state, volume_ended, volume_files, volume_made};
 
-use crate::rows::{calls, fields};
+use crate::rows::calls;
 use rock_disk::{
     MemCell, MemStation, MemVolume, Opened, Station, Volume, opened_cells_are_the_files,
     write_keeps_the_old, write_then_read, write_then_sync,
 };
+use row_text::fields;
 use std::alloc::{AllocError, Global};
 use std::test::Fail;
 
@@ -85,7 +86,7 @@ fn keeps_what_a_crash_may_leave(rt: HostRuntime) -> Result<(), Fail> {
     let alloc = rt.alloc();
     assert_eq!(rt; WRITTEN.lines().count(), 7);
     for row in WRITTEN.lines() {
-        let (fail, wanted) = fields(row)?;
+        let (fail, wanted) = fields(row).ok_or("two fields")?;
         let mut volume = volume_of(alloc, calls(alloc, fail)?)?;
         let (mut station, mut cell) = open_old(alloc, &mut volume)?;
         let written = written(alloc, &mut station, &mut cell);

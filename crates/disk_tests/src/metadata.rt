@@ -1,5 +1,5 @@
 // Metadata, byte for byte: how it is read, what is wrong with it first, and how it is written.
-use crate::rows::three_fields;
+use row_text::three_fields;
 use std::alloc::Global;
 use std::test::Fail;
 use swap_meta::{Meta, read_meta, write_meta};
@@ -57,7 +57,7 @@ fn metadata_is_read_and_its_first_fault_is_told(rt: HostRuntime) -> Result<(), F
     let alloc = rt.alloc();
     assert_eq!(rt; READ.lines().count(), 18);
     for row in READ.lines() {
-        let (_, words, wanted) = three_fields(row)?;
+        let (_, words, wanted) = three_fields(row).ok_or("three fields")?;
         let said = said(alloc, &bytes_of(alloc, words)?)?;
         assert!(rt; said.as_str() == wanted, "{row}");
     }

@@ -3,11 +3,12 @@ ghost use Rattle.std.specs.Prelude.{◌≡◌, IfOk, map};
 ghost use Rattle.rock_disk.specs.File.{IsThere, NoneAway};
 ghost use Rattle.rock_disk.specs.Memory.{cell_state, volume_files};
 
-use crate::rows::{calls, fields, three_fields};
+use crate::rows::calls;
 use rock_disk::{
     Cell, CreateFault, MemCell, MemStation, MemVolume, Opened, Station, StationFault, Volume,
     opened_cells_are_the_files, opened_cells_may_be_given_back,
 };
+use row_text::{fields, three_fields};
 use std::alloc::{AllocError, Global};
 use std::test::Fail;
 
@@ -69,8 +70,8 @@ fn refuses_to_open(rt: HostRuntime) -> Result<(), Fail> {
     let alloc = rt.alloc();
     assert_eq!(rt; OPENED.lines().count(), 7);
     for row in OPENED.lines() {
-        let (fail, rest) = fields(row)?;
-        let (length, name, wanted) = three_fields(rest)?;
+        let (fail, rest) = fields(row).ok_or("two fields")?;
+        let (length, name, wanted) = three_fields(rest).ok_or("three fields")?;
         let mut volume = volume_with(alloc, fail, "a", length.parse()?)?;
         let opened = opened(alloc, &mut volume, name)?;
         assert!(rt; opened.as_str() == wanted, "{row}");
@@ -99,7 +100,7 @@ fn refuses_to_create(rt: HostRuntime) -> Result<(), Fail> {
     let alloc = rt.alloc();
     assert_eq!(rt; CREATED.lines().count(), 5);
     for row in CREATED.lines() {
-        let (fail, name, wanted) = three_fields(row)?;
+        let (fail, name, wanted) = three_fields(row).ok_or("three fields")?;
         let mut volume = volume_with(alloc, fail, "b", ONE_SLOT)?;
         let created = created(alloc, &mut volume, name)?;
         assert!(rt; created.as_str() == wanted, "{row}");

@@ -6,7 +6,7 @@ use Rattle.std.proofs.lemmas.List.Elements.{recursion_from_All}
 use Rattle.std.proofs.lemmas.List.Sums.{sum_by-cons}
 use Rattle.rebuild_model.specs.Entry.{AllButLast, Entry, IsComplete, content_of}
 use Rattle.rebuild_model.specs.Image.{BelongsTo, IsFile, header_at}
-use Rattle.rebuild_model.proofs.Completing.{content_length}
+use Rattle.rebuild_model.proofs.Lengths.{content_length}
 use Rattle.plain_model.specs.Store.{published}
 
 -- what is more than m rooms and at most one room more has m rooms in front of its last byte

@@ -4,8 +4,9 @@ ghost use Rattle.plain_store.specs.Servable.{IsServable};
 
 use answer_text::answer_line;
 use plain_model::{Kept, Plain, Setting, Size, Text};
+use plain_rebuild::rebuilt_of;
 use plain_store::{answers_of, fresh, good_lines_are_servable, held, opened};
-use rebuild_model::{FileImage, Found, Images, rebuilt_of};
+use rebuild_model::{FileImage, Found, Images};
 use rock_io::{MemSource, Octets};
 use script_text::{Lines, read_script};
 use std::alloc::Global;

@@ -1,13 +1,8 @@
 pub mod Chains
 pub mod Alone
+pub mod Lengths
 pub mod Metadata
 pub mod Same
-pub mod Walking
-pub mod Summing
-pub mod Completing
-pub mod Greatest
-pub mod Owners
-pub mod Best
 pub mod Winners
 pub mod Whole
 pub mod Finds

@@ -13,8 +13,11 @@ use Rattle.rebuild_model.specs.Image.{BelongsTo, IsGreatest}
 use Rattle.rebuild_model.specs.Entry.{Entry, IsComplete, found_of}
 use Rattle.rebuild_model.specs.Rebuilt.{IsRebuilt}
 use Rattle.rebuild_model.specs.Keeping.{AreWinners, AreOwners}
-use Rattle.rebuild_model.proofs.Best.{One}
 use Rattle.rebuild_model.proofs.Chains.{same_first}
+
+-- one entry begins at a slot
+abbrev pub One : Type 0
+One = (slot : ℕ) (images : List (List ℕ)) (e f : Entry) → IsComplete slot images e → IsComplete slot images f → e.first ≡ f.first → e ≡ f
 
 map_there : {X Y : Type 0} (f : X → Y) (xs : List X) (x : X) → Contains xs x → Contains (map f xs) (f x)
 map_there f xs x there = (there.0, omega (arith, there.1, length-map xs f), get_or-map f xs there.0 x (f x) there.1 ∙ ap f there.2)

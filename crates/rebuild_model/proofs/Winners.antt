@@ -1,5 +1,5 @@
 -- The entries that are kept, gathered anchor by anchor.
-use Rattle.std.proofs.Common.{◌≡◌, inl, inr, ℕ, ◌+◌, ◌<◌, List, [], ◌∷◌, ◌++◌, length, map, ap, sym, ◌∙◌, subst, arith}
+use Rattle.std.proofs.Common.{◌≡◌, ◌⊎◌, inl, inr, ℕ, ◌+◌, ◌<◌, List, [], ◌∷◌, ◌++◌, length, map, ap, sym, ◌∙◌, subst, arith}
 use Rattle.std.specs.Prelude.{Contains, All, slice_index}
 use Rattle.std.specs.List.Sorted.{IsStrictlyIncreasing}
 use Rattle.std.proofs.lemmas.Bool.{cases_lt}
@@ -9,11 +9,14 @@ use Rattle.store_key.specs.Anchor.{anchor_of}
 use Rattle.rebuild_model.specs.declared.found.Found.{Found}
 use Rattle.rebuild_model.specs.Entry.{Entry, found_of}
 use Rattle.rebuild_model.specs.Rebuilt.{IsWinner}
-use Rattle.rebuild_model.specs.Keeping.{HasNoneAt, IsKept, AreWinners, IsOwner, AreOwners}
-use Rattle.rebuild_model.proofs.Best.{nearer}
+use Rattle.rebuild_model.specs.Keeping.{HasNoneAt, IsKept, AreWinners}
 
 abbrev pub anchors_of : ℕ → List Entry → List ℕ
 anchors_of anchors entries = map (λ e. anchor_of e.key anchors) entries
+
+-- what is below the next number is below this one, or is this one
+pub nearer : (s bound : ℕ) → s < bound + 1 → (s < bound) ⊎ (s ≡ bound)
+nearer s bound below = elim (cases_lt s bound) as (λ _. (s < bound) ⊎ (s ≡ bound)) [ inl less ↦ inl less | inr more ↦ inr (omega (arith, below, more)) ]
 
 -- a number above all others can stand behind them
 grow : (xs : List ℕ) (y : ℕ) → IsStrictlyIncreasing xs → All (λ x. x < y) xs → IsStrictlyIncreasing (xs ++ y ∷ [])
@@ -68,12 +71,3 @@ one_won slot images anchors bound winners grown f w k grows =
         | inr same ↦ subst (Contains (anchors_of anchors w.entries ++ anchor_of e.key anchors ∷ [])) (at ∙ sym same) (Contains-push (anchors_of anchors w.entries) (anchor_of e.key anchors))
       ]);
     }
-
-pub owned_on : (anchors : ℕ) (winners : List Found) (owners grown : List ℕ) (s owner : ℕ) → length owners ≡ s → AreOwners anchors winners owners → IsOwner anchors winners s owner → grown ≡ owners ++ owner ∷ []
-    → AreOwners anchors winners grown
-owned_on anchors winners owners grown s owner count all is grows = subst (AreOwners anchors winners) (sym grows) (λ t within. elim (cases_lt t (length owners)) as (λ _. IsOwner anchors winners t (slice_index (owners ++ owner ∷ []) t)) [
-  | inl less ↦ subst (IsOwner anchors winners t) (sym (get_or_append_left owners (owner ∷ []) 0 t less)) (all t less)
-  | inr more ↦
-      let last : t ≡ length owners = omega (arith, within, more, length_push owners owner) in
-      subst (IsOwner anchors winners t) (sym (get_or_push owners owner 0 t (sym last))) (subst (λ u. IsOwner anchors winners u owner) (sym count ∙ sym last) is)
-])

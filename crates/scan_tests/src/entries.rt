@@ -2,7 +2,8 @@ ghost use Rattle.std.specs.Prelude.{◌≡◌, length, IfOk};
 ghost use Rattle.rebuild_model.specs.Image.{IsFile};
 
 use crate::rows::{Image, fields, put};
-use rebuild_model::{FileImage, Found, Images, Rebuilt, complete_at, rebuilt_of};
+use plain_rebuild::{complete_at, rebuilt_of};
+use rebuild_model::{FileImage, Found, Images, Rebuilt};
 use rock_io::{Memory, Octets};
 use slot_cell::{Header, build_image};
 use std::alloc::Global;

@@ -4,12 +4,13 @@ ghost use Rattle.rock_disk.specs.Memory.{cell_state, volume_files, volume_made, 
 ghost use Rattle.rock_disk.specs.Opened.{AreSlots};
 
 use crate::entries::kept;
-use crate::rows::{Image, fields, numbers, put, short};
+use crate::rows::{Image, fields, numbers, put};
 use rock_disk::{
     MemCell, MemStation, MemVolume, Opened, Volume, opened_cells_are_the_files,
     opened_slots_are_wide_and_few,
 };
 use rock_rebuild::{RebuildFault, Scan, Tally, rebuild, scan, tally};
+use row_text::short;
 use std::alloc::{AllocError, Global};
 use std::test::Fail;
 

@@ -1,7 +1,8 @@
-use crate::rows::{fields, numbers, short};
+use crate::rows::numbers;
 use answer_text::answer_line;
 use lock_word::{Cause, Epoch, Stage, Word};
 use rock_io::Octets;
+use row_text::{fields, short};
 use script_text::Answer;
 use std::alloc::Global;
 

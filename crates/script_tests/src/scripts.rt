@@ -1,7 +1,7 @@
 ghost use Rattle.std.specs.Prelude.{◌≡◌, ◌≤◌, false, length, [], IsOk, IfOk};
 
-use crate::rows::fields;
 use rock_io::{Failed, MemSource, Memory, Source};
+use row_text::fields;
 use script_text::{Answer, Body, Line, Request, Script, ScriptFault, Shelf, read_script};
 use std::alloc::Global;
 use std::sync::Wait;

@@ -1,9 +1,0 @@
-use Rattle.std.proofs.Common.{length}
-use Rattle.rebuild_model.proofs.Owners.{SoughtIn}
-use Rattle.rebuild_model.proofs.keeping.owner_of.Given as goal
-
-abbrev pub invariant-winners : goal.invariant-winners
-invariant-winners l = SoughtIn l.winners l.left l.s
-
-abbrev pub decreases-winners : goal.decreases-winners
-decreases-winners l = length l.left

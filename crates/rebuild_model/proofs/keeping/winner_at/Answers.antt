@@ -1,5 +1,0 @@
-use Rattle.rebuild_model.proofs.Best.{at_end}
-use Rattle.rebuild_model.proofs.keeping.winner_at.Goals as goal
-
-pub returns : goal.returns
-returns c = at_end c.args.slot c.args.images.now c.args.anchors c.args.anchor c.slots.first c.slots.best c.slots.invariant.0 c.slots-test.false

@@ -1,9 +1,0 @@
-use Rattle.std.proofs.Common.{length}
-use Rattle.rebuild_model.proofs.Summing.{Summed}
-use Rattle.rebuild_model.proofs.plain.whole_size.Given as goal
-
-abbrev pub invariant-slots : goal.invariant-slots
-invariant-slots l = Summed l.slot l.images l.chain l.left l.size
-
-abbrev pub decreases-slots : goal.decreases-slots
-decreases-slots l = length l.left
