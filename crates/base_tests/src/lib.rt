@@ -1,5 +1,5 @@
-//! Tests of the lowest crates: sources and sinks, the words, headers, keys and offsets of a database file, and how an
-//! entry is cut into slots.
+//! Tests of the lowest crates: sources and sinks, the words, headers, keys and offsets of a database file, what its header
+//! area records, and how an entry is cut into slots.
 #![tactic(auto)]
 
 #[cfg(test)]
@@ -7,11 +7,11 @@ mod cells;
 #[cfg(test)]
 mod cuts;
 #[cfg(test)]
+mod geometries;
+#[cfg(test)]
 mod keys;
 #[cfg(test)]
 mod layouts;
-#[cfg(test)]
-mod links;
 #[cfg(test)]
 mod locks;
 #[cfg(test)]

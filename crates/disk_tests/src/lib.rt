@@ -6,6 +6,8 @@ mod cells;
 #[cfg(test)]
 mod metadata;
 #[cfg(test)]
+mod peeks;
+#[cfg(test)]
 mod rows;
 #[cfg(test)]
 mod volumes;

@@ -27,7 +27,12 @@ fn bytes_of_length(alloc: Global, length: usize) -> Result<Vec<u8>, AllocError> 
 }
 
 /// A volume whose listed calls fail, with a file of so many bytes.
-fn volume_with(alloc: Global, fail: &str, name: &str, length: usize) -> Result<MemVolume, Fail>
+pub(crate) fn volume_with(
+    alloc: Global,
+    fail: &str,
+    name: &str,
+    length: usize,
+) -> Result<MemVolume, Fail>
     ensures { IfOk result (λ volume. NoneAway (volume_files volume)) }
 {
     let mut volume = MemVolume::new(alloc, calls(alloc, fail)?, Vec::new(alloc));
@@ -196,7 +201,7 @@ fn gives_back_what_it_opens(rt: HostRuntime) -> Result<(), Fail> {
 }
 
 /// Why no station is made, if none is.
-fn station_fault(volume: &mut MemVolume, name: &str) -> Option<StationFault>
+pub(crate) fn station_fault(volume: &mut MemVolume, name: &str) -> Option<StationFault>
     requires { IsThere (volume_files volume.old) name.now }
     ensures { volume_files volume.new ≡ volume_files volume.old }
 {

@@ -2,7 +2,7 @@
 use rock_disk::{Cell, CreateFault, Opened, Station, Volume};
 use rock_file::{FileCell, FileStation, FileVolume};
 use row_text::{fields, three_fields};
-use std::alloc::Global;
+use std::alloc::{AllocError, Global};
 use std::fs::{File, OpenOptions};
 use std::test::Fail;
 use std::{fs, io};
@@ -35,18 +35,23 @@ fn fill(
     fill_cell(alloc, station, cells.last_mut()?, 9)
 }
 
-/// The byte that the cell is filled with, as a station reads it. None if the read fails, or not all of the bytes are alike.
-fn filled_with(alloc: Global, station: &mut FileStation<File>, cell: &mut FileCell) -> Option<u8> {
-    let mut bytes = Vec::new(alloc);
-    bytes.resize(cell.width() as usize, 0).ok()?;
-    station.read(cell, &mut bytes).ok()?;
+/// The byte that all of these are. None if they are not alike.
+fn alike(bytes: &[u8]) -> Option<u8> {
     let first = *bytes.first()?;
-    for byte in &bytes {
+    for byte in bytes {
         if *byte != first {
             return None;
         }
     }
     Some(first)
+}
+
+/// The byte that the cell is filled with, as a station reads it. None if the read fails, or not all of the bytes are alike.
+fn filled_with(alloc: Global, station: &mut FileStation<File>, cell: &mut FileCell) -> Option<u8> {
+    let mut bytes = Vec::new(alloc);
+    bytes.resize(cell.width() as usize, 0).ok()?;
+    station.read(cell, &mut bytes).ok()?;
+    alike(&bytes)
 }
 
 /// The bytes that the header area and the slots are filled with.
@@ -127,22 +132,42 @@ fn makes_a_file_and_finds_what_it_wrote(rt: HostRuntime) -> Result<(), Fail> {
         assert!(rt; told.as_str() == wanted, "{row}");
         assert!(rt; volume.create("made", 4, SLOT) == Err(CreateFault::Exists));
     }
+    assert!(rt; peeked(rt.alloc(), &mut volume, "made")?.as_str() == "17407 Some(7)");
     fs::remove_file(&rt, "made")?;
     assert!(rt; volume.ended() == [0, 0, 0, 1].as_slice());
     assert!(rt; volume.faults() == 0);
     Ok(())
 }
 
-// What is opened or made where there is a file "short" of five bytes and no "none", what comes of it, and how many calls
-// have failed by then.
+/// The length of a file, and the byte that its header area is filled with, or why that is not read.
+fn peeked(
+    alloc: Global,
+    volume: &mut FileVolume<&HostRuntime>,
+    name: &str,
+) -> Result<String, AllocError> {
+    let mut header = [0xaa; 16_384];
+    match volume.peek(name, &mut header) {
+        Ok(bytes) => {
+            let filled = alike(&header);
+            format!(in alloc; "{bytes} {filled:?}")
+        }
+        Err(fault) => format!(in alloc; "{fault:?}"),
+    }
+}
+
+// What is opened, made or looked at where there is a file "short" of five bytes and no "none", what comes of it, and how many
+// calls have failed by then.
 const REFUSED: &str = "\
 open;short;Small { bytes: 5 } 0
 open;none;Missing 0
 create;.;Exists 0
 open;.;Failed 1
-create;none/made;Failed 2";
+create;none/made;Failed 2
+peek;short;Small { bytes: 5 } 2
+peek;none;Missing 2
+peek;.;Failed 3";
 
-/// Why the volume does not open this file, or does not make it.
+/// Why the volume does not open this file, does not make it, or does not read its header area.
 fn refusal(
     volume: &mut FileVolume<&HostRuntime>,
     alloc: Global,
@@ -154,6 +179,9 @@ fn refusal(
             Ok(()) => Err(Fail::from("a file that is made")),
             Err(fault) => Ok(format!(in alloc; "{fault:?}")?),
         };
+    }
+    if call == "peek" {
+        return Ok(peeked(alloc, volume, name)?);
     }
     match volume.open_file(alloc, name, SLOT) {
         Ok(
@@ -172,7 +200,7 @@ fn refuses_what_is_no_file_of_slots(rt: HostRuntime) -> Result<(), Fail> {
     let alloc = rt.alloc();
     let mut volume = FileVolume::new(&rt, alloc);
     fs::write(&rt, "short", b"short")?;
-    assert_eq!(rt; REFUSED.lines().count(), 5);
+    assert_eq!(rt; REFUSED.lines().count(), 8);
     for row in REFUSED.lines() {
         let (call, name, wanted) = three_fields(row).ok_or("three fields")?;
         let refusal = refusal(&mut volume, alloc, call, name)?;

@@ -3,7 +3,7 @@ ghost use Rattle.std.specs.Prelude.{IsErr};
 
 use rock_disk::{Cell, Opened, Station, Volume};
 use rock_file::{FileCell, FileStation, FileVolume};
-use row_text::three_fields;
+use row_text::{fields, three_fields};
 use std::alloc::{AllocError, Allocator, Global};
 use std::fs::{Metadata, OpenFile, OpenOptions};
 use std::io;
@@ -22,7 +22,7 @@ const LAST: u64 = 34_359_721_984;
 const PIECE: usize = 1_000;
 
 /// A system whose files have the greatest length, and move few bytes in a call. No file of "loose" in
-/// its name is synced, and one of "locked" is only read. A name with "new" is free.
+/// its name is synced, one of "locked" is only read, and of one of "torn" few bytes are read. A name with "new" is free.
 #[derive(Drop)]
 struct Made;
 
@@ -30,6 +30,7 @@ struct Made;
 struct MadeFile {
     is_loose: bool,
     is_locked: bool,
+    is_torn: bool,
 }
 
 fn refused<T>(kind: ErrorKind) -> io::Result<T>
@@ -39,8 +40,11 @@ fn refused<T>(kind: ErrorKind) -> io::Result<T>
 }
 
 impl FileExt for MadeFile {
-    /// The bytes tell their offset.
+    /// The bytes tell their offset. Of a torn file the first 1,000 are read.
     fn read_at(&self, buf: &mut [u8], offset: u64) -> io::Result<usize> {
+        if self.is_torn && offset >= PIECE as u64 {
+            return refused(ErrorKind::Other);
+        }
         let count = buf.len().min(PIECE);
         for (i, byte) in buf[..count].iter_mut().enumerate() {
             *byte = (offset.wrapping_add(i as u64) % 253) as u8;
@@ -127,9 +131,11 @@ impl Files for Made {
             return refused(ErrorKind::PermissionDenied);
         }
         let is_loose = path.contains("loose");
+        let is_torn = path.contains("torn");
         Ok(MadeFile {
             is_loose,
             is_locked,
+            is_torn,
         })
     }
 
@@ -193,7 +199,7 @@ fn a_file_is_made_once_it_is_synced(rt: HostRuntime) -> Result<(), Fail> {
     Ok(())
 }
 
-/// Whether these are the bytes of a slot that begins there.
+/// Whether these are the bytes that stand there.
 fn is_at(bytes: &[u8], offset: u64) -> bool {
     let mut at = offset;
     for byte in bytes {
@@ -202,7 +208,42 @@ fn is_at(bytes: &[u8], offset: u64) -> bool {
         }
         at = at.wrapping_add(1);
     }
-    bytes.len() == 32_768
+    true
+}
+
+// The name of a file, its length and whether its header area is read, from its place, or why not, and how many calls have
+// failed by then.
+const PEEKED: &str = "\
+firm;34359754752 true 0
+locked;34359754752 true 0
+torn;Failed 1
+loose;34359754752 true 1";
+
+/// What is read of the header area of a file.
+fn peeked(alloc: Global, volume: &mut FileVolume<Made>, name: &str) -> Result<String, AllocError> {
+    let mut header = [0xaa; 16_384];
+    match volume.peek(name, &mut header) {
+        Ok(bytes) => {
+            let is_read = is_at(&header, 0);
+            format!(in alloc; "{bytes} {is_read}")
+        }
+        Err(fault) => format!(in alloc; "{fault:?}"),
+    }
+}
+
+#[test]
+fn the_header_area_is_read_from_its_place(rt: HostRuntime) -> Result<(), Fail> {
+    let alloc = rt.alloc();
+    let mut volume = FileVolume::new(Made, alloc);
+    assert_eq!(rt; PEEKED.lines().count(), 4);
+    for row in PEEKED.lines() {
+        let (name, wanted) = fields(row).ok_or("two fields")?;
+        let peeked = peeked(alloc, &mut volume, name)?;
+        let faults = volume.faults();
+        let told = format!(in alloc; "{peeked} {faults}")?;
+        assert!(rt; told.as_str() == wanted, "{row}");
+    }
+    Ok(())
 }
 
 /// Reads, writes and syncs a slot. Whether its bytes are read, from its place, it is written and it is synced.
@@ -214,7 +255,9 @@ fn tried(
     let mut buf = Vec::new(alloc);
     buf.resize(cell.width() as usize, 0)?;
     let offset = 16_384 + 32_768 * u64::from(cell.number());
-    let is_read = station.read(cell, &mut buf).is_ok() && is_at(&buf, offset);
+    let is_read = station.read(cell, &mut buf).is_ok()
+        && buf.len() == 32_768
+        && is_at(&buf, offset);
     let is_written = station.write(cell, &buf).is_ok();
     let is_synced = station.sync(cell).is_ok();
     format!(in alloc; "{is_read} {is_written} {is_synced}")

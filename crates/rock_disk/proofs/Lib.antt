@@ -4,5 +4,6 @@ pub mod Cutting
 pub mod Homes
 pub mod Openings
 pub mod Out
+pub mod Peeking
 pub mod Places
 pub mod Refusals

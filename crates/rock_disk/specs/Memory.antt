@@ -68,7 +68,7 @@ pub record KeepsCounts (before after : MemVolume) : Type 0 where
   pub plan : volume_plan after ≡ volume_plan before
   pub lists : volume_lists after ≡ volume_lists before
 
--- the file has room for its header area and one slot
+-- the file has room for its header area and one slot; of a slot of no bytes, for its header area
 pub record HasRoom (files : Files) (name : List ℕ) (slot : ℕ) : Type 0 where
   pub was : File
   pub found : get files name ≡ Some was

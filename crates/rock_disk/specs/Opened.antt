@@ -1,5 +1,5 @@
--- A file that is opened, or refused.
-use Rattle.std.specs.Prelude.{◌≡◌, ℕ, ◌+◌, ◌<◌, ◌≤◌, List, length, map, Some, All}
+-- A file that is opened, or whose header area is read; or that is refused.
+use Rattle.std.specs.Prelude.{◌≡◌, ℕ, ◌+◌, ◌<◌, ◌≤◌, List, length, map, take, Some, All}
 use Rattle.std.specs.FinMap.{get, insert}
 use Rattle.db_layout.specs.declared.layout.TheConstants.{HEADER_BYTES, MOST_SLOTS}
 use Rattle.db_layout.specs.Layout.{IsSlotSize, slots_of}
@@ -37,7 +37,15 @@ pub record IsOut (files : Files) (name : List ℕ) (header : CellState) (cells :
   pub header_shape : shape header ≡ (HEADER_NUMBER, HEADER_BYTES)
   pub cell_shapes : map shape cells ≡ shapes_from 0 (length cells) slot
 
--- the file is too short for its header area and one slot
+-- the file of this name has this length, at least a header area's, and these bytes are that header area
+pub record IsPeeked (files : Files) (name : List ℕ) (bytes : ℕ) (front : List ℕ) : Type 0 where
+  pub was : File
+  pub found : get files name ≡ Some was
+  pub size : bytes ≡ length (bytes_of was)
+  pub long : HEADER_BYTES ≤ bytes
+  pub front_is : front ≡ take HEADER_BYTES (bytes_of was)
+
+-- the file is too short for its header area and one slot; of a slot of no bytes, for its header area
 pub record IsSmall (files : Files) (name : List ℕ) (slot bytes : ℕ) : Type 0 where
   pub was : File
   pub found : get files name ≡ Some was

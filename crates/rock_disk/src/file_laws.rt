@@ -1,5 +1,5 @@
-// What opening a file and giving its cells back make of the files. These functions do nothing: the proof
-// of a function that calls one may use what it ensures.
+// What opening a file, giving its cells back and reading its header area make of the files, and tell of
+// them. These functions do nothing: the proof of a function that calls one may use what it ensures.
 ghost use Rattle.std.specs.Prelude.{◌≡◌, ◌+◌, ◌<◌, ◌≤◌, ◌≢◌, ◌++◌, ℕ, List, Some, length, map, All};
 ghost use Rattle.std.specs.FinMap.{get, insert};
 ghost use Rattle.db_layout.specs.Layout.{IsSlotSize, slots_of};
@@ -7,10 +7,10 @@ ghost use Rattle.rock_disk.specs.Cell.{CellState, shape, joined};
 ghost use Rattle.rock_disk.specs.Created.{IsCreated, IsMaybeCreated};
 ghost use Rattle.rock_disk.specs.File.{Files, NoneAway, IsThere, IsKept, HaveSameBytes, bytes_of, cut, rest_cut};
 ghost use Rattle.rock_disk.specs.File.File.{Home, Away};
-ghost use Rattle.rock_disk.specs.Opened.{AreSlots, HasShape, IsOpened, IsOut};
+ghost use Rattle.rock_disk.specs.Opened.{AreSlots, HasShape, IsOpened, IsOut, IsPeeked};
 
 use crate::HEADER_NUMBER;
-use db_layout::MOST_SLOTS;
+use db_layout::{HEADER_BYTES, MOST_SLOTS};
 
 /// A file that is cut anew and joined again has its bytes, whatever the slot size.
 pub fn cutting_keeps_the_bytes()
@@ -78,3 +78,16 @@ pub fn opened_cells_may_be_given_back()
 {
     opened_cells_are_the_files();
 }
+
+/// The header area that a peek reads is what the header cell of the file holds, where the file is in and was
+/// cut, and what a reader of that cell finds where the file is opened. Cutting a file changes nothing of it.
+pub fn peeked_headers_are_read()
+    ensures home { (files : Files) (name : List ℕ) (bytes : ℕ) (front : List ℕ) (header : CellState) (cells : List CellState) (rest : List ℕ)
+        → IsPeeked files name bytes front → get files name ≡ Some (Home header cells rest) → length header.now ≡ HEADER_BYTES
+        → header.now ≡ front }
+    ensures opened { (before after : Files) (name : List ℕ) (slot bytes seen : ℕ) (front : List ℕ) (header : CellState) (cells : List CellState)
+        → IsPeeked before name seen front → IsOpened before after name slot bytes header cells
+        → (header.now ≡ front) × (bytes ≡ seen) }
+    ensures kept { (before after : Files) (name : List ℕ) (slot bytes : ℕ) (front : List ℕ)
+        → IsPeeked before name bytes front → IsKept slot name before after → IsPeeked after name bytes front }
+{}

@@ -17,7 +17,7 @@ pub use cell::{Cell, HEADER_NUMBER};
 pub use file_laws::{
     created_files_are_in, cutting_keeps_the_bytes, header_number_is_no_slots,
     kept_files_have_their_bytes, opened_cells_are_the_files, opened_cells_may_be_given_back,
-    opened_slots_are_wide_and_few,
+    opened_slots_are_wide_and_few, peeked_headers_are_read,
 };
 pub use laws::{
     now_is_a_crash_image, synced_cells_leave_one_image, write_keeps_the_old, write_then_read,
@@ -26,4 +26,4 @@ pub use laws::{
 pub use memory::{MemCell, MemStation, MemVolume};
 pub use station::Station;
 pub use stations::Stations;
-pub use volume::{CreateFault, OpenFault, Opened, StationFault, Volume};
+pub use volume::{CreateFault, OpenFault, Opened, PeekFault, StationFault, Volume};

@@ -4,7 +4,7 @@ ghost use Rattle.rock_io.specs.Faults.{Rose};
 ghost use Rattle.rock_disk.specs.Created.{IsCreated, IsMaybeCreated};
 ghost use Rattle.rock_disk.specs.File.{Files, IsNotAway, IsThere};
 ghost use Rattle.rock_disk.specs.File.File.{Home, Away};
-ghost use Rattle.rock_disk.specs.Opened.{HasShape, IsOpened, IsOut, IsSmall};
+ghost use Rattle.rock_disk.specs.Opened.{HasShape, IsOpened, IsOut, IsPeeked, IsSmall};
 
 use crate::{Cell, Station};
 use db_layout::HEADER_BYTES;
@@ -18,6 +18,21 @@ pub enum OpenFault {
     #[error("there is no file of that name")]
     Missing,
     /// The file is shorter than the header area and one slot. It has this many bytes.
+    #[error("a file of {bytes} bytes is too short")]
+    Small { bytes: u64 },
+    /// The volume's count of faults rose.
+    #[error("the volume failed")]
+    Failed,
+    #[error("out of memory")]
+    Memory,
+}
+
+/// Why the header area of a file was not read.
+#[derive(Clone, Copy, Debug, PartialEq, Eq, Error)]
+pub enum PeekFault {
+    #[error("there is no file of that name")]
+    Missing,
+    /// The file is shorter than the header area. It has this many bytes.
     #[error("a file of {bytes} bytes is too short")]
     Small { bytes: u64 },
     /// The volume's count of faults rose.
@@ -56,6 +71,16 @@ impl From<Memory> for OpenFault {
 
     fn from(_error: Memory) -> Self {
         OpenFault::Memory
+    }
+}
+
+impl From<Memory> for PeekFault {
+    ghost use Rattle.rock_disk.specs.declared.volume.PeekFault.TheVariants as peeking;
+
+    ghost from_gives = { λ _ fault. fault ≡ peeking.Memory };
+
+    fn from(_error: Memory) -> Self {
+        PeekFault::Memory
     }
 }
 
@@ -134,6 +159,27 @@ pub trait Volume {
         ensures unfailed { (IsErrOf result OpenFault.Failed → ⊥) → faults self.new ≡ faults self.old }
         ensures refused { OnErr result (files self.new ≡ files self.old) }
 
+        ensures faults { faults self.old ≤ faults self.new }
+        ensures made { made self.new ≡ made self.old }
+        ensures ended { ended self.new ≡ ended self.old };
+
+    /// Puts the header area of a file into `buf`, its first 16,384 bytes, and answers how long the file
+    /// is. No cell is moved out, and nothing is written. After a refusal `buf` may have any bytes.
+    fn peek(&mut self, name: &str, buf: &mut [u8]) -> Result<u64, PeekFault>
+        requires room { length buf.old ≡ HEADER_BYTES }
+        requires home { IsTrue tells → IsNotAway (get (files self.old) name.now) }
+
+        ensures peeked { IfOk result (λ bytes. IsTrue tells → IsPeeked (files self.old) name.now bytes buf.new) }
+        ensures long { IfOk result (λ bytes. HEADER_BYTES ≤ bytes) }
+
+        // When each refusal comes.
+        ensures missing { IsTrue tells → (IsErrOf result PeekFault.Missing ↔ (get (files self.old) name.now ≡ None)) }
+        ensures short { (bytes : ℕ) → IsErrOf result (PeekFault.Small bytes) → bytes < HEADER_BYTES }
+        ensures small { IsTrue tells → (bytes : ℕ) → (IsErrOf result (PeekFault.Small bytes) ↔ IsSmall (files self.old) name.now 0 bytes) }
+        ensures failed { IsErrOf result PeekFault.Failed → Rose (faults self.old) (faults self.new) }
+        ensures unfailed { (IsErrOf result PeekFault.Failed → ⊥) → faults self.new ≡ faults self.old }
+
+        ensures files { files self.new ≡ files self.old }
         ensures faults { faults self.old ≤ faults self.new }
         ensures made { made self.new ≡ made self.old }
         ensures ended { ended self.new ≡ ended self.old };

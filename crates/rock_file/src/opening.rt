@@ -7,6 +7,7 @@ use rock_disk::OpenFault;
 use std::fs::{OpenFile, OpenOptions};
 use std::io;
 use std::io::ErrorKind;
+use std::os::unix::fs::FileExt;
 use std::rt::Files;
 
 /// Opens a regular file, and asks for its length. A folder or a device is none, and is not opened.
@@ -33,6 +34,11 @@ pub(crate) fn open_for_station<R: Files>(rt: &R, name: &str) -> io::Result<R::Fi
         opened => opened,
     };
     Ok(opened?.0)
+}
+
+/// Fills `buf` with the first bytes of a file.
+pub(crate) fn read_front(file: &impl FileExt, buf: &mut [u8]) -> io::Result<()> {
+    file.read_exact_at(buf, 0)
 }
 
 /// Whether the system refuses to have something written.

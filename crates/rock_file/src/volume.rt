@@ -1,11 +1,11 @@
-ghost use Rattle.std.specs.Prelude.{◌≡◌, ◌+◌, ◌<◌, ◌≤◌, [], ℕ, map, false, IfOk, OnOk, OnErr, IsErrOf, ◌↔◌};
+ghost use Rattle.std.specs.Prelude.{◌≡◌, ◌+◌, ◌<◌, ◌≤◌, [], ℕ, length, map, false, IfOk, OnOk, OnErr, IsErrOf, ◌↔◌};
 ghost use Rattle.std.specs.IoError.{error_kind};
 ghost use Rattle.rock_io.specs.Faults.{one_more};
 
-use crate::opening::{count_slots, extend, open_for_station, open_regular};
+use crate::opening::{count_slots, extend, open_for_station, open_regular, read_front};
 use crate::{FileCell, FileStation};
 use db_layout::HEADER_BYTES;
-use rock_disk::{CreateFault, OpenFault, Opened, StationFault, Stations, Volume};
+use rock_disk::{CreateFault, OpenFault, Opened, PeekFault, StationFault, Stations, Volume};
 use std::alloc::Global;
 use std::fs::OpenOptions;
 use std::io;
@@ -148,6 +148,39 @@ where
             cells,
             bytes,
         })
+    }
+
+    fn peek(&mut self, name: &str, buf: &mut [u8]) -> Result<u64, PeekFault>
+        requires { length buf.old ≡ HEADER_BYTES }
+        ensures long { IfOk result (λ bytes. HEADER_BYTES ≤ bytes) }
+        ensures short { (bytes : ℕ) → IsErrOf result (PeekFault.Small bytes) → bytes < HEADER_BYTES }
+        ensures memory { IsErrOf result PeekFault.Memory → ⊥ }
+
+        // A fault counts once, and nothing else does.
+        ensures failed { IsErrOf result PeekFault.Failed → volume_faults self.new ≡ one_more (volume_faults self.old) }
+        ensures unfailed { (IsErrOf result PeekFault.Failed → ⊥) → volume_faults self.new ≡ volume_faults self.old }
+        ensures faults { volume_faults self.old ≤ volume_faults self.new }
+
+        ensures made { volume_made self.new ≡ volume_made self.old }
+        ensures ended { volume_ended self.new ≡ volume_ended self.old }
+    {
+        let (file, bytes) = match open_regular(&self.rt, name, OpenOptions::new().read(true)) {
+            Ok(opened) => opened,
+            Err(error) => {
+                return match self.refuse(&error) {
+                    OpenFault::Missing => Err(PeekFault::Missing),
+                    _ => Err(PeekFault::Failed),
+                };
+            }
+        };
+        if bytes < u64::from(HEADER_BYTES) {
+            return Err(PeekFault::Small { bytes });
+        }
+        if read_front(&file, buf).is_err() {
+            self.count_fault();
+            return Err(PeekFault::Failed);
+        }
+        Ok(bytes)
     }
 
     fn station(&mut self, name: &str) -> Result<FileStation<R::File>, StationFault>

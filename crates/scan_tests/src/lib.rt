@@ -1,8 +1,11 @@
-//! Tests of complete entries and of what a rebuild keeps: as plain functions tell it, and as a scan finds it.
+//! Tests of complete entries and of what a rebuild keeps: as plain functions tell it, and as a scan finds it. And of the slot
+//! size of a file, as its header area and what is given tell it.
 #![tactic(auto)]
 
 #[cfg(test)]
 mod entries;
+#[cfg(test)]
+mod finding;
 #[cfg(test)]
 mod rows;
 #[cfg(test)]

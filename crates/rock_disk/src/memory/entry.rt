@@ -5,7 +5,7 @@ ghost use Rattle.rock_disk.specs.Opened.{IsSmall};
 ghost use Rattle.rock_disk.specs.Memory.{file_of, files_of, HasRoom};
 
 use super::file::MemFile;
-use crate::OpenFault;
+use crate::{OpenFault, PeekFault};
 use db_layout::HEADER_BYTES;
 use rock_io::{Memory, Octets};
 use std::alloc::Global;
@@ -50,6 +50,23 @@ pub(super) fn place_to_open(entries: &[Entry], name: &str, slot: u32) -> Result<
         return Err(OpenFault::Small { bytes });
     }
     Ok(place)
+}
+
+/// Where the file of this name stands, if it has a header area. It takes no memory.
+pub(super) fn place_to_peek(entries: &[Entry], name: &str) -> Result<usize, PeekFault>
+    ensures place { IfOk result (λ i. Some i ≡ position (λ e. bytes_eq name.now e.name) entries.now) }
+    ensures room { IfOk result (λ i. HasRoom (files_of entries.now) name.now 0) }
+    ensures missing { IsErrOf result PeekFault.Missing ↔ (get (files_of entries.now) name.now ≡ None) }
+    ensures small { (bytes : ℕ) → (IsErrOf result (PeekFault.Small bytes) ↔ IsSmall (files_of entries.now) name.now 0 bytes) }
+    ensures failed { IsErrOf result PeekFault.Failed → ⊥ }
+    ensures memory { IsErrOf result PeekFault.Memory → ⊥ }
+{
+    match place_to_open(entries, name, 0) {
+        Ok(place) => Ok(place),
+        Err(OpenFault::Missing) => Err(PeekFault::Missing),
+        Err(OpenFault::Small { bytes }) => Err(PeekFault::Small { bytes }),
+        Err(OpenFault::Failed | OpenFault::Memory) => unreachable!(),
+    }
 }
 
 /// Puts a file in, in place of one of that name.

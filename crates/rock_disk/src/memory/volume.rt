@@ -5,18 +5,20 @@ ghost use Rattle.rock_io.specs.Plan.{planned, called, FailsNext};
 ghost use Rattle.rock_disk.specs.Created.{IsCreated};
 ghost use Rattle.rock_disk.specs.File.{NoneAway, IsNotAway, IsThere, uncut};
 ghost use Rattle.rock_disk.specs.File.File.{Home, Away};
-ghost use Rattle.rock_disk.specs.Opened.{HasShape, IsOpened, IsOut, IsSmall};
+ghost use Rattle.rock_disk.specs.Opened.{HasShape, IsOpened, IsOut, IsPeeked, IsSmall};
 
 use super::cutting::{CutFile, cut_file};
-use super::entry::{Entry, has_file, place_of, place_to_open, put_entry};
+use super::entry::{Entry, has_file, place_of, place_to_open, place_to_peek, put_entry};
 use super::file::MemFile;
-use crate::{CreateFault, MemCell, MemStation, OpenFault, Opened, StationFault, Stations, Volume};
+use crate::{
+    CreateFault, MemCell, MemStation, OpenFault, Opened, PeekFault, StationFault, Stations, Volume,
+};
 use db_layout::HEADER_BYTES;
 use rock_io::{Memory, Plan};
 use std::alloc::Global;
 use std::mem;
 
-/// Files in memory. Exactly those calls of `create`, `open_file` and `station` fail that are listed.
+/// Files in memory. Exactly those calls of `create`, `open_file`, `peek` and `station` fail that are listed.
 #[derive(Drop)]
 pub struct MemVolume {
     entries: Vec<Entry>,
@@ -31,10 +33,11 @@ impl MemVolume {
 
     /// A volume without files.
     ///
-    /// Calls of `create`, `open_file` and `station` are numbered together from 0, and those in `fail`
-    /// fail. A listed call of `create` that finds a file of that name, or one of `open_file` that
-    /// finds none or one that is too short, answers that, and has used its number. Station k, from 0 in the order of their making, fails at its calls numbered in
-    /// `stations[k]`, and at none if that is not there.
+    /// Calls of `create`, `open_file`, `peek` and `station` are numbered together from 0, and those in
+    /// `fail` fail. A listed call of `create` that finds a file of that name, or one of `open_file` or
+    /// `peek` that finds none or one that is too short, answers that, and has used its number. Station k,
+    /// from 0 in the order of their making, fails at its calls numbered in `stations[k]`, and at none if
+    /// that is not there.
     pub fn new(alloc: Global, fail: Vec<u64>, stations: Vec<Vec<u64>>) -> MemVolume
         ensures files { volume_files result ≡ empty }
         ensures home { NoneAway (volume_files result) }
@@ -150,6 +153,43 @@ impl Volume for MemVolume {
         let CutFile { opened, away } = cut_file(alloc, &bytes, slot)?;
         self.entries[place].file = away;
         Ok(opened)
+    }
+
+    fn peek(&mut self, name: &str, buf: &mut [u8]) -> Result<u64, PeekFault>
+        requires room { length buf.old ≡ HEADER_BYTES }
+        requires home { IsNotAway (get (volume_files self.old) name.now) }
+
+        ensures peeked { IfOk result (λ bytes. IsPeeked (volume_files self.old) name.now bytes buf.new) }
+        ensures long { IfOk result (λ bytes. HEADER_BYTES ≤ bytes) }
+
+        // When each refusal comes.
+        ensures missing { IsErrOf result PeekFault.Missing ↔ (get (volume_files self.old) name.now ≡ None) }
+        ensures short { (bytes : ℕ) → IsErrOf result (PeekFault.Small bytes) → bytes < HEADER_BYTES }
+        ensures small { (bytes : ℕ) → (IsErrOf result (PeekFault.Small bytes) ↔ IsSmall (volume_files self.old) name.now 0 bytes) }
+        ensures listed { IsErrOf result PeekFault.Failed ↔ (FailsNext (volume_plan self.old) × HasRoom (volume_files self.old) name.now 0) }
+
+        // Each call has a number, and a fault counts once.
+        ensures plan { volume_plan self.new ≡ called (volume_plan self.old) }
+        ensures faults { volume_faults self.old ≤ volume_faults self.new }
+        ensures failed { IsErrOf result PeekFault.Failed → Rose (volume_faults self.old) (volume_faults self.new) }
+        ensures counted { IsErrOf result PeekFault.Failed → volume_faults self.new ≡ one_more (volume_faults self.old) }
+        ensures unfailed { (IsErrOf result PeekFault.Failed → ⊥) → volume_faults self.new ≡ volume_faults self.old }
+
+        ensures files { volume_files self.new ≡ volume_files self.old }
+        ensures made { volume_made self.new ≡ volume_made self.old }
+        ensures ended { volume_ended self.new ≡ volume_ended self.old }
+        ensures lists { volume_lists self.new ≡ volume_lists self.old }
+    {
+        let is_listed = self.plan.begin_call();
+        let place = place_to_peek(&self.entries, name)?;
+        if is_listed {
+            self.plan.fault();
+            return Err(PeekFault::Failed);
+        }
+        let alloc = *self.entries.allocator();
+        let bytes = self.entries[place].file.bytes(alloc)?;
+        buf.copy_from_slice(&bytes[..HEADER_BYTES as usize]);
+        Ok(bytes.len() as u64)
     }
 
     fn station(&mut self, name: &str) -> Result<MemStation, StationFault>
