@@ -1,10 +1,12 @@
-//! Tests of marks and of workers on threads, and of the script and the summary of a benchmark.
+//! Tests of marks, of pages and of workers on threads, and of the script and the summary of a benchmark.
 #![tactic(auto)]
 
 #[cfg(test)]
 mod loads;
 #[cfg(test)]
 mod marking;
+#[cfg(test)]
+mod pages;
 #[cfg(test)]
 mod rows;
 #[cfg(test)]

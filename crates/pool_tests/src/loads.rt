@@ -86,7 +86,7 @@ const COUNTS: &str = "\
 0 1 10000 -> 10000
 0 32 3 -> 96";
 
-/// Whether the script of a row has so many lines.
+/// Whether the script of a row has as many lines as the row says.
 fn has_count(alloc: Global, row: &str) -> Option<bool> {
     let (words, count) = parted(row, " -> ")?;
     let count: usize = count.parse().ok()?;

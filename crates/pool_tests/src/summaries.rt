@@ -1,8 +1,8 @@
-use bench_summary::{summary_line, summary_of};
 use lock_word::{Cause, Epoch, Stage};
 use rock_io::Octets;
 use script_text::Answer;
 use std::alloc::Global;
+use workload::{summary_line, summary_of};
 
 /// Whether these answers have this line, with a line feed.
 fn has_line(alloc: Global, answers: &[Answer], wanted: &str) -> Option<bool> {

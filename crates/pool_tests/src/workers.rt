@@ -121,7 +121,7 @@ fn run<R: Threads + Wait + Sync, G: Gate + Sync>(
     Ok(run_workers(rt, alloc, shelves, &script, gate))
 }
 
-/// Holds a line back until another one was asked for, for so many turns at most.
+/// Holds the line `held` back until the line `until` was asked for, for a limited number of turns.
 #[derive(Drop)]
 struct Order {
     held: u32,
@@ -250,7 +250,7 @@ fn scripts_of_two_workers(rt: HostRuntime) {
     }
 }
 
-/// Whether the shelf at a place has served so many lines, and was left.
+/// Whether the shelf at a place has served `count` lines, and was left.
 fn has_served(shelves: &[Counter], place: usize, count: usize) -> bool {
     match shelves.get(place) {
         Some(shelf) => shelf.count as usize == count && shelf.has_left,
