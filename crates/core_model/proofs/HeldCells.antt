@@ -110,6 +110,10 @@ module _ {X : Type 0} (k : Setting X) (s : State X) (i : ℕ) (v : View X) (so :
         (λ (q : (j ≡ i) × (told ≡ u)). so.sights.shown i v at a version side value (subst (λ (z : View X). Contains z.seen (Named a version side value)) (sym q.1) c) new)
         (λ (q : (j ≢ i) × (get_elem? s.views j ≡ some u)). so.sights.shown j u q.1 a version side value c new)
         (at_set s.views i j told u uat));
+    old = λ j u uat a version side value c low. ⊎_elim
+        (λ (q : (j ≡ i) × (told ≡ u)). so.sights.old i v at a version side value (subst (λ (z : View X). Contains z.seen (Named a version side value)) (sym q.1) c) low)
+        (λ (q : (j ≢ i) × (get_elem? s.views j ≡ some u)). so.sights.old j u q.1 a version side value c low)
+        (at_set s.views i j told u uat);
     before = λ j u uat a version lt c. ⊎_elim
         (λ (q : (j ≡ i) × (told ≡ u)). subst (λ (z : View X). version_of (epoch_of (find_before version a z.trail)) < version) q.1
         (so.sights.before i v at a version lt (subst (λ (z : View X). Contains z.held version) (sym q.1) c)))
@@ -136,6 +140,7 @@ module _ {X : Type 0} (k : Setting X) (s : State X) (i : ℕ) (v : View X) (so :
       (writer_holds ((slot_words k s.words).beside w.anchor) (chain_of s w.anchor) w w.is_written w.is_settled (Has h') (so.slots.tabs i v at t (Writing w) may.writes))) in record {
         anchors = both.anchors;
         slots = both.slots;
+        map = so.map;
         cells = hold_writer k s i v so at told refl t h h' may.slot_is w (Has h') may.writes may.turn refl refl (inr may.possible) may.image may.settled;
         deeds_tell = deeds_stay k s (renewed s (set s.views i told)) (rewritten_tells s i v t w h' (wrote ∷ v.trail) at may.writes) so.deeds_tell;
         sights = told_sights;

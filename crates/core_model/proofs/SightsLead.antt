@@ -1,16 +1,16 @@
 -- Stages lead on, names that were seen are of shown entries, and versions were drawn late enough: a step keeps it, judged by what it
 -- leaves of the words of anchors and by what its pass has seen and holds then.
-use Rattle.std.proofs.Common.{◌≡◌, ◌≢◌, ◌⊎◌, inl, inr, ⊎_elim, ℕ, ◌+◌, ◌-◌, ◌*◌, ◌<◌, ◌≤◌, List, [], ◌∷◌, ◌++◌, length, get_or, set, sym, refl, ap, ◌∙◌, subst, arith, Bool, true, false, cond, ◌==◌, get_or-set_same, get_or-set_other, Contains}
+use Rattle.std.proofs.Common.{◌≡◌, ◌≢◌, ◌⊎◌, inl, inr, ⊎_elim, ℕ, ◌+◌, ◌-◌, ◌<◌, ◌≤◌, List, [], ◌∷◌, ◌++◌, length, get_or, set, sym, refl, ap, ◌∙◌, subst, arith, Bool, true, false, cond, ◌==◌, get_or-set_same, get_or-set_other, Contains, ◌/◌}
 use Rattle.std.specs.Prelude.{unwrap_or, nat_le}
-use Rattle.std.proofs.lemmas.Bool.{eqb-true, false≢true}
-use Rattle.std.proofs.lemmas.List.Elements.{Contains-append_cases, Contains-append_left, Contains-append_right}
+use Rattle.std.proofs.lemmas.Bool.{eqb-true}
+use Rattle.std.proofs.lemmas.List.Elements.{Contains-append_cases, Contains-append_right}
 use mathlib.Core.Option.{some, some-injective}
 use mathlib.Core.Logic.{dite}
 use native.Mathlib.Decide.{ℕ_discrete}
 use lib.ListN.{get_elem?}
 use Rattle.lock_word.specs.declared.stage.Stage.{Stage}
 use Rattle.lock_word.specs.declared.stage.Stage.TheVariants.{Empty, Taken, Appending, Closed, Halted, Freeing as FreeingStage, Gone}
-use Rattle.lock_word.specs.Words.{stage_number, readers_of, epoch_of, version_of, stage_of, is_idle, is_left_over, word_at, raised, doomed, version_limit, evicted}
+use Rattle.lock_word.specs.Words.{stage_number, epoch_of, version_of, stage_of, word_at, raised, doomed, version_limit, evicted}
 use Rattle.lock_word.proofs.Readers.{epoch_of-more, epoch_of-less}
 use Rattle.lock_word.proofs.Taking.{epoch_of-word_at, version_of-epoch_at}
 use Rattle.lock_word.proofs.Raising.{version_of-raised, stage_of-raised}
@@ -20,10 +20,10 @@ use Rattle.link_word.specs.Words.{link_number}
 use Rattle.core_model.specs.declared.moves.Side.{Side}
 use Rattle.core_model.specs.declared.moves.Side.TheVariants.{Key0, Key1, Offer, Start}
 use Rattle.core_model.specs.declared.moves.Move.{Move}
-use Rattle.core_model.specs.declared.moves.Move.TheVariants.{Look, Enter, Leave, Count, Draw, Take, Evict, Raise, Doom, LoadSide, StoreSide, Own, Disown, Publish, Loosen, GetLink, TryTurn, EndTurn, CellOut, CellIn, Note, Learn, Write, Sync}
+use Rattle.link_word.specs.Map.{with_slot, without_slot}
+use Rattle.core_model.specs.declared.moves.Move.TheVariants.{Look, Enter, Leave, Count, Draw, Take, Evict, Raise, Doom, LoadSide, StoreSide, Own, Disown, Publish, Loosen, GetLink, TryTurn, EndTurn, CellOut, CellIn, Note, Learn, Write, Sync, LookMap}
 use Rattle.core_model.specs.declared.tab.Reader.{Reader}
 use Rattle.core_model.specs.declared.tab.Writer.{Writer}
-use Rattle.core_model.specs.declared.tab.Freer.{Freer}
 use Rattle.core_model.specs.declared.tab.Tab.{Tab}
 use Rattle.core_model.specs.declared.tab.Tab.TheVariants.{Free, Retreating, Reading, Writing, Last, Freeing}
 use Rattle.core_model.specs.declared.view.Kind.TheVariants.{Drew}
@@ -32,7 +32,7 @@ use Rattle.core_model.specs.declared.view.Sight.{Sight}
 use Rattle.core_model.specs.declared.view.Sight.TheVariants.{Stood, Named, Published}
 use Rattle.core_model.specs.declared.view.Place.TheVariants.{Beside}
 use Rattle.core_model.specs.declared.view.View.{View}
-use Rattle.core_model.specs.Layout.{Setting, anchor_index, index, link_index, turn_index, owner_index, counter_index}
+use Rattle.core_model.specs.Layout.{Setting, anchor_index, index, link_index, turn_index, map_index, counter_index, word_in}
 use Rattle.core_model.specs.State.{State, word, counter, side_word}
 use Rattle.core_model.specs.Trails.{last_find, find_before}
 use Rattle.core_model.specs.Tabs.{tab_at, anchor_of, OfWriter, OfFreer, stage_held, IsPass}
@@ -40,10 +40,8 @@ use Rattle.core_model.specs.Steps.{number_found, finding, view_after, after}
 use Rattle.core_model.specs.Anchors.{opening_counter}
 use Rattle.core_model.specs.Sound.{Sound}
 use Rattle.core_model.proofs.Lists.{by_eq, at_set, at_length, set_here, set_else, cons_contains, contains_none}
-use Rattle.core_model.proofs.Tabs.{contains_times, times_without_same, times_without_other}
 use Rattle.core_model.proofs.Places.{beside_far}
-use Rattle.core_model.proofs.EntersKept.{few_readers, has_reader, counted_there}
-use Rattle.core_model.proofs.RaisesKept.{reads_counted}
+use Rattle.core_model.proofs.EntersKept.{few_readers}
 use Rattle.core_model.proofs.OwnsKept.{tab_was}
 use Rattle.core_model.proofs.Knowing.{knows}
 use Rattle.core_model.proofs.NotesFrame.{IsSeen}
@@ -180,8 +178,9 @@ module _ {X : Type 0} (k : Setting X) (s : State X) (i : ℕ) (v : View X) (so :
   onward (Doom t) may a lt = let n : ℕ = word s (anchor_of (tab_at v t)) in set_anchor (anchor_of (tab_at v t)) (doomed n) a (reading_inside k s i v so at pass t may.0 may.1) (inl (version_of-doomed n, inl (sym (stage_of-doomed n))))
   onward (LoadSide t side) may a lt = set_far (index k (Beside side (anchor_of (tab_at v t)))) (get_or s.words (index k (Beside side (anchor_of (tab_at v t)))) 0) a (beside_far k side a (anchor_of (tab_at v t)))
   onward (StoreSide t side value) may a lt = set_far (index k (Beside side (anchor_of (tab_at v t)))) value a (beside_far k side a (anchor_of (tab_at v t)))
-  onward (Own t slot) may a lt = set_far (owner_index k slot) (cond (get_or s.words (owner_index k slot) 0 == 0) (anchor_of (tab_at v t) + 1) (get_or s.words (owner_index k slot) 0)) a (λ e. omega arith)
-  onward (Disown t slot) may a lt = set_far (owner_index k slot) 0 a (λ e. omega arith)
+  onward (LookMap t word) may a lt = set_far (map_index k word) (get_or s.words (map_index k word) 0) a (λ e. omega arith)
+  onward (Own t slot) may a lt = set_far (map_index k (slot / 64)) (with_slot (get_or s.words (map_index k (slot / 64)) 0) slot) a (λ e. omega arith)
+  onward (Disown t slot) may a lt = set_far (map_index k (slot / 64)) (without_slot (get_or s.words (map_index k (slot / 64)) 0) slot) a (λ e. omega arith)
   onward (Publish t slot link) may a lt = set_far (link_index k slot) (link_number link) a (λ e. omega arith)
   onward (Loosen t slot) may a lt = set_far (link_index k slot) 0 a (λ e. omega arith)
   onward (GetLink t slot) may a lt = set_far (link_index k slot) (get_or s.words (link_index k slot) 0) a (λ e. omega arith)
@@ -213,7 +212,7 @@ module _ {X : Type 0} (k : Setting X) (s : State X) (i : ℕ) (v : View X) (so :
   -- what a new sight owes
   abbrev Owes : State X → Sight → Type 0
   Owes s' (Stood a e) = a < k.anchors → e ≡ epoch_of (word s' a)
-  Owes s' (Named a version side value) = opening_counter k < version → IsShown s' a version
+  Owes s' (Named a version side value) = (opening_counter k < version → IsShown s' a version) × (version ≤ opening_counter k → value ≡ word_in k k.words (Beside side a))
   Owes s' (Published a version many) = Unit {0}
 
   owes_one : (s' : State X) (x y : Sight) → Owes s' x → Contains (x ∷ []) y → Owes s' y
@@ -231,29 +230,34 @@ module _ {X : Type 0} (k : Setting X) (s : State X) (i : ℕ) (v : View X) (so :
       let q = so.cells.names.new r.anchor Key0 st.0 (λ e. cc) st.1.to some_slot (omega arith) in
       subst (λ (z : ℕ). IsShown s r.anchor z) is (so.sights.shown q.i q.view q.at r.anchor (version_of (epoch_of (word s r.anchor))) Key0 (side_word k s Key0 r.anchor) q.seen (omega arith))
 
-  loads_owe : (t : ℕ) (side : Side) (x : Tab X) → get_elem? v.tabs t ≡ some x → (n : ℕ) (y : Sight) → Contains (loads x side n) y → Owes (after k s i v (LoadSide t side)) y
-  loads_owe t side (Reading r) was n y c = by_side side c
-    where
-      owes : (other : Side) → Owes (after k s i v (LoadSide t side)) (Named r.anchor r.version other n)
-      owes other new = still_shown (LoadSide t side) refl r.anchor r.version (loads_shown t r was new)
+  -- of an entry of the opening it is what stood there
+  loads_old : (t : ℕ) (r : Reader X) → get_elem? v.tabs t ≡ some (Reading r) → (side : Side) → side ≢ Start → r.version ≤ opening_counter k → side_word k s side r.anchor ≡ word_in k k.words (Beside side r.anchor)
+  loads_old t r was side ne old = let st = so.anchors.tabs i v at t (Reading r) was in let is = st.1.version_is in
+      so.cells.names.old r.anchor side st.0 ne st.1.to (so.slots.tabs i v at t (Reading r) was).some_slot (omega arith)
 
-      by_side : (other : Side) → Contains (loads (Reading r) other n) y → Owes (after k s i v (LoadSide t side)) y
-      by_side Key0 c = owes_one (after k s i v (LoadSide t side)) (Named r.anchor r.version Key0 n) y (owes Key0) c
-      by_side Key1 c = owes_one (after k s i v (LoadSide t side)) (Named r.anchor r.version Key1 n) y (owes Key1) c
-      by_side Offer c = owes_one (after k s i v (LoadSide t side)) (Named r.anchor r.version Offer n) y (owes Offer) c
+  loads_owe : (t : ℕ) (side : Side) (x : Tab X) → get_elem? v.tabs t ≡ some x → (y : Sight) → Contains (loads x side (side_word k s side (anchor_of x))) y → Owes (after k s i v (LoadSide t side)) y
+  loads_owe t side (Reading r) was y c = by_side side c
+    where
+      owes : (other : Side) → other ≢ Start → Owes (after k s i v (LoadSide t side)) (Named r.anchor r.version other (side_word k s other r.anchor))
+      owes other ne = (λ new. still_shown (LoadSide t side) refl r.anchor r.version (loads_shown t r was new), loads_old t r was other ne)
+
+      by_side : (other : Side) → Contains (loads (Reading r) other (side_word k s other r.anchor)) y → Owes (after k s i v (LoadSide t side)) y
+      by_side Key0 c = owes_one (after k s i v (LoadSide t side)) (Named r.anchor r.version Key0 (side_word k s Key0 r.anchor)) y (owes Key0 (λ e. cc)) c
+      by_side Key1 c = owes_one (after k s i v (LoadSide t side)) (Named r.anchor r.version Key1 (side_word k s Key1 r.anchor)) y (owes Key1 (λ e. cc)) c
+      by_side Offer c = owes_one (after k s i v (LoadSide t side)) (Named r.anchor r.version Offer (side_word k s Offer r.anchor)) y (owes Offer (λ e. cc)) c
       by_side Start c = absurd (contains_none y c)
-  loads_owe t side Free was n y c = absurd (contains_none y c)
-  loads_owe t side (Retreating a) was n y c = absurd (contains_none y c)
-  loads_owe t side (Writing w) was n y c = absurd (contains_none y c)
-  loads_owe t side (Last a) was n y c = absurd (contains_none y c)
-  loads_owe t side (Freeing f) was n y c = absurd (contains_none y c)
+  loads_owe t side Free was y c = absurd (contains_none y c)
+  loads_owe t side (Retreating a) was y c = absurd (contains_none y c)
+  loads_owe t side (Writing w) was y c = absurd (contains_none y c)
+  loads_owe t side (Last a) was y c = absurd (contains_none y c)
+  loads_owe t side (Freeing f) was y c = absurd (contains_none y c)
 
   -- who publishes a slot has seen it
-  shows_owe : (s' : State X) (x : Tab X) (u : View X) → get_elem? s'.views i ≡ some u → u.seen ≡ shows x ++ v.seen → (y : Sight) → Contains (shows x) y → Owes s' y
-  shows_owe s' (Writing w) u uat seen y c = ⊎_elim (λ (q : Published w.anchor w.version (length w.published + 1) ≡ y). subst (Owes s') q tt)
-      (λ (d : Contains names y). ⊎_elim (λ (q : name Key0 (unwrap_or w.key0 0) ≡ y). subst (Owes s') q (λ new. shown))
-      (λ (e : Contains (name Key1 (unwrap_or w.key1 0) ∷ name Offer (unwrap_or w.offer 0) ∷ []) y). ⊎_elim (λ (q : name Key1 (unwrap_or w.key1 0) ≡ y). subst (Owes s') q (λ new. shown))
-      (λ (f : Contains (name Offer (unwrap_or w.offer 0) ∷ []) y). subst (Owes s') (one_of (name Offer (unwrap_or w.offer 0)) y f) (λ new. shown))
+  shows_owe : (s' : State X) (t : ℕ) (x : Tab X) → get_elem? v.tabs t ≡ some x → (u : View X) → get_elem? s'.views i ≡ some u → u.seen ≡ shows x ++ v.seen → (y : Sight) → Contains (shows x) y → Owes s' y
+  shows_owe s' t (Writing w) was u uat seen y c = ⊎_elim (λ (q : Published w.anchor w.version (length w.published + 1) ≡ y). subst (Owes s') q tt)
+      (λ (d : Contains names y). ⊎_elim (λ (q : name Key0 (unwrap_or w.key0 0) ≡ y). subst (Owes s') q (owed Key0 (unwrap_or w.key0 0)))
+      (λ (e : Contains (name Key1 (unwrap_or w.key1 0) ∷ name Offer (unwrap_or w.offer 0) ∷ []) y). ⊎_elim (λ (q : name Key1 (unwrap_or w.key1 0) ≡ y). subst (Owes s') q (owed Key1 (unwrap_or w.key1 0)))
+      (λ (f : Contains (name Offer (unwrap_or w.offer 0) ∷ []) y). subst (Owes s') (one_of (name Offer (unwrap_or w.offer 0)) y f) (owed Offer (unwrap_or w.offer 0)))
       (cons_contains (name Key1 (unwrap_or w.key1 0)) y (name Offer (unwrap_or w.offer 0) ∷ []) e))
       (cons_contains (name Key0 (unwrap_or w.key0 0)) y (name Key1 (unwrap_or w.key1 0) ∷ name Offer (unwrap_or w.offer 0) ∷ []) d))
       (cons_contains (Published w.anchor w.version (length w.published + 1)) y names c)
@@ -266,11 +270,15 @@ module _ {X : Type 0} (k : Setting X) (s : State X) (i : ℕ) (v : View X) (so :
 
       shown : IsShown s' w.anchor w.version
       shown = record { i = i; view = u; at = uat; many = length w.published + 1; seen = subst (λ (l : List Sight). Contains l (Published w.anchor w.version (length w.published + 1))) (sym seen) (0, omega arith, refl); some_slot = omega arith }
-  shows_owe s' Free u uat seen y c = absurd (contains_none y c)
-  shows_owe s' (Retreating a) u uat seen y c = absurd (contains_none y c)
-  shows_owe s' (Reading r) u uat seen y c = absurd (contains_none y c)
-  shows_owe s' (Last a) u uat seen y c = absurd (contains_none y c)
-  shows_owe s' (Freeing f) u uat seen y c = absurd (contains_none y c)
+
+      -- a version that a tab writes is new
+      owed : (side : Side) (n : ℕ) → (opening_counter k < w.version → IsShown s' w.anchor w.version) × (w.version ≤ opening_counter k → n ≡ word_in k k.words (Beside side w.anchor))
+      owed side n = (λ new. shown, λ old. absurd (let new = (so.cells.writers i v at t (Writing w) was).drawn in omega arith))
+  shows_owe s' t Free was u uat seen y c = absurd (contains_none y c)
+  shows_owe s' t (Retreating a) was u uat seen y c = absurd (contains_none y c)
+  shows_owe s' t (Reading r) was u uat seen y c = absurd (contains_none y c)
+  shows_owe s' t (Last a) was u uat seen y c = absurd (contains_none y c)
+  shows_owe s' t (Freeing f) was u uat seen y c = absurd (contains_none y c)
 
   follows_owe : (s' : State X) (x : Tab X) (n : ℕ) (y : Sight) → Contains (follows x n) y → Owes s' y
   follows_owe s' (Reading r) n y c = by_bool (n == 0) c
@@ -298,12 +306,13 @@ module _ {X : Type 0} (k : Setting X) (s : State X) (i : ℕ) (v : View X) (so :
   owes (Evict t b) on may y c = let n : ℕ = cond (word s b == last_find b v.trail) (evicted (word s b)) (word s b) in owes_one (after k s i v (Evict t b)) (Stood b (epoch_of n)) y (λ lt. ap epoch_of (sym (here b n lt))) c
   owes (Raise t to) on may y c = let b : ℕ = anchor_of (tab_at v t) in let n : ℕ = raised (word s b) (stage_number to - stage_held (tab_at v t)) in owes_one (after k s i v (Raise t to)) (Stood b (epoch_of n)) y (λ lt. ap epoch_of (sym (here b n lt))) c
   owes (Doom t) on may y c = let b : ℕ = anchor_of (tab_at v t) in let n : ℕ = doomed (word s b) in owes_one (after k s i v (Doom t)) (Stood b (epoch_of n)) y (λ lt. ap epoch_of (sym (here b n lt))) c
-  owes (LoadSide t side) on may y c = loads_owe t side (tab_at v t) (tab_was k s i v so.anchors so.slots at pass t (tab_at v t) may.0 refl) (get_or s.words (index k (Beside side (anchor_of (tab_at v t)))) 0) y c
+  owes (LoadSide t side) on may y c = loads_owe t side (tab_at v t) (tab_was k s i v so.anchors so.slots at pass t (tab_at v t) may.0 refl) y c
   owes (StoreSide t side value) on may y c = absurd (contains_none y c)
+  owes (LookMap t word) on may y c = absurd (contains_none y c)
   owes (Own t slot) on may y c = absurd (contains_none y c)
   owes (Disown t slot) on may y c = absurd (contains_none y c)
   owes (Publish t slot link) on may y c = let w : View X = view_after v (Publish t slot link) (finding k s v (Publish t slot link)) in
-      shows_owe (after k s i v (Publish t slot link)) (tab_at v t) w (set_here s.views i w (at_length s.views i v at)) refl y c
+      shows_owe (after k s i v (Publish t slot link)) t (tab_at v t) (tab_was k s i v so.anchors so.slots at pass t (tab_at v t) (let b = may.0 in omega arith) refl) w (set_here s.views i w (at_length s.views i v at)) refl y c
   owes (Loosen t slot) on may y c = absurd (contains_none y c)
   owes (GetLink t slot) on may y c = follows_owe (after k s i v (GetLink t slot)) (tab_at v t) (get_or s.words (link_index k slot) 0) y c
   owes (TryTurn t slot) on may y c = absurd (contains_none y c)
@@ -344,6 +353,7 @@ module _ {X : Type 0} (k : Setting X) (s : State X) (i : ℕ) (v : View X) (so :
   late (Doom t) a u lt h = so.sights.before i v at a u lt h
   late (LoadSide t side) a u lt h = so.sights.before i v at a u lt h
   late (StoreSide t side value) a u lt h = so.sights.before i v at a u lt h
+  late (LookMap t word) a u lt h = so.sights.before i v at a u lt h
   late (Own t slot) a u lt h = so.sights.before i v at a u lt h
   late (Disown t slot) a u lt h = so.sights.before i v at a u lt h
   late (Publish t slot link) a u lt h = so.sights.before i v at a u lt h
@@ -395,7 +405,11 @@ module _ {X : Type 0} (k : Setting X) (s : State X) (i : ℕ) (v : View X) (so :
           (seen_then j u uat (Stood a e) h);
       shown = λ j u uat a version side value h new. ⊎_elim
           (λ (q : IsSeen s.views (Named a version side value)). still_shown m views a version (so.sights.shown q.i q.view q.at a version side value q.seen new))
-          (λ (c : Contains (sights_of v m (finding k s v m)) (Named a version side value)). owes m on may (Named a version side value) c new)
+          (λ (c : Contains (sights_of v m (finding k s v m)) (Named a version side value)). (owes m on may (Named a version side value) c).0 new)
+          (seen_then j u uat (Named a version side value) h);
+      old = λ j u uat a version side value h low. ⊎_elim
+          (λ (q : IsSeen s.views (Named a version side value)). so.sights.old q.i q.view q.at a version side value q.seen low)
+          (λ (c : Contains (sights_of v m (finding k s v m)) (Named a version side value)). (owes m on may (Named a version side value) c).1 low)
           (seen_then j u uat (Named a version side value) h);
       before = λ j u uat a version lt h. ⊎_elim
           (λ (q : (j ≡ i) × (w ≡ u)). subst (λ (z : View X). version_of (epoch_of (find_before version a z.trail)) < version) q.1 (late m a version lt (subst (λ (z : View X). Contains z.held version) (sym q.1) h)))
@@ -415,6 +429,7 @@ module _ {X : Type 0} (k : Setting X) (s : State X) (i : ℕ) (v : View X) (so :
   sights_lead (Doom t) may = step (Doom t) refl tt may
   sights_lead (LoadSide t side) may = step (LoadSide t side) refl tt may
   sights_lead (StoreSide t side value) may = step (StoreSide t side value) refl tt may
+  sights_lead (LookMap t word) may = step (LookMap t word) refl tt may
   sights_lead (Own t slot) may = step (Own t slot) refl tt may
   sights_lead (Disown t slot) may = step (Disown t slot) refl tt may
   sights_lead (Publish t slot link) may = step (Publish t slot link) refl tt may

@@ -2,7 +2,7 @@
 -- made and learned at any place, and with any item of their kinds. And a tab that writes may have another cell in its hands by no
 -- step, since the disk wrote or synced it. A disk may forget contents that a crash could leave, so the cell is any that a write and a
 -- sync allow.
-use Rattle.std.specs.Prelude.{◌++◌, ◌∷◌, ◌≡◌, Contains, List, Some, [], slice_set, true, ℕ}
+use Rattle.std.specs.Prelude.{◌++◌, ◌∷◌, ◌≡◌, ◌⊎◌, Contains, List, Some, [], slice_set, true, ℕ}
 use mathlib.Core.Option.{some}
 use lib.ListN.{get_elem?}
 use Rattle.core_model.specs.declared.tab.Hold.{Hold}
@@ -15,7 +15,7 @@ use Rattle.core_model.specs.declared.view.Sight.{Sight}
 use Rattle.core_model.specs.declared.view.View.{View}
 use Rattle.core_model.specs.Layout.{Setting}
 use Rattle.core_model.specs.State.{State}
-use Rattle.core_model.specs.CellMoves.{note_of, spent}
+use Rattle.core_model.specs.CellMoves.{map_some, note_of, spent}
 
 -- the state with these views
 abbrev pub renewed : {X : Type 0} → State X → List (View X) → State X
@@ -50,13 +50,14 @@ pub record IsSpentAt {X : Type 0} (s : State X) (n : ℕ) (u : View X) : Type 0 
 abbrev pub with_hold : {X : Type 0} → View X → ℕ → Writer X → Hold X → View X
 with_hold v t w h = record v { tabs = slice_set v.tabs t (Writing record w { turn = Has h }) }
 
--- The hold of a tab that writes may become this one: of the same slot, with any cell of which a crash may leave what a read gives. It
--- is known to be written only where the cell has the piece that the tab chose, and to be settled only where a crash leaves one content.
+-- The hold of a tab that writes may become this one: of the same slot, with any cell of which a crash may leave what a read gives, and
+-- besides what it might have left of the old one only the image of the piece that the tab chose. It is known to be written only where the cell has the piece that the tab chose, and to be settled only where a crash leaves one content.
 pub record MayRewrite {X : Type 0} (k : Setting X) (v : View X) (t : ℕ) (w : Writer X) (old new : Hold X) : Type 0 where
   pub writes : get_elem? v.tabs t ≡ some (Writing w)  -- the tab is so
   pub turn : w.turn ≡ Has old  -- and has this turn
   pub slot_is : new.slot ≡ old.slot
   pub possible : Contains new.cell.possible new.cell.now  -- what a read gives may outlive a crash
+  pub within : (x : X) → Contains new.cell.possible x → Contains old.cell.possible x ⊎ (map_some k.image w.chosen ≡ Some x)  -- nothing else may be left but the chosen image
   pub image : (p : Piece) → w.chosen ≡ Some p → (old.is_written ≡ true → old.cell.now ≡ k.image p) → new.is_written ≡ true → new.cell.now ≡ k.image p  -- no more is written than was
   pub settled : (old.is_settled ≡ true → old.cell.possible ≡ old.cell.now ∷ []) → new.is_settled ≡ true → new.cell.possible ≡ new.cell.now ∷ []  -- no more is settled than is
 

@@ -106,12 +106,15 @@ pub record IsShown {X : Type 0} (s : State X) (a version : ℕ) : Type 0 where
 
 -- A stage that was seen of the version that stands leads to the stage that stands. (That the epoch is not below the one seen does
 -- not say so: a doomed one is above each undoomed one of its version, whatever their stages.) Where a key or an offer of a new
--- version was seen, a published slot of it was. And a version that a pass holds is above the word that the pass found before it
+-- version was seen, a published slot of it was, and of a version that is not new what was seen is what stood beside the anchor at the
+-- opening. And a version that a pass holds is above the word that the pass found before it
 -- drew, whatever it found later.
 pub record SightsLead {X : Type 0} (k : Setting X) (s : State X) : Type 0 where
   pub stages : (i : ℕ) (v : View X) → get_elem? s.views i ≡ some v → (a e : ℕ) → a < k.anchors → Contains v.seen (Stood a e)
       → version_of e ≡ version_of (epoch_of (word s a)) → Leads (stage_of e) (stage_of (epoch_of (word s a)))
   pub shown : (i : ℕ) (v : View X) → get_elem? s.views i ≡ some v → (a version : ℕ) (side : Side) (value : ℕ) → Contains v.seen (Named a version side value)
       → opening_counter k < version → IsShown s a version
+  pub old : (i : ℕ) (v : View X) → get_elem? s.views i ≡ some v → (a version : ℕ) (side : Side) (value : ℕ) → Contains v.seen (Named a version side value)
+      → version ≤ opening_counter k → value ≡ word_in k k.words (Beside side a)
   pub before : (i : ℕ) (v : View X) → get_elem? s.views i ≡ some v → (a version : ℕ) → a < k.anchors → Contains v.held version
       → version_of (epoch_of (find_before version a v.trail)) < version

@@ -33,7 +33,7 @@ use Rattle.core_change.specs.Planned.{IsScene, Plans}
 use Rattle.core_change.specs.Tabs.{changed_tab}
 use Rattle.core_change.proofs.Facts.{below, tab_is}
 use Rattle.core_table.proofs.Lists.{at_slice}
-use Rattle.core_slots.proofs.Owners.{not_same}
+use Rattle.core_slots.proofs.MapSteps.{not_same}
 use Rattle.core_change.proofs.Worded.{worded}
 
 -- who may hand the slot over may loosen it
@@ -144,7 +144,7 @@ module _ (o : Opening) (t : Table) (v : View Content) (scene : IsScene o t v) (s
         tabs_handed : tabs_changed v (handed_change f at w slot) ≡ handed_tabs
         tabs_handed =
             (λ j. set (set v.tabs inner (changed_tab (is_freer j) (Loosens (rest_of f.rest) f.loose))) at (changed_tab (is_writer j) (Reserves (w.reserved ++ (slot ∷ [])))))
-            ∙ sym (ap (λ (l : List ℕ). set (set v.tabs inner (Freeing record f { rest = rest_of f.rest; is_whole = false; is_looked = false; loose = l })) at (Writing record w { reserved = w.reserved ++ (slot ∷ []) })) (append-nil f.loose))
+            ∙ sym (ap (λ (l : List ℕ). set (set v.tabs inner (Freeing record f { rest = rest_of f.rest; is_whole = false; is_looked = false; loose = l })) at (Writing record w { claim = None; reserved = w.reserved ++ (slot ∷ []) })) (append-nil f.loose))
             ∙ sym (λ j. set (set v.tabs inner (loosens (is_freer j) [])) at (reserves (is_writer j) slot))
 
         pub handed_planned : (tabs : TabsChange) (change : Change) → tabs ≡ handed_change f at w slot → change ≡ unlinked_change o t slot tabs

@@ -10,7 +10,7 @@ pub struct Act {
     pub pass: u32,
     /// 0 to 7, and 8 for the inner tab.
     pub tab: u8,
-    /// 1 to 22.
+    /// 1 to 13, 15 to 22, or 25.
     pub kind: u8,
     pub at: u32,
     pub value: u64,

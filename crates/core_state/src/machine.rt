@@ -71,8 +71,8 @@ impl Core {
         })
     }
 
-    /// The words of the table: those of the anchors, four beside each, the owner, link and turn of
-    /// each slot, and the counter of versions.
+    /// The words of the table: that of each anchor with the four beside it, the link and the turn of each
+    /// slot, the map of taken slots, and the counter of versions.
     pub fn words(&self) -> &[u64]
         ensures { result.now ≡ self.now.words }
     {

@@ -5,9 +5,7 @@ ghost use Rattle.core_model.specs.Anchors.{Shaped};
 ghost use Rattle.core_model.specs.Layout.{anchor_index, index};
 
 use crate::content::Content;
-use crate::layout::{
-    anchor_index, beside_index, counter_index, link_index, owner_index, turn_index,
-};
+use crate::layout::{anchor_index, beside_index, counter_index, link_index, map_index, turn_index};
 use core_model::{Cell, Chain, Place, View};
 use lock_word::{Word, word_of};
 
@@ -46,7 +44,7 @@ impl Opening {
             Place::Beside(side, anchor) => beside_index(side, anchor),
             Place::Link(slot) => link_index(self.anchors, slot),
             Place::Turn(slot) => turn_index(self.anchors, slot),
-            Place::Owner(slot) => owner_index(self.anchors, self.slots, slot),
+            Place::Map(word) => map_index(self.anchors, self.slots, word),
             Place::Counter => counter_index(self.anchors, self.slots),
         }
     }

@@ -9,6 +9,9 @@
 //   how many contents a crash may leave in it, and that what is in it now is one of these;
 // - `seen VIEW COUNT`: how many things the pass or note of this number has seen, `Some(..)`, or `None` where there
 //   is no such view;
+// - `map [WORD, ..]`: the words of the map of taken slots;
+// - `claim PASS TAB PLACE`: how far the search of this tab, which writes, has come, `Some(..)`, or `None` where it
+//   searches for no slot;
 // - `# ..`: a comment.
 use blank_core::make;
 use core_model::{Cell, Tab, Turn};
@@ -98,14 +101,35 @@ fn cell_told(alloc: Global, core: &Core) -> Option<String> {
     format!(in alloc; "cell {is_written} {count} {is_possible}").ok()
 }
 
+/// The line on the map of taken slots, which stands behind five words of each anchor and two of each slot, and
+/// in front of the counter.
+fn map_told(alloc: Global, core: &Core) -> Option<String> {
+    let anchors = core.chains().len().saturating_mul(5);
+    let slots = core.places().len().saturating_mul(2);
+    let words = core.words().get(anchors.saturating_add(slots)..)?;
+    let (_, map) = words.split_last()?;
+    format!(in alloc; "map {map:?}").ok()
+}
+
+/// The line on the search of the tab `PASS TAB`.
+fn claim_told(alloc: Global, core: &Core, pass: &str, tab: &str) -> Option<String> {
+    let (pass, tab): (usize, usize) = (pass.parse().ok()?, tab.parse().ok()?);
+    let Tab::Writing(writer) = core.views().get(pass)?.tabs.as_slice().get(tab)? else {
+        return None;
+    };
+    format!(in alloc; "claim {pass} {tab} {:?}", writer.claim).ok()
+}
+
 /// What a line that begins so should be, as the core stands.
 fn standing(alloc: Global, core: &Core, line: &str) -> Option<String> {
-    if line.starts_with("stands ") {
-        return anchor_told(alloc, core);
-    }
-    match line.strip_prefix("seen ") {
-        Some(rest) => view_told(alloc, core, rest.split(' ').next()?),
-        None => cell_told(alloc, core),
+    let mut words = line.split(' ');
+    match words.next()? {
+        "stands" => anchor_told(alloc, core),
+        "cell" => cell_told(alloc, core),
+        "seen" => view_told(alloc, core, words.next()?),
+        "map" => map_told(alloc, core),
+        "claim" => claim_told(alloc, core, words.next()?, words.next()?),
+        _ => None,
     }
 }
 

@@ -4,7 +4,7 @@ mod rows;
 use crate::play::{numbers, parted, play};
 use blank_core::{blank_core, make};
 use core_state::{Core, Picks, Step, StepFault};
-use rows::{NO_STEPS, SCRIPTS};
+use rows::{NO_STEPS, SCRIPTS, SECOND_WORD};
 use std::alloc::Global;
 
 /// The core that the head of a script asks for, `core SLOTS ANCHORS PASSES`, and the rows of the script.
@@ -18,7 +18,7 @@ fn script_of(alloc: Global, script: &str) -> Option<(Core, &str)> {
 
 #[test]
 fn steps_answer_as_their_rows_say(rt: HostRuntime) {
-    assert_eq!(rt; SCRIPTS.split("\n\n").count(), 9);
+    assert_eq!(rt; SCRIPTS.split("\n\n").count(), 11);
     for script in SCRIPTS.split("\n\n") {
         let Some((mut core, rows)) = script_of(rt.alloc(), script) else {
             assert!(rt; false, "a script begins with no core: {script}");
@@ -40,4 +40,40 @@ fn what_is_no_step_of_a_pass_is_refused(rt: HostRuntime) {
     assert!(rt; crash == Err(StepFault::NotAllowed { kind: 23 }));
     let rebuild = make(&mut core, &Step::Rebuild);
     assert!(rt; rebuild == Err(StepFault::NotAllowed { kind: 24 }));
+}
+
+/// The rows by which 32 writers take the slots of the first word of the map in order, two slots each.
+fn first_word(alloc: Global) -> Option<String> {
+    let mut rows = String::new(alloc);
+    let mut found = 0u64;
+    for writer in 0..32u32 {
+        let (pass, tab) = (writer / 8, writer % 8);
+        let version = writer + 1;
+        let begun = format!(in alloc;
+            "{pass} {tab} 1 {writer} 0 = 0\n{pass} {tab} 4 0 0 = {writer}\n"
+        ).ok()?;
+        let taken = format!(in alloc;
+            "{pass} {tab} 5 0 0 = {writer}\n{pass} {tab} 6 {writer} {version} = 0\n"
+        ).ok()?;
+        rows.push_str(&begun).ok()?;
+        rows.push_str(&taken).ok()?;
+        for slot in 2 * writer..2 * writer + 2 {
+            let reserved = format!(in alloc; "{pass} {tab} 10 {slot} 0 = {found}\n").ok()?;
+            rows.push_str(&reserved).ok()?;
+            found = found.wrapping_mul(2).wrapping_add(1);
+        }
+    }
+    rows.push_str("made 192\n").ok()?;
+    Some(rows)
+}
+
+#[test]
+fn a_search_goes_on_in_the_next_word(rt: HostRuntime) {
+    let alloc = rt.alloc();
+    let (Some(mut core), Some(rows)) = (blank_core(alloc, 65, 33, 5), first_word(alloc)) else {
+        assert!(rt; false, "no core");
+        return;
+    };
+    play(&rt, alloc, &mut core, &rows);
+    play(&rt, alloc, &mut core, SECOND_WORD);
 }

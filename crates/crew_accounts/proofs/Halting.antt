@@ -27,7 +27,7 @@ use Rattle.rock_writer.specs.Halting.{GaveBack, GaveUnlinked, Halts, first_of, s
 use Rattle.store_serve.specs.Adding.{Call, NotAdded, Took, taken_on}
 use Rattle.store_serve.specs.Storing.{GaveUpPut, NotEnded, left_of}
 use Rattle.serve_lines.specs.Deeds.{HasNames, Naming, name_of}
-use Rattle.serve_lines.proofs.EntryTabs.{HasEntry, gave_tab, names_on, published_names, published_tab, raises, reserved_tab, same_tabs, same_view, wrote_tab}
+use Rattle.serve_lines.proofs.EntryTabs.{HasEntry, gave_tab, names_on, published_names, published_tab, raises, reserved_tab, same_view, searched_tab, wrote_tab}
 use Rattle.serve_lines.proofs.Grown.{by_step}
 use Rattle.serve_lines.proofs.WriterDeeds.{entry_of, has_both}
 use Rattle.serve_lines.proofs.Writers.{parted}
@@ -71,8 +71,8 @@ module _ {X : Type 0} (g : Ground X) (t : ℕ) (n : Naming) where
   slot_entry hand v slot w after h (inr k) = reserved_tab slot h k.reserved.tabs
 
   short_entry : (hand : ℕ) (v w : View X) (after : ℕ) → HasEntry t n v → RanShort g t hand v w after → HasEntry t n w
-  short_entry hand v w after h (inl k) = same_tabs h k.1.out.tabs
-  short_entry hand v w after h (inr k) = same_tabs (slot_entry hand v k.slot k.middle after h k.for_piece) k.out.tabs
+  short_entry hand v w after h (inl k) = searched_tab k.1.out.none.claim h k.1.out.tabs
+  short_entry hand v w after h (inr k) = searched_tab k.out.none.claim (slot_entry hand v k.slot k.middle after h k.for_piece) k.out.tabs
 
   pub flushed_entry : (hand : ℕ) (durable : Bool) (v : View X) (fault : WriteFault) (w : View X) (after : ℕ) → HasEntry t n v → NotFlushed g t hand durable v fault w after → HasEntry t n w
   flushed_entry hand durable v Large w after h k = same_view h k.0
@@ -81,7 +81,7 @@ module _ {X : Type 0} (g : Ground X) (t : ℕ) (n : Naming) where
 
   pub last_entry : (hand : ℕ) (durable : Bool) (v : View X) (fault : WriteFault) (w : View X) (after : ℕ) → HasEntry t n v → NotWrittenLast g t hand durable v fault w after → HasEntry t n w
   last_entry hand durable v Large w after h k = absurd k
-  last_entry hand durable v Full w after h k = same_tabs h k.1.out.tabs
+  last_entry hand durable v Full w after h k = searched_tab k.1.out.none.claim h k.1.out.tabs
   last_entry hand durable v Fault w after h k = wrote_tab (slot_entry hand v k.slot k.reserved after h k.for_piece) k.wrote
 
 module _ {C O : Type 0} (tells : Bool) (state : C → CellState) (offers : O → Offers) (s : Store C O) (t : ℕ) where

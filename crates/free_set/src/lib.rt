@@ -9,6 +9,7 @@ ghost use Rattle.free_set.specs.Claims.{Claimed, FoundAllTaken, MayClaim};
 ghost use Rattle.store_rule.specs.Calls.{Follows};
 ghost use Rattle.store_rule.specs.Passes.{Made, May, basis, view};
 
+use link_word::{first_clear, is_set, map_words};
 use rock_disk::Cell;
 use store_rule::{Origin, Pass, Store};
 
@@ -18,9 +19,12 @@ pub struct AllTaken;
 
 /// Reserves a slot for a tab that writes, the first that it finds free, from slot 0 on.
 ///
+/// It looks once at each word of the map, and tries the least slot that is free there. Where another pass was ahead
+/// of it, it goes on in the word that the lost try found, behind that slot.
+///
 /// # Errors
 ///
-/// Each slot was found taken at a step of this call. No tab has changed.
+/// Each slot was found taken at a step of this call, and none was reserved.
 pub fn claim<C: Cell, O: Origin>(
     store: &Store<C, O>,
     pass: &mut Pass<C>,
@@ -28,21 +32,29 @@ pub fn claim<C: Cell, O: Origin>(
 ) -> Result<u32, AllTaken>
     requires { MayClaim C.tells C.state O.offers store.now pass.old tab }
     ensures ok { IfOk result (λ slot. Claimed (basis C.tells C.state O.offers store.now) tab (view pass.old) slot (view pass.new)) }
-    ensures err { OnErr result (FoundAllTaken (basis C.tells C.state O.offers store.now) (view pass.old) (view pass.new)) }
+    ensures err { OnErr result (FoundAllTaken (basis C.tells C.state O.offers store.now) tab (view pass.old) (view pass.new)) }
     ensures others { Follows C.tells C.state O.offers store.now tab pass.old pass.new }
 {
     let slots = store.slots();
-    for slot in 0..slots {
-        if store.own(pass, tab, slot) == 0 {
-            return Ok(slot);
+    let words = map_words(slots);
+    for word in 0..words {
+        let first = 64 * word;
+        let below = (slots - first).min(64);
+        let mut bits = store.look_map(pass, tab, word);
+        let mut from = 0;
+        'tries: while let Some(bit) = first_clear(bits, from, below) {
+            bits = store.own(pass, tab, first + bit);
+            if !is_set(bits, bit) {
+                return Ok(first + bit);
+            }
+            from = bit + 1;
         }
     }
     Err(AllTaken)
 }
 
 /// Gives back a slot that a writing tab reserved and that is not linked, or one that left the chain that the
-/// inner tab frees. A writing tab that gave a slot back reserves and
-/// publishes no more.
+/// inner tab frees. A writing tab that gave a slot back reserves and publishes no more.
 pub fn give<C: Cell, O: Origin>(store: &Store<C, O>, pass: &mut Pass<C>, tab: u8, slot: u32)
     requires { May C.tells C.state O.offers store.now pass.old (Disown tab slot) }
     ensures made { (found : ℕ) × Made C.tells C.state O.offers store.now pass.old (Disown tab slot) found pass.new }

@@ -1,5 +1,5 @@
 -- What a state of a lone pass tells: its words and its chains are those that the pass knows.
-use Rattle.std.proofs.Common.{Bool, Contains, List, None, Option, Some, [], ap, arith, false, inl, inr, length, ne_eqb, refl, subst, sum_by, sym, true, ◌++◌, ◌==◌, ◌+◌, ◌*◌, ◌-◌, ◌<◌, ◌≤◌, ◌∙◌, ◌≡◌, ◌≢◌, ◌⊎◌, ◌∷◌, ℕ, zero, suc, cond, eq-eqb}
+use Rattle.std.proofs.Common.{Bool, Contains, List, None, Option, Some, [], ap, arith, false, inl, inr, length, ne_eqb, refl, subst, sum_by, sym, true, ◌++◌, ◌==◌, ◌+◌, ◌*◌, ◌-◌, ◌/◌, ◌<◌, ◌≤◌, ◌∙◌, ◌≡◌, ◌≢◌, ◌⊎◌, ◌∷◌, ℕ, zero, suc, cond, eq-eqb}
 use Rattle.std.proofs.lemmas.List.Elements.{Contains-append_cases, Contains-append_left, Contains-append_right}
 use Rattle.std.proofs.lemmas.List.Sums.{sum_by-cons}
 use mathlib.Core.Logic.{dite}
@@ -7,6 +7,7 @@ use mathlib.Core.Option.{some, some-injective}
 use native.Mathlib.Decide.{ℕ_discrete}
 use lib.ListN.{get_elem?}
 use Rattle.std.specs.Prelude.{slice_index, slice_index_or}
+use Rattle.link_word.specs.Map.{taken_in}
 use Rattle.link_word.specs.declared.link.Link.{Link as LinkOf}
 use Rattle.link_word.specs.declared.link.Link.TheVariants.{Last as LastLink, Next, NotWritten}
 use Rattle.lock_word.specs.Words.{epoch_of, is_written, stage_of}
@@ -27,7 +28,7 @@ use Rattle.core_model.specs.declared.tab.Tab.{Tab}
 use Rattle.core_model.specs.declared.tab.Tab.TheVariants.{Free, Freeing, Last, Reading, Retreating, Writing}
 use Rattle.core_model.specs.declared.tab.Writer.{Writer}
 use Rattle.core_model.specs.declared.view.Place.{Place}
-use Rattle.core_model.specs.declared.view.Place.TheVariants.{Anchor, Beside, Link, Owner}
+use Rattle.core_model.specs.declared.view.Place.TheVariants.{Anchor, Beside, Link, Map}
 use Rattle.core_model.specs.declared.view.View.{View}
 use Rattle.core_model.proofs.Lists.{at_index, cons_contains, contains_none, le_sum_at, sum_mono, two_le_sum}
 use Rattle.core_model.proofs.Matching.{has_writer}
@@ -114,7 +115,7 @@ module _ (g : Ground (List ℕ)) (lone : IsLone g) (s : State (List ℕ)) (i : �
   -- a slot that something has is one of the table
   inside : (x : ℕ) → 0 < sum_by (count (held_in x)) s.views + sum_by (standing_in x) s.chains → x < k.slots
   inside x h = dite (ℕ_discrete (k.slots - x) 0)
-      (λ e. absurd (let o = rule.sound.slots.places.owners x in let z : used ((slot_words k s.words).owner x) ≡ 0 = ap used (told_out k.slots x _ (omega arith)) in omega arith))
+      (λ e. absurd (let o = rule.sound.slots.places.taken x in let z : used ((slot_words k s.words).taken x) ≡ 0 = ap used (told_out k.slots x _ (omega arith)) in omega arith))
       (λ ne. omega arith)
 
   standing_inside : (a x : ℕ) → a < k.anchors → Contains ((chain_of s a).slots ++ (chain_of s a).tail) x → x < k.slots
@@ -219,7 +220,7 @@ module _ (g : Ground (List ℕ)) (lone : IsLone g) (s : State (List ℕ)) (i : �
 
     -- the tail of a chain has no link
     tail_unwritten : (x : ℕ) → Contains c.tail x → (slot_words k s.words).link x ≡ 0
-    tail_unwritten x m = none_used ((slot_words k s.words).link x) (let o = rule.sound.slots.places.owners x in let l = rule.sound.slots.places.links x in let f = used_few ((slot_words k s.words).owner x) in
+    tail_unwritten x m = none_used ((slot_words k s.words).link x) (let o = rule.sound.slots.places.taken x in let l = rule.sound.slots.places.links x in let f = used_few ((slot_words k s.words).taken x) in
         let z = contains_times x c.tail m in let t = le_sum_at (λ (y : Chain). times x y.tail) s.chains a c (at_index s.chains a c no_chain (let many = rule.sound.anchors.shaped.chains in omega arith) refl) in
         let p = sum_plus (published_in x) (λ (y : Chain). times x y.tail) s.chains in
         let r = sum_mono (count (resting_in x)) (count (held_in x)) (λ u. sum_mono (resting_in x) (held_in x) less u.tabs) s.views in omega arith)
@@ -282,7 +283,7 @@ module _ (g : Ground (List ℕ)) (lone : IsLone g) (s : State (List ℕ)) (i : �
                 writing_is e = cc
 
     -- nor is it free, nor in the chain of another anchor
-    pub not_free : (x : ℕ) → Contains (c.slots ++ slots_of_link c.end) x → word_in k s.words (Owner x) ≢ 0
+    pub not_free : (x : ℕ) → Contains (c.slots ++ slots_of_link c.end) x → taken_in (word_in k s.words (Map (x / 64))) x ≢ 0
     not_free x m none = let y = spot_of x m in let one = one_spot k s rule.sound.anchors.shaped rule.sound.slots x y.there in
         differ y.spot (one.only y.spot y.is_in ∙ sym (one.only FreeSpot none)) y.of
       where

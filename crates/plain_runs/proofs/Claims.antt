@@ -1,5 +1,5 @@
 -- A slot that is reserved is one that the plain store claims, and where there is none it finds none.
-use Rattle.std.proofs.Common.{List, None, [], ap, arith, eq-eqb, false, get_or, get_or-set_other, get_or-set_same, inl, inr, length, length-append, length-set, refl, set, subst, suc, sum_by, sym, true, zero, ◌++◌, ◌+◌, ◌<◌, ◌==◌, ◌∙◌, ◌≡◌, ◌≢◌, ◌⊎◌, ◌∷◌, ℕ}
+use Rattle.std.proofs.Common.{List, None, [], ap, arith, eq-eqb, false, get_or, get_or-set_other, get_or-set_same, inl, inr, length, length-append, length-set, refl, set, subst, suc, sum_by, sym, true, zero, ◌++◌, ◌+◌, ◌/◌, ◌<◌, ◌==◌, ◌∙◌, ◌≡◌, ◌≢◌, ◌⊎◌, ◌∷◌, ℕ}
 use Rattle.std.proofs.lemmas.Bool.{false≢true, le-ltb, lt-ltb}
 use Rattle.std.proofs.lemmas.List.Sums.{sum_by-set}
 use mathlib.Core.Logic.{dite}
@@ -13,8 +13,10 @@ use Rattle.core_model.specs.Tabs.{InnerIsFree, IsPass, inner, is_free, tab_at, w
 use Rattle.core_model.specs.declared.tab.Tab.{Tab}
 use Rattle.core_model.specs.declared.tab.Tab.TheVariants.{Free, Writing}
 use Rattle.core_model.specs.declared.tab.Writer.{Writer}
-use Rattle.core_model.specs.declared.view.Place.TheVariants.{Anchor, Owner}
+use Rattle.core_model.specs.declared.view.Place.TheVariants.{Anchor, Map}
 use Rattle.core_model.specs.declared.view.View.{View}
+use Rattle.link_word.specs.Map.{taken_in}
+use Rattle.link_word.proofs.Mapped.{word_within}
 use Rattle.entry_cut.specs.Content.{room_of}
 use Rattle.free_set.specs.Claims.{FoundAllTaken}
 use Rattle.store_rule.specs.Words.{has, is_free_slot}
@@ -89,18 +91,18 @@ module _ (g : Ground (List ℕ)) (lone : IsLone g) (rename : ℕ → ℕ) (v : V
   all : free_below k s k.slots + sum_by (held (room_of g.slot)) p.places + spare v ≡ k.slots
   all = slots_add_up g lone s stands.index v stands.rule stands.at pass rename p no_guests knows few raised inner_free
 
-  some_below : (n j : ℕ) → j < n → word_in k s.words (Owner j) ≡ 0 → 0 < free_below k s n
+  some_below : (n j : ℕ) → j < n → taken_in (word_in k s.words (Map (j / 64))) j ≡ 0 → 0 < free_below k s n
   some_below zero j lt e = absurd (omega arith)
   some_below (suc n) j lt e = dite (ℕ_discrete j n)
-      (λ is. let b = eq-eqb (word_in k s.words (Owner n)) 0 (ap (λ z. word_in k s.words (Owner z)) (sym is) ∙ e) in rw b (omega arith))
+      (λ is. let b = eq-eqb (taken_in (word_in k s.words (Map (n / 64))) n) 0 (ap (λ z. taken_in (word_in k s.words (Map (z / 64))) z) (sym is) ∙ e) in rw b (omega arith))
       (λ ne. let h = some_below n j (omega arith) e in omega arith)
 
-  none_below : (n : ℕ) → ((j : ℕ) → j < n → (word_in k s.words (Owner j) == 0) ≡ false) → free_below k s n ≡ 0
+  none_below : (n : ℕ) → ((j : ℕ) → j < n → (taken_in (word_in k s.words (Map (j / 64))) j == 0) ≡ false) → free_below k s n ≡ 0
   none_below zero none = refl
   none_below (suc n) none = let b = none n (omega arith) in let h = none_below n (λ j lt. none j (omega arith)) in rw b (omega arith)
 
-  test_is : (j : ℕ) → j < k.slots → (word_in k s.words (Owner j) == 0) ≡ is_free_slot g v j
-  test_is j lt = ap (λ z. z == 0) (told.word_is g lone s stands.index v stands.rule stands.at pass (Owner j) lt)
+  test_is : (j : ℕ) → j < k.slots → (taken_in (word_in k s.words (Map (j / 64))) j == 0) ≡ is_free_slot g v j
+  test_is j lt = ap (λ z. taken_in z j == 0) (told.word_is g lone s stands.index v stands.rule stands.at pass (Map (j / 64)) (word_within k.slots j lt))
 
   -- a free slot is claimed
   claims_free : 0 < free_below k s k.slots → claim (setting_of g) (spare v) p ≡ record { store = p; done = true }
@@ -112,17 +114,17 @@ module _ (g : Ground (List ℕ)) (lone : IsLone g) (rename : ℕ → ℕ) (v : V
   leaves : Untouched p (claim (setting_of g) (spare v) p).store
   leaves = (claim_leaves (setting_of g) (spare v) p (let h = all in omega arith)).untouched
 
-  all_taken : (w : View (List ℕ)) → FoundAllTaken g v w → free_below k s k.slots ≡ 0
-  all_taken w h = none_below k.slots (λ j lt. test_is j lt ∙ h.passed.taken j lt lone)
+  all_taken : (t : ℕ) (w : View (List ℕ)) → FoundAllTaken g t v w → free_below k s k.slots ≡ 0
+  all_taken t w h = none_below k.slots (λ j lt. test_is j lt ∙ h.passed.taken j lt lone)
 
   was_free : (slot : ℕ) → slot < k.slots → is_free_slot g v slot ≡ true → 0 < free_below k s k.slots
-  was_free slot lt h = some_below k.slots slot lt (by_test (word_in k s.words (Owner slot)) (test_is slot lt ∙ h))
+  was_free slot lt h = some_below k.slots slot lt (by_test (taken_in (word_in k s.words (Map (slot / 64))) slot) (test_is slot lt ∙ h))
     where
       by_test : (n : ℕ) → (n == 0) ≡ true → n ≡ 0
       by_test n = by_eq (λ b. b ≡ true → n ≡ 0) n 0 (λ e h. e) (λ ne h. absurd (false≢true h))
 
   -- the pass has found each slot taken
-  module _ (m : View (List ℕ)) (none : FoundAllTaken g v m) where
+  module _ (t : ℕ) (m : View (List ℕ)) (none : FoundAllTaken g t v m) where
     knows_after : Knows g rename m p no_guests
     knows_after = knows_same g rename v m p no_guests knows (frame.went_none g lone v m none.added none.passed.went none.passed.quiet.3)
 
@@ -135,24 +137,24 @@ module _ (g : Ground (List ℕ)) (lone : IsLone g) (rename : ℕ → ℕ) (v : V
 
   -- no slot is free, and no entry idle
   pub runs_out_right : (t hand : ℕ) (u : View (List ℕ)) → hand_in k.anchors hand ≡ p.hand → RanOut g t hand v u → RunsOutRight g rename p u (claim (setting_of g) (spare v) p)
-  runs_out_right t hand u hand_is out = let none = claims_else (all_taken out.middle out.none) ∙ ap (claim_of (setting_of g) p) no_one in record {
+  runs_out_right t hand u hand_is out = let none = claims_else (all_taken t out.middle out.none) ∙ ap (claim_of (setting_of g) p) no_one in record {
     done = ap (λ (c : Claimed). c.done) none;
     store = ap (λ (c : Claimed). c.store) none;
-    knows = knows_same g rename out.middle u p no_guests (knows_after out.middle out.none) (frame.went_none g lone out.middle u out.busy.added out.busy.went out.busy.calm.1);
+    knows = knows_same g rename out.middle u p no_guests (knows_after t out.middle out.none) (frame.went_none g lone out.middle u out.busy.added out.busy.went out.busy.calm.1);
     stands = of_stands out.busy.went.stands;
   }
     where
       no_one : victim (setting_of g) p ≡ None
-      no_one = no_victim (setting_of g) p (λ a lt. sym (idle_there rename (setting_of g) p 0 a (has g out.middle (Anchor a)) ((knows_after out.middle out.none).each a lt).word (few a) refl) ∙ out.busy.was a lt lone)
+      no_one = no_victim (setting_of g) p (λ a lt. sym (idle_there rename (setting_of g) p 0 a (has g out.middle (Anchor a)) ((knows_after t out.middle out.none).each a lt).word (few a) refl) ∙ out.busy.was a lt lone)
 
       of_stands : (u ≡ out.middle) ⊎ (Stands g out.middle × Stands g u) → Stands g u
-      of_stands (inl e) = subst (Stands g) (sym e) (stands_after out.middle out.none)
+      of_stands (inl e) = subst (Stands g) (sym e) (stands_after t out.middle out.none)
       of_stands (inr h) = h.1
 
   -- The tab t writes, and u is the pass where it has reserved one slot more.
   module _ (t : ℕ) (x : Writer (List ℕ)) (writes : tab_at v t ≡ Writing x) (slot : ℕ) (u : View (List ℕ)) (tabs : u.tabs ≡ with_tab v t (reserves (tab_at v t) slot)) where
     abbrev y : Writer (List ℕ)
-    y = record x { reserved = x.reserved ++ slot ∷ [] }
+    y = record x { claim = None; reserved = x.reserved ++ slot ∷ [] }
 
     t_inside : t < length v.tabs
     t_inside = tab_inside v.tabs t x writes
@@ -221,17 +223,17 @@ module _ (g : Ground (List ℕ)) (lone : IsLone g) (rename : ℕ → ℕ) (v : V
         inside = onward_inside k.anchors (hand_in k.anchors hand) h.evicted.steps begins (let lt = h.evicted.within in omega arith)
 
         by_eviction : ClaimsRight g rename p v u hand_after (claim (setting_of g) (spare v) p)
-        by_eviction = let is = claims_else (all_taken h.middle h.none) ∙ ap (claim_of (setting_of g) p)
-            (gone.victim_here g lone rename h.middle p (knows_after h.middle h.none) few (hand_in k.anchors hand) hand_is begins t slot u hand_after h.evicted) in
+        by_eviction = let is = claims_else (all_taken t h.middle h.none) ∙ ap (claim_of (setting_of g) p)
+            (gone.victim_here g lone rename h.middle p (knows_after t h.middle h.none) few (hand_in k.anchors hand) hand_is begins t slot u hand_after h.evicted) in
             subst (ClaimsRight g rename p v u hand_after) (sym is) record {
               done = refl;
-              knows = gone.knows_without g lone rename h.middle p (knows_after h.middle h.none) few (hand_in k.anchors hand) hand_is begins t slot u hand_after h.evicted;
+              knows = gone.knows_without g lone rename h.middle p (knows_after t h.middle h.none) few (hand_in k.anchors hand) hand_is begins t slot u hand_after h.evicted;
               hand = ap (hand_in k.anchors) (h.evicted.moved ∙ onward_is k.anchors a 1 inside (let lt = inside in omega arith))
                   ∙ hand_inside k.anchors _ (let e = onward_is k.anchors a 1 inside (let lt = inside in omega arith) in let lt = onward_inside k.anchors a 1 inside (let lt = inside in omega arith) in omega arith);
               how = inr record {
                 anchor = a;
                 inside = inside;
-                idle = gone.idle g lone rename h.middle p (knows_after h.middle h.none) few (hand_in k.anchors hand) hand_is begins t slot u hand_after h.evicted;
+                idle = gone.idle g lone rename h.middle p (knows_after t h.middle h.none) few (hand_in k.anchors hand) hand_is begins t slot u hand_after h.evicted;
                 is = refl;
               };
               counter = refl;
@@ -244,7 +246,7 @@ module _ (g : Ground (List ℕ)) (lone : IsLone g) (rename : ℕ → ℕ) (v : V
             }
           where
             of_stands : (u ≡ h.middle) ⊎ (Stands g h.middle × Stands g u) → Stands g u
-            of_stands (inl e) = subst (Stands g) (sym e) (stands_after h.middle h.none)
+            of_stands (inl e) = subst (Stands g) (sym e) (stands_after t h.middle h.none)
             of_stands (inr h) = h.1
 
   -- The slot that a tab reserves is the one that the plain store claims.

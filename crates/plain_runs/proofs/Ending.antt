@@ -41,6 +41,7 @@ use Rattle.plain_laws.specs.Renaming.{renamed, renamed_word}
 use Rattle.store_rule.specs.Words.{has}
 use Rattle.plain_model.specs.Writing.{close_writer, finish, last_slot}
 use Rattle.rock_reader.specs.Responses.{pieces_of}
+use Rattle.free_set.specs.Claims.{searched_to}
 use Rattle.rock_writer.specs.Entries.{Drafts, Entry as Writing_, GoesOn, body_in, writer_as}
 use Rattle.rock_writer.specs.Finishing.{Finished, is_doomed, version_of}
 use Rattle.rock_writer.specs.declared.fault.Ended.{Ended}
@@ -65,7 +66,7 @@ use Rattle.plain_runs.proofs.Halting.{ended_right, growing_stage, raised_so}
 use Rattle.plain_runs.proofs.PlainWords.{doom_counted, readers_fit}
 use Rattle.plain_runs.proofs.Published.{Linking, Touched, chain_of_tab, no_anchor, stands_before, touched_but, touched_linking, touched_names}
 use Rattle.plain_runs.proofs.Growth.{grown_done, grown_not, grown_of}
-use Rattle.plain_runs.proofs.Publishing.{HasGrown, first_claimed, stays_none}
+use Rattle.plain_runs.proofs.Publishing.{HasGrown, HasRunShort, first_claimed, stays_none}
 use Rattle.plain_runs.proofs.Reserving.{HasClaimed, HasRunOut, IsReadied, runs_out}
 
 some_none : {A : Type 0} {x : A} → Some x ≡ None → ⊥
@@ -122,11 +123,11 @@ module _ (g : Ground (List ℕ)) (lone : IsLone g) (rename : ℕ → ℕ) (t : �
 
   -- Or it is not, in the plain store neither.
   pub lacks_right : (ps : List ℕ) (end : LinkOf) (u : View (List ℕ)) → GoesOn ps end → tab_at v t ≡ W ps end (slots_of_link end) → published s.room x.content ≡ length ps → LacksSlot g t hand v u
-      → (last_slot s x.content p ≡ grown_as p (Some Full)) × (rs : List ℕ) × HasGrown g lone rename t below e v u p ps end rs hand p
-  lacks_right [] end u goes is level lacks = subst (λ (z : LinkOf). (last_slot s x.content p ≡ grown_as p (Some Full)) × (rs : List ℕ) × HasGrown g lone rename t below e v u p [] z rs hand p) (sym goes) (
+      → (last_slot s x.content p ≡ grown_as p (Some Full)) × (rs : List ℕ) × HasRunShort g lone rename t below e v u p ps end rs hand p
+  lacks_right [] end u goes is level lacks = subst (λ (z : LinkOf). (last_slot s x.content p ≡ grown_as p (Some Full)) × (rs : List ℕ) × HasRunShort g lone rename t below e v u p [] z rs hand p) (sym goes) (
     last_first s x.content p level ∙ (grown_not (claim s 0 p) r.none ∙ ap (λ (q : Plain). grown_as q (Some Full)) r.same),
     [],
-    record { readied = r.readied; tab = r.tab ∙ at; others = r.others; stays = stays_none p e.anchor },
+    record { readied = r.readied; claim = r.claim; tab = r.tab ∙ ap (λ z. searched_to z r.claim) at; others = r.others; stays = stays_none p e.anchor },
   )
     where
       at : tab_at v t ≡ W [] NotWritten []

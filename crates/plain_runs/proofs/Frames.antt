@@ -10,7 +10,7 @@ use Rattle.core_model.specs.declared.moves.Move.{Move}
 use Rattle.core_model.specs.declared.moves.Side.{Side}
 use Rattle.core_model.specs.declared.moves.Side.TheVariants.{Key0, Key1, Offer, Start}
 use Rattle.core_model.specs.declared.view.Place.{Place}
-use Rattle.core_model.specs.declared.view.Place.TheVariants.{Anchor, Beside, Counter, Link, Owner, Turn}
+use Rattle.core_model.specs.declared.view.Place.TheVariants.{Anchor, Beside, Counter, Link, Map, Turn}
 use Rattle.core_model.specs.declared.view.View.{View}
 use Rattle.core_model.specs.Deeds.{mirrored}
 use Rattle.core_model.specs.Steps.{traces_of}
@@ -28,23 +28,23 @@ use Rattle.core_model.proofs.Telling.{told_in, told_out}
 use Rattle.std.proofs.lemmas.List.Elements.{Contains-append_left, Contains-append_right}
 use Rattle.store_rule.specs.Ground.{Ground}
 use Rattle.store_rule.specs.Told.{Stands, Steps, found_as}
-use Rattle.store_rule.specs.Runs.{Added, IsNoOwner, Went, added_by}
+use Rattle.store_rule.specs.Runs.{Added, IsNoMap, Went, added_by}
 use Rattle.store_rule.specs.Words.{Mine, has}
 use Rattle.plain_runs.specs.Words.{HasChain, HasNames, IsLone, Knows, ShowsAt, ShowsEntry, ShowsEntryIf, link_known, setting_of}
 
--- the words of which `Knows` speaks: those of turns and owners are left out
+-- the words of which `Knows` speaks: those of turns and of the map of taken slots are left out
 abbrev pub IsKnown : Place → Type 0
 IsKnown (Turn slot) = ⊥
-IsKnown (Owner slot) = ⊥
+IsKnown (Map word) = ⊥
 IsKnown q = Unit {0}
 
-known_owned : (q : Place) → IsKnown q → IsNoOwner q
-known_owned (Anchor a) h = tt
-known_owned (Beside side a) h = tt
-known_owned (Link slot) h = tt
-known_owned (Turn slot) h = absurd h
-known_owned (Owner slot) h = absurd h
-known_owned Counter h = tt
+known_no_map : (q : Place) → IsKnown q → IsNoMap q
+known_no_map (Anchor a) h = tt
+known_no_map (Beside side a) h = tt
+known_no_map (Link slot) h = tt
+known_no_map (Turn slot) h = absurd h
+known_no_map (Map word) h = absurd h
+known_no_map Counter h = tt
 
 module _ (g : Ground (List ℕ)) where
   -- each such word is in w as it is in v, but for these
@@ -62,15 +62,15 @@ module _ (g : Ground (List ℕ)) where
 
   -- of steps that may have changed these places of the table
   pub went_same : IsLone g → (v w : View (List ℕ)) (d : Added) → Went g v d w → ((q : Place) → Contains d.changed q → IsPlace g.setting q) → SameBut v w (Contains d.changed)
-  went_same lone v w d went there = record { same = λ q known here ne. went.steady q (known_owned q known) here lone (λ r c e. ne (subst (Contains d.changed) (apart g.setting r q (there r c) here e) c)) }
+  went_same lone v w d went there = record { same = λ q known here ne. went.steady q (known_no_map q known) here lone (λ r c e. ne (subst (Contains d.changed) (apart g.setting r q (there r c) here e) c)) }
 
   pub went_none : IsLone g → (v w : View (List ℕ)) (d : Added) → Went g v d w → d.changed ≡ [] → SameBut v w (λ q. ⊥)
-  went_none lone v w d went none = record { same = λ q known here ne. went.steady q (known_owned q known) here lone (λ r c e. nothing_in r (subst (λ (z : List Place). Contains z r) none c)) }
+  went_none lone v w d went none = record { same = λ q known here ne. went.steady q (known_no_map q known) here lone (λ r c e. nothing_in r (subst (λ (z : List Place). Contains z r) none c)) }
     where
       nothing_in : (r : Place) → Contains [] r → ⊥
       nothing_in r c = contains_none r c
 
-  -- Of one step: on this place, on none, on an owner word, and on a turn word.
+  -- Of one step: on this place, on none, on a word of the map, and on a turn word.
   mirror_is : (v w : View (List ℕ)) (m : Move) (n : ℕ) → Steps g v m n w → w.mirror ≡ traces_of (place v m) (left_by v m n) ++ v.mirror
   mirror_is v w m n st = ap View.mirror st.leaves
 
@@ -84,8 +84,8 @@ module _ (g : Ground (List ℕ)) where
   pub step_same_none : (v w : View (List ℕ)) (m : Move) (n : ℕ) → Steps g v m n w → place v m ≡ None → SameBut v w (λ q. ⊥)
   step_same_none v w m n st is = record { same = λ q known here ne. ap (mirrored g.setting (index g.setting q)) (mirror_is v w m n st ∙ ap (λ (o : Option Place). traces_of o (left_by v m n) ++ v.mirror) is) }
 
-  pub step_same_owner : (v w : View (List ℕ)) (m : Move) (n slot : ℕ) → Steps g v m n w → place v m ≡ Some (Owner slot) → IsPlace g.setting (Owner slot) → SameBut v w (λ q. ⊥)
-  step_same_owner v w m n slot st is there = record { same = λ q known here ne. (step_same v w m n (Owner slot) st is there).same q known here (λ e. subst IsKnown e known) }
+  pub step_same_map : (v w : View (List ℕ)) (m : Move) (n word : ℕ) → Steps g v m n w → place v m ≡ Some (Map word) → IsPlace g.setting (Map word) → SameBut v w (λ q. ⊥)
+  step_same_map v w m n word st is there = record { same = λ q known here ne. (step_same v w m n (Map word) st is there).same q known here (λ e. subst IsKnown e known) }
 
   pub step_same_turn : (v w : View (List ℕ)) (m : Move) (n slot : ℕ) → Steps g v m n w → place v m ≡ Some (Turn slot) → IsPlace g.setting (Turn slot) → SameBut v w (λ q. ⊥)
   step_same_turn v w m n slot st is there = record { same = λ q known here ne. (step_same v w m n (Turn slot) st is there).same q known here (λ e. subst IsKnown e known) }

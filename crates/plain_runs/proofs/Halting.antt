@@ -1,5 +1,5 @@
 -- An entry that a tab gives up, in the store and in the plain store.
-use Rattle.std.proofs.Common.{Bool, Contains, List, None, Option, Some, [], ap, arith, cond, false, get_or, get_or-set_other, get_or-set_same, inl, inr, length, length-set, refl, set, subst, sym, true, ◌+◌, ◌-◌, ◌<◌, ◌==◌, ◌∙◌, ◌≡◌, ◌≢◌, ◌≤◌, ◌⊎◌, ◌∷◌, ℕ}
+use Rattle.std.proofs.Common.{Bool, Contains, List, None, Option, Some, [], ap, arith, cond, false, get_or, get_or-set_other, get_or-set_same, inl, inr, length, length-set, refl, set, subst, sym, true, ◌+◌, ◌-◌, ◌/◌, ◌<◌, ◌==◌, ◌∙◌, ◌≡◌, ◌≢◌, ◌≤◌, ◌⊎◌, ◌∷◌, ℕ}
 use Rattle.lock_word.specs.Words.{epoch_of as epoch_in, is_left_over, raised, stage_number, stage_of as stage_in, word_number}
 use Rattle.lock_word.specs.declared.stage.Stage.{Stage}
 use Rattle.lock_word.specs.declared.stage.Stage.TheVariants as stage
@@ -14,8 +14,10 @@ use Rattle.core_model.specs.declared.tab.Tab.{Tab}
 use Rattle.core_model.specs.declared.tab.Tab.TheVariants.{Free, Last, Writing}
 use Rattle.core_model.specs.declared.tab.Writer.{Writer}
 use Rattle.core_model.specs.declared.view.Place.{Place}
-use Rattle.core_model.specs.declared.view.Place.TheVariants.{Anchor, Owner}
+use Rattle.core_model.specs.declared.view.Place.TheVariants.{Anchor}
 use Rattle.core_model.specs.declared.view.View.{View}
+use Rattle.link_word.specs.Map.{map_words}
+use Rattle.link_word.proofs.Mapped.{word_within}
 use Rattle.entry_cut.specs.Content.{room_of}
 use Rattle.plain_model.specs.declared.entry.Entry.{Entry}
 use Rattle.plain_model.specs.declared.entry.Life.{Life}
@@ -40,7 +42,7 @@ use Rattle.plain_laws.specs.Renaming.{renamed_word}
 use Rattle.plain_laws.proofs.Choosing.{either}
 use Rattle.plain_laws.proofs.Sums.{inside}
 use Rattle.plain_runs.proofs.Flushing.{entry_shown, staged, staged_raised, word_staged}
-use Rattle.plain_runs.proofs.Frames.{SameBut, knows_same, same_none, same_on, same_weaker, step_same, step_same_owner}
+use Rattle.plain_runs.proofs.Frames.{SameBut, knows_same, same_none, same_on, same_weaker, step_same, step_same_map}
 use Rattle.plain_runs.proofs.Freeing.{KnowsBut, SameElse, but_step, knows_all, knows_but}
 use Rattle.plain_runs.proofs.LeftTabs.{entry_kept, raised_parts_right}
 use Rattle.plain_runs.proofs.PlainWords.{readers_fit, readers_put, stage_counted}
@@ -69,7 +71,7 @@ module _ (g : Ground (List ℕ)) (lone : IsLone g) (t : ℕ) (below : t < inner)
     others = λ j ne far. ap (λ (z : View (List ℕ)). tab_at z j) gave;
   }
   gave_so (Some slot) v w x pass is free gave = record {
-    same = step_same_owner g v w (Disown t slot) gave.found slot gave.step refl (owned (subst (λ (z : Tab (List ℕ)). OfWriter (MayGiveBack slot) z ⊎ OfFreer (λ (f : Freer). Contains f.loose slot) z) is gave.step.may.allowed.1));
+    same = step_same_map g v w (Disown t slot) gave.found (slot / 64) gave.step refl (mapped (subst (λ (z : Tab (List ℕ)). OfWriter (MayGiveBack slot) z ⊎ OfFreer (λ (f : Freer). Contains f.loose slot) z) is gave.step.may.allowed.1));
     writer = given (Some slot) x;
     tab = (gave_tab g t below (Some slot) v w x pass is free gave).0;
     anchor = refl;
@@ -78,9 +80,9 @@ module _ (g : Ground (List ℕ)) (lone : IsLone g) (t : ℕ) (below : t < inner)
     others = others_stay g v w (Disown t slot) gave.found t gave.step (λ z k. acts k);
   }
     where
-      owned : MayGiveBack slot x ⊎ ⊥ → slot < g.setting.slots
-      owned (inl m) = reserved_there g lone v t slot x (stands_before gave.step) pass below is m.0
-      owned (inr none) = absurd none
+      mapped : MayGiveBack slot x ⊎ ⊥ → slot / 64 < map_words g.setting.slots
+      mapped (inl m) = word_within g.setting.slots slot (reserved_there g lone v t slot x (stands_before gave.step) pass below is m.0)
+      mapped (inr none) = absurd none
 
       acts : {y z : ℕ} → Some y ≡ Some z → z ≡ y
       acts e = cc

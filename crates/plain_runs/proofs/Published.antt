@@ -27,7 +27,7 @@ use Rattle.core_model.specs.declared.tab.Tab.{Tab}
 use Rattle.core_model.specs.declared.tab.Tab.TheVariants.{Free, Freeing, Last, Reading, Retreating, Writing}
 use Rattle.core_model.specs.declared.tab.Writer.{Writer}
 use Rattle.core_model.specs.declared.view.Place.{Place}
-use Rattle.core_model.specs.declared.view.Place.TheVariants.{Anchor, Beside, Counter, Link, Owner, Turn}
+use Rattle.core_model.specs.declared.view.Place.TheVariants.{Anchor, Beside, Counter, Link, Turn}
 use Rattle.core_model.specs.declared.view.View.{View}
 use Rattle.core_model.proofs.Lists.{contains_none}
 use Rattle.core_model.proofs.Tabs.{tab_there}

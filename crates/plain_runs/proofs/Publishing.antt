@@ -19,6 +19,7 @@ use Rattle.plain_model.specs.declared.store.Setting.{Setting}
 use Rattle.plain_model.specs.Slots.{Grown, claim, claim_two, grown_as, limit, publish}
 use Rattle.plain_model.specs.Store.{entry_at, place_at}
 use Rattle.store_rule.specs.Calls.{Others}
+use Rattle.free_set.specs.Claims.{searched_to}
 use Rattle.rock_writer.specs.Entries.{Entry as Writing_, GoesOn, not_empty, writer_as}
 use Rattle.rock_writer.specs.Flushing.{HasBoth, HasSlot, LacksNext, LacksSlot, NeedsSlot, RanShort, SlotFor}
 use Rattle.slice_chain.specs.Writes.{reserved_first}
@@ -54,6 +55,14 @@ module _ (g : Ground (List ℕ)) (lone : IsLone g) (rename : ℕ → ℕ) (t : �
   pub record HasGrown (v u : View (List ℕ)) (p : Plain) (ps : List ℕ) (end : LinkOf) (rs : List ℕ) (hand : ℕ) (q : Plain) : Type 0 where
     pub readied : IsReadied g lone rename t u q hand
     pub tab : tab_at u t ≡ W ps end rs
+    pub others : Others t v u
+    pub stays : ClaimStays p q e.anchor
+
+  -- The plain store goes on with the store q and finds no slot, as the tab did, which has reserved these.
+  pub record HasRunShort (v u : View (List ℕ)) (p : Plain) (ps : List ℕ) (end : LinkOf) (rs : List ℕ) (hand : ℕ) (q : Plain) : Type 0 where
+    pub readied : IsReadied g lone rename t u q hand
+    pub claim : Option ℕ
+    pub tab : tab_at u t ≡ searched_to (W ps end rs) claim
     pub others : Others t v u
     pub stays : ClaimStays p q e.anchor
 
@@ -127,14 +136,14 @@ module _ (g : Ground (List ℕ)) (lone : IsLone g) (rename : ℕ → ℕ) (t : �
 
       -- The slot that is lacked is one that the plain store lacks.
       abbrev IsShort : (u : View (List ℕ)) (ps : List ℕ) (end : LinkOf) (hand_after : ℕ) → Type 0
-      IsShort u ps end hand_after = (q : Plain) × (publish s e.anchor filled p ≡ grown_as q (Some Full)) × (rs : List ℕ) × HasGrown v u p ps end rs hand_after q
+      IsShort u ps end hand_after = (q : Plain) × (publish s e.anchor filled p ≡ grown_as q (Some Full)) × (rs : List ℕ) × HasRunShort v u p ps end rs hand_after q
 
       first_short : (hand_after : ℕ) (u : View (List ℕ)) → tab_at v t ≡ W [] NotWritten [] → filled ≡ 1 → RanShort g t hand v u hand_after → IsShort u [] NotWritten hand_after
       first_short hand_after u is one (inl (stays, lacks)) = subst (IsShort u [] NotWritten) (sym stays) (
         p,
         publish_first s e.anchor filled p x there content small one ∙ (ap grown_of (two_not s p r.none) ∙ (grown_not (claim s 0 p) r.none ∙ ap (λ q. grown_as q (Some Full)) r.same)),
         [],
-        record { readied = r.readied; tab = r.tab ∙ is; others = r.others; stays = stays_none p e.anchor },
+        record { readied = r.readied; claim = r.claim; tab = r.tab ∙ ap (λ z. searched_to z r.claim) is; others = r.others; stays = stays_none p e.anchor },
       )
         where
           r : HasRunOut g lone rename t 0 v u p hand
@@ -143,7 +152,7 @@ module _ (g : Ground (List ℕ)) (lone : IsLone g) (rename : ℕ → ℕ) (t : �
         (claim s 0 p).store,
         publish_first s e.anchor filled p x there content small one ∙ (ap grown_of (two_done s p c1.done) ∙ (grown_not (claim s 1 (claim s 0 p).store) r.none ∙ ap (λ q. grown_as q (Some Full)) r.same)),
         lacks.slot ∷ [],
-        record { readied = r.readied; tab = r.tab ∙ at; others = others_go_on v lacks.middle u t c1.others r.others; stays = c1.stays },
+        record { readied = r.readied; claim = r.claim; tab = r.tab ∙ ap (λ z. searched_to z r.claim) at; others = others_go_on v lacks.middle u t c1.others r.others; stays = c1.stays },
       )
         where
           c1 : HasClaimed g lone rename t 0 e.anchor v lacks.middle p hand_after lacks.slot
@@ -165,7 +174,7 @@ module _ (g : Ground (List ℕ)) (lone : IsLone g) (rename : ℕ → ℕ) (t : �
             p,
             publish_later s e.anchor filled p x there content small more ∙ (grown_not (claim s 0 p) r.none ∙ ap (λ q. grown_as q (Some Full)) r.same),
             nx ∷ [],
-            record { readied = r.readied; tab = r.tab ∙ is; others = r.others; stays = stays_none p e.anchor },
+            record { readied = r.readied; claim = r.claim; tab = r.tab ∙ ap (λ z. searched_to z r.claim) is; others = r.others; stays = stays_none p e.anchor },
           )
             where
               moved : {m : View (List ℕ)} {n : ℕ} → m ≡ v → n ≡ hand → Rattle.rock_writer.specs.Reserving.RanOut g t n m u → Rattle.rock_writer.specs.Reserving.RanOut g t hand v u

@@ -24,6 +24,7 @@ use Rattle.plain_model.specs.Store.{entry_at, is_idle_at, place_at, readers}
 use Rattle.plain_laws.proofs.Evicting.{idle_whole}
 use Rattle.store_rule.specs.Calls.{Others}
 use Rattle.store_rule.specs.Runs.{Went}
+use Rattle.free_set.specs.Claims.{searched_to}
 use Rattle.rock_writer.specs.Reserving.{RanOut, Reserved}
 use Rattle.rock_writer.proofs.Resting.{inner_now, nine_now, tab_now}
 use Rattle.slice_chain.specs.Victims.{hand_in}
@@ -122,7 +123,8 @@ module _ (g : Ground (List ℕ)) (lone : IsLone g) (rename : ℕ → ℕ) where
     pub none : (claim (setting_of g) n p).done ≡ false
     pub same : (claim (setting_of g) n p).store ≡ p
     pub readied : IsReadied t u p hand
-    pub tab : tab_at u t ≡ tab_at v t
+    pub claim : Option ℕ
+    pub tab : tab_at u t ≡ searched_to (tab_at v t) claim
     pub others : Others t v u
 
   module _ (t : ℕ) (v : View (List ℕ)) (p : Plain) (hand : ℕ) (h : IsReadied t v p hand) (below : t < inner) (w : Writer (List ℕ)) (is : tab_at v t ≡ Writing w) (raised : w.is_appending ≡ false → w.published ≡ [])
@@ -168,12 +170,13 @@ module _ (g : Ground (List ℕ)) (lone : IsLone g) (rename : ℕ → ℕ) where
           readied = record {
             knows = right.knows;
             stands = right.stands;
-            pass = ap length r.tabs ∙ h.pass;
-            inner_free = ap (λ (xs : List (Tab (List ℕ))). is_free (get_or xs inner Free)) r.tabs ∙ h.inner_free;
-            quiet = quiet_on t v u h.quiet (λ j ne far. ap (λ (xs : List (Tab (List ℕ))). get_or xs j Free) r.tabs);
+            pass = nine_now t v u (searched_to (tab_at v t) r.none.claim) h.pass below r.tabs;
+            inner_free = inner_now t v u (searched_to (tab_at v t) r.none.claim) h.pass below r.tabs h.inner_free;
+            quiet = quiet_on t v u h.quiet (others_set u (searched_to (tab_at v t) r.none.claim) r.tabs);
             hand_is = h.hand_is;
             eight = h.eight;
           };
-          tab = ap (λ (xs : List (Tab (List ℕ))). get_or xs t Free) r.tabs;
-          others = λ j ne far. ap (λ (xs : List (Tab (List ℕ))). get_or xs j Free) r.tabs;
+          claim = r.none.claim;
+          tab = tab_now t v u (searched_to (tab_at v t) r.none.claim) h.pass below r.tabs;
+          others = others_set u (searched_to (tab_at v t) r.none.claim) r.tabs;
         }

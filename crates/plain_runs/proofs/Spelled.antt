@@ -74,14 +74,14 @@ module _ (g : Ground (List ℕ)) (s : State (List ℕ)) (rule : Rule g s) (piece
   so = rule.sound
 
   times_few : (j : ℕ) → times j c.slots ≤ 1
-  times_few j = let l = standing_few j s.chains a in let p = rule.sound.slots.places.owners j in let u = used_few ((slot_words g.setting s.words).owner j) in omega arith
+  times_few j = let l = standing_few j s.chains a in let p = rule.sound.slots.places.taken j in let u = used_few ((slot_words g.setting s.words).taken j) in omega arith
 
   inside : (j : ℕ) → 0 < times j c.slots → j < g.setting.slots
   inside j h = dite (ℕ_discrete (g.setting.slots - j) 0)
-      (λ e. absurd (let l = standing_few j s.chains a in let p = rule.sound.slots.places.owners j in let z = unowned (omega arith) in omega arith))
+      (λ e. absurd (let l = standing_few j s.chains a in let p = rule.sound.slots.places.taken j in let z = unowned (omega arith) in omega arith))
       (λ ne. omega arith)
     where
-      unowned : g.setting.slots ≤ j → used ((slot_words g.setting s.words).owner j) ≡ 0
+      unowned : g.setting.slots ≤ j → used ((slot_words g.setting s.words).taken j) ≡ 0
       unowned far = ap used (told_out g.setting.slots j _ far)
 
   -- the slot at a place of the chain, by its image

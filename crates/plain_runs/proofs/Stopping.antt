@@ -39,7 +39,7 @@ use Rattle.plain_runs.proofs.Adding.{Grows, HasAppended, level_here, level_is, s
 use Rattle.plain_runs.proofs.Ending.{lacks_right}
 use Rattle.plain_runs.proofs.Growth.{append_on, append_stops, published_is, publish_large}
 use Rattle.plain_runs.proofs.Halting.{HasHalted, halts_right}
-use Rattle.plain_runs.proofs.Publishing.{HasGrown, short_right}
+use Rattle.plain_runs.proofs.Publishing.{HasRunShort, short_right}
 use Rattle.plain_runs.proofs.Reserving.{ClaimStays, IsReadied}
 
 module _ {C O : Type 0} (tells : Bool) (state : C → CellState) (offers : O → Offers) (st : Store C O) (lone : IsLone (basis tells state offers st)) (rename : ℕ → ℕ) (t : ℕ) where
@@ -60,11 +60,11 @@ module _ {C O : Type 0} (tells : Bool) (state : C → CellState) (offers : O →
 
   -- a tab that lacks a slot halts
   given_up_so : (below : t < inner) (v u : View (List ℕ)) (q : Pass C) (p store : Plain) (e : Writing_) (x : Entry) (ps : List ℕ) (end : LinkOf) (rs : List ℕ) → plain_tab p t ≡ plain.Writing e.anchor → entry_at p e.anchor ≡ Some x
-      → x.life ≡ Growing → HasGrown g lone rename t below e v u p ps end rs q.hand store → Halts g t u (view q) → HasGivenUp q e.anchor store
+      → x.life ≡ Growing → HasRunShort g lone rename t below e v u p ps end rs q.hand store → Halts g t u (view q) → HasGivenUp q e.anchor store
   given_up_so below v u q p store e x ps end rs plain_is there grows h halts = record { knows = done.knows; hand_is = h.readied.hand_is; free = done.free }
     where
       done : HasHalted g lone rename t below u (view q) e.anchor store
-      done = halts_right g lone rename t below u (view q) store q.hand x (writer_as g e ps end rs) h.readied h.tab (ap (λ (xs : List PlainTab). get_or xs t plain.Free) h.stays.tabs ∙ plain_is)
+      done = halts_right g lone rename t below u (view q) store q.hand x (record (writer_as g e ps end rs) { claim = h.claim }) h.readied h.tab (ap (λ (xs : List PlainTab). get_or xs t plain.Free) h.stays.tabs ∙ plain_is)
           (ap (λ (o : PlaceOf). o.entry) h.stays.place ∙ there) grows halts
 
   -- The publishing of a full slot was refused, for this cause.
@@ -122,7 +122,7 @@ module _ {C O : Type 0} (tells : Bool) (state : C → CellState) (offers : O →
         small : length ps + 1 < limit s
         small = not_below (limit s) (length ps + 1) (λ le. n.limit.1 not_large (let k = place_is in omega arith))
 
-        short : (store : Plain) × (publish s e.anchor (length ps + 1) p ≡ grown_as store (Some Full)) × (rs : List ℕ) × HasGrown g lone rename t below e (view pass) n.middle p ps h.writes.end rs q.hand store
+        short : (store : Plain) × (publish s e.anchor (length ps + 1) p ≡ grown_as store (Some Full)) × (rs : List ℕ) × HasRunShort g lone rename t below e (view pass) n.middle p ps h.writes.end rs q.hand store
         short = short_right g lone rename t below e (view pass) p pass.hand ready x h.there h.grows (length ps + 1) (full_is n.full) small ps h.writes.end q.hand n.middle h.writes.rests.goes_on h.writes.rests.is refl n.stopped
 
     -- The last piece was not published, for want of a slot.
@@ -137,10 +137,10 @@ module _ {C O : Type 0} (tells : Bool) (state : C → CellState) (offers : O →
     not_finished_right write.Full ne n = record {
       answered = refl;
       refused = lacks.0;
-      gave_up = given_up_so below (view pass) n.middle q p p e x ps h.writes.end lacks.1 plain_is h.there h.grows (subst (λ (k : ℕ). HasGrown g lone rename t below e (view pass) n.middle p ps h.writes.end lacks.1 k p) (sym n.stopped.0) lacks.2) n.halts;
+      gave_up = given_up_so below (view pass) n.middle q p p e x ps h.writes.end lacks.1 plain_is h.there h.grows (subst (λ (k : ℕ). HasRunShort g lone rename t below e (view pass) n.middle p ps h.writes.end lacks.1 k p) (sym n.stopped.0) lacks.2) n.halts;
     }
       where
-        lacks : (last_slot s x.content p ≡ grown_as p (Some Full)) × (rs : List ℕ) × HasGrown g lone rename t below e (view pass) n.middle p ps h.writes.end rs pass.hand p
+        lacks : (last_slot s x.content p ≡ grown_as p (Some Full)) × (rs : List ℕ) × HasRunShort g lone rename t below e (view pass) n.middle p ps h.writes.end rs pass.hand p
         lacks = lacks_right g lone rename t below e (view pass) p pass.hand ready x h.there h.grows ps h.writes.end n.middle h.writes.rests.goes_on h.writes.rests.is (level_here tells state offers st lone rename t pass p e x ready h) n.stopped.1
 
   -- Bytes were added by calls until one was refused, for this cause. However many were to come, that is what the plain store makes of them.

@@ -348,6 +348,7 @@ module _ {C O : Type 0} (tells : Bool) (state : C → CellState) (offers : O →
             was = not_turned known;
             tried = tried u refl before after;
             found = is_of;
+            given = d.bytes ∙ ap (body_of image) at;
             bytes = λ told file. d.bytes ∙ ap (body_of image) at ∙ body_is g e.anchor e.offer e.place image (dec told file);
             within = d.within;
             behind = d.behind;

@@ -155,6 +155,7 @@ module _ {C O : Type 0} (tells : Bool) (state : C → CellState) (offers : O →
     pub was : e.is_other ≡ false
     pub tried : HasTried true
     pub found : IsOfEntry (buffer_at q.desks inner) g.setting.slots e.place (kept_at p.desks t)
+    pub given : take count after ≡ body_of (buffer_at q.desks inner) e.place  -- the part of the body in what the station read
     pub bytes : IsTrue tells → HoldsFile g → take count after ≡ body_at g e.anchor e.offer e.place
     pub within : count ≤ length before
     pub behind : drop count after ≡ drop count before

@@ -13,7 +13,7 @@ use Rattle.rock_writer.specs.Drafting.{DeskMoves}
 use Rattle.slice_chain.specs.Freeing.{FollowsTab}
 use Rattle.rock_writer.specs.Passes.{FollowsWriting}
 use Rattle.rock_writer.proofs.Publishing.{same_view}
-use Rattle.std.specs.Prelude.{Err, IsErrOf, Ok, OnErr, OnOk, Result, slice_get}
+use Rattle.std.specs.Prelude.{Err, IfOk, IsErrOf, Ok, OnErr, OnOk, Result, slice_get}
 
 -- what is said of an answer where there is a value, and where there is none
 pub when_ok : {T E P : Type 0} (r : Result T E) (x : T) → r ≡ Ok x → OnOk r P → P
@@ -23,6 +23,15 @@ when_ok (Err y) x e h = cc
 pub on_err : {T E P : Type 0} (r : Result T E) → P → OnErr r P
 on_err (Ok x) h = tt
 on_err (Err y) h = h
+
+-- more is said of it than it is asked
+pub if_ok_weaker : {T E : Type 0} {P Q : T → Type 0} → (r : Result T E) → ((x : T) → P x → Q x) → IfOk r P → IfOk r Q
+if_ok_weaker (Ok x) f h = f x h
+if_ok_weaker (Err y) f h = tt
+
+pub on_err_weaker : {T E P Q : Type 0} → (r : Result T E) → (P → Q) → OnErr r P → OnErr r Q
+on_err_weaker (Ok x) f h = tt
+on_err_weaker (Err y) f h = f h
 
 pub when_err : {T E P : Type 0} (r : Result T E) (x : E) → r ≡ Err x → OnErr r P → P
 when_err (Ok y) x e h = cc
@@ -86,6 +95,9 @@ module _ {C O : Type 0} (tells : Bool) (state : C → CellState) (offers : O →
     desks = λ j ne. b.desks j ne ∙ a.desks j ne;
     cells = b.cells ∙ a.cells;
   }
+
+  pub evicting_one : (p q : Pass C) → Follows tells state offers s t p q → FollowsEvicting tells state offers s t p q
+  evicting_one p q h = record { own = h.own; others = h.others; left = λ j ne far. h.left j ne; places = h.places; desks = h.desks; cells = h.cells }
 
   pub evicting_on : (p u q : Pass C) → FollowsEvicting tells state offers s t p u → FollowsEvicting tells state offers s t u q → FollowsEvicting tells state offers s t p q
   evicting_on p u q a b = record {

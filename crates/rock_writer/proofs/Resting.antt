@@ -1,5 +1,5 @@
 -- A tab that writes, from one step of its pass to the next.
-use Rattle.std.proofs.Common.{Bool, List, None, Some, [], ap, arith, get_or, get_or-set_other, get_or-set_same, length, length-set, refl, subst, sym, unwrap_or, ◌++◌, ◌<◌, ◌≡◌, ◌≢◌, ◌∙◌, ◌∷◌, ⊎_elim, ℕ}
+use Rattle.std.proofs.Common.{Bool, List, None, Option, Some, [], ap, arith, get_or, get_or-set_other, get_or-set_same, inr, length, length-set, refl, set, subst, sym, unwrap_or, ◌++◌, ◌<◌, ◌≡◌, ◌≢◌, ◌∙◌, ◌∷◌, ⊎_elim, ℕ}
 use Rattle.link_word.specs.declared.link.Link.{Link}
 use Rattle.link_word.specs.declared.link.Link.TheVariants.{Last as LastLink, Next, NotWritten}
 use Rattle.rock_disk.specs.Cell.{CellState}
@@ -8,20 +8,23 @@ use Rattle.core_model.specs.SlotMoves.{MayReserve, reserves}
 use Rattle.core_model.specs.Tabs.{InnerIsFree, IsPass, OfWriter, inner, is_free, tab_at, with_tab}
 use Rattle.core_model.specs.declared.tab.Piece.{Piece}
 use Rattle.core_model.specs.declared.tab.Tab.{Tab}
-use Rattle.core_model.specs.declared.tab.Tab.TheVariants.{Writing}
+use Rattle.core_model.specs.declared.tab.Tab.TheVariants.{Free, Freeing, Last, Reading, Retreating, Writing}
 use Rattle.core_model.specs.declared.view.View.{View}
 use Rattle.store_rule.specs.declared.store.Pass.{Pass}
 use Rattle.store_rule.specs.declared.store.Store.{Store}
 use Rattle.store_rule.specs.Ground.{Ground, Offers}
+use Rattle.store_rule.specs.Calls.{Follows}
 use Rattle.store_rule.specs.Passes.{IsOf, basis, view}
 use Rattle.tab_states.specs.Tabs.{head_of}
 use Rattle.store_rule.proofs.Passing.{pass_of}
-use Rattle.free_set.specs.Claims.{MayClaim}
+use Rattle.store_rule.proofs.Seating.{set_twice}
+use Rattle.free_set.specs.Claims.{FoundAllTaken, MayClaim, searched_to}
 use Rattle.slice_chain.specs.Writes.{reserved_first}
 use Rattle.rock_writer.specs.Entries.{Entry, GoesOn, Rests, writer_as}
 use Rattle.rock_writer.specs.Flushing.{LacksSlot, SlotFor}
+use Rattle.slice_chain.specs.Victims.{Evicted, MayEvictOne, NoneIdle, hand_in}
 use Rattle.rock_writer.specs.Halting.{MayHalt}
-use Rattle.rock_writer.specs.Reserving.{Reserved}
+use Rattle.rock_writer.specs.Reserving.{RanOut, Reserved}
 
 module _ {X : Type 0} (t : ℕ) (v w : View X) (x : Tab X) (pass : IsPass v) (below : t < inner) (is : w.tabs ≡ with_tab v t x) where
   pub tab_now : tab_at w t ≡ x
@@ -32,6 +35,33 @@ module _ {X : Type 0} (t : ℕ) (v w : View X) (x : Tab X) (pass : IsPass v) (be
 
   pub nine_now : IsPass w
   nine_now = ap length is ∙ length-set v.tabs t x ∙ pass
+
+-- a tab that reserves a slot forgets how far a search had come
+reserves_again : {X : Type 0} → (x : Tab X) (claim : Option ℕ) (slot : ℕ) → reserves (searched_to x claim) slot ≡ reserves x slot
+reserves_again (Writing w) claim slot = refl
+reserves_again Free claim slot = refl
+reserves_again (Retreating b) claim slot = refl
+reserves_again (Reading r) claim slot = refl
+reserves_again (Last b) claim slot = refl
+reserves_again (Freeing f) claim slot = refl
+
+-- a tab that found no slot may reserve one still
+still_may : {X : Type 0} → (x : Tab X) (claim : Option ℕ) → OfWriter MayReserve x → OfWriter MayReserve (searched_to x claim)
+still_may (Writing w) claim h = record { room = h.room; chosen = h.chosen; open_end = h.open_end; goes_on = h.goes_on }
+still_may Free claim h = absurd h
+still_may (Retreating b) claim h = absurd h
+still_may (Reading r) claim h = absurd h
+still_may (Last b) claim h = absurd h
+still_may (Freeing f) claim h = absurd h
+
+-- the tab reserved a slot after its search had found none
+pub reserved_after : {X : Type 0} → (t slot : ℕ) (claim : Option ℕ) (v m w : View X) → IsPass v → t < inner → m.tabs ≡ with_tab v t (searched_to (tab_at v t) claim)
+    → w.tabs ≡ with_tab m t (reserves (tab_at m t) slot) → w.tabs ≡ with_tab v t (reserves (tab_at v t) slot)
+reserved_after t slot claim v m w pass below searched reserved = reserved
+    ∙ ap (λ z. with_tab m t (reserves z slot)) (tab_now t v m (searched_to (tab_at v t) claim) pass below searched)
+    ∙ ap (with_tab m t) (reserves_again (tab_at v t) claim slot)
+    ∙ ap (λ xs. set xs t (reserves (tab_at v t) slot)) searched
+    ∙ set_twice v.tabs t (searched_to (tab_at v t) claim) (reserves (tab_at v t) slot)
 
 pub open_end : (published : List ℕ) (end : Link) → GoesOn published end → end ≢ LastLink
 open_end [] end h e = not_last (sym h ∙ e)
@@ -70,6 +100,20 @@ module _ {C O : Type 0} (tells : Bool) (state : C → CellState) (offers : O →
     start = λ e. refl;
   }
 
+  -- it found no slot
+  pub out_may_halt : (p q : Pass C) (rs : List ℕ) (claim : Option ℕ) → Rests tells state offers s p t e published end rs → IsOf tells state offers s q → (view q).tabs ≡ with_tab (view p) t (searched_to (tab_at (view p) t) claim)
+      → MayHalt tells state offers s q t
+  out_may_halt p q rs claim h own tabs = record {
+    own = own;
+    below = h.below;
+    inner_free = inner_now t (view p) (view q) (searched_to (tab_at (view p) t) claim) (pass_of p) h.below tabs h.inner_free;
+    writer = record (writer_as g e published end rs) { claim = claim };
+    is = tab_now t (view p) (view q) (searched_to (tab_at (view p) t) claim) (pass_of p) h.below tabs ∙ ap (λ z. searched_to z claim) h.is;
+    turn = refl;
+    open_end = open_end published end h.goes_on;
+    start = λ e. refl;
+  }
+
   -- the same tab at another pass
   pub rests_at : (p q : Pass C) (rs more : List ℕ) → Rests tells state offers s p t e published end rs → IsOf tells state offers s q → tab_at (view q) t ≡ Writing (writer_as g e published end more) → InnerIsFree (view q)
       → Rests tells state offers s q t e published end more
@@ -102,3 +146,31 @@ module _ {C O : Type 0} (tells : Bool) (state : C → CellState) (offers : O →
       unlinked NotWritten e = refl
       unlinked LastLink e = refl
       unlinked (Next x) e = cc
+
+-- No slot was found free, and the pass looks for an entry to evict.
+module _ {C O : Type 0} (tells : Bool) (state : C → CellState) (offers : O → Offers) (s : Store C O) (t : ℕ) (p q : Pass C) (may : MayClaim tells state offers s p t) (follows : Follows tells state offers s t p q)
+    (none : FoundAllTaken (basis tells state offers s) t (view p) (view q)) where
+  abbrev h : Ground (List ℕ)
+  h = basis tells state offers s
+
+  pub may_evict : MayEvictOne tells state offers s q t
+  may_evict = record {
+    own = follows.own;
+    below = may.below;
+    inner_free = inner_now t (view p) (view q) (searched_to (tab_at (view p) t) none.claim) (pass_of p) may.below none.tabs may.inner_free;
+    may = subst (OfWriter MayReserve) (sym (tab_now t (view p) (view q) (searched_to (tab_at (view p) t) none.claim) (pass_of p) may.below none.tabs)) (still_may (tab_at (view p) t) none.claim may.may);
+  }
+
+  pub reserved_by : (slot hand_after : ℕ) (w : View (List ℕ)) → Evicted h (hand_in h.setting.anchors q.hand) (view q) t slot w hand_after → Reserved h t p.hand (view p) slot w hand_after
+  reserved_by slot hand_after w evicted = record {
+    how = inr record { middle = view q; none = none; evicted = subst (λ (n : ℕ). Evicted h (hand_in h.setting.anchors n) (view q) t slot w hand_after) follows.hand evicted };
+    tabs = reserved_after t slot none.claim (view p) (view q) w (pass_of p) may.below none.tabs evicted.tabs;
+  }
+
+  pub ran_out : (w : View (List ℕ)) → NoneIdle h (hand_in h.setting.anchors q.hand) (view q) w → RanOut h t p.hand (view p) w
+  ran_out w busy = record {
+    middle = view q;
+    none = none;
+    busy = subst (λ (n : ℕ). NoneIdle h (hand_in h.setting.anchors n) (view q) w) follows.hand busy;
+    tabs = busy.tabs ∙ none.tabs;
+  }

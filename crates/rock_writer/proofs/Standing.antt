@@ -45,19 +45,19 @@ module _ {X : Type 0} (g : Ground X) (v : View X) (st : Stands g v) (t : ℕ) (w
       (let s : ChainStands (stage_of (epoch_of (word st.state w.anchor))) ((slot_words g.setting st.state.words).start w.anchor) (slot_words g.setting st.state.words).link (chain_of st.state w.anchor)
       = subst (λ (z : ℕ). ChainStands z ((slot_words g.setting st.state.words).start w.anchor) (slot_words g.setting st.state.words).link (chain_of st.state w.anchor)) (stage_told g.setting st.state.words w.anchor m.0) (st.rule.sound.slots.stand w.anchor m.0) in s.fits)
 
-  held : (slot : ℕ) → times slot w.reserved ≤ used ((slot_words g.setting st.state.words).owner slot)
-  held slot = let o = st.rule.sound.slots.places.owners slot in
+  held : (slot : ℕ) → times slot w.reserved ≤ used ((slot_words g.setting st.state.words).taken slot)
+  held slot = let o = st.rule.sound.slots.places.taken slot in
       let a = le_sum_at (held_in slot) v.tabs t (Tab.Writing w) there in let b = le_sum_at (count (held_in slot)) st.state.views st.index v st.at in omega arith
 
   pub once : (slot : ℕ) → times slot w.reserved ≤ 1
-  once slot = let f = used_few ((slot_words g.setting st.state.words).owner slot) in let h = held slot in omega arith
+  once slot = let f = used_few ((slot_words g.setting st.state.words).taken slot) in let h = held slot in omega arith
 
   pub inside : (slot : ℕ) → Contains w.reserved slot → slot < g.setting.slots
   inside slot h = by_case (ltb slot g.setting.slots) refl (let a = contains_times slot w.reserved h in let b = held slot in omega arith)
     where
-      by_case : (b : Bool) → ltb slot g.setting.slots ≡ b → 0 < used ((slot_words g.setting st.state.words).owner slot) → slot < g.setting.slots
+      by_case : (b : Bool) → ltb slot g.setting.slots ≡ b → 0 < used ((slot_words g.setting st.state.words).taken slot) → slot < g.setting.slots
       by_case true e h = Rattle.std.proofs.lemmas.Bool.ltb-true slot g.setting.slots e
-      by_case false e h = absurd (let z : used ((slot_words g.setting st.state.words).owner slot) ≡ 0 = rw e refl in omega arith)
+      by_case false e h = absurd (let z : used ((slot_words g.setting st.state.words).taken slot) ≡ 0 = rw e refl in omega arith)
 
   there_chain : get_elem? st.state.chains w.anchor ≡ some (chain_of st.state w.anchor)
   there_chain = at_index st.state.chains w.anchor (chain_of st.state w.anchor) no_chain (let n = st.rule.sound.anchors.shaped.chains in let lt = m.0 in omega arith) refl
@@ -65,11 +65,11 @@ module _ {X : Type 0} (g : Ground X) (v : View X) (st : Stands g v) (t : ℕ) (w
   pub published_inside : (slot : ℕ) → Contains w.published slot → slot < g.setting.slots
   published_inside slot h = by_case (ltb slot g.setting.slots) refl
       (let a = contains_times slot w.published h in let c = ap (λ (z : Chain). times slot z.slots) holds.chain in
-      let b = le_sum_at (standing_in slot) st.state.chains w.anchor (chain_of st.state w.anchor) there_chain in let o = st.rule.sound.slots.places.owners slot in omega arith)
+      let b = le_sum_at (standing_in slot) st.state.chains w.anchor (chain_of st.state w.anchor) there_chain in let o = st.rule.sound.slots.places.taken slot in omega arith)
     where
-      by_case : (b : Bool) → ltb slot g.setting.slots ≡ b → 0 < used ((slot_words g.setting st.state.words).owner slot) → slot < g.setting.slots
+      by_case : (b : Bool) → ltb slot g.setting.slots ≡ b → 0 < used ((slot_words g.setting st.state.words).taken slot) → slot < g.setting.slots
       by_case true e h = Rattle.std.proofs.lemmas.Bool.ltb-true slot g.setting.slots e
-      by_case false e h = absurd (let z : used ((slot_words g.setting st.state.words).owner slot) ≡ 0 = rw e refl in omega arith)
+      by_case false e h = absurd (let z : used ((slot_words g.setting st.state.words).taken slot) ≡ 0 = rw e refl in omega arith)
 
   -- the first slot of what it published and reserved is one of the table
   pub first_inside : (slot : ℕ) → Contains w.reserved slot → first_of (w.published ++ slot ∷ []) < g.setting.slots

@@ -58,6 +58,7 @@ module _ {X : Type 0} (g : Ground X) (e : Entry) where
     key1 = Some (back_half (key_of url_in));
     offer = Some e.offer;
     start = Some (start_number published);
+    claim = None;
     reserved = reserved;
     chosen = None;
     is_written = false;

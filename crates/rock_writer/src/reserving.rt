@@ -15,7 +15,7 @@ use store_rule::{Origin, Pass, Store};
 ///
 /// # Errors
 ///
-/// No slot was found free, and no entry idle. No tab has changed.
+/// No slot was found free, and no entry idle. No tab has changed but for how far its search for a slot has come.
 pub(crate) fn reserve<C: Cell, O: Origin>(
     store: &Store<C, O>,
     pass: &mut Pass<C>,

@@ -23,6 +23,7 @@ use Rattle.core_model.specs.declared.view.View.{View}
 use Rattle.core_model.proofs.Tells.{tells as steps_tell}
 use Rattle.store_rule.specs.Ground.{Ground}
 use Rattle.store_rule.specs.Told.{Steps}
+use Rattle.free_set.specs.Claims.{searched_to}
 use Rattle.slice_chain.specs.Writes.{WroteSlot, chose}
 use Rattle.slice_chain.specs.Links.{Published}
 use Rattle.serve_lines.specs.Acting.{Acted}
@@ -50,6 +51,14 @@ module _ {X : Type 0} (n : Naming) where
   reserves_is (Tab.Reading r) slot h = absurd h
   reserves_is (Tab.Last b) slot h = absurd h
   reserves_is (Tab.Freeing f) slot h = absurd h
+
+  searched_is : (tab : Tab X) (claim : Option ℕ) → IsEntryOf n tab → IsEntryOf n (searched_to tab claim)
+  searched_is (Writing w) claim h = h
+  searched_is Tab.Free claim h = absurd h
+  searched_is (Tab.Retreating b) claim h = absurd h
+  searched_is (Tab.Reading r) claim h = absurd h
+  searched_is (Tab.Last b) claim h = absurd h
+  searched_is (Tab.Freeing f) claim h = absurd h
 
   publishes_is : (tab : Tab X) (slot : ℕ) (link : Link) → IsEntryOf n tab → IsEntryOf n (publishes tab slot link)
   publishes_is (Writing w) slot link h = h
@@ -120,6 +129,9 @@ module _ {X : Type 0} {t : ℕ} {name : Naming} where
 
   pub reserved_tab : {v w : View X} (slot : ℕ) → HasEntry t name v → w.tabs ≡ with_tab v t (reserves (tab_at v t) slot) → HasEntry t name w
   reserved_tab {v} {w} slot h tabs = becomes (reserves (tab_at v t) slot) h tabs (reserves_is name (tab_at v t) slot h.writes)
+
+  pub searched_tab : {v w : View X} (claim : Option ℕ) → HasEntry t name v → w.tabs ≡ with_tab v t (searched_to (tab_at v t) claim) → HasEntry t name w
+  searched_tab {v} {w} claim h tabs = becomes (searched_to (tab_at v t) claim) h tabs (searched_is name (tab_at v t) claim h.writes)
 
   module _ {g : Ground X} where
     pub gave_tab : {v w : View X} {slot n : ℕ} → HasEntry t name v → Steps g v (Disown t slot) n w → HasEntry t name w

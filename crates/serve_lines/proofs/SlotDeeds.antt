@@ -1,5 +1,5 @@
 -- What calls on slots and chains draw and do.
-use Rattle.std.proofs.Common.{All, Bool, Contains, List, None, Option, [], ap, arith, false, inl, inr, refl, subst, suc, sym, true, zero, ◌≡◌, ◌∙◌, ◌∷◌, ℕ}
+use Rattle.std.proofs.Common.{All, Bool, Contains, List, None, Option, [], ap, arith, false, inl, inr, refl, subst, suc, sym, true, zero, ◌≡◌, ◌∙◌, ◌∷◌, ◌⊎◌, ⊎_elim, ℕ}
 use Rattle.link_word.specs.declared.link.Link.{Link}
 use Rattle.lock_word.specs.Words.{evicted, raised}
 use Rattle.core_model.specs.AnchorMoves.{deed_of}
@@ -14,11 +14,11 @@ use Rattle.core_model.specs.declared.tab.Tab.TheVariants.{Writing}
 use Rattle.core_model.specs.declared.tab.Writer.{Writer}
 use Rattle.core_model.specs.declared.view.Deed.{Deed}
 use Rattle.core_model.specs.declared.view.Item.{Item}
-use Rattle.core_model.specs.declared.view.Kind.TheVariants.{Changed, Owned, Raised}
+use Rattle.core_model.specs.declared.view.Kind.TheVariants.{Changed, Owned, Raised, Searched}
 use Rattle.core_model.specs.declared.view.View.{View}
 use Rattle.store_rule.specs.Ground.{Ground}
 use Rattle.store_rule.specs.Turns.{IsReturned, Lost}
-use Rattle.free_set.specs.Claims.{Claimed, HasTried}
+use Rattle.free_set.specs.Claims.{Claimed, FoundAllTaken}
 use Rattle.slice_chain.specs.Freeing.{Freed}
 use Rattle.slice_chain.specs.Links.{Linked, Located, Published, PublishedFirst, PublishedMore}
 use Rattle.slice_chain.specs.Names.{KeyLoaded, Named}
@@ -30,11 +30,11 @@ use Rattle.serve_lines.specs.Deeds.{Evicts, IsGone, OfReserving}
 use Rattle.serve_lines.proofs.AddingUp.{by_run, none_there, on, only_one, other_draw, quiet_run, quiet_step, same}
 use Rattle.serve_lines.proofs.AnchorDeeds.{at_five, idle_at}
 
--- tries for slots draw nothing
-tries_draw_none : (items : List Item) → All (λ (x : Item). x.kind ≡ Owned) items → draws items ≡ 0
-tries_draw_none [] h = refl
-tries_draw_none (x ∷ xs) h = let kind : x.kind ≡ Owned = h 0 x (omega arith) in
-    other_draw (is_draw x.kind) (draws xs) (ap is_draw kind) ∙ tries_draw_none xs (λ k d lt. h (suc k) d (omega arith))
+-- looks at the map and tries for slots draw nothing
+searching_draws_none : (items : List Item) → All (λ (x : Item). (x.kind ≡ Searched) ⊎ (x.kind ≡ Owned)) items → draws items ≡ 0
+searching_draws_none [] h = refl
+searching_draws_none (x ∷ xs) h = other_draw (is_draw x.kind) (draws xs) (⊎_elim (λ (kind : x.kind ≡ Searched). ap is_draw kind) (λ (kind : x.kind ≡ Owned). ap is_draw kind) (h 0 x (omega arith)))
+    ∙ searching_draws_none xs (λ k d lt. h (suc k) d (omega arith))
 
 module _ {X : Type 0} {P : Deed → Type 0} where
   held : (v u : View X) (t : ℕ) (w : Writer X) (h : Hold X) → u ≡ with_hold v t w h → Acted None P v u
@@ -51,10 +51,10 @@ module _ {X : Type 0} {P : Deed → Type 0} where
 
 module _ {X : Type 0} {g : Ground X} where
   pub claimed : {P : Deed → Type 0} {t slot : ℕ} {v w : View X} → Claimed g t v slot w → Acted None P v w
-  claimed h = quiet_run h.passed.went (tries_draw_none h.added.items h.passed.tries) h.passed.quiet.1
+  claimed h = quiet_run h.passed.went (searching_draws_none h.added.items h.passed.kinds) h.passed.quiet.1
 
-  pub has_tried : {P : Deed → Type 0} {slot : ℕ} {v w : View X} → HasTried g v slot w → Acted None P v w
-  has_tried h = quiet_run h.passed.went (tries_draw_none h.added.items h.passed.tries) h.passed.quiet.1
+  pub all_taken : {P : Deed → Type 0} {t : ℕ} {v w : View X} → FoundAllTaken g t v w → Acted None P v w
+  all_taken h = quiet_run h.passed.went (searching_draws_none h.added.items h.passed.kinds) h.passed.quiet.1
 
   pub freed : {v w : View X} → Freed g v w → Acted None IsGone v w
   freed {v} {w} h = by_run h.went h.undrawn (by_kind h.freer.is_freeing refl)

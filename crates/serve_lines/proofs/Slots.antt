@@ -12,7 +12,7 @@ use Rattle.core_model.specs.declared.tab.Writer.{Writer}
 use Rattle.core_model.specs.declared.view.View.{View}
 use Rattle.store_rule.specs.Ground.{Ground}
 use Rattle.store_rule.specs.Turns.{IsReturned, Lost}
-use Rattle.free_set.specs.Claims.{Claimed, HasTried}
+use Rattle.free_set.specs.Claims.{Claimed, FoundAllTaken}
 use Rattle.slice_chain.specs.Freeing.{Freed}
 use Rattle.slice_chain.specs.Links.{Linked, Located, Published, PublishedFirst, PublishedMore}
 use Rattle.slice_chain.specs.Names.{KeyLoaded, Named}
@@ -34,8 +34,8 @@ module _ {X : Type 0} {g : Ground X} where
   pub claimed : {t slot : ℕ} {v w : View X} → Claimed g t v slot w → Keeps v w
   claimed h = by_run h.passed.went
 
-  pub has_tried : {slot : ℕ} {v w : View X} → HasTried g v slot w → Keeps v w
-  has_tried h = by_run h.passed.went
+  pub all_taken : {t : ℕ} {v w : View X} → FoundAllTaken g t v w → Keeps v w
+  all_taken h = by_run h.passed.went
 
   pub freed : {v w : View X} → Freed g v w → Keeps v w
   freed h = by_run h.went

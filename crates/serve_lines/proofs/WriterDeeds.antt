@@ -39,8 +39,8 @@ use Rattle.serve_lines.specs.Deeds.{HasNames, IsGone, Naming, OfBeginning, OfClo
 use Rattle.serve_lines.proofs.Grown as grown
 use Rattle.serve_lines.proofs.AddingUp.{behind, by_step, none_there, on, only_one, quiet_step, same, wider}
 use Rattle.serve_lines.proofs.AnchorDeeds.{drew, given_up, spent_at_draw, spent_at_look}
-use Rattle.serve_lines.proofs.SlotDeeds.{claimed, evicted_one, freed, has_tried, named, none_idle, published, wrote_slot}
-use Rattle.serve_lines.proofs.EntryTabs.{HasEntry, IsEntryOf, appending_tab, gave_tab, names_on, published_names, published_tab, raise_acted, raises, reserved_tab, same_tabs, same_view, wrote_tab}
+use Rattle.serve_lines.proofs.SlotDeeds.{all_taken, claimed, evicted_one, freed, named, none_idle, published, wrote_slot}
+use Rattle.serve_lines.proofs.EntryTabs.{HasEntry, IsEntryOf, appending_tab, gave_tab, names_on, published_names, published_tab, raise_acted, raises, reserved_tab, same_view, searched_tab, wrote_tab}
 
 -- To begin.
 
@@ -107,13 +107,13 @@ module _ {X : Type 0} (g : Ground X) (t a : ℕ) (v : View X) where
 module _ {X : Type 0} {g : Ground X} {t hand : ℕ} {v : View X} where
   by_either : (slot after : ℕ) (w : View X) → ByClaim g t hand v slot w after ⊎ ByEviction g t hand v slot w after → Acted None OfReserving v w
   by_either slot after w (inl h) = claimed h.claimed
-  by_either slot after w (inr h) = on (has_tried h.none) (evicted_one h.evicted)
+  by_either slot after w (inr h) = on (all_taken h.none) (evicted_one h.evicted)
 
   reserved : {slot after : ℕ} {w : View X} → Reserved g t hand v slot w after → Acted None OfReserving v w
   reserved {slot} {after} {w} h = by_either slot after w h.how
 
   ran_out : {P : Deed → Type 0} {w : View X} → RanOut g t hand v w → Acted None P v w
-  ran_out h = on (has_tried h.none) (none_idle h.busy)
+  ran_out h = on (all_taken h.none) (none_idle h.busy)
 
 -- between the views the pass did such deeds, and the tab writes this entry still
 pub record Wrote {X : Type 0} (t : ℕ) (n : Naming) (P : Deed → Type 0) (v w : View X) : Type 0 where
@@ -134,7 +134,7 @@ module _ {X : Type 0} (g : Ground X) (t : ℕ) (n : Naming) where
   reserved_for {hand} {slot} {after} {v} {w} h k = record { acted = reserved k; entry = reserved_tab slot h k.tabs }
 
   ran_out_for : {P : Deed → Type 0} {hand : ℕ} {v w : View X} → HasEntry t n v → RanOut g t hand v w → Wrote t n P v w
-  ran_out_for h k = record { acted = ran_out k; entry = same_tabs h k.tabs }
+  ran_out_for h k = record { acted = ran_out k; entry = searched_tab k.none.claim h k.tabs }
 
   onto : {P : Deed → Type 0} {u v w : View X} → Wrote t n P u v → Wrote t n P v w → Wrote t n P u w
   onto h k = record { acted = on h.acted k.acted; entry = k.entry }

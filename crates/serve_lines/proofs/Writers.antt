@@ -23,7 +23,7 @@ use Rattle.rock_writer.specs.Reserving.{ByClaim, ByEviction, RanOut, Reserved}
 use Rattle.line_account.specs.Courses.{Keeps}
 use Rattle.serve_lines.proofs.Grown.{by_step, on, same}
 use Rattle.serve_lines.proofs.Anchors.{drew, given_up, spent_at_draw, spent_at_look}
-use Rattle.serve_lines.proofs.Slots.{claimed, evicted, freed, has_tried, named, none_idle, published, wrote_slot}
+use Rattle.serve_lines.proofs.Slots.{all_taken, claimed, evicted, freed, named, none_idle, published, wrote_slot}
 
 -- To begin.
 
@@ -61,13 +61,13 @@ module _ {X : Type 0} (g : Ground X) (t a : ℕ) (v : View X) where
 module _ {X : Type 0} {g : Ground X} {t hand : ℕ} {v : View X} where
   by_either : (slot after : ℕ) (w : View X) → ByClaim g t hand v slot w after ⊎ ByEviction g t hand v slot w after → Keeps v w
   by_either slot after w (inl h) = claimed h.claimed
-  by_either slot after w (inr h) = on (has_tried h.none) (evicted h.evicted)
+  by_either slot after w (inr h) = on (all_taken h.none) (evicted h.evicted)
 
   reserved : {slot after : ℕ} {w : View X} → Reserved g t hand v slot w after → Keeps v w
   reserved {slot} {after} {w} h = by_either slot after w h.how
 
   ran_out : {w : View X} → RanOut g t hand v w → Keeps v w
-  ran_out h = on (has_tried h.none) (none_idle h.busy)
+  ran_out h = on (all_taken h.none) (none_idle h.busy)
 
 module _ {X : Type 0} (g : Ground X) (t : ℕ) where
   slot_for : (hand : ℕ) (v : View X) (slot : ℕ) (w : View X) (after : ℕ) → SlotFor g t hand v slot w after → Keeps v w

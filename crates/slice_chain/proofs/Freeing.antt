@@ -102,7 +102,7 @@ module _ {C O : Type 0} (tells : Bool) (state : C → CellState) (offers : O →
           word = left.found;
           loosened = view p2;
           leaves = left.step;
-          owner = gave.found;
+          map_word = gave.found;
           gives = gave.step;
           looked_stands = looked.own.stands;
           loosened_stands = left.own.stands;

@@ -71,14 +71,14 @@ not_empty slot xs e z = cons_nil (sym e ∙ z)
 
 module _ {X : Type 0} (g : Ground X) (slot : ℕ) (u w : View X) (next : Option ℕ) (h : FrontFreed g slot u next w) where
   abbrev front_added : Added
-  front_added = together (added_by h.loosened (Disown inner slot) (found_as g.setting h.gives.state h.loosened (Disown inner slot) h.owner))
+  front_added = together (added_by h.loosened (Disown inner slot) (found_as g.setting h.gives.state h.loosened (Disown inner slot) h.map_word))
       (together (added_by h.looked (Loosen inner slot) (found_as g.setting h.leaves.state h.looked (Loosen inner slot) h.word))
       (added_by u (GetLink inner slot) (found_as g.setting h.looks.state u (GetLink inner slot) h.link)))
 
   front_went : Went g u front_added w
   front_went = went_then g u h.loosened w _ _
       (went_then g u h.looked h.loosened _ _ (went_one g u h.looked (GetLink inner slot) h.link h.looks h.looked_stands) (went_one g h.looked h.loosened (Loosen inner slot) h.word h.leaves h.loosened_stands))
-      (went_one g h.loosened w (Disown inner slot) h.owner h.gives h.stands)
+      (went_one g h.loosened w (Disown inner slot) h.map_word h.gives h.stands)
 
   front_quiet : (front_added.sights ≡ []) × (front_added.done ≡ []) × (front_added.meetings ≡ [])
   front_quiet = (Rattle.std.proofs.Common.subst (λ (x : Tab X). Rattle.core_model.specs.SlotMoves.follows x h.link ≡ []) (sym h.was) refl, refl, refl)
@@ -101,7 +101,7 @@ module _ {X : Type 0} (g : Ground X) (slot : ℕ) (u w : View X) (next : Option 
           only p (suc k, lt, e) = absurd (omega arith)
 
   front_gave : WasGiven front_added.items slot
-  front_gave = (h.owner, (0, omega arith, refl))
+  front_gave = (h.map_word, (0, omega arith, refl))
 
 module _ {X : Type 0} (g : Ground X) (v : View X) (pass : IsPass v) where
   -- the tab while slots are left
@@ -143,7 +143,7 @@ module _ {X : Type 0} (g : Ground X) (v : View X) (pass : IsPass v) where
       behind j (k, lt, e) = (suc k, omega arith, e)
 
       left_or_given : (j : ℕ) → Contains (slot ∷ rest_of r.left) j → Contains (rest_of r.left) j ⊎ WasGiven (together (front_added g slot u w next h) r.some.added).items j
-      left_or_given j (zero, lt, e) = inr (h.owner, subst (λ (z : ℕ). Contains (together (front_added g slot u w next h) r.some.added).items record { kind = Disowned; at = z; found = h.owner }) e (0, omega arith, refl))
+      left_or_given j (zero, lt, e) = inr (h.map_word, subst (λ (z : ℕ). Contains (together (front_added g slot u w next h) r.some.added).items record { kind = Disowned; at = z; found = h.map_word }) e (0, omega arith, refl))
       left_or_given j (suc k, lt, e) = inl (k, omega arith, e)
 
   -- the measure falls

@@ -146,7 +146,7 @@ module _ {C O : Type 0} (tells : Bool) (state : C → CellState) (offers : O →
         turn = ap turn_of (tab_of q tabs);
         slot_is = refl;
         fits = ap shape same ∙ subst (IsFitting (form_of tells state) g slot) cell_is taken.fits;
-        back = subst (λ (x : Tab (List ℕ)). MayReturn tells g.setting x cell (shown tells state c2)) (sym (tab_of q tabs)) (ap (shown_in tells) same ∙ ap (shown tells state) (sym cell_is));
+        back = subst (λ (x : Tab (List ℕ)). MayReturn g.setting x cell (shown tells state c2)) (sym (tab_of q tabs)) (ap (shown_in tells) same ∙ ap (shown tells state) (sym cell_is));
       }
 
       tabs3 : (view p3).tabs ≡ with_tab (view p) t (Reading with_turn)

@@ -43,12 +43,9 @@ set_again {A} (z ∷ zs) (suc t) x y = ap (λ (q : List A). z ∷ q) (set_again 
 -- What cells that tell have, as the core sees them.
 
 -- a crash leaves what it might have, or the content that was written
-left_or_new : (tells : Bool) (before after : CellState) (bytes : List ℕ) → (IsTrue tells → MayBeLeft bytes before after) → IsTrue tells → (x : List ℕ) → Contains (shown_in tells after).possible x → Contains (shown_in tells before).possible x ⊎ (x ≡ bytes)
-left_or_new true before after bytes h told x c = h told x c
-left_or_new false before after bytes h told x c = absurd (no_truth told)
-  where
-    no_truth : IsTrue false → ⊥
-    no_truth q = cc
+left_or_new : (tells : Bool) (before after : CellState) (bytes : List ℕ) → (IsTrue tells → MayBeLeft bytes before after) → (x : List ℕ) → Contains (shown_in tells after).possible x → Contains (shown_in tells before).possible x ⊎ (IsTrue tells × (x ≡ bytes))
+left_or_new true before after bytes h x c = ⊎_elim (λ l. inl l) (λ e. inr (refl, e)) (h refl x c)
+left_or_new false before after bytes h x c = inl c
 
 -- a cell that was written has the image
 image_there : (tells : Bool) (offers : Offers) (slots slot : ℕ) (p : Piece) (c : CellState) (bytes : List ℕ) → (IsTrue tells → bytes ≡ image_in tells offers slots slot p) → (IsTrue tells → c.now ≡ bytes) → image_in tells offers slots slot p ≡ (shown_in tells c).now
@@ -152,9 +149,9 @@ module _ {C O : Type 0} (tells : Bool) (state : C → CellState) (offers : O →
       turn = ap turn_of tab_is;
       slot_is = refl;
       fits = same ∙ fits;
-      back = subst (λ (x : Tab (List ℕ)). MayReturn tells g.setting x cell (shown tells state after)) (sym tab_is)
-          (λ told x c. ⊎_elim (λ h. inl (subst (λ (z : Cell (List ℕ)). Contains z.possible x) (sym cell_is) h)) (λ (e : x ≡ bytes). inr (ap Some (sym (buffer told) ∙ sym e)))
-          (left_or_new tells (state before) (state after) bytes left told x c));
+      back = subst (λ (x : Tab (List ℕ)). MayReturn g.setting x cell (shown tells state after)) (sym tab_is)
+          (λ x c. ⊎_elim (λ h. inl (subst (λ (z : Cell (List ℕ)). Contains z.possible x) (sym cell_is) h)) (λ (q : IsTrue tells × (x ≡ bytes)). inr (ap Some (sym (buffer q.0) ∙ sym q.1)))
+          (left_or_new tells (state before) (state after) bytes left x c));
     }
 
     -- the tab after the end

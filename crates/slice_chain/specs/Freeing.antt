@@ -49,8 +49,8 @@ pub record FrontFreed {X : Type 0} (g : Ground X) (slot : ℕ) (v : View X) (nex
   pub word : ℕ
   pub loosened : View X
   pub leaves : Steps g looked (Loosen inner slot) word loosened
-  pub owner : ℕ
-  pub gives : Steps g loosened (Disown inner slot) owner w
+  pub map_word : ℕ
+  pub gives : Steps g loosened (Disown inner slot) map_word w
   pub looked_stands : Stands g looked
   pub loosened_stands : Stands g loosened
   pub stands : Stands g w
@@ -136,7 +136,7 @@ module _ {X : Type 0} (g : Ground X) where
     pub all : FreedSome freer v [] w
 
   -- Every slot of the chain was given back, and the inner tab is free. The steps may have changed the links of that chain and, where its
-  -- anchor was at FREEING, the word of that one, which is at GONE then, and nothing else but owners. They drew no version.
+  -- anchor was at FREEING, the word of that one, which is at GONE then, and nothing else but the map of taken slots. They drew no version.
   pub record Freed (v w : View X) : Type 0 where
     pub freer : Freer
     pub was : tab_at v inner ≡ Freeing freer

@@ -128,7 +128,7 @@ module _ {X : Type 0} (g : Ground X) (hand : ℕ) (v : View X) where
     pub was : (j : ℕ) → j < steps → Mine g v (Anchor (onward g.setting.anchors hand j)) → is_idle (has g v (Anchor (onward g.setting.anchors hand j))) ≡ false
 
   -- The first anchor from the hand on whose entry was found idle had it evicted, for the tab t. Its first slot is that tab's, each other one
-  -- was given back, and the anchor is at GONE. But for owners, only links of that chain and the word of that anchor may have changed. No
+  -- was given back, and the anchor is at GONE. But for the map of taken slots, only links of that chain and the word of that anchor may have changed. No
   -- version was drawn.
   pub record Evicted (t slot : ℕ) (w : View X) (hand_after : ℕ) : Type 0 where
     pub steps : ℕ

@@ -1,7 +1,8 @@
 //! The slots of an entry in the shared store, and what names it: the halves of its key, the offer that it is
 //! of, and the slot where it begins.
 //!
-//! None of these calls takes memory or waits. A tab is the number of one of the nine tabs of the pass.
+//! None of these calls takes memory, and none but `read_slot` waits: for the turn at the slot that it reads. A tab is
+//! the number of one of the nine tabs of the pass.
 #![tactic(auto)]
 
 mod cells;

@@ -1,4 +1,5 @@
 -- Turns at cells: who takes a turn takes the cell out of its place, and who ends one puts it back.
+use Rattle.link_word.specs.Map.{map_words}
 use Rattle.std.proofs.Common.{Bool, List, None, Option, Some, [], ap, arith, eq-eqb, eqb-true, false, get_or, get_or-set_same, inl, inr, length-set, map, ne_eqb, refl, set, subst, sym, true, true≢false, zero, suc, ◌*◌, ◌+◌, ◌<◌, ◌≤◌, ◌==◌, ◌≡◌, ◌≢◌, ◌⊎◌, ◌∙◌, ◌∷◌, ⊎_elim, ℕ}
 use Rattle.std.proofs.lemmas.List.{map-set}
 use Rattle.std.proofs.lemmas.Bool.{false≢true}
@@ -56,7 +57,7 @@ use Rattle.store_rule.proofs.Moves.{either_is, known_of, some_writer}
 pub turn_stands_at : (word anchors a slot : ℕ) → word ≡ 5 * anchors + 2 * slot + 1 → anchors ≡ a → word ≡ 5 * a + 2 * slot + 1
 turn_stands_at word anchors a slot is e = omega arith
 
-turn_within : (words a s slot : ℕ) → words ≡ 5 * a + 3 * s + 1 → slot < s → 5 * a + 2 * slot + 1 < words
+turn_within : (words a s slot : ℕ) → words ≡ 5 * a + 2 * s + map_words s + 1 → slot < s → 5 * a + 2 * slot + 1 < words
 turn_within words a s slot is lt = omega arith
 
 some_same : {A : Type 0} → (x y : A) → Some x ≡ Some y → x ≡ y
@@ -404,12 +405,13 @@ module _ {C : Type 0} (tells : Bool) (form : Form C (List ℕ)) (g : Ground (Lis
   lt : (x : Tab (List ℕ)) → tab_at v t ≡ x → get_elem? v.tabs t ≡ some x
   lt x e = tab_there v t x (let p = may.pass in let le = may.allowed.0 in omega arith) e
 
-  may_rewrite : (w : Writer (List ℕ)) → tab_at v t ≡ Writing w → w.turn ≡ Has h → MayRewrite k v t w h (back_hold k w slot (form.shows c))
-  may_rewrite w e turn = record {
+  may_rewrite : (w : Writer (List ℕ)) → tab_at v t ≡ Writing w → w.turn ≡ Has h → MayReturn k (Writing w) h.cell (form.shows c) → MayRewrite k v t w h (back_hold k w slot (form.shows c))
+  may_rewrite w e turn back = record {
     writes = lt (Writing w) e;
     turn = turn;
     slot_is = sym slot_is;
     possible = stays;
+    within = back;
     image = λ p chosen was written. sym (some_same (k.image p) (form.shows c).now (ap (map_some k.image) (sym chosen) ∙ (is_content_tells (chosen_content k (Writing w)) (form.shows c).now).0 written));
     settled = λ was settled. (is_alone_tells (form.shows c).possible (form.shows c).now).0 settled;
   }
@@ -417,11 +419,11 @@ module _ {C : Type 0} (tells : Bool) (form : Form C (List ℕ)) (g : Ground (Lis
   no_turn : ◌≡◌ {A = TurnOf (List ℕ)} NoTurn (Has h) → ⊥
   no_turn e = cc
 
-  ends_so : (x : Tab (List ℕ)) → tab_at v t ≡ x → turn_of x ≡ Has h → MayReturn tells k x h.cell (form.shows c) → EndsFrom form g v t slot goes_on c (returned_by k x t slot (form.shows c) v)
+  ends_so : (x : Tab (List ℕ)) → tab_at v t ≡ x → turn_of x ≡ Has h → MayReturn k x h.cell (form.shows c) → EndsFrom form g v t slot goes_on c (returned_by k x t slot (form.shows c) v)
   ends_so (Reading r) e turn back = record { becomes = inl refl; may = may; hold = h; turn = ap turn_of e ∙ turn; cell_is = back }
   ends_so (Writing w) e turn back = let held = back_hold k w slot (form.shows c) in
       let here : tab_at (with_hold v t w held) t ≡ Writing record w { turn = Has held } = get_or-set_same v.tabs t _ Free (let p = may.pass in let le = may.allowed.0 in omega arith) in record {
-        becomes = inr record { tab = t; writer = w; old = h; new = held; may = may_rewrite w e turn; is = refl };
+        becomes = inr record { tab = t; writer = w; old = h; new = held; may = may_rewrite w e turn back; is = refl };
         may = record {
           pass = length-set v.tabs t (Writing record w { turn = Has held }) ∙ may.pass;
           allowed = (may.allowed.0, (held, ap turn_of here, refl, refl));
@@ -435,7 +437,7 @@ module _ {C : Type 0} (tells : Bool) (form : Form C (List ℕ)) (g : Ground (Lis
   ends_so (Last a) e turn back = absurd (no_turn turn)
   ends_so (Freeing f) e turn back = absurd (no_turn turn)
 
-  pub ends_with : turn_of (tab_at v t) ≡ Has h → MayReturn tells k (tab_at v t) h.cell (form.shows c) → EndsFrom form g v t slot goes_on c (returned_by k (tab_at v t) t slot (form.shows c) v)
+  pub ends_with : turn_of (tab_at v t) ≡ Has h → MayReturn k (tab_at v t) h.cell (form.shows c) → EndsFrom form g v t slot goes_on c (returned_by k (tab_at v t) t slot (form.shows c) v)
   ends_with turn back = ends_so (tab_at v t) refl turn back
 
 -- the view that the call names is that one

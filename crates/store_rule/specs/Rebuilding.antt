@@ -3,6 +3,7 @@ use Rattle.std.specs.Prelude.{◌≡◌, ◌∷◌, Bool, IsTrue, List, Option, 
 use Rattle.rock_disk.specs.Cell.{CellState}
 use Rattle.rebuild_model.specs.declared.found.Found.{Found}
 use Rattle.rebuild_model.specs.declared.rebuilt.Rebuilt.{Rebuilt}
+use Rattle.rebuild_model.specs.Image.{IsSaneAt}
 use Rattle.rebuild_model.specs.Rebuilt.{IsRebuilt}
 use Rattle.core_model.specs.declared.tab.Cell.{Cell}
 use Rattle.core_model.specs.Chains.{no_chain}
@@ -29,6 +30,11 @@ pub record IsRebuildOf {C : Type 0} (tells : Bool) (state : C → CellState) (sl
   pub many : length images ≡ length cells
   pub told : IsTrue tells → images ≡ map (λ c. (state c).now) cells
   pub rebuilt : IsRebuilt slot images anchors r
+
+-- No slot of the file that these cells hold is sane, so that a rebuild finds no entry and no version in it. Of cells that do not tell what
+-- they hold nothing is asked.
+abbrev pub HoldNothing : {C : Type 0} → (tells : Bool) (state : C → CellState) (slot : ℕ) (cells : List C) → Type 0
+HoldNothing tells state slot cells = IsTrue tells → (s : ℕ) → IsSaneAt slot (map (λ c. (state c).now) cells) s → ⊥
 
 -- nothing of a file of so many slots
 abbrev pub none_kept : ℕ → Rebuilt

@@ -27,10 +27,10 @@ abbrev pub new_hold : {X : Type 0} → ℕ → Cell X → Hold X
 new_hold slot cell = record { slot = slot; cell = cell; is_out = false; is_written = false; is_settled = false }
 
 -- What a cell may be when it comes home, by what it was when it came out. From a tab that reads it is the same. From one that writes,
--- where cells tell, each content that a crash may leave could be left then or is the image of the piece that the tab chose.
-abbrev pub MayReturn : {X : Type 0} → Bool → Setting X → Tab X → (was is : Cell X) → Type 0
-MayReturn {X} tells k (Writing w) was is = IsTrue tells → (x : X) → Contains is.possible x → Contains was.possible x ⊎ (chosen_content k (Writing w) ≡ Some x)
-MayReturn tells k tab was is = is ≡ was
+-- each content that a crash may leave could be left then or is the image of the piece that the tab chose.
+abbrev pub MayReturn : {X : Type 0} → Setting X → Tab X → (was is : Cell X) → Type 0
+MayReturn {X} k (Writing w) was is = (x : X) → Contains is.possible x → Contains was.possible x ⊎ (chosen_content k (Writing w) ≡ Some x)
+MayReturn k tab was is = is ≡ was
 
 -- The hold of a writing tab whose cell is back: it is written exactly where a read gives the piece that the tab chose, and settled
 -- exactly where a crash leaves that content alone.
@@ -83,7 +83,7 @@ module _ {C O : Type 0} (tells : Bool) (state : C → CellState) (offers : O →
     pub turn : turn_of (tab_at (view p) t) ≡ Has hold
     pub slot_is : hold.slot ≡ slot
     pub fits : IsFitting (form_of tells state) (basis tells state offers s) slot c
-    pub back : MayReturn tells (basis tells state offers s).setting (tab_at (view p) t) hold.cell (shown tells state c)
+    pub back : MayReturn (basis tells state offers s).setting (tab_at (view p) t) hold.cell (shown tells state c)
 
   -- the place that the pass took last is the slot's, with such a cell
   pub record HasReturned (s : Store C O) (p : Pass C) (t slot : ℕ) : Type 0 where

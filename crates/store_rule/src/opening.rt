@@ -1,5 +1,6 @@
 // The store at the opening.
 ghost use Rattle.std.specs.Prelude.{◌+◌, ◌*◌, ◌<◌, ◌≡◌, ◌∷◌, All, IfErr, IfOk, List, Some, [], length, map, replicate, vec_len, ℕ};
+ghost use Rattle.link_word.specs.Map.{map_words};
 ghost use Rattle.core_model.specs.declared.tab.Tab.TheVariants.{Free};
 ghost use Rattle.tab_states.specs.declared.desks.Desk.{Desk};
 ghost use Rattle.tab_states.specs.declared.tabs.At.{At};
@@ -8,7 +9,7 @@ ghost use Rattle.db_layout.specs.declared.layout.TheConstants.{MOST_SLOTS};
 ghost use Rattle.store_rule.specs.Setting.{IsRow, IsSettled, basis_of};
 ghost use Rattle.store_rule.specs.Told.{Stands, the_view};
 ghost use Rattle.store_rule.specs.Passes.{AreHands};
-ghost use Rattle.store_rule.specs.Rebuilding.{MayOpen, none_kept};
+ghost use Rattle.store_rule.specs.Rebuilding.{HoldNothing, MayOpen, none_kept};
 
 use crate::cells::{from_places, to_places};
 use crate::rule::{About, Off, Origin, Rule};
@@ -106,12 +107,12 @@ fn new_table<C: Cell, O: Origin>(
     places: Vec<Option<C>>,
     about: &About<C, O>,
 ) -> Result<Parts<C, O>, Vec<Option<C>>>
-    requires words { (about.now.words.value.items ≡ words.now) × (length words.now ≡ 5 * about.now.anchors + 3 * about.now.slots + 1) }
+    requires words { (about.now.words.value.items ≡ words.now) × (length words.now ≡ 5 * about.now.anchors + 2 * about.now.slots + map_words about.now.slots + 1) }
     requires places { about.now.places.value.items ≡ places.items }
     requires rule { MayOpen (basis_of C.tells C.state O.offers about.now) about.now.kept.value }
     requires cells { (cells : List C) × (places.items ≡ map Some cells) × (length cells ≡ about.now.slots) × IsRow C.state about.now.slot cells × All (IsSettled C.tells C.state) cells }
     ensures key { IfOk result (λ r. r.0.shared.key ≡ about.now) }
-    ensures sized { IfOk result (λ r. r.0.shared.table_id.words ≡ 5 * r.0.shared.key.anchors + 3 * r.0.shared.key.slots + 1) }
+    ensures sized { IfOk result (λ r. r.0.shared.table_id.words ≡ 5 * r.0.shared.key.anchors + 2 * r.0.shared.key.slots + map_words r.0.shared.key.slots + 1) }
     ensures placed { IfOk result (λ r. r.0.shared.table_id.slots ≡ r.0.shared.key.slots) }
     ensures seat { IfOk result (λ r. (r.1.table_id ≡ r.0.shared.table_id) × (r.1.me ≡ (new_views (basis_of C.tells C.state O.offers r.0.shared.key).setting 0 r.0.shared.key.passes, []))) }
     ensures stands { IfOk result (λ r. (n : ℕ) → n < r.0.shared.key.passes → Stands (basis_of C.tells C.state O.offers r.0.shared.key) (new_view (basis_of C.tells C.state O.offers r.0.shared.key).setting n)) }
@@ -197,7 +198,8 @@ impl<C: Cell, O: Origin> Store<C, O> {
 
     /// An empty store over these cells, with anchors, and its passes, in the order of their numbers.
     /// `slot` is the width of each cell in bytes. Each cell has its place in the vector for its number,
-    /// and a crash leaves what a read of it gives.
+    /// and a crash leaves what a read of it gives. None has a sane header: after a crash a rebuild would
+    /// find what such cells held before the store.
     ///
     /// # Errors
     ///
@@ -214,6 +216,7 @@ impl<C: Cell, O: Origin> Store<C, O> {
         requires anchors { 0 < anchors }
         requires slots { length cells.items ≤ MOST_SLOTS }
         requires cells { IsRow C.state slot cells.items × All (IsSettled C.tells C.state) cells.items }
+        requires nothing { HoldNothing C.tells C.state slot cells.items }
         ensures counts { IfOk result (λ r. ((basis C.tells C.state O.offers r.0).setting.anchors ≡ anchors) × ((basis C.tells C.state O.offers r.0).setting.slots ≡ length cells.items) × ((basis C.tells C.state O.offers r.0).setting.passes ≡ passes) × ((basis C.tells C.state O.offers r.0).slot ≡ slot)) }
         ensures offers { IfOk result (λ r. (basis C.tells C.state O.offers r.0).offers ≡ O.offers origin) }
         ensures contents { IfOk result (λ r. (basis C.tells C.state O.offers r.0).setting.contents ≡ map (λ c. (shown C.tells C.state c).now) cells.items) }

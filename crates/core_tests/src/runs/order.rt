@@ -10,8 +10,8 @@ use link_word::Link;
 const SLOTS: u32 = 10;
 
 /// The entry's life. Its key is 77 and 78, its offer 123, and its start 5, which is one more than the first
-/// slot. The link 11 is two more than the next slot, and the link 1 that of the last. An owner is one more than
-/// the anchor. A stage that is doomed is 8 more.
+/// slot. The link 11 is two more than the next slot, and the link 1 that of the last. In the map the bits of the
+/// slots 4 and 9 are 16 and 512. A stage that is doomed is 8 more.
 const LIFE: &str = "\
 stage pass by
 # Worker 1 draws five versions, and the fifth comes and goes at the anchor with no slot.
@@ -43,7 +43,7 @@ stage begin
 0 0 9 6 123 = 0
 0 0 9 7 0 = 0
 0 0 10 4 0 = 0
-0 0 10 9 0 = 0
+0 0 10 9 0 = 16
 stands 6 1 0
 made 10
 stage publish first
@@ -119,11 +119,11 @@ stage free
 1 3 6 0 0 = word 6 11 0
 1 8 13 4 0 = 11
 1 8 12 4 0 = 11
-1 8 11 4 0 = 1
+1 8 11 4 0 = 528
 1 8 7 0 6 = refused
 1 8 13 9 0 = 1
 1 8 12 9 0 = 1
-1 8 11 9 0 = 1
+1 8 11 9 0 = 512
 1 8 7 0 6 = word 6 14 0
 stands 6 14 0
 made 10
@@ -154,7 +154,7 @@ fn an_entry_is_written_read_purged_and_freed_by_two_passes(rt: HostRuntime) {
     play(&rt, rt.alloc(), &mut core, LIFE);
     assert!(rt; has_piece(&core, 4, 0, Link::Next(9)));
     assert!(rt; has_piece(&core, 9, 1, Link::Last));
-    // No slot has an owner, a link or a turn any more, and six versions were drawn.
+    // No slot is taken, or has a link or a turn, any more, and six versions were drawn.
     let words = core.words().get(5..).unwrap_or(&[]);
     let (counter, slots) = words.split_last().unwrap_or((&0, &[]));
     assert!(rt; slots.iter().all(|word| *word == 0), "{slots:?}");

@@ -23,14 +23,17 @@ patch 1 72 74 74 70 3a 2f 2f 61 2f 63 00
 patch 1 82 68 65 6c 6c 6f
 ";
 
-/// Files, by what is patched in the base, and all words that a core of so many anchors must have, in hexadecimal:
+/// Files, by what is patched in the base, which has 4 slots where a line `slots` says no other number, and all words
+/// that a core of so many anchors must have, in hexadecimal:
 ///
 /// - at each anchor its own word, with the version in front of the stage, the key, the offer and the start. What
 ///   stands is closed. The key's last byte of a half is in front, the offer is the first slot, and the start 1 more;
 /// - of each slot a link, which is 1 at the end of a chain, 2 more than the next slot where it goes on, or 0, and a
 ///   turn that is free;
-/// - of each slot 1 more than its anchor, or 0;
+/// - the words of the map, in which the bit of each slot of an entry is set;
 /// - the counter.
+///
+/// A line `zeros` stands for as many words that are 0.
 ///
 /// Of 4 anchors `http://a/b` has number 1, and `http://a/c` number 2. Of 2 anchors these are 1 and 0.
 const FILES: &str = "\
@@ -43,7 +46,7 @@ anchor 0 0 0 0 0
 anchor 0 0 0 0 0
 anchor 0 0 0 0 0
 links 0 0 0 0 0 0 0 0
-owners 0 0 0 0
+map 0
 counter 0
 
 file one slot
@@ -54,7 +57,7 @@ anchor 0 0 0 0 0
 anchor 300030000 99726d8b34c97748 b8809c836f8913e2 1 2
 anchor 0 0 0 0 0
 links 0 0 1 0 0 0 0 0
-owners 0 3 0 0
+map 2
 counter 3
 
 file two slots, the second one in front
@@ -64,7 +67,7 @@ anchor 700030000 66328b6c0dc1681a d16d863cf575c757 2 3
 anchor 0 0 0 0 0
 anchor 0 0 0 0 0
 links 1 0 0 0 2 0 0 0
-owners 2 0 2 0
+map 5
 counter 7
 
 file three slots, and another entry
@@ -80,34 +83,34 @@ anchor 700030000 66328b6c0dc1681a d16d863cf575c757 2 3
 anchor 300030000 99726d8b34c97748 b8809c836f8913e2 1 2
 anchor 0 0 0 0 0
 links 1 0 1 0 5 0 2 0
-owners 2 3 2 2
+map f
 counter 7
 
 file two anchors
 anchor 300030000 99726d8b34c97748 b8809c836f8913e2 1 2
 anchor 700030000 66328b6c0dc1681a d16d863cf575c757 2 3
 links 1 0 1 0 2 0 0 0
-owners 2 1 2 0
+map 7
 counter 7
 
 file one anchor: the newer wins
 anchor 700030000 66328b6c0dc1681a d16d863cf575c757 2 3
 links 1 0 0 0 2 0 0 0
-owners 1 0 1 0
+map 5
 counter 7
 
 file one anchor: the other is newer
 patch 1 28 09
 anchor 900030000 99726d8b34c97748 b8809c836f8913e2 1 2
 links 0 0 1 0 0 0 0 0
-owners 0 1 0 0
+map 2
 counter 9
 
 file one anchor and version: the lower first slot wins
 patch 1 28 07
 anchor 700030000 99726d8b34c97748 b8809c836f8913e2 1 2
 links 0 0 1 0 0 0 0 0
-owners 0 1 0 0
+map 2
 counter 7
 
 file a chain that does not end, and its last slot is the newest
@@ -117,7 +120,7 @@ anchor 0 0 0 0 0
 anchor 300030000 99726d8b34c97748 b8809c836f8913e2 1 2
 anchor 0 0 0 0 0
 links 0 0 1 0 0 0 0 0
-owners 0 3 0 0
+map 2
 counter 8
 
 file the last slot of a chain is not sane
@@ -127,7 +130,7 @@ anchor 0 0 0 0 0
 anchor 300030000 99726d8b34c97748 b8809c836f8913e2 1 2
 anchor 0 0 0 0 0
 links 0 0 1 0 0 0 0 0
-owners 0 3 0 0
+map 2
 counter 7
 
 file the newest slot is in no entry
@@ -143,8 +146,25 @@ anchor 700030000 66328b6c0dc1681a d16d863cf575c757 2 3
 anchor 300030000 99726d8b34c97748 b8809c836f8913e2 1 2
 anchor 0 0 0 0 0
 links 1 0 1 0 2 0 0 0
-owners 2 3 2 0
+map 7
 counter 63
+
+file more slots than a word has bits
+slots 70
+patch 1 24 00
+patch 2 24 00 00
+patch 66 0 1a 68 c1 0d 6c 8b 32 66 57 c7 75 f5 3c 86 6d d1
+patch 66 16 00 00 00 00 00 00 00 00 d8 01 00 00 07 00 00 00 42 00 00 00 00 00 00 00
+patch 66 40 03 2a 00 00 00 03 10 00 00 00 1a 68 c1 0d 6c 8b 32 66 57 c7 75 f5 3c 86 6d d1 04 0b 00 00 00 68
+patch 66 72 74 74 70 3a 2f 2f 61 2f 62 00
+patch 0 32 42
+anchor 700030000 66328b6c0dc1681a d16d863cf575c757 42 43
+links 1 0
+zeros 130
+links 2 0
+zeros 6
+map 1 4
+counter 7
 ";
 
 /// Puts the bytes of `SLOT PLACE BYTE BYTE ..` into a file.
@@ -174,19 +194,34 @@ fn patch_all(file: &mut [u8], text: &str) -> Option<()> {
     Some(())
 }
 
+/// How many slots a text says that its file has.
+fn slots_of(text: &str) -> Option<usize> {
+    for line in text.lines() {
+        if let Some(slots) = line.strip_prefix("slots ") {
+            return slots.parse().ok();
+        }
+    }
+    Some(4)
+}
+
 /// A core of one pass over the base with the patches of a text.
 fn core_of(alloc: Global, patches: &str, anchors: u32) -> Option<Core> {
     let mut file = Vec::new(alloc);
-    file.resize(4 * SLOT, 0).ok()?;
+    file.resize(slots_of(patches)?.saturating_mul(SLOT), 0)
+        .ok()?;
     patch_all(&mut file, BASE)?;
     patch_all(&mut file, patches)?;
     core_over(alloc, &file, anchors, 1)
 }
 
-/// Adds the words that a line names behind its first word, where it is no patch.
+/// Adds the words that a line names behind its first word, where it is of words.
 fn push_words(words: &mut Vec<u64>, line: &str) -> Option<()> {
-    if line.starts_with("patch ") {
+    if line.starts_with("patch ") || line.starts_with("slots ") {
         return Some(());
+    }
+    if let Some(zeros) = line.strip_prefix("zeros ") {
+        let zeros: usize = zeros.parse().ok()?;
+        return words.resize(words.len().saturating_add(zeros), 0).ok();
     }
     for word in line.split(' ').skip(1) {
         words.push(u64::from_str_radix(word, 16).ok()?).ok()?;
@@ -210,7 +245,7 @@ fn is_kept(alloc: Global, file: &str) -> Option<bool> {
 
 #[test]
 fn what_a_rebuild_keeps_stands(rt: HostRuntime) {
-    assert_eq!(rt; FILES.split("\n\n").count(), 11);
+    assert_eq!(rt; FILES.split("\n\n").count(), 12);
     for file in FILES.split("\n\n") {
         assert!(rt; is_kept(rt.alloc(), file) == Some(true), "{file}");
     }
@@ -236,11 +271,11 @@ stage read and evicted
 0 8 12 2 0 = refused
 0 8 13 2 0 = 2
 0 8 12 2 0 = 2
-0 8 11 2 0 = 2
+0 8 11 2 0 = 7
 0 8 7 0 6 = refused
 0 8 13 0 0 = 1
 0 8 12 0 0 = 1
-0 8 11 0 0 = 2
+0 8 11 0 0 = 3
 0 8 7 0 6 = word 7 6 0
 # The next entry there has a version that no slot of the file had.
 0 0 4 0 0 = 7
@@ -249,9 +284,9 @@ stage read and evicted
 0 0 5 0 0 = 7
 0 0 6 1 8 = word 7 6 0
 # Slots that were given back may be reserved, and that of the other entry may not.
-0 0 10 1 0 = 3
-0 0 10 2 0 = 0
-0 0 10 0 0 = 0
+0 0 10 1 0 = 2
+0 0 10 2 0 = 2
+0 0 10 0 0 = 6
 made 28
 ";
 

@@ -31,8 +31,8 @@ stage slots and names
 # Two slots at most, each of them free; a slot that another has is found so, and stays.
 0 0 10 3 0 = refused
 0 0 10 2 0 = 0
-0 0 10 2 0 = 2
-0 0 10 0 0 = 0
+0 0 10 2 0 = 4
+0 0 10 0 0 = 4
 0 0 10 1 0 = refused
 # An entry with reserved slots is not halted, and nothing is published without a turn.
 0 0 7 0 4 = refused
@@ -41,10 +41,10 @@ stage slots and names
 # Only what it reserved is given back, and then no slot is reserved any more.
 0 0 11 1 0 = refused
 1 0 11 2 0 = refused
-0 0 11 2 0 = 2
+0 0 11 2 0 = 5
 0 0 11 2 0 = refused
 0 0 10 2 0 = refused
-0 0 11 0 0 = 2
+0 0 11 0 0 = 1
 0 0 7 0 4 = word 1 4 0
 0 0 9 0 0 = refused
 made 36
@@ -170,7 +170,7 @@ stage turns by their conditions
 1 1 9 6 3 = 0
 # A slot that it has not reserved, and then the second one.
 1 1 15 1 0 = refused
-1 1 10 1 0 = 0
+1 1 10 1 0 = 1
 1 1 15 1 0 = refused
 # Nothing is done with a cell without its turn, nor published before it is written.
 1 1 17 0 0 = refused
@@ -231,7 +231,7 @@ stage a writer begins
 0 0 9 5 78 = 0
 0 0 9 6 7 = 0
 0 0 10 2 0 = 0
-0 0 10 0 0 = 0
+0 0 10 0 0 = 4
 made 9
 stage it writes slot 2
 # It writes its piece into slot 2, which is its first reserved one.
@@ -300,8 +300,8 @@ stage the slots are given back
 1 8 13 0 0 = 1
 1 8 12 0 0 = 1
 1 8 7 0 6 = refused
-1 8 11 0 0 = 2
-1 8 11 2 0 = 2
+1 8 11 0 0 = 5
+1 8 11 2 0 = 4
 1 8 7 0 6 = word 1 14 0
 made 13
 
@@ -316,7 +316,7 @@ stage a writer begins
 0 0 9 5 78 = 0
 0 0 9 6 7 = 0
 0 0 10 2 0 = 0
-0 0 10 0 0 = 0
+0 0 10 0 0 = 4
 made 9
 stage it writes slot 2
 # It writes its piece into slot 2, which is its first reserved one.
@@ -374,7 +374,7 @@ stage a writer begins
 0 0 9 5 78 = 0
 0 0 9 6 7 = 0
 0 0 10 2 0 = 0
-0 0 10 0 0 = 0
+0 0 10 0 0 = 4
 made 9
 stage writes and syncs
 0 0 15 2 0 = 0
@@ -437,6 +437,149 @@ stage a note is gone
 seen 1 Some(16)
 seen 4 None
 made 4
+
+core 66 2 2
+stage the map has a bit for each slot
+# 66 slots have two words of the map, which any tab that there is may look at; there is no other word.
+map [0, 0]
+0 0 25 0 0 = 0
+1 8 25 1 0 = 0
+0 0 25 2 0 = refused
+0 9 25 0 0 = refused
+2 0 25 0 0 = refused
+made 5
+stage two writers begin
+# Tab 0 of pass 0 writes version 1 at anchor 0, and tab 1 of pass 1 version 2 at anchor 1.
+0 0 1 0 0 = 0
+0 0 4 0 0 = 0
+0 0 5 0 0 = 0
+0 0 6 0 1 = 0
+1 1 1 1 0 = 0
+1 1 4 0 0 = 1
+1 1 5 0 0 = 1
+1 1 6 1 2 = 0
+made 8
+stage a slot is reserved by its bit
+# The last slot of the first word, and the first of the second. Each step finds the word as it was.
+0 0 10 63 0 = 0
+map [9223372036854775808, 0]
+1 1 10 64 0 = 0
+map [9223372036854775808, 1]
+# What another tab has is found taken: the word stays, and the tab that tried does not have the slot.
+1 1 10 63 0 = 9223372036854775808
+0 0 10 64 0 = 1
+map [9223372036854775808, 1]
+1 1 11 63 0 = refused
+0 0 11 64 0 = refused
+# There is no slot behind the last one.
+1 1 10 66 0 = refused
+1 1 10 65 0 = 1
+map [9223372036854775808, 3]
+made 8
+stage a look changes nothing
+0 0 25 0 0 = 9223372036854775808
+0 5 25 1 0 = 3
+map [9223372036854775808, 3]
+made 2
+stage a slot is given back by its bit
+# The other slots of the word stay taken.
+1 1 11 64 0 = 3
+map [9223372036854775808, 2]
+0 0 11 63 0 = 9223372036854775808
+map [0, 2]
+1 1 11 65 0 = 2
+map [0, 0]
+made 3
+
+core 3 3 2
+stage three writers begin
+# Tab 0 of pass 0 writes at anchor 0, its tab 1 at anchor 1, and tab 0 of pass 1 at anchor 2.
+0 0 1 0 0 = 0
+0 0 4 0 0 = 0
+0 0 5 0 0 = 0
+0 0 6 0 1 = 0
+0 1 1 1 0 = 0
+0 1 4 0 0 = 1
+0 1 5 0 0 = 1
+0 1 6 1 2 = 0
+1 0 1 2 0 = 0
+1 0 4 0 0 = 2
+1 0 5 0 0 = 2
+1 0 6 2 3 = 0
+made 12
+stage a look begins a search
+claim 0 0 None
+0 0 25 0 0 = 0
+claim 0 0 Some(0)
+claim 0 1 None
+1 0 25 0 0 = 0
+claim 1 0 Some(0)
+# A slot that is reserved ends it, also one that is not at its place.
+0 0 10 1 0 = 0
+claim 0 0 None
+# A try that is lost at the place goes on behind it, and past what this step found taken.
+0 1 10 0 0 = 2
+1 0 10 0 0 = 3
+claim 1 0 Some(2)
+# A try that is lost elsewhere leaves it, and begins none.
+1 0 10 1 0 = 3
+claim 1 0 Some(2)
+0 0 10 0 0 = 3
+claim 0 0 None
+# A look at the first word begins again, past what it finds taken.
+0 0 25 0 0 = 3
+claim 0 0 Some(2)
+made 8
+stage all are taken
+1 0 10 2 0 = 3
+claim 1 0 None
+map [7]
+0 0 10 2 0 = 7
+claim 0 0 Some(3)
+0 1 25 0 0 = 7
+claim 0 1 Some(3)
+# What is given back is not found by a search that is past it.
+0 1 11 0 0 = 7
+claim 0 1 Some(3)
+0 0 10 1 0 = 6
+claim 0 0 Some(3)
+0 0 25 0 0 = 6
+claim 0 0 Some(0)
+# A tab that gave a slot back reserves no more, and may still look.
+0 1 10 0 0 = refused
+0 1 7 0 4 = word 2 4 0
+0 1 25 0 0 = 6
+0 0 10 0 0 = 6
+claim 0 0 None
+map [7]
+made 10
+";
+
+/// The rows of 32 writers are in front: they have reserved the slots of the first word of the map.
+pub(super) const SECOND_WORD: &str = "\
+stage a search goes on in the second word
+map [18446744073709551615, 0]
+4 0 1 32 0 = 0
+4 0 4 0 0 = 32
+4 0 5 0 0 = 32
+4 0 6 32 33 = 0
+# It begins at the first word alone.
+4 0 25 1 0 = 0
+claim 4 0 None
+4 0 25 0 0 = 18446744073709551615
+claim 4 0 Some(64)
+4 0 25 1 0 = 0
+claim 4 0 Some(64)
+4 0 10 64 0 = 0
+claim 4 0 None
+# All are taken, and the bits behind the last slot are 0.
+map [18446744073709551615, 1]
+4 0 25 0 0 = 18446744073709551615
+claim 4 0 Some(64)
+4 0 25 1 0 = 1
+claim 4 0 Some(65)
+4 0 10 65 0 = refused
+made 11
 ";
 
 /// Kinds on cells, of a free tab; a note that is not there; and kinds that are no steps of a pass.
@@ -453,6 +596,7 @@ stage no step
 0 0 22 0 0 = refused
 0 0 23 0 0 = refused
 0 0 24 0 0 = refused
+0 0 26 0 0 = refused
 0 0 255 0 0 = refused
-made 12
+made 13
 ";

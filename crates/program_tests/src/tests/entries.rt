@@ -546,3 +546,82 @@ list db 512
 ",
     )
 }
+
+/// Slots are claimed by words of 64: in a store of three words, of one and one slot more, of one, and of a single slot.
+#[test]
+fn the_least_free_slot_is_claimed_in_stores_of_any_size(rt: HostRuntime) -> Result<(), Fail> {
+    plays(
+        &rt,
+        rt.alloc(),
+        "\
+volume
+
+create db 512 130
+
+run db 512 130 1
+1 put http://a/b #20254:0 -> STORED 1
+1 put http://a/c #20254:0 -> STORED 2
+1 put http://a/d #20254:0 -> STORED 3
+1 put http://a/e =x -> STORED 4
+
+list db 512
+> ENTRY 0 1 43 20254 http://a/b
+> ENTRY 43 2 43 20254 http://a/c
+> ENTRY 86 3 43 20254 http://a/d
+> ENTRY 129 4 1 1 http://a/e
+
+run db 512 130 1
+1 open 0 http://a/b -> OPEN 1
+1 open 1 http://a/c -> OPEN 2
+1 open 2 http://a/d -> OPEN 3
+1 open 3 http://a/e -> OPEN 4
+1 put http://a/f =y -> FULL
+1 close 1 -> CLOSED
+1 purge http://a/c -> PURGED 2.3d
+1 put http://a/f #473:0 -> STORED 6
+
+list db 512
+> ENTRY 0 1 43 20254 http://a/b
+> ENTRY 43 6 2 473 http://a/f
+> ENTRY 86 3 43 20254 http://a/d
+> ENTRY 129 4 1 1 http://a/e
+
+volume
+
+create db 512 65
+
+run db 512 65 1
+1 put http://a/b #30638:0 -> STORED 1
+1 open 0 http://a/b -> OPEN 1
+1 put http://a/c =y -> FULL
+
+list db 512
+> ENTRY 0 1 65 30638 http://a/b
+
+volume
+
+create db 512 64
+
+run db 512 64 1
+1 put http://a/b #30166:0 -> STORED 1
+1 open 0 http://a/b -> OPEN 1
+1 put http://a/c =y -> FULL
+
+list db 512
+> ENTRY 0 1 64 30166 http://a/b
+
+volume
+
+create db 512 1
+
+run db 512 1 1
+1 put http://a/b =x -> STORED 1
+1 put http://a/c =y -> STORED 2
+1 purge http://a/c -> PURGED 2.3d
+1 put http://a/b =z -> STORED 3
+
+list db 512
+> ENTRY 0 3 1 1 http://a/b
+",
+    )
+}

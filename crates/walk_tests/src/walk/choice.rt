@@ -122,7 +122,7 @@ pub(super) fn choose(numbers: &mut Numbers, core: &Core, seat: Seat) -> Act {
             if numbers.is_one_in(STRAYS) {
                 return stray_act(numbers, seat, view, tab);
             }
-            tab_act(numbers, core, seat, view, tab)
+            tab_act(numbers, seat, view, tab)
         }
         _ => any_act(numbers, core),
     }
@@ -164,19 +164,13 @@ pub(super) fn newest_version(view: &View<Content>) -> Option<u32> {
 }
 
 /// A step that makes sense for the tab there.
-fn tab_act(
-    numbers: &mut Numbers,
-    core: &Core,
-    seat: Seat,
-    view: &View<Content>,
-    tab: &Tab<Content>,
-) -> Act {
+fn tab_act(numbers: &mut Numbers, seat: Seat, view: &View<Content>, tab: &Tab<Content>) -> Act {
     match tab {
         Tab::Free if seat.tab == INNER => evict_act(numbers, seat, view),
         Tab::Free => free_act(numbers, seat, view),
         Tab::Retreating { .. } => seat.act(LEAVE, 0, 0),
         Tab::Reading(reader) => reader_act(numbers, seat, reader),
-        Tab::Writing(writer) => writer_act(numbers, core, seat, view, writer),
+        Tab::Writing(writer) => writer_act(numbers, seat, view, writer),
         Tab::Last { anchor } => last_act(numbers, seat, view, *anchor),
         Tab::Freeing(freer) => freer_act(numbers, seat, view, freer),
     }

@@ -45,8 +45,10 @@ pub(super) const WRITE: u8 = 21;
 
 pub(super) const SYNC: u8 = 22;
 
-/// One more than the kind of a rebuild.
-pub(super) const KIND_END: u32 = 25;
+pub(super) const LOOK_MAP: u8 = 25;
+
+/// One more than the greatest kind. A crash and a rebuild, 23 and 24, are no steps of a pass.
+pub(super) const KIND_END: u32 = 26;
 
 /// The words beside an anchor, by the numbers that load them.
 pub(super) const KEY0: u32 = 0;

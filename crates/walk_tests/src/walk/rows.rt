@@ -16,6 +16,7 @@ pub(super) enum Row {
     Doom,
     LoadSide,
     StoreSide,
+    LookMap,
     Own,
     Disown,
     Publish,
@@ -60,6 +61,10 @@ pub(super) enum Row {
     LostEvictByInner,
     LostEvictByLast,
     LostOwn,
+    SearchBegins,
+    SearchGoesOn,
+    SearchEndsWithAll,
+    SearchTakes,
     LostTryTurn,
     LearnedFromAnother,
     WroteNothing,
@@ -74,7 +79,7 @@ pub(super) enum Row {
     ReadThreeSlots,
 }
 
-const ROW_COUNT: usize = 65;
+const ROW_COUNT: usize = 70;
 
 /// The names of all of them, in order.
 const NAMES: &str = "\
@@ -89,6 +94,7 @@ Raise
 Doom
 LoadSide
 StoreSide
+LookMap
 Own
 Disown
 Publish
@@ -131,6 +137,10 @@ LostTake
 LostEvictByInner
 LostEvictByLast
 LostOwn
+SearchBegins
+SearchGoesOn
+SearchEndsWithAll
+SearchTakes
 LostTryTurn
 LearnedFromAnother
 WroteNothing

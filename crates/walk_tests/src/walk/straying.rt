@@ -1,8 +1,8 @@
 // Steps of any kind by a tab, with numbers that a step of that kind may have there.
 use super::choice::{Seat, newest_version};
 use super::kinds::{
-    CELL_IN, CHANGE, END_TURN, GET_LINK, KIND_END, LEARN, LINK, OWN, RAISE, SIDE, SIDE_END,
-    STAGE_END, SYNC, TRY_TURN, WRITE, WRITE_END,
+    CELL_IN, CHANGE, END_TURN, GET_LINK, KIND_END, LEARN, LINK, LOOK_MAP, OWN, RAISE, SIDE,
+    SIDE_END, STAGE_END, SYNC, TRY_TURN, WRITE, WRITE_END,
 };
 use super::random::Numbers;
 use super::{ANCHORS, Act, SLOTS};
@@ -14,6 +14,9 @@ use link_word::pack_link;
 const WORD_END: u32 = SLOTS + 2;
 
 const NOTE_END: u32 = 4;
+
+/// The map has one word.
+const MAP_END: u32 = 2;
 
 /// A step of any kind. What a tab has at hand it is mostly on.
 pub(super) fn stray_act(
@@ -27,6 +30,7 @@ pub(super) fn stray_act(
         SIDE => numbers.below(SIDE_END),
         OWN..=GET_LINK | TRY_TURN..=CELL_IN | WRITE | SYNC => stray_slot(numbers, tab),
         LEARN => numbers.below(NOTE_END),
+        LOOK_MAP => numbers.below(MAP_END),
         _ => numbers.below(ANCHORS),
     };
     seat.act(kind, at, stray_value(numbers, kind, view, tab))

@@ -1,11 +1,8 @@
 // The words of the table and the tabs of all passes.
-use super::{ANCHORS, SLOTS};
 use core_model::{Chain, Hold, Tab, Turn};
 use core_state::{Content, Core};
+use link_word::{is_set, map_place};
 use lock_word::{Word, unpack};
-
-/// Behind the five words of each anchor, and a link and a turn for each slot.
-const OWNERS: usize = 5 * ANCHORS as usize + 2 * SLOTS as usize;
 
 fn number_at(core: &Core, index: usize) -> Option<u64> {
     core.words().get(index).copied()
@@ -20,8 +17,10 @@ pub(super) fn beside(core: &Core, side: u32, anchor: u32) -> Option<u64> {
     number_at(core, 5 * anchor as usize + 1 + side as usize)
 }
 
-pub(super) fn owner_of(core: &Core, slot: u32) -> Option<u64> {
-    number_at(core, OWNERS + slot as usize)
+/// Whether the slot is taken by its word of the map.
+pub(super) fn is_taken(word: u64, slot: u32) -> bool {
+    let (_, bit) = map_place(slot);
+    is_set(word, bit)
 }
 
 pub(super) fn chain_of(core: &Core, anchor: u32) -> Option<&Chain> {

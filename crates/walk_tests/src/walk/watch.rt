@@ -2,13 +2,13 @@
 use super::choice::{INNER, Seat, tab_of};
 use super::kinds::{
     CELL_IN, CELL_OUT, CHANGE, CLOSED, COUNT, DISOWN, DOOM, DRAW, END_TURN, ENTER, GET_LINK,
-    HALTED, KEPT, KEPT_UNSURE, LEARN, LEAVE, LINK, LOOK, NOTE, NOTHING, OWN, RAISE, SIDE, STORES,
-    SYNC, TRY_TURN, UNSURE, WRITE,
+    HALTED, KEPT, KEPT_UNSURE, LEARN, LEAVE, LINK, LOOK, LOOK_MAP, NOTE, NOTHING, OWN, RAISE, SIDE,
+    STORES, SYNC, TRY_TURN, UNSURE, WRITE,
 };
 use super::life::life_row;
 use super::rows::{Row, Tally};
-use super::table::{published_at, word_at};
-use super::{ANCHORS, Act, Core, PASSES};
+use super::table::{is_taken, published_at, word_at};
+use super::{ANCHORS, Act, Core, PASSES, SLOTS};
 use core_model::Tab;
 use core_state::Content;
 use lock_word::Word;
@@ -27,7 +27,7 @@ enum Role {
     Free,
     Retreating,
     Reading { place: u32 },
-    Writing { is_ending: bool },
+    Writing { is_ending: bool, claim: Option<u64> },
     Last,
     Freeing,
 }
@@ -50,8 +50,8 @@ fn role_of(tab: &Tab<Content>) -> (Role, Option<u32>) {
             (Role::Reading { place }, Some(reader.anchor))
         }
         Tab::Writing(writer) => {
-            let is_ending = writer.is_ending;
-            (Role::Writing { is_ending }, Some(writer.anchor))
+            let (is_ending, claim) = (writer.is_ending, writer.claim);
+            (Role::Writing { is_ending, claim }, Some(writer.anchor))
         }
         Tab::Last { anchor } => (Role::Last, Some(*anchor)),
         Tab::Freeing(freer) => (Role::Freeing, Some(freer.anchor)),
@@ -127,6 +127,7 @@ fn kind_row(act: &Act) -> Option<Row> {
         DOOM => Row::Doom,
         SIDE if act.at < STORES => Row::LoadSide,
         SIDE => Row::StoreSide,
+        LOOK_MAP => Row::LookMap,
         OWN => Row::Own,
         DISOWN => Row::Disown,
         LINK if act.value == 0 => Row::Loosen,
@@ -166,7 +167,7 @@ fn lost_row(act: &Act, before: &Before, number: u64, is_same: bool) -> Option<Ro
         (CHANGE, _) if act.value != 0 && is_same => Some(Row::LostTake),
         (CHANGE, Role::Last) if is_same => Some(Row::LostEvictByLast),
         (CHANGE, Role::Free) if is_same && act.tab == INNER => Some(Row::LostEvictByInner),
-        (OWN, _) if number != 0 => Some(Row::LostOwn),
+        (OWN, _) if is_taken(number, act.at) => Some(Row::LostOwn),
         (TRY_TURN, _) if number != 0 => Some(Row::LostTryTurn),
         _ => None,
     }
@@ -187,7 +188,7 @@ fn end_row(act: &Act) -> Option<Row> {
 
 /// What a writing tab did beside its own entry, or how it ended that.
 fn writer_row(act: &Act, before: &Before, published: usize) -> Option<Row> {
-    let Role::Writing { is_ending } = before.role else {
+    let Role::Writing { is_ending, .. } = before.role else {
         return None;
     };
     match (act.kind, act.value) {
@@ -199,6 +200,43 @@ fn writer_row(act: &Act, before: &Before, published: usize) -> Option<Row> {
             3 => Some(Row::ClosedWithThreeSlots),
             _ => None,
         },
+        _ => None,
+    }
+}
+
+/// What a look at the map made of the search for a free slot.
+fn looked_row(from: Option<u64>, to: Option<u64>) -> Option<Row> {
+    let to = to?;
+    if to >= u64::from(SLOTS) {
+        Some(Row::SearchEndsWithAll)
+    } else {
+        from.is_none().then_some(Row::SearchBegins)
+    }
+}
+
+/// What a try for a slot made of it.
+fn tried_row(slot: u32, from: Option<u64>, to: Option<u64>) -> Option<Row> {
+    let from = from?;
+    match to {
+        None => (from == u64::from(slot)).then_some(Row::SearchTakes),
+        Some(to) if to == from => None,
+        Some(to) if to >= u64::from(SLOTS) => Some(Row::SearchEndsWithAll),
+        Some(_) => Some(Row::SearchGoesOn),
+    }
+}
+
+/// What became of the search of a writing tab for a free slot.
+fn search_row(core: &Core, act: &Act, before: &Before) -> Option<Row> {
+    let Role::Writing { claim, .. } = before.role else {
+        return None;
+    };
+    let now = match tab_of(core, seat_of(act)) {
+        Some(Tab::Writing(writer)) => writer.claim,
+        _ => None,
+    };
+    match act.kind {
+        LOOK_MAP => looked_row(claim, now),
+        OWN => tried_row(act.at, claim, now),
         _ => None,
     }
 }
@@ -260,6 +298,7 @@ impl Watch {
             None => 0,
         };
         tally.add(writer_row(act, before, published));
+        tally.add(search_row(core, act, before));
         tally.add(self.read_row(act, before));
         tally.add(self.last_row(core, act, before, is_same));
         tally.add(self.note_row(act, number));

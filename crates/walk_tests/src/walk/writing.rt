@@ -3,12 +3,12 @@ use super::choice::{Seat, evict_act, inner_tab};
 use super::freeing::{freer_act, has_room};
 use super::kinds::{
     APPENDING, CELL_IN, CELL_OUT, CLOSED, DISOWN, END_TURN, HALTED, KEPT, KEPT_UNSURE, LINK,
-    NOTHING, OWN, RAISE, SIDE, STORE_KEY0, STORE_KEY1, STORE_OFFER, STORE_START, SYNC, TRY_TURN,
-    UNSURE, WRITE,
+    LOOK_MAP, NOTHING, OWN, RAISE, SIDE, STORE_KEY0, STORE_KEY1, STORE_OFFER, STORE_START, SYNC,
+    TRY_TURN, UNSURE, WRITE,
 };
 use super::random::Numbers;
-use super::table::{owner_of, start_number};
-use super::{Act, Core, SLOTS};
+use super::table::start_number;
+use super::{Act, SLOTS};
 use core_model::{Hold, Tab, Turn, View, Writer};
 use core_state::Content;
 use link_word::{Link, pack_link};
@@ -29,6 +29,9 @@ const SHOWS: u32 = 2;
 
 const STOPS: u32 = 3;
 
+/// That it tries any slot, and not the one to which its search has come.
+const TRIES_ANY: u32 = 8;
+
 /// That it evicts another entry, to have a slot of that.
 const EVICTS: u32 = 2;
 
@@ -38,7 +41,6 @@ const NAMES: u32 = 8;
 /// The next step of a tab towards a whole entry.
 pub(super) fn writer_act(
     numbers: &mut Numbers,
-    core: &Core,
     seat: Seat,
     view: &View<Content>,
     writer: &Writer<Content>,
@@ -57,7 +59,7 @@ pub(super) fn writer_act(
     if writer.is_ending || gives_up(numbers, writer) {
         return give_up_act(seat, writer);
     }
-    grow_act(numbers, core, seat, view, writer)
+    grow_act(numbers, seat, view, writer)
 }
 
 /// Whether the entry is one that is given up, and is so now.
@@ -129,7 +131,6 @@ fn unnamed_side(writer: &Writer<Content>) -> Option<u32> {
 /// The entry is named, slots are reserved, and the first of them is written and published.
 fn grow_act(
     numbers: &mut Numbers,
-    core: &Core,
     seat: Seat,
     view: &View<Content>,
     writer: &Writer<Content>,
@@ -150,20 +151,25 @@ fn grow_act(
         (Some(slot), _) if !has_room(writer) || numbers.is_one_in(STOPS) => {
             seat.act(TRY_TURN, *slot, 0)
         }
-        _ => own_act(numbers, core, seat, view),
+        _ => own_act(numbers, seat, view, writer),
     }
 }
 
-/// A free slot is reserved, where a few looks find one. Else another entry is evicted, or a try is lost.
-fn own_act(numbers: &mut Numbers, core: &Core, seat: Seat, view: &View<Content>) -> Act {
-    for _ in 0..SLOTS {
-        let slot = numbers.below(SLOTS);
-        if owner_of(core, slot) == Some(0) {
-            return seat.act(OWN, slot, 0);
-        }
+/// A look at the map begins a search, and the slot to which it has come is tried. Where all were found taken
+/// another entry is evicted, or the search begins again.
+fn own_act(
+    numbers: &mut Numbers,
+    seat: Seat,
+    view: &View<Content>,
+    writer: &Writer<Content>,
+) -> Act {
+    if numbers.is_one_in(TRIES_ANY) {
+        return seat.act(OWN, numbers.below(SLOTS), 0);
     }
-    if numbers.is_one_in(EVICTS) {
-        return evict_act(numbers, seat.inner(), view);
+    let place = writer.claim.and_then(|place| u32::try_from(place).ok());
+    match place {
+        Some(slot) if slot < SLOTS => seat.act(OWN, slot, 0),
+        Some(_) if numbers.is_one_in(EVICTS) => evict_act(numbers, seat.inner(), view),
+        _ => seat.act(LOOK_MAP, 0, 0),
     }
-    seat.act(OWN, numbers.below(SLOTS), 0)
 }

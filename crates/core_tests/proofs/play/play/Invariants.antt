@@ -1,4 +1,3 @@
-use Rattle.std.proofs.Common.{ℕ}
 use denote.Text.{Utf8}
 use denote.Shadow.{shadow}
 use Rattle.core_tests.proofs.play.play.Given as goal

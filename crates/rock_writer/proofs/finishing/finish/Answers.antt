@@ -27,6 +27,9 @@ returns-in-Err-clause-err g c e may = record {
 pub returns-in-Err-clause-others : goal.returns-in-Err-clause-others
 returns-in-Err-clause-others g c = writing_on g.C.Cell.tells g.C.Cell.state g.O.Origin.offers c.args.store.now c.args.tab c.args.pass.now c.write_last.new.pass c.halt.new.pass c.write_last.ensures.others (writing_halting g.C.Cell.tells g.C.Cell.state g.O.Origin.offers c.args.store.now c.args.tab c.write_last.new.pass c.halt.new.pass c.halt.ensures.others)
 
+pub returns-in-Err-clause-failed : goal.returns-in-Err-clause-failed
+returns-in-Err-clause-failed g c e = c.in-Err.ensures.failed (err_of _ _ e)
+
 pub returns-in-Err-clause-unfailed : goal.returns-in-Err-clause-unfailed
 returns-in-Err-clause-unfailed g c none = c.in-Err.ensures.unfailed (λ z. none (err_of _ _ z))
 

@@ -5,15 +5,14 @@ use Rattle.rock_writer.specs.Entries.{url_in}
 use Rattle.rock_writer.proofs.Ending.{may_close, may_publish_last}
 use Rattle.rock_writer.proofs.Following.{writing_evicting, writing_on}
 use Rattle.rock_writer.proofs.Publishing.{may_halt}
-use Rattle.rock_writer.proofs.Resting as resting
-use Rattle.rock_writer.proofs.Resting.{rests_on, slot_rests}
+use Rattle.rock_writer.proofs.Resting.{out_may_halt, slot_rests}
 use Rattle.rock_writer.proofs.Sizes.{whole_size}
 use Rattle.rock_writer.proofs.finishing.write_last.Goals as goal
 
 pub returns-in_default-clause-halts : goal.returns-in_default-clause-halts
 returns-in_default-clause-halts g c = let e = c.requires.0 in let h = c.requires.1 in
-    resting.may_halt g.C.Cell.tells g.C.Cell.state g.O.Origin.offers c.args.store.now c.args.tab e h.writes.published h.writes.end c.slot_for_piece.new.pass (slots_of_link h.writes.end)
-    (rests_on g.C.Cell.tells g.C.Cell.state g.O.Origin.offers c.args.store.now c.args.tab e h.writes.published h.writes.end c.args.pass.now c.slot_for_piece.new.pass (slots_of_link h.writes.end) h.writes.rests c.slot_for_piece.ensures.others.own c.in_default.ensures.err.out.tabs)
+    out_may_halt g.C.Cell.tells g.C.Cell.state g.O.Origin.offers c.args.store.now c.args.tab e h.writes.published h.writes.end c.args.pass.now c.slot_for_piece.new.pass (slots_of_link h.writes.end) c.in_default.ensures.err.out.none.claim
+    h.writes.rests c.slot_for_piece.ensures.others.own c.in_default.ensures.err.out.tabs
 
 pub returns-in_default-clause-others : goal.returns-in_default-clause-others
 returns-in_default-clause-others g c = writing_evicting g.C.Cell.tells g.C.Cell.state g.O.Origin.offers c.args.store.now c.args.tab c.args.pass.now c.slot_for_piece.new.pass c.slot_for_piece.ensures.others

@@ -2,14 +2,14 @@ use Rattle.std.proofs.Common.{[], arith, inr, subst, sym, ◌∷◌}
 use Rattle.store_rule.specs.Passes.{basis, view}
 use Rattle.rock_writer.specs.Flushing.{SlotFor}
 use Rattle.rock_writer.proofs.Following.{evicting_on, on_err}
-use Rattle.rock_writer.proofs.Resting.{may_claim, may_halt, reserved_rests, rests_on, slot_rests}
+use Rattle.rock_writer.proofs.Resting.{may_claim, out_may_halt, reserved_rests, slot_rests}
 use Rattle.core_model.specs.Chains.{slots_of_link}
 use Rattle.rock_writer.proofs.flushing.reserve_both.Goals as goal
 
 pub returns-in_err-slot-clause-halts : goal.returns-in_err-slot-clause-halts
 returns-in_err-slot-clause-halts g c = let e = c.requires.0 in let h = c.requires.1 in
-    on_err c.from_residual.result (may_halt g.C.Cell.tells g.C.Cell.state g.O.Origin.offers c.args.store.now c.args.tab e h.published h.end c.slot_for_piece.new.pass (slots_of_link h.end)
-    (rests_on g.C.Cell.tells g.C.Cell.state g.O.Origin.offers c.args.store.now c.args.tab e h.published h.end c.args.pass.now c.slot_for_piece.new.pass (slots_of_link h.end) h.rests c.in_err-slot.ensures.others.own c.in_err-slot.ensures.err.out.tabs))
+    on_err c.from_residual.result (out_may_halt g.C.Cell.tells g.C.Cell.state g.O.Origin.offers c.args.store.now c.args.tab e h.published h.end c.args.pass.now c.slot_for_piece.new.pass (slots_of_link h.end) c.in_err-slot.ensures.err.out.none.claim
+    h.rests c.in_err-slot.ensures.others.own c.in_err-slot.ensures.err.out.tabs)
 
 pub reserve-requires : goal.reserve-requires
 reserve-requires g c = let e = c.requires.0 in let h = c.requires.1 in
@@ -27,8 +27,8 @@ returns-in_err-next-clause-err g c = on_err c.from_residual-in_err-next.result (
 pub returns-in_err-next-clause-halts : goal.returns-in_err-next-clause-halts
 returns-in_err-next-clause-halts g c = let e = c.requires.0 in let h = c.requires.1 in
     let r = slot_rests g.C.Cell.tells g.C.Cell.state g.O.Origin.offers c.args.store.now c.args.tab e h.published h.end c.args.pass.now c.slot_for_piece.new.pass c.in_ok-slot.slot c.args.pass.now.hand c.slot_for_piece.new.pass.hand h.rests c.in_ok-slot.ensures.ok c.in_ok-slot.ensures.others.own in
-    on_err c.from_residual-in_err-next.result (may_halt g.C.Cell.tells g.C.Cell.state g.O.Origin.offers c.args.store.now c.args.tab e h.published h.end c.reserve.new.pass (c.in_ok-slot.slot ∷ [])
-    (rests_on g.C.Cell.tells g.C.Cell.state g.O.Origin.offers c.args.store.now c.args.tab e h.published h.end c.slot_for_piece.new.pass c.reserve.new.pass (c.in_ok-slot.slot ∷ []) r c.in_err-next.ensures.others.own c.in_err-next.ensures.err.tabs))
+    on_err c.from_residual-in_err-next.result (out_may_halt g.C.Cell.tells g.C.Cell.state g.O.Origin.offers c.args.store.now c.args.tab e h.published h.end c.slot_for_piece.new.pass c.reserve.new.pass (c.in_ok-slot.slot ∷ []) c.in_err-next.ensures.err.none.claim
+    r c.in_err-next.ensures.others.own c.in_err-next.ensures.err.tabs)
 
 pub returns-in_err-next-clause-others : goal.returns-in_err-next-clause-others
 returns-in_err-next-clause-others g c = evicting_on g.C.Cell.tells g.C.Cell.state g.O.Origin.offers c.args.store.now c.args.tab c.args.pass.now c.slot_for_piece.new.pass c.reserve.new.pass c.slot_for_piece.ensures.others c.reserve.ensures.others

@@ -4,6 +4,7 @@ use Rattle.tab_states.specs.declared.tabs.WritingAt.{WritingAt}
 use Rattle.rock_writer.specs.Halting.{GaveBack, first_of, second_of}
 use Rattle.rock_writer.proofs.Unlinking.{at_hand, first_is, may_first, may_second}
 use Rattle.core_model.specs.Tabs.{tab_at}
+use Rattle.store_rule.proofs.Following.{follows_on}
 use Rattle.rock_writer.proofs.halting.give_unlinked.Goals as goal
 
 pub give_back-requires : goal.give_back-requires
@@ -29,3 +30,6 @@ returns-clause-gave g c = let x = at_hand (tab_at (view c.args.pass.now) c.args.
           (λ e. c.first_unlinked.ensures.none (ap WritingAt.published x ∙ e) ∙ ap WritingAt.first x)
           (λ ne. c.first_unlinked.ensures.some (λ e. ne (sym (ap WritingAt.published x) ∙ e))) ∙ sym (ap first_of c.requires.is)) c.give_back-2.ensures.gave;
     }
+
+pub returns-clause-others : goal.returns-clause-others
+returns-clause-others g c = follows_on g.C.Cell.tells g.C.Cell.state g.O.Origin.offers c.args.store.now c.args.tab c.args.pass.now c.give_back.new.pass c.give_back-2.new.pass c.give_back.ensures.others c.give_back-2.ensures.others

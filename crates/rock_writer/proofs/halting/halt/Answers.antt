@@ -1,7 +1,8 @@
 use Rattle.std.proofs.Common.{refl}
 use Rattle.lock_word.specs.declared.stage.Stage.{Stage}
-use Rattle.rock_writer.proofs.Parting.{may_part}
+use Rattle.rock_writer.proofs.Parting.{halting_of, halting_on, may_part}
 use Rattle.rock_writer.proofs.Unlinking.{after, last, may_halt}
+use Rattle.store_rule.proofs.Following.{follows_on}
 use Rattle.rock_writer.proofs.halting.halt.Goals as goal
 
 pub advance-requires : goal.advance-requires
@@ -12,3 +13,8 @@ part-requires g c = let now = after g.C.Cell.tells g.C.Cell.state g.O.Origin.off
     may_part g.C.Cell.tells g.C.Cell.state g.O.Origin.offers c.args.store.now c.give_unlinked.new.pass c.advance.new.pass c.args.tab _ Stage.Halted
     (last g.C.Cell.tells g.C.Cell.state g.O.Origin.offers c.args.store.now c.args.pass.now c.args.tab c.requires c.give_unlinked.new.pass c.give_unlinked.ensures.others.own c.give_unlinked.ensures.gave)
     c.give_unlinked.ensures.others.own c.requires.below now.1 now.0 (λ n. refl) c.advance.ensures.made
+
+pub returns-clause-others : goal.returns-clause-others
+returns-clause-others g c = halting_on g.C.Cell.tells g.C.Cell.state g.O.Origin.offers c.args.store.now c.args.tab c.args.pass.now c.advance.new.pass c.part.new.pass
+    (halting_of g.C.Cell.tells g.C.Cell.state g.O.Origin.offers c.args.store.now c.args.tab c.args.pass.now c.advance.new.pass (follows_on g.C.Cell.tells g.C.Cell.state g.O.Origin.offers c.args.store.now c.args.tab c.args.pass.now c.give_unlinked.new.pass c.advance.new.pass c.give_unlinked.ensures.others c.advance.ensures.others))
+    c.part.ensures.others

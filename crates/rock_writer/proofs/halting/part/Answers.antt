@@ -2,7 +2,7 @@ use Rattle.std.proofs.Common.{inl, inr, subst, sym, ◌∙◌}
 use Rattle.store_rule.specs.Passes.{basis, view}
 use Rattle.rw_anchor.specs.Calls.{Leaves}
 use Rattle.rw_anchor.specs.declared.Left.{Left}
-use Rattle.rock_writer.proofs.Parting.{freed_tabs, gave_up_done, gives_up, may_free}
+use Rattle.rock_writer.proofs.Parting.{freed_tabs, gave_up_done, gives_up, halting_inner, halting_of, halting_on, may_free}
 use Rattle.store_rule.proofs.Passing.{pass_of}
 use Rattle.rock_writer.proofs.halting.part.Goals as goal
 
@@ -24,3 +24,11 @@ returns-in-MustFree-clause-parted g c = let last = sym c.is_last.ensures ∙ c.i
     (subst (λ l. Leaves (basis g.C.Cell.tells g.C.Cell.state g.O.Origin.offers c.args.store.now) (view c.args.pass.now) c.args.tab l (view c.leave.new.pass)) c.in-MustFree.is c.leave.ensures.left) in
     let tabs = freed_tabs g.C.Cell.tells g.C.Cell.state g.O.Origin.offers c.args.store.now c.args.pass.now c.leave.new.pass c.args.tab c.requires up c.leave.ensures.others.own (view c.free_chain.new.pass) c.free_chain.ensures.freed in
     record { parting = inr (inr record { was = last; middle = _; gives_up = up; freed = c.free_chain.ensures.freed }); free = tabs.0; inner_free = tabs.1 }
+
+pub returns-in-Done-clause-others : goal.returns-in-Done-clause-others
+returns-in-Done-clause-others g c = halting_of g.C.Cell.tells g.C.Cell.state g.O.Origin.offers c.args.store.now c.args.tab c.args.pass.now c.leave.new.pass c.leave.ensures.others
+
+pub returns-in-MustFree-clause-others : goal.returns-in-MustFree-clause-others
+returns-in-MustFree-clause-others g c = halting_on g.C.Cell.tells g.C.Cell.state g.O.Origin.offers c.args.store.now c.args.tab c.args.pass.now c.leave.new.pass c.free_chain.new.pass
+    (halting_of g.C.Cell.tells g.C.Cell.state g.O.Origin.offers c.args.store.now c.args.tab c.args.pass.now c.leave.new.pass c.leave.ensures.others)
+    (halting_inner g.C.Cell.tells g.C.Cell.state g.O.Origin.offers c.args.store.now c.args.tab c.leave.new.pass c.free_chain.new.pass c.free_chain.ensures.others)
