@@ -15,7 +15,7 @@ pub some_bytes : (bytes : List ℕ) → (length bytes == 0) ≡ false → bytes_
 some_bytes [] none = cc
 some_bytes (b ∷ bytes) some = refl
 
--- and so many digits are counted where a machine can have as many
+-- their digits are counted wherever a machine can count as many
 pub some_bytes_count : (bytes : List ℕ) (count : Option ℕ) → (length bytes == 0) ≡ false → SomeIff count (length bytes * 2 < 2 ^ 64) (length bytes * 2)
     → Counts count (length (bytes_text bytes))
 some_bytes_count bytes None some count = let digits = ap length (some_bytes bytes some) ∙ digits_length bytes in omega (arith, count)

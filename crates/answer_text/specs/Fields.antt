@@ -19,6 +19,6 @@ field_words [] = []
 field_words (None ∷ fields) = field_words fields
 field_words (Some field ∷ fields) = field_text field ∷ field_words fields
 
--- so many bytes, or none where a machine can't have as many
+-- the count is this number of bytes, and None where it is more than a machine can count
 abbrev pub Counts : Option ℕ → ℕ → Type 0
 Counts count bytes = MatchOption count (2 ^ 64 ≤ bytes) (λ n. n ≡ bytes)

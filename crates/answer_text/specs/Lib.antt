@@ -2,4 +2,4 @@ pub mod Parts
 pub mod Lines
 pub mod Ranges
 pub mod Fields
-pub mod Room
+pub mod Text

@@ -4,11 +4,12 @@ ghost use Rattle.lock_word.specs.Words.{IsInRange};
 ghost use Rattle.answer_text.specs.Parts.{bytes_text, epoch_text, key_text, word_text};
 ghost use Rattle.answer_text.specs.Ranges.{IsEpoch};
 ghost use Rattle.answer_text.specs.Fields.{field_text, Counts};
-ghost use Rattle.answer_text.specs.Room.{HasRoom, Adds};
+ghost use Rattle.rock_io.specs.LineBuffer.{HasRoom, Adds};
 
-use crate::room::{put, put_hex, put_number};
+use crate::hex_digits::put_hex;
 use itoa::Buffer;
 use lock_word::{Epoch, Word};
+use rock_io::LineBuffer;
 
 /// A word of an answer.
 #[derive(Clone, Copy, Debug)]
@@ -75,13 +76,13 @@ impl<'a> Field<'a> {
     }
 
     /// Adds its text to a line that has room for it.
-    pub fn put(self, line: &mut Vec<u8>)
+    pub fn put(self, line: &mut LineBuffer)
         requires { HasRoom line.old (field_text self) }
         ensures { Adds line.old line.new (field_text self.entry) }
     {
         match self {
-            Field::Name(text) => put(line, text.as_bytes()),
-            Field::Number(number) => put_number(line, number),
+            Field::Name(text) => line.put(text.as_bytes()),
+            Field::Number(number) => line.put_number(number),
             Field::Epoch(epoch) => put_epoch(line, epoch),
             Field::Word(word) => put_word(line, word),
             Field::Key(key) => put_hex(line, &key),
@@ -128,33 +129,33 @@ fn bytes_size(bytes: &[u8]) -> Option<usize>
     bytes.len().checked_mul(2)
 }
 
-fn put_epoch(line: &mut Vec<u8>, epoch: Epoch)
+fn put_epoch(line: &mut LineBuffer, epoch: Epoch)
     requires { HasRoom line.old (epoch_text epoch) }
     ensures { Adds line.old line.new (epoch_text epoch) }
 {
-    put_number(line, u64::from(epoch.version));
-    put(line, b".");
-    put_number(line, epoch.stage.number());
+    line.put_number(u64::from(epoch.version));
+    line.put(b".");
+    line.put_number(epoch.stage.number());
     if epoch.doom {
-        put(line, b"d");
+        line.put(b"d");
     }
 }
 
-fn put_word(line: &mut Vec<u8>, word: Word)
+fn put_word(line: &mut LineBuffer, word: Word)
     requires { HasRoom line.old (word_text word) }
     ensures { Adds line.old line.new (word_text word) }
 {
     put_epoch(line, word.epoch);
-    put(line, b"/");
-    put_number(line, u64::from(word.readers));
+    line.put(b"/");
+    line.put_number(u64::from(word.readers));
 }
 
-fn put_bytes(line: &mut Vec<u8>, bytes: &[u8])
+fn put_bytes(line: &mut LineBuffer, bytes: &[u8])
     requires { HasRoom line.old (bytes_text bytes.now) }
     ensures { Adds line.old line.new (bytes_text bytes.now) }
 {
     if bytes.is_empty() {
-        put(line, b"-");
+        line.put(b"-");
     } else {
         put_hex(line, bytes);
     }

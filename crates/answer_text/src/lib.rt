@@ -1,4 +1,4 @@
-//! The lines of answers, as bytes.
+//! The lines of answers, as bytes, and how those of all workers are printed.
 //!
 //! [`answer_line`] gives a worker's answer to a line of a script as text. For every worker, number and
 //! answer the bytes are exactly those of the grammar in `specs/Lines.antt`, the line feed with them: the
@@ -9,13 +9,17 @@
 //!
 //! Want of memory may come at any time, and no clause says when. The room for a line is reserved once, by
 //! its exact size; what is added later asks for room that is left, and takes no memory.
+//!
+//! [`print_answers`] prints the lines of all workers, in order, through a buffer.
 #![tactic(auto)]
 
 mod field;
 mod fields;
+mod hex_digits;
 mod laws;
 mod line;
-mod room;
+mod print;
 
 pub use laws::one_reading;
 pub use line::answer_line;
+pub use print::{PrintFault, print_answers};

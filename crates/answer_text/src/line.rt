@@ -2,12 +2,11 @@ ghost use Rattle.std.specs.Prelude.{◌≡◌, length, IfOk};
 ghost use Rattle.answer_text.specs.Lines.{line_of, line_with, spaced};
 ghost use Rattle.answer_text.specs.Ranges.{IsAnswer};
 ghost use Rattle.answer_text.specs.Fields.{field_words, Counts};
-ghost use Rattle.answer_text.specs.Room.{HasRoom, Adds};
+ghost use Rattle.rock_io.specs.LineBuffer.{HasRoom, Adds};
 
 use crate::field::{Field, number_size};
 use crate::fields::fields_of;
-use crate::room::{put, put_number};
-use rock_io::{Memory, Octets};
+use rock_io::{LineBuffer, Memory, Octets};
 use script_text::Answer;
 use std::alloc::Global;
 
@@ -25,13 +24,13 @@ pub fn answer_line(
     let (worker, number) = (u64::from(worker), u64::from(number));
     let fields = fields_of(answer);
     let size = line_size(worker, number, &fields).ok_or(Memory)?;
-    let mut line = Vec::with_capacity(alloc, size)?;
-    put_number(&mut line, worker);
-    put(&mut line, b" ");
-    put_number(&mut line, number);
+    let mut line = LineBuffer::new(alloc, size)?;
+    line.put_number(worker);
+    line.put(b" ");
+    line.put_number(number);
     put_fields(&mut line, &fields);
-    put(&mut line, b"\n");
-    Ok(Octets::from_vec(line))
+    line.put(b"\n");
+    Ok(line.into_octets())
 }
 
 /// How many bytes the line has. None where that is more than a `usize` can count.
@@ -56,13 +55,13 @@ fn fields_size(fields: &[Option<Field>]) -> Option<usize>
 }
 
 /// Adds these words, each behind a space, to a line that has room for them.
-fn put_fields(line: &mut Vec<u8>, fields: &[Option<Field>])
+fn put_fields(line: &mut LineBuffer, fields: &[Option<Field>])
     requires { HasRoom line.old (spaced (field_words fields.now)) }
     ensures { Adds line.old line.new (spaced (field_words fields.now)) }
 {
     'fields: for field in fields {
         if let Some(field) = field {
-            put(line, b" ");
+            line.put(b" ");
             field.put(line);
         }
     }

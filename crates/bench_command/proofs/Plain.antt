@@ -6,8 +6,8 @@ use Rattle.std.specs.List.{zip}
 use Rattle.std.proofs.lemmas.List.{append-nil, length-map}
 use Rattle.std.proofs.lemmas.List.Elements.{All-cons, All-drop, All-nil, All-replicate, All-take}
 use Rattle.std.proofs.lemmas.Slice.Zip.{seconds-zip}
-use Rattle.bench_summary.specs.Counts.{summary_of}
-use Rattle.bench_summary.specs.Text.{summary_line}
+use Rattle.workload.specs.Counts.{summary_of}
+use Rattle.workload.specs.Text.{summary_line}
 use Rattle.db_layout.specs.Layout.{IsSlotSize, file_size}
 use Rattle.plain_model.specs.declared.store.Plain.{Plain}
 use Rattle.plain_model.specs.declared.store.Setting.{Setting}

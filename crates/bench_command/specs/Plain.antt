@@ -1,7 +1,7 @@
 -- What a benchmark of one worker prints that meets no fault.
 use Rattle.std.specs.Prelude.{List, ℕ}
-use Rattle.bench_summary.specs.Counts.{summary_of}
-use Rattle.bench_summary.specs.Text.{summary_line}
+use Rattle.workload.specs.Counts.{summary_of}
+use Rattle.workload.specs.Text.{summary_line}
 use Rattle.entry_cut.specs.Content.{room_of}
 use Rattle.plain_model.specs.declared.store.Setting.{Setting}
 use Rattle.plain_model.specs.Serving.{answers_of, fresh}

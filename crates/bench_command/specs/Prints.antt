@@ -1,7 +1,7 @@
 -- What a benchmark prints.
 use Rattle.std.specs.Prelude.{Bool, IsTrue, List, length, ◌≡◌, ℕ}
-use Rattle.bench_summary.specs.Counts.{kinds_in, summary_of}
-use Rattle.bench_summary.specs.Text.{summary_line}
+use Rattle.workload.specs.Counts.{kinds_in, summary_of}
+use Rattle.workload.specs.Text.{summary_line}
 use Rattle.rock_disk.specs.Cell.{CellState}
 use Rattle.rock_disk.specs.File.{Files}
 use Rattle.rock_open.specs.Device.{Counts}
@@ -26,7 +26,8 @@ module _ {C St : Type 0} (volume_tells tells : Bool) (state : C → CellState) (
     pub plain : workers ≡ 1 → IsTrue volume_tells → NoWorkerFailed before after → IsAnsweredPlainly files files_after name slot_size (anchors_for workers) (bench_lines seed workers count) answers
     pub is : text ≡ summary_line (summary_of (answers_in answers))
 
-  -- The same of a file that was made for it. So for one worker it is the one line of a plain store that was never written.
+  -- The text is the line of such a run over a file that was made for it. So for one worker it is the one line of a plain store
+  -- that was never written.
   pub record IsBenchText (files files_after : Files) (name : List ℕ) (seed workers count : ℕ) (before after : Counts) (text : List ℕ) : Type 0 where
     pub middle : Files
     pub made : IsMade volume_tells files middle name workers

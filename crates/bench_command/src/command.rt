@@ -25,14 +25,14 @@ use std::thread::Threads;
 /// How many slots there are for each worker.
 const SLOTS_EACH: u32 = 64;
 
-/// Whether a benchmark may have so many workers.
+/// Whether a benchmark may have `workers` workers.
 fn is_workers(workers: u32) -> bool
     ensures { IsTrue result ↔ IsPasses workers }
 {
     1 <= workers && workers <= 32
 }
 
-/// Whether it may have so many rounds.
+/// Whether it may have `count` rounds.
 fn is_rounds(count: u32) -> bool
     ensures { IsTrue result ↔ IsRounds count }
 {

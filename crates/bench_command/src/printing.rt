@@ -1,16 +1,16 @@
 // The line of a benchmark is printed.
 ghost use Rattle.std.specs.Prelude.{IsTrue, map, ◌≡◌, ◌≤◌};
-ghost use Rattle.bench_summary.specs.Counts.{summary_of};
-ghost use Rattle.bench_summary.specs.Text.{summary_line};
+ghost use Rattle.workload.specs.Counts.{summary_of};
+ghost use Rattle.workload.specs.Text.{summary_line};
 ghost use Rattle.file_commands.specs.Report.{PrintEnds, ReportPrints};
 ghost use Rattle.bench_command.specs.Answers.{answers_in};
 
 use crate::answers::all_answers;
-use bench_summary::{Summary, summary_line, summary_of};
 use rock_io::{Sink, write_all};
 use rock_status::Status;
 use script_text::Answer;
 use std::alloc::Global;
+use workload::{Summary, summary_line, summary_of};
 
 /// Prints the line of a summary. It is made before the sink takes any byte.
 fn print_line<K: Sink>(alloc: Global, out: &mut K, summary: &Summary) -> Status

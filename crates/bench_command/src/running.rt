@@ -13,7 +13,6 @@ ghost use Rattle.bench_command.specs.Numbers.{AreBenchNumbers, slot_size, slots_
 ghost use Rattle.bench_command.specs.Prints.{IsLineOfRun};
 
 use crate::printing::print_summary;
-use bench_summary::answers_are_of_one_kind;
 use rock_disk::Volume;
 use rock_io::Sink;
 use rock_run::{run_script, status_of_run};
@@ -22,7 +21,7 @@ use run_rules::{each_line_has_one_answer, lone_runs_are_answered_plainly, runs_k
 use std::alloc::Global;
 use std::sync::Wait;
 use std::thread::Threads;
-use workload::{bench_lines_may_be_served, bench_script};
+use workload::{answers_are_of_one_kind, bench_lines_may_be_served, bench_script};
 
 /// How many bytes a slot of a benchmark's file has.
 pub(crate) const SLOT_BYTES: u32 = 512;

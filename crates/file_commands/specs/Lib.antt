@@ -1,5 +1,4 @@
 pub mod Listing
-pub mod Room
 pub mod Summary
 pub mod Faults
 pub mod Device

@@ -19,7 +19,7 @@ use Rattle.file_commands.specs.declared.report.Reading.TheVariants as reading
 use Rattle.rock_status.specs.declared.status.Status.{Status}
 use Rattle.rock_status.specs.declared.status.Status.TheVariants.{Done, Usage, Memory, SourceFault, SinkFault, DeviceFault, BadScript, Missing, Small, BadGeometry, Exists}
 
--- what a command may ask of the number of slots: nothing, or that so many anchors are from 1 to it
+-- what a command may ask of the number of slots: nothing, or that its number of anchors is from 1 to that
 abbrev pub AnyCount : ℕ → Type 0
 AnyCount slots = Unit {0}
 
@@ -48,7 +48,7 @@ pub record OfFile (Prints : List (List ℕ) → List ℕ → Type 0) (files : Fi
   pub there : get files name ≡ Some was
   pub told : Prints (images_of slot (bytes_of was)) text
 
--- the file of this name is long enough, and has so many slots
+-- the file of this name is long enough, and has this number of slots
 pub record HasSlots (files : Files) (name : List ℕ) (slot slots : ℕ) : Type 0 where
   pub was : File
   pub there : get files name ≡ Some was
@@ -73,7 +73,7 @@ ReportEnds Fits slot s s' v v' e e' (Small bytes) = IsSlotSize slot
 ReportEnds Fits slot s s' v v' e e' (BadGeometry field) = ((field ≡ 1) × ¬ IsSlotSize slot) ⊎ ((field ≡ 2) × IsSlotSize slot × ((slots : ℕ) × ¬ Fits slots))
 ReportEnds Fits slot s s' v v' e e' Exists = ⊥
 
--- how an opened file of so many slots may be refused, by their number and the counts of the volume and the station
+-- how an opened file may be refused, by the number of its slots and the counts of the volume and the station
 abbrev pub OpenedEnds : (Fits : ℕ → Type 0) (slots : ℕ) → (volume_before volume_after : ℕ) → (ended_before ended_after : List ℕ) → Status → Type 0
 OpenedEnds Fits slots v v' e e' Memory = Unit {0}
 OpenedEnds Fits slots v v' e e' DeviceFault = DeviceFailed v v' e e'

@@ -8,7 +8,7 @@ use db_layout::{MOST_SLOTS, slot_size_ok};
 use rock_disk::{CreateFault, Volume};
 use rock_status::Status;
 
-/// Makes a file of zeros, of the header area and so many slots. The slot size is judged first, then
+/// Makes a file of zeros, of the header area and `slots` slots. The slot size is judged first, then
 /// the number of slots, then the name.
 pub fn create_file<V: Volume>(volume: &mut V, name: &str, slot: u32, slots: u32) -> Status
     // When each status comes.
@@ -41,7 +41,7 @@ pub fn create_file<V: Volume>(volume: &mut V, name: &str, slot: u32, slots: u32)
     }
 }
 
-/// Whether a file may be made with so many slots.
+/// Whether a file may be made with `slots` slots.
 fn is_slot_count(slots: u32) -> bool
     ensures { IsTrue result ↔ IsSlotCount slots }
 {

@@ -5,7 +5,6 @@
 //! wants no memory, and meets no fault but the sink's.
 #![tactic(auto)]
 
-mod buffer;
 mod create;
 mod listing;
 mod read;

@@ -1,5 +1,5 @@
 // The listing of a file: a line for each complete entry.
-ghost use Rattle.std.specs.Prelude.{◌≡◌, ◌+◌, ◌≤◌, ◌++◌, length, map, All, vec_len, vec_capacity, IsTrue, IfOk, IsErrOf, OnOk, OnErr, []};
+ghost use Rattle.std.specs.Prelude.{◌≡◌, ◌+◌, ◌≤◌, ◌++◌, length, map, All, IsTrue, IfOk, IsErrOf, OnOk, OnErr, []};
 ghost use Rattle.std.specs.List.{flat_map};
 ghost use Rattle.rock_io.specs.Faults.{Rose};
 ghost use Rattle.rock_io.specs.Sink.{TakesPrefix};
@@ -7,11 +7,10 @@ ghost use Rattle.rock_disk.specs.Cell.{CellState};
 ghost use Rattle.rock_disk.specs.Opened.{AreSlots};
 ghost use Rattle.rebuild_model.specs.declared.found.Found.{Found};
 ghost use Rattle.file_commands.specs.Listing.{line_of_found, numbers, Lists, HasShortUrl};
-ghost use Rattle.file_commands.specs.Room.{HasRoom, Adds};
+ghost use Rattle.rock_io.specs.LineBuffer.{held_of, size_of, HasRoom, Adds};
 
-use crate::buffer::{BUFFER_BYTES, make_room, put, put_number};
 use rock_disk::Station;
-use rock_io::{Failed, Sink, write_all};
+use rock_io::{BUFFER_BYTES, Failed, LineBuffer, Sink};
 use rock_rebuild::{Found, FoundList, RebuildFault, scan};
 use std::alloc::Global;
 
@@ -50,11 +49,11 @@ pub fn listed<St: Station>(
 /// Prints a line for each of these entries, in their order, through an empty buffer.
 pub fn print_lines<K: Sink>(
     out: &mut K,
-    buffer: &mut Vec<u8>,
+    buffer: &mut LineBuffer,
     found: &[Found],
 ) -> Result<(), Failed>
-    requires room { BUFFER_BYTES ≤ vec_capacity buffer.old }
-    requires empty { buffer.old.items ≡ [] }
+    requires room { BUFFER_BYTES ≤ size_of buffer.old }
+    requires empty { held_of buffer.old ≡ [] }
     requires short { All HasShortUrl found.now }
     ensures all { OnOk result (IsTrue K.tells
         → K.taken out.new ≡ K.taken out.old ++ flat_map line_of_found found.now) }
@@ -66,38 +65,38 @@ pub fn print_lines<K: Sink>(
 {
     let mut left = found;
     'entries: while let Some((entry, rest)) = left.split_first() {
-        make_room(out, buffer, LINE_BYTES)?;
+        buffer.make_room(out, LINE_BYTES)?;
         put_line(buffer, entry);
         left = rest;
     }
-    write_all(out, buffer)
+    buffer.write_to(out)
 }
 
 /// Adds what stands in a line before the URL.
-fn put_numbers(buffer: &mut Vec<u8>, first: u32, version: u32, slots: usize, length: u64)
+fn put_numbers(buffer: &mut LineBuffer, first: u32, version: u32, slots: usize, length: u64)
     requires { HasRoom buffer.old (numbers first version slots length) }
     ensures { Adds buffer.old buffer.new (numbers first version slots length) }
 {
-    put(buffer, b"ENTRY ");
-    put_number(buffer, u64::from(first));
-    put(buffer, b" ");
-    put_number(buffer, u64::from(version));
-    put(buffer, b" ");
-    put_number(buffer, slots as u64);
-    put(buffer, b" ");
-    put_number(buffer, length);
-    put(buffer, b" ");
+    buffer.put(b"ENTRY ");
+    buffer.put_number(u64::from(first));
+    buffer.put(b" ");
+    buffer.put_number(u64::from(version));
+    buffer.put(b" ");
+    buffer.put_number(slots as u64);
+    buffer.put(b" ");
+    buffer.put_number(length);
+    buffer.put(b" ");
 }
 
 /// Adds the line of an entry to a buffer that has room for it.
 #[tactic(auto, using(crate::proofs::Lines::short_numbers))]
-fn put_line(buffer: &mut Vec<u8>, entry: &Found)
-    requires room { vec_len buffer.old + LINE_BYTES ≤ vec_capacity buffer.old }
+fn put_line(buffer: &mut LineBuffer, entry: &Found)
+    requires room { length (held_of buffer.old) + LINE_BYTES ≤ size_of buffer.old }
     requires short { HasShortUrl entry.now }
     ensures { Adds buffer.old buffer.new (line_of_found entry.now) }
 {
     let slots = entry.chain.as_slice().len();
     put_numbers(buffer, entry.first, entry.version, slots, entry.length);
-    put(buffer, entry.url.as_slice());
-    put(buffer, b"\n");
+    buffer.put(entry.url.as_slice());
+    buffer.put(b"\n");
 }

@@ -155,7 +155,7 @@ pub fn read_file<V: Volume>(
         → DeviceKept (V.faults volume.old) (V.faults volume.new)
         (V.ended volume.old) (V.ended volume.new) }
 
-    // Where the report is not for a file with so many slots, no station is made.
+    // Where the report is not for a file with its number of slots, no station is made.
     ensures early { IsTrue V.tells → (slots : ℕ)
         → HasSlots (V.files volume.old) name.now slot slots → (Fits report slots → ⊥)
         → (V.made volume.new ≡ V.made volume.old) × (V.ended volume.new ≡ V.ended volume.old)

@@ -1,7 +1,8 @@
 // Commands that read a whole file and print what they tell of it.
-ghost use Rattle.std.specs.Prelude.{◌≡◌, ℕ, ◌≤◌, IsTrue, IfOk, IsErrOf, OnOk, OnErr, length, map, vec_capacity, ◌++◌, [], None, ◌↔◌};
+ghost use Rattle.std.specs.Prelude.{◌≡◌, ℕ, ◌≤◌, IsTrue, IfOk, IsErrOf, OnOk, OnErr, length, map, ◌++◌, [], None, ◌↔◌};
 ghost use Rattle.std.specs.FinMap.{get};
 ghost use Rattle.rock_io.specs.Faults.{Rose};
+ghost use Rattle.rock_io.specs.LineBuffer.{held_of, size_of};
 ghost use Rattle.rock_io.specs.Sink.{TakesPrefix};
 ghost use Rattle.rock_disk.specs.Cell.{CellState};
 ghost use Rattle.rock_disk.specs.File.{IsNotAway, IsKept};
@@ -10,13 +11,12 @@ ghost use Rattle.db_layout.specs.Layout.{IsSlotSize};
 ghost use Rattle.file_commands.specs.Device.{EndedOne, DeviceKept};
 ghost use Rattle.file_commands.specs.Report.{IsAnchors, Fits, Prints, OfFile, HasSlots, ReportEnds, ReportSays, ReportPrints, PrintEnds, text_of};
 
-use crate::buffer::BUFFER_BYTES;
 use crate::listing::{ListedEntries, listed, print_lines};
 use crate::read::read_file;
 use crate::summary::{print_summary, summed};
 use db_layout::slot_size_ok;
 use rock_disk::{Station, Volume};
-use rock_io::{Failed, Sink};
+use rock_io::{BUFFER_BYTES, Failed, LineBuffer, Sink};
 use rock_rebuild::{RebuildFault, Tally};
 use rock_status::Status;
 use std::alloc::Global;
@@ -26,7 +26,7 @@ use std::alloc::Global;
 pub enum Report {
     /// A line for each complete entry, in order of first slot.
     Listing,
-    /// One line on what a store with so many anchors keeps.
+    /// One line on what a store with `anchors` anchors keeps.
     Summary { anchors: u32 },
 }
 
@@ -38,7 +38,7 @@ pub enum Reading {
 }
 
 impl Report {
-    /// Whether it may be made of a file with so many slots.
+    /// Whether it may be made of a file with `slots` slots.
     pub fn is_for(self, slots: usize) -> bool
         ensures { IsTrue result ↔ Fits self slots }
     {
@@ -80,7 +80,7 @@ impl Report {
     }
 }
 
-/// Whether a file with so many slots may have so many anchors.
+/// Whether a file with `slots` slots may have `anchors` anchors.
 fn are_anchors(anchors: u32, slots: usize) -> bool
     ensures { IsTrue result ↔ IsAnchors anchors slots }
 {
@@ -90,11 +90,11 @@ fn are_anchors(anchors: u32, slots: usize) -> bool
 /// Prints what was read, through an empty buffer.
 fn print_through<K: Sink>(
     out: &mut K,
-    buffer: &mut Vec<u8>,
+    buffer: &mut LineBuffer,
     reading: &Reading,
 ) -> Result<(), Failed>
-    requires room { BUFFER_BYTES ≤ vec_capacity buffer.old }
-    requires empty { buffer.old.items ≡ [] }
+    requires room { BUFFER_BYTES ≤ size_of buffer.old }
+    requires empty { held_of buffer.old ≡ [] }
     ensures all { OnOk result (IsTrue K.tells
         → K.taken out.new ≡ K.taken out.old ++ text_of reading.now) }
     ensures prefix { OnErr result (IsTrue K.tells
@@ -117,7 +117,7 @@ fn print_reading<K: Sink>(alloc: Global, out: &mut K, reading: &Reading) -> Stat
     ensures sink_faults { K.faults out.old ≤ K.faults out.new }
     ensures sink_unfailed { (result ≡ Status.SinkFault → ⊥) → K.faults out.new ≡ K.faults out.old }
 {
-    let Ok(mut buffer) = Vec::with_capacity(alloc, BUFFER_BYTES) else {
+    let Ok(mut buffer) = LineBuffer::new(alloc, BUFFER_BYTES) else {
         return Status::Memory;
     };
     match print_through(out, &mut buffer, reading) {
@@ -165,7 +165,7 @@ pub fn print_report<V: Volume, K: Sink>(
         → DeviceKept (V.faults volume.old) (V.faults volume.new)
         (V.ended volume.old) (V.ended volume.new) }
 
-    // Where the report is not for a file with so many slots, no station is made.
+    // Where the report is not for a file with its number of slots, no station is made.
     ensures early { IsTrue V.tells → (slots : ℕ)
         → HasSlots (V.files volume.old) name.now slot slots → (Fits report slots → ⊥)
         → (V.made volume.new ≡ V.made volume.old) × (V.ended volume.new ≡ V.ended volume.old)

@@ -1,22 +1,21 @@
 // The summary of a file: what a rebuild keeps of it, in one line.
-ghost use Rattle.std.specs.Prelude.{◌≡◌, ◌+◌, ◌<◌, ◌≤◌, length, map, vec_len, vec_capacity, IsTrue, IfOk, IsErrOf, OnOk, OnErr, ◌++◌, []};
+ghost use Rattle.std.specs.Prelude.{◌≡◌, ◌+◌, ◌<◌, ◌≤◌, length, map, IsTrue, IfOk, IsErrOf, OnOk, OnErr, ◌++◌, []};
 ghost use Rattle.rock_io.specs.Faults.{Rose};
 ghost use Rattle.rock_io.specs.Sink.{TakesPrefix};
 ghost use Rattle.rock_disk.specs.Cell.{CellState};
 ghost use Rattle.rock_disk.specs.Opened.{AreSlots};
-ghost use Rattle.file_commands.specs.Room.{HasRoom, Adds};
+ghost use Rattle.rock_io.specs.LineBuffer.{held_of, size_of, HasRoom, Adds};
 ghost use Rattle.file_commands.specs.Summary.{front, back, line_of_tally, Sums};
 
-use crate::buffer::{BUFFER_BYTES, put, put_number};
 use rock_disk::Station;
-use rock_io::{Failed, Sink, write_all};
+use rock_io::{BUFFER_BYTES, Failed, LineBuffer, Sink};
 use rock_rebuild::{RebuildFault, Tally, tally};
 use std::alloc::Global;
 
 /// More bytes than the line has.
 const SUMMARY_BYTES: usize = 512;
 
-/// Reads the slots of a file, and counts what a store with so many anchors keeps.
+/// Reads the slots of a file, and counts what a store with `anchors` anchors keeps.
 pub fn summed<St: Station>(
     alloc: Global,
     station: &mut St,
@@ -41,11 +40,11 @@ pub fn summed<St: Station>(
 /// Prints the line of a tally, through an empty buffer.
 pub fn print_summary<K: Sink>(
     out: &mut K,
-    buffer: &mut Vec<u8>,
+    buffer: &mut LineBuffer,
     tally: &Tally,
 ) -> Result<(), Failed>
-    requires room { BUFFER_BYTES ≤ vec_capacity buffer.old }
-    requires empty { buffer.old.items ≡ [] }
+    requires room { BUFFER_BYTES ≤ size_of buffer.old }
+    requires empty { held_of buffer.old ≡ [] }
     ensures all { OnOk result (IsTrue K.tells → K.taken out.new ≡ K.taken out.old ++ line_of_tally tally.now) }
     ensures prefix { OnErr result (IsTrue K.tells
         → TakesPrefix (K.taken out.old) (K.taken out.new) (line_of_tally tally.now)) }
@@ -54,13 +53,13 @@ pub fn print_summary<K: Sink>(
     ensures failed { OnErr result (Rose (K.faults out.old) (K.faults out.new)) }
 {
     put_summary(buffer, tally);
-    write_all(out, buffer)
+    buffer.write_to(out)
 }
 
 /// Adds the line of a tally to a buffer that has room for it.
 #[tactic(auto, using(crate::proofs::Lines::short_front, crate::proofs::Lines::short_back))]
-fn put_summary(buffer: &mut Vec<u8>, tally: &Tally)
-    requires { vec_len buffer.old + SUMMARY_BYTES ≤ vec_capacity buffer.old }
+fn put_summary(buffer: &mut LineBuffer, tally: &Tally)
+    requires { length (held_of buffer.old) + SUMMARY_BYTES ≤ size_of buffer.old }
     ensures { Adds buffer.old buffer.new (line_of_tally tally.now) }
 {
     put_front(buffer, tally.slots, tally.kept, tally.used);
@@ -72,27 +71,27 @@ fn put_summary(buffer: &mut Vec<u8>, tally: &Tally)
 }
 
 /// Adds the front of the line.
-fn put_front(buffer: &mut Vec<u8>, slots: usize, kept: usize, used: usize)
+fn put_front(buffer: &mut LineBuffer, slots: usize, kept: usize, used: usize)
     requires { HasRoom buffer.old (front slots kept used) }
     ensures { Adds buffer.old buffer.new (front slots kept used) }
 {
-    put(buffer, b"slots=");
-    put_number(buffer, slots as u64);
-    put(buffer, b" kept=");
-    put_number(buffer, kept as u64);
-    put(buffer, b" used=");
-    put_number(buffer, used as u64);
-    put(buffer, b" ");
+    buffer.put(b"slots=");
+    buffer.put_number(slots as u64);
+    buffer.put(b" kept=");
+    buffer.put_number(kept as u64);
+    buffer.put(b" used=");
+    buffer.put_number(used as u64);
+    buffer.put(b" ");
 }
 
 /// Adds the rest of it.
-fn put_back(buffer: &mut Vec<u8>, free: usize, version: u32)
+fn put_back(buffer: &mut LineBuffer, free: usize, version: u32)
     requires { HasRoom buffer.old (back free version) }
     ensures { Adds buffer.old buffer.new (back free version) }
 {
-    put(buffer, b"free=");
-    put_number(buffer, free as u64);
-    put(buffer, b" version=");
-    put_number(buffer, u64::from(version));
-    put(buffer, b"\n");
+    buffer.put(b"free=");
+    buffer.put_number(free as u64);
+    buffer.put(b" version=");
+    buffer.put_number(u64::from(version));
+    buffer.put(b"\n");
 }

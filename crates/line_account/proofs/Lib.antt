@@ -5,6 +5,7 @@ pub mod Courses
 pub mod Names
 pub mod Printing
 pub mod HitVersions
+pub mod Opened
 pub mod Ordering
 pub mod Parts
 pub mod Scripts
@@ -13,3 +14,5 @@ pub mod Alone
 pub mod PutAndGet
 pub mod Quiet
 pub mod Told
+pub mod Stages
+pub mod Crews

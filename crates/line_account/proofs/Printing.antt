@@ -69,7 +69,7 @@ module _ {X : Type 0} (r : Run X) (crew : List (Worker X)) (c : Closed r crew) w
   known P p a e h = inr (c.index p.j, p.worker.view, c.at p.j p.worker p.at, h)
 
   -- an entry of the opening that may be read was there then
-  old_kept : (a e : ℕ) → IsEpochAt r.setting c.state a e → is_readable e ≡ true → version_of e ≤ opening_counter r.setting → HadEntry r a
+  pub old_kept : (a e : ℕ) → IsEpochAt r.setting c.state a e → is_readable e ≡ true → version_of e ≤ opening_counter r.setting → HadEntry r a
   old_kept a e h read low = ⊎_elim
       (λ (z : stage_of (opening_epoch r.setting a) ≡ 0). absurd (⊎_elim
       (λ (q : stage_of e ≡ stage_of (opening_epoch r.setting a)). not_below (omega arith))

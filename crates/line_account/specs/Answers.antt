@@ -177,7 +177,7 @@ pub record HasOther {X : Type 0} (r : Run X) (v : View X) (earlier : List Served
 
 -- How many bytes were added and given.
 
--- the bytes of a body that so many full slots of its content hold, behind the metadata with its URL
+-- how many bytes of a body stand in this number of full slots of its content, behind the metadata with its URL
 abbrev pub bytes_behind : (room : ℕ) → (url : List ℕ) → (slots : ℕ) → ℕ
 bytes_behind room url slots = slots * room - meta_size url
 
@@ -190,7 +190,7 @@ pub record IsWritten (earlier : List Served) (s : Served) (tab : ℕ) : Type 0 w
   pub version : ℕ
   pub drew : first.drew ≡ Some version
 
--- how many slots of the content are published, once so many bytes were added on the tab
+-- how many slots of the content are published once these lines were served, with the bytes that they added on the tab
 abbrev pub slots_after : (room : ℕ) → (url : List ℕ) → (tab : ℕ) → List Served → ℕ
 slots_after room url tab served = published room (meta_size url + added tab served)
 

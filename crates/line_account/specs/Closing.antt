@@ -20,8 +20,8 @@ pub record Worker (X : Type 0) : Type 0 where
   pub view : View X
   pub served : List Served
 
--- An entry that was halted was never whole: where a version was seen at HALTED, and so many slots of it were seen published, and the offer
--- of a line was seen as its offer, these slots hold less than the content of that offer, which is its metadata and its body.
+-- An entry that was halted was never whole: where a version was seen at HALTED, a number of its slots were seen published, and the offer of a
+-- line was seen as its offer, these slots hold less than the content of that offer, which is its metadata and its body.
 pub record HaltedShort {X : Type 0} (r : Run X) (s : State X) : Type 0 where
   pub short : (i j l : ℕ) (u v w : View X) → get_elem? s.views i ≡ some u → get_elem? s.views j ≡ some v → get_elem? s.views l ≡ some w → (a e many number : ℕ) → stage_of e ≡ 4
       → Contains u.seen (Stood a e) → Contains v.seen (Published a (version_of e) many) → Contains w.seen (Named a (version_of e) Offer (r.setting.slots + number))

@@ -12,3 +12,10 @@ pub mod Scripts
 pub mod Idle
 pub mod Alone
 pub mod Steps
+pub mod Crews
+pub mod Refusals
+pub mod Bodies
+pub mod Versions
+pub mod Epochs
+pub mod Ordering
+pub mod Rules

@@ -25,8 +25,8 @@ pub record PrintsPart (s : Served) (x : ℕ) : Type 0 where
   pub printed : s.answer ≡ answer.Part epoch bytes
   pub version_is : version_of (epoch_number epoch) ≡ x
 
--- A line printed ADDED. What its tab writes was begun by a line that drew the version x, under this URL, and so many slots of its content
--- are published then.
+-- A line printed ADDED. What its tab writes was begun by a line that drew the version x, under this URL, and this number of slots of its
+-- content is published then.
 pub record AddsTo {X : Type 0} (r : Run X) (earlier : List Served) (s : Served) (x : ℕ) (url : List ℕ) (slots : ℕ) : Type 0 where
   pub tab : ℕ
   pub asked : ℕ

@@ -11,7 +11,7 @@ use Rattle.script_text.specs.declared.answer.Answer.{Answer}
 use Rattle.script_text.specs.declared.answer.Answer.TheVariants as answer
 use Rattle.script_text.specs.declared.body.Body.{Body}
 use Rattle.script_text.specs.declared.request.Request.{Request}
-use Rattle.script_text.specs.declared.request.Request.TheVariants.{Add, Begin, End, Get, Put, Save}
+use Rattle.script_text.specs.declared.request.Request.TheVariants.{Add, Begin, End, Get, OpenTab, Put, Save}
 use Rattle.core_model.specs.declared.moves.Side.TheVariants.{Key0, Key1, Offer}
 use Rattle.core_model.specs.declared.view.Place.TheVariants.{Beside}
 use Rattle.core_model.specs.Anchors.{opening_epoch}
@@ -106,6 +106,14 @@ pub record PrintsOther (earlier : List Served) (s : Served) (url : List ℕ) : T
   pub named : url_in first.line.request ≡ Some url
   pub printed : s.answer ≡ answer.OtherUrl
 
+-- a line opened an entry of the anchor a on a tab, and printed OPEN with the version x
+pub record PrintsOpen (anchors : ℕ) (s : Served) (a x : ℕ) : Type 0 where
+  pub tab : ℕ
+  pub url : List ℕ
+  pub request : s.line.request ≡ OpenTab tab url
+  pub anchor : a ≡ anchor_of (key_of url) anchors
+  pub printed : s.answer ≡ answer.Opened x
+
 -- Readers.
 
 -- a line at the anchor a printed BUSY, with more readers in one of the words than the worker's own tabs that read there
@@ -137,7 +145,7 @@ pub record HasBusyWords (looked other : Word) : Type 0 where
   pub cause : IsHeld looked other ⊎ IsOvertaken looked other
   pub rises : epoch_number looked.epoch ≤ epoch_number other.epoch
 
--- a line printed ADDED with this count, where so many bytes were asked for and its tab's writing was begun by this line
+-- a line printed ADDED with this count, where it asked for `asked` bytes, and the line `first` began its tab's writing
 pub record PrintsAdded (earlier : List Served) (s : Served) (first : Served) (tab asked count : ℕ) : Type 0 where
   pub request : s.line.request ≡ Add tab asked
   pub printed : s.answer ≡ answer.Added count

@@ -17,7 +17,7 @@ ghost use Rattle.core_model.specs.Sound.{Sound};
 ghost use Rattle.core_model.specs.State.{State};
 ghost use Rattle.core_model.specs.Anchors.{opening_counter, opening_epoch};
 ghost use Rattle.line_account.specs.Lines.{Fits, Offers, Served, added, given, offers};
-ghost use Rattle.line_account.specs.Deeds.{Begins, PrintsBegun, PrintsBegunVersion};
+ghost use Rattle.line_account.specs.Deeds.{Begins, Halts, PrintsBegun, PrintsBegunVersion};
 ghost use Rattle.line_account.specs.Requests.{IsAnswerTo};
 ghost use Rattle.line_account.specs.Parts.{AddsTo, GivesOf, IsCourseOf, PrintsPart};
 ghost use Rattle.line_account.specs.Scripts.{ServesScript, offering};
@@ -32,7 +32,7 @@ ghost use Rattle.core_model.specs.Trails.{drawn, draws};
 ghost use Rattle.line_account.specs.Accounts.{Account, epoch_in};
 ghost use Rattle.line_account.specs.Courses.{Adds, Begins as BeginsWork, Course, Keeps, Leaves, Stage, lines_in};
 ghost use Rattle.line_account.specs.Steps.{IsAfter, IsIdle, IsMarkLine, IsTabLine};
-ghost use Rattle.line_account.specs.Printed.{AnotherComes, EndsBegun, AreFirstOnes, ReadsOf, GivenBackIn, HadEntry, PrintsAdded, HasBusyWords, HasOtherUrl, HitIn, IsBodyAsPrinted, IsBodyOfLine, IsKeyOfLine, IsOldBody, IsOldUrl, KeyIn, NeedsTooMany, OffersAtOnce, PrintsFinished, PrintsLarge, PrintsOther, PrintsReaders};
+ghost use Rattle.line_account.specs.Printed.{AnotherComes, EndsBegun, AreFirstOnes, ReadsOf, GivenBackIn, HadEntry, PrintsAdded, HasBusyWords, HasOtherUrl, HitIn, IsBodyAsPrinted, IsBodyOfLine, IsKeyOfLine, IsOldBody, IsOldUrl, KeyIn, NeedsTooMany, OffersAtOnce, PrintsFinished, PrintsLarge, PrintsOpen, PrintsOther, PrintsReaders};
 ghost use Rattle.line_account.specs.Closing.{Closed, Worker, BegunIn, TellsBegunIn, ShownIn, StoredIn, HaltedIn, PurgedIn, IsSameLine, LineIn, PrintsHalted, PrintsDoomed, SomeHalted, offered};
 
 /// Each version is begun by one line, and at one anchor, and a line begins one version at most. It offers a
@@ -143,6 +143,17 @@ pub fn hit_versions_were_printed<X>()
         → opening_counter r.setting < x → IsBodyAsPrinted r crew a x url bytes }
 {}
 
+/// A version of the opening is opened only where the anchor had an entry then.
+pub fn versions_opened_were_there<X>()
+    ensures { (r : Run X) (crew : List (Worker X)) (a x : ℕ) → Closed r crew → LineIn crew (λ earlier s. PrintsOpen r.setting.anchors s a x) → x ≤ opening_counter r.setting → HadEntry r a }
+{}
+
+/// No version is hit whose writing a line gave up.
+pub fn hits_were_not_given_up<X>()
+    ensures { (r : Run X) (crew : List (Worker X)) (a x : ℕ) (url bytes : List ℕ) → Closed r crew → IsTrue r.tells → HitIn r crew a x url bytes
+        → opening_counter r.setting < x → LineIn crew (λ earlier s. Halts r.setting.anchors earlier s a x) → ⊥ }
+{}
+
 /// The bytes that lines gave of an entry since it was opened are the first ones of a body that is stored
 /// under its URL: of the entry that the anchor had at the opening, or of a line that began a version there.
 /// They are all of it where the answer is HIT or END. A FAULT that gave no byte claims nothing.
@@ -240,8 +251,10 @@ pub fn parts_are_not_short<X>()
         → StandsIn before s earlier → GivesOf (lines_in earlier) s.served tab x → given tab (s.served ∷ lines_in earlier) ≤ given_with (lines_in before) t.served }
 {}
 
-/// The same, after a mark that the worker met, of the lines that the marking worker served before it set
-/// the mark.
+/// What the tab of a PART line was given since it was opened, or a `get` in its own line, after its worker
+/// met a mark, is at least the bytes in the slots that an ADDED of the version published, and at least
+/// what lines of one tab gave of the version since it was opened, where the marking worker served these
+/// lines before it set the mark.
 pub fn parts_are_not_short_after_marks<X>()
     ensures added { (r : Run X) (crew : List (Worker X)) (j l : ℕ) (w u : Worker X) (start other : View X) (stages others before between marked earlier : List (Stage X)) (t n m s : Stage X) (x slots : ℕ) (url : List ℕ)
         → Closed r crew → IsTrue r.tells → get_elem? crew j ≡ some w → get_elem? crew l ≡ some u → IsCourseOf r w start stages → IsCourseOf r u other others

@@ -1,10 +1,11 @@
 //! What the lines that workers print may say, as a model by itself: which line each deed of a worker
-//! belongs to, and what the accounts of all workers tell together once they ended. The functions of
-//! `laws` do nothing: what they ensure are the laws.
+//! belongs to, what the accounts of all workers tell together once they ended, and the rules that their
+//! lines keep, each by a name of its own. The functions here do nothing: what they ensure are the laws.
 #![tactic(auto)]
 
 mod examples;
 mod laws;
+mod rules;
 
 pub use examples::{
     a_hit_has_what_was_stored, a_lone_spent_number_is_the_counter, a_lone_version_is_the_next_one,
@@ -16,9 +17,11 @@ pub use laws::{
     bytes_are_of_lines, doomed_entries_were_purged, ends_tell_the_version_begun,
     entries_are_given_back_by_lines, entries_are_stored_by_lines, epochs_have_versions,
     halted_entries_were_given_up, hit_versions_were_printed, hits_are_of_lines,
-    idle_workers_are_closed, keys_are_of_lines, lines_are_in_order, lines_are_in_order_after_marks,
-    more_readers_come_from_others, other_urls_have_the_key, parts_are_not_short,
-    parts_are_not_short_after_marks, quiet_lines_add_nothing, refusals_have_causes,
-    runs_that_fit_lose_nothing, scripts_bound_what_is_offered, spent_numbers_have_bounds,
-    versions_are_begun_by_one_line, versions_printed_alone_are_known,
+    hits_were_not_given_up, idle_workers_are_closed, keys_are_of_lines, lines_are_in_order,
+    lines_are_in_order_after_marks, more_readers_come_from_others, other_urls_have_the_key,
+    parts_are_not_short, parts_are_not_short_after_marks, quiet_lines_add_nothing,
+    refusals_have_causes, runs_that_fit_lose_nothing, scripts_bound_what_is_offered,
+    spent_numbers_have_bounds, versions_are_begun_by_one_line, versions_opened_were_there,
+    versions_printed_alone_are_known,
 };
+pub use rules::closed_crews_keep_the_rules;

@@ -5,10 +5,12 @@
 //!
 //! [`MemSource`] and [`MemSink`] keep their bytes in memory and fail where they are told to, so
 //! code can be tried out on faults. A [`Plan`] says which calls fail, here and in other crates.
-//! [`StdSource`] and [`StdSink`] stand over readers and writers of std.
+//! [`StdSource`] and [`StdSink`] stand over readers and writers of std. A [`LineBuffer`] gathers lines before a sink takes
+//! them.
 #![tactic(auto)]
 
 mod fault;
+mod line_buffer;
 mod list;
 mod mem_sink;
 mod mem_source;
@@ -19,6 +21,7 @@ mod std_sink;
 mod std_source;
 
 pub use fault::{Failed, Memory};
+pub use line_buffer::{BUFFER_BYTES, LineBuffer};
 pub use list::{Numbers, Octets, Words};
 pub use mem_sink::MemSink;
 pub use mem_source::MemSource;

@@ -1,6 +1,6 @@
 -- How the command ends at a fault of one of its parts.
-use Rattle.answer_printer.specs.declared.print.PrintFault.{PrintFault}
-use Rattle.answer_printer.specs.declared.print.PrintFault.TheVariants as printing
+use Rattle.answer_text.specs.declared.print.PrintFault.{PrintFault}
+use Rattle.answer_text.specs.declared.print.PrintFault.TheVariants as printing
 use Rattle.rock_status.specs.declared.status.Status.{Status}
 use Rattle.rock_status.specs.declared.status.Status.TheVariants.{BadScript, Memory, SinkFault, SourceFault}
 use Rattle.script_text.specs.declared.fault.ScriptFault.{ScriptFault}

@@ -1,6 +1,6 @@
 -- What a run of one worker prints that meets no fault.
 use Rattle.std.specs.Prelude.{List, ◌++◌, ◌≡◌, ℕ}
-use Rattle.answer_printer.specs.Text.{text_of}
+use Rattle.answer_text.specs.Text.{text_of}
 use Rattle.rock_disk.specs.File.{Files}
 use Rattle.run_rules.specs.Plain.{IsAnsweredPlainly}
 use Rattle.script_text.specs.Script.{IsScript}

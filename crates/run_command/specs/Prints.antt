@@ -1,6 +1,6 @@
 -- What a run prints.
 use Rattle.std.specs.Prelude.{Bool, IsTrue, List, ◌++◌, ◌≡◌, ◌⊎◌, ℕ}
-use Rattle.answer_printer.specs.Text.{text_of}
+use Rattle.answer_text.specs.Text.{text_of}
 use Rattle.rock_disk.specs.Cell.{CellState}
 use Rattle.rock_disk.specs.File.{Files}
 use Rattle.rock_io.specs.Faults.{Rose}

@@ -11,7 +11,7 @@ use Rattle.rock_status.specs.declared.status.Status.TheVariants.{BadGeometry, Ba
 use Rattle.script_text.specs.Script.{GivesBadLine, GivesScript, IsBadScript, IsScript}
 use Rattle.script_text.specs.declared.line.Line.{Line}
 
--- the file of this name has slots, and so many anchors fit them
+-- the file of this name has slots, and this number of anchors fits them
 abbrev pub Fits : Files → (name : List ℕ) → (slot anchors : ℕ) → Type 0
 Fits files name slot anchors = (slots : ℕ) × HasSlots files name slot slots × IsAnchors anchors slots
 

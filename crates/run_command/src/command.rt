@@ -1,7 +1,7 @@
 // The command `run`.
 ghost use Rattle.std.specs.Prelude.{IsTrue, length, map, ◌≡◌, ◌≤◌};
 ghost use Rattle.std.specs.FinMap.{get};
-ghost use Rattle.answer_printer.specs.Text.{text_of};
+ghost use Rattle.answer_text.specs.Text.{text_of};
 ghost use Rattle.rock_disk.specs.File.{IsNotAway, NoneAway};
 ghost use Rattle.rock_open.specs.Device.{counts};
 ghost use Rattle.rock_run.specs.Device.{EachEnded, NoneFailed};
@@ -12,7 +12,7 @@ ghost use Rattle.run_command.specs.Prints.{IsRunText, PrintEnds, RunPrints};
 ghost use Rattle.run_command.specs.Says.{IsRunRefused, MayRun, RunSays};
 
 use crate::faults::{of_print, of_script};
-use answer_printer::print_answers;
+use answer_text::print_answers;
 use rock_disk::Volume;
 use rock_io::{Sink, Source};
 use rock_run::{read_scripts_may_be_served, run_script, status_of_run};

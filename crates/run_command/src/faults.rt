@@ -2,7 +2,7 @@
 ghost use Rattle.std.specs.Prelude.{◌≡◌};
 ghost use Rattle.run_command.specs.Faults.{status_of_print, status_of_script};
 
-use answer_printer::PrintFault;
+use answer_text::PrintFault;
 use rock_status::Status;
 use script_text::ScriptFault;
 

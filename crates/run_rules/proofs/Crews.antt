@@ -20,7 +20,7 @@ use Rattle.worker_shelf.specs.Shelves.{OnShelf}
 use Rattle.crew_accounts.specs.Courses.{in_order}
 use Rattle.crew_accounts.specs.Closings.{HasClosing, Played, crew_of, worker_of}
 use Rattle.crew_accounts.specs.Playing.{HasSteps, IsPlayed, answer_to_await, fault_answers}
-use Rattle.line_rules.specs.Crews.{HasCourse, HaveCourses}
+use Rattle.line_account.specs.Crews.{HasCourse, HaveCourses}
 use Rattle.run_rules.specs.Runs.{AreCounted, AreMet, faults_in, printed_by}
 use Rattle.run_rules.proofs.Lists.{beside, both, counted, image, one, same_images, there}
 

@@ -15,7 +15,7 @@ use Rattle.line_account.specs.Deeds.{Begins, PrintsBegunVersion}
 use Rattle.line_account.specs.Lines.{Served, url_in}
 use Rattle.line_account.specs.Printed.{HadEntry, HasOtherUrl, HitIn, IsBodyAsPrinted, IsBodyOfLine, IsOldBody, IsOldUrl, IsStored, ReadsOf, old_offer}
 use Rattle.line_account.specs.Scripts.{ServesScript}
-use Rattle.line_rules.specs.Rules.{KeepsRules}
+use Rattle.line_account.specs.Rules.{KeepsRules}
 use Rattle.run_rules.specs.Printed.{AreKeysOfWinners, AreResponses, IsOfWinner}
 use Rattle.run_rules.specs.Responses.{HasTwin, IsFrontOf, IsOffered, IsResponse, IsUsed}
 use Rattle.run_rules.proofs.Lists.{not_above}

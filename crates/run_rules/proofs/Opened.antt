@@ -17,8 +17,8 @@ use Rattle.line_account.specs.Answers.{Run}
 use Rattle.line_account.specs.Closing.{Closed as ClosedCrew, Worker}
 use Rattle.line_account.specs.Printed.{HadEntry}
 use Rattle.line_account.specs.Scripts.{ServesScript}
-use Rattle.line_rules.specs.Crews.{HaveCourses}
-use Rattle.line_rules.specs.Rules.{KeepsRules}
+use Rattle.line_account.specs.Crews.{HaveCourses}
+use Rattle.line_account.specs.Rules.{KeepsRules}
 use Rattle.store_rule.specs.Closing.{Closed}
 use Rattle.store_rule.specs.Ground.{Ground}
 use Rattle.store_rule.specs.Passes.{basis, view}
@@ -155,6 +155,7 @@ module _ {C St : Type 0} (volume_tells told : Bool) (state : C → CellState) (f
       printed = printed r script accounts closing answers h.served.played.answers_are;
       met = met told state offers_of faults h.closed.store script accounts (λ j a at. h.served.played.each j a (at_place accounts j a at)) answers h.served.played.answers_are;
       stations = map faults h.stations;
+      many = length-map h.stations faults ∙ ap length (sym h.served.played.stations_left_are) ∙ length-map accounts (λ (a : Account (OnShelf C (List Line) St)). a.end.station) ∙ as_many;
       ended = h.ended;
       faults = are_counted told state offers_of faults h.closed.store script accounts (λ j a at. h.served.played.each j a (at_place accounts j a at)) laws.counts
           answers h.stations h.served.played.answers_are h.served.played.stations_left_are;

@@ -12,7 +12,7 @@ use Rattle.line_account.specs.Answers.{Run}
 use Rattle.line_account.specs.Closing.{Worker}
 use Rattle.line_account.specs.Lines.{Served}
 use Rattle.line_account.specs.Scripts.{ServesScript}
-use Rattle.line_rules.specs.Rules.{KeepsRules}
+use Rattle.line_account.specs.Rules.{KeepsRules}
 use Rattle.rock_open.specs.Device.{Counts}
 use Rattle.worker_pool.specs.Courses.{lines_of}
 use Rattle.serve_lines.specs.Answers.{is_fault}
@@ -66,6 +66,7 @@ pub record IsExplained (tells : Bool) (files : Files) (name : List ℕ) (slot an
   pub met : AreMet script answers
   -- the stations of the workers were ended, in their order, behind that of the rebuild, and each FAULT was counted
   pub stations : List ℕ
+  pub many : length stations ≡ workers  -- one station for each worker
   pub ended : HasEnded 0 stations before after
   pub faults : AreCounted answers stations
   -- the lines keep all rules

@@ -12,7 +12,7 @@ ghost use Rattle.run_rules.specs.Plain.{AreInOrder, EndedPlainly, IsAnsweredPlai
 ghost use Rattle.run_rules.specs.Runs.{IsExplained};
 
 use crew_accounts::{crews_are_closed, faults_are_counted};
-use line_rules::closed_crews_keep_the_rules;
+use line_account::closed_crews_keep_the_rules;
 use opened_runs::opened_stores_have_runs;
 use plain_runs::{closed_words_are_plain, lone_runs_are_plain, new_passes_show_plain_stores};
 use rock_disk::{Cell, Station, opened_slots_are_wide_and_few};

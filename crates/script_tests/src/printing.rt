@@ -1,7 +1,7 @@
 ghost use Rattle.std.specs.Prelude.{IfSome, vec_len, ◌≤◌};
 
 use crate::rows::numbers;
-use answer_printer::{PrintFault, print_answers};
+use answer_text::{PrintFault, print_answers};
 use rock_io::{MemSink, Octets};
 use row_text::short;
 use script_text::Answer;

@@ -7,3 +7,4 @@ pub mod Rounds
 pub mod Asked
 pub mod Named
 pub mod Served
+pub mod Whole

@@ -3,3 +3,6 @@ pub mod Urls
 pub mod Shares
 pub mod Requests
 pub mod Script
+pub mod Kinds
+pub mod Counts
+pub mod Text

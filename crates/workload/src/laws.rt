@@ -1,9 +1,11 @@
-// What the lines of a benchmark ask. The function does nothing: the proof of a function that calls it may use what it
-// ensures.
-ghost use Rattle.std.specs.Prelude.{Contains, Some, find, ℕ, ◌+◌, ◌==◌, ◌≡◌, ◌≤◌};
+// What holds of the lines of every benchmark, and of every summary. These functions do nothing: the proof of a function
+// that calls one may use what it ensures.
+ghost use Rattle.std.specs.Prelude.{Contains, List, Some, find, ℕ, ◌+◌, ◌==◌, ◌≡◌, ◌≤◌};
 ghost use mathlib.Core.Option.{some};
 ghost use lib.ListN.{get_elem?};
+ghost use Rattle.script_text.specs.declared.answer.Answer.{Answer};
 ghost use Rattle.script_text.specs.declared.line.Line.{Line};
+ghost use Rattle.workload.specs.Counts.{kinds_in, summary_of};
 ghost use Rattle.workload.specs.Requests.{NamesUrl};
 ghost use Rattle.workload.specs.Script.{bench_lines};
 
@@ -18,4 +20,9 @@ pub fn bench_lines_may_be_served()
         → NamesUrl line.request }
     ensures numbers { (seed workers count k : ℕ) (line : Line) → get_elem? (bench_lines seed workers count) k ≡ some line
         → line.number ≡ k + 1 }
+{}
+
+/// Each answer is counted as one kind, so the requests of a summary are the sum of the six kinds.
+pub fn answers_are_of_one_kind()
+    ensures { (answers : List Answer) → (summary_of answers).requests ≡ kinds_in (summary_of answers) }
 {}

@@ -66,7 +66,7 @@ impl Draft {
     }
 }
 
-/// The script of a benchmark for so many workers, of so many rounds, from a seed.
+/// The script of a benchmark for `workers` workers, of `count` rounds, from a seed.
 ///
 /// # Errors
 ///

@@ -2,7 +2,7 @@
 ghost use Rattle.std.specs.Prelude.{◌<◌};
 
 use super::calls::call;
-use crowd_rules::{WORKERS, judge, lines_about, script_of};
+use crowd_kit::{WORKERS, judge, lines_about, script_of};
 use rock_disk::MemVolume;
 use rock_status::Status;
 use std::alloc::Global;

@@ -1,6 +1,6 @@
 // A station gives other bytes than were written.
 use super::calls::call;
-use odd_volumes::Lying;
+use crowd_kit::Lying;
 use rock_disk::Stations;
 use rock_status::Status;
 use std::test::Fail;
@@ -19,7 +19,7 @@ const OTHER: &str = "\
 1 put http://a/b =hello -> STORED 2
 ";
 
-/// The same where only the second read is a lie.
+/// What a worker asks, and how it is answered, where only the second read is a lie.
 const OTHER_ONCE: &str = "\
 1 put http://a/b =hello -> STORED 1
 1 get http://a/b -> HIT 1 5 68656c6c6f
@@ -31,7 +31,7 @@ const OTHER_ONCE: &str = "\
 1 put http://a/b =hello -> STORED 2
 ";
 
-/// The same where the slot is given as one of the entry.
+/// What a worker asks, and how it is answered, where the slot is given as one of the entry.
 const GIVEN: &str = "\
 1 put http://a/b =hello -> STORED 1
 1 get http://a/b -> HIT 1 5 68656c6c6f

@@ -1,6 +1,6 @@
 // Workers of which one waits for another.
 use super::calls::call;
-use odd_volumes::{Meeting, Part};
+use crowd_kit::{Meeting, Part};
 use rock_status::Status;
 use std::alloc::Global;
 use std::process::Abort;

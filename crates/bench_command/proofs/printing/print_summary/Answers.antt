@@ -1,7 +1,7 @@
 use Rattle.std.proofs.Common.{ap, subst, ◌∙◌, ◌≡◌}
-use Rattle.bench_summary.specs.Counts.{summary_of}
-use Rattle.bench_summary.specs.Text.{summary_line}
-use Rattle.bench_summary.specs.declared.summary.Summary.{Summary}
+use Rattle.workload.specs.Counts.{summary_of}
+use Rattle.workload.specs.Text.{summary_line}
+use Rattle.workload.specs.declared.summary.Summary.{Summary}
 use Rattle.file_commands.specs.Report.{ReportPrints}
 use Rattle.bench_command.proofs.printing.print_summary.Goals as goal
 

@@ -13,7 +13,7 @@ use Rattle.bench_command.specs.Ends.{RunSays}
 use Rattle.bench_command.specs.Leaves.{RunClosed, RunKept, RunLeaves}
 use Rattle.bench_command.specs.Numbers.{anchors_for, slot_size}
 use Rattle.bench_command.proofs.Plain.{sized}
-use Rattle.bench_command.proofs.Printed.{by_end, told_so}
+use Rattle.bench_command.proofs.Printed.{by_end, run_ends, told_so}
 use Rattle.bench_command.proofs.Ran.{refused_leaves}
 use Rattle.bench_command.proofs.Served.{lines_served}
 use Rattle.bench_command.proofs.running.run_bench.Goals as goal
@@ -25,6 +25,9 @@ run_script-requires-clause-lines g c κs within =
     let few = c.requires.numbers.passes.to in
     subst (MayBeServed t.workers) (sym c.in-Ok.ensures)
     (lines_served t.workers _ (λ line among. law.within t.seed t.workers t.count line among) (λ line among. law.found t.seed t.workers t.count line among) (λ line among. law.named t.seed t.workers t.count line few among))
+
+pub returns-in-Ok-run_script-clause-ends : goal.returns-in-Ok-run_script-clause-ends
+returns-in-Ok-run_script-clause-ends g c = run_ends c.args.target.now.workers _ _ _ _ c.print_summary.result c.print_summary.ensures.ends
 
 pub returns-in-Ok-run_script-clause-says : goal.returns-in-Ok-run_script-clause-says
 returns-in-Ok-run_script-clause-says g c told has = by_end RunSays _ _ c.print_summary.result c.print_summary.ensures.ends tt tt tt

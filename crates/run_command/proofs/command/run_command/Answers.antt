@@ -1,7 +1,7 @@
 use Rattle.std.proofs.Common.{ap, arith, length, map, ◌∙◌}
 use Rattle.std.proofs.lemmas.Bool.{false≢true}
 use Rattle.std.proofs.lemmas.List.{length-map}
-use Rattle.answer_printer.specs.Text.{text_of}
+use Rattle.answer_text.specs.Text.{text_of}
 use Rattle.rock_run.proofs.Outcomes.{ok_not_err}
 use Rattle.run_command.proofs.Filed.{fits_when_opened}
 use Rattle.run_command.proofs.Printed.{many, printed_complete, printed_ends, printed_leaves, printed_prints, printed_refused, printed_says, within}

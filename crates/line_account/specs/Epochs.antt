@@ -1,0 +1,37 @@
+-- Where the epochs and the versions come from that lines print.
+use Rattle.std.specs.Prelude.{List, true, ◌<◌, ◌≡◌, ◌≢◌, ◌≤◌, ◌⊎◌, ℕ}
+use Rattle.lock_word.specs.Words.{doom_of, stage_of, version_of}
+use Rattle.lock_word.specs.declared.epoch.Epoch.{Epoch}
+use Rattle.script_text.specs.declared.answer.Answer.TheVariants as answer
+use Rattle.core_model.specs.Anchors.{opening_counter, opening_epoch}
+use Rattle.line_account.specs.Answers.{Run}
+use Rattle.line_account.specs.Closing.{BegunIn, HaltedIn, LineIn, PrintsDoomed, PrintsHalted, PurgedIn, ShownIn, SomeHalted, StoredIn, Worker}
+use Rattle.line_account.specs.Order.{PrintsAlone}
+use Rattle.line_account.specs.Printed.{GivenBackIn, HadEntry, PrintsOpen}
+
+module _ {X : Type 0} (r : Run X) (crew : List (Worker X)) where
+  pub record EpochsHaveCauses : Type 0 where
+    -- An epoch with a version of the opening is one of its anchor's entry of then: not at TAKEN, APPENDING or HALTED, but at the stage that it had, or its entry is
+    -- given back.
+    pub old : (a e : ℕ) → ShownIn r crew a e → version_of e ≤ opening_counter r.setting
+        → (version_of e ≡ version_of (opening_epoch r.setting a)) × (stage_of e ≢ 1) × (stage_of e ≢ 2) × (stage_of e ≢ 4)
+    pub stage : (a e : ℕ) → ShownIn r crew a e → version_of e ≤ opening_counter r.setting → (stage_of e ≡ stage_of (opening_epoch r.setting a)) ⊎ (5 ≤ stage_of e)
+    -- one with a later version has one that a line began there
+    pub new : (a e : ℕ) → ShownIn r crew a e → opening_counter r.setting < version_of e → BegunIn r crew a (version_of e)
+    -- so is a version that is printed alone, by BEGUN, STORED, DOOMED, OPEN or HIT
+    pub alone_old : (a x : ℕ) → LineIn crew (λ earlier s. PrintsAlone r.setting.anchors earlier s a x) → x ≤ opening_counter r.setting → x ≡ version_of (opening_epoch r.setting a)
+    pub alone_new : (a x : ℕ) → LineIn crew (λ earlier s. PrintsAlone r.setting.anchors earlier s a x) → opening_counter r.setting < x → BegunIn r crew a x
+    -- and a version of the opening is opened only where the anchor had an entry then
+    pub opened_old : (a x : ℕ) → LineIn crew (λ earlier s. PrintsOpen r.setting.anchors s a x) → x ≤ opening_counter r.setting → HadEntry r a
+    -- a begun version is CLOSED and not doomed only where its writing printed STORED
+    pub stored : (a e : ℕ) → ShownIn r crew a e → opening_counter r.setting < version_of e → doom_of e ≡ 0 → stage_of e ≡ 3 → StoredIn r crew a (version_of e)
+    -- an epoch is at HALTED only where the writing of its version was halted, and HALTED is printed only where a writing at the anchor was
+    pub halted : (a e : ℕ) → ShownIn r crew a e → stage_of e ≡ 4 → HaltedIn r crew a (version_of e)
+    pub halted_line : (a : ℕ) → LineIn crew (λ earlier s. PrintsHalted r.setting.anchors earlier s a) → SomeHalted r crew a
+    -- an epoch is doomed, and DOOMED printed, only where a line printed PURGED with the version
+    pub doomed : (a e : ℕ) → ShownIn r crew a e → doom_of e ≡ 1 → PurgedIn r crew a (version_of e)
+    pub doomed_line : (a x : ℕ) → LineIn crew (λ earlier s. PrintsDoomed r.setting.anchors earlier s a x) → PurgedIn r crew a x
+    -- the epoch of PURGED is doomed
+    pub purged : (e : Epoch) → LineIn crew (λ earlier s. s.answer ≡ answer.Purged e) → e.doom ≡ true
+    -- an epoch at HALTED, FREEING or GONE is not doomed only where the writing of its version was halted, or some line may have evicted an entry
+    pub given_back : (a e : ℕ) → ShownIn r crew a e → doom_of e ≡ 0 → 4 ≤ stage_of e → GivenBackIn r crew a (version_of e)

@@ -1,0 +1,52 @@
+// The lines of workers whose accounts are closed keep all rules. The function here does nothing: the proof of a function
+// that calls it may use what it ensures.
+ghost use Rattle.std.specs.Prelude.{List};
+ghost use Rattle.script_text.specs.declared.line.Line.{Line};
+ghost use Rattle.line_account.specs.Answers.{Run};
+ghost use Rattle.line_account.specs.Closing.{Closed, Worker};
+ghost use Rattle.line_account.specs.Scripts.{ServesScript};
+ghost use Rattle.line_account.specs.Crews.{HaveCourses};
+ghost use Rattle.line_account.specs.Rules.{KeepsRules};
+
+use crate::laws::{
+    added_counts_are_exact, begun_versions_have_bounds, bytes_are_of_lines,
+    doomed_entries_were_purged, ends_tell_the_version_begun, entries_are_given_back_by_lines,
+    entries_are_stored_by_lines, epochs_have_versions, halted_entries_were_given_up,
+    hit_versions_were_printed, hits_are_of_lines, hits_were_not_given_up, keys_are_of_lines,
+    lines_are_in_order, lines_are_in_order_after_marks, more_readers_come_from_others,
+    other_urls_have_the_key, parts_are_not_short, parts_are_not_short_after_marks,
+    refusals_have_causes, scripts_bound_what_is_offered, spent_numbers_have_bounds,
+    versions_are_begun_by_one_line, versions_opened_were_there, versions_printed_alone_are_known,
+};
+
+/// Where the accounts of workers are closed who served a script, each has its course, and marks hand on what their setters
+/// knew, the lines of these workers keep all rules.
+pub fn closed_crews_keep_the_rules<X>()
+    ensures { (r : Run X) (script : List Line) (crew : List (Worker X)) → Closed r crew → ServesScript script crew → HaveCourses r crew → KeepsRules r script crew }
+{
+    added_counts_are_exact::<X>();
+    begun_versions_have_bounds::<X>();
+    bytes_are_of_lines::<X>();
+    doomed_entries_were_purged::<X>();
+    ends_tell_the_version_begun::<X>();
+    entries_are_given_back_by_lines::<X>();
+    entries_are_stored_by_lines::<X>();
+    epochs_have_versions::<X>();
+    halted_entries_were_given_up::<X>();
+    hit_versions_were_printed::<X>();
+    hits_are_of_lines::<X>();
+    hits_were_not_given_up::<X>();
+    keys_are_of_lines::<X>();
+    lines_are_in_order::<X>();
+    lines_are_in_order_after_marks::<X>();
+    more_readers_come_from_others::<X>();
+    other_urls_have_the_key::<X>();
+    parts_are_not_short::<X>();
+    parts_are_not_short_after_marks::<X>();
+    refusals_have_causes::<X>();
+    scripts_bound_what_is_offered::<X>();
+    spent_numbers_have_bounds::<X>();
+    versions_are_begun_by_one_line::<X>();
+    versions_opened_were_there::<X>();
+    versions_printed_alone_are_known::<X>();
+}

@@ -1,2 +1,0 @@
-mod Stages
-mod Courses
