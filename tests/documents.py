@@ -2,12 +2,15 @@
 """What the documents say of the crates and of the program's messages, compared with the sources: documents.py
 
 The layers in README.md, its table, and the levels and the table of docs/CRATES.md have each crate of crates.txt once,
-and no other. A crate stands on crates of its own layer and of those below it, and of lower levels alone. README.md
+and no other. A crate stands on crates of its own layer and of those below it, and of lower levels alone. crates.txt has
+the layers of README.md, each under its heading, the lowest first, and a crate stands there after all that it lists and
+lists only what its files use. README.md
 tells rightly which crates the program does without, and how many it takes. The way of a line names crates alone.
 docs/OPERATING.md has each line that the program says on standard error, with its code, and no other; a test of help_tests
 and a row of tests/real_files.sh have each too. docs/FORMATS.md and docs/rock.1 have the codes. This reads files alone,
 and stands outside the gate. Its status is 0 where all is so.
 """
+import glob
 import os
 import re
 import sys
@@ -69,10 +72,37 @@ def layers(below, program, picture):
         holds(f"the layers of README.md: {name} is in brackets or not", bool(bracket) == (name not in program))
 
 
+def files_of(name):
+    """The sources, definitions and proofs of a crate, without comments that are lines of their own."""
+    found = [path for part in ("src", "specs", "proofs") for path in glob.glob(f"{ROOT}/crates/{name}/{part}/**/*.*", recursive=True)]
+    texts = [open(path, encoding="utf-8").read() for path in found]
+    return re.sub(r"(?m)^ *(//|--).*$", "", "\n".join(texts))
+
+
+def listing(picture):
+    """crates.txt has the layers of README.md from the lowest up, each crate after all that it lists and uses."""
+    text = read("crates.txt")
+    titles = re.findall(r"(?m)^\+-- (.*?) -+\+$", picture)
+    rows = [set(re.findall(r"\w+", row)) for row in re.split(r"(?m)^\+-.*$", picture) if row.strip()]
+    parts = re.split(r"(?m)^\n# (.*)\n", text)[1:]
+    names = [re.findall(r"(?m)^(\w+)[^:\n]*:", part) for part in parts[1::2]]
+    holds("crates.txt has the headings of README.md", parts[0::2] == titles[::-1])
+    holds("crates.txt has each layer of README.md", [set(layer) for layer in names] == rows[::-1])
+    seen = set()
+    for name, below in re.findall(r"(?m)^(\w+)[^:\n]*:(.*)$", text):
+        source = files_of(name)
+        for crate in below.split():
+            holds(f"crates.txt: {name} stands after {crate}", crate in seen or not os.path.exists(f"{ROOT}/crates/{crate}"))
+            is_used = re.search(rf"\bRattle\.{crate}\.|\b{crate}::|\buse {crate}\b", source)
+            holds(f"crates.txt: {name} uses {crate}", is_used)
+        seen.add(name)
+
+
 def readme(below):
     program, text = needed(below, "rock_main"), read("README.md")
     picture, way = re.findall(r"(?s)```text\n(.*?)```", text)
     layers(below, program, picture)
+    listing(picture)
     strange = set(re.findall(r"[a-z]+_[a-z]+", way)) - set(below)
     holds(f"the way of a line names crates alone: {sorted(strange)}", not strange)
     rows = re.findall(r"(?m)^\| (\[.*?) \| (yes|no) \|", text)
