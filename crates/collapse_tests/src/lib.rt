@@ -1,0 +1,5 @@
+//! Tests of forwarding.
+#![tactic(auto)]
+
+#[cfg(test)]
+mod fetching;
