@@ -21,7 +21,7 @@ slots_when_opened state cells {slot = slot} s count o = record {
   count = sym (length-map cells state) ∙ count ∙ ap (λ n. slots_of n slot) o.size;
 }
 
-one_file : {f g : File} {o : Option File} → o ≡ Some f → o ≡ Some g → f ≡ g
+pub one_file : {f g : File} {o : Option File} → o ≡ Some f → o ≡ Some g → f ≡ g
 one_file e k = cc
 
 -- a file has one number of slots

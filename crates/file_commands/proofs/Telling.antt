@@ -40,7 +40,7 @@ one_ended {faults = faults} {e = e} same made ended none =
 pub kept_on : {v v1 v2 v' : ℕ} {e e1 e2 e' : List ℕ} → v1 ≡ v → e1 ≡ e → v' ≡ v2 → e' ≡ e2 → DeviceKept v1 v2 e1 e2 → DeviceKept v v' e e'
 kept_on p q r s k = record { volume = r ∙ k.volume ∙ p; station = λ count is. k.station count (sym s ∙ is ∙ ap (λ l. l ++ count ∷ []) (sym q)) }
 
-failed_on : (v v1 v2 v' : ℕ) (e e1 e2 e' : List ℕ) → v1 ≡ v → e1 ≡ e → v' ≡ v2 → e' ≡ e2 → DeviceFailed v1 v2 e1 e2 → DeviceFailed v v' e e'
+pub failed_on : (v v1 v2 v' : ℕ) (e e1 e2 e' : List ℕ) → v1 ≡ v → e1 ≡ e → v' ≡ v2 → e' ≡ e2 → DeviceFailed v1 v2 e1 e2 → DeviceFailed v v' e e'
 failed_on v v1 v2 v' e e1 e2 e' p q r s (inl rose) = inl (subst (λ x. Rose x v') p (subst (λ x. Rose v1 x) (sym r) rose))
 failed_on v v1 v2 v' e e1 e2 e' p q r s (inr ended) = inr (ended.0, s ∙ ended.1 ∙ ap (λ l. l ++ ended.0 ∷ []) q, ended.2)
 

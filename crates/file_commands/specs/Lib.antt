@@ -4,3 +4,4 @@ pub mod Faults
 pub mod Device
 pub mod Report
 pub mod Create
+pub mod ReportFor

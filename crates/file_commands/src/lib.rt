@@ -6,10 +6,12 @@
 #![tactic(auto)]
 
 mod create;
+mod found;
 mod listing;
 mod read;
 mod report;
 mod summary;
 
 pub use create::create_file;
+pub use found::print_report_for;
 pub use report::{Report, print_report};

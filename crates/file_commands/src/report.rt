@@ -110,7 +110,7 @@ fn print_through<K: Sink>(
 }
 
 /// Prints what was read, through one buffer. Nothing is printed where there is no memory for it.
-fn print_reading<K: Sink>(alloc: Global, out: &mut K, reading: &Reading) -> Status
+pub(crate) fn print_reading<K: Sink>(alloc: Global, out: &mut K, reading: &Reading) -> Status
     ensures ends { PrintEnds (K.faults out.old) (K.faults out.new) result }
     ensures prints { IsTrue K.tells
         → ReportPrints (λ text. text ≡ text_of reading.now) (K.taken out.old) (K.taken out.new) result }

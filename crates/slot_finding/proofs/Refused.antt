@@ -39,10 +39,10 @@ handed_on fault want (Ok x) h k p = absurd h
 handed_on fault want (Err e) h k p = let w = k p in cc
 
 module _ (files : Files) (name : List ℕ) where
-  no_file : {recorded : Option Geometry} {bytes : ℕ} → FileRecords files name recorded bytes → get files name ≡ None → ⊥
+  pub no_file : {recorded : Option Geometry} {bytes : ℕ} → FileRecords files name recorded bytes → get files name ≡ None → ⊥
   no_file f none = let found = f.there.found in cc
 
-  no_header : {recorded : Option Geometry} {bytes n : ℕ} → FileRecords files name recorded bytes → IsSmall files name 0 n → ⊥
+  pub no_header : {recorded : Option Geometry} {bytes n : ℕ} → FileRecords files name recorded bytes → IsSmall files name 0 n → ⊥
   no_header f s =
       let same : s.was ≡ f.there.was = same_some (sym s.found ∙ f.there.found) in
       let long = ap (λ (w : File). length (bytes_of w)) same in

@@ -1,13 +1,17 @@
 -- The slot size of a file: its header area records it, or it was given.
-use Rattle.std.specs.Prelude.{◌≡◌, ◌≢◌, ◌⊎◌, ◌<◌, Err, IsErrOf, List, None, Ok, Option, Result, Some, ℕ}
+use Rattle.std.specs.Prelude.{◌≡◌, ◌≢◌, ◌⊎◌, ◌<◌, Err, IfSome, IsErrOf, List, None, Ok, Option, Result, Some, ℕ}
 use Rattle.std.specs.FinMap.{get}
 use Rattle.db_layout.specs.declared.geometry.Geometry.{Geometry}
 use Rattle.db_layout.specs.Geometry.{IsMarked, Records}
 use Rattle.db_layout.specs.Layout.{IsSlotSize, slots_of}
-use Rattle.rock_disk.specs.File.{Files}
+use Rattle.rock_disk.specs.File.{Files, IsKept}
 use Rattle.rock_disk.specs.Opened.{IsPeeked, IsSmall}
 use Rattle.slot_finding.specs.declared.finding.FindFault.{FindFault}
 use Rattle.slot_finding.specs.declared.finding.FindFault.TheVariants.{BadGeometry, Failed, Memory, Missing, Small}
+
+-- where a size is given, slots may have it
+abbrev pub IsGiven : (given : Option ℕ) → Type 0
+IsGiven given = IfSome given IsSlotSize
 
 -- a file of so many bytes has slots of this size, and this many, at least one
 pub record Fits (g : Geometry) (bytes : ℕ) : Type 0 where
@@ -77,3 +81,27 @@ FindingSays files name given fault = Unit {0}
 -- this is the answer, unless the volume failed or memory was wanting
 abbrev pub AnswersOrFails : (answer result : Result ℕ FindFault) → Type 0
 AnswersOrFails answer result = (result ≡ answer) ⊎ (IsErrOf result Failed ⊎ IsErrOf result Memory)
+
+-- the number of this field refuses a file whose slot size is not known, by what was given
+abbrev pub IsUnknown : (given : Option ℕ) → (field : ℕ) → Type 0
+IsUnknown given field = (field ≡ 6) ⊎ (((field ≡ 5) × ((n : ℕ) × (given ≡ Some n))) ⊎ ((field ≡ 7) × (given ≡ None)))
+
+-- the file and what was given have a slot size, of which this holds
+abbrev pub WithSlot : Files → (name : List ℕ) → (given : Option ℕ) → (ℕ → Type 0) → Type 0
+WithSlot files name given P = (slot : ℕ) × FindsSlot files name given slot × P slot
+
+-- the file is shorter than its header area, or too short for one slot of its size
+abbrev pub IsTooSmall : Files → (name : List ℕ) → (given : Option ℕ) → (bytes : ℕ) → Type 0
+IsTooSmall files name given bytes = IsSmall files name 0 bytes ⊎ WithSlot files name given (λ slot. IsSmall files name slot bytes)
+
+-- what a refusal says of the file, by the number of its field: with field 2 this of the file's slot size, and with each other field of a file
+-- whose slot size is not known why it is not
+pub record FieldSays (Unfit : ℕ → Type 0) (files : Files) (name : List ℕ) (given : Option ℕ) (field : ℕ) : Type 0 where
+  pub unfit : field ≡ 2 → WithSlot files name given Unfit
+  pub wrong : field ≡ 6 → RecordsMisfit files name
+  pub differs : field ≡ 5 → RecordsOther files name given
+  pub unknown : field ≡ 7 → TellsNoSlot files name given
+
+-- the file is as it was, or as opening cuts it by its slot size, and the other files are as they were
+abbrev pub IsKeptFor : (name : List ℕ) → (given : Option ℕ) → Files → Files → Type 0
+IsKeptFor name given before after = (after ≡ before) ⊎ WithSlot before name given (λ slot. IsKept slot name before after)

@@ -4,7 +4,7 @@ ghost use Rattle.db_layout.specs.Layout.{IsSlotSize};
 ghost use Rattle.rock_disk.specs.File.{IsNotAway};
 ghost use Rattle.rock_disk.specs.Opened.{IsSmall};
 ghost use Rattle.rock_io.specs.Faults.{Rose};
-ghost use Rattle.slot_finding.specs.Finding.{AnswersOrFails, FileRecords, FindingSays, FindsSlot, Fits, Judged, RecordsMisfit, RecordsOther, TellsNoSlot};
+ghost use Rattle.slot_finding.specs.Finding.{AnswersOrFails, FileRecords, FindingSays, FindsSlot, Fits, IsGiven, Judged, RecordsMisfit, RecordsOther, TellsNoSlot};
 ghost use Rattle.slot_finding.specs.declared.finding.FindFault.TheVariants.{BadGeometry};
 
 use db_layout::{
@@ -37,6 +37,16 @@ pub enum FindFault {
 pub struct Looked {
     pub recorded: Option<Geometry>,
     pub bytes: u64,
+}
+
+/// Whether slots may have the size that is given, where one is.
+pub fn may_be_given(given: Option<u32>) -> bool
+    ensures { IsTrue result ↔ IsGiven given }
+{
+    match given {
+        Some(slot) => slot_size_ok(slot),
+        None => true,
+    }
 }
 
 /// Whether a file of so many bytes has such slots, and as many.

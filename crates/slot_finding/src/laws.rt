@@ -5,8 +5,6 @@ ghost use Rattle.db_layout.specs.Layout.{IsSlotSize};
 ghost use Rattle.rock_disk.specs.File.{Files};
 ghost use Rattle.slot_finding.specs.Finding.{FindsSlot, RecordsMisfit, RecordsOther, TellsNoSlot};
 
-use db_layout::geometries_are_read_as_written;
-
 /// A file and what was given have one slot size at most. Where they have one, slots may have it if they may have
 /// what was given, and there is no cause for a refusal.
 pub fn one_slot_is_found()
@@ -20,6 +18,4 @@ pub fn one_slot_is_found()
         → FindsSlot files name given slot → RecordsOther files name given → ⊥ }
     ensures known { (files : Files) (name : List ℕ) (given : Option ℕ) (slot : ℕ)
         → FindsSlot files name given slot → TellsNoSlot files name given → ⊥ }
-{
-    geometries_are_read_as_written();
-}
+{}
