@@ -1,9 +1,11 @@
 #!/usr/bin/env bash
 # Plays the random walk of walk_tests, and after each step reads off the state what must hold between two steps:
-# readers, writers, freers and last tabs, the counter, what was seen, the place of each slot, the links of
-# chains, turns and their holders, and what cells hold. Clauses say all of this of every step, so this tries
-# the tools and not the code, and it is no part of the gate. It works on a copy. The first run proves the
-# crates in it, which takes many minutes; the kit's command rt must be on the path.
+# readers, writers, freers and last tabs, the counters, what was seen, the place of each slot, the links of
+# chains, turns and their holders, what cells hold, and which pieces were logged for them. Clauses say most of
+# this of every step, so this tries the tools and not the code, and it is no part of the gate. It works on a
+# copy, and proves the crates there that are not proved here, which takes many minutes; the walk itself takes
+# seconds. The kit's command rt must be on the path. `state_walk.sh try` plays the walk by `rt try`, with no
+# proof; it is slow then, and may take an hour.
 set -eu -o pipefail
 
 root=$(dirname "$(readlink -f "${BASH_SOURCE[0]}")")/..
@@ -12,6 +14,9 @@ trap 'rm -rf "$copy"' EXIT
 
 cd "$root"
 git ls-files -z crates crates.txt HANDLES | xargs -0 cp --parents -t "$copy"
+for built in crates/*/out/rlib/stamp; do
+    [ -e "$built" ] && cp -a --parents "$(dirname "$built")" "$copy"
+done
 walk=$copy/crates/walk_tests/src/walk
 mkdir "$walk/checks"
 for file in tests/state_walk/*.txt; do
@@ -25,4 +30,8 @@ sed -i 's/^mod choice;$/mod checks;\nmod choice;/
 grep -q 'checks::check' "$walk.rt"
 
 cd "$copy/crates/walk_tests"
-RT_SECONDS=${RT_SECONDS:-600} rt test
+if [ "${1:-}" = try ]; then
+    rt try --test --seconds "${RT_SECONDS:-7200}"
+else
+    RT_SECONDS=${RT_SECONDS:-600} rt test
+fi

@@ -1,5 +1,5 @@
 -- Steps that take an anchor or free its entry, as they are worked out.
-use Rattle.std.proofs.Common.{◌≡◌, ◌⊎◌, inl, inr, ⊎_elim, ◌<◌, ◌≤◌, ◌==◌, ℕ, [], ◌∷◌, Option, Some, None, Bool, true, false, cond, length, get_or, refl, sym, ap, ◌∙◌, subst, arith, set, sum_by, ltb, eq-eqb}
+use Rattle.std.proofs.Common.{◌≡◌, ◌≢◌, ◌⊎◌, inl, inr, ⊎_elim, ◌<◌, ◌≤◌, ◌==◌, ℕ, [], ◌∷◌, Option, Some, None, Bool, true, false, cond, length, get_or, refl, sym, ap, ◌∙◌, subst, arith, set, sum_by, ltb, eq-eqb, ne_eqb}
 use Rattle.std.specs.Prelude.{slice_index, nat_lt, if◌then◌else◌}
 use Rattle.std.specs.Option.{option_to_list}
 use Rattle.lock_word.specs.declared.stage.Stage.TheVariants.{Taken, Freeing as FreeingStage}
@@ -23,6 +23,7 @@ use Rattle.core_model.specs.AnchorMoves.{MayTake, MayEvict, freer_of, writer_of,
 use Rattle.core_change.specs.declared.change.ChainChange.TheVariants as chains
 use Rattle.core_change.specs.declared.change.NotesChange.TheVariants as notes
 use Rattle.core_change.specs.declared.change.TabsChange.{TabsChange}
+use Rattle.core_change.specs.declared.change.TabsChange.TheVariants as tabs
 use Rattle.core_table.specs.declared.content.Content.{Content}
 use Rattle.core_table.specs.declared.table.Opening.{Opening}
 use Rattle.core_table.specs.declared.table.Table.{Table}
@@ -58,6 +59,10 @@ module _ (o : Opening) (t : Table) (v : View Content) (scene : IsScene o t v) (a
   -- the word is still the one that was found
   pub won : found ≡ last → (slice_index t.words.items (anchor_index a) == last_find a v.trail) ≡ true
   won e = eq-eqb _ _ (n ∙ e ∙ last_is)
+
+  -- it is another one
+  pub lost : last ≢ found → (slice_index t.words.items (anchor_index a) == last_find a v.trail) ≡ false
+  lost ne = ne_eqb _ _ (λ e. ne (last_is ∙ sym e ∙ n))
 
   module _ (at version : ℕ) (may : MayTake v at a version) where
     pub take_won : (left own seen : ℕ) (met : Option ℕ) (idle : Bool) (change : TabsChange) (c e : Chain) (base : Addition) (index : ℕ)
@@ -204,4 +209,58 @@ module _ (o : Opening) (t : Table) (v : View Content) (scene : IsScene o t v) (a
           turn = tt;
           tabs = subst (λ (y : TabsChange). FitsTabs v y) (sym change_is) (let nine = nine in let le = within_tabs in ((omega arith), (omega arith)));
           chain = let many = scene.sound.shaped.chains in omega arith;
+        }
+
+    pub evict_lost : (own seen : ℕ) (met : Option ℕ) (base : Addition) (index : ℕ)
+        → last ≢ found
+        → own ≡ sum_by (counts a) v.tabs
+        → option_to_list met ≡ (if nat_lt own w.readers then a ∷ [] else [])
+        → seen ≡ epoch_of found
+        → base ≡ anchor_addition kind.Changed a found found seen
+        → index ≡ anchor_index a
+        → Plans o t v (move.Evict at a) record {
+          answer = found;
+          word = Some record { index = index; left = found };
+          turn = turns.Same;
+          tabs = tabs.Put at Free;
+          chain = chains.Same;
+          used = None;
+          addition = record {
+            item = base.item;
+            trace = base.trace;
+            sight = base.sight;
+            names = base.names;
+            learned = base.learned;
+            deed = base.deed;
+            met = met;
+            drawn = base.drawn;
+          };
+          notes = notes.Same;
+        }
+    evict_lost own seen met base index ne own_is met_is seen_is base_is index_is =
+        let no = lost ne in
+        let leaves_ : cond (slice_index t.words.items (anchor_index a) == last_find a v.trail) (evicted (slice_index t.words.items (anchor_index a))) (slice_index t.words.items (anchor_index a)) ≡ found =
+        ap (λ b. cond b (evicted (slice_index t.words.items (anchor_index a))) (slice_index t.words.items (anchor_index a))) no ∙ n in
+        record {
+          allowed = (within, may);
+          answers = sym n;
+          matches = anchored o t v (move.Evict at a) a found found seen kind.Changed _ _ _ _ _ base index base_is index_is
+              record {
+                at = refl;
+                leaves = leaves_;
+                item = λ j. record { kind = kind.Changed; at = a; found = n j };
+                sees = λ j. Stood a ((ap epoch_of leaves_ ∙ sym seen_is) j) ∷ [];
+                places = refl;
+                views = λ i. refl;
+              }
+              (sym (ap (λ b. cond b (evicted_tabs v at a (finding (setting o) (state t) v (move.Evict at a))) (set v.tabs at Free)) no))
+              refl
+              (ap (λ (b : Addition). option_to_list b.deed) base_is
+              ∙ sym (ap (λ b. cond b (record { pass = v.pass; kind = kind.Changed; anchor = a; epoch = epoch_of (evicted (slice_index t.words.items (anchor_index a))); was_idle = is_idle (slice_index t.words.items (anchor_index a)) } ∷ []) []) no))
+              (met_is ∙ (λ j. cond (ltb (own_is j) (sym readers j)) (a ∷ []) []))
+              (sym (ap (λ b. cond b (set t.chains.items a no_chain) t.chains.items) no));
+          word = let there = word_there o t v scene a within in omega (arith, index_is, there);
+          turn = tt;
+          tabs = let nine = nine in let le = within_tabs in omega arith;
+          chain = tt;
         }

@@ -14,10 +14,10 @@ ghost use Rattle.core_change.specs.Tabs.{changed_tab};
 
 use crate::writers::start_number;
 use core_change::{
-    ChainChange, Change, INNER, NotesChange, Refusal, TabChange, TabsChange, TurnChange,
-    WordChange, anchor_of, inner_is_free, tab_at, word_addition,
+    ChainChange, Change, NotesChange, Refusal, TabChange, TabsChange, TurnChange, WordChange,
+    anchor_of, inner_is_free, tab_at, word_addition,
 };
-use core_model::{Kind, Place, Side, Sight, Tab, View, Writer};
+use core_model::{INNER_TAB, Kind, Place, Side, Sight, Tab, View, Writer};
 use core_table::{Content, Opening, Table};
 
 /// Which of the words beside an anchor it is, counted from 0.
@@ -149,7 +149,7 @@ pub fn store_side(
 {
     // What the word was does not matter.
     let _ = table;
-    if tab >= INNER || !inner_is_free(view) {
+    if tab >= INNER_TAB || !inner_is_free(view) {
         return Err(Refusal::NotAllowed);
     }
     let Some(now) = tab_at(view, tab) else {

@@ -13,10 +13,10 @@ ghost use Rattle.core_anchors.specs.Taking.{taken_change, evicted_change};
 use crate::recall::{drew_since, last_find, met, readers_here};
 use crate::tabs::{freer_of, writer_of};
 use core_change::{
-    ChainChange, Change, INNER, NotesChange, Refusal, TabsChange, TurnChange, WordChange,
-    anchor_addition, inner_is_free, tab_at,
+    ChainChange, Change, NotesChange, Refusal, TabsChange, TurnChange, WordChange, anchor_addition,
+    inner_is_free, tab_at,
 };
-use core_model::{Addition, Chain, Deed, Kind, Place, Tab, View};
+use core_model::{Addition, Chain, Deed, INNER_TAB, Kind, Place, Tab, View};
 use core_table::{Content, Opening, Table, no_chain};
 use lock_word::{
     Epoch, Stage, Word, epoch_bits, is_idle, is_idle_number, is_left_over_number, is_vacant_number,
@@ -34,7 +34,7 @@ fn word_to_take(view: &View<Content>, tab: u8, anchor: u32, version: u32) -> Opt
 {
     let trail = view.trail.as_slice();
     let last = last_find(anchor, trail)?;
-    let may_take = tab < INNER
+    let may_take = tab < INNER_TAB
         && matches!(tab_at(view, tab), Some(Tab::Free))
         && view.held.as_slice().contains(&version)
         && drew_since(version, anchor, trail)
@@ -52,9 +52,9 @@ fn word_to_evict(view: &View<Content>, tab: u8, anchor: u32) -> Option<u64>
 {
     let last = last_find(anchor, view.trail.as_slice()).unwrap_or(0);
     let may_evict = match tab_at(view, tab)? {
-        Tab::Free => tab == INNER && is_idle_number(last),
+        Tab::Free => tab == INNER_TAB && is_idle_number(last),
         Tab::Last { anchor: at } => {
-            *at == anchor && is_left_over_number(last) && (tab == INNER || inner_is_free(view))
+            *at == anchor && is_left_over_number(last) && (tab == INNER_TAB || inner_is_free(view))
         }
         _ => false,
     };
@@ -77,7 +77,7 @@ fn taken_change(
     }
     let freer = freer_of(alloc, anchor, false, chain)?;
     let writer = writer_of(alloc, anchor, version);
-    Ok(TabsChange::PutTwo(INNER, Tab::Freeing(freer), tab, Tab::Writing(writer)))
+    Ok(TabsChange::PutTwo(INNER_TAB, Tab::Freeing(freer), tab, Tab::Writing(writer)))
 }
 
 fn evicted_change(
@@ -89,7 +89,7 @@ fn evicted_change(
     ensures { IfOk result (λ change. change ≡ evicted_change tab anchor chain.now) }
 {
     let freer = freer_of(alloc, anchor, true, chain)?;
-    Ok(TabsChange::PutTwo(tab, Tab::Free, INNER, Tab::Freeing(freer)))
+    Ok(TabsChange::PutTwo(tab, Tab::Free, INNER_TAB, Tab::Freeing(freer)))
 }
 
 /// A free tab takes an anchor for a new entry, where the word is still as the pass last found it.

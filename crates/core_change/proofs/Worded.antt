@@ -1,4 +1,4 @@
--- Changes of steps on words beside anchors and on slots.
+-- Changes of steps on words beside anchors, on slots and on the counter of logged pieces.
 use Rattle.std.proofs.Common.{◌≡◌, ℕ, [], ◌++◌, set, Option, None, Some, sym, ap, ◌∙◌}
 use Rattle.std.specs.Option.{option_to_list}
 use Rattle.core_model.specs.declared.adding.Addition.{Addition}

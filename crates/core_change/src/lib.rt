@@ -16,5 +16,5 @@ pub use change::{
 };
 pub use refusal::Refusal;
 pub use tab_change::TabChange;
-pub use tabs::{INNER, anchor_of, inner_is_free, tab_at};
+pub use tabs::{anchor_of, inner_is_free, tab_at};
 pub use turn_change::TurnChange;

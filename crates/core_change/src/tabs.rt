@@ -2,11 +2,8 @@
 ghost use Rattle.std.specs.Prelude.{◌≡◌, ◌≤◌, ◌↔◌, IsTrue, length, slice_get, MatchOption, Some};
 ghost use Rattle.core_model.specs.Tabs.{anchor_of, InnerIsFree, IsPass};
 
-use core_model::{Tab, View};
+use core_model::{INNER_TAB, Tab, View};
 use core_table::Content;
-
-/// The inner tab of a pass.
-pub const INNER: u8 = 8;
 
 /// The tab of this number, if the view has one.
 pub fn tab_at(view: &View<Content>, tab: u8) -> Option<&Tab<Content>>
@@ -34,5 +31,5 @@ pub fn inner_is_free(view: &View<Content>) -> bool
     requires { IsPass view.now }
     ensures { IsTrue result ↔ InnerIsFree view.now }
 {
-    matches!(tab_at(view, INNER), Some(Tab::Free))
+    matches!(tab_at(view, INNER_TAB), Some(Tab::Free))
 }

@@ -12,13 +12,13 @@ use Rattle.core_model.specs.declared.tab.Tab.TheVariants.{Free, Retreating, Read
 use Rattle.core_model.specs.declared.view.Kind.TheVariants.{Counted as Looks, Drew}
 use Rattle.core_model.specs.declared.view.Item.{Item}
 use Rattle.core_model.specs.declared.view.Sight.{Sight}
-use Rattle.core_model.specs.declared.view.Sight.TheVariants.{Stood, Named, Published}
+use Rattle.core_model.specs.declared.view.Sight.TheVariants.{Stood, Named, Published, Logged}
 use Rattle.core_model.specs.declared.view.Place.{Place}
 use Rattle.core_model.specs.declared.view.Place.TheVariants.{Beside}
 use Rattle.core_model.specs.declared.view.Deed.{Deed}
 use Rattle.core_model.specs.declared.view.View.{View}
 use Rattle.core_model.specs.declared.chain.Chain.{Chain}
-use Rattle.core_model.specs.Layout.{Setting, index, anchor_index, counter_index}
+use Rattle.core_model.specs.Layout.{Setting, index, anchor_index, counter_index, word_count}
 use Rattle.core_model.specs.Chains.{no_chain}
 use Rattle.core_model.specs.State.{State, word, chain_of, counter}
 use Rattle.core_model.specs.Tabs.{counts, writes, frees, count}
@@ -27,7 +27,7 @@ use Rattle.core_model.specs.Anchors.{written_at, freed_at, tabs_in, Shaped, TabS
 use Rattle.core_model.specs.Versions.{HasSlot, SeenStands, draws_by, vain_by, drawn_by, VersionsDrawn, IsKnownAt, IsFresh, VersionsHeld}
 use Rattle.core_model.specs.Deeds.{mirrored, OneMirror, IsEpochAt, IsDone, EnteredBy, EnteredByAnother, LeftEpoch, DoomedVersion, HaltedVersion, EvictedVersion, DeedsExplain}
 use Rattle.core_model.specs.Sound.{AnchorsSound}
-use Rattle.core_model.proofs.Lists.{by_eq, at_set, at_length, sum_at, two_le_sum, set_here, set_else, cons_contains, contains_none}
+use Rattle.core_model.proofs.Lists.{by_eq, le_sum_at, at_set, at_length, sum_at, two_le_sum, set_here, set_else, cons_contains, contains_none}
 use Rattle.core_model.specs.CellMoves.{note_of}
 
 pub either_contains : {X : Type 0} → (x : X) (xs ys : List X) → Contains (xs ++ ys) x → Contains xs x ⊎ Contains ys x
@@ -36,23 +36,30 @@ either_contains x (y ∷ xs) ys h = ⊎_elim (λ (e : y ≡ x). inl (0, omega ar
     (λ (r : Contains (xs ++ ys) x). ⊎_elim (λ (q : Contains xs x). inl (suc q.0, (let z = q.1 in omega arith), q.2)) (λ (q : Contains ys x). inr q) (either_contains x xs ys r))
     (cons_contains y x (xs ++ ys) h)
 
+-- what is seen is one
+pub one_of : (x y : Sight) → Contains (x ∷ []) y → x ≡ y
+one_of x y h = ⊎_elim (λ (q : x ≡ y). q) (λ (q : Contains [] y). absurd (contains_none y q)) (cons_contains x y [] h)
+
 -- none of these tells an epoch
 abbrev pub NoEpoch : List Sight → Type 0
 NoEpoch [] = Unit {0}
 NoEpoch (Stood a e ∷ xs) = ⊥
 NoEpoch (Named a version side value ∷ xs) = NoEpoch xs
 NoEpoch (Published a version many ∷ xs) = NoEpoch xs
+NoEpoch (Logged l ∷ xs) = NoEpoch xs
 
 pub seen_same : (b : ℕ) (xs ys : List Sight) → NoEpoch xs → seen_at b (xs ++ ys) ≡ seen_at b ys
 seen_same b [] ys h = refl
 seen_same b (Stood a e ∷ xs) ys h = absurd h
 seen_same b (Named a version side value ∷ xs) ys h = let r = seen_same b xs ys h in omega arith
 seen_same b (Published a version many ∷ xs) ys h = let r = seen_same b xs ys h in omega arith
+seen_same b (Logged l ∷ xs) ys h = let r = seen_same b xs ys h in omega arith
 
 no_stood : (xs : List Sight) → NoEpoch xs → (b e : ℕ) → Contains xs (Stood b e) → ⊥
 no_stood [] h b e c = contains_none (Stood b e) c
 no_stood (Stood a e' ∷ xs) h b e c = h
 no_stood (Named a version side value ∷ xs) h b e c = ⊎_elim (λ (q : Named a version side value ≡ Stood b e). cc) (λ (q : Contains xs (Stood b e)). no_stood xs h b e q) (cons_contains _ _ xs c)
+no_stood (Logged l ∷ xs) h b e c = ⊎_elim (λ (q : Logged l ≡ Stood b e). cc) (λ (q : Contains xs (Stood b e)). no_stood xs h b e q) (cons_contains _ _ xs c)
 no_stood (Published a version many ∷ xs) h b e c = ⊎_elim (λ (q : Published a version many ≡ Stood b e). cc) (λ (q : Contains xs (Stood b e)). no_stood xs h b e q) (cons_contains _ _ xs c)
 
 -- the view after a step that left x in the word of a place, and saw this
@@ -71,12 +78,12 @@ beside v tabs sights item place x = record {
 abbrev pub besides : {X : Type 0} → Setting X → State X → ℕ → View X → Place → ℕ → List Chain → State X
 besides k s i w place x chains = record { words = set s.words (index k place) x; places = s.places; views = set s.views i w; chains = chains }
 
--- what is seen anew is of the version that stands, and so
+-- what is seen anew is of the version that stands, and so; a logged piece tells of no version
 pub record SightsOwe {X : Type 0} (k : Setting X) (s s' : State X) (v : View X) (sights : List Sight) : Type 0 where
   pub no_epoch : NoEpoch sights
   pub no_start : (b version value : ℕ) → Contains sights (Named b version Start value) → ⊥
   pub inside : (y : Sight) → Contains sights y → sight_anchor y < k.anchors
-  pub stands : (y : Sight) → Contains sights y → version_of (epoch_of (word s (sight_anchor y))) ≡ sight_version y
+  pub stands : (y : Sight) → Contains sights y → 0 < sight_version y → version_of (epoch_of (word s (sight_anchor y))) ≡ sight_version y
   pub known : (y : Sight) → Contains sights y → sight_version y ≤ version_of (seen_at (sight_anchor y) v.seen)
   pub named : (b version : ℕ) (side : Side) (value : ℕ) → Contains sights (Named b version side value) → (get_or s'.words (index k (Beside side b)) 0 ≡ value) × HasSlot s' b
   pub published : (b version many : ℕ) → Contains sights (Published b version many) → many ≤ length (chain_of s' b).slots
@@ -87,7 +94,8 @@ pub record OwesBeside {X : Type 0} (k : Setting X) (s : State X) (i : ℕ) (v : 
   pub is_pass : length v.tabs ≡ 9
   pub length_same : length tabs ≡ length v.tabs
   pub low : (b : ℕ) → b < k.anchors → index k place ≢ anchor_index b
-  pub high : index k place < counter_index k
+  pub inside : index k place < word_count k
+  pub off : index k place ≢ counter_index k
   pub quiet : tells_word item.kind ≡ false
   pub no_draw : is_draw item.kind ≡ false
   pub no_count : (found before : ℕ) → counted_in item.kind found before ≡ before
@@ -120,7 +128,7 @@ module _ {X : Type 0} (k : Setting X) (s : State X) (i : ℕ) (v : View X) (so :
   same_word b lt = sym (get_or-set_other s.words p₀ (anchor_index b) x 0 (λ q. o.low b lt (sym q)))
 
   counter_same : counter k s' ≡ counter k s
-  counter_same = get_or-set_other s.words p₀ (counter_index k) x 0 (λ q. let h = o.high in omega arith)
+  counter_same = get_or-set_other s.words p₀ (counter_index k) x 0 (λ q. o.off (sym q))
 
   all_views : (P Q : ℕ → View X → Type 0) → ((j : ℕ) (u : View X) → get_elem? s.views j ≡ some u → P j u → Q j u) → Q i w
       → ((j : ℕ) (u : View X) → get_elem? s.views j ≡ some u → P j u) → (j : ℕ) (u : View X) → get_elem? (set s.views i w) j ≡ some u → Q j u
@@ -183,10 +191,10 @@ module _ {X : Type 0} (k : Setting X) (s : State X) (i : ℕ) (v : View X) (so :
       (λ (t : (j ≢ i) × (get_elem? s.views j ≡ some u)). inr (u, t.1, h))
       (at_set s.views i j w u uat)
 
-  known_before : (b version : ℕ) → IsKnownAt k s' b version → IsKnownAt k s b version
-  known_before b version (inl h) = inl (h.0, subst (λ (z : ℕ). version_of (epoch_of z) ≡ version) (sym (same_word b h.0)) h.1)
-  known_before b version (inr h) = ⊎_elim
-      (λ (q : Contains sights h.sight). inl (subst (λ (z : ℕ). z < k.anchors) h.anchor (o.sees.inside h.sight q), subst (λ (z : ℕ). version_of (epoch_of (word s z)) ≡ version) h.anchor (o.sees.stands h.sight q ∙ h.version_is)))
+  known_before : (b version : ℕ) → 0 < version → IsKnownAt k s' b version → IsKnownAt k s b version
+  known_before b version new (inl h) = inl (h.0, subst (λ (z : ℕ). version_of (epoch_of z) ≡ version) (sym (same_word b h.0)) h.1)
+  known_before b version new (inr h) = ⊎_elim
+      (λ (q : Contains sights h.sight). inl (subst (λ (z : ℕ). z < k.anchors) h.anchor (o.sees.inside h.sight q), subst (λ (z : ℕ). version_of (epoch_of (word s z)) ≡ version) h.anchor (o.sees.stands h.sight q (subst (λ (z : ℕ). 0 < z) (sym h.version_is) new) ∙ h.version_is)))
       (λ (q : (u' : View X) × (get_elem? s.views h.i ≡ some u') × Contains u'.seen h.sight). inr record { i = h.i; view = q.0; at = q.1; sight = h.sight; seen = q.2; anchor = h.anchor; version_is = h.version_is })
       (had h.i h.view h.at h.sight h.seen)
 
@@ -282,18 +290,22 @@ module _ {X : Type 0} (k : Setting X) (s : State X) (i : ℕ) (v : View X) (so :
   since_same : (version b : ℕ) → drew_since version b w.trail ≡ drew_since version b v.trail
   since_same version b = rw (o.quiet, o.no_draw) refl
 
+  -- a version that was drawn is above the opening's counter
+  is_some : (j : ℕ) (u : View X) → get_elem? s.views j ≡ some u → (version : ℕ) → 0 < drawn version u.trail → 0 < version
+  is_some j u ut version d = let l = le_sum_at (drawn_by version) s.views j u ut in let a = so.drawn.above version (omega arith) in let z = a.0 in omega arith
+
   abbrev held' : VersionsHeld k s'
   held' = record {
     fresh = all_views (λ j u. (version : ℕ) → Contains u.held version → IsFresh k s u version) (λ j u. (version : ℕ) → Contains u.held version → IsFresh k s' u version)
-        (λ j u _ h version c. let f = h version c in record { drawn = f.drawn; once = f.once; fits = f.fits; unknown = λ b q. f.unknown b (known_before b version q) })
-        (λ version c. let f = so.held.fresh i v at version c in record { drawn = (let e = drawn_same version in let d = f.drawn in omega arith); once = f.once; fits = f.fits; unknown = λ b q. f.unknown b (known_before b version q) })
+        (λ j u ut h version c. let f = h version c in record { drawn = f.drawn; once = f.once; fits = f.fits; unknown = λ b q. f.unknown b (known_before b version (is_some j u ut version f.drawn) q) })
+        (λ version c. let f = so.held.fresh i v at version c in record { drawn = (let e = drawn_same version in let d = f.drawn in omega arith); once = f.once; fits = f.fits; unknown = λ b q. f.unknown b (known_before b version (is_some i v at version f.drawn) q) })
         so.held.fresh;
     since = all_views (λ j u. (b version : ℕ) → b < k.anchors → Contains u.held version → drew_since version b u.trail ≡ true → version_of (epoch_of (last_find b u.trail)) < version)
         (λ j u. (b version : ℕ) → b < k.anchors → Contains u.held version → drew_since version b u.trail ≡ true → version_of (epoch_of (last_find b u.trail)) < version)
         (λ j u _ h. h)
         (λ b version lt c h. subst (λ (z : ℕ). version_of (epoch_of z) < version) (sym (find_same b)) (so.held.since i v at b version lt c (sym (since_same version b) ∙ h)))
         so.held.since;
-    one_anchor = λ b d version high q r. so.held.one_anchor b d version high (known_before b version q) (known_before d version r);
+    one_anchor = λ b d version high q r. so.held.one_anchor b d version high (known_before b version (omega arith) q) (known_before d version (omega arith) r);
     finds = all_views (λ j u. (b : ℕ) → epoch_of (last_find b u.trail) ≤ seen_at b u.seen) (λ j u. (b : ℕ) → epoch_of (last_find b u.trail) ≤ seen_at b u.seen) (λ j u _ h. h)
         (λ b. let f = ap epoch_of (find_same b) in let e = seen_w b in let y = so.held.finds i v at b in omega arith) so.held.finds;
   }
@@ -309,7 +321,7 @@ module _ {X : Type 0} (k : Setting X) (s : State X) (i : ℕ) (v : View X) (so :
   mirror' one j u uat some_tabs p lt = ⊎_elim
       (λ (t : (j ≡ i) × (w ≡ u)). subst (λ (z : View X). mirrored k p z.mirror ≡ get_or (set s.words p₀ x) p 0) t.1
       (by_eq (λ z. cond z x (mirrored k p v.mirror) ≡ get_or (set s.words p₀ x) p 0) p₀ p
-      (λ q. subst (λ (z : ℕ). x ≡ get_or (set s.words p₀ x) z 0) q (sym (get_or-set_same s.words p₀ x 0 (let e = so.shaped.words in let h = o.high in omega arith))))
+      (λ q. subst (λ (z : ℕ). x ≡ get_or (set s.words p₀ x) z 0) q (sym (get_or-set_same s.words p₀ x 0 (let e = so.shaped.words in let h = o.inside in omega arith))))
       (λ ne. so.mirror one i v at tabs_v p lt ∙ sym (get_or-set_other s.words p₀ p x 0 (λ q. ne (sym q))))))
       (λ (t : (j ≢ i) × (get_elem? s.views j ≡ some u)). absurd (some_tabs (alone one j u t.0 t.1)))
       (at_set s.views i j w u uat)

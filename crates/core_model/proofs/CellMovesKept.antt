@@ -97,7 +97,7 @@ module _ {X : Type 0} (k : Setting X) (s : State X) (i : ℕ) (v : View X) (soun
   cell_moved (Reading r) out now was h = turned_reader k s i v sound at pass t slot r r.place r.slot r.found (moved r.turn now)
       (held_inside k s i v sound at pass t slot (Reading r) (sound.cells.turns i v at t (Reading r) was) h.0 h.1 h.2)
       (reader_holds (chain_of s r.anchor) r (moved r.turn now) (sound.slots.tabs i v at t (Reading r) was))
-  cell_moved (Writing x) out now was h = turned_writer k s i v sound at pass t slot x x.chosen x.is_written x.is_settled (moved x.turn now)
+  cell_moved (Writing x) out now was h = turned_writer k s i v sound at pass t slot x x.is_written x.is_settled (moved x.turn now)
       (held_inside k s i v sound at pass t slot (Writing x) (sound.cells.turns i v at t (Writing x) was) h.0 h.1 h.2)
       (writer_holds (w.beside x.anchor) (chain_of s x.anchor) x x.is_written x.is_settled (moved x.turn now) (sound.slots.tabs i v at t (Writing x) was))
   cell_moved Free out now was h = absurd (not_held h.0 h.1)
@@ -115,7 +115,7 @@ module _ {X : Type 0} (k : Setting X) (s : State X) (i : ℕ) (v : View X) (soun
 
   -- To write it, and to sync it.
   cell_rewritten : (x : Tab X) (kept settled : Bool) (cell : Option (Cell X)) → get_elem? v.tabs t ≡ some x → OfWriter (λ y. Unit {0}) x → Holds slot true x → Turned k s i v sound at pass t slot x (rewrites x kept settled cell)
-  cell_rewritten (Writing x) kept settled cell was is h = turned_writer k s i v sound at pass t slot x x.chosen x.is_written x.is_settled (rewritten x.turn kept settled cell)
+  cell_rewritten (Writing x) kept settled cell was is h = turned_writer k s i v sound at pass t slot x x.is_written x.is_settled (rewritten x.turn kept settled cell)
       (held_inside k s i v sound at pass t slot (Writing x) (sound.cells.turns i v at t (Writing x) was) h.0 h.1 h.2)
       (writer_holds (w.beside x.anchor) (chain_of s x.anchor) x x.is_written x.is_settled (rewritten x.turn kept settled cell) (sound.slots.tabs i v at t (Writing x) was))
   cell_rewritten Free kept settled cell was is h = absurd is

@@ -131,6 +131,7 @@ module _ {X : Type 0} where
     pub is_written : x.is_written ≡ w.is_written
     pub is_settled : x.is_settled ≡ w.is_settled
     pub chosen : x.chosen ≡ w.chosen
+    pub logged_in : x.logged_in ≡ w.logged_in
 
   module _ (k : Setting X) (s s' : State X) (places : s'.places ≡ s.places) (w x : Writer X) (g : Goes k w x) where
     pub goes_fits : TurnFits k s (Writing w) → TurnFits k s' (Writing x)
@@ -141,6 +142,7 @@ module _ {X : Type 0} where
       drawn = subst (λ (n : ℕ). opening_counter k < n) (sym g.version) q.drawn;
       fits = subst (λ (n : ℕ). n ≤ version_limit) (sym g.version) q.fits;
       offer = λ n e. ⊎_elim (λ (z : w.offer ≡ Some n). q.offer n z) (λ (z : k.slots ≤ n). z) (g.offer n e);
+      logged = λ e. let z = q.logged (sym g.chosen ∙ e) in (g.logged_in ∙ z.0, g.turn ∙ z.1);
       home = λ p open_ written chosen. home_again p (q.home p (sym g.is_ending ∙ open_) (sym g.is_written ∙ written) (sym g.chosen ∙ chosen));
       held = λ p h e written chosen. q.held p h (sym g.turn ∙ e) written (sym g.chosen ∙ chosen);
       synced = λ h e settled. q.synced h (sym g.turn ∙ e) settled;
@@ -150,7 +152,7 @@ module _ {X : Type 0} where
         home_again p h = record { slot = h.slot; first = g.first h.slot h.first; cell = h.cell; home = ap (λ z. get_or z h.slot None) places ∙ h.home; written = h.written; settled = λ e. h.settled (sym g.is_settled ∙ e) }
 
   pub goes_same : (k : Setting X) (w : Writer X) → Goes k w w
-  goes_same k w = record { first = λ slot e. e; turn = refl; version = refl; offer = λ n e. inl e; is_ending = refl; is_written = refl; is_settled = refl; chosen = refl }
+  goes_same k w = record { first = λ slot e. e; turn = refl; version = refl; offer = λ n e. inl e; is_ending = refl; is_written = refl; is_settled = refl; chosen = refl; logged_in = refl }
 
   -- a tab stays
   pub piece_again : (k : Setting X) (s s' : State X) → s'.places ≡ s.places → (x : Tab X) → TabPiece k s x → TabPiece k s' x

@@ -14,10 +14,11 @@ use Rattle.core_model.specs.declared.moves.Side.TheVariants.{Key0, Key1, Offer, 
 use Rattle.core_model.specs.declared.tab.Cell.{Cell}
 use Rattle.core_model.specs.declared.tab.Piece.{Piece}
 use Rattle.core_model.specs.declared.tab.Hold.{Hold}
-use Rattle.core_model.specs.declared.tab.Turn.TheVariants.{Has}
+use Rattle.core_model.specs.declared.tab.Turn.TheVariants.{Has, NoTurn}
 use Rattle.core_model.specs.declared.tab.Reader.{Reader}
 use Rattle.core_model.specs.declared.tab.Writer.{Writer}
 use Rattle.core_model.specs.declared.tab.Tab.{Tab}
+use Rattle.core_model.specs.declared.tab.Turn.{Turn as TurnOf}
 use Rattle.core_model.specs.declared.tab.Tab.TheVariants.{Free, Retreating, Reading, Writing, Last, Freeing}
 use Rattle.core_model.specs.declared.moves.Move.TheVariants.{Publish}
 use Rattle.core_model.specs.declared.view.Sight.{Sight}
@@ -238,6 +239,7 @@ module _ {X : Type 0} (k : Setting X) (s : State X) (i : ℕ) (v : View X) (so :
     drawn = h.drawn;
     fits = h.fits;
     offer = h.offer;
+    logged = h.logged;
     home = λ p goes_on written chosen. let q = h.home p goes_on written chosen in record { slot = q.slot; first = q.first; cell = q.cell; home = q.home; written = q.written; settled = q.settled };
     held = h.held;
     synced = h.synced;
@@ -245,8 +247,16 @@ module _ {X : Type 0} (k : Setting X) (s : State X) (i : ℕ) (v : View X) (so :
   piece_later (Last b) h = tt
   piece_later (Freeing f) h = tt
 
+  -- the turn of the slot is free, and the tab could hold no other one
+  turnless : x.turn ≡ NoTurn
+  turnless = of_turn x.turn (λ hold e. absurd (unheld i v at t (Writing x) was hold e (let q = cells.turns i v at t (Writing x) was hold e in firsts (sym q.1 ∙ may.first))))
+    where
+      of_turn : (z : TurnOf X) → ((hold : Hold X) → z ≡ Has hold → ⊥) → z ≡ NoTurn
+      of_turn NoTurn none = refl
+      of_turn (Has hold) none = absurd (none hold refl)
+
   piece_here : TabPiece k s' new
-  piece_here = record { drawn = piece.drawn; fits = piece.fits; offer = piece.offer; home = λ p goes_on written chosen. cc; held = λ p h turn written chosen. cc; synced = piece.synced }
+  piece_here = record { drawn = piece.drawn; fits = piece.fits; offer = piece.offer; logged = λ e. (refl, turnless); home = λ p goes_on written chosen. cc; held = λ p h turn written chosen. cc; synced = piece.synced }
 
   writers_kept : (j : ℕ) (u : View X) → get_elem? s'.views j ≡ some u → (p : ℕ) (tab : Tab X) → get_elem? u.tabs p ≡ some tab → TabPiece k s' tab
   writers_kept = each_after (TabPiece k s') piece_here (λ j u ut p tab is. piece_later tab (cells.writers j u ut p tab is))

@@ -218,6 +218,7 @@ module _ {X : Type 0} (k : Setting X) (s : State X) where
           drawn = h.drawn;
           fits = h.fits;
           offer = h.offer;
+          logged = h.logged;
           home = λ q going written chosen. o.homes j u ut p w is ne q (h.home q going written chosen);
           held = h.held;
           synced = h.synced;

@@ -79,7 +79,7 @@ module _ {X : Type 0} (k : Setting X) (s : State X) (i : ℕ) (v : View X) (so :
     is_drawn = (so.drawn.above u (let z = (so.held.fresh i v at u may.held).drawn in let y = le_sum_at (drawn_by u) s.views i v at in omega arith)).0
 
     writing_piece : (s' : State X) → TabPiece k s' writing
-    writing_piece s' = record { drawn = is_drawn; fits = (so.held.fresh i v at u may.held).fits; offer = λ x e. cc; home = λ p e written. cc; held = λ p h e. absurd (no_has NoTurn h refl e); synced = λ h e. absurd (no_has NoTurn h refl e) }
+    writing_piece s' = record { drawn = is_drawn; fits = (so.held.fresh i v at u may.held).fits; offer = λ x e. cc; logged = λ e. (refl, refl); home = λ p e written. cc; held = λ p h e. absurd (no_has NoTurn h refl e); synced = λ h e. absurd (no_has NoTurn h refl e) }
 
     takes_tab : (s' : State X) (tabs : List (Tab X)) → TurnsKeep k s' v tabs → get_elem? tabs t ≡ some Free → TurnsKeep k s' v (set tabs t writing)
     takes_tab s' tabs keep free = turns_with k s' v tabs keep t Free writing free refl (λ h e. absurd (no_has NoTurn h refl e)) (writing_piece s')

@@ -33,7 +33,10 @@ use Rattle.core_model.proofs.FollowsKept.{at_times, followed}
 use Rattle.core_model.proofs.CellsTab.{OneTurn, taken_turn, free_turn, same_slot, same_hold, no_hold, turn_none, turn_here, turn_else, turn_nowhere, turn_is, turn_tab, holders_after, Turned, of_holders, to_holders, turned, IsApart, cell_after, same_holders, cells_kept, read_slot, read_apart, written_unpublished, written_apart, homes_else, homes_stay}
 use Rattle.core_model.specs.Table.{Allowed}
 use Rattle.core_model.specs.SlotMoves.{IsNext}
-use Rattle.core_model.specs.CellMoves.{MayRead, MayWrite, piece_of, turn_with, tries, was_written, was_settled, ends, cell_held}
+use Rattle.core_model.specs.CellMoves.{MayRead, MayWrite, turn_with, tries, was_written, was_settled, ends, cell_held}
+
+not_some : (slot : ℕ) → None ≡ Some slot → ⊥
+not_some slot e = cc
 
 module _ {X : Type 0} where
   some_same : (a b : Cell X) → Some a ≡ Some b → a ≡ b
@@ -262,7 +265,7 @@ module _ {X : Type 0} (k : Setting X) (s : State X) (i : ℕ) (v : View X) (so :
 
   module _ (t slot : ℕ) (v' : View X) (seen : v'.seen ≡ v.seen) (w : Writer X) (was : get_elem? v.tabs t ≡ some (Writing w)) (may : MayWrite slot w) (none : has_turn w.turn ≡ false) where
     abbrev tried_writer : Bool → Tab X
-    tried_writer hit = Writing record w { chosen = Some (unwrap_or w.chosen (piece_of w)); is_written = cond hit false w.is_written; is_settled = cond hit false w.is_settled; turn = cond hit (turn_with slot (get_or s.places slot None)) w.turn }
+    tried_writer hit = Writing record w { is_written = cond hit false w.is_written; is_settled = cond hit false w.is_settled; turn = cond hit (turn_with slot (get_or s.places slot None)) w.turn }
 
     try_writer : (hit : Bool) → hit ≡ (turn_word k s slot == 0) → v'.tabs ≡ set v.tabs t (tried_writer hit)
         → CellsSound k (turned k s i (set s.words (index k (Turn slot)) (cond hit 1 (turn_word k s slot))) (cond hit (set s.places slot None) s.places) v')
@@ -273,6 +276,7 @@ module _ {X : Type 0} (k : Setting X) (s : State X) (i : ℕ) (v : View X) (so :
           drawn = old.drawn;
           fits = old.fits;
           offer = old.offer;
+          logged = λ e. absurd (not_some slot (sym (old.logged e).0 ∙ may.logged));
           home = λ q going written chosen. absurd (false≢true written);
           held = λ q g turn written chosen. absurd (false≢true (ap Hold.is_written (same_hold (taken slot c.0) g (sym has ∙ turn)) ∙ written));
           synced = λ g turn settled. absurd (false≢true (ap Hold.is_settled (same_hold (taken slot c.0) g (sym has ∙ turn)) ∙ settled));
@@ -307,6 +311,7 @@ module _ {X : Type 0} (k : Setting X) (s : State X) (i : ℕ) (v : View X) (so :
           drawn = old.drawn;
           fits = old.fits;
           offer = old.offer;
+          logged = λ e. ((old.logged e).0, refl);
           home = λ q going written chosen. record {
             slot = h.slot;
             first = f.1;

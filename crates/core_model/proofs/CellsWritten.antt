@@ -13,7 +13,7 @@ use Rattle.core_model.specs.declared.tab.Cell.{Cell}
 use Rattle.core_model.specs.declared.tab.Piece.{Piece}
 use Rattle.core_model.specs.declared.tab.Hold.{Hold}
 use Rattle.core_model.specs.declared.tab.Turn.{Turn as TurnOf}
-use Rattle.core_model.specs.declared.tab.Turn.TheVariants.{Has}
+use Rattle.core_model.specs.declared.tab.Turn.TheVariants.{Has, NoTurn}
 use Rattle.core_model.specs.declared.tab.Reader.{Reader}
 use Rattle.core_model.specs.declared.tab.Writer.{Writer}
 use Rattle.core_model.specs.declared.tab.Tab.{Tab}
@@ -42,6 +42,9 @@ or_false false e = e
 and_false : (b : Bool) → (b && false) ≡ false
 and_false true = refl
 and_false false = refl
+
+turn_taken : {X : Type 0} → (h : Hold X) → ◌≡◌ {A = TurnOf X} NoTurn (Has h) → ⊥
+turn_taken h e = cc
 
 module _ {X : Type 0} where
   -- The cell that a write leaves, and what a sync leaves.
@@ -148,6 +151,7 @@ module _ {X : Type 0} (k : Setting X) (s : State X) (i : ℕ) (v : View X) (so :
         drawn = old.drawn;
         fits = old.fits;
         offer = old.offer;
+        logged = λ e. absurd (turn_taken h (sym (old.logged e).1 ∙ has));
         home = λ p going written chosen. let y = old.home p going written chosen in record { slot = y.slot; first = y.first; cell = y.cell; home = y.home; written = y.written; settled = y.settled };
         held = λ p g e written chosen. let is_it = same_hold h' g (sym has' ∙ e) in
             subst (λ (z : Hold X). z.cell.now ≡ k.image p) is_it (image p chosen (λ q. old.held p h has q chosen) (ap Hold.is_written is_it ∙ written));

@@ -135,7 +135,7 @@ module _ {X : Type 0} (k : Setting X) (s : State X) (i : ℕ) (v : View X) (so :
 
   told_sound : Sound k (renewed s (set s.views i told))
   told_sound = let both = cell_both k s i v so at pass t h.slot wrote quiet_wrote (Writing w) (Writing record w { turn = Has h' }) may.writes
-      (turned_writer k s i v so at pass t h.slot w w.chosen w.is_written w.is_settled (Has h')
+      (turned_writer k s i v so at pass t h.slot w w.is_written w.is_settled (Has h')
       (held_inside k s i v so at pass t h.slot (Writing w) (so.cells.turns i v at t (Writing w) may.writes) h may.turn refl)
       (writer_holds ((slot_words k s.words).beside w.anchor) (chain_of s w.anchor) w w.is_written w.is_settled (Has h') (so.slots.tabs i v at t (Writing w) may.writes))) in record {
         anchors = both.anchors;

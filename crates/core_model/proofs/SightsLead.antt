@@ -21,7 +21,7 @@ use Rattle.core_model.specs.declared.moves.Side.{Side}
 use Rattle.core_model.specs.declared.moves.Side.TheVariants.{Key0, Key1, Offer, Start}
 use Rattle.core_model.specs.declared.moves.Move.{Move}
 use Rattle.link_word.specs.Map.{with_slot, without_slot}
-use Rattle.core_model.specs.declared.moves.Move.TheVariants.{Look, Enter, Leave, Count, Draw, Take, Evict, Raise, Doom, LoadSide, StoreSide, Own, Disown, Publish, Loosen, GetLink, TryTurn, EndTurn, CellOut, CellIn, Note, Learn, Write, Sync, LookMap}
+use Rattle.core_model.specs.declared.moves.Move.TheVariants.{Look, Enter, Leave, Count, Draw, Take, Evict, Raise, Doom, LoadSide, StoreSide, Own, Disown, Publish, Loosen, GetLink, TryTurn, EndTurn, CellOut, CellIn, Note, Learn, Write, Sync, LookMap, LogPiece}
 use Rattle.core_model.specs.declared.tab.Reader.{Reader}
 use Rattle.core_model.specs.declared.tab.Writer.{Writer}
 use Rattle.core_model.specs.declared.tab.Tab.{Tab}
@@ -29,10 +29,10 @@ use Rattle.core_model.specs.declared.tab.Tab.TheVariants.{Free, Retreating, Read
 use Rattle.core_model.specs.declared.view.Kind.TheVariants.{Drew}
 use Rattle.core_model.specs.declared.view.Item.{Item}
 use Rattle.core_model.specs.declared.view.Sight.{Sight}
-use Rattle.core_model.specs.declared.view.Sight.TheVariants.{Stood, Named, Published}
+use Rattle.core_model.specs.declared.view.Sight.TheVariants.{Stood, Named, Published, Logged}
 use Rattle.core_model.specs.declared.view.Place.TheVariants.{Beside}
 use Rattle.core_model.specs.declared.view.View.{View}
-use Rattle.core_model.specs.Layout.{Setting, anchor_index, index, link_index, turn_index, map_index, counter_index, word_in}
+use Rattle.core_model.specs.Layout.{Setting, anchor_index, index, link_index, turn_index, map_index, counter_index, word_in, log_index}
 use Rattle.core_model.specs.State.{State, word, counter, side_word}
 use Rattle.core_model.specs.Trails.{last_find, find_before}
 use Rattle.core_model.specs.Tabs.{tab_at, anchor_of, OfWriter, OfFreer, stage_held, IsPass}
@@ -52,9 +52,8 @@ use Rattle.core_model.specs.Table.{sights_of, held_after, item_of, Allowed}
 use Rattle.core_model.specs.SlotMoves.{loads, shows, follows}
 use Rattle.core_model.specs.AnchorMoves.{MayRaise, StartsRight, MayEnd, MayEvict}
 use Rattle.core_model.specs.Versions.{Leads, IsShown, SightsLead}
-
-one_of : (x y : Sight) → Contains (x ∷ []) y → x ≡ y
-one_of x y h = ⊎_elim (λ (q : x ≡ y). q) (λ (q : Contains [] y). absurd (contains_none y q)) (cons_contains x y [] h)
+use Rattle.core_model.proofs.BesideKept.{one_of}
+use Rattle.core_model.specs.CellMoves.{logged_by}
 
 pub leads_on : (f g h : ℕ) → Leads f g → Leads g h → Leads f h
 leads_on f g h (inl p) q = subst (λ (z : ℕ). Leads z h) (sym p) q
@@ -179,6 +178,7 @@ module _ {X : Type 0} (k : Setting X) (s : State X) (i : ℕ) (v : View X) (so :
   onward (LoadSide t side) may a lt = set_far (index k (Beside side (anchor_of (tab_at v t)))) (get_or s.words (index k (Beside side (anchor_of (tab_at v t)))) 0) a (beside_far k side a (anchor_of (tab_at v t)))
   onward (StoreSide t side value) may a lt = set_far (index k (Beside side (anchor_of (tab_at v t)))) value a (beside_far k side a (anchor_of (tab_at v t)))
   onward (LookMap t word) may a lt = set_far (map_index k word) (get_or s.words (map_index k word) 0) a (λ e. omega arith)
+  onward (LogPiece t slot durable) may a lt = set_far (log_index k) _ a (λ e. omega arith)
   onward (Own t slot) may a lt = set_far (map_index k (slot / 64)) (with_slot (get_or s.words (map_index k (slot / 64)) 0) slot) a (λ e. omega arith)
   onward (Disown t slot) may a lt = set_far (map_index k (slot / 64)) (without_slot (get_or s.words (map_index k (slot / 64)) 0) slot) a (λ e. omega arith)
   onward (Publish t slot link) may a lt = set_far (link_index k slot) (link_number link) a (λ e. omega arith)
@@ -214,6 +214,7 @@ module _ {X : Type 0} (k : Setting X) (s : State X) (i : ℕ) (v : View X) (so :
   Owes s' (Stood a e) = a < k.anchors → e ≡ epoch_of (word s' a)
   Owes s' (Named a version side value) = (opening_counter k < version → IsShown s' a version) × (version ≤ opening_counter k → value ≡ word_in k k.words (Beside side a))
   Owes s' (Published a version many) = Unit {0}
+  Owes s' (Logged l) = Unit {0}
 
   owes_one : (s' : State X) (x y : Sight) → Owes s' x → Contains (x ∷ []) y → Owes s' y
   owes_one s' x y h c = subst (Owes s') (one_of x y c) h
@@ -292,6 +293,14 @@ module _ {X : Type 0} (k : Setting X) (s : State X) (i : ℕ) (v : View X) (so :
   follows_owe s' (Last a) n y c = absurd (contains_none y c)
   follows_owe s' (Freeing f) n y c = absurd (contains_none y c)
 
+  logs_owe : (s' : State X) (slot : ℕ) (durable : Bool) (x : Tab X) (n : ℕ) (y : Sight) → Contains (logged_by x slot durable n) y → Owes s' y
+  logs_owe s' slot durable (Writing w) n y c = subst (Owes s') (one_of _ y c) tt
+  logs_owe s' slot durable Free n y c = absurd (contains_none y c)
+  logs_owe s' slot durable (Retreating a) n y c = absurd (contains_none y c)
+  logs_owe s' slot durable (Reading r) n y c = absurd (contains_none y c)
+  logs_owe s' slot durable (Last a) n y c = absurd (contains_none y c)
+  logs_owe s' slot durable (Freeing f) n y c = absurd (contains_none y c)
+
   abbrev NotLearning : Move → Type 0
   NotLearning (Learn note) = ⊥
   NotLearning _ = Unit {0}
@@ -309,6 +318,7 @@ module _ {X : Type 0} (k : Setting X) (s : State X) (i : ℕ) (v : View X) (so :
   owes (LoadSide t side) on may y c = loads_owe t side (tab_at v t) (tab_was k s i v so.anchors so.slots at pass t (tab_at v t) may.0 refl) y c
   owes (StoreSide t side value) on may y c = absurd (contains_none y c)
   owes (LookMap t word) on may y c = absurd (contains_none y c)
+  owes (LogPiece t slot durable) on may y c = logs_owe (after k s i v (LogPiece t slot durable)) slot durable (tab_at v t) (get_or s.words (log_index k) 0) y c
   owes (Own t slot) on may y c = absurd (contains_none y c)
   owes (Disown t slot) on may y c = absurd (contains_none y c)
   owes (Publish t slot link) on may y c = let w : View X = view_after v (Publish t slot link) (finding k s v (Publish t slot link)) in
@@ -354,6 +364,7 @@ module _ {X : Type 0} (k : Setting X) (s : State X) (i : ℕ) (v : View X) (so :
   late (LoadSide t side) a u lt h = so.sights.before i v at a u lt h
   late (StoreSide t side value) a u lt h = so.sights.before i v at a u lt h
   late (LookMap t word) a u lt h = so.sights.before i v at a u lt h
+  late (LogPiece t slot durable) a u lt h = so.sights.before i v at a u lt h
   late (Own t slot) a u lt h = so.sights.before i v at a u lt h
   late (Disown t slot) a u lt h = so.sights.before i v at a u lt h
   late (Publish t slot link) a u lt h = so.sights.before i v at a u lt h
@@ -430,6 +441,7 @@ module _ {X : Type 0} (k : Setting X) (s : State X) (i : ℕ) (v : View X) (so :
   sights_lead (LoadSide t side) may = step (LoadSide t side) refl tt may
   sights_lead (StoreSide t side value) may = step (StoreSide t side value) refl tt may
   sights_lead (LookMap t word) may = step (LookMap t word) refl tt may
+  sights_lead (LogPiece t slot durable) may = step (LogPiece t slot durable) refl tt may
   sights_lead (Own t slot) may = step (Own t slot) refl tt may
   sights_lead (Disown t slot) may = step (Disown t slot) refl tt may
   sights_lead (Publish t slot link) may = step (Publish t slot link) refl tt may

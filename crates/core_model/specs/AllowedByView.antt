@@ -22,7 +22,8 @@ use Rattle.core_model.specs.Table.{Allowed}
 abbrev pub StoredStart : {X : Type 0} → Writer X → Type 0
 StoredStart w = w.is_appending ≡ false → w.start ≡ Some (start_number w.published)
 
--- the slot is the tab's first reserved one, with the link of the piece that it chose, and the tab wrote that piece
+-- the slot is the tab's first reserved one, with the link of the piece that it chose, the tab wrote that
+-- piece, and synced it where it is durable
 pub record WroteFirst {X : Type 0} (slot : ℕ) (link : Link) (w : Writer X) : Type 0 where
   pub first : w.reserved ≡ slot ∷ rest_of w.reserved
   pub goes_on : w.is_ending ≡ false
@@ -30,6 +31,7 @@ pub record WroteFirst {X : Type 0} (slot : ℕ) (link : Link) (w : Writer X) : T
   pub chosen : w.chosen ≡ Some piece
   pub link_is : piece.next ≡ link
   pub written : w.is_written ≡ true
+  pub settled : w.is_durable ≡ true → w.is_settled ≡ true
 
 -- the tab knows that this slot is at its place
 abbrev pub KnowsSlot : {X : Type 0} → ℕ → Reader X → Type 0

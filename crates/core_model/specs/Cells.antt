@@ -96,6 +96,7 @@ pub record WriterPiece {X : Type 0} (k : Setting X) (s : State X) (w : Writer X)
   pub drawn : opening_counter k < w.version  -- its version is new
   pub fits : w.version ≤ version_limit  -- and fits a header
   pub offer : (x : ℕ) → w.offer ≡ Some x → k.slots ≤ x  -- an offer is no slot
+  pub logged : w.chosen ≡ None → (w.logged_in ≡ None) × (w.turn ≡ NoTurn)  -- a tab that logged no piece holds no turn
   pub home : (p : Piece) → w.is_ending ≡ false → w.is_written ≡ true → w.chosen ≡ Some p → IsHome k s w p  -- a piece that was written is in its cell
   pub held : (p : Piece) (h : Hold X) → w.turn ≡ Has h → h.is_written ≡ true → w.chosen ≡ Some p → h.cell.now ≡ k.image p  -- in the tab's hands too
   pub synced : (h : Hold X) → w.turn ≡ Has h → h.is_settled ≡ true → h.cell.possible ≡ h.cell.now ∷ []  -- a cell that was synced has one content

@@ -1,10 +1,10 @@
 -- What a step makes of the entry at an anchor: it stays, it goes, or one slot more of it is published. And what it makes of the piece
--- that a writing tab has chosen: it was chosen before, or this step chose it.
-use Rattle.std.specs.Prelude.{◌<◌, ◌≡◌, ◌≢◌, ◌⊎◌, None, Some, [], false, length, ℕ}
+-- that a writing tab has chosen: it was chosen before, or this step logged it.
+use Rattle.std.specs.Prelude.{◌<◌, ◌≡◌, ◌≢◌, ◌⊎◌, Bool, None, Some, [], false, length, ℕ}
 use Rattle.lock_word.specs.Words.{epoch_of, version_of}
 use Rattle.link_word.specs.declared.link.Link.TheVariants.{Next}
 use Rattle.core_model.specs.declared.moves.Move.{Move}
-use Rattle.core_model.specs.declared.moves.Move.TheVariants.{TryTurn}
+use Rattle.core_model.specs.declared.moves.Move.TheVariants.{LogPiece}
 use Rattle.core_model.specs.declared.moves.Side.{Side}
 use Rattle.core_model.specs.declared.moves.Side.TheVariants.{Offer, Start}
 use Rattle.core_model.specs.declared.tab.Piece.{Piece}
@@ -69,13 +69,14 @@ pub record IsStillChosen {X : Type 0} (old : Tab X) (x : Writer X) (p : Piece) :
   pub chosen : writer.chosen ≡ Some p
   pub same : IsSameWriter writer x
 
--- the tab t had chosen none, and tries for a turn
+-- the tab t had chosen none, and logs a piece
 pub record IsNowChosen {X : Type 0} (m : Move) (t : ℕ) (old : Tab X) (x : Writer X) (p : Piece) : Type 0 where
   pub writer : Writer X
   pub is : old ≡ Tab.Writing writer
   pub none : writer.chosen ≡ None
   pub slot : ℕ
-  pub tries : m ≡ TryTurn t slot
+  pub is_durable : Bool
+  pub logs : m ≡ LogPiece t slot is_durable
   pub piece : p ≡ piece_of writer
   pub same : IsSameWriter writer x
 

@@ -6,7 +6,7 @@ use lib.ListN.{get_elem?}
 use Rattle.lock_word.specs.Words.{epoch_of, version_limit, version_of}
 use Rattle.link_word.specs.declared.link.Link.TheVariants.{Last}
 use Rattle.core_model.specs.declared.moves.Move.{Move}
-use Rattle.core_model.specs.declared.moves.Move.TheVariants.{TryTurn}
+use Rattle.core_model.specs.declared.moves.Move.TheVariants.{LogPiece}
 use Rattle.core_model.specs.declared.moves.Side.TheVariants.{Key0, Key1, Offer}
 use Rattle.core_model.specs.declared.tab.Hold.{Hold}
 use Rattle.core_model.specs.declared.tab.Piece.{Piece}
@@ -61,9 +61,9 @@ pub record OffersStand {X : Type 0} (o : Offering) (k : Setting X) (s : State X)
   pub new : (a : ℕ) → a < k.anchors → 0 < length (chain_of s a).slots → opening_counter k < version_of (epoch_of (word s a)) → IsNewEntry o k s a
   pub chosen : (i t : ℕ) (w : Writer X) (p : Piece) → IsTab s i t (Tab.Writing w) → w.chosen ≡ Some p → KeepsTo o w p
 
--- a step that chooses a piece, by a try for a turn, keeps to the offer
+-- a step that logs a piece keeps to the offer
 abbrev pub ChoosesRight : {X : Type 0} → Offering → View X → Move → Type 0
-ChoosesRight {X} o v (TryTurn t slot) = (w : Writer X) → tab_at v t ≡ Tab.Writing w → w.chosen ≡ None → KeepsTo o w (piece_of w)
+ChoosesRight {X} o v (LogPiece t slot durable) = (w : Writer X) → tab_at v t ≡ Tab.Writing w → w.chosen ≡ None → KeepsTo o w (piece_of w)
 ChoosesRight o v m = Unit {0}
 
 -- What a writing tab published that stored this offer is of the offer's pieces, and the last of them is the last where that are all.

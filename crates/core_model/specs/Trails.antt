@@ -1,11 +1,12 @@
 -- What the steps of a pass tell. The newest item of a trail stands first.
-use Rattle.std.specs.Prelude.{◌&&◌, ◌+◌, ◌==◌, ◌||◌, ◌∷◌, Bool, List, [], cond, false, max, nat_le, true, ℕ}
+use Rattle.std.specs.Prelude.{◌&&◌, ◌+◌, ◌==◌, ◌||◌, ◌∷◌, Bool, List, [], cond, false, max, nat_le, true, ℕ, ◌≡◌, Contains}
 use Rattle.lock_word.specs.Words.{version_limit, version_of}
 use Rattle.core_model.specs.declared.view.Item.{Item}
 use Rattle.core_model.specs.declared.view.Kind.{Kind}
 use Rattle.core_model.specs.declared.view.Kind.TheVariants.{Changed, Counted, Doomed, Drew, Entered, Left, Looked, Raised}
 use Rattle.core_model.specs.declared.view.Sight.{Sight}
-use Rattle.core_model.specs.declared.view.Sight.TheVariants.{Named, Published, Stood}
+use Rattle.core_model.specs.declared.view.Sight.TheVariants.{Logged, Named, Published, Stood}
+use Rattle.core_model.specs.declared.view.View.{View}
 
 -- an item of this kind tells the word of an anchor
 abbrev pub tells_word : Kind → Bool
@@ -71,16 +72,18 @@ abbrev pub last_count : List Item → ℕ
 last_count [] = version_limit
 last_count (x ∷ xs) = counted_in x.kind x.found (last_count xs)
 
--- where and of which version a sight is
+-- where and of which version a sight is; who knows a logged piece need not know of its version at the anchor
 abbrev pub sight_anchor : Sight → ℕ
 sight_anchor (Stood a epoch) = a
 sight_anchor (Named a version side value) = a
 sight_anchor (Published a version count) = a
+sight_anchor (Logged l) = l.anchor
 
 abbrev pub sight_version : Sight → ℕ
 sight_version (Stood a epoch) = version_of epoch
 sight_version (Named a version side value) = version
 sight_version (Published a version count) = version
+sight_version (Logged l) = 0
 
 abbrev pub stood : ℕ → Sight → ℕ
 stood a (Stood b epoch) = cond (b == a) epoch 0
@@ -90,3 +93,10 @@ stood a _ = 0
 abbrev pub seen_at : ℕ → List Sight → ℕ
 seen_at a [] = 0
 seen_at a (x ∷ xs) = max (stood a x) (seen_at a xs)
+
+-- with the view w a worker knows all that it knew with the view v
+pub record KnowsAll {X : Type 0} (v w : View X) : Type 0 where
+  pub pass : w.pass ≡ v.pass
+  pub seen : (x : Sight) → Contains v.seen x → Contains w.seen x
+  pub trail : (x : Item) → Contains v.trail x → Contains w.trail x
+  pub met : (a : ℕ) → Contains v.met a → Contains w.met a

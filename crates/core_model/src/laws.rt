@@ -209,7 +209,7 @@ pub fn deeds_are_of_passes<X>()
         → AnchorsSound k s → get_elem? s.views i ≡ some v → Contains v.deeds d → v.tabs ≢ [] }
 {}
 
-/// What a tab has chosen after a step: the tab had chosen it before, or the step is its try for a turn.
+/// What a tab has chosen after a step: the tab had chosen it before, or the step logged it.
 pub fn steps_change_choices<X>()
     ensures { (k : Setting X) (s : State X) (i : ℕ) (v : View X) (m : Move) (j t : ℕ) (w : Writer X) (p : Piece)
         → get_elem? s.views i ≡ some v → MayStep k s v m → IsTab (after k s i v m) j t (Tab.Writing w) → w.chosen ≡ Some p

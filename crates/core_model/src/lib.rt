@@ -29,5 +29,5 @@ pub use laws::{
 pub use list::{Log, Row};
 pub use moves::{Move, Outcome, Side};
 pub use spot::Spot;
-pub use tab::{Cell, Freer, Hold, Piece, Reader, Tab, Turn, Writer};
-pub use view::{Deed, Item, Kind, Place, Sight, Trace, View};
+pub use tab::{Cell, Freer, Hold, INNER_TAB, Piece, Reader, TABS, Tab, Turn, Writer};
+pub use view::{Deed, Item, Kind, LoggedPiece, Place, Sight, Trace, View};

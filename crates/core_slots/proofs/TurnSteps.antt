@@ -6,7 +6,6 @@ use Rattle.std.proofs.lemmas.Option.{slice_get_within}
 use Rattle.core_model.specs.declared.adding.Addition.{Addition}
 use Rattle.core_model.specs.declared.moves.Move.TheVariants as move
 use Rattle.core_model.specs.declared.tab.Cell.{Cell}
-use Rattle.core_model.specs.declared.tab.Piece.{Piece}
 use Rattle.core_model.specs.declared.tab.Reader.{Reader}
 use Rattle.core_model.specs.declared.tab.Tab.{Tab}
 use Rattle.core_model.specs.declared.tab.Tab.TheVariants.{Free, Retreating, Reading, Writing, Last, Freeing}
@@ -26,7 +25,7 @@ use Rattle.core_change.specs.declared.change.TabsChange.{TabsChange}
 use Rattle.core_change.specs.declared.change.TabsChange.TheVariants as tabs
 use Rattle.core_table.specs.declared.content.Content.{Content}
 use Rattle.core_change.specs.declared.tab_change.TabChange.{TabChange}
-use Rattle.core_change.specs.declared.tab_change.TabChange.TheVariants.{Chooses}
+use Rattle.core_change.specs.declared.tab_change.TabChange.TheVariants.{Leaves}
 use Rattle.core_table.specs.declared.table.Opening.{Opening}
 use Rattle.core_table.specs.declared.table.Table.{Table}
 use Rattle.core_change.specs.declared.turn_change.TurnChange.{TurnChange}
@@ -35,12 +34,12 @@ use Rattle.core_change.specs.Changed.{word_addition, turned_view, tabs_changed, 
 use Rattle.core_table.specs.Inside.{setting, state}
 use Rattle.core_change.specs.Planned.{IsScene, Plans}
 use Rattle.core_change.specs.Tabs.{changed_tab}
-use Rattle.core_slots.specs.Trying.{MayTry, tried_piece, tried_turn, tried_tabs, ended_tabs}
+use Rattle.core_slots.specs.Trying.{MayTry, tried_turn, tried_tabs, ended_tabs}
 use Rattle.core_change.specs.Turns.{with_turn, turned, places_changed, FitsTurn}
 use Rattle.core_change.proofs.Facts.{below, tab_is}
 use Rattle.core_slots.proofs.LinkSteps.{slot_inside}
 use Rattle.core_table.proofs.Lists.{at_slice, set_twice}
-use Rattle.core_slots.proofs.Reserved.{slot_there, few_published}
+use Rattle.core_slots.proofs.Reserved.{slot_there}
 use Rattle.core_change.proofs.Slots.{place_few}
 
 -- A tab that changes in its turn, and then in part.
@@ -74,17 +73,17 @@ module _ (v : View Content) (places : List (Option (Cell Content))) (t slot : �
   tried_reader r is true = ap (λ (y : Tab Content). set v.tabs t (with_turn y (turn_with slot cell))) is
   tried_reader r is false = sym (set-get_or v.tabs t Free) ∙ ap (λ (y : Tab Content). set v.tabs t y) is
 
-  tried_writer : (w : Writer Content) (p : Piece) → tab_at v t ≡ Writing w → (won : Bool)
-      → tabs_changed (turned_view v places (turn won)) (tabs.Becomes t (Chooses p (cond won false w.is_written) (cond won false w.is_settled)))
-      ≡ set v.tabs t (Writing record w { chosen = Some p; is_written = cond won false w.is_written; is_settled = cond won false w.is_settled; turn = cond won (turn_with slot cell) w.turn })
-  tried_writer w p is true =
-      turned_then v.tabs t (with_turn (tab_at v t) (turn_with slot cell)) (Chooses p false false) lt
-      ∙ ap (λ (y : Tab Content). set v.tabs t (changed_tab (with_turn y (turn_with slot cell)) (Chooses p false false))) is
-  tried_writer w p is false = ap (λ (y : Tab Content). set v.tabs t (changed_tab y (Chooses p w.is_written w.is_settled))) is
+  tried_writer : (w : Writer Content) → tab_at v t ≡ Writing w → (won : Bool)
+      → tabs_changed (turned_view v places (turn won)) (tabs.Becomes t (Leaves (cond won false w.is_written) (cond won false w.is_settled)))
+      ≡ set v.tabs t (Writing record w { is_written = cond won false w.is_written; is_settled = cond won false w.is_settled; turn = cond won (turn_with slot cell) w.turn })
+  tried_writer w is true =
+      turned_then v.tabs t (with_turn (tab_at v t) (turn_with slot cell)) (Leaves false false) lt
+      ∙ ap (λ (y : Tab Content). set v.tabs t (changed_tab (with_turn y (turn_with slot cell)) (Leaves false false))) is
+  tried_writer w is false = ap (λ (y : Tab Content). set v.tabs t (changed_tab y (Leaves w.is_written w.is_settled))) is
 
   tried_by : (s : _) (x : Tab Content) (n : ℕ) → tab_at v t ≡ x → MayTry s slot x → tabs_changed (turned_view v places (turn (n == 0))) (tried_tabs t x n) ≡ set v.tabs t (tries x slot n cell)
   tried_by s (Reading r) n is may = tried_reader r is (n == 0)
-  tried_by s (Writing w) n is may = tried_writer w (tried_piece w) is (n == 0)
+  tried_by s (Writing w) n is may = tried_writer w is (n == 0)
   tried_by s Free n is may = absurd (⊎_elim (λ (z : ⊥). z) (λ (z : ⊥). z) may.1)
   tried_by s (Retreating a) n is may = absurd (⊎_elim (λ (z : ⊥). z) (λ (z : ⊥). z) may.1)
   tried_by s (Last a) n is may = absurd (⊎_elim (λ (z : ⊥). z) (λ (z : ⊥). z) may.1)
@@ -167,14 +166,6 @@ module _ (o : Opening) (t : Table) (v : View Content) (scene : IsScene o t v) (a
         by_tab (Retreating a) was h = absurd (⊎_elim (λ (z : ⊥). z) (λ (z : ⊥). z) h)
         by_tab (Last a) was h = absurd (⊎_elim (λ (z : ⊥). z) (λ (z : ⊥). z) h)
         by_tab (Freeing f) was h = absurd (⊎_elim (λ (z : ⊥). z) (λ (z : ⊥). z) h)
-
-    -- a writing tab that may try has published fewer slots than there are
-    pub try_few : (w : Writer Content) → x ≡ Writing w → length w.published < o.slots
-    try_few w e = few_published o t v scene at slot w (there ∙ ap (λ (y : Tab Content). Some y) e) (first w (subst (λ (y : Tab Content). OfReader (MayRead (state t) slot) y ⊎ OfWriter (MayWrite slot) y) e may.1)).first
-      where
-        first : (w : Writer Content) → ⊥ ⊎ MayWrite slot w → MayWrite slot w
-        first w (inl h) = absurd h
-        first w (inr h) = h
 
     tried : Plans o t v (move.TryTurn at slot)
         (turn_change turn_found (index (setting o) (Turn slot)) (cond (turn_found == 0) 1 turn_found) (tried_turn at slot turn_found) (tried_tabs at x turn_found)

@@ -1,25 +1,19 @@
 -- Which tab may try to take a turn, and what becomes of a tab that tries, or ends its turn.
-use Rattle.std.specs.Prelude.{◌≡◌, ◌⊎◌, ℕ, ◌+◌, ◌==◌, Bool, true, false, cond, unwrap_or}
-use Rattle.core_model.specs.declared.tab.Piece.{Piece}
+use Rattle.std.specs.Prelude.{◌≡◌, ◌⊎◌, ℕ, ◌+◌, ◌==◌, Bool, true, false, cond}
 use Rattle.core_model.specs.declared.tab.Tab.{Tab}
 use Rattle.core_model.specs.declared.tab.Tab.TheVariants.{Reading, Writing}
-use Rattle.core_model.specs.declared.tab.Writer.{Writer}
 use Rattle.core_model.specs.State.{State}
 use Rattle.core_model.specs.Tabs.{holds_turn, OfReader, OfWriter}
-use Rattle.core_model.specs.CellMoves.{MayRead, MayWrite, piece_of, next_slot, was_written, was_settled}
+use Rattle.core_model.specs.CellMoves.{MayRead, MayWrite, next_slot, was_written, was_settled}
 use Rattle.core_change.specs.declared.change.TabsChange.{TabsChange}
 use Rattle.core_change.specs.declared.change.TabsChange.TheVariants as tabs
 use Rattle.core_table.specs.declared.content.Content.{Content}
-use Rattle.core_change.specs.declared.tab_change.TabChange.TheVariants.{Chooses, GoesOn, Leaves}
+use Rattle.core_change.specs.declared.tab_change.TabChange.TheVariants.{GoesOn, Leaves}
 use Rattle.core_change.specs.declared.turn_change.TurnChange.{TurnChange}
 use Rattle.core_change.specs.declared.turn_change.TurnChange.TheVariants as turns
 
 abbrev pub MayTry : State Content → ℕ → Tab Content → Type 0
 MayTry s slot tab = (holds_turn tab ≡ false) × (OfReader (MayRead s slot) tab ⊎ OfWriter (MayWrite slot) tab)
-
--- the piece that a writing tab has chosen, or chooses now
-abbrev pub tried_piece : Writer Content → Piece
-tried_piece w = unwrap_or w.chosen (piece_of w)
 
 -- the tab t has the turn where the turn word was 0
 abbrev pub tried_turn : ℕ → ℕ → ℕ → TurnChange
@@ -27,7 +21,7 @@ tried_turn t slot n = cond (n == 0) (turns.Taken t slot) turns.Same
 
 -- what becomes of the tab t beside its turn
 abbrev pub tried_tabs : ℕ → Tab Content → ℕ → TabsChange
-tried_tabs t (Writing w) n = tabs.Becomes t (Chooses (tried_piece w) (cond (n == 0) false w.is_written) (cond (n == 0) false w.is_settled))
+tried_tabs t (Writing w) n = tabs.Becomes t (Leaves (cond (n == 0) false w.is_written) (cond (n == 0) false w.is_settled))
 tried_tabs t tab n = tabs.Same
 
 -- and what becomes of it beside its turn where it ends that

@@ -11,10 +11,10 @@ ghost use Rattle.core_change.specs.Planned.{IsScene, Plans};
 
 use crate::turns::{holds, was_settled};
 use core_change::{
-    ChainChange, Change, INNER, NotesChange, Refusal, TabChange, TabsChange, TurnChange,
-    bare_addition, tab_at,
+    ChainChange, Change, NotesChange, Refusal, TabChange, TabsChange, TurnChange, bare_addition,
+    tab_at,
 };
-use core_model::{Cell, Kind, Outcome, Row, Tab, Turn, View, Writer};
+use core_model::{Cell, INNER_TAB, Kind, Outcome, Row, Tab, Turn, View, Writer};
 use core_table::{Content, Opening, Table};
 use std::alloc::{AllocError, Global};
 
@@ -92,7 +92,7 @@ fn writer_with_cell(view: &View<Content>, tab: u8, slot: u32) -> Option<&Writer<
     let Tab::Writing(writer) = now else {
         return None;
     };
-    (tab < INNER && holds(now, slot, true)).then_some(writer)
+    (tab < INNER_TAB && holds(now, slot, true)).then_some(writer)
 }
 
 /// A copy of the contents, with this one in front.

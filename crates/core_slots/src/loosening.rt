@@ -14,10 +14,10 @@ ghost use Rattle.core_change.specs.Planned.{IsScene, Plans};
 
 use crate::slots::{reserving_writer, with_slot};
 use core_change::{
-    ChainChange, Change, INNER, NotesChange, Refusal, TabChange, TabsChange, TurnChange,
-    WordChange, tab_at, word_addition,
+    ChainChange, Change, NotesChange, Refusal, TabChange, TabsChange, TurnChange, WordChange,
+    tab_at, word_addition,
 };
-use core_model::{Freer, Kind, Place, Row, Tab, View, Writer};
+use core_model::{Freer, INNER_TAB, Kind, Place, Row, Tab, View, Writer};
 use core_table::{Content, Opening, Table};
 use std::alloc::{AllocError, Global};
 
@@ -37,7 +37,7 @@ fn loosening_freer(view: &View<Content>, slot: u32) -> Option<&Freer>
         (OfFreer (MayLoosen slot) (tab_at view.now inner) → ⊥)
         (λ freer. (slice_get view.now.tabs inner ≡ Some (Freeing freer.now)) × MayLoosen slot freer.now) }
 {
-    let Tab::Freeing(freer) = tab_at(view, INNER)? else {
+    let Tab::Freeing(freer) = tab_at(view, INNER_TAB)? else {
         return None;
     };
     (is_front(freer, slot) && freer.is_looked).then_some(freer)
@@ -60,7 +60,7 @@ fn loosened_change(alloc: Global, freer: &Freer, slot: u32) -> Result<TabsChange
 {
     let rest = rest_of(alloc, &freer.rest)?;
     let loose = with_slot(alloc, &freer.loose, slot)?;
-    Ok(TabsChange::Becomes(INNER, TabChange::Loosens(rest, loose)))
+    Ok(TabsChange::Becomes(INNER_TAB, TabChange::Loosens(rest, loose)))
 }
 
 /// A writing tab has the slot.
@@ -77,7 +77,7 @@ fn handed_change(
     let loose = Row::from_vec(freer.loose.as_slice().to_vec(alloc)?);
     let reserved = with_slot(alloc, &writer.reserved, slot)?;
     let loosens = TabChange::Loosens(rest, loose);
-    Ok(TabsChange::BothBecome(INNER, loosens, tab, TabChange::Reserves(reserved)))
+    Ok(TabsChange::BothBecome(INNER_TAB, loosens, tab, TabChange::Reserves(reserved)))
 }
 
 /// The slot's link word is 0 then, and this becomes of the tabs.
@@ -118,7 +118,7 @@ pub fn loosen(
     let Some(freer) = loosening_freer(view, slot) else {
         return Err(Refusal::NotAllowed);
     };
-    if tab == INNER {
+    if tab == INNER_TAB {
         let tabs = loosened_change(alloc, freer, slot)?;
         return Ok(unlinked_change(opening, table, slot, tabs));
     }

@@ -1,5 +1,5 @@
 // A writing tab publishes its first reserved slot.
-ghost use Rattle.std.specs.Prelude.{◌≡◌, ◌<◌, ◌+◌, ◌++◌, ◌∷◌, [], ◌↔◌, Some, None, false, slice_get, slice_index_or, length, IsTrue, IfOk, IsErrOf, MatchOption};
+ghost use Rattle.std.specs.Prelude.{◌≡◌, ◌<◌, ◌+◌, ◌++◌, ◌∷◌, [], ◌↔◌, Some, None, true, false, slice_get, slice_index_or, length, IsTrue, IfOk, IsErrOf, MatchOption};
 ghost use Rattle.core_model.specs.declared.moves.Move.TheVariants as move;
 ghost use Rattle.core_model.specs.declared.tab.Cell.{Cell as CellOf};
 ghost use Rattle.core_model.specs.declared.tab.Piece.{Piece as PieceOf};
@@ -20,11 +20,12 @@ ghost use Rattle.core_slots.specs.Publishing.{published_tab, published_addition,
 use crate::loosening::rest_of;
 use crate::slots::with_slot;
 use core_change::{
-    ChainChange, Change, INNER, NotesChange, Refusal, TabChange, TabsChange, TurnChange,
-    WordChange, tab_at,
+    ChainChange, Change, NotesChange, Refusal, TabChange, TabsChange, TurnChange, WordChange,
+    tab_at,
 };
 use core_model::{
-    Addition, Chain, Item, Kind, Names, Piece, Place, Row, Sight, Tab, Trace, View, Writer,
+    Addition, Chain, INNER_TAB, Item, Kind, Names, Piece, Place, Row, Sight, Tab, Trace, View,
+    Writer,
 };
 use core_table::{Content, Opening, Table};
 use link_word::{Link, pack_link};
@@ -53,13 +54,27 @@ fn chosen_piece(writer: &Writer<Content>, slot: u32, link: Link) -> Option<Piece
     may_go.then_some(piece)
 }
 
-/// Whether the cell of this slot is home and has this piece.
-fn has_piece(table: &Table, slot: u32, piece: Piece) -> bool
+/// Whether this is the only one of these contents.
+fn is_alone(content: Content, contents: &[Content]) -> bool
+    ensures { IsTrue result ↔ (contents.now ≡ content ∷ []) }
+{
+    match contents {
+        [only] => *only == content,
+        _ => false,
+    }
+}
+
+/// Whether the cell of this slot is home and has this piece, and has it alone where the piece is durable.
+fn has_piece(table: &Table, slot: u32, piece: Piece, is_durable: bool) -> bool
     ensures { IsTrue result ↔ ((cell : CellOf ContentOf)
-        × (slice_index_or table.now.places.items slot None ≡ Some cell) × (cell.now ≡ Offered piece)) }
+        × (slice_index_or table.now.places.items slot None ≡ Some cell) × (cell.now ≡ Offered piece)
+        × (is_durable ≡ true → cell.possible ≡ cell.now ∷ [])) }
 {
     match table.places.get(slot as usize) {
-        Some(Some(cell)) => cell.now == Content::Offered(piece),
+        Some(Some(cell)) => {
+            cell.now == Content::Offered(piece)
+                && (!is_durable || is_alone(cell.now, cell.possible.as_slice()))
+        }
         _ => false,
     }
 }
@@ -83,7 +98,8 @@ fn publishing_writer<'a>(
     };
     let piece = chosen_piece(writer, slot, link)?;
     let turn = table.words.get(opening.index_of(Place::Turn(slot)));
-    let is_ready = *turn.unwrap_or(&0) == 0 && has_piece(table, slot, piece);
+    let is_free = *turn.unwrap_or(&0) == 0;
+    let is_ready = is_free && has_piece(table, slot, piece, writer.is_durable);
     is_ready.then_some(writer)
 }
 
@@ -211,7 +227,7 @@ pub fn publish(
     ensures refused { IsErrOf result Refusal.NotAllowed
         → Allowed (setting opening.now) (state table.now) view.now (move.Publish tab slot link) → ⊥ }
 {
-    if tab >= INNER {
+    if tab >= INNER_TAB {
         return Err(Refusal::NotAllowed);
     }
     let Some(writer) = publishing_writer(opening, table, view, tab, slot, link) else {

@@ -13,10 +13,10 @@ ghost use Rattle.core_table.specs.Inside.{setting, state};
 ghost use Rattle.core_change.specs.Planned.{IsScene, Plans};
 
 use core_change::{
-    ChainChange, Change, INNER, NotesChange, Refusal, TabChange, TabsChange, TurnChange,
-    WordChange, inner_is_free, tab_at, word_addition,
+    ChainChange, Change, NotesChange, Refusal, TabChange, TabsChange, TurnChange, WordChange,
+    inner_is_free, tab_at, word_addition,
 };
-use core_model::{Kind, Piece, Place, Row, Tab, Turn, View, Writer};
+use core_model::{INNER_TAB, Kind, Piece, Place, Row, Tab, Turn, View, Writer};
 use core_table::{Content, Opening, Table};
 use link_word::{Link, is_set, map_bit, map_place, map_words, next_free};
 use std::alloc::{AllocError, Global};
@@ -152,7 +152,7 @@ pub fn own(
     ensures refused { IsErrOf result Refusal.NotAllowed
         → Allowed (setting opening.now) (state table.now) view.now (move.Own tab slot) → ⊥ }
 {
-    if tab >= INNER || slot >= opening.slots || !inner_is_free(view) {
+    if tab >= INNER_TAB || slot >= opening.slots || !inner_is_free(view) {
         return Err(Refusal::NotAllowed);
     }
     let Some(writer) = reserving_writer(view, tab) else {

@@ -1,19 +1,16 @@
 // Steps on the turns at cells.
-ghost use Rattle.std.specs.Prelude.{◌≡◌, ◌<◌, ◌++◌, ◌==◌, ◌↔◌, cond, length, true, IsTrue, IfOk, IsErrOf};
-ghost use Rattle.link_word.specs.declared.link.Link.TheVariants.{Last as LastLink};
+ghost use Rattle.std.specs.Prelude.{◌≡◌, ◌<◌, ◌==◌, ◌↔◌, cond, length, true, IsTrue, IfOk, IsErrOf};
 ghost use Rattle.core_model.specs.declared.moves.Move.TheVariants as move;
 ghost use Rattle.core_model.specs.declared.tab.Reader.{Reader as ReaderOf};
-ghost use Rattle.core_model.specs.declared.tab.Writer.{Writer as WriterOf};
-ghost use Rattle.core_model.specs.declared.tab.Tab.TheVariants.{Reading, Writing};
+ghost use Rattle.core_model.specs.declared.tab.Tab.TheVariants.{Reading};
 ghost use Rattle.core_model.specs.Cells.{CellsSound};
-ghost use Rattle.core_model.specs.Chains.{link_to, rest_of, first_of};
 ghost use Rattle.core_model.specs.Tabs.{anchor_of, is_reading};
 ghost use Rattle.core_model.specs.Table.{Allowed};
-ghost use Rattle.core_model.specs.CellMoves.{MayRead, MayWrite, Holds, piece_of, next_slot, was_written, was_settled};
+ghost use Rattle.core_model.specs.CellMoves.{MayRead, MayWrite, Holds, next_slot, was_written, was_settled};
 ghost use Rattle.core_table.specs.declared.content.Content.{Content as ContentOf};
 ghost use Rattle.core_table.specs.Inside.{setting, state};
 ghost use Rattle.core_change.specs.Planned.{IsScene, Plans};
-ghost use Rattle.core_slots.specs.Trying.{MayTry, tried_piece, tried_turn, tried_tabs, ended_tabs};
+ghost use Rattle.core_slots.specs.Trying.{MayTry, tried_turn, tried_tabs, ended_tabs};
 
 use crate::links::is_next;
 use crate::publishing::is_first;
@@ -21,7 +18,7 @@ use core_change::{
     ChainChange, Change, NotesChange, Refusal, TabChange, TabsChange, TurnChange, WordChange,
     tab_at, word_addition,
 };
-use core_model::{Kind, Piece, Place, Reader, Tab, Turn, View, Writer};
+use core_model::{Kind, Place, Reader, Tab, Turn, View, Writer};
 use core_table::{Content, Opening, Table};
 use link_word::Link;
 
@@ -33,15 +30,11 @@ fn may_read(table: &Table, reader: &Reader<Content>, slot: u32) -> bool
     is_next(table, reader, slot) && reader.found != Link::NotWritten
 }
 
-/// Whether a writing tab has named its entry, and this is its first reserved slot.
+/// Whether a writing tab logged a piece for this slot, which is the first that it reserved.
 fn may_write(writer: &Writer<Content>, slot: u32) -> bool
     ensures { IsTrue result ↔ MayWrite slot writer.now }
 {
-    is_first(&writer.reserved, slot)
-        && !writer.is_ending
-        && writer.key0.is_some()
-        && writer.key1.is_some()
-        && writer.offer.is_some()
+    is_first(&writer.reserved, slot) && writer.logged_in == Some(slot)
 }
 
 /// Whether a tab may try to take the turn at this slot.
@@ -55,55 +48,6 @@ fn may_try(table: &Table, tab: &Tab<Content>, slot: u32) -> bool
         }
         Tab::Writing(writer) => matches!(writer.turn, Turn::NoTurn) && may_write(writer, slot),
         _ => false,
-    }
-}
-
-/// The first slot of an entry, of which these are published and those reserved.
-fn first_of(published: &[u32], reserved: &[u32]) -> u32
-    ensures { result ≡ first_of (published.now ++ reserved.now) }
-{
-    match (published, reserved) {
-        ([first, ..], _) => *first,
-        ([], [first, ..]) => *first,
-        ([], []) => 0,
-    }
-}
-
-/// The link of the first of these slots: to the second, if there is one.
-fn link_behind(reserved: &[u32]) -> Link
-    ensures { result ≡ link_to (rest_of reserved.now) LastLink }
-{
-    match reserved {
-        [_, next, ..] => Link::Next(*next),
-        _ => Link::Last,
-    }
-}
-
-/// The piece for the first reserved slot.
-fn piece_of(opening: &Opening, writer: &Writer<Content>) -> Piece
-    requires { length writer.now.published < opening.now.slots }
-    ensures { result ≡ piece_of writer.now }
-{
-    let published = writer.published.as_slice();
-    let reserved = writer.reserved.as_slice();
-    prove!(published.len() < opening.slots as usize);
-    Piece {
-        offer: writer.offer.unwrap_or(0),
-        version: writer.version,
-        place: published.len() as u32,
-        first: first_of(published, reserved),
-        next: link_behind(reserved),
-    }
-}
-
-/// The piece that a writing tab has chosen, or else chooses now.
-fn tried_piece(opening: &Opening, writer: &Writer<Content>) -> Piece
-    requires { length writer.now.published < opening.now.slots }
-    ensures { result ≡ tried_piece writer.now }
-{
-    match writer.chosen {
-        Some(piece) => piece,
-        None => piece_of(opening, writer),
     }
 }
 
@@ -125,19 +69,17 @@ fn tried_turn(tab: u8, slot: u32, found: u64) -> TurnChange
     }
 }
 
-/// What becomes of the tab beside its turn: a writing tab has chosen its piece, which is not written yet
-/// where the turn is new.
-fn tried_tabs(opening: &Opening, tab: u8, now: &Tab<Content>, found: u64) -> TabsChange
-    requires { (writer : WriterOf ContentOf) → now.now ≡ Writing writer → length writer.published < opening.now.slots }
+/// What becomes of the tab beside its turn: the piece of a writing tab is not written yet where the turn is
+/// new.
+fn tried_tabs(tab: u8, now: &Tab<Content>, found: u64) -> TabsChange
     ensures { result ≡ tried_tabs tab now.now found }
 {
     let Tab::Writing(writer) = now else {
         return TabsChange::Same;
     };
-    let piece = tried_piece(opening, writer);
     let is_written = found != 0 && writer.is_written;
     let is_settled = found != 0 && writer.is_settled;
-    TabsChange::Becomes(tab, TabChange::Chooses(piece, is_written, is_settled))
+    TabsChange::Becomes(tab, TabChange::Leaves(is_written, is_settled))
 }
 
 /// A reading or writing tab tries to take the turn at a slot: it has it, and the cell, where no tab had it.
@@ -167,7 +109,7 @@ pub fn try_turn(
         answer: found,
         word: Some(WordChange { index, left }),
         turn: tried_turn(tab, slot, found),
-        tabs: tried_tabs(opening, tab, now, found),
+        tabs: tried_tabs(tab, now, found),
         chain: ChainChange::Same,
         used: None,
         addition: word_addition(Kind::Tried, place, slot, found, left, None),

@@ -72,7 +72,7 @@ impl Core {
     }
 
     /// The words of the table: that of each anchor with the four beside it, the link and the turn of each
-    /// slot, the map of taken slots, and the counter of versions.
+    /// slot, the map of taken slots, the counter of versions, and that of logged pieces.
     pub fn words(&self) -> &[u64]
         ensures { result.now ≡ self.now.words }
     {

@@ -5,12 +5,11 @@ ghost use Rattle.core_model.specs.Anchors.{Shaped};
 ghost use Rattle.core_model.specs.Layout.{anchor_index, index};
 
 use crate::content::Content;
-use crate::layout::{anchor_index, beside_index, counter_index, link_index, map_index, turn_index};
-use core_model::{Cell, Chain, Place, View};
+use crate::layout::{
+    anchor_index, beside_index, counter_index, link_index, log_index, map_index, turn_index,
+};
+use core_model::{Cell, Chain, Place, TABS, View};
 use lock_word::{Word, word_of};
-
-/// How many tabs a pass has. A note has none.
-const TABS: usize = 9;
 
 /// What does not change while a store is open.
 #[derive(Drop)]
@@ -46,6 +45,7 @@ impl Opening {
             Place::Turn(slot) => turn_index(self.anchors, slot),
             Place::Map(word) => map_index(self.anchors, self.slots, word),
             Place::Counter => counter_index(self.anchors, self.slots),
+            Place::LogCounter => log_index(self.anchors, self.slots),
         }
     }
 }

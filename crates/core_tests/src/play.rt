@@ -10,6 +10,7 @@
 // - `seen VIEW COUNT`: how many things the pass or note of this number has seen, `Some(..)`, or `None` where there
 //   is no such view;
 // - `map [WORD, ..]`: the words of the map of taken slots;
+// - `logged COUNT`: the counter of logged pieces;
 // - `claim PASS TAB PLACE`: how far the search of this tab, which writes, has come, `Some(..)`, or `None` where it
 //   searches for no slot;
 // - `# ..`: a comment.
@@ -102,13 +103,21 @@ fn cell_told(alloc: Global, core: &Core) -> Option<String> {
 }
 
 /// The line on the map of taken slots, which stands behind five words of each anchor and two of each slot, and
-/// in front of the counter.
+/// in front of the two counters.
 fn map_told(alloc: Global, core: &Core) -> Option<String> {
     let anchors = core.chains().len().saturating_mul(5);
     let slots = core.places().len().saturating_mul(2);
     let words = core.words().get(anchors.saturating_add(slots)..)?;
-    let (_, map) = words.split_last()?;
+    let [map @ .., _, _] = words else {
+        return None;
+    };
     format!(in alloc; "map {map:?}").ok()
+}
+
+/// The line on the counter of logged pieces, which stands last.
+fn log_told(alloc: Global, core: &Core) -> Option<String> {
+    let count = core.words().last()?;
+    format!(in alloc; "logged {count}").ok()
 }
 
 /// The line on the search of the tab `PASS TAB`.
@@ -128,6 +137,7 @@ fn standing(alloc: Global, core: &Core, line: &str) -> Option<String> {
         "cell" => cell_told(alloc, core),
         "seen" => view_told(alloc, core, words.next()?),
         "map" => map_told(alloc, core),
+        "logged" => log_told(alloc, core),
         "claim" => claim_told(alloc, core, words.next()?, words.next()?),
         _ => None,
     }

@@ -1,5 +1,5 @@
 // Pages that are taken and given back: by one seat, by two, and by two threads.
-ghost use Rattle.std.specs.Prelude.{Contains, IfSome};
+ghost use Rattle.std.specs.Prelude.{Contains, IfSome, ℕ};
 ghost use Rattle.page_pool.specs.Ruled.{IsPage};
 ghost use Rattle.page_pool.specs.Seats.{IsSeatOf, key, view};
 
@@ -137,6 +137,53 @@ fn two_seats_share_the_pages(rt: HostRuntime) {
     assert_eq!(rt; TURNS.lines().count(), 3);
     for row in TURNS.lines() {
         assert!(rt; is_as_tabled(rt.alloc(), row) == Some(true), "{row}");
+    }
+}
+
+/// Two seats take the pages from this number on in turn, hold them all at once, and give them back: the last pair first, and of
+/// each pair the lower page first. Whether each take answered the next number, and each page had the byte still that was written
+/// into it.
+fn take_turns(pool: &Pool, a: &mut PoolSeat, b: &mut PoolSeat, from: u32, pages: u32) -> bool
+    requires own { IsSeatOf pool.now a.old × IsSeatOf pool.now b.old }
+    ensures own { IsSeatOf pool.now a.new × IsSeatOf pool.now b.new }
+    ensures first { (m : ℕ) → Contains (view a.old).held m → Contains (view a.new).held m }
+    ensures second { (m : ℕ) → Contains (view b.old).held m → Contains (view b.new).held m }
+{
+    if from >= pages {
+        return true;
+    }
+    let Ok(mut lower) = pool.take(a) else {
+        return false;
+    };
+    let Ok(mut upper) = pool.take(b) else {
+        return false;
+    };
+    let marks = ((from % 251) as u8, (from % 241) as u8);
+    lower.bytes_mut().fill(marks.0);
+    upper.bytes_mut().fill(marks.1);
+    let are_right = take_turns(pool, a, b, from.saturating_add(2), pages);
+    let are_next = lower.number() == from && upper.number() == from.saturating_add(1);
+    let are_kept = are_all(lower.bytes(), marks.0) & are_all(upper.bytes(), marks.1);
+    pool.give(a, lower);
+    pool.give(b, upper);
+    are_right && are_next && are_kept
+}
+
+/// Whether two seats share all pages of such a pool, and one of them takes them in order afterwards.
+fn are_shared(alloc: Global, pages: u32) -> Option<bool> {
+    if pages == 0 {
+        return None;
+    }
+    let (pool, mut a) = Pool::new(alloc, pages, 33).ok()?;
+    let mut b = pool.split(&mut a);
+    let are_shared = take_turns(&pool, &mut a, &mut b, 0, pages);
+    Some(are_shared && takes_in_order(&pool, &mut a, pages, 33))
+}
+
+#[test]
+fn pages_are_given_back_in_another_order(rt: HostRuntime) {
+    for pages in [2, 4, 288] {
+        assert!(rt; are_shared(rt.alloc(), pages) == Some(true), "{pages}");
     }
 }
 

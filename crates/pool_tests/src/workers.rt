@@ -234,8 +234,9 @@ fn is_answered<R: Threads + Wait + Sync>(rt: &R, alloc: Global, section: &str) -
     };
     let answers = answers_of(alloc, &ran)?;
     let is_late = order.is_late.load(Ordering::SeqCst);
+    let was_asked = order.was_asked.load(Ordering::SeqCst) == (order.until != 0);
     let are_left = ran.shelves.iter().all(|shelf| shelf.has_left);
-    Some(answers.as_str() == wanted.as_str() && !is_late && are_left)
+    Some(answers.as_str() == wanted.as_str() && !is_late && was_asked && are_left)
 }
 
 #[test]

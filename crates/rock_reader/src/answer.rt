@@ -1,10 +1,10 @@
-// What reading on comes to.
+// What a call that reads on answers.
 use lock_word::Epoch;
 
-/// What reading on came to.
+/// What a tab was given by reading on, or why nothing.
 #[derive(Clone, Copy, Debug, PartialEq, Eq)]
 pub enum More {
-    /// So many bytes were given, which are what the next slot adds to the body. The first slot may add none.
+    /// `count` bytes were given, which are what the next slot adds to the body. The first slot may add none.
     Piece { count: usize },
     /// The next slot is not published yet. The entry was found to grow, at this epoch.
     NotYet { epoch: Epoch },

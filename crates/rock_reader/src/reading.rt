@@ -160,7 +160,7 @@ fn place_of<C>(pass: &Pass<C>, tab: u8) -> u32
     reading.place
 }
 
-// What it comes to that a link is not written, by the epoch that was found before it: a growing entry may get
+// What an unwritten link means, by the epoch that was found before it: a growing entry may get
 // it still, and one that was given up will not.
 fn unwritten(epoch: Epoch) -> More
     ensures grows { epoch.stage ≡ Stage.Appending → result ≡ More.NotYet epoch }

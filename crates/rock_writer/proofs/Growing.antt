@@ -51,10 +51,10 @@ module _ {X : Type 0} (g : Ground X) (t : ℕ) (below : t < inner) (e : Entry) w
     same = ap (writer_in x) (sym wrote.wrote.was ∙ is)
 
     abbrev y : Writer X
-    y = chose x wrote.wrote.written wrote.wrote.settled
+    y = chose x wrote.wrote.slot durable wrote.wrote.written wrote.wrote.settled
 
     tabs : wrote.written.tabs ≡ set v.tabs t (Writing y)
-    tabs = wrote.wrote.tabs ∙ ap (λ (z : Writer X). set v.tabs t (Writing (chose z wrote.wrote.written wrote.wrote.settled))) same
+    tabs = wrote.wrote.tabs ∙ ap (λ (z : Writer X). set v.tabs t (Writing (chose z wrote.wrote.slot durable wrote.wrote.written wrote.wrote.settled))) same
 
     written_is : tab_at wrote.written t ≡ Writing y
     written_is = tab_now t v wrote.written (Writing y) pass below tabs
@@ -68,7 +68,7 @@ module _ {X : Type 0} (g : Ground X) (t : ℕ) (below : t < inner) (e : Entry) w
     pub linked : (tab_at w t ≡ Writing (linked_as published slot (next_link next) more)) × InnerIsFree w
     linked = by_list published written_is wrote.publishes
       where
-        by_list : (ps : List ℕ) → tab_at wrote.written t ≡ Writing (chose (writer_as g e ps end (slot ∷ more)) wrote.wrote.written wrote.wrote.settled) → Published g t slot next wrote.written w
+        by_list : (ps : List ℕ) → tab_at wrote.written t ≡ Writing (chose (writer_as g e ps end (slot ∷ more)) wrote.wrote.slot durable wrote.wrote.written wrote.wrote.settled) → Published g t slot next wrote.written w
             → (tab_at w t ≡ Writing (linked_as ps slot (next_link next) more)) × InnerIsFree w
         by_list [] at (inl first) = let one = ap View.tabs first.linked.leaves in let two = ap View.tabs first.started.leaves in
             let mid = tab_now t wrote.written first.middle (publishes (tab_at wrote.written t) slot (next_link next)) nine below one ∙ ap (λ z. publishes z slot (next_link next)) at in (

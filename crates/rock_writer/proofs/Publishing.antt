@@ -134,9 +134,9 @@ module _ {C O : Type 0} (tells : Bool) (state : C → CellState) (offers : O →
       writer = w;
       is = ap (λ z. tab_at z t) same ∙ h.rests.is;
       slot = slot;
-      may = record { first = refl; goes_on = refl; key0 = λ z. cc; key1 = λ z. cc; offer = λ z. cc };
+      may = record { first = refl; goes_on = refl; none = refl; key0 = λ z. cc; key1 = λ z. cc; offer = λ z. cc };
       idle = refl;
-      keeps = λ none. keeps;
+      keeps = keeps;
       buffer = λ told. sealed ∙ ap (λ (n : ℕ). image (cut_of g e.offer e.version n) place (next_of behind)) (sym (first_same h.published slot (slots_behind behind)))
           ∙ ap (image (cut_of g e.offer e.version (first_of (h.published ++ slot ∷ slots_behind behind))) place) (sym (named_next behind))
           ∙ sym (image_told tells (offers _) g.setting.slots g.slot (piece_of w) told);
@@ -147,10 +147,10 @@ module _ {C O : Type 0} (tells : Bool) (state : C → CellState) (offers : O →
     same_writer = ap (writer_in w) (sym wrote.was ∙ h.rests.is)
 
     abbrev chosen : Writer (List ℕ)
-    chosen = chose w wrote.written wrote.settled
+    chosen = chose w wrote.slot durable wrote.written wrote.settled
 
     tabs : (view r).tabs ≡ set (view p).tabs t (Writing chosen)
-    tabs = wrote.tabs ∙ ap (λ (z : Writer (List ℕ)). set (view p).tabs t (Writing (chose z wrote.written wrote.settled))) same_writer
+    tabs = wrote.tabs ∙ ap (λ (z : Writer (List ℕ)). set (view p).tabs t (Writing (chose z wrote.slot durable wrote.written wrote.settled))) same_writer
 
     pub tab_is : tab_at (view r) t ≡ Writing chosen
     tab_is = tab_now t (view p) (view r) (Writing chosen) (pass_of p) h.rests.below tabs
@@ -170,6 +170,7 @@ module _ {C O : Type 0} (tells : Bool) (state : C → CellState) (offers : O →
         chosen = refl;
         link_is = link_behind behind;
         written = wrote.is_written d;
+        settled = wrote.is_settled d;
       };
     }
 

@@ -77,8 +77,8 @@ module _ {X : Type 0} (g : Ground X) where
   returned_seen k (Tab.Freeing f) t slot c v u h = ap View.seen h
 
   grows_wrote : (t : ℕ) (v w : View X) (durable done : Bool) → WroteSlot g t v durable done w → Grows v w
-  grows_wrote t v w durable done h = grows_on v h.middle w (grows_step v h.middle _ 0 h.tried)
-      (grows_on h.middle h.from w ([], returned_seen g.setting (tab_at h.middle t) t h.slot h.cell h.middle h.from h.returned) (grows_step h.from w _ 1 h.ended))
+  grows_wrote t v w durable done h = grows_on v h.logged w (grows_step v h.logged _ h.number h.logs) (grows_on h.logged h.middle w (grows_step h.logged h.middle _ 0 h.tried)
+      (grows_on h.middle h.from w ([], returned_seen g.setting (tab_at h.middle t) t h.slot h.cell h.middle h.from h.returned) (grows_step h.from w _ 1 h.ended)))
 
   pub grows_piece : (t : ℕ) (v w : View X) (durable : Bool) (slot : ℕ) (next : Option ℕ) → WrotePiece g t durable slot next v w → Grows v w
   grows_piece t v w durable slot next h = grows_on v h.written w (grows_wrote t v h.written durable true h.wrote) (⊎_elim

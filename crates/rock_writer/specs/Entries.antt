@@ -61,6 +61,8 @@ module _ {X : Type 0} (g : Ground X) (e : Entry) where
     claim = None;
     reserved = reserved;
     chosen = None;
+    logged_in = None;
+    is_durable = false;
     is_written = false;
     is_settled = false;
     published = published;

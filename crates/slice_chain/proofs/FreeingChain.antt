@@ -194,8 +194,10 @@ module _ {C O : Type 0} (tells : Bool) (state : C → CellState) (offers : O →
             behind_anchors : (slot : ℕ) → f.anchor < g.setting.anchors → index g.setting (Link slot) ≡ index g.setting (Anchor f.anchor) → ⊥
             behind_anchors slot lt e = omega arith
 
-module _ {C O : Type 0} (tells : Bool) (state : C → CellState) (offers : O → Offers) (s : Store C O) (p p1 p2 p3 : Pass C) (n m : ℕ) where
-  pub chain_follows : Made tells state offers s p (LoadSide inner Start) n p1 → Follows tells state offers s inner p1 p2 → Made tells state offers s p2 (Raise inner Stage.Gone) m p3 → Follows tells state offers s inner p p3
-  chain_follows first rest last = follows_on tells state offers s inner p p2 p3
-      (follows_on tells state offers s inner p p1 p2 (made_follows tells state offers s inner p p1 (LoadSide inner Start) n first (λ u e. ap (λ (o : Option ℕ). unwrap_or o inner) (sym e)) (λ h. h)) rest)
+module _ {C O : Type 0} (tells : Bool) (state : C → CellState) (offers : O → Offers) (s : Store C O) (p p1 p2 : Pass C) (n : ℕ) where
+  pub rest_follows : Made tells state offers s p (LoadSide inner Start) n p1 → Follows tells state offers s inner p1 p2 → Follows tells state offers s inner p p2
+  rest_follows first rest = follows_on tells state offers s inner p p1 p2 (made_follows tells state offers s inner p p1 (LoadSide inner Start) n first (λ u e. ap (λ (o : Option ℕ). unwrap_or o inner) (sym e)) (λ h. h)) rest
+
+  pub chain_follows : (p3 : Pass C) (m : ℕ) → Made tells state offers s p (LoadSide inner Start) n p1 → Follows tells state offers s inner p1 p2 → Made tells state offers s p2 (Raise inner Stage.Gone) m p3 → Follows tells state offers s inner p p3
+  chain_follows p3 m first rest last = follows_on tells state offers s inner p p2 p3 (rest_follows first rest)
       (made_follows tells state offers s inner p2 p3 (Raise inner Stage.Gone) m last (λ u e. ap (λ (o : Option ℕ). unwrap_or o inner) (sym e)) (λ h. h))

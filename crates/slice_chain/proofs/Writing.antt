@@ -2,13 +2,11 @@
 use Rattle.std.proofs.Common.{Bool, List, None, Option, Some, [], ap, arith, cond, false, true, get_or, get_or-set_other, get_or-set_same, suc, zero, All, inl, inr, length, drop, refl, set, subst, sym, unwrap_or, ⊎_elim, ◌<◌, ◌==◌, ◌≡◌, ◌≤◌, ◌⊎◌, ◌∙◌, ◌∷◌, ℕ}
 use Rattle.std.specs.Prelude.{Contains, Err, IsTrue, Ok, OnErr, Result}
 use Rattle.rock_disk.specs.Cell.{CellState, shape}
-use Rattle.core_model.specs.CellMoves.{MayWrite, ends, piece_of, tries}
+use Rattle.core_model.specs.CellMoves.{MayWrite, ends, piece_of, tries, MayLog, logs}
 use Rattle.core_model.specs.Steps.{cell_found}
 use Rattle.core_model.specs.Chains.{rest_of}
-use Rattle.core_model.specs.Slots.{WriterHolds, slot_words}
-use Rattle.core_model.specs.State.{chain_of}
 use Rattle.core_model.specs.Tabs.{OfWriter, has_turn, inner, tab_at, turn_of, with_tab}
-use Rattle.core_model.specs.declared.moves.Move.TheVariants.{EndTurn, TryTurn}
+use Rattle.core_model.specs.declared.moves.Move.TheVariants.{EndTurn, TryTurn, LogPiece}
 use Rattle.core_model.specs.declared.tab.Cell.{Cell}
 use Rattle.core_model.specs.declared.tab.Hold.{Hold}
 use Rattle.core_model.specs.declared.tab.Piece.{Piece}
@@ -17,15 +15,14 @@ use Rattle.core_model.specs.declared.tab.Tab.TheVariants.{Writing}
 use Rattle.core_model.specs.declared.tab.Turn.TheVariants.{Has}
 use Rattle.core_model.specs.declared.tab.Writer.{Writer}
 use Rattle.core_model.specs.declared.view.View.{View}
-use Rattle.core_model.proofs.Tabs.{tab_there}
 use Rattle.std.proofs.lemmas.Bool.{eqb-true}
 use Rattle.store_rule.specs.Calls.{Follows}
 use Rattle.tab_states.specs.declared.desks.Desk.{Desk}
 use Rattle.store_rule.specs.declared.store.Pass.{Pass}
 use Rattle.store_rule.specs.declared.store.Store.{Store}
-use Rattle.store_rule.specs.Ground.{Ground, Offers}
+use Rattle.store_rule.specs.Ground.{Ground, Offers, offering_of}
 use Rattle.tab_states.specs.Desks.{buffer_at}
-use Rattle.store_rule.specs.Passes.{HasCell, HasRoom, IsOf, May, basis, hand, view}
+use Rattle.store_rule.specs.Passes.{HasCell, HasRoom, IsOf, May, basis, hand, view, Made}
 use Rattle.store_rule.specs.Ruled.{IsFitting}
 use Rattle.store_rule.specs.Setting.{form_of, image_in, shown, shown_in}
 use Rattle.tab_states.specs.Tabs.{head_of}
@@ -34,6 +31,7 @@ use Rattle.store_rule.specs.Turns.{HasReturned, HasTaken, IsReturned, MayComeHom
 use Rattle.store_rule.proofs.Passing.{pass_of}
 use Rattle.slice_chain.specs.Writes.{MayWriteSlot, WroteSlot, chose, reserved_first}
 use Rattle.slice_chain.specs.Written.{IsWrittenCell, MayBeLeft}
+use Rattle.core_model.specs.Offers.{KeepsTo}
 
 pub set_again : {A : Type 0} → (xs : List A) (t : ℕ) (x y : A) → set (set xs t x) t y ≡ set xs t y
 set_again [] t x y = refl
@@ -57,9 +55,9 @@ alone_there true c bytes h = let k = h refl in k.1 ∙ ap (λ (x : List ℕ). x 
 alone_there false c bytes h = refl
 
 -- a writing tab that found its turn free
-tried_writer : (w : Writer (List ℕ)) (slot n : ℕ) (cell : Option (Cell (List ℕ))) (h : Hold (List ℕ)) → (n == 0) ≡ true → turn_of (tries (Writing w) slot n cell) ≡ Has h → unwrap_or w.chosen (piece_of w) ≡ piece_of w
-    → tries (Writing w) slot n cell ≡ Writing (record w { chosen = Some (piece_of w); is_written = false; is_settled = false; turn = Has h })
-tried_writer w slot n cell h hit turn chosen = λ i. Writing (record w { chosen = Some (chosen i); is_written = cond (hit i) false w.is_written; is_settled = cond (hit i) false w.is_settled; turn = turn i })
+tried_writer : (w : Writer (List ℕ)) (slot n : ℕ) (cell : Option (Cell (List ℕ))) (h : Hold (List ℕ)) → (n == 0) ≡ true → turn_of (tries (Writing w) slot n cell) ≡ Has h
+    → tries (Writing w) slot n cell ≡ Writing (record w { is_written = false; is_settled = false; turn = Has h })
+tried_writer w slot n cell h hit turn = λ i. Writing (record w { is_written = cond (hit i) false w.is_written; is_settled = cond (hit i) false w.is_settled; turn = turn i })
 
 module _ {C O : Type 0} (tells : Bool) (state : C → CellState) (offers : O → Offers) (s : Store C O) (p : Pass C) (t : ℕ) (may : MayWriteSlot tells state offers s p t) where
   abbrev g : Ground (List ℕ)
@@ -68,9 +66,13 @@ module _ {C O : Type 0} (tells : Bool) (state : C → CellState) (offers : O →
   abbrev writer : Writer (List ℕ)
   writer = may.writer
 
-  -- the writer that has the turn, with this cell
-  abbrev with_turn : ℕ → Cell (List ℕ) → Writer (List ℕ)
-  with_turn slot cell = record writer { chosen = Some (piece_of writer); is_written = false; is_settled = false; turn = Has (new_hold slot cell) }
+  -- the writer that has logged its piece, and has no turn yet
+  abbrev logged_writer : ℕ → Bool → Writer (List ℕ)
+  logged_writer slot durable = record writer { chosen = Some (piece_of writer); logged_in = Some slot; is_durable = durable; is_written = false; is_settled = false }
+
+  -- and that has the turn, with this cell
+  abbrev with_turn : ℕ → Bool → Cell (List ℕ) → Writer (List ℕ)
+  with_turn slot durable cell = record (logged_writer slot durable) { turn = Has (new_hold slot cell) }
 
   pub slot_is : (slot : ℕ) → Some slot ≡ reserved_first (tab_at (view p) t) → slot ≡ may.slot
   slot_is slot e = some_same slot may.slot (e ∙ ap reserved_first may.is ∙ ap head_of may.may.first)
@@ -84,13 +86,13 @@ module _ {C O : Type 0} (tells : Bool) (state : C → CellState) (offers : O →
       none_some : (x : ℕ) → None ≡ Some x → ⊥
       none_some x z = cc
 
-  -- the try for the turn
-  pub may_try : (slot : ℕ) → slot ≡ may.slot → May tells state offers s p (TryTurn t slot)
-  may_try slot e = record {
+  -- the piece may be logged
+  pub may_log : (slot : ℕ) (durable : Bool) → slot ≡ may.slot → May tells state offers s p (LogPiece t slot durable)
+  may_log slot durable e = record {
     own = may.own;
     can = record {
-      allowed = (let b = may.below in omega arith, ap (λ (x : Tab (List ℕ)). has_turn (turn_of x)) may.is ∙ may.idle, inr (subst (OfWriter (MayWrite slot)) (sym may.is) (subst (λ (z : ℕ). MayWrite z writer) (sym e) may.may)));
-      chooses = λ w is none. subst (λ (z : Writer (List ℕ)). Rattle.core_model.specs.Offers.KeepsTo (Rattle.store_rule.specs.Ground.offering_of g) z (piece_of z)) (same_writer writer w (sym may.is ∙ is)) (may.keeps (ap Writer.chosen (same_writer writer w (sym may.is ∙ is)) ∙ none));
+      allowed = (may.below, subst (OfWriter (MayLog slot)) (sym may.is) (subst (λ (z : ℕ). MayLog z writer) (sym e) may.may));
+      chooses = λ w is none. subst (λ (z : Writer (List ℕ)). KeepsTo (offering_of g) z (piece_of z)) (same_writer writer w (sym may.is ∙ is)) may.keeps;
       names = tt;
     };
   }
@@ -102,38 +104,53 @@ module _ {C O : Type 0} (tells : Bool) (state : C → CellState) (offers : O →
           writer_or d (Writing w) = w
           writer_or d _ = d
 
-  pub always_won : OfWriter (λ w. Unit {0}) (tab_at (view p) t)
-  always_won = subst (OfWriter (λ w. Unit {0})) (sym may.is) tt
+  -- it was logged
+  module _ (slot : ℕ) (durable : Bool) (slot_same : slot ≡ may.slot) (n : ℕ) (p0 : Pass C) (logged : Made tells state offers s p (LogPiece t slot durable) n p0) where
+    logged_tabs : (view p0).tabs ≡ with_tab (view p) t (Writing (logged_writer slot durable))
+    logged_tabs = ap View.tabs logged.step.leaves ∙ ap (λ (x : Tab (List ℕ)). set (view p).tabs t (logs x slot durable)) may.is
 
-  -- a piece that the tab had chosen is its next one
-  chosen_is : unwrap_or writer.chosen (piece_of writer) ≡ piece_of writer
-  chosen_is = by_choice writer.chosen refl
-    where
-      holds : WriterHolds ((slot_words g.setting may.own.stands.state.words).beside writer.anchor) (chain_of may.own.stands.state writer.anchor) writer
-      holds = let n = pass_of p in let b = may.below in may.own.stands.rule.sound.slots.tabs may.own.stands.index (view p) may.own.stands.at t (Writing writer) (tab_there (view p) t (Writing writer) (omega arith) may.is)
+    logged_tab : tab_at (view p0) t ≡ Writing (logged_writer slot durable)
+    logged_tab = ap (λ (xs : List (Tab (List ℕ))). get_or xs t Tab.Free) logged_tabs
+        ∙ get_or-set_same (view p).tabs t (Writing (logged_writer slot durable)) Tab.Free (let n = pass_of p in let b = may.below in omega arith)
 
-      by_choice : (o : Option Piece) → writer.chosen ≡ o → unwrap_or o (piece_of writer) ≡ piece_of writer
-      by_choice None e = refl
-      by_choice (Some x) e = holds.chosen x may.may.goes_on e
+    -- the try for the turn
+    pub may_try : May tells state offers s p0 (TryTurn t slot)
+    may_try = record {
+      own = logged.own;
+      can = record {
+        allowed = (
+          let b = may.below in omega arith,
+          ap (λ (x : Tab (List ℕ)). has_turn (turn_of x)) logged_tab ∙ may.idle,
+          inr (subst (OfWriter (MayWrite slot)) (sym logged_tab) record { first = subst (λ (z : ℕ). writer.reserved ≡ z ∷ rest_of writer.reserved) (sym slot_same) may.may.first; logged = refl }),
+        );
+        chooses = tt;
+        names = tt;
+      };
+    }
 
-  abbrev cell_of : (slot : ℕ) (q : Pass C) → TurnFound tells state offers s p t slot true q → Option (Cell (List ℕ))
-  cell_of slot q found = cell_found g.setting found.made.step.state (view p) (TryTurn t slot)
+    pub always_won : OfWriter (λ w. Unit {0}) (tab_at (view p0) t)
+    always_won = subst (OfWriter (λ w. Unit {0})) (sym logged_tab) tt
 
-  -- the tab that has the turn
-  pub taken_tabs : (slot : ℕ) (q : Pass C) (found : TurnFound tells state offers s p t slot true q) (taken : HasTaken tells state offers s p t slot q) → (view q).tabs ≡ with_tab (view p) t (Writing (with_turn slot (shown tells state taken.cell)))
-  taken_tabs slot q found taken = ap View.tabs found.made.step.leaves ∙ ap (set (view p).tabs t) (is_tried
-      ∙ tried_writer writer slot found.made.found (cell_of slot q found) (new_hold slot (shown tells state taken.cell)) (ap (λ (z : ℕ). z == 0) (sym found.made.answers) ∙ sym found.is_won) (ap turn_of (sym (now ∙ is_tried)) ∙ taken.turn) chosen_is)
-    where
-      is_tried : tries (tab_at (view p) t) slot found.made.found (cell_of slot q found) ≡ tries (Writing writer) slot found.made.found (cell_of slot q found)
-      is_tried = ap (λ (x : Tab (List ℕ)). tries x slot found.made.found (cell_of slot q found)) may.is
+    abbrev cell_of : (q : Pass C) → TurnFound tells state offers s p0 t slot true q → Option (Cell (List ℕ))
+    cell_of q found = cell_found g.setting found.made.step.state (view p0) (TryTurn t slot)
 
-      now : tab_at (view q) t ≡ tries (tab_at (view p) t) slot found.made.found (cell_of slot q found)
-      now = ap (λ (v : View (List ℕ)). tab_at v t) found.made.step.leaves ∙ get_or-set_same (view p).tabs t (tries (tab_at (view p) t) slot found.made.found (cell_of slot q found)) Tab.Free (let n = pass_of p in let b = may.below in omega arith)
+    -- the tab that has the turn
+    pub taken_tabs : (q : Pass C) (found : TurnFound tells state offers s p0 t slot true q) (taken : HasTaken tells state offers s p0 t slot q) → (view q).tabs ≡ with_tab (view p) t (Writing (with_turn slot durable (shown tells state taken.cell)))
+    taken_tabs q found taken = ap View.tabs found.made.step.leaves ∙ ap (set (view p0).tabs t) (is_tried
+        ∙ tried_writer (logged_writer slot durable) slot found.made.found (cell_of q found) (new_hold slot (shown tells state taken.cell)) (ap (λ (z : ℕ). z == 0) (sym found.made.answers) ∙ sym found.is_won) (ap turn_of (sym (now ∙ is_tried)) ∙ taken.turn))
+        ∙ ap (λ (xs : List (Tab (List ℕ))). set xs t (Writing (with_turn slot durable (shown tells state taken.cell)))) logged_tabs
+        ∙ set_again (view p).tabs t (Writing (logged_writer slot durable)) (Writing (with_turn slot durable (shown tells state taken.cell)))
+      where
+        is_tried : tries (tab_at (view p0) t) slot found.made.found (cell_of q found) ≡ tries (Writing (logged_writer slot durable)) slot found.made.found (cell_of q found)
+        is_tried = ap (λ (x : Tab (List ℕ)). tries x slot found.made.found (cell_of q found)) logged_tab
+
+        now : tab_at (view q) t ≡ tries (tab_at (view p0) t) slot found.made.found (cell_of q found)
+        now = ap (λ (v : View (List ℕ)). tab_at v t) found.made.step.leaves ∙ get_or-set_same (view p0).tabs t (tries (tab_at (view p0) t) slot found.made.found (cell_of q found)) Tab.Free (let n = pass_of p0 in let b = may.below in omega arith)
 
   -- of a view in which it has the turn
-  module _ (slot : ℕ) (q : Pass C) (cell : Cell (List ℕ)) (tabs : (view q).tabs ≡ with_tab (view p) t (Writing (with_turn slot cell))) where
-    pub tab_is : tab_at (view q) t ≡ Writing (with_turn slot cell)
-    tab_is = ap (λ (xs : List (Tab (List ℕ))). get_or xs t Tab.Free) tabs ∙ get_or-set_same (view p).tabs t (Writing (with_turn slot cell)) Tab.Free (let n = pass_of p in let b = may.below in omega arith)
+  module _ (slot : ℕ) (durable : Bool) (q : Pass C) (cell : Cell (List ℕ)) (tabs : (view q).tabs ≡ with_tab (view p) t (Writing (with_turn slot durable cell))) where
+    pub tab_is : tab_at (view q) t ≡ Writing (with_turn slot durable cell)
+    tab_is = ap (λ (xs : List (Tab (List ℕ))). get_or xs t Tab.Free) tabs ∙ get_or-set_same (view p).tabs t (Writing (with_turn slot durable cell)) Tab.Free (let n = pass_of p in let b = may.below in omega arith)
 
     pub may_end : IsOf tells state offers s q → May tells state offers s q (EndTurn t slot false)
     may_end own = record {
@@ -155,23 +172,23 @@ module _ {C O : Type 0} (tells : Bool) (state : C → CellState) (offers : O →
     }
 
     -- the tab after the end
-    pub ended_tabs : (q' : Pass C) (ended : TurnEnded tells state offers s q t slot false q') → (written : Bool) × (settled : Bool) × ((view q').tabs ≡ with_tab (view p) t (Writing (chose writer written settled)))
+    pub ended_tabs : (q' : Pass C) (ended : TurnEnded tells state offers s q t slot false q') → (written : Bool) × (settled : Bool) × ((view q').tabs ≡ with_tab (view p) t (Writing (chose writer slot durable written settled)))
         × (g.setting.image (piece_of writer) ≡ (shown tells state ended.cell).now → written ≡ true)
         × ((shown tells state ended.cell).possible ≡ (shown tells state ended.cell).now ∷ [] → settled ≡ true)
     ended_tabs q' ended = of_hold (subst (λ (x : Tab (List ℕ)). IsReturned g.setting x t slot (shown tells state ended.cell) (view q) ended.from) tab_is ended.returned)
       where
-        of_hold : IsReturned g.setting (Writing (with_turn slot cell)) t slot (shown tells state ended.cell) (view q) ended.from → (written : Bool) × (settled : Bool) × ((view q').tabs ≡ with_tab (view p) t (Writing (chose writer written settled)))
+        of_hold : IsReturned g.setting (Writing (with_turn slot durable cell)) t slot (shown tells state ended.cell) (view q) ended.from → (written : Bool) × (settled : Bool) × ((view q').tabs ≡ with_tab (view p) t (Writing (chose writer slot durable written settled)))
             × (g.setting.image (piece_of writer) ≡ (shown tells state ended.cell).now → written ≡ true)
             × ((shown tells state ended.cell).possible ≡ (shown tells state ended.cell).now ∷ [] → settled ≡ true)
         of_hold (h, back, is) = (
           h.is_written,
           h.is_settled,
           ap View.tabs ended.step.leaves ∙ (λ i. set (is i).tabs t (ends (tab_at (is i) t) false))
-              ∙ ap (λ (x : Tab (List ℕ)). set (set (view q).tabs t (Writing record (with_turn slot cell) { turn = Has h })) t (ends x false))
-              (get_or-set_same (view q).tabs t (Writing record (with_turn slot cell) { turn = Has h }) Tab.Free (let n = pass_of q in let b = may.below in omega arith))
-              ∙ set_again (view q).tabs t _ (Writing (chose writer h.is_written h.is_settled))
-              ∙ ap (λ (xs : List (Tab (List ℕ))). set xs t (Writing (chose writer h.is_written h.is_settled))) tabs
-              ∙ set_again (view p).tabs t (Writing (with_turn slot cell)) (Writing (chose writer h.is_written h.is_settled)),
+              ∙ ap (λ (x : Tab (List ℕ)). set (set (view q).tabs t (Writing record (with_turn slot durable cell) { turn = Has h })) t (ends x false))
+              (get_or-set_same (view q).tabs t (Writing record (with_turn slot durable cell) { turn = Has h }) Tab.Free (let n = pass_of q in let b = may.below in omega arith))
+              ∙ set_again (view q).tabs t _ (Writing (chose writer slot durable h.is_written h.is_settled))
+              ∙ ap (λ (xs : List (Tab (List ℕ))). set xs t (Writing (chose writer slot durable h.is_written h.is_settled))) tabs
+              ∙ set_again (view p).tabs t (Writing (with_turn slot durable cell)) (Writing (chose writer slot durable h.is_written h.is_settled)),
           λ e. back.written.1 (ap Some e),
           back.settled.1,
         )
@@ -182,6 +199,10 @@ same_cell {A} xs ys zs slot a b e f = ap (head_cell a) (sym e ∙ f)
     head_cell : A → List (ℕ × Option A) → A
     head_cell d [] = d
     head_cell d (x ∷ xs) = unwrap_or x.1 d
+
+-- the cell of a turn that was taken lies in the place that was taken last
+pub taken_cell : {C O : Type 0} → (tells : Bool) (state : C → CellState) (offers : O → Offers) (s : Store C O) (p q : Pass C) (t slot : ℕ) → HasTaken tells state offers s p t slot q → (c : C) × HasCell q slot c
+taken_cell tells state offers s p q t slot h = (h.cell, (let e = h.place in rw e refl))
 
 pub on_err : {T E P : Type 0} (r : Result T E) → P → OnErr r P
 on_err (Ok x) h = tt
@@ -201,21 +222,21 @@ module _ {C O : Type 0} (tells : Bool) (state : C → CellState) (offers : O →
       of_desks (d ∷ ds) (suc t) lt h = of_desks ds t (omega arith) (λ j e l. h (suc j) e (omega arith))
 
   -- a slot was written, by these calls one behind the other
-  module _ (t : ℕ) (p : Pass C) (may : MayWriteSlot tells state offers s p t) (slot : ℕ) (slot_same : slot ≡ may.slot) (p1 : Pass C) (found : TurnFound tells state offers s p t slot true p1)
-      (c1 : C) (p2 : Pass C) (out : HasCell p1 slot c1 × HasRoom p2 slot) (moved : MovesCell tells state offers s p1 p2) where
-    taken : HasTaken tells state offers s p t slot p1
+  module _ (t : ℕ) (p : Pass C) (may : MayWriteSlot tells state offers s p t) (slot : ℕ) (durable : Bool) (slot_same : slot ≡ may.slot) (n : ℕ) (p0 : Pass C) (logged : Made tells state offers s p (LogPiece t slot durable) n p0)
+      (p1 : Pass C) (found : TurnFound tells state offers s p0 t slot true p1) (c1 : C) (p2 : Pass C) (out : HasCell p1 slot c1 × HasRoom p2 slot) (moved : MovesCell tells state offers s p1 p2) where
+    taken : HasTaken tells state offers s p0 t slot p1
     taken = found.taken refl
 
     abbrev cell : Cell (List ℕ)
     cell = shown tells state taken.cell
 
     cell_is : taken.cell ≡ c1
-    cell_is = same_cell (hand p1) (hand p) _ slot taken.cell c1 taken.place out.0
+    cell_is = same_cell (hand p1) (hand p0) _ slot taken.cell c1 taken.place out.0
 
-    tabs1 : (view p1).tabs ≡ with_tab (view p) t (Writing (with_turn tells state offers s p t may slot cell))
-    tabs1 = taken_tabs tells state offers s p t may slot p1 found taken
+    tabs1 : (view p1).tabs ≡ with_tab (view p) t (Writing (with_turn tells state offers s p t may slot durable cell))
+    tabs1 = taken_tabs tells state offers s p t may slot durable slot_same n p0 logged p1 found taken
 
-    tabs2 : (view p2).tabs ≡ with_tab (view p) t (Writing (with_turn tells state offers s p t may slot cell))
+    tabs2 : (view p2).tabs ≡ with_tab (view p) t (Writing (with_turn tells state offers s p t may slot durable cell))
     tabs2 = ap View.tabs moved.same ∙ tabs1
 
     pub wide_enough : length (buffer_at p2.desks t) ≡ (state c1).width
@@ -223,42 +244,45 @@ module _ {C O : Type 0} (tells : Bool) (state : C → CellState) (offers : O →
 
     module _ (c2 : C) (same : shape (state c2) ≡ shape (state c1)) (left : IsTrue tells → MayBeLeft (buffer_at p2.desks t) (state c1) (state c2)) where
       the_image : IsTrue tells → buffer_at p2.desks t ≡ (basis tells state offers s).setting.image (piece_of may.writer)
-      the_image told = ap (λ (ds : List Desk). buffer_at ds t) (moved.desks ∙ found.made.desks) ∙ may.buffer told
+      the_image told = ap (λ (ds : List Desk). buffer_at ds t) (moved.desks ∙ found.made.desks ∙ logged.desks) ∙ may.buffer told
 
-      comes : (q : Pass C) → (view q).tabs ≡ with_tab (view p) t (Writing (with_turn tells state offers s p t may slot cell)) → MayComeHome tells state offers s q t slot c2
-      comes q tabs = may_come tells state offers s p t may slot q cell tabs c1 c2 (buffer_at p2.desks t) (ap (shown tells state) cell_is) (subst (IsFitting (form_of tells state) (basis tells state offers s) slot) cell_is taken.fits) same the_image left
+      comes : (q : Pass C) → (view q).tabs ≡ with_tab (view p) t (Writing (with_turn tells state offers s p t may slot durable cell)) → MayComeHome tells state offers s q t slot c2
+      comes q tabs = may_come tells state offers s p t may slot durable q cell tabs c1 c2 (buffer_at p2.desks t) (ap (shown tells state) cell_is) (subst (IsFitting (form_of tells state) (basis tells state offers s) slot) cell_is taken.fits) same the_image left
 
       pub may_put : (tab : ℕ) × MayComeHome tells state offers s p2 tab slot c2
       may_put = (t, comes p2 tabs2)
 
       module _ (p3 : Pass C) (home : HasCell p3 slot c2) (back : MovesCell tells state offers s p2 p3) where
-        tabs3 : (view p3).tabs ≡ with_tab (view p) t (Writing (with_turn tells state offers s p t may slot cell))
+        tabs3 : (view p3).tabs ≡ with_tab (view p) t (Writing (with_turn tells state offers s p t may slot durable cell))
         tabs3 = ap View.tabs back.same ∙ tabs2
 
         pub may_end_turn : May tells state offers s p3 (EndTurn t slot false)
-        may_end_turn = may_end tells state offers s p t may slot p3 cell tabs3 back.own
+        may_end_turn = may_end tells state offers s p t may slot durable p3 cell tabs3 back.own
 
         pub has_returned : HasReturned tells state offers s p3 t slot
         has_returned = record { cell = c2; place = home; may = comes p3 tabs3 }
 
         module _ (p4 : Pass C) (ended : TurnEnded tells state offers s p3 t slot false p4) where
-          last : (written : Bool) × (settled : Bool) × ((view p4).tabs ≡ with_tab (view p) t (Writing (chose may.writer written settled)))
+          last : (written : Bool) × (settled : Bool) × ((view p4).tabs ≡ with_tab (view p) t (Writing (chose may.writer slot durable written settled)))
               × ((basis tells state offers s).setting.image (piece_of may.writer) ≡ (shown tells state ended.cell).now → written ≡ true)
               × ((shown tells state ended.cell).possible ≡ (shown tells state ended.cell).now ∷ [] → settled ≡ true)
-          last = ended_tabs tells state offers s p t may slot p3 cell tabs3 p4 ended
+          last = ended_tabs tells state offers s p t may slot durable p3 cell tabs3 p4 ended
 
           put_back : ended.cell ≡ c2
           put_back = same_cell (hand p3) _ _ slot ended.cell c2 ended.place home
 
-          tried : Steps (basis tells state offers s) (view p) (TryTurn t slot) 0 (view p1)
-          tried = subst (λ (n : ℕ). Steps (basis tells state offers s) (view p) (TryTurn t slot) n (view p1)) (sym found.made.answers ∙ eqb-true found.found 0 (sym found.is_won)) found.made.step
+          tried : Steps (basis tells state offers s) (view p0) (TryTurn t slot) 0 (view p1)
+          tried = subst (λ (n : ℕ). Steps (basis tells state offers s) (view p0) (TryTurn t slot) n (view p1)) (sym found.made.answers ∙ eqb-true found.found 0 (sym found.is_won)) found.made.step
 
-          pub wrote : (durable done : Bool) → (done ≡ true → IsTrue tells → IsWrittenCell (buffer_at p2.desks t) durable (state c2)) → WroteSlot (basis tells state offers s) t (view p) durable done (view p4)
-          wrote durable done there = record {
+          pub wrote : (done : Bool) → (done ≡ true → IsTrue tells → IsWrittenCell (buffer_at p2.desks t) durable (state c2)) → WroteSlot (basis tells state offers s) t (view p) durable done (view p4)
+          wrote done there = record {
             writer = may.writer;
             was = may.is;
             slot = slot;
             first = subst (λ (z : ℕ). may.writer.reserved ≡ z ∷ rest_of may.writer.reserved) (sym slot_same) may.may.first;
+            number = logged.found;
+            logged = view p0;
+            logs = logged.step;
             middle = view p1;
             tried = tried;
             cell = shown tells state ended.cell;
@@ -275,10 +299,10 @@ module _ {C O : Type 0} (tells : Bool) (state : C → CellState) (offers : O →
           pub follows : Follows tells state offers s t p p4
           follows = record {
             own = ended.own;
-            others = λ j ne far. ap (λ (xs : List (Tab (List ℕ))). get_or xs j Tab.Free) last.2 ∙ get_or-set_other (view p).tabs t j (Writing (chose may.writer last.0 last.1)) Tab.Free ne;
-            left = λ j ne. ap (λ (xs : List ℕ). get_or xs j 0) (ended.left ∙ back.left ∙ moved.left ∙ found.made.left);
-            places = ended.others ∙ back.others ∙ moved.others ∙ same_rest (hand p1) _ (hand p) _ _ out.0 taken.place;
-            desks = ended.desks ∙ back.desks ∙ moved.desks ∙ found.made.desks;
-            hand = ended.hand ∙ back.hand ∙ moved.hand ∙ found.made.hand;
-            cells = ended.cells ∙ back.cells ∙ moved.cells ∙ found.made.cells;
+            others = λ j ne far. ap (λ (xs : List (Tab (List ℕ))). get_or xs j Tab.Free) last.2 ∙ get_or-set_other (view p).tabs t j (Writing (chose may.writer slot durable last.0 last.1)) Tab.Free ne;
+            left = λ j ne. ap (λ (xs : List ℕ). get_or xs j 0) (ended.left ∙ back.left ∙ moved.left ∙ found.made.left ∙ logged.left);
+            places = ended.others ∙ back.others ∙ moved.others ∙ same_rest (hand p1) _ (hand p0) _ _ out.0 taken.place ∙ logged.places;
+            desks = ended.desks ∙ back.desks ∙ moved.desks ∙ found.made.desks ∙ logged.desks;
+            hand = ended.hand ∙ back.hand ∙ moved.hand ∙ found.made.hand ∙ logged.hand;
+            cells = ended.cells ∙ back.cells ∙ moved.cells ∙ found.made.cells ∙ logged.cells;
           }

@@ -27,7 +27,8 @@ abbrev pub slot_known : {X : Type 0} → Tab X → Option ℕ
 slot_known (Reading r) = r.slot
 slot_known _ = None
 
--- The tab wrote the piece that it chose into its first reserved slot, which is this one, and the piece has this link.
+-- The tab wrote the piece that it chose into its first reserved slot, which is this one, and synced it where it is durable. The piece has
+-- this link.
 pub record MayPublishSlot {C O : Type 0} (tells : Bool) (state : C → CellState) (offers : O → Offers) (s : Store C O) (p : Pass C) (t slot : ℕ) (next : Option ℕ) : Type 0 where
   pub own : IsOf tells state offers s p
   pub below : t < inner

@@ -1,11 +1,11 @@
--- A slot is written: its turn is taken, its cell moved out, written, moved home, and the turn ended.
+-- A slot is written: its piece is logged, its turn taken, its cell moved out, written, moved home, and the turn ended.
 use Rattle.std.specs.Prelude.{Bool, IsTrue, List, None, Option, Some, false, true, ◌∷◌, ◌<◌, ◌≡◌, ℕ}
 use Rattle.rock_disk.specs.Cell.{CellState}
-use Rattle.core_model.specs.CellMoves.{MayWrite, piece_of}
+use Rattle.core_model.specs.CellMoves.{MayLog, piece_of}
 use Rattle.core_model.specs.Chains.{rest_of}
 use Rattle.core_model.specs.Offers.{KeepsTo}
 use Rattle.core_model.specs.Tabs.{has_turn, inner, tab_at, with_tab}
-use Rattle.core_model.specs.declared.moves.Move.TheVariants.{EndTurn, TryTurn}
+use Rattle.core_model.specs.declared.moves.Move.TheVariants.{EndTurn, LogPiece, TryTurn}
 use Rattle.core_model.specs.declared.tab.Cell.{Cell}
 use Rattle.core_model.specs.declared.tab.Tab.{Tab}
 use Rattle.core_model.specs.declared.tab.Tab.TheVariants.{Writing}
@@ -26,38 +26,48 @@ abbrev pub reserved_first : {X : Type 0} → Tab X → Option ℕ
 reserved_first (Writing w) = head_of w.reserved
 reserved_first _ = None
 
--- The tab writes, has named its entry and reserved a slot, and its buffer has the image of its next piece. That is the last one of the
--- offer exactly where the tab reserved no other slot.
+-- The tab writes, has named its entry and reserved a slot, has chosen no piece yet, and its buffer has the image of its next piece. That is
+-- the last one of the offer exactly where the tab reserved no other slot.
 pub record MayWriteSlot {C O : Type 0} (tells : Bool) (state : C → CellState) (offers : O → Offers) (s : Store C O) (p : Pass C) (t : ℕ) : Type 0 where
   pub own : IsOf tells state offers s p
   pub below : t < inner
   pub writer : Writer (List ℕ)
   pub is : tab_at (view p) t ≡ Writing writer
   pub slot : ℕ
-  pub may : MayWrite slot writer
+  pub may : MayLog slot writer
   pub idle : has_turn writer.turn ≡ false
-  pub keeps : writer.chosen ≡ None → KeepsTo (offering_of (basis tells state offers s)) writer (piece_of writer)
+  pub keeps : KeepsTo (offering_of (basis tells state offers s)) writer (piece_of writer)
   pub buffer : IsTrue tells → buffer_at p.desks t ≡ (basis tells state offers s).setting.image (piece_of writer)
 
--- the tab has chosen its next piece, and this is known of the cell of its first reserved slot, which is home
-abbrev pub chose : {X : Type 0} → Writer X → (written settled : Bool) → Writer X
-chose w written settled = record w { chosen = Some (piece_of w); is_written = written; is_settled = settled; turn = NoTurn }
+-- the tab has logged its next piece for this slot, and chosen it so; this is known of the cell of that slot, which is home
+abbrev pub chose : {X : Type 0} → Writer X → (slot : ℕ) (durable written settled : Bool) → Writer X
+chose w slot durable written settled = record w {
+  chosen = Some (piece_of w);
+  logged_in = Some slot;
+  is_durable = durable;
+  is_written = written;
+  is_settled = settled;
+  turn = NoTurn;
+}
 
--- The tab took the turn of its first reserved slot by a single try, put the cell back, and ended the turn. Where the write was done, the
--- piece is known to be in the cell, and alone there where it is to be durable.
+-- The tab logged its next piece for its first reserved slot, took the turn there by a single try, put the cell back, and ended the turn.
+-- Where the write was done, the piece is known to be in the cell, and alone there where it is to be durable.
 pub record WroteSlot {X : Type 0} (g : Ground X) (t : ℕ) (v : View X) (durable done : Bool) (w : View X) : Type 0 where
   pub writer : Writer X
   pub was : tab_at v t ≡ Writing writer
   pub slot : ℕ
   pub first : writer.reserved ≡ slot ∷ rest_of writer.reserved
+  pub number : ℕ
+  pub logged : View X
+  pub logs : Steps g v (LogPiece t slot durable) number logged
   pub middle : View X
-  pub tried : Steps g v (TryTurn t slot) 0 middle
+  pub tried : Steps g logged (TryTurn t slot) 0 middle
   pub cell : Cell X
   pub from : View X
   pub returned : IsReturned g.setting (tab_at middle t) t slot cell middle from
   pub ended : Steps g from (EndTurn t slot false) 1 w
   pub written : Bool
   pub settled : Bool
-  pub tabs : w.tabs ≡ with_tab v t (Writing (chose writer written settled))
+  pub tabs : w.tabs ≡ with_tab v t (Writing (chose writer slot durable written settled))
   pub is_written : done ≡ true → written ≡ true
   pub is_settled : done ≡ true → durable ≡ true → settled ≡ true

@@ -5,14 +5,11 @@ ghost use Rattle.store_rule.specs.Calls.{Follows};
 ghost use Rattle.slice_chain.specs.Freeing.{Freed, FrontFreed, MayFreeChain, MayFreeFront, MayFreeRest, RestFreed, is_freeing_anchor, slot_named};
 ghost use Rattle.store_rule.specs.Passes.{basis, view};
 
-use core_model::Side;
+use core_model::{INNER_TAB, Side};
 use lock_word::Stage;
 use rock_disk::Cell;
 use store_rule::{Origin, Pass, Store};
 use tab_states::next_slot;
-
-/// The inner tab, which gives slots back.
-const INNER: u8 = 8;
 
 // Gives back the first slot of the chain that the inner tab frees, and answers the next one.
 fn free_front<C: Cell, O: Origin>(store: &Store<C, O>, pass: &mut Pass<C>, slot: u32) -> Option<u32>
@@ -20,9 +17,9 @@ fn free_front<C: Cell, O: Origin>(store: &Store<C, O>, pass: &mut Pass<C>, slot:
     ensures freed { FrontFreed (basis C.tells C.state O.offers store.now) slot (view pass.old) result (view pass.new) }
     ensures others { Follows C.tells C.state O.offers store.now inner pass.old pass.new }
 {
-    let link = store.get_link(pass, INNER, slot);
-    store.loosen(pass, INNER, slot);
-    store.disown(pass, INNER, slot);
+    let link = store.get_link(pass, INNER_TAB, slot);
+    store.loosen(pass, INNER_TAB, slot);
+    store.disown(pass, INNER_TAB, slot);
     next_slot(link)
 }
 
@@ -34,10 +31,10 @@ pub fn free_chain<C: Cell, O: Origin>(store: &Store<C, O>, pass: &mut Pass<C>)
     ensures others { Follows C.tells C.state O.offers store.now inner pass.old pass.new }
 {
     let is_freeing = frees_anchor(pass);
-    let start = store.load_side(pass, INNER, Side::Start);
+    let start = store.load_side(pass, INNER_TAB, Side::Start);
     free_rest(store, pass, first_slot(start));
     if is_freeing {
-        store.raise(pass, INNER, Stage::Gone);
+        store.raise(pass, INNER_TAB, Stage::Gone);
     }
 }
 

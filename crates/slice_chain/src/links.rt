@@ -12,8 +12,8 @@ use rock_disk::Cell;
 use store_rule::{Origin, Pass, Store};
 
 /// Publishes the first slot that a writing tab reserved, whose cell is home and has the piece that the tab
-/// chose: sets its link, to the next slot or as the last one. For the first slot of the entry it then stores
-/// where the entry starts.
+/// chose, alone where that is durable: sets its link, to the next slot or as the last one. For the first slot of
+/// the entry it then stores where the entry starts.
 pub fn publish<C: Cell, O: Origin>(
     store: &Store<C, O>,
     pass: &mut Pass<C>,

@@ -12,21 +12,20 @@ ghost use Rattle.store_rule.specs.Passes.{basis, view};
 
 use crate::cells::write_cell;
 use crate::links::slot_at;
+use core_model::INNER_TAB;
 use rock_disk::{Cell, Station};
 use rock_io::Failed;
 use std::sync::Wait;
 use store_rule::{Origin, Pass, Store};
 
-/// The tab whose buffer is the one for reading.
-const INNER: u8 = 8;
-
-/// Writes a writing tab's buffer, which holds the image of its next piece, into the cell of the first slot
-/// that it reserved, and syncs the cell if it is to be durable. The turn at the cell is taken by a single try,
-/// since no other tab has that slot. The cell is home and the turn free after both answers.
+/// Logs the next piece of a writing tab, whose image is in the tab's buffer, and writes it into the cell of the
+/// first slot that the tab reserved. If it is to be durable, it is logged so, and the cell is synced. The turn at
+/// the cell is taken by a single try, since no other tab has that slot. The cell is home and the turn free after
+/// both answers.
 ///
 /// # Errors
 ///
-/// The station failed. It is not known what the cell holds then, and the slot may be written again.
+/// The station failed. It is not known what the cell holds then.
 pub fn write_slot<C: Cell, O: Origin, St: Station<C = C>>(
     store: &Store<C, O>,
     pass: &mut Pass<C>,
@@ -44,6 +43,7 @@ pub fn write_slot<C: Cell, O: Origin, St: Station<C = C>>(
     let Some(slot) = first_reserved(pass, tab) else {
         unreachable!()
     };
+    store.log_piece(pass, tab, slot, durable);
     if !store.try_turn(pass, tab, slot) {
         unreachable!();
     }
@@ -86,7 +86,7 @@ pub fn read_slot<R: Wait, C: Cell, O: Origin, St: Station<C = C>>(
     result
 }
 
-// Reads a cell into the buffer for reading.
+// Reads a cell into the buffer for reading, which is the inner tab's.
 fn read_cell<C: Cell, St: Station<C = C>>(
     station: &mut St,
     cell: &mut C,
@@ -100,7 +100,7 @@ fn read_cell<C: Cell, St: Station<C = C>>(
     ensures failed { OnErr result (Rose (St.faults station.old) (St.faults station.new)) }
 {
     cells_are_wide::<C>();
-    station.read(cell, pass.buffer_mut(INNER))
+    station.read(cell, pass.buffer_mut(INNER_TAB))
 }
 
 // A law of cells, for proofs: what a read gives is as wide as the cell. The function does nothing.

@@ -7,14 +7,11 @@ ghost use Rattle.slice_chain.specs.Victims.{Evicted, FollowsEvicting, KeptFirst,
 ghost use Rattle.store_rule.specs.Passes.{IsOf, basis, view};
 
 use crate::chains::{first_slot, free_rest};
-use core_model::Side;
+use core_model::{INNER_TAB, Side};
 use lock_word::{Stage, is_idle, pack};
 use rock_disk::Cell;
 use store_rule::{Origin, Pass, Store};
 use tab_states::next_slot;
-
-/// The inner tab, which gives slots back.
-const INNER: u8 = 8;
 
 /// No anchor was found with an idle entry.
 #[derive(Clone, Copy, Debug, PartialEq, Eq)]
@@ -85,7 +82,7 @@ fn try_evict<C: Cell, O: Origin>(store: &Store<C, O>, pass: &mut Pass<C>, anchor
 {
     let mut word = store.look(pass, anchor);
     while is_idle(&word) {
-        match store.evict_word(pass, INNER, anchor, pack(&word)) {
+        match store.evict_word(pass, INNER_TAB, anchor, pack(&word)) {
             Ok(()) => return true,
             Err(found) => word = found,
         }
@@ -100,13 +97,13 @@ fn keep_first<C: Cell, O: Origin>(store: &Store<C, O>, pass: &mut Pass<C>, tab: 
     ensures kept { KeptFirst (basis C.tells C.state O.offers store.now) tab (view pass.old) result (view pass.new) }
     ensures others { FollowsEvicting C.tells C.state O.offers store.now tab pass.old pass.new }
 {
-    let start = store.load_side(pass, INNER, Side::Start);
+    let start = store.load_side(pass, INNER_TAB, Side::Start);
     let Some(slot) = first_slot(start) else {
         unreachable!()
     };
-    let link = store.get_link(pass, INNER, slot);
+    let link = store.get_link(pass, INNER_TAB, slot);
     store.loosen(pass, tab, slot);
     free_rest(store, pass, next_slot(link));
-    store.raise(pass, INNER, Stage::Gone);
+    store.raise(pass, INNER_TAB, Stage::Gone);
     slot
 }

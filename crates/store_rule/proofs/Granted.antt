@@ -26,6 +26,7 @@ use Rattle.core_model.specs.TableForms.{renewed, with_hold}
 use Rattle.core_model.proofs.HeldCells.{rewritten_sound, rewritten_tells}
 use Rattle.core_model.proofs.OffersKept.{offers_kept, offers_stay}
 use Rattle.store_rule.specs.Ground.{Ground, Rule, offering_of}
+use Rattle.core_log.proofs.HasLog.{log_rewritten, log_after}
 
 -- A view becomes another one by no step: the rule holds of the state with that view.
 pub becomes_so : {X : Type 0} → (g : Ground X) (s : State X) (i : ℕ) (v u : View X) → Rule g s → get_elem? s.views i ≡ some v → IsPass v → Becomes g.setting v u → Rule g (renewed s (set s.views i u))
@@ -41,6 +42,7 @@ becomes_so {X} g s i v u r at pass (inr h) = subst (λ (z : View X). Rule g (ren
       (rewritten_tells s i v h.tab h.writer h.new v.trail at h.may.writes) r.offered;
   rests = rests_end_rewritten s i v h.tab h.writer h.new at r.rests;
   halted = short_rewritten (offering_of g) s i v h.tab h.writer h.new at r.halted;
+  logged = log_rewritten (offering_of g) g.setting s i h.tab v h.writer h.old h.new r.sound at h.may r.logged;
 }
 
 module _ {C X : Type 0} (form : Form C X) (g : Ground X) where
@@ -69,6 +71,7 @@ module _ {C X : Type 0} (form : Form C X) (g : Ground X) where
         offered = offered;
         rests = rests_end_after k c a u m there rule.rests;
         halted = short_after (offering_of g) k c a u m rule.sound there step may.allowed (ap State.views (on.leaves c a)) sound offered rule.halted;
+        logged = log_after (offering_of g) k c a u m rule.sound rule.offered there step chooses rule.logged;
       } in
       let after_word = subst (Rule g) (on.leaves c a) left in
       let twice : set renewed_views a w ≡ set r.views a w = set_twice r.views a u w in (

@@ -18,6 +18,7 @@ pub mod Gathering
 pub mod Ending
 pub mod SlotHands
 pub mod LinkMoves
+pub mod LogMoves
 pub mod Turning
 pub mod Lending
 pub mod Drafting

@@ -26,6 +26,7 @@ use Rattle.store_rule.specs.Notes.{noting, learning, noting_row, note_row, learn
 use Rattle.store_rule.proofs.HaltedShort.{short_renewed}
 use Rattle.store_rule.proofs.RestsEnd.{rests_end_renewed}
 use Rattle.store_rule.proofs.Seating.{only, reseated}
+use Rattle.core_log.proofs.HasLog.{log_renewed}
 
 -- In the core.
 
@@ -36,6 +37,7 @@ renews_rule g s views r so = record {
   offered = offers_stay (offering_of g) g.setting s (renewed s views) (renews_tells g.setting s views r) so.offered;
   rests = rests_end_renewed g.setting s views r so.rests;
   halted = short_renewed (offering_of g) g.setting s views r so.halted;
+  logged = log_renewed (offering_of g) g.setting s views r so.logged;
 }
 
 module _ {X : Type 0} (g : Ground X) (s : State X) (so : Rule g s) (i : ℕ) (v : View X) (at : get_elem? s.views i ≡ some v) (pass : IsPass v) where

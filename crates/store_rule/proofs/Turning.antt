@@ -1,5 +1,4 @@
 -- Turns at cells: who takes a turn takes the cell out of its place, and who ends one puts it back.
-use Rattle.link_word.specs.Map.{map_words}
 use Rattle.std.proofs.Common.{Bool, List, None, Option, Some, [], ap, arith, eq-eqb, eqb-true, false, get_or, get_or-set_same, inl, inr, length-set, map, ne_eqb, refl, set, subst, sym, true, true≢false, zero, suc, ◌*◌, ◌+◌, ◌<◌, ◌≤◌, ◌==◌, ◌≡◌, ◌≢◌, ◌⊎◌, ◌∙◌, ◌∷◌, ⊎_elim, ℕ}
 use Rattle.std.proofs.lemmas.List.{map-set}
 use Rattle.std.proofs.lemmas.Bool.{false≢true}
@@ -26,15 +25,15 @@ use Rattle.core_model.specs.declared.tab.Turn.TheVariants.{Has, NoTurn}
 use Rattle.core_model.specs.declared.tab.Writer.{Writer}
 use Rattle.core_model.specs.declared.view.Place.TheVariants.{Turn}
 use Rattle.core_model.specs.declared.view.View.{View}
-use Rattle.core_model.specs.Layout.{Setting, index, word_count}
+use Rattle.core_model.specs.Layout.{Setting, index, word_count, table_words}
 use Rattle.core_model.specs.Tabs.{IsPass, OfReader, OfWriter, holds_turn, tab_at, turn_of}
-use Rattle.core_model.specs.CellMoves.{MayWrite, cell_held, chosen_content, ends, map_some, piece_of, tries as tries_tab}
+use Rattle.core_model.specs.CellMoves.{MayWrite, cell_held, chosen_content, ends, map_some, tries as tries_tab}
 use Rattle.core_model.specs.Cells.{TurnFits}
 use Rattle.core_model.specs.Slots.{ReaderHolds}
 use Rattle.core_model.specs.State.{chain_of}
 use Rattle.core_model.specs.TableForms.{MayRewrite, with_hold}
 use Rattle.core_model.specs.AllowedByView.{KnowsLink, MayMake}
-use Rattle.core_model.specs.Offers.{ChoosesRight, KeepsTo}
+use Rattle.core_model.specs.Offers.{ChoosesRight}
 use Rattle.core_model.proofs.AllowedByView.{allowed_so}
 use Rattle.core_model.proofs.Holders.{end_inside, try_inside}
 use Rattle.core_model.proofs.Lists.{at_set}
@@ -57,7 +56,7 @@ use Rattle.store_rule.proofs.Moves.{either_is, known_of, some_writer}
 pub turn_stands_at : (word anchors a slot : ℕ) → word ≡ 5 * anchors + 2 * slot + 1 → anchors ≡ a → word ≡ 5 * a + 2 * slot + 1
 turn_stands_at word anchors a slot is e = omega arith
 
-turn_within : (words a s slot : ℕ) → words ≡ 5 * a + 2 * s + map_words s + 1 → slot < s → 5 * a + 2 * slot + 1 < words
+turn_within : (words a s slot : ℕ) → words ≡ table_words a s → slot < s → 5 * a + 2 * slot + 1 < words
 turn_within words a s slot is lt = omega arith
 
 some_same : {A : Type 0} → (x y : A) → Some x ≡ Some y → x ≡ y
@@ -301,7 +300,7 @@ module _ {X : Type 0} (g : Ground X) (v w : View X) (t slot n : ℕ) (st : Steps
       subst (λ (x : Tab X). holds_turn x ≡ false) (sym lost_tab) can.allowed.1,
       subst (λ (x : Tab X). OfReader (KnowsLink slot) x ⊎ OfWriter (MayWrite slot) x) (sym lost_tab) can.allowed.2,
     );
-    chooses = subst (λ (x : Tab X). (y : Writer X) → x ≡ Writing y → y.chosen ≡ None → KeepsTo (offering_of g) y (piece_of y)) (sym lost_tab) can.chooses;
+    chooses = tt;
     names = tt;
   }
 

@@ -22,6 +22,7 @@ use Rattle.core_model.specs.State.{State}
 use Rattle.core_model.specs.Sound.{Sound}
 use Rattle.core_model.specs.AllowedByView.{AllowedByView}
 use Rattle.core_model.specs.Offers.{ChoosesRight, Offering, OffersStand}
+use Rattle.core_log.specs.Keeps.{HasLog}
 
 -- The responses that a store is offered, by their numbers, and the pass to which an anchor is left alone, if it is.
 pub record Offers : Type 0 where
@@ -78,13 +79,14 @@ pub record HaltedShort {X : Type 0} (o : Offering) (s : State X) : Type 0 where
   pub short : (i j l : ℕ) (u v w : View X) → get_elem? s.views i ≡ some u → get_elem? s.views j ≡ some v → get_elem? s.views l ≡ some w → (a e many offer : ℕ) → stage_of e ≡ 4
       → Contains u.seen (Stood a e) → Contains v.seen (Published a (version_of e) many) → Contains w.seen (Named a (version_of e) Offer offer) → many < o.pieces offer
 
--- The rule: the state is sound, each entry is the opening's or one of its offer, what is given back has an end, and what was halted was
--- never whole.
+-- The rule: the state is sound, each entry is the opening's or one of its offer, what is given back has an end, what was halted was
+-- never whole, and what was logged is in order: a crash leaves of a slot the opening's content or a piece that was logged for it.
 pub record Rule {X : Type 0} (g : Ground X) (s : State X) : Type 0 where
   pub sound : Sound g.setting s
   pub offered : OffersStand (offering_of g) g.setting s
   pub rests : RestsEnd s
   pub halted : HaltedShort (offering_of g) s
+  pub logged : HasLog (offering_of g) g.setting s
 
 -- an anchor that is left alone is named by its own pass
 abbrev pub MayName : {X : Type 0} → Ground X → View X → ℕ → Type 0

@@ -1,5 +1,5 @@
 -- Turns at the cells of slots. Who takes a turn has the cell in its hands, and who ends one has put the cell back into its place.
-use Rattle.std.specs.Prelude.{◌==◌, ◌∷◌, ◌≡◌, ◌≢◌, ◌⊎◌, ◌↔◌, Bool, Contains, IsTrue, List, Some, [], false, true, ℕ}
+use Rattle.std.specs.Prelude.{◌==◌, ◌∷◌, ◌≡◌, ◌≢◌, ◌⊎◌, ◌↔◌, Bool, Contains, List, Some, [], false, true, ℕ}
 use Rattle.atomic_table.specs.Table.{rest}
 use Rattle.rock_disk.specs.Cell.{CellState}
 use Rattle.core_model.specs.CellMoves.{chosen_content}

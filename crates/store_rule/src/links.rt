@@ -14,7 +14,7 @@ impl<C: Cell, O: Origin> Store<C, O> {
     ghost use Rattle.store_rule.specs.Passes.{Made, May};
 
     /// A writing tab publishes its first reserved slot, whose cell is home and has the piece that the tab
-    /// chose: stores the link of that piece.
+    /// chose, alone where that is durable: stores the link of that piece.
     pub fn set_link(&self, pass: &mut Pass<C>, tab: u8, slot: u32, link: Link)
         requires { May C.tells C.state O.offers self.now pass.old (Publish tab slot link) }
         ensures { Made C.tells C.state O.offers self.now pass.old (Publish tab slot link) 0 pass.new }

@@ -1,6 +1,6 @@
 // The store at the opening.
 ghost use Rattle.std.specs.Prelude.{◌+◌, ◌*◌, ◌<◌, ◌≡◌, ◌∷◌, All, IfErr, IfOk, List, Some, [], length, map, replicate, vec_len, ℕ};
-ghost use Rattle.link_word.specs.Map.{map_words};
+ghost use Rattle.core_model.specs.Layout.{table_words};
 ghost use Rattle.core_model.specs.declared.tab.Tab.TheVariants.{Free};
 ghost use Rattle.tab_states.specs.declared.desks.Desk.{Desk};
 ghost use Rattle.tab_states.specs.declared.tabs.At.{At};
@@ -107,12 +107,12 @@ fn new_table<C: Cell, O: Origin>(
     places: Vec<Option<C>>,
     about: &About<C, O>,
 ) -> Result<Parts<C, O>, Vec<Option<C>>>
-    requires words { (about.now.words.value.items ≡ words.now) × (length words.now ≡ 5 * about.now.anchors + 2 * about.now.slots + map_words about.now.slots + 1) }
+    requires words { (about.now.words.value.items ≡ words.now) × (length words.now ≡ table_words about.now.anchors about.now.slots) }
     requires places { about.now.places.value.items ≡ places.items }
     requires rule { MayOpen (basis_of C.tells C.state O.offers about.now) about.now.kept.value }
     requires cells { (cells : List C) × (places.items ≡ map Some cells) × (length cells ≡ about.now.slots) × IsRow C.state about.now.slot cells × All (IsSettled C.tells C.state) cells }
     ensures key { IfOk result (λ r. r.0.shared.key ≡ about.now) }
-    ensures sized { IfOk result (λ r. r.0.shared.table_id.words ≡ 5 * r.0.shared.key.anchors + 2 * r.0.shared.key.slots + map_words r.0.shared.key.slots + 1) }
+    ensures sized { IfOk result (λ r. r.0.shared.table_id.words ≡ table_words r.0.shared.key.anchors r.0.shared.key.slots) }
     ensures placed { IfOk result (λ r. r.0.shared.table_id.slots ≡ r.0.shared.key.slots) }
     ensures seat { IfOk result (λ r. (r.1.table_id ≡ r.0.shared.table_id) × (r.1.me ≡ (new_views (basis_of C.tells C.state O.offers r.0.shared.key).setting 0 r.0.shared.key.passes, []))) }
     ensures stands { IfOk result (λ r. (n : ℕ) → n < r.0.shared.key.passes → Stands (basis_of C.tells C.state O.offers r.0.shared.key) (new_view (basis_of C.tells C.state O.offers r.0.shared.key).setting n)) }

@@ -23,7 +23,7 @@ impl<C: Cell, O: Origin> Store<C, O> {
     ghost use Rattle.store_rule.specs.Turns.{HasReturned, MayComeHome, MovesCell, TurnEnded, TurnFound, TurnWaited};
 
     /// A tab tries to take the turn at the cell of a slot, and whether it did is answered. The cell's place
-    /// comes with it. A tab that writes chooses the piece that it means to publish next.
+    /// comes with it. A tab that writes has logged a piece for the slot.
     pub fn try_turn(&self, pass: &mut Pass<C>, tab: u8, slot: u32) -> bool
         requires { May C.tells C.state O.offers self.now pass.old (TryTurn tab slot) }
         ensures { TurnFound C.tells C.state O.offers self.now pass.old tab slot result pass.new }

@@ -35,7 +35,7 @@ module _ {C O : Type 0} (tells : Bool) (state : C → CellState) (offers : O →
     pub inside : upto ≤ length body
 
   module _ (e : Entry) (p q : Pass C) where
-    -- so many bytes more were taken
+    -- `total` bytes more were taken
     pub record Added (total : ℕ) : Type 0 where
       pub calls : List (Call C)
       pub took : Took e p calls q total
@@ -50,7 +50,7 @@ module _ {C O : Type 0} (tells : Bool) (state : C → CellState) (offers : O →
       pub bytes : List ℕ
       pub stopped : NotAppended tells state offers s t (taken_on e total) bytes middle q fault
 
-    -- the same, where fewer than so many had been taken before
+    -- it was given up so, and fewer than `most` bytes had been taken before
     pub record StoppedBelow (most : ℕ) (fault : WriteFault) : Type 0 where
       pub not_added : NotAdded fault
       pub fewer : not_added.total < most

@@ -3,6 +3,7 @@ mod choice;
 mod freeing;
 mod kinds;
 mod life;
+mod log;
 mod random;
 mod reading;
 mod rows;
@@ -14,6 +15,7 @@ mod writing;
 use blank_core::{blank_core, make};
 use choice::{Seat, calm_of, choose, next_seat};
 use core_state::{Act, Core, Step, StepFault};
+use log::check_log;
 use random::Numbers;
 use rows::Tally;
 use std::alloc::Global;
@@ -64,6 +66,7 @@ fn walk_from<R: Abort>(rt: &R, alloc: Global, seed: u32, tally: &mut Tally) {
         }
     }
     assert_eq!(rt; made, STEPS, "the steps from {seed}");
+    check_log(rt, &core);
 }
 
 #[test]

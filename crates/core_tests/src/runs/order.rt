@@ -47,7 +47,8 @@ stage begin
 stands 6 1 0
 made 10
 stage publish first
-# It writes its first piece and publishes that slot, and so the entry.
+# It logs and writes its first piece and publishes that slot, and so the entry.
+0 0 14 4 0 = 0
 0 0 15 4 0 = 0
 0 0 17 4 0 = 0
 0 0 21 4 1 = 0
@@ -58,7 +59,7 @@ stage publish first
 0 0 9 7 5 = 0
 0 0 7 0 2 = word 6 2 0
 stands 6 2 0
-made 9
+made 10
 stage read first
 # Worker 2 reads the first slot, and finds that the second is not written.
 1 3 2 0 0 = word 6 2 0
@@ -78,6 +79,7 @@ stands 6 2 1
 made 13
 stage publish second
 # While worker 1 writes the second slot, worker 2 does not read it.
+0 0 14 9 0 = 1
 0 0 15 9 0 = 0
 0 0 17 9 0 = 0
 1 3 13 9 0 = 0
@@ -91,7 +93,7 @@ stage publish second
 0 0 12 9 1 = 0
 0 0 7 0 3 = word 6 3 1
 stands 6 3 1
-made 12
+made 13
 stage read second
 # Worker 2 reads the second slot. Behind it there is none.
 1 3 13 9 0 = 1
@@ -154,9 +156,11 @@ fn an_entry_is_written_read_purged_and_freed_by_two_passes(rt: HostRuntime) {
     play(&rt, rt.alloc(), &mut core, LIFE);
     assert!(rt; has_piece(&core, 4, 0, Link::Next(9)));
     assert!(rt; has_piece(&core, 9, 1, Link::Last));
-    // No slot is taken, or has a link or a turn, any more, and six versions were drawn.
-    let words = core.words().get(5..).unwrap_or(&[]);
-    let (counter, slots) = words.split_last().unwrap_or((&0, &[]));
+    // No slot is taken, or has a link or a turn, any more, six versions were drawn, and two pieces logged.
+    let [slots @ .., drawn, logged] = core.words().get(5..).unwrap_or(&[]) else {
+        assert!(rt; false, "no counters");
+        return;
+    };
     assert!(rt; slots.iter().all(|word| *word == 0), "{slots:?}");
-    assert!(rt; *counter == 6);
+    assert_eq!(rt; (*drawn, *logged), (6, 2));
 }

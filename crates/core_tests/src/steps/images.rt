@@ -31,7 +31,7 @@ patch 1 82 68 65 6c 6c 6f
 /// - of each slot a link, which is 1 at the end of a chain, 2 more than the next slot where it goes on, or 0, and a
 ///   turn that is free;
 /// - the words of the map, in which the bit of each slot of an entry is set;
-/// - the counter.
+/// - the counter of versions, and that of logged pieces.
 ///
 /// A line `zeros` stands for as many words that are 0.
 ///
@@ -48,6 +48,7 @@ anchor 0 0 0 0 0
 links 0 0 0 0 0 0 0 0
 map 0
 counter 0
+logged 0
 
 file one slot
 patch 0 24 00
@@ -59,6 +60,7 @@ anchor 0 0 0 0 0
 links 0 0 1 0 0 0 0 0
 map 2
 counter 3
+logged 0
 
 file two slots, the second one in front
 patch 1 24 00
@@ -69,6 +71,7 @@ anchor 0 0 0 0 0
 links 1 0 0 0 2 0 0 0
 map 5
 counter 7
+logged 0
 
 file three slots, and another entry
 patch 2 36 03
@@ -85,6 +88,7 @@ anchor 0 0 0 0 0
 links 1 0 1 0 5 0 2 0
 map f
 counter 7
+logged 0
 
 file two anchors
 anchor 300030000 99726d8b34c97748 b8809c836f8913e2 1 2
@@ -92,12 +96,14 @@ anchor 700030000 66328b6c0dc1681a d16d863cf575c757 2 3
 links 1 0 1 0 2 0 0 0
 map 7
 counter 7
+logged 0
 
 file one anchor: the newer wins
 anchor 700030000 66328b6c0dc1681a d16d863cf575c757 2 3
 links 1 0 0 0 2 0 0 0
 map 5
 counter 7
+logged 0
 
 file one anchor: the other is newer
 patch 1 28 09
@@ -105,6 +111,7 @@ anchor 900030000 99726d8b34c97748 b8809c836f8913e2 1 2
 links 0 0 1 0 0 0 0 0
 map 2
 counter 9
+logged 0
 
 file one anchor and version: the lower first slot wins
 patch 1 28 07
@@ -112,6 +119,7 @@ anchor 700030000 99726d8b34c97748 b8809c836f8913e2 1 2
 links 0 0 1 0 0 0 0 0
 map 2
 counter 7
+logged 0
 
 file a chain that does not end, and its last slot is the newest
 patch 0 28 08
@@ -122,6 +130,7 @@ anchor 0 0 0 0 0
 links 0 0 1 0 0 0 0 0
 map 2
 counter 8
+logged 0
 
 file the last slot of a chain is not sane
 patch 0 28 01 00 ff ff
@@ -132,6 +141,7 @@ anchor 0 0 0 0 0
 links 0 0 1 0 0 0 0 0
 map 2
 counter 7
+logged 0
 
 file the newest slot is in no entry
 patch 3 0 1a 68 c1 0d 6c 8b 32 66 57 c7 75 f5 3c 86 6d d1
@@ -148,6 +158,7 @@ anchor 0 0 0 0 0
 links 1 0 1 0 2 0 0 0
 map 7
 counter 63
+logged 0
 
 file more slots than a word has bits
 slots 70
@@ -165,6 +176,7 @@ links 2 0
 zeros 6
 map 1 4
 counter 7
+logged 0
 ";
 
 /// Puts the bytes of `SLOT PLACE BYTE BYTE ..` into a file.

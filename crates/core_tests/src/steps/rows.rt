@@ -163,15 +163,22 @@ stage turns by their conditions
 1 1 5 0 0 = 0
 1 1 6 0 1 = 0
 1 1 10 0 0 = 0
+1 1 14 0 0 = refused
 1 1 15 0 0 = refused
 1 1 9 4 0 = 0
 1 1 9 5 0 = 0
+1 1 14 0 0 = refused
 1 1 15 0 0 = refused
 1 1 9 6 3 = 0
 # A slot that it has not reserved, and then the second one.
+1 1 14 1 0 = refused
 1 1 15 1 0 = refused
 1 1 10 1 0 = 1
+1 1 14 1 0 = refused
 1 1 15 1 0 = refused
+# No turn before its piece is logged.
+1 1 15 0 0 = refused
+1 1 14 0 0 = 0
 # Nothing is done with a cell without its turn, nor published before it is written.
 1 1 17 0 0 = refused
 1 1 21 0 1 = refused
@@ -210,6 +217,8 @@ stage turns by their conditions
 1 1 12 0 3 = 0
 1 1 12 0 3 = refused
 # The piece is the last one now, and no slot is reserved behind it.
+1 1 15 1 0 = refused
+1 1 14 1 0 = 1
 1 1 15 1 0 = 0
 1 1 10 2 0 = refused
 1 1 16 1 0 = 1
@@ -218,7 +227,7 @@ stage turns by their conditions
 1 1 9 4 1 = refused
 1 1 9 7 1 = 0
 1 1 9 7 2 = refused
-made 59
+made 67
 
 core 3 2 2
 stage a writer begins
@@ -234,14 +243,15 @@ stage a writer begins
 0 0 10 0 0 = 4
 made 9
 stage it writes slot 2
-# It writes its piece into slot 2, which is its first reserved one.
+# It logs its piece for slot 2, which is its first reserved one, as durable, and writes it there.
+0 0 14 2 1 = 0
 0 0 15 2 0 = 0
 0 0 17 2 0 = 0
 0 0 21 2 1 = 0
 0 0 22 2 1 = 0
 0 0 18 2 0 = 0
 0 0 16 2 0 = 1
-made 6
+made 7
 stage a reader enters
 # The first slot is published, and a reader enters.
 0 0 12 2 2 = 0
@@ -267,13 +277,14 @@ stage slot 0 is not written
 made 3
 stage slot 0 is written
 # The same in slot 0.
+0 0 14 0 1 = 1
 0 0 15 0 0 = 0
 0 0 17 0 0 = 0
 0 0 21 0 1 = 0
 0 0 22 0 1 = 0
 0 0 18 0 0 = 0
 0 0 16 0 0 = 1
-made 6
+made 7
 stage the entry is closed
 # The last slot is published.
 0 0 12 0 1 = 0
@@ -319,14 +330,15 @@ stage a writer begins
 0 0 10 0 0 = 4
 made 9
 stage it writes slot 2
-# It writes its piece into slot 2, which is its first reserved one.
+# It logs its piece for slot 2, which is its first reserved one, as durable, and writes it there.
+0 0 14 2 1 = 0
 0 0 15 2 0 = 0
 0 0 17 2 0 = 0
 0 0 21 2 1 = 0
 0 0 22 2 1 = 0
 0 0 18 2 0 = 0
 0 0 16 2 0 = 1
-made 6
+made 7
 stage two readers
 # A turn has one holder.
 0 0 12 2 2 = 0
@@ -377,6 +389,7 @@ stage a writer begins
 0 0 10 0 0 = 4
 made 9
 stage writes and syncs
+0 0 14 2 0 = 0
 0 0 15 2 0 = 0
 0 0 17 2 0 = 0
 cell false 1 true
@@ -403,7 +416,7 @@ cell true 3 true
 cell true 3 true
 0 0 22 2 1 = 0
 cell true 1 true
-made 15
+made 16
 stage the piece is published
 0 0 18 2 0 = 0
 0 0 16 2 1 = 1
@@ -553,6 +566,143 @@ claim 0 0 Some(0)
 claim 0 0 None
 map [7]
 made 10
+
+core 2 1 1
+stage a writer begins
+# Tab 0 of pass 0 writes version 1 at the anchor, has named its entry and reserved the slots 0 and 1.
+0 0 1 0 0 = 0
+0 0 4 0 0 = 0
+0 0 5 0 0 = 0
+0 0 6 0 1 = 0
+0 0 9 4 77 = 0
+0 0 9 5 78 = 0
+0 0 9 6 7 = 0
+0 0 10 0 0 = 0
+0 0 10 1 0 = 1
+made 9
+stage a piece is logged once
+# There is no turn before, a slot that is not the first one has no piece, and a piece is durable, 1, or not, 0.
+0 0 15 0 0 = refused
+0 0 14 1 1 = refused
+0 0 14 0 2 = refused
+logged 0
+0 0 14 0 1 = 0
+logged 1
+0 0 14 0 1 = refused
+0 0 14 0 0 = refused
+0 0 14 0 2 = refused
+made 7
+stage a durable piece is published alone
+# Written and not synced it is not published.
+0 0 15 0 0 = 0
+0 0 17 0 0 = 0
+0 0 21 0 1 = 0
+0 0 18 0 0 = 0
+0 0 16 0 0 = 1
+0 0 12 0 3 = refused
+# A sync that failed changes nothing.
+0 0 15 0 0 = 0
+0 0 17 0 0 = 0
+0 0 22 0 0 = 0
+0 0 18 0 0 = 0
+0 0 16 0 0 = 1
+0 0 12 0 3 = refused
+# Once it is synced it is published.
+0 0 15 0 0 = 0
+0 0 17 0 0 = 0
+0 0 22 0 1 = 0
+0 0 18 0 0 = 0
+0 0 16 0 0 = 1
+0 0 12 0 3 = 0
+made 18
+stage the next piece is logged
+# One that is not durable is published as it is written.
+0 0 14 1 0 = 1
+logged 2
+0 0 15 1 0 = 0
+0 0 17 1 0 = 0
+0 0 21 1 1 = 0
+0 0 18 1 0 = 0
+0 0 16 1 0 = 1
+0 0 12 1 1 = 0
+made 7
+
+core 2 1 1
+stage a writer begins
+# Tab 0 of pass 0 writes version 1 at the anchor, has named its entry and reserved the slots 0 and 1.
+0 0 1 0 0 = 0
+0 0 4 0 0 = 0
+0 0 5 0 0 = 0
+0 0 6 0 1 = 0
+0 0 9 4 77 = 0
+0 0 9 5 78 = 0
+0 0 9 6 7 = 0
+0 0 10 0 0 = 0
+0 0 10 1 0 = 1
+made 9
+stage its second slot is given back
+# What was logged for the first may still be written, and not published. Nothing more is logged.
+0 0 14 0 0 = 0
+0 0 11 1 0 = 3
+0 0 15 0 0 = 0
+0 0 17 0 0 = 0
+0 0 21 0 1 = 0
+0 0 18 0 0 = 0
+0 0 16 0 0 = 1
+0 0 12 0 3 = refused
+0 0 12 0 1 = refused
+0 0 14 0 0 = refused
+0 0 11 0 0 = 1
+0 0 7 0 4 = word 1 4 0
+logged 1
+made 12
+
+core 2 1 1
+stage a writer begins
+# Tab 0 of pass 0 writes version 1 at the anchor, has named its entry and reserved the slots 0 and 1.
+0 0 1 0 0 = 0
+0 0 4 0 0 = 0
+0 0 5 0 0 = 0
+0 0 6 0 1 = 0
+0 0 9 4 77 = 0
+0 0 9 5 78 = 0
+0 0 9 6 7 = 0
+0 0 10 0 0 = 0
+0 0 10 1 0 = 1
+made 9
+stage its first slot is given back
+# What was logged for it is for no other slot.
+0 0 14 0 0 = 0
+0 0 11 0 0 = 3
+0 0 15 0 0 = refused
+0 0 15 1 0 = refused
+0 0 14 1 0 = refused
+made 5
+
+core 2 1 2
+stage a writer begins
+# Tab 0 of pass 0 writes version 1 at the anchor, has named its entry and reserved the slots 0 and 1.
+0 0 1 0 0 = 0
+0 0 4 0 0 = 0
+0 0 5 0 0 = 0
+0 0 6 0 1 = 0
+0 0 9 4 77 = 0
+0 0 9 5 78 = 0
+0 0 9 6 7 = 0
+0 0 10 0 0 = 0
+0 0 10 1 0 = 1
+made 9
+stage a note tells of a piece
+# What pass 0 has seen has the piece, and pass 1 has it by a note.
+seen 0 Some(3)
+0 0 14 0 0 = 0
+seen 0 Some(4)
+0 0 19 0 0 = 0
+seen 1 Some(1)
+seen 2 Some(4)
+1 0 20 0 0 = 0
+seen 1 Some(5)
+made 3
 ";
 
 /// The rows of 32 writers are in front: they have reserved the slots of the first word of the map.
@@ -582,7 +732,7 @@ claim 4 0 Some(65)
 made 11
 ";
 
-/// Kinds on cells, of a free tab; a note that is not there; and kinds that are no steps of a pass.
+/// Kinds on pieces and cells, of a free tab; a note that is not there; and kinds that are no steps of a pass.
 pub(super) const NO_STEPS: &str = "\
 stage no step
 0 0 0 0 0 = refused

@@ -9,15 +9,12 @@ use super::straying::stray_act;
 use super::table::hold_of;
 use super::writing::writer_act;
 use super::{ANCHORS, Act, Core, PASSES};
-use core_model::{Kind, Tab, View};
+use core_model::{INNER_TAB, Kind, Tab, View};
 use core_state::Content;
 use lock_word::{Word, is_idle, is_vacant, unpack};
 
-/// The tab that alone gives slots back.
-pub(super) const INNER: u8 = 8;
-
 /// The tabs that take part, the inner one among them.
-const TABS: [u8; 4] = [0, 1, 7, INNER];
+const SEATED: [u8; 4] = [0, 1, 7, INNER_TAB];
 
 /// Chances, each one in so many: of any step, of any step of the tab there, and of a lesson.
 const ANY: u32 = 16;
@@ -66,7 +63,7 @@ impl Seat {
     pub fn inner(self) -> Seat {
         Seat {
             pass: self.pass,
-            tab: INNER,
+            tab: INNER_TAB,
         }
     }
 }
@@ -102,7 +99,7 @@ pub(super) fn next_seat(numbers: &mut Numbers, core: &Core, seat: Seat, calm: u3
 fn any_seat(numbers: &mut Numbers) -> Seat {
     Seat {
         pass: numbers.below(PASSES),
-        tab: TABS[numbers.below(4) as usize],
+        tab: SEATED[numbers.below(4) as usize],
     }
 }
 
@@ -142,7 +139,7 @@ fn note_act(core: &Core, seat: Seat) -> Act {
 fn any_act(numbers: &mut Numbers, core: &Core) -> Act {
     let seat = Seat {
         pass: numbers.below(PASSES + 1),
-        tab: numbers.below(u32::from(INNER) + 2) as u8,
+        tab: numbers.below(u32::from(INNER_TAB) + 2) as u8,
     };
     let kind = numbers.below(KIND_END) as u8;
     let at = numbers.below(AT_END);
@@ -166,7 +163,7 @@ pub(super) fn newest_version(view: &View<Content>) -> Option<u32> {
 /// A step that makes sense for the tab there.
 fn tab_act(numbers: &mut Numbers, seat: Seat, view: &View<Content>, tab: &Tab<Content>) -> Act {
     match tab {
-        Tab::Free if seat.tab == INNER => evict_act(numbers, seat, view),
+        Tab::Free if seat.tab == INNER_TAB => evict_act(numbers, seat, view),
         Tab::Free => free_act(numbers, seat, view),
         Tab::Retreating { .. } => seat.act(LEAVE, 0, 0),
         Tab::Reading(reader) => reader_act(numbers, seat, reader),
@@ -178,7 +175,7 @@ fn tab_act(numbers: &mut Numbers, seat: Seat, view: &View<Content>, tab: &Tab<Co
 
 /// Whether the inner tab of the pass is free, and what it gives back else.
 pub(super) fn inner_tab(view: &View<Content>) -> Option<&Tab<Content>> {
-    view.tabs.as_slice().get(INNER as usize)
+    view.tabs.as_slice().get(INNER_TAB as usize)
 }
 
 fn is_inner_free(view: &View<Content>) -> bool {

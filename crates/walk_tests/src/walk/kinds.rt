@@ -29,6 +29,9 @@ pub(super) const LINK: u8 = 12;
 
 pub(super) const GET_LINK: u8 = 13;
 
+/// A piece is logged, durable where the value is 1.
+pub(super) const LOG_PIECE: u8 = 14;
+
 pub(super) const TRY_TURN: u8 = 15;
 
 pub(super) const END_TURN: u8 = 16;

@@ -19,6 +19,7 @@ pub(super) enum Row {
     LookMap,
     Own,
     Disown,
+    LogPiece,
     Publish,
     Loosen,
     GetLink,
@@ -73,13 +74,14 @@ pub(super) enum Row {
     WroteKeptUnsure,
     SyncedNot,
     SyncedKept,
+    DurableIsPublished,
     ClosedWithOneSlot,
     ClosedWithTwoSlots,
     ClosedWithThreeSlots,
     ReadThreeSlots,
 }
 
-const ROW_COUNT: usize = 70;
+const ROW_COUNT: usize = 72;
 
 /// The names of all of them, in order.
 const NAMES: &str = "\
@@ -97,6 +99,7 @@ StoreSide
 LookMap
 Own
 Disown
+LogPiece
 Publish
 Loosen
 GetLink
@@ -149,6 +152,7 @@ WroteUnsure
 WroteKeptUnsure
 SyncedNot
 SyncedKept
+DurableIsPublished
 ClosedWithOneSlot
 ClosedWithTwoSlots
 ClosedWithThreeSlots

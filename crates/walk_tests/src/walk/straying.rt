@@ -1,8 +1,8 @@
 // Steps of any kind by a tab, with numbers that a step of that kind may have there.
 use super::choice::{Seat, newest_version};
 use super::kinds::{
-    CELL_IN, CHANGE, END_TURN, GET_LINK, KIND_END, LEARN, LINK, LOOK_MAP, OWN, RAISE, SIDE,
-    SIDE_END, STAGE_END, SYNC, TRY_TURN, WRITE, WRITE_END,
+    CELL_IN, CHANGE, END_TURN, KIND_END, LEARN, LINK, LOG_PIECE, LOOK_MAP, OWN, RAISE, SIDE,
+    SIDE_END, STAGE_END, SYNC, WRITE, WRITE_END,
 };
 use super::random::Numbers;
 use super::{ANCHORS, Act, SLOTS};
@@ -28,7 +28,7 @@ pub(super) fn stray_act(
     let kind = numbers.below(KIND_END) as u8;
     let at = match kind {
         SIDE => numbers.below(SIDE_END),
-        OWN..=GET_LINK | TRY_TURN..=CELL_IN | WRITE | SYNC => stray_slot(numbers, tab),
+        OWN..=CELL_IN | WRITE | SYNC => stray_slot(numbers, tab),
         LEARN => numbers.below(NOTE_END),
         LOOK_MAP => numbers.below(MAP_END),
         _ => numbers.below(ANCHORS),
@@ -56,7 +56,7 @@ fn stray_value(numbers: &mut Numbers, kind: u8, view: &View<Content>, tab: &Tab<
         RAISE => u64::from(numbers.below(STAGE_END)),
         SIDE => u64::from(numbers.below(WORD_END)),
         LINK => stray_link(numbers, tab),
-        END_TURN | SYNC => u64::from(numbers.below(2)),
+        LOG_PIECE | END_TURN | SYNC => u64::from(numbers.below(2)),
         WRITE => u64::from(numbers.below(WRITE_END)),
         _ => 0,
     }

@@ -1,20 +1,19 @@
 // What each step brings about, by what stood before it and after.
-use super::choice::{INNER, Seat, tab_of};
+use super::choice::{Seat, tab_of};
 use super::kinds::{
     CELL_IN, CELL_OUT, CHANGE, CLOSED, COUNT, DISOWN, DOOM, DRAW, END_TURN, ENTER, GET_LINK,
-    HALTED, KEPT, KEPT_UNSURE, LEARN, LEAVE, LINK, LOOK, LOOK_MAP, NOTE, NOTHING, OWN, RAISE, SIDE,
-    STORES, SYNC, TRY_TURN, UNSURE, WRITE,
+    HALTED, KEPT, KEPT_UNSURE, LEARN, LEAVE, LINK, LOG_PIECE, LOOK, LOOK_MAP, NOTE, NOTHING, OWN,
+    RAISE, SIDE, STORES, SYNC, TRY_TURN, UNSURE, WRITE,
 };
 use super::life::life_row;
+use super::log::{log_count, watch_logged};
 use super::rows::{Row, Tally};
 use super::table::{is_taken, published_at, word_at};
 use super::{ANCHORS, Act, Core, PASSES, SLOTS};
-use core_model::Tab;
+use core_model::{INNER_TAB, TABS, Tab};
 use core_state::Content;
 use lock_word::Word;
 use std::process::Abort;
-
-const TABS: usize = 9;
 
 const SEATS: usize = TABS * PASSES as usize;
 
@@ -26,8 +25,14 @@ const NOTES: usize = 32;
 enum Role {
     Free,
     Retreating,
-    Reading { place: u32 },
-    Writing { is_ending: bool, claim: Option<u64> },
+    Reading {
+        place: u32,
+    },
+    Writing {
+        is_ending: bool,
+        is_durable: bool,
+        claim: Option<u64>,
+    },
     Last,
     Freeing,
 }
@@ -50,8 +55,12 @@ fn role_of(tab: &Tab<Content>) -> (Role, Option<u32>) {
             (Role::Reading { place }, Some(reader.anchor))
         }
         Tab::Writing(writer) => {
-            let (is_ending, claim) = (writer.is_ending, writer.claim);
-            (Role::Writing { is_ending, claim }, Some(writer.anchor))
+            let role = Role::Writing {
+                is_ending: writer.is_ending,
+                is_durable: writer.is_durable,
+                claim: writer.claim,
+            };
+            (role, Some(writer.anchor))
         }
         Tab::Last { anchor } => (Role::Last, Some(*anchor)),
         Tab::Freeing(freer) => (Role::Freeing, Some(freer.anchor)),
@@ -108,6 +117,8 @@ pub(super) struct Watch {
     read: [u32; SEATS],
     /// Which pass made the note.
     makers: [u32; NOTES],
+    /// How many pieces were logged.
+    logged: u64,
 }
 
 fn index_of(seat: Seat) -> usize {
@@ -130,6 +141,7 @@ fn kind_row(act: &Act) -> Option<Row> {
         LOOK_MAP => Row::LookMap,
         OWN => Row::Own,
         DISOWN => Row::Disown,
+        LOG_PIECE => Row::LogPiece,
         LINK if act.value == 0 => Row::Loosen,
         LINK => Row::Publish,
         GET_LINK => Row::GetLink,
@@ -166,7 +178,7 @@ fn lost_row(act: &Act, before: &Before, number: u64, is_same: bool) -> Option<Ro
     match (act.kind, before.role) {
         (CHANGE, _) if act.value != 0 && is_same => Some(Row::LostTake),
         (CHANGE, Role::Last) if is_same => Some(Row::LostEvictByLast),
-        (CHANGE, Role::Free) if is_same && act.tab == INNER => Some(Row::LostEvictByInner),
+        (CHANGE, Role::Free) if is_same && act.tab == INNER_TAB => Some(Row::LostEvictByInner),
         (OWN, _) if is_taken(number, act.at) => Some(Row::LostOwn),
         (TRY_TURN, _) if number != 0 => Some(Row::LostTryTurn),
         _ => None,
@@ -188,11 +200,17 @@ fn end_row(act: &Act) -> Option<Row> {
 
 /// What a writing tab did beside its own entry, or how it ended that.
 fn writer_row(act: &Act, before: &Before, published: usize) -> Option<Row> {
-    let Role::Writing { is_ending, .. } = before.role else {
+    let Role::Writing {
+        is_ending,
+        is_durable,
+        ..
+    } = before.role
+    else {
         return None;
     };
     match (act.kind, act.value) {
         (LINK, 0) => Some(Row::HandOver),
+        (LINK, _) => is_durable.then_some(Row::DurableIsPublished),
         (RAISE, HALTED) if is_ending => Some(Row::EndingHalts),
         (RAISE, CLOSED) => match published {
             1 => Some(Row::ClosedWithOneSlot),
@@ -273,6 +291,7 @@ impl Watch {
             has_retreated: [false; SEATS],
             read: [0; SEATS],
             makers: [0; NOTES],
+            logged: 0,
         }
     }
 
@@ -289,6 +308,7 @@ impl Watch {
         let kind = kind_row(act);
         assert!(rt; kind.is_some(), "no step is {act:?}");
         tally.add(kind);
+        self.watch_log(rt, core, act, number);
         let is_same = watch_anchors(rt, core, before, tally);
         tally.add(doomed_row(act, before));
         tally.add(lost_row(act, before, number, is_same));
@@ -302,6 +322,16 @@ impl Watch {
         tally.add(self.read_row(act, before));
         tally.add(self.last_row(core, act, before, is_same));
         tally.add(self.note_row(act, number));
+    }
+
+    /// The counter of logged pieces is how many were logged, and a step that logs one finds it.
+    fn watch_log<R: Abort>(&mut self, rt: &R, core: &Core, act: &Act, number: u64) {
+        if act.kind == LOG_PIECE {
+            assert_eq!(rt; number, self.logged, "{act:?}");
+            watch_logged(rt, core, act, number);
+            self.logged = self.logged.saturating_add(1);
+        }
+        assert_eq!(rt; log_count(core), Some(self.logged), "{act:?}");
     }
 
     /// Whether a reader has read three slots of its entry now.

@@ -3,13 +3,13 @@ use super::choice::{Seat, evict_act, inner_tab};
 use super::freeing::{freer_act, has_room};
 use super::kinds::{
     APPENDING, CELL_IN, CELL_OUT, CLOSED, DISOWN, END_TURN, HALTED, KEPT, KEPT_UNSURE, LINK,
-    LOOK_MAP, NOTHING, OWN, RAISE, SIDE, STORE_KEY0, STORE_KEY1, STORE_OFFER, STORE_START, SYNC,
-    TRY_TURN, UNSURE, WRITE,
+    LOG_PIECE, LOOK_MAP, NOTHING, OWN, RAISE, SIDE, STORE_KEY0, STORE_KEY1, STORE_OFFER,
+    STORE_START, SYNC, TRY_TURN, UNSURE, WRITE,
 };
 use super::random::Numbers;
 use super::table::start_number;
 use super::{Act, SLOTS};
-use core_model::{Hold, Tab, Turn, View, Writer};
+use core_model::{Hold, Piece, Tab, Turn, View, Writer};
 use core_state::Content;
 use link_word::{Link, pack_link};
 
@@ -46,7 +46,7 @@ pub(super) fn writer_act(
     writer: &Writer<Content>,
 ) -> Act {
     if let Turn::Has(hold) = &writer.turn {
-        return hold_act(numbers, seat, hold);
+        return hold_act(numbers, seat, hold, writer.is_durable);
     }
     if let Some(Tab::Freeing(freer)) = inner_tab(view) {
         if numbers.is_one_in(2) {
@@ -72,13 +72,14 @@ fn gives_up(numbers: &mut Numbers, writer: &Writer<Content>) -> bool {
     writer.version.is_multiple_of(DOUBTFUL) && numbers.is_one_in(chance)
 }
 
-/// With the turn, the cell is taken out, written, synced and put back.
-fn hold_act(numbers: &mut Numbers, seat: Seat, hold: &Hold<Content>) -> Act {
+/// With the turn, the cell is taken out, written, synced and put back. A durable piece is synced until that is kept.
+fn hold_act(numbers: &mut Numbers, seat: Seat, hold: &Hold<Content>, is_durable: bool) -> Act {
     let slot = hold.slot;
+    let is_unsure = is_durable && !hold.is_settled;
     let turns_aside = numbers.is_one_in(TURNS_ASIDE);
     match (hold.is_out, hold.is_written != turns_aside) {
         (true, false) => seat.act(WRITE, slot, outcome(numbers)),
-        (true, true) if numbers.is_one_in(2) => {
+        (true, true) if is_unsure || numbers.is_one_in(2) => {
             seat.act(SYNC, slot, u64::from(numbers.below(2)))
         }
         (true, true) => seat.act(CELL_IN, slot, 0),
@@ -128,7 +129,12 @@ fn unnamed_side(writer: &Writer<Content>) -> Option<u32> {
     }
 }
 
-/// The entry is named, slots are reserved, and the first of them is written and published.
+/// Whether the piece that the tab chose may be published: it is written, and synced where it is durable.
+fn is_ready(writer: &Writer<Content>) -> bool {
+    writer.is_written && (writer.is_settled || !writer.is_durable)
+}
+
+/// The entry is named, slots are reserved, and a piece is logged for the first of them, written and published.
 fn grow_act(
     numbers: &mut Numbers,
     seat: Seat,
@@ -145,13 +151,21 @@ fn grow_act(
         return raise_act(seat, writer, APPENDING);
     }
     match (writer.reserved.as_slice().first(), writer.chosen) {
-        (Some(slot), Some(piece)) if writer.is_written => {
+        (Some(slot), Some(piece)) if is_ready(writer) => {
             seat.act(LINK, *slot, pack_link(piece.next))
         }
-        (Some(slot), _) if !has_room(writer) || numbers.is_one_in(STOPS) => {
-            seat.act(TRY_TURN, *slot, 0)
+        (Some(slot), chosen) if !has_room(writer) || numbers.is_one_in(STOPS) => {
+            piece_act(numbers, seat, *slot, chosen)
         }
         _ => own_act(numbers, seat, view, writer),
+    }
+}
+
+/// A piece is logged for the first reserved slot, or its turn tried for.
+fn piece_act(numbers: &mut Numbers, seat: Seat, slot: u32, chosen: Option<Piece>) -> Act {
+    match chosen {
+        Some(_) => seat.act(TRY_TURN, slot, 0),
+        None => seat.act(LOG_PIECE, slot, u64::from(numbers.below(2))),
     }
 }
 

@@ -16,5 +16,5 @@ published_change-requires-clause-few c = few_published _ _ _ c.requires _ _ _ _ 
 pub returns-clause-planned : goal.returns-clause-planned
 returns-clause-planned c =
     let there = chain_there _ _ _ c.requires _ _ _ _ c.in-Some.ensures.0 c.in-Some.ensures.1 in
-    published_planned _ _ _ c.requires _ _ _ _ c.in-Some.ensures.0 c.in-Some.ensures.1 c.if-tab-ge-INNER.false _ _ _ _
+    published_planned _ _ _ c.requires _ _ _ _ c.in-Some.ensures.0 c.in-Some.ensures.1 c.if-tab-ge-INNER_TAB.false _ _ _ _
     c.in_ok-tabs.ensures (c.index.ensures ∙ same_default _ _ c.index.result.now no_chain there) c.in_ok-chain.ensures c.published_change.ensures

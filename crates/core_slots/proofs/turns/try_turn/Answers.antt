@@ -7,7 +7,7 @@ use Rattle.core_slots.specs.Trying.{MayTry}
 use Rattle.core_change.proofs.Facts.{tab_is}
 use Rattle.core_slots.proofs.LinkSteps.{chain_there}
 use Rattle.core_table.proofs.Lists.{same_default}
-use Rattle.core_slots.proofs.TurnSteps.{try_there, try_few, try_planned}
+use Rattle.core_slots.proofs.TurnSteps.{try_there, try_planned}
 use Rattle.core_slots.proofs.turns.try_turn.Goals as goal
 
 pub may_try-requires : goal.may_try-requires
@@ -21,9 +21,6 @@ returns-then-not-may_try-clause-refused c e (le, none, may) =
 pub index-found-requires : goal.index-found-requires
 index-found-requires c =
     let there = try_there _ _ _ c.requires _ c.args.slot _ c.in-Some.ensures (c.if-not-may_try.ensures.0 refl) _ 0 c.index_of-index.ensures in omega (arith, there)
-
-pub tried_tabs-requires : goal.tried_tabs-requires
-tried_tabs-requires c = try_few _ _ _ c.requires _ c.args.slot _ c.in-Some.ensures (c.if-not-may_try.ensures.0 refl)
 
 pub returns-clause-planned : goal.returns-clause-planned
 returns-clause-planned c =

@@ -1,13 +1,25 @@
-use Rattle.std.proofs.Common.{Err, [], ap, arith, eq-eqb, inl, inr, length, refl, subst, sym, ◌-◌, ◌≡◌, ◌≢◌, ◌∙◌}
+use Rattle.std.proofs.Common.{Err, List, [], ap, arith, eq-eqb, inl, inr, length, refl, subst, sym, ◌+◌, ◌-◌, ◌∷◌, ◌≡◌, ◌≢◌, ◌∙◌, ℕ}
 use Rattle.std.proofs.lemmas.Bool.{eqb-true, false≢true}
 use Rattle.entry_cut.specs.Content.{room_of}
 use Rattle.tab_states.specs.Desks.{draft_at}
 use Rattle.store_rule.specs.Passes.{basis, view}
+use Rattle.rock_writer.specs.Entries.{WritesAs, with_taken}
 use Rattle.rock_writer.specs.Flushing.{Flushed, IsAtLimit, NotFlushed}
 use Rattle.rock_writer.proofs.Following.{err_is, err_of, no_err, writing_desk, writing_halting, writing_on}
 use Rattle.rock_writer.proofs.Publishing.{same_view}
 use Rattle.rock_writer.proofs.Taking.{full_there, may_flush, not_full, place_there, room_there, took}
 use Rattle.rock_writer.proofs.appending.append.Goals as goal
+
+-- no bytes
+none_of : (bytes : List ℕ) → length bytes ≡ 0 → bytes ≡ []
+none_of [] e = refl
+none_of (b ∷ bytes) e = absurd (omega arith)
+
+pub returns-then-is_empty-clause-ok : goal.returns-then-is_empty-clause-ok
+returns-then-is_empty-clause-ok g c e may = record {
+  how = inl record { none = none_of c.args.bytes.now (eqb-true (length c.args.bytes.now) 0 (sym c.is_empty.ensures ∙ c.if-is_empty.true)); zero_is = refl; same = refl; hand = refl };
+  writes = subst (λ (n : ℕ). WritesAs g.C.Cell.tells g.C.Cell.state g.O.Origin.offers c.args.store.now c.args.pass.now c.args.tab (with_taken e n)) (let same : e.taken ≡ e.taken + 0 = omega arith in same) may.writes;
+}
 
 pub returns-then-not-is_full-clause-ok : goal.returns-then-not-is_full-clause-ok
 returns-then-not-is_full-clause-ok g c e may = let ne0 : length c.args.bytes.now ≢ 0 = (λ z. false≢true (sym (sym c.is_empty.ensures ∙ c.if-is_empty.false) ∙ eq-eqb (length c.args.bytes.now) 0 z)) in let h = may.writes in record {

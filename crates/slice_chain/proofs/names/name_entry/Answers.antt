@@ -8,6 +8,11 @@ use Rattle.store_rule.proofs.Following.{follows_on}
 use Rattle.slice_chain.proofs.Naming.{Ready, may_store, ready_on, stored_follows}
 use Rattle.slice_chain.proofs.names.name_entry.Goals as goal
 
+pub store_side-requires-2 : goal.store_side-requires-2
+store_side-requires-2 g c = let r = c.requires in let start : Ready g.C.Cell.tells g.C.Cell.state g.O.Origin.offers c.args.store.now c.args.tab r.below c.args.pass.now = record { own = r.own; inner_free = r.inner_free; unchosen = r.unchosen } in
+    let one = ready_on g.C.Cell.tells g.C.Cell.state g.O.Origin.offers c.args.store.now c.args.tab r.below c.args.pass.now c.store_side.new.pass Side.Key0 _ start c.store_side.ensures in
+    may_store g.C.Cell.tells g.C.Cell.state g.O.Origin.offers c.args.store.now c.args.tab r.below c.store_side.new.pass Side.Key1 _ one (λ w u. (u.1, u.2))
+
 pub store_side-requires-3 : goal.store_side-requires-3
 store_side-requires-3 g c = let r = c.requires in let start : Ready g.C.Cell.tells g.C.Cell.state g.O.Origin.offers c.args.store.now c.args.tab r.below c.args.pass.now = record { own = r.own; inner_free = r.inner_free; unchosen = r.unchosen } in
     let one = ready_on g.C.Cell.tells g.C.Cell.state g.O.Origin.offers c.args.store.now c.args.tab r.below c.args.pass.now c.store_side.new.pass Side.Key0 _ start c.store_side.ensures in

@@ -5,6 +5,9 @@ use Rattle.store_serve.proofs.Adds.{follows_on}
 use Rattle.store_serve.proofs.Ends.{write_as, write_from}
 use Rattle.store_serve.proofs.storing.put_entry.Goals as goal
 
+pub end_entry-requires : goal.end_entry-requires
+end_entry-requires g c = let began = c.in_default.ensures.ok in (_, record { writes = began.writes; body_is = c.requires.body; from_is = refl; order = omega arith; inside = omega arith })
+
 pub returns-in-Ok-clause-ok : goal.returns-in-Ok-clause-ok
 returns-in-Ok-clause-ok g c = let began = c.in_default.ensures.ok in record { middle = c.begin.new.pass; version = c.in_default.field-0; began = began; stays = c.begin.ensures.hand; ends = c.in-Ok.ensures.ok _ record { writes = began.writes; body_is = c.requires.body; from_is = refl; order = omega arith; inside = omega arith } }
 

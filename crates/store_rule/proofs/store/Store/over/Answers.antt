@@ -22,7 +22,8 @@ new_table-requires-clause-rule g c = let r = c.requires in
     let about : About g.row.C.Denot g.row.O.Denot = record { anchors = c.args.anchors; slots = length c.as_slice.result.now; passes = c.args.passes; slot = c.args.slot; words = c.of.result; places = c.of-2.result; kept = c.of-3.result; origin = c.of-4.result } in
     may_open g.C.Cell.tells g.C.Cell.state g.O.Origin.offers about c.args.rebuilt.now c.of-3.ensures
     (about_opens g.C.Cell.tells g.C.Cell.state g.O.Origin.offers about c.in-Ok.field-0 c.args.rebuilt.now c.args.cells.items c.in-Ok.ensures kept r.anchors r.passes.1
-    (ap (λ z. z.items) c.of.ensures) (ap (λ z. z.items) c.of-2.ensures ∙ c.in-Ok-to_places.ensures.ok.0) (ap length (sym c.as_slice.ensures.value)) c.of-3.ensures)
+    (ap (λ z. z.items) c.of.ensures) (ap (λ z. z.items) c.of-2.ensures ∙ c.in-Ok-to_places.ensures.ok.0) (ap length (sym c.as_slice.ensures.value))
+    (let few = r.slots in let same = ap length c.as_slice.ensures.value in omega arith) c.of-3.ensures)
 
 pub part_all-made-requires-clause-stands : goal.part_all-made-requires-clause-stands
 part_all-made-requires-clause-stands g c n lt = let table = c.in-Ok-new_table.ensures in table.stands n (let key = ap About.passes table.key in let hands = c.in-Ok-new.ensures.hands.0 in omega arith)
@@ -40,4 +41,5 @@ returns-in-Ok-new_table-clause-opened g c = let r = c.requires in
     let about : About g.row.C.Denot g.row.O.Denot = record { anchors = c.args.anchors; slots = length c.as_slice.result.now; passes = c.args.passes; slot = c.args.slot; words = c.of.result; places = c.of-2.result; kept = c.of-3.result; origin = c.of-4.result } in
     key_opens g.C.Cell.tells g.C.Cell.state g.O.Origin.offers about _ c.args.rebuilt.now c.in-Ok-new_table.ensures.key
     (about_opens g.C.Cell.tells g.C.Cell.state g.O.Origin.offers about c.in-Ok.field-0 c.args.rebuilt.now c.args.cells.items c.in-Ok.ensures kept r.anchors r.passes.1
-    (ap (λ z. z.items) c.of.ensures) (ap (λ z. z.items) c.of-2.ensures ∙ c.in-Ok-to_places.ensures.ok.0) (ap length (sym c.as_slice.ensures.value)) c.of-3.ensures)
+    (ap (λ z. z.items) c.of.ensures) (ap (λ z. z.items) c.of-2.ensures ∙ c.in-Ok-to_places.ensures.ok.0) (ap length (sym c.as_slice.ensures.value))
+    (let few = r.slots in let same = ap length c.as_slice.ensures.value in omega arith) c.of-3.ensures)

@@ -1,0 +1,3 @@
+pub mod Seen
+pub mod Logged
+pub mod Keeps
