@@ -4,6 +4,7 @@ use Rattle.file_commands.specs.Create.{CreateLeaves}
 use Rattle.rock_disk.specs.Cell.{CellState}
 use Rattle.rock_disk.specs.File.{Files, IsKept}
 use Rattle.rock_run.specs.Runs.{HasClosed}
+use Rattle.crashed_runs.specs.Left.{LeavesResponses}
 use Rattle.rock_status.specs.declared.status.Status.{Status}
 use Rattle.rock_status.specs.declared.status.Status.TheVariants.{BadGeometry, DeviceFault, Done, Memory, Missing, SinkFault, Small}
 use Rattle.script_text.specs.declared.line.Line.{Line}
@@ -16,8 +17,12 @@ module _ {C : Type 0} (volume_tells tells : Bool) (state : C → CellState) wher
     RunKept = IsTrue volume_tells → IsKept slot_size name before after
 
     -- the file was opened as a store, the store was closed, and its cells are back as it left them
+    abbrev pub StoreClosed : Type 0
+    StoreClosed = HasClosed volume_tells tells state before after name slot_size (anchors_for workers) workers lines
+
+    -- and whatever a crash leaves of these, its complete entries are responses of the file or of the lines
     abbrev pub RunClosed : Type 0
-    RunClosed = HasClosed volume_tells tells state before after name slot_size (anchors_for workers) workers lines
+    RunClosed = StoreClosed × (IsTrue volume_tells → LeavesResponses before after name slot_size lines)
 
     -- what running these lines over the file leaves
     abbrev pub RunLeaves : Status → Type 0

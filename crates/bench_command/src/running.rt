@@ -13,6 +13,7 @@ ghost use Rattle.bench_command.specs.Numbers.{AreBenchNumbers, slot_size, slots_
 ghost use Rattle.bench_command.specs.Prints.{IsLineOfRun};
 
 use crate::printing::print_summary;
+use crashed_runs::closed_runs_leave_responses;
 use rock_disk::Volume;
 use rock_io::Sink;
 use rock_run::{run_script, status_of_run};
@@ -75,6 +76,7 @@ where
         (counts (V.faults volume.new) (V.made volume.new) (V.ended volume.new)) }
 {
     bench_lines_may_be_served();
+    closed_runs_leave_responses::<V::C>();
     runs_keep_the_rules::<V::C, V::St>();
     lone_runs_are_answered_plainly::<V::C, V::St>();
     each_line_has_one_answer::<V::C, V::St>();

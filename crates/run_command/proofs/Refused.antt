@@ -13,6 +13,7 @@ use Rattle.rock_open.specs.Opening.{FileSays as OpeningSays, HasSlots, IsAnchors
 use Rattle.rock_run.specs.Device.{RunEnds as RefusalEnds}
 use Rattle.rock_run.specs.Faults.{status_of_run}
 use Rattle.rock_run.specs.Runs.{HasClosed, RefusalLeaves}
+use Rattle.crashed_runs.specs.Left.{LeavesResponses}
 use Rattle.rock_status.specs.declared.status.Status.{Status}
 use Rattle.rock_status.specs.declared.status.Status.TheVariants as status
 use Rattle.script_text.specs.Script.{GivesScript, IsBadScript}
@@ -57,17 +58,18 @@ refused_refused {T = T} source_tells volume_tells text files name slot_size anch
   anchors = λ slots tells told sized passes has not. (unfit slot_size anchor_count worker_count slots before after files name fault ends (says told) sized passes has, early told slots has not);
 }
 
-module _ {C : Type 0} (source_tells volume_tells tells : Bool) (state : C → CellState) (text left : List ℕ) (before after : Files) (name : List ℕ) (slot anchors workers : ℕ) (lines : List Line) (read : GivesScript source_tells workers text left lines) where
+module _ {C : Type 0} (source_tells volume_tells tells : Bool) (state : C → CellState) (text left : List ℕ) (before after : Files) (name : List ℕ) (slot anchors workers : ℕ) (lines : List Line) (read : GivesScript source_tells workers text left lines)
+    (crash : IsSlotSize slot → IsTrue volume_tells → HasClosed volume_tells tells state before after name slot anchors workers lines → LeavesResponses before after name slot lines) where
   abbrev Leaves : Status → Type 0
   Leaves = RunLeaves source_tells volume_tells tells state text left before after name slot anchors workers
 
-  either : LeavesKept volume_tells before after name slot ⊎ HasClosed volume_tells tells state before after name slot anchors workers lines → Leaves status.Memory
-  either (inl kept) = inl kept
-  either (inr closed) = inr (lines, read, closed)
+  either : IsSlotSize slot → LeavesKept volume_tells before after name slot ⊎ HasClosed volume_tells tells state before after name slot anchors workers lines → Leaves status.Memory
+  either sized (inl kept) = inl kept
+  either sized (inr closed) = inr (lines, read, closed, (λ told. crash sized told closed))
 
-  pub refused_leaves : (fault : OpenStoreFault) → RefusalLeaves (LeavesKept volume_tells before after name slot) (HasClosed volume_tells tells state before after name slot anchors workers lines) fault → Leaves (status_of_run fault)
-  refused_leaves (BadGeometry field) h = h
-  refused_leaves Missing h = h
-  refused_leaves (Small bytes) h = h
-  refused_leaves Failed h = either h
-  refused_leaves Memory h = either h
+  pub refused_leaves : (counted counted_after : Counts) (fault : OpenStoreFault) → RefusalEnds slot anchors workers counted counted_after fault → RefusalLeaves (LeavesKept volume_tells before after name slot) (HasClosed volume_tells tells state before after name slot anchors workers lines) fault → Leaves (status_of_run fault)
+  refused_leaves counted counted_after (BadGeometry field) ends h = h
+  refused_leaves counted counted_after Missing ends h = h
+  refused_leaves counted counted_after (Small bytes) ends h = h
+  refused_leaves counted counted_after Failed ends h = either ends.0 h
+  refused_leaves counted counted_after Memory ends h = either ends.0 h

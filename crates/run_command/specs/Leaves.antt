@@ -3,6 +3,7 @@ use Rattle.std.specs.Prelude.{Bool, IsTrue, List, ◌≡◌, ◌⊎◌, ℕ}
 use Rattle.rock_disk.specs.Cell.{CellState}
 use Rattle.rock_disk.specs.File.{Files, IsKept}
 use Rattle.rock_run.specs.Runs.{HasClosed}
+use Rattle.crashed_runs.specs.Left.{LeavesResponses}
 use Rattle.rock_status.specs.declared.status.Status.{Status}
 use Rattle.rock_status.specs.declared.status.Status.TheVariants.{BadGeometry, BadScript, DeviceFault, Done, Exists, Memory, Missing, SinkFault, Small, SourceFault, Usage}
 use Rattle.script_text.specs.Script.{GivesScript}
@@ -13,9 +14,11 @@ abbrev pub LeavesKept : (volume_tells : Bool) → Files → Files → (name : Li
 LeavesKept volume_tells before after name slot = IsTrue volume_tells → IsKept slot name before after
 
 module _ {C : Type 0} (source_tells volume_tells tells : Bool) (state : C → CellState) (text left : List ℕ) (before after : Files) (name : List ℕ) (slot anchors workers : ℕ) where
-  -- the file was opened as a store for the lines of the script, which was read to its end, and the cells are back as the store left them
+  -- The file was opened as a store for the lines of the script, which was read to its end, and the cells are back as the store left them. Whatever
+  -- a crash leaves of them, its complete entries are responses of the file or of the script.
   abbrev pub LeavesClosed : Type 0
   LeavesClosed = (lines : List Line) × GivesScript source_tells workers text left lines × HasClosed volume_tells tells state before after name slot anchors workers lines
+      × (IsTrue volume_tells → LeavesResponses before after name slot lines)
 
   -- What each status leaves. Lines may have been served before a fault of the disk or want of memory.
   abbrev pub RunLeaves : Status → Type 0

@@ -13,6 +13,7 @@ ghost use Rattle.run_command.specs.Says.{IsRunRefused, MayRun, RunSays};
 
 use crate::faults::{of_print, of_script};
 use answer_text::print_answers;
+use crashed_runs::closed_runs_leave_responses;
 use rock_disk::Volume;
 use rock_io::{Sink, Source};
 use rock_run::{read_scripts_may_be_served, run_script, status_of_run};
@@ -121,6 +122,7 @@ where
         (counts (V.faults volume.new) (V.made volume.new) (V.ended volume.new)) }
 {
     read_scripts_may_be_served();
+    closed_runs_leave_responses::<V::C>();
     runs_keep_the_rules::<V::C, V::St>();
     read_lines_are_numbered();
     lone_runs_are_answered_plainly::<V::C, V::St>();

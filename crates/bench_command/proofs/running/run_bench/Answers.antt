@@ -10,7 +10,7 @@ use Rattle.script_text.specs.declared.answer.Answer.{Answer}
 use Rattle.script_text.specs.declared.line.Line.{Line}
 use Rattle.bench_command.specs.Answers.{answers_in}
 use Rattle.bench_command.specs.Ends.{RunSays}
-use Rattle.bench_command.specs.Leaves.{RunClosed, RunKept, RunLeaves}
+use Rattle.bench_command.specs.Leaves.{RunClosed, RunKept, RunLeaves, StoreClosed}
 use Rattle.bench_command.specs.Numbers.{anchors_for, slot_size}
 use Rattle.bench_command.proofs.Plain.{sized}
 use Rattle.bench_command.proofs.Printed.{by_end, run_ends, told_so}
@@ -62,10 +62,12 @@ returns-in-Ok-run_script-clause-prints g c told =
 
 pub returns-in-Ok-run_script-clause-leaves : goal.returns-in-Ok-run_script-clause-leaves
 returns-in-Ok-run_script-clause-leaves g c =
-    let closed = subst (λ (lines : List Line). RunClosed g.V.Volume.tells g.V.C.Cell.tells g.V.C.Cell.state (g.V.Volume.files c.args.volume.now) (g.V.Volume.files c.run_script.new.volume) c.args.target.now.name.now c.args.target.now.workers lines) c.in-Ok.ensures c.in-Ok-run_script.ensures.ran.closed in
+    let has = subst (λ (lines : List Line). StoreClosed g.V.Volume.tells g.V.C.Cell.tells g.V.C.Cell.state (g.V.Volume.files c.args.volume.now) (g.V.Volume.files c.run_script.new.volume) c.args.target.now.name.now c.args.target.now.workers lines) c.in-Ok.ensures c.in-Ok-run_script.ensures.ran.closed in
+    let closed : RunClosed g.V.Volume.tells g.V.C.Cell.tells g.V.C.Cell.state (g.V.Volume.files c.args.volume.now) (g.V.Volume.files c.run_script.new.volume) c.args.target.now.name.now c.args.target.now.workers _ = (has, (λ told. c.closed_runs_leave_responses.ensures _ _ _ _ _ _ _ _ sized told has)) in
     by_end (RunLeaves g.V.Volume.tells g.V.C.Cell.tells g.V.C.Cell.state (g.V.Volume.files c.args.volume.now) (g.V.Volume.files c.run_script.new.volume) c.args.target.now.name.now c.args.target.now.workers _) _ _ c.print_summary.result c.print_summary.ensures.ends closed (inr closed) closed
 
 pub returns-clause-leaves : goal.returns-clause-leaves
 returns-clause-leaves g c =
-    rw c.status_of_run.ensures (refused_leaves g.V.Volume.tells g.V.C.Cell.tells g.V.C.Cell.state (g.V.Volume.files c.args.volume.now) (g.V.Volume.files c.run_script.new.volume) c.args.target.now.name.now c.args.target.now.workers _ c.in-Err.fault
-    (subst (λ (lines : List Line). RefusalLeaves (RunKept g.V.Volume.tells g.V.C.Cell.tells g.V.C.Cell.state (g.V.Volume.files c.args.volume.now) (g.V.Volume.files c.run_script.new.volume) c.args.target.now.name.now c.args.target.now.workers lines) (RunClosed g.V.Volume.tells g.V.C.Cell.tells g.V.C.Cell.state (g.V.Volume.files c.args.volume.now) (g.V.Volume.files c.run_script.new.volume) c.args.target.now.name.now c.args.target.now.workers lines) c.in-Err.fault) c.in-Ok.ensures c.in-Err.ensures.kept))
+    rw c.status_of_run.ensures (refused_leaves g.V.Volume.tells g.V.C.Cell.tells g.V.C.Cell.state (g.V.Volume.files c.args.volume.now) (g.V.Volume.files c.run_script.new.volume) c.args.target.now.name.now c.args.target.now.workers _
+    (λ told has. c.closed_runs_leave_responses.ensures _ _ _ _ _ _ _ _ sized told has) c.in-Err.fault
+    (subst (λ (lines : List Line). RefusalLeaves (RunKept g.V.Volume.tells g.V.C.Cell.tells g.V.C.Cell.state (g.V.Volume.files c.args.volume.now) (g.V.Volume.files c.run_script.new.volume) c.args.target.now.name.now c.args.target.now.workers lines) (StoreClosed g.V.Volume.tells g.V.C.Cell.tells g.V.C.Cell.state (g.V.Volume.files c.args.volume.now) (g.V.Volume.files c.run_script.new.volume) c.args.target.now.name.now c.args.target.now.workers lines) c.in-Err.fault) c.in-Ok.ensures c.in-Err.ensures.kept))

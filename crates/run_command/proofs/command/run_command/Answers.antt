@@ -63,7 +63,9 @@ returns-in-Ok-run_script-clause-prints g c told =
 
 pub returns-in-Ok-run_script-clause-kept : goal.returns-in-Ok-run_script-clause-kept
 returns-in-Ok-run_script-clause-kept g c =
-    printed_leaves _ _ _ _ _ _ _ _ _ _ _ _ _ _ c.print.result (c.in-Ok.lines.lines, c.in-Ok.ensures.script, c.in-Ok-run_script.ensures.ran.closed) c.print.ensures.ends
+    let limits = within c.args.target.now.slot c.args.target.now.workers (λ not. ok_not_err _ _ (c.in-Ok-run_script.ensures.bad_slot not)) (λ sized not. ok_not_err _ _ (c.in-Ok-run_script.ensures.bad_workers sized not)) in
+    let closed = c.in-Ok-run_script.ensures.ran.closed in
+    printed_leaves _ _ _ _ _ _ _ _ _ _ _ _ _ _ c.print.result (c.in-Ok.lines.lines, c.in-Ok.ensures.script, closed, (λ told. c.closed_runs_leave_responses.ensures _ _ _ _ _ _ _ _ limits.0 told closed)) c.print.ensures.ends
 
 pub returns-clause-refused : goal.returns-clause-refused
 returns-clause-refused g c =
@@ -72,4 +74,5 @@ returns-clause-refused g c =
     (λ told slots has not. (c.in-Err-run_script.ensures.bad_anchors told slots has not).1))
 
 pub returns-clause-kept : goal.returns-clause-kept
-returns-clause-kept g c = rw c.status_of_run.ensures (refused_leaves _ _ _ _ _ _ _ _ _ _ _ _ c.in-Ok.lines.lines c.in-Ok.ensures.script c.in-Err-run_script.fault c.in-Err-run_script.ensures.kept)
+returns-clause-kept g c = rw c.status_of_run.ensures (refused_leaves _ _ _ _ _ _ _ _ _ _ _ _ c.in-Ok.lines.lines c.in-Ok.ensures.script (λ sized told closed. c.closed_runs_leave_responses.ensures _ _ _ _ _ _ _ _ sized told closed)
+    _ _ c.in-Err-run_script.fault c.in-Err-run_script.ensures.refused c.in-Err-run_script.ensures.kept)

@@ -1,0 +1,23 @@
+// The law on what a crash leaves of a file that was given back.
+ghost use Rattle.std.specs.Prelude.{Bool, IsTrue, List, ℕ};
+ghost use Rattle.db_layout.specs.Layout.{IsSlotSize};
+ghost use Rattle.rock_disk.specs.File.{Files};
+ghost use Rattle.script_text.specs.declared.line.Line.{Line};
+ghost use Rattle.rock_run.specs.Runs.{HasClosed};
+ghost use Rattle.crashed_runs.specs.Left.{LeavesResponses};
+
+use crashed_stores::closed_cells_leave_responses;
+use rock_disk::{Cell, opened_slots_are_wide_and_few};
+use script_origin::ScriptOrigin;
+
+/// A file that a volume tells was opened as a store for the lines of a script, and the store was closed, however many
+/// workers served how many of the lines, and whatever faults they met. Then each complete entry of what a crash may leave
+/// of the cells is a response that the file had before, or one that a line of the script offers.
+pub fn closed_runs_leave_responses<C: Cell>()
+    ensures { (volume_tells : Bool) (files left : Files) (name : List ℕ) (slot anchors workers : ℕ) (script : List Line)
+        → IsSlotSize slot → IsTrue volume_tells → HasClosed volume_tells C.tells C.state files left name slot anchors workers script
+        → LeavesResponses files left name slot script }
+{
+    closed_cells_leave_responses::<C, ScriptOrigin>();
+    opened_slots_are_wide_and_few();
+}

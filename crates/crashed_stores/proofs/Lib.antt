@@ -1,0 +1,4 @@
+pub mod Over
+pub mod Closed
+pub mod Durable
+pub mod Kept

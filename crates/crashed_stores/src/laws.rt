@@ -1,0 +1,90 @@
+// The laws on what a crash leaves of a running store.
+ghost use Rattle.std.specs.Prelude.{IsTrue, List, length, ◌<◌, ◌^◌, ◌≡◌, ◌≤◌, ◌⊎◌, ℕ};
+ghost use Rattle.lock_word.specs.Words.{epoch_of, version_of};
+ghost use Rattle.std.specs.Global.{Vec};
+ghost use Rattle.core_model.specs.declared.view.View.{View};
+ghost use Rattle.core_model.specs.State.{State, chain_of, word};
+ghost use Rattle.rebuild_model.specs.Entry.{Entry, IsComplete};
+ghost use Rattle.store_rule.specs.Closing.{Closed};
+ghost use Rattle.store_rule.specs.Ground.{Rule};
+ghost use Rattle.store_rule.specs.Passes.{basis};
+ghost use Rattle.rock_open.specs.Opening.{IsStoreOver};
+ghost use Rattle.rebuild_model.specs.Rebuilt.{IsWinner};
+ghost use Rattle.crash_laws.specs.Left.{entry_at};
+ghost use Rattle.crashed_stores.specs.Left.{AreLeft, IsDurableEntry, IsLeftOf, IsResponse, bytes_now, offers_in};
+
+use db_layout::MOST_SLOTS;
+use entry_cut::{pieces_make_the_content, placed_pieces_are_an_entry};
+use rebuild_model::{one_entry_at_a_slot, one_winner_at_an_anchor};
+use rock_disk::Cell;
+use slot_cell::images_are_read_as_built;
+use store_key::keys_have_16_bytes;
+use store_rule::{Origin, Pass, Store};
+use swap_meta::written_meta_is_spelled;
+
+/// A store was opened over these cells, and its rule holds in some state: between any two atomic steps of its
+/// workers. Whatever a crash leaves then, while any number of workers write pieces, each complete entry is one
+/// that the cells had at the opening, or a whole response that was offered.
+pub fn crashes_of_stores_leave_responses<C: Cell, O: Origin>()
+    ensures { (slot anchors many : ℕ) (origin : O) (cells : List C) (store : Store C O) (passes : Vec (Pass C)) (s : State (List ℕ)) (images : List (List ℕ)) (e : Entry)
+        → IsTrue C.tells → slot < 2 ^ 32 → length cells ≤ MOST_SLOTS → IsStoreOver C.tells C.state O.offers slot anchors many origin cells store passes
+        → (rule : Rule (basis C.tells C.state O.offers store) s) → IsLeftOf (basis C.tells C.state O.offers store) s rule.logged.log images
+        → IsComplete slot images e → IsComplete slot (bytes_now C.state cells) e ⊎ IsResponse (O.offers origin) e }
+{
+    images_are_read_as_built();
+    keys_have_16_bytes();
+    one_entry_at_a_slot();
+    pieces_make_the_content();
+    placed_pieces_are_an_entry();
+    written_meta_is_spelled();
+}
+
+/// A new entry that was closed, each of whose pieces was logged as durable, is in all that a crash may leave, and a
+/// rebuild keeps it at its anchor.
+pub fn durable_entries_outlive_crashes<C: Cell, O: Origin>()
+    ensures { (slot anchors many : ℕ) (origin : O) (cells : List C) (store : Store C O) (passes : Vec (Pass C)) (s : State (List ℕ)) (images : List (List ℕ)) (a : ℕ)
+        → IsTrue C.tells → slot < 2 ^ 32 → length cells ≤ MOST_SLOTS → IsStoreOver C.tells C.state O.offers slot anchors many origin cells store passes
+        → (rule : Rule (basis C.tells C.state O.offers store) s) → IsLeftOf (basis C.tells C.state O.offers store) s rule.logged.log images
+        → a < anchors → IsDurableEntry (basis C.tells C.state O.offers store) s rule.logged.log a
+        → IsWinner slot images anchors a (entry_at slot (offers_in (basis C.tells C.state O.offers store)) (basis C.tells C.state O.offers store).setting s a) }
+{
+    images_are_read_as_built();
+    keys_have_16_bytes();
+    one_entry_at_a_slot();
+    pieces_make_the_content();
+    placed_pieces_are_an_entry();
+    written_meta_is_spelled();
+}
+
+/// An entry that was kept at the opening, and still stands at its anchor with its version and with slots, is in all
+/// that a crash may leave, and a rebuild keeps it there.
+pub fn kept_entries_outlive_crashes<C: Cell, O: Origin>()
+    ensures { (slot anchors many : ℕ) (origin : O) (cells : List C) (store : Store C O) (passes : Vec (Pass C)) (s : State (List ℕ)) (images : List (List ℕ)) (a : ℕ) (e : Entry)
+        → IsTrue C.tells → slot < 2 ^ 32 → length cells ≤ MOST_SLOTS → IsStoreOver C.tells C.state O.offers slot anchors many origin cells store passes
+        → (rule : Rule (basis C.tells C.state O.offers store) s) → IsLeftOf (basis C.tells C.state O.offers store) s rule.logged.log images
+        → a < anchors → IsWinner slot (bytes_now C.state cells) anchors a e → 0 < length (chain_of s a).slots → version_of (epoch_of (word s a)) ≡ e.version
+        → IsWinner slot images anchors a e }
+{
+    images_are_read_as_built();
+    keys_have_16_bytes();
+    one_entry_at_a_slot();
+    one_winner_at_an_anchor();
+    pieces_make_the_content();
+    placed_pieces_are_an_entry();
+    written_meta_is_spelled();
+}
+
+/// Where the store was closed, a crash leaves of its cells no other entries than those either.
+pub fn closed_cells_leave_responses<C: Cell, O: Origin>()
+    ensures { (slot anchors many : ℕ) (origin : O) (cells : List C) (store : Store C O) (passes : Vec (Pass C)) (views : List (View (List ℕ))) (closed : List C) (images : List (List ℕ)) (e : Entry)
+        → IsTrue C.tells → slot < 2 ^ 32 → length cells ≤ MOST_SLOTS → IsStoreOver C.tells C.state O.offers slot anchors many origin cells store passes
+        → Closed C.tells C.state (basis C.tells C.state O.offers store) views closed → AreLeft C.state closed images
+        → IsComplete slot images e → IsComplete slot (bytes_now C.state cells) e ⊎ IsResponse (O.offers origin) e }
+{
+    images_are_read_as_built();
+    keys_have_16_bytes();
+    one_entry_at_a_slot();
+    pieces_make_the_content();
+    placed_pieces_are_an_entry();
+    written_meta_is_spelled();
+}

@@ -1,0 +1,10 @@
+//! What a crash leaves of a store that runs, whatever its workers do. The functions here do nothing. What they
+//! ensure are laws.
+#![tactic(auto)]
+
+mod laws;
+
+pub use laws::{
+    closed_cells_leave_responses, crashes_of_stores_leave_responses,
+    durable_entries_outlive_crashes, kept_entries_outlive_crashes,
+};
