@@ -4,7 +4,8 @@
 The layers in README.md, its table, and the levels and the table of docs/CRATES.md have each crate of crates.txt once,
 and no other. A crate stands on crates of its own layer and of those below it, and of lower levels alone. crates.txt has
 the layers of README.md, each under its heading, the lowest first, and a crate stands there after all that it lists and
-lists only what its files use. README.md
+lists only what its files use. A lemma that another crate cites stands on the list in the README of its own crate, and what
+stands on such a list is a lemma of the crate. README.md
 tells rightly which crates the program does without, and how many it takes. The way of a line names crates alone.
 docs/OPERATING.md has each line that the program says on standard error, with its code, and no other; a test of help_tests
 and a row of tests/real_files.sh have each too. docs/FORMATS.md and docs/rock.1 have the codes. This reads files alone,
@@ -96,6 +97,49 @@ def listing(picture):
             is_used = re.search(rf"\bRattle\.{crate}\.|\b{crate}::|\buse {crate}\b", source)
             holds(f"crates.txt: {name} uses {crate}", is_used)
         seen.add(name)
+
+
+def cited():
+    """Of each crate the lemmas that others cite, by their files: "" where a file is cited as a whole."""
+    found = {}
+    for path in glob.glob(f"{ROOT}/crates/*/**/*.antt", recursive=True) + glob.glob(f"{ROOT}/crates/*/src/**/*.rt", recursive=True):
+        user = os.path.relpath(path, f"{ROOT}/crates").split("/")
+        if "out" in user:
+            continue
+        with open(path, encoding="utf-8") as file:
+            text = file.read()
+        uses = re.findall(r"(?m)^ *(?:ghost )?use Rattle\.(\w+)\.proofs\.(\w+)(?:\.\{(.*)\})?(?: as \w+)?;?$", text)
+        for crate, name, lemmas in uses:
+            if crate != user[0]:
+                found.setdefault(crate, {}).setdefault(name, set()).update(lemma.split(" as ")[0] for lemma in lemmas.split(", "))
+    return found
+
+
+def listed(name):
+    """The lemmas on the list of a crate's README, by their files: "" where a file is listed as a whole."""
+    section = re.search(r"(?s)\n## What other crates stand on\n(.*?)(?=\n## |\Z)", read(f"crates/{name}/README.md"))
+    found, file = {}, ""
+    for row in re.findall(r"(?m)^\| (`.*?) \|", section.group(1) if section else ""):
+        for word in re.findall(r"`(.*?)`", row):
+            file, _, lemma = (file + word).partition(".") if word.startswith(".") else word.partition(".")
+            found.setdefault(file, set()).add(lemma)
+    return found
+
+
+def lending(below):
+    """What a crate lends, and what it says of that."""
+    uses = cited()
+    for name in below:
+        said = listed(name)
+        for file, lemmas in uses.get(name, {}).items():
+            missing = set() if "" in said.get(file, ()) else lemmas - said.get(file, set())
+            holds(f"crates/{name}/README.md lists what others cite of {file}: {sorted(missing)}", not missing)
+        for file, lemmas in said.items():
+            path = f"crates/{name}/proofs/{file}.antt"
+            there = read(path) if os.path.exists(f"{ROOT}/{path}") else None
+            holds(f"crates/{name}/README.md lists a file that is there: {file}", there is not None)
+            strange = [lemma for lemma in lemmas if lemma and not re.search(rf"(?m)^ *(?:abbrev |unfoldable )?pub (?:record |data )?{re.escape(lemma)} ", there or "")]
+            holds(f"crates/{name}/README.md lists lemmas of {file}: {strange}", not strange)
 
 
 def readme(below):
@@ -204,6 +248,7 @@ def main():
     below = crates()
     readme(below)
     levels(below)
+    lending(below)
     messages()
     print(f"{len(failed)} comparisons failed")
     sys.exit(1 if failed else 0)
