@@ -22,7 +22,7 @@ abbrev pub in_order : {X : Type 0} → List (Told X) → List (Line × Answer)
 in_order [] = []
 in_order (x ∷ earlier) = in_order earlier ++ (x.served.line, x.served.answer) ∷ []
 
--- the same, each between the views before it and after it
+-- the lines of an account with their answers, each between the views before it and after it
 abbrev pub with_views : {X : Type 0} → List (Told X) → List (View X × Line × Answer × View X)
 with_views [] = []
 with_views (x ∷ earlier) = with_views earlier ++ (x.before, x.served.line, x.served.answer, x.after) ∷ []

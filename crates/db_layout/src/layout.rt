@@ -23,7 +23,7 @@ pub fn slot_size_ok(slot: u32) -> bool
 /// How many whole slots of `slot` bytes a file of `bytes` bytes has behind its header area, at most
 /// 1,048,576. A file that is shorter than its header area has none.
 pub fn slots_of(bytes: u64, slot: u32) -> u32
-    requires { IsSlotSize slot }
+    requires { 0 < slot }
     ensures value { result ≡ slots_of bytes slot }
     ensures most { result ≤ MOST_SLOTS }
 {
@@ -33,18 +33,16 @@ pub fn slots_of(bytes: u64, slot: u32) -> u32
 
 /// The offset in bytes at which the slot of this number, from 0, begins.
 pub fn offset_of(number: u32, slot: u32) -> u64
-    requires { IsSlotSize slot }
     ensures value { result ≡ offset_of number slot }
-    ensures in_range { result + slot < 2 ^ 48 }
+    ensures in_range { IsSlotSize slot → result + slot < 2 ^ 48 }
 {
     u64::from(HEADER_BYTES) + u64::from(number) * u64::from(slot)
 }
 
 /// The length in bytes of a file with a header area and this many slots, and nothing behind them.
 pub fn file_size(slots: u32, slot: u32) -> u64
-    requires { IsSlotSize slot }
     ensures value { result ≡ file_size slots slot }
-    ensures in_range { result < 2 ^ 48 }
+    ensures in_range { IsSlotSize slot → result < 2 ^ 48 }
 {
     u64::from(HEADER_BYTES) + u64::from(slots) * u64::from(slot)
 }

@@ -1,11 +1,11 @@
 // The header of a piece, and the image of its slot.
 ghost use Rattle.std.specs.Prelude.{◌≡◌, ◌+◌, ◌<◌, ◌≤◌, ◌^◌, ℕ, length, take, drop};
-ghost use Rattle.std.specs.Int.{w64, from_le_bytes};
 ghost use Rattle.slot_cell.specs.Header.{slot_image};
 ghost use Rattle.entry_cut.specs.Content.{Cut, header, payload};
 ghost use Rattle.entry_cut.specs.Labels.{IsLabelOf, ComesBehind, Fits, header_with, next_of};
 
 use slot_cell::{HEADER_SIZE, Header};
+use store_key::halves_of;
 
 /// What every piece of an entry says of it.
 #[derive(Clone, Copy, Debug, PartialEq, Eq)]
@@ -24,20 +24,6 @@ pub enum Behind {
     Slot(u32),
     /// Nothing: metadata and body have this many bytes together.
     End(u64),
-}
-
-/// The halves of a key, as a header has them.
-fn halves_of(key: &[u8; 16]) -> (u64, u64)
-    ensures first { result.0 ≡ from_le_bytes w64 (take 8 key.now) }
-    ensures last { result.1 ≡ from_le_bytes w64 (drop 8 key.now) }
-{
-    let Some((first, rest)) = key.split_first_chunk() else {
-        unreachable!()
-    };
-    let Some((last, _)) = rest.split_first_chunk() else {
-        unreachable!()
-    };
-    (u64::from_le_bytes(*first), u64::from_le_bytes(*last))
 }
 
 /// The header of a piece of `size` bytes. The last piece says the size of the whole and names no slot,

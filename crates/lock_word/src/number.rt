@@ -1,4 +1,4 @@
-//! The same judged by the number of a word alone, whatever its reserved bits are.
+//! What a word is, judged by its number alone, whatever its reserved bits are.
 ghost use Rattle.std.specs.Prelude.{◌≡◌};
 ghost use Rattle.lock_word.specs.Words.{epoch_of, readers_of, mode_of, stage_of, is_readable, is_idle, is_vacant, is_left_over};
 

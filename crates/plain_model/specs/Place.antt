@@ -20,7 +20,7 @@ abbrev pub changed : (Entry → Entry) → Option Entry → Option Entry
 changed f None = None
 changed f (Some entry) = Some (f entry)
 
--- so many bytes of the entry's content are there
+-- `content` bytes of the entry's content are there
 abbrev pub resized : ℕ → Place → Place
 resized content place = record place { entry = changed (λ e. record e { content = content }) place.entry }
 

@@ -41,7 +41,7 @@ refused_by Large = answer.Large
 abbrev pub lacking : Entry → ℕ
 lacking e = length e.body - (e.content - meta_size e.url)
 
--- so many bytes are added to an entry that has `content` of them, one slot's filling at a time
+-- `count` bytes are added to an entry that has `content` of them, one slot's filling at a time
 abbrev pub append : Setting → (anchor count content : ℕ) → Plain → Grown
 append s anchor count content p = grow s anchor (content + count) (published s.room (content + count) - published s.room content) (published s.room content + 1) p
 

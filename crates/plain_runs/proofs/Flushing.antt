@@ -141,11 +141,11 @@ module _ (g : Ground (List ℕ)) (lone : IsLone g) (rename : ℕ → ℕ) (t : �
   piece_out u w ps end slot more durable next pass free is h = record {
     same = same_weaker g u w (λ q. ⊥ ⊎ Linking e.anchor slot q) (Linking e.anchor slot) (λ q c. of_either q c)
         (same_on g u h.written w (λ q. ⊥) (Linking e.anchor slot) (wrote_same g lone u h.written t durable true pass below h.wrote)
-        (published_same g lone h.written w t slot next (chose (writer_as g e ps end (slot ∷ more)) h.wrote.written h.wrote.settled) nine below at (0, omega arith, refl) h.publishes));
+        (published_same g lone h.written w t slot next (chose (writer_as g e ps end (slot ∷ more)) h.wrote.slot durable h.wrote.written h.wrote.settled) nine below at (0, omega arith, refl) h.publishes));
     tab = now.0;
     inner_free = now.1;
     pass = of_published h.publishes;
-    others = others_go_on u h.written w t (others_set u h.written (Writing (chose h.wrote.writer h.wrote.written h.wrote.settled)) h.wrote.tabs) (publish_others h.publishes);
+    others = others_go_on u h.written w t (others_set u h.written (Writing (chose h.wrote.writer h.wrote.slot durable h.wrote.written h.wrote.settled)) h.wrote.tabs) (publish_others h.publishes);
   }
     where
       now : (tab_at w t ≡ Writing (linked_as g t below e ps slot (next_link next) more)) × InnerIsFree w
@@ -158,12 +158,12 @@ module _ (g : Ground (List ℕ)) (lone : IsLone g) (rename : ℕ → ℕ) (t : �
       same_writer : h.wrote.writer ≡ writer_as g e ps end (slot ∷ more)
       same_writer = ap (writer_in (writer_as g e ps end (slot ∷ more))) (sym h.wrote.was ∙ is)
 
-      at : tab_at h.written t ≡ Writing (chose (writer_as g e ps end (slot ∷ more)) h.wrote.written h.wrote.settled)
-      at = tab_now t u h.written (Writing (chose h.wrote.writer h.wrote.written h.wrote.settled)) pass below h.wrote.tabs
-          ∙ ap (λ (z : Writer (List ℕ)). Writing (chose z h.wrote.written h.wrote.settled)) same_writer
+      at : tab_at h.written t ≡ Writing (chose (writer_as g e ps end (slot ∷ more)) h.wrote.slot durable h.wrote.written h.wrote.settled)
+      at = tab_now t u h.written (Writing (chose h.wrote.writer h.wrote.slot durable h.wrote.written h.wrote.settled)) pass below h.wrote.tabs
+          ∙ ap (λ (z : Writer (List ℕ)). Writing (chose z h.wrote.slot durable h.wrote.written h.wrote.settled)) same_writer
 
       nine : IsPass h.written
-      nine = nine_now t u h.written (Writing (chose h.wrote.writer h.wrote.written h.wrote.settled)) pass below h.wrote.tabs
+      nine = nine_now t u h.written (Writing (chose h.wrote.writer h.wrote.slot durable h.wrote.written h.wrote.settled)) pass below h.wrote.tabs
 
       of_published : Published g t slot next h.written w → IsPass w
       of_published (inl first) = nine_now t first.middle w (stores (tab_at first.middle t) Start (slot + 1))

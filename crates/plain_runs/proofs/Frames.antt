@@ -10,7 +10,7 @@ use Rattle.core_model.specs.declared.moves.Move.{Move}
 use Rattle.core_model.specs.declared.moves.Side.{Side}
 use Rattle.core_model.specs.declared.moves.Side.TheVariants.{Key0, Key1, Offer, Start}
 use Rattle.core_model.specs.declared.view.Place.{Place}
-use Rattle.core_model.specs.declared.view.Place.TheVariants.{Anchor, Beside, Counter, Link, Map, Turn}
+use Rattle.core_model.specs.declared.view.Place.TheVariants.{Anchor, Beside, Counter, Link, Map, Turn, LogCounter}
 use Rattle.core_model.specs.declared.view.View.{View}
 use Rattle.core_model.specs.Deeds.{mirrored}
 use Rattle.core_model.specs.Steps.{traces_of}
@@ -28,23 +28,25 @@ use Rattle.core_model.proofs.Telling.{told_in, told_out}
 use Rattle.std.proofs.lemmas.List.Elements.{Contains-append_left, Contains-append_right}
 use Rattle.store_rule.specs.Ground.{Ground}
 use Rattle.store_rule.specs.Told.{Stands, Steps, found_as}
-use Rattle.store_rule.specs.Runs.{Added, IsNoMap, Went, added_by}
+use Rattle.store_rule.specs.Runs.{Added, IsFollowed, Went, added_by}
 use Rattle.store_rule.specs.Words.{Mine, has}
 use Rattle.plain_runs.specs.Words.{HasChain, HasNames, IsLone, Knows, ShowsAt, ShowsEntry, ShowsEntryIf, link_known, setting_of}
 
--- the words of which `Knows` speaks: those of turns and of the map of taken slots are left out
+-- the words of which `Knows` speaks: those of turns, of the map of taken slots and of the counter of logged pieces are left out
 abbrev pub IsKnown : Place → Type 0
 IsKnown (Turn slot) = ⊥
 IsKnown (Map word) = ⊥
+IsKnown LogCounter = ⊥
 IsKnown q = Unit {0}
 
-known_no_map : (q : Place) → IsKnown q → IsNoMap q
-known_no_map (Anchor a) h = tt
-known_no_map (Beside side a) h = tt
-known_no_map (Link slot) h = tt
-known_no_map (Turn slot) h = absurd h
-known_no_map (Map word) h = absurd h
-known_no_map Counter h = tt
+known_followed : (q : Place) → IsKnown q → IsFollowed q
+known_followed (Anchor a) h = tt
+known_followed (Beside side a) h = tt
+known_followed (Link slot) h = tt
+known_followed (Turn slot) h = absurd h
+known_followed (Map word) h = absurd h
+known_followed Counter h = tt
+known_followed LogCounter h = absurd h
 
 module _ (g : Ground (List ℕ)) where
   -- each such word is in w as it is in v, but for these
@@ -62,15 +64,15 @@ module _ (g : Ground (List ℕ)) where
 
   -- of steps that may have changed these places of the table
   pub went_same : IsLone g → (v w : View (List ℕ)) (d : Added) → Went g v d w → ((q : Place) → Contains d.changed q → IsPlace g.setting q) → SameBut v w (Contains d.changed)
-  went_same lone v w d went there = record { same = λ q known here ne. went.steady q (known_no_map q known) here lone (λ r c e. ne (subst (Contains d.changed) (apart g.setting r q (there r c) here e) c)) }
+  went_same lone v w d went there = record { same = λ q known here ne. went.steady q (known_followed q known) here lone (λ r c e. ne (subst (Contains d.changed) (apart g.setting r q (there r c) here e) c)) }
 
   pub went_none : IsLone g → (v w : View (List ℕ)) (d : Added) → Went g v d w → d.changed ≡ [] → SameBut v w (λ q. ⊥)
-  went_none lone v w d went none = record { same = λ q known here ne. went.steady q (known_no_map q known) here lone (λ r c e. nothing_in r (subst (λ (z : List Place). Contains z r) none c)) }
+  went_none lone v w d went none = record { same = λ q known here ne. went.steady q (known_followed q known) here lone (λ r c e. nothing_in r (subst (λ (z : List Place). Contains z r) none c)) }
     where
       nothing_in : (r : Place) → Contains [] r → ⊥
       nothing_in r c = contains_none r c
 
-  -- Of one step: on this place, on none, on a word of the map, and on a turn word.
+  -- Of one step: on this place, on none, on a word of the map, on a turn word, and on the counter of logged pieces.
   mirror_is : (v w : View (List ℕ)) (m : Move) (n : ℕ) → Steps g v m n w → w.mirror ≡ traces_of (place v m) (left_by v m n) ++ v.mirror
   mirror_is v w m n st = ap View.mirror st.leaves
 
@@ -89,6 +91,9 @@ module _ (g : Ground (List ℕ)) where
 
   pub step_same_turn : (v w : View (List ℕ)) (m : Move) (n slot : ℕ) → Steps g v m n w → place v m ≡ Some (Turn slot) → IsPlace g.setting (Turn slot) → SameBut v w (λ q. ⊥)
   step_same_turn v w m n slot st is there = record { same = λ q known here ne. (step_same v w m n (Turn slot) st is there).same q known here (λ e. subst IsKnown e known) }
+
+  pub step_same_log : (v w : View (List ℕ)) (m : Move) (n : ℕ) → Steps g v m n w → place v m ≡ Some LogCounter → SameBut v w (λ q. ⊥)
+  step_same_log v w m n st is = record { same = λ q known here ne. (step_same v w m n LogCounter st is tt).same q known here (λ e. subst IsKnown e known) }
 
   -- What is shown at an anchor stays, where its words and the links of its chain do.
   pub names_same : (v w : View (List ℕ)) (Changed : Place → Type 0) (b : ℕ) (e : Entry) → b < g.setting.anchors → SameBut v w Changed → ((side : Side) → Changed (Beside side b) → ⊥) → HasNames g v b e → HasNames g w b e

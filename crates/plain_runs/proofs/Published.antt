@@ -19,7 +19,7 @@ use Rattle.core_model.specs.Table.{left_by, place}
 use Rattle.core_model.specs.Tabs.{IsPass, anchor_of, inner, tab_at}
 use Rattle.core_model.specs.declared.chain.Chain.{Chain}
 use Rattle.core_model.specs.declared.moves.Move.{Move}
-use Rattle.core_model.specs.declared.moves.Move.TheVariants.{EndTurn, Publish, Raise, StoreSide, TryTurn}
+use Rattle.core_model.specs.declared.moves.Move.TheVariants.{EndTurn, Publish, Raise, StoreSide, TryTurn, LogPiece}
 use Rattle.core_model.specs.declared.moves.Side.{Side}
 use Rattle.core_model.specs.declared.moves.Side.TheVariants.{Key0, Key1, Offer, Start}
 use Rattle.core_model.specs.declared.tab.Cell.{Cell}
@@ -49,7 +49,7 @@ use Rattle.rock_writer.proofs.Resting.{tab_now}
 use Rattle.rock_writer.proofs.Standing as standing
 use Rattle.plain_runs.specs.Words.{EndsSo, HasChain, HasNames, IsLone, Knows, ShowsAt, ShowsEntry, ShowsEntryIf, no_guests, setting_of, slots_published}
 use Rattle.plain_runs.proofs.Chains as told
-use Rattle.plain_runs.proofs.Frames.{LeavesAlone, SameBut, names_same, same_on, same_weaker, step_same, step_same_turn}
+use Rattle.plain_runs.proofs.Frames.{LeavesAlone, SameBut, names_same, same_on, same_weaker, step_same, step_same_turn, step_same_log}
 use Rattle.plain_runs.proofs.Freeing.{KnowsBut, SameElse, but_moved}
 use Rattle.plain_runs.proofs.PlainWords.{readers_fit, stage_there}
 
@@ -127,17 +127,18 @@ module _ (g : Ground (List ℕ)) (lone : IsLone g) where
   returned_mirror (Last a) t slot c v u h = ap View.mirror h
   returned_mirror (Freeing f) t slot c v u h = ap View.mirror h
 
-  -- writing a slot changes no word but its turn
+  -- writing a slot changes no word but the counter of logged pieces and its turn
   pub wrote_same : (v w : View (List ℕ)) (t : ℕ) (durable done : Bool) → IsPass v → t < inner → WroteSlot g t v durable done w → SameBut g v w (λ q. ⊥)
   wrote_same v w t durable done pass below h = record {
     same = λ q known here none.
         (step_same_turn g h.from w (EndTurn t h.slot false) 1 h.slot h.ended refl there).same q known here none
         ∙ (ap (mirrored g.setting (index g.setting q)) (returned_mirror (tab_at h.middle t) t h.slot h.cell h.middle h.from h.returned)
-        ∙ (step_same_turn g v h.middle (TryTurn t h.slot) 0 h.slot h.tried refl there).same q known here none);
+        ∙ ((step_same_turn g h.logged h.middle (TryTurn t h.slot) 0 h.slot h.tried refl there).same q known here none
+        ∙ (step_same_log g v h.logged (LogPiece t h.slot durable) h.number h.logs refl).same q known here none));
   }
     where
       there : h.slot < g.setting.slots
-      there = reserved_there v t h.slot h.writer (stands_before h.tried) pass below h.was (subst (λ (z : List ℕ). Contains z h.slot) (sym h.first) (0, omega arith, refl))
+      there = reserved_there v t h.slot h.writer (stands_before h.logs) pass below h.was (subst (λ (z : List ℕ). Contains z h.slot) (sym h.first) (0, omega arith, refl))
 
   -- Publishing changes the link of the slot, and the start of the first one.
   pub published_same : (v w : View (List ℕ)) (t slot : ℕ) (next : Option ℕ) (x : Writer (List ℕ)) → IsPass v → t < inner → tab_at v t ≡ Writing x → Contains x.reserved slot → Published g t slot next v w → SameBut g v w (Linking x.anchor slot)

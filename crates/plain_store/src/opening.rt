@@ -40,7 +40,7 @@ pub fn fresh(alloc: Global, anchors: u32) -> Result<Plain, Memory>
     })
 }
 
-/// The same bytes again.
+/// Copies a text.
 fn text_again(alloc: Global, text: &Text) -> Result<Text, AllocError>
     ensures { IfOk result (λ again. again ≡ text.now) }
 {

@@ -17,7 +17,7 @@ use std::alloc::{AllocError, Global};
 /// The tab of requests without one.
 const WHOLE: u8 = 7;
 
-/// So many letters in turn, from the one at this shift on.
+/// `count` letters in turn, from the one at this shift on.
 fn letters(alloc: Global, count: u32, shift: u8) -> Result<Vec<u8>, AllocError>
     ensures { IfOk result (λ bytes. bytes.items ≡ map (λ i. 97 + (i + shift) % 26) (range_with_len 0 count)) }
 {

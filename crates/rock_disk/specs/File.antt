@@ -22,7 +22,7 @@ abbrev pub bytes_of : File → List ℕ
 bytes_of (Home header cells rest) = header.now ++ (joined cells ++ rest)
 bytes_of (Away slots slot rest) = rest
 
--- so many slots from the front of these bytes, the first with this number
+-- the first n slots of these bytes, of which the first has this number
 abbrev pub slots_from : ℕ → ℕ → ℕ → List ℕ → List CellState
 slots_from number zero slot bytes = []
 slots_from number (suc n) slot bytes = settled number slot (take slot bytes) ∷ slots_from (number + 1) n slot (drop slot bytes)
@@ -50,7 +50,7 @@ cut slot bytes = Home (header_cut bytes) (slots_cut slot bytes) (rest_cut slot b
 abbrev pub uncut : List ℕ → File
 uncut bytes = Home (settled HEADER_NUMBER 0 []) [] bytes
 
--- so many bytes, each of them 0
+-- n bytes, each of them 0
 unfoldable pub zeros : ℕ → List ℕ
 zeros n = replicate n 0
 

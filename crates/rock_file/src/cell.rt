@@ -2,7 +2,7 @@ ghost use Rattle.std.specs.Prelude.{◌≡◌, ◌+◌, ◌*◌, ◌<◌, map, f
 ghost use Rattle.rock_disk.specs.Cell.{shape};
 ghost use Rattle.rock_disk.specs.File.{shapes_from};
 
-use db_layout::HEADER_BYTES;
+use db_layout::{HEADER_BYTES, offset_of};
 use rock_disk::{Cell, HEADER_NUMBER};
 use rock_io::Memory;
 use std::alloc::Global;
@@ -52,7 +52,7 @@ impl FileCell {
         if self.number == HEADER_NUMBER {
             return 0;
         }
-        u64::from(HEADER_BYTES) + u64::from(self.number) * u64::from(self.width)
+        offset_of(self.number, self.width)
     }
 }
 

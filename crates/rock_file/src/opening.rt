@@ -1,8 +1,9 @@
 // How the system is asked for a file, and what its length says.
 ghost use Rattle.std.specs.Prelude.{◌≡◌, ◌+◌, ◌<◌, ◌≤◌, IfOk, OnOk, OnErr};
 ghost use Rattle.db_layout.specs.Layout.{slots_of};
+ghost use Rattle.db_layout.specs.declared.layout.TheConstants.{HEADER_BYTES};
 
-use db_layout::{HEADER_BYTES, MOST_SLOTS};
+use db_layout::{file_size, slots_of};
 use rock_disk::OpenFault;
 use std::fs::{OpenFile, OpenOptions};
 use std::io;
@@ -63,11 +64,8 @@ pub(crate) fn count_slots(bytes: u64, slot: u32) -> Result<u32, OpenFault>
     ensures room { OnOk result (HEADER_BYTES + slot ≤ bytes) }
     ensures small { OnErr result ((result ≡ Err (OpenFault.Small bytes)) × (bytes < HEADER_BYTES + slot)) }
 {
-    let first = u64::from(HEADER_BYTES);
-    let slot = u64::from(slot);
-    if bytes < first + slot {
+    if bytes < file_size(1, slot) {
         return Err(OpenFault::Small { bytes });
     }
-    let whole = (bytes - first) / slot;
-    Ok(whole.min(u64::from(MOST_SLOTS)) as u32)
+    Ok(slots_of(bytes, slot))
 }

@@ -4,7 +4,7 @@ ghost use Rattle.rock_io.specs.Faults.{one_more};
 
 use crate::opening::{count_slots, extend, open_for_station, open_regular, read_front};
 use crate::{FileCell, FileStation};
-use db_layout::HEADER_BYTES;
+use db_layout::{HEADER_BYTES, file_size};
 use rock_disk::{CreateFault, OpenFault, Opened, PeekFault, StationFault, Stations, Volume};
 use std::alloc::Global;
 use std::fs::OpenOptions;
@@ -230,7 +230,7 @@ where
         ensures made { volume_made self.new ≡ volume_made self.old }
         ensures ended { volume_ended self.new ≡ volume_ended self.old }
     {
-        let bytes = u64::from(HEADER_BYTES) + u64::from(slots) * u64::from(slot);
+        let bytes = file_size(slots, slot);
         let file = match OpenOptions::new()
             .write(true)
             .create_new(true)

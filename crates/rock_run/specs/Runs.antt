@@ -36,7 +36,7 @@ module _ {C O St : Type 0} (tells : Bool) (state : C → CellState) (offers : O 
     pub stations_left_are : map (λ a. a.end.station) accounts ≡ stations_left
     pub answers_are : map answers_of accounts ≡ answers
 
-  -- the same, with stations that were new
+  -- workers played so, with stations that were new
   pub record HasServed (passes : List (Pass C)) (passes_left : List (Pass C)) (stations_left : List St) (answers : List (List (ℕ × Answer))) : Type 0 where
     pub stations : List St
     pub fresh : All (λ station. faults station ≡ 0) stations

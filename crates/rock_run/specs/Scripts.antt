@@ -4,7 +4,7 @@ use Rattle.script_text.specs.declared.line.Line.{Line}
 use Rattle.script_origin.specs.Asked.{IsAsked, IsFound}
 use Rattle.worker_pool.specs.Knowing.{HasMarks}
 
--- So many workers may serve these lines, however many there are: each line is for one of the workers and is the first of its number, what it asks
+-- The lines may be served by `workers` workers, however many lines there are: each line is for one of the workers and is the first of its number, what it asks
 -- names tabs and URLs of a script, marks are below 64, and no two lines set one mark.
 pub record MayBeServed (workers : ℕ) (lines : List Line) : Type 0 where
   pub within : (line : Line) → Contains lines line → (1 ≤ line.worker) × (line.worker ≤ workers)

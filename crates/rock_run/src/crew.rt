@@ -11,7 +11,7 @@ use std::alloc::Global;
 use store_rule::{Origin, Pass, Store};
 use worker_shelf::{ShelfRoom, WorkerShelf};
 
-/// Takes the memory of so many shelves of a store with slots of this size.
+/// Allocates room for `count` shelves of a store with slots of `slot` bytes.
 pub(crate) fn make_rooms(alloc: Global, slot: u32, count: usize) -> Result<Vec<ShelfRoom>, Memory>
     ensures many { IfOk result (λ rooms. vec_len rooms ≡ count) }
     ensures each { IfOk result (λ rooms. All (IsRoomFor slot) rooms.items) }

@@ -17,7 +17,7 @@ use std::test::Fail;
 /// The MD5 of a byte 1 and `http://a/b`, by the program md5sum.
 const KEY_B: &[u8; 16] = b"\x1a\x68\xc1\x0d\x6c\x8b\x32\x66\x57\xc7\x75\xf5\x3c\x86\x6d\xd1";
 
-/// The same of `http://a/c`.
+/// The MD5 of a byte 1 and `http://a/c`, by md5sum too.
 const KEY_C: &[u8; 16] = b"\x48\x77\xc9\x34\x8b\x6d\x72\x99\xe2\x13\x89\x6f\x83\x9c\x80\xb8";
 
 /// Metadata with `http://a/b` and its key.
@@ -42,7 +42,7 @@ fn slot_b(number: u32, fields: [u64; 5]) -> Image {
     image
 }
 
-/// The same of `http://a/c`.
+/// A slot of `http://a/c`, with the same fields as `slot_b`.
 fn slot_c(number: u32, fields: [u64; 5]) -> Image {
     let mut image = slot_b(number, fields);
     put(&mut image, 0, KEY_C);

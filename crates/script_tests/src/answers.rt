@@ -133,7 +133,7 @@ fn found(name: u64, why: Option<Cause>, looked: Word, found: Word) -> Option<Ans
     }
 }
 
-/// The same as `is_plain`.
+/// Whether the line of an answer that tells of a cause, an epoch or two words is as it stands in the row.
 fn is_found(alloc: Global, row: &str) -> Option<bool> {
     let (told, wanted) = fields(row)?;
     let [worker, number, name, why, a, b, c, d, e, f, g, h] = numbers::<12>(told)?;
@@ -182,7 +182,7 @@ const BYTES: &str = "\
 1 2 read_fault;1;;1 2 FAULT 0 -
 1 2 read_fault;1;200a;1 2 FAULT 2 *";
 
-/// The same as `is_plain`.
+/// Whether the line of an answer with bytes is as it stands in the row.
 fn is_with_bytes(alloc: Global, row: &str) -> Option<bool> {
     let (told, rest) = fields(row)?;
     let (copies, rest) = fields(rest)?;

@@ -129,7 +129,7 @@ const LONG: &str = "\
 ;1 put b #4194304:0|;17;Err(BadLine { line: 17, cause: 8 })
 1 put b =a|;1 begin 0 b #4194304:0|;16;Err(BadLine { line: 17, cause: 8 })";
 
-/// The same as `is_short_told`.
+/// Whether a script of many pieces is told as it stands in the row.
 fn is_long_told(alloc: Global, row: &str, most: usize) -> Option<bool> {
     let (front, rest) = fields(row)?;
     let (piece, rest) = fields(rest)?;

@@ -36,6 +36,6 @@ Explains IsBad HasFailed (BadLine line cause) = IsBad line cause
 Explains IsBad HasFailed Failed = HasFailed
 Explains IsBad HasFailed Memory = Unit {0}
 
--- so many bytes of a source were taken, in order
+-- some bytes of a source were taken from its front
 abbrev pub IsTakenFrom : Bool → List ℕ → List ℕ → Type 0
 IsTakenFrom tells before after = IsTrue tells → (front : List ℕ) × (before ≡ front ++ after)

@@ -40,7 +40,7 @@ pub enum Answer {
     NoEntry { cause: Cause },
     /// Writing began.
     Begun { version: u32 },
-    /// So many bytes were added.
+    /// `count` bytes were added.
     Added { count: u32 },
     /// Writing was given up.
     Dropped,

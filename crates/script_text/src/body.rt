@@ -5,7 +5,7 @@ use rock_io::Octets;
 pub enum Body {
     /// These bytes.
     Text(Octets),
-    /// So many bytes, which are not spelled out: byte i, from 0, is 0x61 + (i + shift) mod 26, a letter
+    /// `length` bytes, which are not spelled out: byte i, from 0, is 0x61 + (i + shift) mod 26, a letter
     /// from `a` to `z`. A body of no bytes is one of these.
     Made { length: u32, shift: u8 },
 }

@@ -158,7 +158,7 @@ module _ {X : Type 0} {t : ℕ} {name : Naming} where
     published_tab slot next v w h (inr p) = publish_tab h p.linked
 
     pub wrote_tab : {durable done : Bool} {v w : View X} → HasEntry t name v → WroteSlot g t v durable done w → HasEntry t name w
-    wrote_tab {durable} {done} {v} {w} h k = becomes (Writing (chose k.writer k.written k.settled)) h k.tabs (subst (IsEntryOf name) k.was h.writes)
+    wrote_tab {durable} {done} {v} {w} h k = becomes (Writing (chose k.writer k.slot durable k.written k.settled)) h k.tabs (subst (IsEntryOf name) k.was h.writes)
 
 -- The stage that such a tab raises its anchor to.
 

@@ -107,4 +107,4 @@ module _ {X : Type 0} (g : Ground X) (t : ℕ) {P : Deed → Type 0} where
   read_slot {done} {cell} {v} {w} h = on (on (lost h.slot v h.views h.last h.lost) (quiet_step h.tried refl refl)) (quiet_step h.ended refl refl)
 
   pub wrote_slot : {durable done : Bool} {v w : View X} → WroteSlot g t v durable done w → Acted None P v w
-  wrote_slot h = on (on (quiet_step h.tried refl refl) (returned g.setting (tab_at h.middle t) t h.slot h.cell h.middle h.from h.returned)) (quiet_step h.ended refl refl)
+  wrote_slot h = on (on (on (quiet_step h.logs refl refl) (quiet_step h.tried refl refl)) (returned g.setting (tab_at h.middle t) t h.slot h.cell h.middle h.from h.returned)) (quiet_step h.ended refl refl)

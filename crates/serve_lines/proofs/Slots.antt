@@ -78,4 +78,4 @@ module _ {X : Type 0} (g : Ground X) (t : ℕ) where
   read_slot {done} {cell} {v} {w} h = on (lost h.slot v h.views h.last h.lost) (on (by_step h.tried) (by_step h.ended))
 
   pub wrote_slot : {durable done : Bool} {v w : View X} → WroteSlot g t v durable done w → Keeps v w
-  wrote_slot h = on (by_step h.tried) (on (returned g.setting (tab_at h.middle t) t h.slot h.cell h.middle h.from h.returned) (by_step h.ended))
+  wrote_slot h = on (by_step h.logs) (on (by_step h.tried) (on (returned g.setting (tab_at h.middle t) t h.slot h.cell h.middle h.from h.returned) (by_step h.ended)))

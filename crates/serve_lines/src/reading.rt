@@ -105,7 +105,7 @@ pub fn read_more<R: Wait, C: Cell, O: Origin, St: Station<C = C>>(
     }
 }
 
-// The same, for a tab that reads.
+// Gives what a tab that reads has not been given yet of its entry, as far as that goes now.
 fn read_or_close<R: Wait, C: Cell, O: Origin, St: Station<C = C>>(
     rt: &R,
     alloc: Global,

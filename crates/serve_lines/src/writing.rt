@@ -109,7 +109,7 @@ pub fn add_to_tab<C: Cell, O: Origin, St: Station<C = C>>(
     }
 }
 
-// The same, for a tab that writes an entry of this body.
+// Adds the next `count` bytes of this body, of which `taken` were taken, or all that are left.
 fn add_some<C: Cell, O: Origin, St: Station<C = C>>(
     store: &Store<C, O>,
     pass: &mut Pass<C>,
@@ -170,7 +170,7 @@ pub fn end_tab<C: Cell, O: Origin, St: Station<C = C>>(
     }
 }
 
-// The same, for a tab that writes an entry of this body.
+// Adds what is left of this body, of which `taken` bytes were taken, and ends the entry.
 fn end_body<C: Cell, O: Origin, St: Station<C = C>>(
     store: &Store<C, O>,
     pass: &mut Pass<C>,

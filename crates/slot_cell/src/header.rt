@@ -94,7 +94,7 @@ impl Header {
         self.is_sane_in(slots, slot as usize)
     }
 
-    /// The same for a slot of any length in memory.
+    /// Whether the header can stand in a file of `slots` slots, each as long as one in memory may be.
     pub(crate) fn is_sane_in(&self, slots: u32, slot: usize) -> bool
         ensures { IsTrue result ↔ IsSane self.now slots slot }
     {

@@ -26,7 +26,7 @@ pub fn calls_of(alloc: Global, word: &str) -> Result<Vec<u64>, Fail> {
     Ok(calls)
 }
 
-/// The same of each station, with `/` between each two.
+/// The numbers of calls that a word lists for each station, with `/` between two stations.
 pub fn stations_of(alloc: Global, word: &str) -> Result<Vec<Vec<u64>>, Fail> {
     let mut stations = Vec::new(alloc);
     for station in word.split('/') {

@@ -132,7 +132,7 @@ fn serve_on_tab<R: Wait, C: Cell, O: Origin, St: Station<C = C>>(
     }
 }
 
-// The same, of which this is kept.
+// Serves the request of `line` on `tab`, of which `kept` is what was kept.
 fn on_tab<R: Wait, C: Cell, O: Origin, St: Station<C = C>>(
     rt: &R,
     alloc: Global,

@@ -68,7 +68,7 @@ impl<'a, C: Cell, O: Origin, St: Station<C = C>> WorkerShelf<'a, C, O, St> {
         }
     }
 
-    /// The same, in room that was taken before.
+    /// A shelf of this store, pass and station, in room that was taken before.
     pub fn with_room(store: &'a Store<C, O>, pass: Pass<C>, station: St, room: ShelfRoom) -> Self
         requires own { IsOf C.tells C.state O.offers store.now pass }
         requires rest { IsResting pass }

@@ -7,7 +7,7 @@ ghost use Rattle.rock_disk.specs.Memory.{cell_state, file_of};
 
 use super::file::MemFile;
 use crate::{HEADER_NUMBER, MemCell, Opened};
-use db_layout::{HEADER_BYTES, MOST_SLOTS};
+use db_layout::{HEADER_BYTES, slots_are_whole, slots_of};
 use rock_io::Memory;
 use std::alloc::Global;
 
@@ -26,7 +26,8 @@ pub(super) fn cut_file(alloc: Global, bytes: &[u8], slot: u32) -> Result<CutFile
     ensures cells { IfOk result (λ c. map cell_state c.opened.cells.items ≡ slots_cut slot bytes.now) }
     ensures away { IfOk result (λ c. file_of c.away ≡ Away (slots_of (length bytes.now) slot) slot (rest_cut slot bytes.now)) }
 {
-    let slots = slot_count(bytes.len(), slot);
+    slots_are_whole();
+    let slots = slots_of(bytes.len() as u64, slot);
     let (front, body) = bytes.split_at(HEADER_BYTES as usize);
     let (_, rest) = bytes.split_at(HEADER_BYTES as usize + slots as usize * slot as usize);
     let header = MemCell::new(alloc, HEADER_NUMBER, front)?;
@@ -42,17 +43,7 @@ pub(super) fn cut_file(alloc: Global, bytes: &[u8], slot: u32) -> Result<CutFile
     })
 }
 
-/// How many whole slots a file of so many bytes has.
-fn slot_count(bytes: usize, slot: u32) -> u32
-    requires slot { 0 < slot }
-    requires header { HEADER_BYTES ≤ bytes }
-    ensures count { result ≡ slots_of bytes slot }
-    ensures within { HEADER_BYTES + result * slot ≤ bytes }
-{
-    ((bytes - HEADER_BYTES as usize) / slot as usize).min(MOST_SLOTS as usize) as u32
-}
-
-/// So many slots from the front of these bytes.
+/// The first `count` slots of these bytes.
 fn cut_slots(alloc: Global, bytes: &[u8], count: u32, slot: u32) -> Result<Vec<MemCell>, Memory>
     requires { count * slot ≤ length bytes.now }
     ensures { IfOk result (λ cells. map cell_state cells.items ≡ slots_from 0 count slot bytes.now) }

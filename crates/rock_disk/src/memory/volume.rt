@@ -13,7 +13,7 @@ use super::file::MemFile;
 use crate::{
     CreateFault, MemCell, MemStation, OpenFault, Opened, PeekFault, StationFault, Stations, Volume,
 };
-use db_layout::HEADER_BYTES;
+use db_layout::{HEADER_BYTES, file_size};
 use rock_io::{Memory, Plan};
 use std::alloc::Global;
 use std::mem;
@@ -290,10 +290,7 @@ impl Volume for MemVolume {
             return Err(CreateFault::Failed);
         }
         let alloc = *self.entries.allocator();
-        let file = MemFile::zeros(
-            alloc,
-            HEADER_BYTES as usize + slots as usize * slot as usize,
-        )?;
+        let file = MemFile::zeros(alloc, file_size(slots, slot) as usize)?;
         put_entry(alloc, &mut self.entries, name, file)?;
         Ok(())
     }
