@@ -29,13 +29,13 @@ use Rattle.core_log.specs.Logged.{Agree, CellsLogged, HasLogged, IsKnown, LinksS
 use Rattle.crash_entries.specs.Parts.{HasPart, IsMixed, IsOfPart, KeepsTo, Offers, Part, PartsStand}
 use Rattle.crash_entries.proofs.Mixed.{known_entry, wins}
 use Rattle.crash_entries.proofs.Telling.{Tools}
-use Rattle.crash_laws.specs.Left.{IsFileOf, IsLeftWhile, IsOffered, IsPossible, IsWriting, LogKeeps, part_of}
+use Rattle.crash_laws.specs.Left.{IsFileOf, IsLeftWhile, IsPossible, IsWholeOffer, IsWriting, LogKeeps, logged_part}
 
 -- a part of a file that was logged
 pub record IsPart (log : List LoggedPiece) (p : Part) : Type 0 where
   pub link : LoggedPiece
   pub among : Contains log link
-  pub is : p ≡ part_of link
+  pub is : p ≡ logged_part link
 
 module _ {X : Type 0} (t : Tools) (slot : ℕ) (o : Offers) (k : Setting X) (b : X → List ℕ) (was : List (List ℕ)) (s : State X) (log : List LoggedPiece) (sized : slot < 2 ^ 32) (few : k.slots ≤ 1048576) (file : IsFileOf slot o k b was) (so : Sound k s)
     (cells : CellsLogged k s log) (links : LinksStand k s log) (keeps : LogKeeps slot o k log) where
@@ -68,7 +68,7 @@ module _ {X : Type 0} (t : Tools) (slot : ℕ) (o : Offers) (k : Setting X) (b :
 
   module _ (images : List (List ℕ)) (left : IsLeftWhile k b s log images) where
     a_part : (j : ℕ) (p : Piece) → HasLogged log j p → (bytes : List ℕ) → bytes ≡ b (k.image p) → HasPart slot o (IsPart log) bytes j
-    a_part j p h bytes is = record { part = part_of h.link; logged = record { link = h.link; among = h.among; is = refl }; slot_is = h.slot_is; bytes = is ∙ ap (λ (q : Piece). b (k.image q)) (sym h.piece_is) ∙ file.image h.link }
+    a_part j p h bytes is = record { part = logged_part h.link; logged = record { link = h.link; among = h.among; is = refl }; slot_is = h.slot_is; bytes = is ∙ ap (λ (q : Piece). b (k.image q)) (sym h.piece_is) ∙ file.image h.link.slot h.link.anchor h.link.piece }
 
     pub mixed : IsMixed slot o was (IsPart log) images
     mixed = record { count = left.many ∙ sym file.many; each = λ j lt. each j (let m = left.many in omega arith) }
@@ -86,7 +86,7 @@ module _ {X : Type 0} (t : Tools) (slot : ℕ) (o : Offers) (k : Setting X) (b :
     pub low : length was ≤ 1048576
     low = let m = file.many in omega arith
 
-    pub entries : (e : Entry) → IsComplete slot images e → IsComplete slot was e ⊎ IsOffered o k e
+    pub entries : (e : Entry) → IsComplete slot images e → IsComplete slot was e ⊎ IsWholeOffer o k.slots e
     entries e c = ⊎_elim
         (λ (q : IsComplete slot was e). inl q)
         (λ (q : IsOfPart slot o (IsPart log) e). let a = q.logged in inr record { offer = q.part.offer; new = (let z = (keeps a.link a.among).1 in let y = ap Part.offer a.is in omega arith); url = ap Entry.url q.entry; body = ap Entry.body q.entry })

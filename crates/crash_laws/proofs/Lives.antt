@@ -14,8 +14,8 @@ use Rattle.core_log.proofs.LogRuns.{runs}
 use Rattle.core_log.proofs.LogOpened.{no_log}
 use Rattle.crash_entries.specs.Parts.{Offers}
 use Rattle.crash_entries.proofs.Telling.{Tools}
-use Rattle.crash_laws.specs.Crashes.{AreLives, IsLife, IsSpoken}
-use Rattle.crash_laws.specs.Left.{IsFileOf, IsOffered}
+use Rattle.crash_laws.specs.Crashes.{AreLives, IsLife}
+use Rattle.crash_laws.specs.Left.{IsFileOf, IsWholeOffer}
 use Rattle.crash_laws.proofs.Crashing.{entries}
 
 module _ (X : Type 0) (t : Tools) (slot : ℕ) (o : Offers) (sized : slot < 2 ^ 32) where
@@ -45,18 +45,18 @@ module _ (X : Type 0) (t : Tools) (slot : ℕ) (o : Offers) (sized : slot < 2 ^ 
           let c = ap (λ (ws : List ℕ). word_in l.setting ws Counter) (sym l.is_opened.words) ∙ l.is_opened.counter in omega arith;
     }
 
-    pub one_life : (e : Entry) → IsComplete slot after e → IsComplete slot before e ⊎ IsSpoken o (length before) e
+    pub one_life : (e : Entry) → IsComplete slot after e → IsComplete slot before e ⊎ IsWholeOffer o (length before) e
     one_life e c = ⊎_elim
         (λ (q : IsComplete slot before e). inl q)
-        (λ (q : IsOffered o l.setting e). inr record { offer = q.offer; new = (let z = q.new in let m = many in omega arith); url = q.url; body = q.body })
+        (λ (q : IsWholeOffer o l.setting.slots e). inr (subst (λ (n : ℕ). IsWholeOffer o n e) (sym many) q))
         (entries t slot o l.setting l.bytes before l.state l.log sized l.few file ends.0 ends.1.cells ends.1.links l.keeps after l.left e c)
 
     pub same_length : length after ≡ length before
     same_length = l.left.many ∙ sym many
 
-  pub lives : (first : List (List ℕ)) (files : List (List (List ℕ))) (last : List (List ℕ)) (e : Entry) → AreLives X slot o first files last → IsComplete slot last e → IsComplete slot first e ⊎ IsSpoken o (length first) e
+  pub lives : (first : List (List ℕ)) (files : List (List (List ℕ))) (last : List (List ℕ)) (e : Entry) → AreLives X slot o first files last → IsComplete slot last e → IsComplete slot first e ⊎ IsWholeOffer o (length first) e
   lives first [] last e same c = inl (subst (λ (f : List (List ℕ)). IsComplete slot f e) same c)
   lives first (f ∷ fs) last e h c = ⊎_elim
       (λ (q : IsComplete slot f e). one_life first f h.0 e q)
-      (λ (q : IsSpoken o (length f) e). inr (subst (λ (n : ℕ). IsSpoken o n e) (same_length first f h.0) q))
+      (λ (q : IsWholeOffer o (length f) e). inr (subst (λ (n : ℕ). IsWholeOffer o n e) (same_length first f h.0) q))
       (lives f fs last e h.1 c)

@@ -4,8 +4,8 @@ use Rattle.rebuild_model.specs.declared.rebuilt.Rebuilt.{Rebuilt}
 use mathlib.Core.Option.{some}
 use lib.ListN.{get_elem?}
 use Rattle.rebuild_model.specs.Image.{image_at}
-use Rattle.rebuild_model.specs.Entry.{Entry}
 use Rattle.rebuild_model.specs.Rebuilt.{IsRebuilt}
+use Rattle.core_model.specs.declared.tab.Piece.{Piece}
 use Rattle.core_model.specs.declared.view.LoggedPiece.{LoggedPiece}
 use Rattle.core_model.specs.Anchors.{IsSetting}
 use Rattle.core_model.specs.Layout.{Setting}
@@ -22,7 +22,7 @@ pub record IsLife (X : Type 0) (slot : ℕ) (o : Offers) (before after : List (L
   pub many : length before ≡ setting.slots
   pub contents : (j : ℕ) (x : X) → get_elem? setting.contents j ≡ some x → image_at before j ≡ bytes x
   pub few : setting.slots ≤ 1048576
-  pub image : (l : LoggedPiece) → bytes (setting.image l.piece) ≡ bytes_of slot o (part_of l)
+  pub image : (j a : ℕ) (p : Piece) → bytes (setting.image p) ≡ bytes_of slot o (part_of j a p)
   pub rebuilt : Rebuilt
   pub opened : State X
   pub is_setting : IsSetting setting
@@ -39,10 +39,3 @@ pub record IsLife (X : Type 0) (slot : ℕ) (o : Offers) (before after : List (L
 abbrev pub AreLives : Type 0 → ℕ → Offers → List (List ℕ) → List (List (List ℕ)) → List (List ℕ) → Type 0
 AreLives X slot o first [] last = last ≡ first
 AreLives X slot o first (f ∷ fs) last = IsLife X slot o first f × AreLives X slot o f fs last
-
--- an entry is a whole response of an offer, whose number is of no slot
-pub record IsSpoken (o : Offers) (slots : ℕ) (e : Entry) : Type 0 where
-  pub offer : ℕ
-  pub new : slots ≤ offer
-  pub url : e.url ≡ o.url offer
-  pub body : e.body ≡ o.body offer

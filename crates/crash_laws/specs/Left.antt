@@ -11,7 +11,7 @@ use Rattle.core_model.specs.declared.tab.Tab.TheVariants.{Writing}
 use Rattle.core_model.specs.declared.tab.Writer.{Writer}
 use Rattle.core_model.specs.declared.view.View.{View}
 use Rattle.core_model.specs.Chains.{first_of, link_at, times}
-use Rattle.std.specs.Prelude.{true, ◌≡◌, ◌≤◌, ◌<◌, ◌⊎◌, ℕ, Contains, List, length}
+use Rattle.std.specs.Prelude.{◌≡◌, ◌≤◌, ◌<◌, ◌⊎◌, ℕ, Contains, List, get_or, length}
 use Rattle.rebuild_model.specs.Image.{IsSaneAt, header_at, image_at}
 use Rattle.rebuild_model.specs.Entry.{Entry}
 use Rattle.core_model.specs.declared.tab.Cell.{Cell}
@@ -23,21 +23,25 @@ use Rattle.core_model.specs.Cells.{IsCell}
 use Rattle.core_log.specs.Logged.{HasLogged, IsDurable}
 use Rattle.crash_entries.specs.Parts.{KeepsTo, Offers, Part, bytes_of, cut_of}
 
+-- a piece in a slot, for an anchor, as a part of a file
+abbrev pub part_of : (slot anchor : ℕ) → Piece → Part
+part_of slot anchor p = record { slot = slot; anchor = anchor; offer = p.offer; version = p.version; place = p.place; first = p.first; next = p.next }
+
 -- a logged piece, as a part of a file
-abbrev pub part_of : LoggedPiece → Part
-part_of l = record { slot = l.slot; anchor = l.anchor; offer = l.piece.offer; version = l.piece.version; place = l.piece.place; first = l.piece.first; next = l.piece.next }
+abbrev pub logged_part : LoggedPiece → Part
+logged_part l = part_of l.slot l.anchor l.piece
 
 -- The setting is over a file of such slots, where each content has bytes: pieces are their images, and no sane slot of the file has a greater
 -- version than the counter.
 pub record IsFileOf {X : Type 0} (slot : ℕ) (o : Offers) (k : Setting X) (b : X → List ℕ) (file : List (List ℕ)) : Type 0 where
   pub many : length file ≡ k.slots
   pub content : (j : ℕ) (x : X) → get_elem? k.contents j ≡ some x → image_at file j ≡ b x
-  pub image : (l : LoggedPiece) → b (k.image l.piece) ≡ bytes_of slot o (part_of l)
+  pub image : (j a : ℕ) (p : Piece) → b (k.image p) ≡ bytes_of slot o (part_of j a p)
   pub greatest : (j : ℕ) → IsSaneAt slot file j → (header_at file j).version ≤ opening_counter k
 
 -- each logged piece keeps to its offer, whose number is of no slot of the opening
 abbrev pub LogKeeps : {X : Type 0} → (slot : ℕ) → Offers → Setting X → List LoggedPiece → Type 0
-LogKeeps slot o k log = (l : LoggedPiece) → Contains log l → KeepsTo slot k.anchors k.slots o (part_of l) × (k.slots ≤ l.piece.offer)
+LogKeeps slot o k log = (l : LoggedPiece) → Contains log l → KeepsTo slot k.anchors k.slots o (logged_part l) × (k.slots ≤ l.piece.offer)
 
 -- a crash may leave these bytes of the cell
 abbrev pub IsPossible : {X : Type 0} → (X → List ℕ) → Cell X → List ℕ → Type 0
@@ -61,23 +65,23 @@ pub record IsLeftWhile {X : Type 0} (k : Setting X) (b : X → List ℕ) (s : St
   pub many : length images ≡ k.slots
   pub each : (slot : ℕ) (c : Cell X) → slot < k.slots → IsCell s slot c → IsPossible b c (image_at images slot) ⊎ IsWriting k b s log slot (image_at images slot)
 
--- an entry is a whole response of an offer
-pub record IsOffered {X : Type 0} (o : Offers) (k : Setting X) (e : Entry) : Type 0 where
+-- an entry is a whole response of an offer, whose number is of no slot
+pub record IsWholeOffer (o : Offers) (slots : ℕ) (e : Entry) : Type 0 where
   pub offer : ℕ
-  pub new : k.slots ≤ offer
+  pub new : slots ≤ offer
   pub url : e.url ≡ o.url offer
   pub body : e.body ≡ o.body offer
 
--- the piece that is published at a place of an anchor's chain
-abbrev pub piece_at : {X : Type 0} → Setting X → State X → ℕ → ℕ → LoggedPiece
-piece_at k s a place = record {
-  number = 0;
+-- the part that is published at a place of an anchor's chain
+abbrev pub part_at : {X : Type 0} → Setting X → State X → ℕ → ℕ → Part
+part_at k s a place = record {
+  slot = get_or (chain_of s a).slots place 0;
   anchor = a;
-  key0 = 0;
-  key1 = 0;
-  slot = 0;
-  is_durable = true;
-  piece = record { offer = side_word k s Offer a; version = version_of (epoch_of (word s a)); place = place; first = first_of (chain_of s a).slots; next = link_at (chain_of s a) place };
+  offer = side_word k s Offer a;
+  version = version_of (epoch_of (word s a));
+  place = place;
+  first = first_of (chain_of s a).slots;
+  next = link_at (chain_of s a) place;
 }
 
 -- A new entry stands at the anchor: its chain ends, each of its pieces was logged as durable, and they are pieces of its offer.
@@ -87,11 +91,11 @@ pub record StandsNew {X : Type 0} (slot : ℕ) (o : Offers) (k : Setting X) (s :
   pub offer : k.slots ≤ side_word k s Offer a
   pub new : opening_counter k < version_of (epoch_of (word s a))
   pub durable : (place : ℕ) → place < length (chain_of s a).slots → IsDurable s log a place
-  pub keeps : (place : ℕ) → place < length (chain_of s a).slots → KeepsTo slot k.anchors k.slots o (part_of (piece_at k s a place))
+  pub keeps : (place : ℕ) → place < length (chain_of s a).slots → KeepsTo slot k.anchors k.slots o (part_at k s a place)
 
 -- its entry, as a rebuild knows it
 abbrev pub entry_at : {X : Type 0} → (slot : ℕ) → Offers → Setting X → State X → ℕ → Entry
-entry_at slot o k s a = entry_of (cut_of slot o (part_of (piece_at k s a 0))) (chain_of s a).slots
+entry_at slot o k s a = entry_of (cut_of slot o (part_at k s a 0)) (chain_of s a).slots
 
 -- The winner of the opening at the anchor stands there.
 pub record StandsOld {X : Type 0} (slot : ℕ) (file : List (List ℕ)) (k : Setting X) (s : State X) (a : ℕ) (e : Entry) : Type 0 where

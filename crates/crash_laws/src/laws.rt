@@ -10,8 +10,8 @@ ghost use Rattle.core_model.specs.State.{State, word};
 ghost use Rattle.core_model.specs.Sound.{Sound};
 ghost use Rattle.core_log.specs.Logged.{CellsLogged, LinksStand, SettledStand};
 ghost use Rattle.crash_entries.specs.Parts.{Offers};
-ghost use Rattle.crash_laws.specs.Crashes.{AreLives, IsSpoken};
-ghost use Rattle.crash_laws.specs.Left.{IsFileOf, IsLeftWhile, IsOffered, LogKeeps, StandsNew, StandsOld, entry_at};
+ghost use Rattle.crash_laws.specs.Crashes.{AreLives};
+ghost use Rattle.crash_laws.specs.Left.{IsFileOf, IsLeftWhile, IsWholeOffer, LogKeeps, StandsNew, StandsOld, entry_at};
 
 use db_layout::MOST_SLOTS;
 use entry_cut::{pieces_make_the_content, placed_pieces_are_an_entry};
@@ -25,7 +25,7 @@ use swap_meta::written_meta_is_spelled;
 pub fn crashes_leave_responses<X>()
     ensures { (slot : ℕ) (o : Offers) (k : Setting X) (b : X → List ℕ) (file : List (List ℕ)) (s : State X) (log : List LoggedPiece) (images : List (List ℕ)) (e : Entry)
         → slot < 2 ^ 32 → k.slots ≤ MOST_SLOTS → IsFileOf slot o k b file → Sound k s → CellsLogged k s log → LinksStand k s log → LogKeeps slot o k log
-        → IsLeftWhile k b s log images → IsComplete slot images e → IsComplete slot file e ⊎ IsOffered o k e }
+        → IsLeftWhile k b s log images → IsComplete slot images e → IsComplete slot file e ⊎ IsWholeOffer o k.slots e }
 {
     images_are_read_as_built();
     keys_have_16_bytes();
@@ -84,7 +84,7 @@ pub fn old_entries_outlive_crashes<X>()
 /// first, and whole responses of offers.
 pub fn lives_add_responses<X>()
     ensures { (slot : ℕ) (o : Offers) (first : List (List ℕ)) (files : List (List (List ℕ))) (last : List (List ℕ)) (e : Entry)
-        → slot < 2 ^ 32 → AreLives X slot o first files last → IsComplete slot last e → IsComplete slot first e ⊎ IsSpoken o (length first) e }
+        → slot < 2 ^ 32 → AreLives X slot o first files last → IsComplete slot last e → IsComplete slot first e ⊎ IsWholeOffer o (length first) e }
 {
     images_are_read_as_built();
     keys_have_16_bytes();

@@ -7,7 +7,7 @@ ghost use Rattle.rock_run.specs.Runs.{HasClosed};
 ghost use Rattle.crashed_runs.specs.Left.{LeavesResponses};
 
 use crashed_stores::closed_cells_leave_responses;
-use rock_disk::{Cell, opened_slots_are_wide_and_few};
+use rock_disk::{Cell, now_is_a_crash_image, opened_slots_are_wide_and_few};
 use script_origin::ScriptOrigin;
 
 /// A file that a volume tells was opened as a store for the lines of a script, and the store was closed, however many
@@ -19,5 +19,6 @@ pub fn closed_runs_leave_responses<C: Cell>()
         → LeavesResponses files left name slot script }
 {
     closed_cells_leave_responses::<C, ScriptOrigin>();
+    now_is_a_crash_image();
     opened_slots_are_wide_and_few();
 }

@@ -24,7 +24,7 @@ use Rattle.core_model.proofs.Tabs.{contains_times}
 use Rattle.core_model.proofs.Telling.{told_out}
 use Rattle.crash_entries.specs.Parts.{KeepsTo}
 use Rattle.crash_entries.proofs.Telling.{Tools}
-use Rattle.crash_laws.specs.Left.{StandsNew, entry_at, part_of, piece_at}
+use Rattle.crash_laws.specs.Left.{StandsNew, entry_at, part_at}
 use Rattle.crash_laws.proofs.Standing.{new_kept}
 use Rattle.store_rule.specs.declared.store.Pass.{Pass}
 use Rattle.store_rule.specs.declared.store.Store.{Store}
@@ -74,7 +74,7 @@ module _ (g : Ground (List ℕ)) (s : State (List ℕ)) (rule : Rule g s) (a : �
   link_is : (place : ℕ) → link_at (chain_of s a) place ≡ link_to (drop (place + 1) (chain_of s a).slots) LastLink
   link_is place = ap (link_to (drop (place + 1) (chain_of s a).slots)) h.closed
 
-  pieces_keep : (place : ℕ) → place < length (chain_of s a).slots → KeepsTo g.slot g.setting.anchors g.setting.slots (offers_in g) (part_of (piece_at g.setting s a place))
+  pieces_keep : (place : ℕ) → place < length (chain_of s a).slots → KeepsTo g.slot g.setting.anchors g.setting.slots (offers_in g) (part_at g.setting s a place)
   pieces_keep place under = record {
     url = new.fits.url;
     short = new.fits.short;

@@ -18,7 +18,7 @@ use Rattle.core_model.proofs.Lists.{at_or}
 use Rattle.core_log.specs.Keeps.{HasLog}
 use Rattle.crash_entries.specs.Parts.{KeepsTo, bytes_of, cut_of, next_number as next_in}
 use Rattle.crash_entries.proofs.Telling.{Tools}
-use Rattle.crash_laws.specs.Left.{IsFileOf, IsOffered, LogKeeps, part_of}
+use Rattle.crash_laws.specs.Left.{IsFileOf, IsWholeOffer, LogKeeps, logged_part, part_of}
 use Rattle.crash_laws.proofs.Crashing.{entries}
 use Rattle.store_rule.specs.declared.store.Pass.{Pass}
 use Rattle.store_rule.specs.declared.store.Store.{Store}
@@ -26,7 +26,7 @@ use Rattle.store_rule.specs.Ground.{Ground, Offers, Rule, offering_of}
 use Rattle.store_rule.specs.Passes.{basis}
 use Rattle.store_rule.specs.Setting.{image_in, next_number, shown}
 use Rattle.rock_open.specs.Opening.{IsStoreOver}
-use Rattle.crashed_stores.specs.Left.{IsLeftOf, IsResponse, bytes_now, offers_in}
+use Rattle.crashed_stores.specs.Left.{IsLeftOf, IsOfOrigin, bytes_now, offers_in}
 
 -- both say the same of the next slot
 same_next : (l : Link) → next_number l ≡ next_in l
@@ -64,14 +64,14 @@ module _ {C O : Type 0} (tells : Bool) (told : IsTrue tells) (cell : C → CellS
   pub rebuilt : IsRebuilt slot (bytes_now cell cells) anchors over.rebuilt
   rebuilt = subst (λ (z : List (List ℕ)). IsRebuilt slot z anchors over.rebuilt) images over.kept.rebuilt
 
-  piece_bytes : (l : LoggedPiece) → g.setting.image l.piece ≡ bytes_of g.slot (offers_in g) (part_of l)
-  piece_bytes l = image_told tells told g.offers g.setting.slots g.slot l.piece ∙ ap (image (cut_of g.slot (offers_in g) (part_of l)) l.piece.place) (same_next l.piece.next)
+  piece_bytes : (j a : ℕ) (p : Piece) → g.setting.image p ≡ bytes_of g.slot (offers_in g) (part_of j a p)
+  piece_bytes j a p = image_told tells told g.offers g.setting.slots g.slot p ∙ ap (image (cut_of g.slot (offers_in g) (part_of j a p)) p.place) (same_next p.next)
 
   pub is_file : IsFileOf slot (offers_in g) g.setting (λ x. x) (bytes_now cell cells)
   is_file = record {
     many = length-map cells (λ c. (cell c).now) ∙ sym over.slots_are;
     content = λ j x e. content_at (bytes_now cell cells) j x (subst (λ (z : List (List ℕ)). get_elem? z j ≡ some x) contents e);
-    image = λ l. piece_bytes l ∙ ap (λ (n : ℕ). bytes_of n (offers_in g) (part_of l)) over.slot_is;
+    image = λ j a p. piece_bytes j a p ∙ ap (λ (n : ℕ). bytes_of n (offers_in g) (part_of j a p)) over.slot_is;
     greatest = λ j sane. let a = rebuilt.greatest.above j sane in let c = over.opened.opened.counter in omega arith;
   }
 
@@ -81,7 +81,7 @@ module _ {C O : Type 0} (tells : Bool) (told : IsTrue tells) (cell : C → CellS
 
     pub keeps : LogKeeps slot (offers_in g) g.setting logged.log
     keeps l c = let k = logged.keeps.each l c in let w = logged.within l c in let n = logged.stands.numbers.inside l c in let fits = k.fits in (
-      subst (λ (z : ℕ). KeepsTo z g.setting.anchors g.setting.slots (offers_in g) (part_of l)) over.slot_is record {
+      subst (λ (z : ℕ). KeepsTo z g.setting.anchors g.setting.slots (offers_in g) (logged_part l)) over.slot_is record {
         url = fits.url;
         short = fits.short;
         anchor_is = fits.anchor;
@@ -96,11 +96,11 @@ module _ {C O : Type 0} (tells : Bool) (told : IsTrue tells) (cell : C → CellS
       w.offer,
     )
 
-    response : (e : Entry) → IsOffered (offers_in g) g.setting e → IsResponse (offers origin) e
-    response e q = subst (λ (o : Offers). IsResponse o e) over.offers_are record { offer = q.offer - g.setting.slots; url = q.url; body = q.body }
+    response : (e : Entry) → IsWholeOffer (offers_in g) g.setting.slots e → IsOfOrigin (offers origin) e
+    response e q = subst (λ (o : Offers). IsOfOrigin o e) over.offers_are record { offer = q.offer - g.setting.slots; url = q.url; body = q.body }
 
-    pub left_responses : (t : Tools) → slot < 2 ^ 32 → length cells ≤ 1048576 → (left : List (List ℕ)) → IsLeftOf g s rule.logged.log left → (e : Entry) → IsComplete slot left e → IsComplete slot (bytes_now cell cells) e ⊎ IsResponse (offers origin) e
+    pub left_responses : (t : Tools) → slot < 2 ^ 32 → length cells ≤ 1048576 → (left : List (List ℕ)) → IsLeftOf g s rule.logged.log left → (e : Entry) → IsComplete slot left e → IsComplete slot (bytes_now cell cells) e ⊎ IsOfOrigin (offers origin) e
     left_responses t sized few left is e c = ⊎_elim
         (λ (q : IsComplete slot (bytes_now cell cells) e). inl q)
-        (λ (q : IsOffered (offers_in g) g.setting e). inr (response e q))
+        (λ (q : IsWholeOffer (offers_in g) g.setting.slots e). inr (response e q))
         (entries t slot (offers_in g) g.setting (λ x. x) (bytes_now cell cells) s logged.log sized (let z = over.slots_are in omega arith) is_file rule.sound logged.stands.cells logged.stands.links keeps left is e c)

@@ -1,11 +1,8 @@
 -- What a crash leaves of the cells of a store, and what may be found there.
-use Rattle.std.specs.Prelude.{◌-◌, ◌<◌, ◌≡◌, ℕ, Contains, List, length, map}
-use mathlib.Core.Option.{some}
-use lib.ListN.{get_elem?}
+use Rattle.std.specs.Prelude.{◌-◌, ◌<◌, ◌≡◌, ℕ, List, length, map}
 use Rattle.lock_word.specs.Words.{epoch_of, version_of}
 use Rattle.link_word.specs.declared.link.Link.TheVariants.{Last}
 use Rattle.rock_disk.specs.Cell.{CellState}
-use Rattle.rebuild_model.specs.Image.{image_at}
 use Rattle.rebuild_model.specs.Entry.{Entry}
 use Rattle.core_model.specs.declared.view.LoggedPiece.{LoggedPiece}
 use Rattle.core_model.specs.Anchors.{opening_counter}
@@ -19,17 +16,12 @@ use Rattle.store_rule.specs.Ground.{Ground, Offers, url_of}
 abbrev pub bytes_now : {C : Type 0} → (C → CellState) → List C → List (List ℕ)
 bytes_now cell cells = map (λ c. (cell c).now) cells
 
--- Of each cell a crash leaves any one of the contents that it may leave there, whatever it leaves of the others.
-pub record AreLeft {C : Type 0} (cell : C → CellState) (cells : List C) (images : List (List ℕ)) : Type 0 where
-  pub many : length images ≡ length cells
-  pub each : (j : ℕ) (c : C) → get_elem? cells j ≡ some c → Contains (cell c).possible (image_at images j)
-
 -- A crash leaves this of a state of a store, while any number of tabs write pieces that were logged.
 abbrev pub IsLeftOf : Ground (List ℕ) → State (List ℕ) → List LoggedPiece → List (List ℕ) → Type 0
 IsLeftOf g s log images = IsLeftWhile g.setting (λ x. x) s log images
 
 -- an entry is the whole response of an offer
-pub record IsResponse (o : Offers) (e : Entry) : Type 0 where
+pub record IsOfOrigin (o : Offers) (e : Entry) : Type 0 where
   pub offer : ℕ
   pub url : e.url ≡ o.url offer
   pub body : e.body ≡ o.body offer

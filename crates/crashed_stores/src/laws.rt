@@ -1,7 +1,8 @@
 // The laws on what a crash leaves of a running store.
-ghost use Rattle.std.specs.Prelude.{IsTrue, List, length, ◌<◌, ◌^◌, ◌≡◌, ◌≤◌, ◌⊎◌, ℕ};
+ghost use Rattle.std.specs.Prelude.{IsTrue, List, length, map, ◌<◌, ◌^◌, ◌≡◌, ◌≤◌, ◌⊎◌, ℕ};
 ghost use Rattle.lock_word.specs.Words.{epoch_of, version_of};
 ghost use Rattle.std.specs.Global.{Vec};
+ghost use Rattle.rock_disk.specs.Crash.{IsCrashImage};
 ghost use Rattle.core_model.specs.declared.view.View.{View};
 ghost use Rattle.core_model.specs.State.{State, chain_of, word};
 ghost use Rattle.rebuild_model.specs.Entry.{Entry, IsComplete};
@@ -11,7 +12,7 @@ ghost use Rattle.store_rule.specs.Passes.{basis};
 ghost use Rattle.rock_open.specs.Opening.{IsStoreOver};
 ghost use Rattle.rebuild_model.specs.Rebuilt.{IsWinner};
 ghost use Rattle.crash_laws.specs.Left.{entry_at};
-ghost use Rattle.crashed_stores.specs.Left.{AreLeft, IsDurableEntry, IsLeftOf, IsResponse, bytes_now, offers_in};
+ghost use Rattle.crashed_stores.specs.Left.{IsDurableEntry, IsLeftOf, IsOfOrigin, bytes_now, offers_in};
 
 use db_layout::MOST_SLOTS;
 use entry_cut::{pieces_make_the_content, placed_pieces_are_an_entry};
@@ -29,7 +30,7 @@ pub fn crashes_of_stores_leave_responses<C: Cell, O: Origin>()
     ensures { (slot anchors many : ℕ) (origin : O) (cells : List C) (store : Store C O) (passes : Vec (Pass C)) (s : State (List ℕ)) (images : List (List ℕ)) (e : Entry)
         → IsTrue C.tells → slot < 2 ^ 32 → length cells ≤ MOST_SLOTS → IsStoreOver C.tells C.state O.offers slot anchors many origin cells store passes
         → (rule : Rule (basis C.tells C.state O.offers store) s) → IsLeftOf (basis C.tells C.state O.offers store) s rule.logged.log images
-        → IsComplete slot images e → IsComplete slot (bytes_now C.state cells) e ⊎ IsResponse (O.offers origin) e }
+        → IsComplete slot images e → IsComplete slot (bytes_now C.state cells) e ⊎ IsOfOrigin (O.offers origin) e }
 {
     images_are_read_as_built();
     keys_have_16_bytes();
@@ -78,8 +79,8 @@ pub fn kept_entries_outlive_crashes<C: Cell, O: Origin>()
 pub fn closed_cells_leave_responses<C: Cell, O: Origin>()
     ensures { (slot anchors many : ℕ) (origin : O) (cells : List C) (store : Store C O) (passes : Vec (Pass C)) (views : List (View (List ℕ))) (closed : List C) (images : List (List ℕ)) (e : Entry)
         → IsTrue C.tells → slot < 2 ^ 32 → length cells ≤ MOST_SLOTS → IsStoreOver C.tells C.state O.offers slot anchors many origin cells store passes
-        → Closed C.tells C.state (basis C.tells C.state O.offers store) views closed → AreLeft C.state closed images
-        → IsComplete slot images e → IsComplete slot (bytes_now C.state cells) e ⊎ IsResponse (O.offers origin) e }
+        → Closed C.tells C.state (basis C.tells C.state O.offers store) views closed → IsCrashImage (map C.state closed) images
+        → IsComplete slot images e → IsComplete slot (bytes_now C.state cells) e ⊎ IsOfOrigin (O.offers origin) e }
 {
     images_are_read_as_built();
     keys_have_16_bytes();
