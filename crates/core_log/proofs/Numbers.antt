@@ -34,7 +34,7 @@ use Rattle.core_model.proofs.StepPlaces.{IsInside, place_inside}
 use Rattle.core_log.specs.Logged.{LinksStand, NumbersStand, log_counter, logged_now, logged_with, piece_logged}
 use Rattle.core_log.proofs.Few.{few}
 use Rattle.core_log.proofs.LinksKept.{IsNew, new_is, split, writes_at}
-use Rattle.core_model.proofs.OwnsKept.{of_writer}
+use Rattle.core_model.proofs.ReservesKept.{of_writer}
 use Rattle.std.proofs.lemmas.List.Elements.{Contains-append_left, Contains-append_right}
 
 -- one number for the version and the place of a piece

@@ -17,7 +17,7 @@ use Rattle.core_model.specs.Slots.{WriterHolds, slot_words}
 use Rattle.core_model.specs.Sound.{Sound}
 use Rattle.core_model.specs.Table.{Allowed}
 use Rattle.core_model.specs.Tabs.{IsPass}
-use Rattle.core_model.proofs.OwnsKept.{held_slot, in_table}
+use Rattle.core_model.proofs.ReservesKept.{held_slot, in_table}
 use Rattle.core_model.proofs.SlotFrame.{used_few}
 use Rattle.core_model.proofs.SlotsLoosened.{standing_few}
 use Rattle.core_model.proofs.Tabs.{contains_times}

@@ -23,7 +23,7 @@ use Rattle.core_model.proofs.Lists.{at_set, at_length, sum_at, set_here, set_els
 use Rattle.core_model.proofs.Telling.{set_again}
 use Rattle.core_model.proofs.BesideKept.{beside}
 use Rattle.core_model.proofs.BesideKinds.{IsQuiet, quiet_took_out, quiet_put_back, quiet_wrote, quiet_synced}
-use Rattle.core_model.proofs.OwnsKept.{tab_was}
+use Rattle.core_model.proofs.ReservesKept.{tab_was}
 use Rattle.core_model.proofs.TurnsKept.{of_parts, remirrored, Alike, anchors_alike, reader_holds, writer_holds, not_held, Turned, turned_reader, turned_writer, held_inside, slots_turned, turn_both}
 use Rattle.core_model.specs.Table.{Allowed, item_of}
 use Rattle.core_model.specs.CellMoves.{Holds, moved, moves, is_kept, rewritten, rewrites, settled_by_write, settled_by_sync, cell_held, chosen_content, wrote, synced}

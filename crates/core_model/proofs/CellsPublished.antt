@@ -41,7 +41,7 @@ use Rattle.core_model.proofs.Spelling.{firsts, link_below, suc_is, one_same, tie
 use Rattle.core_model.proofs.Telling.{told_in, side_in}
 use Rattle.core_model.proofs.BesideKept.{besides}
 use Rattle.core_model.proofs.SightsKept.{stored_value}
-use Rattle.core_model.proofs.OwnsKept.{of_writer, tab_was, held_slot}
+use Rattle.core_model.proofs.ReservesKept.{of_writer, tab_was, held_slot}
 use Rattle.core_model.specs.Table.{Allowed}
 use Rattle.core_model.specs.SlotMoves.{MayPublish, IsNext, publishes, shows}
 use Rattle.core_model.specs.CellMoves.{piece_of}

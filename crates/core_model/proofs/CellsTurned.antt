@@ -28,7 +28,7 @@ use Rattle.core_model.proofs.Lists.{sum_some}
 use Rattle.core_model.proofs.Spelling.{one_same}
 use Rattle.core_model.proofs.Telling.{set_again}
 use Rattle.core_model.proofs.SlotKinds.{OneTab}
-use Rattle.core_model.proofs.OwnsKept.{of_reader, of_writer, tab_was, held_slot}
+use Rattle.core_model.proofs.ReservesKept.{of_reader, of_writer, tab_was, held_slot}
 use Rattle.core_model.proofs.FollowsKept.{at_times, followed}
 use Rattle.core_model.proofs.CellsTab.{OneTurn, taken_turn, free_turn, same_slot, same_hold, no_hold, turn_none, turn_here, turn_else, turn_nowhere, turn_is, turn_tab, holders_after, Turned, of_holders, to_holders, turned, IsApart, cell_after, same_holders, cells_kept, read_slot, read_apart, written_unpublished, written_apart, homes_else, homes_stay}
 use Rattle.core_model.specs.Table.{Allowed}

@@ -29,7 +29,7 @@ use Rattle.core_model.specs.Cells.{holds_at, TurnFits, IsHeldCell, IsCell, Write
 use Rattle.core_model.specs.Sound.{Sound}
 use Rattle.core_model.proofs.Spelling.{one_same}
 use Rattle.core_model.proofs.SlotKinds.{OneTab}
-use Rattle.core_model.proofs.OwnsKept.{of_writer, tab_was}
+use Rattle.core_model.proofs.ReservesKept.{of_writer, tab_was}
 use Rattle.core_model.proofs.CellsTab.{same_slot, same_hold, turn_here, turn_else, turn_tab, turned, IsUnpublished, cell_after, same_holders, cells_kept, written_unpublished, homes_stay}
 use Rattle.core_model.specs.Table.{Allowed}
 use Rattle.core_model.specs.SlotMoves.{IsNext}

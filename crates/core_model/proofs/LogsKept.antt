@@ -30,10 +30,10 @@ use Rattle.core_model.specs.Sound.{AnchorsSound, WordsSound}
 use Rattle.core_model.proofs.Telling.{told_else, taken_else, side_in}
 use Rattle.core_model.proofs.SlotTabs.{tab_later}
 use Rattle.core_model.proofs.SlotKinds.{OneTab, recounted, each_tab, quiet}
-use Rattle.core_model.proofs.SlotsOwned.{same_by_writer}
+use Rattle.core_model.proofs.SlotsReserved.{same_by_writer}
 use Rattle.core_model.proofs.BesideKept.{SightsOwe, beside, besides, one_of}
 use Rattle.core_model.proofs.BesideKinds.{Likens, tabs_as_before, tab_as_before, quiet_logged, at_log}
-use Rattle.core_model.proofs.OwnsKept.{of_writer, tab_was}
+use Rattle.core_model.proofs.ReservesKept.{of_writer, tab_was}
 
 abbrev NotNamed : Sight → Type 0
 NotNamed (Named b version side value) = ⊥

@@ -36,7 +36,7 @@ use Rattle.core_model.proofs.BesideKept.{beside, besides}
 use Rattle.core_model.proofs.Places.{beside_inside}
 use Rattle.core_model.proofs.BesideKinds.{Likens, tabs_as_before, tab_as_before, quiet_linked, at_slot}
 use Rattle.core_model.proofs.SightsKept.{Each, IsSo, OfNow, stored_value, sees_so}
-use Rattle.core_model.proofs.OwnsKept.{of_writer, tab_was, held_slot}
+use Rattle.core_model.proofs.ReservesKept.{of_writer, tab_was, held_slot}
 use Rattle.core_model.specs.Table.{Allowed, item_of}
 use Rattle.core_model.specs.SlotMoves.{MayPublish, publishes, shows}
 

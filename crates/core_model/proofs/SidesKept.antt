@@ -34,7 +34,7 @@ use Rattle.core_model.proofs.SlotsStored.{store_keeps}
 use Rattle.core_model.proofs.BesideKept.{SightsOwe, beside, besides}
 use Rattle.core_model.proofs.BesideKinds.{Likens, tabs_as_before, tab_as_before, sees_nothing, quiet_loaded, quiet_stored, at_side}
 use Rattle.core_model.proofs.SightsKept.{IsSo, sees_so}
-use Rattle.core_model.proofs.OwnsKept.{of_writer, tab_was, none_frees}
+use Rattle.core_model.proofs.ReservesKept.{of_writer, tab_was, none_frees}
 use Rattle.core_model.specs.Table.{Allowed, item_of}
 use Rattle.core_model.specs.SlotMoves.{MayStore, stored, stores, loaded, loads}
 

@@ -42,7 +42,7 @@ use Rattle.core_model.specs.Sound.{Sound}
 use Rattle.core_model.proofs.Lists.{by_eq, at_set, at_length, set_here, set_else, cons_contains, contains_none}
 use Rattle.core_model.proofs.Places.{beside_far}
 use Rattle.core_model.proofs.EntersKept.{few_readers}
-use Rattle.core_model.proofs.OwnsKept.{tab_was}
+use Rattle.core_model.proofs.ReservesKept.{tab_was}
 use Rattle.core_model.proofs.Knowing.{knows}
 use Rattle.core_model.proofs.NotesFrame.{IsSeen}
 use Rattle.core_model.proofs.NotesKept.{note_keeps, learn_keeps}

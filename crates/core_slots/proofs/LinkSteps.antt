@@ -23,7 +23,7 @@ use Rattle.core_model.specs.Told.{LinkFound}
 use Rattle.core_model.specs.Layout.{index}
 use Rattle.core_model.specs.Tabs.{OfReader, OfFreer, anchor_of, is_free, is_reading}
 use Rattle.core_model.proofs.FollowsKept.{followed}
-use Rattle.core_model.proofs.OwnsKept.{held_slot}
+use Rattle.core_model.proofs.ReservesKept.{held_slot}
 use Rattle.core_model.proofs.SlotFinds.{slot_finds}
 use Rattle.core_model.proofs.Spelling.{at_longer, one_same}
 use Rattle.core_model.specs.Table.{Allowed}

@@ -16,7 +16,7 @@ use Rattle.core_model.specs.Chains.{rest_of, times}
 use Rattle.core_model.specs.Layout.{index}
 use Rattle.core_model.specs.Steps.{finding}
 use Rattle.core_model.specs.Tabs.{inner, tab_at, OfWriter, OfFreer}
-use Rattle.core_model.proofs.OwnsKept.{of_freer, tab_was, held_slot, only_inner}
+use Rattle.core_model.proofs.ReservesKept.{of_freer, tab_was, held_slot, only_inner}
 use Rattle.core_model.proofs.Spelling.{one_same}
 use Rattle.core_model.specs.Table.{Allowed, tabs_after}
 use Rattle.core_model.specs.SlotMoves.{MayReserve, MayLoosen, reserves, loosens}

@@ -30,7 +30,7 @@ use Rattle.core_model.specs.declared.view.Place.{Place}
 use Rattle.core_model.specs.declared.view.Place.TheVariants.{Anchor, Beside, Counter, Link}
 use Rattle.core_model.specs.declared.view.View.{View}
 use Rattle.core_model.proofs.Lists.{contains_none, le_sum_at}
-use Rattle.core_model.proofs.OwnsKept.{held_slot}
+use Rattle.core_model.proofs.ReservesKept.{held_slot}
 use Rattle.core_model.proofs.Tabs.{contains_times, tab_there}
 use Rattle.plain_model.specs.declared.entry.Entry.{Entry}
 use Rattle.plain_model.specs.declared.entry.Place.{Place as PlaceOf}

@@ -25,7 +25,7 @@ use Rattle.core_model.specs.declared.view.Place.{Place}
 use Rattle.core_model.specs.declared.view.Place.TheVariants.{Anchor, Link}
 use Rattle.core_model.specs.declared.view.View.{View}
 use Rattle.core_model.proofs.Lists.{contains_none}
-use Rattle.core_model.proofs.OwnsKept.{held_slot}
+use Rattle.core_model.proofs.ReservesKept.{held_slot}
 use Rattle.core_model.proofs.Spelling.{one_same}
 use Rattle.core_model.proofs.Tabs.{tab_there}
 use Rattle.core_model.proofs.Tells.{tells as steps_tell}

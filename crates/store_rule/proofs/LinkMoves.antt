@@ -45,7 +45,7 @@ use Rattle.core_model.proofs.SlotAnchors.{reader_stage}
 use Rattle.core_model.proofs.Spelling.{one_same}
 use Rattle.core_model.proofs.Tabs.{tab_there}
 use Rattle.core_model.proofs.Telling.{stage_told}
-use Rattle.core_model.proofs.OwnsKept.{of_freer, only_inner, tab_was}
+use Rattle.core_model.proofs.ReservesKept.{of_freer, only_inner, tab_was}
 use Rattle.store_rule.proofs.AtHand.{at_get}
 use Rattle.store_rule.proofs.Bounds.{tab_holds_few, chain_and_held, chain_inside, stands_inside}
 use Rattle.store_rule.proofs.Moves.{known_of, quiet}
