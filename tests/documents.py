@@ -1,12 +1,11 @@
 #!/usr/bin/env python3
 """What the documents say of the crates and of the program's messages, compared with the sources: documents.py
 
-The layers in README.md, its table, and the levels and the table of docs/CRATES.md have each crate of crates.txt once,
-and no other. A crate stands on crates of its own layer and of those below it, and of lower levels alone. crates.txt has
-the layers of README.md, each under its heading, the lowest first, and a crate stands there after all that it lists and
-lists only what its files use. A lemma that another crate cites stands on the list in the README of its own crate, and what
-stands on such a list is a lemma of the crate. README.md
-tells rightly which crates the program does without, and how many it takes. The way of a line names crates alone.
+The layers in README.md and the table of docs/CRATES.md have each crate of crates.txt once, and no other. A crate stands
+on crates of its own layer and of those below it alone. crates.txt has the layers of README.md, each under its heading,
+the lowest first, and a crate stands there after all that it lists and lists only what its files use. A lemma that another
+crate cites stands on the list in the README of its own crate, and what stands on such a list is a lemma of the crate.
+README.md tells rightly which crates the program does without, and how many it takes. The way of a line names crates alone.
 docs/OPERATING.md has each line that the program says on standard error, with its code, and no other; a test of help_tests
 and a row of tests/real_files.sh have each too. docs/FORMATS.md and docs/rock.1 have the codes. This reads files alone,
 and stands outside the gate. Its status is 0 where all is so.
@@ -149,22 +148,16 @@ def readme(below):
     listing(picture)
     strange = set(re.findall(r"[a-z]+_[a-z]+", way)) - set(below)
     holds(f"the way of a line names crates alone: {sorted(strange)}", not strange)
-    rows = re.findall(r"(?m)^\| (\[.*?) \| (yes|no) \|", text)
-    pairs = [(name, word) for names, word in rows for name in re.findall(r"\[(\w+)\]\(crates/\1/README.md\)", names)]
-    compare("the table of README.md", below, [name for name, _ in pairs])
-    for name, word in pairs:
-        holds(f"the table of README.md: {name} is in the program", (word == "yes") == (name in program))
-    holds(f"README.md: the program takes {len(program)} crates", f"proves these {len(program)} crates" in text)
+    holds(f"README.md: the program takes {len(program)} crates", f"builds the {len(program)} crates" in text)
 
 
-def levels(below):
-    text = read("docs/CRATES.md")
-    rows = re.findall(r"(?m)^    (\d+) +(.*)$", text)
-    pairs = [(name, int(level)) for level, names in rows for name in names.split()]
-    compare("the levels of docs/CRATES.md", below, [name for name, _ in pairs])
-    lower = lambda lower, upper: lower is not None and lower < upper
-    ordered("the levels of docs/CRATES.md", below, dict(pairs), lower)
-    compare("the table of docs/CRATES.md", below, re.findall(r"(?m)^\| \[`(\w+)`\]\(\.\./crates/\1/README.md\) \|", text))
+def table(below):
+    """The table of docs/CRATES.md."""
+    program, text = needed(below, "rock_main"), read("docs/CRATES.md")
+    rows = re.findall(r"(?m)^\| \[`(\w+)`\]\(\.\./crates/\1/README.md\) \| (yes|no) \|", text)
+    compare("the table of docs/CRATES.md", below, [name for name, _ in rows])
+    for name, word in rows:
+        holds(f"the table of docs/CRATES.md: {name} is in the program", (word == "yes") == (name in program))
 
 
 def spelled(sentence):
@@ -247,7 +240,7 @@ def messages():
 def main():
     below = crates()
     readme(below)
-    levels(below)
+    table(below)
     lending(below)
     messages()
     print(f"{len(failed)} comparisons failed")
