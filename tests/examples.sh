@@ -2,11 +2,16 @@
 # The examples: the commands of each stand in examples/README.md under its name. They are run in a temporary folder,
 # and what they print is compared with what stands there. What a run prints is compared with the file of answers, and
 # each status is to be 0, with nothing on standard error. Run it by hand; it builds the program first where it is out
-# of date. Its status is 0 where all examples are as they should be.
+# of date, or takes the one that the variable ROCK names. Its status is 0 where all examples are as they should be.
 set -u -o pipefail
 
 root=$(cd "$(dirname "${BASH_SOURCE[0]}")/.." && pwd)
-"$root/rock" --version >/dev/null || exit 1
+program=${ROCK:-}
+if [ -z "$program" ]; then
+    "$root/rock" --version >/dev/null || exit 1
+    program=$root/rock
+fi
+program=$(realpath "$program")
 folder=$(mktemp -d) || exit 1
 trap 'rm -rf "$folder"' EXIT
 cp "$root"/examples/* "$folder" && cd "$folder" || exit 1
@@ -28,9 +33,9 @@ replay() {
         printf '%s\n' "$line"
         read -r -a words <<<"${line#'$ rock '}"
         if [ "${words[0]}" = run ]; then
-            timeout 60 "$root/rock" "${words[@]:0:5}" <"$1.script" >printed
+            timeout 60 "$program" "${words[@]:0:5}" <"$1.script" >printed
         else
-            "$root/rock" "${words[@]}" </dev/null
+            "$program" "${words[@]}" </dev/null
         fi || printf 'status %d\n' $?
     done
 }

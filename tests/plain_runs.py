@@ -19,10 +19,9 @@ import sys
 import tempfile
 
 sys.dont_write_bytecode = True
-from changed_files import GREATEST_VERSION, HEADER_AREA, PROGRAM, ROOT, SLOT, Header  # noqa: E402
-from changed_files import anchor_of, entry_at, image, key_of, listing, meta, meta_of, random_file  # noqa: E402
+from changed_files import GREATEST_VERSION, HEADER_AREA, ROCK, ROOT, SLOT, Header  # noqa: E402
+from changed_files import anchor_of, build, entry_at, image, key_of, listing, meta, meta_of, random_file  # noqa: E402
 
-ROCK = os.environ.get("ROCK", PROGRAM)
 ROOM, MOST_SLOTS, TABS, LONE_TAB = SLOT - 40, 4096, 7, 7
 EMPTY, TAKEN, APPENDING, CLOSED, HALTED, GONE = 0, 1, 2, 3, 4, 6
 SHORT = [b"u", b"v", b"w", b"-", b"http://a/b", b"http://a/c", b"http://a/d", b"http://a/e"]
@@ -499,8 +498,7 @@ def compare(chance, name, counts):
 
 def main():
     seed, files = [int(word) for word in sys.argv[1:] + ["1", "1500"][len(sys.argv) - 1 :]]
-    if "ROCK" not in os.environ:
-        subprocess.run([f"{ROOT}/rock", "--version"], check=True, stdout=subprocess.DEVNULL)
+    build()
     counts, failed = collections.Counter(), 0
     with tempfile.TemporaryDirectory() as folder:
         for number in range(files):

@@ -3,90 +3,29 @@
 
 Files are made, or taken, of which the numbers are known: one entry, entries with chains beside damaged and blank
 slots, slots that are nearly entries, many slots, and the greatest file. Of each the map's legend, its cells and their
-titles are compared with what is known. Where the program is built, the line of `rock check` and the lines of
-`rock list` are compared too. Then the numbers of changed and random files are compared with those of another reading
-of the definitions, and words and files are tried that the tool refuses. It stands outside the gate. Its status is 0
-where all is as it should be.
+titles are compared with what is known. Where there is a program, the one that the variable ROCK names or the one that
+is built, the line of `rock check` and the lines of `rock list` are compared too. Then the numbers of changed and random
+files are compared with those of another reading of the definitions, and words and files are tried that the tool
+refuses. It stands outside the gate. Its status is 0 where all is
+as it should be.
 """
 import argparse
-import hashlib
-import importlib.util
 import os
 import random
 import resource
-import struct
 import subprocess
 import sys
 import tempfile
 import xml.etree.ElementTree as ElementTree
 
-ROOT = os.path.dirname(os.path.dirname(os.path.abspath(__file__)))
+sys.dont_write_bytecode = True
+from made_files import HEADER_AREA, ROCK, ROOM, ROOT, SLOT, anchor_of, end, entry, holds, image, item  # noqa: E402
+from made_files import key_of, metadata, module, of_wrong_size, write_file  # noqa: E402
+
 TOOL = f"{ROOT}/tools/slot_map.py"
-IS_BUILT = os.path.exists(f"{ROOT}/crates/rock_main/out/rock_main")
 SVG = "{http://www.w3.org/2000/svg}"
-HEADER_AREA, SLOT, ROOM, MOST_SLOTS = 16384, 512, 472, 1048576
+MOST_SLOTS = 1048576
 B, C = b"http://a/b", b"http://a/c"
-
-failed = []
-
-
-def holds(what, is_so):
-    if not is_so:
-        failed.append(what)
-        print(f"FAILED: {what}")
-
-
-# The writer of files.
-def key_of(url):
-    return hashlib.md5(b"\x01" + url).digest()
-
-
-def anchor_of(url, anchors):
-    return sum(struct.unpack("<QQ", key_of(url))) % 2**64 % anchors
-
-
-def image(url, entry_size, payload, version, first, following):
-    head = key_of(url) + struct.pack("<QIIii", entry_size, len(payload), version, first, following)
-    return (head + payload).ljust(SLOT, b"\0")
-
-
-def item(kind, value):
-    return bytes([kind]) + struct.pack("<I", len(value)) + value
-
-
-def metadata(*items):
-    joined = b"".join(items)
-    return b"\x03" + struct.pack("<I", 5 + len(joined)) + joined
-
-
-def entry(url, body, version, chain):
-    """The slots of an entry by their numbers."""
-    content = metadata(item(3, key_of(url)), item(4, url + b"\0")) + body
-    made = {}
-    for place, number in enumerate(chain):
-        is_last = place + 1 == len(chain)
-        payload = content[place * ROOM :] if is_last else content[place * ROOM : (place + 1) * ROOM]
-        following = -1 if is_last else chain[place + 1]
-        made[number] = image(url, len(content) if is_last else 0, payload, version, chain[0], following)
-    return made
-
-
-def of_wrong_size(url, version, number):
-    """The slot of an entry that would be complete, were its size not one more."""
-    made = bytearray(entry(url, b"x", version, [number])[number])
-    made[16] += 1
-    return bytes(made)
-
-
-def write_file(name, count, images, rest=b""):
-    """A file of so many slots, of which those without an image are gaps."""
-    with open(name, "wb") as file:
-        file.truncate(HEADER_AREA + count * SLOT)
-        for number, made in images.items():
-            file.seek(HEADER_AREA + number * SLOT)
-            file.write(made)
-        file.seek(0, os.SEEK_END)
-        file.write(rest)
 
 
 # The reader of maps.
@@ -117,14 +56,14 @@ def compare(name, anchors, check, entries, kinds):
     holds(f"{row}: {told(svg, 'list')}", told(svg, "list") == f"complete entries: {entries}")
     counts = [int(told(svg, f"kind-{kind}").split()[0]) for kind in (3, 2, 1, 0)]
     holds(f"{row}: kept, not kept, damaged and blank are {counts}", counts == kinds)
-    if IS_BUILT:
+    if ROCK:
         holds(f"{row}: rock check", rock("check", name, str(SLOT), str(anchors)) == check + "\n")
         holds(f"{row}: rock list", rock("list", name, str(SLOT)).count("\n") == entries)
     return svg
 
 
 def rock(*words):
-    return subprocess.run([f"{ROOT}/rock", *words], capture_output=True, check=True, text=True).stdout
+    return subprocess.run([ROCK, *words], capture_output=True, check=True, text=True).stdout
 
 
 # The files.
@@ -309,14 +248,6 @@ def changed_and_random_files(folder):
             holds(f"changed or random file {place} by {anchors} anchors", agrees)
 
 
-def module(path):
-    """A program of this repository as a module."""
-    found = importlib.util.spec_from_file_location(os.path.basename(path).removesuffix(".py"), path)
-    made = importlib.util.module_from_spec(found)
-    found.loader.exec_module(made)
-    return made
-
-
 def main():
     with tempfile.TemporaryDirectory() as folder:
         one_entry()
@@ -327,9 +258,7 @@ def main():
         greatest_file(folder)
         changed_and_random_files(folder)
         refusals(folder)
-    others = "and with the program" if IS_BUILT else "alone, since the program is not built"
-    print(f"{len(failed)} comparisons failed, with known numbers {others}")
-    sys.exit(1 if failed else 0)
+    end(f"with known numbers {'and with the program' if ROCK else 'alone, since the program is not built'}")
 
 
 main()

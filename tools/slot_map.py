@@ -9,26 +9,18 @@ see the chain of its entry. A file of more than 4,096 slots is drawn by averages
 The line above the map is the one that `rock check FILE SLOT N` prints. Below it stands how many complete entries there
 are, which is how many lines `rock list FILE SLOT` prints.
 
-This is a reading of docs/FORMATS.md of its own. It is no part of what is proved. It changes no file, reads no byte of
+The file is read by tools/slot_file.py. This is no part of what is proved. It changes no file, reads no byte of
 a file twice, and keeps about 100 bytes of each slot at most. Its status is 0, or 1 with one line on standard error.
 """
 import argparse
 import colorsys
-import hashlib
 import html
-import os
-import stat
 import struct
 import sys
 from array import array
-from typing import NamedTuple
 
-HEADER_AREA = 16384
-MOST_SLOTS = 1048576
-GREATEST_VERSION = 4294901760
-LONGEST_URL = 2048
-HEADER = struct.Struct("<16sQIIii")
-NO_SLOT = -1
+sys.dont_write_bytecode = True
+from slot_file import NO_SLOT, Refused, SlotFile, decimal, readable, slot_size  # noqa: E402
 
 # A file of more slots than this is drawn by averages.
 MOST_CELLS = 4096
@@ -45,25 +37,12 @@ MEANINGS = {
 COLOURS = {BLANK: (0.91, 0.91, 0.91), DAMAGED: (0.2, 0.2, 0.2), NOT_KEPT: (0.98, 0.78, 0.4), KEPT: (0.12, 0.42, 0.75)}
 
 
-class Refused(Exception):
-    """Why there is no map, in words for the user."""
-
-
 # Reading the file.
-class Name(NamedTuple):
-    """What the metadata of an entry says, and how many bytes it has."""
-
-    key: bytes
-    url: bytes
-    length: int
-
-
 class Slots:
     """What the headers of a file say: a column for each field. A slot without a sane header has version 0."""
 
-    def __init__(self, count, slot):
-        self.count = count
-        self.room = slot - HEADER.size
+    def __init__(self, count, room):
+        self.count, self.room = count, room
         self.keys = bytearray(16 * count)
         self.entry_sizes = array("Q", [0]) * count
         self.payload_sizes = array("I", [0]) * count
@@ -89,79 +68,29 @@ class Slots:
 
 def read_file(name, slot):
     """Reads the header of each slot, and the payload of each slot that may begin an entry."""
-    status = os.stat(name)
-    if not stat.S_ISREG(status.st_mode):
-        raise Refused(f"{name} is no regular file")
-    if status.st_size < HEADER_AREA + slot:
-        raise Refused(f"{name} is shorter than the header area and one slot")
-    slots = Slots(min((status.st_size - HEADER_AREA) // slot, MOST_SLOTS), slot)
-    with open(name, "rb", buffering=0) as file:
+    with SlotFile(name, slot) as file:
+        slots = Slots(file.count, file.room)
         for number in range(slots.count):
-            read_slot(file, HEADER_AREA + number * slot, slots, number)
+            read_slot(file, slots, number)
     return slots
 
 
-def read_slot(file, offset, slots, number):
+def read_slot(file, slots, number):
     """Puts what one slot says into the columns, where its header is sane."""
-    key, entry_size, size, version, first, following = HEADER.unpack(read_bytes(file, offset, HEADER.size))
-    if not (0 <= first < slots.count and NO_SLOT <= following < slots.count):
+    header = file.header(number)
+    if header is None:
         return
-    if not (1 <= version <= GREATEST_VERSION and 1 <= size <= slots.room):
-        return
-    slots.keys[16 * number : 16 * number + 16] = key
-    slots.entry_sizes[number] = entry_size
-    slots.payload_sizes[number] = size
-    slots.versions[number] = version
-    slots.firsts[number] = first
-    slots.nexts[number] = following
-    if first == number:
-        name = read_name(read_bytes(file, offset + HEADER.size, size))
-        if name is not None and is_named(key, name):
-            slots.begins[number] = 1
-            if slots.count <= MOST_CELLS:
-                slots.names[number] = name
-
-
-def read_bytes(file, offset, count):
-    found = os.pread(file.fileno(), count, offset)
-    if len(found) < count:
-        raise Refused(f"{file.name} was cut short while it was read")
-    return found
-
-
-def read_name(payload):
-    """The name in the metadata at the front of a payload, or None where that is no metadata."""
-    if len(payload) < 5 or payload[0] != 3:
-        return None
-    (whole,) = struct.unpack_from("<I", payload, 1)
-    if not 5 <= whole <= len(payload):
-        return None
-    values = read_items(payload[5:whole])
-    if values is None or len(values.get(3, b"")) != 16 or values.get(4, b"")[-1:] != b"\0":
-        return None
-    return Name(values[3], values[4][:-1], whole)
-
-
-def read_items(items):
-    """The values of types 3 and 4, or None where an item is cut or one of these types comes twice."""
-    values, at = {}, 0
-    while at < len(items):
-        if len(items) - at < 5:
-            return None
-        kind, size = struct.unpack_from("<BI", items, at)
-        value = items[at + 5 : at + 5 + size]
-        if len(value) < size or kind in values:
-            return None
-        if kind in (3, 4):
-            values[kind] = value
-        at += 5 + size
-    return values
-
-
-def is_named(key, name):
-    """Whether a name goes with the key of its header: by the same key, which is that of a URL as may be."""
-    is_url = 1 <= len(name.url) <= LONGEST_URL and all(0x21 <= byte <= 0x7E for byte in name.url)
-    return is_url and name.key == key == hashlib.md5(b"\x01" + name.url).digest()
+    slots.keys[16 * number : 16 * number + 16] = header.key
+    slots.entry_sizes[number] = header.entry_size
+    slots.payload_sizes[number] = header.size
+    slots.versions[number] = header.version
+    slots.firsts[number] = header.first
+    slots.nexts[number] = header.following
+    name = file.name_at(number, header)
+    if name is not None:
+        slots.begins[number] = 1
+        if slots.count <= MOST_CELLS:
+            slots.names[number] = name
 
 
 # What the slots are.
@@ -420,11 +349,6 @@ def draw_legend(drawn, run):
         yield text(LEFT + 22, y + 10, f"{drawn.kinds.count(kind)} {WORDS[kind]}: {meaning}", f' id="kind-{kind}"')
 
 
-def readable(content):
-    """A text without what may not stand in a line or in XML."""
-    return "".join(letter if letter.isprintable() else "?" for letter in content)
-
-
 def shortened(name):
     """A name, without its front where it is too long for the least width."""
     return name if len(name) <= MOST_LETTERS else "..." + name[3 - MOST_LETTERS :]
@@ -454,22 +378,12 @@ class Parser(argparse.ArgumentParser):
         raise Refused(message)
 
 
-def decimal(word):
-    """A number as Rock reads it: digits, with no sign and no leading zero."""
-    if not (word.isascii() and word.isdigit()) or (word[0] == "0" and word != "0"):
-        raise argparse.ArgumentTypeError(f"{word} is no number")
-    return int(word)
-
-
 def read_words():
     parser = Parser(prog="slot_map.py", allow_abbrev=False, description="Draws the slots of a database file as an SVG.")
     parser.add_argument("file", metavar="FILE", help="the database file")
-    parser.add_argument("slot", metavar="SLOT", type=decimal, help="bytes a slot")
+    parser.add_argument("slot", metavar="SLOT", type=slot_size, help="bytes a slot")
     parser.add_argument("--anchors", metavar="N", type=decimal, default=1, help="anchors of the store (default: 1)")
-    asked = parser.parse_args()
-    if asked.slot % 512 or not 512 <= asked.slot <= 32768:
-        raise Refused(f"the slot size {asked.slot} is no multiple of 512 from 512 to 32768")
-    return asked
+    return parser.parse_args()
 
 
 def map_of(asked):
