@@ -7,8 +7,9 @@ the lowest first, and a crate stands there after all that it lists and lists onl
 crate cites stands on the list in the README of its own crate, and what stands on such a list is a lemma of the crate.
 README.md tells rightly which crates the program does without, and how many it takes. The way of a line names crates alone.
 docs/OPERATING.md has each line that the program says on standard error, with its code, and no other; a test of help_tests
-and a row of tests/real_files.sh have each too. docs/FORMATS.md and docs/rock.1 have the codes. This reads files alone,
-and stands outside the gate. Its status is 0 where all is so.
+and a row of tests/real_files.sh have each too. docs/FORMATS.md and docs/rock.1 have the codes. docs/ANSWERS.md has each
+answer of the table in docs/SCRIPT.md once, with what it means and what to do, and no other. This reads files alone, and
+stands outside the gate. Its status is 0 where all is so.
 """
 import glob
 import os
@@ -237,12 +238,36 @@ def messages():
     holds("docs/rock.1 has each code once", sorted(manual) == sorted(set(codes.values())))
 
 
+def answers_of_scripts():
+    """The texts of all answers, by the table in docs/SCRIPT.md."""
+    table = re.search(r"(?s)\n\| answer \| text \|\n(.*?)\n\n", read("docs/SCRIPT.md")).group(1)
+    rows = [re.findall("`(.*?)`", row.split(" | ")[1]) for row in table.splitlines()[1:]]
+    # One row tells its answers by those of the row before.
+    same = rows.index(["NONE", "MISS"])
+    rows[same] = [text.replace("MISS", "NONE") for text in rows[same - 1]]
+    return [text for row in rows for text in row]
+
+
+def answers():
+    """docs/ANSWERS.md has each answer once, and no other, with one sentence or two on each side."""
+    texts = answers_of_scripts()
+    holds(f"the answers of docs/SCRIPT.md are found: {len(texts)}", len(texts) == 32 and texts.count("NONE other epoch KEY") == 1)
+    rows = re.findall(r"(?m)^\| `([A-Z].*?)` \| (.*?) \| (.*?) \|$", read("docs/ANSWERS.md"))
+    told = [text for text, _, _ in rows]
+    wrong = {text for text in texts + told if texts.count(text) != told.count(text)}
+    holds(f"docs/ANSWERS.md has each answer of docs/SCRIPT.md once: {sorted(wrong)}", not wrong)
+    for text, *sides in rows:
+        counts = [len(re.findall(r"[^.]\.(?= |$)", side)) for side in sides]
+        holds(f"docs/ANSWERS.md says in a sentence or two what {text} means, and what to do: {counts}", set(counts) <= {1, 2})
+
+
 def main():
     below = crates()
     readme(below)
     table(below)
     lending(below)
     messages()
+    answers()
     print(f"{len(failed)} comparisons failed")
     sys.exit(1 if failed else 0)
 
