@@ -33,7 +33,8 @@ skip() {
     skipped=$((skipped + 1))
 }
 
-# Judges what the last command's status tells: a name for the row.
+# Judges what the last command's status tells: a name for the row, and the status. A name with a command in it is given
+# behind a status that was kept: the command has one of its own.
 holds() {
     if [ "$2" -eq 0 ]; then passed=$((passed + 1)); else fail "$1"; fi
 }
@@ -45,7 +46,8 @@ row() {
     "${as[@]}" ./rock "$@" >printed 2>said </dev/null
     local ended=$?
     printf '%s' "$printed" | cmp -s - printed && [ "$ended" -eq "$status" ] && [ "$(head -n 1 said)" = "$said" ]
-    holds "rock $*: status $ended, printed '$(head -c 200 printed)', said '$(head -n 1 said)'" $?
+    local judged=$?
+    holds "rock $*: status $ended, printed '$(head -c 200 printed)', said '$(head -n 1 said)'" $judged
 }
 
 # What rows share of the lines on standard error.
@@ -73,7 +75,8 @@ run_row() {
     local ended=$?
     first=$(head -n 1 said)
     printf '%s' "$printed" | cmp -s - printed && [ "$ended" -eq "$status" ] && [ "$first" = "$said" ]
-    holds "rock run $*: script '$(head -c 200 script)', status $ended, printed '$(head -c 200 printed)', said '$first'" $?
+    local judged=$?
+    holds "rock run $*: script '$(head -c 200 script)', status $ended, printed '$(head -c 200 printed)', said '$first'" $judged
 }
 
 # The hexadecimal text of so many bytes of a made body, from a place on.
@@ -694,7 +697,8 @@ benched() {
     listed_of_bench new "$workers" "$stored"
     holds "rock bench new $*: what is listed are responses of its script" $?
     checked_of_bench new "$workers" "$stored"
-    holds "rock bench new $*: a check says '$(head -c 200 checked)' of the file" $?
+    local judged=$?
+    holds "rock bench new $*: a check says '$(head -c 200 checked)' of the file" $judged
 }
 
 # The line in OPERATING.md, and others, which come from a program in another language, by the definition of the script

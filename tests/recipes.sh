@@ -18,12 +18,13 @@ PATH=$folder/bin:$PATH
 passed=0
 failed=0
 
-# Judges what the last command's status tells: a name for the row.
+# Judges what the last command's status tells: the status, and a name for the row. A command in the name has a status of
+# its own, so the one to be judged stands in front.
 holds() {
-    if [ "$2" -eq 0 ]; then
+    if [ "$1" -eq 0 ]; then
         passed=$((passed + 1))
     else
-        printf 'FAILED: %s\n' "$1"
+        printf 'FAILED: %s\n' "$2"
         failed=$((failed + 1))
     fi
 }
@@ -53,17 +54,17 @@ replay() {
 
 sed -n 's/^    //p' "$root/docs/RECIPES.md" >"$folder/page"
 [ "$(grep -c '^\$ ' "$folder/page")" -ge 20 ]
-holds 'the page has 20 commands' $?
+holds $? 'the page has 20 commands'
 replay "$folder/page" >"$folder/printed"
 diff "$folder/page" "$folder/printed"
-holds 'the commands of docs/RECIPES.md print what stands there' $?
+holds $? 'the commands of docs/RECIPES.md print what stands there'
 [ "$(sort -u "$folder/dates")" = '-u +%FT%TZ' ]
-holds 'the time is asked for as the page has it' $?
+holds $? 'the time is asked for as the page has it'
 
 # The locks: the commands of OPERATING.md, each once where nobody has the lock, and once while others have it.
 mapfile -t lines < <(sed -n 's/^    \$ \(flock .*\)/\1/p' "$root/docs/OPERATING.md")
 [ ${#lines[@]} -eq 3 ]
-holds 'OPERATING.md has three commands with a lock' $?
+holds $? 'OPERATING.md has three commands with a lock'
 rm -f cache.db && rock create cache.db 16384 8
 printf '1 put http://a/b =x\n' >script
 held() {
@@ -71,7 +72,7 @@ held() {
     shift 2
     "$@" bash -c "$line" >printed 2>&1 </dev/null
     [ $? -eq "$status" ] && { [ "$status" -eq 0 ] || [ ! -s printed ]; }
-    holds "status $status of '$line' behind '$*': $(cat printed)" $?
+    holds $? "status $status of '$line' behind '$*': $(cat printed)"
 }
 for line in "${lines[@]//1024/8}"; do
     held 0 "$line" env
@@ -83,10 +84,10 @@ for line in "${lines[@]//1024/8}"; do
     esac
 done
 [ "$(rock list cache.db 16384)" = 'ENTRY 0 1 1 1 http://a/b' ] && cmp -s cache.db copy.db
-holds 'the run that had the lock stored a response, once' $?
+holds $? 'the run that had the lock stored a response, once'
 flock -n cache.db.lock rock list gone.db 16384 2>/dev/null
 [ $? -eq 8 ]
-holds 'the status is that of the program' $?
+holds $? 'the status is that of the program'
 
 printf '%d rows passed, %d failed\n' "$passed" "$failed"
 [ "$failed" -eq 0 ]
