@@ -14,3 +14,4 @@ pub mod Seeing
 pub mod Ending
 pub mod Begun
 pub mod Staying
+pub mod Durable

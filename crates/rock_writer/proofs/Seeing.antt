@@ -17,7 +17,7 @@ use Rattle.store_rule.specs.Told.{Steps, found_as}
 use Rattle.store_rule.specs.Turns.{IsReturned}
 use Rattle.store_rule.specs.Calls.{IsFresh}
 use Rattle.store_rule.specs.Runs.{Added, Went}
-use Rattle.slice_chain.specs.Links.{PublishedFirst, PublishedMore}
+use Rattle.slice_chain.specs.Links.{Published, PublishedFirst, PublishedMore}
 use Rattle.slice_chain.specs.Writes.{WroteSlot}
 use Rattle.rock_writer.specs.Finishing.{WroteLast}
 use Rattle.rock_writer.specs.Flushing.{HasSlot, NeedsSlot, SlotFor, WrotePiece}
@@ -56,7 +56,7 @@ module _ {X : Type 0} (g : Ground X) where
   pub grows_went : (v w : View X) (d : Added) → Went g v d w → Grows v w
   grows_went v w d went = (d.sights, went.seen)
 
-  grows_reserved : (t hand : ℕ) (v w : View X) (slot hand_after : ℕ) → Reserved g t hand v slot w hand_after → Grows v w
+  pub grows_reserved : (t hand : ℕ) (v w : View X) (slot hand_after : ℕ) → Reserved g t hand v slot w hand_after → Grows v w
   grows_reserved t hand v w slot hand_after r = ⊎_elim
       (λ (c : ByClaim g t hand v slot w hand_after). grows_went v w _ c.claimed.passed.went)
       (λ (c : ByEviction g t hand v slot w hand_after). grows_on v c.middle w (grows_went v c.middle _ c.none.passed.went) (grows_went c.middle w _ c.evicted.went))
@@ -76,15 +76,22 @@ module _ {X : Type 0} (g : Ground X) where
   returned_seen k (Tab.Last a) t slot c v u h = ap View.seen h
   returned_seen k (Tab.Freeing f) t slot c v u h = ap View.seen h
 
+  -- since the piece was logged
+  pub grows_logged : (t : ℕ) (v w : View X) (durable done : Bool) (h : WroteSlot g t v durable done w) → Grows h.logged w
+  grows_logged t v w durable done h = grows_on h.logged h.middle w (grows_step h.logged h.middle _ 0 h.tried)
+      (grows_on h.middle h.from w ([], returned_seen g.setting (tab_at h.middle t) t h.slot h.cell h.middle h.from h.returned) (grows_step h.from w _ 1 h.ended))
+
   grows_wrote : (t : ℕ) (v w : View X) (durable done : Bool) → WroteSlot g t v durable done w → Grows v w
-  grows_wrote t v w durable done h = grows_on v h.logged w (grows_step v h.logged _ h.number h.logs) (grows_on h.logged h.middle w (grows_step h.logged h.middle _ 0 h.tried)
-      (grows_on h.middle h.from w ([], returned_seen g.setting (tab_at h.middle t) t h.slot h.cell h.middle h.from h.returned) (grows_step h.from w _ 1 h.ended)))
+  grows_wrote t v w durable done h = grows_on v h.logged w (grows_step v h.logged _ h.number h.logs) (grows_logged t v w durable done h)
+
+  pub grows_published : (t : ℕ) (v w : View X) (slot : ℕ) (next : Option ℕ) → Published g t slot next v w → Grows v w
+  grows_published t v w slot next h = ⊎_elim
+      (λ (f : PublishedFirst g t slot _ v w). grows_on v f.middle w (grows_step v f.middle _ 0 f.linked) (grows_step f.middle w _ f.found f.started))
+      (λ (m : PublishedMore g t slot _ v w). grows_step v w _ 0 m.linked)
+      h
 
   pub grows_piece : (t : ℕ) (v w : View X) (durable : Bool) (slot : ℕ) (next : Option ℕ) → WrotePiece g t durable slot next v w → Grows v w
-  grows_piece t v w durable slot next h = grows_on v h.written w (grows_wrote t v h.written durable true h.wrote) (⊎_elim
-      (λ (f : PublishedFirst g t slot _ h.written w). grows_on h.written f.middle w (grows_step h.written f.middle _ 0 f.linked) (grows_step f.middle w _ f.found f.started))
-      (λ (m : PublishedMore g t slot _ h.written w). grows_step h.written w _ 0 m.linked)
-      h.publishes)
+  grows_piece t v w durable slot next h = grows_on v h.written w (grows_wrote t v h.written durable true h.wrote) (grows_published t h.written w slot next h.publishes)
 
   pub grows_last : (t hand : ℕ) (v w : View X) (durable : Bool) (hand_after : ℕ) → WroteLast g t hand durable v w hand_after → Grows v w
   grows_last t hand v w durable hand_after h = grows_on v h.reserved w (grows_slot t hand v h.reserved h.slot hand_after h.for_piece) (grows_piece t h.reserved w durable h.slot _ h.wrote)

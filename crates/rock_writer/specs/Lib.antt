@@ -6,4 +6,5 @@ pub mod Drafting
 pub mod Flushing
 pub mod Appending
 pub mod Finishing
+pub mod Durable
 pub mod Beginning

@@ -1,13 +1,14 @@
 // Bytes of a body are taken.
-ghost use Rattle.std.specs.Prelude.{IfErr, IfOk, IsErrOf, [], length, ◌-◌, ◌<◌, ◌==◌, ◌≡◌, ◌≢◌, ◌≤◌, ℕ};
+ghost use Rattle.std.specs.Prelude.{IfErr, IfOk, IsErrOf, [], length, ◌+◌, ◌-◌, ◌<◌, ◌==◌, ◌≡◌, ◌≢◌, ◌≤◌, ℕ};
 ghost use Rattle.entry_cut.specs.Content.{room_of};
 ghost use Rattle.rock_io.specs.Faults.{Rose};
 ghost use Rattle.rock_writer.specs.Appending.{Appended, MayAppend, NotAppended};
-ghost use Rattle.rock_writer.specs.Entries.{Entry};
+ghost use Rattle.rock_writer.specs.Durable.{LoggedSoFar};
+ghost use Rattle.rock_writer.specs.Entries.{Entry, with_taken};
 ghost use Rattle.rock_writer.specs.Passes.{FollowsWriting};
 ghost use Rattle.slot_cell.specs.declared.header.TheConstants.{HEADER_SIZE};
 ghost use Rattle.tab_states.specs.Desks.{draft_at};
-ghost use Rattle.store_rule.specs.Passes.{basis};
+ghost use Rattle.store_rule.specs.Passes.{basis, view};
 
 use crate::drafting::fill;
 use crate::fault::WriteFault;
@@ -35,6 +36,9 @@ pub fn append<C: Cell, O: Origin, St: Station<C = C>>(
     requires { (e : Entry) × MayAppend C.tells C.state O.offers store.now tab e bytes.now pass.old }
     ensures ok { (e : Entry) → MayAppend C.tells C.state O.offers store.now tab e bytes.now pass.old
         → IfOk result (λ count. Appended C.tells C.state O.offers store.now tab e bytes.now pass.old pass.new count) }
+    ensures durable { (e : Entry) → MayAppend C.tells C.state O.offers store.now tab e bytes.now pass.old
+        → LoggedSoFar (basis C.tells C.state O.offers store.now) e (view pass.old)
+        → IfOk result (λ count. LoggedSoFar (basis C.tells C.state O.offers store.now) (with_taken e (e.taken + count)) (view pass.new)) }
     ensures some { bytes.now ≢ [] → IfOk result (λ count. 0 < count) }
     ensures within { IfOk result (λ count. count ≤ length bytes.now) }
     ensures err { (e : Entry) → MayAppend C.tells C.state O.offers store.now tab e bytes.now pass.old

@@ -3,7 +3,8 @@ ghost use Rattle.std.specs.Prelude.{IfErr, IfOk, IsErrOf, OnErr, false, true, �
 ghost use Rattle.core_model.specs.Tabs.{InnerIsFree, inner};
 ghost use Rattle.lock_word.specs.Words.{is_idle, is_vacant, word_number};
 ghost use Rattle.store_rule.specs.Calls.{Follows};
-ghost use Rattle.rock_writer.specs.Beginning.{Began, IsTooLong, MayBegin, MayClear, MayTakeAnchor, NotTaken, TookAnchor};
+ghost use Rattle.rock_writer.specs.Beginning.{Began, IsTooLong, MayBegin, MayClear, MayTakeAnchor, NotTaken, TookAnchor, begun};
+ghost use Rattle.rock_writer.specs.Durable.{LoggedSoFar};
 ghost use Rattle.store_rule.specs.Ground.{anchor_for};
 ghost use Rattle.rock_writer.specs.Passes.{FollowsWriting};
 ghost use Rattle.slice_chain.specs.Freeing.{Freed};
@@ -40,6 +41,7 @@ pub fn begin<C: Cell, O: Origin>(
 ) -> Result<u32, BeginFault>
     requires { MayBegin C.tells C.state O.offers store.now pass.old tab offer url.now }
     ensures ok { IfOk result (λ version. Began C.tells C.state O.offers store.now tab offer url.now durable pass.old pass.new version) }
+    ensures durable { IfOk result (λ version. LoggedSoFar (basis C.tells C.state O.offers store.now) (begun C.tells C.state O.offers store.now tab offer url.now durable pass.old pass.new version) (view pass.new)) }
     ensures err { IfErr result (λ fault. NotTaken (basis C.tells C.state O.offers store.now) tab (anchor_for (basis C.tells C.state O.offers store.now) url.now) (view pass.old) fault (view pass.new)) }
     ensures long { IsErrOf result BeginFault.LongUrl ↔ IsTooLong (basis C.tells C.state O.offers store.now) url.now }
     ensures tabs { OnErr result ((view pass.new).tabs ≡ (view pass.old).tabs) }

@@ -1,6 +1,7 @@
 // An entry is written to its end and closed, or given up.
-ghost use Rattle.std.specs.Prelude.{IfErr, IfOk, IsErrOf, OnErr, OnOk, ◌≡◌};
+ghost use Rattle.std.specs.Prelude.{IfErr, IfOk, IsErrOf, OnErr, OnOk, true, ◌≡◌};
 ghost use Rattle.rock_io.specs.Faults.{Rose};
+ghost use Rattle.rock_writer.specs.Durable.{ClosedDurably, LoggedSoFar, LoggedWhole};
 ghost use Rattle.rock_writer.specs.Entries.{Entry, WritesAs, size_of};
 ghost use Rattle.rock_writer.specs.Finishing.{Finished, MayClose, MayFinish, NotFinished, NotWrittenLast, WroteLast, is_doomed, version_of};
 ghost use Rattle.rock_writer.specs.Halting.{Halts, MayHalt};
@@ -36,6 +37,9 @@ pub fn finish<C: Cell, O: Origin, St: Station<C = C>>(
     requires { (e : Entry) × MayFinish C.tells C.state O.offers store.now tab e pass.old }
     ensures ok { (e : Entry) → MayFinish C.tells C.state O.offers store.now tab e pass.old
         → IfOk result (λ ended. Finished C.tells C.state O.offers store.now tab e pass.old pass.new ended) }
+    ensures durable { (e : Entry) → MayFinish C.tells C.state O.offers store.now tab e pass.old → e.is_durable ≡ true
+        → LoggedSoFar (basis C.tells C.state O.offers store.now) e (view pass.old)
+        → OnOk result (ClosedDurably (basis C.tells C.state O.offers store.now) tab e (view pass.new)) }
     ensures err { (e : Entry) → MayFinish C.tells C.state O.offers store.now tab e pass.old
         → IfErr result (λ fault. NotFinished C.tells C.state O.offers store.now tab e pass.old pass.new fault) }
     ensures others { FollowsWriting C.tells C.state O.offers store.now tab pass.old pass.new }
@@ -85,6 +89,9 @@ fn write_last<C: Cell, O: Origin, St: Station<C = C>>(
     requires { (e : Entry) × MayFinish C.tells C.state O.offers store.now tab e pass.old }
     ensures ok { (e : Entry) → MayFinish C.tells C.state O.offers store.now tab e pass.old
         → OnOk result (WroteLast (basis C.tells C.state O.offers store.now) tab pass.old.hand e.is_durable (view pass.old) (view pass.new) pass.new.hand) }
+    ensures durable { (e : Entry) → MayFinish C.tells C.state O.offers store.now tab e pass.old → e.is_durable ≡ true
+        → LoggedSoFar (basis C.tells C.state O.offers store.now) e (view pass.old)
+        → OnOk result (LoggedWhole (basis C.tells C.state O.offers store.now) e (view pass.new)) }
     ensures closes { (e : Entry) → MayFinish C.tells C.state O.offers store.now tab e pass.old
         → OnOk result (MayClose C.tells C.state O.offers store.now tab e pass.new) }
     ensures err { (e : Entry) → MayFinish C.tells C.state O.offers store.now tab e pass.old

@@ -1,10 +1,14 @@
 // What holds of tabs that write while others work. The functions here do nothing: the proof of a function that
 // calls one may use what it ensures.
-ghost use Rattle.std.specs.Prelude.{◌≢◌, ℕ};
+ghost use Rattle.std.specs.Prelude.{Contains, ◌≢◌, ℕ};
 ghost use Rattle.core_model.specs.Tabs.{InnerIsFree};
+ghost use Rattle.core_model.specs.declared.view.Sight.{Sight};
+ghost use Rattle.core_model.specs.declared.view.View.{View};
+ghost use Rattle.rock_writer.specs.Durable.{LoggedSoFar, LoggedWhole};
 ghost use Rattle.rock_writer.specs.Entries.{Entry, WritesAs};
 ghost use Rattle.rock_writer.specs.Passes.{FollowsWriting};
 ghost use Rattle.store_rule.specs.Passes.{view};
+ghost use Rattle.store_rule.specs.Ground.{Ground};
 ghost use Rattle.store_rule.specs.declared.store.Pass.{Pass};
 ghost use Rattle.store_rule.specs.declared.store.Store.{Store};
 
@@ -16,4 +20,12 @@ pub fn writing_tabs_stay<C: Cell, O: Origin>()
     ensures { (store : Store C O) (tab other : ℕ) (entry : Entry) (before after : Pass C) → WritesAs C.tells C.state O.offers store before tab entry
         → FollowsWriting C.tells C.state O.offers store other before after → tab ≢ other → InnerIsFree (view after)
         → WritesAs C.tells C.state O.offers store after tab entry }
+{}
+
+/// What a pass knows of the logged pieces of an entry it knows still where it has seen more.
+pub fn logged_pieces_stay_known<X>()
+    ensures so_far { (g : Ground X) (entry : Entry) (before after : View X) → ((x : Sight) → Contains before.seen x → Contains after.seen x)
+        → LoggedSoFar g entry before → LoggedSoFar g entry after }
+    ensures whole { (g : Ground X) (entry : Entry) (before after : View X) → ((x : Sight) → Contains before.seen x → Contains after.seen x)
+        → LoggedWhole g entry before → LoggedWhole g entry after }
 {}

@@ -5,6 +5,7 @@ use Rattle.tab_states.specs.Desks.{draft_at}
 use Rattle.store_rule.specs.Passes.{basis, view}
 use Rattle.rock_writer.specs.Entries.{WritesAs, with_taken}
 use Rattle.rock_writer.specs.Flushing.{Flushed, IsAtLimit, NotFlushed}
+use Rattle.rock_writer.proofs.Durable.{appended_so_far}
 use Rattle.rock_writer.proofs.Following.{err_is, err_of, no_err, writing_desk, writing_halting, writing_on}
 use Rattle.rock_writer.proofs.Publishing.{same_view}
 use Rattle.rock_writer.proofs.Taking.{full_there, may_flush, not_full, place_there, room_there, took}
@@ -91,3 +92,12 @@ returns-clause-others g c = writing_on g.C.Cell.tells g.C.Cell.state g.O.Origin.
 
 pub returns-clause-unfailed : goal.returns-clause-unfailed
 returns-clause-unfailed g c none = c.in_default.ensures.unfailed (λ z. no_err _ _ z)
+
+pub returns-then-is_empty-clause-durable : goal.returns-then-is_empty-clause-durable
+returns-then-is_empty-clause-durable g c e may so_far = appended_so_far g.C.Cell.tells g.C.Cell.state g.O.Origin.offers c.args.store.now c.args.tab e c.args.bytes.now c.args.pass.now c.args.pass.now 0 may (returns-then-is_empty-clause-ok g c e may) so_far
+
+pub returns-then-not-is_full-clause-durable : goal.returns-then-not-is_full-clause-durable
+returns-then-not-is_full-clause-durable g c e may so_far = appended_so_far g.C.Cell.tells g.C.Cell.state g.O.Origin.offers c.args.store.now c.args.tab e c.args.bytes.now c.args.pass.now c.fill.new.pass c.fill.result may (returns-then-not-is_full-clause-ok g c e may) so_far
+
+pub returns-clause-durable : goal.returns-clause-durable
+returns-clause-durable g c e may so_far = appended_so_far g.C.Cell.tells g.C.Cell.state g.O.Origin.offers c.args.store.now c.args.tab e c.args.bytes.now c.args.pass.now c.fill-2.new.pass c.fill-2.result may (returns-clause-ok g c e may) so_far

@@ -4,6 +4,7 @@ use Rattle.slice_chain.specs.Names.{MayNameEntry, Named}
 use Rattle.store_rule.specs.Passes.{basis, view}
 use Rattle.rock_writer.specs.Beginning.{TookAnchor}
 use Rattle.rock_writer.proofs.Begun.{cleared, may_clear, may_name, room, writes_begun}
+use Rattle.rock_writer.proofs.Durable.{begun_so_far}
 use Rattle.rock_writer.proofs.Following.{no_err, writing_desk, writing_halting, writing_on, writing_one}
 use Rattle.rock_writer.proofs.Parting.{halting_inner}
 use Rattle.rock_writer.proofs.Publishing.{same_view}
@@ -52,3 +53,6 @@ returns-clause-others g c = writing_on g.C.Cell.tells g.C.Cell.state g.O.Origin.
     (writing_halting g.C.Cell.tells g.C.Cell.state g.O.Origin.offers c.args.store.now c.args.tab c.take_anchor.new.pass c.clear.new.pass (halting_inner g.C.Cell.tells g.C.Cell.state g.O.Origin.offers c.args.store.now c.args.tab c.take_anchor.new.pass c.clear.new.pass c.clear.ensures.others)))
     (writing_one g.C.Cell.tells g.C.Cell.state g.O.Origin.offers c.args.store.now c.args.tab c.clear.new.pass c.name_entry.new.pass c.name_entry.ensures.others))
     (writing_desk g.C.Cell.tells g.C.Cell.state g.O.Origin.offers c.args.store.now c.args.tab c.name_entry.new.pass c.start.new.pass c.start.ensures.kept c.start.ensures.own)
+
+pub returns-clause-durable : goal.returns-clause-durable
+returns-clause-durable g c = begun_so_far g.C.Cell.tells g.C.Cell.state g.O.Origin.offers c.args.store.now c.args.tab _ c.start.new.pass (returns-clause-ok g c).writes refl

@@ -11,9 +11,10 @@ use Rattle.store_rule.specs.Passes.{basis, view}
 use Rattle.tab_states.specs.declared.tabs.WritingAt.{WritingAt}
 use Rattle.rock_writer.specs.Entries.{writer_as}
 use Rattle.rock_writer.specs.Finishing.{NotWrittenLast, WroteLast}
+use Rattle.rock_writer.proofs.Durable.{whole_grows}
 use Rattle.rock_writer.proofs.Ending.{at_anchor, doom_is, may_part_closed, may_raise_closed}
 use Rattle.rock_writer.proofs.Following.{err_of, writing_halting, writing_on, writing_one}
-use Rattle.rock_writer.proofs.Seeing.{fresh_grows, grows_last, grows_parted}
+use Rattle.rock_writer.proofs.Seeing.{fresh_grows, grows_last, grows_on, grows_parted, grows_step}
 use Rattle.rock_writer.proofs.Unlinking.{at_hand}
 use Rattle.rock_writer.proofs.finishing.finish.Goals as goal
 
@@ -66,3 +67,16 @@ pub returns-clause-others : goal.returns-clause-others
 returns-clause-others g c = writing_on g.C.Cell.tells g.C.Cell.state g.O.Origin.offers c.args.store.now c.args.tab c.args.pass.now c.advance-word.new.pass c.part.new.pass
     (writing_on g.C.Cell.tells g.C.Cell.state g.O.Origin.offers c.args.store.now c.args.tab c.args.pass.now c.write_last.new.pass c.advance-word.new.pass c.write_last.ensures.others (writing_one g.C.Cell.tells g.C.Cell.state g.O.Origin.offers c.args.store.now c.args.tab c.write_last.new.pass c.advance-word.new.pass c.advance-word.ensures.others))
     (writing_halting g.C.Cell.tells g.C.Cell.state g.O.Origin.offers c.args.store.now c.args.tab c.advance-word.new.pass c.part.new.pass c.part.ensures.others)
+
+pub returns-clause-durable : goal.returns-clause-durable
+returns-clause-durable g c e may durable so_far = let known = c.in_default-write_last.ensures.durable e may durable so_far in record {
+  linked = view c.write_last.new.pass;
+  before = known;
+  word = c.advance-word.ensures.made.found;
+  closed = view c.advance-word.new.pass;
+  closes = c.advance-word.ensures.made.step;
+  after = whole_grows (basis g.C.Cell.tells g.C.Cell.state g.O.Origin.offers c.args.store.now) e (view c.write_last.new.pass) (view c.part.new.pass)
+      (grows_on (view c.write_last.new.pass) (view c.advance-word.new.pass) (view c.part.new.pass)
+      (grows_step (basis g.C.Cell.tells g.C.Cell.state g.O.Origin.offers c.args.store.now) (view c.write_last.new.pass) (view c.advance-word.new.pass) _ c.advance-word.ensures.made.found c.advance-word.ensures.made.step)
+      (grows_parted (basis g.C.Cell.tells g.C.Cell.state g.O.Origin.offers c.args.store.now) c.args.tab (view c.advance-word.new.pass) (view c.part.new.pass) c.part.ensures.parted)) known;
+}

@@ -7,6 +7,7 @@ use Rattle.tab_states.specs.declared.desks.Desk.{Desk}
 use Rattle.rock_writer.specs.Flushing.{SlotFor, WrotePiece}
 use Rattle.core_model.specs.Chains.{slots_of_link}
 use Rattle.rock_writer.specs.Entries.{url_in}
+use Rattle.rock_writer.proofs.Durable.{last_whole}
 use Rattle.rock_writer.proofs.Ending.{may_close, may_publish_last}
 use Rattle.rock_writer.proofs.Following.{writing_evicting, writing_on}
 use Rattle.rock_writer.proofs.Publishing.{may_halt}
@@ -60,3 +61,7 @@ returns-in-Err-clause-halts g c = let e = c.requires.0 in let h = c.requires.1 i
 
 pub returns-in-Err-clause-others : goal.returns-in-Err-clause-others
 returns-in-Err-clause-others g c = writing_on g.C.Cell.tells g.C.Cell.state g.O.Origin.offers c.args.store.now c.args.tab c.args.pass.now c.slot_for_piece.new.pass c.publish_piece.new.pass (writing_evicting g.C.Cell.tells g.C.Cell.state g.O.Origin.offers c.args.store.now c.args.tab c.args.pass.now c.slot_for_piece.new.pass c.slot_for_piece.ensures.others) c.publish_piece.ensures.others
+
+pub returns-in-Ok-publish_piece-clause-durable : goal.returns-in-Ok-publish_piece-clause-durable
+returns-in-Ok-publish_piece-clause-durable g c e h durable so_far = let ws = whole_size (basis g.C.Cell.tells g.C.Cell.state g.O.Origin.offers c.args.store.now) e (c.written_meta_is_spelled.ensures.size (key_of (url_in (basis g.C.Cell.tells g.C.Cell.state g.O.Origin.offers c.args.store.now) e)) (url_in (basis g.C.Cell.tells g.C.Cell.state g.O.Origin.offers c.args.store.now) e) (c.keys_have_16_bytes.ensures.length (url_in (basis g.C.Cell.tells g.C.Cell.state g.O.Origin.offers c.args.store.now) e))) in
+    last_whole g.C.Cell.tells g.C.Cell.state g.O.Origin.offers c.args.store.now c.args.tab e c.args.pass.now c.publish_piece.new.pass c.publish_piece.new.pass.hand h ws durable (returns-in-Ok-publish_piece-clause-ok g c e h) so_far
