@@ -34,7 +34,7 @@ use Rattle.core_log.specs.Logged.{CellsLogged, IsFast, LinksStand, SettledStand}
 use Rattle.crash_entries.specs.Parts.{Offers, cut_of, next_number}
 use Rattle.crash_entries.proofs.Depends.{complete_in}
 use Rattle.crash_entries.proofs.Telling.{Tools}
-use Rattle.crash_laws.specs.Left.{IsFileOf, IsLeftWhile, IsPossible, IsWriting, LogKeeps, StandsNew, StandsOld, entry_at, part_at}
+use Rattle.crash_laws.specs.Left.{IsFileOf, IsLeftWhile, IsPossible, IsWriting, LogKeeps, StandsNew, StandsOld, entry_at, part_at, piece_at}
 use Rattle.crash_laws.proofs.Crashing.{a_cell, kept, low}
 
 at_in : (xs : List ℕ) (i d : ℕ) → i < length xs → get_elem? xs i ≡ some (get_or xs i d)
@@ -102,7 +102,7 @@ module _ {X : Type 0} (t : Tools) (slot : ℕ) (o : Offers) (k : Setting X) (b :
       where
         of_content : (x : X) × IsContent k s a place j x × (image_at images j ≡ b x) → image_at images j ≡ image cut place (next_number (link_at (chain_of s a) place))
         of_content (x, inl q, is) = absurd (let z = st.offer in let y = q.0 in omega arith)
-        of_content (x, inr q, is) = is ∙ ap b q.1 ∙ file.image j a _
+        of_content (x, inr q, is) = is ∙ ap b q.1 ∙ file.image j a (piece_at k s a place)
 
     pieces : (xs : List ℕ) → slots ≡ first_of slots ∷ xs → StandFrom cut images 0 (first_of slots ∷ xs)
     pieces xs e = stand_from cut images 0 (first_of slots) xs

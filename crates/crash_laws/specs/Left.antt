@@ -72,17 +72,18 @@ pub record IsWholeOffer (o : Offers) (slots : ℕ) (e : Entry) : Type 0 where
   pub url : e.url ≡ o.url offer
   pub body : e.body ≡ o.body offer
 
--- the part that is published at a place of an anchor's chain
-abbrev pub part_at : {X : Type 0} → Setting X → State X → ℕ → ℕ → Part
-part_at k s a place = record {
-  slot = get_or (chain_of s a).slots place 0;
-  anchor = a;
+-- the piece that is published at a place of an anchor's chain, and the part of a file that it is there
+abbrev pub piece_at : {X : Type 0} → Setting X → State X → ℕ → ℕ → Piece
+piece_at k s a place = record {
   offer = side_word k s Offer a;
   version = version_of (epoch_of (word s a));
   place = place;
   first = first_of (chain_of s a).slots;
   next = link_at (chain_of s a) place;
 }
+
+abbrev pub part_at : {X : Type 0} → Setting X → State X → ℕ → ℕ → Part
+part_at k s a place = part_of (get_or (chain_of s a).slots place 0) a (piece_at k s a place)
 
 -- A new entry stands at the anchor: its chain ends, each of its pieces was logged as durable, and they are pieces of its offer.
 pub record StandsNew {X : Type 0} (slot : ℕ) (o : Offers) (k : Setting X) (s : State X) (log : List LoggedPiece) (a : ℕ) : Type 0 where

@@ -1,5 +1,5 @@
 -- A durable entry that stands, in the words of the laws on a state.
-use Rattle.std.proofs.Common.{◌≡◌, ◌≢◌, ◌+◌, ◌-◌, ◌<◌, ◌≤◌, ◌^◌, ℕ, zero, suc, List, [], ◌∷◌, Bool, IsTrue, Contains, drop, get_or, length, refl, sym, ap, subst, ◌∙◌, arith}
+use Rattle.std.proofs.Common.{◌≡◌, ◌≢◌, inl, inr, ◌+◌, ◌-◌, ◌<◌, ◌≤◌, ◌^◌, ℕ, zero, suc, List, [], ◌∷◌, Bool, IsTrue, Contains, drop, get_or, length, refl, sym, ap, subst, ◌∙◌, arith}
 use mathlib.Core.Option.{some}
 use mathlib.Core.Logic.{dite}
 use native.Mathlib.Decide.{ℕ_discrete}
@@ -9,13 +9,16 @@ use Rattle.link_word.specs.declared.link.Link.TheVariants.{Last as LastLink, Nex
 use Rattle.rock_disk.specs.Cell.{CellState}
 use Rattle.rebuild_model.specs.Rebuilt.{IsWinner}
 use Rattle.core_model.specs.declared.chain.Chain.{Chain}
+use Rattle.core_model.specs.declared.moves.Side.TheVariants.{Offer}
+use Rattle.core_model.specs.declared.tab.Cell.{Cell}
+use Rattle.core_model.specs.Cells.{IsCell, IsContent}
 use Rattle.core_model.specs.Chains.{first_of, link_at, link_to, no_chain}
 use Rattle.core_model.specs.Layout.{Setting}
 use Rattle.core_model.specs.Offers.{IsNewEntry}
 use Rattle.core_model.specs.Slots.{slot_words, used}
 use Rattle.core_model.specs.Sound.{Sound}
 use Rattle.core_model.specs.Spots.{slots_chained}
-use Rattle.core_model.specs.State.{State, chain_of}
+use Rattle.core_model.specs.State.{State, chain_of, side_word}
 use Rattle.core_model.proofs.Lists.{le_sum_at}
 use Rattle.core_model.proofs.OffersTold.{links_new}
 use Rattle.core_model.proofs.SlotsCounted.{slots_counted}
@@ -24,7 +27,7 @@ use Rattle.core_model.proofs.Tabs.{contains_times}
 use Rattle.core_model.proofs.Telling.{told_out}
 use Rattle.crash_entries.specs.Parts.{KeepsTo}
 use Rattle.crash_entries.proofs.Telling.{Tools}
-use Rattle.crash_laws.specs.Left.{StandsNew, entry_at, part_at}
+use Rattle.crash_laws.specs.Left.{StandsNew, entry_at, part_at, piece_at}
 use Rattle.crash_laws.proofs.Standing.{new_kept}
 use Rattle.store_rule.specs.declared.store.Pass.{Pass}
 use Rattle.store_rule.specs.declared.store.Store.{Store}
@@ -67,7 +70,25 @@ module _ {X : Type 0} (k : Setting X) (s : State X) (so : Sound k s) (a : ℕ) (
   few_chained : length (chain_of s a).slots ≤ k.slots
   few_chained = let all = slots_counted k s so.slots in let c = le_sum_at slots_chained s.chains a (chain_of s a) (item_at s.chains a (let z = so.anchors.shaped.chains in omega arith)) in omega arith
 
+some_inside : (xs : List ℕ) (n t : ℕ) → get_elem? xs n ≡ some t → n < length xs
+some_inside [] zero t e = cc
+some_inside [] (suc n) t e = cc
+some_inside (x ∷ xs) zero t e = omega arith
+some_inside (x ∷ xs) (suc n) t e = let r = some_inside xs n t e in omega arith
+
 module _ (g : Ground (List ℕ)) (s : State (List ℕ)) (rule : Rule g s) (a : ℕ) (lt : a < g.setting.anchors) (h : IsDurableEntry g s rule.logged.log a) where
+  -- of a slot of the entry a crash leaves what is published there
+  pub one_content : (place slot : ℕ) (c : Cell (List ℕ)) (x : List ℕ) → get_elem? (chain_of s a).slots place ≡ some slot → IsCell s slot c → Contains c.possible x → x ≡ c.now
+  one_content place slot c x at is among = image_is x (rule.logged.stands.settled a place slot c x lt at is among (inr (h.durable place (some_inside (chain_of s a).slots place slot at))))
+      ∙ sym (image_is c.now (rule.sound.cells.contents.published a place slot c lt at is))
+    where
+      offer_is : g.setting.slots ≤ side_word g.setting s Offer a
+      offer_is = rule.sound.cells.names.offers a lt h.some_slot h.new
+
+      image_is : (y : List ℕ) → IsContent g.setting s a place slot y → y ≡ g.setting.image (piece_at g.setting s a place)
+      image_is y (inl old) = absurd (let z = offer_is in let w = old.0 in omega arith)
+      image_is y (inr new) = new.1
+
   new : IsNewEntry (offering_of g) g.setting s a
   new = rule.offered.new a lt h.some_slot h.new
 

@@ -2,3 +2,4 @@ pub mod Over
 pub mod Closed
 pub mod Durable
 pub mod Kept
+pub mod Finished

@@ -1,17 +1,24 @@
 // The laws on what a crash leaves of a running store.
-ghost use Rattle.std.specs.Prelude.{IsTrue, List, length, map, ◌<◌, ◌^◌, ◌≡◌, ◌≤◌, ◌⊎◌, ℕ};
+ghost use Rattle.std.specs.Prelude.{Contains, IsTrue, List, length, map, ◌<◌, ◌^◌, ◌≡◌, ◌≤◌, ◌⊎◌, ℕ};
 ghost use Rattle.lock_word.specs.Words.{epoch_of, version_of};
 ghost use Rattle.std.specs.Global.{Vec};
+ghost use mathlib.Core.Option.{some};
+ghost use lib.ListN.{get_elem?};
+ghost use Rattle.core_model.specs.Cells.{IsCell};
+ghost use Rattle.core_model.specs.declared.tab.Cell.{Cell as CoreCell};
 ghost use Rattle.rock_disk.specs.Crash.{IsCrashImage};
 ghost use Rattle.core_model.specs.declared.view.View.{View};
 ghost use Rattle.core_model.specs.State.{State, chain_of, word};
 ghost use Rattle.rebuild_model.specs.Entry.{Entry, IsComplete};
 ghost use Rattle.store_rule.specs.Closing.{Closed};
-ghost use Rattle.store_rule.specs.Ground.{Rule};
+ghost use Rattle.store_rule.specs.Ground.{Ground, Rule};
 ghost use Rattle.store_rule.specs.Passes.{basis};
 ghost use Rattle.rock_open.specs.Opening.{IsStoreOver};
 ghost use Rattle.rebuild_model.specs.Rebuilt.{IsWinner};
 ghost use Rattle.crash_laws.specs.Left.{entry_at};
+ghost use Rattle.rock_writer.specs.Durable.{LoggedWhole};
+ghost use Rattle.rock_writer.specs.Entries.{Entry as Written};
+ghost use Rattle.crashed_stores.specs.Finished.{AreSeen, IsFoundIn};
 ghost use Rattle.crashed_stores.specs.Left.{IsDurableEntry, IsLeftOf, IsOfOrigin, bytes_now, offers_in};
 
 use db_layout::MOST_SLOTS;
@@ -48,6 +55,39 @@ pub fn durable_entries_outlive_crashes<C: Cell, O: Origin>()
         → (rule : Rule (basis C.tells C.state O.offers store) s) → IsLeftOf (basis C.tells C.state O.offers store) s rule.logged.log images
         → a < anchors → IsDurableEntry (basis C.tells C.state O.offers store) s rule.logged.log a
         → IsWinner slot images anchors a (entry_at slot (offers_in (basis C.tells C.state O.offers store)) (basis C.tells C.state O.offers store).setting s a) }
+{
+    images_are_read_as_built();
+    keys_have_16_bytes();
+    one_entry_at_a_slot();
+    pieces_make_the_content();
+    placed_pieces_are_an_entry();
+    written_meta_is_spelled();
+}
+
+/// Of each slot of such an entry a crash leaves only what is published there.
+pub fn durable_slots_have_one_content()
+    ensures { (g : Ground (List ℕ)) (s : State (List ℕ)) (a place slot : ℕ) (c : CoreCell (List ℕ)) (x : List ℕ) → (rule : Rule g s)
+        → a < g.setting.anchors → IsDurableEntry g s rule.logged.log a → get_elem? (chain_of s a).slots place ≡ some slot → IsCell s slot c
+        → Contains c.possible x → x ≡ c.now }
+{}
+
+/// An entry of which a pass knew, with this view, each piece as logged and as durable, and that all of them were
+/// published, is durable in each later state in which its version stands with its slots. So it is of an entry that
+/// `rock_writer::finish` closed as durable.
+pub fn finished_entries_are_durable()
+    ensures { (g : Ground (List ℕ)) (entry : Written) (v : View (List ℕ)) (s : State (List ℕ)) → LoggedWhole g entry v → AreSeen s v
+        → (rule : Rule g s) → version_of (epoch_of (word s entry.anchor)) ≡ entry.version → 0 < length (chain_of s entry.anchor).slots
+        → IsDurableEntry g s rule.logged.log entry.anchor }
+{}
+
+/// So it is in all that a crash may leave then, with its URL and its whole body, and a rebuild keeps it at its anchor.
+pub fn finished_entries_outlive_crashes<C: Cell, O: Origin>()
+    ensures { (slot anchors many : ℕ) (origin : O) (cells : List C) (store : Store C O) (passes : Vec (Pass C)) (s : State (List ℕ)) (images : List (List ℕ)) (entry : Written) (v : View (List ℕ))
+        → IsTrue C.tells → slot < 2 ^ 32 → length cells ≤ MOST_SLOTS → IsStoreOver C.tells C.state O.offers slot anchors many origin cells store passes
+        → (rule : Rule (basis C.tells C.state O.offers store) s) → IsLeftOf (basis C.tells C.state O.offers store) s rule.logged.log images
+        → LoggedWhole (basis C.tells C.state O.offers store) entry v → AreSeen s v
+        → version_of (epoch_of (word s entry.anchor)) ≡ entry.version → 0 < length (chain_of s entry.anchor).slots
+        → IsFoundIn slot anchors (basis C.tells C.state O.offers store) entry images }
 {
     images_are_read_as_built();
     keys_have_16_bytes();
