@@ -4,10 +4,12 @@ use Rattle.std.specs.Prelude.{Err, IsErrOf, Result}
 use Rattle.rock_disk.specs.Cell.{CellState}
 use Rattle.store_rule.specs.declared.store.Pass.{Pass}
 use Rattle.store_rule.specs.declared.store.Store.{Store}
-use Rattle.store_rule.specs.Ground.{Offers}
+use Rattle.core_model.specs.declared.view.View.{View}
+use Rattle.store_rule.specs.Ground.{Ground, Offers}
 use Rattle.store_rule.specs.Passes.{IsOf}
 use Rattle.rock_writer.specs.declared.fault.WriteFault.{WriteFault}
 use Rattle.rock_writer.specs.Appending.{Appended, MayAppend, NotAppended}
+use Rattle.rock_writer.specs.Durable.{LoggedSoFar}
 use Rattle.rock_writer.specs.Entries.{Entry, WritesAs, with_taken}
 use Rattle.rock_writer.specs.Passes.{FollowsWriting}
 use Rattle.store_serve.specs.Adding.{Added, MayAdd, NotAdded, StoppedBelow, taken_on}
@@ -18,6 +20,10 @@ same_error e = cc
 -- an error is one of every such result
 pub error_as : {T U E : Type 0} {f g : E} → IsErrOf {T = T} (Err f) g → IsErrOf {T = U} (Err f) g
 error_as w = ap Err (same_error w)
+
+-- what is known where so many bytes were taken
+pub more_taken : {X : Type 0} (g : Ground X) (e : Entry) (v : View X) (n m : ℕ) → n ≡ m → LoggedSoFar g (with_taken e n) v → LoggedSoFar g (with_taken e m) v
+more_taken g e v n m same h = subst (λ (k : ℕ). LoggedSoFar g (with_taken e k) v) same h
 
 module _ {C O : Type 0} (tells : Bool) (state : C → CellState) (offers : O → Offers) (s : Store C O) (t : ℕ) where
   -- these are the next bytes of the body

@@ -3,13 +3,13 @@ use Rattle.std.specs.Prelude.{Bool, List, length, ◌-◌, ◌≡◌, ◌⊎◌,
 use Rattle.rock_disk.specs.Cell.{CellState}
 use Rattle.store_rule.specs.declared.store.Pass.{Pass}
 use Rattle.store_rule.specs.declared.store.Store.{Store}
-use Rattle.store_rule.specs.Ground.{Offers, anchor_for}
+use Rattle.store_rule.specs.Ground.{Ground, Offers, anchor_for}
 use Rattle.store_rule.specs.Passes.{basis, view}
 use Rattle.rock_writer.specs.declared.fault.Ended.{Ended}
 use Rattle.rock_writer.specs.declared.fault.WriteFault.{WriteFault}
 use Rattle.rock_writer.specs.Beginning.{Began, NotTaken, begun}
 use Rattle.rock_writer.specs.Entries.{Entry, body_in}
-use Rattle.rock_writer.specs.Finishing.{Finished, NotFinished}
+use Rattle.rock_writer.specs.Finishing.{Finished, NotFinished, version_of}
 use Rattle.store_serve.specs.declared.storing.PutFault.{PutFault}
 use Rattle.store_serve.specs.declared.storing.PutFault.TheVariants.{Begin, Write}
 use Rattle.store_serve.specs.Adding.{Added, NotAdded, taken_on}
@@ -57,6 +57,16 @@ module _ {C O : Type 0} (tells : Bool) (state : C → CellState) (offers : O →
     abbrev pub NotPut : PutFault → Type 0
     NotPut (Begin fault) = NotTaken (basis tells state offers s) t (anchor_for (basis tells state offers s) url) (view p) fault (view q)
     NotPut (Write fault) = GaveUpPut fault
+
+-- the entry that was put, with its whole body taken
+abbrev pub put_as : {X : Type 0} → Ground X → (offer : ℕ) (url : List ℕ) (durable : Bool) → Ended → Entry
+put_as g offer url durable ended = record {
+  anchor = anchor_for g url;
+  version = version_of ended;
+  offer = offer;
+  is_durable = durable;
+  taken = length (g.offers.body (offer - g.setting.slots));
+}
 
 -- where no entry was begun, the place where the next search for an entry to evict begins is as it was
 abbrev pub StaysUnlessBegun : PutFault → (hand hand_after : ℕ) → Type 0

@@ -1,11 +1,13 @@
 // Bytes of a body are appended to the entry that a tab writes.
-ghost use Rattle.std.specs.Prelude.{IfErr, IfOk, IsErrOf, List, length, ◌+◌, ◌-◌, ◌<◌, ◌≡◌, ◌≤◌, ℕ};
+ghost use Rattle.std.specs.Prelude.{IfErr, IfOk, IsErrOf, List, OnOk, length, ◌+◌, ◌-◌, ◌<◌, ◌≡◌, ◌≤◌, ℕ};
 ghost use Rattle.plain_model.specs.Serving.{bytes_of};
 ghost use Rattle.rock_io.specs.Faults.{Rose};
 ghost use Rattle.rock_writer.specs.Appending.{Appended, NotAppended};
+ghost use Rattle.rock_writer.specs.Durable.{LoggedSoFar};
 ghost use Rattle.rock_writer.specs.Entries.{Entry};
 ghost use Rattle.rock_writer.specs.Passes.{FollowsWriting};
-ghost use Rattle.store_serve.specs.Adding.{Added, MayAdd, NotAdded, StoppedBelow};
+ghost use Rattle.store_rule.specs.Passes.{basis, view};
+ghost use Rattle.store_serve.specs.Adding.{Added, MayAdd, NotAdded, StoppedBelow, taken_on};
 
 use crate::bodies::{PIECE, letters};
 use rock_disk::{Cell, Station};
@@ -30,6 +32,9 @@ pub fn add_bytes<C: Cell, O: Origin, St: Station<C = C>>(
     requires { (e : Entry) × MayAdd C.tells C.state O.offers store.now tab e (bytes_of body.now) from upto pass.old }
     ensures ok { (e : Entry) → MayAdd C.tells C.state O.offers store.now tab e (bytes_of body.now) from upto pass.old
         → IfOk result (λ done. Added C.tells C.state O.offers store.now tab e pass.old pass.new (upto - from)) }
+    ensures durable { (e : Entry) → MayAdd C.tells C.state O.offers store.now tab e (bytes_of body.now) from upto pass.old
+        → LoggedSoFar (basis C.tells C.state O.offers store.now) e (view pass.old)
+        → OnOk result (LoggedSoFar (basis C.tells C.state O.offers store.now) (taken_on e (upto - from)) (view pass.new)) }
     ensures err { (e : Entry) → MayAdd C.tells C.state O.offers store.now tab e (bytes_of body.now) from upto pass.old
         → IfErr result (λ fault. NotAdded C.tells C.state O.offers store.now tab e pass.old pass.new fault) }
     ensures fewer { (e : Entry) → MayAdd C.tells C.state O.offers store.now tab e (bytes_of body.now) from upto pass.old
@@ -62,6 +67,9 @@ fn append_some<C: Cell, O: Origin, St: Station<C = C>>(
     requires some { from < upto }
     ensures ok { (e : Entry) → MayAdd C.tells C.state O.offers store.now tab e (bytes_of body.now) from upto pass.old
         → IfOk result (λ count. (bytes : List ℕ) × Appended C.tells C.state O.offers store.now tab e bytes pass.old pass.new count) }
+    ensures durable { (e : Entry) → MayAdd C.tells C.state O.offers store.now tab e (bytes_of body.now) from upto pass.old
+        → LoggedSoFar (basis C.tells C.state O.offers store.now) e (view pass.old)
+        → IfOk result (λ count. LoggedSoFar (basis C.tells C.state O.offers store.now) (taken_on e count) (view pass.new)) }
     ensures some { IfOk result (λ count. (0 < count) × (from + count ≤ upto)) }
     ensures err { (e : Entry) → MayAdd C.tells C.state O.offers store.now tab e (bytes_of body.now) from upto pass.old
         → IfErr result (λ fault. (bytes : List ℕ) × NotAppended C.tells C.state O.offers store.now tab e bytes pass.old pass.new fault) }

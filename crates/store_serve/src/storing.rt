@@ -1,15 +1,16 @@
 // An entry is written to its end, and a response is stored whole.
-ghost use Rattle.std.specs.Prelude.{IfErr, IfOk, IsErrOf, OnErr, length, ◌-◌, ◌≡◌, ◌↔◌, ℕ};
+ghost use Rattle.std.specs.Prelude.{IfErr, IfOk, IsErrOf, OnErr, OnOk, length, true, ◌-◌, ◌≡◌, ◌↔◌, ℕ};
 ghost use Rattle.core_model.specs.Tabs.{InnerIsFree, tab_at};
 ghost use Rattle.core_model.specs.declared.tab.Tab.TheVariants.{Free};
 ghost use Rattle.plain_model.specs.Serving.{bytes_of};
 ghost use Rattle.rock_io.specs.Faults.{Rose};
 ghost use Rattle.rock_writer.specs.Beginning.{IsTooLong, MayBegin};
-ghost use Rattle.rock_writer.specs.Entries.{Entry};
+ghost use Rattle.rock_writer.specs.Durable.{ClosedDurably, LoggedSoFar};
+ghost use Rattle.rock_writer.specs.Entries.{Entry, with_taken};
 ghost use Rattle.rock_writer.specs.Passes.{FollowsWriting};
 ghost use Rattle.store_rule.specs.Passes.{basis, view};
 ghost use Rattle.store_serve.specs.Adding.{MayAdd};
-ghost use Rattle.store_serve.specs.Storing.{EndedWhole, NotEnded, NotPut, PutWhole, StaysUnlessBegun};
+ghost use Rattle.store_serve.specs.Storing.{EndedWhole, NotEnded, NotPut, PutWhole, StaysUnlessBegun, put_as};
 
 use crate::adding::add_bytes;
 use crate::bodies::body_length;
@@ -44,6 +45,9 @@ pub fn end_entry<C: Cell, O: Origin, St: Station<C = C>>(
     requires { (e : Entry) × MayAdd C.tells C.state O.offers store.now tab e (bytes_of body.now) from (length (bytes_of body.now)) pass.old }
     ensures ok { (e : Entry) → MayAdd C.tells C.state O.offers store.now tab e (bytes_of body.now) from (length (bytes_of body.now)) pass.old
         → IfOk result (λ ended. EndedWhole C.tells C.state O.offers store.now tab e pass.old pass.new ended) }
+    ensures durable { (e : Entry) → MayAdd C.tells C.state O.offers store.now tab e (bytes_of body.now) from (length (bytes_of body.now)) pass.old
+        → e.is_durable ≡ true → LoggedSoFar (basis C.tells C.state O.offers store.now) e (view pass.old)
+        → OnOk result (ClosedDurably (basis C.tells C.state O.offers store.now) tab (with_taken e (length (bytes_of body.now))) (view pass.new)) }
     ensures err { (e : Entry) → MayAdd C.tells C.state O.offers store.now tab e (bytes_of body.now) from (length (bytes_of body.now)) pass.old
         → IfErr result (λ fault. NotEnded C.tells C.state O.offers store.now tab e pass.old pass.new fault) }
     ensures free { tab_at (view pass.new) tab ≡ Free }
@@ -79,6 +83,8 @@ pub fn put_entry<C: Cell, O: Origin, St: Station<C = C>>(
     requires may { MayBegin C.tells C.state O.offers store.now pass.old tab offer url.now }
     requires body { (basis C.tells C.state O.offers store.now).offers.body (offer - (basis C.tells C.state O.offers store.now).setting.slots) ≡ bytes_of body.now }
     ensures ok { IfOk result (λ ended. PutWhole C.tells C.state O.offers store.now tab offer url.now durable pass.old pass.new ended) }
+    ensures durable { durable ≡ true
+        → IfOk result (λ ended. ClosedDurably (basis C.tells C.state O.offers store.now) tab (put_as (basis C.tells C.state O.offers store.now) offer url.now durable ended) (view pass.new)) }
     ensures err { IfErr result (λ fault. NotPut C.tells C.state O.offers store.now tab offer url.now durable pass.old pass.new fault) }
     ensures long { IsErrOf result (PutFault.Begin BeginFault.LongUrl) ↔ IsTooLong (basis C.tells C.state O.offers store.now) url.now }
     ensures stays { IfErr result (λ fault. StaysUnlessBegun fault pass.old.hand pass.new.hand) }

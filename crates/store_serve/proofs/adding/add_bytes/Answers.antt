@@ -1,7 +1,8 @@
 use Rattle.std.proofs.Common.{arith, refl, subst, ◌∙◌, ℕ}
 use Rattle.rock_io.specs.Faults.{Rose}
 use Rattle.store_serve.specs.Adding.{Added}
-use Rattle.store_serve.proofs.Adds.{added_below, added_none, added_not, added_on, adds_still, error_as, follows_none, follows_on}
+use Rattle.store_rule.specs.Passes.{basis, view}
+use Rattle.store_serve.proofs.Adds.{added_below, added_none, added_not, added_on, adds_still, error_as, follows_none, follows_on, more_taken}
 use Rattle.store_serve.proofs.adding.add_bytes.Goals as goal
 
 pub loop-taken-init : goal.loop-taken-init
@@ -9,6 +10,7 @@ loop-taken-init g c = let may = c.requires.1 in record {
   over = omega arith;
   under = may.order;
   added = λ e h. added_none g.C.Cell.tells g.C.Cell.state g.O.Origin.offers c.args.store.now c.args.tab e c.args.pass.now h.writes _ (omega arith);
+  durable = λ e h logged. more_taken (basis g.C.Cell.tells g.C.Cell.state g.O.Origin.offers c.args.store.now) e (view c.args.pass.now) e.taken _ (omega arith) logged;
   follows = follows_none g.C.Cell.tells g.C.Cell.state g.O.Origin.offers c.args.store.now c.args.tab c.args.pass.now may.writes.rests.own;
   station = refl;
 }
@@ -24,6 +26,9 @@ loop-taken-preserved g c = let i = c.loop-taken.invariant in let ok = c.in-Ok.en
   added = λ e may. let a = i.added e may in
       let h = ok.ok _ (adds_still g.C.Cell.tells g.C.Cell.state g.O.Origin.offers c.args.store.now c.args.tab e c.args.pass.now _ c.args.from c.args.upto c.loop-taken.taken c.loop-taken.pass may i.over i.under a) in
       added_on g.C.Cell.tells g.C.Cell.state g.O.Origin.offers c.args.store.now c.args.tab e c.args.pass.now c.loop-taken.pass c.append_some.new.pass _ c.in-Ok.count _ h.0 a h.1 (let over = i.over in omega arith);
+  durable = λ e may logged. let i = c.loop-taken.invariant in let a = i.added e may in
+      let d = ok.durable _ (adds_still g.C.Cell.tells g.C.Cell.state g.O.Origin.offers c.args.store.now c.args.tab e c.args.pass.now _ c.args.from c.args.upto c.loop-taken.taken c.loop-taken.pass may i.over i.under a) (i.durable e may logged) in
+      more_taken (basis g.C.Cell.tells g.C.Cell.state g.O.Origin.offers c.args.store.now) e (view c.append_some.new.pass) _ _ (let over = i.over in omega arith) d;
   follows = follows_on g.C.Cell.tells g.C.Cell.state g.O.Origin.offers c.args.store.now c.args.tab c.args.pass.now c.loop-taken.pass c.append_some.new.pass i.follows ok.others;
   station = ok.unfailed (λ w. cc) ∙ i.station;
 }
@@ -51,3 +56,7 @@ returns-in-Err-clause-failed g c w = subst (λ z. Rose z (g.St.Station.faults c.
 pub returns-clause-ok : goal.returns-clause-ok
 returns-clause-ok g c e may = let i = c.loop-taken.invariant in
     subst (λ (n : ℕ). Added g.C.Cell.tells g.C.Cell.state g.O.Origin.offers c.args.store.now c.args.tab e c.args.pass.now c.loop-taken.pass n) (let over = i.under in let past = c.loop-taken-test.false in omega arith) (i.added e may)
+
+pub returns-clause-durable : goal.returns-clause-durable
+returns-clause-durable g c e may logged = let i = c.loop-taken.invariant in
+    more_taken (basis g.C.Cell.tells g.C.Cell.state g.O.Origin.offers c.args.store.now) e (view c.loop-taken.pass) _ _ (let over = i.under in let past = c.loop-taken-test.false in omega arith) (i.durable e may logged)

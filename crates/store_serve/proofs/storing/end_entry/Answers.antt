@@ -1,8 +1,12 @@
-use Rattle.std.proofs.Common.{inl, inr, subst, ◌∙◌}
+use Rattle.std.proofs.Common.{ap, inl, inr, subst, ◌+◌, ◌∙◌, ℕ}
+use Rattle.std.specs.Prelude.{OnOk}
 use Rattle.std.proofs.lemmas.Result.{IfErr-weaker, IfOk-weaker}
 use Rattle.rock_io.specs.Faults.{Rose}
-use Rattle.store_serve.proofs.Adds.{error_as, follows_on}
-use Rattle.store_serve.proofs.Ends.{added_all, either_free, may_all, may_finish}
+use Rattle.rock_writer.specs.Durable.{ClosedDurably}
+use Rattle.rock_writer.specs.Entries.{with_taken}
+use Rattle.store_rule.specs.Passes.{basis, view}
+use Rattle.store_serve.proofs.Adds.{error_as, follows_on, more_taken}
+use Rattle.store_serve.proofs.Ends.{added_all, all_is, either_free, left_is, may_all, may_finish}
 use Rattle.store_serve.proofs.storing.end_entry.Goals as goal
 
 pub finish-requires : goal.finish-requires
@@ -70,3 +74,12 @@ returns-in-Err-clause-free g c = let whole = c.body_length-upto.ensures in
 pub returns-in-Err-clause-inner : goal.returns-in-Err-clause-inner
 returns-in-Err-clause-inner g c = let whole = c.body_length-upto.ensures in
     let h = c.in-Err.ensures.err c.requires.0 (may_all g.C.Cell.tells g.C.Cell.state g.O.Origin.offers c.args.store.now c.args.tab c.requires.0 _ c.args.from c.body_length-upto.result c.args.pass.now c.requires.1 whole) in h.stopped.halts.parted.inner_free
+
+pub returns-in-Ok-clause-durable : goal.returns-in-Ok-clause-durable
+returns-in-Ok-clause-durable g c e may durable logged = let whole = c.body_length-upto.ensures in
+    let h = added_all g.C.Cell.tells g.C.Cell.state g.O.Origin.offers c.args.store.now c.args.tab e _ c.args.from c.body_length-upto.result c.args.pass.now may whole c.add_bytes.new.pass
+    (c.in-Ok.ensures.ok e (may_all g.C.Cell.tells g.C.Cell.state g.O.Origin.offers c.args.store.now c.args.tab e _ c.args.from c.body_length-upto.result c.args.pass.now may whole)) in
+    let f = may_finish g.C.Cell.tells g.C.Cell.state g.O.Origin.offers c.args.store.now c.args.tab e _ c.args.from c.body_length-upto.result c.args.pass.now may whole c.add_bytes.new.pass h in
+    let so_far = more_taken (basis g.C.Cell.tells g.C.Cell.state g.O.Origin.offers c.args.store.now) e (view c.add_bytes.new.pass) _ _ (ap (λ (n : ℕ). e.taken + n) (left_is g.C.Cell.tells g.C.Cell.state g.O.Origin.offers c.args.store.now c.args.tab e _ c.args.from c.body_length-upto.result c.args.pass.now may whole))
+    (c.in-Ok.ensures.durable e (may_all g.C.Cell.tells g.C.Cell.state g.O.Origin.offers c.args.store.now c.args.tab e _ c.args.from c.body_length-upto.result c.args.pass.now may whole) logged) in
+    subst (λ (n : ℕ). OnOk c.finish.result (ClosedDurably (basis g.C.Cell.tells g.C.Cell.state g.O.Origin.offers c.args.store.now) c.args.tab (with_taken e n) (view c.finish.new.pass))) (all_is g.C.Cell.tells g.C.Cell.state g.O.Origin.offers c.args.store.now c.args.tab e _ c.args.from c.body_length-upto.result c.args.pass.now may whole) (c.finish.ensures.durable _ f durable so_far)
