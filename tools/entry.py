@@ -134,7 +134,7 @@ def compare(entries, name, slot, word):
         return
     found, listed = [entry.line() for entry in entries], listed_by(program, name, slot, word)
     if found != listed:
-        raise Ended(DIFFERENT, f"of {word} rock list has {len(listed)} lines, and {len(found)} entries were found that are others")
+        raise Ended(DIFFERENT, f"rock list has other lines of {word}: {len(listed)}, where {len(found)} entries were found")
 
 
 # Writing the body.
