@@ -74,23 +74,22 @@ refused 'a help text without one command makes nothing' 1 'standard input is not
 refused 'another shell is none' 2 'the only word is bash, zsh or --help' help fish
 refused 'no word is none' 2 'the only word is bash, zsh or --help' help
 
-# What bash offers in a folder with two files and a folder, one word a line in any order; the last word is completed.
-mkdir here && touch 'here/a file' here/db && mkdir here/data
+# What bash offers, one word a line in any order, or that it is told to offer files; the last word is completed.
 offers() {
     local wanted=$1
     shift
-    (cd here && bash --norc -c '. "$0" && COMP_WORDS=("$@") COMP_CWORD=$(($# - 1)) && _rock &&
-        printf "%s\n" "${COMPREPLY[@]}"' "$bash_words" "$@") | sort >offered
-    printf '%s\n' "$wanted" | sort | cmp -s - offered
+    bash --norc -c 'compopt() { [ "$*" = "-o default" ] && printf "files\n"; }
+        . "$0" && COMP_WORDS=("$@") COMP_CWORD=$(($# - 1)) && _rock && [ ${#COMPREPLY[@]} -eq 0 ] ||
+        printf "%s\n" "${COMPREPLY[@]}"' "$bash_words" "$@" | sort >offered
+    printf '%s' "$wanted" | sort | cmp -s - offered
     holds $? "bash behind '${*:1:$#-1}' with '${!#}': $(tr '\n' '|' <offered)"
 }
-offers $'create\nlist\ncheck\nrun\nbench\n--help\n--version' rock ''
-offers $'create\ncheck' rock c
-offers $'--help\n--version' rock --
+offers $'create\nlist\ncheck\nrun\nbench\n--help\n--version\n' rock ''
+offers $'create\ncheck\n' rock c
+offers $'--help\n--version\n' rock --
 offers '' rock x
-offers $'a file\ndb\ndata' rock create ''
 for command in create list check run bench; do
-    offers $'db\ndata' rock $command d
+    offers $'files\n' rock $command d
     offers '' rock $command db d
 done
 offers '' rock run db 512 d

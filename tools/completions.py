@@ -72,10 +72,7 @@ _rock() {{
     COMPREPLY=()
     case ${{COMP_WORDS[1]}}:$COMP_CWORD in
     *:1) mapfile -t COMPREPLY < <(compgen -W {quoted(first)} -- "$word") ;;
-    {" | ".join(said.places("NAME"))})
-        compopt -o filenames 2>/dev/null
-        mapfile -t COMPREPLY < <(compgen -f -- "$word")
-        ;;
+    {" | ".join(said.places("NAME"))}) compopt -o default ;;
     esac
 }}
 complete -F _rock rock

@@ -4,10 +4,7 @@ _rock() {
     COMPREPLY=()
     case ${COMP_WORDS[1]}:$COMP_CWORD in
     *:1) mapfile -t COMPREPLY < <(compgen -W 'create list check run bench --help --version' -- "$word") ;;
-    create:2 | list:2 | check:2 | run:2 | bench:2)
-        compopt -o filenames 2>/dev/null
-        mapfile -t COMPREPLY < <(compgen -f -- "$word")
-        ;;
+    create:2 | list:2 | check:2 | run:2 | bench:2) compopt -o default ;;
     esac
 }
 complete -F _rock rock
