@@ -18,7 +18,7 @@ Exit status:
   1  there is no such complete entry
   2  the words are wrong, the file can't be read, or standard output did not take the body
   3  `rock list` has other lines, or failed; nothing was written
-At any but 0 one line on standard error says why.
+At any but 0 one line on standard error says why, at 3 behind what `rock list` said itself.
 """
 import os
 import subprocess
