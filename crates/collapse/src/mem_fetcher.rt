@@ -77,6 +77,7 @@ impl Fetcher for MemFetcher {
         ensures listed { FailsNext self.old → IsErr result }
         ensures unlisted { OnErr result (FailsNext self.old ⊎ IsSpent self.old) }
         ensures spent { IsSpent self.old → IsErr result }
+        ensures kept { OnErr result (left_of self.new ≡ left_of self.old) }
         ensures calls { calls_of self.new ≡ one_more (calls_of self.old) }
         ensures counted { CountsFault result (faults_of self.old) (faults_of self.new) }
         ensures settings { SameSettings self.old self.new }
