@@ -12,8 +12,14 @@ use std::alloc::Global;
 use std::test::Fail;
 
 /// A volume whose call of this number fails, with a file "db" of so many bytes. Its first ones stand in hexadecimal, and
-/// the others are 0xee. Where there are to be none, there is no file.
-fn volume_of(alloc: Global, size: &str, front: &str, fails: &str) -> Result<MemVolume, Fail>
+/// all others are this byte. Where there are to be none, there is no file.
+pub(crate) fn volume_of(
+    alloc: Global,
+    size: &str,
+    front: &str,
+    other: &str,
+    fails: &str,
+) -> Result<MemVolume, Fail>
     ensures { IfOk result (λ volume. NoneAway (volume_files volume)) }
 {
     let mut fail = Vec::new(alloc);
@@ -21,7 +27,7 @@ fn volume_of(alloc: Global, size: &str, front: &str, fails: &str) -> Result<MemV
     let mut volume = MemVolume::new(alloc, fail, Vec::new(alloc));
     if size != "none" {
         let mut bytes = hex::decode(alloc, front)?;
-        bytes.resize(size.parse()?, 0xee)?;
+        bytes.resize(size.parse()?, other.parse()?)?;
         volume.put_file("db", &bytes)?;
     }
     Ok(volume)
@@ -42,7 +48,7 @@ fn given_of(word: &str) -> Result<Option<u32>, Fail>
 }
 
 // How many bytes a file has and its first ones, the number of the call of its volume that fails, the slot size that is given,
-// and what is found. 9 is the number of no call.
+// and what is found. The other bytes are 238. 9 is the number of no call.
 const FOUND: &str = "\
 none;;9;-;Missing
 none;;9;512;Missing
@@ -99,7 +105,7 @@ fn slot_sizes_are_found_as_tabled(rt: HostRuntime) -> Result<(), Fail> {
         let (fails, rest) = fields(rest)?;
         let (given, wanted) = fields(rest)?;
         let given = given_of(given)?;
-        let mut volume = volume_of(alloc, size, front, fails)?;
+        let mut volume = volume_of(alloc, size, front, "238", fails)?;
         assert_eq!(rt; found(alloc, &mut volume, given)?.as_str(), wanted, "{row}");
     }
     Ok(())
@@ -140,7 +146,7 @@ fn header_areas_are_seen_as_tabled(rt: HostRuntime) -> Result<(), Fail> {
         let (size, rest) = fields(row)?;
         let (front, rest) = fields(rest)?;
         let (fails, wanted) = fields(rest)?;
-        let mut volume = volume_of(alloc, size, front, fails)?;
+        let mut volume = volume_of(alloc, size, front, "238", fails)?;
         assert_eq!(rt; seen(alloc, &mut volume)?.as_str(), wanted, "{row}");
     }
     Ok(())

@@ -1,11 +1,13 @@
-//! Tests of complete entries and of what a rebuild keeps: as plain functions tell it, and as a scan finds it. And of the slot
-//! size of a file, as its header area and what is given tell it.
+//! Tests of complete entries and of what a rebuild keeps: as plain functions tell it, and as a scan finds it. Of the slot size
+//! of a file, as its header area and what is given tell it. And of reports of a file by that slot size.
 #![tactic(auto)]
 
 #[cfg(test)]
 mod entries;
 #[cfg(test)]
 mod finding;
+#[cfg(test)]
+mod reports;
 #[cfg(test)]
 mod rows;
 #[cfg(test)]
