@@ -15,7 +15,7 @@ folder=$(mktemp -d) || exit 1
 full=$folder/full
 trap 'mountpoint -q "$full" && umount "$full"; chmod -R u+rwx "$folder"; rm -rf "$folder"' EXIT
 chmod 755 "$folder"
-cp "$program" "$folder/rock" || exit 1
+install -m 755 "$program" "$folder/rock" || exit 1
 cd "$folder" || exit 1
 
 passed=0
