@@ -5,9 +5,11 @@
 mod lines;
 mod lying;
 mod meetings;
+mod offers;
 mod rules;
 
 pub use lines::{Asked, Kind, WORKERS, lines_about, script_of};
 pub use lying::{Liar, Lying, Veiled};
 pub use meetings::{Meeting, MeetingStation, Part};
+pub use offers::Offers;
 pub use rules::judge;

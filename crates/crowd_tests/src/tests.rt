@@ -1,4 +1,5 @@
 mod calls;
+mod crashing;
 mod crowd;
 mod lying;
 mod meeting;

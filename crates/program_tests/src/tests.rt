@@ -1,5 +1,6 @@
 mod benching;
 mod calls;
+mod crashes;
 mod cutting;
 mod entries;
 mod faults;

@@ -19,7 +19,7 @@ pub fn file_of(alloc: Global, lines: &str) -> Result<Vec<u8>, Fail> {
 }
 
 /// A file of a header area and no slot.
-fn empty_file(alloc: Global) -> Result<Vec<u8>, AllocError> {
+pub(crate) fn empty_file(alloc: Global) -> Result<Vec<u8>, AllocError> {
     let mut file = Vec::new(alloc);
     file.resize(HEADER, 0)?;
     Ok(file)

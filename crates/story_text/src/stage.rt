@@ -11,6 +11,10 @@
 // - `has NAME SLOTS`, `lacks NAME`: the file is there, with so many slots where these are told, or is not.
 // - `bytes NAME SLOT AT HEX`: the bytes of a slot of a file, from a place on.
 // - `possible NAME SLOT COUNT`: how many contents of a slot a crash may leave.
+// - `images NAME MOST`: all files that a crash may leave of this file, at most so many: of each slot any content that it may
+//   leave, in each combination. Each of them is listed. The lines below tell the lines of the listings: `all ENTRY ..` stands in
+//   each of them, `some ENTRY ..` in at least one and not in all, and no other line stands in any. Where a command opened the file
+//   after the run, it has forgotten what a crash may leave: so this, and `possible`, stand before it is listed.
 // - Anything else is a command line, which is carried out. `(no words)` is the empty one.
 //
 // The lines below a command line:
@@ -28,8 +32,10 @@ ghost use Rattle.rock_disk.specs.Memory.{volume_files};
 
 use crate::act::Act;
 use crate::files::file_of;
+use crate::images::Images;
+use crate::listings::Listings;
 use crate::looks::holds;
-use crate::numbers::{calls_of, stations_of, wrong};
+use crate::numbers::{calls_of, number, stations_of, wrong};
 use crate::paragraphs::uncommented;
 use crate::pipes::{Pipes, pipes_of};
 use rock_disk::MemVolume;
@@ -89,6 +95,22 @@ impl Command<'_> {
     }
 }
 
+/// What a crash may leave of a file, and what the listings of that are to have.
+#[derive(Drop)]
+pub struct Crashes<'a> {
+    /// The line as the story has it.
+    pub line: &'a str,
+    pub images: Images,
+    pub listings: Listings,
+}
+
+/// What a test is to do itself: to carry out a command, or to list files.
+#[derive(Drop)]
+pub enum Task<'a> {
+    Command(Command<'a>),
+    Crashes(Crashes<'a>),
+}
+
 /// A volume, and what the commands of a story run over beside it.
 #[derive(Drop)]
 pub struct Stage {
@@ -118,12 +140,8 @@ impl Stage {
         self.commands
     }
 
-    /// Does what a paragraph says. Where it is a command, this is to be carried out over the volume.
-    pub fn play<'a>(
-        &mut self,
-        alloc: Global,
-        paragraph: &'a str,
-    ) -> Result<Option<Command<'a>>, Fail>
+    /// Does what a paragraph says, or answers what is to be done by the test. A command is to be carried out over the volume.
+    pub fn play<'a>(&mut self, alloc: Global, paragraph: &'a str) -> Result<Option<Task<'a>>, Fail>
         requires { NoneAway (volume_files self.old.volume) }
         ensures { NoneAway (volume_files self.new.volume) }
     {
@@ -138,7 +156,14 @@ impl Stage {
             }
             "pipes" => self.pipes = pipes_of(alloc, rest)?,
             "has" | "lacks" | "bytes" | "possible" => self.look(alloc, head)?,
-            _ => return Ok(Some(self.command(alloc, head, below)?)),
+            "images" => {
+                let crashes = self.crashes(alloc, head, below)?;
+                return Ok(Some(Task::Crashes(crashes)));
+            }
+            _ => {
+                let command = self.command(alloc, head, below)?;
+                return Ok(Some(Task::Command(command)));
+            }
         }
         Ok(None)
     }
@@ -150,6 +175,20 @@ impl Stage {
         } else {
             Err(Fail::new(words))
         }
+    }
+
+    /// What a crash may leave of the file of this line, and what the lines below say of it.
+    fn crashes<'a>(&self, alloc: Global, line: &'a str, below: &str) -> Result<Crashes<'a>, Fail> {
+        let name = line.split(' ').nth(1).unwrap_or("");
+        let most = number(line.split(' ').nth(2).unwrap_or(""))?;
+        let Some(cells) = self.volume.cells(name) else {
+            return Err(wrong("the file is not in the volume"));
+        };
+        Ok(Crashes {
+            line,
+            images: Images::of(alloc, cells, most)?,
+            listings: Listings::read(alloc, below, self.anchors)?,
+        })
     }
 
     /// The command of this line, with what the lines below say.

@@ -10,7 +10,7 @@ use std::process::Abort;
 use std::sync::Wait;
 use std::test::Fail;
 use std::thread::Threads;
-use story_text::{Command, Stage, with_number};
+use story_text::{Command, Crashes, Pipes, Stage, Task, volume_with, with_number};
 
 /// Carries out a command, and compares how it ends and what it prints.
 fn carry_out<R: Abort + Threads + Wait + Sync>(
@@ -41,6 +41,26 @@ fn carry_out<R: Abort + Threads + Wait + Sync>(
     Ok(())
 }
 
+/// Lists each file that a crash may leave, and compares what they list.
+fn list_images<R: Abort + Threads + Wait + Sync>(
+    rt: &R,
+    alloc: Global,
+    mut crashes: Crashes<'_>,
+) -> Result<(), Fail> {
+    let pipes = Pipes::new(alloc);
+    let list = format!(in alloc; "list db {}", crashes.images.width())?;
+    for number in 0..crashes.images.count() {
+        let file = crashes.images.file(alloc, number)?;
+        let mut volume = volume_with(alloc, &file)?;
+        let ended = call(rt, alloc, &mut volume, &pipes, list.as_str(), b"")?;
+        assert_eq!(rt; ended.status_text(alloc)?.as_str(), "Done 0", "{number}");
+        crashes
+            .listings
+            .see(std::str::from_utf8(&ended.printed).unwrap_or(""))?;
+    }
+    crashes.listings.judge()
+}
+
 /// Plays a story. At least one command is carried out.
 pub(super) fn plays<R: Abort + Threads + Wait + Sync>(
     rt: &R,
@@ -49,8 +69,10 @@ pub(super) fn plays<R: Abort + Threads + Wait + Sync>(
 ) -> Result<(), Fail> {
     let mut stage = Stage::new(alloc);
     for paragraph in story.split("\n\n") {
-        if let Some(command) = stage.play(alloc, paragraph)? {
-            carry_out(rt, alloc, &mut stage, &command)?;
+        match stage.play(alloc, paragraph)? {
+            Some(Task::Command(command)) => carry_out(rt, alloc, &mut stage, &command)?,
+            Some(Task::Crashes(crashes)) => list_images(rt, alloc, crashes)?,
+            None => {}
         }
     }
     assert!(rt; stage.commands() > 0);
