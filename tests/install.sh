@@ -8,28 +8,9 @@
 # aloud. Its status is 0 where all rows that ran are as they should be.
 set -u -o pipefail
 
-root=$(cd "$(dirname "${BASH_SOURCE[0]}")/.." && pwd)
+. "$(dirname "${BASH_SOURCE[0]}")/rows.sh"
 folder=$(mktemp -d) || exit 1
 trap 'rm -rf "$folder"' EXIT
-passed=0
-failed=0
-skipped=0
-
-# Judges what the last command's status tells: the status, and a name for the row. A command in the name has a status of
-# its own, so the one to be judged stands in front.
-holds() {
-    if [ "$1" -eq 0 ]; then
-        passed=$((passed + 1))
-    else
-        printf 'FAILED: %s\n' "$2"
-        failed=$((failed + 1))
-    fi
-}
-
-skip() {
-    printf 'SKIPPED: %s\n' "$1"
-    skipped=$((skipped + 1))
-}
 
 program=${ROCK:-$root/crates/rock_main/out/rock_main}
 if [ -x "$program" ]; then
@@ -45,19 +26,19 @@ cd "$folder" || exit 1
 # The help text, which is the one of the program.
 awk '/^const HELP: &str = "\\$/ { on = 1; next } on && /^";$/ { exit } on' "$root/crates/help_tests/src/help.rt" >help
 [ "$(wc -l <help)" -gt 30 ] && grep -q '^Usage: rock create' help
-holds $? 'the help text stands in help_tests'
+judge $? 'the help text stands in help_tests'
 if [ "$program" != "$folder/stand-in" ]; then
     "$program" --help | cmp -s - help
-    holds $? 'the program prints this help text'
+    judge $? 'the program prints this help text'
 fi
 
 # The completions are those that are made of it.
 bash_words=$root/docs/completions/rock.bash
 zsh_words=$root/docs/completions/_rock
 "$root/tools/completions.py" bash <help | cmp - "$bash_words"
-holds $? 'docs/completions/rock.bash is made from the help text'
+judge $? 'docs/completions/rock.bash is made from the help text'
 "$root/tools/completions.py" zsh <help | cmp - "$zsh_words"
-holds $? 'docs/completions/_rock is made from the help text'
+judge $? 'docs/completions/_rock is made from the help text'
 
 # The maker refuses: a name, the status, what is said, a file for standard input, and the words.
 refused() {
@@ -65,7 +46,7 @@ refused() {
     shift 4
     "$root/tools/completions.py" "$@" <"$from" >printed 2>error
     [ $? -eq "$status" ] && [ ! -s printed ] && [ "$(cat error)" = "completions.py: $said" ]
-    holds $? "$name: $(cat error)"
+    judge $? "$name: $(cat error)"
 }
 head -n 12 help >front
 sed 's/^  check .*//' help >fewer
@@ -82,7 +63,7 @@ offers() {
         . "$0" && COMP_WORDS=("$@") COMP_CWORD=$(($# - 1)) && _rock && [ ${#COMPREPLY[@]} -eq 0 ] ||
         printf "%s\n" "${COMPREPLY[@]}"' "$bash_words" "$@" | sort >offered
     printf '%s' "$wanted" | sort | cmp -s - offered
-    holds $? "bash behind '${*:1:$#-1}' with '${!#}': $(tr '\n' '|' <offered)"
+    judge $? "bash behind '${*:1:$#-1}' with '${!#}': $(tr '\n' '|' <offered)"
 }
 offers $'create\nlist\ncheck\nrun\nbench\n--help\n--version\n' rock ''
 offers $'create\ncheck\n' rock c
@@ -106,7 +87,7 @@ tells() {
         _message() { print -r -- "$1" }
         . "$file"' zsh "$zsh_words" "$@" >told
     printf '%s\n' "$wanted" | cmp -s - told
-    holds $? "zsh behind '${*:1:$#-1}': $(tr '\n' '|' <told)"
+    judge $? "zsh behind '${*:1:$#-1}': $(tr '\n' '|' <told)"
 }
 if command -v zsh >/dev/null; then
     tells $'create\nlist\ncheck\nrun\nbench\n--help\n--version' rock ''
@@ -128,21 +109,21 @@ installed() {
         cmp -s "$root/docs/rock.1" "$1/share/man/man1/rock.1" &&
         cmp -s "$bash_words" "$1/share/bash-completion/completions/rock" &&
         cmp -s "$zsh_words" "$1/share/zsh/site-functions/_rock"
-    holds $? "the four files are in $1"
+    judge $? "the four files are in $1"
 }
 for place in 'a new/folder' 'a new/folder'; do
     "$root/tools/install.sh" "$place" >printed 2>error
     [ $? -eq 0 ] && [ ! -s error ] && (cd "$place" && find "$PWD" -type f | sort) |
         cmp -s - <(while read -r name; do realpath "$name"; done <printed | sort)
-    holds $? "install.sh prints what it put there: $(cat printed error)"
+    judge $? "install.sh prints what it put there: $(cat printed error)"
     installed "$place"
     printf 'older' >"$place/bin/rock" && chmod 600 "$place/bin/rock"
 done
 "$program" --version >wanted && "$root/tools/install.sh" again >/dev/null && again/bin/rock --version | cmp -s - wanted
-holds $? 'the installed program runs'
+judge $? 'the installed program runs'
 if command -v man >/dev/null; then
     [ "$(man -M "$folder/again/share/man" -w rock)" = "$folder/again/share/man/man1/rock.1" ]
-    holds $? 'man finds the page in the folder'
+    judge $? 'man finds the page in the folder'
 else
     skip 'the man page: there is no man'
 fi
@@ -153,7 +134,7 @@ not_installed() {
     shift 3
     "$root/tools/install.sh" "$@" >printed 2>error
     [ $? -eq "$status" ] && [ ! -s printed ] && [ "$(tail -n 1 error)" = "install.sh: $said" ]
-    holds $? "$name: $(cat error)"
+    judge $? "$name: $(cat error)"
 }
 not_installed 'no folder' 2 'the only word is the folder; --help says more'
 not_installed 'two folders' 2 'the only word is the folder; --help says more' one two
@@ -162,7 +143,7 @@ not_installed 'an option' 2 'the folder is not to be empty, and not to begin wit
 not_installed 'a file for a folder' 1 'help/bin/rock could not be put there' help
 ROCK=gone not_installed 'no program' 1 'new/bin/rock could not be put there' new
 "$root/tools/install.sh" --help >printed && [ "$(grep -c '^  [012]  ' printed)" -eq 3 ] && ! grep -q '^#' printed
-holds $? 'the help tells each status'
+judge $? 'the help tells each status'
 
 printf '%d rows passed, %d failed, %d skipped\n' "$passed" "$failed" "$skipped"
 [ "$failed" -eq 0 ]

@@ -22,12 +22,8 @@ set -u -o pipefail
 
 kills=${1:-200}
 seed=${2:-$((RANDOM * 32768 + RANDOM))}
-root=$(cd "$(dirname "${BASH_SOURCE[0]}")/.." && pwd)
-program=${ROCK:-}
-if [ -z "$program" ]; then
-    "$root/rock" --version >/dev/null || exit 1
-    program=$root/crates/rock_main/out/rock_main
-fi
+. "$(dirname "${BASH_SOURCE[0]}")/rows.sh"
+find_program
 folder=$(mktemp -d) || exit 1
 kept=${TMPDIR:-/tmp}/rock-killed-$seed
 device=''
@@ -45,7 +41,6 @@ anchors=16
 slot=512
 slots=128
 workers=4
-failed=0
 
 # The anchor of a URL, of 16: the key is the MD5 of a byte 1 and the URL, and of the sum of its halves only the last byte of each
 # counts, which is the first one in the file.
@@ -158,11 +153,6 @@ holds_of() {
     read_all "$1" || { echo "reading: $(head -n 1 said)"; return 1; }
     [ "$(grep -Fxc -f read listed.first)" -eq 8 ] || { echo 'an entry of the first run is not read'; return 1; }
     cmp -s "$1" base || changed=$((changed + 1))
-}
-
-fail() {
-    printf 'FAILED: %s\n' "$1"
-    failed=$((failed + 1))
 }
 
 # Keeps a failing case: its name, the file, and what was found.

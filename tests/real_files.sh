@@ -5,12 +5,8 @@
 # allow are skipped aloud. Its status is 0 where all rows that ran are as they should be.
 set -u -o pipefail
 
-root=$(cd "$(dirname "${BASH_SOURCE[0]}")/.." && pwd)
-program=${ROCK:-}
-if [ -z "$program" ]; then
-    "$root/rock" --version >/dev/null || exit 1
-    program=$root/crates/rock_main/out/rock_main
-fi
+. "$(dirname "${BASH_SOURCE[0]}")/rows.sh"
+find_program
 folder=$(mktemp -d) || exit 1
 full=$folder/full
 trap 'mountpoint -q "$full" && umount "$full"; chmod -R u+rwx "$folder"; rm -rf "$folder"' EXIT
@@ -18,20 +14,7 @@ chmod 755 "$folder"
 install -m 755 "$program" "$folder/rock" || exit 1
 cd "$folder" || exit 1
 
-passed=0
-failed=0
-skipped=0
 as=()
-
-fail() {
-    printf 'FAILED: %s\n' "$1"
-    failed=$((failed + 1))
-}
-
-skip() {
-    printf 'SKIPPED: %s\n' "$1"
-    skipped=$((skipped + 1))
-}
 
 # Judges what the last command's status tells: a name for the row, and the status. A name with a command in it is given
 # behind a status that was kept: the command has one of its own.

@@ -5,29 +5,12 @@
 # that the variable ROCK names. Its status is 0 where all is as it should be.
 set -u -o pipefail
 
-root=$(cd "$(dirname "${BASH_SOURCE[0]}")/.." && pwd)
-program=${ROCK:-}
-if [ -z "$program" ]; then
-    "$root/rock" --version >/dev/null || exit 1
-    program=$root/crates/rock_main/out/rock_main
-fi
+. "$(dirname "${BASH_SOURCE[0]}")/rows.sh"
+find_program
 folder=$(mktemp -d) || exit 1
 trap 'rm -rf "$folder"' EXIT
 mkdir "$folder/bin" "$folder/here" && cp "$program" "$folder/bin/rock" && cd "$folder/here" || exit 1
 PATH=$folder/bin:$PATH
-passed=0
-failed=0
-
-# Judges what the last command's status tells: the status, and a name for the row. A command in the name has a status of
-# its own, so the one to be judged stands in front.
-holds() {
-    if [ "$1" -eq 0 ]; then
-        passed=$((passed + 1))
-    else
-        printf 'FAILED: %s\n' "$2"
-        failed=$((failed + 1))
-    fi
-}
 
 # In place of the system's: noon of one day, and an hour more each time.
 date() {
@@ -54,17 +37,17 @@ replay() {
 
 sed -n 's/^    //p' "$root/docs/RECIPES.md" >"$folder/page"
 [ "$(grep -c '^\$ ' "$folder/page")" -ge 20 ]
-holds $? 'the page has 20 commands'
+judge $? 'the page has 20 commands'
 replay "$folder/page" >"$folder/printed"
 diff "$folder/page" "$folder/printed"
-holds $? 'the commands of docs/RECIPES.md print what stands there'
+judge $? 'the commands of docs/RECIPES.md print what stands there'
 [ "$(sort -u "$folder/dates")" = '-u +%FT%TZ' ]
-holds $? 'the time is asked for as the page has it'
+judge $? 'the time is asked for as the page has it'
 
 # The locks: the commands of OPERATING.md, each once where nobody has the lock, and once while others have it.
 mapfile -t lines < <(sed -n 's/^    \$ \(flock .*\)/\1/p' "$root/docs/OPERATING.md")
 [ ${#lines[@]} -eq 3 ]
-holds $? 'OPERATING.md has three commands with a lock'
+judge $? 'OPERATING.md has three commands with a lock'
 rm -f cache.db && rock create cache.db 16384 8
 printf '1 put http://a/b =x\n' >script
 held() {
@@ -72,7 +55,7 @@ held() {
     shift 2
     "$@" bash -c "$line" >printed 2>&1 </dev/null
     [ $? -eq "$status" ] && { [ "$status" -eq 0 ] || [ ! -s printed ]; }
-    holds $? "status $status of '$line' behind '$*': $(cat printed)"
+    judge $? "status $status of '$line' behind '$*': $(cat printed)"
 }
 for line in "${lines[@]//1024/8}"; do
     held 0 "$line" env
@@ -84,10 +67,10 @@ for line in "${lines[@]//1024/8}"; do
     esac
 done
 [ "$(rock list cache.db 16384)" = 'ENTRY 0 1 1 1 http://a/b' ] && cmp -s cache.db copy.db
-holds $? 'the run that had the lock stored a response, once'
+judge $? 'the run that had the lock stored a response, once'
 flock -n cache.db.lock rock list gone.db 16384 2>/dev/null
 [ $? -eq 8 ]
-holds $? 'the status is that of the program'
+judge $? 'the status is that of the program'
 
 printf '%d rows passed, %d failed\n' "$passed" "$failed"
 [ "$failed" -eq 0 ]
