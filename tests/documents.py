@@ -5,11 +5,12 @@ The layers in README.md and the table of docs/CRATES.md have each crate of crate
 on crates of its own layer and of those below it alone. crates.txt has the layers of README.md, each under its heading,
 the lowest first, and a crate stands there after all that it lists and lists only what its files use. A lemma that another
 crate cites stands on the list in the README of its own crate, and what stands on such a list is a lemma of the crate.
-README.md tells rightly which crates the program does without, and how many it takes. The way of a line names crates alone.
-docs/OPERATING.md has each line that the program says on standard error, with its code, and no other; a test of help_tests
-and a row of tests/real_files.sh have each too. docs/FORMATS.md and docs/rock.1 have the codes. docs/ANSWERS.md has each
-answer of the table in docs/SCRIPT.md once, with what it means and what to do, and no other. This reads files alone, and
-stands outside the gate. Its status is 0 where all is so.
+crates.txt has no more ways than the tools can walk in time. README.md tells rightly which crates the program does
+without, and how many it takes. The way of a line names crates alone. docs/OPERATING.md has each line that the program
+says on standard error, with its code, and no other; a test of help_tests and a row of tests/real_files.sh have each too.
+docs/FORMATS.md and docs/rock.1 have the codes. docs/ANSWERS.md has each answer of the table in docs/SCRIPT.md once, with
+what it means and what to do, and no other. This reads files alone, and stands outside the gate. Its status is 0 where all
+is so.
 """
 import glob
 import os
@@ -124,6 +125,19 @@ def listed(name):
             file, _, lemma = (file + word).partition(".") if word.startswith(".") else word.partition(".")
             found.setdefault(file, set()).add(lemma)
     return found
+
+
+def ways(below):
+    """How many ways down crates.txt has, over all crates. The tools walk each of them, so the gate's time grows with them."""
+    counted = {}
+
+    def of(name):
+        if name not in counted:
+            counted[name] = 1 + sum(of(crate) for crate in below[name])
+        return counted[name]
+
+    total = sum(of(name) for name in below)
+    holds(f"crates.txt has at most 2,000,000 ways: {total}", total <= 2_000_000)
 
 
 def lending(below):
@@ -265,6 +279,7 @@ def main():
     below = crates()
     readme(below)
     table(below)
+    ways(below)
     lending(below)
     messages()
     answers()

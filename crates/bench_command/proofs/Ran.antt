@@ -6,7 +6,7 @@ use Rattle.rock_open.specs.declared.fault.OpenStoreFault.{OpenStoreFault}
 use Rattle.rock_open.specs.declared.fault.OpenStoreFault.TheVariants.{BadGeometry, Failed, Memory, Missing, Small}
 use Rattle.rock_run.specs.Faults.{status_of_run}
 use Rattle.rock_run.specs.Runs.{RefusalLeaves}
-use Rattle.crashed_runs.specs.Left.{LeavesResponses}
+use Rattle.run_rules.specs.Left.{LeavesResponses}
 use Rattle.script_text.specs.declared.line.Line.{Line}
 use Rattle.bench_command.specs.Leaves.{RunClosed, RunKept, RunLeaves, StoreClosed}
 use Rattle.bench_command.specs.Numbers.{slot_size}

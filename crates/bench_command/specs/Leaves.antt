@@ -4,7 +4,7 @@ use Rattle.file_commands.specs.Create.{CreateLeaves}
 use Rattle.rock_disk.specs.Cell.{CellState}
 use Rattle.rock_disk.specs.File.{Files, IsKept}
 use Rattle.rock_run.specs.Runs.{HasClosed}
-use Rattle.crashed_runs.specs.Left.{LeavesResponses}
+use Rattle.run_rules.specs.Left.{LeavesResponses}
 use Rattle.rock_status.specs.declared.status.Status.{Status}
 use Rattle.rock_status.specs.declared.status.Status.TheVariants.{BadGeometry, DeviceFault, Done, Memory, Missing, SinkFault, Small}
 use Rattle.script_text.specs.declared.line.Line.{Line}

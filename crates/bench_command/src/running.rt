@@ -13,12 +13,14 @@ ghost use Rattle.bench_command.specs.Numbers.{AreBenchNumbers, slot_size, slots_
 ghost use Rattle.bench_command.specs.Prints.{IsLineOfRun};
 
 use crate::printing::print_summary;
-use crashed_runs::closed_runs_leave_responses;
 use rock_disk::Volume;
 use rock_io::Sink;
 use rock_run::{run_script, status_of_run};
 use rock_status::Status;
-use run_rules::{each_line_has_one_answer, lone_runs_are_answered_plainly, runs_keep_the_rules};
+use run_rules::{
+    closed_runs_leave_responses, each_line_has_one_answer, lone_runs_are_answered_plainly,
+    runs_keep_the_rules,
+};
 use std::alloc::Global;
 use std::sync::Wait;
 use std::thread::Threads;

@@ -13,7 +13,7 @@ use Rattle.rock_open.specs.Opening.{FileSays as OpeningSays, HasSlots, IsAnchors
 use Rattle.rock_run.specs.Device.{RunEnds as RefusalEnds}
 use Rattle.rock_run.specs.Faults.{status_of_run}
 use Rattle.rock_run.specs.Runs.{HasClosed, RefusalLeaves}
-use Rattle.crashed_runs.specs.Left.{LeavesResponses}
+use Rattle.run_rules.specs.Left.{LeavesResponses}
 use Rattle.rock_status.specs.declared.status.Status.{Status}
 use Rattle.rock_status.specs.declared.status.Status.TheVariants as status
 use Rattle.script_text.specs.Script.{GivesScript, IsBadScript}

@@ -3,7 +3,7 @@ use Rattle.std.specs.Prelude.{Bool, IsTrue, List, ◌≡◌, ◌⊎◌, ℕ}
 use Rattle.rock_disk.specs.Cell.{CellState}
 use Rattle.rock_disk.specs.File.{Files, IsKept}
 use Rattle.rock_run.specs.Runs.{HasClosed}
-use Rattle.crashed_runs.specs.Left.{LeavesResponses}
+use Rattle.run_rules.specs.Left.{LeavesResponses}
 use Rattle.rock_status.specs.declared.status.Status.{Status}
 use Rattle.rock_status.specs.declared.status.Status.TheVariants.{BadGeometry, BadScript, DeviceFault, Done, Exists, Memory, Missing, SinkFault, Small, SourceFault, Usage}
 use Rattle.script_text.specs.Script.{GivesScript}

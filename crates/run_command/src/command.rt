@@ -13,12 +13,14 @@ ghost use Rattle.run_command.specs.Says.{IsRunRefused, MayRun, RunSays};
 
 use crate::faults::{of_print, of_script};
 use answer_text::print_answers;
-use crashed_runs::closed_runs_leave_responses;
 use rock_disk::Volume;
 use rock_io::{Sink, Source};
 use rock_run::{read_scripts_may_be_served, run_script, status_of_run};
 use rock_status::Status;
-use run_rules::{lone_runs_are_answered_plainly, read_lines_are_numbered, runs_keep_the_rules};
+use run_rules::{
+    closed_runs_leave_responses, lone_runs_are_answered_plainly, read_lines_are_numbered,
+    runs_keep_the_rules,
+};
 use script_text::{Answer, read_script};
 use std::alloc::Global;
 use std::sync::Wait;

@@ -6,3 +6,5 @@ mod Opened
 mod Numbers
 mod Lone
 pub mod Counts
+pub mod Offered
+pub mod Left

@@ -3,3 +3,4 @@ pub mod Openings
 pub mod Printed
 pub mod Runs
 pub mod Plain
+pub mod Left

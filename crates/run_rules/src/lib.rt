@@ -3,8 +3,10 @@
 //! The functions here do nothing. What they ensure are laws.
 #![tactic(auto)]
 
+mod crashes;
 mod laws;
 
+pub use crashes::closed_runs_leave_responses;
 pub use laws::{
     each_line_has_one_answer, lone_runs_are_answered_plainly, read_lines_are_numbered,
     runs_keep_the_rules,

@@ -1,5 +1,7 @@
 -- The cells of a store that was closed are back in the file, and what a crash leaves of them.
 use Rattle.std.proofs.Common.{◌≡◌, ◌⊎◌, inl, inr, ⊎_elim, ℕ, List, [], ◌∷◌, All, Bool, IsTrue, map, refl, sym, ap, subst, ◌∙◌}
+use Rattle.std.proofs.lemmas.List.Elements.{All-map}
+use Rattle.std.specs.Prelude.{slice_index_or}
 use Rattle.std.specs.FinMap.{get}
 use Rattle.rock_disk.specs.Cell.{CellState}
 use Rattle.rock_disk.specs.Crash.{IsCrashImage, NowMayStay}
@@ -11,17 +13,12 @@ use Rattle.script_origin.specs.Offered.{offers_of}
 use Rattle.rock_run.specs.Runs.{HasClosed}
 use Rattle.crashed_stores.specs.Left.{IsOfOrigin, bytes_now}
 use Rattle.run_rules.specs.Responses.{IsOffered, IsResponse}
-use Rattle.crashed_runs.specs.Left.{LeavesResponses}
-use Rattle.crashed_runs.proofs.Offered.{offer_of_line}
+use Rattle.run_rules.specs.Left.{LeavesResponses}
+use Rattle.run_rules.proofs.Offered.{offer_of_line}
 
 map_twice : {A B C : Type 0} (f : A → B) (g : B → C) (xs : List A) → map g (map f xs) ≡ map (λ x. g (f x)) xs
 map_twice f g [] = refl
 map_twice f g (x ∷ xs) = ap (λ ys. g (f x) ∷ ys) (map_twice f g xs)
-
--- where a crash may leave of each cell what a read gives, it may of all of them
-all_stay : {C : Type 0} (cell : C → CellState) (stays : (c : C) → NowMayStay (cell c)) (cells : List C) → All NowMayStay (map cell cells)
-all_stay cell stays [] = []
-all_stay cell stays (c ∷ cells) = stays c ∷ all_stay cell stays cells
 
 -- the law on what a crash leaves of the cells of a store that was closed
 module _ {C : Type 0} (volume_tells tells : Bool) (cell : C → CellState) (files left : Files) (name : List ℕ) (slot anchors workers : ℕ) (script : List Line)
@@ -45,7 +42,7 @@ module _ {C : Type 0} (volume_tells tells : Bool) (cell : C → CellState) (file
     cells = map cell h.cells;
     rest = rest_cut slot (bytes_of out.was);
     back = ap (λ m. get m name) (h.back told) ∙ get_inserted h.middle name _;
-    now = now (map cell h.cells) (all_stay cell stays h.cells);
+    now = now (map cell h.cells) (All-map NowMayStay cell h.cells (λ k d lt. stays (slice_index_or h.cells k d)));
     responses = λ images p e c. ⊎_elim
         (λ (was : IsComplete slot (bytes_now cell h.opened.cells) e). inl record { entry = e; complete = was; url_is = refl; body_is = refl })
         (λ (new : IsOfOrigin (offers_of script) e). response e images c new)

@@ -1,7 +1,7 @@
 use Rattle.std.proofs.Common.{arith}
 use Rattle.std.proofs.lemmas.List.{length-map}
-use Rattle.crashed_runs.proofs.Left.{leaves_responses}
-use Rattle.crashed_runs.proofs.laws.closed_runs_leave_responses.Goals as goal
+use Rattle.run_rules.proofs.Left.{leaves_responses}
+use Rattle.run_rules.proofs.crashes.closed_runs_leave_responses.Goals as goal
 
 pub returns : goal.returns
 returns g c volume_tells files left name slot anchors workers script sized told h = leaves_responses volume_tells g.C.Cell.tells g.C.Cell.state files left name slot anchors workers script told h

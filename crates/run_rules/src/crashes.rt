@@ -4,7 +4,7 @@ ghost use Rattle.db_layout.specs.Layout.{IsSlotSize};
 ghost use Rattle.rock_disk.specs.File.{Files};
 ghost use Rattle.script_text.specs.declared.line.Line.{Line};
 ghost use Rattle.rock_run.specs.Runs.{HasClosed};
-ghost use Rattle.crashed_runs.specs.Left.{LeavesResponses};
+ghost use Rattle.run_rules.specs.Left.{LeavesResponses};
 
 use crashed_stores::closed_cells_leave_responses;
 use rock_disk::{Cell, now_is_a_crash_image, opened_slots_are_wide_and_few};
