@@ -117,7 +117,7 @@ def warm_run(folder, rock, kind, anchors):
 
 def main(folder, rock):
     compiler = os.environ.get("CC", "cc")
-    subprocess.run([compiler, "-O2", "-o", f"{folder}/run_once", f"{run.HERE}/run_once.c"], check=True)
+    subprocess.run([compiler, "-O2", "-o", f"{folder}/run_once", f"{run.HERE}/helpers/run_once.c"], check=True)
     three_workers(folder, rock)
     large_tables(folder, rock)
     workers.told_row("file", "anchors", "command", "s, least", "median", "s of the processor", "peak, bytes a slot")
@@ -126,7 +126,7 @@ def main(folder, rock):
             sparse(folder, kind, SLOT, SLOTS)
         else:
             words = [f"{folder}/{kind}", str(SLOTS * SLOT >> 20), str(SLOT), kind]
-            subprocess.run([sys.executable, f"{run.HERE}/make_file.py", *words], check=True)
+            subprocess.run([sys.executable, f"{run.HERE}/helpers/make_file.py", *words], check=True)
         for anchors in (16384, SLOTS):
             warm_run(folder, rock, kind, str(anchors))
         os.remove(f"{folder}/{kind}")

@@ -3,7 +3,7 @@
 A script of 4,096 lines for one worker, about half of them `put` and the others `get`, with bodies of at most 1,300
 bytes, is run over a file of 64 empty slots of 16,384 bytes, by 64 anchors. There are 64 URLs, one at each anchor, so a
 `get` is a hit once its URL was put. `strace` tells which calls `rock run` makes on the script, on the file and on
-standard output. bench/plain_run.c makes these calls in the same order with the same bytes, and nothing else. That the
+standard output. bench/helpers/plain_run.c makes these calls in the same order with the same bytes, and nothing else. That the
 bytes are the same is seen by its output and by the file that it leaves.
 
 Both run by turns, each over a file like the first, with the script and the file in the page cache and the output thrown
@@ -136,7 +136,7 @@ def build_plain(folder, calls, lines, answers):
     if version != len(puts):
         sys.exit(f"{version} slots were written for {len(puts)} puts")
     words = [os.environ.get("CC", "cc"), "-O2", f"-DFOLDER=\"{folder}\"", f"-DANSWERS=\"{answers}\""]
-    subprocess.run([*words, "-o", f"{folder}/plain_run", f"{HERE}/plain_run.c"], check=True)
+    subprocess.run([*words, "-o", f"{folder}/plain_run", f"{HERE}/helpers/plain_run.c"], check=True)
     return f"{folder}/plain_run"
 
 

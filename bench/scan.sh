@@ -48,14 +48,14 @@ int main(int count, char **words) {
     return 0;
 }
 END
-"${CC:-cc}" -O2 -o "$folder/plain_sums" "$root/bench/plain_sums.c"
-"${CC:-cc}" -O2 -o "$folder/run_once" "$root/bench/run_once.c"
+"${CC:-cc}" -O2 -o "$folder/plain_sums" "$root/bench/helpers/plain_sums.c"
+"${CC:-cc}" -O2 -o "$folder/run_once" "$root/bench/helpers/run_once.c"
 printf '%5s %6s %-10s %9s %9s %7s %8s %7s %10s %9s %7s %7s %9s %7s %7s\n' MiB slot file entries plain_s list_s list_MB/s ratio peak_MiB bytes/slot check_s to_list bytes/slot sums_s of_rate
 for mib in "$@"; do
     for slot in 512 4096 16384; do
         for kind in entries one-slot one-tail chain ring; do
-            python3 "$root/bench/make_file.py" "$folder/db" "$mib" "$slot" "$kind"
-            python3 "$root/bench/measure.py" "$folder" "$root/crates/rock_main/out/rock_main" "$mib" "$slot" "$kind"
+            python3 "$root/bench/helpers/make_file.py" "$folder/db" "$mib" "$slot" "$kind"
+            python3 "$root/bench/helpers/measure.py" "$folder" "$root/crates/rock_main/out/rock_main" "$mib" "$slot" "$kind"
             rm -f "$folder/db"
         done
     done

@@ -2,11 +2,11 @@
 
 The requests are those of `rock bench`, served by `rock bench` itself; the same with each `save` as a `put`, served by
 `rock run`; and the same with bodies of 100,000 bytes. `strace` tells once which calls the program makes on each thread.
-bench/plain_workers.c makes these calls in the same order on as many threads, with an MD5 of the URL's key for each
+bench/helpers/plain_workers.c makes these calls in the same order on as many threads, with an MD5 of the URL's key for each
 request, and nothing of a store. That it makes them is seen by `strace` too.
 
 Both run by turns, each on a file like the first, with what they read in the page cache and the output thrown away. The
-time is that of the whole program. In turns of their own bench/served_time.c tells how long requests were served, without
+time is that of the whole program. In turns of their own bench/helpers/served_time.c tells how long requests were served, without
 the reading of the script and the printing of the answers. Needs strace and a C compiler. The files are made in FOLDER
 (default: a new folder under /tmp, removed at the end).
 """
@@ -219,7 +219,7 @@ def write_list(name, threads, steps):
 
 def build(folder, name, *flags):
     made = f"{folder}/{name}"
-    compiler = [os.environ.get("CC", "cc"), "-O2", *flags, "-o", made, f"{HERE}/{name}.c"]
+    compiler = [os.environ.get("CC", "cc"), "-O2", *flags, "-o", made, f"{HERE}/helpers/{name}.c"]
     subprocess.run(compiler, check=True)
     return made
 

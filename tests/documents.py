@@ -7,10 +7,13 @@ the lowest first, and a crate stands there after all that it lists and lists onl
 crate cites stands on the list in the README of its own crate, and what stands on such a list is a lemma of the crate.
 crates.txt has no more ways than the tools can walk in time. README.md tells rightly which crates the program does
 without, and how many it takes. The way of a line names crates alone. docs/OPERATING.md has each line that the program
-says on standard error, with its code, and no other; a test of help_tests and a row of tests/real_files.sh have each too.
+says on standard error, with its code, and no other; a test of test_help and a row of tests/real_files.sh have each too.
 docs/FORMATS.md and docs/rock.1 have the codes. docs/ANSWERS.md has each answer of the table in docs/SCRIPT.md once, with
-what it means and what to do, and no other. This reads files alone, and stands outside the gate. Its status is 0 where all
-is so.
+what it means and what to do, and no other. docs/SCRIPT.md lists each file of the crates' sources and definitions that names
+a request. docs/WRONG-BODIES.md names tests that there are. The READMEs of tests, tools and bench have each program, and no
+other. Each link of a document leads to a file and a heading that are there. Names in backquotes, in the READMEs of crates and
+in the pages on how Rock is built, occur in the sources. README.md is below 1,500 words, and DECISIONS.md has at most 80
+entries. This reads files alone, and stands outside the gate. Its status is 0 where all is so.
 """
 import glob
 import os
@@ -137,7 +140,7 @@ def ways(below):
         return counted[name]
 
     total = sum(of(name) for name in below)
-    holds(f"crates.txt has at most 2,000,000 ways: {total}", total <= 2_000_000)
+    holds(f"crates.txt has at most 600,000 ways: {total}", total <= 600_000)
 
 
 def lending(below):
@@ -191,6 +194,7 @@ def arms(function, front):
 def sentences():
     """The sentences of rock_help: the status, its field or none, and the sentence."""
     told = [(name, None, text) for name, texts in arms("explanation", "Status::") for text in texts]
+    told += [("DeviceFault", None, text) for _, texts in arms("failed_disk", "DiskCause::") for text in texts]
     fields = arms("outside_limits", "")
     # The slot size has the field that is left, and nothing is said where all was done.
     told += [("BadGeometry", field.replace("_", "1"), text) for field, texts in fields for text in texts]
@@ -218,13 +222,13 @@ def unfolded(text):
 
 def messages():
     """The lines on standard error, by the sentences of rock_help, stand in docs/OPERATING.md with their codes, and no
-    others. A test of help_tests and a row of tests/real_files.sh have each line too."""
-    told, tests = read("docs/OPERATING.md"), read("crates/help_tests/src/lines.rt")
+    others. A test of test_help and a row of tests/real_files.sh have each line too."""
+    told, tests = read("docs/OPERATING.md"), read("crates/test_help/src/lines.rt")
     rows = unfolded(read("tests/real_files.sh"))
     lines = sentences()
     codes, texts = statuses()
     causes = re.findall(r'(?m)^ +(\d|_) => "([^"\n]+)"', read("crates/rock_help/src/message.rt"))
-    holds("the sentences are found", len(lines) == 14 and len(causes) == 9)
+    holds("the sentences are found", len(lines) == 19 and len(causes) == 9)
     holds("the statuses are found", len(codes) == 11 and set(codes) == set(texts))
     holds("each status has a sentence", {name for name, _, _ in lines} == set(codes) - {"Done"})
     listed = re.findall(r"(?m)^\| (\d+) \| `(rock: .*?)` \|", told)
@@ -236,14 +240,14 @@ def messages():
         seen = form.replace("[A-Z]+", r"(?:\$\(.*?\)|[^ ])+")
         holds(f"tests/real_files.sh has the line: {status}: {sentence}", re.search(seen, rows))
         read_form = form.replace("[A-Z]+", '[^"\n]+')
-        holds(f"a test of help_tests reads: {status}: {sentence}", re.search(f'(?m); {read_form}(";)?$', tests))
+        holds(f"a test of test_help reads: {status}: {sentence}", re.search(f'(?m); {read_form}(";)?$', tests))
     wrong, behind = next(sentence for status, _, sentence in lines if status == "BadScript").split("{}")
     for cause, sentence in causes:
         number = cause.replace("_", "9")
         holds(f"docs/OPERATING.md has cause {number}", f"\n| {number} | `{sentence}` |" in told)
         front = spelled(f"rock: BadScript line={{line}} cause={number}: {wrong}").replace("[A-Z]+", r"\d+")
         whole = f'(?m); {front}{re.escape(sentence + behind)}(";)?$'
-        holds(f"a test of help_tests reads cause {number}", re.search(whole, tests))
+        holds(f"a test of test_help reads cause {number}", re.search(whole, tests))
         holds(f"tests/real_files.sh has cause {number}", re.search(rf"(?m)^bad \d+ {number} ", rows))
     named = re.findall(r"(?m)^\| (\d+) \| ([A-Z]\w+(?:, [A-Z]\w+)*) \|", read("docs/FORMATS.md"))
     pairs = {name: code for code, names in named for name in names.split(", ")}
@@ -275,6 +279,116 @@ def answers():
         holds(f"docs/ANSWERS.md says in a sentence or two what {text} means, and what to do: {counts}", set(counts) <= {1, 2})
 
 
+def pages():
+    """All documents, by their paths."""
+    found = glob.glob(f"{ROOT}/*.md") + glob.glob(f"{ROOT}/*/*.md") + glob.glob(f"{ROOT}/crates/*/*.md")
+    return sorted(os.path.relpath(path, ROOT) for path in found)
+
+
+def headings(page):
+    """The anchors of a document's headings, as the sites make them that show it."""
+    text = re.sub(r"(?ms)^```.*?^```$", "", read(page))
+    return {re.sub(r"[^\w -]", "", line.lower()).replace(" ", "-") for line in re.findall(r"(?m)^#+ (.*)$", text)}
+
+
+def links():
+    """Each link that leads to a file of the repository leads to one that is there, and to one of its headings."""
+    for page in pages():
+        for target in re.findall(r"\]\(([^)\s]+)\)", read(page)):
+            path, _, heading = target.partition("#")
+            if "://" in path:
+                continue
+            to = os.path.normpath(os.path.join(os.path.dirname(page), path)) if path else page
+            there = os.path.exists(f"{ROOT}/{to}")
+            holds(f"{page}: the link {target} leads to a file", there)
+            if heading and there:
+                holds(f"{page}: the link {target} leads to a heading", heading in headings(to))
+
+
+def sizes():
+    """README.md stays short, and so does DECISIONS.md."""
+    text, decisions = read("README.md"), read("docs/DECISIONS.md")
+    holds(f"README.md has fewer than 1,500 words: {len(text.split())}", len(text.split()) < 1500)
+    long = [line[:40] for line in text.splitlines() if len(line) > 200 and not line.startswith("|")]
+    holds(f"README.md has no line of more than 200 characters but in tables: {long}", not long)
+    entries = len(re.findall(r"(?m)^- \*\*", decisions))
+    holds(f"docs/DECISIONS.md has at most 80 entries: {entries}", 0 < entries <= 80)
+
+
+def requests():
+    """docs/SCRIPT.md lists each file of sources and definitions that names requests, those of the crates of tests aside."""
+    section = re.search(r"(?s)\n## To add a request\n(.*?)(?=\n## |\Z)", read("docs/SCRIPT.md")).group(1)
+    table, crate = set(), ""
+    for first, files in re.findall(r"(?m)^\|(?: (`\w+`))? \| (`.*?) \| .*\|$", section):
+        crate = first.strip("`") or crate
+        table |= {f"{crate}/{file}" for file in re.findall(r"`([\w./]+)`", files)}
+    holds("docs/SCRIPT.md has a table of files to add a request", len(table) > 20)
+    for file in table:
+        holds(f"docs/SCRIPT.md: {file} is there", os.path.exists(f"{ROOT}/crates/{file}"))
+    for path in glob.glob(f"{ROOT}/crates/*/s*/**/*.*", recursive=True):
+        file = os.path.relpath(path, f"{ROOT}/crates")
+        if re.match(r"(?!test_)\w+/(src|specs)/", file):
+            with open(path, encoding="utf-8") as source:
+                names = re.search(r"\b(CloseTab|DropTab|Purge)\b", source.read())
+            holds(f"docs/SCRIPT.md: {file} is in the table of files to add a request", not names or file in table)
+
+
+def wrong_bodies():
+    """docs/WRONG-BODIES.md names tests of the crates that it says, and functions of the crates in which bodies were planted."""
+    rows = re.findall(r"(?m)^\| (.*?) \| (.*?) \| (.*) \|$", read("docs/WRONG-BODIES.md"))[2:]
+    holds("docs/WRONG-BODIES.md has a table", len(rows) > 10)
+    for what, planted, fails in rows:
+        crate = ""
+        for name in re.findall(r"`(\w+)`", fails):
+            crate = name if name.startswith("test_") else crate
+            holds(f"docs/WRONG-BODIES.md: {what}: {name}", name == crate or crate and re.search(rf"\bfn {name}\b", files_of(crate)))
+        for name, crate in re.findall(r"`(\w+)` of `(\w+)`", planted):
+            holds(f"docs/WRONG-BODIES.md: {name} of {crate}", re.search(rf"\bfn {name}\b", files_of(crate)))
+
+
+def programs():
+    """The READMEs of tests, tools and bench name each program beside them, and no program that is not there."""
+    for folder in ("tests", "tools", "bench"):
+        text = read(f"{folder}/README.md")
+        found = glob.glob(f"{ROOT}/{folder}/*.*") + glob.glob(f"{ROOT}/{folder}/helpers/*.*")
+        there = {os.path.basename(path) for path in found if not path.endswith(".md")}
+        told = set(re.findall(r"`(\w+\.(?:py|sh|c|h))\b", text))
+        holds(f"{folder}/README.md names each program: {sorted(there - told)}", not there - told)
+        holds(f"{folder}/README.md names programs that are there: {sorted(told - there)}", not told - there)
+
+
+def source_words():
+    """The words of the sources, definitions and proofs of all crates, with the names of crates, files and edits."""
+    found = set(os.listdir(f"{ROOT}/crates"))
+    for part in ("src", "specs", "proofs"):
+        for path in glob.glob(f"{ROOT}/crates/*/{part}/**/*.*", recursive=True):
+            with open(path, encoding="utf-8") as file:
+                found |= set(re.findall(r"\w+", file.read()))
+            found.add(os.path.splitext(os.path.basename(path))[0])
+    edits = glob.glob(f"{ROOT}/tests/edits/*/*") + glob.glob(f"{ROOT}/crates/*/must-fail/*")
+    return found | {os.path.splitext(os.path.basename(path))[0] for path in edits}
+
+
+def is_path(page, name):
+    """Whether a path stands in the repository, in crates/, beside the page, or in some crate."""
+    roots = [ROOT, f"{ROOT}/crates", f"{ROOT}/{os.path.dirname(page)}", f"{ROOT}/crates/*"]
+    return any(glob.glob(f"{root}/{name}") or glob.glob(f"{root}/{name}.antt") for root in roots)
+
+
+def names():
+    """Names in backquotes occur in the sources, and paths are there. Commands of the shell and the like are left out."""
+    known = source_words()
+    built = ["DECISIONS", "CRASHES", "STATE-MACHINE", "SERVING", "WRONG-BODIES", "CRATES"]
+    for page in ["README.md"] + [f"docs/{name}.md" for name in built] + [page for page in pages() if page.startswith("crates/")]:
+        wrong = set()
+        for name in re.findall(r"`([^`\n]+)`", read(page)):
+            if "/" in name and re.fullmatch(r"[\w./-]+", name):
+                wrong |= set() if is_path(page, name) else {name}
+            elif re.fullmatch(r"\.?[A-Za-z]\w*((::|\.)[A-Za-z_]\w*)*", name) and name not in ("crates.txt", "diff"):
+                wrong |= {name} if set(re.findall(r"\w+", name)) - known else set()
+        holds(f"{page}: names in backquotes occur in the sources: {sorted(wrong)}", not wrong)
+
+
 def main():
     below = crates()
     readme(below)
@@ -283,6 +397,12 @@ def main():
     lending(below)
     messages()
     answers()
+    links()
+    sizes()
+    requests()
+    wrong_bodies()
+    programs()
+    names()
     print(f"{len(failed)} comparisons failed")
     sys.exit(1 if failed else 0)
 

@@ -18,7 +18,7 @@ import tempfile
 sys.dont_write_bytecode = True
 import changed_files as reading  # noqa: E402
 from made_files import HEADER_AREA, ROCK, ROOT, ROOM, SLOT, end, entry, holds, image, item, key_of  # noqa: E402
-from made_files import metadata, module, of_wrong_size, write_file  # noqa: E402
+from made_files import metadata, module, of_wrong_size, record, write_file  # noqa: E402
 
 TOOL = f"{ROOT}/tools/entry.py"
 ONE = f"{ROOT}/crates/rock_main/data/db"
@@ -30,9 +30,9 @@ def run_tool(*words, rock=ROCK or "", stdout=subprocess.PIPE):
     return subprocess.run([TOOL, *words], stdout=stdout, stderr=subprocess.PIPE, env={**os.environ, "ROCK": rock})
 
 
-def has(name, word, body):
+def has(name, word, body, slot=str(SLOT)):
     """The entry with a slot's number or a URL is there, with this body."""
-    ran = run_tool(name, str(SLOT), word)
+    ran = run_tool(name, slot, word)
     holds(f"{word!r} of {name}: {ran}", (ran.returncode, ran.stdout, ran.stderr) == (0, body, b""))
 
 
@@ -143,6 +143,22 @@ def agree(tool, name, images):
     return sum(len(wanted) > 1 for wanted in of_urls.values())
 
 
+def recorded(folder):
+    """The header area tells the size of a slot, to `-` and to a number; and a file that has other slots is refused."""
+    name = f"{folder}/recorded"
+    write_file(name, 4, entry(B, b"hello", 7, [2]), b"rest")
+    refused(2, b"does not record the size of its slots", name, "-", "2")
+    record(name, 512, 4)
+    for slot in ("-", "512"):
+        has(name, "2", b"hello", slot)
+        has(name, "http://a/b", b"hello", slot)
+    refused(2, b"records slots of 512 bytes, and not of 1024", name, "1024", "2")
+    for slot, slots in ((512, 3), (512, 5), (512, 0), (513, 4), (0, 4), (33280, 4)):
+        record(name, slot, slots)
+        for given in ("-", "512", "1024"):
+            refused(2, b"records %d slots of %d bytes, which it has not" % (slots, slot), name, given, "2")
+
+
 # What the program says.
 def stand_in(folder, text, status=0):
     """A program that prints this, whatever it is asked."""
@@ -196,6 +212,10 @@ def refusals(folder):
     refused(2, b"the slot size 500 is no multiple", ONE, "500", "0")
     refused(2, b"0512 is no number", ONE, "0512", "0")
     refused(2, b"00 is no number", ONE, "512", "00")
+    with open(short, "wb") as file:
+        file.truncate(HEADER_AREA - 1)
+    refused(2, b"shorter than the header area", short, "-", "0")
+    refused(2, b"-- is no number", ONE, "--", "0")
     for words in ([], [ONE], [ONE, "512"], [ONE, "512", "0", "0"], ["--help", "0"]):
         refused(2, b"--help says more", *words)
     with open("/dev/full", "wb") as full:
@@ -212,6 +232,7 @@ def main():
         newest_behind(folder)
         full_slots(folder)
         nearly_entries(folder)
+        recorded(folder)
         changed_and_random_files(folder)
         compared(folder)
         stored_by_a_run(folder)

@@ -1,7 +1,7 @@
 #!/usr/bin/env bash
 # What tools/install.sh puts into a folder, and the completions for bash and zsh.
 #
-# The completions in docs/completions/ are compared with those that are made anew from the help text in help_tests, which
+# The completions in docs/completions/ are compared with those that are made anew from the help text in test_help, which
 # the gate compares with what the program prints, and where there is a program from its own help text. Then they are tried:
 # each word of each command line is completed. Run it by hand. The program is the one that the variable ROCK names, or the
 # one that is built; where there is none a stand-in is installed. Where there is no zsh, or no man, their rows are skipped
@@ -24,9 +24,9 @@ export ROCK=$program
 cd "$folder" || exit 1
 
 # The help text, which is the one of the program.
-awk '/^const HELP: &str = "\\$/ { on = 1; next } on && /^";$/ { exit } on' "$root/crates/help_tests/src/help.rt" >help
+awk '/^const HELP: &str = "\\$/ { on = 1; next } on && /^";$/ { exit } on' "$root/crates/test_help/src/help.rt" >help
 [ "$(wc -l <help)" -gt 30 ] && grep -q '^Usage: rock create' help
-judge $? 'the help text stands in help_tests'
+judge $? 'the help text stands in test_help'
 if [ "$program" != "$folder/stand-in" ]; then
     "$program" --help | cmp -s - help
     judge $? 'the program prints this help text'

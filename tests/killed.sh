@@ -15,6 +15,11 @@
 # So what was not synced is lost where the system had not written it. Where the machine does not allow it, this half is skipped
 # aloud.
 #
+# At last a run of one worker that saves an entry at each of the 8 other anchors, and prints much between them, is killed by a
+# tracer before each of its calls of the system, one run a call: so behind each call there is a kill. Besides what holds after each
+# kill, each entry whose STORED was printed is listed, with its body. It is printed how often a run was killed at which call, and
+# how often STORED was seen. Where there is no strace, this part is skipped aloud.
+#
 # Run it by hand; it takes some minutes. It builds the program first where it is out of date, or takes the one that the variable
 # ROCK names. The seed of the delays and of the script is printed, or is given. A failing case is kept with its file, and told. Its
 # status is 0 where nothing failed.
@@ -87,7 +92,22 @@ make_scripts() {
                 else print worker " purge " url
             }
         }' second_urls >second
-    cat first second | awk '$2 == "save" || $2 == "put" { print $3, $4 }' >offers
+    make_third || return 1
+    cat first second third | awk '$2 == "save" || $2 == "put" { print $3, $4 }' >offers
+}
+
+# The third script saves at each of the other anchors once. The fifth body is long, and is got eight times before the others are
+# saved, so that the answers are printed by several calls.
+make_third() {
+    local url anchor
+    local -a taken
+    while read -r url; do
+        anchor=$(anchor_of "$url")
+        [ -n "${taken[anchor]:-}" ] || { taken[anchor]=1; echo "$url"; }
+    done <second_urls | awk '
+        NR == 5 { print "1 save " $1 " #9000:4"; for (i = 0; i < 8; i++) print "1 get " $1; next }
+        { printf "1 save %s #%d:%d\n", $1, NR * 170, NR }' >third
+    [ "$(grep -c ' save ' third)" -eq 8 ]
 }
 
 # Judges what a run of `get` lines printed of entries that are listed: judged LISTED GOT LEFT. Each answer is the whole body of an
@@ -247,6 +267,63 @@ loop_half() {
     [ "$lost" -gt 0 ] || fail 'no kill lost anything that was not synced'
 }
 
+# Each entry of the third script whose STORED was printed is listed in `listed`, and was read. A last line without its end is not
+# looked at. What was seen is added to `seen`.
+seen_are_there() {
+    awk '
+        FILENAME == "third" { if ($2 == "save") { url[FNR] = $3; split(substr($4, 2), made, ":"); bytes[FNR] = made[1] } next }
+        FILENAME == "listed" { is_listed[$3 " " $5 " " $6] = 1; next }
+        FILENAME == "read" { is_read[$3 " " $5 " " $6] = 1; next }
+        $3 == "STORED" {
+            entry = $4 " " bytes[$2] " " url[$2]
+            if (!(entry in is_listed) || !(entry in is_read)) { print "not there: " entry; wrong = 1 }
+        }
+        END { exit wrong }' third listed read whole_lines
+}
+
+# One run of the third script, killed before the call of a name for the time of a number. Its status is 1 where it was not killed.
+traced_run() {
+    local status
+    cp base db
+    # The shell that is told of the kill is not to say so.
+    (
+        strace -f -qq -o traced -e trace="$1" -e inject="$1:signal=KILL:when=$2" \
+            rock run db $slot $anchors 1 <third >printed 2>said
+        exit $?
+    ) 2>/dev/null
+    status=$?
+    [ $status -ne 0 ] || return 1
+    [ $status -eq 137 ] && [ ! -s said ] || { fail "a traced run ended with $status: $1 $2: $(head -n 1 said)"; return 1; }
+    # What is behind the last end of a line is no line.
+    awk -v RS='\n' '{ if (NR > 1) print last; last = $0 }' printed >whole_lines
+    [ -z "$(tail -c 1 printed)" ] && tail -n 1 printed >>whole_lines
+    seen=$((seen + $(grep -c ' STORED ' whole_lines)))
+    [ -s whole_lines ] && printed_some=$((printed_some + 1))
+    { holds_of db && seen_are_there; } >told || keep "traced-$1-$2" db "$(cat told)"
+    return 0
+}
+
+# Runs that are killed at each call.
+traced_part() {
+    local name number killed=0 seen=0 printed_some=0 where=''
+    command -v strace >/dev/null && strace -o traced true 2>/dev/null ||
+        { echo 'SKIPPED: kills at each call of the system: there is no strace, or it may not trace'; return; }
+    cp base db
+    strace -f -qq -o calls rock run db $slot $anchors 1 <third >printed 2>said && [ "$(grep -c ' STORED ' printed)" -eq 8 ] &&
+        [ "$(grep -c ' HIT ' printed)" -eq 8 ] || { fail 'the whole traced run'; return; }
+    for name in $(sed -E 's/^[0-9]+ +//' calls | grep -oE '^[a-z][a-z0-9_]*\(' | tr -d '(' | sort -u); do
+        [ "$name" = execve ] && continue
+        number=0
+        while traced_run "$name" $((number + 1)); do number=$((number + 1)); done
+        killed=$((killed + number))
+        [ $number -eq 0 ] || where+=" $name $number"
+    done
+    printf 'each call: %d kills:%s; %d files changed, %d entries read; STORED was seen %d times, of %d runs that printed\n' \
+        "$killed" "$where" "$changed" "$read_entries" "$seen" "$printed_some"
+    [[ $where == *' pwrite64 '* && $where == *' fdatasync '* && $where == *' write '* ]] && [ "$changed" -gt 0 ] &&
+        [ "$seen" -gt 8 ] && [ "$printed_some" -gt 1 ] || fail 'there were too few kills, changes or answers to say anything'
+}
+
 printf 'seed %s, %s kills\n' "$seed" "$kills"
 choose_urls && make_scripts
 rock create base $slot $slots && rock run base $slot $anchors 1 <first >printed 2>said && [ "$(grep -c ' STORED ' printed)" -eq 8 ] &&
@@ -259,5 +336,8 @@ plain_half
 changed=0
 read_entries=0
 loop_half
+changed=0
+read_entries=0
+traced_part
 printf '%d failed\n' "$failed"
 [ "$failed" -eq 0 ]

@@ -87,3 +87,9 @@ def write_file(name, count, images, rest=b""):
             file.write(made)
         file.seek(0, os.SEEK_END)
         file.write(rest)
+
+
+def record(name, slot, slots):
+    """Makes the header area of a file one that records these numbers."""
+    with open(name, "r+b") as file:
+        file.write(b"RockSMP2" + struct.pack("<II", slot, slots))

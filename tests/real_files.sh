@@ -35,6 +35,8 @@ row() {
 
 # What rows share of the lines on standard error.
 disk="could not be read, written or made; look at its disk and its permissions"
+in_use='is in use by another program; try again when that has ended'
+too_many='could not be opened, since too many files are open; raise the limit by ulimit -n, or take fewer workers'
 usage='this is no command line; rock --help prints the lines that are'
 output='rock: SinkFault: standard output did not take all of the answer; do not use what was printed'
 unread='rock: SourceFault: standard input could not be read; see whether it is open, and no folder'
@@ -47,6 +49,9 @@ counted='1 prints how many slots there are'
 worker_limits='is not from 1 to 32; give one that is, for a script as many as it names'
 slot_limits='is not from 1 to 1048576; give one that is, for a larger store with larger slots'
 round_limit='is above 10000; take fewer rounds'
+other_size='give - in place of it, and the one that is recorded is taken'
+other_slots='records other slots than it has: it was cut or grew, or its header area is damaged; give a file that was cut its length again, as docs/OPERATING.md says'
+unrecorded='does not record its slots; give the slot size that it was made with in place of -'
 mend='mend this line, or take it out'
 
 # A run: the status, what is printed, the first line on standard error, the script, and the words.
@@ -92,9 +97,10 @@ new_served() {
 
 # A file is made, read and summed up, and made once.
 row 0 '' '' create db 512 4
-head -c 18432 /dev/zero | cmp -s - db
-holds 'a new file of four slots of 512 bytes is 18,432 zeros' $?
+{ printf 'RockSMP2\0\2\0\0\4\0\0\0' && head -c 18416 /dev/zero; } | cmp -s - db
+holds 'a new file of four slots of 512 bytes records them, and its slots are zeros' $?
 row 0 '' '' list db 512
+row 0 '' '' list db -
 row 0 $'slots=4 kept=0 used=0 free=4 version=0\n' '' check db 512 4
 cp "$root/crates/rock_main/data/db" one && cp one copy
 row 9 '' "rock: Exists: there is a file one $taken" create one 512 1
@@ -302,15 +308,16 @@ new_served 3 2 2 <<'END'
 2 get http://a/00|HIT 2 901 @0 901
 2 get http://a/02|MISS absent 1.6
 END
+# Of so many workers each awaits the mark of the one before.
 chain_of_marks() {
     local worker
     printf '1 put http://a/b =x|STORED 1\n1 mark 1|MARKED\n'
-    for worker in {2..32}; do
+    for worker in $(seq 2 "$1"); do
         printf '%d await %d|MET\n%d get http://a/b|HIT 1 1 78\n' "$worker" $((worker - 1)) "$worker"
         printf '%d mark %d|MARKED\n' "$worker" "$worker"
     done
 }
-new_served 4 1 32 < <(chain_of_marks)
+new_served 4 1 32 < <(chain_of_marks 32)
 rm -f new && row 0 '' '' create new 16384 64
 long=http://a/$(printf '%191s' '' | tr ' ' u)
 served new 16384 16 3 <<END
@@ -412,6 +419,14 @@ slow_script | ./rock run new 512 1 1 >printed 2>said
 [ $? -eq 0 ] && [ ! -s said ] && printf '1 1 STORED 1\n1 2 HIT 1 5 68656c6c6f\n' | cmp -s - printed
 holds 'a script from a slow pipe is read to its end' $?
 
+# Waits until two entries of a file are listed in a copy, since the file itself is in use.
+two_listed() {
+    for _ in $(seq 1000); do
+        sleep 0.01
+        cp "$1" beside 2>/dev/null && [ "$(./rock list beside 512 2>/dev/null | head -n 2 | wc -l)" -eq 2 ] && return
+    done
+}
+
 # Runs the program and kills it while it stores, as soon as two entries of its file are listed: what is run, in words,
 # its standard input, and the words of its command line, of which the second one is the file.
 killed() {
@@ -419,10 +434,7 @@ killed() {
     shift 2
     ./rock "$@" <"$from" >printed 2>said &
     run=$!
-    for _ in $(seq 1000); do
-        sleep 0.01
-        [ "$(./rock list "$name" 512 2>/dev/null | head -n 2 | wc -l)" -eq 2 ] && break
-    done
+    two_listed "$name"
     kill -9 "$run"
     wait "$run" 2>ended
     [ $? -eq 137 ] && [ ! -s printed ] && [ ! -s said ]
@@ -450,11 +462,82 @@ paste -d '|' wanted got | awk -F '|' '
     END { exit wrong || !hits }'
 holds 'what a killed run left is served whole' $?
 
+# One program at a time. Another program has the lock of the file for itself, or shares it.
+cp one busy && cp busy copy
+as=(flock -x busy)
+row 6 '' "rock: DeviceFault: busy $in_use" list busy 512
+row 6 '' "rock: DeviceFault: busy $in_use" check busy 512 1
+row 9 '' "rock: Exists: there is a file busy $taken" create busy 512 1
+run_row 6 '' "rock: DeviceFault: busy $in_use" '1 put http://a/b =x' busy 512 1 1
+as=(flock -s busy)
+row 0 $'ENTRY 0 7 1 5 http://a/b\n' '' list busy 512
+row 0 $'slots=1 kept=1 used=1 free=0 version=7\n' '' check busy 512 1
+run_row 6 '' "rock: DeviceFault: busy $in_use" '1 put http://a/b =x' busy 512 1 1
+as=()
+cmp -s copy busy
+holds 'a file that is in use stays as it was' $?
+served busy 512 1 1 <<'END'
+1 get http://a/b|HIT 7 5 68656c6c6f
+END
+
+# Two runs at once: the second one is refused, and so are readers, until the first one has ended. It is stopped meanwhile.
+rm -f new && ./rock create new 512 4096
+./rock run new 512 4096 1 <many >first_printed 2>first_said &
+first=$!
+two_listed new
+kill -STOP "$first"
+run_row 6 '' "rock: DeviceFault: new $in_use" '1 put http://a/b =x' new 512 4096 1
+row 6 '' "rock: DeviceFault: new $in_use" list new 512
+row 6 '' "rock: DeviceFault: new $in_use" check new 512 1
+kill -CONT "$first"
+wait "$first"
+[ $? -eq 0 ] && [ ! -s first_said ] && [ "$(wc -l <first_printed)" -eq 1200 ]
+holds 'a run ends as ever where others were refused meanwhile' $?
+served new 512 4096 1 <<'END'
+1 put http://b =x|STORED 1201
+END
+
 # Files that are too short, or end within a slot.
-truncate -s 16895 db
-row 8 '' "rock: Small bytes=16895: db $too_short" list db 512
-truncate -s 17508 db
-row 0 $'slots=2 kept=0 used=0 free=2 version=0\n' '' check db 512 2
+truncate -s 16895 short
+row 8 '' "rock: Small bytes=16895: short $too_short" list short 512
+truncate -s 17508 short
+row 0 $'slots=2 kept=0 used=0 free=2 version=0\n' '' check short 512 2
+
+# Files that record one slot, or four, of 512 bytes in their header areas.
+record() {
+    printf 'RockSMP2\0\2\0\0\'"$2"'\0\0\0' | dd of="$1" bs=16 count=1 conv=notrunc status=none
+}
+row 8 '' "rock: BadGeometry field=7: the header area of one $unrecorded" list one -
+cp one recorded && record recorded 1 && cp recorded kept
+row 0 $'ENTRY 0 7 1 5 http://a/b\n' '' list recorded -
+row 0 $'ENTRY 0 7 1 5 http://a/b\n' '' list recorded 512
+row 0 $'slots=1 kept=1 used=1 free=0 version=7\n' '' check recorded - 1
+row 8 '' "rock: BadGeometry field=2: the number of anchors 2 $anchor_limits recorded; rock check recorded - $counted" check recorded - 2
+row 8 '' "rock: BadGeometry field=5: the header area of recorded records another slot size than 1024; $other_size" list recorded 1024
+run_row 8 '' "rock: BadGeometry field=5: the header area of recorded records another slot size than 1024; $other_size" '' recorded 1024 1 1
+run_row 0 $'1 1 HIT 7 5 68656c6c6f\n' '' '1 get http://a/b' recorded - 1 1
+cmp -s recorded kept
+holds 'a file that records its slots stays as it was' $?
+for name in gone - --; do
+    row 2 '' "rock: Usage: $usage" create "$name" - 4
+    row 2 '' "rock: Usage: $usage" list - "$name"
+done
+row 8 '' "rock: Missing: there is no file gone; $absent" list gone -
+
+# A file that was cut is given its length again: first whole slots, and then zeros.
+rm -f new && row 0 '' '' create new 512 4
+run_row 0 $'1 1 STORED 1\n1 2 STORED 2\n' '' $'1 put http://a/b =hello\n1 put http://a/c #600:0' new - 4 1
+truncate -s 17000 new
+row 8 '' "rock: BadGeometry field=6: the header area of new $other_slots" list new -
+row 8 '' "rock: BadGeometry field=6: the header area of new $other_slots" list new 1024
+truncate -s 16896 new && truncate -s 18432 new
+row 0 $'ENTRY 0 1 1 5 http://a/b\n' '' list new -
+truncate -s 18944 new
+row 8 '' "rock: BadGeometry field=6: the header area of new $other_slots" check new - 4
+truncate -s 18432 new
+row 0 $'slots=4 kept=1 used=1 free=3 version=1\n' '' check new - 4
+dd if=/dev/zero of=new bs=16 count=1 conv=notrunc status=none
+row 0 $'ENTRY 0 1 1 5 http://a/b\n' '' list new 512
 
 # The greatest file takes no room to speak of, where the file system can leave gaps.
 row 0 '' '' create great 32768 1048576
@@ -485,6 +568,34 @@ run_row 8 '' \
 )
 holds 'the greatest file asks for more than 64 MiB' $?
 rm great
+
+# Too many open files: a run has its file open once, and once for each worker.
+(
+    failed=0
+    ulimit -n 20
+    run_row 6 '' "rock: DeviceFault: new $too_many" '1 get http://a/1' new 512 4096 32
+    [ "$failed" -eq 0 ]
+)
+holds 'a limit of 20 open files is too low for 32 workers, and that is said' $?
+
+# What a tracer shows: `list` and `check` open the file for reading alone, and a call of standard input or output that a signal
+# interrupts is made again.
+if command -v strace >/dev/null && strace -o traced true 2>/dev/null; then
+    as=(strace -o traced)
+    row 0 $'ENTRY 0 7 1 5 http://a/b\n' '' list busy 512
+    ! grep -v O_RDONLY traced | grep -q '^open.*busy'
+    holds 'list opens its file for reading alone' $?
+    row 0 $'slots=1 kept=1 used=1 free=0 version=7\n' '' check busy 512 1
+    ! grep -v O_RDONLY traced | grep -q '^open.*busy'
+    holds 'check opens its file for reading alone' $?
+    as=(strace -o traced -e inject=read:error=EINTR:when=2..4 -e inject=write:error=EINTR:when=1..2)
+    run_row 0 $'1 1 HIT 7 5 68656c6c6f\n' '' '1 get http://a/b' busy 512 1 1
+    [ "$(grep -c '^read(0.*EINTR' traced)" -eq 3 ] && [ "$(grep -c '^write(1.*EINTR' traced)" -eq 2 ]
+    holds 'interrupted reads of the script and writes of the answers are made again' $?
+    as=()
+else
+    skip 'what a tracer shows: there is no strace here'
+fi
 
 # Permissions, as another user where this one may do everything.
 chmod 444 one && cp one secret && chmod 000 secret && mkdir closed && chmod 555 closed
@@ -533,6 +644,17 @@ if mount -t tmpfs -o size=64k,nr_inodes=4 tmpfs full 2>/dev/null; then
     [ "$(./rock list full/db 16384 | wc -l)" -eq "$(grep -c ' STORED ' printed)" ]
     holds 'what was stored before the disk was full is listed' $?
     umount full
+    # A disk that is full in the middle of a slot leaves zeros in place of its header, and the next line tries this slot again.
+    mount -t tmpfs -o size=76k,nr_inodes=4 tmpfs full && row 0 '' '' create full/db 16384 16
+    ./rock run full/db 16384 16 1 >printed 2>said <script
+    [ $? -eq 0 ] && [ ! -s said ] && [ "$(cut -d ' ' -f 3 printed | tr '\n' ' ')" = 'STORED STORED STORED FAULT FAULT FAULT ' ]
+    holds 'a disk that is full in the middle of a slot is the answer FAULT' $?
+    [ "$(tail -c +65537 full/db | head -c 40 | tr -d '\0' | wc -c)" -eq 0 ] &&
+        [ "$(tail -c +65577 full/db | head -c 8000 | tr -d '\0' | wc -c)" -gt 7000 ]
+    holds 'a slot that was written in part begins with a header of zeros' $?
+    [ "$(./rock list full/db 16384 | wc -l)" -eq 3 ]
+    holds 'a slot that was written in part is no entry' $?
+    umount full
     # Room that a file was given before is there, however full the disk is then.
     mount -t tmpfs -o size=512k tmpfs full && row 0 '' '' create full/db 16384 16 && fallocate -l 278528 full/db
     yes | head -c 1048576 2>/dev/null >full/rest
@@ -548,6 +670,10 @@ fi
 if mount -t tmpfs -o size=64k,nr_inodes=1 tmpfs full 2>/dev/null; then
     row 6 '' "rock: DeviceFault: full/db $disk" create full/db 512 1
     umount full
+    # Its header area does not fit: the file is there with its slots, all the same.
+    mount -t tmpfs -o size=8k,nr_inodes=2 tmpfs full && row 6 '' "rock: DeviceFault: full/db $disk" create full/db 512 4
+    row 0 $'slots=4 kept=0 used=0 free=4 version=0\n' '' check full/db 512 4
+    umount full
 else
     skip 'a full disk: no file system can be mounted here'
 fi
@@ -558,6 +684,27 @@ fi
     [ $? -eq 6 ] && [ "$(cat said)" = "rock: DeviceFault: long $disk" ]
 )
 holds 'a file longer than the limit of the process is a fault of the disk' $?
+(
+    ulimit -c 0 -f 16
+    ./rock create longer 512 64 >printed 2>said
+    [ $? -eq 153 ] && [ ! -s printed ] && [ ! -s said ]
+) 2>/dev/null
+holds 'where the signal of the limit on the size of files is not ignored, it ends the program' $?
+rm -f new && ./rock create new 512 64
+printf '1 put http://a/b #1000:0\n1 put http://a/c =x\n' >script
+(
+    trap '' XFSZ
+    ulimit -f 17
+    ./rock run new 512 64 1 >printed 2>said <script
+    [ $? -eq 0 ] && [ ! -s said ] && [ "$(cat printed)" = $'1 1 FAULT\n1 2 STORED 2' ]
+)
+holds 'a slot behind the limit of the process is a FAULT' $?
+(
+    ulimit -c 0 -f 17
+    ./rock run new 512 64 1 >printed 2>said <script
+    [ $? -eq 153 ] && [ ! -s printed ] && [ ! -s said ]
+) 2>/dev/null
+holds 'a run whose slot is behind the limit of the process is ended by the signal' $?
 
 # A row where nothing is compared but the status: a name, the status, and what was to run.
 ends() {
@@ -631,9 +778,10 @@ row 0 $'slots=512 kept=2 used=213 free=299 version=2\n' '' check new 512 512
 
 # A new file is brought to the disk before it is told as made.
 if command -v strace >/dev/null && strace -o calls true 2>/dev/null; then
-    strace -o calls -e trace=ftruncate,fsync,fdatasync ./rock create synced 512 4 2>said
-    [ $? -eq 0 ] && grep -q '^ftruncate(.*, 18432) *= 0' calls && tail -n 2 calls | grep -q '^fsync(.*) *= 0'
-    holds 'a new file has its length and is synced' $?
+    strace -o calls -e trace=ftruncate,pwrite64,fsync,fdatasync ./rock create synced 512 4 2>said
+    [ $? -eq 0 ] && grep -q '^ftruncate(.*, 18432) *= 0' calls && grep -q '^fsync(.*) *= 0' calls &&
+        [ "$(grep -o '^ftruncate\|^fsync\|^pwrite64\|^fdatasync' calls | tr '\n' ' ')" = 'ftruncate fsync pwrite64 fdatasync ' ]
+    holds 'a new file has its length and is synced, and then its header area is written and synced' $?
     # What put stores is written and not synced, and what save stores is synced behind each slot.
     rm -f new && row 0 '' '' create new 512 8
     printf '1 put http://a/b #431:0\n1 save http://a/b #431:0\n' >script
@@ -826,8 +974,16 @@ if "${as[@]}" true 2>/dev/null; then
         [ $? -eq 0 ] && [ ! -s said ] && [ "$(cat printed)" = \
             'bench requests=2000 hits=215 misses=759 stored=795 purged=46 none=185 other=0 bytes=137231' ]
         holds 'a benchmark without threads prints the same line' $?
+        # Workers that await those with lower numbers end, however few threads there are, and however little address space.
+        for workers in 2 8 32; do
+            for limit in '-u 1' '-u 2' '-u 5' '-v 20000' '-v 200000'; do
+                rm -f few && ./rock create few 512 4 && chmod 666 few
+                as=(timeout 60 setpriv --reuid=64137 --regid=64137 --clear-groups bash -c "ulimit $limit"' && exec "$@"' bash)
+                served few 512 1 "$workers" < <(chain_of_marks "$workers")
+            done
+        done
     else
-        skip 'a benchmark without threads: there is no other user to run as'
+        skip 'runs and benchmarks without threads: there is no other user to run as'
     fi
 else
     skip 'permissions of a benchmark: there is no other user to run as'
@@ -864,6 +1020,12 @@ fi
     [ $? -eq 6 ] && [ ! -s printed ] && [ "$(cat said)" = "rock: DeviceFault: cut $disk" ]
 )
 holds 'a benchmark whose file is longer than the limit of the process is a fault of the disk' $?
+(
+    ulimit -c 0 -f 16
+    ./rock bench cut_off 7 1 10 >printed 2>said
+    [ $? -eq 153 ] && [ ! -s printed ] && [ ! -s said ]
+) 2>/dev/null
+holds 'a benchmark whose file is longer than the limit is ended by the signal where that is not ignored' $?
 (
     ulimit -v 16384
     ./rock bench short 7 32 10000 2>said >printed

@@ -20,7 +20,7 @@ import xml.etree.ElementTree as ElementTree
 
 sys.dont_write_bytecode = True
 from made_files import HEADER_AREA, ROCK, ROOM, ROOT, SLOT, anchor_of, end, entry, holds, image, item  # noqa: E402
-from made_files import key_of, metadata, module, of_wrong_size, write_file  # noqa: E402
+from made_files import key_of, metadata, module, of_wrong_size, record, write_file  # noqa: E402
 
 TOOL = f"{ROOT}/tools/slot_map.py"
 SVG = "{http://www.w3.org/2000/svg}"
@@ -207,6 +207,17 @@ def greatest_file(folder):
     holds("the ends of the greatest file", ends == [front, back])
 
 
+def recorded(folder):
+    """A file that records its slots has the same map by `-` as by their size."""
+    name = f"{folder}/recorded"
+    write_file(name, 4, entry(B, b"x" * 1000, 7, [2, 0, 3]))
+    record(name, 512, 4)
+    compare(name, 2, "slots=4 kept=1 used=3 free=1 version=7", 1, [3, 0, 0, 1])
+    maps = [run_tool("--anchors", "2", name, slot) for slot in ("-", "512")]
+    holds(f"the map by -: {maps[0].stderr}", maps[0].returncode == 0 and maps[0].stdout == maps[1].stdout)
+    return name
+
+
 def refusals(folder):
     """Each is one line on standard error, nothing on standard output, and status 1."""
     one, short = f"{ROOT}/crates/rock_main/data/db", f"{folder}/short"
@@ -218,6 +229,8 @@ def refusals(folder):
         ([short, "512"], b"shorter than the header area and one slot"),
         ([one, "500"], b"the slot size 500 is no multiple of 512 from 512 to 32768"),
         ([one, "0512"], b"0512 is no number"),
+        ([one, "-"], b"does not record the size of its slots"),
+        ([recorded(folder), "1024"], b"records slots of 512 bytes, and not of 1024"),
         ([one], b"SLOT"),
         ([one, "512", "1"], b"unrecognized"),
         ([one, "512", "--anchors", "0"], b"the number of anchors 0 is not from 1 to 1"),

@@ -1,5 +1,5 @@
 #!/usr/bin/env bash
-# Plays the random walk of walk_tests, and after each step reads off the state what must hold between two steps:
+# Plays the random walk of test_random_steps, and after each step reads off the state what must hold between two steps:
 # readers, writers, freers and last tabs, the counters, what was seen, the place of each slot, the links of
 # chains, turns and their holders, what cells hold, and which pieces were logged for them. Clauses say most of
 # this of every step, so this tries the tools and not the code, and it is no part of the gate. It works on a
@@ -17,7 +17,7 @@ git ls-files -z crates crates.txt HANDLES | xargs -0 cp --parents -t "$copy"
 for built in crates/*/out/rlib/stamp; do
     [ -e "$built" ] && cp -a --parents "$(dirname "$built")" "$copy"
 done
-walk=$copy/crates/walk_tests/src/walk
+walk=$copy/crates/test_random_steps/src/walk
 mkdir "$walk/checks"
 for file in tests/state_walk/*.txt; do
     name=$(basename "$file" .txt)
@@ -29,7 +29,7 @@ sed -i 's/^mod choice;$/mod checks;\nmod choice;/
     s/^\( *\)watch\.note_step(.*$/&\n\1checks::check(rt, \&core);/' "$walk.rt"
 grep -q 'checks::check' "$walk.rt"
 
-cd "$copy/crates/walk_tests"
+cd "$copy/crates/test_random_steps"
 if [ "${1:-}" = try ]; then
     rt try --test --seconds "${RT_SECONDS:-7200}"
 else

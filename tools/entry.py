@@ -5,9 +5,10 @@
     tools/entry.py FILE SLOT URL
     tools/entry.py --help
 
-FILE is the database file and SLOT the bytes of a slot, as for `rock list FILE SLOT`. A word of digits alone is the number
-of the entry's first slot, with which its line begins there. Any other word is a URL. Of several entries with this URL the
-one of greatest version is written, and of those with that version the one that begins at the least slot.
+FILE is the database file and SLOT the bytes of a slot, or - where the header area records them, as for
+`rock list FILE SLOT`. A word of digits alone is the number of the entry's first slot, with which its line begins there.
+Any other word is a URL. Of several entries with this URL the one of greatest version is written, and of those with that
+version the one that begins at the least slot.
 
 The entry is found by docs/FORMATS.md alone. Where there is a program, the one that the variable ROCK names or the one that
 is built, the entries with this number or URL are compared with the lines of `rock list` first. This is no part of what is
@@ -113,12 +114,13 @@ def found_by(file, word):
 
 
 # What `rock list` says.
-def listed_by(program, name, slot, word):
+def listed_by(program, name, given, word):
     """The lines of `rock list` with a number or a URL."""
+    slot = "-" if given is None else str(given)
     field = 1 if is_number(word) else 5
     file = f"./{name}" if name.startswith("-") else name
     try:
-        with subprocess.Popen([program, "list", file, str(slot)], stdout=subprocess.PIPE) as ran:
+        with subprocess.Popen([program, "list", file, slot], stdout=subprocess.PIPE) as ran:
             lines = [line for line in ran.stdout if line.split()[field : field + 1] == [os.fsencode(word)]]
     except OSError as cause:
         raise Ended(DIFFERENT, f"rock list could not be run: {cause}") from cause

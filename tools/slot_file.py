@@ -13,6 +13,7 @@ MOST_SLOTS = 1048576
 GREATEST_VERSION = 4294901760
 LONGEST_URL = 2048
 HEADER = struct.Struct("<16sQIIii")
+RECORD, MARK = struct.Struct("<8sII"), b"RockSMP2"
 NO_SLOT = -1
 
 
@@ -40,17 +41,24 @@ class Name(NamedTuple):
 
 
 class SlotFile:
-    """A file that is open for reading, and its slots."""
+    """A file that is open for reading, and its slots. Their size is given, or None where the header area is to tell it."""
 
-    def __init__(self, name, slot):
+    def __init__(self, name, given):
         status = os.stat(name)
         if not stat.S_ISREG(status.st_mode):
             raise Refused(f"{name} is no regular file")
-        if status.st_size < HEADER_AREA + slot:
-            raise Refused(f"{name} is shorter than the header area and one slot")
-        self.name, self.slot, self.room = name, slot, slot - HEADER.size
-        self.count = min((status.st_size - HEADER_AREA) // slot, MOST_SLOTS)
-        self.file = open(name, "rb", buffering=0)
+        if status.st_size < HEADER_AREA:
+            raise Refused(f"{name} is shorter than the header area")
+        self.name, self.file = name, open(name, "rb", buffering=0)
+        try:
+            slot = found_size(name, os.pread(self.file.fileno(), RECORD.size, 0), status.st_size, given)
+            if status.st_size < HEADER_AREA + slot:
+                raise Refused(f"{name} is shorter than the header area and one slot")
+        except Refused:
+            self.file.close()
+            raise
+        self.slot, self.room = slot, slot - HEADER.size
+        self.count = slots_of(status.st_size, slot)
 
     def __enter__(self):
         return self
@@ -82,6 +90,30 @@ class SlotFile:
         if len(found) < count:
             raise Refused(f"{self.name} was cut short while it was read")
         return found
+
+
+# The size of a slot.
+def may_be_size(slot):
+    return slot % 512 == 0 and 512 <= slot <= 32768
+
+
+def slots_of(size, slot):
+    """How many slots a file of so many bytes has."""
+    return min((size - HEADER_AREA) // slot, MOST_SLOTS)
+
+
+def found_size(name, front, size, given):
+    """The size that the front of a header area records, where it fits the file; or where it records none, the given one."""
+    mark, slot, slots = RECORD.unpack(front)
+    if mark != MARK:
+        if given is None:
+            raise Refused(f"{name} does not record the size of its slots; give it as a number")
+        return given
+    if not may_be_size(slot) or slots < 1 or slots != slots_of(size, slot):
+        raise Refused(f"{name} records {slots} slots of {slot} bytes, which it has not")
+    if given not in (None, slot):
+        raise Refused(f"{name} records slots of {slot} bytes, and not of {given}")
+    return slot
 
 
 def read_name(payload):
@@ -135,8 +167,11 @@ def decimal(word):
 
 
 def slot_size(word):
+    """The size of a slot that is given, or None for `-`."""
+    if word == "-":
+        return None
     slot = decimal(word)
-    if slot % 512 or not 512 <= slot <= 32768:
+    if not may_be_size(slot):
         raise Refused(f"the slot size {slot} is no multiple of 512 from 512 to 32768")
     return slot
 

@@ -41,8 +41,8 @@ COLOURS = {BLANK: (0.91, 0.91, 0.91), DAMAGED: (0.2, 0.2, 0.2), NOT_KEPT: (0.98,
 class Slots:
     """What the headers of a file say: a column for each field. A slot without a sane header has version 0."""
 
-    def __init__(self, count, room):
-        self.count, self.room = count, room
+    def __init__(self, count, slot, room):
+        self.count, self.slot, self.room = count, slot, room
         self.keys = bytearray(16 * count)
         self.entry_sizes = array("Q", [0]) * count
         self.payload_sizes = array("I", [0]) * count
@@ -69,7 +69,7 @@ class Slots:
 def read_file(name, slot):
     """Reads the header of each slot, and the payload of each slot that may begin an entry."""
     with SlotFile(name, slot) as file:
-        slots = Slots(file.count, file.room)
+        slots = Slots(file.count, file.slot, file.room)
         for number in range(slots.count):
             read_slot(file, slots, number)
     return slots
@@ -157,8 +157,8 @@ def winners(slots, chains, anchors):
 class Map:
     """All that is drawn: the slots, their chains, what each slot is, and the numbers of it all."""
 
-    def __init__(self, name, slot, anchors, slots):
-        self.name, self.slot, self.anchors, self.slots = name, slot, anchors, slots
+    def __init__(self, name, anchors, slots):
+        self.name, self.anchors, self.slots = name, anchors, slots
         self.chains = Chains(slots)
         best = winners(slots, self.chains, anchors)
         is_kept = bytearray(slots.count)
@@ -340,7 +340,7 @@ def draw_legend(drawn, run):
     scale = "one cell a slot, one colour an entry, pale where it is not kept, a dot on its first slot"
     if run > 1:
         scale = f"one cell for {run} slots, in the average of their colours, with a dark border where one is damaged"
-    yield text(LEFT, 46, f"slot size {drawn.slot}, anchors {drawn.anchors}; {scale}")
+    yield text(LEFT, 46, f"slot size {drawn.slots.slot}, anchors {drawn.anchors}; {scale}")
     yield text(LEFT, 68, drawn.check_line(), ' font-family="monospace" id="check"')
     yield text(LEFT, 88, f"complete entries: {drawn.entries}", ' font-family="monospace" id="list"')
     for place, (kind, meaning) in enumerate(MEANINGS.items()):
@@ -381,7 +381,7 @@ class Parser(argparse.ArgumentParser):
 def read_words():
     parser = Parser(prog="slot_map.py", allow_abbrev=False, description="Draws the slots of a database file as an SVG.")
     parser.add_argument("file", metavar="FILE", help="the database file")
-    parser.add_argument("slot", metavar="SLOT", type=slot_size, help="bytes a slot")
+    parser.add_argument("slot", metavar="SLOT", type=slot_size, help="bytes a slot, or - where the header area records them")
     parser.add_argument("--anchors", metavar="N", type=decimal, default=1, help="anchors of the store (default: 1)")
     return parser.parse_args()
 
@@ -391,7 +391,7 @@ def map_of(asked):
     slots = read_file(asked.file, asked.slot)
     if not 1 <= asked.anchors <= slots.count:
         raise Refused(f"the number of anchors {asked.anchors} is not from 1 to {slots.count}, the number of slots")
-    return Map(asked.file, asked.slot, asked.anchors, slots)
+    return Map(asked.file, asked.anchors, slots)
 
 
 def write(lines):

@@ -3,3 +3,5 @@ pub mod Printed
 pub mod Ran
 pub mod Made
 pub mod Plain
+pub mod Stations
+pub mod Refused

@@ -3,19 +3,22 @@ use Rattle.std.proofs.Common.{◌≡◌, ◌∙◌, ◌*◌, ◌+◌, ◌++◌, 
 use Rattle.std.specs.Prelude.{All, Option, Some, drop, take}
 use Rattle.std.specs.FinMap.{get}
 use Rattle.std.specs.List.{zip}
-use Rattle.std.proofs.lemmas.List.{append-nil, length-map}
+use Rattle.std.proofs.lemmas.List.{append-nil, drop_at, length-map}
 use Rattle.std.proofs.lemmas.List.Elements.{All-cons, All-drop, All-nil, All-replicate, All-take}
 use Rattle.std.proofs.lemmas.Slice.Zip.{seconds-zip}
 use Rattle.workload.specs.Counts.{summary_of}
 use Rattle.workload.specs.Text.{summary_line}
-use Rattle.db_layout.specs.Layout.{IsSlotSize, file_size}
+use Rattle.db_layout.specs.Geometry.{header_of}
+use Rattle.db_layout.specs.Layout.{IsSlotSize}
+use Rattle.db_layout.specs.declared.geometry.Geometry.{Geometry}
+use Rattle.file_commands.specs.Create.{IsMade, made_bytes}
+use Rattle.file_commands.specs.Recording.{geometry_of}
 use Rattle.plain_model.specs.declared.store.Plain.{Plain}
 use Rattle.plain_model.specs.declared.store.Setting.{Setting}
 use Rattle.plain_model.specs.Opening.{IsOpened}
 use Rattle.plain_model.specs.Serving.{answers, answers_of, fresh, lines_for, serve}
 use Rattle.rock_disk.specs.Cell.{CellState}
-use Rattle.rock_disk.specs.Created.{IsCreated}
-use Rattle.rock_disk.specs.File.{File, Files, bytes_of, slots_cut, slots_from, uncut, zeros}
+use Rattle.rock_disk.specs.File.{File, Files, bytes_of, cut, slots_cut, slots_from, zeros}
 use Rattle.run_rules.specs.Plain.{IsAnsweredPlainly}
 use Rattle.run_rules.specs.Runs.{HasImages}
 use Rattle.script_text.specs.declared.answer.Answer.{Answer}
@@ -24,7 +27,7 @@ use Rattle.workload.specs.Script.{bench_lines}
 use Rattle.bench_command.specs.Answers.{answers_in}
 use Rattle.bench_command.specs.Numbers.{anchors_for, slot_size, slots_for}
 use Rattle.bench_command.specs.Plain.{plain_answers, plain_line, setting_of_one}
-use Rattle.bench_command.proofs.Made.{made_there, zeros_long}
+use Rattle.bench_command.proofs.Made.{made_file, made_long, made_there}
 
 pub sized : IsSlotSize slot_size
 sized = record { from = omega arith; to = omega arith; multiple = omega arith }
@@ -61,27 +64,31 @@ without_numbers lines given same =
     append-nil (map (λ (numbered : ℕ × Answer). numbered.1) (zip (map (λ (line : Line). line.number) lines) given))
     ∙ seconds-zip (map (λ (line : Line). line.number) lines) given (same ∙ sym (length-map lines (λ (line : Line). line.number)))
 
-abbrev size_of_one : ℕ
-size_of_one = file_size (slots_for 1) slot_size
+abbrev bytes_of_one : List ℕ
+bytes_of_one = made_bytes slot_size (slots_for 1)
 
-abbrev made_slots : List (List ℕ)
-made_slots = map (λ (c : CellState). c.now) (slots_cut slot_size (zeros size_of_one))
+abbrev made_images : List (List ℕ)
+made_images = map (λ (c : CellState). c.now) (slots_cut slot_size bytes_of_one)
 
-module _ (before middle left : Files) (name : List ℕ) (made : IsCreated before middle name size_of_one) where
-  one_file : (f : File) → get middle name ≡ Some f → f ≡ uncut (zeros size_of_one)
-  one_file f there = let is = made_there before middle name size_of_one made in cc
+module _ (same_bytes : (slot : ℕ) (bytes : List ℕ) → bytes_of (cut slot bytes) ≡ bytes) (whole : (g : Geometry) → length (header_of g) ≡ 16384) (before middle left : Files) (name : List ℕ) (made : IsMade slot_size (slots_for 1) name before middle) where
+  one_file : (f : File) → get middle name ≡ Some f → f ≡ made_file 1
+  one_file f there = let is = made_there before middle name 1 made in cc
 
-  images_are : (images : List (List ℕ)) → HasImages middle name slot_size images → images ≡ made_slots
+  images_are : (images : List (List ℕ)) → HasImages middle name slot_size images → images ≡ made_images
   images_are images h = h.images_are ∙ ap (λ (f : File). map (λ (c : CellState). c.now) (slots_cut slot_size (bytes_of f))) (one_file h.was h.there)
+      ∙ ap (λ (bytes : List ℕ). map (λ (c : CellState). c.now) (slots_cut slot_size bytes)) (same_bytes slot_size bytes_of_one)
+
+  behind : drop 16384 bytes_of_one ≡ zeros (slots_for 1 * slot_size)
+  behind = drop_at (header_of (geometry_of slot_size (slots_for 1))) (zeros (slots_for 1 * slot_size)) 16384 (whole (geometry_of slot_size (slots_for 1)))
 
   images_zeros : (images : List (List ℕ)) → HasImages middle name slot_size images → All AreZeros images
   images_zeros images h = subst (All AreZeros) (sym (images_are images h))
-      (zeros_cut 0 _ slot_size (drop 16384 (zeros size_of_one)) (All-drop (λ b. b ≡ 0) 16384 (zeros size_of_one) (are_zeros size_of_one)))
+      (zeros_cut 0 _ slot_size (drop 16384 bytes_of_one) (subst AreZeros (sym behind) (are_zeros (slots_for 1 * slot_size))))
 
   many : (images : List (List ℕ)) → HasImages middle name slot_size images → length images ≡ slots_for 1
   many images h =
-      let long = zeros_long size_of_one in
-      let count = as_many 0 _ slot_size (drop 16384 (zeros size_of_one)) in
+      let long = made_long same_bytes whole 1 in
+      let count = as_many 0 _ slot_size (drop 16384 bytes_of_one) in
       ap length (images_are images h) ∙ count ∙ omega (arith, long)
 
   pub answered_plainly : (seed count : ℕ) (answers_given : List (List (ℕ × Answer)))
@@ -95,13 +102,13 @@ module _ (before middle left : Files) (name : List ℕ) (made : IsCreated before
       ∙ ap (λ (n : ℕ). answers_of (record { slots = n; room = setting_of_one.room; anchors = anchors_for 1 }) lines 1 h.plain) (many h.images h.file)
       ∙ ap (answers_of setting_of_one lines 1) new
 
-module _ (before middle left : Files) (name : List ℕ) (seed workers count : ℕ) (answers_given : List (List (ℕ × Answer))) where
+module _ (same_bytes : (slot : ℕ) (bytes : List ℕ) → bytes_of (cut slot bytes) ≡ bytes) (whole : (g : Geometry) → length (header_of g) ≡ 16384) (before middle left : Files) (name : List ℕ) (seed workers count : ℕ) (answers_given : List (List (ℕ × Answer))) where
   -- the same of a worker that is told to be the only one
   pub line_of_one : workers ≡ 1
       → ((images : List (List ℕ)) (p : Plain) → All AreZeros images → IsOpened slot_size images (anchors_for 1) p → p ≡ fresh (anchors_for 1))
-      → IsCreated before middle name (file_size (slots_for workers) slot_size)
+      → IsMade slot_size (slots_for workers) name before middle
       → IsAnsweredPlainly middle left name slot_size (anchors_for workers) (bench_lines seed workers count) answers_given → summary_line (summary_of (answers_in answers_given)) ≡ plain_line seed count
   line_of_one alone law made h =
-      let made_for_one = subst (λ (w : ℕ). IsCreated before middle name (file_size (slots_for w) slot_size)) alone made in
+      let made_for_one = subst (λ (w : ℕ). IsMade slot_size (slots_for w) name before middle) alone made in
       let answered = subst (λ (w : ℕ). IsAnsweredPlainly middle left name slot_size (anchors_for w) (bench_lines seed w count) answers_given) alone h in
-      ap (λ (given : List Answer). summary_line (summary_of given)) (answered_plainly before middle left name made_for_one seed count answers_given law answered)
+      ap (λ (given : List Answer). summary_line (summary_of given)) (answered_plainly same_bytes whole before middle left name made_for_one seed count answers_given law answered)

@@ -6,7 +6,7 @@ use Rattle.script_text.specs.declared.request.Request.{Request}
 use Rattle.script_text.specs.declared.request.Request.TheVariants.{Add, Await, Begin, CloseTab, DropTab, End, Get, Mark, More, OpenTab, Purge, Put, Save}
 use Rattle.workload.specs.Requests.{NamesUrl}
 use Rattle.rock_run.specs.Scripts.{MayBeServed}
-use Rattle.script_origin.specs.Asked.{IsAsked}
+use Rattle.rock_run.specs.Asked.{IsAsked}
 
 asked_by_url : (request : Request) → NamesUrl request → IsAsked request
 asked_by_url (Get url) h = h

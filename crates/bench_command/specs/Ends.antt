@@ -5,13 +5,14 @@ use Rattle.rock_disk.specs.File.{Files, IsThere}
 use Rattle.rock_io.specs.Faults.{Rose}
 use Rattle.rock_open.specs.Device.{Counts, NoStation}
 use Rattle.rock_open.specs.Opening.{IsBeyond, IsPasses}
-use Rattle.rock_run.specs.Device.{HasFailed}
+use Rattle.rock_run.specs.Device.{HasFailed as RunFailed}
 use Rattle.rock_status.specs.declared.status.Status.{Status}
 use Rattle.rock_status.specs.declared.status.Status.TheVariants.{BadGeometry, BadScript, DeviceFault, Done, Exists, Memory, Missing, SinkFault, Small, SourceFault, Usage}
 use Rattle.bench_command.specs.Numbers.{AreBenchNumbers, IsRounds, anchors_for, slot_size}
+use Rattle.bench_command.specs.Stations.{HasFailed, NoneBehind}
 
--- The counts are those of the faults of the sink, and of the volume, before and after. Where a number or the files refuse the benchmark, no station
--- was made.
+-- The counts are those of the faults of the sink, and of the volume, before and after. Where a number or the name refuses the benchmark, no station
+-- was made, and where opening refuses its file, that of the header area at most.
 abbrev pub BenchEnds : (workers count : ℕ) → (sink sink_after : ℕ) → (before after : Counts) → Status → Type 0
 BenchEnds workers count k k' before after Done = AreBenchNumbers workers count
 BenchEnds workers count k k' before after Usage = ⊥
@@ -20,12 +21,12 @@ BenchEnds workers count k k' before after SourceFault = ⊥
 BenchEnds workers count k k' before after SinkFault = AreBenchNumbers workers count × Rose k k'
 BenchEnds workers count k k' before after DeviceFault = AreBenchNumbers workers count × HasFailed before after
 BenchEnds workers count k k' before after (BadScript line cause) = ⊥
-BenchEnds workers count k k' before after Missing = AreBenchNumbers workers count × NoStation before after
-BenchEnds workers count k k' before after (Small bytes) = AreBenchNumbers workers count × (bytes < HEADER_BYTES + slot_size) × NoStation before after
+BenchEnds workers count k k' before after Missing = AreBenchNumbers workers count × NoneBehind before after
+BenchEnds workers count k k' before after (Small bytes) = AreBenchNumbers workers count × (bytes < HEADER_BYTES + slot_size) × NoneBehind before after
 BenchEnds workers count k k' before after (BadGeometry field) =
     ((field ≡ 3) × ¬ IsPasses workers × NoStation before after)
     ⊎ (((field ≡ 4) × IsPasses workers × ¬ IsRounds count × NoStation before after)
-    ⊎ ((field ≡ 2) × AreBenchNumbers workers count × IsBeyond (anchors_for workers) × NoStation before after))
+    ⊎ ((field ≡ 2) × AreBenchNumbers workers count × IsBeyond (anchors_for workers) × NoneBehind before after))
 BenchEnds workers count k k' before after Exists = AreBenchNumbers workers count × NoStation before after
 
 -- What each status says of the files. A file that was made is there, is long enough, and has slots for the anchors: so three refusals of opening do
@@ -46,7 +47,7 @@ abbrev pub RunEnds : (workers : ℕ) → (sink sink_after : ℕ) → (before aft
 RunEnds workers k k' before after Done = Unit {0}
 RunEnds workers k k' before after Memory = Unit {0}
 RunEnds workers k k' before after SinkFault = Rose k k'
-RunEnds workers k k' before after DeviceFault = HasFailed before after
+RunEnds workers k k' before after DeviceFault = RunFailed before after
 RunEnds workers k k' before after Missing = NoStation before after
 RunEnds workers k k' before after (Small bytes) = (bytes < HEADER_BYTES + slot_size) × NoStation before after
 RunEnds workers k k' before after (BadGeometry field) = (field ≡ 2) × IsBeyond (anchors_for workers) × NoStation before after

@@ -44,7 +44,7 @@ module _ {C : Type 0} (volume_tells tells : Bool) (state : C → CellState) wher
     BenchLeaves Done = LeavesMade Done
     BenchLeaves SinkFault = LeavesMade SinkFault
     BenchLeaves DeviceFault = CreateLeaves volume_tells slot_size (slots_for workers) name before after DeviceFault ⊎ LeavesMade DeviceFault
-    BenchLeaves Memory = (after ≡ before) ⊎ LeavesMade Memory
+    BenchLeaves Memory = CreateLeaves volume_tells slot_size (slots_for workers) name before after Memory ⊎ LeavesMade Memory
     BenchLeaves Missing = LeavesMade Missing
     BenchLeaves (Small bytes) = LeavesMade (Small bytes)
     BenchLeaves (BadGeometry field) = (after ≡ before) ⊎ ((field ≡ 2) × LeavesMade (BadGeometry field))

@@ -1,5 +1,6 @@
 pub mod Answers
 pub mod Numbers
+pub mod Stations
 pub mod Ends
 pub mod Plain
 pub mod Prints

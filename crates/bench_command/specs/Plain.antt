@@ -10,6 +10,7 @@ use Rattle.run_rules.specs.Plain.{NoneFailedServing}
 use Rattle.script_text.specs.declared.answer.Answer.{Answer}
 use Rattle.workload.specs.Script.{bench_lines}
 use Rattle.bench_command.specs.Numbers.{anchors_for, slot_size, slots_for}
+use Rattle.bench_command.specs.Stations.{made_counts}
 
 -- the slots of one worker, and its anchors
 abbrev pub setting_of_one : Setting
@@ -23,6 +24,6 @@ plain_answers seed count = answers_of setting_of_one (bench_lines seed 1 count) 
 abbrev pub plain_line : (seed count : ℕ) → List ℕ
 plain_line seed count = summary_line (summary_of (plain_answers seed count))
 
--- no station of a worker was ended with a fault
+-- no station of a worker was ended with a fault, where those of the run are behind that of the header area
 abbrev pub NoWorkerFailed : (before after : Counts) → Type 0
-NoWorkerFailed before after = NoneFailedServing before after
+NoWorkerFailed before after = NoneFailedServing (made_counts before) after

@@ -5,17 +5,18 @@ ghost use Rattle.rock_disk.specs.File.{NoneAway};
 ghost use Rattle.rock_io.specs.Faults.{Rose};
 ghost use Rattle.rock_open.specs.Device.{counts};
 ghost use Rattle.rock_open.specs.Opening.{IsPasses};
-ghost use Rattle.rock_run.specs.Device.{EachEnded, HasFailed, NoneFailed};
 ghost use Rattle.workload.specs.Script.{bench_lines};
 ghost use Rattle.bench_command.specs.Ends.{BenchEnds, BenchSays, IsBenchRefused};
 ghost use Rattle.bench_command.specs.Leaves.{BenchLeaves};
 ghost use Rattle.bench_command.specs.Numbers.{IsRounds, MayBench};
 ghost use Rattle.bench_command.specs.Prints.{IsBenchText};
+ghost use Rattle.bench_command.specs.Stations.{EachEnded, HasFailed, NoneFailed};
 
 use crate::running::{BenchTarget, SLOT_BYTES, run_bench};
+use db_layout::geometries_are_read_as_written;
 use file_commands::create_file;
 use plain_laws::unwritten_slots_open_fresh_stores;
-use rock_disk::{Volume, created_files_are_in};
+use rock_disk::{Volume, cutting_keeps_the_bytes};
 use rock_io::Sink;
 use rock_status::Status;
 use std::alloc::Global;
@@ -39,7 +40,7 @@ fn is_rounds(count: u32) -> bool
     count <= 10_000
 }
 
-/// Makes a file with 64 slots of 512 bytes for each worker, runs the script of a benchmark over it by a store with 16 anchors
+/// Makes a file with 64 slots of 512 bytes for each worker, which its header area records, runs the script of a benchmark over it by a store with 16 anchors
 /// for each worker, and prints one line that sums up what the workers were answered. The file stays.
 ///
 /// It is refused, in this order, with [`Status::BadGeometry`] and field 3 where there are not 1 to 32 workers, and field 4
@@ -95,7 +96,8 @@ where
         (counts (V.faults volume.old) (V.made volume.old) (V.ended volume.old))
         (counts (V.faults volume.new) (V.made volume.new) (V.ended volume.new)) }
 {
-    created_files_are_in();
+    cutting_keeps_the_bytes();
+    geometries_are_read_as_written();
     unwritten_slots_open_fresh_stores();
     if !is_workers(target.workers) {
         return Status::BadGeometry { field: 3 };
@@ -103,7 +105,8 @@ where
     if !is_rounds(target.count) {
         return Status::BadGeometry { field: 4 };
     }
-    match create_file(volume, target.name, SLOT_BYTES, SLOTS_EACH * target.workers) {
+    let slots = SLOTS_EACH * target.workers;
+    match create_file(alloc, volume, target.name, SLOT_BYTES, slots) {
         Status::Done => run_bench(rt, alloc, volume, out, target),
         refused => refused,
     }

@@ -5,12 +5,13 @@ ghost use Rattle.core_model.specs.Table.{Allowed};
 ghost use Rattle.core_table.specs.Inside.{setting, state};
 ghost use Rattle.core_change.specs.Planned.{IsScene, Plans};
 
-use crate::recall::{VERSION_LIMIT, last_count};
+use crate::recall::last_count;
 use core_change::{
     ChainChange, Change, NotesChange, Refusal, TabsChange, TurnChange, WordChange, counter_addition,
 };
 use core_model::{Addition, Kind, Place, View};
 use core_table::{Content, Opening, Table};
+use lock_word::GREATEST_VERSION;
 
 /// The counter is looked at.
 pub fn count(opening: &Opening, table: &Table, view: &View<Content>) -> Result<Change, Refusal>
@@ -41,14 +42,14 @@ pub fn draw(opening: &Opening, table: &Table, view: &View<Content>) -> Result<Ch
     ensures refused { IsErrOf result Refusal.NotAllowed
         → Allowed (setting opening.now) (state table.now) view.now move.Draw → ⊥ }
 {
-    if last_count(view.trail.as_slice()) >= VERSION_LIMIT {
+    if last_count(view.trail.as_slice()) >= GREATEST_VERSION {
         return Err(Refusal::NotAllowed);
     }
     let index = opening.index_of(Place::Counter);
     let found = table.words[index];
     let left = found + 1;
     // Of the last versions the counter still tells, and none is held.
-    let drawn = (found < VERSION_LIMIT).then(|| left as u32);
+    let drawn = (found < GREATEST_VERSION).then(|| left as u32);
     Ok(Change {
         answer: found,
         word: Some(WordChange { index, left }),

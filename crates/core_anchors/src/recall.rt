@@ -7,10 +7,7 @@ ghost use Rattle.lock_word.specs.Words.{version_limit};
 
 use core_model::{Item, Kind, Tab, View};
 use core_table::Content;
-use lock_word::Word;
-
-/// The least counter at which there is no version left to draw.
-pub(crate) const VERSION_LIMIT: u64 = 4_294_901_760;
+use lock_word::{GREATEST_VERSION, Word};
 
 /// Whether a step told the word of the anchor.
 fn is_find(anchor: u32, item: &Item) -> bool
@@ -64,11 +61,11 @@ pub(crate) fn drew_since(version: u32, anchor: u32, trail: &[Item]) -> bool
 pub(crate) fn last_count(trail: &[Item]) -> u64
     ensures { result ≡ last_count (reverse trail.now) }
 {
-    let mut count = VERSION_LIMIT;
+    let mut count = GREATEST_VERSION;
     for item in trail {
         count = match item.kind {
             Kind::Counted => item.found,
-            Kind::Drew => VERSION_LIMIT,
+            Kind::Drew => GREATEST_VERSION,
             _ => count,
         };
     }

@@ -13,6 +13,8 @@ use Rattle.core_model.specs.declared.moves.Side.{Side}
 use Rattle.core_model.specs.declared.moves.Side.TheVariants.{Key0, Key1, Offer, Start}
 use Rattle.core_model.specs.declared.moves.Move.{Move}
 use Rattle.core_model.specs.declared.moves.Move.TheVariants.{Look, Enter, Leave, Count, Draw, Take, Evict, Raise, Doom, LoadSide, StoreSide, Own, Disown, Publish, Loosen, GetLink, TryTurn, EndTurn, CellOut, CellIn, Note, Learn, Write, Sync, LookMap, LogPiece}
+use Rattle.core_model.specs.declared.moves.Then.{Then}
+use Rattle.core_model.specs.declared.moves.Then.TheVariants.{GoesOn, Stays, Wiped}
 use Rattle.core_model.specs.declared.tab.Cell.{Cell}
 use Rattle.core_model.specs.declared.tab.Hold.{Hold}
 use Rattle.core_model.specs.declared.tab.Piece.{Piece}
@@ -257,17 +259,18 @@ module _ {X : Type 0} (k : Setting X) (s : State X) where
   stores_goes m u Start value (Writing w) = same_goes m u w record w { start = Some value } refl refl refl
 
   -- To end a turn, and to move its cell.
-  ends_goes : (m : Move) (u : ℕ) (goes_on : Bool) (x : Tab X) → Goes m u x (ends x goes_on)
-  ends_goes m u goes_on Free = itself m u Free
-  ends_goes m u goes_on (Retreating b) = itself m u (Retreating b)
-  ends_goes m u true (Reading r) = (turn_gone (Reading r) (ends (Reading r) true) refl, tt)
-  ends_goes m u false (Reading r) = (turn_gone (Reading r) (ends (Reading r) false) refl, tt)
-  ends_goes m u goes_on (Writing w) = (
-    turn_gone (Writing w) (ends (Writing w) goes_on) refl,
+  ends_goes : (m : Move) (u : ℕ) (then : Then) (x : Tab X) → Goes m u x (ends x then)
+  ends_goes m u then Free = itself m u Free
+  ends_goes m u then (Retreating b) = itself m u (Retreating b)
+  ends_goes m u Stays (Reading r) = (turn_gone (Reading r) (ends (Reading r) Stays) refl, tt)
+  ends_goes m u GoesOn (Reading r) = (turn_gone (Reading r) (ends (Reading r) GoesOn) refl, tt)
+  ends_goes m u Wiped (Reading r) = (turn_gone (Reading r) (ends (Reading r) Wiped) refl, tt)
+  ends_goes m u then (Writing w) = (
+    turn_gone (Writing w) (ends (Writing w) then) refl,
     ((λ p e. inl record { writer = w; is = refl; chosen = e; slot_same = refl }), (λ h p e z. absurd (not_has h e))),
   )
-  ends_goes m u goes_on (Last b) = itself m u (Last b)
-  ends_goes m u goes_on (Freeing f) = itself m u (Freeing f)
+  ends_goes m u then (Last b) = itself m u (Last b)
+  ends_goes m u then (Freeing f) = itself m u (Freeing f)
 
   -- a turn whose cell is out or in its place
   moved_was : (old : Tab X) (t : TurnOf X) → turn_of old ≡ t → (out : Bool) (h : Hold X) → moved t out ≡ Has h → HoldWas old h
@@ -444,7 +447,7 @@ module _ {X : Type 0} (k : Setting X) (s : State X) where
         t (reserves (tab_at v t) slot) (reserves_goes (Loosen t slot) t slot (tab_at v t)))
     tabs_go (GetLink t slot) may = one (GetLink t slot) v.tabs (untouched (GetLink t slot)) t (looks (tab_at v t) (number_found k s v (GetLink t slot))) (looks_goes (GetLink t slot) t (number_found k s v (GetLink t slot)) (tab_at v t))
     tabs_go (TryTurn t slot) may = one (TryTurn t slot) v.tabs (untouched (TryTurn t slot)) t (tries (tab_at v t) slot (number_found k s v (TryTurn t slot)) (get_or s.places slot None)) (tries_goes t slot (number_found k s v (TryTurn t slot)) (tab_at v t) may.2)
-    tabs_go (EndTurn t slot goes_on) may = one (EndTurn t slot goes_on) v.tabs (untouched (EndTurn t slot goes_on)) t (ends (tab_at v t) goes_on) (ends_goes (EndTurn t slot goes_on) t goes_on (tab_at v t))
+    tabs_go (EndTurn t slot then) may = one (EndTurn t slot then) v.tabs (untouched (EndTurn t slot then)) t (ends (tab_at v t) then) (ends_goes (EndTurn t slot then) t then (tab_at v t))
     tabs_go (CellOut t slot) may = one (CellOut t slot) v.tabs (untouched (CellOut t slot)) t (moves (tab_at v t) true) (moves_goes (CellOut t slot) t true (tab_at v t))
     tabs_go (CellIn t slot) may = one (CellIn t slot) v.tabs (untouched (CellIn t slot)) t (moves (tab_at v t) false) (moves_goes (CellIn t slot) t false (tab_at v t))
     tabs_go Note may = untouched Note

@@ -12,6 +12,8 @@ use Rattle.core_model.specs.declared.moves.Side.{Side}
 use Rattle.core_model.specs.declared.moves.Side.TheVariants.{Key0, Key1, Offer, Start}
 use Rattle.core_model.specs.declared.moves.Move.{Move}
 use Rattle.core_model.specs.declared.moves.Move.TheVariants.{Look, Enter, Leave, Count, Draw, Take, Evict, Raise, Doom, LoadSide, StoreSide, Own, Disown, Publish, Loosen, GetLink, TryTurn, EndTurn, CellOut, CellIn, Note, Learn, Write, Sync, LookMap, LogPiece}
+use Rattle.core_model.specs.declared.moves.Then.{Then}
+use Rattle.core_model.specs.declared.moves.Then.TheVariants.{Stays, Wiped}
 use Rattle.core_model.specs.declared.tab.Cell.{Cell}
 use Rattle.core_model.specs.declared.tab.Piece.{Piece}
 use Rattle.core_model.specs.declared.tab.Turn.TheVariants.{NoTurn}
@@ -210,14 +212,15 @@ module _ {X : Type 0} (k : Setting X) (s : State X) (v : View X) where
   stores_goes m u Offer value (Writing w) may = inr record { writer = w; is = refl; version = refl; how = inr (inl record { none = may.1.0; nothing = may.1.1 }) }
   stores_goes m u Start value (Writing w) may = same m u w record w { start = Some value } (refl, refl, refl) refl refl refl refl refl (refl, refl, refl) (λ j e. e)
 
-  ends_goes : (m : Move) (u : ℕ) (goes_on : Bool) (x : Tab X) → Follow m u x (ends x goes_on)
-  ends_goes m u goes_on Free = tt
-  ends_goes m u goes_on (Retreating b) = tt
-  ends_goes m u true (Reading r) = tt
-  ends_goes m u false (Reading r) = tt
-  ends_goes m u goes_on (Writing w) = same m u w record w { is_written = was_written w.turn; is_settled = was_settled w.turn; turn = NoTurn } (refl, refl, refl) refl refl refl refl refl (refl, refl, refl) (λ j e. e)
-  ends_goes m u goes_on (Last b) = tt
-  ends_goes m u goes_on (Freeing f) = tt
+  ends_goes : (m : Move) (u : ℕ) (then : Then) (x : Tab X) → Follow m u x (ends x then)
+  ends_goes m u then Free = tt
+  ends_goes m u then (Retreating b) = tt
+  ends_goes m u Stays (Reading r) = tt
+  ends_goes m u Then.GoesOn (Reading r) = tt
+  ends_goes m u Wiped (Reading r) = tt
+  ends_goes m u then (Writing w) = same m u w record w { is_written = was_written w.turn; is_settled = was_settled w.turn; turn = NoTurn } (refl, refl, refl) refl refl refl refl refl (refl, refl, refl) (λ j e. e)
+  ends_goes m u then (Last b) = tt
+  ends_goes m u then (Freeing f) = tt
 
   moves_goes : (m : Move) (u : ℕ) (out : Bool) (x : Tab X) → Follow m u x (moves x out)
   moves_goes m u out Free = tt
@@ -322,7 +325,7 @@ module _ {X : Type 0} (k : Setting X) (s : State X) (v : View X) where
       t (reserves (tab_at v t) slot) (reserves_goes (Loosen t slot) t slot (tab_at v t)))
   tabs_follow (GetLink t slot) may = one (GetLink t slot) v.tabs (untouched (GetLink t slot)) t (looks (tab_at v t) (number_found k s v (GetLink t slot))) (looks_goes (GetLink t slot) t (number_found k s v (GetLink t slot)) (tab_at v t))
   tabs_follow (TryTurn t slot) may = one (TryTurn t slot) v.tabs (untouched (TryTurn t slot)) t (tries (tab_at v t) slot (number_found k s v (TryTurn t slot)) (get_or s.places slot None)) (tries_goes (TryTurn t slot) t slot (number_found k s v (TryTurn t slot)) (get_or s.places slot None) (tab_at v t))
-  tabs_follow (EndTurn t slot goes_on) may = one (EndTurn t slot goes_on) v.tabs (untouched (EndTurn t slot goes_on)) t (ends (tab_at v t) goes_on) (ends_goes (EndTurn t slot goes_on) t goes_on (tab_at v t))
+  tabs_follow (EndTurn t slot then) may = one (EndTurn t slot then) v.tabs (untouched (EndTurn t slot then)) t (ends (tab_at v t) then) (ends_goes (EndTurn t slot then) t then (tab_at v t))
   tabs_follow (CellOut t slot) may = one (CellOut t slot) v.tabs (untouched (CellOut t slot)) t (moves (tab_at v t) true) (moves_goes (CellOut t slot) t true (tab_at v t))
   tabs_follow (CellIn t slot) may = one (CellIn t slot) v.tabs (untouched (CellIn t slot)) t (moves (tab_at v t) false) (moves_goes (CellIn t slot) t false (tab_at v t))
   tabs_follow Note may = untouched Note

@@ -168,7 +168,7 @@ module _ {X : Type 0} (k : Setting X) (s : State X) (log : List LoggedPiece) (i 
   home_was (Loosen t slot) may j c e = inl e
   home_was (GetLink t slot) may j c e = inl e
   home_was (TryTurn t slot) may j c e = inl (turned_home slot j (turn_word k s slot == 0) c e)
-  home_was (EndTurn t slot goes_on) may j c e = let h = may.1.0 in
+  home_was (EndTurn t slot then) may j c e = let h = may.1.0 in
       ended_home t slot j h may.1.1 may.1.2 c (subst (λ (o : Option (Cell X)). get_or (set s.places slot o) j None ≡ Some c) (ap cell_held may.1.1) e)
   home_was (CellOut t slot) may j c e = inl e
   home_was (CellIn t slot) may j c e = inl e

@@ -237,7 +237,7 @@ module _ {X : Type 0} (k : Setting X) (s : State X) (log : List LoggedPiece) (i 
   new_is (Publish t slot link) may l c = absurd (contains_none l c)
   new_is (Loosen t slot) may l c = absurd (contains_none l c)
   new_is (GetLink t slot) may l c = absurd (contains_none l c)
-  new_is (EndTurn t slot goes_on) may l c = absurd (contains_none l c)
+  new_is (EndTurn t slot then) may l c = absurd (contains_none l c)
   new_is (CellOut t slot) may l c = absurd (contains_none l c)
   new_is (CellIn t slot) may l c = absurd (contains_none l c)
   new_is Note may l c = absurd (contains_none l c)

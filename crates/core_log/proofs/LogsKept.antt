@@ -126,7 +126,7 @@ module _ {X : Type 0} (k : Setting X) (s : State X) (i : ℕ) (v : View X) (at :
   piece_seen (Loosen t slot) may l c = none (Loosen t slot) tt l c
   piece_seen (GetLink t slot) may l c = none (GetLink t slot) (follows_others (tab_at v t) _) l c
   piece_seen (TryTurn t slot) may l c = none (TryTurn t slot) tt l c
-  piece_seen (EndTurn t slot goes_on) may l c = none (EndTurn t slot goes_on) tt l c
+  piece_seen (EndTurn t slot then) may l c = none (EndTurn t slot then) tt l c
   piece_seen (CellOut t slot) may l c = none (CellOut t slot) tt l c
   piece_seen (CellIn t slot) may l c = none (CellIn t slot) tt l c
   piece_seen Note may l c = none Note tt l c
@@ -156,7 +156,7 @@ module _ {X : Type 0} (k : Setting X) (s : State X) (i : ℕ) (v : View X) (at :
   sees_piece (Loosen t slot) l c = absurd (contains_none l c)
   sees_piece (GetLink t slot) l c = absurd (contains_none l c)
   sees_piece (TryTurn t slot) l c = absurd (contains_none l c)
-  sees_piece (EndTurn t slot goes_on) l c = absurd (contains_none l c)
+  sees_piece (EndTurn t slot then) l c = absurd (contains_none l c)
   sees_piece (CellOut t slot) l c = absurd (contains_none l c)
   sees_piece (CellIn t slot) l c = absurd (contains_none l c)
   sees_piece Note l c = absurd (contains_none l c)

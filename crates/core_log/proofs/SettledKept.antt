@@ -151,7 +151,7 @@ module _ {X : Type 0} (k : Setting X) (s : State X) (i : ℕ) (v : View X) (wide
   longer_is (Loosen t slot) may a lt h = absurd (itself (length (chain_of s a).slots) h)
   longer_is (GetLink t slot) may a lt h = absurd (itself (length (chain_of s a).slots) h)
   longer_is (TryTurn t slot) may a lt h = absurd (itself (length (chain_of s a).slots) h)
-  longer_is (EndTurn t slot goes_on) may a lt h = absurd (itself (length (chain_of s a).slots) h)
+  longer_is (EndTurn t slot then) may a lt h = absurd (itself (length (chain_of s a).slots) h)
   longer_is (CellOut t slot) may a lt h = absurd (itself (length (chain_of s a).slots) h)
   longer_is (CellIn t slot) may a lt h = absurd (itself (length (chain_of s a).slots) h)
   longer_is Note may a lt h = absurd (itself (length (chain_of s a).slots) h)

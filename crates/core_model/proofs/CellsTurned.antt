@@ -15,6 +15,8 @@ use Rattle.core_model.specs.declared.tab.Writer.{Writer}
 use Rattle.core_model.specs.declared.tab.Tab.{Tab}
 use Rattle.core_model.specs.declared.tab.Tab.TheVariants.{Free, Retreating, Reading, Writing, Last, Freeing}
 use Rattle.core_model.specs.declared.moves.Move.TheVariants.{TryTurn, EndTurn}
+use Rattle.core_model.specs.declared.moves.Then.{Then}
+use Rattle.core_model.specs.declared.moves.Then.TheVariants.{GoesOn, Stays, Wiped}
 use Rattle.core_model.specs.declared.view.Place.TheVariants.{Turn}
 use Rattle.core_model.specs.declared.view.View.{View}
 use Rattle.core_model.specs.Layout.{Setting, index}
@@ -287,26 +289,28 @@ module _ {X : Type 0} (k : Setting X) (s : State X) (i : ℕ) (v : View X) (so :
 
   -- The end of a turn.
 
-  module _ (t : ℕ) (v' : View X) (seen : v'.seen ≡ v.seen) (h : Hold X) (goes_on : Bool) where
+  module _ (t : ℕ) (v' : View X) (seen : v'.seen ≡ v.seen) (h : Hold X) (then : Then) where
     abbrev s₂ : State X
     s₂ = turned k s i (set s.words (index k (Turn h.slot)) 0) (set s.places h.slot (Some h.cell)) v'
 
-    end_reader : (r : Reader X) → get_elem? v.tabs t ≡ some (Reading r) → r.turn ≡ Has h → v'.tabs ≡ set v.tabs t (ends (Reading r) goes_on) → CellsSound k s₂
+    end_reader : (r : Reader X) → get_elem? v.tabs t ≡ some (Reading r) → r.turn ≡ Has h → v'.tabs ≡ set v.tabs t (ends (Reading r) then) → CellsSound k s₂
     end_reader r was has tabs = let f = so.cells.turns i v at t (Reading r) was h has in
-        ended_keeps t h.slot (Reading r) (ends (Reading r) goes_on) v' record { was = was; becomes = tabs } f.0 h has refl (idle goes_on) (piece goes_on)
+        ended_keeps t h.slot (Reading r) (ends (Reading r) then) v' record { was = was; becomes = tabs } f.0 h has refl (idle then) (piece then)
         (λ j u ut p x is ne. read_apart k s i v so at r.anchor h.slot (at_times (chain_of s r.anchor).slots r.place h.slot (read_slot k s i v so at i v at t r was h.slot f.1 f.2)) j u ut p x is) seen
       where
-        idle : (z : Bool) → turn_of (ends (Reading r) z) ≡ NoTurn
-        idle true = refl
-        idle false = refl
+        idle : (z : Then) → turn_of (ends (Reading r) z) ≡ NoTurn
+        idle Stays = refl
+        idle GoesOn = refl
+        idle Wiped = refl
 
-        piece : (z : Bool) → TabPiece k s₂ (ends (Reading r) z)
-        piece true = tt
-        piece false = tt
+        piece : (z : Then) → TabPiece k s₂ (ends (Reading r) z)
+        piece Stays = tt
+        piece GoesOn = tt
+        piece Wiped = tt
 
-    end_writer : (w : Writer X) → get_elem? v.tabs t ≡ some (Writing w) → w.turn ≡ Has h → v'.tabs ≡ set v.tabs t (ends (Writing w) goes_on) → CellsSound k s₂
+    end_writer : (w : Writer X) → get_elem? v.tabs t ≡ some (Writing w) → w.turn ≡ Has h → v'.tabs ≡ set v.tabs t (ends (Writing w) then) → CellsSound k s₂
     end_writer w was has tabs = let f = so.cells.turns i v at t (Writing w) was h has in let old : WriterPiece k s w = so.cells.writers i v at t (Writing w) was in
-        ended_keeps t h.slot (Writing w) (ends (Writing w) goes_on) v' record { was = was; becomes = tabs } f.0 h has refl refl
+        ended_keeps t h.slot (Writing w) (ends (Writing w) then) v' record { was = was; becomes = tabs } f.0 h has refl refl
         record {
           drawn = old.drawn;
           fits = old.fits;
@@ -333,12 +337,12 @@ try_turn_cells {X} k s i v so at pass t slot may = let v' : View X = view_after 
     (turn_word k s slot == 0) refl (ap (λ (z : Tab X). set v.tabs t (tries z slot (turn_word k s slot) (get_or s.places slot None))) q.1))
     may.2
 
-pub end_turn_cells : {X : Type 0} → (k : Setting X) (s : State X) (i : ℕ) (v : View X) → Sound k s → get_elem? s.views i ≡ some v → IsPass v → (t slot : ℕ) (goes_on : Bool) → Allowed k s v (EndTurn t slot goes_on)
-    → CellsSound k (after k s i v (EndTurn t slot goes_on))
-end_turn_cells {X} k s i v so at pass t slot goes_on may = let h = may.1.0 in let v' : View X = view_after v (EndTurn t slot goes_on) (finding k s v (EndTurn t slot goes_on)) in
+pub end_turn_cells : {X : Type 0} → (k : Setting X) (s : State X) (i : ℕ) (v : View X) → Sound k s → get_elem? s.views i ≡ some v → IsPass v → (t slot : ℕ) (then : Then) → Allowed k s v (EndTurn t slot then)
+    → CellsSound k (after k s i v (EndTurn t slot then))
+end_turn_cells {X} k s i v so at pass t slot then may = let h = may.1.0 in let v' : View X = view_after v (EndTurn t slot then) (finding k s v (EndTurn t slot then)) in
     subst (λ (z : Option (Cell X)). CellsSound k (turned k s i (set s.words (index k (Turn slot)) 0) (set s.places slot z) v')) (sym (ap cell_held may.1.1))
     (subst (λ (z : ℕ). CellsSound k (turned k s i (set s.words (index k (Turn z)) 0) (set s.places z (Some h.cell)) v')) may.1.2
     (⊎_elim
-    (λ (q : (r : Reader X) × (tab_at v t ≡ Reading r) × (r.turn ≡ Has h)). end_reader k s i v so at pass t v' refl h goes_on q.0 (tab_was k s i v so.anchors so.slots at pass t (Reading q.0) may.0 q.1) q.2 (ap (λ (z : Tab X). set v.tabs t (ends z goes_on)) q.1))
-    (λ (q : (w : Writer X) × (tab_at v t ≡ Writing w) × (w.turn ≡ Has h)). end_writer k s i v so at pass t v' refl h goes_on q.0 (tab_was k s i v so.anchors so.slots at pass t (Writing q.0) may.0 q.1) q.2 (ap (λ (z : Tab X). set v.tabs t (ends z goes_on)) q.1))
+    (λ (q : (r : Reader X) × (tab_at v t ≡ Reading r) × (r.turn ≡ Has h)). end_reader k s i v so at pass t v' refl h then q.0 (tab_was k s i v so.anchors so.slots at pass t (Reading q.0) may.0 q.1) q.2 (ap (λ (z : Tab X). set v.tabs t (ends z then)) q.1))
+    (λ (q : (w : Writer X) × (tab_at v t ≡ Writing w) × (w.turn ≡ Has h)). end_writer k s i v so at pass t v' refl h then q.0 (tab_was k s i v so.anchors so.slots at pass t (Writing q.0) may.0 q.1) q.2 (ap (λ (z : Tab X). set v.tabs t (ends z then)) q.1))
     (turn_tab (tab_at v t) h may.1.1)))

@@ -185,7 +185,7 @@ module _ {X : Type 0} (k : Setting X) (s : State X) (i : ℕ) (v : View X) (so :
   onward (Loosen t slot) may a lt = set_far (link_index k slot) 0 a (λ e. omega arith)
   onward (GetLink t slot) may a lt = set_far (link_index k slot) (get_or s.words (link_index k slot) 0) a (λ e. omega arith)
   onward (TryTurn t slot) may a lt = set_far (turn_index k slot) (cond (get_or s.words (turn_index k slot) 0 == 0) 1 (get_or s.words (turn_index k slot) 0)) a (λ e. omega arith)
-  onward (EndTurn t slot goes_on) may a lt = set_far (turn_index k slot) 0 a (λ e. omega arith)
+  onward (EndTurn t slot then) may a lt = set_far (turn_index k slot) 0 a (λ e. omega arith)
   onward (CellOut t slot) may a lt = same_onward _ _ refl
   onward (CellIn t slot) may a lt = same_onward _ _ refl
   onward Note may a lt = same_onward _ _ refl
@@ -326,7 +326,7 @@ module _ {X : Type 0} (k : Setting X) (s : State X) (i : ℕ) (v : View X) (so :
   owes (Loosen t slot) on may y c = absurd (contains_none y c)
   owes (GetLink t slot) on may y c = follows_owe (after k s i v (GetLink t slot)) (tab_at v t) (get_or s.words (link_index k slot) 0) y c
   owes (TryTurn t slot) on may y c = absurd (contains_none y c)
-  owes (EndTurn t slot goes_on) on may y c = absurd (contains_none y c)
+  owes (EndTurn t slot then) on may y c = absurd (contains_none y c)
   owes (CellOut t slot) on may y c = absurd (contains_none y c)
   owes (CellIn t slot) on may y c = absurd (contains_none y c)
   owes Note on may y c = absurd (contains_none y c)
@@ -371,7 +371,7 @@ module _ {X : Type 0} (k : Setting X) (s : State X) (i : ℕ) (v : View X) (so :
   late (Loosen t slot) a u lt h = so.sights.before i v at a u lt h
   late (GetLink t slot) a u lt h = so.sights.before i v at a u lt h
   late (TryTurn t slot) a u lt h = so.sights.before i v at a u lt h
-  late (EndTurn t slot goes_on) a u lt h = so.sights.before i v at a u lt h
+  late (EndTurn t slot then) a u lt h = so.sights.before i v at a u lt h
   late (CellOut t slot) a u lt h = so.sights.before i v at a u lt h
   late (CellIn t slot) a u lt h = so.sights.before i v at a u lt h
   late Note a u lt h = so.sights.before i v at a u lt h
@@ -448,7 +448,7 @@ module _ {X : Type 0} (k : Setting X) (s : State X) (i : ℕ) (v : View X) (so :
   sights_lead (Loosen t slot) may = step (Loosen t slot) refl tt may
   sights_lead (GetLink t slot) may = step (GetLink t slot) refl tt may
   sights_lead (TryTurn t slot) may = step (TryTurn t slot) refl tt may
-  sights_lead (EndTurn t slot goes_on) may = step (EndTurn t slot goes_on) refl tt may
+  sights_lead (EndTurn t slot then) may = step (EndTurn t slot then) refl tt may
   sights_lead (CellOut t slot) may = step (CellOut t slot) refl tt may
   sights_lead (CellIn t slot) may = step (CellIn t slot) refl tt may
   sights_lead Note may = (note_keeps k s i v so at pass may).sights

@@ -23,3 +23,4 @@ pub mod Entries
 pub mod Offers
 pub mod TableForms
 pub mod Additions
+pub mod Knowing

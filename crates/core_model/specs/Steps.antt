@@ -80,7 +80,7 @@ words_after k words None left = words
 
 abbrev pub places_after : {X : Type 0} → List (Option (Cell X)) → View X → Move → ℕ → List (Option (Cell X))
 places_after places v (TryTurn t slot) n = cond (n == 0) (slice_set places slot None) places
-places_after places v (EndTurn t slot goes_on) n = slice_set places slot (cell_held (turn_of (tab_at v t)))
+places_after places v (EndTurn t slot then) n = slice_set places slot (cell_held (turn_of (tab_at v t)))
 places_after places v m n = places
 
 abbrev pub views_after : {X : Type 0} → Setting X → List (View X) → ℕ → View X → Move → Finding X → List (View X)

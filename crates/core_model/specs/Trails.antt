@@ -1,5 +1,5 @@
 -- What the steps of a pass tell. The newest item of a trail stands first.
-use Rattle.std.specs.Prelude.{◌&&◌, ◌+◌, ◌==◌, ◌||◌, ◌∷◌, Bool, List, [], cond, false, max, nat_le, true, ℕ, ◌≡◌, Contains}
+use Rattle.std.specs.Prelude.{◌&&◌, ◌+◌, ◌==◌, ◌||◌, ◌∷◌, Bool, List, [], cond, false, max, nat_le, true, ℕ, ◌≡◌, Contains, None, Option, Some}
 use Rattle.lock_word.specs.Words.{version_limit, version_of}
 use Rattle.core_model.specs.declared.view.Item.{Item}
 use Rattle.core_model.specs.declared.view.Kind.{Kind}
@@ -56,6 +56,15 @@ drawn version (x ∷ xs) = cond (draws_version version x) 1 0 + drawn version xs
 abbrev pub draws : List Item → ℕ
 draws [] = 0
 draws (x ∷ xs) = cond (is_draw x.kind) 1 0 + draws xs
+
+-- whether what was drawn, a version or none, is this version, and whether it is one
+abbrev pub is_drawn : ℕ → Option ℕ → Bool
+is_drawn version None = false
+is_drawn version (Some x) = x == version
+
+abbrev pub has_drawn : Option ℕ → Bool
+has_drawn None = false
+has_drawn (Some x) = true
 
 -- how often there was none left to draw
 abbrev pub draws_in_vain : List Item → ℕ

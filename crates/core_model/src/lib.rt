@@ -27,7 +27,7 @@ pub use laws::{
     turns_have_one_holder, views_tell_what_is_allowed, written_pieces_are_home,
 };
 pub use list::{Log, Row};
-pub use moves::{Move, Outcome, Side};
+pub use moves::{Move, Outcome, Side, Then};
 pub use spot::Spot;
 pub use tab::{Cell, Freer, Hold, INNER_TAB, Piece, Reader, TABS, Tab, Turn, Writer};
 pub use view::{Deed, Item, Kind, LoggedPiece, Place, Sight, Trace, View};

@@ -9,6 +9,7 @@ ghost use Rattle.rebuild_model.specs.declared.image.FileImage.{FileImage};
 ghost use Rattle.core_model.specs.declared.tab.Cell.{Cell};
 ghost use Rattle.core_model.specs.State.{word, chain_of};
 ghost use Rattle.core_model.specs.Cells.{IsCell};
+ghost use Rattle.core_model.specs.Holders.{AllFree, IsFinished};
 ghost use Rattle.core_state.specs.declared.act.Step.{Step};
 ghost use Rattle.core_table.specs.declared.content.Content.{Content};
 ghost use Rattle.core_table.specs.Machine.{Machine, state_of};
@@ -64,4 +65,13 @@ pub fn offers_stand_along_runs()
         → IsRun steps cores → get_elem? cores 0 ≡ some from → IsSound from → AllOffered file offers from from
         → ((j : ℕ) (core : Machine) → get_elem? cores j ≡ some core → IsFaithful file offers core)
         → (i : ℕ) (core : Machine) → get_elem? cores i ≡ some core → AllOffered file offers from core }
+{}
+
+/// Wherever along an allowed list of steps each tab is free, and so at its end, nothing is left over at an anchor: no
+/// reader is counted, no entry is being written, has halted or is being freed, and none is closed and doomed.
+pub fn idle_runs_are_settled()
+    ensures { (steps : List Step) (cores : List Machine) (from : Machine) → IsRun steps cores
+        → get_elem? cores 0 ≡ some from → IsSound from
+        → (i : ℕ) (core : Machine) → get_elem? cores i ≡ some core → AllFree (state_of core)
+        → (a : ℕ) → a < core.anchors → IsFinished (word (state_of core) a) }
 {}

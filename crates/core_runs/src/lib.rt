@@ -5,7 +5,7 @@ mod laws;
 mod run;
 
 pub use laws::{
-    offers_stand_along_runs, published_slots_hold_responses, runs_stay_sound,
-    slots_are_apart_along_runs,
+    idle_runs_are_settled, offers_stand_along_runs, published_slots_hold_responses,
+    runs_stay_sound, slots_are_apart_along_runs,
 };
 pub use run::{RunEnd, run_steps};

@@ -5,6 +5,8 @@ use Rattle.std.proofs.lemmas.List.{get_or-set_same, set-get_or}
 use Rattle.std.proofs.lemmas.Option.{slice_get_within}
 use Rattle.core_model.specs.declared.adding.Addition.{Addition}
 use Rattle.core_model.specs.declared.moves.Move.TheVariants as move
+use Rattle.core_model.specs.declared.moves.Then.{Then}
+use Rattle.core_model.specs.declared.moves.Then.TheVariants.{GoesOn, Stays, Wiped}
 use Rattle.core_model.specs.declared.tab.Cell.{Cell}
 use Rattle.core_model.specs.declared.tab.Reader.{Reader}
 use Rattle.core_model.specs.declared.tab.Tab.{Tab}
@@ -17,7 +19,7 @@ use Rattle.core_model.specs.declared.view.View.{View}
 use Rattle.core_model.specs.Cells.{CellsSound, TurnFits}
 use Rattle.core_model.specs.Layout.{index}
 use Rattle.core_model.specs.Tabs.{tab_at, holds_turn, OfReader, OfWriter}
-use Rattle.core_model.specs.CellMoves.{MayRead, MayWrite, Holds, turn_with, tries, ends}
+use Rattle.core_model.specs.CellMoves.{EndsSo, MayRead, MayWrite, Holds, turn_with, tries, ends}
 use Rattle.core_change.specs.declared.change.ChainChange.TheVariants as chains
 use Rattle.core_change.specs.declared.change.Change.{Change}
 use Rattle.core_change.specs.declared.change.NotesChange.TheVariants as notes
@@ -105,23 +107,25 @@ module _ (v : View Content) (places : List (Option (Cell Content))) (t slot : �
   then_same : (x : Tab Content) → tab_at v t ≡ x → set v.tabs t (with_turn (tab_at v t) NoTurn) ≡ set v.tabs t (with_turn x NoTurn)
   then_same x is = ap (λ (y : Tab Content). set v.tabs t (with_turn y NoTurn)) is
 
-  ended_by : (x : Tab Content) (goes_on : Bool) → tab_at v t ≡ x → tabs_changed (turned_view v places (turns.Ended t slot)) (ended_tabs t x goes_on) ≡ set v.tabs t (ends x goes_on)
-  ended_by (Reading r) true is = then_changed (Reading r) _ is
-  ended_by (Reading r) false is = then_same (Reading r) is
-  ended_by (Writing w) goes_on is = then_changed (Writing w) _ is
-  ended_by Free goes_on is = then_same Free is
-  ended_by (Retreating a) goes_on is = then_same (Retreating a) is
-  ended_by (Last a) goes_on is = then_same (Last a) is
-  ended_by (Freeing f) goes_on is = then_same (Freeing f) is
+  ended_by : (x : Tab Content) (then : Then) → tab_at v t ≡ x → tabs_changed (turned_view v places (turns.Ended t slot)) (ended_tabs t x then) ≡ set v.tabs t (ends x then)
+  ended_by (Reading r) GoesOn is = then_changed (Reading r) _ is
+  ended_by (Reading r) Stays is = then_same (Reading r) is
+  ended_by (Reading r) Wiped is = then_same (Reading r) is
+  ended_by (Writing w) then is = then_changed (Writing w) _ is
+  ended_by Free then is = then_same Free is
+  ended_by (Retreating a) then is = then_same (Retreating a) is
+  ended_by (Last a) then is = then_same (Last a) is
+  ended_by (Freeing f) then is = then_same (Freeing f) is
 
-  ended_fit : (x : Tab Content) (goes_on : Bool) → FitsTabs (turned_view v places (turns.Ended t slot)) (ended_tabs t x goes_on)
-  ended_fit (Reading r) true = let same = same_length v.tabs places (turns.Ended t slot) in omega (arith, same, lt)
-  ended_fit (Reading r) false = tt
-  ended_fit (Writing w) goes_on = let same = same_length v.tabs places (turns.Ended t slot) in omega (arith, same, lt)
-  ended_fit Free goes_on = tt
-  ended_fit (Retreating a) goes_on = tt
-  ended_fit (Last a) goes_on = tt
-  ended_fit (Freeing f) goes_on = tt
+  ended_fit : (x : Tab Content) (then : Then) → FitsTabs (turned_view v places (turns.Ended t slot)) (ended_tabs t x then)
+  ended_fit (Reading r) GoesOn = let same = same_length v.tabs places (turns.Ended t slot) in omega (arith, same, lt)
+  ended_fit (Reading r) Stays = tt
+  ended_fit (Reading r) Wiped = tt
+  ended_fit (Writing w) then = let same = same_length v.tabs places (turns.Ended t slot) in omega (arith, same, lt)
+  ended_fit Free then = tt
+  ended_fit (Retreating a) then = tt
+  ended_fit (Last a) then = tt
+  ended_fit (Freeing f) then = tt
 
 module _ (o : Opening) (t : Table) (v : View Content) (scene : IsScene o t v) (at slot : ℕ) (x : Tab Content) (there : slice_get v.tabs at ≡ Some x) where
   lt : at < length v.tabs
@@ -231,17 +235,17 @@ module _ (o : Opening) (t : Table) (v : View Content) (scene : IsScene o t v) (a
         by r fit (h, turn, same, out_is) was =
             place_few o t v scene at r was ((scene.slots.tabs scene.number v scene.at at (Reading r) (at_slice v.tabs at (Reading r) was)).found (fit h turn).2).0
 
-  module _ (cells : CellsSound (setting o) (state t)) (holds : Holds slot false x) (goes_on : Bool) where
-    ended : Plans o t v (move.EndTurn at slot goes_on)
-        (turn_change turn_found (index (setting o) (Turn slot)) 0 (turns.Ended at slot) (ended_tabs at x goes_on) (word_addition kind.Ended (Turn slot) slot turn_found 0 None))
+  module _ (cells : CellsSound (setting o) (state t)) (holds : Holds slot false x) (then : Then) (so : EndsSo then x) where
+    ended : Plans o t v (move.EndTurn at slot then)
+        (turn_change turn_found (index (setting o) (Turn slot)) 0 (turns.Ended at slot) (ended_tabs at x then) (word_addition kind.Ended (Turn slot) slot turn_found 0 None))
     ended = record {
-      allowed = (below o t v scene at x there, subst (λ (y : Tab Content). Holds slot false y) (sym is) holds);
+      allowed = (below o t v scene at x there, subst (λ (y : Tab Content). Holds slot false y) (sym is) holds, subst (λ (y : Tab Content). EndsSo then y) (sym is) so);
       answers = refl;
       matches = record {
         words = refl;
         places = refl;
         views = λ i. refl;
-        tabs = ended_by v t.places.items at slot lt x goes_on is ∙ sym (ap (λ (y : Tab Content). set v.tabs at (ends y goes_on)) is);
+        tabs = ended_by v t.places.items at slot lt x then is ∙ sym (ap (λ (y : Tab Content). set v.tabs at (ends y then)) is);
         held = refl;
         seen = refl;
         trail = refl;
@@ -252,7 +256,7 @@ module _ (o : Opening) (t : Table) (v : View Content) (scene : IsScene o t v) (a
       };
       word = turn_there (end_inside cells false holds);
       turn = (lt, place_there (end_inside cells false holds));
-      tabs = ended_fit v t.places.items at slot lt x goes_on;
+      tabs = ended_fit v t.places.items at slot lt x then;
       chain = tt;
     }
 
@@ -260,10 +264,10 @@ module _ (o : Opening) (t : Table) (v : View Content) (scene : IsScene o t v) (a
       pub end_there : word < length t.words.items
       end_there = let h = turn_there (end_inside cells false holds) in omega (arith, h, word_is)
 
-      pub end_planned : (change : TabsChange) (base : Addition) → n ≡ slice_index t.words.items word → change ≡ ended_tabs at x goes_on → base ≡ word_addition kind.Ended (Turn slot) slot n 0 None
-          → Plans o t v (move.EndTurn at slot goes_on) (turn_change n word 0 (turns.Ended at slot) change base)
+      pub end_planned : (change : TabsChange) (base : Addition) → n ≡ slice_index t.words.items word → change ≡ ended_tabs at x then → base ≡ word_addition kind.Ended (Turn slot) slot n 0 None
+          → Plans o t v (move.EndTurn at slot then) (turn_change n word 0 (turns.Ended at slot) change base)
       end_planned change base n_is change_is base_is =
           let found : n ≡ turn_found = n_is ∙ ap (λ i. slice_index t.words.items i) word_is in
-          subst (λ (c : Change). Plans o t v (move.EndTurn at slot goes_on) c)
+          subst (λ (c : Change). Plans o t v (move.EndTurn at slot then) c)
           (sym (λ j. turn_change (found j) (word_is j) 0 (turns.Ended at slot) (change_is j) ((base_is ∙ (λ k. word_addition kind.Ended (Turn slot) slot (found k) 0 None)) j)))
           ended

@@ -2,6 +2,7 @@
 use Rattle.std.specs.Prelude.{◌≡◌, ◌⊎◌, ℕ, ◌+◌, ◌==◌, Bool, true, false, cond}
 use Rattle.core_model.specs.declared.tab.Tab.{Tab}
 use Rattle.core_model.specs.declared.tab.Tab.TheVariants.{Reading, Writing}
+use Rattle.core_model.specs.declared.moves.Then.{Then}
 use Rattle.core_model.specs.State.{State}
 use Rattle.core_model.specs.Tabs.{holds_turn, OfReader, OfWriter}
 use Rattle.core_model.specs.CellMoves.{MayRead, MayWrite, next_slot, was_written, was_settled}
@@ -25,8 +26,8 @@ tried_tabs t (Writing w) n = tabs.Becomes t (Leaves (cond (n == 0) false w.is_wr
 tried_tabs t tab n = tabs.Same
 
 -- and what becomes of it beside its turn where it ends that
-abbrev pub ended_tabs : ℕ → Tab Content → Bool → TabsChange
-ended_tabs t (Reading r) true = tabs.Becomes t (GoesOn (r.place + 1) (next_slot r.found))
-ended_tabs t (Reading r) false = tabs.Same
-ended_tabs t (Writing w) goes_on = tabs.Becomes t (Leaves (was_written w.turn) (was_settled w.turn))
-ended_tabs t tab goes_on = tabs.Same
+abbrev pub ended_tabs : ℕ → Tab Content → Then → TabsChange
+ended_tabs t (Reading r) Then.GoesOn = tabs.Becomes t (GoesOn (r.place + 1) (next_slot r.found))
+ended_tabs t (Reading r) _ = tabs.Same
+ended_tabs t (Writing w) then = tabs.Becomes t (Leaves (was_written w.turn) (was_settled w.turn))
+ended_tabs t tab then = tabs.Same

@@ -6,7 +6,7 @@ ghost use Rattle.core_model.specs.declared.tab.Tab.TheVariants.{Reading};
 ghost use Rattle.core_model.specs.Cells.{CellsSound};
 ghost use Rattle.core_model.specs.Tabs.{anchor_of, is_reading};
 ghost use Rattle.core_model.specs.Table.{Allowed};
-ghost use Rattle.core_model.specs.CellMoves.{MayRead, MayWrite, Holds, next_slot, was_written, was_settled};
+ghost use Rattle.core_model.specs.CellMoves.{EndsSo, MayRead, MayWrite, Holds, next_slot, was_written, was_settled};
 ghost use Rattle.core_table.specs.declared.content.Content.{Content as ContentOf};
 ghost use Rattle.core_table.specs.Inside.{setting, state};
 ghost use Rattle.core_change.specs.Planned.{IsScene, Plans};
@@ -18,7 +18,7 @@ use core_change::{
     ChainChange, Change, NotesChange, Refusal, TabChange, TabsChange, TurnChange, WordChange,
     tab_at, word_addition,
 };
-use core_model::{Kind, Place, Reader, Tab, Turn, View, Writer};
+use core_model::{Kind, Place, Reader, Tab, Then, Turn, View, Writer};
 use core_table::{Content, Opening, Table};
 use link_word::Link;
 
@@ -162,15 +162,15 @@ fn next_slot(link: Link) -> Option<u32>
 
 /// What becomes of a tab that ends its turn, beside the turn: a reading one may go on, and a writing one
 /// keeps whether its piece is in the cell.
-fn ended_tabs(opening: &Opening, tab: u8, now: &Tab<Content>, goes_on: bool) -> TabsChange
+fn ended_tabs(opening: &Opening, tab: u8, now: &Tab<Content>, then: Then) -> TabsChange
     requires { (reader : ReaderOf ContentOf) → now.now ≡ Reading reader → reader.place < opening.now.slots }
-    ensures { result ≡ ended_tabs tab now.now goes_on }
+    ensures { result ≡ ended_tabs tab now.now then }
 {
     match now {
         Tab::Reading(reader) => {
-            if !goes_on {
+            let Then::GoesOn = then else {
                 return TabsChange::Same;
-            }
+            };
             prove!(reader.place < opening.slots);
             let slot = next_slot(reader.found);
             TabsChange::Becomes(tab, TabChange::GoesOn(reader.place + 1, slot))
@@ -184,6 +184,16 @@ fn ended_tabs(opening: &Opening, tab: u8, now: &Tab<Content>, goes_on: bool) -> 
     }
 }
 
+/// Whether a tab may end its turn so: none but a freeing one may say that it wiped the slot.
+fn ends_so(tab: &Tab<Content>, then: Then) -> bool
+    ensures { IsTrue result ↔ EndsSo then tab.now }
+{
+    match then {
+        Then::Stays | Then::GoesOn => true,
+        Then::Wiped => matches!(tab, Tab::Freeing(_)),
+    }
+}
+
 /// A tab gives the turn back, and the cell is home then. A reading tab may go on to the next slot.
 pub fn end_turn(
     opening: &Opening,
@@ -191,18 +201,21 @@ pub fn end_turn(
     view: &View<Content>,
     tab: u8,
     slot: u32,
-    goes_on: bool,
+    then: Then,
 ) -> Result<Change, Refusal>
     requires scene { IsScene opening.now table.now view.now }
     requires cells { CellsSound (setting opening.now) (state table.now) }
-    ensures planned { IfOk result (λ change. Plans opening.now table.now view.now (move.EndTurn tab slot goes_on) change) }
+    ensures planned { IfOk result (λ change. Plans opening.now table.now view.now (move.EndTurn tab slot then) change) }
     ensures refused { IsErrOf result Refusal.NotAllowed
-        → Allowed (setting opening.now) (state table.now) view.now (move.EndTurn tab slot goes_on) → ⊥ }
+        → Allowed (setting opening.now) (state table.now) view.now (move.EndTurn tab slot then) → ⊥ }
 {
     let Some(now) = tab_at(view, tab) else {
         return Err(Refusal::NotAllowed);
     };
     if !holds(now, slot, false) {
+        return Err(Refusal::NotAllowed);
+    }
+    if !ends_so(now, then) {
         return Err(Refusal::NotAllowed);
     }
     let place = Place::Turn(slot);
@@ -212,7 +225,7 @@ pub fn end_turn(
         answer: found,
         word: Some(WordChange { index, left: 0 }),
         turn: TurnChange::Ended(tab, slot),
-        tabs: ended_tabs(opening, tab, now, goes_on),
+        tabs: ended_tabs(opening, tab, now, then),
         chain: ChainChange::Same,
         used: None,
         addition: word_addition(Kind::Ended, place, slot, found, 0, None),

@@ -40,19 +40,19 @@ shown_at cell (d ∷ cells) zero c e = (omega arith, the (shown true cell d) e)
     the x q = cc
 shown_at cell (d ∷ cells) (suc j) c e = let h = shown_at cell cells j c e in ((let z = h.0 in omega arith), h.1)
 
-module _ {C : Type 0} (cell : C → CellState) (g : Ground (List ℕ)) (views : List (View (List ℕ))) (cells : List C) (h : Closed true cell g views cells) (images : List (List ℕ)) (left : IsCrashImage (map cell cells) images) where
+module _ {C : Type 0} (cell : C → CellState) (g : Ground (List ℕ)) (views : List (View (List ℕ))) (cells : List C) (h : Closed true cell g views cells) where
   abbrev s : State (List ℕ)
   s = h.gathered.state
 
   -- no tab holds a cell
-  none_held : (slot : ℕ) (c : Cell (List ℕ)) → IsHeldCell s slot c → ⊥
+  pub none_held : (slot : ℕ) (c : Cell (List ℕ)) → IsHeldCell s slot c → ⊥
   none_held slot c q = not_free q.tab (h.free q.i q.view q.at q.t q.tab q.there) q.turn
     where
       not_free : (x : Tab (List ℕ)) → x ≡ Free → turn_of x ≡ Has q.hold → ⊥
       not_free x e t = cc
 
-  pub closed_left : IsLeftOf g s h.gathered.rule.logged.log images
-  closed_left = record {
+  pub closed_left : (images : List (List ℕ)) → IsCrashImage (map cell cells) images → IsLeftOf g s h.gathered.rule.logged.log images
+  closed_left images left = record {
     many = left.count ∙ length-map cells cell ∙ h.many;
     each = λ slot c lt q. ⊎_elim
         (λ (home : slice_index_or s.places slot None ≡ Some c). let d = shown_at cell cells slot c (subst (λ (z : List (Option (Cell (List ℕ)))). slice_index_or z slot None ≡ Some c) h.home home) in
@@ -60,7 +60,7 @@ module _ {C : Type 0} (cell : C → CellState) (g : Ground (List ℕ)) (views : 
         (λ (held : IsHeldCell s slot c). absurd (none_held slot c held)) q;
   }
 
-told_left : {C : Type 0} → (tells : Bool) → IsTrue tells → (cell : C → CellState) (g : Ground (List ℕ)) (views : List (View (List ℕ))) (cells : List C) (h : Closed tells cell g views cells) (images : List (List ℕ)) → IsCrashImage (map cell cells) images → IsLeftOf g h.gathered.state h.gathered.rule.logged.log images
+pub told_left : {C : Type 0} → (tells : Bool) → IsTrue tells → (cell : C → CellState) (g : Ground (List ℕ)) (views : List (View (List ℕ))) (cells : List C) (h : Closed tells cell g views cells) (images : List (List ℕ)) → IsCrashImage (map cell cells) images → IsLeftOf g h.gathered.state h.gathered.rule.logged.log images
 told_left true t cell g views cells h images left = closed_left cell g views cells h images left
 told_left false t cell g views cells h images left = cc
 

@@ -18,7 +18,9 @@ use Rattle.core_model.specs.Offers.{IsNewEntry}
 use Rattle.core_model.specs.Slots.{slot_words, used}
 use Rattle.core_model.specs.Sound.{Sound}
 use Rattle.core_model.specs.Spots.{slots_chained}
-use Rattle.core_model.specs.State.{State, chain_of, side_word}
+use Rattle.core_model.specs.State.{State, chain_of, side_word, word}
+use Rattle.core_model.specs.Anchors.{opening_counter}
+use Rattle.lock_word.specs.Words.{epoch_of, version_of}
 use Rattle.core_model.proofs.Lists.{le_sum_at}
 use Rattle.core_model.proofs.OffersTold.{links_new}
 use Rattle.core_model.proofs.SlotsCounted.{slots_counted}
@@ -28,7 +30,7 @@ use Rattle.core_model.proofs.Telling.{told_out}
 use Rattle.crash_entries.specs.Parts.{KeepsTo}
 use Rattle.crash_entries.proofs.Telling.{Tools}
 use Rattle.crash_laws.specs.Left.{StandsNew, entry_at, part_at, piece_at}
-use Rattle.crash_laws.proofs.Standing.{new_kept}
+use Rattle.crash_laws.proofs.Standing.{StandsWhole, new_kept}
 use Rattle.store_rule.specs.declared.store.Pass.{Pass}
 use Rattle.store_rule.specs.declared.store.Store.{Store}
 use Rattle.store_rule.specs.Ground.{Ground, Offers, Rule, offering_of}
@@ -76,6 +78,38 @@ some_inside [] (suc n) t e = cc
 some_inside (x ∷ xs) zero t e = omega arith
 some_inside (x ∷ xs) (suc n) t e = let r = some_inside xs n t e in omega arith
 
+module _ (g : Ground (List ℕ)) (s : State (List ℕ)) (rule : Rule g s) (a : ℕ) (lt : a < g.setting.anchors) (some_slot : 0 < length (chain_of s a).slots) (closed : (chain_of s a).end ≡ LastLink)
+    (high : opening_counter g.setting < version_of (epoch_of (word s a))) where
+  new : IsNewEntry (offering_of g) g.setting s a
+  new = rule.offered.new a lt some_slot high
+
+  link_is : (place : ℕ) → link_at (chain_of s a) place ≡ link_to (drop (place + 1) (chain_of s a).slots) LastLink
+  link_is place = ap (link_to (drop (place + 1) (chain_of s a).slots)) closed
+
+  pieces_keep : (place : ℕ) → place < length (chain_of s a).slots → KeepsTo g.slot g.setting.anchors g.setting.slots (offers_in g) (part_at g.setting s a place)
+  pieces_keep place under = record {
+    url = new.fits.url;
+    short = new.fits.short;
+    anchor_is = new.fits.anchor;
+    last = links_new (offering_of g) g.setting s a new place under;
+    linked = λ e. is_written (drop (place + 1) (chain_of s a).slots) (sym (link_is place) ∙ e);
+    version_from = (let v = high in omega arith);
+    version_to = new.drawn;
+    place_low = (let f = few_chained g.setting s rule.sound a lt in omega arith);
+    first_low = chained_low g.setting s rule.sound a lt (first_of (chain_of s a).slots) (first_in (chain_of s a).slots some_slot);
+    next_low = λ t e. chained_low g.setting s rule.sound a lt t (named (chain_of s a).slots (place + 1) t (sym (link_is place) ∙ e));
+  }
+
+  -- a new entry whose chain ends is whole
+  pub whole : StandsWhole g.slot (offers_in g) g.setting s a
+  whole = record {
+    some_slot = some_slot;
+    closed = closed;
+    offer = rule.sound.cells.names.offers a lt some_slot high;
+    new = high;
+    keeps = pieces_keep;
+  }
+
 module _ (g : Ground (List ℕ)) (s : State (List ℕ)) (rule : Rule g s) (a : ℕ) (lt : a < g.setting.anchors) (h : IsDurableEntry g s rule.logged.log a) where
   -- of a slot of the entry a crash leaves what is published there
   pub one_content : (place slot : ℕ) (c : Cell (List ℕ)) (x : List ℕ) → get_elem? (chain_of s a).slots place ≡ some slot → IsCell s slot c → Contains c.possible x → x ≡ c.now
@@ -89,34 +123,14 @@ module _ (g : Ground (List ℕ)) (s : State (List ℕ)) (rule : Rule g s) (a : �
       image_is y (inl old) = absurd (let z = offer_is in let w = old.0 in omega arith)
       image_is y (inr new) = new.1
 
-  new : IsNewEntry (offering_of g) g.setting s a
-  new = rule.offered.new a lt h.some_slot h.new
-
-  link_is : (place : ℕ) → link_at (chain_of s a) place ≡ link_to (drop (place + 1) (chain_of s a).slots) LastLink
-  link_is place = ap (link_to (drop (place + 1) (chain_of s a).slots)) h.closed
-
-  pieces_keep : (place : ℕ) → place < length (chain_of s a).slots → KeepsTo g.slot g.setting.anchors g.setting.slots (offers_in g) (part_at g.setting s a place)
-  pieces_keep place under = record {
-    url = new.fits.url;
-    short = new.fits.short;
-    anchor_is = new.fits.anchor;
-    last = links_new (offering_of g) g.setting s a new place under;
-    linked = λ e. is_written (drop (place + 1) (chain_of s a).slots) (sym (link_is place) ∙ e);
-    version_from = (let v = h.new in omega arith);
-    version_to = new.drawn;
-    place_low = (let f = few_chained g.setting s rule.sound a lt in omega arith);
-    first_low = chained_low g.setting s rule.sound a lt (first_of (chain_of s a).slots) (first_in (chain_of s a).slots h.some_slot);
-    next_low = λ t e. chained_low g.setting s rule.sound a lt t (named (chain_of s a).slots (place + 1) t (sym (link_is place) ∙ e));
-  }
-
   pub stands : StandsNew g.slot (offers_in g) g.setting s rule.logged.log a
-  stands = record {
-    some_slot = h.some_slot;
-    closed = h.closed;
-    offer = rule.sound.cells.names.offers a lt h.some_slot h.new;
-    new = h.new;
+  stands = let w = whole g s rule a lt h.some_slot h.closed h.new in record {
+    some_slot = w.some_slot;
+    closed = w.closed;
+    offer = w.offer;
+    new = w.new;
     durable = h.durable;
-    keeps = pieces_keep;
+    keeps = w.keeps;
   }
 
 module _ {C O : Type 0} (tells : Bool) (told : IsTrue tells) (cell : C → CellState) (offers : O → Offers) (slot anchors many : ℕ) (origin : O) (cells : List C) (store : Store C O) (passes : Vec (Pass C))

@@ -3,3 +3,4 @@ pub mod Closed
 pub mod Durable
 pub mod Kept
 pub mod Finished
+pub mod Standing

@@ -12,7 +12,6 @@ use Rattle.rebuild_model.specs.Entry.{Entry, IsComplete}
 use Rattle.rebuild_model.specs.Image.{image_at}
 use Rattle.rebuild_model.specs.Rebuilt.{IsRebuilt}
 use Rattle.core_model.specs.declared.tab.Piece.{Piece}
-use Rattle.core_model.specs.declared.view.LoggedPiece.{LoggedPiece}
 use Rattle.core_model.specs.State.{State}
 use Rattle.core_model.proofs.Lists.{at_or}
 use Rattle.core_log.specs.Keeps.{HasLog}

@@ -1,6 +1,6 @@
 // The laws on what a crash leaves of a running store.
 ghost use Rattle.std.specs.Prelude.{Contains, IsTrue, List, length, map, ◌<◌, ◌^◌, ◌≡◌, ◌≤◌, ◌⊎◌, ℕ};
-ghost use Rattle.lock_word.specs.Words.{epoch_of, version_of};
+ghost use Rattle.lock_word.specs.Words.{epoch_of, stage_of, version_of};
 ghost use Rattle.std.specs.Global.{Vec};
 ghost use mathlib.Core.Option.{some};
 ghost use lib.ListN.{get_elem?};
@@ -20,6 +20,7 @@ ghost use Rattle.rock_writer.specs.Durable.{LoggedWhole};
 ghost use Rattle.rock_writer.specs.Entries.{Entry as Written};
 ghost use Rattle.crashed_stores.specs.Finished.{AreSeen, IsFoundIn};
 ghost use Rattle.crashed_stores.specs.Left.{IsDurableEntry, IsLeftOf, IsOfOrigin, bytes_now, offers_in};
+ghost use Rattle.crashed_stores.specs.Standing.{HaveEntry, IsLasting, offer_at};
 
 use db_layout::MOST_SLOTS;
 use entry_cut::{pieces_make_the_content, placed_pieces_are_an_entry};
@@ -129,3 +130,35 @@ pub fn closed_cells_leave_responses<C: Cell, O: Origin>()
     placed_pieces_are_an_entry();
     written_meta_is_spelled();
 }
+
+/// Where the store was closed, and an entry stands closed at an anchor: the cells as they are have it, and a rebuild keeps
+/// it there. So it is in all that a crash may leave of them, where the entry is one of the opening, or each of its pieces
+/// was logged as durable.
+pub fn closed_entries_win<C: Cell, O: Origin>()
+    ensures { (slot anchors many : ℕ) (origin : O) (cells : List C) (store : Store C O) (passes : Vec (Pass C)) (views : List (View (List ℕ))) (left : List C) (a : ℕ)
+        → IsTrue C.tells → slot < 2 ^ 32 → length cells ≤ MOST_SLOTS → IsStoreOver C.tells C.state O.offers slot anchors many origin cells store passes
+        → (closed : Closed C.tells C.state (basis C.tells C.state O.offers store) views left)
+        → a < anchors → stage_of (epoch_of (word closed.gathered.state a)) ≡ 3
+        → HaveEntry slot anchors (basis C.tells C.state O.offers store) (bytes_now C.state cells) closed.gathered.state closed.gathered.rule.logged.log (map C.state left) a }
+{
+    images_are_read_as_built();
+    keys_have_16_bytes();
+    one_entry_at_a_slot();
+    pieces_make_the_content();
+    placed_pieces_are_an_entry();
+    written_meta_is_spelled();
+}
+
+/// An entry of which a pass of a store that was closed knew, with this view, each piece as logged and as durable lasts:
+/// where its version stands closed then, each piece that is published there was logged as durable (`lasting`). Its offer
+/// is the one that stands there (`offer`).
+pub fn finished_entries_last<C: Cell>()
+    ensures lasting { (g : Ground (List ℕ)) (views : List (View (List ℕ))) (left : List C) (entry : Written) (v : View (List ℕ)) (j : ℕ)
+        → (closed : Closed C.tells C.state g views left) → get_elem? views j ≡ some v → LoggedWhole g entry v
+        → version_of (epoch_of (word closed.gathered.state entry.anchor)) ≡ entry.version → stage_of (epoch_of (word closed.gathered.state entry.anchor)) ≡ 3
+        → IsLasting g closed.gathered.state closed.gathered.rule.logged.log entry.anchor }
+    ensures offer { (g : Ground (List ℕ)) (views : List (View (List ℕ))) (left : List C) (entry : Written) (v : View (List ℕ)) (j : ℕ)
+        → (closed : Closed C.tells C.state g views left) → get_elem? views j ≡ some v → LoggedWhole g entry v
+        → version_of (epoch_of (word closed.gathered.state entry.anchor)) ≡ entry.version
+        → offer_at g closed.gathered.state entry.anchor ≡ entry.offer }
+{}

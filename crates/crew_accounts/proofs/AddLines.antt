@@ -23,15 +23,15 @@ use Rattle.rock_writer.specs.Entries.{Entry, WritesAs, size_of}
 use Rattle.rock_writer.specs.declared.fault.WriteFault.{WriteFault}
 use Rattle.store_serve.specs.Adding.{Added, NotAdded, taken_on}
 use Rattle.store_serve.specs.Storing.{left_of}
-use Rattle.serve_lines.specs.Deeds.{OfGivingUp, OfPublishing, name_of}
-use Rattle.serve_lines.specs.Showing.{HasShown}
-use Rattle.serve_lines.proofs.Counts as counts
-use Rattle.serve_lines.proofs.ServingDeeds as serving
-use Rattle.serve_lines.proofs.WriterDeeds.{entry_of}
-use Rattle.serve_lines.specs.Answers.{answer_to_add, answer_to_fault}
-use Rattle.serve_lines.specs.Tabs.{IsTurnedAway, Leaves}
-use Rattle.serve_lines.specs.Whole.{whole_tab}
-use Rattle.serve_lines.specs.Writing.{AddsOn, AddsTo}
+use Rattle.store_serve.specs.Deeds.{OfGivingUp, OfPublishing, name_of}
+use Rattle.store_serve.specs.Showing.{HasShown}
+use Rattle.store_serve.proofs.Counts as counts
+use Rattle.store_serve.proofs.ServingDeeds as serving
+use Rattle.store_serve.proofs.WriterDeeds.{entry_of}
+use Rattle.store_serve.specs.Answers.{answer_to_add, answer_to_fault}
+use Rattle.store_serve.specs.Tabs.{IsTurnedAway, Leaves}
+use Rattle.store_serve.specs.Whole.{whole_tab}
+use Rattle.store_serve.specs.Writing.{AddsOn, AddsTo}
 use Rattle.crew_accounts.specs.Lines.{AddsLine, served_as}
 use Rattle.crew_accounts.specs.Runs.{Past, run_of}
 use Rattle.crew_accounts.specs.Tracks.{IsWriter, Tracks}

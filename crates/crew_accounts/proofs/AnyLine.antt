@@ -12,8 +12,8 @@ use Rattle.store_rule.specs.declared.store.Pass.{Pass}
 use Rattle.store_rule.specs.declared.store.Store.{Store}
 use Rattle.store_rule.specs.Ground.{Offers}
 use Rattle.store_rule.specs.Passes.{basis}
-use Rattle.serve_lines.specs.Serving.{MayAsk, Serves, ServesRequest, Takes}
-use Rattle.serve_lines.specs.Tabs.{Leaves}
+use Rattle.store_serve.specs.Serving.{MayAsk, Serves, ServesRequest, Takes}
+use Rattle.store_serve.specs.Tabs.{Leaves}
 use Rattle.worker_shelf.specs.Typed.{IsTyped}
 use Rattle.crew_accounts.specs.Lines.{AddsLine, line_with}
 use Rattle.crew_accounts.specs.Runs.{IsTold, Past}

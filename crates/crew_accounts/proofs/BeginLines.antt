@@ -17,14 +17,14 @@ use Rattle.store_rule.specs.Ground.{Ground, Offers, anchor_for}
 use Rattle.store_rule.specs.Passes.{basis, view}
 use Rattle.rock_writer.specs.Beginning.{Began, IsTooLong, NotTaken, begun}
 use Rattle.rock_writer.specs.declared.fault.BeginFault.{BeginFault}
-use Rattle.serve_lines.specs.Deeds.{OfBeginning}
-use Rattle.serve_lines.proofs.Counts as counts
-use Rattle.serve_lines.proofs.Slots.{named as naming_keeps}
-use Rattle.serve_lines.proofs.WriterDeeds.{began as began_acted}
-use Rattle.serve_lines.specs.Answers.{answer_to_begin, answer_to_refusal}
-use Rattle.serve_lines.specs.Tabs.{IsFree, IsOffered, IsTurnedAway, Leaves}
-use Rattle.serve_lines.specs.Whole.{whole_tab}
-use Rattle.serve_lines.specs.Writing.{Begins, BeginsOn}
+use Rattle.store_serve.specs.Deeds.{OfBeginning}
+use Rattle.store_serve.proofs.Counts as counts
+use Rattle.store_serve.proofs.Slots.{named as naming_keeps}
+use Rattle.store_serve.proofs.WriterDeeds.{began as began_acted}
+use Rattle.store_serve.specs.Answers.{answer_to_begin, answer_to_refusal}
+use Rattle.store_serve.specs.Tabs.{IsFree, IsOffered, IsTurnedAway, Leaves}
+use Rattle.store_serve.specs.Whole.{whole_tab}
+use Rattle.store_serve.specs.Writing.{Begins, BeginsOn}
 use Rattle.worker_shelf.specs.Typed.{IsTyped}
 use Rattle.crew_accounts.specs.Lines.{AddsLine, served_as}
 use Rattle.crew_accounts.specs.Runs.{Past, run_of}

@@ -16,9 +16,9 @@ use Rattle.line_account.specs.Courses.{Adds}
 use Rattle.rock_writer.specs.declared.fault.Ended.{Ended}
 use Rattle.rock_writer.specs.declared.fault.Ended.TheVariants.{Doomed, Stored}
 use Rattle.rock_writer.specs.Finishing.{is_doomed, version_of}
-use Rattle.serve_lines.specs.Answers.{answer_to_ended}
-use Rattle.serve_lines.specs.Acting.{Acted}
-use Rattle.serve_lines.specs.Deeds.{HasNames, Naming, OfBeginning, OfClosing, OfEnding, OfGivingUp, OfHalting, OfLeaving, OfPublishing, OfPurging, OfPutting, OfPuttingInVain, OfRefusing, OfReserving, OfVisiting}
+use Rattle.store_serve.specs.Answers.{answer_to_ended}
+use Rattle.store_serve.specs.Acting.{Acted}
+use Rattle.store_serve.specs.Deeds.{HasNames, Naming, OfBeginning, OfClosing, OfEnding, OfGivingUp, OfHalting, OfLeaving, OfPublishing, OfPurging, OfPutting, OfPuttingInVain, OfRefusing, OfReserving, OfVisiting}
 use Rattle.crew_accounts.proofs.DeedLines as deed
 
 -- how an entry ended, as its answer tells it

@@ -11,21 +11,14 @@ use Rattle.core_model.specs.declared.tab.Tab.{Tab}
 use Rattle.core_model.specs.declared.tab.Tab.TheVariants.{Free, Reading}
 use Rattle.core_model.specs.declared.view.View.{View}
 use Rattle.line_account.specs.Accounts.{epoch_in}
-use Rattle.line_account.specs.Courses.{Keeps}
-use Rattle.line_account.specs.Lines.{Served, url_at, url_in}
+use Rattle.script_text.specs.Requests.{url_in}
+use Rattle.line_account.specs.Lines.{Served, url_at}
 use Rattle.store_rule.specs.Ground.{Ground, anchor_for}
 use Rattle.store_rule.specs.Told.{Steps}
 use Rattle.store_rule.specs.Calls.{IsFresh}
-use Rattle.rw_anchor.specs.declared.Left.{Left}
-use Rattle.rock_reader.specs.Opening.{opened}
-use Rattle.rock_reader.specs.Opening as reader
+use Rattle.rock_reader.specs.Opening.{Refused, opened}
 use Rattle.rock_reader.proofs.Coming.{came_tabs, entered_readable}
-use Rattle.purge_entry.specs.Judging as purge
-use Rattle.purge_entry.specs.Parting.{Parted}
-use Rattle.serve_lines.proofs.Anchors.{leaves}
-use Rattle.serve_lines.proofs.Grown.{on}
-use Rattle.serve_lines.proofs.Readers as readers
-use Rattle.serve_lines.proofs.Slots.{freed}
+use Rattle.store_serve.proofs.Readers as readers
 use Rattle.worker_shelf.specs.Typed.{TellsKey}
 use Rattle.crew_accounts.specs.Runs.{Past, run_of}
 use Rattle.crew_accounts.proofs.Refusing.{away_cause, other_cause}
@@ -38,10 +31,6 @@ module _ {X : Type 0} (g : Ground X) where
       ∙ get_or-set_same v.tabs t (entered a (epoch_of n)) Free (let nine = st.may.pass in let low = st.may.allowed.1 in omega arith)
       ∙ ap (entered a) same ∙ entered_readable a e h
 
-  pub purge_parted : (t : ℕ) (v w : View X) → Parted g t v w → Keeps v w
-  purge_parted t v w (inl h) = leaves v w t Left.Done h.leaves
-  purge_parted t v w (inr h) = on (leaves v h.middle t Left.MustFree h.leaves) (freed h.freed)
-
 -- It was refused by this cause, at an epoch that was fresh there.
 pub record IsRefused (g : Ground (List ℕ)) (told : Bool) (past : Past) (earlier : List Served) (l : Served) (url : List ℕ) (v w : View (List ℕ)) (c : Cause) : Type 0 where
   pub cause : ForCause (run_of g told past) w earlier l c
@@ -52,16 +41,9 @@ module _ (g : Ground (List ℕ)) (told : Bool) (past : Past) (earlier : List Ser
   refused_at epoch fresh h = record { cause = h.0; fresh = subst (λ (e : Epoch). IsFresh (anchor_for g url) (epoch_number e) v w) (sym h.1) fresh }
 
   module _ (t : ℕ) (fits : TellsKey c) where
-    pub refused : reader.Refused g t url v c w → IsRefused g told past earlier l url v w c
+    pub refused : Refused g t url v c w → IsRefused g told past earlier l url v w c
     refused (inl h) = refused_at h.epoch h.came.fresh (away_cause g told past earlier l url named at_url v w c h.epoch h.came.fresh h.unreadable h.cause_is)
     refused (inr h) = let d = h.declined in
         refused_at h.epoch h.came.fresh
         (other_cause g told past earlier l url named at_url v w c h.epoch h.came.fresh h.entered d.keyed t d.key h.readable (came_reads g v h.entered t (anchor_for g url) h.came.found h.epoch h.came.enter h.came.epoch_is h.readable) d.loaded
         (readers.parted g t d.keyed w d.parted).seen d.cause_is fits)
-
-    pub purge_refused : purge.Refused g t url v c w → IsRefused g told past earlier l url v w c
-    purge_refused (inl h) = refused_at h.epoch h.came.fresh (away_cause g told past earlier l url named at_url v w c h.epoch h.came.fresh h.unreadable h.cause_is)
-    purge_refused (inr h) = let d = h.declined in
-        refused_at h.epoch h.came.fresh
-        (other_cause g told past earlier l url named at_url v w c h.epoch h.came.fresh h.entered d.keyed t d.key h.readable (came_reads g v h.entered t (anchor_for g url) h.came.found h.epoch h.came.enter h.came.epoch_is h.readable) d.loaded
-        (purge_parted g t d.keyed w d.parted).seen d.cause_is fits)

@@ -27,12 +27,13 @@ use Rattle.store_rule.specs.Passes.{IsNewOf, basis, view}
 use Rattle.store_rule.proofs.Passing.{pass_of}
 use Rattle.worker_pool.specs.Courses.{IsServed, Linked, Stage}
 use Rattle.worker_pool.specs.Running.{Account}
-use Rattle.serve_lines.specs.Serving.{Takes}
+use Rattle.store_serve.specs.Serving.{Takes}
 use Rattle.worker_shelf.specs.Shelves.{Left, OnShelf}
 use Rattle.crew_accounts.specs.Runs.{Past, run_of}
-use Rattle.crew_accounts.specs.Courses.{HasCourse, IsStep, stage_shown, with_views}
+use Rattle.crew_accounts.specs.Courses.{HasCourse, stage_shown, with_views}
+use Rattle.worker_shelf.specs.Playing.{IsPlayed, IsStep}
 use Rattle.crew_accounts.specs.Closings.{HasClosing, IsCourseFor, Played, crew_of, worker_of}
-use Rattle.crew_accounts.specs.Playing.{HasRun, IsPlayed}
+use Rattle.crew_accounts.specs.Playing.{HasRun}
 use Rattle.crew_accounts.proofs.Halted.{halted_short}
 use Rattle.crew_accounts.proofs.CrewLists.{Beside, as_many, beside, each_of, image, image_at, place_of, there}
 use Rattle.crew_accounts.proofs.MarksMet.{awaited, hands_over}
@@ -103,7 +104,7 @@ module _ {C O St : Type 0} (tells : Bool) (state : C → CellState) (offers : O 
       end_of a = view a.end.pass
 
       -- a worker of the crew, with its course and its account
-      record IsOne (j : ℕ) (w : Worker (List ℕ)) : Type 0 where
+      pub record IsOne (j : ℕ) (w : Worker (List ℕ)) : Type 0 where
         pub account : Account (OnShelf C O St)
         pub at : get_elem? accounts j ≡ some account
         pub course : Played (List ℕ)
@@ -153,3 +154,14 @@ module _ {C O St : Type 0} (tells : Bool) (state : C → CellState) (offers : O 
         serves = serves;
         meets = meets;
       }
+
+      -- The crew is closed in the state in which the store was, and each worker of it has the account of its place.
+      pub record StandsHere : Type 0 where
+        pub crew : List (Worker (List ℕ))
+        pub closed : Closed run crew
+        pub same : closed.state ≡ h.closed.gathered.state
+        pub one : (j : ℕ) (w : Worker (List ℕ)) → get_elem? crew j ≡ some w → IsOne j w
+
+      pub stands_here : StandsHere
+      unfolding closed
+      stands_here = record { crew = crew_of all.items; closed = closed; same = refl; one = one }

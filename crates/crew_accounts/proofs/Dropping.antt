@@ -11,11 +11,11 @@ use Rattle.store_rule.specs.declared.store.Pass.{Pass}
 use Rattle.store_rule.specs.declared.store.Store.{Store}
 use Rattle.store_rule.specs.Ground.{Ground, Offers}
 use Rattle.store_rule.specs.Passes.{basis, view}
-use Rattle.serve_lines.specs.Deeds.{OfHalting, name_of}
-use Rattle.serve_lines.proofs.WriterDeeds.{entry_of, halts as halts_acted}
-use Rattle.serve_lines.specs.Tabs.{IsTurnedAway, Leaves}
-use Rattle.serve_lines.specs.Whole.{whole_tab}
-use Rattle.serve_lines.specs.Writing.{Drops, DropsOn}
+use Rattle.store_serve.specs.Deeds.{OfHalting, name_of}
+use Rattle.store_serve.proofs.WriterDeeds.{entry_of, halts as halts_acted}
+use Rattle.store_serve.specs.Tabs.{IsTurnedAway, Leaves}
+use Rattle.store_serve.specs.Whole.{whole_tab}
+use Rattle.store_serve.specs.Writing.{Drops, DropsOn}
 use Rattle.crew_accounts.specs.Lines.{AddsLine, served_as}
 use Rattle.crew_accounts.specs.Runs.{Past, run_of}
 use Rattle.crew_accounts.specs.Tracks.{IsWriter, Tracks}

@@ -22,13 +22,13 @@ use Rattle.rock_writer.specs.declared.fault.Ended.TheVariants.{Doomed, Stored}
 use Rattle.rock_writer.specs.declared.fault.WriteFault.{WriteFault}
 use Rattle.rock_writer.specs.declared.fault.WriteFault.TheVariants.{Fault, Full, Large}
 use Rattle.store_serve.specs.Storing.{EndedWhole, NotEnded}
-use Rattle.serve_lines.specs.Deeds.{OfEnding, OfGivingUp, name_of}
-use Rattle.serve_lines.proofs.ServingDeeds as serving
-use Rattle.serve_lines.proofs.WriterDeeds.{entry_of}
-use Rattle.serve_lines.specs.Answers.{answer_to_end, answer_to_ended, answer_to_fault}
-use Rattle.serve_lines.specs.Tabs.{IsFree, IsTurnedAway, Leaves}
-use Rattle.serve_lines.specs.Whole.{whole_tab}
-use Rattle.serve_lines.specs.Writing.{EndsEntry, EndsOn}
+use Rattle.store_serve.specs.Deeds.{OfEnding, OfGivingUp, name_of}
+use Rattle.store_serve.proofs.ServingDeeds as serving
+use Rattle.store_serve.proofs.WriterDeeds.{entry_of}
+use Rattle.store_serve.specs.Answers.{answer_to_end, answer_to_ended, answer_to_fault}
+use Rattle.store_serve.specs.Tabs.{IsFree, IsTurnedAway, Leaves}
+use Rattle.store_serve.specs.Whole.{whole_tab}
+use Rattle.store_serve.specs.Writing.{EndsEntry, EndsOn}
 use Rattle.crew_accounts.specs.Lines.{AddsLine, served_as}
 use Rattle.crew_accounts.specs.Runs.{Past, run_of}
 use Rattle.crew_accounts.specs.Tracks.{IsWriter, Tracks}

@@ -18,9 +18,9 @@ use Rattle.rock_writer.specs.declared.fault.Ended.{Ended}
 use Rattle.rock_writer.specs.declared.fault.Ended.TheVariants.{Doomed, Stored}
 use Rattle.store_serve.specs.Adding.{taken_on}
 use Rattle.store_serve.specs.Storing.{EndedWhole, left_of}
-use Rattle.serve_lines.specs.Deeds.{HasNames, name_of}
-use Rattle.serve_lines.proofs.Serving.{added}
-use Rattle.serve_lines.proofs.WriterDeeds.{entry_of}
+use Rattle.store_serve.specs.Deeds.{HasNames, name_of}
+use Rattle.store_serve.proofs.Serving.{added}
+use Rattle.store_serve.proofs.WriterDeeds.{entry_of}
 use Rattle.crew_accounts.proofs.GivingUp.{closed_epoch}
 use Rattle.crew_accounts.proofs.Halting.{finished_names, finished_word}
 use Rattle.crew_accounts.proofs.Shown.{fresh_from}

@@ -8,9 +8,9 @@ use Rattle.script_text.specs.declared.request.Request.{Request}
 use Rattle.script_text.specs.declared.request.Request.TheVariants.{Add, Await, Begin, CloseTab, DropTab, End, Get, Mark, More, OpenTab, Purge, Put, Save}
 use Rattle.store_rule.specs.Ground.{Offers}
 use Rattle.worker_pool.specs.Courses.{Linked, Stage}
-use Rattle.serve_lines.specs.Answers.{TellsFaults, is_fault}
+use Rattle.store_serve.specs.Answers.{TellsFaults, is_fault}
 use Rattle.worker_shelf.specs.Shelves.{OnShelf}
-use Rattle.crew_accounts.specs.Courses.{IsStep, StepOn}
+use Rattle.worker_shelf.specs.Playing.{IsStep, StepOn}
 use Rattle.crew_accounts.proofs.Counting.{rises}
 use Rattle.crew_accounts.proofs.CrewLists.{behind, first}
 

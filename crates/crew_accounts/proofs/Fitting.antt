@@ -13,18 +13,18 @@ use Rattle.store_rule.specs.declared.store.Pass.{Pass}
 use Rattle.store_rule.specs.declared.store.Store.{Store}
 use Rattle.store_rule.specs.Ground.{Offers}
 use Rattle.store_rule.specs.Passes.{view}
-use Rattle.serve_lines.specs.Tabs.{IsFree, IsMet, IsReading, IsTurnedAway, IsWriting}
+use Rattle.store_serve.specs.Tabs.{IsFree, IsMet, IsReading, IsTurnedAway, IsWriting}
 use Rattle.crew_accounts.specs.Runs.{Past}
 use Rattle.crew_accounts.specs.Tracks.{IsIdle, IsReader, IsTracked, IsWriter}
 
 module _ {X : Type 0} where
-  free_writes : (x : Tab X) (w : Writer X) → x ≡ tab.Free → x ≡ tab.Writing w → ⊥
+  pub free_writes : (x : Tab X) (w : Writer X) → x ≡ tab.Free → x ≡ tab.Writing w → ⊥
   free_writes x w e f = let z : tab.Free ≡ tab.Writing w = sym e ∙ f in cc
 
   free_reads : (x : Tab X) (r : Reader X) → x ≡ tab.Free → x ≡ tab.Reading r → ⊥
   free_reads x r e f = let z : tab.Free ≡ tab.Reading r = sym e ∙ f in cc
 
-  writes_reads : (x : Tab X) (w : Writer X) (r : Reader X) → x ≡ tab.Writing w → x ≡ tab.Reading r → ⊥
+  pub writes_reads : (x : Tab X) (w : Writer X) (r : Reader X) → x ≡ tab.Writing w → x ≡ tab.Reading r → ⊥
   writes_reads x w r e f = let z : tab.Writing w ≡ tab.Reading r = sym e ∙ f in cc
 
 is_some : {A : Type 0} (o : Option A) (x : A) → o ≡ Some x → o ≡ None → ⊥

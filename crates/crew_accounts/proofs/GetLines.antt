@@ -20,8 +20,8 @@ use Rattle.core_model.specs.declared.moves.Side.TheVariants.{Offer}
 use Rattle.core_model.specs.declared.view.Place.TheVariants.{Beside}
 use Rattle.core_model.specs.declared.view.Sight.TheVariants.{Named, Published, Stood}
 use Rattle.line_account.specs.Accounts.{epoch_in}
-use Rattle.line_account.specs.Answers.{ComesIn, HasGiven, HasHit, HasOpened, HasOther, HasPart, IsEntryAt, IsSure, IsWhole, Run}
-use Rattle.line_account.specs.Courses.{Keeps}
+use Rattle.line_account.specs.Answers.{ComesIn, HasGiven, HasHit, HasOpened, HasOther, HasPart, IsEntryAt, IsOfOpened, IsSure, IsWhole, Run}
+use Rattle.core_model.specs.Knowing.{KnowsAll}
 use Rattle.line_account.specs.Lines.{Served, bytes_in}
 use Rattle.line_account.specs.Requests.{IsAnswerTo}
 use Rattle.store_rule.specs.declared.store.Pass.{Pass}
@@ -37,14 +37,14 @@ use Rattle.rock_reader.specs.declared.answer.More.TheVariants as more
 use Rattle.store_serve.specs.Getting.{GotAs, GotEntry}
 use Rattle.store_serve.specs.declared.getting.Got.{Got}
 use Rattle.store_serve.specs.declared.getting.Got.TheVariants.{Found, Missing}
-use Rattle.serve_lines.specs.Deeds.{OfVisiting}
-use Rattle.serve_lines.proofs.Grown.{on}
-use Rattle.serve_lines.proofs.ReaderDeeds as reader
-use Rattle.serve_lines.proofs.Readers.{gave, opened as opening_keeps, parted}
-use Rattle.serve_lines.proofs.ServingDeeds as serving
-use Rattle.serve_lines.specs.Answers.{AnswersGet, AnswersWhole}
-use Rattle.serve_lines.specs.Tabs.{IsFree, Leaves}
-use Rattle.serve_lines.specs.Whole.{Gets, whole_tab}
+use Rattle.store_serve.specs.Deeds.{OfVisiting}
+use Rattle.store_serve.proofs.Grown.{on}
+use Rattle.store_serve.proofs.ReaderDeeds as reader
+use Rattle.store_serve.proofs.Readers.{gave, opened as opening_keeps, parted}
+use Rattle.store_serve.proofs.ServingDeeds as serving
+use Rattle.store_serve.specs.Answers.{AnswersGet, AnswersWhole}
+use Rattle.store_serve.specs.Tabs.{IsFree, Leaves}
+use Rattle.store_serve.specs.Whole.{Gets, whole_tab}
 use Rattle.worker_shelf.specs.Typed.{IsTyped, TellsKey}
 use Rattle.crew_accounts.specs.Lines.{AddsLine, served_as}
 use Rattle.crew_accounts.specs.Runs.{IsTold, Past, run_of}
@@ -52,12 +52,12 @@ use Rattle.crew_accounts.specs.Tracks.{IsOtherUrl, Tracks}
 use Rattle.crew_accounts.proofs.CallDeeds.{adds_by, of_visiting}
 use Rattle.crew_accounts.proofs.Coming.{refused}
 use Rattle.crew_accounts.proofs.GivenBytes.{IsFromFront, all_of_it, given_of, gives_bytes, known, part_of}
-use Rattle.crew_accounts.proofs.MoreLines.{at_stage, one_bool, same_part}
+use Rattle.crew_accounts.proofs.MoreLines.{at_stage, one_bool, same_line, same_part}
 use Rattle.crew_accounts.proofs.Opened.{one_offer, opened_entry, opened_new, version_is}
 use Rattle.crew_accounts.proofs.OtherUrls.{entry_key, other_url}
 use Rattle.crew_accounts.proofs.ReadingOn.{ReadOn, gives_on}
 use Rattle.crew_accounts.proofs.Shown.{ShowsFresh, fresh_from, fresh_to, shows_none, shows_one}
-use Rattle.crew_accounts.proofs.TabLines.{elsewhere}
+use Rattle.crew_accounts.proofs.TabLines.{get_alone}
 use Rattle.crew_accounts.proofs.Telling.{ToTell, plain, tells_by}
 use Rattle.crew_accounts.proofs.Tracking.{entry_moved, entry_on, tracks_whole}
 use Rattle.crew_accounts.proofs.Waiting.{grown_version}
@@ -89,20 +89,20 @@ module _ {C O : Type 0} (tells : Bool) (state : C → CellState) (offers : O →
               (tells_by r (view q) served l refusal.cause
               (plain r (view q) served l (λ b e z. (shows b e z).seen) tt refl (λ x z. z) (λ x z. z) (λ u body z. z) tt (λ z. cc)))
               (λ y e gave z. absurd (let w : answer.Miss c ≡ answer.Part e gave = z in cc));
-          tracks = tracks_whole tells state offers s told past served p q l leaves free (λ j ne. elsewhere (Get url) (answer.Miss c) j ne) tracks;
+          tracks = tracks_whole tells state offers s told past served p q l leaves free (get_alone url (answer.Miss c)) tracks;
         }
 
     module _ (version : ℕ) (ended : More) (bytes : List ℕ) (k : GotEntry tells state offers s whole_tab url p q bytes version ended) where
       so : ReadOn tells state offers s whole_tab (newly (anchor_for g url) version k.offer url) k.opened k.went.standing k.went.middle
       so = gives_on tells state offers s whole_tab (newly (anchor_for g url) version k.offer url) k.opened k.went.calls k.went.standing k.went.middle bytes k.reads k.went.gives
 
-      ended_keeps : Keeps (view k.went.middle) (view k.read)
+      ended_keeps : KnowsAll (view k.went.middle) (view k.read)
       ended_keeps = gave tells state offers s whole_tab k.went.standing k.went.middle k.went.before k.went.after k.read ended k.went.ends
 
-      parted_keeps : Keeps (view k.read) (view q)
+      parted_keeps : KnowsAll (view k.read) (view q)
       parted_keeps = parted g whole_tab (view k.read) (view q) k.parted
 
-      since_opened : Keeps (view k.opened) (view q)
+      since_opened : KnowsAll (view k.opened) (view q)
       since_opened = on so.keeps (on ended_keeps parted_keeps)
 
       -- an epoch that was found behind the pieces, and that at which the entry was opened
@@ -146,7 +146,7 @@ module _ {C O : Type 0} (tells : Bool) (state : C → CellState) (offers : O →
                   tab = ((λ z. absurd (no_tab z)), (λ n. absurd (n tt)));
                 }))
                 parts;
-            tracks = tracks_whole tells state offers s told past served p q l leaves free (λ j ne. elsewhere (Get url) a j ne) tracks;
+            tracks = tracks_whole tells state offers s told past served p q l leaves free (get_alone url a) tracks;
           }
 
       -- What was read, and where the tab was then.
@@ -171,6 +171,10 @@ module _ {C O : Type 0} (tells : Bool) (state : C → CellState) (offers : O →
 
       old : f.version ≤ opening_counter g.setting → f.offer ≡ word_in g.setting g.setting.words (Beside Offer f.anchor)
       old low = sym offer_at ∙ entry_at.0.old (let v = version_same in omega arith)
+
+      of_opened : (a : Answer) (looked e : ℕ) → version_of e ≡ f.version → IsOfOpened served (served_as line a None (epoch_number k.opens.epoch) looked) e
+      of_opened a looked e its first opened_is =
+          its ∙ sym version_same ∙ ap (λ (z : Served). version_of z.opened) (same_line (served_as line a None (epoch_number k.opens.epoch) looked) first opened_is)
 
       gave_all : IsTrue told → bytes ≡ body_below g f.anchor f.offer f.place
       gave_all y = gives_bytes tells state offers s told past (told_so y) y whole_tab (newly (anchor_for g url) version k.offer url) k.opened k.went.calls f k.went.middle bytes k.reads k.went.gives
@@ -237,7 +241,7 @@ module _ {C O : Type 0} (tells : Bool) (state : C → CellState) (offers : O →
         subst (λ (z : Answer). AddsLine tells state offers s told past served line p z q) (sym is)
         (add_it version (more.NotYet epoch) bytes k (answer.Part epoch bytes) 0
         (shows_one r.setting.anchors (view p) (view q) served l url refl (epoch_number epoch) refl (found_fresh version (more.NotYet epoch) bytes k (epoch_number epoch) w.fresh))
-        (stage, (λ y. has_given version (more.NotYet epoch) bytes k (answer.Part epoch bytes) 0 refl y (λ z. some) (λ z. absurd z)))
+        (stage, of_opened version (more.NotYet epoch) bytes k (answer.Part epoch bytes) 0 (epoch_number epoch) its, (λ y. has_given version (more.NotYet epoch) bytes k (answer.Part epoch bytes) 0 refl y (λ z. some) (λ z. absurd z)))
         (λ y e gave z. subst (λ (x : Epoch). HasPart r (view p) (view q) served l (epoch_number x)) (same_part epoch e bytes gave z)
         (has_part version (more.NotYet epoch) bytes k (answer.Part epoch bytes) 0 refl y (epoch_number epoch) (λ x. some) (λ x. x) its ((parted_keeps version (more.NotYet epoch) bytes k).seen _ w.fresh.seen) some (new version (more.NotYet epoch) bytes k high)
         (waits_more tells state offers s whole_tab k.went.middle k.read k.went.standing k.went.before k.went.after epoch on_it.reads w high)
@@ -259,8 +263,11 @@ module _ {C O : Type 0} (tells : Bool) (state : C → CellState) (offers : O →
         let some = waits_some tells state offers s whole_tab k.went.middle k.read k.went.standing k.went.before k.went.after w.epoch (so version more.Halted bytes k).reads w.waits in
         subst (λ (z : Answer). AddsLine tells state offers s told past served line p z q) (sym is)
         (add_it version more.Halted bytes k (answer.Halted bytes) (epoch_number w.epoch)
-        (shows_one r.setting.anchors (view p) (view q) served l url refl (epoch_number w.epoch) refl (found_fresh version more.Halted bytes k (epoch_number w.epoch) w.waits.fresh))
-        (at_stage w.epoch Stage.Halted w.halted, (λ y. has_given version more.Halted bytes k (answer.Halted bytes) (epoch_number w.epoch) refl y (λ z. some) (λ z. absurd z)))
+        (shows_one r.setting.anchors (view p) (view q) served l url refl (epoch_number w.epoch) refl (found_fresh version more.Halted bytes k (epoch_number w.epoch) w.waits.fresh)) (
+          at_stage w.epoch Stage.Halted w.halted,
+          of_opened version more.Halted bytes k (answer.Halted bytes) (epoch_number w.epoch) (epoch_number w.epoch) (version_of-epoch_number w.epoch ∙ w.waits.version_is),
+          (λ y. has_given version more.Halted bytes k (answer.Halted bytes) (epoch_number w.epoch) refl y (λ z. some) (λ z. absurd z)),
+        )
         (λ y e gave z. absurd (let x : answer.Halted bytes ≡ answer.Part e gave = z in cc)) tt tt (λ z. cc))
     by_ending version more.OtherUrl bytes a k is =
         let l = served_as line answer.OtherUrl None (epoch_number k.opens.epoch) 0 in

@@ -14,7 +14,8 @@ use Rattle.core_model.specs.declared.view.Place.TheVariants.{Beside}
 use Rattle.core_model.specs.declared.view.Sight.TheVariants.{Named, Published, Stood}
 use Rattle.core_model.specs.declared.view.View.{View}
 use Rattle.line_account.specs.Answers.{HasGiven, HasPart, IsEntryAt, IsSure, IsWhole, Run, bytes_with}
-use Rattle.line_account.specs.Lines.{Served, opened_by, url_in}
+use Rattle.script_text.specs.Requests.{url_in}
+use Rattle.line_account.specs.Lines.{Served, opened_by}
 use Rattle.store_rule.specs.declared.store.Pass.{Pass}
 use Rattle.store_rule.specs.declared.store.Store.{Store}
 use Rattle.store_rule.specs.Ground.{Ground, Offers, anchor_for, cut_of, url_of}

@@ -15,7 +15,7 @@ use Rattle.rock_writer.specs.declared.fault.Ended.{Ended}
 use Rattle.rock_writer.specs.declared.fault.Ended.TheVariants.{Doomed, Stored}
 use Rattle.rock_writer.specs.declared.fault.WriteFault.{WriteFault}
 use Rattle.rock_writer.specs.declared.fault.WriteFault.TheVariants.{Fault, Full, Large}
-use Rattle.serve_lines.specs.Answers.{answer_to_ended, answer_to_fault}
+use Rattle.store_serve.specs.Answers.{answer_to_ended, answer_to_fault}
 use Rattle.crew_accounts.specs.Runs.{Past, run_of}
 use Rattle.crew_accounts.proofs.Running.{new_body, new_url}
 use Rattle.crew_accounts.proofs.Telling.{ToTell}

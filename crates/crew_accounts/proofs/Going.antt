@@ -11,7 +11,8 @@ use Rattle.worker_shelf.specs.Shelves.{OnShelf}
 use Rattle.crew_accounts.specs.Lines.{served_as}
 use Rattle.crew_accounts.specs.Runs.{IsTold, Past, run_of}
 use Rattle.crew_accounts.specs.Tracks.{Tracks}
-use Rattle.crew_accounts.specs.Courses.{HasCourse, IsStep, in_order, stage_shown, with_views}
+use Rattle.crew_accounts.specs.Courses.{HasCourse, in_order, stage_shown, with_views}
+use Rattle.worker_shelf.specs.Playing.{IsStep}
 use Rattle.crew_accounts.proofs.Steps.{Laws, MayServe, goes}
 
 here : {A : Type 0} (x : A) (xs : List A) → Contains (x ∷ xs) x

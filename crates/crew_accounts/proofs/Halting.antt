@@ -26,11 +26,11 @@ use Rattle.rock_writer.specs.Flushing.{NotFlushed, RanShort, SlotFor}
 use Rattle.rock_writer.specs.Halting.{GaveBack, GaveUnlinked, Halts, first_of, second_of}
 use Rattle.store_serve.specs.Adding.{Call, NotAdded, Took, taken_on}
 use Rattle.store_serve.specs.Storing.{GaveUpPut, NotEnded, left_of}
-use Rattle.serve_lines.specs.Deeds.{HasNames, Naming, name_of}
-use Rattle.serve_lines.proofs.EntryTabs.{HasEntry, gave_tab, names_on, published_names, published_tab, raises, reserved_tab, same_view, searched_tab, wrote_tab}
-use Rattle.serve_lines.proofs.Grown.{by_step}
-use Rattle.serve_lines.proofs.WriterDeeds.{entry_of, has_both}
-use Rattle.serve_lines.proofs.Writers.{parted}
+use Rattle.store_serve.specs.Deeds.{HasNames, Naming, name_of}
+use Rattle.store_serve.proofs.EntryTabs.{HasEntry, gave_tab, names_on, published_names, published_tab, raises, reserved_tab, same_view, searched_tab, wrote_tab}
+use Rattle.store_serve.proofs.Grown.{by_step}
+use Rattle.store_serve.proofs.WriterDeeds.{entry_of, has_both}
+use Rattle.store_serve.proofs.Writers.{parted}
 
 -- the pass has seen the version at HALTED
 pub record SeenHalted (n : Naming) (sights : List Sight) : Type 0 where

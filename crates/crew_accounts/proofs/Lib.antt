@@ -49,9 +49,17 @@ mod Going
 mod CrewLists
 mod Pieces
 mod Counting
-mod ScriptLines
+pub mod ScriptLines
 mod Halted
 mod MarksMet
 mod Faults
 mod Taking
 mod Crews
+mod Begun
+mod AtAnchors
+mod Pasts
+mod OldEntries
+mod Stores
+mod Stored
+mod SavedLines
+pub mod Dooming

@@ -15,7 +15,7 @@ use Rattle.core_model.specs.declared.view.Item.{Item}
 use Rattle.core_model.specs.declared.view.Kind.TheVariants.{Learned, Noted}
 use Rattle.core_model.specs.declared.view.Sight.{Sight}
 use Rattle.core_model.specs.declared.view.View.{View}
-use Rattle.line_account.specs.Courses.{Keeps}
+use Rattle.core_model.specs.Knowing.{KnowsAll}
 use Rattle.line_account.specs.Lines.{Served}
 use Rattle.line_account.specs.Steps.{AtMark, IsIdle as IsStill}
 use Rattle.line_account.proofs.Quiet.{mark_adds}
@@ -26,18 +26,18 @@ use Rattle.tab_states.specs.Desks.{buffer_at, draft_at}
 use Rattle.store_rule.specs.Ground.{Offers}
 use Rattle.store_rule.specs.Notes.{learning, noting}
 use Rattle.store_rule.specs.Passes.{Keeps as KeepsHands, basis, view}
-use Rattle.serve_lines.specs.Tabs.{Leaves}
-use Rattle.serve_lines.specs.Whole.{whole_tab}
+use Rattle.store_serve.specs.Tabs.{Leaves}
+use Rattle.store_serve.specs.Whole.{whole_tab}
 use Rattle.crew_accounts.specs.Lines.{AddsLine, served_as}
 use Rattle.crew_accounts.specs.Runs.{Past, run_of}
 use Rattle.crew_accounts.specs.Tracks.{Tracks}
-use Rattle.crew_accounts.proofs.TabLines.{LeavesAlone, elsewhere}
+use Rattle.crew_accounts.proofs.TabLines.{LeavesAlone, elsewhere, writing_on}
 use Rattle.crew_accounts.proofs.Tracking.{lines_on, pass_on, tracks_still}
 use Rattle.crew_accounts.proofs.TurningAway.{still}
 
 -- A pass that noted something, or learned it, drew nothing and did nothing.
 module _ {X : Type 0} where
-  longer : (v w : View X) (sights : List Sight) (item : Item) → w.pass ≡ v.pass → w.seen ≡ sights ++ v.seen → w.trail ≡ item ∷ v.trail → w.met ≡ v.met → Keeps v w
+  longer : (v w : View X) (sights : List Sight) (item : Item) → w.pass ≡ v.pass → w.seen ≡ sights ++ v.seen → w.trail ≡ item ∷ v.trail → w.met ≡ v.met → KnowsAll v w
   longer v w sights item pass seen trail met = record {
     pass = pass;
     seen = λ x h. subst (λ (z : List Sight). Contains z x) (sym seen) (Contains-append_right sights v.seen x h);
@@ -73,7 +73,7 @@ both_hands : {C O : Type 0} (tells : Bool) (state : C → CellState) (offers : O
 both_hands tells state offers s p m q a b = record { own = b.own; left = b.left ∙ a.left; places = b.places ∙ a.places; desks = b.desks ∙ a.desks; hand = b.hand ∙ a.hand; cells = b.cells ∙ a.cells }
 
 module _ {C O : Type 0} (tells : Bool) (state : C → CellState) (offers : O → Offers) (s : Store C O) (told : Bool) (past : Past) (served : List Served) (line : Line) (p : Pass C) (a : Answer) (q : Pass C) where
-  all_left : Tracks tells state offers s told past served p → KeepsHands tells state offers s p q → (view q).tabs ≡ (view p).tabs → Keeps (view p) (view q) → Leaves tells state offers s inner p q
+  all_left : Tracks tells state offers s told past served p → KeepsHands tells state offers s p q → (view q).tabs ≡ (view p).tabs → KnowsAll (view p) (view q) → Leaves tells state offers s inner p q
   all_left tracks hands tabs keeps = record {
     own = hands.own;
     inner_free = ap (λ (xs : List (Tab (List ℕ))). is_free (get_or xs inner Free)) tabs ∙ tracks.ready.inner_free;
@@ -98,6 +98,7 @@ module _ {C O : Type 0} (tells : Bool) (state : C → CellState) (offers : O →
         tracks = record {
           ready = record { own = leaves.own; inner_free = leaves.inner_free };
           whole = ap (λ (xs : List (Tab (List ℕ))). get_or xs whole_tab Free) tabs ∙ tracks.whole;
+          beyond = λ j from. writing_on j l served (alone j) ∙ tracks.beyond j from;
           each = λ j below. let far : j ≢ inner = λ e. absurd (omega arith) in
               lines_on tells state offers s told past served q j l (alone j) (pass_on tells state offers s told past served p q inner j leaves far far (tracks.each j below));
         };

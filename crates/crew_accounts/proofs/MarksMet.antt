@@ -16,7 +16,7 @@ use Rattle.worker_pool.specs.Courses.{Stage, lines_of}
 use Rattle.worker_pool.specs.Running.{Account}
 use Rattle.worker_shelf.specs.Shelves.{OnShelf}
 use Rattle.crew_accounts.specs.Courses.{in_order, stage_shown, with_views}
-use Rattle.crew_accounts.specs.Playing.{TellsAtMarks, answer_to_await}
+use Rattle.worker_shelf.specs.Playing.{TellsAtMarks, answer_to_await}
 use Rattle.crew_accounts.proofs.CrewLists.{image, there}
 
 -- a line of an account is shown with its views

@@ -17,8 +17,8 @@ use Rattle.core_model.specs.Anchors.{opening_counter}
 use Rattle.core_model.specs.declared.view.Sight.TheVariants.{Published, Stood}
 use Rattle.script_text.specs.declared.request.Request.TheVariants.{More as MoreOf}
 use Rattle.line_account.specs.Accounts.{epochs_of}
-use Rattle.line_account.specs.Answers.{ComesIn, HasGiven, HasOther, HasPart, IsSure, IsWhole, Run}
-use Rattle.line_account.specs.Courses.{Keeps}
+use Rattle.line_account.specs.Answers.{ComesIn, HasGiven, HasOther, HasPart, IsOfOpened, IsSure, IsWhole, Run}
+use Rattle.core_model.specs.Knowing.{KnowsAll}
 use Rattle.line_account.specs.Deeds.{Began}
 use Rattle.line_account.specs.Lines.{Served, bytes_given, bytes_in, reading, url_named}
 use Rattle.line_account.specs.Requests.{IsAnswerTo}
@@ -32,14 +32,14 @@ use Rattle.rock_reader.specs.Responses.{body_below, pieces_of}
 use Rattle.rock_reader.specs.declared.answer.More.{More}
 use Rattle.rock_reader.specs.declared.answer.More.TheVariants as more
 use Rattle.store_serve.specs.Following.{WentOn}
-use Rattle.serve_lines.specs.Deeds.{NoDeed}
-use Rattle.serve_lines.proofs.Grown.{same}
-use Rattle.serve_lines.proofs.ServingDeeds as serving
-use Rattle.serve_lines.proofs.Readers.{gave}
-use Rattle.serve_lines.specs.Answers.{AnswersMore}
-use Rattle.serve_lines.specs.Reading.{ReadsMore, ReadsOn}
-use Rattle.serve_lines.specs.Tabs.{IsTurnedAway, Leaves}
-use Rattle.serve_lines.specs.Whole.{whole_tab}
+use Rattle.store_serve.specs.Deeds.{NoDeed}
+use Rattle.store_serve.proofs.Grown.{same}
+use Rattle.store_serve.proofs.ServingDeeds as serving
+use Rattle.store_serve.proofs.Readers.{gave}
+use Rattle.store_serve.specs.Answers.{AnswersMore}
+use Rattle.store_serve.specs.Reading.{ReadsMore, ReadsOn}
+use Rattle.store_serve.specs.Tabs.{IsTurnedAway, Leaves}
+use Rattle.store_serve.specs.Whole.{whole_tab}
 use Rattle.crew_accounts.specs.Lines.{AddsLine, served_as}
 use Rattle.crew_accounts.specs.Runs.{IsTold, Past, run_of}
 use Rattle.crew_accounts.specs.Tracks.{IsOtherUrl, IsReader, Tracks}
@@ -71,7 +71,7 @@ module _ {C O : Type 0} (tells : Bool) (state : C → CellState) (offers : O →
   itself f = record { anchor = refl; version = refl; offer = refl; url = refl }
 
   -- it stays
-  abbrev pub stays_at : (f : Standing) (m q : Pass C) → ReadsAs tells state offers s q t f → Keeps (view m) (view q) → EndedAt f m q
+  abbrev pub stays_at : (f : Standing) (m q : Pass C) → ReadsAs tells state offers s q t f → KnowsAll (view m) (view q) → EndedAt f m q
   stays_at f m q reads keeps = record { last = f; entry = itself f; reads = reads; seen = λ so some. keeps.seen _ (so some) }
 
   abbrev pub still_at : (f : Standing) (m q : Pass C) → ReadsAs tells state offers s m t f → q ≡ m → EndedAt f m q
@@ -88,6 +88,9 @@ module _ {C O : Type 0} (tells : Bool) (state : C → CellState) (offers : O →
 
 pub same_part : (e f : Epoch) (xs ys : List ℕ) → answer.Part e xs ≡ answer.Part f ys → e ≡ f
 same_part e f xs ys h = cc
+
+pub same_line : (s t : Served) → Some s ≡ Some t → s ≡ t
+same_line s t e = cc
 
 pub one_bool : (b : Bool) → b ≡ true → b ≡ false → ⊥
 one_bool b e f = let z : true ≡ false = sym e ∙ f in cc
@@ -167,7 +170,12 @@ module _ {C O : Type 0} (tells : Bool) (state : C → CellState) (offers : O →
     no_epoch : (a : Answer) → epochs_of 0 0 a ≡ [] → ShowsFresh r.setting.anchors (view p) (view q) served (served_as line a None 0 0)
     no_epoch a none = shows_none r.setting.anchors (view p) (view q) served (served_as line a None 0 0) none
 
-    keeps_on : Keeps (view went.middle) (view q)
+    -- what was found of the standing's version is of the one that the line reads
+    of_opened : (a : Answer) (looked e : ℕ) → version_of e ≡ went.standing.version → IsOfOpened served (served_as line a None 0 looked) e
+    of_opened a looked e version first opened_is =
+        version ∙ so.entry.version ∙ sym h.version ∙ ap (λ (z : Served). version_of z.opened) (same_line h.first first (sym h.reads ∙ opened_is))
+
+    keeps_on : KnowsAll (view went.middle) (view q)
     keeps_on = gave tells state offers s t went.standing went.middle went.before went.after q why went.ends
 
     -- the bytes of an answer, behind those of before
@@ -259,7 +267,7 @@ module _ {C O : Type 0} (tells : Bool) (state : C → CellState) (offers : O →
       (add_it tracks leaves h (more.NotYet epoch) bytes went (answer.Part epoch bytes) 0
       (shows_one r.setting.anchors (view p) (view q) served l h.standing.url (at_url tracks leaves h (more.NotYet epoch) bytes went) (epoch_number epoch) refl (found_fresh tracks leaves h (more.NotYet epoch) bytes went (epoch_number epoch) k.waits.fresh))
       reader
-      (stage, (λ y. has_given tracks leaves h (more.NotYet epoch) bytes went (answer.Part epoch bytes) 0 refl k.waits.was k.waits.stays y (λ z. some) (λ z. absurd z)))
+      (stage, of_opened tracks leaves h (more.NotYet epoch) bytes went (answer.Part epoch bytes) 0 (epoch_number epoch) version, (λ y. has_given tracks leaves h (more.NotYet epoch) bytes went (answer.Part epoch bytes) 0 refl k.waits.was k.waits.stays y (λ z. some) (λ z. absurd z)))
       (λ y e gave z. part_at e gave z (has_part tracks leaves h (more.NotYet epoch) bytes went (answer.Part epoch bytes) 0 refl k.waits.was k.waits.stays y (epoch_number epoch) (λ x. some) (λ x. x) version k.waits.fresh.seen some (reader.new high)
       (waits_more tells state offers s t went.middle q went.standing went.before went.after epoch (so tracks leaves h (more.NotYet epoch) bytes went).reads k.waits high) (λ n c. k.waits.published n (leaves.keeps.seen _ c))))
       tt (λ x z. z) (λ x z. z) (λ z. cc))
@@ -281,8 +289,11 @@ module _ {C O : Type 0} (tells : Bool) (state : C → CellState) (offers : O →
       subst (λ (z : Answer). AddsLine tells state offers s told past served line p z q) (sym is)
       (add_it tracks leaves h more.Halted bytes went (answer.Halted bytes) (epoch_number k.epoch)
       (shows_one r.setting.anchors (view p) (view q) served l h.standing.url (at_url tracks leaves h more.Halted bytes went) (epoch_number k.epoch) refl (found_fresh tracks leaves h more.Halted bytes went (epoch_number k.epoch) k.waits.fresh))
-      (stays_reader tracks leaves h more.Halted bytes went (answer.Halted bytes) (epoch_number k.epoch) refl k.waits.was k.waits.stays)
-      (at_stage k.epoch Stage.Halted k.halted, (λ y. has_given tracks leaves h more.Halted bytes went (answer.Halted bytes) (epoch_number k.epoch) refl k.waits.was k.waits.stays y (λ z. some) (λ z. absurd z)))
+      (stays_reader tracks leaves h more.Halted bytes went (answer.Halted bytes) (epoch_number k.epoch) refl k.waits.was k.waits.stays) (
+        at_stage k.epoch Stage.Halted k.halted,
+        of_opened tracks leaves h more.Halted bytes went (answer.Halted bytes) (epoch_number k.epoch) (epoch_number k.epoch) (version_of-epoch_number k.epoch ∙ k.waits.version_is),
+        (λ y. has_given tracks leaves h more.Halted bytes went (answer.Halted bytes) (epoch_number k.epoch) refl k.waits.was k.waits.stays y (λ z. some) (λ z. absurd z)),
+      )
       (λ y e gave z. absurd (let w : answer.Halted bytes ≡ answer.Part e gave = z in cc)) tt (λ x z. z) (λ x z. z) (λ z. cc))
   more_read tracks leaves h more.OtherUrl bytes went a is =
       let its = is_other_url tracks leaves h more.OtherUrl bytes went went.ends in

@@ -20,12 +20,12 @@ use Rattle.store_rule.specs.Passes.{basis, view}
 use Rattle.rock_writer.specs.Beginning.{AreFresh, InUse, IsTooLong, NotTaken, Overtaken}
 use Rattle.rock_writer.specs.declared.fault.BeginFault.{BeginFault}
 use Rattle.rock_writer.specs.declared.fault.BeginFault.TheVariants.{Busy, LongUrl, Spent}
-use Rattle.serve_lines.specs.Acting.{Acted}
-use Rattle.serve_lines.specs.Deeds.{NoDeed}
-use Rattle.serve_lines.specs.Refusing.{CountedAll, DrewInVain}
-use Rattle.serve_lines.proofs.WriterDeeds.{not_taken}
-use Rattle.serve_lines.specs.Answers.{answer_to_refusal}
-use Rattle.serve_lines.specs.Tabs.{IsOffered}
+use Rattle.store_serve.specs.Acting.{Acted}
+use Rattle.store_serve.specs.Deeds.{NoDeed}
+use Rattle.store_serve.specs.Refusing.{CountedAll, DrewInVain}
+use Rattle.store_serve.proofs.WriterDeeds.{not_taken}
+use Rattle.store_serve.specs.Answers.{answer_to_refusal}
+use Rattle.store_serve.specs.Tabs.{IsOffered}
 use Rattle.worker_shelf.specs.Typed.{IsTyped}
 use Rattle.crew_accounts.specs.Lines.{served_as}
 use Rattle.crew_accounts.specs.Runs.{Past, run_of}

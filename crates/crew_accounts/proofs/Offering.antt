@@ -13,13 +13,14 @@ use Rattle.core_model.specs.declared.view.View.{View}
 use Rattle.line_account.specs.Accounts.{HasBegun, Shows}
 use Rattle.line_account.specs.Answers.{ComesIn, Run}
 use Rattle.line_account.specs.Deeds.{Began}
-use Rattle.line_account.specs.Lines.{Fits, Offers as OffersOf, Served, begun_of, offers as offers_body, url_at, url_in}
+use Rattle.script_text.specs.Requests.{url_in}
+use Rattle.line_account.specs.Lines.{Fits, Offers as OffersOf, Served, begun_of, offers as offers_body, url_at}
 use Rattle.line_account.specs.Requests.{IsAnswerTo}
 use Rattle.store_rule.specs.declared.store.Store.{Store}
 use Rattle.store_rule.specs.Ground.{Offers}
 use Rattle.store_rule.specs.Passes.{basis}
 use Rattle.rock_writer.specs.Beginning.{IsTooLong}
-use Rattle.serve_lines.specs.Tabs.{IsOffered}
+use Rattle.store_serve.specs.Tabs.{IsOffered}
 use Rattle.crew_accounts.specs.Runs.{Past, run_of}
 use Rattle.crew_accounts.proofs.Running.{is_offered}
 use Rattle.crew_accounts.proofs.Telling.{ToAnswer}

@@ -19,12 +19,12 @@ use Rattle.store_rule.specs.Ground.{Ground, Offers, anchor_for}
 use Rattle.store_rule.specs.Passes.{basis, view}
 use Rattle.rock_reader.specs.Opening.{OpenedEntry, Refused}
 use Rattle.rock_reader.specs.Reading.{ReadsAs, newly}
-use Rattle.serve_lines.specs.Deeds.{Enters, OfVisiting}
-use Rattle.serve_lines.proofs.ReaderDeeds as reader
-use Rattle.serve_lines.specs.Answers.{answer_to_open}
-use Rattle.serve_lines.specs.Reading.{Opens, OpensOn}
-use Rattle.serve_lines.specs.Tabs.{IsFree, IsTurnedAway, Leaves}
-use Rattle.serve_lines.specs.Whole.{whole_tab}
+use Rattle.store_serve.specs.Deeds.{Enters, OfVisiting}
+use Rattle.store_serve.proofs.ReaderDeeds as reader
+use Rattle.store_serve.specs.Answers.{answer_to_open}
+use Rattle.store_serve.specs.Reading.{Opens, OpensOn}
+use Rattle.store_serve.specs.Tabs.{IsFree, IsTurnedAway, Leaves}
+use Rattle.store_serve.specs.Whole.{whole_tab}
 use Rattle.worker_shelf.specs.Typed.{IsTyped, TellsKey}
 use Rattle.crew_accounts.specs.Lines.{AddsLine, served_as}
 use Rattle.crew_accounts.specs.Runs.{Past, run_of}

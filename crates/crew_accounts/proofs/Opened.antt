@@ -49,6 +49,8 @@ module _ (g : Ground (List ℕ)) (told : Bool) (past : Past) (t : ℕ) (url : Li
         offer = h.accepted.offer;
         offered = subst (λ (n : ℕ). Contains w.seen (Named anchor n Offer h.accepted.offer)) (sym same) offer.named;
         old = λ low. offer.old (omega arith);
+        old_front = λ low. front.old (omega arith);
+        old_back = λ low. back.old (omega arith);
       }
 
   pub opened_new : opening_counter g.setting < version → g.setting.slots ≤ h.accepted.offer

@@ -20,21 +20,23 @@ use Rattle.store_rule.specs.declared.store.Pass.{Pass}
 use Rattle.store_rule.specs.declared.store.Store.{Store}
 use Rattle.store_rule.specs.Ground.{Ground, Offers, anchor_for}
 use Rattle.store_rule.specs.Passes.{basis, view}
-use Rattle.purge_entry.specs.Judging.{Refused}
+use Rattle.rock_reader.specs.Opening.{Refused}
 use Rattle.purge_entry.specs.Purging.{Purged}
-use Rattle.serve_lines.specs.Deeds.{OfPurging, OfVisiting}
-use Rattle.serve_lines.proofs.PurgeDeeds as purges
-use Rattle.serve_lines.specs.Answers.{answer_to_purge}
-use Rattle.serve_lines.specs.Tabs.{IsFree, Leaves}
-use Rattle.serve_lines.specs.Whole.{Purges, whole_tab}
+use Rattle.store_serve.specs.Deeds.{OfPurging, OfVisiting}
+use Rattle.store_serve.proofs.PurgeDeeds as purges
+use Rattle.store_serve.proofs.ReaderDeeds as readers
+use Rattle.store_serve.specs.Answers.{answer_to_purge}
+use Rattle.store_serve.specs.Tabs.{IsFree, Leaves}
+use Rattle.store_serve.specs.Whole.{Purges, whole_tab}
 use Rattle.worker_shelf.specs.Typed.{IsTyped, TellsKey}
 use Rattle.crew_accounts.specs.Lines.{AddsLine, served_as}
 use Rattle.crew_accounts.specs.Runs.{Past, run_of}
 use Rattle.crew_accounts.specs.Tracks.{Tracks}
 use Rattle.crew_accounts.proofs.CallDeeds.{adds_by, of_purging, of_visiting}
-use Rattle.crew_accounts.proofs.Coming.{purge_refused}
+use Rattle.crew_accounts.proofs.Coming as coming
+use Rattle.crew_accounts.proofs.Dooming.{has_purged}
 use Rattle.crew_accounts.proofs.Shown.{shows_one}
-use Rattle.crew_accounts.proofs.TabLines.{elsewhere}
+use Rattle.crew_accounts.proofs.TabLines.{purge_alone}
 use Rattle.crew_accounts.proofs.Telling.{plain, tells_by}
 use Rattle.crew_accounts.proofs.Tracking.{tracks_whole}
 
@@ -62,29 +64,29 @@ module _ {C O : Type 0} (tells : Bool) (state : C → CellState) (offers : O →
               (λ d. of_purging r (view q) served l d (anchor_for g url) (epoch_number left) (record { url = url; comes = refl; anchor = refl })
               (record { url = url; request = refl; anchor = refl; epoch = left; answered = refl; epoch_is = refl }))
               (λ b e k. (shows b e k).above)
-              (tells_by r (view q) served l h.dooms
+              (tells_by r (view q) served l (has_purged g told past url (view p) (view q) inner left h l refl)
               (plain r (view q) served l (λ b e k. (shows b e k).seen) tt refl (λ x k. k) (λ x k. k) (λ u body k. k) tt (λ z. cc)))
               (λ y e bytes z. absurd (let k : answer.Purged left ≡ answer.Part e bytes = z in cc));
-          tracks = tracks_whole tells state offers s told past served p q l leaves free (λ j ne. elsewhere (Purge url) (answer.Purged left) j ne) tracks;
+          tracks = tracks_whole tells state offers s told past served p q l leaves free (purge_alone url (answer.Purged left)) tracks;
         }
 
     refused : (c : Cause) → TellsKey c → Refused g inner url (view p) c (view q) → AddsLine tells state offers s told past served line p (answer.NoEntry c) q
     refused c fits h =
         let l = served_as line (answer.NoEntry c) None 0 0 in
-        let refusal = purge_refused g told past served l url refl refl (view p) (view q) c inner fits h in
+        let refusal = coming.refused g told past served l url refl refl (view p) (view q) c inner fits h in
         let shows = shows_one r.setting.anchors (view p) (view q) served l url refl (epoch_number (epoch_in c)) refl refusal.fresh in
         record {
           drew = None;
           opened = 0;
           looked = 0;
           adds = adds_by r (view p) (view q) served l (OfVisiting (anchor_for g url))
-              (purges.refused g inner url (view p) c (view q) h)
+              (readers.refused g inner url (view p) c (view q) h)
               (λ d. of_visiting r (view q) served l d (anchor_for g url) (record { url = url; comes = refl; anchor = refl }))
               (λ b e k. (shows b e k).above)
               (tells_by r (view q) served l refusal.cause
               (plain r (view q) served l (λ b e k. (shows b e k).seen) tt refl (λ x k. k) (λ x k. k) (λ u body k. k) tt (λ z. cc)))
               (λ y e bytes z. absurd (let k : answer.NoEntry c ≡ answer.Part e bytes = z in cc));
-          tracks = tracks_whole tells state offers s told past served p q l leaves free (λ j ne. elsewhere (Purge url) (answer.NoEntry c) j ne) tracks;
+          tracks = tracks_whole tells state offers s told past served p q l leaves free (purge_alone url (answer.NoEntry c)) tracks;
         }
 
     by_outcome : (a : Answer) (o : Result Epoch Cause) → IsTyped a → a ≡ answer_to_purge o → IfOk o (λ left. Purged g inner url (view p) left (view q)) → IfErr o (λ c. Refused g inner url (view p) c (view q))

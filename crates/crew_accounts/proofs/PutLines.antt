@@ -1,6 +1,6 @@
 -- A line that stores a whole response.
 use Rattle.std.proofs.Common.{Bool, Err, List, Ok, Result, Some, refl, subst, sym, ◌+◌, ◌≡◌, ℕ}
-use Rattle.std.specs.Prelude.{◌≢◌, ◌↔◌}
+use Rattle.std.specs.Prelude.{◌↔◌}
 use Rattle.std.specs.Result.{IfErr, IfOk}
 use Rattle.rock_disk.specs.Cell.{CellState}
 use Rattle.script_text.specs.declared.answer.Answer.{Answer}
@@ -30,12 +30,12 @@ use Rattle.rock_writer.specs.declared.fault.WriteFault.TheVariants.{Fault, Full,
 use Rattle.store_serve.specs.Storing.{GaveUpPut, NotPut, PutWhole}
 use Rattle.store_serve.specs.declared.storing.PutFault.{PutFault}
 use Rattle.store_serve.specs.declared.storing.PutFault.TheVariants.{Begin, Write}
-use Rattle.serve_lines.specs.Deeds.{HasNames, OfPutting, OfPuttingInVain, name_of}
-use Rattle.serve_lines.proofs.ServingDeeds as serving
-use Rattle.serve_lines.proofs.Writers.{began}
-use Rattle.serve_lines.specs.Answers.{answer_to_ended, answer_to_fault, answer_to_put, answer_to_refusal}
-use Rattle.serve_lines.specs.Tabs.{IsFree, IsOffered, Leaves}
-use Rattle.serve_lines.specs.Whole.{Puts, whole_tab}
+use Rattle.store_serve.specs.Deeds.{HasNames, OfPutting, OfPuttingInVain, name_of}
+use Rattle.store_serve.proofs.ServingDeeds as serving
+use Rattle.store_serve.proofs.Writers.{began}
+use Rattle.store_serve.specs.Answers.{answer_to_ended, answer_to_fault, answer_to_put, answer_to_refusal}
+use Rattle.store_serve.specs.Tabs.{IsFree, IsOffered, Leaves}
+use Rattle.store_serve.specs.Whole.{Puts, whole_tab}
 use Rattle.worker_shelf.specs.Typed.{IsTyped}
 use Rattle.crew_accounts.specs.Lines.{AddsLine, served_as}
 use Rattle.crew_accounts.specs.Runs.{Past, run_of}
@@ -47,7 +47,7 @@ use Rattle.crew_accounts.proofs.Halting.{gave_up_seen}
 use Rattle.crew_accounts.proofs.NotBegun.{not_begun}
 use Rattle.crew_accounts.proofs.Offering.{IsOffering, offering}
 use Rattle.crew_accounts.proofs.Shown.{fresh_from, shows_none, shows_one}
-use Rattle.crew_accounts.proofs.TabLines.{LeavesAlone, elsewhere}
+use Rattle.crew_accounts.proofs.TabLines.{LeavesAlone, put_alone, save_alone}
 use Rattle.crew_accounts.proofs.Telling.{tells_by}
 use Rattle.crew_accounts.proofs.TooLarge.{NeedsTooMany, not_ended_large}
 use Rattle.crew_accounts.proofs.Tracking.{tracks_whole}
@@ -61,7 +61,7 @@ pub record IsPutting (request : Request) : Type 0 where
   pub began_fault : (fault : WriteFault) (x : ℕ) → Began request (answer_to_fault fault) x
   pub may : MayEvict request
   pub fits : (earlier : List Served) → Fits earlier request
-  pub alone : (a : Answer) (j : ℕ) → j ≢ whole_tab → LeavesAlone j request a
+  pub alone : (a : Answer) (j : ℕ) → LeavesAlone j request a
 
 module _ (url : List ℕ) (body : Body) where
   put_ended : (ended : Ended) → IsAnswerTo (Put url body) (answer_to_ended ended)
@@ -83,10 +83,10 @@ module _ (url : List ℕ) (body : Body) where
   put_gave_up Fault x = tt
 
   pub puts_whole : IsPutting (Put url body)
-  puts_whole = record { ended = put_ended; fault = put_fault; began_ended = put_began; began_fault = put_gave_up; may = tt; fits = λ earlier. tt; alone = λ a j ne. elsewhere (Put url body) a j ne }
+  puts_whole = record { ended = put_ended; fault = put_fault; began_ended = put_began; began_fault = put_gave_up; may = tt; fits = λ earlier. tt; alone = put_alone url body }
 
   pub saves_whole : IsPutting (Save url body)
-  saves_whole = record { ended = put_ended; fault = put_fault; began_ended = put_began; began_fault = put_gave_up; may = tt; fits = λ earlier. tt; alone = λ a j ne. elsewhere (Save url body) a j ne }
+  saves_whole = record { ended = put_ended; fault = put_fault; began_ended = put_began; began_fault = put_gave_up; may = tt; fits = λ earlier. tt; alone = save_alone url body }
 
 module _ {C O : Type 0} (tells : Bool) (state : C → CellState) (offers : O → Offers) (s : Store C O) (told : Bool) (past : Past) (served : List Served) (line : Line) (url : List ℕ) (body : Body) (durable : Bool) (p q : Pass C) where
   abbrev g : Ground (List ℕ)
@@ -135,7 +135,7 @@ module _ {C O : Type 0} (tells : Bool) (state : C → CellState) (offers : O →
               (offering tells state offers s told past served (view q) l url body is body_is long (λ b f z. (shows b f z).seen) (putting.ended ended)
               (λ y z. record { version = x; drew = refl; began = putting.began_ended ended }) (putting.fits served) (ended_no_tab ended)))
               (λ y f bytes z. absurd (ended_no_part ended f bytes z));
-          tracks = tracks_whole tells state offers s told past served p q l leaves free (λ j ne. putting.alone (answer_to_ended ended) j ne) tracks;
+          tracks = tracks_whole tells state offers s told past served p q l leaves free (putting.alone (answer_to_ended ended)) tracks;
         }
 
     was_given_up : (fault : WriteFault) → ((answer_to_fault fault ≡ answer.LongUrl) ↔ IsTooLong g url) → GaveUpPut tells state offers s whole_tab offer url durable p q fault
@@ -164,7 +164,7 @@ module _ {C O : Type 0} (tells : Bool) (state : C → CellState) (offers : O →
               (offering tells state offers s told past served (view q) l url body is body_is long (λ b f z. (none b f z).seen) (putting.fault fault)
               (λ y z. record { version = x; drew = refl; began = putting.began_fault fault x }) (putting.fits served) (fault_no_tab fault)))
               (λ y f bytes z. absurd (fault_no_part fault f bytes z));
-          tracks = tracks_whole tells state offers s told past served p q l leaves free (λ j ne. putting.alone (answer_to_fault fault) j ne) tracks;
+          tracks = tracks_whole tells state offers s told past served p q l leaves free (putting.alone (answer_to_fault fault)) tracks;
         }
 
     was_refused : (fault : BeginFault) → IsTyped (answer_to_refusal fault) → ((answer_to_refusal fault ≡ answer.LongUrl) ↔ IsTooLong g url) → NotPut tells state offers s whole_tab offer url durable p q (Begin fault)
@@ -176,7 +176,7 @@ module _ {C O : Type 0} (tells : Bool) (state : C → CellState) (offers : O →
           opened = 0;
           looked = 0;
           adds = some.adds;
-          tracks = tracks_whole tells state offers s told past served p q (served_as line (answer_to_refusal fault) some.drew 0 0) leaves free (λ j ne. putting.alone (answer_to_refusal fault) j ne) tracks;
+          tracks = tracks_whole tells state offers s told past served p q (served_as line (answer_to_refusal fault) some.drew 0 0) leaves free (putting.alone (answer_to_refusal fault)) tracks;
         }
 
     by_outcome : (a : Answer) (o : Result Ended PutFault) → IsTyped a → a ≡ answer_to_put o → ((a ≡ answer.LongUrl) ↔ IsTooLong g url)

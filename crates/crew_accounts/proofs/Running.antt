@@ -9,7 +9,7 @@ use Rattle.line_account.specs.Lines.{Served}
 use Rattle.store_rule.specs.declared.store.Store.{Store}
 use Rattle.store_rule.specs.Ground.{Ground, Offers, url_of}
 use Rattle.store_rule.specs.Passes.{basis}
-use Rattle.serve_lines.specs.Tabs.{IsOffered as OffersBody}
+use Rattle.store_serve.specs.Tabs.{IsOffered as OffersBody}
 use Rattle.crew_accounts.specs.Runs.{Past, run_of}
 
 module _ (g : Ground (List ℕ)) (told : Bool) (past : Past) (offer : ℕ) (from : g.setting.slots ≤ offer) where

@@ -9,7 +9,7 @@ use Rattle.core_model.specs.declared.view.View.{View}
 use Rattle.core_model.proofs.Lists.{cons_contains, contains_none}
 use Rattle.line_account.specs.Lines.{IsAnchorOf, Served, url_at}
 use Rattle.line_account.specs.Accounts.{Shows, epochs_of}
-use Rattle.line_account.specs.Courses.{Keeps}
+use Rattle.core_model.specs.Knowing.{KnowsAll}
 use Rattle.store_rule.specs.Calls.{IsFresh}
 
 -- What was seen is not above what is seen later.
@@ -30,10 +30,10 @@ seen_below a (x ∷ xs) ys f =
 
 module _ {X : Type 0} where
   -- it was fresh for a pass that knew less
-  pub fresh_from : {a e : ℕ} {u v w : View X} → Keeps u v → IsFresh a e v w → IsFresh a e u w
+  pub fresh_from : {a e : ℕ} {u v w : View X} → KnowsAll u v → IsFresh a e v w → IsFresh a e u w
   fresh_from {a} {e} {u} {v} {w} keeps h = record { above = let m = seen_below a u.seen v.seen keeps.seen in let k = h.above in omega arith; seen = h.seen }
 
-  pub fresh_to : {a e : ℕ} {u v w : View X} → IsFresh a e u v → Keeps v w → IsFresh a e u w
+  pub fresh_to : {a e : ℕ} {u v w : View X} → IsFresh a e u v → KnowsAll v w → IsFresh a e u w
   fresh_to h keeps = record { above = h.above; seen = keeps.seen _ h.seen }
 
 pub one_there : (e x : ℕ) → Contains (e ∷ []) x → e ≡ x

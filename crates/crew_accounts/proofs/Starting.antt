@@ -9,7 +9,7 @@ use Rattle.store_rule.specs.declared.store.Pass.{Pass}
 use Rattle.store_rule.specs.declared.store.Store.{Store}
 use Rattle.store_rule.specs.Ground.{Offers}
 use Rattle.store_rule.specs.Passes.{IsNewOf, view}
-use Rattle.serve_lines.specs.Whole.{whole_tab}
+use Rattle.store_serve.specs.Whole.{whole_tab}
 use Rattle.crew_accounts.specs.Runs.{Past}
 use Rattle.crew_accounts.specs.Tracks.{Tracks}
 
@@ -29,5 +29,6 @@ module _ {C O : Type 0} (tells : Bool) (state : C → CellState) (offers : O →
   new_tracks = record {
     ready = record { own = h.own; inner_free = ap is_free (free_at inner) };
     whole = free_at whole_tab;
+    beyond = λ t from. refl;
     each = λ t below. inl (record { writes = refl; reads = refl; free = free_at t });
   }

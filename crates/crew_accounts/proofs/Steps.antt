@@ -15,13 +15,13 @@ use Rattle.store_rule.specs.Ground.{Offers}
 use Rattle.store_rule.specs.Notes.{learning, noting}
 use Rattle.store_rule.specs.Passes.{Keeps, basis, note_seen, view}
 use Rattle.worker_pool.specs.Courses.{IsServed, Stage}
-use Rattle.serve_lines.specs.Serving.{Serves, Takes}
+use Rattle.store_serve.specs.Serving.{Serves, Takes}
 use Rattle.worker_shelf.specs.Shelves.{Noted, OnShelf, Went}
 use Rattle.worker_shelf.specs.Typed.{IsTyped}
 use Rattle.crew_accounts.specs.Lines.{AddsLine, line_with}
 use Rattle.crew_accounts.specs.Runs.{IsTold, Past}
 use Rattle.crew_accounts.specs.Tracks.{Tracks}
-use Rattle.crew_accounts.specs.Courses.{Meets, Notes, StepOn}
+use Rattle.worker_shelf.specs.Playing.{Meets, Notes, StepOn}
 
 -- the pass takes the line, where it is served
 abbrev pub MayServe : {C O St : Type 0} → Bool → (C → CellState) → (O → Offers) → Store C O → Stage (OnShelf C O St) → Type 0

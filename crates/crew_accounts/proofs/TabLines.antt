@@ -4,6 +4,7 @@ use Rattle.std.proofs.lemmas.List.{append-nil}
 use Rattle.script_text.specs.Tabs.{UsesTab}
 use Rattle.script_text.specs.declared.answer.Answer.{Answer}
 use Rattle.script_text.specs.declared.answer.Answer.TheVariants as answer
+use Rattle.script_text.specs.declared.body.Body.{Body}
 use Rattle.script_text.specs.declared.request.Request.{Request}
 use Rattle.script_text.specs.declared.request.Request.TheVariants.{Add, Await, Begin, CloseTab, DropTab, End, Get, Mark, More, OpenTab, Purge, Put, Save}
 use Rattle.line_account.specs.Lines.{Served, added, added_by, added_in, begins, bytes_given, bytes_in, closes, ends, given_by, is_begun, is_closed, is_dropped, is_finished, is_opened, is_refused, opens, reading, writing}
@@ -49,6 +50,19 @@ elsewhere (More t) a j ne = alone j (More t) a refl refl refl refl (no_bytes (t 
 elsewhere (CloseTab t) a j ne = alone j (CloseTab t) a refl refl refl (at_other (t == j) (is_closed a) (other t j ne)) refl refl
 elsewhere (Mark mark) a j ne = alone j (Mark mark) a refl refl refl refl refl refl
 elsewhere (Await mark) a j ne = alone j (Await mark) a refl refl refl refl refl refl
+
+-- A whole request is nothing to any tab.
+pub get_alone : (url : List ℕ) (a : Answer) (j : ℕ) → LeavesAlone j (Get url) a
+get_alone url a j = alone j (Get url) a refl refl refl refl refl refl
+
+pub purge_alone : (url : List ℕ) (a : Answer) (j : ℕ) → LeavesAlone j (Purge url) a
+purge_alone url a j = alone j (Purge url) a refl refl refl refl refl refl
+
+pub put_alone : (url : List ℕ) (body : Body) (a : Answer) (j : ℕ) → LeavesAlone j (Put url body) a
+put_alone url body a j = alone j (Put url body) a refl refl refl refl refl refl
+
+pub save_alone : (url : List ℕ) (body : Body) (a : Answer) (j : ℕ) → LeavesAlone j (Save url body) a
+save_alone url body a j = alone j (Save url body) a refl refl refl refl refl refl
 
 -- Nor is a line to any tab whose answer begins, ends and gives nothing.
 

@@ -12,13 +12,13 @@ use Rattle.store_rule.specs.declared.store.Store.{Store}
 use Rattle.store_rule.specs.Ground.{Offers}
 use Rattle.store_rule.specs.Passes.{view}
 use Rattle.worker_pool.specs.Courses.{IsServed, Linked, Stage}
-use Rattle.serve_lines.specs.Serving.{Takes}
+use Rattle.store_serve.specs.Serving.{Takes}
 use Rattle.worker_shelf.specs.Shelves.{OnShelf, Went}
-use Rattle.crew_accounts.specs.Courses.{IsStep, StepOn}
+use Rattle.worker_shelf.specs.Playing.{IsStep, StepOn}
 use Rattle.crew_accounts.proofs.CrewLists.{behind, first}
 
 -- a request that is served uses a tab
-uses : (request : Request) → IsServed request → (tab : ℕ) × UsesTab request tab
+pub uses : (request : Request) → IsServed request → (tab : ℕ) × UsesTab request tab
 uses (Put url body) served = (7, refl)
 uses (Save url body) served = (7, refl)
 uses (Get url) served = (7, refl)

@@ -13,7 +13,7 @@ use Rattle.core_model.specs.declared.view.View.{View}
 use Rattle.line_account.specs.Lines.{Fits, IsAt, Offers, Served, gives_up, offers}
 use Rattle.line_account.specs.Requests.{IsAnswerTo}
 use Rattle.line_account.specs.Deeds.{Began}
-use Rattle.line_account.specs.Answers.{ComesIn, HasAdded, HasGiven, HasHit, HasOpened, HasOther, IsBusy, IsCauseOf, IsKeyRead, IsLarge, IsLong, IsSpent, Reads, Refuses, Run}
+use Rattle.line_account.specs.Answers.{ComesIn, HasAdded, HasGiven, HasHit, HasOpened, HasOther, HasPurged, IsBusy, IsCauseOf, IsKeyRead, IsLarge, IsLong, IsOfOpened, IsSpent, Reads, Refuses, Run}
 use Rattle.line_account.specs.Accounts.{HasBegun, HasFinished, HasGivenUp, IsOffered, Shows, Tells, epoch_in}
 
 module _ {X : Type 0} (r : Run X) (v : View X) (earlier : List Served) (s : Served) where
@@ -33,13 +33,13 @@ module _ {X : Type 0} (r : Run X) (v : View X) (earlier : List Served) (s : Serv
   ToTell answer.Large = HasGivenUp r.setting.anchors v earlier s × IsLarge r earlier s
   ToTell answer.Fault = HasGivenUp r.setting.anchors v earlier s
   ToTell (answer.Hit x bytes) = IsTrue r.tells → HasHit r v s bytes × HasGiven r v earlier s
-  ToTell (answer.Part e bytes) = (stage_of (epoch_number e) ≡ 2) × (IsTrue r.tells → HasGiven r v earlier s)
+  ToTell (answer.Part e bytes) = (stage_of (epoch_number e) ≡ 2) × IsOfOpened earlier s (epoch_number e) × (IsTrue r.tells → HasGiven r v earlier s)
   ToTell (answer.End bytes) = IsTrue r.tells → HasGiven r v earlier s
-  ToTell (answer.Halted bytes) = (stage_of s.looked ≡ 4) × (IsTrue r.tells → HasGiven r v earlier s)
+  ToTell (answer.Halted bytes) = (stage_of s.looked ≡ 4) × IsOfOpened earlier s s.looked × (IsTrue r.tells → HasGiven r v earlier s)
   ToTell (answer.ReadFault bytes) = IsTrue r.tells → HasGiven r v earlier s
   ToTell answer.OtherUrl = IsTrue r.tells → HasOther r v earlier s
   ToTell (answer.Miss c) = ForCause c
-  ToTell (answer.Purged e) = e.doom ≡ true
+  ToTell (answer.Purged e) = HasPurged r v s e
   ToTell (answer.NoEntry c) = ForCause c
   ToTell (answer.Added n) = HasAdded r v earlier s n
   ToTell answer.Dropped = HasGivenUp r.setting.anchors v earlier s
@@ -59,9 +59,9 @@ module _ {X : Type 0} (r : Run X) (v : View X) (earlier : List Served) (s : Serv
 
   by_reading : (a : Answer) → ToTell a → IsTrue r.tells → Reads a → HasGiven r v earlier s
   by_reading (answer.Hit x bytes) t y h = (t y).1
-  by_reading (answer.Part e bytes) t y h = t.1 y
+  by_reading (answer.Part e bytes) t y h = t.2 y
   by_reading (answer.End bytes) t y h = t y
-  by_reading (answer.Halted bytes) t y h = t.1 y
+  by_reading (answer.Halted bytes) t y h = t.2 y
   by_reading (answer.ReadFault bytes) t y h = t y
   by_reading _ t y h = absurd h
 
@@ -98,6 +98,8 @@ module _ {X : Type 0} (r : Run X) (v : View X) (earlier : List Served) (s : Serv
     other = λ y h. subst ToTell h t y;
     halted = λ bytes h. (subst ToTell h t).0;
     part = λ e bytes h. (subst ToTell h t).0;
+    halted_version = λ bytes h. (subst ToTell h t).1;
+    part_version = λ e bytes h. (subst ToTell h t).1;
     purged = λ e h. subst ToTell h t;
     added = λ count h. subst ToTell h t;
     given = λ y h. by_reading s.answer t y h;

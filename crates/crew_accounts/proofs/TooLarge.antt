@@ -17,7 +17,7 @@ use Rattle.rock_writer.specs.declared.fault.WriteFault.TheVariants.{Fault, Full,
 use Rattle.rock_writer.proofs.Sizes.{more_there}
 use Rattle.store_serve.specs.Adding.{NotAdded, taken_on}
 use Rattle.store_serve.specs.Storing.{NotEnded}
-use Rattle.serve_lines.specs.Answers.{answer_to_fault}
+use Rattle.store_serve.specs.Answers.{answer_to_fault}
 
 -- so many bytes of metadata, URL and body need more slots than an entry may have
 abbrev pub NeedsTooMany : {X : Type 0} → Ground X → (url body : List ℕ) → Type 0

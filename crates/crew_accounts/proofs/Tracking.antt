@@ -8,19 +8,19 @@ use Rattle.core_model.specs.Tabs.{inner}
 use Rattle.core_model.specs.declared.view.Sight.{Sight}
 use Rattle.core_model.specs.declared.view.View.{View}
 use Rattle.line_account.specs.Answers.{IsEntryAt, Run}
-use Rattle.line_account.specs.Courses.{Keeps}
+use Rattle.core_model.specs.Knowing.{KnowsAll}
 use Rattle.line_account.specs.Lines.{Served}
 use Rattle.store_rule.specs.declared.store.Pass.{Pass}
 use Rattle.store_rule.specs.declared.store.Store.{Store}
 use Rattle.store_rule.specs.Ground.{Ground, Offers}
 use Rattle.store_rule.specs.Passes.{basis, view}
 use Rattle.rock_writer.specs.Entries.{Entry}
-use Rattle.serve_lines.specs.Showing.{HasShown}
-use Rattle.serve_lines.proofs.EntryTabs.{names_on}
-use Rattle.serve_lines.proofs.StandingReaders.{stays}
-use Rattle.serve_lines.specs.Tabs.{IsFree, Leaves}
-use Rattle.serve_lines.specs.Whole.{whole_tab}
-use Rattle.serve_lines.proofs.Standing.{writes_still}
+use Rattle.store_serve.specs.Showing.{HasShown}
+use Rattle.store_serve.proofs.EntryTabs.{names_on}
+use Rattle.store_serve.proofs.StandingReaders.{stays}
+use Rattle.store_serve.specs.Tabs.{IsFree, Leaves}
+use Rattle.store_serve.specs.Whole.{whole_tab}
+use Rattle.store_serve.proofs.Standing.{writes_still}
 use Rattle.crew_accounts.specs.Runs.{Past, run_of}
 use Rattle.crew_accounts.specs.Tracks.{IsTracked, Tracks}
 use Rattle.crew_accounts.proofs.TabLines.{LeavesAlone, added_on, given_on, reading_on, writing_on}
@@ -28,7 +28,7 @@ use Rattle.crew_accounts.proofs.TabLines.{LeavesAlone, added_on, given_on, readi
 pub shown_on : {X : Type 0} (g : Ground X) (e : Entry) (seen all : List Sight) → ((x : Sight) → Contains seen x → Contains all x) → HasShown g e seen → HasShown g e all
 shown_on g e seen all f h = λ some. let k = h some in (f _ k.0, names_on k.1 f)
 
-pub entry_on : {X : Type 0} (r : Run X) (v w : View X) (a e : ℕ) (url : List ℕ) → Keeps v w → (h : IsEntryAt r v a e url) → (k : IsEntryAt r w a e url) × (k.offer ≡ h.offer)
+pub entry_on : {X : Type 0} (r : Run X) (v w : View X) (a e : ℕ) (url : List ℕ) → KnowsAll v w → (h : IsEntryAt r v a e url) → (k : IsEntryAt r w a e url) × (k.offer ≡ h.offer)
 entry_on r v w a e url keeps h = (
   record {
     readable = h.readable;
@@ -38,6 +38,8 @@ entry_on r v w a e url keeps h = (
     offer = h.offer;
     offered = keeps.seen _ h.offered;
     old = h.old;
+    old_front = h.old_front;
+    old_back = h.old_back;
   },
   refl,
 )
@@ -130,21 +132,23 @@ module _ {C O : Type 0} (tells : Bool) (state : C → CellState) (offers : O →
   tracks_on_tab served p q t l lt leaves alone own h = record {
     ready = record { own = leaves.own; inner_free = leaves.inner_free };
     whole = leaves.others whole_tab (λ e. absurd (omega arith)) (λ e. absurd (omega arith)) ∙ h.whole;
+    beyond = λ j from. writing_on j l served (alone j (λ e. absurd (omega arith))) ∙ h.beyond j from;
     each = λ j below. dite (ℕ_discrete j t)
         (λ (e : j ≡ t). subst (IsTracked tells state offers s told past (l ∷ served) q) (sym e) own)
         (λ (ne : j ≢ t). lines_on served q j l (alone j ne) (pass_on served p q t j leaves ne (far j below) (h.each j below)));
   }
 
   -- a whole request
-  pub tracks_whole : (served : List Served) (p q : Pass C) (l : Served) → Leaves tells state offers s whole_tab p q → IsFree q whole_tab → ((j : ℕ) → j ≢ whole_tab → LeavesAlone j l.line.request l.answer)
+  pub tracks_whole : (served : List Served) (p q : Pass C) (l : Served) → Leaves tells state offers s whole_tab p q → IsFree q whole_tab → ((j : ℕ) → LeavesAlone j l.line.request l.answer)
       → Tracks tells state offers s told past served p → Tracks tells state offers s told past (l ∷ served) q
   tracks_whole served p q l leaves free alone h = record {
     ready = record { own = leaves.own; inner_free = leaves.inner_free };
     whole = free;
-    each = λ j below. let ne : j ≢ whole_tab = λ e. absurd (omega arith) in lines_on served q j l (alone j ne) (pass_on served p q whole_tab j leaves ne (far j below) (h.each j below));
+    beyond = λ j from. writing_on j l served (alone j) ∙ h.beyond j from;
+    each = λ j below. let ne : j ≢ whole_tab = λ e. absurd (omega arith) in lines_on served q j l (alone j) (pass_on served p q whole_tab j leaves ne (far j below) (h.each j below));
   }
 
   -- a line that was turned away
   pub tracks_still : (served : List Served) (p q : Pass C) (l : Served) → q ≡ p → ((j : ℕ) → LeavesAlone j l.line.request l.answer) → Tracks tells state offers s told past served p → Tracks tells state offers s told past (l ∷ served) q
   tracks_still served p q l same alone h = subst (Tracks tells state offers s told past (l ∷ served)) (sym same)
-      (record { ready = h.ready; whole = h.whole; each = λ j below. lines_on served p j l (alone j) (h.each j below) })
+      (record { ready = h.ready; whole = h.whole; beyond = λ j from. writing_on j l served (alone j) ∙ h.beyond j from; each = λ j below. lines_on served p j l (alone j) (h.each j below) })

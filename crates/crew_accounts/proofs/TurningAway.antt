@@ -14,8 +14,8 @@ use Rattle.store_rule.specs.declared.store.Pass.{Pass}
 use Rattle.store_rule.specs.declared.store.Store.{Store}
 use Rattle.store_rule.specs.Ground.{Offers}
 use Rattle.store_rule.specs.Passes.{basis, view}
-use Rattle.serve_lines.proofs.Grown as grown
-use Rattle.serve_lines.specs.Tabs.{IsTurnedAway}
+use Rattle.store_serve.proofs.Grown as grown
+use Rattle.store_serve.specs.Tabs.{IsTurnedAway}
 use Rattle.crew_accounts.specs.Lines.{AddsLine, served_as}
 use Rattle.crew_accounts.specs.Runs.{Past, run_of}
 use Rattle.crew_accounts.specs.Tracks.{Tracks}

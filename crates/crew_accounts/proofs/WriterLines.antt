@@ -8,13 +8,14 @@ use Rattle.core_model.specs.declared.view.Sight.TheVariants.{Named}
 use Rattle.core_model.specs.declared.view.View.{View}
 use Rattle.line_account.specs.Accounts.{HasGivenUp}
 use Rattle.line_account.specs.Deeds.{Grows, Halts, IsNamed}
-use Rattle.line_account.specs.Lines.{IsAnchorOf, Served, Writes, begun_by, gives_up, url_in}
+use Rattle.script_text.specs.Requests.{url_in}
+use Rattle.line_account.specs.Lines.{IsAnchorOf, Served, Writes, begun_by, gives_up}
 use Rattle.store_rule.specs.declared.store.Pass.{Pass}
 use Rattle.store_rule.specs.declared.store.Store.{Store}
 use Rattle.store_rule.specs.Ground.{Ground, Offers, anchor_for, url_of}
 use Rattle.store_rule.specs.Passes.{basis}
 use Rattle.rock_writer.specs.Entries.{Entry}
-use Rattle.serve_lines.specs.Deeds.{HasNames, name_of}
+use Rattle.store_serve.specs.Deeds.{HasNames, name_of}
 use Rattle.crew_accounts.specs.Runs.{Past}
 use Rattle.crew_accounts.specs.Tracks.{IsWriter}
 use Rattle.crew_accounts.proofs.Halting.{SeenHalted}

@@ -18,7 +18,7 @@ use Rattle.worker_pool.specs.Courses.{lines_of}
 use Rattle.worker_pool.specs.Running.{Account}
 use Rattle.worker_shelf.specs.Shelves.{OnShelf}
 use Rattle.crew_accounts.specs.Courses.{in_order}
-use Rattle.crew_accounts.specs.Playing.{answer_to_await}
+use Rattle.worker_shelf.specs.Playing.{answer_to_await}
 
 -- the course of a worker: the view with which it began, the lines that it served, the newest first, and the view at the end
 pub record Played (X : Type 0) : Type 0 where

@@ -31,30 +31,6 @@ with_views (x ∷ earlier) = with_views earlier ++ (x.before, x.served.line, x.s
 abbrev pub stage_shown : {C O St : Type 0} → Stage (OnShelf C O St) → View (List ℕ) × Line × Answer × View (List ℕ)
 stage_shown x = (view x.before.pass, x.line, x.answer, view x.after.pass)
 
-module _ {C O St : Type 0} (tells : Bool) (state : C → CellState) (offers : O → Offers) (faults : St → ℕ) where
-  -- a shelf made a note
-  pub record Notes (before after : OnShelf C O St) : Type 0 where
-    pub note : Note C
-    pub noted : Noted tells state offers before note after
-
-  -- it learned one, and made another
-  pub record Meets (before after : OnShelf C O St) : Type 0 where
-    pub note : Note C
-    pub learned : OnShelf C O St
-    pub learns : Learned tells state offers before note learned
-    pub again : Note C
-    pub notes : Noted tells state offers learned again after
-
-  -- what a shelf makes of a line with this request: it notes something at a mark that it sets, learns something at one that it meets, and
-  -- serves all else
-  abbrev pub StepOn : Request → (before : OnShelf C O St) → Line → Answer → (after : OnShelf C O St) → Type 0
-  StepOn (Mark mark) before line a after = (a ≡ answer.Marked) × Notes before after
-  StepOn (Await mark) before line a after = ((a ≡ answer.Met) × Meets before after) ⊎ ((a ≡ answer.Unmet) × (after ≡ before))
-  StepOn _ before line a after = Went tells state offers faults before line a after
-
-  abbrev pub IsStep : Stage (OnShelf C O St) → Type 0
-  IsStep x = StepOn x.line.request x.before x.line x.answer x.after
-
 module _ {C O St : Type 0} (tells : Bool) (state : C → CellState) (offers : O → Offers) (s : Store C O) (told : Bool) (past : Past) where
   -- The account of a worker that served these lines has a course of the same lines and answers, from what its pass knew at the start to what
   -- it knows at the end. The pass is of the same store still, and tracks the lines.

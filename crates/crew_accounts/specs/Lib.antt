@@ -4,3 +4,5 @@ pub mod Lines
 pub mod Courses
 pub mod Playing
 pub mod Closings
+pub mod Openings
+pub mod Saved

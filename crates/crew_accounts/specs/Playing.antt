@@ -1,59 +1,20 @@
 -- What the workers of a store did on their shelves, and that the store was closed behind them.
-use Rattle.std.specs.Prelude.{Bool, Contains, List, cond, count_by, length, map, take, ◌+◌, ◌≡◌, ℕ}
-use Rattle.std.specs.List.{list_any}
+use Rattle.std.specs.Prelude.{Bool, Contains, List, length, map, ◌≡◌, ℕ}
 use Rattle.rock_disk.specs.Cell.{CellState}
-use Rattle.script_text.specs.declared.answer.Answer.{Answer}
-use Rattle.script_text.specs.declared.answer.Answer.TheVariants.{Met, Unmet}
 use Rattle.script_text.specs.declared.line.Line.{Line}
-use Rattle.script_text.specs.declared.request.Request.TheVariants.{Await, Mark}
-use Rattle.core_model.specs.declared.view.Sight.{Sight}
 use Rattle.store_rule.specs.declared.store.Store.{Store}
 use Rattle.store_rule.specs.Closing.{Closed}
 use Rattle.store_rule.specs.Ground.{Offers}
-use Rattle.store_rule.specs.Passes.{IsNewOf, basis, view}
-use Rattle.worker_pool.specs.Courses.{At, IsServed, Linked, Stage, lines_of, sets}
+use Rattle.store_rule.specs.Passes.{basis, view}
+use Rattle.worker_pool.specs.Courses.{At}
 use Rattle.worker_pool.specs.Running.{Account}
-use Rattle.serve_lines.specs.Answers.{is_fault}
-use Rattle.serve_lines.specs.Serving.{Takes}
-use Rattle.worker_shelf.specs.Shelves.{Left, OnShelf}
-use Rattle.crew_accounts.specs.Courses.{IsStep}
+use Rattle.worker_shelf.specs.Playing.{IsPlayed, TellsAtMarks}
+use Rattle.worker_shelf.specs.Shelves.{OnShelf}
 
--- the answer to `await`, by whether an earlier line of the script sets the mark
-abbrev pub answer_to_await : (earlier : List Line) (mark : ℕ) → Answer
-answer_to_await earlier mark = cond (list_any (sets mark) earlier) Met Unmet
-
-module _ {C O St : Type 0} where
-  -- Where a worker met a mark that the other one set, its pass knows after that all that the other's pass knew before it set the mark.
-  abbrev pub TellsAtMarks : (setter other : Account (OnShelf C O St)) → Type 0
-  TellsAtMarks setter other = (m n : Stage (OnShelf C O St)) (mark : ℕ) → Contains setter.stages m → Contains other.stages n → m.line.request ≡ Mark mark → n.line.request ≡ Await mark
-      → n.answer ≡ Met → (x : Sight) → Contains (view m.before.pass).seen x → Contains (view n.after.pass).seen x
-
-  -- how many of a worker's answers tell a fault of its station
-  abbrev pub fault_answers : Account (OnShelf C O St) → ℕ
-  fault_answers a = count_by (λ x. is_fault x.answer) a.stages
-
-module _ {C O St : Type 0} (tells : Bool) (state : C → CellState) (offers : O → Offers) (faults : St → ℕ) where
-  -- A worker's lines follow one another, each is a step of its shelf, and after the last one it left all tabs.
-  pub record HasSteps (a : Account (OnShelf C O St)) : Type 0 where
-    pub linked : Linked a.start a.stages a.last
-    pub steps : (x : Stage (OnShelf C O St)) → Contains a.stages x → IsStep tells state offers faults x
-    pub left : Left tells state offers a.last a.end
-
-  module _ (s : Store C O) (script : List Line) where
-    -- The worker with the pass w, from 0 on, whose number in the script is w + 1, began on a new pass of the store, and served its lines,
-    -- each once and in their order. At the start the pass takes each of them that is served, and `await` is answered by the script.
-    pub record IsPlayed (w : ℕ) (a : Account (OnShelf C O St)) : Type 0 where
-      pub store : a.start.store ≡ s
-      pub fresh : IsNewOf tells state offers s a.start.pass
-      pub number : (view a.start.pass).pass ≡ w
-      pub each : map (λ x. (x.place, x.line)) a.stages ≡ lines_of (w + 1) script
-      pub has_steps : HasSteps a
-      pub takes : (line : Line) → Contains script line → line.worker ≡ w + 1 → IsServed line.request → Takes tells state offers s a.start.pass line
-      pub awaits : (x : Stage (OnShelf C O St)) → Contains a.stages x → (mark : ℕ) → x.line.request ≡ Await mark → x.answer ≡ answer_to_await (take x.place script) mark
-
-    -- Workers did so, one for each pass of the store, and told one another at marks what they knew. The store was closed with their passes.
-    pub record HasRun (accounts : List (Account (OnShelf C O St))) (cells : List C) : Type 0 where
-      pub count : length accounts ≡ (basis tells state offers s).setting.passes
-      pub each : (w : ℕ) (a : Account (OnShelf C O St)) → At accounts w a → IsPlayed w a
-      pub told : (a b : Account (OnShelf C O St)) → Contains accounts a → Contains accounts b → TellsAtMarks a b
-      pub closed : Closed tells state (basis tells state offers s) (map (λ a. view a.end.pass) accounts) cells
+module _ {C O St : Type 0} (tells : Bool) (state : C → CellState) (offers : O → Offers) (faults : St → ℕ) (s : Store C O) (script : List Line) where
+  -- Workers did so, one for each pass of the store, and told one another at marks what they knew. The store was closed with their passes.
+  pub record HasRun (accounts : List (Account (OnShelf C O St))) (cells : List C) : Type 0 where
+    pub count : length accounts ≡ (basis tells state offers s).setting.passes
+    pub each : (w : ℕ) (a : Account (OnShelf C O St)) → At accounts w a → IsPlayed tells state offers faults s script w a
+    pub told : (a b : Account (OnShelf C O St)) → Contains accounts a → Contains accounts b → TellsAtMarks a b
+    pub closed : Closed tells state (basis tells state offers s) (map (λ a. view a.end.pass) accounts) cells

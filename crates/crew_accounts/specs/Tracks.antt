@@ -7,7 +7,8 @@ use Rattle.store_key.specs.Url.{IsUrl}
 use Rattle.core_model.specs.Anchors.{opening_counter}
 use Rattle.core_model.specs.declared.view.Sight.TheVariants.{Published}
 use Rattle.line_account.specs.Answers.{IsEntryAt, Run}
-use Rattle.line_account.specs.Lines.{Served, added, bytes_given, reading, url_in, writing}
+use Rattle.script_text.specs.Requests.{url_in}
+use Rattle.line_account.specs.Lines.{Served, added, bytes_given, reading, writing}
 use Rattle.store_rule.specs.declared.store.Pass.{Pass}
 use Rattle.store_rule.specs.declared.store.Store.{Store}
 use Rattle.store_rule.specs.Ground.{Offers, anchor_for, url_of}
@@ -15,9 +16,9 @@ use Rattle.store_rule.specs.Passes.{basis, view}
 use Rattle.rock_reader.specs.Reading.{ReadsAs, Standing}
 use Rattle.rock_reader.specs.Responses.{body_below}
 use Rattle.rock_writer.specs.Entries.{Entry, WritesAs}
-use Rattle.serve_lines.specs.Showing.{HasShown}
-use Rattle.serve_lines.specs.Tabs.{IsFree, IsReady}
-use Rattle.serve_lines.specs.Whole.{whole_tab}
+use Rattle.store_serve.specs.Showing.{HasShown}
+use Rattle.store_serve.specs.Tabs.{IsFree, IsReady}
+use Rattle.store_serve.specs.Whole.{whole_tab}
 use Rattle.crew_accounts.specs.Runs.{Past, run_of}
 
 -- the offer that a tab reads has another URL than it wants, with the same key
@@ -74,8 +75,10 @@ module _ {C O : Type 0} (tells : Bool) (state : C → CellState) (offers : O →
     abbrev pub IsTracked : Type 0
     IsTracked = IsIdle ⊎ IsWriter ⊎ IsReader
 
-  -- The pass is ready for the next line, the tab of whole requests is free, and each tab of the script is as the lines say.
+  -- The pass is ready for the next line, the tab of whole requests is free, and each tab of the script is as the lines say. On no other tab
+  -- did a line begin to write.
   pub record Tracks : Type 0 where
     pub ready : IsReady tells state offers s p
     pub whole : IsFree p whole_tab
     pub each : (t : ℕ) → t < whole_tab → IsTracked t
+    pub beyond : (t : ℕ) → whole_tab ≤ t → writing t served ≡ None

@@ -7,7 +7,8 @@ ghost use Rattle.store_rule.specs.Passes.{basis};
 ghost use Rattle.worker_pool.specs.Running.{Account};
 ghost use Rattle.worker_shelf.specs.Shelves.{OnShelf};
 ghost use Rattle.crew_accounts.specs.Runs.{IsTold, Past, run_of};
-ghost use Rattle.crew_accounts.specs.Playing.{HasRun, HasSteps, fault_answers};
+ghost use Rattle.crew_accounts.specs.Playing.{HasRun};
+ghost use Rattle.worker_shelf.specs.Playing.{HasSteps, fault_answers};
 ghost use Rattle.crew_accounts.specs.Closings.{HasClosing};
 
 use crate::shelves::shelves_have_courses;

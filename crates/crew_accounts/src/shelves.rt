@@ -5,10 +5,11 @@ ghost use Rattle.line_account.specs.Courses.{Leaves, lines_in};
 ghost use Rattle.store_rule.specs.declared.store.Store.{Store};
 ghost use Rattle.store_rule.specs.Passes.{IsNewOf, basis, view};
 ghost use Rattle.worker_pool.specs.Courses.{IsServed, Linked, Stage};
-ghost use Rattle.serve_lines.specs.Serving.{Takes};
+ghost use Rattle.store_serve.specs.Serving.{Takes};
 ghost use Rattle.worker_shelf.specs.Shelves.{Left, OnShelf};
 ghost use Rattle.crew_accounts.specs.Runs.{IsTold, Past, run_of};
-ghost use Rattle.crew_accounts.specs.Courses.{HasCourse, IsStep};
+ghost use Rattle.crew_accounts.specs.Courses.{HasCourse};
+ghost use Rattle.worker_shelf.specs.Playing.{IsStep};
 
 use crate::course::{ends_leave, lines_add, marks_add, new_passes_track};
 use rock_disk::{Cell, Station};

@@ -6,7 +6,7 @@ ghost use Rattle.script_text.specs.declared.request.Request.{Request};
 ghost use Rattle.line_account.specs.Lines.{Served};
 ghost use Rattle.store_rule.specs.declared.store.Pass.{Pass};
 ghost use Rattle.store_rule.specs.declared.store.Store.{Store};
-ghost use Rattle.serve_lines.specs.Serving.{Serves, Takes};
+ghost use Rattle.store_serve.specs.Serving.{Serves, Takes};
 ghost use Rattle.worker_shelf.specs.Typed.{IsTyped};
 ghost use Rattle.crew_accounts.specs.Lines.{AddsLine, line_with};
 ghost use Rattle.crew_accounts.specs.Runs.{Past};

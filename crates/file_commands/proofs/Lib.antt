@@ -4,4 +4,6 @@ pub mod Lines
 pub mod Printing
 pub mod SizeFound
 pub mod Telling
-pub mod TellingFor
+pub mod Recorded
+pub mod HeaderWritten
+pub mod Making

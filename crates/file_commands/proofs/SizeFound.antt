@@ -11,8 +11,7 @@ use Rattle.slot_finding.specs.Faults.{OrFailed, status_of_find}
 use Rattle.slot_finding.specs.Finding.{AnswersOrFails, FindingSays, FindsSlot, IsGiven, IsUnknown, RecordsMisfit, RecordsOther, TellsNoSlot, WithSlot}
 use Rattle.slot_finding.proofs.Causes.{due_status, failed_status, found_agrees, found_fits, found_known, found_long, found_there, of_one, same_status as one_status, second_says, unknown_says}
 use Rattle.file_commands.specs.Device.{EndedOne}
-use Rattle.file_commands.specs.Report.{HasSlots, IsFit, ReadEnds, ReportSays}
-use Rattle.file_commands.specs.ReportFor.{IsRefusedFor, IsUnfit, ReadEndsFor, ReportSaysFor}
+use Rattle.file_commands.specs.Report.{FoundEnds, HasSlots, IsFit, IsRefused, IsUnfit, ReadEnds, ReadSays, ReportSays}
 use Rattle.file_commands.proofs.Kept.{one_count, one_file}
 use Rattle.file_commands.proofs.Telling.{failed_on, same_status}
 use Rattle.rock_status.specs.declared.status.Status.{Status}
@@ -31,19 +30,19 @@ fits_not Fits files name slot unfit fit = unfit.2 (subst Fits (one_count files n
 
 -- where no slot size was found
 pub unfound_ends : (Fits : ℕ → Type 0) (given : Option ℕ) (v v' : ℕ) (e e' : List ℕ) (fault : FindFault) (s : Status) → s ≡ status_of_find fault
-    → ((field : ℕ) → IsErrOf {T = ℕ} (Err fault) (finding.BadGeometry field) → IsUnknown given field) → (IsErrOf {T = ℕ} (Err fault) finding.Failed → Rose v v') → ReadEndsFor Fits given v v' e e' s
-unfound_ends Fits given v v' e e' finding.Missing s h fields failed = subst (ReadEndsFor Fits given v v' e e') (sym h) tt
-unfound_ends Fits given v v' e e' (finding.Small bytes) s h fields failed = subst (ReadEndsFor Fits given v v' e e') (sym h) tt
-unfound_ends Fits given v v' e e' (finding.BadGeometry field) s h fields failed = subst (ReadEndsFor Fits given v v' e e') (sym h) (inl (fields field refl))
-unfound_ends Fits given v v' e e' finding.Failed s h fields failed = subst (ReadEndsFor Fits given v v' e e') (sym h) (inl (failed refl))
-unfound_ends Fits given v v' e e' finding.Memory s h fields failed = subst (ReadEndsFor Fits given v v' e e') (sym h) tt
+    → ((field : ℕ) → IsErrOf {T = ℕ} (Err fault) (finding.BadGeometry field) → IsUnknown given field) → (IsErrOf {T = ℕ} (Err fault) finding.Failed → Rose v v') → FoundEnds Fits given v v' e e' s
+unfound_ends Fits given v v' e e' finding.Missing s h fields failed = subst (FoundEnds Fits given v v' e e') (sym h) tt
+unfound_ends Fits given v v' e e' (finding.Small bytes) s h fields failed = subst (FoundEnds Fits given v v' e e') (sym h) tt
+unfound_ends Fits given v v' e e' (finding.BadGeometry field) s h fields failed = subst (FoundEnds Fits given v v' e e') (sym h) (inl (fields field refl))
+unfound_ends Fits given v v' e e' finding.Failed s h fields failed = subst (FoundEnds Fits given v v' e e') (sym h) (inl (failed refl))
+unfound_ends Fits given v v' e e' finding.Memory s h fields failed = subst (FoundEnds Fits given v v' e e') (sym h) tt
 
-pub unfound_says : (Fits : ℕ → Type 0) (files : Files) (name : List ℕ) (given : Option ℕ) (fault : FindFault) (s : Status) → s ≡ status_of_find fault → FindingSays files name given fault → ReportSaysFor Fits files name given s
-unfound_says Fits files name given finding.Missing s h says = subst (ReportSaysFor Fits files name given) (sym h) says
-unfound_says Fits files name given (finding.Small bytes) s h says = subst (ReportSaysFor Fits files name given) (sym h) (inl says)
-unfound_says Fits files name given (finding.BadGeometry field) s h says = subst (ReportSaysFor Fits files name given) (sym h) (unknown_says files name given field says)
-unfound_says Fits files name given finding.Failed s h says = subst (ReportSaysFor Fits files name given) (sym h) tt
-unfound_says Fits files name given finding.Memory s h says = subst (ReportSaysFor Fits files name given) (sym h) tt
+pub unfound_says : (Fits : ℕ → Type 0) (files : Files) (name : List ℕ) (given : Option ℕ) (fault : FindFault) (s : Status) → s ≡ status_of_find fault → FindingSays files name given fault → ReportSays Fits files name given s
+unfound_says Fits files name given finding.Missing s h says = subst (ReportSays Fits files name given) (sym h) says
+unfound_says Fits files name given (finding.Small bytes) s h says = subst (ReportSays Fits files name given) (sym h) (inl says)
+unfound_says Fits files name given (finding.BadGeometry field) s h says = subst (ReportSays Fits files name given) (sym h) (unknown_says files name given field says)
+unfound_says Fits files name given finding.Failed s h says = subst (ReportSays Fits files name given) (sym h) tt
+unfound_says Fits files name given finding.Memory s h says = subst (ReportSays Fits files name given) (sym h) tt
 
 pub unfound_refused : (tells : Bool) (Fits : ℕ → Type 0) (files : Files) (name : List ℕ) (given : Option ℕ) (fault : FindFault) (s : Status) → s ≡ status_of_find fault → IsGiven given
     → (IsTrue tells → (slot : ℕ) → FindsSlot files name given slot → AnswersOrFails (Ok slot) (Err fault))
@@ -52,7 +51,7 @@ pub unfound_refused : (tells : Bool) (Fits : ℕ → Type 0) (files : Files) (na
     → (IsTrue tells → RecordsMisfit files name → AnswersOrFails (Err (finding.BadGeometry 6)) (Err fault))
     → (IsTrue tells → RecordsOther files name given → AnswersOrFails (Err (finding.BadGeometry 5)) (Err fault))
     → (IsTrue tells → TellsNoSlot files name given → AnswersOrFails (Err (finding.BadGeometry 7)) (Err fault))
-    → IsRefusedFor tells Fits files name given s
+    → IsRefused tells Fits files name given s
 unfound_refused tells Fits files name given fault s h may complete no_file short wrong differs unknown = record {
   geometry = λ not. absurd (not may);
   missing = λ t sized none. h ∙ one_status finding.Missing fault (no_file t none);
@@ -81,7 +80,7 @@ failed_find finding.Failed s h told = refl
 failed_find finding.Memory s h told = cc
 
 -- where one was found
-pub found_ends : {T : Type 0} (Fits : ℕ → Type 0) (given : Option ℕ) (v v1 v' : ℕ) (e e1 e' : List ℕ) (r : Result T Status) → v1 ≡ v → e1 ≡ e → IfErr r (ReadEnds Fits v1 v' e1 e') → IfErr r (ReadEndsFor Fits given v v' e e')
+pub found_ends : {T : Type 0} (Fits : ℕ → Type 0) (given : Option ℕ) (v v1 v' : ℕ) (e e1 e' : List ℕ) (r : Result T Status) → v1 ≡ v → e1 ≡ e → IfErr r (ReadEnds Fits v1 v' e1 e') → IfErr r (FoundEnds Fits given v v' e e')
 found_ends Fits given v v1 v' e e1 e' (Ok x) p q k = tt
 found_ends Fits given v v1 v' e e1 e' (Err Done) p q k = absurd k
 found_ends Fits given v v1 v' e e1 e' (Err Usage) p q k = absurd k
@@ -96,7 +95,7 @@ found_ends Fits given v v1 v' e e1 e' (Err (BadGeometry field)) p q k = inr k
 found_ends Fits given v v1 v' e e1 e' (Err Exists) p q k = absurd k
 
 pub found_says : {T : Type 0} (Fits : ℕ → Type 0) (v v' : ℕ) (e e' : List ℕ) (files : Files) (name : List ℕ) (given : Option ℕ) (slot : ℕ) (r : Result T Status) → FindsSlot files name given slot
-    → IfErr r (ReadEnds Fits v v' e e') → IfErr r (ReportSays Fits files name slot) → IfErr r (ReportSaysFor Fits files name given)
+    → IfErr r (ReadEnds Fits v v' e e') → IfErr r (ReadSays Fits files name slot) → IfErr r (ReportSays Fits files name given)
 found_says Fits v v' e e' files name given slot (Ok x) finds k says = tt
 found_says Fits v v' e e' files name given slot (Err Done) finds k says = absurd k
 found_says Fits v v' e e' files name given slot (Err Usage) finds k says = absurd k
@@ -111,7 +110,7 @@ found_says Fits v v' e e' files name given slot (Err (BadGeometry field)) finds 
 found_says Fits v v' e e' files name given slot (Err Exists) finds k says = absurd k
 
 -- where the number of slots does not fit, it is refused, unless the disk failed or memory was wanting
-sized_unfit : (Fits : ℕ → Type 0) (v v' : ℕ) (e e' : List ℕ) (files : Files) (name : List ℕ) (slot : ℕ) (status : Status) → ReadEnds Fits v v' e e' status → ReportSays Fits files name slot status → IsUnfit Fits files name slot
+sized_unfit : (Fits : ℕ → Type 0) (v v' : ℕ) (e e' : List ℕ) (files : Files) (name : List ℕ) (slot : ℕ) (status : Status) → ReadEnds Fits v v' e e' status → ReadSays Fits files name slot status → IsUnfit Fits files name slot
     → OrFailed (BadGeometry 2) status
 sized_unfit Fits v v' e e' files name slot Done k says unfit = absurd k
 sized_unfit Fits v v' e e' files name slot Usage k says unfit = absurd k
@@ -126,8 +125,8 @@ sized_unfit Fits v v' e e' files name slot (BadGeometry field) k says unfit = in
 sized_unfit Fits v v' e e' files name slot Exists k says unfit = absurd k
 
 pub found_refused : {T : Type 0} (tells : Bool) (Fits : ℕ → Type 0) (v v' : ℕ) (e e' : List ℕ) (files : Files) (name : List ℕ) (given : Option ℕ) (slot : ℕ) (r : Result T Status) → IsGiven given → (IsTrue tells → FindsSlot files name given slot)
-    → IfErr r (ReadEnds Fits v v' e e') → (IsTrue tells → IfErr r (ReportSays Fits files name slot)) → (IsTrue tells → (bytes : ℕ) → IsSmall files name slot bytes → IsErrOf r (Small bytes))
-    → IfErr r (IsRefusedFor tells Fits files name given)
+    → IfErr r (ReadEnds Fits v v' e e') → (IsTrue tells → IfErr r (ReadSays Fits files name slot)) → (IsTrue tells → (bytes : ℕ) → IsSmall files name slot bytes → IsErrOf r (Small bytes))
+    → IfErr r (IsRefused tells Fits files name given)
 found_refused tells Fits v v' e e' files name given slot (Ok x) may finds ends says short = tt
 found_refused {T = T} tells Fits v v' e e' files name given slot (Err status) may finds ends says short = record {
   geometry = λ not. absurd (not may);
@@ -141,7 +140,7 @@ found_refused {T = T} tells Fits v v' e e' files name given slot (Err status) ma
 }
 
 -- nothing refuses a file that was read
-pub fit_refused : (tells : Bool) (Fits : ℕ → Type 0) (files : Files) (name : List ℕ) (given : Option ℕ) (status : Status) → IsGiven given → (IsTrue tells → WithSlot files name given (IsFit Fits files name)) → IsRefusedFor tells Fits files name given status
+pub fit_refused : (tells : Bool) (Fits : ℕ → Type 0) (files : Files) (name : List ℕ) (given : Option ℕ) (status : Status) → IsGiven given → (IsTrue tells → WithSlot files name given (IsFit Fits files name)) → IsRefused tells Fits files name given status
 fit_refused tells Fits files name given status may fit = record {
   geometry = λ not. absurd (not may);
   missing = λ t sized none. absurd (found_there files name given (fit t).0 (fit t).1 none);
@@ -154,7 +153,7 @@ fit_refused tells Fits files name given status may fit = record {
 }
 
 -- nothing is said of a file where the size that is given is none
-pub ungiven_refused : (tells : Bool) (Fits : ℕ → Type 0) (files : Files) (name : List ℕ) (given : Option ℕ) → ¬ IsGiven given → IsRefusedFor tells Fits files name given (BadGeometry 1)
+pub ungiven_refused : (tells : Bool) (Fits : ℕ → Type 0) (files : Files) (name : List ℕ) (given : Option ℕ) → ¬ IsGiven given → IsRefused tells Fits files name given (BadGeometry 1)
 ungiven_refused tells Fits files name given not = record {
   geometry = λ same. refl;
   missing = λ t sized none. absurd (not sized);

@@ -1,6 +1,6 @@
 -- A fault is told as a fault.
 use Rattle.std.proofs.Common.{◌≡◌, inl, inr, ◌++◌, ◌∷◌, [], ℕ, List, length, length-append, arith, refl, ap, sym, ◌∙◌, subst}
-use Rattle.std.specs.Prelude.{Result, IsErrOf, IfErr, Ok, Err, None, ◌↔◌}
+use Rattle.std.specs.Prelude.{Result, IsErrOf, IfErr, Ok, Err, None, Option, ◌↔◌}
 use Rattle.std.specs.FinMap.{get}
 use Rattle.rock_io.specs.Faults.{Rose}
 use Rattle.rock_disk.specs.File.{Files}
@@ -11,10 +11,10 @@ use Rattle.rock_disk.specs.declared.volume.StationFault.{StationFault}
 use Rattle.rock_disk.specs.declared.volume.StationFault.TheVariants as station
 use Rattle.rock_rebuild.specs.declared.outcome.RebuildFault.{RebuildFault}
 use Rattle.rock_rebuild.specs.declared.outcome.RebuildFault.TheVariants as rebuild
-use Rattle.db_layout.specs.Layout.{IsSlotSize}
 use Rattle.file_commands.specs.Device.{DeviceFailed, DeviceKept}
 use Rattle.file_commands.specs.Faults.{status_of_open, status_of_station, status_of_rebuild}
-use Rattle.file_commands.specs.Report.{HasSlots, OpenedEnds, ReadEnds, ReportEnds, ReportSays, ReportPrints, PrintEnds, IsFit}
+use Rattle.slot_finding.specs.Finding.{IsGiven, WithSlot}
+use Rattle.file_commands.specs.Report.{FoundEnds, HasSlots, IsFit, OpenedEnds, PrintEnds, ReadEnds, ReadSays, ReportEnds, ReportPrints, ReportSays}
 use Rattle.rock_status.specs.declared.status.Status.{Status}
 use Rattle.rock_status.specs.declared.status.Status.TheVariants.{Done, Usage, Memory, SourceFault, SinkFault, DeviceFault, BadScript, Missing, Small, BadGeometry, Exists}
 
@@ -82,11 +82,11 @@ open_refused Fits v v' e e' opening.Failed s h failed = subst (ReadEnds Fits v v
 open_refused Fits v v' e e' opening.Memory s h failed = subst (ReadEnds Fits v v' e e') (sym h) tt
 
 pub open_says : {T : Type 0} (Fits : ℕ → Type 0) (files : Files) (name : List ℕ) (slot : ℕ) (f : OpenFault) (s : Status) → s ≡ status_of_open f
-    → (IsErrOf {T = T} (Err f) opening.Missing ↔ (get files name ≡ None)) → ((bytes : ℕ) → (IsErrOf {T = T} (Err f) (opening.Small bytes) ↔ IsSmall files name slot bytes)) → ReportSays Fits files name slot s
-open_says Fits files name slot opening.Missing s h missing small = subst (ReportSays Fits files name slot) (sym h) (missing.0 refl)
-open_says Fits files name slot (opening.Small n) s h missing small = subst (ReportSays Fits files name slot) (sym h) ((small n).0 refl)
-open_says Fits files name slot opening.Failed s h missing small = subst (ReportSays Fits files name slot) (sym h) tt
-open_says Fits files name slot opening.Memory s h missing small = subst (ReportSays Fits files name slot) (sym h) tt
+    → (IsErrOf {T = T} (Err f) opening.Missing ↔ (get files name ≡ None)) → ((bytes : ℕ) → (IsErrOf {T = T} (Err f) (opening.Small bytes) ↔ IsSmall files name slot bytes)) → ReadSays Fits files name slot s
+open_says Fits files name slot opening.Missing s h missing small = subst (ReadSays Fits files name slot) (sym h) (missing.0 refl)
+open_says Fits files name slot (opening.Small n) s h missing small = subst (ReadSays Fits files name slot) (sym h) ((small n).0 refl)
+open_says Fits files name slot opening.Failed s h missing small = subst (ReadSays Fits files name slot) (sym h) tt
+open_says Fits files name slot opening.Memory s h missing small = subst (ReadSays Fits files name slot) (sym h) tt
 
 same_fault : {T : Type 0} {f g : OpenFault} → ◌≡◌ {A = Result T OpenFault} (Err f) (Err g) → f ≡ g
 same_fault e = cc
@@ -112,7 +112,7 @@ opened_refused Fits slots (Err (BadGeometry field)) p q r s k = (k.0, (slots, k.
 opened_refused Fits slots (Err Exists) p q r s k = absurd k
 
 pub opened_says : {T : Type 0} (Fits : ℕ → Type 0) (slots v v' : ℕ) (e e' : List ℕ) (files : Files) (name : List ℕ) (slot : ℕ) (r : Result T Status) → HasSlots files name slot slots → IfErr r (OpenedEnds Fits slots v v' e e')
-    → IfErr r (ReportSays Fits files name slot)
+    → IfErr r (ReadSays Fits files name slot)
 opened_says Fits slots v v' e e' files name slot (Ok x) has k = tt
 opened_says Fits slots v v' e e' files name slot (Err Done) has k = absurd k
 opened_says Fits slots v v' e e' files name slot (Err Usage) has k = absurd k
@@ -127,59 +127,59 @@ opened_says Fits slots v v' e e' files name slot (Err (BadGeometry field)) has k
 opened_says Fits slots v v' e e' files name slot (Err Exists) has k = absurd k
 
 -- how a file is refused is how the command ends
-pub refused_ends : (Fits : ℕ → Type 0) (slot s v v' : ℕ) (e e' : List ℕ) (status : Status) → IsSlotSize slot → ReadEnds Fits v v' e e' status → ReportEnds Fits slot s s v v' e e' status
-refused_ends Fits slot s v v' e e' Done sized k = absurd k
-refused_ends Fits slot s v v' e e' Usage sized k = absurd k
-refused_ends Fits slot s v v' e e' Memory sized k = sized
-refused_ends Fits slot s v v' e e' SourceFault sized k = absurd k
-refused_ends Fits slot s v v' e e' SinkFault sized k = absurd k
-refused_ends Fits slot s v v' e e' DeviceFault sized k = (sized, k)
-refused_ends Fits slot s v v' e e' (BadScript line cause) sized k = absurd k
-refused_ends Fits slot s v v' e e' Missing sized k = sized
-refused_ends Fits slot s v v' e e' (Small bytes) sized k = sized
-refused_ends Fits slot s v v' e e' (BadGeometry field) sized k = inr (k.0, sized, k.1)
-refused_ends Fits slot s v v' e e' Exists sized k = absurd k
+pub refused_ends : (Fits : ℕ → Type 0) (given : Option ℕ) (s v v' : ℕ) (e e' : List ℕ) (status : Status) → IsGiven given → FoundEnds Fits given v v' e e' status → ReportEnds Fits given s s v v' e e' status
+refused_ends Fits given s v v' e e' Done sized k = absurd k
+refused_ends Fits given s v v' e e' Usage sized k = absurd k
+refused_ends Fits given s v v' e e' Memory sized k = sized
+refused_ends Fits given s v v' e e' SourceFault sized k = absurd k
+refused_ends Fits given s v v' e e' SinkFault sized k = absurd k
+refused_ends Fits given s v v' e e' DeviceFault sized k = (sized, k)
+refused_ends Fits given s v v' e e' (BadScript line cause) sized k = absurd k
+refused_ends Fits given s v v' e e' Missing sized k = sized
+refused_ends Fits given s v v' e e' (Small bytes) sized k = sized
+refused_ends Fits given s v v' e e' (BadGeometry field) sized k = inr (sized, k)
+refused_ends Fits given s v v' e e' Exists sized k = absurd k
 
 -- and nothing is printed
-pub refused_prints : (Fits : ℕ → Type 0) (v v' : ℕ) (e e' : List ℕ) (IsText : List ℕ → Type 0) (text : List ℕ) (status : Status) → ReadEnds Fits v v' e e' status → ReportPrints IsText text text status
-refused_prints Fits v v' e e' IsText text Done k = absurd k
-refused_prints Fits v v' e e' IsText text Usage k = absurd k
-refused_prints Fits v v' e e' IsText text Memory k = refl
-refused_prints Fits v v' e e' IsText text SourceFault k = absurd k
-refused_prints Fits v v' e e' IsText text SinkFault k = absurd k
-refused_prints Fits v v' e e' IsText text DeviceFault k = refl
-refused_prints Fits v v' e e' IsText text (BadScript line cause) k = absurd k
-refused_prints Fits v v' e e' IsText text Missing k = refl
-refused_prints Fits v v' e e' IsText text (Small bytes) k = refl
-refused_prints Fits v v' e e' IsText text (BadGeometry field) k = refl
-refused_prints Fits v v' e e' IsText text Exists k = absurd k
+pub refused_prints : (Fits : ℕ → Type 0) (given : Option ℕ) (v v' : ℕ) (e e' : List ℕ) (IsText : List ℕ → Type 0) (text : List ℕ) (status : Status) → FoundEnds Fits given v v' e e' status → ReportPrints IsText text text status
+refused_prints Fits given v v' e e' IsText text Done k = absurd k
+refused_prints Fits given v v' e e' IsText text Usage k = absurd k
+refused_prints Fits given v v' e e' IsText text Memory k = refl
+refused_prints Fits given v v' e e' IsText text SourceFault k = absurd k
+refused_prints Fits given v v' e e' IsText text SinkFault k = absurd k
+refused_prints Fits given v v' e e' IsText text DeviceFault k = refl
+refused_prints Fits given v v' e e' IsText text (BadScript line cause) k = absurd k
+refused_prints Fits given v v' e e' IsText text Missing k = refl
+refused_prints Fits given v v' e e' IsText text (Small bytes) k = refl
+refused_prints Fits given v v' e e' IsText text (BadGeometry field) k = refl
+refused_prints Fits given v v' e e' IsText text Exists k = absurd k
 
 -- how printing ends is how the command ends
-pub printed_ends : (Fits : ℕ → Type 0) (slot s s' v v' : ℕ) (e e' : List ℕ) (status : Status) → IsSlotSize slot → PrintEnds s s' status → ReportEnds Fits slot s s' v v' e e' status
-printed_ends Fits slot s s' v v' e e' Done sized k = sized
-printed_ends Fits slot s s' v v' e e' Usage sized k = absurd k
-printed_ends Fits slot s s' v v' e e' Memory sized k = sized
-printed_ends Fits slot s s' v v' e e' SourceFault sized k = absurd k
-printed_ends Fits slot s s' v v' e e' SinkFault sized k = (sized, k)
-printed_ends Fits slot s s' v v' e e' DeviceFault sized k = absurd k
-printed_ends Fits slot s s' v v' e e' (BadScript line cause) sized k = absurd k
-printed_ends Fits slot s s' v v' e e' Missing sized k = absurd k
-printed_ends Fits slot s s' v v' e e' (Small bytes) sized k = absurd k
-printed_ends Fits slot s s' v v' e e' (BadGeometry field) sized k = absurd k
-printed_ends Fits slot s s' v v' e e' Exists sized k = absurd k
+pub printed_ends : (Fits : ℕ → Type 0) (given : Option ℕ) (s s' v v' : ℕ) (e e' : List ℕ) (status : Status) → IsGiven given → PrintEnds s s' status → ReportEnds Fits given s s' v v' e e' status
+printed_ends Fits given s s' v v' e e' Done sized k = sized
+printed_ends Fits given s s' v v' e e' Usage sized k = absurd k
+printed_ends Fits given s s' v v' e e' Memory sized k = sized
+printed_ends Fits given s s' v v' e e' SourceFault sized k = absurd k
+printed_ends Fits given s s' v v' e e' SinkFault sized k = (sized, k)
+printed_ends Fits given s s' v v' e e' DeviceFault sized k = absurd k
+printed_ends Fits given s s' v v' e e' (BadScript line cause) sized k = absurd k
+printed_ends Fits given s s' v v' e e' Missing sized k = absurd k
+printed_ends Fits given s s' v v' e e' (Small bytes) sized k = absurd k
+printed_ends Fits given s s' v v' e e' (BadGeometry field) sized k = absurd k
+printed_ends Fits given s s' v v' e e' Exists sized k = absurd k
 
-pub printed_says : (Fits : ℕ → Type 0) (s s' : ℕ) (files : Files) (name : List ℕ) (slot : ℕ) (status : Status) → IsFit Fits files name slot → PrintEnds s s' status → ReportSays Fits files name slot status
-printed_says Fits s s' files name slot Done fit k = fit
-printed_says Fits s s' files name slot Usage fit k = absurd k
-printed_says Fits s s' files name slot Memory fit k = tt
-printed_says Fits s s' files name slot SourceFault fit k = absurd k
-printed_says Fits s s' files name slot SinkFault fit k = fit
-printed_says Fits s s' files name slot DeviceFault fit k = absurd k
-printed_says Fits s s' files name slot (BadScript line cause) fit k = absurd k
-printed_says Fits s s' files name slot Missing fit k = absurd k
-printed_says Fits s s' files name slot (Small bytes) fit k = absurd k
-printed_says Fits s s' files name slot (BadGeometry field) fit k = absurd k
-printed_says Fits s s' files name slot Exists fit k = absurd k
+pub printed_says : (Fits : ℕ → Type 0) (s s' : ℕ) (files : Files) (name : List ℕ) (given : Option ℕ) (status : Status) → WithSlot files name given (IsFit Fits files name) → PrintEnds s s' status → ReportSays Fits files name given status
+printed_says Fits s s' files name given Done fit k = fit
+printed_says Fits s s' files name given Usage fit k = absurd k
+printed_says Fits s s' files name given Memory fit k = tt
+printed_says Fits s s' files name given SourceFault fit k = absurd k
+printed_says Fits s s' files name given SinkFault fit k = fit
+printed_says Fits s s' files name given DeviceFault fit k = absurd k
+printed_says Fits s s' files name given (BadScript line cause) fit k = absurd k
+printed_says Fits s s' files name given Missing fit k = absurd k
+printed_says Fits s s' files name given (Small bytes) fit k = absurd k
+printed_says Fits s s' files name given (BadGeometry field) fit k = absurd k
+printed_says Fits s s' files name given Exists fit k = absurd k
 
 -- printing meets no fault of the disk
 pub printed_no_fault : (s s' : ℕ) (status : Status) → PrintEnds s s' status → status ≡ DeviceFault → ⊥

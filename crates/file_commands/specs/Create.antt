@@ -1,10 +1,14 @@
 -- What `create` answers, and why, and what it leaves of the files.
-use Rattle.std.specs.Prelude.{◌≡◌, ◌⊎◌, ℕ, ◌≤◌, List, Bool, IsTrue}
-use Rattle.rock_io.specs.Faults.{Rose}
-use Rattle.rock_disk.specs.File.{Files, IsThere}
+use Rattle.std.specs.Prelude.{◌≡◌, ◌⊎◌, ◌<◌, ◌+◌, ◌*◌, ◌++◌, ℕ, ◌≤◌, List, Bool, IsTrue}
+use Rattle.std.specs.FinMap.{insert}
+use Rattle.rock_disk.specs.File.{Files, IsThere, cut, zeros}
+use Rattle.rock_disk.specs.Cell.{CellState}
 use Rattle.rock_disk.specs.Created.{IsCreated, IsMaybeCreated}
+use Rattle.db_layout.specs.Geometry.{header_of}
 use Rattle.db_layout.specs.Layout.{IsSlotSize, file_size}
-use Rattle.db_layout.specs.declared.layout.TheConstants.{MOST_SLOTS}
+use Rattle.db_layout.specs.declared.layout.TheConstants.{HEADER_BYTES, MOST_SLOTS}
+use Rattle.file_commands.specs.Device.{DeviceFailed}
+use Rattle.file_commands.specs.Recording.{HoldsEither, geometry_of, with_header}
 use Rattle.rock_status.specs.declared.status.Status.{Status}
 use Rattle.rock_status.specs.declared.status.Status.TheVariants.{Done, Usage, Memory, SourceFault, SinkFault, DeviceFault, BadScript, Missing, Small, BadGeometry, Exists}
 
@@ -18,24 +22,27 @@ pub record IsGeometry (slot slots : ℕ) : Type 0 where
   pub size : IsSlotSize slot
   pub count : IsSlotCount slots
 
--- when each status comes: by the numbers and by the volume's count of faults
-abbrev pub CreateEnds : (slot slots before after : ℕ) → Status → Type 0
-CreateEnds slot slots v v' Done = IsGeometry slot slots
-CreateEnds slot slots v v' Usage = ⊥
-CreateEnds slot slots v v' Memory = IsGeometry slot slots
-CreateEnds slot slots v v' SourceFault = ⊥
-CreateEnds slot slots v v' SinkFault = ⊥
-CreateEnds slot slots v v' DeviceFault = IsGeometry slot slots × Rose v v'
-CreateEnds slot slots v v' (BadScript line cause) = ⊥
-CreateEnds slot slots v v' Missing = ⊥
-CreateEnds slot slots v v' (Small bytes) = ⊥
-CreateEnds slot slots v v' (BadGeometry field) = ((field ≡ 1) × ¬ IsSlotSize slot) ⊎ ((field ≡ 4) × IsSlotSize slot × ¬ IsSlotCount slots)
-CreateEnds slot slots v v' Exists = IsGeometry slot slots
+-- When each status comes: by the numbers, and by the counts of the volume and of the station. A file that was made may be gone, or shorter, when it
+-- is opened for its header area.
+abbrev pub CreateEnds : (slot slots : ℕ) → (volume_before volume_after : ℕ) → (ended_before ended_after : List ℕ) → Status → Type 0
+CreateEnds slot slots v v' e e' Done = IsGeometry slot slots
+CreateEnds slot slots v v' e e' Usage = ⊥
+CreateEnds slot slots v v' e e' Memory = IsGeometry slot slots
+CreateEnds slot slots v v' e e' SourceFault = ⊥
+CreateEnds slot slots v v' e e' SinkFault = ⊥
+CreateEnds slot slots v v' e e' DeviceFault = IsGeometry slot slots × DeviceFailed v v' e e'
+CreateEnds slot slots v v' e e' (BadScript line cause) = ⊥
+CreateEnds slot slots v v' e e' Missing = IsGeometry slot slots
+CreateEnds slot slots v v' e e' (Small bytes) = IsGeometry slot slots × (bytes < HEADER_BYTES + slot)
+CreateEnds slot slots v v' e e' (BadGeometry field) = ((field ≡ 1) × ¬ IsSlotSize slot) ⊎ ((field ≡ 4) × IsSlotSize slot × ¬ IsSlotCount slots)
+CreateEnds slot slots v v' e e' Exists = IsGeometry slot slots
 
--- when each status comes, by the files
+-- When each status comes, by the files. A file that was made is there, and long enough: so two refusals of opening do not come.
 abbrev pub CreateSays : Files → List ℕ → Status → Type 0
 CreateSays files name Done = ¬ IsThere files name
 CreateSays files name Exists = IsThere files name
+CreateSays files name Missing = ⊥
+CreateSays files name (Small bytes) = ⊥
 CreateSays files name status = Unit {0}
 
 -- where the slot size, the number of slots or the map refuses the command, it is refused so, in this order
@@ -44,11 +51,33 @@ pub record IsCreateRefused (tells : Bool) (files : Files) (name : List ℕ) (slo
   pub count : IsSlotSize slot → ¬ IsSlotCount slots → status ≡ BadGeometry 4
   pub exists : IsTrue tells → IsGeometry slot slots → IsThere files name → status ≡ Exists
 
--- what each status leaves: at `Done` one file more, of zeros; at a fault of the volume nothing but this file is another;
--- else all is as it was
+-- the bytes of a new file: its header area records its slots, and these are zeros
+abbrev pub made_bytes : (slot slots : ℕ) → List ℕ
+made_bytes slot slots = header_of (geometry_of slot slots) ++ zeros (slots * slot)
+
+-- a file of these bytes was put in, cut into its slots, and a crash leaves these bytes alone
+abbrev pub IsMade : (slot slots : ℕ) → List ℕ → Files → Files → Type 0
+IsMade slot slots name before after = after ≡ insert before name (cut slot (made_bytes slot slots))
+
+-- a file of zeros was put in, of the same length, and a crash leaves these alone. It may be cut into its slots
+abbrev pub IsBlank : (slot slots : ℕ) → List ℕ → Files → Files → Type 0
+IsBlank slot slots name before after = IsCreated before after name (file_size slots slot) ⊎ (after ≡ insert before name (cut slot (zeros (file_size slots slot))))
+
+-- A file of so many slots was put in, each of zeros. Its header area is zeros or records them, and a crash leaves one of these two.
+pub record IsHalfMade (slot slots : ℕ) (name : List ℕ) (before after : Files) : Type 0 where
+  pub header : CellState
+  pub either : HoldsEither (zeros HEADER_BYTES) (header_of (geometry_of slot slots)) header
+  pub is : after ≡ insert before name (with_header slot (zeros (file_size slots slot)) header)
+
+-- What each status leaves: at `Done` one file more, whose header area records its slots; at want of memory the files as they were, or one more, of
+-- zeros; at a fault of the disk nothing but this file is another. Of a file that was gone or shorter when it was opened nothing is said. At each
+-- other status all is as it was.
 abbrev pub CreateLeaves : Bool → (slot slots : ℕ) → List ℕ → Files → Files → Status → Type 0
-CreateLeaves tells slot slots name before after Done = IsTrue tells → IsCreated before after name (file_size slots slot)
+CreateLeaves tells slot slots name before after Done = IsTrue tells → IsMade slot slots name before after
 CreateLeaves tells slot slots name before after DeviceFault = IsTrue tells → IsMaybeCreated before after name
+CreateLeaves tells slot slots name before after Memory = IsTrue tells → (after ≡ before) ⊎ IsBlank slot slots name before after
+CreateLeaves tells slot slots name before after Missing = Unit {0}
+CreateLeaves tells slot slots name before after (Small bytes) = Unit {0}
 CreateLeaves tells slot slots name before after status = after ≡ before
 
 -- neither the numbers nor the map refuse the command

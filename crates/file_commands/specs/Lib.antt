@@ -3,5 +3,5 @@ pub mod Summary
 pub mod Faults
 pub mod Device
 pub mod Report
+pub mod Recording
 pub mod Create
-pub mod ReportFor

@@ -1,12 +1,15 @@
 -- What a command that reads a whole file answers, and why.
-use Rattle.std.specs.Prelude.{◌≡◌, ◌⊎◌, ℕ, ◌+◌, ◌≤◌, List, ◌++◌, length, Some, None, IsTrue, Bool}
+use Rattle.std.specs.Prelude.{◌≡◌, ◌⊎◌, ℕ, ◌+◌, ◌≤◌, List, ◌++◌, length, Option, Some, None, IsTrue, Bool}
 use Rattle.std.specs.FinMap.{get}
 use Rattle.rock_io.specs.Faults.{Rose}
 use Rattle.rock_io.specs.Sink.{TakesPrefix}
+pub use Rattle.rebuild_model.specs.Keeping.{IsAnchors}
+pub use Rattle.rock_disk.specs.File.{HasSlots}
 use Rattle.rock_disk.specs.File.{File, Files, bytes_of}
 use Rattle.db_layout.specs.Layout.{slots_of}
 use Rattle.rock_disk.specs.Opened.{IsSmall}
-use Rattle.db_layout.specs.Layout.{IsSlotSize}
+use Rattle.slot_finding.specs.Faults.{OrFailed}
+use Rattle.slot_finding.specs.Finding.{FieldSays, IsGiven, IsKeptFor, IsTooSmall, IsUnknown, RecordsMisfit, RecordsOther, TellsNoSlot, WithSlot}
 use Rattle.db_layout.specs.declared.layout.TheConstants.{HEADER_BYTES}
 use Rattle.file_commands.specs.Device.{DeviceFailed}
 use Rattle.std.specs.List.{flat_map}
@@ -22,10 +25,6 @@ use Rattle.rock_status.specs.declared.status.Status.TheVariants.{Done, Usage, Me
 -- what a command may ask of the number of slots: nothing, or that its number of anchors is from 1 to that
 abbrev pub AnyCount : ℕ → Type 0
 AnyCount slots = Unit {0}
-
-pub record IsAnchors (anchors slots : ℕ) : Type 0 where
-  pub from : 1 ≤ anchors
-  pub to : anchors ≤ slots
 
 -- the numbers of slots that a file may have for a report
 abbrev pub Fits : Report → ℕ → Type 0
@@ -48,30 +47,13 @@ pub record OfFile (Prints : List (List ℕ) → List ℕ → Type 0) (files : Fi
   pub there : get files name ≡ Some was
   pub told : Prints (images_of slot (bytes_of was)) text
 
--- the file of this name is long enough, and has this number of slots
-pub record HasSlots (files : Files) (name : List ℕ) (slot slots : ℕ) : Type 0 where
-  pub was : File
-  pub there : get files name ≡ Some was
-  pub long : HEADER_BYTES + slot ≤ length (bytes_of was)
-  pub count : slots ≡ slots_of (length (bytes_of was)) slot
+-- and by the slot size that the file and what was given have
+abbrev pub OfFileFor : (Prints : ℕ → List (List ℕ) → List ℕ → Type 0) → Files → List ℕ → (given : Option ℕ) → (text : List ℕ) → Type 0
+OfFileFor Prints files name given text = WithSlot files name given (λ slot. OfFile (Prints slot) files name slot text)
 
 -- it has as many as the command asks for
 abbrev pub IsFit : (ℕ → Type 0) → Files → List ℕ → ℕ → Type 0
 IsFit Fits files name slot = (slots : ℕ) × HasSlots files name slot slots × Fits slots
-
--- when each status comes: by the numbers and by the counts of faults, of the sink, the volume and the station
-abbrev pub ReportEnds : (Fits : ℕ → Type 0) (slot : ℕ) → (sink_before sink_after volume_before volume_after : ℕ) → (ended_before ended_after : List ℕ) → Status → Type 0
-ReportEnds Fits slot s s' v v' e e' Done = IsSlotSize slot
-ReportEnds Fits slot s s' v v' e e' Usage = ⊥
-ReportEnds Fits slot s s' v v' e e' Memory = IsSlotSize slot
-ReportEnds Fits slot s s' v v' e e' SourceFault = ⊥
-ReportEnds Fits slot s s' v v' e e' SinkFault = IsSlotSize slot × Rose s s'
-ReportEnds Fits slot s s' v v' e e' DeviceFault = IsSlotSize slot × DeviceFailed v v' e e'
-ReportEnds Fits slot s s' v v' e e' (BadScript line cause) = ⊥
-ReportEnds Fits slot s s' v v' e e' Missing = IsSlotSize slot
-ReportEnds Fits slot s s' v v' e e' (Small bytes) = IsSlotSize slot
-ReportEnds Fits slot s s' v v' e e' (BadGeometry field) = ((field ≡ 1) × ¬ IsSlotSize slot) ⊎ ((field ≡ 2) × IsSlotSize slot × ((slots : ℕ) × ¬ Fits slots))
-ReportEnds Fits slot s s' v v' e e' Exists = ⊥
 
 -- how an opened file may be refused, by the number of its slots and the counts of the volume and the station
 abbrev pub OpenedEnds : (Fits : ℕ → Type 0) (slots : ℕ) → (volume_before volume_after : ℕ) → (ended_before ended_after : List ℕ) → Status → Type 0
@@ -80,7 +62,7 @@ OpenedEnds Fits slots v v' e e' DeviceFault = DeviceFailed v v' e e'
 OpenedEnds Fits slots v v' e e' (BadGeometry field) = (field ≡ 2) × ¬ Fits slots
 OpenedEnds Fits slots v v' e e' status = ⊥
 
--- how a file may be refused that is to be read, by the same
+-- how a file may be refused that is to be read by its slot size, by the same
 abbrev pub ReadEnds : (Fits : ℕ → Type 0) → (volume_before volume_after : ℕ) → (ended_before ended_after : List ℕ) → Status → Type 0
 ReadEnds Fits v v' e e' Memory = Unit {0}
 ReadEnds Fits v v' e e' DeviceFault = DeviceFailed v v' e e'
@@ -89,22 +71,60 @@ ReadEnds Fits v v' e e' (Small bytes) = Unit {0}
 ReadEnds Fits v v' e e' (BadGeometry field) = (field ≡ 2) × ((slots : ℕ) × ¬ Fits slots)
 ReadEnds Fits v v' e e' status = ⊥
 
--- when each status comes, by the files
-abbrev pub ReportSays : (ℕ → Type 0) → Files → List ℕ → ℕ → Status → Type 0
-ReportSays Fits files name slot Missing = get files name ≡ None
-ReportSays Fits files name slot (Small bytes) = IsSmall files name slot bytes
-ReportSays Fits files name slot (BadGeometry field) = field ≡ 2 → (slots : ℕ) × HasSlots files name slot slots × ¬ Fits slots
-ReportSays Fits files name slot Done = IsFit Fits files name slot
-ReportSays Fits files name slot SinkFault = IsFit Fits files name slot
-ReportSays Fits files name slot status = Unit {0}
+-- it has another number of slots than the command asks for
+abbrev pub IsUnfit : (ℕ → Type 0) → Files → List ℕ → ℕ → Type 0
+IsUnfit Fits files name slot = (slots : ℕ) × HasSlots files name slot slots × ¬ Fits slots
 
--- where the slot size, the map, the length or the number of slots refuses the command, it is refused so. Opening may fail
--- before the number of slots is known
-pub record IsRefused (tells : Bool) (Fits : ℕ → Type 0) (files : Files) (name : List ℕ) (slot : ℕ) (status : Status) : Type 0 where
-  pub geometry : ¬ IsSlotSize slot → status ≡ BadGeometry 1
-  pub missing : IsTrue tells → IsSlotSize slot → get files name ≡ None → status ≡ Missing
-  pub small : (bytes : ℕ) → IsTrue tells → IsSlotSize slot → IsSmall files name slot bytes → status ≡ Small bytes
-  pub unfit : (slots : ℕ) → IsTrue tells → IsSlotSize slot → HasSlots files name slot slots → ¬ Fits slots → (status ≡ BadGeometry 2) ⊎ ((status ≡ DeviceFault) ⊎ (status ≡ Memory))
+-- when it is refused so, by the files
+abbrev pub ReadSays : (ℕ → Type 0) → Files → List ℕ → ℕ → Status → Type 0
+ReadSays Fits files name slot Missing = get files name ≡ None
+ReadSays Fits files name slot (Small bytes) = IsSmall files name slot bytes
+ReadSays Fits files name slot (BadGeometry field) = field ≡ 2 → IsUnfit Fits files name slot
+ReadSays Fits files name slot status = Unit {0}
+
+-- how a file may be refused whose slot size is to be found, by what was given, by the number of its slots, and by the counts of the volume and the station
+abbrev pub FoundEnds : (Fits : ℕ → Type 0) (given : Option ℕ) → (volume_before volume_after : ℕ) → (ended_before ended_after : List ℕ) → Status → Type 0
+FoundEnds Fits given v v' e e' Memory = Unit {0}
+FoundEnds Fits given v v' e e' DeviceFault = DeviceFailed v v' e e'
+FoundEnds Fits given v v' e e' Missing = Unit {0}
+FoundEnds Fits given v v' e e' (Small bytes) = Unit {0}
+FoundEnds Fits given v v' e e' (BadGeometry field) = IsUnknown given field ⊎ ((field ≡ 2) × ((slots : ℕ) × ¬ Fits slots))
+FoundEnds Fits given v v' e e' status = ⊥
+
+-- when each status comes: by what was given and by the counts of faults, of the sink, the volume and the station
+abbrev pub ReportEnds : (Fits : ℕ → Type 0) (given : Option ℕ) → (sink_before sink_after volume_before volume_after : ℕ) → (ended_before ended_after : List ℕ) → Status → Type 0
+ReportEnds Fits given s s' v v' e e' Done = IsGiven given
+ReportEnds Fits given s s' v v' e e' Usage = ⊥
+ReportEnds Fits given s s' v v' e e' Memory = IsGiven given
+ReportEnds Fits given s s' v v' e e' SourceFault = ⊥
+ReportEnds Fits given s s' v v' e e' SinkFault = IsGiven given × Rose s s'
+ReportEnds Fits given s s' v v' e e' DeviceFault = IsGiven given × DeviceFailed v v' e e'
+ReportEnds Fits given s s' v v' e e' (BadScript line cause) = ⊥
+ReportEnds Fits given s s' v v' e e' Missing = IsGiven given
+ReportEnds Fits given s s' v v' e e' (Small bytes) = IsGiven given
+ReportEnds Fits given s s' v v' e e' (BadGeometry field) = ((field ≡ 1) × ¬ IsGiven given) ⊎ (IsGiven given × (IsUnknown given field ⊎ ((field ≡ 2) × ((slots : ℕ) × ¬ Fits slots))))
+ReportEnds Fits given s s' v v' e e' Exists = ⊥
+
+-- when each status comes, by the files, of which one has a slot size by itself and by what was given, or has none
+abbrev pub ReportSays : (ℕ → Type 0) → Files → List ℕ → Option ℕ → Status → Type 0
+ReportSays Fits files name given Missing = get files name ≡ None
+ReportSays Fits files name given (Small bytes) = IsTooSmall files name given bytes
+ReportSays Fits files name given (BadGeometry field) = FieldSays (IsUnfit Fits files name) files name given field
+ReportSays Fits files name given Done = WithSlot files name given (IsFit Fits files name)
+ReportSays Fits files name given SinkFault = WithSlot files name given (IsFit Fits files name)
+ReportSays Fits files name given status = Unit {0}
+
+-- Where what was given, the map, the length, the header area or the number of slots refuses the command, it is refused so. The look at the header
+-- area and the opening may meet a fault or want of memory before what they are to find.
+pub record IsRefused (tells : Bool) (Fits : ℕ → Type 0) (files : Files) (name : List ℕ) (given : Option ℕ) (status : Status) : Type 0 where
+  pub geometry : ¬ IsGiven given → status ≡ BadGeometry 1
+  pub missing : IsTrue tells → IsGiven given → get files name ≡ None → status ≡ Missing
+  pub small : (bytes : ℕ) → IsTrue tells → IsGiven given → IsSmall files name 0 bytes → status ≡ Small bytes
+  pub wrong : IsTrue tells → IsGiven given → RecordsMisfit files name → OrFailed (BadGeometry 6) status
+  pub differs : IsTrue tells → IsGiven given → RecordsOther files name given → OrFailed (BadGeometry 5) status
+  pub unknown : IsTrue tells → TellsNoSlot files name given → OrFailed (BadGeometry 7) status
+  pub short : (bytes : ℕ) → IsTrue tells → IsGiven given → WithSlot files name given (λ slot. IsSmall files name slot bytes) → OrFailed (Small bytes) status
+  pub unfit : IsTrue tells → IsGiven given → WithSlot files name given (IsUnfit Fits files name) → OrFailed (BadGeometry 2) status
 
 -- how printing ends, by the sink's count
 abbrev pub PrintEnds : (sink_before sink_after : ℕ) → Status → Type 0
@@ -119,11 +139,19 @@ ReportPrints IsText before after Done = (text : List ℕ) × IsText text × (aft
 ReportPrints IsText before after SinkFault = (text : List ℕ) × IsText text × TakesPrefix before after text
 ReportPrints IsText before after status = after ≡ before
 
--- neither the slot size nor the map nor the length nor the number of slots refuses the command
-pub record MayReport (Fits : ℕ → Type 0) (files : Files) (name : List ℕ) (slot : ℕ) : Type 0 where
-  pub sized : IsSlotSize slot
-  pub fit : IsFit Fits files name slot
+-- neither what was given nor the map nor the length nor the header area nor the number of slots refuses the command
+pub record MayReport (Fits : ℕ → Type 0) (files : Files) (name : List ℕ) (given : Option ℕ) : Type 0 where
+  pub sized : IsGiven given
+  pub fit : WithSlot files name given (IsFit Fits files name)
 
 -- how a command ends that nothing refuses and no fault meets
 abbrev pub ReportsOrLacksMemory : Status → Type 0
 ReportsOrLacksMemory status = (status ≡ Done) ⊎ (status ≡ Memory)
+
+-- All that is said of a report of the file of this name for what was given: how it ended, what it printed, and what it left of the files.
+pub record IsReport (tells sink_tells : Bool) (Fits : ℕ → Type 0) (Shows : ℕ → List (List ℕ) → List ℕ → Type 0) (files files_after : Files) (name : List ℕ) (given : Option ℕ) (sink sink_after volume volume_after : ℕ) (ended ended_after taken taken_after : List ℕ) (status : Status) : Type 0 where
+  pub ends : ReportEnds Fits given sink sink_after volume volume_after ended ended_after status
+  pub says : IsTrue tells → ReportSays Fits files name given status
+  pub refused : IsRefused tells Fits files name given status
+  pub prints : IsTrue sink_tells → ReportPrints (λ text. IsTrue tells → OfFileFor Shows files name given text) taken taken_after status
+  pub kept : IsTrue tells → IsKeptFor name given files files_after

@@ -1,32 +1,60 @@
-// Making a file of empty slots.
-ghost use Rattle.std.specs.Prelude.{◌≡◌, ◌≤◌, ◌↔◌, IsTrue};
+// Making a file of empty slots, which its header area records.
+ghost use Rattle.std.specs.Prelude.{◌≡◌, ◌+◌, ◌++◌, ◌∷◌, ◌≤◌, ◌↔◌, [], IsTrue};
 ghost use Rattle.db_layout.specs.Layout.{IsSlotSize};
-ghost use Rattle.rock_disk.specs.File.{IsThere};
-ghost use Rattle.file_commands.specs.Create.{IsSlotCount, IsGeometry, CreateEnds, CreateSays, CreateLeaves};
+ghost use Rattle.rock_disk.specs.File.{IsThere, NoneAway};
+ghost use Rattle.file_commands.specs.Create.{IsSlotCount, IsGeometry, IsHalfMade, CreateEnds, CreateSays, CreateLeaves};
+ghost use Rattle.file_commands.specs.Device.{DeviceKept, EndedOne};
 
-use db_layout::{MOST_SLOTS, slot_size_ok};
-use rock_disk::{CreateFault, Volume};
+use crate::recording::record;
+use db_layout::{Geometry, MOST_SLOTS, slot_size_ok};
+use rock_disk::{CreateFault, Volume, created_files_are_in};
 use rock_status::Status;
+use std::alloc::Global;
 
-/// Makes a file of zeros, of the header area and `slots` slots. The slot size is judged first, then
-/// the number of slots, then the name.
-pub fn create_file<V: Volume>(volume: &mut V, name: &str, slot: u32, slots: u32) -> Status
+/// Makes a file with a header area, which records `slot` and `slots`, and so many slots of zeros. The slot size, in
+/// bytes, is judged first, then the number of slots, then the name.
+///
+/// The header area is written and synced once the file is there, by one station, which is ended. So a fault of the disk
+/// may leave the file with a header area of zeros: then it has its slots, but does not record them.
+pub fn create_file<V: Volume>(
+    alloc: Global,
+    volume: &mut V,
+    name: &str,
+    slot: u32,
+    slots: u32,
+) -> Status
     // When each status comes.
-    ensures ends { CreateEnds slot slots (V.faults volume.old) (V.faults volume.new) result }
+    ensures ends { CreateEnds slot slots (V.faults volume.old) (V.faults volume.new)
+        (V.ended volume.old) (V.ended volume.new) result }
     ensures says { IsTrue V.tells → CreateSays (V.files volume.old) name.now result }
     ensures size { (IsSlotSize slot → ⊥) → result ≡ Status.BadGeometry 1 }
     ensures count { IsSlotSize slot → (IsSlotCount slots → ⊥) → result ≡ Status.BadGeometry 4 }
     ensures exists { IsTrue V.tells → IsGeometry slot slots → IsThere (V.files volume.old) name.now
         → result ≡ Status.Exists }
 
-    // What it leaves.
+    // What it leaves. Where a station was made the file is whole.
     ensures leaves { CreateLeaves V.tells slot slots name.now
         (V.files volume.old) (V.files volume.new) result }
+    ensures whole { IsTrue V.tells → (V.made volume.new ≡ V.made volume.old → ⊥)
+        → IsHalfMade slot slots name.now (V.files volume.old) (V.files volume.new) }
+
+    ensures back { IsTrue V.tells → NoneAway (V.files volume.old) → NoneAway (V.files volume.new) }
+
+    // Its station: that of the header area.
+    ensures ended { EndedOne (V.made volume.old) (V.made volume.new)
+        (V.ended volume.old) (V.ended volume.new) }
+    ensures done { result ≡ Status.Done → (V.made volume.new ≡ V.made volume.old + 1)
+        × (V.ended volume.new ≡ V.ended volume.old ++ 0 ∷ []) }
+    ensures none { (result ≡ Status.Done → ⊥) → (result ≡ Status.DeviceFault → ⊥)
+        → (V.made volume.new ≡ V.made volume.old) × (V.ended volume.new ≡ V.ended volume.old) }
+
+    // A fault is told as a fault.
     ensures faults { V.faults volume.old ≤ V.faults volume.new }
-    ensures unfailed { (result ≡ Status.DeviceFault → ⊥) → V.faults volume.new ≡ V.faults volume.old }
-    ensures made { V.made volume.new ≡ V.made volume.old }
-    ensures ended { V.ended volume.new ≡ V.ended volume.old }
+    ensures unfailed { (result ≡ Status.DeviceFault → ⊥)
+        → DeviceKept (V.faults volume.old) (V.faults volume.new)
+        (V.ended volume.old) (V.ended volume.new) }
 {
+    created_files_are_in();
     if !slot_size_ok(slot) {
         return Status::BadGeometry { field: 1 };
     }
@@ -34,10 +62,14 @@ pub fn create_file<V: Volume>(volume: &mut V, name: &str, slot: u32, slots: u32)
         return Status::BadGeometry { field: 4 };
     }
     match volume.create(name, slots, slot) {
+        Ok(()) => {}
+        Err(CreateFault::Exists) => return Status::Exists,
+        Err(CreateFault::Failed) => return Status::DeviceFault,
+        Err(CreateFault::Memory) => return Status::Memory,
+    }
+    match record(alloc, volume, name, &Geometry { slot, slots }) {
         Ok(()) => Status::Done,
-        Err(CreateFault::Exists) => Status::Exists,
-        Err(CreateFault::Failed) => Status::DeviceFault,
-        Err(CreateFault::Memory) => Status::Memory,
+        Err(status) => status,
     }
 }
 

@@ -9,9 +9,9 @@ mod create;
 mod found;
 mod listing;
 mod read;
+mod recording;
 mod report;
 mod summary;
 
 pub use create::create_file;
-pub use found::print_report_for;
 pub use report::{Report, print_report};

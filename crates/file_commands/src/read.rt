@@ -8,7 +8,7 @@ ghost use Rattle.rock_disk.specs.Opened.{AreSlots, IsSmall};
 ghost use Rattle.db_layout.specs.Layout.{IsSlotSize};
 ghost use Rattle.file_commands.specs.Faults.{status_of_open, status_of_rebuild, status_of_station};
 ghost use Rattle.file_commands.specs.Device.{EndedOne, DeviceKept};
-ghost use Rattle.file_commands.specs.Report.{Fits, Prints, OfFile, HasSlots, IsFit, OpenedEnds, ReadEnds, ReportSays, text_of};
+ghost use Rattle.file_commands.specs.Report.{Fits, Prints, OfFile, HasSlots, IsFit, OpenedEnds, ReadEnds, ReadSays, text_of};
 
 use crate::report::{Reading, Report};
 use rock_disk::{
@@ -20,7 +20,7 @@ use rock_status::Status;
 use std::alloc::Global;
 
 /// How a command ends whose file was not opened.
-fn not_opened(fault: OpenFault) -> Status
+pub(crate) fn not_opened(fault: OpenFault) -> Status
     ensures { result ≡ status_of_open fault }
 {
     match fault {
@@ -32,7 +32,7 @@ fn not_opened(fault: OpenFault) -> Status
 }
 
 /// How it ends where no station was made.
-fn no_station(fault: StationFault) -> Status
+pub(crate) fn no_station(fault: StationFault) -> Status
     ensures { result ≡ status_of_station fault }
 {
     match fault {
@@ -146,7 +146,7 @@ pub fn read_file<V: Volume>(
     ensures refused { IfErr result (ReadEnds (Fits report) (V.faults volume.old) (V.faults volume.new)
         (V.ended volume.old) (V.ended volume.new)) }
     ensures says { IsTrue V.tells
-        → IfErr result (ReportSays (Fits report) (V.files volume.old) name.now slot) }
+        → IfErr result (ReadSays (Fits report) (V.files volume.old) name.now slot) }
     ensures missing { IsTrue V.tells → get (V.files volume.old) name.now ≡ None
         → IsErrOf result Status.Missing }
     ensures small { IsTrue V.tells → (bytes : ℕ)

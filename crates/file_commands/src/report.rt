@@ -1,24 +1,24 @@
 // Commands that read a whole file and print what they tell of it.
-ghost use Rattle.std.specs.Prelude.{◌≡◌, ℕ, ◌≤◌, IsTrue, IfOk, IsErrOf, OnOk, OnErr, length, map, ◌++◌, [], None, ◌↔◌};
+ghost use Rattle.std.specs.Prelude.{◌≡◌, ◌≤◌, IsTrue, IfOk, IsErrOf, OnOk, OnErr, length, map, ◌++◌, [], ◌↔◌};
 ghost use Rattle.std.specs.FinMap.{get};
 ghost use Rattle.rock_io.specs.Faults.{Rose};
 ghost use Rattle.rock_io.specs.LineBuffer.{held_of, size_of};
 ghost use Rattle.rock_io.specs.Sink.{TakesPrefix};
 ghost use Rattle.rock_disk.specs.Cell.{CellState};
-ghost use Rattle.rock_disk.specs.File.{IsNotAway, IsKept};
-ghost use Rattle.rock_disk.specs.Opened.{AreSlots, IsSmall};
-ghost use Rattle.db_layout.specs.Layout.{IsSlotSize};
+ghost use Rattle.rock_disk.specs.File.{IsNotAway};
+ghost use Rattle.rock_disk.specs.Opened.{AreSlots};
+ghost use Rattle.slot_finding.specs.Finding.{IsKeptFor, WithSlot};
 ghost use Rattle.file_commands.specs.Device.{EndedOne, DeviceKept};
-ghost use Rattle.file_commands.specs.Report.{IsAnchors, Fits, Prints, OfFile, HasSlots, ReportEnds, ReportSays, ReportPrints, PrintEnds, text_of};
+ghost use Rattle.file_commands.specs.Report.{Fits, IsAnchors, IsRefused, IsUnfit, OfFileFor, PrintEnds, Prints, ReportEnds, ReportPrints, ReportSays, text_of};
 
+use crate::found::read_found;
 use crate::listing::{ListedEntries, listed, print_lines};
-use crate::read::read_file;
 use crate::summary::{print_summary, summed};
-use db_layout::slot_size_ok;
 use rock_disk::{Station, Volume};
 use rock_io::{BUFFER_BYTES, Failed, LineBuffer, Sink};
 use rock_rebuild::{RebuildFault, Tally};
 use rock_status::Status;
+use slot_finding::may_be_given;
 use std::alloc::Global;
 
 /// What a command prints of a file.
@@ -110,7 +110,7 @@ fn print_through<K: Sink>(
 }
 
 /// Prints what was read, through one buffer. Nothing is printed where there is no memory for it.
-pub(crate) fn print_reading<K: Sink>(alloc: Global, out: &mut K, reading: &Reading) -> Status
+fn print_reading<K: Sink>(alloc: Global, out: &mut K, reading: &Reading) -> Status
     ensures ends { PrintEnds (K.faults out.old) (K.faults out.new) result }
     ensures prints { IsTrue K.tells
         → ReportPrints (λ text. text ≡ text_of reading.now) (K.taken out.old) (K.taken out.new) result }
@@ -126,34 +126,30 @@ pub(crate) fn print_reading<K: Sink>(alloc: Global, out: &mut K, reading: &Readi
     }
 }
 
-/// Prints a report of a file. Nothing is printed before the whole file was read and given back.
+/// Prints a report of a file, whose slot size is given, or left to its header area. Nothing is printed before the whole file
+/// was read and given back.
 pub fn print_report<V: Volume, K: Sink>(
     alloc: Global,
     volume: &mut V,
     out: &mut K,
     name: &str,
-    slot: u32,
+    given: Option<u32>,
     report: Report,
 ) -> Status
     requires { IsTrue V.tells → IsNotAway (get (V.files volume.old) name.now) }
 
     // When each status comes.
-    ensures ends { ReportEnds (Fits report) slot (K.faults out.old) (K.faults out.new)
+    ensures ends { ReportEnds (Fits report) given (K.faults out.old) (K.faults out.new)
         (V.faults volume.old) (V.faults volume.new) (V.ended volume.old) (V.ended volume.new) result }
-    ensures says { IsTrue V.tells → ReportSays (Fits report) (V.files volume.old) name.now slot result }
-    ensures refused { (IsSlotSize slot → ⊥) → result ≡ Status.BadGeometry 1 }
-    ensures missing { IsTrue V.tells → IsSlotSize slot → get (V.files volume.old) name.now ≡ None
-        → result ≡ Status.Missing }
-    ensures small { IsTrue V.tells → IsSlotSize slot → (bytes : ℕ)
-        → IsSmall (V.files volume.old) name.now slot bytes → result ≡ Status.Small bytes }
+    ensures says { IsTrue V.tells → ReportSays (Fits report) (V.files volume.old) name.now given result }
+    ensures refused { IsRefused V.tells (Fits report) (V.files volume.old) name.now given result }
 
     // What was printed.
     ensures prints { IsTrue K.tells
-        → ReportPrints (λ text. IsTrue V.tells
-        → OfFile (Prints report slot) (V.files volume.old) name.now slot text)
+        → ReportPrints (λ text. IsTrue V.tells → OfFileFor (Prints report) (V.files volume.old) name.now given text)
         (K.taken out.old) (K.taken out.new) result }
 
-    ensures kept { IsTrue V.tells → IsKept slot name.now (V.files volume.old) (V.files volume.new) }
+    ensures kept { IsTrue V.tells → IsKeptFor name.now given (V.files volume.old) (V.files volume.new) }
     ensures ended { EndedOne (V.made volume.old) (V.made volume.new)
         (V.ended volume.old) (V.ended volume.new) }
     ensures faults { V.faults volume.old ≤ V.faults volume.new }
@@ -166,15 +162,15 @@ pub fn print_report<V: Volume, K: Sink>(
         (V.ended volume.old) (V.ended volume.new) }
 
     // Where the report is not for a file with its number of slots, no station is made.
-    ensures early { IsTrue V.tells → (slots : ℕ)
-        → HasSlots (V.files volume.old) name.now slot slots → (Fits report slots → ⊥)
+    ensures early { IsTrue V.tells
+        → WithSlot (V.files volume.old) name.now given (IsUnfit (Fits report) (V.files volume.old) name.now)
         → (V.made volume.new ≡ V.made volume.old) × (V.ended volume.new ≡ V.ended volume.old)
         × (result ≡ Status.DeviceFault → Rose (V.faults volume.old) (V.faults volume.new)) }
 {
-    if !slot_size_ok(slot) {
+    if !may_be_given(given) {
         return Status::BadGeometry { field: 1 };
     }
-    match read_file(alloc, volume, name, slot, report) {
+    match read_found(alloc, volume, name, given, report) {
         Ok(reading) => print_reading(alloc, out, &reading),
         Err(status) => status,
     }

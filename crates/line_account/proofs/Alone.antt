@@ -21,7 +21,8 @@ use Rattle.script_text.specs.declared.request.Request.{Request}
 use Rattle.script_text.specs.declared.request.Request.TheVariants.{Get, Purge, Put}
 use Rattle.core_model.specs.declared.view.View.{View}
 use Rattle.core_model.specs.Anchors.{opening_counter}
-use Rattle.line_account.specs.Lines.{LineOf, Offers, Served, gives_up, offers, url_in, writing, url_at, begins, ends}
+use Rattle.script_text.specs.Requests.{url_in}
+use Rattle.line_account.specs.Lines.{LineOf, Offers, Served, gives_up, offers, writing, url_at, begins, ends}
 use Rattle.line_account.specs.Deeds.{Began, Begins as BeginsVersion, Halts, PrintsBegunVersion, TellsBegun}
 use Rattle.line_account.specs.Answers.{Run}
 use Rattle.line_account.specs.Accounts.{Shows, epochs_of, epoch_in}
@@ -230,7 +231,7 @@ module _ {X : Type 0} (r : Run X) (w : Worker X) where
       (record { in_ = record { later = []; split = refl }; at = record { url = url; named_is = ap (url_at (lines_in (p ∷ []))) gq; anchor = refl } })
       (record { in_ = record { later = []; split = refl }; at = record { url = url; named_is = ap (url_at []) pq; anchor = refl } })
       (subst (λ (z : Answer). Contains (counts_as z) (epoch_number e)) (sym pa) (0, omega arith, refl)) in
-      let doom : e.doom ≡ true = (stage_in r start (g ∷ p ∷ []) (g ∷ []) p [] o.last refl o.course).adds.tells.purged e pa in
+      let doom : e.doom ≡ true = ((stage_in r start (g ∷ p ∷ []) (g ∷ []) p [] o.last refl o.course).adds.tells.purged e pa).doomed in
       let undoomed : doom_of (epoch_number e) ≡ 0 = order.undoomed y (subst (λ (z : Answer). OpensOrStores z y) (sym ga) refl) same in
       let doomed : doom_of (epoch_number e) ≡ 1 = doom_of-epoch_number e ∙ ap doom_number doom in
       omega arith

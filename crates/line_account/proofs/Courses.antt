@@ -2,6 +2,8 @@
 use Rattle.std.proofs.Common.{◌≡◌, ◌⊎◌, inl, inr, ⊎_elim, ℕ, ◌+◌, List, [], ◌∷◌, ◌++◌, sym, refl, ap, ◌∙◌, subst, Contains, true, false, Bool}
 use Rattle.std.specs.Prelude.{Some, None, count_by}
 use Rattle.std.proofs.lemmas.List.Sums.{sum_by-cons}
+use Rattle.lock_word.specs.declared.epoch.Epoch.{Epoch}
+use Rattle.store_key.specs.Key.{key_of}
 use Rattle.core_model.specs.declared.view.Deed.{Deed}
 use Rattle.core_model.specs.declared.view.Kind.{Kind}
 use Rattle.core_model.specs.declared.view.Kind.TheVariants.{Counted, Drew}
@@ -11,18 +13,19 @@ use Rattle.core_model.specs.Layout.{Setting}
 use Rattle.core_model.proofs.Lists.{contains_none}
 use Rattle.line_account.specs.Lines.{Served}
 use Rattle.line_account.specs.Deeds.{Grows, HasLine, IsDeedOf, IsDeedOfEnd, IsNamed}
-use Rattle.line_account.specs.Answers.{HasAdded, HasGiven, HasHit, HasItem, HasOpened, HasOther, IsEntryAt, IsKeyRead, IsSpent, Run}
+use Rattle.line_account.specs.Answers.{HasAdded, HasGiven, HasHit, HasItem, HasOpened, HasOther, HasPurged, IsEntryAt, IsKeyRead, IsSpent, Run}
 use Rattle.line_account.specs.Accounts.{Account, HasFinished, HasGivenUp, Tells, drew_some, drew_version}
-use Rattle.line_account.specs.Courses.{Adds, Begins, Course, Keeps, Leaves, Stage, lines_in, one_if}
+use Rattle.core_model.specs.Knowing.{KnowsAll}
+use Rattle.line_account.specs.Courses.{Adds, Begins, Course, Leaves, Stage, lines_in, one_if}
 
-module _ {X : Type 0} (k : Setting X) (v w : View X) (h : Keeps v w) where
+module _ {X : Type 0} (k : Setting X) (v w : View X) (h : KnowsAll v w) where
   named_later : (a x : ℕ) (first : Served) → IsNamed k v a x first → IsNamed k w a x first
   named_later a x first n = record { url = n.url; url_is = n.url_is; key0 = h.seen _ n.key0; key1 = h.seen _ n.key1; offer = h.seen _ n.offer }
 
   grows_later : (earlier : List Served) (s : Served) (a x : ℕ) → Grows k v earlier s a x → Grows k w earlier s a x
   grows_later earlier s a x g = record { writes = g.writes; named = named_later a x g.writes.first g.named }
 
-module _ {X : Type 0} (r : Run X) (v w : View X) (h : Keeps v w) where
+module _ {X : Type 0} (r : Run X) (v w : View X) (h : KnowsAll v w) where
   deed_later : (d : Deed) (earlier : List Served) (s : Served) → IsDeedOf r v d earlier s → IsDeedOf r w d earlier s
   deed_later d earlier s o = record {
     entered = o.entered;
@@ -60,6 +63,8 @@ module _ {X : Type 0} (r : Run X) (v w : View X) (h : Keeps v w) where
     offer = i.offer;
     offered = h.seen _ i.offered;
     old = i.old;
+    old_front = i.old_front;
+    old_back = i.old_back;
   }
 
   abbrev opened_later : (s : Served) → HasOpened r v s → HasOpened r w s
@@ -120,6 +125,18 @@ module _ {X : Type 0} (r : Run X) (v w : View X) (h : Keeps v w) where
     old_back = i.old_back;
   }
 
+  purged_later : (s : Served) (e : Epoch) → HasPurged r v s e → HasPurged r w s e
+  purged_later s e p = record {
+    doomed = p.doomed;
+    from = p.from;
+    to = p.to;
+    url = p.url;
+    named = p.named;
+    found = p.found;
+    version_is = p.version_is;
+    keyed = key_later _ p.found (key_of p.url) p.keyed;
+  }
+
   finished_later : (earlier : List Served) (s : Served) (x : ℕ) → HasFinished r.setting v earlier s x → HasFinished r.setting w earlier s x
   finished_later earlier s x f = record { anchor = f.anchor; grows = grows_later r.setting v w h earlier s f.anchor x f.grows }
 
@@ -157,7 +174,9 @@ module _ {X : Type 0} (r : Run X) (v w : View X) (h : Keeps v w) where
     other = λ y q. other_later earlier s (t.other y q);
     halted = t.halted;
     part = t.part;
-    purged = t.purged;
+    halted_version = t.halted_version;
+    part_version = t.part_version;
+    purged = λ e q. purged_later s e (t.purged e q);
     added = λ count q. added_later earlier s count (t.added count q);
     given = λ y q. given_later earlier s (t.given y q);
     tab = t.tab;
@@ -178,6 +197,7 @@ module _ {X : Type 0} (r : Run X) where
     draws = b.draws;
     deeds = λ d h. absurd (contains_none d (subst (λ (ds : List Deed). Contains ds d) b.deeds h));
     lines = λ later earlier s e. absurd (no_line later earlier s e);
+    left = λ e. absurd (let q : false ≡ true = e in cc);
   }
 
   one_more : (v : View X) (d : Deed) (served : List Served) (s : Served) → HasLine r v d served false → HasLine r v d (s ∷ served) false
@@ -202,6 +222,7 @@ module _ {X : Type 0} (r : Run X) where
         (λ (q : (d.pass ≡ v.pass) × IsDeedOf r w d served s). (q.0 ∙ sym n.keeps.pass, inl record { later = []; line = s; earlier = served; split = refl; so = q.1 }))
         (n.deeds d h);
     lines = lines_more w served s n.tells (λ later earlier x e. tells_later r v w n.keeps earlier x (a.lines later earlier x e));
+    left = λ e. absurd (let q : false ≡ true = e in cc);
   }
 
   at_its_end : (w : View X) (d : Deed) (served : List Served) → HasLine r w d served false → HasLine r w d served true
@@ -218,6 +239,7 @@ module _ {X : Type 0} (r : Run X) where
         (λ (q : (d.pass ≡ v.pass) × IsDeedOfEnd r.setting d served). (q.0 ∙ sym n.keeps.pass, inr (refl, q.1)))
         (n.deeds d h);
     lines = λ later earlier x e. tells_later r v w n.keeps earlier x (a.lines later earlier x e);
+    left = λ e. n.halts;
   }
 
   pub account_along : (start end : View X) (stages : List (Stage X)) → Begins r start → Course r start stages end → Account r end (lines_in stages) false

@@ -6,6 +6,7 @@ use mathlib.Core.Logic.{dite}
 use native.Mathlib.Decide.{ℕ_discrete}
 use lib.ListN.{get_elem?}
 use Rattle.core_model.specs.declared.view.Deed.{Deed}
+use Rattle.core_model.specs.Trails.{has_drawn, is_drawn}
 use Rattle.core_model.specs.declared.view.Sight.TheVariants.{Stood}
 use Rattle.core_model.specs.declared.view.View.{View}
 use Rattle.core_model.specs.Anchors.{opening_counter, tabs_in}
@@ -18,7 +19,7 @@ use Rattle.core_model.proofs.StepsKeepTabs.{deeds_have_tabs}
 use Rattle.line_account.specs.Lines.{LineOf, Served, offers}
 use Rattle.line_account.specs.Deeds.{HasLine, IsDeedOf, IsDeedOfEnd}
 use Rattle.line_account.specs.Answers.{Run}
-use Rattle.line_account.specs.Accounts.{Shows, Tells, drew_some, drew_version, has_drawn, is_drawn}
+use Rattle.line_account.specs.Accounts.{Shows, Tells, drew_some, drew_version}
 use Rattle.line_account.specs.Closing.{Closed, IsSameLine, LineIn, ShownIn, Worker, offered, offered_by}
 use Rattle.line_account.proofs.Rows.{left_was, rest, seam_at, split_at, sum_below, sum_none, sum_same, sum_within, sums, taken_or_left}
 

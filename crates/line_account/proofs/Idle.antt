@@ -1,5 +1,6 @@
 -- The workers of a store that was just opened, and who served nothing, are closed.
 use Rattle.std.proofs.Common.{◌≡◌, inl, ⊎_elim, ℕ, ◌+◌, ◌<◌, zero, suc, List, [], ◌∷◌, length, sym, refl, ap, ◌∙◌, subst, arith, Contains, true}
+use Rattle.std.specs.Prelude.{None, Some}
 use Rattle.std.proofs.lemmas.List.Elements.{Contains-append_right}
 use mathlib.Core.Option.{some, some-injective, some-ne-none}
 use mathlib.Core.Logic.{dite}
@@ -41,6 +42,7 @@ module _ {X : Type 0} (r : Run X) where
     drawn = λ x. refl;
     draws = refl;
     deeds = λ d h. inl h;
+    halts = λ a x h. absurd (let z : None ≡ Some h.writes.first = h.writes.begun_is in cc);
   })
 
   -- the worker at a place is a new one

@@ -5,7 +5,9 @@ pub mod Courses
 pub mod Names
 pub mod Printing
 pub mod HitVersions
-pub mod Opened
+pub mod Found
+pub mod Finished
+pub mod Tabs
 pub mod Ordering
 pub mod Parts
 pub mod Scripts
@@ -16,3 +18,4 @@ pub mod Quiet
 pub mod Told
 pub mod Stages
 pub mod Crews
+mod Unexplained

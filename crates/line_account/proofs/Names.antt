@@ -15,7 +15,8 @@ use Rattle.core_model.specs.declared.view.View.{View}
 use Rattle.core_model.specs.Anchors.{opening_counter, opening_epoch}
 use Rattle.core_model.specs.Deeds.{IsDone, IsEpochAt, LeftEpoch}
 use Rattle.core_model.proofs.DeedsTell.{known_taken}
-use Rattle.line_account.specs.Lines.{Offers, Served, begins, begun_of, ends, url_in, writing}
+use Rattle.script_text.specs.Requests.{url_in}
+use Rattle.line_account.specs.Lines.{Offers, Served, begins, begun_of, ends, writing}
 use Rattle.line_account.specs.Deeds.{Began, Begins, Grows, IsDeedOf, IsDeedOfEnd, IsNamed}
 use Rattle.line_account.specs.Answers.{Run}
 use Rattle.line_account.specs.Closing.{BegunIn, Closed, LineIn, Worker}

@@ -76,7 +76,7 @@ opened_below e opened v found h = ⊎_elim
     (λ (m : mode_of opened ≡ 3). let z = found.version_is in ((omega arith), (λ s. omega arith), (λ s. omega arith)))
     (mode_of-readable opened found.readable)
 
-below : (opened looked e : ℕ) (a : Answer) → ((x : ℕ) → Opens a x → FoundAt opened x) → ((f : ℕ) → Contains (epochs_of opened looked a) f → e ≤ f) → NotBelow e a
+pub below : (opened looked e : ℕ) (a : Answer) → ((x : ℕ) → Opens a x → FoundAt opened x) → ((f : ℕ) → Contains (epochs_of opened looked a) f → e ≤ f) → NotBelow e a
 below opened looked e (answer.Stored version) found h = let le = h (epoch_at version 3) (first_of (epoch_at version 3) []) in record {
   epochs = λ f q. absurd (contains_none f q);
   versions = λ x q. let is : version ≡ x = cc in omega arith;

@@ -16,7 +16,8 @@ use Rattle.core_model.specs.declared.view.Sight.TheVariants.{Named, Published, S
 use Rattle.core_model.specs.declared.view.View.{View}
 use Rattle.core_model.specs.Anchors.{opening_counter}
 use Rattle.core_model.proofs.DeedsTell.{known_quiet}
-use Rattle.line_account.specs.Lines.{Served, closes, given, opened_of, opens, reading, url_in, writing}
+use Rattle.script_text.specs.Requests.{url_in}
+use Rattle.line_account.specs.Lines.{Served, closes, given, opened_of, opens, reading, writing}
 use Rattle.line_account.specs.Answers.{HasPart, Run, bytes_behind, bytes_of_tab, given_with, slots_after}
 use Rattle.line_account.specs.Accounts.{Account, Tells}
 use Rattle.line_account.specs.Courses.{Adds, Stage, lines_in}
@@ -27,7 +28,7 @@ use Rattle.line_account.proofs.Rows.{Split}
 use Rattle.line_account.proofs.Courses.{account_after, account_along}
 use Rattle.line_account.proofs.Ordering.{opened_at, stage_in}
 
-reading_among : (t : ℕ) (served : List Served) (b : Served) → reading t served ≡ Some b → Split served b
+pub reading_among : (t : ℕ) (served : List Served) (b : Served) → reading t served ≡ Some b → Split served b
 reading_among t [] b e = absurd (let q : None ≡ Some b = e in cc)
 reading_among t (s ∷ earlier) b e = among (λ q. reading_among t earlier b q) (opens t s.line.request s.answer) (closes t s.line.request s.answer) e
   where

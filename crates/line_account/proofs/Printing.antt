@@ -5,7 +5,7 @@ use Rattle.std.specs.Int.{from_le_bytes, to_le_bytes, w64}
 use Rattle.std.proofs.Math.Decide.{dec_le}
 use Rattle.std.proofs.lemmas.List.{get_or-drop, length-take-le, take-append-drop}
 use Rattle.std.proofs.lemmas.Nat.{le_bytes_8}
-use mathlib.Core.Option.{some-injective}
+use mathlib.Core.Option.{some, some-injective}
 use mathlib.Core.Logic.{dite}
 use native.Mathlib.Decide.{ℕ_discrete}
 use lib.ListN.{get_elem?}
@@ -30,10 +30,11 @@ use Rattle.core_model.specs.declared.view.View.{View}
 use Rattle.core_model.specs.Anchors.{opening_counter, opening_epoch}
 use Rattle.core_model.specs.Deeds.{EnteredByAnother, EvictedVersion, HaltedVersion, IsDone, IsEpochAt, LeftEpoch}
 use Rattle.core_model.proofs.DeedsTell.{known_old}
-use Rattle.line_account.specs.Lines.{Fits, LineOf, Offers, Served, added, begun_of, url_in, writing}
+use Rattle.script_text.specs.Requests.{url_in}
+use Rattle.line_account.specs.Lines.{Fits, LineOf, Offers, Served, added, begun_of, writing}
 use Rattle.line_account.specs.Deeds.{Began, BeganOnTab, Begins, ComesTo, IsDeedOf, IsDeedOfEnd, MayEvict}
 use Rattle.line_account.specs.Requests.{IsAnswerTo}
-use Rattle.line_account.specs.Answers.{ComesIn, HasGiven, HasItem, IsSure, bytes_with, HasOther, IsCauseOf, IsEntryAt, IsLong, IsSpent, ReadAs, Refuses, Run}
+use Rattle.line_account.specs.Answers.{ComesIn, HasGiven, HasItem, IsSure, bytes_with, HasOther, HasPurged, IsCauseOf, IsEntryAt, IsKeyRead, IsLong, IsSpent, ReadAs, Refuses, Run}
 use Rattle.line_account.specs.Accounts.{epoch_in}
 use Rattle.line_account.specs.Closing.{BegunIn, Closed, HaltedIn, LineIn, ShownIn, Worker, offered}
 use Rattle.line_account.specs.Printed.{AnotherComes, EndsBegun, AreFirstOnes, IsStored, ReadsOf, GivenBackIn, HadEntry, HasBusyWords, HasOtherUrl, HitIn, IsBodyOfLine, IsKeyOfLine, IsOldBody, IsOldUrl, KeyIn, NeedsTooMany, PrintsAdded, PrintsHit, PrintsKey, PrintsLarge, PrintsOther, PrintsReaders, old_offer}
@@ -90,19 +91,15 @@ module _ {X : Type 0} (r : Run X) (crew : List (Worker X)) (c : Closed r crew) w
       let k = (tells_at r crew c P p).key epoch key a p.line_of.so.printed p.line_of.so.at in
       old_kept a (epoch_number epoch) (known P p a (epoch_number epoch) k.seen) k.readable low
 
-  pub key_of_old : (a : ℕ) (epoch : Epoch) (key url : List ℕ) → KeyIn r crew a epoch key → version_of (epoch_number epoch) ≤ opening_counter r.setting → IsOldUrl r a url → key ≡ key_of url
-  key_of_old a epoch key url p low old =
-      let k = (tells_at r crew c (λ earlier s. PrintsKey r.setting.anchors earlier s a epoch key) p).key epoch key a p.line_of.so.printed p.line_of.so.at in
-      same_key key (key_of url) k.long (key_is_long url) k.bytes (key_is_bytes url) (k.old_front low ∙ old.front) (k.old_back low ∙ old.back)
+  -- a key of the opening that was read is that of the entry which the anchor had then
+  pub of_old_key : (v : View X) (a e : ℕ) (key url : List ℕ) → IsKeyRead r v a e key → version_of e ≤ opening_counter r.setting → IsOldUrl r a url → key ≡ key_of url
+  of_old_key v a e key url k low old = same_key key (key_of url) k.long (key_is_long url) k.bytes (key_is_bytes url) (k.old_front low ∙ old.front) (k.old_back low ∙ old.back)
 
-  pub key_of_new : (a : ℕ) (epoch : Epoch) (key : List ℕ) → KeyIn r crew a epoch key → opening_counter r.setting < version_of (epoch_number epoch) → IsKeyOfLine r crew a (version_of (epoch_number epoch)) key
-  key_of_new a epoch key p high =
-      let P : List Served → Served → Type 0 = λ earlier s. PrintsKey r.setting.anchors earlier s a epoch key in
-      let k = (tells_at r crew c P p).key epoch key a p.line_of.so.printed p.line_of.so.at in
-      let n = names_of r crew c a (epoch_number epoch) (known P p a (epoch_number epoch) k.seen) k.readable high in
-      let there = c.at p.j p.worker p.at in
-      let here = c.at n.j n.worker n.at in
-      let agree = c.sound.anchors.seen.agree (c.index p.j) (c.index n.j) p.worker.view n.worker.view there here a (version_of (epoch_number epoch)) in
+  -- one of a later version is that of the line which began the version
+  pub of_new_key : (j : ℕ) (w : Worker X) → get_elem? crew j ≡ some w → (a e : ℕ) (key : List ℕ) → IsKeyRead r w.view a e key → opening_counter r.setting < version_of e → IsKeyOfLine r crew a (version_of e) key
+  of_new_key j w at a e key k high =
+      let n = names_of r crew c a e (inr (c.index j, w.view, c.at j w at, k.seen)) k.readable high in
+      let agree = c.sound.anchors.seen.agree (c.index j) (c.index n.j) w.view n.worker.view (c.at j w at) (c.at n.j n.worker n.at) a (version_of e) in
       record {
         begun = n.begun;
         url = n.named.url;
@@ -112,16 +109,26 @@ module _ {X : Type 0} (r : Run X) (crew : List (Worker X)) (c : Closed r crew) w
             (agree Key1 (back_half key) (back_half (key_of n.named.url)) k.back n.named.key1);
       }
 
+  pub key_of_old : (a : ℕ) (epoch : Epoch) (key url : List ℕ) → KeyIn r crew a epoch key → version_of (epoch_number epoch) ≤ opening_counter r.setting → IsOldUrl r a url → key ≡ key_of url
+  key_of_old a epoch key url p low old =
+      let k = (tells_at r crew c (λ earlier s. PrintsKey r.setting.anchors earlier s a epoch key) p).key epoch key a p.line_of.so.printed p.line_of.so.at in
+      of_old_key p.worker.view a (epoch_number epoch) key url k low old
+
+  pub key_of_new : (a : ℕ) (epoch : Epoch) (key : List ℕ) → KeyIn r crew a epoch key → opening_counter r.setting < version_of (epoch_number epoch) → IsKeyOfLine r crew a (version_of (epoch_number epoch)) key
+  key_of_new a epoch key p high =
+      let k = (tells_at r crew c (λ earlier s. PrintsKey r.setting.anchors earlier s a epoch key) p).key epoch key a p.line_of.so.printed p.line_of.so.at in
+      of_new_key p.j p.worker p.at a (epoch_number epoch) key k high
+
   -- Offers.
 
   -- the offer of a new version that a worker read is that of the line that began it
-  record IsOfLine (a x offer : ℕ) : Type 0 where
-    begun : BegunIn r crew a x
-    made : HasOffer begun.line_of.line.line.request
-    url_is : r.url offer ≡ made.url
-    body_is : r.body offer ≡ bytes_of made.body
+  pub record IsOfLine (a x offer : ℕ) : Type 0 where
+    pub begun : BegunIn r crew a x
+    pub made : HasOffer begun.line_of.line.line.request
+    pub url_is : r.url offer ≡ made.url
+    pub body_is : r.body offer ≡ bytes_of made.body
 
-  of_line : (P : List Served → Served → Type 0) (p : LineIn crew P) (a e : ℕ) (url : List ℕ) (i : IsEntryAt r p.worker.view a e url) → opening_counter r.setting < version_of e → IsOfLine a (version_of e) i.offer
+  pub of_line : (P : List Served → Served → Type 0) (p : LineIn crew P) (a e : ℕ) (url : List ℕ) (i : IsEntryAt r p.worker.view a e url) → opening_counter r.setting < version_of e → IsOfLine a (version_of e) i.offer
   of_line P p a e url i high =
       let n = names_of r crew c a e (known P p a e i.seen) i.readable high in
       let same : i.offer ≡ r.setting.slots + n.begun.line_of.line.line.number = c.sound.anchors.seen.agree (c.index p.j) (c.index n.j) p.worker.view n.worker.view
@@ -399,8 +406,15 @@ module _ {X : Type 0} (r : Run X) (crew : List (Worker X)) (c : Closed r crew) w
             );
           })
 
+  told_purged : (e : Epoch) (p : LineIn crew (λ earlier s. s.answer ≡ answer.Purged e)) → HasPurged r p.worker.view p.line_of.line e
+  told_purged e p = (tells_at r crew c (λ earlier s. s.answer ≡ answer.Purged e) p).purged e p.line_of.so
+
   pub purged_told : (e : Epoch) → LineIn crew (λ earlier s. s.answer ≡ answer.Purged e) → e.doom ≡ true
-  purged_told e p = (tells_at r crew c (λ earlier s. s.answer ≡ answer.Purged e) p).purged e p.line_of.so
+  purged_told e p = (told_purged e p).doomed
+
+  -- a doom leaves the entry at APPENDING, CLOSED or HALTED
+  pub purged_stage : (e : Epoch) → LineIn crew (λ earlier s. s.answer ≡ answer.Purged e) → (2 ≤ stage_of (epoch_number e)) × (stage_of (epoch_number e) ≤ 4)
+  purged_stage e p = ((told_purged e p).from, (told_purged e p).to)
 
   -- Ends of writings.
 

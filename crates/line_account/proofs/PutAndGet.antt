@@ -1,6 +1,6 @@
 -- A put and a get have an account.
 use Rattle.std.proofs.Common.{length, ◌≡◌, inl, inr, ⊎_elim, ℕ, ◌+◌, ◌<◌, List, [], ◌∷◌, sym, refl, ap, ◌∙◌, subst, arith, true, false, Contains}
-use Rattle.std.specs.Prelude.{Some}
+use Rattle.std.specs.Prelude.{None, Some}
 use Rattle.std.proofs.lemmas.List.Elements.{Contains-append_right}
 use Rattle.store_key.specs.Anchor.{anchor_of, back_half, front_half}
 use Rattle.store_key.specs.Key.{key_of}
@@ -189,6 +189,8 @@ module _ {X : Type 0} (r : Run X) (url : List ℕ) (o : OffersNothing r url) whe
     other = λ t h. absurd (let z : answer.Stored x ≡ answer.OtherUrl = h in cc);
     halted = λ bytes h. absurd (let z : answer.Stored x ≡ answer.Halted bytes = h in cc);
     part = λ e bytes h. absurd (let z : answer.Stored x ≡ answer.Part e bytes = h in cc);
+    halted_version = λ bytes h. absurd (let z : answer.Stored x ≡ answer.Halted bytes = h in cc);
+    part_version = λ e bytes h. absurd (let z : answer.Stored x ≡ answer.Part e bytes = h in cc);
     purged = λ e h. absurd (let z : answer.Stored x ≡ answer.Purged e = h in cc);
     added = λ n h. absurd (let z : answer.Stored x ≡ answer.Added n = h in cc);
     given = λ t h. absurd h;
@@ -204,6 +206,8 @@ module _ {X : Type 0} (r : Run X) (url : List ℕ) (o : OffersNothing r url) whe
     offer = r.setting.slots + 1;
     offered = subst (λ y. Contains v.seen (Named a y Offer (r.setting.slots + 1))) (sym version) offer_seen;
     old = λ low. absurd (let z = version in omega arith);
+    old_front = λ low. absurd (let z = version in omega arith);
+    old_back = λ low. absurd (let z = version in omega arith);
   }
 
   abbrev opened : HasOpened r v get
@@ -253,6 +257,8 @@ module _ {X : Type 0} (r : Run X) (url : List ℕ) (o : OffersNothing r url) whe
     other = λ t h. absurd (let z : answer.Hit x [] ≡ answer.OtherUrl = h in cc);
     halted = λ bytes h. absurd (let z : answer.Hit x [] ≡ answer.Halted bytes = h in cc);
     part = λ e bytes h. absurd (let z : answer.Hit x [] ≡ answer.Part e bytes = h in cc);
+    halted_version = λ bytes h. absurd (let z : answer.Hit x [] ≡ answer.Halted bytes = h in cc);
+    part_version = λ e bytes h. absurd (let z : answer.Hit x [] ≡ answer.Part e bytes = h in cc);
     purged = λ e h. absurd (let z : answer.Hit x [] ≡ answer.Purged e = h in cc);
     added = λ n h. absurd (let z : answer.Hit x [] ≡ answer.Added n = h in cc);
     given = λ t h. get_given;
@@ -266,4 +272,5 @@ module _ {X : Type 0} (r : Run X) (url : List ℕ) (o : OffersNothing r url) whe
     draws = refl;
     deeds = deeds;
     lines = lines_more r v (put ∷ []) get get_tells (lines_more r v [] put put_tells (λ later earlier s e. absurd (no_line r later earlier s e)));
+    left = λ e b z h. absurd (let n : None ≡ Some h.writes.first = h.writes.begun_is in cc);
   }

@@ -14,14 +14,15 @@ use Rattle.core_model.specs.declared.view.Deed.{Deed}
 use Rattle.core_model.specs.declared.view.Item.{Item}
 use Rattle.core_model.specs.declared.view.Sight.{Sight}
 use Rattle.core_model.specs.declared.view.View.{View}
-use Rattle.core_model.specs.Trails.{drawn, draws}
+use Rattle.core_model.specs.Trails.{drawn, draws, has_drawn, is_drawn}
 use Rattle.core_model.proofs.Lists.{contains_none}
 use Rattle.line_account.specs.Lines.{Fits, Offers, Served, gives_up}
 use Rattle.line_account.specs.Requests.{IsAnswerTo}
 use Rattle.line_account.specs.Deeds.{Began}
 use Rattle.line_account.specs.Answers.{ComesIn, Reads, Refuses, Run}
-use Rattle.line_account.specs.Accounts.{IsOffered, Tells, drew_some, drew_version, epochs_of, has_drawn, is_drawn}
-use Rattle.line_account.specs.Courses.{Adds, Keeps, one_if}
+use Rattle.line_account.specs.Accounts.{IsOffered, Tells, drew_some, drew_version, epochs_of}
+use Rattle.core_model.specs.Knowing.{KnowsAll}
+use Rattle.line_account.specs.Courses.{Adds, one_if}
 use Rattle.line_account.specs.Steps.{AtMark, IsAfter, IsIdle, IsMarkLine, IsTabLine}
 
 -- Lists of what steps added.
@@ -35,7 +36,7 @@ draws_added [] trail = omega arith
 draws_added (i ∷ items) trail = let h = draws_added items trail in omega arith
 
 module _ {X : Type 0} (v w : View X) (items : List Item) (sights : List Sight) (done : List Deed) (meetings : List ℕ) (h : IsAfter v items sights done meetings w) where
-  pub keeps : Keeps v w
+  pub keeps : KnowsAll v w
   keeps = record {
     pass = h.pass;
     seen = λ x c. subst (λ (l : List Sight). Contains l x) (sym h.seen) (Contains-append_right sights v.seen x c);
@@ -307,6 +308,8 @@ module _ {X : Type 0} (r : Run X) where
     other = λ t h. absurd (q.other h);
     halted = λ bytes h. absurd (q.halted bytes h);
     part = λ e bytes h. absurd (q.part e bytes h);
+    halted_version = λ bytes h. absurd (q.halted bytes h);
+    part_version = λ e bytes h. absurd (q.part e bytes h);
     purged = λ e h. absurd (q.purged e h);
     added = λ n h. absurd (q.added n h);
     given = λ t h. absurd (q.reads h);

@@ -10,7 +10,8 @@ use Rattle.core_model.specs.Deeds.{DoomedVersion, HaltedVersion, IsDone, LeftEpo
 use Rattle.core_model.proofs.DeedsTell.{known_halted, known_old, known_quiet, known_taken}
 use Rattle.store_key.specs.Anchor.{anchor_of}
 use Rattle.store_key.specs.Key.{key_of}
-use Rattle.line_account.specs.Lines.{IsAnchorOf, IsAt, Served, offers, url_in}
+use Rattle.script_text.specs.Requests.{url_in}
+use Rattle.line_account.specs.Lines.{IsAnchorOf, IsAt, Served, offers}
 use Rattle.script_text.specs.declared.answer.Answer.{Answer}
 use Rattle.script_text.specs.declared.answer.Answer.TheVariants as answer
 use Rattle.script_text.specs.declared.request.Request.{Request}
@@ -168,11 +169,11 @@ module _ {X : Type 0} (r : Run X) (crew : List (Worker X)) (c : Closed r crew) w
       (λ d served q h. h.doomed q.0)
       (c.sound.anchors.deeds.doomed a e (shown_known r crew c a e p) doom)
 
-  first_of_one : (e : ℕ) (es : List ℕ) → es ≡ e ∷ [] → Contains es e
+  pub first_of_one : (e : ℕ) (es : List ℕ) → es ≡ e ∷ [] → Contains es e
   first_of_one e es h = subst (λ (l : List ℕ). Contains l e) (sym h) (0, omega arith, refl)
 
   -- the lines of these records show what this list has
-  shows : (P : List Served → Served → Type 0) (p : LineIn crew P) (a e : ℕ) → IsAt r.setting.anchors p.line_of.earlier p.line_of.line a → Contains (epochs_of p.line_of.line.opened p.line_of.line.looked p.line_of.line.answer) e → ShownIn r crew a e
+  pub shows : (P : List Served → Served → Type 0) (p : LineIn crew P) (a e : ℕ) → IsAt r.setting.anchors p.line_of.earlier p.line_of.line a → Contains (epochs_of p.line_of.line.opened p.line_of.line.looked p.line_of.line.answer) e → ShownIn r crew a e
   shows P p a e at h = record {
     j = p.j;
     worker = p.worker;

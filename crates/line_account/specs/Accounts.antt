@@ -14,11 +14,11 @@ use Rattle.core_model.specs.declared.view.Sight.TheVariants.{Stood}
 use Rattle.core_model.specs.declared.view.View.{View}
 use Rattle.core_model.specs.Anchors.{opening_epoch}
 use Rattle.core_model.specs.Layout.{Setting}
-use Rattle.core_model.specs.Trails.{drawn, draws}
+use Rattle.core_model.specs.Trails.{drawn, draws, has_drawn, is_drawn}
 use Rattle.line_account.specs.Lines.{Fits, IsAt, Offers, Served, Writes, gives_up, offers}
 use Rattle.line_account.specs.Requests.{IsAnswerTo}
-use Rattle.line_account.specs.Deeds.{Began, Grows, HasLine}
-use Rattle.line_account.specs.Answers.{ComesIn, HasAdded, HasGiven, HasHit, HasOpened, HasOther, IsBusy, IsCauseOf, IsKeyRead, IsLarge, IsLong, IsSpent, Reads, Refuses, Run}
+use Rattle.line_account.specs.Deeds.{Began, Grows, HasLine, IsWriting}
+use Rattle.line_account.specs.Answers.{ComesIn, HasAdded, HasGiven, HasHit, HasOpened, HasOther, HasPurged, IsBusy, IsCauseOf, IsKeyRead, IsLarge, IsLong, IsOfOpened, IsSpent, Reads, Refuses, Run}
 
 -- the epoch of a cause
 abbrev pub epoch_in : Cause → Epoch
@@ -70,6 +70,13 @@ pub record HasGivenUp {X : Type 0} (anchors : ℕ) (v : View X) (earlier : List 
   pub halted : stage_of epoch ≡ 4
   pub seen : Contains v.seen (Stood anchor epoch)
 
+-- the worker has seen the version x of the anchor a at HALTED
+pub record HasHalted {X : Type 0} (v : View X) (a x : ℕ) : Type 0 where
+  pub epoch : ℕ
+  pub version_is : version_of epoch ≡ x
+  pub halted : stage_of epoch ≡ 4
+  pub seen : Contains v.seen (Stood a epoch)
+
 -- what a line offers is the offer of its number, behind the slots
 pub record IsOffered {X : Type 0} (r : Run X) (s : Served) (url : List ℕ) (body : Body) : Type 0 where
   pub url_is : r.url (r.setting.slots + s.line.number) ≡ url
@@ -97,22 +104,16 @@ pub record Tells {X : Type 0} (r : Run X) (v : View X) (earlier : List Served) (
   pub other : IsTrue r.tells → s.answer ≡ answer.OtherUrl → HasOther r v earlier s
   pub halted : (bytes : List ℕ) → s.answer ≡ answer.Halted bytes → stage_of s.looked ≡ 4
   pub part : (e : Epoch) (bytes : List ℕ) → s.answer ≡ answer.Part e bytes → stage_of (epoch_number e) ≡ 2
-  pub purged : (e : Epoch) → s.answer ≡ answer.Purged e → e.doom ≡ true
+  pub halted_version : (bytes : List ℕ) → s.answer ≡ answer.Halted bytes → IsOfOpened earlier s s.looked
+  pub part_version : (e : Epoch) (bytes : List ℕ) → s.answer ≡ answer.Part e bytes → IsOfOpened earlier s (epoch_number e)
+  pub purged : (e : Epoch) → s.answer ≡ answer.Purged e → HasPurged r v s e
   pub added : (count : ℕ) → s.answer ≡ answer.Added count → HasAdded r v earlier s count
   pub given : IsTrue r.tells → Reads s.answer → HasGiven r v earlier s
   pub tab : (s.answer ≡ answer.Tab) ↔ ¬ Fits earlier s.line.request  -- exactly where its tab is not as it needs it
 
 -- whether a line drew the version x, and whether it drew one
-abbrev pub is_drawn : ℕ → Option ℕ → Bool
-is_drawn x None = false
-is_drawn x (Some y) = y == x
-
 abbrev pub drew_version : ℕ → Served → Bool
 drew_version x s = is_drawn x s.drew
-
-abbrev pub has_drawn : Option ℕ → Bool
-has_drawn None = false
-has_drawn (Some x) = true
 
 abbrev pub drew_some : Served → Bool
 drew_some s = has_drawn s.drew
@@ -125,3 +126,5 @@ pub record Account {X : Type 0} (r : Run X) (v : View X) (served : List Served) 
   pub draws : draws v.trail ≡ count_by drew_some served  -- and one by as many lines as drew one
   pub deeds : (d : Deed) → Contains v.deeds d → (d.pass ≡ v.pass) × HasLine r v d served at_end  -- each deed is the worker's own, and has its line
   pub lines : (later earlier : List Served) (s : Served) → served ≡ later ++ s ∷ earlier → Tells r v earlier s  -- each line tells what it should
+  -- at the end it halted what its tabs still wrote
+  pub left : at_end ≡ true → (a x : ℕ) → IsWriting r.setting.anchors served a x → HasHalted v a x

@@ -5,7 +5,7 @@ use Rattle.store_key.specs.Anchor.{anchor_of, back_half, front_half}
 use Rattle.store_key.specs.Key.{key_of}
 use Rattle.store_key.specs.Url.{IsUrl}
 use Rattle.lock_word.specs.Cause.{cause_of}
-use Rattle.lock_word.specs.Words.{epoch_number, is_idle, is_readable, is_vacant, version_limit, version_of, word_number}
+use Rattle.lock_word.specs.Words.{epoch_number, is_idle, is_readable, is_vacant, stage_of, version_limit, version_of, word_number}
 use Rattle.lock_word.specs.declared.cause.Cause.{Cause}
 use Rattle.lock_word.specs.declared.epoch.Epoch.{Epoch}
 use Rattle.lock_word.specs.declared.word.Word.{Word}
@@ -23,7 +23,8 @@ use Rattle.core_model.specs.declared.view.Sight.TheVariants.{Named, Published, S
 use Rattle.core_model.specs.declared.view.View.{View}
 use Rattle.core_model.specs.Anchors.{opening_counter}
 use Rattle.core_model.specs.Layout.{Setting, word_in}
-use Rattle.line_account.specs.Lines.{IsAt, Served, added, begun_by, bytes_given, bytes_in, offers, opened_by, reading, url_in, writing}
+use Rattle.script_text.specs.Requests.{url_in}
+use Rattle.line_account.specs.Lines.{IsAt, Served, added, begun_by, bytes_given, bytes_in, offers, opened_by, reading, writing}
 
 -- What does not change during a run: the setting of the store, how many bytes of a content a slot takes, and the URL and the body of
 -- each offer. One below the slots is the entry of the file that begins at this slot, and another is that of a line. Where the cells do
@@ -132,6 +133,10 @@ pub record IsEntryAt {X : Type 0} (r : Run X) (v : View X) (a e : ℕ) (url : Li
   pub offer : ℕ
   pub offered : Contains v.seen (Named a (version_of e) Offer offer)
   pub old : version_of e ≤ opening_counter r.setting → offer ≡ word_in r.setting r.setting.words (Beside Offer a)
+  pub old_front : version_of e ≤ opening_counter r.setting
+      → front_half (key_of url) ≡ word_in r.setting r.setting.words (Beside Key0 a)
+  pub old_back : version_of e ≤ opening_counter r.setting
+      → back_half (key_of url) ≡ word_in r.setting r.setting.words (Beside Key1 a)
 
 -- the answers to a line that opened an entry of this version, on a tab or to read it at once; not each tells the version
 abbrev pub OpenedAs : Answer → ℕ → Type 0
@@ -157,6 +162,22 @@ pub record HasOpened {X : Type 0} (r : Run X) (v : View X) (s : Served) : Type 0
   pub named : url_in s.line.request ≡ Some url
   pub entry : IsEntryAt r v (anchor_of (key_of url) r.setting.anchors) s.opened url
   pub told : ComesIn s.line.request s.answer (version_of s.opened)
+
+-- PURGED: the entry was found at an epoch at which it may be read, of the version that was doomed, with the key of the line's URL. The doom
+-- left it at APPENDING, CLOSED or HALTED.
+pub record HasPurged {X : Type 0} (r : Run X) (v : View X) (s : Served) (e : Epoch) : Type 0 where
+  pub doomed : e.doom ≡ true
+  pub from : 2 ≤ stage_of (epoch_number e)
+  pub to : stage_of (epoch_number e) ≤ 4
+  pub url : List ℕ
+  pub named : url_in s.line.request ≡ Some url
+  pub found : ℕ
+  pub version_is : version_of found ≡ version_of (epoch_number e)
+  pub keyed : IsKeyRead r v (anchor_of (key_of url) r.setting.anchors) found (key_of url)
+
+-- the epoch is of the version at which the entry was opened that the line reads
+abbrev pub IsOfOpened : List Served → Served → ℕ → Type 0
+IsOfOpened earlier s e = (first : Served) → opened_by earlier s ≡ Some first → version_of e ≡ version_of first.opened
 
 -- HIT: the bytes are the whole body of the offer, and the URL is its URL
 pub record HasHit {X : Type 0} (r : Run X) (v : View X) (s : Served) (bytes : List ℕ) : Type 0 where

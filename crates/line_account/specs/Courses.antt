@@ -4,23 +4,15 @@ use Rattle.lock_word.specs.Words.{epoch_number}
 use Rattle.lock_word.specs.declared.epoch.Epoch.{Epoch}
 use Rattle.script_text.specs.declared.answer.Answer.TheVariants as answer
 use Rattle.core_model.specs.declared.view.Deed.{Deed}
-use Rattle.core_model.specs.declared.view.Item.{Item}
-use Rattle.core_model.specs.declared.view.Sight.{Sight}
 use Rattle.core_model.specs.declared.view.Sight.TheVariants.{Stood}
 use Rattle.core_model.specs.declared.view.View.{View}
 use Rattle.core_model.specs.Anchors.{opening_epoch}
+use Rattle.core_model.specs.Knowing.{KnowsAll}
 use Rattle.core_model.specs.Trails.{drawn, draws, seen_at}
 use Rattle.line_account.specs.Lines.{Served}
-use Rattle.line_account.specs.Deeds.{IsDeedOf, IsDeedOfEnd}
+use Rattle.line_account.specs.Deeds.{IsDeedOf, IsDeedOfEnd, IsWriting}
 use Rattle.line_account.specs.Answers.{HasPart, Run}
-use Rattle.line_account.specs.Accounts.{Shows, Tells, drew_some, drew_version}
-
--- with the view w a worker knows all that it knew with the view v
-pub record Keeps {X : Type 0} (v w : View X) : Type 0 where
-  pub pass : w.pass ≡ v.pass
-  pub seen : (x : Sight) → Contains v.seen x → Contains w.seen x
-  pub trail : (x : Item) → Contains v.trail x → Contains w.trail x
-  pub met : (a : ℕ) → Contains v.met a → Contains w.met a
+use Rattle.line_account.specs.Accounts.{HasHalted, Shows, Tells, drew_some, drew_version}
 
 -- 1 where it is so
 abbrev pub one_if : Bool → ℕ
@@ -29,7 +21,7 @@ one_if b = cond b 1 0
 -- What the line s adds, after these lines, where the worker had the view v before it and has w after it: it draws what it says, each new
 -- deed is its own, each epoch that it shows is not below what the worker had seen there, and it tells what it should.
 pub record Adds {X : Type 0} (r : Run X) (v : View X) (earlier : List Served) (s : Served) (w : View X) : Type 0 where
-  pub keeps : Keeps v w
+  pub keeps : KnowsAll v w
   pub drawn : (x : ℕ) → drawn x w.trail ≡ one_if (drew_version x s) + drawn x v.trail
   pub draws : draws w.trail ≡ one_if (drew_some s) + draws v.trail
   pub deeds : (d : Deed) → Contains w.deeds d → Contains v.deeds d ⊎ ((d.pass ≡ v.pass) × IsDeedOf r w d earlier s)
@@ -39,10 +31,11 @@ pub record Adds {X : Type 0} (r : Run X) (v : View X) (earlier : List Served) (s
 
 -- what the end adds, after all lines
 pub record Leaves {X : Type 0} (r : Run X) (v : View X) (served : List Served) (w : View X) : Type 0 where
-  pub keeps : Keeps v w
+  pub keeps : KnowsAll v w
   pub drawn : (x : ℕ) → drawn x w.trail ≡ drawn x v.trail
   pub draws : draws w.trail ≡ draws v.trail
   pub deeds : (d : Deed) → Contains w.deeds d → Contains v.deeds d ⊎ ((d.pass ≡ v.pass) × IsDeedOfEnd r.setting d served)
+  pub halts : (a x : ℕ) → IsWriting r.setting.anchors served a x → HasHalted w a x  -- it halted each version that a tab still wrote
 
 -- a worker that served nothing yet: it drew and did nothing, and has seen the epochs of the opening
 pub record Begins {X : Type 0} (r : Run X) (v : View X) : Type 0 where

@@ -14,7 +14,8 @@ use Rattle.core_model.specs.declared.view.Kind.TheVariants.{Changed, Doomed, Ent
 use Rattle.core_model.specs.declared.view.Sight.TheVariants.{Named}
 use Rattle.core_model.specs.declared.view.View.{View}
 use Rattle.core_model.specs.Layout.{Setting}
-use Rattle.line_account.specs.Lines.{IsAnchorOf, IsWritingOf, LineOf, Served, Writes, gives_up, url_in, writing}
+use Rattle.script_text.specs.Requests.{url_in}
+use Rattle.line_account.specs.Lines.{IsAnchorOf, IsWritingOf, LineOf, Served, Writes, gives_up, writing}
 use Rattle.line_account.specs.Answers.{Run}
 
 -- a request that comes to the entry of a URL to read or to purge it

@@ -1,13 +1,13 @@
 -- Where the epochs and the versions come from that lines print.
 use Rattle.std.specs.Prelude.{List, true, ◌<◌, ◌≡◌, ◌≢◌, ◌≤◌, ◌⊎◌, ℕ}
-use Rattle.lock_word.specs.Words.{doom_of, stage_of, version_of}
+use Rattle.lock_word.specs.Words.{doom_of, epoch_number, stage_of, version_of}
 use Rattle.lock_word.specs.declared.epoch.Epoch.{Epoch}
 use Rattle.script_text.specs.declared.answer.Answer.TheVariants as answer
 use Rattle.core_model.specs.Anchors.{opening_counter, opening_epoch}
 use Rattle.line_account.specs.Answers.{Run}
 use Rattle.line_account.specs.Closing.{BegunIn, HaltedIn, LineIn, PrintsDoomed, PrintsHalted, PurgedIn, ShownIn, SomeHalted, StoredIn, Worker}
 use Rattle.line_account.specs.Order.{PrintsAlone}
-use Rattle.line_account.specs.Printed.{GivenBackIn, HadEntry, PrintsOpen}
+use Rattle.line_account.specs.Printed.{Finds, GivenBackIn, HadEntry}
 
 module _ {X : Type 0} (r : Run X) (crew : List (Worker X)) where
   pub record EpochsHaveCauses : Type 0 where
@@ -21,8 +21,9 @@ module _ {X : Type 0} (r : Run X) (crew : List (Worker X)) where
     -- so is a version that is printed alone, by BEGUN, STORED, DOOMED, OPEN or HIT
     pub alone_old : (a x : ℕ) → LineIn crew (λ earlier s. PrintsAlone r.setting.anchors earlier s a x) → x ≤ opening_counter r.setting → x ≡ version_of (opening_epoch r.setting a)
     pub alone_new : (a x : ℕ) → LineIn crew (λ earlier s. PrintsAlone r.setting.anchors earlier s a x) → opening_counter r.setting < x → BegunIn r crew a x
-    -- and a version of the opening is opened only where the anchor had an entry then
-    pub opened_old : (a x : ℕ) → LineIn crew (λ earlier s. PrintsOpen r.setting.anchors s a x) → x ≤ opening_counter r.setting → HadEntry r a
+    -- and OPEN, HIT, PURGED and the PART of a `get` have a version of the opening only where the anchor had an entry then
+    pub found_old : (a x : ℕ) (url : List ℕ) → LineIn crew (λ earlier s. Finds r.setting.anchors s a x url) → x ≤ opening_counter r.setting
+        → HadEntry r a
     -- a begun version is CLOSED and not doomed only where its writing printed STORED
     pub stored : (a e : ℕ) → ShownIn r crew a e → opening_counter r.setting < version_of e → doom_of e ≡ 0 → stage_of e ≡ 3 → StoredIn r crew a (version_of e)
     -- an epoch is at HALTED only where the writing of its version was halted, and HALTED is printed only where a writing at the anchor was
@@ -31,7 +32,9 @@ module _ {X : Type 0} (r : Run X) (crew : List (Worker X)) where
     -- an epoch is doomed, and DOOMED printed, only where a line printed PURGED with the version
     pub doomed : (a e : ℕ) → ShownIn r crew a e → doom_of e ≡ 1 → PurgedIn r crew a (version_of e)
     pub doomed_line : (a x : ℕ) → LineIn crew (λ earlier s. PrintsDoomed r.setting.anchors earlier s a x) → PurgedIn r crew a x
-    -- the epoch of PURGED is doomed
+    -- the epoch of PURGED is doomed, and at APPENDING, CLOSED or HALTED
     pub purged : (e : Epoch) → LineIn crew (λ earlier s. s.answer ≡ answer.Purged e) → e.doom ≡ true
+    pub purged_stage : (e : Epoch) → LineIn crew (λ earlier s. s.answer ≡ answer.Purged e)
+        → (2 ≤ stage_of (epoch_number e)) × (stage_of (epoch_number e) ≤ 4)
     -- an epoch at HALTED, FREEING or GONE is not doomed only where the writing of its version was halted, or some line may have evicted an entry
     pub given_back : (a e : ℕ) → ShownIn r crew a e → doom_of e ≡ 0 → 4 ≤ stage_of e → GivenBackIn r crew a (version_of e)

@@ -18,4 +18,5 @@ pub mod Bodies
 pub mod Versions
 pub mod Epochs
 pub mod Ordering
+pub mod Tabs
 pub mod Rules

@@ -2,12 +2,13 @@
 use Rattle.std.specs.Prelude.{◌&&◌, ◌+◌, ◌++◌, ◌==◌, ◌||◌, ◌∷◌, ◌≡◌, ◌≢◌, Bool, List, None, Option, Some, [], cond, false, length, true, ℕ}
 use Rattle.store_key.specs.Anchor.{anchor_of}
 use Rattle.store_key.specs.Key.{key_of}
+use Rattle.script_text.specs.Requests.{url_in}
 use Rattle.script_text.specs.declared.answer.Answer.{Answer}
 use Rattle.script_text.specs.declared.answer.Answer.TheVariants as answer
 use Rattle.script_text.specs.declared.body.Body.{Body}
 use Rattle.script_text.specs.declared.line.Line.{Line}
 use Rattle.script_text.specs.declared.request.Request.{Request}
-use Rattle.script_text.specs.declared.request.Request.TheVariants.{Add, Begin, CloseTab, DropTab, End, Get, More, OpenTab, Purge, Put, Save}
+use Rattle.script_text.specs.declared.request.Request.TheVariants.{Add, Begin, CloseTab, DropTab, End, Get, More, OpenTab, Put, Save}
 
 -- A line that was served, and its answer. Three things that are not printed stand beside them: the version that the line drew, if it
 -- drew one, and the epochs at which it opened an entry and looked at one last. A worker's lines stand with the newest first.
@@ -33,15 +34,6 @@ offers (Put url body) = true
 offers (Save url body) = true
 offers (Begin tab url body) = true
 offers _ = false
-
-abbrev pub url_in : Request → Option (List ℕ)
-url_in (Put url body) = Some url
-url_in (Save url body) = Some url
-url_in (Get url) = Some url
-url_in (Purge url) = Some url
-url_in (Begin tab url body) = Some url
-url_in (OpenTab tab url) = Some url
-url_in _ = None
 
 abbrev pub is_begun : Answer → Bool
 is_begun (answer.Begun version) = true

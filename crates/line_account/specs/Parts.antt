@@ -5,7 +5,8 @@ use Rattle.lock_word.specs.declared.epoch.Epoch.{Epoch}
 use Rattle.script_text.specs.declared.answer.Answer.TheVariants as answer
 use Rattle.script_text.specs.declared.request.Request.TheVariants.{Add, More}
 use Rattle.core_model.specs.declared.view.View.{View}
-use Rattle.line_account.specs.Lines.{Served, reading, url_in, writing}
+use Rattle.script_text.specs.Requests.{url_in}
+use Rattle.line_account.specs.Lines.{Served, reading, writing}
 use Rattle.line_account.specs.Answers.{Reads, Run, slots_after}
 use Rattle.line_account.specs.Courses.{Begins, Course, Leaves, Stage, lines_in}
 use Rattle.line_account.specs.Closing.{Worker}

@@ -2,7 +2,7 @@
 use Rattle.std.specs.Prelude.{List, Some, [], length, min, take, ◌*◌, ◌+◌, ◌<◌, ◌≡◌, ◌≢◌, ◌≤◌, ◌⊎◌, ℕ}
 use Rattle.store_key.specs.Anchor.{anchor_of, back_half, front_half}
 use Rattle.store_key.specs.Key.{key_of}
-use Rattle.lock_word.specs.Words.{epoch_number, stage_of}
+use Rattle.lock_word.specs.Words.{epoch_number, stage_of, version_of}
 use Rattle.lock_word.specs.declared.cause.Cause.TheVariants.{OtherKey}
 use Rattle.lock_word.specs.declared.epoch.Epoch.{Epoch}
 use Rattle.lock_word.specs.declared.word.Word.{Word}
@@ -11,15 +11,17 @@ use Rattle.script_text.specs.declared.answer.Answer.{Answer}
 use Rattle.script_text.specs.declared.answer.Answer.TheVariants as answer
 use Rattle.script_text.specs.declared.body.Body.{Body}
 use Rattle.script_text.specs.declared.request.Request.{Request}
-use Rattle.script_text.specs.declared.request.Request.TheVariants.{Add, Begin, End, Get, OpenTab, Put, Save}
+use Rattle.script_text.specs.declared.request.Request.TheVariants.{Add, Begin, End, Get, Put, Save}
 use Rattle.core_model.specs.declared.moves.Side.TheVariants.{Key0, Key1, Offer}
 use Rattle.core_model.specs.declared.view.Place.TheVariants.{Beside}
 use Rattle.core_model.specs.Anchors.{opening_epoch}
 use Rattle.core_model.specs.Layout.{word_in}
-use Rattle.line_account.specs.Lines.{IsAt, Offers, Served, begun_by, opened_by, url_in, writing}
+use Rattle.script_text.specs.Requests.{url_in}
+use Rattle.line_account.specs.Lines.{IsAnchorOf, IsAt, Offers, Served, Writes, begun_by, opened_by, writing}
 use Rattle.line_account.specs.Deeds.{ComesTo, MayEvict}
 use Rattle.line_account.specs.Answers.{IsHeld, IsOvertaken, IsSure, IsWhole, Reads, Refuses, Run, bytes_with, readers_at}
 use Rattle.line_account.specs.Closing.{BegunIn, HaltedIn, LineIn, TellsBegunIn, Worker}
+use Rattle.line_account.specs.Order.{Opens}
 
 -- Names and bodies.
 
@@ -106,13 +108,32 @@ pub record PrintsOther (earlier : List Served) (s : Served) (url : List ℕ) : T
   pub named : url_in first.line.request ≡ Some url
   pub printed : s.answer ≡ answer.OtherUrl
 
--- a line opened an entry of the anchor a on a tab, and printed OPEN with the version x
-pub record PrintsOpen (anchors : ℕ) (s : Served) (a x : ℕ) : Type 0 where
-  pub tab : ℕ
-  pub url : List ℕ
-  pub request : s.line.request ≡ OpenTab tab url
+-- the answers that tell of an entry of the version x which was found to be there: OPEN, HIT, PART and PURGED
+abbrev pub TellsFound : Answer → ℕ → Type 0
+TellsFound (answer.Opened version) x = version ≡ x
+TellsFound (answer.Hit version bytes) x = version ≡ x
+TellsFound (answer.Part epoch bytes) x = version_of (epoch_number epoch) ≡ x
+TellsFound (answer.Purged epoch) x = version_of (epoch_number epoch) ≡ x
+TellsFound _ x = ⊥
+
+-- a line that names this URL, of the anchor a, printed that an entry of the version x is there
+pub record Finds (anchors : ℕ) (s : Served) (a x : ℕ) (url : List ℕ) : Type 0 where
+  pub named : url_in s.line.request ≡ Some url
   pub anchor : a ≡ anchor_of (key_of url) anchors
-  pub printed : s.answer ≡ answer.Opened x
+  pub found : TellsFound s.answer x
+
+-- What a line reads was opened with the version x at the anchor a: by itself, where a `get` printed HIT with it, or by the `open` of its
+-- tab, which printed OPEN with it.
+pub record ReadsVersion (anchors : ℕ) (earlier : List Served) (s : Served) (a x : ℕ) : Type 0 where
+  pub first : Served
+  pub opened_is : opened_by earlier s ≡ Some first
+  pub anchor : IsAnchorOf anchors (url_in first.line.request) a
+  pub told : Opens first.answer x
+
+-- and the line gave it to its end, by HIT or END
+pub record ReadsWhole (anchors : ℕ) (earlier : List Served) (s : Served) (a x : ℕ) : Type 0 where
+  pub of : ReadsVersion anchors earlier s a x
+  pub whole : IsWhole s.answer
 
 -- Readers.
 
@@ -180,6 +201,14 @@ pub record AreFirstOnes {X : Type 0} (r : Run X) (crew : List (Worker X)) (a : A
 -- a line printed STORED or DOOMED with the version x
 abbrev pub PrintsFinished : Served → ℕ → Type 0
 PrintsFinished s x = (s.answer ≡ answer.Stored x) ⊎ (s.answer ≡ answer.Doomed x)
+
+-- a line of the writing of the version x at the anchor a printed so
+pub record Ends (anchors : ℕ) (earlier : List Served) (s : Served) (a x : ℕ) : Type 0 where
+  pub writes : Writes anchors earlier s a x
+  pub printed : PrintsFinished s x
+
+abbrev pub FinishedIn : {X : Type 0} → Run X → List (Worker X) → (a x : ℕ) → Type 0
+FinishedIn r crew a x = LineIn crew (λ earlier s. Ends r.setting.anchors earlier s a x)
 
 -- an `end` printed so, on a tab whose writing was begun by a line that printed BEGUN with this version
 pub record EndsBegun (earlier : List Served) (s : Served) (version x : ℕ) : Type 0 where

@@ -7,6 +7,7 @@ use Rattle.line_account.specs.Bodies.{HaveBodies, HaveKeys}
 use Rattle.line_account.specs.Epochs.{EpochsHaveCauses}
 use Rattle.line_account.specs.Ordering.{AreInOrder, AreNotShort}
 use Rattle.line_account.specs.Refusals.{AnswersHaveCauses}
+use Rattle.line_account.specs.Tabs.{TabsStay}
 use Rattle.line_account.specs.Versions.{AreBegun}
 
 -- Where a run does not tell of bytes, nothing is said of them.
@@ -17,4 +18,5 @@ pub record KeepsRules {X : Type 0} (r : Run X) (script : List Line) (crew : List
   pub versions : AreBegun r script crew
   pub epochs : EpochsHaveCauses r crew
   pub order : AreInOrder r crew
+  pub tabs : TabsStay r crew
   pub parts : IsTrue r.tells → AreNotShort r crew

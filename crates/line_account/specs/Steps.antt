@@ -13,7 +13,7 @@ use Rattle.core_model.specs.Trails.{drawn, draws}
 use Rattle.line_account.specs.Lines.{Fits, Offers, Served}
 use Rattle.line_account.specs.Answers.{Run}
 use Rattle.line_account.specs.Accounts.{IsOffered}
-use Rattle.line_account.specs.Courses.{Keeps}
+use Rattle.core_model.specs.Knowing.{KnowsAll}
 
 -- the view w is v after steps of the pass that added these, all with the newest first
 pub record IsAfter {X : Type 0} (v : View X) (items : List Item) (sights : List Sight) (done : List Deed) (meetings : List ℕ) (w : View X) : Type 0 where
@@ -25,7 +25,7 @@ pub record IsAfter {X : Type 0} (v : View X) (items : List Item) (sights : List 
 
 -- nothing was drawn and nothing done
 pub record IsIdle {X : Type 0} (v w : View X) : Type 0 where
-  pub keeps : Keeps v w
+  pub keeps : KnowsAll v w
   pub drawn : (x : ℕ) → drawn x w.trail ≡ drawn x v.trail
   pub draws : draws w.trail ≡ draws v.trail
   pub deeds : w.deeds ≡ v.deeds

@@ -4,7 +4,7 @@ ghost use Rattle.std.specs.Prelude.{◌≡◌, ◌≢◌, ◌+◌, ◌-◌, ◌<
 ghost use mathlib.Core.Option.{some};
 ghost use lib.ListN.{get_elem?};
 ghost use Rattle.plain_model.specs.Serving.{bytes_of};
-ghost use Rattle.lock_word.specs.Words.{version_of, stage_of, doom_of, epoch_number, version_limit};
+ghost use Rattle.lock_word.specs.Words.{version_of, stage_of, doom_of, epoch_number, is_readable, version_limit};
 ghost use Rattle.lock_word.specs.declared.cause.Cause.{Cause};
 ghost use Rattle.lock_word.specs.declared.epoch.Epoch.{Epoch};
 ghost use Rattle.lock_word.specs.declared.word.Word.{Word};
@@ -16,13 +16,14 @@ ghost use Rattle.core_model.specs.Opening.{new_view, new_views};
 ghost use Rattle.core_model.specs.Sound.{Sound};
 ghost use Rattle.core_model.specs.State.{State};
 ghost use Rattle.core_model.specs.Anchors.{opening_counter, opening_epoch};
-ghost use Rattle.line_account.specs.Lines.{Fits, Offers, Served, added, given, offers};
-ghost use Rattle.line_account.specs.Deeds.{Begins, Halts, PrintsBegun, PrintsBegunVersion};
+ghost use Rattle.line_account.specs.Lines.{Fits, Offers, Served, added, bytes_in, given, offers};
+ghost use Rattle.line_account.specs.Tabs.{IsFrontOfLine, IsFrontOfOld, ReadsBehindEnd, ReadsHalted, ReadsOn, ReadsPart};
+ghost use Rattle.line_account.specs.Deeds.{Begins, PrintsBegun, PrintsBegunVersion};
 ghost use Rattle.line_account.specs.Requests.{IsAnswerTo};
 ghost use Rattle.line_account.specs.Parts.{AddsTo, GivesOf, IsCourseOf, PrintsPart};
 ghost use Rattle.line_account.specs.Scripts.{ServesScript, offering};
 ghost use Rattle.line_account.specs.Idle.{idle_workers};
-ghost use Rattle.line_account.specs.Order.{HandsOver, NotBelow, PrintsAlone, StandsAt, StandsIn, counts_as};
+ghost use Rattle.line_account.specs.Order.{HandsOver, NotBelow, Opens, PrintsAlone, StandsAt, StandsIn, counts_as};
 ghost use Rattle.line_account.specs.Answers.{IsCauseOf, IsLong, Refuses, Run, bytes_behind, bytes_with, given_with};
 ghost use Rattle.core_model.specs.declared.view.Deed.{Deed};
 ghost use Rattle.core_model.specs.declared.view.Item.{Item};
@@ -30,9 +31,10 @@ ghost use Rattle.core_model.specs.declared.view.Sight.{Sight};
 ghost use Rattle.core_model.specs.declared.view.View.{View};
 ghost use Rattle.core_model.specs.Trails.{drawn, draws};
 ghost use Rattle.line_account.specs.Accounts.{Account, epoch_in};
-ghost use Rattle.line_account.specs.Courses.{Adds, Begins as BeginsWork, Course, Keeps, Leaves, Stage, lines_in};
+ghost use Rattle.core_model.specs.Knowing.{KnowsAll};
+ghost use Rattle.line_account.specs.Courses.{Adds, Begins as BeginsWork, Course, Leaves, Stage, lines_in};
 ghost use Rattle.line_account.specs.Steps.{IsAfter, IsIdle, IsMarkLine, IsTabLine};
-ghost use Rattle.line_account.specs.Printed.{AnotherComes, EndsBegun, AreFirstOnes, ReadsOf, GivenBackIn, HadEntry, PrintsAdded, HasBusyWords, HasOtherUrl, HitIn, IsBodyAsPrinted, IsBodyOfLine, IsKeyOfLine, IsOldBody, IsOldUrl, KeyIn, NeedsTooMany, OffersAtOnce, PrintsFinished, PrintsLarge, PrintsOpen, PrintsOther, PrintsReaders};
+ghost use Rattle.line_account.specs.Printed.{AnotherComes, EndsBegun, AreFirstOnes, ReadsOf, GivenBackIn, HadEntry, PrintsAdded, HasBusyWords, HasOtherUrl, HitIn, IsBodyAsPrinted, IsBodyOfLine, IsKeyOfLine, IsOldBody, IsOldUrl, KeyIn, NeedsTooMany, OffersAtOnce, PrintsFinished, PrintsLarge, PrintsOther, ReadsWhole, Finds, FinishedIn, PrintsReaders};
 ghost use Rattle.line_account.specs.Closing.{Closed, Worker, BegunIn, TellsBegunIn, ShownIn, StoredIn, HaltedIn, PurgedIn, IsSameLine, LineIn, PrintsHalted, PrintsDoomed, SomeHalted, offered};
 
 /// Each version is begun by one line, and at one anchor, and a line begins one version at most. It offers a
@@ -93,12 +95,14 @@ pub fn halted_entries_were_given_up<X>()
 {}
 
 /// A doomed epoch, and a DOOMED line, comes only where a line printed PURGED with its version.
-/// And the epoch of PURGED is doomed.
+/// And the epoch of PURGED is doomed, at APPENDING, CLOSED or HALTED.
 pub fn doomed_entries_were_purged<X>()
     ensures epoch { (r : Run X) (crew : List (Worker X)) (a e : ℕ) → Closed r crew → ShownIn r crew a e → doom_of e ≡ 1 → PurgedIn r crew a (version_of e) }
     ensures line { (r : Run X) (crew : List (Worker X)) (a x : ℕ) → Closed r crew
         → LineIn crew (λ earlier s. PrintsDoomed r.setting.anchors earlier s a x) → PurgedIn r crew a x }
     ensures purged { (r : Run X) (crew : List (Worker X)) (e : Epoch) → Closed r crew → LineIn crew (λ earlier s. s.answer ≡ Answer.Purged e) → e.doom ≡ true }
+    ensures stage { (r : Run X) (crew : List (Worker X)) (e : Epoch) → Closed r crew → LineIn crew (λ earlier s. s.answer ≡ Answer.Purged e)
+        → (2 ≤ stage_of (epoch_number e)) × (stage_of (epoch_number e) ≤ 4) }
 {}
 
 /// A pass of a store that was just opened begins. A worker that begins has an account of no lines; each line that it serves leaves one of that line too,
@@ -132,8 +136,7 @@ pub fn hits_are_of_lines<X>()
 {}
 
 /// A version that is hit, and that a line began, was printed by that line: by BEGUN, or by STORED or DOOMED
-/// of a `put` or a `save`. So the body of the hit is the one that this line offers. None that was given up
-/// is hit.
+/// of a `put` or a `save`. So the body of the hit is the one that this line offers.
 pub fn hit_versions_were_printed<X>()
     ensures begun { (r : Run X) (crew : List (Worker X)) (a x : ℕ) (url bytes : List ℕ) → Closed r crew → IsTrue r.tells → HitIn r crew a x url bytes
         → (p : BegunIn r crew a x) → PrintsBegunVersion r.setting.anchors p.line_of.line a x }
@@ -143,15 +146,27 @@ pub fn hit_versions_were_printed<X>()
         → opening_counter r.setting < x → IsBodyAsPrinted r crew a x url bytes }
 {}
 
-/// A version of the opening is opened only where the anchor had an entry then.
-pub fn versions_opened_were_there<X>()
-    ensures { (r : Run X) (crew : List (Worker X)) (a x : ℕ) → Closed r crew → LineIn crew (λ earlier s. PrintsOpen r.setting.anchors s a x) → x ≤ opening_counter r.setting → HadEntry r a }
+/// OPEN and HIT come of an entry that was opened at an epoch of the printed version, at which it may be read. A
+/// version that OPEN, HIT, PURGED or the PART of a `get` tells is that of an entry with the key of the URL: of the one
+/// that the anchor had at the opening, which it did have, or of the line that began the version.
+pub fn entries_found_were_there<X>()
+    ensures opened { (r : Run X) (crew : List (Worker X)) (x : ℕ) → Closed r crew → (p : LineIn crew (λ earlier s. Opens s.answer x))
+        → (version_of p.line_of.line.opened ≡ x) × (is_readable p.line_of.line.opened ≡ true) }
+    ensures there { (r : Run X) (crew : List (Worker X)) (a x : ℕ) (url : List ℕ) → Closed r crew
+        → LineIn crew (λ earlier s. Finds r.setting.anchors s a x url) → x ≤ opening_counter r.setting → HadEntry r a }
+    ensures old { (r : Run X) (crew : List (Worker X)) (a x : ℕ) (url kept : List ℕ) → Closed r crew
+        → LineIn crew (λ earlier s. Finds r.setting.anchors s a x url) → x ≤ opening_counter r.setting → IsOldUrl r a kept → key_of url ≡ key_of kept }
+    ensures new { (r : Run X) (crew : List (Worker X)) (a x : ℕ) (url : List ℕ) → Closed r crew
+        → LineIn crew (λ earlier s. Finds r.setting.anchors s a x url) → opening_counter r.setting < x → IsKeyOfLine r crew a x (key_of url) }
 {}
 
-/// No version is hit whose writing a line gave up.
-pub fn hits_were_not_given_up<X>()
-    ensures { (r : Run X) (crew : List (Worker X)) (a x : ℕ) (url bytes : List ℕ) → Closed r crew → IsTrue r.tells → HitIn r crew a x url bytes
-        → opening_counter r.setting < x → LineIn crew (λ earlier s. Halts r.setting.anchors earlier s a x) → ⊥ }
+/// A version above the counter of the opening that is given to its end, by HIT or by END, was finished by a line of its
+/// writing, which printed STORED or DOOMED with it. And no line gave the writing up, nor did the end of a worker.
+pub fn entries_given_whole_were_finished<X>()
+    ensures finished { (r : Run X) (crew : List (Worker X)) (a x : ℕ) → Closed r crew → IsTrue r.tells
+        → LineIn crew (λ earlier s. ReadsWhole r.setting.anchors earlier s a x) → opening_counter r.setting < x → FinishedIn r crew a x }
+    ensures kept { (r : Run X) (crew : List (Worker X)) (a x : ℕ) → Closed r crew → IsTrue r.tells
+        → LineIn crew (λ earlier s. ReadsWhole r.setting.anchors earlier s a x) → opening_counter r.setting < x → HaltedIn r crew a x → ⊥ }
 {}
 
 /// The bytes that lines gave of an entry since it was opened are the first ones of a body that is stored
@@ -284,7 +299,7 @@ pub fn idle_workers_are_closed<X>()
 /// What steps of a pass add is kept: it knows what it knew, its draws add up, and a deed is one of before or
 /// was added.
 pub fn additions_are_kept<X>()
-    ensures keeps { (v w : View X) (items : List Item) (sights : List Sight) (done : List Deed) (meetings : List ℕ) → IsAfter v items sights done meetings w → Keeps v w }
+    ensures keeps { (v w : View X) (items : List Item) (sights : List Sight) (done : List Deed) (meetings : List ℕ) → IsAfter v items sights done meetings w → KnowsAll v w }
     ensures drawn { (v w : View X) (items : List Item) (sights : List Sight) (done : List Deed) (meetings : List ℕ) (x : ℕ) → IsAfter v items sights done meetings w
         → drawn x w.trail ≡ drawn x items + drawn x v.trail }
     ensures draws { (v w : View X) (items : List Item) (sights : List Sight) (done : List Deed) (meetings : List ℕ) → IsAfter v items sights done meetings w
@@ -303,4 +318,22 @@ pub fn quiet_lines_add_nothing<X>()
 /// The version of STORED or DOOMED at `end` is the one with which its tab's writing was begun.
 pub fn ends_tell_the_version_begun<X>()
     ensures { (r : Run X) (crew : List (Worker X)) (version x : ℕ) → Closed r crew → LineIn crew (λ earlier s. EndsBegun earlier s version x) → x ≡ version }
+{}
+
+/// A tab that reads stays at the entry of which its OPEN told the version: PART is of that version, HALTED comes only where its
+/// writing was halted, and all bytes since OPEN are the first ones of its body, the whole of it at END. Behind END the tab
+/// gives no byte.
+pub fn tabs_stay_at_their_entries<X>()
+    ensures part { (r : Run X) (crew : List (Worker X)) (a x : ℕ) (epoch : Epoch) → Closed r crew
+        → LineIn crew (λ earlier s. ReadsPart r.setting.anchors earlier s a x epoch) → version_of (epoch_number epoch) ≡ x }
+    ensures halted { (r : Run X) (crew : List (Worker X)) (a x : ℕ) → Closed r crew
+        → LineIn crew (λ earlier s. ReadsHalted r.setting.anchors earlier s a x) → HaltedIn r crew a x }
+    ensures old { (r : Run X) (crew : List (Worker X)) (a x : ℕ) → Closed r crew → IsTrue r.tells
+        → (p : LineIn crew (λ earlier s. ReadsOn r.setting.anchors earlier s a x)) → x ≤ opening_counter r.setting
+        → IsFrontOfOld r a p.line_of.line.answer (bytes_with p.line_of.earlier p.line_of.line) }
+    ensures new { (r : Run X) (crew : List (Worker X)) (a x : ℕ) → Closed r crew → IsTrue r.tells
+        → (p : LineIn crew (λ earlier s. ReadsOn r.setting.anchors earlier s a x)) → opening_counter r.setting < x
+        → IsFrontOfLine r crew a x p.line_of.line.answer (bytes_with p.line_of.earlier p.line_of.line) }
+    ensures behind_end { (r : Run X) (crew : List (Worker X)) (tab : ℕ) → Closed r crew → IsTrue r.tells
+        → (p : LineIn crew (λ earlier s. ReadsBehindEnd earlier s tab)) → bytes_in p.line_of.line.answer ≡ [] }
 {}

@@ -3,10 +3,15 @@
 //! lines keep, each by a name of its own. The functions here do nothing: what they ensure are the laws.
 #![tactic(auto)]
 
+mod absurd;
 mod examples;
 mod laws;
 mod rules;
 
+pub use absurd::{
+    no_neighbour_is_purged, nothing_dropped_is_hit, nothing_is_opened_that_never_was,
+    nothing_is_purged_that_never_was, nothing_left_is_hit,
+};
 pub use examples::{
     a_hit_has_what_was_stored, a_lone_spent_number_is_the_counter, a_lone_version_is_the_next_one,
     a_put_and_a_get_have_an_account, no_hit_follows_a_purge, no_old_miss_follows_a_mark,
@@ -15,13 +20,13 @@ pub use examples::{
 pub use laws::{
     accounts_grow, added_counts_are_exact, additions_are_kept, begun_versions_have_bounds,
     bytes_are_of_lines, doomed_entries_were_purged, ends_tell_the_version_begun,
-    entries_are_given_back_by_lines, entries_are_stored_by_lines, epochs_have_versions,
-    halted_entries_were_given_up, hit_versions_were_printed, hits_are_of_lines,
-    hits_were_not_given_up, idle_workers_are_closed, keys_are_of_lines, lines_are_in_order,
-    lines_are_in_order_after_marks, more_readers_come_from_others, other_urls_have_the_key,
-    parts_are_not_short, parts_are_not_short_after_marks, quiet_lines_add_nothing,
-    refusals_have_causes, runs_that_fit_lose_nothing, scripts_bound_what_is_offered,
-    spent_numbers_have_bounds, versions_are_begun_by_one_line, versions_opened_were_there,
-    versions_printed_alone_are_known,
+    entries_are_given_back_by_lines, entries_are_stored_by_lines, entries_found_were_there,
+    entries_given_whole_were_finished, epochs_have_versions, halted_entries_were_given_up,
+    hit_versions_were_printed, hits_are_of_lines, idle_workers_are_closed, keys_are_of_lines,
+    lines_are_in_order, lines_are_in_order_after_marks, more_readers_come_from_others,
+    other_urls_have_the_key, parts_are_not_short, parts_are_not_short_after_marks,
+    quiet_lines_add_nothing, refusals_have_causes, runs_that_fit_lose_nothing,
+    scripts_bound_what_is_offered, spent_numbers_have_bounds, tabs_stay_at_their_entries,
+    versions_are_begun_by_one_line, versions_printed_alone_are_known,
 };
 pub use rules::closed_crews_keep_the_rules;

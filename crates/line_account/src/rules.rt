@@ -11,12 +11,13 @@ ghost use Rattle.line_account.specs.Rules.{KeepsRules};
 use crate::laws::{
     added_counts_are_exact, begun_versions_have_bounds, bytes_are_of_lines,
     doomed_entries_were_purged, ends_tell_the_version_begun, entries_are_given_back_by_lines,
-    entries_are_stored_by_lines, epochs_have_versions, halted_entries_were_given_up,
-    hit_versions_were_printed, hits_are_of_lines, hits_were_not_given_up, keys_are_of_lines,
-    lines_are_in_order, lines_are_in_order_after_marks, more_readers_come_from_others,
-    other_urls_have_the_key, parts_are_not_short, parts_are_not_short_after_marks,
-    refusals_have_causes, scripts_bound_what_is_offered, spent_numbers_have_bounds,
-    versions_are_begun_by_one_line, versions_opened_were_there, versions_printed_alone_are_known,
+    entries_are_stored_by_lines, entries_found_were_there, entries_given_whole_were_finished,
+    epochs_have_versions, halted_entries_were_given_up, hit_versions_were_printed,
+    hits_are_of_lines, keys_are_of_lines, lines_are_in_order, lines_are_in_order_after_marks,
+    more_readers_come_from_others, other_urls_have_the_key, parts_are_not_short,
+    parts_are_not_short_after_marks, refusals_have_causes, scripts_bound_what_is_offered,
+    spent_numbers_have_bounds, tabs_stay_at_their_entries, versions_are_begun_by_one_line,
+    versions_printed_alone_are_known,
 };
 
 /// Where the accounts of workers are closed who served a script, each has its course, and marks hand on what their setters
@@ -35,7 +36,7 @@ pub fn closed_crews_keep_the_rules<X>()
     halted_entries_were_given_up::<X>();
     hit_versions_were_printed::<X>();
     hits_are_of_lines::<X>();
-    hits_were_not_given_up::<X>();
+    entries_given_whole_were_finished::<X>();
     keys_are_of_lines::<X>();
     lines_are_in_order::<X>();
     lines_are_in_order_after_marks::<X>();
@@ -46,7 +47,8 @@ pub fn closed_crews_keep_the_rules<X>()
     refusals_have_causes::<X>();
     scripts_bound_what_is_offered::<X>();
     spent_numbers_have_bounds::<X>();
+    tabs_stay_at_their_entries::<X>();
     versions_are_begun_by_one_line::<X>();
-    versions_opened_were_there::<X>();
+    entries_found_were_there::<X>();
     versions_printed_alone_are_known::<X>();
 }

@@ -21,7 +21,8 @@ pub use laws::{
     words_are_put,
 };
 pub use number::{
-    epoch_bits, is_idle_number, is_left_over_number, is_readable_number, is_vacant_number,
+    DOOM_BIT, ONE_STAGE, epoch_bits, evicted_number, is_idle_number, is_left_over_number,
+    is_readable_number, is_vacant_number,
 };
 pub use stage::Stage;
-pub use word::{Word, is_idle, is_left_over, is_vacant, pack, unpack, word_of};
+pub use word::{GREATEST_VERSION, Word, is_idle, is_left_over, is_vacant, pack, unpack, word_of};

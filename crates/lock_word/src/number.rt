@@ -1,6 +1,12 @@
 //! What a word is, judged by its number alone, whatever its reserved bits are.
-ghost use Rattle.std.specs.Prelude.{◌≡◌};
-ghost use Rattle.lock_word.specs.Words.{epoch_of, readers_of, mode_of, stage_of, is_readable, is_idle, is_vacant, is_left_over};
+ghost use Rattle.std.specs.Prelude.{◌≡◌, ◌≤◌};
+ghost use Rattle.lock_word.specs.Words.{epoch_of, readers_of, mode_of, stage_of, evicted, is_readable, is_idle, is_vacant, is_left_over};
+
+/// What the number of a word grows by where its stage becomes the next one.
+pub const ONE_STAGE: u64 = 65_536;
+
+/// The bit of a word that is the doom.
+pub const DOOM_BIT: u64 = 524_288;
 
 /// The number of a word's epoch: the word's bits but those of its readers.
 pub fn epoch_bits(bits: u64) -> u64
@@ -26,6 +32,15 @@ fn stage_bits(bits: u64) -> u64
     ensures { result ≡ stage_of (epoch_of bits) }
 {
     epoch_bits(bits) % 8
+}
+
+/// The number of the word of an entry that is being freed, where `bits` is that of the word before: its stage is raised to
+/// [`Freeing`](crate::Stage::Freeing).
+pub fn evicted_number(bits: u64) -> u64
+    requires { stage_of (epoch_of bits) ≤ 5 }
+    ensures { result ≡ evicted bits }
+{
+    bits + ONE_STAGE * (5 - stage_bits(bits))
 }
 
 /// Whether the epoch of this number is [readable](crate::readable).

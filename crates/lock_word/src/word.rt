@@ -18,6 +18,9 @@ const VERSION_AT: u32 = 32;
 /// Bits 20 to 31, which no word has.
 const RESERVED: u64 = 0xfff0_0000;
 
+/// The greatest version that there is, as a counter of versions has it. The headers of slots have the same limit.
+pub const GREATEST_VERSION: u64 = 4_294_901_760;
+
 /// An anchor's epoch, and how many users are counted at it.
 #[derive(Clone, Copy, Debug, PartialEq, Eq)]
 pub struct Word {

@@ -7,7 +7,7 @@ use Rattle.rebuild_model.specs.declared.found.Found.{Found}
 use Rattle.rebuild_model.specs.Entry.{Entry, IsComplete, found_of}
 use Rattle.rebuild_model.specs.Plain.{IsFound}
 use Rattle.rebuild_model.specs.Keeping.{HasNoneAt, IsKept, IsBest, BestBefore}
-use Rattle.rebuild_model.proofs.Alone.{first_belongs}
+use Rattle.rebuild_model.proofs.Chains.{first_belongs}
 use Rattle.rebuild_model.proofs.Whole.{One}
 use Rattle.rebuild_model.proofs.Winners.{nearer}
 

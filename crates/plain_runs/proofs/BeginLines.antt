@@ -34,9 +34,9 @@ use Rattle.rock_writer.specs.Beginning.{Began, InUse, IsTooLong, NotTaken, Overt
 use Rattle.rock_writer.specs.declared.fault.BeginFault.{BeginFault}
 use Rattle.rock_writer.specs.declared.fault.BeginFault.TheVariants.{Busy, LongUrl, Spent}
 use Rattle.rw_anchor.specs.Calls.{SpentAtDraw, SpentAtLook}
-use Rattle.serve_lines.specs.Answers.{answer_to_begin, answer_to_refusal}
-use Rattle.serve_lines.specs.Tabs.{IsFree, IsOffered}
-use Rattle.serve_lines.specs.Writing.{Begins}
+use Rattle.store_serve.specs.Answers.{answer_to_begin, answer_to_refusal}
+use Rattle.store_serve.specs.Tabs.{IsFree, IsOffered}
+use Rattle.store_serve.specs.Writing.{Begins}
 use Rattle.worker_shelf.specs.Typed.{IsTyped}
 use Rattle.plain_runs.specs.Words.{IsLone, Knows, no_guests, setting_of}
 use Rattle.plain_runs.specs.Shows.{Shows, ShowsTab, ShowsWriting}

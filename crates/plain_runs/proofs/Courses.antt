@@ -24,13 +24,13 @@ use Rattle.store_rule.specs.declared.store.Store.{Store}
 use Rattle.store_rule.specs.Ground.{Offers}
 use Rattle.store_rule.specs.Passes.{Keeps, basis, note_seen, view}
 use Rattle.worker_pool.specs.Courses.{IsServed, Linked, Stage}
-use Rattle.serve_lines.specs.Answers.{is_fault}
-use Rattle.serve_lines.specs.Serving.{MayAsk, Serves, ServesRequest, Takes}
-use Rattle.serve_lines.specs.Tabs.{IsFree, Leaves}
-use Rattle.serve_lines.specs.Whole.{whole_tab}
+use Rattle.store_serve.specs.Answers.{is_fault}
+use Rattle.store_serve.specs.Serving.{MayAsk, Serves, ServesRequest, Takes}
+use Rattle.store_serve.specs.Tabs.{IsFree, Leaves}
+use Rattle.store_serve.specs.Whole.{whole_tab}
 use Rattle.worker_shelf.specs.Shelves.{Learned, Noted, OnShelf, Went}
 use Rattle.worker_shelf.proofs.Holding.{Stays}
-use Rattle.crew_accounts.specs.Courses.{IsStep, Meets, Notes, StepOn}
+use Rattle.worker_shelf.specs.Playing.{IsStep, Meets, Notes, StepOn}
 use Rattle.plain_runs.specs.Shows.{ShowsTab}
 use Rattle.plain_runs.specs.Words.{setting_of}
 use Rattle.plain_runs.specs.Runs.{ShowsPlain}

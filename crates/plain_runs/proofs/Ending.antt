@@ -48,7 +48,7 @@ use Rattle.rock_writer.specs.declared.fault.Ended.{Ended}
 use Rattle.rock_writer.specs.declared.fault.Ended.TheVariants.{Doomed, Stored}
 use Rattle.rock_writer.proofs.Growing.{linked_as}
 use Rattle.rock_writer.proofs.Sizes.{needed_is}
-use Rattle.serve_lines.specs.Answers.{answer_to_ended}
+use Rattle.store_serve.specs.Answers.{answer_to_ended}
 use Rattle.rock_writer.specs.Flushing.{LacksSlot, SlotFor}
 use Rattle.slice_chain.specs.Victims.{hand_in}
 use Rattle.slice_chain.specs.Writes.{reserved_first}

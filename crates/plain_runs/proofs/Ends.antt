@@ -37,6 +37,7 @@ use Rattle.plain_runs.proofs.PlainWords.{readers_fit, stage_there, version_there
 use Rattle.plain_runs.specs.Ends.{HasVersions, HoldsEntry, HoldsWhole, IsHomeAs, SpellsResponse, TellsPieces}
 use Rattle.plain_runs.specs.Runs.{ShowsPlain}
 use Rattle.plain_runs.proofs.Spelled.{spells}
+use Rattle.plain_runs.proofs.Standing.{entry_shown, offer_stands, stage_is, version_stands}
 
 -- the law that the pieces of an entry are one where they stand in a file
 abbrev pub PlacedPieces : Type 0
@@ -69,24 +70,17 @@ module _ (g : Ground (List ℕ)) (lone : IsLone g) (s : State (List ℕ)) (i : �
     (pieces : TellsPieces g) (versions : HasVersions g) (images : List (List ℕ)) (home : IsHomeAs g s images) (many : length g.setting.contents ≡ g.setting.slots)
     (sized : g.slot < 2 ^ 32) (few : g.setting.slots ≤ 1048576) (placed : PlacedPieces) (p : Plain) (knows : Knows g (λ v. v) v p no_guests) (eight : length p.tabs ≡ 8) where
   module _ (a : ℕ) (e : Entry) (lt : a < g.setting.anchors) (there : entry_at p a ≡ Some e) (whole : e.life ≡ Whole) where
-    word_there : word s a ≡ has g v (Anchor a)
-    word_there = word_is g lone s i v rule at pass (Anchor a) lt
-
     closed : stage_of (epoch_of (word s a)) ≡ 3
-    closed = ap (λ (n : ℕ). stage_of (epoch_of n)) word_there
-        ∙ stage_there (λ v. v) (setting_of g) p 0 a (has g v (Anchor a)) (knows.each a lt).word (readers_fit p a 0 eight (omega arith))
-        ∙ ap (λ (o : Option Entry). stage_number (stage_of_place (room_of g.slot) (place_at p a).version o)) there
-        ∙ ap (λ (life : Life). stage_number (stage_of_entry (room_of g.slot) life e.content)) whole
+    closed = stage_is g lone s i v rule at pass p knows eight a e lt there whole
 
     version_is : version_of (epoch_of (word s a)) ≡ (place_at p a).version
-    version_is = ap (λ (n : ℕ). version_of (epoch_of n)) word_there
-        ∙ version_there (λ v. v) (setting_of g) p 0 a (has g v (Anchor a)) (knows.each a lt).word (readers_fit p a 0 eight (omega arith))
+    version_is = version_stands g lone s i v rule at pass p knows eight a e lt there whole
 
     entry_there : ShowsEntry g v a (place_at p a).version e
-    entry_there = subst (ShowsEntryIf g v a (place_at p a).version) there (knows.each a lt).entry
+    entry_there = entry_shown g lone s i v rule at pass p knows eight a e lt there whole
 
     offer_is : side_word g.setting s Offer a ≡ e.offer
-    offer_is = word_is g lone s i v rule at pass (Beside Offer a) lt ∙ entry_there.names.offer
+    offer_is = offer_stands g lone s i v rule at pass p knows eight a e lt there whole
 
     spelled : SpellsResponse g s images a e.url e.body
     spelled = spells g s rule pieces versions images home a lt closed many sized few placed e.url e.body

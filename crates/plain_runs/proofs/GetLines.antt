@@ -30,9 +30,9 @@ use Rattle.store_serve.specs.Following.{WentOn}
 use Rattle.store_serve.specs.Getting.{GotAs, GotEntry}
 use Rattle.store_serve.specs.declared.getting.Got.{Got}
 use Rattle.store_serve.specs.declared.getting.Got.TheVariants.{Found, Missing}
-use Rattle.serve_lines.specs.Answers.{AnswersGet, AnswersMore, AnswersWhole, is_fault}
-use Rattle.serve_lines.specs.Tabs.{IsFree}
-use Rattle.serve_lines.specs.Whole.{Gets, whole_tab}
+use Rattle.store_serve.specs.Answers.{AnswersGet, AnswersMore, AnswersWhole, is_fault}
+use Rattle.store_serve.specs.Tabs.{IsFree}
+use Rattle.store_serve.specs.Whole.{Gets, whole_tab}
 use Rattle.worker_shelf.specs.Typed.{IsTyped}
 use Rattle.crew_accounts.proofs.GivenBytes.{IsFromFront}
 use Rattle.plain_runs.specs.Shows.{Shows, ShowsTab}

@@ -41,10 +41,10 @@ use Rattle.rock_writer.specs.declared.fault.Ended.{Ended}
 use Rattle.rock_writer.specs.declared.fault.WriteFault.{WriteFault}
 use Rattle.rock_writer.specs.declared.fault.WriteFault.TheVariants as write
 use Rattle.rock_writer.proofs.Sizes.{more_there}
-use Rattle.serve_lines.specs.Answers.{answer_to_ended, answer_to_fault, is_fault}
-use Rattle.serve_lines.specs.Tabs.{IsOffered}
-use Rattle.serve_lines.specs.Whole.{Puts}
-use Rattle.serve_lines.specs.Writing.{AddsTo, Drops, EndsEntry}
+use Rattle.store_serve.specs.Answers.{answer_to_ended, answer_to_fault, is_fault}
+use Rattle.store_serve.specs.Tabs.{IsOffered}
+use Rattle.store_serve.specs.Whole.{Puts}
+use Rattle.store_serve.specs.Writing.{AddsTo, Drops, EndsEntry}
 use Rattle.slice_chain.specs.Victims.{hand_in}
 use Rattle.store_rule.specs.declared.store.Pass.{Pass}
 use Rattle.store_rule.specs.declared.store.Store.{Store}
@@ -202,7 +202,7 @@ module _ {C O : Type 0} (tells : Bool) (state : C → CellState) (offers : O →
         most : min count (left_of tells state offers st t e pass q) ≡ min count (lacking x)
         most = ap (λ (n : ℕ). min count n) (left_is q)
 
-        of_outcome : (outcome : Result ℕ WriteFault) → a ≡ Rattle.serve_lines.specs.Answers.answer_to_add outcome → IfOk outcome (λ added. added ≡ min count (left_of tells state offers st t e pass q))
+        of_outcome : (outcome : Result ℕ WriteFault) → a ≡ Rattle.store_serve.specs.Answers.answer_to_add outcome → IfOk outcome (λ added. added ≡ min count (left_of tells state offers st t e pass q))
             → IfOk outcome (λ added. Rattle.store_serve.specs.Adding.Added tells state offers st t e pass q added)
             → IfErr outcome (λ fault. (n : NotAdded tells state offers st t e pass q fault) × (n.total < min count (left_of tells state offers st t e pass q)))
             → IsGiven a q (unless_refused t anchor (step (answer.Added (min count (lacking x)))) (append s anchor (min count (lacking x)) x.content p))
@@ -253,7 +253,7 @@ module _ {C O : Type 0} (tells : Bool) (state : C → CellState) (offers : O →
         some_length [] ne z = ne refl
         some_length (y ∷ ys) ne z = absurd (omega arith)
 
-        of_outcome : (outcome : Result Ended WriteFault) → a ≡ Rattle.serve_lines.specs.Answers.answer_to_end outcome → IfOk outcome (λ ended. EndedWhole tells state offers st t e pass q ended)
+        of_outcome : (outcome : Result Ended WriteFault) → a ≡ Rattle.store_serve.specs.Answers.answer_to_end outcome → IfOk outcome (λ ended. EndedWhole tells state offers st t e pass q ended)
             → IfErr outcome (λ fault. NotEnded tells state offers st t e pass q fault) → IsGiven a q (unless_refused t anchor last (append s anchor (lacking x) x.content p))
         of_outcome (Ok ended) is whole err = given_as a q _ (finish t anchor f.store)
             (added_all whole.middle b ∙ (ap (λ (n : ℕ). unless_refused t anchor (finish t anchor) (last_slot s n b.store)) (ap (λ (n : ℕ). x.content + n) (sym (left_is q))) ∙ (ap (unless_refused t anchor (finish t anchor)) f.slot ∙ unless_none t anchor (finish t anchor) (grown_as f.store None) refl)))

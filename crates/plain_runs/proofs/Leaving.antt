@@ -9,8 +9,8 @@ use Rattle.plain_model.specs.Store.{tab_at}
 use Rattle.store_rule.specs.declared.store.Pass.{Pass}
 use Rattle.store_rule.specs.declared.store.Store.{Store}
 use Rattle.store_rule.specs.Ground.{Offers}
-use Rattle.serve_lines.specs.Tabs.{IsFree}
-use Rattle.serve_lines.specs.Whole.{whole_tab}
+use Rattle.store_serve.specs.Tabs.{IsFree}
+use Rattle.store_serve.specs.Whole.{whole_tab}
 use Rattle.worker_shelf.specs.Shelves.{LeftBelow}
 use Rattle.plain_runs.specs.Runs.{ShowsPlain}
 use Rattle.plain_runs.proofs.Courses.{plain_free}

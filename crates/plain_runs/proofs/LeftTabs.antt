@@ -35,9 +35,7 @@ use Rattle.rw_anchor.specs.Calls.{GivenUp as TriedToFree, Gone, LeftLast, Leaves
 use Rattle.rw_anchor.specs.declared.Left.{Left}
 use Rattle.slice_chain.specs.Freeing.{Freed}
 use Rattle.rock_reader.specs.Closing.{Parted}
-use Rattle.rock_reader.proofs.Parting.{done_tabs, freed_tabs}
-use Rattle.purge_entry.specs.Parting.{Parted as PurgeParted}
-use Rattle.purge_entry.proofs.PartedTabs.{done_tabs as purge_done_tabs, freed_tabs as purge_freed_tabs, not_last}
+use Rattle.rock_reader.proofs.Parting.{done_tabs, freed_tabs, not_last, set_free}
 use Rattle.rock_writer.specs.Halting.{FreedLast, LeftToOther, Parted as WriterParted, Stayed}
 use Rattle.plain_runs.specs.Words.{IsLone, Knows, ShowsAt, ShowsEntryIf, no_guests, setting_of}
 use Rattle.plain_runs.proofs.Frames.{SameBut, chain_same, names_same, step_same}
@@ -193,10 +191,6 @@ module _ (g : Ground (List ℕ)) (rename : ℕ → ℕ) where
       pub free : tab_at w t ≡ Free
       pub inner_free : InnerIsFree w
 
-    -- a tab that became free is free
-    set_free : (xs : List (Tab (List ℕ))) (t : ℕ) → get_or (set xs t Free) t Free ≡ Free
-    set_free xs t = elim (set_here xs t Free Free) [ inl e ↦ e | inr e ↦ e ]
-
     free_by : (v w : View (List ℕ)) (t : ℕ) → w.tabs ≡ with_tab v t Free → tab_at w t ≡ Free
     free_by v w t tabs = ap (λ (xs : List (Tab (List ℕ))). get_or xs t Free) tabs ∙ set_free v.tabs t
 
@@ -212,14 +206,14 @@ module _ (g : Ground (List ℕ)) (rename : ℕ → ℕ) where
     -- A tab below the inner one that reads or retreats parts from its anchor.
     pub parts_right : (v w : View (List ℕ)) (t a : ℕ) (p : Plain) → length p.tabs ≡ 8 → IsPass v → t < inner → InnerIsFree v → is_counted (tab_at v t) ≡ true → anchor_of (tab_at v t) ≡ a → a < g.setting.anchors
         → Knows g rename v p (guest_at a) → Parted g t v w → LeavesRight t a p v w
-    parts_right v w t a p eight pass below free counted at lt knows (inl h) = parted_so v w t a p below free (behind_right v t a p eight counted at lt knows w h.leaves) (done_tabs g t v pass below free counted w h.leaves)
-    parts_right v w t a p eight pass below free counted at lt knows (inr h) = parted_so v w t a p below free (last_freed_right v t a p eight counted at lt knows h.middle w h.leaves h.freed) (freed_tabs g t v pass below free counted h.middle w h.leaves h.freed)
+    parts_right v w t a p eight pass below free counted at lt knows (inl h) = parted_so v w t a p below free (behind_right v t a p eight counted at lt knows w h.leaves) (done_tabs g t v counted w h.leaves)
+    parts_right v w t a p eight pass below free counted at lt knows (inr h) = parted_so v w t a p below free (last_freed_right v t a p eight counted at lt knows h.middle w h.leaves h.freed) (freed_tabs g t v counted (inl free) h.middle w h.leaves h.freed)
 
     -- The inner tab, by which an entry is purged, parts from its anchor.
     pub purge_parts_right : (v w : View (List ℕ)) (a : ℕ) (p : Plain) → length p.tabs ≡ 8 → is_counted (tab_at v inner) ≡ true → anchor_of (tab_at v inner) ≡ a → a < g.setting.anchors
-        → Knows g rename v p (guest_at a) → PurgeParted g inner v w → LeavesRight inner a p v w
-    purge_parts_right v w a p eight counted at lt knows (inl h) = purged_so v w a p (behind_right v inner a p eight counted at lt knows w h.leaves) (purge_done_tabs g v counted w h.leaves)
-    purge_parts_right v w a p eight counted at lt knows (inr h) = purged_so v w a p (last_freed_right v inner a p eight counted at lt knows h.middle w h.leaves h.freed) (purge_freed_tabs g v counted h.middle w h.leaves h.freed)
+        → Knows g rename v p (guest_at a) → Parted g inner v w → LeavesRight inner a p v w
+    purge_parts_right v w a p eight counted at lt knows (inl h) = purged_so v w a p (behind_right v inner a p eight counted at lt knows w h.leaves) (done_tabs g inner v counted w h.leaves)
+    purge_parts_right v w a p eight counted at lt knows (inr h) = purged_so v w a p (last_freed_right v inner a p eight counted at lt knows h.middle w h.leaves h.freed) (freed_tabs g inner v counted (inr refl) h.middle w h.leaves h.freed)
 
     -- A tab raised its entry to an end, and parts from it. It is last exactly where the entry is left over.
     pub writer_parts_right : (v w : View (List ℕ)) (t a : ℕ) (p : Plain) → length p.tabs ≡ 8 → a < g.setting.anchors → Knows g rename v p no_guests → is_last (tab_at v t) ≡ is_left_over_at p a

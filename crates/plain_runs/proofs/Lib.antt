@@ -9,6 +9,7 @@ pub mod Marks
 pub mod Awaits
 pub mod Courses
 pub mod Leaving
+pub mod Standing
 pub mod Ends
 pub mod Closings
 pub mod Runs

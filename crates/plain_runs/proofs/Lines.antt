@@ -12,9 +12,9 @@ use Rattle.store_rule.specs.declared.store.Store.{Store}
 use Rattle.store_rule.specs.Ground.{Ground, Offers}
 use Rattle.store_rule.specs.Passes.{basis}
 use Rattle.rock_reader.specs.Responses.{HoldsFile, IsResponse, body_below, pieces_of}
-use Rattle.serve_lines.specs.Answers.{is_fault}
-use Rattle.serve_lines.specs.Serving.{Serves, Takes}
-use Rattle.serve_lines.specs.Whole.{whole_tab}
+use Rattle.store_serve.specs.Answers.{is_fault}
+use Rattle.store_serve.specs.Serving.{Serves, Takes}
+use Rattle.store_serve.specs.Whole.{whole_tab}
 use Rattle.worker_shelf.specs.Shelves.{LeftTab}
 use Rattle.worker_shelf.specs.Typed.{IsTyped}
 use Rattle.worker_shelf.proofs.Holding.{Stays}

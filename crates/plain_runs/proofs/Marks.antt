@@ -17,7 +17,7 @@ use Rattle.tab_states.specs.Desks.{buffer_at, draft_at}
 use Rattle.store_rule.specs.Ground.{Offers}
 use Rattle.store_rule.specs.Notes.{sees}
 use Rattle.store_rule.specs.Passes.{Keeps, basis, view}
-use Rattle.serve_lines.specs.Tabs.{IsFree, Leaves}
+use Rattle.store_serve.specs.Tabs.{IsFree, Leaves}
 use Rattle.worker_shelf.proofs.Holding.{Stays}
 use Rattle.plain_runs.specs.Shows.{ShowsTab}
 use Rattle.plain_runs.specs.Words.{Knows, no_guests}

@@ -37,9 +37,9 @@ use Rattle.rock_reader.specs.Opening.{Came, OpenedEntry, Refused, opened}
 use Rattle.rock_reader.specs.Reading.{ReadsAs, Standing, newly}
 use Rattle.rock_reader.specs.Responses.{HoldsFile}
 use Rattle.rock_reader.proofs.Coming.{came_tabs, key_tabs}
-use Rattle.serve_lines.specs.Answers.{answer_to_open, is_fault}
-use Rattle.serve_lines.specs.Reading.{Closes, Opens, ReadsOn}
-use Rattle.serve_lines.specs.Tabs.{IsFree}
+use Rattle.store_serve.specs.Answers.{answer_to_open, is_fault}
+use Rattle.store_serve.specs.Reading.{Closes, Opens, ReadsOn}
+use Rattle.store_serve.specs.Tabs.{IsFree}
 use Rattle.worker_shelf.specs.Typed.{IsTyped, TellsKey}
 use Rattle.crew_accounts.proofs.GivenBytes.{IsFromFront}
 use Rattle.plain_runs.specs.Shows.{Shows, ShowsReading, ShowsTab}

@@ -20,6 +20,7 @@ use Rattle.core_model.specs.Tabs.{IsPass, anchor_of, inner, tab_at}
 use Rattle.core_model.specs.declared.chain.Chain.{Chain}
 use Rattle.core_model.specs.declared.moves.Move.{Move}
 use Rattle.core_model.specs.declared.moves.Move.TheVariants.{EndTurn, Publish, Raise, StoreSide, TryTurn, LogPiece}
+use Rattle.core_model.specs.declared.moves.Then.TheVariants.{Stays}
 use Rattle.core_model.specs.declared.moves.Side.{Side}
 use Rattle.core_model.specs.declared.moves.Side.TheVariants.{Key0, Key1, Offer, Start}
 use Rattle.core_model.specs.declared.tab.Cell.{Cell}
@@ -131,7 +132,7 @@ module _ (g : Ground (List ℕ)) (lone : IsLone g) where
   pub wrote_same : (v w : View (List ℕ)) (t : ℕ) (durable done : Bool) → IsPass v → t < inner → WroteSlot g t v durable done w → SameBut g v w (λ q. ⊥)
   wrote_same v w t durable done pass below h = record {
     same = λ q known here none.
-        (step_same_turn g h.from w (EndTurn t h.slot false) 1 h.slot h.ended refl there).same q known here none
+        (step_same_turn g h.from w (EndTurn t h.slot Stays) 1 h.slot h.ended refl there).same q known here none
         ∙ (ap (mirrored g.setting (index g.setting q)) (returned_mirror (tab_at h.middle t) t h.slot h.cell h.middle h.from h.returned)
         ∙ ((step_same_turn g h.logged h.middle (TryTurn t h.slot) 0 h.slot h.tried refl there).same q known here none
         ∙ (step_same_log g v h.logged (LogPiece t h.slot durable) h.number h.logs refl).same q known here none));

@@ -28,11 +28,11 @@ use Rattle.store_rule.specs.declared.store.Store.{Store}
 use Rattle.store_rule.specs.Ground.{Ground, Offers, anchor_for}
 use Rattle.store_rule.specs.Passes.{basis, view}
 use Rattle.slice_chain.specs.Victims.{hand_in}
-use Rattle.purge_entry.specs.Judging.{Came, Refused}
+use Rattle.rock_reader.specs.Opening.{Came, Refused}
 use Rattle.purge_entry.specs.Purging.{Purged}
-use Rattle.serve_lines.specs.Answers.{answer_to_purge}
-use Rattle.serve_lines.specs.Tabs.{IsFree}
-use Rattle.serve_lines.specs.Whole.{Purges, whole_tab}
+use Rattle.store_serve.specs.Answers.{answer_to_purge}
+use Rattle.store_serve.specs.Tabs.{IsFree}
+use Rattle.store_serve.specs.Whole.{Purges, whole_tab}
 use Rattle.worker_shelf.specs.Typed.{IsTyped, TellsKey}
 use Rattle.plain_runs.specs.Shows.{Shows, ShowsTab}
 use Rattle.plain_runs.specs.Words.{IsLone, Knows, no_guests, setting_of}

@@ -19,10 +19,10 @@ use Rattle.rock_writer.specs.Beginning.{Began, IsTooLong, NotTaken, begun as beg
 use Rattle.rock_writer.specs.Entries.{Entry as Writing_}
 use Rattle.rock_writer.specs.declared.fault.BeginFault.{BeginFault}
 use Rattle.rock_writer.specs.declared.fault.Ended.{Ended}
-use Rattle.serve_lines.specs.Answers.{answer_to_put, answer_to_refusal, is_fault}
-use Rattle.serve_lines.specs.Tabs.{IsFree, IsOffered}
-use Rattle.serve_lines.specs.Whole.{Puts}
-use Rattle.serve_lines.specs.Writing.{EndsEntry}
+use Rattle.store_serve.specs.Answers.{answer_to_put, answer_to_refusal, is_fault}
+use Rattle.store_serve.specs.Tabs.{IsFree, IsOffered}
+use Rattle.store_serve.specs.Whole.{Puts}
+use Rattle.store_serve.specs.Writing.{EndsEntry}
 use Rattle.slice_chain.specs.Victims.{hand_in}
 use Rattle.store_rule.specs.declared.store.Pass.{Pass}
 use Rattle.store_rule.specs.declared.store.Store.{Store}

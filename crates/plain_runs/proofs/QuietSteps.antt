@@ -13,6 +13,7 @@ use Rattle.core_model.specs.Table.{left_by, place}
 use Rattle.core_model.specs.Tabs.{anchor_of, tab_at}
 use Rattle.core_model.specs.declared.moves.Move.{Move}
 use Rattle.core_model.specs.declared.moves.Move.TheVariants.{EndTurn, GetLink, LoadSide, Look, TryTurn}
+use Rattle.core_model.specs.declared.moves.Then.{Then}
 use Rattle.core_model.specs.declared.moves.Side.TheVariants.{Key0, Key1, Start}
 use Rattle.core_model.specs.declared.tab.Cell.{Cell}
 use Rattle.core_model.specs.declared.view.Place.{Place}
@@ -27,7 +28,7 @@ use Rattle.store_rule.specs.Turns.{Lost}
 use Rattle.store_rule.proofs.AddingUp.{found_mine, has_else, has_left}
 use Rattle.slice_chain.specs.Links.{Located}
 use Rattle.slice_chain.specs.Names.{KeyLoaded}
-use Rattle.slice_chain.specs.Reads.{ReadSlot}
+use Rattle.slice_chain.specs.Reads.{after_reading, ReadSlot}
 use Rattle.rock_reader.specs.Reading.{Gave, HasTried, LookedAt, Standing, StaysOther, TurnsOut}
 use Rattle.rock_reader.specs.declared.answer.More.{More}
 use Rattle.rock_reader.specs.declared.answer.More.TheVariants as more
@@ -73,12 +74,12 @@ module _ (g : Ground (List ℕ)) (lone : IsLone g) where
   won_quiet : (v w : View (List ℕ)) (t slot n : ℕ) → Steps g v (TryTurn t slot) n w → Quiet g v w
   won_quiet v w t slot n st = step_same_turn g v w (TryTurn t slot) n slot st refl (try_inside g.setting st.state st.index v st.rule.sound st.at st.may.pass t slot st.may.allowed)
 
-  ended_quiet : (v w : View (List ℕ)) (t slot n : ℕ) (done : Bool) → Steps g v (EndTurn t slot done) n w → Quiet g v w
-  ended_quiet v w t slot n done st = step_same_turn g v w (EndTurn t slot done) n slot st refl (end_inside g.setting st.state st.index v st.rule.sound st.at st.may.pass t slot done st.may.allowed)
+  ended_quiet : (v w : View (List ℕ)) (t slot n : ℕ) (then : Then) → Steps g v (EndTurn t slot then) n w → Quiet g v w
+  ended_quiet v w t slot n then st = step_same_turn g v w (EndTurn t slot then) n slot st refl (end_inside g.setting st.state st.index v st.rule.sound st.at st.may.pass t slot then st.may.allowed)
 
   pub read_quiet : (t : ℕ) (v : View (List ℕ)) (done : Bool) (cell : Cell (List ℕ)) (w : View (List ℕ)) → ReadSlot g t v done cell w → Quiet g v w
   read_quiet t v done cell w h = quiet_on g v h.last w (lost_quiet t h.slot v h.views h.last h.lost)
-      (quiet_on g h.last h.middle w (won_quiet h.last h.middle t h.slot 0 h.tried) (ended_quiet h.middle w t h.slot 1 done h.ended))
+      (quiet_on g h.last h.middle w (won_quiet h.last h.middle t h.slot 0 h.tried) (ended_quiet h.middle w t h.slot 1 (after_reading done) h.ended))
 
   -- looks and loads
   located_quiet : (t slot : ℕ) (v w : View (List ℕ)) → Located g t slot v w → Quiet g v w

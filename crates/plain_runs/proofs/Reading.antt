@@ -57,7 +57,7 @@ use Rattle.rock_reader.specs.declared.answer.More.{More}
 use Rattle.rock_reader.specs.declared.answer.More.TheVariants as more_answer
 use Rattle.rock_reader.proofs.LookedTab.{at_slot, middle_tab}
 use Rattle.store_serve.specs.Following.{Given, Gives, WentOn}
-use Rattle.serve_lines.specs.Answers.{AnswersMore, is_fault}
+use Rattle.store_serve.specs.Answers.{AnswersMore, is_fault}
 use Rattle.crew_accounts.proofs.GivenBytes.{IsFromFront}
 use Rattle.crew_accounts.proofs.ReadingOn.{IsSameEntry, ReadOn, gives_on}
 use Rattle.crew_accounts.proofs.WaitsAt.{waits_some}

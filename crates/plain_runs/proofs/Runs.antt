@@ -25,11 +25,11 @@ use Rattle.store_rule.proofs.Passing.{pass_of}
 use Rattle.rock_open.specs.Opening.{IsStoreOver}
 use Rattle.worker_pool.specs.Courses.{At, Stage}
 use Rattle.worker_pool.specs.Running.{Account}
-use Rattle.serve_lines.specs.Answers.{is_fault}
-use Rattle.serve_lines.specs.Whole.{whole_tab}
+use Rattle.store_serve.specs.Answers.{is_fault}
+use Rattle.store_serve.specs.Whole.{whole_tab}
 use Rattle.worker_shelf.specs.Shelves.{LeftBelow, OnShelf}
 use Rattle.worker_shelf.proofs.Holding.{Stays}
-use Rattle.crew_accounts.specs.Playing.{HasSteps, IsPlayed, fault_answers}
+use Rattle.worker_shelf.specs.Playing.{HasSteps, IsPlayed, fault_answers}
 use Rattle.plain_runs.specs.Words.{setting_of}
 use Rattle.plain_runs.proofs.ShowingOthers.{OneBegins}
 use Rattle.plain_runs.specs.Ends.{HoldsWhole}

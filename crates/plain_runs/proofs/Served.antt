@@ -20,10 +20,10 @@ use Rattle.rock_reader.specs.Closing.{Parted}
 use Rattle.rock_reader.specs.Reading.{ReadsAs, Standing}
 use Rattle.rock_reader.specs.Responses.{HoldsFile}
 use Rattle.rock_writer.specs.Halting.{Halts}
-use Rattle.serve_lines.specs.Answers.{is_fault}
-use Rattle.serve_lines.specs.Reading.{ReadsOn}
-use Rattle.serve_lines.specs.Serving.{Serves, Takes}
-use Rattle.serve_lines.specs.Whole.{whole_tab}
+use Rattle.store_serve.specs.Answers.{is_fault}
+use Rattle.store_serve.specs.Reading.{ReadsOn}
+use Rattle.store_serve.specs.Serving.{Serves, Takes}
+use Rattle.store_serve.specs.Whole.{whole_tab}
 use Rattle.worker_shelf.proofs.Holding.{Stays}
 use Rattle.worker_shelf.specs.Shelves.{LeavesFree, LeavesReader, LeavesWriter, LeftTab}
 use Rattle.worker_shelf.specs.Typed.{IsTyped}

@@ -29,12 +29,12 @@ use Rattle.rock_reader.specs.Reading.{ReadsAs, Standing}
 use Rattle.rock_reader.specs.Responses.{HoldsFile}
 use Rattle.rock_writer.specs.Entries.{Entry, WritesAs}
 use Rattle.rock_writer.specs.Halting.{Halts}
-use Rattle.serve_lines.specs.Answers.{is_fault}
-use Rattle.serve_lines.specs.Reading.{Closes, Opens, ReadsOn}
-use Rattle.serve_lines.specs.Serving.{MayAsk, Serves, ServesRequest, Takes, offer_of}
-use Rattle.serve_lines.specs.Tabs.{IsFree, IsMet, IsOffered, IsReading, IsTurnedAway, IsWriting, Leaves}
-use Rattle.serve_lines.specs.Whole.{Gets, Purges, Puts, whole_tab}
-use Rattle.serve_lines.specs.Writing.{AddsTo, Begins, Drops, EndsEntry}
+use Rattle.store_serve.specs.Answers.{is_fault}
+use Rattle.store_serve.specs.Reading.{Closes, Opens, ReadsOn}
+use Rattle.store_serve.specs.Serving.{MayAsk, Serves, ServesRequest, Takes, offer_of}
+use Rattle.store_serve.specs.Tabs.{IsFree, IsMet, IsOffered, IsReading, IsTurnedAway, IsWriting, Leaves}
+use Rattle.store_serve.specs.Whole.{Gets, Purges, Puts, whole_tab}
+use Rattle.store_serve.specs.Writing.{AddsTo, Begins, Drops, EndsEntry}
 use Rattle.worker_shelf.proofs.Holding.{Stays}
 use Rattle.worker_shelf.specs.Typed.{IsTyped}
 use Rattle.plain_runs.specs.Words.{IsLone, setting_of}

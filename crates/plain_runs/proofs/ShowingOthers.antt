@@ -40,7 +40,7 @@ use Rattle.slice_chain.specs.Victims.{hand_in}
 use Rattle.rock_reader.specs.Reading.{ReadsAs, Standing}
 use Rattle.rock_reader.specs.Responses.{IsOpened, IsResponse, body_below}
 use Rattle.rock_writer.specs.Entries.{WritesAs}
-use Rattle.serve_lines.specs.Tabs.{IsFree, Leaves}
+use Rattle.store_serve.specs.Tabs.{IsFree, Leaves}
 use Rattle.worker_shelf.proofs.Holding.{Stays}
 use Rattle.plain_runs.specs.Words.{IsLone, IsOfOffer, Knows, ShowsEntry, ShowsEntryIf, no_guests, setting_of}
 use Rattle.plain_runs.specs.Shows.{Shows, ShowsReading, ShowsTab, ShowsWriting}

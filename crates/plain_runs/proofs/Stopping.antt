@@ -27,7 +27,7 @@ use Rattle.rock_writer.specs.Flushing.{IsAtLimit, NotFlushed, RanShort}
 use Rattle.rock_writer.specs.Halting.{Halts}
 use Rattle.rock_writer.specs.declared.fault.WriteFault.{WriteFault}
 use Rattle.rock_writer.specs.declared.fault.WriteFault.TheVariants as write
-use Rattle.serve_lines.specs.Answers.{answer_to_fault}
+use Rattle.store_serve.specs.Answers.{answer_to_fault}
 use Rattle.slice_chain.specs.Victims.{hand_in}
 use Rattle.store_rule.specs.declared.store.Pass.{Pass}
 use Rattle.store_rule.specs.declared.store.Store.{Store}

@@ -13,10 +13,10 @@ use Rattle.plain_model.specs.Writing.{Step, add, end, give_up}
 use Rattle.rock_writer.specs.Beginning.{Began}
 use Rattle.rock_writer.specs.Entries.{Entry, WritesAs}
 use Rattle.rock_writer.specs.declared.fault.BeginFault.{BeginFault}
-use Rattle.serve_lines.specs.Answers.{is_fault}
-use Rattle.serve_lines.specs.Tabs.{IsOffered}
-use Rattle.serve_lines.specs.Whole.{Puts, whole_tab}
-use Rattle.serve_lines.specs.Writing.{AddsTo, Drops, EndsEntry}
+use Rattle.store_serve.specs.Answers.{is_fault}
+use Rattle.store_serve.specs.Tabs.{IsOffered}
+use Rattle.store_serve.specs.Whole.{Puts, whole_tab}
+use Rattle.store_serve.specs.Writing.{AddsTo, Drops, EndsEntry}
 use Rattle.store_rule.specs.declared.store.Pass.{Pass}
 use Rattle.store_rule.specs.declared.store.Store.{Store}
 use Rattle.store_rule.specs.Ground.{Offers}

@@ -18,7 +18,7 @@ use Rattle.slice_chain.specs.Victims.{hand_in}
 use Rattle.rock_reader.specs.Reading.{ReadsAs, Standing}
 use Rattle.rock_reader.specs.Responses.{body_below}
 use Rattle.rock_writer.specs.Entries.{Entry as Writing_, WritesAs, size_of}
-use Rattle.serve_lines.specs.Tabs.{IsFree}
+use Rattle.store_serve.specs.Tabs.{IsFree}
 use Rattle.plain_runs.specs.Words.{Knows, no_guests}
 
 module _ {C O : Type 0} (tells : Bool) (state : C → CellState) (offers : O → Offers) (s : Store C O) (rename : ℕ → ℕ) (pass : Pass C) (p : Plain) where

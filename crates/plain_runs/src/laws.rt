@@ -12,7 +12,9 @@ ghost use Rattle.core_model.specs.State.{side_word, word};
 ghost use Rattle.script_text.specs.declared.line.Line.{Line};
 ghost use Rattle.plain_model.specs.declared.store.Plain.{Plain};
 ghost use Rattle.plain_model.specs.Opening.{IsOpened};
-ghost use Rattle.plain_model.specs.Store.{word_at};
+ghost use Rattle.plain_model.specs.declared.entry.Entry.{Entry as PlainEntry};
+ghost use Rattle.plain_model.specs.declared.entry.Life.TheVariants.{Whole};
+ghost use Rattle.plain_model.specs.Store.{entry_at, word_at};
 ghost use Rattle.store_rule.specs.declared.store.Pass.{Pass};
 ghost use Rattle.store_rule.specs.declared.store.Store.{Store};
 ghost use Rattle.store_rule.specs.Closing.{Closed};
@@ -24,7 +26,7 @@ ghost use Rattle.worker_pool.specs.Running.{Account};
 ghost use Rattle.worker_shelf.specs.Shelves.{OnShelf};
 ghost use Rattle.crew_accounts.specs.Playing.{HasRun};
 ghost use Rattle.plain_runs.specs.Words.{IsLone, setting_of};
-ghost use Rattle.plain_runs.specs.Ends.{SpellsResponse};
+ghost use Rattle.plain_runs.specs.Ends.{SpellsResponse, StandsClosed};
 ghost use Rattle.plain_runs.specs.Runs.{IsPlainRun, Numbered, ShowsPlain};
 
 use crew_accounts::faults_are_counted;
@@ -32,8 +34,8 @@ use entry_cut::placed_pieces_are_an_entry;
 use rebuild_model::{one_entry_at_a_slot, one_winner_at_an_anchor};
 use rock_disk::{Cell, Station};
 use rock_reader::{bodies_are_given_from_the_front, opened_stores_hold_their_files};
-use serve_lines::requests_keep_other_tabs;
 use store_rule::Origin;
+use store_serve::requests_keep_other_tabs;
 
 /// Where a store was opened over cells that tell what they hold, there is a plain store that is opened on their images
 /// (`opens`), and a new pass shows each such plain store (`shows`).
@@ -71,6 +73,16 @@ pub fn closed_words_are_plain<C: Cell, O: Origin>()
         (closed : Closed C.tells C.state (basis C.tells C.state O.offers s) views left) (a : ℕ) → IsLone (basis C.tells C.state O.offers s)
         → get_elem? views 0 ≡ some (view p) → ShowsPlain C.tells C.state O.offers s p plain → a < (basis C.tells C.state O.offers s).setting.anchors
         → word closed.gathered.state a ≡ word_number (word_at (setting_of (basis C.tells C.state O.offers s)) plain a) }
+{}
+
+/// When a store with one pass was closed, each whole entry of the plain store that the pass showed stood closed at its
+/// anchor, with its version and its doom, and its offer has its URL and its body.
+pub fn whole_entries_stand_closed<C: Cell, O: Origin>()
+    ensures { (s : Store C O) (p : Pass C) (plain : Plain) (views : List (View (List ℕ))) (left : List C)
+        (closed : Closed C.tells C.state (basis C.tells C.state O.offers s) views left) (a : ℕ) (e : PlainEntry) → IsLone (basis C.tells C.state O.offers s)
+        → get_elem? views 0 ≡ some (view p) → ShowsPlain C.tells C.state O.offers s p plain → a < (basis C.tells C.state O.offers s).setting.anchors
+        → entry_at plain a ≡ Some e → e.life ≡ Whole
+        → StandsClosed (basis C.tells C.state O.offers s) closed.gathered.state plain a e }
 {}
 
 /// Where one worker served a script whose lines are numbered in order, on the only pass of a store that was opened over

@@ -11,9 +11,9 @@ ghost use Rattle.store_rule.specs.declared.store.Pass.{Pass};
 ghost use Rattle.store_rule.specs.declared.store.Store.{Store};
 ghost use Rattle.store_rule.specs.Passes.{basis};
 ghost use Rattle.rock_reader.specs.Responses.{HoldsFile};
-ghost use Rattle.serve_lines.specs.Answers.{is_fault};
-ghost use Rattle.serve_lines.specs.Serving.{Serves, Takes};
-ghost use Rattle.serve_lines.specs.Whole.{whole_tab};
+ghost use Rattle.store_serve.specs.Answers.{is_fault};
+ghost use Rattle.store_serve.specs.Serving.{Serves, Takes};
+ghost use Rattle.store_serve.specs.Whole.{whole_tab};
 ghost use Rattle.worker_shelf.specs.Shelves.{LeftTab};
 ghost use Rattle.worker_shelf.specs.Typed.{IsTyped};
 ghost use Rattle.plain_runs.specs.Shows.{Shows};
@@ -22,8 +22,8 @@ ghost use Rattle.plain_runs.specs.Words.{IsLone, setting_of};
 use rebuild_model::one_entry_at_a_slot;
 use rock_disk::Cell;
 use rock_reader::bodies_are_given_from_the_front;
-use serve_lines::requests_keep_other_tabs;
 use store_rule::Origin;
+use store_serve::requests_keep_other_tabs;
 
 /// Where the only pass of a store whose cells tell what they hold shows a plain store in which the tab of whole requests is
 /// free, a line that it serves, and that no fault meets, is answered as by the plain store, and the pass shows what the

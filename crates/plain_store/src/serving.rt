@@ -15,7 +15,7 @@ use script_text::{Answer, Body, Line, Request};
 use std::alloc::{AllocError, Global};
 
 /// The tab of requests without one.
-const WHOLE: u8 = 7;
+const WHOLE_TAB: u8 = 7;
 
 /// `count` letters in turn, from the one at this shift on.
 fn letters(alloc: Global, count: u32, shift: u8) -> Result<Vec<u8>, AllocError>
@@ -71,8 +71,8 @@ fn put(
     requires offer { IsOffer url.now body.now }
     ensures { IfOk result (λ answer. put setting.now url.now (bytes_of body.now) (setting.now.slots + number) store.old ≡ step answer store.new) }
 {
-    match begin_offer(alloc, setting, store, WHOLE, url, body, number)? {
-        Answer::Begun { .. } => Ok(end(setting, store, WHOLE)),
+    match begin_offer(alloc, setting, store, WHOLE_TAB, url, body, number)? {
+        Answer::Begun { .. } => Ok(end(setting, store, WHOLE_TAB)),
         answer => Ok(answer),
     }
 }
@@ -82,12 +82,12 @@ fn get(alloc: Global, setting: &Setting, store: &mut Plain, url: &[u8]) -> Resul
     requires { IsOpenable setting.now }
     ensures { IfOk result (λ answer. get setting.now url.now store.old ≡ step answer store.new) }
 {
-    let version = match open_tab(setting, store, WHOLE, url) {
+    let version = match open_tab(setting, store, WHOLE_TAB, url) {
         Answer::Opened { version } => version,
         answer => return Ok(answer),
     };
-    let answer = more(alloc, setting, store, WHOLE)?;
-    let _ = close(store, WHOLE);
+    let answer = more(alloc, setting, store, WHOLE_TAB)?;
+    let _ = close(store, WHOLE_TAB);
     Ok(match answer {
         Answer::End { bytes } => Answer::Hit { version, bytes },
         answer => answer,

@@ -7,7 +7,7 @@ use crate::look::{is_idle, published};
 use plain_model::{Life, Place, Plain, Refusal, Setting, Size};
 
 /// The most slots that an entry may have, whatever the store has.
-const MOST_SLOTS: u64 = 4096;
+const MOST_ENTRY_SLOTS: u64 = 4096;
 
 /// How many slots an anchor's entry holds, where a slot has room for so many bytes.
 pub fn held(room: u32, place: &Place) -> u64
@@ -112,7 +112,7 @@ fn publish(
     ensures { publish setting.now anchor filled store.old ≡ grown_as store.new result }
 {
     store.places.resize(anchor, Size::new(full));
-    if MOST_SLOTS.min(u64::from(setting.slots)) <= filled {
+    if MOST_ENTRY_SLOTS.min(u64::from(setting.slots)) <= filled {
         return Some(Refusal::Large);
     }
     let done = if filled == 1 {

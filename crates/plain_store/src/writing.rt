@@ -6,13 +6,11 @@ ghost use Rattle.plain_model.specs.Writing.{step, settle, close_writer, refused_
 
 use crate::look::{is_idle, is_left_over, is_vacant, meta_size, published, word_at};
 use crate::slots::{claim, grow};
+use lock_word::GREATEST_VERSION;
 use plain_model::{Entry, Life, Place, Plain, Refusal, Setting, Size, Tab, Text};
 use rock_io::Octets;
 use script_text::Answer;
 use store_key::{anchor_of, key_of};
-
-/// The least counter at which no version is left.
-const LIMIT: u64 = 4_294_901_760;
 
 /// Lets an entry go that is left over.
 pub(crate) fn settle(store: &mut Plain, anchor: u32)
@@ -122,7 +120,7 @@ fn begin_at(setting: &Setting, store: &mut Plain, tab: u8, anchor: u32, entry: E
             found: word,
         };
     }
-    if store.counter >= LIMIT {
+    if store.counter >= GREATEST_VERSION {
         return Answer::Spent {
             versions: store.counter,
         };

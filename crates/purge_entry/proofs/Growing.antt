@@ -15,7 +15,7 @@ use Rattle.rw_anchor.specs.Calls.{Leaves}
 use Rattle.rw_anchor.specs.declared.Left.{Left}
 use Rattle.slice_chain.specs.Freeing.{Freed}
 use Rattle.slice_chain.specs.Names.{KeyLoaded}
-use Rattle.purge_entry.specs.Parting.{Parted}
+use Rattle.rock_reader.specs.Closing.{Parted}
 
 seen_more : (a : ℕ) (xs ys : List Sight) → seen_at a ys ≤ seen_at a (xs ++ ys)
 seen_more a [] ys = omega arith

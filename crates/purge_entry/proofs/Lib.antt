@@ -1,5 +1,2 @@
-pub mod Growing
-pub mod PartedTabs
-pub mod Coming
-pub mod Judging
-pub mod Answering
+mod Growing
+mod Answering

@@ -1,3 +1,1 @@
-pub mod Parting
-pub mod Judging
 pub mod Purging

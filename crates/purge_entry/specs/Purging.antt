@@ -1,11 +1,11 @@
 -- An entry is purged. The inner tab of the pass comes to its anchor, dooms it and leaves.
-use Rattle.std.specs.Prelude.{Bool, List, false, true, ◌≡◌, ℕ}
+use Rattle.std.specs.Prelude.{Bool, List, true, ◌≡◌, ℕ}
 use Rattle.lock_word.specs.Life.{IsReadable}
 use Rattle.lock_word.specs.Words.{doomed, epoch_number, epoch_of}
 use Rattle.lock_word.specs.declared.epoch.Epoch.{Epoch}
 use Rattle.rock_disk.specs.Cell.{CellState}
 use Rattle.store_key.specs.Key.{key_of}
-use Rattle.core_model.specs.Tabs.{InnerIsFree, holds_turn, inner, is_counted, tab_at}
+use Rattle.core_model.specs.Tabs.{InnerIsFree, tab_at}
 use Rattle.core_model.specs.declared.moves.Move.TheVariants.{Doom}
 use Rattle.core_model.specs.declared.tab.Tab.TheVariants.{Reading}
 use Rattle.core_model.specs.declared.view.View.{View}
@@ -16,8 +16,8 @@ use Rattle.store_rule.specs.Passes.{IsOf, basis, view}
 use Rattle.store_rule.specs.Told.{Steps}
 use Rattle.store_rule.specs.Calls.{IsFresh}
 use Rattle.slice_chain.specs.Names.{KeyLoaded}
-use Rattle.purge_entry.specs.Judging.{Came, opened}
-use Rattle.purge_entry.specs.Parting.{Parted}
+use Rattle.rock_reader.specs.Closing.{Parted}
+use Rattle.rock_reader.specs.Opening.{Came, opened}
 
 module _ {C O : Type 0} (tells : Bool) (state : C → CellState) (offers : O → Offers) where
   -- The inner tab is free, and the pass may name the anchor of the URL.
@@ -25,18 +25,6 @@ module _ {C O : Type 0} (tells : Bool) (state : C → CellState) (offers : O →
     pub own : IsOf tells state offers s p
     pub inner_free : InnerIsFree (view p)
     pub names : MayName (basis tells state offers s) (view p) (anchor_for (basis tells state offers s) url)
-
-  -- The inner tab has just come to an entry, of which nothing but the epoch is known so far.
-  pub record MayJudge (s : Store C O) (p : Pass C) (anchor : ℕ) (epoch : Epoch) : Type 0 where
-    pub own : IsOf tells state offers s p
-    pub is : tab_at (view p) inner ≡ Reading (opened anchor epoch.version)
-    pub readable : IsReadable epoch
-
-  -- the inner tab is counted at an anchor and holds no turn
-  pub record MayPart (s : Store C O) (p : Pass C) : Type 0 where
-    pub own : IsOf tells state offers s p
-    pub counted : is_counted (tab_at (view p) inner) ≡ true
-    pub idle : holds_turn (tab_at (view p) inner) ≡ false
 
 -- The key kept for the version was loaded, which is the wanted one. The entry was doomed, and the tab left the anchor. While it was there it
 -- read that version.

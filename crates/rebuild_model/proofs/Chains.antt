@@ -1,5 +1,5 @@
 -- Chains of slots.
-use Rattle.std.proofs.Common.{◌≡◌, ℕ, List, [], ◌∷◌, refl, ap, sym, ◌∙◌, subst}
+use Rattle.std.proofs.Common.{◌≡◌, ℕ, List, [], ◌∷◌, refl, ap, sym, ◌∙◌, subst, arith}
 use Rattle.std.specs.Prelude.{ℤ, pos, negsuc, Contains}
 use Rattle.std.proofs.lemmas.List.Elements.{All-contains}
 use Rattle.rebuild_model.specs.Image.{header_at, BelongsTo, Links}
@@ -38,3 +38,10 @@ same_pos e k = cc
 -- chains that share a slot begin at one slot
 pub same_first : (slot : ℕ) (images : List (List ℕ)) (s t : ℕ) (xs ys : List ℕ) (shared : ℕ) → IsChain slot images s xs → IsChain slot images t ys → Contains xs shared → Contains ys shared → s ≡ t
 same_first slot images s t xs ys shared p q here there = same_pos (names_first slot images s xs shared p here) (names_first slot images t ys shared q there)
+
+first_there : (s : ℕ) (chain behind : List ℕ) → chain ≡ s ∷ behind → Contains chain s
+first_there s chain behind e = subst (λ c. Contains c s) (sym e) (0, omega arith, refl)
+
+-- the first slot of a chain belongs to itself
+pub first_belongs : (slot : ℕ) (images : List (List ℕ)) (s : ℕ) (chain : List ℕ) → IsChain slot images s chain → BelongsTo slot images s s
+first_belongs slot images s chain c = All-contains (BelongsTo slot images s) chain s c.belong (first_there s chain c.behind c.begins)

@@ -8,7 +8,7 @@ use Rattle.std.proofs.lemmas.List.Sums.{sum_by-cons}
 use Rattle.rebuild_model.specs.Image.{IsFile, IsSaneAt, image_at, payload_at, BelongsTo}
 use Rattle.rebuild_model.specs.Entry.{IsChain, content_of}
 use Rattle.rebuild_model.specs.Plain.{size_at}
-use Rattle.rebuild_model.proofs.Alone.{first_belongs}
+use Rattle.rebuild_model.proofs.Chains.{first_belongs}
 
 -- a payload has as many bytes as its header says
 payload_length : (slot : ℕ) (images : List (List ℕ)) (s : ℕ) → IsFile slot images → IsSaneAt slot images s → length (payload_at images s) ≡ size_at images s

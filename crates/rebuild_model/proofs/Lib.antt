@@ -1,5 +1,4 @@
 pub mod Chains
-pub mod Alone
 pub mod Lengths
 pub mod Metadata
 pub mod Same

@@ -65,18 +65,3 @@ pub record IsStored (slot : ℕ) (images : List (List ℕ)) (url body : List ℕ
   pub complete : IsComplete slot images entry
   pub url_is : entry.url ≡ url
   pub body_is : entry.body ≡ body
-
--- this entry has one slot: it is sane, it names itself first and nothing next, and its payload is the whole
-pub record IsAlone (slot : ℕ) (images : List (List ℕ)) (e : Entry) : Type 0 where
-  pub sane : IsSaneAt slot images e.first
-  pub starts : (header_at images e.first).first_slot ≡ pos e.first
-  pub ends : (header_at images e.first).next_slot ≡ negsuc 0
-  pub whole : (header_at images e.first).entry_size ≡ (header_at images e.first).payload_size
-  pub size : ℕ
-  pub meta : Spells (take size (payload_at images e.first)) e.key e.url size
-  pub key : e.key ≡ key_at images e.first
-  pub key_of_url : e.key ≡ key_of e.url
-  pub url : IsUrl e.url
-  pub version : e.version ≡ (header_at images e.first).version
-  pub chain : e.chain ≡ e.first ∷ []
-  pub body : e.body ≡ drop size (payload_at images e.first)

@@ -50,3 +50,8 @@ pub record AreWinners (slot : ℕ) (images : List (List ℕ)) (anchors bound : �
 -- these numbers tell whose each slot is
 abbrev pub AreOwners : ℕ → List Found → List ℕ → Type 0
 AreOwners anchors winners owners = (s : ℕ) → s < length owners → IsOwner anchors winners s (slice_index owners s)
+
+-- as many anchors as a store of this number of slots may have
+pub record IsAnchors (anchors slots : ℕ) : Type 0 where
+  pub from : 1 ≤ anchors
+  pub to : anchors ≤ slots

@@ -1,9 +1,9 @@
 // The laws of the definitions.
-ghost use Rattle.std.specs.Prelude.{◌≡◌, ◌≢◌, ◌+◌, ◌<◌, ℕ, List, [], ◌∷◌, ◌++◌, ◌↔◌, negsuc, length, map, slice_index, Contains};
+ghost use Rattle.std.specs.Prelude.{◌≡◌, ◌≢◌, ◌+◌, ◌<◌, ℕ, List, [], ◌∷◌, ◌++◌, length, map, slice_index, Contains};
 ghost use Rattle.std.specs.List.Sorted.{IsStrictlyIncreasing};
 ghost use Rattle.store_key.specs.Anchor.{anchor_of};
-ghost use Rattle.rebuild_model.specs.Image.{IsSaneAt, IsGreatest, header_at};
-ghost use Rattle.rebuild_model.specs.Entry.{Entry, IsChain, IsComplete, IsAlone};
+ghost use Rattle.rebuild_model.specs.Image.{IsGreatest};
+ghost use Rattle.rebuild_model.specs.Entry.{Entry, IsChain, IsComplete};
 ghost use Rattle.rebuild_model.specs.Keeping.{HasNoneAt, IsKept, AreWinners, AreOwners};
 ghost use Rattle.rebuild_model.specs.Rebuilt.{IsWinner, IsRebuilt};
 ghost use Rattle.rebuild_model.specs.declared.found.Found.{Found};
@@ -47,13 +47,6 @@ pub fn winners_are_apart()
 {
     chains_are_apart();
 }
-
-/// Where no sane slot goes on in another, the complete entries are those of one slot.
-pub fn entries_of_one_slot()
-    ensures { (slot : ℕ) (images : List (List ℕ))
-        → ((s : ℕ) → IsSaneAt slot images s → (header_at images s).next_slot ≡ negsuc 0)
-        → (e : Entry) → (IsComplete slot images e ↔ IsAlone slot images e) }
-{}
 
 /// The entries that are kept may be gathered anchor by anchor: there are none at first, and each
 /// anchor has none or adds one.

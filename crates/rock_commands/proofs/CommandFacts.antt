@@ -1,10 +1,10 @@
 -- A command line is one command, with one reading.
-use Rattle.std.proofs.Common.{◌≡◌, inl, inr, ℕ, ◌^◌, ◌<◌, List, [], ◌∷◌, length, get_or, map, true, ap, sym, ◌∙◌, subst, arith}
-use Rattle.std.specs.Prelude.{decimal}
+use Rattle.std.proofs.Common.{◌≡◌, inl, inr, ℕ, ◌+◌, ◌%◌, ◌^◌, ◌<◌, List, [], ◌∷◌, length, length-append, get_or, map, true, ap, refl, sym, ◌∙◌, subst, arith, None, Some}
+use Rattle.std.specs.Prelude.{Option, codes, decimal}
 use Rattle.std.specs.Str.{bytes_eq}
 use Rattle.std.proofs.lemmas.Slice.Eq.{bytes_eq-Decides}
-use Rattle.std.proofs.lemmas.Fmt.{decimal_injective}
-use Rattle.rock_commands.specs.CommandLine.{IsName, IsList, IsCheck, IsCreate, IsRun, IsBench, IsCommandLine}
+use Rattle.std.proofs.lemmas.Fmt.{decimal_by_steps, decimal_injective}
+use Rattle.rock_commands.specs.CommandLine.{FitsWord, IsList, IsCheck, IsCreate, IsRun, IsBench, IsCommandLine, slot_word}
 
 third : {a b c a' b' c' : List ℕ} → a ∷ b ∷ c ∷ [] ≡ a' ∷ b' ∷ c' ∷ [] → (b ≡ b') × (c ≡ c')
 third e = (cc, cc)
@@ -24,21 +24,37 @@ three_are_not_five e = let counts = ap length e in omega (arith, counts)
 four_are_not_five : {A : Type 0} {a b c d a' b' c' d' e' : A} → a ∷ b ∷ c ∷ d ∷ [] ≡ a' ∷ b' ∷ c' ∷ d' ∷ e' ∷ [] → ⊥
 four_are_not_five e = let counts = ap length e in omega (arith, counts)
 
+-- a number is not spelled `-`
+spelled_with_digits : (n : ℕ) → n < 2 ^ 64 → (0 < length (decimal n)) × (decimal n ≡ codes "-" → ⊥)
+spelled_with_digits = decimal_by_steps (λ n text. (0 < length text) × (text ≡ codes "-" → ⊥))
+    (λ n small. (omega arith, λ e. let digit : 48 + n ≡ 45 = cc in omega (arith, digit)))
+    (λ n front large h. (
+      omega (arith, length-append front ((48 + n % 10) ∷ [])),
+      λ e. let long = ap length e in omega (arith, long, h.0, length-append front ((48 + n % 10) ∷ [])),
+    ))
+
+-- a slot size that is given, or none, is spelled in a way of its own
+one_slot_word : (given other : Option ℕ) → FitsWord given → FitsWord other → slot_word given ≡ slot_word other → given ≡ other
+one_slot_word None None fits too e = refl
+one_slot_word None (Some n) fits too e = absurd ((spelled_with_digits n (omega (arith, too))).1 (sym e))
+one_slot_word (Some n) None fits too e = absurd ((spelled_with_digits n (omega (arith, fits))).1 e)
+one_slot_word (Some n) (Some m) fits too e = ap Some (decimal_injective n m (omega (arith, fits)) (omega (arith, too)) e)
+
 -- what holds of the name and the slot size of one reading of the words holds of those of each
-pub of_each : (words : List (List ℕ)) (P : List ℕ → ℕ → Type 0) {name : List ℕ} {slot : ℕ} (name' : List ℕ) (slot' : ℕ) → IsList words name slot → IsList words name' slot' → P name slot → P name' slot'
-of_each words P {name = name} {slot = slot} name' slot' p q holds =
+pub of_each : (words : List (List ℕ)) (P : List ℕ → Option ℕ → Type 0) {name : List ℕ} {given : Option ℕ} (name' : List ℕ) (given' : Option ℕ) → IsList words name given → IsList words name' given' → P name given → P name' given'
+of_each words P {name = name} {given = given} name' given' p q holds =
     let parts = third (sym p.words_are ∙ q.words_are) in
-    subst (λ s. P name' s) (decimal_injective slot slot' (omega (arith, p.fits)) (omega (arith, q.fits)) parts.1) (subst (λ n. P n slot) parts.0 holds)
+    subst (λ s. P name' s) (one_slot_word given given' p.fits q.fits parts.1) (subst (λ n. P n given) parts.0 holds)
 
 -- and of its anchors
-pub of_each_check : (words : List (List ℕ)) (P : List ℕ → ℕ → ℕ → Type 0) {name : List ℕ} {slot anchors : ℕ} (name' : List ℕ) (slot' anchors' : ℕ) → IsCheck words name slot anchors → IsCheck words name' slot' anchors'
-    → P name slot anchors → P name' slot' anchors'
-of_each_check words P {name = name} {slot = slot} {anchors = anchors} name' slot' anchors' p q holds =
+pub of_each_check : (words : List (List ℕ)) (P : List ℕ → Option ℕ → ℕ → Type 0) {name : List ℕ} {given : Option ℕ} {anchors : ℕ} (name' : List ℕ) (given' : Option ℕ) (anchors' : ℕ) → IsCheck words name given anchors → IsCheck words name' given' anchors'
+    → P name given anchors → P name' given' anchors'
+of_each_check words P {name = name} {given = given} {anchors = anchors} name' given' anchors' p q holds =
     let parts = fourth (sym p.words_are ∙ q.words_are) in
-    subst (λ a. P name' slot' a) (decimal_injective anchors anchors' (omega (arith, p.anchors_fit)) (omega (arith, q.anchors_fit)) parts.2)
-    (subst (λ s. P name' s anchors) (decimal_injective slot slot' (omega (arith, p.fits)) (omega (arith, q.fits)) parts.1) (subst (λ n. P n slot anchors) parts.0 holds))
+    subst (λ a. P name' given' a) (decimal_injective anchors anchors' (omega (arith, p.anchors_fit)) (omega (arith, q.anchors_fit)) parts.2)
+    (subst (λ s. P name' s anchors) (one_slot_word given given' p.fits q.fits parts.1) (subst (λ n. P n given anchors) parts.0 holds))
 
--- and of its slots
+-- and of the slots of a file that is made
 pub of_each_create : (words : List (List ℕ)) (P : List ℕ → ℕ → ℕ → Type 0) {name : List ℕ} {slot slots : ℕ} (name' : List ℕ) (slot' slots' : ℕ) → IsCreate words name slot slots → IsCreate words name' slot' slots'
     → P name slot slots → P name' slot' slots'
 of_each_create words P {name = name} {slot = slot} {slots = slots} name' slot' slots' p q holds =
@@ -47,13 +63,13 @@ of_each_create words P {name = name} {slot = slot} {slots = slots} name' slot' s
     (subst (λ s. P name' s slots) (decimal_injective slot slot' (omega (arith, p.fits)) (omega (arith, q.fits)) parts.1) (subst (λ n. P n slot slots) parts.0 holds))
 
 -- and of its anchors and workers
-pub of_each_run : (words : List (List ℕ)) (P : List ℕ → ℕ → ℕ → ℕ → Type 0) {name : List ℕ} {slot anchors workers : ℕ} (name' : List ℕ) (slot' anchors' workers' : ℕ) → IsRun words name slot anchors workers → IsRun words name' slot' anchors' workers'
-    → P name slot anchors workers → P name' slot' anchors' workers'
-of_each_run words P {name = name} {slot = slot} {anchors = anchors} {workers = workers} name' slot' anchors' workers' p q holds =
+pub of_each_run : (words : List (List ℕ)) (P : List ℕ → Option ℕ → ℕ → ℕ → Type 0) {name : List ℕ} {given : Option ℕ} {anchors workers : ℕ} (name' : List ℕ) (given' : Option ℕ) (anchors' workers' : ℕ) → IsRun words name given anchors workers → IsRun words name' given' anchors' workers'
+    → P name given anchors workers → P name' given' anchors' workers'
+of_each_run words P {name = name} {given = given} {anchors = anchors} {workers = workers} name' given' anchors' workers' p q holds =
     let parts = fifth (sym p.words_are ∙ q.words_are) in
-    subst (λ w. P name' slot' anchors' w) (decimal_injective workers workers' (omega (arith, p.workers_fit)) (omega (arith, q.workers_fit)) parts.3)
-    (subst (λ a. P name' slot' a workers) (decimal_injective anchors anchors' (omega (arith, p.anchors_fit)) (omega (arith, q.anchors_fit)) parts.2)
-    (subst (λ s. P name' s anchors workers) (decimal_injective slot slot' (omega (arith, p.fits)) (omega (arith, q.fits)) parts.1) (subst (λ n. P n slot anchors workers) parts.0 holds)))
+    subst (λ w. P name' given' anchors' w) (decimal_injective workers workers' (omega (arith, p.workers_fit)) (omega (arith, q.workers_fit)) parts.3)
+    (subst (λ a. P name' given' a workers) (decimal_injective anchors anchors' (omega (arith, p.anchors_fit)) (omega (arith, q.anchors_fit)) parts.2)
+    (subst (λ s. P name' s anchors workers) (one_slot_word given given' p.fits q.fits parts.1) (subst (λ n. P n given anchors workers) parts.0 holds)))
 
 -- and of its seed, workers and rounds
 pub of_each_bench : (words : List (List ℕ)) (P : List ℕ → ℕ → ℕ → ℕ → Type 0) {name : List ℕ} {seed workers count : ℕ} (name' : List ℕ) (seed' workers' count' : ℕ) → IsBench words name seed workers count → IsBench words name' seed' workers' count'
@@ -64,14 +80,23 @@ of_each_bench words P {name = name} {seed = seed} {workers = workers} {count = c
     (subst (λ w. P name' seed' w count) (decimal_injective workers workers' (omega (arith, p.workers_fit)) (omega (arith, q.workers_fit)) parts.2)
     (subst (λ s. P name' s workers count) (decimal_injective seed seed' (omega (arith, p.fits)) (omega (arith, q.fits)) parts.1) (subst (λ n. P n seed workers count) parts.0 holds)))
 
--- a line `run` is no line of another command
-pub list_is_no_run : {words : List (List ℕ)} {name name' : List ℕ} {slot slot' anchors workers : ℕ} → IsList words name slot → IsRun words name' slot' anchors workers → ⊥
+-- a line of one command is no line of another
+pub list_is_no_run : {words : List (List ℕ)} {name name' : List ℕ} {given given' : Option ℕ} {anchors workers : ℕ} → IsList words name given → IsRun words name' given' anchors workers → ⊥
 list_is_no_run l r = three_are_not_five (sym l.words_are ∙ r.words_are)
 
-pub check_is_no_run : {words : List (List ℕ)} {name name' : List ℕ} {slot count slot' anchors workers : ℕ} → IsCheck words name slot count → IsRun words name' slot' anchors workers → ⊥
+pub list_is_no_check : {words : List (List ℕ)} {name name' : List ℕ} {given given' : Option ℕ} {anchors : ℕ} → IsList words name given → IsCheck words name' given' anchors → ⊥
+list_is_no_check l k = three_are_not_four (sym l.words_are ∙ k.words_are)
+
+pub list_is_no_create : {words : List (List ℕ)} {name name' : List ℕ} {given : Option ℕ} {slot slots : ℕ} → IsList words name given → IsCreate words name' slot slots → ⊥
+list_is_no_create l k = three_are_not_four (sym l.words_are ∙ k.words_are)
+
+pub list_is_no_bench : {words : List (List ℕ)} {name name' : List ℕ} {given : Option ℕ} {seed workers count : ℕ} → IsList words name given → IsBench words name' seed workers count → ⊥
+list_is_no_bench l b = three_are_not_five (sym l.words_are ∙ b.words_are)
+
+pub check_is_no_run : {words : List (List ℕ)} {name name' : List ℕ} {given given' : Option ℕ} {count anchors workers : ℕ} → IsCheck words name given count → IsRun words name' given' anchors workers → ⊥
 check_is_no_run k r = four_are_not_five (sym k.words_are ∙ r.words_are)
 
-pub create_is_no_run : {words : List (List ℕ)} {name name' : List ℕ} {slot count slot' anchors workers : ℕ} → IsCreate words name slot count → IsRun words name' slot' anchors workers → ⊥
+pub create_is_no_run : {words : List (List ℕ)} {name name' : List ℕ} {given' : Option ℕ} {slot count anchors workers : ℕ} → IsCreate words name slot count → IsRun words name' given' anchors workers → ⊥
 create_is_no_run k r = four_are_not_five (sym k.words_are ∙ r.words_are)
 
 -- a list of three is its elements
@@ -117,18 +142,18 @@ pub five_words : {A : Type 0} (view : A → List ℕ) (xs : List A) (a b c d e :
     → view a ≡ first → view b ≡ second → view c ≡ next → view d ≡ then → view e ≡ last → words ≡ first ∷ second ∷ next ∷ then ∷ last ∷ []
 five_words view xs a b c d e words first second next then last seen long p q r s t one two three four end = sym seen ∙ ap (map view) (five xs a b c d e long p q r s t) ∙ cc (one, two, three, four, end)
 
--- four words are no command line where the last three are no name and two numbers
-pub no_numbers : (words : List (List ℕ)) (first second next last : List ℕ) → words ≡ first ∷ second ∷ next ∷ last ∷ []
-    → ((slot count : ℕ) → slot < 2 ^ 32 → count < 2 ^ 32 → IsName second → next ≡ decimal slot → last ≡ decimal count → ⊥) → IsCommandLine words → ⊥
-no_numbers words first second next last are not (inl l) = three_are_not_four (sym l.2.words_are ∙ are)
-no_numbers words first second next last are not (inr (inl k)) =
+-- four words are no command line where the last is no number
+pub no_number : (words : List (List ℕ)) (first second next last : List ℕ) → words ≡ first ∷ second ∷ next ∷ last ∷ []
+    → ((count : ℕ) → count < 2 ^ 32 → last ≡ decimal count → ⊥) → IsCommandLine words → ⊥
+no_number words first second next last are not (inl l) = three_are_not_four (sym l.2.words_are ∙ are)
+no_number words first second next last are not (inr (inl k)) =
     let parts = fourth (sym are ∙ k.3.words_are) in
-    not k.1 k.2 k.3.fits k.3.anchors_fit (subst IsName (sym parts.0) k.3.named) parts.1 parts.2
-no_numbers words first second next last are not (inr (inr (inl k))) =
+    not k.2 k.3.anchors_fit parts.2
+no_number words first second next last are not (inr (inr (inl k))) =
     let parts = fourth (sym are ∙ k.3.words_are) in
-    not k.1 k.2 k.3.fits k.3.slots_fit (subst IsName (sym parts.0) k.3.named) parts.1 parts.2
-no_numbers words first second next last are not (inr (inr (inr (inl r)))) = four_are_not_five (sym are ∙ r.4.words_are)
-no_numbers words first second next last are not (inr (inr (inr (inr b)))) = four_are_not_five (sym are ∙ b.4.words_are)
+    not k.2 k.3.slots_fit parts.2
+no_number words first second next last are not (inr (inr (inr (inl r)))) = four_are_not_five (sym are ∙ r.4.words_are)
+no_number words first second next last are not (inr (inr (inr (inr b)))) = four_are_not_five (sym are ∙ b.4.words_are)
 
 -- nor are five where the last two are no numbers
 pub no_two_numbers : (words : List (List ℕ)) (first second next then last : List ℕ) → words ≡ first ∷ second ∷ next ∷ then ∷ last ∷ []

@@ -1,12 +1,13 @@
--- When a report is made, and that no station is ended where none was made.
-use Rattle.std.proofs.Common.{◌≡◌, ◌⊎◌, inl, inr, ℕ, List, [], ◌∷◌, ◌++◌, length, length-append, refl, ap, sym, ◌∙◌, subst, arith, Some, None}
+-- When a report is made, what it leaves of the files, and that no station is ended where none was made.
+use Rattle.std.proofs.Common.{◌≡◌, inl, inr, ℕ, List, [], ◌∷◌, ◌++◌, length, length-append, refl, ap, sym, ◌∙◌, subst, arith, Some}
 use Rattle.std.specs.Prelude.{Option}
-use Rattle.rock_disk.specs.File.{File, Files, bytes_of}
+use Rattle.rock_disk.specs.File.{File, Files, HaveSameBytes, IsKept, NoneAway, bytes_of}
 use Rattle.db_layout.specs.Layout.{slots_of}
 use Rattle.rock_disk.specs.Opened.{IsSmall}
-use Rattle.db_layout.specs.Layout.{IsSlotSize}
 use Rattle.file_commands.specs.Device.{DeviceFailed, DeviceKept, NoFault}
-use Rattle.file_commands.specs.Report.{HasSlots, IsFit, ReportEnds, ReportSays, MayReport, ReportsOrLacksMemory}
+use Rattle.file_commands.specs.Report.{HasSlots, IsFit, IsUnfit, ReportEnds, ReportSays, MayReport, ReportsOrLacksMemory}
+use Rattle.slot_finding.specs.Finding.{IsKeptFor}
+use Rattle.slot_finding.proofs.Causes.{found_agrees, found_fits, found_known, found_long, found_there, of_one}
 use Rattle.rock_status.specs.declared.status.Status.{Status}
 use Rattle.rock_status.specs.declared.status.Status.TheVariants.{Done, Usage, Memory, SourceFault, SinkFault, DeviceFault, BadScript, Missing, Small, BadGeometry, Exists}
 
@@ -17,9 +18,6 @@ grew before count e = let longer = ap length e ∙ length-append before (count �
 -- no station was ended
 pub none_ended : {v v' : ℕ} {e e' : List ℕ} → v' ≡ v → e' ≡ e → DeviceKept v v' e e'
 none_ended {e = e} same ended = record { volume = same; station = λ count is. absurd (grew e count (sym ended ∙ is)) }
-
-lacks_no_file : {f : File} {o : Option File} → o ≡ None → o ≡ Some f → ⊥
-lacks_no_file e k = cc
 
 one_file : {f g : File} {o : Option File} → o ≡ Some f → o ≡ Some g → f ≡ g
 one_file e k = cc
@@ -37,37 +35,36 @@ not_short files name slot n bytes h small =
     let same : length (bytes_of h.was) ≡ length (bytes_of small.was) = ap (λ f. length (bytes_of f)) (one_file h.there small.found) in
     omega (arith, h.long, small.size, small.short, same)
 
-fits_not : (Fits : ℕ → Type 0) (files : Files) (name : List ℕ) (slot n : ℕ) → HasSlots files name slot n → ¬ Fits n → IsFit Fits files name slot → ⊥
-fits_not Fits files name slot n h not fit = not (subst Fits (one_count files name slot fit.0 n fit.1 h) fit.2)
+fits_not : (Fits : ℕ → Type 0) (files : Files) (name : List ℕ) (slot : ℕ) → IsUnfit Fits files name slot → IsFit Fits files name slot → ⊥
+fits_not Fits files name slot unfit fit = unfit.2 (subst Fits (one_count files name slot fit.0 unfit.0 fit.1 unfit.1) fit.2)
 
 -- where nothing refuses the command and no fault came, it is done, unless memory ran out
-pub complete : (Fits : ℕ → Type 0) (files : Files) (name : List ℕ) (slot s s' v v' : ℕ) (e e' : List ℕ) (status : Status) → ReportEnds Fits slot s s' v v' e e' status → ReportSays Fits files name slot status
-    → MayReport Fits files name slot → NoFault s s' v v' e e' → ReportsOrLacksMemory status
-complete Fits files name slot s s' v v' e e' Done ends says may none = inl refl
-complete Fits files name slot s s' v v' e e' Usage ends says may none = absurd ends
-complete Fits files name slot s s' v v' e e' Memory ends says may none = inr refl
-complete Fits files name slot s s' v v' e e' SourceFault ends says may none = absurd ends
-complete Fits files name slot s s' v v' e e' SinkFault ends says may none = absurd (none.sink ends.1)
-complete Fits files name slot s s' v v' e e' DeviceFault ends says may none = absurd (not_failed ends.1 none)
-complete Fits files name slot s s' v v' e e' (BadScript line cause) ends says may none = absurd ends
-complete Fits files name slot s s' v v' e e' Missing ends says may none = absurd (lacks_no_file says may.fit.1.there)
-complete Fits files name slot s s' v v' e e' (Small bytes) ends says may none = absurd (not_short files name slot may.fit.0 bytes may.fit.1 says)
-complete Fits files name slot s s' v v' e e' (BadGeometry field) (inl ends) says may none = absurd (ends.1 may.sized)
-complete Fits files name slot s s' v v' e e' (BadGeometry field) (inr ends) says may none = let other = says ends.0 in absurd (fits_not Fits files name slot other.0 other.1 other.2 may.fit)
-complete Fits files name slot s s' v v' e e' Exists ends says may none = absurd ends
+pub complete : (Fits : ℕ → Type 0) (files : Files) (name : List ℕ) (given : Option ℕ) (s s' v v' : ℕ) (e e' : List ℕ) (status : Status) → ReportEnds Fits given s s' v v' e e' status → ReportSays Fits files name given status
+    → MayReport Fits files name given → NoFault s s' v v' e e' → ReportsOrLacksMemory status
+complete Fits files name given s s' v v' e e' Done ends says may none = inl refl
+complete Fits files name given s s' v v' e e' Usage ends says may none = absurd ends
+complete Fits files name given s s' v v' e e' Memory ends says may none = inr refl
+complete Fits files name given s s' v v' e e' SourceFault ends says may none = absurd ends
+complete Fits files name given s s' v v' e e' SinkFault ends says may none = absurd (none.sink ends.1)
+complete Fits files name given s s' v v' e e' DeviceFault ends says may none = absurd (not_failed ends.1 none)
+complete Fits files name given s s' v v' e e' (BadScript line cause) ends says may none = absurd ends
+complete Fits files name given s s' v v' e e' Missing ends says may none = absurd (found_there files name given may.fit.0 may.fit.1 says)
+complete Fits files name given s s' v v' e e' (Small bytes) ends (inl header) may none = absurd (found_long files name given may.fit.0 bytes may.fit.1 header)
+complete Fits files name given s s' v v' e e' (Small bytes) ends (inr w) may none = let f = may.fit in absurd (not_short files name f.0 f.2.0 bytes f.2.1 (of_one files name given f.0 f.1 w))
+complete Fits files name given s s' v v' e e' (BadGeometry field) (inl first) says may none = absurd (first.1 may.sized)
+complete Fits files name given s s' v v' e e' (BadGeometry field) (inr (sized, inl (inl six))) says may none = absurd (found_fits files name given may.fit.0 may.fit.1 (says.wrong six))
+complete Fits files name given s s' v v' e e' (BadGeometry field) (inr (sized, inl (inr (inl five)))) says may none = absurd (found_agrees files name given may.fit.0 may.fit.1 (says.differs five.0))
+complete Fits files name given s s' v v' e e' (BadGeometry field) (inr (sized, inl (inr (inr seven)))) says may none = absurd (found_known files name given may.fit.0 may.fit.1 (says.unknown seven.0))
+complete Fits files name given s s' v v' e e' (BadGeometry field) (inr (sized, inr two)) says may none =
+    let f = may.fit in absurd (fits_not Fits files name f.0 (of_one files name given f.0 f.1 (says.unfit two.0)) f.2)
+complete Fits files name given s s' v v' e e' Exists ends says may none = absurd ends
 
--- where the number of slots does not fit, it is refused, unless opening failed
-pub unfit : (Fits : ℕ → Type 0) (files : Files) (name : List ℕ) (slot s s' v v' : ℕ) (e e' : List ℕ) (status : Status) (n : ℕ) → ReportEnds Fits slot s s' v v' e e' status → ReportSays Fits files name slot status
-    → HasSlots files name slot n → ¬ Fits n → IsSlotSize slot → (status ≡ BadGeometry 2) ⊎ ((status ≡ DeviceFault) ⊎ (status ≡ Memory))
-unfit Fits files name slot s s' v v' e e' Done n ends says h not sized = absurd (fits_not Fits files name slot n h not says)
-unfit Fits files name slot s s' v v' e e' Usage n ends says h not sized = absurd ends
-unfit Fits files name slot s s' v v' e e' Memory n ends says h not sized = inr (inr refl)
-unfit Fits files name slot s s' v v' e e' SourceFault n ends says h not sized = absurd ends
-unfit Fits files name slot s s' v v' e e' SinkFault n ends says h not sized = absurd (fits_not Fits files name slot n h not says)
-unfit Fits files name slot s s' v v' e e' DeviceFault n ends says h not sized = inr (inl refl)
-unfit Fits files name slot s s' v v' e e' (BadScript line cause) n ends says h not sized = absurd ends
-unfit Fits files name slot s s' v v' e e' Missing n ends says h not sized = absurd (lacks_no_file says h.there)
-unfit Fits files name slot s s' v v' e e' (Small bytes) n ends says h not sized = absurd (not_short files name slot n bytes h says)
-unfit Fits files name slot s s' v v' e e' (BadGeometry field) n (inl ends) says h not sized = absurd (ends.1 sized)
-unfit Fits files name slot s s' v v' e e' (BadGeometry field) n (inr ends) says h not sized = inl (ap BadGeometry ends.0)
-unfit Fits files name slot s s' v v' e e' Exists n ends says h not sized = absurd ends
+-- no file is out that was in, where one file was cut anew at most by the slot size that was found
+pub home_when_kept : ((slot : ℕ) (name : List ℕ) (before after : Files) → IsKept slot name before after → NoneAway before → NoneAway after) → (name : List ℕ) (given : Option ℕ) (before after : Files) → IsKeptFor name given before after → NoneAway before → NoneAway after
+home_when_kept home name given before after (inl same) none = subst NoneAway (sym same) none
+home_when_kept home name given before after (inr w) none = home w.0 name before after w.2 none
+
+-- and each has its bytes
+pub bytes_when_kept : ((slot : ℕ) (name : List ℕ) (before after : Files) → IsKept slot name before after → HaveSameBytes before after) → (name : List ℕ) (given : Option ℕ) (before after : Files) → IsKeptFor name given before after → HaveSameBytes before after
+bytes_when_kept bytes name given before after (inl same) = subst (λ f. HaveSameBytes before f) (sym same) (λ n. refl)
+bytes_when_kept bytes name given before after (inr w) = bytes w.0 name before after w.2

@@ -2,7 +2,7 @@
 pub use Rattle.rock_open.specs.Device.{counts}
 pub use Rattle.file_commands.specs.Create.{CreateEnds, CreateLeaves, CreateSays, IsCreateRefused}
 pub use Rattle.file_commands.specs.Listing.{Lists}
-pub use Rattle.file_commands.specs.Report.{AnyCount, IsAnchors, IsRefused, OfFile, ReportEnds, ReportPrints, ReportSays}
+pub use Rattle.file_commands.specs.Report.{AnyCount, IsAnchors, IsRefused, OfFileFor, ReportEnds, ReportPrints, ReportSays}
 pub use Rattle.file_commands.specs.Summary.{Sums}
 pub use Rattle.run_command.specs.Ends.{RunEnds}
 pub use Rattle.run_command.specs.Leaves.{RunLeaves}

@@ -1,17 +1,25 @@
 // The command line, by the product's own table.
-ghost use Rattle.std.specs.Prelude.{◌≡◌, ◌⊎◌, ℕ, List, [], ◌∷◌, ◌^◌, ◌<◌, ◌↔◌, Some, None, IsTrue, IsSome, IfSome, MatchOption, codes, decimal};
-ghost use Rattle.rock_commands.specs.CommandLine.{IsName, IsCommandLine};
+ghost use Rattle.std.specs.Prelude.{◌≡◌, ℕ, [], ◌∷◌, ◌^◌, ◌<◌, ◌↔◌, None, Option, IsTrue, IfSome, MatchOption, decimal, Some};
+ghost use Rattle.rock_commands.specs.CommandLine.{FitsWord, IsName, IsCommandLine, slot_word};
 ghost use Rattle.rock_commands.specs.Command.{IsCommand};
 
 use bench_command::BenchTarget;
 use itoa::Buffer;
 use rock_io::Words;
 
-/// A file, and how many bytes each of its slots has.
+/// A file, and how many bytes each of its slots has, where that is given.
 #[derive(Clone, Copy, Debug, PartialEq, Eq)]
 pub struct Target<'a> {
     pub name: &'a str,
+    pub slot: Option<u32>,
+}
+
+/// A file that is to be made: how many bytes each of its slots has, and how many slots.
+#[derive(Clone, Copy, Debug, PartialEq, Eq)]
+pub struct NewFile<'a> {
+    pub name: &'a str,
     pub slot: u32,
+    pub slots: u32,
 }
 
 /// What a command line asks for.
@@ -28,8 +36,7 @@ pub enum Command<'a> {
     },
     /// `create NAME SLOT SLOTS`: make a file of so many empty slots.
     Create {
-        target: Target<'a>,
-        slots: u32,
+        target: NewFile<'a>,
     },
     /// `run NAME SLOT ANCHORS WORKERS`: run a script over a file, by a store with so many anchors and so
     /// many workers.
@@ -55,8 +62,8 @@ impl<'a> Command<'a> {
                 target: Target::parse(name.as_str(), slot.as_str())?,
             }),
             [command, name, slot, count] => {
-                let target = Target::parse(name.as_str(), slot.as_str())?;
-                Command::of_four(command.as_str(), target, number(count.as_str())?)
+                let count = number(count.as_str())?;
+                Command::of_four(command.as_str(), name.as_str(), slot.as_str(), count)
             }
             [command, name, first, second, third] => {
                 let second = number(second.as_str())?;
@@ -73,21 +80,20 @@ impl<'a> Command<'a> {
         }
     }
 
-    /// The command of four words: its own, what it is about, and a number.
-    fn of_four(command: &str, target: Target<'a>, count: u32) -> Option<Command<'a>>
-        ensures check { command.now ≡ codes "check" → result ≡ Some (Command.Check target.entry count) }
-        ensures create { command.now ≡ codes "create" → result ≡ Some (Command.Create target.entry count) }
-        ensures only { IsSome result → (command.now ≡ codes "check") ⊎ (command.now ≡ codes "create") }
+    /// The command of four words: its own, the name of a file, a word for the size of a slot, and a number.
+    fn of_four(command: &str, name: &'a str, slot: &str, count: u32) -> Option<Command<'a>>
+        ensures { MatchOption result
+            (IsCommandLine (command.now ∷ name.now ∷ slot.now ∷ decimal count ∷ []) → ⊥)
+            (IsCommand (command.now ∷ name.now ∷ slot.now ∷ decimal count ∷ [])) }
     {
         if command == "check" {
             Some(Command::Check {
-                target,
+                target: Target::parse(name, slot)?,
                 anchors: count,
             })
         } else if command == "create" {
             Some(Command::Create {
-                target,
-                slots: count,
+                target: NewFile::parse(name, slot, count)?,
             })
         } else {
             None
@@ -140,18 +146,38 @@ fn bench_target<'a>(name: &'a str, seed: &str, workers: u32, count: u32) -> Opti
 }
 
 impl<'a> Target<'a> {
-    /// Reads the name of a file and the size of its slots.
+    /// Reads the name of a file and the size of its slots, which is a number, or `-` where none is given.
     fn parse(name: &'a str, slot: &str) -> Option<Target<'a>>
         ensures some { IfSome result (λ t. IsName name.now × (t.name.now ≡ name.now)
-            × (slot.now ≡ decimal t.slot) × (t.slot < 2 ^ 32)) }
+            × (slot.now ≡ slot_word t.slot) × FitsWord t.slot) }
+        ensures none { (given : Option ℕ) → FitsWord given → IsName name.now → slot.now ≡ slot_word given → result ≡ None → ⊥ }
+    {
+        if !is_name(name) {
+            return None;
+        }
+        let slot = if slot == "-" {
+            None
+        } else {
+            Some(number(slot)?)
+        };
+        Some(Target { name, slot })
+    }
+}
+
+impl<'a> NewFile<'a> {
+    /// Reads the name of a file that is to be made, and the size of its slots.
+    fn parse(name: &'a str, slot: &str, slots: u32) -> Option<NewFile<'a>>
+        ensures some { IfSome result (λ t. IsName name.now × (t.name.now ≡ name.now)
+            × (slot.now ≡ decimal t.slot) × (t.slot < 2 ^ 32) × (t.slots ≡ slots)) }
         ensures none { (n : ℕ) → n < 2 ^ 32 → IsName name.now → slot.now ≡ decimal n → result ≡ None → ⊥ }
     {
         if !is_name(name) {
             return None;
         }
-        Some(Target {
+        Some(NewFile {
             name,
             slot: number(slot)?,
+            slots,
         })
     }
 }

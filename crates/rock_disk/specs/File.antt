@@ -1,5 +1,5 @@
 -- A file by its cells, and how its bytes are cut into them.
-use Rattle.std.specs.Prelude.{◌≡◌, ◌⊎◌, ℕ, ◌+◌, ◌*◌, ◌-◌, ◌/◌, min, zero, suc, List, [], ◌∷◌, ◌++◌, length, take, drop, Option, Some, option_map, replicate}
+use Rattle.std.specs.Prelude.{◌≡◌, ◌⊎◌, ℕ, ◌+◌, ◌*◌, ◌-◌, ◌/◌, ◌≤◌, min, zero, suc, List, [], ◌∷◌, ◌++◌, length, take, drop, Option, Some, option_map, replicate}
 use Rattle.std.specs.Ordering.{nat_cmp}
 use Rattle.std.specs.Cmp.Lexicographic.{slice_cmp}
 use Rattle.std.specs.FinMap.{FinMap, get, insert}
@@ -75,3 +75,10 @@ IsKept slot name before after =
 -- each file has the bytes that it had, and no other is there
 abbrev pub HaveSameBytes : Files → Files → Type 0
 HaveSameBytes before after = (name : List ℕ) → option_map bytes_of (get after name) ≡ option_map bytes_of (get before name)
+
+-- the file of this name is long enough, and has this number of slots
+pub record HasSlots (files : Files) (name : List ℕ) (slot slots : ℕ) : Type 0 where
+  pub was : File
+  pub there : get files name ≡ Some was
+  pub long : HEADER_BYTES + slot ≤ length (bytes_of was)
+  pub count : slots ≡ slots_of (length (bytes_of was)) slot

@@ -1,5 +1,5 @@
-ghost use Rattle.std.specs.Prelude.{◌≡◌, ℕ, ◌≤◌, IsTrue, length, OnOk, OnErr};
-ghost use Rattle.rock_io.specs.Faults.{Rose};
+ghost use Rattle.std.specs.Prelude.{◌≡◌, ℕ, ◌≤◌, Bool, IsTrue, length, OnOk, OnErr};
+ghost use Rattle.rock_io.specs.Faults.{Rose, one_more};
 ghost use Rattle.rock_disk.specs.Cell.{shape, settle};
 ghost use Rattle.rock_disk.specs.Written.{AddsAtMost, ReadsOldOrNew};
 
@@ -19,11 +19,18 @@ pub trait Station {
     /// How many of its calls have failed.
     ghost faults: { Self → ℕ };
 
+    /// Whether stations of this type tell how often they were called. Where they don't, no clause says anything of that.
+    ghost counts: { Bool };
+
+    /// How often it was called, as far as a number of 64 bits goes.
+    ghost calls: { Self → ℕ };
+
     /// Puts what the cell holds into `buf`. The cell is unchanged, whatever the answer.
     fn read(&mut self, cell: &mut Self::C, buf: &mut [u8]) -> Result<(), Failed>
         requires { length buf.old ≡ (Self.C.state cell.old).width }
         ensures read { OnOk result (IsTrue Self.C.tells → buf.new ≡ (Self.C.state cell.old).now) }
         ensures cell { Self.C.state cell.new ≡ Self.C.state cell.old }
+        ensures counted { IsTrue counts → calls self.new ≡ one_more (calls self.old) }
         ensures faults { faults self.old ≤ faults self.new }
         ensures unfailed { OnOk result (faults self.new ≡ faults self.old) }
         ensures failed { OnErr result (Rose (faults self.old) (faults self.new)) };
@@ -37,6 +44,7 @@ pub trait Station {
         ensures unsure { OnErr result (IsTrue Self.C.tells → ReadsOldOrNew bytes.now (Self.C.state cell.old) (Self.C.state cell.new)) }
         ensures possible { IsTrue Self.C.tells → AddsAtMost bytes.now (Self.C.state cell.old) (Self.C.state cell.new) }
         ensures shape { shape (Self.C.state cell.new) ≡ shape (Self.C.state cell.old) }
+        ensures counted { IsTrue counts → calls self.new ≡ one_more (calls self.old) }
         ensures faults { faults self.old ≤ faults self.new }
         ensures unfailed { OnOk result (faults self.new ≡ faults self.old) }
         ensures failed { OnErr result (Rose (faults self.old) (faults self.new)) };
@@ -47,6 +55,7 @@ pub trait Station {
         ensures settled { OnOk result (IsTrue Self.C.tells → Self.C.state cell.new ≡ settle (Self.C.state cell.old)) }
         ensures unchanged { OnErr result (Self.C.state cell.new ≡ Self.C.state cell.old) }
         ensures shape { shape (Self.C.state cell.new) ≡ shape (Self.C.state cell.old) }
+        ensures counted { IsTrue counts → calls self.new ≡ one_more (calls self.old) }
         ensures faults { faults self.old ≤ faults self.new }
         ensures unfailed { OnOk result (faults self.new ≡ faults self.old) }
         ensures failed { OnErr result (Rose (faults self.old) (faults self.new)) };

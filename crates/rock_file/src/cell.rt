@@ -1,4 +1,4 @@
-ghost use Rattle.std.specs.Prelude.{◌≡◌, ◌+◌, ◌*◌, ◌<◌, map, false, IfOk};
+ghost use Rattle.std.specs.Prelude.{◌≡◌, ◌↔◌, ◌+◌, ◌*◌, ◌<◌, map, false, IfOk, IsTrue};
 ghost use Rattle.rock_disk.specs.Cell.{shape};
 ghost use Rattle.rock_disk.specs.File.{shapes_from};
 
@@ -33,6 +33,13 @@ impl FileCell {
         }
     }
 
+    /// Whether it is the header area of a file, and no slot.
+    pub(crate) fn is_header(&self) -> bool
+        ensures { IsTrue result ↔ (self.now.number ≡ HEADER_NUMBER) }
+    {
+        self.number == HEADER_NUMBER
+    }
+
     /// The first slots of a file, in order.
     pub(crate) fn slots(alloc: Global, count: u32, width: u32) -> Result<Vec<FileCell>, Memory>
         ensures { IfOk result (λ cells. map shape (map cell_state cells.items) ≡ shapes_from 0 count width) }
@@ -49,7 +56,7 @@ impl FileCell {
         ensures header { self.now.number ≡ HEADER_NUMBER → result ≡ 0 }
         ensures slot { self.now.number < HEADER_NUMBER → result ≡ HEADER_BYTES + self.now.number * self.now.width }
     {
-        if self.number == HEADER_NUMBER {
+        if self.is_header() {
             return 0;
         }
         offset_of(self.number, self.width)

@@ -5,11 +5,18 @@
 //! one in its place.
 #![tactic(auto)]
 
+mod cause;
 mod cell;
+mod lock;
+mod open_files;
 mod opening;
+mod retried;
 mod station;
 mod volume;
 
+pub use cause::{FaultCause, SaysWhy};
 pub use cell::FileCell;
+pub use lock::{Access, LockFile};
+pub use retried::Retried;
 pub use station::FileStation;
 pub use volume::FileVolume;

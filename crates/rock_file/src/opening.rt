@@ -3,6 +3,7 @@ ghost use Rattle.std.specs.Prelude.{◌≡◌, ◌+◌, ◌<◌, ◌≤◌, IfOk
 ghost use Rattle.db_layout.specs.Layout.{slots_of};
 ghost use Rattle.db_layout.specs.declared.layout.TheConstants.{HEADER_BYTES};
 
+use crate::lock::{Access, LockFile, lock};
 use db_layout::{file_size, slots_of};
 use rock_disk::OpenFault;
 use std::fs::{OpenFile, OpenOptions};
@@ -11,30 +12,63 @@ use std::io::ErrorKind;
 use std::os::unix::fs::FileExt;
 use std::rt::Files;
 
-/// Opens a regular file, and asks for its length. A folder or a device is none, and is not opened.
-pub(crate) fn open_regular<R: Files>(
-    rt: &R,
-    name: &str,
-    options: &OpenOptions,
-) -> io::Result<(R::File, u64)> {
+/// An open file, what may be done with it, and its length.
+#[derive(Drop)]
+pub(crate) struct Locked<F> {
+    pub(crate) file: F,
+    pub(crate) access: Access,
+    pub(crate) bytes: u64,
+}
+
+/// Opens a regular file. A folder or a device is none, and is not opened.
+fn open_regular<R: Files>(rt: &R, name: &str, options: &OpenOptions) -> io::Result<R::File> {
     if !rt.metadata(name)?.is_file() {
         return Err(io::Error::from(ErrorKind::InvalidInput));
     }
-    let file = options.open(rt, name)?;
-    let bytes = file.metadata()?.len();
-    Ok((file, bytes))
+    options.open(rt, name)
 }
 
-/// Opens a regular file for a station: to read and write it or, where the system lets it only be read,
-/// to read it.
-pub(crate) fn open_for_station<R: Files>(rt: &R, name: &str) -> io::Result<R::File> {
-    let opened = match open_regular(rt, name, OpenOptions::new().read(true).write(true)) {
-        Err(error) if is_read_only(&error) => {
-            open_regular(rt, name, OpenOptions::new().read(true))
+/// Opens a regular file to read it, and to write it too where that is asked for and the system allows it.
+/// Answers which of both.
+pub(crate) fn open_for<R: Files>(
+    rt: &R,
+    name: &str,
+    access: Access,
+) -> io::Result<(R::File, Access)> {
+    if access == Access::Writing {
+        match open_regular(rt, name, OpenOptions::new().read(true).write(true)) {
+            Err(error) if is_read_only(&error) => {}
+            opened => return Ok((opened?, Access::Writing)),
         }
-        opened => opened,
-    };
-    Ok(opened?.0)
+    }
+    let file = open_regular(rt, name, OpenOptions::new().read(true))?;
+    Ok((file, Access::Reading))
+}
+
+/// Opens a regular file, and takes its lock. Its length is asked for under the lock.
+pub(crate) fn open_locked<R: Files>(
+    rt: &R,
+    name: &str,
+    access: Access,
+) -> io::Result<Locked<R::File>>
+where
+    R::File: LockFile,
+{
+    let (file, access) = open_for(rt, name, access)?;
+    lock(&file, access)?;
+    let bytes = file.metadata()?.len();
+    Ok(Locked {
+        file,
+        access,
+        bytes,
+    })
+}
+
+/// Opens a regular file to read it, with no lock, and asks for its length.
+pub(crate) fn open_to_peek<R: Files>(rt: &R, name: &str) -> io::Result<(R::File, u64)> {
+    let (file, _) = open_for(rt, name, Access::Reading)?;
+    let bytes = file.metadata()?.len();
+    Ok((file, bytes))
 }
 
 /// Fills `buf` with the first bytes of a file.
@@ -50,9 +84,10 @@ fn is_read_only(error: &io::Error) -> bool {
     )
 }
 
-/// Gives a new file its length, and brings it to the disk. The system makes the bytes zeros, and takes
-/// no room for them where the file system can leave gaps.
-pub(crate) fn extend(file: &impl OpenFile, bytes: u64) -> io::Result<()> {
+/// Takes the lock of a new file, gives it its length, and brings it to the disk. The system makes the bytes
+/// zeros, and takes no room for them where the file system can leave gaps.
+pub(crate) fn extend<F: OpenFile + LockFile>(file: &F, bytes: u64) -> io::Result<()> {
+    lock(file, Access::Writing)?;
     file.set_len(bytes)?;
     file.sync_all()
 }

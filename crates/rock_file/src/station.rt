@@ -1,4 +1,4 @@
-ghost use Rattle.std.specs.Prelude.{◌≡◌, ◌≤◌, length, OnOk, OnErr};
+ghost use Rattle.std.specs.Prelude.{◌≡◌, ◌≤◌, false, length, OnOk, OnErr};
 ghost use Rattle.rock_io.specs.Faults.{one_more};
 
 use crate::FileCell;
@@ -6,6 +6,10 @@ use rock_disk::Station;
 use rock_io::Failed;
 use std::fs::OpenFile;
 use std::os::unix::fs::FileExt;
+
+/// What is put in place of the header of a slot whose write failed. A slot that begins with these zeros is a
+/// part of no entry.
+const NO_HEADER: [u8; 40] = [0; 40];
 
 /// An open file, with the count of the calls that failed.
 pub struct FileStation<F> {
@@ -48,6 +52,10 @@ impl<F: FileExt + OpenFile + Drop> Station for FileStation<F> {
 
     ghost faults = { station_faults };
 
+    ghost counts = { false };
+
+    ghost calls = { λ station. 0 };
+
     fn read(&mut self, cell: &mut FileCell, buf: &mut [u8]) -> Result<(), Failed>
         requires { length buf.old ≡ (cell_state cell.old).width }
         ensures cell { cell_state cell.new ≡ cell_state cell.old }
@@ -63,7 +71,9 @@ impl<F: FileExt + OpenFile + Drop> Station for FileStation<F> {
         Ok(())
     }
 
-    /// Puts the bytes at the cell's place. Where the call fails, some of them may stand there.
+    /// Puts the bytes at the cell's place. Where the call fails, some of them may stand there. Of a slot its
+    /// header is then overwritten with zeros, where the system still takes these, so that no part of what was to
+    /// be written is taken for a slot. That is tried once, and whatever comes of it, the failure counts once.
     fn write(&mut self, cell: &mut FileCell, bytes: &[u8]) -> Result<(), Failed>
         requires { length bytes.now ≡ (cell_state cell.old).width }
         ensures cell { cell_state cell.new ≡ cell_state cell.old }
@@ -74,6 +84,10 @@ impl<F: FileExt + OpenFile + Drop> Station for FileStation<F> {
         ensures faults { station_faults self.old ≤ station_faults self.new }
     {
         if self.file.write_all_at(bytes, cell.offset()).is_err() {
+            if !cell.is_header() {
+                let zeros = &NO_HEADER[..NO_HEADER.len().min(bytes.len())];
+                let _ = self.file.write_all_at(zeros, cell.offset());
+            }
             return Err(self.fault());
         }
         Ok(())

@@ -2,7 +2,10 @@ ghost use Rattle.std.specs.Prelude.{◌≡◌, ◌+◌, ◌<◌, ◌≤◌, [], 
 ghost use Rattle.std.specs.IoError.{error_kind};
 ghost use Rattle.rock_io.specs.Faults.{one_more};
 
-use crate::opening::{count_slots, extend, open_for_station, open_regular, read_front};
+use crate::cause::{FaultCause, SaysWhy};
+use crate::lock::{Access, LockFile};
+use crate::open_files::OpenFiles;
+use crate::opening::{count_slots, extend, open_for, open_locked, open_to_peek, read_front};
 use crate::{FileCell, FileStation};
 use db_layout::{HEADER_BYTES, file_size};
 use rock_disk::{CreateFault, OpenFault, Opened, PeekFault, StationFault, Stations, Volume};
@@ -16,27 +19,35 @@ use std::rt::Files;
 /// The files of the system by their paths.
 ///
 /// Another program can change a file at any time, so this volume and its cells tell nothing of what
-/// the files hold.
+/// the files hold. While a file is open, the volume has its lock, so that other runs of this program leave it
+/// alone.
 #[derive(Drop)]
-pub struct FileVolume<R> {
+pub struct FileVolume<R: Files> {
     rt: R,
+    access: Access,
     faults: u64,
+    why: FaultCause,
     stations: Stations,
+    opened: OpenFiles<R::File>,
 }
 
 impl<R: Files + Drop> FileVolume<R> {
     ghost use Rattle.rock_file.specs.Volume.{volume_faults, volume_made, volume_ended};
 
-    /// A volume over the files of `rt`. It keeps the counts of ended stations in memory of `alloc`.
-    pub fn new(rt: R, alloc: Global) -> FileVolume<R>
+    /// A volume over the files of `rt`, which are opened for this. It keeps the counts of ended stations in
+    /// memory of `alloc`.
+    pub fn new(rt: R, alloc: Global, access: Access) -> FileVolume<R>
         ensures faults { volume_faults result ≡ 0 }
         ensures made { volume_made result ≡ 0 }
         ensures ended { volume_ended result ≡ [] }
     {
         FileVolume {
             rt,
+            access,
             faults: 0,
+            why: FaultCause::Other,
             stations: Stations::new(alloc),
+            opened: OpenFiles::new(alloc),
         }
     }
 
@@ -54,12 +65,13 @@ impl<R: Files + Drop> FileVolume<R> {
         self.stations.ended()
     }
 
-    fn count_fault(&mut self)
+    fn count_fault(&mut self, error: &io::Error)
         ensures faults { volume_faults self.new ≡ one_more (volume_faults self.old) }
         ensures grown { volume_faults self.old ≤ volume_faults self.new }
         ensures stations { self.new.stations ≡ self.old.stations }
     {
         self.faults = self.faults.saturating_add(1);
+        self.why = FaultCause::of(error);
     }
 
     /// What opening answers where the system refuses. Only a name that it does not know is no fault.
@@ -73,7 +85,7 @@ impl<R: Files + Drop> FileVolume<R> {
         if error.kind() == ErrorKind::NotFound {
             return OpenFault::Missing;
         }
-        self.count_fault();
+        self.count_fault(error);
         OpenFault::Failed
     }
 
@@ -88,14 +100,20 @@ impl<R: Files + Drop> FileVolume<R> {
         if error.kind() == ErrorKind::AlreadyExists {
             return CreateFault::Exists;
         }
-        self.count_fault();
+        self.count_fault(error);
         CreateFault::Failed
+    }
+}
+
+impl<R: Files + Drop> SaysWhy for FileVolume<R> {
+    fn why(&self) -> FaultCause {
+        self.why
     }
 }
 
 impl<R: Files + Drop> Volume for FileVolume<R>
 where
-    R::File: FileExt,
+    R::File: FileExt + LockFile,
 {
     ghost use Rattle.std.specs.FinMap.{empty};
     ghost use Rattle.rock_disk.specs.Opened.{HasShape};
@@ -135,14 +153,18 @@ where
         ensures made { volume_made self.new ≡ volume_made self.old }
         ensures ended { volume_ended self.new ≡ volume_ended self.old }
     {
-        let bytes = match open_regular(&self.rt, name, OpenOptions::new().read(true)) {
-            Ok((_, bytes)) => bytes,
+        let locked = match open_locked(&self.rt, name, self.access) {
+            Ok(locked) => locked,
             Err(error) => return Err(self.refuse(&error)),
         };
+        let bytes = locked.bytes;
         let count = count_slots(bytes, slot)?;
         let Ok(cells) = FileCell::slots(alloc, count, slot) else {
             return Err(OpenFault::Memory);
         };
+        if self.opened.keep(alloc, name, locked).is_err() {
+            return Err(OpenFault::Memory);
+        }
         Ok(Opened {
             header: FileCell::header(),
             cells,
@@ -164,7 +186,7 @@ where
         ensures made { volume_made self.new ≡ volume_made self.old }
         ensures ended { volume_ended self.new ≡ volume_ended self.old }
     {
-        let (file, bytes) = match open_regular(&self.rt, name, OpenOptions::new().read(true)) {
+        let (file, bytes) = match open_to_peek(&self.rt, name) {
             Ok(opened) => opened,
             Err(error) => {
                 return match self.refuse(&error) {
@@ -176,8 +198,8 @@ where
         if bytes < u64::from(HEADER_BYTES) {
             return Err(PeekFault::Small { bytes });
         }
-        if read_front(&file, buf).is_err() {
-            self.count_fault();
+        if let Err(error) = read_front(&file, buf) {
+            self.count_fault(&error);
             return Err(PeekFault::Failed);
         }
         Ok(bytes)
@@ -195,9 +217,14 @@ where
 
         ensures ended { volume_ended self.new ≡ volume_ended self.old }
     {
-        let Ok(file) = open_for_station(&self.rt, name) else {
-            self.count_fault();
-            return Err(StationFault::Failed);
+        // Where the file is open, by what it was locked for.
+        let access = self.opened.access_of(name).unwrap_or(self.access);
+        let file = match open_for(&self.rt, name, access) {
+            Ok((file, _)) => file,
+            Err(error) => {
+                self.count_fault(&error);
+                return Err(StationFault::Failed);
+            }
         };
         let Ok(()) = self.stations.make() else {
             return Err(StationFault::Memory);
@@ -215,10 +242,12 @@ where
         ensures ended { volume_ended self.new ≡ volume_ended self.old }
     {
         // The cells are nothing but numbers, so there is nothing to put back.
+        self.opened.close(name);
     }
 
-    /// Makes the file only where nothing has its name yet, a folder or a link among others. Where the
-    /// call fails behind that, the name is taken by a file that is too short: nothing is removed.
+    /// Makes the file only where nothing has its name yet, a folder or a link among others, and has its lock
+    /// until it has its length. Where the call fails behind that, the name is taken by a file that is too
+    /// short: nothing is removed.
     fn create(&mut self, name: &str, slots: u32, slot: u32) -> Result<(), CreateFault>
         ensures memory { IsErrOf result CreateFault.Memory → ⊥ }
 
@@ -239,8 +268,8 @@ where
             Ok(file) => file,
             Err(error) => return Err(self.refuse_name(&error)),
         };
-        if extend(&file, bytes).is_err() {
-            self.count_fault();
+        if let Err(error) = extend(&file, bytes) {
+            self.count_fault(&error);
             return Err(CreateFault::Failed);
         }
         Ok(())

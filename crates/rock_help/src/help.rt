@@ -26,8 +26,10 @@ Output:
   bench  bench requests=R hits=H misses=M stored=T purged=P none=N other=O
          bytes=B, in one line
 
-A number is decimal, without a sign or a leading zero. A command that does not
-end well says why in one line on standard error. Exit status:
+The header area of a file may record the bytes of its slots: SLOT of list,
+check and run may be - then. A number is decimal, without a sign or a leading
+zero. A command that does not end well says why in one line on standard error.
+Exit status:
   0 done                    6 the disk failed
   2 no command line         7 the script has a bad line
   3 out of memory           8 no such file, or a wrong size or number
@@ -72,7 +74,7 @@ fn with_words<'a>(alloc: Global, command: Command<'a>) -> Result<Command<'a>, Al
         ("NAME", "The file; its name does not begin with -"),
         (
             "SLOT",
-            "The bytes of a slot: a multiple of 512 from 512 to 32768",
+            "A slot's bytes: a multiple of 512 from 512 to 32768, - if recorded",
         ),
         ("SLOTS", "The slots of a new file, from 1 to 1048576"),
         (

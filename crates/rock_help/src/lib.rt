@@ -6,4 +6,4 @@ mod help;
 mod message;
 
 pub use help::help_text;
-pub use message::{Asked, line_of};
+pub use message::{Asked, DiskCause, line_of};

@@ -6,6 +6,7 @@ use std::alloc::{AllocError, Global};
 #[derive(Clone, Copy, Debug)]
 pub struct Asked<'a> {
     pub name: &'a str,
+    /// The slot size, or `-`.
     pub slot: &'a str,
     /// The anchors of `check` and `run`, or the slots of `create`.
     pub count: &'a str,
@@ -13,6 +14,18 @@ pub struct Asked<'a> {
     pub workers: &'a str,
     /// The rounds of `bench`; none for other commands.
     pub rounds: Option<&'a str>,
+    /// What is known of why the disk failed, where it did.
+    pub disk: DiskCause,
+}
+
+/// What is known of why a disk failed.
+#[derive(Clone, Copy, Debug, PartialEq, Eq)]
+pub enum DiskCause {
+    Unknown,
+    /// Another program has the file.
+    InUse,
+    /// Too many files are open.
+    TooManyOpen,
 }
 
 impl Asked<'static> {
@@ -23,6 +36,7 @@ impl Asked<'static> {
         count: "",
         workers: "",
         rounds: None,
+        disk: DiskCause::Unknown,
     };
 }
 
@@ -47,9 +61,7 @@ fn explanation(alloc: Global, status: &Status, asked: &Asked<'_>) -> Result<Stri
         Status::SinkFault => format!(in alloc;
             "standard output did not take all of the answer; do not use what was printed"
         ),
-        Status::DeviceFault => format!(in alloc;
-            "{name} could not be read, written or made; look at its disk and its permissions"
-        ),
+        Status::DeviceFault => failed_disk(alloc, asked),
         Status::BadScript { line, cause } => format!(in alloc;
             "line {line} of the script is wrong: {}; mend this line, or take it out",
             wrong_with_line(*cause)
@@ -67,7 +79,23 @@ fn explanation(alloc: Global, status: &Status, asked: &Asked<'_>) -> Result<Stri
     }
 }
 
-/// The sentence of a number that is outside its limits, by the number of its field.
+/// The sentence of a disk that failed.
+fn failed_disk(alloc: Global, asked: &Asked<'_>) -> Result<String, AllocError> {
+    let name = asked.name;
+    match asked.disk {
+        DiskCause::Unknown => format!(in alloc;
+            "{name} could not be read, written or made; look at its disk and its permissions"
+        ),
+        DiskCause::InUse => format!(in alloc;
+            "{name} is in use by another program; try again when that has ended"
+        ),
+        DiskCause::TooManyOpen => format!(in alloc;
+            "{name} could not be opened, since too many files are open; raise the limit by ulimit -n, or take fewer workers"
+        ),
+    }
+}
+
+/// The sentence of a number that is outside its limits, or of a slot size that is not known, by the number of its field.
 fn outside_limits(alloc: Global, field: u8, asked: &Asked<'_>) -> Result<String, AllocError> {
     let (name, slot, count) = (asked.name, asked.slot, asked.count);
     match field {
@@ -86,6 +114,15 @@ fn outside_limits(alloc: Global, field: u8, asked: &Asked<'_>) -> Result<String,
                 "the number of slots {count} is not from 1 to 1048576; give one that is, for a larger store with larger slots"
             ),
         },
+        5 => format!(in alloc;
+            "the header area of {name} records another slot size than {slot}; give - in place of it, and the one that is recorded is taken"
+        ),
+        6 => format!(in alloc;
+            "the header area of {name} records other slots than it has: it was cut or grew, or its header area is damaged; give a file that was cut its length again, as docs/OPERATING.md says"
+        ),
+        7 => format!(in alloc;
+            "the header area of {name} does not record its slots; give the slot size that it was made with in place of -"
+        ),
         _ => format!(in alloc;
             "the slot size {slot} is no multiple of 512 from 512 to 32768; give one that is, for a file that is there the one that it was made with"
         ),

@@ -6,7 +6,7 @@
 
 mod run;
 
-use rock_file::FileVolume;
+use rock_file::{Access, FileVolume, Retried};
 use rock_help::{Asked, help_text};
 use rock_io::{StdSink, StdSource, Words};
 use rock_status::Status;
@@ -30,9 +30,9 @@ fn main(rt: HostRuntime) -> ExitCode {
         [word] if word.as_str() == "--help" => print_help(&rt),
         [word] if word.as_str() == "--version" => print_text(&rt, VERSION),
         _ => {
-            let mut volume = FileVolume::new(&rt, alloc);
-            let mut script = StdSource::new(rt.stdin());
-            let mut out = StdSink::new(rt.stdout());
+            let mut volume = FileVolume::new(&rt, alloc, access_of(&words));
+            let mut script = StdSource::new(Retried::new(rt.stdin()));
+            let mut out = StdSink::new(Retried::new(rt.stdout()));
             run(&rt, alloc, &words, &mut volume, &mut script, &mut out)
         }
     }
@@ -48,6 +48,15 @@ fn words_of<R: Env + AllocGlobal>(rt: &R) -> Result<Words, Status> {
         )),
         Err(error) if error.kind() == ErrorKind::OutOfMemory => Err(Status::Memory),
         Err(_) => Err(Status::Usage),
+    }
+}
+
+/// What a command does with its file: `list` and `check` read it alone.
+fn access_of(words: &Words) -> Access {
+    match words.as_slice() {
+        [command, ..] if command.as_str() == "list" || command.as_str() == "check" =>
+            Access::Reading,
+        _ => Access::Writing,
     }
 }
 

@@ -1,16 +1,17 @@
 // How the program ends.
-ghost use Rattle.std.specs.Prelude.{◌≡◌, ◌↔◌, ℕ, List, IsTrue};
+ghost use Rattle.std.specs.Prelude.{◌≡◌, ◌↔◌, ℕ, List, Option, IsTrue};
 ghost use Rattle.std.specs.Process.{exit_status};
 ghost use Rattle.rock_disk.specs.File.{NoneAway};
 ghost use Rattle.rock_io.specs.Faults.{Rose};
 ghost use Rattle.rock_commands.specs.CommandLine.{IsList, IsCheck, IsCreate, IsRun, IsBench, IsCommandLine};
-ghost use Rattle.rock_commands.specs.Terms.{AnyCount, bench_lines, BenchEnds, BenchLeaves, BenchSays, counts, CreateEnds, CreateLeaves, CreateSays, IsAnchors, IsBenchRefused, IsBenchText, IsCreateRefused, IsRefused, IsRunRefused, IsRunText, Lists, OfFile, ReportEnds, ReportPrints, ReportSays, RunEnds, RunLeaves, RunPrints, RunSays, Sums};
+ghost use Rattle.rock_commands.specs.Terms.{AnyCount, bench_lines, BenchEnds, BenchLeaves, BenchSays, counts, CreateEnds, CreateLeaves, CreateSays, IsAnchors, IsBenchRefused, IsBenchText, IsCreateRefused, IsRefused, IsRunRefused, IsRunText, Lists, OfFileFor, ReportEnds, ReportPrints, ReportSays, RunEnds, RunLeaves, RunPrints, RunSays, Sums};
 ghost use Rattle.rock_main.specs.Ending.{EndsFor};
 ghost use Rattle.rock_status.specs.Status.{code_of};
 
 use rock_commands::rock;
 use rock_disk::Volume;
-use rock_help::{Asked, help_text, line_of};
+use rock_file::{FaultCause, SaysWhy};
+use rock_help::{Asked, DiskCause, help_text, line_of};
 use rock_io::{Sink, Source, Words};
 use rock_status::Status;
 use std::alloc::{AllocError, Global};
@@ -20,7 +21,7 @@ use std::thread::Threads;
 
 /// Carries out a command line, as [`rock`] does, says how it went where it did not go well, and ends with
 /// the status's code.
-pub fn run<R: Threads + Wait + Sync + Eprint, V: Volume, S: Source, K: Sink>(
+pub fn run<R: Threads + Wait + Sync + Eprint, V: Volume + SaysWhy, S: Source, K: Sink>(
     rt: &R,
     alloc: Global,
     words: &Words,
@@ -45,40 +46,40 @@ where
     // Of each command: it is the code of a status with the causes that the command gives it, by the numbers and the
     // counts of faults, and by the files; which is the one that the numbers and the files ask for where they
     // refuse the command; and what was printed, or made, is what that status says.
-    ensures list { (name : List ℕ) (slot : ℕ) → IsList words.now name slot → EndsFor (λ status.
-        ReportEnds AnyCount slot (K.faults out.old) (K.faults out.new)
+    ensures list { (name : List ℕ) (given : Option ℕ) → IsList words.now name given → EndsFor (λ status.
+        ReportEnds AnyCount given (K.faults out.old) (K.faults out.new)
         (V.faults volume.old) (V.faults volume.new) (V.ended volume.old) (V.ended volume.new) status
-        × (IsTrue V.tells → ReportSays AnyCount (V.files volume.old) name slot status)
-        × IsRefused V.tells AnyCount (V.files volume.old) name slot status
-        × (IsTrue K.tells → ReportPrints (λ text. IsTrue V.tells → OfFile (Lists slot) (V.files volume.old) name slot text)
+        × (IsTrue V.tells → ReportSays AnyCount (V.files volume.old) name given status)
+        × IsRefused V.tells AnyCount (V.files volume.old) name given status
+        × (IsTrue K.tells → ReportPrints (λ text. IsTrue V.tells → OfFileFor Lists (V.files volume.old) name given text)
         (K.taken out.old) (K.taken out.new) status)) (exit_status result) }
-    ensures check { (name : List ℕ) (slot anchors : ℕ) → IsCheck words.now name slot anchors → EndsFor (λ status.
-        ReportEnds (IsAnchors anchors) slot (K.faults out.old) (K.faults out.new)
+    ensures check { (name : List ℕ) (given : Option ℕ) (anchors : ℕ) → IsCheck words.now name given anchors → EndsFor (λ status.
+        ReportEnds (IsAnchors anchors) given (K.faults out.old) (K.faults out.new)
         (V.faults volume.old) (V.faults volume.new) (V.ended volume.old) (V.ended volume.new) status
-        × (IsTrue V.tells → ReportSays (IsAnchors anchors) (V.files volume.old) name slot status)
-        × IsRefused V.tells (IsAnchors anchors) (V.files volume.old) name slot status
-        × (IsTrue K.tells → ReportPrints (λ text. IsTrue V.tells → OfFile (Sums anchors slot) (V.files volume.old) name slot text)
+        × (IsTrue V.tells → ReportSays (IsAnchors anchors) (V.files volume.old) name given status)
+        × IsRefused V.tells (IsAnchors anchors) (V.files volume.old) name given status
+        × (IsTrue K.tells → ReportPrints (λ text. IsTrue V.tells → OfFileFor (Sums anchors) (V.files volume.old) name given text)
         (K.taken out.old) (K.taken out.new) status)) (exit_status result) }
     ensures create { (name : List ℕ) (slot slots : ℕ) → IsCreate words.now name slot slots → EndsFor (λ status.
-        CreateEnds slot slots (V.faults volume.old) (V.faults volume.new) status
+        CreateEnds slot slots (V.faults volume.old) (V.faults volume.new) (V.ended volume.old) (V.ended volume.new) status
         × (IsTrue V.tells → CreateSays (V.files volume.old) name status)
         × IsCreateRefused V.tells (V.files volume.old) name slot slots status
         × CreateLeaves V.tells slot slots name (V.files volume.old) (V.files volume.new) status) (exit_status result) }
-    ensures run { (name : List ℕ) (slot anchors workers : ℕ) → IsRun words.now name slot anchors workers → EndsFor (λ status.
-        RunEnds slot anchors workers (S.faults script.old) (S.faults script.new) (K.faults out.old) (K.faults out.new)
+    ensures run { (name : List ℕ) (given : Option ℕ) (anchors workers : ℕ) → IsRun words.now name given anchors workers → EndsFor (λ status.
+        RunEnds given anchors workers (S.faults script.old) (S.faults script.new) (K.faults out.old) (K.faults out.new)
         (counts (V.faults volume.old) (V.made volume.old) (V.ended volume.old))
         (counts (V.faults volume.new) (V.made volume.new) (V.ended volume.new)) status
-        × RunSays S.tells V.tells workers (S.left script.old) (S.left script.new) (V.files volume.old) name slot anchors status
-        × IsRunRefused S.tells V.tells (S.left script.old) (V.files volume.old) name slot anchors workers
+        × RunSays S.tells V.tells workers (S.left script.old) (S.left script.new) (V.files volume.old) name given anchors status
+        × IsRunRefused S.tells V.tells (S.left script.old) (V.files volume.old) name given anchors workers
         (counts (V.faults volume.old) (V.made volume.old) (V.ended volume.old))
         (counts (V.faults volume.new) (V.made volume.new) (V.ended volume.new)) status
         × (IsTrue K.tells → RunPrints (IsRunText S.tells V.tells V.C.tells V.C.state V.St.faults
-        (S.left script.old) (S.left script.new) (V.files volume.old) (V.files volume.new) name slot anchors workers
+        (S.left script.old) (S.left script.new) (V.files volume.old) (V.files volume.new) name given anchors workers
         (counts (V.faults volume.old) (V.made volume.old) (V.ended volume.old))
         (counts (V.faults volume.new) (V.made volume.new) (V.ended volume.new)))
         (K.taken out.old) (K.taken out.new) status)
         × RunLeaves S.tells V.tells V.C.tells V.C.state (S.left script.old) (S.left script.new)
-        (V.files volume.old) (V.files volume.new) name slot anchors workers status) (exit_status result) }
+        (V.files volume.old) (V.files volume.new) name given anchors workers status) (exit_status result) }
     ensures bench { (name : List ℕ) (seed workers count : ℕ) → IsBench words.now name seed workers count → EndsFor (λ status.
         BenchEnds workers count (K.faults out.old) (K.faults out.new)
         (counts (V.faults volume.old) (V.made volume.old) (V.ended volume.old))
@@ -94,7 +95,20 @@ where
         name workers (bench_lines seed workers count) status) (exit_status result) }
 {
     let status = rock(rt, alloc, words, volume, script, out);
-    end(rt, alloc, &status, &asked_by(words))
+    let asked = Asked {
+        disk: disk_cause(volume.why()),
+        ..asked_by(words)
+    };
+    end(rt, alloc, &status, &asked)
+}
+
+/// Why a disk failed, as people are told.
+fn disk_cause(why: FaultCause) -> DiskCause {
+    match why {
+        FaultCause::InUse => DiskCause::InUse,
+        FaultCause::TooManyOpen => DiskCause::TooManyOpen,
+        FaultCause::Other => DiskCause::Unknown,
+    }
 }
 
 /// The words of a command line by what they say.
@@ -112,7 +126,7 @@ fn asked_by(words: &Words) -> Asked<'_> {
         slot: word_at(words, 2),
         count: word_at(words, 3),
         workers: word_at(words, 4),
-        rounds: None,
+        ..Asked::NOTHING
     }
 }
 

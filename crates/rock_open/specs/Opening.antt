@@ -6,6 +6,8 @@ use Rattle.db_layout.specs.Layout.{IsSlotSize, slots_of}
 use Rattle.db_layout.specs.declared.layout.TheConstants.{HEADER_BYTES}
 use Rattle.rebuild_model.specs.declared.rebuilt.Rebuilt.{Rebuilt}
 use Rattle.rock_disk.specs.Cell.{CellState}
+pub use Rattle.rebuild_model.specs.Keeping.{IsAnchors}
+pub use Rattle.rock_disk.specs.File.{HasSlots}
 use Rattle.rock_disk.specs.File.{File, Files, bytes_of}
 use Rattle.rock_disk.specs.Opened.{HasShape, IsOpened, IsSmall}
 use Rattle.store_rule.specs.declared.store.Pass.{Pass}
@@ -22,18 +24,6 @@ use Rattle.rock_open.specs.Device.{Counts, HasFailed, NoStation}
 pub record IsPasses (passes : ℕ) : Type 0 where
   pub from : 1 ≤ passes
   pub to : passes ≤ 32
-
--- as many anchors as a store of so many slots may have
-pub record IsAnchors (anchors slots : ℕ) : Type 0 where
-  pub from : 1 ≤ anchors
-  pub to : anchors ≤ slots
-
--- the file of this name is long enough, and has so many slots
-pub record HasSlots (files : Files) (name : List ℕ) (slot slots : ℕ) : Type 0 where
-  pub was : File
-  pub there : get files name ≡ Some was
-  pub long : HEADER_BYTES + slot ≤ length (bytes_of was)
-  pub count : slots ≡ slots_of (length (bytes_of was)) slot
 
 -- how a rebuild may be refused
 abbrev pub RebuildEnds : (before after : Counts) → OpenStoreFault → Type 0

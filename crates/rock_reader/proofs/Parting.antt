@@ -1,5 +1,5 @@
 -- What becomes of the tabs when one of them leaves its anchor.
-use Rattle.std.proofs.Common.{Bool, List, ap, arith, cond, eq-eqb, false, get_or, get_or-set_other, get_or-set_same, inl, inr, ne_eqb, refl, set, subst, sym, true, ◌-◌, ◌<◌, ◌==◌, ◌≡◌, ◌≢◌, ◌≤◌, ◌⊎◌, ◌∙◌, ◌↔◌, ℕ}
+use Rattle.std.proofs.Common.{Bool, List, [], ap, arith, cond, eq-eqb, false, get_or, get_or-set_other, get_or-set_same, inl, inr, ne_eqb, refl, set, subst, suc, sym, true, zero, ◌-◌, ◌<◌, ◌==◌, ◌∷◌, ◌≡◌, ◌≢◌, ◌≤◌, ◌⊎◌, ◌∙◌, ◌↔◌, ℕ}
 use Rattle.std.proofs.lemmas.Bool.{false≢true}
 use Rattle.std.proofs.lemmas.List.{set-get_or}
 use Rattle.rock_disk.specs.Cell.{CellState}
@@ -34,13 +34,27 @@ module _ {X : Type 0} where
   not_last (Tab.Last a) h = absurd (false≢true h)
   not_last (Tab.Freeing f) h = refl
 
-  free_is : (x : Tab X) → is_free x ≡ true → x ≡ Tab.Free
+  -- a tab that became free is free, also where there is no such tab
+  pub set_free : (xs : List (Tab X)) (t : ℕ) → get_or (set xs t Tab.Free) t Tab.Free ≡ Tab.Free
+  set_free [] t = refl
+  set_free (x ∷ xs) zero = refl
+  set_free (x ∷ xs) (suc t) = set_free xs t
+
+  pub free_is : (x : Tab X) → is_free x ≡ true → x ≡ Tab.Free
   free_is Tab.Free h = refl
   free_is (Tab.Retreating a) h = absurd (false≢true h)
   free_is (Tab.Reading r) h = absurd (false≢true h)
   free_is (Tab.Writing w) h = absurd (false≢true h)
   free_is (Tab.Last a) h = absurd (false≢true h)
   free_is (Tab.Freeing f) h = absurd (false≢true h)
+
+  counted_is_taken : (x : Tab X) → is_counted x ≡ true → is_free x ≡ true → ⊥
+  counted_is_taken Tab.Free h free = false≢true h
+  counted_is_taken (Tab.Retreating a) h free = false≢true free
+  counted_is_taken (Tab.Reading r) h free = false≢true free
+  counted_is_taken (Tab.Writing w) h free = false≢true free
+  counted_is_taken (Tab.Last a) h free = false≢true h
+  counted_is_taken (Tab.Freeing f) h free = false≢true h
 
   -- a tab that reads without a turn is counted, and holds none
   pub reads_counted : (x : Tab X) → OfReader (λ r. has_turn r.turn ≡ false) x → (is_counted x ≡ true) × (holds_turn x ≡ false)
@@ -54,7 +68,7 @@ module _ {X : Type 0} where
 must_not_be_done : Left.Done ≡ Left.MustFree → ⊥
 must_not_be_done e = cc
 
-module _ {X : Type 0} (g : Ground X) (t : ℕ) (v : View X) (pass : IsPass v) (below : t < inner) (inner_free : InnerIsFree v) (counted : is_counted (tab_at v t) ≡ true) where
+module _ {X : Type 0} (g : Ground X) (t : ℕ) (v : View X) (counted : is_counted (tab_at v t) ≡ true) where
   -- as nobody's last user
   gone_tabs : (left : Left) (w : View X) → Gone g v t left w → w.tabs ≡ with_tab v t Tab.Free
   gone_tabs left w h = ap View.tabs h.leave.leaves ∙ (let u = h.used in rw u refl)
@@ -88,25 +102,33 @@ module _ {X : Type 0} (g : Ground X) (t : ℕ) (v : View X) (pass : IsPass v) (b
   done_tabs w (inr (off, inr h)) = lost_tabs Left.Done w h (λ is. must_not_be_done (h.gives_up.won.1 is))
 
   -- it is to free the entry
-  pub must_free : (m : View X) → Leaves g v t Left.MustFree m → (f : Freer) × (m.tabs ≡ set (with_tab v t Tab.Free) inner (Tab.Freeing f)) × (f.is_whole ≡ true) × (f.loose ≡ Rattle.std.proofs.Common.[])
+  pub must_free : (m : View X) → Leaves g v t Left.MustFree m → (f : Freer) × (m.tabs ≡ set (with_tab v t Tab.Free) inner (Tab.Freeing f)) × (f.is_whole ≡ true) × (f.loose ≡ [])
   must_free m (inl h) = absurd (false≢true (sym (not_last (tab_at v t) counted) ∙ h.0))
   must_free m (inr (off, inl h)) = absurd (must_not_be_done (sym h.done))
   must_free m (inr (off, inr h)) = (f Left.MustFree m h, won_tabs Left.MustFree m h (h.gives_up.won.0 refl), refl, refl)
 
   -- and has freed it
-  pub freed_tabs : (m w : View X) → Leaves g v t Left.MustFree m → Freed g m w → w.tabs ≡ with_tab v t Tab.Free
-  freed_tabs m w h freed = let must = must_free m h in let f = must.0 in freed.tabs ∙ ap (λ (xs : List (Tab X)). set xs inner Tab.Free) must.1
+  pub freed_tabs : InnerIsFree v ⊎ (t ≡ inner) → (m w : View X) → Leaves g v t Left.MustFree m → Freed g m w → w.tabs ≡ with_tab v t Tab.Free
+  freed_tabs inner_free m w h freed = let must = must_free m h in let f = must.0 in freed.tabs ∙ ap (λ (xs : List (Tab X)). set xs inner Tab.Free) must.1
       ∙ set_again (with_tab v t Tab.Free) inner (Tab.Freeing f) Tab.Free ∙ ap (set (with_tab v t Tab.Free) inner) (sym still) ∙ set-get_or (with_tab v t Tab.Free) inner Tab.Free
     where
+      -- a tab that is counted is not free
+      apart : InnerIsFree v → t ≢ inner
+      apart free e = counted_is_taken (tab_at v t) counted (subst (λ (i : ℕ). is_free (tab_at v i) ≡ true) (sym e) free)
+
+      still_by : InnerIsFree v ⊎ (t ≡ inner) → get_or (with_tab v t Tab.Free) inner Tab.Free ≡ Tab.Free
+      still_by (inl free) = get_or-set_other v.tabs t inner Tab.Free Tab.Free (λ e. apart free (sym e)) ∙ free_is (tab_at v inner) free
+      still_by (inr e) = subst (λ (i : ℕ). get_or (with_tab v i Tab.Free) inner Tab.Free ≡ Tab.Free) (sym e) (set_free v.tabs inner)
+
       still : get_or (with_tab v t Tab.Free) inner Tab.Free ≡ Tab.Free
-      still = get_or-set_other v.tabs t inner Tab.Free Tab.Free (λ e. let b = below in omega arith) ∙ free_is (tab_at v inner) inner_free
+      still = still_by inner_free
 
 module _ {C O : Type 0} (tells : Bool) (state : C → CellState) (offers : O → Offers) (s : Store C O) (p : Pass C) (t : ℕ) where
   pub may_leave : MayPart tells state offers s p t → May tells state offers s p (Leave t)
   may_leave may = record { own = may.own; can = record { allowed = (let b = may.below in omega arith, may.counted, may.idle); chooses = tt; names = tt } }
 
   pub may_part : MayClose tells state offers s p t → MayPart tells state offers s p t
-  may_part may = let h = reads_counted (tab_at (view p) t) may.reads in record { own = may.own; below = may.below; inner_free = may.inner_free; counted = h.0; idle = h.1 }
+  may_part may = let h = reads_counted (tab_at (view p) t) may.reads in record { own = may.own; below = (let b = may.below in omega arith); inner_free = inl may.inner_free; counted = h.0; idle = h.1 }
 
   module _ (q : Pass C) where
     pub follows_tab : Follows tells state offers s t p q → FollowsTab tells state offers s t p q
@@ -136,7 +158,7 @@ module _ {C O : Type 0} (tells : Bool) (state : C → CellState) (offers : O →
 
     -- after it left, where it is to free the entry
     pub may_free : (may : MayPart tells state offers s p t) (g : Ground (List ℕ)) → Leaves g (view p) t Left.MustFree (view q) → IsOf tells state offers s q → MayFreeChain tells state offers s q
-    may_free may g h own = let must = must_free g t (view p) (pass_of p) may.below may.inner_free may.counted (view q) h in record {
+    may_free may g h own = let must = must_free g t (view p) may.counted (view q) h in record {
       own = own;
       freer = must.0;
       is = ap (λ (xs : List (Tab (List ℕ))). get_or xs inner Tab.Free) must.1

@@ -1,5 +1,5 @@
 -- A tab leaves the entry that it reads, or the anchor where it found nothing to read.
-use Rattle.std.specs.Prelude.{Bool, false, true, ◌<◌, ◌≡◌, ◌⊎◌, ℕ}
+use Rattle.std.specs.Prelude.{Bool, false, true, ◌<◌, ◌≡◌, ◌≤◌, ◌⊎◌, ℕ}
 use Rattle.rock_disk.specs.Cell.{CellState}
 use Rattle.core_model.specs.Tabs.{InnerIsFree, OfReader, has_turn, holds_turn, inner, is_counted, tab_at}
 use Rattle.core_model.specs.declared.view.View.{View}
@@ -12,11 +12,11 @@ use Rattle.rw_anchor.specs.declared.Left.{Left}
 use Rattle.slice_chain.specs.Freeing.{Freed}
 
 module _ {C O : Type 0} (tells : Bool) (state : C → CellState) (offers : O → Offers) where
-  -- the tab is counted at an anchor and holds no turn, and the inner tab is free
+  -- the tab is counted at an anchor and holds no turn, and the inner tab is free or is this one
   pub record MayPart (s : Store C O) (p : Pass C) (t : ℕ) : Type 0 where
     pub own : IsOf tells state offers s p
-    pub below : t < inner
-    pub inner_free : InnerIsFree (view p)
+    pub below : t ≤ inner
+    pub inner_free : InnerIsFree (view p) ⊎ (t ≡ inner)
     pub counted : is_counted (tab_at (view p) t) ≡ true
     pub idle : holds_turn (tab_at (view p) t) ≡ false
 

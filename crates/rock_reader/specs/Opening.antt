@@ -1,5 +1,5 @@
--- An entry is opened for a tab.
-use Rattle.std.specs.Prelude.{Bool, List, None, Some, ◌<◌, ◌≡◌, ◌≢◌, ◌⊎◌, ℕ}
+-- A tab comes to the entry with the key of a URL, and an entry is opened for a tab.
+use Rattle.std.specs.Prelude.{Bool, List, None, Some, ◌<◌, ◌≡◌, ◌≢◌, ◌≤◌, ◌⊎◌, ℕ}
 use Rattle.lock_word.specs.Cause.{cause_of}
 use Rattle.lock_word.specs.Life.{IsReadable}
 use Rattle.lock_word.specs.Words.{epoch_number, epoch_of}
@@ -36,11 +36,19 @@ pub record MayOpen {C O : Type 0} (tells : Bool) (state : C → CellState) (offe
   pub inner_free : InnerIsFree (view p)
   pub names : MayName (basis tells state offers s) (view p) (anchor_for (basis tells state offers s) url)
 
--- The tab has just been opened, and so far nothing but the epoch of its entry is known.
+-- The tab is free, and so is the inner one, which may be this one. The pass may name the anchor of the URL.
+pub record MayCome {C O : Type 0} (tells : Bool) (state : C → CellState) (offers : O → Offers) (s : Store C O) (p : Pass C) (t : ℕ) (url : List ℕ) : Type 0 where
+  pub own : IsOf tells state offers s p
+  pub below : t ≤ inner
+  pub free : tab_at (view p) t ≡ Free
+  pub inner_free : InnerIsFree (view p)
+  pub names : MayName (basis tells state offers s) (view p) (anchor_for (basis tells state offers s) url)
+
+-- The tab has just come to an entry, and so far nothing but the epoch of this is known.
 pub record MayJudge {C O : Type 0} (tells : Bool) (state : C → CellState) (offers : O → Offers) (s : Store C O) (p : Pass C) (t : ℕ) (epoch : Epoch) : Type 0 where
   pub own : IsOf tells state offers s p
-  pub below : t < inner
-  pub inner_free : InnerIsFree (view p)
+  pub below : t ≤ inner
+  pub inner_free : InnerIsFree (view p) ⊎ (t ≡ inner)
   pub anchor : ℕ
   pub is : tab_at (view p) t ≡ Reading (opened anchor epoch.version)
   pub readable : IsReadable epoch
@@ -71,6 +79,14 @@ module _ {X : Type 0} (g : Ground X) (t : ℕ) (url : List ℕ) (v : View X) whe
     pub enter : Steps g v (Enter t (anchor_for g url)) found entered
     pub epoch_is : epoch_of found ≡ epoch_number epoch
     pub fresh : IsFresh (anchor_for g url) (epoch_number epoch) v w
+
+  -- The entry could be read, and the key kept for it, which was loaded, is the URL's. The tab reads it from its first slot on.
+  pub record CameTo (epoch : Epoch) (w : View X) : Type 0 where
+    pub entered : View X
+    pub came : Came epoch entered w
+    pub readable : IsReadable epoch
+    pub key : KeyLoaded g t entered (key_of url) w
+    pub tabs : w.tabs ≡ with_tab v t (Reading (opened (anchor_for g url) epoch.version))
 
   -- The entry could be read, and has the URL's key. The tab reads it.
   pub record OpenedEntry (version : ℕ) (w : View X) : Type 0 where

@@ -23,8 +23,8 @@ pub fn close_entry<C: Cell, O: Origin>(store: &Store<C, O>, pass: &mut Pass<C>, 
 }
 
 /// A tab that is counted at an anchor leaves it, and where it is the last user of an entry that nobody may
-/// read any more, the slots of that entry are given back.
-pub(crate) fn part<C: Cell, O: Origin>(store: &Store<C, O>, pass: &mut Pass<C>, tab: u8)
+/// read any more, the slots of that entry are given back. It may be the inner tab.
+pub fn part<C: Cell, O: Origin>(store: &Store<C, O>, pass: &mut Pass<C>, tab: u8)
     requires { MayPart C.tells C.state O.offers store.now pass.old tab }
     ensures parted { Parted (basis C.tells C.state O.offers store.now) tab (view pass.old) (view pass.new) }
     ensures free { (view pass.new).tabs ≡ with_tab (view pass.old) tab Free }

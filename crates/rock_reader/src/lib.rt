@@ -8,13 +8,15 @@
 mod answer;
 mod bodies;
 mod closing;
+mod entry;
 mod laws;
 mod opening;
 mod reading;
 mod wanted;
 
 pub use answer::More;
-pub use closing::close_entry;
+pub use closing::{close_entry, part};
+pub use entry::come;
 pub use laws::{
     bodies_are_given_from_the_front, opened_stores_hold_their_files, reading_tabs_may_go_on,
 };

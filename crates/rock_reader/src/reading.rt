@@ -17,6 +17,7 @@ use crate::answer::More;
 use crate::bodies::body_in;
 use crate::laws::slots_are_small;
 use crate::wanted::{forget_url, kept_url};
+use core_model::INNER_TAB;
 use entry_cut::pieces_make_the_content;
 use link_word::Link;
 use lock_word::{Epoch, Stage};
@@ -25,9 +26,6 @@ use rw_anchor::look;
 use slice_chain::{link, read_slot};
 use std::sync::Wait;
 use store_rule::{Origin, Pass, Store};
-
-/// The tab whose buffer is the one for reading.
-const INNER: u8 = 8;
 
 /// What is known of a reading tab before it reads on.
 #[derive(Clone, Copy, Debug, PartialEq, Eq)]
@@ -189,7 +187,7 @@ fn give<C: Cell, O: Origin>(
     ensures length { length out.new ≡ length out.old }
 {
     let body = body_in(
-        pass.buffer(INNER),
+        pass.buffer(INNER_TAB),
         store.slots(),
         place,
         kept_url(pass, tab),

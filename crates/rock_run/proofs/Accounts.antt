@@ -14,10 +14,9 @@ use Rattle.store_rule.specs.Ground.{Offers}
 use Rattle.store_rule.specs.Passes.{IsNewOf, view}
 use Rattle.worker_pool.specs.Courses.{Awaited, IsServed, Meeting, Noting, StepOf, sets}
 use Rattle.worker_pool.specs.Running.{Account, IsWhole}
-use Rattle.serve_lines.specs.Serving.{Takes}
+use Rattle.worker_shelf.specs.Taking.{Takes}
 use Rattle.worker_shelf.specs.Shelves.{Learned, Left, Noted, OnShelf, Went}
-use Rattle.crew_accounts.specs.Courses.{Meets, Notes, StepOn}
-use Rattle.crew_accounts.specs.Playing.{IsPlayed}
+use Rattle.worker_shelf.specs.Playing.{IsPlayed, Meets, Notes, StepOn}
 
 module _ {C O St N : Type 0} (tells : Bool) (state : C → CellState) (offers : O → Offers) (faults : St → ℕ) (g : Ghosts (OnShelf C O St) N) (note_of : N → Note C)
     (went : (b : OnShelf C O St) (line : Line) (a : Answer) (c : OnShelf C O St) → g.went b line a c → Went tells state offers faults b line a c)

@@ -5,3 +5,5 @@ pub mod Devices
 pub mod Outcomes
 pub mod Fronts
 pub mod Homes
+pub mod Asking
+mod Found

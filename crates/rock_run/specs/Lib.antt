@@ -3,3 +3,5 @@ pub mod Scripts
 pub mod Device
 pub mod Crews
 pub mod Runs
+pub mod Asked
+pub mod Offered

@@ -19,8 +19,8 @@ use Rattle.rock_open.specs.Opening.{OpensStore}
 use Rattle.worker_pool.specs.Courses.{At}
 use Rattle.worker_pool.specs.Running.{Account, answers_of}
 use Rattle.worker_shelf.specs.Shelves.{OnShelf}
-use Rattle.crew_accounts.specs.Playing.{IsPlayed, TellsAtMarks}
-use Rattle.script_origin.specs.Offered.{offers_of}
+use Rattle.worker_shelf.specs.Playing.{IsPlayed, TellsAtMarks}
+use Rattle.rock_run.specs.Offered.{offers_of}
 use Rattle.rock_run.specs.Device.{HasEnded}
 
 module _ {C O St : Type 0} (tells : Bool) (state : C → CellState) (offers : O → Offers) (faults : St → ℕ) (s : Store C O) (lines : List Line) where

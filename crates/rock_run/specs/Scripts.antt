@@ -1,7 +1,7 @@
 -- The lines that workers may be given.
 use Rattle.std.specs.Prelude.{◌≤◌, Contains, List, ℕ}
 use Rattle.script_text.specs.declared.line.Line.{Line}
-use Rattle.script_origin.specs.Asked.{IsAsked, IsFound}
+use Rattle.rock_run.specs.Asked.{IsAsked, IsFound}
 use Rattle.worker_pool.specs.Knowing.{HasMarks}
 
 -- The lines may be served by `workers` workers, however many lines there are: each line is for one of the workers and is the first of its number, what it asks

@@ -5,7 +5,7 @@ ghost use Rattle.script_text.specs.Script.{IsScript};
 ghost use Rattle.script_text.specs.declared.line.Line.{Line};
 ghost use Rattle.rock_run.specs.Scripts.{MayBeServed};
 
-use script_origin::read_lines_may_be_asked;
+use crate::asked::read_lines_may_be_asked;
 use worker_pool::scripts_may_be_run;
 
 /// The workers that a script was read for may serve its lines.

@@ -7,19 +7,19 @@ ghost use Rattle.rock_disk.specs.Opened.{IsSmall};
 ghost use Rattle.store_rule.specs.Passes.{AreNumbered, IsNewOf, basis};
 ghost use Rattle.rock_open.specs.Device.{NoStation, counts};
 ghost use Rattle.rock_open.specs.Opening.{FileSays, HasSlots, IsAnchors, IsPasses};
-ghost use Rattle.script_origin.specs.Offered.{offers_of};
+ghost use Rattle.rock_run.specs.Offered.{offers_of};
 ghost use Rattle.rock_run.specs.Crews.{MayRest};
 ghost use Rattle.rock_run.specs.Device.{EachEnded, NoneFailed, RunEnds, ServingEnds};
 ghost use Rattle.rock_run.specs.Runs.{HasClosed, HasRun, HasServed, RefusalLeaves};
 ghost use Rattle.rock_run.specs.Scripts.{MayBeServed};
 
+use crate::origin::ScriptOrigin;
 use crate::serving::serve;
 use crate::stations::{end_stations, make_stations};
 use rock_disk::{StationFault, Volume, opened_cells_are_the_files, opened_slots_are_wide_and_few};
 use rock_open::{
     OpenStore, OpenStoreFault, close_store, closed_cells_may_be_given_back, open_store,
 };
-use script_origin::ScriptOrigin;
 use script_text::{Answer, Script};
 use std::alloc::Global;
 use std::sync::Wait;

@@ -1,15 +1,16 @@
 // Workers serve a script on a store, each with a pass and a station.
 ghost use Rattle.std.specs.Prelude.{All, IfOk, map, vec_capacity, vec_len, ◌≡◌, ◌≤◌};
 ghost use Rattle.store_rule.specs.Passes.{AreNumbered, IsNewOf, basis};
-ghost use Rattle.script_origin.specs.Offered.{offers_of};
+ghost use Rattle.rock_run.specs.Offered.{offers_of};
 ghost use Rattle.rock_run.specs.Crews.{MayRest};
 ghost use Rattle.rock_run.specs.Runs.{HasPlayed};
 ghost use Rattle.rock_run.specs.Scripts.{MayBeServed};
 
+use crate::asked::script_lines_may_be_asked;
 use crate::crew::{dismiss, hire, make_rooms};
+use crate::origin::ScriptOrigin;
 use rock_disk::{Cell, Station};
 use rock_io::Memory;
-use script_origin::{ScriptOrigin, script_lines_may_be_asked};
 use script_text::{Answer, Script};
 use std::alloc::Global;
 use std::sync::Wait;

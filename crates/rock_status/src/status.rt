@@ -23,10 +23,11 @@ pub enum Status {
     BadScript { line: u32, cause: u8 },
     /// There is no file of that name.
     Missing,
-    /// The file has only so many bytes, fewer than the header area and one slot.
+    /// The file has only so many bytes, fewer than the header area, or than that and one slot.
     Small { bytes: u64 },
     /// A number is out of its range: 1 the slot size, 2 the anchors, 3 the workers, 4 the slots, or the rounds of a
-    /// benchmark.
+    /// benchmark. Or the slot size of a file is not known: 5 its header area records another one than was given, 6 it records
+    /// slots that the file has not, 7 it records none and none was given.
     BadGeometry { field: u8 },
     /// There is a file of that name already.
     Exists,

@@ -19,9 +19,7 @@ use slice_chain::{free_chain, name_entry};
 use slot_cell::HEADER_SIZE;
 use store_key::{anchor_of, key_of};
 use store_rule::{Origin, Pass, Store};
-
-/// The metadata of an entry is so many bytes and its URL.
-const META: u64 = 32;
+use swap_meta::META_SIZE;
 
 /// Begins an entry of the response that the origin has under this offer, at the anchor of its URL, and
 /// answers its version. The offer is numbered from the number of slots on. An idle entry that is there is
@@ -70,7 +68,7 @@ fn is_too_long<C: Cell, O: Origin>(store: &Store<C, O>, url: &[u8]) -> bool
     ensures short { result ≡ false → IsTooLong (basis C.tells C.state O.offers store.now) url.now → ⊥ }
 {
     let room = u64::from(store.slot_size()).saturating_sub(HEADER_SIZE as u64);
-    room < (url.len() as u64).saturating_add(META)
+    room < (url.len() as u64).saturating_add(META_SIZE as u64)
 }
 
 // Whether an anchor with this word may be taken: it is vacant, or has an idle entry.

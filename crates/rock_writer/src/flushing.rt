@@ -30,7 +30,7 @@ use swap_meta::written_meta_is_spelled;
 use tab_states::WritingAt;
 
 /// The most slots that an entry may have.
-const MOST_SLOTS: u32 = 4_096;
+const MOST_ENTRY_SLOTS: u32 = 4_096;
 
 /// The slot for the piece that a tab fills: the one that the last published slot names, or one that is reserved
 /// now, where the tab has published none.
@@ -89,7 +89,7 @@ pub(crate) fn flush<C: Cell, O: Origin, St: Station<C = C>>(
     let Some(writing) = pass.writing(tab) else {
         unreachable!()
     };
-    let most = store.slots().min(MOST_SLOTS);
+    let most = store.slots().min(MOST_ENTRY_SLOTS);
     if u64::from(most) <= u64::from(writing.published) + 1 {
         return Err(WriteFault::Large);
     }

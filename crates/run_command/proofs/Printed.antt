@@ -1,26 +1,26 @@
 -- How the command ends where the answers were to be printed.
 use Rattle.std.proofs.Common.{Bool, List, ap, arith, inl, inr, length, map, refl, sym, ◌∙◌, ◌≡◌, ℕ}
 use Rattle.std.proofs.lemmas.List.{length-map}
-use Rattle.std.specs.Prelude.{IsTrue, None}
-use Rattle.std.specs.FinMap.{get}
-use Rattle.db_layout.specs.Layout.{IsSlotSize}
+use Rattle.std.specs.Prelude.{IsTrue, Option}
 use Rattle.rock_disk.specs.Cell.{CellState}
 use Rattle.rock_disk.specs.File.{Files}
-use Rattle.rock_disk.specs.Opened.{IsSmall}
 use Rattle.rock_io.specs.Faults.{Rose}
 use Rattle.rock_open.specs.Device.{Counts}
-use Rattle.rock_open.specs.Opening.{HasSlots, IsAnchors, IsPasses}
+use Rattle.rock_open.specs.Opening.{IsPasses}
 use Rattle.rock_run.specs.Runs.{HasRun}
-use Rattle.rock_run.proofs.Opened.{as_passes, sized}
 use Rattle.rock_status.specs.declared.status.Status.{Status}
 use Rattle.rock_status.specs.declared.status.Status.TheVariants.{BadGeometry, BadScript, DeviceFault, Done, Exists, Memory, Missing, SinkFault, Small, SourceFault, Usage}
 use Rattle.script_text.specs.Script.{IsBadScript}
 use Rattle.script_text.specs.declared.answer.Answer.{Answer}
 use Rattle.script_text.specs.declared.line.Line.{Line}
+use Rattle.slot_finding.specs.Finding.{IsGiven, WithSlot}
+use Rattle.slot_finding.proofs.Causes.{found_agrees, found_fits, found_known, found_long, found_there, of_one}
 use Rattle.run_command.specs.Ends.{RunEnds, RunsOrLacksMemory}
 use Rattle.run_command.specs.Leaves.{LeavesClosed, RunLeaves}
 use Rattle.run_command.specs.Prints.{PrintEnds, RunPrints}
+use Rattle.run_command.specs.Standing.{LeavesStood, RunStands}
 use Rattle.run_command.specs.Says.{Fits, IsRunRefused, RunSays, WasRead}
+use Rattle.run_command.proofs.Filed.{fits_not, not_short}
 
 -- printing ends in one of three ways
 by_end : (P : Status → Type 0) (k k' : ℕ) (status : Status) → PrintEnds k k' status → P Done → P Memory → (Rose k k' → P SinkFault) → P status
@@ -36,35 +36,31 @@ by_end P k k' (Small bytes) ends done memory failed = absurd ends
 by_end P k k' (BadGeometry field) ends done memory failed = absurd ends
 by_end P k k' Exists ends done memory failed = absurd ends
 
--- the numbers of a run that was not refused are within their limits
-pub within : (slot workers : ℕ) → ((IsSlotSize slot → ⊥) → ⊥) → (IsSlotSize slot → (IsPasses workers → ⊥) → ⊥) → IsSlotSize slot × IsPasses workers
-within slot workers slot_ok workers_ok = let size = sized slot slot_ok in (size, as_passes workers (workers_ok size))
-
 -- and so the command ends
-pub printed_ends : (slot anchors workers s s' k k' : ℕ) (before after : Counts) (status : Status) → IsSlotSize slot × IsPasses workers → PrintEnds k k' status → RunEnds slot anchors workers s s' k k' before after status
-printed_ends slot anchors workers s s' k k' before after status limits ends = by_end (RunEnds slot anchors workers s s' k k' before after) k k' status ends limits tt (λ rose. (limits.0, limits.1, rose))
+pub printed_ends : (given : Option ℕ) (anchors workers s s' k k' : ℕ) (before after : Counts) (status : Status) → IsGiven given → IsPasses workers → PrintEnds k k' status → RunEnds given anchors workers s s' k k' before after status
+printed_ends given anchors workers s s' k k' before after status sized passes ends = by_end (RunEnds given anchors workers s s' k k' before after) k k' status ends (sized, passes) tt (λ rose. (sized, passes, rose))
 
-pub printed_says : (source_tells volume_tells : Bool) (workers : ℕ) (text left : List ℕ) (files : Files) (name : List ℕ) (slot anchors k k' : ℕ) (status : Status) → WasRead source_tells workers text left → (IsTrue volume_tells → Fits files name slot anchors)
-    → PrintEnds k k' status → RunSays source_tells volume_tells workers text left files name slot anchors status
-printed_says source_tells volume_tells workers text left files name slot anchors k k' status read fits ends =
-    by_end (RunSays source_tells volume_tells workers text left files name slot anchors) k k' status ends (read, fits) tt (λ rose. (read, fits))
+pub printed_says : (source_tells volume_tells : Bool) (workers : ℕ) (text left : List ℕ) (files : Files) (name : List ℕ) (given : Option ℕ) (anchors k k' : ℕ) (status : Status) → WasRead source_tells workers text left
+    → (IsTrue volume_tells → WithSlot files name given (λ slot. Fits files name slot anchors)) → PrintEnds k k' status → RunSays source_tells volume_tells workers text left files name given anchors status
+printed_says source_tells volume_tells workers text left files name given anchors k k' status read fits ends =
+    by_end (RunSays source_tells volume_tells workers text left files name given anchors) k k' status ends (read, fits) tt (λ rose. (read, fits))
 
 -- nothing refuses a run that was not refused
-pub printed_refused : (source_tells volume_tells : Bool) (text : List ℕ) (files : Files) (name : List ℕ) (slot anchors workers : ℕ) (before after : Counts) (status : Status)
-    → ((line cause : ℕ) → IsTrue source_tells → IsBadScript workers text line cause → ⊥)
-    → ((IsSlotSize slot → ⊥) → ⊥)
-    → (IsSlotSize slot → (IsPasses workers → ⊥) → ⊥)
-    → (IsTrue volume_tells → IsSlotSize slot → IsPasses workers → get files name ≡ None → ⊥)
-    → (IsTrue volume_tells → IsSlotSize slot → IsPasses workers → (bytes : ℕ) → IsSmall files name slot bytes → ⊥)
-    → (IsTrue volume_tells → (slots : ℕ) → HasSlots files name slot slots → (IsAnchors anchors slots → ⊥) → ⊥)
-    → IsRunRefused source_tells volume_tells text files name slot anchors workers before after status
-printed_refused source_tells volume_tells text files name slot_size anchor_count worker_count before after status good bad_slot bad_workers no_file short unfit = record {
+pub printed_refused : (source_tells volume_tells : Bool) (text : List ℕ) (files : Files) (name : List ℕ) (given : Option ℕ) (anchors workers : ℕ) (before after : Counts) (status : Status)
+    → ((line cause : ℕ) → IsTrue source_tells → IsBadScript workers text line cause → ⊥) → IsGiven given → IsPasses workers
+    → (IsTrue volume_tells → WithSlot files name given (λ slot. Fits files name slot anchors))
+    → IsRunRefused source_tells volume_tells text files name given anchors workers before after status
+printed_refused source_tells volume_tells text files name given anchor_count worker_count before after status good may number fits = record {
   script = λ line cause told is. absurd (good line cause told is);
-  slot = λ tells not. absurd (bad_slot not);
-  workers = λ tells sized not. absurd (bad_workers sized not);
-  missing = λ tells told sized passes none. absurd (no_file told sized passes none);
-  small = λ bytes tells told sized passes is. absurd (short told sized passes bytes is);
-  anchors = λ slots tells told sized passes has not. absurd (unfit told slots has not);
+  slot = λ tells not. absurd (not may);
+  workers = λ tells sized not. absurd (not number);
+  missing = λ tells told sized passes is. absurd (found_there files name given (fits told).0 (fits told).1 is);
+  small = λ bytes tells told sized passes is. absurd (found_long files name given (fits told).0 bytes (fits told).1 is);
+  wrong = λ tells told sized passes is. absurd (found_fits files name given (fits told).0 (fits told).1 is);
+  differs = λ tells told sized passes is. absurd (found_agrees files name given (fits told).0 (fits told).1 is);
+  unknown = λ tells told passes is. absurd (found_known files name given (fits told).0 (fits told).1 is);
+  short = λ bytes tells told sized passes w. let f = fits told in absurd (not_short files name f.0 f.2.0 bytes f.2.1 (of_one files name given f.0 f.1 w));
+  anchors = λ tells told sized passes w. let f = fits told in absurd (fits_not files name f.0 anchor_count (of_one files name given f.0 f.1 w) f.2);
 }
 
 pub printed_complete : (k k' : ℕ) (status : Status) → ¬ Rose k k' → PrintEnds k k' status → RunsOrLacksMemory status
@@ -78,10 +74,17 @@ printed_prints IsText Told k k' taken taken_after status tells ends =
     (λ p. elim p as (λ _. RunPrints Told taken taken_after Memory) [ inl none ↦ inl none | inr part ↦ inr (part.0, tells part.0 part.1, part.2) ])
     (λ rose p. (p.0, tells p.0 p.1, p.2))
 
-pub printed_leaves : {C : Type 0} (source_tells volume_tells tells : Bool) (state : C → CellState) (text left : List ℕ) (before after : Files) (name : List ℕ) (slot anchors workers k k' : ℕ) (status : Status)
-    → LeavesClosed source_tells volume_tells tells state text left before after name slot anchors workers → PrintEnds k k' status → RunLeaves source_tells volume_tells tells state text left before after name slot anchors workers status
-printed_leaves source_tells volume_tells tells state text left before after name slot anchors workers k k' status closed ends =
-    by_end (RunLeaves source_tells volume_tells tells state text left before after name slot anchors workers) k k' status ends closed (inr closed) (λ rose. closed)
+pub printed_leaves : {C : Type 0} (source_tells volume_tells tells : Bool) (state : C → CellState) (text left : List ℕ) (before after : Files) (name : List ℕ) (given : Option ℕ) (anchors workers k k' : ℕ) (status : Status)
+    → LeavesClosed source_tells volume_tells tells state text left before after name given anchors workers → PrintEnds k k' status → RunLeaves source_tells volume_tells tells state text left before after name given anchors workers status
+printed_leaves source_tells volume_tells tells state text left before after name given anchors workers k k' status closed ends =
+    by_end (RunLeaves source_tells volume_tells tells state text left before after name given anchors workers) k k' status ends closed (inr closed) (λ rose. closed)
+
+-- and the file has what stood
+pub printed_stands : {C St : Type 0} (source_tells volume_tells tells : Bool) (state : C → CellState) (faults : St → ℕ) (text left : List ℕ) (before after : Files) (name : List ℕ) (given : Option ℕ) (anchors workers : ℕ) (counts_before counts_after : Counts) (k k' : ℕ) (status : Status)
+    → LeavesStood source_tells volume_tells tells state faults text left before after name given anchors workers counts_before counts_after → PrintEnds k k' status
+    → RunStands source_tells volume_tells tells state faults text left before after name given anchors workers counts_before counts_after status
+printed_stands source_tells volume_tells tells state faults text left before after name given anchors workers counts_before counts_after k k' status stood ends =
+    by_end (RunStands source_tells volume_tells tells state faults text left before after name given anchors workers counts_before counts_after) k k' status ends stood tt (λ rose. stood)
 
 as_long : {A B : Type 0} (f : A → B) (xs : List A) (ys : List B) → map f xs ≡ ys → length ys ≡ length xs
 as_long f xs ys is = ap length (sym is) ∙ length-map xs f

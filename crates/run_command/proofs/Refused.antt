@@ -1,75 +1,174 @@
 -- How the command ends where the run was refused.
-use Rattle.std.proofs.Common.{Bool, List, None, ap, inl, inr, refl, ◌≡◌, ◌⊎◌, ℕ}
-use Rattle.std.specs.Prelude.{Err, IsErrOf, IsTrue, Result}
-use Rattle.std.specs.FinMap.{get}
+use Rattle.std.proofs.Common.{Bool, List, arith, inl, inr, refl, subst, sym, ℕ}
+use Rattle.std.specs.Prelude.{IsTrue, Option}
 use Rattle.db_layout.specs.Layout.{IsSlotSize}
 use Rattle.rock_disk.specs.Cell.{CellState}
 use Rattle.rock_disk.specs.File.{Files}
-use Rattle.rock_disk.specs.Opened.{IsSmall}
-use Rattle.rock_open.specs.declared.fault.OpenStoreFault.{OpenStoreFault}
-use Rattle.rock_open.specs.declared.fault.OpenStoreFault.TheVariants.{BadGeometry, Failed, Memory, Missing, Small}
-use Rattle.rock_open.specs.Device.{Counts, NoStation}
-use Rattle.rock_open.specs.Opening.{FileSays as OpeningSays, HasSlots, IsAnchors, IsPasses}
-use Rattle.rock_run.specs.Device.{RunEnds as RefusalEnds}
-use Rattle.rock_run.specs.Faults.{status_of_run}
-use Rattle.rock_run.specs.Runs.{HasClosed, RefusalLeaves}
+use Rattle.rock_open.specs.Device.{Counts}
+use Rattle.rock_open.specs.Opening.{IsPasses}
+use Rattle.rock_run.specs.Device.{HasFailed}
+use Rattle.rock_run.specs.Runs.{HasClosed}
 use Rattle.run_rules.specs.Left.{LeavesResponses}
 use Rattle.rock_status.specs.declared.status.Status.{Status}
-use Rattle.rock_status.specs.declared.status.Status.TheVariants as status
+use Rattle.rock_status.specs.declared.status.Status.TheVariants.{BadGeometry, BadScript, DeviceFault, Done, Exists, Memory, Missing, SinkFault, Small, SourceFault, Usage}
 use Rattle.script_text.specs.Script.{GivesScript, IsBadScript}
 use Rattle.script_text.specs.declared.line.Line.{Line}
+use Rattle.slot_finding.specs.Faults.{OrFailed}
+use Rattle.slot_finding.specs.Finding.{FieldSays, IsGiven}
+use Rattle.slot_finding.proofs.Causes.{found_agrees, found_fits, found_known, found_long, found_there, of_one}
+use Rattle.run_command.specs.Ends.{FoundEnds, NoFault, RunEnds, RunsOrLacksMemory}
+use Rattle.run_command.specs.Found.{FoundLeaves, HasClosedFor}
 use Rattle.run_command.specs.Leaves.{LeavesKept, RunLeaves}
-use Rattle.run_command.specs.Says.{IsRunRefused, OrUnread}
-use Rattle.run_command.proofs.Filed.{lacks_no_file, not_short}
+use Rattle.run_command.specs.Prints.{RunPrints}
+use Rattle.run_command.specs.Says.{FileSays, IsFileRefused, IsRunRefused, MayRun, OrCutShort, RunSays, WasRead}
+use Rattle.run_command.proofs.Filed.{fits_not, not_short}
 
-same_fault : {T : Type 0} {f g : OpenStoreFault} → ◌≡◌ {A = Result T OpenStoreFault} (Err f) (Err g) → f ≡ g
-same_fault e = cc
+pub refused_ends : (given : Option ℕ) (anchors workers s s' k k' : ℕ) (before after : Counts) (status : Status) → IsGiven given → IsPasses workers → FoundEnds given anchors before after status → RunEnds given anchors workers s s' k k' before after status
+refused_ends given anchors workers s s' k k' before after Done sized passes ends = absurd ends
+refused_ends given anchors workers s s' k k' before after Usage sized passes ends = absurd ends
+refused_ends given anchors workers s s' k k' before after Memory sized passes ends = tt
+refused_ends given anchors workers s s' k k' before after SourceFault sized passes ends = absurd ends
+refused_ends given anchors workers s s' k k' before after SinkFault sized passes ends = absurd ends
+refused_ends given anchors workers s s' k k' before after DeviceFault sized passes ends = (sized, passes, ends)
+refused_ends given anchors workers s s' k k' before after (BadScript line cause) sized passes ends = absurd ends
+refused_ends given anchors workers s s' k k' before after Missing sized passes ends = (sized, passes, ends)
+refused_ends given anchors workers s s' k k' before after (Small bytes) sized passes ends = (sized, passes, ends.0, ends.1)
+refused_ends given anchors workers s s' k k' before after (BadGeometry field) sized passes ends = inr (inr (sized, passes, ends))
+refused_ends given anchors workers s s' k k' before after Exists sized passes ends = absurd ends
 
--- a refusal has one status
-pub told_as : {T : Type 0} (fault due : OpenStoreFault) → IsErrOf {T = T} (Err fault) due → status_of_run fault ≡ status_of_run due
-told_as fault due is = ap status_of_run (same_fault is)
+pub refused_says : (source_tells volume_tells : Bool) (workers : ℕ) (text left : List ℕ) (files : Files) (name : List ℕ) (given : Option ℕ) (anchors : ℕ) (before after : Counts) (status : Status) → WasRead source_tells workers text left
+    → FoundEnds given anchors before after status → (IsTrue volume_tells → FileSays files name given anchors status) → RunSays source_tells volume_tells workers text left files name given anchors status
+refused_says source_tells volume_tells workers text left files name given anchors before after Done read ends says = absurd ends
+refused_says source_tells volume_tells workers text left files name given anchors before after Usage read ends says = absurd ends
+refused_says source_tells volume_tells workers text left files name given anchors before after Memory read ends says = tt
+refused_says source_tells volume_tells workers text left files name given anchors before after SourceFault read ends says = absurd ends
+refused_says source_tells volume_tells workers text left files name given anchors before after SinkFault read ends says = absurd ends
+refused_says source_tells volume_tells workers text left files name given anchors before after DeviceFault read ends says = (read, says)
+refused_says source_tells volume_tells workers text left files name given anchors before after (BadScript line cause) read ends says = absurd ends
+refused_says source_tells volume_tells workers text left files name given anchors before after Missing read ends says = (read, says)
+refused_says source_tells volume_tells workers text left files name given anchors before after (Small bytes) read ends says = (read, says)
+refused_says source_tells volume_tells workers text left files name given anchors before after (BadGeometry field) read ends says = (read, says)
+refused_says source_tells volume_tells workers text left files name given anchors before after Exists read ends says = absurd ends
 
--- where the anchors do not fit, the run is refused so, unless opening failed
-unfit : (slot anchors workers slots : ℕ) (before after : Counts) (files : Files) (name : List ℕ) (fault : OpenStoreFault) → RefusalEnds slot anchors workers before after fault → OpeningSays files name slot anchors fault
-    → IsSlotSize slot → IsPasses workers → HasSlots files name slot slots → OrUnread (status.BadGeometry 2) (status_of_run fault) ⊎ (status_of_run fault ≡ status.DeviceFault)
-unfit slot anchors workers slots before after files name (BadGeometry field) (inl ends) says sized passes has = absurd (ends.1 sized)
-unfit slot anchors workers slots before after files name (BadGeometry field) (inr (inl ends)) says sized passes has = absurd (ends.2 passes)
-unfit slot anchors workers slots before after files name (BadGeometry field) (inr (inr ends)) says sized passes has = inl (inl (ap status.BadGeometry ends.0))
-unfit slot anchors workers slots before after files name Missing ends says sized passes has = absurd (lacks_no_file says has.there)
-unfit slot anchors workers slots before after files name (Small bytes) ends says sized passes has = absurd (not_short files name slot slots bytes has says)
-unfit slot anchors workers slots before after files name Failed ends says sized passes has = inr refl
-unfit slot anchors workers slots before after files name Memory ends says sized passes has = inl (inr (inr refl))
+cut_short : (due status : Status) → OrFailed due status → OrCutShort due status
+cut_short due status (inl is) = inl (inl is)
+cut_short due status (inr (inl failed)) = inr failed
+cut_short due status (inr (inr lacked)) = inl (inr (inr lacked))
 
-pub refused_refused : {T : Type 0} (source_tells volume_tells : Bool) (text : List ℕ) (files : Files) (name : List ℕ) (slot anchors workers : ℕ) (before after : Counts) (fault : OpenStoreFault)
-    → ((line cause : ℕ) → IsTrue source_tells → IsBadScript workers text line cause → ⊥)
-    → RefusalEnds slot anchors workers before after fault → (IsTrue volume_tells → OpeningSays files name slot anchors fault)
-    → ((IsSlotSize slot → ⊥) → IsErrOf {T = T} (Err fault) (BadGeometry 1))
-    → (IsSlotSize slot → (IsPasses workers → ⊥) → IsErrOf {T = T} (Err fault) (BadGeometry 3))
-    → (IsTrue volume_tells → IsSlotSize slot → IsPasses workers → get files name ≡ None → IsErrOf {T = T} (Err fault) Missing)
-    → (IsTrue volume_tells → IsSlotSize slot → IsPasses workers → (bytes : ℕ) → IsSmall files name slot bytes → IsErrOf {T = T} (Err fault) (Small bytes))
-    → (IsTrue volume_tells → (slots : ℕ) → HasSlots files name slot slots → (IsAnchors anchors slots → ⊥) → NoStation before after)
-    → IsRunRefused source_tells volume_tells text files name slot anchors workers before after (status_of_run fault)
-refused_refused {T = T} source_tells volume_tells text files name slot_size anchor_count worker_count before after fault good ends says bad_slot bad_workers no_file short early = record {
+pub refused_refused : (source_tells volume_tells : Bool) (text : List ℕ) (files : Files) (name : List ℕ) (given : Option ℕ) (anchors workers : ℕ) (before after : Counts) (status : Status)
+    → ((line cause : ℕ) → IsTrue source_tells → IsBadScript workers text line cause → ⊥) → IsGiven given → IsPasses workers → IsFileRefused volume_tells files name given anchors before after status
+    → IsRunRefused source_tells volume_tells text files name given anchors workers before after status
+refused_refused source_tells volume_tells text files name given anchor_count worker_count before after status good may number refused = record {
   script = λ line cause told is. absurd (good line cause told is);
-  slot = λ tells not. inl (told_as {T = T} fault (BadGeometry 1) (bad_slot not));
-  workers = λ tells sized not. inl (told_as {T = T} fault (BadGeometry 3) (bad_workers sized not));
-  missing = λ tells told sized passes none. inl (told_as {T = T} fault Missing (no_file told sized passes none));
-  small = λ bytes tells told sized passes is. inl (told_as {T = T} fault (Small bytes) (short told sized passes bytes is));
-  anchors = λ slots tells told sized passes has not. (unfit slot_size anchor_count worker_count slots before after files name fault ends (says told) sized passes has, early told slots has not);
+  slot = λ tells not. absurd (not may);
+  workers = λ tells sized not. absurd (not number);
+  missing = λ tells told sized passes is. inl (refused.missing told is);
+  small = λ bytes tells told sized passes is. inl (refused.small bytes told is);
+  wrong = λ tells told sized passes is. let r = refused.wrong told is in (cut_short (BadGeometry 6) status r.0, r.1);
+  differs = λ tells told sized passes is. let r = refused.differs told is in (cut_short (BadGeometry 5) status r.0, r.1);
+  unknown = λ tells told passes is. let r = refused.unknown told is in (cut_short (BadGeometry 7) status r.0, r.1);
+  short = λ bytes tells told sized passes w. let r = refused.short bytes told w in (cut_short (Small bytes) status r.0, r.1);
+  anchors = λ tells told sized passes w. let r = refused.anchors told w in (cut_short (BadGeometry 2) status r.0, r.1);
 }
 
-module _ {C : Type 0} (source_tells volume_tells tells : Bool) (state : C → CellState) (text left : List ℕ) (before after : Files) (name : List ℕ) (slot anchors workers : ℕ) (lines : List Line) (read : GivesScript source_tells workers text left lines)
-    (crash : IsSlotSize slot → IsTrue volume_tells → HasClosed volume_tells tells state before after name slot anchors workers lines → LeavesResponses before after name slot lines) where
+-- a number refuses it
+pub slot_refused : (source_tells volume_tells : Bool) (text : List ℕ) (files : Files) (name : List ℕ) (given : Option ℕ) (anchors workers : ℕ) (before after : Counts)
+    → ((line cause : ℕ) → IsTrue source_tells → IsBadScript workers text line cause → ⊥) → ¬ IsGiven given → IsRunRefused source_tells volume_tells text files name given anchors workers before after (BadGeometry 1)
+slot_refused source_tells volume_tells text files name given anchor_count worker_count before after good bad = record {
+  script = λ line cause told is. absurd (good line cause told is);
+  slot = λ tells not. inl refl;
+  workers = λ tells sized not. absurd (bad sized);
+  missing = λ tells told sized passes is. absurd (bad sized);
+  small = λ bytes tells told sized passes is. absurd (bad sized);
+  wrong = λ tells told sized passes is. absurd (bad sized);
+  differs = λ tells told sized passes is. absurd (bad sized);
+  unknown = λ tells told passes is. absurd (bad (subst IsGiven (sym is.none) tt));
+  short = λ bytes tells told sized passes w. absurd (bad sized);
+  anchors = λ tells told sized passes w. absurd (bad sized);
+}
+
+pub workers_refused : (source_tells volume_tells : Bool) (text : List ℕ) (files : Files) (name : List ℕ) (given : Option ℕ) (anchors workers : ℕ) (before after : Counts)
+    → ((line cause : ℕ) → IsTrue source_tells → IsBadScript workers text line cause → ⊥) → IsGiven given → ¬ IsPasses workers → IsRunRefused source_tells volume_tells text files name given anchors workers before after (BadGeometry 3)
+workers_refused source_tells volume_tells text files name given anchor_count worker_count before after good may bad = record {
+  script = λ line cause told is. absurd (good line cause told is);
+  slot = λ tells not. absurd (not may);
+  workers = λ tells sized not. inl refl;
+  missing = λ tells told sized passes is. absurd (bad passes);
+  small = λ bytes tells told sized passes is. absurd (bad passes);
+  wrong = λ tells told sized passes is. absurd (bad passes);
+  differs = λ tells told sized passes is. absurd (bad passes);
+  unknown = λ tells told passes is. absurd (bad passes);
+  short = λ bytes tells told sized passes w. absurd (bad passes);
+  anchors = λ tells told sized passes w. absurd (bad passes);
+}
+
+-- where the number of workers is refused, nothing is said of the file
+pub third_says : {Unfit : ℕ → Type 0} {files : Files} {name : List ℕ} {given : Option ℕ} → FieldSays Unfit files name given 3
+third_says = record { unfit = λ e. absurd (omega (arith, e)); wrong = λ e. absurd (omega (arith, e)); differs = λ e. absurd (omega (arith, e)); unknown = λ e. absurd (omega (arith, e)) }
+
+not_failed : (s s' k k' : ℕ) (before after : Counts) → NoFault s s' k k' before after → HasFailed before after → ⊥
+not_failed s s' k k' before after none (inl rose) = none.volume_none rose
+not_failed s s' k k' before after none (inr ended) = let count = (none.stations_none ended.0 ended.1 ended.2).0 in omega (arith, count, ended.3)
+
+-- nothing refuses a run that may be
+pub refused_complete : (text : List ℕ) (files : Files) (name : List ℕ) (given : Option ℕ) (anchors workers s s' k k' : ℕ) (before after : Counts) (status : Status) → MayRun text files name given anchors workers → NoFault s s' k k' before after
+    → FoundEnds given anchors before after status → FileSays files name given anchors status → RunsOrLacksMemory status
+refused_complete text files name given anchors workers s s' k k' before after Done may none ends says = inl refl
+refused_complete text files name given anchors workers s s' k k' before after Usage may none ends says = absurd ends
+refused_complete text files name given anchors workers s s' k k' before after Memory may none ends says = inr refl
+refused_complete text files name given anchors workers s s' k k' before after SourceFault may none ends says = absurd ends
+refused_complete text files name given anchors workers s s' k k' before after SinkFault may none ends says = absurd ends
+refused_complete text files name given anchors workers s s' k k' before after DeviceFault may none ends says = absurd (not_failed s s' k k' before after none ends)
+refused_complete text files name given anchors workers s s' k k' before after (BadScript line cause) may none ends says = absurd ends
+refused_complete text files name given anchors workers s s' k k' before after Missing may none ends says = absurd (found_there files name given may.fit.0 may.fit.1 says)
+refused_complete text files name given anchors workers s s' k k' before after (Small bytes) may none ends (inl header) = absurd (found_long files name given may.fit.0 bytes may.fit.1 header)
+refused_complete text files name given anchors workers s s' k k' before after (Small bytes) may none ends (inr w) =
+    let f = may.fit in absurd (not_short files name f.0 f.2.0 bytes f.2.1 (of_one files name given f.0 f.1 w))
+refused_complete text files name given anchors workers s s' k k' before after (BadGeometry field) may none (inl (inl six), station) says = absurd (found_fits files name given may.fit.0 may.fit.1 (says.wrong six))
+refused_complete text files name given anchors workers s s' k k' before after (BadGeometry field) may none (inl (inr (inl five)), station) says = absurd (found_agrees files name given may.fit.0 may.fit.1 (says.differs five.0))
+refused_complete text files name given anchors workers s s' k k' before after (BadGeometry field) may none (inl (inr (inr seven)), station) says = absurd (found_known files name given may.fit.0 may.fit.1 (says.unknown seven.0))
+refused_complete text files name given anchors workers s s' k k' before after (BadGeometry field) may none (inr two, station) says =
+    let f = may.fit in absurd (fits_not files name f.0 anchors (of_one files name given f.0 f.1 (says.unfit two.0)) f.2)
+refused_complete text files name given anchors workers s s' k k' before after Exists may none ends says = absurd ends
+
+-- and nothing is printed
+pub refused_prints : (given : Option ℕ) (anchors : ℕ) (before after : Counts) (IsText : List ℕ → Type 0) (taken : List ℕ) (status : Status) → FoundEnds given anchors before after status → RunPrints IsText taken taken status
+refused_prints given anchors before after IsText taken Done ends = absurd ends
+refused_prints given anchors before after IsText taken Usage ends = absurd ends
+refused_prints given anchors before after IsText taken Memory ends = inl refl
+refused_prints given anchors before after IsText taken SourceFault ends = absurd ends
+refused_prints given anchors before after IsText taken SinkFault ends = absurd ends
+refused_prints given anchors before after IsText taken DeviceFault ends = refl
+refused_prints given anchors before after IsText taken (BadScript line cause) ends = absurd ends
+refused_prints given anchors before after IsText taken Missing ends = refl
+refused_prints given anchors before after IsText taken (Small bytes) ends = refl
+refused_prints given anchors before after IsText taken (BadGeometry field) ends = refl
+refused_prints given anchors before after IsText taken Exists ends = absurd ends
+
+module _ {C : Type 0} (source_tells volume_tells tells : Bool) (state : C → CellState) (text left : List ℕ) (before after : Files) (name : List ℕ) (given : Option ℕ) (anchors workers : ℕ) (lines : List Line) (read : GivesScript source_tells workers text left lines)
+    (crash : (slot : ℕ) → IsSlotSize slot → IsTrue volume_tells → HasClosed volume_tells tells state before after name slot anchors workers lines → LeavesResponses before after name slot lines) where
+  abbrev Kept : Type 0
+  Kept = LeavesKept volume_tells before after name given
+
+  abbrev Closed : Type 0
+  Closed = HasClosedFor volume_tells tells state before after name given anchors workers lines
+
   abbrev Leaves : Status → Type 0
-  Leaves = RunLeaves source_tells volume_tells tells state text left before after name slot anchors workers
+  Leaves = RunLeaves source_tells volume_tells tells state text left before after name given anchors workers
 
-  either : IsSlotSize slot → LeavesKept volume_tells before after name slot ⊎ HasClosed volume_tells tells state before after name slot anchors workers lines → Leaves status.Memory
-  either sized (inl kept) = inl kept
-  either sized (inr closed) = inr (lines, read, closed, (λ told. crash sized told closed))
+  either : FoundLeaves Kept Closed Memory → Leaves Memory
+  either (inl kept) = inl kept
+  either (inr c) = inr (record { lines = lines; read = read; slot = c.slot; sized = c.sized; closed = c.closed; responses = λ told. crash c.slot c.sized.sized told c.closed })
 
-  pub refused_leaves : (counted counted_after : Counts) (fault : OpenStoreFault) → RefusalEnds slot anchors workers counted counted_after fault → RefusalLeaves (LeavesKept volume_tells before after name slot) (HasClosed volume_tells tells state before after name slot anchors workers lines) fault → Leaves (status_of_run fault)
-  refused_leaves counted counted_after (BadGeometry field) ends h = h
+  pub refused_leaves : (counted counted_after : Counts) (status : Status) → FoundEnds given anchors counted counted_after status → FoundLeaves Kept Closed status → Leaves status
+  refused_leaves counted counted_after Done ends h = absurd ends
+  refused_leaves counted counted_after Usage ends h = absurd ends
+  refused_leaves counted counted_after Memory ends h = either h
+  refused_leaves counted counted_after SourceFault ends h = absurd ends
+  refused_leaves counted counted_after SinkFault ends h = absurd ends
+  refused_leaves counted counted_after DeviceFault ends h = either h
+  refused_leaves counted counted_after (BadScript line cause) ends h = absurd ends
   refused_leaves counted counted_after Missing ends h = h
   refused_leaves counted counted_after (Small bytes) ends h = h
-  refused_leaves counted counted_after Failed ends h = either ends.0 h
-  refused_leaves counted counted_after Memory ends h = either ends.0 h
+  refused_leaves counted counted_after (BadGeometry field) ends h = h
+  refused_leaves counted counted_after Exists ends h = absurd ends

@@ -1,8 +1,8 @@
 -- How the command ends where the script was not read.
 use Rattle.std.proofs.Common.{Bool, List, ap, inl, inr, refl, ◌∙◌, ◌≡◌, ℕ}
-use Rattle.std.specs.Prelude.{IsTrue}
+use Rattle.std.specs.Prelude.{IsTrue, Option}
 use Rattle.rock_disk.specs.File.{Files}
-use Rattle.rock_open.specs.Device.{Counts}
+use Rattle.rock_open.specs.Device.{Counts, NoStation}
 use Rattle.rock_status.specs.declared.status.Status.{Status}
 use Rattle.rock_status.specs.declared.status.Status.TheVariants.{BadGeometry, BadScript, Missing, Small}
 use Rattle.script_text.specs.Script.{Explains, IsBadScript, IsScript}
@@ -23,15 +23,21 @@ bad_line HasFailed line cause (BadLine l c) h = inl (ap (λ n. BadScript n c) h.
 bad_line HasFailed line cause Failed h = inr (inl refl)
 bad_line HasFailed line cause Memory h = inr (inr refl)
 
-pub unread_refused : (source_tells volume_tells : Bool) (text : List ℕ) (files : Files) (name : List ℕ) (slot anchors workers : ℕ) (before : Counts) (HasFailed : Type 0) (fault : ScriptFault)
+pub unread_refused : (source_tells volume_tells : Bool) (text : List ℕ) (files : Files) (name : List ℕ) (given : Option ℕ) (anchors workers : ℕ) (before : Counts) (HasFailed : Type 0) (fault : ScriptFault)
     → ((lines : List Line) → IsTrue source_tells → IsScript workers text lines → Explains (λ _ _. ⊥) HasFailed fault)
     → ((line cause : ℕ) → IsTrue source_tells → IsBadScript workers text line cause → Explains (λ l c. (l ≡ line) × (c ≡ cause)) HasFailed fault)
-    → IsRunRefused source_tells volume_tells text files name slot anchors workers before before (status_of_script fault)
-unread_refused source_tells volume_tells text files name slot_size anchor_count worker_count before HasFailed fault good bad = record {
-  script = λ line cause told is. bad_line HasFailed line cause fault (bad line cause told is);
-  slot = λ tells not. unread HasFailed (BadGeometry 1) fault (good tells.lines tells.told tells.is);
-  workers = λ tells sized not. unread HasFailed (BadGeometry 3) fault (good tells.lines tells.told tells.is);
-  missing = λ tells told sized passes none. unread HasFailed Missing fault (good tells.lines tells.told tells.is);
-  small = λ bytes tells told sized passes is. unread HasFailed (Small bytes) fault (good tells.lines tells.told tells.is);
-  anchors = λ slots tells told sized passes has not. (inl (unread HasFailed (BadGeometry 2) fault (good tells.lines tells.told tells.is)), record { made = refl; ended = refl });
-}
+    → IsRunRefused source_tells volume_tells text files name given anchors workers before before (status_of_script fault)
+unread_refused source_tells volume_tells text files name given anchor_count worker_count before HasFailed fault good bad =
+    let none : NoStation before before = record { made = refl; ended = refl } in
+    record {
+      script = λ line cause told is. bad_line HasFailed line cause fault (bad line cause told is);
+      slot = λ tells not. unread HasFailed (BadGeometry 1) fault (good tells.lines tells.told tells.is);
+      workers = λ tells sized not. unread HasFailed (BadGeometry 3) fault (good tells.lines tells.told tells.is);
+      missing = λ tells told sized passes is. unread HasFailed Missing fault (good tells.lines tells.told tells.is);
+      small = λ bytes tells told sized passes is. unread HasFailed (Small bytes) fault (good tells.lines tells.told tells.is);
+      wrong = λ tells told sized passes is. (inl (unread HasFailed (BadGeometry 6) fault (good tells.lines tells.told tells.is)), none);
+      differs = λ tells told sized passes is. (inl (unread HasFailed (BadGeometry 5) fault (good tells.lines tells.told tells.is)), none);
+      unknown = λ tells told passes is. (inl (unread HasFailed (BadGeometry 7) fault (good tells.lines tells.told tells.is)), none);
+      short = λ bytes tells told sized passes is. (inl (unread HasFailed (Small bytes) fault (good tells.lines tells.told tells.is)), none);
+      anchors = λ tells told sized passes is. (inl (unread HasFailed (BadGeometry 2) fault (good tells.lines tells.told tells.is)), none);
+    }

@@ -1,5 +1,5 @@
 -- What a run prints.
-use Rattle.std.specs.Prelude.{Bool, IsTrue, List, ◌++◌, ◌≡◌, ◌⊎◌, ℕ}
+use Rattle.std.specs.Prelude.{Bool, IsTrue, List, Option, ◌++◌, ◌≡◌, ◌⊎◌, ℕ}
 use Rattle.answer_text.specs.Text.{text_of}
 use Rattle.rock_disk.specs.Cell.{CellState}
 use Rattle.rock_disk.specs.File.{Files}
@@ -14,10 +14,13 @@ use Rattle.rock_status.specs.declared.status.Status.TheVariants.{Done, Memory, S
 use Rattle.script_text.specs.Script.{GivesScript}
 use Rattle.script_text.specs.declared.answer.Answer.{Answer}
 use Rattle.script_text.specs.declared.line.Line.{Line}
+use Rattle.run_command.specs.Slots.{IsSlotOf}
 
--- The text is what a run prints: the source gave a script to its end, these lines were run over the file, and the text is that of their answers,
--- which are explained by what the workers did. Those of one worker whose station met no fault are those of a plain store.
-pub record IsRunText {C St : Type 0} (source_tells volume_tells tells : Bool) (state : C → CellState) (faults : St → ℕ) (script left : List ℕ) (files files_after : Files) (name : List ℕ) (slot anchors workers : ℕ) (before after : Counts) (text : List ℕ) : Type 0 where
+-- The text is what a run prints: the source gave a script to its end, these lines were run over the file by its slot size, and the text is that of
+-- their answers, which are explained by what the workers did. Those of one worker whose station met no fault are those of a plain store.
+pub record IsRunText {C St : Type 0} (source_tells volume_tells tells : Bool) (state : C → CellState) (faults : St → ℕ) (script left : List ℕ) (files files_after : Files) (name : List ℕ) (given : Option ℕ) (anchors workers : ℕ) (before after : Counts) (text : List ℕ) : Type 0 where
+  pub slot : ℕ
+  pub sized : IsSlotOf volume_tells files name given slot
   pub lines : List Line
   pub answers : List (List (ℕ × Answer))
   pub is : text ≡ text_of answers

@@ -1,27 +1,31 @@
 // The command `run`.
-ghost use Rattle.std.specs.Prelude.{IsTrue, length, map, ◌≡◌, ◌≤◌};
+ghost use Rattle.std.specs.Prelude.{IsTrue, length, map, ◌≡◌, ◌≤◌, ◌↔◌};
 ghost use Rattle.std.specs.FinMap.{get};
 ghost use Rattle.answer_text.specs.Text.{text_of};
 ghost use Rattle.rock_disk.specs.File.{IsNotAway, NoneAway};
 ghost use Rattle.rock_open.specs.Device.{counts};
+ghost use Rattle.rock_open.specs.Opening.{IsPasses};
 ghost use Rattle.rock_run.specs.Device.{EachEnded, NoneFailed};
 ghost use Rattle.script_text.specs.Script.{IsTakenFrom};
 ghost use Rattle.run_command.specs.Ends.{NoFault, RunEnds, RunsOrLacksMemory};
 ghost use Rattle.run_command.specs.Leaves.{RunLeaves};
 ghost use Rattle.run_command.specs.Prints.{IsRunText, PrintEnds, RunPrints};
 ghost use Rattle.run_command.specs.Says.{IsRunRefused, MayRun, RunSays};
+ghost use Rattle.run_command.specs.Standing.{RunStands};
 
 use crate::faults::{of_print, of_script};
+use crate::found::run_found;
 use answer_text::print_answers;
 use rock_disk::Volume;
 use rock_io::{Sink, Source};
-use rock_run::{read_scripts_may_be_served, run_script, status_of_run};
+use rock_run::read_scripts_may_be_served;
 use rock_status::Status;
 use run_rules::{
     closed_runs_leave_responses, lone_runs_are_answered_plainly, read_lines_are_numbered,
-    runs_keep_the_rules,
+    runs_keep_the_rules, runs_leave_standing,
 };
 use script_text::{Answer, read_script};
+use slot_finding::may_be_given;
 use std::alloc::Global;
 use std::sync::Wait;
 use std::thread::Threads;
@@ -31,8 +35,8 @@ use std::thread::Threads;
 pub struct RunTarget<'a> {
     /// The name of the file.
     pub name: &'a str,
-    /// The size of a slot in bytes.
-    pub slot: u32,
+    /// The size of a slot in bytes, where it is given. Where it is not, the header area tells it.
+    pub slot: Option<u32>,
     pub anchors: u32,
     pub workers: u32,
 }
@@ -52,14 +56,22 @@ fn print<K: Sink>(alloc: Global, out: &mut K, answers: &[Vec<(u32, Answer)>]) ->
     }
 }
 
+/// Whether so many workers may run.
+fn are_workers(workers: u32) -> bool
+    ensures { IsTrue result ↔ IsPasses workers }
+{
+    1 <= workers && workers <= 32
+}
+
 /// Reads a script to its end, runs it over a file by as many workers as are asked for, and prints one line for each of its
 /// lines: for each worker in order, the first of which is worker 1, what its lines were answered. Nothing is printed before
 /// all lines were served and the file was given back.
 ///
 /// The script is refused before the numbers and the file: [`Status::SourceFault`], [`Status::BadScript`]; then, in this
-/// order, [`Status::BadGeometry`] with field 1 for the slot size and with field 3 for the workers, [`Status::Missing`],
-/// [`Status::Small`], and `BadGeometry` with field 2 for the anchors; then the rebuild may fail, and at last the printing.
-/// A fault of a worker's station is a line of the answers, and no status.
+/// order, [`Status::BadGeometry`] with field 1 for a slot size that is given, and with field 3 for the workers,
+/// [`Status::Missing`], [`Status::Small`] where the file is shorter than its header area, `BadGeometry` with field 6, 5 or 7
+/// where its slot size is not known, `Small` where it has no slot, and `BadGeometry` with field 2 for the anchors; then the
+/// rebuild may fail, and at last the printing. A fault of a worker's station is a line of the answers, and no status.
 pub fn run_command<R: Threads + Wait + Sync, V: Volume, S: Source, K: Sink>(
     rt: &R,
     alloc: Global,
@@ -105,6 +117,12 @@ where
     ensures kept { RunLeaves S.tells V.tells V.C.tells V.C.state (S.left script.old) (S.left script.new)
         (V.files volume.old) (V.files volume.new)
         target.now.name.now target.now.slot target.now.anchors target.now.workers result }
+    // What of it stood closed at the end, as it is and after a crash.
+    ensures stands { RunStands S.tells V.tells V.C.tells V.C.state V.St.faults (S.left script.old) (S.left script.new)
+        (V.files volume.old) (V.files volume.new)
+        target.now.name.now target.now.slot target.now.anchors target.now.workers
+        (counts (V.faults volume.old) (V.made volume.old) (V.ended volume.old))
+        (counts (V.faults volume.new) (V.made volume.new) (V.ended volume.new)) result }
     ensures back { IsTrue V.tells → NoneAway (V.files volume.old) → NoneAway (V.files volume.new) }
 
     // Each station that was made was ended.
@@ -128,18 +146,19 @@ where
     runs_keep_the_rules::<V::C, V::St>();
     read_lines_are_numbered();
     lone_runs_are_answered_plainly::<V::C, V::St>();
-    let RunTarget {
-        name,
-        slot,
-        anchors,
-        workers,
-    } = *target;
-    let lines = match read_script(alloc, script, workers) {
+    runs_leave_standing::<V::C, V::St>();
+    let lines = match read_script(alloc, script, target.workers) {
         Ok(lines) => lines,
         Err(fault) => return of_script(fault),
     };
-    match run_script(rt, alloc, volume, name, slot, anchors, workers, &lines) {
+    if !may_be_given(target.slot) {
+        return Status::BadGeometry { field: 1 };
+    }
+    if !are_workers(target.workers) {
+        return Status::BadGeometry { field: 3 };
+    }
+    match run_found(rt, alloc, volume, target, &lines) {
         Ok(answers) => print(alloc, out, &answers),
-        Err(fault) => status_of_run(fault),
+        Err(status) => status,
     }
 }

@@ -3,5 +3,6 @@
 
 mod command;
 mod faults;
+mod found;
 
 pub use command::{RunTarget, run_command};

@@ -15,11 +15,11 @@ use Rattle.store_rule.specs.declared.store.Store.{Store}
 use Rattle.store_rule.specs.Ground.{Offers}
 use Rattle.worker_pool.specs.Courses.{Stage, lines_of}
 use Rattle.worker_pool.specs.Running.{Account, answers_of}
-use Rattle.serve_lines.specs.Answers.{is_fault}
+use Rattle.store_serve.specs.Answers.{is_fault}
 use Rattle.worker_shelf.specs.Shelves.{OnShelf}
 use Rattle.crew_accounts.specs.Courses.{in_order}
 use Rattle.crew_accounts.specs.Closings.{HasClosing, Played, crew_of, worker_of}
-use Rattle.crew_accounts.specs.Playing.{HasSteps, IsPlayed, answer_to_await, fault_answers}
+use Rattle.worker_shelf.specs.Playing.{HasSteps, IsPlayed, answer_to_await, fault_answers}
 use Rattle.line_account.specs.Crews.{HasCourse, HaveCourses}
 use Rattle.run_rules.specs.Runs.{AreCounted, AreMet, faults_in, printed_by}
 use Rattle.run_rules.proofs.Lists.{beside, both, counted, image, one, same_images, there}

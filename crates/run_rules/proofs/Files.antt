@@ -1,5 +1,5 @@
 -- What lines print of the file: the URLs, the bodies and the keys of its entries.
-use Rattle.std.proofs.Common.{IsTrue, List, ap, inl, inr, refl, subst, sym, ⊎_elim, ◌%◌, ◌+◌, ◌<◌, ◌^◌, ◌∙◌, ◌≡◌, ◌≤◌, ℕ}
+use Rattle.std.proofs.Common.{IsTrue, List, ap, length, take, inl, inr, refl, subst, sym, ⊎_elim, ◌%◌, ◌+◌, ◌<◌, ◌^◌, ◌∙◌, ◌≡◌, ◌≤◌, ℕ}
 use Rattle.std.specs.Prelude.{Some}
 use Rattle.std.proofs.Math.Nat.{mod-lt}
 use Rattle.rebuild_model.specs.Entry.{Entry, IsStored as IsInFile}
@@ -12,17 +12,19 @@ use Rattle.core_model.specs.Anchors.{opening_counter}
 use Rattle.line_account.specs.Answers.{Run, bytes_with}
 use Rattle.line_account.specs.Closing.{BegunIn, LineIn, Worker}
 use Rattle.line_account.specs.Deeds.{Begins, PrintsBegunVersion}
-use Rattle.line_account.specs.Lines.{Served, url_in}
+use Rattle.script_text.specs.Requests.{url_in}
+use Rattle.line_account.specs.Lines.{Served}
 use Rattle.line_account.specs.Printed.{HadEntry, HasOtherUrl, HitIn, IsBodyAsPrinted, IsBodyOfLine, IsOldBody, IsOldUrl, IsStored, ReadsOf, old_offer}
 use Rattle.line_account.specs.Scripts.{ServesScript}
 use Rattle.line_account.specs.Rules.{KeepsRules}
-use Rattle.run_rules.specs.Printed.{AreKeysOfWinners, AreResponses, IsOfWinner}
+use Rattle.line_account.specs.Tabs.{ReadsOn}
+use Rattle.run_rules.specs.Printed.{AreKeysOfWinners, AreResponses, IsFrontOfWinner, IsOfWinner}
 use Rattle.run_rules.specs.Responses.{HasTwin, IsFrontOf, IsOffered, IsResponse, IsUsed}
 use Rattle.run_rules.proofs.Lists.{not_above}
 use Rattle.run_rules.proofs.Scripts.{offer_of, offered}
 
 -- there is an anchor of each key
-anchor_below : (key : List ℕ) (n : ℕ) → 0 < n → anchor_of key n < n
+pub anchor_below : (key : List ℕ) (n : ℕ) → 0 < n → anchor_of key n < n
 anchor_below key n some = mod-lt ((front_half key + back_half key) % 2 ^ 64) some
 
 module _ (r : Run (List ℕ)) (slot anchors : ℕ) (images : List (List ℕ)) where
@@ -43,10 +45,15 @@ module _ (r : Run (List ℕ)) (slot anchors : ℕ) (images : List (List ℕ)) wh
     here url = below url (anchor_of (key_of url) r.setting.anchors) refl
 
     pub keys : AreKeysOfWinners r slot anchors images script crew
-    keys a epoch key p low =
-        let at = p.line_of.so.at in
-        let w = kept a (below at.url a at.anchor) (rules.keys.kept a epoch key p low) in
-        record { entry = w.entry; winner = w.winner; key_is = rules.keys.old a epoch key w.entry.url p low w.keyed }
+    keys = record {
+      printed = λ a epoch key p low.
+          let at = p.line_of.so.at in
+          let w = kept a (below at.url a at.anchor) (rules.keys.kept a epoch key p low) in
+          record { entry = w.entry; winner = w.winner; key_is = rules.keys.old a epoch key w.entry.url p low w.keyed };
+      found = λ a x url p low.
+          let w = kept a (below url a p.line_of.so.anchor) (rules.epochs.found_old a x url p low) in
+          record { entry = w.entry; winner = w.winner; key_is = rules.keys.found_old a x url w.entry.url p low w.keyed };
+    }
 
     module _ (tells : IsTrue r.tells) where
       of_winner : (a : ℕ) (url bytes : List ℕ) → a < anchors → IsOldBody r a url bytes → IsOfWinner r slot anchors images script crew a url bytes
@@ -85,6 +92,19 @@ module _ (r : Run (List ℕ)) (slot anchors : ℕ) (images : List (List ℕ)) wh
           → IsFrontOf slot images script p.line_of.line.answer url (bytes_with p.line_of.earlier p.line_of.line)
       bytes first url p = let f = (rules.bodies tells).bytes first url p in record { body = f.body; response = stored url f.body f.stored; first_ones = f.first_ones; whole = f.whole }
 
+      tab_old : (a x : ℕ) → (p : LineIn crew (λ earlier s. ReadsOn r.setting.anchors earlier s a x)) → x ≤ opening_counter r.setting
+          → IsFrontOfWinner r slot anchors images script crew a p.line_of.line.answer (bytes_with p.line_of.earlier p.line_of.line)
+      tab_old a x p low =
+          let f = rules.tabs.old tells a x p low in
+          let at = p.line_of.so.of.anchor in
+          let w = kept a (below at.url a at.anchor) f.there in
+          record {
+            entry = w.entry;
+            winner = w.winner;
+            first_ones = f.first_ones ∙ ap (take (length (bytes_with p.line_of.earlier p.line_of.line))) (w.body_is tells);
+            whole = λ z. f.whole z ∙ w.body_is tells;
+          }
+
       old_url : (url other : List ℕ) → HadEntry r (anchor_of (key_of url) r.setting.anchors) → r.url (old_offer r (anchor_of (key_of url) r.setting.anchors)) ≡ other → IsUsed slot images script other
       old_url url other there is = let w = kept (anchor_of (key_of url) r.setting.anchors) (here url) there in inl (w.entry, w.winner.complete, sym (w.url_is tells) ∙ is)
 
@@ -106,4 +126,4 @@ module _ (r : Run (List ℕ)) (slot anchors : ℕ) (images : List (List ℕ)) wh
       }
 
       pub responses : AreResponses r slot anchors images script crew
-      responses = record { hit = hit; hit_old = hit_old; bytes = bytes; other = λ url p. twin url (rules.answers.other tells url p) }
+      responses = record { hit = hit; hit_old = hit_old; bytes = bytes; tab_old = tab_old; other = λ url p. twin url (rules.answers.other tells url p) }

@@ -9,7 +9,7 @@ use Rattle.rock_disk.specs.File.{Files, bytes_of, rest_cut}
 use Rattle.rock_disk.proofs.Out.{get_inserted}
 use Rattle.rebuild_model.specs.Entry.{Entry, IsComplete}
 use Rattle.script_text.specs.declared.line.Line.{Line}
-use Rattle.script_origin.specs.Offered.{offers_of}
+use Rattle.rock_run.specs.Offered.{offers_of}
 use Rattle.rock_run.specs.Runs.{HasClosed}
 use Rattle.crashed_stores.specs.Left.{IsOfOrigin, bytes_now}
 use Rattle.run_rules.specs.Responses.{IsOffered, IsResponse}

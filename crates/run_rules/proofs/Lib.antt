@@ -4,7 +4,9 @@ mod Files
 mod Crews
 mod Opened
 mod Numbers
+mod EntriesLeft
 mod Lone
 pub mod Counts
 pub mod Offered
 pub mod Left
+mod PutAndGet

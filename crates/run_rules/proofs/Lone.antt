@@ -7,6 +7,7 @@ use lib.ListN.{get_elem?}
 use mathlib.Core.Option.{some}
 use Rattle.db_layout.specs.Layout.{IsSlotSize}
 use Rattle.rock_disk.specs.Cell.{CellState}
+use Rattle.rock_disk.specs.Crash.{IsCrashImage}
 use Rattle.rock_disk.specs.File.{Files, bytes_of, rest_cut}
 use Rattle.rock_disk.specs.Opened.{AreSlots}
 use Rattle.rock_disk.proofs.Out.{get_inserted}
@@ -23,7 +24,7 @@ use Rattle.plain_model.specs.Serving.{answers_of, left_by, lines_for}
 use Rattle.plain_model.specs.Store.{word_at}
 use Rattle.rock_open.specs.Device.{Counts}
 use Rattle.rock_open.specs.Opening.{IsStoreOver}
-use Rattle.script_origin.specs.Offered.{offers_of}
+use Rattle.rock_run.specs.Offered.{offers_of}
 use Rattle.store_rule.specs.declared.store.Pass.{Pass}
 use Rattle.store_rule.specs.Closing.{views_of}
 use Rattle.store_rule.specs.Passes.{basis, view}
@@ -34,6 +35,7 @@ use Rattle.plain_runs.specs.Ends.{HoldsWhole}
 use Rattle.plain_runs.specs.Runs.{IsPlainRun, setting_over}
 use Rattle.crew_accounts.specs.Playing.{HasRun as HasPlayed}
 use Rattle.rock_run.specs.Runs.{HasRun}
+use Rattle.run_rules.specs.Standing.{KeepsWhole, WasKept}
 use Rattle.run_rules.specs.Plain.{EndedPlainly, IsAnsweredPlainly, NoneFailedServing, numbered}
 use Rattle.run_rules.proofs.Lists.{both}
 use Rattle.run_rules.proofs.Opened.{as_many, has_played}
@@ -79,8 +81,11 @@ module _ {C St : Type 0} (volume_tells told : Bool) (state : C → CellState) (f
 
   -- what a plain run of the worker says of the file
   pub plainly : (plain : Plain) → IsOpened slot images anchors plain
-      → IsPlainRun told state offers_of h.closed.store slot anchors (length h.closed.opened.cells) script plain one.only h.closed.cells → IsAnsweredPlainly files left name slot anchors script answers
-  plainly plain opened run = let out = h.closed.opened.out tells in record {
+      → IsPlainRun told state offers_of h.closed.store slot anchors (length h.closed.opened.cells) script plain one.only h.closed.cells
+      → KeepsWhole slot anchors (map (λ (c : C). (state c).now) h.closed.cells) (left_by (setting_over slot anchors (length h.closed.opened.cells)) script 1 plain) (λ e. Unit {0})
+      → ((crashed : List (List ℕ)) → IsCrashImage (map state h.closed.cells) crashed → KeepsWhole slot anchors crashed (left_by (setting_over slot anchors (length h.closed.opened.cells)) script 1 plain) (WasKept (length h.closed.opened.cells) script))
+      → IsAnsweredPlainly files left name slot anchors script answers
+  plainly plain opened run kept lasting = let out = h.closed.opened.out tells in record {
     images = images;
     file = record {
       was = out.was;
@@ -100,6 +105,8 @@ module _ {C St : Type 0} (volume_tells told : Bool) (state : C → CellState) (f
       images_are = sym (both state (λ (c : CellState). c.now) h.closed.cells);
     };
     entries = subst (λ (n : ℕ). HoldsWhole slot anchors (map (λ (c : C). (state c).now) h.closed.cells) (left_by (setting_over slot anchors n) script 1 plain)) many run.entries;
+    kept = subst (λ (n : ℕ). KeepsWhole slot anchors (map (λ (c : C). (state c).now) h.closed.cells) (left_by (setting_over slot anchors n) script 1 plain) (λ e. Unit {0})) many kept;
+    lasting = λ crashed crash. subst (λ (n : ℕ). KeepsWhole slot anchors crashed (left_by (setting_over slot anchors n) script 1 plain) (WasKept n script)) many (lasting crashed crash);
   }
     where
       many : length h.closed.opened.cells ≡ length images
@@ -116,11 +123,13 @@ module _ {C St : Type 0} (volume_tells told : Bool) (state : C → CellState) (f
   -- words by the store's setting are words by that of the file
   pub words_over : (plain : Plain) (opened : IsOpened slot images anchors plain)
       → (run : IsPlainRun told state offers_of h.closed.store slot anchors (length h.closed.opened.cells) script plain one.only h.closed.cells)
+      → (kept : KeepsWhole slot anchors (map (λ (c : C). (state c).now) h.closed.cells) (left_by (setting_over slot anchors (length h.closed.opened.cells)) script 1 plain) (λ e. Unit {0}))
+      → (lasting : (crashed : List (List ℕ)) → IsCrashImage (map state h.closed.cells) crashed → KeepsWhole slot anchors crashed (left_by (setting_over slot anchors (length h.closed.opened.cells)) script 1 plain) (WasKept (length h.closed.opened.cells) script))
       → ((a : ℕ) → a < (basis told state offers_of h.closed.store).setting.anchors
       → word h.closed.closed.gathered.state a ≡ word_number (word_at (setting_of (basis told state offers_of h.closed.store)) (left_by (setting_over slot anchors (length h.closed.opened.cells)) script 1 plain) a))
-      → EndedPlainly h.closed.closed.gathered.state (plainly plain opened run)
+      → EndedPlainly h.closed.closed.gathered.state (plainly plain opened run kept lasting)
   unfolding plainly
-  words_over plain opened run words a lt =
+  words_over plain opened run kept lasting words a lt =
       words a (subst (λ (n : ℕ). a < n) (sym opened_alone.anchors_are) lt)
       ∙ ap (λ (t : Setting). word_number (word_at t (left_by (setting_over slot anchors (length h.closed.opened.cells)) script 1 plain) a)) setting_is
       ∙ ap (λ (n : ℕ). word_number (word_at (setting_over slot anchors n) (left_by (setting_over slot anchors n) script 1 plain) a)) (sym (length-map h.closed.opened.cells (λ (c : C). (state c).now)))

@@ -7,7 +7,7 @@ use Rattle.script_text.specs.declared.request.Request.{Request}
 use Rattle.script_text.specs.declared.request.Request.TheVariants.{Add, Await, Begin, CloseTab, DropTab, End, Get, Mark, More, OpenTab, Purge, Put, Save}
 use Rattle.plain_model.specs.Serving.{bytes_of}
 use Rattle.line_account.specs.Lines.{Offers}
-use Rattle.script_origin.specs.Offered.{Response, offered_by, offered_in, offers_of}
+use Rattle.rock_run.specs.Offered.{Response, offered_by, offered_in, offers_of}
 use Rattle.run_rules.specs.Responses.{IsOffered}
 
 -- a line that is found is one of the lines

@@ -1,5 +1,5 @@
 -- A run that came to its end is explained.
-use Rattle.std.proofs.Common.{Bool, IsTrue, List, ap, arith, cond, inl, inr, length, map, min, subst, sym, ⊎_elim, ◌+◌, ◌-◌, ◌<◌, ◌^◌, ◌∙◌, ◌≡◌, ◌≤◌, ℕ}
+use Rattle.std.proofs.Common.{Bool, IsTrue, List, ap, arith, cond, inl, inr, length, map, min, refl, subst, sym, ⊎_elim, ◌+◌, ◌-◌, ◌<◌, ◌^◌, ◌∙◌, ◌≡◌, ◌≤◌, ℕ}
 use Rattle.std.specs.Prelude.{nat_lt}
 use Rattle.std.proofs.lemmas.Bool.{lt-ltb}
 use Rattle.std.proofs.lemmas.List.{length-map}
@@ -24,12 +24,13 @@ use Rattle.store_rule.specs.Ground.{Ground}
 use Rattle.store_rule.specs.Passes.{basis, view}
 use Rattle.rock_open.specs.Device.{Counts}
 use Rattle.crew_accounts.specs.Runs.{IsTold, Past, run_of}
-use Rattle.opened_runs.specs.Openings.{HadKept, HadNone, HasPast, OpenedAsKept}
-use Rattle.script_origin.specs.Offered.{offers_of}
+use Rattle.crew_accounts.specs.Openings.{HadKept, HadNone, HasPast, OpenedAsKept}
+use Rattle.rock_run.specs.Offered.{offers_of}
 use Rattle.worker_pool.specs.Running.{Account}
 use Rattle.worker_shelf.specs.Shelves.{OnShelf}
 use Rattle.crew_accounts.specs.Closings.{HasClosing, crew_of, worker_of}
-use Rattle.crew_accounts.specs.Playing.{HasRun as HasPlayed, HasSteps, fault_answers}
+use Rattle.crew_accounts.specs.Playing.{HasRun as HasPlayed}
+use Rattle.worker_shelf.specs.Playing.{HasSteps, fault_answers}
 use Rattle.rock_run.specs.Runs.{HasRun}
 use Rattle.run_rules.specs.Openings.{BeganWithFile}
 use Rattle.run_rules.specs.Runs.{IsExplained}
@@ -94,19 +95,23 @@ module _ {C St : Type 0} (volume_tells told : Bool) (state : C → CellState) (f
   as_many =
       sym (length-map accounts (λ a. a.start.pass)) ∙ ap length h.served.played.passes_are ∙ sym h.closed.passes.ok.0 ∙ h.closed.opened.store.many
 
-  -- the store was closed with the passes of the workers
-  closed_behind : Closed told state g (map (λ (a : Account (OnShelf C (List Line) St)). view a.end.pass) accounts) h.closed.cells
+  -- the store was closed with the passes of the workers, in the state of its closing
+  closed_behind : (c : Closed told state g (map (λ (a : Account (OnShelf C (List Line) St)). view a.end.pass) accounts) h.closed.cells) × (c.gathered.state ≡ h.closed.closed.gathered.state)
   closed_behind =
-      subst (λ vs. Closed told state g vs h.closed.cells)
-      (ap (map view) (sym h.served.played.passes_left_are) ∙ both (λ (a : Account (OnShelf C (List Line) St)). a.end.pass) view accounts) h.closed.closed
+      subst (λ vs. (c : Closed told state g vs h.closed.cells) × (c.gathered.state ≡ h.closed.closed.gathered.state))
+      (ap (map view) (sym h.served.played.passes_left_are) ∙ both (λ (a : Account (OnShelf C (List Line) St)). a.end.pass) view accounts) (h.closed.closed, refl)
 
   pub has_played : HasPlayed told state offers_of faults h.closed.store script accounts h.closed.cells
   has_played = record {
     count = as_many ∙ sym h.closed.opened.store.passes_are;
     each = h.served.played.each;
     told = h.served.played.told;
-    closed = closed_behind;
+    closed = closed_behind.0;
   }
+
+  pub same_state : has_played.closed.gathered.state ≡ h.closed.closed.gathered.state
+  unfolding has_played
+  same_state = closed_behind.1
 
   -- what other laws say, as they are used here
   pub record Laws : Type 0 where

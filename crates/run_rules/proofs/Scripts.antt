@@ -10,7 +10,8 @@ use Rattle.script_text.specs.declared.request.Request.{Request}
 use Rattle.script_text.specs.declared.request.Request.TheVariants.{Add, Await, Begin, CloseTab, DropTab, End, Get, Mark, More, OpenTab, Purge, Put, Save}
 use Rattle.core_model.proofs.Lists.{cons_contains, contains_none}
 use Rattle.line_account.specs.Closing.{LineIn, Worker}
-use Rattle.line_account.specs.Lines.{Offers, Served, offers, url_in}
+use Rattle.script_text.specs.Requests.{url_in}
+use Rattle.line_account.specs.Lines.{Offers, Served, offers}
 use Rattle.line_account.specs.Scripts.{ServesScript, in_order}
 use Rattle.run_rules.specs.Responses.{IsOffered}
 

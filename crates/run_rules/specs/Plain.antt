@@ -6,6 +6,7 @@ use mathlib.Core.Option.{some}
 use lib.ListN.{get_elem?}
 use Rattle.lock_word.specs.Words.{word_number}
 use Rattle.rock_disk.specs.Cell.{CellState}
+use Rattle.rock_disk.specs.Crash.{IsCrashImage}
 use Rattle.rock_disk.specs.File.{Files}
 use Rattle.rock_disk.specs.File.File.{Home}
 use Rattle.script_text.specs.declared.answer.Answer.{Answer}
@@ -20,6 +21,7 @@ use Rattle.rock_run.specs.Device.{HasEnded}
 use Rattle.plain_runs.specs.Ends.{HoldsWhole}
 use Rattle.plain_runs.specs.Runs.{setting_over}
 use Rattle.run_rules.specs.Runs.{HasImages}
+use Rattle.run_rules.specs.Standing.{KeepsWhole, WasKept}
 
 -- each line has the number behind its place
 abbrev pub AreInOrder : List Line → Type 0
@@ -42,7 +44,8 @@ abbrev pub NoneFailedServing : Counts → Counts → Type 0
 NoneFailedServing before after = (workers : List ℕ) → HasEnded 0 workers before after → All (λ count. count ≡ 0) workers
 
 -- The worker was answered as by a plain store that is opened on the file: the store has these answers to its lines, each with the line's number.
--- The file that was given back has each entry that is whole in what the lines leave of that store.
+-- The file that was given back has each entry that is whole in what the lines leave of that store. A rebuild keeps each of them that is not doomed, and so does one of
+-- all that a crash may leave of the file, where the file had the entry at the opening or a `save` line stored it.
 pub record IsAnsweredPlainly (files left : Files) (name : List ℕ) (slot anchors : ℕ) (script : List Line) (answers : List (List (ℕ × Answer))) : Type 0 where
   pub images : List (List ℕ)
   pub file : HasImages files name slot images
@@ -52,6 +55,8 @@ pub record IsAnsweredPlainly (files left : Files) (name : List ℕ) (slot anchor
   pub back : List (List ℕ)
   pub given_back : HasCells left name back
   pub entries : HoldsWhole slot anchors back (left_by (setting_over slot anchors (length images)) script 1 plain)
+  pub kept : KeepsWhole slot anchors back (left_by (setting_over slot anchors (length images)) script 1 plain) (λ e. Unit {0})
+  pub lasting : (crashed : List (List ℕ)) → IsCrashImage given_back.cells crashed → KeepsWhole slot anchors crashed (left_by (setting_over slot anchors (length images)) script 1 plain) (WasKept (length images) script)
 
 -- At the end each anchor had the word of what the lines leave of that store: its version, its stage and its doom. So the entries that were closed then, and not doomed, are the plain store's.
 abbrev pub EndedPlainly : {files left : Files} {name : List ℕ} {slot anchors : ℕ} {script : List Line} {answers : List (List (ℕ × Answer))} → State (List ℕ) → IsAnsweredPlainly files left name slot anchors script answers → Type 0

@@ -15,8 +15,8 @@ use Rattle.line_account.specs.Scripts.{ServesScript}
 use Rattle.line_account.specs.Rules.{KeepsRules}
 use Rattle.rock_open.specs.Device.{Counts}
 use Rattle.worker_pool.specs.Courses.{lines_of}
-use Rattle.serve_lines.specs.Answers.{is_fault}
-use Rattle.crew_accounts.specs.Playing.{answer_to_await}
+use Rattle.store_serve.specs.Answers.{is_fault}
+use Rattle.worker_shelf.specs.Playing.{answer_to_await}
 use Rattle.rock_run.specs.Device.{HasEnded}
 use Rattle.run_rules.specs.Openings.{BeganWithFile}
 use Rattle.run_rules.specs.Printed.{AreKeysOfWinners, AreResponses}

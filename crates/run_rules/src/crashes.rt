@@ -8,7 +8,7 @@ ghost use Rattle.run_rules.specs.Left.{LeavesResponses};
 
 use crashed_stores::closed_cells_leave_responses;
 use rock_disk::{Cell, now_is_a_crash_image, opened_slots_are_wide_and_few};
-use script_origin::ScriptOrigin;
+use rock_run::ScriptOrigin;
 
 /// A file that a volume tells was opened as a store for the lines of a script, and the store was closed, however many
 /// workers served how many of the lines, and whatever faults they met. Then each complete entry of what a crash may leave

@@ -11,13 +11,20 @@ ghost use Rattle.rock_run.specs.Runs.{HasRun};
 ghost use Rattle.run_rules.specs.Plain.{AreInOrder, EndedPlainly, IsAnsweredPlainly, NoneFailedServing};
 ghost use Rattle.run_rules.specs.Runs.{IsExplained};
 
-use crew_accounts::{crews_are_closed, faults_are_counted};
+use crashed_stores::{closed_entries_win, finished_entries_last};
+use crew_accounts::{
+    closed_entries_are_of_lines, crews_are_closed, faults_are_counted, opened_stores_have_runs,
+    saved_entries_stay_known,
+};
 use line_account::closed_crews_keep_the_rules;
-use opened_runs::opened_stores_have_runs;
-use plain_runs::{closed_words_are_plain, lone_runs_are_plain, new_passes_show_plain_stores};
+use plain_runs::{
+    closed_words_are_plain, lone_runs_are_plain, new_passes_show_plain_stores,
+    whole_entries_stand_closed,
+};
+use rebuild_model::one_entry_at_a_slot;
 use rock_disk::{Cell, Station, opened_slots_are_wide_and_few};
 use rock_io::Octets;
-use script_origin::ScriptOrigin;
+use rock_run::ScriptOrigin;
 
 /// What `run_script` ensures of a run that came to its end (`HasRun`), in the words of what it prints: there is one answer
 /// for each line of the script, the lines keep all rules, and their URLs, bodies and keys are those of the file and of the
@@ -34,8 +41,10 @@ pub fn runs_keep_the_rules<C: Cell, St: Station<C = C>>()
 }
 
 /// A run of one worker over a file that the volume tells, whose station met no fault, is answered as by a plain store that
-/// is opened on the file, and the file that was given back has the whole entries of what the script leaves of that. When
-/// the store was closed, each anchor had the word of that. Each line of the script has the number behind its place.
+/// is opened on the file, and the file that was given back has the whole entries of what the script leaves of that. A
+/// rebuild keeps each of them that is not doomed, also of what a crash leaves, if the file had it or a `save` line stored
+/// it. When the store was closed, each anchor had the word of that. Each line of the script has the number behind its
+/// place.
 pub fn lone_runs_are_answered_plainly<C: Cell, St: Station<C = C>>()
     ensures { (tells : Bool) (files left : Files) (name : List ℕ) (slot anchors workers : ℕ) (script : List Line) (answers : List (List (ℕ × Answer))) (before after : Counts)
         → IsSlotSize slot → AreInOrder script → (ran : HasRun tells C.tells C.state files left name slot anchors workers script St.faults answers before after)
@@ -45,6 +54,12 @@ pub fn lone_runs_are_answered_plainly<C: Cell, St: Station<C = C>>()
     new_passes_show_plain_stores::<C, ScriptOrigin>();
     lone_runs_are_plain::<C, ScriptOrigin, St>();
     closed_words_are_plain::<C, ScriptOrigin>();
+    whole_entries_stand_closed::<C, ScriptOrigin>();
+    closed_entries_win::<C, ScriptOrigin>();
+    finished_entries_last::<C>();
+    saved_entries_stay_known::<C, ScriptOrigin, St>();
+    closed_entries_are_of_lines::<C, ScriptOrigin, St>();
+    one_entry_at_a_slot();
     opened_slots_are_wide_and_few();
 }
 

@@ -3,11 +3,17 @@
 //! The functions here do nothing. What they ensure are laws.
 #![tactic(auto)]
 
+mod absurd;
 mod crashes;
+mod lawful;
 mod laws;
+mod standing;
 
+pub use absurd::no_fault_comes_of_no_call;
 pub use crashes::closed_runs_leave_responses;
+pub use lawful::a_put_and_a_get_keep_the_rules;
 pub use laws::{
     each_line_has_one_answer, lone_runs_are_answered_plainly, read_lines_are_numbered,
     runs_keep_the_rules,
 };
+pub use standing::runs_leave_standing;

@@ -22,12 +22,9 @@ ghost use Rattle.rw_anchor.specs.Calls.{Drew, Found, GivenUp, Leaves, MayGiveUp,
 ghost use Rattle.store_rule.specs.Passes.{IsOf, Keeps, Made, May, basis, view};
 ghost use Rattle.tab_states.specs.Tabs.{is_last};
 
-use lock_word::{Epoch, Stage, Word, is_left_over, readable};
+use lock_word::{Epoch, GREATEST_VERSION, Stage, Word, is_left_over, readable};
 use rock_disk::Cell;
 use store_rule::{Origin, Pass, Store};
-
-/// The greatest version that may be drawn.
-const LAST_VERSION: u64 = 4_294_901_760;
 
 /// There is no version left.
 #[derive(Clone, Copy, Debug, PartialEq, Eq)]
@@ -127,11 +124,11 @@ pub fn draw<C: Cell, O: Origin>(store: &Store<C, O>, pass: &mut Pass<C>) -> Resu
     ensures tabs { (view pass.new).tabs ≡ (view pass.old).tabs }
 {
     let counted = store.versions(pass);
-    if counted >= LAST_VERSION {
+    if counted >= GREATEST_VERSION {
         return Err(Spent { versions: counted });
     }
     let found = store.draw_version(pass);
-    if found >= LAST_VERSION {
+    if found >= GREATEST_VERSION {
         return Err(Spent { versions: found });
     }
     Ok((found + 1) as u32)

@@ -1,5 +1,5 @@
 -- The table of requests.
-use Rattle.std.specs.Prelude.{◌≡◌, ℕ, ◌≤◌, List, [], ◌∷◌, codes, decimal}
+use Rattle.std.specs.Prelude.{◌≡◌, ℕ, ◌≤◌, List, None, Option, Some, [], ◌∷◌, codes, decimal}
 use Rattle.store_key.specs.Url.{IsUrl}
 use Rattle.script_text.specs.Fields.{Kind, SpellsBody, body_size}
 use Rattle.script_text.specs.declared.body.Body.{Body}
@@ -39,6 +39,16 @@ kinds_of verb.More = TabWord ∷ []
 kinds_of verb.CloseTab = TabWord ∷ []
 kinds_of verb.Mark = MarkWord ∷ []
 kinds_of verb.Await = MarkWord ∷ []
+
+-- the URL that a request names, if it does
+abbrev pub url_in : Request → Option (List ℕ)
+url_in (Put url body) = Some url
+url_in (Save url body) = Some url
+url_in (Get url) = Some url
+url_in (Purge url) = Some url
+url_in (Begin tab url body) = Some url
+url_in (OpenTab tab url) = Some url
+url_in _ = None
 
 -- the numbers and texts that words behind a request's name stand for
 abbrev pub AreTab : ℕ → List (List ℕ) → Type 0

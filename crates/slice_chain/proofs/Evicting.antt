@@ -3,7 +3,7 @@ use Rattle.std.proofs.Common.{Bool, List, [], ap, arith, cond, eq-eqb, false, in
 use Rattle.std.proofs.Math.Nat.{le-max_left}
 use Rattle.lock_word.specs.Words.{IsWord, epoch_of, is_idle}
 use Rattle.lock_word.proofs.Testing.{readers_of-idle}
-use Rattle.core_model.specs.Table.{left_by}
+use Rattle.core_model.specs.Table.{item_of, left_by}
 use Rattle.core_model.specs.Tabs.{InnerIsFree, IsPass, inner, is_free, tab_at}
 use Rattle.core_model.specs.Told.{Tells}
 use Rattle.core_model.specs.Trails.{last_find, seen_at, stood}
@@ -27,6 +27,7 @@ use Rattle.store_rule.specs.Runs.{added_by, changed_at, together}
 use Rattle.store_rule.specs.Words.{Mine}
 use Rattle.store_rule.proofs.AddingUp.{found_mine, has_left, went_one, went_then}
 use Rattle.slice_chain.proofs.Drawing.{none_drawn}
+use Rattle.slice_chain.proofs.Counting.{first_not}
 use Rattle.slice_chain.specs.Victims.{LooksAt}
 use Rattle.slice_chain.proofs.ReadingSlots.{set_there}
 
@@ -60,6 +61,7 @@ module _ {X : Type 0} (g : Ground X) (a : ℕ) where
     went = went_one g v w (Look a) n st after;
     calm = (refl, (let e = eq-eqb n n refl in rw e refl));
     undrawn = refl;
+    counted = λ asked not_asked. omega arith;
     tabs = ap View.tabs st.leaves;
     stands = after;
     last = let h = eq-eqb a a refl in ap (λ (z : View X). last_find a z.trail) st.leaves ∙ (rw h refl);
@@ -98,6 +100,7 @@ module _ {X : Type 0} (g : Ground X) (a : ℕ) where
       went = went_then g v u w h.added _ h.went (went_one g u w (Evict inner a) m st after);
       calm = ((rw missed h.calm.0), ap (λ xs. changed_at (Some (Anchor a)) (left_by u (Evict inner a) m) m ++ xs) h.calm.1 ∙ unchanged);
       undrawn = none_drawn (added_by u (Evict inner a) (found_as g.setting st.state u (Evict inner a) m)).items h.added.items refl h.undrawn;
+      counted = λ asked not_asked. first_not asked (item_of u (Evict inner a) m) h.added.items _ not_asked (h.counted asked not_asked);
       tabs = ap View.tabs st.leaves ∙ (rw missed (ap (λ (xs : List (Tab X)). set xs inner Tab.Free) h.tabs)) ∙ tabs_same;
       stands = after;
       last = let q = eq-eqb a a refl in ap (λ (z : View X). last_find a z.trail) st.leaves ∙ (rw q refl);

@@ -1,5 +1,5 @@
 -- One entry is evicted, the first that is found idle in the round of a pass, or none is found idle.
-use Rattle.std.proofs.Common.{Bool, Contains, List, None, Option, [], ap, arith, cond, eq-eqb, false, get_or, get_or-set_other, get_or-set_same, inl, inr, ltb, refl, set, subst, suc, sym, true, unwrap_or, zero, ⊎_elim, ◌+◌, ◌-◌, ◌++◌, ◌<◌, ◌==◌, ◌≡◌, ◌≢◌, ◌≤◌, ◌⊎◌, ◌∙◌, ◌∷◌, ℕ}
+use Rattle.std.proofs.Common.{Bool, Contains, List, None, Option, [], ap, arith, cond, eq-eqb, false, get_or, get_or-set_other, get_or-set_same, inl, inr, length, ltb, refl, set, subst, suc, sym, true, unwrap_or, zero, ⊎_elim, ◌+◌, ◌-◌, ◌++◌, ◌<◌, ◌==◌, ◌≡◌, ◌≢◌, ◌≤◌, ◌⊎◌, ◌∙◌, ◌∷◌, ℕ}
 use Rattle.std.proofs.lemmas.List.Elements.{Contains-append_cases, Contains-append_left, Contains-append_right}
 use mathlib.Core.Logic.{dite}
 use native.Mathlib.Decide.{ℕ_discrete}
@@ -9,11 +9,11 @@ use Rattle.lock_word.specs.Words.{epoch_of, evicted, is_idle, stage_of}
 use Rattle.lock_word.proofs.Testing.{mode_of-idle}
 use Rattle.rock_disk.specs.Cell.{CellState}
 use Rattle.core_model.specs.AnchorMoves.{deed_of, freer_of}
-use Rattle.core_model.specs.Chains.{Fits}
+use Rattle.core_model.specs.Chains.{Fits, rest_of}
 use Rattle.core_model.specs.SlotMoves.{MayReserve, reserves}
 use Rattle.core_model.specs.Slots.{ChainStands, slot_words}
 use Rattle.core_model.specs.State.{chain_of, word}
-use Rattle.core_model.specs.Table.{left_by}
+use Rattle.core_model.specs.Table.{item_of, left_by}
 use Rattle.core_model.specs.Tabs.{InnerIsFree, IsPass, OfWriter, inner, is_free, tab_at}
 use Rattle.core_model.specs.Trails.{last_find}
 use Rattle.core_model.specs.declared.moves.Move.TheVariants.{Evict}
@@ -21,7 +21,8 @@ use Rattle.core_model.specs.declared.tab.Freer.{Freer}
 use Rattle.core_model.specs.declared.tab.Tab.{Tab}
 use Rattle.core_model.specs.declared.tab.Tab.TheVariants.{Free, Freeing}
 use Rattle.core_model.specs.declared.view.Item.{Item}
-use Rattle.core_model.specs.declared.view.Kind.TheVariants.{Changed, Raised}
+use Rattle.core_model.specs.declared.view.Kind.{Kind}
+use Rattle.core_model.specs.declared.view.Kind.TheVariants.{Changed, Disowned, Followed, Linked, Loaded, Looked, Raised}
 use Rattle.core_model.specs.declared.view.Place.{Place}
 use Rattle.core_model.specs.declared.view.Place.TheVariants.{Anchor}
 use Rattle.core_model.specs.declared.view.View.{View}
@@ -37,7 +38,9 @@ use Rattle.store_rule.specs.Calls.{Follows}
 use Rattle.store_rule.specs.Runs.{Added, Went, added_by, nothing_added, together}
 use Rattle.store_rule.specs.Words.{Mine, has}
 use Rattle.store_rule.proofs.AddingUp.{went_none, went_one, went_then}
-use Rattle.slice_chain.specs.Victims.{Evicted, FollowsEvicting, FoundBusy, KeptFirst, MayEvictOne, MayKeepFirst, NoneIdle, PassedSome, Spared, Won, hand_in, onward}
+use Rattle.slice_chain.specs.Counts.{many, of_kinds}
+use Rattle.slice_chain.specs.Victims.{CountsEvicted, CountsNone, Evicted, FollowsEvicting, FoundBusy, KeptFirst, MayEvictOne, MayKeepFirst, NoneIdle, PassedSome, Spared, Won, hand_in, onward}
+use Rattle.slice_chain.proofs.Counting.{first_not, many_more, many_none, of_kinds-append, one_evicted, one_looked}
 use Rattle.slice_chain.proofs.Drawing.{none_drawn}
 use Rattle.slice_chain.proofs.FreeingRest.{same_freer}
 use Rattle.slice_chain.proofs.KeepingFirst.{evicting_inner, evicting_on}
@@ -72,7 +75,7 @@ later_found xs ys a h = record { word = h.word; found = ⊎_elim (λ c. inl (Con
 
 module _ {X : Type 0} (g : Ground X) (hand : ℕ) (v : View X) where
   pub passed_none : PassedSome g hand v 0 v
-  passed_none = record { added = nothing_added; went = went_none g v; calm = (refl, refl); undrawn = refl; tabs = refl; passed = λ j lt. absurd (omega arith); was = λ j lt. absurd (omega arith) }
+  passed_none = record { added = nothing_added; went = went_none g v; calm = (refl, refl); undrawn = refl; counted = λ asked not_asked. sym (many_none asked Looked); tabs = refl; passed = λ j lt. absurd (omega arith); was = λ j lt. absurd (omega arith) }
 
   module _ (begins : hand < g.setting.anchors) (steps : ℕ) (below : steps < g.setting.anchors) (u : View X) (h : PassedSome g hand v steps u) where
     abbrev a : ℕ
@@ -88,6 +91,7 @@ module _ {X : Type 0} (g : Ground X) (hand : ℕ) (v : View X) where
       went = went_then g v u w h.added x.looked.added h.went x.looked.went;
       calm = (ap (λ xs. xs ++ h.added.done) x.looked.calm.0 ∙ h.calm.0, ap (λ xs. xs ++ h.added.changed) x.looked.calm.1 ∙ h.calm.1);
       undrawn = none_drawn x.looked.added.items h.added.items x.looked.undrawn h.undrawn;
+      counted = λ asked not_asked. let a = of_kinds-append asked x.looked.added.items h.added.items in let b = x.looked.counted asked not_asked in let o = h.counted asked not_asked in let m = many_more asked Looked steps in omega arith;
       tabs = x.looked.tabs ∙ h.tabs;
       passed = λ j lt. dite (ℕ_discrete j steps)
           (λ e. subst (λ (z : ℕ). FoundBusy (x.looked.added.items ++ h.added.items) (onward g.setting.anchors hand z)) (sym e) here)
@@ -197,7 +201,30 @@ module _ {X : Type 0} (g : Ground X) (hand : ℕ) (v : View X) where
           same : k.freer ≡ freer_of a true (chain_of x.step.state a)
           same = same_freer k.freer (freer_of a true (chain_of x.step.state a)) (sym k.was ∙ won_inner)
 
+      pub counted : (t slot : ℕ) (w : View X) (other : t ≢ inner) (k : KeptFirst g t won slot w) (hand_after : ℕ) (moved : hand_after ≡ onward g.setting.anchors a 1) → CountsEvicted g hand v t slot w hand_after
+      unfolding evicts
+      counted t slot w other k hand_after moved = record { evicted = evicts t slot w other k hand_after moved; counts = counts }
+        where
+          front_counted : (asked : Kind → Bool) → asked Changed ≡ false → of_kinds asked front.items ≡ many asked Looked (steps + 1)
+          front_counted asked not_asked = first_not asked (item_of x.before (Evict inner a) x.word) (x.looked.added.items ++ h.added.items) _ not_asked (one_looked asked x.looked.added.items h.added.items steps (x.looked.counted asked not_asked) (h.counted asked not_asked))
+
+          longer : length (rest_of k.freer.rest) + 1 ≡ length k.freer.rest
+          longer = let e = ap length k.first in omega arith
+
+          shorter : length (rest_of k.freer.rest) ≡ length k.freer.rest - 1
+          shorter = let e = longer in omega arith
+
+          counts : (asked : Kind → Bool) → asked Changed ≡ false → of_kinds asked w.trail ≡ of_kinds asked v.trail
+              + (many asked Looked (steps + 1) + many asked Loaded 1 + many asked Followed (length k.freer.rest) + many asked Linked (length k.freer.rest) + many asked Disowned (length k.freer.rest - 1) + many asked Raised 1)
+          counts asked not_asked = ap (of_kinds asked) (k.went.trail ∙ ap (λ xs. k.added.items ++ xs) front_went.trail)
+              ∙ one_evicted asked k.added.items front.items v.trail (length (rest_of k.freer.rest)) steps (k.counted asked) (front_counted asked not_asked)
+              ∙ (λ i. of_kinds asked v.trail
+              + (many asked Looked (steps + 1) + many asked Loaded 1 + many asked Followed (longer i) + many asked Linked (longer i) + many asked Disowned (shorter i) + many asked Raised 1))
+
   -- the whole round
+  pub counted_none : (w : View X) → PassedSome g hand v g.setting.anchors w → CountsNone g v w
+  counted_none w h asked not_asked = let t = ap (of_kinds asked) h.went.trail ∙ of_kinds-append asked h.added.items v.trail in let c = h.counted asked not_asked in omega arith
+
   pub none_idle : (w : View X) → hand < g.setting.anchors ⊎ (g.setting.anchors ≡ 0) → PassedSome g hand v g.setting.anchors w → NoneIdle g hand v w
   none_idle w begins h = record {
     added = h.added;

@@ -20,7 +20,8 @@ use Rattle.core_model.specs.declared.moves.Side.TheVariants.{Start}
 use Rattle.core_model.specs.declared.tab.Freer.{Freer}
 use Rattle.core_model.specs.declared.tab.Tab.{Tab}
 use Rattle.core_model.specs.declared.tab.Tab.TheVariants.{Free, Freeing}
-use Rattle.core_model.specs.declared.view.Kind.TheVariants.{Raised}
+use Rattle.core_model.specs.declared.view.Kind.{Kind}
+use Rattle.core_model.specs.declared.view.Kind.TheVariants.{Loaded, Raised}
 use Rattle.core_model.specs.declared.view.Place.{Place}
 use Rattle.core_model.specs.declared.view.Place.TheVariants.{Anchor, Link}
 use Rattle.core_model.specs.declared.view.View.{View}
@@ -40,7 +41,9 @@ use Rattle.store_rule.specs.Calls.{Follows}
 use Rattle.store_rule.specs.Runs.{Added, added_by, changed_at, together}
 use Rattle.store_rule.proofs.AddingUp.{went_one, went_then}
 use Rattle.store_rule.proofs.Following.{follows_on, made_follows}
-use Rattle.slice_chain.specs.Freeing.{Freed, MayFreeChain, MayFreeRest, RestFreed, WasGiven, slot_named}
+use Rattle.slice_chain.specs.Counts.{many, of_kinds, slots_freed}
+use Rattle.slice_chain.specs.Freeing.{CountsFreed, Freed, MayFreeChain, MayFreeRest, RestFreed, WasGiven, is_freeing_anchor, rest_length, slot_named}
+use Rattle.slice_chain.proofs.Counting.{adds_items, many_none, no_slots, of_kinds-append}
 use Rattle.slice_chain.proofs.Drawing.{none_drawn}
 use Rattle.slice_chain.proofs.FreeingRest.{same_freer, still_frees}
 use Rattle.slice_chain.proofs.Gone as ending
@@ -130,6 +133,20 @@ module _ {C O : Type 0} (tells : Bool) (state : C → CellState) (offers : O →
     rest_undrawn : draws rest_added.items ≡ 0
     rest_undrawn = none_drawn gave.all.added.items load_added.items gave.all.undrawn refl
 
+    rest_counted : (asked : Kind → Bool) → of_kinds asked rest_added.items ≡ many asked Loaded 1 + slots_freed asked (length f.rest)
+    rest_counted asked = let a = of_kinds-append asked gave.all.added.items load_added.items in let b = gave.all.counted asked in let z = no_slots asked in
+        let l = ap (λ (x : Freer). slots_freed asked (length x.rest)) same in omega arith
+
+    -- of the tab that frees it
+    as_told : (asked : Kind → Bool) (on : Bool) → f.is_freeing ≡ on
+        → many asked Loaded 1 + slots_freed asked (length f.rest) + many asked Raised (cond on 1 0) ≡ many asked Loaded 1 + slots_freed asked (rest_length (tab_at (view p) inner)) + many asked Raised (cond (is_freeing_anchor (tab_at (view p) inner)) 1 0)
+    as_told asked on e = (λ i. many asked Loaded 1 + slots_freed asked (length f.rest) + many asked Raised (cond (sym e i) 1 0))
+        ∙ (λ i. many asked Loaded 1 + slots_freed asked (rest_length (sym may.is i)) + many asked Raised (cond (is_freeing_anchor (sym may.is i)) 1 0))
+
+    pub counted_other : f.is_freeing ≡ false → CountsFreed (view p) (view p2)
+    counted_other off = adds_items (view p) (view p2) rest_added.items _ rest_went.trail
+        (λ asked. let c = rest_counted asked in let z = many_none asked Raised in let t = as_told asked false off in omega arith)
+
     -- where the anchor was taken for a new entry
     pub freed_other : f.is_freeing ≡ false → Freed g (view p) (view p2)
     freed_other off = record {
@@ -166,6 +183,11 @@ module _ {C O : Type 0} (tells : Bool) (state : C → CellState) (offers : O →
 
         anchor_is : last.anchor ≡ f.anchor
         anchor_is = gave.all.anchor ∙ ap Freer.anchor same
+
+        pub counted_gone : CountsFreed (view p) (view p3)
+        counted_gone = adds_items (view p) (view p3) (last_added.items ++ rest_added.items) _
+            (went_then g (view p) (view p2) (view p3) rest_added last_added rest_went (ending.end_went tells state offers s p2 own2 last tab2 still_on gave.all.rest gave.all.none m p3 ended)).trail
+            (λ asked. let c = rest_counted asked in let a = of_kinds-append asked last_added.items rest_added.items in let t = as_told asked true on in omega arith)
 
         pub freed_gone : Freed g (view p) (view p3)
         freed_gone = record {

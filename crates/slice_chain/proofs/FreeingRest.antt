@@ -10,6 +10,7 @@ use Rattle.core_model.specs.declared.moves.Move.TheVariants.{Disown, GetLink, Lo
 use Rattle.core_model.specs.declared.tab.Freer.{Freer}
 use Rattle.core_model.specs.declared.tab.Tab.{Tab}
 use Rattle.core_model.specs.declared.tab.Tab.TheVariants.{Free, Freeing}
+use Rattle.core_model.specs.declared.view.Kind.{Kind}
 use Rattle.core_model.specs.declared.view.Kind.TheVariants.{Disowned}
 use Rattle.core_model.specs.declared.view.Place.{Place}
 use Rattle.core_model.specs.declared.view.Place.TheVariants.{Link}
@@ -23,7 +24,9 @@ use Rattle.store_rule.specs.Told.{found_as}
 use Rattle.store_rule.proofs.Passing.{pass_of}
 use Rattle.store_rule.specs.Runs.{Added, Went, added_by, changed_at, nothing_added, together}
 use Rattle.store_rule.proofs.AddingUp.{went_none, went_one, went_then}
+use Rattle.slice_chain.specs.Counts.{of_kinds, slots_freed}
 use Rattle.slice_chain.specs.Freeing.{FreedSome, FrontFreed, MayFreeFront, MayFreeRest, RestFreed, RestLeft, WasGiven, rest_length, with_less}
+use Rattle.slice_chain.proofs.Counting.{one_freed}
 use Rattle.slice_chain.proofs.Drawing.{none_drawn}
 use Rattle.slice_chain.proofs.ReadingSlots.{set_there}
 use Rattle.slice_chain.proofs.Writing.{set_again}
@@ -86,6 +89,9 @@ module _ {X : Type 0} (g : Ground X) (slot : ℕ) (u w : View X) (next : Option 
   front_undrawn : draws front_added.items ≡ 0
   front_undrawn = refl
 
+  front_counted : (asked : Kind → Bool) → of_kinds asked front_added.items ≡ slots_freed asked 1
+  front_counted asked = omega arith
+
   front_changed : (p : Place) → Contains front_added.changed p → p ≡ Link slot
   front_changed p c = of_word (0 == h.word) (subst (λ (xs : List Place). Contains (cond (0 == h.word) [] (Link slot ∷ []) ++ xs) p) no_look c)
     where
@@ -119,6 +125,8 @@ module _ {X : Type 0} (g : Ground X) (v : View X) (pass : IsPass v) where
       went = went_then g v u w r.some.added (front_added g slot u w next h) r.some.went (front_went g slot u w next h);
       quiet = let q = front_quiet g slot u w next h in let o = r.some.quiet in (ap (λ xs. xs ++ r.some.added.sights) q.0 ∙ o.0, ap (λ xs. xs ++ r.some.added.done) q.1 ∙ o.1, ap (λ xs. xs ++ r.some.added.meetings) q.2 ∙ o.2);
       undrawn = none_drawn (front_added g slot u w next h).items r.some.added.items (front_undrawn g slot u w next h) r.some.undrawn;
+      counted = λ asked. one_freed asked (front_added g slot u w next h).items r.some.added.items (length (rest_of r.left)) _ (front_counted g slot u w next h asked)
+          (ap (λ (n : ℕ). of_kinds asked r.some.added.items + slots_freed asked n) (sym longer) ∙ r.some.counted asked);
       changed = λ p c. ⊎_elim (λ n. (slot, front_changed g slot u w next h p n, r.some.inside slot (subst (λ (xs : List ℕ). Contains xs slot) (sym there) (0, omega arith, refl)))) (λ o. r.some.changed p o)
           (Contains-append_cases (front_added g slot u w next h).changed r.some.added.changed p c);
       gave = λ j c. ⊎_elim (λ l. left_or_given j (subst (λ (xs : List ℕ). Contains xs j) there l)) (λ (o : WasGiven r.some.added.items j). inr (o.0, Contains-append_right (front_added g slot u w next h).items r.some.added.items _ o.1)) (r.some.gave j c);
@@ -138,6 +146,9 @@ module _ {X : Type 0} (g : Ground X) (v : View X) (pass : IsPass v) where
 
       is_freer : h.freer ≡ r.some.freer
       is_freer = same_freer h.freer r.some.freer (sym h.was ∙ left_tab r.freer r.left u r.some ∙ still_frees X r.some.freer (λ e. not_empty slot r.some.freer.rest (r.some.rest ∙ there ∙ ap (λ (xs : List ℕ). slot ∷ rest_of xs) (sym r.some.rest))))
+
+      longer : length r.left ≡ length (rest_of r.left) + 1
+      longer = let e = ap length there in omega arith
 
       behind : (j : ℕ) → Contains (rest_of r.left) j → Contains (slot ∷ rest_of r.left) j
       behind j (k, lt, e) = (suc k, omega arith, e)
@@ -163,6 +174,7 @@ module _ {C O : Type 0} (tells : Bool) (state : C → CellState) (offers : O →
       went = went_none (basis tells state offers s) (view p);
       quiet = (refl, refl, refl);
       undrawn = refl;
+      counted = λ asked. omega arith;
       changed = λ q c. absurd (Rattle.core_model.proofs.Lists.contains_none q c);
       gave = λ j c. inl c;
       inside = λ j c. c;

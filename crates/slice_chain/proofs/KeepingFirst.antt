@@ -1,5 +1,5 @@
 -- An entry is given back but for its first slot, which a writing tab reserved.
-use Rattle.std.proofs.Common.{Bool, Contains, List, None, Option, Some, [], ap, arith, cond, eq-eqb, false, get_or, get_or-set_other, get_or-set_same, inl, inr, ne_eqb, refl, set, subst, suc, sym, true, unwrap_or, zero, ⊎_elim, ◌++◌, ◌==◌, ◌<◌, ◌≡◌, ◌≢◌, ◌∙◌, ◌∷◌, ℕ}
+use Rattle.std.proofs.Common.{Bool, Contains, List, None, Option, Some, [], ap, arith, cond, eq-eqb, false, get_or, get_or-set_other, get_or-set_same, inl, inr, length, ne_eqb, refl, set, subst, suc, sym, true, unwrap_or, zero, ⊎_elim, ◌++◌, ◌==◌, ◌<◌, ◌≡◌, ◌≢◌, ◌∙◌, ◌∷◌, ℕ}
 use Rattle.std.proofs.lemmas.Bool.{false≢true}
 use Rattle.std.proofs.lemmas.List.{set_comm}
 use Rattle.std.proofs.lemmas.List.Elements.{Contains-append_cases, Contains-append_left, Contains-append_right}
@@ -35,8 +35,10 @@ use Rattle.store_rule.specs.Runs.{Added, Went, added_by, together}
 use Rattle.store_rule.specs.Words.{has}
 use Rattle.store_rule.proofs.AddingUp.{went_one, went_then}
 use Rattle.store_rule.proofs.Following.{made_follows}
+use Rattle.slice_chain.specs.Counts.{slots_freed}
 use Rattle.slice_chain.specs.Freeing.{MayFreeFront, MayFreeRest, RestFreed, WasGiven, slot_named}
 use Rattle.slice_chain.specs.Victims.{FollowsEvicting, KeptFirst, MayKeepFirst}
+use Rattle.slice_chain.proofs.Counting.{no_slots, of_kinds-append}
 use Rattle.slice_chain.proofs.Drawing.{none_drawn}
 use Rattle.slice_chain.proofs.Freeing as front
 use Rattle.slice_chain.proofs.FreeingChain as chain
@@ -233,6 +235,8 @@ module _ {C O : Type 0} (tells : Bool) (state : C → CellState) (offers : O →
               added = together end_added (together gave.all.added before);
               went = went_then g (view p) (view p4) (view p5) (together gave.all.added before) end_added rest_went (ending.end_went tells state offers s p4 follows4.own last inner4 on gave.all.rest gave.all.none k p5 ended);
               undrawn = none_drawn end_added.items (together gave.all.added before).items refl (none_drawn gave.all.added.items before.items gave.all.undrawn refl);
+              counted = λ asked. let a = of_kinds-append asked end_added.items (together gave.all.added before).items in let b = of_kinds-append asked gave.all.added.items before.items in
+                  let r = gave.all.counted asked in let z = no_slots asked in let l = ap (λ (x : Freer). slots_freed asked (length x.rest)) same in omega arith;
               gave = λ j c. let o = given j c in (o.0, Contains-append_right end_added.items (together gave.all.added before).items _ (Contains-append_left gave.all.added.items before.items _ o.1));
               tabs = tabs5;
               changed = λ q c. ⊎_elim (λ l. inr (ending.end_changed tells state offers s p4 follows4.own last inner4 on gave.all.rest gave.all.none k p5 ended q l ∙ ap Anchor anchor_is)) (λ l. inl (rest_changed q l))

@@ -1,4 +1,5 @@
 pub mod Drawing
+pub mod Counting
 pub mod Naming
 pub mod Linking
 pub mod Writing

@@ -6,10 +6,11 @@ use Rattle.std.proofs.lemmas.List.{with_items_is}
 use Rattle.std.specs.Result.{is_ok}
 use Rattle.rock_disk.specs.Cell.{CellState, shape}
 use Rattle.core_model.specs.AllowedByView.{KnowsLink}
-use Rattle.core_model.specs.CellMoves.{ends, tries}
+use Rattle.core_model.specs.CellMoves.{EndsSo, ends, tries}
 use Rattle.core_model.specs.Steps.{cell_found}
 use Rattle.core_model.specs.Tabs.{inner, tab_at, turn_of, with_tab}
 use Rattle.core_model.specs.declared.moves.Move.TheVariants.{EndTurn, TryTurn}
+use Rattle.core_model.specs.declared.moves.Then.{Then}
 use Rattle.core_model.specs.declared.moves.Side.TheVariants.{Offer}
 use Rattle.core_model.specs.declared.tab.Cell.{Cell}
 use Rattle.core_model.specs.declared.tab.Hold.{Hold}
@@ -36,7 +37,7 @@ use Rattle.store_rule.specs.Turns.{HasReturned, HasTaken, IsReturned, Lost, MayC
 use Rattle.store_rule.proofs.Lending.{lent_own}
 use Rattle.store_rule.proofs.Passing.{pass_of}
 use Rattle.slice_chain.specs.Links.{slot_known}
-use Rattle.slice_chain.specs.Reads.{FollowsReading, HoldsPiece, MayReadSlot, ReadSlot, went_on}
+use Rattle.slice_chain.specs.Reads.{after_reading, FollowsReading, HoldsPiece, MayReadSlot, ReadSlot, went_on}
 use Rattle.slice_chain.proofs.Writing.{buffer_long, same_cell, same_rest, set_again}
 
 pub set_there : {A : Type 0} → (xs : List A) (t : ℕ) (d : A) → t < length xs → set xs t (get_or xs t d) ≡ xs
@@ -80,7 +81,7 @@ module _ {X : Type 0} where
   tried_reader : (r : Reader X) (slot n : ℕ) (cell : Option (Cell X)) (h : Hold X) → (n == 0) ≡ true → turn_of (tries (Reading r) slot n cell) ≡ Has h → tries (Reading r) slot n cell ≡ Reading (record r { turn = Has h })
   tried_reader r slot n cell h hit turn = ap (λ (z : TurnOf X). Reading (record r { turn = z })) turn
 
-  ended_reader : (r : Reader X) (h : Hold X) (done : Bool) → r.turn ≡ NoTurn → ends (Reading (record r { turn = Has h })) done ≡ Reading (cond done (went_on r) r)
+  ended_reader : (r : Reader X) (h : Hold X) (done : Bool) → r.turn ≡ NoTurn → ends (Reading (record r { turn = Has h })) (after_reading done) ≡ Reading (cond done (went_on r) r)
   ended_reader r h true idle = refl
   ended_reader r h false idle = ap (λ (z : TurnOf X). Reading (record r { turn = z })) (sym idle)
 
@@ -162,25 +163,29 @@ module _ {C O : Type 0} (tells : Bool) (state : C → CellState) (offers : O →
         tabs4 : (view p4).tabs ≡ with_tab (view p) t (Reading with_turn)
         tabs4 = ap View.tabs back.same ∙ tabs3
 
-        pub may_end_turn : (done : Bool) → May tells state offers s p4 (EndTurn t slot done)
-        may_end_turn done = record {
+        ends_so : (done : Bool) → EndsSo (after_reading done) (tab_at (view p4) t)
+        ends_so true = tt
+        ends_so false = tt
+
+        pub may_end_turn : (done : Bool) (then : Then) → then ≡ after_reading done → May tells state offers s p4 (EndTurn t slot then)
+        may_end_turn done then is = subst (λ (x : Then). May tells state offers s p4 (EndTurn t slot x)) (sym is) record {
           own = back.own;
-          can = record { allowed = (may.below, (new_hold slot cell, ap turn_of (tab_of p4 tabs4), refl, refl)); chooses = tt; names = tt };
+          can = record { allowed = (may.below, (new_hold slot cell, ap turn_of (tab_of p4 tabs4), refl, refl), ends_so done); chooses = tt; names = tt };
         }
 
         pub has_returned : HasReturned tells state offers s p4 t slot
         has_returned = record { cell = c2; place = home; may = comes p4 tabs4 }
 
-        module _ (done : Bool) (p5 : Pass C) (ended : TurnEnded tells state offers s p4 t slot done p5) where
+        module _ (done : Bool) (then : Then) (then_is : then ≡ after_reading done) (p5 : Pass C) (ended : TurnEnded tells state offers s p4 t slot then p5) where
           from_is : ended.from ≡ view p1
           from_is = subst (λ (x : Tab (List ℕ)). IsReturned g.setting x t slot (shown tells state ended.cell) (view p4) ended.from) (tab_of p4 tabs4) ended.returned
               ∙ back.same ∙ ap (λ (q : Pass C). view q) lent ∙ moved.same
 
-          ends_from : Steps g (view p1) (EndTurn t slot done) 1 (view p5)
-          ends_from = subst (λ (u : View (List ℕ)). Steps g u (EndTurn t slot done) 1 (view p5)) from_is ended.step
+          ends_from : Steps g (view p1) (EndTurn t slot (after_reading done)) 1 (view p5)
+          ends_from = subst (λ (x : Then). Steps g (view p1) (EndTurn t slot x) 1 (view p5)) then_is (subst (λ (u : View (List ℕ)). Steps g u (EndTurn t slot then) 1 (view p5)) from_is ended.step)
 
           tabs5 : (view p5).tabs ≡ with_tab (view p) t (Reading (cond done (went_on may.reader) may.reader))
-          tabs5 = ap View.tabs ends_from.leaves ∙ ap (set (view p1).tabs t) (ap (λ (x : Tab (List ℕ)). ends x done) (tab_of p1 tabs1) ∙ ended_reader may.reader (new_hold slot cell) done may.idle)
+          tabs5 = ap View.tabs ends_from.leaves ∙ ap (set (view p1).tabs t) (ap (λ (x : Tab (List ℕ)). ends x (after_reading done)) (tab_of p1 tabs1) ∙ ended_reader may.reader (new_hold slot cell) done may.idle)
               ∙ ap (λ (xs : List (Tab (List ℕ))). set xs t (Reading (cond done (went_on may.reader) may.reader))) tabs1 ∙ set_again (view p).tabs t (Reading with_turn) (Reading (cond done (went_on may.reader) may.reader))
 
           seen1 : (view p1).seen ≡ (view p).seen

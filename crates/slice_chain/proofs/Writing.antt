@@ -4,9 +4,11 @@ use Rattle.std.specs.Prelude.{Contains, Err, IsTrue, Ok, OnErr, Result}
 use Rattle.rock_disk.specs.Cell.{CellState, shape}
 use Rattle.core_model.specs.CellMoves.{MayWrite, ends, piece_of, tries, MayLog, logs}
 use Rattle.core_model.specs.Steps.{cell_found}
+use Rattle.core_model.specs.Table.{item_of}
 use Rattle.core_model.specs.Chains.{rest_of}
 use Rattle.core_model.specs.Tabs.{OfWriter, has_turn, inner, tab_at, turn_of, with_tab}
 use Rattle.core_model.specs.declared.moves.Move.TheVariants.{EndTurn, TryTurn, LogPiece}
+use Rattle.core_model.specs.declared.moves.Then.TheVariants.{Stays}
 use Rattle.core_model.specs.declared.tab.Cell.{Cell}
 use Rattle.core_model.specs.declared.tab.Hold.{Hold}
 use Rattle.core_model.specs.declared.tab.Piece.{Piece}
@@ -29,8 +31,9 @@ use Rattle.tab_states.specs.Tabs.{head_of}
 use Rattle.store_rule.specs.Told.{Steps}
 use Rattle.store_rule.specs.Turns.{HasReturned, HasTaken, IsReturned, MayComeHome, MayReturn, MovesCell, TurnEnded, TurnFound, new_hold}
 use Rattle.store_rule.proofs.Passing.{pass_of}
-use Rattle.slice_chain.specs.Writes.{MayWriteSlot, WroteSlot, chose, reserved_first}
+use Rattle.slice_chain.specs.Writes.{CountsWritten, MayWriteSlot, WroteSlot, chose, reserved_first}
 use Rattle.slice_chain.specs.Written.{IsWrittenCell, MayBeLeft}
+use Rattle.slice_chain.proofs.Counting.{adds_items}
 use Rattle.core_model.specs.Offers.{KeepsTo}
 
 pub set_again : {A : Type 0} → (xs : List A) (t : ℕ) (x y : A) → set (set xs t x) t y ≡ set xs t y
@@ -152,10 +155,10 @@ module _ {C O : Type 0} (tells : Bool) (state : C → CellState) (offers : O →
     pub tab_is : tab_at (view q) t ≡ Writing (with_turn slot durable cell)
     tab_is = ap (λ (xs : List (Tab (List ℕ))). get_or xs t Tab.Free) tabs ∙ get_or-set_same (view p).tabs t (Writing (with_turn slot durable cell)) Tab.Free (let n = pass_of p in let b = may.below in omega arith)
 
-    pub may_end : IsOf tells state offers s q → May tells state offers s q (EndTurn t slot false)
+    pub may_end : IsOf tells state offers s q → May tells state offers s q (EndTurn t slot Stays)
     may_end own = record {
       own = own;
-      can = record { allowed = (let b = may.below in omega arith, (new_hold slot cell, ap turn_of tab_is, refl, refl)); chooses = tt; names = tt };
+      can = record { allowed = (let b = may.below in omega arith, (new_hold slot cell, ap turn_of tab_is, refl, refl), tt); chooses = tt; names = tt };
     }
 
     -- what was written may come home
@@ -172,7 +175,7 @@ module _ {C O : Type 0} (tells : Bool) (state : C → CellState) (offers : O →
     }
 
     -- the tab after the end
-    pub ended_tabs : (q' : Pass C) (ended : TurnEnded tells state offers s q t slot false q') → (written : Bool) × (settled : Bool) × ((view q').tabs ≡ with_tab (view p) t (Writing (chose writer slot durable written settled)))
+    pub ended_tabs : (q' : Pass C) (ended : TurnEnded tells state offers s q t slot Stays q') → (written : Bool) × (settled : Bool) × ((view q').tabs ≡ with_tab (view p) t (Writing (chose writer slot durable written settled)))
         × (g.setting.image (piece_of writer) ≡ (shown tells state ended.cell).now → written ≡ true)
         × ((shown tells state ended.cell).possible ≡ (shown tells state ended.cell).now ∷ [] → settled ≡ true)
     ended_tabs q' ended = of_hold (subst (λ (x : Tab (List ℕ)). IsReturned g.setting x t slot (shown tells state ended.cell) (view q) ended.from) tab_is ended.returned)
@@ -183,8 +186,8 @@ module _ {C O : Type 0} (tells : Bool) (state : C → CellState) (offers : O →
         of_hold (h, back, is) = (
           h.is_written,
           h.is_settled,
-          ap View.tabs ended.step.leaves ∙ (λ i. set (is i).tabs t (ends (tab_at (is i) t) false))
-              ∙ ap (λ (x : Tab (List ℕ)). set (set (view q).tabs t (Writing record (with_turn slot durable cell) { turn = Has h })) t (ends x false))
+          ap View.tabs ended.step.leaves ∙ (λ i. set (is i).tabs t (ends (tab_at (is i) t) Stays))
+              ∙ ap (λ (x : Tab (List ℕ)). set (set (view q).tabs t (Writing record (with_turn slot durable cell) { turn = Has h })) t (ends x Stays))
               (get_or-set_same (view q).tabs t (Writing record (with_turn slot durable cell) { turn = Has h }) Tab.Free (let n = pass_of q in let b = may.below in omega arith))
               ∙ set_again (view q).tabs t _ (Writing (chose writer slot durable h.is_written h.is_settled))
               ∙ ap (λ (xs : List (Tab (List ℕ))). set xs t (Writing (chose writer slot durable h.is_written h.is_settled))) tabs
@@ -256,13 +259,13 @@ module _ {C O : Type 0} (tells : Bool) (state : C → CellState) (offers : O →
         tabs3 : (view p3).tabs ≡ with_tab (view p) t (Writing (with_turn tells state offers s p t may slot durable cell))
         tabs3 = ap View.tabs back.same ∙ tabs2
 
-        pub may_end_turn : May tells state offers s p3 (EndTurn t slot false)
+        pub may_end_turn : May tells state offers s p3 (EndTurn t slot Stays)
         may_end_turn = may_end tells state offers s p t may slot durable p3 cell tabs3 back.own
 
         pub has_returned : HasReturned tells state offers s p3 t slot
         has_returned = record { cell = c2; place = home; may = comes p3 tabs3 }
 
-        module _ (p4 : Pass C) (ended : TurnEnded tells state offers s p3 t slot false p4) where
+        module _ (p4 : Pass C) (ended : TurnEnded tells state offers s p3 t slot Stays p4) where
           last : (written : Bool) × (settled : Bool) × ((view p4).tabs ≡ with_tab (view p) t (Writing (chose may.writer slot durable written settled)))
               × ((basis tells state offers s).setting.image (piece_of may.writer) ≡ (shown tells state ended.cell).now → written ≡ true)
               × ((shown tells state ended.cell).possible ≡ (shown tells state ended.cell).now ∷ [] → settled ≡ true)
@@ -295,6 +298,19 @@ module _ {C O : Type 0} (tells : Bool) (state : C → CellState) (offers : O →
             is_written = λ d. last.3 (image_there tells (offers _) _ _ (piece_of may.writer) (state c2) (buffer_at p2.desks t) the_image (λ told. (there d told).now) ∙ ap (λ (c : C). (shown tells state c).now) (sym put_back));
             is_settled = λ d l. last.4 (subst (λ (c : C). (shown tells state c).possible ≡ (shown tells state c).now ∷ []) (sym put_back) (alone_there tells (state c2) (buffer_at p2.desks t) (λ told. ((there d told).now, (there d told).alone l))));
           }
+
+          -- the piece was logged, the turn tried for, and ended
+          pub counted : CountsWritten (view p) (view p4)
+          counted = adds_items (view p) (view p4) (item_of ended.from (EndTurn t slot Stays) 1 ∷ item_of (view p0) (TryTurn t slot) found.made.found ∷ item_of (view p) (LogPiece t slot durable) logged.found ∷ []) _
+              (ap View.trail ended.step.leaves ∙ ap (λ xs. item_of ended.from (EndTurn t slot Stays) 1 ∷ xs) (from_trail ∙ ap View.trail (back.same ∙ moved.same)
+              ∙ ap View.trail found.made.step.leaves ∙ ap (λ xs. item_of (view p0) (TryTurn t slot) found.made.found ∷ xs) (ap View.trail logged.step.leaves)))
+              (λ asked. omega arith)
+            where
+              of_returned : IsReturned (basis tells state offers s).setting (Writing (with_turn tells state offers s p t may slot durable cell)) t slot (shown tells state ended.cell) (view p3) ended.from → ended.from.trail ≡ (view p3).trail
+              of_returned (h, back, is) = ap View.trail is
+
+              from_trail : ended.from.trail ≡ (view p3).trail
+              from_trail = of_returned (subst (λ (x : Tab (List ℕ)). IsReturned (basis tells state offers s).setting x t slot (shown tells state ended.cell) (view p3) ended.from) (tab_is tells state offers s p t may slot durable p3 cell tabs3) ended.returned)
 
           pub follows : Follows tells state offers s t p p4
           follows = record {

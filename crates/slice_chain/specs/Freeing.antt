@@ -1,9 +1,10 @@
 -- The slots of an entry that is given up are given back, one after the other.
-use Rattle.std.specs.Prelude.{Bool, Contains, List, None, Option, Some, [], cond, false, length, slice_index, true, ◌-◌, ◌<◌, ◌==◌, ◌∷◌, ◌≡◌, ◌≢◌, ◌⊎◌, ℕ}
+use Rattle.std.specs.Prelude.{Bool, Contains, List, None, Option, Some, [], cond, false, length, slice_index, true, ◌+◌, ◌-◌, ◌<◌, ◌==◌, ◌∷◌, ◌≡◌, ◌≢◌, ◌⊎◌, ℕ}
 use Rattle.lock_word.specs.Words.{epoch_of, raised, stage_of}
 use Rattle.core_model.specs.AnchorMoves.{deed_of}
 use Rattle.core_model.specs.declared.view.Item.{Item}
-use Rattle.core_model.specs.declared.view.Kind.TheVariants.{Disowned, Raised}
+use Rattle.core_model.specs.declared.view.Kind.{Kind}
+use Rattle.core_model.specs.declared.view.Kind.TheVariants.{Disowned, Loaded, Raised}
 use Rattle.core_model.specs.declared.view.Place.{Place}
 use Rattle.core_model.specs.declared.view.Place.TheVariants.{Anchor, Link}
 use Rattle.store_rule.specs.Calls.{Others}
@@ -25,6 +26,7 @@ use Rattle.store_rule.specs.Ground.{Ground, Offers}
 use Rattle.store_rule.specs.Passes.{IsOf, hand, view}
 use Rattle.tab_states.specs.Tabs.{head_of}
 use Rattle.store_rule.specs.Told.{Stands, Steps}
+use Rattle.slice_chain.specs.Counts.{AddsSteps, many, of_kinds, slots_freed}
 
 -- the inner tab frees a chain of which this is the first slot, and has none that left it
 pub record MayFreeFront {C O : Type 0} (tells : Bool) (state : C → CellState) (offers : O → Offers) (s : Store C O) (p : Pass C) (slot : ℕ) : Type 0 where
@@ -111,6 +113,7 @@ module _ {X : Type 0} (g : Ground X) where
     pub went : Went g v added w
     pub quiet : (added.sights ≡ []) × (added.done ≡ []) × (added.meetings ≡ [])
     pub undrawn : draws added.items ≡ 0
+    pub counted : (asked : Kind → Bool) → of_kinds asked added.items + slots_freed asked (length left) ≡ slots_freed asked (length f.rest)
     pub changed : (p : Place) → Contains added.changed p → (slot : ℕ) × (p ≡ Link slot) × Contains f.rest slot
     pub gave : (slot : ℕ) → Contains f.rest slot → Contains left slot ⊎ WasGiven added.items slot
     pub inside : (slot : ℕ) → Contains left slot → Contains f.rest slot
@@ -149,3 +152,9 @@ module _ {X : Type 0} (g : Ground X) where
     pub gone : freer.is_freeing ≡ true → (n : ℕ) × (added.done ≡ deed_of v Raised freer.anchor (raised n 1) false ∷ []) × (stage_of (epoch_of (raised n 1)) ≡ 6) × (has g w (Anchor freer.anchor) ≡ raised n 1)
     pub from : freer.is_freeing ≡ true → freer.anchor < g.setting.anchors → Mine g v (Anchor freer.anchor) → has g w (Anchor freer.anchor) ≡ raised (has g v (Anchor freer.anchor)) 1
     pub quiet : freer.is_freeing ≡ false → (added.sights ≡ []) × (added.done ≡ []) × (added.meetings ≡ [])
+
+-- The steps of a call that gives back the chain of the inner tab: one load of its start, those on each of its slots, and one that raises
+-- its anchor where that was at FREEING.
+abbrev pub CountsFreed : {X : Type 0} → (v w : View X) → Type 0
+CountsFreed v w = AddsSteps v w (λ asked. many asked Loaded 1 + slots_freed asked (rest_length (tab_at v inner))
+    + many asked Raised (cond (is_freeing_anchor (tab_at v inner)) 1 0))

@@ -8,6 +8,8 @@ use Rattle.core_model.specs.Offers.{ReadsOffer}
 use Rattle.core_model.specs.State.{State}
 use Rattle.core_model.specs.Tabs.{inner, tab_at, turn_of, with_tab}
 use Rattle.core_model.specs.declared.moves.Move.TheVariants.{EndTurn, TryTurn}
+use Rattle.core_model.specs.declared.moves.Then.{Then}
+use Rattle.core_model.specs.declared.moves.Then.TheVariants.{GoesOn, Stays}
 use Rattle.core_model.specs.declared.moves.Side.TheVariants.{Offer}
 use Rattle.core_model.specs.declared.tab.Cell.{Cell}
 use Rattle.core_model.specs.declared.tab.Reader.{Reader}
@@ -44,6 +46,10 @@ pub record HoldsPiece {X : Type 0} (g : Ground X) (offer : ℕ) (r : Reader X) (
   pub rule : Rule g state
   pub reads : ReadsOffer (offering_of g) g.setting state offer r (new_hold slot cell)
 
+-- what comes with the end of a turn to read
+abbrev pub after_reading : Bool → Then
+after_reading done = cond done GoesOn Stays
+
 -- The tab tried for the turn of the slot at its place until it had it, put the cell back as it was, and ended the turn. Where the read was
 -- done it is one place on, and else as before. The cell has the piece at its place, of each offer that the pass had seen of the version
 -- that it reads.
@@ -58,7 +64,7 @@ pub record ReadSlot {X : Type 0} (g : Ground X) (t : ℕ) (v : View X) (done : B
   pub middle : View X
   pub tried : Steps g last (TryTurn t slot) 0 middle
   pub has : turn_of (tab_at middle t) ≡ Has (new_hold slot cell)
-  pub ended : Steps g middle (EndTurn t slot done) 1 w
+  pub ended : Steps g middle (EndTurn t slot (after_reading done)) 1 w
   pub tabs : w.tabs ≡ with_tab v t (Reading (cond done (went_on reader) reader))
   pub piece : (offer : ℕ) → Contains v.seen (Named reader.anchor reader.version Offer offer) → HoldsPiece g offer (record reader { turn = Has (new_hold slot cell) }) slot cell
 

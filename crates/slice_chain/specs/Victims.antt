@@ -1,5 +1,5 @@
 -- An idle entry is evicted for a slot that a writer needs.
-use Rattle.std.specs.Prelude.{Bool, Contains, List, [], cond, false, nat_lt, slice_index, slice_set, true, ◌+◌, ◌-◌, ◌<◌, ◌≡◌, ◌≢◌, ◌≤◌, ◌⊎◌, ◌∷◌, ℕ}
+use Rattle.std.specs.Prelude.{Bool, Contains, List, [], cond, false, length, nat_lt, slice_index, slice_set, true, ◌+◌, ◌-◌, ◌<◌, ◌≡◌, ◌≢◌, ◌≤◌, ◌⊎◌, ◌∷◌, ℕ}
 use Rattle.lock_word.specs.Words.{IsWord, epoch_of, evicted, is_idle, raised, stage_of}
 use Rattle.rock_disk.specs.Cell.{CellState}
 use Rattle.core_model.specs.AnchorMoves.{deed_of, freer_of}
@@ -12,7 +12,8 @@ use Rattle.core_model.specs.declared.moves.Move.TheVariants.{Evict}
 use Rattle.core_model.specs.declared.tab.Freer.{Freer}
 use Rattle.core_model.specs.declared.tab.Tab.TheVariants.{Free, Freeing}
 use Rattle.core_model.specs.declared.view.Item.{Item}
-use Rattle.core_model.specs.declared.view.Kind.TheVariants.{Changed, Looked, Raised}
+use Rattle.core_model.specs.declared.view.Kind.{Kind}
+use Rattle.core_model.specs.declared.view.Kind.TheVariants.{Changed, Disowned, Followed, Linked, Loaded, Looked, Raised}
 use Rattle.core_model.specs.declared.view.Place.{Place}
 use Rattle.core_model.specs.declared.view.Place.TheVariants.{Anchor, Link}
 use Rattle.core_model.specs.declared.view.View.{View}
@@ -24,6 +25,7 @@ use Rattle.store_rule.specs.Told.{Stands, Steps}
 use Rattle.store_rule.specs.Calls.{Others}
 use Rattle.store_rule.specs.Runs.{Added, Went}
 use Rattle.store_rule.specs.Words.{Mine, has}
+use Rattle.slice_chain.specs.Counts.{many, of_kinds, slots_freed}
 use Rattle.slice_chain.specs.Freeing.{MayFreeChain, WasGiven}
 
 -- a look at the anchor a, or a try to have its entry freed, found this word
@@ -37,6 +39,7 @@ module _ {X : Type 0} (g : Ground X) (a : ℕ) (v : View X) where
     pub went : Went g v added w
     pub calm : (added.done ≡ []) × (added.changed ≡ [])
     pub undrawn : draws added.items ≡ 0
+    pub counted : (asked : Kind → Bool) → asked Changed ≡ false → of_kinds asked added.items ≡ many asked Looked 1
     pub tabs : w.tabs ≡ v.tabs
     pub stands : Stands g w
     pub last : last_find a w.trail ≡ n
@@ -77,6 +80,8 @@ pub record KeptFirst {X : Type 0} (g : Ground X) (t : ℕ) (v : View X) (slot : 
   pub added : Added
   pub went : Went g v added w
   pub undrawn : draws added.items ≡ 0
+  pub counted : (asked : Kind → Bool)
+      → of_kinds asked added.items ≡ many asked Loaded 1 + many asked Followed 1 + many asked Linked 1 + slots_freed asked (length (rest_of freer.rest)) + many asked Raised 1
   pub gave : (j : ℕ) → Contains (rest_of freer.rest) j → WasGiven added.items j
   pub tabs : w.tabs ≡ slice_set (with_tab v inner Free) t (reserves (tab_at v t) slot)
   pub changed : (q : Place) → Contains added.changed q → ((j : ℕ) × (q ≡ Link j) × Contains freer.rest j) ⊎ (q ≡ Anchor freer.anchor)
@@ -123,6 +128,7 @@ module _ {X : Type 0} (g : Ground X) (hand : ℕ) (v : View X) where
     pub went : Went g v added w
     pub calm : (added.done ≡ []) × (added.changed ≡ [])
     pub undrawn : draws added.items ≡ 0
+    pub counted : (asked : Kind → Bool) → asked Changed ≡ false → of_kinds asked added.items ≡ many asked Looked steps
     pub tabs : w.tabs ≡ v.tabs
     pub passed : (j : ℕ) → j < steps → FoundBusy added.items (onward g.setting.anchors hand j)
     pub was : (j : ℕ) → j < steps → Mine g v (Anchor (onward g.setting.anchors hand j)) → is_idle (has g v (Anchor (onward g.setting.anchors hand j))) ≡ false
@@ -158,3 +164,16 @@ module _ {X : Type 0} (g : Ground X) (hand : ℕ) (v : View X) where
     pub tabs : w.tabs ≡ v.tabs
     pub each : (a : ℕ) → a < g.setting.anchors → FoundBusy added.items a
     pub was : (a : ℕ) → a < g.setting.anchors → Mine g v (Anchor a) → is_idle (has g v (Anchor a)) ≡ false
+
+  -- The steps of a call that evicted an entry: one look at each anchor up to the victim, a load of its start, a look at the link of each
+  -- slot of its chain, each of which left it, and all but the first given back, and one step that raised the anchor. Tries to evict are not
+  -- counted: one that was lost to another pass is made again.
+  pub record CountsEvicted (t slot : ℕ) (w : View X) (hand_after : ℕ) : Type 0 where
+    pub evicted : Evicted t slot w hand_after
+    pub counts : (asked : Kind → Bool) → asked Changed ≡ false → of_kinds asked w.trail ≡ of_kinds asked v.trail
+        + (many asked Looked (evicted.steps + 1) + many asked Loaded 1 + many asked Followed (length evicted.kept.freer.rest) + many asked Linked (length evicted.kept.freer.rest)
+        + many asked Disowned (length evicted.kept.freer.rest - 1) + many asked Raised 1)
+
+-- Those of a call that found none: one look at each anchor, and tries that were lost.
+abbrev pub CountsNone : {X : Type 0} → Ground X → (v w : View X) → Type 0
+CountsNone g v w = (asked : Kind → Bool) → asked Changed ≡ false → of_kinds asked w.trail ≡ of_kinds asked v.trail + many asked Looked g.setting.anchors

@@ -1,16 +1,18 @@
 -- A slot is written: its piece is logged, its turn taken, its cell moved out, written, moved home, and the turn ended.
-use Rattle.std.specs.Prelude.{Bool, IsTrue, List, None, Option, Some, false, true, ◌∷◌, ◌<◌, ◌≡◌, ℕ}
+use Rattle.std.specs.Prelude.{Bool, IsTrue, List, None, Option, Some, false, true, ◌+◌, ◌∷◌, ◌<◌, ◌≡◌, ℕ}
 use Rattle.rock_disk.specs.Cell.{CellState}
 use Rattle.core_model.specs.CellMoves.{MayLog, piece_of}
 use Rattle.core_model.specs.Chains.{rest_of}
 use Rattle.core_model.specs.Offers.{KeepsTo}
 use Rattle.core_model.specs.Tabs.{has_turn, inner, tab_at, with_tab}
 use Rattle.core_model.specs.declared.moves.Move.TheVariants.{EndTurn, LogPiece, TryTurn}
+use Rattle.core_model.specs.declared.moves.Then.TheVariants.{Stays}
 use Rattle.core_model.specs.declared.tab.Cell.{Cell}
 use Rattle.core_model.specs.declared.tab.Tab.{Tab}
 use Rattle.core_model.specs.declared.tab.Tab.TheVariants.{Writing}
 use Rattle.core_model.specs.declared.tab.Turn.TheVariants.{NoTurn}
 use Rattle.core_model.specs.declared.tab.Writer.{Writer}
+use Rattle.core_model.specs.declared.view.Kind.TheVariants.{Ended, Logged, Tried}
 use Rattle.core_model.specs.declared.view.View.{View}
 use Rattle.store_rule.specs.declared.store.Pass.{Pass}
 use Rattle.store_rule.specs.declared.store.Store.{Store}
@@ -20,6 +22,7 @@ use Rattle.store_rule.specs.Passes.{IsOf, basis, view}
 use Rattle.tab_states.specs.Tabs.{head_of}
 use Rattle.store_rule.specs.Told.{Steps}
 use Rattle.store_rule.specs.Turns.{IsReturned}
+use Rattle.slice_chain.specs.Counts.{AddsSteps, many}
 
 -- the first slot that a writing tab reserved
 abbrev pub reserved_first : {X : Type 0} → Tab X → Option ℕ
@@ -65,9 +68,13 @@ pub record WroteSlot {X : Type 0} (g : Ground X) (t : ℕ) (v : View X) (durable
   pub cell : Cell X
   pub from : View X
   pub returned : IsReturned g.setting (tab_at middle t) t slot cell middle from
-  pub ended : Steps g from (EndTurn t slot false) 1 w
+  pub ended : Steps g from (EndTurn t slot Stays) 1 w
   pub written : Bool
   pub settled : Bool
   pub tabs : w.tabs ≡ with_tab v t (Writing (chose writer slot durable written settled))
   pub is_written : done ≡ true → written ≡ true
   pub is_settled : done ≡ true → durable ≡ true → settled ≡ true
+
+-- the steps of a call that writes a slot: the piece is logged, the turn is tried for, and it is ended
+abbrev pub CountsWritten : {X : Type 0} → (v w : View X) → Type 0
+CountsWritten v w = AddsSteps v w (λ asked. many asked Logged 1 + many asked Tried 1 + many asked Ended 1)

@@ -1,5 +1,6 @@
--- A cell after these bytes were written into it.
-use Rattle.std.specs.Prelude.{Bool, Contains, List, [], ◌∷◌, ◌≡◌, ◌⊎◌, true, ℕ}
+-- A cell after these bytes were written into it, and how often its station was called.
+use Rattle.std.specs.Prelude.{Bool, Contains, List, [], cond, ◌∷◌, ◌≡◌, ◌⊎◌, true, ℕ}
+use Rattle.rock_io.specs.Faults.{one_more}
 use Rattle.rock_disk.specs.Cell.{CellState}
 
 -- a read gives the bytes, and where they are durable a crash leaves nothing else
@@ -10,3 +11,11 @@ pub record IsWrittenCell (bytes : List ℕ) (durable : Bool) (c : CellState) : T
 -- A crash leaves what it might have left before, or the bytes; and what a read gives may be left.
 abbrev pub MayBeLeft : List ℕ → (before after : CellState) → Type 0
 MayBeLeft bytes before after = (content : List ℕ) → Contains after.possible content → Contains before.possible content ⊎ (content ≡ bytes)
+
+-- the count of a station's calls once a cell was written: one more, and another one where the cell was synced
+abbrev pub calls_to_write : (durable : Bool) (calls : ℕ) → ℕ
+calls_to_write durable calls = cond durable (one_more (one_more calls)) (one_more calls)
+
+-- that count where the station failed: at the write, or at the sync of a cell that is to be durable
+abbrev pub StoppedAt : (durable : Bool) (before after : ℕ) → Type 0
+StoppedAt durable before after = (after ≡ one_more before) ⊎ ((durable ≡ true) × (after ≡ one_more (one_more before)))

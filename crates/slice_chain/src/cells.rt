@@ -1,7 +1,7 @@
 // A cell in a caller's hands is written, and synced.
 ghost use Rattle.rock_disk.specs.Cell.{shape};
 ghost use Rattle.rock_io.specs.Faults.{Rose};
-ghost use Rattle.slice_chain.specs.Written.{IsWrittenCell, MayBeLeft};
+ghost use Rattle.slice_chain.specs.Written.{IsWrittenCell, MayBeLeft, StoppedAt, calls_to_write};
 ghost use Rattle.std.specs.Prelude.{Contains, IsTrue, OnErr, OnOk, length, ◌≡◌};
 
 use rock_disk::{Cell, Station};
@@ -19,6 +19,8 @@ pub(crate) fn write_cell<St: Station>(
     ensures written { OnOk result (IsTrue St.C.tells → IsWrittenCell bytes.now durable (St.C.state cell.new)) }
     ensures possible { IsTrue St.C.tells → MayBeLeft bytes.now (St.C.state cell.old) (St.C.state cell.new) }
     ensures shape { shape (St.C.state cell.new) ≡ shape (St.C.state cell.old) }
+    ensures called { IsTrue St.counts → OnOk result (St.calls station.new ≡ calls_to_write durable (St.calls station.old)) }
+    ensures stopped { IsTrue St.counts → OnErr result (StoppedAt durable (St.calls station.old) (St.calls station.new)) }
     ensures unfailed { OnOk result (St.faults station.new ≡ St.faults station.old) }
     ensures failed { OnErr result (Rose (St.faults station.old) (St.faults station.new)) }
 {

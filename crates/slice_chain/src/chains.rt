@@ -2,7 +2,7 @@
 ghost use Rattle.std.specs.Prelude.{◌≡◌, ◌≤◌};
 ghost use Rattle.core_model.specs.Tabs.{inner, tab_at};
 ghost use Rattle.store_rule.specs.Calls.{Follows};
-ghost use Rattle.slice_chain.specs.Freeing.{Freed, FrontFreed, MayFreeChain, MayFreeFront, MayFreeRest, RestFreed, is_freeing_anchor, slot_named};
+ghost use Rattle.slice_chain.specs.Freeing.{CountsFreed, Freed, FrontFreed, MayFreeChain, MayFreeFront, MayFreeRest, RestFreed, is_freeing_anchor, slot_named};
 ghost use Rattle.store_rule.specs.Passes.{basis, view};
 
 use core_model::{INNER_TAB, Side};
@@ -28,6 +28,7 @@ fn free_front<C: Cell, O: Origin>(store: &Store<C, O>, pass: &mut Pass<C>, slot:
 pub fn free_chain<C: Cell, O: Origin>(store: &Store<C, O>, pass: &mut Pass<C>)
     requires { MayFreeChain C.tells C.state O.offers store.now pass.old }
     ensures freed { Freed (basis C.tells C.state O.offers store.now) (view pass.old) (view pass.new) }
+    ensures counted { CountsFreed (view pass.old) (view pass.new) }
     ensures others { Follows C.tells C.state O.offers store.now inner pass.old pass.new }
 {
     let is_freeing = frees_anchor(pass);

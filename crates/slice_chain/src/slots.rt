@@ -1,18 +1,19 @@
 // Slots of an entry are written and read, under the turns of their cells.
 ghost use Rattle.store_rule.specs.Calls.{Follows};
-ghost use Rattle.rock_io.specs.Faults.{Rose};
+ghost use Rattle.rock_io.specs.Faults.{Rose, one_more};
 ghost use Rattle.core_model.specs.Tabs.{inner, tab_at};
 ghost use Rattle.core_model.specs.declared.tab.Cell.{Cell as CoreCell};
-ghost use Rattle.slice_chain.specs.Reads.{FollowsReading, HasRead, MayReadSlot, ReadSlot};
+ghost use Rattle.slice_chain.specs.Reads.{FollowsReading, HasRead, MayReadSlot, ReadSlot, after_reading};
 ghost use Rattle.store_rule.specs.Lending.{with_bytes};
 ghost use Rattle.tab_states.specs.Desks.{buffer_at};
-ghost use Rattle.slice_chain.specs.Writes.{MayWriteSlot, WroteSlot, reserved_first};
+ghost use Rattle.slice_chain.specs.Writes.{CountsWritten, MayWriteSlot, WroteSlot, reserved_first};
+ghost use Rattle.slice_chain.specs.Written.{StoppedAt, calls_to_write};
 ghost use Rattle.std.specs.Prelude.{IsTrue, List, OnErr, OnOk, false, length, true, ◌<◌, ◌≡◌, ℕ};
 ghost use Rattle.store_rule.specs.Passes.{basis, view};
 
 use crate::cells::write_cell;
 use crate::links::slot_at;
-use core_model::INNER_TAB;
+use core_model::{INNER_TAB, Then};
 use rock_disk::{Cell, Station};
 use rock_io::Failed;
 use std::sync::Wait;
@@ -26,6 +27,9 @@ use store_rule::{Origin, Pass, Store};
 /// # Errors
 ///
 /// The station failed. It is not known what the cell holds then.
+///
+/// A station that tells it was called once for the write, and once more for a sync where the piece is to be durable and
+/// the write did not fail.
 pub fn write_slot<C: Cell, O: Origin, St: Station<C = C>>(
     store: &Store<C, O>,
     pass: &mut Pass<C>,
@@ -36,7 +40,10 @@ pub fn write_slot<C: Cell, O: Origin, St: Station<C = C>>(
     requires { MayWriteSlot C.tells C.state O.offers store.now pass.old tab }
     ensures ok { OnOk result (WroteSlot (basis C.tells C.state O.offers store.now) tab (view pass.old) durable true (view pass.new)) }
     ensures err { OnErr result (WroteSlot (basis C.tells C.state O.offers store.now) tab (view pass.old) durable false (view pass.new)) }
+    ensures steps { CountsWritten (view pass.old) (view pass.new) }
     ensures others { Follows C.tells C.state O.offers store.now tab pass.old pass.new }
+    ensures called { IsTrue St.counts → OnOk result (St.calls station.new ≡ calls_to_write durable (St.calls station.old)) }
+    ensures stopped { IsTrue St.counts → OnErr result (StoppedAt durable (St.calls station.old) (St.calls station.new)) }
     ensures unfailed { OnOk result (St.faults station.new ≡ St.faults station.old) }
     ensures failed { OnErr result (Rose (St.faults station.old) (St.faults station.new)) }
 {
@@ -50,7 +57,7 @@ pub fn write_slot<C: Cell, O: Origin, St: Station<C = C>>(
     let mut cell = store.cell_out(pass, slot);
     let result = write_cell(station, &mut cell, pass.buffer(tab), durable);
     store.cell_in(pass, slot, cell);
-    store.end_turn(pass, tab, slot, false);
+    store.end_turn(pass, tab, slot, Then::Stays);
     result
 }
 
@@ -72,6 +79,7 @@ pub fn read_slot<R: Wait, C: Cell, O: Origin, St: Station<C = C>>(
     ensures ok { OnOk result ((cell : CoreCell (List ℕ)) × HasRead C.tells C.state O.offers store.now tab pass.old pass.new cell) }
     ensures err { OnErr result ((cell : CoreCell (List ℕ)) × ReadSlot (basis C.tells C.state O.offers store.now) tab (view pass.old) false cell (view pass.new)) }
     ensures others { FollowsReading C.tells C.state O.offers store.now tab pass.old pass.new }
+    ensures called { IsTrue St.counts → St.calls station.new ≡ one_more (St.calls station.old) }
     ensures unfailed { OnOk result (St.faults station.new ≡ St.faults station.old) }
     ensures failed { OnErr result (Rose (St.faults station.old) (St.faults station.new)) }
 {
@@ -82,8 +90,15 @@ pub fn read_slot<R: Wait, C: Cell, O: Origin, St: Station<C = C>>(
     let mut cell = store.cell_out(pass, slot);
     let result = read_cell(station, &mut cell, pass);
     store.cell_in(pass, slot, cell);
-    store.end_turn(pass, tab, slot, result.is_ok());
+    store.end_turn(pass, tab, slot, after_reading(result.is_ok()));
     result
+}
+
+// What comes with the end of a turn to read: a tab whose read was done goes on.
+fn after_reading(is_done: bool) -> Then
+    ensures { result ≡ after_reading is_done }
+{
+    if is_done { Then::GoesOn } else { Then::Stays }
 }
 
 // Reads a cell into the buffer for reading, which is the inner tab's.
@@ -96,6 +111,7 @@ fn read_cell<C: Cell, St: Station<C = C>>(
     ensures lent { (bytes : List ℕ) × (pass.new ≡ with_bytes pass.old inner bytes) }
     ensures read { OnOk result (IsTrue C.tells → buffer_at pass.new.desks inner ≡ (C.state cell.old).now) }
     ensures cell { C.state cell.new ≡ C.state cell.old }
+    ensures called { IsTrue St.counts → St.calls station.new ≡ one_more (St.calls station.old) }
     ensures unfailed { OnOk result (St.faults station.new ≡ St.faults station.old) }
     ensures failed { OnErr result (Rose (St.faults station.old) (St.faults station.new)) }
 {

@@ -3,7 +3,7 @@ ghost use Rattle.std.specs.Prelude.{IfOk, OnErr, false, true, ◌<◌, ◌≡◌
 ghost use Rattle.core_model.specs.Tabs.{InnerIsFree};
 ghost use Rattle.store_rule.specs.Calls.{Follows};
 ghost use Rattle.core_model.specs.Tabs.{inner};
-ghost use Rattle.slice_chain.specs.Victims.{Evicted, FollowsEvicting, KeptFirst, MayEvictOne, MayKeepFirst, NoneIdle, Spared, Won, hand_in, onward};
+ghost use Rattle.slice_chain.specs.Victims.{CountsEvicted, CountsNone, Evicted, FollowsEvicting, KeptFirst, MayEvictOne, MayKeepFirst, NoneIdle, Spared, Won, hand_in, onward};
 ghost use Rattle.store_rule.specs.Passes.{IsOf, basis, view};
 
 use crate::chains::{first_slot, free_rest};
@@ -33,6 +33,8 @@ pub fn evict_one<C: Cell, O: Origin>(
     requires { MayEvictOne C.tells C.state O.offers store.now pass.old tab }
     ensures ok { IfOk result (λ slot. Evicted (basis C.tells C.state O.offers store.now) (hand_in (basis C.tells C.state O.offers store.now).setting.anchors pass.old.hand) (view pass.old) tab slot (view pass.new) pass.new.hand) }
     ensures err { OnErr result (NoneIdle (basis C.tells C.state O.offers store.now) (hand_in (basis C.tells C.state O.offers store.now).setting.anchors pass.old.hand) (view pass.old) (view pass.new)) }
+    ensures counted { IfOk result (λ slot. CountsEvicted (basis C.tells C.state O.offers store.now) (hand_in (basis C.tells C.state O.offers store.now).setting.anchors pass.old.hand) (view pass.old) tab slot (view pass.new) pass.new.hand) }
+    ensures counted_none { OnErr result (CountsNone (basis C.tells C.state O.offers store.now) (view pass.old) (view pass.new)) }
     ensures stays { OnErr result (pass.new.hand ≡ pass.old.hand) }
     ensures others { FollowsEvicting C.tells C.state O.offers store.now tab pass.old pass.new }
 {

@@ -1,3 +1,4 @@
 pub mod Judging
 pub mod Refused
 pub mod Causes
+pub mod Recorded

@@ -7,6 +7,8 @@ use Rattle.core_model.specs.declared.tab.Cell.{Cell}
 use Rattle.core_model.specs.declared.tab.Tab.{Tab}
 use Rattle.core_model.specs.declared.tab.Tab.TheVariants.{Free, Retreating, Reading, Writing, Last, Freeing}
 use Rattle.core_model.specs.declared.moves.Move.TheVariants.{Enter, Leave, Raise, Take, Evict, GetLink, LoadSide, StoreSide}
+use Rattle.core_model.specs.declared.moves.Then.{Then}
+use Rattle.core_model.specs.declared.moves.Then.TheVariants.{GoesOn, Stays, Wiped}
 use Rattle.core_model.specs.declared.view.View.{View}
 use Rattle.store_rule.specs.Ground.{Ground}
 use Rattle.core_model.specs.Tabs.{tab_at, anchor_of}
@@ -142,14 +144,15 @@ module _ {X : Type 0} where
   tries_at (Last a) slot n cell = refl
   tries_at (Freeing f) slot n cell = refl
 
-  pub ends_at : (x : Tab X) (goes_on : Bool) → at_of (ends x goes_on) ≡ ended_here (at_of x) goes_on
-  ends_at Free goes_on = refl
-  ends_at (Retreating a) goes_on = refl
-  ends_at (Reading r) true = refl
-  ends_at (Reading r) false = refl
-  ends_at (Writing w) goes_on = refl
-  ends_at (Last a) goes_on = refl
-  ends_at (Freeing f) goes_on = refl
+  pub ends_at : (x : Tab X) (then : Then) → at_of (ends x then) ≡ ended_here (at_of x) then
+  ends_at Free then = refl
+  ends_at (Retreating a) then = refl
+  ends_at (Reading r) Stays = refl
+  ends_at (Reading r) GoesOn = refl
+  ends_at (Reading r) Wiped = refl
+  ends_at (Writing w) then = refl
+  ends_at (Last a) then = refl
+  ends_at (Freeing f) then = refl
 
   pub loaded_at : (x : Tab X) (side : Side) (n : ℕ) → at_of (loaded x side n) ≡ loaded_here (at_of x) side n
   loaded_at Free side n = refl

@@ -15,6 +15,8 @@ use Rattle.atomic_table.specs.declared.shared.Seat.{Seat}
 use Rattle.rock_disk.specs.Cell.{CellState}
 use Rattle.core_model.specs.declared.moves.Move.{Move}
 use Rattle.core_model.specs.declared.moves.Move.TheVariants.{EndTurn, TryTurn}
+use Rattle.core_model.specs.declared.moves.Then.{Then}
+use Rattle.core_model.specs.declared.moves.Then.TheVariants.{GoesOn, Stays, Wiped}
 use Rattle.core_model.specs.declared.tab.Cell.{Cell}
 use Rattle.core_model.specs.declared.tab.Hold.{Hold}
 use Rattle.core_model.specs.declared.tab.Reader.{Reader}
@@ -27,7 +29,7 @@ use Rattle.core_model.specs.declared.view.Place.TheVariants.{Turn}
 use Rattle.core_model.specs.declared.view.View.{View}
 use Rattle.core_model.specs.Layout.{Setting, index, word_count, table_words}
 use Rattle.core_model.specs.Tabs.{IsPass, OfReader, OfWriter, holds_turn, tab_at, turn_of}
-use Rattle.core_model.specs.CellMoves.{MayWrite, cell_held, chosen_content, ends, map_some, tries as tries_tab}
+use Rattle.core_model.specs.CellMoves.{EndsSo, MayWrite, cell_held, chosen_content, ends, map_some, tries as tries_tab}
 use Rattle.core_model.specs.Cells.{TurnFits}
 use Rattle.core_model.specs.Slots.{ReaderHolds}
 use Rattle.core_model.specs.State.{chain_of}
@@ -69,24 +71,25 @@ module _ {X : Type 0} (g : Ground X) (v : View X) (st : Stands g v) where
   tried_inside t slot may = try_inside g.setting st.state st.index v st.rule.sound st.at may.pass t slot
       (allowed_so g.setting st.state st.index v st.rule.sound st.at may.pass (TryTurn t slot) may.allowed)
 
-  pub ended_inside : (t slot : ℕ) (goes_on : Bool) → MayMake g.setting v (EndTurn t slot goes_on) → slot < g.setting.slots
-  ended_inside t slot goes_on may = end_inside g.setting st.state st.index v st.rule.sound st.at may.pass t slot goes_on may.allowed
+  pub ended_inside : (t slot : ℕ) (then : Then) → MayMake g.setting v (EndTurn t slot then) → slot < g.setting.slots
+  ended_inside t slot then may = end_inside g.setting st.state st.index v st.rule.sound st.at may.pass t slot then may.allowed
 
   -- a tab that goes on has a place to go to
-  pub has_next : (t slot : ℕ) (goes_on : Bool) → g.setting.slots ≤ 4294967295 → MayMake g.setting v (EndTurn t slot goes_on) → HasNext (at_of (tab_at v t)) goes_on
-  has_next t slot goes_on few may = let p = may.pass in let le = may.allowed.0 in
-      of_tab (tab_at v t) goes_on (tab_there v t (tab_at v t) (omega arith) refl) may.allowed.1.1
+  pub has_next : (t slot : ℕ) (then : Then) → g.setting.slots ≤ 4294967295 → MayMake g.setting v (EndTurn t slot then) → HasNext (at_of (tab_at v t)) then
+  has_next t slot then few may = let p = may.pass in let le = may.allowed.0 in
+      of_tab (tab_at v t) then (tab_there v t (tab_at v t) (omega arith) refl) may.allowed.1.1
     where
-      of_tab : (x : Tab X) (goes_on : Bool) → get_elem? v.tabs t ≡ some x → turn_of x ≡ Has may.allowed.1.0 → HasNext (at_of x) goes_on
-      of_tab (Reading r) true there turn = let fits : TurnFits g.setting st.state (Reading r) = st.rule.sound.cells.turns st.index v st.at t (Reading r) there in
+      of_tab : (x : Tab X) (then : Then) → get_elem? v.tabs t ≡ some x → turn_of x ≡ Has may.allowed.1.0 → HasNext (at_of x) then
+      of_tab (Reading r) GoesOn there turn = let fits : TurnFits g.setting st.state (Reading r) = st.rule.sound.cells.turns st.index v st.at t (Reading r) there in
           let holds : ReaderHolds (chain_of st.state r.anchor) r = st.rule.sound.slots.tabs st.index v st.at t (Reading r) there in
           let written = (holds.found (fits may.allowed.1.0 turn).2).0 in let short = chain_short g st.state st.rule r.anchor in omega arith
-      of_tab (Reading r) false there turn = tt
-      of_tab (Writing w) goes_on there turn = tt
-      of_tab Free goes_on there turn = tt
-      of_tab (Retreating a) goes_on there turn = tt
-      of_tab (Last a) goes_on there turn = tt
-      of_tab (Freeing f) goes_on there turn = tt
+      of_tab (Reading r) Stays there turn = tt
+      of_tab (Reading r) Wiped there turn = tt
+      of_tab (Writing w) then there turn = tt
+      of_tab Free then there turn = tt
+      of_tab (Retreating a) then there turn = tt
+      of_tab (Last a) then there turn = tt
+      of_tab (Freeing f) then there turn = tt
 
 -- What the table does with the places.
 
@@ -147,9 +150,9 @@ module _ {C X : Type 0} (form : Form C X) where
           },
         )
 
-    pub gives_place : (goes_on : Bool) (c : C) (others : List (ℕ × Option C)) (h : Hold X)
-        → had ≡ (slot, Some c) ∷ others → turn_of (tab_at u t) ≡ Has h → form.shows c ≡ h.cell → IsFitting form g slot c → CanAct form g u had (EndTurn t slot goes_on) (Turn slot)
-    gives_place goes_on c others h is turn same fit s views chains r i at = (
+    pub gives_place : (then : Then) (c : C) (others : List (ℕ × Option C)) (h : Hold X)
+        → had ≡ (slot, Some c) ∷ others → turn_of (tab_at u t) ≡ Has h → form.shows c ≡ h.cell → IsFitting form g slot c → CanAct form g u had (EndTurn t slot then) (Turn slot)
+    gives_place then c others h is turn same fit s views chains r i at = (
       gives,
       None,
       record {
@@ -164,9 +167,9 @@ module _ {C X : Type 0} (form : Form C X) where
     )
 
   -- the view that v has become, from which the tab may end its turn with this cell
-  pub record EndsFrom (g : Ground X) (v : View X) (t slot : ℕ) (goes_on : Bool) (c : C) (u : View X) : Type 0 where
+  pub record EndsFrom (g : Ground X) (v : View X) (t slot : ℕ) (then : Then) (c : C) (u : View X) : Type 0 where
     pub becomes : Becomes g.setting v u
-    pub may : MayMake g.setting u (EndTurn t slot goes_on)
+    pub may : MayMake g.setting u (EndTurn t slot then)
     pub hold : Hold X
     pub turn : turn_of (tab_at u t) ≡ Has hold
     pub cell_is : form.shows c ≡ hold.cell
@@ -192,9 +195,9 @@ module _ {C X : Type 0} (form : Form C X) where
       acts = takes_place g v seat.me.1 t slot lt;
     }
 
-    ends_from : (t slot word : ℕ) (goes_on : Bool) (c : C) (others : List (ℕ × Option C)) (u : View X) → word ≡ 5 * g.setting.anchors + 2 * slot + 1 → slot < g.setting.slots → IsPass v
-        → seat.me.1 ≡ (slot, Some c) ∷ others → IsFitting form g slot c → EndsFrom g v t slot goes_on c u → StepsOn form g z seat word (EndTurn t slot goes_on) u (λ _. 0)
-    ends_from t slot word goes_on c others u is lt pass hand fit e = record {
+    ends_from : (t slot word : ℕ) (then : Then) (c : C) (others : List (ℕ × Option C)) (u : View X) → word ≡ 5 * g.setting.anchors + 2 * slot + 1 → slot < g.setting.slots → IsPass v
+        → seat.me.1 ≡ (slot, Some c) ∷ others → IsFitting form g slot c → EndsFrom g v t slot then c u → StepsOn form g z seat word (EndTurn t slot then) u (λ _. 0)
+    ends_from t slot word then c others u is lt pass hand fit e = record {
       own = own;
       within = let q = turn_within z.words g.setting.anchors g.setting.slots slot sized lt in omega arith;
       one = one;
@@ -206,12 +209,12 @@ module _ {C X : Type 0} (form : Form C X) where
       here = is;
       on = record { finds = λ s. refl; leaves = λ s i. refl };
       same = λ s i r at m fits. refl;
-      acts = gives_place g u seat.me.1 t slot goes_on c others e.hold hand e.turn e.cell_is fit;
+      acts = gives_place g u seat.me.1 t slot then c others e.hold hand e.turn e.cell_is fit;
     }
 
-    pub ends_ : (t slot word : ℕ) (goes_on : Bool) (c : C) (others : List (ℕ × Option C)) (u from : View X) → from ≡ u → word ≡ 5 * g.setting.anchors + 2 * slot + 1 → slot < g.setting.slots → IsPass v
-        → seat.me.1 ≡ (slot, Some c) ∷ others → IsFitting form g slot c → EndsFrom g v t slot goes_on c u → StepsOn form g z seat word (EndTurn t slot goes_on) from (λ _. 0)
-    ends_ t slot word goes_on c others u from same is lt pass hand fit e = subst (λ (x : View X). StepsOn form g z seat word (EndTurn t slot goes_on) x (λ _. 0)) (sym same) (ends_from t slot word goes_on c others u is lt pass hand fit e)
+    pub ends_ : (t slot word : ℕ) (then : Then) (c : C) (others : List (ℕ × Option C)) (u from : View X) → from ≡ u → word ≡ 5 * g.setting.anchors + 2 * slot + 1 → slot < g.setting.slots → IsPass v
+        → seat.me.1 ≡ (slot, Some c) ∷ others → IsFitting form g slot c → EndsFrom g v t slot then c u → StepsOn form g z seat word (EndTurn t slot then) from (λ _. 0)
+    ends_ t slot word then c others u from same is lt pass hand fit e = subst (λ (x : View X). StepsOn form g z seat word (EndTurn t slot then) x (λ _. 0)) (sym same) (ends_from t slot word then c others u is lt pass hand fit e)
 
 -- The turn was free: the cell of the slot came with it.
 
@@ -308,12 +311,12 @@ module _ {X : Type 0} (g : Ground X) (v w : View X) (t slot n : ℕ) (st : Steps
 pub writer_wins : {X : Type 0} → (g : Ground X) (v w : View X) (t slot n : ℕ) → Steps g v (TryTurn t slot) n w → OfWriter (λ w. Unit {0}) (tab_at v t) → n ≡ 0
 writer_wins g v w t slot n st writes = (known_of g v (TryTurn t slot) n w st).turns.1 writes
 
-pub turn_taken_is : {X : Type 0} → (g : Ground X) (v w : View X) (t slot n : ℕ) (goes_on : Bool) → Steps g v (EndTurn t slot goes_on) n w → n ≡ 1
-turn_taken_is g v w t slot n goes_on st = (known_of g v (EndTurn t slot goes_on) n w st).turns
+pub turn_taken_is : {X : Type 0} → (g : Ground X) (v w : View X) (t slot n : ℕ) (then : Then) → Steps g v (EndTurn t slot then) n w → n ≡ 1
+turn_taken_is g v w t slot n then st = (known_of g v (EndTurn t slot then) n w st).turns
 
 -- the end of a turn, made from the view that is this one
-pub ended_from : {X : Type 0} → (g : Ground X) (v u w : View X) (t slot n : ℕ) (goes_on : Bool) → v ≡ u → Steps g v (EndTurn t slot goes_on) n w → Steps g u (EndTurn t slot goes_on) 1 w
-ended_from g v u w t slot n goes_on same st = subst (λ (z : View _ × ℕ). Steps g z.0 (EndTurn t slot goes_on) z.1 w) (λ i. (same i, turn_taken_is g v w t slot n goes_on st i)) st
+pub ended_from : {X : Type 0} → (g : Ground X) (v u w : View X) (t slot n : ℕ) (then : Then) → v ≡ u → Steps g v (EndTurn t slot then) n w → Steps g u (EndTurn t slot then) 1 w
+ended_from g v u w t slot n then same st = subst (λ (z : View _ × ℕ). Steps g z.0 (EndTurn t slot then) z.1 w) (λ i. (same i, turn_taken_is g v w t slot n then st i)) st
 
 -- The view from which a turn ends, by the cell in the place that was taken last.
 
@@ -371,12 +374,12 @@ module _ (k : Setting (List ℕ)) where
   returned_hand (Last a) t slot c v hand e is = is
   returned_hand (Freeing f) t slot c v hand e is = is
 
-  pub ended_hand : (g : Ground (List ℕ)) (v w : View (List ℕ)) (t slot n : ℕ) (goes_on : Bool) (c : Cell (List ℕ)) (u : View (List ℕ)) (y : At) (old new : List At) → u ≡ returned_by (tab_at v t) t slot c v
-      → old ≡ tabs_at v → y ≡ ended_here (at_of (tab_at v t)) goes_on → new ≡ set old t y → Steps g u (EndTurn t slot goes_on) n w → new ≡ tabs_at w
-  ended_hand g v w t slot n goes_on c u y old new u_is is y_is made st =
+  pub ended_hand : (g : Ground (List ℕ)) (v w : View (List ℕ)) (t slot n : ℕ) (then : Then) (c : Cell (List ℕ)) (u : View (List ℕ)) (y : At) (old new : List At) → u ≡ returned_by (tab_at v t) t slot c v
+      → old ≡ tabs_at v → y ≡ ended_here (at_of (tab_at v t)) then → new ≡ set old t y → Steps g u (EndTurn t slot then) n w → new ≡ tabs_at w
+  ended_hand g v w t slot n then c u y old new u_is is y_is made st =
       let same : tabs_at v ≡ tabs_at u = returned_hand (tab_at v t) t slot c v (tabs_at v) refl refl ∙ ap tabs_at (sym u_is) in
-      tab_set u w t (ends (tab_at u t) goes_on) y old new (ap View.tabs st.leaves) (is ∙ same)
-      (ends_at (tab_at u t) goes_on ∙ ap (λ (z : At). ended_here z goes_on) (sym (at_get u.tabs t) ∙ ap (λ (z : List At). get_or z t At.Free) (sym same) ∙ at_get v.tabs t) ∙ sym y_is) made
+      tab_set u w t (ends (tab_at u t) then) y old new (ap View.tabs st.leaves) (is ∙ same)
+      (ends_at (tab_at u t) then ∙ ap (λ (z : At). ended_here z then) (sym (at_get u.tabs t) ∙ ap (λ (z : List At). get_or z t At.Free) (sym same) ∙ at_get v.tabs t) ∙ sym y_is) made
 
   module _ {C : Type 0} (form : Form C (List ℕ)) where
     abbrev pub from_place : Option C → (t slot : ℕ) → View (List ℕ) → View (List ℕ)
@@ -388,7 +391,7 @@ module _ (k : Setting (List ℕ)) where
     from_hand (x ∷ xs) t slot v = from_place x.1 t slot v
 
     abbrev pub turn_end : Me (Option C) (List (View (List ℕ))) → Move → View (List ℕ)
-    turn_end me (EndTurn t slot goes_on) = from_hand me.1 t slot (the_view me.0)
+    turn_end me (EndTurn t slot then) = from_hand me.1 t slot (the_view me.0)
     turn_end me m = the_view me.0
 
 -- what a read gives of a cell may outlive a crash
@@ -396,8 +399,8 @@ pub now_stays : {C : Type 0} → (tells : Bool) (state : C → CellState) (c : C
 now_stays true state c h = h refl
 now_stays false state c h = (0, omega arith, refl)
 
-module _ {C : Type 0} (tells : Bool) (form : Form C (List ℕ)) (g : Ground (List ℕ)) (v : View (List ℕ)) (t slot : ℕ) (goes_on : Bool) (c : C) (h : Hold (List ℕ)) (slot_is : h.slot ≡ slot)
-    (stays : Contains (form.shows c).possible (form.shows c).now) (may : MayMake g.setting v (EndTurn t slot goes_on)) where
+module _ {C : Type 0} (tells : Bool) (form : Form C (List ℕ)) (g : Ground (List ℕ)) (v : View (List ℕ)) (t slot : ℕ) (then : Then) (c : C) (h : Hold (List ℕ)) (slot_is : h.slot ≡ slot)
+    (stays : Contains (form.shows c).possible (form.shows c).now) (may : MayMake g.setting v (EndTurn t slot then)) where
   abbrev k : Setting (List ℕ)
   k = g.setting
 
@@ -418,14 +421,20 @@ module _ {C : Type 0} (tells : Bool) (form : Form C (List ℕ)) (g : Ground (Lis
   no_turn : ◌≡◌ {A = TurnOf (List ℕ)} NoTurn (Has h) → ⊥
   no_turn e = cc
 
-  ends_so : (x : Tab (List ℕ)) → tab_at v t ≡ x → turn_of x ≡ Has h → MayReturn k x h.cell (form.shows c) → EndsFrom form g v t slot goes_on c (returned_by k x t slot (form.shows c) v)
+  -- how a tab that writes may end its turn does not depend on its cell
+  writes_so : (w x : Writer (List ℕ)) (z : Then) → EndsSo z (Writing w) → EndsSo z (Writing x)
+  writes_so w x Stays so = tt
+  writes_so w x GoesOn so = tt
+  writes_so w x Wiped so = so
+
+  ends_so : (x : Tab (List ℕ)) → tab_at v t ≡ x → turn_of x ≡ Has h → MayReturn k x h.cell (form.shows c) → EndsFrom form g v t slot then c (returned_by k x t slot (form.shows c) v)
   ends_so (Reading r) e turn back = record { becomes = inl refl; may = may; hold = h; turn = ap turn_of e ∙ turn; cell_is = back }
   ends_so (Writing w) e turn back = let held = back_hold k w slot (form.shows c) in
       let here : tab_at (with_hold v t w held) t ≡ Writing record w { turn = Has held } = get_or-set_same v.tabs t _ Free (let p = may.pass in let le = may.allowed.0 in omega arith) in record {
         becomes = inr record { tab = t; writer = w; old = h; new = held; may = may_rewrite w e turn back; is = refl };
         may = record {
           pass = length-set v.tabs t (Writing record w { turn = Has held }) ∙ may.pass;
-          allowed = (may.allowed.0, (held, ap turn_of here, refl, refl));
+          allowed = (may.allowed.0, (held, ap turn_of here, refl, refl), subst (EndsSo then) (sym here) (writes_so w record w { turn = Has held } then (subst (EndsSo then) e may.allowed.2)));
         };
         hold = held;
         turn = ap turn_of here;
@@ -436,7 +445,7 @@ module _ {C : Type 0} (tells : Bool) (form : Form C (List ℕ)) (g : Ground (Lis
   ends_so (Last a) e turn back = absurd (no_turn turn)
   ends_so (Freeing f) e turn back = absurd (no_turn turn)
 
-  pub ends_with : turn_of (tab_at v t) ≡ Has h → MayReturn k (tab_at v t) h.cell (form.shows c) → EndsFrom form g v t slot goes_on c (returned_by k (tab_at v t) t slot (form.shows c) v)
+  pub ends_with : turn_of (tab_at v t) ≡ Has h → MayReturn k (tab_at v t) h.cell (form.shows c) → EndsFrom form g v t slot then c (returned_by k (tab_at v t) t slot (form.shows c) v)
   ends_with turn back = ends_so (tab_at v t) refl turn back
 
 -- the view that the call names is that one

@@ -74,7 +74,7 @@ KeepsRoom slots (p ∷ passes) = (p.cells.items ≡ []) × (vec_len p.cells ≡ 
 -- a step that moves no cell leaves the places that the pass has out
 abbrev pub PlacesStay : {C : Type 0} → Move → List (ℕ × Option C) → List (ℕ × Option C) → Type 0
 PlacesStay (TryTurn t slot) had has = Unit {0}
-PlacesStay (EndTurn t slot goes_on) had has = Unit {0}
+PlacesStay (EndTurn t slot then) had has = Unit {0}
 PlacesStay m had has = has ≡ had
 
 -- the words that tabs left, after a step that left this one

@@ -58,7 +58,7 @@ the_view (v ∷ vs) = v
 -- the places that a seat has out after the step m, which found the word n and this in the place
 abbrev pub out_after : {C : Type 0} → List (ℕ × Option C) → Move → ℕ → Option C → List (ℕ × Option C)
 out_after out (TryTurn t slot) n y = cond (n == 0) ((slot, y) ∷ out) out
-out_after out (EndTurn t slot goes_on) n y = rest out
+out_after out (EndTurn t slot then) n y = rest out
 out_after out _ n y = out
 
 module _ {C X : Type 0} (form : Form C X) (g : Ground X) where

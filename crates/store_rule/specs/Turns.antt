@@ -7,6 +7,7 @@ use Rattle.core_model.specs.Layout.{Setting}
 use Rattle.core_model.specs.TableForms.{with_hold}
 use Rattle.core_model.specs.Tabs.{OfWriter, tab_at, turn_of}
 use Rattle.core_model.specs.declared.moves.Move.TheVariants.{EndTurn, TryTurn}
+use Rattle.core_model.specs.declared.moves.Then.{Then}
 use Rattle.core_model.specs.declared.tab.Cell.{Cell}
 use Rattle.core_model.specs.declared.tab.Hold.{Hold}
 use Rattle.core_model.specs.declared.tab.Tab.{Tab}
@@ -103,13 +104,13 @@ module _ {C O : Type 0} (tells : Bool) (state : C → CellState) (offers : O →
 
   -- With its cell back in its place, the turn was ended, which was found taken. The place is at home again, and what else the pass has at
   -- hand is as it was.
-  pub record TurnEnded (s : Store C O) (p : Pass C) (t slot : ℕ) (goes_on : Bool) (q : Pass C) : Type 0 where
+  pub record TurnEnded (s : Store C O) (p : Pass C) (t slot : ℕ) (then : Then) (q : Pass C) : Type 0 where
     pub own : IsOf tells state offers s q
     pub cell : C
     pub place : HasCell p slot cell
     pub from : View (List ℕ)
     pub returned : IsReturned (basis tells state offers s).setting (tab_at (view p) t) t slot (shown tells state cell) (view p) from
-    pub step : Steps (basis tells state offers s) from (EndTurn t slot goes_on) 1 (view q)
+    pub step : Steps (basis tells state offers s) from (EndTurn t slot then) 1 (view q)
     pub others : hand q ≡ rest (hand p)
     pub left : q.left ≡ p.left
     pub desks : q.desks ≡ p.desks

@@ -15,7 +15,7 @@ use crate::cells::{from_places, to_places};
 use crate::rule::{About, Off, Origin, Rule};
 use crate::store::{Pass, Store};
 use atomic_table::{Refused, Seat, Table};
-use core_model::{Row, View};
+use core_model::{Row, TABS, View};
 use core_table::{Opening, opening_of};
 use rebuild_model::{FoundList, Rebuilt};
 use rock_disk::Cell;
@@ -46,7 +46,7 @@ fn desks(alloc: Global, slot: u32) -> Result<Vec<Desk>, AllocError>
     ensures { IfOk result (λ ds. (vec_len ds ≡ 9) × All (λ (d : Desk). length d.buffer.items ≡ slot) ds.items) }
 {
     let mut desks = Vec::new(alloc);
-    for tab in 0..9u8 {
+    for tab in 0..TABS {
         let _ = tab;
         desks.push(new_desk(alloc, slot)?)?;
     }
@@ -57,8 +57,8 @@ fn new_hands(alloc: Global, slot: u32) -> Result<Hands, AllocError>
     ensures { IfOk result (AreHands slot) }
 {
     Ok(Hands {
-        tabs: Row::from_vec(vec![in alloc; At::Free; 9]?),
-        left: Row::from_vec(vec![in alloc; 0u64; 9]?),
+        tabs: Row::from_vec(vec![in alloc; At::Free; TABS]?),
+        left: Row::from_vec(vec![in alloc; 0u64; TABS]?),
         desks: Desks::from_vec(desks(alloc, slot)?),
     })
 }

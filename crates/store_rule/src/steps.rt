@@ -6,7 +6,7 @@ use crate::rule::Origin;
 use crate::store::{Pass, Store};
 use core_model::Move;
 use core_table::{anchor_index, counter_index};
-use lock_word::{Epoch, Stage, Word, is_idle, pack, word_of};
+use lock_word::{DOOM_BIT, Epoch, ONE_STAGE, Stage, Word, evicted_number, is_idle, pack, word_of};
 use rock_disk::Cell;
 use std::marker::Brand;
 use tab_states::{At, entered_at, evict_at, left_at, raised_at, take_at};
@@ -87,7 +87,7 @@ impl<C: Cell, O: Origin> Store<C, O> {
     {
         let at = pass.at(tab);
         let anchor = pass.anchor(tab);
-        let by = 65536 * (to.number() - pass.stage(tab));
+        let by = ONE_STAGE * (to.number() - pass.stage(tab));
         let made = Move::Raise { tab, to };
         let place = anchor_index(anchor);
         let found = self.add_as::<Brand>(&mut pass.seat, place, by, made);
@@ -107,8 +107,8 @@ impl<C: Cell, O: Origin> Store<C, O> {
         let anchor = pass.anchor(tab);
         let made = Move::Doom { tab };
         let place = anchor_index(anchor);
-        let found = self.or_as::<Brand>(&mut pass.seat, place, 524288, made);
-        word_of(found | 524288)
+        let found = self.or_as::<Brand>(&mut pass.seat, place, DOOM_BIT, made);
+        word_of(found | DOOM_BIT)
     }
 
     /// Takes an anchor for a new entry where its word is still `old`. Otherwise `Err` has the word found.
@@ -157,7 +157,7 @@ impl<C: Cell, O: Origin> Store<C, O> {
         ensures ok { OnOk result (Made C.tells C.state O.offers self.now pass.old (Evict tab anchor) old pass.new) }
         ensures err { IfErr result (λ word. Made C.tells C.state O.offers self.now pass.old (Evict tab anchor) (word_number word) pass.new × (word_number word ≢ old) × IsInRange word) }
     {
-        let freed = old + 65536 * (5 - old / 65536 % 8);
+        let freed = evicted_number(old);
         let made = Move::Evict { tab, anchor };
         let place = anchor_index(anchor);
         let found = self.exchange_as::<Brand>(&mut pass.seat, place, old, freed, made);

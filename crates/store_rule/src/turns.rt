@@ -3,13 +3,21 @@ ghost use Rattle.std.specs.Prelude.{Contains, IsTrue};
 
 use crate::rule::Origin;
 use crate::store::{Pass, Store};
-use core_model::Move;
+use core_model::{Move, Then};
 use core_table::turn_index;
 use rock_disk::Cell;
 use std::marker::Brand;
 use std::sync::Wait;
+use std::sync::atomic::AtomicU64;
 use std::thread;
+use std::time::Duration;
 use tab_states::ended_at;
+
+/// How many tries for a turn a worker makes that only yields between them.
+const QUICK_TRIES: u64 = 100;
+
+/// The tries from which on it sleeps no longer.
+const MOST_TRIES: u64 = QUICK_TRIES + 1_000;
 
 // A law of cells, for proofs: what a read gives may outlive a crash. The function does nothing.
 fn reads_may_stay<C: Cell>()
@@ -34,16 +42,25 @@ impl<C: Cell, O: Origin> Store<C, O> {
         found == 0
     }
 
-    /// Tries for the turn at the cell of a slot until the tab has it, one step each.
+    /// Tries for the turn at the cell of a slot until the tab has it, one step each. Between two tries it rests: at
+    /// first it yields, and then, the longer the wait the longer, it sleeps for up to a millisecond.
     pub fn wait_turn<R: Wait>(&self, rt: &R, pass: &mut Pass<C>, tab: u8, slot: u32)
         requires { May C.tells C.state O.offers self.now pass.old (TryTurn tab slot) }
         ensures { TurnWaited C.tells C.state O.offers self.now pass.old tab slot pass.new }
     {
+        let mut tries = 0;
         for _ in rt.forever() {
             if self.try_turn(pass, tab, slot) {
                 return;
             }
-            thread::yield_now();
+            if tries < QUICK_TRIES {
+                thread::yield_now();
+            } else {
+                // Nobody wakes it, so it sleeps until the time is over.
+                let time = Duration::from_micros(tries - QUICK_TRIES);
+                AtomicU64::new(0).park_timeout(rt, 0, time);
+            }
+            tries = MOST_TRIES.min(tries + 1);
         }
         unreachable!()
     }
@@ -76,18 +93,18 @@ impl<C: Cell, O: Origin> Store<C, O> {
         };
     }
 
-    /// A tab ends its turn, with the cell in its place. A tab that reads goes on to the next slot where
-    /// `goes_on`.
-    pub fn end_turn(&self, pass: &mut Pass<C>, tab: u8, slot: u32, goes_on: bool)
-        requires may { May C.tells C.state O.offers self.now pass.old (EndTurn tab slot goes_on) }
+    /// A tab ends its turn, with the cell in its place. A tab that reads may go on to the next slot
+    /// with it. No call of the store lets a tab say yet that it wiped one.
+    pub fn end_turn(&self, pass: &mut Pass<C>, tab: u8, slot: u32, then: Then)
+        requires may { May C.tells C.state O.offers self.now pass.old (EndTurn tab slot then) }
         requires home { HasReturned C.tells C.state O.offers self.now pass.old tab slot }
-        ensures { TurnEnded C.tells C.state O.offers self.now pass.old tab slot goes_on pass.new }
+        ensures { TurnEnded C.tells C.state O.offers self.now pass.old tab slot then pass.new }
     {
         reads_may_stay::<C>();
         let at = pass.at(tab);
-        let made = Move::EndTurn { tab, slot, goes_on };
+        let made = Move::EndTurn { tab, slot, then };
         let place = turn_index(self.anchors, slot);
         self.swap_as::<Brand>(&mut pass.seat, place, 0, made);
-        pass.tabs.set(tab as usize, ended_at(at, goes_on));
+        pass.tabs.set(tab as usize, ended_at(at, then));
     }
 }

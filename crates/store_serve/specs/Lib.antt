@@ -2,3 +2,13 @@ pub mod Adding
 pub mod Following
 pub mod Getting
 pub mod Storing
+pub mod Answers
+pub mod Tabs
+pub mod Whole
+pub mod Writing
+pub mod Reading
+pub mod Serving
+pub mod Acting
+pub mod Deeds
+pub mod Refusing
+pub mod Showing

@@ -15,6 +15,8 @@ use Rattle.core_model.specs.declared.tab.Freer.{Freer}
 use Rattle.core_model.specs.declared.tab.Tab.{Tab}
 use Rattle.core_model.specs.declared.tab.Tab.TheVariants.{Free, Retreating, Reading, Writing, Last, Freeing}
 use Rattle.core_model.specs.declared.view.View.{View}
+use Rattle.core_model.specs.declared.moves.Then.{Then}
+use Rattle.core_model.specs.declared.moves.Then.TheVariants.{GoesOn, Stays, Wiped}
 use Rattle.tab_states.specs.declared.tabs.At.{At}
 use Rattle.tab_states.specs.declared.tabs.FreeingAt.{FreeingAt}
 use Rattle.tab_states.specs.declared.tabs.ReadingAt.{ReadingAt}
@@ -175,14 +177,14 @@ loosened_tabs tabs t slot = let left = slice_set tabs 8 (loosened_here (slice_in
     cond (t == 8) left (slice_set left t (reserved_here (slice_index_or left t At.Free) slot))
 
 -- a tab that reads gave its turn back
-abbrev pub ended_here : At → Bool → At
-ended_here (At.Reading r) true = At.Reading (record r { place = r.place + 1; slot = next_slot r.found; found = NotWritten })
-ended_here at goes_on = at
+abbrev pub ended_here : At → Then → At
+ended_here (At.Reading r) GoesOn = At.Reading (record r { place = r.place + 1; slot = next_slot r.found; found = NotWritten })
+ended_here at then = at
 
 -- there is a place behind the one from which a tab that reads goes on, and behind what a tab that writes has published
-abbrev pub HasNext : At → Bool → Type 0
-HasNext (At.Reading r) true = r.place < 4294967295
-HasNext at goes_on = Unit {0}
+abbrev pub HasNext : At → Then → Type 0
+HasNext (At.Reading r) GoesOn = r.place < 4294967295
+HasNext at then = Unit {0}
 
 abbrev pub HasPlace : At → Type 0
 HasPlace (At.Writing w) = w.published < 4294967295

@@ -4,8 +4,8 @@ ghost use Rattle.tab_states.specs.declared.tabs.At.{At};
 ghost use Rattle.core_model.specs.CellMoves;
 ghost use Rattle.tab_states.specs.Tabs.{HasLoose, HasLooseRoom, HasNext, HasNumber, HasPlace, ended_here, followed_here, freed_here, given_back_here, loaded_here, loosened_here, loosened_tabs, published_here, reserved_here};
 
-use crate::tabs::{At, FreeingAt, ReadingAt, WritingAt};
-use core_model::{Row, Side};
+use crate::tabs::{At, FreeingAt, INNER, ReadingAt, WritingAt};
+use core_model::{INNER_TAB, Row, Side, Then};
 use link_word::Link;
 
 /// What a tab is at that loaded a word beside its anchor. A tab that reads learns from the start where it
@@ -69,18 +69,18 @@ pub fn followed_at(at: At, found: Link) -> At
 }
 
 /// What a tab is at that gave a turn back. One that reads may go on to the next slot.
-pub fn ended_at(at: At, goes_on: bool) -> At
-    requires { HasNext at goes_on }
-    ensures { result ≡ ended_here at goes_on }
+pub fn ended_at(at: At, then: Then) -> At
+    requires { HasNext at then }
+    ensures { result ≡ ended_here at then }
 {
-    match at {
-        At::Reading(reading) if goes_on => At::Reading(ReadingAt {
+    match (at, then) {
+        (At::Reading(reading), Then::GoesOn) => At::Reading(ReadingAt {
             place: reading.place + 1,
             slot: next_slot(reading.found),
             found: Link::NotWritten,
             ..reading
         }),
-        at => at,
+        (at, _) => at,
     }
 }
 
@@ -138,9 +138,9 @@ pub fn loosen_at(tabs: &mut Row<At>, tab: u8, slot: u32)
     requires room { HasLooseRoom (slice_index_or tabs.old 8 At.Free) }
     ensures { tabs.new ≡ loosened_tabs tabs.old tab slot }
 {
-    let is_loose = tab == 8;
-    let inner = tabs.as_slice()[8];
-    tabs.set(8, loosened_at(inner, is_loose));
+    let is_loose = tab == INNER_TAB;
+    let inner = tabs.as_slice()[INNER];
+    tabs.set(INNER, loosened_at(inner, is_loose));
     if !is_loose {
         let at = tabs.as_slice()[tab as usize];
         tabs.set(tab as usize, reserved_at(at, slot));

@@ -1,4 +1,5 @@
 pub mod Answering
+mod Backwards
 pub mod Going
 pub mod Stopping
 pub mod Places

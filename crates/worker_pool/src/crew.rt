@@ -84,8 +84,29 @@ pub(crate) fn hire<H: Shelf>(
     }
 }
 
-/// Lets all workers serve, each on a thread.
+/// Lets all workers serve, each on a thread. Where the system gives no thread to some of them, one thread serves
+/// several, the lower numbers first: so a worker that waits for one with a lower number does not keep it waiting.
 pub(crate) fn serve_all<R: Threads + Wait + Sync, H: Shelf + Send, G: Gate + Sync>(
+    rt: &R,
+    alloc: Global,
+    marks: &Marks<H::N, Of<H>>,
+    lines: &[Line],
+    workers: &mut [Worker<H>],
+    gate: &G,
+)
+    requires count { 0 < length workers.old }
+    requires marks { HasMarks lines.now }
+    requires begin { (w : ℕ) (x : _) → At workers.old w x → Begins H.Shelf marks.now lines.now x }
+    ensures { AreEnded H.Shelf marks.now lines.now workers.old workers.new }
+{
+    workers.reverse();
+    serve_backwards(rt, alloc, marks, lines, workers, gate);
+    workers.reverse();
+}
+
+// Lets all workers serve, each on a thread. A thread that serves several begins with the last one of them: of two halves it
+// takes the first one last, where no thread is given to it.
+fn serve_backwards<R: Threads + Wait + Sync, H: Shelf + Send, G: Gate + Sync>(
     rt: &R,
     alloc: Global,
     marks: &Marks<H::N, Of<H>>,

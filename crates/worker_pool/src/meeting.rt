@@ -11,7 +11,9 @@ use crate::notes::Of;
 use marks::{MarkSeat, Marks};
 use script_text::Shelf;
 use std::sync::Wait;
+use std::sync::atomic::AtomicU64;
 use std::thread;
+use std::time::Duration;
 
 /// Sets a mark to a note of the shelf.
 pub(crate) fn set_mark<H: Shelf>(
@@ -44,13 +46,33 @@ fn wait_for<R: Wait, H: Shelf>(
     ensures met { (was : H.N) × (view seat.new ≡ after_met mark was result (view seat.old)) × Knows H.note_knows was result }
     ensures home { H.note_home result ≡ H.home (key marks.now) }
 {
+    let mut looks = 0;
     for _ in rt.forever() {
         if let Some(note) = marks.look(seat, mark) {
             return note;
         }
-        thread::yield_now();
+        rest(rt, looks);
+        looks = MOST_LOOKS.min(looks + 1);
     }
     unreachable!()
+}
+
+/// How many looks a worker makes that only yields between them.
+const QUICK_LOOKS: u64 = 100;
+
+/// The looks from which on it sleeps no longer.
+const MOST_LOOKS: u64 = QUICK_LOOKS + 1_000;
+
+// Rests after so many looks: at first for others that want the processor, and then, the longer the wait the longer, for up to
+// a millisecond.
+fn rest<R: Wait>(rt: &R, looks: u64) {
+    if looks < QUICK_LOOKS {
+        thread::yield_now();
+        return;
+    }
+    let micros = looks.min(MOST_LOOKS) - QUICK_LOOKS;
+    // Nobody wakes it, so it sleeps until the time is over.
+    AtomicU64::new(0).park_timeout(rt, 0, Duration::from_micros(micros));
 }
 
 /// Waits for a mark, learns the note that lies there, and leaves a new one.

@@ -11,10 +11,10 @@ use Rattle.store_rule.specs.declared.store.Store.{Store}
 use Rattle.store_rule.specs.Closing.{IsResting}
 use Rattle.store_rule.specs.Ground.{Offers}
 use Rattle.store_rule.specs.Passes.{IsOf, basis, view}
-use Rattle.serve_lines.specs.Tabs.{Holds}
-use Rattle.serve_lines.specs.Whole.{whole_tab}
-use Rattle.serve_lines.specs.declared.tabs.ScriptTab.{ScriptTab}
-use Rattle.serve_lines.specs.declared.tabs.ScriptTab.TheVariants.{Free}
+use Rattle.store_serve.specs.Tabs.{Holds}
+use Rattle.store_serve.specs.Whole.{whole_tab}
+use Rattle.store_serve.specs.declared.tabs.ScriptTab.{ScriptTab}
+use Rattle.store_serve.specs.declared.tabs.ScriptTab.TheVariants.{Free}
 use Rattle.worker_shelf.specs.Shelves.{HasShelf, KeepsCells, kept_at}
 
 of_all : {A : Type 0} (n i : ℕ) (x : A) → slice_index_or (replicate n x) i x ≡ x

@@ -5,9 +5,9 @@ use Rattle.store_rule.specs.declared.store.Pass.{Pass}
 use Rattle.store_rule.specs.declared.store.Store.{Store}
 use Rattle.store_rule.specs.Ground.{Offers}
 use Rattle.script_text.specs.declared.answer.Answer.{Answer}
-use Rattle.serve_lines.specs.Reading.{Closes, ClosesOn}
-use Rattle.serve_lines.specs.Tabs.{IsReading, IsTurnedAway, IsWriting, Leaves}
-use Rattle.serve_lines.specs.Writing.{Drops, DropsOn}
+use Rattle.store_serve.specs.Reading.{Closes, ClosesOn}
+use Rattle.store_serve.specs.Tabs.{IsReading, IsTurnedAway, IsWriting, Leaves}
+use Rattle.store_serve.specs.Writing.{Drops, DropsOn}
 use Rattle.worker_shelf.specs.Shelves.{LeftBelow, LeftTab}
 
 module _ {C O : Type 0} (tells : Bool) (state : C → CellState) (offers : O → Offers) (s : Store C O) (t : ℕ) (p q : Pass C) (a : Answer) where

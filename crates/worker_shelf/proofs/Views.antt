@@ -12,7 +12,7 @@ use Rattle.core_model.specs.Tabs.{inner, is_free, tab_at}
 use Rattle.core_model.specs.declared.view.Item.{Item}
 use Rattle.core_model.specs.declared.view.Sight.{Sight}
 use Rattle.core_model.specs.declared.view.View.{View}
-use Rattle.line_account.specs.Courses.{Keeps as Knows}
+use Rattle.core_model.specs.Knowing.{KnowsAll as Knows}
 use Rattle.tab_states.specs.declared.desks.Desk.{Desk}
 use Rattle.store_rule.specs.declared.store.Pass.{Pass}
 use Rattle.store_rule.specs.declared.store.Store.{Store}
@@ -20,10 +20,10 @@ use Rattle.tab_states.specs.Desks.{buffer_at, draft_at}
 use Rattle.store_rule.specs.Ground.{Offers}
 use Rattle.store_rule.specs.Notes.{sees}
 use Rattle.store_rule.specs.Passes.{Keeps, basis, hand, view}
-use Rattle.serve_lines.specs.Serving.{Takes}
-use Rattle.serve_lines.specs.Tabs.{IsFree, IsReady, Leaves}
-use Rattle.serve_lines.specs.Whole.{whole_tab}
-use Rattle.serve_lines.specs.declared.tabs.ScriptTab.{ScriptTab}
+use Rattle.store_serve.specs.Serving.{Takes}
+use Rattle.store_serve.specs.Tabs.{IsFree, IsReady, Leaves}
+use Rattle.store_serve.specs.Whole.{whole_tab}
+use Rattle.store_serve.specs.declared.tabs.ScriptTab.{ScriptTab}
 use Rattle.worker_shelf.specs.Shelves.{AllFree, AllHold, HasShelf, KeepsCells, Left, LeftBelow, OnShelf}
 use Rattle.worker_shelf.proofs.Holding.{Stays, all_hold_whole}
 

@@ -1,2 +1,4 @@
 pub mod Shelves
 pub mod Typed
+pub mod Playing
+pub mod Taking

@@ -11,13 +11,13 @@ use Rattle.store_rule.specs.Ground.{Offers}
 use Rattle.store_rule.specs.Notes.{learning, noting}
 use Rattle.store_rule.specs.Passes.{IsNoteOf, Keeps, KeepsRoom, basis, hand, note_seen, view}
 use Rattle.store_rule.specs.declared.store.Note.{Note}
-use Rattle.rock_reader.specs.Closing.{Parted}
-use Rattle.rock_writer.specs.Halting.{Halts}
-use Rattle.serve_lines.specs.Serving.{Serves}
-use Rattle.serve_lines.specs.Tabs.{Holds, IsFree, IsReading, IsReady, IsWriting, Leaves}
-use Rattle.serve_lines.specs.Whole.{whole_tab}
-use Rattle.serve_lines.specs.declared.tabs.ScriptTab.{ScriptTab}
-use Rattle.serve_lines.specs.declared.tabs.ScriptTab.TheVariants.{Free}
+use Rattle.store_serve.specs.Reading.{Parted}
+use Rattle.store_serve.specs.Serving.{Serves}
+use Rattle.store_serve.specs.Tabs.{Holds, IsFree, IsReading, IsReady, IsWriting, Leaves}
+use Rattle.store_serve.specs.Whole.{whole_tab}
+use Rattle.store_serve.specs.Writing.{Halts}
+use Rattle.store_serve.specs.declared.tabs.ScriptTab.{ScriptTab}
+use Rattle.store_serve.specs.declared.tabs.ScriptTab.TheVariants.{Free}
 use Rattle.worker_shelf.specs.declared.shelf.ShelfRoom.{ShelfRoom}
 use Rattle.worker_shelf.specs.Typed.{IsTyped}
 

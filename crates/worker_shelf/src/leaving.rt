@@ -1,16 +1,15 @@
 // All tabs of the script are left.
 ghost use Rattle.std.specs.Prelude.{◌<◌, ◌≡◌, ℕ};
-ghost use Rattle.line_account.specs.Courses.{Keeps};
+ghost use Rattle.core_model.specs.Knowing.{KnowsAll};
 ghost use Rattle.store_rule.specs.Passes.{hand, view};
-ghost use Rattle.serve_lines.specs.Tabs.{Holds, IsFree, IsReady};
-ghost use Rattle.serve_lines.specs.Whole.{whole_tab};
+ghost use Rattle.store_serve.specs.Tabs.{Holds, IsFree, IsReady};
+ghost use Rattle.store_serve.specs.Whole.{whole_tab};
 ghost use Rattle.worker_shelf.specs.Shelves.{AllHold, LeftBelow, LeftTab};
 
 use rock_disk::Cell;
-use rock_writer::abort;
-use serve_lines::{ScriptTab, WHOLE_TAB, close_tab, drop_tab, requests_keep_other_tabs};
 use std::mem;
 use store_rule::{Origin, Pass, Store};
+use store_serve::{ScriptTab, WHOLE_TAB, close_tab, drop_tab, requests_keep_other_tabs};
 
 /// Closes each tab of the script that reads, and gives up what each one that writes has written, in order of tabs.
 pub(crate) fn leave_tabs<C: Cell, O: Origin>(
@@ -22,7 +21,7 @@ pub(crate) fn leave_tabs<C: Cell, O: Origin>(
     ensures left { LeftBelow C.tells C.state O.offers store.now whole_tab pass.old pass.new }
     ensures holds { AllHold C.tells C.state O.offers store.now pass.new tabs.new }
     ensures free { (tab : ℕ) → tab < whole_tab → IsFree pass.new tab }
-    ensures keeps { Keeps (view pass.old) (view pass.new) }
+    ensures keeps { KnowsAll (view pass.old) (view pass.new) }
     ensures places { hand pass.new ≡ hand pass.old }
     ensures cells { pass.new.cells ≡ pass.old.cells }
 {

@@ -2,26 +2,26 @@
 ghost use Rattle.std.specs.Prelude.{IfOk, OnErr, length, ◌+◌, ◌<◌, ◌≡◌, ◌≤◌, ℕ};
 ghost use Rattle.slot_cell.specs.declared.header.TheConstants.{HEADER_SIZE};
 ghost use Rattle.script_text.specs.Tabs.{UsesTab};
-ghost use Rattle.line_account.specs.Courses.{Keeps};
+ghost use Rattle.core_model.specs.Knowing.{KnowsAll};
 ghost use Rattle.store_rule.specs.Passes.{basis, hand, view};
-ghost use Rattle.serve_lines.specs.Answers.{TellsFaults};
-ghost use Rattle.serve_lines.specs.Serving.{Serves, ServesRequest, Takes, offer_of};
-ghost use Rattle.serve_lines.specs.Tabs.{Holds, IsFree, IsReady, Leaves};
-ghost use Rattle.serve_lines.specs.Whole.{whole_tab};
+ghost use Rattle.store_serve.specs.Answers.{TellsFaults};
+ghost use Rattle.store_serve.specs.Serving.{Serves, ServesRequest, Takes, offer_of};
+ghost use Rattle.store_serve.specs.Tabs.{Holds, IsFree, IsReady, Leaves};
+ghost use Rattle.store_serve.specs.Whole.{whole_tab};
 ghost use Rattle.worker_shelf.specs.Shelves.{AllHold};
 ghost use Rattle.worker_shelf.specs.Typed.{IsTyped};
 
 use rock_disk::{Cell, Station};
 use rock_io::Memory;
 use script_text::{Answer, Line, Request};
-use serve_lines::{
-    ScriptTab, Told, add_to_tab, begin_on_tab, close_tab, drop_tab, end_tab, get_whole, open_tab,
-    purge_url, put_whole, read_more, requests_keep_other_tabs,
-};
 use std::alloc::Global;
 use std::mem;
 use std::sync::Wait;
 use store_rule::{Origin, Pass, Store};
+use store_serve::{
+    ScriptTab, Told, add_to_tab, begin_on_tab, close_tab, drop_tab, end_tab, get_whole, open_tab,
+    purge_url, put_whole, read_more, requests_keep_other_tabs,
+};
 
 /// Serves a line. `piece` has room for what a slot may add to a body.
 ///
@@ -44,7 +44,7 @@ pub(crate) fn serve_line<R: Wait, C: Cell, O: Origin, St: Station<C = C>>(
     ensures served { IfOk result (λ answer. Serves C.tells C.state O.offers store.now line.now pass.old answer pass.new (St.faults station.old) (St.faults station.new)) }
     ensures holds { AllHold C.tells C.state O.offers store.now pass.new tabs.new }
     ensures free { OnErr result ((tab : ℕ) → UsesTab line.now.request tab → IsFree pass.new tab) }
-    ensures keeps { Keeps (view pass.old) (view pass.new) }
+    ensures keeps { KnowsAll (view pass.old) (view pass.new) }
     ensures places { hand pass.new ≡ hand pass.old }
     ensures cells { pass.new.cells ≡ pass.old.cells }
     ensures length { length piece.new ≡ length piece.old }

@@ -6,13 +6,13 @@ use crate::serving::{serve_line, with_types};
 use rock_disk::{Cell, Station};
 use rock_io::Memory;
 use script_text::{Answer, Line, Shelf};
-use serve_lines::{ScriptTab, requests_keep_other_tabs};
 use slot_cell::HEADER_SIZE;
 use std::alloc::Global;
 use std::marker::Model;
 use std::snapshot::Snapshot;
 use std::sync::Wait;
 use store_rule::{Note, Origin, Pass, Store};
+use store_serve::{ScriptTab, requests_keep_other_tabs};
 
 /// What one worker serves its lines on: its pass of the store, its station, and what is kept of the script's tabs.
 /// Whole requests use tab 7, those of a script tabs 0 to 6. The offer of a line is its number, behind the slots. A shelf
@@ -148,7 +148,7 @@ impl<'a, C: Cell + Send, O: Origin, St: Station<C = C>> Shelf for WorkerShelf<'a
     ghost use Rattle.core_model.specs.declared.view.Sight.{Sight};
     ghost use Rattle.store_rule.specs.Passes.{note_seen, view};
     ghost use Rattle.store_rule.specs.declared.store.Store.{Store};
-    ghost use Rattle.serve_lines.specs.Serving.{Takes};
+    ghost use Rattle.store_serve.specs.Serving.{Takes};
     ghost use Rattle.worker_shelf.specs.Shelves.{HasFree, Learned, Left, Noted, Went};
 
     /// What the pass of a shelf had seen, and the store that it is of. Contracts alone read the store, so it takes no memory.

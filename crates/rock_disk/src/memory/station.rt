@@ -1,4 +1,4 @@
-ghost use Rattle.std.specs.Prelude.{◌≡◌, ◌≤◌, length, IsErr, OnOk, OnErr, ◌↔◌};
+ghost use Rattle.std.specs.Prelude.{◌≡◌, ◌≤◌, length, true, IsErr, OnOk, OnErr, ◌↔◌};
 ghost use Rattle.rock_io.specs.Faults.{one_more, Rose};
 ghost use Rattle.rock_io.specs.Plan.{planned, called, FailsNext};
 
@@ -53,6 +53,10 @@ impl Station for MemStation {
     type C = MemCell;
 
     ghost faults = { station_faults };
+
+    ghost counts = { true };
+
+    ghost calls = { λ station. (station_plan station).number };
 
     fn read(&mut self, cell: &mut MemCell, buf: &mut [u8]) -> Result<(), Failed>
         requires { length buf.old ≡ (cell_state cell.old).width }

@@ -1,6 +1,6 @@
 use Rattle.std.proofs.Common.{ap, subst, sym, ◌+◌, ◌-◌, ◌^◌, ◌∙◌, ◌≤◌}
 use Rattle.std.specs.Prelude.{min}
-use Rattle.crew_accounts.specs.Playing.{fault_answers}
+use Rattle.worker_shelf.specs.Playing.{fault_answers}
 use Rattle.crew_accounts.proofs.Faults.{risen, stays}
 use Rattle.crew_accounts.proofs.closed.faults_are_counted.Goals as goal
 

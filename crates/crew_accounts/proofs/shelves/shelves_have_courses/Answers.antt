@@ -1,7 +1,7 @@
 use Rattle.std.proofs.Common.{subst}
 use Rattle.line_account.specs.Courses.{lines_in}
 use Rattle.store_rule.specs.declared.store.Store.{Store}
-use Rattle.serve_lines.specs.Whole.{whole_tab}
+use Rattle.store_serve.specs.Whole.{whole_tab}
 use Rattle.worker_shelf.specs.Shelves.{LeftBelow}
 use Rattle.crew_accounts.proofs.Going.{from_start}
 use Rattle.crew_accounts.proofs.shelves.shelves_have_courses.Goals as goal

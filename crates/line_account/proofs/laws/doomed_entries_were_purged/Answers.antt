@@ -1,5 +1,5 @@
 use Rattle.line_account.proofs.Versions.{doomed_line, purged_by}
-use Rattle.line_account.proofs.Printing.{purged_told}
+use Rattle.line_account.proofs.Printing.{purged_stage, purged_told}
 use Rattle.line_account.proofs.laws.doomed_entries_were_purged.Goals as goal
 
 pub returns-clause-epoch : goal.returns-clause-epoch
@@ -10,3 +10,6 @@ returns-clause-line c start r crew a x closed p = doomed_line r crew closed a x 
 
 pub returns-clause-purged : goal.returns-clause-purged
 returns-clause-purged c start r crew e closed p = purged_told r crew closed e p
+
+pub returns-clause-stage : goal.returns-clause-stage
+returns-clause-stage c start r crew e closed p = purged_stage r crew closed e p

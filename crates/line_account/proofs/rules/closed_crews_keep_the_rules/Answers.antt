@@ -18,6 +18,7 @@ returns g c r script crew closed serves have = record {
     short = λ url body p long. c.refusals_have_causes.ensures.short r crew url body closed p long;
     added = λ first url body tab asked count p o. c.added_counts_are_exact.ensures r crew first url body tab asked count closed p o;
     ended = λ version x p. c.ends_tell_the_version_begun.ensures r crew version x closed p;
+    opened = λ x p. c.entries_found_were_there.ensures.opened r crew x closed p;
     part = λ epoch bytes p. c.refusals_have_causes.ensures.part r crew epoch bytes closed p;
     busy = λ looked other p. c.refusals_have_causes.ensures.busy r crew looked other closed p;
     readers = λ a p. c.more_readers_come_from_others.ensures r crew a closed p;
@@ -29,13 +30,16 @@ returns g c r script crew closed serves have = record {
   bodies = λ tells. record {
     hit_old = λ a x url bytes p low. c.hits_are_of_lines.ensures.old r crew a x url bytes closed tells p low;
     hit_new = λ a x url bytes p high. c.hit_versions_were_printed.ensures.body r crew a x url bytes closed tells p high;
-    hit_kept = λ a x url bytes p high q. c.hits_were_not_given_up.ensures r crew a x url bytes closed tells p high q;
+    finished = λ a x p high. c.entries_given_whole_were_finished.ensures.finished r crew a x closed tells p high;
+    not_halted = λ a x p high q. c.entries_given_whole_were_finished.ensures.kept r crew a x closed tells p high q;
     bytes = λ first url p. c.bytes_are_of_lines.ensures r crew first url closed tells p;
   };
   keys = record {
     old = λ a epoch key url p low is. c.keys_are_of_lines.ensures.old r crew a epoch key url closed p low is;
     kept = λ a epoch key p low. c.keys_are_of_lines.ensures.kept r crew a epoch key closed p low;
     new = λ a epoch key p high. c.keys_are_of_lines.ensures.new r crew a epoch key closed p high;
+    found_old = λ a x url kept p low is. c.entries_found_were_there.ensures.old r crew a x url kept closed p low is;
+    found_new = λ a x url p high. c.entries_found_were_there.ensures.new r crew a x url closed p high;
   };
   versions = record {
     printed = λ a x p. c.versions_are_begun_by_one_line.ensures.printed r.setting.anchors p.line_of.line a x p.line_of.so;
@@ -52,13 +56,14 @@ returns g c r script crew closed serves have = record {
     new = λ a e p high. c.epochs_have_versions.ensures.new r crew a e closed p high;
     alone_old = λ a x p low. c.versions_printed_alone_are_known.ensures.old r crew a x closed p low;
     alone_new = λ a x p high. c.versions_printed_alone_are_known.ensures.new r crew a x closed p high;
-    opened_old = λ a x p low. c.versions_opened_were_there.ensures r crew a x closed p low;
+    found_old = λ a x url p low. c.entries_found_were_there.ensures.there r crew a x url closed p low;
     stored = λ a e p high undoomed at. c.entries_are_stored_by_lines.ensures r crew a e closed p high undoomed at;
     halted = λ a e p at. c.halted_entries_were_given_up.ensures.epoch r crew a e closed p at;
     halted_line = λ a p. c.halted_entries_were_given_up.ensures.line r crew a closed p;
     doomed = λ a e p is. c.doomed_entries_were_purged.ensures.epoch r crew a e closed p is;
     doomed_line = λ a x p. c.doomed_entries_were_purged.ensures.line r crew a x closed p;
     purged = λ e p. c.doomed_entries_were_purged.ensures.purged r crew e closed p;
+    purged_stage = λ e p. c.doomed_entries_were_purged.ensures.stage r crew e closed p;
     given_back = λ a e p undoomed at. c.entries_are_given_back_by_lines.ensures r crew a e closed p undoomed at;
   };
   order = record {
@@ -83,6 +88,13 @@ returns g c r script crew closed serves have = record {
         h.line.stage h.met.stage h.setter.stage h.other.stage a e course.is.course others.is.course
         (at_work r.setting.anchors course.stages t before a h.line work) h.met.stands h.hands h.setter.stands (at_work r.setting.anchors h.setter.before s earlier a h.other was)
         (of_stage (λ earlier x. Contains (counts_as x.answer) e) h.setter.before s earlier h.other counts));
+  };
+  tabs = record {
+    part = λ a x epoch p. c.tabs_stay_at_their_entries.ensures.part r crew a x epoch closed p;
+    halted = λ a x p. c.tabs_stay_at_their_entries.ensures.halted r crew a x closed p;
+    old = λ tells a x p low. c.tabs_stay_at_their_entries.ensures.old r crew a x closed tells p low;
+    new = λ tells a x p high. c.tabs_stay_at_their_entries.ensures.new r crew a x closed tells p high;
+    behind_end = λ tells tab p. c.tabs_stay_at_their_entries.ensures.behind_end r crew tab closed tells p;
   };
   parts = λ tells. record {
     added_own = λ j w t s before earlier x slots url at behind part adds.

@@ -4,7 +4,7 @@ use Rattle.std.proofs.lemmas.List.{length-drop, get_or_default}
 use Rattle.rebuild_model.specs.Image.{image_at}
 use Rattle.rebuild_model.specs.Entry.{content_of, IsChain}
 use Rattle.rebuild_model.specs.Plain.{IsWhole, size_at}
-use Rattle.rebuild_model.proofs.Alone.{first_belongs}
+use Rattle.rebuild_model.proofs.Chains.{first_belongs}
 use Rattle.plain_rebuild.proofs.Completing.{at_some, at_none, retold, its_chain, few, is_whole, is_named, complete, entry_of}
 use Rattle.rebuild_model.proofs.Lengths.{content_length}
 use Rattle.plain_rebuild.proofs.plain.entry_at.Goals as goal

@@ -1,8 +1,6 @@
 use Rattle.std.proofs.Common.{◌≡◌, IsTrue, None, ap, inl, inr, refl, subst, ◌++◌, ◌∙◌}
-use Rattle.std.specs.FinMap.{get}
 use Rattle.rock_io.specs.Faults.{Rose}
-use Rattle.rock_disk.specs.File.{IsKept, IsThere}
-use Rattle.rock_disk.specs.Opened.{IsSmall}
+use Rattle.rock_disk.specs.File.{IsThere}
 use Rattle.db_layout.specs.Layout.{IsSlotSize}
 use Rattle.std.specs.Prelude.{List, MatchOption, Option, ℕ}
 use Rattle.rock_commands.specs.Command.{IsCommand}
@@ -12,21 +10,25 @@ use Rattle.rock_open.specs.Device.{counts}
 use Rattle.run_command.specs.Ends.{RunEnds, RunsOrLacksMemory}
 use Rattle.run_command.specs.Leaves.{RunLeaves}
 use Rattle.run_command.specs.Prints.{IsRunText, RunPrints}
+use Rattle.run_command.specs.Standing.{RunStands}
 use Rattle.run_command.specs.Says.{IsRunRefused, MayRun, RunSays}
 use Rattle.workload.specs.Script.{bench_lines}
 use Rattle.bench_command.specs.Ends.{BenchEnds, BenchSays, IsBenchRefused}
 use Rattle.bench_command.specs.Leaves.{BenchLeaves}
 use Rattle.bench_command.specs.Numbers.{MayBench}
 use Rattle.bench_command.specs.Prints.{IsBenchText}
-use Rattle.file_commands.specs.Create.{IsSlotCount, IsGeometry, CreateEnds, CreateSays, CreateLeaves}
+use Rattle.file_commands.specs.Create.{IsSlotCount, IsGeometry, IsHalfMade, CreateEnds, CreateSays, CreateLeaves}
 use Rattle.file_commands.specs.Listing.{Lists}
 use Rattle.file_commands.specs.Summary.{Sums}
-use Rattle.file_commands.specs.Report.{AnyCount, IsAnchors, OfFile, HasSlots, ReportEnds, ReportSays, ReportPrints, ReportsOrLacksMemory}
+use Rattle.file_commands.specs.Report.{AnyCount, IsAnchors, IsRefused, IsUnfit, OfFileFor, ReportEnds, ReportSays, ReportPrints, ReportsOrLacksMemory}
 use Rattle.rock_status.specs.declared.status.Status.TheVariants as status
 use Rattle.script_text.specs.Script.{IsScript}
-use Rattle.rock_commands.proofs.CommandFacts.{of_each, of_each_bench, of_each_check, of_each_create, of_each_run}
-use Rattle.rock_commands.proofs.CreateFacts.{complete_create, home_when_left}
-use Rattle.rock_commands.proofs.ReportFacts.{complete, none_ended, unfit}
+use Rattle.slot_finding.specs.Finding.{IsKeptFor, WithSlot}
+use Rattle.file_commands.proofs.Recorded.{report_given}
+use Rattle.run_command.proofs.Recorded.{run_given}
+use Rattle.rock_commands.proofs.CommandFacts.{list_is_no_bench, list_is_no_check, list_is_no_create, list_is_no_run, of_each, of_each_bench, of_each_check, of_each_create, of_each_run}
+use Rattle.rock_commands.proofs.CreateFacts.{complete_create}
+use Rattle.rock_commands.proofs.ReportFacts.{bytes_when_kept, complete, home_when_kept, none_ended}
 use Rattle.rock_commands.proofs.top_call.rock.Goals as goal
 
 -- words that were not read are no command line
@@ -34,83 +36,107 @@ not_read : {words : List (List ℕ)} {o : Option Command} → o ≡ None → Mat
 not_read {words = words} is read = subst (λ r. MatchOption r (IsCommandLine words → ⊥) (IsCommand words)) is read
 
 pub returns-in-List-clause-list_ends : goal.returns-in-List-clause-list_ends
-returns-in-List-clause-list_ends g c name slot asked =
-    of_each c.args.words.now (λ n s. ReportEnds AnyCount s (g.K.Sink.faults c.args.out.now) (g.K.Sink.faults c.print_report.new.out) (g.V.Volume.faults c.args.volume.now) (g.V.Volume.faults c.print_report.new.volume) (g.V.Volume.ended c.args.volume.now) (g.V.Volume.ended c.print_report.new.volume) c.print_report.result) name slot (subst (IsCommand c.args.words.now) c.in-List.is c.in-Some.ensures) asked c.print_report.ensures.ends
+returns-in-List-clause-list_ends g c name given asked =
+    of_each c.args.words.now (λ n s. ReportEnds AnyCount s (g.K.Sink.faults c.args.out.now) (g.K.Sink.faults c.print_report.new.out) (g.V.Volume.faults c.args.volume.now) (g.V.Volume.faults c.print_report.new.volume) (g.V.Volume.ended c.args.volume.now) (g.V.Volume.ended c.print_report.new.volume) c.print_report.result) name given (subst (IsCommand c.args.words.now) c.in-List.is c.in-Some.ensures) asked c.print_report.ensures.ends
 
 pub returns-in-List-clause-list_says : goal.returns-in-List-clause-list_says
-returns-in-List-clause-list_says g c name slot asked t =
-    of_each c.args.words.now (λ n s. ReportSays AnyCount (g.V.Volume.files c.args.volume.now) n s c.print_report.result) name slot (subst (IsCommand c.args.words.now) c.in-List.is c.in-Some.ensures) asked (c.print_report.ensures.says t)
+returns-in-List-clause-list_says g c name given asked t =
+    of_each c.args.words.now (λ n s. ReportSays AnyCount (g.V.Volume.files c.args.volume.now) n s c.print_report.result) name given (subst (IsCommand c.args.words.now) c.in-List.is c.in-Some.ensures) asked (c.print_report.ensures.says t)
 
 pub returns-in-List-clause-list_refused : goal.returns-in-List-clause-list_refused
-returns-in-List-clause-list_refused g c name slot asked =
-    let ends = returns-in-List-clause-list_ends g c name slot asked in
-    record {
-      geometry = of_each c.args.words.now (λ n s. ¬ IsSlotSize s → c.print_report.result ≡ status.BadGeometry 1) name slot (subst (IsCommand c.args.words.now) c.in-List.is c.in-Some.ensures) asked c.print_report.ensures.refused;
-      missing = λ t. of_each c.args.words.now (λ n s. IsSlotSize s → get (g.V.Volume.files c.args.volume.now) n ≡ None → c.print_report.result ≡ status.Missing) name slot (subst (IsCommand c.args.words.now) c.in-List.is c.in-Some.ensures) asked (c.print_report.ensures.missing t);
-      small = λ bytes t sized. of_each c.args.words.now (λ n s. IsSlotSize s → IsSmall (g.V.Volume.files c.args.volume.now) n s bytes → c.print_report.result ≡ status.Small bytes) name slot (subst (IsCommand c.args.words.now) c.in-List.is c.in-Some.ensures) asked (λ is. c.print_report.ensures.small t is bytes) sized;
-      unfit = λ slots t sized has not. unfit AnyCount (g.V.Volume.files c.args.volume.now) name slot _ _ _ _ _ _ c.print_report.result slots ends (returns-in-List-clause-list_says g c name slot asked t) has not sized;
-    }
+returns-in-List-clause-list_refused g c name given asked =
+    of_each c.args.words.now (λ n s. IsRefused g.V.Volume.tells AnyCount (g.V.Volume.files c.args.volume.now) n s c.print_report.result) name given (subst (IsCommand c.args.words.now) c.in-List.is c.in-Some.ensures) asked c.print_report.ensures.refused
 
 pub returns-in-List-clause-list_complete : goal.returns-in-List-clause-list_complete
-returns-in-List-clause-list_complete g c name slot asked t may none =
-    complete AnyCount (g.V.Volume.files c.args.volume.now) name slot _ _ _ _ _ _ c.print_report.result (returns-in-List-clause-list_ends g c name slot asked) (returns-in-List-clause-list_says g c name slot asked t) may none
+returns-in-List-clause-list_complete g c name given asked t may none =
+    complete AnyCount (g.V.Volume.files c.args.volume.now) name given _ _ _ _ _ _ c.print_report.result (returns-in-List-clause-list_ends g c name given asked) (returns-in-List-clause-list_says g c name given asked t) may none
 
 pub returns-in-List-clause-list_prints : goal.returns-in-List-clause-list_prints
-returns-in-List-clause-list_prints g c name slot asked k =
-    of_each c.args.words.now (λ n s. ReportPrints (λ text. IsTrue g.V.Volume.tells → OfFile (Lists s) (g.V.Volume.files c.args.volume.now) n s text) (g.K.Sink.taken c.args.out.now) (g.K.Sink.taken c.print_report.new.out) c.print_report.result)
-    name slot (subst (IsCommand c.args.words.now) c.in-List.is c.in-Some.ensures) asked (c.print_report.ensures.prints k)
+returns-in-List-clause-list_prints g c name given asked k =
+    of_each c.args.words.now (λ n s. ReportPrints (λ text. IsTrue g.V.Volume.tells → OfFileFor Lists (g.V.Volume.files c.args.volume.now) n s text) (g.K.Sink.taken c.args.out.now) (g.K.Sink.taken c.print_report.new.out) c.print_report.result)
+    name given (subst (IsCommand c.args.words.now) c.in-List.is c.in-Some.ensures) asked (c.print_report.ensures.prints k)
 
 pub returns-in-List-clause-list_kept : goal.returns-in-List-clause-list_kept
-returns-in-List-clause-list_kept g c name slot asked t =
-    of_each c.args.words.now (λ n s. IsKept s n (g.V.Volume.files c.args.volume.now) (g.V.Volume.files c.print_report.new.volume)) name slot (subst (IsCommand c.args.words.now) c.in-List.is c.in-Some.ensures) asked (c.print_report.ensures.kept t)
+returns-in-List-clause-list_kept g c name given asked t =
+    of_each c.args.words.now (λ n s. IsKeptFor n s (g.V.Volume.files c.args.volume.now) (g.V.Volume.files c.print_report.new.volume)) name given (subst (IsCommand c.args.words.now) c.in-List.is c.in-Some.ensures) asked (c.print_report.ensures.kept t)
+
+pub returns-in-List-clause-list_bytes : goal.returns-in-List-clause-list_bytes
+returns-in-List-clause-list_bytes g c name given asked t =
+    bytes_when_kept c.kept_files_have_their_bytes.ensures.bytes name given (g.V.Volume.files c.args.volume.now) (g.V.Volume.files c.print_report.new.volume) (returns-in-List-clause-list_kept g c name given asked t)
+
+pub returns-in-List-clause-list_recorded : goal.returns-in-List-clause-list_recorded
+returns-in-List-clause-list_recorded g c name slot asked t found =
+    report_given found AnyCount g.V.Volume.tells g.K.Sink.tells Lists _ _ _ _ _ _ _ _ _ c.print_report.result t (record {
+      ends = returns-in-List-clause-list_ends g c name None asked;
+      says = returns-in-List-clause-list_says g c name None asked;
+      refused = returns-in-List-clause-list_refused g c name None asked;
+      prints = returns-in-List-clause-list_prints g c name None asked;
+      kept = returns-in-List-clause-list_kept g c name None asked;
+    })
 
 pub returns-in-Check-clause-check_ends : goal.returns-in-Check-clause-check_ends
-returns-in-Check-clause-check_ends g c name slot anchors asked =
-    of_each_check c.args.words.now (λ n s a. ReportEnds (IsAnchors a) s (g.K.Sink.faults c.args.out.now) (g.K.Sink.faults c.print_report-in-Check.new.out) (g.V.Volume.faults c.args.volume.now) (g.V.Volume.faults c.print_report-in-Check.new.volume) (g.V.Volume.ended c.args.volume.now) (g.V.Volume.ended c.print_report-in-Check.new.volume) c.print_report-in-Check.result) name slot anchors (subst (IsCommand c.args.words.now) c.in-Check.is c.in-Some.ensures) asked c.print_report-in-Check.ensures.ends
+returns-in-Check-clause-check_ends g c name given anchors asked =
+    of_each_check c.args.words.now (λ n s a. ReportEnds (IsAnchors a) s (g.K.Sink.faults c.args.out.now) (g.K.Sink.faults c.print_report-in-Check.new.out) (g.V.Volume.faults c.args.volume.now) (g.V.Volume.faults c.print_report-in-Check.new.volume) (g.V.Volume.ended c.args.volume.now) (g.V.Volume.ended c.print_report-in-Check.new.volume) c.print_report-in-Check.result) name given anchors (subst (IsCommand c.args.words.now) c.in-Check.is c.in-Some.ensures) asked c.print_report-in-Check.ensures.ends
 
 pub returns-in-Check-clause-check_says : goal.returns-in-Check-clause-check_says
-returns-in-Check-clause-check_says g c name slot anchors asked t =
-    of_each_check c.args.words.now (λ n s a. ReportSays (IsAnchors a) (g.V.Volume.files c.args.volume.now) n s c.print_report-in-Check.result) name slot anchors (subst (IsCommand c.args.words.now) c.in-Check.is c.in-Some.ensures) asked (c.print_report-in-Check.ensures.says t)
+returns-in-Check-clause-check_says g c name given anchors asked t =
+    of_each_check c.args.words.now (λ n s a. ReportSays (IsAnchors a) (g.V.Volume.files c.args.volume.now) n s c.print_report-in-Check.result) name given anchors (subst (IsCommand c.args.words.now) c.in-Check.is c.in-Some.ensures) asked (c.print_report-in-Check.ensures.says t)
 
 pub returns-in-Check-clause-check_refused : goal.returns-in-Check-clause-check_refused
-returns-in-Check-clause-check_refused g c name slot anchors asked =
-    let ends = returns-in-Check-clause-check_ends g c name slot anchors asked in
-    record {
-      geometry = of_each_check c.args.words.now (λ n s a. ¬ IsSlotSize s → c.print_report-in-Check.result ≡ status.BadGeometry 1) name slot anchors (subst (IsCommand c.args.words.now) c.in-Check.is c.in-Some.ensures) asked c.print_report-in-Check.ensures.refused;
-      missing = λ t. of_each_check c.args.words.now (λ n s a. IsSlotSize s → get (g.V.Volume.files c.args.volume.now) n ≡ None → c.print_report-in-Check.result ≡ status.Missing) name slot anchors (subst (IsCommand c.args.words.now) c.in-Check.is c.in-Some.ensures) asked (c.print_report-in-Check.ensures.missing t);
-      small = λ bytes t sized. of_each_check c.args.words.now (λ n s a. IsSlotSize s → IsSmall (g.V.Volume.files c.args.volume.now) n s bytes → c.print_report-in-Check.result ≡ status.Small bytes) name slot anchors (subst (IsCommand c.args.words.now) c.in-Check.is c.in-Some.ensures) asked (λ is. c.print_report-in-Check.ensures.small t is bytes) sized;
-      unfit = λ slots t sized has not. unfit (IsAnchors anchors) (g.V.Volume.files c.args.volume.now) name slot _ _ _ _ _ _ c.print_report-in-Check.result slots ends (returns-in-Check-clause-check_says g c name slot anchors asked t) has not sized;
-    }
+returns-in-Check-clause-check_refused g c name given anchors asked =
+    of_each_check c.args.words.now (λ n s a. IsRefused g.V.Volume.tells (IsAnchors a) (g.V.Volume.files c.args.volume.now) n s c.print_report-in-Check.result) name given anchors (subst (IsCommand c.args.words.now) c.in-Check.is c.in-Some.ensures) asked c.print_report-in-Check.ensures.refused
 
 pub returns-in-Check-clause-check_complete : goal.returns-in-Check-clause-check_complete
-returns-in-Check-clause-check_complete g c name slot anchors asked t may none =
-    complete (IsAnchors anchors) (g.V.Volume.files c.args.volume.now) name slot _ _ _ _ _ _ c.print_report-in-Check.result (returns-in-Check-clause-check_ends g c name slot anchors asked) (returns-in-Check-clause-check_says g c name slot anchors asked t) may none
+returns-in-Check-clause-check_complete g c name given anchors asked t may none =
+    complete (IsAnchors anchors) (g.V.Volume.files c.args.volume.now) name given _ _ _ _ _ _ c.print_report-in-Check.result (returns-in-Check-clause-check_ends g c name given anchors asked) (returns-in-Check-clause-check_says g c name given anchors asked t) may none
 
 pub returns-in-Check-clause-check_prints : goal.returns-in-Check-clause-check_prints
-returns-in-Check-clause-check_prints g c name slot anchors asked k =
-    of_each_check c.args.words.now (λ n s a. ReportPrints (λ text. IsTrue g.V.Volume.tells → OfFile (Sums a s) (g.V.Volume.files c.args.volume.now) n s text) (g.K.Sink.taken c.args.out.now) (g.K.Sink.taken c.print_report-in-Check.new.out) c.print_report-in-Check.result)
-    name slot anchors (subst (IsCommand c.args.words.now) c.in-Check.is c.in-Some.ensures) asked (c.print_report-in-Check.ensures.prints k)
+returns-in-Check-clause-check_prints g c name given anchors asked k =
+    of_each_check c.args.words.now (λ n s a. ReportPrints (λ text. IsTrue g.V.Volume.tells → OfFileFor (Sums a) (g.V.Volume.files c.args.volume.now) n s text) (g.K.Sink.taken c.args.out.now) (g.K.Sink.taken c.print_report-in-Check.new.out) c.print_report-in-Check.result)
+    name given anchors (subst (IsCommand c.args.words.now) c.in-Check.is c.in-Some.ensures) asked (c.print_report-in-Check.ensures.prints k)
 
 pub returns-in-Check-clause-check_kept : goal.returns-in-Check-clause-check_kept
-returns-in-Check-clause-check_kept g c name slot anchors asked t =
-    of_each_check c.args.words.now (λ n s a. IsKept s n (g.V.Volume.files c.args.volume.now) (g.V.Volume.files c.print_report-in-Check.new.volume)) name slot anchors (subst (IsCommand c.args.words.now) c.in-Check.is c.in-Some.ensures) asked (c.print_report-in-Check.ensures.kept t)
+returns-in-Check-clause-check_kept g c name given anchors asked t =
+    of_each_check c.args.words.now (λ n s a. IsKeptFor n s (g.V.Volume.files c.args.volume.now) (g.V.Volume.files c.print_report-in-Check.new.volume)) name given anchors (subst (IsCommand c.args.words.now) c.in-Check.is c.in-Some.ensures) asked (c.print_report-in-Check.ensures.kept t)
+
+pub returns-in-Check-clause-check_bytes : goal.returns-in-Check-clause-check_bytes
+returns-in-Check-clause-check_bytes g c name given anchors asked t =
+    bytes_when_kept c.kept_files_have_their_bytes.ensures.bytes name given (g.V.Volume.files c.args.volume.now) (g.V.Volume.files c.print_report-in-Check.new.volume) (returns-in-Check-clause-check_kept g c name given anchors asked t)
+
+pub returns-in-Check-clause-check_recorded : goal.returns-in-Check-clause-check_recorded
+returns-in-Check-clause-check_recorded g c name slot anchors asked t found =
+    report_given found (IsAnchors anchors) g.V.Volume.tells g.K.Sink.tells (Sums anchors) _ _ _ _ _ _ _ _ _ c.print_report-in-Check.result t (record {
+      ends = returns-in-Check-clause-check_ends g c name None anchors asked;
+      says = returns-in-Check-clause-check_says g c name None anchors asked;
+      refused = returns-in-Check-clause-check_refused g c name None anchors asked;
+      prints = returns-in-Check-clause-check_prints g c name None anchors asked;
+      kept = returns-in-Check-clause-check_kept g c name None anchors asked;
+    })
+
+pub returns-in-Check-clause-check_early : goal.returns-in-Check-clause-check_early
+returns-in-Check-clause-check_early g c name given anchors asked t =
+    of_each_check c.args.words.now (λ n s a. WithSlot (g.V.Volume.files c.args.volume.now) n s (IsUnfit (IsAnchors a) (g.V.Volume.files c.args.volume.now) n)
+    → (g.V.Volume.made c.print_report-in-Check.new.volume ≡ g.V.Volume.made c.args.volume.now) × (g.V.Volume.ended c.print_report-in-Check.new.volume ≡ g.V.Volume.ended c.args.volume.now)
+    × (c.print_report-in-Check.result ≡ status.DeviceFault → Rose (g.V.Volume.faults c.args.volume.now) (g.V.Volume.faults c.print_report-in-Check.new.volume)))
+    name given anchors (subst (IsCommand c.args.words.now) c.in-Check.is c.in-Some.ensures) asked (c.print_report-in-Check.ensures.early t)
 
 pub returns-in-List-clause-back : goal.returns-in-List-clause-back
-returns-in-List-clause-back g c t = c.kept_files_have_their_bytes.ensures.home c.in-List.target.slot c.in-List.target.name.now (g.V.Volume.files c.args.volume.now) (g.V.Volume.files c.print_report.new.volume) (c.print_report.ensures.kept t) (c.requires.home t)
+returns-in-List-clause-back g c t =
+    home_when_kept c.kept_files_have_their_bytes.ensures.home c.in-List.target.name.now c.in-List.target.slot (g.V.Volume.files c.args.volume.now) (g.V.Volume.files c.print_report.new.volume) (c.print_report.ensures.kept t) (c.requires.home t)
 
 pub returns-in-Check-clause-back : goal.returns-in-Check-clause-back
 returns-in-Check-clause-back g c t =
-    c.kept_files_have_their_bytes.ensures.home c.in-Check.target.slot c.in-Check.target.name.now (g.V.Volume.files c.args.volume.now) (g.V.Volume.files c.print_report-in-Check.new.volume) (c.print_report-in-Check.ensures.kept t) (c.requires.home t)
+    home_when_kept c.kept_files_have_their_bytes.ensures.home c.in-Check.target.name.now c.in-Check.target.slot (g.V.Volume.files c.args.volume.now) (g.V.Volume.files c.print_report-in-Check.new.volume) (c.print_report-in-Check.ensures.kept t) (c.requires.home t)
 
 pub returns-in-Create-clause-usage : goal.returns-in-Create-clause-usage
 returns-in-Create-clause-usage g c = (
-  λ is. absurd (subst (CreateEnds c.in-Create.target.slot c.in-Create.slots (g.V.Volume.faults c.args.volume.now) (g.V.Volume.faults c.create_file.new.volume)) is c.create_file.ensures.ends),
-  λ none. absurd (none (inr (inr (inl (c.in-Create.target.name.now, c.in-Create.target.slot, c.in-Create.slots, subst (IsCommand c.args.words.now) c.in-Create.is c.in-Some.ensures))))),
+  λ is. absurd (subst (CreateEnds c.in-Create.target.slot c.in-Create.target.slots (g.V.Volume.faults c.args.volume.now) (g.V.Volume.faults c.create_file.new.volume) (g.V.Volume.ended c.args.volume.now) (g.V.Volume.ended c.create_file.new.volume)) is c.create_file.ensures.ends),
+  λ none. absurd (none (inr (inr (inl (c.in-Create.target.name.now, c.in-Create.target.slot, c.in-Create.target.slots, subst (IsCommand c.args.words.now) c.in-Create.is c.in-Some.ensures))))),
 )
 
 pub returns-in-Create-clause-create_ends : goal.returns-in-Create-clause-create_ends
 returns-in-Create-clause-create_ends g c name slot slots asked =
-    of_each_create c.args.words.now (λ n s k. CreateEnds s k (g.V.Volume.faults c.args.volume.now) (g.V.Volume.faults c.create_file.new.volume) c.create_file.result) name slot slots (subst (IsCommand c.args.words.now) c.in-Create.is c.in-Some.ensures) asked c.create_file.ensures.ends
+    of_each_create c.args.words.now (λ n s k. CreateEnds s k (g.V.Volume.faults c.args.volume.now) (g.V.Volume.faults c.create_file.new.volume) (g.V.Volume.ended c.args.volume.now) (g.V.Volume.ended c.create_file.new.volume) c.create_file.result) name slot slots (subst (IsCommand c.args.words.now) c.in-Create.is c.in-Some.ensures) asked c.create_file.ensures.ends
 
 pub returns-in-Create-clause-create_says : goal.returns-in-Create-clause-create_says
 returns-in-Create-clause-create_says g c name slot slots asked t =
@@ -125,95 +151,88 @@ returns-in-Create-clause-create_refused g c name slot slots asked = record {
 
 pub returns-in-Create-clause-create_complete : goal.returns-in-Create-clause-create_complete
 returns-in-Create-clause-create_complete g c name slot slots asked t may none =
-    complete_create (g.V.Volume.files c.args.volume.now) name slot slots (g.V.Volume.faults c.args.volume.now) (g.V.Volume.faults c.create_file.new.volume) c.create_file.result
+    complete_create (g.V.Volume.files c.args.volume.now) name slot slots (g.V.Volume.faults c.args.volume.now) (g.V.Volume.faults c.create_file.new.volume) (g.V.Volume.ended c.args.volume.now) (g.V.Volume.ended c.create_file.new.volume) c.create_file.result
     (returns-in-Create-clause-create_ends g c name slot slots asked) (returns-in-Create-clause-create_says g c name slot slots asked t) may none
 
 pub returns-in-Create-clause-create_leaves : goal.returns-in-Create-clause-create_leaves
 returns-in-Create-clause-create_leaves g c name slot slots asked =
     of_each_create c.args.words.now (λ n s k. CreateLeaves g.V.Volume.tells s k n (g.V.Volume.files c.args.volume.now) (g.V.Volume.files c.create_file.new.volume) c.create_file.result) name slot slots (subst (IsCommand c.args.words.now) c.in-Create.is c.in-Some.ensures) asked c.create_file.ensures.leaves
 
+pub returns-in-Create-clause-create_whole : goal.returns-in-Create-clause-create_whole
+returns-in-Create-clause-create_whole g c name slot slots asked t made =
+    of_each_create c.args.words.now (λ n s k. IsHalfMade s k n (g.V.Volume.files c.args.volume.now) (g.V.Volume.files c.create_file.new.volume)) name slot slots (subst (IsCommand c.args.words.now) c.in-Create.is c.in-Some.ensures) asked (c.create_file.ensures.whole t made)
+
 pub returns-in-Create-clause-back : goal.returns-in-Create-clause-back
-returns-in-Create-clause-back g c t =
-    home_when_left c.created_files_are_in.ensures.created c.created_files_are_in.ensures.maybe g.V.Volume.tells c.in-Create.target.slot c.in-Create.slots c.in-Create.target.name.now (g.V.Volume.files c.args.volume.now) (g.V.Volume.files c.create_file.new.volume) c.create_file.result t c.create_file.ensures.leaves (c.requires.home t)
+returns-in-Create-clause-back g c t = c.create_file.ensures.back t (c.requires.home t)
 
 pub returns-in_default-clause-create_complete : goal.returns-in_default-clause-create_complete
 returns-in_default-clause-create_complete g c name slot slots asked t may none = absurd (not_read c.in_default.is c.parse.ensures (inr (inr (inl (name, slot, slots, asked)))))
+
+pub returns-in_default-clause-create_whole : goal.returns-in_default-clause-create_whole
+returns-in_default-clause-create_whole g c name slot slots asked t made = absurd (not_read c.in_default.is c.parse.ensures (inr (inr (inl (name, slot, slots, asked)))))
 
 pub returns-in_default-clause-create_ends : goal.returns-in_default-clause-create_ends
 returns-in_default-clause-create_ends g c name slot slots asked = absurd (not_read c.in_default.is c.parse.ensures (inr (inr (inl (name, slot, slots, asked)))))
 
 pub returns-in_default-clause-run_ends : goal.returns-in_default-clause-run_ends
-returns-in_default-clause-run_ends g c name slot anchors workers asked = absurd (not_read c.in_default.is c.parse.ensures (inr (inr (inr (inl (name, slot, anchors, workers, asked))))))
+returns-in_default-clause-run_ends g c name given anchors workers asked = absurd (not_read c.in_default.is c.parse.ensures (inr (inr (inr (inl (name, given, anchors, workers, asked))))))
 
 pub returns-in_default-clause-run_refused : goal.returns-in_default-clause-run_refused
-returns-in_default-clause-run_refused g c name slot anchors workers asked = absurd (not_read c.in_default.is c.parse.ensures (inr (inr (inr (inl (name, slot, anchors, workers, asked))))))
+returns-in_default-clause-run_refused g c name given anchors workers asked = absurd (not_read c.in_default.is c.parse.ensures (inr (inr (inr (inl (name, given, anchors, workers, asked))))))
 
 pub returns-in_default-clause-run_complete : goal.returns-in_default-clause-run_complete
-returns-in_default-clause-run_complete g c name slot anchors workers asked st vt may none = absurd (not_read c.in_default.is c.parse.ensures (inr (inr (inr (inl (name, slot, anchors, workers, asked))))))
-
-pub returns-in-List-clause-list_bytes : goal.returns-in-List-clause-list_bytes
-returns-in-List-clause-list_bytes g c name slot asked t =
-    c.kept_files_have_their_bytes.ensures.bytes slot name (g.V.Volume.files c.args.volume.now) (g.V.Volume.files c.print_report.new.volume) (returns-in-List-clause-list_kept g c name slot asked t)
-
-pub returns-in-Check-clause-check_bytes : goal.returns-in-Check-clause-check_bytes
-returns-in-Check-clause-check_bytes g c name slot anchors asked t =
-    c.kept_files_have_their_bytes.ensures.bytes slot name (g.V.Volume.files c.args.volume.now) (g.V.Volume.files c.print_report-in-Check.new.volume) (returns-in-Check-clause-check_kept g c name slot anchors asked t)
-
-pub returns-in-Check-clause-check_early : goal.returns-in-Check-clause-check_early
-returns-in-Check-clause-check_early g c name slot anchors slots asked t =
-    of_each_check c.args.words.now (λ n s a. HasSlots (g.V.Volume.files c.args.volume.now) n s slots → ¬ IsAnchors a slots
-    → (g.V.Volume.made c.print_report-in-Check.new.volume ≡ g.V.Volume.made c.args.volume.now) × (g.V.Volume.ended c.print_report-in-Check.new.volume ≡ g.V.Volume.ended c.args.volume.now)
-    × (c.print_report-in-Check.result ≡ status.DeviceFault → Rose (g.V.Volume.faults c.args.volume.now) (g.V.Volume.faults c.print_report-in-Check.new.volume)))
-    name slot anchors (subst (IsCommand c.args.words.now) c.in-Check.is c.in-Some.ensures) asked (c.print_report-in-Check.ensures.early t slots)
+returns-in_default-clause-run_complete g c name given anchors workers asked st vt may none = absurd (not_read c.in_default.is c.parse.ensures (inr (inr (inr (inl (name, given, anchors, workers, asked))))))
 
 pub returns-in-Create-clause-device_unfailed : goal.returns-in-Create-clause-device_unfailed
-returns-in-Create-clause-device_unfailed g c other bench none = none_ended (c.create_file.ensures.unfailed none) c.create_file.ensures.ended
+returns-in-Create-clause-device_unfailed g c other bench none = c.create_file.ensures.unfailed none
 
 pub returns-in_default-clause-device_unfailed : goal.returns-in_default-clause-device_unfailed
 returns-in_default-clause-device_unfailed g c other bench none = none_ended refl refl
 
 pub returns-in-Run-clause-run_ends : goal.returns-in-Run-clause-run_ends
-returns-in-Run-clause-run_ends g c name slot anchors workers asked =
+returns-in-Run-clause-run_ends g c name given anchors workers asked =
     of_each_run c.args.words.now (λ n s a w. RunEnds s a w (g.S.Source.faults c.args.script.now) (g.S.Source.faults c.run_command.new.script) (g.K.Sink.faults c.args.out.now) (g.K.Sink.faults c.run_command.new.out)
     (counts (g.V.Volume.faults c.args.volume.now) (g.V.Volume.made c.args.volume.now) (g.V.Volume.ended c.args.volume.now))
     (counts (g.V.Volume.faults c.run_command.new.volume) (g.V.Volume.made c.run_command.new.volume) (g.V.Volume.ended c.run_command.new.volume)) c.run_command.result)
-    name slot anchors workers (subst (IsCommand c.args.words.now) c.in-Run.is c.in-Some.ensures) asked c.run_command.ensures.ends
+    name given anchors workers (subst (IsCommand c.args.words.now) c.in-Run.is c.in-Some.ensures) asked c.run_command.ensures.ends
 
 pub returns-in-Run-clause-run_says : goal.returns-in-Run-clause-run_says
-returns-in-Run-clause-run_says g c name slot anchors workers asked =
+returns-in-Run-clause-run_says g c name given anchors workers asked =
     of_each_run c.args.words.now (λ n s a w. RunSays g.S.Source.tells g.V.Volume.tells w (g.S.Source.left c.args.script.now) (g.S.Source.left c.run_command.new.script) (g.V.Volume.files c.args.volume.now) n s a c.run_command.result)
-    name slot anchors workers (subst (IsCommand c.args.words.now) c.in-Run.is c.in-Some.ensures) asked c.run_command.ensures.says
+    name given anchors workers (subst (IsCommand c.args.words.now) c.in-Run.is c.in-Some.ensures) asked c.run_command.ensures.says
 
 pub returns-in-Run-clause-run_refused : goal.returns-in-Run-clause-run_refused
-returns-in-Run-clause-run_refused g c name slot anchors workers asked =
+returns-in-Run-clause-run_refused g c name given anchors workers asked =
     of_each_run c.args.words.now (λ n s a w. IsRunRefused g.S.Source.tells g.V.Volume.tells (g.S.Source.left c.args.script.now) (g.V.Volume.files c.args.volume.now) n s a w
     (counts (g.V.Volume.faults c.args.volume.now) (g.V.Volume.made c.args.volume.now) (g.V.Volume.ended c.args.volume.now))
     (counts (g.V.Volume.faults c.run_command.new.volume) (g.V.Volume.made c.run_command.new.volume) (g.V.Volume.ended c.run_command.new.volume)) c.run_command.result)
-    name slot anchors workers (subst (IsCommand c.args.words.now) c.in-Run.is c.in-Some.ensures) asked c.run_command.ensures.refused
+    name given anchors workers (subst (IsCommand c.args.words.now) c.in-Run.is c.in-Some.ensures) asked c.run_command.ensures.refused
 
 pub returns-in-Run-clause-run_complete : goal.returns-in-Run-clause-run_complete
-returns-in-Run-clause-run_complete g c name slot anchors workers asked st vt may none =
+returns-in-Run-clause-run_complete g c name given anchors workers asked st vt may none =
     of_each_run c.args.words.now (λ n s a w. MayRun (g.S.Source.left c.args.script.now) (g.V.Volume.files c.args.volume.now) n s a w → RunsOrLacksMemory c.run_command.result)
-    name slot anchors workers (subst (IsCommand c.args.words.now) c.in-Run.is c.in-Some.ensures) asked (λ m. c.run_command.ensures.complete st vt m none) may
+    name given anchors workers (subst (IsCommand c.args.words.now) c.in-Run.is c.in-Some.ensures) asked (λ m. c.run_command.ensures.complete st vt m none) may
 
 pub returns-in-Run-clause-run_prints : goal.returns-in-Run-clause-run_prints
-returns-in-Run-clause-run_prints g c name slot anchors workers asked k =
+returns-in-Run-clause-run_prints g c name given anchors workers asked k =
     of_each_run c.args.words.now (λ n s a w. RunPrints (IsRunText g.S.Source.tells g.V.Volume.tells g.V.C.Cell.tells g.V.C.Cell.state g.V.St.Station.faults
     (g.S.Source.left c.args.script.now) (g.S.Source.left c.run_command.new.script) (g.V.Volume.files c.args.volume.now) (g.V.Volume.files c.run_command.new.volume) n s a w
     (counts (g.V.Volume.faults c.args.volume.now) (g.V.Volume.made c.args.volume.now) (g.V.Volume.ended c.args.volume.now))
     (counts (g.V.Volume.faults c.run_command.new.volume) (g.V.Volume.made c.run_command.new.volume) (g.V.Volume.ended c.run_command.new.volume)))
     (g.K.Sink.taken c.args.out.now) (g.K.Sink.taken c.run_command.new.out) c.run_command.result)
-    name slot anchors workers (subst (IsCommand c.args.words.now) c.in-Run.is c.in-Some.ensures) asked (c.run_command.ensures.prints k)
+    name given anchors workers (subst (IsCommand c.args.words.now) c.in-Run.is c.in-Some.ensures) asked (c.run_command.ensures.prints k)
 
 pub returns-in-Run-clause-run_plain : goal.returns-in-Run-clause-run_plain
-returns-in-Run-clause-run_plain g c name slot anchors asked st vt k done none =
+returns-in-Run-clause-run_plain g c name given anchors asked st vt k done none =
     let told = subst (RunPrints (IsRunText g.S.Source.tells g.V.Volume.tells g.V.C.Cell.tells g.V.C.Cell.state g.V.St.Station.faults
-    (g.S.Source.left c.args.script.now) (g.S.Source.left c.run_command.new.script) (g.V.Volume.files c.args.volume.now) (g.V.Volume.files c.run_command.new.volume) name slot anchors 1
+    (g.S.Source.left c.args.script.now) (g.S.Source.left c.run_command.new.script) (g.V.Volume.files c.args.volume.now) (g.V.Volume.files c.run_command.new.volume) name given anchors 1
     (counts (g.V.Volume.faults c.args.volume.now) (g.V.Volume.made c.args.volume.now) (g.V.Volume.ended c.args.volume.now))
     (counts (g.V.Volume.faults c.run_command.new.volume) (g.V.Volume.made c.run_command.new.volume) (g.V.Volume.ended c.run_command.new.volume)))
-    (g.K.Sink.taken c.args.out.now) (g.K.Sink.taken c.run_command.new.out)) done (returns-in-Run-clause-run_prints g c name slot anchors 1 asked k) in
+    (g.K.Sink.taken c.args.out.now) (g.K.Sink.taken c.run_command.new.out)) done (returns-in-Run-clause-run_prints g c name given anchors 1 asked k) in
     let text = told.1 in
     record {
+      slot = text.slot;
+      found = text.sized.found vt;
       lines = text.lines;
       read = subst (λ (script : List ℕ). IsScript 1 script text.lines) (text.read.2 st).0 text.read.1;
       answers = text.answers;
@@ -222,10 +241,29 @@ returns-in-Run-clause-run_plain g c name slot anchors asked st vt k done none =
     }
 
 pub returns-in-Run-clause-run_leaves : goal.returns-in-Run-clause-run_leaves
-returns-in-Run-clause-run_leaves g c name slot anchors workers asked =
+returns-in-Run-clause-run_leaves g c name given anchors workers asked =
     of_each_run c.args.words.now (λ n s a w. RunLeaves g.S.Source.tells g.V.Volume.tells g.V.C.Cell.tells g.V.C.Cell.state (g.S.Source.left c.args.script.now) (g.S.Source.left c.run_command.new.script)
     (g.V.Volume.files c.args.volume.now) (g.V.Volume.files c.run_command.new.volume) n s a w c.run_command.result)
-    name slot anchors workers (subst (IsCommand c.args.words.now) c.in-Run.is c.in-Some.ensures) asked c.run_command.ensures.kept
+    name given anchors workers (subst (IsCommand c.args.words.now) c.in-Run.is c.in-Some.ensures) asked c.run_command.ensures.kept
+
+pub returns-in-Run-clause-run_leaves_standing : goal.returns-in-Run-clause-run_leaves_standing
+returns-in-Run-clause-run_leaves_standing g c name given anchors workers asked =
+    of_each_run c.args.words.now (λ n s a w. RunStands g.S.Source.tells g.V.Volume.tells g.V.C.Cell.tells g.V.C.Cell.state g.V.St.Station.faults (g.S.Source.left c.args.script.now) (g.S.Source.left c.run_command.new.script)
+    (g.V.Volume.files c.args.volume.now) (g.V.Volume.files c.run_command.new.volume) n s a w
+    (counts (g.V.Volume.faults c.args.volume.now) (g.V.Volume.made c.args.volume.now) (g.V.Volume.ended c.args.volume.now))
+    (counts (g.V.Volume.faults c.run_command.new.volume) (g.V.Volume.made c.run_command.new.volume) (g.V.Volume.ended c.run_command.new.volume)) c.run_command.result)
+    name given anchors workers (subst (IsCommand c.args.words.now) c.in-Run.is c.in-Some.ensures) asked c.run_command.ensures.stands
+
+pub returns-in-Run-clause-run_recorded : goal.returns-in-Run-clause-run_recorded
+returns-in-Run-clause-run_recorded g c name slot anchors workers asked t found =
+    run_given found g.S.Source.tells g.V.Volume.tells g.K.Sink.tells g.V.C.Cell.tells g.V.C.Cell.state g.V.St.Station.faults _ _ _ _ _ _ _ _ _ _ _ _ _ c.run_command.result t (record {
+      ends = returns-in-Run-clause-run_ends g c name None anchors workers asked;
+      says = returns-in-Run-clause-run_says g c name None anchors workers asked;
+      refused = returns-in-Run-clause-run_refused g c name None anchors workers asked;
+      prints = returns-in-Run-clause-run_prints g c name None anchors workers asked;
+      leaves = returns-in-Run-clause-run_leaves g c name None anchors workers asked;
+      stands = returns-in-Run-clause-run_leaves_standing g c name None anchors workers asked;
+    })
 
 pub returns-in-Run-clause-usage : goal.returns-in-Run-clause-usage
 returns-in-Run-clause-usage g c = (
@@ -303,3 +341,30 @@ returns-in-Bench-clause-device_unfailed g c other bench none =
 
 pub returns-in-Bench-clause-back : goal.returns-in-Bench-clause-back
 returns-in-Bench-clause-back g c t = c.bench_command.ensures.back t (c.requires.home t)
+
+pub returns-in_default-clause-list_refused : goal.returns-in_default-clause-list_refused
+returns-in_default-clause-list_refused g c name given asked = absurd (not_read c.in_default.is c.parse.ensures (inl (name, given, asked)))
+
+pub returns-in_default-clause-list_complete : goal.returns-in_default-clause-list_complete
+returns-in_default-clause-list_complete g c name given asked t may none = absurd (not_read c.in_default.is c.parse.ensures (inl (name, given, asked)))
+
+pub returns-in_default-clause-list_recorded : goal.returns-in_default-clause-list_recorded
+returns-in_default-clause-list_recorded g c name slot asked t found = absurd (not_read c.in_default.is c.parse.ensures (inl (name, None, asked)))
+
+pub returns-in_default-clause-check_recorded : goal.returns-in_default-clause-check_recorded
+returns-in_default-clause-check_recorded g c name slot anchors asked t found = absurd (not_read c.in_default.is c.parse.ensures (inr (inl (name, None, anchors, asked))))
+
+pub returns-in_default-clause-run_recorded : goal.returns-in_default-clause-run_recorded
+returns-in_default-clause-run_recorded g c name slot anchors workers asked t found = absurd (not_read c.in_default.is c.parse.ensures (inr (inr (inr (inl (name, None, anchors, workers, asked))))))
+
+pub returns-in-Check-clause-list_recorded : goal.returns-in-Check-clause-list_recorded
+returns-in-Check-clause-list_recorded g c name slot asked t found = absurd (list_is_no_check asked (subst (IsCommand c.args.words.now) c.in-Check.is c.in-Some.ensures))
+
+pub returns-in-Create-clause-list_recorded : goal.returns-in-Create-clause-list_recorded
+returns-in-Create-clause-list_recorded g c name slot asked t found = absurd (list_is_no_create asked (subst (IsCommand c.args.words.now) c.in-Create.is c.in-Some.ensures))
+
+pub returns-in-Run-clause-list_recorded : goal.returns-in-Run-clause-list_recorded
+returns-in-Run-clause-list_recorded g c name slot asked t found = absurd (list_is_no_run asked (subst (IsCommand c.args.words.now) c.in-Run.is c.in-Some.ensures))
+
+pub returns-in-Bench-clause-list_recorded : goal.returns-in-Bench-clause-list_recorded
+returns-in-Bench-clause-list_recorded g c name slot asked t found = absurd (list_is_no_bench asked (subst (IsCommand c.args.words.now) c.in-Bench.is c.in-Some.ensures))

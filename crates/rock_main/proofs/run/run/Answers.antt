@@ -10,30 +10,30 @@ returns-clause-usage g c = (
 )
 
 pub returns-clause-list : goal.returns-clause-list
-returns-clause-list g c name slot asked =
+returns-clause-list g c name given asked =
     let said = c.rock-status.ensures in
     record {
       status = c.rock-status.result;
       is = c.end.ensures;
       causes = (
-        said.list_ends name slot asked,
-        λ told. said.list_says name slot asked told,
-        said.list_refused name slot asked,
-        λ told. said.list_prints name slot asked told,
+        said.list_ends name given asked,
+        λ told. said.list_says name given asked told,
+        said.list_refused name given asked,
+        λ told. said.list_prints name given asked told,
       );
     }
 
 pub returns-clause-check : goal.returns-clause-check
-returns-clause-check g c name slot anchors asked =
+returns-clause-check g c name given anchors asked =
     let said = c.rock-status.ensures in
     record {
       status = c.rock-status.result;
       is = c.end.ensures;
       causes = (
-        said.check_ends name slot anchors asked,
-        λ told. said.check_says name slot anchors asked told,
-        said.check_refused name slot anchors asked,
-        λ told. said.check_prints name slot anchors asked told,
+        said.check_ends name given anchors asked,
+        λ told. said.check_says name given anchors asked told,
+        said.check_refused name given anchors asked,
+        λ told. said.check_prints name given anchors asked told,
       );
     }
 
@@ -52,17 +52,17 @@ returns-clause-create g c name slot slots asked =
     }
 
 pub returns-clause-run : goal.returns-clause-run
-returns-clause-run g c name slot anchors workers asked =
+returns-clause-run g c name given anchors workers asked =
     let said = c.rock-status.ensures in
     record {
       status = c.rock-status.result;
       is = c.end.ensures;
       causes = (
-        said.run_ends name slot anchors workers asked,
-        said.run_says name slot anchors workers asked,
-        said.run_refused name slot anchors workers asked,
-        λ told. said.run_prints name slot anchors workers asked told,
-        said.run_leaves name slot anchors workers asked,
+        said.run_ends name given anchors workers asked,
+        said.run_says name given anchors workers asked,
+        said.run_refused name given anchors workers asked,
+        λ told. said.run_prints name given anchors workers asked told,
+        said.run_leaves name given anchors workers asked,
       );
     }
 

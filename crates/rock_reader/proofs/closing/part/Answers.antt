@@ -1,6 +1,5 @@
 use Rattle.std.proofs.Common.{inl}
 use Rattle.store_rule.specs.Passes.{basis, view}
-use Rattle.store_rule.proofs.Passing.{pass_of}
 use Rattle.rock_reader.proofs.Parting.{done_tabs, follows_freeing, follows_tab, freed_tabs, may_free}
 use Rattle.rock_reader.proofs.closing.part.Goals as goal
 
@@ -12,10 +11,10 @@ pub returns-in-Done-clause-parted : goal.returns-in-Done-clause-parted
 returns-in-Done-clause-parted g c = inl record { leaves = c.in-Done.ensures.left }
 
 pub returns-in-Done-clause-free : goal.returns-in-Done-clause-free
-returns-in-Done-clause-free g c = done_tabs (basis g.C.Cell.tells g.C.Cell.state g.O.Origin.offers c.args.store.now) c.args.tab (view c.args.pass.now) (pass_of c.args.pass.now) c.requires.below c.requires.inner_free c.requires.counted (view c.leave.new.pass) c.in-Done.ensures.left
+returns-in-Done-clause-free g c = done_tabs (basis g.C.Cell.tells g.C.Cell.state g.O.Origin.offers c.args.store.now) c.args.tab (view c.args.pass.now) c.requires.counted (view c.leave.new.pass) c.in-Done.ensures.left
 
 pub returns-in-MustFree-clause-free : goal.returns-in-MustFree-clause-free
-returns-in-MustFree-clause-free g c = freed_tabs (basis g.C.Cell.tells g.C.Cell.state g.O.Origin.offers c.args.store.now) c.args.tab (view c.args.pass.now) (pass_of c.args.pass.now) c.requires.below c.requires.inner_free c.requires.counted (view c.leave.new.pass) (view c.free_chain.new.pass) c.in-MustFree.ensures.left c.free_chain.ensures.freed
+returns-in-MustFree-clause-free g c = freed_tabs (basis g.C.Cell.tells g.C.Cell.state g.O.Origin.offers c.args.store.now) c.args.tab (view c.args.pass.now) c.requires.counted c.requires.inner_free (view c.leave.new.pass) (view c.free_chain.new.pass) c.in-MustFree.ensures.left c.free_chain.ensures.freed
 
 pub returns-in-Done-clause-others : goal.returns-in-Done-clause-others
 returns-in-Done-clause-others g c = follows_tab g.C.Cell.tells g.C.Cell.state g.O.Origin.offers c.args.store.now c.args.pass.now c.args.tab c.leave.new.pass c.leave.ensures.others

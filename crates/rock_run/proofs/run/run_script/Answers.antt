@@ -5,7 +5,7 @@ use Rattle.std.specs.FinMap.{get, insert}
 use Rattle.rock_disk.specs.File.{bytes_of, rest_cut}
 use Rattle.rock_disk.specs.File.File.{Home}
 use Rattle.rock_disk.proofs.Homes.{none_away_kept}
-use Rattle.script_origin.specs.Offered.{offers_of}
+use Rattle.rock_run.specs.Offered.{offers_of}
 use Rattle.store_rule.specs.Passes.{KeepsRoom}
 use Rattle.store_rule.specs.Setting.{IsRow}
 use Rattle.script_text.specs.declared.line.Line.{Line}

@@ -5,9 +5,9 @@ use Rattle.std.proofs.lemmas.Simd.{map-map}
 use mathlib.Core.Option.{some}
 use lib.ListN.{get_elem?}
 use Rattle.core_model.proofs.Lists.{at_length, at_or}
-use Rattle.script_origin.specs.Offered.{offers_of}
+use Rattle.rock_run.specs.Offered.{offers_of}
 use Rattle.store_rule.specs.Passes.{AreNumbered, IsNewOf}
-use Rattle.serve_lines.specs.Serving.{Takes}
+use Rattle.worker_shelf.specs.Taking.{Takes}
 use Rattle.worker_pool.specs.Courses.{IsServed}
 use Rattle.rock_run.specs.Crews.{MayRest}
 use Rattle.rock_run.proofs.Accounts.{played}

@@ -28,7 +28,7 @@ end_turn-requires-clause-may g c = let a = c.args in let s = a.store.now in let 
     may_end_turn g.C.Cell.tells g.C.Cell.state g.O.Origin.offers s a.tab p may slot e c.wait_turn.new.pass c.wait_turn.ensures out.result out.new.pass out.ensures.out out.ensures.kept
     got.new.cell got.ensures.cell got.ensures.lent.0 got.new.pass got.ensures.lent.1
     c.cell_in.new.pass c.cell_in.ensures.home c.cell_in.ensures.kept
-    c.is_ok.result
+    c.is_ok.result _ c.after_reading.ensures
 
 pub end_turn-requires-clause-home : goal.end_turn-requires-clause-home
 end_turn-requires-clause-home g c = let a = c.args in let s = a.store.now in let p = a.pass.now in let may = c.requires in let slot = c.in-Some.slot in
@@ -43,7 +43,7 @@ returns-clause-others g c = let a = c.args in let s = a.store.now in let p = a.p
     follows g.C.Cell.tells g.C.Cell.state g.O.Origin.offers s a.tab p may slot e c.wait_turn.new.pass c.wait_turn.ensures out.result out.new.pass out.ensures.out out.ensures.kept
     got.new.cell got.ensures.cell got.ensures.lent.0 got.new.pass got.ensures.lent.1
     c.cell_in.new.pass c.cell_in.ensures.home c.cell_in.ensures.kept
-    c.is_ok.result c.end_turn.new.pass c.end_turn.ensures
+    c.is_ok.result _ c.after_reading.ensures c.end_turn.new.pass c.end_turn.ensures
 
 pub returns-clause-ok : goal.returns-clause-ok
 returns-clause-ok g c = let a = c.args in let s = a.store.now in let p = a.pass.now in let may = c.requires in let slot = c.in-Some.slot in
@@ -52,8 +52,8 @@ returns-clause-ok g c = let a = c.args in let s = a.store.now in let p = a.pass.
     (λ done h. (
       shown g.C.Cell.tells g.C.Cell.state (taken g.C.Cell.tells g.C.Cell.state g.O.Origin.offers s a.tab p may slot e c.wait_turn.new.pass c.wait_turn.ensures out.result out.new.pass out.ensures.out out.ensures.kept).cell,
       record {
-        read = subst (λ (b : Bool). ReadSlot (basis g.C.Cell.tells g.C.Cell.state g.O.Origin.offers s) a.tab (view p) b (shown g.C.Cell.tells g.C.Cell.state (taken g.C.Cell.tells g.C.Cell.state g.O.Origin.offers s a.tab p may slot e c.wait_turn.new.pass c.wait_turn.ensures out.result out.new.pass out.ensures.out out.ensures.kept).cell) (view c.end_turn.new.pass)) done (read g.C.Cell.tells g.C.Cell.state g.O.Origin.offers s a.tab p may slot e c.wait_turn.new.pass c.wait_turn.ensures out.result out.new.pass out.ensures.out out.ensures.kept got.new.cell got.ensures.cell got.ensures.lent.0 got.new.pass got.ensures.lent.1 c.cell_in.new.pass c.cell_in.ensures.home c.cell_in.ensures.kept c.is_ok.result c.end_turn.new.pass c.end_turn.ensures);
-        bytes = read_bytes g.C.Cell.tells g.C.Cell.state g.O.Origin.offers s a.tab p may slot e c.wait_turn.new.pass c.wait_turn.ensures out.result out.new.pass out.ensures.out out.ensures.kept got.new.cell got.ensures.cell got.ensures.lent.0 got.new.pass got.ensures.lent.1 c.cell_in.new.pass c.cell_in.ensures.home c.cell_in.ensures.kept c.is_ok.result c.end_turn.new.pass c.end_turn.ensures h;
+        read = subst (λ (b : Bool). ReadSlot (basis g.C.Cell.tells g.C.Cell.state g.O.Origin.offers s) a.tab (view p) b (shown g.C.Cell.tells g.C.Cell.state (taken g.C.Cell.tells g.C.Cell.state g.O.Origin.offers s a.tab p may slot e c.wait_turn.new.pass c.wait_turn.ensures out.result out.new.pass out.ensures.out out.ensures.kept).cell) (view c.end_turn.new.pass)) done (read g.C.Cell.tells g.C.Cell.state g.O.Origin.offers s a.tab p may slot e c.wait_turn.new.pass c.wait_turn.ensures out.result out.new.pass out.ensures.out out.ensures.kept got.new.cell got.ensures.cell got.ensures.lent.0 got.new.pass got.ensures.lent.1 c.cell_in.new.pass c.cell_in.ensures.home c.cell_in.ensures.kept c.is_ok.result _ c.after_reading.ensures c.end_turn.new.pass c.end_turn.ensures);
+        bytes = read_bytes g.C.Cell.tells g.C.Cell.state g.O.Origin.offers s a.tab p may slot e c.wait_turn.new.pass c.wait_turn.ensures out.result out.new.pass out.ensures.out out.ensures.kept got.new.cell got.ensures.cell got.ensures.lent.0 got.new.pass got.ensures.lent.1 c.cell_in.new.pass c.cell_in.ensures.home c.cell_in.ensures.kept c.is_ok.result _ c.after_reading.ensures c.end_turn.new.pass c.end_turn.ensures h;
       },
     ))
 
@@ -63,5 +63,5 @@ returns-clause-err g c = let a = c.args in let s = a.store.now in let p = a.pass
     when_err got.result c.is_ok.result _ c.is_ok.ensures.value
     (λ done. (
       shown g.C.Cell.tells g.C.Cell.state (taken g.C.Cell.tells g.C.Cell.state g.O.Origin.offers s a.tab p may slot e c.wait_turn.new.pass c.wait_turn.ensures out.result out.new.pass out.ensures.out out.ensures.kept).cell,
-      subst (λ (b : Bool). ReadSlot (basis g.C.Cell.tells g.C.Cell.state g.O.Origin.offers s) a.tab (view p) b (shown g.C.Cell.tells g.C.Cell.state (taken g.C.Cell.tells g.C.Cell.state g.O.Origin.offers s a.tab p may slot e c.wait_turn.new.pass c.wait_turn.ensures out.result out.new.pass out.ensures.out out.ensures.kept).cell) (view c.end_turn.new.pass)) done (read g.C.Cell.tells g.C.Cell.state g.O.Origin.offers s a.tab p may slot e c.wait_turn.new.pass c.wait_turn.ensures out.result out.new.pass out.ensures.out out.ensures.kept got.new.cell got.ensures.cell got.ensures.lent.0 got.new.pass got.ensures.lent.1 c.cell_in.new.pass c.cell_in.ensures.home c.cell_in.ensures.kept c.is_ok.result c.end_turn.new.pass c.end_turn.ensures),
+      subst (λ (b : Bool). ReadSlot (basis g.C.Cell.tells g.C.Cell.state g.O.Origin.offers s) a.tab (view p) b (shown g.C.Cell.tells g.C.Cell.state (taken g.C.Cell.tells g.C.Cell.state g.O.Origin.offers s a.tab p may slot e c.wait_turn.new.pass c.wait_turn.ensures out.result out.new.pass out.ensures.out out.ensures.kept).cell) (view c.end_turn.new.pass)) done (read g.C.Cell.tells g.C.Cell.state g.O.Origin.offers s a.tab p may slot e c.wait_turn.new.pass c.wait_turn.ensures out.result out.new.pass out.ensures.out out.ensures.kept got.new.cell got.ensures.cell got.ensures.lent.0 got.new.pass got.ensures.lent.1 c.cell_in.new.pass c.cell_in.ensures.home c.cell_in.ensures.kept c.is_ok.result _ c.after_reading.ensures c.end_turn.new.pass c.end_turn.ensures),
     ))

@@ -3,7 +3,7 @@ use Rattle.std.proofs.lemmas.Bool.{false≢true}
 use Rattle.std.proofs.lemmas.Result.{on_ok_weaker}
 use Rattle.store_rule.specs.Turns.{TurnFound}
 use Rattle.slice_chain.specs.Written.{IsWrittenCell, MayBeLeft}
-use Rattle.slice_chain.proofs.Writing.{on_err, always_won, follows, may_end_turn, may_log, may_put, may_try, has_returned, slot_is, taken_cell, wide_enough, wrote}
+use Rattle.slice_chain.proofs.Writing.{on_err, always_won, counted, follows, may_end_turn, may_log, may_put, may_try, has_returned, slot_is, taken_cell, wide_enough, wrote}
 use Rattle.slice_chain.proofs.slots.write_slot.Goals as goal
 
 pub log_piece-requires : goal.log_piece-requires
@@ -85,6 +85,16 @@ returns-clause-others g c = let a = c.args in let s = a.store.now in let p = a.p
     let found = subst (λ (b : Bool). TurnFound g.C.Cell.tells g.C.Cell.state g.O.Origin.offers s p0 a.tab slot b p1) (c.try_turn.ensures.writes (always_won g.C.Cell.tells g.C.Cell.state g.O.Origin.offers s p a.tab may slot a.durable e c.log_piece.result p0 c.log_piece.ensures)) c.try_turn.ensures in
     let out = c.cell_out-cell in
     follows g.C.Cell.tells g.C.Cell.state g.O.Origin.offers s a.tab p may slot a.durable e c.log_piece.result p0 c.log_piece.ensures p1 found out.result out.new.pass out.ensures.out out.ensures.kept
+    c.write_cell-result.new.cell c.write_cell-result.ensures.shape (λ told x h. subst (λ (bytes : List ℕ). MayBeLeft bytes (g.C.Cell.state out.result) (g.C.Cell.state c.write_cell-result.new.cell)) c.buffer.ensures (c.write_cell-result.ensures.possible told) x h)
+    c.cell_in.new.pass c.cell_in.ensures.home c.cell_in.ensures.kept
+    c.end_turn.new.pass c.end_turn.ensures
+
+pub returns-clause-steps : goal.returns-clause-steps
+returns-clause-steps g c = let a = c.args in let s = a.store.now in let p = a.pass.now in let may = c.requires in let slot = c.in-Some.slot in
+    let e = slot_is g.C.Cell.tells g.C.Cell.state g.O.Origin.offers s p a.tab may slot (sym c.in-Some.is ∙ c.first_reserved.ensures) in let p0 = c.log_piece.new.pass in let p1 = c.try_turn.new.pass in
+    let found = subst (λ (b : Bool). TurnFound g.C.Cell.tells g.C.Cell.state g.O.Origin.offers s p0 a.tab slot b p1) (c.try_turn.ensures.writes (always_won g.C.Cell.tells g.C.Cell.state g.O.Origin.offers s p a.tab may slot a.durable e c.log_piece.result p0 c.log_piece.ensures)) c.try_turn.ensures in
+    let out = c.cell_out-cell in
+    counted g.C.Cell.tells g.C.Cell.state g.O.Origin.offers s a.tab p may slot a.durable e c.log_piece.result p0 c.log_piece.ensures p1 found out.result out.new.pass out.ensures.out out.ensures.kept
     c.write_cell-result.new.cell c.write_cell-result.ensures.shape (λ told x h. subst (λ (bytes : List ℕ). MayBeLeft bytes (g.C.Cell.state out.result) (g.C.Cell.state c.write_cell-result.new.cell)) c.buffer.ensures (c.write_cell-result.ensures.possible told) x h)
     c.cell_in.new.pass c.cell_in.ensures.home c.cell_in.ensures.kept
     c.end_turn.new.pass c.end_turn.ensures

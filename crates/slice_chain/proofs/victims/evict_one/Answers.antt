@@ -4,8 +4,8 @@ use Rattle.store_rule.specs.Passes.{basis, view}
 use Rattle.store_rule.specs.Told.{the_view}
 use Rattle.store_rule.proofs.Passing.{pass_of}
 use Rattle.store_rule.proofs.Following.{follows_none, follows_on}
-use Rattle.slice_chain.specs.Victims.{Evicted, KeptFirst, NoneIdle, PassedSome, Spared, Won, hand_in, onward}
-use Rattle.slice_chain.proofs.EvictingOne.{begins_or_none, evicts, may_keep, moved_follows, none_idle, not_inner, passed_more, passed_none, round_begins}
+use Rattle.slice_chain.specs.Victims.{CountsEvicted, Evicted, KeptFirst, NoneIdle, PassedSome, Spared, Won, hand_in, onward}
+use Rattle.slice_chain.proofs.EvictingOne.{begins_or_none, counted, counted_none, evicts, may_keep, moved_follows, none_idle, not_inner, passed_more, passed_none, round_begins}
 use Rattle.slice_chain.proofs.victims.evict_one.Goals as goal
 
 pub loop-steps-init : goal.loop-steps-init
@@ -54,3 +54,21 @@ returns-clause-err g c = let b = basis g.C.Cell.tells g.C.Cell.state g.O.Origin.
     let all : c.loop-steps.steps ≡ b.setting.anchors = omega arith in
     subst (λ (h : ℕ). NoneIdle b h (view p) (view c.loop-steps.pass)) hand_is (none_idle b c.first_in_round-hand.result (view p) (view c.loop-steps.pass) (begins_or_none _ _ _ hand_is)
     (subst (λ (n : ℕ). PassedSome b c.first_in_round-hand.result (view p) n (view c.loop-steps.pass)) all c.loop-steps.invariant.passed))
+
+pub returns-then-try_evict-clause-counted : goal.returns-then-try_evict-clause-counted
+returns-then-try_evict-clause-counted g c = let b = basis g.C.Cell.tells g.C.Cell.state g.O.Origin.offers c.args.store.now in let many = c.anchors-anchors.ensures.value in let p = c.args.pass.now in
+    let below = c.loop-steps-test.true in
+    let hand_is = c.first_in_round-hand.ensures ∙ (λ i. hand_in (many i) (c.hand.ensures i)) in
+    let anchor_is = c.next_in_round-anchor.ensures.value ∙ ap (λ (n : ℕ). onward n c.first_in_round-hand.result c.loop-steps.steps) many in
+    subst (λ (h : ℕ). CountsEvicted b h (view p) c.args.tab c.keep_first-slot.result (view c.set_hand.new.self) c.set_hand.new.self.hand) hand_is
+    (counted b c.first_in_round-hand.result (view p) (round_begins _ _ _ hand_is (omega arith)) c.loop-steps.steps (omega arith) (view c.loop-steps.pass) c.loop-steps.invariant.passed (pass_of p) c.requires.inner_free (view c.try_evict.new.pass)
+    (subst (λ (a : ℕ). Won b a (view c.loop-steps.pass) (view c.try_evict.new.pass)) anchor_is (c.try_evict.ensures.won c.if-try_evict.true)) c.args.tab c.keep_first-slot.result (view c.set_hand.new.self)
+    (not_inner g.C.Cell.tells g.C.Cell.state g.O.Origin.offers c.args.store.now c.args.tab p c.requires)
+    (subst (λ z. KeptFirst b c.args.tab (view c.try_evict.new.pass) c.keep_first-slot.result (the_view z.me.0)) (sym c.set_hand.ensures.kept.seat) c.keep_first-slot.ensures.kept) c.set_hand.new.self.hand
+    (c.set_hand.ensures.hand ∙ c.next_in_round.ensures.value ∙ (λ i. onward (many i) (anchor_is i) 1)))
+
+pub returns-clause-counted_none : goal.returns-clause-counted_none
+returns-clause-counted_none g c = let b = basis g.C.Cell.tells g.C.Cell.state g.O.Origin.offers c.args.store.now in let many = c.anchors-anchors.ensures.value in let p = c.args.pass.now in
+    let past = c.loop-steps-test.false in let to = c.loop-steps.invariant.to in
+    let all : c.loop-steps.steps ≡ b.setting.anchors = omega arith in
+    counted_none b c.first_in_round-hand.result (view p) (view c.loop-steps.pass) (subst (λ (n : ℕ). PassedSome b c.first_in_round-hand.result (view p) n (view c.loop-steps.pass)) all c.loop-steps.invariant.passed)

@@ -1,5 +1,5 @@
 use Rattle.std.proofs.Common.{subst}
-use Rattle.serve_lines.specs.Tabs.{Holds}
+use Rattle.store_serve.specs.Tabs.{Holds}
 use Rattle.worker_shelf.proofs.Partings.{left_reader, left_writer}
 use Rattle.worker_shelf.proofs.leaving.leave.Goals as goal
 

@@ -3,8 +3,8 @@ use Rattle.std.specs.Prelude.{◌≢◌}
 use Rattle.std.proofs.Math.Dec.{eqb}
 use Rattle.std.proofs.lemmas.Bool.Decides.{eqb_tells}
 use Rattle.store_rule.specs.Passes.{view}
-use Rattle.serve_lines.specs.Tabs.{Holds, IsFree}
-use Rattle.serve_lines.specs.Whole.{whole_tab}
+use Rattle.store_serve.specs.Tabs.{Holds, IsFree}
+use Rattle.store_serve.specs.Whole.{whole_tab}
 use Rattle.worker_shelf.specs.Shelves.{LeftBelow}
 use Rattle.worker_shelf.proofs.Holding.{all_hold, both_kept, holds_taken, nothing_lost}
 use Rattle.worker_shelf.proofs.Partings.{left_on}

@@ -1,9 +1,9 @@
 use Rattle.std.proofs.Common.{ℕ}
 use Rattle.std.proofs.lemmas.Result.{IfOk-weaker}
 use Rattle.script_text.specs.declared.request.Request.TheVariants.{Add, CloseTab, End, More}
-use Rattle.serve_lines.specs.Reading.{ClosesOn, ReadsMore}
-use Rattle.serve_lines.specs.Serving.{ServesRequest}
-use Rattle.serve_lines.specs.Writing.{AddsOn, EndsOn}
+use Rattle.store_serve.specs.Reading.{ClosesOn, ReadsMore}
+use Rattle.store_serve.specs.Serving.{ServesRequest}
+use Rattle.store_serve.specs.Writing.{AddsOn, EndsOn}
 use Rattle.worker_shelf.proofs.Naming.{at_tab}
 use Rattle.worker_shelf.proofs.serving.on_tab.Goals as goal
 

@@ -1,7 +1,7 @@
 use Rattle.std.proofs.Common.{List, ap, get_or, refl, subst, sym, ◌∙◌, ℕ}
 use Rattle.core_model.specs.declared.tab.Tab.TheVariants.{Free}
-use Rattle.serve_lines.specs.Serving.{ServesRequest}
-use Rattle.serve_lines.specs.Whole.{Purges, whole_tab}
+use Rattle.store_serve.specs.Serving.{ServesRequest}
+use Rattle.store_serve.specs.Whole.{Purges, whole_tab}
 use Rattle.worker_shelf.proofs.Holding.{all_hold_whole}
 use Rattle.worker_shelf.proofs.serving.serve_line.Goals as goal
 

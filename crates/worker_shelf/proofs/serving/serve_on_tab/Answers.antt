@@ -1,5 +1,5 @@
 use Rattle.std.proofs.Common.{subst, sym}
-use Rattle.serve_lines.specs.Tabs.{Holds}
+use Rattle.store_serve.specs.Tabs.{Holds}
 use Rattle.worker_shelf.specs.Shelves.{AllHold}
 use Rattle.worker_shelf.proofs.Holding.{all_hold, holds_taken, set_twice}
 use Rattle.worker_shelf.proofs.serving.serve_on_tab.Goals as goal

@@ -2,31 +2,31 @@ use Rattle.std.proofs.Common.{◌≡◌, length, None, Some, sym, ◌∙◌, sub
 use Rattle.std.specs.Prelude.{Option, MatchOption, string_bytes}
 use Rattle.rock_commands.specs.Command.{IsCommand}
 use Rattle.rock_commands.specs.CommandLine.{IsName, IsCommandLine}
-use Rattle.rock_commands.proofs.CommandFacts.{three_words, four_words, five_words, no_numbers, no_two_numbers, found_equal}
+use Rattle.rock_commands.proofs.CommandFacts.{three_words, four_words, five_words, no_number, no_two_numbers, found_equal}
 use Rattle.rock_commands.proofs.command.Command.parse.Goals as goal
 
 none_is_none : {X : Type 0} {o : Option X} {x : X} → o ≡ None → o ≡ Some x → ⊥
 none_is_none e k = cc
 
-pub returns-in_err-target-in-len4 : goal.returns-in_err-target-in-len4
-returns-in_err-target-in-len4 c =
+pub returns-in_err-count-in-len4 : goal.returns-in_err-count-in-len4
+returns-in_err-count-in-len4 c =
     let long : length c.as_slice.result.now ≡ 4 = omega (arith, c.in-len4.len_at_least, c.in-len4.len_below) in
     let are = four_words string_bytes c.as_slice.result.now c.command-item-then-this-lt5.result c.name-item-then-this-lt5.result c.slot-item-then-this-lt5.result c.count-item.result c.args.words.now _ _ _ _
     c.as_slice.ensures long c.command-item-then-this-lt5.is c.name-item-then-this-lt5.is c.slot-item-then-this-lt5.is c.count-item.is
-    refl (sym c.as_str-in-len4.ensures.value) (sym c.as_str-in-len4-2.ensures.value) refl
+    refl refl refl (sym c.as_str-in-len4.ensures.value)
     in
-    subst (λ r. MatchOption r (IsCommandLine c.args.words.now → ⊥) (IsCommand c.args.words.now)) (sym c.from_residual-in_err-target-in-len4.ensures)
-    (no_numbers c.args.words.now _ _ _ _ are (λ slot count fits small named spelled other. c.in_err-target-in-len4.ensures.none slot fits named spelled refl))
+    subst (λ r. MatchOption r (IsCommandLine c.args.words.now → ⊥) (IsCommand c.args.words.now)) (sym c.from_residual-in_err-count-in-len4.ensures)
+    (no_number c.args.words.now _ _ _ _ are (λ count small other. none_is_none refl (c.in_err-count-in-len4.ensures.none count small other)))
 
-pub returns-in_err-number-in-len4 : goal.returns-in_err-number-in-len4
-returns-in_err-number-in-len4 c =
+pub returns-in_ok-count-in-len4 : goal.returns-in_ok-count-in-len4
+returns-in_ok-count-in-len4 c =
     let long : length c.as_slice.result.now ≡ 4 = omega (arith, c.in-len4.len_at_least, c.in-len4.len_below) in
     let are = four_words string_bytes c.as_slice.result.now c.command-item-then-this-lt5.result c.name-item-then-this-lt5.result c.slot-item-then-this-lt5.result c.count-item.result c.args.words.now _ _ _ _
     c.as_slice.ensures long c.command-item-then-this-lt5.is c.name-item-then-this-lt5.is c.slot-item-then-this-lt5.is c.count-item.is
-    refl refl refl (sym c.as_str-in-len4-4.ensures.value)
+    (sym c.as_str-in-len4-2.ensures.value) (sym c.as_str-in-len4-3.ensures.value) (sym c.as_str-in-len4-4.ensures.value)
+    (sym c.as_str-in-len4.ensures.value ∙ c.in_ok-count-in-len4.ensures.some)
     in
-    subst (λ r. MatchOption r (IsCommandLine c.args.words.now → ⊥) (IsCommand c.args.words.now)) (sym c.from_residual-in_err-number-in-len4.ensures)
-    (no_numbers c.args.words.now _ _ _ _ are (λ slot count fits small named spelled other. none_is_none refl (c.in_err-number-in-len4.ensures.none count small other)))
+    subst (λ words. MatchOption c.of_four.result (IsCommandLine words → ⊥) (IsCommand words)) (sym are) c.of_four.ensures
 
 pub returns-in_err-second-in-len5 : goal.returns-in_err-second-in-len5
 returns-in_err-second-in-len5 c =

@@ -14,10 +14,10 @@ pub swap_as-requires-clause-step : goal.swap_as-requires-clause-step
 swap_as-requires-clause-step g c = let s = c.args.self.now in let b = basis g.C.Cell.tells g.C.Cell.state g.O.Origin.offers c.args.self.now in
     let form = form_of g.C.Cell.tells g.C.Cell.state in let p = c.args.pass.now in let h = c.requires.home in let v = view p in
     let may = may_of p c.requires.may.can.allowed in
-    ends_ form b s.table.shared.table_id p.seat c.requires.may.own.table (wide _ _ _ _ _ s.sized s.anchors_are s.slots_are) p.one c.args.tab c.args.slot _ c.args.goes_on h.cell _ _ _
+    ends_ form b s.table.shared.table_id p.seat c.requires.may.own.table (wide _ _ _ _ _ s.sized s.anchors_are s.slots_are) p.one c.args.tab c.args.slot _ c.args.then h.cell _ _ _
     (ends_from_hand b.setting form _ _ c.args.tab c.args.slot v h.cell h.place) (turn_stands_at _ _ _ _ c.turn_index-place.ensures s.anchors_are)
-    (ended_inside b v c.requires.may.own.stands c.args.tab c.args.slot c.args.goes_on may) (pass_of p) h.place h.may.fits
-    (ends_with g.C.Cell.tells form b v c.args.tab c.args.slot c.args.goes_on h.cell h.may.hold h.may.slot_is (now_stays g.C.Cell.tells g.C.Cell.state h.cell (c.reads_may_stay.ensures h.cell)) may h.may.turn h.may.back)
+    (ended_inside b v c.requires.may.own.stands c.args.tab c.args.slot c.args.then may) (pass_of p) h.place h.may.fits
+    (ends_with g.C.Cell.tells form b v c.args.tab c.args.slot c.args.then h.cell h.may.hold h.may.slot_is (now_stays g.C.Cell.tells g.C.Cell.state h.cell (c.reads_may_stay.ensures h.cell)) may h.may.turn h.may.back)
 
 pub invariant_of-pass : goal.invariant_of-pass
 invariant_of-pass g c = let told = c.swap_as.ensures.told in let h = c.requires.home in let v = view c.args.pass.now in
@@ -26,7 +26,7 @@ invariant_of-pass g c = let told = c.swap_as.ensures.told in let h = c.requires.
       nine = kept_nine _ _ _ _ c.args.pass.now.nine c.set.ensures;
       nine_left = c.args.pass.now.nine_left;
       nine_desks = c.args.pass.now.nine_desks;
-      at_hand = ended_hand b.setting b v _ c.args.tab c.args.slot _ c.args.goes_on (shown g.C.Cell.tells g.C.Cell.state h.cell) _ _ _ _ (ends_from_hand b.setting form _ _ c.args.tab c.args.slot v h.cell h.place) c.args.pass.now.at_hand (c.ended_at.ensures ∙ ap (λ (z : At). ended_here z c.args.goes_on) c.at-at.ensures) c.set.ensures told.step;
+      at_hand = ended_hand b.setting b v _ c.args.tab c.args.slot _ c.args.then (shown g.C.Cell.tells g.C.Cell.state h.cell) _ _ _ _ (ends_from_hand b.setting form _ _ c.args.tab c.args.slot v h.cell h.place) c.args.pass.now.at_hand (c.ended_at.ensures ∙ ap (λ (z : At). ended_here z c.args.then) c.at-at.ensures) c.set.ensures told.step;
     }
 
 pub returns : goal.returns
@@ -38,7 +38,7 @@ returns g c = let met = c.swap_as.ensures in let h = c.requires.home in let v = 
       place = h.place;
       from = returned_by b.setting (tab_at v c.args.tab) c.args.tab c.args.slot (shown g.C.Cell.tells g.C.Cell.state h.cell) v;
       returned = is_returned b.setting (tab_at v c.args.tab) c.args.tab c.args.slot (shown g.C.Cell.tells g.C.Cell.state h.cell) v;
-      step = ended_from b _ _ _ c.args.tab c.args.slot _ c.args.goes_on from met.told.step;
+      step = ended_from b _ _ _ c.args.tab c.args.slot _ c.args.then from met.told.step;
       others = met.told.out;
       left = refl;
       desks = refl;
@@ -47,5 +47,5 @@ returns g c = let met = c.swap_as.ensures in let h = c.requires.home in let v = 
     }
 
 pub ended_at-requires : goal.ended_at-requires
-ended_at-requires g c = subst (λ (z : At). HasNext z c.args.goes_on) (sym c.at-at.ensures)
-    (has_next (basis g.C.Cell.tells g.C.Cell.state g.O.Origin.offers c.args.self.now) (view c.args.pass.now) c.requires.may.own.stands c.args.tab c.args.slot c.args.goes_on (few_slots _ _ c.args.self.now.slots_are c.args.self.now.few) (may_of c.args.pass.now c.requires.may.can.allowed))
+ended_at-requires g c = subst (λ (z : At). HasNext z c.args.then) (sym c.at-at.ensures)
+    (has_next (basis g.C.Cell.tells g.C.Cell.state g.O.Origin.offers c.args.self.now) (view c.args.pass.now) c.requires.may.own.stands c.args.tab c.args.slot c.args.then (few_slots _ _ c.args.self.now.slots_are c.args.self.now.few) (may_of c.args.pass.now c.requires.may.can.allowed))

@@ -1,5 +1,5 @@
 use Rattle.std.proofs.Common.{List, arith, refl, subst, sym}
-use Rattle.serve_lines.specs.declared.tabs.ScriptTab.{ScriptTab}
+use Rattle.store_serve.specs.declared.tabs.ScriptTab.{ScriptTab}
 use Rattle.worker_shelf.specs.Shelves.{HasShelf}
 use Rattle.worker_shelf.proofs.Views.{all_free, left_of, put_back, shelf_on, takes_stay}
 use Rattle.worker_shelf.proofs.shelf.WorkerShelfShelf.leave_all.Goals as goal

@@ -1,0 +1,11 @@
+pub mod Asks
+pub mod Cases
+pub mod Faults
+pub mod Going
+pub mod Numbers
+pub mod ReadEntries
+pub mod Sends
+pub mod Stored
+pub mod Takes
+pub mod Turns
+pub mod WrittenEntries

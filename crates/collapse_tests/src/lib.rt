@@ -1,5 +1,0 @@
-//! Tests of forwarding.
-#![tactic(auto)]
-
-#[cfg(test)]
-mod fetching;

@@ -1,0 +1,211 @@
+-- Lines that no run explains.
+use Rattle.std.proofs.Common.{◌≡◌, ◌⊎◌, inl, inr, ⊎_elim, ℕ, ◌<◌, ◌≤◌, zero, suc, List, [], ◌∷◌, ◌++◌, sym, refl, ap, ◌∙◌, subst, arith, true, cond}
+use Rattle.std.specs.Prelude.{IsTrue, None, Some}
+use mathlib.Core.Option.{some, some-injective, some-ne-none}
+use lib.ListN.{get_elem?}
+use Rattle.lock_word.specs.Words.{epoch_number, stage_of, version_of}
+use Rattle.lock_word.specs.declared.epoch.Epoch.{Epoch}
+use Rattle.store_key.specs.Anchor.{anchor_of}
+use Rattle.store_key.specs.Key.{key_of}
+use Rattle.script_text.specs.declared.answer.Answer.{Answer}
+use Rattle.script_text.specs.declared.answer.Answer.TheVariants as answer
+use Rattle.script_text.specs.declared.body.Body.{Body}
+use Rattle.script_text.specs.declared.line.Line.{Line}
+use Rattle.script_text.specs.declared.request.Request.{Request}
+use Rattle.script_text.specs.declared.request.Request.TheVariants.{Begin, DropTab, Get, OpenTab, Purge, Put}
+use Rattle.core_model.specs.Anchors.{opening_counter, opening_epoch}
+use Rattle.line_account.specs.Alone.{alone, home}
+use Rattle.line_account.specs.Answers.{IsWhole, Run}
+use Rattle.line_account.specs.Closing.{BegunIn, HaltedIn, LineIn, TellsBegunIn, Worker}
+use Rattle.line_account.specs.Deeds.{Began, Begins, TellsBegun}
+use Rattle.script_text.specs.Requests.{url_in}
+use Rattle.line_account.specs.Lines.{Served, begins, begun_of, ends, gives_up, opened_of, writing}
+use Rattle.line_account.specs.Order.{Opens}
+use Rattle.line_account.specs.Printed.{Finds, ReadsWhole, TellsFound}
+use Rattle.line_account.specs.Rules.{KeepsRules}
+
+-- The lines of a worker, from all of them.
+
+two_lines : (s t : Served) (later earlier : List Served) (x : Served) → s ∷ t ∷ [] ≡ later ++ x ∷ earlier → (s ≡ x) ⊎ (t ≡ x)
+two_lines s t [] earlier x e = inl cc
+two_lines s t (y ∷ []) earlier x e = inr cc
+two_lines s t (y ∷ z ∷ []) earlier x e = absurd (let n : [] ≡ x ∷ earlier = cc in cc)
+two_lines s t (y ∷ z ∷ v ∷ later) earlier x e = absurd (let n : [] ≡ v ∷ (later ++ x ∷ earlier) = cc in cc)
+
+one_url : (u v : List ℕ) → Some u ≡ Some v → u ≡ v
+one_url u v e = cc
+
+module _ {X : Type 0} (r : Run X) (script : List Line) (crew : List (Worker X)) (rules : KeepsRules r script crew) where
+  -- a worker of the crew printed BEGUN on the tab 0, and nothing more of it than this list has
+  module _ (j : ℕ) (u : Worker X) (at : get_elem? crew j ≡ some u) (later : List Served) (b : Served) (served : u.served ≡ later ++ b ∷ []) (url : List ℕ) (body : Body) (x : ℕ)
+      (bq : b.line.request ≡ Begin 0 url body) (ba : b.answer ≡ answer.Begun x) where
+    abbrev a : ℕ
+    a = anchor_of (key_of url) r.setting.anchors
+
+    tells_begun : TellsBegunIn r crew a x
+    tells_begun = record {
+      j = j;
+      worker = u;
+      at = at;
+      line_of = record {
+        later = later;
+        line = b;
+        earlier = [];
+        split = served;
+        so = record {
+          anchor = record { url = url; named_is = ap url_in bq; anchor = refl };
+          told = subst (λ (q : Request). TellsBegun q b.answer x) (sym bq) (subst (λ (z : Answer). TellsBegun (Begin 0 url body) z x) (sym ba) refl);
+        };
+      };
+    }
+
+    begins_x : Begins r.setting.anchors b a x
+    unfolding tells_begun
+    begins_x = rules.versions.told a x tells_begun
+
+    begun : BegunIn r crew a x
+    begun = record { j = j; worker = u; at = at; line_of = record { later = later; line = b; earlier = []; split = served; so = begins_x } }
+
+    high : opening_counter r.setting < x
+    high = (rules.versions.bounds a x begun).0
+
+    begins_there : begins 0 b.line.request b.answer ≡ true
+    begins_there = ap (λ (q : Request). begins 0 q b.answer) bq ∙ ap (begins 0 (Begin 0 url body)) ba
+
+    writes : writing 0 (b ∷ []) ≡ Some b
+    writes = λ i. cond (begins_there i) (Some b) (cond (ends 0 b.line.request b.answer) None None)
+
+    -- no `get` prints HIT of what was halted
+    no_hit : IsTrue r.tells → (l : ℕ) (w : Worker X) → get_elem? crew l ≡ some w → (g : Served) (bytes : List ℕ) → w.served ≡ g ∷ [] → g.line.request ≡ Get url → g.answer ≡ answer.Hit x bytes → HaltedIn r crew a x → ⊥
+    no_hit y l w there g bytes ws gq ga halted = (rules.bodies y).not_halted a x hit high halted
+      where
+        hit : LineIn crew (λ earlier s. ReadsWhole r.setting.anchors earlier s a x)
+        hit = record {
+          j = l;
+          worker = w;
+          at = there;
+          line_of = record {
+            later = [];
+            line = g;
+            earlier = [];
+            split = ws;
+            so = record {
+              of = record {
+                first = g;
+                opened_is = ap (opened_of [] g) gq;
+                anchor = record { url = url; named_is = ap url_in gq; anchor = refl };
+                told = subst (λ (z : Answer). Opens z x) (sym ga) refl;
+              };
+              whole = subst IsWhole (sym ga) tt;
+            };
+          };
+        }
+
+module _ {X : Type 0} (r : Run X) (script : List Line) (u w : Worker X) (rules : KeepsRules r script (u ∷ w ∷ [])) (y : IsTrue r.tells) where
+  pub dropped_not_hit : (b d g : Served) (url bytes : List ℕ) (body : Body) (x : ℕ) → u.served ≡ d ∷ b ∷ [] → w.served ≡ g ∷ []
+      → b.line.request ≡ Begin 0 url body → b.answer ≡ answer.Begun x → d.line.request ≡ DropTab 0 → d.answer ≡ answer.Dropped
+      → g.line.request ≡ Get url → g.answer ≡ answer.Hit x bytes → ⊥
+  dropped_not_hit b d g url bytes body x us ws bq ba dq da gq ga =
+      let began = begins_x r script (u ∷ w ∷ []) rules 0 u refl (d ∷ []) b us url body x bq ba in
+      no_hit r script (u ∷ w ∷ []) rules 0 u refl (d ∷ []) b us url body x bq ba y 1 w refl g bytes ws gq ga (inl (record {
+        j = 0;
+        worker = u;
+        at = refl;
+        line_of = record {
+          later = [];
+          line = d;
+          earlier = b ∷ [];
+          split = us;
+          so = record {
+            writes = record {
+              first = b;
+              begun_is = ap (begun_of (b ∷ []) d) dq ∙ writes r script (u ∷ w ∷ []) rules 0 u refl (d ∷ []) b us url body x bq ba;
+              drew = began.drew;
+              anchor = began.anchor;
+            };
+            gave_up = ap gives_up da;
+          };
+        };
+      }))
+
+  pub left_not_hit : (b g : Served) (url bytes : List ℕ) (body : Body) (x : ℕ) → u.served ≡ b ∷ [] → w.served ≡ g ∷ []
+      → b.line.request ≡ Begin 0 url body → b.answer ≡ answer.Begun x → g.line.request ≡ Get url → g.answer ≡ answer.Hit x bytes → ⊥
+  left_not_hit b g url bytes body x us ws bq ba gq ga =
+      let began = begins_x r script (u ∷ w ∷ []) rules 0 u refl [] b us url body x bq ba in
+      no_hit r script (u ∷ w ∷ []) rules 0 u refl [] b us url body x bq ba y 1 w refl g bytes ws gq ga (inr (record {
+        j = 0;
+        worker = u;
+        at = refl;
+        writing = record {
+          tab = 0;
+          writes = record {
+            first = b;
+            begun_is = ap (writing 0) us ∙ writes r script (u ∷ w ∷ []) rules 0 u refl [] b us url body x bq ba;
+            drew = began.drew;
+            anchor = began.anchor;
+          };
+        };
+      }))
+
+module _ {X : Type 0} (r : Run X) (script : List Line) (w : Worker X) (rules : KeepsRules r script (alone w)) where
+  abbrev line_in : (later : List Served) (s : Served) (earlier : List Served) → w.served ≡ later ++ s ∷ earlier → (P : List Served → Served → Type 0) → P earlier s → LineIn (alone w) P
+  line_in later s earlier e P h = record { j = 0; worker = w; at = refl; line_of = record { later = later; line = s; earlier = earlier; split = e; so = h } }
+
+  abbrev FindsSo : ℕ → ℕ → List ℕ → List Served → Served → Type 0
+  FindsSo a x url earlier s = Finds r.setting.anchors s a x url
+
+  pub never_opened : (s : Served) (url : List ℕ) → w.served ≡ s ∷ [] → opening_epoch r.setting (home r url) ≡ 0 → s.line.request ≡ OpenTab 0 url → s.answer ≡ answer.Opened 0 → ⊥
+  never_opened s url e none sq sa =
+      let had = rules.epochs.found_old (home r url) 0 url
+      (line_in [] s [] e (FindsSo (home r url) 0 url) (record { named = ap url_in sq; anchor = refl; found = subst (λ (z : Answer). TellsFound z 0) (sym sa) refl })) (omega arith) in
+      let empty = ap stage_of none in
+      omega arith
+
+  pub never_purged : (s : Served) (e : Epoch) → w.served ≡ s ∷ [] → s.answer ≡ answer.Purged e → (2 ≤ stage_of (epoch_number e)) × (stage_of (epoch_number e) ≤ 4)
+  never_purged s e is sa = rules.epochs.purged_stage e (line_in [] s [] is (λ earlier z. z.answer ≡ answer.Purged e) sa)
+
+  -- a `put` of one URL, and a `purge` of another
+  module _ (p s : Served) (url other : List ℕ) (body : Body) (x : ℕ) (e : Epoch) (is : w.served ≡ s ∷ p ∷ []) (pq : p.line.request ≡ Put other body) (pa : p.answer ≡ answer.Stored x)
+      (sq : s.line.request ≡ Purge url) (sa : s.answer ≡ answer.Purged e) (of : version_of (epoch_number e) ≡ x) where
+    abbrev here : ℕ
+    here = home r url
+
+    abbrev put_at : ℕ
+    put_at = home r other
+
+    put_begun : TellsBegunIn r (alone w) put_at x
+    put_begun = record {
+      j = 0;
+      worker = w;
+      at = refl;
+      line_of = record {
+        later = s ∷ [];
+        line = p;
+        earlier = [];
+        split = is;
+        so = record {
+          anchor = record { url = other; named_is = ap url_in pq; anchor = refl };
+          told = subst (λ (q : Request). TellsBegun q p.answer x) (sym pq) (subst (λ (z : Answer). TellsBegun (Put other body) z x) (sym pa) refl);
+        };
+      };
+    }
+
+    above : opening_counter r.setting < x
+    unfolding put_begun
+    above = (rules.versions.bounds put_at x (line_in (s ∷ []) p [] is (λ earlier z. Begins r.setting.anchors z put_at x) (rules.versions.told put_at x put_begun))).0
+
+    -- the line that began a version is the `put`
+    begun_by_put : (l : ℕ) (v : Worker X) → get_elem? (alone w) l ≡ some v → (later earlier : List Served) (z : Served) → v.served ≡ later ++ z ∷ earlier → Begins r.setting.anchors z here x → p ≡ z
+    begun_by_put zero v at later earlier z split begins_it = ⊎_elim
+        (λ (purge : s ≡ z). absurd (subst (λ (q : Request). Began q z.answer x) (ap (λ (y : Served). y.line.request) (sym purge) ∙ sq) begins_it.began))
+        (λ (put : p ≡ z). put)
+        (two_lines s p later earlier z (sym is ∙ ap Worker.served (some-injective w v at) ∙ split))
+    begun_by_put (suc l) v at later earlier z split begins_it = absurd (some-ne-none v (sym at))
+
+    pub one_key : key_of other ≡ key_of url
+    one_key =
+        let k = rules.keys.found_new here x url (line_in [] s (p ∷ []) is (FindsSo here x url) (record { named = ap url_in sq; anchor = refl; found = subst (λ (z : Answer). TellsFound z x) (sym sa) of })) above in
+        let l = k.begun.line_of in
+        let put = begun_by_put k.begun.j k.begun.worker k.begun.at l.later l.earlier l.line l.split l.so in
+        let same : k.url ≡ other = one_url k.url other (sym k.url_is ∙ ap (λ (y : Served). url_in y.line.request) (sym put) ∙ ap url_in pq) in
+        sym (k.key_is ∙ ap key_of same)

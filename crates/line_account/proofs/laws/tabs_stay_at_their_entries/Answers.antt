@@ -1,0 +1,17 @@
+use Rattle.line_account.proofs.Tabs.{front_new, front_old, halted_same, none_behind_end, part_same}
+use Rattle.line_account.proofs.laws.tabs_stay_at_their_entries.Goals as goal
+
+pub returns-clause-part : goal.returns-clause-part
+returns-clause-part c start r crew a x epoch closed p = part_same r crew closed a x epoch p
+
+pub returns-clause-halted : goal.returns-clause-halted
+returns-clause-halted c start r crew a x closed p = halted_same r crew closed a x p
+
+pub returns-clause-old : goal.returns-clause-old
+returns-clause-old c start r crew a x closed y p low = front_old r crew closed a x y p low
+
+pub returns-clause-new : goal.returns-clause-new
+returns-clause-new c start r crew a x closed y p high = front_new r crew closed a x y p high
+
+pub returns-clause-behind_end : goal.returns-clause-behind_end
+returns-clause-behind_end c start r crew tab closed y p = none_behind_end r crew closed y tab p

@@ -1,0 +1,83 @@
+-- What the lines of one tab that reads have in common.
+use Rattle.std.specs.Prelude.{Bool, IsTrue, List, [], cond, false, length, take, true, ◌&&◌, ◌<◌, ◌==◌, ◌||◌, ◌∷◌, ◌≡◌, ◌≤◌, ℕ}
+use Rattle.lock_word.specs.Words.{epoch_number, version_of}
+use Rattle.lock_word.specs.declared.epoch.Epoch.{Epoch}
+use Rattle.plain_model.specs.Serving.{bytes_of}
+use Rattle.script_text.specs.declared.answer.Answer.{Answer}
+use Rattle.script_text.specs.declared.answer.Answer.TheVariants as answer
+use Rattle.script_text.specs.declared.body.Body.{Body}
+use Rattle.script_text.specs.declared.request.Request.{Request}
+use Rattle.script_text.specs.declared.request.Request.TheVariants.{More}
+use Rattle.core_model.specs.Anchors.{opening_counter}
+use Rattle.line_account.specs.Answers.{IsWhole, Reads, Run, bytes_with}
+use Rattle.line_account.specs.Closing.{BegunIn, HaltedIn, LineIn, Worker}
+use Rattle.line_account.specs.Lines.{Offers, Served, bytes_in, opens}
+use Rattle.line_account.specs.Printed.{HadEntry, ReadsVersion, old_offer}
+
+abbrev pub is_end : Answer → Bool
+is_end (answer.End bytes) = true
+is_end _ = false
+
+-- the line read on the tab t and printed END
+abbrev pub comes_to_end : ℕ → Request → Answer → Bool
+comes_to_end t (More u) a = (u == t) && is_end a
+comes_to_end t _ a = false
+
+-- a line did so among these, since the tab was opened
+abbrev pub came_to_end : ℕ → List Served → Bool
+came_to_end t [] = false
+came_to_end t (s ∷ earlier) = cond (opens t s.line.request s.answer) false (comes_to_end t s.line.request s.answer || came_to_end t earlier)
+
+-- a line that reads what was opened with the version x at the anchor a
+pub record ReadsOn (anchors : ℕ) (earlier : List Served) (s : Served) (a x : ℕ) : Type 0 where
+  pub of : ReadsVersion anchors earlier s a x
+  pub reads : Reads s.answer
+
+-- it printed PART with this epoch, or HALTED
+pub record ReadsPart (anchors : ℕ) (earlier : List Served) (s : Served) (a x : ℕ) (epoch : Epoch) : Type 0 where
+  pub of : ReadsVersion anchors earlier s a x
+  pub bytes : List ℕ
+  pub printed : s.answer ≡ answer.Part epoch bytes
+
+pub record ReadsHalted (anchors : ℕ) (earlier : List Served) (s : Served) (a x : ℕ) : Type 0 where
+  pub of : ReadsVersion anchors earlier s a x
+  pub bytes : List ℕ
+  pub printed : s.answer ≡ answer.Halted bytes
+
+-- a line that reads on a tab which came to END
+pub record ReadsBehindEnd (earlier : List Served) (s : Served) (tab : ℕ) : Type 0 where
+  pub request : s.line.request ≡ More tab
+  pub reads : Reads s.answer
+  pub ended : came_to_end tab earlier ≡ true
+
+-- the bytes are the first ones of the body of the entry that the anchor a had at the opening, and all of it where the answer says so
+pub record IsFrontOfOld {X : Type 0} (r : Run X) (a : ℕ) (told : Answer) (bytes : List ℕ) : Type 0 where
+  pub there : HadEntry r a
+  pub first_ones : bytes ≡ take (length bytes) (r.body (old_offer r a))
+  pub whole : IsWhole told → bytes ≡ r.body (old_offer r a)
+
+-- or of the body that the line offers which began the version x at the anchor a
+pub record IsFrontOfLine {X : Type 0} (r : Run X) (crew : List (Worker X)) (a x : ℕ) (told : Answer) (bytes : List ℕ) : Type 0 where
+  pub begun : BegunIn r crew a x
+  pub url : List ℕ
+  pub body : Body
+  pub offers : Offers begun.line_of.line.line.request url body
+  pub first_ones : bytes ≡ take (length bytes) (bytes_of body)
+  pub whole : IsWhole told → bytes ≡ bytes_of body
+
+module _ {X : Type 0} (r : Run X) (crew : List (Worker X)) where
+  pub record TabsStay : Type 0 where
+    -- PART on a tab is of the version that its OPEN printed
+    pub part : (a x : ℕ) (epoch : Epoch) → LineIn crew (λ earlier s. ReadsPart r.setting.anchors earlier s a x epoch)
+        → version_of (epoch_number epoch) ≡ x
+    -- HALTED on a tab comes only where the writing of that version was halted
+    pub halted : (a x : ℕ) → LineIn crew (λ earlier s. ReadsHalted r.setting.anchors earlier s a x) → HaltedIn r crew a x
+    -- All bytes that a tab gave since its OPEN are the first ones of one body: of a version of the opening that of the entry that the
+    -- anchor had then, and of a later one that of the line that began the version. They are all of it at END; and so are those of HIT.
+    pub old : IsTrue r.tells → (a x : ℕ) → (p : LineIn crew (λ earlier s. ReadsOn r.setting.anchors earlier s a x))
+        → x ≤ opening_counter r.setting → IsFrontOfOld r a p.line_of.line.answer (bytes_with p.line_of.earlier p.line_of.line)
+    pub new : IsTrue r.tells → (a x : ℕ) → (p : LineIn crew (λ earlier s. ReadsOn r.setting.anchors earlier s a x))
+        → opening_counter r.setting < x → IsFrontOfLine r crew a x p.line_of.line.answer (bytes_with p.line_of.earlier p.line_of.line)
+    -- and behind END a tab gives no byte
+    pub behind_end : IsTrue r.tells → (tab : ℕ) → (p : LineIn crew (λ earlier s. ReadsBehindEnd earlier s tab))
+        → bytes_in p.line_of.line.answer ≡ []

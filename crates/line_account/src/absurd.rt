@@ -1,0 +1,60 @@
+//! Examples: lines that no run explains, for the rules refuse them. Each says by which rule.
+ghost use Rattle.std.specs.Prelude.{◌≡◌, ◌≢◌, ◌∷◌, IsTrue, ℕ, List, [], true};
+ghost use Rattle.lock_word.specs.declared.epoch.Epoch.{Epoch};
+ghost use Rattle.lock_word.specs.declared.stage.Stage.TheVariants as stage;
+ghost use Rattle.store_key.specs.Key.{key_of};
+ghost use Rattle.script_text.specs.declared.answer.Answer.{Answer};
+ghost use Rattle.script_text.specs.declared.body.Body.{Body};
+ghost use Rattle.script_text.specs.declared.line.Line.{Line};
+ghost use Rattle.script_text.specs.declared.request.Request.{Request};
+ghost use Rattle.core_model.specs.Anchors.{opening_epoch};
+ghost use Rattle.line_account.specs.Lines.{Served};
+ghost use Rattle.line_account.specs.Answers.{Run};
+ghost use Rattle.line_account.specs.Closing.{Worker};
+ghost use Rattle.line_account.specs.Alone.{alone, home};
+ghost use Rattle.line_account.specs.Rules.{KeepsRules};
+
+/// `begin` printed BEGUN and `drop` DROPPED, and another worker's `get` printed HIT with the version: what was given up is
+/// no hit (`bodies.not_halted`).
+pub fn nothing_dropped_is_hit<X>()
+    ensures { (r : Run X) (script : List Line) (u w : Worker X) (b d g : Served) (url bytes : List ℕ) (body : Body) (x : ℕ)
+        → KeepsRules r script (u ∷ w ∷ []) → IsTrue r.tells → u.served ≡ d ∷ b ∷ [] → w.served ≡ g ∷ []
+        → b.line.request ≡ Request.Begin 0 url body → b.answer ≡ Answer.Begun x → d.line.request ≡ Request.DropTab 0 → d.answer ≡ Answer.Dropped
+        → g.line.request ≡ Request.Get url → g.answer ≡ Answer.Hit x bytes → ⊥ }
+{}
+
+/// `begin` printed BEGUN, and the worker has no other line. A `get` of another worker printed HIT with the version: what was left
+/// to a worker's end is no hit (`bodies.not_halted`).
+pub fn nothing_left_is_hit<X>()
+    ensures { (r : Run X) (script : List Line) (u w : Worker X) (b g : Served) (url bytes : List ℕ) (body : Body) (x : ℕ)
+        → KeepsRules r script (u ∷ w ∷ []) → IsTrue r.tells → u.served ≡ b ∷ [] → w.served ≡ g ∷ []
+        → b.line.request ≡ Request.Begin 0 url body → b.answer ≡ Answer.Begun x
+        → g.line.request ≡ Request.Get url → g.answer ≡ Answer.Hit x bytes → ⊥ }
+{}
+
+/// `open` printed OPEN 0 at an anchor that had nothing when the store was opened (`epochs.found_old`).
+pub fn nothing_is_opened_that_never_was<X>()
+    ensures { (r : Run X) (script : List Line) (w : Worker X) (s : Served) (url : List ℕ)
+        → KeepsRules r script (alone w) → w.served ≡ s ∷ [] → opening_epoch r.setting (home r url) ≡ 0
+        → s.line.request ≡ Request.OpenTab 0 url → s.answer ≡ Answer.Opened 0 → ⊥ }
+{}
+
+/// `purge` printed PURGED 0.0d: an anchor at EMPTY has no entry that may be purged (`epochs.purged_stage`). Nor has one at
+/// GONE, PURGED 0.6d.
+pub fn nothing_is_purged_that_never_was<X>()
+    ensures empty { (r : Run X) (script : List Line) (w : Worker X) (s : Served) (url : List ℕ) (x : ℕ)
+        → KeepsRules r script (alone w) → w.served ≡ s ∷ [] → s.line.request ≡ Request.Purge url
+        → s.answer ≡ Answer.Purged (record { version = x; stage = stage.Empty; doom = true }) → ⊥ }
+    ensures gone { (r : Run X) (script : List Line) (w : Worker X) (s : Served) (url : List ℕ) (x : ℕ)
+        → KeepsRules r script (alone w) → w.served ≡ s ∷ [] → s.line.request ≡ Request.Purge url
+        → s.answer ≡ Answer.Purged (record { version = x; stage = stage.Gone; doom = true }) → ⊥ }
+{}
+
+/// `put` of one URL printed STORED, and a `purge` of another URL, with another key, printed PURGED with the version
+/// (`keys.found_new`).
+pub fn no_neighbour_is_purged<X>()
+    ensures { (r : Run X) (script : List Line) (w : Worker X) (p s : Served) (url other : List ℕ) (body : Body) (x : ℕ)
+        → KeepsRules r script (alone w) → w.served ≡ s ∷ p ∷ [] → key_of other ≢ key_of url
+        → p.line.request ≡ Request.Put other body → p.answer ≡ Answer.Stored x
+        → s.line.request ≡ Request.Purge url → s.answer ≡ Answer.Purged (record { version = x; stage = stage.Closed; doom = true }) → ⊥ }
+{}

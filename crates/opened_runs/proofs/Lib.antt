@@ -1,5 +1,0 @@
-mod Begun
-mod AtAnchors
-mod Pasts
-mod OldEntries
-mod Stores

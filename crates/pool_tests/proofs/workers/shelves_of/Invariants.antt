@@ -1,5 +1,0 @@
-use Rattle.std.proofs.Common.{◌≡◌, vec_len}
-use Rattle.pool_tests.proofs.workers.shelves_of.Given as goal
-
-abbrev pub invariant-loop-room : goal.invariant-loop-room
-invariant-loop-room l = vec_len l.shelves ≡ l.room-index

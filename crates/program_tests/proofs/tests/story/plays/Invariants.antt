@@ -1,6 +1,0 @@
-use Rattle.rock_disk.specs.File.{NoneAway}
-use Rattle.rock_disk.specs.Memory.{volume_files}
-use Rattle.program_tests.proofs.tests.story.plays.Given as goal
-
-abbrev pub invariant-loop-paragraph : goal.invariant-loop-paragraph
-invariant-loop-paragraph g l = NoneAway (volume_files l.stage.volume)

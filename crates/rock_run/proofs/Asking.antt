@@ -1,0 +1,96 @@
+-- What may be asked of a store that is offered what the lines of a script offer.
+use Rattle.std.proofs.Common.{◌∙◌, ◌+◌, ◌-◌, ◌≡◌, ◌≢◌, Bool, Contains, List, [], ap, arith, refl, ℕ}
+use Rattle.std.specs.Prelude.{None, Option, Some, option_and_then}
+use Rattle.std.specs.Option.{option_map_or}
+use Rattle.rock_disk.specs.Cell.{CellState}
+use Rattle.store_key.specs.Url.{IsUrl}
+use Rattle.script_text.specs.Lines.{AreLines}
+use Rattle.script_text.specs.Requests.{SpellsRequest}
+use Rattle.script_text.specs.declared.body.Body.{Body}
+use Rattle.script_text.specs.declared.line.Line.{Line}
+use Rattle.script_text.specs.declared.request.Request.{Request}
+use Rattle.script_text.specs.declared.request.Request.TheVariants.{Add, Await, Begin, CloseTab, DropTab, End, Get, Mark, More, OpenTab, Purge, Put, Save}
+use Rattle.script_text.specs.declared.verb.Verb.{Verb}
+use Rattle.plain_model.specs.Serving.{bytes_of}
+use Rattle.store_rule.specs.Ground.{Offers, anchor_for}
+use Rattle.store_rule.specs.Passes.{basis}
+use Rattle.store_rule.specs.declared.store.Pass.{Pass}
+use Rattle.store_rule.specs.declared.store.Store.{Store}
+use Rattle.worker_shelf.specs.Taking.{IsOffered, MayAsk, MayGo, offer_of}
+use Rattle.rock_run.specs.Asked.{IsAsked, IsFound}
+use Rattle.rock_run.specs.Offered.{Response, offered_by, offered_in, offers_of}
+use Rattle.rock_run.proofs.Found.{found, spelled}
+
+-- a request that is spelled by words of a script names a tab and a URL of one
+asked_by_words : (request : Request) (name : Verb) (words : List (List ℕ)) → SpellsRequest request name words → IsAsked request
+asked_by_words (Put url body) name words h = h.1.0
+asked_by_words (Save url body) name words h = h.1.0
+asked_by_words (Get url) name words h = h.1.0
+asked_by_words (Purge url) name words h = h.1.0
+asked_by_words (Begin tab url body) name words h = (h.1.0, h.1.1)
+asked_by_words (Add tab count) name words h = h.1.0
+asked_by_words (End tab) name words h = h.1.0
+asked_by_words (DropTab tab) name words h = h.1.0
+asked_by_words (OpenTab tab url) name words h = (h.1.0, h.1.1)
+asked_by_words (More tab) name words h = h.1.0
+asked_by_words (CloseTab tab) name words h = h.1.0
+asked_by_words (Mark mark) name words h = tt
+asked_by_words (Await mark) name words h = tt
+
+url_offered : (lines : List Line) (number : ℕ) (url : List ℕ) (body : Body) → offered_by lines number ≡ Some record { url = url; body = body } → (offers_of lines).url number ≡ url
+unfolding offers_of
+url_offered lines number url body e = ap (λ (o : Option Response). option_map_or (λ (r : Response). r.url) o []) e
+
+body_offered : (lines : List Line) (number : ℕ) (url : List ℕ) (body : Body) → offered_by lines number ≡ Some record { url = url; body = body } → (offers_of lines).body number ≡ bytes_of body
+unfolding offers_of
+body_offered lines number url body e = ap (λ (o : Option Response). option_map_or (λ (r : Response). bytes_of r.body) o []) e
+
+left_to_none : (lines : List Line) (a : ℕ) → (offers_of lines).alone a ≡ None
+unfolding offers_of
+left_to_none lines a = refl
+
+behind : (slots number : ℕ) → (slots + number) - slots ≡ number
+behind slots number = omega arith
+
+module _ {C O : Type 0} (tells : Bool) (state : C → CellState) (offers : O → Offers) (s : Store C O) (lines : List Line) (given : (basis tells state offers s).offers ≡ offers_of lines) where
+  is_offered : (number : ℕ) (url : List ℕ) (body : Body) → IsUrl url → offered_by lines number ≡ Some record { url = url; body = body }
+      → IsOffered tells state offers s (offer_of tells state offers s number) url body
+  is_offered number url body good e = record {
+    from = omega arith;
+    url_is = ap (basis tells state offers s).offers.url (behind (basis tells state offers s).setting.slots number)
+        ∙ (ap (λ (o : Offers). o.url number) given ∙ url_offered lines number url body e);
+    body_is = ap (basis tells state offers s).offers.body (behind (basis tells state offers s).setting.slots number)
+        ∙ (ap (λ (o : Offers). o.body number) given ∙ body_offered lines number url body e);
+    good = good;
+  }
+
+  may_ask : (number : ℕ) (request : Request) → IsAsked request → offered_by lines number ≡ offered_in request
+      → ((mark : ℕ) → request ≢ Mark mark) → ((mark : ℕ) → request ≢ Await mark) → MayAsk tells state offers s number request
+  may_ask number (Put url body) h e marks awaits = is_offered number url body h e
+  may_ask number (Save url body) h e marks awaits = is_offered number url body h e
+  may_ask number (Get url) h e marks awaits = h
+  may_ask number (Purge url) h e marks awaits = h
+  may_ask number (Begin tab url body) h e marks awaits = let le = h.0 in (omega arith, is_offered number url body h.1 e)
+  may_ask number (Add tab count) h e marks awaits = omega arith
+  may_ask number (End tab) h e marks awaits = omega arith
+  may_ask number (DropTab tab) h e marks awaits = omega arith
+  may_ask number (OpenTab tab url) h e marks awaits = let le = h.0 in (omega arith, h.1)
+  may_ask number (More tab) h e marks awaits = omega arith
+  may_ask number (CloseTab tab) h e marks awaits = omega arith
+  may_ask number (Mark mark) h e marks awaits = marks mark refl
+  may_ask number (Await mark) h e marks awaits = awaits mark refl
+
+  -- a line that is the first of its number may ask for what it asks
+  pub asks : (line : Line) → IsFound lines line → IsAsked line.request
+      → ((mark : ℕ) → line.request ≢ Mark mark) → ((mark : ℕ) → line.request ≢ Await mark) → MayAsk tells state offers s line.number line.request
+  asks line found asked marks awaits =
+      may_ask line.number line.request asked (ap (option_and_then (λ (l : Line). offered_in l.request)) found) marks awaits
+
+  pub goes : (p : Pass C) (url : List ℕ) → MayGo tells state offers s p url
+  goes p url pass e =
+      let a : ℕ = anchor_for (basis tells state offers s) url in
+      cc (ap (λ (o : Offers). o.alone a) given, left_to_none lines a, e)
+
+-- each line of a script that was read is the first of its number, and asks for what one may ask
+pub read : {workers : ℕ} {texts : List (List ℕ)} {lines : List Line} → AreLines workers texts lines → (line : Line) → Contains lines line → IsFound lines line × IsAsked line.request
+read are line among = let is = spelled are line among in (found are line among, asked_by_words line.request is.name is.words is.spells)

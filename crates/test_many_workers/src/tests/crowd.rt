@@ -1,0 +1,68 @@
+// Many workers at once. What each is answered depends on the others, and is judged by rules.
+ghost use Rattle.std.specs.Prelude.{◌<◌};
+
+use super::calls::call;
+use rock_disk::MemVolume;
+use rock_status::Status;
+use std::alloc::Global;
+use std::process::Abort;
+use std::sync::Wait;
+use std::test::Fail;
+use std::thread::Threads;
+use test_many_workers_kit::{WORKERS, judge, lines_about, script_of};
+use test_stories::Pipes;
+
+/// Runs such a script over a new file, with more slots than all workers hold at once, and judges what is printed. Another
+/// run finds what the first worker stored at last.
+fn crowds<R: Abort + Threads + Wait + Sync>(
+    rt: &R,
+    alloc: Global,
+    anchors: u32,
+    urls: u32,
+) -> Result<(), Fail>
+    requires { 0 < urls }
+{
+    let lines = lines_about(alloc, urls)?;
+    let pipes = Pipes::new(alloc);
+    let mut volume = MemVolume::new(alloc, Vec::new(alloc), Vec::new(alloc));
+    let made = call(rt, alloc, &mut volume, &pipes, "create db 512 512", b"")?;
+    assert_eq!(rt; made.status, Status::Done);
+    let run = format!(in alloc; "run db 512 {anchors} {WORKERS}")?;
+    let script = script_of(alloc, &lines)?;
+    let ended = call(rt, alloc, &mut volume, &pipes, run.as_str(), &script)?;
+    assert_eq!(rt; ended.status, Status::Done);
+    let Ok(printed) = std::str::from_utf8(&ended.printed) else {
+        return Err(Fail::from("answers are text"));
+    };
+    let last = judge(alloc, &lines, anchors, printed)?;
+    let again = format!(in alloc; "run db 512 {anchors} 1")?;
+    let ended = call(
+        rt,
+        alloc,
+        &mut volume,
+        &pipes,
+        again.as_str(),
+        b"1 get http://a/00",
+    )?;
+    let last = format!(in alloc; "1 1 {last}\n")?;
+    assert_eq!(rt; std::str::from_utf8(&ended.printed), Ok(last.as_str()));
+    Ok(())
+}
+
+#[test]
+fn workers_crowd_at_one_anchor(rt: HostRuntime) -> Result<(), Fail> {
+    for turn in 0..4u32 {
+        let _ = turn;
+        crowds(&rt, rt.alloc(), 1, 2)?;
+    }
+    Ok(())
+}
+
+#[test]
+fn workers_crowd_at_32_anchors(rt: HostRuntime) -> Result<(), Fail> {
+    for turn in 0..4u32 {
+        let _ = turn;
+        crowds(&rt, rt.alloc(), 32, 64)?;
+    }
+    Ok(())
+}

@@ -1,0 +1,114 @@
+// Workers of which one waits for another.
+use super::calls::call;
+use rock_status::Status;
+use std::alloc::Global;
+use std::process::Abort;
+use std::sync::Wait;
+use std::test::Fail;
+use std::thread::Threads;
+use test_many_workers_kit::{Meeting, Part};
+use test_stories::{Act, Pipes};
+
+/// No part.
+const REST: Part = Part {
+    sign_at: 0,
+    signs: 0,
+};
+
+/// Runs lines of two workers over a new file of four slots. The stations of the workers have these parts. What is printed
+/// is one of these lists of answers, which are written as in a story, with an empty line between each two. All have the same
+/// requests.
+fn meet<R: Abort + Threads + Wait + Sync>(
+    rt: &R,
+    alloc: Global,
+    anchors: u32,
+    parts: [Part; 2],
+    lists: &str,
+) -> Result<(), Fail> {
+    let [first, second] = parts;
+    let pipes = Pipes::new(alloc);
+    let mut volume = Meeting::new(alloc, [REST, first, second])?;
+    let made = call(rt, alloc, &mut volume, &pipes, "create db 512 4", b"")?;
+    assert_eq!(rt; made.status, Status::Done);
+    let command = format!(in alloc; "run db 512 {anchors} 2")?;
+    let one = lists.split("\n\n").next().unwrap_or("");
+    let act = Act::read(alloc, one, anchors)?;
+    let ended = call(
+        rt,
+        alloc,
+        &mut volume,
+        &pipes,
+        command.as_str(),
+        act.script.as_slice(),
+    )?;
+    assert_eq!(rt; ended.status, Status::Done);
+    let mut is_listed = false;
+    for list in lists.split("\n\n") {
+        let act = Act::read(alloc, list, anchors)?;
+        let answers = act.wanted(alloc, anchors)?;
+        is_listed = is_listed || ended.printed.as_slice() == answers.as_slice();
+    }
+    let printed = std::str::from_utf8(&ended.printed);
+    assert!(rt; is_listed, "{printed:?}");
+    Ok(())
+}
+
+/// The first write of each of two stations waits until both have begun such a write. Workers of which one was served behind
+/// the other could not go on.
+#[test]
+fn two_stations_meet(rt: HostRuntime) -> Result<(), Fail> {
+    let both = Part {
+        sign_at: 1,
+        signs: 2,
+    };
+    meet(
+        &rt,
+        rt.alloc(),
+        2,
+        [both, both],
+        "\
+1 put u0 =x -> STORED 1
+2 put u1 =y -> STORED 2
+
+1 put u0 =x -> STORED 2
+2 put u1 =y -> STORED 1
+",
+    )
+}
+
+/// The first write of the second worker's station waits until that of the first worker has begun its second write. So what
+/// the first worker stored by its first one is there when the second worker asks for it. Workers that were served each from
+/// what the file had would not find it.
+#[test]
+fn later_get_hits(rt: HostRuntime) -> Result<(), Fail> {
+    let first = Part {
+        sign_at: 2,
+        signs: 0,
+    };
+    let second = Part {
+        sign_at: 0,
+        signs: 1,
+    };
+    meet(
+        &rt,
+        rt.alloc(),
+        3,
+        [first, second],
+        "\
+1 put u0 =x -> STORED 1
+1 put u1 =y -> STORED 2
+2 put u2 =z -> STORED 3
+2 get u0 -> HIT 1 1 78
+
+1 put u0 =x -> STORED 1
+1 put u1 =y -> STORED 3
+2 put u2 =z -> STORED 2
+2 get u0 -> HIT 1 1 78
+
+1 put u0 =x -> STORED 2
+1 put u1 =y -> STORED 3
+2 put u2 =z -> STORED 1
+2 get u0 -> HIT 2 1 78
+",
+    )
+}

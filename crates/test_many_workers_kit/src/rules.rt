@@ -1,0 +1,321 @@
+// The rules that what several workers print must keep, whatever their order.
+ghost use Rattle.std.specs.Prelude.{◌<◌};
+
+use crate::lines::{Asked, Kind, body_of};
+use std::alloc::{AllocError, Global};
+use std::test::Fail;
+use store_key::{anchor_of, key_of};
+use test_stories::push_text;
+
+/// What is printed of versions by all workers.
+#[derive(Drop)]
+struct Told<'a> {
+    lines: &'a [Asked],
+    anchors: u32,
+    /// The versions that were begun, each with the number of its line.
+    begun: Vec<(u32, u32)>,
+    /// The versions that were purged.
+    purged: Vec<u32>,
+}
+
+/// The number of a line, what it asks, and its answer.
+#[derive(Clone, Copy)]
+struct Answered<'a> {
+    number: u32,
+    asked: Asked,
+    answer: &'a str,
+}
+
+/// The word at this place of an answer, or nothing.
+fn word(answer: &str, place: usize) -> &str {
+    answer.split(' ').nth(place).unwrap_or("")
+}
+
+/// An epoch as a number that grows as it does: its version, then whether it is doomed, then its stage.
+fn rank_of(epoch: &str) -> Option<u64> {
+    let (text, doom) = match epoch.strip_suffix('d') {
+        Some(text) => (text, 8),
+        None => (epoch, 0),
+    };
+    let (version, stage) = text.split_once('.')?;
+    rank(version, doom, stage.parse().ok()?)
+}
+
+fn rank(version: &str, doom: u64, stage: u8) -> Option<u64> {
+    let version: u32 = version.parse().ok()?;
+    Some(u64::from(version) * 16 + doom % 16 + u64::from(stage % 8))
+}
+
+fn version_of(rank: u64) -> u32 {
+    (rank / 16 % 4_294_967_296) as u32
+}
+
+fn stage_of(rank: u64) -> u64 {
+    rank % 8
+}
+
+fn is_doomed(rank: u64) -> bool {
+    rank % 16 >= 8
+}
+
+/// Two epochs as numbers: the greatest that the worker may have been shown at this anchor before an answer, and the one that
+/// the answer shows. A version that stands alone may come behind any epoch of it that a reader could have found. None: the
+/// answer shows no epoch.
+fn shown(answer: &str) -> Option<(u64, u64)> {
+    let (first, second) = (word(answer, 1), word(answer, 2));
+    match word(answer, 0) {
+        "STORED" => Some((rank(first, 0, 3)?, rank(first, 0, 3)?)),
+        "DOOMED" => Some((rank(first, 8, 7)?, rank(first, 8, 3)?)),
+        "HIT" => Some((rank(first, 0, 3)?, rank(first, 0, 2)?)),
+        "PART" | "PURGED" => Some((rank_of(first)?, rank_of(first)?)),
+        "MISS" | "NONE" => Some((rank_of(second)?, rank_of(second)?)),
+        "BUSY" => Some((
+            rank_of(first.split_once('/')?.0)?,
+            rank_of(second.split_once('/')?.0)?,
+        )),
+        _ => None,
+    }
+}
+
+/// Whether a request may have an answer of this name.
+fn may_answer(kind: Kind, name: &str) -> bool {
+    match kind {
+        Kind::Put | Kind::Save => name == "STORED" || name == "DOOMED" || name == "BUSY",
+        Kind::Get => name == "HIT" || name == "PART" || name == "MISS",
+        Kind::Purge => name == "PURGED" || name == "NONE",
+        Kind::Mark => name == "MARKED",
+        Kind::Await => name == "MET",
+    }
+}
+
+/// The numbers of the lines, and the lines: those of the first worker, then those of the second, and so on.
+fn by_worker(alloc: Global, lines: &[Asked]) -> Result<Vec<(u32, Asked)>, AllocError> {
+    let mut sorted = Vec::new(alloc);
+    for (number, asked) in (1u32..).zip(lines) {
+        sorted.push((number, *asked))?;
+    }
+    sorted.sort_by_key(|(number, asked)| (asked.worker, *number))?;
+    Ok(sorted)
+}
+
+/// Each printed line is that of one line of the script, the first worker's in front.
+fn answers<'a>(
+    alloc: Global,
+    lines: &[Asked],
+    printed: &'a str,
+) -> Result<Vec<Answered<'a>>, Fail> {
+    let sorted = by_worker(alloc, lines)?;
+    if printed.lines().count() != sorted.len() {
+        return Err(Fail::new("there is a printed line for each line"));
+    }
+    let mut answers = Vec::new(alloc);
+    for ((number, asked), line) in sorted.into_iter().zip(printed.lines()) {
+        let front = format!(in alloc; "{} {number} ", asked.worker)?;
+        let Some(answer) = line.strip_prefix(front.as_str()) else {
+            return Err(Fail::new("a line is missing"));
+        };
+        answers.push(Answered {
+            number,
+            asked,
+            answer,
+        })?;
+    }
+    Ok(answers)
+}
+
+/// What is printed of versions. Each is begun by one line.
+fn told_of<'a>(
+    alloc: Global,
+    lines: &'a [Asked],
+    anchors: u32,
+    answers: &[Answered<'_>],
+) -> Result<Told<'a>, Fail> {
+    let mut begun: Vec<(u32, u32)> = Vec::new(alloc);
+    let mut purged = Vec::new(alloc);
+    for Answered { number, answer, .. } in answers {
+        let version = version_of(shown(answer).map_or(0, |(_, rank)| rank));
+        match word(answer, 0) {
+            "STORED" | "DOOMED" => {
+                let is_new = begun.iter().all(|(other, _)| *other != version);
+                if !is_new || version == 0 {
+                    return Err(broken(*number, answer));
+                }
+                begun.push((version, *number))?;
+            }
+            "PURGED" => purged.push(version)?,
+            _ => {}
+        }
+    }
+    Ok(Told {
+        lines,
+        anchors,
+        begun,
+        purged,
+    })
+}
+
+/// The URL that a line is about.
+fn url_of(alloc: Global, asked: Asked) -> Result<String, AllocError> {
+    format!(in alloc; "http://a/{:02}", asked.about)
+}
+
+impl Told<'_> {
+    /// The line that began a version, and its number.
+    fn beginning(&self, version: u32) -> Option<(u32, Asked)> {
+        let (_, number) = self.begun.iter().find(|(begun, _)| *begun == version)?;
+        let asked = self.lines.get((*number as usize).checked_sub(1)?)?;
+        Some((*number, *asked))
+    }
+
+    /// Whether an answer gives the whole body, or a first part of it, of the line that began this version, which was about
+    /// the same URL.
+    fn gives(&self, alloc: Global, one: Answered<'_>, version: u32) -> Result<bool, AllocError> {
+        let Some((number, asked)) = self.beginning(version) else {
+            return Ok(false);
+        };
+        let (length, letter) = body_of(number);
+        let (name, first, count) = (
+            word(one.answer, 0),
+            word(one.answer, 1),
+            word(one.answer, 2),
+        );
+        let count: u32 = count.parse().unwrap_or(u32::MAX);
+        let text = match count {
+            0 => format!(in alloc; "{name} {first} 0 -")?,
+            _ => format!(in alloc; "{name} {first} {count} MADE({letter},{count})")?,
+        };
+        let mut wanted = Vec::new(alloc);
+        let is_within = if name == "HIT" {
+            count == length
+        } else {
+            count <= length
+        };
+        if is_within {
+            push_text(alloc, &mut wanted, text.as_str(), 1)?;
+        }
+        Ok(asked.about == one.asked.about && one.answer.as_bytes() == wanted.as_slice())
+    }
+
+    /// Whether an epoch that was found is a cause not to hit, and the one that is told.
+    fn is_cause(&self, alloc: Global, one: Answered<'_>, found: u64) -> Result<bool, AllocError> {
+        let (stage, is_doomed) = (stage_of(found), is_doomed(found));
+        let is_leaving = is_doomed || stage == 4 || stage == 5;
+        match word(one.answer, 1) {
+            "absent" => Ok(stage == 0 || stage == 6),
+            "writing" => Ok(stage == 1 && !is_doomed),
+            "leaving" => Ok(stage != 0 && stage != 6 && stage != 1 && is_leaving),
+            "other" => self.is_other(alloc, one, found),
+            _ => Ok(false),
+        }
+    }
+
+    /// Whether the key told is that of the line that began the version, and not that of the URL that is asked for.
+    fn is_other(&self, alloc: Global, one: Answered<'_>, found: u64) -> Result<bool, AllocError> {
+        let Some((_, asked)) = self.beginning(version_of(found)) else {
+            return Ok(false);
+        };
+        let text = format!(in alloc; "KEY({})", url_of(alloc, asked)?)?;
+        let mut key = Vec::new(alloc);
+        push_text(alloc, &mut key, text.as_str(), 1)?;
+        let is_readable = stage_of(found) == 2 || stage_of(found) == 3;
+        let is_other = asked.about != one.asked.about
+            && word(one.answer, 3).as_bytes() == key.as_slice();
+        Ok(is_readable && !is_doomed(found) && is_other)
+    }
+
+    /// Whether an answer may stand where this epoch is shown.
+    fn allows(&self, alloc: Global, one: Answered<'_>, found: u64) -> Result<bool, AllocError> {
+        match word(one.answer, 0) {
+            "HIT" => self.gives(alloc, one, version_of(found)),
+            "PART" => Ok(stage_of(found) == 2 && self.gives(alloc, one, version_of(found))?),
+            "MISS" | "NONE" => self.is_cause(alloc, one, found),
+            "BUSY" => Ok(is_busy(one.answer)),
+            "PURGED" | "DOOMED" => Ok(is_doomed(found)),
+            _ => Ok(true),
+        }
+    }
+
+    /// Whether the entry of a doomed epoch was purged.
+    fn was_purged(&self, rank: u64) -> bool {
+        !is_doomed(rank) || self.purged.contains(&version_of(rank))
+    }
+}
+
+/// A writer is refused by the word that it looked at, which is the one that it found, or by another one that it found behind
+/// a word that it could have taken.
+fn is_busy(answer: &str) -> bool {
+    let (looked, found) = (word(answer, 1), word(answer, 2));
+    let Some((epoch, readers)) = looked.split_once('/') else {
+        return false;
+    };
+    let rank = rank_of(epoch).unwrap_or(0);
+    let stage = stage_of(rank);
+    let is_free = stage == 0 || stage == 6 || (stage == 3 && !is_doomed(rank));
+    (is_free && readers == "0") == (looked != found)
+}
+
+/// The failure of a test by an answer that may not stand at the line of this number.
+fn broken(number: u32, answer: &str) -> Fail {
+    Fail::new(format_args!("{number}: {answer}"))
+}
+
+/// Judges an answer. `seen` has the greatest epoch that the worker was shown at each anchor.
+fn judge_one(
+    alloc: Global,
+    told: &Told<'_>,
+    one: Answered<'_>,
+    seen: &mut [u64],
+) -> Result<(), Fail> {
+    let Answered {
+        number,
+        asked,
+        answer,
+    } = one;
+    if !may_answer(asked.kind, word(answer, 0)) {
+        return Err(broken(number, answer));
+    }
+    let Some((most, found)) = shown(answer) else {
+        return Ok(());
+    };
+    if !told.allows(alloc, one, found)? || !told.was_purged(most) || !told.was_purged(found) {
+        return Err(broken(number, answer));
+    }
+    let url = url_of(alloc, asked)?;
+    let anchor = anchor_of(&key_of(url.as_bytes()), told.anchors.max(1));
+    let Some(before) = seen.get_mut(anchor as usize) else {
+        return Err(Fail::new("there is an anchor for each URL"));
+    };
+    if *before > most {
+        return Err(Fail::new(format_args!("{number}: {answer} behind {before}")));
+    }
+    *before = (*before).max(found);
+    Ok(())
+}
+
+/// Judges what was printed, and answers what the first worker was answered at last.
+pub fn judge<'a>(
+    alloc: Global,
+    lines: &[Asked],
+    anchors: u32,
+    printed: &'a str,
+) -> Result<&'a str, Fail> {
+    let answers = answers(alloc, lines, printed)?;
+    let told = told_of(alloc, lines, anchors, &answers)?;
+    let mut seen = vec![in alloc; 0u64; anchors as usize]?;
+    let mut worker: u32 = 0;
+    let mut last = "";
+    for one in &answers {
+        if one.asked.worker != worker {
+            seen.fill(0);
+            worker = one.asked.worker;
+        }
+        judge_one(alloc, &told, *one, &mut seen)?;
+        if worker == 1 {
+            last = one.answer;
+        }
+    }
+    if word(last, 0) != "HIT" {
+        return Err(Fail::new(last));
+    }
+    Ok(last)
+}

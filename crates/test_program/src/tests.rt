@@ -1,0 +1,14 @@
+mod benching;
+mod calls;
+mod crashes;
+mod creating;
+mod cutting;
+mod entries;
+mod faults;
+mod found;
+mod listing;
+mod recorded;
+mod refused;
+mod serving;
+mod sharing;
+mod story;
