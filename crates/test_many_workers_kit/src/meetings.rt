@@ -122,7 +122,7 @@ impl Station for MeetingStation {
 pub struct Meeting {
     pub inner: MemVolume,
     /// The parts of the stations, in the order in which they are made.
-    parts: [Part; 3],
+    parts: [Part; 4],
     signs: Arc<AtomicUsize, Global>,
     stations: Stations,
     ghost even: { made_of stations + length (volume_ended inner) ≡ volume_made inner + length (ended_of stations) },
@@ -130,7 +130,7 @@ pub struct Meeting {
 
 impl Meeting {
     /// A volume without files.
-    pub fn new(alloc: Global, parts: [Part; 3]) -> Result<Meeting, Memory>
+    pub fn new(alloc: Global, parts: [Part; 4]) -> Result<Meeting, Memory>
         ensures { IfOk result (λ meeting. NoneAway (volume_files meeting.inner)) }
     {
         Ok(Meeting {

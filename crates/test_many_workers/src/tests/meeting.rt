@@ -27,7 +27,8 @@ fn meet<R: Abort + Threads + Wait + Sync>(
 ) -> Result<(), Fail> {
     let [first, second] = parts;
     let pipes = Pipes::new(alloc);
-    let mut volume = Meeting::new(alloc, [REST, first, second])?;
+    // The stations of `create` and of the rebuild come first.
+    let mut volume = Meeting::new(alloc, [REST, REST, first, second])?;
     let made = call(rt, alloc, &mut volume, &pipes, "create db 512 4", b"")?;
     assert_eq!(rt; made.status, Status::Done);
     let command = format!(in alloc; "run db 512 {anchors} 2")?;
