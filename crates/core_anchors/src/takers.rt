@@ -1,5 +1,6 @@
 // Steps that take an anchor: for a new entry, or to give the slots of an old one back.
-ghost use Rattle.std.specs.Prelude.{◌≡◌, ◌↔◌, IsTrue, IfOk, IsErrOf, MatchOption};
+ghost use Rattle.std.specs.Prelude.{◌≡◌, ◌↔◌, IsTrue, IfOk, IsErrOf, MatchOption, false};
+ghost use Rattle.lock_word.specs.declared.stage.Stage.TheVariants.{Taken, Freeing};
 ghost use Rattle.lock_word.specs.Words.{is_idle, word_number};
 ghost use Rattle.core_model.specs.declared.moves.Move.TheVariants as move;
 ghost use Rattle.core_model.specs.Trails.{last_find};
@@ -8,7 +9,7 @@ ghost use Rattle.core_model.specs.Tabs.{IsPass, InnerIsFree};
 ghost use Rattle.core_model.specs.AnchorMoves.{MayTake, MayEvict};
 ghost use Rattle.core_table.specs.Inside.{setting, state};
 ghost use Rattle.core_change.specs.Planned.{IsScene, Plans};
-ghost use Rattle.core_anchors.specs.Taking.{taken_change, evicted_change};
+ghost use Rattle.core_anchors.specs.Taking.{taken_change, evicted_change, missed_change};
 
 use crate::recall::{drew_since, last_find, met, readers_here};
 use crate::tabs::{freer_of, writer_of};
@@ -92,6 +93,58 @@ fn evicted_change(
     Ok(TabsChange::PutTwo(tab, Tab::Free, INNER_TAB, Tab::Freeing(freer)))
 }
 
+/// The word of an anchor that was taken for this version.
+fn taken_word(version: u32) -> u64
+    ensures { result ≡ word_number record { epoch = record { version = version; doom = false; stage = Taken }; readers = 0 } }
+{
+    let epoch = Epoch {
+        version,
+        doom: false,
+        stage: Stage::Taken,
+    };
+    pack(&Word { epoch, readers: 0 })
+}
+
+/// The word of an anchor whose entry is freed, which had this word.
+fn freed_word(word: &Word) -> u64
+    ensures { result ≡ word_number record word.now { epoch = record word.now.epoch { stage = Freeing } } }
+{
+    let epoch = Epoch {
+        stage: Stage::Freeing,
+        ..word.epoch
+    };
+    pack(&Word { epoch, ..*word })
+}
+
+/// The change where this word stands at the anchor, and the pass last found another one there: the word stays.
+fn missed(
+    opening: &Opening,
+    anchor: u32,
+    found: u64,
+    met: Option<u32>,
+    tabs: TabsChange,
+    used: Option<u32>,
+) -> Change
+    ensures { result ≡ missed_change anchor found met tabs used }
+{
+    Change {
+        answer: found,
+        word: Some(WordChange {
+            index: opening.index_of(Place::Anchor(anchor)),
+            left: found,
+        }),
+        turn: TurnChange::Same,
+        tabs,
+        chain: ChainChange::Same,
+        used,
+        addition: Addition {
+            met,
+            ..anchor_addition(Kind::Changed, anchor, found, found, epoch_bits(found))
+        },
+        notes: NotesChange::Same,
+    }
+}
+
 /// A free tab takes an anchor for a new entry, where the word is still as the pass last found it.
 pub fn take(
     alloc: Global,
@@ -117,32 +170,12 @@ pub fn take(
     let found = pack(&word);
     let met = met(anchor, readers_here(anchor, view), &word);
     if found != last {
-        return Ok(Change {
-            answer: found,
-            word: Some(WordChange {
-                index: opening.index_of(Place::Anchor(anchor)),
-                left: found,
-            }),
-            turn: TurnChange::Same,
-            tabs: TabsChange::Same,
-            chain: ChainChange::Same,
-            used: Some(version),
-            addition: Addition {
-                met,
-                ..anchor_addition(Kind::Changed, anchor, found, found, epoch_bits(found))
-            },
-            notes: NotesChange::Same,
-        });
+        return Ok(missed(opening, anchor, found, met, TabsChange::Same, Some(version)));
     }
     let was_idle = is_idle(&word);
     let chain = &table.chains[anchor as usize];
     let tabs = taken_change(alloc, tab, anchor, version, was_idle, chain)?;
-    let epoch = Epoch {
-        version,
-        doom: false,
-        stage: Stage::Taken,
-    };
-    let left = pack(&Word { epoch, readers: 0 });
+    let left = taken_word(version);
     let seen = epoch_bits(left);
     let deed = Deed {
         pass: view.pass,
@@ -195,29 +228,11 @@ pub fn evict(
     let found = pack(&word);
     let met = met(anchor, readers_here(anchor, view), &word);
     if last != found {
-        return Ok(Change {
-            answer: found,
-            word: Some(WordChange {
-                index: opening.index_of(Place::Anchor(anchor)),
-                left: found,
-            }),
-            turn: TurnChange::Same,
-            tabs: TabsChange::Put(tab, Tab::Free),
-            chain: ChainChange::Same,
-            used: None,
-            addition: Addition {
-                met,
-                ..anchor_addition(Kind::Changed, anchor, found, found, epoch_bits(found))
-            },
-            notes: NotesChange::Same,
-        });
+        let tabs = TabsChange::Put(tab, Tab::Free);
+        return Ok(missed(opening, anchor, found, met, tabs, None));
     }
     let tabs = evicted_change(alloc, tab, anchor, &table.chains[anchor as usize])?;
-    let epoch = Epoch {
-        stage: Stage::Freeing,
-        ..word.epoch
-    };
-    let left = pack(&Word { epoch, ..word });
+    let left = freed_word(&word);
     let seen = epoch_bits(left);
     let deed = Deed {
         pass: view.pass,

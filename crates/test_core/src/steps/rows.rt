@@ -706,6 +706,66 @@ seen 2 Some(4)
 1 0 20 0 0 = 0
 seen 1 Some(5)
 made 3
+
+core 3 2 2
+stage a writer begins
+# Tab 0 of pass 0 writes version 1 at anchor 1, has named its entry and reserved the slots 2 and 0.
+0 0 1 1 0 = 0
+0 0 4 0 0 = 0
+0 0 5 0 0 = 0
+0 0 6 1 1 = 0
+0 0 9 4 77 = 0
+0 0 9 5 78 = 0
+0 0 9 6 7 = 0
+0 0 10 2 0 = 0
+0 0 10 0 0 = 4
+made 9
+stage it writes slot 2
+# It logs its piece for slot 2, which is its first reserved one, as durable, and writes it there.
+0 0 14 2 1 = 0
+0 0 15 2 0 = 0
+0 0 17 2 0 = 0
+0 0 21 2 1 = 0
+0 0 22 2 1 = 0
+0 0 18 2 0 = 0
+0 0 16 2 0 = 1
+made 7
+stage a reader enters
+# The first slot is published, and a reader enters.
+0 0 12 2 2 = 0
+0 0 9 7 3 = 0
+0 0 7 0 2 = word 1 2 0
+1 0 2 1 0 = word 1 2 0
+1 0 9 0 0 = 77
+1 0 9 3 0 = 3
+made 6
+stage it reads slot 2
+# Tab 0 of pass 1 reads slot 2, which is at its place, and goes on.
+1 0 13 2 0 = 2
+1 0 15 2 0 = 0
+1 0 17 2 0 = 0
+1 0 18 2 0 = 0
+1 0 16 2 1 = 1
+made 5
+stage a reader leaves what was halted
+# The writer gives the entry up while the reader is counted. Its tab is free then, and the slot that the last link names is kept.
+0 0 11 0 0 = refused
+0 0 7 0 4 = word 1 4 1
+0 0 13 2 0 = refused
+# The reader leaves last, and its tab frees the entry: no anchor is HALTED then, and no slot is taken.
+1 0 3 0 0 = word 1 4 0
+1 0 6 1 0 = word 1 4 0
+1 8 13 2 0 = 2
+1 8 12 2 0 = 2
+1 8 13 0 0 = 0
+1 8 12 0 0 = 0
+1 8 11 2 0 = 5
+1 8 11 0 0 = 1
+1 8 7 0 6 = word 1 6 0
+map [0]
+1 0 1 0 0 = word 0 0 0
+1 0 1 1 0 = word 1 6 0
+made 14
 ";
 
 /// The rows of 32 writers are in front: they have reserved the slots of the first word of the map.

@@ -46,6 +46,16 @@ patch 16 30
 
 list db 512
 
+# and is counted, as the version is sane
+volume
+entry 7 http://a/b hello
+patch 16 2e
+
+list db 512
+
+check db 512 1
+> slots=1 kept=0 used=0 free=1 version=7
+
 # first slot 1
 volume
 entry 7 http://a/b hello

@@ -9,5 +9,5 @@ returns-clause-planned c =
     let there : c.args.anchor < length c.args.table.now.chains.items = let many = c.requires.sound.shaped.chains in omega arith in
     take_won _ _ _ c.requires _ c.if-anchor-opening.false _ c.word_at-word.ensures.number c.word_at-word.ensures.in_range _ c.in-Some.ensures.1 _ c.pack-found.ensures.number c.args.tab c.args.version c.in-Some.ensures.0
     _ _ _ _ _ _ c.index-chain.result.now _ _ _
-    c.if-found-last.false c.pack-left.ensures.number c.readers_here.ensures c.met-met.ensures c.epoch_bits-seen.ensures c.is_idle-was_idle.ensures.number
-    (c.index-chain.ensures ∙ same_default _ _ c.index-chain.result.now no_chain there) c.in_ok-tabs.ensures c.no_chain.ensures c.anchor_addition-2.ensures c.index_of-2.ensures
+    c.if-found-last.false c.taken_word-left.ensures c.readers_here.ensures c.met-met.ensures c.epoch_bits-seen.ensures c.is_idle-was_idle.ensures.number
+    (c.index-chain.ensures ∙ same_default _ _ c.index-chain.result.now no_chain there) c.in_ok-tabs.ensures c.no_chain.ensures c.anchor_addition.ensures c.index_of.ensures
