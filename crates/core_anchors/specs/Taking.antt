@@ -34,6 +34,6 @@ missed_change a found met change used = record {
   tabs = change;
   chain = chains.Same;
   used = used;
-  addition = record anchor_addition kind.Changed a found found (epoch_of found) { met = met };
+  addition = record (anchor_addition kind.Changed a found found (epoch_of found)) { met = met };
   notes = notes.Same;
 }
