@@ -42,6 +42,7 @@ use Rattle.crew_accounts.proofs.Halting.{not_added_seen}
 use Rattle.crew_accounts.proofs.Shown.{shows_none}
 use Rattle.crew_accounts.proofs.TabLines.{elsewhere, no_more_writes}
 use Rattle.crew_accounts.proofs.Telling.{plain, tells_by}
+use Rattle.crew_accounts.proofs.Small.{took_small}
 use Rattle.crew_accounts.proofs.TooLarge.{not_added_large}
 use Rattle.crew_accounts.proofs.Tracking.{tracks_on_tab}
 use Rattle.crew_accounts.proofs.TurningAway.{away_adds}
@@ -128,6 +129,7 @@ module _ {C O : Type 0} (tells : Bool) (state : C → CellState) (offers : O →
                   drew = h.drew;
                   taken = taken_is;
                   shown = shown;
+                  small = took_small tells state offers s t e p k.calls q count k.took h.small;
                 }))) tracks;
           }
 

@@ -37,6 +37,7 @@ use Rattle.crew_accounts.proofs.NotBegun.{not_begun, refusals_are_mute}
 use Rattle.crew_accounts.proofs.Offering.{begins, offering}
 use Rattle.crew_accounts.proofs.Running.{is_offered}
 use Rattle.crew_accounts.proofs.Shown.{fresh_to, shows_one}
+use Rattle.crew_accounts.proofs.Small.{begun_small}
 use Rattle.crew_accounts.proofs.TabLines.{elsewhere, mute, none_added, now_writes, reading_on, writing_on}
 use Rattle.crew_accounts.proofs.Telling.{tells_by}
 use Rattle.crew_accounts.proofs.Tracking.{tracks_on_tab}
@@ -86,6 +87,8 @@ module _ {C O : Type 0} (tells : Bool) (state : C → CellState) (offers : O →
                 drew = refl;
                 taken = sym (none_added t l served (self_true t));
                 shown = counts.began tells state offers s t offer url false p q version b;
+                small = begun_small g (begun tells state offers s t offer url false p q version) url body_is.url_is refl
+                    (λ far. let z : answer.Begun version ≡ answer.LongUrl = long.1 far in cc);
               }))) tracks;
         }
 

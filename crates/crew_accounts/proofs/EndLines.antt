@@ -35,11 +35,12 @@ use Rattle.crew_accounts.specs.Tracks.{IsWriter, Tracks}
 use Rattle.crew_accounts.proofs.CallDeeds.{adds_by, of_ending, of_giving_up}
 use Rattle.crew_accounts.proofs.Ended.{ended_fresh, ended_names, ended_version}
 use Rattle.crew_accounts.proofs.Fitting.{on_writer, writer_fits}
-use Rattle.crew_accounts.proofs.GivingUp.{closed_epoch, ended_no_part, ended_no_tab, ended_told, ends_ended, ends_fault, fault_no_part, fault_no_tab, fault_told, gives_up_fault, large_of, self_both, shows_closed, shows_no_epoch}
+use Rattle.crew_accounts.proofs.GivingUp.{closed_epoch, ended_no_part, ended_no_tab, ended_told, ends_ended, ends_fault, fault_no_part, fault_no_tab, fault_told, gives_up_fault, large_of, self_both, small_of, shows_closed, shows_no_epoch}
 use Rattle.crew_accounts.proofs.Halting.{not_ended_seen}
 use Rattle.crew_accounts.proofs.Shown.{shows_none, shows_one}
 use Rattle.crew_accounts.proofs.TabLines.{elsewhere, no_more_writes}
 use Rattle.crew_accounts.proofs.Telling.{plain, tells_by}
+use Rattle.crew_accounts.proofs.Small.{ended_small}
 use Rattle.crew_accounts.proofs.TooLarge.{not_ended_large}
 use Rattle.crew_accounts.proofs.Tracking.{tracks_on_tab}
 use Rattle.crew_accounts.proofs.TurningAway.{away_adds}
@@ -88,7 +89,7 @@ module _ {C O : Type 0} (tells : Bool) (state : C → CellState) (offers : O →
               (serving.ended tells state offers s t e p q (entry_of tells state offers s t e h.is) k)
               (λ d. of_ending r (view q) served l d (record { may = tt; wants = refl }) (name_of g e) (view q).seen ended (grows g e h.first first served l h.writes (view q)) refl)
               (λ b f z. (shows b f z).above)
-              (tells_by r (view q) served l (ended_told r (view q) served l ended finished)
+              (tells_by r (view q) served l (ended_told r (view q) served l ended finished (small_of g told past e h.first first h.is.rests.from served l h.writes (ended_small tells state offers s t e p q ended k h.small)))
               (plain r (view q) served l (λ b f z. (shows b f z).seen) (answers_ended ended) refl (λ x z. z) (λ x z. z) (λ url body z. z) (writer_fits tells state offers s told past served p t (answer_to_ended ended) q h) (ended_no_tab ended)))
               (λ y f bytes z. absurd (ended_no_part ended f bytes z));
           tracks = tracks_on_tab tells state offers s told past served p q t l below leaves (λ j ne. elsewhere (End t) (answer_to_ended ended) j ne)

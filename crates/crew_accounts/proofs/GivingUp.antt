@@ -4,7 +4,7 @@ use Rattle.script_text.specs.declared.answer.Answer.TheVariants as answer
 use Rattle.core_model.specs.declared.view.View.{View}
 use Rattle.entry_cut.specs.Content.{room_of}
 use Rattle.line_account.specs.Accounts.{HasFinished, HasGivenUp, epochs_of}
-use Rattle.line_account.specs.Answers.{IsLarge, Run}
+use Rattle.line_account.specs.Answers.{IsLarge, IsSmall, Run}
 use Rattle.line_account.specs.Lines.{Served, begun_by, gives_up, is_finished, is_refused}
 use Rattle.lock_word.specs.Words.{epoch_at}
 use Rattle.lock_word.specs.declared.epoch.Epoch.{Epoch}
@@ -82,9 +82,9 @@ module _ {X : Type 0} (r : Run X) (v : View X) (earlier : List Served) (s : Serv
   fault_told Full up fits large = (up, fits)
   fault_told Fault up fits large = up
 
-  pub ended_told : (ended : Ended) → HasFinished r.setting v earlier s (version_of ended) → ToTell r v earlier s (answer_to_ended ended)
-  ended_told (Stored x) h = h
-  ended_told (Doomed x) h = h
+  pub ended_told : (ended : Ended) → HasFinished r.setting v earlier s (version_of ended) → IsSmall r earlier s → ToTell r v earlier s (answer_to_ended ended)
+  ended_told (Stored x) h small = (h, small)
+  ended_told (Doomed x) h small = (h, small)
 
 -- a body that needs too many slots, as the account has it
 module _ (g : Ground (List ℕ)) (told : Bool) (past : Past) (e : Entry) (first : Served) (h : IsBegunBy g e first) (from : g.setting.slots ≤ e.offer) where
@@ -94,13 +94,25 @@ module _ (g : Ground (List ℕ)) (told : Bool) (past : Past) (e : Entry) (first 
   pub url_eq : (run_of g told past).url (g.setting.slots + first.line.number) ≡ h.url
   url_eq = ap (run_of g told past).url (sym h.offer) ∙ new_url g told past e.offer from ∙ h.url_is
 
+  -- metadata and body together, as the account has them and as the writer does
+  sizes : 32 + length (url_in g e) + length (body_in g e) ≡ 32 + length h.url + length ((run_of g told past).body (g.setting.slots + first.line.number))
+  sizes = let a = ap length body_eq in let b = ap length h.url_is in omega arith
+
   pub large_of : (earlier : List Served) (l : Served) → begun_by earlier l ≡ Some first → NeedsTooMany g (url_in g e) (body_in g e) → IsLarge (run_of g told past) earlier l
   large_of earlier l begun many = record {
     first = first;
     begun_is = begun;
     url = h.url;
     named = h.named;
-    large = let a = ap length body_eq in let b = ap length h.url_is in
-        let sizes : 32 + length (url_in g e) + length (body_in g e) ≡ 32 + length h.url + length ((run_of g told past).body (g.setting.slots + first.line.number)) = omega arith in
-        subst (λ (n : ℕ). min 4096 g.setting.slots * room_of g.slot < n) sizes many;
+    large = subst (λ (n : ℕ). min 4096 g.setting.slots * room_of g.slot < n) sizes many;
+  }
+
+  -- a body that needs no more
+  pub small_of : (earlier : List Served) (l : Served) → begun_by earlier l ≡ Some first → 32 + length (url_in g e) + length (body_in g e) ≤ min 4096 g.setting.slots * room_of g.slot → IsSmall (run_of g told past) earlier l
+  small_of earlier l begun few = record {
+    first = first;
+    begun_is = begun;
+    url = h.url;
+    named = h.named;
+    small = subst (λ (n : ℕ). n ≤ min 4096 g.setting.slots * room_of g.slot) sizes few;
   }

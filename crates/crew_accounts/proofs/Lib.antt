@@ -9,6 +9,7 @@ pub mod Running
 pub mod ReadNames
 pub mod OneKey
 pub mod OtherUrls
+pub mod Small
 pub mod TooLarge
 pub mod OpenedLengths
 pub mod Fitting

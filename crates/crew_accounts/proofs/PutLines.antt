@@ -42,13 +42,14 @@ use Rattle.crew_accounts.specs.Runs.{Past, run_of}
 use Rattle.crew_accounts.specs.Tracks.{Tracks}
 use Rattle.crew_accounts.proofs.CallDeeds.{adds_by, of_putting, of_putting_in_vain}
 use Rattle.crew_accounts.proofs.Ended.{ended_fresh, ended_names, ended_version}
-use Rattle.crew_accounts.proofs.GivingUp.{closed_epoch, ended_no_part, ended_no_tab, ended_told, fault_no_part, fault_no_tab, fault_told, gives_up_fault, large_of, shows_closed, shows_no_epoch}
+use Rattle.crew_accounts.proofs.GivingUp.{closed_epoch, ended_no_part, ended_no_tab, ended_told, fault_no_part, fault_no_tab, fault_told, gives_up_fault, large_of, shows_closed, shows_no_epoch, small_of}
 use Rattle.crew_accounts.proofs.Halting.{gave_up_seen}
 use Rattle.crew_accounts.proofs.NotBegun.{not_begun}
 use Rattle.crew_accounts.proofs.Offering.{IsOffering, offering}
 use Rattle.crew_accounts.proofs.Shown.{fresh_from, shows_none, shows_one}
 use Rattle.crew_accounts.proofs.TabLines.{LeavesAlone, put_alone, save_alone}
 use Rattle.crew_accounts.proofs.Telling.{tells_by}
+use Rattle.crew_accounts.proofs.Small.{begun_small, ended_small}
 use Rattle.crew_accounts.proofs.TooLarge.{NeedsTooMany, not_ended_large}
 use Rattle.crew_accounts.proofs.Tracking.{tracks_whole}
 use Rattle.crew_accounts.proofs.WriterLines.{IsBegunBy, given_up, grows, halts}
@@ -62,6 +63,11 @@ pub record IsPutting (request : Request) : Type 0 where
   pub may : MayEvict request
   pub fits : (earlier : List Served) → Fits earlier request
   pub alone : (a : Answer) (j : ℕ) → LeavesAlone j request a
+
+-- what was stored was not too long
+not_long : (ended : Ended) → answer_to_ended ended ≡ answer.LongUrl → ⊥
+not_long (Stored x) e = cc
+not_long (Doomed x) e = cc
 
 module _ (url : List ℕ) (body : Body) where
   put_ended : (ended : Ended) → IsAnswerTo (Put url body) (answer_to_ended ended)
@@ -121,6 +127,7 @@ module _ {C O : Type 0} (tells : Bool) (state : C → CellState) (offers : O →
         let fresh : IsFresh (anchor_for g url) (closed_epoch ended) (view p) (view q) = fresh_from (began tells state offers s whole_tab k.began) (ended_fresh tells state offers s whole_tab e0 k.middle q ended k.ends) in
         let shows = shows_one r.setting.anchors (view p) (view q) served l url (is.at served) (closed_epoch ended) (shows_closed ended) fresh in
         let finished : HasFinished r.setting (view q) served l x = record { anchor = e.anchor; grows = its } in
+        let small = ended_small tells state offers s whole_tab e0 k.middle q ended k.ends (begun_small g e0 url body_is.url_is refl (λ far. not_long ended (long.1 far))) in
         record {
           drew = Some x;
           opened = 0;
@@ -131,7 +138,7 @@ module _ {C O : Type 0} (tells : Bool) (state : C → CellState) (offers : O →
               (record { anchor = record { url = url; named_is = is.named; anchor = refl }; drew = refl; began = putting.began_ended ended })
               (grows g e l first served l begun_is (view q)) refl)
               (λ b f z. (shows b f z).above)
-              (tells_by r (view q) served l (ended_told r (view q) served l ended finished)
+              (tells_by r (view q) served l (ended_told r (view q) served l ended finished (small_of g told past e l first body_is.from served l begun_is small))
               (offering tells state offers s told past served (view q) l url body is body_is long (λ b f z. (shows b f z).seen) (putting.ended ended)
               (λ y z. record { version = x; drew = refl; began = putting.began_ended ended }) (putting.fits served) (ended_no_tab ended)))
               (λ y f bytes z. absurd (ended_no_part ended f bytes z));

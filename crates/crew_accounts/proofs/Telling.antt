@@ -1,5 +1,5 @@
 -- What a line tells, by its answer.
-use Rattle.std.proofs.Common.{Contains, List, None, false, length, refl, subst, true, ◌<◌, ◌≡◌, ⊎_elim, ℕ}
+use Rattle.std.proofs.Common.{Contains, List, None, false, length, refl, subst, true, ◌<◌, ◌≡◌, ◌⊎◌, ⊎_elim, ℕ}
 use Rattle.std.specs.Prelude.{IsTrue, ◌+◌, ◌≢◌, ◌↔◌}
 use Rattle.lock_word.specs.Words.{epoch_number, stage_of}
 use Rattle.lock_word.specs.declared.cause.Cause.{Cause}
@@ -13,7 +13,7 @@ use Rattle.core_model.specs.declared.view.View.{View}
 use Rattle.line_account.specs.Lines.{Fits, IsAt, Offers, Served, gives_up, offers}
 use Rattle.line_account.specs.Requests.{IsAnswerTo}
 use Rattle.line_account.specs.Deeds.{Began}
-use Rattle.line_account.specs.Answers.{ComesIn, HasAdded, HasGiven, HasHit, HasOpened, HasOther, HasPurged, IsBusy, IsCauseOf, IsKeyRead, IsLarge, IsLong, IsOfOpened, IsSpent, Reads, Refuses, Run}
+use Rattle.line_account.specs.Answers.{ComesIn, HasAdded, HasGiven, HasHit, HasOpened, HasOther, HasPurged, IsBusy, IsCauseOf, IsKeyRead, IsLarge, IsLong, IsOfOpened, IsSmall, IsSpent, Reads, Refuses, Run}
 use Rattle.line_account.specs.Accounts.{HasBegun, HasFinished, HasGivenUp, IsOffered, Shows, Tells, epoch_in}
 
 module _ {X : Type 0} (r : Run X) (v : View X) (earlier : List Served) (s : Served) where
@@ -24,8 +24,8 @@ module _ {X : Type 0} (r : Run X) (v : View X) (earlier : List Served) (s : Serv
 
   -- what the line has to tell, by its answer
   abbrev pub ToTell : Answer → Type 0
-  ToTell (answer.Stored x) = HasFinished r.setting v earlier s x
-  ToTell (answer.Doomed x) = HasFinished r.setting v earlier s x
+  ToTell (answer.Stored x) = HasFinished r.setting v earlier s x × IsSmall r earlier s
+  ToTell (answer.Doomed x) = HasFinished r.setting v earlier s x × IsSmall r earlier s
   ToTell (answer.Busy looked other) = IsBusy r v earlier s looked other
   ToTell (answer.Spent n) = IsSpent v s n
   ToTell answer.LongUrl = IsLong r s
@@ -82,10 +82,11 @@ module _ {X : Type 0} (r : Run X) (v : View X) (earlier : List Served) (s : Serv
     answers = q.answers;
     drew = q.drew;
     began = q.began;
-    finished = λ x h. ⊎_elim (λ (e : s.answer ≡ answer.Stored x). subst ToTell e t) (λ (e : s.answer ≡ answer.Doomed x). subst ToTell e t) h;
+    finished = λ x h. (ends x h).0;
     gave_up = λ h. up s.answer t h;
     full = λ h. (subst ToTell h t).1;
     large = λ h. (subst ToTell h t).1;
+    small = λ x h. (ends x h).1;
     long = λ h. subst ToTell h t;
     short = q.short;
     busy = λ looked other h. subst ToTell h t;
@@ -105,6 +106,9 @@ module _ {X : Type 0} (r : Run X) (v : View X) (earlier : List Served) (s : Serv
     given = λ y h. by_reading s.answer t y h;
     tab = q.tab;
   }
+    where
+      ends : (x : ℕ) → (s.answer ≡ answer.Stored x) ⊎ (s.answer ≡ answer.Doomed x) → HasFinished r.setting v earlier s x × IsSmall r earlier s
+      ends x h = ⊎_elim (λ (e : s.answer ≡ answer.Stored x). subst ToTell e t) (λ (e : s.answer ≡ answer.Doomed x). subst ToTell e t) h
 
   -- a line that offers no body, and begins and opens nothing
   pub plain : ((a e : ℕ) → Shows r.setting.anchors earlier s a e → Contains v.seen (Stood a e)) → IsAnswerTo s.line.request s.answer → s.drew ≡ None → ((x : ℕ) → Began s.line.request s.answer x → ⊥)

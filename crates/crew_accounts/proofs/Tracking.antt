@@ -67,6 +67,7 @@ module _ {C O : Type 0} (tells : Bool) (state : C → CellState) (offers : O →
     drew = h.drew;
     taken = h.taken ∙ sym (added_on j l served alone);
     shown = h.shown;
+    small = h.small;
   }))
   lines_on served p j l alone (inr (inr h)) = inr (inr (record {
     writes = writing_on j l served alone ∙ h.writes;
@@ -103,6 +104,7 @@ module _ {C O : Type 0} (tells : Bool) (state : C → CellState) (offers : O →
     drew = h.drew;
     taken = h.taken;
     shown = shown_on (basis tells state offers s) h.entry (view p).seen (view q).seen leaves.keeps.seen h.shown;
+    small = h.small;
   }))
   pass_on served p q t j leaves ne far (inr (inr h)) = let entry = entry_on (run_of (basis tells state offers s) told past) (view p) (view q) h.standing.anchor h.first.opened h.standing.url leaves.keeps h.entry in
       inr (inr (record {

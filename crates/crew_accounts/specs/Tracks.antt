@@ -1,9 +1,10 @@
 -- What the lines that a worker served say of the script's tabs, and what its pass has of them.
-use Rattle.std.specs.Prelude.{Bool, Contains, IsTrue, List, None, Some, [], false, true, ◌+◌, ◌<◌, ◌≡◌, ◌≢◌, ◌≤◌, ◌⊎◌, ℕ}
+use Rattle.std.specs.Prelude.{Bool, Contains, IsTrue, List, None, Some, [], false, min, true, ◌*◌, ◌+◌, ◌<◌, ◌≡◌, ◌≢◌, ◌≤◌, ◌⊎◌, ℕ}
 use Rattle.lock_word.specs.Words.{version_of}
 use Rattle.rock_disk.specs.Cell.{CellState}
 use Rattle.store_key.specs.Key.{key_of}
 use Rattle.store_key.specs.Url.{IsUrl}
+use Rattle.entry_cut.specs.Content.{room_of}
 use Rattle.core_model.specs.Anchors.{opening_counter}
 use Rattle.core_model.specs.declared.view.Sight.TheVariants.{Published}
 use Rattle.line_account.specs.Answers.{IsEntryAt, Run}
@@ -11,11 +12,11 @@ use Rattle.script_text.specs.Requests.{url_in}
 use Rattle.line_account.specs.Lines.{Served, added, bytes_given, reading, writing}
 use Rattle.store_rule.specs.declared.store.Pass.{Pass}
 use Rattle.store_rule.specs.declared.store.Store.{Store}
-use Rattle.store_rule.specs.Ground.{Offers, anchor_for, url_of}
+use Rattle.store_rule.specs.Ground.{Ground, Offers, anchor_for, url_of}
 use Rattle.store_rule.specs.Passes.{basis, view}
 use Rattle.rock_reader.specs.Reading.{ReadsAs, Standing}
 use Rattle.rock_reader.specs.Responses.{body_below}
-use Rattle.rock_writer.specs.Entries.{Entry, WritesAs}
+use Rattle.rock_writer.specs.Entries.{Entry, WritesAs, size_of}
 use Rattle.store_serve.specs.Showing.{HasShown}
 use Rattle.store_serve.specs.Tabs.{IsFree, IsReady}
 use Rattle.store_serve.specs.Whole.{whole_tab}
@@ -26,6 +27,10 @@ pub record IsOtherUrl (r : Run (List ℕ)) (e : Standing) : Type 0 where
   pub good : IsUrl (r.url e.offer)
   pub same_key : key_of (r.url e.offer) ≡ key_of e.url
   pub differs : r.url e.offer ≢ e.url
+
+-- where there is a slot, the content so far needs no more slots than an entry may have
+abbrev pub StaysSmall : {X : Type 0} → Ground X → Entry → Type 0
+StaysSmall g e = 0 < g.setting.slots → size_of g e ≤ min 4096 g.setting.slots * room_of g.slot
 
 module _ {C O : Type 0} (tells : Bool) (state : C → CellState) (offers : O → Offers) (s : Store C O) (told : Bool) (past : Past) (served : List Served) (p : Pass C) where
   module _ (t : ℕ) where
@@ -51,6 +56,7 @@ module _ {C O : Type 0} (tells : Bool) (state : C → CellState) (offers : O →
       pub drew : first.drew ≡ Some entry.version
       pub taken : entry.taken ≡ added t served
       pub shown : HasShown (basis tells state offers s) entry (view p).seen
+      pub small : StaysSmall (basis tells state offers s) entry
 
     -- By the lines it reads, and it does: the URL and the epoch are those of the line that opened it, and the bytes that lines gave are those of
     -- the slots that it was given. Where it turned from its entry these are none, and the offer has another URL. The pass has seen how many slots

@@ -162,6 +162,7 @@ module _ {X : Type 0} (r : Run X) (v w : View X) (h : KnowsAll v w) where
     gave_up = λ q. given_up_later earlier s (t.gave_up q);
     full = t.full;
     large = t.large;
+    small = t.small;
     long = t.long;
     short = t.short;
     busy = λ looked other q. let b = t.busy looked other q in record { cause = b.cause; rises = b.rises; met = λ a at more. h.met a (b.met a at more) };

@@ -31,13 +31,13 @@ use Rattle.core_model.specs.Anchors.{opening_counter, opening_epoch}
 use Rattle.core_model.specs.Deeds.{EnteredByAnother, EvictedVersion, HaltedVersion, IsDone, IsEpochAt, LeftEpoch}
 use Rattle.core_model.proofs.DeedsTell.{known_old}
 use Rattle.script_text.specs.Requests.{url_in}
-use Rattle.line_account.specs.Lines.{Fits, LineOf, Offers, Served, added, begun_of, writing}
+use Rattle.line_account.specs.Lines.{begun_by, Fits, LineOf, Offers, Served, added, begun_of, writing}
 use Rattle.line_account.specs.Deeds.{Began, BeganOnTab, Begins, ComesTo, IsDeedOf, IsDeedOfEnd, MayEvict}
 use Rattle.line_account.specs.Requests.{IsAnswerTo}
 use Rattle.line_account.specs.Answers.{ComesIn, HasGiven, HasItem, IsSure, bytes_with, HasOther, HasPurged, IsCauseOf, IsEntryAt, IsKeyRead, IsLong, IsSpent, ReadAs, Refuses, Run}
 use Rattle.line_account.specs.Accounts.{epoch_in}
 use Rattle.line_account.specs.Closing.{BegunIn, Closed, HaltedIn, LineIn, ShownIn, Worker, offered}
-use Rattle.line_account.specs.Printed.{AnotherComes, EndsBegun, AreFirstOnes, IsStored, ReadsOf, GivenBackIn, HadEntry, HasBusyWords, HasOtherUrl, HitIn, IsBodyOfLine, IsKeyOfLine, IsOldBody, IsOldUrl, KeyIn, NeedsTooMany, PrintsAdded, PrintsHit, PrintsKey, PrintsLarge, PrintsOther, PrintsReaders, old_offer}
+use Rattle.line_account.specs.Printed.{AnotherComes, EndsBegun, AreFirstOnes, IsStored, ReadsOf, GivenBackIn, HadEntry, HasBusyWords, HasOtherUrl, HitIn, IsBodyOfLine, IsKeyOfLine, IsOldBody, IsOldUrl, KeyIn, NeedsTooMany, PrintsAdded, PrintsEnded, PrintsHit, PrintsKey, PrintsLarge, PrintsOther, PrintsReaders, old_offer}
 use Rattle.line_account.proofs.Gathered.{DeedIn, by_line, counter_below, counter_is, deed_in, inside, shown_known, tells_at}
 use Rattle.line_account.proofs.Versions.{halted_in}
 use Rattle.line_account.proofs.Names.{HasOffer, begun_among, names_of, offer_of, offered_url}
@@ -261,19 +261,34 @@ module _ {X : Type 0} (r : Run X) (crew : List (Worker X)) (c : Closed r crew) w
 
   -- Refusals.
 
+  -- the line that began a writing, as two accounts of it name it, offers a content of this size
+  content_size : (first : Served) (url : List ℕ) (body : Body) (same : Served) (named : List ℕ) (P : List Served → Served → Type 0) (p : LineIn crew P) → begun_by p.line_of.earlier p.line_of.line ≡ Some first
+      → begun_by p.line_of.earlier p.line_of.line ≡ Some same → url_in same.line.request ≡ Some named → Offers first.line.request url body
+      → 32 + length named + length (r.body (r.setting.slots + same.line.number)) ≡ 32 + length url + length (bytes_of body)
+  content_size first url body same named P p begun_is same_is named_is offers =
+      let l = p.line_of in
+      let k : Some same ≡ Some first = sym same_is ∙ begun_is in
+      let one : same ≡ first = cc in
+      let among = begun_among l.earlier l.line first l.line.line.request begun_is in
+      let of_first = ((c.accounts p.j p.worker p.at).lines (l.later ++ among.front) among.back first (l.split ∙ ap (λ z. l.later ++ z) among.split ∙ sym (append_assoc l.later among.front (first ∷ among.back)))).offered url body offers in
+      let u : Some named ≡ Some url = sym named_is ∙ ap (λ (s : Served). url_in s.line.request) one ∙ offered_url first.line.request url body offers in
+      let url_is : named ≡ url = cc in
+      let size : length (r.body (r.setting.slots + same.line.number)) ≡ length (bytes_of body) = ap (λ (s : Served). length (r.body (r.setting.slots + s.line.number))) one ∙ ap length of_first.body_is in
+      let long = ap length url_is in
+      omega arith
+
   pub too_large : (first : Served) (url : List ℕ) (body : Body) → LineIn crew (λ earlier s. PrintsLarge earlier s first) → Offers first.line.request url body → NeedsTooMany r url body
   too_large first url body p offers =
       let told = (tells_at r crew c (λ earlier s. PrintsLarge earlier s first) p).large p.line_of.so.printed in
-      let l = p.line_of in
-      let k : Some told.first ≡ Some first = sym told.begun_is ∙ l.so.begun_is in
-      let same : told.first ≡ first = cc in
-      let among = begun_among l.earlier l.line first l.line.line.request l.so.begun_is in
-      let of_first = ((c.accounts p.j p.worker p.at).lines (l.later ++ among.front) among.back first (l.split ∙ ap (λ z. l.later ++ z) among.split ∙ sym (append_assoc l.later among.front (first ∷ among.back)))).offered url body offers in
-      let u : Some told.url ≡ Some url = sym told.named ∙ ap (λ (s : Served). url_in s.line.request) same ∙ offered_url first.line.request url body offers in
-      let url_is : told.url ≡ url = cc in
-      let size : length (r.body (r.setting.slots + told.first.line.number)) ≡ length (bytes_of body) = ap (λ (s : Served). length (r.body (r.setting.slots + s.line.number))) same ∙ ap length of_first.body_is in
-      let long = ap length url_is in
+      let size = content_size first url body told.first told.url (λ earlier s. PrintsLarge earlier s first) p p.line_of.so.begun_is told.begun_is told.named offers in
       let large = told.large in
+      omega arith
+
+  pub small_enough : (first : Served) (url : List ℕ) (body : Body) → LineIn crew (λ earlier s. PrintsEnded earlier s first) → Offers first.line.request url body → ¬ NeedsTooMany r url body
+  small_enough first url body p offers many =
+      let told = (tells_at r crew c (λ earlier s. PrintsEnded earlier s first) p).small p.line_of.so.version p.line_of.so.printed in
+      let size = content_size first url body told.first told.url (λ earlier s. PrintsEnded earlier s first) p p.line_of.so.begun_is told.begun_is told.named offers in
+      let small = told.small in
       omega arith
 
   pub busy_words : (looked other : Word) → LineIn crew (λ earlier s. s.answer ≡ answer.Busy looked other) → HasBusyWords looked other

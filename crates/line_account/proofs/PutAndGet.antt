@@ -1,5 +1,5 @@
 -- A put and a get have an account.
-use Rattle.std.proofs.Common.{length, ◌≡◌, inl, inr, ⊎_elim, ℕ, ◌+◌, ◌<◌, List, [], ◌∷◌, sym, refl, ap, ◌∙◌, subst, arith, true, false, Contains}
+use Rattle.std.proofs.Common.{length, min, mul-le-mul_right, ◌*◌, ◌≤◌, ◌≡◌, inl, inr, ⊎_elim, ℕ, ◌+◌, ◌<◌, List, [], ◌∷◌, sym, refl, ap, ◌∙◌, subst, arith, true, false, Contains}
 use Rattle.std.specs.Prelude.{None, Some}
 use Rattle.std.proofs.lemmas.List.Elements.{Contains-append_right}
 use Rattle.store_key.specs.Anchor.{anchor_of, back_half, front_half}
@@ -19,7 +19,7 @@ use Rattle.core_model.specs.Opening.{sights_below}
 use Rattle.core_model.proofs.Lists.{cons_contains, contains_none}
 use Rattle.line_account.specs.Lines.{Served, Writes}
 use Rattle.line_account.specs.Deeds.{Begins as BeginsVersion, Grows, HasLine, IsDeedOf, IsNamed}
-use Rattle.line_account.specs.Answers.{HasGiven, HasHit, HasOpened, IsEntryAt, Run}
+use Rattle.line_account.specs.Answers.{HasGiven, HasHit, HasOpened, IsEntryAt, IsSmall, Run}
 use Rattle.line_account.specs.Accounts.{Account, HasFinished, IsOffered, Tells}
 use Rattle.line_account.specs.Alone.{OffersNothing, hit_line, home, next_version, nothing, stored_line, view_after}
 use Rattle.line_account.proofs.Courses.{lines_more, no_line}
@@ -164,6 +164,19 @@ module _ {X : Type 0} (r : Run X) (url : List ℕ) (o : OffersNothing r url) whe
   put_offers : (u : List ℕ) (body : Body) → (url ≡ u) × (nothing ≡ body) → IsOffered r put u body
   put_offers u body h = record { url_is = o.url_is ∙ h.0; body_is = o.body_is ∙ ap bytes_of h.1 }
 
+  -- one slot has room for the metadata and no byte
+  put_small : IsSmall r [] put
+  put_small = record {
+    first = put;
+    begun_is = refl;
+    url = url;
+    named = refl;
+    small = let m = mul-le-mul_right r.room one_slot in let e = ap length o.body_is in let room = o.short in omega arith;
+  }
+    where
+      one_slot : 1 ≤ min 4096 r.setting.slots
+      one_slot = let some = o.some in omega arith
+
   put_tells : Tells r v [] put
   put_tells = record {
     shown = λ b e h. shown_of b e h.at.url h.at.named_is h.at.anchor (one (epoch_at x 3) e h.shown);
@@ -177,6 +190,7 @@ module _ {X : Type 0} (r : Run X) (url : List ℕ) (o : OffersNothing r url) whe
     gave_up = λ h. absurd (let z : false ≡ true = h in cc);
     full = λ h. absurd (let z : answer.Stored x ≡ answer.Full = h in cc);
     large = λ h. absurd (let z : answer.Stored x ≡ answer.Large = h in cc);
+    small = λ y h. put_small;
     long = λ h. absurd (let z : answer.Stored x ≡ answer.LongUrl = h in cc);
     short = λ u body h fits far. absurd (let e = ap length h.0 in let room = o.short in omega arith);
     busy = λ looked other h. absurd (let z : answer.Stored x ≡ answer.Busy looked other = h in cc);
@@ -245,6 +259,10 @@ module _ {X : Type 0} (r : Run X) (url : List ℕ) (o : OffersNothing r url) whe
     gave_up = λ h. absurd (let z : false ≡ true = h in cc);
     full = λ h. absurd (let z : answer.Hit x [] ≡ answer.Full = h in cc);
     large = λ h. absurd (let z : answer.Hit x [] ≡ answer.Large = h in cc);
+    small = λ y h. absurd (⊎_elim
+        (λ (q : answer.Hit x [] ≡ answer.Stored y). let z : ⊥ = cc in z)
+        (λ (q : answer.Hit x [] ≡ answer.Doomed y). let z : ⊥ = cc in z)
+        h);
     long = λ h. absurd (let z : answer.Hit x [] ≡ answer.LongUrl = h in cc);
     short = λ u body h fits far. absurd h;
     busy = λ looked other h. absurd (let z : answer.Hit x [] ≡ answer.Busy looked other = h in cc);

@@ -296,6 +296,7 @@ module _ {X : Type 0} (r : Run X) where
     gave_up = λ h. absurd (let z : true ≡ false = sym h ∙ q.gave_up in cc);
     full = λ h. absurd (q.full h);
     large = λ h. absurd (q.large h);
+    small = λ x h. absurd (q.finished x h);
     long = λ h. absurd (q.long h);
     short = λ url body h fits far. absurd (unfit url body h fits);
     busy = λ looked other h. absurd (q.busy looked other h);

@@ -19,9 +19,9 @@ use Rattle.line_account.specs.Answers.{IsWhole, Run}
 use Rattle.line_account.specs.Closing.{BegunIn, HaltedIn, LineIn, TellsBegunIn, Worker}
 use Rattle.line_account.specs.Deeds.{Began, Begins, TellsBegun}
 use Rattle.script_text.specs.Requests.{url_in}
-use Rattle.line_account.specs.Lines.{Served, begins, begun_of, ends, gives_up, opened_of, writing}
+use Rattle.line_account.specs.Lines.{Offers, Served, begins, begun_of, ends, gives_up, opened_of, writing}
 use Rattle.line_account.specs.Order.{Opens}
-use Rattle.line_account.specs.Printed.{Finds, ReadsWhole, TellsFound}
+use Rattle.line_account.specs.Printed.{Finds, NeedsTooMany, PrintsEnded, ReadsWhole, TellsFound}
 use Rattle.line_account.specs.Rules.{KeepsRules}
 
 -- The lines of a worker, from all of them.
@@ -163,6 +163,11 @@ module _ {X : Type 0} (r : Run X) (script : List Line) (w : Worker X) (rules : K
 
   pub never_purged : (s : Served) (e : Epoch) → w.served ≡ s ∷ [] → s.answer ≡ answer.Purged e → (2 ≤ stage_of (epoch_number e)) × (stage_of (epoch_number e) ≤ 4)
   never_purged s e is sa = rules.epochs.purged_stage e (line_in [] s [] is (λ earlier z. z.answer ≡ answer.Purged e) sa)
+
+  pub never_stored : (p : Served) (url : List ℕ) (body : Body) (x : ℕ) → w.served ≡ p ∷ [] → p.line.request ≡ Put url body → p.answer ≡ answer.Stored x → ¬ NeedsTooMany r url body
+  never_stored p url body x is pq pa = rules.answers.small p url body
+      (line_in [] p [] is (λ earlier z. PrintsEnded earlier z p) (record { begun_is = ap (begun_of [] p) pq; version = x; printed = inl pa }))
+      (subst (λ (q : Request). Offers q url body) (sym pq) (refl, refl))
 
   -- a `put` of one URL, and a `purge` of another
   module _ (p s : Served) (url other : List ℕ) (body : Body) (x : ℕ) (e : Epoch) (is : w.served ≡ s ∷ p ∷ []) (pq : p.line.request ≡ Put other body) (pa : p.answer ≡ answer.Stored x)

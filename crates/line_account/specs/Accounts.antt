@@ -18,7 +18,7 @@ use Rattle.core_model.specs.Trails.{drawn, draws, has_drawn, is_drawn}
 use Rattle.line_account.specs.Lines.{Fits, IsAt, Offers, Served, Writes, gives_up, offers}
 use Rattle.line_account.specs.Requests.{IsAnswerTo}
 use Rattle.line_account.specs.Deeds.{Began, Grows, HasLine, IsWriting}
-use Rattle.line_account.specs.Answers.{ComesIn, HasAdded, HasGiven, HasHit, HasOpened, HasOther, HasPurged, IsBusy, IsCauseOf, IsKeyRead, IsLarge, IsLong, IsOfOpened, IsSpent, Reads, Refuses, Run}
+use Rattle.line_account.specs.Answers.{ComesIn, HasAdded, HasGiven, HasHit, HasOpened, HasOther, HasPurged, IsBusy, IsCauseOf, IsKeyRead, IsLarge, IsLong, IsOfOpened, IsSmall, IsSpent, Reads, Refuses, Run}
 
 -- the epoch of a cause
 abbrev pub epoch_in : Cause → Epoch
@@ -92,6 +92,7 @@ pub record Tells {X : Type 0} (r : Run X) (v : View X) (earlier : List Served) (
   pub gave_up : gives_up s.answer ≡ true → HasGivenUp r.setting.anchors v earlier s
   pub full : s.answer ≡ answer.Full → r.fits ≡ false  -- a slot was wanting
   pub large : s.answer ≡ answer.Large → IsLarge r earlier s  -- nor may the entry have as many slots as its body needs
+  pub small : (x : ℕ) → (s.answer ≡ answer.Stored x) ⊎ (s.answer ≡ answer.Doomed x) → IsSmall r earlier s  -- it may have as many, where its body was stored
   pub long : s.answer ≡ answer.LongUrl → IsLong r s
   pub short : (url : List ℕ) (body : Body) → Offers s.line.request url body → Fits earlier s.line.request → r.room < 32 + length url → s.answer ≡ answer.LongUrl  -- it comes wherever the URL is long
   pub busy : (looked other : Word) → s.answer ≡ answer.Busy looked other → IsBusy r v earlier s looked other

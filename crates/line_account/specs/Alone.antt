@@ -1,5 +1,5 @@
 -- Lines of one worker alone, as examples.
-use Rattle.std.specs.Prelude.{List, None, Some, [], false, length, replicate, ◌+◌, ◌∷◌, ◌≡◌, ◌≤◌, ℕ}
+use Rattle.std.specs.Prelude.{List, None, Some, [], false, length, replicate, ◌+◌, ◌<◌, ◌∷◌, ◌≡◌, ◌≤◌, ℕ}
 use Rattle.lock_word.specs.Words.{epoch_at}
 use Rattle.store_key.specs.Anchor.{anchor_of, back_half, front_half}
 use Rattle.store_key.specs.Key.{key_of}
@@ -64,8 +64,9 @@ view_after r url = record {
   met = [];
 }
 
--- the first line offers an empty body under this URL, which leaves room in a slot
+-- there is a slot, and the first line offers an empty body under this URL, which leaves room in one
 pub record OffersNothing {X : Type 0} (r : Run X) (url : List ℕ) : Type 0 where
+  pub some : 0 < r.setting.slots
   pub short : 32 + length url ≤ r.room
   pub url_is : r.url (r.setting.slots + 1) ≡ url
   pub body_is : r.body (r.setting.slots + 1) ≡ []

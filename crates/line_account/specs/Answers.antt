@@ -96,6 +96,14 @@ pub record IsLarge {X : Type 0} (r : Run X) (earlier : List Served) (s : Served)
   pub named : url_in first.line.request ≡ Some url
   pub large : min 4096 r.setting.slots * r.room < 32 + length url + length (r.body (r.setting.slots + first.line.number))
 
+-- STORED and DOOMED: that body needs no more slots than an entry may have
+pub record IsSmall {X : Type 0} (r : Run X) (earlier : List Served) (s : Served) : Type 0 where
+  pub first : Served
+  pub begun_is : begun_by earlier s ≡ Some first
+  pub url : List ℕ
+  pub named : url_in first.line.request ≡ Some url
+  pub small : 32 + length url + length (r.body (r.setting.slots + first.line.number)) ≤ min 4096 r.setting.slots * r.room
+
 -- MISS and NONE.
 
 -- the answer refuses a look-up by this cause

@@ -161,6 +161,12 @@ pub record PrintsLarge (earlier : List Served) (s : Served) (first : Served) : T
   pub begun_is : begun_by earlier s ≡ Some first
   pub printed : s.answer ≡ answer.Large
 
+-- a line printed STORED or DOOMED, and so ended the writing that this line began
+pub record PrintsEnded (earlier : List Served) (s : Served) (first : Served) : Type 0 where
+  pub begun_is : begun_by earlier s ≡ Some first
+  pub version : ℕ
+  pub printed : (s.answer ≡ answer.Stored version) ⊎ (s.answer ≡ answer.Doomed version)
+
 -- BUSY: its words are the same, and neither vacant nor idle; or the first is one of these, and they differ. The epoch does not fall.
 pub record HasBusyWords (looked other : Word) : Type 0 where
   pub cause : IsHeld looked other ⊎ IsOvertaken looked other

@@ -14,7 +14,7 @@ use Rattle.line_account.specs.Answers.{IsCauseOf, IsLong, Refuses, Run}
 use Rattle.line_account.specs.Closing.{LineIn, Worker}
 use Rattle.line_account.specs.Lines.{Fits, Offers, Served, added}
 use Rattle.line_account.specs.Order.{Opens}
-use Rattle.line_account.specs.Printed.{AnotherComes, EndsBegun, HasBusyWords, HasOtherUrl, NeedsTooMany, PrintsAdded, PrintsLarge, PrintsOther, PrintsReaders}
+use Rattle.line_account.specs.Printed.{AnotherComes, EndsBegun, HasBusyWords, HasOtherUrl, NeedsTooMany, PrintsAdded, PrintsEnded, PrintsLarge, PrintsOther, PrintsReaders}
 use Rattle.line_account.specs.Requests.{IsAnswerTo}
 use Rattle.line_account.specs.Scripts.{offering}
 
@@ -50,6 +50,8 @@ module _ {X : Type 0} (r : Run X) (script : List Line) (crew : List (Worker X)) 
     pub spent : (n : ℕ) → LineIn crew (λ earlier s. s.answer ≡ answer.Spent n) → (version_limit ≤ n) × (n < opening_counter r.setting + offering script)
     -- LARGE comes only where the body of the line, or of the line that began its tab's writing, needs more slots than an entry may have
     pub large : (first : Served) (url : List ℕ) (body : Body) → LineIn crew (λ earlier s. PrintsLarge earlier s first) → Offers first.line.request url body → NeedsTooMany r url body
+    -- and where it needs so many, no line prints STORED or DOOMED of it
+    pub small : (first : Served) (url : List ℕ) (body : Body) → LineIn crew (λ earlier s. PrintsEnded earlier s first) → Offers first.line.request url body → ¬ NeedsTooMany r url body
     -- OTHERURL comes only where another URL has the key of the one that is read
     pub other : IsTrue r.tells → (url : List ℕ) → LineIn crew (λ earlier s. PrintsOther earlier s url) → HasOtherUrl r crew url
     -- the cause of MISS and NONE is that of the epoch and the key that it prints, for the URL of the line

@@ -12,6 +12,7 @@ ghost use Rattle.line_account.specs.Lines.{Served};
 ghost use Rattle.line_account.specs.Answers.{Run};
 ghost use Rattle.line_account.specs.Closing.{Worker};
 ghost use Rattle.line_account.specs.Alone.{alone, home};
+ghost use Rattle.line_account.specs.Printed.{NeedsTooMany};
 ghost use Rattle.line_account.specs.Rules.{KeepsRules};
 
 /// `begin` printed BEGUN and `drop` DROPPED, and another worker's `get` printed HIT with the version: what was given up is
@@ -48,6 +49,13 @@ pub fn nothing_is_purged_that_never_was<X>()
     ensures gone { (r : Run X) (script : List Line) (w : Worker X) (s : Served) (url : List ℕ) (x : ℕ)
         → KeepsRules r script (alone w) → w.served ≡ s ∷ [] → s.line.request ≡ Request.Purge url
         → s.answer ≡ Answer.Purged (record { version = x; stage = stage.Gone; doom = true }) → ⊥ }
+{}
+
+/// `put` printed STORED of a body that needs more slots than an entry may have (`answers.small`).
+pub fn nothing_too_large_is_stored<X>()
+    ensures { (r : Run X) (script : List Line) (w : Worker X) (p : Served) (url : List ℕ) (body : Body) (x : ℕ)
+        → KeepsRules r script (alone w) → w.served ≡ p ∷ [] → p.line.request ≡ Request.Put url body → p.answer ≡ Answer.Stored x
+        → NeedsTooMany r url body → ⊥ }
 {}
 
 /// `put` of one URL printed STORED, and a `purge` of another URL, with another key, printed PURGED with the version

@@ -34,7 +34,7 @@ ghost use Rattle.line_account.specs.Accounts.{Account, epoch_in};
 ghost use Rattle.core_model.specs.Knowing.{KnowsAll};
 ghost use Rattle.line_account.specs.Courses.{Adds, Begins as BeginsWork, Course, Leaves, Stage, lines_in};
 ghost use Rattle.line_account.specs.Steps.{IsAfter, IsIdle, IsMarkLine, IsTabLine};
-ghost use Rattle.line_account.specs.Printed.{AnotherComes, EndsBegun, AreFirstOnes, ReadsOf, GivenBackIn, HadEntry, PrintsAdded, HasBusyWords, HasOtherUrl, HitIn, IsBodyAsPrinted, IsBodyOfLine, IsKeyOfLine, IsOldBody, IsOldUrl, KeyIn, NeedsTooMany, OffersAtOnce, PrintsFinished, PrintsLarge, PrintsOther, ReadsWhole, Finds, FinishedIn, PrintsReaders};
+ghost use Rattle.line_account.specs.Printed.{AnotherComes, EndsBegun, AreFirstOnes, ReadsOf, GivenBackIn, HadEntry, PrintsAdded, HasBusyWords, HasOtherUrl, HitIn, IsBodyAsPrinted, IsBodyOfLine, IsKeyOfLine, IsOldBody, IsOldUrl, KeyIn, NeedsTooMany, OffersAtOnce, PrintsEnded, PrintsFinished, PrintsLarge, PrintsOther, ReadsWhole, Finds, FinishedIn, PrintsReaders};
 ghost use Rattle.line_account.specs.Closing.{Closed, Worker, BegunIn, TellsBegunIn, ShownIn, StoredIn, HaltedIn, PurgedIn, IsSameLine, LineIn, PrintsHalted, PrintsDoomed, SomeHalted, offered};
 
 /// Each version is begun by one line, and at one anchor, and a line begins one version at most. It offers a
@@ -198,7 +198,7 @@ pub fn spent_numbers_have_bounds<X>()
 
 /// Each answer is one that its request may get, and refusals have their causes. That of MISS and NONE is the
 /// one of the epoch and the key that it tells, for the URL of the line. LARGE comes only where the body of the line, or of the one that began its tab's
-/// writing, needs more slots than an entry may have. LONGURL comes exactly where a body is offered under a URL
+/// writing, needs more slots than an entry may have, and STORED and DOOMED only where it needs no more. LONGURL comes exactly where a body is offered under a URL
 /// that leaves no room for its metadata, on a tab that is as the request needs it. TAB comes exactly where the
 /// tab is not so. The epoch of PART is at APPENDING.
 pub fn refusals_have_causes<X>()
@@ -207,6 +207,8 @@ pub fn refusals_have_causes<X>()
     ensures busy { (r : Run X) (crew : List (Worker X)) (looked other : Word) → Closed r crew → LineIn crew (λ earlier s. s.answer ≡ Answer.Busy looked other) → HasBusyWords looked other }
     ensures large { (r : Run X) (crew : List (Worker X)) (first : Served) (url : List ℕ) (body : Body) → Closed r crew
         → LineIn crew (λ earlier s. PrintsLarge earlier s first) → Offers first.line.request url body → NeedsTooMany r url body }
+    ensures small { (r : Run X) (crew : List (Worker X)) (first : Served) (url : List ℕ) (body : Body) → Closed r crew
+        → LineIn crew (λ earlier s. PrintsEnded earlier s first) → Offers first.line.request url body → ¬ NeedsTooMany r url body }
     ensures long { (r : Run X) (crew : List (Worker X)) → Closed r crew → (p : LineIn crew (λ earlier s. s.answer ≡ Answer.LongUrl)) → IsLong r p.line_of.line }
     ensures short { (r : Run X) (crew : List (Worker X)) (url : List ℕ) (body : Body) → Closed r crew
         → (p : LineIn crew (λ earlier s. Offers s.line.request url body × Fits earlier s.line.request)) → r.room < 32 + length url → p.line_of.line.answer ≡ Answer.LongUrl }

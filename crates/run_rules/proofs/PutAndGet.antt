@@ -1,5 +1,5 @@
 -- A `put` and a `get` keep all rules.
-use Rattle.std.proofs.Common.{length, ◌≡◌, ◌⊎◌, inl, inr, ⊎_elim, ℕ, ◌+◌, ◌<◌, ◌≤◌, ◌↔◌, zero, suc, List, [], ◌∷◌, ◌++◌, sym, refl, ap, ◌∙◌, subst, append_assoc, arith, Bool, true, false, cond, Contains}
+use Rattle.std.proofs.Common.{length, min, mul-le-mul_right, ◌*◌, ◌≡◌, ◌⊎◌, inl, inr, ⊎_elim, ℕ, ◌+◌, ◌<◌, ◌≤◌, ◌↔◌, zero, suc, List, [], ◌∷◌, ◌++◌, sym, refl, ap, ◌∙◌, subst, append_assoc, arith, Bool, true, false, cond, Contains}
 use Rattle.std.proofs.lemmas.List.Sums.{sum_by-cons}
 use Rattle.std.specs.Prelude.{IsTrue, None, Some}
 use mathlib.Core.Option.{some, some-injective, some-ne-none}
@@ -31,7 +31,7 @@ use Rattle.line_account.specs.Lines.{Fits, IsAnchorOf, IsAt, Offers, Served, Wri
 use Rattle.line_account.specs.Order.{NotBelow, Opens, PrintsAlone, counts_as, version_alone}
 use Rattle.line_account.specs.Ordering.{AreInOrder, AreNotShort}
 use Rattle.line_account.specs.Parts.{PrintsPart}
-use Rattle.line_account.specs.Printed.{AreFirstOnes, Ends, EndsBegun, Finds, FinishedIn, IsBodyAsPrinted, IsBodyOfLine, IsKeyOfLine, PrintsAdded, PrintsHit, PrintsKey, PrintsLarge, PrintsOther, PrintsReaders, ReadsOf, ReadsVersion, ReadsWhole}
+use Rattle.line_account.specs.Printed.{AreFirstOnes, Ends, EndsBegun, Finds, FinishedIn, IsBodyAsPrinted, IsBodyOfLine, IsKeyOfLine, NeedsTooMany, PrintsAdded, PrintsEnded, PrintsHit, PrintsKey, PrintsLarge, PrintsOther, PrintsReaders, ReadsOf, ReadsVersion, ReadsWhole}
 use Rattle.line_account.specs.Refusals.{Any, AnswersHaveCauses}
 use Rattle.line_account.specs.Requests.{IsAnswerTo}
 use Rattle.line_account.specs.Rules.{KeepsRules}
@@ -138,6 +138,16 @@ module _ {X : Type 0} (r : Run X) (url : List ℕ) (m : MayBegin r url) (w : Wor
   old_none : (y : ℕ) → x ≡ y → y ≤ opening_counter r.setting → ⊥
   old_none y same low = let h = high in omega arith
 
+  -- one slot has room for the metadata and no byte
+  nothing_is_small : (u : List ℕ) (body : Body) → (url ≡ u) × (nothing ≡ body) → ¬ NeedsTooMany r u body
+  nothing_is_small u body h many =
+      let some = m.offers.some in
+      let few = mul-le-mul_right r.room (let z : 1 ≤ min 4096 r.setting.slots = omega arith in z) in
+      let e = ap length h.0 in
+      let none : length (bytes_of body) ≡ 0 = sym (ap (λ (b : Body). length (bytes_of b)) h.1) in
+      let room = m.offers.short in
+      omega arith
+
   answers : AnswersHaveCauses r (put_and_get_script r url) crew
   answers = record {
     possible = λ p. by_line Any (λ earlier s. IsAnswerTo s.line.request s.answer) (λ z. tt) (λ z. tt) p;
@@ -155,6 +165,12 @@ module _ {X : Type 0} (r : Run X) (url : List ℕ) (m : MayBegin r url) (w : Wor
     readers = λ b p. absurd (never (λ earlier s. PrintsReaders r.setting.anchors earlier s b) (λ h. let k : answer.Hit x [] ≡ answer.Busy h.looked h.other = h.printed in cc) (λ h. let k : answer.Stored x ≡ answer.Busy h.looked h.other = h.printed in cc) p);
     spent = λ n p. absurd (never (λ earlier s. s.answer ≡ answer.Spent n) (λ h. let k : answer.Hit x [] ≡ answer.Spent n = h in cc) (λ h. let k : answer.Stored x ≡ answer.Spent n = h in cc) p);
     large = λ first u body p o. absurd (never (λ earlier s. PrintsLarge earlier s first) (λ h. let k : answer.Hit x [] ≡ answer.Large = h.printed in cc) (λ h. let k : answer.Stored x ≡ answer.Large = h.printed in cc) p);
+    small = λ first u body p o. by_line (λ earlier s. PrintsEnded earlier s first) (λ earlier s. Offers first.line.request u body → ¬ NeedsTooMany r u body)
+        (λ h. absurd (⊎_elim
+        (λ (q : answer.Hit x [] ≡ answer.Stored h.version). let z : ⊥ = cc in z)
+        (λ (q : answer.Hit x [] ≡ answer.Doomed h.version). let z : ⊥ = cc in z)
+        h.printed))
+        (λ h offers many. nothing_is_small u body (subst (λ (f : Served). Offers f.line.request u body) (sym (one_served put first h.begun_is)) offers) many) p o;
     other = λ tells u p. absurd (never (λ earlier s. PrintsOther earlier s u) (λ h. let k : answer.Hit x [] ≡ answer.OtherUrl = h.printed in cc) (λ h. let k : answer.Stored x ≡ answer.OtherUrl = h.printed in cc) p);
     cause = λ cause p. absurd (never (λ earlier s. Refuses s.answer cause) (λ h. h) (λ h. h) p);
   }

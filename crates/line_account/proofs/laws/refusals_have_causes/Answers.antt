@@ -1,4 +1,4 @@
-use Rattle.line_account.proofs.Printing.{answer_told, busy_words, cause_told, long_told, part_told, short_told, tab_told, too_large}
+use Rattle.line_account.proofs.Printing.{answer_told, busy_words, cause_told, long_told, part_told, short_told, small_enough, tab_told, too_large}
 use Rattle.line_account.proofs.laws.refusals_have_causes.Goals as goal
 
 pub returns-clause-answer : goal.returns-clause-answer
@@ -12,6 +12,9 @@ returns-clause-busy c start r crew looked other closed p = busy_words r crew clo
 
 pub returns-clause-large : goal.returns-clause-large
 returns-clause-large c start r crew first url body closed p offers = too_large r crew closed first url body p offers
+
+pub returns-clause-small : goal.returns-clause-small
+returns-clause-small c start r crew first url body closed p offers = small_enough r crew closed first url body p offers
 
 pub returns-clause-long : goal.returns-clause-long
 returns-clause-long c start r crew closed p = long_told r crew closed p

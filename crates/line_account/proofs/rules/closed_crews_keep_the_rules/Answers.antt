@@ -24,6 +24,7 @@ returns g c r script crew closed serves have = record {
     readers = λ a p. c.more_readers_come_from_others.ensures r crew a closed p;
     spent = λ n p. ((c.spent_numbers_have_bounds.ensures r crew n closed p).0, c.scripts_bound_what_is_offered.ensures.spent r script crew n closed serves p);
     large = λ first url body p o. c.refusals_have_causes.ensures.large r crew first url body closed p o;
+    small = λ first url body p o. c.refusals_have_causes.ensures.small r crew first url body closed p o;
     other = λ tells url p. c.other_urls_have_the_key.ensures r crew url closed tells p;
     cause = λ cause p. c.refusals_have_causes.ensures.cause r crew cause closed p;
   };

@@ -1,6 +1,5 @@
-use Rattle.std.proofs.Common.{List, [], ap, arith, length, min, refl, sym, subst, ◌++◌, ◌-◌, ◌^◌, ◌∙◌, ◌∷◌, ◌≡◌, ◌≤◌, ℕ}
+use Rattle.std.proofs.Common.{List, [], ap, arith, min, refl, sym, ◌-◌, ◌^◌, ◌∙◌, ◌∷◌, ◌≡◌, ◌≤◌, ℕ}
 use Rattle.std.proofs.lemmas.List.{append_cancel_left}
-use mathlib.Core.Option.{some}
 use lib.ListN.{get_elem?}
 use Rattle.script_text.specs.declared.answer.Answer.TheVariants as answer
 use Rattle.run_rules.specs.Runs.{faults_in}

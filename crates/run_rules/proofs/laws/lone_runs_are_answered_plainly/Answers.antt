@@ -13,7 +13,7 @@ use Rattle.plain_model.specs.declared.entry.Entry.{Entry as PlainEntry}
 use Rattle.plain_model.specs.declared.entry.Life.TheVariants.{Whole}
 use Rattle.plain_model.specs.declared.store.Plain.{Plain}
 use Rattle.plain_model.specs.Serving.{left_by}
-use Rattle.plain_model.specs.Store.{entry_at, place_at}
+use Rattle.plain_model.specs.Store.{entry_at}
 use Rattle.run_rules.proofs.Lone.{at_first, first_view, has_alone, one, opened_alone, plainly, station_none, words_over}
 use Rattle.run_rules.proofs.Numbers.{one_by_one}
 use Rattle.run_rules.proofs.Opened.{has_played}
