@@ -1,6 +1,5 @@
 -- The content of an entry that is written needs no more slots than an entry may have.
-use Rattle.std.proofs.Common.{Bool, List, [], arith, inl, inr, ⊎_elim, length, min, mul-le-mul_right, suc-mul, ap, ◌∙◌, sym, subst, ◌*◌, ◌+◌, ◌-◌, ◌/◌, ◌∷◌, ◌<◌, ◌≡◌, ◌≤◌, ◌⊎◌, suc, true, zero, ℕ}
-use Rattle.std.specs.Prelude.{◌↔◌}
+use Rattle.std.proofs.Common.{Bool, List, [], arith, inl, inr, length, min, mul-le-mul_right, suc-mul, ap, ◌*◌, ◌+◌, ◌-◌, ◌/◌, ◌∷◌, ◌<◌, ◌≡◌, ◌≤◌, ◌⊎◌, suc, true, zero, ℕ}
 use Rattle.std.proofs.Math.Nat.{div-lt_iff_lt-mul, lt-div-mul-add}
 use Rattle.rock_disk.specs.Cell.{CellState}
 use Rattle.entry_cut.specs.Content.{room_of}
@@ -9,9 +8,9 @@ use Rattle.core_model.specs.declared.view.View.{View}
 use Rattle.store_rule.specs.declared.store.Pass.{Pass}
 use Rattle.store_rule.specs.declared.store.Store.{Store}
 use Rattle.store_rule.specs.Ground.{Ground, Offers}
-use Rattle.store_rule.specs.Passes.{basis, view}
+use Rattle.store_rule.specs.Passes.{basis}
 use Rattle.slice_chain.specs.Writes.{WroteSlot}
-use Rattle.rock_writer.specs.Appending.{Appended, IsFull, TookBehind, TookHere, TookNone, place_of, room_in}
+use Rattle.rock_writer.specs.Appending.{Appended, TookBehind, TookHere, TookNone, place_of}
 use Rattle.rock_writer.specs.Beginning.{IsTooLong}
 use Rattle.rock_writer.specs.Entries.{Entry, body_in, size_of, url_in, with_taken}
 use Rattle.rock_writer.specs.Flushing.{IsAtLimit}

@@ -1,19 +1,15 @@
 -- The course of a worker on a shelf.
-use Rattle.std.specs.Prelude.{Bool, List, [], map, ◌++◌, ◌∷◌, ◌≡◌, ◌⊎◌, ℕ}
+use Rattle.std.specs.Prelude.{Bool, List, [], map, ◌++◌, ◌∷◌, ◌≡◌, ℕ}
 use Rattle.rock_disk.specs.Cell.{CellState}
 use Rattle.script_text.specs.declared.answer.Answer.{Answer}
 use Rattle.script_text.specs.declared.line.Line.{Line}
-use Rattle.script_text.specs.declared.answer.Answer.TheVariants as answer
-use Rattle.script_text.specs.declared.request.Request.{Request}
-use Rattle.script_text.specs.declared.request.Request.TheVariants.{Await, Mark}
 use Rattle.core_model.specs.declared.view.View.{View}
 use Rattle.line_account.specs.Courses.{Course, Stage as Told, lines_in}
-use Rattle.store_rule.specs.declared.store.Note.{Note}
 use Rattle.store_rule.specs.declared.store.Store.{Store}
 use Rattle.store_rule.specs.Ground.{Offers}
 use Rattle.store_rule.specs.Passes.{basis, view}
 use Rattle.worker_pool.specs.Courses.{Stage}
-use Rattle.worker_shelf.specs.Shelves.{Learned, Noted, OnShelf, Went}
+use Rattle.worker_shelf.specs.Shelves.{OnShelf}
 use Rattle.crew_accounts.specs.Runs.{Past, run_of}
 use Rattle.crew_accounts.specs.Tracks.{Tracks}
 

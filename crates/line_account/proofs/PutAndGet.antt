@@ -1,5 +1,5 @@
 -- A put and a get have an account.
-use Rattle.std.proofs.Common.{length, min, mul-le-mul_right, ◌*◌, ◌≤◌, ◌≡◌, inl, inr, ⊎_elim, ℕ, ◌+◌, ◌<◌, List, [], ◌∷◌, sym, refl, ap, ◌∙◌, subst, arith, true, false, Contains}
+use Rattle.std.proofs.Common.{length, min, mul-le-mul_right, ◌≤◌, ◌≡◌, inl, inr, ⊎_elim, ℕ, ◌+◌, ◌<◌, List, [], ◌∷◌, sym, refl, ap, ◌∙◌, subst, arith, true, false, Contains}
 use Rattle.std.specs.Prelude.{None, Some}
 use Rattle.std.proofs.lemmas.List.Elements.{Contains-append_right}
 use Rattle.store_key.specs.Anchor.{anchor_of, back_half, front_half}

@@ -1,5 +1,5 @@
 -- The account of a worker: what it knows, and which line each of its deeds belongs to.
-use Rattle.std.specs.Prelude.{Bool, IsTrue, List, None, Option, Some, [], count_by, false, length, true, ◌+◌, ◌++◌, ◌<◌, ◌==◌, ◌∷◌, ◌↔◌, ◌≡◌, ◌≢◌, ◌⊎◌, Contains, ℕ}
+use Rattle.std.specs.Prelude.{Bool, IsTrue, List, None, Some, [], count_by, false, length, true, ◌+◌, ◌++◌, ◌<◌, ◌∷◌, ◌↔◌, ◌≡◌, ◌≢◌, ◌⊎◌, Contains, ℕ}
 use Rattle.lock_word.specs.Words.{epoch_at, epoch_number, stage_of, version_of}
 use Rattle.lock_word.specs.declared.cause.Cause.{Cause}
 use Rattle.lock_word.specs.declared.cause.Cause.TheVariants.{Absent, Leaving, OtherKey, Writing}
