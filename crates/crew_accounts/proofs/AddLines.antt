@@ -107,7 +107,7 @@ module _ {C O : Type 0} (tells : Bool) (state : C → CellState) (offers : O →
             drew = None;
             opened = 0;
             looked = 0;
-            adds = adds_by r (view p) (view q) served l (OfPublishing (name_of g e) (view q).seen)
+            adds = adds_by r (view p) (view q) served l refl (OfPublishing (name_of g e) (view q).seen)
                 (serving.added tells state offers s t e p q (entry_of tells state offers s t e h.is) k)
                 (λ d. of_publishing r (view q) served l d (record { may = tt; wants = refl }) (name_of g e) (view q).seen (grows g e h.first first served l h.writes (view q)))
                 (λ b f shows. (none b f shows).above)
@@ -143,7 +143,7 @@ module _ {C O : Type 0} (tells : Bool) (state : C → CellState) (offers : O →
           drew = None;
           opened = 0;
           looked = 0;
-          adds = adds_by r (view p) (view q) served l (OfGivingUp (name_of g e) (view q).seen)
+          adds = adds_by r (view p) (view q) served l refl (OfGivingUp (name_of g e) (view q).seen)
               (serving.not_added tells state offers s t e p q (entry_of tells state offers s t e h.is) k)
               (λ d. of_giving_up r (view q) served l d (record { may = tt; wants = refl }) (name_of g e) (view q).seen (grows g e h.first first served l h.writes (view q)) (halts g e h.first first served l h.writes (gives_up_fault fault)))
               (λ b f shows. (none b f shows).above)

@@ -29,14 +29,14 @@ use Rattle.worker_shelf.specs.Typed.{IsTyped}
 use Rattle.crew_accounts.specs.Lines.{AddsLine, served_as}
 use Rattle.crew_accounts.specs.Runs.{Past, run_of}
 use Rattle.crew_accounts.specs.Tracks.{IsIdle, Tracks}
-use Rattle.crew_accounts.proofs.Beginning.{begun_fresh}
-use Rattle.crew_accounts.proofs.CallDeeds.{adds_by, of_beginning}
+use Rattle.crew_accounts.proofs.Beginning.{begun_fresh, begun_later}
+use Rattle.crew_accounts.proofs.CallDeeds.{adds_drawing, of_beginning}
 use Rattle.crew_accounts.proofs.Dropping.{self_true}
 use Rattle.crew_accounts.proofs.Fitting.{on_free}
 use Rattle.crew_accounts.proofs.NotBegun.{not_begun, refusals_are_mute}
 use Rattle.crew_accounts.proofs.Offering.{begins, offering}
 use Rattle.crew_accounts.proofs.Running.{is_offered}
-use Rattle.crew_accounts.proofs.Shown.{fresh_to, shows_one}
+use Rattle.crew_accounts.proofs.Shown.{begun_above, fresh_to, shows_one}
 use Rattle.crew_accounts.proofs.Small.{begun_small}
 use Rattle.crew_accounts.proofs.TabLines.{elsewhere, mute, none_added, now_writes, reading_on, writing_on}
 use Rattle.crew_accounts.proofs.Telling.{tells_by}
@@ -65,7 +65,8 @@ module _ {C O : Type 0} (tells : Bool) (state : C → CellState) (offers : O →
           drew = Some version;
           opened = 0;
           looked = 0;
-          adds = adds_by r (view p) (view q) served l (OfBeginning (anchor_for g url) version) (began_acted tells state offers s t b)
+          adds = adds_drawing r (view p) (view q) served l (begun_above r.setting.anchors (view p) l url version refl (begun_later b.took) (λ x k. k))
+              (OfBeginning (anchor_for g url) version) (began_acted tells state offers s t b)
               (λ d. of_beginning r (view q) served l d (anchor_for g url) version (record { anchor = record { url = url; named_is = refl; anchor = refl }; drew = refl; began = refl }))
               (λ b e k. (shows b e k).above)
               (tells_by r (view q) served l tt

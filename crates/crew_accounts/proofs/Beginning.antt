@@ -1,5 +1,5 @@
 -- A line that begins an entry: what it found, and what it left.
-use Rattle.std.proofs.Common.{Bool, Contains, List, [], ap, arith, cond, eq-eqb, inl, inr, refl, subst, sum_by, sym, true, ◌++◌, ◌<◌, ◌==◌, ◌∙◌, ◌∷◌, ◌≡◌, ◌⊎◌, ℕ}
+use Rattle.std.proofs.Common.{Bool, Contains, List, [], ap, arith, cond, eq-eqb, inl, inr, refl, subst, sum_by, sym, true, ◌++◌, ◌<◌, ◌≤◌, ◌==◌, ◌∙◌, ◌∷◌, ◌≡◌, ◌⊎◌, ℕ}
 use Rattle.std.proofs.lemmas.Bool.{lt-ltb}
 use Rattle.std.proofs.Common.{ltb}
 use Rattle.lock_word.specs.Words.{epoch_at, epoch_of, readers_of, version_of, word_at}
@@ -8,7 +8,7 @@ use Rattle.lock_word.proofs.Parts.{readers_of-word_number}
 use Rattle.lock_word.proofs.Taking.{epoch_of-word_at, rises}
 use Rattle.core_model.specs.Table.{left_by}
 use Rattle.core_model.specs.Tabs.{counts}
-use Rattle.core_model.specs.Trails.{last_find}
+use Rattle.core_model.specs.Trails.{last_find, seen_at}
 use Rattle.core_model.specs.declared.moves.Move.TheVariants.{Look, Take}
 use Rattle.core_model.specs.declared.tab.Tab.{Tab}
 use Rattle.core_model.specs.declared.view.Sight.{Sight}
@@ -33,19 +33,20 @@ module _ {X : Type 0} {g : Ground X} {t a : ℕ} {v : View X} where
       here : cond (a == a) n (last_find a v.trail) ≡ n
       here = let e = eq-eqb a a refl in rw e refl
 
+  -- the version is later than that of the last find
+  newer : {n version : ℕ} {w : View X} (h : TookAnchor g t a v n version w) → version_of (epoch_of (last_find a h.drawn.trail)) < version
+  newer {n} {version} {w} h = h.takes.rule.sound.anchors.held.since h.takes.index h.drawn h.takes.at a version h.takes.may.allowed.0 h.takes.may.allowed.1.held h.takes.may.allowed.1.since
+
   -- the epoch at which it was taken is above all that was seen there
   took_fresh : {n version : ℕ} {w : View X} (h : TookAnchor g t a v n version w) → IsFresh a (epoch_at version 1) h.drawn w
   took_fresh {n} {version} {w} h = record {
     above = let found = (known_of g h.drawn (Take t a version) n w h.takes).anchors.fresh in
-        let up = rises (epoch_of (last_find a h.drawn.trail)) version 1 newer in
+        let up = rises (epoch_of (last_find a h.drawn.trail)) version 1 (newer h) in
         let same = ap epoch_of (found_still h) in
         omega arith;
     seen = subst (λ (z : List Sight). Contains z (Stood a (epoch_at version 1))) (sym (ap View.seen h.takes.leaves)) (0, omega arith, ap (λ (e : ℕ). Stood a e) left);
   }
     where
-      newer : version_of (epoch_of (last_find a h.drawn.trail)) < version
-      newer = h.takes.rule.sound.anchors.held.since h.takes.index h.drawn h.takes.at a version h.takes.may.allowed.0 h.takes.may.allowed.1.held h.takes.may.allowed.1.since
-
       won : (n == last_find a h.drawn.trail) ≡ true
       won = eq-eqb n (last_find a h.drawn.trail) (sym (found_still h))
 
@@ -58,6 +59,16 @@ module _ {X : Type 0} {g : Ground X} {t a : ℕ} {v : View X} where
 
   pub begun_fresh : {n version : ℕ} {w : View X} → Took g t a v n version w → IsFresh a (epoch_at version 1) v w
   begun_fresh h = fresh_to (fresh_from (on (by_step h.took.looks) (drew h.took.drew)) (took_fresh h.took)) (cleared h.cleared)
+
+  -- and later than all that was seen there
+  pub begun_later : {n version : ℕ} {w : View X} → Took g t a v n version w → version_of (seen_at a v.seen) < version
+  begun_later {n} {version} {w} h =
+      let found = (known_of g v (Look a) n h.took.seen h.took.looks).anchors.fresh in
+      let later = newer h.took in
+      let same = ap epoch_of (found_still h.took) in
+      let up : version_of (seen_at a v.seen) ≤ version_of (epoch_of n) = omega arith in
+      let is = ap version_of same in
+      omega arith
 
 -- Whom it met.
 

@@ -1,5 +1,5 @@
 -- Which line the deeds of a call belong to.
-use Rattle.std.proofs.Common.{Contains, List, ap, arith, false, inl, inr, refl, subst, sym, true, ⊎_elim, ◌∙◌, ◌≡◌, ◌≤◌, ℕ}
+use Rattle.std.proofs.Common.{Contains, List, None, Some, ap, arith, false, inl, inr, refl, subst, sym, true, ⊎_elim, ◌∙◌, ◌<◌, ◌≡◌, ◌≤◌, ℕ}
 use Rattle.std.specs.Prelude.{IsTrue, ◌↔◌}
 use Rattle.lock_word.specs.Words.{doom_of, epoch_number, version_of as version_in}
 use Rattle.lock_word.specs.declared.epoch.Epoch.{Epoch}
@@ -9,10 +9,11 @@ use Rattle.core_model.specs.declared.view.Deed.{Deed}
 use Rattle.core_model.specs.declared.view.Sight.{Sight}
 use Rattle.core_model.specs.declared.view.View.{View}
 use Rattle.line_account.specs.Lines.{Served}
-use Rattle.line_account.specs.Deeds.{Begins, ComesTo, Evicts, Finishes, Grows, Halts, IsDeedOf, Purges}
+use Rattle.line_account.specs.Deeds.{Begins, ComesTo, Evicts, Finishes, Grows, Halts, IsDeedOf, PrintsBegunVersion, Purges}
 use Rattle.line_account.specs.Answers.{HasPart, Run}
 use Rattle.line_account.specs.Accounts.{Shows, Tells}
 use Rattle.line_account.specs.Courses.{Adds}
+use Rattle.line_account.proofs.Versions.{told_began}
 use Rattle.rock_writer.specs.declared.fault.Ended.{Ended}
 use Rattle.rock_writer.specs.declared.fault.Ended.TheVariants.{Doomed, Stored}
 use Rattle.rock_writer.specs.Finishing.{is_doomed, version_of}
@@ -95,14 +96,23 @@ module _ {X : Type 0} (r : Run X) (v : View X) (earlier : List Served) (s : Serv
 
 -- A line adds what its call drew and did, with what it tells.
 module _ {X : Type 0} (r : Run X) (v w : View X) (earlier : List Served) (s : Served) where
-  pub adds_by : (P : Deed → Type 0) → Acted s.drew P v w → ((d : Deed) → P d → IsDeedOf r w d earlier s) → ((a e : ℕ) → Shows r.setting.anchors earlier s a e → seen_at a v.seen ≤ e) → Tells r w earlier s
+  pub adds_drawing : ((a x : ℕ) → PrintsBegunVersion r.setting.anchors s a x → version_in (seen_at a v.seen) < x) → (P : Deed → Type 0) → Acted s.drew P v w → ((d : Deed) → P d → IsDeedOf r w d earlier s)
+      → ((a e : ℕ) → Shows r.setting.anchors earlier s a e → seen_at a v.seen ≤ e) → Tells r w earlier s
       → (IsTrue r.tells → (e : Epoch) (bytes : List ℕ) → s.answer ≡ answer.Part e bytes → HasPart r v w earlier s (epoch_number e)) → Adds r v earlier s w
-  adds_by P acted so fresh tells parts = record {
+  adds_drawing above P acted so fresh tells parts = record {
     keeps = acted.keeps;
     drawn = acted.drawn;
     draws = acted.draws;
     deeds = λ d c. ⊎_elim (λ (o : Contains v.deeds d). inl o) (λ (n : (d.pass ≡ v.pass) × P d). inr (n.0, so d n.1)) (acted.deeds d c);
     fresh = fresh;
+    above = above;
     tells = tells;
     parts = parts;
   }
+
+  -- a line that drew no version began none
+  pub adds_by : s.drew ≡ None → (P : Deed → Type 0) → Acted s.drew P v w → ((d : Deed) → P d → IsDeedOf r w d earlier s) → ((a e : ℕ) → Shows r.setting.anchors earlier s a e → seen_at a v.seen ≤ e) → Tells r w earlier s
+      → (IsTrue r.tells → (e : Epoch) (bytes : List ℕ) → s.answer ≡ answer.Part e bytes → HasPart r v w earlier s (epoch_number e)) → Adds r v earlier s w
+  adds_by none P acted so fresh tells parts = adds_drawing
+      (λ a x h. let began = tells.began x (told_began s.line.request s.answer x h.told) in let z : None ≡ Some began.version = sym none ∙ began.drew in absurd (let q : ⊥ = cc in q))
+      P acted so fresh tells parts

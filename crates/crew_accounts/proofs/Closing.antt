@@ -48,7 +48,7 @@ module _ {C O : Type 0} (tells : Bool) (state : C → CellState) (offers : O →
         drew = None;
         opened = 0;
         looked = 0;
-        adds = adds_by r (view p) (view q) served l OfLeaving
+        adds = adds_by r (view p) (view q) served l refl OfLeaving
             (parted g t (view p) (view q) closes.parted)
             (λ d. of_leaving r (view q) served l d)
             (λ b e shows. (none b e shows).above)

@@ -55,7 +55,7 @@ module _ {C O : Type 0} (tells : Bool) (state : C → CellState) (offers : O →
         drew = None;
         opened = 0;
         looked = 0;
-        adds = adds_by r (view p) (view q) served l (OfHalting h.entry.anchor h.entry.version)
+        adds = adds_by r (view p) (view q) served l refl (OfHalting h.entry.anchor h.entry.version)
             (halts_acted g t (name_of g h.entry) entry drops.halts)
             (λ d. of_halting r (view q) served l d h.entry.anchor h.entry.version up)
             (λ b e shows. (none b e shows).above)

@@ -85,7 +85,7 @@ module _ {C O : Type 0} (tells : Bool) (state : C → CellState) (offers : O →
           drew = None;
           opened = 0;
           looked = 0;
-          adds = adds_by r (view p) (view q) served l (OfEnding (name_of g e) (view q).seen ended)
+          adds = adds_by r (view p) (view q) served l refl (OfEnding (name_of g e) (view q).seen ended)
               (serving.ended tells state offers s t e p q (entry_of tells state offers s t e h.is) k)
               (λ d. of_ending r (view q) served l d (record { may = tt; wants = refl }) (name_of g e) (view q).seen ended (grows g e h.first first served l h.writes (view q)) refl)
               (λ b f z. (shows b f z).above)
@@ -106,7 +106,7 @@ module _ {C O : Type 0} (tells : Bool) (state : C → CellState) (offers : O →
           drew = None;
           opened = 0;
           looked = 0;
-          adds = adds_by r (view p) (view q) served l (OfGivingUp (name_of g e) (view q).seen)
+          adds = adds_by r (view p) (view q) served l refl (OfGivingUp (name_of g e) (view q).seen)
               (serving.not_ended tells state offers s t e p q fault (entry_of tells state offers s t e h.is) k)
               (λ d. of_giving_up r (view q) served l d (record { may = tt; wants = refl }) (name_of g e) (view q).seen (grows g e h.first first served l h.writes (view q)) (halts g e h.first first served l h.writes (gives_up_fault fault)))
               (λ b f z. (none b f z).above)

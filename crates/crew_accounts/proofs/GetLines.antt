@@ -83,7 +83,7 @@ module _ {C O : Type 0} (tells : Bool) (state : C → CellState) (offers : O →
           drew = None;
           opened = 0;
           looked = 0;
-          adds = adds_by r (view p) (view q) served l (OfVisiting (anchor_for g url)) (reader.refused g whole_tab url (view p) c (view q) k)
+          adds = adds_by r (view p) (view q) served l refl (OfVisiting (anchor_for g url)) (reader.refused g whole_tab url (view p) c (view q) k)
               (λ d. of_visiting r (view q) served l d (anchor_for g url) (record { url = url; comes = refl; anchor = refl }))
               (λ b e z. (shows b e z).above)
               (tells_by r (view q) served l refusal.cause
@@ -132,7 +132,7 @@ module _ {C O : Type 0} (tells : Bool) (state : C → CellState) (offers : O →
             drew = None;
             opened = epoch_number k.opens.epoch;
             looked = looked;
-            adds = adds_by r (view p) (view q) served l (OfVisiting (anchor_for g url)) (serving.got tells state offers s whole_tab url p q bytes (Found version ended) k)
+            adds = adds_by r (view p) (view q) served l refl (OfVisiting (anchor_for g url)) (serving.got tells state offers s whole_tab url p q bytes (Found version ended) k)
                 (λ d. of_visiting r (view q) served l d (anchor_for g url) (record { url = url; comes = refl; anchor = refl }))
                 (λ b e z. (shows b e z).above)
                 (tells_by r (view q) served l to (record {

@@ -153,7 +153,7 @@ module _ {C O : Type 0} (tells : Bool) (state : C → CellState) (offers : O →
           drew = None;
           opened = 0;
           looked = looked;
-          adds = adds_by r (view p) (view q) served l NoDeed (serving.went_on tells state offers s t went) (λ d z. absurd z) (λ b e z. (shows b e z).above)
+          adds = adds_by r (view p) (view q) served l refl NoDeed (serving.went_on tells state offers s t went) (λ d z. absurd z) (λ b e z. (shows b e z).above)
               (tells_by r (view q) served l to
               (plain r (view q) served l (λ b e z. (shows b e z).seen) may refl none_begun none_opened (λ u body z. z) (reader_fits tells state offers s told past served p t a q h) no_tab))
               parts;

@@ -31,7 +31,8 @@ use Rattle.crew_accounts.specs.Lines.{served_as}
 use Rattle.crew_accounts.specs.Runs.{Past, run_of}
 use Rattle.crew_accounts.specs.Tracks.{Tracks}
 use Rattle.crew_accounts.proofs.Beginning.{busy_met}
-use Rattle.crew_accounts.proofs.CallDeeds.{adds_by}
+use Rattle.crew_accounts.proofs.CallDeeds.{adds_drawing, adds_by}
+use Rattle.line_account.proofs.Versions.{told_began}
 use Rattle.crew_accounts.proofs.Offering.{IsOffering, offering}
 use Rattle.crew_accounts.proofs.Readers.{readers_few}
 use Rattle.crew_accounts.proofs.Shown.{anchor_at, shows_none, shows_two}
@@ -62,7 +63,7 @@ module _ {C O : Type 0} (tells : Bool) (state : C → CellState) (offers : O →
         let none = shows_none r.setting.anchors (view p) (view q) served l refl in
         record {
           drew = None;
-          adds = adds_by r (view p) (view q) served l NoDeed (not_taken g t (anchor_for g url) (view p) LongUrl (view q) same) (λ d h. absurd h) (λ b e k. (none b e k).above)
+          adds = adds_by r (view p) (view q) served l refl NoDeed (not_taken g t (anchor_for g url) (view p) LongUrl (view q) same) (λ d h. absurd h) (λ b e k. (none b e k).above)
               (tells_by r (view q) served l (record { url = url; named = is.named; long = long.0 refl; drew = refl })
               (offering tells state offers s told past served (view q) l url body is body_is long (λ b e k. (none b e k).seen) is.long (λ x k. absurd (is.not_long x k)) fits (λ z. cc)))
               (λ y e bytes z. absurd (let k : answer.LongUrl ≡ answer.Part e bytes = z in cc));
@@ -81,7 +82,8 @@ module _ {C O : Type 0} (tells : Bool) (state : C → CellState) (offers : O →
           let few = readers_few tells state offers s told past served p tracks (anchor_for g url) in
           record {
             drew = drew;
-            adds = adds_by r (view p) (view q) served l NoDeed acted (λ d h. absurd h) (λ b e k. (shows b e k).above)
+            adds = adds_drawing r (view p) (view q) served l (λ b x k. absurd (is.not_busy looked found x (told_began line.request (answer.Busy looked found) x k.told)))
+                NoDeed acted (λ d h. absurd h) (λ b e k. (shows b e k).above)
                 (tells_by r (view q) served l
                 (record {
                   cause = held how;
@@ -105,7 +107,8 @@ module _ {C O : Type 0} (tells : Bool) (state : C → CellState) (offers : O →
           let none = shows_none r.setting.anchors (view p) (view q) served l refl in
           record {
             drew = drew;
-            adds = adds_by r (view p) (view q) served l NoDeed acted (λ d h. absurd h) (λ b e k. (none b e k).above)
+            adds = adds_drawing r (view p) (view q) served l (λ b x k. absurd (is.not_spent versions x (told_began line.request (answer.Spent versions) x k.told)))
+                NoDeed acted (λ d h. absurd h) (λ b e k. (none b e k).above)
                 (tells_by r (view q) served l so
                 (offering tells state offers s told past served (view q) l url body is body_is long (λ b e k. (none b e k).seen) (is.spent versions) (λ x k. absurd (is.not_spent versions x k)) fits (λ z. cc)))
                 (λ y e bytes z. absurd (let k : answer.Spent versions ≡ answer.Part e bytes = z in cc));

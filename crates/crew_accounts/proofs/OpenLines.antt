@@ -66,7 +66,7 @@ module _ {C O : Type 0} (tells : Bool) (state : C → CellState) (offers : O →
           drew = None;
           opened = epoch_number k.epoch;
           looked = 0;
-          adds = adds_by r (view p) (view q) served l (Enters (anchor_for g url)) (reader.opened g t k)
+          adds = adds_by r (view p) (view q) served l refl (Enters (anchor_for g url)) (reader.opened g t k)
               (λ d z. of_visiting r (view q) served l d (anchor_for g url) (record { url = url; comes = refl; anchor = refl }) (inl z))
               (λ b e z. (shows b e z).above)
               (tells_by r (view q) served l tt (record {
@@ -110,7 +110,7 @@ module _ {C O : Type 0} (tells : Bool) (state : C → CellState) (offers : O →
           drew = None;
           opened = 0;
           looked = 0;
-          adds = adds_by r (view p) (view q) served l (OfVisiting (anchor_for g url)) (reader.refused g t url (view p) c (view q) k)
+          adds = adds_by r (view p) (view q) served l refl (OfVisiting (anchor_for g url)) (reader.refused g t url (view p) c (view q) k)
               (λ d. of_visiting r (view q) served l d (anchor_for g url) (record { url = url; comes = refl; anchor = refl }))
               (λ b e z. (shows b e z).above)
               (tells_by r (view q) served l refusal.cause

@@ -59,7 +59,7 @@ module _ {C O : Type 0} (tells : Bool) (state : C → CellState) (offers : O →
           drew = None;
           opened = 0;
           looked = 0;
-          adds = adds_by r (view p) (view q) served l (OfPurging (anchor_for g url) (epoch_number left))
+          adds = adds_by r (view p) (view q) served l refl (OfPurging (anchor_for g url) (epoch_number left))
               (purges.purged g inner h)
               (λ d. of_purging r (view q) served l d (anchor_for g url) (epoch_number left) (record { url = url; comes = refl; anchor = refl })
               (record { url = url; request = refl; anchor = refl; epoch = left; answered = refl; epoch_is = refl }))
@@ -79,7 +79,7 @@ module _ {C O : Type 0} (tells : Bool) (state : C → CellState) (offers : O →
           drew = None;
           opened = 0;
           looked = 0;
-          adds = adds_by r (view p) (view q) served l (OfVisiting (anchor_for g url))
+          adds = adds_by r (view p) (view q) served l refl (OfVisiting (anchor_for g url))
               (readers.refused g inner url (view p) c (view q) h)
               (λ d. of_visiting r (view q) served l d (anchor_for g url) (record { url = url; comes = refl; anchor = refl }))
               (λ b e k. (shows b e k).above)

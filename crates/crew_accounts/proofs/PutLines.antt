@@ -1,5 +1,5 @@
 -- A line that stores a whole response.
-use Rattle.std.proofs.Common.{Bool, Err, List, Ok, Result, Some, refl, subst, sym, ◌+◌, ◌≡◌, ℕ}
+use Rattle.std.proofs.Common.{arith, Bool, Err, List, Ok, Result, Some, refl, subst, sym, ◌+◌, ◌≡◌, ℕ}
 use Rattle.std.specs.Prelude.{◌↔◌}
 use Rattle.std.specs.Result.{IfErr, IfOk}
 use Rattle.rock_disk.specs.Cell.{CellState}
@@ -11,7 +11,7 @@ use Rattle.script_text.specs.declared.request.Request.{Request}
 use Rattle.script_text.specs.declared.request.Request.TheVariants.{Put, Save}
 use Rattle.line_account.specs.Accounts.{HasFinished}
 use Rattle.line_account.specs.Answers.{Run}
-use Rattle.line_account.specs.Deeds.{Began, Grows, MayEvict}
+use Rattle.line_account.specs.Deeds.{Began, Grows, MayEvict, TellsBegun}
 use Rattle.line_account.specs.Lines.{Fits, Served}
 use Rattle.line_account.specs.Requests.{IsAnswerTo}
 use Rattle.store_rule.specs.declared.store.Pass.{Pass}
@@ -40,13 +40,14 @@ use Rattle.worker_shelf.specs.Typed.{IsTyped}
 use Rattle.crew_accounts.specs.Lines.{AddsLine, served_as}
 use Rattle.crew_accounts.specs.Runs.{Past, run_of}
 use Rattle.crew_accounts.specs.Tracks.{Tracks}
-use Rattle.crew_accounts.proofs.CallDeeds.{adds_by, of_putting, of_putting_in_vain}
+use Rattle.crew_accounts.proofs.Beginning.{begun_later}
+use Rattle.crew_accounts.proofs.CallDeeds.{adds_drawing, of_putting, of_putting_in_vain}
 use Rattle.crew_accounts.proofs.Ended.{ended_fresh, ended_names, ended_version}
 use Rattle.crew_accounts.proofs.GivingUp.{closed_epoch, ended_no_part, ended_no_tab, ended_told, fault_no_part, fault_no_tab, fault_told, gives_up_fault, large_of, shows_closed, shows_no_epoch, small_of}
 use Rattle.crew_accounts.proofs.Halting.{gave_up_seen}
 use Rattle.crew_accounts.proofs.NotBegun.{not_begun}
 use Rattle.crew_accounts.proofs.Offering.{IsOffering, offering}
-use Rattle.crew_accounts.proofs.Shown.{fresh_from, shows_none, shows_one}
+use Rattle.crew_accounts.proofs.Shown.{begun_above, fresh_from, shows_none, shows_one}
 use Rattle.crew_accounts.proofs.TabLines.{LeavesAlone, put_alone, save_alone}
 use Rattle.crew_accounts.proofs.Telling.{tells_by}
 use Rattle.crew_accounts.proofs.Small.{begun_small, ended_small}
@@ -60,6 +61,8 @@ pub record IsPutting (request : Request) : Type 0 where
   pub fault : (fault : WriteFault) → IsAnswerTo request (answer_to_fault fault)
   pub began_ended : (ended : Ended) → Began request (answer_to_ended ended) (version_of ended)
   pub began_fault : (fault : WriteFault) (x : ℕ) → Began request (answer_to_fault fault) x
+  pub told_ended : (ended : Ended) (x : ℕ) → TellsBegun request (answer_to_ended ended) x → version_of ended ≡ x
+  pub told_fault : (fault : WriteFault) (x : ℕ) → TellsBegun request (answer_to_fault fault) x → ⊥
   pub may : MayEvict request
   pub fits : (earlier : List Served) → Fits earlier request
   pub alone : (a : Answer) (j : ℕ) → LeavesAlone j request a
@@ -88,11 +91,20 @@ module _ (url : List ℕ) (body : Body) where
   put_gave_up Full x = tt
   put_gave_up Fault x = tt
 
+  put_told : (ended : Ended) (x : ℕ) → TellsBegun (Put url body) (answer_to_ended ended) x → version_of ended ≡ x
+  put_told (Stored y) x h = h
+  put_told (Doomed y) x h = h
+
+  put_told_none : (fault : WriteFault) (x : ℕ) → TellsBegun (Put url body) (answer_to_fault fault) x → ⊥
+  put_told_none Large x h = h
+  put_told_none Full x h = h
+  put_told_none Fault x h = h
+
   pub puts_whole : IsPutting (Put url body)
-  puts_whole = record { ended = put_ended; fault = put_fault; began_ended = put_began; began_fault = put_gave_up; may = tt; fits = λ earlier. tt; alone = put_alone url body }
+  puts_whole = record { ended = put_ended; fault = put_fault; began_ended = put_began; began_fault = put_gave_up; told_ended = put_told; told_fault = put_told_none; may = tt; fits = λ earlier. tt; alone = put_alone url body }
 
   pub saves_whole : IsPutting (Save url body)
-  saves_whole = record { ended = put_ended; fault = put_fault; began_ended = put_began; began_fault = put_gave_up; may = tt; fits = λ earlier. tt; alone = save_alone url body }
+  saves_whole = record { ended = put_ended; fault = put_fault; began_ended = put_began; began_fault = put_gave_up; told_ended = put_told; told_fault = put_told_none; may = tt; fits = λ earlier. tt; alone = save_alone url body }
 
 module _ {C O : Type 0} (tells : Bool) (state : C → CellState) (offers : O → Offers) (s : Store C O) (told : Bool) (past : Past) (served : List Served) (line : Line) (url : List ℕ) (body : Body) (durable : Bool) (p q : Pass C) where
   abbrev g : Ground (List ℕ)
@@ -132,7 +144,9 @@ module _ {C O : Type 0} (tells : Bool) (state : C → CellState) (offers : O →
           drew = Some x;
           opened = 0;
           looked = 0;
-          adds = adds_by r (view p) (view q) served l (OfPutting (name_of g e) (view q).seen ended)
+          adds = adds_drawing r (view p) (view q) served l
+              (begun_above r.setting.anchors (view p) l url x is.named (let later = begun_later k.began.took in let same = ended_version tells state offers s whole_tab e0 k.middle q ended k.ends in omega arith) (putting.told_ended ended))
+              (OfPutting (name_of g e) (view q).seen ended)
               (serving.put tells state offers s whole_tab offer url durable p q k)
               (λ d. of_putting r (view q) served l d (record { may = putting.may; wants = refl }) (name_of g e) (view q).seen ended
               (record { anchor = record { url = url; named_is = is.named; anchor = refl }; drew = refl; began = putting.began_ended ended })
@@ -161,7 +175,7 @@ module _ {C O : Type 0} (tells : Bool) (state : C → CellState) (offers : O →
           drew = Some x;
           opened = 0;
           looked = 0;
-          adds = adds_by r (view p) (view q) served l (OfPuttingInVain (name_of g e) (view q).seen)
+          adds = adds_drawing r (view p) (view q) served l (λ b y h. absurd (putting.told_fault fault y h.told)) (OfPuttingInVain (name_of g e) (view q).seen)
               (serving.gave_up tells state offers s whole_tab offer url durable p q k)
               (λ d. of_putting_in_vain r (view q) served l d (record { may = putting.may; wants = refl }) (name_of g e) (view q).seen
               (record { anchor = record { url = url; named_is = is.named; anchor = refl }; drew = refl; began = putting.began_fault fault x })

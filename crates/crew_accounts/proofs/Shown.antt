@@ -1,5 +1,5 @@
 -- The epochs that a line shows.
-use Rattle.std.proofs.Common.{Contains, List, Option, Some, [], ap, arith, refl, subst, sym, ⊎_elim, ◌∙◌, ◌∷◌, ◌≡◌, ◌≤◌, ℕ}
+use Rattle.std.proofs.Common.{Contains, List, Option, Some, [], ap, arith, refl, subst, sym, ⊎_elim, ◌∙◌, ◌∷◌, ◌≡◌, ◌<◌, ◌≤◌, ℕ}
 use Rattle.std.proofs.lemmas.List.Elements.{Contains-append_right}
 use Rattle.store_key.specs.Anchor.{anchor_of}
 use Rattle.store_key.specs.Key.{key_of}
@@ -9,6 +9,9 @@ use Rattle.core_model.specs.declared.view.View.{View}
 use Rattle.core_model.proofs.Lists.{cons_contains, contains_none}
 use Rattle.line_account.specs.Lines.{IsAnchorOf, Served, url_at}
 use Rattle.line_account.specs.Accounts.{Shows, epochs_of}
+use Rattle.line_account.specs.Deeds.{PrintsBegunVersion, TellsBegun}
+use Rattle.lock_word.specs.Words.{version_of}
+use Rattle.script_text.specs.Requests.{url_in}
 use Rattle.core_model.specs.Knowing.{KnowsAll}
 use Rattle.store_rule.specs.Calls.{IsFresh}
 
@@ -45,6 +48,14 @@ same_url url other e = cc
 -- the anchor of a line that names this URL
 pub anchor_at : (anchors : ℕ) (named : Option (List ℕ)) (url : List ℕ) (a : ℕ) → named ≡ Some url → IsAnchorOf anchors named a → anchor_of (key_of url) anchors ≡ a
 anchor_at anchors named url a is h = ap (λ (u : List ℕ). anchor_of (key_of u) anchors) (same_url url h.url (sym is ∙ h.named_is)) ∙ sym h.anchor
+
+-- a line that printed that it began a version, where this is later than all that was seen at the anchor of its URL
+pub begun_above : {X : Type 0} → (anchors : ℕ) (v : View X) (s : Served) (url : List ℕ) (version : ℕ) → url_in s.line.request ≡ Some url → version_of (seen_at (anchor_of (key_of url) anchors) v.seen) < version
+    → ((x : ℕ) → TellsBegun s.line.request s.answer x → version ≡ x) → (a x : ℕ) → PrintsBegunVersion anchors s a x → version_of (seen_at a v.seen) < x
+begun_above anchors v s url version named later told a x h =
+    let here = anchor_at anchors (url_in s.line.request) url a named h.anchor in
+    let same = told x h.told in
+    subst (λ (z : ℕ). version_of (seen_at z v.seen) < x) here (omega arith)
 
 module _ {X : Type 0} (anchors : ℕ) (v w : View X) (earlier : List Served) (s : Served) where
   -- each epoch that the line shows is not below what the worker had seen there, and it has seen it

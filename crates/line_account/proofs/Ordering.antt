@@ -13,6 +13,7 @@ use Rattle.core_model.specs.declared.view.View.{View}
 use Rattle.core_model.specs.Anchors.{opening_epoch}
 use Rattle.core_model.specs.Trails.{seen_at, stood}
 use Rattle.core_model.proofs.Lists.{cons_contains, contains_none}
+use Rattle.line_account.specs.Deeds.{PrintsBegunVersion}
 use Rattle.line_account.specs.Lines.{IsAt, Served}
 use Rattle.line_account.specs.Requests.{IsAnswerTo}
 use Rattle.line_account.specs.Answers.{ComesIn, HasOpened, Run}
@@ -309,6 +310,14 @@ module _ {X : Type 0} (r : Run X) (start : View X) where
   not_below_seen t earlier a d e n at less h = below t.served.opened t.served.looked d t.served.answer (reads r t.after (lines_in earlier) t.served n.tells)
       (λ f q. let le = sight_le a e t.before.seen h in let fresh = n.fresh a f record { at = at; shown = q } in omega arith)
 
+  -- what was seen before a line that began a version there is of an earlier one
+  above_seen : (t : Stage X) (earlier : List (Stage X)) (a x d e : ℕ) → Adds r t.before (lines_in earlier) t.served t.after → PrintsBegunVersion r.setting.anchors t.served a x → d ≤ e → Contains t.before.seen (Stood a e) → version_of d < x
+  above_seen t earlier a x d e n begun at_most h =
+      let le = sight_le a e t.before.seen h in
+      let up : version_of d ≤ version_of (seen_at a t.before.seen) = omega arith in
+      let above = n.above a x begun in
+      omega arith
+
   -- what was seen at the beginning is known along the course
   start_known : (stages : List (Stage X)) (end : View X) (x : Sight) → Course r start stages end → Contains start.seen x → Contains end.seen x
   start_known [] end x c h = subst (λ (v : View X). Contains v.seen x) (sym c) h
@@ -339,6 +348,13 @@ module _ {X : Type 0} (r : Run X) (start : View X) where
       let k = seen_after before t.before s earlier a d h.course was q in
       not_below_seen t before a d k.epoch h.adds is.at k.more k.seen
 
+  pub above_earlier : (stages : List (Stage X)) (end : View X) (t s : Stage X) (before earlier : List (Stage X)) (a x d : ℕ) → Course r start stages end
+      → StandsIn stages t before → PrintsBegunVersion r.setting.anchors t.served a x → StandsAt r.setting.anchors before s earlier a → Contains (counts_as s.served.answer) d → version_of d < x
+  above_earlier stages end t s before earlier a x d c is begun was q =
+      let h = stage_in stages is.later t before end is.split c in
+      let k = seen_after before t.before s earlier a d h.course was q in
+      above_seen t before a x d k.epoch h.adds begun k.more k.seen
+
 module _ {X : Type 0} (r : Run X) (start other : View X) where
   -- the other worker's lines before its mark
   pub not_below_met : (stages others : List (Stage X)) (end last : View X) (t n m s : Stage X) (before between marked earlier : List (Stage X)) (a d : ℕ) → Course r start stages end → Course r other others last
@@ -350,3 +366,13 @@ module _ {X : Type 0} (r : Run X) (start other : View X) where
       let f = stage_in r other others mark.later m marked last mark.split o in
       let k = seen_after r other marked m.before s earlier a d f.course was q in
       not_below_seen r start t before a d k.epoch h.adds is.at k.more (g.keeps (Stood a k.epoch) (hands.hands (Stood a k.epoch) k.seen))
+
+  pub above_met : (stages others : List (Stage X)) (end last : View X) (t n m s : Stage X) (before between marked earlier : List (Stage X)) (a x d : ℕ) → Course r start stages end → Course r other others last
+      → StandsIn stages t before → PrintsBegunVersion r.setting.anchors t.served a x → StandsIn before n between → HandsOver m n → StandsIn others m marked → StandsAt r.setting.anchors marked s earlier a
+      → Contains (counts_as s.served.answer) d → version_of d < x
+  above_met stages others end last t n m s before between marked earlier a x d c o is begun met hands mark was q =
+      let h = stage_in r start stages is.later t before end is.split c in
+      let g = stage_in r start before met.later n between t.before met.split h.course in
+      let f = stage_in r other others mark.later m marked last mark.split o in
+      let k = seen_after r other marked m.before s earlier a d f.course was q in
+      above_seen r start t before a x d k.epoch h.adds begun k.more (g.keeps (Stood a k.epoch) (hands.hands (Stood a k.epoch) k.seen))

@@ -1,9 +1,9 @@
 -- Lines that no run explains.
-use Rattle.std.proofs.Common.{◌≡◌, ◌⊎◌, inl, inr, ⊎_elim, ℕ, ◌<◌, ◌≤◌, zero, suc, List, [], ◌∷◌, ◌++◌, sym, refl, ap, ◌∙◌, subst, arith, true, cond}
+use Rattle.std.proofs.Common.{Contains, ◌≡◌, ◌⊎◌, inl, inr, ⊎_elim, ℕ, ◌<◌, ◌≤◌, zero, suc, List, [], ◌∷◌, ◌++◌, sym, refl, ap, ◌∙◌, subst, arith, true, cond}
 use Rattle.std.specs.Prelude.{IsTrue, None, Some}
 use mathlib.Core.Option.{some, some-injective, some-ne-none}
 use lib.ListN.{get_elem?}
-use Rattle.lock_word.specs.Words.{epoch_number, stage_of, version_of}
+use Rattle.lock_word.specs.Words.{epoch_at, epoch_number, stage_of, version_of}
 use Rattle.lock_word.specs.declared.epoch.Epoch.{Epoch}
 use Rattle.store_key.specs.Anchor.{anchor_of}
 use Rattle.store_key.specs.Key.{key_of}
@@ -19,8 +19,8 @@ use Rattle.line_account.specs.Answers.{IsWhole, Run}
 use Rattle.line_account.specs.Closing.{BegunIn, HaltedIn, LineIn, TellsBegunIn, Worker}
 use Rattle.line_account.specs.Deeds.{Began, Begins, TellsBegun}
 use Rattle.script_text.specs.Requests.{url_in}
-use Rattle.line_account.specs.Lines.{Offers, Served, begins, begun_of, ends, gives_up, opened_of, writing}
-use Rattle.line_account.specs.Order.{Opens}
+use Rattle.line_account.specs.Lines.{Offers, Served, url_at, begins, begun_of, ends, gives_up, opened_of, writing}
+use Rattle.line_account.specs.Order.{Opens, counts_as}
 use Rattle.line_account.specs.Printed.{Finds, NeedsTooMany, PrintsEnded, ReadsWhole, TellsFound}
 use Rattle.line_account.specs.Rules.{KeepsRules}
 
@@ -163,6 +163,19 @@ module _ {X : Type 0} (r : Run X) (script : List Line) (w : Worker X) (rules : K
 
   pub never_purged : (s : Served) (e : Epoch) → w.served ≡ s ∷ [] → s.answer ≡ answer.Purged e → (2 ≤ stage_of (epoch_number e)) × (stage_of (epoch_number e) ≤ 4)
   never_purged s e is sa = rules.epochs.purged_stage e (line_in [] s [] is (λ earlier z. z.answer ≡ answer.Purged e) sa)
+
+  pub never_before : (g p : Served) (url bytes : List ℕ) (body : Body) (x : ℕ) → w.served ≡ p ∷ g ∷ [] → g.line.request ≡ Get url → g.answer ≡ answer.Hit x bytes → p.line.request ≡ Put url body → p.answer ≡ answer.Stored x → ⊥
+  never_before g p url bytes body x is gq ga pq pa =
+      let a : ℕ = home r url in
+      let later = rules.order.begun_own 0 w p g (g ∷ []) [] a x (epoch_at x 2) refl
+      (record { line = record { later = []; split = is }; other = record { later = []; split = refl } })
+      (record {
+        anchor = record { url = url; named_is = ap url_in pq; anchor = refl };
+        told = subst (λ (q : Request). TellsBegun q p.answer x) (sym pq) (subst (λ (z : Answer). TellsBegun (Put url body) z x) (sym pa) refl);
+      })
+      (record { url = url; named_is = ap (url_at []) gq; anchor = refl })
+      (subst (λ (z : Answer). Contains (counts_as z) (epoch_at x 2)) (sym ga) (0, omega arith, refl)) in
+      omega arith
 
   pub never_stored : (p : Served) (url : List ℕ) (body : Body) (x : ℕ) → w.served ≡ p ∷ [] → p.line.request ≡ Put url body → p.answer ≡ answer.Stored x → ¬ NeedsTooMany r url body
   never_stored p url body x is pq pa = rules.answers.small p url body

@@ -29,7 +29,7 @@ ended_began (answer.Stored version) x h = h
 ended_began (answer.Doomed version) x h = h
 ended_began _ x h = absurd h
 
-told_began : (q : Request) (a : Answer) (x : ℕ) → TellsBegun q a x → Began q a x
+pub told_began : (q : Request) (a : Answer) (x : ℕ) → TellsBegun q a x → Began q a x
 told_began (Put url body) a x h = ended_began a x h
 told_began (Save url body) a x h = ended_began a x h
 told_began (Begin tab url body) a x h = h

@@ -2,9 +2,11 @@
 use Rattle.std.specs.Prelude.{Contains, List, ◌<◌, ◌∷◌, ◌≡◌, ◌≤◌, ℕ}
 use mathlib.Core.Option.{some}
 use lib.ListN.{get_elem?}
+use Rattle.lock_word.specs.Words.{version_of}
 use Rattle.core_model.specs.Anchors.{opening_epoch}
 use Rattle.line_account.specs.Answers.{Run, bytes_behind, given_with}
 use Rattle.line_account.specs.Closing.{Worker}
+use Rattle.line_account.specs.Deeds.{PrintsBegunVersion}
 use Rattle.line_account.specs.Lines.{IsAt, Served, given}
 use Rattle.line_account.specs.Order.{NotBelow, counts_as}
 use Rattle.line_account.specs.Parts.{AddsTo, GivesOf, PrintsPart}
@@ -21,6 +23,13 @@ module _ {X : Type 0} (r : Run X) (crew : List (Worker X)) where
     pub marked : (j l : ℕ) (w u : Worker X) (t s : Served) (before earlier : List Served) (a e : ℕ) → get_elem? crew j ≡ some w → get_elem? crew l ≡ some u
         → IsBehindMark w.served u.served t before s earlier
         → IsAt r.setting.anchors before t a → IsAt r.setting.anchors earlier s a → Contains (counts_as s.answer) e → NotBelow e t.answer
+    -- A line that printed that it began a version comes behind no line that counts as this version there, or as a later one: of its own worker (`begun_own`), or, once it
+    -- met a mark, of the marking worker before it set the mark (`begun_marked`).
+    pub begun_own : (j : ℕ) (w : Worker X) (t s : Served) (before earlier : List Served) (a x e : ℕ) → get_elem? crew j ≡ some w → IsBehind w.served t before s earlier
+        → PrintsBegunVersion r.setting.anchors t a x → IsAt r.setting.anchors earlier s a → Contains (counts_as s.answer) e → version_of e < x
+    pub begun_marked : (j l : ℕ) (w u : Worker X) (t s : Served) (before earlier : List Served) (a x e : ℕ) → get_elem? crew j ≡ some w → get_elem? crew l ≡ some u
+        → IsBehindMark w.served u.served t before s earlier
+        → PrintsBegunVersion r.setting.anchors t a x → IsAt r.setting.anchors earlier s a → Contains (counts_as s.answer) e → version_of e < x
 
   -- Of a run that tells of bytes. The bytes that the tab of a PART was given since it was opened, or a `get` in its own line, are no fewer than those in the slots which are
   -- published after an ADDED of the version among earlier lines, and than those that the `more` lines of one tab among them gave of the version. These

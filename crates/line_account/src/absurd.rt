@@ -51,6 +51,14 @@ pub fn nothing_is_purged_that_never_was<X>()
         → s.answer ≡ Answer.Purged (record { version = x; stage = stage.Gone; doom = true }) → ⊥ }
 {}
 
+/// `get` printed HIT, and a later `put` of the same worker and URL printed STORED with that version: nothing is hit before it is
+/// stored (`order.begun_own`).
+pub fn nothing_is_hit_before_it_is_stored<X>()
+    ensures { (r : Run X) (script : List Line) (w : Worker X) (g p : Served) (url bytes : List ℕ) (body : Body) (x : ℕ)
+        → KeepsRules r script (alone w) → w.served ≡ p ∷ g ∷ [] → g.line.request ≡ Request.Get url → g.answer ≡ Answer.Hit x bytes
+        → p.line.request ≡ Request.Put url body → p.answer ≡ Answer.Stored x → ⊥ }
+{}
+
 /// `put` printed STORED of a body that needs more slots than an entry may have (`answers.small`).
 pub fn nothing_too_large_is_stored<X>()
     ensures { (r : Run X) (script : List Line) (w : Worker X) (p : Served) (url : List ℕ) (body : Body) (x : ℕ)

@@ -217,21 +217,28 @@ pub fn refusals_have_causes<X>()
 {}
 
 /// What a worker prints at an anchor is not below what the anchor had at the opening, nor below what its
-/// earlier lines there count as.
+/// earlier lines there count as. A version that it printed that it began is later than all of these.
 pub fn lines_are_in_order<X>()
     ensures opening { (r : Run X) (start end : View X) (stages before : List (Stage X)) (t : Stage X) (a : ℕ) → BeginsWork r start → Course r start stages end
         → StandsAt r.setting.anchors stages t before a → a < r.setting.anchors → NotBelow (opening_epoch r.setting a) t.served.answer }
     ensures own { (r : Run X) (start end : View X) (stages before earlier : List (Stage X)) (t s : Stage X) (a e : ℕ) → Course r start stages end
         → StandsAt r.setting.anchors stages t before a → StandsAt r.setting.anchors before s earlier a → Contains (counts_as s.served.answer) e → NotBelow e t.served.answer }
+    ensures begun { (r : Run X) (start end : View X) (stages before earlier : List (Stage X)) (t s : Stage X) (a x e : ℕ) → Course r start stages end
+        → StandsIn stages t before → PrintsBegunVersion r.setting.anchors t.served a x → StandsAt r.setting.anchors before s earlier a → Contains (counts_as s.served.answer) e
+        → version_of e < x }
 {}
 
 /// After a worker met a mark, what it prints at an anchor is not below what the lines there count as that
-/// the marking worker served before it set the mark.
+/// the marking worker served before it set the mark, and a version that it began is later.
 pub fn lines_are_in_order_after_marks<X>()
-    ensures { (r : Run X) (start end other last : View X) (stages before between others marked earlier : List (Stage X)) (t n m s : Stage X) (a e : ℕ)
+    ensures order { (r : Run X) (start end other last : View X) (stages before between others marked earlier : List (Stage X)) (t n m s : Stage X) (a e : ℕ)
         → Course r start stages end → Course r other others last
         → StandsAt r.setting.anchors stages t before a → StandsIn before n between → HandsOver m n → StandsIn others m marked → StandsAt r.setting.anchors marked s earlier a
         → Contains (counts_as s.served.answer) e → NotBelow e t.served.answer }
+    ensures begun { (r : Run X) (start end other last : View X) (stages before between others marked earlier : List (Stage X)) (t n m s : Stage X) (a x e : ℕ)
+        → Course r start stages end → Course r other others last
+        → StandsIn stages t before → PrintsBegunVersion r.setting.anchors t.served a x → StandsIn before n between → HandsOver m n → StandsIn others m marked
+        → StandsAt r.setting.anchors marked s earlier a → Contains (counts_as s.served.answer) e → version_of e < x }
 {}
 
 /// An epoch at HALTED, FREEING or GONE that is not doomed comes only where the writing of its version was

@@ -1,6 +1,5 @@
 -- What a file that was given back has of the entries that stood closed at the end.
-use Rattle.std.proofs.Common.{Bool, Contains, IsTrue, List, Some, [], ap, arith, get_or, inl, inr, length, map, refl, subst, suc, sym, zero, ⊎_elim, ◌+◌, ◌-◌, ◌<◌, ◌∙◌, ◌∷◌, ◌≡◌, ◌≤◌, ◌⊎◌, ℕ}
-use Rattle.std.proofs.lemmas.List.{length-map}
+use Rattle.std.proofs.Common.{Bool, Contains, IsTrue, List, [], ap, arith, inl, inr, length, map, refl, subst, suc, sym, zero, ◌+◌, ◌-◌, ◌<◌, ◌∙◌, ◌∷◌, ◌≡◌, ◌≤◌, ℕ}
 use Rattle.std.specs.FinMap.{get}
 use mathlib.Core.Logic.{dite}
 use mathlib.Core.Option.{some, some-injective, some-ne-none}
@@ -50,8 +49,7 @@ use Rattle.crew_accounts.proofs.ScriptLines.{in_script}
 use Rattle.plain_runs.specs.Ends.{StandsClosed}
 use Rattle.rock_run.specs.Runs.{HasRun}
 use Rattle.run_rules.specs.Plain.{AreInOrder}
-use Rattle.run_rules.specs.Runs.{HasImages}
-use Rattle.run_rules.specs.Standing.{IsAnswered, IsClosedWord, KeepsAt, LeavesStanding, Stands, StandsAsBefore, StandsAsOffered, WasKept}
+use Rattle.run_rules.specs.Standing.{IsAnswered, KeepsAt, LeavesStanding, Stands, StandsAsBefore, StandsAsOffered, WasKept}
 use Rattle.run_rules.proofs.Files.{anchor_below}
 use Rattle.run_rules.proofs.Lists.{at_place, both, image}
 use Rattle.run_rules.proofs.Opened.{has_played, same_state}

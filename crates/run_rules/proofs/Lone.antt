@@ -1,15 +1,13 @@
 -- A run of one worker over a file is answered as by a plain store that is opened on the file.
-use Rattle.std.proofs.Common.{All, Bool, IsTrue, List, Some, [], ap, arith, length, map, refl, subst, sym, ◌<◌, ◌∙◌, ◌≡◌, ◌∷◌, ◌≤◌, ℕ}
+use Rattle.std.proofs.Common.{All, Bool, IsTrue, List, [], ap, arith, length, map, refl, subst, sym, ◌<◌, ◌∙◌, ◌≡◌, ◌∷◌, ℕ}
 use Rattle.std.proofs.lemmas.List.{length-map}
 use Rattle.std.specs.FinMap.{get}
 use Rattle.std.proofs.lemmas.List.Elements.{All-head}
 use lib.ListN.{get_elem?}
 use mathlib.Core.Option.{some}
-use Rattle.db_layout.specs.Layout.{IsSlotSize}
 use Rattle.rock_disk.specs.Cell.{CellState}
 use Rattle.rock_disk.specs.Crash.{IsCrashImage}
 use Rattle.rock_disk.specs.File.{Files, bytes_of, rest_cut}
-use Rattle.rock_disk.specs.Opened.{AreSlots}
 use Rattle.rock_disk.proofs.Out.{get_inserted}
 use Rattle.script_text.specs.declared.answer.Answer.{Answer}
 use Rattle.script_text.specs.declared.line.Line.{Line}

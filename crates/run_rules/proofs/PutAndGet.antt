@@ -1,34 +1,32 @@
 -- A `put` and a `get` keep all rules.
-use Rattle.std.proofs.Common.{length, min, mul-le-mul_right, ◌*◌, ◌≡◌, ◌⊎◌, inl, inr, ⊎_elim, ℕ, ◌+◌, ◌<◌, ◌≤◌, ◌↔◌, zero, suc, List, [], ◌∷◌, ◌++◌, sym, refl, ap, ◌∙◌, subst, append_assoc, arith, Bool, true, false, cond, Contains}
+use Rattle.std.proofs.Common.{length, min, mul-le-mul_right, ◌≡◌, ◌⊎◌, inl, inr, ⊎_elim, ℕ, ◌<◌, ◌≤◌, ◌↔◌, zero, suc, List, [], ◌∷◌, ◌++◌, sym, refl, ap, ◌∙◌, subst, append_assoc, arith, Bool, true, false, cond, Contains}
 use Rattle.std.proofs.lemmas.List.Sums.{sum_by-cons}
-use Rattle.std.specs.Prelude.{IsTrue, None, Some}
+use Rattle.std.specs.Prelude.{None, Some}
 use mathlib.Core.Option.{some, some-injective, some-ne-none}
 use lib.ListN.{get_elem?}
 use Rattle.store_key.specs.Anchor.{anchor_of}
 use Rattle.store_key.specs.Key.{key_of}
-use Rattle.lock_word.specs.Words.{doom_of, epoch_at, is_readable, stage_of, version_of}
+use Rattle.lock_word.specs.Words.{epoch_at, is_readable, version_of}
 use Rattle.lock_word.proofs.Testing.{readable_where}
 use Rattle.plain_model.specs.Serving.{bytes_of}
-use Rattle.script_text.specs.declared.answer.Answer.{Answer}
 use Rattle.script_text.specs.declared.answer.Answer.TheVariants as answer
 use Rattle.script_text.specs.declared.body.Body.{Body}
 use Rattle.script_text.specs.declared.line.Line.{Line}
-use Rattle.script_text.specs.declared.request.Request.{Request}
-use Rattle.script_text.specs.declared.request.Request.TheVariants.{Add, Await, End, Get, More, Put}
+use Rattle.script_text.specs.declared.request.Request.TheVariants.{Await, End, Get, More, Put}
 use Rattle.core_model.specs.Anchors.{opening_counter, opening_epoch}
 use Rattle.core_model.proofs.Lists.{cons_contains, contains_none}
-use Rattle.line_account.specs.Accounts.{Shows, epochs_of}
+use Rattle.line_account.specs.Accounts.{Shows}
 use Rattle.line_account.specs.Alone.{alone, home, next_version, nothing}
-use Rattle.line_account.specs.Answers.{IsCauseOf, IsLong, IsWhole, Reads, Refuses, Run, bytes_with}
+use Rattle.line_account.specs.Answers.{Refuses, Run, bytes_with}
 use Rattle.line_account.specs.Bodies.{HaveBodies, HaveKeys}
 use Rattle.line_account.specs.Closing.{BegunIn, HaltedIn, LineIn, PrintsDoomed, PrintsHalted, Stores, TellsBegunIn, Worker}
-use Rattle.line_account.specs.Crews.{IsAmong, IsBehind, IsBehindMark}
-use Rattle.line_account.specs.Deeds.{Begins, Halts, PrintsBegun, PrintsBegunVersion}
+use Rattle.line_account.specs.Crews.{IsAmong}
+use Rattle.line_account.specs.Deeds.{Begins, Halts, PrintsBegun, PrintsBegunVersion, TellsBegun}
 use Rattle.line_account.specs.Epochs.{EpochsHaveCauses}
 use Rattle.run_rules.specs.Lawful.{MayBegin, get_line, put_and_get, put_and_get_script, put_line}
 use Rattle.script_text.specs.Requests.{url_in}
-use Rattle.line_account.specs.Lines.{Fits, IsAnchorOf, IsAt, Offers, Served, Writes, offers, opened_by, writing}
-use Rattle.line_account.specs.Order.{NotBelow, Opens, PrintsAlone, counts_as, version_alone}
+use Rattle.line_account.specs.Lines.{Fits, IsAnchorOf, Offers, Served, Writes, offers, writing}
+use Rattle.line_account.specs.Order.{NotBelow, Opens, PrintsAlone, counts_as}
 use Rattle.line_account.specs.Ordering.{AreInOrder, AreNotShort}
 use Rattle.line_account.specs.Parts.{PrintsPart}
 use Rattle.line_account.specs.Printed.{AreFirstOnes, Ends, EndsBegun, Finds, FinishedIn, IsBodyAsPrinted, IsBodyOfLine, IsKeyOfLine, NeedsTooMany, PrintsAdded, PrintsEnded, PrintsHit, PrintsKey, PrintsLarge, PrintsOther, PrintsReaders, ReadsOf, ReadsVersion, ReadsWhole}
@@ -301,6 +299,17 @@ module _ {X : Type 0} (r : Run X) (url : List ℕ) (m : MayBegin r url) (w : Wor
   inner : (j : ℕ) (v : Worker X) → get_elem? crew j ≡ some v → (t s : Served) (before earlier : List Served) → IsAmong v.served t before → IsAmong before s earlier → IsLine earlier s
   inner j v at t s before earlier line other = two (line.later ++ t ∷ other.later) earlier s (sym (only j v at).1 ∙ line.split ∙ ap (λ (z : List Served). line.later ++ t ∷ z) other.split ∙ sym (append_assoc line.later (t ∷ other.later) (s ∷ earlier)))
 
+  no_item : (later earlier : List Served) (s : Served) → [] ≡ later ++ s ∷ earlier → ⊥
+  no_item [] earlier s e = cc
+  no_item (y ∷ later) earlier s e = cc
+
+  -- the line that printed that it began a version is the first one
+  begun_first : (j : ℕ) (v : Worker X) → get_elem? crew j ≡ some v → (t s : Served) (before earlier : List Served) (b y : ℕ) → PrintsBegunVersion r.setting.anchors t b y → IsAmong v.served t before → IsAmong before s earlier → ⊥
+  begun_first j v at t s before earlier b y begun line other = ⊎_elim
+      (λ (h : (get ≡ t) × (put ∷ [] ≡ before)). subst (λ (z : Served). TellsBegun z.line.request z.answer y) (sym h.0) begun.told)
+      (λ (h : (put ≡ t) × ([] ≡ before)). no_item other.later earlier s (h.1 ∙ other.split))
+      (among j v at t before line)
+
   order : AreInOrder r crew
   order = record {
     opening = λ j v t before b at line work small. not_above (opening_epoch r.setting b) (let d = m.drawn b small in omega arith) before t (among j v at t before line);
@@ -308,6 +317,8 @@ module _ {X : Type 0} (r : Run X) (url : List ℕ) (m : MayBegin r url) (w : Wor
     marked = λ j l v u t s before earlier b e at there behind work was counts. absurd (each (λ z y. y.line.request ≡ Await behind.mark → ⊥)
         (λ h. let k : Get url ≡ Await behind.mark = h in cc) (λ h. let k : Put url nothing ≡ Await behind.mark = h in cc)
         behind.between behind.met (inner j v at t behind.met before behind.between behind.line behind.awaits) behind.asked);
+    begun_own = λ j v t s before earlier b y e at behind begun was counts. absurd (begun_first j v at t s before earlier b y begun behind.line behind.other);
+    begun_marked = λ j l v u t s before earlier b y e at there behind begun was counts. absurd (begun_first j v at t behind.met before behind.between b y begun behind.line behind.awaits);
   }
 
   no_part : (y : ℕ) (t : Served) (before : List Served) → IsLine before t → PrintsPart t y → ⊥

@@ -1,5 +1,5 @@
 -- Lines of one worker that keep all rules, as an example.
-use Rattle.std.specs.Prelude.{List, [], ◌<◌, ◌∷◌, ◌≡◌, ◌≤◌, ℕ}
+use Rattle.std.specs.Prelude.{List, [], ◌<◌, ◌∷◌, ◌≤◌, ℕ}
 use Rattle.lock_word.specs.Words.{version_of}
 use Rattle.script_text.specs.declared.line.Line.{Line}
 use Rattle.core_model.specs.Anchors.{opening_counter, opening_epoch}

@@ -2,6 +2,7 @@ use Rattle.std.proofs.Common.{Contains, ◌∷◌, ◌≤◌}
 use Rattle.core_model.specs.Anchors.{opening_epoch}
 use Rattle.line_account.specs.Answers.{bytes_behind, given_with}
 use Rattle.line_account.specs.Courses.{lines_in}
+use Rattle.line_account.specs.Deeds.{PrintsBegunVersion}
 use Rattle.line_account.specs.Lines.{given}
 use Rattle.line_account.specs.Order.{NotBelow, counts_as}
 use Rattle.line_account.specs.Parts.{AddsTo, GivesOf, PrintsPart}
@@ -85,10 +86,24 @@ returns g c r script crew closed serves have = record {
         let others = have.course l u there in
         let h = across r crew have j l w u at there t s before earlier behind in
         of_line (λ earlier x. NotBelow e x.answer) course.stages t before h.line
-        (c.lines_are_in_order_after_marks.ensures r course.start course.is.last others.start others.is.last course.stages h.line.before h.met.before others.stages h.setter.before h.other.before
+        (c.lines_are_in_order_after_marks.ensures.order r course.start course.is.last others.start others.is.last course.stages h.line.before h.met.before others.stages h.setter.before h.other.before
         h.line.stage h.met.stage h.setter.stage h.other.stage a e course.is.course others.is.course
         (at_work r.setting.anchors course.stages t before a h.line work) h.met.stands h.hands h.setter.stands (at_work r.setting.anchors h.setter.before s earlier a h.other was)
         (of_stage (λ earlier x. Contains (counts_as x.answer) e) h.setter.before s earlier h.other counts));
+    begun_own = λ j w t s before earlier a x e at behind begun was counts.
+        let course = have.course j w at in
+        let h = both r crew have w course t s before earlier behind in
+        c.lines_are_in_order.ensures.begun r course.start course.is.last course.stages h.line.before h.other.before h.line.stage h.other.stage a x e course.is.course
+        h.line.stands (of_stage (λ earlier y. PrintsBegunVersion r.setting.anchors y a x) course.stages t before h.line begun)
+        (at_work r.setting.anchors h.line.before s earlier a h.other was) (of_stage (λ earlier y. Contains (counts_as y.answer) e) h.line.before s earlier h.other counts);
+    begun_marked = λ j l w u t s before earlier a x e at there behind begun was counts.
+        let course = have.course j w at in
+        let others = have.course l u there in
+        let h = across r crew have j l w u at there t s before earlier behind in
+        c.lines_are_in_order_after_marks.ensures.begun r course.start course.is.last others.start others.is.last course.stages h.line.before h.met.before others.stages h.setter.before h.other.before
+        h.line.stage h.met.stage h.setter.stage h.other.stage a x e course.is.course others.is.course
+        h.line.stands (of_stage (λ earlier y. PrintsBegunVersion r.setting.anchors y a x) course.stages t before h.line begun) h.met.stands h.hands h.setter.stands
+        (at_work r.setting.anchors h.setter.before s earlier a h.other was) (of_stage (λ earlier y. Contains (counts_as y.answer) e) h.setter.before s earlier h.other counts);
   };
   tabs = record {
     part = λ a x epoch p. c.tabs_stay_at_their_entries.ensures.part r crew a x epoch closed p;
