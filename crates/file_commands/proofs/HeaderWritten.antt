@@ -180,7 +180,7 @@ module _ {before after now final : Files} {name : List ℕ} {bytes : ℕ} {heade
   }
 
   maybe_recorded : HoldsEither (take 16384 (bytes_of o.was)) (header_of g) header_now → MayBeRecorded g name before final
-  maybe_recorded holds = record { was = o.was; there = o.found; header = header_now; either = holds; is = put_back }
+  maybe_recorded holds = record { was = o.was; there = o.found; long = omega (arith, has.room, o.size); header = header_now; either = holds; is = put_back }
 
   back_kept : header_now ≡ header → IsKept g.slot name before final
   back_kept is = inr (o.was, o.found, put_back ∙ ap (λ (h : CellState). insert before name (with_header g.slot (bytes_of o.was) h)) (is ∙ o.header_is))

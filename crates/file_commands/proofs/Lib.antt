@@ -7,3 +7,4 @@ pub mod Telling
 pub mod Recorded
 pub mod HeaderWritten
 pub mod Making
+pub mod Migrating

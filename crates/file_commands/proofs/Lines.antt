@@ -3,6 +3,7 @@ use Rattle.std.proofs.Common.{ℕ, ◌^◌, ◌<◌, ◌≤◌, length, length-a
 use Rattle.std.specs.Prelude.{decimal}
 use Rattle.std.proofs.lemmas.Fmt.{length-decimal-le}
 use Rattle.file_commands.specs.Listing.{numbers}
+use Rattle.file_commands.specs.Migrate.{migrated_line}
 use Rattle.file_commands.specs.Summary.{front, back}
 
 -- a number of 64 bits has at most 20 digits
@@ -17,3 +18,6 @@ short_front slots kept used a b c = grind (arith, length-append, short_decimal s
 
 pub short_back : (free version : ℕ) → free < 2 ^ 64 → version < 2 ^ 64 → length (back free version) ≤ 100
 short_back free version a b = grind (arith, length-append, short_decimal free a, short_decimal version b)
+
+pub short_migrated : (slots : ℕ) → slots < 2 ^ 64 → length (migrated_line slots) ≤ 60
+short_migrated slots a = grind (arith, length-append, short_decimal slots a)

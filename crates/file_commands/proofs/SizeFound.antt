@@ -13,7 +13,7 @@ use Rattle.slot_finding.proofs.Causes.{due_status, failed_status, found_agrees, 
 use Rattle.file_commands.specs.Device.{EndedOne}
 use Rattle.file_commands.specs.Report.{FoundEnds, HasSlots, IsFit, IsRefused, IsUnfit, ReadEnds, ReadSays, ReportSays}
 use Rattle.file_commands.proofs.Kept.{one_count, one_file}
-use Rattle.file_commands.proofs.Telling.{failed_on, same_status}
+use Rattle.file_commands.proofs.Telling.{failed_on}
 use Rattle.rock_status.specs.declared.status.Status.{Status}
 use Rattle.rock_status.specs.declared.status.Status.TheVariants.{Done, Usage, Memory, SourceFault, SinkFault, DeviceFault, BadScript, Missing, Small, BadGeometry, Exists}
 
@@ -109,6 +109,11 @@ found_says Fits v v' e e' files name given slot (Err (Small bytes)) finds k says
 found_says Fits v v' e e' files name given slot (Err (BadGeometry field)) finds k says = second_says field k.0 (slot, finds, says k.0)
 found_says Fits v v' e e' files name given slot (Err Exists) finds k says = absurd k
 
+-- a status that is due comes
+pub due_err : {T : Type 0} (r : Result T Status) (due : Status) → IsErrOf r due → IfErr r (OrFailed due)
+due_err (Ok x) due is = tt
+due_err (Err status) due is = let same : status ≡ due = cc in inl same
+
 -- where the number of slots does not fit, it is refused, unless the disk failed or memory was wanting
 sized_unfit : (Fits : ℕ → Type 0) (v v' : ℕ) (e e' : List ℕ) (files : Files) (name : List ℕ) (slot : ℕ) (status : Status) → ReadEnds Fits v v' e e' status → ReadSays Fits files name slot status → IsUnfit Fits files name slot
     → OrFailed (BadGeometry 2) status
@@ -125,17 +130,17 @@ sized_unfit Fits v v' e e' files name slot (BadGeometry field) k says unfit = in
 sized_unfit Fits v v' e e' files name slot Exists k says unfit = absurd k
 
 pub found_refused : {T : Type 0} (tells : Bool) (Fits : ℕ → Type 0) (v v' : ℕ) (e e' : List ℕ) (files : Files) (name : List ℕ) (given : Option ℕ) (slot : ℕ) (r : Result T Status) → IsGiven given → (IsTrue tells → FindsSlot files name given slot)
-    → IfErr r (ReadEnds Fits v v' e e') → (IsTrue tells → IfErr r (ReadSays Fits files name slot)) → (IsTrue tells → (bytes : ℕ) → IsSmall files name slot bytes → IsErrOf r (Small bytes))
+    → IfErr r (ReadEnds Fits v v' e e') → (IsTrue tells → IfErr r (ReadSays Fits files name slot)) → (IsTrue tells → (bytes : ℕ) → IsSmall files name slot bytes → IfErr r (OrFailed (Small bytes)))
     → IfErr r (IsRefused tells Fits files name given)
 found_refused tells Fits v v' e e' files name given slot (Ok x) may finds ends says short = tt
-found_refused {T = T} tells Fits v v' e e' files name given slot (Err status) may finds ends says short = record {
+found_refused tells Fits v v' e e' files name given slot (Err status) may finds ends says short = record {
   geometry = λ not. absurd (not may);
   missing = λ t sized none. absurd (found_there files name given slot (finds t) none);
   small = λ bytes t sized is. absurd (found_long files name given slot bytes (finds t) is);
   wrong = λ t sized m. absurd (found_fits files name given slot (finds t) m);
   differs = λ t sized m. absurd (found_agrees files name given slot (finds t) m);
   unknown = λ t m. absurd (found_known files name given slot (finds t) m);
-  short = λ bytes t sized w. inl (same_status {T = T} (short t bytes (of_one files name given slot (finds t) w)));
+  short = λ bytes t sized w. short t bytes (of_one files name given slot (finds t) w);
   unfit = λ t sized w. sized_unfit Fits v v' e e' files name slot status ends (says t) (of_one files name given slot (finds t) w);
 }
 

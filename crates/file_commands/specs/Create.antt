@@ -1,5 +1,5 @@
 -- What `create` answers, and why, and what it leaves of the files.
-use Rattle.std.specs.Prelude.{◌≡◌, ◌⊎◌, ◌<◌, ◌+◌, ◌*◌, ◌++◌, ℕ, ◌≤◌, List, Bool, IsTrue}
+use Rattle.std.specs.Prelude.{◌≡◌, ◌≢◌, ◌⊎◌, ◌<◌, ◌+◌, ◌*◌, ◌++◌, ◌∷◌, [], ℕ, ◌≤◌, List, Bool, IsTrue}
 use Rattle.std.specs.FinMap.{insert}
 use Rattle.rock_disk.specs.File.{Files, IsThere, cut, zeros}
 use Rattle.rock_disk.specs.Cell.{CellState}
@@ -79,6 +79,11 @@ CreateLeaves tells slot slots name before after Memory = IsTrue tells → (after
 CreateLeaves tells slot slots name before after Missing = Unit {0}
 CreateLeaves tells slot slots name before after (Small bytes) = Unit {0}
 CreateLeaves tells slot slots name before after status = after ≡ before
+
+-- how many stations were made: at `Done` the one of the header area, which met no fault, and at each other status but a fault of the disk none
+pub record CreateStations (made_before made_after : ℕ) (ended_before ended_after : List ℕ) (status : Status) : Type 0 where
+  pub done : status ≡ Done → (made_after ≡ made_before + 1) × (ended_after ≡ ended_before ++ 0 ∷ [])
+  pub none : status ≢ Done → status ≢ DeviceFault → (made_after ≡ made_before) × (ended_after ≡ ended_before)
 
 -- neither the numbers nor the map refuse the command
 pub record MayCreate (files : Files) (name : List ℕ) (slot slots : ℕ) : Type 0 where

@@ -5,3 +5,4 @@ pub mod Device
 pub mod Report
 pub mod Recording
 pub mod Create
+pub mod Migrate

@@ -42,6 +42,7 @@ with_header slot bytes header = Home header (slots_cut slot bytes) (rest_cut slo
 pub record MayBeRecorded (geometry : Geometry) (name : List ℕ) (before after : Files) : Type 0 where
   pub was : File
   pub there : get before name ≡ Some was
+  pub long : HEADER_BYTES + geometry.slot ≤ length (bytes_of was)
   pub header : CellState
   pub either : HoldsEither (take HEADER_BYTES (bytes_of was)) (header_of geometry) header
   pub is : after ≡ insert before name (with_header geometry.slot (bytes_of was) header)

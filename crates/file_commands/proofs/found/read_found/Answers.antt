@@ -6,7 +6,7 @@ use Rattle.rock_disk.specs.Opened.{IsSmall}
 use Rattle.rock_status.specs.declared.status.Status.TheVariants.{Small}
 use Rattle.slot_finding.proofs.Causes.{of_one}
 use Rattle.file_commands.specs.Report.{Fits, IsUnfit, ReadSays}
-use Rattle.file_commands.proofs.SizeFound.{found_refused, found_says, unfound_refused, unfound_says}
+use Rattle.file_commands.proofs.SizeFound.{due_err, found_refused, found_says, unfound_refused, unfound_says}
 use Rattle.file_commands.proofs.found.read_found.Goals as goal
 
 pub returns-in-Err-clause-says : goal.returns-in-Err-clause-says
@@ -30,7 +30,7 @@ pub returns-clause-refused : goal.returns-clause-refused
 returns-clause-refused g c =
     found_refused g.V.Volume.tells (Fits c.args.report) _ _ _ _ (g.V.Volume.files c.args.volume.now) c.args.name.now c.args.given c.in-Ok.slot c.read_file.result c.requires.given c.in-Ok.ensures.found c.read_file.ensures.refused
     (λ t. subst (λ (f : Files). IfErr c.read_file.result (ReadSays (Fits c.args.report) f c.args.name.now c.in-Ok.slot)) c.in-Ok.ensures.files (c.read_file.ensures.says t))
-    (λ t. subst (λ (f : Files). (bytes : ℕ) → IsSmall f c.args.name.now c.in-Ok.slot bytes → IsErrOf c.read_file.result (Small bytes)) c.in-Ok.ensures.files (c.read_file.ensures.small t))
+    (λ t bytes small. due_err c.read_file.result (Small bytes) (subst (λ (f : Files). (n : ℕ) → IsSmall f c.args.name.now c.in-Ok.slot n → IsErrOf c.read_file.result (Small n)) c.in-Ok.ensures.files (c.read_file.ensures.small t) bytes small))
 
 pub returns-clause-early : goal.returns-clause-early
 returns-clause-early g c t unfit =
