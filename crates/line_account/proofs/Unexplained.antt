@@ -1,5 +1,5 @@
 -- Lines that no run explains.
-use Rattle.std.proofs.Common.{Contains, ◌≡◌, ◌⊎◌, inl, inr, ⊎_elim, ℕ, ◌<◌, ◌≤◌, zero, suc, List, [], ◌∷◌, ◌++◌, sym, refl, ap, ◌∙◌, subst, arith, true, cond}
+use Rattle.std.proofs.Common.{Bool, Contains, ◌≡◌, ◌⊎◌, inl, inr, ⊎_elim, ℕ, ◌<◌, ◌≤◌, zero, suc, List, [], ◌∷◌, ◌++◌, sym, refl, ap, ◌∙◌, subst, arith, true, cond}
 use Rattle.std.specs.Prelude.{IsTrue, None, Some}
 use mathlib.Core.Option.{some, some-injective, some-ne-none}
 use lib.ListN.{get_elem?}
@@ -12,16 +12,17 @@ use Rattle.script_text.specs.declared.answer.Answer.TheVariants as answer
 use Rattle.script_text.specs.declared.body.Body.{Body}
 use Rattle.script_text.specs.declared.line.Line.{Line}
 use Rattle.script_text.specs.declared.request.Request.{Request}
-use Rattle.script_text.specs.declared.request.Request.TheVariants.{Begin, DropTab, Get, OpenTab, Purge, Put}
+use Rattle.script_text.specs.declared.request.Request.TheVariants.{Begin, DropTab, Get, More, OpenTab, Purge, Put}
 use Rattle.core_model.specs.Anchors.{opening_counter, opening_epoch}
 use Rattle.line_account.specs.Alone.{alone, home}
 use Rattle.line_account.specs.Answers.{IsWhole, Run}
 use Rattle.line_account.specs.Closing.{BegunIn, HaltedIn, LineIn, TellsBegunIn, Worker}
 use Rattle.line_account.specs.Deeds.{Began, Begins, TellsBegun}
 use Rattle.script_text.specs.Requests.{url_in}
-use Rattle.line_account.specs.Lines.{Offers, Served, url_at, begins, begun_of, ends, gives_up, opened_of, writing}
+use Rattle.line_account.specs.Lines.{Offers, Served, begins, begun_of, closes, ends, gives_up, opened_of, opens, reading, url_at, writing}
 use Rattle.line_account.specs.Order.{Opens, counts_as}
-use Rattle.line_account.specs.Printed.{Finds, NeedsTooMany, PrintsEnded, ReadsWhole, TellsFound}
+use Rattle.line_account.specs.Printed.{Finds, NeedsTooMany, PrintsEnded, ReadsVersion, ReadsWhole, TellsFound}
+use Rattle.line_account.specs.Tabs.{ReadsPart}
 use Rattle.line_account.specs.Rules.{KeepsRules}
 
 -- The lines of a worker, from all of them.
@@ -176,6 +177,22 @@ module _ {X : Type 0} (r : Run X) (script : List Line) (w : Worker X) (rules : K
       (record { url = url; named_is = ap (url_at []) gq; anchor = refl })
       (subst (λ (z : Answer). Contains (counts_as z) (epoch_at x 2)) (sym ga) (0, omega arith, refl)) in
       omega arith
+
+  pub never_changed : (o m : Served) (url bytes : List ℕ) (x : ℕ) (e : Epoch) → w.served ≡ m ∷ o ∷ [] → o.line.request ≡ OpenTab 0 url → o.answer ≡ answer.Opened x → m.line.request ≡ More 0 → m.answer ≡ answer.Part e bytes
+      → version_of (epoch_number e) ≡ x
+  never_changed o m url bytes x e is oq oa mq ma = rules.tabs.part (home r url) x e
+      (line_in [] m (o ∷ []) is (λ earlier z. ReadsPart r.setting.anchors earlier z (home r url) x e) (record { of = reads; bytes = bytes; printed = ma }))
+    where
+      opened : opens 0 o.line.request o.answer ≡ true
+      opened = ap (λ (q : Request). opens 0 q o.answer) oq ∙ ap (opens 0 (OpenTab 0 url)) oa
+
+      reads : ReadsVersion r.setting.anchors (o ∷ []) m (home r url) x
+      reads = record {
+        first = o;
+        opened_is = ap (opened_of (o ∷ []) m) mq ∙ ap (λ (b : Bool). cond b (Some o) (cond (closes 0 o.line.request o.answer) None (reading 0 []))) opened;
+        anchor = record { url = url; named_is = ap url_in oq; anchor = refl };
+        told = subst (λ (z : Answer). Opens z x) (sym oa) refl;
+      }
 
   pub never_stored : (p : Served) (url : List ℕ) (body : Body) (x : ℕ) → w.served ≡ p ∷ [] → p.line.request ≡ Put url body → p.answer ≡ answer.Stored x → ¬ NeedsTooMany r url body
   never_stored p url body x is pq pa = rules.answers.small p url body

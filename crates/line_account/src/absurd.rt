@@ -1,5 +1,6 @@
 //! Examples: lines that no run explains, for the rules refuse them. Each says by which rule.
 ghost use Rattle.std.specs.Prelude.{◌≡◌, ◌≢◌, ◌∷◌, IsTrue, ℕ, List, [], true};
+ghost use Rattle.lock_word.specs.Words.{epoch_number, version_of};
 ghost use Rattle.lock_word.specs.declared.epoch.Epoch.{Epoch};
 ghost use Rattle.lock_word.specs.declared.stage.Stage.TheVariants as stage;
 ghost use Rattle.store_key.specs.Key.{key_of};
@@ -64,6 +65,13 @@ pub fn nothing_too_large_is_stored<X>()
     ensures { (r : Run X) (script : List Line) (w : Worker X) (p : Served) (url : List ℕ) (body : Body) (x : ℕ)
         → KeepsRules r script (alone w) → w.served ≡ p ∷ [] → p.line.request ≡ Request.Put url body → p.answer ≡ Answer.Stored x
         → NeedsTooMany r url body → ⊥ }
+{}
+
+/// `open` printed OPEN, and `more` on its tab PART with another version: a tab stays at its entry (`tabs.part`).
+pub fn no_tab_changes_its_entry<X>()
+    ensures { (r : Run X) (script : List Line) (w : Worker X) (o m : Served) (url bytes : List ℕ) (x : ℕ) (e : Epoch)
+        → KeepsRules r script (alone w) → w.served ≡ m ∷ o ∷ [] → o.line.request ≡ Request.OpenTab 0 url → o.answer ≡ Answer.Opened x
+        → m.line.request ≡ Request.More 0 → m.answer ≡ Answer.Part e bytes → version_of (epoch_number e) ≢ x → ⊥ }
 {}
 
 /// `put` of one URL printed STORED, and a `purge` of another URL, with another key, printed PURGED with the version

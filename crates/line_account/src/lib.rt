@@ -9,9 +9,9 @@ mod laws;
 mod rules;
 
 pub use absurd::{
-    no_neighbour_is_purged, nothing_dropped_is_hit, nothing_is_hit_before_it_is_stored,
-    nothing_is_opened_that_never_was, nothing_is_purged_that_never_was, nothing_left_is_hit,
-    nothing_too_large_is_stored,
+    no_neighbour_is_purged, no_tab_changes_its_entry, nothing_dropped_is_hit,
+    nothing_is_hit_before_it_is_stored, nothing_is_opened_that_never_was,
+    nothing_is_purged_that_never_was, nothing_left_is_hit, nothing_too_large_is_stored,
 };
 pub use examples::{
     a_hit_has_what_was_stored, a_lone_spent_number_is_the_counter, a_lone_version_is_the_next_one,
