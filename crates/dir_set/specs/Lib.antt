@@ -1,0 +1,4 @@
+pub mod Dirs
+pub mod Answers
+pub mod Beginning
+pub mod Notes
