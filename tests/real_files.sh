@@ -49,9 +49,9 @@ counted='1 prints how many slots there are'
 worker_limits='is not from 1 to 32; give one that is, for a script as many as it names'
 slot_limits='is not from 1 to 1048576; give one that is, for a larger store with larger slots'
 round_limit='is above 10000; take fewer rounds'
-other_size='give - in place of it, and the one that is recorded is taken'
+other_size='takes the size that is recorded, and so do check and run'
 other_slots='records other slots than it has: it was cut or grew, or its header area is damaged; give a file that was cut its length again, as docs/OPERATING.md says'
-unrecorded='does not record its slots; give the slot size that it was made with in place of -'
+unrecorded='does not record its slots; give the slot size that it was made with in place of -, or record it by rock migrate'
 mend='mend this line, or take it out'
 
 # A run: the status, what is printed, the first line on standard error, the script, and the words.
@@ -513,8 +513,8 @@ row 0 $'ENTRY 0 7 1 5 http://a/b\n' '' list recorded -
 row 0 $'ENTRY 0 7 1 5 http://a/b\n' '' list recorded 512
 row 0 $'slots=1 kept=1 used=1 free=0 version=7\n' '' check recorded - 1
 row 8 '' "rock: BadGeometry field=2: the number of anchors 2 $anchor_limits recorded; rock check recorded - $counted" check recorded - 2
-row 8 '' "rock: BadGeometry field=5: the header area of recorded records another slot size than 1024; $other_size" list recorded 1024
-run_row 8 '' "rock: BadGeometry field=5: the header area of recorded records another slot size than 1024; $other_size" '' recorded 1024 1 1
+row 8 '' "rock: BadGeometry field=5: the header area of recorded records its slots already, of another size than 1024; rock list recorded - $other_size" list recorded 1024
+run_row 8 '' "rock: BadGeometry field=5: the header area of recorded records its slots already, of another size than 1024; rock list recorded - $other_size" '' recorded 1024 1 1
 run_row 0 $'1 1 HIT 7 5 68656c6c6f\n' '' '1 get http://a/b' recorded - 1 1
 cmp -s recorded kept
 holds 'a file that records its slots stays as it was' $?
@@ -523,6 +523,19 @@ for name in gone - --; do
     row 2 '' "rock: Usage: $usage" list - "$name"
 done
 row 8 '' "rock: Missing: there is no file gone; $absent" list gone -
+
+# An older file is made to record its slots.
+cp one old
+row 8 '' "rock: BadGeometry field=7: the header area of old $unrecorded" list old -
+row 0 $'MIGRATED slots=1\n' '' migrate old 512
+cmp -s old recorded
+holds 'a file that was migrated has the bytes of one that records its slots' $?
+row 0 $'MIGRATED slots=1\n' '' migrate old 512
+row 0 $'ENTRY 0 7 1 5 http://a/b\n' '' list old -
+row 8 '' "rock: BadGeometry field=5: the header area of old records its slots already, of another size than 1024; rock list old - $other_size" migrate old 1024
+row 2 '' "rock: Usage: $usage" migrate old -
+row 8 '' "rock: Missing: there is no file gone; $absent" migrate gone 512
+rm old
 
 # A file that was cut is given its length again: first whole slots, and then zeros.
 rm -f new && row 0 '' '' create new 512 4

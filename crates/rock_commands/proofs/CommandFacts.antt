@@ -4,7 +4,7 @@ use Rattle.std.specs.Prelude.{Option, codes, decimal}
 use Rattle.std.specs.Str.{bytes_eq}
 use Rattle.std.proofs.lemmas.Slice.Eq.{bytes_eq-Decides}
 use Rattle.std.proofs.lemmas.Fmt.{decimal_by_steps, decimal_injective}
-use Rattle.rock_commands.specs.CommandLine.{FitsWord, IsList, IsCheck, IsCreate, IsRun, IsBench, IsCommandLine, slot_word}
+use Rattle.rock_commands.specs.CommandLine.{FitsWord, IsList, IsCheck, IsCreate, IsMigrate, IsRun, IsBench, IsCommandLine, slot_word}
 
 third : {a b c a' b' c' : List ℕ} → a ∷ b ∷ c ∷ [] ≡ a' ∷ b' ∷ c' ∷ [] → (b ≡ b') × (c ≡ c')
 third e = (cc, cc)
@@ -80,6 +80,12 @@ of_each_bench words P {name = name} {seed = seed} {workers = workers} {count = c
     (subst (λ w. P name' seed' w count) (decimal_injective workers workers' (omega (arith, p.workers_fit)) (omega (arith, q.workers_fit)) parts.2)
     (subst (λ s. P name' s workers count) (decimal_injective seed seed' (omega (arith, p.fits)) (omega (arith, q.fits)) parts.1) (subst (λ n. P n seed workers count) parts.0 holds)))
 
+-- and of the size of the slots of a file that is to record them
+pub of_each_migrate : (words : List (List ℕ)) (P : List ℕ → ℕ → Type 0) {name : List ℕ} {slot : ℕ} (name' : List ℕ) (slot' : ℕ) → IsMigrate words name slot → IsMigrate words name' slot' → P name slot → P name' slot'
+of_each_migrate words P {name = name} {slot = slot} name' slot' p q holds =
+    let parts = third (sym p.words_are ∙ q.words_are) in
+    subst (λ s. P name' s) (decimal_injective slot slot' (omega (arith, p.fits)) (omega (arith, q.fits)) parts.1) (subst (λ n. P n slot) parts.0 holds)
+
 -- a line of one command is no line of another
 pub list_is_no_run : {words : List (List ℕ)} {name name' : List ℕ} {given given' : Option ℕ} {anchors workers : ℕ} → IsList words name given → IsRun words name' given' anchors workers → ⊥
 list_is_no_run l r = three_are_not_five (sym l.words_are ∙ r.words_are)
@@ -92,6 +98,24 @@ list_is_no_create l k = three_are_not_four (sym l.words_are ∙ k.words_are)
 
 pub list_is_no_bench : {words : List (List ℕ)} {name name' : List ℕ} {given : Option ℕ} {seed workers count : ℕ} → IsList words name given → IsBench words name' seed workers count → ⊥
 list_is_no_bench l b = three_are_not_five (sym l.words_are ∙ b.words_are)
+
+one_first : {a b c a' b' c' : List ℕ} → a ∷ b ∷ c ∷ [] ≡ a' ∷ b' ∷ c' ∷ [] → a ≡ a'
+one_first e = cc
+
+pub list_is_no_migrate : {words : List (List ℕ)} {name name' : List ℕ} {given : Option ℕ} {slot : ℕ} → IsList words name given → IsMigrate words name' slot → ⊥
+list_is_no_migrate l m = let first = ap length (one_first (sym l.words_are ∙ m.words_are)) in omega (arith, first)
+
+pub migrate_is_no_check : {words : List (List ℕ)} {name name' : List ℕ} {given' : Option ℕ} {slot anchors : ℕ} → IsMigrate words name slot → IsCheck words name' given' anchors → ⊥
+migrate_is_no_check m k = three_are_not_four (sym m.words_are ∙ k.words_are)
+
+pub migrate_is_no_create : {words : List (List ℕ)} {name name' : List ℕ} {slot other slots : ℕ} → IsMigrate words name slot → IsCreate words name' other slots → ⊥
+migrate_is_no_create m k = three_are_not_four (sym m.words_are ∙ k.words_are)
+
+pub migrate_is_no_run : {words : List (List ℕ)} {name name' : List ℕ} {given' : Option ℕ} {slot anchors workers : ℕ} → IsMigrate words name slot → IsRun words name' given' anchors workers → ⊥
+migrate_is_no_run m r = three_are_not_five (sym m.words_are ∙ r.words_are)
+
+pub migrate_is_no_bench : {words : List (List ℕ)} {name name' : List ℕ} {slot seed workers count : ℕ} → IsMigrate words name slot → IsBench words name' seed workers count → ⊥
+migrate_is_no_bench m b = three_are_not_five (sym m.words_are ∙ b.words_are)
 
 pub check_is_no_run : {words : List (List ℕ)} {name name' : List ℕ} {given given' : Option ℕ} {count anchors workers : ℕ} → IsCheck words name given count → IsRun words name' given' anchors workers → ⊥
 check_is_no_run k r = four_are_not_five (sym k.words_are ∙ r.words_are)
@@ -153,7 +177,8 @@ no_number words first second next last are not (inr (inr (inl k))) =
     let parts = fourth (sym are ∙ k.3.words_are) in
     not k.2 k.3.slots_fit parts.2
 no_number words first second next last are not (inr (inr (inr (inl r)))) = four_are_not_five (sym are ∙ r.4.words_are)
-no_number words first second next last are not (inr (inr (inr (inr b)))) = four_are_not_five (sym are ∙ b.4.words_are)
+no_number words first second next last are not (inr (inr (inr (inr (inl b))))) = four_are_not_five (sym are ∙ b.4.words_are)
+no_number words first second next last are not (inr (inr (inr (inr (inr m))))) = three_are_not_four (sym m.2.words_are ∙ are)
 
 -- nor are five where the last two are no numbers
 pub no_two_numbers : (words : List (List ℕ)) (first second next then last : List ℕ) → words ≡ first ∷ second ∷ next ∷ then ∷ last ∷ []
@@ -164,7 +189,8 @@ no_two_numbers words first second next then last are not (inr (inr (inl k))) = f
 no_two_numbers words first second next then last are not (inr (inr (inr (inl r)))) =
     let parts = fifth (sym are ∙ r.4.words_are) in
     not r.2 r.3 r.4.anchors_fit r.4.workers_fit parts.2 parts.3
-no_two_numbers words first second next then last are not (inr (inr (inr (inr b)))) =
+no_two_numbers words first second next then last are not (inr (inr (inr (inr (inr m))))) = three_are_not_five (sym m.2.words_are ∙ are)
+no_two_numbers words first second next then last are not (inr (inr (inr (inr (inl b))))) =
     let parts = fifth (sym are ∙ b.4.words_are) in
     not b.2 b.3 b.4.workers_fit b.4.count_fit parts.2 parts.3
 

@@ -59,9 +59,15 @@ pub record IsBench (words : List (List ℕ)) (name : List ℕ) (seed workers cou
 abbrev pub IsBenchLine : List (List ℕ) → Type 0
 IsBenchLine words = (name : List ℕ) × (seed workers count : ℕ) × IsBench words name seed workers count
 
+-- `migrate NAME SLOT`
+pub record IsMigrate (words : List (List ℕ)) (name : List ℕ) (slot : ℕ) : Type 0 where
+  pub words_are : words ≡ codes "migrate" ∷ name ∷ decimal slot ∷ []
+  pub named : IsName name
+  pub fits : slot < 2 ^ 32
+
 -- the words are a command line of the table
 abbrev pub IsCommandLine : List (List ℕ) → Type 0
 IsCommandLine words =
     ((name : List ℕ) × (given : Option ℕ) × IsList words name given)
     ⊎ (((name : List ℕ) × (given : Option ℕ) × (anchors : ℕ) × IsCheck words name given anchors)
-    ⊎ (((name : List ℕ) × (slot slots : ℕ) × IsCreate words name slot slots) ⊎ (IsRunLine words ⊎ IsBenchLine words)))
+    ⊎ (((name : List ℕ) × (slot slots : ℕ) × IsCreate words name slot slots) ⊎ (IsRunLine words ⊎ (IsBenchLine words ⊎ ((name : List ℕ) × (slot : ℕ) × IsMigrate words name slot)))))

@@ -1,7 +1,8 @@
 -- Names that the contract of the top call speaks of, for whoever says it again.
 pub use Rattle.rock_open.specs.Device.{counts}
-pub use Rattle.file_commands.specs.Create.{CreateEnds, CreateLeaves, CreateSays, IsCreateRefused}
+pub use Rattle.file_commands.specs.Create.{CreateEnds, CreateLeaves, CreateSays, CreateStations, IsCreateRefused}
 pub use Rattle.file_commands.specs.Listing.{Lists}
+pub use Rattle.file_commands.specs.Migrate.{IsMigratedText, MigrateLeaves}
 pub use Rattle.file_commands.specs.Report.{AnyCount, IsAnchors, IsRefused, OfFileFor, ReportEnds, ReportPrints, ReportSays}
 pub use Rattle.file_commands.specs.Summary.{Sums}
 pub use Rattle.run_command.specs.Ends.{RunEnds}

@@ -14,6 +14,13 @@ pub struct Target<'a> {
     pub slot: Option<u32>,
 }
 
+/// A file whose header area is to record its slots, and how many bytes each of them has.
+#[derive(Clone, Copy, Debug, PartialEq, Eq)]
+pub struct OldFile<'a> {
+    pub name: &'a str,
+    pub slot: u32,
+}
+
 /// A file that is to be made: how many bytes each of its slots has, and how many slots.
 #[derive(Clone, Copy, Debug, PartialEq, Eq)]
 pub struct NewFile<'a> {
@@ -49,6 +56,10 @@ pub enum Command<'a> {
     Bench {
         target: BenchTarget<'a>,
     },
+    /// `migrate NAME SLOT`: make the header area of a file record its slots.
+    Migrate {
+        target: OldFile<'a>,
+    },
 }
 
 impl<'a> Command<'a> {
@@ -58,9 +69,9 @@ impl<'a> Command<'a> {
         ensures { MatchOption result (IsCommandLine words.now → ⊥) (IsCommand words.now) }
     {
         match words.as_slice() {
-            [command, name, slot] if command.as_str() == "list" => Some(Command::List {
-                target: Target::parse(name.as_str(), slot.as_str())?,
-            }),
+            [command, name, slot] => {
+                Command::of_three(command.as_str(), name.as_str(), slot.as_str())
+            }
             [command, name, slot, count] => {
                 let count = number(count.as_str())?;
                 Command::of_four(command.as_str(), name.as_str(), slot.as_str(), count)
@@ -77,6 +88,25 @@ impl<'a> Command<'a> {
                 )
             }
             _ => None,
+        }
+    }
+
+    /// The command of three words: its own, the name of a file, and a word for the size of a slot.
+    fn of_three(command: &str, name: &'a str, slot: &str) -> Option<Command<'a>>
+        ensures { MatchOption result
+            (IsCommandLine (command.now ∷ name.now ∷ slot.now ∷ []) → ⊥)
+            (IsCommand (command.now ∷ name.now ∷ slot.now ∷ [])) }
+    {
+        if command == "list" {
+            Some(Command::List {
+                target: Target::parse(name, slot)?,
+            })
+        } else if command == "migrate" {
+            Some(Command::Migrate {
+                target: OldFile::parse(name, slot)?,
+            })
+        } else {
+            None
         }
     }
 
@@ -161,6 +191,23 @@ impl<'a> Target<'a> {
             Some(number(slot)?)
         };
         Some(Target { name, slot })
+    }
+}
+
+impl<'a> OldFile<'a> {
+    /// Reads the name of a file, and the size of its slots, which is a number.
+    fn parse(name: &'a str, slot: &str) -> Option<OldFile<'a>>
+        ensures some { IfSome result (λ t. IsName name.now × (t.name.now ≡ name.now)
+            × (slot.now ≡ decimal t.slot) × (t.slot < 2 ^ 32)) }
+        ensures none { (n : ℕ) → n < 2 ^ 32 → IsName name.now → slot.now ≡ decimal n → result ≡ None → ⊥ }
+    {
+        if !is_name(name) {
+            return None;
+        }
+        Some(OldFile {
+            name,
+            slot: number(slot)?,
+        })
     }
 }
 

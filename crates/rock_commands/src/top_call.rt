@@ -5,10 +5,11 @@ ghost use Rattle.rock_disk.specs.File.{NoneAway, HaveSameBytes};
 ghost use Rattle.rock_open.specs.Device.{counts};
 ghost use Rattle.rock_run.specs.Device.{EachEnded, NoneFailed};
 ghost use Rattle.script_text.specs.Script.{IsTakenFrom};
-ghost use Rattle.rock_commands.specs.CommandLine.{IsList, IsCheck, IsCreate, IsRun, IsRunLine, IsBench, IsBenchLine, IsCommandLine};
-ghost use Rattle.file_commands.specs.Create.{CreateEnds, CreateSays, IsCreateRefused, CreateLeaves, IsHalfMade, MayCreate};
+ghost use Rattle.rock_commands.specs.CommandLine.{IsList, IsCheck, IsCreate, IsMigrate, IsRun, IsRunLine, IsBench, IsBenchLine, IsCommandLine};
+ghost use Rattle.file_commands.specs.Create.{CreateEnds, CreateSays, CreateStations, IsCreateRefused, CreateLeaves, IsHalfMade, MayCreate};
 ghost use Rattle.file_commands.specs.Device.{DeviceFailed, EndedOne, NoFault, DeviceKept};
 ghost use Rattle.file_commands.specs.Listing.{Lists};
+ghost use Rattle.file_commands.specs.Migrate.{IsMarkedFile, IsMigratedText, MigrateLeaves};
 ghost use Rattle.file_commands.specs.Report.{AnyCount, IsAnchors, IsRefused, IsReport, IsUnfit, MayReport, OfFileFor, ReportEnds, ReportPrints, ReportSays, ReportsOrLacksMemory};
 ghost use Rattle.file_commands.specs.Summary.{Sums};
 ghost use Rattle.run_command.specs.Ends.{NoFault as NoRunFault, RunEnds, RunsOrLacksMemory};
@@ -29,7 +30,7 @@ ghost use Rattle.bench_command.specs.Stations.{EachEnded as EachBenchEnded, HasF
 
 use crate::command::Command;
 use bench_command::bench_command;
-use file_commands::{Report, create_file, print_report};
+use file_commands::{Report, create_file, migrate_file, print_report};
 use rock_disk::{Volume, kept_files_have_their_bytes};
 use rock_io::{Sink, Source, Words};
 use rock_status::Status;
@@ -45,7 +46,9 @@ use std::thread::Threads;
 /// one line `slots=S kept=K used=U free=F version=G`: the file's slots, the entries that a store with
 /// ANCHORS anchors keeps, the slots that they take, those that are free, and the greatest version of a
 /// sane slot. `create NAME SLOT SLOTS` makes a file of a header area, which records SLOT and SLOTS, and of SLOTS
-/// slots of SLOT zero bytes, and prints nothing. None of them reads the script.
+/// slots of SLOT zero bytes, and prints nothing. `migrate NAME SLOT` makes the header area of the file NAME of slots of
+/// SLOT bytes record its slots, where it records nothing, and prints the one line `MIGRATED slots=S`, S being their
+/// number. None of them reads the script.
 ///
 /// SLOT of `list`, `check` and `run` may be `-`: then the header area of the file tells the size of its slots. A file whose
 /// header area records its slots is refused where it has other slots, and where another size is given.
@@ -171,6 +174,37 @@ where
     ensures create_whole { (name : List ℕ) (slot slots : ℕ) → IsCreate words.now name slot slots → IsTrue V.tells
         → (V.made volume.new ≡ V.made volume.old → ⊥)
         → IsHalfMade slot slots name (V.files volume.old) (V.files volume.new) }
+
+    ensures create_stations { (name : List ℕ) (slot slots : ℕ) → IsCreate words.now name slot slots
+        → CreateStations (V.made volume.old) (V.made volume.new) (V.ended volume.old) (V.ended volume.new) result }
+
+    // `migrate NAME SLOT` makes the header area of a file record its slots, where it records nothing, and prints how
+    // many there are. Its statuses are those of `list`.
+    ensures migrate_ends { (name : List ℕ) (slot : ℕ) → IsMigrate words.now name slot
+        → ReportEnds AnyCount (Some slot) (K.faults out.old) (K.faults out.new)
+        (V.faults volume.old) (V.faults volume.new) (V.ended volume.old) (V.ended volume.new) result }
+    ensures migrate_says { (name : List ℕ) (slot : ℕ) → IsMigrate words.now name slot → IsTrue V.tells
+        → ReportSays AnyCount (V.files volume.old) name (Some slot) result }
+    ensures migrate_refused { (name : List ℕ) (slot : ℕ) → IsMigrate words.now name slot
+        → IsRefused V.tells AnyCount (V.files volume.old) name (Some slot) result }
+    ensures migrate_complete { (name : List ℕ) (slot : ℕ) → IsMigrate words.now name slot → IsTrue V.tells
+        → MayReport AnyCount (V.files volume.old) name (Some slot)
+        → NoFault (K.faults out.old) (K.faults out.new)
+        (V.faults volume.old) (V.faults volume.new) (V.ended volume.old) (V.ended volume.new)
+        → ReportsOrLacksMemory result }
+    ensures migrate_prints { (name : List ℕ) (slot : ℕ) → IsMigrate words.now name slot → IsTrue K.tells
+        → ReportPrints (λ text. IsTrue V.tells → IsMigratedText (V.files volume.old) name slot text)
+        (K.taken out.old) (K.taken out.new) result }
+    // Its slots and the other files stay. A crash leaves the header area of before, or the record: also where it comes
+    // within the write or the sync, by what a station promises of each.
+    ensures migrate_leaves { (name : List ℕ) (slot : ℕ) → IsMigrate words.now name slot → IsTrue V.tells
+        → MigrateLeaves slot name (V.files volume.old) (V.files volume.new) result }
+    // A file that is marked is left alone: nothing is written, and no station is made.
+    ensures migrate_marked { (name : List ℕ) (slot : ℕ) → IsMigrate words.now name slot → IsTrue V.tells
+        → IsMarkedFile (V.files volume.old) name
+        → (V.files volume.new ≡ V.files volume.old)
+        × (V.made volume.new ≡ V.made volume.old) × (V.ended volume.new ≡ V.ended volume.old)
+        × (result ≡ Status.DeviceFault → Rose (V.faults volume.old) (V.faults volume.new)) }
 
     // `run NAME SLOT ANCHORS WORKERS` runs a script over the file by so many workers, and prints what they were
     // answered. It is refused by the script, by a number, and by the file, in this order. A fault of a worker's
@@ -349,5 +383,6 @@ where
             run_command(rt, alloc, volume, script, out, &run)
         }
         Command::Bench { target } => bench_command(rt, alloc, volume, out, &target),
+        Command::Migrate { target } => migrate_file(alloc, volume, out, target.name, target.slot),
     }
 }

@@ -8,7 +8,8 @@ rock create <NAME> <SLOT> <SLOTS>
        rock list <NAME> <SLOT>
        rock check <NAME> <SLOT> <ANCHORS>
        rock run <NAME> <SLOT> <ANCHORS> <WORKERS>
-       rock bench <NAME> <SEED> <WORKERS> <COUNT>";
+       rock bench <NAME> <SEED> <WORKERS> <COUNT>
+       rock migrate <NAME> <SLOT>";
 
 /// What stands behind the lists of commands and words.
 const NOTES: &str = "\
@@ -18,17 +19,21 @@ Example:
   rock check cache.db 16384 1024
   rock run cache.db 16384 1024 1 < script
   rock bench bench.db 7 1 10000
+  rock migrate old.db 16384
 
 Output:
-  list   ENTRY first-slot version slots body-bytes URL
-  check  slots=S kept=K used=U free=F version=G
-  run    worker line answer, for each line of the script
-  bench  bench requests=R hits=H misses=M stored=T purged=P none=N other=O
-         bytes=B, in one line
+  list     ENTRY first-slot version slots body-bytes URL
+  check    slots=S kept=K used=U free=F version=G
+  run      worker line answer, for each line of the script
+  bench    bench requests=R hits=H misses=M stored=T purged=P none=N other=O
+           bytes=B, in one line
+  migrate  MIGRATED slots=S
 
 The header area of a file may record the bytes of its slots: SLOT of list,
-check and run may be - then. A number is decimal, without a sign or a leading
-zero. A command that does not end well says why in one line on standard error.
+check and run may be - then. Before migrate list the file with the same SLOT:
+a wrong one is recorded as it stands. A number is decimal, without a sign or a
+leading zero. A command that does not end well says why in one line on
+standard error.
 Exit status:
   0 done                    6 the disk failed
   2 no command line         7 the script has a bad line
@@ -55,6 +60,9 @@ fn with_commands<'a>(alloc: Global) -> Result<Command<'a>, AllocError> {
     let bench = Command::new(alloc, "bench").about(
         "Serve a made script on a new file, and count its answers in one line",
     );
+    let migrate = Command::new(alloc, "migrate").about(
+        "Record the slots of an older file in its header area",
+    );
     Command::new(alloc, "rock")
         .about("The store of a caching proxy in one database file")
         .override_usage(USAGE)
@@ -65,7 +73,8 @@ fn with_commands<'a>(alloc: Global) -> Result<Command<'a>, AllocError> {
         .subcommand(list)?
         .subcommand(check)?
         .subcommand(run)?
-        .subcommand(bench)
+        .subcommand(bench)?
+        .subcommand(migrate)
 }
 
 /// The words of the commands, and those that stand alone.

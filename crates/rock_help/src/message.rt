@@ -115,13 +115,13 @@ fn outside_limits(alloc: Global, field: u8, asked: &Asked<'_>) -> Result<String,
             ),
         },
         5 => format!(in alloc;
-            "the header area of {name} records another slot size than {slot}; give - in place of it, and the one that is recorded is taken"
+            "the header area of {name} records its slots already, of another size than {slot}; rock list {name} - takes the size that is recorded, and so do check and run"
         ),
         6 => format!(in alloc;
             "the header area of {name} records other slots than it has: it was cut or grew, or its header area is damaged; give a file that was cut its length again, as docs/OPERATING.md says"
         ),
         7 => format!(in alloc;
-            "the header area of {name} does not record its slots; give the slot size that it was made with in place of -"
+            "the header area of {name} does not record its slots; give the slot size that it was made with in place of -, or record it by rock migrate"
         ),
         _ => format!(in alloc;
             "the slot size {slot} is no multiple of 512 from 512 to 32768; give one that is, for a file that is there the one that it was made with"

@@ -1,10 +1,10 @@
 // How the program ends.
-ghost use Rattle.std.specs.Prelude.{◌≡◌, ◌↔◌, ℕ, List, Option, IsTrue};
+ghost use Rattle.std.specs.Prelude.{◌≡◌, ◌↔◌, ℕ, List, Option, IsTrue, Some};
 ghost use Rattle.std.specs.Process.{exit_status};
 ghost use Rattle.rock_disk.specs.File.{NoneAway};
 ghost use Rattle.rock_io.specs.Faults.{Rose};
-ghost use Rattle.rock_commands.specs.CommandLine.{IsList, IsCheck, IsCreate, IsRun, IsBench, IsCommandLine};
-ghost use Rattle.rock_commands.specs.Terms.{AnyCount, bench_lines, BenchEnds, BenchLeaves, BenchSays, counts, CreateEnds, CreateLeaves, CreateSays, IsAnchors, IsBenchRefused, IsBenchText, IsCreateRefused, IsRefused, IsRunRefused, IsRunText, Lists, OfFileFor, ReportEnds, ReportPrints, ReportSays, RunEnds, RunLeaves, RunPrints, RunSays, Sums};
+ghost use Rattle.rock_commands.specs.CommandLine.{IsList, IsCheck, IsCreate, IsMigrate, IsRun, IsBench, IsCommandLine};
+ghost use Rattle.rock_commands.specs.Terms.{AnyCount, bench_lines, BenchEnds, BenchLeaves, BenchSays, counts, CreateEnds, CreateLeaves, CreateSays, CreateStations, IsAnchors, IsBenchRefused, IsBenchText, IsCreateRefused, IsMigratedText, IsRefused, IsRunRefused, IsRunText, Lists, MigrateLeaves, OfFileFor, ReportEnds, ReportPrints, ReportSays, RunEnds, RunLeaves, RunPrints, RunSays, Sums};
 ghost use Rattle.rock_main.specs.Ending.{EndsFor};
 ghost use Rattle.rock_status.specs.Status.{code_of};
 
@@ -64,7 +64,16 @@ where
         CreateEnds slot slots (V.faults volume.old) (V.faults volume.new) (V.ended volume.old) (V.ended volume.new) status
         × (IsTrue V.tells → CreateSays (V.files volume.old) name status)
         × IsCreateRefused V.tells (V.files volume.old) name slot slots status
-        × CreateLeaves V.tells slot slots name (V.files volume.old) (V.files volume.new) status) (exit_status result) }
+        × CreateLeaves V.tells slot slots name (V.files volume.old) (V.files volume.new) status
+        × CreateStations (V.made volume.old) (V.made volume.new) (V.ended volume.old) (V.ended volume.new) status) (exit_status result) }
+    ensures migrate { (name : List ℕ) (slot : ℕ) → IsMigrate words.now name slot → EndsFor (λ status.
+        ReportEnds AnyCount (Some slot) (K.faults out.old) (K.faults out.new)
+        (V.faults volume.old) (V.faults volume.new) (V.ended volume.old) (V.ended volume.new) status
+        × (IsTrue V.tells → ReportSays AnyCount (V.files volume.old) name (Some slot) status)
+        × IsRefused V.tells AnyCount (V.files volume.old) name (Some slot) status
+        × (IsTrue K.tells → ReportPrints (λ text. IsTrue V.tells → IsMigratedText (V.files volume.old) name slot text)
+        (K.taken out.old) (K.taken out.new) status)
+        × (IsTrue V.tells → MigrateLeaves slot name (V.files volume.old) (V.files volume.new) status)) (exit_status result) }
     ensures run { (name : List ℕ) (given : Option ℕ) (anchors workers : ℕ) → IsRun words.now name given anchors workers → EndsFor (λ status.
         RunEnds given anchors workers (S.faults script.old) (S.faults script.new) (K.faults out.old) (K.faults out.new)
         (counts (V.faults volume.old) (V.made volume.old) (V.ended volume.old))

@@ -11,13 +11,15 @@ Usage: rock create <NAME> <SLOT> <SLOTS>
        rock check <NAME> <SLOT> <ANCHORS>
        rock run <NAME> <SLOT> <ANCHORS> <WORKERS>
        rock bench <NAME> <SEED> <WORKERS> <COUNT>
+       rock migrate <NAME> <SLOT>
 
 Commands:
-  create  Make a file of empty slots
-  list    Print a line for each complete entry of a file
-  check   Print one line on what a store keeps of a file
-  run     Serve a script from standard input on a file, and print its answers
-  bench   Serve a made script on a new file, and count its answers in one line
+  create   Make a file of empty slots
+  list     Print a line for each complete entry of a file
+  check    Print one line on what a store keeps of a file
+  run      Serve a script from standard input on a file, and print its answers
+  bench    Serve a made script on a new file, and count its answers in one line
+  migrate  Record the slots of an older file in its header area
 
 Arguments:
   <NAME>     The file; its name does not begin with -
@@ -38,17 +40,21 @@ Example:
   rock check cache.db 16384 1024
   rock run cache.db 16384 1024 1 < script
   rock bench bench.db 7 1 10000
+  rock migrate old.db 16384
 
 Output:
-  list   ENTRY first-slot version slots body-bytes URL
-  check  slots=S kept=K used=U free=F version=G
-  run    worker line answer, for each line of the script
-  bench  bench requests=R hits=H misses=M stored=T purged=P none=N other=O
-         bytes=B, in one line
+  list     ENTRY first-slot version slots body-bytes URL
+  check    slots=S kept=K used=U free=F version=G
+  run      worker line answer, for each line of the script
+  bench    bench requests=R hits=H misses=M stored=T purged=P none=N other=O
+           bytes=B, in one line
+  migrate  MIGRATED slots=S
 
 The header area of a file may record the bytes of its slots: SLOT of list,
-check and run may be - then. A number is decimal, without a sign or a leading
-zero. A command that does not end well says why in one line on standard error.
+check and run may be - then. Before migrate list the file with the same SLOT:
+a wrong one is recorded as it stands. A number is decimal, without a sign or a
+leading zero. A command that does not end well says why in one line on
+standard error.
 Exit status:
   0 done                    6 the disk failed
   2 no command line         7 the script has a bad line

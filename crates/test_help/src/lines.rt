@@ -32,9 +32,9 @@ BadGeometry 2; recorded; rock: BadGeometry field=2: the number of anchors 7 is n
 BadGeometry 3; bench; rock: BadGeometry field=3: the number of workers 33 is not from 1 to 32; give one that is, for a script as many as it names
 BadGeometry 4; command; rock: BadGeometry field=4: the number of slots 7 is not from 1 to 1048576; give one that is, for a larger store with larger slots
 BadGeometry 4; bench; rock: BadGeometry field=4: the number of rounds 10001 is above 10000; take fewer rounds
-BadGeometry 5; command; rock: BadGeometry field=5: the header area of db records another slot size than 500; give - in place of it, and the one that is recorded is taken
+BadGeometry 5; command; rock: BadGeometry field=5: the header area of db records its slots already, of another size than 500; rock list db - takes the size that is recorded, and so do check and run
 BadGeometry 6; recorded; rock: BadGeometry field=6: the header area of db records other slots than it has: it was cut or grew, or its header area is damaged; give a file that was cut its length again, as docs/OPERATING.md says
-BadGeometry 7; recorded; rock: BadGeometry field=7: the header area of db does not record its slots; give the slot size that it was made with in place of -
+BadGeometry 7; recorded; rock: BadGeometry field=7: the header area of db does not record its slots; give the slot size that it was made with in place of -, or record it by rock migrate
 Exists; command; rock: Exists: there is a file db already; choose another name, Rock writes over no file";
 
 /// The statuses that have no numbers.
@@ -79,7 +79,7 @@ fn status_with_numbers(text: &str) -> Result<Status, Fail> {
     }
 }
 
-/// The words of `create`, `list`, `check` and `run`, also with what is known of the disk, of `check` where no slot size is
+/// The words of `create`, `list`, `check`, `run` and `migrate`, also with what is known of the disk, of `check` where no slot size is
 /// given, or of `bench`, or none.
 fn asked_of(text: &str) -> Result<Asked<'static>, Fail> {
     match text {

@@ -7,6 +7,7 @@ mod entries;
 mod faults;
 mod found;
 mod listing;
+mod migrating;
 mod recorded;
 mod refused;
 mod serving;

@@ -96,7 +96,7 @@ fn reported(
 }
 
 /// The length of the file, its header area where it has one, and its whole slots of 512 bytes. None where there is no file.
-fn left(alloc: Global, volume: &mut MemVolume) -> Result<Option<(u64, Vec<u8>)>, Fail>
+pub(crate) fn left(alloc: Global, volume: &mut MemVolume) -> Result<Option<(u64, Vec<u8>)>, Fail>
     requires { NoneAway (volume_files volume.old) }
 {
     let mut header = [0u8; HEADER_BYTES as usize];

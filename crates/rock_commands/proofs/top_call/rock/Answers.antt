@@ -1,4 +1,4 @@
-use Rattle.std.proofs.Common.{◌≡◌, IsTrue, None, ap, inl, inr, refl, subst, ◌++◌, ◌∙◌}
+use Rattle.std.proofs.Common.{◌≡◌, IsTrue, None, Some, ap, inl, inr, refl, subst, ◌++◌, ◌∙◌}
 use Rattle.rock_io.specs.Faults.{Rose}
 use Rattle.rock_disk.specs.File.{IsThere}
 use Rattle.db_layout.specs.Layout.{IsSlotSize}
@@ -17,8 +17,9 @@ use Rattle.bench_command.specs.Ends.{BenchEnds, BenchSays, IsBenchRefused}
 use Rattle.bench_command.specs.Leaves.{BenchLeaves}
 use Rattle.bench_command.specs.Numbers.{MayBench}
 use Rattle.bench_command.specs.Prints.{IsBenchText}
-use Rattle.file_commands.specs.Create.{IsSlotCount, IsGeometry, IsHalfMade, CreateEnds, CreateSays, CreateLeaves}
+use Rattle.file_commands.specs.Create.{IsSlotCount, IsGeometry, IsHalfMade, CreateEnds, CreateSays, CreateLeaves, CreateStations}
 use Rattle.file_commands.specs.Listing.{Lists}
+use Rattle.file_commands.specs.Migrate.{IsMarkedFile, IsMigratedText, MigrateLeaves}
 use Rattle.file_commands.specs.Summary.{Sums}
 use Rattle.file_commands.specs.Report.{AnyCount, IsAnchors, IsRefused, IsUnfit, OfFileFor, ReportEnds, ReportSays, ReportPrints, ReportsOrLacksMemory}
 use Rattle.rock_status.specs.declared.status.Status.TheVariants as status
@@ -26,7 +27,7 @@ use Rattle.script_text.specs.Script.{IsScript}
 use Rattle.slot_finding.specs.Finding.{IsKeptFor, WithSlot}
 use Rattle.file_commands.proofs.Recorded.{report_given}
 use Rattle.run_command.proofs.Recorded.{run_given}
-use Rattle.rock_commands.proofs.CommandFacts.{list_is_no_bench, list_is_no_check, list_is_no_create, list_is_no_run, of_each, of_each_bench, of_each_check, of_each_create, of_each_run}
+use Rattle.rock_commands.proofs.CommandFacts.{list_is_no_bench, list_is_no_check, list_is_no_create, list_is_no_migrate, list_is_no_run, migrate_is_no_bench, migrate_is_no_check, migrate_is_no_create, migrate_is_no_run, of_each, of_each_bench, of_each_check, of_each_create, of_each_migrate, of_each_run}
 use Rattle.rock_commands.proofs.CreateFacts.{complete_create}
 use Rattle.rock_commands.proofs.ReportFacts.{bytes_when_kept, complete, home_when_kept, none_ended}
 use Rattle.rock_commands.proofs.top_call.rock.Goals as goal
@@ -323,17 +324,17 @@ returns-in-Bench-clause-usage g c = (
   λ is. absurd (subst (BenchEnds c.in-Bench.target.workers c.in-Bench.target.count (g.K.Sink.faults c.args.out.now) (g.K.Sink.faults c.bench_command.new.out)
       (counts (g.V.Volume.faults c.args.volume.now) (g.V.Volume.made c.args.volume.now) (g.V.Volume.ended c.args.volume.now))
       (counts (g.V.Volume.faults c.bench_command.new.volume) (g.V.Volume.made c.bench_command.new.volume) (g.V.Volume.ended c.bench_command.new.volume))) is c.bench_command.ensures.ends),
-  λ none. absurd (none (inr (inr (inr (inr (c.in-Bench.target.name.now, c.in-Bench.target.seed, c.in-Bench.target.workers, c.in-Bench.target.count, subst (IsCommand c.args.words.now) c.in-Bench.is c.in-Some.ensures)))))),
+  λ none. absurd (none (inr (inr (inr (inr (inl (c.in-Bench.target.name.now, c.in-Bench.target.seed, c.in-Bench.target.workers, c.in-Bench.target.count, subst (IsCommand c.args.words.now) c.in-Bench.is c.in-Some.ensures))))))),
 )
 
 pub returns-in_default-clause-bench_ends : goal.returns-in_default-clause-bench_ends
-returns-in_default-clause-bench_ends g c name seed workers count asked = absurd (not_read c.in_default.is c.parse.ensures (inr (inr (inr (inr (name, seed, workers, count, asked))))))
+returns-in_default-clause-bench_ends g c name seed workers count asked = absurd (not_read c.in_default.is c.parse.ensures (inr (inr (inr (inr (inl (name, seed, workers, count, asked)))))))
 
 pub returns-in_default-clause-bench_refused : goal.returns-in_default-clause-bench_refused
-returns-in_default-clause-bench_refused g c name seed workers count asked = absurd (not_read c.in_default.is c.parse.ensures (inr (inr (inr (inr (name, seed, workers, count, asked))))))
+returns-in_default-clause-bench_refused g c name seed workers count asked = absurd (not_read c.in_default.is c.parse.ensures (inr (inr (inr (inr (inl (name, seed, workers, count, asked)))))))
 
 pub returns-in_default-clause-bench_complete : goal.returns-in_default-clause-bench_complete
-returns-in_default-clause-bench_complete g c name seed workers count asked t may sink device = absurd (not_read c.in_default.is c.parse.ensures (inr (inr (inr (inr (name, seed, workers, count, asked))))))
+returns-in_default-clause-bench_complete g c name seed workers count asked t may sink device = absurd (not_read c.in_default.is c.parse.ensures (inr (inr (inr (inr (inl (name, seed, workers, count, asked)))))))
 
 pub returns-in-Bench-clause-device_unfailed : goal.returns-in-Bench-clause-device_unfailed
 returns-in-Bench-clause-device_unfailed g c other bench none =
@@ -368,3 +369,45 @@ returns-in-Run-clause-list_recorded g c name slot asked t found = absurd (list_i
 
 pub returns-in-Bench-clause-list_recorded : goal.returns-in-Bench-clause-list_recorded
 returns-in-Bench-clause-list_recorded g c name slot asked t found = absurd (list_is_no_bench asked (subst (IsCommand c.args.words.now) c.in-Bench.is c.in-Some.ensures))
+
+pub returns-in-Create-clause-create_stations : goal.returns-in-Create-clause-create_stations
+returns-in-Create-clause-create_stations g c name slot slots asked = record { done = c.create_file.ensures.done; none = c.create_file.ensures.none }
+
+pub returns-in-Migrate-clause-migrate_ends : goal.returns-in-Migrate-clause-migrate_ends
+returns-in-Migrate-clause-migrate_ends g c name slot asked =
+    of_each_migrate c.args.words.now (λ n s. ReportEnds AnyCount (Some s) (g.K.Sink.faults c.args.out.now) (g.K.Sink.faults c.migrate_file.new.out) (g.V.Volume.faults c.args.volume.now) (g.V.Volume.faults c.migrate_file.new.volume) (g.V.Volume.ended c.args.volume.now) (g.V.Volume.ended c.migrate_file.new.volume) c.migrate_file.result) name slot (subst (IsCommand c.args.words.now) c.in-Migrate.is c.in-Some.ensures) asked c.migrate_file.ensures.ends
+
+pub returns-in-Migrate-clause-migrate_says : goal.returns-in-Migrate-clause-migrate_says
+returns-in-Migrate-clause-migrate_says g c name slot asked t =
+    of_each_migrate c.args.words.now (λ n s. ReportSays AnyCount (g.V.Volume.files c.args.volume.now) n (Some s) c.migrate_file.result) name slot (subst (IsCommand c.args.words.now) c.in-Migrate.is c.in-Some.ensures) asked (c.migrate_file.ensures.says t)
+
+pub returns-in-Migrate-clause-migrate_refused : goal.returns-in-Migrate-clause-migrate_refused
+returns-in-Migrate-clause-migrate_refused g c name slot asked =
+    of_each_migrate c.args.words.now (λ n s. IsRefused g.V.Volume.tells AnyCount (g.V.Volume.files c.args.volume.now) n (Some s) c.migrate_file.result) name slot (subst (IsCommand c.args.words.now) c.in-Migrate.is c.in-Some.ensures) asked c.migrate_file.ensures.refused
+
+pub returns-in-Migrate-clause-migrate_complete : goal.returns-in-Migrate-clause-migrate_complete
+returns-in-Migrate-clause-migrate_complete g c name slot asked t may none =
+    complete AnyCount (g.V.Volume.files c.args.volume.now) name (Some slot) _ _ _ _ _ _ c.migrate_file.result (returns-in-Migrate-clause-migrate_ends g c name slot asked) (returns-in-Migrate-clause-migrate_says g c name slot asked t) may none
+
+pub returns-in-Migrate-clause-migrate_prints : goal.returns-in-Migrate-clause-migrate_prints
+returns-in-Migrate-clause-migrate_prints g c name slot asked k =
+    of_each_migrate c.args.words.now (λ n s. ReportPrints (λ text. IsTrue g.V.Volume.tells → IsMigratedText (g.V.Volume.files c.args.volume.now) n s text) (g.K.Sink.taken c.args.out.now) (g.K.Sink.taken c.migrate_file.new.out) c.migrate_file.result)
+    name slot (subst (IsCommand c.args.words.now) c.in-Migrate.is c.in-Some.ensures) asked (c.migrate_file.ensures.prints k)
+
+pub returns-in-Migrate-clause-migrate_leaves : goal.returns-in-Migrate-clause-migrate_leaves
+returns-in-Migrate-clause-migrate_leaves g c name slot asked t =
+    of_each_migrate c.args.words.now (λ n s. MigrateLeaves s n (g.V.Volume.files c.args.volume.now) (g.V.Volume.files c.migrate_file.new.volume) c.migrate_file.result) name slot (subst (IsCommand c.args.words.now) c.in-Migrate.is c.in-Some.ensures) asked (c.migrate_file.ensures.leaves t)
+
+pub returns-in-Migrate-clause-migrate_marked : goal.returns-in-Migrate-clause-migrate_marked
+returns-in-Migrate-clause-migrate_marked g c name slot asked t =
+    of_each_migrate c.args.words.now (λ n s. IsMarkedFile (g.V.Volume.files c.args.volume.now) n
+    → (g.V.Volume.files c.migrate_file.new.volume ≡ g.V.Volume.files c.args.volume.now)
+    × (g.V.Volume.made c.migrate_file.new.volume ≡ g.V.Volume.made c.args.volume.now) × (g.V.Volume.ended c.migrate_file.new.volume ≡ g.V.Volume.ended c.args.volume.now)
+    × (c.migrate_file.result ≡ status.DeviceFault → Rose (g.V.Volume.faults c.args.volume.now) (g.V.Volume.faults c.migrate_file.new.volume)))
+    name slot (subst (IsCommand c.args.words.now) c.in-Migrate.is c.in-Some.ensures) asked (c.migrate_file.ensures.marked t)
+
+pub returns-in-Migrate-clause-back : goal.returns-in-Migrate-clause-back
+returns-in-Migrate-clause-back g c t = c.migrate_file.ensures.back t (c.requires.home t)
+
+pub returns-in-Migrate-clause-list_recorded : goal.returns-in-Migrate-clause-list_recorded
+returns-in-Migrate-clause-list_recorded g c name slot asked t found = absurd (list_is_no_migrate asked (subst (IsCommand c.args.words.now) c.in-Migrate.is c.in-Some.ensures))

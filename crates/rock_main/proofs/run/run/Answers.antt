@@ -48,6 +48,22 @@ returns-clause-create g c name slot slots asked =
         λ told. said.create_says name slot slots asked told,
         said.create_refused name slot slots asked,
         said.create_leaves name slot slots asked,
+        said.create_stations name slot slots asked,
+      );
+    }
+
+pub returns-clause-migrate : goal.returns-clause-migrate
+returns-clause-migrate g c name slot asked =
+    let said = c.rock-status.ensures in
+    record {
+      status = c.rock-status.result;
+      is = c.end.ensures;
+      causes = (
+        said.migrate_ends name slot asked,
+        λ told. said.migrate_says name slot asked told,
+        said.migrate_refused name slot asked,
+        λ told. said.migrate_prints name slot asked told,
+        λ told. said.migrate_leaves name slot asked told,
       );
     }
 

@@ -15,7 +15,7 @@ returns-in_err-count-in-len4 c =
     c.as_slice.ensures long c.command-item-then-this-lt5.is c.name-item-then-this-lt5.is c.slot-item-then-this-lt5.is c.count-item.is
     refl refl refl (sym c.as_str-in-len4.ensures.value)
     in
-    subst (λ r. MatchOption r (IsCommandLine c.args.words.now → ⊥) (IsCommand c.args.words.now)) (sym c.from_residual-in_err-count-in-len4.ensures)
+    subst (λ r. MatchOption r (IsCommandLine c.args.words.now → ⊥) (IsCommand c.args.words.now)) (sym c.from_residual.ensures)
     (no_number c.args.words.now _ _ _ _ are (λ count small other. none_is_none refl (c.in_err-count-in-len4.ensures.none count small other)))
 
 pub returns-in_ok-count-in-len4 : goal.returns-in_ok-count-in-len4
@@ -58,15 +58,11 @@ returns-in_ok-third-in-len5 c =
     in
     subst (λ words. MatchOption c.of_five.result (IsCommandLine words → ⊥) (IsCommand words)) (sym are) c.of_five.ensures
 
-pub returns-in_ok-parse-in-len3 : goal.returns-in_ok-parse-in-len3
-returns-in_ok-parse-in-len3 c =
+pub returns-in-len3 : goal.returns-in-len3
+returns-in-len3 c =
     let long : length c.as_slice.result.now ≡ 3 = omega (arith, c.in-len3.len_at_least, c.in-len3.len_below) in
-    let told = c.in_ok-parse-in-len3.ensures.some in
-    record {
-      words_are =
-          three_words string_bytes c.as_slice.result.now c.command-item.result c.name-item.result c.slot-item.result c.args.words.now _ _ _
-          c.as_slice.ensures long c.command-item.is c.name-item.is c.slot-item.is
-          (sym c.as_str.ensures.value ∙ found_equal _ _ c.if-eq.ensures) (sym c.as_str-in-len3.ensures.value ∙ sym told.1) (sym c.as_str-in-len3-2.ensures.value ∙ told.2);
-      named = subst IsName (sym told.1) told.0;
-      fits = told.3;
-    }
+    let are = three_words string_bytes c.as_slice.result.now c.command-item.result c.name-item.result c.slot-item.result c.args.words.now _ _ _
+    c.as_slice.ensures long c.command-item.is c.name-item.is c.slot-item.is
+    (sym c.as_str.ensures.value) (sym c.as_str-in-len3.ensures.value) (sym c.as_str-in-len3-2.ensures.value)
+    in
+    subst (λ words. MatchOption c.of_three.result (IsCommandLine words → ⊥) (IsCommand words)) (sym are) c.of_three.ensures
