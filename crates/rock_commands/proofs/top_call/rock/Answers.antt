@@ -411,3 +411,18 @@ returns-in-Migrate-clause-back g c t = c.migrate_file.ensures.back t (c.requires
 
 pub returns-in-Migrate-clause-list_recorded : goal.returns-in-Migrate-clause-list_recorded
 returns-in-Migrate-clause-list_recorded g c name slot asked t found = absurd (list_is_no_migrate asked (subst (IsCommand c.args.words.now) c.in-Migrate.is c.in-Some.ensures))
+
+pub returns-in_default-clause-migrate_ends : goal.returns-in_default-clause-migrate_ends
+returns-in_default-clause-migrate_ends g c name slot asked = absurd (not_read c.in_default.is c.parse.ensures (inr (inr (inr (inr (inr (name, slot, asked)))))))
+
+pub returns-in_default-clause-migrate_refused : goal.returns-in_default-clause-migrate_refused
+returns-in_default-clause-migrate_refused g c name slot asked = absurd (not_read c.in_default.is c.parse.ensures (inr (inr (inr (inr (inr (name, slot, asked)))))))
+
+pub returns-in_default-clause-migrate_complete : goal.returns-in_default-clause-migrate_complete
+returns-in_default-clause-migrate_complete g c name slot asked t may none = absurd (not_read c.in_default.is c.parse.ensures (inr (inr (inr (inr (inr (name, slot, asked)))))))
+
+pub returns-in-Migrate-clause-usage : goal.returns-in-Migrate-clause-usage
+returns-in-Migrate-clause-usage g c = (
+  λ is. absurd (subst (ReportEnds AnyCount (Some c.in-Migrate.target.slot) (g.K.Sink.faults c.args.out.now) (g.K.Sink.faults c.migrate_file.new.out) (g.V.Volume.faults c.args.volume.now) (g.V.Volume.faults c.migrate_file.new.volume) (g.V.Volume.ended c.args.volume.now) (g.V.Volume.ended c.migrate_file.new.volume)) is c.migrate_file.ensures.ends),
+  λ none. absurd (none (inr (inr (inr (inr (inr (c.in-Migrate.target.name.now, c.in-Migrate.target.slot, subst (IsCommand c.args.words.now) c.in-Migrate.is c.in-Some.ensures))))))),
+)
