@@ -50,15 +50,16 @@ migrate db 512
 check db - 4
 > slots=4 kept=0 used=0 free=4 version=0
 
-# A wrong size is recorded as it stands.
+# A wrong size is recorded as it stands. The entry of the second slot is then not found; that of the first one fits its front.
 volume
 entry 7 http://a/b hello
-entry 8 http://a/b hello
+entry 8 http://a/c hello
 
 migrate db 1024
 > MIGRATED slots=1
 
 list db -
+> ENTRY 0 7 1 5 http://a/b
 
 list db 512
 = BadGeometry { field: 5 } 8
