@@ -6,6 +6,7 @@ mod cutting;
 mod entries;
 mod faults;
 mod found;
+mod headers;
 mod listing;
 mod migrating;
 mod recorded;

@@ -13,6 +13,7 @@ mod paragraphs;
 mod pipes;
 mod stage;
 mod texts;
+mod watched;
 
 pub use act::Act;
 pub use command::{Ended, words_of};
@@ -23,3 +24,4 @@ pub use paragraphs::with_number;
 pub use pipes::Pipes;
 pub use stage::{Command, Crashes, Stage, Task};
 pub use texts::push_text;
+pub use watched::Watched;
