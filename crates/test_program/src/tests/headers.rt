@@ -84,22 +84,15 @@ fn plays_row<R: Abort + Threads + Wait + Sync>(
 ) -> Result<(), Fail> {
     let pipes = Pipes::new(alloc);
     let mut volume = volume_of(alloc, row.failed)?;
-    let made = call(rt, alloc, &mut volume, &pipes, row.line, b"")?;
-    assert_eq!(rt;
-        made.status_text(alloc)?.as_str(),
-        row.status,
-        "{}",
-        row.line
-    );
-    assert_eq!(rt; volume.possible(), row.possible, "{}", row.line);
+    let line = row.line;
+    let made = call(rt, alloc, &mut volume, &pipes, line, b"")?;
+    let status = made.status_text(alloc)?;
+    assert_eq!(rt; status.as_str(), row.status, "{line}");
+    assert_eq!(rt; volume.possible(), row.possible, "{line}");
     // The entry is whole, whatever the header area is.
     let listed = call(rt, alloc, &mut volume, &pipes, "list db 512", b"")?;
-    assert_eq!(rt;
-        std::str::from_utf8(&listed.printed),
-        Ok("ENTRY 0 7 1 5 http://a/b\n"),
-        "{}",
-        row.line
-    );
+    let is_listed = listed.printed.as_slice() == b"ENTRY 0 7 1 5 http://a/b\n".as_slice();
+    assert!(rt; is_listed, "{line}");
     Ok(())
 }
 
