@@ -65,11 +65,11 @@ offers() {
     printf '%s' "$wanted" | sort | cmp -s - offered
     judge $? "bash behind '${*:1:$#-1}' with '${!#}': $(tr '\n' '|' <offered)"
 }
-offers $'create\nlist\ncheck\nrun\nbench\n--help\n--version\n' rock ''
+offers $'create\nlist\ncheck\nmigrate\nrun\nbench\n--help\n--version\n' rock ''
 offers $'create\ncheck\n' rock c
 offers $'--help\n--version\n' rock --
 offers '' rock x
-for command in create list check run bench; do
+for command in create list check migrate run bench; do
     offers $'files\n' rock $command d
     offers '' rock $command db d
 done
@@ -90,9 +90,9 @@ tells() {
     judge $? "zsh behind '${*:1:$#-1}': $(tr '\n' '|' <told)"
 }
 if command -v zsh >/dev/null; then
-    tells $'create\nlist\ncheck\nrun\nbench\n--help\n--version' rock ''
-    for command in create list check run bench; do tells files rock $command ''; done
-    tells 'SLOT: The bytes of a slot: a multiple of 512 from 512 to 32768' rock list db ''
+    tells $'create\nlist\ncheck\nrun\nbench\nmigrate\n--help\n--version' rock ''
+    for command in create list check migrate run bench; do tells files rock $command ''; done
+    tells "SLOT: A slot's bytes: a multiple of 512 from 512 to 32768, - if recorded" rock list db ''
     tells 'SLOTS: The slots of a new file, from 1 to 1048576' rock create db 512 ''
     tells 'ANCHORS: The anchors of a store, from 1 to the slots of the file' rock run db 512 ''
     tells 'WORKERS: The workers of the script, each with a thread, from 1 to 32' rock run db 512 4 ''

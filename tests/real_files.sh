@@ -583,6 +583,7 @@ holds 'the greatest file asks for more than 64 MiB' $?
 rm great
 
 # Too many open files: a run has its file open once, and once for each worker.
+rm -f new && row 0 '' '' create new 512 4096
 (
     failed=0
     ulimit -n 20
@@ -861,13 +862,15 @@ mv new twin
 benched "$counts" 7 1 30
 cmp -s new twin
 holds 'one worker leaves the same file twice' $?
+# The file of a benchmark that stored nothing: it records 64 slots of 512 bytes, and they are zeros.
+empty_bench() { printf 'RockSMP2\0\2\0\0\100\0\0\0' && head -c 49136 /dev/zero; }
 benched "$nothing" 7 1 0
-head -c 49152 /dev/zero | cmp -s - new
-holds 'a benchmark of no round leaves a file of zeros' $?
+empty_bench | cmp -s - new
+holds 'a benchmark of no round leaves a file whose slots are zeros' $?
 benched "$nothing" 0 32 0
 benched 'requests=1 hits=0 misses=1 stored=0 purged=0 none=0 other=0 bytes=0' 0 1 1
-head -c 49152 /dev/zero | cmp -s - new
-holds 'a benchmark that stores nothing leaves a file of zeros' $?
+empty_bench | cmp -s - new
+holds 'a benchmark that stores nothing leaves a file whose slots are zeros' $?
 benched 'requests=120 hits=7 misses=48 stored=51 purged=2 none=12 other=0 bytes=2740' 18446744073709551615 3 40
 for _ in 1 2; do
     benched 'requests=2000 hits=215 misses=759 stored=795 purged=46 none=185 other=0 bytes=137231' 7 4 500
@@ -1005,7 +1008,7 @@ as=()
 chmod 755 locked
 
 # A disk that has no room for a slot is an answer that is counted, as a run has it, and no status.
-if mount -t tmpfs -o size=8k tmpfs full 2>/dev/null; then
+if mount -t tmpfs -o size=24k tmpfs full 2>/dev/null; then
     bench_script 7 200 >script
     row 0 '' '' create full/db 512 64
     ./rock run full/db 512 16 1 <script 2>said >answers
@@ -1041,7 +1044,7 @@ holds 'a benchmark whose file is longer than the limit of the process is a fault
 holds 'a benchmark whose file is longer than the limit is ended by the signal where that is not ignored' $?
 (
     ulimit -v 16384
-    ./rock bench short 7 32 10000 2>said >printed
+    ./rock bench starved 7 32 10000 2>said >printed
     [ $? -eq 3 ] && [ ! -s printed ] && [ "$(cat said)" = 'rock: Memory: memory ran out; free some and try again' ]
 )
 holds 'a benchmark that finds too little memory says so and prints nothing' $?
