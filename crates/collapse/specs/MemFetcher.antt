@@ -4,9 +4,9 @@ use Rattle.rock_io.specs.Plan.{schedule_of}
 use Rattle.rock_io.specs.Plan as plan
 use Rattle.collapse.specs.declared.mem_fetcher.MemFetcher.{MemFetcher}
 
--- the body that it has, whatever the offer
-abbrev pub body_of : MemFetcher → ℕ → List ℕ
-body_of fetcher offer = fetcher.bytes.items
+-- the body that it has, whatever the URL and the offer
+abbrev pub body_of : MemFetcher → (url : List ℕ) → (offer : ℕ) → List ℕ
+body_of fetcher url offer = fetcher.bytes.items
 
 -- how many fetches were started
 abbrev pub starts_of : MemFetcher → ℕ

@@ -5,8 +5,8 @@ use rock_io::Failed;
 
 /// Fetches responses from their origin, one at a time.
 pub trait Fetcher {
-    /// The body that it has for each offer. No call changes it.
-    ghost body: { Self → ℕ → List ℕ };
+    /// The body that it has for each URL and offer. No call changes it.
+    ghost body: { Self → List ℕ → ℕ → List ℕ };
 
     /// How many fetches were started.
     ghost starts: { Self → ℕ };
@@ -21,7 +21,7 @@ pub trait Fetcher {
     fn start(&mut self, url: &[u8], offer: u64) -> Result<(), Failed>
         ensures body { body self.new ≡ body self.old }
         ensures started { OnOk result (starts self.new ≡ starts self.old + 1) }
-        ensures left { OnOk result (left self.new ≡ body self.old offer) }
+        ensures left { OnOk result (left self.new ≡ body self.old url.now offer) }
         ensures unstarted { OnErr result (starts self.new ≡ starts self.old) }
         ensures faults { faults self.old ≤ faults self.new }
         ensures unfailed { OnOk result (faults self.new ≡ faults self.old) }

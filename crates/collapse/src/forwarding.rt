@@ -40,17 +40,17 @@ pub fn forward<R: Wait, C: Cell, O: Origin, St: Station<C = C>, F: Fetcher, K: S
     buf: &mut [u8],
     out: &mut K,
 ) -> Forwarded
-    requires { MayForward C.tells C.state O.offers store.now TAB offer url.now pass.old (F.body fetcher.old offer) (length buf.old) }
-    ensures hit { IfHit result (λ version. Hits C.tells C.state O.offers store.now TAB offer url.now MOST_LOOKS pass.old pass.new (F.body fetcher.old offer) K.tells (K.taken out.old) (K.taken out.new) (F.starts fetcher.old) (F.starts fetcher.new) version) }
-    ensures fetched { IfFetched result (λ version. Fetches C.tells C.state O.offers store.now TAB offer url.now MOST_LOOKS pass.old pass.new (F.body fetcher.old offer) K.tells (K.taken out.old) (K.taken out.new) (F.starts fetcher.old) (F.starts fetcher.new) version) }
-    ensures direct { IfDirect result (λ why. FetchesPast C.tells C.state O.offers store.now TAB offer url.now MOST_LOOKS pass.old pass.new (F.body fetcher.old offer) K.tells (K.taken out.old) (K.taken out.new) (F.starts fetcher.old) (F.starts fetcher.new) why) }
-    ensures halted { IfHalted result (FindsHalted C.tells C.state O.offers store.now TAB offer url.now MOST_LOOKS pass.old pass.new (F.body fetcher.old offer) K.tells (K.taken out.old) (K.taken out.new) (F.starts fetcher.old) (F.starts fetcher.new)) }
-    ensures fault { IfFault result (FailsToRead C.tells C.state O.offers store.now TAB offer url.now MOST_LOOKS pass.old pass.new (F.body fetcher.old offer) K.tells (K.taken out.old) (K.taken out.new) (F.starts fetcher.old) (F.starts fetcher.new)) }
-    ensures waited { IfWaited result (λ looks. Waits C.tells C.state O.offers store.now TAB offer url.now MOST_LOOKS pass.old pass.new (F.body fetcher.old offer) K.tells (K.taken out.old) (K.taken out.new) (F.starts fetcher.old) (F.starts fetcher.new) looks) }
-    ensures fetch_fault { IfFetchFault result (FailsToFetch C.tells C.state O.offers store.now TAB offer url.now MOST_LOOKS pass.old pass.new (F.body fetcher.old offer) K.tells (K.taken out.old) (K.taken out.new) (F.starts fetcher.old) (F.starts fetcher.new)) }
-    ensures sink_fault { IfSinkFault result (FailsToSend C.tells C.state O.offers store.now TAB offer url.now MOST_LOOKS pass.old pass.new (F.body fetcher.old offer) K.tells (K.taken out.old) (K.taken out.new) (F.starts fetcher.old) (F.starts fetcher.new)) }
+    requires { MayForward C.tells C.state O.offers store.now TAB offer url.now pass.old (F.body fetcher.old url.now offer) (length buf.old) }
+    ensures hit { IfHit result (λ version. Hits C.tells C.state O.offers store.now TAB offer url.now MOST_LOOKS pass.old pass.new (F.body fetcher.old url.now offer) K.tells (K.taken out.old) (K.taken out.new) (F.starts fetcher.old) (F.starts fetcher.new) version) }
+    ensures fetched { IfFetched result (λ version. Fetches C.tells C.state O.offers store.now TAB offer url.now MOST_LOOKS pass.old pass.new (F.body fetcher.old url.now offer) K.tells (K.taken out.old) (K.taken out.new) (F.starts fetcher.old) (F.starts fetcher.new) version) }
+    ensures direct { IfDirect result (λ why. FetchesPast C.tells C.state O.offers store.now TAB offer url.now MOST_LOOKS pass.old pass.new (F.body fetcher.old url.now offer) K.tells (K.taken out.old) (K.taken out.new) (F.starts fetcher.old) (F.starts fetcher.new) why) }
+    ensures halted { IfHalted result (FindsHalted C.tells C.state O.offers store.now TAB offer url.now MOST_LOOKS pass.old pass.new (F.body fetcher.old url.now offer) K.tells (K.taken out.old) (K.taken out.new) (F.starts fetcher.old) (F.starts fetcher.new)) }
+    ensures fault { IfFault result (FailsToRead C.tells C.state O.offers store.now TAB offer url.now MOST_LOOKS pass.old pass.new (F.body fetcher.old url.now offer) K.tells (K.taken out.old) (K.taken out.new) (F.starts fetcher.old) (F.starts fetcher.new)) }
+    ensures waited { IfWaited result (λ looks. Waits C.tells C.state O.offers store.now TAB offer url.now MOST_LOOKS pass.old pass.new (F.body fetcher.old url.now offer) K.tells (K.taken out.old) (K.taken out.new) (F.starts fetcher.old) (F.starts fetcher.new) looks) }
+    ensures fetch_fault { IfFetchFault result (FailsToFetch C.tells C.state O.offers store.now TAB offer url.now MOST_LOOKS pass.old pass.new (F.body fetcher.old url.now offer) K.tells (K.taken out.old) (K.taken out.new) (F.starts fetcher.old) (F.starts fetcher.new)) }
+    ensures sink_fault { IfSinkFault result (FailsToSend C.tells C.state O.offers store.now TAB offer url.now MOST_LOOKS pass.old pass.new (F.body fetcher.old url.now offer) K.tells (K.taken out.old) (K.taken out.new) (F.starts fetcher.old) (F.starts fetcher.new)) }
     ensures stored { IsTrue C.tells → IsTrue K.tells → HoldsFile (basis C.tells C.state O.offers store.now)
-        → SentStored (basis C.tells C.state O.offers store.now) (anchor_for (basis C.tells C.state O.offers store.now) url.now) url.now (F.body fetcher.old offer) (K.taken out.old) (K.taken out.new) result }
+        → SentStored (basis C.tells C.state O.offers store.now) (anchor_for (basis C.tells C.state O.offers store.now) url.now) url.now (F.body fetcher.old url.now offer) (K.taken out.old) (K.taken out.new) result }
     ensures free { tab_at (view pass.new) TAB ≡ Free }
     ensures inner { InnerIsFree (view pass.new) }
     ensures others { FollowsForward C.tells C.state O.offers store.now TAB pass.old pass.new }
@@ -76,17 +76,17 @@ pub fn forward_within<R: Wait, C: Cell, O: Origin, St: Station<C = C>, F: Fetche
     buf: &mut [u8],
     out: &mut K,
 ) -> Forwarded
-    requires { MayForward C.tells C.state O.offers store.now TAB offer url.now pass.old (F.body fetcher.old offer) (length buf.old) }
-    ensures hit { IfHit result (λ version. Hits C.tells C.state O.offers store.now TAB offer url.now most pass.old pass.new (F.body fetcher.old offer) K.tells (K.taken out.old) (K.taken out.new) (F.starts fetcher.old) (F.starts fetcher.new) version) }
-    ensures fetched { IfFetched result (λ version. Fetches C.tells C.state O.offers store.now TAB offer url.now most pass.old pass.new (F.body fetcher.old offer) K.tells (K.taken out.old) (K.taken out.new) (F.starts fetcher.old) (F.starts fetcher.new) version) }
-    ensures direct { IfDirect result (λ why. FetchesPast C.tells C.state O.offers store.now TAB offer url.now most pass.old pass.new (F.body fetcher.old offer) K.tells (K.taken out.old) (K.taken out.new) (F.starts fetcher.old) (F.starts fetcher.new) why) }
-    ensures halted { IfHalted result (FindsHalted C.tells C.state O.offers store.now TAB offer url.now most pass.old pass.new (F.body fetcher.old offer) K.tells (K.taken out.old) (K.taken out.new) (F.starts fetcher.old) (F.starts fetcher.new)) }
-    ensures fault { IfFault result (FailsToRead C.tells C.state O.offers store.now TAB offer url.now most pass.old pass.new (F.body fetcher.old offer) K.tells (K.taken out.old) (K.taken out.new) (F.starts fetcher.old) (F.starts fetcher.new)) }
-    ensures waited { IfWaited result (λ looks. Waits C.tells C.state O.offers store.now TAB offer url.now most pass.old pass.new (F.body fetcher.old offer) K.tells (K.taken out.old) (K.taken out.new) (F.starts fetcher.old) (F.starts fetcher.new) looks) }
-    ensures fetch_fault { IfFetchFault result (FailsToFetch C.tells C.state O.offers store.now TAB offer url.now most pass.old pass.new (F.body fetcher.old offer) K.tells (K.taken out.old) (K.taken out.new) (F.starts fetcher.old) (F.starts fetcher.new)) }
-    ensures sink_fault { IfSinkFault result (FailsToSend C.tells C.state O.offers store.now TAB offer url.now most pass.old pass.new (F.body fetcher.old offer) K.tells (K.taken out.old) (K.taken out.new) (F.starts fetcher.old) (F.starts fetcher.new)) }
+    requires { MayForward C.tells C.state O.offers store.now TAB offer url.now pass.old (F.body fetcher.old url.now offer) (length buf.old) }
+    ensures hit { IfHit result (λ version. Hits C.tells C.state O.offers store.now TAB offer url.now most pass.old pass.new (F.body fetcher.old url.now offer) K.tells (K.taken out.old) (K.taken out.new) (F.starts fetcher.old) (F.starts fetcher.new) version) }
+    ensures fetched { IfFetched result (λ version. Fetches C.tells C.state O.offers store.now TAB offer url.now most pass.old pass.new (F.body fetcher.old url.now offer) K.tells (K.taken out.old) (K.taken out.new) (F.starts fetcher.old) (F.starts fetcher.new) version) }
+    ensures direct { IfDirect result (λ why. FetchesPast C.tells C.state O.offers store.now TAB offer url.now most pass.old pass.new (F.body fetcher.old url.now offer) K.tells (K.taken out.old) (K.taken out.new) (F.starts fetcher.old) (F.starts fetcher.new) why) }
+    ensures halted { IfHalted result (FindsHalted C.tells C.state O.offers store.now TAB offer url.now most pass.old pass.new (F.body fetcher.old url.now offer) K.tells (K.taken out.old) (K.taken out.new) (F.starts fetcher.old) (F.starts fetcher.new)) }
+    ensures fault { IfFault result (FailsToRead C.tells C.state O.offers store.now TAB offer url.now most pass.old pass.new (F.body fetcher.old url.now offer) K.tells (K.taken out.old) (K.taken out.new) (F.starts fetcher.old) (F.starts fetcher.new)) }
+    ensures waited { IfWaited result (λ looks. Waits C.tells C.state O.offers store.now TAB offer url.now most pass.old pass.new (F.body fetcher.old url.now offer) K.tells (K.taken out.old) (K.taken out.new) (F.starts fetcher.old) (F.starts fetcher.new) looks) }
+    ensures fetch_fault { IfFetchFault result (FailsToFetch C.tells C.state O.offers store.now TAB offer url.now most pass.old pass.new (F.body fetcher.old url.now offer) K.tells (K.taken out.old) (K.taken out.new) (F.starts fetcher.old) (F.starts fetcher.new)) }
+    ensures sink_fault { IfSinkFault result (FailsToSend C.tells C.state O.offers store.now TAB offer url.now most pass.old pass.new (F.body fetcher.old url.now offer) K.tells (K.taken out.old) (K.taken out.new) (F.starts fetcher.old) (F.starts fetcher.new)) }
     ensures stored { IsTrue C.tells → IsTrue K.tells → HoldsFile (basis C.tells C.state O.offers store.now)
-        → SentStored (basis C.tells C.state O.offers store.now) (anchor_for (basis C.tells C.state O.offers store.now) url.now) url.now (F.body fetcher.old offer) (K.taken out.old) (K.taken out.new) result }
+        → SentStored (basis C.tells C.state O.offers store.now) (anchor_for (basis C.tells C.state O.offers store.now) url.now) url.now (F.body fetcher.old url.now offer) (K.taken out.old) (K.taken out.new) result }
     ensures free { tab_at (view pass.new) TAB ≡ Free }
     ensures inner { InnerIsFree (view pass.new) }
     ensures others { FollowsForward C.tells C.state O.offers store.now TAB pass.old pass.new }

@@ -4,7 +4,7 @@ ghost use Rattle.rock_io.specs.Faults.{CountsFault, Rose, one_more};
 use crate::Fetcher;
 use rock_io::{Failed, Plan};
 
-/// Fetches one body from memory, whatever the offer, in pieces of a length that is set, and fails at the calls
+/// Fetches one body from memory, whatever the URL and the offer, in pieces of a length that is set, and fails at the calls
 /// that are listed. It is for trying code out on fetchers that fail.
 #[derive(Debug, Drop)]
 pub struct MemFetcher {
@@ -19,13 +19,13 @@ pub struct MemFetcher {
 
 impl MemFetcher {
     ghost use Rattle.collapse.specs.MemFetcher.{body_of, calls_of, faults_of, left_of, listed_calls_of, most_of, starts_of};
-    ghost use Rattle.std.specs.Prelude.{ℕ};
+    ghost use Rattle.std.specs.Prelude.{List, ℕ};
 
     /// A fetcher whose body is `bytes`, of which it gives at most `most` in a call. The calls of both kinds are
     /// numbered together from 0, and those in `fail` fail.
     pub fn new(bytes: Vec<u8>, most: usize, fail: Vec<u64>) -> Self
         requires { 1 ≤ most }
-        ensures body { (offer : ℕ) → body_of result offer ≡ bytes.items }
+        ensures body { (url : List ℕ) (offer : ℕ) → body_of result url offer ≡ bytes.items }
         ensures most { most_of result ≡ most }
         ensures fail { listed_calls_of result ≡ fail.items }
         ensures starts { starts_of result ≡ 0 }
@@ -68,7 +68,7 @@ impl Fetcher for MemFetcher {
         // What each fetcher ensures.
         ensures body { body_of self.new ≡ body_of self.old }
         ensures started { OnOk result (starts_of self.new ≡ starts_of self.old + 1) }
-        ensures left { OnOk result (left_of self.new ≡ body_of self.old _offer) }
+        ensures left { OnOk result (left_of self.new ≡ body_of self.old _url.now _offer) }
         ensures unstarted { OnErr result (starts_of self.new ≡ starts_of self.old) }
         ensures faults { faults_of self.old ≤ faults_of self.new }
         ensures failed { OnErr result (Rose (faults_of self.old) (faults_of self.new)) }

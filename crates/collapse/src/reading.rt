@@ -44,7 +44,7 @@ pub(crate) fn read_entry<R: Wait, C: Cell, O: Origin, St: Station<C = C>, F: Fet
     requires fewer { looks < most }
     ensures forwards { (p : PassOf C) (rounds : List (PassOf C)) → Opened C.tells C.state O.offers store.now tab offer url.now p rounds pass.old version
         → length rounds ≡ looks
-        → Forwards C.tells C.state O.offers store.now tab offer url.now most p pass.new (F.body fetcher.old offer) K.tells (K.taken out.old) (K.taken out.new) (F.starts fetcher.old) (F.starts fetcher.new) result }
+        → Forwards C.tells C.state O.offers store.now tab offer url.now most p pass.new (F.body fetcher.old url.now offer) K.tells (K.taken out.old) (K.taken out.new) (F.starts fetcher.old) (F.starts fetcher.new) result }
     ensures free { tab_at (view pass.new) tab ≡ Free }
     ensures inner { InnerIsFree (view pass.new) }
     ensures others { FollowsReader C.tells C.state O.offers store.now tab pass.old pass.new }

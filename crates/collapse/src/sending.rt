@@ -34,9 +34,9 @@ pub(crate) fn fetch_past<C: Cell, O: Origin, F: Fetcher, K: Sink>(
 ) -> Forwarded
     requires { 0 < length buf.old }
     ensures forwards { (s : Store C O) (t : ℕ) (p q : Pass C) (most : ℕ) (old : List ℕ)
-        → GoesDirect C.tells C.state O.offers s t offer url.now most p q (length (F.body fetcher.old offer)) why
+        → GoesDirect C.tells C.state O.offers s t offer url.now most p q (length (F.body fetcher.old url.now offer)) why
         → Sends K.tells old (K.taken out.old) []
-        → Forwards C.tells C.state O.offers s t offer url.now most p q (F.body fetcher.old offer) K.tells old (K.taken out.new) (F.starts fetcher.old) (F.starts fetcher.new) result }
+        → Forwards C.tells C.state O.offers s t offer url.now most p q (F.body fetcher.old url.now offer) K.tells old (K.taken out.new) (F.starts fetcher.old) (F.starts fetcher.new) result }
     ensures past { ComesPast why result }
     ensures fetch { FetcherAt result (F.faults fetcher.old) (F.faults fetcher.new) }
     ensures sink { SinkAt result (K.faults out.old) (K.faults out.new) }

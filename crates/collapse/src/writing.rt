@@ -112,10 +112,10 @@ pub(crate) fn write_entry<C: Cell, O: Origin, St: Station<C = C>, F: Fetcher, K:
     out: &mut K,
 ) -> Forwarded
     requires writes { WritesAs C.tells C.state O.offers store.now pass.old tab (fresh C.tells C.state O.offers store.now tab offer url.now version) }
-    requires body { (basis C.tells C.state O.offers store.now).offers.body (offer - (basis C.tells C.state O.offers store.now).setting.slots) ≡ F.body fetcher.old offer }
+    requires body { (basis C.tells C.state O.offers store.now).offers.body (offer - (basis C.tells C.state O.offers store.now).setting.slots) ≡ F.body fetcher.old url.now offer }
     requires some { 0 < length buf.old }
     ensures forwards { (p : PassOf C) (most : ℕ) → Begins C.tells C.state O.offers store.now tab offer url.now most p pass.old version
-        → Forwards C.tells C.state O.offers store.now tab offer url.now most p pass.new (F.body fetcher.old offer) K.tells (K.taken out.old) (K.taken out.new) (F.starts fetcher.old) (F.starts fetcher.new) result }
+        → Forwards C.tells C.state O.offers store.now tab offer url.now most p pass.new (F.body fetcher.old url.now offer) K.tells (K.taken out.old) (K.taken out.new) (F.starts fetcher.old) (F.starts fetcher.new) result }
     ensures free { tab_at (view pass.new) tab ≡ Free }
     ensures inner { InnerIsFree (view pass.new) }
     ensures others { FollowsWriting C.tells C.state O.offers store.now tab pass.old pass.new }

@@ -55,31 +55,31 @@ pub returns-in-InVain-clause-others : goal.returns-in-InVain-clause-others
 returns-in-InVain-clause-others g c = c.in-InVain.ensures.others
 
 pub returns-in-Open-clause-hit : goal.returns-in-Open-clause-hit
-returns-in-Open-clause-hit g c = hit g.C.Cell.tells g.C.Cell.state g.O.Origin.offers c.args.store.now 7 c.args.offer c.args.url.now c.args.pass.now c.read_entry.new.pass (g.F.Fetcher.body c.args.fetcher.now c.args.offer) g.K.Sink.tells (g.K.Sink.taken c.args.out.now) (g.K.Sink.taken c.read_entry.new.out) (g.F.Fetcher.starts c.args.fetcher.now) (g.F.Fetcher.starts c.read_entry.new.fetcher) c.args.most c.read_entry.result (let a = c.in-Open.ensures.asked.0 in c.read_entry.ensures.forwards c.args.pass.now a.rounds record { middle = a.middle; in_vain = a.in_vain; last = a.last } a.many)
+returns-in-Open-clause-hit g c = hit g.C.Cell.tells g.C.Cell.state g.O.Origin.offers c.args.store.now 7 c.args.offer c.args.url.now c.args.pass.now c.read_entry.new.pass (g.F.Fetcher.body c.args.fetcher.now c.args.url.now c.args.offer) g.K.Sink.tells (g.K.Sink.taken c.args.out.now) (g.K.Sink.taken c.read_entry.new.out) (g.F.Fetcher.starts c.args.fetcher.now) (g.F.Fetcher.starts c.read_entry.new.fetcher) c.args.most c.read_entry.result (let a = c.in-Open.ensures.asked.0 in c.read_entry.ensures.forwards c.args.pass.now a.rounds record { middle = a.middle; in_vain = a.in_vain; last = a.last } a.many)
 
 pub returns-in-Open-clause-fetched : goal.returns-in-Open-clause-fetched
-returns-in-Open-clause-fetched g c = fetched g.C.Cell.tells g.C.Cell.state g.O.Origin.offers c.args.store.now 7 c.args.offer c.args.url.now c.args.pass.now c.read_entry.new.pass (g.F.Fetcher.body c.args.fetcher.now c.args.offer) g.K.Sink.tells (g.K.Sink.taken c.args.out.now) (g.K.Sink.taken c.read_entry.new.out) (g.F.Fetcher.starts c.args.fetcher.now) (g.F.Fetcher.starts c.read_entry.new.fetcher) c.args.most c.read_entry.result (let a = c.in-Open.ensures.asked.0 in c.read_entry.ensures.forwards c.args.pass.now a.rounds record { middle = a.middle; in_vain = a.in_vain; last = a.last } a.many)
+returns-in-Open-clause-fetched g c = fetched g.C.Cell.tells g.C.Cell.state g.O.Origin.offers c.args.store.now 7 c.args.offer c.args.url.now c.args.pass.now c.read_entry.new.pass (g.F.Fetcher.body c.args.fetcher.now c.args.url.now c.args.offer) g.K.Sink.tells (g.K.Sink.taken c.args.out.now) (g.K.Sink.taken c.read_entry.new.out) (g.F.Fetcher.starts c.args.fetcher.now) (g.F.Fetcher.starts c.read_entry.new.fetcher) c.args.most c.read_entry.result (let a = c.in-Open.ensures.asked.0 in c.read_entry.ensures.forwards c.args.pass.now a.rounds record { middle = a.middle; in_vain = a.in_vain; last = a.last } a.many)
 
 pub returns-in-Open-clause-direct : goal.returns-in-Open-clause-direct
-returns-in-Open-clause-direct g c = direct g.C.Cell.tells g.C.Cell.state g.O.Origin.offers c.args.store.now 7 c.args.offer c.args.url.now c.args.pass.now c.read_entry.new.pass (g.F.Fetcher.body c.args.fetcher.now c.args.offer) g.K.Sink.tells (g.K.Sink.taken c.args.out.now) (g.K.Sink.taken c.read_entry.new.out) (g.F.Fetcher.starts c.args.fetcher.now) (g.F.Fetcher.starts c.read_entry.new.fetcher) c.args.most c.read_entry.result (let a = c.in-Open.ensures.asked.0 in c.read_entry.ensures.forwards c.args.pass.now a.rounds record { middle = a.middle; in_vain = a.in_vain; last = a.last } a.many)
+returns-in-Open-clause-direct g c = direct g.C.Cell.tells g.C.Cell.state g.O.Origin.offers c.args.store.now 7 c.args.offer c.args.url.now c.args.pass.now c.read_entry.new.pass (g.F.Fetcher.body c.args.fetcher.now c.args.url.now c.args.offer) g.K.Sink.tells (g.K.Sink.taken c.args.out.now) (g.K.Sink.taken c.read_entry.new.out) (g.F.Fetcher.starts c.args.fetcher.now) (g.F.Fetcher.starts c.read_entry.new.fetcher) c.args.most c.read_entry.result (let a = c.in-Open.ensures.asked.0 in c.read_entry.ensures.forwards c.args.pass.now a.rounds record { middle = a.middle; in_vain = a.in_vain; last = a.last } a.many)
 
 pub returns-in-Open-clause-halted : goal.returns-in-Open-clause-halted
-returns-in-Open-clause-halted g c = halted g.C.Cell.tells g.C.Cell.state g.O.Origin.offers c.args.store.now 7 c.args.offer c.args.url.now c.args.pass.now c.read_entry.new.pass (g.F.Fetcher.body c.args.fetcher.now c.args.offer) g.K.Sink.tells (g.K.Sink.taken c.args.out.now) (g.K.Sink.taken c.read_entry.new.out) (g.F.Fetcher.starts c.args.fetcher.now) (g.F.Fetcher.starts c.read_entry.new.fetcher) c.args.most c.read_entry.result (let a = c.in-Open.ensures.asked.0 in c.read_entry.ensures.forwards c.args.pass.now a.rounds record { middle = a.middle; in_vain = a.in_vain; last = a.last } a.many)
+returns-in-Open-clause-halted g c = halted g.C.Cell.tells g.C.Cell.state g.O.Origin.offers c.args.store.now 7 c.args.offer c.args.url.now c.args.pass.now c.read_entry.new.pass (g.F.Fetcher.body c.args.fetcher.now c.args.url.now c.args.offer) g.K.Sink.tells (g.K.Sink.taken c.args.out.now) (g.K.Sink.taken c.read_entry.new.out) (g.F.Fetcher.starts c.args.fetcher.now) (g.F.Fetcher.starts c.read_entry.new.fetcher) c.args.most c.read_entry.result (let a = c.in-Open.ensures.asked.0 in c.read_entry.ensures.forwards c.args.pass.now a.rounds record { middle = a.middle; in_vain = a.in_vain; last = a.last } a.many)
 
 pub returns-in-Open-clause-fault : goal.returns-in-Open-clause-fault
-returns-in-Open-clause-fault g c = fault g.C.Cell.tells g.C.Cell.state g.O.Origin.offers c.args.store.now 7 c.args.offer c.args.url.now c.args.pass.now c.read_entry.new.pass (g.F.Fetcher.body c.args.fetcher.now c.args.offer) g.K.Sink.tells (g.K.Sink.taken c.args.out.now) (g.K.Sink.taken c.read_entry.new.out) (g.F.Fetcher.starts c.args.fetcher.now) (g.F.Fetcher.starts c.read_entry.new.fetcher) c.args.most c.read_entry.result (let a = c.in-Open.ensures.asked.0 in c.read_entry.ensures.forwards c.args.pass.now a.rounds record { middle = a.middle; in_vain = a.in_vain; last = a.last } a.many)
+returns-in-Open-clause-fault g c = fault g.C.Cell.tells g.C.Cell.state g.O.Origin.offers c.args.store.now 7 c.args.offer c.args.url.now c.args.pass.now c.read_entry.new.pass (g.F.Fetcher.body c.args.fetcher.now c.args.url.now c.args.offer) g.K.Sink.tells (g.K.Sink.taken c.args.out.now) (g.K.Sink.taken c.read_entry.new.out) (g.F.Fetcher.starts c.args.fetcher.now) (g.F.Fetcher.starts c.read_entry.new.fetcher) c.args.most c.read_entry.result (let a = c.in-Open.ensures.asked.0 in c.read_entry.ensures.forwards c.args.pass.now a.rounds record { middle = a.middle; in_vain = a.in_vain; last = a.last } a.many)
 
 pub returns-in-Open-clause-waited : goal.returns-in-Open-clause-waited
-returns-in-Open-clause-waited g c = waited g.C.Cell.tells g.C.Cell.state g.O.Origin.offers c.args.store.now 7 c.args.offer c.args.url.now c.args.pass.now c.read_entry.new.pass (g.F.Fetcher.body c.args.fetcher.now c.args.offer) g.K.Sink.tells (g.K.Sink.taken c.args.out.now) (g.K.Sink.taken c.read_entry.new.out) (g.F.Fetcher.starts c.args.fetcher.now) (g.F.Fetcher.starts c.read_entry.new.fetcher) c.args.most c.read_entry.result (let a = c.in-Open.ensures.asked.0 in c.read_entry.ensures.forwards c.args.pass.now a.rounds record { middle = a.middle; in_vain = a.in_vain; last = a.last } a.many)
+returns-in-Open-clause-waited g c = waited g.C.Cell.tells g.C.Cell.state g.O.Origin.offers c.args.store.now 7 c.args.offer c.args.url.now c.args.pass.now c.read_entry.new.pass (g.F.Fetcher.body c.args.fetcher.now c.args.url.now c.args.offer) g.K.Sink.tells (g.K.Sink.taken c.args.out.now) (g.K.Sink.taken c.read_entry.new.out) (g.F.Fetcher.starts c.args.fetcher.now) (g.F.Fetcher.starts c.read_entry.new.fetcher) c.args.most c.read_entry.result (let a = c.in-Open.ensures.asked.0 in c.read_entry.ensures.forwards c.args.pass.now a.rounds record { middle = a.middle; in_vain = a.in_vain; last = a.last } a.many)
 
 pub returns-in-Open-clause-fetch_fault : goal.returns-in-Open-clause-fetch_fault
-returns-in-Open-clause-fetch_fault g c = fetch_fault g.C.Cell.tells g.C.Cell.state g.O.Origin.offers c.args.store.now 7 c.args.offer c.args.url.now c.args.pass.now c.read_entry.new.pass (g.F.Fetcher.body c.args.fetcher.now c.args.offer) g.K.Sink.tells (g.K.Sink.taken c.args.out.now) (g.K.Sink.taken c.read_entry.new.out) (g.F.Fetcher.starts c.args.fetcher.now) (g.F.Fetcher.starts c.read_entry.new.fetcher) c.args.most c.read_entry.result (let a = c.in-Open.ensures.asked.0 in c.read_entry.ensures.forwards c.args.pass.now a.rounds record { middle = a.middle; in_vain = a.in_vain; last = a.last } a.many)
+returns-in-Open-clause-fetch_fault g c = fetch_fault g.C.Cell.tells g.C.Cell.state g.O.Origin.offers c.args.store.now 7 c.args.offer c.args.url.now c.args.pass.now c.read_entry.new.pass (g.F.Fetcher.body c.args.fetcher.now c.args.url.now c.args.offer) g.K.Sink.tells (g.K.Sink.taken c.args.out.now) (g.K.Sink.taken c.read_entry.new.out) (g.F.Fetcher.starts c.args.fetcher.now) (g.F.Fetcher.starts c.read_entry.new.fetcher) c.args.most c.read_entry.result (let a = c.in-Open.ensures.asked.0 in c.read_entry.ensures.forwards c.args.pass.now a.rounds record { middle = a.middle; in_vain = a.in_vain; last = a.last } a.many)
 
 pub returns-in-Open-clause-sink_fault : goal.returns-in-Open-clause-sink_fault
-returns-in-Open-clause-sink_fault g c = sink_fault g.C.Cell.tells g.C.Cell.state g.O.Origin.offers c.args.store.now 7 c.args.offer c.args.url.now c.args.pass.now c.read_entry.new.pass (g.F.Fetcher.body c.args.fetcher.now c.args.offer) g.K.Sink.tells (g.K.Sink.taken c.args.out.now) (g.K.Sink.taken c.read_entry.new.out) (g.F.Fetcher.starts c.args.fetcher.now) (g.F.Fetcher.starts c.read_entry.new.fetcher) c.args.most c.read_entry.result (let a = c.in-Open.ensures.asked.0 in c.read_entry.ensures.forwards c.args.pass.now a.rounds record { middle = a.middle; in_vain = a.in_vain; last = a.last } a.many)
+returns-in-Open-clause-sink_fault g c = sink_fault g.C.Cell.tells g.C.Cell.state g.O.Origin.offers c.args.store.now 7 c.args.offer c.args.url.now c.args.pass.now c.read_entry.new.pass (g.F.Fetcher.body c.args.fetcher.now c.args.url.now c.args.offer) g.K.Sink.tells (g.K.Sink.taken c.args.out.now) (g.K.Sink.taken c.read_entry.new.out) (g.F.Fetcher.starts c.args.fetcher.now) (g.F.Fetcher.starts c.read_entry.new.fetcher) c.args.most c.read_entry.result (let a = c.in-Open.ensures.asked.0 in c.read_entry.ensures.forwards c.args.pass.now a.rounds record { middle = a.middle; in_vain = a.in_vain; last = a.last } a.many)
 
 pub returns-in-Open-clause-stored : goal.returns-in-Open-clause-stored
-returns-in-Open-clause-stored g c told shown holds = stored_of g.C.Cell.tells g.C.Cell.state g.O.Origin.offers c.args.store.now 7 c.args.offer c.args.url.now c.args.most told holds c.args.pass.now c.read_entry.new.pass (g.F.Fetcher.body c.args.fetcher.now c.args.offer) g.K.Sink.tells shown (g.K.Sink.taken c.args.out.now) (g.K.Sink.taken c.read_entry.new.out) (g.F.Fetcher.starts c.args.fetcher.now) (g.F.Fetcher.starts c.read_entry.new.fetcher) (λ a o n u b response inside. c.bodies_are_given_from_the_front.ensures.front (basis g.C.Cell.tells g.C.Cell.state g.O.Origin.offers c.args.store.now) a o n u b c.slots_are_small.ensures response inside) (λ a o u b response. c.bodies_are_given_from_the_front.ensures.whole (basis g.C.Cell.tells g.C.Cell.state g.O.Origin.offers c.args.store.now) a o u b c.slots_are_small.ensures response) c.read_entry.result (let a = c.in-Open.ensures.asked.0 in c.read_entry.ensures.forwards c.args.pass.now a.rounds record { middle = a.middle; in_vain = a.in_vain; last = a.last } a.many)
+returns-in-Open-clause-stored g c told shown holds = stored_of g.C.Cell.tells g.C.Cell.state g.O.Origin.offers c.args.store.now 7 c.args.offer c.args.url.now c.args.most told holds c.args.pass.now c.read_entry.new.pass (g.F.Fetcher.body c.args.fetcher.now c.args.url.now c.args.offer) g.K.Sink.tells shown (g.K.Sink.taken c.args.out.now) (g.K.Sink.taken c.read_entry.new.out) (g.F.Fetcher.starts c.args.fetcher.now) (g.F.Fetcher.starts c.read_entry.new.fetcher) (λ a o n u b response inside. c.bodies_are_given_from_the_front.ensures.front (basis g.C.Cell.tells g.C.Cell.state g.O.Origin.offers c.args.store.now) a o n u b c.slots_are_small.ensures response inside) (λ a o u b response. c.bodies_are_given_from_the_front.ensures.whole (basis g.C.Cell.tells g.C.Cell.state g.O.Origin.offers c.args.store.now) a o u b c.slots_are_small.ensures response) c.read_entry.result (let a = c.in-Open.ensures.asked.0 in c.read_entry.ensures.forwards c.args.pass.now a.rounds record { middle = a.middle; in_vain = a.in_vain; last = a.last } a.many)
 
 pub returns-in-Open-clause-fetch : goal.returns-in-Open-clause-fetch
 returns-in-Open-clause-fetch g c = c.read_entry.ensures.fetch
@@ -97,31 +97,31 @@ pub returns-in-Open-clause-inner : goal.returns-in-Open-clause-inner
 returns-in-Open-clause-inner g c = c.read_entry.ensures.inner
 
 pub returns-in-Begun-clause-hit : goal.returns-in-Begun-clause-hit
-returns-in-Begun-clause-hit g c = hit g.C.Cell.tells g.C.Cell.state g.O.Origin.offers c.args.store.now 7 c.args.offer c.args.url.now c.args.pass.now c.write_entry.new.pass (g.F.Fetcher.body c.args.fetcher.now c.args.offer) g.K.Sink.tells (g.K.Sink.taken c.args.out.now) (g.K.Sink.taken c.write_entry.new.out) (g.F.Fetcher.starts c.args.fetcher.now) (g.F.Fetcher.starts c.write_entry.new.fetcher) c.args.most c.write_entry.result (let h = c.in-Begun.ensures.asked in let a = h.0 in c.write_entry.ensures.forwards c.args.pass.now c.args.most record { rounds = a.rounds; few = few_of _ _ _ a.many h.1; middle = a.middle; in_vain = a.in_vain; last = a.last })
+returns-in-Begun-clause-hit g c = hit g.C.Cell.tells g.C.Cell.state g.O.Origin.offers c.args.store.now 7 c.args.offer c.args.url.now c.args.pass.now c.write_entry.new.pass (g.F.Fetcher.body c.args.fetcher.now c.args.url.now c.args.offer) g.K.Sink.tells (g.K.Sink.taken c.args.out.now) (g.K.Sink.taken c.write_entry.new.out) (g.F.Fetcher.starts c.args.fetcher.now) (g.F.Fetcher.starts c.write_entry.new.fetcher) c.args.most c.write_entry.result (let h = c.in-Begun.ensures.asked in let a = h.0 in c.write_entry.ensures.forwards c.args.pass.now c.args.most record { rounds = a.rounds; few = few_of _ _ _ a.many h.1; middle = a.middle; in_vain = a.in_vain; last = a.last })
 
 pub returns-in-Begun-clause-fetched : goal.returns-in-Begun-clause-fetched
-returns-in-Begun-clause-fetched g c = fetched g.C.Cell.tells g.C.Cell.state g.O.Origin.offers c.args.store.now 7 c.args.offer c.args.url.now c.args.pass.now c.write_entry.new.pass (g.F.Fetcher.body c.args.fetcher.now c.args.offer) g.K.Sink.tells (g.K.Sink.taken c.args.out.now) (g.K.Sink.taken c.write_entry.new.out) (g.F.Fetcher.starts c.args.fetcher.now) (g.F.Fetcher.starts c.write_entry.new.fetcher) c.args.most c.write_entry.result (let h = c.in-Begun.ensures.asked in let a = h.0 in c.write_entry.ensures.forwards c.args.pass.now c.args.most record { rounds = a.rounds; few = few_of _ _ _ a.many h.1; middle = a.middle; in_vain = a.in_vain; last = a.last })
+returns-in-Begun-clause-fetched g c = fetched g.C.Cell.tells g.C.Cell.state g.O.Origin.offers c.args.store.now 7 c.args.offer c.args.url.now c.args.pass.now c.write_entry.new.pass (g.F.Fetcher.body c.args.fetcher.now c.args.url.now c.args.offer) g.K.Sink.tells (g.K.Sink.taken c.args.out.now) (g.K.Sink.taken c.write_entry.new.out) (g.F.Fetcher.starts c.args.fetcher.now) (g.F.Fetcher.starts c.write_entry.new.fetcher) c.args.most c.write_entry.result (let h = c.in-Begun.ensures.asked in let a = h.0 in c.write_entry.ensures.forwards c.args.pass.now c.args.most record { rounds = a.rounds; few = few_of _ _ _ a.many h.1; middle = a.middle; in_vain = a.in_vain; last = a.last })
 
 pub returns-in-Begun-clause-direct : goal.returns-in-Begun-clause-direct
-returns-in-Begun-clause-direct g c = direct g.C.Cell.tells g.C.Cell.state g.O.Origin.offers c.args.store.now 7 c.args.offer c.args.url.now c.args.pass.now c.write_entry.new.pass (g.F.Fetcher.body c.args.fetcher.now c.args.offer) g.K.Sink.tells (g.K.Sink.taken c.args.out.now) (g.K.Sink.taken c.write_entry.new.out) (g.F.Fetcher.starts c.args.fetcher.now) (g.F.Fetcher.starts c.write_entry.new.fetcher) c.args.most c.write_entry.result (let h = c.in-Begun.ensures.asked in let a = h.0 in c.write_entry.ensures.forwards c.args.pass.now c.args.most record { rounds = a.rounds; few = few_of _ _ _ a.many h.1; middle = a.middle; in_vain = a.in_vain; last = a.last })
+returns-in-Begun-clause-direct g c = direct g.C.Cell.tells g.C.Cell.state g.O.Origin.offers c.args.store.now 7 c.args.offer c.args.url.now c.args.pass.now c.write_entry.new.pass (g.F.Fetcher.body c.args.fetcher.now c.args.url.now c.args.offer) g.K.Sink.tells (g.K.Sink.taken c.args.out.now) (g.K.Sink.taken c.write_entry.new.out) (g.F.Fetcher.starts c.args.fetcher.now) (g.F.Fetcher.starts c.write_entry.new.fetcher) c.args.most c.write_entry.result (let h = c.in-Begun.ensures.asked in let a = h.0 in c.write_entry.ensures.forwards c.args.pass.now c.args.most record { rounds = a.rounds; few = few_of _ _ _ a.many h.1; middle = a.middle; in_vain = a.in_vain; last = a.last })
 
 pub returns-in-Begun-clause-halted : goal.returns-in-Begun-clause-halted
-returns-in-Begun-clause-halted g c = halted g.C.Cell.tells g.C.Cell.state g.O.Origin.offers c.args.store.now 7 c.args.offer c.args.url.now c.args.pass.now c.write_entry.new.pass (g.F.Fetcher.body c.args.fetcher.now c.args.offer) g.K.Sink.tells (g.K.Sink.taken c.args.out.now) (g.K.Sink.taken c.write_entry.new.out) (g.F.Fetcher.starts c.args.fetcher.now) (g.F.Fetcher.starts c.write_entry.new.fetcher) c.args.most c.write_entry.result (let h = c.in-Begun.ensures.asked in let a = h.0 in c.write_entry.ensures.forwards c.args.pass.now c.args.most record { rounds = a.rounds; few = few_of _ _ _ a.many h.1; middle = a.middle; in_vain = a.in_vain; last = a.last })
+returns-in-Begun-clause-halted g c = halted g.C.Cell.tells g.C.Cell.state g.O.Origin.offers c.args.store.now 7 c.args.offer c.args.url.now c.args.pass.now c.write_entry.new.pass (g.F.Fetcher.body c.args.fetcher.now c.args.url.now c.args.offer) g.K.Sink.tells (g.K.Sink.taken c.args.out.now) (g.K.Sink.taken c.write_entry.new.out) (g.F.Fetcher.starts c.args.fetcher.now) (g.F.Fetcher.starts c.write_entry.new.fetcher) c.args.most c.write_entry.result (let h = c.in-Begun.ensures.asked in let a = h.0 in c.write_entry.ensures.forwards c.args.pass.now c.args.most record { rounds = a.rounds; few = few_of _ _ _ a.many h.1; middle = a.middle; in_vain = a.in_vain; last = a.last })
 
 pub returns-in-Begun-clause-fault : goal.returns-in-Begun-clause-fault
-returns-in-Begun-clause-fault g c = fault g.C.Cell.tells g.C.Cell.state g.O.Origin.offers c.args.store.now 7 c.args.offer c.args.url.now c.args.pass.now c.write_entry.new.pass (g.F.Fetcher.body c.args.fetcher.now c.args.offer) g.K.Sink.tells (g.K.Sink.taken c.args.out.now) (g.K.Sink.taken c.write_entry.new.out) (g.F.Fetcher.starts c.args.fetcher.now) (g.F.Fetcher.starts c.write_entry.new.fetcher) c.args.most c.write_entry.result (let h = c.in-Begun.ensures.asked in let a = h.0 in c.write_entry.ensures.forwards c.args.pass.now c.args.most record { rounds = a.rounds; few = few_of _ _ _ a.many h.1; middle = a.middle; in_vain = a.in_vain; last = a.last })
+returns-in-Begun-clause-fault g c = fault g.C.Cell.tells g.C.Cell.state g.O.Origin.offers c.args.store.now 7 c.args.offer c.args.url.now c.args.pass.now c.write_entry.new.pass (g.F.Fetcher.body c.args.fetcher.now c.args.url.now c.args.offer) g.K.Sink.tells (g.K.Sink.taken c.args.out.now) (g.K.Sink.taken c.write_entry.new.out) (g.F.Fetcher.starts c.args.fetcher.now) (g.F.Fetcher.starts c.write_entry.new.fetcher) c.args.most c.write_entry.result (let h = c.in-Begun.ensures.asked in let a = h.0 in c.write_entry.ensures.forwards c.args.pass.now c.args.most record { rounds = a.rounds; few = few_of _ _ _ a.many h.1; middle = a.middle; in_vain = a.in_vain; last = a.last })
 
 pub returns-in-Begun-clause-waited : goal.returns-in-Begun-clause-waited
-returns-in-Begun-clause-waited g c = waited g.C.Cell.tells g.C.Cell.state g.O.Origin.offers c.args.store.now 7 c.args.offer c.args.url.now c.args.pass.now c.write_entry.new.pass (g.F.Fetcher.body c.args.fetcher.now c.args.offer) g.K.Sink.tells (g.K.Sink.taken c.args.out.now) (g.K.Sink.taken c.write_entry.new.out) (g.F.Fetcher.starts c.args.fetcher.now) (g.F.Fetcher.starts c.write_entry.new.fetcher) c.args.most c.write_entry.result (let h = c.in-Begun.ensures.asked in let a = h.0 in c.write_entry.ensures.forwards c.args.pass.now c.args.most record { rounds = a.rounds; few = few_of _ _ _ a.many h.1; middle = a.middle; in_vain = a.in_vain; last = a.last })
+returns-in-Begun-clause-waited g c = waited g.C.Cell.tells g.C.Cell.state g.O.Origin.offers c.args.store.now 7 c.args.offer c.args.url.now c.args.pass.now c.write_entry.new.pass (g.F.Fetcher.body c.args.fetcher.now c.args.url.now c.args.offer) g.K.Sink.tells (g.K.Sink.taken c.args.out.now) (g.K.Sink.taken c.write_entry.new.out) (g.F.Fetcher.starts c.args.fetcher.now) (g.F.Fetcher.starts c.write_entry.new.fetcher) c.args.most c.write_entry.result (let h = c.in-Begun.ensures.asked in let a = h.0 in c.write_entry.ensures.forwards c.args.pass.now c.args.most record { rounds = a.rounds; few = few_of _ _ _ a.many h.1; middle = a.middle; in_vain = a.in_vain; last = a.last })
 
 pub returns-in-Begun-clause-fetch_fault : goal.returns-in-Begun-clause-fetch_fault
-returns-in-Begun-clause-fetch_fault g c = fetch_fault g.C.Cell.tells g.C.Cell.state g.O.Origin.offers c.args.store.now 7 c.args.offer c.args.url.now c.args.pass.now c.write_entry.new.pass (g.F.Fetcher.body c.args.fetcher.now c.args.offer) g.K.Sink.tells (g.K.Sink.taken c.args.out.now) (g.K.Sink.taken c.write_entry.new.out) (g.F.Fetcher.starts c.args.fetcher.now) (g.F.Fetcher.starts c.write_entry.new.fetcher) c.args.most c.write_entry.result (let h = c.in-Begun.ensures.asked in let a = h.0 in c.write_entry.ensures.forwards c.args.pass.now c.args.most record { rounds = a.rounds; few = few_of _ _ _ a.many h.1; middle = a.middle; in_vain = a.in_vain; last = a.last })
+returns-in-Begun-clause-fetch_fault g c = fetch_fault g.C.Cell.tells g.C.Cell.state g.O.Origin.offers c.args.store.now 7 c.args.offer c.args.url.now c.args.pass.now c.write_entry.new.pass (g.F.Fetcher.body c.args.fetcher.now c.args.url.now c.args.offer) g.K.Sink.tells (g.K.Sink.taken c.args.out.now) (g.K.Sink.taken c.write_entry.new.out) (g.F.Fetcher.starts c.args.fetcher.now) (g.F.Fetcher.starts c.write_entry.new.fetcher) c.args.most c.write_entry.result (let h = c.in-Begun.ensures.asked in let a = h.0 in c.write_entry.ensures.forwards c.args.pass.now c.args.most record { rounds = a.rounds; few = few_of _ _ _ a.many h.1; middle = a.middle; in_vain = a.in_vain; last = a.last })
 
 pub returns-in-Begun-clause-sink_fault : goal.returns-in-Begun-clause-sink_fault
-returns-in-Begun-clause-sink_fault g c = sink_fault g.C.Cell.tells g.C.Cell.state g.O.Origin.offers c.args.store.now 7 c.args.offer c.args.url.now c.args.pass.now c.write_entry.new.pass (g.F.Fetcher.body c.args.fetcher.now c.args.offer) g.K.Sink.tells (g.K.Sink.taken c.args.out.now) (g.K.Sink.taken c.write_entry.new.out) (g.F.Fetcher.starts c.args.fetcher.now) (g.F.Fetcher.starts c.write_entry.new.fetcher) c.args.most c.write_entry.result (let h = c.in-Begun.ensures.asked in let a = h.0 in c.write_entry.ensures.forwards c.args.pass.now c.args.most record { rounds = a.rounds; few = few_of _ _ _ a.many h.1; middle = a.middle; in_vain = a.in_vain; last = a.last })
+returns-in-Begun-clause-sink_fault g c = sink_fault g.C.Cell.tells g.C.Cell.state g.O.Origin.offers c.args.store.now 7 c.args.offer c.args.url.now c.args.pass.now c.write_entry.new.pass (g.F.Fetcher.body c.args.fetcher.now c.args.url.now c.args.offer) g.K.Sink.tells (g.K.Sink.taken c.args.out.now) (g.K.Sink.taken c.write_entry.new.out) (g.F.Fetcher.starts c.args.fetcher.now) (g.F.Fetcher.starts c.write_entry.new.fetcher) c.args.most c.write_entry.result (let h = c.in-Begun.ensures.asked in let a = h.0 in c.write_entry.ensures.forwards c.args.pass.now c.args.most record { rounds = a.rounds; few = few_of _ _ _ a.many h.1; middle = a.middle; in_vain = a.in_vain; last = a.last })
 
 pub returns-in-Begun-clause-stored : goal.returns-in-Begun-clause-stored
-returns-in-Begun-clause-stored g c told shown holds = stored_of g.C.Cell.tells g.C.Cell.state g.O.Origin.offers c.args.store.now 7 c.args.offer c.args.url.now c.args.most told holds c.args.pass.now c.write_entry.new.pass (g.F.Fetcher.body c.args.fetcher.now c.args.offer) g.K.Sink.tells shown (g.K.Sink.taken c.args.out.now) (g.K.Sink.taken c.write_entry.new.out) (g.F.Fetcher.starts c.args.fetcher.now) (g.F.Fetcher.starts c.write_entry.new.fetcher) (λ a o n u b response inside. c.bodies_are_given_from_the_front.ensures.front (basis g.C.Cell.tells g.C.Cell.state g.O.Origin.offers c.args.store.now) a o n u b c.slots_are_small.ensures response inside) (λ a o u b response. c.bodies_are_given_from_the_front.ensures.whole (basis g.C.Cell.tells g.C.Cell.state g.O.Origin.offers c.args.store.now) a o u b c.slots_are_small.ensures response) c.write_entry.result (let h = c.in-Begun.ensures.asked in let a = h.0 in c.write_entry.ensures.forwards c.args.pass.now c.args.most record { rounds = a.rounds; few = few_of _ _ _ a.many h.1; middle = a.middle; in_vain = a.in_vain; last = a.last })
+returns-in-Begun-clause-stored g c told shown holds = stored_of g.C.Cell.tells g.C.Cell.state g.O.Origin.offers c.args.store.now 7 c.args.offer c.args.url.now c.args.most told holds c.args.pass.now c.write_entry.new.pass (g.F.Fetcher.body c.args.fetcher.now c.args.url.now c.args.offer) g.K.Sink.tells shown (g.K.Sink.taken c.args.out.now) (g.K.Sink.taken c.write_entry.new.out) (g.F.Fetcher.starts c.args.fetcher.now) (g.F.Fetcher.starts c.write_entry.new.fetcher) (λ a o n u b response inside. c.bodies_are_given_from_the_front.ensures.front (basis g.C.Cell.tells g.C.Cell.state g.O.Origin.offers c.args.store.now) a o n u b c.slots_are_small.ensures response inside) (λ a o u b response. c.bodies_are_given_from_the_front.ensures.whole (basis g.C.Cell.tells g.C.Cell.state g.O.Origin.offers c.args.store.now) a o u b c.slots_are_small.ensures response) c.write_entry.result (let h = c.in-Begun.ensures.asked in let a = h.0 in c.write_entry.ensures.forwards c.args.pass.now c.args.most record { rounds = a.rounds; few = few_of _ _ _ a.many h.1; middle = a.middle; in_vain = a.in_vain; last = a.last })
 
 pub returns-in-Begun-clause-fetch : goal.returns-in-Begun-clause-fetch
 returns-in-Begun-clause-fetch g c = c.write_entry.ensures.fetch
@@ -139,31 +139,31 @@ pub returns-in-Begun-clause-inner : goal.returns-in-Begun-clause-inner
 returns-in-Begun-clause-inner g c = c.write_entry.ensures.inner
 
 pub returns-in-NotBegun-clause-hit : goal.returns-in-NotBegun-clause-hit
-returns-in-NotBegun-clause-hit g c = hit g.C.Cell.tells g.C.Cell.state g.O.Origin.offers c.args.store.now 7 c.args.offer c.args.url.now c.args.pass.now c.ask.new.pass (g.F.Fetcher.body c.args.fetcher.now c.args.offer) g.K.Sink.tells (g.K.Sink.taken c.args.out.now) (g.K.Sink.taken c.fetch_past.new.out) (g.F.Fetcher.starts c.args.fetcher.now) (g.F.Fetcher.starts c.fetch_past.new.fetcher) c.args.most c.fetch_past.result (let h = c.in-NotBegun.ensures.asked in let a = h.0 in c.fetch_past.ensures.forwards c.args.store.now 7 c.args.pass.now c.ask.new.pass c.args.most (g.K.Sink.taken c.args.out.now) record { rounds = a.rounds; few = few_of _ _ _ a.many h.1; middle = a.middle; in_vain = a.in_vain; last = a.last } (sends_none g.K.Sink.tells (g.K.Sink.taken c.args.out.now)))
+returns-in-NotBegun-clause-hit g c = hit g.C.Cell.tells g.C.Cell.state g.O.Origin.offers c.args.store.now 7 c.args.offer c.args.url.now c.args.pass.now c.ask.new.pass (g.F.Fetcher.body c.args.fetcher.now c.args.url.now c.args.offer) g.K.Sink.tells (g.K.Sink.taken c.args.out.now) (g.K.Sink.taken c.fetch_past.new.out) (g.F.Fetcher.starts c.args.fetcher.now) (g.F.Fetcher.starts c.fetch_past.new.fetcher) c.args.most c.fetch_past.result (let h = c.in-NotBegun.ensures.asked in let a = h.0 in c.fetch_past.ensures.forwards c.args.store.now 7 c.args.pass.now c.ask.new.pass c.args.most (g.K.Sink.taken c.args.out.now) record { rounds = a.rounds; few = few_of _ _ _ a.many h.1; middle = a.middle; in_vain = a.in_vain; last = a.last } (sends_none g.K.Sink.tells (g.K.Sink.taken c.args.out.now)))
 
 pub returns-in-NotBegun-clause-fetched : goal.returns-in-NotBegun-clause-fetched
-returns-in-NotBegun-clause-fetched g c = fetched g.C.Cell.tells g.C.Cell.state g.O.Origin.offers c.args.store.now 7 c.args.offer c.args.url.now c.args.pass.now c.ask.new.pass (g.F.Fetcher.body c.args.fetcher.now c.args.offer) g.K.Sink.tells (g.K.Sink.taken c.args.out.now) (g.K.Sink.taken c.fetch_past.new.out) (g.F.Fetcher.starts c.args.fetcher.now) (g.F.Fetcher.starts c.fetch_past.new.fetcher) c.args.most c.fetch_past.result (let h = c.in-NotBegun.ensures.asked in let a = h.0 in c.fetch_past.ensures.forwards c.args.store.now 7 c.args.pass.now c.ask.new.pass c.args.most (g.K.Sink.taken c.args.out.now) record { rounds = a.rounds; few = few_of _ _ _ a.many h.1; middle = a.middle; in_vain = a.in_vain; last = a.last } (sends_none g.K.Sink.tells (g.K.Sink.taken c.args.out.now)))
+returns-in-NotBegun-clause-fetched g c = fetched g.C.Cell.tells g.C.Cell.state g.O.Origin.offers c.args.store.now 7 c.args.offer c.args.url.now c.args.pass.now c.ask.new.pass (g.F.Fetcher.body c.args.fetcher.now c.args.url.now c.args.offer) g.K.Sink.tells (g.K.Sink.taken c.args.out.now) (g.K.Sink.taken c.fetch_past.new.out) (g.F.Fetcher.starts c.args.fetcher.now) (g.F.Fetcher.starts c.fetch_past.new.fetcher) c.args.most c.fetch_past.result (let h = c.in-NotBegun.ensures.asked in let a = h.0 in c.fetch_past.ensures.forwards c.args.store.now 7 c.args.pass.now c.ask.new.pass c.args.most (g.K.Sink.taken c.args.out.now) record { rounds = a.rounds; few = few_of _ _ _ a.many h.1; middle = a.middle; in_vain = a.in_vain; last = a.last } (sends_none g.K.Sink.tells (g.K.Sink.taken c.args.out.now)))
 
 pub returns-in-NotBegun-clause-direct : goal.returns-in-NotBegun-clause-direct
-returns-in-NotBegun-clause-direct g c = direct g.C.Cell.tells g.C.Cell.state g.O.Origin.offers c.args.store.now 7 c.args.offer c.args.url.now c.args.pass.now c.ask.new.pass (g.F.Fetcher.body c.args.fetcher.now c.args.offer) g.K.Sink.tells (g.K.Sink.taken c.args.out.now) (g.K.Sink.taken c.fetch_past.new.out) (g.F.Fetcher.starts c.args.fetcher.now) (g.F.Fetcher.starts c.fetch_past.new.fetcher) c.args.most c.fetch_past.result (let h = c.in-NotBegun.ensures.asked in let a = h.0 in c.fetch_past.ensures.forwards c.args.store.now 7 c.args.pass.now c.ask.new.pass c.args.most (g.K.Sink.taken c.args.out.now) record { rounds = a.rounds; few = few_of _ _ _ a.many h.1; middle = a.middle; in_vain = a.in_vain; last = a.last } (sends_none g.K.Sink.tells (g.K.Sink.taken c.args.out.now)))
+returns-in-NotBegun-clause-direct g c = direct g.C.Cell.tells g.C.Cell.state g.O.Origin.offers c.args.store.now 7 c.args.offer c.args.url.now c.args.pass.now c.ask.new.pass (g.F.Fetcher.body c.args.fetcher.now c.args.url.now c.args.offer) g.K.Sink.tells (g.K.Sink.taken c.args.out.now) (g.K.Sink.taken c.fetch_past.new.out) (g.F.Fetcher.starts c.args.fetcher.now) (g.F.Fetcher.starts c.fetch_past.new.fetcher) c.args.most c.fetch_past.result (let h = c.in-NotBegun.ensures.asked in let a = h.0 in c.fetch_past.ensures.forwards c.args.store.now 7 c.args.pass.now c.ask.new.pass c.args.most (g.K.Sink.taken c.args.out.now) record { rounds = a.rounds; few = few_of _ _ _ a.many h.1; middle = a.middle; in_vain = a.in_vain; last = a.last } (sends_none g.K.Sink.tells (g.K.Sink.taken c.args.out.now)))
 
 pub returns-in-NotBegun-clause-halted : goal.returns-in-NotBegun-clause-halted
-returns-in-NotBegun-clause-halted g c = halted g.C.Cell.tells g.C.Cell.state g.O.Origin.offers c.args.store.now 7 c.args.offer c.args.url.now c.args.pass.now c.ask.new.pass (g.F.Fetcher.body c.args.fetcher.now c.args.offer) g.K.Sink.tells (g.K.Sink.taken c.args.out.now) (g.K.Sink.taken c.fetch_past.new.out) (g.F.Fetcher.starts c.args.fetcher.now) (g.F.Fetcher.starts c.fetch_past.new.fetcher) c.args.most c.fetch_past.result (let h = c.in-NotBegun.ensures.asked in let a = h.0 in c.fetch_past.ensures.forwards c.args.store.now 7 c.args.pass.now c.ask.new.pass c.args.most (g.K.Sink.taken c.args.out.now) record { rounds = a.rounds; few = few_of _ _ _ a.many h.1; middle = a.middle; in_vain = a.in_vain; last = a.last } (sends_none g.K.Sink.tells (g.K.Sink.taken c.args.out.now)))
+returns-in-NotBegun-clause-halted g c = halted g.C.Cell.tells g.C.Cell.state g.O.Origin.offers c.args.store.now 7 c.args.offer c.args.url.now c.args.pass.now c.ask.new.pass (g.F.Fetcher.body c.args.fetcher.now c.args.url.now c.args.offer) g.K.Sink.tells (g.K.Sink.taken c.args.out.now) (g.K.Sink.taken c.fetch_past.new.out) (g.F.Fetcher.starts c.args.fetcher.now) (g.F.Fetcher.starts c.fetch_past.new.fetcher) c.args.most c.fetch_past.result (let h = c.in-NotBegun.ensures.asked in let a = h.0 in c.fetch_past.ensures.forwards c.args.store.now 7 c.args.pass.now c.ask.new.pass c.args.most (g.K.Sink.taken c.args.out.now) record { rounds = a.rounds; few = few_of _ _ _ a.many h.1; middle = a.middle; in_vain = a.in_vain; last = a.last } (sends_none g.K.Sink.tells (g.K.Sink.taken c.args.out.now)))
 
 pub returns-in-NotBegun-clause-fault : goal.returns-in-NotBegun-clause-fault
-returns-in-NotBegun-clause-fault g c = fault g.C.Cell.tells g.C.Cell.state g.O.Origin.offers c.args.store.now 7 c.args.offer c.args.url.now c.args.pass.now c.ask.new.pass (g.F.Fetcher.body c.args.fetcher.now c.args.offer) g.K.Sink.tells (g.K.Sink.taken c.args.out.now) (g.K.Sink.taken c.fetch_past.new.out) (g.F.Fetcher.starts c.args.fetcher.now) (g.F.Fetcher.starts c.fetch_past.new.fetcher) c.args.most c.fetch_past.result (let h = c.in-NotBegun.ensures.asked in let a = h.0 in c.fetch_past.ensures.forwards c.args.store.now 7 c.args.pass.now c.ask.new.pass c.args.most (g.K.Sink.taken c.args.out.now) record { rounds = a.rounds; few = few_of _ _ _ a.many h.1; middle = a.middle; in_vain = a.in_vain; last = a.last } (sends_none g.K.Sink.tells (g.K.Sink.taken c.args.out.now)))
+returns-in-NotBegun-clause-fault g c = fault g.C.Cell.tells g.C.Cell.state g.O.Origin.offers c.args.store.now 7 c.args.offer c.args.url.now c.args.pass.now c.ask.new.pass (g.F.Fetcher.body c.args.fetcher.now c.args.url.now c.args.offer) g.K.Sink.tells (g.K.Sink.taken c.args.out.now) (g.K.Sink.taken c.fetch_past.new.out) (g.F.Fetcher.starts c.args.fetcher.now) (g.F.Fetcher.starts c.fetch_past.new.fetcher) c.args.most c.fetch_past.result (let h = c.in-NotBegun.ensures.asked in let a = h.0 in c.fetch_past.ensures.forwards c.args.store.now 7 c.args.pass.now c.ask.new.pass c.args.most (g.K.Sink.taken c.args.out.now) record { rounds = a.rounds; few = few_of _ _ _ a.many h.1; middle = a.middle; in_vain = a.in_vain; last = a.last } (sends_none g.K.Sink.tells (g.K.Sink.taken c.args.out.now)))
 
 pub returns-in-NotBegun-clause-waited : goal.returns-in-NotBegun-clause-waited
-returns-in-NotBegun-clause-waited g c = waited g.C.Cell.tells g.C.Cell.state g.O.Origin.offers c.args.store.now 7 c.args.offer c.args.url.now c.args.pass.now c.ask.new.pass (g.F.Fetcher.body c.args.fetcher.now c.args.offer) g.K.Sink.tells (g.K.Sink.taken c.args.out.now) (g.K.Sink.taken c.fetch_past.new.out) (g.F.Fetcher.starts c.args.fetcher.now) (g.F.Fetcher.starts c.fetch_past.new.fetcher) c.args.most c.fetch_past.result (let h = c.in-NotBegun.ensures.asked in let a = h.0 in c.fetch_past.ensures.forwards c.args.store.now 7 c.args.pass.now c.ask.new.pass c.args.most (g.K.Sink.taken c.args.out.now) record { rounds = a.rounds; few = few_of _ _ _ a.many h.1; middle = a.middle; in_vain = a.in_vain; last = a.last } (sends_none g.K.Sink.tells (g.K.Sink.taken c.args.out.now)))
+returns-in-NotBegun-clause-waited g c = waited g.C.Cell.tells g.C.Cell.state g.O.Origin.offers c.args.store.now 7 c.args.offer c.args.url.now c.args.pass.now c.ask.new.pass (g.F.Fetcher.body c.args.fetcher.now c.args.url.now c.args.offer) g.K.Sink.tells (g.K.Sink.taken c.args.out.now) (g.K.Sink.taken c.fetch_past.new.out) (g.F.Fetcher.starts c.args.fetcher.now) (g.F.Fetcher.starts c.fetch_past.new.fetcher) c.args.most c.fetch_past.result (let h = c.in-NotBegun.ensures.asked in let a = h.0 in c.fetch_past.ensures.forwards c.args.store.now 7 c.args.pass.now c.ask.new.pass c.args.most (g.K.Sink.taken c.args.out.now) record { rounds = a.rounds; few = few_of _ _ _ a.many h.1; middle = a.middle; in_vain = a.in_vain; last = a.last } (sends_none g.K.Sink.tells (g.K.Sink.taken c.args.out.now)))
 
 pub returns-in-NotBegun-clause-fetch_fault : goal.returns-in-NotBegun-clause-fetch_fault
-returns-in-NotBegun-clause-fetch_fault g c = fetch_fault g.C.Cell.tells g.C.Cell.state g.O.Origin.offers c.args.store.now 7 c.args.offer c.args.url.now c.args.pass.now c.ask.new.pass (g.F.Fetcher.body c.args.fetcher.now c.args.offer) g.K.Sink.tells (g.K.Sink.taken c.args.out.now) (g.K.Sink.taken c.fetch_past.new.out) (g.F.Fetcher.starts c.args.fetcher.now) (g.F.Fetcher.starts c.fetch_past.new.fetcher) c.args.most c.fetch_past.result (let h = c.in-NotBegun.ensures.asked in let a = h.0 in c.fetch_past.ensures.forwards c.args.store.now 7 c.args.pass.now c.ask.new.pass c.args.most (g.K.Sink.taken c.args.out.now) record { rounds = a.rounds; few = few_of _ _ _ a.many h.1; middle = a.middle; in_vain = a.in_vain; last = a.last } (sends_none g.K.Sink.tells (g.K.Sink.taken c.args.out.now)))
+returns-in-NotBegun-clause-fetch_fault g c = fetch_fault g.C.Cell.tells g.C.Cell.state g.O.Origin.offers c.args.store.now 7 c.args.offer c.args.url.now c.args.pass.now c.ask.new.pass (g.F.Fetcher.body c.args.fetcher.now c.args.url.now c.args.offer) g.K.Sink.tells (g.K.Sink.taken c.args.out.now) (g.K.Sink.taken c.fetch_past.new.out) (g.F.Fetcher.starts c.args.fetcher.now) (g.F.Fetcher.starts c.fetch_past.new.fetcher) c.args.most c.fetch_past.result (let h = c.in-NotBegun.ensures.asked in let a = h.0 in c.fetch_past.ensures.forwards c.args.store.now 7 c.args.pass.now c.ask.new.pass c.args.most (g.K.Sink.taken c.args.out.now) record { rounds = a.rounds; few = few_of _ _ _ a.many h.1; middle = a.middle; in_vain = a.in_vain; last = a.last } (sends_none g.K.Sink.tells (g.K.Sink.taken c.args.out.now)))
 
 pub returns-in-NotBegun-clause-sink_fault : goal.returns-in-NotBegun-clause-sink_fault
-returns-in-NotBegun-clause-sink_fault g c = sink_fault g.C.Cell.tells g.C.Cell.state g.O.Origin.offers c.args.store.now 7 c.args.offer c.args.url.now c.args.pass.now c.ask.new.pass (g.F.Fetcher.body c.args.fetcher.now c.args.offer) g.K.Sink.tells (g.K.Sink.taken c.args.out.now) (g.K.Sink.taken c.fetch_past.new.out) (g.F.Fetcher.starts c.args.fetcher.now) (g.F.Fetcher.starts c.fetch_past.new.fetcher) c.args.most c.fetch_past.result (let h = c.in-NotBegun.ensures.asked in let a = h.0 in c.fetch_past.ensures.forwards c.args.store.now 7 c.args.pass.now c.ask.new.pass c.args.most (g.K.Sink.taken c.args.out.now) record { rounds = a.rounds; few = few_of _ _ _ a.many h.1; middle = a.middle; in_vain = a.in_vain; last = a.last } (sends_none g.K.Sink.tells (g.K.Sink.taken c.args.out.now)))
+returns-in-NotBegun-clause-sink_fault g c = sink_fault g.C.Cell.tells g.C.Cell.state g.O.Origin.offers c.args.store.now 7 c.args.offer c.args.url.now c.args.pass.now c.ask.new.pass (g.F.Fetcher.body c.args.fetcher.now c.args.url.now c.args.offer) g.K.Sink.tells (g.K.Sink.taken c.args.out.now) (g.K.Sink.taken c.fetch_past.new.out) (g.F.Fetcher.starts c.args.fetcher.now) (g.F.Fetcher.starts c.fetch_past.new.fetcher) c.args.most c.fetch_past.result (let h = c.in-NotBegun.ensures.asked in let a = h.0 in c.fetch_past.ensures.forwards c.args.store.now 7 c.args.pass.now c.ask.new.pass c.args.most (g.K.Sink.taken c.args.out.now) record { rounds = a.rounds; few = few_of _ _ _ a.many h.1; middle = a.middle; in_vain = a.in_vain; last = a.last } (sends_none g.K.Sink.tells (g.K.Sink.taken c.args.out.now)))
 
 pub returns-in-NotBegun-clause-stored : goal.returns-in-NotBegun-clause-stored
-returns-in-NotBegun-clause-stored g c told shown holds = stored_of g.C.Cell.tells g.C.Cell.state g.O.Origin.offers c.args.store.now 7 c.args.offer c.args.url.now c.args.most told holds c.args.pass.now c.ask.new.pass (g.F.Fetcher.body c.args.fetcher.now c.args.offer) g.K.Sink.tells shown (g.K.Sink.taken c.args.out.now) (g.K.Sink.taken c.fetch_past.new.out) (g.F.Fetcher.starts c.args.fetcher.now) (g.F.Fetcher.starts c.fetch_past.new.fetcher) (λ a o n u b response inside. c.bodies_are_given_from_the_front.ensures.front (basis g.C.Cell.tells g.C.Cell.state g.O.Origin.offers c.args.store.now) a o n u b c.slots_are_small.ensures response inside) (λ a o u b response. c.bodies_are_given_from_the_front.ensures.whole (basis g.C.Cell.tells g.C.Cell.state g.O.Origin.offers c.args.store.now) a o u b c.slots_are_small.ensures response) c.fetch_past.result (let h = c.in-NotBegun.ensures.asked in let a = h.0 in c.fetch_past.ensures.forwards c.args.store.now 7 c.args.pass.now c.ask.new.pass c.args.most (g.K.Sink.taken c.args.out.now) record { rounds = a.rounds; few = few_of _ _ _ a.many h.1; middle = a.middle; in_vain = a.in_vain; last = a.last } (sends_none g.K.Sink.tells (g.K.Sink.taken c.args.out.now)))
+returns-in-NotBegun-clause-stored g c told shown holds = stored_of g.C.Cell.tells g.C.Cell.state g.O.Origin.offers c.args.store.now 7 c.args.offer c.args.url.now c.args.most told holds c.args.pass.now c.ask.new.pass (g.F.Fetcher.body c.args.fetcher.now c.args.url.now c.args.offer) g.K.Sink.tells shown (g.K.Sink.taken c.args.out.now) (g.K.Sink.taken c.fetch_past.new.out) (g.F.Fetcher.starts c.args.fetcher.now) (g.F.Fetcher.starts c.fetch_past.new.fetcher) (λ a o n u b response inside. c.bodies_are_given_from_the_front.ensures.front (basis g.C.Cell.tells g.C.Cell.state g.O.Origin.offers c.args.store.now) a o n u b c.slots_are_small.ensures response inside) (λ a o u b response. c.bodies_are_given_from_the_front.ensures.whole (basis g.C.Cell.tells g.C.Cell.state g.O.Origin.offers c.args.store.now) a o u b c.slots_are_small.ensures response) c.fetch_past.result (let h = c.in-NotBegun.ensures.asked in let a = h.0 in c.fetch_past.ensures.forwards c.args.store.now 7 c.args.pass.now c.ask.new.pass c.args.most (g.K.Sink.taken c.args.out.now) record { rounds = a.rounds; few = few_of _ _ _ a.many h.1; middle = a.middle; in_vain = a.in_vain; last = a.last } (sends_none g.K.Sink.tells (g.K.Sink.taken c.args.out.now)))
 
 pub returns-in-NotBegun-clause-fetch : goal.returns-in-NotBegun-clause-fetch
 returns-in-NotBegun-clause-fetch g c = c.fetch_past.ensures.fetch

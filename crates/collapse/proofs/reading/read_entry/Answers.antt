@@ -15,7 +15,7 @@ pub fetch_past-requires : goal.fetch_past-requires
 fetch_past-requires g c = let same = c.follow-followed.ensures.length in let some = c.requires.some in omega arith
 
 pub returns-in-End-clause-forwards : goal.returns-in-End-clause-forwards
-returns-in-End-clause-forwards g c p rounds opened many = hits g.C.Cell.tells g.C.Cell.state g.O.Origin.offers c.args.store.now c.args.tab c.args.offer c.args.url.now c.args.most p c.args.pass.now c.follow-followed.new.pass c.close_entry.new.pass rounds c.args.version c.args.looks opened many c.close_entry.ensures.parted (g.F.Fetcher.body c.args.fetcher.now c.args.offer) g.K.Sink.tells (g.K.Sink.taken c.args.out.now) (g.K.Sink.taken c.follow-followed.new.out) (g.F.Fetcher.starts c.args.fetcher.now) (c.in-End.ensures.went _ opened.last.reads)
+returns-in-End-clause-forwards g c p rounds opened many = hits g.C.Cell.tells g.C.Cell.state g.O.Origin.offers c.args.store.now c.args.tab c.args.offer c.args.url.now c.args.most p c.args.pass.now c.follow-followed.new.pass c.close_entry.new.pass rounds c.args.version c.args.looks opened many c.close_entry.ensures.parted (g.F.Fetcher.body c.args.fetcher.now c.args.url.now c.args.offer) g.K.Sink.tells (g.K.Sink.taken c.args.out.now) (g.K.Sink.taken c.follow-followed.new.out) (g.F.Fetcher.starts c.args.fetcher.now) (c.in-End.ensures.went _ opened.last.reads)
 
 pub returns-in-End-clause-station : goal.returns-in-End-clause-station
 returns-in-End-clause-station g c = c.in-End.ensures.station
@@ -24,7 +24,7 @@ pub returns-in-End-clause-sink : goal.returns-in-End-clause-sink
 returns-in-End-clause-sink g c = c.in-End.ensures.sink
 
 pub returns-in-Halted-clause-forwards : goal.returns-in-Halted-clause-forwards
-returns-in-Halted-clause-forwards g c p rounds opened many = finds_halted g.C.Cell.tells g.C.Cell.state g.O.Origin.offers c.args.store.now c.args.tab c.args.offer c.args.url.now c.args.most p c.args.pass.now c.follow-followed.new.pass c.close_entry.new.pass rounds c.args.version c.args.looks opened many c.close_entry.ensures.parted (g.F.Fetcher.body c.args.fetcher.now c.args.offer) g.K.Sink.tells (g.K.Sink.taken c.args.out.now) (g.K.Sink.taken c.follow-followed.new.out) (g.F.Fetcher.starts c.args.fetcher.now) (c.in-Halted.ensures.went _ opened.last.reads)
+returns-in-Halted-clause-forwards g c p rounds opened many = finds_halted g.C.Cell.tells g.C.Cell.state g.O.Origin.offers c.args.store.now c.args.tab c.args.offer c.args.url.now c.args.most p c.args.pass.now c.follow-followed.new.pass c.close_entry.new.pass rounds c.args.version c.args.looks opened many c.close_entry.ensures.parted (g.F.Fetcher.body c.args.fetcher.now c.args.url.now c.args.offer) g.K.Sink.tells (g.K.Sink.taken c.args.out.now) (g.K.Sink.taken c.follow-followed.new.out) (g.F.Fetcher.starts c.args.fetcher.now) (c.in-Halted.ensures.went _ opened.last.reads)
 
 pub returns-in-Halted-clause-station : goal.returns-in-Halted-clause-station
 returns-in-Halted-clause-station g c = c.in-Halted.ensures.station
@@ -33,7 +33,7 @@ pub returns-in-Halted-clause-sink : goal.returns-in-Halted-clause-sink
 returns-in-Halted-clause-sink g c = c.in-Halted.ensures.sink
 
 pub returns-in-Fault-clause-forwards : goal.returns-in-Fault-clause-forwards
-returns-in-Fault-clause-forwards g c p rounds opened many = fails_to_read g.C.Cell.tells g.C.Cell.state g.O.Origin.offers c.args.store.now c.args.tab c.args.offer c.args.url.now c.args.most p c.args.pass.now c.follow-followed.new.pass c.close_entry.new.pass rounds c.args.version c.args.looks opened many c.close_entry.ensures.parted (g.F.Fetcher.body c.args.fetcher.now c.args.offer) g.K.Sink.tells (g.K.Sink.taken c.args.out.now) (g.K.Sink.taken c.follow-followed.new.out) (g.F.Fetcher.starts c.args.fetcher.now) (c.in-Fault.ensures.went _ opened.last.reads)
+returns-in-Fault-clause-forwards g c p rounds opened many = fails_to_read g.C.Cell.tells g.C.Cell.state g.O.Origin.offers c.args.store.now c.args.tab c.args.offer c.args.url.now c.args.most p c.args.pass.now c.follow-followed.new.pass c.close_entry.new.pass rounds c.args.version c.args.looks opened many c.close_entry.ensures.parted (g.F.Fetcher.body c.args.fetcher.now c.args.url.now c.args.offer) g.K.Sink.tells (g.K.Sink.taken c.args.out.now) (g.K.Sink.taken c.follow-followed.new.out) (g.F.Fetcher.starts c.args.fetcher.now) (c.in-Fault.ensures.went _ opened.last.reads)
 
 pub returns-in-Fault-clause-station : goal.returns-in-Fault-clause-station
 returns-in-Fault-clause-station g c = c.in-Fault.ensures.station
@@ -42,7 +42,7 @@ pub returns-in-Fault-clause-sink : goal.returns-in-Fault-clause-sink
 returns-in-Fault-clause-sink g c = c.in-Fault.ensures.sink
 
 pub returns-then-is_late-clause-forwards : goal.returns-then-is_late-clause-forwards
-returns-then-is_late-clause-forwards g c p rounds opened many = finds_other_late g.C.Cell.tells g.C.Cell.state g.O.Origin.offers c.args.store.now c.args.tab c.args.offer c.args.url.now c.args.most p c.args.pass.now c.follow-followed.new.pass c.close_entry.new.pass rounds c.args.version c.args.looks opened many c.close_entry.ensures.parted (g.F.Fetcher.body c.args.fetcher.now c.args.offer) g.K.Sink.tells (g.K.Sink.taken c.args.out.now) (g.K.Sink.taken c.follow-followed.new.out) (g.F.Fetcher.starts c.args.fetcher.now) c.in-OtherUrl.is_late c.if-is_late.true (c.in-OtherUrl.ensures.went _ opened.last.reads)
+returns-then-is_late-clause-forwards g c p rounds opened many = finds_other_late g.C.Cell.tells g.C.Cell.state g.O.Origin.offers c.args.store.now c.args.tab c.args.offer c.args.url.now c.args.most p c.args.pass.now c.follow-followed.new.pass c.close_entry.new.pass rounds c.args.version c.args.looks opened many c.close_entry.ensures.parted (g.F.Fetcher.body c.args.fetcher.now c.args.url.now c.args.offer) g.K.Sink.tells (g.K.Sink.taken c.args.out.now) (g.K.Sink.taken c.follow-followed.new.out) (g.F.Fetcher.starts c.args.fetcher.now) c.in-OtherUrl.is_late c.if-is_late.true (c.in-OtherUrl.ensures.went _ opened.last.reads)
 
 pub returns-then-is_late-clause-station : goal.returns-then-is_late-clause-station
 returns-then-is_late-clause-station g c = c.in-OtherUrl.ensures.station
@@ -51,7 +51,7 @@ pub returns-then-is_late-clause-sink : goal.returns-then-is_late-clause-sink
 returns-then-is_late-clause-sink g c = c.in-OtherUrl.ensures.sink
 
 pub returns-in-Waited-clause-forwards : goal.returns-in-Waited-clause-forwards
-returns-in-Waited-clause-forwards g c p rounds opened many = waits g.C.Cell.tells g.C.Cell.state g.O.Origin.offers c.args.store.now c.args.tab c.args.offer c.args.url.now c.args.most p c.args.pass.now c.follow-followed.new.pass c.close_entry.new.pass rounds c.args.version c.args.looks opened many c.close_entry.ensures.parted (g.F.Fetcher.body c.args.fetcher.now c.args.offer) g.K.Sink.tells (g.K.Sink.taken c.args.out.now) (g.K.Sink.taken c.follow-followed.new.out) (g.F.Fetcher.starts c.args.fetcher.now) c.in-Waited.looks (c.in-Waited.ensures.went _ opened.last.reads)
+returns-in-Waited-clause-forwards g c p rounds opened many = waits g.C.Cell.tells g.C.Cell.state g.O.Origin.offers c.args.store.now c.args.tab c.args.offer c.args.url.now c.args.most p c.args.pass.now c.follow-followed.new.pass c.close_entry.new.pass rounds c.args.version c.args.looks opened many c.close_entry.ensures.parted (g.F.Fetcher.body c.args.fetcher.now c.args.url.now c.args.offer) g.K.Sink.tells (g.K.Sink.taken c.args.out.now) (g.K.Sink.taken c.follow-followed.new.out) (g.F.Fetcher.starts c.args.fetcher.now) c.in-Waited.looks (c.in-Waited.ensures.went _ opened.last.reads)
 
 pub returns-in-Waited-clause-station : goal.returns-in-Waited-clause-station
 returns-in-Waited-clause-station g c = c.in-Waited.ensures.station
@@ -60,7 +60,7 @@ pub returns-in-Waited-clause-sink : goal.returns-in-Waited-clause-sink
 returns-in-Waited-clause-sink g c = c.in-Waited.ensures.sink
 
 pub returns-in-SinkFault-clause-forwards : goal.returns-in-SinkFault-clause-forwards
-returns-in-SinkFault-clause-forwards g c p rounds opened many = inr (reads_in_vain g.C.Cell.tells g.C.Cell.state g.O.Origin.offers c.args.store.now c.args.tab c.args.offer c.args.url.now c.args.most p c.args.pass.now c.follow-followed.new.pass c.close_entry.new.pass rounds c.args.version c.args.looks opened many c.close_entry.ensures.parted (g.F.Fetcher.body c.args.fetcher.now c.args.offer) g.K.Sink.tells (g.K.Sink.taken c.args.out.now) (g.K.Sink.taken c.follow-followed.new.out) (g.F.Fetcher.starts c.args.fetcher.now) (c.in-SinkFault.ensures.went _ opened.last.reads))
+returns-in-SinkFault-clause-forwards g c p rounds opened many = inr (reads_in_vain g.C.Cell.tells g.C.Cell.state g.O.Origin.offers c.args.store.now c.args.tab c.args.offer c.args.url.now c.args.most p c.args.pass.now c.follow-followed.new.pass c.close_entry.new.pass rounds c.args.version c.args.looks opened many c.close_entry.ensures.parted (g.F.Fetcher.body c.args.fetcher.now c.args.url.now c.args.offer) g.K.Sink.tells (g.K.Sink.taken c.args.out.now) (g.K.Sink.taken c.follow-followed.new.out) (g.F.Fetcher.starts c.args.fetcher.now) (c.in-SinkFault.ensures.went _ opened.last.reads))
 
 pub returns-in-SinkFault-clause-station : goal.returns-in-SinkFault-clause-station
 returns-in-SinkFault-clause-station g c = inl c.in-SinkFault.ensures.station
@@ -70,7 +70,7 @@ returns-in-SinkFault-clause-sink g c = c.in-SinkFault.ensures.sink
 
 pub returns-else-is_late-clause-forwards : goal.returns-else-is_late-clause-forwards
 returns-else-is_late-clause-forwards g c p rounds opened many = let other = c.in-OtherUrl.ensures.went _ opened.last.reads in
-    c.fetch_past.ensures.forwards c.args.store.now c.args.tab p c.close_entry.new.pass c.args.most (g.K.Sink.taken c.args.out.now) (turns_out g.C.Cell.tells g.C.Cell.state g.O.Origin.offers c.args.store.now c.args.tab c.args.offer c.args.url.now c.args.most p c.args.pass.now c.follow-followed.new.pass c.close_entry.new.pass rounds c.args.version c.args.looks opened many c.close_entry.ensures.parted (g.F.Fetcher.body c.args.fetcher.now c.args.offer) g.K.Sink.tells (g.K.Sink.taken c.args.out.now) (g.K.Sink.taken c.follow-followed.new.out) (g.F.Fetcher.starts c.args.fetcher.now) c.in-OtherUrl.is_late c.if-is_late.false other) (unsent g.C.Cell.tells g.C.Cell.state g.O.Origin.offers c.args.store.now c.args.tab c.args.offer c.args.url.now c.args.most p c.args.pass.now c.follow-followed.new.pass c.close_entry.new.pass rounds c.args.version c.args.looks opened many c.close_entry.ensures.parted (g.F.Fetcher.body c.args.fetcher.now c.args.offer) g.K.Sink.tells (g.K.Sink.taken c.args.out.now) (g.K.Sink.taken c.follow-followed.new.out) (g.F.Fetcher.starts c.args.fetcher.now) c.in-OtherUrl.is_late c.if-is_late.false other)
+    c.fetch_past.ensures.forwards c.args.store.now c.args.tab p c.close_entry.new.pass c.args.most (g.K.Sink.taken c.args.out.now) (turns_out g.C.Cell.tells g.C.Cell.state g.O.Origin.offers c.args.store.now c.args.tab c.args.offer c.args.url.now c.args.most p c.args.pass.now c.follow-followed.new.pass c.close_entry.new.pass rounds c.args.version c.args.looks opened many c.close_entry.ensures.parted (g.F.Fetcher.body c.args.fetcher.now c.args.url.now c.args.offer) g.K.Sink.tells (g.K.Sink.taken c.args.out.now) (g.K.Sink.taken c.follow-followed.new.out) (g.F.Fetcher.starts c.args.fetcher.now) c.in-OtherUrl.is_late c.if-is_late.false other) (unsent g.C.Cell.tells g.C.Cell.state g.O.Origin.offers c.args.store.now c.args.tab c.args.offer c.args.url.now c.args.most p c.args.pass.now c.follow-followed.new.pass c.close_entry.new.pass rounds c.args.version c.args.looks opened many c.close_entry.ensures.parted (g.F.Fetcher.body c.args.fetcher.now c.args.url.now c.args.offer) g.K.Sink.tells (g.K.Sink.taken c.args.out.now) (g.K.Sink.taken c.follow-followed.new.out) (g.F.Fetcher.starts c.args.fetcher.now) c.in-OtherUrl.is_late c.if-is_late.false other)
 
 pub returns-else-is_late-clause-station : goal.returns-else-is_late-clause-station
 returns-else-is_late-clause-station g c = past Why.OtherUrl c.fetch_past.result _ _ c.fetch_past.ensures.past c.in-OtherUrl.ensures.station (inl c.in-OtherUrl.ensures.station)

@@ -6,12 +6,12 @@ use Rattle.collapse.proofs.sending.fetch_past.Goals as goal
 pub returns-in-Err-clause-forwards : goal.returns-in-Err-clause-forwards
 returns-in-Err-clause-forwards g c s t p q most old goes sends = record {
   stops = inr (c.args.why, goes);
-  sent = front_here g.K.Sink.tells old (g.K.Sink.taken c.args.out.now) [] (g.F.Fetcher.body c.args.fetcher.now c.args.offer) (g.F.Fetcher.body c.args.fetcher.now c.args.offer) sends refl;
+  sent = front_here g.K.Sink.tells old (g.K.Sink.taken c.args.out.now) [] (g.F.Fetcher.body c.args.fetcher.now c.args.url.now c.args.offer) (g.F.Fetcher.body c.args.fetcher.now c.args.url.now c.args.offer) sends refl;
   once = inl c.in-Err.ensures.unstarted;
 }
 
 pub returns-clause-forwards : goal.returns-clause-forwards
-returns-clause-forwards g c s t p q most old goes sends = c.send_past.ensures.forwards s t c.args.offer c.args.url.now p q (g.F.Fetcher.body c.args.fetcher.now c.args.offer) [] old (g.F.Fetcher.starts c.args.fetcher.now) most goes (sym c.in_default.ensures.left) sends c.in_default.ensures.started
+returns-clause-forwards g c s t p q most old goes sends = c.send_past.ensures.forwards s t c.args.offer c.args.url.now p q (g.F.Fetcher.body c.args.fetcher.now c.args.url.now c.args.offer) [] old (g.F.Fetcher.starts c.args.fetcher.now) most goes (sym c.in_default.ensures.left) sends c.in_default.ensures.started
 
 pub returns-clause-past : goal.returns-clause-past
 returns-clause-past g c = c.send_past.ensures.past
