@@ -2,7 +2,14 @@
 #![tactic(auto)]
 
 #[cfg(test)]
+mod cases;
+#[cfg(test)]
 mod fetching;
 #[cfg(test)]
-mod forwarding;
-mod shelf;
+mod other;
+#[cfg(test)]
+mod playing;
+#[cfg(test)]
+mod serving;
+#[cfg(test)]
+mod telling;
