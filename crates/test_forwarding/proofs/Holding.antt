@@ -1,6 +1,6 @@
 -- What is kept of tab 0 is so still.
-use Rattle.std.proofs.Common.{Bool, arith, ◌<◌, ◌≡◌, ◌∙◌, ℕ}
-use Rattle.std.specs.Prelude.{◌≢◌}
+use Rattle.std.proofs.Common.{Bool, arith, subst, sym, ◌≡◌, ◌∙◌, ℕ}
+use Rattle.std.specs.Prelude.{IsTrue, ◌≢◌}
 use Rattle.rock_disk.specs.Cell.{CellState}
 use Rattle.core_model.specs.Tabs.{tab_at}
 use Rattle.core_model.specs.declared.tab.Tab.TheVariants as tab
@@ -8,7 +8,7 @@ use Rattle.store_rule.specs.declared.store.Pass.{Pass}
 use Rattle.store_rule.specs.declared.store.Store.{Store}
 use Rattle.store_rule.specs.Ground.{Offers}
 use Rattle.store_rule.specs.Passes.{view}
-use Rattle.store_serve.specs.Tabs.{Entry, Holds, Leaves, ReadsAs, Standing, WritesAs}
+use Rattle.store_serve.specs.Tabs.{Entry, Holds, IsFree, Leaves, ReadsAs, Standing, WritesAs}
 use Rattle.store_serve.specs.declared.tabs.ScriptTab.{ScriptTab}
 use Rattle.store_serve.specs.declared.tabs.ScriptTab.TheVariants.{Free, Reading, Writing}
 use Rattle.test_forwarding.specs.Standing.{IsReady}
@@ -35,3 +35,8 @@ module _ {C O : Type 0} (tells : Bool) (state : C → CellState) (offers : O →
   -- so does one whose tab 7 was used, and is free
   pub ready_again : (p q : Pass C) → tab_at (view q) 7 ≡ tab.Free → Leaves tells state offers s 7 p q → IsReady tells state offers s q
   ready_again p q free leaves = record { ready = record { own = leaves.own; inner_free = leaves.inner_free }; free = free }
+
+  -- the same of an equal pass and an equal mark of whether its tab 0 was used
+  pub idle_still : {p q : Pass C} {i j : Bool} → p ≡ q → i ≡ j → IsReady tells state offers s q → (IsTrue j → IsFree q 0) → IsReady tells state offers s p × (IsTrue i → IsFree p 0)
+  idle_still {p} {q} {i} {j} same_pass same_mark ready idle =
+      subst (λ (x : Pass C). IsReady tells state offers s x × (IsTrue i → IsFree x 0)) (sym same_pass) (ready, subst (λ (b : Bool). IsTrue b → IsFree q 0) (sym same_mark) idle)

@@ -1,5 +1,5 @@
 -- New passes are taken from a list, one after the other.
-use Rattle.std.proofs.Common.{Bool, List, [], ap, arith, get_or, length, length-append, refl, subst, ◌++◌, ◌+◌, ◌<◌, ◌∷◌, ◌≡◌, ◌∙◌, ℕ}
+use Rattle.std.proofs.Common.{Bool, List, [], ap, arith, get_or, length, length-append, subst, ◌++◌, ◌∷◌, ◌≡◌, ◌∙◌, ℕ}
 use Rattle.std.specs.Prelude.{All, IfSome, None, Option, Some, option_to_list}
 use Rattle.std.proofs.Math.Seq.{get_or-append_seam}
 use Rattle.std.proofs.lemmas.List.{get_or_append_left}
@@ -9,7 +9,7 @@ use Rattle.rock_disk.specs.Cell.{CellState}
 use Rattle.store_rule.specs.declared.store.Pass.{Pass}
 use Rattle.store_rule.specs.declared.store.Store.{Store}
 use Rattle.store_rule.specs.Ground.{Offers}
-use Rattle.store_rule.specs.Passes.{IsNewOf, view}
+use Rattle.store_rule.specs.Passes.{IsNewOf}
 use Rattle.store_serve.specs.declared.tabs.ScriptTab.TheVariants.{Free}
 use Rattle.test_forwarding.specs.Standing.{IsAtWork}
 

@@ -1,5 +1,5 @@
 -- How a worker stands between two lines, and what the lines of a script are that was read.
-use Rattle.std.specs.Prelude.{All, Bool, List, ◌≡◌, ℕ}
+use Rattle.std.specs.Prelude.{All, Bool, List, ◌≡◌}
 use Rattle.rock_disk.specs.Cell.{CellState}
 use Rattle.rock_run.specs.Asked.{IsAsked, IsFound}
 use Rattle.rock_run.specs.Offered.{offers_of}
