@@ -1,0 +1,4 @@
+pub mod Ready
+pub mod Writing
+pub mod Reading
+pub mod Filed
