@@ -1,9 +1,11 @@
 mod images;
+mod other_rows;
 mod rows;
 
 use crate::play::{numbers, parted, play};
 use core_state::{Core, Picks, Step, StepFault};
-use rows::{NO_STEPS, SCRIPTS, SECOND_WORD};
+use other_rows::{NO_STEPS, SECOND_WORD};
+use rows::SCRIPTS;
 use std::alloc::Global;
 use test_core_kit::{blank_core, make};
 
