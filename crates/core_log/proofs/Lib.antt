@@ -15,5 +15,4 @@ pub mod NotesLogged
 pub mod Within
 pub mod HasLog
 pub mod Rewritten
-pub mod Wiped
 pub mod Few

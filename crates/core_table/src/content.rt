@@ -7,6 +7,4 @@ pub enum Content {
     Opened { slot: u32 },
     /// A part of an offered response.
     Offered(Piece),
-    /// What a slot holds that was wiped.
-    Blank,
 }
