@@ -1,4 +1,4 @@
-// Stories are played: texts that say what is done to a volume of files in memory, and what comes of it. `story_text` tells
+// Stories are played: texts that say what is done to a volume of files in memory, and what comes of it. `test_stories` tells
 // their form.
 ghost use Rattle.rock_disk.specs.File.{NoneAway};
 ghost use Rattle.rock_disk.specs.Memory.{volume_files};
