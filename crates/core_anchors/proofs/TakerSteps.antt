@@ -37,14 +37,14 @@ use Rattle.core_change.proofs.Facts.{readers_are}
 use Rattle.core_anchors.proofs.ReaderSteps.{word_there}
 
 -- the tabs of an anchor that is taken
-tabs_taken : (v : View Content) (t a version : ℕ) (c : Chain) (idle : Bool)
-    → tabs_changed v (taken_change t a version idle c) ≡ set (cond idle (set v.tabs inner (Freeing (freer_of a false c))) v.tabs) t (Writing (writer_of a version))
-tabs_taken v t a version c true = refl
-tabs_taken v t a version c false = refl
+tabs_taken : (v : View Content) (t a version n : ℕ) (c : Chain) (idle : Bool)
+    → tabs_changed v (taken_change t a version idle n c) ≡ set (cond idle (set v.tabs inner (Freeing (freer_of a false n c))) v.tabs) t (Writing (writer_of a version))
+tabs_taken v t a version n c true = refl
+tabs_taken v t a version n c false = refl
 
-tabs_taken_fit : (v : View Content) (t a version : ℕ) (c : Chain) (idle : Bool) → t < length v.tabs → inner < length v.tabs → FitsTabs v (taken_change t a version idle c)
-tabs_taken_fit v t a version c true lt il = (il, lt)
-tabs_taken_fit v t a version c false lt il = lt
+tabs_taken_fit : (v : View Content) (t a version n : ℕ) (c : Chain) (idle : Bool) → t < length v.tabs → inner < length v.tabs → FitsTabs v (taken_change t a version idle n c)
+tabs_taken_fit v t a version n c true lt il = (il, lt)
+tabs_taken_fit v t a version n c false lt il = lt
 
 module _ (o : Opening) (t : Table) (v : View Content) (scene : IsScene o t v) (a : ℕ) (within : a < o.anchors) (w : Word) (number : word_number w ≡ slice_index t.words.items (anchor_index a)) (range : IsInRange w) (last : ℕ) (last_is : last ≡ last_find a v.trail) (found : ℕ) (found_is : found ≡ word_number w) where
   n : slice_index t.words.items (anchor_index a) ≡ found
@@ -73,7 +73,7 @@ module _ (o : Opening) (t : Table) (v : View Content) (scene : IsScene o t v) (a
         → seen ≡ epoch_of left
         → idle ≡ is_idle (word_number w)
         → c ≡ get_or t.chains.items a no_chain
-        → change ≡ taken_change at a version idle c
+        → change ≡ taken_change at a version idle (word_number w) c
         → e ≡ no_chain
         → base ≡ anchor_addition kind.Changed a found left seen
         → index ≡ anchor_index a
@@ -115,8 +115,8 @@ module _ (o : Opening) (t : Table) (v : View Content) (scene : IsScene o t v) (a
                 places = refl;
                 views = λ i. refl;
               }
-              (ap (tabs_changed v) change_is ∙ tabs_taken v at a version c idle
-              ∙ (λ j. set (cond (idles j) (set v.tabs inner (Freeing (freer_of a false (c_is j)))) v.tabs) at (Writing (writer_of a version)))
+              (ap (tabs_changed v) change_is ∙ tabs_taken v at a version (word_number w) c idle
+              ∙ (λ j. set (cond (idles j) (set v.tabs inner (Freeing (freer_of a false (number j) (c_is j)))) v.tabs) at (Writing (writer_of a version)))
               ∙ sym (ap (λ b. cond b (taken_tabs v at a version (finding (setting o) (state t) v (move.Take at a version))) v.tabs) yes))
               refl
               ((λ j. record { pass = v.pass; kind = kind.Changed; anchor = a; epoch = (seen_is ∙ ap epoch_of (sym left_word)) j; was_idle = idles j } ∷ [])
@@ -125,7 +125,7 @@ module _ (o : Opening) (t : Table) (v : View Content) (scene : IsScene o t v) (a
               (ap (λ (d : Chain). set t.chains.items a d) e_is ∙ sym (ap (λ b. cond b (set t.chains.items a no_chain) t.chains.items) yes));
           word = let there = word_there o t v scene a within in omega (arith, index_is, there);
           turn = tt;
-          tabs = subst (λ (y : TabsChange). FitsTabs v y) (sym change_is) (tabs_taken_fit v at a version c idle (let nine = nine in omega arith) (let nine = nine in omega arith));
+          tabs = subst (λ (y : TabsChange). FitsTabs v y) (sym change_is) (tabs_taken_fit v at a version (word_number w) c idle (let nine = nine in omega arith) (let nine = nine in omega arith));
           chain = let many = scene.sound.shaped.chains in omega arith;
         }
 
@@ -149,7 +149,7 @@ module _ (o : Opening) (t : Table) (v : View Content) (scene : IsScene o t v) (a
         → seen ≡ epoch_of left
         → idle ≡ is_idle (word_number w)
         → c ≡ get_or t.chains.items a no_chain
-        → change ≡ evicted_change at a c
+        → change ≡ evicted_change at a (word_number w) c
         → e ≡ no_chain
         → base ≡ anchor_addition kind.Changed a found left seen
         → index ≡ anchor_index a
@@ -198,7 +198,7 @@ module _ (o : Opening) (t : Table) (v : View Content) (scene : IsScene o t v) (a
                 views = λ i. refl;
               }
               (ap (tabs_changed v) change_is
-              ∙ (λ j. set (set v.tabs at Free) inner (Freeing (freer_of a true (c_is j))))
+              ∙ (λ j. set (set v.tabs at Free) inner (Freeing (freer_of a true (number j) (c_is j))))
               ∙ sym (ap (λ b. cond b (evicted_tabs v at a (finding (setting o) (state t) v (move.Evict at a))) (set v.tabs at Free)) yes))
               refl
               ((λ j. record { pass = v.pass; kind = kind.Changed; anchor = a; epoch = (seen_is ∙ ap epoch_of (sym left_word)) j; was_idle = idles j } ∷ [])

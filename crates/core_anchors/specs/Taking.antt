@@ -1,4 +1,4 @@
--- What becomes of tabs where an anchor is taken or its entry is freed.
+-- What becomes of tabs where an anchor is taken or its entry is freed, with the word n found there.
 use Rattle.std.specs.Prelude.{ℕ, Bool, true, false, cond, Option, Some}
 use Rattle.lock_word.specs.Words.{epoch_of}
 use Rattle.core_model.specs.declared.chain.Chain.{Chain}
@@ -16,14 +16,14 @@ use Rattle.core_change.specs.declared.turn_change.TurnChange.TheVariants as turn
 use Rattle.core_change.specs.Changed.{anchor_addition}
 
 -- the tab t writes, and where the entry was idle its chain goes to the inner tab
-abbrev pub taken_change : ℕ → ℕ → ℕ → Bool → Chain → TabsChange
-taken_change t a version was_idle c = cond was_idle
-    (tabs.PutTwo inner (Freeing (freer_of a false c)) t (Writing (writer_of a version)))
+abbrev pub taken_change : ℕ → ℕ → ℕ → Bool → ℕ → Chain → TabsChange
+taken_change t a version was_idle n c = cond was_idle
+    (tabs.PutTwo inner (Freeing (freer_of a false n c)) t (Writing (writer_of a version)))
     (tabs.Put t (Writing (writer_of a version)))
 
 -- the tab t is last no longer, and the chain goes to the inner tab
-abbrev pub evicted_change : ℕ → ℕ → Chain → TabsChange
-evicted_change t a c = tabs.PutTwo t Free inner (Freeing (freer_of a true c))
+abbrev pub evicted_change : ℕ → ℕ → ℕ → Chain → TabsChange
+evicted_change t a n c = tabs.PutTwo t Free inner (Freeing (freer_of a true n c))
 
 -- this word stands at the anchor a, and the pass last found another one there: the word stays
 abbrev pub missed_change : ℕ → ℕ → Option ℕ → TabsChange → Option ℕ → Change

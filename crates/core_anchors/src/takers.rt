@@ -1,7 +1,7 @@
 // Steps that take an anchor: for a new entry, or to give the slots of an old one back.
 ghost use Rattle.std.specs.Prelude.{◌≡◌, ◌↔◌, IsTrue, IfOk, IsErrOf, MatchOption, false};
 ghost use Rattle.lock_word.specs.declared.stage.Stage.TheVariants.{Taken, Freeing};
-ghost use Rattle.lock_word.specs.Words.{is_idle, word_number};
+ghost use Rattle.lock_word.specs.Words.{is_idle, word_number, IsInRange};
 ghost use Rattle.core_model.specs.declared.moves.Move.TheVariants as move;
 ghost use Rattle.core_model.specs.Trails.{last_find};
 ghost use Rattle.core_model.specs.Table.{Allowed};
@@ -68,15 +68,17 @@ fn taken_change(
     anchor: u32,
     version: u32,
     was_idle: bool,
+    word: &Word,
     chain: &Chain,
 ) -> Result<TabsChange, AllocError>
-    ensures { IfOk result (λ change. change ≡ taken_change tab anchor version was_idle chain.now) }
+    requires { IsInRange word.now }
+    ensures { IfOk result (λ change. change ≡ taken_change tab anchor version was_idle (word_number word.now) chain.now) }
 {
     if !was_idle {
         let writer = writer_of(alloc, anchor, version);
         return Ok(TabsChange::Put(tab, Tab::Writing(writer)));
     }
-    let freer = freer_of(alloc, anchor, false, chain)?;
+    let freer = freer_of(alloc, anchor, false, word, chain)?;
     let writer = writer_of(alloc, anchor, version);
     Ok(TabsChange::PutTwo(INNER_TAB, Tab::Freeing(freer), tab, Tab::Writing(writer)))
 }
@@ -85,11 +87,13 @@ fn evicted_change(
     alloc: Global,
     tab: u8,
     anchor: u32,
+    word: &Word,
     chain: &Chain,
 ) -> Result<TabsChange, AllocError>
-    ensures { IfOk result (λ change. change ≡ evicted_change tab anchor chain.now) }
+    requires { IsInRange word.now }
+    ensures { IfOk result (λ change. change ≡ evicted_change tab anchor (word_number word.now) chain.now) }
 {
-    let freer = freer_of(alloc, anchor, true, chain)?;
+    let freer = freer_of(alloc, anchor, true, word, chain)?;
     Ok(TabsChange::PutTwo(tab, Tab::Free, INNER_TAB, Tab::Freeing(freer)))
 }
 
@@ -174,7 +178,7 @@ pub fn take(
     }
     let was_idle = is_idle(&word);
     let chain = &table.chains[anchor as usize];
-    let tabs = taken_change(alloc, tab, anchor, version, was_idle, chain)?;
+    let tabs = taken_change(alloc, tab, anchor, version, was_idle, &word, chain)?;
     let left = taken_word(version);
     let seen = epoch_bits(left);
     let deed = Deed {
@@ -231,7 +235,7 @@ pub fn evict(
         let tabs = TabsChange::Put(tab, Tab::Free);
         return Ok(missed(opening, anchor, found, met, tabs, None));
     }
-    let tabs = evicted_change(alloc, tab, anchor, &table.chains[anchor as usize])?;
+    let tabs = evicted_change(alloc, tab, anchor, &word, &table.chains[anchor as usize])?;
     let left = freed_word(&word);
     let seen = epoch_bits(left);
     let deed = Deed {

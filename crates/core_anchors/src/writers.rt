@@ -52,7 +52,7 @@ fn may_raise(writer: &Writer<Content>, to: Stage) -> bool
     }
 }
 
-fn may_end(freer: &Freer, to: Stage) -> bool
+fn may_end(freer: &Freer<Content>, to: Stage) -> bool
     ensures { IsTrue result ↔ MayEnd freer.now to }
 {
     to == Stage::Gone

@@ -2,7 +2,7 @@
 use Rattle.std.specs.Prelude.{ℕ, ◌<◌, List, Option, None, slice_set, slice_index_or}
 use Rattle.core_model.specs.declared.tab.Cell.{Cell}
 use Rattle.core_model.specs.declared.tab.Tab.{Tab}
-use Rattle.core_model.specs.declared.tab.Tab.TheVariants.{Free, Reading, Writing}
+use Rattle.core_model.specs.declared.tab.Tab.TheVariants.{Free, Freeing, Reading, Writing}
 use Rattle.core_model.specs.declared.tab.Turn.{Turn}
 use Rattle.core_model.specs.declared.tab.Turn.TheVariants.{NoTurn}
 use Rattle.core_model.specs.Tabs.{turn_of}
@@ -11,10 +11,11 @@ use Rattle.core_table.specs.declared.content.Content.{Content}
 use Rattle.core_change.specs.declared.turn_change.TurnChange.{TurnChange}
 use Rattle.core_change.specs.declared.turn_change.TurnChange.TheVariants.{Same, Taken, Ended}
 
--- a tab that reads or writes, with this turn
+-- a tab that reads, writes or frees, with this turn
 abbrev pub with_turn : Tab Content → Turn Content → Tab Content
 with_turn (Reading r) turn = Reading record r { turn = turn }
 with_turn (Writing w) turn = Writing record w { turn = turn }
+with_turn (Freeing f) turn = Freeing record f { turn = turn }
 with_turn tab turn = tab
 
 abbrev pub turned : List (Tab Content) → List (Option (Cell Content)) → TurnChange → List (Tab Content)

@@ -44,7 +44,8 @@ fn cell_held(turn: Turn<Content>) -> Option<Cell<Content>>
     }
 }
 
-/// The tab with this turn, and the turn that it had. Where it neither reads nor writes it stays as it is.
+/// The tab with this turn, and the turn that it had. Where it neither reads nor
+/// writes nor frees it stays as it is.
 fn with_turn(tab: Tab<Content>, turn: Turn<Content>) -> (Tab<Content>, Turn<Content>)
     ensures tab { result.0 ≡ with_turn tab turn }
     ensures turn { result.1 ≡ turn_of tab }
@@ -57,6 +58,10 @@ fn with_turn(tab: Tab<Content>, turn: Turn<Content>) -> (Tab<Content>, Turn<Cont
         Tab::Writing(mut writer) => {
             let had = mem::replace(&mut writer.turn, turn);
             (Tab::Writing(writer), had)
+        }
+        Tab::Freeing(mut freer) => {
+            let had = mem::replace(&mut freer.turn, turn);
+            (Tab::Freeing(freer), had)
         }
         tab => (tab, Turn::NoTurn),
     }

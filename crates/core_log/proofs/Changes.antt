@@ -34,7 +34,7 @@ use Rattle.core_model.specs.Steps.{number_found, cell_found, finding}
 use Rattle.core_model.specs.AnchorMoves.{entered, left_tab, writer_of, freer_of, raised_tab, taken_tabs, evicted_tabs}
 use Rattle.core_model.specs.Chains.{without}
 use Rattle.core_model.specs.SlotMoves.{loaded, stores, reserves, misses, searches, goes_past, begun_at, gives_back, publishes, loosens, looks, MayGiveBack}
-use Rattle.core_model.specs.CellMoves.{MayLog, MayRead, MayWrite, logs, piece_of, turn_with, tries, ends, moved, moves, is_kept, rewritten, rewrites, settled_by_write, settled_by_sync, cell_held, chosen_content, map_some, written_cell, wrote, synced}
+use Rattle.core_model.specs.CellMoves.{MayLog, MayRead, MayWrite, logs, piece_of, turn_with, tries, ends, moved, moves, is_kept, rewritten, rewrites, settled_by_write, settled_by_sync, cell_held, chosen_content, map_some, written_cell, wrote, synced, MayWipe}
 use Rattle.core_model.specs.Table.{tabs_after, left_by, Allowed}
 use Rattle.core_model.proofs.Lists.{at_set, at_or, cons_contains, contains_none}
 
@@ -144,12 +144,12 @@ module _ {X : Type 0} (k : Setting X) (s : State X) where
   left_goes m u x a true = (turn_gone x (Last a) refl, tt)
   left_goes m u x a false = (turn_gone x Free refl, tt)
 
-  freed_goes : (m : Move) (u : ℕ) (x : Tab X) (f : Freer) → Goes m u x (Freeing f)
-  freed_goes m u x f = (turn_gone x (Freeing f) refl, tt)
+  freed_goes : (m : Move) (u : ℕ) (x : Tab X) (f : Freer X) → f.turn ≡ NoTurn → Goes m u x (Freeing f)
+  freed_goes m u x f none = (turn_gone x (Freeing f) none, tt)
 
-  settled_goes : (m : Move) (u : ℕ) (x : Tab X) (f : Freer) (b : Bool) → Goes m u x (cond b Free (Freeing f))
-  settled_goes m u x f true = gone m u x
-  settled_goes m u x f false = freed_goes m u x f
+  settled_goes : (m : Move) (u : ℕ) (f g : Freer X) (b : Bool) → g.turn ≡ f.turn → Goes m u (Freeing f) (cond b Free (Freeing g))
+  settled_goes m u f g true same = gone m u (Freeing f)
+  settled_goes m u f g false same = (turn_stays (Freeing f) (Freeing g) same, tt)
 
   taken_goes : (m : Move) (u : ℕ) (x : Tab X) (a version : ℕ) → Goes m u x (Writing (writer_of a version))
   taken_goes m u x a version = (turn_gone x (Writing (writer_of a version)) refl, ((λ p e. absurd (none_some p e)), (λ h p e z. absurd (not_has h e))))
@@ -196,7 +196,7 @@ module _ {X : Type 0} (k : Setting X) (s : State X) where
   )
   gives_back_goes m u slot (Writing w) (inr may) = absurd may
   gives_back_goes m u slot (Last b) may = itself m u (Last b)
-  gives_back_goes m u slot (Freeing f) may = settled_goes m u (Freeing f) record f { loose = without slot f.loose } ((length f.rest == 0) && (length (without slot f.loose) == 0) && not f.is_freeing)
+  gives_back_goes m u slot (Freeing f) may = settled_goes m u f record f { loose = without slot f.loose } ((length f.rest == 0) && (length (without slot f.loose) == 0) && not f.is_freeing) refl
 
   publishes_goes : (m : Move) (u : ℕ) (slot : ℕ) (link : Link) (x : Tab X) → Goes m u x (publishes x slot link)
   publishes_goes m u slot link Free = itself m u Free
@@ -212,7 +212,7 @@ module _ {X : Type 0} (k : Setting X) (s : State X) where
   loosens_goes m u slots (Reading r) = itself m u (Reading r)
   loosens_goes m u slots (Writing w) = itself m u (Writing w)
   loosens_goes m u slots (Last b) = itself m u (Last b)
-  loosens_goes m u slots (Freeing f) = (turn_gone (Freeing f) (loosens (Freeing f) slots) refl, tt)
+  loosens_goes m u slots (Freeing f) = (turn_stays (Freeing f) (loosens (Freeing f) slots) refl, tt)
 
   looks_goes : (m : Move) (u : ℕ) (n : ℕ) (x : Tab X) → Goes m u x (looks x n)
   looks_goes m u n Free = itself m u Free
@@ -220,7 +220,7 @@ module _ {X : Type 0} (k : Setting X) (s : State X) where
   looks_goes m u n (Reading r) = (turn_stays (Reading r) (looks (Reading r) n) refl, tt)
   looks_goes m u n (Writing w) = itself m u (Writing w)
   looks_goes m u n (Last b) = itself m u (Last b)
-  looks_goes m u n (Freeing f) = (turn_gone (Freeing f) (looks (Freeing f) n) refl, tt)
+  looks_goes m u n (Freeing f) = (turn_stays (Freeing f) (looks (Freeing f) n) refl, tt)
 
   raised_goes : (m : Move) (u : ℕ) (to : Stage) (n : ℕ) (x : Tab X) → Goes m u x (raised_tab x to n)
   raised_goes m u to n Free = left_goes m u Free 0 (is_left_over n)
@@ -270,7 +270,7 @@ module _ {X : Type 0} (k : Setting X) (s : State X) where
     ((λ p e. inl record { writer = w; is = refl; chosen = e; slot_same = refl }), (λ h p e z. absurd (not_has h e))),
   )
   ends_goes m u then (Last b) = itself m u (Last b)
-  ends_goes m u then (Freeing f) = itself m u (Freeing f)
+  ends_goes m u then (Freeing f) = (turn_gone (Freeing f) (ends (Freeing f) then) refl, tt)
 
   -- a turn whose cell is out or in its place
   moved_was : (old : Tab X) (t : TurnOf X) → turn_of old ≡ t → (out : Bool) (h : Hold X) → moved t out ≡ Has h → HoldWas old h
@@ -290,7 +290,7 @@ module _ {X : Type 0} (k : Setting X) (s : State X) where
     ),
   )
   moves_goes m u out (Last b) = itself m u (Last b)
-  moves_goes m u out (Freeing f) = itself m u (Freeing f)
+  moves_goes m u out (Freeing f) = ((λ h e. inl (moved_was (Freeing f) f.turn refl out h e)), tt)
 
   -- To write the cell, and to sync it.
 
@@ -322,13 +322,13 @@ module _ {X : Type 0} (k : Setting X) (s : State X) where
   synced_adds c true content = λ x h. ⊎_elim (λ (q : c.now ≡ x). inr (inl (sym q))) (λ (q : Contains [] x). absurd (contains_none x q)) (cons_contains c.now x [] h)
   synced_adds c false content = adds_none c content
 
-  rewritten_was : (w : Writer X) (kept settled : Bool) (f : Option (Cell X) → Option (Cell X)) → ((c : Cell X) → AddsIn c (map_some k.image w.chosen) (f (Some c)))
-      → (t : TurnOf X) → w.turn ≡ t → (h : Hold X) → rewritten t kept settled (f (cell_held t)) ≡ Has h → HoldWas (Writing w) h
-  rewritten_was w kept settled f adds NoTurn e h q = absurd (not_has h q)
-  rewritten_was w kept settled f adds (Has g) e h q = of_cell (f (Some g.cell)) (adds g.cell) q
+  rewritten_was : (old : Tab X) (kept settled : Bool) (f : Option (Cell X) → Option (Cell X)) → ((c : Cell X) → AddsIn c (chosen_content k old) (f (Some c)))
+      → (t : TurnOf X) → turn_of old ≡ t → (h : Hold X) → rewritten t kept settled (f (cell_held t)) ≡ Has h → HoldWas old h
+  rewritten_was old kept settled f adds NoTurn e h q = absurd (not_has h q)
+  rewritten_was old kept settled f adds (Has g) e h q = of_cell (f (Some g.cell)) (adds g.cell) q
     where
-      of_cell : (d : Option (Cell X)) → AddsIn g.cell (map_some k.image w.chosen) d
-          → ◌≡◌ {A = TurnOf X} (Has record g { cell = unwrap_or d g.cell; is_written = g.is_written || kept; is_settled = settled }) (Has h) → HoldWas (Writing w) h
+      of_cell : (d : Option (Cell X)) → AddsIn g.cell (chosen_content k old) d
+          → ◌≡◌ {A = TurnOf X} (Has record g { cell = unwrap_or d g.cell; is_written = g.is_written || kept; is_settled = settled }) (Has h) → HoldWas old h
       of_cell (Some d) more q = let same = one_hold (record g { cell = d; is_written = g.is_written || kept; is_settled = settled }) h q in
           record { hold = g; turn = e; slot_is = ap Hold.slot same; possible = λ x c. more x (subst (λ (z : Hold X). Contains z.cell.possible x) (sym same) c) }
       of_cell None more q = let same = one_hold (record g { cell = g.cell; is_written = g.is_written || kept; is_settled = settled }) h q in
@@ -340,14 +340,14 @@ module _ {X : Type 0} (k : Setting X) (s : State X) where
   rewrites_goes m u kept settled f adds (Retreating b) = itself m u (Retreating b)
   rewrites_goes m u kept settled f adds (Reading r) = itself m u (Reading r)
   rewrites_goes m u kept settled f adds (Writing w) = (
-    (λ h e. inl (rewritten_was w kept settled (f (map_some k.image w.chosen)) (λ c. adds c (map_some k.image w.chosen)) w.turn refl h e)),
+    (λ h e. inl (rewritten_was (Writing w) kept settled (f (map_some k.image w.chosen)) (λ c. adds c (map_some k.image w.chosen)) w.turn refl h e)),
     (
       (λ p e. inl record { writer = w; is = refl; chosen = e; slot_same = refl }),
-      (λ h p e z. let was = rewritten_was w kept settled (f (map_some k.image w.chosen)) (λ c. adds c (map_some k.image w.chosen)) w.turn refl h e in inl record { writer = w; is = refl; hold = was.hold; turn = was.turn; same = was.slot_is; slot_same = refl }),
+      (λ h p e z. let was = rewritten_was (Writing w) kept settled (f (map_some k.image w.chosen)) (λ c. adds c (map_some k.image w.chosen)) w.turn refl h e in inl record { writer = w; is = refl; hold = was.hold; turn = was.turn; same = was.slot_is; slot_same = refl }),
     ),
   )
   rewrites_goes m u kept settled f adds (Last b) = itself m u (Last b)
-  rewrites_goes m u kept settled f adds (Freeing f') = itself m u (Freeing f')
+  rewrites_goes m u kept settled f adds (Freeing g) = ((λ h e. inl (rewritten_was (Freeing g) kept settled (f (Some k.blank)) (λ c. adds c (Some k.blank)) g.turn refl h e)), tt)
 
   -- To try for a turn.
 
@@ -364,14 +364,15 @@ module _ {X : Type 0} (k : Setting X) (s : State X) where
   held_there slot None h q = absurd (not_has h q)
   held_there slot (Some c) h q = ap Hold.slot (one_hold (record { slot = slot; cell = c; is_out = false; is_written = false; is_settled = false }) h q)
 
-  tries_goes : (u slot n : ℕ) (x : Tab X) → OfReader (MayRead s slot) x ⊎ OfWriter (MayWrite slot) x → Goes (TryTurn u slot) u x (tries x slot n (get_or s.places slot None))
+  tries_goes : (u slot n : ℕ) (x : Tab X) → OfReader (MayRead s slot) x ⊎ OfWriter (MayWrite slot) x ⊎ OfFreer (MayWipe slot) x → Goes (TryTurn u slot) u x (tries x slot n (get_or s.places slot None))
   tries_goes u slot n Free may = itself (TryTurn u slot) u Free
   tries_goes u slot n (Retreating b) may = itself (TryTurn u slot) u (Retreating b)
   tries_goes u slot n (Last b) may = itself (TryTurn u slot) u (Last b)
-  tries_goes u slot n (Freeing f) may = itself (TryTurn u slot) u (Freeing f)
+  tries_goes u slot n (Freeing f) may = ((λ h e. tried_turn (Freeing f) slot (n == 0) h e), tt)
   tries_goes u slot n (Reading r) may = ((λ h e. tried_turn (Reading r) slot (n == 0) h e), tt)
   tries_goes u slot n (Writing w) (inl may) = absurd may
-  tries_goes u slot n (Writing w) (inr may) = (
+  tries_goes u slot n (Writing w) (inr (inr may)) = absurd may
+  tries_goes u slot n (Writing w) (inr (inl may)) = (
     (λ h e. tried_turn (Writing w) slot (n == 0) h e),
     ((λ p e. inl record { writer = w; is = refl; chosen = e; slot_same = refl }), (λ h p e z. by_try (n == 0) h e)),
   )
@@ -424,13 +425,13 @@ module _ {X : Type 0} (k : Setting X) (s : State X) where
     tabs_go Count may = untouched Count
     tabs_go Draw may = untouched Draw
     tabs_go (Take t a u) may = either (Take t a u) (word s a == last_find a v.trail) (taken_tabs v t a u (finding k s v (Take t a u))) v.tabs
-        (one (Take t a u) (cond (is_idle (word s a)) (set v.tabs inner (Freeing (freer_of a false (chain_of s a)))) v.tabs)
-        (either (Take t a u) (is_idle (word s a)) (set v.tabs inner (Freeing (freer_of a false (chain_of s a)))) v.tabs
-        (one (Take t a u) v.tabs (untouched (Take t a u)) inner (Freeing (freer_of a false (chain_of s a))) (freed_goes (Take t a u) inner (tab_at v inner) (freer_of a false (chain_of s a)))) (untouched (Take t a u)))
+        (one (Take t a u) (cond (is_idle (word s a)) (set v.tabs inner (Freeing (freer_of a false (word s a) (chain_of s a)))) v.tabs)
+        (either (Take t a u) (is_idle (word s a)) (set v.tabs inner (Freeing (freer_of a false (word s a) (chain_of s a)))) v.tabs
+        (one (Take t a u) v.tabs (untouched (Take t a u)) inner (Freeing (freer_of a false (word s a) (chain_of s a))) (freed_goes (Take t a u) inner (tab_at v inner) (freer_of a false (word s a) (chain_of s a)) refl)) (untouched (Take t a u)))
         t (Writing (writer_of a u)) (taken_goes (Take t a u) t (tab_at v t) a u))
         (untouched (Take t a u))
     tabs_go (Evict t a) may = either (Evict t a) (word s a == last_find a v.trail) (evicted_tabs v t a (finding k s v (Evict t a))) (set v.tabs t Free)
-        (one (Evict t a) (set v.tabs t Free) (one (Evict t a) v.tabs (untouched (Evict t a)) t Free (gone (Evict t a) t (tab_at v t))) inner (Freeing (freer_of a true (chain_of s a))) (freed_goes (Evict t a) inner (tab_at v inner) (freer_of a true (chain_of s a))))
+        (one (Evict t a) (set v.tabs t Free) (one (Evict t a) v.tabs (untouched (Evict t a)) t Free (gone (Evict t a) t (tab_at v t))) inner (Freeing (freer_of a true (word s a) (chain_of s a))) (freed_goes (Evict t a) inner (tab_at v inner) (freer_of a true (word s a) (chain_of s a)) refl))
         (one (Evict t a) v.tabs (untouched (Evict t a)) t Free (gone (Evict t a) t (tab_at v t)))
     tabs_go (Raise t to) may = one (Raise t to) v.tabs (untouched (Raise t to)) t (raised_tab (tab_at v t) to (left_by v (Raise t to) (word s (anchor_of (tab_at v t))))) (raised_goes (Raise t to) t to (left_by v (Raise t to) (word s (anchor_of (tab_at v t)))) (tab_at v t))
     tabs_go (Doom t) may = untouched (Doom t)

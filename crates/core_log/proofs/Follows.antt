@@ -119,7 +119,7 @@ module _ {X : Type 0} (k : Setting X) (s : State X) (v : View X) where
   left_goes m u x a true = tt
   left_goes m u x a false = tt
 
-  settled_goes : (m : Move) (u : ℕ) (x : Tab X) (f : Freer) (b : Bool) → Follow m u x (cond b Free (Freeing f))
+  settled_goes : (m : Move) (u : ℕ) (x : Tab X) (f : Freer X) (b : Bool) → Follow m u x (cond b Free (Freeing f))
   settled_goes m u x f true = tt
   settled_goes m u x f false = tt
 
@@ -302,13 +302,13 @@ module _ {X : Type 0} (k : Setting X) (s : State X) (v : View X) where
   tabs_follow Count may = untouched Count
   tabs_follow Draw may = untouched Draw
   tabs_follow (Take t a u) may = either (Take t a u) (word s a == last_find a v.trail) (taken_tabs v t a u (finding k s v (Take t a u))) v.tabs
-      (one (Take t a u) (cond (is_idle (word s a)) (set v.tabs inner (Freeing (freer_of a false (chain_of s a)))) v.tabs)
-      (either (Take t a u) (is_idle (word s a)) (set v.tabs inner (Freeing (freer_of a false (chain_of s a)))) v.tabs
-      (one (Take t a u) v.tabs (untouched (Take t a u)) inner (Freeing (freer_of a false (chain_of s a))) tt) (untouched (Take t a u)))
+      (one (Take t a u) (cond (is_idle (word s a)) (set v.tabs inner (Freeing (freer_of a false (word s a) (chain_of s a)))) v.tabs)
+      (either (Take t a u) (is_idle (word s a)) (set v.tabs inner (Freeing (freer_of a false (word s a) (chain_of s a)))) v.tabs
+      (one (Take t a u) v.tabs (untouched (Take t a u)) inner (Freeing (freer_of a false (word s a) (chain_of s a))) tt) (untouched (Take t a u)))
       t (Writing (writer_of a u)) (taken_goes (Take t a u) t (tab_at v t) a u may.1.held))
       (untouched (Take t a u))
   tabs_follow (Evict t a) may = either (Evict t a) (word s a == last_find a v.trail) (evicted_tabs v t a (finding k s v (Evict t a))) (set v.tabs t Free)
-      (one (Evict t a) (set v.tabs t Free) (one (Evict t a) v.tabs (untouched (Evict t a)) t Free tt) inner (Freeing (freer_of a true (chain_of s a))) tt)
+      (one (Evict t a) (set v.tabs t Free) (one (Evict t a) v.tabs (untouched (Evict t a)) t Free tt) inner (Freeing (freer_of a true (word s a) (chain_of s a))) tt)
       (one (Evict t a) v.tabs (untouched (Evict t a)) t Free tt)
   tabs_follow (Raise t to) may = one (Raise t to) v.tabs (untouched (Raise t to)) t (raised_tab (tab_at v t) to (left_by v (Raise t to) (word s (anchor_of (tab_at v t))))) (raised_goes (Raise t to) t to (left_by v (Raise t to) (word s (anchor_of (tab_at v t)))) (tab_at v t))
   tabs_follow (Doom t) may = untouched (Doom t)

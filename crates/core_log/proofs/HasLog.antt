@@ -3,6 +3,8 @@ use Rattle.std.proofs.Common.{◌≡◌, ⊎_elim, ℕ, ◌<◌, ◌^◌, List, 
 use mathlib.Core.Option.{some}
 use lib.ListN.{get_elem?}
 use Rattle.rebuild_model.specs.declared.rebuilt.Rebuilt.{Rebuilt}
+use Rattle.core_log.proofs.Wiped.{wiped}
+use Rattle.core_model.specs.declared.tab.Freer.{Freer}
 use Rattle.core_model.specs.declared.moves.Move.{Move}
 use Rattle.core_model.specs.declared.tab.Hold.{Hold}
 use Rattle.core_model.specs.declared.tab.Writer.{Writer}
@@ -15,7 +17,7 @@ use Rattle.core_model.specs.Opening.{IsOpened}
 use Rattle.core_model.specs.Sound.{Sound}
 use Rattle.core_model.specs.Steps.{after}
 use Rattle.core_model.specs.Table.{MayStep}
-use Rattle.core_model.specs.TableForms.{MayRewrite, renewed, with_held}
+use Rattle.core_model.specs.TableForms.{MayRewrite, renewed, with_held, MayBlank, with_wiped}
 use Rattle.core_model.proofs.Lists.{contains_none}
 use Rattle.core_model.proofs.NotesFrame.{Renews}
 use Rattle.core_log.specs.Keeps.{HasLog}
@@ -45,6 +47,9 @@ module _ {X : Type 0} (o : Offering) (k : Setting X) (s : State X) where
   -- another cell in the hands of a tab
   pub log_rewritten : (i t : ℕ) (v : View X) (w : Writer X) (old new : Hold X) → Sound k s → get_elem? s.views i ≡ some v → MayRewrite k v t w old new → HasLog o k s → HasLog o k (with_held s i v t w new)
   log_rewritten i t v w old new so at may h = record { log = h.log; stands = rewritten k s h.log i t v w old new so h.stands at may; keeps = h.keeps; within = h.within }
+
+  pub log_wiped : (i t : ℕ) (v : View X) (f : Freer X) (old new : Hold X) → Sound k s → get_elem? s.views i ≡ some v → MayBlank k v t f old new → HasLog o k s → HasLog o k (with_wiped s i v t f new)
+  log_wiped i t v f old new so at may h = record { log = h.log; stands = wiped k s h.log i t v f old new so h.stands at may; keeps = h.keeps; within = h.within }
 
   -- a store that was just opened
   pub log_opened : (r : Rebuilt) → IsSetting k → IsOpened k r s → Sound k s → k.slots < 2 ^ 32 → HasLog o k s

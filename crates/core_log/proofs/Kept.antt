@@ -4,6 +4,7 @@ use mathlib.Core.Option.{some, some-ne-none}
 use mathlib.Core.Logic.{dite}
 use native.Mathlib.Decide.{ℕ_discrete}
 use lib.ListN.{get_elem?}
+use Rattle.core_model.specs.declared.tab.Freer.{Freer}
 use Rattle.core_model.specs.declared.view.LoggedPiece.{LoggedPiece}
 use Rattle.core_model.specs.declared.moves.Move.{Move}
 use Rattle.core_model.specs.declared.moves.Move.TheVariants.{Look, Enter, Leave, Count, Draw, Take, Evict, Raise, Doom, LoadSide, StoreSide, Own, Disown, Publish, Loosen, GetLink, TryTurn, EndTurn, CellOut, CellIn, Note, Learn, Write, Sync, LookMap, LogPiece}
@@ -14,7 +15,7 @@ use Rattle.core_model.specs.declared.tab.Reader.{Reader}
 use Rattle.core_model.specs.declared.tab.Turn.TheVariants.{NoTurn, Has}
 use Rattle.core_model.specs.declared.tab.Writer.{Writer}
 use Rattle.core_model.specs.declared.tab.Tab.{Tab}
-use Rattle.core_model.specs.declared.tab.Tab.TheVariants.{Free, Reading, Writing}
+use Rattle.core_model.specs.declared.tab.Tab.TheVariants.{Free, Reading, Writing, Freeing}
 use Rattle.core_model.specs.declared.view.View.{View}
 use Rattle.core_model.specs.Layout.{Setting, word_in}
 use Rattle.core_model.specs.State.{State, turn_word}
@@ -48,7 +49,8 @@ no_slot a e = cc
 module _ {X : Type 0} where
   known_later : (k : Setting X) (new log : List LoggedPiece) (slot : ℕ) (x : X) → IsKnown k log slot x → IsKnown k (new ++ log) slot x
   known_later k new log slot x (inl e) = inl e
-  known_later k new log slot x (inr q) = inr (q.0, later new log slot q.0 q.1, q.2)
+  known_later k new log slot x (inr (inl q)) = inr (inl (q.0, later new log slot q.0 q.1, q.2))
+  known_later k new log slot x (inr (inr e)) = inr (inr e)
 
   pub not_has : (h : Hold X) → NoTurn ≡ Has h → ⊥
   not_has h e = cc
@@ -72,6 +74,9 @@ module _ {X : Type 0} where
       not_free e = cc
   writes_at (x ∷ xs) zero w e = ap some e
   writes_at (x ∷ xs) (suc t) w e = writes_at xs t w e
+
+  one_content : (x y : X) → Some x ≡ Some y → y ≡ x
+  one_content x y e = cc
 
   -- the content of the piece that a tab chose
   pub chosen_some : (k : Setting X) (w : Writer X) (x : X) → chosen_content k (Writing w) ≡ Some x → (p : Piece) × (w.chosen ≡ Some p) × (x ≡ k.image p)
@@ -119,9 +124,10 @@ module _ {X : Type 0} (k : Setting X) (s : State X) (log : List LoggedPiece) (i 
           none : ◌≡◌ {A = Option X} None (Some x) → ⊥
           none e = cc
 
-      of_tab : ((r : Reader X) × (tab_at v t ≡ Reading r) × (r.turn ≡ Has w.hold)) ⊎ ((y : Writer X) × (tab_at v t ≡ Writing y) × (y.turn ≡ Has w.hold)) → chosen_content k (tab_at v t) ≡ Some x → IsKnown k log w.hold.slot x
+      of_tab : ((r : Reader X) × (tab_at v t ≡ Reading r) × (r.turn ≡ Has w.hold)) ⊎ ((y : Writer X) × (tab_at v t ≡ Writing y) × (y.turn ≡ Has w.hold)) ⊎ ((f : Freer X) × (tab_at v t ≡ Freeing f) × (f.turn ≡ Has w.hold)) → chosen_content k (tab_at v t) ≡ Some x → IsKnown k log w.hold.slot x
       of_tab (inl r) q = absurd (no_content r.0 r.1 q)
-      of_tab (inr y) q = let c = chosen_some k y.0 x (sym (ap (chosen_content k) y.1) ∙ q) in inr (c.0, held_logged t y.0 w.hold c.0 y.1 y.2 c.1, c.2)
+      of_tab (inr (inl y)) q = let c = chosen_some k y.0 x (sym (ap (chosen_content k) y.1) ∙ q) in inr (inl (c.0, held_logged t y.0 w.hold c.0 y.1 y.2 c.1, c.2))
+      of_tab (inr (inr f)) q = inr (inr (one_content k.blank x (sym (ap (chosen_content k) f.1) ∙ q)))
 
   -- A cell that is home afterwards was home, or in the hands of a tab.
 

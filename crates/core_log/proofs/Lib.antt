@@ -15,4 +15,5 @@ pub mod NotesLogged
 pub mod Within
 pub mod HasLog
 pub mod Rewritten
+pub mod Wiped
 pub mod Few

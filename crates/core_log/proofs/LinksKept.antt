@@ -14,7 +14,7 @@ use Rattle.core_model.specs.declared.tab.Writer.{Writer}
 use Rattle.core_model.specs.declared.tab.Tab.{Tab}
 use Rattle.core_model.specs.declared.tab.Tab.TheVariants.{Free, Retreating, Reading, Writing, Last, Freeing}
 use Rattle.core_model.specs.declared.view.Sight.{Sight}
-use Rattle.core_model.specs.declared.view.Sight.TheVariants.{Stood, Named, Published, Logged}
+use Rattle.core_model.specs.declared.view.Sight.TheVariants.{Stood, Named, Published, Logged, Wiped}
 use Rattle.core_model.specs.declared.view.View.{View}
 use Rattle.core_model.specs.Layout.{Setting, word_in}
 use Rattle.core_model.specs.State.{State, word}
@@ -58,6 +58,7 @@ stood_there a (x ∷ xs) h = dite (ℕ_discrete (stood a x - seen_at a xs) 0)
     here (Named b u side value) h = absurd (omega arith)
     here (Published b u many) h = absurd (omega arith)
     here (Logged l) h = absurd (omega arith)
+    here (Wiped b u slot) h = absurd (omega arith)
 
 pub split : {A : Type 0} (xs ys : List A) (y : A) → Contains (xs ++ ys) y → Contains xs y ⊎ Contains ys y
 split [] ys y h = inr h

@@ -2,6 +2,8 @@
 use Rattle.std.proofs.Common.{◌≡◌, ◌⊎◌, ⊎_elim, ℕ, List, [], ◌++◌, subst, Contains, ◌∷◌, Bool, ◌+◌, ◌==◌, true, false, cond, inl, inr, arith, ap, Option}
 use mathlib.Core.Option.{some}
 use lib.ListN.{get_elem?}
+use Rattle.core_model.specs.declared.moves.Then.TheVariants.{GoesOn, Stays, Wiped}
+use Rattle.core_model.specs.declared.moves.Then.{Then}
 use Rattle.core_model.specs.declared.moves.Move.{Move}
 use Rattle.core_model.specs.declared.view.LoggedPiece.{LoggedPiece}
 use Rattle.core_model.specs.declared.view.Sight.{Sight}
@@ -27,7 +29,7 @@ use Rattle.core_model.specs.declared.moves.Side.TheVariants.{Key0, Key1, Offer, 
 use Rattle.core_model.specs.declared.moves.Move.TheVariants.{Look, Enter, Leave, Count, Draw, Take, Evict, Raise, Doom, LoadSide, StoreSide, Own, Disown, Publish, Loosen, GetLink, TryTurn, EndTurn, CellOut, CellIn, Note, Learn, Write, Sync, LookMap, LogPiece}
 use Rattle.core_model.specs.declared.view.Place.TheVariants.{LogCounter}
 use Rattle.core_model.specs.SlotMoves.{loads, shows, follows}
-use Rattle.core_model.specs.CellMoves.{logged_by, seen_in}
+use Rattle.core_model.specs.CellMoves.{logged_by, seen_in, wiped_by}
 use Rattle.core_model.specs.Tabs.{tab_at, IsPass}
 use Rattle.core_model.proofs.Lists.{contains_none, cons_contains, set_here, at_length}
 use Rattle.std.proofs.lemmas.List.Elements.{Contains-append_left, Contains-append_right}
@@ -78,6 +80,16 @@ module _ {X : Type 0} where
   follows_others (Last b) n = tt
   follows_others (Freeing f) n = tt
 
+  wipes_others : (x : Tab X) (slot : ℕ) (then : Then) → Others (wiped_by x slot then)
+  wipes_others (Freeing f) slot Stays = tt
+  wipes_others (Freeing f) slot GoesOn = tt
+  wipes_others (Freeing f) slot Wiped = (tt, tt)
+  wipes_others Free slot then = tt
+  wipes_others (Retreating b) slot then = tt
+  wipes_others (Reading r) slot then = tt
+  wipes_others (Writing w) slot then = tt
+  wipes_others (Last b) slot then = tt
+
   -- what a tab logs it sees, and no other piece
   logs_seen : (slot : ℕ) (is_durable : Bool) (n : ℕ) (x : Tab X) (l : LoggedPiece) → Contains (logged_with slot is_durable n x) l → Contains (logged_by x slot is_durable n) (Logged l)
   logs_seen slot is_durable n (Writing w) l c = (0, omega arith, ap Logged (one_of _ l c))
@@ -126,7 +138,7 @@ module _ {X : Type 0} (k : Setting X) (s : State X) (i : ℕ) (v : View X) (at :
   piece_seen (Loosen t slot) may l c = none (Loosen t slot) tt l c
   piece_seen (GetLink t slot) may l c = none (GetLink t slot) (follows_others (tab_at v t) _) l c
   piece_seen (TryTurn t slot) may l c = none (TryTurn t slot) tt l c
-  piece_seen (EndTurn t slot then) may l c = none (EndTurn t slot then) tt l c
+  piece_seen (EndTurn t slot then) may l c = none (EndTurn t slot then) (wipes_others (tab_at v t) slot then) l c
   piece_seen (CellOut t slot) may l c = none (CellOut t slot) tt l c
   piece_seen (CellIn t slot) may l c = none (CellIn t slot) tt l c
   piece_seen Note may l c = none Note tt l c

@@ -75,7 +75,7 @@ module _ {X : Type 0} (k : Setting X) (s : State X) (log : List LoggedPiece) (i 
   new_known y c = ⊎_elim
       (λ (q : Contains old.cell.possible y). st.cells.possible old.slot old.cell y (inr held_old) q)
       (λ (q : map_some k.image w.chosen ≡ Some y). let z = chosen_some k w y q in let f = st.cells.chosen i t w z.0 mine z.1 in
-      inr (z.0, subst (λ (n : ℕ). HasLogged log n z.0) (one_slot f.0 old.slot (sym f.1.slot_is ∙ st.cells.turn i t w old mine may.turn)) f.1.logged, z.2))
+      inr (inl (z.0, subst (λ (n : ℕ). HasLogged log n z.0) (one_slot f.0 old.slot (sym f.1.slot_is ∙ st.cells.turn i t w old mine may.turn)) f.1.logged, z.2)))
       (may.within y c)
 
   -- a cell is one of before, or the new one

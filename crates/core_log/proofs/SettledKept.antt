@@ -9,6 +9,7 @@ use Rattle.lock_word.specs.declared.stage.Stage.{Stage}
 use Rattle.lock_word.specs.declared.stage.Stage.TheVariants.{Empty, Taken, Appending, Closed, Halted, Freeing as FreeingStage, Gone}
 use Rattle.link_word.specs.declared.link.Link.{Link}
 use Rattle.link_word.specs.declared.link.Link.TheVariants.{Next}
+use Rattle.core_model.specs.declared.tab.Freer.{Freer}
 use Rattle.core_model.specs.declared.view.LoggedPiece.{LoggedPiece}
 use Rattle.core_model.specs.declared.chain.Chain.{Chain}
 use Rattle.core_model.specs.declared.moves.Side.TheVariants.{Offer, Start}
@@ -25,13 +26,13 @@ use Rattle.core_model.specs.declared.tab.Tab.TheVariants.{Free, Retreating, Read
 use Rattle.core_model.specs.declared.view.View.{View}
 use Rattle.core_model.specs.Layout.{Setting}
 use Rattle.core_model.specs.State.{State, chain_of, side_word, word}
-use Rattle.core_model.specs.Chains.{first_of, link_at, link_to, no_chain, rest_of, times}
+use Rattle.core_model.specs.Chains.{first_of, link_at, link_to, no_chain}
 use Rattle.core_model.specs.Tabs.{anchor_of, tab_at, turn_of, OfWriter}
 use Rattle.core_model.specs.Trails.{last_find}
 use Rattle.core_model.specs.CellMoves.{chosen_content}
 use Rattle.core_model.specs.SlotMoves.{MayPublish}
 use Rattle.core_model.specs.Cells.{IsCell, IsContent, IsHeldCell}
-use Rattle.core_model.specs.Slots.{WriterHolds, slot_words}
+use Rattle.core_model.specs.Slots.{WriterHolds, slot_words, held_in}
 use Rattle.core_model.specs.Holders.{IsTab}
 use Rattle.core_model.specs.Sound.{Sound}
 use Rattle.core_model.specs.Entries.{EntryGone, EntryGrows, EntryStays, NamesStay}
@@ -39,15 +40,14 @@ use Rattle.core_model.specs.Steps.{after, halted, longer}
 use Rattle.core_model.specs.Table.{Allowed, MayStep}
 use Rattle.core_model.proofs.Lists.{at_length, contains_none, cons_contains}
 use Rattle.core_model.proofs.AllKept.{keeps_sound}
-use Rattle.core_model.proofs.CellsTab.{turn_tab, written_unpublished}
+use Rattle.core_model.proofs.CellsTab.{held_unpublished, reserves_first, rests_first, turn_tab}
 use Rattle.core_model.proofs.Entries.{entry_after}
 use Rattle.core_model.proofs.FollowsKept.{at_times}
 use Rattle.core_model.proofs.Holders.{is_away}
 use Rattle.core_model.proofs.Matching.{matches_writer}
-use Rattle.core_model.proofs.Spelling.{one_same}
 use Rattle.core_log.specs.Logged.{CellsLogged, IsFast, LinksStand, SettledStand, logged_now, IsPublished, IsChosen}
 use Rattle.core_log.proofs.Changes.{HoldWas, Goes, WasHome}
-use Rattle.core_log.proofs.Kept.{home_was, mine, no_cell, some_cell, tab_was, writes_at}
+use Rattle.core_log.proofs.Kept.{home_was, mine, no_cell, some_cell, tab_was, writes_at, there_at}
 use Rattle.core_log.proofs.LinksKept.{new_is, split}
 
 itself : (n : ℕ) → n < n → ⊥
@@ -170,35 +170,33 @@ module _ {X : Type 0} (k : Setting X) (s : State X) (log : List LoggedPiece) (i 
   abbrev all : List LoggedPiece
   all = logged_now k s v m ++ log
 
-  -- A cell afterwards: what a crash may leave of it, it might leave before, or the cell is that of a slot that a tab reserves.
+  -- A cell afterwards: what a crash may leave of it, it might leave before, or the cell is that of a slot that a tab has.
 
-  pub record IsReserved (j : ℕ) : Type 0 where
+  pub record IsAtTab (j : ℕ) : Type 0 where
     pub t : ℕ
-    pub writer : Writer X
-    pub tab : get_elem? v.tabs t ≡ some (Writing writer)
-    pub reserved : 0 < times j writer.reserved
+    pub tab : Tab X
+    pub there : get_elem? v.tabs t ≡ some tab
+    pub has : 0 < held_in j tab
 
   pub record IsPossible (j : ℕ) (x : X) : Type 0 where
     pub cell : Cell X
     pub is : IsCell s j cell
     pub possible : Contains cell.possible x
 
-  chosen_reserved : (t j : ℕ) (h : Hold X) (x : X) → turn_of (tab_at v t) ≡ Has h → h.slot ≡ j → chosen_content k (tab_at v t) ≡ Some x → IsReserved j
-  chosen_reserved t j h x turn slot_is e = of_tab (turn_tab (tab_at v t) h turn)
+  chosen_at_tab : (t j : ℕ) (h : Hold X) (x : X) → turn_of (tab_at v t) ≡ Has h → h.slot ≡ j → chosen_content k (tab_at v t) ≡ Some x → IsAtTab j
+  chosen_at_tab t j h x turn slot_is e = of_tab (turn_tab (tab_at v t) h turn)
     where
       none : ◌≡◌ {A = Option X} None (Some x) → ⊥
       none e = cc
 
-      of_tab : ((r : Reader X) × (tab_at v t ≡ Reading r) × (r.turn ≡ Has h)) ⊎ ((y : Writer X) × (tab_at v t ≡ Writing y) × (y.turn ≡ Has h)) → IsReserved j
+      of_tab : ((r : Reader X) × (tab_at v t ≡ Reading r) × (r.turn ≡ Has h)) ⊎ ((y : Writer X) × (tab_at v t ≡ Writing y) × (y.turn ≡ Has h)) ⊎ ((f : Freer X) × (tab_at v t ≡ Freeing f) × (f.turn ≡ Has h)) → IsAtTab j
       of_tab (inl r) = absurd (none (sym (ap (chosen_content k) r.1) ∙ e))
-      of_tab (inr y) = let there = writes_at v.tabs t y.0 y.1 in let fits = so.cells.turns i v at t (Writing y.0) there h y.2 in record {
-        t = t;
-        writer = y.0;
-        tab = there;
-        reserved = let c : times j y.0.reserved ≡ times j (j ∷ rest_of y.0.reserved) = ap (times j) (fits.1 ∙ ap (λ (n : ℕ). n ∷ rest_of y.0.reserved) slot_is) in let o = one_same j in omega arith;
-      }
+      of_tab (inr (inl y)) = let there = writes_at v.tabs t y.0 y.1 in
+          record { t = t; tab = Writing y.0; there = there; has = subst (λ (n : ℕ). 0 < held_in n (Writing y.0)) slot_is (reserves_first y.0 h.slot (so.cells.turns i v at t (Writing y.0) there h y.2).1) }
+      of_tab (inr (inr f)) = let there = there_at v.tabs t h turn ∙ ap some f.1 in
+          record { t = t; tab = Freeing f.0; there = there; has = subst (λ (n : ℕ). 0 < held_in n (Freeing f.0)) slot_is (rests_first f.0 h.slot (so.cells.turns i v at t (Freeing f.0) there h f.2).1.front) }
 
-  was : (j : ℕ) (c : Cell X) (x : X) → IsCell s' j c → Contains c.possible x → IsPossible j x ⊎ IsReserved j
+  was : (j : ℕ) (c : Cell X) (x : X) → IsCell s' j c → Contains c.possible x → IsPossible j x ⊎ IsAtTab j
   was j c x (inl e) q = inl (⊎_elim
       (λ (z : get_or s.places j None ≡ Some c). record { cell = c; is = inl z; possible = q })
       (λ (z : IsHeldCell s j c). record { cell = c; is = inr z; possible = q })
@@ -214,12 +212,12 @@ module _ {X : Type 0} (k : Setting X) (s : State X) (log : List LoggedPiece) (i 
       here : Contains h.hold.cell.possible x
       here = subst (λ (d : Cell X). Contains d.possible x) (sym h.cell_is) q
 
-      held_was : HoldWas k s (tab_at v h.t) h.hold → IsPossible j x ⊎ IsReserved j
+      held_was : HoldWas k s (tab_at v h.t) h.hold → IsPossible j x ⊎ IsAtTab j
       held_was w = let is : IsCell s j w.hold.cell = inr (subst (λ (n : ℕ). IsHeldCell s n w.hold.cell) (w.slot_is ∙ h.slot_is) (mine k s log i v so cl at h.t w.hold w.turn)) in ⊎_elim
           (λ (p : Contains w.hold.cell.possible x). inl record { cell = w.hold.cell; is = is; possible = p })
           (⊎_elim
           (λ (p : x ≡ w.hold.cell.now). inl record { cell = w.hold.cell; is = is; possible = subst (Contains w.hold.cell.possible) (sym p) (so.cells.contents.possible j w.hold.cell is) })
-          (λ (p : chosen_content k (tab_at v h.t) ≡ Some x). inr (chosen_reserved h.t j w.hold x w.turn (w.slot_is ∙ h.slot_is) p)))
+          (λ (p : chosen_content k (tab_at v h.t) ≡ Some x). inr (chosen_at_tab h.t j w.hold x w.turn (w.slot_is ∙ h.slot_is) p)))
           (w.possible x here)
 
   -- What was published before.
@@ -244,7 +242,7 @@ module _ {X : Type 0} (k : Setting X) (s : State X) (log : List LoggedPiece) (i 
   was_content : (a place slot : ℕ) (c : Cell X) (x : X) → a < k.anchors → NamesStay k s s' a → get_elem? (chain_of s a).slots place ≡ some slot → IsCell s' slot c → Contains c.possible x → IsFast k s' all a place → IsContent k s a place slot x
   was_content a place slot c x lt names there is q fast = ⊎_elim
       (λ (p : IsPossible slot x). settled a place slot p.cell x lt there p.is p.possible (fast_was a place slot names there fast))
-      (λ (p : IsReserved slot). absurd (let z = written_unpublished k s i v so at p.t p.writer p.tab slot p.reserved a in let y = at_times (chain_of s a).slots place slot there in omega arith))
+      (λ (p : IsAtTab slot). absurd (let z = held_unpublished k s i v so at p.t p.tab p.there slot p.has a in let y = at_times (chain_of s a).slots place slot there in omega arith))
       (was slot c x is q)
 
   moves_on : (a place slot : ℕ) (x : X) → NamesStay k s s' a → first_of (chain_of s' a).slots ≡ first_of (chain_of s a).slots → link_at (chain_of s' a) place ≡ link_at (chain_of s a) place → IsContent k s a place slot x → IsContent k s' a place slot x

@@ -67,9 +67,9 @@ pub record HasLogged (log : List LoggedPiece) (slot : ℕ) (p : Piece) : Type 0 
   pub slot_is : link.slot ≡ slot
   pub piece_is : link.piece ≡ p
 
--- a content is the opening's of this slot, or that of a piece that was logged for it
+-- a content is the opening's of this slot, or that of a piece that was logged for it, or the blank one that a freeing tab writes
 abbrev pub IsKnown : {X : Type 0} → Setting X → List LoggedPiece → ℕ → X → Type 0
-IsKnown k log slot x = (get_elem? k.contents slot ≡ some x) ⊎ ((p : Piece) × HasLogged log slot p × (x ≡ k.image p))
+IsKnown k log slot x = (get_elem? k.contents slot ≡ some x) ⊎ ((p : Piece) × HasLogged log slot p × (x ≡ k.image p)) ⊎ (x ≡ k.blank)
 
 -- The piece that a tab chose was logged for the slot that the tab knows, and a turn that it holds is of that slot.
 pub record ChoseLogged (log : List LoggedPiece) (slot : ℕ) (p : Piece) (chosen : Option ℕ) : Type 0 where

@@ -3,12 +3,13 @@ ghost use Rattle.std.specs.Prelude.{◌*◌, ◌<◌, ◌≤◌, ◌^◌, Contai
 ghost use mathlib.Core.Option.{some};
 ghost use lib.ListN.{get_elem?};
 ghost use Rattle.core_model.specs.declared.moves.Move.{Move};
+ghost use Rattle.core_model.specs.declared.tab.Freer.{Freer};
 ghost use Rattle.core_model.specs.declared.tab.Hold.{Hold};
 ghost use Rattle.core_model.specs.declared.tab.Writer.{Writer};
 ghost use Rattle.core_model.specs.declared.view.LoggedPiece.{LoggedPiece};
 ghost use Rattle.core_model.specs.declared.view.Sight.{Sight};
 ghost use Rattle.core_model.specs.declared.view.View.{View};
-ghost use Rattle.core_model.specs.TableForms.{IsNoteAt, IsSpentAt, MayRewrite, learned_from, noted_at, noted_behind, with_held};
+ghost use Rattle.core_model.specs.TableForms.{IsNoteAt, IsSpentAt, MayBlank, MayRewrite, learned_from, noted_at, noted_behind, with_held, with_wiped};
 ghost use Rattle.core_model.specs.Tabs.{IsPass};
 ghost use Rattle.core_model.specs.declared.view.Item.{Item};
 ghost use Rattle.core_model.specs.declared.view.Kind.{Kind};
@@ -48,12 +49,15 @@ pub fn runs_keep_the_log<X>()
         → Sound k s → LogStands k s log → IsLoggedRun k s log steps t more → Sound k t × LogStands k t more }
 {}
 
-/// Where the cell in the hands of a tab that writes becomes another one by no step, as a disk writes and syncs it, the
-/// log stands.
+/// Where the cell in the hands of a tab that writes or frees becomes another one by no step, as a disk writes and syncs
+/// it, the log stands.
 pub fn held_cells_keep_the_log<X>()
-    ensures { (k : Setting X) (s : State X) (log : List LoggedPiece) (i t : ℕ) (v : View X) (w : Writer X) (old new : Hold X)
+    ensures written { (k : Setting X) (s : State X) (log : List LoggedPiece) (i t : ℕ) (v : View X) (w : Writer X) (old new : Hold X)
         → Sound k s → LogStands k s log → get_elem? s.views i ≡ some v → MayRewrite k v t w old new
         → LogStands k (with_held s i v t w new) log }
+    ensures wiped { (k : Setting X) (s : State X) (log : List LoggedPiece) (i t : ℕ) (v : View X) (f : Freer X) (old new : Hold X)
+        → Sound k s → LogStands k s log → get_elem? s.views i ≡ some v → MayBlank k v t f old new
+        → LogStands k (with_wiped s i v t f new) log }
 {}
 
 /// The version of a logged piece is at most the one that stands at its anchor, which is one of the table's.

@@ -52,10 +52,10 @@ pub record TabsOwe {X : Type 0} (k : Setting X) (s : State X) (i : ℕ) (v : Vie
   pub length_same : length tabs ≡ length v.tabs
   pub readers : readers_of n' + count (counts a) v ≡ readers_of (word s a) + sum_by (counts a) tabs
   pub writers : (u g : ℕ) → written_at (epoch_of n') u g + count (writes a u g) v ≡ written_at (epoch_of (word s a)) u g + sum_by (writes a u g) tabs
-  pub freers : freed_at (epoch_of n') + count (frees a) v ≡ freed_at (epoch_of (word s a)) + sum_by (frees a) tabs
+  pub freers : (u d : ℕ) → freed_at (epoch_of n') u d + count (frees a u d) v ≡ freed_at (epoch_of (word s a)) u d + sum_by (frees a u d) tabs
   pub readers_else : (b : ℕ) → b ≢ a → sum_by (counts b) tabs ≡ count (counts b) v
   pub writers_else : (b u g : ℕ) → b ≢ a → sum_by (writes b u g) tabs ≡ count (writes b u g) v
-  pub freers_else : (b : ℕ) → b ≢ a → sum_by (frees b) tabs ≡ count (frees b) v
+  pub freers_else : (b u d : ℕ) → b ≢ a → sum_by (frees b u d) tabs ≡ count (frees b u d) v
   pub stand : (t : ℕ) (tab : Tab X) → get_elem? tabs t ≡ some tab
       → (get_elem? v.tabs t ≡ some tab) ⊎ TabStands k (moved s i (stepped v a n' e tabs held item deeds met) a n' chains) (stepped v a n' e tabs held item deeds met) t tab
   pub lasts_else : (b t : ℕ) → b ≢ a → get_elem? v.tabs t ≡ some (Last b) → get_elem? tabs t ≡ some (Last b)
@@ -63,16 +63,16 @@ pub record TabsOwe {X : Type 0} (k : Setting X) (s : State X) (i : ℕ) (v : Vie
 module _ {X : Type 0} (k : Setting X) (s : State X) (i : ℕ) (v : View X) (so : AnchorsSound k s) (at : get_elem? s.views i ≡ some v) (pass : IsPass v) where
   -- no tab changes
   pub no_tab : (a n' e : ℕ) (held : List ℕ) (item : Item) (deeds : List Deed) (met : List ℕ) (chains : List Chain)
-      → readers_of n' ≡ readers_of (word s a) → ((u g : ℕ) → written_at (epoch_of n') u g ≡ written_at (epoch_of (word s a)) u g) → freed_at (epoch_of n') ≡ freed_at (epoch_of (word s a))
+      → readers_of n' ≡ readers_of (word s a) → ((u g : ℕ) → written_at (epoch_of n') u g ≡ written_at (epoch_of (word s a)) u g) → ((u d : ℕ) → freed_at (epoch_of n') u d ≡ freed_at (epoch_of (word s a)) u d)
       → TabsOwe k s i v a n' e v.tabs held item deeds met chains
   no_tab a n' e held item deeds met chains r w f = record {
     length_same = refl;
     readers = omega arith;
     writers = λ u g. let z = w u g in omega arith;
-    freers = omega arith;
+    freers = λ u d. let z = f u d in omega arith;
     readers_else = λ b ne. refl;
     writers_else = λ b u g ne. refl;
-    freers_else = λ b ne. refl;
+    freers_else = λ b u d ne. refl;
     stand = λ t tab h. inl h;
     lasts_else = λ b t ne h. h;
   }
@@ -81,14 +81,14 @@ module _ {X : Type 0} (k : Setting X) (s : State X) (i : ℕ) (v : View X) (so :
   pub one_tab : (a n' e t : ℕ) (old new : Tab X) (held : List ℕ) (item : Item) (deeds : List Deed) (met : List ℕ) (chains : List Chain) → Turns v.tabs t a old new
       → readers_of n' + counts a old ≡ readers_of (word s a) + counts a new
       → ((u g : ℕ) → written_at (epoch_of n') u g + writes a u g old ≡ written_at (epoch_of (word s a)) u g + writes a u g new)
-      → freed_at (epoch_of n') + frees a old ≡ freed_at (epoch_of (word s a)) + frees a new
+      → ((u d : ℕ) → freed_at (epoch_of n') u d + frees a u d old ≡ freed_at (epoch_of (word s a)) u d + frees a u d new)
       → TabStands k (moved s i (stepped v a n' e (set v.tabs t new) held item deeds met) a n' chains) (stepped v a n' e (set v.tabs t new) held item deeds met) t new
       → TabsOwe k s i v a n' e (set v.tabs t new) held item deeds met chains
   one_tab a n' e t old new held item deeds met chains turns r w f stands = record {
     length_same = length-set v.tabs t new;
     readers = let c = changes v.tabs t a old new turns (counts a) in omega arith;
     writers = λ u g. let c = changes v.tabs t a old new turns (writes a u g) in let z = w u g in omega arith;
-    freers = let c = changes v.tabs t a old new turns (frees a) in omega arith;
+    freers = λ u d. let c = changes v.tabs t a old new turns (frees a u d) in let z = f u d in omega arith;
     readers_else = counts_else v.tabs t a old new turns;
     writers_else = writes_else v.tabs t a old new turns;
     freers_else = frees_else v.tabs t a old new turns;
@@ -108,7 +108,7 @@ module _ {X : Type 0} (k : Setting X) (s : State X) (i : ℕ) (v : View X) (so :
       → Turns v.tabs p a old new → Turns (set v.tabs p new) t a before last
       → readers_of n' + counts a old + counts a before ≡ readers_of (word s a) + counts a new + counts a last
       → ((u g : ℕ) → written_at (epoch_of n') u g + writes a u g old + writes a u g before ≡ written_at (epoch_of (word s a)) u g + writes a u g new + writes a u g last)
-      → freed_at (epoch_of n') + frees a old + frees a before ≡ freed_at (epoch_of (word s a)) + frees a new + frees a last
+      → ((u d : ℕ) → freed_at (epoch_of n') u d + frees a u d old + frees a u d before ≡ freed_at (epoch_of (word s a)) u d + frees a u d new + frees a u d last)
       → TabStands k (moved s i (stepped v a n' e (set (set v.tabs p new) t last) held item deeds met) a n' chains) (stepped v a n' e (set (set v.tabs p new) t last) held item deeds met) p new
       → TabStands k (moved s i (stepped v a n' e (set (set v.tabs p new) t last) held item deeds met) a n' chains) (stepped v a n' e (set (set v.tabs p new) t last) held item deeds met) t last
       → TabsOwe k s i v a n' e (set (set v.tabs p new) t last) held item deeds met chains
@@ -116,10 +116,10 @@ module _ {X : Type 0} (k : Setting X) (s : State X) (i : ℕ) (v : View X) (so :
     length_same = length-set (set v.tabs p new) t last ∙ length-set v.tabs p new;
     readers = let c = changes v.tabs p a old new one (counts a) in let d = changes (set v.tabs p new) t a before last two (counts a) in omega arith;
     writers = λ u g. let c = changes v.tabs p a old new one (writes a u g) in let d = changes (set v.tabs p new) t a before last two (writes a u g) in let z = w u g in omega arith;
-    freers = let c = changes v.tabs p a old new one (frees a) in let d = changes (set v.tabs p new) t a before last two (frees a) in omega arith;
+    freers = λ x y. let c = changes v.tabs p a old new one (frees a x y) in let d = changes (set v.tabs p new) t a before last two (frees a x y) in let z = f x y in omega arith;
     readers_else = λ b ne. counts_else (set v.tabs p new) t a before last two b ne ∙ counts_else v.tabs p a old new one b ne;
     writers_else = λ b u g ne. writes_else (set v.tabs p new) t a before last two b u g ne ∙ writes_else v.tabs p a old new one b u g ne;
-    freers_else = λ b ne. frees_else (set v.tabs p new) t a before last two b ne ∙ frees_else v.tabs p a old new one b ne;
+    freers_else = λ b u d ne. frees_else (set v.tabs p new) t a before last two b u d ne ∙ frees_else v.tabs p a old new one b u d ne;
     stand = λ q tab h. ⊎_elim
         (λ (x : (q ≡ t) × (last ≡ tab)). inr (there (moved s i (stepped v a n' e (set (set v.tabs p new) t last) held item deeds met) a n' chains) (stepped v a n' e (set (set v.tabs p new) t last) held item deeds met) q t tab last x.0 x.1 stands_last))
         (λ (x : (q ≢ t) × (get_elem? (set v.tabs p new) q ≡ some tab)). ⊎_elim

@@ -52,10 +52,10 @@ pub record Owes {X : Type 0} (k : Setting X) (s : State X) (i : ℕ) (v : View X
   -- the tabs
   pub readers : readers_of n' + count (counts a) v ≡ readers_of (word s a) + sum_by (counts a) tabs
   pub writers : (u g : ℕ) → written_at (epoch_of n') u g + count (writes a u g) v ≡ written_at (epoch_of (word s a)) u g + sum_by (writes a u g) tabs
-  pub freers : freed_at (epoch_of n') + count (frees a) v ≡ freed_at (epoch_of (word s a)) + sum_by (frees a) tabs
+  pub freers : (u d : ℕ) → freed_at (epoch_of n') u d + count (frees a u d) v ≡ freed_at (epoch_of (word s a)) u d + sum_by (frees a u d) tabs
   pub readers_else : (b : ℕ) → b ≢ a → sum_by (counts b) tabs ≡ count (counts b) v
   pub writers_else : (b u g : ℕ) → b ≢ a → sum_by (writes b u g) tabs ≡ count (writes b u g) v
-  pub freers_else : (b : ℕ) → b ≢ a → sum_by (frees b) tabs ≡ count (frees b) v
+  pub freers_else : (b u d : ℕ) → b ≢ a → sum_by (frees b u d) tabs ≡ count (frees b u d) v
   pub steady : (readers_of (word s a) ≡ 0)
       ⊎ ((version_of (epoch_of n') ≡ version_of (epoch_of (word s a))) × (2 ≤ stage_of (epoch_of (word s a)) → stage_of (epoch_of (word s a)) ≤ 4 → (2 ≤ stage_of (epoch_of n')) × (stage_of (epoch_of n') ≤ 4)))
   pub stand : (t : ℕ) (tab : Tab X) → get_elem? tabs t ≡ some tab

@@ -79,8 +79,8 @@ module _ {X : Type 0} (k : Setting X) (s : State X) (i : ℕ) (v : View X) (so :
       let h = by_anchor (λ b x y. written_at (epoch_of y) u g + count (writes b u g) v ≡ written_at (epoch_of x) u g + sum_by (writes b u g) tabs) (o.writers u g) (λ b ne. let z = o.writers_else b u g ne in omega arith) b in omega arith
 
   pub freers : OneFreer k s'
-  freers b lt = let q = sum_at (count (frees b)) s.views i v w at in let r = so.freers b lt in
-      let h = by_anchor (λ b x y. freed_at (epoch_of y) + count (frees b) v ≡ freed_at (epoch_of x) + sum_by (frees b) tabs) o.freers (λ b ne. let z = o.freers_else b ne in omega arith) b in omega arith
+  freers b u d lt = let q = sum_at (count (frees b u d)) s.views i v w at in let r = so.freers b u d lt in
+      let h = by_anchor (λ b x y. freed_at (epoch_of y) u d + count (frees b u d) v ≡ freed_at (epoch_of x) u d + sum_by (frees b u d) tabs) (o.freers u d) (λ b ne. let z = o.freers_else b u d ne in omega arith) b in omega arith
 
   -- a tab that reads at the anchor is one of its readers
   is_reader : (j : ℕ) (u : View X) → get_elem? s.views j ≡ some u → (t : ℕ) (tab : Tab X) → get_elem? u.tabs t ≡ some tab → counts a tab ≡ 1 → 0 < readers_of (word s a)

@@ -12,7 +12,7 @@ use Rattle.core_model.specs.declared.tab.Tab.TheVariants.{Free, Retreating, Read
 use Rattle.core_model.specs.declared.view.Kind.TheVariants.{Counted as Looks, Drew}
 use Rattle.core_model.specs.declared.view.Item.{Item}
 use Rattle.core_model.specs.declared.view.Sight.{Sight}
-use Rattle.core_model.specs.declared.view.Sight.TheVariants.{Stood, Named, Published, Logged}
+use Rattle.core_model.specs.declared.view.Sight.TheVariants.{Stood, Named, Published, Logged, Wiped}
 use Rattle.core_model.specs.declared.view.Place.{Place}
 use Rattle.core_model.specs.declared.view.Place.TheVariants.{Beside}
 use Rattle.core_model.specs.declared.view.Deed.{Deed}
@@ -47,6 +47,7 @@ NoEpoch (Stood a e ∷ xs) = ⊥
 NoEpoch (Named a version side value ∷ xs) = NoEpoch xs
 NoEpoch (Published a version many ∷ xs) = NoEpoch xs
 NoEpoch (Logged l ∷ xs) = NoEpoch xs
+NoEpoch (Wiped a version slot ∷ xs) = NoEpoch xs
 
 pub seen_same : (b : ℕ) (xs ys : List Sight) → NoEpoch xs → seen_at b (xs ++ ys) ≡ seen_at b ys
 seen_same b [] ys h = refl
@@ -54,12 +55,14 @@ seen_same b (Stood a e ∷ xs) ys h = absurd h
 seen_same b (Named a version side value ∷ xs) ys h = let r = seen_same b xs ys h in omega arith
 seen_same b (Published a version many ∷ xs) ys h = let r = seen_same b xs ys h in omega arith
 seen_same b (Logged l ∷ xs) ys h = let r = seen_same b xs ys h in omega arith
+seen_same b (Wiped a version slot ∷ xs) ys h = let r = seen_same b xs ys h in omega arith
 
 no_stood : (xs : List Sight) → NoEpoch xs → (b e : ℕ) → Contains xs (Stood b e) → ⊥
 no_stood [] h b e c = contains_none (Stood b e) c
 no_stood (Stood a e' ∷ xs) h b e c = h
 no_stood (Named a version side value ∷ xs) h b e c = ⊎_elim (λ (q : Named a version side value ≡ Stood b e). cc) (λ (q : Contains xs (Stood b e)). no_stood xs h b e q) (cons_contains _ _ xs c)
 no_stood (Logged l ∷ xs) h b e c = ⊎_elim (λ (q : Logged l ≡ Stood b e). cc) (λ (q : Contains xs (Stood b e)). no_stood xs h b e q) (cons_contains _ _ xs c)
+no_stood (Wiped a version slot ∷ xs) h b e c = ⊎_elim (λ (q : Wiped a version slot ≡ Stood b e). cc) (λ (q : Contains xs (Stood b e)). no_stood xs h b e q) (cons_contains _ _ xs c)
 no_stood (Published a version many ∷ xs) h b e c = ⊎_elim (λ (q : Published a version many ≡ Stood b e). cc) (λ (q : Contains xs (Stood b e)). no_stood xs h b e q) (cons_contains _ _ xs c)
 
 -- the view after a step that left x in the word of a place, and saw this
@@ -78,7 +81,7 @@ beside v tabs sights item place x = record {
 abbrev pub besides : {X : Type 0} → Setting X → State X → ℕ → View X → Place → ℕ → List Chain → State X
 besides k s i w place x chains = record { words = set s.words (index k place) x; places = s.places; views = set s.views i w; chains = chains }
 
--- what is seen anew is of the version that stands, and so; a logged piece tells of no version
+-- what is seen anew is of the version that stands, and so; a logged piece and a wiped slot tell of no version
 pub record SightsOwe {X : Type 0} (k : Setting X) (s s' : State X) (v : View X) (sights : List Sight) : Type 0 where
   pub no_epoch : NoEpoch sights
   pub no_start : (b version value : ℕ) → Contains sights (Named b version Start value) → ⊥
@@ -103,7 +106,7 @@ pub record OwesBeside {X : Type 0} (k : Setting X) (s : State X) (i : ℕ) (v : 
   pub not_drew : item.kind ≢ Drew
   pub readers : (b : ℕ) → sum_by (counts b) tabs ≡ count (counts b) v
   pub writers : (b u g : ℕ) → sum_by (writes b u g) tabs ≡ count (writes b u g) v
-  pub freers : (b : ℕ) → sum_by (frees b) tabs ≡ count (frees b) v
+  pub freers : (b u d : ℕ) → sum_by (frees b u d) tabs ≡ count (frees b u d) v
   pub stand : (t : ℕ) (tab : Tab X) → get_elem? tabs t ≡ some tab → TabStands k s v t tab
   pub lasts : (b t : ℕ) → get_elem? v.tabs t ≡ some (Last b) → get_elem? tabs t ≡ some (Last b)
   pub chain_count : length chains ≡ length s.chains
@@ -353,7 +356,7 @@ module _ {X : Type 0} (k : Setting X) (s : State X) (i : ℕ) (v : View X) (so :
     shaped = shaped;
     readers = λ b lt. sym (ap readers_of (same_word b lt)) ∙ so.readers b lt ∙ sym (count_same (count (counts b)) (o.readers b));
     writers = λ b u g lt. sym (ap (λ (z : ℕ). written_at (epoch_of z) u g) (same_word b lt)) ∙ so.writers b u g lt ∙ sym (count_same (count (writes b u g)) (o.writers b u g));
-    freers = λ b lt. sym (ap (λ (z : ℕ). freed_at (epoch_of z)) (same_word b lt)) ∙ so.freers b lt ∙ sym (count_same (count (frees b)) (o.freers b));
+    freers = λ b u d lt. sym (ap (λ (z : ℕ). freed_at (epoch_of z) u d) (same_word b lt)) ∙ so.freers b u d lt ∙ sym (count_same (count (frees b u d)) (o.freers b u d));
     tabs = all_views (λ j u. (t : ℕ) (tab : Tab X) → get_elem? u.tabs t ≡ some tab → TabStands k s u t tab) (λ j u. (t : ℕ) (tab : Tab X) → get_elem? u.tabs t ≡ some tab → TabStands k s' u t tab)
         (λ j u _ h t tab tat. stands u u (λ b. refl) t tab (h t tab tat)) (λ t tab tat. stands v w seen_w t tab (o.stand t tab tat)) so.tabs;
     lasts = λ b lt over. let z = same_word b lt in subst (IsLastAt s' b) z (last_later b (word s b) (so.lasts b lt (subst (λ (y : ℕ). is_left_over y ≡ true) (sym z) over)));

@@ -14,7 +14,7 @@ use Rattle.core_model.specs.declared.view.Trace.{Trace}
 use Rattle.core_model.specs.declared.view.View.{View}
 use Rattle.core_model.specs.Layout.{Setting, turn_index}
 use Rattle.core_model.specs.State.{State, chain_of}
-use Rattle.core_model.specs.Tabs.{tab_at, turn_of, OfWriter, IsPass}
+use Rattle.core_model.specs.Tabs.{tab_at, turn_of, IsPass}
 use Rattle.core_model.specs.Steps.{after}
 use Rattle.core_model.specs.Deeds.{mirrored, OneMirror}
 use Rattle.core_model.specs.Slots.{SlotWords, slot_words}
@@ -24,9 +24,9 @@ use Rattle.core_model.proofs.Telling.{set_again}
 use Rattle.core_model.proofs.BesideKept.{beside}
 use Rattle.core_model.proofs.BesideKinds.{IsQuiet, quiet_took_out, quiet_put_back, quiet_wrote, quiet_synced}
 use Rattle.core_model.proofs.ReservesKept.{tab_was}
-use Rattle.core_model.proofs.TurnsKept.{of_parts, remirrored, Alike, anchors_alike, reader_holds, writer_holds, not_held, Turned, turned_reader, turned_writer, held_inside, slots_turned, turn_both}
+use Rattle.core_model.proofs.TurnsKept.{of_parts, remirrored, Alike, anchors_alike, reader_holds, writer_holds, not_held, Turned, turned_reader, turned_writer, held_inside, slots_turned, turn_both, turned_freer}
 use Rattle.core_model.specs.Table.{Allowed, item_of}
-use Rattle.core_model.specs.CellMoves.{Holds, moved, moves, is_kept, rewritten, rewrites, settled_by_write, settled_by_sync, cell_held, chosen_content, wrote, synced}
+use Rattle.core_model.specs.CellMoves.{Holds, moved, moves, is_kept, rewritten, rewrites, settled_by_write, settled_by_sync, cell_held, chosen_content, wrote, synced, MayChange}
 
 module _ {X : Type 0} (us : List (View X)) (i : ℕ) (v u : View X) (m : List Trace) (at : get_elem? us i ≡ some v) (some_tabs : u.tabs ≢ []) where
   put_here : (z : View X) → get_elem? (set us i z) i ≡ some z
@@ -103,7 +103,8 @@ module _ {X : Type 0} (k : Setting X) (s : State X) (i : ℕ) (v : View X) (soun
   cell_moved Free out now was h = absurd (not_held h.0 h.1)
   cell_moved (Retreating b) out now was h = absurd (not_held h.0 h.1)
   cell_moved (Last b) out now was h = absurd (not_held h.0 h.1)
-  cell_moved (Freeing f) out now was h = absurd (not_held h.0 h.1)
+  cell_moved (Freeing f) out now was h = let fits = sound.cells.turns i v at t (Freeing f) was in
+      turned_freer k s i v sound at pass t slot f (moved f.turn now) (held_inside k s i v sound at pass t slot (Freeing f) fits h.0 h.1 h.2) was (fits h.0 h.1).1.freeing
 
   pub cell_out_both : Allowed k s v (CellOut t slot) → WordsSound k (after k s i v (CellOut t slot))
   cell_out_both may = let x : Tab X = tab_at v t in let was = tab_was k s i v so sound.slots at pass t x may.0 refl in
@@ -114,20 +115,21 @@ module _ {X : Type 0} (k : Setting X) (s : State X) (i : ℕ) (v : View X) (soun
       cell_both (item_of v (CellIn t slot) 0) quiet_put_back x (moves x false) was (cell_moved x true false was may.1)
 
   -- To write it, and to sync it.
-  cell_rewritten : (x : Tab X) (kept settled : Bool) (cell : Option (Cell X)) → get_elem? v.tabs t ≡ some x → OfWriter (λ y. Unit {0}) x → Holds slot true x → Turned k s i v sound at pass t slot x (rewrites x kept settled cell)
+  cell_rewritten : (x : Tab X) (kept settled : Bool) (cell : Option (Cell X)) → get_elem? v.tabs t ≡ some x → MayChange x → Holds slot true x → Turned k s i v sound at pass t slot x (rewrites x kept settled cell)
   cell_rewritten (Writing x) kept settled cell was is h = turned_writer k s i v sound at pass t slot x x.is_written x.is_settled (rewritten x.turn kept settled cell)
       (held_inside k s i v sound at pass t slot (Writing x) (sound.cells.turns i v at t (Writing x) was) h.0 h.1 h.2)
       (writer_holds (w.beside x.anchor) (chain_of s x.anchor) x x.is_written x.is_settled (rewritten x.turn kept settled cell) (sound.slots.tabs i v at t (Writing x) was))
-  cell_rewritten Free kept settled cell was is h = absurd is
-  cell_rewritten (Retreating b) kept settled cell was is h = absurd is
-  cell_rewritten (Reading r) kept settled cell was is h = absurd is
-  cell_rewritten (Last b) kept settled cell was is h = absurd is
-  cell_rewritten (Freeing f) kept settled cell was is h = absurd is
+  cell_rewritten (Freeing f) kept settled cell was is h = let fits = sound.cells.turns i v at t (Freeing f) was in
+      turned_freer k s i v sound at pass t slot f (rewritten f.turn kept settled cell) (held_inside k s i v sound at pass t slot (Freeing f) fits h.0 h.1 h.2) was (fits h.0 h.1).1.freeing
+  cell_rewritten Free kept settled cell was is h = absurd (⊎_elim (λ (z : ⊥). z) (λ (z : ⊥). z) is)
+  cell_rewritten (Retreating b) kept settled cell was is h = absurd (⊎_elim (λ (z : ⊥). z) (λ (z : ⊥). z) is)
+  cell_rewritten (Reading r) kept settled cell was is h = absurd (⊎_elim (λ (z : ⊥). z) (λ (z : ⊥). z) is)
+  cell_rewritten (Last b) kept settled cell was is h = absurd (⊎_elim (λ (z : ⊥). z) (λ (z : ⊥). z) is)
 
   pub write_both : (outcome : Outcome) → Allowed k s v (Write t slot outcome) → WordsSound k (after k s i v (Write t slot outcome))
-  write_both outcome may = let x : Tab X = tab_at v t in let was = tab_was k s i v so sound.slots at pass t x (let z = may.0 in omega arith) refl in let cell : Option (Cell X) = wrote (cell_held (turn_of x)) outcome (chosen_content k x) in
+  write_both outcome may = let x : Tab X = tab_at v t in let was = tab_was k s i v so sound.slots at pass t x may.0 refl in let cell : Option (Cell X) = wrote (cell_held (turn_of x)) outcome (chosen_content k x) in
       cell_both (item_of v (Write t slot outcome) 0) quiet_wrote x (rewrites x (is_kept outcome) (settled_by_write x outcome) cell) was (cell_rewritten x (is_kept outcome) (settled_by_write x outcome) cell was may.1 may.2)
 
   pub sync_both : (kept : Bool) → Allowed k s v (Sync t slot kept) → WordsSound k (after k s i v (Sync t slot kept))
-  sync_both kept may = let x : Tab X = tab_at v t in let was = tab_was k s i v so sound.slots at pass t x (let z = may.0 in omega arith) refl in let cell : Option (Cell X) = synced (cell_held (turn_of x)) kept in
+  sync_both kept may = let x : Tab X = tab_at v t in let was = tab_was k s i v so sound.slots at pass t x may.0 refl in let cell : Option (Cell X) = synced (cell_held (turn_of x)) kept in
       cell_both (item_of v (Sync t slot kept) 0) quiet_synced x (rewrites x false (settled_by_sync x kept) cell) was (cell_rewritten x false (settled_by_sync x kept) cell was may.1 may.2)

@@ -6,6 +6,8 @@ use native.Mathlib.Decide.{ℕ_discrete}
 use lib.ListN.{get_elem?}
 use Rattle.lock_word.specs.Words.{readers_of, epoch_of, version_of, stage_of, version_limit}
 use Rattle.link_word.specs.declared.link.Link.{Link}
+use Rattle.core_model.specs.declared.tab.Freer.{Freer}
+use Rattle.core_model.specs.CellMoves.{MayWipe}
 use Rattle.core_model.specs.declared.moves.Side.{Side}
 use Rattle.core_model.specs.declared.moves.Side.TheVariants.{Offer, Start}
 use Rattle.core_model.specs.declared.tab.Cell.{Cell}
@@ -104,6 +106,14 @@ module _ {X : Type 0} where
         source : (hold : Hold X) → turn_of old ≡ Has hold → (p : ℕ) × (tab : Tab X) × (get_elem? v.tabs p ≡ some tab) × (turn_of tab ≡ Has hold)
         source hold e = ⊎_elim (λ (q : get_elem? v.tabs t ≡ some old). (t, old, q, e)) (λ (q : FitsIn k s' v old). q.from hold e) (h.each t old was)
 
+  -- a tab that may wipe a slot may do so with any turn
+  pub wipe_again : (slot : ℕ) (f : Freer X) (turn : TurnOf X) → MayWipe slot f → MayWipe slot (record f { turn = turn })
+  wipe_again slot f turn h = record { front = h.front; freeing = h.freeing; whole = h.whole; doomed = h.doomed }
+
+  -- and one without a turn fits
+  pub freer_fits : (k : Setting X) (s' : State X) (f : Freer X) → f.turn ≡ NoTurn → TurnFits k s' (Freeing f)
+  freer_fits k s' f e = λ h q. absurd (no_has f.turn h e q)
+
   -- a tab that has nothing to do with slots, and no turn
   pub idle_fits : (k : Setting X) (s' : State X) (x : Tab X) → NoSlots x → turn_of x ≡ NoTurn → TurnFits k s' x
   idle_fits k s' Free none e = tt
@@ -111,7 +121,7 @@ module _ {X : Type 0} where
   idle_fits k s' (Reading r) none e = λ h q. absurd (no_has r.turn h e q)
   idle_fits k s' (Writing w) none e = absurd none
   idle_fits k s' (Last a) none e = tt
-  idle_fits k s' (Freeing f) none e = tt
+  idle_fits k s' (Freeing f) none e = absurd none
 
   pub idle_piece : (k : Setting X) (s' : State X) (x : Tab X) → NoSlots x → TabPiece k s' x
   idle_piece k s' Free none = tt
@@ -218,7 +228,7 @@ module _ {X : Type 0} where
       fits_later j t (Reading r) x f = λ h e. let q = f h e in (q.0, next_later j t r x h.slot q.1, q.2)
       fits_later j t (Writing w) x f = f
       fits_later j t (Last a) x f = tt
-      fits_later j t (Freeing g) x f = tt
+      fits_later j t (Freeing g) x f = f
 
       cell_before : (slot : ℕ) (c : Cell X) → IsCell s' slot c → IsCell s slot c
       cell_before slot c (inl e) = inl e

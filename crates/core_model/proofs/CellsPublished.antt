@@ -218,7 +218,7 @@ module _ {X : Type 0} (k : Setting X) (s : State X) (i : ℕ) (v : View X) (so :
   fits_later (Reading r) h f = λ hold e. let q = f hold e in (q.0, next_later r (h r refl) hold.slot q.1, q.2)
   fits_later (Writing y) h f = f
   fits_later (Last b) h f = tt
-  fits_later (Freeing f') h f = tt
+  fits_later (Freeing f') h f = f
 
   fits_here : TurnFits k s' new
   fits_here = λ hold e. absurd (unheld i v at t (Writing x) was hold e (let q = cells.turns i v at t (Writing x) was hold e in firsts (sym q.1 ∙ may.first)))

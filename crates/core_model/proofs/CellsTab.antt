@@ -7,6 +7,8 @@ use native.Mathlib.Decide.{ℕ_discrete}
 use lib.ListN.{get_elem?}
 use Rattle.lock_word.specs.Words.{epoch_of, version_of, stage_of}
 use Rattle.link_word.specs.declared.link.Link.TheVariants.{NotWritten}
+use Rattle.core_model.proofs.CellsFrame.{Sees}
+use Rattle.core_model.specs.declared.tab.Freer.{Freer}
 use Rattle.core_model.specs.declared.moves.Side.{Side}
 use Rattle.core_model.specs.declared.moves.Side.TheVariants.{Offer}
 use Rattle.core_model.specs.declared.tab.Cell.{Cell}
@@ -19,7 +21,6 @@ use Rattle.core_model.specs.declared.tab.Writer.{Writer}
 use Rattle.core_model.specs.declared.tab.Tab.{Tab}
 use Rattle.core_model.specs.declared.tab.Tab.TheVariants.{Free, Retreating, Reading, Writing, Last, Freeing}
 use Rattle.core_model.specs.declared.view.Place.TheVariants.{Beside, Turn}
-use Rattle.core_model.specs.declared.view.Sight.{Sight}
 use Rattle.core_model.specs.declared.view.Sight.TheVariants.{Named}
 use Rattle.core_model.specs.declared.view.View.{View}
 use Rattle.core_model.specs.declared.chain.Chain.{Chain}
@@ -37,7 +38,7 @@ use Rattle.core_model.proofs.Spelling.{one_same}
 use Rattle.core_model.proofs.SlotFrame.{published_few, once, in_no_other}
 use Rattle.core_model.proofs.SlotKinds.{OneTab, recounted, each_tab}
 use Rattle.core_model.proofs.FollowsKept.{at_times}
-use Rattle.core_model.specs.SlotMoves.{IsNext}
+use Rattle.core_model.specs.SlotMoves.{IsNext, IsFront}
 
 -- What holds of the turn of one slot: its word, how many hold it, and the cell at home.
 pub record OneTurn {C : Type 0} (word holders : ℕ) (place : Option C) : Type 0 where
@@ -58,6 +59,10 @@ pub at_first : (xs ys : List ℕ) (p slot : ℕ) → get_elem? (xs ++ ys) p ≡ 
 at_first [] ys p slot e lt = absurd (omega arith)
 at_first (x ∷ xs) ys zero slot e lt = e
 at_first (x ∷ xs) ys (suc p) slot e lt = at_first xs ys p slot e (omega arith)
+
+-- the first slot of a list is in it
+pub first_times : (slot : ℕ) (xs : List ℕ) → xs ≡ slot ∷ rest_of xs → 0 < times slot xs
+first_times slot xs first = let c : times slot xs ≡ times slot (slot ∷ rest_of xs) = ap (times slot) first in let o = one_same slot in omega arith
 
 module _ {X : Type 0} where
   abbrev slot_in : TurnOf X → ℕ
@@ -91,14 +96,22 @@ module _ {X : Type 0} where
   turn_is j NoTurn lt = absurd (omega arith)
   turn_is j (Has h) lt = by_eq (λ z. 0 < cond z 1 0 → (g : Hold X) × (Has h ≡ Has g) × (g.slot ≡ j)) h.slot j (λ e _. (h, refl, e)) (λ _ lt. absurd (omega arith)) lt
 
-  -- A tab that holds a turn reads or writes.
-  pub turn_tab : (x : Tab X) (h : Hold X) → turn_of x ≡ Has h → ((r : Reader X) × (x ≡ Reading r) × (r.turn ≡ Has h)) ⊎ ((w : Writer X) × (x ≡ Writing w) × (w.turn ≡ Has h))
+  -- A tab that holds a turn reads, writes or frees.
+  pub turn_tab : (x : Tab X) (h : Hold X) → turn_of x ≡ Has h
+      → ((r : Reader X) × (x ≡ Reading r) × (r.turn ≡ Has h)) ⊎ ((w : Writer X) × (x ≡ Writing w) × (w.turn ≡ Has h)) ⊎ ((f : Freer X) × (x ≡ Freeing f) × (f.turn ≡ Has h))
   turn_tab Free h e = absurd (no_hold h e)
   turn_tab (Retreating a) h e = absurd (no_hold h e)
   turn_tab (Reading r) h e = inl (r, refl, e)
-  turn_tab (Writing w) h e = inr (w, refl, e)
+  turn_tab (Writing w) h e = inr (inl (w, refl, e))
   turn_tab (Last a) h e = absurd (no_hold h e)
-  turn_tab (Freeing f) h e = absurd (no_hold h e)
+  turn_tab (Freeing f) h e = inr (inr (f, refl, e))
+
+  -- a tab has a slot that it first reserved, or that is first in its rest
+  pub reserves_first : (w : Writer X) (slot : ℕ) → w.reserved ≡ slot ∷ rest_of w.reserved → 0 < held_in slot (Writing w)
+  reserves_first w slot first = let z = first_times slot w.reserved first in omega arith
+
+  pub rests_first : (f : Freer X) (slot : ℕ) → IsFront slot f → 0 < held_in slot (Freeing f)
+  rests_first f slot front = let z = first_times slot f.rest front in omega arith
 
 module _ {X : Type 0} (vs : List (View X)) (i : ℕ) (v v' : View X) (at : get_elem? vs i ≡ some v) (t : ℕ) (old new : Tab X) (one : OneTab v v' t old new) where
   -- each tab is the new one, or was there before
@@ -143,7 +156,7 @@ module _ {X : Type 0} (k : Setting X) (s : State X) where
 
     pub record OwesCells (v : View X) (ws : List ℕ) (ps : List (Option (Cell X))) (v' : View X) (t : ℕ) (old new : Tab X) : Type 0 where
       pub one : OneTab v v' t old new
-      pub seen : v'.seen ≡ v.seen
+      pub seen : Sees v v'
       pub low : (p : ℕ) → p < 5 * k.anchors → get_or ws p 0 ≡ get_or s.words p 0
       pub holders : OneHolder k (turned ws ps v')
       pub fits : TurnFits k s new
@@ -208,7 +221,7 @@ module _ {X : Type 0} (k : Setting X) (s : State X) where
         fits_after (Reading r) h = h
         fits_after (Writing w) h = h
         fits_after (Last a) h = tt
-        fits_after (Freeing f) h = tt
+        fits_after (Freeing f) h = h
 
         piece_after : (j : ℕ) (u : View X) → get_elem? s.views j ≡ some u → (p : ℕ) (tab : Tab X) → get_elem? u.tabs p ≡ some tab → (j ≡ i → p ≢ t) → TabPiece k s tab → TabPiece k s' tab
         piece_after j u ut p Free is ne h = tt
@@ -257,7 +270,7 @@ module _ {X : Type 0} (k : Setting X) (s : State X) where
               i = i;
               view = v';
               at = set_here s.views i v' (at_length s.views i v at);
-              seen = subst (λ (l : List Sight). Contains l (Named a version side value)) (sym o.seen) (subst (λ (y : View X). Contains y.seen (Named a version side value)) (some-injective h.view v (sym h.at ∙ ap (get_elem? s.views) e ∙ at)) h.seen);
+              seen = o.seen (Named a version side value) (subst (λ (y : View X). Contains y.seen (Named a version side value)) (some-injective h.view v (sym h.at ∙ ap (get_elem? s.views) e ∙ at)) h.seen);
             })
             (λ ne. record { i = h.i; view = h.view; at = set_else s.views i h.i v' ne ∙ h.at; seen = h.seen })
 
@@ -295,22 +308,35 @@ module _ {X : Type 0} (k : Setting X) (s : State X) where
           (λ ne. absurd (let l = le_sum_at (held_in slot) u.tabs p (Writing w) is in let o = once k.anchors (slot_words k s.words) s.chains s.views so.slots j u ut slot (omega arith) in
           let z = o.1 in let f = published_few slot s.chains a in let m = sum_mono (published_in slot) (standing_in slot) (λ y. omega arith) s.chains in omega arith))
 
-      module _ (t : ℕ) (w : Writer X) (was : get_elem? v.tabs t ≡ some (Writing w)) (slot : ℕ) (reserved : 0 < times slot w.reserved) where
+      module _ (t : ℕ) (x : Tab X) (was : get_elem? v.tabs t ≡ some x) (slot : ℕ) (has : 0 < held_in slot x) where
         holds_it : 0 < count (held_in slot) v
-        holds_it = let l = le_sum_at (held_in slot) v.tabs t (Writing w) was in omega arith
+        holds_it = let l = le_sum_at (held_in slot) v.tabs t x was in omega arith
 
+        -- one that a tab has is in no chain
+        pub held_unpublished : IsUnpublished slot
+        held_unpublished a = let o = once k.anchors (slot_words k s.words) s.chains s.views so.slots i v at slot holds_it in
+            let z = o.1 in let f = published_few slot s.chains a in let m = sum_mono (published_in slot) (standing_in slot) (λ y. omega arith) s.chains in omega arith
+
+        -- and no other tab has it
+        pub held_apart : (j : ℕ) (u : View X) → get_elem? s.views j ≡ some u → (p : ℕ) (y : Tab X) → get_elem? u.tabs p ≡ some y → (j ≡ i → p ≢ t) → held_in slot y ≡ 0
+        held_apart j u ut p y is ne = dite (ℕ_discrete (held_in slot y) 0) (λ e. e) (λ many. absurd (dite (ℕ_discrete j i)
+            (λ e. let same : u ≡ v = some-injective u v (sym ut ∙ ap (get_elem? s.views) e ∙ at) in
+            let l = two_le_sum (held_in slot) v.tabs t p x y was (subst (λ (z : View X). get_elem? z.tabs p ≡ some y) same is) (ne e) in
+            let o = once k.anchors (slot_words k s.words) s.chains s.views so.slots i v at slot holds_it in let z = o.0 in omega arith)
+            (λ other. let z = in_no_other k.anchors (slot_words k s.words) s.chains s.views so.slots i v at slot j u holds_it other ut in let l = le_sum_at (held_in slot) u.tabs p y is in omega arith)))
+
+        -- nor does one that writes reserve it
+        pub held_alone : IsApart t slot
+        held_alone j u ut p w is ne = let z = held_apart j u ut p (Writing w) is ne in omega arith
+
+      module _ (t : ℕ) (w : Writer X) (was : get_elem? v.tabs t ≡ some (Writing w)) (slot : ℕ) (reserved : 0 < times slot w.reserved) where
         -- one that a writing tab reserves is in no chain
         pub written_unpublished : IsUnpublished slot
-        written_unpublished a = let o = once k.anchors (slot_words k s.words) s.chains s.views so.slots i v at slot holds_it in
-            let z = o.1 in let f = published_few slot s.chains a in let m = sum_mono (published_in slot) (standing_in slot) (λ y. omega arith) s.chains in omega arith
+        written_unpublished = held_unpublished t (Writing w) was slot (omega arith)
 
         -- and no other one reserves it
         pub written_apart : IsApart t slot
-        written_apart j u ut p x is ne = dite (ℕ_discrete (times slot x.reserved) 0) (λ e. e) (λ many. absurd (dite (ℕ_discrete j i)
-            (λ e. let same : u ≡ v = some-injective u v (sym ut ∙ ap (get_elem? s.views) e ∙ at) in
-            let l = two_le_sum (held_in slot) v.tabs t p (Writing w) (Writing x) was (subst (λ (y : View X). get_elem? y.tabs p ≡ some (Writing x)) same is) (ne e) in
-            let o = once k.anchors (slot_words k s.words) s.chains s.views so.slots i v at slot holds_it in let z = o.0 in omega arith)
-            (λ other. let z = in_no_other k.anchors (slot_words k s.words) s.chains s.views so.slots i v at slot j u holds_it other ut in let l = le_sum_at (held_in slot) u.tabs p (Writing x) is in omega arith)))
+        written_apart = held_alone t (Writing w) was slot (omega arith)
 
       -- Cells at home of other writing tabs.
 

@@ -28,7 +28,7 @@ use Rattle.core_model.proofs.Lists.{le_sum_at, set_here, set_else}
 use Rattle.core_model.proofs.Tabs.{tab_there}
 use Rattle.core_model.proofs.TakesKept.{fit_vacant, fit_idle, free_is}
 use Rattle.core_model.proofs.EvictsKept.{IsRipe, ripe_idle, ripe_left}
-use Rattle.core_model.proofs.CellsFrame.{later, Sees, no_has, contains_later, TurnsKeep, turns_same, turns_with, cells_later, names_else, turns_else, same_chains, on_anchor}
+use Rattle.core_model.proofs.CellsFrame.{freer_fits, later, Sees, no_has, contains_later, TurnsKeep, turns_same, turns_with, cells_later, names_else, turns_else, same_chains, on_anchor}
 use Rattle.core_model.specs.Table.{Allowed, sights_of}
 use Rattle.core_model.specs.AnchorMoves.{MayTake, MayEvict, writer_of, freer_of}
 
@@ -69,7 +69,7 @@ module _ {X : Type 0} (k : Setting X) (s : State X) (i : ℕ) (v : View X) (so :
     writing = Writing (writer_of a u)
 
     abbrev freeing : Tab X
-    freeing = Freeing (freer_of a false (chain_of s a))
+    freeing = Freeing (freer_of a false n (chain_of s a))
 
     free_here : get_elem? v.tabs t ≡ some Free
     free_here = tab_there v t Free (let p = pass in let z = may.writes in omega arith) may.free
@@ -86,7 +86,7 @@ module _ {X : Type 0} (k : Setting X) (s : State X) (i : ℕ) (v : View X) (so :
 
     idle_tabs : (s' : State X) → tab_at v inner ≡ Free → TurnsKeep k s' v (set (set v.tabs inner freeing) t writing)
     idle_tabs s' inner_free = takes_tab s' (set v.tabs inner freeing)
-        (turns_with k s' v v.tabs (turns_same k s' v) inner Free freeing (tab_there v inner Free (let p = pass in omega arith) inner_free) refl tt tt)
+        (turns_with k s' v v.tabs (turns_same k s' v) inner Free freeing (tab_there v inner Free (let p = pass in omega arith) inner_free) refl (freer_fits k s' (freer_of a false n (chain_of s a)) refl) tt)
         (set_else v.tabs inner t freeing (λ z. absurd (let y = may.writes in omega arith)) ∙ free_here)
 
     takes : (hit idle : Bool) → hit ≡ (n == last_find a v.trail) → idle ≡ is_idle n → (v' : View X) → v'.tabs ≡ cond hit (set (cond idle (set v.tabs inner freeing) v.tabs) t writing) v.tabs → Sees v v'
@@ -109,7 +109,7 @@ module _ {X : Type 0} (k : Setting X) (s : State X) (i : ℕ) (v : View X) (so :
   -- Evicted by the inner tab, or by the tab that is last there.
   module _ (t : ℕ) (may : MayEvict v t a) where
     abbrev evicting : Tab X
-    evicting = Freeing (freer_of a true (chain_of s a))
+    evicting = Freeing (freer_of a true n (chain_of s a))
 
     abbrev old : Tab X
     old = tab_at v t
@@ -143,7 +143,7 @@ module _ {X : Type 0} (k : Setting X) (s : State X) (i : ℕ) (v : View X) (so :
         → CellsSound k (later s i v' (set s.words (anchor_index a) (cond hit (evicted n) n)) (cond hit chains s.chains))
     evicts false e v' tabs see = on_anchor k s i v so sl cells at a n v' s.chains lt refl (subst (TurnsKeep k (later s i v' (set s.words (anchor_index a) n) s.chains) v) (sym tabs) (freed_tabs _)) see (same_chains k s)
     evicts true e v' tabs see = empties (unread (eqb-true _ _ (sym e))) (evicted n) v'
-        (subst (TurnsKeep k (later s i v' (set s.words (anchor_index a) (evicted n)) chains) v) (sym tabs) (turns_with k _ v (set v.tabs t Free) (freed_tabs _) inner Free evicting inner_then refl tt tt)) see
+        (subst (TurnsKeep k (later s i v' (set s.words (anchor_index a) (evicted n)) chains) v) (sym tabs) (turns_with k _ v (set v.tabs t Free) (freed_tabs _) inner Free evicting inner_then refl (freer_fits k (later s i v' (set s.words (anchor_index a) (evicted n)) chains) (freer_of a true n (chain_of s a)) refl) tt)) see
 
 module _ {X : Type 0} (k : Setting X) (s : State X) (i : ℕ) (v : View X) (so : AnchorsSound k s) (sl : SlotsSound k s) (cells : CellsSound k s) (at : get_elem? s.views i ≡ some v) (pass : IsPass v) where
   pub take_cells : (t a u : ℕ) → Allowed k s v (Take t a u) → CellsSound k (after k s i v (Take t a u))

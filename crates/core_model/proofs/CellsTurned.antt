@@ -1,5 +1,5 @@
 -- To try for a turn and to end one keeps what is sound of cells.
-use Rattle.std.proofs.Common.{◌≡◌, ◌≢◌, inl, inr, ⊎_elim, ℕ, ◌*◌, ◌<◌, List, ◌∷◌, length, get_or, set, sym, refl, ap, ◌∙◌, subst, arith, sum_by, Some, None, Option, Bool, true, false, cond, ◌==◌, eq-eqb, get_or-set_same, get_or-set_other}
+use Rattle.std.proofs.Common.{◌≡◌, ◌≢◌, inl, inr, ⊎_elim, ℕ, ◌*◌, ◌<◌, List, ◌∷◌, length, get_or, set, sym, refl, ap, ◌∙◌, subst, arith, sum_by, Some, None, Option, Bool, true, false, cond, ◌==◌, eq-eqb, get_or-set_same, get_or-set_other, ◌⊎◌}
 use Rattle.std.proofs.lemmas.Bool.{eqb-true, false≢true}
 use Rattle.std.specs.Prelude.{unwrap_or}
 use mathlib.Core.Option.{some, some-injective}
@@ -7,6 +7,9 @@ use mathlib.Core.Logic.{dite}
 use native.Mathlib.Decide.{ℕ_discrete}
 use lib.ListN.{get_elem?}
 use Rattle.link_word.specs.declared.link.Link.TheVariants.{NotWritten}
+use Rattle.core_model.proofs.CellsFrame.{Sees, wipe_again, contains_later}
+use Rattle.core_model.specs.Slots.{held_in}
+use Rattle.core_model.specs.declared.tab.Freer.{Freer}
 use Rattle.core_model.specs.declared.tab.Cell.{Cell}
 use Rattle.core_model.specs.declared.tab.Hold.{Hold}
 use Rattle.core_model.specs.declared.tab.Turn.TheVariants.{NoTurn, Has}
@@ -30,12 +33,12 @@ use Rattle.core_model.proofs.Lists.{sum_some}
 use Rattle.core_model.proofs.Spelling.{one_same}
 use Rattle.core_model.proofs.Telling.{set_again}
 use Rattle.core_model.proofs.SlotKinds.{OneTab}
-use Rattle.core_model.proofs.ReservesKept.{of_reader, of_writer, tab_was, held_slot}
+use Rattle.core_model.proofs.ReservesKept.{of_reader, of_writer, tab_was, held_slot, of_freer}
 use Rattle.core_model.proofs.FollowsKept.{at_times, followed}
-use Rattle.core_model.proofs.CellsTab.{OneTurn, taken_turn, free_turn, same_slot, same_hold, no_hold, turn_none, turn_here, turn_else, turn_nowhere, turn_is, turn_tab, holders_after, Turned, of_holders, to_holders, turned, IsApart, cell_after, same_holders, cells_kept, read_slot, read_apart, written_unpublished, written_apart, homes_else, homes_stay}
+use Rattle.core_model.proofs.CellsTab.{OneTurn, taken_turn, free_turn, same_slot, same_hold, no_hold, turn_none, turn_here, turn_else, turn_nowhere, turn_is, turn_tab, holders_after, Turned, of_holders, to_holders, turned, IsApart, cell_after, same_holders, cells_kept, read_slot, read_apart, written_apart, homes_else, homes_stay, held_unpublished, held_apart, held_alone, reserves_first, rests_first}
 use Rattle.core_model.specs.Table.{Allowed}
 use Rattle.core_model.specs.SlotMoves.{IsNext}
-use Rattle.core_model.specs.CellMoves.{MayRead, MayWrite, turn_with, tries, was_written, was_settled, ends, cell_held}
+use Rattle.core_model.specs.CellMoves.{MayRead, MayWrite, turn_with, tries, was_written, was_settled, ends, cell_held, MayWipe, wiped_by}
 
 not_some : (slot : ℕ) → None ≡ Some slot → ⊥
 not_some slot e = cc
@@ -62,49 +65,49 @@ module _ {X : Type 0} (k : Setting X) (s : State X) (i : ℕ) (v : View X) (so :
   fits_none (Reading r) e = λ h q. absurd (no_hold h (sym e ∙ q))
   fits_none (Writing w) e = λ h q. absurd (no_hold h (sym e ∙ q))
   fits_none (Last a) e = tt
-  fits_none (Freeing f) e = tt
+  fits_none (Freeing f) e = λ h q. absurd (no_hold h (sym e ∙ q))
 
-  -- The slot of a writing tab that holds no turn.
+  -- The slot of a tab that holds no turn.
 
-  module _ (t : ℕ) (w : Writer X) (was : get_elem? v.tabs t ≡ some (Writing w)) (none : has_turn w.turn ≡ false) (slot : ℕ) (first : w.reserved ≡ slot ∷ rest_of w.reserved) where
-    reserves_it : 0 < times slot w.reserved
-    reserves_it = let c : times slot w.reserved ≡ times slot (slot ∷ rest_of w.reserved) = ap (times slot) first in let o = one_same slot in omega arith
+  -- a tab that holds the turn of a slot reads there, or has the slot
+  holder_is : (slot : ℕ) (x : Tab X) → TurnFits k s x → (h : Hold X) → turn_of x ≡ Has h → h.slot ≡ slot → ((r : Reader X) × (x ≡ Reading r) × (r.turn ≡ Has h)) ⊎ (0 < held_in slot x)
+  holder_is slot (Reading r) fits h e same = inl (r, refl, e)
+  holder_is slot (Writing w) fits h e same = inr (subst (λ (z : ℕ). 0 < held_in z (Writing w)) same (reserves_first w h.slot (fits h e).1))
+  holder_is slot (Freeing f) fits h e same = inr (subst (λ (z : ℕ). 0 < held_in z (Freeing f)) same (rests_first f h.slot (fits h e).1.front))
+  holder_is slot Free fits h e same = absurd (no_hold h e)
+  holder_is slot (Retreating a) fits h e same = absurd (no_hold h e)
+  holder_is slot (Last a) fits h e same = absurd (no_hold h e)
 
-    -- nobody holds its turn: a tab that reads there finds it published, and one that writes there reserves it
+  module _ (t : ℕ) (y : Tab X) (was : get_elem? v.tabs t ≡ some y) (none : turn_of y ≡ NoTurn) (slot : ℕ) (has : 0 < held_in slot y) where
+    -- nobody holds its turn: a tab that reads there finds it published, and any other one has it
     no_holder : (j : ℕ) (u : View X) → get_elem? s.views j ≡ some u → (p : ℕ) (x : Tab X) → get_elem? u.tabs p ≡ some x → 0 < holds_at slot x → ⊥
-    no_holder j u ut p x is lt = let h = turn_is slot (turn_of x) lt in ⊎_elim (reads h.0 h.2) (writes h.0 h.2) (turn_tab x h.0 h.1)
+    no_holder j u ut p x is lt = let h = turn_is slot (turn_of x) lt in ⊎_elim (reads h.0 h.2) (owns h.0 h.1) (holder_is slot x (so.cells.turns j u ut p x is) h.0 h.1 h.2)
       where
         reads : (h : Hold X) → h.slot ≡ slot → (r : Reader X) × (x ≡ Reading r) × (r.turn ≡ Has h) → ⊥
         reads h same q = let there = is ∙ ap some q.1 in let f = so.cells.turns j u ut p (Reading q.0) there h q.2 in
             let e = read_slot k s i v so at j u ut p q.0 there h.slot f.1 f.2 in
             let z = at_times (chain_of s q.0.anchor).slots q.0.place slot (e ∙ ap some same) in
-            let y = written_unpublished k s i v so at t w was slot reserves_it q.0.anchor in omega arith
+            let y = held_unpublished k s i v so at t y was slot has q.0.anchor in omega arith
 
-        writes : (h : Hold X) → h.slot ≡ slot → (y : Writer X) × (x ≡ Writing y) × (y.turn ≡ Has h) → ⊥
-        writes h same q = dite (ℕ_discrete p t)
+        owns : (h : Hold X) → turn_of x ≡ Has h → 0 < held_in slot x → ⊥
+        owns h turn some_ = dite (ℕ_discrete p t)
             (λ e. dite (ℕ_discrete j i) (λ e'. itself e e') (λ ne. other (λ z. absurd (ne z))))
             (λ ne. other (λ _. ne))
           where
-            there : get_elem? u.tabs p ≡ some (Writing q.0)
-            there = is ∙ ap some q.1
-
             other : (j ≡ i → p ≢ t) → ⊥
-            other ne = let z = written_apart k s i v so at t w was slot reserves_it j u ut p q.0 there ne in
-                let f = so.cells.turns j u ut p (Writing q.0) there h q.2 in
-                let c : times slot q.0.reserved ≡ times slot (h.slot ∷ rest_of q.0.reserved) = ap (times slot) f.1 in
-                let d : times slot (h.slot ∷ rest_of q.0.reserved) ≡ times slot (slot ∷ rest_of q.0.reserved) = ap (λ (m : ℕ). times slot (m ∷ rest_of q.0.reserved)) same in let o = one_same slot in omega arith
+            other ne = let z = held_apart k s i v so at t y was slot has j u ut p x is ne in omega arith
 
             itself : p ≡ t → j ≡ i → ⊥
             itself e e' = let view : u ≡ v = some-injective u v (sym ut ∙ ap (get_elem? s.views) e' ∙ at) in
-                let tab : Writing q.0 ≡ Writing w = some-injective (Writing q.0) (Writing w) (sym there ∙ ap (λ (y : View X). get_elem? y.tabs p) view ∙ ap (get_elem? v.tabs) e ∙ was) in
-                no_hold h (sym (turn_none w.turn none) ∙ sym (ap turn_of tab) ∙ q.2)
+                let tab : x ≡ y = some-injective x y (sym is ∙ ap (λ (z : View X). get_elem? z.tabs p) view ∙ ap (get_elem? v.tabs) e ∙ was) in
+                no_hold h (sym none ∙ sym (ap turn_of tab) ∙ turn)
 
-    reserved_inside : slot < k.slots
-    reserved_inside = held_slot k s i v so.anchors so.slots at pass slot t (Writing w) was (let z = reserves_it in omega arith)
+    held_inside : slot < k.slots
+    held_inside = held_slot k s i v so.anchors so.slots at pass slot t y was has
 
     turn_is_free : turn_word k s slot ≡ 0
-    turn_is_free = dite (ℕ_discrete (turn_word k s slot) 0) (λ e. e) (λ ne. absurd (let h = so.cells.holders.turns slot reserved_inside in
-        let y = sum_some (count (holds_at slot)) s.views (omega arith) in let x = sum_some (holds_at slot) y.item.tabs y.some_ in no_holder y.i y.item y.at x.i x.item x.at x.some_))
+    turn_is_free = dite (ℕ_discrete (turn_word k s slot) 0) (λ e. e) (λ ne. absurd (let h = so.cells.holders.turns slot held_inside in
+        let z = sum_some (count (holds_at slot)) s.views (omega arith) in let x = sum_some (holds_at slot) z.item.tabs z.some_ in no_holder z.i z.item z.at x.i x.item x.at x.some_))
 
   -- The turn of one slot goes from old to new.
 
@@ -166,7 +169,7 @@ module _ {X : Type 0} (k : Setting X) (s : State X) (i : ℕ) (v : View X) (so :
           inr)
           (cell_after k s i v so at (set s.words (index k (Turn slot)) 1) (set s.places slot None) v' t old new one j d is)
 
-      taken_keeps : TabPiece k s₁ new → TurnFits k s new → IsApart k s i t slot → v'.seen ≡ v.seen → CellsSound k s₁
+      taken_keeps : TabPiece k s₁ new → TurnFits k s new → IsApart k s i t slot → Sees v v' → CellsSound k s₁
       taken_keeps piece fits apart seen = cells_kept k s i v so at (set s.words (index k (Turn slot)) 1) (set s.places slot None) v' t old new record {
         one = one;
         seen = seen;
@@ -212,7 +215,7 @@ module _ {X : Type 0} (k : Setting X) (s : State X) (i : ℕ) (v : View X) (so :
           inr)
           (cell_after k s i v so at (set s.words (index k (Turn slot)) 0) (set s.places slot (Some h.cell)) v' t old new one j d is')
 
-      ended_keeps : TabPiece k s₀ new → IsApart k s i t slot → v'.seen ≡ v.seen → CellsSound k s₀
+      ended_keeps : TabPiece k s₀ new → IsApart k s i t slot → Sees v v' → CellsSound k s₀
       ended_keeps piece apart seen = cells_kept k s i v so at (set s.words (index k (Turn slot)) 0) (set s.places slot (Some h.cell)) v' t old new record {
         one = one;
         seen = seen;
@@ -226,7 +229,7 @@ module _ {X : Type 0} (k : Setting X) (s : State X) (i : ℕ) (v : View X) (so :
 
   -- A try, of a tab that reads.
 
-  module _ (t slot : ℕ) (v' : View X) (seen : v'.seen ≡ v.seen) (r : Reader X) (was : get_elem? v.tabs t ≡ some (Reading r)) (may : MayRead s slot r) (none : has_turn r.turn ≡ false) where
+  module _ (t slot : ℕ) (v' : View X) (seen : Sees v v') (r : Reader X) (was : get_elem? v.tabs t ≡ some (Reading r)) (may : MayRead s slot r) (none : has_turn r.turn ≡ false) where
     read_inside : slot < k.slots
     read_inside = (followed k s i v so.anchors so.slots at pass t slot r was may.0).inside
 
@@ -265,13 +268,16 @@ module _ {X : Type 0} (k : Setting X) (s : State X) (i : ℕ) (v : View X) (so :
 
   -- Of one that writes. It finds the turn free.
 
-  module _ (t slot : ℕ) (v' : View X) (seen : v'.seen ≡ v.seen) (w : Writer X) (was : get_elem? v.tabs t ≡ some (Writing w)) (may : MayWrite slot w) (none : has_turn w.turn ≡ false) where
+  module _ (t slot : ℕ) (v' : View X) (seen : Sees v v') (w : Writer X) (was : get_elem? v.tabs t ≡ some (Writing w)) (may : MayWrite slot w) (none : has_turn w.turn ≡ false) where
     abbrev tried_writer : Bool → Tab X
     tried_writer hit = Writing record w { is_written = cond hit false w.is_written; is_settled = cond hit false w.is_settled; turn = cond hit (turn_with slot (get_or s.places slot None)) w.turn }
 
+    has_it : 0 < held_in slot (Writing w)
+    has_it = reserves_first w slot may.first
+
     try_writer : (hit : Bool) → hit ≡ (turn_word k s slot == 0) → v'.tabs ≡ set v.tabs t (tried_writer hit)
         → CellsSound k (turned k s i (set s.words (index k (Turn slot)) (cond hit 1 (turn_word k s slot))) (cond hit (set s.places slot None) s.places) v')
-    try_writer true e tabs = let free = turn_is_free t w was none slot may.first in let inside = reserved_inside t w was none slot may.first in let c = so.cells.holders.home slot inside free in
+    try_writer true e tabs = let free = turn_is_free t (Writing w) was (turn_none w.turn none) slot has_it in let inside = held_inside t (Writing w) was (turn_none w.turn none) slot has_it in let c = so.cells.holders.home slot inside free in
         let has : turn_of (tried_writer true) ≡ Has (taken slot c.0) = ap (turn_with slot) c.1 in let old : WriterPiece k s w = so.cells.writers i v at t (Writing w) was in
         taken_keeps t slot (Writing w) (tried_writer true) v' record { was = was; becomes = tabs } inside c.0 (turn_none w.turn none) has free c.1
         record {
@@ -284,12 +290,30 @@ module _ {X : Type 0} (k : Setting X) (s : State X) (i : ℕ) (v : View X) (so :
           synced = λ g turn settled. absurd (false≢true (ap Hold.is_settled (same_hold (taken slot c.0) g (sym has ∙ turn)) ∙ settled));
         }
         (λ g q. let same = same_slot (taken slot c.0) g (sym has ∙ q) in subst (λ (z : ℕ). (z < k.slots) × (w.reserved ≡ z ∷ rest_of w.reserved)) same (inside, may.first))
-        (written_apart k s i v so at t w was slot (reserves_it t w was none slot may.first)) seen
-    try_writer false e tabs = absurd (false≢true (e ∙ eq-eqb (turn_word k s slot) 0 (turn_is_free t w was none slot may.first)))
+        (held_alone k s i v so at t (Writing w) was slot has_it) seen
+    try_writer false e tabs = absurd (false≢true (e ∙ eq-eqb (turn_word k s slot) 0 (turn_is_free t (Writing w) was (turn_none w.turn none) slot has_it)))
+
+  -- Of one that frees. It finds the turn free too.
+
+  module _ (t slot : ℕ) (v' : View X) (seen : Sees v v') (f : Freer X) (was : get_elem? v.tabs t ≡ some (Freeing f)) (may : MayWipe slot f) (none : has_turn f.turn ≡ false) where
+    abbrev tried_freer : Bool → Tab X
+    tried_freer hit = Freeing record f { turn = cond hit (turn_with slot (get_or s.places slot None)) f.turn }
+
+    rests_it : 0 < held_in slot (Freeing f)
+    rests_it = rests_first f slot may.front
+
+    try_freer : (hit : Bool) → hit ≡ (turn_word k s slot == 0) → v'.tabs ≡ set v.tabs t (tried_freer hit)
+        → CellsSound k (turned k s i (set s.words (index k (Turn slot)) (cond hit 1 (turn_word k s slot))) (cond hit (set s.places slot None) s.places) v')
+    try_freer true e tabs = let free = turn_is_free t (Freeing f) was (turn_none f.turn none) slot rests_it in let inside = held_inside t (Freeing f) was (turn_none f.turn none) slot rests_it in let c = so.cells.holders.home slot inside free in
+        let has : turn_of (tried_freer true) ≡ Has (taken slot c.0) = ap (turn_with slot) c.1 in
+        taken_keeps t slot (Freeing f) (tried_freer true) v' record { was = was; becomes = tabs } inside c.0 (turn_none f.turn none) has free c.1 tt
+        (λ g q. let same = same_slot (taken slot c.0) g (sym has ∙ q) in subst (λ (z : ℕ). (z < k.slots) × MayWipe z (record f { turn = turn_with slot (get_or s.places slot None) })) same (inside, wipe_again slot f (turn_with slot (get_or s.places slot None)) may))
+        (held_alone k s i v so at t (Freeing f) was slot rests_it) seen
+    try_freer false e tabs = absurd (false≢true (e ∙ eq-eqb (turn_word k s slot) 0 (turn_is_free t (Freeing f) was (turn_none f.turn none) slot rests_it)))
 
   -- The end of a turn.
 
-  module _ (t : ℕ) (v' : View X) (seen : v'.seen ≡ v.seen) (h : Hold X) (then : Then) where
+  module _ (t : ℕ) (v' : View X) (seen : Sees v v') (h : Hold X) (then : Then) where
     abbrev s₂ : State X
     s₂ = turned k s i (set s.words (index k (Turn h.slot)) 0) (set s.places h.slot (Some h.cell)) v'
 
@@ -329,20 +353,31 @@ module _ {X : Type 0} (k : Setting X) (s : State X) (i : ℕ) (v : View X) (so :
         }
         (written_apart k s i v so at t w was h.slot (let c : times h.slot w.reserved ≡ times h.slot (h.slot ∷ rest_of w.reserved) = ap (times h.slot) f.1 in let o = one_same h.slot in omega arith)) seen
 
+    end_freer : (f : Freer X) → get_elem? v.tabs t ≡ some (Freeing f) → f.turn ≡ Has h → v'.tabs ≡ set v.tabs t (ends (Freeing f) then) → CellsSound k s₂
+    end_freer f was has tabs = let q = so.cells.turns i v at t (Freeing f) was h has in
+        ended_keeps t h.slot (Freeing f) (ends (Freeing f) then) v' record { was = was; becomes = tabs } q.0 h has refl refl tt
+        (held_alone k s i v so at t (Freeing f) was h.slot (rests_first f h.slot q.1.front)) seen
+
 pub try_turn_cells : {X : Type 0} → (k : Setting X) (s : State X) (i : ℕ) (v : View X) → Sound k s → get_elem? s.views i ≡ some v → IsPass v → (t slot : ℕ) → Allowed k s v (TryTurn t slot) → CellsSound k (after k s i v (TryTurn t slot))
 try_turn_cells {X} k s i v so at pass t slot may = let v' : View X = view_after v (TryTurn t slot) (finding k s v (TryTurn t slot)) in ⊎_elim
-    (λ h. let q = of_reader (MayRead s slot) (tab_at v t) h in try_reader k s i v so at pass t slot v' refl q.0 (tab_was k s i v so.anchors so.slots at pass t (Reading q.0) may.0 q.1) q.2 (subst (λ (z : Tab X). holds_turn z ≡ false) q.1 may.1)
+    (λ h. let q = of_reader (MayRead s slot) (tab_at v t) h in try_reader k s i v so at pass t slot v' (λ x c. c) q.0 (tab_was k s i v so.anchors so.slots at pass t (Reading q.0) may.0 q.1) q.2 (subst (λ (z : Tab X). holds_turn z ≡ false) q.1 may.1)
     (turn_word k s slot == 0) refl (ap (λ (z : Tab X). set v.tabs t (tries z slot (turn_word k s slot) (get_or s.places slot None))) q.1))
-    (λ h. let q = of_writer (MayWrite slot) (tab_at v t) h in try_writer k s i v so at pass t slot v' refl q.0 (tab_was k s i v so.anchors so.slots at pass t (Writing q.0) may.0 q.1) q.2 (subst (λ (z : Tab X). holds_turn z ≡ false) q.1 may.1)
+    (⊎_elim
+    (λ h. let q = of_writer (MayWrite slot) (tab_at v t) h in try_writer k s i v so at pass t slot v' (λ x c. c) q.0 (tab_was k s i v so.anchors so.slots at pass t (Writing q.0) may.0 q.1) q.2 (subst (λ (z : Tab X). holds_turn z ≡ false) q.1 may.1)
     (turn_word k s slot == 0) refl (ap (λ (z : Tab X). set v.tabs t (tries z slot (turn_word k s slot) (get_or s.places slot None))) q.1))
+    (λ h. let q = of_freer (MayWipe slot) (tab_at v t) h in try_freer k s i v so at pass t slot v' (λ x c. c) q.0 (tab_was k s i v so.anchors so.slots at pass t (Freeing q.0) may.0 q.1) q.2 (subst (λ (z : Tab X). holds_turn z ≡ false) q.1 may.1)
+    (turn_word k s slot == 0) refl (ap (λ (z : Tab X). set v.tabs t (tries z slot (turn_word k s slot) (get_or s.places slot None))) q.1)))
     may.2
 
 pub end_turn_cells : {X : Type 0} → (k : Setting X) (s : State X) (i : ℕ) (v : View X) → Sound k s → get_elem? s.views i ≡ some v → IsPass v → (t slot : ℕ) (then : Then) → Allowed k s v (EndTurn t slot then)
     → CellsSound k (after k s i v (EndTurn t slot then))
 end_turn_cells {X} k s i v so at pass t slot then may = let h = may.1.0 in let v' : View X = view_after v (EndTurn t slot then) (finding k s v (EndTurn t slot then)) in
+    let see : Sees v v' = contains_later (wiped_by (tab_at v t) slot then) v.seen in
     subst (λ (z : Option (Cell X)). CellsSound k (turned k s i (set s.words (index k (Turn slot)) 0) (set s.places slot z) v')) (sym (ap cell_held may.1.1))
     (subst (λ (z : ℕ). CellsSound k (turned k s i (set s.words (index k (Turn z)) 0) (set s.places z (Some h.cell)) v')) may.1.2
     (⊎_elim
-    (λ (q : (r : Reader X) × (tab_at v t ≡ Reading r) × (r.turn ≡ Has h)). end_reader k s i v so at pass t v' refl h then q.0 (tab_was k s i v so.anchors so.slots at pass t (Reading q.0) may.0 q.1) q.2 (ap (λ (z : Tab X). set v.tabs t (ends z then)) q.1))
-    (λ (q : (w : Writer X) × (tab_at v t ≡ Writing w) × (w.turn ≡ Has h)). end_writer k s i v so at pass t v' refl h then q.0 (tab_was k s i v so.anchors so.slots at pass t (Writing q.0) may.0 q.1) q.2 (ap (λ (z : Tab X). set v.tabs t (ends z then)) q.1))
+    (λ (q : (r : Reader X) × (tab_at v t ≡ Reading r) × (r.turn ≡ Has h)). end_reader k s i v so at pass t v' see h then q.0 (tab_was k s i v so.anchors so.slots at pass t (Reading q.0) may.0 q.1) q.2 (ap (λ (z : Tab X). set v.tabs t (ends z then)) q.1))
+    (⊎_elim
+    (λ (q : (w : Writer X) × (tab_at v t ≡ Writing w) × (w.turn ≡ Has h)). end_writer k s i v so at pass t v' see h then q.0 (tab_was k s i v so.anchors so.slots at pass t (Writing q.0) may.0 q.1) q.2 (ap (λ (z : Tab X). set v.tabs t (ends z then)) q.1))
+    (λ (q : (f : Freer X) × (tab_at v t ≡ Freeing f) × (f.turn ≡ Has h)). end_freer k s i v so at pass t v' see h then q.0 (tab_was k s i v so.anchors so.slots at pass t (Freeing q.0) may.0 q.1) q.2 (ap (λ (z : Tab X). set v.tabs t (ends z then)) q.1)))
     (turn_tab (tab_at v t) h may.1.1)))

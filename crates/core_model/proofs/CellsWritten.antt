@@ -7,6 +7,8 @@ use mathlib.Core.Logic.{dite}
 use native.Mathlib.Decide.{ℕ_discrete}
 use lib.ListN.{get_elem?}
 use Rattle.link_word.specs.declared.link.Link.TheVariants.{NotWritten}
+use Rattle.core_model.proofs.CellsFrame.{Sees, wipe_again}
+use Rattle.core_model.specs.declared.tab.Freer.{Freer}
 use Rattle.core_model.specs.declared.moves.Outcome.{Outcome}
 use Rattle.core_model.specs.declared.moves.Outcome.TheVariants.{Nothing, Kept, Unsure, KeptUnsure}
 use Rattle.core_model.specs.declared.tab.Cell.{Cell}
@@ -17,23 +19,23 @@ use Rattle.core_model.specs.declared.tab.Turn.TheVariants.{Has, NoTurn}
 use Rattle.core_model.specs.declared.tab.Reader.{Reader}
 use Rattle.core_model.specs.declared.tab.Writer.{Writer}
 use Rattle.core_model.specs.declared.tab.Tab.{Tab}
-use Rattle.core_model.specs.declared.tab.Tab.TheVariants.{Reading, Writing}
+use Rattle.core_model.specs.declared.tab.Tab.TheVariants.{Reading, Writing, Freeing}
 use Rattle.core_model.specs.declared.moves.Move.TheVariants.{CellOut, CellIn, Write, Sync}
 use Rattle.core_model.specs.declared.view.View.{View}
 use Rattle.core_model.specs.Layout.{Setting}
 use Rattle.core_model.specs.State.{State}
 use Rattle.core_model.specs.Chains.{times, rest_of}
-use Rattle.core_model.specs.Tabs.{tab_at, turn_of, IsPass}
+use Rattle.core_model.specs.Tabs.{tab_at, turn_of, IsPass, OfWriter, OfFreer}
 use Rattle.core_model.specs.Steps.{finding, view_after, after}
 use Rattle.core_model.specs.Cells.{holds_at, TurnFits, IsHeldCell, IsCell, WriterPiece, TabPiece, CellsSound}
 use Rattle.core_model.specs.Sound.{Sound}
 use Rattle.core_model.proofs.Spelling.{one_same}
 use Rattle.core_model.proofs.SlotKinds.{OneTab}
-use Rattle.core_model.proofs.ReservesKept.{of_writer, tab_was}
-use Rattle.core_model.proofs.CellsTab.{same_slot, same_hold, turn_here, turn_else, turn_tab, turned, IsUnpublished, cell_after, same_holders, cells_kept, written_unpublished, homes_stay}
+use Rattle.core_model.proofs.ReservesKept.{of_writer, tab_was, of_freer}
+use Rattle.core_model.proofs.CellsTab.{same_slot, same_hold, turn_here, turn_else, turn_tab, turned, IsUnpublished, cell_after, same_holders, cells_kept, written_unpublished, homes_stay, held_unpublished, rests_first}
 use Rattle.core_model.specs.Table.{Allowed}
 use Rattle.core_model.specs.SlotMoves.{IsNext}
-use Rattle.core_model.specs.CellMoves.{moved, moves, is_kept, is_nothing, was_settled, rewritten, rewrites, settled_by_write, settled_by_sync, map_some, chosen_content, cell_held, wrote, synced}
+use Rattle.core_model.specs.CellMoves.{moved, moves, is_kept, is_nothing, was_settled, rewritten, rewrites, settled_by_write, settled_by_sync, map_some, chosen_content, cell_held, wrote, synced, MayWipe}
 
 or_false : (b : Bool) → (b || false) ≡ true → b ≡ true
 or_false true e = refl
@@ -99,7 +101,7 @@ module _ {X : Type 0} where
   sync_settled c true before h e = refl
   sync_settled c false before h e = h (or_false before e)
 
-module _ {X : Type 0} (k : Setting X) (s : State X) (i : ℕ) (v : View X) (so : Sound k s) (at : get_elem? s.views i ≡ some v) (v' : View X) (seen : v'.seen ≡ v.seen) (t : ℕ) (h h' : Hold X) (same : h'.slot ≡ h.slot) where
+module _ {X : Type 0} (k : Setting X) (s : State X) (i : ℕ) (v : View X) (so : Sound k s) (at : get_elem? s.views i ≡ some v) (v' : View X) (seen : Sees v v') (t : ℕ) (h h' : Hold X) (same : h'.slot ≡ h.slot) where
   abbrev s' : State X
   s' = turned k s i s.words s.places v'
 
@@ -159,54 +161,90 @@ module _ {X : Type 0} (k : Setting X) (s : State X) (i : ℕ) (v : View X) (so :
             subst (λ (z : Hold X). z.cell.possible ≡ z.cell.now ∷ []) is_it (settles (old.synced h has) (ap Hold.is_settled is_it ∙ settled));
       }
 
+  -- one that frees
+  pub hold_freer : (f : Freer X) (turn : TurnOf X) → get_elem? v.tabs t ≡ some (Freeing f) → f.turn ≡ Has h → turn ≡ Has h' → v'.tabs ≡ set v.tabs t (Freeing record f { turn = turn })
+      → (h'.cell ≡ h.cell) ⊎ Contains h'.cell.possible h'.cell.now → CellsSound k s'
+  hold_freer f turn was has has' tabs may = let q = so.cells.turns i v at t (Freeing f) was h has in
+      goes_on_holding (Freeing f) (Freeing record f { turn = turn }) record { was = was; becomes = tabs } has has'
+      (⊎_elim (λ (e : h'.cell ≡ h.cell). inl e)
+      (λ (e : Contains h'.cell.possible h'.cell.now). inr (held_unpublished k s i v so at t (Freeing f) was h.slot (rests_first f h.slot q.1.front), e)) may)
+      (λ g e. subst (λ (z : ℕ). (z < k.slots) × MayWipe z (record f { turn = turn })) (sym same ∙ same_slot h' g (sym has' ∙ e)) (q.0, wipe_again h.slot f turn q.1))
+      tt
+
 module _ {X : Type 0} (k : Setting X) (s : State X) (i : ℕ) (v : View X) (so : Sound k s) (at : get_elem? s.views i ≡ some v) (pass : IsPass v) (t : ℕ) where
   -- the cell goes out or in
-  moves_keep : (is_out : Bool) (h : Hold X) → t ≤ 8 → turn_of (tab_at v t) ≡ Has h → (v' : View X) → v'.seen ≡ v.seen → v'.tabs ≡ set v.tabs t (moves (tab_at v t) is_out) → CellsSound k (turned k s i s.words s.places v')
+  moves_keep : (is_out : Bool) (h : Hold X) → t ≤ 8 → turn_of (tab_at v t) ≡ Has h → (v' : View X) → Sees v v' → v'.tabs ≡ set v.tabs t (moves (tab_at v t) is_out) → CellsSound k (turned k s i s.words s.places v')
   moves_keep is_out h le has v' seen tabs = ⊎_elim
       (λ (q : (r : Reader X) × (tab_at v t ≡ Reading r) × (r.turn ≡ Has h)). hold_reader k s i v so at v' seen t h (record h { is_out = is_out }) refl q.0 (moved q.0.turn is_out)
       (tab_was k s i v so.anchors so.slots at pass t (Reading q.0) le q.1) q.2 (ap (λ (u : TurnOf X). moved u is_out) q.2) (tabs ∙ ap (λ (z : Tab X). set v.tabs t (moves z is_out)) q.1) refl)
+      (⊎_elim
       (λ (q : (w : Writer X) × (tab_at v t ≡ Writing w) × (w.turn ≡ Has h)). hold_writer k s i v so at v' seen t h (record h { is_out = is_out }) refl q.0 (moved q.0.turn is_out)
       (tab_was k s i v so.anchors so.slots at pass t (Writing q.0) le q.1) q.2 (ap (λ (u : TurnOf X). moved u is_out) q.2) (tabs ∙ ap (λ (z : Tab X). set v.tabs t (moves z is_out)) q.1) (inl refl) (λ p chosen before. before) (λ before. before))
+      (λ (q : (f : Freer X) × (tab_at v t ≡ Freeing f) × (f.turn ≡ Has h)). hold_freer k s i v so at v' seen t h (record h { is_out = is_out }) refl q.0 (moved q.0.turn is_out)
+      (tab_was k s i v so.anchors so.slots at pass t (Freeing q.0) le q.1) q.2 (ap (λ (u : TurnOf X). moved u is_out) q.2) (tabs ∙ ap (λ (z : Tab X). set v.tabs t (moves z is_out)) q.1) (inl refl)))
       (turn_tab (tab_at v t) h has)
 
   -- a cell that a turn has is one
-  possible_held : (w : Writer X) → get_elem? v.tabs t ≡ some (Writing w) → (h : Hold X) → w.turn ≡ Has h → IsPossible h.cell
-  possible_held w was h has = so.cells.contents.possible h.slot h.cell (inr record { i = i; view = v; at = at; t = t; tab = Writing w; there = was; hold = h; turn = has; slot_is = refl; cell_is = refl })
+  possible_held : (x : Tab X) → get_elem? v.tabs t ≡ some x → (h : Hold X) → turn_of x ≡ Has h → IsPossible h.cell
+  possible_held x was h has = so.cells.contents.possible h.slot h.cell (inr record { i = i; view = v; at = at; t = t; tab = x; there = was; hold = h; turn = has; slot_is = refl; cell_is = refl })
 
-  write_keeps : (outcome : Outcome) (w : Writer X) → get_elem? v.tabs t ≡ some (Writing w) → (h : Hold X) → w.turn ≡ Has h → (v' : View X) → v'.seen ≡ v.seen
+  write_keeps : (outcome : Outcome) (w : Writer X) → get_elem? v.tabs t ≡ some (Writing w) → (h : Hold X) → w.turn ≡ Has h → (v' : View X) → Sees v v'
       → v'.tabs ≡ set v.tabs t (rewrites (Writing w) (is_kept outcome) (settled_by_write (Writing w) outcome) (wrote (cell_held w.turn) outcome (map_some k.image w.chosen))) → CellsSound k (turned k s i s.words s.places v')
   write_keeps outcome w was h has v' seen tabs = hold_writer k s i v so at v' seen t h (record h { cell = write_of h.cell outcome (map_some k.image w.chosen); is_written = h.is_written || is_kept outcome; is_settled = was_settled w.turn && is_nothing outcome }) refl w
       (rewritten w.turn (is_kept outcome) (was_settled w.turn && is_nothing outcome) (wrote (cell_held w.turn) outcome (map_some k.image w.chosen))) was has
       (ap (λ (u : TurnOf X). rewritten u (is_kept outcome) (was_settled w.turn && is_nothing outcome) (wrote (cell_held u) outcome (map_some k.image w.chosen))) has) tabs
-      (inr (write_possible h.cell outcome (map_some k.image w.chosen) (possible_held w was h has)))
+      (inr (write_possible h.cell outcome (map_some k.image w.chosen) (possible_held (Writing w) was h has)))
       (λ p chosen before written. subst (λ (z : Option Piece). (write_of h.cell outcome (map_some k.image z)).now ≡ k.image p) (sym chosen) (write_image h.cell outcome (k.image p) h.is_written before written))
       (λ before settled. write_settled h.cell outcome (map_some k.image w.chosen) h.is_settled before (sym (ap (λ (u : TurnOf X). was_settled u && is_nothing outcome) has) ∙ settled))
 
-  sync_keeps : (kept : Bool) (w : Writer X) → get_elem? v.tabs t ≡ some (Writing w) → (h : Hold X) → w.turn ≡ Has h → (v' : View X) → v'.seen ≡ v.seen
+  sync_keeps : (kept : Bool) (w : Writer X) → get_elem? v.tabs t ≡ some (Writing w) → (h : Hold X) → w.turn ≡ Has h → (v' : View X) → Sees v v'
       → v'.tabs ≡ set v.tabs t (rewrites (Writing w) false (settled_by_sync (Writing w) kept) (synced (cell_held w.turn) kept)) → CellsSound k (turned k s i s.words s.places v')
   sync_keeps kept w was h has v' seen tabs = hold_writer k s i v so at v' seen t h (record h { cell = sync_of h.cell kept; is_written = h.is_written || false; is_settled = was_settled w.turn || kept }) refl w
       (rewritten w.turn false (was_settled w.turn || kept) (synced (cell_held w.turn) kept)) was has
       (ap (λ (u : TurnOf X). rewritten u false (was_settled w.turn || kept) (synced (cell_held u) kept)) has) tabs
-      (inr (sync_possible h.cell kept (possible_held w was h has)))
+      (inr (sync_possible h.cell kept (possible_held (Writing w) was h has)))
       (λ p chosen before written. sync_now h.cell kept ∙ before (or_false h.is_written written))
       (λ before settled. sync_settled h.cell kept h.is_settled before (sym (ap (λ (u : TurnOf X). was_settled u || kept) has) ∙ settled))
 
+  -- a freeing tab writes the blank content
+  wipe_keeps : (outcome : Outcome) (f : Freer X) → get_elem? v.tabs t ≡ some (Freeing f) → (h : Hold X) → f.turn ≡ Has h → (v' : View X) → Sees v v'
+      → v'.tabs ≡ set v.tabs t (rewrites (Freeing f) (is_kept outcome) (settled_by_write (Freeing f) outcome) (wrote (cell_held f.turn) outcome (Some k.blank))) → CellsSound k (turned k s i s.words s.places v')
+  wipe_keeps outcome f was h has v' seen tabs = hold_freer k s i v so at v' seen t h (record h { cell = write_of h.cell outcome (Some k.blank); is_written = h.is_written || is_kept outcome; is_settled = was_settled f.turn && is_nothing outcome }) refl f
+      (rewritten f.turn (is_kept outcome) (was_settled f.turn && is_nothing outcome) (wrote (cell_held f.turn) outcome (Some k.blank))) was has
+      (ap (λ (u : TurnOf X). rewritten u (is_kept outcome) (was_settled f.turn && is_nothing outcome) (wrote (cell_held u) outcome (Some k.blank))) has) tabs
+      (inr (write_possible h.cell outcome (Some k.blank) (possible_held (Freeing f) was h has)))
+
+  wipe_syncs : (kept : Bool) (f : Freer X) → get_elem? v.tabs t ≡ some (Freeing f) → (h : Hold X) → f.turn ≡ Has h → (v' : View X) → Sees v v'
+      → v'.tabs ≡ set v.tabs t (rewrites (Freeing f) false (settled_by_sync (Freeing f) kept) (synced (cell_held f.turn) kept)) → CellsSound k (turned k s i s.words s.places v')
+  wipe_syncs kept f was h has v' seen tabs = hold_freer k s i v so at v' seen t h (record h { cell = sync_of h.cell kept; is_written = h.is_written || false; is_settled = was_settled f.turn || kept }) refl f
+      (rewritten f.turn false (was_settled f.turn || kept) (synced (cell_held f.turn) kept)) was has
+      (ap (λ (u : TurnOf X). rewritten u false (was_settled f.turn || kept) (synced (cell_held u) kept)) has) tabs
+      (inr (sync_possible h.cell kept (possible_held (Freeing f) was h has)))
+
 pub cell_out_cells : {X : Type 0} → (k : Setting X) (s : State X) (i : ℕ) (v : View X) → Sound k s → get_elem? s.views i ≡ some v → IsPass v → (t slot : ℕ) → Allowed k s v (CellOut t slot) → CellsSound k (after k s i v (CellOut t slot))
-cell_out_cells k s i v so at pass t slot may = moves_keep k s i v so at pass t true may.1.0 may.0 may.1.1 (view_after v (CellOut t slot) (finding k s v (CellOut t slot))) refl refl
+cell_out_cells k s i v so at pass t slot may = moves_keep k s i v so at pass t true may.1.0 may.0 may.1.1 (view_after v (CellOut t slot) (finding k s v (CellOut t slot))) (λ x c. c) refl
 
 pub cell_in_cells : {X : Type 0} → (k : Setting X) (s : State X) (i : ℕ) (v : View X) → Sound k s → get_elem? s.views i ≡ some v → IsPass v → (t slot : ℕ) → Allowed k s v (CellIn t slot) → CellsSound k (after k s i v (CellIn t slot))
-cell_in_cells k s i v so at pass t slot may = moves_keep k s i v so at pass t false may.1.0 may.0 may.1.1 (view_after v (CellIn t slot) (finding k s v (CellIn t slot))) refl refl
+cell_in_cells k s i v so at pass t slot may = moves_keep k s i v so at pass t false may.1.0 may.0 may.1.1 (view_after v (CellIn t slot) (finding k s v (CellIn t slot))) (λ x c. c) refl
 
 pub write_cells : {X : Type 0} → (k : Setting X) (s : State X) (i : ℕ) (v : View X) → Sound k s → get_elem? s.views i ≡ some v → IsPass v → (t slot : ℕ) (outcome : Outcome) → Allowed k s v (Write t slot outcome)
     → CellsSound k (after k s i v (Write t slot outcome))
-write_cells {X} k s i v so at pass t slot outcome may = let q = of_writer (λ w. Unit {0}) (tab_at v t) may.1 in
-    write_keeps k s i v so at pass t outcome q.0 (tab_was k s i v so.anchors so.slots at pass t (Writing q.0) (let z = may.0 in omega arith) q.1) may.2.0 (sym (ap turn_of q.1) ∙ may.2.1)
-    (view_after v (Write t slot outcome) (finding k s v (Write t slot outcome))) refl
-    (ap (λ (z : Tab X). set v.tabs t (rewrites z (is_kept outcome) (settled_by_write z outcome) (wrote (cell_held (turn_of z)) outcome (chosen_content k z)))) q.1)
+write_cells {X} k s i v so at pass t slot outcome may = let v' : View X = view_after v (Write t slot outcome) (finding k s v (Write t slot outcome)) in ⊎_elim
+    (λ (h : OfWriter (λ w. Unit {0}) (tab_at v t)). let q = of_writer (λ w. Unit {0}) (tab_at v t) h in
+    write_keeps k s i v so at pass t outcome q.0 (tab_was k s i v so.anchors so.slots at pass t (Writing q.0) may.0 q.1) may.2.0 (sym (ap turn_of q.1) ∙ may.2.1) v' (λ x c. c)
+    (ap (λ (z : Tab X). set v.tabs t (rewrites z (is_kept outcome) (settled_by_write z outcome) (wrote (cell_held (turn_of z)) outcome (chosen_content k z)))) q.1))
+    (λ (h : OfFreer (λ f. Unit {0}) (tab_at v t)). let q = of_freer (λ f. Unit {0}) (tab_at v t) h in
+    wipe_keeps k s i v so at pass t outcome q.0 (tab_was k s i v so.anchors so.slots at pass t (Freeing q.0) may.0 q.1) may.2.0 (sym (ap turn_of q.1) ∙ may.2.1) v' (λ x c. c)
+    (ap (λ (z : Tab X). set v.tabs t (rewrites z (is_kept outcome) (settled_by_write z outcome) (wrote (cell_held (turn_of z)) outcome (chosen_content k z)))) q.1))
+    may.1
 
 pub sync_cells : {X : Type 0} → (k : Setting X) (s : State X) (i : ℕ) (v : View X) → Sound k s → get_elem? s.views i ≡ some v → IsPass v → (t slot : ℕ) (kept : Bool) → Allowed k s v (Sync t slot kept)
     → CellsSound k (after k s i v (Sync t slot kept))
-sync_cells {X} k s i v so at pass t slot kept may = let q = of_writer (λ w. Unit {0}) (tab_at v t) may.1 in
-    sync_keeps k s i v so at pass t kept q.0 (tab_was k s i v so.anchors so.slots at pass t (Writing q.0) (let z = may.0 in omega arith) q.1) may.2.0 (sym (ap turn_of q.1) ∙ may.2.1)
-    (view_after v (Sync t slot kept) (finding k s v (Sync t slot kept))) refl
-    (ap (λ (z : Tab X). set v.tabs t (rewrites z false (settled_by_sync z kept) (synced (cell_held (turn_of z)) kept))) q.1)
+sync_cells {X} k s i v so at pass t slot kept may = let v' : View X = view_after v (Sync t slot kept) (finding k s v (Sync t slot kept)) in ⊎_elim
+    (λ (h : OfWriter (λ w. Unit {0}) (tab_at v t)). let q = of_writer (λ w. Unit {0}) (tab_at v t) h in
+    sync_keeps k s i v so at pass t kept q.0 (tab_was k s i v so.anchors so.slots at pass t (Writing q.0) may.0 q.1) may.2.0 (sym (ap turn_of q.1) ∙ may.2.1) v' (λ x c. c)
+    (ap (λ (z : Tab X). set v.tabs t (rewrites z false (settled_by_sync z kept) (synced (cell_held (turn_of z)) kept))) q.1))
+    (λ (h : OfFreer (λ f. Unit {0}) (tab_at v t)). let q = of_freer (λ f. Unit {0}) (tab_at v t) h in
+    wipe_syncs k s i v so at pass t kept q.0 (tab_was k s i v so.anchors so.slots at pass t (Freeing q.0) may.0 q.1) may.2.0 (sym (ap turn_of q.1) ∙ may.2.1) v' (λ x c. c)
+    (ap (λ (z : Tab X). set v.tabs t (rewrites z false (settled_by_sync z kept) (synced (cell_held (turn_of z)) kept))) q.1))
+    may.1

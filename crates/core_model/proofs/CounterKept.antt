@@ -309,7 +309,7 @@ module _ {X : Type 0} (k : Setting X) (s : State X) (i : ℕ) (v : View X) (so :
     shaped = shaped;
     readers = λ b lt. sym (ap readers_of (same_word b lt)) ∙ so.readers b lt ∙ sym (count_same (count (counts b)) refl);
     writers = λ b u g lt. sym (ap (λ (z : ℕ). Rattle.core_model.specs.Anchors.written_at (epoch_of z) u g) (same_word b lt)) ∙ so.writers b u g lt ∙ sym (count_same (count (writes b u g)) refl);
-    freers = λ b lt. sym (ap (λ (z : ℕ). Rattle.core_model.specs.Anchors.freed_at (epoch_of z)) (same_word b lt)) ∙ so.freers b lt ∙ sym (count_same (count (frees b)) refl);
+    freers = λ b u d lt. sym (ap (λ (z : ℕ). Rattle.core_model.specs.Anchors.freed_at (epoch_of z) u d) (same_word b lt)) ∙ so.freers b u d lt ∙ sym (count_same (count (frees b u d)) refl);
     tabs = all_views (λ j u. (t : ℕ) (tab : Tab X) → get_elem? u.tabs t ≡ some tab → TabStands k s u t tab) (λ j u. (t : ℕ) (tab : Tab X) → get_elem? u.tabs t ≡ some tab → TabStands k s' u t tab)
         (λ j u _ h t tab tat. stands u u refl t tab (h t tab tat)) (λ t tab tat. stands v w refl t tab (so.tabs i v at t tab tat)) so.tabs;
     lasts = λ b lt over. let z = same_word b lt in subst (IsLastAt s' b) z (last_later b (word s b) (so.lasts b lt (subst (λ (y : ℕ). is_left_over y ≡ true) (sym z) over)));

@@ -35,12 +35,12 @@ pub record IsCounted {X : Type 0} (a : ℕ) (x : Tab X) : Type 0 where
   pub at_a : IsAt a x
   pub counts_one : counts a x ≡ 1
   pub writes_none : (u g : ℕ) → writes a u g x ≡ 0
-  pub frees_none : frees a x ≡ 0
+  pub frees_none : (u d : ℕ) → frees a u d x ≡ 0
 
 pub counted_is : {X : Type 0} → (x : Tab X) → is_counted x ≡ true → IsCounted (anchor_of x) x
 counted_is Free h = cc
-counted_is (Retreating a) h = record { at_a = refl; counts_one = rw (eq-eqb a a refl) refl; writes_none = λ _ _. refl; frees_none = refl }
-counted_is (Reading r) h = record { at_a = refl; counts_one = rw (eq-eqb r.anchor r.anchor refl) refl; writes_none = λ _ _. refl; frees_none = refl }
+counted_is (Retreating a) h = record { at_a = refl; counts_one = rw (eq-eqb a a refl) refl; writes_none = λ _ _. refl; frees_none = λ _ _. refl }
+counted_is (Reading r) h = record { at_a = refl; counts_one = rw (eq-eqb r.anchor r.anchor refl) refl; writes_none = λ _ _. refl; frees_none = λ _ _. refl }
 counted_is (Writing w) h = cc
 counted_is (Last a) h = cc
 counted_is (Freeing f) h = cc
@@ -50,11 +50,11 @@ pub record IsUncounted {X : Type 0} (a : ℕ) (x : Tab X) : Type 0 where
   pub at_a : IsAt a x
   pub counts_none : counts a x ≡ 0
   pub writes_none : (u g : ℕ) → writes a u g x ≡ 0
-  pub frees_none : frees a x ≡ 0
+  pub frees_none : (u d : ℕ) → frees a u d x ≡ 0
 
 pub left_is : {X : Type 0} → (a : ℕ) (b : Bool) → IsUncounted {X = X} a (cond b (Last a) Free)
-left_is a true = record { at_a = refl; counts_none = refl; writes_none = λ _ _. refl; frees_none = refl }
-left_is a false = record { at_a = tt; counts_none = refl; writes_none = λ _ _. refl; frees_none = refl }
+left_is a true = record { at_a = refl; counts_none = refl; writes_none = λ _ _. refl; frees_none = λ _ _. refl }
+left_is a false = record { at_a = tt; counts_none = refl; writes_none = λ _ _. refl; frees_none = λ _ _. refl }
 
 module _ {X : Type 0} (k : Setting X) (s : State X) (i : ℕ) (v : View X) (so : AnchorsSound k s) (at : get_elem? s.views i ≡ some v) (pass : IsPass v) where
   pub few_readers : (a : ℕ) → a < k.anchors → readers_of (word s a) ≤ 288
@@ -63,7 +63,7 @@ module _ {X : Type 0} (k : Setting X) (s : State X) (i : ℕ) (v : View X) (so :
   pub look_kept : (a : ℕ) → Allowed k s v (Look a) → AnchorsSound k (after k s i v (Look a))
   look_kept a lt = let n : ℕ = word s a in same_epoch k s i v so at pass a n (epoch_of n) v.tabs v.held (item_of v (Look a) n) [] (meets a n v.tabs) lt (so.shaped.anchors a lt) refl refl
       record { at_a = refl; tells = refl; no_draw = refl; no_count = λ _ _. refl; found = omega arith }
-      (no_tab k s i v so at pass a n (epoch_of n) v.held (item_of v (Look a) n) [] (meets a n v.tabs) s.chains refl (λ _ _. refl) refl)
+      (no_tab k s i v so at pass a n (epoch_of n) v.held (item_of v (Look a) n) [] (meets a n v.tabs) s.chains refl (λ _ _. refl) (λ _ _. refl))
       (λ u h. (h, refl))
       (λ _. inr (refl, λ t tat f. (tat, refl)))
       (λ b h. inl h)
@@ -71,8 +71,8 @@ module _ {X : Type 0} (k : Setting X) (s : State X) (i : ℕ) (v : View X) (so :
 
   -- the tab that entered
   entered_is : (a n : ℕ) (b : Bool) → b ≡ is_readable (epoch_of n) → IsCounted {X = X} a (cond b (Reading record { anchor = a; version = version_of (epoch_of n); place = 0; slot = None; found = NotWritten; turn = NoTurn }) (Retreating a))
-  entered_is a n true e = record { at_a = refl; counts_one = rw (eq-eqb a a refl) refl; writes_none = λ _ _. refl; frees_none = refl }
-  entered_is a n false e = record { at_a = refl; counts_one = rw (eq-eqb a a refl) refl; writes_none = λ _ _. refl; frees_none = refl }
+  entered_is a n true e = record { at_a = refl; counts_one = rw (eq-eqb a a refl) refl; writes_none = λ _ _. refl; frees_none = λ _ _. refl }
+  entered_is a n false e = record { at_a = refl; counts_one = rw (eq-eqb a a refl) refl; writes_none = λ _ _. refl; frees_none = λ _ _. refl }
 
   entered_stands : (s' : State X) (w : View X) (t a n : ℕ) → a < k.anchors → epoch_of (word s' a) ≡ epoch_of n → epoch_of n ≤ seen_at a w.seen → (b : Bool) → b ≡ is_readable (epoch_of n)
       → TabStands k s' w t (cond b (Reading record { anchor = a; version = version_of (epoch_of n); place = 0; slot = None; found = NotWritten; turn = NoTurn }) (Retreating a))
@@ -97,7 +97,7 @@ module _ {X : Type 0} (k : Setting X) (s : State X) (i : ℕ) (v : View X) (so :
       (one_tab k s i v so at pass a (n + 1) (epoch_of n) t Free new v.held item deeds met s.chains turns
       (let c = x.counts_one in omega arith)
       (λ u g. let z = x.writes_none u g in let y : written_at (epoch_of (n + 1)) u g ≡ written_at (epoch_of n) u g = ap (λ (m : ℕ). written_at m u g) same in omega arith)
-      (let z = x.frees_none in let y : freed_at (epoch_of (n + 1)) ≡ freed_at (epoch_of n) = ap freed_at same in omega arith)
+      (λ u d. let z = x.frees_none u d in let y : freed_at (epoch_of (n + 1)) u d ≡ freed_at (epoch_of n) u d = ap (λ (m : ℕ). freed_at m u d) same in omega arith)
       (entered_stands (moved s i (stepped v a (n + 1) (epoch_of n) (set v.tabs t new) v.held item deeds met) a (n + 1) s.chains) (stepped v a (n + 1) (epoch_of n) (set v.tabs t new) v.held item deeds met) t a n lt
       (let z = get_or-set_same s.words (anchor_index a) (n + 1) 0 (let y = so.shaped.words in omega arith) in ap epoch_of z ∙ same)
       (sees_now a (epoch_of n) v.seen) (is_readable (epoch_of n)) refl))
@@ -143,7 +143,7 @@ module _ {X : Type 0} (k : Setting X) (s : State X) (i : ℕ) (v : View X) (so :
           (one_tab k s i v so at pass a (n - 1) (epoch_of n) t old new v.held item [] met s.chains turns
           (let q = y.counts_none in omega arith)
           (λ u g. let z = x.writes_none u g in let q = y.writes_none u g in let e : written_at (epoch_of (n - 1)) u g ≡ written_at (epoch_of n) u g = ap (λ (m : ℕ). written_at m u g) same in omega arith)
-          (let z = x.frees_none in let q = y.frees_none in let e : freed_at (epoch_of (n - 1)) ≡ freed_at (epoch_of n) = ap freed_at same in omega arith)
+          (λ u d. let z = x.frees_none u d in let q = y.frees_none u d in let e : freed_at (epoch_of (n - 1)) u d ≡ freed_at (epoch_of n) u d = ap (λ (m : ℕ). freed_at m u d) same in omega arith)
           (left_stands (moved s i (stepped v a (n - 1) (epoch_of n) (set v.tabs t new) v.held item [] met) a (n - 1) s.chains) (stepped v a (n - 1) (epoch_of n) (set v.tabs t new) v.held item [] met) t a lt (is_left_over (n - 1))))
           (λ u h. (h, refl))
           (λ over. inl (t, set_here v.tabs t new (at_length v.tabs t old was) ∙ rw over refl, item_found))

@@ -1,11 +1,11 @@
 -- To take an entry to FREEING keeps a state sound.
-use Rattle.std.proofs.Common.{◌≡◌, ◌≢◌, ◌⊎◌, inl, inr, ⊎_elim, ℕ, ◌+◌, ◌-◌, ◌<◌, ◌≤◌, List, [], ◌∷◌, length, set, sym, refl, ap, ◌∙◌, subst, arith, sum_by, Bool, true, false, cond, ◌==◌, length-set, eq-eqb, ne_eqb, Contains, get_or-set_other}
+use Rattle.std.proofs.Common.{◌≡◌, ◌≢◌, ◌⊎◌, inl, inr, ⊎_elim, ℕ, zero, suc, ◌+◌, ◌-◌, ◌<◌, ◌≤◌, List, [], ◌∷◌, length, set, sym, refl, ap, ◌∙◌, subst, arith, sum_by, Bool, true, false, cond, ◌==◌, length-set, eq-eqb, ne_eqb, Contains, get_or-set_other}
 use Rattle.std.proofs.lemmas.Bool.{eqb-true, false≢true}
 use mathlib.Core.Option.{some}
 use mathlib.Core.Logic.{dite}
 use native.Mathlib.Decide.{ℕ_discrete}
 use lib.ListN.{get_elem?}
-use Rattle.lock_word.specs.Words.{readers_of, epoch_of, version_of, mode_of, stage_of, doom_of, is_written, is_idle, is_left_over, evicted}
+use Rattle.lock_word.specs.Words.{readers_of, epoch_of, version_of, mode_of, stage_of, doom_of, is_written, is_idle, is_left_over, evicted, doom_number}
 use Rattle.lock_word.proofs.Raising.{readers_of-raised, epoch_of-raised, version_of-raised, doom_of-raised, stage_of-raised, is_word-raised}
 use Rattle.lock_word.proofs.Testing.{readers_of-idle, readers_of-left_over, mode_of-idle, stage_of-left_over, written-idle, written-left_over}
 use Rattle.core_model.specs.declared.tab.Tab.{Tab}
@@ -33,6 +33,11 @@ use Rattle.core_model.proofs.EntersKept.{IsUncounted}
 use Rattle.core_model.proofs.TakesKept.{free_is}
 use Rattle.core_model.specs.AnchorMoves.{MayEvict, freer_of, meets, deed_of}
 use Rattle.core_model.specs.Table.{Allowed, item_of}
+
+doom_is : (d : ℕ) → d < 2 → d ≡ doom_number (d == 1)
+doom_is zero lt = refl
+doom_is (suc zero) lt = refl
+doom_is (suc (suc d)) lt = absurd (omega arith)
 
 -- a word that may be taken to FREEING: it is idle, or left over
 pub record IsRipe (n : ℕ) : Type 0 where
@@ -64,7 +69,7 @@ module _ {X : Type 0} (k : Setting X) (s : State X) (i : ℕ) (v : View X) (so :
   met = meets a n v.tabs
 
   abbrev freeing : Tab X
-  freeing = Freeing (freer_of a true (chain_of s a))
+  freeing = Freeing (freer_of a true n (chain_of s a))
 
   abbrev chains : List Chain
   chains = set s.chains a no_chain
@@ -81,8 +86,8 @@ module _ {X : Type 0} (k : Setting X) (s : State X) (i : ℕ) (v : View X) (so :
 
   quiet : IsUncounted a old
   quiet = ⊎_elim
-      (λ (h : (t ≡ inner) × (is_free (tab_at v inner) ≡ true) × _). subst (IsUncounted a) (sym (free_is _ h.1) ∙ ap (tab_at v) (sym h.0)) record { at_a = tt; counts_none = refl; writes_none = λ _ _. refl; frees_none = refl })
-      (λ (h : (t ≤ inner) × (tab_at v t ≡ Last a) × _ × _). subst (IsUncounted a) (sym h.1) record { at_a = refl; counts_none = refl; writes_none = λ _ _. refl; frees_none = refl })
+      (λ (h : (t ≡ inner) × (is_free (tab_at v inner) ≡ true) × _). subst (IsUncounted a) (sym (free_is _ h.1) ∙ ap (tab_at v) (sym h.0)) record { at_a = tt; counts_none = refl; writes_none = λ _ _. refl; frees_none = λ _ _. refl })
+      (λ (h : (t ≤ inner) × (tab_at v t ≡ Last a) × _ × _). subst (IsUncounted a) (sym h.1) record { at_a = refl; counts_none = refl; writes_none = λ _ _. refl; frees_none = λ _ _. refl })
       may
 
   first : Turns v.tabs t a old Free
@@ -109,9 +114,9 @@ module _ {X : Type 0} (k : Setting X) (s : State X) (i : ℕ) (v : View X) (so :
 
   -- where the try is lost the tab is last no longer
   lost : (n == last_find a v.trail) ≡ false → AnchorsSound k (moved s i (stepped v a n (epoch_of n) (set v.tabs t Free) v.held item [] met) a n s.chains)
-  lost miss = let q = quiet in let x = q.counts_none in let z = q.frees_none in same_epoch k s i v so at pass a n (epoch_of n) (set v.tabs t Free) v.held item [] met lt (so.shaped.anchors a lt) refl refl
+  lost miss = let q = quiet in let x = q.counts_none in same_epoch k s i v so at pass a n (epoch_of n) (set v.tabs t Free) v.held item [] met lt (so.shaped.anchors a lt) refl refl
       record { at_a = refl; tells = refl; no_draw = refl; no_count = λ _ _. refl; found = omega arith }
-      (one_tab k s i v so at pass a n (epoch_of n) t old Free v.held item [] met s.chains first (omega arith) (λ u g. let w = q.writes_none u g in omega arith) (omega arith) tt)
+      (one_tab k s i v so at pass a n (epoch_of n) t old Free v.held item [] met s.chains first (omega arith) (λ u g. let w = q.writes_none u g in omega arith) (λ u d. let w = q.frees_none u d in omega arith) tt)
       (λ u h. (h, refl))
       (λ _. inr (refl, λ p tat f. absurd (false≢true (sym miss ∙ eq-eqb n (last_find a v.trail) (sym f)))))
       (λ b h. inl (fewer b h))
@@ -125,12 +130,12 @@ module _ {X : Type 0} (k : Setting X) (s : State X) (i : ℕ) (v : View X) (so :
 
   won : n ≡ last_find a v.trail → AnchorsSound k (moved s i (stepped v a (evicted n) (epoch_of (evicted n)) (set (set v.tabs t Free) inner freeing) v.held item (deed ∷ []) met) a (evicted n) chains)
   won e = let r = ripe e in let st = ripe_stage n r in let by : ℕ = 5 - stage_of (epoch_of n) in let room : stage_of (epoch_of n) + by < 7 = omega arith in
-      let q = quiet in let x = q.counts_none in let z = q.frees_none in
+      let q = quiet in let x = q.counts_none in
       let readers = readers_of-raised n by in let rises = epoch_of-raised n by in let ver = version_of-raised n by room in let doom = doom_of-raised n by room in let five = stage_new r in
       let tb = two_tabs k s i v so at pass a (evicted n) (epoch_of (evicted n)) t inner old Free Free freeing v.held item (deed ∷ []) met chains first second
       (omega arith)
       (λ u g. let w = q.writes_none u g in let y = not_written r u g in let y' = unwritten r u g in omega arith)
-      (let w = freed_now r in let w' = freed_before r in let w'' = frees_one in omega arith)
+      (λ u d. let w = freed_now r u d in let w' = freed_before r u d in let z = q.frees_none u d in omega arith)
       tt (lt, refl) in
       at_anchor k s i v so at a (evicted n) (epoch_of (evicted n)) (set (set v.tabs t Free) inner freeing) v.held item (deed ∷ []) met chains record {
         inside = lt;
@@ -175,14 +180,14 @@ module _ {X : Type 0} (k : Setting X) (s : State X) (i : ℕ) (v : View X) (so :
       not_written : IsRipe n → (u g : ℕ) → written_at (epoch_of (evicted n)) u g ≡ 0
       not_written r u g = let five = stage_new r in rw five refl
 
-      freed_now : IsRipe n → freed_at (epoch_of (evicted n)) ≡ 1
-      freed_now r = let five = stage_new r in rw five refl
+      -- the tab knows the version and the doom of the word, which stay
+      freed_now : IsRipe n → (u d : ℕ) → freed_at (epoch_of (evicted n)) u d ≡ frees a u d freeing
+      freed_now r u d = let st = ripe_stage n r in let by : ℕ = 5 - stage_of (epoch_of n) in let room : stage_of (epoch_of n) + by < 7 = omega arith in
+          let five = stage_new r in let ver = version_of-raised n by room in let doom : doom_of (epoch_of (evicted n)) ≡ doom_number (doom_of (epoch_of n) == 1) = doom_of-raised n by room ∙ doom_is (doom_of (epoch_of n)) (omega arith) in
+          rw (five, ver, doom, eq-eqb a a refl) refl
 
-      freed_before : IsRipe n → freed_at (epoch_of n) ≡ 0
-      freed_before r = let st = ripe_stage n r in rw (ne_eqb (stage_of (epoch_of n)) 5 (λ q. absurd (omega arith))) refl
-
-      frees_one : frees a freeing ≡ 1
-      frees_one = rw (eq-eqb a a refl) refl
+      freed_before : IsRipe n → (u d : ℕ) → freed_at (epoch_of n) u d ≡ 0
+      freed_before r u d = let st = ripe_stage n r in rw (ne_eqb (stage_of (epoch_of n)) 5 (λ q. absurd (omega arith))) refl
 
       not_over : IsRipe n → (stage_of (epoch_of (evicted n)) ≡ 4) ⊎ (mode_of (epoch_of (evicted n)) ≡ 11) → ⊥
       not_over r h = let five = stage_new r in omega arith

@@ -35,11 +35,11 @@ use Rattle.core_model.proofs.BesideKept.{SightsOwe, beside, besides, one_of}
 use Rattle.core_model.proofs.BesideKinds.{Likens, tabs_as_before, tab_as_before, quiet_logged, at_log}
 use Rattle.core_model.proofs.ReservesKept.{of_writer, tab_was}
 
-abbrev NotNamed : Sight → Type 0
+abbrev pub NotNamed : Sight → Type 0
 NotNamed (Named b version side value) = ⊥
 NotNamed _ = Unit {0}
 
-abbrev NotPublished : Sight → Type 0
+abbrev pub NotPublished : Sight → Type 0
 NotPublished (Published b version many) = ⊥
 NotPublished _ = Unit {0}
 
@@ -58,7 +58,7 @@ module _ {X : Type 0} (k : Setting X) (s : State X) (i : ℕ) (v : View X) (so :
   inside = (so.tabs i v at t (Writing x) was).0
 
   likens : Likens k s v t (Writing x) new
-  likens = record { counts = λ b. refl; writes = λ b u g. refl; frees = λ b. refl; stands = λ h. h; not_last = λ b e. cc }
+  likens = record { counts = λ b. refl; writes = λ b u g. refl; frees = λ b u d. refl; stands = λ h. h; not_last = λ b e. cc }
 
   -- what is seen is one logged piece
   logged_only : (n : ℕ) (P : Sight → Type 0) → ((l : LoggedPiece) → l.anchor ≡ a → P (Logged l)) → (y : Sight) → Contains (logged_by (Writing x) slot durable n) y → P y

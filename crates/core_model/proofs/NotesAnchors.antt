@@ -154,7 +154,7 @@ module _ {X : Type 0} (k : Setting X) (s : State X) (views : List (View X)) (r :
     shaped = shaped;
     readers = λ a lt. so.readers a lt ∙ sym (tab_sums k s views r (counts a));
     writers = λ a version stage lt. so.writers a version stage lt ∙ sym (tab_sums k s views r (writes a version stage));
-    freers = λ a lt. so.freers a lt ∙ sym (tab_sums k s views r (frees a));
+    freers = λ a u d lt. so.freers a u d lt ∙ sym (tab_sums k s views r (frees a u d));
     tabs = tabs';
     lasts = λ a lt over. last_later a (word s a) (so.lasts a lt over);
     seen = seen';

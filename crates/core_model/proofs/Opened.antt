@@ -118,7 +118,7 @@ module _ {X : Type 0} (k : Setting X) where
       };
       readers = λ a lt. ap readers_of (same_word a) ∙ is.unread a lt ∙ sym (no_sum _ (λ p. refl));
       writers = λ a u g lt. unwritten a lt u g ∙ sym (no_sum _ (λ p. refl));
-      freers = λ a lt. unfreed a lt ∙ sym (no_sum _ (λ p. refl));
+      freers = λ a u d lt. unfreed a u d lt ∙ sym (no_sum _ (λ p. refl));
       tabs = λ i v e t tab h. let q = at_new i v e in let f = free_tab t tab (subst (λ (w : View X). get_elem? w.tabs t ≡ some tab) q.0 h) in subst (Rattle.core_model.specs.Anchors.TabStands k s v t) (sym f) tt;
       lasts = λ a lt over. absurd (not_over a lt over);
       seen = record {
@@ -162,8 +162,8 @@ module _ {X : Type 0} (k : Setting X) where
         unwritten : (a : ℕ) → a < k.anchors → (u g : ℕ) → written_at (epoch_of (word s a)) u g ≡ 0
         unwritten a lt u g = ⊎_elim (λ (q : stage_of (epoch_of (word s a)) ≡ 0). rw q refl) (λ (q : stage_of (epoch_of (word s a)) ≡ 3). rw q refl) (stage_low a lt)
 
-        unfreed : (a : ℕ) → a < k.anchors → freed_at (epoch_of (word s a)) ≡ 0
-        unfreed a lt = ⊎_elim (λ (q : stage_of (epoch_of (word s a)) ≡ 0). rw q refl) (λ (q : stage_of (epoch_of (word s a)) ≡ 3). rw q refl) (stage_low a lt)
+        unfreed : (a u d : ℕ) → a < k.anchors → freed_at (epoch_of (word s a)) u d ≡ 0
+        unfreed a u d lt = ⊎_elim (λ (q : stage_of (epoch_of (word s a)) ≡ 0). rw q refl) (λ (q : stage_of (epoch_of (word s a)) ≡ 3). rw q refl) (stage_low a lt)
 
         not_over : (a : ℕ) → a < k.anchors → is_left_over (word s a) ≡ true → ⊥
         not_over a lt over = let x = stage_of-left_over (word s a) over in let st = stage_low a lt in let e = same_word a in let d = is.undoomed a lt in let y = ap (λ (n : ℕ). doom_of (epoch_of n)) e in omega arith

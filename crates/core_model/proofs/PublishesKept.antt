@@ -76,7 +76,7 @@ module _ {X : Type 0} (k : Setting X) (s : State X) (i : ℕ) (v : View X) (so :
   small = let m = so.shaped.chains in let q = there.0 in omega arith
 
   likens : Likens k s v t (Writing x) new
-  likens = record { counts = λ b. refl; writes = λ b u g. refl; frees = λ b. refl; stands = λ h. h; not_last = λ b e. cc }
+  likens = record { counts = λ b. refl; writes = λ b u g. refl; frees = λ b u d. refl; stands = λ h. h; not_last = λ b e. cc }
 
   chain_now : get_or chains a no_chain ≡ longer (chain_of s a) slot link
   chain_now = get_or-set_same s.chains a (longer (chain_of s a) slot link) no_chain small

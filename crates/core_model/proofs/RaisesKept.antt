@@ -4,7 +4,7 @@ use mathlib.Core.Option.{some}
 use lib.ListN.{get_elem?}
 use Rattle.lock_word.specs.declared.stage.Stage.{Stage}
 use Rattle.lock_word.specs.declared.stage.Stage.TheVariants.{Empty, Taken, Appending, Closed, Halted, Freeing as FreeingStage, Gone}
-use Rattle.lock_word.specs.Words.{stage_number, epoch_of, version_of, mode_of, stage_of, is_written, is_left_over, raised, doomed}
+use Rattle.lock_word.specs.Words.{stage_number, epoch_of, version_of, mode_of, stage_of, is_written, is_left_over, raised, doomed, doom_number, doom_of}
 use Rattle.lock_word.proofs.Raising.{readers_of-raised, epoch_of-raised, version_of-raised, doom_of-raised, stage_of-raised, is_word-raised}
 use Rattle.lock_word.proofs.Dooming.{readers_of-doomed, epoch_of-doomed, version_of-doomed, doom_of-doomed, stage_of-doomed, is_word-doomed, written-doomed}
 use Rattle.lock_word.proofs.Testing.{readers_of-left_over, stage_of-left_over}
@@ -26,6 +26,7 @@ use Rattle.core_model.specs.Tabs.{tab_at, inner, anchor_of, is_reading, is_count
 use Rattle.core_model.specs.Anchors.{written_at, freed_at, TabStands}
 use Rattle.core_model.specs.Steps.{after, halted}
 use Rattle.core_model.specs.Sound.{AnchorsSound}
+use Rattle.core_model.proofs.Matching.{matches_freer, matches_freed}
 use Rattle.core_model.proofs.Lists.{by_eq, at_length, le_sum_at, set_here}
 use Rattle.core_model.proofs.Tabs.{IsAt, Turns, changes, tab_there}
 use Rattle.core_model.proofs.AnchorStep.{stepped, moved}
@@ -89,7 +90,7 @@ module _ {X : Type 0} (k : Setting X) (s : State X) (i : ℕ) (v : View X) (so :
       → stage_of (epoch_of (word s a)) + by < 7
       → (2 ≤ stage_of (epoch_of (word s a)) → stage_of (epoch_of (word s a)) ≤ 4 → (2 ≤ stage_of (epoch_of (word s a)) + by) × (stage_of (epoch_of (word s a)) + by ≤ 4))
       → ((u g : ℕ) → written_at (epoch_of (raised (word s a) by)) u g + writes a u g old ≡ written_at (epoch_of (word s a)) u g + writes a u g new)
-      → freed_at (epoch_of (raised (word s a) by)) + frees a old ≡ freed_at (epoch_of (word s a)) + frees a new
+      → ((u d : ℕ) → freed_at (epoch_of (raised (word s a) by)) u d + frees a u d old ≡ freed_at (epoch_of (word s a)) u d + frees a u d new)
       → TabStands k (raised_state t a (raised (word s a) by) new chains) (raised_view t a (raised (word s a) by) new) t new
       → (is_left_over (raised (word s a) by) ≡ true → new ≡ Last a)
       → length chains ≡ length s.chains → ((b : ℕ) → b ≢ a → get_or chains b no_chain ≡ chain_of s b)
@@ -154,7 +155,7 @@ module _ {X : Type 0} (k : Setting X) (s : State X) (i : ℕ) (v : View X) (so :
       subst (λ (by : ℕ). AnchorsSound k (raised_state t w.anchor (raised (word s w.anchor) by) (Writing record w { is_appending = true }) s.chains)) by_one
       (raises t w.anchor 1 (Writing w) (Writing record w { is_appending = true }) s.chains was lt refl refl (λ b. refl) (λ b. refl) (omega arith) (λ from to. absurd (omega arith))
       (λ u g. let z = written_as w.anchor w refl h u g in let y = appending_now w h st u g in omega arith)
-      (let z = not_freed st in omega arith)
+      (λ u d. let z = not_freed st u d in omega arith)
       (lt, there.1, version_up _ _ _ there.2 (seen_more w.anchor _))
       (λ over. absurd (not_over st (stage_of-left_over _ over)))
       refl (λ b ne. refl) (λ low. (omega arith, refl)) (λ high. absurd (omega arith)))
@@ -167,8 +168,8 @@ module _ {X : Type 0} (k : Setting X) (s : State X) (i : ℕ) (v : View X) (so :
           let ver : version_of (epoch_of (raised (word s w.anchor) 1)) ≡ w.version = version_of-raised (word s w.anchor) 1 (omega arith) ∙ h.version_is in
           rw (two, ver, eq-eqb w.anchor w.anchor refl) refl
 
-      not_freed : stage_of (epoch_of (word s w.anchor)) ≡ 1 → freed_at (epoch_of (raised (word s w.anchor) 1)) ≡ freed_at (epoch_of (word s w.anchor))
-      not_freed st = let two = stage_two st in rw (two, st) refl
+      not_freed : stage_of (epoch_of (word s w.anchor)) ≡ 1 → (u d : ℕ) → freed_at (epoch_of (raised (word s w.anchor) 1)) u d ≡ freed_at (epoch_of (word s w.anchor)) u d
+      not_freed st u d = let two = stage_two st in rw (two, st) refl
 
       not_over : stage_of (epoch_of (word s w.anchor)) ≡ 1 → (stage_of (epoch_of (raised (word s w.anchor) 1)) ≡ 4) ⊎ (mode_of (epoch_of (raised (word s w.anchor) 1)) ≡ 11) → ⊥
       not_over st h = let two = stage_two st in omega arith
@@ -184,7 +185,7 @@ module _ {X : Type 0} (k : Setting X) (s : State X) (i : ℕ) (v : View X) (so :
       raises t w.anchor by (Writing w) (left_tab w.anchor (raised n by)) chains was lt refl y.at_a (λ b. refl) (λ b. left_counts b (is_left_over (raised n by)))
       room (λ from to. (omega arith, omega arith))
       (λ u g. let z = written_as w.anchor w refl h u g in let q = y.writes_none u g in let p = unwritten_now n by g' now end u g in omega arith)
-      (let q = y.frees_none in let p = unfreed_now n by g' now end in let p' = unfreed_before w h in omega arith)
+      (λ u d. let q = y.frees_none u d in let p = unfreed_now n by g' now end u d in let p' = unfreed_before w h u d in omega arith)
       (left_stands k s i v so at pass (raised_state t w.anchor (raised n by) (left_tab w.anchor (raised n by)) chains) (raised_view t w.anchor (raised n by) (left_tab w.anchor (raised n by))) t w.anchor lt (is_left_over (raised n by)))
       (λ over. rw over refl)
       len else_ (λ low. (omega arith, slots)) (λ high. inr (omega arith))
@@ -199,27 +200,25 @@ module _ {X : Type 0} (k : Setting X) (s : State X) (i : ℕ) (v : View X) (so :
           (λ (q : g' ≡ 4). let z : stage_of (epoch_of (raised n by)) ≡ 4 = now ∙ q in rw z refl)
           end
 
-      unfreed_now : (n by g' : ℕ) → stage_of (epoch_of (raised n by)) ≡ g' → (g' ≡ 3) ⊎ (g' ≡ 4) → freed_at (epoch_of (raised n by)) ≡ 0
-      unfreed_now n by g' now end = ⊎_elim
+      unfreed_now : (n by g' : ℕ) → stage_of (epoch_of (raised n by)) ≡ g' → (g' ≡ 3) ⊎ (g' ≡ 4) → (u d : ℕ) → freed_at (epoch_of (raised n by)) u d ≡ 0
+      unfreed_now n by g' now end u d = ⊎_elim
           (λ (q : g' ≡ 3). let z : stage_of (epoch_of (raised n by)) ≡ 3 = now ∙ q in rw z refl)
           (λ (q : g' ≡ 4). let z : stage_of (epoch_of (raised n by)) ≡ 4 = now ∙ q in rw z refl)
           end
 
-      unfreed_before : (w : Writer X) → Written w.anchor w → freed_at (epoch_of (word s w.anchor)) ≡ 0
-      unfreed_before w h = let few = stage_one_or_two w in let is = h.stage_is in rw (ne_eqb (stage_of (epoch_of (word s w.anchor))) 5 (λ q. absurd (omega arith))) refl
+      unfreed_before : (w : Writer X) → Written w.anchor w → (u d : ℕ) → freed_at (epoch_of (word s w.anchor)) u d ≡ 0
+      unfreed_before w h u d = let few = stage_one_or_two w in let is = h.stage_is in rw (ne_eqb (stage_of (epoch_of (word s w.anchor))) 5 (λ q. absurd (omega arith))) refl
 
-  frees_itself : (f : Freer) → f.is_freeing ≡ true → frees {X = X} f.anchor (Freeing f) ≡ 1
-  frees_itself f freeing = rw (eq-eqb f.anchor f.anchor refl, freeing) refl
+  -- the word is at FREEING, with the version and the doom that the tab knows
+  freed_as : (t : ℕ) (f : Freer X) → get_elem? v.tabs t ≡ some (Freeing f) → f.is_freeing ≡ true → f.anchor < k.anchors
+      → (stage_of (epoch_of (word s f.anchor)) ≡ 5) × (version_of (epoch_of (word s f.anchor)) ≡ f.version) × (doom_of (epoch_of (word s f.anchor)) ≡ doom_number f.is_doomed)
+  freed_as t f was freeing lt = let q = matches_freed k s so i t f record { view = v; at = at; there = was } freeing in (matches_freer k s so i t f record { view = v; at = at; there = was } freeing, q.version_is, q.doom_is)
 
-  pub freed_there : (t : ℕ) (f : Freer) → get_elem? v.tabs t ≡ some (Freeing f) → f.is_freeing ≡ true → f.anchor < k.anchors → stage_of (epoch_of (word s f.anchor)) ≡ 5
-  freed_there t f was freeing lt = let one = frees_itself f freeing in let g = le_sum_at (frees f.anchor) v.tabs t (Freeing f) was in let h = le_sum_at (count (frees f.anchor)) s.views i v at in let r = so.freers f.anchor lt in
-      from_test (omega arith)
-    where
-      from_test : 0 < freed_at (epoch_of (word s f.anchor)) → stage_of (epoch_of (word s f.anchor)) ≡ 5
-      from_test = by_eq (λ z. 0 < cond z 1 0 → stage_of (epoch_of (word s f.anchor)) ≡ 5) (stage_of (epoch_of (word s f.anchor))) 5 (λ q _. q) (λ _ h. absurd (omega arith))
+  pub freed_there : (t : ℕ) (f : Freer X) → get_elem? v.tabs t ≡ some (Freeing f) → f.is_freeing ≡ true → f.anchor < k.anchors → stage_of (epoch_of (word s f.anchor)) ≡ 5
+  freed_there t f was freeing lt = (freed_as t f was freeing lt).0
 
   -- an entry that was given back
-  to_gone : (t : ℕ) (f : Freer) → get_elem? v.tabs t ≡ some (Freeing f) → f.is_freeing ≡ true
+  to_gone : (t : ℕ) (f : Freer X) → get_elem? v.tabs t ≡ some (Freeing f) → f.is_freeing ≡ true
       → AnchorsSound k (raised_state t f.anchor (raised (word s f.anchor) 1) (left_tab f.anchor (raised (word s f.anchor) 1)) s.chains)
   to_gone t f was freeing = let st0 = so.tabs i v at t (Freeing f) was in let lt = st0.0 in let n : ℕ = word s f.anchor in
       let five = freed_there t f was freeing lt in let room : stage_of (epoch_of n) + 1 < 7 = omega arith in let now : stage_of (epoch_of (raised n 1)) ≡ 6 = stage_of-raised n 1 room ∙ omega arith in
@@ -227,7 +226,7 @@ module _ {X : Type 0} (k : Setting X) (s : State X) (i : ℕ) (v : View X) (so :
       raises t f.anchor 1 (Freeing f) (left_tab f.anchor (raised n 1)) s.chains was lt refl y.at_a (λ b. refl) (λ b. left_counts b (is_left_over (raised n 1)))
       room (λ from to. absurd (omega arith))
       (λ u g. let q = y.writes_none u g in let p = rw_six now u g in let p' = rw_five five u g in omega arith)
-      (let q = y.frees_none in let p = free_six now in let p' = free_five five in let z = frees_itself f freeing in omega arith)
+      (λ u d. let q = y.frees_none u d in let p = free_six now u d in let p' = free_five (freed_as t f was freeing lt) u d in omega arith)
       (left_stands k s i v so at pass (raised_state t f.anchor (raised n 1) (left_tab f.anchor (raised n 1)) s.chains) (raised_view t f.anchor (raised n 1) (left_tab f.anchor (raised n 1))) t f.anchor lt (is_left_over (raised n 1)))
       (λ over. rw over refl)
       refl (λ b ne. refl) (λ low. absurd (omega arith)) (λ high. inl (omega arith))
@@ -242,11 +241,12 @@ module _ {X : Type 0} (k : Setting X) (s : State X) (i : ℕ) (v : View X) (so :
       rw_five : stage_of (epoch_of (word s f.anchor)) ≡ 5 → (u g : ℕ) → written_at (epoch_of (word s f.anchor)) u g ≡ 0
       rw_five five u g = rw five refl
 
-      free_six : stage_of (epoch_of (raised (word s f.anchor) 1)) ≡ 6 → freed_at (epoch_of (raised (word s f.anchor) 1)) ≡ 0
-      free_six now = rw now refl
+      free_six : stage_of (epoch_of (raised (word s f.anchor) 1)) ≡ 6 → (u d : ℕ) → freed_at (epoch_of (raised (word s f.anchor) 1)) u d ≡ 0
+      free_six now u d = rw now refl
 
-      free_five : stage_of (epoch_of (word s f.anchor)) ≡ 5 → freed_at (epoch_of (word s f.anchor)) ≡ 1
-      free_five five = rw five refl
+      free_five : (stage_of (epoch_of (word s f.anchor)) ≡ 5) × (version_of (epoch_of (word s f.anchor)) ≡ f.version) × (doom_of (epoch_of (word s f.anchor)) ≡ doom_number f.is_doomed) → (u d : ℕ)
+          → freed_at (epoch_of (word s f.anchor)) u d ≡ frees f.anchor u d (Freeing f)
+      free_five five u d = rw (five.0, five.1, five.2, eq-eqb f.anchor f.anchor refl, freeing) refl
 
   -- what a raise of the tab leaves, whatever it is
   abbrev raise_result : ℕ → Stage → (ℕ → List Chain) → Tab X → State X
@@ -256,7 +256,7 @@ module _ {X : Type 0} (k : Setting X) (s : State X) (i : ℕ) (v : View X) (so :
   halt_chain a = set s.chains a (halted (get_or s.chains a no_chain))
 
   -- a tab that may raise writes, where one that frees may not, and the other way round
-  pub only_writer : (P : Writer X → Type 0) (Q : Freer → Type 0) → ((f : Freer) → Q f → ⊥) → (x : Tab X) → (OfWriter P x ⊎ OfFreer Q x) → (w : Writer X) × (x ≡ Writing w) × P w
+  pub only_writer : (P : Writer X → Type 0) (Q : Freer X → Type 0) → ((f : Freer X) → Q f → ⊥) → (x : Tab X) → (OfWriter P x ⊎ OfFreer Q x) → (w : Writer X) × (x ≡ Writing w) × P w
   only_writer P Q no_freer (Writing w) (inl h) = (w, refl, h)
   only_writer P Q no_freer (Writing w) (inr h) = absurd h
   only_writer P Q no_freer (Freeing f) (inl h) = absurd h
@@ -270,7 +270,7 @@ module _ {X : Type 0} (k : Setting X) (s : State X) (i : ℕ) (v : View X) (so :
   only_writer P Q no_freer (Last b) (inl h) = absurd h
   only_writer P Q no_freer (Last b) (inr h) = absurd h
 
-  pub only_freer : (P : Writer X → Type 0) (Q : Freer → Type 0) → ((w : Writer X) → P w → ⊥) → (x : Tab X) → (OfWriter P x ⊎ OfFreer Q x) → (f : Freer) × (x ≡ Freeing f) × Q f
+  pub only_freer : (P : Writer X → Type 0) (Q : Freer X → Type 0) → ((w : Writer X) → P w → ⊥) → (x : Tab X) → (OfWriter P x ⊎ OfFreer Q x) → (f : Freer X) × (x ≡ Freeing f) × Q f
   only_freer P Q no_writer (Writing w) (inl h) = absurd (no_writer w h)
   only_freer P Q no_writer (Writing w) (inr h) = absurd h
   only_freer P Q no_writer (Freeing f) (inl h) = absurd h
@@ -287,7 +287,7 @@ module _ {X : Type 0} (k : Setting X) (s : State X) (i : ℕ) (v : View X) (so :
   abbrev Writes : Stage → Writer X → Type 0
   Writes to w = MayRaise w to × StartsRight k s w
 
-  abbrev Ends : Stage → Freer → Type 0
+  abbrev Ends : Stage → Freer X → Type 0
   Ends to f = MayEnd f to
 
   as_tab : (t : ℕ) (x y : Tab X) → x ≡ y → get_elem? v.tabs t ≡ some x → get_elem? v.tabs t ≡ some y
@@ -338,7 +338,7 @@ module _ {X : Type 0} (k : Setting X) (s : State X) (i : ℕ) (v : View X) (so :
       let n : ℕ = word s a in let n' : ℕ = doomed n in let some_reader = has_reader k s i v so at pass t a old was lt c.1.counts_one in
       let item : Item = record { kind = Doomed; at = a; found = n' } in let deed : Deed = deed_of v Doomed a n' false in let met : List ℕ = meets a n' v.tabs in
       let readers = readers_of-doomed n in let rises = epoch_of-doomed n in let ver = version_of-doomed n in let st = stage_of-doomed n in
-      let tb = no_tab k s i v so at pass a n' (epoch_of n') v.held item (deed ∷ []) met s.chains readers (λ u g. same_writing u g (written-doomed n) ver st) (ap (λ (z : ℕ). cond (z == 5) 1 0) st) in
+      let tb = no_tab k s i v so at pass a n' (epoch_of n') v.held item (deed ∷ []) met s.chains readers (λ u g. same_writing u g (written-doomed n) ver st) (λ u d. same_freeing u d st (unfreed_reader old reads (so.tabs i v at t old was))) in
       at_anchor k s i v so at a n' (epoch_of n') v.tabs v.held item (deed ∷ []) met s.chains record {
         inside = lt;
         good = is_word-doomed n (so.shaped.anchors a lt);
@@ -376,6 +376,18 @@ module _ {X : Type 0} (k : Setting X) (s : State X) (i : ℕ) (v : View X) (so :
       same_writing : (u g : ℕ) → is_written (epoch_of (doomed (word s a))) ≡ is_written (epoch_of (word s a)) → version_of (epoch_of (doomed (word s a))) ≡ version_of (epoch_of (word s a)) → stage_of (epoch_of (doomed (word s a))) ≡ stage_of (epoch_of (word s a))
           → written_at (epoch_of (doomed (word s a))) u g ≡ written_at (epoch_of (word s a)) u g
       same_writing u g w ver st = rw (w, ver, st) refl
+
+      -- nobody frees where a tab reads
+      unfreed_reader : (x : Tab X) → is_reading x ≡ true → TabStands k s v t x → stage_of (epoch_of (word s (anchor_of x))) ≤ 4
+      unfreed_reader Free h st = cc
+      unfreed_reader (Retreating b) h st = cc
+      unfreed_reader (Reading r) h st = st.1.to
+      unfreed_reader (Writing w) h st = cc
+      unfreed_reader (Last b) h st = cc
+      unfreed_reader (Freeing f) h st = cc
+
+      same_freeing : (u d : ℕ) → stage_of (epoch_of (doomed (word s a))) ≡ stage_of (epoch_of (word s a)) → stage_of (epoch_of (word s (anchor_of old))) ≤ 4 → freed_at (epoch_of (doomed (word s a))) u d ≡ freed_at (epoch_of (word s a)) u d
+      same_freeing u d st low = let few = ap (λ (b : ℕ). stage_of (epoch_of (word s b))) from in rw (st, ne_eqb (stage_of (epoch_of (word s a))) 5 (λ q. absurd (omega arith))) refl
 
   pub doom_kept : (t : ℕ) → Allowed k s v (Doom t) → AnchorsSound k (after k s i v (Doom t))
   doom_kept t may = dooms t (anchor_of (tab_at v t)) (tab_at v t) (tab_was t may.0) may.1 refl

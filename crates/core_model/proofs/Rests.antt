@@ -20,7 +20,7 @@ module _ {X : Type 0} (k : Setting X) (s : State X) (so : AnchorsSound k s) (sl 
   stage_at a = stage_of (epoch_of (word s a))
 
   -- the tab of the same pass that writes where an entry is replaced
-  pub replaced : (i t : ℕ) (f : Freer) → IsTab s i t (Freeing f) → f.is_freeing ≡ false → IsReplaced s i f.anchor
+  pub replaced : (i t : ℕ) (f : Freer X) → IsTab s i t (Freeing f) → f.is_freeing ≡ false → IsReplaced s i f.anchor
   replaced i t f x not = let r = replaces_at k s so sl i x.view x.at t f x.there not in let c = sum_some (writes_at f.anchor) x.view.tabs (let m = r.mine in omega arith) in let y = writer_is f.anchor c.item c.some_ in
       let there : get_elem? x.view.tabs c.i ≡ some (Writing y.0) = c.at ∙ ap some y.1 in let u = r.unused c.i y.0 there y.2 in record {
         t = c.i;
@@ -33,7 +33,7 @@ module _ {X : Type 0} (k : Setting X) (s : State X) (so : AnchorsSound k s) (sl 
       }
 
   -- two inner tabs never give back slots of one anchor
-  pub one_rest : (i j t p : ℕ) (f g : Freer) → IsTab s i t (Freeing f) → IsTab s j p (Freeing g) → f.anchor ≡ g.anchor → (i ≡ j) × (t ≡ p)
+  pub one_rest : (i j t p : ℕ) (f g : Freer X) → IsTab s i t (Freeing f) → IsTab s j p (Freeing g) → f.anchor ≡ g.anchor → (i ≡ j) × (t ≡ p)
   one_rest i j t p f g x y same = by_stage (freer_stage k s so sl i x.view x.at t f x.there) (freer_stage k s so sl j y.view y.at p g y.there)
     where
       stages : stage_at f.anchor ≡ stage_at g.anchor

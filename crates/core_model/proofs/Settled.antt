@@ -23,7 +23,7 @@ module _ {X : Type 0} where
   not_last : (a : ℕ) → ◌≡◌ {A = Tab X} (Last a) Free → ⊥
   not_last a e = cc
 
-  not_freeing : (f : Freer) → ◌≡◌ {A = Tab X} (Freeing f) Free → ⊥
+  not_freeing : (f : Freer X) → ◌≡◌ {A = Tab X} (Freeing f) Free → ⊥
   not_freeing f e = cc
 
 -- the stages that are left

@@ -87,17 +87,17 @@ module _ {X : Type 0} (k : Setting X) (s : State X) (i : ℕ) (v : View X) (so :
     new = Writing (stored x side value)
 
     likens_stored : (side : Side) → Likens k s v t (Writing x) (Writing (stored x side value))
-    likens_stored Key0 = record { counts = λ b. refl; writes = λ b u g. refl; frees = λ b. refl; stands = λ h. h; not_last = λ b e. cc }
-    likens_stored Key1 = record { counts = λ b. refl; writes = λ b u g. refl; frees = λ b. refl; stands = λ h. h; not_last = λ b e. cc }
-    likens_stored Offer = record { counts = λ b. refl; writes = λ b u g. refl; frees = λ b. refl; stands = λ h. h; not_last = λ b e. cc }
-    likens_stored Start = record { counts = λ b. refl; writes = λ b u g. refl; frees = λ b. refl; stands = λ h. h; not_last = λ b e. cc }
+    likens_stored Key0 = record { counts = λ b. refl; writes = λ b u g. refl; frees = λ b u d. refl; stands = λ h. h; not_last = λ b e. cc }
+    likens_stored Key1 = record { counts = λ b. refl; writes = λ b u g. refl; frees = λ b u d. refl; stands = λ h. h; not_last = λ b e. cc }
+    likens_stored Offer = record { counts = λ b. refl; writes = λ b u g. refl; frees = λ b u d. refl; stands = λ h. h; not_last = λ b e. cc }
+    likens_stored Start = record { counts = λ b. refl; writes = λ b u g. refl; frees = λ b u d. refl; stands = λ h. h; not_last = λ b e. cc }
 
     store_anchors : (found : ℕ) → AnchorsSound k (besides k s i (beside v (set v.tabs t new) [] (item_of v (StoreSide t side value) found) (Beside side a) value) (Beside side a) value s.chains)
     store_anchors found = let q = side_in k s.words side a there.0 in at_side k s i v so at pass (item_of v (StoreSide t side value) found) quiet_stored (set v.tabs t new)
         (tab_as_before k s i v so at pass v.tabs (tabs_as_before k s i v so at pass) t (Writing x) new was (likens_stored side)) [] (Beside side a) value (let z = q.0 in omega arith) (let z = q.1 in omega arith)
         sides_kept (sees_nothing k s i v so at pass _)
 
-    no_rest : (j : ℕ) (u : View X) → get_elem? s.views j ≡ some u → (p : ℕ) (f : Freer) → get_elem? u.tabs p ≡ some (Freeing f) → f.anchor ≢ a
+    no_rest : (j : ℕ) (u : View X) → get_elem? s.views j ≡ some u → (p : ℕ) (f : Freer X) → get_elem? u.tabs p ≡ some (Freeing f) → f.anchor ≢ a
     no_rest j u ut p f is on = ⊎_elim
         (λ (q : (f.is_freeing ≡ true) × (stage_of (epoch_of (word s f.anchor)) ≡ 5)). let z = ap (λ (b : ℕ). stage_of (epoch_of (word s b))) on in let h = taken in let g = q.1 in omega arith)
         (λ (q : (f.is_freeing ≡ false) × (stage_of (epoch_of (word s f.anchor)) ≡ 1)). mine (replaces_at k s so sl j u ut p f is q.0))
@@ -150,7 +150,7 @@ module _ {X : Type 0} (k : Setting X) (s : State X) (i : ℕ) (v : View X) (so :
     stays_loaded : (x : Tab X) → get_elem? v.tabs t ≡ some x → anchor_of x < k.anchors → ((b : ℕ) → x ≢ Last b) → loaded x side (found x) ≡ x → ((v' : View X) → SightsOwe k s (after_load x v') v (loads x side (found x))) → Loads x
     stays_loaded x was lt not_last same sees = record {
       inside = lt;
-      likens = subst (Likens k s v t x) (sym same) record { counts = λ b. refl; writes = λ b u g. refl; frees = λ b. refl; stands = λ h. h; not_last = not_last };
+      likens = subst (Likens k s v t x) (sym same) record { counts = λ b. refl; writes = λ b u g. refl; frees = λ b u d. refl; stands = λ h. h; not_last = not_last };
       sees = sees;
       held = λ j. ap (held_in j) same;
       rests = λ j. ap (resting_in j) same;
@@ -196,7 +196,7 @@ module _ {X : Type 0} (k : Setting X) (s : State X) (i : ℕ) (v : View X) (so :
   begins : (t : ℕ) (r : Reader X) → get_elem? v.tabs t ≡ some (Reading r) → Loads t Start (Reading r)
   begins t r was = record {
     inside = there.0;
-    likens = record { counts = λ b. refl; writes = λ b u g. refl; frees = λ b. refl; stands = λ h. h; not_last = λ b e. cc };
+    likens = record { counts = λ b. refl; writes = λ b u g. refl; frees = λ b u d. refl; stands = λ h. h; not_last = λ b e. cc };
     sees = λ v'. sees_nothing k s i v so at pass _;
     held = λ j. refl;
     rests = λ j. refl;

@@ -5,7 +5,7 @@ use Rattle.lock_word.specs.Words.{epoch_of, version_of}
 use Rattle.core_model.specs.declared.moves.Side.{Side}
 use Rattle.core_model.specs.declared.moves.Side.TheVariants.{Key0, Key1, Offer, Start}
 use Rattle.core_model.specs.declared.view.Sight.{Sight}
-use Rattle.core_model.specs.declared.view.Sight.TheVariants.{Stood, Named, Published, Logged}
+use Rattle.core_model.specs.declared.view.Sight.TheVariants.{Stood, Named, Published, Logged, Wiped}
 use Rattle.core_model.specs.declared.view.Place.TheVariants.{Beside}
 use Rattle.core_model.specs.declared.view.View.{View}
 use Rattle.core_model.specs.Layout.{Setting, index}
@@ -41,6 +41,7 @@ module _ {X : Type 0} (k : Setting X) (s s' : State X) (v : View X) where
   IsSo (Named a version side value) = (get_or s'.words (index k (Beside side a)) 0 ≡ value) × HasSlot s' a × (get_or s'.words (index k (Beside side a)) 0 ≡ get_or s.words (index k (Beside side a)) 0)
   IsSo (Published a version many) = many ≤ length (chain_of s' a).slots
   IsSo (Logged l) = Unit {0}
+  IsSo (Wiped a version slot) = Unit {0}
 
   so_named : (a version : ℕ) (side : Side) (value : ℕ) → IsSo (Named a version side value)
       → (get_or s'.words (index k (Beside side a)) 0 ≡ value) × HasSlot s' a × (get_or s'.words (index k (Beside side a)) 0 ≡ get_or s.words (index k (Beside side a)) 0)
@@ -55,6 +56,7 @@ module _ {X : Type 0} (k : Setting X) (s s' : State X) (v : View X) where
   no_epochs (Named a version side value ∷ ys) h = no_epochs ys h.1
   no_epochs (Published a version many ∷ ys) h = no_epochs ys h.1
   no_epochs (Logged l ∷ ys) h = no_epochs ys h.1
+  no_epochs (Wiped a version slot ∷ ys) h = no_epochs ys h.1
 
   pub sees_so : AnchorsSound k s → (ys : List Sight) → Each OfNow ys → Each IsSo ys → SightsOwe k s s' v ys
   sees_so so ys now is = record {

@@ -17,6 +17,8 @@ use Rattle.lock_word.proofs.Raising.{version_of-raised, stage_of-raised}
 use Rattle.lock_word.proofs.Dooming.{version_of-doomed, stage_of-doomed}
 use Rattle.lock_word.proofs.Testing.{mode_of-idle, stage_of-left_over}
 use Rattle.link_word.specs.Words.{link_number}
+use Rattle.core_model.specs.declared.moves.Then.TheVariants.{GoesOn, Stays, Wiped as WipedThen}
+use Rattle.core_model.specs.declared.moves.Then.{Then}
 use Rattle.core_model.specs.declared.moves.Side.{Side}
 use Rattle.core_model.specs.declared.moves.Side.TheVariants.{Key0, Key1, Offer, Start}
 use Rattle.core_model.specs.declared.moves.Move.{Move}
@@ -29,7 +31,7 @@ use Rattle.core_model.specs.declared.tab.Tab.TheVariants.{Free, Retreating, Read
 use Rattle.core_model.specs.declared.view.Kind.TheVariants.{Drew}
 use Rattle.core_model.specs.declared.view.Item.{Item}
 use Rattle.core_model.specs.declared.view.Sight.{Sight}
-use Rattle.core_model.specs.declared.view.Sight.TheVariants.{Stood, Named, Published, Logged}
+use Rattle.core_model.specs.declared.view.Sight.TheVariants.{Stood, Named, Published, Logged, Wiped}
 use Rattle.core_model.specs.declared.view.Place.TheVariants.{Beside}
 use Rattle.core_model.specs.declared.view.View.{View}
 use Rattle.core_model.specs.Layout.{Setting, anchor_index, index, link_index, turn_index, map_index, counter_index, word_in, log_index}
@@ -53,7 +55,7 @@ use Rattle.core_model.specs.SlotMoves.{loads, shows, follows}
 use Rattle.core_model.specs.AnchorMoves.{MayRaise, StartsRight, MayEnd, MayEvict}
 use Rattle.core_model.specs.Versions.{Leads, IsShown, SightsLead}
 use Rattle.core_model.proofs.BesideKept.{one_of}
-use Rattle.core_model.specs.CellMoves.{logged_by}
+use Rattle.core_model.specs.CellMoves.{logged_by, wiped_by}
 
 pub leads_on : (f g h : ℕ) → Leads f g → Leads g h → Leads f h
 leads_on f g h (inl p) q = subst (λ (z : ℕ). Leads z h) (sym p) q
@@ -215,6 +217,7 @@ module _ {X : Type 0} (k : Setting X) (s : State X) (i : ℕ) (v : View X) (so :
   Owes s' (Named a version side value) = (opening_counter k < version → IsShown s' a version) × (version ≤ opening_counter k → value ≡ word_in k k.words (Beside side a))
   Owes s' (Published a version many) = Unit {0}
   Owes s' (Logged l) = Unit {0}
+  Owes s' (Wiped a version slot) = Unit {0}
 
   owes_one : (s' : State X) (x y : Sight) → Owes s' x → Contains (x ∷ []) y → Owes s' y
   owes_one s' x y h c = subst (Owes s') (one_of x y c) h
@@ -301,6 +304,16 @@ module _ {X : Type 0} (k : Setting X) (s : State X) (i : ℕ) (v : View X) (so :
   logs_owe s' slot durable (Last a) n y c = absurd (contains_none y c)
   logs_owe s' slot durable (Freeing f) n y c = absurd (contains_none y c)
 
+  wipes_owe : (s' : State X) (x : Tab X) (slot : ℕ) (then : Then) (y : Sight) → Contains (wiped_by x slot then) y → Owes s' y
+  wipes_owe s' (Freeing f) slot Stays y c = absurd (contains_none y c)
+  wipes_owe s' (Freeing f) slot GoesOn y c = absurd (contains_none y c)
+  wipes_owe s' (Freeing f) slot WipedThen y c = subst (Owes s') (one_of _ y c) tt
+  wipes_owe s' Free slot then y c = absurd (contains_none y c)
+  wipes_owe s' (Retreating a) slot then y c = absurd (contains_none y c)
+  wipes_owe s' (Reading r) slot then y c = absurd (contains_none y c)
+  wipes_owe s' (Writing w) slot then y c = absurd (contains_none y c)
+  wipes_owe s' (Last a) slot then y c = absurd (contains_none y c)
+
   abbrev NotLearning : Move → Type 0
   NotLearning (Learn note) = ⊥
   NotLearning _ = Unit {0}
@@ -326,7 +339,7 @@ module _ {X : Type 0} (k : Setting X) (s : State X) (i : ℕ) (v : View X) (so :
   owes (Loosen t slot) on may y c = absurd (contains_none y c)
   owes (GetLink t slot) on may y c = follows_owe (after k s i v (GetLink t slot)) (tab_at v t) (get_or s.words (link_index k slot) 0) y c
   owes (TryTurn t slot) on may y c = absurd (contains_none y c)
-  owes (EndTurn t slot then) on may y c = absurd (contains_none y c)
+  owes (EndTurn t slot then) on may y c = wipes_owe (after k s i v (EndTurn t slot then)) (tab_at v t) slot then y c
   owes (CellOut t slot) on may y c = absurd (contains_none y c)
   owes (CellIn t slot) on may y c = absurd (contains_none y c)
   owes Note on may y c = absurd (contains_none y c)

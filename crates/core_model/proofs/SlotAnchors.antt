@@ -59,10 +59,10 @@ module _ {X : Type 0} where
         → (j : ℕ) (u : View X) → get_elem? s.views j ≡ some u → (p : ℕ) (y : Writer X) → get_elem? u.tabs p ≡ some (Writing y) → x.anchor ≡ y.anchor → (i ≡ j) × (t ≡ p)
     sole_writer i v at t x was j u ut p y is same = one_writer k s so y.anchor i j t p x y (writer_stage j u ut p y is).0 (tab_of i v at t (Writing x) was) (tab_of j u ut p (Writing y) is) same refl
 
-    pub replaces_at : (i : ℕ) (v : View X) → get_elem? s.views i ≡ some v → (t : ℕ) (f : Freer) → get_elem? v.tabs t ≡ some (Freeing f) → f.is_freeing ≡ false → Replaces (stage_at f.anchor) ((slot_words k s.words).start f.anchor) v f.anchor
+    pub replaces_at : (i : ℕ) (v : View X) → get_elem? s.views i ≡ some v → (t : ℕ) (f : Freer X) → get_elem? v.tabs t ≡ some (Freeing f) → f.is_freeing ≡ false → Replaces (stage_at f.anchor) ((slot_words k s.words).start f.anchor) v f.anchor
     replaces_at i v at t f was not = subst (λ (z : ℕ). Replaces z ((slot_words k s.words).start f.anchor) v f.anchor) (stage_told k s.words f.anchor (so.tabs i v at t (Freeing f) was).0) ((sl.tabs i v at t (Freeing f) was).replaces not)
 
-    pub freer_stage : (i : ℕ) (v : View X) → get_elem? s.views i ≡ some v → (t : ℕ) (f : Freer) → get_elem? v.tabs t ≡ some (Freeing f)
+    pub freer_stage : (i : ℕ) (v : View X) → get_elem? s.views i ≡ some v → (t : ℕ) (f : Freer X) → get_elem? v.tabs t ≡ some (Freeing f)
         → ((f.is_freeing ≡ true) × (stage_at f.anchor ≡ 5)) ⊎ ((f.is_freeing ≡ false) × (stage_at f.anchor ≡ 1))
     freer_stage i v at t f was = by_bool f.is_freeing refl
       where

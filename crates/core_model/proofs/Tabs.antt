@@ -64,15 +64,15 @@ module _ {X : Type 0} where
   pub record Unseen (b : ℕ) (x : Tab X) : Type 0 where
     pub counts : counts b x ≡ 0
     pub writes : (u g : ℕ) → writes b u g x ≡ 0
-    pub frees : frees b x ≡ 0
+    pub frees : (u d : ℕ) → frees b u d x ≡ 0
 
   pub unseen : (a b : ℕ) (x : Tab X) → IsAt a x → b ≢ a → Unseen b x
-  unseen a b Free h ne = record { counts = refl; writes = λ _ _. refl; frees = refl }
-  unseen a b (Retreating c) h ne = record { counts = rw (off a b c h ne) refl; writes = λ _ _. refl; frees = refl }
-  unseen a b (Reading r) h ne = record { counts = rw (off a b r.anchor h ne) refl; writes = λ _ _. refl; frees = refl }
-  unseen a b (Writing w) h ne = record { counts = refl; writes = λ u g. rw (off a b w.anchor h ne) refl; frees = refl }
-  unseen a b (Last c) h ne = record { counts = refl; writes = λ _ _. refl; frees = refl }
-  unseen a b (Freeing f) h ne = record { counts = refl; writes = λ _ _. refl; frees = rw (off a b f.anchor h ne) refl }
+  unseen a b Free h ne = record { counts = refl; writes = λ _ _. refl; frees = λ _ _. refl }
+  unseen a b (Retreating c) h ne = record { counts = rw (off a b c h ne) refl; writes = λ _ _. refl; frees = λ _ _. refl }
+  unseen a b (Reading r) h ne = record { counts = rw (off a b r.anchor h ne) refl; writes = λ _ _. refl; frees = λ _ _. refl }
+  unseen a b (Writing w) h ne = record { counts = refl; writes = λ u g. rw (off a b w.anchor h ne) refl; frees = λ _ _. refl }
+  unseen a b (Last c) h ne = record { counts = refl; writes = λ _ _. refl; frees = λ _ _. refl }
+  unseen a b (Freeing f) h ne = record { counts = refl; writes = λ _ _. refl; frees = λ u d. rw (off a b f.anchor h ne) refl }
 
   counts_one : (a : ℕ) (t : Tab X) → counts a t ≤ 1
   counts_one a Free = omega arith
@@ -104,8 +104,8 @@ module _ {X : Type 0} where
     pub writes_else : (b u g : ℕ) → b ≢ a → sum_by (writes b u g) (set xs t new) ≡ sum_by (writes b u g) xs
     writes_else b u g ne = let e = changes (writes b u g) in let x = (unseen a b old h.old_at ne).writes u g in let y = (unseen a b new h.new_at ne).writes u g in omega arith
 
-    pub frees_else : (b : ℕ) → b ≢ a → sum_by (frees b) (set xs t new) ≡ sum_by (frees b) xs
-    frees_else b ne = let e = changes (frees b) in let x = (unseen a b old h.old_at ne).frees in let y = (unseen a b new h.new_at ne).frees in omega arith
+    pub frees_else : (b u d : ℕ) → b ≢ a → sum_by (frees b u d) (set xs t new) ≡ sum_by (frees b u d) xs
+    frees_else b u d ne = let e = changes (frees b u d) in let x = (unseen a b old h.old_at ne).frees u d in let y = (unseen a b new h.new_at ne).frees u d in omega arith
 
     pub stay_last : (b p : ℕ) → b ≢ a → get_elem? xs p ≡ some (Last b) → get_elem? (set xs t new) p ≡ some (Last b)
     stay_last b p ne e = dite (ℕ_discrete p t)

@@ -70,7 +70,7 @@ module _ {X : Type 0} (k : Setting X) (s : State X) (i : ℕ) (v : View X) (so :
   writing = Writing (writer_of a u)
 
   abbrev freeing : Tab X
-  freeing = Freeing (freer_of a false (chain_of s a))
+  freeing = Freeing (freer_of a false n (chain_of s a))
 
   abbrev chains : List Chain
   chains = set s.chains a no_chain
@@ -82,7 +82,7 @@ module _ {X : Type 0} (k : Setting X) (s : State X) (i : ℕ) (v : View X) (so :
   lost : AnchorsSound k (moved s i (stepped v a n (epoch_of n) v.tabs (without u v.held) item [] met) a n s.chains)
   lost = same_epoch k s i v so at pass a n (epoch_of n) v.tabs (without u v.held) item [] met lt (so.shaped.anchors a lt) refl refl
       record { at_a = refl; tells = refl; no_draw = refl; no_count = λ _ _. refl; found = omega arith }
-      (no_tab k s i v so at pass a n (epoch_of n) (without u v.held) item [] met s.chains refl (λ _ _. refl) refl)
+      (no_tab k s i v so at pass a n (epoch_of n) (without u v.held) item [] met s.chains refl (λ _ _. refl) (λ _ _. refl))
       (λ x h. in_without u x v.held h)
       (λ _. inr (refl, λ p tat f. (tat, refl)))
       (λ b h. inl h)
@@ -95,14 +95,14 @@ module _ {X : Type 0} (k : Setting X) (s : State X) (i : ℕ) (v : View X) (so :
   written_old : IsFit n → (x g : ℕ) → written_at (epoch_of n) x g ≡ 0
   written_old f x g = rw f.unwritten refl
 
-  freed_new : freed_at (epoch_of taken) ≡ 0
-  freed_new = let st = stage_of-epoch_at u 1 (omega arith) in rw (epoch_of-word_at u 1, st) refl
+  freed_new : (x d : ℕ) → freed_at (epoch_of taken) x d ≡ 0
+  freed_new x d = let st = stage_of-epoch_at u 1 (omega arith) in rw (epoch_of-word_at u 1, st) refl
 
-  freed_old : IsFit n → freed_at (epoch_of n) ≡ 0
-  freed_old f = rw (ne_eqb (stage_of (epoch_of n)) 5 f.unfreed) refl
+  freed_old : IsFit n → (x d : ℕ) → freed_at (epoch_of n) x d ≡ 0
+  freed_old f x d = rw (ne_eqb (stage_of (epoch_of n)) 5 f.unfreed) refl
 
-  freeing_none : frees a freeing ≡ 0
-  freeing_none = rw (eq-eqb a a refl) refl
+  freeing_none : (x d : ℕ) → frees a x d freeing ≡ 0
+  freeing_none x d = rw (eq-eqb a a refl) refl
 
   version_new : version_of (epoch_of taken) ≡ u
   version_new = ap version_of (epoch_of-word_at u 1) ∙ version_of-epoch_at u 1 (omega arith)
@@ -171,7 +171,7 @@ module _ {X : Type 0} (k : Setting X) (s : State X) (i : ℕ) (v : View X) (so :
       (one_tab k s i v so at pass a taken (epoch_of taken) t Free writing (without u v.held) item (deed ∷ []) met chains turns
       (let r = readers_of-word_at u 1 in let z = f.unread in omega arith)
       (λ x g. let y = written_new x g in let z = written_old f x g in omega arith)
-      (let y = freed_new in let z = freed_old f in omega arith)
+      (λ x d. let y = freed_new x d in let z = freed_old f x d in omega arith)
       (writer_stands (moved s i (stepped v a taken (epoch_of taken) (set v.tabs t writing) (without u v.held) item (deed ∷ []) met) a taken chains) (stepped v a taken (epoch_of taken) (set v.tabs t writing) (without u v.held) item (deed ∷ []) met) (sees_now a (epoch_of taken) v.seen)))
       (λ b. let c = changes v.tabs t a Free writing turns (counts b) in omega arith)
   took true true e q = let same : n ≡ last_find a v.trail = eqb-true _ _ (sym e) in let f = fit same in
@@ -181,7 +181,7 @@ module _ {X : Type 0} (k : Setting X) (s : State X) (i : ℕ) (v : View X) (so :
       (two_tabs k s i v so at pass a taken (epoch_of taken) inner t Free freeing Free writing (without u v.held) item (deed ∷ []) met chains first second
       (let r = readers_of-word_at u 1 in let z = f.unread in omega arith)
       (λ x g. let y = written_new x g in let z = written_old f x g in omega arith)
-      (let y = freed_new in let z = freed_old f in let w = freeing_none in omega arith)
+      (λ x d. let y = freed_new x d in let z = freed_old f x d in let w = freeing_none x d in omega arith)
       (lt, refl)
       (writer_stands (moved s i (stepped v a taken (epoch_of taken) (set (set v.tabs inner freeing) t writing) (without u v.held) item (deed ∷ []) met) a taken chains) (stepped v a taken (epoch_of taken) (set (set v.tabs inner freeing) t writing) (without u v.held) item (deed ∷ []) met) (sees_now a (epoch_of taken) v.seen)))
       (λ b. let c = changes v.tabs inner a Free freeing first (counts b) in let d = changes (set v.tabs inner freeing) t a Free writing second (counts b) in omega arith)

@@ -15,7 +15,7 @@ use Rattle.core_model.specs.State.{State}
 use Rattle.core_model.specs.Tabs.{IsPass, OfFreer, OfReader, OfWriter, holds_turn, inner, tab_at}
 use Rattle.core_model.specs.AnchorMoves.{MayEnd, MayRaise}
 use Rattle.core_model.specs.SlotMoves.{IsFront}
-use Rattle.core_model.specs.CellMoves.{MayWrite}
+use Rattle.core_model.specs.CellMoves.{MayWipe, MayWrite}
 use Rattle.core_model.specs.Table.{Allowed}
 
 -- at TAKEN the tab stored the start that its chain has
@@ -51,7 +51,7 @@ AllowedByView k v (Raise t to) = (t ≤ inner) × (OfWriter (λ w. MayRaise w to
 AllowedByView k v (Publish t slot link) = (t < inner) × OfWriter (WroteFirst slot link) (tab_at v t)
 AllowedByView k v (GetLink t slot) = (t ≤ inner) × (OfReader (KnowsSlot slot) (tab_at v t) ⊎ OfFreer (IsFront slot) (tab_at v t))
 AllowedByView k v (TryTurn t slot) = (t ≤ inner) × (holds_turn (tab_at v t) ≡ false)
-    × (OfReader (KnowsLink slot) (tab_at v t) ⊎ OfWriter (MayWrite slot) (tab_at v t))
+    × (OfReader (KnowsLink slot) (tab_at v t) ⊎ OfWriter (MayWrite slot) (tab_at v t) ⊎ OfFreer (MayWipe slot) (tab_at v t))
 AllowedByView k v (Learn note) = ⊥
 AllowedByView k v m = Allowed k no_state v m
 

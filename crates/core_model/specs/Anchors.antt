@@ -56,13 +56,14 @@ abbrev pub OneWriter : {X : Type 0} → Setting X → State X → Type 0
 OneWriter k s = (a version stage : ℕ) → a < k.anchors →
     written_at (epoch_of (word s a)) version stage ≡ sum_by (count (writes a version stage)) s.views
 
--- 1 where an epoch is at FREEING
-abbrev pub freed_at : ℕ → ℕ
-freed_at e = cond (stage_of e == 5) 1 0
+-- 1 where an epoch is at FREEING, with this version and this doom
+abbrev pub freed_at : ℕ → ℕ → ℕ → ℕ
+freed_at e version doom = cond ((stage_of e == 5) && (version_of e == version) && (doom_of e == doom)) 1 0
 
--- At FREEING one inner tab frees, and at other stages none does.
+-- At FREEING one inner tab frees, and knows the word's version and doom; at other stages none does.
 abbrev pub OneFreer : {X : Type 0} → Setting X → State X → Type 0
-OneFreer k s = (a : ℕ) → a < k.anchors → freed_at (epoch_of (word s a)) ≡ sum_by (count (frees a)) s.views
+OneFreer k s = (a version doom : ℕ) → a < k.anchors →
+    freed_at (epoch_of (word s a)) version doom ≡ sum_by (count (frees a version doom)) s.views
 
 -- The epoch at an anchor is of this version, and the entry may be read or was given up.
 pub record IsReadAt {X : Type 0} (s : State X) (a version : ℕ) : Type 0 where

@@ -10,7 +10,7 @@ use Rattle.core_model.specs.declared.tab.Cell.{Cell}
 use Rattle.core_model.specs.declared.tab.Hold.{Hold}
 use Rattle.core_model.specs.declared.tab.Piece.{Piece}
 use Rattle.core_model.specs.declared.tab.Tab.{Tab}
-use Rattle.core_model.specs.declared.tab.Tab.TheVariants.{Reading, Writing}
+use Rattle.core_model.specs.declared.tab.Tab.TheVariants.{Freeing, Reading, Writing}
 use Rattle.core_model.specs.declared.tab.Turn.{Turn as TurnOf}
 use Rattle.core_model.specs.declared.tab.Turn.TheVariants.{Has, NoTurn}
 use Rattle.core_model.specs.declared.tab.Writer.{Writer}
@@ -22,6 +22,7 @@ use Rattle.core_model.specs.Chains.{first_of, link_at, rest_of}
 use Rattle.core_model.specs.State.{State, chain_of, side_word, turn_word, word}
 use Rattle.core_model.specs.Tabs.{count, turn_of}
 use Rattle.core_model.specs.SlotMoves.{IsNext}
+use Rattle.core_model.specs.CellMoves.{MayWipe}
 use Rattle.core_model.specs.Anchors.{opening_counter}
 
 -- 1 where the tab holds the turn at this slot
@@ -40,10 +41,12 @@ pub record OneHolder {X : Type 0} (k : Setting X) (s : State X) : Type 0 where
   pub away : (slot : ℕ) → slot < k.slots → turn_word k s slot ≡ 1 → slice_index_or s.places slot None ≡ None  -- one whose turn is taken is not
 
 -- A writing tab holds the turn of its first reserved slot, a reading one that of the slot at its place, whose link it found
--- written. So a cell is never out at a writer while a tab reads its slot.
+-- written, a freeing one that of the first slot of a doomed entry, before any slot has left its chain. So a cell is never out at a tab that
+-- writes it while a tab reads its slot.
 abbrev pub TurnFits : {X : Type 0} → Setting X → State X → Tab X → Type 0
 TurnFits {X} k s (Reading r) = (h : Hold X) → r.turn ≡ Has h → (h.slot < k.slots) × IsNext s h.slot r × (r.found ≢ NotWritten)
 TurnFits {X} k s (Writing w) = (h : Hold X) → w.turn ≡ Has h → (h.slot < k.slots) × (w.reserved ≡ h.slot ∷ rest_of w.reserved)
+TurnFits {X} k s (Freeing f) = (h : Hold X) → f.turn ≡ Has h → (h.slot < k.slots) × MayWipe h.slot f
 TurnFits k s _ = Unit {0}
 
 -- the cell of a slot, at home or at the tab that holds its turn

@@ -2,7 +2,7 @@
 use Rattle.std.specs.Prelude.{◌≡◌, ◌⊎◌, Contains, None, slice_index_or, true, ℕ}
 use mathlib.Core.Option.{some}
 use lib.ListN.{get_elem?}
-use Rattle.lock_word.specs.Words.{doom_of, epoch_of, readers_of, stage_of, version_of}
+use Rattle.lock_word.specs.Words.{doom_number, doom_of, epoch_of, readers_of, stage_of, version_of}
 use Rattle.core_model.specs.declared.tab.Freer.{Freer}
 use Rattle.core_model.specs.declared.tab.Hold.{Hold}
 use Rattle.core_model.specs.declared.tab.Reader.{Reader}
@@ -34,11 +34,16 @@ pub record HasWriter {X : Type 0} (s : State X) (a : ℕ) : Type 0 where
   pub anchor_is : writer.anchor ≡ a
   pub matches : MatchesWriter s writer
 
+-- the word of the anchor of a tab that frees, where it is at FREEING, has the version and the doom that the tab knows
+pub record MatchesFreer {X : Type 0} (s : State X) (f : Freer X) : Type 0 where
+  pub version_is : version_of (epoch_of (word s f.anchor)) ≡ f.version
+  pub doom_is : doom_of (epoch_of (word s f.anchor)) ≡ doom_number f.is_doomed
+
 -- some inner tab frees its entry
 pub record HasFreer {X : Type 0} (s : State X) (a : ℕ) : Type 0 where
   pub i : ℕ
   pub t : ℕ
-  pub freer : Freer
+  pub freer : Freer X
   pub tab : IsTab s i t (Tab.Freeing freer)
   pub anchor_is : freer.anchor ≡ a
   pub is_so : freer.is_freeing ≡ true
@@ -58,7 +63,7 @@ pub record IsAway {X : Type 0} (k : Setting X) (s : State X) (slot : ℕ) : Type
   pub taken : turn_word k s slot ≡ 1
   pub empty : slice_index_or s.places slot None ≡ None
 
--- a tab that writes holds the turn at this slot: only then may it have the cell out, and write it
+-- a tab that writes holds the turn at this slot: only then may it have the cell out, and write it, or one that frees, which is below
 pub record IsBeingWritten {X : Type 0} (s : State X) (slot : ℕ) : Type 0 where
   pub i : ℕ
   pub t : ℕ
@@ -67,6 +72,17 @@ pub record IsBeingWritten {X : Type 0} (s : State X) (slot : ℕ) : Type 0 where
   pub hold : Hold X
   pub turn : writer.turn ≡ Has hold
   pub slot_is : hold.slot ≡ slot
+
+-- the tab t of the pass i frees, and holds the turn at this slot, to wipe it
+pub record IsWipedBy {X : Type 0} (s : State X) (slot i t : ℕ) : Type 0 where
+  pub freer : Freer X
+  pub is_tab : IsTab s i t (Tab.Freeing freer)
+  pub hold : Hold X
+  pub turn : freer.turn ≡ Has hold
+  pub slot_is : hold.slot ≡ slot
+
+abbrev pub IsBeingWiped : {X : Type 0} → State X → ℕ → Type 0
+IsBeingWiped s slot = (i : ℕ) × (t : ℕ) × IsWipedBy s slot i t
 
 -- a tab reads an entry that has this slot, or holds the turn there
 pub record IsBeingRead {X : Type 0} (s : State X) (slot : ℕ) : Type 0 where

@@ -1,13 +1,14 @@
 -- What becomes of views in a shared table, where the steps of the core have another form. A note is a seat of its own, so notes are
--- made and learned at any place, and with any item of their kinds. And a tab that writes may have another cell in its hands by no
+-- made and learned at any place, and with any item of their kinds. And a tab that writes or frees may have another cell in its hands by no
 -- step, since the disk wrote or synced it. A disk may forget contents that a crash could leave, so the cell is any that a write and a
 -- sync allow.
 use Rattle.std.specs.Prelude.{◌++◌, ◌∷◌, ◌≡◌, ◌⊎◌, Contains, List, Some, [], slice_set, true, ℕ}
 use mathlib.Core.Option.{some}
 use lib.ListN.{get_elem?}
+use Rattle.core_model.specs.declared.tab.Freer.{Freer}
 use Rattle.core_model.specs.declared.tab.Hold.{Hold}
 use Rattle.core_model.specs.declared.tab.Piece.{Piece}
-use Rattle.core_model.specs.declared.tab.Tab.TheVariants.{Writing}
+use Rattle.core_model.specs.declared.tab.Tab.TheVariants.{Freeing, Writing}
 use Rattle.core_model.specs.declared.tab.Turn.TheVariants.{Has}
 use Rattle.core_model.specs.declared.tab.Writer.{Writer}
 use Rattle.core_model.specs.declared.view.Item.{Item}
@@ -64,3 +65,20 @@ pub record MayRewrite {X : Type 0} (k : Setting X) (v : View X) (t : ℕ) (w : W
 -- the state with that hold at the tab of the pass i
 abbrev pub with_held : {X : Type 0} → State X → ℕ → View X → ℕ → Writer X → Hold X → State X
 with_held s i v t w h = renewed s (slice_set s.views i (with_hold v t w h))
+
+-- the view with this hold at its freeing tab
+abbrev pub with_wiper : {X : Type 0} → View X → ℕ → Freer X → Hold X → View X
+with_wiper v t f h = record v { tabs = slice_set v.tabs t (Freeing record f { turn = Has h }) }
+
+-- The hold of a tab that frees may become this one: of the same slot, with any cell of which a crash may leave what a read gives, and
+-- besides what it might have left of the old one only the blank content.
+pub record MayBlank {X : Type 0} (k : Setting X) (v : View X) (t : ℕ) (f : Freer X) (old new : Hold X) : Type 0 where
+  pub frees : get_elem? v.tabs t ≡ some (Freeing f)  -- the tab is so
+  pub turn : f.turn ≡ Has old  -- and has this turn
+  pub slot_is : new.slot ≡ old.slot
+  pub possible : Contains new.cell.possible new.cell.now  -- what a read gives may outlive a crash
+  pub within : (x : X) → Contains new.cell.possible x → Contains old.cell.possible x ⊎ (x ≡ k.blank)  -- nothing else may be left but the blank content
+
+-- the state with that hold at the tab of the pass i
+abbrev pub with_wiped : {X : Type 0} → State X → ℕ → View X → ℕ → Freer X → Hold X → State X
+with_wiped s i v t f h = renewed s (slice_set s.views i (with_wiper v t f h))

@@ -1,5 +1,6 @@
 -- What tabs are, and how many of a view are so.
 use Rattle.std.specs.Prelude.{◌&&◌, ◌==◌, ◌≡◌, Bool, List, cond, false, length, slice_index_or, slice_set, sum_by, true, ℕ}
+use Rattle.lock_word.specs.Words.{doom_number}
 use Rattle.core_model.specs.declared.tab.Freer.{Freer}
 use Rattle.core_model.specs.declared.tab.Reader.{Reader}
 use Rattle.core_model.specs.declared.tab.Tab.{Tab}
@@ -48,6 +49,7 @@ has_turn (Has h) = true
 abbrev pub turn_of : {X : Type 0} → Tab X → Turn X
 turn_of (Reading r) = r.turn
 turn_of (Writing w) = w.turn
+turn_of (Freeing f) = f.turn
 turn_of _ = NoTurn
 
 abbrev pub holds_turn : {X : Type 0} → Tab X → Bool
@@ -80,7 +82,7 @@ abbrev pub OfWriter : {X : Type 0} → (Writer X → Type 0) → Tab X → Type 
 OfWriter P (Writing w) = P w
 OfWriter P _ = ⊥
 
-abbrev pub OfFreer : {X : Type 0} → (Freer → Type 0) → Tab X → Type 0
+abbrev pub OfFreer : {X : Type 0} → (Freer X → Type 0) → Tab X → Type 0
 OfFreer P (Freeing f) = P f
 OfFreer P _ = ⊥
 
@@ -104,10 +106,10 @@ abbrev pub writes : {X : Type 0} → ℕ → ℕ → ℕ → Tab X → ℕ
 writes a version stage (Writing w) = cond ((w.anchor == a) && (w.version == version) && (stage_written w == stage)) 1 0
 writes a version stage _ = 0
 
--- it frees the entry of the anchor a, which is at FREEING
-abbrev pub frees : {X : Type 0} → ℕ → Tab X → ℕ
-frees a (Freeing f) = cond ((f.anchor == a) && f.is_freeing) 1 0
-frees a _ = 0
+-- it frees the entry of this version and doom at the anchor a, which is at FREEING
+abbrev pub frees : {X : Type 0} → ℕ → ℕ → ℕ → Tab X → ℕ
+frees a version doom (Freeing f) = cond ((f.anchor == a) && f.is_freeing && (f.version == version) && (doom_number f.is_doomed == doom)) 1 0
+frees a version doom _ = 0
 
 -- the tabs of a view of which something holds
 abbrev pub count : {X : Type 0} → (Tab X → ℕ) → View X → ℕ

@@ -5,7 +5,7 @@ use Rattle.core_model.specs.declared.view.Item.{Item}
 use Rattle.core_model.specs.declared.view.Kind.{Kind}
 use Rattle.core_model.specs.declared.view.Kind.TheVariants.{Changed, Counted, Doomed, Drew, Entered, Left, Looked, Raised}
 use Rattle.core_model.specs.declared.view.Sight.{Sight}
-use Rattle.core_model.specs.declared.view.Sight.TheVariants.{Logged, Named, Published, Stood}
+use Rattle.core_model.specs.declared.view.Sight.TheVariants.{Logged, Named, Published, Stood, Wiped}
 use Rattle.core_model.specs.declared.view.View.{View}
 
 -- an item of this kind tells the word of an anchor
@@ -81,18 +81,20 @@ abbrev pub last_count : List Item → ℕ
 last_count [] = version_limit
 last_count (x ∷ xs) = counted_in x.kind x.found (last_count xs)
 
--- where and of which version a sight is; who knows a logged piece need not know of its version at the anchor
+-- where and of which version a sight is; who knows a logged piece or a wiped slot need not know of its version at the anchor
 abbrev pub sight_anchor : Sight → ℕ
 sight_anchor (Stood a epoch) = a
 sight_anchor (Named a version side value) = a
 sight_anchor (Published a version count) = a
 sight_anchor (Logged l) = l.anchor
+sight_anchor (Wiped a version slot) = a
 
 abbrev pub sight_version : Sight → ℕ
 sight_version (Stood a epoch) = version_of epoch
 sight_version (Named a version side value) = version
 sight_version (Published a version count) = version
 sight_version (Logged l) = 0
+sight_version (Wiped a version slot) = 0
 
 abbrev pub stood : ℕ → Sight → ℕ
 stood a (Stood b epoch) = cond (b == a) epoch 0

@@ -1,6 +1,6 @@
 //! The laws of the core. These functions do nothing: the proof of a function that calls one may use
 //! what it ensures.
-ghost use Rattle.std.specs.Prelude.{◌≡◌, ◌≢◌, ℕ, ◌+◌, ◌<◌, ◌≤◌, List, [], length, slice_index, slice_index_or, Some, None, Contains, true, false};
+ghost use Rattle.std.specs.Prelude.{◌≡◌, ◌≢◌, ◌⊎◌, ℕ, ◌+◌, ◌<◌, ◌≤◌, List, [], length, slice_index, slice_index_or, Some, None, Contains, true, false};
 ghost use mathlib.Core.Option.{some};
 ghost use lib.ListN.{get_elem?};
 ghost use Rattle.core_model.specs.declared.moves.Move.{Move};
@@ -37,8 +37,8 @@ ghost use Rattle.core_model.specs.Anchors.{opening_counter};
 ghost use Rattle.core_model.specs.Deeds.{IsDone, IsEpochAt, HaltedVersion, IsOldEpoch, TookVersion};
 ghost use Rattle.core_model.specs.Sound.{AnchorsSound, WordsSound, Sound};
 ghost use Rattle.core_model.specs.Table.{MayStep};
-ghost use Rattle.core_model.specs.TableForms.{noted_behind, noted_at, learned_from, IsNoteAt, IsSpentAt, MayRewrite, with_held};
-ghost use Rattle.core_model.specs.Holders.{IsTab, MatchesWriter, HasWriter, HasFreer, HasHolder, IsAway, IsBeingWritten, IsBeingRead, AllFree, IsFinished};
+ghost use Rattle.core_model.specs.TableForms.{noted_behind, noted_at, learned_from, IsNoteAt, IsSpentAt, MayRewrite, MayBlank, with_held, with_wiped};
+ghost use Rattle.core_model.specs.Holders.{IsTab, MatchesWriter, MatchesFreer, HasWriter, HasFreer, HasHolder, IsAway, IsBeingWritten, IsWipedBy, IsBeingWiped, IsBeingRead, AllFree, IsFinished};
 
 /// A step that is allowed in a sound state leaves a sound state.
 pub fn steps_keep_sound<X>()
@@ -60,7 +60,8 @@ pub fn openings_are_sound<X>()
 {}
 
 /// Each slot is at exactly one spot. Its link word is 0 but where it is published or is still in a chain
-/// that is given back. Nobody holds its turn where it is free or is being given back.
+/// that is given back. Nobody holds its turn where it is free or has left its chain. Where it is still in a
+/// chain that is given back, the turn is free, or held by the tab that gives it back.
 pub fn slots_have_one_spot<X>()
     ensures one { (k : Setting X) (s : State X) (slot : ℕ)
         → WordsSound k s → slot < k.slots → HasOneSpot k s slot }
@@ -69,15 +70,17 @@ pub fn slots_have_one_spot<X>()
         → slice_index s.words (index k (Place.Link slot)) ≡ 0 }
     ensures unheld { (k : Setting X) (s : State X) (slot : ℕ) (spot : Spot)
         → Sound k s → slot < k.slots → IsUnheld spot → IsIn k s slot spot → turn_word k s slot ≡ 0 }
+    ensures rests { (k : Setting X) (s : State X) (slot i t : ℕ)
+        → Sound k s → slot < k.slots → IsIn k s slot (Spot.Resting i t) → (turn_word k s slot ≡ 0) ⊎ IsWipedBy s slot i t }
 {}
 
 /// What is being given back of an anchor is at one inner tab. Where the anchor is not at FREEING, a tab of
 /// the same pass replaces the entry, and has no slot there yet.
 pub fn rests_have_one_tab<X>()
-    ensures one { (k : Setting X) (s : State X) (i j t u : ℕ) (f g : Freer)
+    ensures one { (k : Setting X) (s : State X) (i j t u : ℕ) (f g : Freer X)
         → WordsSound k s → IsTab s i t (Tab.Freeing f) → IsTab s j u (Tab.Freeing g) → f.anchor ≡ g.anchor
         → (i ≡ j) × (t ≡ u) }
-    ensures replaced { (k : Setting X) (s : State X) (i t : ℕ) (f : Freer)
+    ensures replaced { (k : Setting X) (s : State X) (i t : ℕ) (f : Freer X)
         → WordsSound k s → IsTab s i t (Tab.Freeing f) → f.is_freeing ≡ false → IsReplaced s i f.anchor }
 {}
 
@@ -111,10 +114,12 @@ pub fn turns_have_one_holder<X>()
 {}
 
 /// While a tab reads an entry that has a slot, or has the slot's turn to read it, no tab has the turn to
-/// write it.
+/// write it, or to wipe it.
 pub fn slots_are_not_written_while_read<X>()
-    ensures { (k : Setting X) (s : State X) (slot : ℕ)
+    ensures written { (k : Setting X) (s : State X) (slot : ℕ)
         → Sound k s → IsBeingWritten s slot → IsBeingRead s slot → ⊥ }
+    ensures wiped { (k : Setting X) (s : State X) (slot : ℕ)
+        → Sound k s → IsBeingWiped s slot → IsBeingRead s slot → ⊥ }
 {}
 
 /// The piece that a writing tab wrote is in the cell of its first reserved slot, which is home, with a free
@@ -148,8 +153,10 @@ pub fn tabs_match_words<X>()
     ensures one_writer { (k : Setting X) (s : State X) (i j t u : ℕ) (w x : Writer X)
         → AnchorsSound k s → IsTab s i t (Tab.Writing w) → IsTab s j u (Tab.Writing x) → w.anchor ≡ x.anchor
         → (i ≡ j) × (t ≡ u) }
-    ensures freer { (k : Setting X) (s : State X) (i t : ℕ) (f : Freer)
+    ensures freer { (k : Setting X) (s : State X) (i t : ℕ) (f : Freer X)
         → AnchorsSound k s → IsTab s i t (Tab.Freeing f) → f.is_freeing ≡ true → stage_of (epoch_of (word s f.anchor)) ≡ 5 }
+    ensures freer_knows { (k : Setting X) (s : State X) (i t : ℕ) (f : Freer X)
+        → AnchorsSound k s → IsTab s i t (Tab.Freeing f) → f.is_freeing ≡ true → MatchesFreer s f }
     ensures freed { (k : Setting X) (s : State X) (a : ℕ)
         → AnchorsSound k s → a < k.anchors → stage_of (epoch_of (word s a)) ≡ 5 → HasFreer s a }
 {}
@@ -178,12 +185,15 @@ pub fn notes_may_be_learned<X>()
         → Sound k (learned_from s i v item n u) }
 {}
 
-/// The cell that a writing tab has in its hands may become another one by no step, as a disk writes and
-/// syncs it.
+/// The cell that a writing or freeing tab has in its hands may become another one by no step, as a disk
+/// writes and syncs it.
 pub fn held_cells_may_be_rewritten<X>()
-    ensures { (k : Setting X) (s : State X) (i t : ℕ) (v : View X) (w : Writer X) (old new : Hold X)
+    ensures written { (k : Setting X) (s : State X) (i t : ℕ) (v : View X) (w : Writer X) (old new : Hold X)
         → Sound k s → get_elem? s.views i ≡ some v → IsPass v → MayRewrite k v t w old new
         → Sound k (with_held s i v t w new) }
+    ensures wiped { (k : Setting X) (s : State X) (i t : ℕ) (v : View X) (f : Freer X) (old new : Hold X)
+        → Sound k s → get_elem? s.views i ≡ some v → IsPass v → MayBlank k v t f old new
+        → Sound k (with_wiped s i v t f new) }
 {}
 
 /// Words spell one chain at most.

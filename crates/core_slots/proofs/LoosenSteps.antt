@@ -64,7 +64,7 @@ module _ (o : Opening) (t : Table) (v : View Content) (scene : IsScene o t v) (s
       (λ (h : OfWriter MayReserve (tab_at v at) × OfFreer (λ f. MayLoosen slot f × (f.is_freeing ≡ true)) (tab_at v inner)). h)
       may.1
 
-  module _ (f : Freer) (there : slice_get v.tabs inner ≡ Some (Freeing f)) where
+  module _ (f : Freer Content) (there : slice_get v.tabs inner ≡ Some (Freeing f)) where
     -- the slots of an anchor that was taken do not go over
     pub not_taken : (at : ℕ) → at ≢ inner → f.is_freeing ≡ false → Allowed (setting o) (state t) v (move.Loosen at slot) → ⊥
     not_taken at ne taken may =

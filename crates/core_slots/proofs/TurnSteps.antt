@@ -1,8 +1,11 @@
 -- Steps on the turns at cells, as they are worked out.
-use Rattle.std.proofs.Common.{◌≡◌, ◌⊎◌, inl, inr, ⊎_elim, ◌<◌, ◌==◌, ℕ, List, Option, Some, None, Bool, true, false, cond, length, length-set, get_or, set, refl, sym, ap, ◌∙◌, subst, arith}
+use Rattle.std.proofs.Common.{◌≡◌, ◌⊎◌, inl, inr, ⊎_elim, ◌<◌, ◌==◌, ℕ, List, Option, Some, None, Bool, true, false, cond, length, length-set, get_or, set, refl, sym, ap, ◌∙◌, subst, arith, ◌++◌, []}
 use Rattle.std.specs.Prelude.{slice_get, slice_index}
 use Rattle.std.proofs.lemmas.List.{get_or-set_same, set-get_or}
 use Rattle.std.proofs.lemmas.Option.{slice_get_within}
+use Rattle.std.specs.Option.{option_to_list}
+use Rattle.core_model.specs.declared.view.Sight.{Sight}
+use Rattle.core_model.specs.declared.tab.Freer.{Freer}
 use Rattle.core_model.specs.declared.adding.Addition.{Addition}
 use Rattle.core_model.specs.declared.moves.Move.TheVariants as move
 use Rattle.core_model.specs.declared.moves.Then.{Then}
@@ -18,8 +21,8 @@ use Rattle.core_model.specs.declared.view.Place.TheVariants.{Turn}
 use Rattle.core_model.specs.declared.view.View.{View}
 use Rattle.core_model.specs.Cells.{CellsSound, TurnFits}
 use Rattle.core_model.specs.Layout.{index}
-use Rattle.core_model.specs.Tabs.{tab_at, holds_turn, OfReader, OfWriter}
-use Rattle.core_model.specs.CellMoves.{EndsSo, MayRead, MayWrite, Holds, turn_with, tries, ends}
+use Rattle.core_model.specs.Tabs.{tab_at, holds_turn, OfReader, OfWriter, OfFreer}
+use Rattle.core_model.specs.CellMoves.{EndsSo, MayRead, MayWrite, Holds, turn_with, tries, ends, MayWipe, wiped_by}
 use Rattle.core_change.specs.declared.change.ChainChange.TheVariants as chains
 use Rattle.core_change.specs.declared.change.Change.{Change}
 use Rattle.core_change.specs.declared.change.NotesChange.TheVariants as notes
@@ -36,7 +39,7 @@ use Rattle.core_change.specs.Changed.{word_addition, turned_view, tabs_changed, 
 use Rattle.core_table.specs.Inside.{setting, state}
 use Rattle.core_change.specs.Planned.{IsScene, Plans}
 use Rattle.core_change.specs.Tabs.{changed_tab}
-use Rattle.core_slots.specs.Trying.{MayTry, tried_turn, tried_tabs, ended_tabs}
+use Rattle.core_slots.specs.Trying.{MayTry, tried_turn, tried_tabs, ended_tabs, ended_sight}
 use Rattle.core_change.specs.Turns.{with_turn, turned, places_changed, FitsTurn}
 use Rattle.core_change.proofs.Facts.{below, tab_is}
 use Rattle.core_slots.proofs.LinkSteps.{slot_inside}
@@ -75,6 +78,10 @@ module _ (v : View Content) (places : List (Option (Cell Content))) (t slot : �
   tried_reader r is true = ap (λ (y : Tab Content). set v.tabs t (with_turn y (turn_with slot cell))) is
   tried_reader r is false = sym (set-get_or v.tabs t Free) ∙ ap (λ (y : Tab Content). set v.tabs t y) is
 
+  tried_freer : (f : Freer Content) → tab_at v t ≡ Freeing f → (won : Bool) → turned v.tabs places (turn won) ≡ set v.tabs t (Freeing record f { turn = cond won (turn_with slot cell) f.turn })
+  tried_freer f is true = ap (λ (y : Tab Content). set v.tabs t (with_turn y (turn_with slot cell))) is
+  tried_freer f is false = sym (set-get_or v.tabs t Free) ∙ ap (λ (y : Tab Content). set v.tabs t y) is
+
   tried_writer : (w : Writer Content) → tab_at v t ≡ Writing w → (won : Bool)
       → tabs_changed (turned_view v places (turn won)) (tabs.Becomes t (Leaves (cond won false w.is_written) (cond won false w.is_settled)))
       ≡ set v.tabs t (Writing record w { is_written = cond won false w.is_written; is_settled = cond won false w.is_settled; turn = cond won (turn_with slot cell) w.turn })
@@ -86,10 +93,10 @@ module _ (v : View Content) (places : List (Option (Cell Content))) (t slot : �
   tried_by : (s : _) (x : Tab Content) (n : ℕ) → tab_at v t ≡ x → MayTry s slot x → tabs_changed (turned_view v places (turn (n == 0))) (tried_tabs t x n) ≡ set v.tabs t (tries x slot n cell)
   tried_by s (Reading r) n is may = tried_reader r is (n == 0)
   tried_by s (Writing w) n is may = tried_writer w is (n == 0)
-  tried_by s Free n is may = absurd (⊎_elim (λ (z : ⊥). z) (λ (z : ⊥). z) may.1)
-  tried_by s (Retreating a) n is may = absurd (⊎_elim (λ (z : ⊥). z) (λ (z : ⊥). z) may.1)
-  tried_by s (Last a) n is may = absurd (⊎_elim (λ (z : ⊥). z) (λ (z : ⊥). z) may.1)
-  tried_by s (Freeing f) n is may = absurd (⊎_elim (λ (z : ⊥). z) (λ (z : ⊥). z) may.1)
+  tried_by s Free n is may = absurd (⊎_elim (λ (z : ⊥). z) (⊎_elim (λ (z : ⊥). z) (λ (z : ⊥). z)) may.1)
+  tried_by s (Retreating a) n is may = absurd (⊎_elim (λ (z : ⊥). z) (⊎_elim (λ (z : ⊥). z) (λ (z : ⊥). z)) may.1)
+  tried_by s (Last a) n is may = absurd (⊎_elim (λ (z : ⊥). z) (⊎_elim (λ (z : ⊥). z) (λ (z : ⊥). z)) may.1)
+  tried_by s (Freeing f) n is may = tried_freer f is (n == 0)
 
   tabs_fit : (x : Tab Content) (n : ℕ) (c : TurnChange) → FitsTabs (turned_view v places c) (tried_tabs t x n)
   tabs_fit (Writing w) n c = let same = same_length v.tabs places c in omega (arith, same, lt)
@@ -161,21 +168,24 @@ module _ (o : Opening) (t : Table) (v : View Content) (scene : IsScene o t v) (a
     pub try_inside : slot < o.slots
     try_inside = by_tab x there may.1
       where
-        by_tab : (y : Tab Content) → slice_get v.tabs at ≡ Some y → OfReader (MayRead (state t) slot) y ⊎ OfWriter (MayWrite slot) y → slot < o.slots
+        by_tab : (y : Tab Content) → slice_get v.tabs at ≡ Some y → OfReader (MayRead (state t) slot) y ⊎ OfWriter (MayWrite slot) y ⊎ OfFreer (MayWipe slot) y → slot < o.slots
         by_tab (Reading r) was (inl read) = slot_inside o t v scene at (Reading r) was slot (inl read.0)
-        by_tab (Reading r) was (inr h) = absurd h
+        by_tab (Reading r) was (inr h) = absurd (⊎_elim (λ (z : ⊥). z) (λ (z : ⊥). z) h)
         by_tab (Writing w) was (inl h) = absurd h
-        by_tab (Writing w) was (inr write) = slot_there o t v scene at slot w was write.first
-        by_tab Free was h = absurd (⊎_elim (λ (z : ⊥). z) (λ (z : ⊥). z) h)
-        by_tab (Retreating a) was h = absurd (⊎_elim (λ (z : ⊥). z) (λ (z : ⊥). z) h)
-        by_tab (Last a) was h = absurd (⊎_elim (λ (z : ⊥). z) (λ (z : ⊥). z) h)
-        by_tab (Freeing f) was h = absurd (⊎_elim (λ (z : ⊥). z) (λ (z : ⊥). z) h)
+        by_tab (Writing w) was (inr (inl write)) = slot_there o t v scene at slot w was write.first
+        by_tab (Writing w) was (inr (inr h)) = absurd h
+        by_tab (Freeing f) was (inl h) = absurd h
+        by_tab (Freeing f) was (inr (inl h)) = absurd h
+        by_tab (Freeing f) was (inr (inr wipe)) = slot_inside o t v scene at (Freeing f) was slot (inr wipe.front)
+        by_tab Free was h = absurd (⊎_elim (λ (z : ⊥). z) (⊎_elim (λ (z : ⊥). z) (λ (z : ⊥). z)) h)
+        by_tab (Retreating a) was h = absurd (⊎_elim (λ (z : ⊥). z) (⊎_elim (λ (z : ⊥). z) (λ (z : ⊥). z)) h)
+        by_tab (Last a) was h = absurd (⊎_elim (λ (z : ⊥). z) (⊎_elim (λ (z : ⊥). z) (λ (z : ⊥). z)) h)
 
     tried : Plans o t v (move.TryTurn at slot)
         (turn_change turn_found (index (setting o) (Turn slot)) (cond (turn_found == 0) 1 turn_found) (tried_turn at slot turn_found) (tried_tabs at x turn_found)
         (word_addition kind.Tried (Turn slot) slot turn_found (cond (turn_found == 0) 1 turn_found) None))
     tried = record {
-      allowed = (below o t v scene at x there, subst (λ (y : Tab Content). holds_turn y ≡ false) (sym is) may.0, subst (λ (y : Tab Content). OfReader (MayRead (state t) slot) y ⊎ OfWriter (MayWrite slot) y) (sym is) may.1);
+      allowed = (below o t v scene at x there, subst (λ (y : Tab Content). holds_turn y ≡ false) (sym is) may.0, subst (λ (y : Tab Content). OfReader (MayRead (state t) slot) y ⊎ OfWriter (MayWrite slot) y ⊎ OfFreer (MayWipe slot) y) (sym is) may.1);
       answers = refl;
       matches = record {
         words = refl;
@@ -225,7 +235,7 @@ module _ (o : Opening) (t : Table) (v : View Content) (scene : IsScene o t v) (a
         by_tab Free fit (h, turn, same, out_is) = cc
         by_tab (Retreating a) fit (h, turn, same, out_is) = cc
         by_tab (Last a) fit (h, turn, same, out_is) = cc
-        by_tab (Freeing f) fit (h, turn, same, out_is) = cc
+        by_tab (Freeing f) fit (h, turn, same, out_is) = let inside = (fit h turn).0 in omega (arith, inside, same)
 
     -- a reading tab is at a published slot
     pub end_few : (r : Reader Content) → x ≡ Reading r → r.place < o.slots
@@ -235,11 +245,21 @@ module _ (o : Opening) (t : Table) (v : View Content) (scene : IsScene o t v) (a
         by r fit (h, turn, same, out_is) was =
             place_few o t v scene at r was ((scene.slots.tabs scene.number v scene.at at (Reading r) (at_slice v.tabs at (Reading r) was)).found (fit h turn).2).0
 
-  module _ (cells : CellsSound (setting o) (state t)) (holds : Holds slot false x) (then : Then) (so : EndsSo then x) where
+  module _ (cells : CellsSound (setting o) (state t)) (holds : Holds slot false x) (then : Then) (so : EndsSo (setting o) then x) where
+    ended_sees : (y : Tab Content) (z : Then) → option_to_list (ended_sight y slot z) ++ [] ≡ wiped_by y slot z
+    ended_sees (Freeing f) Wiped = refl
+    ended_sees (Freeing f) Stays = refl
+    ended_sees (Freeing f) GoesOn = refl
+    ended_sees (Reading r) z = refl
+    ended_sees (Writing w) z = refl
+    ended_sees Free z = refl
+    ended_sees (Retreating a) z = refl
+    ended_sees (Last a) z = refl
+
     ended : Plans o t v (move.EndTurn at slot then)
-        (turn_change turn_found (index (setting o) (Turn slot)) 0 (turns.Ended at slot) (ended_tabs at x then) (word_addition kind.Ended (Turn slot) slot turn_found 0 None))
+        (turn_change turn_found (index (setting o) (Turn slot)) 0 (turns.Ended at slot) (ended_tabs at x then) (word_addition kind.Ended (Turn slot) slot turn_found 0 (ended_sight x slot then)))
     ended = record {
-      allowed = (below o t v scene at x there, subst (λ (y : Tab Content). Holds slot false y) (sym is) holds, subst (λ (y : Tab Content). EndsSo then y) (sym is) so);
+      allowed = (below o t v scene at x there, subst (λ (y : Tab Content). Holds slot false y) (sym is) holds, subst (λ (y : Tab Content). EndsSo (setting o) then y) (sym is) so);
       answers = refl;
       matches = record {
         words = refl;
@@ -247,7 +267,7 @@ module _ (o : Opening) (t : Table) (v : View Content) (scene : IsScene o t v) (a
         views = λ i. refl;
         tabs = ended_by v t.places.items at slot lt x then is ∙ sym (ap (λ (y : Tab Content). set v.tabs at (ends y then)) is);
         held = refl;
-        seen = refl;
+        seen = ended_sees x then ∙ sym (ap (λ (y : Tab Content). wiped_by y slot then) is);
         trail = refl;
         mirror = refl;
         deeds = refl;
@@ -264,10 +284,11 @@ module _ (o : Opening) (t : Table) (v : View Content) (scene : IsScene o t v) (a
       pub end_there : word < length t.words.items
       end_there = let h = turn_there (end_inside cells false holds) in omega (arith, h, word_is)
 
-      pub end_planned : (change : TabsChange) (base : Addition) → n ≡ slice_index t.words.items word → change ≡ ended_tabs at x then → base ≡ word_addition kind.Ended (Turn slot) slot n 0 None
+      pub end_planned : (change : TabsChange) (sight : Option Sight) (base : Addition) → n ≡ slice_index t.words.items word → change ≡ ended_tabs at x then → sight ≡ ended_sight x slot then
+          → base ≡ word_addition kind.Ended (Turn slot) slot n 0 sight
           → Plans o t v (move.EndTurn at slot then) (turn_change n word 0 (turns.Ended at slot) change base)
-      end_planned change base n_is change_is base_is =
+      end_planned change sight base n_is change_is sight_is base_is =
           let found : n ≡ turn_found = n_is ∙ ap (λ i. slice_index t.words.items i) word_is in
           subst (λ (c : Change). Plans o t v (move.EndTurn at slot then) c)
-          (sym (λ j. turn_change (found j) (word_is j) 0 (turns.Ended at slot) (change_is j) ((base_is ∙ (λ k. word_addition kind.Ended (Turn slot) slot (found k) 0 None)) j)))
+          (sym (λ j. turn_change (found j) (word_is j) 0 (turns.Ended at slot) (change_is j) ((base_is ∙ (λ k. word_addition kind.Ended (Turn slot) slot (found k) 0 (sight_is k))) j)))
           ended

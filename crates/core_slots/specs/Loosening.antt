@@ -21,11 +21,11 @@ use Rattle.core_change.specs.Changed.{word_addition}
 use Rattle.core_table.specs.Inside.{setting}
 
 -- it is loose at the inner tab
-abbrev pub loosened_change : Freer → ℕ → TabsChange
+abbrev pub loosened_change : Freer Content → ℕ → TabsChange
 loosened_change f slot = tabs.Becomes inner (Loosens (rest_of f.rest) (f.loose ++ (slot ∷ [])))
 
 -- the tab t, which writes, reserves it
-abbrev pub handed_change : Freer → ℕ → Writer Content → ℕ → TabsChange
+abbrev pub handed_change : Freer Content → ℕ → Writer Content → ℕ → TabsChange
 handed_change f t w slot = tabs.BothBecome inner (Loosens (rest_of f.rest) f.loose) t (Reserves (w.reserved ++ (slot ∷ [])))
 
 -- the number that its link word has

@@ -1,11 +1,12 @@
 -- Which tab may try to take a turn, and what becomes of a tab that tries, or ends its turn.
-use Rattle.std.specs.Prelude.{◌≡◌, ◌⊎◌, ℕ, ◌+◌, ◌==◌, Bool, true, false, cond}
+use Rattle.std.specs.Prelude.{◌≡◌, ◌⊎◌, ℕ, ◌+◌, ◌==◌, false, cond, None, Option, Some}
+use Rattle.core_model.specs.declared.view.Sight.{Sight}
 use Rattle.core_model.specs.declared.tab.Tab.{Tab}
-use Rattle.core_model.specs.declared.tab.Tab.TheVariants.{Reading, Writing}
+use Rattle.core_model.specs.declared.tab.Tab.TheVariants.{Reading, Writing, Freeing}
 use Rattle.core_model.specs.declared.moves.Then.{Then}
 use Rattle.core_model.specs.State.{State}
-use Rattle.core_model.specs.Tabs.{holds_turn, OfReader, OfWriter}
-use Rattle.core_model.specs.CellMoves.{MayRead, MayWrite, next_slot, was_written, was_settled}
+use Rattle.core_model.specs.Tabs.{holds_turn, OfReader, OfWriter, OfFreer}
+use Rattle.core_model.specs.CellMoves.{MayRead, MayWrite, next_slot, was_written, was_settled, MayWipe}
 use Rattle.core_change.specs.declared.change.TabsChange.{TabsChange}
 use Rattle.core_change.specs.declared.change.TabsChange.TheVariants as tabs
 use Rattle.core_table.specs.declared.content.Content.{Content}
@@ -14,7 +15,7 @@ use Rattle.core_change.specs.declared.turn_change.TurnChange.{TurnChange}
 use Rattle.core_change.specs.declared.turn_change.TurnChange.TheVariants as turns
 
 abbrev pub MayTry : State Content → ℕ → Tab Content → Type 0
-MayTry s slot tab = (holds_turn tab ≡ false) × (OfReader (MayRead s slot) tab ⊎ OfWriter (MayWrite slot) tab)
+MayTry s slot tab = (holds_turn tab ≡ false) × (OfReader (MayRead s slot) tab ⊎ OfWriter (MayWrite slot) tab ⊎ OfFreer (MayWipe slot) tab)
 
 -- the tab t has the turn where the turn word was 0
 abbrev pub tried_turn : ℕ → ℕ → ℕ → TurnChange
@@ -31,3 +32,8 @@ ended_tabs t (Reading r) Then.GoesOn = tabs.Becomes t (GoesOn (r.place + 1) (nex
 ended_tabs t (Reading r) _ = tabs.Same
 ended_tabs t (Writing w) then = tabs.Becomes t (Leaves (was_written w.turn) (was_settled w.turn))
 ended_tabs t tab then = tabs.Same
+
+-- what its pass sees then
+abbrev pub ended_sight : Tab Content → ℕ → Then → Option Sight
+ended_sight (Freeing f) slot Then.Wiped = Some (Sight.Wiped f.anchor f.version slot)
+ended_sight tab slot then = None

@@ -1,11 +1,11 @@
 // Steps on the cell of a tab that has the turn.
-ghost use Rattle.std.specs.Prelude.{◌≡◌, ◌<◌, ◌∷◌, Some, true, false, slice_get, IfOk, IsErrOf, MatchOption};
+ghost use Rattle.std.specs.Prelude.{◌≡◌, ◌≤◌, ◌∷◌, Some, true, false, slice_get, IfOk, IsErrOf, MatchOption};
 ghost use Rattle.core_model.specs.declared.moves.Move.TheVariants as move;
-ghost use Rattle.core_model.specs.declared.tab.Tab.TheVariants.{Writing};
-ghost use Rattle.core_model.specs.Tabs.{tab_at, inner, OfWriter};
+ghost use Rattle.core_model.specs.declared.tab.Turn.TheVariants.{NoTurn};
+ghost use Rattle.core_model.specs.Tabs.{tab_at, turn_of, inner, IsPass};
 ghost use Rattle.core_model.specs.Table.{Allowed};
-ghost use Rattle.core_model.specs.CellMoves.{Holds, is_kept, is_nothing, rewritten, settled_by_write, settled_by_sync};
-ghost use Rattle.core_slots.specs.Cells.{cell_change, written_turn, synced_turn};
+ghost use Rattle.core_model.specs.CellMoves.{Holds, MayChange, is_kept, is_nothing, rewritten, settled_by_write, settled_by_sync};
+ghost use Rattle.core_slots.specs.Cells.{cell_change, content_of, written_turn, synced_turn};
 ghost use Rattle.core_table.specs.Inside.{setting, state};
 ghost use Rattle.core_change.specs.Planned.{IsScene, Plans};
 
@@ -14,7 +14,7 @@ use core_change::{
     ChainChange, Change, NotesChange, Refusal, TabChange, TabsChange, TurnChange, bare_addition,
     tab_at,
 };
-use core_model::{Cell, INNER_TAB, Kind, Outcome, Row, Tab, Turn, View, Writer};
+use core_model::{Cell, Kind, Outcome, Row, Tab, Turn, View};
 use core_table::{Content, Opening, Table};
 use std::alloc::{AllocError, Global};
 
@@ -82,17 +82,42 @@ pub fn cell_in(
     Ok(cell_change(Kind::PutBack, tab, slot, TabChange::Moves(false)))
 }
 
-/// The writing tab of this number, where it has this slot's cell out of its place.
-fn writer_with_cell(view: &View<Content>, tab: u8, slot: u32) -> Option<&Writer<Content>>
+/// The writing or freeing tab of this number, where it has this slot's cell out of its place.
+fn tab_with_cell(view: &View<Content>, tab: u8, slot: u32) -> Option<&Tab<Content>>
+    requires { IsPass view.now }
     ensures { MatchOption result
-        (tab < inner → OfWriter (λ w. Unit {0}) (tab_at view.now tab) → Holds slot true (tab_at view.now tab) → ⊥)
-        (λ writer. (tab < inner) × (slice_get view.now.tabs tab ≡ Some (Writing writer.now)) × Holds slot true (Writing writer.now)) }
+        (tab ≤ inner → MayChange (tab_at view.now tab) → Holds slot true (tab_at view.now tab) → ⊥)
+        (λ now. (slice_get view.now.tabs tab ≡ Some now.now) × MayChange now.now × Holds slot true now.now) }
 {
     let now = tab_at(view, tab)?;
-    let Tab::Writing(writer) = now else {
-        return None;
-    };
-    (tab < INNER_TAB && holds(now, slot, true)).then_some(writer)
+    let may_change = matches!(now, Tab::Writing(_) | Tab::Freeing(_));
+    (may_change && holds(now, slot, true)).then_some(now)
+}
+
+/// The turn of a tab, if it is one that may have one.
+fn turn_of(tab: &Tab<Content>) -> Option<&Turn<Content>>
+    ensures { MatchOption result (turn_of tab.now ≡ NoTurn) (λ turn. turn.now ≡ turn_of tab.now) }
+{
+    match tab {
+        Tab::Reading(reader) => Some(&reader.turn),
+        Tab::Writing(writer) => Some(&writer.turn),
+        Tab::Freeing(freer) => Some(&freer.turn),
+        _ => None,
+    }
+}
+
+/// What a tab writes: the piece that it chose, or of a freeing tab the blank content.
+fn content_of(tab: &Tab<Content>) -> Option<Content>
+    ensures { result ≡ content_of tab.now }
+{
+    match tab {
+        Tab::Writing(writer) => match writer.chosen {
+            Some(piece) => Some(Content::Offered(piece)),
+            None => None,
+        },
+        Tab::Freeing(_) => Some(Content::Blank),
+        _ => None,
+    }
 }
 
 /// A copy of the contents, with this one in front.
@@ -109,21 +134,20 @@ fn with_content(
     Ok(Row::from_vec(all))
 }
 
-/// The cell that a writing tab has after a write of the piece that it chose, where it is another one.
+/// The cell that a tab has after a write of its content, where it is another one.
 fn written_cell(
     alloc: Global,
-    writer: &Writer<Content>,
+    tab: &Tab<Content>,
     outcome: Outcome,
 ) -> Result<Option<Cell<Content>>, AllocError>
-    ensures { IfOk result (λ cell. rewritten writer.now.turn (is_kept outcome) (settled_by_write (Writing writer.now) outcome) cell ≡ written_turn writer.now outcome) }
+    ensures { IfOk result (λ cell. rewritten (turn_of tab.now) (is_kept outcome) (settled_by_write tab.now outcome) cell ≡ written_turn tab.now outcome) }
 {
-    let Turn::Has(hold) = &writer.turn else {
+    let Some(Turn::Has(hold)) = turn_of(tab) else {
         return Ok(None);
     };
-    let Some(piece) = writer.chosen else {
+    let Some(content) = content_of(tab) else {
         return Ok(None);
     };
-    let content = Content::Offered(piece);
     let now = match outcome {
         Outcome::Nothing => return Ok(None),
         Outcome::Kept | Outcome::KeptUnsure => content,
@@ -142,20 +166,27 @@ fn is_kept(outcome: Outcome) -> bool
 
 /// Whether a crash leaves the cell one content after a write: only where it did so before and the write left
 /// nothing.
-fn settled_by_write(writer: &Writer<Content>, outcome: Outcome) -> bool
-    ensures { result ≡ settled_by_write (Writing writer.now) outcome }
+fn settled_by_write(tab: &Tab<Content>, outcome: Outcome) -> bool
+    ensures { result ≡ settled_by_write tab.now outcome }
 {
-    was_settled(&writer.turn) && matches!(outcome, Outcome::Nothing)
+    match turn_of(tab) {
+        Some(turn) => was_settled(turn) && matches!(outcome, Outcome::Nothing),
+        None => false,
+    }
 }
 
 /// Whether it leaves it one content after a sync.
-fn settled_by_sync(writer: &Writer<Content>, is_kept: bool) -> bool
-    ensures { result ≡ settled_by_sync (Writing writer.now) is_kept }
+fn settled_by_sync(tab: &Tab<Content>, is_kept: bool) -> bool
+    ensures { result ≡ settled_by_sync tab.now is_kept }
 {
-    was_settled(&writer.turn) || is_kept
+    match turn_of(tab) {
+        Some(turn) => was_settled(turn) || is_kept,
+        None => is_kept,
+    }
 }
 
-/// A writing tab writes the piece that it chose into the cell that it has out.
+/// A tab writes its content into the cell that it has out: a writing one the piece that it chose, a freeing one the
+/// blank content.
 pub fn write(
     alloc: Global,
     opening: &Opening,
@@ -172,25 +203,24 @@ pub fn write(
 {
     let _ = opening;
     let _ = table;
-    let Some(writer) = writer_with_cell(view, tab, slot) else {
+    let Some(now) = tab_with_cell(view, tab, slot) else {
         return Err(Refusal::NotAllowed);
     };
-    let cell = written_cell(alloc, writer, outcome)?;
-    let is_settled = settled_by_write(writer, outcome);
+    let cell = written_cell(alloc, now, outcome)?;
+    let is_settled = settled_by_write(now, outcome);
     let change = TabChange::Rewrites(cell, is_kept(outcome), is_settled);
     Ok(cell_change(Kind::Wrote, tab, slot, change))
 }
 
-/// The cell that a writing tab has after a sync, where it is another one: a crash may leave only what is
-/// there.
+/// The cell that a tab has after a sync, where it is another one: a crash may leave only what is there.
 fn synced_cell(
     alloc: Global,
-    writer: &Writer<Content>,
+    tab: &Tab<Content>,
     is_synced: bool,
 ) -> Result<Option<Cell<Content>>, AllocError>
-    ensures { IfOk result (λ cell. rewritten writer.now.turn false (settled_by_sync (Writing writer.now) is_synced) cell ≡ synced_turn writer.now is_synced) }
+    ensures { IfOk result (λ cell. rewritten (turn_of tab.now) false (settled_by_sync tab.now is_synced) cell ≡ synced_turn tab.now is_synced) }
 {
-    let Turn::Has(hold) = &writer.turn else {
+    let Some(Turn::Has(hold)) = turn_of(tab) else {
         return Ok(None);
     };
     if !is_synced {
@@ -205,7 +235,7 @@ fn synced_cell(
     }))
 }
 
-/// A writing tab syncs the cell that it has out. Where that fails nothing changes.
+/// A writing or freeing tab syncs the cell that it has out. Where that fails nothing changes.
 pub fn sync(
     alloc: Global,
     opening: &Opening,
@@ -222,11 +252,11 @@ pub fn sync(
 {
     let _ = opening;
     let _ = table;
-    let Some(writer) = writer_with_cell(view, tab, slot) else {
+    let Some(now) = tab_with_cell(view, tab, slot) else {
         return Err(Refusal::NotAllowed);
     };
-    let cell = synced_cell(alloc, writer, is_kept)?;
-    let is_settled = settled_by_sync(writer, is_kept);
+    let cell = synced_cell(alloc, now, is_kept)?;
+    let is_settled = settled_by_sync(now, is_kept);
     let change = TabChange::Rewrites(cell, false, is_settled);
     Ok(cell_change(Kind::Synced, tab, slot, change))
 }

@@ -17,12 +17,12 @@ use core_change::{
     ChainChange, Change, NotesChange, Refusal, TabChange, TabsChange, TurnChange, WordChange,
     tab_at, word_addition,
 };
-use core_model::{Freer, INNER_TAB, Kind, Place, Row, Tab, View, Writer};
+use core_model::{Freer, INNER_TAB, Kind, Place, Row, Tab, Turn, View, Writer};
 use core_table::{Content, Opening, Table};
 use std::alloc::{AllocError, Global};
 
 /// Whether the slot is the first of the rest of a freeing tab.
-pub(crate) fn is_front(freer: &Freer, slot: u32) -> bool
+pub(crate) fn is_front(freer: &Freer<Content>, slot: u32) -> bool
     ensures { IsTrue result ↔ IsFront slot freer.now }
 {
     match freer.rest.as_slice() {
@@ -32,7 +32,7 @@ pub(crate) fn is_front(freer: &Freer, slot: u32) -> bool
 }
 
 /// The inner tab, where this slot may leave its rest.
-fn loosening_freer(view: &View<Content>, slot: u32) -> Option<&Freer>
+fn loosening_freer(view: &View<Content>, slot: u32) -> Option<&Freer<Content>>
     ensures { MatchOption result
         (OfFreer (MayLoosen slot) (tab_at view.now inner) → ⊥)
         (λ freer. (slice_get view.now.tabs inner ≡ Some (Freeing freer.now)) × MayLoosen slot freer.now) }
@@ -40,7 +40,8 @@ fn loosening_freer(view: &View<Content>, slot: u32) -> Option<&Freer>
     let Tab::Freeing(freer) = tab_at(view, INNER_TAB)? else {
         return None;
     };
-    (is_front(freer, slot) && freer.is_looked).then_some(freer)
+    let may_loosen = is_front(freer, slot) && freer.is_looked && matches!(freer.turn, Turn::NoTurn);
+    may_loosen.then_some(freer)
 }
 
 /// A copy of the slots but the first.
@@ -55,7 +56,11 @@ pub(crate) fn rest_of(alloc: Global, slots: &Row<u32>) -> Result<Row<u32>, Alloc
 }
 
 /// The slot is loose at the inner tab.
-fn loosened_change(alloc: Global, freer: &Freer, slot: u32) -> Result<TabsChange, AllocError>
+fn loosened_change(
+    alloc: Global,
+    freer: &Freer<Content>,
+    slot: u32,
+) -> Result<TabsChange, AllocError>
     ensures { IfOk result (λ change. change ≡ loosened_change freer.now slot) }
 {
     let rest = rest_of(alloc, &freer.rest)?;
@@ -66,7 +71,7 @@ fn loosened_change(alloc: Global, freer: &Freer, slot: u32) -> Result<TabsChange
 /// A writing tab has the slot.
 fn handed_change(
     alloc: Global,
-    freer: &Freer,
+    freer: &Freer<Content>,
     tab: u8,
     writer: &Writer<Content>,
     slot: u32,

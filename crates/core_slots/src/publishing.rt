@@ -55,7 +55,7 @@ fn chosen_piece(writer: &Writer<Content>, slot: u32, link: Link) -> Option<Piece
 }
 
 /// Whether this is the only one of these contents.
-fn is_alone(content: Content, contents: &[Content]) -> bool
+pub(crate) fn is_alone(content: Content, contents: &[Content]) -> bool
     ensures { IsTrue result ↔ (contents.now ≡ content ∷ []) }
 {
     match contents {

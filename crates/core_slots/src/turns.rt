@@ -6,19 +6,20 @@ ghost use Rattle.core_model.specs.declared.tab.Tab.TheVariants.{Reading};
 ghost use Rattle.core_model.specs.Cells.{CellsSound};
 ghost use Rattle.core_model.specs.Tabs.{anchor_of, is_reading};
 ghost use Rattle.core_model.specs.Table.{Allowed};
-ghost use Rattle.core_model.specs.CellMoves.{EndsSo, MayRead, MayWrite, Holds, next_slot, was_written, was_settled};
+ghost use Rattle.core_model.specs.CellMoves.{EndsSo, HasWiped, MayRead, MayWipe, MayWrite, Holds, next_slot, was_written, was_settled};
 ghost use Rattle.core_table.specs.declared.content.Content.{Content as ContentOf};
 ghost use Rattle.core_table.specs.Inside.{setting, state};
 ghost use Rattle.core_change.specs.Planned.{IsScene, Plans};
-ghost use Rattle.core_slots.specs.Trying.{MayTry, tried_turn, tried_tabs, ended_tabs};
+ghost use Rattle.core_slots.specs.Trying.{MayTry, tried_turn, tried_tabs, ended_sight, ended_tabs};
 
 use crate::links::is_next;
-use crate::publishing::is_first;
+use crate::loosening::is_front;
+use crate::publishing::{is_alone, is_first};
 use core_change::{
     ChainChange, Change, NotesChange, Refusal, TabChange, TabsChange, TurnChange, WordChange,
     tab_at, word_addition,
 };
-use core_model::{Kind, Place, Reader, Tab, Then, Turn, View, Writer};
+use core_model::{Freer, Kind, Place, Reader, Sight, Tab, Then, Turn, View, Writer};
 use core_table::{Content, Opening, Table};
 use link_word::Link;
 
@@ -37,6 +38,13 @@ fn may_write(writer: &Writer<Content>, slot: u32) -> bool
     is_first(&writer.reserved, slot) && writer.logged_in == Some(slot)
 }
 
+/// Whether a freeing tab may wipe this slot, the first of a doomed entry of which no slot has left the chain.
+fn may_wipe(freer: &Freer<Content>, slot: u32) -> bool
+    ensures { IsTrue result ↔ MayWipe slot freer.now }
+{
+    is_front(freer, slot) && freer.is_freeing && freer.is_whole && freer.is_doomed
+}
+
 /// Whether a tab may try to take the turn at this slot.
 fn may_try(table: &Table, tab: &Tab<Content>, slot: u32) -> bool
     requires { is_reading tab.now ≡ true → anchor_of tab.now < length table.now.chains.items }
@@ -47,6 +55,7 @@ fn may_try(table: &Table, tab: &Tab<Content>, slot: u32) -> bool
             matches!(reader.turn, Turn::NoTurn) && may_read(table, reader, slot)
         }
         Tab::Writing(writer) => matches!(writer.turn, Turn::NoTurn) && may_write(writer, slot),
+        Tab::Freeing(freer) => matches!(freer.turn, Turn::NoTurn) && may_wipe(freer, slot),
         _ => false,
     }
 }
@@ -82,7 +91,7 @@ fn tried_tabs(tab: u8, now: &Tab<Content>, found: u64) -> TabsChange
     TabsChange::Becomes(tab, TabChange::Leaves(is_written, is_settled))
 }
 
-/// A reading or writing tab tries to take the turn at a slot: it has it, and the cell, where no tab had it.
+/// A reading, writing or freeing tab tries to take the turn at a slot: it has it, and the cell, where no tab had it.
 pub fn try_turn(
     opening: &Opening,
     table: &Table,
@@ -124,6 +133,7 @@ pub(crate) fn holds(tab: &Tab<Content>, slot: u32, is_out: bool) -> bool
     let turn = match tab {
         Tab::Reading(reader) => &reader.turn,
         Tab::Writing(writer) => &writer.turn,
+        Tab::Freeing(freer) => &freer.turn,
         _ => return false,
     };
     match turn {
@@ -184,17 +194,49 @@ fn ended_tabs(opening: &Opening, tab: u8, now: &Tab<Content>, then: Then) -> Tab
     }
 }
 
-/// Whether a tab may end its turn so: none but a freeing one may say that it wiped the slot.
-fn ends_so(tab: &Tab<Content>, then: Then) -> bool
-    ensures { IsTrue result ↔ EndsSo then tab.now }
+/// Whether a crash leaves the cell that a freeing tab has blank, and nothing else.
+fn has_wiped(opening: &Opening, freer: &Freer<Content>) -> bool
+    ensures { IsTrue result ↔ HasWiped (setting opening.now) freer.now }
 {
-    match then {
-        Then::Stays | Then::GoesOn => true,
-        Then::Wiped => matches!(tab, Tab::Freeing(_)),
+    let _ = opening;
+    match &freer.turn {
+        Turn::Has(hold) => is_alone(Content::Blank, hold.cell.possible.as_slice()),
+        Turn::NoTurn => false,
     }
 }
 
-/// A tab gives the turn back, and the cell is home then. A reading tab may go on to the next slot.
+/// Whether a tab may end its turn so: none but a freeing one may say that it wiped the slot.
+fn ends_so(opening: &Opening, tab: &Tab<Content>, then: Then) -> bool
+    ensures { IsTrue result ↔ EndsSo (setting opening.now) then tab.now }
+{
+    match then {
+        Then::Stays | Then::GoesOn => true,
+        Then::Wiped => match tab {
+            Tab::Freeing(freer) => has_wiped(opening, freer),
+            _ => false,
+        },
+    }
+}
+
+/// What the pass sees where a tab ends its turn so: that the slot was wiped, if the tab says so.
+fn ended_sight(tab: &Tab<Content>, slot: u32, then: Then) -> Option<Sight>
+    ensures { result ≡ ended_sight tab.now slot then }
+{
+    let Tab::Freeing(freer) = tab else {
+        return None;
+    };
+    let Then::Wiped = then else {
+        return None;
+    };
+    Some(Sight::Wiped {
+        anchor: freer.anchor,
+        version: freer.version,
+        slot,
+    })
+}
+
+/// A tab gives the turn back, and the cell is home then. A reading tab may go on to the next slot, and a freeing
+/// one may say that it wiped the slot.
 pub fn end_turn(
     opening: &Opening,
     table: &Table,
@@ -215,12 +257,13 @@ pub fn end_turn(
     if !holds(now, slot, false) {
         return Err(Refusal::NotAllowed);
     }
-    if !ends_so(now, then) {
+    if !ends_so(opening, now, then) {
         return Err(Refusal::NotAllowed);
     }
     let place = Place::Turn(slot);
     let index = opening.index_of(place);
     let found = table.words[index];
+    let sight = ended_sight(now, slot, then);
     Ok(Change {
         answer: found,
         word: Some(WordChange { index, left: 0 }),
@@ -228,7 +271,7 @@ pub fn end_turn(
         tabs: ended_tabs(opening, tab, now, then),
         chain: ChainChange::Same,
         used: None,
-        addition: word_addition(Kind::Ended, place, slot, found, 0, None),
+        addition: word_addition(Kind::Ended, place, slot, found, 0, sight),
         notes: NotesChange::Same,
     })
 }

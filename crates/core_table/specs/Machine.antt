@@ -6,7 +6,7 @@ use Rattle.core_model.specs.declared.chain.Chain.{Chain}
 use Rattle.core_model.specs.Layout.{Setting}
 use Rattle.core_model.specs.State.{State}
 use Rattle.core_table.specs.declared.content.Content.{Content}
-use Rattle.core_table.specs.declared.content.Content.TheVariants.{Opened, Offered}
+use Rattle.core_table.specs.declared.content.Content.TheVariants.{Blank, Opened, Offered}
 
 pub record Machine : Type 0 where
   pub anchors : ℕ
@@ -24,7 +24,7 @@ opened_from slot zero = []
 opened_from slot (suc n) = Opened slot ∷ opened_from (slot + 1) n
 
 abbrev pub setting_of : Machine → Setting Content
-setting_of m = record { anchors = m.anchors; slots = m.slots; passes = m.passes; words = m.opening; contents = opened_from 0 m.slots; image = Offered }
+setting_of m = record { anchors = m.anchors; slots = m.slots; passes = m.passes; words = m.opening; contents = opened_from 0 m.slots; image = Offered; blank = Blank }
 
 abbrev pub state_of : Machine → State Content
 state_of m = record { words = m.words; places = m.places; views = m.views; chains = m.chains }

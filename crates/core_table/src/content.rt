@@ -7,4 +7,6 @@ pub enum Content {
     Opened { slot: u32 },
     /// A part of an offered response.
     Offered(Piece),
+    /// What a slot holds that was wiped.
+    Blank,
 }

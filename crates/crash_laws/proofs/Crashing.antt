@@ -1,4 +1,4 @@
--- A file that a crash may leave has in each slot what it had at the opening, or a piece that was logged for it.
+-- A file that a crash may leave has in each slot what it had at the opening, or a piece that was logged for it, or the slot is not sane.
 use Rattle.std.proofs.Common.{◌≡◌, ◌⊎◌, inl, inr, ⊎_elim, ℕ, ◌+◌, ◌<◌, ◌≤◌, ◌^◌, ◌==◌, List, length, sym, refl, ap, ◌∙◌, subst, arith, cond, Contains}
 use mathlib.Core.Option.{some}
 use mathlib.Core.Logic.{dite}
@@ -29,7 +29,7 @@ use Rattle.core_log.specs.Logged.{Agree, CellsLogged, HasLogged, IsKnown, LinksS
 use Rattle.crash_entries.specs.Parts.{HasPart, IsMixed, IsOfPart, KeepsTo, Offers, Part, PartsStand}
 use Rattle.crash_entries.proofs.Mixed.{known_entry, wins}
 use Rattle.crash_entries.proofs.Telling.{Tools}
-use Rattle.crash_laws.specs.Left.{IsFileOf, IsLeftWhile, IsPossible, IsWholeOffer, IsWriting, LogKeeps, logged_part}
+use Rattle.crash_laws.specs.Left.{IsFileOf, IsLeftWhile, IsPossible, IsWholeOffer, IsWriting, LogKeeps, logged_part, IsWiping}
 
 -- a part of a file that was logged
 pub record IsPart (log : List LoggedPiece) (p : Part) : Type 0 where
@@ -75,12 +75,15 @@ module _ {X : Type 0} (t : Tools) (slot : ℕ) (o : Offers) (k : Setting X) (b :
       where
         known : (j : ℕ) (x : X) → IsKnown k log j x → image_at images j ≡ b x → (image_at images j ≡ image_at was j) ⊎ (HasPart slot o (IsPart log) (image_at images j) j ⊎ ¬ IsSaneAt slot images j)
         known j x (inl e) is = inl (is ∙ sym (file.content j x e))
-        known j x (inr q) is = inr (inl (a_part j q.0 q.1 (image_at images j) (is ∙ ap b q.2)))
+        known j x (inr (inl q)) is = inr (inl (a_part j q.0 q.1 (image_at images j) (is ∙ ap b q.2)))
+        known j x (inr (inr e)) is = inr (inr (file.blank images j (is ∙ ap b e)))
 
         each : (j : ℕ) → j < k.slots → (image_at images j ≡ image_at was j) ⊎ (HasPart slot o (IsPart log) (image_at images j) j ⊎ ¬ IsSaneAt slot images j)
         each j lt = let c = a_cell j lt in ⊎_elim
             (λ (q : IsPossible b c.0 (image_at images j)). known j q.0 (cells.possible j c.0 q.0 c.1 q.1) q.2)
+            (⊎_elim
             (λ (q : IsWriting k b s log j (image_at images j)). inr (inl (a_part j q.piece q.logged (image_at images j) q.bytes_are)))
+            (λ (q : IsWiping k b s j (image_at images j)). inr (inr (file.blank images j q.bytes_are))))
             (left.each j c.0 lt c.1)
 
     pub low : length was ≤ 1048576

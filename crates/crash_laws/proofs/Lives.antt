@@ -41,6 +41,7 @@ module _ (X : Type 0) (t : Tools) (slot : ℕ) (o : Offers) (sized : slot < 2 ^ 
       many = l.many;
       content = l.contents;
       image = l.image;
+      blank = l.blank;
       greatest = λ j sane. let g = l.is_rebuilt.greatest.above j sane in
           let c = ap (λ (ws : List ℕ). word_in l.setting ws Counter) (sym l.is_opened.words) ∙ l.is_opened.counter in omega arith;
     }

@@ -12,6 +12,7 @@ use Rattle.rebuild_model.specs.Entry.{Entry, IsComplete}
 use Rattle.rebuild_model.specs.Rebuilt.{IsWinner}
 use Rattle.entry_cut.specs.Content.{Cut, count, image}
 use Rattle.entry_cut.specs.Standing.{IsWritable, Stand, StandFrom}
+use Rattle.core_model.specs.declared.tab.Tab.TheVariants.{Freeing}
 use Rattle.core_model.specs.declared.view.LoggedPiece.{LoggedPiece}
 use Rattle.core_model.specs.Layout.{Setting, word_in}
 use Rattle.link_word.specs.Map.{taken_in}
@@ -28,7 +29,7 @@ use Rattle.core_model.proofs.Lists.{at_length, sum_mono}
 use Rattle.core_model.proofs.Telling.{told_out}
 use mathlib.Core.Logic.{dite}
 use native.Mathlib.Decide.{ℕ_discrete}
-use Rattle.core_model.proofs.CellsTab.{written_unpublished}
+use Rattle.core_model.proofs.CellsTab.{written_unpublished, held_unpublished}
 use Rattle.core_model.proofs.FollowsKept.{at_times}
 use Rattle.core_model.proofs.SlotFrame.{published_few, used_few}
 use Rattle.core_model.proofs.Spelling.{distinct, suc_is}
@@ -36,8 +37,8 @@ use Rattle.core_log.specs.Logged.{CellsLogged, IsFast, LinksStand, SettledStand}
 use Rattle.crash_entries.specs.Parts.{KeepsTo, Offers, cut_of, next_number}
 use Rattle.crash_entries.proofs.Depends.{complete_in}
 use Rattle.crash_entries.proofs.Telling.{Tools}
-use Rattle.crash_laws.specs.Left.{IsFileOf, IsLeftWhile, IsPossible, IsWriting, LogKeeps, StandsNew, StandsOld, entry_at, part_at, piece_at}
-use Rattle.crash_laws.proofs.Crashing.{a_cell, kept, low}
+use Rattle.crash_laws.specs.Left.{IsFileOf, IsLeftWhile, IsPossible, IsWriting, LogKeeps, StandsNew, StandsOld, entry_at, part_at, piece_at, IsWiping}
+use Rattle.crash_laws.proofs.Crashing.{a_cell, kept}
 
 at_in : (xs : List ℕ) (i d : ℕ) → i < length xs → get_elem? xs i ≡ some (get_or xs i d)
 at_in [] i d lt = absurd (omega arith)
@@ -102,7 +103,9 @@ module _ {X : Type 0} (t : Tools) (slot : ℕ) (o : Offers) (k : Setting X) (b :
   pub left_content : SettledStand k s log → ((place : ℕ) → place < length slots → IsFast k s log a place) → HasContents
   left_content settled all_fast place j e = let fast = all_fast place (at_length slots place j e) in let c = a_cell t slot o k b was s log sized few file so cells links keeps j (inside place j e) in ⊎_elim
       (λ (q : IsPossible b c.0 (image_at images j)). (q.0, settled a place j c.0 q.0 lt e c.1 q.1 fast, q.2))
+      (⊎_elim
       (λ (q : IsWriting k b s log j (image_at images j)). absurd (let z = written_unpublished k s q.i q.view so q.at q.t q.writer q.writes j q.reserved a in let y = at_times slots place j e in omega arith))
+      (λ (q : IsWiping k b s j (image_at images j)). absurd (let r = q.rests in let z = held_unpublished k s q.i q.view so q.at q.t (Freeing q.freer) q.frees j (omega arith) a in let y = at_times slots place j e in omega arith)))
       (left.each j c.0 (inside place j e) c.1)
 
   -- an entry of the opening has at most the version that the counter had

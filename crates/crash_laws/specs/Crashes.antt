@@ -3,7 +3,7 @@ use Rattle.std.specs.Prelude.{◌≡◌, ◌≤◌, ℕ, List, [], ◌∷◌, le
 use Rattle.rebuild_model.specs.declared.rebuilt.Rebuilt.{Rebuilt}
 use mathlib.Core.Option.{some}
 use lib.ListN.{get_elem?}
-use Rattle.rebuild_model.specs.Image.{image_at}
+use Rattle.rebuild_model.specs.Image.{image_at, IsSaneAt}
 use Rattle.rebuild_model.specs.Rebuilt.{IsRebuilt}
 use Rattle.core_model.specs.declared.tab.Piece.{Piece}
 use Rattle.core_model.specs.declared.view.LoggedPiece.{LoggedPiece}
@@ -23,6 +23,7 @@ pub record IsLife (X : Type 0) (slot : ℕ) (o : Offers) (before after : List (L
   pub contents : (j : ℕ) (x : X) → get_elem? setting.contents j ≡ some x → image_at before j ≡ bytes x
   pub few : setting.slots ≤ 1048576
   pub image : (j a : ℕ) (p : Piece) → bytes (setting.image p) ≡ bytes_of slot o (part_of j a p)
+  pub blank : (images : List (List ℕ)) (j : ℕ) → image_at images j ≡ bytes setting.blank → ¬ IsSaneAt slot images j
   pub rebuilt : Rebuilt
   pub opened : State X
   pub is_setting : IsSetting setting

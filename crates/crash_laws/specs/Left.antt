@@ -5,9 +5,10 @@ use Rattle.lock_word.specs.Words.{epoch_of, version_of}
 use Rattle.link_word.specs.declared.link.Link.TheVariants.{Last}
 use Rattle.entry_cut.specs.Standing.{entry_of}
 use Rattle.rebuild_model.specs.Rebuilt.{IsWinner}
+use Rattle.core_model.specs.declared.tab.Freer.{Freer}
 use Rattle.core_model.specs.declared.view.LoggedPiece.{LoggedPiece}
 use Rattle.core_model.specs.declared.moves.Side.TheVariants.{Offer}
-use Rattle.core_model.specs.declared.tab.Tab.TheVariants.{Writing}
+use Rattle.core_model.specs.declared.tab.Tab.TheVariants.{Writing, Freeing}
 use Rattle.core_model.specs.declared.tab.Writer.{Writer}
 use Rattle.core_model.specs.declared.view.View.{View}
 use Rattle.core_model.specs.Chains.{first_of, link_at, times}
@@ -31,12 +32,13 @@ part_of slot anchor p = record { slot = slot; anchor = anchor; offer = p.offer; 
 abbrev pub logged_part : LoggedPiece → Part
 logged_part l = part_of l.slot l.anchor l.piece
 
--- The setting is over a file of such slots, where each content has bytes: pieces are their images, and no sane slot of the file has a greater
--- version than the counter.
+-- The setting is over a file of such slots, where each content has bytes: pieces are their images, a slot with the blank content is not sane, and
+-- no sane slot of the file has a greater version than the counter.
 pub record IsFileOf {X : Type 0} (slot : ℕ) (o : Offers) (k : Setting X) (b : X → List ℕ) (file : List (List ℕ)) : Type 0 where
   pub many : length file ≡ k.slots
   pub content : (j : ℕ) (x : X) → get_elem? k.contents j ≡ some x → image_at file j ≡ b x
   pub image : (j a : ℕ) (p : Piece) → b (k.image p) ≡ bytes_of slot o (part_of j a p)
+  pub blank : (images : List (List ℕ)) (j : ℕ) → image_at images j ≡ b k.blank → ¬ IsSaneAt slot images j
   pub greatest : (j : ℕ) → IsSaneAt slot file j → (header_at file j).version ≤ opening_counter k
 
 -- each logged piece keeps to its offer, whose number is of no slot of the opening
@@ -60,10 +62,21 @@ pub record IsWriting {X : Type 0} (k : Setting X) (b : X → List ℕ) (s : Stat
   pub writes : get_elem? view.tabs t ≡ some (Writing writer)
   pub reserved : 0 < times slot writer.reserved
 
--- each slot has a content that a crash may leave of its cell, or a piece that is being written: any number of slots at once
+-- the bytes are the blank content's, and the slot is in the chain that a tab gives back, which may be wiping it now
+pub record IsWiping {X : Type 0} (k : Setting X) (b : X → List ℕ) (s : State X) (slot : ℕ) (bytes : List ℕ) : Type 0 where
+  pub bytes_are : bytes ≡ b k.blank
+  pub i : ℕ
+  pub view : View X
+  pub at : get_elem? s.views i ≡ some view
+  pub t : ℕ
+  pub freer : Freer X
+  pub frees : get_elem? view.tabs t ≡ some (Freeing freer)
+  pub rests : 0 < times slot freer.rest
+
+-- each slot has a content that a crash may leave of its cell, or a piece that is being written, or it is being wiped: any number of slots at once
 pub record IsLeftWhile {X : Type 0} (k : Setting X) (b : X → List ℕ) (s : State X) (log : List LoggedPiece) (images : List (List ℕ)) : Type 0 where
   pub many : length images ≡ k.slots
-  pub each : (slot : ℕ) (c : Cell X) → slot < k.slots → IsCell s slot c → IsPossible b c (image_at images slot) ⊎ IsWriting k b s log slot (image_at images slot)
+  pub each : (slot : ℕ) (c : Cell X) → slot < k.slots → IsCell s slot c → IsPossible b c (image_at images slot) ⊎ IsWriting k b s log slot (image_at images slot) ⊎ IsWiping k b s slot (image_at images slot)
 
 -- an entry is a whole response of an offer, whose number is of no slot
 pub record IsWholeOffer (o : Offers) (slots : ℕ) (e : Entry) : Type 0 where

@@ -205,10 +205,10 @@ module _ (g : Ground (List ℕ)) (lone : IsLone g) (rename : ℕ → ℕ) where
 
         of_one : (q : Place) → index g.setting q ≡ index g.setting (Anchor a) → ((slot : ℕ) × (q ≡ Link slot) × Contains freed.freer.rest slot) ⊎ ((freed.freer.is_freeing ≡ true) × (q ≡ Anchor freed.freer.anchor)) → ⊥
         of_one q e (inl x) = no_link x.0 (ap (index g.setting) (sym x.1) ∙ e)
-        of_one q e (inr x) = false≢true (sym (ap (λ (f : Freer). f.is_freeing) freer_is) ∙ x.0)
+        of_one q e (inr x) = false≢true (sym (ap (λ (f : Freer (List ℕ)). f.is_freeing) freer_is) ∙ x.0)
 
     pub freed_else : (p : Plain) → FewReaders p no_guests → KnowsBut g rename v p no_guests a → KnowsBut g rename w p no_guests a
-    freed_else p few h = freed_but g rename lone v w p no_guests a few freed (ap (λ (f : Freer). f.anchor) freer_is) h
+    freed_else p few h = freed_but g rename lone v w p no_guests a few freed (ap (λ (f : Freer (List ℕ)). f.anchor) freer_is) h
 
   -- The entry is named.
 

@@ -262,7 +262,7 @@ module _ (g : Ground (List ℕ)) (lone : IsLone g) (s : State (List ℕ)) (i : �
     tail_is = (stands a lt).tails ∙ ap (λ z. cond (z == 4) (slots_of_link c.end) []) stage_here
 
     -- A slot of it is not being given back, and no tab that writes at another anchor has it.
-    pub not_resting : (x j t : ℕ) (f : Freer) → Contains (c.slots ++ slots_of_link c.end) x → IsTab s j t (Freeing f) → Contains f.rest x → ⊥
+    pub not_resting : (x j t : ℕ) (f : Freer (List ℕ)) → Contains (c.slots ++ slots_of_link c.end) x → IsTab s j t (Freeing f) → Contains f.rest x → ⊥
     not_resting x j t f m tab rests = let y = spot_of x m in let one = one_spot k s rule.sound.anchors.shaped rule.sound.slots x y.there in
         differ y.spot (one.only y.spot y.is_in ∙ sym (one.only (Resting j t) (f, tab, rests))) y.of
       where

@@ -46,7 +46,7 @@ module _ (g : Ground (List ℕ)) (lone : IsLone g) (s : State (List ℕ)) (i : �
   own_tabs = sum_only (count slots_held) s.views i v at (λ j u there ne. ap (sum_by slots_held) (told.other_views g lone s i v rule at pass j u there ne))
 
   module _ (free : InnerIsFree v) where
-    none_frees : (t : ℕ) (f : Freer) → get_elem? v.tabs t ≡ some (Freeing f) → ⊥
+    none_frees : (t : ℕ) (f : Freer (List ℕ)) → get_elem? v.tabs t ≡ some (Freeing f) → ⊥
     none_frees t f there = let at_inner = (rule.sound.anchors.tabs i v at t (Freeing f) there).1 in
         false≢true (ap is_free (sym (at_or v.tabs t (Freeing f) Free there) ∙ ap (tab_at v) at_inner) ∙ free)
 

@@ -142,7 +142,7 @@ abbrev pub FewReaders : Plain → (ℕ → ℕ) → Type 0
 FewReaders p guests = (b : ℕ) → readers p b + guests b < 65536
 
 -- The slots of other entries are in no chain that is given back.
-module _ (g : Ground (List ℕ)) (lone : IsLone g) (v : View (List ℕ)) (st : Stands g v) (pass : IsPass v) (f : Freer) (is : tab_at v inner ≡ Freeing f)
+module _ (g : Ground (List ℕ)) (lone : IsLone g) (v : View (List ℕ)) (st : Stands g v) (pass : IsPass v) (f : Freer (List ℕ)) (is : tab_at v inner ≡ Freeing f)
     (b version : ℕ) (lt : b < g.setting.anchors) (e : Entry) (h : HasChain g v b e) where
   abbrev stage_here : ℕ
   stage_here = stage_in (epoch_in (word st.state b))
@@ -172,13 +172,13 @@ module _ (g : Ground (List ℕ)) (lone : IsLone g) (v : View (List ℕ)) (st : S
       (λ some_. let k : stage_here ≡ 2 = s ∙ (let z = ne_eqb (published (room_of g.slot) e.content) 0 some_ in rw (l, z) refl) in apart_spelled (omega arith) (omega arith) j c d)
 
 chained_apart_rest : (g : Ground (List ℕ)) (rename : ℕ → ℕ) → IsLone g → (v : View (List ℕ)) → Stands g v → IsPass v → (p : Plain) (n b : ℕ) → readers p b + n < 65536 → b < g.setting.anchors → ShowsAt g rename v p n b
-    → (e : Entry) → entry_at p b ≡ Some e → (h : HasChain g v b e) → (f : Freer) → tab_at v inner ≡ Freeing f → (j : ℕ) → Contains (h.slots ++ slots_of_link h.end) j → Contains f.rest j → ⊥
+    → (e : Entry) → entry_at p b ≡ Some e → (h : HasChain g v b e) → (f : Freer (List ℕ)) → tab_at v inner ≡ Freeing f → (j : ℕ) → Contains (h.slots ++ slots_of_link h.end) j → Contains f.rest j → ⊥
 chained_apart_rest g rename lone v st pass p n b few lt shown e there h f is j c d = apart_life g lone v st pass f is b (place_at p b).version lt e h e.life refl
     (stage_there rename (setting_of g) p n b (word st.state b) (word_is g lone st.state st.index v st.rule st.at pass (Anchor b) lt ∙ shown.word) few ∙ ap (λ o. stage_number (stage_of (room_of g.slot) (place_at p b).version o)) there) j c d
 
 module _ (g : Ground (List ℕ)) (lone : IsLone g) where
   -- a pass whose inner tab gives slots back has nine tabs
-  pub nine_tabs : (v : View (List ℕ)) (f : Freer) → Stands g v → tab_at v inner ≡ Freeing f → IsPass v
+  pub nine_tabs : (v : View (List ℕ)) (f : Freer (List ℕ)) → Stands g v → tab_at v inner ≡ Freeing f → IsPass v
   nine_tabs v f st is = dite (ℕ_discrete (length v.tabs - 8) 0)
       (λ short. absurd (none_there (get_or_past v.tabs 8 Free (omega arith)) is))
       (λ long. let one = le_sum_at tabs_in st.state.views st.index v st.at in let all = st.rule.sound.anchors.shaped.tabs in exactly one all lone (omega arith))
@@ -189,7 +189,7 @@ module _ (g : Ground (List ℕ)) (lone : IsLone g) where
       exactly : {x n p : ℕ} → x ≤ n → n ≡ 9 * p → p ≡ 1 → 8 < x → x ≡ 9
       exactly one all p long = omega arith
 
-module _ (g : Ground (List ℕ)) (lone : IsLone g) (v : View (List ℕ)) (f : Freer) (st : Stands g v) (is : tab_at v inner ≡ Freeing f) where
+module _ (g : Ground (List ℕ)) (lone : IsLone g) (v : View (List ℕ)) (f : Freer (List ℕ)) (st : Stands g v) (is : tab_at v inner ≡ Freeing f) where
   nine : IsPass v
   nine = nine_tabs g lone v f st is
 
@@ -213,7 +213,7 @@ raised_word rename room x counted n some_version = let none = ne_eqb x.version 0
 
 module _ (g : Ground (List ℕ)) (rename : ℕ → ℕ) (lone : IsLone g) where
   -- Where slots of a chain are given back, and the word of its anchor may have changed, other entries stay.
-  pub gave_but : (v w : View (List ℕ)) (f : Freer) (d : Added) (p : Plain) (guests : ℕ → ℕ) → FewReaders p guests → Stands g v → tab_at v inner ≡ Freeing f → Went g v d w
+  pub gave_but : (v w : View (List ℕ)) (f : Freer (List ℕ)) (d : Added) (p : Plain) (guests : ℕ → ℕ) → FewReaders p guests → Stands g v → tab_at v inner ≡ Freeing f → Went g v d w
       → ((q : Place) → Contains d.changed q → ((slot : ℕ) × (q ≡ Link slot) × Contains f.rest slot) ⊎ (q ≡ Anchor f.anchor)) → KnowsBut g rename v p guests f.anchor → KnowsBut g rename w p guests f.anchor
   gave_but v w f d p guests few st is went only h = but_moved g rename v w (Contains d.changed) p p guests f.anchor (went_same g lone v w d went there) (same_else p f.anchor) (λ c. no_counter (only Counter c))
       (λ b lt ne. record { word = λ c. no_anchor b ne (only (Anchor b) c); sides = λ side c. no_side side b (only (Beside side b) c); links = λ e here chain j c k. no_link b lt ne e here chain j c (only (Link j) k) }) h
@@ -267,7 +267,7 @@ module _ (g : Ground (List ℕ)) (rename : ℕ → ℕ) (lone : IsLone g) where
   raised_from v w h freeing = h.from freeing (freer_inside g lone v h.freer (freed_stands v w h).0 h.was) lone
 
   -- Links of the chain changed, and the word of its anchor where that was at FREEING.
-  abbrev pub FreedAt : Freer → Place → Type 0
+  abbrev pub FreedAt : Freer (List ℕ) → Place → Type 0
   FreedAt f q = ((slot : ℕ) × (q ≡ Link slot) × Contains f.rest slot) ⊎ ((f.is_freeing ≡ true) × (q ≡ Anchor f.anchor))
 
   pub freed_same : (v w : View (List ℕ)) → (h : Freed g v w) → SameBut g v w (FreedAt h.freer)
@@ -326,14 +326,14 @@ low_stage room version e Growing l = rw l (either (λ s. stage_number s ≤ 5) (
 evicted_number : (w : Word) → w.readers ≡ 0 → stage_number w.epoch.stage ≤ 5 → evicted (word_number w) ≡ word_number (record w { epoch = record w.epoch { stage = stage.Freeing } })
 evicted_number w none low = let e = epoch_of-word_number w (omega arith) in let s = stage_of-epoch_number w.epoch in let t : stage_in (epoch_in (word_number w)) ≡ stage_number w.epoch.stage = ap stage_in e ∙ s in omega arith
 
-freer_in : Tab (List ℕ) → Freer
+freer_in : Tab (List ℕ) → Freer (List ℕ)
 freer_in (Freeing f) = f
 freer_in tab = freer_of 0 true no_chain
 
-abbrev freeing_tab : Freer → Tab (List ℕ)
+abbrev freeing_tab : Freer (List ℕ) → Tab (List ℕ)
 freeing_tab f = Freeing f
 
-pub same_freer : (f h : Freer) → freeing_tab f ≡ freeing_tab h → f ≡ h
+pub same_freer : (f h : Freer (List ℕ)) → freeing_tab f ≡ freeing_tab h → f ≡ h
 unfolding freer_in
 same_freer f h e = ap freer_in e
 
@@ -353,7 +353,7 @@ module _ (g : Ground (List ℕ)) (rename : ℕ → ℕ) (lone : IsLone g) where
   -- After an entry that nobody reads was evicted its chain is at the inner tab, and its anchor at FREEING.
   pub record EvictedAt (u : View (List ℕ)) (a : ℕ) (p : Plain) (guests : ℕ → ℕ) : Type 0 where
     pub inside : a < g.setting.anchors
-    pub freer : Freer
+    pub freer : Freer (List ℕ)
     pub is : tab_at u inner ≡ Freeing freer
     pub anchor_is : freer.anchor ≡ a
     pub freeing : freer.is_freeing ≡ true
@@ -391,7 +391,7 @@ module _ (g : Ground (List ℕ)) (rename : ℕ → ℕ) (lone : IsLone g) where
 
   -- Then it was given back: the plain store has it no more.
   pub evict_freed : (u w : View (List ℕ)) (a : ℕ) (p : Plain) (guests : ℕ → ℕ) → FewReaders p guests → EvictedAt u a p guests → Freed g u w → Knows g rename w (vacated_at a p) guests
-  evict_freed u w a p guests few h freed = freed_right g rename lone u w p guests a few freed (ap (λ (z : Freer). z.anchor) same ∙ h.anchor_is) (ap (λ (z : Freer). z.is_freeing) same ∙ h.freeing) h.others h.drawn h.word
+  evict_freed u w a p guests few h freed = freed_right g rename lone u w p guests a few freed (ap (λ (z : Freer (List ℕ)). z.anchor) same ∙ h.anchor_is) (ap (λ (z : Freer (List ℕ)). z.is_freeing) same ∙ h.freeing) h.others h.drawn h.word
     where
       same : freed.freer ≡ h.freer
       same = same_freer freed.freer h.freer (sym freed.was ∙ h.is)
@@ -404,8 +404,8 @@ module _ (g : Ground (List ℕ)) (rename : ℕ → ℕ) (lone : IsLone g) where
   pub take_freed : (v u w : View (List ℕ)) (t a version n : ℕ) (p : Plain) (guests : ℕ → ℕ) → FewReaders p guests → Knows g rename v p guests → (st : Steps g v (Take t a version) n u) → n ≡ last_find a v.trail → is_idle n ≡ true
       → Freed g u w → TookOver w a version p guests
   take_freed v u w t a version n p guests few knows st won idle freed = record {
-    others = freed_but g rename lone u w p guests a few freed (ap (λ (z : Freer). z.anchor) freer_is) (but_step g rename v u (Take t a version) n p p guests a st refl inside (same_else p a) (knows_but g rename v p guests a knows));
-    word = (freed_same g rename lone u w freed).same (Anchor a) tt inside (not_freed (ap (λ (z : Freer). z.is_freeing) freer_is)) ∙ has_left g v u (Take t a version) n (Anchor a) (Anchor a) st refl refl
+    others = freed_but g rename lone u w p guests a few freed (ap (λ (z : Freer (List ℕ)). z.anchor) freer_is) (but_step g rename v u (Take t a version) n p p guests a st refl inside (same_else p a) (knows_but g rename v p guests a knows));
+    word = (freed_same g rename lone u w freed).same (Anchor a) tt inside (not_freed (ap (λ (z : Freer (List ℕ)). z.is_freeing) freer_is)) ∙ has_left g v u (Take t a version) n (Anchor a) (Anchor a) st refl refl
         ∙ (let z = eq-eqb n (last_find a v.trail) won in rw z refl);
   }
     where

@@ -71,7 +71,7 @@ module _ (g : Ground (List ℕ)) (lone : IsLone g) (t : ℕ) (below : t < inner)
     others = λ j ne far. ap (λ (z : View (List ℕ)). tab_at z j) gave;
   }
   gave_so (Some slot) v w x pass is free gave = record {
-    same = step_same_map g v w (Disown t slot) gave.found (slot / 64) gave.step refl (mapped (subst (λ (z : Tab (List ℕ)). OfWriter (MayGiveBack slot) z ⊎ OfFreer (λ (f : Freer). Contains f.loose slot) z) is gave.step.may.allowed.1));
+    same = step_same_map g v w (Disown t slot) gave.found (slot / 64) gave.step refl (mapped (subst (λ (z : Tab (List ℕ)). OfWriter (MayGiveBack slot) z ⊎ OfFreer (λ (f : Freer (List ℕ)). Contains f.loose slot) z) is gave.step.may.allowed.1));
     writer = given (Some slot) x;
     tab = (gave_tab g t below (Some slot) v w x pass is free gave).0;
     anchor = refl;

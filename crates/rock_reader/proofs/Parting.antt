@@ -88,7 +88,7 @@ module _ {X : Type 0} (g : Ground X) (t : ℕ) (v : View X) (counted : is_counte
     lost_tabs ne = ap View.tabs e.evict.leaves ∙ (let n = ne_eqb e.found (last_find a h.middle.trail) ne in rw n refl)
         ∙ ap (λ (xs : List (Tab X)). set xs t Tab.Free) tabs1 ∙ set_again v.tabs t (Tab.Last (anchor_of (tab_at v t))) Tab.Free
 
-    abbrev f : Freer
+    abbrev f : Freer X
     f = freer_of a true (found_as g.setting e.evict.state h.middle (Evict t a) e.found).chain
 
     won_tabs : e.found ≡ last_find a h.middle.trail → w.tabs ≡ set (with_tab v t Tab.Free) inner (Tab.Freeing f)
@@ -102,7 +102,7 @@ module _ {X : Type 0} (g : Ground X) (t : ℕ) (v : View X) (counted : is_counte
   done_tabs w (inr (off, inr h)) = lost_tabs Left.Done w h (λ is. must_not_be_done (h.gives_up.won.1 is))
 
   -- it is to free the entry
-  pub must_free : (m : View X) → Leaves g v t Left.MustFree m → (f : Freer) × (m.tabs ≡ set (with_tab v t Tab.Free) inner (Tab.Freeing f)) × (f.is_whole ≡ true) × (f.loose ≡ [])
+  pub must_free : (m : View X) → Leaves g v t Left.MustFree m → (f : Freer X) × (m.tabs ≡ set (with_tab v t Tab.Free) inner (Tab.Freeing f)) × (f.is_whole ≡ true) × (f.loose ≡ [])
   must_free m (inl h) = absurd (false≢true (sym (not_last (tab_at v t) counted) ∙ h.0))
   must_free m (inr (off, inl h)) = absurd (must_not_be_done (sym h.done))
   must_free m (inr (off, inr h)) = (f Left.MustFree m h, won_tabs Left.MustFree m h (h.gives_up.won.0 refl), refl, refl)

@@ -58,7 +58,7 @@ module _ {X : Type 0} (k : Setting X) (s : State X) (so : Sound k s) (free : All
       differ : Writing w ≡ Free → ⊥
       differ e = cc
 
-  not_freeing : (i t : ℕ) (f : Freer) → IsTab s i t (Freeing f) → ⊥
+  not_freeing : (i t : ℕ) (f : Freer X) → IsTab s i t (Freeing f) → ⊥
   not_freeing i t f h = differ (free i h.view h.at t (Freeing f) h.there)
     where
       differ : ◌≡◌ {A = Tab X} (Freeing f) Free → ⊥

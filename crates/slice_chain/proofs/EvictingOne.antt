@@ -109,7 +109,7 @@ module _ {X : Type 0} (g : Ground X) (hand : ℕ) (v : View X) where
       hit : (x.word == last_find a x.before.trail) ≡ true
       hit = eq-eqb x.word (last_find a x.before.trail) (sym x.looked.last)
 
-      pub victim : Freer
+      pub victim : Freer X
       victim = freer_of a true (chain_of x.step.state a)
 
       free_tab : (y : Tab X) → is_free y ≡ true → y ≡ Free

@@ -45,7 +45,7 @@ module _ {C O : Type 0} (tells : Bool) (state : C → CellState) (offers : O →
   abbrev g : Ground (List ℕ)
   g = basis tells state offers s
 
-  abbrev f : Freer
+  abbrev f : Freer (List ℕ)
   f = may.freer
 
   at_inner : (q : Pass C) (x : Tab (List ℕ)) → (view q).tabs ≡ with_tab (view p) inner x → tab_at (view q) inner ≡ x
@@ -75,7 +75,7 @@ module _ {C O : Type 0} (tells : Bool) (state : C → CellState) (offers : O →
         found = looked.step.found ∙ subst (λ (x : Tab (List ℕ)). Rattle.core_model.specs.Told.LinkFound looked.step.state x (number_found g.setting looked.step.state (view p) (GetLink inner slot))) may.is told.slots
 
     module _ (m : ℕ) (p2 : Pass C) (left : Made tells state offers s p1 (Loosen inner slot) m p2) where
-      abbrev loose_freer : Freer
+      abbrev loose_freer : Freer (List ℕ)
       loose_freer = record f { rest = rest_of f.rest; is_whole = false; is_looked = false; loose = f.loose ++ slot ∷ [] }
 
       tabs2 : (view p2).tabs ≡ with_tab (view p) inner (Freeing loose_freer)

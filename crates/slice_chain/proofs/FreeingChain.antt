@@ -62,7 +62,7 @@ module _ {C O : Type 0} (tells : Bool) (state : C → CellState) (offers : O →
   abbrev g : Ground (List ℕ)
   g = basis tells state offers s
 
-  abbrev f : Freer
+  abbrev f : Freer (List ℕ)
   f = may.freer
 
   there : get_elem? (view p).tabs inner ≡ some (Freeing f)
@@ -104,7 +104,7 @@ module _ {C O : Type 0} (tells : Bool) (state : C → CellState) (offers : O →
     same : gave.freer ≡ f
     same = same_freer gave.freer f (sym gave.was ∙ tabs1)
 
-    abbrev last : Freer
+    abbrev last : Freer (List ℕ)
     last = gave.all.freer
 
     tabs0 : (view p2).tabs ≡ with_tab (view p) inner (emptied last)
@@ -118,10 +118,10 @@ module _ {C O : Type 0} (tells : Bool) (state : C → CellState) (offers : O →
 
     given : (slot : ℕ) → Contains f.rest slot → WasGiven rest_added.items slot
     given slot c = ⊎_elim (λ l. absurd (contains_none slot l)) (λ (o : WasGiven gave.all.added.items slot). (o.0, Contains-append_left gave.all.added.items load_added.items _ o.1))
-        (gave.all.gave slot (subst (λ (x : Freer). Contains x.rest slot) (sym same) c))
+        (gave.all.gave slot (subst (λ (x : Freer (List ℕ)). Contains x.rest slot) (sym same) c))
 
     changes : (q : Place) → Contains rest_added.changed q → (slot : ℕ) × (q ≡ Link slot) × Contains f.rest slot
-    changes q c = ⊎_elim (λ l. let x = gave.all.changed q l in (x.0, x.1, subst (λ (y : Freer). Contains y.rest x.0) same x.2)) (λ l. absurd (contains_none q (subst (λ (xs : List Place). Contains xs q) load_quiet.3 l)))
+    changes q c = ⊎_elim (λ l. let x = gave.all.changed q l in (x.0, x.1, subst (λ (y : Freer (List ℕ)). Contains y.rest x.0) same x.2)) (λ l. absurd (contains_none q (subst (λ (xs : List Place). Contains xs q) load_quiet.3 l)))
         (Contains-append_cases gave.all.added.changed load_added.changed q c)
 
     rest_went : Rattle.store_rule.specs.Runs.Went g (view p) rest_added (view p2)
@@ -135,7 +135,7 @@ module _ {C O : Type 0} (tells : Bool) (state : C → CellState) (offers : O →
 
     rest_counted : (asked : Kind → Bool) → of_kinds asked rest_added.items ≡ many asked Loaded 1 + slots_freed asked (length f.rest)
     rest_counted asked = let a = of_kinds-append asked gave.all.added.items load_added.items in let b = gave.all.counted asked in let z = no_slots asked in
-        let l = ap (λ (x : Freer). slots_freed asked (length x.rest)) same in omega arith
+        let l = ap (λ (x : Freer (List ℕ)). slots_freed asked (length x.rest)) same in omega arith
 
     -- of the tab that frees it
     as_told : (asked : Kind → Bool) (on : Bool) → f.is_freeing ≡ on

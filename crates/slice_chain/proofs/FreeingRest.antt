@@ -37,7 +37,7 @@ and_false true = refl
 and_false false = refl
 
 module _ (X : Type 0) where
-  pub still_frees : (f : Freer) → (f.is_freeing ≡ false → f.rest ≢ []) → emptied {X = X} f ≡ Freeing f
+  pub still_frees : (f : Freer X) → (f.is_freeing ≡ false → f.rest ≢ []) → emptied {X = X} f ≡ Freeing f
   still_frees f has = by_kind f.is_freeing refl
     where
       some_length : (xs : List ℕ) → xs ≢ [] → (length xs == 0) ≡ false
@@ -48,17 +48,17 @@ module _ (X : Type 0) where
       by_kind true e = (λ i. cond ((length f.rest == 0) && (length f.loose == 0) && not (e i)) Free (Freeing f)) ∙ (λ i. cond (and_false ((length f.rest == 0) && (length f.loose == 0)) i) Free (Freeing f))
       by_kind false e = λ i. cond (some_length f.rest (has e) i && (length f.loose == 0) && not f.is_freeing) Free (Freeing f)
 
-  rest_of_emptied : (f : Freer) → rest_length (emptied {X = X} f) ≤ length f.rest
+  rest_of_emptied : (f : Freer X) → rest_length (emptied {X = X} f) ≤ length f.rest
   rest_of_emptied f = by_bool ((length f.rest == 0) && (length f.loose == 0) && not f.is_freeing)
     where
       by_bool : (b : Bool) → rest_length {X = X} (cond b Free (Freeing f)) ≤ length f.rest
       by_bool true = omega arith
       by_bool false = omega arith
 
-pub same_freer : {X : Type 0} (f h : Freer) → ◌≡◌ {A = Tab X} (Freeing f) (Freeing h) → f ≡ h
+pub same_freer : {X : Type 0} (f h : Freer X) → ◌≡◌ {A = Tab X} (Freeing f) (Freeing h) → f ≡ h
 same_freer {X} f h e = ap (freer_or f) e
   where
-    freer_or : Freer → Tab X → Freer
+    freer_or : Freer X → Tab X → Freer X
     freer_or d (Freeing x) = x
     freer_or d _ = d
 
@@ -111,7 +111,7 @@ module _ {X : Type 0} (g : Ground X) (slot : ℕ) (u w : View X) (next : Option 
 
 module _ {X : Type 0} (g : Ground X) (v : View X) (pass : IsPass v) where
   -- the tab while slots are left
-  left_tab : (f : Freer) (left : List ℕ) (u : View X) (so : FreedSome g f v left u) → tab_at u inner ≡ emptied so.freer
+  left_tab : (f : Freer X) (left : List ℕ) (u : View X) (so : FreedSome g f v left u) → tab_at u inner ≡ emptied so.freer
   left_tab f left u so = ap (λ (xs : List (Tab X)). get_or xs inner Tab.Free) so.tabs ∙ get_or-set_same v.tabs inner (emptied so.freer) Tab.Free (let n = pass in omega arith)
 
   pub one_more : (slot : ℕ) (u w : View X) (next : Option ℕ) → RestLeft g v (Some slot) u → FrontFreed g slot u next w → RestLeft g v next w
@@ -119,7 +119,7 @@ module _ {X : Type 0} (g : Ground X) (v : View X) (pass : IsPass v) where
     freer = r.freer;
     was = r.was;
     left = rest_of r.left;
-    front_is = h.next_is ∙ ap (λ (f : Freer). head_of (rest_of f.rest)) is_freer ∙ ap (λ (xs : List ℕ). head_of (rest_of xs)) r.some.rest;
+    front_is = h.next_is ∙ ap (λ (f : Freer X). head_of (rest_of f.rest)) is_freer ∙ ap (λ (xs : List ℕ). head_of (rest_of xs)) r.some.rest;
     some = record {
       added = together (front_added g slot u w next h) r.some.added;
       went = went_then g v u w r.some.added (front_added g slot u w next h) r.some.went (front_went g slot u w next h);
@@ -136,7 +136,7 @@ module _ {X : Type 0} (g : Ground X) (v : View X) (pass : IsPass v) where
       none = refl;
       anchor = r.some.anchor;
       same = r.some.same;
-      tabs = h.tabs ∙ ap (λ (f : Freer). with_tab u inner (emptied (with_less f))) is_freer ∙ ap (λ (xs : List (Tab X)). set xs inner (emptied (with_less r.some.freer))) r.some.tabs
+      tabs = h.tabs ∙ ap (λ (f : Freer X). with_tab u inner (emptied (with_less f))) is_freer ∙ ap (λ (xs : List (Tab X)). set xs inner (emptied (with_less r.some.freer))) r.some.tabs
           ∙ set_again v.tabs inner (emptied r.some.freer) (emptied (with_less r.some.freer));
     };
   }

@@ -29,7 +29,7 @@ use Rattle.store_rule.specs.Runs.{Added, Went, added_by}
 use Rattle.store_rule.specs.Words.{Mine, has}
 use Rattle.store_rule.proofs.AddingUp.{found_mine, has_left, went_one}
 
-module _ {C O : Type 0} (tells : Bool) (state : C → CellState) (offers : O → Offers) (s : Store C O) (p : Pass C) (own : IsOf tells state offers s p) (last : Freer) (tab : tab_at (view p) inner ≡ Freeing last)
+module _ {C O : Type 0} (tells : Bool) (state : C → CellState) (offers : O → Offers) (s : Store C O) (p : Pass C) (own : IsOf tells state offers s p) (last : Freer (List ℕ)) (tab : tab_at (view p) inner ≡ Freeing last)
     (on : last.is_freeing ≡ true) (rest : last.rest ≡ []) (loose : last.loose ≡ []) where
   abbrev g : Ground (List ℕ)
   g = basis tells state offers s

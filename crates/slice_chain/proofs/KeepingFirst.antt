@@ -61,7 +61,7 @@ module _ {C O : Type 0} (tells : Bool) (state : C → CellState) (offers : O →
   abbrev g : Ground (List ℕ)
   g = basis tells state offers s
 
-  abbrev f : Freer
+  abbrev f : Freer (List ℕ)
   f = may.chain.freer
 
   other : t ≢ inner
@@ -88,7 +88,7 @@ module _ {C O : Type 0} (tells : Bool) (state : C → CellState) (offers : O →
     may_front = record { own = start.own; freer = f; is = chain.tabs1 tells state offers s p may.chain n p1 start; front = first; none = may.chain.none }
 
     module _ (link : LinkOf) (p2 : Pass C) (looked : Made tells state offers s p1 (GetLink inner slot) (link_number link) p2) where
-      abbrev looked_freer : Freer
+      abbrev looked_freer : Freer (List ℕ)
       looked_freer = record f { is_looked = true }
 
       tabs2 : (view p2).tabs ≡ set T inner (Freeing looked_freer)
@@ -115,7 +115,7 @@ module _ {C O : Type 0} (tells : Bool) (state : C → CellState) (offers : O →
       }
 
       module _ (m : ℕ) (p3 : Pass C) (left : Made tells state offers s p2 (Loosen t slot) m p3) where
-        abbrev less : Freer
+        abbrev less : Freer (List ℕ)
         less = record f { rest = rest_of f.rest; is_whole = false; is_looked = false; loose = f.loose ++ [] }
 
         abbrev mine : Tab (List ℕ)
@@ -148,7 +148,7 @@ module _ {C O : Type 0} (tells : Bool) (state : C → CellState) (offers : O →
           same : gave.freer ≡ less
           same = same_freer gave.freer less (sym gave.was ∙ inner3)
 
-          abbrev last : Freer
+          abbrev last : Freer (List ℕ)
           last = gave.all.freer
 
           on : last.is_freeing ≡ true
@@ -214,12 +214,12 @@ module _ {C O : Type 0} (tells : Bool) (state : C → CellState) (offers : O →
             behind j (i, lt, e) = subst (λ (xs : List ℕ). Contains xs j) (sym first) (suc i, omega arith, e)
 
             rest_changed : (q : Place) → Contains (gave.all.added.changed ++ before.changed) q → (j : ℕ) × (q ≡ Link j) × Contains f.rest j
-            rest_changed q c = ⊎_elim (λ l. let x = gave.all.changed q l in (x.0, x.1, behind x.0 (subst (λ (y : Freer). Contains y.rest x.0) same x.2)))
+            rest_changed q c = ⊎_elim (λ l. let x = gave.all.changed q l in (x.0, x.1, behind x.0 (subst (λ (y : Freer (List ℕ)). Contains y.rest x.0) same x.2)))
                 (λ l. (slot, before_changed q l, subst (λ (xs : List ℕ). Contains xs slot) (sym first) (0, omega arith, refl)))
                 (Contains-append_cases gave.all.added.changed before.changed q c)
 
             given : (j : ℕ) → Contains (rest_of f.rest) j → WasGiven gave.all.added.items j
-            given j c = ⊎_elim (λ l. absurd (contains_none j l)) (λ o. o) (gave.all.gave j (subst (λ (y : Freer). Contains y.rest j) (sym same) c))
+            given j c = ⊎_elim (λ l. absurd (contains_none j l)) (λ o. o) (gave.all.gave j (subst (λ (y : Freer (List ℕ)). Contains y.rest j) (sym same) c))
 
             tabs5 : (view p5).tabs ≡ set (set T inner Free) t mine
             tabs5 = ending.gone_tabs tells state offers s p4 follows4.own last inner4 on gave.all.rest gave.all.none k p5 ended
@@ -236,7 +236,7 @@ module _ {C O : Type 0} (tells : Bool) (state : C → CellState) (offers : O →
               went = went_then g (view p) (view p4) (view p5) (together gave.all.added before) end_added rest_went (ending.end_went tells state offers s p4 follows4.own last inner4 on gave.all.rest gave.all.none k p5 ended);
               undrawn = none_drawn end_added.items (together gave.all.added before).items refl (none_drawn gave.all.added.items before.items gave.all.undrawn refl);
               counted = λ asked. let a = of_kinds-append asked end_added.items (together gave.all.added before).items in let b = of_kinds-append asked gave.all.added.items before.items in
-                  let r = gave.all.counted asked in let z = no_slots asked in let l = ap (λ (x : Freer). slots_freed asked (length x.rest)) same in omega arith;
+                  let r = gave.all.counted asked in let z = no_slots asked in let l = ap (λ (x : Freer (List ℕ)). slots_freed asked (length x.rest)) same in omega arith;
               gave = λ j c. let o = given j c in (o.0, Contains-append_right end_added.items (together gave.all.added before).items _ (Contains-append_left gave.all.added.items before.items _ o.1));
               tabs = tabs5;
               changed = λ q c. ⊎_elim (λ l. inr (ending.end_changed tells state offers s p4 follows4.own last inner4 on gave.all.rest gave.all.none k p5 ended q l ∙ ap Anchor anchor_is)) (λ l. inl (rest_changed q l))

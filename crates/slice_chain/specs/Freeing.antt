@@ -31,18 +31,18 @@ use Rattle.slice_chain.specs.Counts.{AddsSteps, many, of_kinds, slots_freed}
 -- the inner tab frees a chain of which this is the first slot, and has none that left it
 pub record MayFreeFront {C O : Type 0} (tells : Bool) (state : C → CellState) (offers : O → Offers) (s : Store C O) (p : Pass C) (slot : ℕ) : Type 0 where
   pub own : IsOf tells state offers s p
-  pub freer : Freer
+  pub freer : Freer (List ℕ)
   pub is : tab_at (view p) inner ≡ Freeing freer
   pub front : freer.rest ≡ slot ∷ rest_of freer.rest
   pub none : freer.loose ≡ []
 
 -- the inner tab without the first slot of its chain, which is free
-abbrev pub with_less : Freer → Freer
+abbrev pub with_less : {X : Type 0} → Freer X → Freer X
 with_less f = record f { rest = rest_of f.rest; is_whole = false; is_looked = false; loose = [] }
 
 -- Its link was loaded, it left the chain, and was given back. The next one is the second of the chain.
 pub record FrontFreed {X : Type 0} (g : Ground X) (slot : ℕ) (v : View X) (next : Option ℕ) (w : View X) : Type 0 where
-  pub freer : Freer
+  pub freer : Freer X
   pub was : tab_at v inner ≡ Freeing freer
   pub front : freer.rest ≡ slot ∷ rest_of freer.rest
   pub link : ℕ
@@ -62,7 +62,7 @@ pub record FrontFreed {X : Type 0} (g : Ground X) (slot : ℕ) (v : View X) (nex
 -- The inner tab frees a chain of which this is the first slot, if it has one. Where its anchor is taken for a new entry it has one.
 pub record MayFreeRest {C O : Type 0} (tells : Bool) (state : C → CellState) (offers : O → Offers) (s : Store C O) (p : Pass C) (front : Option ℕ) : Type 0 where
   pub own : IsOf tells state offers s p
-  pub freer : Freer
+  pub freer : Freer (List ℕ)
   pub is : tab_at (view p) inner ≡ Freeing freer
   pub front_is : front ≡ head_of freer.rest
   pub none : freer.loose ≡ []
@@ -71,7 +71,7 @@ pub record MayFreeRest {C O : Type 0} (tells : Bool) (state : C → CellState) (
 -- it frees a chain of which no slot has left yet
 pub record MayFreeChain {C O : Type 0} (tells : Bool) (state : C → CellState) (offers : O → Offers) (s : Store C O) (p : Pass C) : Type 0 where
   pub own : IsOf tells state offers s p
-  pub freer : Freer
+  pub freer : Freer (List ℕ)
   pub is : tab_at (view p) inner ≡ Freeing freer
   pub whole : freer.is_whole ≡ true
   pub none : freer.loose ≡ []
@@ -108,7 +108,7 @@ WasGiven items slot = (n : ℕ) × Contains items record { kind = Disowned; at =
 module _ {X : Type 0} (g : Ground X) where
   -- Of the chain of the tab `f` these slots are left, and each other one was given back. The steps changed links of that chain alone, and
   -- saw, did and drew nothing.
-  pub record FreedSome (f : Freer) (v : View X) (left : List ℕ) (w : View X) : Type 0 where
+  pub record FreedSome (f : Freer X) (v : View X) (left : List ℕ) (w : View X) : Type 0 where
     pub added : Added
     pub went : Went g v added w
     pub quiet : (added.sights ≡ []) × (added.done ≡ []) × (added.meetings ≡ [])
@@ -117,7 +117,7 @@ module _ {X : Type 0} (g : Ground X) where
     pub changed : (p : Place) → Contains added.changed p → (slot : ℕ) × (p ≡ Link slot) × Contains f.rest slot
     pub gave : (slot : ℕ) → Contains f.rest slot → Contains left slot ⊎ WasGiven added.items slot
     pub inside : (slot : ℕ) → Contains left slot → Contains f.rest slot
-    pub freer : Freer
+    pub freer : Freer X
     pub rest : freer.rest ≡ left
     pub none : freer.loose ≡ []
     pub anchor : freer.anchor ≡ f.anchor
@@ -126,7 +126,7 @@ module _ {X : Type 0} (g : Ground X) where
 
   -- while they are given back, with this one at the front
   pub record RestLeft (v : View X) (front : Option ℕ) (w : View X) : Type 0 where
-    pub freer : Freer
+    pub freer : Freer X
     pub was : tab_at v inner ≡ Freeing freer
     pub left : List ℕ
     pub front_is : front ≡ head_of left
@@ -134,14 +134,14 @@ module _ {X : Type 0} (g : Ground X) where
 
   -- none is left
   pub record RestFreed (v w : View X) : Type 0 where
-    pub freer : Freer
+    pub freer : Freer X
     pub was : tab_at v inner ≡ Freeing freer
     pub all : FreedSome freer v [] w
 
   -- Every slot of the chain was given back, and the inner tab is free. The steps may have changed the links of that chain and, where its
   -- anchor was at FREEING, the word of that one, which is at GONE then, and nothing else but the map of taken slots. They drew no version.
   pub record Freed (v w : View X) : Type 0 where
-    pub freer : Freer
+    pub freer : Freer X
     pub was : tab_at v inner ≡ Freeing freer
     pub added : Added
     pub went : Went g v added w

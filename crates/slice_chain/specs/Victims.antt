@@ -74,7 +74,7 @@ pub record MayKeepFirst {C O : Type 0} (tells : Bool) (state : C → CellState) 
 
 -- The first slot of the chain was reserved by the tab, and each other one given back. The anchor is at GONE. No version was drawn.
 pub record KeptFirst {X : Type 0} (g : Ground X) (t : ℕ) (v : View X) (slot : ℕ) (w : View X) : Type 0 where
-  pub freer : Freer
+  pub freer : Freer X
   pub was : tab_at v inner ≡ Freeing freer
   pub first : freer.rest ≡ slot ∷ rest_of freer.rest
   pub added : Added

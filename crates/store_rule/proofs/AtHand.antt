@@ -98,7 +98,7 @@ module _ {X : Type 0} where
         let c = chain_of st.state a in
         let tabs : w.tabs ≡ taken_tabs v t a u (found_as g.setting st.state v (Take t a u) n) = ap View.tabs st.leaves ∙ rw h refl in
         made ∙ (λ i. set (cond (idle_is i) (set (hand i) 8 (whole_here a false)) (hand i)) t (At.Writing (new_writing a u)))
-        ∙ sym (both (is_idle n) v.tabs (Freeing (freer_of a false c)))
+        ∙ sym (both (is_idle n) v.tabs (Freeing (freer_of a false n c)))
         ∙ ap (map at_of) (sym tabs)
       where
         both : (b : Bool) (tabs : List (Tab X)) (x : Tab X) → map at_of (set (cond b (set tabs 8 x) tabs) t (Writing (writer_of a u))) ≡ set (cond b (set (map at_of tabs) 8 (at_of x)) (map at_of tabs)) t (At.Writing (new_writing a u))
@@ -115,7 +115,7 @@ module _ {X : Type 0} where
         let tabs : w.tabs ≡ evicted_tabs v t a (found_as g.setting st.state v (Evict t a) n) = ap View.tabs st.leaves ∙ rw h refl in
         made ∙ ap (λ (z : List At). set (set z t At.Free) 8 (whole_here a true)) hand
         ∙ ap (λ (z : List At). set z 8 (whole_here a true)) (sym (map-set at_of v.tabs t Free))
-        ∙ sym (map-set at_of (set v.tabs t Free) 8 (Freeing (freer_of a true (chain_of st.state a)))) ∙ ap (map at_of) (sym tabs)
+        ∙ sym (map-set at_of (set v.tabs t Free) 8 (Freeing (freer_of a true n (chain_of st.state a)))) ∙ ap (map at_of) (sym tabs)
 
     pub spared_hand : (st : Steps g v (Evict t a) n w) → n ≢ last_find a v.trail → new ≡ set old t At.Free → new ≡ tabs_at w
     spared_hand st other made = let h = ne_eqb n (last_find a v.trail) other in

@@ -113,7 +113,7 @@ module _ {X : Type 0} (g : Ground X) (s : State X) (r : Rule g s) where
       (end_inside q.anchor st.0 st.1 st.2))
   link_of_reader i v at t q there n (inr h) = omega (arith, h.1)
 
-  link_of_freer : (i : ℕ) (v : View X) → get_elem? s.views i ≡ some v → (t : ℕ) (f : Freer) → get_elem? v.tabs t ≡ some (Tab.Freeing f) → (n : ℕ) → LinkFound {X = X} s (Tab.Freeing f) n → n ≤ g.setting.slots + 1
+  link_of_freer : (i : ℕ) (v : View X) → get_elem? s.views i ≡ some v → (t : ℕ) (f : Freer X) → get_elem? v.tabs t ≡ some (Tab.Freeing f) → (n : ℕ) → LinkFound {X = X} s (Tab.Freeing f) n → n ≤ g.setting.slots + 1
   link_of_freer i v at t f there n h = subst (λ (z : ℕ). z ≤ g.setting.slots + 1) (sym h) (link_to_small g.setting.slots (rest_of f.rest) f.behind
       (λ x some_x. held_there g s i v r at t x (Tab.Freeing f) there (let d = rest_few f.rest x in omega arith))
       (λ x e. absurd (r.rests i t f record { view = v; at = at; there = there } x e)))
@@ -161,7 +161,7 @@ module _ {X : Type 0} (g : Ground X) where
       slot_published st.state st.rule st.index v st.at t slot link (tab_at v t) (tab_there v t (tab_at v t) (omega arith) refl) may.allowed.1
 
   -- the chain that a slot leaves is the inner tab's
-  pub inner_frees : (s : State X) (r : Rule g s) (i : ℕ) (v : View X) → get_elem? s.views i ≡ some v → IsPass v → (t slot : ℕ) → AllowedByView g.setting v (Loosen t slot) → (f : Freer) × (tab_at v inner ≡ Tab.Freeing f) × MayLoosen slot f
+  pub inner_frees : (s : State X) (r : Rule g s) (i : ℕ) (v : View X) → get_elem? s.views i ≡ some v → IsPass v → (t slot : ℕ) → AllowedByView g.setting v (Loosen t slot) → (f : Freer X) × (tab_at v inner ≡ Tab.Freeing f) × MayLoosen slot f
   inner_frees s r i v at pass t slot may = ⊎_elim
       (λ (h : OfFreer (MayLoosen slot) (tab_at v t)). let f = of_freer (MayLoosen slot) (tab_at v t) h in
       (f.0, subst (λ (z : ℕ). tab_at v z ≡ Tab.Freeing f.0) (only_inner g.setting s i v r.sound.anchors r.sound.slots at pass t f.0 (tab_was g.setting s i v r.sound.anchors r.sound.slots at pass t (Tab.Freeing f.0) may.0 f.1)) f.1, f.2))
@@ -176,7 +176,7 @@ module _ {X : Type 0} (g : Ground X) where
       (λ (h : OfWriter MayReserve (tab_at v t) × OfFreer (λ f. MayLoosen slot f × (f.is_freeing ≡ true)) (tab_at v inner)). h.0)
       may.1
 
-  inner_there : (v : View X) → IsPass v → (f : Freer) → tab_at v inner ≡ Tab.Freeing f → get_elem? v.tabs inner ≡ some (Tab.Freeing f)
+  inner_there : (v : View X) → IsPass v → (f : Freer X) → tab_at v inner ≡ Tab.Freeing f → get_elem? v.tabs inner ≡ some (Tab.Freeing f)
   inner_there v pass f e = tab_there v inner (Tab.Freeing f) (let n = pass in omega arith) e
 
   pub loosened_inside : (v : View X) (t slot : ℕ) → Stands g v → MayMake g.setting v (Loosen t slot) → slot < g.setting.slots
@@ -194,7 +194,7 @@ module _ {X : Type 0} (g : Ground X) where
   spent_link [] LastLink h = refl
   spent_link [] (Next x) h = absurd (h x refl)
 
-  loosens_at : (f : Freer) (xs : List ℕ) (is_loose : Bool) → f.is_looked ≡ true → ((x : ℕ) → f.behind ≢ Next x) → length xs ≡ cond is_loose 1 0 → at_of {X = X} (loosens (Tab.Freeing f) xs) ≡ loosened_here (At.Freeing (freeing_at f)) is_loose
+  loosens_at : (f : Freer X) (xs : List ℕ) (is_loose : Bool) → f.is_looked ≡ true → ((x : ℕ) → f.behind ≢ Next x) → length xs ≡ cond is_loose 1 0 → at_of {X = X} (loosens (Tab.Freeing f) xs) ≡ loosened_here (At.Freeing (freeing_at f)) is_loose
   loosens_at f xs is_loose looked ends many = λ i. At.Freeing (record (freeing_at f) { is_whole = false; is_spent = (spent i); loose = (longer i); found = NotWritten })
     where
       spent : (length (rest_of f.rest) == 0) ≡ not (is_next (link_seen f))
@@ -206,7 +206,7 @@ module _ {X : Type 0} (g : Ground X) where
   pub loosened_hand : (v w : View X) (t slot n : ℕ) (old new : List At) → old ≡ tabs_at v → new ≡ loosened_tabs old t slot → Steps g v (Loosen t slot) n w → new ≡ tabs_at w
   loosened_hand v w t slot n old new hand made st = made ∙ ap (λ (z : List At). loosened_tabs z t slot) hand ∙ by_tab (t == inner) refl ∙ sym (ap (map at_of) (ap View.tabs st.leaves))
     where
-      f : (f : Freer) × (tab_at v inner ≡ Tab.Freeing f) × MayLoosen slot f
+      f : (f : Freer X) × (tab_at v inner ≡ Tab.Freeing f) × MayLoosen slot f
       f = inner_frees st.state st.rule st.index v st.at st.may.pass t slot st.may.allowed
 
       left : (is_loose : Bool) (xs : List ℕ) → length xs ≡ cond is_loose 1 0 → loosened_here (get_or (tabs_at v) 8 At.Free) is_loose ≡ at_of (loosens (tab_at v inner) xs)

@@ -28,8 +28,8 @@ use Rattle.core_model.specs.declared.tab.Writer.{Writer}
 use Rattle.core_model.specs.declared.view.Place.TheVariants.{Turn}
 use Rattle.core_model.specs.declared.view.View.{View}
 use Rattle.core_model.specs.Layout.{Setting, index, word_count, table_words}
-use Rattle.core_model.specs.Tabs.{IsPass, OfReader, OfWriter, holds_turn, tab_at, turn_of}
-use Rattle.core_model.specs.CellMoves.{EndsSo, MayWrite, cell_held, chosen_content, ends, map_some, tries as tries_tab}
+use Rattle.core_model.specs.Tabs.{IsPass, OfReader, OfWriter, holds_turn, tab_at, turn_of, OfFreer}
+use Rattle.core_model.specs.CellMoves.{EndsSo, MayWipe, MayWrite, cell_held, chosen_content, ends, map_some, tries as tries_tab}
 use Rattle.core_model.specs.Cells.{TurnFits}
 use Rattle.core_model.specs.Slots.{ReaderHolds}
 use Rattle.core_model.specs.State.{chain_of}
@@ -52,7 +52,7 @@ use Rattle.tab_states.specs.Tabs.{HasNext, at_of, ended_here, tabs_at}
 use Rattle.tab_states.specs.declared.tabs.At.{At}
 use Rattle.store_rule.proofs.AtHand.{at_get, ends_at, same_hand, tab_set, tries_at}
 use Rattle.store_rule.proofs.Bounds.{chain_short}
-use Rattle.store_rule.proofs.Moves.{either_is, known_of, some_writer}
+use Rattle.store_rule.proofs.Moves.{either_is, known_of, some_freer, some_writer}
 
 -- where the turn of a slot stands
 pub turn_stands_at : (word anchors a slot : ℕ) → word ≡ 5 * anchors + 2 * slot + 1 → anchors ≡ a → word ≡ 5 * a + 2 * slot + 1
@@ -219,18 +219,20 @@ module _ {C X : Type 0} (form : Form C X) where
 -- The turn was free: the cell of the slot came with it.
 
 module _ {X : Type 0} where
-  takes_turn : (x : Tab X) (slot n : ℕ) (cell : Cell X) → (OfReader (λ r. Unit {0}) x ⊎ OfWriter (λ w. Unit {0}) x) → n ≡ 0
+  takes_turn : (x : Tab X) (slot n : ℕ) (cell : Cell X) → (OfReader (λ r. Unit {0}) x ⊎ OfWriter (λ w. Unit {0}) x ⊎ OfFreer (λ f. Unit {0}) x) → n ≡ 0
       → turn_of (tries_tab x slot n (Some cell)) ≡ Has (new_hold slot cell)
   takes_turn (Reading r) slot n cell h e = let hit = eq-eqb n 0 e in rw hit refl
   takes_turn (Writing w) slot n cell h e = let hit = eq-eqb n 0 e in rw hit refl
   takes_turn Free slot n cell (inl h) e = absurd h
-  takes_turn Free slot n cell (inr h) e = absurd h
+  takes_turn Free slot n cell (inr (inl h)) e = absurd h
+  takes_turn Free slot n cell (inr (inr h)) e = absurd h
   takes_turn (Retreating a) slot n cell (inl h) e = absurd h
-  takes_turn (Retreating a) slot n cell (inr h) e = absurd h
+  takes_turn (Retreating a) slot n cell (inr (inl h)) e = absurd h
+  takes_turn (Retreating a) slot n cell (inr (inr h)) e = absurd h
   takes_turn (Last a) slot n cell (inl h) e = absurd h
-  takes_turn (Last a) slot n cell (inr h) e = absurd h
-  takes_turn (Freeing f) slot n cell (inl h) e = absurd h
-  takes_turn (Freeing f) slot n cell (inr h) e = absurd h
+  takes_turn (Last a) slot n cell (inr (inl h)) e = absurd h
+  takes_turn (Last a) slot n cell (inr (inr h)) e = absurd h
+  takes_turn (Freeing f) slot n cell h e = let hit = eq-eqb n 0 e in rw hit refl
 
   some_reader : (P : Reader X → Type 0) (x : Tab X) → OfReader P x → OfReader (λ r. Unit {0}) x
   some_reader P (Reading r) h = tt
@@ -257,7 +259,8 @@ module _ {C X : Type 0} (form : Form C X) (g : Ground X) (me me' : Me (Option C)
 
   pub turn_comes : n ≡ 0 → (c : C) × (me'.1 ≡ (slot, Some c) ∷ me.1) × IsFitting form g slot c × (turn_of (tab_at (the_view me'.0) t) ≡ Has (new_hold slot (form.shows c)))
   turn_comes free = let f = found free told.cell told.shown refl in let h = home free in let hit = eq-eqb n 0 free in
-      let kind : OfReader (λ r. Unit {0}) (tab_at before t) ⊎ OfWriter (λ w. Unit {0}) (tab_at before t) = ⊎_elim (λ q. inl (some_reader _ (tab_at before t) q)) (λ q. inr (some_writer _ (tab_at before t) q)) may.allowed.2 in
+      let kind : OfReader (λ r. Unit {0}) (tab_at before t) ⊎ OfWriter (λ w. Unit {0}) (tab_at before t) ⊎ OfFreer (λ f. Unit {0}) (tab_at before t) =
+      ⊎_elim (λ q. inl (some_reader _ (tab_at before t) q)) (⊎_elim (λ q. inr (inl (some_writer _ (tab_at before t) q))) (λ q. inr (inr (some_freer _ (tab_at before t) q)))) may.allowed.2 in
       let tab : tab_at (the_view me'.0) t ≡ tries_tab (tab_at before t) slot n (get_or told.step.state.places slot None) =
       ap (λ (z : View X). tab_at z t) told.step.leaves ∙ get_or-set_same before.tabs t _ Free (let p = may.pass in let le = may.allowed.0 in omega arith) in (
         f.0,
@@ -290,7 +293,7 @@ module _ {X : Type 0} (g : Ground X) (v w : View X) (t slot n : ℕ) (st : Steps
   same_tries Free cell writes = refl
   same_tries (Retreating a) cell writes = refl
   same_tries (Last a) cell writes = refl
-  same_tries (Freeing f) cell writes = refl
+  same_tries (Freeing f) cell writes = let miss = ne_eqb n 0 taken in rw miss refl
 
   lost_tab : tab_at w t ≡ tab_at v t
   lost_tab = ap (λ (z : View X). tab_at z t) st.leaves ∙ get_or-set_same v.tabs t _ Free (let p = st.may.pass in let le = st.may.allowed.0 in omega arith)
@@ -301,7 +304,7 @@ module _ {X : Type 0} (g : Ground X) (v w : View X) (t slot n : ℕ) (st : Steps
     allowed = (
       can.allowed.0,
       subst (λ (x : Tab X). holds_turn x ≡ false) (sym lost_tab) can.allowed.1,
-      subst (λ (x : Tab X). OfReader (KnowsLink slot) x ⊎ OfWriter (MayWrite slot) x) (sym lost_tab) can.allowed.2,
+      subst (λ (x : Tab X). OfReader (KnowsLink slot) x ⊎ OfWriter (MayWrite slot) x ⊎ OfFreer (MayWipe slot) x) (sym lost_tab) can.allowed.2,
     );
     chooses = tt;
     names = tt;
@@ -422,7 +425,7 @@ module _ {C : Type 0} (tells : Bool) (form : Form C (List ℕ)) (g : Ground (Lis
   no_turn e = cc
 
   -- how a tab that writes may end its turn does not depend on its cell
-  writes_so : (w x : Writer (List ℕ)) (z : Then) → EndsSo z (Writing w) → EndsSo z (Writing x)
+  writes_so : (w x : Writer (List ℕ)) (z : Then) → EndsSo k z (Writing w) → EndsSo k z (Writing x)
   writes_so w x Stays so = tt
   writes_so w x GoesOn so = tt
   writes_so w x Wiped so = so
@@ -434,7 +437,7 @@ module _ {C : Type 0} (tells : Bool) (form : Form C (List ℕ)) (g : Ground (Lis
         becomes = inr record { tab = t; writer = w; old = h; new = held; may = may_rewrite w e turn back; is = refl };
         may = record {
           pass = length-set v.tabs t (Writing record w { turn = Has held }) ∙ may.pass;
-          allowed = (may.allowed.0, (held, ap turn_of here, refl, refl), subst (EndsSo then) (sym here) (writes_so w record w { turn = Has held } then (subst (EndsSo then) e may.allowed.2)));
+          allowed = (may.allowed.0, (held, ap turn_of here, refl, refl), subst (EndsSo k then) (sym here) (writes_so w record w { turn = Has held } then (subst (EndsSo k then) e may.allowed.2)));
         };
         hold = held;
         turn = ap turn_of here;
@@ -443,7 +446,7 @@ module _ {C : Type 0} (tells : Bool) (form : Form C (List ℕ)) (g : Ground (Lis
   ends_so Free e turn back = absurd (no_turn turn)
   ends_so (Retreating a) e turn back = absurd (no_turn turn)
   ends_so (Last a) e turn back = absurd (no_turn turn)
-  ends_so (Freeing f) e turn back = absurd (no_turn turn)
+  ends_so (Freeing f) e turn back = record { becomes = inl refl; may = may; hold = h; turn = ap turn_of e ∙ turn; cell_is = back }
 
   pub ends_with : turn_of (tab_at v t) ≡ Has h → MayReturn k (tab_at v t) h.cell (form.shows c) → EndsFrom form g v t slot then c (returned_by k (tab_at v t) t slot (form.shows c) v)
   ends_with turn back = ends_so (tab_at v t) refl turn back

@@ -71,7 +71,7 @@ offering_of g = record {
 
 -- behind the slots that an inner tab gives back no other one is named
 abbrev pub RestsEnd : {X : Type 0} → State X → Type 0
-RestsEnd s = (i t : ℕ) (f : Freer) → IsTab s i t (Freeing f) → (slot : ℕ) → f.behind ≢ Next slot
+RestsEnd {X} s = (i t : ℕ) (f : Freer X) → IsTab s i t (Freeing f) → (slot : ℕ) → f.behind ≢ Next slot
 
 -- An entry that was halted was never whole: where a version was seen at HALTED, by a pass or a note, fewer slots of it were seen
 -- published than its offer has pieces. That stays so after the version has gone.

@@ -1,5 +1,5 @@
 -- What the core calls a setting: what was there when the store was opened, and the image of each piece of an offer.
-use Rattle.std.specs.Prelude.{◌≡◌, Option, Some, None, ℕ, ◌-◌, List, [], ◌∷◌, map, ℤ, pos, negsuc, Bool, true, false}
+use Rattle.std.specs.Prelude.{◌≡◌, Option, Some, None, ℕ, ◌-◌, List, [], ◌∷◌, map, ℤ, pos, negsuc, Bool, true, false, replicate}
 use mathlib.Core.Option.{some}
 use lib.ListN.{get_elem?}
 use Rattle.rock_disk.specs.Cell.{CellState, shape}
@@ -50,6 +50,11 @@ image_in true offers slots slot p = image record {
 } p.place (next_number p.next)
 image_in false offers slots slot p = []
 
+-- a slot of which each byte is 0
+abbrev pub blank_in : Bool → (slot : ℕ) → List ℕ
+blank_in true slot = replicate slot 0
+blank_in false slot = []
+
 module _ {C O : Type 0} (tells : Bool) (state : C → CellState) (offers : O → Offers) where
   abbrev pub basis_of : About C O → Ground (List ℕ)
   basis_of about = record {
@@ -60,6 +65,7 @@ module _ {C O : Type 0} (tells : Bool) (state : C → CellState) (offers : O →
       words = about.words.value.items;
       contents = map (now_in tells state) about.places.value.items;
       image = image_in tells (offers about.origin.value) about.slots about.slot;
+      blank = blank_in tells about.slot;
     };
     chain = chain_kept about.kept.value about.anchors;
     slot = about.slot;
@@ -71,7 +77,7 @@ form_of tells state = record { shows = shown tells state; shape = λ c. shape (s
 
 abbrev pub no_ground : Ground (List ℕ)
 no_ground = record {
-  setting = record { anchors = 0; slots = 0; passes = 0; words = []; contents = []; image = λ p. [] };
+  setting = record { anchors = 0; slots = 0; passes = 0; words = []; contents = []; image = λ p. []; blank = [] };
   chain = λ a. [];
   slot = 0;
   offers = record { url = λ n. []; body = λ n. []; alone = λ a. None };

@@ -16,14 +16,14 @@ use Rattle.core_model.specs.declared.tab.Tab.{Tab}
 use Rattle.core_model.specs.declared.tab.Tab.TheVariants.{Free, Retreating, Reading, Writing, Last, Freeing}
 use Rattle.core_model.specs.declared.view.View.{View}
 use Rattle.core_model.specs.declared.moves.Then.{Then}
-use Rattle.core_model.specs.declared.moves.Then.TheVariants.{GoesOn, Stays, Wiped}
+use Rattle.core_model.specs.declared.moves.Then.TheVariants.{GoesOn}
 use Rattle.tab_states.specs.declared.tabs.At.{At}
 use Rattle.tab_states.specs.declared.tabs.FreeingAt.{FreeingAt}
 use Rattle.tab_states.specs.declared.tabs.ReadingAt.{ReadingAt}
 use Rattle.tab_states.specs.declared.tabs.WritingAt.{WritingAt}
 
 -- the chain is known to have no slot left: not before a slot has left it
-abbrev pub is_spent : Freer → Bool
+abbrev pub is_spent : {X : Type 0} → Freer X → Bool
 is_spent f = not (f.is_whole && (length f.loose == 0)) && (length f.rest == 0)
 
 -- the first of a list, if there is one
@@ -46,10 +46,10 @@ writing_at w = record {
 }
 
 -- the link of the first slot of the chain, once it was looked at
-abbrev pub link_seen : Freer → Link
+abbrev pub link_seen : {X : Type 0} → Freer X → Link
 link_seen f = cond f.is_looked (link_to (rest_of f.rest) f.behind) NotWritten
 
-abbrev pub freeing_at : Freer → FreeingAt
+abbrev pub freeing_at : {X : Type 0} → Freer X → FreeingAt
 freeing_at f = record { anchor = f.anchor; is_freeing = f.is_freeing; is_whole = f.is_whole; is_spent = is_spent f; loose = length f.loose; found = link_seen f }
 
 abbrev pub at_of : {X : Type 0} → Tab X → At

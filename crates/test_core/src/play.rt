@@ -14,7 +14,7 @@
 // - `claim PASS TAB PLACE`: how far the search of this tab, which writes, has come, `Some(..)`, or `None` where it
 //   searches for no slot;
 // - `# ..`: a comment.
-use core_model::{Cell, Tab, Turn};
+use core_model::{Cell, INNER_TAB, Tab, Turn};
 use core_state::{Act, Content, Core, Step, StepFault};
 use std::alloc::Global;
 use std::process::Abort;
@@ -76,6 +76,18 @@ fn cell_of_writer(core: &Core) -> Option<&Cell<Content>> {
     }
 }
 
+/// The cell that the inner tab of pass 0 has, where it frees and has a turn.
+fn cell_of_freer(core: &Core) -> Option<&Cell<Content>> {
+    let view = core.views().first()?;
+    let Tab::Freeing(freer) = view.tabs.as_slice().get(usize::from(INNER_TAB))? else {
+        return None;
+    };
+    match &freer.turn {
+        Turn::Has(hold) => Some(&hold.cell),
+        Turn::NoTurn => None,
+    }
+}
+
 /// The line on the word of anchor 0, as the core stands.
 fn anchor_told(alloc: Global, core: &Core) -> Option<String> {
     let word = *core.words().first()?;
@@ -100,6 +112,15 @@ fn cell_told(alloc: Global, core: &Core) -> Option<String> {
     let possible = cell.possible.as_slice();
     let (count, is_possible) = (possible.len(), possible.contains(&cell.now));
     format!(in alloc; "cell {is_written} {count} {is_possible}").ok()
+}
+
+/// The line on the cell of the inner tab of pass 0.
+fn inner_told(alloc: Global, core: &Core) -> Option<String> {
+    let cell = cell_of_freer(core)?;
+    let is_blank = matches!(cell.now, Content::Blank);
+    let possible = cell.possible.as_slice();
+    let (count, is_possible) = (possible.len(), possible.contains(&cell.now));
+    format!(in alloc; "inner {is_blank} {count} {is_possible}").ok()
 }
 
 /// The line on the map of taken slots, which stands behind five words of each anchor and two of each slot, and
@@ -135,6 +156,7 @@ fn standing(alloc: Global, core: &Core, line: &str) -> Option<String> {
     match words.next()? {
         "stands" => anchor_told(alloc, core),
         "cell" => cell_told(alloc, core),
+        "inner" => inner_told(alloc, core),
         "seen" => view_told(alloc, core, words.next()?),
         "map" => map_told(alloc, core),
         "logged" => log_told(alloc, core),

@@ -20,7 +20,9 @@ fn script_of(alloc: Global, script: &str) -> Option<(Core, &str)> {
 
 #[test]
 fn steps_answer_as_their_rows_say(rt: HostRuntime) {
-    assert_eq!(rt; SCRIPTS.split("\n\n").count(), 16);
+    assert_eq!(rt; SCRIPTS.split("
+
+").count(), 18);
     for script in SCRIPTS.split("\n\n") {
         let Some((mut core, rows)) = script_of(rt.alloc(), script) else {
             assert!(rt; false, "a script begins with no core: {script}");

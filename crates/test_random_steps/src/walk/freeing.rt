@@ -34,7 +34,7 @@ pub(super) fn freer_act(
     numbers: &mut Numbers,
     seat: Seat,
     view: &View<Content>,
-    freer: &Freer,
+    freer: &Freer<Content>,
 ) -> Act {
     let loose = freer.loose.as_slice().first();
     match (freer.rest.as_slice().first(), loose) {
@@ -51,7 +51,7 @@ fn loosen_act(
     numbers: &mut Numbers,
     seat: Seat,
     view: &View<Content>,
-    freer: &Freer,
+    freer: &Freer<Content>,
     slot: u32,
 ) -> Act {
     match tab_with_room(view) {

@@ -14,5 +14,5 @@ pub returns-clause-planned : goal.returns-clause-planned
 returns-clause-planned c =
     let holds = c.if-not-holds.ensures.0 refl in
     let there = end_there _ _ _ c.requires.scene _ c.args.slot _ c.in-Some.ensures c.requires.cells holds c.args.then (c.if-not-ends_so.ensures.0 refl) _ 0 c.index_of-index.ensures in
-    end_planned _ _ _ c.requires.scene _ c.args.slot _ c.in-Some.ensures c.requires.cells holds c.args.then (c.if-not-ends_so.ensures.0 refl) _ _ c.index_of-index.ensures _ _ (c.index-found.ensures ∙ same_default _ _ c.index-found.result.now 0 there)
-    c.ended_tabs.ensures c.word_addition.ensures
+    end_planned _ _ _ c.requires.scene _ c.args.slot _ c.in-Some.ensures c.requires.cells holds c.args.then (c.if-not-ends_so.ensures.0 refl) _ _ c.index_of-index.ensures _ _ _ (c.index-found.ensures ∙ same_default _ _ c.index-found.result.now 0 there)
+    c.ended_tabs.ensures c.ended_sight-sight.ensures c.word_addition.ensures
