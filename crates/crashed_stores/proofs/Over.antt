@@ -1,15 +1,18 @@
 -- A store that was opened over told cells, as a setting over a file, and what its log keeps to.
-use Rattle.std.proofs.Common.{◌≡◌, ◌⊎◌, inl, inr, ⊎_elim, ◌-◌, ◌<◌, ◌≤◌, ◌^◌, ℕ, List, Bool, true, false, IsTrue, [], length, map, refl, sym, ap, subst, ◌∙◌, arith}
+use Rattle.std.proofs.Common.{◌≡◌, ◌⊎◌, inl, inr, ⊎_elim, ◌-◌, ◌<◌, ◌≤◌, ◌^◌, ℕ, zero, suc, List, Bool, true, false, IsTrue, [], ◌∷◌, length, map, refl, sym, ap, subst, ◌∙◌, arith}
+use Rattle.std.specs.Prelude.{All, drop, replicate, slice_index, take}
 use Rattle.std.proofs.lemmas.List.{length-map}
+use Rattle.std.proofs.lemmas.List.Elements.{All-drop, All-head, All-replicate, All-tail, All-take}
 use mathlib.Core.Option.{some}
 use lib.ListN.{get_elem?}
 use Rattle.std.specs.Global.{Vec}
 use Rattle.link_word.specs.declared.link.Link.{Link}
 use Rattle.link_word.specs.declared.link.Link.TheVariants.{Last as LastLink, Next, NotWritten}
 use Rattle.rock_disk.specs.Cell.{CellState}
+use Rattle.slot_cell.specs.Header.{header_of}
 use Rattle.entry_cut.specs.Content.{image}
 use Rattle.rebuild_model.specs.Entry.{Entry, IsComplete}
-use Rattle.rebuild_model.specs.Image.{image_at}
+use Rattle.rebuild_model.specs.Image.{IsSaneAt, image_at}
 use Rattle.rebuild_model.specs.Rebuilt.{IsRebuilt}
 use Rattle.core_model.specs.declared.tab.Piece.{Piece}
 use Rattle.core_model.specs.State.{State}
@@ -23,7 +26,7 @@ use Rattle.store_rule.specs.declared.store.Pass.{Pass}
 use Rattle.store_rule.specs.declared.store.Store.{Store}
 use Rattle.store_rule.specs.Ground.{Ground, Offers, Rule, offering_of}
 use Rattle.store_rule.specs.Passes.{basis}
-use Rattle.store_rule.specs.Setting.{image_in, next_number, shown}
+use Rattle.store_rule.specs.Setting.{blank_in, image_in, next_number, shown}
 use Rattle.rock_open.specs.Opening.{IsStoreOver}
 use Rattle.crashed_stores.specs.Left.{IsLeftOf, IsOfOrigin, bytes_now, offers_in}
 
@@ -42,6 +45,27 @@ image_told false t o slots slot p = cc
 now_told : {C : Type 0} → (tells : Bool) → IsTrue tells → (cell : C → CellState) (cells : List C) → map (λ c. (shown tells cell c).now) cells ≡ bytes_now cell cells
 now_told true t cell cells = refl
 now_told false t cell cells = cc
+
+-- the blank content, where cells tell
+blank_told : (tells : Bool) → IsTrue tells → (slot : ℕ) → blank_in tells slot ≡ replicate slot 0
+blank_told true t slot = refl
+blank_told false t slot = cc
+
+zero_at : (bytes : List ℕ) → All (λ b. b ≡ 0) bytes → (i : ℕ) → slice_index bytes i ≡ 0
+zero_at [] zeros i = refl
+zero_at (b ∷ bytes) zeros zero = All-head (λ b. b ≡ 0) b bytes zeros
+zero_at (b ∷ bytes) zeros (suc i) = zero_at bytes (All-tail (λ b. b ≡ 0) b bytes zeros) i
+
+zero_version : (image : List ℕ) → All (λ b. b ≡ 0) image → (header_of image).version ≡ 0
+unfolding header_of
+zero_version image zeros =
+    let at = zero_at (take 4 (drop 28 image)) (All-take (λ b. b ≡ 0) 4 (drop 28 image) (All-drop (λ b. b ≡ 0) 28 image zeros)) in
+    omega (arith, at 0, at 1, at 2, at 3)
+
+-- a slot of zeros is not sane: its version is 0
+blank_not_sane : (slot n : ℕ) (images : List (List ℕ)) (j : ℕ) → image_at images j ≡ replicate n 0 → IsSaneAt slot images j → ⊥
+blank_not_sane slot n images j e h = let some = h.sane.version_from in
+    let none = zero_version (image_at images j) (subst (All (λ b. b ≡ 0)) (sym e) (All-replicate (λ b. b ≡ 0) n 0 refl)) in omega (arith, some, none)
 
 content_at : (xs : List (List ℕ)) (j : ℕ) (x : List ℕ) → get_elem? xs j ≡ some x → image_at xs j ≡ x
 content_at xs j x e = at_or xs j x [] e
@@ -71,6 +95,7 @@ module _ {C O : Type 0} (tells : Bool) (told : IsTrue tells) (cell : C → CellS
     many = length-map cells (λ c. (cell c).now) ∙ sym over.slots_are;
     content = λ j x e. content_at (bytes_now cell cells) j x (subst (λ (z : List (List ℕ)). get_elem? z j ≡ some x) contents e);
     image = λ j a p. piece_bytes j a p ∙ ap (λ (n : ℕ). bytes_of n (offers_in g) (part_of j a p)) over.slot_is;
+    blank = λ images j e. blank_not_sane slot g.slot images j (e ∙ blank_told tells told g.slot);
     greatest = λ j sane. let a = rebuilt.greatest.above j sane in let c = over.opened.opened.counter in omega arith;
   }
 

@@ -193,9 +193,9 @@ module _ (g : Ground (List ℕ)) (lone : IsLone g) (rename : ℕ → ℕ) where
       drawn_word = (step_same g o.drew.middle o.drawn Draw o.drew.found Counter o.drew.draw refl tt).same (Anchor a) tt lt (λ e. cc) ∙ (counted_same g lone o.seen o.drew.middle o.drew.counted o.drew.look).same (Anchor a) tt lt (λ none. none)
 
   -- Where an idle entry was there, its slots are given back. The word stays.
-  module _ (v w : View (List ℕ)) (freed : Freed g v w) (a : ℕ) (c : Chain) (was : tab_in v inner ≡ Freeing (freer_of a false c)) where
-    freer_is : freed.freer ≡ freer_of a false c
-    freer_is = same_freer (freed.freer) (freer_of a false c) (sym freed.was ∙ was)
+  module _ (v w : View (List ℕ)) (freed : Freed g v w) (a n : ℕ) (c : Chain) (was : tab_in v inner ≡ Freeing (freer_of a false n c)) where
+    freer_is : freed.freer ≡ freer_of a false n c
+    freer_is = same_freer (freed.freer) (freer_of a false n c) (sym freed.was ∙ was)
 
     pub freed_word : a < g.setting.anchors → has g w (Anchor a) ≡ has g v (Anchor a)
     freed_word lt = freed.went.steady (Anchor a) tt lt lone (λ q k e. of_one q e (freed.changed q k))
@@ -393,9 +393,9 @@ module _ (g : Ground (List ℕ)) (lone : IsLone g) (rename : ℕ → ℕ) (t a n
 
       of_idle : (idle : is_idle n ≡ true) → Freed g took.taken w → IsTaken e
       of_idle idle f = let k = took_idle g t a n version v took.taken nine writes_below inner_free took.took idle in record {
-        word = freed_word g lone rename took.taken w f a (chain_found took.took.takes.state (Take t a version)) k.1 lt ∙ taken_word;
+        word = freed_word g lone rename took.taken w f a n (chain_found took.took.takes.state (Take t a version)) k.1 lt ∙ taken_word;
         tab = ap (λ (xs : List (TabOf (List ℕ))). get_or xs t TabOf.Free) f.tabs ∙ get_or-set_other took.taken.tabs inner t TabOf.Free TabOf.Free (λ z. let b = writes_below in omega arith) ∙ k.0;
-        but = freed_else g lone rename took.taken w f a (chain_found took.took.takes.state (Take t a version)) k.1 (taken_by t a e p) (few_after e) taken_but;
+        but = freed_else g lone rename took.taken w f a n (chain_found took.took.takes.state (Take t a version)) k.1 (taken_by t a e p) (few_after e) taken_but;
       }
 
       of_cleared : WasVacant g t a v n took.taken w ⊎ WasIdle g t a v n took.taken w → IsTaken e

@@ -328,7 +328,7 @@ evicted_number w none low = let e = epoch_of-word_number w (omega arith) in let 
 
 freer_in : Tab (List ℕ) → Freer (List ℕ)
 freer_in (Freeing f) = f
-freer_in tab = freer_of 0 true no_chain
+freer_in tab = freer_of 0 true 0 no_chain
 
 abbrev freeing_tab : Freer (List ℕ) → Tab (List ℕ)
 freeing_tab f = Freeing f
@@ -339,15 +339,15 @@ same_freer f h e = ap freer_in e
 
 module _ (g : Ground (List ℕ)) where
   -- the chain of an entry that is evicted goes to the inner tab
-  pub evict_freer : (v u : View (List ℕ)) (t a n : ℕ) → (st : Steps g v (Evict t a) n u) → n ≡ last_find a v.trail → tab_at u inner ≡ Freeing (freer_of a true (chain_of st.state a))
+  pub evict_freer : (v u : View (List ℕ)) (t a n : ℕ) → (st : Steps g v (Evict t a) n u) → n ≡ last_find a v.trail → tab_at u inner ≡ Freeing (freer_of a true n (chain_of st.state a))
   evict_freer v u t a n st won = ap (λ (z : View (List ℕ)). tab_at z inner) st.leaves ∙ (let z = eq-eqb n (last_find a v.trail) won in rw z refl)
-      ∙ get_or-set_same (set v.tabs t Free) inner (Freeing (freer_of a true (chain_of st.state a))) Free (let n = st.may.pass in let m = length-set v.tabs t Free in omega arith)
+      ∙ get_or-set_same (set v.tabs t Free) inner (Freeing (freer_of a true n (chain_of st.state a))) Free (let n = st.may.pass in let m = length-set v.tabs t Free in omega arith)
 
   -- and so does that of an idle one whose anchor is taken
-  pub take_freer : (v u : View (List ℕ)) (t a version n : ℕ) → (st : Steps g v (Take t a version) n u) → n ≡ last_find a v.trail → is_idle n ≡ true → tab_at u inner ≡ Freeing (freer_of a false (chain_of st.state a))
+  pub take_freer : (v u : View (List ℕ)) (t a version n : ℕ) → (st : Steps g v (Take t a version) n u) → n ≡ last_find a v.trail → is_idle n ≡ true → tab_at u inner ≡ Freeing (freer_of a false n (chain_of st.state a))
   take_freer v u t a version n st won idle = ap (λ (z : View (List ℕ)). tab_at z inner) st.leaves ∙ (let z = eq-eqb n (last_find a v.trail) won in rw (z, idle) refl)
-      ∙ get_or-set_other (set v.tabs inner (Freeing (freer_of a false (chain_of st.state a)))) t inner (Writing (writer_of a version)) Free (let w = st.may.allowed.1.writes in omega arith)
-      ∙ get_or-set_same v.tabs inner (Freeing (freer_of a false (chain_of st.state a))) Free (let n = st.may.pass in omega arith)
+      ∙ get_or-set_other (set v.tabs inner (Freeing (freer_of a false n (chain_of st.state a)))) t inner (Writing (writer_of a version)) Free (let w = st.may.allowed.1.writes in omega arith)
+      ∙ get_or-set_same v.tabs inner (Freeing (freer_of a false n (chain_of st.state a))) Free (let n = st.may.pass in omega arith)
 
 module _ (g : Ground (List ℕ)) (rename : ℕ → ℕ) (lone : IsLone g) where
   -- After an entry that nobody reads was evicted its chain is at the inner tab, and its anchor at FREEING.
@@ -365,7 +365,7 @@ module _ (g : Ground (List ℕ)) (rename : ℕ → ℕ) (lone : IsLone g) where
       → entry_at p a ≡ Some e → readers p a ≡ 0 → guests a ≡ 0 → EvictedAt u a p guests
   evict_leaves v u t a n p guests e knows st won there unread alone = record {
     inside = inside_;
-    freer = freer_of a true (chain_of st.state a);
+    freer = freer_of a true n (chain_of st.state a);
     is = evict_freer g v u t a n st won;
     anchor_is = refl;
     freeing = refl;
@@ -412,8 +412,8 @@ module _ (g : Ground (List ℕ)) (rename : ℕ → ℕ) (lone : IsLone g) where
       inside : a < g.setting.anchors
       inside = st.may.allowed.0
 
-      freer_is : freed.freer ≡ freer_of a false (chain_of st.state a)
-      freer_is = same_freer freed.freer (freer_of a false (chain_of st.state a)) (sym freed.was ∙ take_freer g v u t a version n st won idle)
+      freer_is : freed.freer ≡ freer_of a false n (chain_of st.state a)
+      freer_is = same_freer freed.freer (freer_of a false n (chain_of st.state a)) (sym freed.was ∙ take_freer g v u t a version n st won idle)
 
       not_freed : freed.freer.is_freeing ≡ false → FreedAt g rename lone freed.freer (Anchor a) → ⊥
       not_freed off (inl x) = let e = x.1 in cc

@@ -89,7 +89,7 @@ module _ {X : Type 0} (g : Ground X) (t : ℕ) (v : View X) (counted : is_counte
         ∙ ap (λ (xs : List (Tab X)). set xs t Tab.Free) tabs1 ∙ set_again v.tabs t (Tab.Last (anchor_of (tab_at v t))) Tab.Free
 
     abbrev f : Freer X
-    f = freer_of a true (found_as g.setting e.evict.state h.middle (Evict t a) e.found).chain
+    f = freer_of a true e.found (found_as g.setting e.evict.state h.middle (Evict t a) e.found).chain
 
     won_tabs : e.found ≡ last_find a h.middle.trail → w.tabs ≡ set (with_tab v t Tab.Free) inner (Tab.Freeing f)
     won_tabs is = ap View.tabs e.evict.leaves ∙ (let n = eq-eqb e.found (last_find a h.middle.trail) is in rw n refl)
@@ -102,10 +102,10 @@ module _ {X : Type 0} (g : Ground X) (t : ℕ) (v : View X) (counted : is_counte
   done_tabs w (inr (off, inr h)) = lost_tabs Left.Done w h (λ is. must_not_be_done (h.gives_up.won.1 is))
 
   -- it is to free the entry
-  pub must_free : (m : View X) → Leaves g v t Left.MustFree m → (f : Freer X) × (m.tabs ≡ set (with_tab v t Tab.Free) inner (Tab.Freeing f)) × (f.is_whole ≡ true) × (f.loose ≡ [])
+  pub must_free : (m : View X) → Leaves g v t Left.MustFree m → (f : Freer X) × (m.tabs ≡ set (with_tab v t Tab.Free) inner (Tab.Freeing f)) × (f.is_whole ≡ true) × (f.loose ≡ []) × (has_turn f.turn ≡ false)
   must_free m (inl h) = absurd (false≢true (sym (not_last (tab_at v t) counted) ∙ h.0))
   must_free m (inr (off, inl h)) = absurd (must_not_be_done (sym h.done))
-  must_free m (inr (off, inr h)) = (f Left.MustFree m h, won_tabs Left.MustFree m h (h.gives_up.won.0 refl), refl, refl)
+  must_free m (inr (off, inr h)) = (f Left.MustFree m h, won_tabs Left.MustFree m h (h.gives_up.won.0 refl), refl, refl, refl)
 
   -- and has freed it
   pub freed_tabs : InnerIsFree v ⊎ (t ≡ inner) → (m w : View X) → Leaves g v t Left.MustFree m → Freed g m w → w.tabs ≡ with_tab v t Tab.Free
@@ -165,4 +165,5 @@ module _ {C O : Type 0} (tells : Bool) (state : C → CellState) (offers : O →
           ∙ get_or-set_same (with_tab (view p) t Tab.Free) inner (Tab.Freeing must.0) Tab.Free (let n = pass_of p in let l = Rattle.std.proofs.Common.length-set (view p).tabs t Tab.Free in omega arith);
       whole = must.2;
       none = must.3;
+      unheld = must.4;
     }

@@ -111,14 +111,14 @@ module _ {X : Type 0} (g : Ground X) (t a n version : ℕ) (v w : View X) (pass 
       tabs = ap View.tabs took.takes.leaves ∙ (let h = eq-eqb n (last_find a took.drawn.trail) found in let i = not_idle n vacant in rw (h, i) refl)
 
   -- and where an idle entry was there, which the inner tab frees
-  pub took_idle : is_idle n ≡ true → (tab_at w t ≡ writer) × (tab_at w inner ≡ Freeing (freer_of a false (chain_found took.takes.state (Take t a version))))
+  pub took_idle : is_idle n ≡ true → (tab_at w t ≡ writer) × (tab_at w inner ≡ Freeing (freer_of a false n (chain_found took.takes.state (Take t a version))))
   took_idle idle = (
     ap (λ xs. get_or xs t Tab.Free) tabs ∙ get_or-set_same (with_tab took.drawn inner rest) t writer Tab.Free (let l = length-set took.drawn.tabs inner rest in let p = nine in let b = below in omega arith),
     ap (λ xs. get_or xs inner Tab.Free) tabs ∙ get_or-set_other (with_tab took.drawn inner rest) t inner writer Tab.Free (λ e. let b = below in omega arith) ∙ get_or-set_same took.drawn.tabs inner rest Tab.Free (let p = nine in omega arith),
   )
     where
       rest : Tab X
-      rest = Freeing (freer_of a false (chain_found took.takes.state (Take t a version)))
+      rest = Freeing (freer_of a false n (chain_found took.takes.state (Take t a version)))
 
       tabs : w.tabs ≡ set (with_tab took.drawn inner rest) t writer
       tabs = ap View.tabs took.takes.leaves ∙ (let h = eq-eqb n (last_find a took.drawn.trail) found in rw (h, idle) refl)
@@ -137,7 +137,7 @@ module _ {C O : Type 0} (tells : Bool) (state : C → CellState) (offers : O →
   pub may_clear : MayClear tells state offers s q
   may_clear = ⊎_elim
       (λ (v : is_vacant n ≡ true). inl (own, (took_vacant h t a n version (view p) (view q) (pass_of p) may.below may.inner_free took v).1))
-      (λ (i : is_idle n ≡ true). inr record { own = own; freer = _; is = (took_idle h t a n version (view p) (view q) (pass_of p) may.below may.inner_free took i).1; whole = refl; none = refl })
+      (λ (i : is_idle n ≡ true). inr record { own = own; freer = _; is = (took_idle h t a n version (view p) (view q) (pass_of p) may.below may.inner_free took i).1; whole = refl; none = refl; unheld = refl })
       took.open_to
 
   module _ (r : Pass C) (own2 : IsOf tells state offers s r) (same : InnerIsFree (view q) → r ≡ q) (freed : (InnerIsFree (view q) → ⊥) → Freed h (view q) (view r)) where

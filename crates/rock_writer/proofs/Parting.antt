@@ -125,27 +125,27 @@ module _ {X : Type 0} (g : Ground X) (v w : View X) (t : ℕ) (pass : IsPass v) 
       tabs = ap View.tabs gives.evict.leaves ∙ (let ne = ne_eqb gives.found (last_find (anchor_of (tab_at v t)) v.trail) missed in rw ne refl)
 
   -- the inner tab has its slots to give back
-  pub gave_up_must : GivenUp g v t Left.MustFree w → (tab_at w t ≡ Tab.Free) × ((c : Chain) × (tab_at w inner ≡ Freeing (freer_of (anchor_of (tab_at v t)) true c)))
+  pub gave_up_must : GivenUp g v t Left.MustFree w → (tab_at w t ≡ Tab.Free) × ((n : ℕ) × (c : Chain) × (tab_at w inner ≡ Freeing (freer_of (anchor_of (tab_at v t)) true n c)))
   gave_up_must gives = (
     ap (λ xs. get_or xs t Tab.Free) tabs ∙ get_or-set_other (with_tab v t Tab.Free) inner t rest Tab.Free (λ e. let b = below in omega arith) ∙ get_or-set_same v.tabs t Tab.Free Tab.Free (let p = pass in let b = below in omega arith),
-    (chain, ap (λ xs. get_or xs inner Tab.Free) tabs ∙ get_or-set_same (with_tab v t Tab.Free) inner rest Tab.Free (let n = length-set v.tabs t Tab.Free in let p = pass in omega arith)),
+    (gives.found, chain, ap (λ xs. get_or xs inner Tab.Free) tabs ∙ get_or-set_same (with_tab v t Tab.Free) inner rest Tab.Free (let n = length-set v.tabs t Tab.Free in let p = pass in omega arith)),
   )
     where
       chain : Chain
       chain = chain_found gives.evict.state (Evict t (anchor_of (tab_at v t)))
 
       rest : Tab X
-      rest = Freeing (freer_of (anchor_of (tab_at v t)) true chain)
+      rest = Freeing (freer_of (anchor_of (tab_at v t)) true gives.found chain)
 
       tabs : w.tabs ≡ set (with_tab v t Tab.Free) inner rest
       tabs = ap View.tabs gives.evict.leaves ∙ (let h = eq-eqb gives.found (last_find (anchor_of (tab_at v t)) v.trail) (gives.won.0 refl) in rw h refl)
 
 module _ {C O : Type 0} (tells : Bool) (state : C → CellState) (offers : O → Offers) (s : Store C O) (p q : Pass C) (t : ℕ) (may : MayPart tells state offers s p t) (gives : GivenUp (basis tells state offers s) (view p) t Left.MustFree (view q)) (own : IsOf tells state offers s q) where
-  must : (tab_at (view q) t ≡ Tab.Free) × ((c : Chain) × (tab_at (view q) inner ≡ Freeing (freer_of (anchor_of (tab_at (view p) t)) true c)))
+  must : (tab_at (view q) t ≡ Tab.Free) × ((n : ℕ) × (c : Chain) × (tab_at (view q) inner ≡ Freeing (freer_of (anchor_of (tab_at (view p) t)) true n c)))
   must = gave_up_must (basis tells state offers s) (view p) (view q) t (pass_of p) may.below may.inner_free gives
 
   pub may_free : MayFreeChain tells state offers s q
-  may_free = record { own = own; freer = _; is = must.1.1; whole = refl; none = refl }
+  may_free = record { own = own; freer = _; is = must.1.2; whole = refl; none = refl; unheld = refl }
 
   pub freed_tabs : (w : View (List ℕ)) → Freed (basis tells state offers s) (view q) w → (tab_at w t ≡ Tab.Free) × InnerIsFree w
   freed_tabs w freed = (

@@ -110,7 +110,7 @@ module _ {X : Type 0} (g : Ground X) (hand : ℕ) (v : View X) where
       hit = eq-eqb x.word (last_find a x.before.trail) (sym x.looked.last)
 
       pub victim : Freer X
-      victim = freer_of a true (chain_of x.step.state a)
+      victim = freer_of a true x.word (chain_of x.step.state a)
 
       free_tab : (y : Tab X) → is_free y ≡ true → y ≡ Free
       free_tab Free e = refl
@@ -120,15 +120,15 @@ module _ {X : Type 0} (g : Ground X) (hand : ℕ) (v : View X) where
       free_tab (Tab.Last b) e = cc
       free_tab (Freeing f) e = cc
 
-      pub won_tabs : won.tabs ≡ set v.tabs inner (Freeing (freer_of a true (chain_of x.step.state a)))
-      won_tabs = ap View.tabs x.step.leaves ∙ (rw hit (ap (λ (xs : List (Tab X)). set (set xs inner Free) inner (Freeing (freer_of a true (chain_of x.step.state a)))) (x.looked.tabs ∙ h.tabs)
-          ∙ set_again v.tabs inner Free (Freeing (freer_of a true (chain_of x.step.state a)))))
+      pub won_tabs : won.tabs ≡ set v.tabs inner (Freeing (freer_of a true x.word (chain_of x.step.state a)))
+      won_tabs = ap View.tabs x.step.leaves ∙ (rw hit (ap (λ (xs : List (Tab X)). set (set xs inner Free) inner (Freeing (freer_of a true x.word (chain_of x.step.state a)))) (x.looked.tabs ∙ h.tabs)
+          ∙ set_again v.tabs inner Free (Freeing (freer_of a true x.word (chain_of x.step.state a)))))
 
-      pub won_inner : tab_at won inner ≡ Freeing (freer_of a true (chain_of x.step.state a))
-      won_inner = ap (λ (xs : List (Tab X)). get_or xs inner Tab.Free) won_tabs ∙ get_or-set_same v.tabs inner (Freeing (freer_of a true (chain_of x.step.state a))) Tab.Free (let n = pass in omega arith)
+      pub won_inner : tab_at won inner ≡ Freeing (freer_of a true x.word (chain_of x.step.state a))
+      won_inner = ap (λ (xs : List (Tab X)). get_or xs inner Tab.Free) won_tabs ∙ get_or-set_same v.tabs inner (Freeing (freer_of a true x.word (chain_of x.step.state a))) Tab.Free (let n = pass in omega arith)
 
       pub won_other : (t : ℕ) → t ≢ inner → tab_at won t ≡ tab_at v t
-      won_other t ne = ap (λ (xs : List (Tab X)). get_or xs t Tab.Free) won_tabs ∙ get_or-set_other v.tabs inner t (Freeing (freer_of a true (chain_of x.step.state a))) Tab.Free ne
+      won_other t ne = ap (λ (xs : List (Tab X)). get_or xs t Tab.Free) won_tabs ∙ get_or-set_other v.tabs inner t (Freeing (freer_of a true x.word (chain_of x.step.state a))) Tab.Free ne
 
       -- an idle entry has a slot
       pub has_slots : (chain_of x.step.state a).slots ++ (chain_of x.step.state a).tail ≢ []
@@ -191,15 +191,15 @@ module _ {X : Type 0} (g : Ground X) (hand : ℕ) (v : View X) where
         added = together k.added front;
         went = went_then g v won w front k.added front_went k.went;
         undrawn = none_drawn k.added.items front.items k.undrawn (none_drawn evict_added.items (together x.looked.added h.added).items refl (none_drawn x.looked.added.items h.added.items x.looked.undrawn h.undrawn));
-        tabs = k.tabs ∙ (λ i. set (set (won_tabs i) inner Free) t (reserves (won_other t other i) slot)) ∙ ap (λ (xs : List (Tab X)). set xs t (reserves (tab_at v t) slot)) (set_again v.tabs inner (Freeing (freer_of a true (chain_of x.step.state a))) Free
+        tabs = k.tabs ∙ (λ i. set (set (won_tabs i) inner Free) t (reserves (won_other t other i) slot)) ∙ ap (λ (xs : List (Tab X)). set xs t (reserves (tab_at v t) slot)) (set_again v.tabs inner (Freeing (freer_of a true x.word (chain_of x.step.state a))) Free
             ∙ ap (set v.tabs inner) (sym (free_tab (tab_at v inner) free)) ∙ set_there v.tabs inner Tab.Free (let n = pass in omega arith));
         changed = λ q c. ⊎_elim (λ l. ⊎_elim (λ y. inl y) (λ (e : q ≡ Anchor k.freer.anchor). inr (e ∙ ap Anchor (ap Freer.anchor same))) (k.changed q l)) (λ l. inr (front_changed q l)) (Contains-append_cases k.added.changed front.changed q c);
         done = ap (λ xs. xs ++ front.done) k.done ∙ (λ i. record { pass = front_went.pass i; kind = Raised; anchor = (ap Freer.anchor same) i; epoch = epoch_of k.word; was_idle = false } ∷ front_done i);
         left = subst (λ (z : ℕ). has g w (Anchor z) ≡ k.word) (ap Freer.anchor same) k.left;
       }
         where
-          same : k.freer ≡ freer_of a true (chain_of x.step.state a)
-          same = same_freer k.freer (freer_of a true (chain_of x.step.state a)) (sym k.was ∙ won_inner)
+          same : k.freer ≡ freer_of a true x.word (chain_of x.step.state a)
+          same = same_freer k.freer (freer_of a true x.word (chain_of x.step.state a)) (sym k.was ∙ won_inner)
 
       pub counted : (t slot : ℕ) (w : View X) (other : t ≢ inner) (k : KeptFirst g t won slot w) (hand_after : ℕ) (moved : hand_after ≡ onward g.setting.anchors a 1) → CountsEvicted g hand v t slot w hand_after
       unfolding evicts
@@ -247,7 +247,7 @@ module _ {C O : Type 0} (tells : Bool) (state : C → CellState) (offers : O →
   pub may_keep : (hand steps : ℕ) → hand < (basis tells state offers s).setting.anchors → steps < (basis tells state offers s).setting.anchors → (u : View (List ℕ)) (h : PassedSome (basis tells state offers s) hand (view p) steps u) (q : Pass C)
       → IsOf tells state offers s q → Won (basis tells state offers s) (onward (basis tells state offers s).setting.anchors hand steps) u (view q) → MayKeepFirst tells state offers s q t
   may_keep hand steps begins below u h q own x = record {
-    chain = record { own = own; freer = _; is = won_inner (basis tells state offers s) hand (view p) begins steps below u h (pass_of p) may.inner_free (view q) x; whole = refl; none = refl };
+    chain = record { own = own; freer = _; is = won_inner (basis tells state offers s) hand (view p) begins steps below u h (pass_of p) may.inner_free (view q) x; whole = refl; none = refl; unheld = refl };
     below = may.below;
     freeing = refl;
     some = has_slots (basis tells state offers s) hand (view p) begins steps below u h (pass_of p) may.inner_free (view q) x;

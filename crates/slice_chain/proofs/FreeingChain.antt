@@ -87,7 +87,7 @@ module _ {C O : Type 0} (tells : Bool) (state : C → CellState) (offers : O →
       ∙ ap (λ (x : Tab (List ℕ)). loaded x Start loaded_.found) may.is
 
   pub may_rest : MayFreeRest tells state offers s p1 (slot_named n)
-  may_rest = record { own = loaded_.own; freer = f; is = tabs1; front_is = named_head f.rest n start_is; none = may.none; some = has_slot }
+  may_rest = record { own = loaded_.own; freer = f; is = tabs1; front_is = named_head f.rest n start_is; none = may.none; some = has_slot; unheld = may.unheld }
 
   abbrev pub load_added : Added
   load_added = added_by (view p) (LoadSide inner Start) (found_as g.setting loaded_.step.state (view p) (LoadSide inner Start) loaded_.found)

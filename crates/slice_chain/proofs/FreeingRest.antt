@@ -4,7 +4,7 @@ use Rattle.std.proofs.lemmas.List.Elements.{Contains-append_cases, Contains-appe
 use Rattle.rock_disk.specs.Cell.{CellState}
 use Rattle.core_model.specs.Chains.{rest_of}
 use Rattle.core_model.specs.SlotMoves.{emptied}
-use Rattle.core_model.specs.Tabs.{IsPass, inner, tab_at, with_tab}
+use Rattle.core_model.specs.Tabs.{IsPass, has_turn, inner, tab_at, with_tab}
 use Rattle.core_model.specs.Trails.{draws}
 use Rattle.core_model.specs.declared.moves.Move.TheVariants.{Disown, GetLink, Loosen}
 use Rattle.core_model.specs.declared.tab.Freer.{Freer}
@@ -136,6 +136,7 @@ module _ {X : Type 0} (g : Ground X) (v : View X) (pass : IsPass v) where
       none = refl;
       anchor = r.some.anchor;
       same = r.some.same;
+      turn = r.some.turn;
       tabs = h.tabs ∙ ap (λ (f : Freer X). with_tab u inner (emptied (with_less f))) is_freer ∙ ap (λ (xs : List (Tab X)). set xs inner (emptied (with_less r.some.freer))) r.some.tabs
           ∙ set_again v.tabs inner (emptied r.some.freer) (emptied (with_less r.some.freer));
     };
@@ -183,6 +184,7 @@ module _ {C O : Type 0} (tells : Bool) (state : C → CellState) (offers : O →
       none = may.none;
       anchor = refl;
       same = refl;
+      turn = refl;
       tabs = sym (set_there (view p).tabs inner Tab.Free (let n = pass_of p in omega arith)) ∙ ap (set (view p).tabs inner) (may.is ∙ sym (still_frees (List ℕ) may.freer may.some));
     };
   }
@@ -194,8 +196,12 @@ module _ {C O : Type 0} (tells : Bool) (state : C → CellState) (offers : O →
     is = left_tab (basis tells state offers s) (view p) (pass_of p) r.freer r.left (view q) r.some ∙ still_frees (List ℕ) r.some.freer (λ e. not_empty slot r.some.freer.rest there);
     front = there;
     none = r.some.none;
+    unheld = ap has_turn (r.some.turn ∙ ap Freer.turn same) ∙ may.unheld;
   }
     where
+      same : r.freer ≡ may.freer
+      same = same_freer r.freer may.freer (sym r.was ∙ may.is)
+
       there : r.some.freer.rest ≡ slot ∷ rest_of r.some.freer.rest
       there = head_there slot r.some.freer.rest (r.front_is ∙ ap head_of (sym r.some.rest))
 

@@ -85,7 +85,7 @@ module _ {C O : Type 0} (tells : Bool) (state : C → CellState) (offers : O →
     first = head_there slot f.rest (is ∙ named)
 
     abbrev pub may_front : MayFreeFront tells state offers s p1 slot
-    may_front = record { own = start.own; freer = f; is = chain.tabs1 tells state offers s p may.chain n p1 start; front = first; none = may.chain.none }
+    may_front = record { own = start.own; freer = f; is = chain.tabs1 tells state offers s p may.chain n p1 start; front = first; none = may.chain.none; unheld = may.chain.unheld }
 
     module _ (link : LinkOf) (p2 : Pass C) (looked : Made tells state offers s p1 (GetLink inner slot) (link_number link) p2) where
       abbrev looked_freer : Freer (List ℕ)
@@ -107,7 +107,7 @@ module _ {C O : Type 0} (tells : Bool) (state : C → CellState) (offers : O →
         can = record {
           allowed = (
             let b = may.below in omega arith,
-            inr (subst (OfWriter MayReserve) (sym at_tab) may.may, subst (OfFreer (λ x. MayLoosen slot x × (x.is_freeing ≡ true))) (sym at_inner) ((first, refl), may.freeing)),
+            inr (subst (OfWriter MayReserve) (sym at_tab) may.may, subst (OfFreer (λ x. MayLoosen slot x × (x.is_freeing ≡ true))) (sym at_inner) ((first, refl, may.chain.unheld), may.freeing)),
           );
           chooses = tt;
           names = tt;
@@ -142,6 +142,7 @@ module _ {C O : Type 0} (tells : Bool) (state : C → CellState) (offers : O →
           front_is = e ∙ front.link_is tells state offers s p1 slot may_front (link_number link) p2 looked link refl;
           none = none_loose;
           some = λ off. absurd (false≢true (sym off ∙ may.freeing));
+          unheld = may.chain.unheld;
         }
 
         module _ (p4 : Pass C) (gave : RestFreed g (view p3) (view p4)) (follows4 : Follows tells state offers s inner p3 p4) where

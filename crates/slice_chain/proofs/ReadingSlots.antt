@@ -163,7 +163,7 @@ module _ {C O : Type 0} (tells : Bool) (state : C → CellState) (offers : O →
         tabs4 : (view p4).tabs ≡ with_tab (view p) t (Reading with_turn)
         tabs4 = ap View.tabs back.same ∙ tabs3
 
-        ends_so : (done : Bool) → EndsSo (after_reading done) (tab_at (view p4) t)
+        ends_so : (done : Bool) → EndsSo g.setting (after_reading done) (tab_at (view p4) t)
         ends_so true = tt
         ends_so false = tt
 

@@ -124,7 +124,7 @@ module _ {C O : Type 0} (tells : Bool) (state : C → CellState) (offers : O →
         allowed = (
           let b = may.below in omega arith,
           ap (λ (x : Tab (List ℕ)). has_turn (turn_of x)) logged_tab ∙ may.idle,
-          inr (subst (OfWriter (MayWrite slot)) (sym logged_tab) record { first = subst (λ (z : ℕ). writer.reserved ≡ z ∷ rest_of writer.reserved) (sym slot_same) may.may.first; logged = refl }),
+          inr (inl (subst (OfWriter (MayWrite slot)) (sym logged_tab) record { first = subst (λ (z : ℕ). writer.reserved ≡ z ∷ rest_of writer.reserved) (sym slot_same) may.may.first; logged = refl })),
         );
         chooses = tt;
         names = tt;

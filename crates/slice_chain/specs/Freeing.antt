@@ -13,7 +13,7 @@ use Rattle.store_rule.specs.Words.{Mine, has}
 use Rattle.rock_disk.specs.Cell.{CellState}
 use Rattle.core_model.specs.Chains.{rest_of}
 use Rattle.core_model.specs.SlotMoves.{emptied}
-use Rattle.core_model.specs.Tabs.{inner, tab_at, with_tab}
+use Rattle.core_model.specs.Tabs.{has_turn, inner, tab_at, with_tab}
 use Rattle.core_model.specs.Trails.{draws}
 use Rattle.core_model.specs.declared.moves.Move.TheVariants.{Disown, GetLink, Loosen}
 use Rattle.core_model.specs.declared.tab.Freer.{Freer}
@@ -35,6 +35,7 @@ pub record MayFreeFront {C O : Type 0} (tells : Bool) (state : C → CellState) 
   pub is : tab_at (view p) inner ≡ Freeing freer
   pub front : freer.rest ≡ slot ∷ rest_of freer.rest
   pub none : freer.loose ≡ []
+  pub unheld : has_turn freer.turn ≡ false  -- no slot leaves a chain under its turn
 
 -- the inner tab without the first slot of its chain, which is free
 abbrev pub with_less : {X : Type 0} → Freer X → Freer X
@@ -67,6 +68,7 @@ pub record MayFreeRest {C O : Type 0} (tells : Bool) (state : C → CellState) (
   pub front_is : front ≡ head_of freer.rest
   pub none : freer.loose ≡ []
   pub some : freer.is_freeing ≡ false → freer.rest ≢ []
+  pub unheld : has_turn freer.turn ≡ false
 
 -- it frees a chain of which no slot has left yet
 pub record MayFreeChain {C O : Type 0} (tells : Bool) (state : C → CellState) (offers : O → Offers) (s : Store C O) (p : Pass C) : Type 0 where
@@ -75,6 +77,7 @@ pub record MayFreeChain {C O : Type 0} (tells : Bool) (state : C → CellState) 
   pub is : tab_at (view p) inner ≡ Freeing freer
   pub whole : freer.is_whole ≡ true
   pub none : freer.loose ≡ []
+  pub unheld : has_turn freer.turn ≡ false
 
 module _ {C O : Type 0} (tells : Bool) (state : C → CellState) (offers : O → Offers) where
   -- The pass is of the store still. Every tab but this and the inner one is as it was, with the word that it left; all buffers and
@@ -122,6 +125,7 @@ module _ {X : Type 0} (g : Ground X) where
     pub none : freer.loose ≡ []
     pub anchor : freer.anchor ≡ f.anchor
     pub same : freer.is_freeing ≡ f.is_freeing
+    pub turn : freer.turn ≡ f.turn
     pub tabs : w.tabs ≡ with_tab v inner (emptied freer)
 
   -- while they are given back, with this one at the front

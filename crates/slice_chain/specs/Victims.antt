@@ -146,7 +146,7 @@ module _ {X : Type 0} (g : Ground X) (hand : ℕ) (v : View X) where
     pub victim : Won g (onward g.setting.anchors hand steps) looked won
     pub was : Mine g v (Anchor (onward g.setting.anchors hand steps)) → has g v (Anchor (onward g.setting.anchors hand steps)) ≡ victim.word
     pub kept : KeptFirst g t won slot w
-    pub chain : kept.freer ≡ freer_of (onward g.setting.anchors hand steps) true (chain_of victim.step.state (onward g.setting.anchors hand steps))
+    pub chain : kept.freer ≡ freer_of (onward g.setting.anchors hand steps) true victim.word (chain_of victim.step.state (onward g.setting.anchors hand steps))
     pub added : Added
     pub went : Went g v added w
     pub undrawn : draws added.items ≡ 0
