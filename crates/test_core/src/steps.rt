@@ -1,6 +1,7 @@
 mod images;
 mod other_rows;
 mod rows;
+mod wiping_rows;
 
 use crate::play::{numbers, parted, play};
 use core_state::{Core, Picks, Step, StepFault};
@@ -8,6 +9,7 @@ use other_rows::{NO_STEPS, SECOND_WORD};
 use rows::SCRIPTS;
 use std::alloc::Global;
 use test_core_kit::{blank_core, make};
+use wiping_rows::WIPING;
 
 /// The core that the head of a script asks for, `core SLOTS ANCHORS PASSES`, and the rows of the script.
 fn script_of(alloc: Global, script: &str) -> Option<(Core, &str)> {
@@ -20,10 +22,9 @@ fn script_of(alloc: Global, script: &str) -> Option<(Core, &str)> {
 
 #[test]
 fn steps_answer_as_their_rows_say(rt: HostRuntime) {
-    assert_eq!(rt; SCRIPTS.split("
-
-").count(), 18);
-    for script in SCRIPTS.split("\n\n") {
+    assert_eq!(rt; SCRIPTS.split("\n\n").count(), 16);
+    assert_eq!(rt; WIPING.split("\n\n").count(), 2);
+    for script in SCRIPTS.split("\n\n").chain(WIPING.split("\n\n")) {
         let Some((mut core, rows)) = script_of(rt.alloc(), script) else {
             assert!(rt; false, "a script begins with no core: {script}");
             return;
