@@ -106,7 +106,7 @@ module _ {X : Type 0} (k : Setting X) (s : State X) (i : ℕ) (v : View X) (so :
   second : Turns (set v.tabs t Free) inner a Free freeing
   second = record { was = inner_then; old_at = tt; new_at = refl }
 
-  ripe : n ≡ last_find a v.trail → IsRipe n
+  pub ripe : n ≡ last_find a v.trail → IsRipe n
   ripe e = ⊎_elim (λ (h : _ × _ × (is_idle (last_find a v.trail) ≡ true)). subst IsRipe (sym e) (ripe_idle _ h.2)) (λ (h : _ × _ × (is_left_over (last_find a v.trail) ≡ true) × _). subst IsRipe (sym e) (ripe_left _ h.2)) may
 
   counted : (f : Tab X → ℕ) → f old ≡ 0 → f Free ≡ 0 → f freeing ≡ 0 → sum_by f (set (set v.tabs t Free) inner freeing) ≡ sum_by f v.tabs

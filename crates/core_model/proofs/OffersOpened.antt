@@ -13,7 +13,7 @@ use Rattle.core_model.specs.declared.chain.Chain.{Chain}
 use Rattle.core_model.specs.Layout.{Setting}
 use Rattle.core_model.specs.State.{State, chain_of}
 use Rattle.core_model.specs.Anchors.{IsSetting}
-use Rattle.core_model.specs.Deeds.{IsDone, LeftEpoch, DeedsTell}
+use Rattle.core_model.specs.Deeds.{IsDone, LeftEpoch, EvictedVersion, DeedsTell}
 use Rattle.core_model.specs.Opening.{IsOpened, IsKeptAt}
 use Rattle.core_model.specs.Offers.{Offering, IsOldEntry, OffersStand}
 use Rattle.core_model.proofs.Lists.{contains_none}
@@ -27,7 +27,15 @@ module _ {X : Type 0} (k : Setting X) (r : Rebuilt) (s : State X) (is : IsSettin
   no_deed P h = let q = at_new k r s is op h.i h.view h.at in contains_none h.deed (subst (λ (v : View X). Contains v.deeds h.deed) q.0 h.done)
 
   pub opened_deeds : DeedsTell k s
-  opened_deeds = record { old = λ a e h _. absurd (no_deed (LeftEpoch a e) h); taken = λ a e h _. absurd (no_deed (LeftEpoch a e) h); halted = λ a e h _. absurd (no_deed (LeftEpoch a e) h) }
+  opened_deeds = record {
+    old = λ a e h _. absurd (no_deed (LeftEpoch a e) h);
+    taken = λ a e h _. absurd (no_deed (LeftEpoch a e) h);
+    halted = λ a e h _. absurd (no_deed (LeftEpoch a e) h);
+    begun = λ a e h. absurd (no_deed (LeftEpoch a e) h);
+    grown = λ a e h _. absurd (no_deed (LeftEpoch a e) h);
+    closed = λ a e h _ _. absurd (no_deed (LeftEpoch a e) h);
+    evicted = λ a version _ h. absurd (no_deed (EvictedVersion a version) h);
+  }
 
 module _ {X : Type 0} (o : Offering) (k : Setting X) (r : Rebuilt) (s : State X) (is : IsSetting k) (op : IsOpened k r s) (slot : ℕ) (images : List (List ℕ)) (b : IsRebuilt slot images k.anchors r) (as_many : length images ≡ k.slots)
     (chains : (a : ℕ) → a < k.anchors → o.chain a ≡ (chain_of s a).slots) where

@@ -11,7 +11,7 @@ use Rattle.core_model.specs.declared.view.Deed.{Deed}
 use Rattle.core_model.specs.declared.view.View.{View}
 use Rattle.core_model.specs.Layout.{Setting}
 use Rattle.core_model.specs.State.{State}
-use Rattle.core_model.specs.Deeds.{IsDone, LeftEpoch, HaltedVersion, TookVersion, DeedsTell}
+use Rattle.core_model.specs.Deeds.{IsDone, LeftEpoch, HaltedVersion, ClosedVersion, EvictedVersion, TookVersion, DeedsTell}
 use Rattle.core_model.proofs.Lists.{contains_none}
 use Rattle.core_model.proofs.AnchorDeeds.{done_as}
 use Rattle.core_model.proofs.NotesFrame.{Before, Later, Learned, Renews}
@@ -42,6 +42,10 @@ deeds_stay {X} k s t less st = record {
   old = λ a e h low. st.old a e (was (LeftEpoch a e) h) low;
   taken = λ a e h high. is (TookVersion a (version_of e)) (st.taken a e (was (LeftEpoch a e) h) high);
   halted = λ a e h four. is (HaltedVersion a (version_of e)) (st.halted a e (was (LeftEpoch a e) h) four);
+  begun = λ a e h. st.begun a e (was (LeftEpoch a e) h);
+  grown = λ a e h doom. st.grown a e (was (LeftEpoch a e) h) doom;
+  closed = λ a e h three undoomed. is (ClosedVersion a (version_of e)) (st.closed a e (was (LeftEpoch a e) h) three undoomed);
+  evicted = λ a version high h. is (ClosedVersion a version) (st.evicted a version high (was (EvictedVersion a version) h));
 }
   where
     was : (P : Deed → Type 0) → IsDone t P → IsDone s P

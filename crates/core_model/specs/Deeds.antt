@@ -49,6 +49,10 @@ DoomedVersion a version d = (d.kind ≡ Doomed) × (d.anchor ≡ a) × (version_
 abbrev pub HaltedVersion : ℕ → ℕ → Deed → Type 0
 HaltedVersion a version d = (d.kind ≡ Raised) × (d.anchor ≡ a) × (version_of d.epoch ≡ version) × (stage_of d.epoch ≡ 4)
 
+-- it raised the version to CLOSED, and the version was not doomed
+abbrev pub ClosedVersion : ℕ → ℕ → Deed → Type 0
+ClosedVersion a version d = (d.kind ≡ Raised) × (d.anchor ≡ a) × (version_of d.epoch ≡ version) × (stage_of d.epoch ≡ 3) × (doom_of d.epoch ≡ 0)
+
 abbrev pub EvictedVersion : ℕ → ℕ → Deed → Type 0
 EvictedVersion a version d = (d.kind ≡ Changed) × (d.anchor ≡ a) × (version_of d.epoch ≡ version) × (stage_of d.epoch ≡ 5) × (d.was_idle ≡ true)
 
@@ -73,18 +77,24 @@ pub record DeedsExplain {X : Type 0} (k : Setting X) (s : State X) : Type 0 wher
 -- What deeds tell of the versions and stages that they left.
 
 -- An epoch with a version that is not above the opening's counter has the version that its anchor had at the opening, and the stage,
--- or its entry is given back.
+-- or its entry is given back: that is so only where the anchor had one.
 pub record IsOldEpoch {X : Type 0} (k : Setting X) (a e : ℕ) : Type 0 where
   pub version : version_of e ≡ version_of (opening_epoch k a)
-  pub stage : (stage_of e ≡ stage_of (opening_epoch k a)) ⊎ (5 ≤ stage_of e)
+  pub stage : (stage_of e ≡ stage_of (opening_epoch k a)) ⊎ ((5 ≤ stage_of e) × (stage_of (opening_epoch k a) ≡ 3))
 
 -- it took the anchor for a new entry of this version
 abbrev pub TookVersion : ℕ → ℕ → Deed → Type 0
 TookVersion a version d = (d.kind ≡ Changed) × (d.anchor ≡ a) × (version_of d.epoch ≡ version) × (stage_of d.epoch ≡ 1)
 
 -- Of an epoch that a deed left: one with a version of the opening is old, one with a new version has a deed that took the anchor for
--- it, and one at HALTED, doomed or not, a deed that halted its version.
+-- it, one at HALTED, doomed or not, a deed that halted its version, and an undoomed one at CLOSED a deed that raised it there. None is
+-- at EMPTY, and no doomed one is at TAKEN. A new version that was evicted from an idle word was raised to CLOSED before.
 pub record DeedsTell {X : Type 0} (k : Setting X) (s : State X) : Type 0 where
   pub old : (a e : ℕ) → IsDone s (LeftEpoch a e) → version_of e ≤ opening_counter k → IsOldEpoch k a e
   pub taken : (a e : ℕ) → IsDone s (LeftEpoch a e) → opening_counter k < version_of e → IsDone s (TookVersion a (version_of e))
   pub halted : (a e : ℕ) → IsDone s (LeftEpoch a e) → stage_of e ≡ 4 → IsDone s (HaltedVersion a (version_of e))
+  pub begun : (a e : ℕ) → IsDone s (LeftEpoch a e) → 1 ≤ stage_of e  -- at TAKEN or later
+  pub grown : (a e : ℕ) → IsDone s (LeftEpoch a e) → doom_of e ≡ 1 → 2 ≤ stage_of e  -- what is doomed is at APPENDING or later
+  pub closed : (a e : ℕ) → IsDone s (LeftEpoch a e) → stage_of e ≡ 3 → doom_of e ≡ 0 → IsDone s (ClosedVersion a (version_of e))
+  -- what was evicted from an idle word was closed
+  pub evicted : (a version : ℕ) → opening_counter k < version → IsDone s (EvictedVersion a version) → IsDone s (ClosedVersion a version)

@@ -21,7 +21,7 @@ ghost use Rattle.rebuild_model.specs.Rebuilt.{IsRebuilt};
 ghost use Rattle.core_model.specs.declared.spot.Spot.{Spot};
 ghost use Rattle.core_model.specs.declared.view.Place.{Place};
 ghost use Rattle.core_model.specs.Layout.{Setting, index, word_count, IsPlace};
-ghost use Rattle.lock_word.specs.Words.{epoch_of, version_of, stage_of, is_written};
+ghost use Rattle.lock_word.specs.Words.{doom_of, epoch_of, version_of, stage_of, is_written};
 ghost use Rattle.core_model.specs.State.{State, word, Finding, turn_word};
 ghost use Rattle.core_model.specs.Tabs.{turn_of, IsPass};
 ghost use Rattle.core_model.specs.AllowedByView.{MayMake};
@@ -34,7 +34,7 @@ ghost use Rattle.core_model.specs.Spots.{HasOneSpot, IsIn, IsReplaced, IsUnwritt
 ghost use Rattle.core_model.specs.Cells.{IsHome};
 ghost use Rattle.core_model.specs.Entries.{EntryAfter, ChoiceAfter};
 ghost use Rattle.core_model.specs.Anchors.{opening_counter};
-ghost use Rattle.core_model.specs.Deeds.{IsDone, IsEpochAt, HaltedVersion, IsOldEpoch, TookVersion};
+ghost use Rattle.core_model.specs.Deeds.{ClosedVersion, EvictedVersion, IsDone, IsEpochAt, HaltedVersion, IsOldEpoch, TookVersion};
 ghost use Rattle.core_model.specs.Sound.{AnchorsSound, WordsSound, Sound};
 ghost use Rattle.core_model.specs.Table.{MayStep};
 ghost use Rattle.core_model.specs.TableForms.{noted_behind, noted_at, learned_from, IsNoteAt, IsSpentAt, MayRewrite, MayBlank, with_held, with_wiped};
@@ -228,8 +228,11 @@ pub fn steps_change_choices<X>()
 
 /// Epochs have their deeds, where they stand or were seen. One with a version of the opening has the
 /// version that its anchor had then, with the stage it had then or one of an entry that is given back, and
-/// so is not TAKEN, APPENDING or HALTED. For one with a new version a deed took the anchor, with that
-/// version. For one at HALTED, doomed or not, a deed halted that version there.
+/// so is not TAKEN, APPENDING or HALTED. It is given back only where the anchor had an entry. For one with
+/// a new version a deed took the anchor, with that version. For one at HALTED, doomed or not, a deed halted
+/// that version there. One with a new version is not at EMPTY, and a doomed one is at APPENDING or later.
+/// For an undoomed one with a new version at CLOSED a deed raised that version to CLOSED, undoomed, and so
+/// for a new version that was evicted from an idle word.
 pub fn epochs_have_their_deeds<X>()
     ensures old { (k : Setting X) (s : State X) (a e : ℕ)
         → Sound k s → IsEpochAt k s a e → version_of e ≤ opening_counter k → IsOldEpoch k a e }
@@ -240,4 +243,13 @@ pub fn epochs_have_their_deeds<X>()
         → Sound k s → IsEpochAt k s a e → opening_counter k < version_of e → IsDone s (TookVersion a (version_of e)) }
     ensures halted { (k : Setting X) (s : State X) (a e : ℕ)
         → Sound k s → IsEpochAt k s a e → stage_of e ≡ 4 → IsDone s (HaltedVersion a (version_of e)) }
+    ensures begun { (k : Setting X) (s : State X) (a e : ℕ)
+        → Sound k s → IsEpochAt k s a e → opening_counter k < version_of e → 1 ≤ stage_of e }
+    ensures grown { (k : Setting X) (s : State X) (a e : ℕ)
+        → Sound k s → IsEpochAt k s a e → doom_of e ≡ 1 → 2 ≤ stage_of e }
+    ensures closed { (k : Setting X) (s : State X) (a e : ℕ)
+        → Sound k s → IsEpochAt k s a e → opening_counter k < version_of e → stage_of e ≡ 3 → doom_of e ≡ 0
+        → IsDone s (ClosedVersion a (version_of e)) }
+    ensures evicted { (k : Setting X) (s : State X) (a version : ℕ)
+        → Sound k s → opening_counter k < version → IsDone s (EvictedVersion a version) → IsDone s (ClosedVersion a version) }
 {}
