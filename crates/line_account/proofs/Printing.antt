@@ -74,7 +74,7 @@ module _ {X : Type 0} (r : Run X) (crew : List (Worker X)) (c : Closed r crew) w
   old_kept a e h read low = ⊎_elim
       (λ (z : stage_of (opening_epoch r.setting a) ≡ 0). absurd (⊎_elim
       (λ (q : stage_of e ≡ stage_of (opening_epoch r.setting a)). not_below (omega arith))
-      (λ (q : 5 ≤ stage_of e). not_above q)
+      (λ (q : (5 ≤ stage_of e) × HadEntry r a). not_above q.0)
       (known_old r.setting c.state c.sound a e h low).stage))
       (λ (z : stage_of (opening_epoch r.setting a) ≡ 3). z)
       (c.sound.anchors.setting.stage a (inside r crew c a e h))
@@ -365,7 +365,7 @@ module _ {X : Type 0} (r : Run X) (crew : List (Worker X)) (c : Closed r crew) w
           (λ (z : stage_of (opening_epoch r.setting a) ≡ 0). omega arith)
           (λ (z : stage_of (opening_epoch r.setting a) ≡ 3). omega arith)
           (c.sound.anchors.setting.stage a lt))
-          (λ (q : 5 ≤ stage_of h.deed.epoch). omega arith)
+          (λ (q : (5 ≤ stage_of h.deed.epoch) × HadEntry r a). let z = q.0 in omega arith)
           (c.sound.deeds_tell.old a h.deed.epoch left (omega arith)).stage
 
   pub given_back_new : IsTrue r.fits → (a e : ℕ) → ShownIn r crew a e → doom_of e ≡ 0 → 4 ≤ stage_of e → opening_counter r.setting < version_of e

@@ -20,6 +20,7 @@ use Rattle.line_account.specs.Deeds.{Began, BeganAndEnded, BeganOnTab, Begins, H
 use Rattle.line_account.specs.Answers.{Run}
 use Rattle.line_account.specs.Accounts.{epochs_of}
 use Rattle.line_account.specs.Closing.{BegunIn, Closed, HaltedIn, IsSameLine, LineIn, PrintsDoomed, PrintsHalted, PurgedIn, PurgesVersion, ShownIn, SomeHalted, StoredIn, Stores, Worker, offered}
+use Rattle.line_account.specs.Printed.{HadEntry}
 use Rattle.line_account.proofs.Gathered.{AtEnd, by_cause, by_line, counter_is, drawn_some, inside, one_line, same_line, shown_known, tells_at}
 
 -- Answers that tell the version that a line began.
@@ -99,7 +100,7 @@ module _ {X : Type 0} (r : Run X) (crew : List (Worker X)) (c : Closed r crew) w
       let quiet = known_quiet r.setting c.state c.sound a e known low in
       ((known_old r.setting c.state c.sound a e known low).version, quiet.0, quiet.1, quiet.2)
 
-  pub stage_of_old : (a e : ℕ) → ShownIn r crew a e → version_of e ≤ opening_counter r.setting → (stage_of e ≡ stage_of (opening_epoch r.setting a)) ⊎ (5 ≤ stage_of e)
+  pub stage_of_old : (a e : ℕ) → ShownIn r crew a e → version_of e ≤ opening_counter r.setting → (stage_of e ≡ stage_of (opening_epoch r.setting a)) ⊎ ((5 ≤ stage_of e) × HadEntry r a)
   stage_of_old a e p low = (known_old r.setting c.state c.sound a e (shown_known r crew c a e p) low).stage
 
   pub version_of_new : (a e : ℕ) → ShownIn r crew a e → opening_counter r.setting < version_of e → BegunIn r crew a (version_of e)

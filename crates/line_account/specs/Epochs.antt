@@ -11,11 +11,12 @@ use Rattle.line_account.specs.Printed.{Finds, GivenBackIn, HadEntry}
 
 module _ {X : Type 0} (r : Run X) (crew : List (Worker X)) where
   pub record EpochsHaveCauses : Type 0 where
-    -- An epoch with a version of the opening is one of its anchor's entry of then: not at TAKEN, APPENDING or HALTED, but at the stage that it had, or its entry is
-    -- given back.
+    -- An epoch with a version of the opening is one of its anchor's entry of then: not at TAKEN, APPENDING or HALTED, but at the stage
+    -- that it had; or its entry is given back, which the anchor did have then.
     pub old : (a e : ℕ) → ShownIn r crew a e → version_of e ≤ opening_counter r.setting
         → (version_of e ≡ version_of (opening_epoch r.setting a)) × (stage_of e ≢ 1) × (stage_of e ≢ 2) × (stage_of e ≢ 4)
-    pub stage : (a e : ℕ) → ShownIn r crew a e → version_of e ≤ opening_counter r.setting → (stage_of e ≡ stage_of (opening_epoch r.setting a)) ⊎ (5 ≤ stage_of e)
+    pub stage : (a e : ℕ) → ShownIn r crew a e → version_of e ≤ opening_counter r.setting
+        → (stage_of e ≡ stage_of (opening_epoch r.setting a)) ⊎ ((5 ≤ stage_of e) × HadEntry r a)
     -- one with a later version has one that a line began there
     pub new : (a e : ℕ) → ShownIn r crew a e → opening_counter r.setting < version_of e → BegunIn r crew a (version_of e)
     -- so is a version that is printed alone, by BEGUN, STORED, DOOMED, OPEN or HIT

@@ -60,13 +60,13 @@ pub fn begun_versions_have_bounds<X>()
 {}
 
 /// The version of an epoch that a line shows is the one that its anchor had at the opening, and then the
-/// epoch is not TAKEN, APPENDING or HALTED: it is at the stage that it had then, or its entry is given back.
-/// Or a line began it there.
+/// epoch is not TAKEN, APPENDING or HALTED: it is at the stage that it had then, or its entry is given back,
+/// which the anchor did have. Or a line began it there.
 pub fn epochs_have_versions<X>()
     ensures old { (r : Run X) (crew : List (Worker X)) (a e : ℕ) → Closed r crew → ShownIn r crew a e → version_of e ≤ opening_counter r.setting
         → (version_of e ≡ version_of (opening_epoch r.setting a)) × (stage_of e ≢ 1) × (stage_of e ≢ 2) × (stage_of e ≢ 4) }
     ensures stage { (r : Run X) (crew : List (Worker X)) (a e : ℕ) → Closed r crew → ShownIn r crew a e → version_of e ≤ opening_counter r.setting
-        → (stage_of e ≡ stage_of (opening_epoch r.setting a)) ⊎ (5 ≤ stage_of e) }
+        → (stage_of e ≡ stage_of (opening_epoch r.setting a)) ⊎ ((5 ≤ stage_of e) × HadEntry r a) }
     ensures new { (r : Run X) (crew : List (Worker X)) (a e : ℕ) → Closed r crew → ShownIn r crew a e → opening_counter r.setting < version_of e
         → BegunIn r crew a (version_of e) }
 {}
