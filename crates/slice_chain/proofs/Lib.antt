@@ -2,6 +2,7 @@ pub mod Drawing
 pub mod Counting
 pub mod Naming
 pub mod Linking
+pub mod During
 pub mod Writing
 pub mod ReadingSlots
 pub mod Freeing

@@ -1,7 +1,7 @@
 -- How a slot is written: each call on the way may be made, and what becomes of the tab.
 use Rattle.std.proofs.Common.{Bool, List, None, Option, Some, [], ap, arith, cond, false, true, get_or, get_or-set_other, get_or-set_same, suc, zero, All, inl, inr, length, drop, refl, set, subst, sym, unwrap_or, ⊎_elim, ◌<◌, ◌==◌, ◌≡◌, ◌≤◌, ◌⊎◌, ◌∙◌, ◌∷◌, ℕ}
 use Rattle.std.specs.Prelude.{Contains, Err, IsTrue, Ok, OnErr, Result}
-use Rattle.rock_disk.specs.Cell.{CellState, shape}
+use Rattle.rock_disk.specs.Cell.{CellState, settle, shape}
 use Rattle.core_model.specs.CellMoves.{MayWrite, ends, piece_of, tries, MayLog, logs}
 use Rattle.core_model.specs.Steps.{cell_found}
 use Rattle.core_model.specs.Table.{item_of}
@@ -31,8 +31,9 @@ use Rattle.tab_states.specs.Tabs.{head_of}
 use Rattle.store_rule.specs.Told.{Steps}
 use Rattle.store_rule.specs.Turns.{HasReturned, HasTaken, IsReturned, MayComeHome, MayReturn, MovesCell, TurnEnded, TurnFound, new_hold}
 use Rattle.store_rule.proofs.Passing.{pass_of}
+use Rattle.slice_chain.specs.During.{WasOut}
 use Rattle.slice_chain.specs.Writes.{CountsWritten, MayWriteSlot, WroteSlot, chose, reserved_first}
-use Rattle.slice_chain.specs.Written.{IsWrittenCell, MayBeLeft}
+use Rattle.slice_chain.specs.Written.{IsWrittenCell, MayBeLeft, WentThrough}
 use Rattle.slice_chain.proofs.Counting.{adds_items}
 use Rattle.core_model.specs.Offers.{KeepsTo}
 
@@ -52,6 +53,18 @@ left_or_new false before after bytes h x c = inl c
 image_there : (tells : Bool) (offers : Offers) (slots slot : ℕ) (p : Piece) (c : CellState) (bytes : List ℕ) → (IsTrue tells → bytes ≡ image_in tells offers slots slot p) → (IsTrue tells → c.now ≡ bytes) → image_in tells offers slots slot p ≡ (shown_in tells c).now
 image_there true offers slots slot p c bytes buffer now = sym (now refl ∙ buffer refl)
 image_there false offers slots slot p c bytes buffer now = refl
+
+-- the cell as a write left it, as the core sees it: what it adds, and how it came home
+between_there : (tells durable : Bool) (before after : CellState) (bytes : List ℕ) → (IsTrue tells → WentThrough bytes durable before after)
+    → (written : Cell (List ℕ)) × ((x : List ℕ) → Contains written.possible x → Contains (shown_in tells before).possible x ⊎ (IsTrue tells × (x ≡ bytes))) × Contains written.possible written.now
+    × ((shown_in tells after ≡ written) ⊎ ((durable ≡ true) × (shown_in tells after ≡ record { now = written.now; possible = written.now ∷ [] })))
+between_there true durable before after bytes h = let w = h refl in (
+  shown_in true w.written,
+  λ x c. ⊎_elim (λ l. inl l) (λ e. inr (refl, e)) (w.adds x c),
+  w.stays,
+  ⊎_elim (λ e. inl (ap (shown_in true) e)) (λ (e : (durable ≡ true) × (after ≡ settle w.written)). inr (e.0, ap (shown_in true) e.1)) w.after_is,
+)
+between_there false durable before after bytes h = (shown_in false after, λ x c. inl c, (0, omega arith, refl), inl refl)
 
 alone_there : (tells : Bool) (c : CellState) (bytes : List ℕ) → (IsTrue tells → (c.now ≡ bytes) × (c.possible ≡ bytes ∷ [])) → (shown_in tells c).possible ≡ (shown_in tells c).now ∷ []
 alone_there true c bytes h = let k = h refl in k.1 ∙ ap (λ (x : List ℕ). x ∷ []) (sym k.0)
@@ -161,6 +174,12 @@ module _ {C O : Type 0} (tells : Bool) (state : C → CellState) (offers : O →
       can = record { allowed = (let b = may.below in omega arith, (new_hold slot cell, ap turn_of tab_is, refl, refl), tt); chooses = tt; names = tt };
     }
 
+    -- what a write leaves
+    pub may_return : (now : Cell (List ℕ)) (bytes : List ℕ) → (IsTrue tells → bytes ≡ g.setting.image (piece_of writer))
+        → ((x : List ℕ) → Contains now.possible x → Contains cell.possible x ⊎ (IsTrue tells × (x ≡ bytes))) → MayReturn g.setting (tab_at (view q) t) cell now
+    may_return now bytes buffer adds = subst (λ (x : Tab (List ℕ)). MayReturn g.setting x cell now) (sym tab_is)
+        (λ x c. ⊎_elim (λ h. inl h) (λ (q : IsTrue tells × (x ≡ bytes)). inr (ap Some (sym (buffer q.0) ∙ sym q.1))) (adds x c))
+
     -- what was written may come home
     pub may_come : (before after : C) (bytes : List ℕ) → cell ≡ shown tells state before → IsFitting (form_of tells state) g slot before → shape (state after) ≡ shape (state before) → (IsTrue tells → bytes ≡ g.setting.image (piece_of writer))
         → (IsTrue tells → MayBeLeft bytes (state before) (state after)) → MayComeHome tells state offers s q t slot after
@@ -169,9 +188,8 @@ module _ {C O : Type 0} (tells : Bool) (state : C → CellState) (offers : O →
       turn = ap turn_of tab_is;
       slot_is = refl;
       fits = same ∙ fits;
-      back = subst (λ (x : Tab (List ℕ)). MayReturn g.setting x cell (shown tells state after)) (sym tab_is)
-          (λ x c. ⊎_elim (λ h. inl (subst (λ (z : Cell (List ℕ)). Contains z.possible x) (sym cell_is) h)) (λ (q : IsTrue tells × (x ≡ bytes)). inr (ap Some (sym (buffer q.0) ∙ sym q.1)))
-          (left_or_new tells (state before) (state after) bytes left x c));
+      back = may_return (shown tells state after) bytes buffer
+          (subst (λ (z : Cell (List ℕ)). (x : List ℕ) → Contains (shown tells state after).possible x → Contains z.possible x ⊎ (IsTrue tells × (x ≡ bytes))) (sym cell_is) (left_or_new tells (state before) (state after) bytes left));
     }
 
     -- the tab after the end
@@ -277,8 +295,22 @@ module _ {C O : Type 0} (tells : Bool) (state : C → CellState) (offers : O →
           tried : Steps (basis tells state offers s) (view p0) (TryTurn t slot) 0 (view p1)
           tried = subst (λ (n : ℕ). Steps (basis tells state offers s) (view p0) (TryTurn t slot) n (view p1)) (sym found.made.answers ∙ eqb-true found.found 0 (sym found.is_won)) found.made.step
 
-          pub wrote : (done : Bool) → (done ≡ true → IsTrue tells → IsWrittenCell (buffer_at p2.desks t) durable (state c2)) → WroteSlot (basis tells state offers s) t (view p) durable done (view p4)
-          wrote done there = record {
+          -- how the cell was out
+          was_out : (IsTrue tells → WentThrough (buffer_at p2.desks t) durable (state c1) (state c2))
+              → WasOut (basis tells state offers s).setting may.writer slot durable (tab_at (view p1) t) (shown tells state ended.cell)
+          was_out went = let b = between_there tells durable (state c1) (state c2) (buffer_at p2.desks t) went in record {
+            before = cell;
+            held = tab_is tells state offers s p t may slot durable p1 cell tabs1;
+            written = b.0;
+            adds = may_return tells state offers s p t may slot durable p1 cell tabs1 b.0 (buffer_at p2.desks t) the_image
+                (subst (λ (c : C). (x : List ℕ) → Contains b.0.possible x → Contains (shown tells state c).possible x ⊎ (IsTrue tells × (x ≡ buffer_at p2.desks t))) (sym cell_is) b.1);
+            stays = b.2;
+            home_is = subst (λ (c : C). (shown tells state c ≡ b.0) ⊎ ((durable ≡ true) × (shown tells state c ≡ record { now = b.0.now; possible = b.0.now ∷ [] }))) (sym put_back) b.3;
+          }
+
+          pub wrote : (done : Bool) → (done ≡ true → IsTrue tells → IsWrittenCell (buffer_at p2.desks t) durable (state c2)) → (IsTrue tells → WentThrough (buffer_at p2.desks t) durable (state c1) (state c2))
+              → WroteSlot (basis tells state offers s) t (view p) durable done (view p4)
+          wrote done there went = record {
             writer = may.writer;
             was = may.is;
             slot = slot;
@@ -289,6 +321,7 @@ module _ {C O : Type 0} (tells : Bool) (state : C → CellState) (offers : O →
             middle = view p1;
             tried = tried;
             cell = shown tells state ended.cell;
+            out = was_out went;
             from = ended.from;
             returned = subst (λ (v : View (List ℕ)). IsReturned (basis tells state offers s).setting (tab_at v t) t slot (shown tells state ended.cell) v ended.from) (back.same ∙ moved.same) ended.returned;
             ended = ended.step;

@@ -1,6 +1,7 @@
 pub mod Names
 pub mod Links
 pub mod Written
+pub mod During
 pub mod Writes
 pub mod Reads
 pub mod Counts

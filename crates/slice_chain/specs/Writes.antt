@@ -23,6 +23,7 @@ use Rattle.tab_states.specs.Tabs.{head_of}
 use Rattle.store_rule.specs.Told.{Steps}
 use Rattle.store_rule.specs.Turns.{IsReturned}
 use Rattle.slice_chain.specs.Counts.{AddsSteps, many}
+use Rattle.slice_chain.specs.During.{WasOut}
 
 -- the first slot that a writing tab reserved
 abbrev pub reserved_first : {X : Type 0} → Tab X → Option ℕ
@@ -66,6 +67,7 @@ pub record WroteSlot {X : Type 0} (g : Ground X) (t : ℕ) (v : View X) (durable
   pub middle : View X
   pub tried : Steps g logged (TryTurn t slot) 0 middle
   pub cell : Cell X
+  pub out : WasOut g.setting writer slot durable (tab_at middle t) cell
   pub from : View X
   pub returned : IsReturned g.setting (tab_at middle t) t slot cell middle from
   pub ended : Steps g from (EndTurn t slot Stays) 1 w

@@ -1,7 +1,7 @@
 // A cell in a caller's hands is written, and synced.
 ghost use Rattle.rock_disk.specs.Cell.{shape};
 ghost use Rattle.rock_io.specs.Faults.{Rose};
-ghost use Rattle.slice_chain.specs.Written.{IsWrittenCell, MayBeLeft, StoppedAt, calls_to_write};
+ghost use Rattle.slice_chain.specs.Written.{IsWrittenCell, MayBeLeft, StoppedAt, WentThrough, calls_to_write};
 ghost use Rattle.std.specs.Prelude.{Contains, IsTrue, OnErr, OnOk, length, ◌≡◌};
 
 use rock_disk::{Cell, Station};
@@ -18,6 +18,7 @@ pub(crate) fn write_cell<St: Station>(
     requires { length bytes.now ≡ (St.C.state cell.old).width }
     ensures written { OnOk result (IsTrue St.C.tells → IsWrittenCell bytes.now durable (St.C.state cell.new)) }
     ensures possible { IsTrue St.C.tells → MayBeLeft bytes.now (St.C.state cell.old) (St.C.state cell.new) }
+    ensures between { IsTrue St.C.tells → WentThrough bytes.now durable (St.C.state cell.old) (St.C.state cell.new) }
     ensures shape { shape (St.C.state cell.new) ≡ shape (St.C.state cell.old) }
     ensures called { IsTrue St.counts → OnOk result (St.calls station.new ≡ calls_to_write durable (St.calls station.old)) }
     ensures stopped { IsTrue St.counts → OnErr result (StoppedAt durable (St.calls station.old) (St.calls station.new)) }

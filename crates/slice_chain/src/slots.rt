@@ -3,12 +3,13 @@ ghost use Rattle.store_rule.specs.Calls.{Follows};
 ghost use Rattle.rock_io.specs.Faults.{Rose, one_more};
 ghost use Rattle.core_model.specs.Tabs.{inner, tab_at};
 ghost use Rattle.core_model.specs.declared.tab.Cell.{Cell as CoreCell};
+ghost use Rattle.slice_chain.specs.During.{IsLeftDuring};
 ghost use Rattle.slice_chain.specs.Reads.{FollowsReading, HasRead, MayReadSlot, ReadSlot, after_reading};
 ghost use Rattle.store_rule.specs.Lending.{with_bytes};
 ghost use Rattle.tab_states.specs.Desks.{buffer_at};
 ghost use Rattle.slice_chain.specs.Writes.{CountsWritten, MayWriteSlot, WroteSlot, reserved_first};
 ghost use Rattle.slice_chain.specs.Written.{StoppedAt, calls_to_write};
-ghost use Rattle.std.specs.Prelude.{IsTrue, List, OnErr, OnOk, false, length, true, ◌<◌, ◌≡◌, ℕ};
+ghost use Rattle.std.specs.Prelude.{Bool, IsTrue, List, OnErr, OnOk, false, length, true, ◌<◌, ◌≡◌, ℕ};
 ghost use Rattle.store_rule.specs.Passes.{basis, view};
 
 use crate::cells::write_cell;
@@ -22,7 +23,8 @@ use store_rule::{Origin, Pass, Store};
 /// Logs the next piece of a writing tab, whose image is in the tab's buffer, and writes it into the cell of the
 /// first slot that the tab reserved. If it is to be durable, it is logged so, and the cell is synced. The turn at
 /// the cell is taken by a single try, since no other tab has that slot. The cell is home and the turn free after
-/// both answers.
+/// both answers. While it was out, a crash left what it might have left before, or the piece (`during`): within the
+/// write and within the sync too.
 ///
 /// # Errors
 ///
@@ -40,6 +42,8 @@ pub fn write_slot<C: Cell, O: Origin, St: Station<C = C>>(
     requires { MayWriteSlot C.tells C.state O.offers store.now pass.old tab }
     ensures ok { OnOk result (WroteSlot (basis C.tells C.state O.offers store.now) tab (view pass.old) durable true (view pass.new)) }
     ensures err { OnErr result (WroteSlot (basis C.tells C.state O.offers store.now) tab (view pass.old) durable false (view pass.new)) }
+    ensures during { (done : Bool) (wrote : WroteSlot (basis C.tells C.state O.offers store.now) tab (view pass.old) durable done (view pass.new))
+        → IsLeftDuring (basis C.tells C.state O.offers store.now) tab wrote.slot wrote.out.before wrote.middle }
     ensures steps { CountsWritten (view pass.old) (view pass.new) }
     ensures others { Follows C.tells C.state O.offers store.now tab pass.old pass.new }
     ensures called { IsTrue St.counts → OnOk result (St.calls station.new ≡ calls_to_write durable (St.calls station.old)) }

@@ -1,8 +1,10 @@
 use Rattle.std.proofs.Common.{Bool, List, ap, false, length, true, subst, sym, ◌∙◌, ℕ}
 use Rattle.std.proofs.lemmas.Bool.{false≢true}
 use Rattle.std.proofs.lemmas.Result.{on_ok_weaker}
+use Rattle.store_rule.specs.Passes.{basis, view}
 use Rattle.store_rule.specs.Turns.{TurnFound}
-use Rattle.slice_chain.specs.Written.{IsWrittenCell, MayBeLeft}
+use Rattle.slice_chain.specs.Written.{IsWrittenCell, MayBeLeft, WentThrough}
+use Rattle.slice_chain.proofs.During.{left_during}
 use Rattle.slice_chain.proofs.Writing.{on_err, always_won, counted, follows, may_end_turn, may_log, may_put, may_try, has_returned, slot_is, taken_cell, wide_enough, wrote}
 use Rattle.slice_chain.proofs.slots.write_slot.Goals as goal
 
@@ -67,7 +69,8 @@ returns-clause-ok g c = let a = c.args in let s = a.store.now in let p = a.pass.
     on_ok_weaker c.write_cell-result.result (λ h. wrote g.C.Cell.tells g.C.Cell.state g.O.Origin.offers s a.tab p may slot a.durable e c.log_piece.result p0 c.log_piece.ensures p1 found out.result out.new.pass out.ensures.out out.ensures.kept
     c.write_cell-result.new.cell c.write_cell-result.ensures.shape (λ told x h. subst (λ (bytes : List ℕ). MayBeLeft bytes (g.C.Cell.state out.result) (g.C.Cell.state c.write_cell-result.new.cell)) c.buffer.ensures (c.write_cell-result.ensures.possible told) x h)
     c.cell_in.new.pass c.cell_in.ensures.home c.cell_in.ensures.kept
-    c.end_turn.new.pass c.end_turn.ensures true (λ d told. subst (λ (bytes : List ℕ). IsWrittenCell bytes a.durable (g.C.Cell.state c.write_cell-result.new.cell)) c.buffer.ensures (h told))) c.write_cell-result.ensures.written
+    c.end_turn.new.pass c.end_turn.ensures true (λ d told. subst (λ (bytes : List ℕ). IsWrittenCell bytes a.durable (g.C.Cell.state c.write_cell-result.new.cell)) c.buffer.ensures (h told))
+    (λ told. subst (λ (bytes : List ℕ). WentThrough bytes a.durable (g.C.Cell.state out.result) (g.C.Cell.state c.write_cell-result.new.cell)) c.buffer.ensures (c.write_cell-result.ensures.between told))) c.write_cell-result.ensures.written
 
 pub returns-clause-err : goal.returns-clause-err
 returns-clause-err g c = let a = c.args in let s = a.store.now in let p = a.pass.now in let may = c.requires in let slot = c.in-Some.slot in
@@ -77,7 +80,8 @@ returns-clause-err g c = let a = c.args in let s = a.store.now in let p = a.pass
     on_err c.write_cell-result.result (wrote g.C.Cell.tells g.C.Cell.state g.O.Origin.offers s a.tab p may slot a.durable e c.log_piece.result p0 c.log_piece.ensures p1 found out.result out.new.pass out.ensures.out out.ensures.kept
     c.write_cell-result.new.cell c.write_cell-result.ensures.shape (λ told x h. subst (λ (bytes : List ℕ). MayBeLeft bytes (g.C.Cell.state out.result) (g.C.Cell.state c.write_cell-result.new.cell)) c.buffer.ensures (c.write_cell-result.ensures.possible told) x h)
     c.cell_in.new.pass c.cell_in.ensures.home c.cell_in.ensures.kept
-    c.end_turn.new.pass c.end_turn.ensures false (λ d told. absurd (false≢true d)))
+    c.end_turn.new.pass c.end_turn.ensures false (λ d told. absurd (false≢true d))
+    (λ told. subst (λ (bytes : List ℕ). WentThrough bytes a.durable (g.C.Cell.state out.result) (g.C.Cell.state c.write_cell-result.new.cell)) c.buffer.ensures (c.write_cell-result.ensures.between told)))
 
 pub returns-clause-others : goal.returns-clause-others
 returns-clause-others g c = let a = c.args in let s = a.store.now in let p = a.pass.now in let may = c.requires in let slot = c.in-Some.slot in
@@ -98,3 +102,7 @@ returns-clause-steps g c = let a = c.args in let s = a.store.now in let p = a.pa
     c.write_cell-result.new.cell c.write_cell-result.ensures.shape (λ told x h. subst (λ (bytes : List ℕ). MayBeLeft bytes (g.C.Cell.state out.result) (g.C.Cell.state c.write_cell-result.new.cell)) c.buffer.ensures (c.write_cell-result.ensures.possible told) x h)
     c.cell_in.new.pass c.cell_in.ensures.home c.cell_in.ensures.kept
     c.end_turn.new.pass c.end_turn.ensures
+
+pub returns-clause-during : goal.returns-clause-during
+returns-clause-during g c done wrote = let a = c.args in
+    left_during (basis g.C.Cell.tells g.C.Cell.state g.O.Origin.offers a.store.now) a.tab (view a.pass.now) a.durable done (view c.end_turn.new.pass) wrote
