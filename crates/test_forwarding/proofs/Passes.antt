@@ -11,7 +11,7 @@ use Rattle.store_rule.specs.declared.store.Store.{Store}
 use Rattle.store_rule.specs.Ground.{Offers}
 use Rattle.store_rule.specs.Passes.{IsNewOf}
 use Rattle.store_serve.specs.declared.tabs.ScriptTab.TheVariants.{Free}
-use Rattle.test_forwarding.specs.Standing.{IsAtWork}
+use Rattle.test_forwarding_kit.specs.Standing.{IsAtWork}
 
 module _ {C O : Type 0} (tells : Bool) (state : C → CellState) (offers : O → Offers) (s : Store C O) where
   -- a new pass is ready, and has no tab in use

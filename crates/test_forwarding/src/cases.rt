@@ -2,7 +2,7 @@
 ghost use Rattle.std.specs.Prelude.{All, IfSome, IsTrue};
 ghost use Rattle.rock_disk.specs.File.{NoneAway};
 ghost use Rattle.rock_disk.specs.Memory.{volume_files};
-ghost use Rattle.test_forwarding.specs.Standing.{IsRead};
+ghost use Rattle.test_forwarding_kit.specs.Standing.{IsRead};
 
 use crate::playing::{Limits, alone, played};
 use rock_disk::{MemVolume, Stations, Volume};

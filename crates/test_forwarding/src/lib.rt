@@ -6,10 +6,4 @@ mod cases;
 #[cfg(test)]
 mod fetching;
 #[cfg(test)]
-mod other;
-#[cfg(test)]
 mod playing;
-#[cfg(test)]
-mod serving;
-#[cfg(test)]
-mod telling;

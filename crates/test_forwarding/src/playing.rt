@@ -6,10 +6,8 @@ ghost use Rattle.rock_disk.specs.File.{NoneAway};
 ghost use Rattle.rock_run.specs.Offered.{offers_of};
 ghost use Rattle.store_rule.specs.Passes.{IsNewOf, basis};
 ghost use Rattle.store_serve.specs.Tabs.{IsFree, IsOffered, MayGo};
-ghost use Rattle.test_forwarding.specs.Standing.{IsAtWork, IsRead, IsReady, IsScripted};
+ghost use Rattle.test_forwarding_kit.specs.Standing.{IsAtWork, IsRead, IsReady, IsScripted};
 
-use crate::other::{Midst, Other};
-use crate::telling::{forwarded, spelled, told};
 use collapse::{MemFetcher, forward_within};
 use rock_disk::{Cell, Station, Volume, opened_cells_are_the_files};
 use rock_io::MemSink;
@@ -20,6 +18,7 @@ use std::alloc::{AllocError, Global};
 use std::sync::Wait;
 use store_rule::{Pass, Store};
 use store_serve::{ScriptTab, add_to_tab, begin_on_tab};
+use test_forwarding_kit::{Midst, Other, forwarded, spelled, told};
 
 /// How often a forwarding may look in vain, and the calls of the fetcher and of the sink that fail. A fetcher and a sink are
 /// new for each forwarding.

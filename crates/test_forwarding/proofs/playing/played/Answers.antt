@@ -4,7 +4,7 @@ use Rattle.std.specs.FinMap.{get}
 use Rattle.rock_disk.specs.File.{Files}
 use Rattle.rock_run.specs.Offered.{offers_of}
 use Rattle.script_text.specs.declared.line.Line.{Line}
-use Rattle.test_forwarding.specs.Standing.{IsRead}
+use Rattle.test_forwarding_kit.specs.Standing.{IsRead}
 use Rattle.test_forwarding.proofs.playing.played.Goals as goal
 
 pub station-requires : goal.station-requires

@@ -1,5 +1,5 @@
 use Rattle.rock_run.specs.Offered.{offers_of}
-use Rattle.test_forwarding.proofs.Holding.{idle_still}
+use Rattle.test_forwarding_kit.proofs.Holding.{idle_still}
 use Rattle.test_forwarding.proofs.playing.serve_lines.Goals.{then-line-eq1+in_ok-alone+in_ok-out+in_ok-is_idle, else-line-eq1}
 use Rattle.test_forwarding.proofs.playing.serve_lines.Goals as goal
 

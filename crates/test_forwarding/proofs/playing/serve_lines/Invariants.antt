@@ -1,7 +1,7 @@
 use Rattle.std.specs.Prelude.{IsTrue}
 use Rattle.rock_run.specs.Offered.{offers_of}
 use Rattle.store_serve.specs.Tabs.{IsFree}
-use Rattle.test_forwarding.specs.Standing.{IsReady}
+use Rattle.test_forwarding_kit.specs.Standing.{IsReady}
 use Rattle.test_forwarding.proofs.playing.serve_lines.Given as goal
 
 abbrev pub invariant-loop-at : goal.invariant-loop-at

@@ -1,5 +1,5 @@
 use Rattle.rock_run.specs.Offered.{offers_of}
-use Rattle.test_forwarding.proofs.Holding.{ready_still}
+use Rattle.test_forwarding_kit.proofs.Holding.{ready_still}
 use Rattle.test_forwarding.proofs.playing.write_offer.Goals as goal
 
 pub returns : goal.returns

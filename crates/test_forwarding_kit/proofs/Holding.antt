@@ -11,7 +11,7 @@ use Rattle.store_rule.specs.Passes.{view}
 use Rattle.store_serve.specs.Tabs.{Entry, Holds, IsFree, Leaves, ReadsAs, Standing, WritesAs}
 use Rattle.store_serve.specs.declared.tabs.ScriptTab.{ScriptTab}
 use Rattle.store_serve.specs.declared.tabs.ScriptTab.TheVariants.{Free, Reading, Writing}
-use Rattle.test_forwarding.specs.Standing.{IsReady}
+use Rattle.test_forwarding_kit.specs.Standing.{IsReady}
 
 module _ {C O : Type 0} (tells : Bool) (state : C → CellState) (offers : O → Offers) (s : Store C O) where
   -- what is said of other tabs than that of a request

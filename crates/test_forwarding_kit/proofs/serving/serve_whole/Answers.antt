@@ -1,8 +1,8 @@
 use Rattle.std.proofs.Common.{ap, get_or, ◌∙◌}
 use Rattle.core_model.specs.declared.tab.Tab.TheVariants.{Free}
 use Rattle.rock_run.specs.Offered.{offers_of}
-use Rattle.test_forwarding.proofs.Holding.{holds_still, ready_again}
-use Rattle.test_forwarding.proofs.serving.serve_whole.Goals as goal
+use Rattle.test_forwarding_kit.proofs.Holding.{holds_still, ready_again}
+use Rattle.test_forwarding_kit.proofs.serving.serve_whole.Goals as goal
 
 pub returns-in-Put-clause-ready : goal.returns-in-Put-clause-ready
 returns-in-Put-clause-ready g c = ready_again g.C.Cell.tells g.C.Cell.state offers_of c.args.store.now c.args.pass.now c.put_whole.new.pass c.put_whole.ensures.served.free c.put_whole.ensures.leaves

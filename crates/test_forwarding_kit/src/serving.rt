@@ -5,7 +5,7 @@ ghost use Rattle.store_rule.specs.Passes.{basis};
 ghost use Rattle.store_serve.specs.Serving.{Takes, offer_of};
 ghost use Rattle.store_serve.specs.Tabs.{Holds, IsFree, Leaves};
 ghost use Rattle.store_serve.specs.declared.tabs.ScriptTab.{ScriptTab as Kept};
-ghost use Rattle.test_forwarding.specs.Standing.{IsReady};
+ghost use Rattle.test_forwarding_kit.specs.Standing.{IsReady};
 
 use rock_disk::{Cell, Station};
 use rock_io::Memory;

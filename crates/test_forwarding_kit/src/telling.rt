@@ -7,7 +7,7 @@ use script_text::Answer;
 use std::alloc::Global;
 
 /// What came of forwarding.
-pub(crate) fn forwarded(alloc: Global, answer: &Forwarded) -> Option<String> {
+pub fn forwarded(alloc: Global, answer: &Forwarded) -> Option<String> {
     match answer {
         Forwarded::Direct {
             why: Why::Begin(BeginFault::Busy { looked, found }),
@@ -33,7 +33,7 @@ fn spelled_word(alloc: Global, word: &Word) -> Option<String> {
 }
 
 /// An answer. Where it has bytes they stand as `spelled` has them.
-pub(crate) fn told(alloc: Global, answer: &Answer) -> Option<String> {
+pub fn told(alloc: Global, answer: &Answer) -> Option<String> {
     match answer {
         Answer::Hit { version, bytes } => {
             let body = spelled(alloc, bytes.as_slice())?;
@@ -53,7 +53,7 @@ fn with_body(alloc: Global, name: &str, bytes: &Octets) -> Option<String> {
 
 /// Bytes as a script spells a body: `-` where there are none, up to 9 as they are behind a `=`, and more, which have to be
 /// letters in turn, by their number and the first one.
-pub(crate) fn spelled(alloc: Global, bytes: &[u8]) -> Option<String> {
+pub fn spelled(alloc: Global, bytes: &[u8]) -> Option<String> {
     let Some(first) = bytes.first() else {
         return format!(in alloc; "-").ok();
     };

@@ -1,7 +1,7 @@
 // Another worker, and a sink in the midst of whose pieces it goes on.
 ghost use Rattle.std.specs.Prelude.{◌≡◌};
 ghost use Rattle.rock_run.specs.Offered.{offers_of};
-ghost use Rattle.test_forwarding.specs.Standing.{IsAtWork, IsScripted};
+ghost use Rattle.test_forwarding_kit.specs.Standing.{IsAtWork, IsScripted};
 
 use crate::serving::{Served, serve_line};
 use crate::telling::told;
@@ -18,7 +18,7 @@ use store_serve::ScriptTab;
 
 /// Another worker: a pass and a station, what is kept of its tab 0, the lines of the script, and what was told so far, each
 /// answer on a line of its own.
-pub(crate) struct Other<'a, R: Wait, C: Cell, St: Station<C = C>> {
+pub struct Other<'a, R: Wait, C: Cell, St: Station<C = C>> {
     rt: &'a R,
     alloc: Global,
     store: &'a Store<C, ScriptOrigin>,
@@ -31,7 +31,7 @@ pub(crate) struct Other<'a, R: Wait, C: Cell, St: Station<C = C>> {
 
 impl<'a, R: Wait, C: Cell, St: Station<C = C>> Model for Other<'a, R, C, St> {
     ghost use Rattle.rock_run.specs.Offered.{offers_of};
-    ghost use Rattle.test_forwarding.specs.Standing.{IsAtWork, IsScripted};
+    ghost use Rattle.test_forwarding_kit.specs.Standing.{IsAtWork, IsScripted};
 
     ghost Value = { St };
 
@@ -43,7 +43,7 @@ impl<'a, R: Wait, C: Cell, St: Station<C = C>> Model for Other<'a, R, C, St> {
 
 impl<'a, R: Wait, C: Cell, St: Station<C = C>> Other<'a, R, C, St> {
     /// A worker on a pass with free tabs.
-    pub(crate) fn new(
+    pub fn new(
         rt: &'a R,
         alloc: Global,
         store: &'a Store<C, ScriptOrigin>,
@@ -67,7 +67,7 @@ impl<'a, R: Wait, C: Cell, St: Station<C = C>> Other<'a, R, C, St> {
     }
 
     /// Serves the line at a place, and tells the answer. Where memory is wanting nothing is told.
-    pub(crate) fn serve(&mut self, at: usize) {
+    pub fn serve(&mut self, at: usize) {
         script_lines_may_be_asked::<C, ScriptOrigin>();
         let Some(line) = self.lines.get(at) else {
             return;
@@ -96,13 +96,13 @@ impl<'a, R: Wait, C: Cell, St: Station<C = C>> Other<'a, R, C, St> {
     }
 
     /// Adds a line to what is told.
-    pub(crate) fn tell(&mut self, text: &str) -> Option<()> {
+    pub fn tell(&mut self, text: &str) -> Option<()> {
         self.story.push_str(text).ok()?;
         self.story.push_str("\n").ok()
     }
 
     /// Its station, and what was told.
-    pub(crate) fn into_parts(self) -> (St, String) {
+    pub fn into_parts(self) -> (St, String) {
         let Other {
             rt: _,
             alloc: _,
@@ -119,11 +119,11 @@ impl<'a, R: Wait, C: Cell, St: Station<C = C>> Other<'a, R, C, St> {
 
 /// A sink over memory. Before each piece that it is given, the other worker serves one of its lines, from the line `next` on
 /// and before the line `end`.
-pub(crate) struct Midst<'a, R: Wait, C: Cell, St: Station<C = C>> {
-    pub(crate) other: Other<'a, R, C, St>,
-    pub(crate) sink: MemSink,
-    pub(crate) next: usize,
-    pub(crate) end: usize,
+pub struct Midst<'a, R: Wait, C: Cell, St: Station<C = C>> {
+    pub other: Other<'a, R, C, St>,
+    pub sink: MemSink,
+    pub next: usize,
+    pub end: usize,
 }
 
 impl<'a, R: Wait, C: Cell, St: Station<C = C>> Sink for Midst<'a, R, C, St> {

@@ -1,0 +1,9 @@
+//! What tests of forwarding begin with: another worker, a sink in whose midst it goes on, and what a line came to as text.
+#![tactic(auto)]
+
+mod other;
+mod serving;
+mod telling;
+
+pub use other::{Midst, Other};
+pub use telling::{forwarded, spelled, told};
