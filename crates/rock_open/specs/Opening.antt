@@ -1,19 +1,19 @@
 -- When a file is opened as a store, and what that makes of it.
-use Rattle.std.specs.Prelude.{◌≡◌, ◌⊎◌, ℕ, ◌+◌, ◌<◌, ◌≤◌, All, Bool, IsTrue, List, None, Some, length, map, vec_len}
+use Rattle.std.specs.Prelude.{◌≡◌, ◌⊎◌, ℕ, ◌+◌, ◌<◌, ◌≤◌, All, Bool, IsTrue, List, None, length, map, vec_len}
 use Rattle.std.specs.FinMap.{get}
 use Rattle.std.specs.Global.{Vec}
-use Rattle.db_layout.specs.Layout.{IsSlotSize, slots_of}
+use Rattle.db_layout.specs.Layout.{IsSlotSize}
 use Rattle.db_layout.specs.declared.layout.TheConstants.{HEADER_BYTES}
 use Rattle.rebuild_model.specs.declared.rebuilt.Rebuilt.{Rebuilt}
 use Rattle.rock_disk.specs.Cell.{CellState}
 pub use Rattle.rebuild_model.specs.Keeping.{IsAnchors}
 pub use Rattle.rock_disk.specs.File.{HasSlots}
-use Rattle.rock_disk.specs.File.{File, Files, bytes_of}
+use Rattle.rock_disk.specs.File.{Files}
 use Rattle.rock_disk.specs.Opened.{HasShape, IsOpened, IsSmall}
 use Rattle.store_rule.specs.declared.store.Pass.{Pass}
 use Rattle.store_rule.specs.declared.store.Store.{Store}
 use Rattle.store_rule.specs.Ground.{Offers}
-use Rattle.store_rule.specs.Passes.{AreNumbered, IsNewOf, KeepsRoom, basis}
+use Rattle.store_rule.specs.Passes.{AreNumbered, HaveOwnPages, IsNewOf, KeepsRoom, basis}
 use Rattle.store_rule.specs.Rebuilding.{IsOpenedWith, IsRebuildOf}
 use Rattle.store_rule.specs.Setting.{shown}
 use Rattle.rock_open.specs.declared.fault.OpenStoreFault.{OpenStoreFault}
@@ -81,6 +81,7 @@ pub record IsStoreOver {C O : Type 0} (tells : Bool) (cell : C → CellState) (o
   pub many : vec_len ps ≡ passes
   pub new : All (IsNewOf tells cell offers s) ps.items
   pub numbered : AreNumbered ps.items
+  pub pages : HaveOwnPages passes ps.items
   pub room : KeepsRoom (length cells) ps.items
 
 -- The file of this name is out. The store is over cells that are as its slots were, which suffice for the anchors, and this is its header area. A

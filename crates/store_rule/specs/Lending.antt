@@ -13,6 +13,7 @@ with_bytes p tab bytes = record {
   tabs = p.tabs;
   left = p.left;
   desks = with_buffer_at p.desks tab bytes;
+  pages = p.pages;
   hand = p.hand;
   cells = p.cells;
   one = p.one;

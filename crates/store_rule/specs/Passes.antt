@@ -1,5 +1,5 @@
 -- What a caller sees of a store and of its passes.
-use Rattle.std.specs.Prelude.{◌≡◌, ◌≤◌, ◌∷◌, All, Bool, List, None, Option, Some, length, replicate, slice_set, vec_capacity, vec_len, [], ℕ}
+use Rattle.std.specs.Prelude.{◌*◌, ◌<◌, ◌≡◌, ◌≤◌, ◌∷◌, All, Bool, List, None, Option, Some, length, slice_set, vec_capacity, vec_len, [], ℕ}
 use Rattle.std.specs.Global.{Vec}
 use mathlib.Core.Option.{some}
 use lib.ListN.{get_elem?}
@@ -10,11 +10,11 @@ use Rattle.core_model.specs.declared.moves.Move.{Move}
 use Rattle.core_model.specs.declared.view.View.{View}
 use Rattle.core_model.specs.Opening.{new_view}
 use Rattle.core_model.specs.Table.{answer}
+use Rattle.page_pool.specs.Seats.{IsSeatOf}
 use Rattle.store_rule.specs.declared.store.Store.{Store}
 use Rattle.store_rule.specs.declared.store.Pass.{Pass}
 use Rattle.tab_states.specs.declared.desks.Desk.{Desk}
-use Rattle.store_rule.specs.declared.opening.Hands.{Hands}
-use Rattle.tab_states.specs.declared.tabs.At.{At}
+use Rattle.tab_states.specs.Desks.{page_at}
 use Rattle.store_rule.specs.declared.store.Note.{Note}
 use Rattle.core_model.specs.declared.view.Sight.{Sight}
 use Rattle.store_rule.specs.Ground.{Can, Ground, Offers}
@@ -50,16 +50,15 @@ note_seen n = (the_view n.seat.me.0).seen
 abbrev pub IsNoteOf : {C O : Type 0} → Store C O → Note C → Type 0
 IsNoteOf s n = n.seat.table_id ≡ s.table.shared.table_id
 
--- what a pass has at hand before its first step, with buffers of this size
-pub record AreHands (slot : ℕ) (h : Hands) : Type 0 where
-  pub tabs : h.tabs ≡ replicate 9 At.Free
-  pub left : h.left ≡ replicate 9 0
-  pub desks : length h.desks ≡ 9
-  pub buffers : All (λ (d : Desk). length d.buffer.items ≡ slot) h.desks
-
 -- the passes stand in the order of their numbers, from 0 on
 abbrev pub AreNumbered : {C : Type 0} → List (Pass C) → Type 0
 AreNumbered {C} passes = (j : ℕ) (p : Pass C) → get_elem? passes j ≡ some p → (view p).pass ≡ j
+
+-- No two pairs of a pass and a tab have the same page, and each page is one of nine times so many.
+pub record HaveOwnPages {C : Type 0} (many : ℕ) (passes : List (Pass C)) : Type 0 where
+  pub apart : (i j t u : ℕ) (p q : Pass C) → get_elem? passes i ≡ some p → get_elem? passes j ≡ some q → t < 9 → u < 9
+      → page_at p.desks t ≡ page_at q.desks u → (i ≡ j) × (t ≡ u)
+  pub below : (i t : ℕ) (p : Pass C) → get_elem? passes i ≡ some p → t < 9 → page_at p.desks t < 9 * many
 
 -- the vector that the first of these passes keeps, or this one where there is none
 abbrev pub first_cells : {C : Type 0} → List (Pass C) → Vec C → Vec C
@@ -91,7 +90,7 @@ module _ {C O : Type 0} (tells : Bool) (state : C → CellState) (offers : O →
   pub record IsOf (s : Store C O) (p : Pass C) : Type 0 where
     pub table : p.seat.table_id ≡ s.table.shared.table_id
     pub stands : Stands (basis s) (view p)
-    pub buffers : All (λ (d : Desk). length d.buffer.items ≡ (basis s).slot) p.desks
+    pub buffers : All (λ (d : Desk). length d.page.bytes.items ≡ (basis s).slot) p.desks
 
   -- the pass is of this store, and may make this step
   pub record May (s : Store C O) (p : Pass C) (m : Move) : Type 0 where
@@ -119,9 +118,10 @@ module _ {C O : Type 0} (tells : Bool) (state : C → CellState) (offers : O →
     pub hand : q.hand ≡ p.hand
     pub cells : q.cells ≡ p.cells
 
-  -- it is a new pass of this store
+  -- it is a new pass of this store, with a seat of its pool
   pub record IsNewOf (s : Store C O) (p : Pass C) : Type 0 where
     pub own : IsOf s p
     pub fresh : view p ≡ new_view (basis s).setting (view p).pass
     pub places : hand p ≡ []
+    pub pages : IsSeatOf s.pool p.pages
     pub hand : p.hand ≡ 0

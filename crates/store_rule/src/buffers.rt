@@ -1,4 +1,4 @@
-// The buffers of a pass: each of its tabs has one, as long as a slot, and lends it.
+// The buffers of a pass: each of its tabs has one, a page of the store's pool as long as a slot, and lends it.
 ghost use Rattle.std.specs.Prelude.{List, ◌<◌, ◌≡◌, ℕ};
 ghost use Rattle.store_rule.specs.Lending.{with_bytes};
 ghost use Rattle.store_rule.specs.Passes.{IsOf};
@@ -19,7 +19,7 @@ pub fn lending_keeps_passes<C: Cell, O: Origin>()
 impl<C> Pass<C> {
     ghost use Rattle.std.specs.Borrow.{sem};
     ghost use Rattle.store_rule.specs.Lending.{LendsTab};
-    ghost use Rattle.tab_states.specs.Desks.{buffer_at};
+    ghost use Rattle.tab_states.specs.Desks.{buffer_at, page_at};
 
     /// The buffer of a tab, as long as a slot. That of tab 8 is for reading.
     pub fn buffer(&self, tab: u8) -> &[u8]
@@ -27,6 +27,14 @@ impl<C> Pass<C> {
         ensures { result.now ≡ buffer_at self.now.desks tab }
     {
         self.desks.buffer(tab as usize)
+    }
+
+    /// The number of the page that is the buffer of a tab. No call changes it.
+    pub fn page_number(&self, tab: u8) -> u32
+        requires { tab < 9 }
+        ensures { result ≡ page_at self.now.desks tab }
+    {
+        self.desks.page_number(tab as usize)
     }
 
     /// Lends the buffer of a tab. What is left in it when the borrow ends is what the pass then has there, and

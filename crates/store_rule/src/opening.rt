@@ -2,96 +2,60 @@
 ghost use Rattle.std.specs.Prelude.{◌+◌, ◌*◌, ◌<◌, ◌≡◌, ◌∷◌, All, IfErr, IfOk, List, Some, [], length, map, replicate, vec_len, ℕ};
 ghost use Rattle.core_model.specs.Layout.{table_words};
 ghost use Rattle.core_model.specs.declared.tab.Tab.TheVariants.{Free};
-ghost use Rattle.tab_states.specs.declared.desks.Desk.{Desk};
 ghost use Rattle.tab_states.specs.declared.tabs.At.{At};
 ghost use Rattle.core_model.specs.Opening.{new_view, new_views};
 ghost use Rattle.db_layout.specs.declared.layout.TheConstants.{MOST_SLOTS};
 ghost use Rattle.store_rule.specs.Setting.{IsRow, IsSettled, basis_of};
 ghost use Rattle.store_rule.specs.Told.{Stands, the_view};
-ghost use Rattle.store_rule.specs.Passes.{AreHands};
 ghost use Rattle.store_rule.specs.Rebuilding.{HoldNothing, MayOpen, none_kept};
 
 use crate::cells::{from_places, to_places};
 use crate::rule::{About, Off, Origin, Rule};
 use crate::store::{Pass, Store};
 use atomic_table::{Refused, Seat, Table};
-use core_model::{Row, TABS, View};
+use core_model::{Row, View};
 use core_table::{Opening, opening_of};
+use page_pool::{Pool, PoolSeat};
 use rebuild_model::{FoundList, Rebuilt};
 use rock_disk::Cell;
-use rock_io::{Numbers, Octets};
+use rock_io::{Memory, Numbers, Octets};
 use std::alloc::{AllocError, Global};
 use std::snapshot::Snapshot;
-use tab_states::{At, Desk, Desks, NO_DRAFT};
-
-/// What a pass has at hand before it has a seat.
-#[derive(Drop)]
-pub(crate) struct Hands {
-    pub(crate) tabs: Row<At>,
-    pub(crate) left: Row<u64>,
-    pub(crate) desks: Desks,
-}
-
-fn new_desk(alloc: Global, slot: u32) -> Result<Desk, AllocError>
-    ensures { IfOk result (λ d. length d.buffer.items ≡ slot) }
-{
-    let buffer = vec![in alloc; 0u8; slot as usize]?;
-    Ok(Desk {
-        buffer,
-        draft: NO_DRAFT,
-    })
-}
-
-fn desks(alloc: Global, slot: u32) -> Result<Vec<Desk>, AllocError>
-    ensures { IfOk result (λ ds. (vec_len ds ≡ 9) × All (λ (d : Desk). length d.buffer.items ≡ slot) ds.items) }
-{
-    let mut desks = Vec::new(alloc);
-    for tab in 0..TABS {
-        let _ = tab;
-        desks.push(new_desk(alloc, slot)?)?;
-    }
-    Ok(desks)
-}
-
-fn new_hands(alloc: Global, slot: u32) -> Result<Hands, AllocError>
-    ensures { IfOk result (AreHands slot) }
-{
-    Ok(Hands {
-        tabs: Row::from_vec(vec![in alloc; At::Free; TABS]?),
-        left: Row::from_vec(vec![in alloc; 0u64; TABS]?),
-        desks: Desks::from_vec(desks(alloc, slot)?),
-    })
-}
-
-/// What so many passes have at hand.
-fn all_hands(alloc: Global, slot: u32, passes: u32) -> Result<Vec<Hands>, AllocError>
-    ensures { IfOk result (λ all. (vec_len all ≡ passes) × All (AreHands slot) all.items) }
-{
-    let mut all = Vec::new(alloc);
-    for pass in 0..passes {
-        let _ = pass;
-        all.push(new_hands(alloc, slot)?)?;
-    }
-    Ok(all)
-}
+use tab_states::{Hands, all_hands};
 
 /// What the passes of a store take.
-struct Memory<C> {
+#[derive(Drop)]
+struct PassParts<C> {
     hands: Vec<Hands>,
+    /// The seat with which their pages were taken.
+    pages: PoolSeat,
     passes: Vec<Pass<C>>,
 }
 
-impl<C> Memory<C> {
-    ghost use Rattle.std.specs.Prelude.{◌≡◌, ◌≤◌, [], All, IfOk, vec_len, vec_capacity};
-    ghost use Rattle.store_rule.specs.Passes.{AreHands};
+impl<C> PassParts<C> {
+    ghost use Rattle.std.specs.Prelude.{◌≡◌, ◌≤◌, ◌*◌, [], IfOk, vec_len, vec_capacity};
+    ghost use Rattle.page_pool.specs.Seats.{IsSeatOf, key};
+    ghost use Rattle.tab_states.specs.Hands.{AreAllHands};
 
-    fn new(alloc: Global, slot: u32, passes: u32) -> Result<Memory<C>, AllocError>
-        ensures hands { IfOk result (λ m. (vec_len m.hands ≡ passes) × All (AreHands slot) m.hands.items) }
-        ensures passes { IfOk result (λ m. (m.passes.items ≡ []) × (vec_len m.passes ≡ 0) × (passes ≤ vec_capacity m.passes)) }
+    // With the pool of which the passes have all pages.
+    fn new(alloc: Global, slot: u32, passes: u32) -> Result<(Pool, PassParts<C>), Memory>
+        requires { (0 < passes) × (passes ≤ 32) }
+        ensures pool { IfOk result (λ r. ((key r.0).pages ≡ 9 * passes) × ((key r.0).size ≡ slot)) }
+        ensures pages { IfOk result (λ r. IsSeatOf r.0 r.1.pages) }
+        ensures hands { IfOk result (λ r. (vec_len r.1.hands ≡ passes) × AreAllHands slot r.1.hands.items) }
+        ensures passes { IfOk result (λ r. (r.1.passes.items ≡ []) × (vec_len r.1.passes ≡ 0) × (passes ≤ vec_capacity r.1.passes)) }
     {
-        let hands = all_hands(alloc, slot, passes)?;
+        let (pool, mut pages) = Pool::new(alloc, 9 * passes, slot as usize)?;
+        let hands = all_hands(alloc, &pool, &mut pages, passes)?;
         let passes = Vec::with_capacity(alloc, passes as usize)?;
-        Ok(Memory { hands, passes })
+        Ok((
+            pool,
+            PassParts {
+                hands,
+                pages,
+                passes,
+            },
+        ))
     }
 }
 
@@ -135,7 +99,9 @@ impl<C: Cell, O: Origin> Store<C, O> {
     ghost use Rattle.core_model.specs.Opening.{new_view, new_views};
     ghost use Rattle.store_rule.specs.Told.{Stands};
     ghost use Rattle.store_rule.specs.Setting.{IsRow, IsSettled, shown};
-    ghost use Rattle.store_rule.specs.Passes.{AreHands, AreNumbered, IsNewOf, KeepsRoom, basis, first_cells};
+    ghost use Rattle.page_pool.specs.Seats.{IsSeatOf};
+    ghost use Rattle.tab_states.specs.Hands.{AreAllHands};
+    ghost use Rattle.store_rule.specs.Passes.{AreNumbered, HaveOwnPages, IsNewOf, KeepsRoom, basis, first_cells};
     ghost use Rattle.store_rule.specs.Rebuilding.{IsKept, IsOpenedWith, none_kept};
 
     // The next pass is cut off.
@@ -159,38 +125,45 @@ impl<C: Cell, O: Origin> Store<C, O> {
     fn part_all(
         &self,
         mut seat: Seat<Option<C>, Row<View<Octets>>>,
-        mut hands: Vec<Hands>,
-        mut made: Vec<Pass<C>>,
+        parts: PassParts<C>,
         alloc: Global,
         mut cells: Vec<C>,
     ) -> Vec<Pass<C>>
         requires own { seat.table_id ≡ self.now.table.shared.table_id }
-        requires some { (0 < vec_len hands) × (vec_len hands ≤ 32) }
-        requires many { seat.me ≡ (new_views (basis C.tells C.state O.offers self.now).setting 0 (vec_len hands), []) }
-        requires stands { (n : ℕ) → n < vec_len hands → Stands (basis C.tells C.state O.offers self.now) (new_view (basis C.tells C.state O.offers self.now).setting n) }
-        requires hands { All (AreHands (basis C.tells C.state O.offers self.now).slot) hands.items }
-        requires made { (made.items ≡ []) × (vec_len made ≡ 0) × (vec_len hands ≤ vec_capacity made) }
-        ensures many { vec_len result ≡ vec_len hands }
+        requires some { (0 < vec_len parts.hands) × (vec_len parts.hands ≤ 32) }
+        requires many { seat.me ≡ (new_views (basis C.tells C.state O.offers self.now).setting 0 (vec_len parts.hands), []) }
+        requires stands { (n : ℕ) → n < vec_len parts.hands → Stands (basis C.tells C.state O.offers self.now) (new_view (basis C.tells C.state O.offers self.now).setting n) }
+        requires pages { IsSeatOf self.now.pool parts.pages }
+        requires hands { AreAllHands (basis C.tells C.state O.offers self.now).slot parts.hands.items }
+        requires made { (parts.passes.items ≡ []) × (vec_len parts.passes ≡ 0) × (vec_len parts.hands ≤ vec_capacity parts.passes) }
+        ensures many { vec_len result ≡ vec_len parts.hands }
         ensures new { All (IsNewOf C.tells C.state O.offers self.now) result.items }
         ensures numbered { AreNumbered result.items }
+        ensures pages { HaveOwnPages (vec_len parts.hands) result.items }
         ensures first { first_cells result.items cells ≡ cells }
     {
+        let PassParts {
+            mut hands,
+            mut pages,
+            passes: mut made,
+        } = parts;
         let passes = hands.len() as u32;
         for number in 1..passes {
             let part = self.part(&mut seat, number - 1, passes - number);
+            let apart = self.pool.split(&mut pages);
             let Some(hand) = hands.pop() else {
                 unreachable!()
             };
             let kept = cells;
             cells = Vec::new(alloc);
-            let Ok(()) = made.push(new_pass(part, hand, kept)) else {
+            let Ok(()) = made.push(new_pass(part, apart, hand, kept)) else {
                 unreachable!()
             };
         }
         let Some(hand) = hands.pop() else {
             unreachable!()
         };
-        let Ok(()) = made.push(new_pass(seat, hand, cells)) else {
+        let Ok(()) = made.push(new_pass(seat, pages, hand, cells)) else {
             unreachable!()
         };
         made
@@ -224,6 +197,7 @@ impl<C: Cell, O: Origin> Store<C, O> {
         ensures empty { IfOk result (λ r. (a : ℕ) → (basis C.tells C.state O.offers r.0).chain a ≡ []) }
         ensures passes { IfOk result (λ r. (vec_len r.1 ≡ passes) × All (IsNewOf C.tells C.state O.offers r.0) r.1.items) }
         ensures numbered { IfOk result (λ r. AreNumbered r.1.items) }
+        ensures pages { IfOk result (λ r. HaveOwnPages passes r.1.items) }
         ensures room { IfOk result (λ r. KeepsRoom (length cells.items) r.1.items) }
         ensures err { IfErr result (λ r. r.cells.items ≡ cells.items) }
     {
@@ -255,6 +229,7 @@ impl<C: Cell, O: Origin> Store<C, O> {
         ensures opened { IfOk result (λ r. IsOpenedWith (basis C.tells C.state O.offers r.0) rebuilt.now) }
         ensures passes { IfOk result (λ r. (vec_len r.1 ≡ passes) × All (IsNewOf C.tells C.state O.offers r.0) r.1.items) }
         ensures numbered { IfOk result (λ r. AreNumbered r.1.items) }
+        ensures pages { IfOk result (λ r. HaveOwnPages passes r.1.items) }
         ensures room { IfOk result (λ r. KeepsRoom (length cells.items) r.1.items) }
         ensures err { IfErr result (λ r. r.cells.items ≡ cells.items) }
     {
@@ -262,13 +237,7 @@ impl<C: Cell, O: Origin> Store<C, O> {
         let Ok(Opening { words, .. }) = opening_of(alloc, rebuilt, anchors, slots, passes) else {
             return Err(NoRoom { cells });
         };
-        let Ok(
-            Memory {
-                hands,
-                passes: made,
-            },
-        ) = Memory::new(alloc, slot, passes)
-        else {
+        let Ok((pool, parts)) = PassParts::new(alloc, slot, passes) else {
             return Err(NoRoom { cells });
         };
         let Ok(places) = to_places(alloc, &mut cells) else {
@@ -295,9 +264,10 @@ impl<C: Cell, O: Origin> Store<C, O> {
                     slots,
                     slot,
                     table,
+                    pool,
                     origin,
                 };
-                let made = store.part_all(seat, hands, made, alloc, cells);
+                let made = store.part_all(seat, parts, alloc, cells);
                 Ok((store, made))
             }
         }
@@ -316,11 +286,16 @@ fn nothing_kept(alloc: Global, slots: u32) -> Result<Rebuilt, AllocError>
     })
 }
 
-fn new_pass<C>(seat: Seat<Option<C>, Row<View<Octets>>>, hands: Hands, cells: Vec<C>) -> Pass<C>
+fn new_pass<C>(
+    seat: Seat<Option<C>, Row<View<Octets>>>,
+    pages: PoolSeat,
+    hands: Hands,
+    cells: Vec<C>,
+) -> Pass<C>
     requires one { seat.me.0 ≡ the_view seat.me.0 ∷ [] }
     requires free { (the_view seat.me.0).tabs ≡ replicate 9 Free }
     requires hands { (hands.tabs ≡ replicate 9 At.Free) × (length hands.left ≡ 9) × (length hands.desks ≡ 9) }
-    ensures { (result.seat ≡ seat) × (result.tabs ≡ hands.tabs) × (result.left ≡ hands.left) × (result.desks ≡ hands.desks) × (result.hand ≡ 0) × (result.cells ≡ cells) }
+    ensures { (result.seat ≡ seat) × (result.tabs ≡ hands.tabs) × (result.left ≡ hands.left) × (result.desks ≡ hands.desks) × (result.hand ≡ 0) × (result.cells ≡ cells) × (result.pages ≡ pages) }
 {
     let Hands { tabs, left, desks } = hands;
     Pass {
@@ -328,6 +303,7 @@ fn new_pass<C>(seat: Seat<Option<C>, Row<View<Octets>>>, hands: Hands, cells: Ve
         tabs,
         left,
         desks,
+        pages,
         hand: 0,
         cells,
     }

@@ -10,7 +10,7 @@ impl<C: Cell, O: Origin> Store<C, O> {
     ghost use Rattle.std.specs.Prelude.{◌≡◌, ◌<◌, ◌≤◌, IfErr, IfOk, vec_len, All, length, map};
     ghost use Rattle.db_layout.specs.declared.layout.TheConstants.{MOST_SLOTS};
     ghost use Rattle.store_rule.specs.Setting.{IsRow, IsSettled, shown};
-    ghost use Rattle.store_rule.specs.Passes.{AreNumbered, IsNewOf, KeepsRoom, basis};
+    ghost use Rattle.store_rule.specs.Passes.{AreNumbered, HaveOwnPages, IsNewOf, KeepsRoom, basis};
     ghost use Rattle.store_rule.specs.Rebuilding.{IsOpenedWith, IsRebuildOf};
 
     /// A store over these cells and what a rebuild of them kept, and its passes, in the order of their
@@ -44,6 +44,7 @@ impl<C: Cell, O: Origin> Store<C, O> {
         ensures opened { IfOk result (λ r. IsOpenedWith (basis C.tells C.state O.offers r.0) rebuilt.now) }
         ensures passes { IfOk result (λ r. (vec_len r.1 ≡ passes) × All (IsNewOf C.tells C.state O.offers r.0) r.1.items) }
         ensures numbered { IfOk result (λ r. AreNumbered r.1.items) }
+        ensures pages { IfOk result (λ r. HaveOwnPages passes r.1.items) }
         ensures room { IfOk result (λ r. KeepsRoom (length cells.items) r.1.items) }
         ensures err { IfErr result (λ r. r.cells.items ≡ cells.items) }
     {

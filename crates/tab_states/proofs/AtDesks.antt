@@ -10,9 +10,9 @@ set_buffer [] at d bytes e = refl
 set_buffer (x ∷ ds) zero d bytes e = sym (ap (λ (z : Option Desk). with_buffer (unwrap_or z d) bytes ∷ ds) e)
 set_buffer (x ∷ ds) (suc at) d bytes e = ap (λ (z : List Desk). x ∷ z) (set_buffer ds at d bytes e)
 
-pub buffer_there : (ds : List Desk) (at : ℕ) (d : Desk) → slice_get ds at ≡ Some d → d.buffer.items ≡ buffer_at ds at
+pub buffer_there : (ds : List Desk) (at : ℕ) (d : Desk) → slice_get ds at ≡ Some d → d.page.bytes.items ≡ buffer_at ds at
 buffer_there [] at d e = cc
-buffer_there (x ∷ ds) zero d e = sym (ap (λ (z : Option Desk). (unwrap_or z d).buffer.items) e)
+buffer_there (x ∷ ds) zero d e = sym (ap (λ (z : Option Desk). (unwrap_or z d).page.bytes.items) e)
 buffer_there (x ∷ ds) (suc at) d e = buffer_there ds at d e
 
 pub set_draft : (ds : List Desk) (at : ℕ) (d : Desk) (draft : Draft) → d ≡ slice_index_or ds at d → set ds at (record d { draft = draft }) ≡ with_draft_at ds at draft

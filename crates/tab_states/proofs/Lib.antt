@@ -1,1 +1,2 @@
 pub mod AtDesks
+pub mod TakingPages

@@ -1,8 +1,8 @@
 -- What is in the desks of a pass, and in what they lend.
 use Rattle.std.specs.Prelude.{List, [], length, map, replicate, slice_index_or, slice_set, false, suc, zero, ◌∷◌, ◌≡◌, ℕ}
 use Rattle.std.specs.Borrow.{Array, Fml, Lends, MutBor, u8}
-use Rattle.std.specs.Vec.{with_items}
 use mathlib.Core.Path.{ap, refl}
+use Rattle.page_pool.specs.Lending.{with_bytes}
 use Rattle.tab_states.specs.declared.desks.Desk.{Desk}
 use Rattle.tab_states.specs.declared.desks.Draft.{Draft}
 use Rattle.tab_states.specs.contracts.desks.Desks.{the_row as desks_row}
@@ -10,11 +10,15 @@ use Rattle.tab_states.specs.contracts.desks.Desk.{the_row as desk_row}
 
 -- the bytes in the buffer of a desk
 abbrev pub buffer_at : List Desk → ℕ → List ℕ
-buffer_at desks at = slice_index_or (map (λ (d : Desk). d.buffer.items) desks) at []
+buffer_at desks at = slice_index_or (map (λ (d : Desk). d.page.bytes.items) desks) at []
+
+-- the number of the page of a desk
+abbrev pub page_at : List Desk → ℕ → ℕ
+page_at desks at = slice_index_or (map (λ (d : Desk). d.page.number) desks) at 0
 
 -- the desk with these bytes in its buffer, which keeps its length
 abbrev pub with_buffer : Desk → List ℕ → Desk
-with_buffer d bytes = record d { buffer = with_items d.buffer bytes }
+with_buffer d bytes = record d { page = with_bytes d.page bytes }
 
 abbrev pub with_buffer_at : List Desk → ℕ → List ℕ → List Desk
 with_buffer_at [] at bytes = []

@@ -1,6 +1,7 @@
 // What each tab of a pass works on: a buffer as long as a slot, and what a tab that writes keeps beside it.
 ghost use Rattle.std.specs.Prelude.{Some, length, slice_get, ◌<◌, ◌≡◌};
 
+use page_pool::Page;
 use std::marker::Model;
 
 /// What a tab that writes has of its entry beside the buffer.
@@ -23,8 +24,8 @@ pub const NO_DRAFT: Draft = Draft {
 /// What a tab works on.
 #[derive(Drop)]
 pub struct Desk {
-    /// As many bytes as a slot has.
-    pub buffer: Vec<u8>,
+    /// Its bytes are the buffer of the tab, as many as a slot has.
+    pub page: Page,
     pub draft: Draft,
 }
 
@@ -34,9 +35,9 @@ impl Desk {
 
     fn buffer_mut(&mut self) -> &mut [u8]
         ensures* writes_back { sem 𝓛 (LendsBuffer self.entry result) }
-        ensures value { result.now ≡ self.old.buffer.items }
+        ensures value { result.now ≡ self.old.page.bytes.items }
     {
-        self.buffer.as_mut_slice()
+        self.page.bytes_mut()
     }
 }
 
@@ -57,7 +58,7 @@ impl Model for Desks {
 
 impl Desks {
     ghost use Rattle.std.specs.Borrow.{sem};
-    ghost use Rattle.tab_states.specs.Desks.{LendsBufferAt, LendsDesk, buffer_at, draft_at, with_draft_at};
+    ghost use Rattle.tab_states.specs.Desks.{LendsBufferAt, LendsDesk, buffer_at, draft_at, page_at, with_draft_at};
 
     /// Takes a vector as it is, and no memory.
     pub fn from_vec(items: Vec<Desk>) -> Self
@@ -71,7 +72,15 @@ impl Desks {
         requires { at < length self.now }
         ensures { result.now ≡ buffer_at self.now at }
     {
-        &self.items[at].buffer
+        self.items[at].page.bytes()
+    }
+
+    /// The number of the page that one desk has.
+    pub fn page_number(&self, at: usize) -> u32
+        requires { at < length self.now }
+        ensures { result ≡ page_at self.now at }
+    {
+        self.items[at].page.number()
     }
 
     fn desk_mut(&mut self, at: usize) -> &mut Desk

@@ -3,10 +3,12 @@
 #![tactic(auto)]
 
 mod desks;
+mod hands;
 mod tab_slots;
 mod tabs;
 
 pub use desks::{Desk, Desks, Draft, NO_DRAFT};
+pub use hands::{Hands, all_hands};
 pub use tab_slots::{
     ended_at, followed_at, given_back_at, loaded_at, loosen_at, next_slot, published_at,
     reserved_at,

@@ -8,7 +8,7 @@ use Rattle.rock_open.specs.Device.{counts}
 use Rattle.rock_open.specs.Opening.{FileSays, IsAnchors, ReadingEnds}
 use Rattle.rock_open.proofs.Cells.{few_of, rebuilds, row_of, sure_of}
 use Rattle.rock_open.proofs.Files.{filled, handed_back, of_error, on_ok, out_still, slots_when_opened}
-use Rattle.rock_open.proofs.Refusals.{ended_around, has_slots, none_around, one_count, handed_up, ok_is_no_error, open_told, opened_refused, opened_says, unfailed_around}
+use Rattle.rock_open.proofs.Refusals.{ended_around, has_slots, none_around, one_around, one_count, handed_up, ok_is_no_error, open_told, opened_refused, opened_says, unfailed_around}
 use Rattle.rock_open.proofs.opening.open_within.Goals as goal
 
 pub returns-in-Err-clause-small : goal.returns-in-Err-clause-small
@@ -68,6 +68,10 @@ returns-in-Ok-store_of-clause-unfit g c t slots has not =
 
 pub returns-in-Ok-store_of-clause-ended : goal.returns-in-Ok-store_of-clause-ended
 returns-in-Ok-store_of-clause-ended g c = ended_around _ _ _ _ _ _ _ _ _ _ _ _ (c.in-Ok.ensures.unfailed (λ w. cc)) c.in-Ok.ensures.made c.in-Ok.ensures.ended refl refl refl c.kept_of-kept.ensures.ended
+
+pub returns-in-Ok-store_of-clause-one : goal.returns-in-Ok-store_of-clause-one
+returns-in-Ok-store_of-clause-one g c = one_around _ _ _ _ _ _ _ _ _ _ _ _ (c.in-Ok.ensures.unfailed (λ w. cc)) c.in-Ok.ensures.made c.in-Ok.ensures.ended refl refl refl
+    (on_ok _ c.kept_of-kept.result c.in-Ok-store_of.ensures.ok c.kept_of-kept.ensures.one)
 
 pub returns-in-Err-store_of-clause-refused : goal.returns-in-Err-store_of-clause-refused
 returns-in-Err-store_of-clause-refused g c =

@@ -1,4 +1,5 @@
-use Rattle.std.proofs.Common.{ap, arith, length, map, subst, sym, ◌∙◌}
+use Rattle.std.proofs.Common.{ap, arith, length, map, subst, sym, ◌*◌, ◌∙◌}
+use Rattle.tab_states.specs.Hands.{AreHands}
 use Rattle.store_rule.specs.Rebuilding.{IsKept}
 use Rattle.store_rule.specs.Setting.{now_in}
 use Rattle.store_rule.specs.declared.rule.About.{About}
@@ -43,3 +44,6 @@ returns-in-Ok-new_table-clause-opened g c = let r = c.requires in
     (about_opens g.C.Cell.tells g.C.Cell.state g.O.Origin.offers about c.in-Ok.field-0 c.args.rebuilt.now c.args.cells.items c.in-Ok.ensures kept r.anchors r.passes.1
     (ap (λ z. z.items) c.of.ensures) (ap (λ z. z.items) c.of-2.ensures ∙ c.in-Ok-to_places.ensures.ok.0) (ap length (sym c.as_slice.ensures.value))
     (let few = r.slots in let same = ap length c.as_slice.ensures.value in omega arith) c.of-3.ensures)
+
+pub part_all-made-requires-clause-hands : goal.part_all-made-requires-clause-hands
+part_all-made-requires-clause-hands g c k h at = subst (λ z. AreHands z (9 * k) h) (sym (ap About.slot c.in-Ok-new_table.ensures.key)) (c.in-Ok-new.ensures.hands.1 k h at)
