@@ -15,3 +15,4 @@ pub mod Ending
 pub mod Begun
 pub mod Staying
 pub mod Durable
+pub mod During

@@ -7,4 +7,5 @@ pub mod Flushing
 pub mod Appending
 pub mod Finishing
 pub mod Durable
+pub mod During
 pub mod Beginning

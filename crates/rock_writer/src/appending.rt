@@ -3,6 +3,7 @@ ghost use Rattle.std.specs.Prelude.{IfErr, IfOk, IsErrOf, [], length, ◌+◌, �
 ghost use Rattle.entry_cut.specs.Content.{room_of};
 ghost use Rattle.rock_io.specs.Faults.{Rose};
 ghost use Rattle.rock_writer.specs.Appending.{Appended, MayAppend, NotAppended};
+ghost use Rattle.rock_writer.specs.During.{LeftDuringAppend};
 ghost use Rattle.rock_writer.specs.Durable.{LoggedSoFar};
 ghost use Rattle.rock_writer.specs.Entries.{Entry, with_taken};
 ghost use Rattle.rock_writer.specs.Passes.{FollowsWriting};
@@ -21,7 +22,8 @@ use store_rule::{Origin, Pass, Store};
 /// Takes bytes of the body of the entry that a tab writes, and answers how many: at least one where there
 /// are any, and no more than fit into the slot that is being filled. Where that slot is full, it is written
 /// and published first, and the bytes go into the next one. A slot of an entry that is to be durable is
-/// synced before it is published.
+/// synced before it is published. While the slot was written, a crash left what it might have left before, or the
+/// piece (`during`).
 ///
 /// # Errors
 ///
@@ -39,6 +41,7 @@ pub fn append<C: Cell, O: Origin, St: Station<C = C>>(
     ensures durable { (e : Entry) → MayAppend C.tells C.state O.offers store.now tab e bytes.now pass.old
         → LoggedSoFar (basis C.tells C.state O.offers store.now) e (view pass.old)
         → IfOk result (λ count. LoggedSoFar (basis C.tells C.state O.offers store.now) (with_taken e (e.taken + count)) (view pass.new)) }
+    ensures during { (e : Entry) → LeftDuringAppend C.tells C.state O.offers store.now tab e pass.old pass.new bytes.now }
     ensures some { bytes.now ≢ [] → IfOk result (λ count. 0 < count) }
     ensures within { IfOk result (λ count. count ≤ length bytes.now) }
     ensures err { (e : Entry) → MayAppend C.tells C.state O.offers store.now tab e bytes.now pass.old

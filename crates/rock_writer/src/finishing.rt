@@ -1,6 +1,7 @@
 // An entry is written to its end and closed, or given up.
 ghost use Rattle.std.specs.Prelude.{IfErr, IfOk, IsErrOf, OnErr, OnOk, true, ◌≡◌};
 ghost use Rattle.rock_io.specs.Faults.{Rose};
+ghost use Rattle.rock_writer.specs.During.{LeftDuringFinish};
 ghost use Rattle.rock_writer.specs.Durable.{ClosedDurably, LoggedSoFar, LoggedWhole};
 ghost use Rattle.rock_writer.specs.Entries.{Entry, WritesAs, size_of};
 ghost use Rattle.rock_writer.specs.Finishing.{Finished, MayClose, MayFinish, NotFinished, NotWrittenLast, WroteLast, is_doomed, version_of};
@@ -23,7 +24,8 @@ use store_rule::{Origin, Pass, Store};
 use swap_meta::written_meta_is_spelled;
 
 /// Writes the last piece of an entry whose whole body was taken, syncs it if the entry is to be durable,
-/// publishes it, and closes the entry. The tab is free afterwards.
+/// publishes it, and closes the entry. The tab is free afterwards. While the slot was written, a crash left what it
+/// might have left before, or the piece (`during`).
 ///
 /// # Errors
 ///
@@ -40,6 +42,7 @@ pub fn finish<C: Cell, O: Origin, St: Station<C = C>>(
     ensures durable { (e : Entry) → MayFinish C.tells C.state O.offers store.now tab e pass.old → e.is_durable ≡ true
         → LoggedSoFar (basis C.tells C.state O.offers store.now) e (view pass.old)
         → OnOk result (ClosedDurably (basis C.tells C.state O.offers store.now) tab e (view pass.new)) }
+    ensures during { (e : Entry) → LeftDuringFinish C.tells C.state O.offers store.now tab e pass.old pass.new }
     ensures err { (e : Entry) → MayFinish C.tells C.state O.offers store.now tab e pass.old
         → IfErr result (λ fault. NotFinished C.tells C.state O.offers store.now tab e pass.old pass.new fault) }
     ensures others { FollowsWriting C.tells C.state O.offers store.now tab pass.old pass.new }

@@ -5,6 +5,7 @@ use Rattle.tab_states.specs.Desks.{draft_at}
 use Rattle.store_rule.specs.Passes.{basis, view}
 use Rattle.rock_writer.specs.Entries.{WritesAs, with_taken}
 use Rattle.rock_writer.specs.Flushing.{Flushed, IsAtLimit, NotFlushed}
+use Rattle.rock_writer.proofs.During.{left_during_append}
 use Rattle.rock_writer.proofs.Durable.{appended_so_far}
 use Rattle.rock_writer.proofs.Following.{err_is, err_of, no_err, writing_desk, writing_halting, writing_on}
 use Rattle.rock_writer.proofs.Publishing.{same_view}
@@ -101,3 +102,15 @@ returns-then-not-is_full-clause-durable g c e may so_far = appended_so_far g.C.C
 
 pub returns-clause-durable : goal.returns-clause-durable
 returns-clause-durable g c e may so_far = appended_so_far g.C.Cell.tells g.C.Cell.state g.O.Origin.offers c.args.store.now c.args.tab e c.args.bytes.now c.args.pass.now c.fill-2.new.pass c.fill-2.result may (returns-clause-ok g c e may) so_far
+
+pub returns-then-is_empty-clause-during : goal.returns-then-is_empty-clause-during
+returns-then-is_empty-clause-during g c e = left_during_append g.C.Cell.tells g.C.Cell.state g.O.Origin.offers c.args.store.now c.args.tab e c.args.pass.now c.args.pass.now c.args.bytes.now
+
+pub returns-then-not-is_full-clause-during : goal.returns-then-not-is_full-clause-during
+returns-then-not-is_full-clause-during g c e = left_during_append g.C.Cell.tells g.C.Cell.state g.O.Origin.offers c.args.store.now c.args.tab e c.args.pass.now c.fill.new.pass c.args.bytes.now
+
+pub returns-in-Err-clause-during : goal.returns-in-Err-clause-during
+returns-in-Err-clause-during g c e = left_during_append g.C.Cell.tells g.C.Cell.state g.O.Origin.offers c.args.store.now c.args.tab e c.args.pass.now c.halt.new.pass c.args.bytes.now
+
+pub returns-clause-during : goal.returns-clause-during
+returns-clause-during g c e = left_during_append g.C.Cell.tells g.C.Cell.state g.O.Origin.offers c.args.store.now c.args.tab e c.args.pass.now c.fill-2.new.pass c.args.bytes.now

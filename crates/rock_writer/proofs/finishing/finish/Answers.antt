@@ -11,6 +11,7 @@ use Rattle.store_rule.specs.Passes.{basis, view}
 use Rattle.tab_states.specs.declared.tabs.WritingAt.{WritingAt}
 use Rattle.rock_writer.specs.Entries.{writer_as}
 use Rattle.rock_writer.specs.Finishing.{NotWrittenLast, WroteLast}
+use Rattle.rock_writer.proofs.During.{left_during_finish}
 use Rattle.rock_writer.proofs.Durable.{whole_grows}
 use Rattle.rock_writer.proofs.Ending.{at_anchor, doom_is, may_part_closed, may_raise_closed}
 use Rattle.rock_writer.proofs.Following.{err_of, writing_halting, writing_on, writing_one}
@@ -80,3 +81,9 @@ returns-clause-durable g c e may durable so_far = let known = c.in_default-write
       (grows_step (basis g.C.Cell.tells g.C.Cell.state g.O.Origin.offers c.args.store.now) (view c.write_last.new.pass) (view c.advance-word.new.pass) _ c.advance-word.ensures.made.found c.advance-word.ensures.made.step)
       (grows_parted (basis g.C.Cell.tells g.C.Cell.state g.O.Origin.offers c.args.store.now) c.args.tab (view c.advance-word.new.pass) (view c.part.new.pass) c.part.ensures.parted)) known;
 }
+
+pub returns-in-Err-clause-during : goal.returns-in-Err-clause-during
+returns-in-Err-clause-during g c e = left_during_finish g.C.Cell.tells g.C.Cell.state g.O.Origin.offers c.args.store.now c.args.tab e c.args.pass.now c.halt.new.pass
+
+pub returns-clause-during : goal.returns-clause-during
+returns-clause-during g c e = left_during_finish g.C.Cell.tells g.C.Cell.state g.O.Origin.offers c.args.store.now c.args.tab e c.args.pass.now c.part.new.pass
