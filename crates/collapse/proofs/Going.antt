@@ -32,7 +32,7 @@ same_mapped : {A B : Type 0} (f : A → B) (d : B) (xs ys : List A) (i : ℕ) �
 same_mapped f d xs ys i e = mapped f d ys i ∙ ap (seen_as f d) e ∙ sym (mapped f d xs i)
 
 same_desk : (old new : List Desk) (j : ℕ) → slice_get new j ≡ slice_get old j → SameDesk old new j
-same_desk old new j e = (same_mapped (λ (d : Desk). d.buffer.items) [] old new j e, same_mapped (λ (d : Desk). d.draft) _ old new j e)
+same_desk old new j e = (same_mapped (λ (d : Desk). d.page.bytes.items) [] old new j e, same_mapped (λ (d : Desk). d.draft) _ old new j e)
 
 -- the inner tab is free still
 pub inner_stays : {X : Type 0} (v w : View X) → tab_at w inner ≡ tab_at v inner → InnerIsFree v → InnerIsFree w

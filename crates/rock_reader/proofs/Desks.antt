@@ -34,7 +34,7 @@ draft_lent (x ∷ ds) (suc t) (suc j) bytes = draft_lent ds t j bytes
 
 pub buffer_same : (ds : List Desk) (t : ℕ) (bytes : List ℕ) → t < length ds → length bytes ≡ length (buffer_at ds t) → buffer_at (with_buffer_at ds t bytes) t ≡ bytes
 buffer_same [] t bytes lt e = absurd (omega arith)
-buffer_same (x ∷ ds) zero bytes lt e = with_items_is x.buffer bytes (e ∙ sym x.buffer.ok.0)
+buffer_same (x ∷ ds) zero bytes lt e = with_items_is x.page.bytes bytes (e ∙ sym x.page.bytes.ok.0)
 buffer_same (x ∷ ds) (suc t) bytes lt e = buffer_same ds t bytes (omega arith) e
 
 pub buffer_other : (ds : List Desk) (t j : ℕ) (bytes : List ℕ) → j ≢ t → buffer_at (with_buffer_at ds t bytes) j ≡ buffer_at ds j

@@ -22,7 +22,7 @@ draft_back (d ∷ ds) (suc t) draft lt = draft_back ds t draft (omega arith)
 
 buffer_back : (ds : List Desk) (t : ℕ) (bytes : List ℕ) → t < length ds → length bytes ≡ length (buffer_at ds t) → buffer_at (with_buffer_at ds t bytes) t ≡ bytes
 buffer_back [] t bytes lt e = absurd (omega arith)
-buffer_back (d ∷ ds) zero bytes lt e = with_items_is d.buffer bytes (e ∙ sym d.buffer.ok.0)
+buffer_back (d ∷ ds) zero bytes lt e = with_items_is d.page.bytes bytes (e ∙ sym d.page.bytes.ok.0)
 buffer_back (d ∷ ds) (suc t) bytes lt e = buffer_back ds t bytes (omega arith) e
 
 -- a draft has no part in the buffer, and the buffer none in the draft
@@ -99,7 +99,7 @@ module _ {C : Type 0} (t : ℕ) (p q : Pass C) where
     desks = λ j ne. b.desks j ne ∙ a.desks j ne;
   }
 
-buffer_length : (slot : ℕ) (ds : List Desk) (t : ℕ) → All (λ (d : Desk). length d.buffer.items ≡ slot) ds → t < length ds → length (buffer_at ds t) ≡ slot
+buffer_length : (slot : ℕ) (ds : List Desk) (t : ℕ) → All (λ (d : Desk). length d.page.bytes.items ≡ slot) ds → t < length ds → length (buffer_at ds t) ≡ slot
 buffer_length slot [] t all lt = absurd (omega arith)
 buffer_length slot (d ∷ ds) zero all lt = all 0 d (omega arith)
 buffer_length slot (d ∷ ds) (suc t) all lt = buffer_length slot ds t (λ i e l. all (suc i) e (omega arith)) (omega arith)

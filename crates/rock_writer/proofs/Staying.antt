@@ -56,4 +56,4 @@ module _ {C O : Type 0} (tells : Bool) (state : C → CellState) (offers : O →
       draft = same_mapped (λ (d : Desk). d.draft) _ p.desks q.desks t (follows.desks t ne)
 
       buffer : buffer_at q.desks t ≡ buffer_at p.desks t
-      buffer = same_mapped (λ (d : Desk). d.buffer.items) [] p.desks q.desks t (follows.desks t ne)
+      buffer = same_mapped (λ (d : Desk). d.page.bytes.items) [] p.desks q.desks t (follows.desks t ne)

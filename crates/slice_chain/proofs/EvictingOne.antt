@@ -260,7 +260,7 @@ module _ {C O : Type 0} (tells : Bool) (state : C → CellState) (offers : O →
   -- the hand was moved behind all that
   pub moved_follows : (u q r : Pass C) → Follows tells state offers s inner p u → FollowsEvicting tells state offers s t u q → HandMoves q r → FollowsEvicting tells state offers s t p r
   moved_follows u q r first second moved = evicting_on tells state offers s t p q r (evicting_on tells state offers s t p u q (evicting_inner tells state offers s t p u first) second) record {
-    own = record { table = ap (λ z. z.table_id) moved.seat ∙ second.own.table; stands = subst (λ z. Rattle.store_rule.specs.Told.Stands (basis tells state offers s) (the_view z.me.0)) (sym moved.seat) second.own.stands; buffers = subst (λ ds. Rattle.std.specs.Prelude.All (λ d. Rattle.std.proofs.Common.length d.buffer.items ≡ (basis tells state offers s).slot) ds) (sym moved.desks) second.own.buffers };
+    own = record { table = ap (λ z. z.table_id) moved.seat ∙ second.own.table; stands = subst (λ z. Rattle.store_rule.specs.Told.Stands (basis tells state offers s) (the_view z.me.0)) (sym moved.seat) second.own.stands; buffers = subst (λ ds. Rattle.std.specs.Prelude.All (λ d. Rattle.std.proofs.Common.length d.page.bytes.items ≡ (basis tells state offers s).slot) ds) (sym moved.desks) second.own.buffers };
     others = λ j ne far. ap (λ z. tab_at (the_view z.me.0) j) moved.seat;
     left = λ j ne far. ap (λ xs. get_or xs j 0) moved.left;
     places = ap (λ z. z.me.1) moved.seat;

@@ -235,7 +235,7 @@ module _ {C O : Type 0} (tells : Bool) (state : C → CellState) (offers : O →
 -- The buffer for reading has what was read into it.
 buffer_back : (ds : List Desk) (at : ℕ) (bytes : List ℕ) → at < length ds → length bytes ≡ length (buffer_at ds at) → buffer_at (with_buffer_at ds at bytes) at ≡ bytes
 buffer_back [] at bytes lt e = absurd (omega arith)
-buffer_back (d ∷ ds) zero bytes lt e = with_items_is d.buffer bytes (e ∙ sym d.buffer.ok.0)
+buffer_back (d ∷ ds) zero bytes lt e = with_items_is d.page.bytes bytes (e ∙ sym d.page.bytes.ok.0)
 buffer_back (d ∷ ds) (suc at) bytes lt e = buffer_back ds at bytes (omega arith) e
 
 pub has_bytes : {C : Type 0} (p : Pass C) (bytes : List ℕ) → length bytes ≡ length (buffer_at p.desks inner) → buffer_at (with_bytes p inner bytes).desks inner ≡ bytes

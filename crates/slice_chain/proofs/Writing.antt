@@ -237,7 +237,7 @@ module _ {C O : Type 0} (tells : Bool) (state : C → CellState) (offers : O →
   pub buffer_long : (p : Pass C) (t : ℕ) → t ≤ inner → IsOf tells state offers s p → length (buffer_at p.desks t) ≡ (basis tells state offers s).slot
   buffer_long p t le own = of_desks p.desks t (let n = p.nine_desks in omega arith) own.buffers
     where
-      of_desks : (ds : List Desk) (t : ℕ) → t < length ds → All (λ (d : Desk). length d.buffer.items ≡ (basis tells state offers s).slot) ds → length (buffer_at ds t) ≡ (basis tells state offers s).slot
+      of_desks : (ds : List Desk) (t : ℕ) → t < length ds → All (λ (d : Desk). length d.page.bytes.items ≡ (basis tells state offers s).slot) ds → length (buffer_at ds t) ≡ (basis tells state offers s).slot
       of_desks [] t lt h = absurd (omega arith)
       of_desks (d ∷ ds) zero lt h = h 0 d (omega arith)
       of_desks (d ∷ ds) (suc t) lt h = of_desks ds t (omega arith) (λ j e l. h (suc j) e (omega arith))

@@ -32,7 +32,7 @@ same_mapped : {A B : Type 0} (f : A → B) (d : B) (xs ys : List A) (i : ℕ) �
 same_mapped f d xs ys i e = mapped f d ys i ∙ ap (seen_as f d) e ∙ sym (mapped f d xs i)
 
 same_desk : (old new : List Desk) (j : ℕ) → slice_get new j ≡ slice_get old j → SameDesk old new j
-same_desk old new j e = (same_mapped (λ (d : Desk). d.buffer.items) [] old new j e, same_mapped (λ (d : Desk). d.draft) _ old new j e)
+same_desk old new j e = (same_mapped (λ (d : Desk). d.page.bytes.items) [] old new j e, same_mapped (λ (d : Desk). d.draft) _ old new j e)
 
 pub nothing_lost : {X : Type 0} (v : View X) → KnowsAll v v
 nothing_lost v = record { pass = refl; seen = λ x h. h; trail = λ x h. h; met = λ a h. h }
