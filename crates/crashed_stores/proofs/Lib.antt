@@ -1,4 +1,5 @@
 pub mod Over
+pub mod Within
 pub mod Closed
 pub mod Durable
 pub mod Kept

@@ -1,3 +1,4 @@
 pub mod Left
+pub mod Within
 pub mod Finished
 pub mod Standing

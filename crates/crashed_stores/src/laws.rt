@@ -20,6 +20,7 @@ ghost use Rattle.rock_writer.specs.Durable.{LoggedWhole};
 ghost use Rattle.rock_writer.specs.Entries.{Entry as Written};
 ghost use Rattle.crashed_stores.specs.Finished.{AreSeen, IsFoundIn};
 ghost use Rattle.crashed_stores.specs.Left.{IsDurableEntry, IsLeftOf, IsOfOrigin, bytes_now, offers_in};
+ghost use Rattle.crashed_stores.specs.Within.{IsLeftWithin};
 ghost use Rattle.crashed_stores.specs.Standing.{HaveEntry, IsLasting, offer_at};
 
 use db_layout::MOST_SLOTS;
@@ -47,6 +48,12 @@ pub fn crashes_of_stores_leave_responses<C: Cell, O: Origin>()
     placed_pieces_are_an_entry();
     written_meta_is_spelled();
 }
+
+/// What a crash leaves while any number of calls write slots, within their writes and syncs or between them, is as the laws
+/// here ask of what a crash leaves of a state.
+pub fn calls_under_way_leave_pieces()
+    ensures { (g : Ground (List ℕ)) (s : State (List ℕ)) (images : List (List ℕ)) → (rule : Rule g s) → IsLeftWithin g s images → IsLeftOf g s rule.logged.log images }
+{}
 
 /// A new entry that was closed, each of whose pieces was logged as durable, is in all that a crash may leave, and a
 /// rebuild keeps it at its anchor.
