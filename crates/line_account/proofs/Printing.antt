@@ -29,7 +29,7 @@ use Rattle.core_model.specs.declared.view.Sight.TheVariants.{Stood}
 use Rattle.core_model.specs.declared.view.View.{View}
 use Rattle.core_model.specs.Anchors.{opening_counter, opening_epoch}
 use Rattle.core_model.specs.Deeds.{EnteredByAnother, EvictedVersion, HaltedVersion, IsDone, IsEpochAt, LeftEpoch}
-use Rattle.core_model.proofs.DeedsTell.{known_old}
+use Rattle.core_model.proofs.DeedsTell.{known_evicted, known_old}
 use Rattle.script_text.specs.Requests.{url_in}
 use Rattle.line_account.specs.Lines.{begun_by, Fits, LineOf, Offers, Served, added, begun_of, writing}
 use Rattle.line_account.specs.Deeds.{Began, BeganOnTab, Begins, ComesTo, IsDeedOf, IsDeedOfEnd, MayEvict}
@@ -37,9 +37,9 @@ use Rattle.line_account.specs.Requests.{IsAnswerTo}
 use Rattle.line_account.specs.Answers.{ComesIn, HasGiven, HasItem, IsSure, bytes_with, HasOther, HasPurged, IsCauseOf, IsEntryAt, IsKeyRead, IsLong, IsSpent, ReadAs, Refuses, Run}
 use Rattle.line_account.specs.Accounts.{epoch_in}
 use Rattle.line_account.specs.Closing.{BegunIn, Closed, HaltedIn, LineIn, ShownIn, Worker, offered}
-use Rattle.line_account.specs.Printed.{AnotherComes, EndsBegun, AreFirstOnes, IsStored, ReadsOf, GivenBackIn, HadEntry, HasBusyWords, HasOtherUrl, HitIn, IsBodyOfLine, IsKeyOfLine, IsOldBody, IsOldUrl, KeyIn, NeedsTooMany, PrintsAdded, PrintsEnded, PrintsHit, PrintsKey, PrintsLarge, PrintsOther, PrintsReaders, old_offer}
+use Rattle.line_account.specs.Printed.{AnotherComes, EndsBegun, AreFirstOnes, IsStored, ReadsOf, GivenBackIn, HadEntry, HasBusyWords, HasOtherUrl, HitIn, IsBodyOfLine, IsKeyOfLine, IsOldBody, IsOldUrl, KeyIn, NeedsTooMany, PrintsAdded, PrintsEnded, PrintsHit, PrintsKey, PrintsLarge, PrintsOther, PrintsReaders, WasWhole, old_offer}
 use Rattle.line_account.proofs.Gathered.{DeedIn, by_line, counter_below, counter_is, deed_in, inside, shown_known, tells_at}
-use Rattle.line_account.proofs.Versions.{halted_in}
+use Rattle.line_account.proofs.Versions.{closed_in, halted_in}
 use Rattle.line_account.proofs.Names.{HasOffer, begun_among, names_of, offer_of, offered_url}
 
 -- Keys are the same where their halves are.
@@ -328,13 +328,26 @@ module _ {X : Type 0} (r : Run X) (crew : List (Worker X)) (c : Closed r crew) w
       h.count_is ∙ ap (λ n. min n (length (r.body (r.setting.slots + h.writes.first.line.number)) - added h.tab l.earlier)) asks
       ∙ ap (λ n. min asked (n - added h.tab l.earlier)) size ∙ ap (λ t. min asked (length (bytes_of body) - added t l.earlier)) tabs
 
+  -- what was evicted from an idle word was stored by a line, or the anchor had it at the opening
+  was_whole : (a e : ℕ) → IsEpochAt r.setting c.state a e → 4 ≤ stage_of e → IsDone c.state (EvictedVersion a (version_of e)) → WasWhole r crew a (version_of e)
+  was_whole a e known four h = dite (dec_le (version_of e) (opening_counter r.setting))
+      (λ low. let old = known_old r.setting c.state c.sound a e known low in inr (had old.stage, old.version))
+      (λ high. inl (closed_in r crew c a (version_of e) (known_evicted r.setting c.state c.sound a (version_of e) (omega arith) h)))
+    where
+      had : (stage_of e ≡ stage_of (opening_epoch r.setting a)) ⊎ ((5 ≤ stage_of e) × HadEntry r a) → HadEntry r a
+      had (inl q) = ⊎_elim (λ (z : stage_of (opening_epoch r.setting a) ≡ 0). absurd (omega arith)) (λ (z : stage_of (opening_epoch r.setting a) ≡ 3). z) (c.sound.anchors.setting.stage a (inside r crew c a e known))
+      had (inr q) = q.1
+
   pub given_back : (a e : ℕ) → ShownIn r crew a e → doom_of e ≡ 0 → 4 ≤ stage_of e → GivenBackIn r crew a (version_of e)
   given_back a e p undoomed four = ⊎_elim
       (λ (h : IsDone c.state (HaltedVersion a (version_of e))). inl (halted_in r crew c a (version_of e) h))
-      (λ (h : IsDone c.state (EvictedVersion a (version_of e))). inr (by_line r crew c (EvictedVersion a (version_of e)) (λ earlier s. MayEvict s.line.request)
-      (λ v d earlier s q o. (o.evicted q.0 q.3 q.4).may)
-      (λ d served q o. absurd (let f : true ≡ false = sym q.4 ∙ (o.changed q.0).1 in cc))
-      h))
+      (λ (h : IsDone c.state (EvictedVersion a (version_of e))). inr (
+        by_line r crew c (EvictedVersion a (version_of e)) (λ earlier s. MayEvict s.line.request)
+            (λ v d earlier s q o. (o.evicted q.0 q.3 q.4).may)
+            (λ d served q o. absurd (let f : true ≡ false = sym q.4 ∙ (o.changed q.0).1 in cc))
+            h,
+        was_whole a e (shown_known r crew c a e p) four h,
+      ))
       (c.sound.anchors.deeds.undoomed a e (shown_known r crew c a e p) undoomed four)
 
   -- Runs that fit.

@@ -1,13 +1,15 @@
 -- The laws on versions and epochs.
 use Rattle.std.proofs.Common.{◌≡◌, ◌≢◌, ◌⊎◌, inl, inr, ⊎_elim, ℕ, ◌+◌, ◌<◌, ◌≤◌, List, [], ◌∷◌, Contains, sym, refl, ap, ◌∙◌, subst, arith}
 use Rattle.std.specs.Prelude.{Option, Some, true, unwrap_or}
+use mathlib.Core.Logic.{dite}
+use native.Mathlib.Decide.{ℕ_discrete}
 use Rattle.lock_word.specs.Words.{doom_of, epoch_at, stage_of, version_of}
 use Rattle.core_model.specs.declared.view.Deed.{Deed}
 use Rattle.core_model.specs.declared.view.Kind.TheVariants.{Changed, Doomed, Raised}
 use Rattle.core_model.specs.declared.view.View.{View}
 use Rattle.core_model.specs.Anchors.{opening_counter, opening_epoch}
-use Rattle.core_model.specs.Deeds.{DoomedVersion, HaltedVersion, IsDone, LeftEpoch, TookVersion}
-use Rattle.core_model.proofs.DeedsTell.{known_halted, known_old, known_quiet, known_taken}
+use Rattle.core_model.specs.Deeds.{ClosedVersion, DoomedVersion, HaltedVersion, IsDone, LeftEpoch, TookVersion}
+use Rattle.core_model.proofs.DeedsTell.{known_begun, known_grown, known_halted, known_old, known_quiet, known_taken}
 use Rattle.store_key.specs.Anchor.{anchor_of}
 use Rattle.store_key.specs.Key.{key_of}
 use Rattle.script_text.specs.Requests.{url_in}
@@ -103,6 +105,22 @@ module _ {X : Type 0} (r : Run X) (crew : List (Worker X)) (c : Closed r crew) w
   pub stage_of_old : (a e : ℕ) → ShownIn r crew a e → version_of e ≤ opening_counter r.setting → (stage_of e ≡ stage_of (opening_epoch r.setting a)) ⊎ ((5 ≤ stage_of e) × HadEntry r a)
   stage_of_old a e p low = (known_old r.setting c.state c.sound a e (shown_known r crew c a e p) low).stage
 
+  pub doom_from : (a e : ℕ) → ShownIn r crew a e → doom_of e ≡ 1 → 2 ≤ stage_of e
+  doom_from a e p doom = known_grown r.setting c.state c.sound a e (shown_known r crew c a e p) doom
+
+  -- where the anchor had no entry, nothing is given back, and nothing is doomed
+  pub empty_of_old : (a e : ℕ) → ShownIn r crew a e → version_of e ≤ opening_counter r.setting → stage_of (opening_epoch r.setting a) ≡ 0 → (stage_of e ≡ 0) × (doom_of e ≡ 0)
+  empty_of_old a e p low none = (at_none, undoomed)
+    where
+      at_none : stage_of e ≡ 0
+      at_none = ⊎_elim (λ (q : stage_of e ≡ stage_of (opening_epoch r.setting a)). q ∙ none) (λ (q : (5 ≤ stage_of e) × HadEntry r a). absurd (let z = q.1 in omega arith)) (stage_of_old a e p low)
+
+      undoomed : doom_of e ≡ 0
+      undoomed = dite (ℕ_discrete (doom_of e) 1) (λ doom. absurd (let z = doom_from a e p doom in let y = at_none in omega arith)) (λ ne. omega arith)
+
+  pub begun_stage : (a e : ℕ) → ShownIn r crew a e → opening_counter r.setting < version_of e → 1 ≤ stage_of e
+  begun_stage a e p high = known_begun r.setting c.state c.sound a e (shown_known r crew c a e p) high
+
   pub version_of_new : (a e : ℕ) → ShownIn r crew a e → opening_counter r.setting < version_of e → BegunIn r crew a (version_of e)
   version_of_new a e p high = taken_by_line a (version_of e) (known_taken r.setting c.state c.sound a e (shown_known r crew c a e p) high)
 
@@ -147,6 +165,17 @@ module _ {X : Type 0} (r : Run X) (crew : List (Worker X)) (c : Closed r crew) w
   pub stored_by_line : (a e : ℕ) → ShownIn r crew a e → opening_counter r.setting < version_of e → doom_of e ≡ 0 → stage_of e ≡ 3 → StoredIn r crew a (version_of e)
   stored_by_line a e p high undoomed three = by_line r crew c (LeftEpoch a e) (λ earlier s. Stores r.setting.anchors earlier s a (version_of e))
       (stored_line a e undoomed three) (stored_end a e undoomed three) (left_new a e p high)
+
+  -- a version that a deed raised to CLOSED, undoomed, is stored by the line of the deed
+  pub closed_in : (a x : ℕ) → IsDone c.state (ClosedVersion a x) → StoredIn r crew a x
+  closed_in a x done = by_line r crew c (ClosedVersion a x) (λ earlier s. Stores r.setting.anchors earlier s a x)
+      (λ v d earlier s p h. subst (λ (y : ℕ). Stores r.setting.anchors earlier s a y) p.2 (subst (λ (b : ℕ). Stores r.setting.anchors earlier s b (version_of d.epoch)) p.1
+      (record { writes = (h.grew p.0 (inr p.3)).writes; printed = (h.closed p.0 p.3).stored p.4 })))
+      (λ d served p h. ⊎_elim (λ (z : stage_of d.epoch ≡ 4). wrong d 4 p.3 z (λ f. cc)) (λ (z : stage_of d.epoch ≡ 6). wrong d 6 p.3 z (λ f. cc)) (h.raised p.0))
+      done
+    where
+      wrong : (d : Deed) (n : ℕ) → stage_of d.epoch ≡ 3 → stage_of d.epoch ≡ n → 3 ≢ n → ⊥
+      wrong d n three is ne = ne (sym three ∙ is)
 
   pub halted_in : (a x : ℕ) → IsDone c.state (HaltedVersion a x) → HaltedIn r crew a x
   halted_in a x done = ⊎_elim

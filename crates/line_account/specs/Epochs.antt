@@ -17,8 +17,13 @@ module _ {X : Type 0} (r : Run X) (crew : List (Worker X)) where
         → (version_of e ≡ version_of (opening_epoch r.setting a)) × (stage_of e ≢ 1) × (stage_of e ≢ 2) × (stage_of e ≢ 4)
     pub stage : (a e : ℕ) → ShownIn r crew a e → version_of e ≤ opening_counter r.setting
         → (stage_of e ≡ stage_of (opening_epoch r.setting a)) ⊎ ((5 ≤ stage_of e) × HadEntry r a)
+    -- where the anchor had no entry then, such an epoch is at EMPTY and not doomed
+    pub empty : (a e : ℕ) → ShownIn r crew a e → version_of e ≤ opening_counter r.setting → stage_of (opening_epoch r.setting a) ≡ 0
+        → (stage_of e ≡ 0) × (doom_of e ≡ 0)
     -- one with a later version has one that a line began there
     pub new : (a e : ℕ) → ShownIn r crew a e → opening_counter r.setting < version_of e → BegunIn r crew a (version_of e)
+    -- and is not at EMPTY
+    pub begun : (a e : ℕ) → ShownIn r crew a e → opening_counter r.setting < version_of e → 1 ≤ stage_of e
     -- so is a version that is printed alone, by BEGUN, STORED, DOOMED, OPEN or HIT
     pub alone_old : (a x : ℕ) → LineIn crew (λ earlier s. PrintsAlone r.setting.anchors earlier s a x) → x ≤ opening_counter r.setting → x ≡ version_of (opening_epoch r.setting a)
     pub alone_new : (a x : ℕ) → LineIn crew (λ earlier s. PrintsAlone r.setting.anchors earlier s a x) → opening_counter r.setting < x → BegunIn r crew a x
@@ -33,9 +38,12 @@ module _ {X : Type 0} (r : Run X) (crew : List (Worker X)) where
     -- an epoch is doomed, and DOOMED printed, only where a line printed PURGED with the version
     pub doomed : (a e : ℕ) → ShownIn r crew a e → doom_of e ≡ 1 → PurgedIn r crew a (version_of e)
     pub doomed_line : (a x : ℕ) → LineIn crew (λ earlier s. PrintsDoomed r.setting.anchors earlier s a x) → PurgedIn r crew a x
+    -- and it is at APPENDING or later
+    pub doomed_stage : (a e : ℕ) → ShownIn r crew a e → doom_of e ≡ 1 → 2 ≤ stage_of e
     -- the epoch of PURGED is doomed, and at APPENDING, CLOSED or HALTED
     pub purged : (e : Epoch) → LineIn crew (λ earlier s. s.answer ≡ answer.Purged e) → e.doom ≡ true
     pub purged_stage : (e : Epoch) → LineIn crew (λ earlier s. s.answer ≡ answer.Purged e)
         → (2 ≤ stage_of (epoch_number e)) × (stage_of (epoch_number e) ≤ 4)
-    -- an epoch at HALTED, FREEING or GONE is not doomed only where the writing of its version was halted, or some line may have evicted an entry
+    -- An epoch at HALTED, FREEING or GONE is not doomed only where the writing of its version was halted, or some line may have evicted
+    -- an entry, and its own was whole.
     pub given_back : (a e : ℕ) → ShownIn r crew a e → doom_of e ≡ 0 → 4 ≤ stage_of e → GivenBackIn r crew a (version_of e)

@@ -20,7 +20,7 @@ use Rattle.script_text.specs.Requests.{url_in}
 use Rattle.line_account.specs.Lines.{IsAnchorOf, IsAt, Offers, Served, Writes, begun_by, opened_by, writing}
 use Rattle.line_account.specs.Deeds.{ComesTo, MayEvict}
 use Rattle.line_account.specs.Answers.{IsHeld, IsOvertaken, IsSure, IsWhole, Reads, Refuses, Run, bytes_with, readers_at}
-use Rattle.line_account.specs.Closing.{BegunIn, HaltedIn, LineIn, TellsBegunIn, Worker}
+use Rattle.line_account.specs.Closing.{BegunIn, HaltedIn, LineIn, StoredIn, TellsBegunIn, Worker}
 use Rattle.line_account.specs.Order.{Opens}
 
 -- Names and bodies.
@@ -178,9 +178,13 @@ pub record PrintsAdded (earlier : List Served) (s : Served) (first : Served) (ta
   pub printed : s.answer ≡ answer.Added count
   pub begun_is : writing tab earlier ≡ Some first
 
--- the writing of the version x at the anchor a was halted, or some line is one of those that may evict an entry
+-- the version x at the anchor a was whole: its writing printed STORED, or it is the one of the entry that the anchor had at the opening
+abbrev pub WasWhole : {X : Type 0} → Run X → List (Worker X) → (a x : ℕ) → Type 0
+WasWhole r crew a x = StoredIn r crew a x ⊎ (HadEntry r a × (x ≡ version_of (opening_epoch r.setting a)))
+
+-- the writing of the version x at the anchor a was halted; or some line is one of those that may evict an entry, and the version was whole
 abbrev pub GivenBackIn : {X : Type 0} → Run X → List (Worker X) → (a x : ℕ) → Type 0
-GivenBackIn r crew a x = HaltedIn r crew a x ⊎ LineIn crew (λ earlier s. MayEvict s.line.request)
+GivenBackIn r crew a x = HaltedIn r crew a x ⊎ (LineIn crew (λ earlier s. MayEvict s.line.request) × WasWhole r crew a x)
 
 -- Bytes.
 

@@ -61,14 +61,19 @@ pub fn begun_versions_have_bounds<X>()
 
 /// The version of an epoch that a line shows is the one that its anchor had at the opening, and then the
 /// epoch is not TAKEN, APPENDING or HALTED: it is at the stage that it had then, or its entry is given back,
-/// which the anchor did have. Or a line began it there.
+/// which the anchor did have. Where the anchor had none, it is at EMPTY and not doomed. Or a line began it
+/// there, and it is not at EMPTY.
 pub fn epochs_have_versions<X>()
     ensures old { (r : Run X) (crew : List (Worker X)) (a e : ℕ) → Closed r crew → ShownIn r crew a e → version_of e ≤ opening_counter r.setting
         → (version_of e ≡ version_of (opening_epoch r.setting a)) × (stage_of e ≢ 1) × (stage_of e ≢ 2) × (stage_of e ≢ 4) }
     ensures stage { (r : Run X) (crew : List (Worker X)) (a e : ℕ) → Closed r crew → ShownIn r crew a e → version_of e ≤ opening_counter r.setting
         → (stage_of e ≡ stage_of (opening_epoch r.setting a)) ⊎ ((5 ≤ stage_of e) × HadEntry r a) }
+    ensures empty { (r : Run X) (crew : List (Worker X)) (a e : ℕ) → Closed r crew → ShownIn r crew a e → version_of e ≤ opening_counter r.setting
+        → stage_of (opening_epoch r.setting a) ≡ 0 → (stage_of e ≡ 0) × (doom_of e ≡ 0) }
     ensures new { (r : Run X) (crew : List (Worker X)) (a e : ℕ) → Closed r crew → ShownIn r crew a e → opening_counter r.setting < version_of e
         → BegunIn r crew a (version_of e) }
+    ensures begun { (r : Run X) (crew : List (Worker X)) (a e : ℕ) → Closed r crew → ShownIn r crew a e → opening_counter r.setting < version_of e
+        → 1 ≤ stage_of e }
 {}
 
 /// So is a version that is printed alone, by BEGUN, STORED, DOOMED, OPEN or HIT.
@@ -94,10 +99,11 @@ pub fn halted_entries_were_given_up<X>()
         → LineIn crew (λ earlier s. PrintsHalted r.setting.anchors earlier s a) → SomeHalted r crew a }
 {}
 
-/// A doomed epoch, and a DOOMED line, comes only where a line printed PURGED with its version.
-/// And the epoch of PURGED is doomed, at APPENDING, CLOSED or HALTED.
+/// A doomed epoch, and a DOOMED line, comes only where a line printed PURGED with its version, and such an
+/// epoch is at APPENDING or later. And the epoch of PURGED is doomed, at APPENDING, CLOSED or HALTED.
 pub fn doomed_entries_were_purged<X>()
     ensures epoch { (r : Run X) (crew : List (Worker X)) (a e : ℕ) → Closed r crew → ShownIn r crew a e → doom_of e ≡ 1 → PurgedIn r crew a (version_of e) }
+    ensures epoch_stage { (r : Run X) (crew : List (Worker X)) (a e : ℕ) → Closed r crew → ShownIn r crew a e → doom_of e ≡ 1 → 2 ≤ stage_of e }
     ensures line { (r : Run X) (crew : List (Worker X)) (a x : ℕ) → Closed r crew
         → LineIn crew (λ earlier s. PrintsDoomed r.setting.anchors earlier s a x) → PurgedIn r crew a x }
     ensures purged { (r : Run X) (crew : List (Worker X)) (e : Epoch) → Closed r crew → LineIn crew (λ earlier s. s.answer ≡ Answer.Purged e) → e.doom ≡ true }
@@ -242,7 +248,8 @@ pub fn lines_are_in_order_after_marks<X>()
 {}
 
 /// An epoch at HALTED, FREEING or GONE that is not doomed comes only where the writing of its version was
-/// halted, or some line is one of those that may evict an entry.
+/// halted; or where some line is one of those that may evict an entry, and the version was whole: its
+/// writing printed STORED, or the anchor had it at the opening.
 pub fn entries_are_given_back_by_lines<X>()
     ensures { (r : Run X) (crew : List (Worker X)) (a e : ℕ) → Closed r crew → ShownIn r crew a e → doom_of e ≡ 0 → 4 ≤ stage_of e → GivenBackIn r crew a (version_of e) }
 {}

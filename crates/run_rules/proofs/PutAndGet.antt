@@ -268,6 +268,9 @@ module _ {X : Type 0} (r : Run X) (url : List ℕ) (m : MayBegin r url) (w : Wor
   epochs = record {
     old = λ b e p low. absurd (let s = (shown b e p).1 in let h = high in omega arith);
     stage = λ b e p low. absurd (let s = (shown b e p).1 in let h = high in omega arith);
+    empty = λ b e p low none. absurd (let s = (shown b e p).1 in let h = high in omega arith);
+    begun = λ b e p new. let s = (shown b e p).1 in omega arith;
+    doomed_stage = λ b e p one. let s = (shown b e p).1 in omega arith;
     new = λ b e p new. let s = shown b e p in begun b (version_of e) s.0 (let z = s.1 in omega arith);
     alone_old = λ b y p low. absurd (old_none y (printed_alone b y p).1 low);
     alone_new = λ b y p new. let s = printed_alone b y p in begun b y s.0 s.1;
