@@ -19,3 +19,4 @@ pub mod Told
 pub mod Stages
 pub mod Crews
 mod Unexplained
+mod UnexplainedEpochs

@@ -4,6 +4,7 @@
 #![tactic(auto)]
 
 mod absurd;
+mod absurd_epochs;
 mod examples;
 mod laws;
 mod rules;
@@ -12,6 +13,11 @@ pub use absurd::{
     no_neighbour_is_purged, no_tab_changes_its_entry, nothing_dropped_is_hit,
     nothing_is_hit_before_it_is_stored, nothing_is_opened_that_never_was,
     nothing_is_purged_that_never_was, nothing_left_is_hit, nothing_too_large_is_stored,
+};
+pub use absurd_epochs::{
+    no_begun_version_is_at_empty, nothing_is_doomed_at_taken,
+    nothing_is_evicted_that_was_not_whole, nothing_is_given_back_by_itself,
+    nothing_is_given_back_that_never_was,
 };
 pub use examples::{
     a_hit_has_what_was_stored, a_lone_spent_number_is_the_counter, a_lone_version_is_the_next_one,

@@ -1,0 +1,56 @@
+//! Examples: epochs that no run shows, for the rules refuse them. Each says by which rule.
+ghost use Rattle.std.specs.Prelude.{◌≡◌, ◌∷◌, ℕ, List, [], false, true};
+ghost use Rattle.lock_word.specs.declared.cause.Cause.{Cause};
+ghost use Rattle.lock_word.specs.declared.stage.Stage.TheVariants as stage;
+ghost use Rattle.lock_word.specs.declared.word.Word.{Word};
+ghost use Rattle.script_text.specs.declared.answer.Answer.{Answer};
+ghost use Rattle.script_text.specs.declared.body.Body.{Body};
+ghost use Rattle.script_text.specs.declared.line.Line.{Line};
+ghost use Rattle.script_text.specs.declared.request.Request.{Request};
+ghost use Rattle.core_model.specs.Anchors.{opening_epoch};
+ghost use Rattle.line_account.specs.Alone.{alone, home};
+ghost use Rattle.line_account.specs.Answers.{Run};
+ghost use Rattle.line_account.specs.Closing.{Worker};
+ghost use Rattle.line_account.specs.Lines.{Served};
+ghost use Rattle.line_account.specs.Rules.{KeepsRules};
+
+/// `put` printed BUSY 0.5/0 0.5/0 at an anchor that had nothing when the store was opened: no entry is given back where none
+/// was (`epochs.empty`).
+pub fn nothing_is_given_back_that_never_was<X>()
+    ensures { (r : Run X) (script : List Line) (w : Worker X) (s : Served) (url : List ℕ) (body : Body) (held : Word)
+        → KeepsRules r script (alone w) → w.served ≡ s ∷ [] → opening_epoch r.setting (home r url) ≡ 0
+        → s.line.request ≡ Request.Put url body → s.answer ≡ Answer.Busy held held
+        → held.epoch ≡ record { version = 0; stage = stage.Freeing; doom = false } → ⊥ }
+{}
+
+/// `put` printed STORED, and another worker's `get` of the URL printed MISS absent at EMPTY with that version: a version that
+/// a line began is not at EMPTY (`epochs.begun`).
+pub fn no_begun_version_is_at_empty<X>()
+    ensures { (r : Run X) (script : List Line) (u w : Worker X) (p g : Served) (url : List ℕ) (body : Body) (x : ℕ)
+        → KeepsRules r script (u ∷ w ∷ []) → u.served ≡ p ∷ [] → w.served ≡ g ∷ []
+        → p.line.request ≡ Request.Put url body → p.answer ≡ Answer.Stored x → g.line.request ≡ Request.Get url
+        → g.answer ≡ Answer.Miss (Cause.Absent (record { version = x; stage = stage.Empty; doom = false })) → ⊥ }
+{}
+
+/// `get` printed MISS writing with a doomed epoch at TAKEN: nothing is doomed before its first slot (`epochs.doomed_stage`).
+pub fn nothing_is_doomed_at_taken<X>()
+    ensures { (r : Run X) (script : List Line) (w : Worker X) (s : Served) (url : List ℕ) (x : ℕ)
+        → KeepsRules r script (alone w) → w.served ≡ s ∷ [] → s.line.request ≡ Request.Get url
+        → s.answer ≡ Answer.Miss (Cause.Writing (record { version = x; stage = stage.Taken; doom = true })) → ⊥ }
+{}
+
+/// `put` printed DOOMED at an anchor that had nothing when the store was opened, and another worker's `get` of the URL
+/// printed MISS absent at GONE with that version, not doomed: only what is whole is evicted (`epochs.given_back`).
+pub fn nothing_is_evicted_that_was_not_whole<X>()
+    ensures { (r : Run X) (script : List Line) (u w : Worker X) (p g : Served) (url : List ℕ) (body : Body) (x : ℕ)
+        → KeepsRules r script (u ∷ w ∷ []) → u.served ≡ p ∷ [] → w.served ≡ g ∷ [] → opening_epoch r.setting (home r url) ≡ 0
+        → p.line.request ≡ Request.Put url body → p.answer ≡ Answer.Doomed x → g.line.request ≡ Request.Get url
+        → g.answer ≡ Answer.Miss (Cause.Absent (record { version = x; stage = stage.Gone; doom = false })) → ⊥ }
+{}
+
+/// A lone `begin` printed BUSY with a word at FREEING, not doomed: no line was there that may evict (`epochs.given_back`).
+pub fn nothing_is_given_back_by_itself<X>()
+    ensures { (r : Run X) (script : List Line) (w : Worker X) (s : Served) (url : List ℕ) (body : Body) (held : Word) (x : ℕ)
+        → KeepsRules r script (alone w) → w.served ≡ s ∷ [] → s.line.request ≡ Request.Begin 0 url body → s.answer ≡ Answer.Busy held held
+        → held.epoch ≡ record { version = x; stage = stage.Freeing; doom = false } → ⊥ }
+{}
