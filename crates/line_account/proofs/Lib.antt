@@ -18,5 +18,7 @@ pub mod Quiet
 pub mod Told
 pub mod Stages
 pub mod Crews
+pub mod Known
 mod Unexplained
 mod UnexplainedEpochs
+mod UnexplainedOrder

@@ -10,7 +10,6 @@ use Rattle.script_text.specs.declared.request.Request.TheVariants.{Add, Await, B
 use Rattle.core_model.specs.declared.view.Sight.{Sight}
 use Rattle.core_model.specs.declared.view.Sight.TheVariants.{Stood}
 use Rattle.core_model.specs.declared.view.View.{View}
-use Rattle.core_model.specs.Anchors.{opening_epoch}
 use Rattle.core_model.specs.Trails.{seen_at, stood}
 use Rattle.core_model.proofs.Lists.{cons_contains, contains_none}
 use Rattle.line_account.specs.Deeds.{PrintsBegunVersion}
@@ -18,7 +17,7 @@ use Rattle.line_account.specs.Lines.{IsAt, Served}
 use Rattle.line_account.specs.Requests.{IsAnswerTo}
 use Rattle.line_account.specs.Answers.{ComesIn, HasOpened, Run}
 use Rattle.line_account.specs.Accounts.{Tells, epoch_in, epochs_of}
-use Rattle.line_account.specs.Courses.{Adds, Begins, Course, Stage, lines_in}
+use Rattle.line_account.specs.Courses.{Adds, Course, Stage, lines_in}
 use Rattle.line_account.specs.Order.{HandsOver, NotBelow, Opens, OpensOrStores, StandsAt, StandsIn, counts_as, printed, version_alone}
 
 -- What was seen.
@@ -287,6 +286,33 @@ module _ {X : Type 0} (r : Run X) (v : View X) (earlier : List Served) (s : Serv
   pub reads : (x : ℕ) → Opens s.answer x → FoundAt s.opened x
   reads x q = reads_of s.answer refl x q
 
+-- What was seen before a line, and after it.
+
+module _ {X : Type 0} (r : Run X) where
+  -- what was seen before a line is not above what it shows
+  pub not_below_seen : (t : Stage X) (earlier : List (Stage X)) (a d e : ℕ) → Adds r t.before (lines_in earlier) t.served t.after → IsAt r.setting.anchors (lines_in earlier) t.served a → d ≤ e → Contains t.before.seen (Stood a e) → NotBelow d t.served.answer
+  not_below_seen t earlier a d e n at less h = below t.served.opened t.served.looked d t.served.answer (reads r t.after (lines_in earlier) t.served n.tells)
+      (λ f q. let le = sight_le a e t.before.seen h in let fresh = n.fresh a f record { at = at; shown = q } in omega arith)
+
+  -- what was seen before a line that began a version there is of an earlier one
+  pub above_seen : (t : Stage X) (earlier : List (Stage X)) (a x d e : ℕ) → Adds r t.before (lines_in earlier) t.served t.after → PrintsBegunVersion r.setting.anchors t.served a x → d ≤ e → Contains t.before.seen (Stood a e) → version_of d < x
+  above_seen t earlier a x d e n begun at_most h =
+      let le = sight_le a e t.before.seen h in
+      let up : version_of d ≤ version_of (seen_at a t.before.seen) = omega arith in
+      let above = n.above a x begun in
+      omega arith
+
+  -- an epoch that a line counts as, and one that it shows, which was seen after it
+  pub record Seen (a d : ℕ) (v : View X) : Type 0 where
+    pub epoch : ℕ
+    pub more : d ≤ epoch
+    pub seen : Contains v.seen (Stood a epoch)
+
+  pub seen_after : (s : Stage X) (earlier : List (Stage X)) (a d : ℕ) → Adds r s.before (lines_in earlier) s.served s.after → IsAt r.setting.anchors (lines_in earlier) s.served a → Contains (counts_as s.served.answer) d → Seen a d s.after
+  seen_after s earlier a d n at q =
+      let m = counted s.served.opened s.served.looked d s.served.answer (reads r s.after (lines_in earlier) s.served n.tells) q in
+      record { epoch = m.epoch; more = m.more; seen = n.tells.shown a m.epoch record { at = at; shown = m.shown } }
+
 -- Courses.
 
 module _ {X : Type 0} (r : Run X) (start : View X) where
@@ -305,55 +331,24 @@ module _ {X : Type 0} (r : Run X) (start : View X) where
       let h = stage_in (later ++ t ∷ earlier) later t earlier y.before refl k.2 in
       record { adds = h.adds; course = h.course; keeps = λ x q. subst (λ (v : View X). Contains v.seen x) (sym k.0) (k.1.keeps.seen x (h.keeps x q)) }
 
-  -- what was seen before a line is not above what it shows
-  not_below_seen : (t : Stage X) (earlier : List (Stage X)) (a d e : ℕ) → Adds r t.before (lines_in earlier) t.served t.after → IsAt r.setting.anchors (lines_in earlier) t.served a → d ≤ e → Contains t.before.seen (Stood a e) → NotBelow d t.served.answer
-  not_below_seen t earlier a d e n at less h = below t.served.opened t.served.looked d t.served.answer (reads r t.after (lines_in earlier) t.served n.tells)
-      (λ f q. let le = sight_le a e t.before.seen h in let fresh = n.fresh a f record { at = at; shown = q } in omega arith)
-
-  -- what was seen before a line that began a version there is of an earlier one
-  above_seen : (t : Stage X) (earlier : List (Stage X)) (a x d e : ℕ) → Adds r t.before (lines_in earlier) t.served t.after → PrintsBegunVersion r.setting.anchors t.served a x → d ≤ e → Contains t.before.seen (Stood a e) → version_of d < x
-  above_seen t earlier a x d e n begun at_most h =
-      let le = sight_le a e t.before.seen h in
-      let up : version_of d ≤ version_of (seen_at a t.before.seen) = omega arith in
-      let above = n.above a x begun in
-      omega arith
-
   -- what was seen at the beginning is known along the course
-  start_known : (stages : List (Stage X)) (end : View X) (x : Sight) → Course r start stages end → Contains start.seen x → Contains end.seen x
+  pub start_known : (stages : List (Stage X)) (end : View X) (x : Sight) → Course r start stages end → Contains start.seen x → Contains end.seen x
   start_known [] end x c h = subst (λ (v : View X). Contains v.seen x) (sym c) h
   start_known (s ∷ earlier) end x c h = subst (λ (v : View X). Contains v.seen x) (sym c.0) (c.1.keeps.seen x (start_known earlier s.before x c.2 h))
 
-  pub not_below_opening : (stages : List (Stage X)) (end : View X) (t : Stage X) (before : List (Stage X)) (a : ℕ) → Begins r start → Course r start stages end → StandsAt r.setting.anchors stages t before a → a < r.setting.anchors
-      → NotBelow (opening_epoch r.setting a) t.served.answer
-  not_below_opening stages end t before a b c is lt =
-      let h = stage_in stages is.in_.later t before end is.in_.split c in
-      not_below_seen t before a (opening_epoch r.setting a) (opening_epoch r.setting a) h.adds is.at (omega arith) (start_known before t.before (Stood a (opening_epoch r.setting a)) h.course (b.opening a lt))
-
-  -- an epoch that a line counts as, and one that it shows, which was seen after it
-  record Seen (a d : ℕ) (v : View X) : Type 0 where
-    epoch : ℕ
-    more : d ≤ epoch
-    seen : Contains v.seen (Stood a epoch)
-
-  seen_after : (stages : List (Stage X)) (end : View X) (s : Stage X) (earlier : List (Stage X)) (a d : ℕ) → Course r start stages end → StandsAt r.setting.anchors stages s earlier a → Contains (counts_as s.served.answer) d → Seen a d end
-  seen_after stages end s earlier a d c is q =
+  -- what a line counts as is known at the end of the course
+  pub seen_later : (stages : List (Stage X)) (end : View X) (s : Stage X) (earlier : List (Stage X)) (a d : ℕ) → Course r start stages end → StandsAt r.setting.anchors stages s earlier a → Contains (counts_as s.served.answer) d → Seen r a d end
+  seen_later stages end s earlier a d c is q =
       let h = stage_in stages is.in_.later s earlier end is.in_.split c in
-      let m = counted s.served.opened s.served.looked d s.served.answer (reads r s.after (lines_in earlier) s.served h.adds.tells) q in
-      record { epoch = m.epoch; more = m.more; seen = h.keeps (Stood a m.epoch) (h.adds.tells.shown a m.epoch record { at = is.at; shown = m.shown }) }
+      let k = seen_after r s earlier a d h.adds is.at q in
+      record { epoch = k.epoch; more = k.more; seen = h.keeps (Stood a k.epoch) k.seen }
 
   pub not_below_earlier : (stages : List (Stage X)) (end : View X) (t s : Stage X) (before earlier : List (Stage X)) (a d : ℕ) → Course r start stages end
       → StandsAt r.setting.anchors stages t before a → StandsAt r.setting.anchors before s earlier a → Contains (counts_as s.served.answer) d → NotBelow d t.served.answer
   not_below_earlier stages end t s before earlier a d c is was q =
       let h = stage_in stages is.in_.later t before end is.in_.split c in
-      let k = seen_after before t.before s earlier a d h.course was q in
-      not_below_seen t before a d k.epoch h.adds is.at k.more k.seen
-
-  pub above_earlier : (stages : List (Stage X)) (end : View X) (t s : Stage X) (before earlier : List (Stage X)) (a x d : ℕ) → Course r start stages end
-      → StandsIn stages t before → PrintsBegunVersion r.setting.anchors t.served a x → StandsAt r.setting.anchors before s earlier a → Contains (counts_as s.served.answer) d → version_of d < x
-  above_earlier stages end t s before earlier a x d c is begun was q =
-      let h = stage_in stages is.later t before end is.split c in
-      let k = seen_after before t.before s earlier a d h.course was q in
-      above_seen t before a x d k.epoch h.adds begun k.more k.seen
+      let k = seen_later before t.before s earlier a d h.course was q in
+      not_below_seen r t before a d k.epoch h.adds is.at k.more k.seen
 
 module _ {X : Type 0} (r : Run X) (start other : View X) where
   -- the other worker's lines before its mark
@@ -364,15 +359,5 @@ module _ {X : Type 0} (r : Run X) (start other : View X) where
       let h = stage_in r start stages is.in_.later t before end is.in_.split c in
       let g = stage_in r start before met.later n between t.before met.split h.course in
       let f = stage_in r other others mark.later m marked last mark.split o in
-      let k = seen_after r other marked m.before s earlier a d f.course was q in
-      not_below_seen r start t before a d k.epoch h.adds is.at k.more (g.keeps (Stood a k.epoch) (hands.hands (Stood a k.epoch) k.seen))
-
-  pub above_met : (stages others : List (Stage X)) (end last : View X) (t n m s : Stage X) (before between marked earlier : List (Stage X)) (a x d : ℕ) → Course r start stages end → Course r other others last
-      → StandsIn stages t before → PrintsBegunVersion r.setting.anchors t.served a x → StandsIn before n between → HandsOver m n → StandsIn others m marked → StandsAt r.setting.anchors marked s earlier a
-      → Contains (counts_as s.served.answer) d → version_of d < x
-  above_met stages others end last t n m s before between marked earlier a x d c o is begun met hands mark was q =
-      let h = stage_in r start stages is.later t before end is.split c in
-      let g = stage_in r start before met.later n between t.before met.split h.course in
-      let f = stage_in r other others mark.later m marked last mark.split o in
-      let k = seen_after r other marked m.before s earlier a d f.course was q in
-      above_seen r start t before a x d k.epoch h.adds begun k.more (g.keeps (Stood a k.epoch) (hands.hands (Stood a k.epoch) k.seen))
+      let k = seen_later r other marked m.before s earlier a d f.course was q in
+      not_below_seen r t before a d k.epoch h.adds is.at k.more (g.keeps (Stood a k.epoch) (hands.hands (Stood a k.epoch) k.seen))

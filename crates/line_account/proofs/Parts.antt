@@ -21,12 +21,15 @@ use Rattle.line_account.specs.Lines.{Served, closes, given, opened_of, opens, re
 use Rattle.line_account.specs.Answers.{HasPart, Run, bytes_behind, bytes_of_tab, given_with, slots_after}
 use Rattle.line_account.specs.Accounts.{Account, Tells}
 use Rattle.line_account.specs.Courses.{Adds, Stage, lines_in}
-use Rattle.line_account.specs.Closing.{Closed, Worker}
-use Rattle.line_account.specs.Order.{HandsOver, StandsIn}
-use Rattle.line_account.specs.Parts.{AddsTo, GivesOf, IsCourseOf, PrintsPart}
+use Rattle.line_account.specs.Closing.{Closed, LineIn, Worker}
+use Rattle.line_account.specs.Crews.{HaveCourses, KnewOf}
+use Rattle.line_account.specs.Ordering.{AreNotShort}
+use Rattle.line_account.specs.Parts.{AddsTo, GivesOf, PrintsPart}
 use Rattle.line_account.proofs.Rows.{Split}
 use Rattle.line_account.proofs.Courses.{account_after, account_along}
-use Rattle.line_account.proofs.Ordering.{opened_at, stage_in}
+use Rattle.line_account.proofs.Crews.{IsKnown as Known, adds, has_stage, kept, known_before}
+use Rattle.line_account.proofs.Ordering.{opened_at}
+use Rattle.line_account.proofs.Stages.{HasStage, of_line, of_stage}
 
 pub reading_among : (t : ℕ) (served : List Served) (b : Served) → reading t served ≡ Some b → Split served b
 reading_among t [] b e = absurd (let q : None ≡ Some b = e in cc)
@@ -143,11 +146,6 @@ module _ {X : Type 0} (r : Run X) (crew : List (Worker X)) (c : Closed r crew) (
     adds : Adds r t.before (lines_in before) t.served t.after
     keeps : (x : Sight) → Contains t.after.seen x → Contains w.view.seen x
 
-  line_of : (w : Worker X) (start : View X) (stages : List (Stage X)) (t : Stage X) (before : List (Stage X)) → IsCourseOf r w start stages → StandsIn stages t before → IsLineOf w t before
-  line_of w start stages t before o is =
-      let h = stage_in r start stages is.later t before o.last is.split o.course in
-      record { adds = h.adds; keeps = λ x q. o.leaves.keeps.seen x (h.keeps x q) }
-
   -- where another line is known before the line that printed PART
   bound : (j l : ℕ) (w u : Worker X) → get_elem? crew j ≡ some w → get_elem? crew l ≡ some u → (t s : Stage X) (before : List (Stage X)) (x slots : ℕ) (url : List ℕ)
       → IsLineOf w t before → PrintsPart t.served x → ((z : Sight) → Contains s.after.seen z → Contains t.before.seen z) → ((z : Sight) → Contains s.after.seen z → Contains u.view.seen z)
@@ -163,37 +161,12 @@ module _ {X : Type 0} (r : Run X) (crew : List (Worker X)) (c : Closed r crew) (
       (subst (λ z. Contains u.view.seen (Named b.anchor z Offer b.offer)) (sym p.version_is) (kept _ b.named))
       b.url_is)
 
-  -- An earlier line of the same worker is known, and so is one of a worker whose mark was met.
+  -- a line that the worker knew of before the line t
   record IsKnown (u : Worker X) (t s : Stage X) (earlier : List (Stage X)) : Type 0 where
     adds : Adds r s.before (lines_in earlier) s.served s.after
     account : Account r s.after (s.served ∷ lines_in earlier) false
     known : (z : Sight) → Contains s.after.seen z → Contains t.before.seen z
     kept : (z : Sight) → Contains s.after.seen z → Contains u.view.seen z
-
-  known_own : (w : Worker X) (start : View X) (stages : List (Stage X)) (t s : Stage X) (before earlier : List (Stage X)) → IsCourseOf r w start stages → StandsIn stages t before → StandsIn before s earlier → IsKnown w t s earlier
-  known_own w start stages t s before earlier o is was =
-      let h = stage_in r start stages is.later t before o.last is.split o.course in
-      let g = stage_in r start before was.later s earlier t.before was.split h.course in
-      record {
-        adds = g.adds;
-        account = account_after r s.before s.after (lines_in earlier) s.served (account_along r start s.before earlier o.begins g.course) g.adds;
-        known = g.keeps;
-        kept = λ z q. o.leaves.keeps.seen z (h.keeps z (h.adds.keeps.seen z (g.keeps z q)));
-      }
-
-  known_met : (w u : Worker X) (start other : View X) (stages others : List (Stage X)) (t n m s : Stage X) (before between marked earlier : List (Stage X)) → IsCourseOf r w start stages → IsCourseOf r u other others
-      → StandsIn stages t before → StandsIn before n between → HandsOver m n → StandsIn others m marked → StandsIn marked s earlier → IsKnown u t s earlier
-  known_met w u start other stages others t n m s before between marked earlier o q is met hands mark was =
-      let h = stage_in r start stages is.later t before o.last is.split o.course in
-      let g = stage_in r start before met.later n between t.before met.split h.course in
-      let f = stage_in r other others mark.later m marked q.last mark.split q.course in
-      let d = stage_in r other marked was.later s earlier m.before was.split f.course in
-      record {
-        adds = d.adds;
-        account = account_after r s.before s.after (lines_in earlier) s.served (account_along r other s.before earlier q.begins d.course) d.adds;
-        known = λ z k. g.keeps z (hands.hands z (d.keeps z k));
-        kept = λ z k. q.leaves.keeps.seen z (f.keeps z (f.adds.keeps.seen z (d.keeps z k)));
-      }
 
   added_bound : (j l : ℕ) (w u : Worker X) → get_elem? crew j ≡ some w → get_elem? crew l ≡ some u → (t s : Stage X) (before earlier : List (Stage X)) (x slots : ℕ) (url : List ℕ)
       → IsLineOf w t before → IsKnown u t s earlier → PrintsPart t.served x → AddsTo r (lines_in earlier) s.served x url slots → bytes_behind r.room url slots ≤ given_with (lines_in before) t.served
@@ -207,24 +180,45 @@ module _ {X : Type 0} (r : Run X) (crew : List (Worker X)) (c : Closed r crew) (
       let m = h.most in
       omega arith
 
-  pub own_added : (j : ℕ) (w : Worker X) → get_elem? crew j ≡ some w → (start : View X) (stages before earlier : List (Stage X)) (t s : Stage X) (x slots : ℕ) (url : List ℕ) → IsCourseOf r w start stages
-      → StandsIn stages t before → PrintsPart t.served x → StandsIn before s earlier → AddsTo r (lines_in earlier) s.served x url slots → bytes_behind r.room url slots ≤ given_with (lines_in before) t.served
-  own_added j w at start stages before earlier t s x slots url o is p was a =
-      added_bound j j w w at at t s before earlier x slots url (line_of w start stages t before o is) (known_own w start stages t s before earlier o is was) p a
+  module _ (have : HaveCourses r crew) (x : ℕ) (p : LineIn crew (λ before t. PrintsPart t x)) (s : Served) (earlier : List Served) (knows : KnewOf crew p.line_of.earlier s earlier) where
+    abbrev P : List Served → Served → Type 0
+    P before t = PrintsPart t x
 
-  pub own_given : (j : ℕ) (w : Worker X) → get_elem? crew j ≡ some w → (start : View X) (stages before earlier : List (Stage X)) (t s : Stage X) (x tab : ℕ) → IsCourseOf r w start stages
-      → StandsIn stages t before → PrintsPart t.served x → StandsIn before s earlier → GivesOf (lines_in earlier) s.served tab x → given tab (s.served ∷ lines_in earlier) ≤ given_with (lines_in before) t.served
-  own_given j w at start stages before earlier t s x tab o is p was g =
-      given_bound j j w w at at t s before earlier x tab (line_of w start stages t before o is) (known_own w start stages t s before earlier o is was) p g
+    abbrev stages : List (Stage X)
+    stages = (have.course p.j p.worker p.at).stages
 
-  pub met_added : (j l : ℕ) (w u : Worker X) → get_elem? crew j ≡ some w → get_elem? crew l ≡ some u → (start other : View X) (stages others before between marked earlier : List (Stage X)) (t n m s : Stage X) (x slots : ℕ) (url : List ℕ)
-      → IsCourseOf r w start stages → IsCourseOf r u other others → StandsIn stages t before → StandsIn before n between → HandsOver m n → StandsIn others m marked → StandsIn marked s earlier
-      → PrintsPart t.served x → AddsTo r (lines_in earlier) s.served x url slots → bytes_behind r.room url slots ≤ given_with (lines_in before) t.served
-  met_added j l w u at there start other stages others before between marked earlier t n m s x slots url o q is met hands mark was p a =
-      added_bound j l w u at there t s before earlier x slots url (line_of w start stages t before o is) (known_met w u start other stages others t n m s before between marked earlier o q is met hands mark was) p a
+    abbrev h : HasStage stages p.line_of.line p.line_of.earlier
+    h = has_stage r crew have P p
 
-  pub met_given : (j l : ℕ) (w u : Worker X) → get_elem? crew j ≡ some w → get_elem? crew l ≡ some u → (start other : View X) (stages others before between marked earlier : List (Stage X)) (t n m s : Stage X) (x tab : ℕ)
-      → IsCourseOf r w start stages → IsCourseOf r u other others → StandsIn stages t before → StandsIn before n between → HandsOver m n → StandsIn others m marked → StandsIn marked s earlier
-      → PrintsPart t.served x → GivesOf (lines_in earlier) s.served tab x → given tab (s.served ∷ lines_in earlier) ≤ given_with (lines_in before) t.served
-  met_given j l w u at there start other stages others before between marked earlier t n m s x tab o q is met hands mark was p g =
-      given_bound j l w u at there t s before earlier x tab (line_of w start stages t before o is) (known_met w u start other stages others t n m s before between marked earlier o q is met hands mark was) p g
+    line : IsLineOf p.worker h.stage h.before
+    line = record { adds = adds r crew have P p; keeps = kept r crew have P p }
+
+    part : PrintsPart h.stage.served x
+    part = of_stage P stages p.line_of.line p.line_of.earlier h p.line_of.so
+
+    k : Known r crew have h.stage.before s earlier
+    k = known_before r crew have P p s earlier knows
+
+    known : IsKnown k.worker h.stage k.has.stage k.has.before
+    known = record {
+      adds = k.adds;
+      account = account_after r k.has.stage.before k.has.stage.after (lines_in k.has.before) k.has.stage.served
+          (account_along r (have.course k.j k.worker k.at).start k.has.stage.before k.has.before (have.course k.j k.worker k.at).is.begins k.course) k.adds;
+      known = k.known;
+      kept = k.kept;
+    }
+
+    pub added_known : (slots : ℕ) (url : List ℕ) → AddsTo r earlier s x url slots → bytes_behind r.room url slots ≤ given_with p.line_of.earlier p.line_of.line
+    added_known slots url a = of_line (λ before t. bytes_behind r.room url slots ≤ given_with before t) stages p.line_of.line p.line_of.earlier h
+        (added_bound p.j k.j p.worker k.worker p.at k.at h.stage k.has.stage h.before k.has.before x slots url line known part (of_stage (λ before z. AddsTo r before z x url slots) k.stages s earlier k.has a))
+
+    pub given_known : (tab : ℕ) → GivesOf earlier s tab x → given tab (s ∷ earlier) ≤ given_with p.line_of.earlier p.line_of.line
+    given_known tab g = of_line (λ before t. given tab (s ∷ earlier) ≤ given_with before t) stages p.line_of.line p.line_of.earlier h
+        (of_line (λ before z. given tab (z ∷ before) ≤ given_with (lines_in h.before) h.stage.served) k.stages s earlier k.has
+        (given_bound p.j k.j p.worker k.worker p.at k.at h.stage k.has.stage h.before k.has.before x tab line known part (of_stage (λ before z. GivesOf before z tab x) k.stages s earlier k.has g)))
+
+pub not_short : {X : Type 0} → (r : Run X) (crew : List (Worker X)) → Closed r crew → HaveCourses r crew → IsTrue r.tells → AreNotShort r crew
+not_short r crew c have y = record {
+  added = λ x slots url s earlier p knows a. added_known r crew c y have x p s earlier knows slots url a;
+  gave = λ x tab s earlier p knows g. given_known r crew c y have x p s earlier knows tab g;
+}

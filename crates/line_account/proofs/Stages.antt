@@ -1,9 +1,9 @@
 -- The lines that a worker served, as stages of its course.
-use Rattle.std.proofs.Common.{Contains, List, [], ap, arith, refl, subst, sym, ◌++◌, ◌∙◌, ◌∷◌, ◌≡◌, ℕ}
+use Rattle.std.proofs.Common.{Contains, List, [], ap, arith, refl, subst, sym, ◌++◌, ◌∙◌, ◌∷◌, ◌≡◌}
 use Rattle.std.proofs.lemmas.List.Elements.{Contains-append_right}
 use Rattle.line_account.specs.Courses.{Stage, lines_in}
-use Rattle.line_account.specs.Lines.{IsAt, Served}
-use Rattle.line_account.specs.Order.{StandsAt, StandsIn}
+use Rattle.line_account.specs.Lines.{Served}
+use Rattle.line_account.specs.Order.{StandsIn}
 use Rattle.line_account.specs.Crews.{IsAmong}
 
 module _ {X : Type 0} where
@@ -34,16 +34,9 @@ module _ {X : Type 0} where
   pub is_in : (stages before : List (Stage X)) (t : Stage X) → StandsIn stages t before → Contains stages t
   is_in stages before t s = subst (λ z. Contains z t) (sym s.split) (Contains-append_right s.later (t ∷ before) t (0, omega arith, refl))
 
-  -- what stands behind a stage stands among all
-  pub is_further : (stages before earlier : List (Stage X)) (t s : Stage X) → StandsIn stages t before → StandsIn before s earlier → Contains stages s
-  is_further stages before earlier t s a b = subst (λ z. Contains z s) (sym a.split) (Contains-append_right a.later (t ∷ before) s (Contains-append_right (t ∷ []) before s (is_in before earlier s b)))
-
   -- what holds of the stage and of those before it holds of the line, and the other way round
   pub of_line : (P : List Served → Served → Type 0) (stages : List (Stage X)) (t : Served) (earlier : List Served) → (h : HasStage stages t earlier) → P (lines_in h.before) h.stage.served → P earlier t
   of_line P stages t earlier h p = subst (λ z. P earlier z) h.served_is (subst (λ z. P z h.stage.served) h.lines_are p)
 
   pub of_stage : (P : List Served → Served → Type 0) (stages : List (Stage X)) (t : Served) (earlier : List Served) → (h : HasStage stages t earlier) → P earlier t → P (lines_in h.before) h.stage.served
   of_stage P stages t earlier h p = subst (λ z. P (lines_in h.before) z) (sym h.served_is) (subst (λ z. P z t) (sym h.lines_are) p)
-
-  pub at_work : (anchors : ℕ) (stages : List (Stage X)) (t : Served) (earlier : List Served) (a : ℕ) → (h : HasStage stages t earlier) → IsAt anchors earlier t a → StandsAt anchors stages h.stage h.before a
-  at_work anchors stages t earlier a h at = record { in_ = h.stands; at = of_stage (λ before line. IsAt anchors before line a) stages t earlier h at }

@@ -17,7 +17,8 @@ use Rattle.core_model.specs.Anchors.{opening_counter, opening_epoch}
 use Rattle.line_account.specs.Alone.{alone, home}
 use Rattle.line_account.specs.Answers.{IsWhole, Run}
 use Rattle.line_account.specs.Closing.{BegunIn, HaltedIn, LineIn, TellsBegunIn, Worker}
-use Rattle.line_account.specs.Deeds.{Began, Begins, TellsBegun}
+use Rattle.line_account.specs.Crews.KnewOf.{own}
+use Rattle.line_account.specs.Deeds.{Began, Begins, PrintsBegunVersion, TellsBegun}
 use Rattle.script_text.specs.Requests.{url_in}
 use Rattle.line_account.specs.Lines.{Offers, Served, begins, begun_of, closes, ends, gives_up, opened_of, opens, reading, url_at, writing}
 use Rattle.line_account.specs.Order.{Opens, counts_as}
@@ -168,14 +169,16 @@ module _ {X : Type 0} (r : Run X) (script : List Line) (w : Worker X) (rules : K
   pub never_before : (g p : Served) (url bytes : List ℕ) (body : Body) (x : ℕ) → w.served ≡ p ∷ g ∷ [] → g.line.request ≡ Get url → g.answer ≡ answer.Hit x bytes → p.line.request ≡ Put url body → p.answer ≡ answer.Stored x → ⊥
   never_before g p url bytes body x is gq ga pq pa =
       let a : ℕ = home r url in
-      let later = rules.order.begun_own 0 w p g (g ∷ []) [] a x (epoch_at x 2) refl
-      (record { line = record { later = []; split = is }; other = record { later = []; split = refl } })
-      (record {
+      let later = rules.order.begun a x (epoch_at x 2) g []
+      (line_in [] p (g ∷ []) is (λ earlier z. PrintsBegunVersion r.setting.anchors z a x) (record {
         anchor = record { url = url; named_is = ap url_in pq; anchor = refl };
         told = subst (λ (q : Request). TellsBegun q p.answer x) (sym pq) (subst (λ (z : Answer). TellsBegun (Put url body) z x) (sym pa) refl);
-      })
-      (record { url = url; named_is = ap (url_at []) gq; anchor = refl })
-      (subst (λ (z : Answer). Contains (counts_as z) (epoch_at x 2)) (sym ga) (0, omega arith, refl)) in
+      }))
+      (own (record { later = []; split = refl }))
+      (record {
+        at = record { url = url; named_is = ap (url_at []) gq; anchor = refl };
+        counts = subst (λ (z : Answer). Contains (counts_as z) (epoch_at x 2)) (sym ga) (0, omega arith, refl);
+      }) in
       omega arith
 
   pub never_changed : (o m : Served) (url bytes : List ℕ) (x : ℕ) (e : Epoch) → w.served ≡ m ∷ o ∷ [] → o.line.request ≡ OpenTab 0 url → o.answer ≡ answer.Opened x → m.line.request ≡ More 0 → m.answer ≡ answer.Part e bytes

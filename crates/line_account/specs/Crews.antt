@@ -30,22 +30,23 @@ pub record IsAmong (served : List Served) (line : Served) (earlier : List Served
   pub later : List Served
   pub split : served ≡ later ++ line ∷ earlier
 
--- Of two lines of a worker, the line t comes behind the other one, s.
-pub record IsBehind (served : List Served) (t : Served) (before : List Served) (s : Served) (earlier : List Served) : Type 0 where
-  pub line : IsAmong served t before
-  pub other : IsAmong before s earlier
-
--- The line t comes behind one that met a mark, and the line s of the worker that set the mark comes before this was done.
-pub record IsBehindMark (served others : List Served) (t : Served) (before : List Served) (s : Served) (earlier : List Served) : Type 0 where
-  pub line : IsAmong served t before
+-- One of these lines met a mark. The worker of the crew that set this had served the other lines before it did so.
+pub record HasMet {X : Type 0} (crew : List (Worker X)) (served marked : List Served) : Type 0 where
   pub mark : ℕ
   pub met : Served
   pub between : List Served
-  pub awaits : IsAmong before met between
+  pub awaits : IsAmong served met between
   pub asked : met.line.request ≡ Await mark
   pub meets : met.answer ≡ Met
+  pub j : ℕ
+  pub worker : Worker X
+  pub at : get_elem? crew j ≡ some worker
   pub setter : Served
-  pub marked : List Served
-  pub sets : IsAmong others setter marked
+  pub sets : IsAmong worker.served setter marked
   pub set : setter.line.request ≡ Mark mark
-  pub other : IsAmong marked s earlier
+
+-- A worker that had served these lines knew of the line s, which has `earlier` before it: s is one of them, or the worker had met a mark
+-- whose setter knew of s when it set it.
+pub data KnewOf {X : Type 0} (crew : List (Worker X)) : List Served → Served → List Served → Type 0 where
+  own : {served earlier : List Served} {s : Served} → IsAmong served s earlier → KnewOf crew served s earlier
+  told : {served marked earlier : List Served} {s : Served} → HasMet crew served marked → KnewOf crew marked s earlier → KnewOf crew served s earlier

@@ -41,6 +41,11 @@ counts_as (answer.Miss cause) = epoch_number (epoch_in cause) ∷ []
 counts_as (answer.NoEntry cause) = epoch_number (epoch_in cause) ∷ []
 counts_as _ = []
 
+-- the line s, with these before it, counts as the epoch e at the anchor a
+pub record CountsAt (anchors : ℕ) (earlier : List Served) (s : Served) (a e : ℕ) : Type 0 where
+  pub at : IsAt anchors earlier s a
+  pub counts : Contains (counts_as s.answer) e
+
 -- it tells that the version x was opened
 abbrev pub Opens : Answer → ℕ → Type 0
 Opens (answer.Opened version) x = version ≡ x

@@ -53,7 +53,7 @@ pub fn nothing_is_purged_that_never_was<X>()
 {}
 
 /// `get` printed HIT, and a later `put` of the same worker and URL printed STORED with that version: nothing is hit before it is
-/// stored (`order.begun_own`).
+/// stored (`order.begun`).
 pub fn nothing_is_hit_before_it_is_stored<X>()
     ensures { (r : Run X) (script : List Line) (w : Worker X) (g p : Served) (url bytes : List ℕ) (body : Body) (x : ℕ)
         → KeepsRules r script (alone w) → w.served ≡ p ∷ g ∷ [] → g.line.request ≡ Request.Get url → g.answer ≡ Answer.Hit x bytes

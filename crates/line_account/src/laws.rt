@@ -1,8 +1,6 @@
 //! The laws of printed lines. These functions do nothing: the proof of a function that calls one may use
 //! what it ensures.
 ghost use Rattle.std.specs.Prelude.{◌≡◌, ◌≢◌, ◌+◌, ◌-◌, ◌<◌, ◌≤◌, ◌↔◌, ◌⊎◌, ◌∷◌, Contains, IsTrue, ℕ, List, [], length, min, true, false};
-ghost use mathlib.Core.Option.{some};
-ghost use lib.ListN.{get_elem?};
 ghost use Rattle.plain_model.specs.Serving.{bytes_of};
 ghost use Rattle.lock_word.specs.Words.{version_of, stage_of, doom_of, epoch_number, is_readable, version_limit};
 ghost use Rattle.lock_word.specs.declared.cause.Cause.{Cause};
@@ -20,11 +18,12 @@ ghost use Rattle.line_account.specs.Lines.{Fits, Offers, Served, added, bytes_in
 ghost use Rattle.line_account.specs.Tabs.{IsFrontOfLine, IsFrontOfOld, ReadsBehindEnd, ReadsHalted, ReadsOn, ReadsPart};
 ghost use Rattle.line_account.specs.Deeds.{Begins, PrintsBegun, PrintsBegunVersion};
 ghost use Rattle.line_account.specs.Requests.{IsAnswerTo};
-ghost use Rattle.line_account.specs.Parts.{AddsTo, GivesOf, IsCourseOf, PrintsPart};
+ghost use Rattle.line_account.specs.Crews.{HaveCourses};
+ghost use Rattle.line_account.specs.Ordering.{AreInOrder, AreNotShort};
 ghost use Rattle.line_account.specs.Scripts.{ServesScript, offering};
 ghost use Rattle.line_account.specs.Idle.{idle_workers};
-ghost use Rattle.line_account.specs.Order.{HandsOver, NotBelow, Opens, PrintsAlone, StandsAt, StandsIn, counts_as};
-ghost use Rattle.line_account.specs.Answers.{IsCauseOf, IsLong, Refuses, Run, bytes_behind, bytes_with, given_with};
+ghost use Rattle.line_account.specs.Order.{Opens, PrintsAlone};
+ghost use Rattle.line_account.specs.Answers.{IsCauseOf, IsLong, Refuses, Run, bytes_with};
 ghost use Rattle.core_model.specs.declared.view.Deed.{Deed};
 ghost use Rattle.core_model.specs.declared.view.Item.{Item};
 ghost use Rattle.core_model.specs.declared.view.Sight.{Sight};
@@ -222,29 +221,11 @@ pub fn refusals_have_causes<X>()
     ensures part { (r : Run X) (crew : List (Worker X)) (epoch : Epoch) (bytes : List ℕ) → Closed r crew → LineIn crew (λ earlier s. s.answer ≡ Answer.Part epoch bytes) → stage_of (epoch_number epoch) ≡ 2 }
 {}
 
-/// What a worker prints at an anchor is not below what the anchor had at the opening, nor below what its
-/// earlier lines there count as. A version that it printed that it began is later than all of these.
+/// What a worker prints at an anchor is not below what the anchor had at the opening, nor below what a line
+/// counts as there of which the worker knew: one of its own, or one that the setter of a mark knew of which
+/// the worker met, and so on. A version that it printed that it began is later than all of these.
 pub fn lines_are_in_order<X>()
-    ensures opening { (r : Run X) (start end : View X) (stages before : List (Stage X)) (t : Stage X) (a : ℕ) → BeginsWork r start → Course r start stages end
-        → StandsAt r.setting.anchors stages t before a → a < r.setting.anchors → NotBelow (opening_epoch r.setting a) t.served.answer }
-    ensures own { (r : Run X) (start end : View X) (stages before earlier : List (Stage X)) (t s : Stage X) (a e : ℕ) → Course r start stages end
-        → StandsAt r.setting.anchors stages t before a → StandsAt r.setting.anchors before s earlier a → Contains (counts_as s.served.answer) e → NotBelow e t.served.answer }
-    ensures begun { (r : Run X) (start end : View X) (stages before earlier : List (Stage X)) (t s : Stage X) (a x e : ℕ) → Course r start stages end
-        → StandsIn stages t before → PrintsBegunVersion r.setting.anchors t.served a x → StandsAt r.setting.anchors before s earlier a → Contains (counts_as s.served.answer) e
-        → version_of e < x }
-{}
-
-/// After a worker met a mark, what it prints at an anchor is not below what the lines there count as that
-/// the marking worker served before it set the mark, and a version that it began is later.
-pub fn lines_are_in_order_after_marks<X>()
-    ensures order { (r : Run X) (start end other last : View X) (stages before between others marked earlier : List (Stage X)) (t n m s : Stage X) (a e : ℕ)
-        → Course r start stages end → Course r other others last
-        → StandsAt r.setting.anchors stages t before a → StandsIn before n between → HandsOver m n → StandsIn others m marked → StandsAt r.setting.anchors marked s earlier a
-        → Contains (counts_as s.served.answer) e → NotBelow e t.served.answer }
-    ensures begun { (r : Run X) (start end other last : View X) (stages before between others marked earlier : List (Stage X)) (t n m s : Stage X) (a x e : ℕ)
-        → Course r start stages end → Course r other others last
-        → StandsIn stages t before → PrintsBegunVersion r.setting.anchors t.served a x → StandsIn before n between → HandsOver m n → StandsIn others m marked
-        → StandsAt r.setting.anchors marked s earlier a → Contains (counts_as s.served.answer) e → version_of e < x }
+    ensures { (r : Run X) (crew : List (Worker X)) → HaveCourses r crew → AreInOrder r crew }
 {}
 
 /// An epoch at HALTED, FREEING or GONE that is not doomed comes only where the writing of its version was
@@ -271,30 +252,10 @@ pub fn added_counts_are_exact<X>()
 {}
 
 /// What the tab of a PART line was given since it was opened, or a `get` in its own line, is at least the
-/// bytes in the slots that an earlier ADDED of the version published, and at least what earlier lines of
-/// one tab gave of the version since it was opened.
+/// bytes in the slots that an ADDED of the version published, and at least what lines of one tab gave of the
+/// version since it was opened, where the worker knew of these lines.
 pub fn parts_are_not_short<X>()
-    ensures added { (r : Run X) (crew : List (Worker X)) (j : ℕ) (w : Worker X) (start : View X) (stages before earlier : List (Stage X)) (t s : Stage X) (x slots : ℕ) (url : List ℕ)
-        → Closed r crew → IsTrue r.tells → get_elem? crew j ≡ some w → IsCourseOf r w start stages → StandsIn stages t before → PrintsPart t.served x
-        → StandsIn before s earlier → AddsTo r (lines_in earlier) s.served x url slots → bytes_behind r.room url slots ≤ given_with (lines_in before) t.served }
-    ensures given { (r : Run X) (crew : List (Worker X)) (j : ℕ) (w : Worker X) (start : View X) (stages before earlier : List (Stage X)) (t s : Stage X) (x tab : ℕ)
-        → Closed r crew → IsTrue r.tells → get_elem? crew j ≡ some w → IsCourseOf r w start stages → StandsIn stages t before → PrintsPart t.served x
-        → StandsIn before s earlier → GivesOf (lines_in earlier) s.served tab x → given tab (s.served ∷ lines_in earlier) ≤ given_with (lines_in before) t.served }
-{}
-
-/// What the tab of a PART line was given since it was opened, or a `get` in its own line, after its worker
-/// met a mark, is at least the bytes in the slots that an ADDED of the version published, and at least
-/// what lines of one tab gave of the version since it was opened, where the marking worker served these
-/// lines before it set the mark.
-pub fn parts_are_not_short_after_marks<X>()
-    ensures added { (r : Run X) (crew : List (Worker X)) (j l : ℕ) (w u : Worker X) (start other : View X) (stages others before between marked earlier : List (Stage X)) (t n m s : Stage X) (x slots : ℕ) (url : List ℕ)
-        → Closed r crew → IsTrue r.tells → get_elem? crew j ≡ some w → get_elem? crew l ≡ some u → IsCourseOf r w start stages → IsCourseOf r u other others
-        → StandsIn stages t before → StandsIn before n between → HandsOver m n → StandsIn others m marked → StandsIn marked s earlier
-        → PrintsPart t.served x → AddsTo r (lines_in earlier) s.served x url slots → bytes_behind r.room url slots ≤ given_with (lines_in before) t.served }
-    ensures given { (r : Run X) (crew : List (Worker X)) (j l : ℕ) (w u : Worker X) (start other : View X) (stages others before between marked earlier : List (Stage X)) (t n m s : Stage X) (x tab : ℕ)
-        → Closed r crew → IsTrue r.tells → get_elem? crew j ≡ some w → get_elem? crew l ≡ some u → IsCourseOf r w start stages → IsCourseOf r u other others
-        → StandsIn stages t before → StandsIn before n between → HandsOver m n → StandsIn others m marked → StandsIn marked s earlier
-        → PrintsPart t.served x → GivesOf (lines_in earlier) s.served tab x → given tab (s.served ∷ lines_in earlier) ≤ given_with (lines_in before) t.served }
+    ensures { (r : Run X) (crew : List (Worker X)) → Closed r crew → HaveCourses r crew → IsTrue r.tells → AreNotShort r crew }
 {}
 
 /// Where the lines of the workers are those of a script, no more of them offer a body than of the script's.

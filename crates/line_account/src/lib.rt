@@ -5,6 +5,7 @@
 
 mod absurd;
 mod absurd_epochs;
+mod absurd_order;
 mod examples;
 mod laws;
 mod rules;
@@ -19,6 +20,7 @@ pub use absurd_epochs::{
     nothing_is_evicted_that_was_not_whole, nothing_is_given_back_by_itself,
     nothing_is_given_back_that_never_was,
 };
+pub use absurd_order::nothing_told_twice_is_forgotten;
 pub use examples::{
     a_hit_has_what_was_stored, a_lone_spent_number_is_the_counter, a_lone_version_is_the_next_one,
     a_put_and_a_get_have_an_account, no_hit_follows_a_purge, no_old_miss_follows_a_mark,
@@ -30,9 +32,8 @@ pub use laws::{
     entries_are_given_back_by_lines, entries_are_stored_by_lines, entries_found_were_there,
     entries_given_whole_were_finished, epochs_have_versions, halted_entries_were_given_up,
     hit_versions_were_printed, hits_are_of_lines, idle_workers_are_closed, keys_are_of_lines,
-    lines_are_in_order, lines_are_in_order_after_marks, more_readers_come_from_others,
-    other_urls_have_the_key, parts_are_not_short, parts_are_not_short_after_marks,
-    quiet_lines_add_nothing, refusals_have_causes, runs_that_fit_lose_nothing,
+    lines_are_in_order, more_readers_come_from_others, other_urls_have_the_key,
+    parts_are_not_short, quiet_lines_add_nothing, refusals_have_causes, runs_that_fit_lose_nothing,
     scripts_bound_what_is_offered, spent_numbers_have_bounds, tabs_stay_at_their_entries,
     versions_are_begun_by_one_line, versions_printed_alone_are_known,
 };

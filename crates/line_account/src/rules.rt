@@ -13,11 +13,10 @@ use crate::laws::{
     doomed_entries_were_purged, ends_tell_the_version_begun, entries_are_given_back_by_lines,
     entries_are_stored_by_lines, entries_found_were_there, entries_given_whole_were_finished,
     epochs_have_versions, halted_entries_were_given_up, hit_versions_were_printed,
-    hits_are_of_lines, keys_are_of_lines, lines_are_in_order, lines_are_in_order_after_marks,
-    more_readers_come_from_others, other_urls_have_the_key, parts_are_not_short,
-    parts_are_not_short_after_marks, refusals_have_causes, scripts_bound_what_is_offered,
-    spent_numbers_have_bounds, tabs_stay_at_their_entries, versions_are_begun_by_one_line,
-    versions_printed_alone_are_known,
+    hits_are_of_lines, keys_are_of_lines, lines_are_in_order, more_readers_come_from_others,
+    other_urls_have_the_key, parts_are_not_short, refusals_have_causes,
+    scripts_bound_what_is_offered, spent_numbers_have_bounds, tabs_stay_at_their_entries,
+    versions_are_begun_by_one_line, versions_printed_alone_are_known,
 };
 
 /// Where the accounts of workers are closed who served a script, each has its course, and marks hand on what their setters
@@ -39,11 +38,9 @@ pub fn closed_crews_keep_the_rules<X>()
     entries_given_whole_were_finished::<X>();
     keys_are_of_lines::<X>();
     lines_are_in_order::<X>();
-    lines_are_in_order_after_marks::<X>();
     more_readers_come_from_others::<X>();
     other_urls_have_the_key::<X>();
     parts_are_not_short::<X>();
-    parts_are_not_short_after_marks::<X>();
     refusals_have_causes::<X>();
     scripts_bound_what_is_offered::<X>();
     spent_numbers_have_bounds::<X>();

@@ -1,5 +1,5 @@
 -- A `put` and a `get` keep all rules.
-use Rattle.std.proofs.Common.{length, min, mul-le-mul_right, ◌≡◌, ◌⊎◌, inl, inr, ⊎_elim, ℕ, ◌<◌, ◌≤◌, ◌↔◌, zero, suc, List, [], ◌∷◌, ◌++◌, sym, refl, ap, ◌∙◌, subst, append_assoc, arith, Bool, true, false, cond, Contains}
+use Rattle.std.proofs.Common.{length, min, mul-le-mul_right, ◌≡◌, ◌⊎◌, inl, inr, ⊎_elim, ℕ, ◌<◌, ◌≤◌, ◌↔◌, zero, suc, List, [], ◌∷◌, ◌++◌, sym, refl, ap, ◌∙◌, subst, arith, Bool, true, false, cond, Contains}
 use Rattle.std.proofs.lemmas.List.Sums.{sum_by-cons}
 use Rattle.std.specs.Prelude.{None, Some}
 use mathlib.Core.Option.{some, some-injective, some-ne-none}
@@ -20,12 +20,13 @@ use Rattle.line_account.specs.Alone.{alone, home, next_version, nothing}
 use Rattle.line_account.specs.Answers.{Refuses, Run, bytes_with}
 use Rattle.line_account.specs.Bodies.{HaveBodies, HaveKeys}
 use Rattle.line_account.specs.Closing.{BegunIn, HaltedIn, LineIn, PrintsDoomed, PrintsHalted, Stores, TellsBegunIn, Worker}
-use Rattle.line_account.specs.Crews.{IsAmong}
+use Rattle.line_account.specs.Crews.{IsAmong, KnewOf}
+use Rattle.line_account.specs.Crews.KnewOf.{own, told}
 use Rattle.line_account.specs.Deeds.{Begins, Halts, PrintsBegun, PrintsBegunVersion, TellsBegun}
 use Rattle.line_account.specs.Epochs.{EpochsHaveCauses}
 use Rattle.run_rules.specs.Lawful.{MayBegin, get_line, put_and_get, put_and_get_script, put_line}
 use Rattle.script_text.specs.Requests.{url_in}
-use Rattle.line_account.specs.Lines.{Fits, IsAnchorOf, Offers, Served, Writes, offers, writing}
+use Rattle.line_account.specs.Lines.{Fits, IsAnchorOf, IsAt, Offers, Served, Writes, offers, writing}
 use Rattle.line_account.specs.Order.{NotBelow, Opens, PrintsAlone, counts_as}
 use Rattle.line_account.specs.Ordering.{AreInOrder, AreNotShort}
 use Rattle.line_account.specs.Parts.{PrintsPart}
@@ -298,41 +299,59 @@ module _ {X : Type 0} (r : Run X) (url : List ℕ) (m : MayBegin r url) (w : Wor
   counted : (e : ℕ) (s : Served) (earlier : List Served) → IsLine earlier s → Contains (counts_as s.answer) e → e ≤ epoch_at x 3
   counted e s earlier line = each (λ z t. Contains (counts_as t.answer) e → e ≤ epoch_at x 3) (λ h. let k = one_of (epoch_at x 2) e h in omega arith) (λ h. let k = one_of (epoch_at x 3) e h in omega arith) earlier s line
 
-  -- a line behind another is the `get`
-  inner : (j : ℕ) (v : Worker X) → get_elem? crew j ≡ some v → (t s : Served) (before earlier : List Served) → IsAmong v.served t before → IsAmong before s earlier → IsLine earlier s
-  inner j v at t s before earlier line other = two (line.later ++ t ∷ other.later) earlier s (sym (only j v at).1 ∙ line.split ∙ ap (λ (z : List Served). line.later ++ t ∷ z) other.split ∙ sym (append_assoc line.later (t ∷ other.later) (s ∷ earlier)))
-
   no_item : (later earlier : List Served) (s : Served) → [] ≡ later ++ s ∷ earlier → ⊥
   no_item [] earlier s e = cc
   no_item (y ∷ later) earlier s e = cc
 
-  -- the line that printed that it began a version is the first one
-  begun_first : (j : ℕ) (v : Worker X) → get_elem? crew j ≡ some v → (t s : Served) (before earlier : List Served) (b y : ℕ) → PrintsBegunVersion r.setting.anchors t b y → IsAmong v.served t before → IsAmong before s earlier → ⊥
-  begun_first j v at t s before earlier b y begun line other = ⊎_elim
-      (λ (h : (get ≡ t) × (put ∷ [] ≡ before)). subst (λ (z : Served). TellsBegun z.line.request z.answer y) (sym h.0) begun.told)
-      (λ (h : (put ≡ t) × ([] ≡ before)). no_item other.later earlier s (h.1 ∙ other.split))
-      (among j v at t before line)
+  -- neither met a mark
+  met_none : (earlier : List Served) (s : Served) → IsLine earlier s → (t : Served) (before : List Served) → IsAmong earlier t before → (mark : ℕ) → t.line.request ≡ Await mark → ⊥
+  met_none earlier s line t before among mark asked = ⊎_elim
+      (λ (h : (get ≡ s) × (put ∷ [] ≡ earlier)). each (λ past z. z.line.request ≡ Await mark → ⊥)
+      (λ q. let k : Get url ≡ Await mark = q in cc) (λ q. let k : Put url nothing ≡ Await mark = q in cc)
+      before t (two (get ∷ among.later) before t (ap (λ (z : List Served). get ∷ z) (h.1 ∙ among.split))) asked)
+      (λ (h : (put ≡ s) × ([] ≡ earlier)). no_item among.later before t (h.1 ∙ among.split))
+      line
+
+  -- a line that was known before one of these is the `put`
+  knew : (earlier : List Served) (s : Served) → IsLine earlier s → (before : List Served) (t : Served) → KnewOf crew earlier t before → IsLine before t
+  knew earlier s line before t (own among) = ⊎_elim
+      (λ (h : (get ≡ s) × (put ∷ [] ≡ earlier)). two (get ∷ among.later) before t (ap (λ (z : List Served). get ∷ z) (h.1 ∙ among.split)))
+      (λ (h : (put ≡ s) × ([] ≡ earlier)). absurd (no_item among.later before t (h.1 ∙ among.split)))
+      line
+  knew earlier s line before t (told met knows) = absurd (met_none earlier s line met.met met.between met.awaits met.mark met.asked)
+
+  -- the lines
+  line_of : (P : List Served → Served → Type 0) (p : LineIn crew P) → IsLine p.line_of.earlier p.line_of.line
+  line_of P p = two p.line_of.later p.line_of.earlier p.line_of.line (sym (only p.j p.worker p.at).1 ∙ p.line_of.split)
+
+  -- before the first line nothing was known
+  knew_none : (earlier : List Served) → [] ≡ earlier → (t : Served) (before : List Served) → KnewOf crew earlier t before → ⊥
+  knew_none earlier none t before (own among) = no_item among.later before t (none ∙ among.split)
+  knew_none earlier none t before (told met knows) = no_item met.awaits.later met.between met.met (none ∙ met.awaits.split)
+
+  -- the line that printed that it began a version is the first one, which knew of none
+  begun_first : (P : List Served → Served → Type 0) (p : LineIn crew P) (b y : ℕ) → PrintsBegunVersion r.setting.anchors p.line_of.line b y → (s : Served) (earlier : List Served) → KnewOf crew p.line_of.earlier s earlier → ⊥
+  begun_first P p b y begun s earlier knows = ⊎_elim
+      (λ (h : (get ≡ p.line_of.line) × (put ∷ [] ≡ p.line_of.earlier)). subst (λ (z : Served). TellsBegun z.line.request z.answer y) (sym h.0) begun.told)
+      (λ (h : (put ≡ p.line_of.line) × ([] ≡ p.line_of.earlier)). knew_none p.line_of.earlier h.1 s earlier knows)
+      (line_of P p)
 
   order : AreInOrder r crew
   order = record {
-    opening = λ j v t before b at line work small. not_above (opening_epoch r.setting b) (let d = m.drawn b small in omega arith) before t (among j v at t before line);
-    own = λ j v t s before earlier b e at behind work was counts. not_above e (counted e s earlier (inner j v at t s before earlier behind.line behind.other) counts) before t (among j v at t before behind.line);
-    marked = λ j l v u t s before earlier b e at there behind work was counts. absurd (each (λ z y. y.line.request ≡ Await behind.mark → ⊥)
-        (λ h. let k : Get url ≡ Await behind.mark = h in cc) (λ h. let k : Put url nothing ≡ Await behind.mark = h in cc)
-        behind.between behind.met (inner j v at t behind.met before behind.between behind.line behind.awaits) behind.asked);
-    begun_own = λ j v t s before earlier b y e at behind begun was counts. absurd (begun_first j v at t s before earlier b y begun behind.line behind.other);
-    begun_marked = λ j l v u t s before earlier b y e at there behind begun was counts. absurd (begun_first j v at t behind.met before behind.between b y begun behind.line behind.awaits);
+    opening = λ b small p. not_above (opening_epoch r.setting b) (let d = m.drawn b small in omega arith) p.line_of.earlier p.line_of.line (line_of (λ earlier t. IsAt r.setting.anchors earlier t b) p);
+    known = λ b e s earlier p knows counts.
+        let line = line_of (λ before t. IsAt r.setting.anchors before t b) p in
+        not_above e (counted e s earlier (knew p.line_of.earlier p.line_of.line line earlier s knows) counts.counts) p.line_of.earlier p.line_of.line line;
+    begun = λ b y e s earlier p knows counts. absurd (begun_first (λ before t. PrintsBegunVersion r.setting.anchors t b y) p b y p.line_of.so s earlier knows);
   }
 
-  no_part : (y : ℕ) (t : Served) (before : List Served) → IsLine before t → PrintsPart t y → ⊥
-  no_part y t before line = each (λ z u. PrintsPart u y → ⊥) (λ h. let k : answer.Hit x [] ≡ answer.Part h.epoch h.bytes = h.printed in cc) (λ h. let k : answer.Stored x ≡ answer.Part h.epoch h.bytes = h.printed in cc) before t line
+  no_part : (y : ℕ) → LineIn crew (λ before t. PrintsPart t y) → ⊥
+  no_part y p = never (λ before t. PrintsPart t y) (λ h. let k : answer.Hit x [] ≡ answer.Part h.epoch h.bytes = h.printed in cc) (λ h. let k : answer.Stored x ≡ answer.Part h.epoch h.bytes = h.printed in cc) p
 
   parts : AreNotShort r crew
   parts = record {
-    added_own = λ j v t s before earlier y slots u at behind part adds. absurd (no_part y t before (among j v at t before behind.line) part);
-    given_own = λ j v t s before earlier y tab at behind part gives. absurd (no_part y t before (among j v at t before behind.line) part);
-    added_marked = λ j l v q t s before earlier y slots u at there behind part adds. absurd (no_part y t before (among j v at t before behind.line) part);
-    given_marked = λ j l v q t s before earlier y tab at there behind part gives. absurd (no_part y t before (among j v at t before behind.line) part);
+    added = λ y slots u s earlier p knows adds. absurd (no_part y p);
+    gave = λ y tab s earlier p knows gives. absurd (no_part y p);
   }
 
   tabs : TabsStay r crew

@@ -1,13 +1,3 @@
-use Rattle.std.proofs.Common.{Contains, ◌∷◌, ◌≤◌}
-use Rattle.core_model.specs.Anchors.{opening_epoch}
-use Rattle.line_account.specs.Answers.{bytes_behind, given_with}
-use Rattle.line_account.specs.Courses.{lines_in}
-use Rattle.line_account.specs.Deeds.{PrintsBegunVersion}
-use Rattle.line_account.specs.Lines.{given}
-use Rattle.line_account.specs.Order.{NotBelow, counts_as}
-use Rattle.line_account.specs.Parts.{AddsTo, GivesOf, PrintsPart}
-use Rattle.line_account.proofs.Crews.{across, both}
-use Rattle.line_account.proofs.Stages.{at_work, of_line, of_stage, stage_of}
 use Rattle.line_account.proofs.rules.closed_crews_keep_the_rules.Goals as goal
 
 pub returns : goal.returns
@@ -71,43 +61,7 @@ returns g c r script crew closed serves have = record {
     purged_stage = λ e p. c.doomed_entries_were_purged.ensures.stage r crew e closed p;
     given_back = λ a e p undoomed at. c.entries_are_given_back_by_lines.ensures r crew a e closed p undoomed at;
   };
-  order = record {
-    opening = λ j w t before a at among work small.
-        let course = have.course j w at in
-        let h = stage_of course.stages w.served t before course.is.lines among in
-        of_line (λ earlier x. NotBelow (opening_epoch r.setting a) x.answer) course.stages t before h
-        (c.lines_are_in_order.ensures.opening r course.start course.is.last course.stages h.before h.stage a course.is.begins course.is.course (at_work r.setting.anchors course.stages t before a h work) small);
-    own = λ j w t s before earlier a e at behind work was counts.
-        let course = have.course j w at in
-        let h = both r crew have w course t s before earlier behind in
-        of_line (λ earlier x. NotBelow e x.answer) course.stages t before h.line
-        (c.lines_are_in_order.ensures.own r course.start course.is.last course.stages h.line.before h.other.before h.line.stage h.other.stage a e course.is.course
-        (at_work r.setting.anchors course.stages t before a h.line work) (at_work r.setting.anchors h.line.before s earlier a h.other was)
-        (of_stage (λ earlier x. Contains (counts_as x.answer) e) h.line.before s earlier h.other counts));
-    marked = λ j l w u t s before earlier a e at there behind work was counts.
-        let course = have.course j w at in
-        let others = have.course l u there in
-        let h = across r crew have j l w u at there t s before earlier behind in
-        of_line (λ earlier x. NotBelow e x.answer) course.stages t before h.line
-        (c.lines_are_in_order_after_marks.ensures.order r course.start course.is.last others.start others.is.last course.stages h.line.before h.met.before others.stages h.setter.before h.other.before
-        h.line.stage h.met.stage h.setter.stage h.other.stage a e course.is.course others.is.course
-        (at_work r.setting.anchors course.stages t before a h.line work) h.met.stands h.hands h.setter.stands (at_work r.setting.anchors h.setter.before s earlier a h.other was)
-        (of_stage (λ earlier x. Contains (counts_as x.answer) e) h.setter.before s earlier h.other counts));
-    begun_own = λ j w t s before earlier a x e at behind begun was counts.
-        let course = have.course j w at in
-        let h = both r crew have w course t s before earlier behind in
-        c.lines_are_in_order.ensures.begun r course.start course.is.last course.stages h.line.before h.other.before h.line.stage h.other.stage a x e course.is.course
-        h.line.stands (of_stage (λ earlier y. PrintsBegunVersion r.setting.anchors y a x) course.stages t before h.line begun)
-        (at_work r.setting.anchors h.line.before s earlier a h.other was) (of_stage (λ earlier y. Contains (counts_as y.answer) e) h.line.before s earlier h.other counts);
-    begun_marked = λ j l w u t s before earlier a x e at there behind begun was counts.
-        let course = have.course j w at in
-        let others = have.course l u there in
-        let h = across r crew have j l w u at there t s before earlier behind in
-        c.lines_are_in_order_after_marks.ensures.begun r course.start course.is.last others.start others.is.last course.stages h.line.before h.met.before others.stages h.setter.before h.other.before
-        h.line.stage h.met.stage h.setter.stage h.other.stage a x e course.is.course others.is.course
-        h.line.stands (of_stage (λ earlier y. PrintsBegunVersion r.setting.anchors y a x) course.stages t before h.line begun) h.met.stands h.hands h.setter.stands
-        (at_work r.setting.anchors h.setter.before s earlier a h.other was) (of_stage (λ earlier y. Contains (counts_as y.answer) e) h.setter.before s earlier h.other counts);
-  };
+  order = c.lines_are_in_order.ensures r crew have;
   tabs = record {
     part = λ a x epoch p. c.tabs_stay_at_their_entries.ensures.part r crew a x epoch closed p;
     halted = λ a x p. c.tabs_stay_at_their_entries.ensures.halted r crew a x closed p;
@@ -115,40 +69,5 @@ returns g c r script crew closed serves have = record {
     new = λ tells a x p high. c.tabs_stay_at_their_entries.ensures.new r crew a x closed tells p high;
     behind_end = λ tells tab p. c.tabs_stay_at_their_entries.ensures.behind_end r crew tab closed tells p;
   };
-  parts = λ tells. record {
-    added_own = λ j w t s before earlier x slots url at behind part adds.
-        let course = have.course j w at in
-        let h = both r crew have w course t s before earlier behind in
-        of_line (λ earlier y. bytes_behind r.room url slots ≤ given_with earlier y) course.stages t before h.line
-        (c.parts_are_not_short.ensures.added r crew j w course.start course.stages h.line.before h.other.before h.line.stage h.other.stage x slots url closed tells at course.is h.line.stands
-        (of_stage (λ earlier y. PrintsPart y x) course.stages t before h.line part) h.other.stands
-        (of_stage (λ earlier y. AddsTo r earlier y x url slots) h.line.before s earlier h.other adds));
-    given_own = λ j w t s before earlier x tab at behind part gives.
-        let course = have.course j w at in
-        let h = both r crew have w course t s before earlier behind in
-        of_line (λ past y. given tab (s ∷ earlier) ≤ given_with past y) course.stages t before h.line
-        (of_line (λ past y. given tab (y ∷ past) ≤ given_with (lines_in h.line.before) h.line.stage.served) h.line.before s earlier h.other
-        (c.parts_are_not_short.ensures.given r crew j w course.start course.stages h.line.before h.other.before h.line.stage h.other.stage x tab closed tells at course.is h.line.stands
-        (of_stage (λ earlier y. PrintsPart y x) course.stages t before h.line part) h.other.stands
-        (of_stage (λ earlier y. GivesOf earlier y tab x) h.line.before s earlier h.other gives)));
-    added_marked = λ j l w u t s before earlier x slots url at there behind part adds.
-        let course = have.course j w at in
-        let others = have.course l u there in
-        let h = across r crew have j l w u at there t s before earlier behind in
-        of_line (λ earlier y. bytes_behind r.room url slots ≤ given_with earlier y) course.stages t before h.line
-        (c.parts_are_not_short_after_marks.ensures.added r crew j l w u course.start others.start course.stages others.stages h.line.before h.met.before h.setter.before h.other.before
-        h.line.stage h.met.stage h.setter.stage h.other.stage x slots url closed tells at there course.is others.is h.line.stands h.met.stands h.hands h.setter.stands h.other.stands
-        (of_stage (λ earlier y. PrintsPart y x) course.stages t before h.line part)
-        (of_stage (λ earlier y. AddsTo r earlier y x url slots) h.setter.before s earlier h.other adds));
-    given_marked = λ j l w u t s before earlier x tab at there behind part gives.
-        let course = have.course j w at in
-        let others = have.course l u there in
-        let h = across r crew have j l w u at there t s before earlier behind in
-        of_line (λ past y. given tab (s ∷ earlier) ≤ given_with past y) course.stages t before h.line
-        (of_line (λ past y. given tab (y ∷ past) ≤ given_with (lines_in h.line.before) h.line.stage.served) h.setter.before s earlier h.other
-        (c.parts_are_not_short_after_marks.ensures.given r crew j l w u course.start others.start course.stages others.stages h.line.before h.met.before h.setter.before h.other.before
-        h.line.stage h.met.stage h.setter.stage h.other.stage x tab closed tells at there course.is others.is h.line.stands h.met.stands h.hands h.setter.stands h.other.stands
-        (of_stage (λ earlier y. PrintsPart y x) course.stages t before h.line part)
-        (of_stage (λ earlier y. GivesOf earlier y tab x) h.setter.before s earlier h.other gives)));
-  };
+  parts = λ tells. c.parts_are_not_short.ensures r crew closed have tells;
 }
