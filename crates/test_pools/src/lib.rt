@@ -1,6 +1,8 @@
-//! Tests of marks, of pages and of workers on threads, and of the script and the summary of a benchmark.
+//! Tests of marks, of pages and the passes that have them, of workers on threads, and of the script and the summary of a benchmark.
 #![tactic(auto)]
 
+#[cfg(test)]
+mod buffers;
 #[cfg(test)]
 mod loads;
 #[cfg(test)]
