@@ -121,6 +121,119 @@ all ENTRY 2 2 2 901 u1
     )
 }
 
+/// A response of three slots is saved in place of another one under its URL. Three writes and three syncs are made for it, and each of
+/// them fails in turn. A crash leaves the old one, the new one, or none.
+#[test]
+fn what_is_saved_in_place_of_another_is_whole(rt: HostRuntime) -> Result<(), Fail> {
+    plays(
+        &rt,
+        rt.alloc(),
+        "\
+# The write of its first slot fails, in which the old one stands,
+volume stations=//2
+
+create db 512 4
+
+run db 512 2 1
+1 save http://a/b =old -> STORED 1
+1 save http://a/b #1300:0 -> FAULT
+
+images db 2
+some ENTRY 0 1 1 3 http://a/b
+
+list db 512
+> ENTRY 0 1 1 3 http://a/b
+
+# or the sync of it.
+volume stations=//3
+
+create db 512 4
+
+run db 512 2 1
+1 save http://a/b =old -> STORED 1
+1 save http://a/b #1300:0 -> FAULT
+
+images db 2
+some ENTRY 0 1 1 3 http://a/b
+
+list db 512
+
+# The write of its second slot fails,
+volume stations=//4
+
+create db 512 4
+
+run db 512 2 1
+1 save http://a/b =old -> STORED 1
+1 save http://a/b #1300:0 -> FAULT
+
+images db 2
+
+list db 512
+
+# or the sync of it.
+volume stations=//5
+
+create db 512 4
+
+run db 512 2 1
+1 save http://a/b =old -> STORED 1
+1 save http://a/b #1300:0 -> FAULT
+
+images db 2
+
+list db 512
+
+# The write of its last slot fails,
+volume stations=//6
+
+create db 512 4
+
+run db 512 2 1
+1 save http://a/b =old -> STORED 1
+1 save http://a/b #1300:0 -> FAULT
+
+images db 2
+some ENTRY 0 2 3 1300 http://a/b
+
+list db 512
+
+# or the sync of it. It was given up and is whole where that slot is new: the next run has its body.
+volume stations=//7
+
+create db 512 4
+
+run db 512 2 1
+1 save http://a/b =old -> STORED 1
+1 save http://a/b #1300:0 -> FAULT
+
+images db 2
+some ENTRY 0 2 3 1300 http://a/b
+
+list db 512
+> ENTRY 0 2 3 1300 http://a/b
+
+run db 512 2 1
+1 get http://a/b -> HIT 2 1300 MADE(0,1300)
+
+# No call fails.
+volume stations=//8
+
+create db 512 4
+
+run db 512 2 1
+1 save http://a/b =old -> STORED 1
+1 save http://a/b #1300:0 -> STORED 2
+
+images db 1
+all ENTRY 0 2 3 1300 http://a/b
+
+list db 512
+> ENTRY 0 2 3 1300 http://a/b
+",
+    )
+}
+
 /// Nothing says that what was put outlives a crash.
 #[test]
 fn what_was_put_may_be_gone(rt: HostRuntime) -> Result<(), Fail> {

@@ -523,6 +523,142 @@ has db
     Ok(())
 }
 
+/// The look at the header area, the call that opens the file or the one that makes a station fails. The file is as it was.
+#[test]
+fn a_fault_of_the_volume_leaves_the_entries(rt: HostRuntime) -> Result<(), Fail> {
+    let alloc = rt.alloc();
+    plays_each(
+        &rt,
+        alloc,
+        0..3,
+        "\
+volume calls=@
+entry 3 http://a/b x
+entry 5 http://a/c y
+
+list db 512
+= DeviceFault 6
+
+check db 512 2
+> slots=2 kept=2 used=2 free=0 version=5
+
+list db 512
+> ENTRY 0 3 1 1 http://a/b
+> ENTRY 1 5 1 1 http://a/c
+",
+    )?;
+    plays_each(
+        &rt,
+        alloc,
+        0..3,
+        "\
+volume calls=@
+entry 3 http://a/b x
+entry 5 http://a/c y
+
+check db 512 2
+= DeviceFault 6
+
+check db 512 2
+> slots=2 kept=2 used=2 free=0 version=5
+
+list db 512
+> ENTRY 0 3 1 1 http://a/b
+> ENTRY 1 5 1 1 http://a/c
+",
+    )?;
+    plays_each(
+        &rt,
+        alloc,
+        0..3,
+        "\
+volume calls=@
+entry 3 http://a/b x
+entry 5 http://a/c y
+
+run db 512 2 1
+< 1 put http://a/b =z
+= DeviceFault 6
+
+check db 512 2
+> slots=2 kept=2 used=2 free=0 version=5
+
+list db 512
+> ENTRY 0 3 1 1 http://a/b
+> ENTRY 1 5 1 1 http://a/c
+",
+    )?;
+    Ok(())
+}
+
+/// The first or the second read of a file of two slots fails. The slots have the bytes that they had.
+#[test]
+fn a_read_that_fails_leaves_the_slots(rt: HostRuntime) -> Result<(), Fail> {
+    let alloc = rt.alloc();
+    plays_each(
+        &rt,
+        alloc,
+        0..2,
+        "\
+volume stations=@
+entry 3 http://a/b x
+entry 5 http://a/c y
+
+list db 512
+= DeviceFault 6
+
+bytes db 0 0 1a68c10d6c8b326657c775f53c866dd12b000000000000002b0000000300000000000000ffffffff032a00000003100000001a68c10d6c8b326657c775f53c866dd1040b000000687474703a2f2f612f620078
+
+bytes db 1 0 4877c9348b6d7299e213896f839c80b82b000000000000002b0000000500000001000000ffffffff032a00000003100000004877c9348b6d7299e213896f839c80b8040b000000687474703a2f2f612f630079
+
+check db 512 2
+> slots=2 kept=2 used=2 free=0 version=5
+",
+    )?;
+    plays_each(
+        &rt,
+        alloc,
+        0..2,
+        "\
+volume stations=@
+entry 3 http://a/b x
+entry 5 http://a/c y
+
+check db 512 2
+= DeviceFault 6
+
+bytes db 0 0 1a68c10d6c8b326657c775f53c866dd12b000000000000002b0000000300000000000000ffffffff032a00000003100000001a68c10d6c8b326657c775f53c866dd1040b000000687474703a2f2f612f620078
+
+bytes db 1 0 4877c9348b6d7299e213896f839c80b82b000000000000002b0000000500000001000000ffffffff032a00000003100000004877c9348b6d7299e213896f839c80b8040b000000687474703a2f2f612f630079
+
+check db 512 2
+> slots=2 kept=2 used=2 free=0 version=5
+",
+    )?;
+    plays_each(
+        &rt,
+        alloc,
+        0..2,
+        "\
+volume stations=@
+entry 3 http://a/b x
+entry 5 http://a/c y
+
+run db 512 2 1
+< 1 put http://a/b =z
+= DeviceFault 6
+
+bytes db 0 0 1a68c10d6c8b326657c775f53c866dd12b000000000000002b0000000300000000000000ffffffff032a00000003100000001a68c10d6c8b326657c775f53c866dd1040b000000687474703a2f2f612f620078
+
+bytes db 1 0 4877c9348b6d7299e213896f839c80b82b000000000000002b0000000500000001000000ffffffff032a00000003100000004877c9348b6d7299e213896f839c80b8040b000000687474703a2f2f612f630079
+
+check db 512 2
+> slots=2 kept=2 used=2 free=0 version=5
+",
+    )?;
+    Ok(())
+}
+
 /// A first part of the answers was printed, and what was stored is in the file.
 #[test]
 fn a_fault_of_the_sink_leaves_what_was_stored(rt: HostRuntime) -> Result<(), Fail> {

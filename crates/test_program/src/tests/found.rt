@@ -54,6 +54,9 @@ list db 512
 > ENTRY 0 3 1 1 http://a/b
 > ENTRY 1 3 1 1 http://a/b
 
+check db 512 1
+> slots=2 kept=1 used=1 free=1 version=3
+
 # No version is left.
 volume
 entry 4294901760 http://a/b hello
