@@ -1,3 +1,4 @@
 pub mod Core
 pub mod Decoded
 pub mod Applied
+pub mod Opened

@@ -5,6 +5,8 @@ ghost use Rattle.db_layout.specs.declared.layout.TheConstants.{MOST_SLOTS};
 ghost use Rattle.core_table.specs.New.{IsNew};
 ghost use Rattle.core_model.specs.Sound.{Sound};
 ghost use Rattle.core_state.specs.declared.act.StepFault.TheVariants as fault;
+ghost use Rattle.core_openings.specs.KeptSo.{IsKeptSo};
+ghost use Rattle.core_state.specs.Opened.{IsOpenedWith};
 ghost use Rattle.core_state.specs.Applied.{Applies, MayApply, IsSameStore, kind_of};
 ghost use Rattle.core_table.specs.Machine.{setting_of, state_of};
 
@@ -13,9 +15,10 @@ use crate::decode::decode;
 use crate::step::make;
 use core_change::Refusal;
 use core_model::{Cell, Chain, View};
+use core_openings::rebuilds_may_be_opened;
 use core_table::{Content, Opening, Table, opened_table, opening_of};
 use plain_rebuild::rebuilt_of;
-use rebuild_model::FileImage;
+use rebuild_model::{FileImage, Rebuilt};
 use rock_io::Memory;
 use std::alloc::Global;
 use std::marker::Model;
@@ -60,15 +63,52 @@ impl Core {
         ensures new { IfOk result (λ core. IsNew image.now (length image.now.slots) anchors passes core) }
         ensures sound { IfOk result (λ core. Sound (setting_of core) (state_of core)) }
     {
+        rebuilds_may_be_opened();
         let slots = image.slots.as_slice().len() as u32;
         let rebuilt = rebuilt_of(alloc, image, anchors)?;
-        let opening = opening_of(alloc, &rebuilt, anchors, slots, passes)?;
-        let table = opened_table(alloc, &opening, &rebuilt)?;
+        Core::opened(alloc, &rebuilt, anchors, slots, passes)
+    }
+
+    /// The core of a store of so many slots that was just opened with what a rebuild kept: that stands, and all
+    /// else is free.
+    ///
+    /// # Errors
+    ///
+    /// Want of memory alone.
+    pub fn opened(
+        alloc: Global,
+        rebuilt: &Rebuilt,
+        anchors: u32,
+        slots: u32,
+        passes: u32,
+    ) -> Result<Core, Memory>
+        requires kept { IsKeptSo anchors slots rebuilt.now }
+        requires some_anchor { 0 < anchors }
+        requires few_passes { passes ≤ 32 }
+        ensures opened { IfOk result (λ core. IsOpenedWith rebuilt.now anchors slots passes core) }
+        ensures sound { IfOk result (λ core. Sound (setting_of core) (state_of core)) }
+    {
+        let opening = opening_of(alloc, rebuilt, anchors, slots, passes)?;
+        let table = opened_table(alloc, &opening, rebuilt)?;
         Ok(Core {
             opening,
             table,
             alloc,
         })
+    }
+
+    /// How many anchors the store has.
+    pub fn anchors(&self) -> u32
+        ensures { result ≡ self.now.anchors }
+    {
+        self.opening.anchors
+    }
+
+    /// How many passes it was opened for.
+    pub fn passes(&self) -> u32
+        ensures { result ≡ self.now.passes }
+    {
+        self.opening.passes
     }
 
     /// The words of the table: that of each anchor with the four beside it, the link and the turn of each
