@@ -1,0 +1,5 @@
+mod Seeking
+mod OneCell
+mod LoggedFor
+mod Leaving
+pub mod Living

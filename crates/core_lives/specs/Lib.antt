@@ -1,0 +1,4 @@
+pub mod Lived
+pub mod Life
+pub mod Crash
+pub mod Happening
