@@ -3,9 +3,11 @@
 #![tactic(auto)]
 
 mod cells;
+mod laws;
 mod left;
 mod life;
 mod pieces;
 
+pub use laws::{lives_leave_responses, lives_stay_sound};
 pub use life::Life;
 pub use named_rebuild::FirstContent;
