@@ -1,6 +1,7 @@
 mod Lists
 mod Scripts
 mod Files
+mod Zero
 mod Crews
 mod Opened
 mod Numbers

@@ -37,6 +37,7 @@ use Rattle.run_rules.specs.Runs.{IsExplained}
 use Rattle.run_rules.proofs.Crews.{are_counted, have_courses, met, printed}
 use Rattle.run_rules.proofs.Files.{OldWinner, keys, responses}
 use Rattle.run_rules.proofs.Lists.{at_place, both}
+use Rattle.run_rules.proofs.Zero.{zero_empty}
 
 -- where a is below b the first of two is taken
 first_taken : (a b : ℕ) (x y : List ℕ) → a < b → cond (nat_lt a b) x y ≡ x
@@ -165,6 +166,7 @@ module _ {C St : Type 0} (volume_tells told : Bool) (state : C → CellState) (f
       faults = are_counted told state offers_of faults h.closed.store script accounts (λ j a at. h.served.played.each j a (at_place accounts j a at)) laws.counts
           answers h.stations h.served.played.answers_are h.served.played.stations_left_are;
       rules = rules;
+      zero = zero_empty r slot anchors laws.opening.kept.images script crew rules (began told state g laws.past.past slot anchors h.closed.opened.cells laws.opening laws.past.winners) h.closed.opened.store.anchors_are above_none;
       responses = λ t. responses r slot anchors laws.opening.kept.images script crew rules closing.serves h.closed.opened.store.anchors_are above_none kept (h.closed.opened.told t);
       keys = keys r slot anchors laws.opening.kept.images script crew rules closing.serves h.closed.opened.store.anchors_are above_none kept;
     }

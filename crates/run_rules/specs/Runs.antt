@@ -5,11 +5,12 @@ use mathlib.Core.Option.{some}
 use lib.ListN.{get_elem?}
 use Rattle.rock_disk.specs.File.{File, Files, bytes_of, slots_cut}
 use Rattle.entry_cut.specs.Content.{room_of}
+use Rattle.lock_word.specs.Words.{doom_of, stage_of, version_of}
 use Rattle.script_text.specs.declared.answer.Answer.{Answer}
 use Rattle.script_text.specs.declared.line.Line.{Line}
 use Rattle.script_text.specs.declared.request.Request.TheVariants.{Await}
 use Rattle.line_account.specs.Answers.{Run}
-use Rattle.line_account.specs.Closing.{Worker}
+use Rattle.line_account.specs.Closing.{ShownIn, Worker}
 use Rattle.line_account.specs.Lines.{Served}
 use Rattle.line_account.specs.Scripts.{ServesScript}
 use Rattle.line_account.specs.Rules.{KeepsRules}
@@ -71,5 +72,7 @@ pub record IsExplained (tells : Bool) (files : Files) (name : List ℕ) (slot an
   pub faults : AreCounted answers stations
   -- the lines keep all rules
   pub rules : KeepsRules run script crew
+  -- an epoch of version 0 is at EMPTY and not doomed, since no entry of a file has this version, and no line begins it
+  pub zero : (a e : ℕ) → ShownIn run crew a e → version_of e ≡ 0 → (stage_of e ≡ 0) × (doom_of e ≡ 0)
   pub responses : IsTrue tells → AreResponses run slot anchors images script crew
   pub keys : AreKeysOfWinners run slot anchors images script crew

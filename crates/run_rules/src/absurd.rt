@@ -1,8 +1,12 @@
 //! Examples: what no run prints, for it is not explained.
-ghost use Rattle.std.specs.Prelude.{Bool, List, [], ◌+◌, ◌++◌, ◌∷◌, ◌≡◌, ℕ};
+ghost use Rattle.std.specs.Prelude.{Bool, List, [], false, ◌+◌, ◌++◌, ◌∷◌, ◌≡◌, ℕ};
+ghost use Rattle.lock_word.specs.declared.stage.Stage.TheVariants as stage;
+ghost use Rattle.lock_word.specs.declared.word.Word.{Word};
 ghost use Rattle.rock_disk.specs.File.{Files};
 ghost use Rattle.script_text.specs.declared.answer.Answer.{Answer};
+ghost use Rattle.script_text.specs.declared.body.Body.{Body};
 ghost use Rattle.script_text.specs.declared.line.Line.{Line};
+ghost use Rattle.script_text.specs.declared.request.Request.{Request};
 ghost use Rattle.rock_open.specs.Device.{Counts};
 ghost use Rattle.run_rules.specs.Runs.{IsExplained};
 
@@ -15,4 +19,12 @@ pub fn no_fault_comes_of_no_call()
     ensures counted { (tells : Bool) (files : Files) (name : List ℕ) (slot anchors m n : ℕ) (script : List Line) (before after : Counts)
         → IsExplained tells files name slot anchors 2 script (((m, Answer.Fault) ∷ []) ∷ ((n, Answer.Fault) ∷ []) ∷ []) before after
         → after.ended ≡ before.ended ++ 0 ∷ 0 ∷ 0 ∷ [] → ⊥ }
+{}
+
+/// A lone worker's `put` printed BUSY 0.5/0 0.5/0: no entry has version 0, so none of this version is given back (`zero` of `IsExplained`).
+pub fn no_entry_has_version_0()
+    ensures { (tells : Bool) (files : Files) (name : List ℕ) (slot anchors : ℕ) (url : List ℕ) (body : Body) (held : Word) (before after : Counts)
+        → IsExplained tells files name slot anchors 1 (record { worker = 1; number = 1; request = Request.Put url body } ∷ [])
+        (((1, Answer.Busy held held) ∷ []) ∷ []) before after
+        → held.epoch ≡ record { version = 0; stage = stage.Freeing; doom = false } → ⊥ }
 {}
