@@ -85,5 +85,19 @@ module _ (g : Ground (List ℕ)) (anchor offer : ℕ) (url body : List ℕ) (siz
       add_suc : suc n + 1 ≡ suc (suc n)
       add_suc = omega arith
 
+  -- which are fewer than the body has
+  pub short_below : (n : ℕ) → 0 < n → n < count c → length (body_below g anchor offer n) < length c.body
+  short_below zero some lt = absurd (omega arith)
+  short_below (suc n) some lt =
+      let a = below_length n in
+      let f = fits in
+      let l = content_length in
+      let z : (suc n + 1) * room ≤ length (content c) + (room - 1) = (le-div_iff_mul-le {k = room} {x = suc n + 1} {y = length (content c) + (room - 1)} (omega arith)).0 (omega arith) in
+      let q : (suc n + 1) * room ≡ suc n * room + room = ap (λ (k : ℕ). k * room) add_suc ∙ more_rooms (suc n) room in
+      omega arith
+    where
+      add_suc : suc n + 1 ≡ suc (suc n)
+      add_suc = omega arith
+
   pub pieces_are : pieces_of g anchor offer ≡ count c
   pieces_are = let e = le-ltb offer g.setting.slots high in rw e refl

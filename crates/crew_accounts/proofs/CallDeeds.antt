@@ -21,6 +21,7 @@ use Rattle.store_serve.specs.Answers.{answer_to_ended}
 use Rattle.store_serve.specs.Acting.{Acted}
 use Rattle.store_serve.specs.Deeds.{HasNames, Naming, OfBeginning, OfClosing, OfEnding, OfGivingUp, OfHalting, OfLeaving, OfPublishing, OfPurging, OfPutting, OfPuttingInVain, OfRefusing, OfReserving, OfVisiting}
 use Rattle.crew_accounts.proofs.DeedLines as deed
+use Rattle.crew_accounts.proofs.Shown.{ShowsInTurn}
 
 -- how an entry ended, as its answer tells it
 pub finishes : (ended : Ended) (e : ℕ) → version_in e ≡ version_of ended → (is_doomed ended ≡ true ↔ (doom_of e ≡ 1)) → Finishes (answer_to_ended ended) e
@@ -97,22 +98,23 @@ module _ {X : Type 0} (r : Run X) (v : View X) (earlier : List Served) (s : Serv
 -- A line adds what its call drew and did, with what it tells.
 module _ {X : Type 0} (r : Run X) (v w : View X) (earlier : List Served) (s : Served) where
   pub adds_drawing : ((a x : ℕ) → PrintsBegunVersion r.setting.anchors s a x → version_in (seen_at a v.seen) < x) → (P : Deed → Type 0) → Acted s.drew P v w → ((d : Deed) → P d → IsDeedOf r w d earlier s)
-      → ((a e : ℕ) → Shows r.setting.anchors earlier s a e → seen_at a v.seen ≤ e) → Tells r w earlier s
+      → ShowsInTurn r.setting.anchors v w earlier s → Tells r w earlier s
       → (IsTrue r.tells → (e : Epoch) (bytes : List ℕ) → s.answer ≡ answer.Part e bytes → HasPart r v w earlier s (epoch_number e)) → Adds r v earlier s w
-  adds_drawing above P acted so fresh tells parts = record {
+  adds_drawing above P acted so shows tells parts = record {
     keeps = acted.keeps;
     drawn = acted.drawn;
     draws = acted.draws;
     deeds = λ d c. ⊎_elim (λ (o : Contains v.deeds d). inl o) (λ (n : (d.pass ≡ v.pass) × P d). inr (n.0, so d n.1)) (acted.deeds d c);
-    fresh = fresh;
+    fresh = λ a e h. (shows a e h).above;
+    stages = λ a d e h seen same. (shows a e h).leads d seen same;
     above = above;
     tells = tells;
     parts = parts;
   }
 
   -- a line that drew no version began none
-  pub adds_by : s.drew ≡ None → (P : Deed → Type 0) → Acted s.drew P v w → ((d : Deed) → P d → IsDeedOf r w d earlier s) → ((a e : ℕ) → Shows r.setting.anchors earlier s a e → seen_at a v.seen ≤ e) → Tells r w earlier s
+  pub adds_by : s.drew ≡ None → (P : Deed → Type 0) → Acted s.drew P v w → ((d : Deed) → P d → IsDeedOf r w d earlier s) → ShowsInTurn r.setting.anchors v w earlier s → Tells r w earlier s
       → (IsTrue r.tells → (e : Epoch) (bytes : List ℕ) → s.answer ≡ answer.Part e bytes → HasPart r v w earlier s (epoch_number e)) → Adds r v earlier s w
-  adds_by none P acted so fresh tells parts = adds_drawing
+  adds_by none P acted so shows tells parts = adds_drawing
       (λ a x h. let began = tells.began x (told_began s.line.request s.answer x h.told) in let z : None ≡ Some began.version = sym none ∙ began.drew in absurd (let q : ⊥ = cc in q))
-      P acted so fresh tells parts
+      P acted so shows tells parts

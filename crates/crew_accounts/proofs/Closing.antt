@@ -51,7 +51,7 @@ module _ {C O : Type 0} (tells : Bool) (state : C → CellState) (offers : O →
         adds = adds_by r (view p) (view q) served l refl OfLeaving
             (parted g t (view p) (view q) closes.parted)
             (λ d. of_leaving r (view q) served l d)
-            (λ b e shows. (none b e shows).above)
+            none
             (tells_by r (view q) served l tt
             (plain r (view q) served l (λ b e shows. (none b e shows).seen) tt refl (λ x k. k) (λ x k. k) (λ url body k. k) (reader_fits tells state offers s told past served p t a q h) (λ z. cc)))
             (λ y e bytes z. absurd (let k : answer.Closed ≡ answer.Part e bytes = z in cc));

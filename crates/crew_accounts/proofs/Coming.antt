@@ -15,14 +15,15 @@ use Rattle.script_text.specs.Requests.{url_in}
 use Rattle.line_account.specs.Lines.{Served, url_at}
 use Rattle.store_rule.specs.Ground.{Ground, anchor_for}
 use Rattle.store_rule.specs.Told.{Steps}
-use Rattle.store_rule.specs.Calls.{IsFresh}
 use Rattle.rock_reader.specs.Opening.{Refused, opened}
 use Rattle.rock_reader.proofs.Coming.{came_tabs, entered_readable}
 use Rattle.store_serve.proofs.Readers as readers
 use Rattle.worker_shelf.specs.Typed.{TellsKey}
 use Rattle.crew_accounts.specs.Runs.{Past, run_of}
 use Rattle.crew_accounts.proofs.Refusing.{away_cause, other_cause}
+use Rattle.crew_accounts.proofs.Shown.{IsInTurn}
 use Rattle.crew_accounts.proofs.Telling.{ForCause}
+use Rattle.crew_accounts.proofs.Turns.{came_turn}
 
 module _ {X : Type 0} (g : Ground X) where
   -- a tab that came to an entry which can be read reads it
@@ -31,19 +32,19 @@ module _ {X : Type 0} (g : Ground X) where
       ∙ get_or-set_same v.tabs t (entered a (epoch_of n)) Free (let nine = st.may.pass in let low = st.may.allowed.1 in omega arith)
       ∙ ap (entered a) same ∙ entered_readable a e h
 
--- It was refused by this cause, at an epoch that was fresh there.
+-- It was refused by this cause, at an epoch that was in turn there.
 pub record IsRefused (g : Ground (List ℕ)) (told : Bool) (past : Past) (earlier : List Served) (l : Served) (url : List ℕ) (v w : View (List ℕ)) (c : Cause) : Type 0 where
   pub cause : ForCause (run_of g told past) w earlier l c
-  pub fresh : IsFresh (anchor_for g url) (epoch_number (epoch_in c)) v w
+  pub turn : IsInTurn (anchor_for g url) (epoch_number (epoch_in c)) v w
 
 module _ (g : Ground (List ℕ)) (told : Bool) (past : Past) (earlier : List Served) (l : Served) (url : List ℕ) (named : url_in l.line.request ≡ Some url) (at_url : url_at earlier l.line.request ≡ Some url) (v w : View (List ℕ)) (c : Cause) where
-  refused_at : (epoch : Epoch) → IsFresh (anchor_for g url) (epoch_number epoch) v w → ForCause (run_of g told past) w earlier l c × (epoch_in c ≡ epoch) → IsRefused g told past earlier l url v w c
-  refused_at epoch fresh h = record { cause = h.0; fresh = subst (λ (e : Epoch). IsFresh (anchor_for g url) (epoch_number e) v w) (sym h.1) fresh }
+  refused_at : (epoch : Epoch) → IsInTurn (anchor_for g url) (epoch_number epoch) v w → ForCause (run_of g told past) w earlier l c × (epoch_in c ≡ epoch) → IsRefused g told past earlier l url v w c
+  refused_at epoch turn h = record { cause = h.0; turn = subst (λ (e : Epoch). IsInTurn (anchor_for g url) (epoch_number e) v w) (sym h.1) turn }
 
   module _ (t : ℕ) (fits : TellsKey c) where
     pub refused : Refused g t url v c w → IsRefused g told past earlier l url v w c
-    refused (inl h) = refused_at h.epoch h.came.fresh (away_cause g told past earlier l url named at_url v w c h.epoch h.came.fresh h.unreadable h.cause_is)
+    refused (inl h) = refused_at h.epoch (came_turn g h.came) (away_cause g told past earlier l url named at_url v w c h.epoch h.came.fresh h.unreadable h.cause_is)
     refused (inr h) = let d = h.declined in
-        refused_at h.epoch h.came.fresh
+        refused_at h.epoch (came_turn g h.came)
         (other_cause g told past earlier l url named at_url v w c h.epoch h.came.fresh h.entered d.keyed t d.key h.readable (came_reads g v h.entered t (anchor_for g url) h.came.found h.epoch h.came.enter h.came.epoch_is h.readable) d.loaded
         (readers.parted g t d.keyed w d.parted).seen d.cause_is fits)

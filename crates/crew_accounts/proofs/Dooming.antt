@@ -1,7 +1,7 @@
 -- What a line tells of an entry that it doomed.
 use Rattle.std.proofs.Common.{Bool, List, ap, arith, subst, sym, ◌∙◌, ◌≡◌, ◌≤◌, ℕ}
 use Rattle.std.specs.Prelude.{Contains, Some}
-use Rattle.lock_word.specs.Words.{doomed, epoch_number, epoch_of, stage_of}
+use Rattle.lock_word.specs.Words.{doomed, epoch_number, epoch_of, stage_of, version_of}
 use Rattle.lock_word.specs.declared.epoch.Epoch.{Epoch}
 use Rattle.lock_word.proofs.Dooming.{stage_of-doomed}
 use Rattle.lock_word.proofs.Parts.{version_of-epoch_number}
@@ -83,14 +83,13 @@ module _ (g : Ground (List ℕ)) (told : Bool) (past : Past) (url : List ℕ) (v
   stage : (2 ≤ stage_of (epoch_number left)) × (stage_of (epoch_number left) ≤ 4)
   stage = subst (λ (e : ℕ). (2 ≤ stage_of e) × (stage_of e ≤ 4)) (sym h.entry.left_is) (doom_stage g h.entry.keyed h.entry.after t h.entry.word r h.entry.reads h.entry.doom)
 
-  pub has_purged : (l : Served) → url_in l.line.request ≡ Some url → HasPurged (run_of g told past) w l left
-  has_purged l named = record {
+  pub has_purged : (l : Served) → url_in l.line.request ≡ Some url → l.opened ≡ epoch_number h.epoch → HasPurged (run_of g told past) w l left
+  has_purged l named found = record {
     doomed = h.dooms;
     from = stage.0;
     to = stage.1;
     url = url;
     named = named;
-    found = epoch_number h.epoch;
-    version_is = version_of-epoch_number h.epoch ∙ sym h.version_is ∙ sym (version_of-epoch_number left);
-    keyed = keyed;
+    version_is = ap version_of found ∙ version_of-epoch_number h.epoch ∙ sym h.version_is ∙ sym (version_of-epoch_number left);
+    keyed = subst (λ (e : ℕ). IsKeyRead (run_of g told past) w anchor e (key_of url)) (sym found) keyed;
   }

@@ -58,7 +58,7 @@ module _ {C O : Type 0} (tells : Bool) (state : C → CellState) (offers : O →
         adds = adds_by r (view p) (view q) served l refl (OfHalting h.entry.anchor h.entry.version)
             (halts_acted g t (name_of g h.entry) entry drops.halts)
             (λ d. of_halting r (view q) served l d h.entry.anchor h.entry.version up)
-            (λ b e shows. (none b e shows).above)
+            none
             (tells_by r (view q) served l (given_up g h.entry h.first first served l h.writes (view q) (halts_seen g t (name_of g h.entry) (view p) (view q) entry drops.halts))
             (plain r (view q) served l (λ b e shows. (none b e shows).seen) tt refl (λ x k. k) (λ x k. k) (λ url body k. k) (writer_fits tells state offers s told past served p t a q h) (λ z. cc)))
             (λ y e bytes z. absurd (let k : answer.Dropped ≡ answer.Part e bytes = z in cc));

@@ -14,7 +14,6 @@ use Rattle.store_rule.specs.declared.store.Pass.{Pass}
 use Rattle.store_rule.specs.declared.store.Store.{Store}
 use Rattle.store_rule.specs.Ground.{Ground, Offers}
 use Rattle.store_rule.specs.Passes.{basis, view}
-use Rattle.store_rule.specs.Calls.{IsFresh}
 use Rattle.rock_writer.specs.Entries.{Entry, WritesAs}
 use Rattle.rock_writer.specs.Finishing.{version_of}
 use Rattle.rock_writer.specs.declared.fault.Ended.{Ended}
@@ -33,11 +32,11 @@ use Rattle.crew_accounts.specs.Lines.{AddsLine, served_as}
 use Rattle.crew_accounts.specs.Runs.{Past, run_of}
 use Rattle.crew_accounts.specs.Tracks.{IsWriter, Tracks}
 use Rattle.crew_accounts.proofs.CallDeeds.{adds_by, of_ending, of_giving_up}
-use Rattle.crew_accounts.proofs.Ended.{ended_fresh, ended_names, ended_version}
+use Rattle.crew_accounts.proofs.Ended.{ended_names, ended_turn, ended_version}
 use Rattle.crew_accounts.proofs.Fitting.{on_writer, writer_fits}
 use Rattle.crew_accounts.proofs.GivingUp.{closed_epoch, ended_no_part, ended_no_tab, ended_told, ends_ended, ends_fault, fault_no_part, fault_no_tab, fault_told, gives_up_fault, large_of, self_both, small_of, shows_closed, shows_no_epoch}
 use Rattle.crew_accounts.proofs.Halting.{not_ended_seen}
-use Rattle.crew_accounts.proofs.Shown.{shows_none, shows_one}
+use Rattle.crew_accounts.proofs.Shown.{IsInTurn, shows_none, shows_one}
 use Rattle.crew_accounts.proofs.TabLines.{elsewhere, no_more_writes}
 use Rattle.crew_accounts.proofs.Telling.{plain, tells_by}
 use Rattle.crew_accounts.proofs.Small.{ended_small}
@@ -78,8 +77,8 @@ module _ {C O : Type 0} (tells : Bool) (state : C → CellState) (offers : O →
         let l = served_as line (answer_to_ended ended) None 0 0 in
         let first = begun_by_first tells state offers s told past served p t h in
         let its : Grows g.setting (view q) served l e.anchor e.version = grows g e h.first first served l h.writes (view q) (ended_names tells state offers s t e p q ended k) in
-        let fresh = subst (λ (a : ℕ). IsFresh a (closed_epoch ended) (view p) (view q)) h.anchor (ended_fresh tells state offers s t e p q ended k) in
-        let shows = shows_one r.setting.anchors (view p) (view q) served l h.url (ap url_named h.writes ∙ h.named) (closed_epoch ended) (shows_closed ended) fresh in
+        let turn = subst (λ (a : ℕ). IsInTurn a (closed_epoch ended) (view p) (view q)) h.anchor (ended_turn tells state offers s t e p q ended k) in
+        let shows = shows_one r.setting.anchors (view p) (view q) served l h.url (ap url_named h.writes ∙ h.named) (closed_epoch ended) (shows_closed ended) turn in
         let finished : HasFinished r.setting (view q) served l (version_of ended) = record { anchor = e.anchor; grows = subst (Grows r.setting (view q) served l e.anchor) (sym (ended_version tells state offers s t e p q ended k)) its } in
         record {
           drew = None;
@@ -88,7 +87,7 @@ module _ {C O : Type 0} (tells : Bool) (state : C → CellState) (offers : O →
           adds = adds_by r (view p) (view q) served l refl (OfEnding (name_of g e) (view q).seen ended)
               (serving.ended tells state offers s t e p q (entry_of tells state offers s t e h.is) k)
               (λ d. of_ending r (view q) served l d (record { may = tt; wants = refl }) (name_of g e) (view q).seen ended (grows g e h.first first served l h.writes (view q)) refl)
-              (λ b f z. (shows b f z).above)
+              shows
               (tells_by r (view q) served l (ended_told r (view q) served l ended finished (small_of g told past e h.first first h.is.rests.from served l h.writes (ended_small tells state offers s t e p q ended k h.small)))
               (plain r (view q) served l (λ b f z. (shows b f z).seen) (answers_ended ended) refl (λ x z. z) (λ x z. z) (λ url body z. z) (writer_fits tells state offers s told past served p t (answer_to_ended ended) q h) (ended_no_tab ended)))
               (λ y f bytes z. absurd (ended_no_part ended f bytes z));
@@ -109,7 +108,7 @@ module _ {C O : Type 0} (tells : Bool) (state : C → CellState) (offers : O →
           adds = adds_by r (view p) (view q) served l refl (OfGivingUp (name_of g e) (view q).seen)
               (serving.not_ended tells state offers s t e p q fault (entry_of tells state offers s t e h.is) k)
               (λ d. of_giving_up r (view q) served l d (record { may = tt; wants = refl }) (name_of g e) (view q).seen (grows g e h.first first served l h.writes (view q)) (halts g e h.first first served l h.writes (gives_up_fault fault)))
-              (λ b f z. (none b f z).above)
+              none
               (tells_by r (view q) served l (fault_told r (view q) served l fault up refl (λ z. large_of g told past e h.first first h.is.rests.from served l h.writes (not_ended_large tells state offers s t e p q fault k z)))
               (plain r (view q) served l (λ b f z. (none b f z).seen) (answers_fault fault) refl (λ x z. z) (λ x z. z) (λ url body z. z) (writer_fits tells state offers s told past served p t (answer_to_fault fault) q h) (fault_no_tab fault)))
               (λ y f bytes z. absurd (fault_no_part fault f bytes z));

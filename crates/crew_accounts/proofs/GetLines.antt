@@ -20,7 +20,7 @@ use Rattle.core_model.specs.declared.moves.Side.TheVariants.{Offer}
 use Rattle.core_model.specs.declared.view.Place.TheVariants.{Beside}
 use Rattle.core_model.specs.declared.view.Sight.TheVariants.{Named, Published, Stood}
 use Rattle.line_account.specs.Accounts.{epoch_in}
-use Rattle.line_account.specs.Answers.{ComesIn, HasGiven, HasHit, HasOpened, HasOther, HasPart, IsEntryAt, IsOfOpened, IsSure, IsWhole, Run}
+use Rattle.line_account.specs.Answers.{IsPart, ComesIn, HasGiven, HasHit, HasOpened, HasOther, HasPart, IsEntryAt, IsOfOpened, IsSure, IsWhole, Run}
 use Rattle.core_model.specs.Knowing.{KnowsAll}
 use Rattle.line_account.specs.Lines.{Served, bytes_in}
 use Rattle.line_account.specs.Requests.{IsAnswerTo}
@@ -28,7 +28,6 @@ use Rattle.store_rule.specs.declared.store.Pass.{Pass}
 use Rattle.store_rule.specs.declared.store.Store.{Store}
 use Rattle.store_rule.specs.Ground.{Ground, Offers, anchor_for, cut_of}
 use Rattle.store_rule.specs.Passes.{basis, view}
-use Rattle.store_rule.specs.Calls.{IsFresh}
 use Rattle.rock_reader.specs.Opening.{Refused}
 use Rattle.rock_reader.specs.Reading.{Standing, StaysOther, TurnsOut, newly}
 use Rattle.rock_reader.specs.Responses.{body_below, pieces_of}
@@ -51,15 +50,16 @@ use Rattle.crew_accounts.specs.Runs.{IsTold, Past, run_of}
 use Rattle.crew_accounts.specs.Tracks.{IsOtherUrl, Tracks}
 use Rattle.crew_accounts.proofs.CallDeeds.{adds_by, of_visiting}
 use Rattle.crew_accounts.proofs.Coming.{refused}
-use Rattle.crew_accounts.proofs.GivenBytes.{IsFromFront, all_of_it, given_of, gives_bytes, known, part_of}
+use Rattle.crew_accounts.proofs.GivenBytes.{IsGrowing, IsFromFront, all_of_it, given_of, gives_bytes, known, part_of}
 use Rattle.crew_accounts.proofs.MoreLines.{at_stage, one_bool, same_line, same_part}
 use Rattle.crew_accounts.proofs.Opened.{one_offer, opened_entry, opened_new, version_is}
 use Rattle.crew_accounts.proofs.OtherUrls.{entry_key, other_url}
 use Rattle.crew_accounts.proofs.ReadingOn.{ReadOn, gives_on}
-use Rattle.crew_accounts.proofs.Shown.{ShowsFresh, fresh_from, fresh_to, shows_none, shows_one}
+use Rattle.crew_accounts.proofs.Shown.{IsInTurn, ShowsInTurn, shows_none, shows_one, turn_from, turn_to}
 use Rattle.crew_accounts.proofs.TabLines.{get_alone}
 use Rattle.crew_accounts.proofs.Telling.{ToTell, plain, tells_by}
 use Rattle.crew_accounts.proofs.Tracking.{entry_moved, entry_on, tracks_whole}
+use Rattle.crew_accounts.proofs.Turns.{came_turn, waits_turn}
 use Rattle.crew_accounts.proofs.Waiting.{grown_version}
 use Rattle.crew_accounts.proofs.WaitsAt.{waits_more, waits_some}
 
@@ -78,14 +78,14 @@ module _ {C O : Type 0} (tells : Bool) (state : C → CellState) (offers : O →
     was_refused c fit k =
         let l = served_as line (answer.Miss c) None 0 0 in
         let refusal = refused g told past served l url refl refl (view p) (view q) c whole_tab fit k in
-        let shows = shows_one r.setting.anchors (view p) (view q) served l url refl (epoch_number (epoch_in c)) refl refusal.fresh in
+        let shows = shows_one r.setting.anchors (view p) (view q) served l url refl (epoch_number (epoch_in c)) refl refusal.turn in
         record {
           drew = None;
           opened = 0;
           looked = 0;
           adds = adds_by r (view p) (view q) served l refl (OfVisiting (anchor_for g url)) (reader.refused g whole_tab url (view p) c (view q) k)
               (λ d. of_visiting r (view q) served l d (anchor_for g url) (record { url = url; comes = refl; anchor = refl }))
-              (λ b e z. (shows b e z).above)
+              shows
               (tells_by r (view q) served l refusal.cause
               (plain r (view q) served l (λ b e z. (shows b e z).seen) tt refl (λ x z. z) (λ x z. z) (λ u body z. z) tt (λ z. cc)))
               (λ y e gave z. absurd (let w : answer.Miss c ≡ answer.Part e gave = z in cc));
@@ -106,11 +106,11 @@ module _ {C O : Type 0} (tells : Bool) (state : C → CellState) (offers : O →
       since_opened = on so.keeps (on ended_keeps parted_keeps)
 
       -- an epoch that was found behind the pieces, and that at which the entry was opened
-      found_fresh : (e : ℕ) → IsFresh k.went.standing.anchor e (view k.went.middle) (view k.read) → IsFresh (anchor_for g url) e (view p) (view q)
-      found_fresh e fresh = subst (λ (b : ℕ). IsFresh b e (view p) (view q)) so.entry.anchor (fresh_to (fresh_from (on (opening_keeps g whole_tab k.opens) so.keeps) fresh) parted_keeps)
+      found_turn : (e : ℕ) → IsInTurn k.went.standing.anchor e (view k.went.middle) (view k.read) → IsInTurn (anchor_for g url) e (view p) (view q)
+      found_turn e turn = subst (λ (b : ℕ). IsInTurn b e (view p) (view q)) so.entry.anchor (turn_to (turn_from (on (opening_keeps g whole_tab k.opens) so.keeps) turn) parted_keeps)
 
-      opened_fresh : IsFresh (anchor_for g url) (epoch_number k.opens.epoch) (view p) (view q)
-      opened_fresh = fresh_to k.opens.came.fresh since_opened
+      opened_turn : IsInTurn (anchor_for g url) (epoch_number k.opens.epoch) (view p) (view q)
+      opened_turn = turn_to (came_turn g k.opens.came) since_opened
 
       same : version_of (epoch_number k.opens.epoch) ≡ version
       same = version_is g told past whole_tab url (view p) (view k.opened) version k.opens
@@ -122,7 +122,7 @@ module _ {C O : Type 0} (tells : Bool) (state : C → CellState) (offers : O →
       offer_is = entry.1 ∙ one_offer g (view k.opened) k.reads.own.stands (anchor_for g url) version k.opens.accepted.offer k.offer
           (subst (λ (n : ℕ). Contains (view k.opened).seen (Named (anchor_for g url) n Offer k.opens.accepted.offer)) same (opened_entry g told past whole_tab url (view p) (view k.opened) version k.opens).offered) k.reads.offer_seen
 
-      add_it : (a : Answer) (looked : ℕ) → ShowsFresh r.setting.anchors (view p) (view q) served (served_as line a None (epoch_number k.opens.epoch) looked) → ToTell r (view q) served (served_as line a None (epoch_number k.opens.epoch) looked) a
+      add_it : (a : Answer) (looked : ℕ) → ShowsInTurn r.setting.anchors (view p) (view q) served (served_as line a None (epoch_number k.opens.epoch) looked) → ToTell r (view q) served (served_as line a None (epoch_number k.opens.epoch) looked) a
           → (IsTrue r.tells → (e : Epoch) (gave : List ℕ) → a ≡ answer.Part e gave → HasPart r (view p) (view q) served (served_as line a None (epoch_number k.opens.epoch) looked) (epoch_number e))
           → IsAnswerTo (Get url) a → ComesIn (Get url) a (version_of (epoch_number k.opens.epoch)) → (a ≡ answer.Tab → ⊥) → AddsLine tells state offers s told past served line p a q
       add_it a looked shows to parts may comes no_tab =
@@ -134,7 +134,7 @@ module _ {C O : Type 0} (tells : Bool) (state : C → CellState) (offers : O →
             looked = looked;
             adds = adds_by r (view p) (view q) served l refl (OfVisiting (anchor_for g url)) (serving.got tells state offers s whole_tab url p q bytes (Found version ended) k)
                 (λ d. of_visiting r (view q) served l d (anchor_for g url) (record { url = url; comes = refl; anchor = refl }))
-                (λ b e z. (shows b e z).above)
+                shows
                 (tells_by r (view q) served l to (record {
                   shown = λ b e z. (shows b e z).seen;
                   answers = may;
@@ -187,9 +187,9 @@ module _ {C O : Type 0} (tells : Bool) (state : C → CellState) (offers : O →
         abbrev l : Served
         l = served_as line a None (epoch_number k.opens.epoch) looked
 
-        has_given : IsTrue told → (IsSure a → 0 < f.place) → (IsWhole a → (0 < f.place) × (f.place ≡ pieces_of g f.anchor f.offer)) → HasGiven r (view q) served l
-        has_given y sure whole = given_of tells state offers s told past (told_so y) y whole_tab k.went.middle f so.reads so.other new old from (view q) served l l refl (ap Some (sym so.entry.url)) anchor_is version_same entry_at.0 offer_at
-            (is ∙ gave_all y) shown sure whole
+        has_given : IsTrue told → (IsSure a → 0 < f.place) → (IsWhole a → (0 < f.place) × (f.place ≡ pieces_of g f.anchor f.offer)) → (IsPart a → IsGrowing g f) → HasGiven r (view q) served l
+        has_given y sure whole part = given_of tells state offers s told past (told_so y) y whole_tab k.went.middle f so.reads so.other new old from (view q) served l l refl (ap Some (sym so.entry.url)) anchor_is version_same entry_at.0 offer_at
+            (is ∙ gave_all y) shown sure whole part
 
         has_part : IsTrue told → (e : ℕ) → (IsSure a → 0 < f.place) → (IsWhole a → ⊥) → version_of e ≡ f.version → Contains (view q).seen (Stood f.anchor e) → 0 < f.place → g.setting.slots ≤ f.offer → f.place < count (cut_of g f.offer 0 0)
             → ((n : ℕ) → Contains (view p).seen (Published f.anchor f.version n) → n ≤ f.place) → HasPart r (view p) (view q) served l e
@@ -240,8 +240,16 @@ module _ {C O : Type 0} (tells : Bool) (state : C → CellState) (offers : O →
         let high = subst (λ (n : ℕ). opening_counter g.setting < n) its (grown_version g (view k.read) k.went.standing.anchor (epoch_number epoch) w.stays.own.stands w.fresh.seen stage) in
         subst (λ (z : Answer). AddsLine tells state offers s told past served line p z q) (sym is)
         (add_it version (more.NotYet epoch) bytes k (answer.Part epoch bytes) 0
-        (shows_one r.setting.anchors (view p) (view q) served l url refl (epoch_number epoch) refl (found_fresh version (more.NotYet epoch) bytes k (epoch_number epoch) w.fresh))
-        (stage, of_opened version (more.NotYet epoch) bytes k (answer.Part epoch bytes) 0 (epoch_number epoch) its, (λ y. has_given version (more.NotYet epoch) bytes k (answer.Part epoch bytes) 0 refl y (λ z. some) (λ z. absurd z)))
+        (shows_one r.setting.anchors (view p) (view q) served l url refl (epoch_number epoch) refl (found_turn version (more.NotYet epoch) bytes k (epoch_number epoch)
+        (waits_turn tells state offers s whole_tab k.went.middle k.read k.went.standing k.went.before k.went.after epoch on_it.reads w))) (
+          stage,
+          of_opened version (more.NotYet epoch) bytes k (answer.Part epoch bytes) 0 (epoch_number epoch) its,
+          (λ y. has_given version (more.NotYet epoch) bytes k (answer.Part epoch bytes) 0 refl y (λ z. some) (λ z. absurd z) (λ z. (
+            some,
+            new version (more.NotYet epoch) bytes k high,
+            waits_more tells state offers s whole_tab k.went.middle k.read k.went.standing k.went.before k.went.after epoch on_it.reads w high,
+          ))),
+        )
         (λ y e gave z. subst (λ (x : Epoch). HasPart r (view p) (view q) served l (epoch_number x)) (same_part epoch e bytes gave z)
         (has_part version (more.NotYet epoch) bytes k (answer.Part epoch bytes) 0 refl y (epoch_number epoch) (λ x. some) (λ x. x) its ((parted_keeps version (more.NotYet epoch) bytes k).seen _ w.fresh.seen) some (new version (more.NotYet epoch) bytes k high)
         (waits_more tells state offers s whole_tab k.went.middle k.read k.went.standing k.went.before k.went.after epoch on_it.reads w high)
@@ -254,8 +262,8 @@ module _ {C O : Type 0} (tells : Bool) (state : C → CellState) (offers : O →
         let comes = sym (same version more.End bytes k) in
         subst (λ (z : Answer). AddsLine tells state offers s told past served line p z q) (sym is)
         (add_it version more.End bytes k (answer.Hit version bytes) 0
-        (shows_one r.setting.anchors (view p) (view q) served l url refl (epoch_number k.opens.epoch) refl (opened_fresh version more.End bytes k))
-        (λ y. (has_hit version more.End bytes k (answer.Hit version bytes) 0 comes y w.some w.all, has_given version more.End bytes k (answer.Hit version bytes) 0 refl y (λ z. w.some) (λ z. (w.some, w.all))))
+        (shows_one r.setting.anchors (view p) (view q) served l url refl (epoch_number k.opens.epoch) refl (opened_turn version more.End bytes k))
+        (λ y. (has_hit version more.End bytes k (answer.Hit version bytes) 0 comes y w.some w.all, has_given version more.End bytes k (answer.Hit version bytes) 0 refl y (λ z. w.some) (λ z. (w.some, w.all)) (λ z. absurd z)))
         (λ y e gave z. absurd (let x : answer.Hit version bytes ≡ answer.Part e gave = z in cc)) tt comes (λ z. cc))
     by_ending version more.Halted bytes a k is =
         let w = k.went.ends in
@@ -263,10 +271,11 @@ module _ {C O : Type 0} (tells : Bool) (state : C → CellState) (offers : O →
         let some = waits_some tells state offers s whole_tab k.went.middle k.read k.went.standing k.went.before k.went.after w.epoch (so version more.Halted bytes k).reads w.waits in
         subst (λ (z : Answer). AddsLine tells state offers s told past served line p z q) (sym is)
         (add_it version more.Halted bytes k (answer.Halted bytes) (epoch_number w.epoch)
-        (shows_one r.setting.anchors (view p) (view q) served l url refl (epoch_number w.epoch) refl (found_fresh version more.Halted bytes k (epoch_number w.epoch) w.waits.fresh)) (
+        (shows_one r.setting.anchors (view p) (view q) served l url refl (epoch_number w.epoch) refl (found_turn version more.Halted bytes k (epoch_number w.epoch)
+        (waits_turn tells state offers s whole_tab k.went.middle k.read k.went.standing k.went.before k.went.after w.epoch (so version more.Halted bytes k).reads w.waits))) (
           at_stage w.epoch Stage.Halted w.halted,
           of_opened version more.Halted bytes k (answer.Halted bytes) (epoch_number w.epoch) (epoch_number w.epoch) (version_of-epoch_number w.epoch ∙ w.waits.version_is),
-          (λ y. has_given version more.Halted bytes k (answer.Halted bytes) (epoch_number w.epoch) refl y (λ z. some) (λ z. absurd z)),
+          (λ y. has_given version more.Halted bytes k (answer.Halted bytes) (epoch_number w.epoch) refl y (λ z. some) (λ z. absurd z) (λ z. absurd z)),
         )
         (λ y e gave z. absurd (let x : answer.Halted bytes ≡ answer.Part e gave = z in cc)) tt tt (λ z. cc))
     by_ending version more.OtherUrl bytes a k is =
@@ -279,7 +288,7 @@ module _ {C O : Type 0} (tells : Bool) (state : C → CellState) (offers : O →
         let l = served_as line (answer.ReadFault bytes) None (epoch_number k.opens.epoch) 0 in
         subst (λ (z : Answer). AddsLine tells state offers s told past served line p z q) (sym is)
         (add_it version more.Fault bytes k (answer.ReadFault bytes) 0 (shows_none r.setting.anchors (view p) (view q) served l refl)
-        (λ y. has_given version more.Fault bytes k (answer.ReadFault bytes) 0 refl y (λ z. absurd z) (λ z. absurd z))
+        (λ y. has_given version more.Fault bytes k (answer.ReadFault bytes) 0 refl y (λ z. absurd z) (λ z. absurd z) (λ z. absurd z))
         (λ y e gave z. absurd (let x : answer.ReadFault bytes ≡ answer.Part e gave = z in cc)) tt tt (λ z. cc))
 
     by_got : (got : Got) (bytes : List ℕ) (a : Answer) → IsTyped a → AnswersGet got bytes a → GotAs tells state offers s whole_tab url p q bytes got → AddsLine tells state offers s told past served line p a q

@@ -13,7 +13,7 @@ use Rattle.core_model.specs.declared.moves.Side.TheVariants.{Offer}
 use Rattle.core_model.specs.declared.view.Place.TheVariants.{Beside}
 use Rattle.core_model.specs.declared.view.Sight.TheVariants.{Named, Published, Stood}
 use Rattle.core_model.specs.declared.view.View.{View}
-use Rattle.line_account.specs.Answers.{HasGiven, HasPart, IsEntryAt, IsSure, IsWhole, Run, bytes_with}
+use Rattle.line_account.specs.Answers.{IsPart, HasGiven, HasPart, IsEntryAt, IsSure, IsWhole, Run, bytes_with}
 use Rattle.script_text.specs.Requests.{url_in}
 use Rattle.line_account.specs.Lines.{Served, opened_by}
 use Rattle.store_rule.specs.declared.store.Pass.{Pass}
@@ -24,10 +24,14 @@ use Rattle.rock_reader.specs.Reading.{ReadsAs, Standing}
 use Rattle.rock_reader.specs.Responses.{IsResponse, body_at, body_below, pieces_of}
 use Rattle.store_serve.specs.Following.{Given, Gives}
 use Rattle.crew_accounts.specs.Runs.{IsTold, Past, run_of}
-use Rattle.crew_accounts.proofs.BodyLengths.{few_below, full_below}
+use Rattle.crew_accounts.proofs.BodyLengths.{few_below, full_below, short_below}
 use Rattle.crew_accounts.proofs.OpenedLengths.{few_opened}
 use Rattle.crew_accounts.proofs.ReadingOn.{gives_on}
 use Rattle.crew_accounts.proofs.Running.{new_body, new_url}
+
+-- the tab was given some slots of what a line offers, and not all
+abbrev pub IsGrowing : Ground (List ℕ) → Standing → Type 0
+IsGrowing g f = (0 < f.place) × (g.setting.slots ≤ f.offer) × (f.place < count (cut_of g f.offer 0 0))
 
 -- what the law of the reader says of bodies
 pub record IsFromFront : Type 0 where
@@ -121,6 +125,16 @@ module _ {C O : Type 0} (tells : Bool) (state : C → CellState) (offers : O →
         let e = ap length its.url_is in
         all ∙ ap (λ (n : ℕ). f.place * room_of g.slot - (32 + n)) e
 
+    -- and fewer than the body has
+    fewer : IsGrowing g f → length (body_below g f.anchor f.offer f.place) < length (r.body f.offer)
+    fewer grows =
+        let k = known grows.0 in
+        let its = k.response.new grows.1 in
+        let short = short_below g f.anchor f.offer f.url k.body so.small grows.1 its f.place grows.0 grows.2 in
+        let e = ap length its.body_is in
+        let b = ap length k.body_is in
+        omega arith
+
     module _ (from : IsFromFront) where
       first_of : Known f → body_below g f.anchor f.offer f.place ≡ take (length (body_below g f.anchor f.offer f.place)) (r.body f.offer)
       first_of k = let rest = from.front g f.anchor f.offer f.place f.url k.body so.small k.response h.inside in
@@ -141,8 +155,8 @@ module _ {C O : Type 0} (tells : Bool) (state : C → CellState) (offers : O →
       -- So a line that was given these bytes in all has given what the account asks.
       pub given_of : (w : View (List ℕ)) (served : List Served) (l first : Served) → opened_by served l ≡ Some first → url_in first.line.request ≡ Some f.url → f.anchor ≡ anchor_for g f.url → version_of first.opened ≡ f.version
           → (entry : IsEntryAt r w f.anchor first.opened f.url) → entry.offer ≡ f.offer → bytes_with served l ≡ body_below g f.anchor f.offer f.place → (0 < f.place → Contains w.seen (Published f.anchor f.version f.place))
-          → (IsSure l.answer → 0 < f.place) → (IsWhole l.answer → (0 < f.place) × (f.place ≡ pieces_of g f.anchor f.offer)) → HasGiven r w served l
-      given_of w served l first opened named anchor version entry offer gave shown sure whole = record {
+          → (IsSure l.answer → 0 < f.place) → (IsWhole l.answer → (0 < f.place) × (f.place ≡ pieces_of g f.anchor f.offer)) → (IsPart l.answer → IsGrowing g f) → HasGiven r w served l
+      given_of w served l first opened named anchor version entry offer gave shown sure whole part = record {
         first = first;
         opened_is = opened;
         url = f.url;
@@ -154,6 +168,7 @@ module _ {C O : Type 0} (tells : Bool) (state : C → CellState) (offers : O →
         url_is = λ some. ap r.url same_offer ∙ (known some).url_is;
         first_ones = gave ∙ first_ones ∙ (λ i. take (length (sym gave i)) (r.body (sym same_offer i)));
         whole = λ z. let all = whole z in gave ∙ all_of_it all.0 all.1 ∙ ap r.body (sym same_offer);
+        fewer = λ z. let few = fewer (part z) in let n = ap length gave in let o = ap (λ (k : ℕ). length (r.body k)) same_offer in omega arith;
         published = λ some. subst (λ (a : ℕ). Contains w.seen (Published a (version_of first.opened) f.place)) anchor (subst (λ (x : ℕ). Contains w.seen (Published f.anchor x f.place)) (sym version) (shown some));
       }
         where
@@ -170,7 +185,7 @@ module _ {C O : Type 0} (tells : Bool) (state : C → CellState) (offers : O →
           → Contains w.seen (Stood f.anchor e) → 0 < f.place → g.setting.slots ≤ f.offer → f.place < count (cut_of g f.offer 0 0) → ((n : ℕ) → Contains v.seen (Published f.anchor f.version n) → n ≤ f.place) → HasPart r v w served l e
       unfolding given_of
       part_of w served l first opened named anchor version entry offer gave shown sure whole v e same seen some high more least = record {
-        given = given_of w served l first opened named anchor version entry offer gave shown sure whole;
+        given = given_of w served l first opened named anchor version entry offer gave shown sure whole (λ z. (some, high, more));
         version = same ∙ sym version;
         seen = subst (λ (a : ℕ). Contains w.seen (Stood a e)) anchor seen;
         all = ap length gave ∙ full some high more;

@@ -66,7 +66,7 @@ module _ {X : Type 0} (g : Ground X) (t : ℕ) (n : Naming) where
       }
 
   -- the tab writes the entry still while a slot is sought and written
-  slot_entry : (hand : ℕ) (v : View X) (slot : ℕ) (w : View X) (after : ℕ) → HasEntry t n v → SlotFor g t hand v slot w after → HasEntry t n w
+  pub slot_entry : (hand : ℕ) (v : View X) (slot : ℕ) (w : View X) (after : ℕ) → HasEntry t n v → SlotFor g t hand v slot w after → HasEntry t n w
   slot_entry hand v slot w after h (inl k) = same_view h k.same
   slot_entry hand v slot w after h (inr k) = reserved_tab slot h k.reserved.tabs
 

@@ -17,7 +17,7 @@ use Rattle.core_model.specs.Anchors.{opening_counter}
 use Rattle.core_model.specs.declared.view.Sight.TheVariants.{Published, Stood}
 use Rattle.script_text.specs.declared.request.Request.TheVariants.{More as MoreOf}
 use Rattle.line_account.specs.Accounts.{epochs_of}
-use Rattle.line_account.specs.Answers.{ComesIn, HasGiven, HasOther, HasPart, IsOfOpened, IsSure, IsWhole, Run}
+use Rattle.line_account.specs.Answers.{IsPart, ComesIn, HasGiven, HasOther, HasPart, IsOfOpened, IsSure, IsWhole, Run}
 use Rattle.core_model.specs.Knowing.{KnowsAll}
 use Rattle.line_account.specs.Deeds.{Began}
 use Rattle.line_account.specs.Lines.{Served, bytes_given, bytes_in, reading, url_named}
@@ -26,7 +26,6 @@ use Rattle.store_rule.specs.declared.store.Pass.{Pass}
 use Rattle.store_rule.specs.declared.store.Store.{Store}
 use Rattle.store_rule.specs.Ground.{Ground, Offers, anchor_for, cut_of}
 use Rattle.store_rule.specs.Passes.{basis, view}
-use Rattle.store_rule.specs.Calls.{IsFresh}
 use Rattle.rock_reader.specs.Reading.{ReadsAs, Standing, StaysOther, TurnsOut, turned}
 use Rattle.rock_reader.specs.Responses.{body_below, pieces_of}
 use Rattle.rock_reader.specs.declared.answer.More.{More}
@@ -45,14 +44,15 @@ use Rattle.crew_accounts.specs.Runs.{IsTold, Past, run_of}
 use Rattle.crew_accounts.specs.Tracks.{IsOtherUrl, IsReader, Tracks}
 use Rattle.crew_accounts.proofs.CallDeeds.{adds_by}
 use Rattle.crew_accounts.proofs.Fitting.{on_reader, reader_fits}
-use Rattle.crew_accounts.proofs.GivenBytes.{IsFromFront, given_of, gives_bytes, part_of}
+use Rattle.crew_accounts.proofs.GivenBytes.{IsGrowing, IsFromFront, given_of, gives_bytes, part_of}
 use Rattle.crew_accounts.proofs.OtherUrls.{entry_key, other_on, other_url}
 use Rattle.crew_accounts.proofs.ReadingOn.{HasSeen, IsSameEntry, ReadOn, gives_on, tried_seen}
-use Rattle.crew_accounts.proofs.Shown.{ShowsFresh, fresh_from, shows_none, shows_one}
+use Rattle.crew_accounts.proofs.Shown.{IsInTurn, ShowsInTurn, shows_none, shows_one, turn_from}
 use Rattle.crew_accounts.proofs.TabLines.{elsewhere}
 use Rattle.crew_accounts.proofs.Telling.{ToTell, plain, tells_by}
 use Rattle.crew_accounts.proofs.Tracking.{entry_moved, entry_on, tracks_on_tab}
 use Rattle.crew_accounts.proofs.TurningAway.{away_adds}
+use Rattle.crew_accounts.proofs.Turns.{waits_turn}
 use Rattle.crew_accounts.proofs.Waiting.{grown_version}
 use Rattle.crew_accounts.proofs.WaitsAt.{waits_more, waits_some}
 
@@ -143,7 +143,7 @@ module _ {C O : Type 0} (tells : Bool) (state : C → CellState) (offers : O →
         }
 
     -- the line adds what it should, whatever it tells
-    add_it : (a : Answer) (looked : ℕ) → ShowsFresh r.setting.anchors (view p) (view q) served (served_as line a None 0 looked) → IsReader tells state offers s told past (served_as line a None 0 looked ∷ served) q t
+    add_it : (a : Answer) (looked : ℕ) → ShowsInTurn r.setting.anchors (view p) (view q) served (served_as line a None 0 looked) → IsReader tells state offers s told past (served_as line a None 0 looked ∷ served) q t
         → ToTell r (view q) served (served_as line a None 0 looked) a
         → (IsTrue r.tells → (e : Epoch) (bytes : List ℕ) → a ≡ answer.Part e bytes → HasPart r (view p) (view q) served (served_as line a None 0 looked) (epoch_number e))
         → IsAnswerTo (MoreOf t) a → ((x : ℕ) → Began (MoreOf t) a x → ⊥) → ((x : ℕ) → ComesIn (MoreOf t) a x → ⊥) → (a ≡ answer.Tab → ⊥) → AddsLine tells state offers s told past served line p a q
@@ -153,21 +153,21 @@ module _ {C O : Type 0} (tells : Bool) (state : C → CellState) (offers : O →
           drew = None;
           opened = 0;
           looked = looked;
-          adds = adds_by r (view p) (view q) served l refl NoDeed (serving.went_on tells state offers s t went) (λ d z. absurd z) (λ b e z. (shows b e z).above)
+          adds = adds_by r (view p) (view q) served l refl NoDeed (serving.went_on tells state offers s t went) (λ d z. absurd z) shows
               (tells_by r (view q) served l to
               (plain r (view q) served l (λ b e z. (shows b e z).seen) may refl none_begun none_opened (λ u body z. z) (reader_fits tells state offers s told past served p t a q h) no_tab))
               parts;
           tracks = tracks_on_tab tells state offers s told past served p q t l below leaves (λ j ne. elsewhere (MoreOf t) a j ne) (inr (inr reader)) tracks;
         }
 
-    -- an epoch that was found behind the pieces is fresh for the line
-    found_fresh : (e : ℕ) → IsFresh went.standing.anchor e (view went.middle) (view q) → IsFresh (anchor_for g h.standing.url) e (view p) (view q)
-    found_fresh e fresh = subst (λ (b : ℕ). IsFresh b e (view p) (view q)) (so.entry.anchor ∙ h.anchor) (fresh_from so.keeps fresh)
+    -- an epoch that was found behind the pieces is in turn for the line
+    found_turn : (e : ℕ) → IsInTurn went.standing.anchor e (view went.middle) (view q) → IsInTurn (anchor_for g h.standing.url) e (view p) (view q)
+    found_turn e turn = subst (λ (b : ℕ). IsInTurn b e (view p) (view q)) (so.entry.anchor ∙ h.anchor) (turn_from so.keeps turn)
 
     at_url : url_named (reading t served) ≡ Some h.standing.url
     at_url = ap url_named h.reads ∙ h.named
 
-    no_epoch : (a : Answer) → epochs_of 0 0 a ≡ [] → ShowsFresh r.setting.anchors (view p) (view q) served (served_as line a None 0 0)
+    no_epoch : (a : Answer) → epochs_of 0 0 a ≡ [] → ShowsInTurn r.setting.anchors (view p) (view q) served (served_as line a None 0 0)
     no_epoch a none = shows_none r.setting.anchors (view p) (view q) served (served_as line a None 0 0) none
 
     -- what was found of the standing's version is of the one that the line reads
@@ -198,12 +198,12 @@ module _ {C O : Type 0} (tells : Bool) (state : C → CellState) (offers : O →
 
       -- and the line has given what it should
       has_given : (reads : ReadsAs tells state offers s q t went.standing) → IsTrue told → (IsSure a → 0 < went.standing.place) → (IsWhole a → (0 < went.standing.place) × (went.standing.place ≡ pieces_of g went.standing.anchor went.standing.offer))
-          → HasGiven r (view q) served (served_as line a None 0 looked)
-      has_given reads y sure whole =
+          → (IsPart a → IsGrowing g went.standing) → HasGiven r (view q) served (served_as line a None 0 looked)
+      has_given reads y sure whole part =
           let reader = stays_reader reads in
           given_of tells state offers s told past (told_so y) y t q went.standing reads was reader.new
           (λ low. sym reader.offer ∙ reader.entry.old (let v = reader.version in omega arith)) from (view q) served (served_as line a None 0 looked) h.first h.reads reader.named reader.anchor reader.version reader.entry reader.offer
-          (all_bytes y mine a looked is) reader.shown sure whole
+          (all_bytes y mine a looked is) reader.shown sure whole part
 
       has_part : (reads : ReadsAs tells state offers s q t went.standing) → IsTrue told → (e : ℕ) → (IsSure a → 0 < went.standing.place) → (IsWhole a → ⊥) → version_of e ≡ went.standing.version → Contains (view q).seen (Stood went.standing.anchor e)
           → 0 < went.standing.place → g.setting.slots ≤ went.standing.offer → went.standing.place < count (cut_of g went.standing.offer 0 0)
@@ -265,9 +265,17 @@ module _ {C O : Type 0} (tells : Bool) (state : C → CellState) (offers : O →
       let reader = stays_reader tracks leaves h (more.NotYet epoch) bytes went (answer.Part epoch bytes) 0 refl k.waits.was k.waits.stays in
       subst (λ (z : Answer). AddsLine tells state offers s told past served line p z q) (sym is)
       (add_it tracks leaves h (more.NotYet epoch) bytes went (answer.Part epoch bytes) 0
-      (shows_one r.setting.anchors (view p) (view q) served l h.standing.url (at_url tracks leaves h (more.NotYet epoch) bytes went) (epoch_number epoch) refl (found_fresh tracks leaves h (more.NotYet epoch) bytes went (epoch_number epoch) k.waits.fresh))
-      reader
-      (stage, of_opened tracks leaves h (more.NotYet epoch) bytes went (answer.Part epoch bytes) 0 (epoch_number epoch) version, (λ y. has_given tracks leaves h (more.NotYet epoch) bytes went (answer.Part epoch bytes) 0 refl k.waits.was k.waits.stays y (λ z. some) (λ z. absurd z)))
+      (shows_one r.setting.anchors (view p) (view q) served l h.standing.url (at_url tracks leaves h (more.NotYet epoch) bytes went) (epoch_number epoch) refl (found_turn tracks leaves h (more.NotYet epoch) bytes went (epoch_number epoch)
+      (waits_turn tells state offers s t went.middle q went.standing went.before went.after epoch (so tracks leaves h (more.NotYet epoch) bytes went).reads k.waits)))
+      reader (
+        stage,
+        of_opened tracks leaves h (more.NotYet epoch) bytes went (answer.Part epoch bytes) 0 (epoch_number epoch) version,
+        (λ y. has_given tracks leaves h (more.NotYet epoch) bytes went (answer.Part epoch bytes) 0 refl k.waits.was k.waits.stays y (λ z. some) (λ z. absurd z) (λ z. (
+          some,
+          reader.new high,
+          waits_more tells state offers s t went.middle q went.standing went.before went.after epoch (so tracks leaves h (more.NotYet epoch) bytes went).reads k.waits high,
+        ))),
+      )
       (λ y e gave z. part_at e gave z (has_part tracks leaves h (more.NotYet epoch) bytes went (answer.Part epoch bytes) 0 refl k.waits.was k.waits.stays y (epoch_number epoch) (λ x. some) (λ x. x) version k.waits.fresh.seen some (reader.new high)
       (waits_more tells state offers s t went.middle q went.standing went.before went.after epoch (so tracks leaves h (more.NotYet epoch) bytes went).reads k.waits high) (λ n c. k.waits.published n (leaves.keeps.seen _ c))))
       tt (λ x z. z) (λ x z. z) (λ z. cc))
@@ -280,7 +288,7 @@ module _ {C O : Type 0} (tells : Bool) (state : C → CellState) (offers : O →
       subst (λ (z : Answer). AddsLine tells state offers s told past served line p z q) (sym is)
       (add_it tracks leaves h more.End bytes went (answer.End bytes) 0 (no_epoch tracks leaves h more.End bytes went (answer.End bytes) refl)
       (stays_reader tracks leaves h more.End bytes went (answer.End bytes) 0 refl k.was reads)
-      (λ y. has_given tracks leaves h more.End bytes went (answer.End bytes) 0 refl k.was reads y (λ z. k.some) (λ z. (k.some, k.all)))
+      (λ y. has_given tracks leaves h more.End bytes went (answer.End bytes) 0 refl k.was reads y (λ z. k.some) (λ z. (k.some, k.all)) (λ z. absurd z))
       (λ y e gave z. absurd (let w : answer.End bytes ≡ answer.Part e gave = z in cc)) tt (λ x z. z) (λ x z. z) (λ z. cc))
   more_read tracks leaves h more.Halted bytes went a is =
       let k = went.ends in
@@ -288,11 +296,12 @@ module _ {C O : Type 0} (tells : Bool) (state : C → CellState) (offers : O →
       let some = waits_some tells state offers s t went.middle q went.standing went.before went.after k.epoch (so tracks leaves h more.Halted bytes went).reads k.waits in
       subst (λ (z : Answer). AddsLine tells state offers s told past served line p z q) (sym is)
       (add_it tracks leaves h more.Halted bytes went (answer.Halted bytes) (epoch_number k.epoch)
-      (shows_one r.setting.anchors (view p) (view q) served l h.standing.url (at_url tracks leaves h more.Halted bytes went) (epoch_number k.epoch) refl (found_fresh tracks leaves h more.Halted bytes went (epoch_number k.epoch) k.waits.fresh))
+      (shows_one r.setting.anchors (view p) (view q) served l h.standing.url (at_url tracks leaves h more.Halted bytes went) (epoch_number k.epoch) refl (found_turn tracks leaves h more.Halted bytes went (epoch_number k.epoch)
+      (waits_turn tells state offers s t went.middle q went.standing went.before went.after k.epoch (so tracks leaves h more.Halted bytes went).reads k.waits)))
       (stays_reader tracks leaves h more.Halted bytes went (answer.Halted bytes) (epoch_number k.epoch) refl k.waits.was k.waits.stays) (
         at_stage k.epoch Stage.Halted k.halted,
         of_opened tracks leaves h more.Halted bytes went (answer.Halted bytes) (epoch_number k.epoch) (epoch_number k.epoch) (version_of-epoch_number k.epoch ∙ k.waits.version_is),
-        (λ y. has_given tracks leaves h more.Halted bytes went (answer.Halted bytes) (epoch_number k.epoch) refl k.waits.was k.waits.stays y (λ z. some) (λ z. absurd z)),
+        (λ y. has_given tracks leaves h more.Halted bytes went (answer.Halted bytes) (epoch_number k.epoch) refl k.waits.was k.waits.stays y (λ z. some) (λ z. absurd z) (λ z. absurd z)),
       )
       (λ y e gave z. absurd (let w : answer.Halted bytes ≡ answer.Part e gave = z in cc)) tt (λ x z. z) (λ x z. z) (λ z. cc))
   more_read tracks leaves h more.OtherUrl bytes went a is =
@@ -305,7 +314,7 @@ module _ {C O : Type 0} (tells : Bool) (state : C → CellState) (offers : O →
       subst (λ (z : Answer). AddsLine tells state offers s told past served line p z q) (sym is)
       (add_it tracks leaves h more.Fault bytes went (answer.ReadFault bytes) 0 (no_epoch tracks leaves h more.Fault bytes went (answer.ReadFault bytes) refl)
       (stays_reader tracks leaves h more.Fault bytes went (answer.ReadFault bytes) 0 refl went.ends.was went.ends.stays)
-      (λ y. has_given tracks leaves h more.Fault bytes went (answer.ReadFault bytes) 0 refl went.ends.was went.ends.stays y (λ z. absurd z) (λ z. absurd z))
+      (λ y. has_given tracks leaves h more.Fault bytes went (answer.ReadFault bytes) 0 refl went.ends.was went.ends.stays y (λ z. absurd z) (λ z. absurd z) (λ z. absurd z))
       (λ y e gave z. absurd (let w : answer.ReadFault bytes ≡ answer.Part e gave = z in cc)) tt (λ x z. z) (λ x z. z) (λ z. cc))
 
   pub more_adds : (a : Answer) → Tracks tells state offers s told past served p → Leaves tells state offers s t p q → ReadsMore tells state offers s t p a q → AddsLine tells state offers s told past served line p a q

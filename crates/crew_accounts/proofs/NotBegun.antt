@@ -38,6 +38,7 @@ use Rattle.crew_accounts.proofs.Readers.{readers_few}
 use Rattle.crew_accounts.proofs.Shown.{anchor_at, shows_none, shows_two}
 use Rattle.crew_accounts.proofs.TabLines.{IsMute}
 use Rattle.crew_accounts.proofs.Telling.{tells_by}
+use Rattle.crew_accounts.proofs.Turns.{found_turn, looked_turn}
 
 pub refusals_are_mute : (fault : BeginFault) → IsMute (answer_to_refusal fault)
 refusals_are_mute LongUrl = record { begun = refl; refused = refl; finished = refl; dropped = refl; opened = refl; closed = refl; bytes = refl; count = refl }
@@ -63,7 +64,7 @@ module _ {C O : Type 0} (tells : Bool) (state : C → CellState) (offers : O →
         let none = shows_none r.setting.anchors (view p) (view q) served l refl in
         record {
           drew = None;
-          adds = adds_by r (view p) (view q) served l refl NoDeed (not_taken g t (anchor_for g url) (view p) LongUrl (view q) same) (λ d h. absurd h) (λ b e k. (none b e k).above)
+          adds = adds_by r (view p) (view q) served l refl NoDeed (not_taken g t (anchor_for g url) (view p) LongUrl (view q) same) (λ d h. absurd h) none
               (tells_by r (view q) served l (record { url = url; named = is.named; long = long.0 refl; drew = refl })
               (offering tells state offers s told past served (view q) l url body is body_is long (λ b e k. (none b e k).seen) is.long (λ x k. absurd (is.not_long x k)) fits (λ z. cc)))
               (λ y e bytes z. absurd (let k : answer.LongUrl ≡ answer.Part e bytes = z in cc));
@@ -78,12 +79,13 @@ module _ {C O : Type 0} (tells : Bool) (state : C → CellState) (offers : O →
           → AreFresh g t (anchor_for g url) (view p) looked found (view q) → AddsSome (answer.Busy looked found)
       busy_with drew acted how fresh =
           let l = served_as line (answer.Busy looked found) drew 0 0 in
-          let shows = shows_two r.setting.anchors (view p) (view q) served l url (is.at served) (epoch_number looked.epoch) (epoch_number found.epoch) refl fresh.looked_is fresh.found_is in
+          let shows = shows_two r.setting.anchors (view p) (view q) served l url (is.at served) (epoch_number looked.epoch) (epoch_number found.epoch) refl
+          (looked_turn g t (anchor_for g url) (view p) looked found (view q) small low how fresh) (found_turn g t (anchor_for g url) (view p) looked found (view q) small low how fresh) in
           let few = readers_few tells state offers s told past served p tracks (anchor_for g url) in
           record {
             drew = drew;
             adds = adds_drawing r (view p) (view q) served l (λ b x k. absurd (is.not_busy looked found x (told_began line.request (answer.Busy looked found) x k.told)))
-                NoDeed acted (λ d h. absurd h) (λ b e k. (shows b e k).above)
+                NoDeed acted (λ d h. absurd h) shows
                 (tells_by r (view q) served l
                 (record {
                   cause = held how;
@@ -108,7 +110,7 @@ module _ {C O : Type 0} (tells : Bool) (state : C → CellState) (offers : O →
           record {
             drew = drew;
             adds = adds_drawing r (view p) (view q) served l (λ b x k. absurd (is.not_spent versions x (told_began line.request (answer.Spent versions) x k.told)))
-                NoDeed acted (λ d h. absurd h) (λ b e k. (none b e k).above)
+                NoDeed acted (λ d h. absurd h) none
                 (tells_by r (view q) served l so
                 (offering tells state offers s told past served (view q) l url body is body_is long (λ b e k. (none b e k).seen) (is.spent versions) (λ x k. absurd (is.not_spent versions x k)) fits (λ z. cc)))
                 (λ y e bytes z. absurd (let k : answer.Spent versions ≡ answer.Part e bytes = z in cc));

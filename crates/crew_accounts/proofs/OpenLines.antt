@@ -39,6 +39,7 @@ use Rattle.crew_accounts.proofs.TabLines.{IsMute, elsewhere, mute, none_given, n
 use Rattle.crew_accounts.proofs.Telling.{plain, tells_by}
 use Rattle.crew_accounts.proofs.Tracking.{tracks_on_tab}
 use Rattle.crew_accounts.proofs.TurningAway.{away_adds}
+use Rattle.crew_accounts.proofs.Turns.{came_turn}
 
 miss_is_mute : (c : Cause) → IsMute (answer.Miss c)
 miss_is_mute c = record { begun = refl; refused = refl; finished = refl; dropped = refl; opened = refl; closed = refl; bytes = refl; count = refl }
@@ -57,7 +58,7 @@ module _ {C O : Type 0} (tells : Bool) (state : C → CellState) (offers : O →
     was_opened : (version : ℕ) → OpenedEntry g t url (view p) version (view q) → (offer : ℕ) × ReadsAs tells state offers s q t (newly (anchor_for g url) version offer url) → AddsLine tells state offers s told past served line p (answer.Opened version) q
     was_opened version k reads =
         let l = served_as line (answer.Opened version) None (epoch_number k.epoch) 0 in
-        let shows = shows_one r.setting.anchors (view p) (view q) served l url refl (epoch_number k.epoch) refl k.came.fresh in
+        let shows = shows_one r.setting.anchors (view p) (view q) served l url refl (epoch_number k.epoch) refl (came_turn g k.came) in
         let same = version_is g told past t url (view p) (view q) version k in
         let entry = opened_entry g told past t url (view p) (view q) version k in
         let agrees : k.accepted.offer ≡ reads.0 = one_offer g (view q) reads.1.own.stands (anchor_for g url) version k.accepted.offer reads.0 (subst (λ (n : ℕ). Contains (view q).seen (Named (anchor_for g url) n Offer k.accepted.offer)) same entry.offered) reads.1.offer_seen in
@@ -68,7 +69,7 @@ module _ {C O : Type 0} (tells : Bool) (state : C → CellState) (offers : O →
           looked = 0;
           adds = adds_by r (view p) (view q) served l refl (Enters (anchor_for g url)) (reader.opened g t k)
               (λ d z. of_visiting r (view q) served l d (anchor_for g url) (record { url = url; comes = refl; anchor = refl }) (inl z))
-              (λ b e z. (shows b e z).above)
+              shows
               (tells_by r (view q) served l tt (record {
                 shown = λ b e z. (shows b e z).seen;
                 answers = tt;
@@ -104,7 +105,7 @@ module _ {C O : Type 0} (tells : Bool) (state : C → CellState) (offers : O →
     was_refused c fit free k =
         let l = served_as line (answer.Miss c) None 0 0 in
         let refusal = refused g told past served l url refl refl (view p) (view q) c t fit k in
-        let shows = shows_one r.setting.anchors (view p) (view q) served l url refl (epoch_number (epoch_in c)) refl refusal.fresh in
+        let shows = shows_one r.setting.anchors (view p) (view q) served l url refl (epoch_number (epoch_in c)) refl refusal.turn in
         let alone = mute (OpenTab t url) (answer.Miss c) t (miss_is_mute c) in
         record {
           drew = None;
@@ -112,7 +113,7 @@ module _ {C O : Type 0} (tells : Bool) (state : C → CellState) (offers : O →
           looked = 0;
           adds = adds_by r (view p) (view q) served l refl (OfVisiting (anchor_for g url)) (reader.refused g t url (view p) c (view q) k)
               (λ d. of_visiting r (view q) served l d (anchor_for g url) (record { url = url; comes = refl; anchor = refl }))
-              (λ b e z. (shows b e z).above)
+              shows
               (tells_by r (view q) served l refusal.cause
               (plain r (view q) served l (λ b e z. (shows b e z).seen) tt refl (λ x z. z) (λ x z. z) (λ u body z. z) (h.writes, h.reads) (λ z. cc)))
               (λ y e bytes z. absurd (let d : answer.Miss c ≡ answer.Part e bytes = z in cc));

@@ -35,10 +35,11 @@ use Rattle.crew_accounts.specs.Tracks.{Tracks}
 use Rattle.crew_accounts.proofs.CallDeeds.{adds_by, of_purging, of_visiting}
 use Rattle.crew_accounts.proofs.Coming as coming
 use Rattle.crew_accounts.proofs.Dooming.{has_purged}
-use Rattle.crew_accounts.proofs.Shown.{shows_one}
+use Rattle.crew_accounts.proofs.Shown.{shows_one, shows_two}
 use Rattle.crew_accounts.proofs.TabLines.{purge_alone}
 use Rattle.crew_accounts.proofs.Telling.{plain, tells_by}
 use Rattle.crew_accounts.proofs.Tracking.{tracks_whole}
+use Rattle.crew_accounts.proofs.Turns.{came_turn, doomed_turn}
 
 module _ {C O : Type 0} (tells : Bool) (state : C → CellState) (offers : O → Offers) (s : Store C O) (told : Bool) (past : Past) (served : List Served) (worker number : ℕ) (url : List ℕ) (p : Pass C) (q : Pass C) where
   abbrev g : Ground (List ℕ)
@@ -53,18 +54,18 @@ module _ {C O : Type 0} (tells : Bool) (state : C → CellState) (offers : O →
   module _ (tracks : Tracks tells state offers s told past served p) (leaves : Leaves tells state offers s whole_tab p q) (free : IsFree q whole_tab) where
     purged : (left : Epoch) → Purged g inner url (view p) left (view q) → AddsLine tells state offers s told past served line p (answer.Purged left) q
     purged left h =
-        let l = served_as line (answer.Purged left) None 0 0 in
-        let shows = shows_one r.setting.anchors (view p) (view q) served l url refl (epoch_number left) refl h.fresh in
+        let l = served_as line (answer.Purged left) None (epoch_number h.epoch) 0 in
+        let shows = shows_two r.setting.anchors (view p) (view q) served l url refl (epoch_number h.epoch) (epoch_number left) refl (came_turn g h.came) (doomed_turn g h) in
         record {
           drew = None;
-          opened = 0;
+          opened = epoch_number h.epoch;
           looked = 0;
           adds = adds_by r (view p) (view q) served l refl (OfPurging (anchor_for g url) (epoch_number left))
               (purges.purged g inner h)
               (λ d. of_purging r (view q) served l d (anchor_for g url) (epoch_number left) (record { url = url; comes = refl; anchor = refl })
               (record { url = url; request = refl; anchor = refl; epoch = left; answered = refl; epoch_is = refl }))
-              (λ b e k. (shows b e k).above)
-              (tells_by r (view q) served l (has_purged g told past url (view p) (view q) inner left h l refl)
+              shows
+              (tells_by r (view q) served l (has_purged g told past url (view p) (view q) inner left h l refl refl)
               (plain r (view q) served l (λ b e k. (shows b e k).seen) tt refl (λ x k. k) (λ x k. k) (λ u body k. k) tt (λ z. cc)))
               (λ y e bytes z. absurd (let k : answer.Purged left ≡ answer.Part e bytes = z in cc));
           tracks = tracks_whole tells state offers s told past served p q l leaves free (purge_alone url (answer.Purged left)) tracks;
@@ -74,7 +75,7 @@ module _ {C O : Type 0} (tells : Bool) (state : C → CellState) (offers : O →
     refused c fits h =
         let l = served_as line (answer.NoEntry c) None 0 0 in
         let refusal = coming.refused g told past served l url refl refl (view p) (view q) c inner fits h in
-        let shows = shows_one r.setting.anchors (view p) (view q) served l url refl (epoch_number (epoch_in c)) refl refusal.fresh in
+        let shows = shows_one r.setting.anchors (view p) (view q) served l url refl (epoch_number (epoch_in c)) refl refusal.turn in
         record {
           drew = None;
           opened = 0;
@@ -82,7 +83,7 @@ module _ {C O : Type 0} (tells : Bool) (state : C → CellState) (offers : O →
           adds = adds_by r (view p) (view q) served l refl (OfVisiting (anchor_for g url))
               (readers.refused g inner url (view p) c (view q) h)
               (λ d. of_visiting r (view q) served l d (anchor_for g url) (record { url = url; comes = refl; anchor = refl }))
-              (λ b e k. (shows b e k).above)
+              shows
               (tells_by r (view q) served l refusal.cause
               (plain r (view q) served l (λ b e k. (shows b e k).seen) tt refl (λ x k. k) (λ x k. k) (λ u body k. k) tt (λ z. cc)))
               (λ y e bytes z. absurd (let k : answer.NoEntry c ≡ answer.Part e bytes = z in cc));

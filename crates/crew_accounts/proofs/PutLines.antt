@@ -42,12 +42,12 @@ use Rattle.crew_accounts.specs.Runs.{Past, run_of}
 use Rattle.crew_accounts.specs.Tracks.{Tracks}
 use Rattle.crew_accounts.proofs.Beginning.{begun_later}
 use Rattle.crew_accounts.proofs.CallDeeds.{adds_drawing, of_putting, of_putting_in_vain}
-use Rattle.crew_accounts.proofs.Ended.{ended_fresh, ended_names, ended_version}
+use Rattle.crew_accounts.proofs.Ended.{closed_version, ended_fresh, ended_names, ended_version}
 use Rattle.crew_accounts.proofs.GivingUp.{closed_epoch, ended_no_part, ended_no_tab, ended_told, fault_no_part, fault_no_tab, fault_told, gives_up_fault, large_of, shows_closed, shows_no_epoch, small_of}
 use Rattle.crew_accounts.proofs.Halting.{gave_up_seen}
 use Rattle.crew_accounts.proofs.NotBegun.{not_begun}
 use Rattle.crew_accounts.proofs.Offering.{IsOffering, offering}
-use Rattle.crew_accounts.proofs.Shown.{begun_above, fresh_from, shows_none, shows_one}
+use Rattle.crew_accounts.proofs.Shown.{begun_above, fresh_from, later_turn, shows_none, shows_one}
 use Rattle.crew_accounts.proofs.TabLines.{LeavesAlone, put_alone, save_alone}
 use Rattle.crew_accounts.proofs.Telling.{tells_by}
 use Rattle.crew_accounts.proofs.Small.{begun_small, ended_small}
@@ -137,7 +137,8 @@ module _ {C O : Type 0} (tells : Bool) (state : C → CellState) (offers : O →
         (ended_names tells state offers s whole_tab e0 k.middle q ended k.ends) in
         let its : Grows g.setting (view q) served l e.anchor x = grows g e l first served l begun_is (view q) names in
         let fresh : IsFresh (anchor_for g url) (closed_epoch ended) (view p) (view q) = fresh_from (began tells state offers s whole_tab k.began) (ended_fresh tells state offers s whole_tab e0 k.middle q ended k.ends) in
-        let shows = shows_one r.setting.anchors (view p) (view q) served l url (is.at served) (closed_epoch ended) (shows_closed ended) fresh in
+        let shows = shows_one r.setting.anchors (view p) (view q) served l url (is.at served) (closed_epoch ended) (shows_closed ended)
+        (later_turn (let later = begun_later k.began.took in let same = ended_version tells state offers s whole_tab e0 k.middle q ended k.ends in let its = closed_version ended in omega arith) fresh) in
         let finished : HasFinished r.setting (view q) served l x = record { anchor = e.anchor; grows = its } in
         let small = ended_small tells state offers s whole_tab e0 k.middle q ended k.ends (begun_small g e0 url body_is.url_is refl (λ far. not_long ended (long.1 far))) in
         record {
@@ -151,7 +152,7 @@ module _ {C O : Type 0} (tells : Bool) (state : C → CellState) (offers : O →
               (λ d. of_putting r (view q) served l d (record { may = putting.may; wants = refl }) (name_of g e) (view q).seen ended
               (record { anchor = record { url = url; named_is = is.named; anchor = refl }; drew = refl; began = putting.began_ended ended })
               (grows g e l first served l begun_is (view q)) refl)
-              (λ b f z. (shows b f z).above)
+              shows
               (tells_by r (view q) served l (ended_told r (view q) served l ended finished (small_of g told past e l first body_is.from served l begun_is small))
               (offering tells state offers s told past served (view q) l url body is body_is long (λ b f z. (shows b f z).seen) (putting.ended ended)
               (λ y z. record { version = x; drew = refl; began = putting.began_ended ended }) (putting.fits served) (ended_no_tab ended)))
@@ -180,7 +181,7 @@ module _ {C O : Type 0} (tells : Bool) (state : C → CellState) (offers : O →
               (λ d. of_putting_in_vain r (view q) served l d (record { may = putting.may; wants = refl }) (name_of g e) (view q).seen
               (record { anchor = record { url = url; named_is = is.named; anchor = refl }; drew = refl; began = putting.began_fault fault x })
               (grows g e l first served l begun_is (view q)) (halts g e l first served l begun_is (gives_up_fault fault)))
-              (λ b f z. (none b f z).above)
+              none
               (tells_by r (view q) served l (fault_told r (view q) served l fault up refl (λ z. large_of g told past e l first body_is.from served l begun_is (many z)))
               (offering tells state offers s told past served (view q) l url body is body_is long (λ b f z. (none b f z).seen) (putting.fault fault)
               (λ y z. record { version = x; drew = refl; began = putting.began_fault fault x }) (putting.fits served) (fault_no_tab fault)))

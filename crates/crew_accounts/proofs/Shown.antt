@@ -1,16 +1,18 @@
 -- The epochs that a line shows.
-use Rattle.std.proofs.Common.{Contains, List, Option, Some, [], ap, arith, refl, subst, sym, ⊎_elim, ◌∙◌, ◌∷◌, ◌≡◌, ◌<◌, ◌≤◌, ℕ}
+use Rattle.std.proofs.Common.{Bool, Contains, List, Option, Some, [], ap, arith, cond, eq-eqb, refl, subst, sym, ⊎_elim, ◌∙◌, ◌∷◌, ◌≡◌, ◌<◌, ◌≤◌, ℕ}
 use Rattle.std.proofs.lemmas.List.Elements.{Contains-append_right}
 use Rattle.store_key.specs.Anchor.{anchor_of}
 use Rattle.store_key.specs.Key.{key_of}
 use Rattle.core_model.specs.Trails.{seen_at, stood}
+use Rattle.core_model.specs.Versions.{Leads}
 use Rattle.core_model.specs.declared.view.Sight.{Sight}
+use Rattle.core_model.specs.declared.view.Sight.TheVariants.{Stood}
 use Rattle.core_model.specs.declared.view.View.{View}
 use Rattle.core_model.proofs.Lists.{cons_contains, contains_none}
 use Rattle.line_account.specs.Lines.{IsAnchorOf, Served, url_at}
 use Rattle.line_account.specs.Accounts.{Shows, epochs_of}
 use Rattle.line_account.specs.Deeds.{PrintsBegunVersion, TellsBegun}
-use Rattle.lock_word.specs.Words.{version_of}
+use Rattle.lock_word.specs.Words.{stage_of, version_of}
 use Rattle.script_text.specs.Requests.{url_in}
 use Rattle.core_model.specs.Knowing.{KnowsAll}
 use Rattle.store_rule.specs.Calls.{IsFresh}
@@ -24,12 +26,22 @@ stood_below a x (y ∷ ys) h = ⊎_elim
     (λ (q : Contains ys x). let r = stood_below a x ys q in omega arith)
     (cons_contains y x ys h)
 
+seen_epoch : (a d : ℕ) (ys : List Sight) → Contains ys (Stood a d) → d ≤ seen_at a ys
+seen_epoch a d ys h = let low = stood_below a (Stood a d) ys h in let here : stood a (Stood a d) ≡ d = ap (λ (b : Bool). cond b d 0) (eq-eqb a a refl) in omega arith
+
 seen_below : (a : ℕ) (xs ys : List Sight) → ((x : Sight) → Contains xs x → Contains ys x) → seen_at a xs ≤ seen_at a ys
 seen_below a [] ys f = omega arith
 seen_below a (x ∷ xs) ys f =
     let first = stood_below a x ys (f x (0, omega arith, refl)) in
     let rest = seen_below a xs ys (λ y c. f y (Contains-append_right (x ∷ []) xs y c)) in
     omega arith
+
+-- The epoch is not below what the pass with the view v had seen at the anchor. The stages that it had seen of the version lead to its stage,
+-- and with the view w it has seen it.
+pub record IsInTurn {X : Type 0} (a epoch : ℕ) (v w : View X) : Type 0 where
+  pub above : seen_at a v.seen ≤ epoch
+  pub leads : (d : ℕ) → Contains v.seen (Stood a d) → version_of d ≡ version_of epoch → Leads (stage_of d) (stage_of epoch)
+  pub seen : Contains w.seen (Stood a epoch)
 
 module _ {X : Type 0} where
   -- it was fresh for a pass that knew less
@@ -38,6 +50,25 @@ module _ {X : Type 0} where
 
   pub fresh_to : {a e : ℕ} {u v w : View X} → IsFresh a e u v → KnowsAll v w → IsFresh a e u w
   fresh_to h keeps = record { above = h.above; seen = keeps.seen _ h.seen }
+
+  -- and in turn
+  pub turn_from : {a e : ℕ} {u v w : View X} → KnowsAll u v → IsInTurn a e v w → IsInTurn a e u w
+  turn_from {a} {e} {u} {v} {w} keeps h = record {
+    above = let m = seen_below a u.seen v.seen keeps.seen in let k = h.above in omega arith;
+    leads = λ d c same. h.leads d (keeps.seen (Stood a d) c) same;
+    seen = h.seen;
+  }
+
+  pub turn_to : {a e : ℕ} {u v w : View X} → IsInTurn a e u v → KnowsAll v w → IsInTurn a e u w
+  turn_to h keeps = record { above = h.above; leads = h.leads; seen = keeps.seen _ h.seen }
+
+  -- an epoch of a later version than was seen there is in turn
+  pub later_turn : {a e : ℕ} {v w : View X} → version_of (seen_at a v.seen) < version_of e → IsFresh a e v w → IsInTurn a e v w
+  later_turn {a} {e} {v} {w} later h = record {
+    above = h.above;
+    leads = λ d c same. absurd (let below : d ≤ seen_at a v.seen = seen_epoch a d v.seen c in let up : version_of d ≤ version_of (seen_at a v.seen) = omega arith in omega arith);
+    seen = h.seen;
+  }
 
 pub one_there : (e x : ℕ) → Contains (e ∷ []) x → e ≡ x
 one_there e x h = ⊎_elim (λ (q : e ≡ x). q) (λ (q : Contains [] x). absurd (contains_none x q)) (cons_contains e x [] h)
@@ -58,22 +89,22 @@ begun_above anchors v s url version named later told a x h =
     subst (λ (z : ℕ). version_of (seen_at z v.seen) < x) here (omega arith)
 
 module _ {X : Type 0} (anchors : ℕ) (v w : View X) (earlier : List Served) (s : Served) where
-  -- each epoch that the line shows is not below what the worker had seen there, and it has seen it
-  abbrev pub ShowsFresh : Type 0
-  ShowsFresh = (a e : ℕ) → Shows anchors earlier s a e → IsFresh a e v w
+  -- each epoch that the line shows is in turn
+  abbrev pub ShowsInTurn : Type 0
+  ShowsInTurn = (a e : ℕ) → Shows anchors earlier s a e → IsInTurn a e v w
 
-  pub shows_none : epochs_of s.opened s.looked s.answer ≡ [] → ShowsFresh
+  pub shows_none : epochs_of s.opened s.looked s.answer ≡ [] → ShowsInTurn
   shows_none none a e h = absurd (contains_none e (subst (λ (l : List ℕ). Contains l e) none h.shown))
 
   module _ (url : List ℕ) (named : url_at earlier s.line.request ≡ Some url) where
-    there : (a e f : ℕ) → Shows anchors earlier s a e → f ≡ e → IsFresh (anchor_of (key_of url) anchors) f v w → IsFresh a e v w
-    there a e f h same fresh = subst (λ (z : ℕ). IsFresh a z v w) same
-        (subst (λ (b : ℕ). IsFresh b f v w) (anchor_at anchors (url_at earlier s.line.request) url a named h.at) fresh)
+    there : (a e f : ℕ) → Shows anchors earlier s a e → f ≡ e → IsInTurn (anchor_of (key_of url) anchors) f v w → IsInTurn a e v w
+    there a e f h same turn = subst (λ (z : ℕ). IsInTurn a z v w) same
+        (subst (λ (b : ℕ). IsInTurn b f v w) (anchor_at anchors (url_at earlier s.line.request) url a named h.at) turn)
 
-    pub shows_one : (f : ℕ) → epochs_of s.opened s.looked s.answer ≡ f ∷ [] → IsFresh (anchor_of (key_of url) anchors) f v w → ShowsFresh
-    shows_one f one fresh a e h = there a e f h (one_there f e (subst (λ (l : List ℕ). Contains l e) one h.shown)) fresh
+    pub shows_one : (f : ℕ) → epochs_of s.opened s.looked s.answer ≡ f ∷ [] → IsInTurn (anchor_of (key_of url) anchors) f v w → ShowsInTurn
+    shows_one f one turn a e h = there a e f h (one_there f e (subst (λ (l : List ℕ). Contains l e) one h.shown)) turn
 
-    pub shows_two : (f g : ℕ) → epochs_of s.opened s.looked s.answer ≡ f ∷ g ∷ [] → IsFresh (anchor_of (key_of url) anchors) f v w → IsFresh (anchor_of (key_of url) anchors) g v w → ShowsFresh
+    pub shows_two : (f g : ℕ) → epochs_of s.opened s.looked s.answer ≡ f ∷ g ∷ [] → IsInTurn (anchor_of (key_of url) anchors) f v w → IsInTurn (anchor_of (key_of url) anchors) g v w → ShowsInTurn
     shows_two f g both first second a e h = ⊎_elim
         (λ (q : f ≡ e). there a e f h q first)
         (λ (q : Contains (g ∷ []) e). there a e g h (one_there g e q) second)

@@ -29,7 +29,7 @@ use Rattle.line_account.specs.Accounts.{Shows, epochs_of, epoch_in}
 use Rattle.line_account.specs.Courses.{Stage, lines_in, Course}
 use Rattle.line_account.specs.Closing.{BegunIn, Closed, HaltedIn, LineIn, ShownIn, Worker, offered, offered_by}
 use Rattle.line_account.specs.Printed.{HitIn, IsBodyAsPrinted, PrintsHit}
-use Rattle.line_account.specs.Order.{NotBelow, counts_as, version_alone, OpensOrStores, HandsOver, printed}
+use Rattle.line_account.specs.Order.{NotBelow, counts_as, version_alone, FindsOrStores, HandsOver, printed}
 use Rattle.line_account.specs.Parts.{IsCourseOf}
 use Rattle.line_account.specs.Alone.{alone, next_version}
 use Rattle.line_account.proofs.Gathered.{one_line, same_line}
@@ -232,7 +232,7 @@ module _ {X : Type 0} (r : Run X) (w : Worker X) where
       (record { in_ = record { later = []; split = refl }; at = record { url = url; named_is = ap (url_at []) pq; anchor = refl } })
       (subst (λ (z : Answer). Contains (counts_as z) (epoch_number e)) (sym pa) (0, omega arith, refl)) in
       let doom : e.doom ≡ true = ((stage_in r start (g ∷ p ∷ []) (g ∷ []) p [] o.last refl o.course).adds.tells.purged e pa).doomed in
-      let undoomed : doom_of (epoch_number e) ≡ 0 = order.undoomed y (subst (λ (z : Answer). OpensOrStores z y) (sym ga) refl) same in
+      let undoomed : doom_of (epoch_number e) ≡ 0 = order.undoomed y (subst (λ (z : Answer). FindsOrStores z y) (sym ga) refl) same in
       let doomed : doom_of (epoch_number e) ≡ 1 = doom_of-epoch_number e ∙ ap doom_number doom in
       omega arith
 

@@ -110,6 +110,7 @@ module _ {X : Type 0} (r : Run X) (v w : View X) (h : KnowsAll v w) where
     url_is = g.url_is;
     first_ones = g.first_ones;
     whole = g.whole;
+    fewer = g.fewer;
     published = λ some. h.seen _ (g.published some);
   }
 
@@ -132,9 +133,8 @@ module _ {X : Type 0} (r : Run X) (v w : View X) (h : KnowsAll v w) where
     to = p.to;
     url = p.url;
     named = p.named;
-    found = p.found;
     version_is = p.version_is;
-    keyed = key_later _ p.found (key_of p.url) p.keyed;
+    keyed = key_later _ s.opened (key_of p.url) p.keyed;
   }
 
   finished_later : (earlier : List Served) (s : Served) (x : ℕ) → HasFinished r.setting v earlier s x → HasFinished r.setting w earlier s x

@@ -19,7 +19,7 @@ use Rattle.line_account.specs.Requests.{IsAnswerTo}
 use Rattle.line_account.specs.Answers.{ComesIn, HasOpened, HasPurged, IsKeyRead, Run}
 use Rattle.line_account.specs.Accounts.{Tells}
 use Rattle.line_account.specs.Closing.{Closed, LineIn, Worker}
-use Rattle.line_account.specs.Order.{Opens}
+use Rattle.line_account.specs.Order.{FindsEntry, Opens}
 use Rattle.line_account.specs.Printed.{Finds, HadEntry, IsKeyOfLine, IsOldUrl, TellsFound}
 use Rattle.line_account.proofs.Gathered.{tells_at}
 use Rattle.line_account.proofs.Printing.{of_new_key, of_old_key, old_kept}
@@ -83,7 +83,7 @@ module _ {X : Type 0} (r : Run X) (v : View X) (earlier : List Served) (s : Serv
 
   of_purged : (epoch : Epoch) (x : ℕ) (url : List ℕ) → url_in s.line.request ≡ Some url → HasPurged r v s epoch → version_of (epoch_number epoch) ≡ x → HasFound (anchor_of (key_of url) r.setting.anchors) x url
   of_purged epoch x url named h same = subst (λ (u : List ℕ). HasFound (anchor_of (key_of u) r.setting.anchors) x u) (one_url h.url url (sym h.named ∙ named))
-      (record { epoch = h.found; version_is = h.version_is ∙ same; keyed = h.keyed })
+      (record { epoch = s.opened; version_is = h.version_is ∙ same; keyed = h.keyed })
 
   opens : (a : Answer) (x : ℕ) → s.answer ≡ a → Opens a x → (o : HasOpened r v s) × (version_of s.opened ≡ x)
   opens (answer.Opened version) x is e =
@@ -96,9 +96,15 @@ module _ {X : Type 0} (r : Run X) (v : View X) (earlier : List Served) (s : Serv
       (o, sym (told_hit s.line.request version bytes (version_of s.opened) (subst (λ (z : Answer). ComesIn s.line.request z (version_of s.opened)) is o.told)) ∙ e)
   opens _ x is e = absurd e
 
-  -- where the line opened an entry
-  pub opened_so : (x : ℕ) → Opens s.answer x → (version_of s.opened ≡ x) × (is_readable s.opened ≡ true)
-  opened_so x h = let o = opens s.answer x refl h in (o.1, o.0.entry.readable)
+  -- where the line found an entry
+  found_so : (a : Answer) (x : ℕ) → s.answer ≡ a → FindsEntry a x → (version_of s.opened ≡ x) × (is_readable s.opened ≡ true)
+  found_so (answer.Opened version) x is h = let o = opens (answer.Opened version) x is h in (o.1, o.0.entry.readable)
+  found_so (answer.Hit version bytes) x is h = let o = opens (answer.Hit version bytes) x is h in (o.1, o.0.entry.readable)
+  found_so (answer.Purged epoch) x is h = let k = told.purged epoch is in (k.version_is ∙ h, k.keyed.readable)
+  found_so _ x is h = absurd h
+
+  pub opened_so : (x : ℕ) → FindsEntry s.answer x → (version_of s.opened ≡ x) × (is_readable s.opened ≡ true)
+  opened_so x h = found_so s.answer x refl h
 
   found_by : (a : Answer) (x : ℕ) (url : List ℕ) → s.answer ≡ a → url_in s.line.request ≡ Some url → TellsFound a x → HasFound (anchor_of (key_of url) r.setting.anchors) x url
   found_by (answer.Opened version) x url is named e = let o = opens (answer.Opened version) x is e in of_opened x url named o.0 o.1

@@ -240,6 +240,7 @@ module _ {X : Type 0} (r : Run X) (url : List ℕ) (o : OffersNothing r url) whe
     url_is = λ some_slot. o.url_is;
     first_ones = refl;
     whole = λ h. sym o.body_is;
+    fewer = λ h. absurd h;
     published = λ some_slot. subst (λ y. Contains v.seen (Published a y 1)) (sym version) published_seen;
   }
 

@@ -325,6 +325,7 @@ module _ {X : Type 0} (r : Run X) where
     draws = idle.draws ∙ (let z : one_if (drew_some s) ≡ 0 = ap one_if (ap has_drawn none) in omega arith);
     deeds = λ d h. inl (subst (λ (l : List Deed). Contains l d) idle.deeds h);
     fresh = λ a e h. absurd (contains_none e (subst (λ (l : List ℕ). Contains l e) (q.epochs s.opened s.looked) h.shown));
+    stages = λ a d e h seen same. absurd (contains_none e (subst (λ (l : List ℕ). Contains l e) (q.epochs s.opened s.looked) h.shown));
     above = λ a x h. absurd (q.began s.line.request x (told_began s.line.request s.answer x h.told));
     tells = tells;
     parts = λ t e bytes h. absurd (q.part e bytes h);

@@ -2,9 +2,11 @@
 use Rattle.std.proofs.Common.{◌≡◌, inr, ℕ, ◌<◌, ◌≤◌, List, [], ◌∷◌, ◌++◌, length, take, sym, refl, ap, ◌∙◌, subst, append_assoc, arith, Bool, true, false, cond, Contains, eq-eqb, eqb-true, length-append, ◌&&◌, ◌||◌, ◌==◌}
 use Rattle.std.specs.Prelude.{IsTrue, None, Some}
 use Rattle.std.proofs.lemmas.List.{length-take}
+use Rattle.std.proofs.Math.Decide.{dec_le}
+use mathlib.Core.Logic.{dite}
 use Rattle.store_key.specs.Anchor.{anchor_of}
 use Rattle.store_key.specs.Key.{key_of}
-use Rattle.lock_word.specs.Words.{epoch_number, version_of}
+use Rattle.lock_word.specs.Words.{epoch_number, stage_of, version_of}
 use Rattle.lock_word.specs.declared.epoch.Epoch.{Epoch}
 use Rattle.script_text.specs.declared.answer.Answer.{Answer}
 use Rattle.script_text.specs.declared.answer.Answer.TheVariants as answer
@@ -14,16 +16,18 @@ use Rattle.core_model.specs.declared.moves.Side.TheVariants.{Offer}
 use Rattle.core_model.specs.declared.view.Sight.TheVariants.{Named}
 use Rattle.core_model.specs.Anchors.{opening_counter}
 use Rattle.script_text.specs.Requests.{url_in}
-use Rattle.line_account.specs.Lines.{IsAt, Served, bytes_given, bytes_in, closes, given_by, opened_of, opens, reading, url_at, url_named}
+use Rattle.line_account.specs.Lines.{IsAt, Served, bytes_given, bytes_in, closes, given_by, is_opened, opened_of, opens, reading, url_at, url_named}
 use Rattle.line_account.specs.Accounts.{Tells, epochs_of}
-use Rattle.line_account.specs.Answers.{HasGiven, IsWhole, Reads, Run, bytes_of_tab, bytes_with}
-use Rattle.line_account.specs.Closing.{Closed, HaltedIn, LineIn, Worker}
-use Rattle.line_account.specs.Printed.{ReadsVersion}
-use Rattle.line_account.specs.Tabs.{IsFrontOfLine, IsFrontOfOld, ReadsBehindEnd, ReadsHalted, ReadsOn, ReadsPart, came_to_end, comes_to_end, is_end}
+use Rattle.line_account.specs.Answers.{HasGiven, HasOther, IsPart, IsSure, IsWhole, Reads, Run, bytes_of_tab, bytes_with}
+use Rattle.line_account.specs.Requests.{IsAnswerTo}
+use Rattle.line_account.specs.Order.{Opens}
+use Rattle.line_account.specs.Closing.{Closed, HaltedIn, LineIn, ShownIn, Worker}
+use Rattle.line_account.specs.Printed.{ReadsVersion, ReadsWhole}
+use Rattle.line_account.specs.Tabs.{IsFrontOfLine, IsFrontOfOld, IsOver, ReadsBehindEnd, ReadsHalted, ReadsOn, ReadsOther, ReadsPart, ReadsUnder, came_to_end, comes_to_end, is_end}
 use Rattle.line_account.proofs.Gathered.{tells_at}
-use Rattle.line_account.proofs.HitVersions.{first_version}
+use Rattle.line_account.proofs.HitVersions.{first_version, whole_kept}
 use Rattle.line_account.proofs.Printing.{of_line, old_kept}
-use Rattle.line_account.proofs.Versions.{first_of_one, halted_by, shows}
+use Rattle.line_account.proofs.Versions.{first_of_one, halted_by, shows, version_of_old}
 
 one_some : (s t : Served) → Some s ≡ Some t → s ≡ t
 one_some s t e = cc
@@ -135,6 +139,24 @@ end_on : (tab : ℕ) (q : Request) (a : Answer) → comes_to_end tab q a ≡ tru
 end_on tab (More u) a e = let h = both_true (u == tab) (is_end a) e in record { on = ap More (eqb-true u tab h.0); ended = h.1 }
 end_on tab _ a e = absurd (let z : false ≡ true = e in cc)
 
+-- what a tab reads was opened by a line that printed OPEN
+opens_opened : (tab : ℕ) (q : Request) (a : Answer) → opens tab q a ≡ true → is_opened a ≡ true
+opens_opened tab (OpenTab u url) a e = (both_true (u == tab) (is_opened a) e).1
+opens_opened tab _ a e = absurd (let z : false ≡ true = e in cc)
+
+reading_opened : (tab : ℕ) (served : List Served) (first : Served) → reading tab served ≡ Some first → is_opened first.answer ≡ true
+reading_opened tab [] first e = absurd (let q : None ≡ Some first = e in cc)
+reading_opened tab (s ∷ earlier) first e = by_line (λ q. reading_opened tab earlier first q) (opens tab s.line.request s.answer) (closes tab s.line.request s.answer) refl e
+  where
+    by_line : (reading tab earlier ≡ Some first → is_opened first.answer ≡ true) → (o k : Bool) → opens tab s.line.request s.answer ≡ o → cond o (Some s) (cond k None (reading tab earlier)) ≡ Some first → is_opened first.answer ≡ true
+    by_line before true k is q = let same : s ≡ first = cc in ap (λ (z : Served). is_opened z.answer) (sym same) ∙ opens_opened tab s.line.request s.answer is
+    by_line before false true is q = absurd (let z : None ≡ Some first = q in cc)
+    by_line before false false is q = before q
+
+opened_told : (a : Answer) → is_opened a ≡ true → (x : ℕ) × Opens a x
+opened_told (answer.Opened version) e = (version, refl)
+opened_told _ e = absurd (let z : false ≡ true = e in cc)
+
 -- the line at which the tab came to END, on the entry that it still reads, and no fewer bytes were given since
 record EndedBefore (tab : ℕ) (earlier : List Served) (first : Served) : Type 0 where
   later : List Served
@@ -245,3 +267,132 @@ module _ {X : Type 0} (r : Run X) (crew : List (Worker X)) (c : Closed r crew) (
       let all = all_given in
       let since = b.given in
       no_length (bytes_in l.answer) (omega arith)
+
+  t : Tells r p.worker.view before l
+  t = tells_at r crew c (λ earlier s. ReadsBehindEnd earlier s tab) p
+
+  abbrev here_behind : ℕ
+  here_behind = anchor_of (key_of k.url) r.setting.anchors
+
+  -- PART has not given all
+  part_not : IsPart l.answer → ⊥
+  part_not is =
+      let few = k.fewer is in
+      let long = ap length with_it ∙ length-append (bytes_given tab before) (bytes_in l.answer) in
+      let all = all_given in
+      let since = b.given in
+      omega arith
+
+  -- what was given whole was never halted
+  module _ (bytes : List ℕ) (printed : l.answer ≡ answer.Halted bytes) where
+    shown : ShownIn r crew here_behind l.looked
+    shown = shows r crew c (λ earlier s. ReadsBehindEnd earlier s tab) p here_behind l.looked
+        (record { url = k.url; named_is = ap (url_at before) p.line_of.so.request ∙ ap url_named still ∙ k.named; anchor = refl })
+        (first_of_one r crew c l.looked (epochs_of l.opened l.looked l.answer) (ap (epochs_of l.opened l.looked) printed))
+
+    four : stage_of l.looked ≡ 4
+    four = t.halted bytes printed
+
+    version_is : version_of l.looked ≡ version_of k.first.opened
+    version_is = t.halted_version bytes printed k.first k.opened_is
+
+    told_at : (x : ℕ) × Opens e.first.answer x
+    told_at = opened_told e.first.answer (reading_opened tab b.back e.first (sym (ap (opened_of b.back b.line) b.is.on) ∙ e.opened_is))
+
+    abbrev whole_so : ReadsVersion r.setting.anchors b.back b.line here_behind told_at.0
+    whole_so = record {
+      first = e.first;
+      opened_is = e.opened_is;
+      anchor = record { url = k.url; named_is = e.named ∙ ap Some same_url; anchor = refl };
+      told = told_at.1;
+    }
+
+    whole_line : LineIn crew (λ earlier s. ReadsWhole r.setting.anchors earlier s here_behind told_at.0)
+    whole_line = record {
+      j = p.j;
+      worker = p.worker;
+      at = p.at;
+      line_of = record {
+        later = p.line_of.later ++ l ∷ b.later;
+        line = b.line;
+        earlier = b.back;
+        split = p.line_of.split ∙ ap (λ (z : List Served). p.line_of.later ++ l ∷ z) b.split ∙ sym (append_assoc p.line_of.later (l ∷ b.later) (b.line ∷ b.back));
+        so = record { of = whole_so; whole = end_whole b.line.answer b.is.ended };
+      };
+    }
+
+    one_version : told_at.0 ≡ version_of l.looked
+    unfolding whole_line
+    one_version = first_version r crew c (λ earlier s. ReadsWhole r.setting.anchors earlier s here_behind told_at.0) whole_line here_behind told_at.0 whole_so ∙ ap (λ (z : Served). version_of z.opened) same_first ∙ sym version_is
+
+    halted_not : ⊥
+    halted_not = dite (dec_le (version_of l.looked) (opening_counter r.setting))
+        (λ low. (version_of_old r crew c here_behind l.looked shown low).3 four)
+        (λ high. whole_kept r crew c y here_behind told_at.0 whole_line (let v = one_version in omega arith)
+        (subst (HaltedIn r crew here_behind) (sym one_version) (halted_by r crew c here_behind l.looked shown four)))
+
+  by_answer : (a : Answer) → l.answer ≡ a → Reads a → IsOver a
+  by_answer (answer.End bytes) is reads = sym (ap bytes_in is) ∙ none_behind_end
+  by_answer (answer.ReadFault bytes) is reads = sym (ap bytes_in is) ∙ none_behind_end
+  by_answer (answer.Part epoch bytes) is reads = absurd (part_not (subst IsPart (sym is) tt))
+  by_answer (answer.Halted bytes) is reads = absurd (halted_not bytes is)
+  by_answer (answer.Hit version bytes) is reads = absurd (subst (λ (q : Request). IsAnswerTo q (answer.Hit version bytes)) p.line_of.so.request (subst (IsAnswerTo l.line.request) is t.answers))
+  by_answer _ is reads = absurd reads
+
+  pub over_behind_end : IsOver l.answer
+  over_behind_end = by_answer l.answer refl p.line_of.so.reads
+
+-- OTHERURL and the others.
+
+sure_reads : (a : Answer) → IsSure a → Reads a
+sure_reads (answer.Hit version bytes) h = tt
+sure_reads (answer.Part epoch bytes) h = tt
+sure_reads (answer.End bytes) h = tt
+sure_reads (answer.Halted bytes) h = tt
+sure_reads _ h = absurd h
+
+module _ {X : Type 0} (r : Run X) (crew : List (Worker X)) (c : Closed r crew) (y : IsTrue r.tells) (a x : ℕ) (url : List ℕ) (p : LineIn crew (λ earlier s. ReadsUnder r.setting.anchors earlier s a x url)) (q : LineIn crew (λ earlier s. ReadsOther r.setting.anchors earlier s a x url)) where
+  abbrev Under : List Served → Served → Type 0
+  Under earlier s = ReadsUnder r.setting.anchors earlier s a x url
+
+  abbrev Other : List Served → Served → Type 0
+  Other earlier s = ReadsOther r.setting.anchors earlier s a x url
+
+  given_under : HasGiven r p.worker.view p.line_of.earlier p.line_of.line
+  given_under = (tells_at r crew c Under p).given y (sure_reads p.line_of.line.answer p.line_of.so.sure)
+
+  turned : HasOther r q.worker.view q.line_of.earlier q.line_of.line
+  turned = (tells_at r crew c Other q).other y q.line_of.so.printed
+
+  -- the entry of the one and of the other
+  first_given : p.line_of.so.of.first ≡ given_under.first
+  first_given = one_some p.line_of.so.of.first given_under.first (sym p.line_of.so.of.opened_is ∙ given_under.opened_is)
+
+  first_turned : q.line_of.so.of.first ≡ turned.first
+  first_turned = one_some q.line_of.so.of.first turned.first (sym q.line_of.so.of.opened_is ∙ turned.opened_is)
+
+  url_given : given_under.url ≡ url
+  url_given = one_url given_under.url url (sym given_under.named ∙ ap (λ (z : Served). url_in z.line.request) (sym first_given) ∙ p.line_of.so.named)
+
+  url_turned : turned.url ≡ url
+  url_turned = one_url turned.url url (sym turned.named ∙ ap (λ (z : Served). url_in z.line.request) (sym first_turned) ∙ q.line_of.so.named)
+
+  version_given : version_of given_under.first.opened ≡ x
+  version_given = ap (λ (z : Served). version_of z.opened) (sym first_given) ∙ sym (first_version r crew c Under p a x p.line_of.so.of)
+
+  version_turned : version_of turned.first.opened ≡ x
+  version_turned = ap (λ (z : Served). version_of z.opened) (sym first_turned) ∙ sym (first_version r crew c Other q a x q.line_of.so.of)
+
+  abbrev home_of : List ℕ → ℕ
+  home_of u = anchor_of (key_of u) r.setting.anchors
+
+  same_entry : given_under.entry.offer ≡ turned.entry.offer
+  same_entry =
+      let mine = subst (λ (u : List ℕ). Contains p.worker.view.seen (Named (home_of u) x Offer given_under.entry.offer)) url_given
+      (subst (λ (n : ℕ). Contains p.worker.view.seen (Named (home_of given_under.url) n Offer given_under.entry.offer)) version_given given_under.entry.offered) in
+      let theirs = subst (λ (u : List ℕ). Contains q.worker.view.seen (Named (home_of u) x Offer turned.entry.offer)) url_turned
+      (subst (λ (n : ℕ). Contains q.worker.view.seen (Named (home_of turned.url) n Offer turned.entry.offer)) version_turned turned.entry.offered) in
+      c.sound.anchors.seen.agree (c.index p.j) (c.index q.j) p.worker.view q.worker.view (c.at p.j p.worker p.at) (c.at q.j q.worker q.at) (home_of url) x Offer given_under.entry.offer turned.entry.offer mine theirs
+
+  pub never_both : ⊥
+  never_both = turned.differs (ap r.url (sym same_entry) ∙ given_under.url_is (given_under.sure p.line_of.so.sure) ∙ url_given ∙ sym url_turned)

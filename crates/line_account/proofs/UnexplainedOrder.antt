@@ -1,21 +1,27 @@
 -- Lines in an order that no run explains.
-use Rattle.std.proofs.Common.{Contains, List, [], ap, arith, false, refl, subst, sym, ◌∷◌, ◌≡◌, ◌≤◌, ℕ}
-use Rattle.lock_word.specs.Words.{epoch_at, epoch_number}
-use Rattle.lock_word.specs.declared.cause.Cause.TheVariants.{Absent}
+use Rattle.std.proofs.Common.{Contains, List, [], ap, arith, cond, false, refl, subst, sym, true, ◌∙◌, ◌∷◌, ◌≡◌, ◌≤◌, ◌||◌, ℕ}
+use Rattle.std.specs.Prelude.{IsTrue, None, Some}
+use Rattle.lock_word.specs.Words.{doom_number, doom_of, epoch_at, epoch_number, version_of}
+use Rattle.lock_word.proofs.Parts.{doom_of-epoch_number, stage_of-epoch_number, version_of-epoch_number}
+use Rattle.lock_word.specs.declared.cause.Cause.TheVariants.{Absent, Leaving}
 use Rattle.lock_word.specs.declared.epoch.Epoch.{Epoch}
 use Rattle.lock_word.specs.declared.stage.Stage.TheVariants as stage
 use Rattle.script_text.specs.declared.answer.Answer.{Answer}
 use Rattle.script_text.specs.declared.answer.Answer.TheVariants as answer
 use Rattle.script_text.specs.declared.body.Body.{Body}
 use Rattle.script_text.specs.declared.line.Line.{Line}
-use Rattle.script_text.specs.declared.request.Request.TheVariants.{Await, Get, Mark, Put}
-use Rattle.line_account.specs.Alone.{home}
-use Rattle.line_account.specs.Answers.{Run}
+use Rattle.script_text.specs.declared.request.Request.{Request}
+use Rattle.script_text.specs.declared.request.Request.TheVariants.{Await, Get, Mark, More, OpenTab, Purge, Put}
+use Rattle.script_text.specs.Requests.{url_in}
+use Rattle.line_account.specs.Alone.{alone, home}
+use Rattle.line_account.specs.Answers.{IsSure, Reads, Run}
 use Rattle.line_account.specs.Closing.{Worker}
 use Rattle.line_account.specs.Crews.{KnewOf}
 use Rattle.line_account.specs.Crews.KnewOf.{own, told}
-use Rattle.line_account.specs.Lines.{Served, url_at}
-use Rattle.line_account.specs.Order.{counts_as, printed}
+use Rattle.line_account.specs.Lines.{Served, closes, opened_by, opened_of, opens, reading, url_at}
+use Rattle.line_account.specs.Order.{FindsOrStores, NotBelow, Opens, counts_as, epochs_told, printed}
+use Rattle.line_account.specs.Printed.{ReadsVersion}
+use Rattle.line_account.specs.Tabs.{IsOver, came_to_end, comes_to_end}
 use Rattle.line_account.specs.Rules.{KeepsRules}
 
 module _ {X : Type 0} (r : Run X) (script : List Line) (u v w : Worker X) (rules : KeepsRules r script (u ∷ v ∷ w ∷ [])) (p a b c d g : Served) (us : u.served ≡ a ∷ p ∷ []) (vs : v.served ≡ c ∷ b ∷ []) (ws : w.served ≡ g ∷ d ∷ [])
@@ -38,3 +44,89 @@ module _ {X : Type 0} (r : Run X) (script : List Line) (u v w : Worker X) (rules
       (record { at = record { url = url; named_is = ap (url_at []) pq; anchor = refl }; counts = subst (λ (z : Answer). Contains (counts_as z) (epoch_at x 3)) (sym pa) (0, omega arith, refl) }) in
       let below : epoch_at x 3 ≤ epoch_number none = order.epochs (epoch_number none) (subst (λ (z : Answer). Contains (printed z) (epoch_number none)) (sym ga) (0, omega arith, refl)) in
       omega arith
+
+module _ {X : Type 0} (r : Run X) (script : List Line) (w : Worker X) (rules : KeepsRules r script (alone w)) where
+  -- what the later line of two prints is not below what the earlier one counts as
+  in_order : (s t : Served) (url : List ℕ) (e : ℕ) → w.served ≡ t ∷ s ∷ [] → url_at [] s.line.request ≡ Some url → url_at (s ∷ []) t.line.request ≡ Some url → Contains (counts_as s.answer) e → NotBelow e t.answer
+  in_order s t url e is first second counts = rules.order.known (home r url) e s []
+      (record { j = 0; worker = w; at = refl; line_of = record { later = []; line = t; earlier = s ∷ []; split = is; so = record { url = url; named_is = second; anchor = refl } } })
+      (own (record { later = []; split = refl }))
+      (record { at = record { url = url; named_is = first; anchor = refl }; counts = counts })
+
+  pub never_twice : (p s : Served) (url : List ℕ) (e : Epoch) → w.served ≡ s ∷ p ∷ [] → p.line.request ≡ Purge url → s.line.request ≡ Purge url → p.answer ≡ answer.Purged e → s.answer ≡ answer.Purged e → e.doom ≡ true → ⊥
+  never_twice p s url e is pq sq pa sa doom =
+      let n : ℕ = epoch_number e in
+      let order = in_order p s url n is (ap (url_at []) pq) (ap (url_at (p ∷ [])) sq) (subst (λ (z : Answer). Contains (counts_as z) n) (sym pa) (0, omega arith, refl)) in
+      let undoomed : doom_of n ≡ 0 = order.undoomed (version_of n) (subst (λ (z : Answer). FindsOrStores z (version_of n)) (sym sa) refl) refl in
+      let doomed : doom_of n ≡ 1 = doom_of-epoch_number e ∙ ap doom_number doom in
+      omega arith
+
+  pub never_falls : (p g : Served) (url : List ℕ) (body : Body) (x : ℕ) → w.served ≡ g ∷ p ∷ [] → p.line.request ≡ Put url body → p.answer ≡ answer.Stored x → g.line.request ≡ Get url
+      → g.answer ≡ answer.Miss (Leaving (record { version = x; stage = stage.Appending; doom = true })) → ⊥
+  never_falls p g url body x is pq pa gq ga =
+      let e : Epoch = record { version = x; stage = stage.Appending; doom = true } in
+      let n : ℕ = epoch_number e in
+      let order = in_order p g url (epoch_at x 3) is (ap (url_at []) pq) (ap (url_at (p ∷ [])) gq) (subst (λ (z : Answer). Contains (counts_as z) (epoch_at x 3)) (sym pa) (0, omega arith, refl)) in
+      let version = version_of-epoch_number e in
+      let at = stage_of-epoch_number e in
+      let up = order.stages n (subst (λ (z : Answer). Contains (epochs_told z) n) (sym ga) (0, omega arith, refl)) (omega arith) in
+      omega arith
+
+  -- A tab that came to END, and a line behind that.
+  module _ (y : IsTrue r.tells) (o e m : Served) (url bytes : List ℕ) (x : ℕ) (is : w.served ≡ m ∷ e ∷ o ∷ []) (oq : o.line.request ≡ OpenTab 0 url) (oa : o.answer ≡ answer.Opened x)
+      (eq : e.line.request ≡ More 0) (ea : e.answer ≡ answer.End bytes) (mq : m.line.request ≡ More 0) where
+    opened : opens 0 o.line.request o.answer ≡ true
+    opened = ap (λ (q : Request). opens 0 q o.answer) oq ∙ ap (opens 0 (OpenTab 0 url)) oa
+
+    reading_first : reading 0 (o ∷ []) ≡ Some o
+    reading_first = λ i. cond (opened i) (Some o) (cond (closes 0 o.line.request o.answer) None None)
+
+    reading_still : reading 0 (e ∷ o ∷ []) ≡ Some o
+    reading_still = (λ i. cond (opens 0 (eq i) e.answer) (Some e) (cond (closes 0 (eq i) e.answer) None (reading 0 (o ∷ [])))) ∙ reading_first
+
+    ended : came_to_end 0 (e ∷ o ∷ []) ≡ true
+    ended = (λ i. cond (opens 0 (eq i) e.answer) false (comes_to_end 0 (eq i) e.answer || came_to_end 0 (o ∷ []))) ∙ (λ i. comes_to_end 0 (More 0) (ea i) || came_to_end 0 (o ∷ []))
+
+    abbrev of : (earlier : List Served) (s : Served) → opened_by earlier s ≡ Some o → ReadsVersion r.setting.anchors earlier s (home r url) x
+    of earlier s is_opened = record { first = o; opened_is = is_opened; anchor = record { url = url; named_is = ap url_in oq; anchor = refl }; told = subst (λ (z : Answer). Opens z x) (sym oa) refl }
+
+    pub never_part : (epoch : Epoch) (more : List ℕ) → m.answer ≡ answer.Part epoch more → ⊥
+    never_part epoch more ma = subst IsOver ma (rules.tabs.behind_end y 0 (record {
+      j = 0;
+      worker = w;
+      at = refl;
+      line_of = record {
+        later = [];
+        line = m;
+        earlier = e ∷ o ∷ [];
+        split = is;
+        so = record { request = mq; reads = subst Reads (sym ma) tt; ended = ended };
+      };
+    }))
+
+    pub never_other : m.answer ≡ answer.OtherUrl → ⊥
+    never_other ma = rules.tabs.one_url y (home r url) x url
+        (record {
+          j = 0;
+          worker = w;
+          at = refl;
+          line_of = record {
+            later = m ∷ [];
+            line = e;
+            earlier = o ∷ [];
+            split = is;
+            so = record { of = of (o ∷ []) e (ap (opened_of (o ∷ []) e) eq ∙ reading_first); named = ap url_in oq; sure = subst IsSure (sym ea) tt };
+          };
+        })
+        (record {
+          j = 0;
+          worker = w;
+          at = refl;
+          line_of = record {
+            later = [];
+            line = m;
+            earlier = e ∷ o ∷ [];
+            split = is;
+            so = record { of = of (e ∷ o ∷ []) m (ap (opened_of (e ∷ o ∷ []) m) mq ∙ reading_still); named = ap url_in oq; printed = ma };
+          };
+        })

@@ -28,8 +28,8 @@ epoch_in (Leaving e) = e
 epoch_in (OtherKey e key) = e
 
 -- The epochs that an answer shows, as numbers. Of a version that is printed alone they are: at STORED and DOOMED the epoch of the whole
--- entry, at BEGUN that of the entry that has no slot yet, and at OPEN and HIT the one at which the entry was opened. At HALTED it is the
--- one looked at last.
+-- entry, at BEGUN that of the entry that has no slot yet, and at OPEN and HIT the one at which the entry was opened. At PURGED it is the
+-- one at which the entry was found, beside that which its doom left, and at HALTED the one looked at last.
 abbrev pub epochs_of : (opened looked : ℕ) → Answer → List ℕ
 epochs_of opened looked (answer.Stored version) = epoch_at version 3 ∷ []
 epochs_of opened looked (answer.Doomed version) = epoch_at version 11 ∷ []
@@ -39,7 +39,7 @@ epochs_of opened looked (answer.Opened version) = opened ∷ []
 epochs_of opened looked (answer.Hit version bytes) = opened ∷ []
 epochs_of opened looked (answer.Halted bytes) = looked ∷ []
 epochs_of opened looked (answer.Part epoch bytes) = epoch_number epoch ∷ []
-epochs_of opened looked (answer.Purged epoch) = epoch_number epoch ∷ []
+epochs_of opened looked (answer.Purged epoch) = opened ∷ epoch_number epoch ∷ []
 epochs_of opened looked (answer.Miss cause) = epoch_number (epoch_in cause) ∷ []
 epochs_of opened looked (answer.NoEntry cause) = epoch_number (epoch_in cause) ∷ []
 epochs_of opened looked _ = []

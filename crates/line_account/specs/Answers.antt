@@ -179,9 +179,8 @@ pub record HasPurged {X : Type 0} (r : Run X) (v : View X) (s : Served) (e : Epo
   pub to : stage_of (epoch_number e) ≤ 4
   pub url : List ℕ
   pub named : url_in s.line.request ≡ Some url
-  pub found : ℕ
-  pub version_is : version_of found ≡ version_of (epoch_number e)
-  pub keyed : IsKeyRead r v (anchor_of (key_of url) r.setting.anchors) found (key_of url)
+  pub version_is : version_of s.opened ≡ version_of (epoch_number e)
+  pub keyed : IsKeyRead r v (anchor_of (key_of url) r.setting.anchors) s.opened (key_of url)
 
 -- the epoch is of the version at which the entry was opened that the line reads
 abbrev pub IsOfOpened : List Served → Served → ℕ → Type 0
@@ -260,9 +259,14 @@ IsWhole (answer.Hit version bytes) = Unit {0}
 IsWhole (answer.End bytes) = Unit {0}
 IsWhole _ = ⊥
 
+-- answers that come before all was given
+abbrev pub IsPart : Answer → Type 0
+IsPart (answer.Part epoch bytes) = Unit {0}
+IsPart _ = ⊥
+
 -- The entry that a line reads, which it opened or the first line of its tab did, and how many of its slots were given. The bytes are the
--- first ones of its body, those of full slots or fewer in the last one, and all of them once all was given. With the first slot its URL was
--- compared.
+-- first ones of its body, those of full slots or fewer in the last one, and all of them once all was given, but not at PART. With the
+-- first slot its URL was compared.
 pub record HasGiven {X : Type 0} (r : Run X) (v : View X) (earlier : List Served) (s : Served) : Type 0 where
   pub first : Served
   pub opened_is : opened_by earlier s ≡ Some first
@@ -275,6 +279,7 @@ pub record HasGiven {X : Type 0} (r : Run X) (v : View X) (earlier : List Served
   pub url_is : 0 < place → r.url entry.offer ≡ url
   pub first_ones : bytes_with earlier s ≡ take (given_with earlier s) (r.body entry.offer)
   pub whole : IsWhole s.answer → bytes_with earlier s ≡ r.body entry.offer
+  pub fewer : IsPart s.answer → given_with earlier s < length (r.body entry.offer)
   pub published : 0 < place → Contains v.seen (Published (anchor_of (key_of url) r.setting.anchors) (version_of first.opened) place)
 
 -- PART: all bytes of the slots that were given, which are no fewer than the worker had seen published, with the view v before the line

@@ -1,6 +1,6 @@
 -- The course of a worker: what each line adds to its account, and what the end does.
 use Rattle.std.specs.Prelude.{Bool, IsTrue, List, [], cond, ◌+◌, ◌<◌, ◌∷◌, ◌≡◌, ◌≤◌, ◌⊎◌, Contains, ℕ}
-use Rattle.lock_word.specs.Words.{epoch_number, version_of}
+use Rattle.lock_word.specs.Words.{epoch_number, stage_of, version_of}
 use Rattle.lock_word.specs.declared.epoch.Epoch.{Epoch}
 use Rattle.script_text.specs.declared.answer.Answer.TheVariants as answer
 use Rattle.core_model.specs.declared.view.Deed.{Deed}
@@ -9,6 +9,7 @@ use Rattle.core_model.specs.declared.view.View.{View}
 use Rattle.core_model.specs.Anchors.{opening_epoch}
 use Rattle.core_model.specs.Knowing.{KnowsAll}
 use Rattle.core_model.specs.Trails.{drawn, draws, seen_at}
+use Rattle.core_model.specs.Versions.{Leads}
 use Rattle.line_account.specs.Lines.{Served}
 use Rattle.line_account.specs.Deeds.{IsDeedOf, IsDeedOfEnd, IsWriting, PrintsBegunVersion}
 use Rattle.line_account.specs.Answers.{HasPart, Run}
@@ -19,13 +20,17 @@ abbrev pub one_if : Bool → ℕ
 one_if b = cond b 1 0
 
 -- What the line s adds, after these lines, where the worker had the view v before it and has w after it: it draws what it says, each new
--- deed is its own, each epoch that it shows is not below what the worker had seen there, a version that it began is later, and it tells what it should.
+-- deed is its own, each epoch that it shows is not below what the worker had seen there, and of one version its stage does not fall, a
+-- version that it began is later, and it tells what it should.
 pub record Adds {X : Type 0} (r : Run X) (v : View X) (earlier : List Served) (s : Served) (w : View X) : Type 0 where
   pub keeps : KnowsAll v w
   pub drawn : (x : ℕ) → drawn x w.trail ≡ one_if (drew_version x s) + drawn x v.trail
   pub draws : draws w.trail ≡ one_if (drew_some s) + draws v.trail
   pub deeds : (d : Deed) → Contains w.deeds d → Contains v.deeds d ⊎ ((d.pass ≡ v.pass) × IsDeedOf r w d earlier s)
   pub fresh : (a e : ℕ) → Shows r.setting.anchors earlier s a e → seen_at a v.seen ≤ e
+  -- of one version the stage that it shows is one to which those lead that the worker had seen there
+  pub stages : (a d e : ℕ) → Shows r.setting.anchors earlier s a e → Contains v.seen (Stood a d) → version_of d ≡ version_of e
+      → Leads (stage_of d) (stage_of e)
   pub above : (a x : ℕ) → PrintsBegunVersion r.setting.anchors s a x → version_of (seen_at a v.seen) < x  -- a version that it began is later than what the worker had seen there
   pub tells : Tells r w earlier s
   pub parts : IsTrue r.tells → (e : Epoch) (bytes : List ℕ) → s.answer ≡ answer.Part e bytes → HasPart r v w earlier s (epoch_number e)  -- PART gives what the worker had seen published

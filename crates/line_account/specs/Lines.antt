@@ -11,7 +11,7 @@ use Rattle.script_text.specs.declared.request.Request.{Request}
 use Rattle.script_text.specs.declared.request.Request.TheVariants.{Add, Begin, CloseTab, DropTab, End, Get, More, OpenTab, Put, Save}
 
 -- A line that was served, and its answer. Three things that are not printed stand beside them: the version that the line drew, if it
--- drew one, and the epochs at which it opened an entry and looked at one last. A worker's lines stand with the newest first.
+-- drew one, and the epochs at which it opened an entry, or found the one that it purged, and looked at one last. A worker's lines stand with the newest first.
 pub record Served : Type 0 where
   pub line : Line
   pub answer : Answer

@@ -52,20 +52,36 @@ Opens (answer.Opened version) x = version ≡ x
 Opens (answer.Hit version bytes) x = version ≡ x
 Opens _ x = ⊥
 
--- or that it was opened or stored
-abbrev pub OpensOrStores : Answer → ℕ → Type 0
-OpensOrStores (answer.Opened version) x = version ≡ x
-OpensOrStores (answer.Hit version bytes) x = version ≡ x
-OpensOrStores (answer.Stored version) x = version ≡ x
-OpensOrStores _ x = ⊥
+-- or that an entry of it was found that may be read
+abbrev pub FindsEntry : Answer → ℕ → Type 0
+FindsEntry (answer.Opened version) x = version ≡ x
+FindsEntry (answer.Hit version bytes) x = version ≡ x
+FindsEntry (answer.Purged epoch) x = version_of (epoch_number epoch) ≡ x
+FindsEntry _ x = ⊥
+
+-- or that one was stored
+abbrev pub FindsOrStores : Answer → ℕ → Type 0
+FindsOrStores (answer.Opened version) x = version ≡ x
+FindsOrStores (answer.Hit version bytes) x = version ≡ x
+FindsOrStores (answer.Purged epoch) x = version_of (epoch_number epoch) ≡ x
+FindsOrStores (answer.Stored version) x = version ≡ x
+FindsOrStores _ x = ⊥
+
+-- the epochs that an answer prints, and that of the whole entry where it printed STORED or DOOMED
+abbrev pub epochs_told : Answer → List ℕ
+epochs_told (answer.Stored version) = epoch_at version 3 ∷ []
+epochs_told (answer.Doomed version) = epoch_at version 11 ∷ []
+epochs_told a = printed a
 
 -- What the answer a prints is not below the epoch e, which was shown before: no epoch is, and no version that is printed alone is below
--- that of e. Where e is of the version that a opens or stores, it is not doomed, and where a opens it, e is not at HALTED, FREEING or GONE.
+-- that of e. Where e is of the version that a finds or stores, it is not doomed, and where a finds it, e is not at HALTED, FREEING or GONE.
+-- Of one version no stage falls, doomed or not.
 pub record NotBelow (e : ℕ) (a : Answer) : Type 0 where
   pub epochs : (f : ℕ) → Contains (printed a) f → e ≤ f
   pub versions : (x : ℕ) → version_alone a ≡ Some x → version_of e ≤ x
-  pub undoomed : (x : ℕ) → OpensOrStores a x → version_of e ≡ x → doom_of e ≡ 0
-  pub there : (x : ℕ) → Opens a x → version_of e ≡ x → stage_of e < 4
+  pub undoomed : (x : ℕ) → FindsOrStores a x → version_of e ≡ x → doom_of e ≡ 0
+  pub there : (x : ℕ) → FindsEntry a x → version_of e ≡ x → stage_of e < 4
+  pub stages : (f : ℕ) → Contains (epochs_told a) f → version_of f ≡ version_of e → stage_of e ≤ stage_of f
 
 -- the line t is among those that a worker served, with these before it
 pub record StandsIn {X : Type 0} (stages : List (Stage X)) (t : Stage X) (earlier : List (Stage X)) : Type 0 where

@@ -13,7 +13,7 @@ use Rattle.line_account.specs.Accounts.{epoch_in}
 use Rattle.line_account.specs.Answers.{IsCauseOf, IsLong, Refuses, Run}
 use Rattle.line_account.specs.Closing.{LineIn, Worker}
 use Rattle.line_account.specs.Lines.{Fits, Offers, Served, added}
-use Rattle.line_account.specs.Order.{Opens}
+use Rattle.line_account.specs.Order.{FindsEntry}
 use Rattle.line_account.specs.Printed.{AnotherComes, EndsBegun, HasBusyWords, HasOtherUrl, NeedsTooMany, PrintsAdded, PrintsEnded, PrintsLarge, PrintsOther, PrintsReaders}
 use Rattle.line_account.specs.Requests.{IsAnswerTo}
 use Rattle.line_account.specs.Scripts.{offering}
@@ -37,8 +37,8 @@ module _ {X : Type 0} (r : Run X) (script : List Line) (crew : List (Worker X)) 
         → count ≡ min asked (length (bytes_of body) - added tab p.line_of.earlier)
     -- `end` prints the version that its tab's `begin` printed
     pub ended : (version x : ℕ) → LineIn crew (λ earlier s. EndsBegun earlier s version x) → x ≡ version
-    -- OPEN and HIT come of an entry that was opened at an epoch of the printed version, at which it may be read
-    pub opened : (x : ℕ) → (p : LineIn crew (λ earlier s. Opens s.answer x))
+    -- OPEN, HIT and PURGED come of an entry that was found at an epoch of the printed version, at which it may be read
+    pub opened : (x : ℕ) → (p : LineIn crew (λ earlier s. FindsEntry s.answer x))
         → (version_of p.line_of.line.opened ≡ x) × (is_readable p.line_of.line.opened ≡ true)
     -- the epoch of PART is at APPENDING
     pub part : (epoch : Epoch) (bytes : List ℕ) → LineIn crew (λ earlier s. s.answer ≡ answer.Part epoch bytes) → stage_of (epoch_number epoch) ≡ 2

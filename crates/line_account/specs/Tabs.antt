@@ -1,5 +1,5 @@
 -- What the lines of one tab that reads have in common.
-use Rattle.std.specs.Prelude.{Bool, IsTrue, List, [], cond, false, length, take, true, ◌&&◌, ◌<◌, ◌==◌, ◌||◌, ◌∷◌, ◌≡◌, ◌≤◌, ℕ}
+use Rattle.std.specs.Prelude.{Bool, IsTrue, List, Some, [], cond, false, length, take, true, ◌&&◌, ◌<◌, ◌==◌, ◌||◌, ◌∷◌, ◌≡◌, ◌≤◌, ℕ}
 use Rattle.lock_word.specs.Words.{epoch_number, version_of}
 use Rattle.lock_word.specs.declared.epoch.Epoch.{Epoch}
 use Rattle.plain_model.specs.Serving.{bytes_of}
@@ -8,10 +8,11 @@ use Rattle.script_text.specs.declared.answer.Answer.TheVariants as answer
 use Rattle.script_text.specs.declared.body.Body.{Body}
 use Rattle.script_text.specs.declared.request.Request.{Request}
 use Rattle.script_text.specs.declared.request.Request.TheVariants.{More}
+use Rattle.script_text.specs.Requests.{url_in}
 use Rattle.core_model.specs.Anchors.{opening_counter}
-use Rattle.line_account.specs.Answers.{IsWhole, Reads, Run, bytes_with}
+use Rattle.line_account.specs.Answers.{IsSure, IsWhole, Reads, Run, bytes_with}
 use Rattle.line_account.specs.Closing.{BegunIn, HaltedIn, LineIn, Worker}
-use Rattle.line_account.specs.Lines.{Offers, Served, bytes_in, opens}
+use Rattle.line_account.specs.Lines.{Offers, Served, opens}
 use Rattle.line_account.specs.Printed.{HadEntry, ReadsVersion, old_offer}
 
 abbrev pub is_end : Answer → Bool
@@ -50,6 +51,24 @@ pub record ReadsBehindEnd (earlier : List Served) (s : Served) (tab : ℕ) : Typ
   pub reads : Reads s.answer
   pub ended : came_to_end tab earlier ≡ true
 
+-- such a line gives no byte, and prints END, or FAULT
+abbrev pub IsOver : Answer → Type 0
+IsOver (answer.End bytes) = bytes ≡ []
+IsOver (answer.ReadFault bytes) = bytes ≡ []
+IsOver _ = ⊥
+
+-- a line that reads what was opened with the version x at the anchor a under this URL, and found its first slot
+pub record ReadsUnder (anchors : ℕ) (earlier : List Served) (s : Served) (a x : ℕ) (url : List ℕ) : Type 0 where
+  pub of : ReadsVersion anchors earlier s a x
+  pub named : url_in of.first.line.request ≡ Some url
+  pub sure : IsSure s.answer
+
+-- one that printed OTHERURL of it
+pub record ReadsOther (anchors : ℕ) (earlier : List Served) (s : Served) (a x : ℕ) (url : List ℕ) : Type 0 where
+  pub of : ReadsVersion anchors earlier s a x
+  pub named : url_in of.first.line.request ≡ Some url
+  pub printed : s.answer ≡ answer.OtherUrl
+
 -- the bytes are the first ones of the body of the entry that the anchor a had at the opening, and all of it where the answer says so
 pub record IsFrontOfOld {X : Type 0} (r : Run X) (a : ℕ) (told : Answer) (bytes : List ℕ) : Type 0 where
   pub there : HadEntry r a
@@ -78,6 +97,8 @@ module _ {X : Type 0} (r : Run X) (crew : List (Worker X)) where
         → x ≤ opening_counter r.setting → IsFrontOfOld r a p.line_of.line.answer (bytes_with p.line_of.earlier p.line_of.line)
     pub new : IsTrue r.tells → (a x : ℕ) → (p : LineIn crew (λ earlier s. ReadsOn r.setting.anchors earlier s a x))
         → opening_counter r.setting < x → IsFrontOfLine r crew a x p.line_of.line.answer (bytes_with p.line_of.earlier p.line_of.line)
-    -- and behind END a tab gives no byte
-    pub behind_end : IsTrue r.tells → (tab : ℕ) → (p : LineIn crew (λ earlier s. ReadsBehindEnd earlier s tab))
-        → bytes_in p.line_of.line.answer ≡ []
+    -- Behind END a tab gives no byte, and prints neither PART nor HALTED.
+    pub behind_end : IsTrue r.tells → (tab : ℕ) → (p : LineIn crew (λ earlier s. ReadsBehindEnd earlier s tab)) → IsOver p.line_of.line.answer
+    -- Of one version under one URL, either OTHERURL is printed, or HIT, PART, END and HALTED.
+    pub one_url : IsTrue r.tells → (a x : ℕ) (url : List ℕ) → LineIn crew (λ earlier s. ReadsUnder r.setting.anchors earlier s a x url)
+        → LineIn crew (λ earlier s. ReadsOther r.setting.anchors earlier s a x url) → ⊥

@@ -1,11 +1,13 @@
 //! Examples: lines in an order that no run explains, for the rules refuse them. Each says by which rule.
-ghost use Rattle.std.specs.Prelude.{◌≡◌, ◌∷◌, ℕ, List, [], false};
+ghost use Rattle.std.specs.Prelude.{◌≡◌, ◌∷◌, IsTrue, ℕ, List, [], false, true};
 ghost use Rattle.lock_word.specs.declared.cause.Cause.{Cause};
+ghost use Rattle.lock_word.specs.declared.epoch.Epoch.{Epoch};
 ghost use Rattle.lock_word.specs.declared.stage.Stage.TheVariants as stage;
 ghost use Rattle.script_text.specs.declared.answer.Answer.{Answer};
 ghost use Rattle.script_text.specs.declared.body.Body.{Body};
 ghost use Rattle.script_text.specs.declared.line.Line.{Line};
 ghost use Rattle.script_text.specs.declared.request.Request.{Request};
+ghost use Rattle.line_account.specs.Alone.{alone};
 ghost use Rattle.line_account.specs.Answers.{Run};
 ghost use Rattle.line_account.specs.Closing.{Worker};
 ghost use Rattle.line_account.specs.Lines.{Served};
@@ -20,4 +22,35 @@ pub fn nothing_told_twice_is_forgotten<X>()
         → b.line.request ≡ Request.Await m → b.answer ≡ Answer.Met → c.line.request ≡ Request.Mark n
         → d.line.request ≡ Request.Await n → d.answer ≡ Answer.Met → g.line.request ≡ Request.Get url
         → g.answer ≡ Answer.Miss (Cause.Absent (record { version = 0; stage = stage.Empty; doom = false })) → ⊥ }
+{}
+
+/// `purge` printed PURGED, and the same worker's next `purge` of the URL printed PURGED with the same version: what is doomed is found
+/// no more (`order.known`).
+pub fn nothing_is_purged_twice<X>()
+    ensures { (r : Run X) (script : List Line) (w : Worker X) (p s : Served) (url : List ℕ) (x : ℕ)
+        → KeepsRules r script (alone w) → w.served ≡ s ∷ p ∷ [] → p.line.request ≡ Request.Purge url → s.line.request ≡ Request.Purge url
+        → p.answer ≡ Answer.Purged (record { version = x; stage = stage.Closed; doom = true })
+        → s.answer ≡ Answer.Purged (record { version = x; stage = stage.Closed; doom = true }) → ⊥ }
+{}
+
+/// `put` printed STORED, and the same worker's `get` of the URL MISS leaving x.2d with its version: no stage falls, though the entry was
+/// doomed (`order.known`).
+pub fn no_stage_falls<X>()
+    ensures { (r : Run X) (script : List Line) (w : Worker X) (p g : Served) (url : List ℕ) (body : Body) (x : ℕ)
+        → KeepsRules r script (alone w) → w.served ≡ g ∷ p ∷ [] → p.line.request ≡ Request.Put url body → p.answer ≡ Answer.Stored x
+        → g.line.request ≡ Request.Get url
+        → g.answer ≡ Answer.Miss (Cause.Leaving (record { version = x; stage = stage.Appending; doom = true })) → ⊥ }
+{}
+
+/// `open` printed OPEN, `more` on its tab END, and the next one PART (`tabs.behind_end`) or OTHERURL (`tabs.one_url`): a tab that came to
+/// its end stays there.
+pub fn nothing_comes_behind_an_end<X>()
+    ensures part { (r : Run X) (script : List Line) (w : Worker X) (o e m : Served) (url bytes more : List ℕ) (x : ℕ) (epoch : Epoch)
+        → KeepsRules r script (alone w) → IsTrue r.tells → w.served ≡ m ∷ e ∷ o ∷ [] → o.line.request ≡ Request.OpenTab 0 url
+        → o.answer ≡ Answer.Opened x → e.line.request ≡ Request.More 0 → e.answer ≡ Answer.End bytes
+        → m.line.request ≡ Request.More 0 → m.answer ≡ Answer.Part epoch more → ⊥ }
+    ensures other { (r : Run X) (script : List Line) (w : Worker X) (o e m : Served) (url bytes : List ℕ) (x : ℕ)
+        → KeepsRules r script (alone w) → IsTrue r.tells → w.served ≡ m ∷ e ∷ o ∷ [] → o.line.request ≡ Request.OpenTab 0 url
+        → o.answer ≡ Answer.Opened x → e.line.request ≡ Request.More 0 → e.answer ≡ Answer.End bytes
+        → m.line.request ≡ Request.More 0 → m.answer ≡ Answer.OtherUrl → ⊥ }
 {}

@@ -14,15 +14,15 @@ ghost use Rattle.core_model.specs.Opening.{new_view, new_views};
 ghost use Rattle.core_model.specs.Sound.{Sound};
 ghost use Rattle.core_model.specs.State.{State};
 ghost use Rattle.core_model.specs.Anchors.{opening_counter, opening_epoch};
-ghost use Rattle.line_account.specs.Lines.{Fits, Offers, Served, added, bytes_in, given, offers};
-ghost use Rattle.line_account.specs.Tabs.{IsFrontOfLine, IsFrontOfOld, ReadsBehindEnd, ReadsHalted, ReadsOn, ReadsPart};
+ghost use Rattle.line_account.specs.Lines.{Fits, Offers, Served, added, offers};
+ghost use Rattle.line_account.specs.Tabs.{IsFrontOfLine, IsFrontOfOld, IsOver, ReadsBehindEnd, ReadsHalted, ReadsOn, ReadsOther, ReadsPart, ReadsUnder};
 ghost use Rattle.line_account.specs.Deeds.{Begins, PrintsBegun, PrintsBegunVersion};
 ghost use Rattle.line_account.specs.Requests.{IsAnswerTo};
 ghost use Rattle.line_account.specs.Crews.{HaveCourses};
 ghost use Rattle.line_account.specs.Ordering.{AreInOrder, AreNotShort};
 ghost use Rattle.line_account.specs.Scripts.{ServesScript, offering};
 ghost use Rattle.line_account.specs.Idle.{idle_workers};
-ghost use Rattle.line_account.specs.Order.{Opens, PrintsAlone};
+ghost use Rattle.line_account.specs.Order.{FindsEntry, PrintsAlone};
 ghost use Rattle.line_account.specs.Answers.{IsCauseOf, IsLong, Refuses, Run, bytes_with};
 ghost use Rattle.core_model.specs.declared.view.Deed.{Deed};
 ghost use Rattle.core_model.specs.declared.view.Item.{Item};
@@ -151,11 +151,11 @@ pub fn hit_versions_were_printed<X>()
         → opening_counter r.setting < x → IsBodyAsPrinted r crew a x url bytes }
 {}
 
-/// OPEN and HIT come of an entry that was opened at an epoch of the printed version, at which it may be read. A
+/// OPEN, HIT and PURGED come of an entry that was found at an epoch of the printed version, at which it may be read. A
 /// version that OPEN, HIT, PURGED or the PART of a `get` tells is that of an entry with the key of the URL: of the one
 /// that the anchor had at the opening, which it did have, or of the line that began the version.
 pub fn entries_found_were_there<X>()
-    ensures opened { (r : Run X) (crew : List (Worker X)) (x : ℕ) → Closed r crew → (p : LineIn crew (λ earlier s. Opens s.answer x))
+    ensures opened { (r : Run X) (crew : List (Worker X)) (x : ℕ) → Closed r crew → (p : LineIn crew (λ earlier s. FindsEntry s.answer x))
         → (version_of p.line_of.line.opened ≡ x) × (is_readable p.line_of.line.opened ≡ true) }
     ensures there { (r : Run X) (crew : List (Worker X)) (a x : ℕ) (url : List ℕ) → Closed r crew
         → LineIn crew (λ earlier s. Finds r.setting.anchors s a x url) → x ≤ opening_counter r.setting → HadEntry r a }
@@ -299,7 +299,8 @@ pub fn ends_tell_the_version_begun<X>()
 
 /// A tab that reads stays at the entry of which its OPEN told the version: PART is of that version, HALTED comes only where its
 /// writing was halted, and all bytes since OPEN are the first ones of its body, the whole of it at END. Behind END the tab
-/// gives no byte.
+/// gives no byte, and prints neither PART nor HALTED. Of one version under one URL either OTHERURL is printed, or HIT,
+/// PART, END and HALTED.
 pub fn tabs_stay_at_their_entries<X>()
     ensures part { (r : Run X) (crew : List (Worker X)) (a x : ℕ) (epoch : Epoch) → Closed r crew
         → LineIn crew (λ earlier s. ReadsPart r.setting.anchors earlier s a x epoch) → version_of (epoch_number epoch) ≡ x }
@@ -312,5 +313,8 @@ pub fn tabs_stay_at_their_entries<X>()
         → (p : LineIn crew (λ earlier s. ReadsOn r.setting.anchors earlier s a x)) → opening_counter r.setting < x
         → IsFrontOfLine r crew a x p.line_of.line.answer (bytes_with p.line_of.earlier p.line_of.line) }
     ensures behind_end { (r : Run X) (crew : List (Worker X)) (tab : ℕ) → Closed r crew → IsTrue r.tells
-        → (p : LineIn crew (λ earlier s. ReadsBehindEnd earlier s tab)) → bytes_in p.line_of.line.answer ≡ [] }
+        → (p : LineIn crew (λ earlier s. ReadsBehindEnd earlier s tab)) → IsOver p.line_of.line.answer }
+    ensures one_url { (r : Run X) (crew : List (Worker X)) (a x : ℕ) (url : List ℕ) → Closed r crew → IsTrue r.tells
+        → LineIn crew (λ earlier s. ReadsUnder r.setting.anchors earlier s a x url)
+        → LineIn crew (λ earlier s. ReadsOther r.setting.anchors earlier s a x url) → ⊥ }
 {}

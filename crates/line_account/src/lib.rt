@@ -20,7 +20,10 @@ pub use absurd_epochs::{
     nothing_is_evicted_that_was_not_whole, nothing_is_given_back_by_itself,
     nothing_is_given_back_that_never_was,
 };
-pub use absurd_order::nothing_told_twice_is_forgotten;
+pub use absurd_order::{
+    no_stage_falls, nothing_comes_behind_an_end, nothing_is_purged_twice,
+    nothing_told_twice_is_forgotten,
+};
 pub use examples::{
     a_hit_has_what_was_stored, a_lone_spent_number_is_the_counter, a_lone_version_is_the_next_one,
     a_put_and_a_get_have_an_account, no_hit_follows_a_purge, no_old_miss_follows_a_mark,

@@ -27,7 +27,7 @@ use Rattle.line_account.specs.Epochs.{EpochsHaveCauses}
 use Rattle.run_rules.specs.Lawful.{MayBegin, get_line, put_and_get, put_and_get_script, put_line}
 use Rattle.script_text.specs.Requests.{url_in}
 use Rattle.line_account.specs.Lines.{Fits, IsAnchorOf, IsAt, Offers, Served, Writes, offers, writing}
-use Rattle.line_account.specs.Order.{NotBelow, Opens, PrintsAlone, counts_as}
+use Rattle.line_account.specs.Order.{FindsEntry, NotBelow, Opens, PrintsAlone, counts_as}
 use Rattle.line_account.specs.Ordering.{AreInOrder, AreNotShort}
 use Rattle.line_account.specs.Parts.{PrintsPart}
 use Rattle.line_account.specs.Printed.{AreFirstOnes, Ends, EndsBegun, Finds, FinishedIn, IsBodyAsPrinted, IsBodyOfLine, IsKeyOfLine, NeedsTooMany, PrintsAdded, PrintsEnded, PrintsHit, PrintsKey, PrintsLarge, PrintsOther, PrintsReaders, ReadsOf, ReadsVersion, ReadsWhole}
@@ -35,7 +35,7 @@ use Rattle.line_account.specs.Refusals.{Any, AnswersHaveCauses}
 use Rattle.line_account.specs.Requests.{IsAnswerTo}
 use Rattle.line_account.specs.Rules.{KeepsRules}
 use Rattle.line_account.specs.Scripts.{offering}
-use Rattle.line_account.specs.Tabs.{IsFrontOfLine, ReadsBehindEnd, ReadsHalted, ReadsOn, ReadsPart, TabsStay}
+use Rattle.line_account.specs.Tabs.{IsFrontOfLine, ReadsBehindEnd, ReadsHalted, ReadsOn, ReadsOther, ReadsPart, TabsStay}
 use Rattle.line_account.specs.Versions.{AreBegun}
 use Rattle.line_account.proofs.Ordering.{FoundAt, below}
 
@@ -157,7 +157,7 @@ module _ {X : Type 0} (r : Run X) (url : List ℕ) (m : MayBegin r url) (w : Wor
     short = λ u body p far. absurd (never (λ earlier s. Offers s.line.request u body × Fits earlier s.line.request) (λ h. h.0) (λ h. let e = ap length h.0.0 in let room = m.offers.short in omega arith) p);
     added = λ first u body tab asked count p o. absurd (never (λ earlier s. PrintsAdded earlier s first tab asked count) (λ h. let k : answer.Hit x [] ≡ answer.Added count = h.printed in cc) (λ h. let k : answer.Stored x ≡ answer.Added count = h.printed in cc) p);
     ended = λ version y p. absurd (never (λ earlier s. EndsBegun earlier s version y) (λ h. let k : Get url ≡ End h.tab = h.request in cc) (λ h. let k : Put url nothing ≡ End h.tab = h.request in cc) p);
-    opened = λ y p. by_line (λ earlier s. Opens s.answer y) (λ earlier s. (version_of s.opened ≡ y) × (is_readable s.opened ≡ true))
+    opened = λ y p. by_line (λ earlier s. FindsEntry s.answer y) (λ earlier s. (version_of s.opened ≡ y) × (is_readable s.opened ≡ true))
         (λ h. let same : x ≡ y = h in (version ∙ same, readable_where (epoch_at x 3) (inr (omega arith)))) (λ h. absurd h) p;
     part = λ epoch bytes p. absurd (never (λ earlier s. s.answer ≡ answer.Part epoch bytes) (λ h. let k : answer.Hit x [] ≡ answer.Part epoch bytes = h in cc) (λ h. let k : answer.Stored x ≡ answer.Part epoch bytes = h in cc) p);
     busy = λ looked other p. absurd (never (λ earlier s. s.answer ≡ answer.Busy looked other) (λ h. let k : answer.Hit x [] ≡ answer.Busy looked other = h in cc) (λ h. let k : answer.Stored x ≡ answer.Busy looked other = h in cc) p);
@@ -292,8 +292,8 @@ module _ {X : Type 0} (r : Run X) (url : List ℕ) (m : MayBegin r url) (w : Wor
   -- what is at most the entry's epoch is not above what the lines print
   not_above : (e : ℕ) → e ≤ epoch_at x 3 → (earlier : List Served) (s : Served) → IsLine earlier s → NotBelow e s.answer
   not_above e le earlier s line = each (λ z t. NotBelow e t.answer)
-      (below (epoch_at x 3) 0 e (answer.Hit x []) (λ y h. found_at y h) (λ f h. let k = one_of (epoch_at x 3) f h in omega arith))
-      (below 0 0 e (answer.Stored x) (λ y h. absurd h) (λ f h. let k = one_of (epoch_at x 3) f h in omega arith))
+      (below (epoch_at x 3) 0 e (answer.Hit x []) (λ y h. found_at y h) (λ f h. let k = one_of (epoch_at x 3) f h in omega arith) (λ f h same. let k = one_of (epoch_at x 3) f h in omega arith))
+      (below 0 0 e (answer.Stored x) (λ y h. absurd h) (λ f h. let k = one_of (epoch_at x 3) f h in omega arith) (λ f h same. let k = one_of (epoch_at x 3) f h in omega arith))
       earlier s line
 
   counted : (e : ℕ) (s : Served) (earlier : List Served) → IsLine earlier s → Contains (counts_as s.answer) e → e ≤ epoch_at x 3
@@ -362,6 +362,7 @@ module _ {X : Type 0} (r : Run X) (url : List ℕ) (m : MayBegin r url) (w : Wor
     new = λ tells b y p new. by_line (λ earlier s. ReadsOn r.setting.anchors earlier s b y) (λ earlier s. IsFrontOfLine r crew b y s.answer (bytes_with earlier s))
         (λ h. let k = of_get b y h.of in record { begun = begun b y k.0 k.1; url = url; body = nothing; offers = (refl, refl); first_ones = refl; whole = λ z. refl })
         (λ h. absurd (of_put b y h.of)) p;
+    one_url = λ tells b y u p q. never (λ earlier s. ReadsOther r.setting.anchors earlier s b y u) (λ h. let k : answer.Hit x [] ≡ answer.OtherUrl = h.printed in cc) (λ h. let k : answer.Stored x ≡ answer.OtherUrl = h.printed in cc) q;
     behind_end = λ tells tab p. absurd (never (λ earlier s. ReadsBehindEnd earlier s tab) (λ h. let k : Get url ≡ More tab = h.request in cc) (λ h. let k : Put url nothing ≡ More tab = h.request in cc) p);
   }
 

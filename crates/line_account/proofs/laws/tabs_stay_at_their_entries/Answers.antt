@@ -1,4 +1,4 @@
-use Rattle.line_account.proofs.Tabs.{front_new, front_old, halted_same, none_behind_end, part_same}
+use Rattle.line_account.proofs.Tabs.{front_new, front_old, halted_same, never_both, over_behind_end, part_same}
 use Rattle.line_account.proofs.laws.tabs_stay_at_their_entries.Goals as goal
 
 pub returns-clause-part : goal.returns-clause-part
@@ -14,4 +14,7 @@ pub returns-clause-new : goal.returns-clause-new
 returns-clause-new c start r crew a x closed y p high = front_new r crew closed a x y p high
 
 pub returns-clause-behind_end : goal.returns-clause-behind_end
-returns-clause-behind_end c start r crew tab closed y p = none_behind_end r crew closed y tab p
+returns-clause-behind_end c start r crew tab closed y p = over_behind_end r crew closed y tab p
+
+pub returns-clause-one_url : goal.returns-clause-one_url
+returns-clause-one_url c start r crew a x url closed y p q = never_both r crew closed y a x url p q
