@@ -75,9 +75,10 @@ module _ {C : Type 0} (told : Bool) (state : C → CellState) (g : Ground (List 
       (o.each a small)
 
   pub began : BeganWithFile run slot anchors o.kept.images
+  unfolding winner_of
   began = record {
     each = λ a small. ⊎_elim
-        (λ (h : HadKept g slot anchors o.kept.images a). inl record { entry = h.entry; winner = h.winner; epoch = h.epoch })
+        (λ (h : HadKept g slot anchors o.kept.images a). inl (let w = winner_of a h in record { entry = h.entry; winner = h.winner; epoch = h.epoch; keyed = w.keyed; url_is = w.url_is; body_is = w.body_is }))
         (λ (h : HadNone g slot anchors o.kept.images a). inr record { none = h.none; epoch = h.epoch })
         (o.each a small);
     counter = subst (IsGreatest slot o.kept.images) (sym o.counter) o.kept.rebuilt.greatest;
