@@ -152,6 +152,7 @@ one byte less than the sum;0.16=dc;2;none
 one byte more than the sum;0.16=de;2;none
 no size yet;0.16=0000;2;none
 the last slot says its own size;0.16=0500;2;none
+the last slot says its own size and names itself first;0.16=0500 0.32=00;0;none
 another size in the first slot;2.16=63;2;7 435 [2, 0]
 one slot, one byte less;1.16=2e;1;none
 no mark;1.40=04;1;none
@@ -165,7 +166,7 @@ a URL without its zero byte;1.81=21;1;none";
 #[test]
 fn complete_entries_are_found_where_they_begin(rt: HostRuntime) -> Result<(), Fail> {
     let alloc = rt.alloc();
-    assert_eq!(rt; COMPLETE.lines().count(), 44);
+    assert_eq!(rt; COMPLETE.lines().count(), 45);
     for row in COMPLETE.lines() {
         let (_, rest) = fields(row)?;
         let (parts, rest) = fields(rest)?;
@@ -196,6 +197,8 @@ the newer of one anchor;;1;[2] [1, 0, 1, 0] 7
 the other is newer;1.28=09;1;[1] [0, 1, 0, 0] 9
 one version: the first slot;1.28=07;1;[1] [0, 1, 0, 0] 7
 two anchors;;16;[2, 1] [2, 11, 2, 0] 7
+one URL, and both are whole;1.0=1a68c10d6c8b326657c775f53c866dd1 1.50=1a68c10d6c8b326657c775f53c866dd1 1.80=62;16;[2] [2, 0, 2, 0] 7
+one URL, and the newer one lacks its second slot;0.24=00 1.0=1a68c10d6c8b326657c775f53c866dd1 1.50=1a68c10d6c8b326657c775f53c866dd1 1.80=62;16;[1] [0, 2, 0, 0] 7
 a broken chain;0.28=08;16;[1] [0, 11, 0, 0] 8
 a slot that is not sane;0.28=0100ffff;16;[1] [0, 11, 0, 0] 7
 a newer slot of no entry;3.0=1a68c10d6c8b326657c775f53c866dd12f000000000000002f0000000700000000000000ffffffff032a00000003100000001a68c10d6c8b326657c775f53c866dd1040b000000687474703a2f2f612f620068656c6c6f 3.28=6300000003 3.16=00;16;[2, 1] [2, 11, 2, 0] 99
@@ -204,7 +207,7 @@ no sane slot;0.24=00 1.24=00 2.24=0000;16;[] [0, 0, 0, 0] 0";
 #[test]
 fn the_best_entry_of_each_anchor_is_kept(rt: HostRuntime) -> Result<(), Fail> {
     let alloc = rt.alloc();
-    assert_eq!(rt; KEPT.lines().count(), 8);
+    assert_eq!(rt; KEPT.lines().count(), 10);
     for row in KEPT.lines() {
         let (_, rest) = fields(row)?;
         let (parts, rest) = fields(rest)?;
