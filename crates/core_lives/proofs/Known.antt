@@ -1,9 +1,7 @@
 -- Along a list of steps, crashes and rebuilds what slots hold has as complete entries those of the first file and responses that were offered.
-use Rattle.std.proofs.Common.{◌≡◌, ◌⊎◌, inl, inr, ⊎_elim, ℕ, zero, suc, ◌+◌, ◌-◌, ◌<◌, ◌≤◌, ◌^◌, List, [], ◌∷◌, length, None, Option, Some, replicate, refl, sym, ap, ◌∙◌, subst, arith, Contains}
+use Rattle.std.proofs.Common.{◌≡◌, ◌⊎◌, inl, inr, ⊎_elim, ℕ, zero, suc, ◌+◌, ◌<◌, ◌≤◌, ◌^◌, List, length, None, Some, replicate, refl, sym, ap, ◌∙◌, subst, arith, Contains}
 use Rattle.std.proofs.lemmas.List.{length-replicate}
 use mathlib.Core.Option.{some, some-injective, some-ne-none}
-use mathlib.Core.Logic.{dite}
-use native.Mathlib.Decide.{ℕ_discrete}
 use lib.ListN.{get_elem?}
 use Rattle.slot_cell.specs.Header.{header_of}
 use Rattle.rebuild_model.specs.declared.image.FileImage.{FileImage}
@@ -15,8 +13,7 @@ use Rattle.core_model.specs.declared.view.LoggedPiece.{LoggedPiece}
 use Rattle.core_model.specs.declared.view.Place.TheVariants.{Counter}
 use Rattle.core_model.specs.Anchors.{opening_counter}
 use Rattle.core_model.specs.Cells.{IsCell}
-use Rattle.core_model.specs.Layout.{Setting, word_in}
-use Rattle.core_model.specs.Opening.{IsOpened}
+use Rattle.core_model.specs.Layout.{word_in}
 use Rattle.core_model.proofs.Lists.{at_length}
 use Rattle.core_log.specs.Logged.{IsKnown, IsLogOf}
 use Rattle.rebuild_model.specs.Rebuilt.{IsWinner}
@@ -37,7 +34,7 @@ use Rattle.named_rebuild.specs.Contents.{content_at}
 use Rattle.named_rebuild.specs.Keeping.{IsGreatestShown, ShowsVersion}
 use Rattle.named_rebuild.proofs.Facts.{not_blank}
 use Rattle.core_lives.specs.Along.{LeadsThrough}
-use Rattle.core_lives.specs.Crash.{ArePicked, IsLeft, ShowsAs}
+use Rattle.core_lives.specs.Crash.{ArePicked, ShowsAs}
 use Rattle.core_lives.specs.Happening.{Happens, IsActed, IsCrashed, IsNewLife, IsReopened, IsSameLife}
 use Rattle.core_lives.specs.Left.{IsFaithful, KeepsToOffer, MayBeLeft, bytes_in, content_bytes, images_from}
 use Rattle.core_lives.specs.Lived.{IsSoundLife, Lived}

@@ -1,5 +1,5 @@
 -- A life stays sound, whatever happens.
-use Rattle.std.proofs.Common.{◌≡◌, ⊎_elim, ℕ, zero, suc, replicate, ◌<◌, ◌≤◌, ◌^◌, List, [], ◌++◌, length, refl, sym, ap, ◌∙◌, subst, arith, None, Option, Some, Contains, Result, Ok, Err}
+use Rattle.std.proofs.Common.{◌≡◌, ⊎_elim, ℕ, zero, suc, replicate, ◌<◌, ◌^◌, List, [], ◌++◌, length, refl, sym, ap, ◌∙◌, subst, arith, None, Option, Some, Contains, Result, Ok, Err}
 use Rattle.std.specs.Prelude.{IfOk, OnErr}
 use Rattle.std.proofs.lemmas.List.{length-replicate}
 use Rattle.rebuild_model.specs.declared.image.FileImage.{FileImage}
@@ -7,7 +7,6 @@ use Rattle.rebuild_model.specs.declared.rebuilt.Rebuilt.{Rebuilt}
 use Rattle.rebuild_model.specs.Image.{IsFile}
 use Rattle.core_model.specs.declared.view.LoggedPiece.{LoggedPiece}
 use Rattle.core_model.specs.Layout.{Setting}
-use Rattle.core_model.specs.Opening.{IsOpened}
 use Rattle.core_model.specs.Sound.{Sound}
 use Rattle.core_model.specs.State.{State}
 use Rattle.core_model.proofs.AllKept.{keeps_sound}
@@ -36,7 +35,7 @@ use Rattle.named_rebuild.specs.Contents.{AreContents, IsPieceWithin, content_at}
 use Rattle.named_rebuild.specs.Keeping.{IsRebuiltOfNames}
 use Rattle.named_rebuild.proofs.Facts.{not_blank}
 use Rattle.named_rebuild.proofs.Gathering.{kept_so}
-use Rattle.core_lives.specs.Crash.{ArePicked, IsLeft, IsLoggedFor, ShowsAs}
+use Rattle.core_lives.specs.Crash.{ArePicked, ShowsAs}
 use Rattle.core_lives.specs.Happening.{Happens, IsActed, IsCrashed, IsReopened, IsSameLife}
 use Rattle.core_lives.specs.Lived.{HasOrderedLog, IsSoundLife, Lived}
 use Rattle.core_lives.proofs.Seeking.{at_contains}

@@ -1,12 +1,11 @@
 -- An offered content that a crash may leave was logged for its slot.
-use Rattle.std.proofs.Common.{◌≡◌, inl, inr, ℕ, zero, suc, ◌+◌, List, [], ◌∷◌, sym, ap, ◌∙◌, subst, arith}
+use Rattle.std.proofs.Common.{◌≡◌, inl, inr, ℕ, zero, suc, ◌+◌, sym, ◌∙◌}
 use mathlib.Core.Option.{some, some-injective, some-ne-none}
 use lib.ListN.{get_elem?}
 use Rattle.core_model.specs.declared.tab.Piece.{Piece}
 use Rattle.core_model.specs.declared.view.LoggedPiece.{LoggedPiece}
 use Rattle.core_log.specs.Logged.{IsKnown}
 use Rattle.core_lives.specs.Lived.{HasOrderedLog}
-use Rattle.core_table.specs.declared.content.Content.{Content}
 use Rattle.core_table.specs.declared.content.Content.TheVariants.{Blank, Offered, Opened}
 use Rattle.core_table.specs.Machine.{Machine, opened_from, setting_of}
 use Rattle.core_lives.specs.Crash.{IsLoggedFor, IsPickedAs}

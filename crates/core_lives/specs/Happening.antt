@@ -1,5 +1,5 @@
 -- What one step does to a core that goes through crashes.
-use Rattle.std.specs.Prelude.{◌≡◌, ◌<◌, ℕ, List, None, Option, Some, length, replicate, slice_index}
+use Rattle.std.specs.Prelude.{◌≡◌, ◌<◌, ℕ, List, None, Some, length, replicate, slice_index}
 use Rattle.rebuild_model.specs.declared.image.FileImage.{FileImage}
 use Rattle.rebuild_model.specs.declared.rebuilt.Rebuilt.{Rebuilt}
 use Rattle.core_state.specs.declared.act.Step.{Step}

@@ -1,4 +1,4 @@
-use Rattle.std.proofs.Common.{List, Option, None, inr, sym, subst, arith, ◌<◌, length, ◌∙◌}
+use Rattle.std.proofs.Common.{List, None, inr, sym, subst}
 use Rattle.core_model.specs.declared.tab.Cell.{Cell}
 use Rattle.core_model.specs.declared.view.View.{View}
 use Rattle.core_table.specs.declared.content.Content.{Content}

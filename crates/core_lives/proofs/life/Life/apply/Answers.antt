@@ -1,4 +1,4 @@
-use Rattle.std.proofs.Common.{rules, ◌≡◌, None, subst}
+use Rattle.std.proofs.Common.{rules, subst}
 use Rattle.std.specs.Prelude.{IfOk}
 use Rattle.core_state.specs.declared.act.Step.{Step}
 use Rattle.core_state.specs.Applied.{Applies}

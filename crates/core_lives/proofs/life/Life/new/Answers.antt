@@ -1,7 +1,5 @@
-use Rattle.std.proofs.Common.{rules, ◌≡◌, List, length, replicate, arith}
+use Rattle.std.proofs.Common.{◌≡◌, length, replicate, arith}
 use Rattle.std.proofs.lemmas.Grind.{common_steps}
-use Rattle.rebuild_model.specs.Image.{IsFile}
-use Rattle.named_rebuild.specs.declared.contents.FirstContent.{FirstContent}
 use Rattle.named_rebuild.specs.declared.contents.FirstContent.TheVariants.{File}
 use Rattle.core_lives.proofs.Living.{new_sound}
 use Rattle.core_lives.proofs.life.Life.new.Goals as goal
