@@ -54,7 +54,7 @@ pub(crate) fn word_in(text: &str) -> Option<u64> {
     epoch.checked_mul(0x1_0000)?.checked_add(readers)
 }
 
-fn answer_in(kind: u8, text: &str) -> Option<Result<u64, StepFault>> {
+pub(crate) fn answer_in(kind: u8, text: &str) -> Option<Result<u64, StepFault>> {
     if text == "refused" {
         return Some(Err(StepFault::NotAllowed { kind }));
     }
@@ -151,7 +151,7 @@ fn claim_told(alloc: Global, core: &Core, pass: &str, tab: &str) -> Option<Strin
 }
 
 /// What a line that begins so should be, as the core stands.
-fn standing(alloc: Global, core: &Core, line: &str) -> Option<String> {
+pub(crate) fn standing(alloc: Global, core: &Core, line: &str) -> Option<String> {
     let mut words = line.split(' ');
     match words.next()? {
         "stands" => anchor_told(alloc, core),

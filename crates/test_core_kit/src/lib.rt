@@ -3,6 +3,7 @@
 
 ghost use Rattle.std.specs.Prelude.{◌≡◌, ℕ, List, All, length, IsTrue};
 
+use core_lives::Life;
 use core_state::{Core, Step, StepFault};
 use rebuild_model::{FileImage, Images};
 use rock_io::Octets;
@@ -11,23 +12,28 @@ use std::alloc::Global;
 /// The bytes of a slot.
 pub const SLOT: usize = 512;
 
-/// A core over a file of these bytes, in slots of 512 bytes. None where there is no such core, or no memory.
-pub fn core_over(alloc: Global, bytes: &[u8], anchors: u32, passes: u32) -> Option<Core> {
+/// The file of these bytes, in slots of 512 bytes. None where there is no memory.
+fn file_of(alloc: Global, bytes: &[u8]) -> Option<FileImage> {
     let mut images = Vec::new(alloc);
     for slot in bytes.chunks(SLOT) {
         images
             .push(Octets::from_vec(slot.to_vec(alloc).ok()?))
             .ok()?;
     }
-    let image = FileImage {
+    Some(FileImage {
         slot: 512,
         slots: Images::from_vec(images),
-    };
+    })
+}
+
+/// A core over a file of these bytes, in slots of 512 bytes. None where there is no such core, or no memory.
+pub fn core_over(alloc: Global, bytes: &[u8], anchors: u32, passes: u32) -> Option<Core> {
+    let image = file_of(alloc, bytes)?;
     let count = image.slots.as_slice().len();
     if count < 1 || count > 1_048_576 || anchors < 1 || anchors as usize > count {
         return None;
     }
-    if passes < 1 || passes > 32 || !has_width(&image) {
+    if image.slot != 512 || passes < 1 || passes > 32 || !has_width(&image) {
         return None;
     }
     Core::new(alloc, &image, anchors, passes).ok()
@@ -38,6 +44,19 @@ pub fn blank_core(alloc: Global, slots: u32, anchors: u32, passes: u32) -> Optio
     let mut bytes = Vec::new(alloc);
     bytes.resize(slots as usize * SLOT, 0).ok()?;
     core_over(alloc, &bytes, anchors, passes)
+}
+
+/// A core over a file of these bytes that goes through crashes. None where there is no such core, or no memory.
+pub fn life_over(alloc: Global, bytes: &[u8], anchors: u32, passes: u32) -> Option<Life> {
+    let image = file_of(alloc, bytes)?;
+    let count = image.slots.as_slice().len();
+    if count < 1 || count > 1_048_576 || anchors < 1 || anchors as usize > count {
+        return None;
+    }
+    if image.slot != 512 || passes < 1 || passes > 32 || !has_width(&image) {
+        return None;
+    }
+    Life::new(alloc, image, anchors, passes).ok()
 }
 
 /// Whether each slot of a file is as wide as the file says.
@@ -56,4 +75,13 @@ fn has_width(image: &FileImage) -> bool
 /// The step is refused, and the core as it was.
 pub fn make(core: &mut Core, step: &Step) -> Result<u64, StepFault> {
     core.apply(step)
+}
+
+/// Lets a step happen to a life. Nothing is ensured, likewise.
+///
+/// # Errors
+///
+/// The step is refused, and all is as it was.
+pub fn live(life: &mut Life, step: &Step) -> Result<u64, StepFault> {
+    life.apply(step)
 }
