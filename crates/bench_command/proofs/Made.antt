@@ -8,7 +8,6 @@ use Rattle.db_layout.specs.declared.geometry.Geometry.{Geometry}
 use Rattle.file_commands.specs.Create.{IsMade as IsMadeFile, made_bytes}
 use Rattle.file_commands.specs.Recording.{geometry_of}
 use Rattle.file_commands.specs.Report.{ReportsOrLacksMemory}
-use Rattle.rock_disk.specs.Cell.{CellState}
 use Rattle.rock_disk.specs.File.{File, Files, IsNotAway, IsThere, bytes_of, cut, zeros}
 use Rattle.rock_disk.proofs.Out.{get_inserted}
 use Rattle.rock_io.specs.Faults.{Rose}
@@ -105,21 +104,21 @@ done_or_memory workers k k' before after (Small bytes) sink device ends says = a
 done_or_memory workers k k' before after (BadGeometry field) sink device ends says = absurd says
 done_or_memory workers k k' before after Exists sink device ends says = absurd ends
 
-module _ {C : Type 0} (volume_tells tells : Bool) (state : C → CellState) (before middle after : Files) (name : List ℕ) (workers : ℕ) (lines : List Line) (made : IsMade volume_tells before middle name workers) where
-  left_by : (status : Status) → RunLeaves volume_tells tells state middle after name workers lines status → LeavesMade volume_tells tells state before after name workers lines status
+module _ (volume_tells : Bool) (before middle after : Files) (name : List ℕ) (workers : ℕ) (lines : List Line) (made : IsMade volume_tells before middle name workers) (counted counted_after : Counts) where
+  left_by : (status : Status) → RunLeaves volume_tells middle after name workers lines (made_counts counted) counted_after status → LeavesMade volume_tells before after name workers lines counted counted_after status
   left_by status left = record { middle = middle; made = made; left = left }
 
   -- what the run leaves is what the benchmark leaves
-  pub leaves_of_run : (k k' : ℕ) (counted counted_after : Counts) (status : Status) → RunEnds workers k k' counted counted_after status → RunLeaves volume_tells tells state middle after name workers lines status
-      → BenchLeaves volume_tells tells state before after name workers lines status
-  leaves_of_run k k' counted counted_after Done ends left = left_by Done left
-  leaves_of_run k k' counted counted_after Usage ends left = absurd ends
-  leaves_of_run k k' counted counted_after Memory ends left = inr (left_by Memory left)
-  leaves_of_run k k' counted counted_after SourceFault ends left = absurd ends
-  leaves_of_run k k' counted counted_after SinkFault ends left = left_by SinkFault left
-  leaves_of_run k k' counted counted_after DeviceFault ends left = inr (left_by DeviceFault left)
-  leaves_of_run k k' counted counted_after (BadScript line cause) ends left = absurd ends
-  leaves_of_run k k' counted counted_after Missing ends left = left_by Missing left
-  leaves_of_run k k' counted counted_after (Small bytes) ends left = left_by (Small bytes) left
-  leaves_of_run k k' counted counted_after (BadGeometry field) ends left = inr (ends.0, left_by (BadGeometry field) left)
-  leaves_of_run k k' counted counted_after Exists ends left = absurd ends
+  pub leaves_of_run : (k k' : ℕ) (status : Status) → RunEnds workers k k' (made_counts counted) counted_after status → RunLeaves volume_tells middle after name workers lines (made_counts counted) counted_after status
+      → BenchLeaves volume_tells before after name workers lines counted counted_after status
+  leaves_of_run k k' Done ends left = left_by Done left
+  leaves_of_run k k' Usage ends left = absurd ends
+  leaves_of_run k k' Memory ends left = inr (left_by Memory left)
+  leaves_of_run k k' SourceFault ends left = absurd ends
+  leaves_of_run k k' SinkFault ends left = left_by SinkFault left
+  leaves_of_run k k' DeviceFault ends left = inr (left_by DeviceFault left)
+  leaves_of_run k k' (BadScript line cause) ends left = absurd ends
+  leaves_of_run k k' Missing ends left = left_by Missing left
+  leaves_of_run k k' (Small bytes) ends left = left_by (Small bytes) left
+  leaves_of_run k k' (BadGeometry field) ends left = inr (ends.0, left_by (BadGeometry field) left)
+  leaves_of_run k k' Exists ends left = absurd ends

@@ -4,7 +4,6 @@ use Rattle.db_layout.specs.Layout.{IsSlotSize}
 use Rattle.file_commands.specs.Create.{CreateEnds, CreateLeaves, CreateSays, IsSlotCount}
 use Rattle.file_commands.specs.Device.{EndedOne}
 use Rattle.file_commands.specs.Report.{ReportPrints, ReportsOrLacksMemory}
-use Rattle.rock_disk.specs.Cell.{CellState}
 use Rattle.rock_disk.specs.File.{Files, IsThere}
 use Rattle.rock_open.specs.Device.{Counts, NoStation}
 use Rattle.rock_open.specs.Opening.{IsPasses}
@@ -14,7 +13,7 @@ use Rattle.script_text.specs.declared.line.Line.{Line}
 use Rattle.bench_command.specs.Ends.{BenchEnds, BenchSays}
 use Rattle.bench_command.specs.Leaves.{BenchLeaves, LeavesMade, RunLeaves}
 use Rattle.bench_command.specs.Numbers.{AreBenchNumbers, slot_size, slots_for}
-use Rattle.bench_command.specs.Stations.{HasFailed}
+use Rattle.bench_command.specs.Stations.{HasFailed, made_counts}
 use Rattle.bench_command.proofs.Plain.{sized}
 use Rattle.bench_command.proofs.Stations.{header_failed}
 
@@ -92,13 +91,13 @@ unmade_prints workers v v' e e' IsText taken (Small bytes) not ends = refl
 unmade_prints workers v v' e e' IsText taken (BadGeometry field) not ends = refl
 unmade_prints workers v v' e e' IsText taken Exists not ends = refl
 
-module _ {C : Type 0} (volume_tells tells : Bool) (state : C → CellState) (before after : Files) (name : List ℕ) (workers : ℕ) (lines : List Line) where
+module _ (volume_tells : Bool) (before after : Files) (name : List ℕ) (workers : ℕ) (lines : List Line) (counted counted_after : Counts) where
   -- of a volume that does not tell its files nothing is left to say
-  untold : (IsTrue volume_tells → ⊥) → (status : Status) → RunLeaves volume_tells tells state before after name workers lines status → LeavesMade volume_tells tells state before after name workers lines status
+  untold : (IsTrue volume_tells → ⊥) → (status : Status) → RunLeaves volume_tells before after name workers lines (made_counts counted) counted_after status → LeavesMade volume_tells before after name workers lines counted counted_after status
   untold not status left = record { middle = before; made = λ t. absurd (not t); left = left }
 
   pub unmade_leaves : (v v' : ℕ) (e e' : List ℕ) (status : Status) → IsPasses workers → (status ≡ Done → ⊥) → (IsTrue volume_tells → CreateSays before name status) → CreateEnds slot_size (slots_for workers) v v' e e' status
-      → CreateLeaves volume_tells slot_size (slots_for workers) name before after status → BenchLeaves volume_tells tells state before after name workers lines status
+      → CreateLeaves volume_tells slot_size (slots_for workers) name before after status → BenchLeaves volume_tells before after name workers lines counted counted_after status
   unmade_leaves v v' e e' Done passes not says ends left = absurd (not refl)
   unmade_leaves v v' e e' Usage passes not says ends left = left
   unmade_leaves v v' e e' Memory passes not says ends left = inl left

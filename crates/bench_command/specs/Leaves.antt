@@ -1,43 +1,46 @@
 -- What a benchmark leaves of the files.
 use Rattle.std.specs.Prelude.{Bool, IsTrue, List, ◌≡◌, ◌⊎◌, ℕ}
 use Rattle.file_commands.specs.Create.{CreateLeaves}
-use Rattle.rock_disk.specs.Cell.{CellState}
 use Rattle.rock_disk.specs.File.{Files, IsKept}
-use Rattle.rock_run.specs.Runs.{HasClosed}
-use Rattle.run_rules.specs.Left.{LeavesResponses}
+use Rattle.rock_open.specs.Device.{Counts}
+use Rattle.run_rules.specs.Left.{IsGivenBack}
+use Rattle.run_rules.specs.Served.{WasServed}
 use Rattle.rock_status.specs.declared.status.Status.{Status}
 use Rattle.rock_status.specs.declared.status.Status.TheVariants.{BadGeometry, DeviceFault, Done, Memory, Missing, SinkFault, Small}
+use Rattle.script_text.specs.declared.answer.Answer.{Answer}
 use Rattle.script_text.specs.declared.line.Line.{Line}
 use Rattle.bench_command.specs.Numbers.{IsMade, anchors_for, slot_size, slots_for}
+use Rattle.bench_command.specs.Stations.{made_counts}
 
-module _ {C : Type 0} (volume_tells tells : Bool) (state : C → CellState) where
+module _ (volume_tells : Bool) where
   module _ (before after : Files) (name : List ℕ) (workers : ℕ) (lines : List Line) where
-    -- the file is as it was, or as opening cuts it, and the others are as they were
+    -- The file is as it was, or as opening cuts it, and the others are as they were.
     abbrev pub RunKept : Type 0
     RunKept = IsTrue volume_tells → IsKept slot_size name before after
 
-    -- the file was opened as a store, the store was closed, and its cells are back as it left them
-    abbrev pub StoreClosed : Type 0
-    StoreClosed = HasClosed volume_tells tells state before after name slot_size (anchors_for workers) workers lines
-
-    -- and whatever a crash leaves of these, its complete entries are responses of the file or of the lines
+    -- The file was opened as a store for the lines, and was given back, however many of them were served.
     abbrev pub RunClosed : Type 0
-    RunClosed = StoreClosed × (IsTrue volume_tells → LeavesResponses before after name slot_size lines)
+    RunClosed = IsTrue volume_tells → IsGivenBack before after name slot_size lines
 
-    -- what running these lines over the file leaves
-    abbrev pub RunLeaves : Status → Type 0
-    RunLeaves Done = RunClosed
-    RunLeaves SinkFault = RunClosed
-    RunLeaves DeviceFault = RunKept ⊎ RunClosed
-    RunLeaves Memory = RunKept ⊎ RunClosed
-    RunLeaves status = RunKept
+    -- All lines were served, with these counts of the volume before and after, and answered so.
+    pub record RunServed (counted counted_after : Counts) : Type 0 where
+      pub answers : List (List (ℕ × Answer))
+      pub served : WasServed volume_tells before after name slot_size (anchors_for workers) workers lines answers counted counted_after
 
-  module _ (before after : Files) (name : List ℕ) (workers : ℕ) (lines : List Line) where
-    -- the file was made, and the run left this of it
+    -- What running the lines over the file leaves.
+    abbrev pub RunLeaves : (counted counted_after : Counts) → Status → Type 0
+    RunLeaves counted counted_after Done = RunServed counted counted_after
+    RunLeaves counted counted_after SinkFault = RunServed counted counted_after
+    RunLeaves counted counted_after DeviceFault = RunKept ⊎ RunClosed
+    RunLeaves counted counted_after Memory = RunKept ⊎ RunClosed
+    RunLeaves counted counted_after status = RunKept
+
+  module _ (before after : Files) (name : List ℕ) (workers : ℕ) (lines : List Line) (counted counted_after : Counts) where
+    -- The file was made, and the run left this of it.
     pub record LeavesMade (status : Status) : Type 0 where
       pub middle : Files
       pub made : IsMade volume_tells before middle name workers
-      pub left : RunLeaves middle after name workers lines status
+      pub left : RunLeaves middle after name workers lines (made_counts counted) counted_after status
 
     -- What each status leaves. A fault of the disk, or want of memory, may come before the file was made.
     abbrev pub BenchLeaves : Status → Type 0

@@ -3,5 +3,5 @@ pub mod Numbers
 pub mod Stations
 pub mod Ends
 pub mod Plain
-pub mod Prints
 pub mod Leaves
+pub mod Prints

@@ -72,15 +72,17 @@ where
         → ReportsOrLacksMemory result }
 
     // What was printed.
-    ensures prints { IsTrue K.tells → ReportPrints (IsBenchText V.tells V.C.tells V.C.state V.St.faults
-        (V.files volume.old) (V.files volume.new) target.now.name.now target.now.seed target.now.workers target.now.count
+    ensures prints { IsTrue K.tells → ReportPrints (IsBenchText V.tells (V.files volume.old) (V.files volume.new)
+        target.now.name.now target.now.seed target.now.workers target.now.count
         (counts (V.faults volume.old) (V.made volume.old) (V.ended volume.old))
         (counts (V.faults volume.new) (V.made volume.new) (V.ended volume.new)))
         (K.taken out.old) (K.taken out.new) result }
 
     // What is left of the files, and that none is out.
-    ensures leaves { BenchLeaves V.tells V.C.tells V.C.state (V.files volume.old) (V.files volume.new)
-        target.now.name.now target.now.workers (bench_lines target.now.seed target.now.workers target.now.count) result }
+    ensures leaves { BenchLeaves V.tells (V.files volume.old) (V.files volume.new)
+        target.now.name.now target.now.workers (bench_lines target.now.seed target.now.workers target.now.count)
+        (counts (V.faults volume.old) (V.made volume.old) (V.ended volume.old))
+        (counts (V.faults volume.new) (V.made volume.new) (V.ended volume.new)) result }
     ensures back { IsTrue V.tells → NoneAway (V.files volume.old) → NoneAway (V.files volume.new) }
 
     // Each station that was made was ended.

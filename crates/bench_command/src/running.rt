@@ -17,10 +17,7 @@ use rock_disk::Volume;
 use rock_io::Sink;
 use rock_run::{run_script, status_of_run};
 use rock_status::Status;
-use run_rules::{
-    closed_runs_leave_responses, each_line_has_one_answer, lone_runs_are_answered_plainly,
-    runs_keep_the_rules,
-};
+use run_rules::{closed_runs_leave_responses, each_line_has_one_answer, finished_runs_were_served};
 use std::alloc::Global;
 use std::sync::Wait;
 use std::thread::Threads;
@@ -59,13 +56,15 @@ where
         (counts (V.faults volume.new) (V.made volume.new) (V.ended volume.new)) result }
     ensures says { IsTrue V.tells → HasSlots (V.files volume.old) target.now.name.now slot_size (slots_for target.now.workers)
         → RunSays result }
-    ensures prints { IsTrue K.tells → ReportPrints (IsLineOfRun V.tells V.C.tells V.C.state V.St.faults
-        (V.files volume.old) (V.files volume.new) target.now.name.now target.now.seed target.now.workers target.now.count
+    ensures prints { IsTrue K.tells → ReportPrints (IsLineOfRun V.tells (V.files volume.old) (V.files volume.new)
+        target.now.name.now target.now.seed target.now.workers target.now.count
         (counts (V.faults volume.old) (V.made volume.old) (V.ended volume.old))
         (counts (V.faults volume.new) (V.made volume.new) (V.ended volume.new)))
         (K.taken out.old) (K.taken out.new) result }
-    ensures leaves { RunLeaves V.tells V.C.tells V.C.state (V.files volume.old) (V.files volume.new)
-        target.now.name.now target.now.workers (bench_lines target.now.seed target.now.workers target.now.count) result }
+    ensures leaves { RunLeaves V.tells (V.files volume.old) (V.files volume.new)
+        target.now.name.now target.now.workers (bench_lines target.now.seed target.now.workers target.now.count)
+        (counts (V.faults volume.old) (V.made volume.old) (V.ended volume.old))
+        (counts (V.faults volume.new) (V.made volume.new) (V.ended volume.new)) result }
     ensures back { IsTrue V.tells → NoneAway (V.files volume.old) → NoneAway (V.files volume.new) }
     ensures ended { EachEnded
         (counts (V.faults volume.old) (V.made volume.old) (V.ended volume.old))
@@ -79,8 +78,7 @@ where
 {
     bench_lines_may_be_served();
     closed_runs_leave_responses::<V::C>();
-    runs_keep_the_rules::<V::C, V::St>();
-    lone_runs_are_answered_plainly::<V::C, V::St>();
+    finished_runs_were_served::<V::C, V::St>();
     each_line_has_one_answer::<V::C, V::St>();
     answers_are_of_one_kind();
     let BenchTarget {

@@ -14,10 +14,9 @@ ghost use Rattle.file_commands.specs.Report.{AnyCount, IsAnchors, IsRefused, IsR
 ghost use Rattle.file_commands.specs.Summary.{Sums};
 ghost use Rattle.run_command.specs.Ends.{NoFault as NoRunFault, RunEnds, RunsOrLacksMemory};
 ghost use Rattle.run_command.specs.Leaves.{RunLeaves};
-ghost use Rattle.run_command.specs.Plain.{PrintsPlainly};
+ghost use Rattle.run_command.specs.Plain.{NoneFailedServing, PrintsPlainly};
 ghost use Rattle.run_command.specs.Prints.{IsRunText, RunPrints};
 ghost use Rattle.run_command.specs.Says.{IsRunRefused, MayRun, RunSays};
-ghost use Rattle.run_command.specs.Standing.{RunStands};
 ghost use Rattle.run_command.specs.Whole.{IsRunFor};
 ghost use Rattle.slot_finding.specs.Finding.{FindsSlot, IsKeptFor, WithSlot};
 ghost use Rattle.workload.specs.Script.{bench_lines};
@@ -229,19 +228,16 @@ where
         (counts (V.faults volume.new) (V.made volume.new) (V.ended volume.new))
         → RunsOrLacksMemory result }
     ensures run_prints { (name : List ℕ) (given : Option ℕ) (anchors workers : ℕ) → IsRun words.now name given anchors workers
-        → IsTrue K.tells → RunPrints (IsRunText S.tells V.tells V.C.tells V.C.state V.St.faults
+        → IsTrue K.tells → RunPrints (IsRunText S.tells V.tells
         (S.left script.old) (S.left script.new) (V.files volume.old) (V.files volume.new)
         name given anchors workers
         (counts (V.faults volume.old) (V.made volume.old) (V.ended volume.old))
         (counts (V.faults volume.new) (V.made volume.new) (V.ended volume.new)))
         (K.taken out.old) (K.taken out.new) result }
+    // At the end of a run the file is back. A rebuild of it keeps each entry that stood closed and not doomed; of all that a
+    // crash may leave of the file it keeps those that the file had before and those of `save` lines.
     ensures run_leaves { (name : List ℕ) (given : Option ℕ) (anchors workers : ℕ) → IsRun words.now name given anchors workers
-        → RunLeaves S.tells V.tells V.C.tells V.C.state (S.left script.old) (S.left script.new)
-        (V.files volume.old) (V.files volume.new) name given anchors workers result }
-    // Where all lines were served, a rebuild of the file keeps each entry that stood closed and not doomed at the end.
-    // Of all that a crash may leave of the file it keeps those that the file had before and those of `save` lines.
-    ensures run_leaves_standing { (name : List ℕ) (given : Option ℕ) (anchors workers : ℕ) → IsRun words.now name given anchors workers
-        → RunStands S.tells V.tells V.C.tells V.C.state V.St.faults (S.left script.old) (S.left script.new)
+        → RunLeaves S.tells V.tells (S.left script.old) (S.left script.new)
         (V.files volume.old) (V.files volume.new) name given anchors workers
         (counts (V.faults volume.old) (V.made volume.old) (V.ended volume.old))
         (counts (V.faults volume.new) (V.made volume.new) (V.ended volume.new)) result }
@@ -249,20 +245,20 @@ where
     // For a word `-` and a file whose header area records its slots, all of this is so with the size that is recorded.
     ensures run_recorded { (name : List ℕ) (slot anchors workers : ℕ) → IsRun words.now name None anchors workers
         → IsTrue V.tells → FindsSlot (V.files volume.old) name None slot
-        → IsRunFor S.tells V.tells K.tells V.C.tells V.C.state V.St.faults (S.left script.old) (S.left script.new)
+        → IsRunFor S.tells V.tells K.tells (S.left script.old) (S.left script.new)
         (V.files volume.old) (V.files volume.new) name (Some slot) anchors workers
         (S.faults script.old) (S.faults script.new) (K.faults out.old) (K.faults out.new)
         (counts (V.faults volume.old) (V.made volume.old) (V.ended volume.old))
         (counts (V.faults volume.new) (V.made volume.new) (V.ended volume.new))
         (K.taken out.old) (K.taken out.new) result }
 
-    // With one worker and no fault, it prints what a plain store answers that is opened on the file, and the file
-    // that is given back has each entry that is whole in what the script leaves of that store; a crash leaves those
+    // With one worker whose station met no fault, it prints what a plain store answers that is opened on the file, and the
+    // file that is given back has each entry that is whole in what the script leaves of that store; a crash leaves those
     // of them that the file had before and those that a `save` line stored. No thread and no lock is in the plain
     // store, which `plain_model` defines.
     ensures run_plain { (name : List ℕ) (given : Option ℕ) (anchors : ℕ) → IsRun words.now name given anchors 1
         → IsTrue S.tells → IsTrue V.tells → IsTrue K.tells → result ≡ Status.Done
-        → NoRunFault (S.faults script.old) (S.faults script.new) (K.faults out.old) (K.faults out.new)
+        → NoneFailedServing
         (counts (V.faults volume.old) (V.made volume.old) (V.ended volume.old))
         (counts (V.faults volume.new) (V.made volume.new) (V.ended volume.new))
         → PrintsPlainly (S.left script.old) (V.files volume.old) (V.files volume.new) name given anchors
@@ -300,14 +296,16 @@ where
         (counts (V.faults volume.new) (V.made volume.new) (V.ended volume.new))
         → ReportsOrLacksMemory result }
     ensures bench_prints { (name : List ℕ) (seed workers count : ℕ) → IsBench words.now name seed workers count
-        → IsTrue K.tells → ReportPrints (IsBenchText V.tells V.C.tells V.C.state V.St.faults
+        → IsTrue K.tells → ReportPrints (IsBenchText V.tells
         (V.files volume.old) (V.files volume.new) name seed workers count
         (counts (V.faults volume.old) (V.made volume.old) (V.ended volume.old))
         (counts (V.faults volume.new) (V.made volume.new) (V.ended volume.new)))
         (K.taken out.old) (K.taken out.new) result }
     ensures bench_leaves { (name : List ℕ) (seed workers count : ℕ) → IsBench words.now name seed workers count
-        → BenchLeaves V.tells V.C.tells V.C.state (V.files volume.old) (V.files volume.new)
-        name workers (bench_lines seed workers count) result }
+        → BenchLeaves V.tells (V.files volume.old) (V.files volume.new)
+        name workers (bench_lines seed workers count)
+        (counts (V.faults volume.old) (V.made volume.old) (V.ended volume.old))
+        (counts (V.faults volume.new) (V.made volume.new) (V.ended volume.new)) result }
 
     // With one worker whose station met no fault it prints the one line of a plain store that was never written, which
     // the seed and the rounds alone determine.

@@ -82,26 +82,30 @@ where
         × IsRunRefused S.tells V.tells (S.left script.old) (V.files volume.old) name given anchors workers
         (counts (V.faults volume.old) (V.made volume.old) (V.ended volume.old))
         (counts (V.faults volume.new) (V.made volume.new) (V.ended volume.new)) status
-        × (IsTrue K.tells → RunPrints (IsRunText S.tells V.tells V.C.tells V.C.state V.St.faults
+        × (IsTrue K.tells → RunPrints (IsRunText S.tells V.tells
         (S.left script.old) (S.left script.new) (V.files volume.old) (V.files volume.new) name given anchors workers
         (counts (V.faults volume.old) (V.made volume.old) (V.ended volume.old))
         (counts (V.faults volume.new) (V.made volume.new) (V.ended volume.new)))
         (K.taken out.old) (K.taken out.new) status)
-        × RunLeaves S.tells V.tells V.C.tells V.C.state (S.left script.old) (S.left script.new)
-        (V.files volume.old) (V.files volume.new) name given anchors workers status) (exit_status result) }
+        × RunLeaves S.tells V.tells (S.left script.old) (S.left script.new)
+        (V.files volume.old) (V.files volume.new) name given anchors workers
+        (counts (V.faults volume.old) (V.made volume.old) (V.ended volume.old))
+        (counts (V.faults volume.new) (V.made volume.new) (V.ended volume.new)) status) (exit_status result) }
     ensures bench { (name : List ℕ) (seed workers count : ℕ) → IsBench words.now name seed workers count → EndsFor (λ status.
         BenchEnds workers count (K.faults out.old) (K.faults out.new)
         (counts (V.faults volume.old) (V.made volume.old) (V.ended volume.old))
         (counts (V.faults volume.new) (V.made volume.new) (V.ended volume.new)) status
         × (IsTrue V.tells → BenchSays (V.files volume.old) name status)
         × IsBenchRefused V.tells (V.files volume.old) name workers count status
-        × (IsTrue K.tells → ReportPrints (IsBenchText V.tells V.C.tells V.C.state V.St.faults
+        × (IsTrue K.tells → ReportPrints (IsBenchText V.tells
         (V.files volume.old) (V.files volume.new) name seed workers count
         (counts (V.faults volume.old) (V.made volume.old) (V.ended volume.old))
         (counts (V.faults volume.new) (V.made volume.new) (V.ended volume.new)))
         (K.taken out.old) (K.taken out.new) status)
-        × BenchLeaves V.tells V.C.tells V.C.state (V.files volume.old) (V.files volume.new)
-        name workers (bench_lines seed workers count) status) (exit_status result) }
+        × BenchLeaves V.tells (V.files volume.old) (V.files volume.new)
+        name workers (bench_lines seed workers count)
+        (counts (V.faults volume.old) (V.made volume.old) (V.ended volume.old))
+        (counts (V.faults volume.new) (V.made volume.new) (V.ended volume.new)) status) (exit_status result) }
 {
     let status = rock(rt, alloc, words, volume, script, out);
     let asked = Asked {

@@ -16,9 +16,9 @@ use Rattle.script_text.specs.declared.line.Line.{Line}
 use Rattle.slot_finding.specs.Finding.{IsGiven, WithSlot}
 use Rattle.slot_finding.proofs.Causes.{found_agrees, found_fits, found_known, found_long, found_there, of_one}
 use Rattle.run_command.specs.Ends.{RunEnds, RunsOrLacksMemory}
-use Rattle.run_command.specs.Leaves.{LeavesClosed, RunLeaves}
+use Rattle.run_command.specs.Finished.{IsFinishedRun}
+use Rattle.run_command.specs.Leaves.{RunLeaves}
 use Rattle.run_command.specs.Prints.{PrintEnds, RunPrints}
-use Rattle.run_command.specs.Standing.{LeavesStood, RunStands}
 use Rattle.run_command.specs.Says.{Fits, IsRunRefused, RunSays, WasRead}
 use Rattle.run_command.proofs.Filed.{fits_not, not_short}
 
@@ -74,17 +74,13 @@ printed_prints IsText Told k k' taken taken_after status tells ends =
     (λ p. elim p as (λ _. RunPrints Told taken taken_after Memory) [ inl none ↦ inl none | inr part ↦ inr (part.0, tells part.0 part.1, part.2) ])
     (λ rose p. (p.0, tells p.0 p.1, p.2))
 
-pub printed_leaves : {C : Type 0} (source_tells volume_tells tells : Bool) (state : C → CellState) (text left : List ℕ) (before after : Files) (name : List ℕ) (given : Option ℕ) (anchors workers k k' : ℕ) (status : Status)
-    → LeavesClosed source_tells volume_tells tells state text left before after name given anchors workers → PrintEnds k k' status → RunLeaves source_tells volume_tells tells state text left before after name given anchors workers status
-printed_leaves source_tells volume_tells tells state text left before after name given anchors workers k k' status closed ends =
-    by_end (RunLeaves source_tells volume_tells tells state text left before after name given anchors workers) k k' status ends closed (inr closed) (λ rose. closed)
-
--- and the file has what stood
-pub printed_stands : {C St : Type 0} (source_tells volume_tells tells : Bool) (state : C → CellState) (faults : St → ℕ) (text left : List ℕ) (before after : Files) (name : List ℕ) (given : Option ℕ) (anchors workers : ℕ) (counts_before counts_after : Counts) (k k' : ℕ) (status : Status)
-    → LeavesStood source_tells volume_tells tells state faults text left before after name given anchors workers counts_before counts_after → PrintEnds k k' status
-    → RunStands source_tells volume_tells tells state faults text left before after name given anchors workers counts_before counts_after status
-printed_stands source_tells volume_tells tells state faults text left before after name given anchors workers counts_before counts_after k k' status stood ends =
-    by_end (RunStands source_tells volume_tells tells state faults text left before after name given anchors workers counts_before counts_after) k k' status ends stood tt (λ rose. stood)
+-- the file is back, with what stood closed
+pub printed_leaves : (source_tells volume_tells : Bool) (script script_after : List ℕ) (files files_after : Files) (name : List ℕ) (given : Option ℕ) (anchors workers : ℕ) (before after : Counts) (k k' : ℕ) (status : Status)
+    → IsFinishedRun source_tells volume_tells script script_after files files_after name given anchors workers before after → PrintEnds k k' status
+    → RunLeaves source_tells volume_tells script script_after files files_after name given anchors workers before after status
+printed_leaves source_tells volume_tells script script_after files files_after name given anchors workers before after k k' status run ends =
+    by_end (RunLeaves source_tells volume_tells script script_after files files_after name given anchors workers before after) k k' status ends run
+    (inr record { lines = run.lines; read = run.read; slot = run.slot; sized = run.sized; file = λ told. (run.served.left told).file }) (λ rose. run)
 
 as_long : {A B : Type 0} (f : A → B) (xs : List A) (ys : List B) → map f xs ≡ ys → length ys ≡ length xs
 as_long f xs ys is = ap length (sym is) ∙ length-map xs f

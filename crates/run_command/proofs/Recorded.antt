@@ -1,7 +1,6 @@
 -- A run over a file whose header area records its slots, where no slot size is given, is one for the size that is recorded.
 use Rattle.std.proofs.Common.{Bool, List, None, Some, arith, inl, inr, subst, ◌≡◌, ◌⊎◌, ℕ}
 use Rattle.std.specs.Prelude.{IsTrue, Option}
-use Rattle.rock_disk.specs.Cell.{CellState}
 use Rattle.rock_disk.specs.File.{Files}
 use Rattle.rock_disk.specs.Opened.{IsSmall}
 use Rattle.rock_open.specs.Device.{Counts}
@@ -12,11 +11,11 @@ use Rattle.slot_finding.specs.Finding.{FieldSays, FindsSlot, IsTooSmall, IsUnkno
 use Rattle.slot_finding.proofs.Causes.{found_long, of_one, one_slot}
 use Rattle.slot_finding.proofs.Recorded.{field_given, given_too, kept_given, none_differs, recorded_size, small_given, unknown_given, with_given, without_given}
 use Rattle.run_command.specs.Ends.{IsShort, RunEnds}
+use Rattle.run_command.specs.Finished.{IsFinishedRun}
 use Rattle.run_command.specs.Leaves.{LeavesClosed, LeavesKept, RunLeaves}
-use Rattle.run_command.specs.Prints.{IsRunText, RunPrints}
+use Rattle.run_command.specs.Prints.{RunPrints}
 use Rattle.run_command.specs.Says.{FileSays, IsRunRefused, IsUnfit, RunSays}
 use Rattle.run_command.specs.Slots.{IsSlotOf}
-use Rattle.run_command.specs.Standing.{LeavesStood, RunStands}
 use Rattle.run_command.specs.Whole.{IsRunFor}
 
 no_number : {n : ℕ} → ◌≡◌ {A = Option ℕ} (Some n) None → ⊥
@@ -118,88 +117,56 @@ module _ {files : Files} {name : List ℕ} {slot : ℕ} (found : FindsSlot files
       let both = given_too found other (is.found told) in
       record { sized = is.sized; same = λ n e. subst (λ m. other ≡ m) (same_number e) (same_slot other (is.found told)); found = λ t. both }
 
-  text_given : {C St : Type 0} (source_tells volume_tells tells : Bool) (state : C → CellState) (faults : St → ℕ) (script left : List ℕ) (files_after : Files) (anchors workers : ℕ) (before after : Counts) (text : List ℕ) → IsTrue volume_tells
-      → IsRunText source_tells volume_tells tells state faults script left files files_after name None anchors workers before after text
-      → IsRunText source_tells volume_tells tells state faults script left files files_after name (Some slot) anchors workers before after text
-  text_given source_tells volume_tells tells state faults script left files_after anchors workers before after text told is = record {
-    slot = is.slot;
-    sized = slot_given volume_tells is.slot told is.sized;
-    lines = is.lines;
-    answers = is.answers;
-    is = is.is;
-    read = is.read;
-    ran = is.ran;
-    explained = is.explained;
-    plain = is.plain;
+  run_given_too : (source_tells volume_tells : Bool) (script script_after : List ℕ) (files_after : Files) (anchors workers : ℕ) (before after : Counts) → IsTrue volume_tells
+      → IsFinishedRun source_tells volume_tells script script_after files files_after name None anchors workers before after
+      → IsFinishedRun source_tells volume_tells script script_after files files_after name (Some slot) anchors workers before after
+  run_given_too source_tells volume_tells script script_after files_after anchors workers before after told run = record {
+    lines = run.lines;
+    read = run.read;
+    slot = run.slot;
+    sized = slot_given volume_tells run.slot told run.sized;
+    answers = run.answers;
+    served = run.served;
   }
 
-  closed_given : {C : Type 0} (source_tells volume_tells tells : Bool) (state : C → CellState) (script left : List ℕ) (files_after : Files) (anchors workers : ℕ) → IsTrue volume_tells
-      → LeavesClosed source_tells volume_tells tells state script left files files_after name None anchors workers → LeavesClosed source_tells volume_tells tells state script left files files_after name (Some slot) anchors workers
-  closed_given source_tells volume_tells tells state script left files_after anchors workers told c = record {
+  closed_given : (source_tells volume_tells : Bool) (script script_after : List ℕ) (files_after : Files) (anchors workers : ℕ) → IsTrue volume_tells
+      → LeavesClosed source_tells volume_tells script script_after files files_after name None anchors workers → LeavesClosed source_tells volume_tells script script_after files files_after name (Some slot) anchors workers
+  closed_given source_tells volume_tells script script_after files_after anchors workers told c = record {
     lines = c.lines;
     read = c.read;
     slot = c.slot;
     sized = slot_given volume_tells c.slot told c.sized;
-    closed = c.closed;
-    responses = c.responses;
+    file = c.file;
   }
 
   left_given : (volume_tells : Bool) (files_after : Files) → LeavesKept volume_tells files files_after name None → LeavesKept volume_tells files files_after name (Some slot)
   left_given volume_tells files_after kept told = kept_given found files_after (kept told)
 
-  leaves_given : {C : Type 0} (source_tells volume_tells tells : Bool) (state : C → CellState) (script left : List ℕ) (files_after : Files) (anchors workers : ℕ) (status : Status) → IsTrue volume_tells
-      → RunLeaves source_tells volume_tells tells state script left files files_after name None anchors workers status → RunLeaves source_tells volume_tells tells state script left files files_after name (Some slot) anchors workers status
-  leaves_given source_tells volume_tells tells state script left files_after anchors workers Done told l = closed_given source_tells volume_tells tells state script left files_after anchors workers told l
-  leaves_given source_tells volume_tells tells state script left files_after anchors workers Usage told l = l
-  leaves_given source_tells volume_tells tells state script left files_after anchors workers Memory told (inl kept) = inl (left_given volume_tells files_after kept)
-  leaves_given source_tells volume_tells tells state script left files_after anchors workers Memory told (inr c) = inr (closed_given source_tells volume_tells tells state script left files_after anchors workers told c)
-  leaves_given source_tells volume_tells tells state script left files_after anchors workers SourceFault told l = l
-  leaves_given source_tells volume_tells tells state script left files_after anchors workers SinkFault told l = closed_given source_tells volume_tells tells state script left files_after anchors workers told l
-  leaves_given source_tells volume_tells tells state script left files_after anchors workers DeviceFault told (inl kept) = inl (left_given volume_tells files_after kept)
-  leaves_given source_tells volume_tells tells state script left files_after anchors workers DeviceFault told (inr c) = inr (closed_given source_tells volume_tells tells state script left files_after anchors workers told c)
-  leaves_given source_tells volume_tells tells state script left files_after anchors workers (BadScript line cause) told l = l
-  leaves_given source_tells volume_tells tells state script left files_after anchors workers Missing told l = left_given volume_tells files_after l
-  leaves_given source_tells volume_tells tells state script left files_after anchors workers (Small bytes) told l = left_given volume_tells files_after l
-  leaves_given source_tells volume_tells tells state script left files_after anchors workers (BadGeometry field) told l = left_given volume_tells files_after l
-  leaves_given source_tells volume_tells tells state script left files_after anchors workers Exists told l = l
+  leaves_given : (source_tells volume_tells : Bool) (script script_after : List ℕ) (files_after : Files) (anchors workers : ℕ) (before after : Counts) (status : Status) → IsTrue volume_tells
+      → RunLeaves source_tells volume_tells script script_after files files_after name None anchors workers before after status
+      → RunLeaves source_tells volume_tells script script_after files files_after name (Some slot) anchors workers before after status
+  leaves_given source_tells volume_tells script script_after files_after anchors workers before after Done told l = run_given_too source_tells volume_tells script script_after files_after anchors workers before after told l
+  leaves_given source_tells volume_tells script script_after files_after anchors workers before after Usage told l = l
+  leaves_given source_tells volume_tells script script_after files_after anchors workers before after Memory told (inl kept) = inl (left_given volume_tells files_after kept)
+  leaves_given source_tells volume_tells script script_after files_after anchors workers before after Memory told (inr c) = inr (closed_given source_tells volume_tells script script_after files_after anchors workers told c)
+  leaves_given source_tells volume_tells script script_after files_after anchors workers before after SourceFault told l = l
+  leaves_given source_tells volume_tells script script_after files_after anchors workers before after SinkFault told l = run_given_too source_tells volume_tells script script_after files_after anchors workers before after told l
+  leaves_given source_tells volume_tells script script_after files_after anchors workers before after DeviceFault told (inl kept) = inl (left_given volume_tells files_after kept)
+  leaves_given source_tells volume_tells script script_after files_after anchors workers before after DeviceFault told (inr c) = inr (closed_given source_tells volume_tells script script_after files_after anchors workers told c)
+  leaves_given source_tells volume_tells script script_after files_after anchors workers before after (BadScript line cause) told l = l
+  leaves_given source_tells volume_tells script script_after files_after anchors workers before after Missing told l = left_given volume_tells files_after l
+  leaves_given source_tells volume_tells script script_after files_after anchors workers before after (Small bytes) told l = left_given volume_tells files_after l
+  leaves_given source_tells volume_tells script script_after files_after anchors workers before after (BadGeometry field) told l = left_given volume_tells files_after l
+  leaves_given source_tells volume_tells script script_after files_after anchors workers before after Exists told l = l
 
-  stood_given : {C St : Type 0} (source_tells volume_tells tells : Bool) (state : C → CellState) (faults : St → ℕ) (script left : List ℕ) (files_after : Files) (anchors workers : ℕ) (before after : Counts) → IsTrue volume_tells
-      → LeavesStood source_tells volume_tells tells state faults script left files files_after name None anchors workers before after
-      → LeavesStood source_tells volume_tells tells state faults script left files files_after name (Some slot) anchors workers before after
-  stood_given source_tells volume_tells tells state faults script left files_after anchors workers before after told w = record {
-    lines = w.lines;
-    answers = w.answers;
-    read = w.read;
-    slot = w.slot;
-    sized = slot_given volume_tells w.slot told w.sized;
-    ran = w.ran;
-    standing = w.standing;
-    plain = w.plain;
-  }
-
-  stands_given : {C St : Type 0} (source_tells volume_tells tells : Bool) (state : C → CellState) (faults : St → ℕ) (script left : List ℕ) (files_after : Files) (anchors workers : ℕ) (before after : Counts) (status : Status) → IsTrue volume_tells
-      → RunStands source_tells volume_tells tells state faults script left files files_after name None anchors workers before after status
-      → RunStands source_tells volume_tells tells state faults script left files files_after name (Some slot) anchors workers before after status
-  stands_given source_tells volume_tells tells state faults script left files_after anchors workers before after Done told w = stood_given source_tells volume_tells tells state faults script left files_after anchors workers before after told w
-  stands_given source_tells volume_tells tells state faults script left files_after anchors workers before after Usage told w = tt
-  stands_given source_tells volume_tells tells state faults script left files_after anchors workers before after Memory told w = tt
-  stands_given source_tells volume_tells tells state faults script left files_after anchors workers before after SourceFault told w = tt
-  stands_given source_tells volume_tells tells state faults script left files_after anchors workers before after SinkFault told w = stood_given source_tells volume_tells tells state faults script left files_after anchors workers before after told w
-  stands_given source_tells volume_tells tells state faults script left files_after anchors workers before after DeviceFault told w = tt
-  stands_given source_tells volume_tells tells state faults script left files_after anchors workers before after (BadScript line cause) told w = tt
-  stands_given source_tells volume_tells tells state faults script left files_after anchors workers before after Missing told w = tt
-  stands_given source_tells volume_tells tells state faults script left files_after anchors workers before after (Small bytes) told w = tt
-  stands_given source_tells volume_tells tells state faults script left files_after anchors workers before after (BadGeometry field) told w = tt
-  stands_given source_tells volume_tells tells state faults script left files_after anchors workers before after Exists told w = tt
-
-  pub run_given : {C St : Type 0} (source_tells volume_tells sink_tells tells : Bool) (state : C → CellState) (faults : St → ℕ) (script left : List ℕ) (files_after : Files) (anchors workers s s' k k' : ℕ) (before after : Counts) (taken taken' : List ℕ) (status : Status) → IsTrue volume_tells
-      → IsRunFor source_tells volume_tells sink_tells tells state faults script left files files_after name None anchors workers s s' k k' before after taken taken' status
-      → IsRunFor source_tells volume_tells sink_tells tells state faults script left files files_after name (Some slot) anchors workers s s' k k' before after taken taken' status
-  run_given source_tells volume_tells sink_tells tells state faults script left files_after anchors workers s s' k k' before after taken taken' status told run = record {
-    ends = ends_given source_tells volume_tells script left anchors workers s s' k k' before after status told run.says run.ends;
-    says = says_given source_tells volume_tells workers script left anchors status run.says;
+  pub run_given : (source_tells volume_tells sink_tells : Bool) (script script_after : List ℕ) (files_after : Files) (anchors workers s s' k k' : ℕ) (before after : Counts) (taken taken' : List ℕ) (status : Status) → IsTrue volume_tells
+      → IsRunFor source_tells volume_tells sink_tells script script_after files files_after name None anchors workers s s' k k' before after taken taken' status
+      → IsRunFor source_tells volume_tells sink_tells script script_after files files_after name (Some slot) anchors workers s s' k k' before after taken taken' status
+  unfolding run_given_too
+  run_given source_tells volume_tells sink_tells script script_after files_after anchors workers s s' k k' before after taken taken' status told run = record {
+    ends = ends_given source_tells volume_tells script script_after anchors workers s s' k k' before after status told run.says run.ends;
+    says = says_given source_tells volume_tells workers script script_after anchors status run.says;
     refused = refused_given source_tells volume_tells script anchors workers before after status run.refused;
-    prints = λ t. prints_as taken taken' status (λ text is. text_given source_tells volume_tells tells state faults script left files_after anchors workers before after text told is) (run.prints t);
-    leaves = leaves_given source_tells volume_tells tells state script left files_after anchors workers status told run.leaves;
-    stands = stands_given source_tells volume_tells tells state faults script left files_after anchors workers before after status told run.stands;
+    prints = λ t. prints_as taken taken' status (λ text is. record { run = run_given_too source_tells volume_tells script script_after files_after anchors workers before after told is.run; is = is.is }) (run.prints t);
+    leaves = leaves_given source_tells volume_tells script script_after files_after anchors workers before after status told run.leaves;
   }

@@ -8,7 +8,7 @@ use Rattle.rock_open.specs.Device.{Counts}
 use Rattle.rock_open.specs.Opening.{IsPasses}
 use Rattle.rock_run.specs.Device.{HasFailed}
 use Rattle.rock_run.specs.Runs.{HasClosed}
-use Rattle.run_rules.specs.Left.{LeavesResponses}
+use Rattle.run_rules.specs.Left.{IsGivenBack}
 use Rattle.rock_status.specs.declared.status.Status.{Status}
 use Rattle.rock_status.specs.declared.status.Status.TheVariants.{BadGeometry, BadScript, DeviceFault, Done, Exists, Memory, Missing, SinkFault, Small, SourceFault, Usage}
 use Rattle.script_text.specs.Script.{GivesScript, IsBadScript}
@@ -145,30 +145,30 @@ refused_prints given anchors before after IsText taken (Small bytes) ends = refl
 refused_prints given anchors before after IsText taken (BadGeometry field) ends = refl
 refused_prints given anchors before after IsText taken Exists ends = absurd ends
 
-module _ {C : Type 0} (source_tells volume_tells tells : Bool) (state : C → CellState) (text left : List ℕ) (before after : Files) (name : List ℕ) (given : Option ℕ) (anchors workers : ℕ) (lines : List Line) (read : GivesScript source_tells workers text left lines)
-    (crash : (slot : ℕ) → IsSlotSize slot → IsTrue volume_tells → HasClosed volume_tells tells state before after name slot anchors workers lines → LeavesResponses before after name slot lines) where
+module _ {C : Type 0} (source_tells volume_tells tells : Bool) (state : C → CellState) (script script_after : List ℕ) (files files_after : Files) (name : List ℕ) (given : Option ℕ) (anchors workers : ℕ) (lines : List Line) (read : GivesScript source_tells workers script script_after lines)
+    (back : (slot : ℕ) → IsSlotSize slot → IsTrue volume_tells → HasClosed volume_tells tells state files files_after name slot anchors workers lines → IsGivenBack files files_after name slot lines) (before after : Counts) where
   abbrev Kept : Type 0
-  Kept = LeavesKept volume_tells before after name given
+  Kept = LeavesKept volume_tells files files_after name given
 
   abbrev Closed : Type 0
-  Closed = HasClosedFor volume_tells tells state before after name given anchors workers lines
+  Closed = HasClosedFor volume_tells tells state files files_after name given anchors workers lines
 
   abbrev Leaves : Status → Type 0
-  Leaves = RunLeaves source_tells volume_tells tells state text left before after name given anchors workers
+  Leaves = RunLeaves source_tells volume_tells script script_after files files_after name given anchors workers before after
 
   either : FoundLeaves Kept Closed Memory → Leaves Memory
   either (inl kept) = inl kept
-  either (inr c) = inr (record { lines = lines; read = read; slot = c.slot; sized = c.sized; closed = c.closed; responses = λ told. crash c.slot c.sized.sized told c.closed })
+  either (inr c) = inr (record { lines = lines; read = read; slot = c.slot; sized = c.sized; file = λ told. back c.slot c.sized.sized told c.closed })
 
-  pub refused_leaves : (counted counted_after : Counts) (status : Status) → FoundEnds given anchors counted counted_after status → FoundLeaves Kept Closed status → Leaves status
-  refused_leaves counted counted_after Done ends h = absurd ends
-  refused_leaves counted counted_after Usage ends h = absurd ends
-  refused_leaves counted counted_after Memory ends h = either h
-  refused_leaves counted counted_after SourceFault ends h = absurd ends
-  refused_leaves counted counted_after SinkFault ends h = absurd ends
-  refused_leaves counted counted_after DeviceFault ends h = either h
-  refused_leaves counted counted_after (BadScript line cause) ends h = absurd ends
-  refused_leaves counted counted_after Missing ends h = h
-  refused_leaves counted counted_after (Small bytes) ends h = h
-  refused_leaves counted counted_after (BadGeometry field) ends h = h
-  refused_leaves counted counted_after Exists ends h = absurd ends
+  pub refused_leaves : (status : Status) → FoundEnds given anchors before after status → FoundLeaves Kept Closed status → Leaves status
+  refused_leaves Done ends h = absurd ends
+  refused_leaves Usage ends h = absurd ends
+  refused_leaves Memory ends h = either h
+  refused_leaves SourceFault ends h = absurd ends
+  refused_leaves SinkFault ends h = absurd ends
+  refused_leaves DeviceFault ends h = either h
+  refused_leaves (BadScript line cause) ends h = absurd ends
+  refused_leaves Missing ends h = h
+  refused_leaves (Small bytes) ends h = h
+  refused_leaves (BadGeometry field) ends h = h
+  refused_leaves Exists ends h = absurd ends

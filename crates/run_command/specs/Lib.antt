@@ -1,10 +1,10 @@
 pub mod Faults
 pub mod Slots
+pub mod Finished
 pub mod Ends
 pub mod Says
 pub mod Prints
 pub mod Plain
 pub mod Leaves
-pub mod Standing
 pub mod Found
 pub mod Whole

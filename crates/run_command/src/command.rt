@@ -11,7 +11,6 @@ ghost use Rattle.run_command.specs.Ends.{NoFault, RunEnds, RunsOrLacksMemory};
 ghost use Rattle.run_command.specs.Leaves.{RunLeaves};
 ghost use Rattle.run_command.specs.Prints.{IsRunText, PrintEnds, RunPrints};
 ghost use Rattle.run_command.specs.Says.{IsRunRefused, MayRun, RunSays};
-ghost use Rattle.run_command.specs.Standing.{RunStands};
 
 use crate::faults::{of_print, of_script};
 use crate::found::run_found;
@@ -20,10 +19,7 @@ use rock_disk::Volume;
 use rock_io::{Sink, Source};
 use rock_run::read_scripts_may_be_served;
 use rock_status::Status;
-use run_rules::{
-    closed_runs_leave_responses, lone_runs_are_answered_plainly, read_lines_are_numbered,
-    runs_keep_the_rules, runs_leave_standing,
-};
+use run_rules::{closed_runs_leave_responses, finished_runs_were_served, read_lines_are_numbered};
 use script_text::{Answer, read_script};
 use slot_finding::may_be_given;
 use std::alloc::Global;
@@ -106,7 +102,7 @@ where
         → RunsOrLacksMemory result }
 
     // What was printed.
-    ensures prints { IsTrue K.tells → RunPrints (IsRunText S.tells V.tells V.C.tells V.C.state V.St.faults
+    ensures prints { IsTrue K.tells → RunPrints (IsRunText S.tells V.tells
         (S.left script.old) (S.left script.new) (V.files volume.old) (V.files volume.new)
         target.now.name.now target.now.slot target.now.anchors target.now.workers
         (counts (V.faults volume.old) (V.made volume.old) (V.ended volume.old))
@@ -114,11 +110,7 @@ where
         (K.taken out.old) (K.taken out.new) result }
 
     // What is left of the files, and that none is out.
-    ensures kept { RunLeaves S.tells V.tells V.C.tells V.C.state (S.left script.old) (S.left script.new)
-        (V.files volume.old) (V.files volume.new)
-        target.now.name.now target.now.slot target.now.anchors target.now.workers result }
-    // What of it stood closed at the end, as it is and after a crash.
-    ensures stands { RunStands S.tells V.tells V.C.tells V.C.state V.St.faults (S.left script.old) (S.left script.new)
+    ensures kept { RunLeaves S.tells V.tells (S.left script.old) (S.left script.new)
         (V.files volume.old) (V.files volume.new)
         target.now.name.now target.now.slot target.now.anchors target.now.workers
         (counts (V.faults volume.old) (V.made volume.old) (V.ended volume.old))
@@ -143,10 +135,8 @@ where
 {
     read_scripts_may_be_served();
     closed_runs_leave_responses::<V::C>();
-    runs_keep_the_rules::<V::C, V::St>();
+    finished_runs_were_served::<V::C, V::St>();
     read_lines_are_numbered();
-    lone_runs_are_answered_plainly::<V::C, V::St>();
-    runs_leave_standing::<V::C, V::St>();
     let lines = match read_script(alloc, script, target.workers) {
         Ok(lines) => lines,
         Err(fault) => return of_script(fault),

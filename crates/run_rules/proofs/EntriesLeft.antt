@@ -1,6 +1,5 @@
 -- What a file that was given back has of the entries that stood closed at the end.
-use Rattle.std.proofs.Common.{Bool, Contains, IsTrue, List, [], ap, arith, inl, inr, length, map, refl, subst, suc, sym, zero, ◌+◌, ◌-◌, ◌<◌, ◌∙◌, ◌∷◌, ◌≡◌, ◌≤◌, ℕ}
-use Rattle.std.specs.FinMap.{get}
+use Rattle.std.proofs.Common.{All, Bool, Contains, IsTrue, List, [], ap, arith, inl, inr, length, map, refl, subst, suc, sym, zero, ◌+◌, ◌-◌, ◌<◌, ◌∙◌, ◌∷◌, ◌≡◌, ◌≤◌, ℕ}
 use mathlib.Core.Logic.{dite}
 use mathlib.Core.Option.{some, some-injective, some-ne-none}
 use native.Mathlib.Decide.{ℕ_discrete}
@@ -9,9 +8,8 @@ use Rattle.lock_word.specs.Words.{doom_of, epoch_of, stage_of, version_of}
 use Rattle.store_key.specs.Anchor.{anchor_of}
 use Rattle.store_key.specs.Key.{key_of}
 use Rattle.rock_disk.specs.Cell.{CellState}
-use Rattle.rock_disk.specs.Crash.{IsCrashImage}
-use Rattle.rock_disk.specs.File.{Files, bytes_of as file_bytes, rest_cut}
-use Rattle.rock_disk.proofs.Out.{get_inserted}
+use Rattle.rock_disk.specs.Crash.{IsCrashImage, NowMayStay}
+use Rattle.rock_disk.specs.File.{Files}
 use Rattle.rebuild_model.specs.Entry.{Entry, IsComplete}
 use Rattle.rebuild_model.specs.Rebuilt.{IsWinner}
 use Rattle.script_text.specs.declared.answer.Answer.{Answer}
@@ -51,6 +49,7 @@ use Rattle.rock_run.specs.Runs.{HasRun}
 use Rattle.run_rules.specs.Plain.{AreInOrder}
 use Rattle.run_rules.specs.Standing.{IsAnswered, KeepsAt, LeavesStanding, Stands, StandsAsBefore, StandsAsOffered, WasKept}
 use Rattle.run_rules.proofs.Files.{anchor_below}
+use Rattle.run_rules.proofs.Left.{Responses, given_back, images_are}
 use Rattle.run_rules.proofs.Lists.{at_place, both, image}
 use Rattle.run_rules.proofs.Opened.{has_played, same_state}
 
@@ -89,7 +88,7 @@ one_number script order l m a b same =
     let place : a.0 ≡ b.0 = omega arith in
     some-injective l m (sym here ∙ ap (get_elem? script) place ∙ there)
 
-map_at : {A B : Type 0} (f : A → B) (xs : List A) (k : ℕ) (x : A) → get_elem? xs k ≡ some x → get_elem? (map f xs) k ≡ some (f x)
+pub map_at : {A B : Type 0} (f : A → B) (xs : List A) (k : ℕ) (x : A) → get_elem? xs k ≡ some x → get_elem? (map f xs) k ≡ some (f x)
 map_at f [] k x e = absurd (some-ne-none x (sym e))
 map_at f (y ∷ ys) zero x e = ap (λ z. some (f z)) (some-injective y x e)
 map_at f (y ∷ ys) (suc k) x e = map_at f ys k x e
@@ -99,6 +98,13 @@ some_items x xs ys e = let n = ap length e in omega arith
 
 first_items : (x y : ℕ) (xs ys : List ℕ) → ◌≡◌ {A = List ℕ} (x ∷ xs) (y ∷ ys) → x ≡ y
 first_items x y xs ys e = cc
+
+module _ {C St : Type 0} (volume_tells told : Bool) (state : C → CellState) (faults : St → ℕ) (files left : Files) (name : List ℕ) (slot anchors workers : ℕ) (script : List Line) (answers : List (List (ℕ × Answer)))
+    (before after : Counts) (h : HasRun volume_tells told state files left name slot anchors workers script faults answers before after) where
+  -- a pass was there at the closing with what it knew at its end
+  pub view_there : (w : ℕ) (account : Account (OnShelf C (List Line) St)) → get_elem? h.served.played.accounts w ≡ some account → get_elem? (views_of h.closed.left) w ≡ some (view account.end.pass)
+  view_there w account at = ap (λ (ps : List (Pass C)). get_elem? (map view ps) w) (sym h.served.played.passes_left_are)
+      ∙ map_at view (map (λ (a : Account (OnShelf C (List Line) St)). a.end.pass) h.served.played.accounts) w account.end.pass (map_at (λ (a : Account (OnShelf C (List Line) St)). a.end.pass) h.served.played.accounts w account at)
 
 module _ {C St : Type 0} (volume_tells told : Bool) (state : C → CellState) (faults : St → ℕ) (files left : Files) (name : List ℕ) (slot anchors workers : ℕ) (script : List Line) (answers : List (List (ℕ × Answer)))
     (before after : Counts) (h : HasRun volume_tells told state files left name slot anchors workers script faults answers before after) (tells : IsTrue volume_tells) where
@@ -123,11 +129,6 @@ module _ {C St : Type 0} (volume_tells told : Bool) (state : C → CellState) (f
 
   abbrev version_at : ℕ → ℕ
   version_at a = version_of (epoch_of (word last a))
-
-  -- a pass was there at the closing with what it knew at its end
-  pub view_there : (w : ℕ) (account : Account (OnShelf C (List Line) St)) → get_elem? accounts w ≡ some account → get_elem? (views_of h.closed.left) w ≡ some (view account.end.pass)
-  view_there w account at = ap (λ (ps : List (Pass C)). get_elem? (map view ps) w) (sym h.served.played.passes_left_are)
-      ∙ map_at view (map (λ (a : Account (OnShelf C (List Line) St)). a.end.pass) accounts) w account.end.pass (map_at (λ (a : Account (OnShelf C (List Line) St)). a.end.pass) accounts w account at)
 
   -- what is said of the state of the closing behind all workers is said of the last one
   abbrev pub OfLines : State (List ℕ) → Type 0
@@ -317,18 +318,12 @@ module _ {C St : Type 0} (volume_tells told : Bool) (state : C → CellState) (f
             body_is = r.body ∙ ap (λ (n : ℕ). g.offers.body (n - g.setting.slots)) offer_is ∙ o.body_is;
           }
 
-    pub standing : AreInOrder script → LeavesStanding files left name slot anchors script answers last
-    standing order = let out = h.closed.opened.out tells in record {
-      images = images;
-      file = record {
-        was = out.was;
-        there = out.found;
-        images_are = sym (both state (λ (c : CellState). c.now) h.closed.opened.cells) ∙ ap (map (λ (c : CellState). c.now)) out.cells_are;
-      };
-      header = state h.closed.header;
-      cells = cells;
-      rest = rest_cut slot (file_bytes out.was);
-      back = ap (λ m. get m name) (h.closed.back tells) ∙ get_inserted h.closed.middle name _;
-      closed = λ a lt w. stands a lt w.stage w.undoomed;
+    pub standing : AreInOrder script → Responses volume_tells told state files left name slot anchors workers script tells h.closed → ((c : C) → NowMayStay (state c))
+        → ((all : List CellState) → All NowMayStay all → IsCrashImage all (map (λ (c : CellState). c.now) all)) → LeavesStanding files left name slot anchors script answers (word last)
+    unfolding given_back
+    standing order law stays now = record {
+      file = given_back volume_tells told state files left name slot anchors workers script tells h.closed law stays now;
+      closed = λ a lt w. subst (λ (z : List (List ℕ)). Stands slot anchors z script cells a (version_of (epoch_of (word last a))))
+          (images_are volume_tells told state files left name slot anchors workers script tells h.closed) (stands a lt w.stage w.undoomed);
       saved = saved_left order;
     }

@@ -10,4 +10,5 @@ mod Lone
 pub mod Counts
 pub mod Offered
 pub mod Left
+mod LastWords
 mod PutAndGet

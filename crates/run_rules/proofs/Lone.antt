@@ -125,7 +125,7 @@ module _ {C St : Type 0} (volume_tells told : Bool) (state : C → CellState) (f
       → (lasting : (crashed : List (List ℕ)) → IsCrashImage (map state h.closed.cells) crashed → KeepsWhole slot anchors crashed (left_by (setting_over slot anchors (length h.closed.opened.cells)) script 1 plain) (WasKept (length h.closed.opened.cells) script))
       → ((a : ℕ) → a < (basis told state offers_of h.closed.store).setting.anchors
       → word h.closed.closed.gathered.state a ≡ word_number (word_at (setting_of (basis told state offers_of h.closed.store)) (left_by (setting_over slot anchors (length h.closed.opened.cells)) script 1 plain) a))
-      → EndedPlainly h.closed.closed.gathered.state (plainly plain opened run kept lasting)
+      → EndedPlainly (word h.closed.closed.gathered.state) (plainly plain opened run kept lasting)
   unfolding plainly
   words_over plain opened run kept lasting words a lt =
       words a (subst (λ (n : ℕ). a < n) (sym opened_alone.anchors_are) lt)

@@ -133,16 +133,16 @@ module _ {C St : Type 0} (volume_tells told : Bool) (state : C → CellState) (f
     abbrev crew : List (Worker (List ℕ))
     crew = crew_of closing.courses
 
-    rules : KeepsRules r script crew
+    pub rules : KeepsRules r script crew
     rules = laws.keeps r crew closing.closed closing.serves (have_courses r script accounts closing)
 
-    kept : (a : ℕ) → a < anchors → HadEntry r a → OldWinner r slot anchors laws.opening.kept.images a
+    pub kept : (a : ℕ) → a < anchors → HadEntry r a → OldWinner r slot anchors laws.opening.kept.images a
     kept = old_winner told state g laws.past.past slot anchors h.closed.opened.cells laws.opening laws.past.winners
 
-    above_none : 0 < anchors
+    pub above_none : 0 < anchors
     above_none = let from = h.closed.opened.fit.from in omega (arith, from)
 
-    pub explained : IsExplained volume_tells files name slot anchors workers script answers before after
+    unfoldable pub explained : IsExplained volume_tells files name slot anchors workers script answers before after
     explained = record {
       run = r;
       crew = crew;

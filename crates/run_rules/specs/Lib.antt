@@ -2,7 +2,9 @@ pub mod Responses
 pub mod Openings
 pub mod Printed
 pub mod Runs
+pub mod Last
+pub mod Left
 pub mod Standing
 pub mod Plain
-pub mod Left
+pub mod Served
 pub mod Lawful

@@ -11,7 +11,6 @@ use Rattle.rock_disk.specs.File.{Files}
 use Rattle.rock_disk.specs.File.File.{Home}
 use Rattle.script_text.specs.declared.answer.Answer.{Answer}
 use Rattle.script_text.specs.declared.line.Line.{Line}
-use Rattle.core_model.specs.State.{State, word}
 use Rattle.plain_model.specs.declared.store.Plain.{Plain}
 use Rattle.plain_model.specs.Opening.{IsOpened}
 use Rattle.plain_model.specs.Serving.{answers_of, left_by, lines_for}
@@ -43,22 +42,35 @@ pub record HasCells (files : Files) (name : List ℕ) (images : List (List ℕ))
 abbrev pub NoneFailedServing : Counts → Counts → Type 0
 NoneFailedServing before after = (workers : List ℕ) → HasEnded 0 workers before after → All (λ count. count ≡ 0) workers
 
--- The worker was answered as by a plain store that is opened on the file: the store has these answers to its lines, each with the line's number.
--- The file that was given back has each entry that is whole in what the lines leave of that store. A rebuild keeps each of them that is not doomed, and so does one of
--- all that a crash may leave of the file, where the file had the entry at the opening or a `save` line stored it.
-pub record IsAnsweredPlainly (files left : Files) (name : List ℕ) (slot anchors : ℕ) (script : List Line) (answers : List (List (ℕ × Answer))) : Type 0 where
+-- What the lines leave of a plain store that is opened on a file with so many slots.
+abbrev pub left_of : (slot anchors slots : ℕ) → List Line → Plain → Plain
+left_of slot anchors slots script plain = left_by (setting_over slot anchors slots) script 1 plain
+
+-- The worker was answered as by a plain store, and the file that was given back has the entries of that.
+pub record IsAnsweredPlainly (files left : Files) (name : List ℕ) (slot anchors : ℕ) (script : List Line)
+    (answers : List (List (ℕ × Answer))) : Type 0 where
+  -- The store is opened on the file.
   pub images : List (List ℕ)
   pub file : HasImages files name slot images
   pub plain : Plain
   pub opened : IsOpened slot images anchors plain
-  pub answered : answers ≡ numbered (lines_for 1 script) (answers_of (setting_over slot anchors (length images)) script 1 plain) ∷ []
+  -- It has these answers to the lines, each with the line's number.
+  pub answered : answers
+      ≡ numbered (lines_for 1 script) (answers_of (setting_over slot anchors (length images)) script 1 plain) ∷ []
+  -- The file that was given back has each entry that is whole in what the lines leave of the store.
   pub back : List (List ℕ)
   pub given_back : HasCells left name back
-  pub entries : HoldsWhole slot anchors back (left_by (setting_over slot anchors (length images)) script 1 plain)
-  pub kept : KeepsWhole slot anchors back (left_by (setting_over slot anchors (length images)) script 1 plain) (λ e. Unit {0})
-  pub lasting : (crashed : List (List ℕ)) → IsCrashImage given_back.cells crashed → KeepsWhole slot anchors crashed (left_by (setting_over slot anchors (length images)) script 1 plain) (WasKept (length images) script)
+  pub entries : HoldsWhole slot anchors back (left_of slot anchors (length images) script plain)
+  -- A rebuild of it keeps each of them that is not doomed,
+  pub kept : KeepsWhole slot anchors back (left_of slot anchors (length images) script plain) (λ e. Unit {0})
+  -- and so does one of all that a crash may leave of it, of those that the file had at the opening or a `save` line stored.
+  pub lasting : (crashed : List (List ℕ)) → IsCrashImage given_back.cells crashed
+      → KeepsWhole slot anchors crashed (left_of slot anchors (length images) script plain) (WasKept (length images) script)
 
--- At the end each anchor had the word of what the lines leave of that store: its version, its stage and its doom. So the entries that were closed then, and not doomed, are the plain store's.
-abbrev pub EndedPlainly : {files left : Files} {name : List ℕ} {slot anchors : ℕ} {script : List Line} {answers : List (List (ℕ × Answer))} → State (List ℕ) → IsAnsweredPlainly files left name slot anchors script answers → Type 0
-EndedPlainly {slot = slot} {anchors = anchors} {script = script} last plainly = let setting = setting_over slot anchors (length plainly.images) in
-    (a : ℕ) → a < anchors → word last a ≡ word_number (word_at setting (left_by setting script 1 plainly.plain) a)
+-- The last words of the anchors are those of what the lines leave of that store: its versions, its stages and its dooms. So the
+-- entries that were closed then, and not doomed, are the plain store's.
+abbrev pub EndedPlainly : {files left : Files} {name : List ℕ} {slot anchors : ℕ} {script : List Line} {answers : List (List (ℕ × Answer))}
+    → (last : ℕ → ℕ) → IsAnsweredPlainly files left name slot anchors script answers → Type 0
+EndedPlainly {slot = slot} {anchors = anchors} {script = script} last plainly = let slots = length plainly.images in
+    (a : ℕ) → a < anchors
+    → last a ≡ word_number (word_at (setting_over slot anchors slots) (left_of slot anchors slots script plainly.plain) a)

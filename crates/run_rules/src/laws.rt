@@ -1,6 +1,7 @@
 // What a run printed is explained. The function here does nothing: the proof of a function that calls it may use what it
 // ensures.
 ghost use Rattle.std.specs.Prelude.{Bool, Contains, IsTrue, List, length, sum_by, ◌<◌, ◌≡◌, ◌≤◌, ℕ};
+ghost use Rattle.core_model.specs.State.{word};
 ghost use Rattle.db_layout.specs.Layout.{IsSlotSize};
 ghost use Rattle.rock_disk.specs.File.{Files};
 ghost use Rattle.script_text.specs.Script.{IsScript};
@@ -8,9 +9,11 @@ ghost use Rattle.script_text.specs.declared.answer.Answer.{Answer};
 ghost use Rattle.script_text.specs.declared.line.Line.{Line};
 ghost use Rattle.rock_open.specs.Device.{Counts};
 ghost use Rattle.rock_run.specs.Runs.{HasRun};
+ghost use Rattle.run_rules.specs.Last.{AreLastWords};
 ghost use Rattle.run_rules.specs.Plain.{AreInOrder, EndedPlainly, IsAnsweredPlainly, NoneFailedServing};
 ghost use Rattle.run_rules.specs.Runs.{IsExplained};
 
+use core_model::idle_stores_are_settled;
 use crashed_stores::{closed_entries_win, finished_entries_last};
 use crew_accounts::{
     closed_entries_are_of_lines, crews_are_closed, faults_are_counted, opened_stores_have_runs,
@@ -28,16 +31,17 @@ use rock_run::ScriptOrigin;
 
 /// What `run_script` ensures of a run that came to its end (`HasRun`), in the words of what it prints: there is one answer
 /// for each line of the script, the lines keep all rules, and their URLs, bodies and keys are those of the file and of the
-/// script. The size of a slot has 32 bits.
+/// script. The words at which the anchors stood at last are explained too. The size of a slot has 32 bits.
 pub fn runs_keep_the_rules<C: Cell, St: Station<C = C>>()
     ensures { (tells : Bool) (files left : Files) (name : List ℕ) (slot anchors workers : ℕ) (script : List Line) (answers : List (List (ℕ × Answer))) (before after : Counts)
-        → slot < 4294967296 → HasRun tells C.tells C.state files left name slot anchors workers script St.faults answers before after
-        → IsExplained tells files name slot anchors workers script answers before after }
+        → slot < 4294967296 → (ran : HasRun tells C.tells C.state files left name slot anchors workers script St.faults answers before after)
+        → (e : IsExplained tells files name slot anchors workers script answers before after) × AreLastWords e.run e.crew (word ran.closed.closed.gathered.state) }
 {
     crews_are_closed::<C, ScriptOrigin, St>();
     faults_are_counted::<C, ScriptOrigin, St>();
     opened_stores_have_runs::<C, ScriptOrigin>();
     closed_crews_keep_the_rules::<Octets>();
+    idle_stores_are_settled::<Octets>();
 }
 
 /// A run of one worker over a file that the volume tells, whose station met no fault, is answered as by a plain store that
@@ -49,7 +53,7 @@ pub fn lone_runs_are_answered_plainly<C: Cell, St: Station<C = C>>()
     ensures { (tells : Bool) (files left : Files) (name : List ℕ) (slot anchors workers : ℕ) (script : List Line) (answers : List (List (ℕ × Answer))) (before after : Counts)
         → IsSlotSize slot → AreInOrder script → (ran : HasRun tells C.tells C.state files left name slot anchors workers script St.faults answers before after)
         → workers ≡ 1 → IsTrue tells → NoneFailedServing before after
-        → (plainly : IsAnsweredPlainly files left name slot anchors script answers) × EndedPlainly ran.closed.closed.gathered.state plainly }
+        → (plainly : IsAnsweredPlainly files left name slot anchors script answers) × EndedPlainly (word ran.closed.closed.gathered.state) plainly }
 {
     new_passes_show_plain_stores::<C, ScriptOrigin>();
     lone_runs_are_plain::<C, ScriptOrigin, St>();

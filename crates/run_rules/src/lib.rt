@@ -7,6 +7,7 @@ mod absurd;
 mod crashes;
 mod lawful;
 mod laws;
+mod served;
 mod standing;
 
 pub use absurd::{no_entry_has_version_0, no_fault_comes_of_no_call};
@@ -16,4 +17,5 @@ pub use laws::{
     each_line_has_one_answer, lone_runs_are_answered_plainly, read_lines_are_numbered,
     runs_keep_the_rules,
 };
+pub use served::finished_runs_were_served;
 pub use standing::runs_leave_standing;

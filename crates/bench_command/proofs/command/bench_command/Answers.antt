@@ -3,7 +3,9 @@ use Rattle.rock_open.specs.Device.{Counts, counts}
 use Rattle.rock_run.specs.Device.{EachEnded as RunEnded, HasFailed as RunFailed, NoneFailed as NoneFailedRunning}
 use Rattle.rock_status.specs.declared.status.Status.{Status}
 use Rattle.rock_status.specs.declared.status.Status.TheVariants as status
+use Rattle.workload.specs.Script.{bench_lines}
 use Rattle.bench_command.specs.Ends.{RunEnds}
+use Rattle.bench_command.specs.Leaves.{RunLeaves}
 use Rattle.bench_command.specs.Prints.{IsLineOfRun}
 use Rattle.bench_command.proofs.Made.{done_or_memory, leaves_of_run, made_home, made_slots, run_made_ends, same_counts, says_of_run}
 use Rattle.bench_command.proofs.Plain.{line_of_one, sized}
@@ -48,17 +50,24 @@ returns-in-Done-clause-prints g c told =
     let station = c.create_file.ensures.done c.in-Done.is in
     let same = same_counts none.volume station.0 station.1 in
     told_so _ _ _ _ c.run_bench.result (λ text is.
-    let line = subst (λ (before : Counts). IsLineOfRun g.V.Volume.tells g.V.C.Cell.tells g.V.C.Cell.state g.V.St.Station.faults (g.V.Volume.files c.create_file.new.volume) (g.V.Volume.files c.run_bench.new.volume) t.name.now t.seed t.workers t.count before (counts (g.V.Volume.faults c.run_bench.new.volume) (g.V.Volume.made c.run_bench.new.volume) (g.V.Volume.ended c.run_bench.new.volume)) text) same is in
+    let line = subst (λ (before : Counts). IsLineOfRun g.V.Volume.tells (g.V.Volume.files c.create_file.new.volume) (g.V.Volume.files c.run_bench.new.volume) t.name.now t.seed t.workers t.count before (counts (g.V.Volume.faults c.run_bench.new.volume) (g.V.Volume.made c.run_bench.new.volume) (g.V.Volume.ended c.run_bench.new.volume)) text) same is in
     record {
       middle = g.V.Volume.files c.create_file.new.volume;
       made = c.in-Done.ensures.leaves;
       line = line;
-      plain = λ alone tells none. line.is ∙ line_of_one c.cutting_keeps_the_bytes.ensures c.geometries_are_read_as_written.ensures.whole _ _ _ _ _ _ _ line.answers alone (λ images p zeros opened. c.unwritten_slots_open_fresh_stores.ensures _ images _ p zeros opened) (c.in-Done.ensures.leaves tells) (line.plain alone tells none);
+      plain = λ alone tells none. line.is ∙ line_of_one c.cutting_keeps_the_bytes.ensures c.geometries_are_read_as_written.ensures.whole _ _ _ _ _ _ _ line.run.answers alone (λ images p zeros opened. c.unwritten_slots_open_fresh_stores.ensures _ images _ p zeros opened) (c.in-Done.ensures.leaves tells) (line.run.served.plain alone tells none).0;
     }) (c.run_bench.ensures.prints told)
 
 pub returns-in-Done-clause-leaves : goal.returns-in-Done-clause-leaves
 returns-in-Done-clause-leaves g c =
-    leaves_of_run g.V.Volume.tells g.V.C.Cell.tells g.V.C.Cell.state (g.V.Volume.files c.args.volume.now) (g.V.Volume.files c.create_file.new.volume) (g.V.Volume.files c.run_bench.new.volume) c.args.target.now.name.now c.args.target.now.workers _ c.in-Done.ensures.leaves _ _ _ _ c.run_bench.result c.run_bench.ensures.ends c.run_bench.ensures.leaves
+    let t = c.args.target.now in
+    let none = c.create_file.ensures.unfailed (done_no_fault c.in-Done.is) in
+    let station = c.create_file.ensures.done c.in-Done.is in
+    let same = same_counts none.volume station.0 station.1 in
+    leaves_of_run g.V.Volume.tells (g.V.Volume.files c.args.volume.now) (g.V.Volume.files c.create_file.new.volume) (g.V.Volume.files c.run_bench.new.volume) t.name.now t.workers _ c.in-Done.ensures.leaves
+    (counts (g.V.Volume.faults c.args.volume.now) (g.V.Volume.made c.args.volume.now) (g.V.Volume.ended c.args.volume.now)) _ _ _ c.run_bench.result
+    (subst (λ (before : Counts). RunEnds t.workers (g.K.Sink.faults c.args.out.now) (g.K.Sink.faults c.run_bench.new.out) before (counts (g.V.Volume.faults c.run_bench.new.volume) (g.V.Volume.made c.run_bench.new.volume) (g.V.Volume.ended c.run_bench.new.volume)) c.run_bench.result) same c.run_bench.ensures.ends)
+    (subst (λ (before : Counts). RunLeaves g.V.Volume.tells (g.V.Volume.files c.create_file.new.volume) (g.V.Volume.files c.run_bench.new.volume) t.name.now t.workers (bench_lines t.seed t.workers t.count) before (counts (g.V.Volume.faults c.run_bench.new.volume) (g.V.Volume.made c.run_bench.new.volume) (g.V.Volume.ended c.run_bench.new.volume)) c.run_bench.result) same c.run_bench.ensures.leaves)
 
 pub returns-in-Done-clause-back : goal.returns-in-Done-clause-back
 returns-in-Done-clause-back g c t home = c.run_bench.ensures.back t (c.create_file.ensures.back t home)
@@ -98,7 +107,7 @@ returns-in_default g c =
       complete = λ told may sink device.
           unmade_complete t.workers t.count (g.K.Sink.faults c.args.out.now) (g.K.Sink.faults c.args.out.now) (counts (g.V.Volume.faults c.args.volume.now) (g.V.Volume.made c.args.volume.now) (g.V.Volume.ended c.args.volume.now)) (counts (g.V.Volume.faults c.create_file.new.volume) (g.V.Volume.made c.create_file.new.volume) (g.V.Volume.ended c.create_file.new.volume)) (g.V.Volume.files c.args.volume.now) t.name.now c.create_file.result may.free not device all made.ends (made.says told) may.numbers;
       prints = λ told. unmade_prints t.workers _ _ _ _ _ (g.K.Sink.taken c.args.out.now) c.create_file.result not made.ends;
-      leaves = unmade_leaves g.V.Volume.tells g.V.C.Cell.tells g.V.C.Cell.state (g.V.Volume.files c.args.volume.now) (g.V.Volume.files c.create_file.new.volume) t.name.now t.workers _ _ _ _ _ c.create_file.result passes not made.says made.ends made.leaves;
+      leaves = unmade_leaves g.V.Volume.tells (g.V.Volume.files c.args.volume.now) (g.V.Volume.files c.create_file.new.volume) t.name.now t.workers _ _ _ _ _ _ _ c.create_file.result passes not made.says made.ends made.leaves;
       back = λ told home. made.back told home;
       ended = inl (header_ended (counts (g.V.Volume.faults c.args.volume.now) (g.V.Volume.made c.args.volume.now) (g.V.Volume.ended c.args.volume.now)) (counts (g.V.Volume.faults c.create_file.new.volume) (g.V.Volume.made c.create_file.new.volume) (g.V.Volume.ended c.create_file.new.volume)) made.ended);
       faults = made.faults;

@@ -10,11 +10,11 @@ use Rattle.script_text.specs.declared.answer.Answer.{Answer}
 use Rattle.script_text.specs.declared.line.Line.{Line}
 use Rattle.bench_command.specs.Answers.{answers_in}
 use Rattle.bench_command.specs.Ends.{RunSays}
-use Rattle.bench_command.specs.Leaves.{RunClosed, RunKept, RunLeaves, StoreClosed}
+use Rattle.bench_command.specs.Leaves.{RunKept, RunLeaves, RunServed}
 use Rattle.bench_command.specs.Numbers.{anchors_for, slot_size}
 use Rattle.bench_command.proofs.Plain.{sized}
 use Rattle.bench_command.proofs.Printed.{by_end, run_ends, told_so}
-use Rattle.bench_command.proofs.Ran.{refused_leaves}
+use Rattle.bench_command.proofs.Ran.{StoreClosed, refused_leaves}
 use Rattle.bench_command.proofs.Served.{lines_served}
 use Rattle.bench_command.proofs.running.run_bench.Goals as goal
 
@@ -50,24 +50,28 @@ returns-in-Ok-run_script-clause-prints g c told =
     (counts (g.V.Volume.faults c.run_script.new.volume) (g.V.Volume.made c.run_script.new.volume) (g.V.Volume.ended c.run_script.new.volume))) c.in-Ok.ensures c.in-Ok-run_script.ensures.ran in
     let given = map (λ each. each.items) c.in-Ok-run_script.answers.items in
     told_so _ _ _ _ c.print_summary.result (λ text is. record {
-      answers = given;
-      ran = ran;
-      explained = c.runs_keep_the_rules.ensures _ _ _ _ _ _ _ _ _ _ _ (omega arith) ran;
+      run = record { answers = given; served = c.finished_runs_were_served.ensures _ _ _ _ _ _ _ _ _ _ _ sized (λ k line at. c.bench_lines_may_be_served.ensures.numbers t.seed t.workers t.count k line at) ran };
+      is = is;
       requests = length-flat_map (λ (answers : List (ℕ × Answer)). map (λ (numbered : ℕ × Answer). numbered.1) answers) given
           ∙ lengths given ∙ c.each_line_has_one_answer.ensures _ _ _ _ _ _ _ _ _ _ _ (λ line among. c.bench_lines_may_be_served.ensures.within t.seed t.workers t.count line among) ran;
       kinds = c.answers_are_of_one_kind.ensures (answers_in given);
-      plain = λ alone tells none. (c.lone_runs_are_answered_plainly.ensures _ _ _ _ _ _ _ _ _ _ _ sized (λ k line at. c.bench_lines_may_be_served.ensures.numbers t.seed t.workers t.count k line at) ran alone tells none).0;
-      is = is;
     }) (c.print_summary.ensures.prints told)
 
 pub returns-in-Ok-run_script-clause-leaves : goal.returns-in-Ok-run_script-clause-leaves
 returns-in-Ok-run_script-clause-leaves g c =
-    let has = subst (λ (lines : List Line). StoreClosed g.V.Volume.tells g.V.C.Cell.tells g.V.C.Cell.state (g.V.Volume.files c.args.volume.now) (g.V.Volume.files c.run_script.new.volume) c.args.target.now.name.now c.args.target.now.workers lines) c.in-Ok.ensures c.in-Ok-run_script.ensures.ran.closed in
-    let closed : RunClosed g.V.Volume.tells g.V.C.Cell.tells g.V.C.Cell.state (g.V.Volume.files c.args.volume.now) (g.V.Volume.files c.run_script.new.volume) c.args.target.now.name.now c.args.target.now.workers _ = (has, (λ told. c.closed_runs_leave_responses.ensures _ _ _ _ _ _ _ _ sized told has)) in
-    by_end (RunLeaves g.V.Volume.tells g.V.C.Cell.tells g.V.C.Cell.state (g.V.Volume.files c.args.volume.now) (g.V.Volume.files c.run_script.new.volume) c.args.target.now.name.now c.args.target.now.workers _) _ _ c.print_summary.result c.print_summary.ensures.ends closed (inr closed) closed
+    let t = c.args.target.now in
+    let ran = subst (λ (lines : List Line). HasRun g.V.Volume.tells g.V.C.Cell.tells g.V.C.Cell.state (g.V.Volume.files c.args.volume.now) (g.V.Volume.files c.run_script.new.volume) t.name.now slot_size (anchors_for t.workers) t.workers lines g.V.St.Station.faults (map (λ each. each.items) c.in-Ok-run_script.answers.items)
+    (counts (g.V.Volume.faults c.args.volume.now) (g.V.Volume.made c.args.volume.now) (g.V.Volume.ended c.args.volume.now))
+    (counts (g.V.Volume.faults c.run_script.new.volume) (g.V.Volume.made c.run_script.new.volume) (g.V.Volume.ended c.run_script.new.volume))) c.in-Ok.ensures c.in-Ok-run_script.ensures.ran in
+    let served : RunServed g.V.Volume.tells (g.V.Volume.files c.args.volume.now) (g.V.Volume.files c.run_script.new.volume) t.name.now t.workers _ _ _ = record {
+      answers = map (λ each. each.items) c.in-Ok-run_script.answers.items;
+      served = c.finished_runs_were_served.ensures _ _ _ _ _ _ _ _ _ _ _ sized (λ k line at. c.bench_lines_may_be_served.ensures.numbers t.seed t.workers t.count k line at) ran;
+    } in
+    by_end (RunLeaves g.V.Volume.tells (g.V.Volume.files c.args.volume.now) (g.V.Volume.files c.run_script.new.volume) t.name.now t.workers _ _ _) _ _ c.print_summary.result c.print_summary.ensures.ends
+    served (inr (λ told. (served.served.left told).file)) served
 
 pub returns-clause-leaves : goal.returns-clause-leaves
 returns-clause-leaves g c =
     rw c.status_of_run.ensures (refused_leaves g.V.Volume.tells g.V.C.Cell.tells g.V.C.Cell.state (g.V.Volume.files c.args.volume.now) (g.V.Volume.files c.run_script.new.volume) c.args.target.now.name.now c.args.target.now.workers _
-    (λ told has. c.closed_runs_leave_responses.ensures _ _ _ _ _ _ _ _ sized told has) c.in-Err.fault
-    (subst (λ (lines : List Line). RefusalLeaves (RunKept g.V.Volume.tells g.V.C.Cell.tells g.V.C.Cell.state (g.V.Volume.files c.args.volume.now) (g.V.Volume.files c.run_script.new.volume) c.args.target.now.name.now c.args.target.now.workers lines) (StoreClosed g.V.Volume.tells g.V.C.Cell.tells g.V.C.Cell.state (g.V.Volume.files c.args.volume.now) (g.V.Volume.files c.run_script.new.volume) c.args.target.now.name.now c.args.target.now.workers lines) c.in-Err.fault) c.in-Ok.ensures c.in-Err.ensures.kept))
+    (λ told has. c.closed_runs_leave_responses.ensures _ _ _ _ _ _ _ _ sized told has) _ _ c.in-Err.fault
+    (subst (λ (lines : List Line). RefusalLeaves (RunKept g.V.Volume.tells (g.V.Volume.files c.args.volume.now) (g.V.Volume.files c.run_script.new.volume) c.args.target.now.name.now c.args.target.now.workers lines) (StoreClosed g.V.Volume.tells g.V.C.Cell.tells g.V.C.Cell.state (g.V.Volume.files c.args.volume.now) (g.V.Volume.files c.run_script.new.volume) c.args.target.now.name.now c.args.target.now.workers lines) c.in-Err.fault) c.in-Ok.ensures c.in-Err.ensures.kept))

@@ -10,7 +10,6 @@ use Rattle.rock_open.specs.Device.{counts}
 use Rattle.run_command.specs.Ends.{RunEnds, RunsOrLacksMemory}
 use Rattle.run_command.specs.Leaves.{RunLeaves}
 use Rattle.run_command.specs.Prints.{IsRunText, RunPrints}
-use Rattle.run_command.specs.Standing.{RunStands}
 use Rattle.run_command.specs.Says.{IsRunRefused, MayRun, RunSays}
 use Rattle.workload.specs.Script.{bench_lines}
 use Rattle.bench_command.specs.Ends.{BenchEnds, BenchSays, IsBenchRefused}
@@ -216,7 +215,7 @@ returns-in-Run-clause-run_complete g c name given anchors workers asked st vt ma
 
 pub returns-in-Run-clause-run_prints : goal.returns-in-Run-clause-run_prints
 returns-in-Run-clause-run_prints g c name given anchors workers asked k =
-    of_each_run c.args.words.now (λ n s a w. RunPrints (IsRunText g.S.Source.tells g.V.Volume.tells g.V.C.Cell.tells g.V.C.Cell.state g.V.St.Station.faults
+    of_each_run c.args.words.now (λ n s a w. RunPrints (IsRunText g.S.Source.tells g.V.Volume.tells
     (g.S.Source.left c.args.script.now) (g.S.Source.left c.run_command.new.script) (g.V.Volume.files c.args.volume.now) (g.V.Volume.files c.run_command.new.volume) n s a w
     (counts (g.V.Volume.faults c.args.volume.now) (g.V.Volume.made c.args.volume.now) (g.V.Volume.ended c.args.volume.now))
     (counts (g.V.Volume.faults c.run_command.new.volume) (g.V.Volume.made c.run_command.new.volume) (g.V.Volume.ended c.run_command.new.volume)))
@@ -225,45 +224,38 @@ returns-in-Run-clause-run_prints g c name given anchors workers asked k =
 
 pub returns-in-Run-clause-run_plain : goal.returns-in-Run-clause-run_plain
 returns-in-Run-clause-run_plain g c name given anchors asked st vt k done none =
-    let told = subst (RunPrints (IsRunText g.S.Source.tells g.V.Volume.tells g.V.C.Cell.tells g.V.C.Cell.state g.V.St.Station.faults
+    let told = subst (RunPrints (IsRunText g.S.Source.tells g.V.Volume.tells
     (g.S.Source.left c.args.script.now) (g.S.Source.left c.run_command.new.script) (g.V.Volume.files c.args.volume.now) (g.V.Volume.files c.run_command.new.volume) name given anchors 1
     (counts (g.V.Volume.faults c.args.volume.now) (g.V.Volume.made c.args.volume.now) (g.V.Volume.ended c.args.volume.now))
     (counts (g.V.Volume.faults c.run_command.new.volume) (g.V.Volume.made c.run_command.new.volume) (g.V.Volume.ended c.run_command.new.volume)))
     (g.K.Sink.taken c.args.out.now) (g.K.Sink.taken c.run_command.new.out)) done (returns-in-Run-clause-run_prints g c name given anchors 1 asked k) in
-    let text = told.1 in
+    let run = told.1.run in
     record {
-      slot = text.slot;
-      found = text.sized.found vt;
-      lines = text.lines;
-      read = subst (λ (script : List ℕ). IsScript 1 script text.lines) (text.read.2 st).0 text.read.1;
-      answers = text.answers;
-      answered = (text.plain refl vt (λ workers ended. (none.stations_none 0 workers ended).1)).0;
-      printed = told.2 ∙ ap (λ (printed : List ℕ). g.K.Sink.taken c.args.out.now ++ printed) text.is;
+      slot = run.slot;
+      found = run.sized.found vt;
+      lines = run.lines;
+      read = subst (λ (script : List ℕ). IsScript 1 script run.lines) (run.read.2 st).0 run.read.1;
+      answers = run.answers;
+      answered = (run.served.plain refl vt none).0;
+      printed = told.2 ∙ ap (λ (printed : List ℕ). g.K.Sink.taken c.args.out.now ++ printed) told.1.is;
     }
 
 pub returns-in-Run-clause-run_leaves : goal.returns-in-Run-clause-run_leaves
 returns-in-Run-clause-run_leaves g c name given anchors workers asked =
-    of_each_run c.args.words.now (λ n s a w. RunLeaves g.S.Source.tells g.V.Volume.tells g.V.C.Cell.tells g.V.C.Cell.state (g.S.Source.left c.args.script.now) (g.S.Source.left c.run_command.new.script)
-    (g.V.Volume.files c.args.volume.now) (g.V.Volume.files c.run_command.new.volume) n s a w c.run_command.result)
-    name given anchors workers (subst (IsCommand c.args.words.now) c.in-Run.is c.in-Some.ensures) asked c.run_command.ensures.kept
-
-pub returns-in-Run-clause-run_leaves_standing : goal.returns-in-Run-clause-run_leaves_standing
-returns-in-Run-clause-run_leaves_standing g c name given anchors workers asked =
-    of_each_run c.args.words.now (λ n s a w. RunStands g.S.Source.tells g.V.Volume.tells g.V.C.Cell.tells g.V.C.Cell.state g.V.St.Station.faults (g.S.Source.left c.args.script.now) (g.S.Source.left c.run_command.new.script)
+    of_each_run c.args.words.now (λ n s a w. RunLeaves g.S.Source.tells g.V.Volume.tells (g.S.Source.left c.args.script.now) (g.S.Source.left c.run_command.new.script)
     (g.V.Volume.files c.args.volume.now) (g.V.Volume.files c.run_command.new.volume) n s a w
     (counts (g.V.Volume.faults c.args.volume.now) (g.V.Volume.made c.args.volume.now) (g.V.Volume.ended c.args.volume.now))
     (counts (g.V.Volume.faults c.run_command.new.volume) (g.V.Volume.made c.run_command.new.volume) (g.V.Volume.ended c.run_command.new.volume)) c.run_command.result)
-    name given anchors workers (subst (IsCommand c.args.words.now) c.in-Run.is c.in-Some.ensures) asked c.run_command.ensures.stands
+    name given anchors workers (subst (IsCommand c.args.words.now) c.in-Run.is c.in-Some.ensures) asked c.run_command.ensures.kept
 
 pub returns-in-Run-clause-run_recorded : goal.returns-in-Run-clause-run_recorded
 returns-in-Run-clause-run_recorded g c name slot anchors workers asked t found =
-    run_given found g.S.Source.tells g.V.Volume.tells g.K.Sink.tells g.V.C.Cell.tells g.V.C.Cell.state g.V.St.Station.faults _ _ _ _ _ _ _ _ _ _ _ _ _ c.run_command.result t (record {
+    run_given found g.S.Source.tells g.V.Volume.tells g.K.Sink.tells _ _ _ _ _ _ _ _ _ _ _ _ _ c.run_command.result t (record {
       ends = returns-in-Run-clause-run_ends g c name None anchors workers asked;
       says = returns-in-Run-clause-run_says g c name None anchors workers asked;
       refused = returns-in-Run-clause-run_refused g c name None anchors workers asked;
       prints = returns-in-Run-clause-run_prints g c name None anchors workers asked;
       leaves = returns-in-Run-clause-run_leaves g c name None anchors workers asked;
-      stands = returns-in-Run-clause-run_leaves_standing g c name None anchors workers asked;
     })
 
 pub returns-in-Run-clause-usage : goal.returns-in-Run-clause-usage
@@ -298,7 +290,7 @@ returns-in-Bench-clause-bench_complete g c name seed workers count asked t may s
 
 pub returns-in-Bench-clause-bench_prints : goal.returns-in-Bench-clause-bench_prints
 returns-in-Bench-clause-bench_prints g c name seed workers count asked k =
-    of_each_bench c.args.words.now (λ n x w r. ReportPrints (IsBenchText g.V.Volume.tells g.V.C.Cell.tells g.V.C.Cell.state g.V.St.Station.faults
+    of_each_bench c.args.words.now (λ n x w r. ReportPrints (IsBenchText g.V.Volume.tells
     (g.V.Volume.files c.args.volume.now) (g.V.Volume.files c.bench_command.new.volume) n x w r
     (counts (g.V.Volume.faults c.args.volume.now) (g.V.Volume.made c.args.volume.now) (g.V.Volume.ended c.args.volume.now))
     (counts (g.V.Volume.faults c.bench_command.new.volume) (g.V.Volume.made c.bench_command.new.volume) (g.V.Volume.ended c.bench_command.new.volume)))
@@ -307,7 +299,7 @@ returns-in-Bench-clause-bench_prints g c name seed workers count asked k =
 
 pub returns-in-Bench-clause-bench_plain : goal.returns-in-Bench-clause-bench_plain
 returns-in-Bench-clause-bench_plain g c name seed count asked vt k done none =
-    let told = subst (ReportPrints (IsBenchText g.V.Volume.tells g.V.C.Cell.tells g.V.C.Cell.state g.V.St.Station.faults
+    let told = subst (ReportPrints (IsBenchText g.V.Volume.tells
     (g.V.Volume.files c.args.volume.now) (g.V.Volume.files c.bench_command.new.volume) name seed 1 count
     (counts (g.V.Volume.faults c.args.volume.now) (g.V.Volume.made c.args.volume.now) (g.V.Volume.ended c.args.volume.now))
     (counts (g.V.Volume.faults c.bench_command.new.volume) (g.V.Volume.made c.bench_command.new.volume) (g.V.Volume.ended c.bench_command.new.volume)))
@@ -316,7 +308,9 @@ returns-in-Bench-clause-bench_plain g c name seed count asked vt k done none =
 
 pub returns-in-Bench-clause-bench_leaves : goal.returns-in-Bench-clause-bench_leaves
 returns-in-Bench-clause-bench_leaves g c name seed workers count asked =
-    of_each_bench c.args.words.now (λ n x w k. BenchLeaves g.V.Volume.tells g.V.C.Cell.tells g.V.C.Cell.state (g.V.Volume.files c.args.volume.now) (g.V.Volume.files c.bench_command.new.volume) n w (bench_lines x w k) c.bench_command.result)
+    of_each_bench c.args.words.now (λ n x w k. BenchLeaves g.V.Volume.tells (g.V.Volume.files c.args.volume.now) (g.V.Volume.files c.bench_command.new.volume) n w (bench_lines x w k)
+    (counts (g.V.Volume.faults c.args.volume.now) (g.V.Volume.made c.args.volume.now) (g.V.Volume.ended c.args.volume.now))
+    (counts (g.V.Volume.faults c.bench_command.new.volume) (g.V.Volume.made c.bench_command.new.volume) (g.V.Volume.ended c.bench_command.new.volume)) c.bench_command.result)
     name seed workers count (subst (IsCommand c.args.words.now) c.in-Bench.is c.in-Some.ensures) asked c.bench_command.ensures.leaves
 
 pub returns-in-Bench-clause-usage : goal.returns-in-Bench-clause-usage

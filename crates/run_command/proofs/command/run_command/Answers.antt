@@ -3,7 +3,7 @@ use Rattle.std.proofs.lemmas.Bool.{false≢true}
 use Rattle.std.proofs.lemmas.List.{length-map}
 use Rattle.answer_text.specs.Text.{text_of}
 use Rattle.slot_finding.proofs.Causes.{first_says}
-use Rattle.run_command.proofs.Printed.{many, printed_complete, printed_ends, printed_leaves, printed_prints, printed_refused, printed_says, printed_stands}
+use Rattle.run_command.proofs.Printed.{many, printed_complete, printed_ends, printed_leaves, printed_prints, printed_refused, printed_says}
 use Rattle.run_command.proofs.Refused.{refused_complete, refused_ends, refused_leaves, refused_prints, refused_refused, refused_says, slot_refused, third_says, workers_refused}
 use Rattle.run_command.proofs.Unread.{unread_refused}
 use Rattle.run_command.proofs.command.run_command.Goals as goal
@@ -51,15 +51,15 @@ pub returns-in-Ok-run_found-clause-prints : goal.returns-in-Ok-run_found-clause-
 returns-in-Ok-run_found-clause-prints g c told =
     let run = c.in-Ok-run_found.ensures.ran in
     printed_prints _ _ _ _ _ _ c.print.result (λ text is. record {
-      slot = run.slot;
-      sized = run.sized;
-      lines = c.in-Ok.lines.lines;
-      answers = map (λ each. each.items) c.in-Ok-run_found.answers.items;
+      run = record {
+        lines = c.in-Ok.lines.lines;
+        read = c.in-Ok.ensures.script;
+        slot = run.slot;
+        sized = run.sized;
+        answers = map (λ each. each.items) c.in-Ok-run_found.answers.items;
+        served = c.finished_runs_were_served.ensures _ _ _ _ _ _ _ _ _ _ _ run.sized.sized (c.read_lines_are_numbered.ensures _ _ _ c.in-Ok.ensures.script.1) run.ran;
+      };
       is = is ∙ ap (λ answers. text_of (map (λ each. each.items) answers)) c.deref.ensures.value;
-      read = c.in-Ok.ensures.script;
-      ran = run.ran;
-      explained = c.runs_keep_the_rules.ensures _ _ _ _ _ _ _ _ _ _ _ (let most = run.sized.sized.to in omega (arith, most)) run.ran;
-      plain = λ alone told none. c.lone_runs_are_answered_plainly.ensures _ _ _ _ _ _ _ _ _ _ _ run.sized.sized (c.read_lines_are_numbered.ensures _ _ _ c.in-Ok.ensures.script.1) run.ran alone told none;
     }) c.print.ensures.ends (c.print.ensures.prints told)
 
 pub returns-in-Ok-run_found-clause-kept : goal.returns-in-Ok-run_found-clause-kept
@@ -70,8 +70,8 @@ returns-in-Ok-run_found-clause-kept g c =
       read = c.in-Ok.ensures.script;
       slot = run.slot;
       sized = run.sized;
-      closed = run.ran.closed;
-      responses = λ told. c.closed_runs_leave_responses.ensures _ _ _ _ _ _ _ _ run.sized.sized told run.ran.closed;
+      answers = map (λ each. each.items) c.in-Ok-run_found.answers.items;
+      served = c.finished_runs_were_served.ensures _ _ _ _ _ _ _ _ _ _ _ run.sized.sized (c.read_lines_are_numbered.ensures _ _ _ c.in-Ok.ensures.script.1) run.ran;
     }) c.print.ensures.ends
 
 pub returns-clause-ends : goal.returns-clause-ends
@@ -79,21 +79,6 @@ returns-clause-ends g c = refused_ends _ _ _ _ _ _ _ _ _ c.in-Err-run_found.stat
 
 pub returns-clause-says : goal.returns-clause-says
 returns-clause-says g c = refused_says _ _ _ _ _ _ _ _ _ _ _ c.in-Err-run_found.status (c.in-Ok.lines.lines, c.in-Ok.ensures.script) c.in-Err-run_found.ensures.ends c.in-Err-run_found.ensures.says
-
-pub returns-in-Ok-run_found-clause-stands : goal.returns-in-Ok-run_found-clause-stands
-returns-in-Ok-run_found-clause-stands g c =
-    let run = c.in-Ok-run_found.ensures.ran in
-    let numbered = c.read_lines_are_numbered.ensures _ _ _ c.in-Ok.ensures.script.1 in
-    printed_stands _ _ _ _ _ _ _ _ _ _ _ _ _ _ _ _ _ c.print.result record {
-      lines = c.in-Ok.lines.lines;
-      answers = map (λ each. each.items) c.in-Ok-run_found.answers.items;
-      read = c.in-Ok.ensures.script;
-      slot = run.slot;
-      sized = run.sized;
-      ran = run.ran;
-      standing = λ told. c.runs_leave_standing.ensures _ _ _ _ _ _ _ _ _ _ _ run.sized.sized numbered run.ran told;
-      plain = λ alone told none. c.lone_runs_are_answered_plainly.ensures _ _ _ _ _ _ _ _ _ _ _ run.sized.sized numbered run.ran alone told none;
-    } c.print.ensures.ends
 
 pub returns-clause-refused : goal.returns-clause-refused
 returns-clause-refused g c = refused_refused _ _ _ _ _ _ _ _ _ _ c.in-Err-run_found.status c.in-Ok.ensures.bad (c.if-not-may_be_given.ensures.0 refl) (c.if-not-are_workers.ensures.0 refl) c.in-Err-run_found.ensures.refused

@@ -39,7 +39,7 @@ returns g c tells files left name slot anchors workers script answers before aft
       lasts = λ w account at x among url body version is answered version_is stage.
           let ground = basis g.C.Cell.tells g.C.Cell.state offers_of h.closed.store in
           let known = c.saved_entries_stay_known.ensures.known h.closed.store script w account x url body version (h.served.played.each w account (at_place h.served.played.accounts w account at)) among is answered in
-          let there = view_there tells g.C.Cell.tells g.C.Cell.state g.St.Station.faults files left name slot anchors workers script answers before after h told w account at in (
+          let there = view_there tells g.C.Cell.tells g.C.Cell.state g.St.Station.faults files left name slot anchors workers script answers before after h w account at in (
             c.finished_entries_last.ensures.lasting ground (views_of h.closed.left) h.closed.cells (saved_as ground x.line.number url version) (view account.end.pass) w h.closed.closed there known version_is stage,
             c.finished_entries_last.ensures.offer ground (views_of h.closed.left) h.closed.cells (saved_as ground x.line.number url version) (view account.end.pass) w h.closed.closed there known version_is,
           );
