@@ -6,3 +6,9 @@ pub mod Begins
 pub mod Round
 pub mod Opens
 pub mod Among
+pub mod Names
+pub mod Dealing
+pub mod Closings
+pub mod Openings
+pub mod Leaving
+pub mod Refusing

@@ -1,5 +1,5 @@
 -- A call on the pass of one file, of all the passes of a worker.
-use Rattle.std.proofs.Common.{Bool, List, Option, Some, ap, arith, get_or, inl, inr, length, refl, set, subst, sym, suc, unwrap_or, zero, ◌<◌, ◌≡◌, ◌≢◌, ◌≤◌, ◌⊎◌, ◌∙◌, ◌∷◌, [], ℕ}
+use Rattle.std.proofs.Common.{Bool, List, Option, Some, ap, arith, get_or, inl, inr, length, refl, replicate, set, subst, sym, suc, unwrap_or, zero, ◌<◌, ◌≡◌, ◌≢◌, ◌≤◌, ◌⊎◌, ◌∙◌, ◌∷◌, [], ℕ}
 use Rattle.std.proofs.Math.ListN.{length-set}
 use Rattle.std.proofs.lemmas.Bool.{cases_lt}
 use Rattle.std.proofs.lemmas.Option.{slice_get_read, slice_get_within}
@@ -41,6 +41,12 @@ there_is (y ∷ xs) (suc d) lt = there_is xs d (omega arith)
 
 pub same_some : {T : Type 0} (o : Option T) (x y : T) → o ≡ Some x → o ≡ Some y → x ≡ y
 same_some o x y e f = ap (λ (z : Option _). unwrap_or z x) (sym e ∙ f)
+
+-- a tab that was at no file yet is at the first one
+pub first_of_all : (n : ℕ) → 0 < n → (k t : ℕ) → get_or (replicate k 0) t 0 < n
+first_of_all n some zero t = some
+first_of_all n some (suc k) zero = some
+first_of_all n some (suc k) (suc t) = first_of_all n some k t
 
 -- an element of a list was changed
 pub record Puts {T : Type 0} (old new : List T) (d : ℕ) (x y : T) : Type 0 where

@@ -24,12 +24,6 @@ put_or [] t d = inr refl
 put_or (x ∷ xs) zero d = inl refl
 put_or (x ∷ xs) (suc t) d = put_or xs t d
 
--- a tab that was at no file yet is at the first one
-pub first_of_all : (n : ℕ) → 0 < n → (k t : ℕ) → get_or (replicate k 0) t 0 < n
-first_of_all n some zero t = some
-first_of_all n some (suc k) zero = some
-first_of_all n some (suc k) (suc t) = first_of_all n some k t
-
 module _ {C O : Type 0} (tells : Bool) (state : C → CellState) (offers : O → Offers) where
   -- a tab is at a file
   pub tab_own : (dirs : Dirs C O) (a : DirPass C) (t d hand : ℕ) → IsDirPass tells state offers dirs a → hand < dir_count dirs → d < dir_count dirs → IsDirPass tells state offers dirs (record a { tab_dirs = set a.tab_dirs t d; hand = hand })

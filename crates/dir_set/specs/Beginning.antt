@@ -65,7 +65,8 @@ module _ {C O : Type 0} (tells : Bool) (state : C → CellState) (offers : O →
       pub here : d ≡ dir → BegunBy t line url is_durable s p q version
       pub behind : ComesBefore hand dir d → q ≡ p
 
-    -- The same where the files from one number on are asked in order.
+    -- Of one file, where the files from one number on are asked in order: those before this one refused, an entry was begun in this one, and the
+    -- pass of any other file is as it was.
     pub record BeginsAmong (from dir version d : ℕ) (s : Store C O) (p q : Pass C) : Type 0 where
       pub before : from ≤ d → d < dir → (fault : BeginFault) × RefusedBegin t line url is_durable s p q fault
       pub here : d ≡ dir → BegunBy t line url is_durable s p q version

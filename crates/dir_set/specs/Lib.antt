@@ -2,3 +2,5 @@ pub mod Dirs
 pub mod Answers
 pub mod Beginning
 pub mod Notes
+pub mod Files
+pub mod Parts

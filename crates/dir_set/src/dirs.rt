@@ -96,7 +96,7 @@ impl<C> DirPass<C> {
         self.tab_dirs[tab as usize]
     }
 
-    // The same, to index by.
+    // The file at which a tab works, or worked last, as a place in the lists of stores, passes and stations.
     pub(crate) fn index_of(&self, tab: u8) -> usize
         requires { tab < 8 }
         ensures { result ≡ slice_index self.now.tab_dirs tab }

@@ -1,5 +1,5 @@
 use Rattle.std.proofs.Common.{arith, ◌<◌}
-use Rattle.dir_set.proofs.Opens.{first_of_all}
+use Rattle.dir_set.proofs.OneFile.{first_of_all}
 use Rattle.dir_set.specs.Dirs.{dir_count}
 use Rattle.dir_set.proofs.dirs.Dirs.pass.Goals as goal
 
