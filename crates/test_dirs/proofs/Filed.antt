@@ -30,7 +30,7 @@ put_at [] x = refl
 put_at (y ∷ xs) x = put_at xs x
 
 -- an item of a list with one more is one of the list, or the new one
-put_cases : {T : Type 0} (xs zs : List T) (x : T) (d : ℕ) (z : T) → zs ≡ xs ++ x ∷ [] → slice_get zs d ≡ Some z → (d < length xs) ⊎ (length xs ≤ d) → ((d < length xs) × (slice_get xs d ≡ Some z)) ⊎ ((length xs ≤ d) × (z ≡ x))
+pub put_cases : {T : Type 0} (xs zs : List T) (x : T) (d : ℕ) (z : T) → zs ≡ xs ++ x ∷ [] → slice_get zs d ≡ Some z → (d < length xs) ⊎ (length xs ≤ d) → ((d < length xs) × (slice_get xs d ≡ Some z)) ⊎ ((length xs ≤ d) × (z ≡ x))
 put_cases xs zs x d z put has (inl lt) = inl (lt, sym (put_before xs x d lt) ∙ ap (λ (l : List _). slice_get l d) (sym put) ∙ has)
 put_cases xs zs x d z put has (inr ge) =
     let within = slice_get_within zs d z has in

@@ -22,6 +22,9 @@ use Rattle.store_rule.specs.Passes.{view}
 use Rattle.store_rule.proofs.Passing.{pass_of}
 use Rattle.dir_set.specs.declared.dirs.DirPass.{DirPass}
 use Rattle.dir_set.specs.declared.dirs.Dirs.{Dirs}
+use Rattle.store_rule.specs.declared.store.Note.{Note}
+use Rattle.dir_set.specs.declared.notes.DirNote.{DirNote}
+use Rattle.dir_set.specs.Notes.{IsDirNoteOf, LearnedIn, NotedIn, notes_of}
 use Rattle.dir_set.specs.Answers.{EachMissed, OpensAt, PurgesIfThere}
 use Rattle.dir_set.specs.Dirs.{AtDir, IsDirPass, OnlyDir, answer_at, dir_of}
 use Rattle.dir_set.proofs.OneFile.{there_is}
@@ -53,6 +56,31 @@ module _ {C O : Type 0} (tells : Bool) (state : C → CellState) (offers : O →
         let m = ready.own.many in
         let p = there_is a.passes.items d (omega arith) in
         idle_on tells state offers t offered s p.0 q (purge_tabs tells state offers t offered url s p.0 q (answer_at left d) (h d s p.0 q es p.1 eq)) (ready.idle d s p.0 es p.1);
+  }
+
+  -- what was seen was copied, or added
+  pub noted_ready : (left : ℕ → Option (Note C)) (dirs : Dirs C O) (a b : DirPass C) → IsReady tells state offers t offered dirs a → IsDirPass tells state offers dirs b → ((d : ℕ) → AtDir dirs a b d (λ s p q. NotedIn tells state offers s p q (left d))) → IsReady tells state offers t offered dirs b
+  noted_ready left dirs a b ready own h = record {
+    own = own;
+    sizes = ready.sizes;
+    idle = λ d s q es eq.
+        let lt = slice_get_within dirs.stores.items d s es in
+        let m = ready.own.many in
+        let p = there_is a.passes.items d (omega arith) in
+        idle_on tells state offers t offered s p.0 q (ap (λ (v : View (List ℕ)). v.tabs) (h d s p.0 q es p.1 eq).view_is) (ready.idle d s p.0 es p.1);
+  }
+
+  pub learned_ready : (note : DirNote C) (dirs : Dirs C O) (a b : DirPass C) → IsDirNoteOf dirs note → IsReady tells state offers t offered dirs a → IsDirPass tells state offers dirs b
+      → ((d : ℕ) → AtDir dirs a b d (λ s p q. (copy : Note C) → answer_at (notes_of note) d ≡ Some copy → LearnedIn tells state offers s p q copy)) → IsReady tells state offers t offered dirs b
+  learned_ready note dirs a b of ready own h = record {
+    own = own;
+    sizes = ready.sizes;
+    idle = λ d s q es eq.
+        let lt = slice_get_within dirs.stores.items d s es in
+        let m = ready.own.many in
+        let p = there_is a.passes.items d (omega arith) in
+        let n = of d s es in
+        idle_on tells state offers t offered s p.0 q (ap (λ (v : View (List ℕ)). v.tabs) (h d s p.0 q es p.1 eq n.0 n.1).view_is) (ready.idle d s p.0 es p.1);
   }
 
   pub opened_reading : (url : List ℕ) (dir version : ℕ) (dirs : Dirs C O) (a b : DirPass C) → inner ≢ t → IsReady tells state offers t offered dirs a → IsDirPass tells state offers dirs b → dir_of b t ≡ dir

@@ -4,8 +4,8 @@ ghost use Rattle.dir_set.specs.Dirs.{dir_count};
 ghost use Rattle.test_dirs.specs.Offered.{IsReady, IsWriting, offers_in};
 
 use dir_set::{
-    DirMiss, DirPass, Dirs, dir_abort, dir_append, dir_begin, dir_close, dir_finish, dir_more,
-    dir_open, dir_purge,
+    DirMiss, DirPass, Dirs, dir_abort, dir_append, dir_begin, dir_close, dir_finish, dir_learn,
+    dir_more, dir_note, dir_open, dir_purge,
 };
 use lock_word::{Cause, Epoch};
 use rock_disk::{Cell, Station};
@@ -52,6 +52,8 @@ pub enum Ask {
     Put,
     Get,
     Purge,
+    /// What the worker has seen is copied, and added to what it has seen.
+    Note,
 }
 
 /// The tab that it works on.
@@ -197,6 +199,23 @@ fn purge_told(alloc: Global, left: &[Option<Epoch>]) -> Option<String> {
     Some(text)
 }
 
+/// Copies what the worker has seen of each file, and adds it to what it has seen.
+pub fn noted<C: Cell, O: Origin>(
+    alloc: Global,
+    dirs: &Dirs<C, O>,
+    pass: &mut DirPass<C>,
+    first: &[u8],
+    second: &[u8],
+    body: &[u8],
+) -> Option<String>
+    requires ready { IsReady C.tells C.state O.offers TAB (offers_in first.now second.now body.now) dirs.now pass.old }
+    ensures ready { IsReady C.tells C.state O.offers TAB (offers_in first.now second.now body.now) dirs.now pass.new }
+{
+    let note = dir_note(dirs, pass);
+    dir_learn(dirs, pass, note);
+    format!(in alloc; "NOTED").ok()
+}
+
 fn missed(alloc: Global, miss: &DirMiss) -> Option<String> {
     let mut text = String::new(alloc);
     text.push_str("MISS").ok()?;
@@ -268,5 +287,6 @@ fn told<R: Wait, C: Cell, O: Origin, St: Station<C = C>>(
         Ask::Put => put(alloc, dirs, pass, stations, line, url, first, second, body),
         Ask::Get => get(rt, alloc, dirs, pass, stations, url, first, second, body),
         Ask::Purge => purged(alloc, dirs, pass, url, first, second, body),
+        Ask::Note => noted(alloc, dirs, pass, first, second, body),
     }
 }

@@ -70,12 +70,14 @@ fn asked<R: Wait>(
     )
 }
 
-/// The same for a body of one byte.
-fn story<R: Wait>(
+/// What comes of asking a cache over so many files, where two URLs are offered a body of so many bytes. The station of the
+/// first file fails at this call.
+fn story_of<R: Wait>(
     rt: &R,
     alloc: Global,
     many: usize,
     fails: Option<u64>,
+    length: usize,
     asks: &[(Ask, bool)],
 ) -> Option<String>
     requires some { 0 < many }
@@ -86,8 +88,25 @@ fn story<R: Wait>(
     let mut second = Vec::new(alloc);
     second.extend_from_slice(b"http://a/c").ok()?;
     let mut body = Vec::new(alloc);
-    body.push(b'x').ok()?;
+    for _ in 0..length {
+        body.push(b'x').ok()?;
+    }
     asked(rt, alloc, many, fails, &first, &second, &body, asks)
+}
+
+/// What comes of asking a cache over so many files, where two URLs are offered a body of one byte. The station of the
+/// first file fails at this call.
+fn story<R: Wait>(
+    rt: &R,
+    alloc: Global,
+    many: usize,
+    fails: Option<u64>,
+    asks: &[(Ask, bool)],
+) -> Option<String>
+    requires some { 0 < many }
+    requires few { many ≤ 8 }
+{
+    story_of(rt, alloc, many, fails, 1, asks)
 }
 
 #[test]
@@ -164,6 +183,48 @@ STORED 2@0
 MISS other 2 absent 1 absent 1 absent 1 absent 1 absent 1 absent 1 absent 1
 HIT 2@0 Piece { count: 1 }
 PURGED 2.true - - - - - - -
+";
+    assert_eq!(rt; story.as_ref().map(|s| s.as_str()), Some(wanted));
+}
+
+#[test]
+fn a_body_that_is_too_large_for_a_slot_is_given_up(rt: HostRuntime) {
+    let asks = [
+        (Ask::Put, false),
+        (Ask::Get, false),
+        (Ask::Put, true),
+        (Ask::Get, true),
+    ];
+    let story = story_of(&rt, rt.alloc(), 2, None, 600, &asks);
+    let wanted = "\
+FAULT 1@0
+MISS absent 1 absent 0 - - - - - -
+FAULT 1@1
+MISS absent 1 absent 1 - - - - - -
+";
+    assert_eq!(rt; story.as_ref().map(|s| s.as_str()), Some(wanted));
+}
+
+#[test]
+fn what_was_seen_is_handed_on(rt: HostRuntime) {
+    let asks = [
+        (Ask::Note, false),
+        (Ask::Put, false),
+        (Ask::Note, false),
+        (Ask::Get, false),
+        (Ask::Put, true),
+        (Ask::Note, true),
+        (Ask::Get, true),
+    ];
+    let story = story(&rt, rt.alloc(), 2, None, &asks);
+    let wanted = "\
+NOTED
+STORED 1@0
+NOTED
+HIT 1@0 Piece { count: 1 }
+STORED 1@1
+NOTED
+HIT 1@1 Piece { count: 1 }
 ";
     assert_eq!(rt; story.as_ref().map(|s| s.as_str()), Some(wanted));
 }
