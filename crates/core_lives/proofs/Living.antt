@@ -99,8 +99,7 @@ module _ (m : Machine) (logs : HasOrderedLog m) (first : List FirstContent) (are
       let at = at_contains m.views e.1.view e.1.among in
       let c = logs.stands.of.all e.0 record { i = at.0; view = e.1.view; at = at.1; seen = e.1.seen } in
       let low = logs.stands.numbers.inside e.0 c in
-      let new = logs.stands.links.new e.0 c in
-      subst (IsPieceWithin m.slots) (one e.0 l (sym e.2)) record { version_from = omega arith; version_to = low.0; place = low.1 }
+      subst (IsPieceWithin m.slots) (one e.0 l (sym e.2)) record { version_to = low.0; place = low.1 }
     where
       one : (a b : LoggedPiece) → Logged a ≡ Logged b → a ≡ b
       one a b h = cc

@@ -17,4 +17,3 @@ pub mod HasLog
 pub mod Rewritten
 pub mod Wiped
 pub mod Few
-pub mod HeldVersions

@@ -11,7 +11,6 @@ content_at contents s = slice_index_or contents s Blank
 
 -- a piece of a store with so many slots
 pub record IsPieceWithin (slots : ℕ) (l : LoggedPiece) : Type 0 where
-  pub version_from : 0 < l.piece.version
   pub version_to : l.piece.version ≤ version_limit
   pub place : l.piece.place < slots
 

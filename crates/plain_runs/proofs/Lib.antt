@@ -1,3 +1,4 @@
+pub mod Depends
 pub mod Spelled
 pub mod Filled
 pub mod Kept

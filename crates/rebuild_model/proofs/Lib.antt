@@ -6,4 +6,3 @@ pub mod Winners
 pub mod Whole
 pub mod Finds
 pub mod One
-pub mod Depends

@@ -598,8 +598,6 @@ made 7
 stage a durable piece is published alone
 # Written and not synced it is not published.
 0 0 15 0 0 = 0
-# Who writes a slot may not say that it wiped it.
-0 0 16 0 2 = refused
 0 0 17 0 0 = 0
 0 0 21 0 1 = 0
 0 0 18 0 0 = 0
@@ -619,7 +617,7 @@ stage a durable piece is published alone
 0 0 18 0 0 = 0
 0 0 16 0 0 = 1
 0 0 12 0 3 = 0
-made 19
+made 18
 stage the next piece is logged
 # One that is not durable is published as it is written.
 0 0 14 1 0 = 1
@@ -708,44 +706,6 @@ seen 2 Some(4)
 1 0 20 0 0 = 0
 seen 1 Some(5)
 made 3
-
-core 2 1 2
-stage a writer begins
-# Tab 0 of pass 0 writes version 1 at the anchor, has named its entry and reserved the slots 0 and 1.
-0 0 1 0 0 = 0
-0 0 4 0 0 = 0
-0 0 5 0 0 = 0
-0 0 6 0 1 = 0
-0 0 9 4 77 = 0
-0 0 9 5 78 = 0
-0 0 9 6 7 = 0
-0 0 10 0 0 = 0
-0 0 10 1 0 = 1
-made 9
-stage its first slot is published
-0 0 14 0 0 = 0
-0 0 15 0 0 = 0
-0 0 17 0 0 = 0
-0 0 21 0 1 = 0
-0 0 18 0 0 = 0
-0 0 16 0 0 = 1
-0 0 12 0 3 = 0
-0 0 9 7 1 = 0
-0 0 7 0 2 = word 1 2 0
-made 9
-stage a turn at the slot tells of its piece
-# Pass 1 learned no note. With the turn it knows the piece, and the next turn tells nothing more.
-seen 1 Some(1)
-1 0 2 0 0 = word 1 2 0
-1 0 13 0 0 = 3
-seen 1 Some(3)
-1 0 15 0 0 = 0
-seen 1 Some(4)
-1 0 16 0 0 = 1
-1 0 15 0 0 = 0
-seen 1 Some(4)
-1 0 16 0 0 = 1
-made 6
 
 core 3 2 2
 stage a writer begins
