@@ -2,4 +2,3 @@ pub mod Ready
 pub mod Writing
 pub mod Reading
 pub mod Filed
-pub mod Names

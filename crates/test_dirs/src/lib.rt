@@ -2,9 +2,6 @@
 #![tactic(auto)]
 
 mod files;
-mod opening;
-#[cfg(test)]
-mod openings;
 mod shelf;
 #[cfg(test)]
 mod stories;
