@@ -2,6 +2,9 @@
 #![tactic(auto)]
 
 mod files;
+mod opening;
+#[cfg(test)]
+mod openings;
 mod shelf;
 #[cfg(test)]
 mod stories;
