@@ -1,5 +1,5 @@
 -- What follows where the file of a benchmark was made.
-use Rattle.std.proofs.Common.{Bool, List, [], ap, arith, inl, inr, length, length-append, refl, subst, sym, ◌*◌, ◌+◌, ◌++◌, ◌-◌, ◌/◌, ◌∙◌, ◌∷◌, ◌≡◌, ℕ}
+use Rattle.std.proofs.Common.{Bool, List, ap, arith, inl, inr, length, length-append, refl, subst, sym, ◌*◌, ◌+◌, ◌∙◌, ◌≡◌, ℕ}
 use Rattle.std.proofs.lemmas.List.{length-replicate}
 use Rattle.std.specs.Prelude.{Some}
 use Rattle.std.specs.FinMap.{get}
@@ -11,16 +11,16 @@ use Rattle.file_commands.specs.Report.{ReportsOrLacksMemory}
 use Rattle.rock_disk.specs.File.{File, Files, IsNotAway, IsThere, bytes_of, cut, zeros}
 use Rattle.rock_disk.proofs.Out.{get_inserted}
 use Rattle.rock_io.specs.Faults.{Rose}
-use Rattle.rock_open.specs.Device.{Counts, counts}
+use Rattle.rock_disk.specs.Counts.{Counts, counted as numbers}
 use Rattle.rock_open.specs.Opening.{HasSlots, IsPasses}
-use Rattle.rock_run.specs.Device.{HasFailed as RunFailed}
+use Rattle.rock_run.specs.Device.{RunFailed}
 use Rattle.rock_status.specs.declared.status.Status.{Status}
 use Rattle.rock_status.specs.declared.status.Status.TheVariants.{BadGeometry, BadScript, DeviceFault, Done, Exists, Memory, Missing, SinkFault, Small, SourceFault, Usage}
 use Rattle.script_text.specs.declared.line.Line.{Line}
 use Rattle.bench_command.specs.Ends.{BenchEnds, BenchSays, RunEnds, RunSays}
 use Rattle.bench_command.specs.Leaves.{BenchLeaves, LeavesMade, RunLeaves}
 use Rattle.bench_command.specs.Numbers.{AreBenchNumbers, IsMade, slot_size, slots_for}
-use Rattle.bench_command.specs.Stations.{HasFailed, made_counts}
+use Rattle.bench_command.specs.Stations.{made_counts}
 
 pub zeros_long : (n : ℕ) → length (zeros n) ≡ n
 unfolding zeros
@@ -59,7 +59,7 @@ module _ (same_bytes : (slot : ℕ) (bytes : List ℕ) → bytes_of (cut slot by
       }
 
 -- a volume that did not fail has its counts
-pub same_counts : {f f' m m' : ℕ} {e e' : List ℕ} → f ≡ f' → m ≡ m' → e ≡ e' → counts f m e ≡ counts f' m' e'
+pub same_counts : {f f' m m' : ℕ} {e e' : List ℕ} → f ≡ f' → m ≡ m' → e ≡ e' → numbers f m e ≡ numbers f' m' e'
 same_counts f m e = cc
 
 -- how the run ends is how the benchmark does

@@ -4,7 +4,7 @@ use Rattle.rock_disk.specs.Cell.{CellState}
 use Rattle.rock_disk.specs.File.{Files}
 use Rattle.rock_open.specs.declared.fault.OpenStoreFault.{OpenStoreFault}
 use Rattle.rock_open.specs.declared.fault.OpenStoreFault.TheVariants.{BadGeometry, Failed, Memory, Missing, Small}
-use Rattle.rock_open.specs.Device.{Counts}
+use Rattle.rock_disk.specs.Counts.{Counts}
 use Rattle.rock_run.specs.Faults.{status_of_run}
 use Rattle.rock_run.specs.Runs.{HasClosed, RefusalLeaves}
 use Rattle.run_rules.specs.Left.{IsGivenBack}

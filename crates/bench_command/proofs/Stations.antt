@@ -1,9 +1,8 @@
 -- The stations of a benchmark, where its file was made, and where it was not.
-use Rattle.std.proofs.Common.{List, [], ap, arith, inl, inr, length, length-append, refl, subst, sym, ◌+◌, ◌++◌, ◌<◌, ◌∙◌, ◌∷◌, ◌≡◌, ◌⊎◌, ℕ}
-use Rattle.file_commands.specs.Device.{DeviceFailed, DeviceKept, EndedOne}
-use Rattle.rock_open.specs.Device.{Counts, NoStation, counts, EachEnded as HeaderEnded, HasFailed as HeaderFailed}
-use Rattle.rock_run.specs.Device.{EachEnded as RunEnded, HasEnded, NoneFailed as NoneFailedRunning}
-use Rattle.bench_command.specs.Stations.{EachEnded, HasFailed, NoneBehind, NoneFailed, made_counts}
+use Rattle.std.proofs.Common.{List, [], ap, arith, inl, inr, length, length-append, refl, sym, ◌++◌, ◌∙◌, ◌∷◌, ◌≡◌, ℕ}
+use Rattle.rock_disk.specs.Counts.{Counts, EachEnded, NoneFailed}
+use Rattle.rock_run.specs.Device.{RunEnded, RunUnfailed}
+use Rattle.bench_command.specs.Stations.{BenchUnfailed, made_counts}
 
 -- a list that grew is not as it was
 grew : (before : List ℕ) (count : ℕ) (others : List ℕ) → before ≡ before ++ count ∷ others → ⊥
@@ -23,33 +22,22 @@ append_of_more (x ∷ before) a more = ap (λ (l : List ℕ). x ∷ l) (append_o
 first_of : {a b : ℕ} {more others : List ℕ} → a ∷ more ≡ b ∷ others → b ≡ a
 first_of e = cc
 
--- the station of the header area, if it was made, was ended
-pub header_ended : (before after : Counts) → EndedOne before.made after.made before.ended after.ended → HeaderEnded before after
-header_ended before after (inl none) = inl (record { made = none.0; ended = none.1 })
-header_ended before after (inr one) = inr (one.1.0, record { made = one.0; ended = one.1.1 })
-
--- it or the volume failed
-pub header_failed : (before after : Counts) → EndedOne before.made after.made before.ended after.ended → DeviceFailed before.faults after.faults before.ended after.ended → HeaderFailed before after
-header_failed before after ended (inl rose) = inl rose
-header_failed before after (inl none) (inr failed) = absurd (grew before.ended failed.0 [] (sym none.1 ∙ failed.1))
-header_failed before after (inr one) (inr failed) = inr (failed.0, record { made = one.0; ended = failed.1 }, failed.2)
-
--- or neither did
-pub header_kept : (before after : Counts) → EndedOne before.made after.made before.ended after.ended → DeviceKept before.faults after.faults before.ended after.ended → NoneFailed before after
+-- where the file was not made, and neither the volume nor the station of the header area failed
+pub header_kept : (before after : Counts) → EachEnded before after → NoneFailed before after → BenchUnfailed before after
 header_kept before after (inl none) kept = record {
-  faults = kept.volume;
-  header = λ count others is. absurd (grew before.ended count others (sym none.1 ∙ is));
+  faults = kept.faults;
+  header = λ count others is. absurd (grew before.ended count others (sym none.ended ∙ is));
   rebuild = record {
-    faults = kept.volume;
-    station = λ rebuild workers ended. let made = ended.made in absurd (omega (arith, made, none.0));
+    faults = kept.faults;
+    station = λ rebuild workers ended. let made = ended.made in let same = none.made in absurd (omega (arith, made, same));
   };
 }
 header_kept before after (inr one) kept = record {
-  faults = kept.volume;
-  header = λ count others is. first_of (behind before.ended (one.1.0 ∷ []) (count ∷ others) (sym one.1.1 ∙ is)) ∙ kept.station one.1.0 one.1.1;
+  faults = kept.faults;
+  header = λ count others is. first_of (behind before.ended (one.0 ∷ []) (count ∷ others) (sym one.1.ended ∙ is)) ∙ kept.station one.0 one.1;
   rebuild = record {
-    faults = kept.volume;
-    station = λ rebuild workers ended. let made = ended.made in absurd (omega (arith, made, one.0));
+    faults = kept.faults;
+    station = λ rebuild workers ended. let made = ended.made in let first = one.1.made in absurd (omega (arith, made, first));
   };
 }
 
@@ -59,5 +47,5 @@ first_none before after (inr ended) count others is =
     first_of (behind before.ended (0 ∷ ended.0 ∷ ended.1) (count ∷ others) (sym (append_of_more before.ended 0 (ended.0 ∷ ended.1)) ∙ (sym ended.2.ended ∙ is)))
 
 -- where the run did not
-pub run_kept : (before after : Counts) → RunEnded (made_counts before) after → NoneFailedRunning (made_counts before) after → NoneFailed before after
+pub run_kept : (before after : Counts) → RunEnded (made_counts before) after → RunUnfailed (made_counts before) after → BenchUnfailed before after
 run_kept before after ended none = record { faults = none.faults; header = first_none before after ended; rebuild = none }

@@ -3,13 +3,13 @@ use Rattle.std.specs.Prelude.{Bool, IsTrue, List, ◌+◌, ◌<◌, ◌≡◌, �
 use Rattle.db_layout.specs.declared.layout.TheConstants.{HEADER_BYTES}
 use Rattle.rock_disk.specs.File.{Files, IsThere}
 use Rattle.rock_io.specs.Faults.{Rose}
-use Rattle.rock_open.specs.Device.{Counts, NoStation}
+use Rattle.rock_disk.specs.Counts.{Counts, NoStation}
 use Rattle.rock_open.specs.Opening.{IsBeyond, IsPasses}
-use Rattle.rock_run.specs.Device.{HasFailed as RunFailed}
+use Rattle.rock_run.specs.Device.{RunFailed}
 use Rattle.rock_status.specs.declared.status.Status.{Status}
 use Rattle.rock_status.specs.declared.status.Status.TheVariants.{BadGeometry, BadScript, DeviceFault, Done, Exists, Memory, Missing, SinkFault, Small, SourceFault, Usage}
 use Rattle.bench_command.specs.Numbers.{AreBenchNumbers, IsRounds, anchors_for, slot_size}
-use Rattle.bench_command.specs.Stations.{HasFailed, NoneBehind}
+use Rattle.bench_command.specs.Stations.{BenchFailed, NoneBehind}
 
 -- The counts are those of the faults of the sink, and of the volume, before and after. Where a number or the name refuses the benchmark, no station
 -- was made, and where opening refuses its file, that of the header area at most.
@@ -19,7 +19,7 @@ BenchEnds workers count k k' before after Usage = ⊥
 BenchEnds workers count k k' before after Memory = AreBenchNumbers workers count
 BenchEnds workers count k k' before after SourceFault = ⊥
 BenchEnds workers count k k' before after SinkFault = AreBenchNumbers workers count × Rose k k'
-BenchEnds workers count k k' before after DeviceFault = AreBenchNumbers workers count × HasFailed before after
+BenchEnds workers count k k' before after DeviceFault = AreBenchNumbers workers count × BenchFailed before after
 BenchEnds workers count k k' before after (BadScript line cause) = ⊥
 BenchEnds workers count k k' before after Missing = AreBenchNumbers workers count × NoneBehind before after
 BenchEnds workers count k k' before after (Small bytes) = AreBenchNumbers workers count × (bytes < HEADER_BYTES + slot_size) × NoneBehind before after

@@ -2,7 +2,7 @@
 use Rattle.std.specs.Prelude.{Bool, IsTrue, List, ◌≡◌, ◌⊎◌, ℕ}
 use Rattle.file_commands.specs.Create.{CreateLeaves}
 use Rattle.rock_disk.specs.File.{Files, IsKept}
-use Rattle.rock_open.specs.Device.{Counts}
+use Rattle.rock_disk.specs.Counts.{Counts}
 use Rattle.run_rules.specs.Left.{IsGivenBack}
 use Rattle.run_rules.specs.Served.{WasServed}
 use Rattle.rock_status.specs.declared.status.Status.{Status}

@@ -5,7 +5,7 @@ use Rattle.workload.specs.Text.{summary_line}
 use Rattle.entry_cut.specs.Content.{room_of}
 use Rattle.plain_model.specs.declared.store.Setting.{Setting}
 use Rattle.plain_model.specs.Serving.{answers_of, fresh}
-use Rattle.rock_open.specs.Device.{Counts}
+use Rattle.rock_disk.specs.Counts.{Counts}
 use Rattle.run_rules.specs.Plain.{NoneFailedServing}
 use Rattle.script_text.specs.declared.answer.Answer.{Answer}
 use Rattle.workload.specs.Script.{bench_lines}

@@ -3,7 +3,7 @@ use Rattle.std.specs.Prelude.{Bool, IsTrue, List, length, ◌≡◌, ℕ}
 use Rattle.workload.specs.Counts.{kinds_in, summary_of}
 use Rattle.workload.specs.Text.{summary_line}
 use Rattle.rock_disk.specs.File.{Files}
-use Rattle.rock_open.specs.Device.{Counts}
+use Rattle.rock_disk.specs.Counts.{Counts}
 use Rattle.workload.specs.Script.{bench_lines}
 use Rattle.bench_command.specs.Answers.{answers_in}
 use Rattle.bench_command.specs.Leaves.{RunServed}

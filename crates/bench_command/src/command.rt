@@ -3,14 +3,14 @@ ghost use Rattle.std.specs.Prelude.{IsTrue, ◌≡◌, ◌≤◌, ◌↔◌};
 ghost use Rattle.file_commands.specs.Report.{ReportPrints, ReportsOrLacksMemory};
 ghost use Rattle.rock_disk.specs.File.{NoneAway};
 ghost use Rattle.rock_io.specs.Faults.{Rose};
-ghost use Rattle.rock_open.specs.Device.{counts};
+ghost use Rattle.rock_disk.specs.Counts.{counts};
 ghost use Rattle.rock_open.specs.Opening.{IsPasses};
 ghost use Rattle.workload.specs.Script.{bench_lines};
 ghost use Rattle.bench_command.specs.Ends.{BenchEnds, BenchSays, IsBenchRefused};
 ghost use Rattle.bench_command.specs.Leaves.{BenchLeaves};
 ghost use Rattle.bench_command.specs.Numbers.{IsRounds, MayBench};
 ghost use Rattle.bench_command.specs.Prints.{IsBenchText};
-ghost use Rattle.bench_command.specs.Stations.{EachEnded, HasFailed, NoneFailed};
+ghost use Rattle.bench_command.specs.Stations.{BenchEnded, BenchFailed, BenchUnfailed};
 
 use crate::running::{BenchTarget, SLOT_BYTES, run_bench};
 use db_layout::geometries_are_read_as_written;
@@ -57,8 +57,8 @@ where
     V::St: Send,
     // When each status comes: by the numbers and the counts of faults,
     ensures ends { BenchEnds target.now.workers target.now.count (K.faults out.old) (K.faults out.new)
-        (counts (V.faults volume.old) (V.made volume.old) (V.ended volume.old))
-        (counts (V.faults volume.new) (V.made volume.new) (V.ended volume.new)) result }
+        (counts V.faults V.made V.ended volume.old)
+        (counts V.faults V.made V.ended volume.new) result }
     // and by the files.
     ensures says { IsTrue V.tells → BenchSays (V.files volume.old) target.now.name.now result }
     // Where a number or the files refuse it, it is refused so,
@@ -66,37 +66,37 @@ where
     // and where nothing refuses it and no fault comes, it is done, unless memory runs out.
     ensures complete { IsTrue V.tells → MayBench (V.files volume.old) target.now.name.now target.now.workers target.now.count
         → (Rose (K.faults out.old) (K.faults out.new) → ⊥)
-        → (HasFailed
-        (counts (V.faults volume.old) (V.made volume.old) (V.ended volume.old))
-        (counts (V.faults volume.new) (V.made volume.new) (V.ended volume.new)) → ⊥)
+        → (BenchFailed
+        (counts V.faults V.made V.ended volume.old)
+        (counts V.faults V.made V.ended volume.new) → ⊥)
         → ReportsOrLacksMemory result }
 
     // What was printed.
     ensures prints { IsTrue K.tells → ReportPrints (IsBenchText V.tells (V.files volume.old) (V.files volume.new)
         target.now.name.now target.now.seed target.now.workers target.now.count
-        (counts (V.faults volume.old) (V.made volume.old) (V.ended volume.old))
-        (counts (V.faults volume.new) (V.made volume.new) (V.ended volume.new)))
+        (counts V.faults V.made V.ended volume.old)
+        (counts V.faults V.made V.ended volume.new))
         (K.taken out.old) (K.taken out.new) result }
 
     // What is left of the files, and that none is out.
     ensures leaves { BenchLeaves V.tells (V.files volume.old) (V.files volume.new)
         target.now.name.now target.now.workers (bench_lines target.now.seed target.now.workers target.now.count)
-        (counts (V.faults volume.old) (V.made volume.old) (V.ended volume.old))
-        (counts (V.faults volume.new) (V.made volume.new) (V.ended volume.new)) result }
+        (counts V.faults V.made V.ended volume.old)
+        (counts V.faults V.made V.ended volume.new) result }
     ensures back { IsTrue V.tells → NoneAway (V.files volume.old) → NoneAway (V.files volume.new) }
 
     // Each station that was made was ended.
-    ensures ended { EachEnded
-        (counts (V.faults volume.old) (V.made volume.old) (V.ended volume.old))
-        (counts (V.faults volume.new) (V.made volume.new) (V.ended volume.new)) }
+    ensures ended { BenchEnded
+        (counts V.faults V.made V.ended volume.old)
+        (counts V.faults V.made V.ended volume.new) }
     ensures faults { V.faults volume.old ≤ V.faults volume.new }
     ensures sink_faults { K.faults out.old ≤ K.faults out.new }
 
     // A fault is told as a fault.
     ensures sink_unfailed { (result ≡ Status.SinkFault → ⊥) → K.faults out.new ≡ K.faults out.old }
-    ensures device_unfailed { (result ≡ Status.DeviceFault → ⊥) → NoneFailed
-        (counts (V.faults volume.old) (V.made volume.old) (V.ended volume.old))
-        (counts (V.faults volume.new) (V.made volume.new) (V.ended volume.new)) }
+    ensures device_unfailed { (result ≡ Status.DeviceFault → ⊥) → BenchUnfailed
+        (counts V.faults V.made V.ended volume.old)
+        (counts V.faults V.made V.ended volume.new) }
 {
     cutting_keeps_the_bytes();
     geometries_are_read_as_written();

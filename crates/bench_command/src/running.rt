@@ -3,9 +3,9 @@ ghost use Rattle.std.specs.Prelude.{IsTrue, ◌≡◌, ◌≤◌};
 ghost use Rattle.std.specs.FinMap.{get};
 ghost use Rattle.file_commands.specs.Report.{ReportPrints};
 ghost use Rattle.rock_disk.specs.File.{IsNotAway, NoneAway};
-ghost use Rattle.rock_open.specs.Device.{counts};
+ghost use Rattle.rock_disk.specs.Counts.{counts};
 ghost use Rattle.rock_open.specs.Opening.{HasSlots};
-ghost use Rattle.rock_run.specs.Device.{EachEnded, NoneFailed};
+ghost use Rattle.rock_run.specs.Device.{RunEnded, RunUnfailed};
 ghost use Rattle.workload.specs.Script.{bench_lines};
 ghost use Rattle.bench_command.specs.Ends.{RunEnds, RunSays};
 ghost use Rattle.bench_command.specs.Leaves.{RunLeaves};
@@ -52,29 +52,29 @@ where
     requires numbers { AreBenchNumbers target.now.workers target.now.count }
     requires home { IsTrue V.tells → IsNotAway (get (V.files volume.old) target.now.name.now) }
     ensures ends { RunEnds target.now.workers (K.faults out.old) (K.faults out.new)
-        (counts (V.faults volume.old) (V.made volume.old) (V.ended volume.old))
-        (counts (V.faults volume.new) (V.made volume.new) (V.ended volume.new)) result }
+        (counts V.faults V.made V.ended volume.old)
+        (counts V.faults V.made V.ended volume.new) result }
     ensures says { IsTrue V.tells → HasSlots (V.files volume.old) target.now.name.now slot_size (slots_for target.now.workers)
         → RunSays result }
     ensures prints { IsTrue K.tells → ReportPrints (IsLineOfRun V.tells (V.files volume.old) (V.files volume.new)
         target.now.name.now target.now.seed target.now.workers target.now.count
-        (counts (V.faults volume.old) (V.made volume.old) (V.ended volume.old))
-        (counts (V.faults volume.new) (V.made volume.new) (V.ended volume.new)))
+        (counts V.faults V.made V.ended volume.old)
+        (counts V.faults V.made V.ended volume.new))
         (K.taken out.old) (K.taken out.new) result }
     ensures leaves { RunLeaves V.tells (V.files volume.old) (V.files volume.new)
         target.now.name.now target.now.workers (bench_lines target.now.seed target.now.workers target.now.count)
-        (counts (V.faults volume.old) (V.made volume.old) (V.ended volume.old))
-        (counts (V.faults volume.new) (V.made volume.new) (V.ended volume.new)) result }
+        (counts V.faults V.made V.ended volume.old)
+        (counts V.faults V.made V.ended volume.new) result }
     ensures back { IsTrue V.tells → NoneAway (V.files volume.old) → NoneAway (V.files volume.new) }
-    ensures ended { EachEnded
-        (counts (V.faults volume.old) (V.made volume.old) (V.ended volume.old))
-        (counts (V.faults volume.new) (V.made volume.new) (V.ended volume.new)) }
+    ensures ended { RunEnded
+        (counts V.faults V.made V.ended volume.old)
+        (counts V.faults V.made V.ended volume.new) }
     ensures faults { V.faults volume.old ≤ V.faults volume.new }
     ensures sink_faults { K.faults out.old ≤ K.faults out.new }
     ensures sink_unfailed { (result ≡ Status.SinkFault → ⊥) → K.faults out.new ≡ K.faults out.old }
-    ensures device_unfailed { (result ≡ Status.DeviceFault → ⊥) → NoneFailed
-        (counts (V.faults volume.old) (V.made volume.old) (V.ended volume.old))
-        (counts (V.faults volume.new) (V.made volume.new) (V.ended volume.new)) }
+    ensures device_unfailed { (result ≡ Status.DeviceFault → ⊥) → RunUnfailed
+        (counts V.faults V.made V.ended volume.old)
+        (counts V.faults V.made V.ended volume.new) }
 {
     bench_lines_may_be_served();
     closed_runs_leave_responses::<V::C>();

@@ -47,7 +47,7 @@ module _ {C O : Type 0} (tells : Bool) (state : C → CellState) (offers : O →
   abbrev pub fresh : (version : ℕ) → Entry
   fresh version = record { anchor = anchor_for (basis tells state offers s) url; version = version; offer = offer; is_durable = false; taken = 0 }
 
--- The same where it may be in vain so many times.
+-- What a forwarding does that may look in vain at most this often.
 module _ {C O : Type 0} (tells : Bool) (state : C → CellState) (offers : O → Offers) (s : Store C O) (t offer : ℕ) (url : List ℕ) (most : ℕ) where
   -- The tab was given these bytes until there was no more to give, for this cause, and left the entry.
   pub record ReadTo (p q : Pass C) (version : ℕ) (bytes : List ℕ) (answer : More) : Type 0 where

@@ -16,10 +16,11 @@ use Rattle.core_change.specs.declared.change.ChainChange.{ChainChange}
 use Rattle.core_change.specs.declared.change.NotesChange.TheVariants as notes
 use Rattle.core_change.specs.declared.change.TabsChange.{TabsChange}
 use Rattle.core_table.specs.declared.content.Content.{Content}
-use Rattle.core_table.specs.declared.table.Opening.{Opening}
-use Rattle.core_table.specs.declared.table.Table.{Table}
+use Rattle.core_table.specs.declared.opening.Opening.{Opening}
+use Rattle.core_change.specs.declared.table.Table.{Table}
 use Rattle.core_change.specs.declared.turn_change.TurnChange.TheVariants as turns
-use Rattle.core_table.specs.Inside.{setting, state}
+use Rattle.core_table.specs.Inside.{setting}
+use Rattle.core_change.specs.Inside.{state}
 use Rattle.core_change.specs.Changed.{anchor_addition, tabs_changed, without_used, chains_changed}
 use Rattle.core_change.specs.Planned.{Matches, found}
 

@@ -27,11 +27,12 @@ use Rattle.core_change.specs.declared.change.ChainChange.{ChainChange}
 use Rattle.core_change.specs.declared.change.NotesChange.TheVariants as notes
 use Rattle.core_change.specs.declared.change.TabsChange.{TabsChange}
 use Rattle.core_table.specs.declared.content.Content.{Content}
-use Rattle.core_table.specs.declared.table.Opening.{Opening}
-use Rattle.core_table.specs.declared.table.Table.{Table}
+use Rattle.core_table.specs.declared.opening.Opening.{Opening}
+use Rattle.core_change.specs.declared.table.Table.{Table}
 use Rattle.core_change.specs.declared.turn_change.TurnChange.TheVariants as turns
 use Rattle.core_change.specs.Changed.{anchor_addition, tabs_changed, chains_changed, FitsTabs, FitsChain}
-use Rattle.core_table.specs.Inside.{setting, state}
+use Rattle.core_table.specs.Inside.{setting}
+use Rattle.core_change.specs.Inside.{state}
 use Rattle.core_change.specs.Planned.{IsScene, Plans}
 use Rattle.core_anchors.specs.Raising.{MayRaiseTab, raised_tabs, raised_chain}
 use Rattle.core_anchors.proofs.Anchored.{anchored}

@@ -23,8 +23,8 @@ use Rattle.core_change.specs.declared.change.ChainChange.TheVariants as chains
 use Rattle.core_change.specs.declared.change.NotesChange.TheVariants as notes
 use Rattle.core_change.specs.declared.change.TabsChange.TheVariants as tabs
 use Rattle.core_table.specs.declared.content.Content.{Content}
-use Rattle.core_table.specs.declared.table.Opening.{Opening}
-use Rattle.core_table.specs.declared.table.Table.{Table}
+use Rattle.core_table.specs.declared.opening.Opening.{Opening}
+use Rattle.core_change.specs.declared.table.Table.{Table}
 use Rattle.core_change.specs.declared.turn_change.TurnChange.TheVariants as turns
 use Rattle.core_change.specs.Changed.{anchor_addition}
 use Rattle.core_change.specs.Planned.{IsScene, Plans}

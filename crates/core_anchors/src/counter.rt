@@ -2,15 +2,17 @@
 ghost use Rattle.std.specs.Prelude.{◌≡◌, IfOk, IsErrOf};
 ghost use Rattle.core_model.specs.declared.moves.Move.TheVariants as move;
 ghost use Rattle.core_model.specs.Table.{Allowed};
-ghost use Rattle.core_table.specs.Inside.{setting, state};
+ghost use Rattle.core_table.specs.Inside.{setting};
+ghost use Rattle.core_change.specs.Inside.{state};
 ghost use Rattle.core_change.specs.Planned.{IsScene, Plans};
 
 use crate::recall::last_count;
 use core_change::{
-    ChainChange, Change, NotesChange, Refusal, TabsChange, TurnChange, WordChange, counter_addition,
+    ChainChange, Change, NotesChange, Refusal, Table, TabsChange, TurnChange, WordChange,
+    counter_addition,
 };
 use core_model::{Addition, Kind, Place, View};
-use core_table::{Content, Opening, Table};
+use core_table::{Content, Opening};
 use lock_word::GREATEST_VERSION;
 
 /// The counter is looked at.

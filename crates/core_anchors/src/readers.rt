@@ -3,17 +3,18 @@ ghost use Rattle.std.specs.Prelude.{◌≡◌, true, false, IfOk, IsErrOf, Match
 ghost use Rattle.core_model.specs.Tabs.{is_counted, holds_turn, anchor_of};
 ghost use Rattle.core_model.specs.declared.moves.Move.TheVariants as move;
 ghost use Rattle.core_model.specs.Table.{Allowed};
-ghost use Rattle.core_table.specs.Inside.{setting, state};
+ghost use Rattle.core_table.specs.Inside.{setting};
+ghost use Rattle.core_change.specs.Inside.{state};
 ghost use Rattle.core_change.specs.Planned.{IsScene, Plans};
 
 use crate::recall::{met, readers_here};
 use crate::tabs::{entered, left_tab};
 use core_change::{
-    ChainChange, Change, NotesChange, Refusal, TabsChange, TurnChange, WordChange, anchor_addition,
-    tab_at,
+    ChainChange, Change, NotesChange, Refusal, Table, TabsChange, TurnChange, WordChange,
+    anchor_addition, tab_at,
 };
 use core_model::{Addition, Deed, Kind, Place, Tab, Turn, View};
-use core_table::{Content, Opening, Table};
+use core_table::{Content, Opening};
 use lock_word::{Epoch, Word, epoch_bits, pack};
 
 /// The word of an anchor is looked at.

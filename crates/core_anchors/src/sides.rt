@@ -8,17 +8,18 @@ ghost use Rattle.core_model.specs.Tabs.{is_reading, is_using};
 ghost use Rattle.core_model.specs.Table.{Allowed};
 ghost use Rattle.core_model.specs.SlotMoves.{MayStore, loads, loaded};
 ghost use Rattle.core_change.specs.declared.tab_change.TabChange.TheVariants.{Learns};
-ghost use Rattle.core_table.specs.Inside.{setting, state};
+ghost use Rattle.core_table.specs.Inside.{setting};
+ghost use Rattle.core_change.specs.Inside.{state};
 ghost use Rattle.core_change.specs.Planned.{IsScene, Plans};
 ghost use Rattle.core_change.specs.Tabs.{changed_tab};
 
 use crate::writers::start_number;
 use core_change::{
-    ChainChange, Change, NotesChange, Refusal, TabChange, TabsChange, TurnChange, WordChange,
-    anchor_of, inner_is_free, tab_at, word_addition,
+    ChainChange, Change, NotesChange, Refusal, TabChange, Table, TabsChange, TurnChange,
+    WordChange, anchor_of, inner_is_free, tab_at, word_addition,
 };
 use core_model::{INNER_TAB, Kind, Place, Side, Sight, Tab, View, Writer};
-use core_table::{Content, Opening, Table};
+use core_table::{Content, Opening};
 
 /// Which of the words beside an anchor it is, counted from 0.
 fn side_index(side: Side) -> u32

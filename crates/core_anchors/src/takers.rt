@@ -7,18 +7,19 @@ ghost use Rattle.core_model.specs.Trails.{last_find};
 ghost use Rattle.core_model.specs.Table.{Allowed};
 ghost use Rattle.core_model.specs.Tabs.{IsPass, InnerIsFree};
 ghost use Rattle.core_model.specs.AnchorMoves.{MayTake, MayEvict};
-ghost use Rattle.core_table.specs.Inside.{setting, state};
+ghost use Rattle.core_table.specs.Inside.{setting};
+ghost use Rattle.core_change.specs.Inside.{state};
 ghost use Rattle.core_change.specs.Planned.{IsScene, Plans};
 ghost use Rattle.core_anchors.specs.Taking.{taken_change, evicted_change, missed_change};
 
 use crate::recall::{drew_since, last_find, met, readers_here};
 use crate::tabs::{freer_of, writer_of};
 use core_change::{
-    ChainChange, Change, NotesChange, Refusal, TabsChange, TurnChange, WordChange, anchor_addition,
-    inner_is_free, tab_at,
+    ChainChange, Change, NotesChange, Refusal, Table, TabsChange, TurnChange, WordChange,
+    anchor_addition, inner_is_free, no_chain, tab_at,
 };
 use core_model::{Addition, Chain, Deed, INNER_TAB, Kind, Place, Tab, View};
-use core_table::{Content, Opening, Table, no_chain};
+use core_table::{Content, Opening};
 use lock_word::{
     Epoch, Stage, Word, epoch_bits, is_idle, is_idle_number, is_left_over_number, is_vacant_number,
     pack,

@@ -6,7 +6,8 @@ ghost use Rattle.core_model.specs.declared.moves.Side.TheVariants.{Start};
 ghost use Rattle.core_model.specs.Tabs.{inner, tab_at, anchor_of, is_free, IsPass};
 ghost use Rattle.core_model.specs.declared.tab.Tab.TheVariants.{Free};
 ghost use Rattle.core_model.specs.Chains.{start_number, slots_of_link};
-ghost use Rattle.core_table.specs.Inside.{setting, state};
+ghost use Rattle.core_table.specs.Inside.{setting};
+ghost use Rattle.core_change.specs.Inside.{state};
 ghost use Rattle.core_change.specs.Planned.{IsScene, Plans};
 ghost use Rattle.core_anchors.specs.Raising.{MayRaiseTab, raised_tabs, raised_chain};
 ghost use Rattle.lock_word.specs.Words.{word_number};
@@ -17,11 +18,11 @@ ghost use Rattle.core_model.specs.AnchorMoves.{MayTake, MayEvict, MayRaise, MayE
 use crate::recall::{met, readers_here};
 use crate::tabs::left_tab;
 use core_change::{
-    ChainChange, Change, NotesChange, Refusal, TabsChange, TurnChange, WordChange, anchor_addition,
-    anchor_of, tab_at,
+    ChainChange, Change, NotesChange, Refusal, Table, TabsChange, TurnChange, WordChange,
+    anchor_addition, anchor_of, tab_at,
 };
 use core_model::{Addition, Chain, Deed, Freer, Kind, Place, Row, Side, Tab, Turn, View, Writer};
-use core_table::{Content, Opening, Table};
+use core_table::{Content, Opening};
 use link_word::Link;
 use lock_word::{Epoch, Stage, Word, epoch_bits, pack};
 use std::alloc::{AllocError, Global};

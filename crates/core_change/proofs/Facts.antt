@@ -18,9 +18,10 @@ use Rattle.core_model.proofs.Knowing.{knows}
 use Rattle.core_model.specs.Table.{Allowed}
 use Rattle.core_model.specs.AnchorMoves.{left_tab}
 use Rattle.core_table.specs.declared.content.Content.{Content}
-use Rattle.core_table.specs.declared.table.Opening.{Opening}
-use Rattle.core_table.specs.declared.table.Table.{Table}
-use Rattle.core_table.specs.Inside.{setting, state}
+use Rattle.core_table.specs.declared.opening.Opening.{Opening}
+use Rattle.core_change.specs.declared.table.Table.{Table}
+use Rattle.core_table.specs.Inside.{setting}
+use Rattle.core_change.specs.Inside.{state}
 use Rattle.core_change.specs.Planned.{IsScene, found}
 use Rattle.core_table.proofs.Lists.{at_index}
 

@@ -1,4 +1,5 @@
 pub mod Changing
 pub mod Facts
+pub mod NewParts
 pub mod Worded
 pub mod Slots

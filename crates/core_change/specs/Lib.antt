@@ -1,4 +1,5 @@
 pub mod Changed
+pub mod Inside
 pub mod Planned
 pub mod Tabs
 pub mod Turns

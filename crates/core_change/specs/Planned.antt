@@ -13,9 +13,10 @@ use Rattle.core_model.specs.Tabs.{IsPass}
 use Rattle.core_model.specs.Table.{Allowed, held_after, sights_of, item_of, deeds_of, met_of, tabs_after, place, left_by, answer}
 use Rattle.core_table.specs.declared.content.Content.{Content}
 use Rattle.core_change.specs.declared.change.Change.{Change}
-use Rattle.core_table.specs.declared.table.Opening.{Opening}
-use Rattle.core_table.specs.declared.table.Table.{Table}
-use Rattle.core_table.specs.Inside.{setting, state}
+use Rattle.core_table.specs.declared.opening.Opening.{Opening}
+use Rattle.core_change.specs.declared.table.Table.{Table}
+use Rattle.core_table.specs.Inside.{setting}
+use Rattle.core_change.specs.Inside.{state}
 use Rattle.core_change.specs.Changed.{words_changed, turned_view, tabs_changed, without_used, chains_changed, FitsWord, FitsTabs, FitsChain}
 use Rattle.core_change.specs.Notes.{notes_changed}
 use Rattle.core_change.specs.Turns.{places_changed, FitsTurn}

@@ -6,15 +6,16 @@ ghost use lib.ListN.{get_elem?};
 ghost use mathlib.Core.Option.{some};
 ghost use Rattle.core_model.specs.declared.view.View.{View as ViewOf};
 ghost use Rattle.core_table.specs.declared.content.Content.{Content as ContentOf};
-ghost use Rattle.core_table.specs.Inside.{state};
+ghost use Rattle.core_change.specs.Inside.{state};
 ghost use Rattle.core_change.specs.Changed.{anchor_addition, counter_addition, word_addition, bare_addition, changed, words_changed, view_changed, turned_view, tabs_changed, without_used, chains_changed, Fits, FitsWord, FitsTabs, FitsChain};
 ghost use Rattle.core_change.specs.Notes.{notes_changed};
 ghost use Rattle.core_change.specs.Turns.{places_changed, FitsTurn};
 
 use crate::tab_change::{TabChange, changed_tab};
+use crate::table::Table;
 use crate::turn_change::{TurnChange, change_turn};
 use core_model::{Addition, Cell, Chain, Item, Kind, Place, Row, Sight, Tab, Trace, View};
-use core_table::{Content, Table};
+use core_table::Content;
 use std::alloc::AllocError;
 
 /// What becomes of a word.

@@ -33,12 +33,14 @@ use Rattle.named_rebuild.specs.declared.contents.FirstContent.TheVariants.{Blank
 use Rattle.named_rebuild.specs.Contents.{content_at}
 use Rattle.named_rebuild.specs.Keeping.{IsGreatestShown, ShowsVersion}
 use Rattle.named_rebuild.proofs.Facts.{not_blank}
+use Rattle.named_bytes.specs.Bytes.{bytes_in, images_from}
+use Rattle.named_bytes.proofs.Images.{blank_not_sane, image_is, many_images}
 use Rattle.core_lives.specs.Along.{LeadsThrough}
 use Rattle.core_lives.specs.Crash.{ArePicked, ShowsAs}
 use Rattle.core_lives.specs.Happening.{Happens, IsActed, IsCrashed, IsNewLife, IsReopened, IsSameLife}
-use Rattle.core_lives.specs.Left.{IsFaithful, KeepsToOffer, MayBeLeft, bytes_in, content_bytes, images_from}
+use Rattle.core_lives.specs.Left.{IsFaithful, KeepsToOffer, MayBeLeft, content_bytes}
 use Rattle.core_lives.specs.Lived.{IsSoundLife, Lived}
-use Rattle.core_lives.proofs.Bytes.{blank_not_sane, first_images, image_is, many_images}
+use Rattle.core_lives.proofs.Bytes.{first_images}
 use Rattle.core_lives.proofs.Leading.{there}
 use Rattle.core_lives.proofs.Living.{all_files, happens_sound, no_piece, same_setting}
 use Rattle.core_lives.proofs.OneCell.{one_cell}
@@ -148,8 +150,9 @@ module _ (t : Tools) (file : FileImage) (o : Offers) (anchors : ℕ) (sized : fi
         of_content (Logged p) e =
             let here : image_at was j ≡ bytes_of file.slot o (logged_part p) = image ∙ ap (bytes_in file o j) e in
             let told = (tells t file.slot anchors slots o (logged_part p) (k.keeps j p e) sized few).version in
-            let shown = k.greatest.above j p.piece.version low (inr (p, e, refl)) in
-            let same = ap (λ (bytes : List ℕ). (header_of bytes).version) here in omega arith
+            let same = ap (λ (bytes : List ℕ). (header_of bytes).version) here in
+            let from : 0 < p.piece.version = (let least = sane.sane.version_from in omega arith) in
+            let shown = k.greatest.above j p.piece.version low (inr record { piece = p; there = e; some = from; version_is = refl }) in omega arith
         of_content Blank e = absurd (blank_not_sane file.slot file.slot was j (image ∙ ap (bytes_in file o j) e) sane)
 
     is_file : IsFileOf file.slot o (setting_of l.core) b was
@@ -319,7 +322,7 @@ module _ (t : Tools) (file : FileImage) (o : Offers) (anchors : ℕ) (sized : fi
         where
           of_shown : (s version : ℕ) → ShowsVersion file (replicate slots File) s version → version ≤ new.core.rebuilt.greatest
           of_shown s version (inl q) = let z = new.core.kept.greatest.above s q.1 in let e = q.2 in omega arith
-          of_shown s version (inr q) = absurd (no_piece slots s q.0 q.1)
+          of_shown s version (inr q) = absurd (no_piece slots s q.piece q.there)
 
   pub all_known : (steps : List Step) (lives : List Lived) (from : Lived) → LeadsThrough steps lives → get_elem? lives 0 ≡ some from → Known from → ((j : ℕ) (l : Lived) → get_elem? lives j ≡ some l → IsFaithful l.file o l.core)
       → (i : ℕ) (l : Lived) → get_elem? lives i ≡ some l → Known l

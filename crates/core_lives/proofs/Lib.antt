@@ -1,8 +1,8 @@
-mod Seeking
+pub mod Seeking
 mod OneCell
 mod LoggedFor
 mod Leaving
 pub mod Living
-mod Leading
-mod Bytes
-mod Known
+pub mod Leading
+pub mod Bytes
+pub mod Known

@@ -1,5 +1,5 @@
 -- What a crash may leave of a life, as bytes, where each offer is a response.
-use Rattle.std.specs.Prelude.{◌≡◌, ◌↔◌, ◌+◌, ◌<◌, [], ◌∷◌, ℕ, Contains, List, length, replicate}
+use Rattle.std.specs.Prelude.{◌≡◌, ◌↔◌, ◌+◌, ◌<◌, ℕ, Contains, List, length, replicate}
 use Rattle.link_word.specs.declared.link.Link.TheVariants.{Last}
 use Rattle.store_key.specs.Anchor.{anchor_of}
 use Rattle.store_key.specs.Key.{key_of}
@@ -18,19 +18,8 @@ use Rattle.core_table.specs.Machine.{Machine, state_of}
 use Rattle.crash_entries.specs.Parts.{Offers, bytes_of, cut_of}
 use Rattle.crash_laws.specs.Left.{logged_part, part_of}
 use Rattle.named_rebuild.specs.declared.contents.FirstContent.{FirstContent}
-use Rattle.named_rebuild.specs.declared.contents.FirstContent.TheVariants.{Blank, File, Logged}
 use Rattle.named_rebuild.specs.Contents.{content_at}
-
--- the bytes of a slot that holds this
-abbrev pub bytes_in : FileImage → Offers → ℕ → FirstContent → List ℕ
-bytes_in file o s File = image_at file.slots s
-bytes_in file o s (Logged l) = bytes_of file.slot o (logged_part l)
-bytes_in file o s Blank = replicate file.slot 0
-
--- those of the slots from one on that hold these
-abbrev pub images_from : FileImage → Offers → ℕ → List FirstContent → List (List ℕ)
-images_from file o s [] = []
-images_from file o s (x ∷ rest) = bytes_in file o s x ∷ images_from file o (s + 1) rest
+use Rattle.named_bytes.specs.Bytes.{bytes_in}
 
 -- the bytes of a content of a cell, where the slots held these when the core was opened
 abbrev pub content_bytes : FileImage → Offers → List FirstContent → Content → List ℕ

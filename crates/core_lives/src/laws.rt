@@ -12,9 +12,10 @@ ghost use Rattle.core_log.specs.Logged.{IsLogOf};
 ghost use Rattle.core_model.specs.declared.view.LoggedPiece.{LoggedPiece};
 ghost use Rattle.core_table.specs.Machine.{setting_of, state_of};
 ghost use Rattle.rebuild_model.specs.Rebuilt.{IsWinner};
+ghost use Rattle.named_bytes.specs.Bytes.{images_from};
 ghost use Rattle.core_lives.specs.Along.{LeadsThrough};
 ghost use Rattle.core_lives.specs.Happening.{IsNewLife};
-ghost use Rattle.core_lives.specs.Left.{IsFaithful, MayBeLeft, images_from};
+ghost use Rattle.core_lives.specs.Left.{IsFaithful, MayBeLeft};
 ghost use Rattle.core_lives.specs.Lived.{IsSoundLife, Lived};
 
 use entry_cut::{pieces_make_the_content, placed_pieces_are_an_entry};

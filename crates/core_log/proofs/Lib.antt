@@ -17,3 +17,4 @@ pub mod HasLog
 pub mod Rewritten
 pub mod Wiped
 pub mod Few
+pub mod HeldVersions

@@ -10,11 +10,12 @@ use Rattle.core_model.specs.declared.view.Sight.{Sight}
 use Rattle.core_model.specs.declared.view.Sight.TheVariants.{Logged, Published}
 use Rattle.core_model.specs.declared.view.View.{View}
 use Rattle.core_model.specs.Layout.{Setting, word_in}
-use Rattle.core_model.specs.State.{State}
+use Rattle.core_model.specs.State.{State, turn_word}
 use Rattle.core_model.specs.Sound.{Sound}
 use Rattle.core_model.specs.Table.{MayStep, sights_of, Allowed}
 use Rattle.core_model.specs.Steps.{after, finding, view_after}
 use Rattle.core_model.proofs.AllKept.{keeps_sound}
+use Rattle.core_model.proofs.TurnsBring.{brought}
 use Rattle.core_log.specs.Logged.{IsLogOf, LogStands, logged_now, logged_with, piece_logged}
 use Rattle.core_log.specs.Seen.{IsSeen}
 use Rattle.core_log.proofs.Kept.{cells_logged}
@@ -137,7 +138,7 @@ module _ {X : Type 0} (k : Setting X) (s : State X) (i : ℕ) (v : View X) (at :
   piece_seen (Publish t slot link) may l c = none (Publish t slot link) (shows_others (tab_at v t)) l c
   piece_seen (Loosen t slot) may l c = none (Loosen t slot) tt l c
   piece_seen (GetLink t slot) may l c = none (GetLink t slot) (follows_others (tab_at v t) _) l c
-  piece_seen (TryTurn t slot) may l c = none (TryTurn t slot) tt l c
+  piece_seen (TryTurn t slot) may l c = let q = brought slot v.seen s.views (turn_word k s slot == 0) (Logged l) c in inr record { i = q.i; view = q.view; at = q.at; seen = q.seen }
   piece_seen (EndTurn t slot then) may l c = none (EndTurn t slot then) (wipes_others (tab_at v t) slot then) l c
   piece_seen (CellOut t slot) may l c = none (CellOut t slot) tt l c
   piece_seen (CellIn t slot) may l c = none (CellIn t slot) tt l c

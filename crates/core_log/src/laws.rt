@@ -67,6 +67,13 @@ pub fn logged_versions_stand<X>()
         → (l.anchor < k.anchors) × (l.piece.version ≤ version_of (epoch_of (word s l.anchor))) }
 {}
 
+/// No version that a pass holds was logged.
+pub fn held_versions_are_not_logged<X>()
+    ensures { (k : Setting X) (s : State X) (log : List LoggedPiece) (i : ℕ) (v : View X) (l : LoggedPiece)
+        → Sound k s → LogStands k s log → get_elem? s.views i ≡ some v → Contains log l
+        → Contains v.held l.piece.version → ⊥ }
+{}
+
 /// There are fewer logged pieces than slots and versions, so the counter of them never comes near what a word can
 /// tell: in a store of 2^20 slots it is at most 2^52.
 pub fn logged_pieces_are_few<X>()

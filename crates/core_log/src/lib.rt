@@ -7,7 +7,7 @@
 mod laws;
 
 pub use laws::{
-    held_cells_keep_the_log, logged_pieces_are_few, logged_versions_stand,
-    notes_learned_keep_the_log, notes_made_keep_the_log, openings_have_no_log, runs_keep_the_log,
-    sights_are_kept, steps_keep_the_log,
+    held_cells_keep_the_log, held_versions_are_not_logged, logged_pieces_are_few,
+    logged_versions_stand, notes_learned_keep_the_log, notes_made_keep_the_log,
+    openings_have_no_log, runs_keep_the_log, sights_are_kept, steps_keep_the_log,
 };

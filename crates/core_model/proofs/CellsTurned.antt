@@ -26,7 +26,7 @@ use Rattle.core_model.specs.Layout.{Setting, index}
 use Rattle.core_model.specs.State.{State, chain_of, turn_word}
 use Rattle.core_model.specs.Chains.{times, rest_of}
 use Rattle.core_model.specs.Tabs.{tab_at, has_turn, turn_of, holds_turn, count, IsPass}
-use Rattle.core_model.specs.Steps.{finding, view_after, after}
+use Rattle.core_model.specs.Steps.{finding, sights_found, view_after, after}
 use Rattle.core_model.specs.Cells.{holds_at, OneHolder, TurnFits, IsCell, WriterPiece, TabPiece, CellsSound}
 use Rattle.core_model.specs.Sound.{Sound}
 use Rattle.core_model.proofs.Lists.{sum_some}
@@ -359,13 +359,14 @@ module _ {X : Type 0} (k : Setting X) (s : State X) (i : ℕ) (v : View X) (so :
         (held_alone k s i v so at t (Freeing f) was h.slot (rests_first f h.slot q.1.front)) seen
 
 pub try_turn_cells : {X : Type 0} → (k : Setting X) (s : State X) (i : ℕ) (v : View X) → Sound k s → get_elem? s.views i ≡ some v → IsPass v → (t slot : ℕ) → Allowed k s v (TryTurn t slot) → CellsSound k (after k s i v (TryTurn t slot))
-try_turn_cells {X} k s i v so at pass t slot may = let v' : View X = view_after v (TryTurn t slot) (finding k s v (TryTurn t slot)) in ⊎_elim
-    (λ h. let q = of_reader (MayRead s slot) (tab_at v t) h in try_reader k s i v so at pass t slot v' (λ x c. c) q.0 (tab_was k s i v so.anchors so.slots at pass t (Reading q.0) may.0 q.1) q.2 (subst (λ (z : Tab X). holds_turn z ≡ false) q.1 may.1)
+try_turn_cells {X} k s i v so at pass t slot may = let v' : View X = view_after v (TryTurn t slot) (finding k s v (TryTurn t slot)) in
+    let see : Sees v v' = contains_later (sights_found k s v (TryTurn t slot)) v.seen in ⊎_elim
+    (λ h. let q = of_reader (MayRead s slot) (tab_at v t) h in try_reader k s i v so at pass t slot v' see q.0 (tab_was k s i v so.anchors so.slots at pass t (Reading q.0) may.0 q.1) q.2 (subst (λ (z : Tab X). holds_turn z ≡ false) q.1 may.1)
     (turn_word k s slot == 0) refl (ap (λ (z : Tab X). set v.tabs t (tries z slot (turn_word k s slot) (get_or s.places slot None))) q.1))
     (⊎_elim
-    (λ h. let q = of_writer (MayWrite slot) (tab_at v t) h in try_writer k s i v so at pass t slot v' (λ x c. c) q.0 (tab_was k s i v so.anchors so.slots at pass t (Writing q.0) may.0 q.1) q.2 (subst (λ (z : Tab X). holds_turn z ≡ false) q.1 may.1)
+    (λ h. let q = of_writer (MayWrite slot) (tab_at v t) h in try_writer k s i v so at pass t slot v' see q.0 (tab_was k s i v so.anchors so.slots at pass t (Writing q.0) may.0 q.1) q.2 (subst (λ (z : Tab X). holds_turn z ≡ false) q.1 may.1)
     (turn_word k s slot == 0) refl (ap (λ (z : Tab X). set v.tabs t (tries z slot (turn_word k s slot) (get_or s.places slot None))) q.1))
-    (λ h. let q = of_freer (MayWipe slot) (tab_at v t) h in try_freer k s i v so at pass t slot v' (λ x c. c) q.0 (tab_was k s i v so.anchors so.slots at pass t (Freeing q.0) may.0 q.1) q.2 (subst (λ (z : Tab X). holds_turn z ≡ false) q.1 may.1)
+    (λ h. let q = of_freer (MayWipe slot) (tab_at v t) h in try_freer k s i v so at pass t slot v' see q.0 (tab_was k s i v so.anchors so.slots at pass t (Freeing q.0) may.0 q.1) q.2 (subst (λ (z : Tab X). holds_turn z ≡ false) q.1 may.1)
     (turn_word k s slot == 0) refl (ap (λ (z : Tab X). set v.tabs t (tries z slot (turn_word k s slot) (get_or s.places slot None))) q.1)))
     may.2
 

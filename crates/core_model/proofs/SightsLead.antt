@@ -55,7 +55,8 @@ use Rattle.core_model.specs.SlotMoves.{loads, shows, follows}
 use Rattle.core_model.specs.AnchorMoves.{MayRaise, StartsRight, MayEnd, MayEvict}
 use Rattle.core_model.specs.Versions.{Leads, IsShown, SightsLead}
 use Rattle.core_model.proofs.BesideKept.{one_of}
-use Rattle.core_model.specs.CellMoves.{logged_by, wiped_by}
+use Rattle.core_model.specs.CellMoves.{all_seen, logged_by, news_of, wiped_by}
+use Rattle.core_model.proofs.TurnsBring.{brought}
 
 pub leads_on : (f g h : ℕ) → Leads f g → Leads g h → Leads f h
 leads_on f g h (inl p) q = subst (λ (z : ℕ). Leads z h) (sym p) q
@@ -314,6 +315,9 @@ module _ {X : Type 0} (k : Setting X) (s : State X) (i : ℕ) (v : View X) (so :
   wipes_owe s' (Writing w) slot then y c = absurd (contains_none y c)
   wipes_owe s' (Last a) slot then y c = absurd (contains_none y c)
 
+  brings_owe : (s' : State X) (slot : ℕ) (free : Bool) (y : Sight) → Contains (cond free (news_of slot v.seen (all_seen s.views)) []) y → Owes s' y
+  brings_owe s' slot free y c = let q = brought slot v.seen s.views free y c in subst (Owes s') (sym q.is) tt
+
   abbrev NotLearning : Move → Type 0
   NotLearning (Learn note) = ⊥
   NotLearning _ = Unit {0}
@@ -338,7 +342,7 @@ module _ {X : Type 0} (k : Setting X) (s : State X) (i : ℕ) (v : View X) (so :
       shows_owe (after k s i v (Publish t slot link)) t (tab_at v t) (tab_was k s i v so.anchors so.slots at pass t (tab_at v t) (let b = may.0 in omega arith) refl) w (set_here s.views i w (at_length s.views i v at)) refl y c
   owes (Loosen t slot) on may y c = absurd (contains_none y c)
   owes (GetLink t slot) on may y c = follows_owe (after k s i v (GetLink t slot)) (tab_at v t) (get_or s.words (link_index k slot) 0) y c
-  owes (TryTurn t slot) on may y c = absurd (contains_none y c)
+  owes (TryTurn t slot) on may y c = brings_owe (after k s i v (TryTurn t slot)) slot (get_or s.words (turn_index k slot) 0 == 0) y c
   owes (EndTurn t slot then) on may y c = wipes_owe (after k s i v (EndTurn t slot then)) (tab_at v t) slot then y c
   owes (CellOut t slot) on may y c = absurd (contains_none y c)
   owes (CellIn t slot) on may y c = absurd (contains_none y c)

@@ -19,7 +19,8 @@ opening_epoch k a = epoch_of (word_in k k.words (Anchor a))
 abbrev pub opening_counter : {X : Type 0} → Setting X → ℕ
 opening_counter k = word_in k k.words Counter
 
--- A store opens with each anchor EMPTY or CLOSED, undoomed and without readers, and with a counter that no version is above.
+-- A store opens with each anchor EMPTY or CLOSED, undoomed and without readers, with a version above 0 where it is CLOSED, and with a counter
+-- that no version is above.
 pub record IsSetting {X : Type 0} (k : Setting X) : Type 0 where
   pub few : k.passes ≤ 32  -- as many workers as there may be
   pub words : length k.words ≡ word_count k  -- one word for each place
@@ -29,6 +30,7 @@ pub record IsSetting {X : Type 0} (k : Setting X) : Type 0 where
   pub undoomed : (a : ℕ) → a < k.anchors → doom_of (opening_epoch k a) ≡ 0  -- no entry is to be freed
   pub stage : (a : ℕ) → a < k.anchors → (stage_of (opening_epoch k a) ≡ 0) ⊎ (stage_of (opening_epoch k a) ≡ 3)  -- EMPTY or CLOSED
   pub version : (a : ℕ) → a < k.anchors → version_of (opening_epoch k a) ≤ opening_counter k  -- each version was drawn before
+  pub some_version : (a : ℕ) → a < k.anchors → stage_of (opening_epoch k a) ≡ 3 → 0 < version_of (opening_epoch k a)  -- an entry has one above 0
 
 abbrev pub tabs_in : {X : Type 0} → View X → ℕ
 tabs_in v = length v.tabs

@@ -32,7 +32,8 @@ turn_word k s slot = word_in k s.words (Turn slot)
 abbrev pub counter : {X : Type 0} → Setting X → State X → ℕ
 counter k s = word_in k s.words Counter
 
--- what a step finds: the word that it is on, the cell of its slot, the chain of its anchor, and what a note has seen
+-- what a step finds: the word that it is on, the cell of its slot, the chain of its anchor, and what a note has seen, or all together have of
+-- its slot
 pub record Finding (X : Type 0) : Type 0 where
   pub word : ℕ
   pub cell : Option (Cell X)

@@ -14,10 +14,10 @@ use Rattle.core_model.specs.declared.view.View.{View}
 use Rattle.core_model.specs.declared.chain.Chain.{Chain}
 use Rattle.core_model.specs.Layout.{Setting, index, word_in}
 use Rattle.core_model.specs.Chains.{no_chain, slots_of_link}
-use Rattle.core_model.specs.State.{Finding, State, chain_of}
+use Rattle.core_model.specs.State.{Finding, State, chain_of, turn_word}
 use Rattle.core_model.specs.Trails.{last_find}
 use Rattle.core_model.specs.Tabs.{anchor_of, tab_at, turn_of}
-use Rattle.core_model.specs.CellMoves.{cell_held, chosen_content, free_note, note_of, put, seen_in, spent, synced, wrote}
+use Rattle.core_model.specs.CellMoves.{all_seen, cell_held, chosen_content, free_note, news_of, note_of, put, seen_in, spent, synced, wrote}
 use Rattle.core_model.specs.Table.{MayStep, answer, deeds_of, held_after, item_of, left_by, met_of, place, sights_of, tabs_after}
 
 -- What a step finds.
@@ -41,16 +41,18 @@ chain_found s (Take t a version) = chain_of s a
 chain_found s (Evict t a) = chain_of s a
 chain_found s m = no_chain
 
-abbrev pub sights_found : {X : Type 0} → Setting X → State X → Move → List Sight
-sights_found k s (Learn note) = seen_in (slice_get s.views (k.passes + note))
-sights_found k s m = []
+-- of a note all that it has seen; of a turn that is free, each piece that a pass or a note knows to be logged for the slot, and the pass does not
+abbrev pub sights_found : {X : Type 0} → Setting X → State X → View X → Move → List Sight
+sights_found k s v (Learn note) = seen_in (slice_get s.views (k.passes + note))
+sights_found k s v (TryTurn t slot) = cond (turn_word k s slot == 0) (news_of slot v.seen (all_seen s.views)) []
+sights_found k s v m = []
 
 abbrev pub finding : {X : Type 0} → Setting X → State X → View X → Move → Finding X
 finding k s v m = record {
   word = number_found k s v m;
   cell = cell_found k s v m;
   chain = chain_found s m;
-  sights = sights_found k s m;
+  sights = sights_found k s v m;
 }
 
 -- What becomes of the view.

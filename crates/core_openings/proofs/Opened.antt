@@ -19,7 +19,7 @@ use Rattle.core_model.specs.Opening.{IsOpened, IsKeptAt, IsEmptyAt}
 use Rattle.core_model.specs.Slots.{used}
 use Rattle.core_model.specs.Sound.{Sound}
 use Rattle.core_model.proofs.SlotsOpened.{spells_alike}
-use Rattle.core_table.specs.declared.table.Opening.{Opening}
+use Rattle.core_table.specs.declared.opening.Opening.{Opening}
 use Rattle.core_table.specs.Inside.{setting}
 use Rattle.core_table.specs.Kept.{anchor_words, link_words, kept_chain, AreOpened, AreWithin, IsOpening, opened_state}
 use Rattle.core_table.specs.Machine.{opened_from}

@@ -9,7 +9,7 @@ use Rattle.rebuild_model.specs.Rebuilt.{IsRebuilt}
 use Rattle.rebuild_model.specs.declared.found.Found.{Found}
 use Rattle.rebuild_model.specs.declared.rebuilt.Rebuilt.{Rebuilt}
 use Rattle.core_model.proofs.SlotsOpened.{contains_map, map_contains}
-use Rattle.core_table.proofs.Winners.{chain_once, has_owner, version_to, greatest_to}
+use Rattle.core_table.proofs.Winners.{chain_once, has_owner, version_from, version_to, greatest_to}
 use Rattle.core_openings.specs.KeptSo.{IsKeptSo}
 
 map_map : {X Y Z : Type 0} (f : X → Y) (g : Y → Z) (xs : List X) → map g (map f xs) ≡ map (λ x. g (f x)) xs
@@ -42,6 +42,7 @@ module _ (slot : ℕ) (images : List (List ℕ)) (anchors : ℕ) (r : Rebuilt) (
     one_a_slot = b.one_a_slot;
     owned = λ f s h has. has_owner slot anchors images r b f h s has;
     free = λ s none. b.free s (λ e kept has. none (found_of e) (subst (λ (fs : List Found). Contains fs (found_of e)) (sym b.told) (map_contains found_of b.entries e kept)) has);
+    some_version = version_from slot anchors images r b;
     versions = version_to slot anchors images r b;
     limited = greatest_to slot anchors images r b;
   }

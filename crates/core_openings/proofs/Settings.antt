@@ -19,12 +19,13 @@ record IsOpeningWord (n most : ℕ) : Type 0 where
   undoomed : doom_of (epoch_of n) ≡ 0
   stage : (stage_of (epoch_of n) ≡ 0) ⊎ (stage_of (epoch_of n) ≡ 3)
   version : version_of (epoch_of n) ≤ most
+  some_version : stage_of (epoch_of n) ≡ 3 → 0 < version_of (epoch_of n)
 
 empty_word : (most : ℕ) → IsOpeningWord 0 most
-empty_word most = record { unread = refl; mode = omega arith; undoomed = refl; stage = inl refl; version = omega arith }
+empty_word most = record { unread = refl; mode = omega arith; undoomed = refl; stage = inl refl; version = omega arith; some_version = λ e. absurd (omega arith) }
 
-closed_word : (version most : ℕ) → version ≤ most → IsOpeningWord (word_at version 3) most
-closed_word version most to = record { unread = omega arith; mode = omega arith; undoomed = omega arith; stage = inr (omega arith); version = omega arith }
+closed_word : (version most : ℕ) → 0 < version → version ≤ most → IsOpeningWord (word_at version 3) most
+closed_word version most from to = record { unread = omega arith; mode = omega arith; undoomed = omega arith; stage = inr (omega arith); version = omega arith; some_version = λ e. omega arith }
 
 module _ {X : Type 0} (k : Setting X) (r : Rebuilt) (s : State X) (o : IsOpened k r s) (b : IsKeptSo k.anchors k.slots r) where
   abbrev place : Found → ℕ
@@ -33,7 +34,7 @@ module _ {X : Type 0} (k : Setting X) (r : Rebuilt) (s : State X) (o : IsOpened 
   opening_word : (a : ℕ) → a < k.anchors → IsOpeningWord (word_in k k.words (Anchor a)) r.greatest
   opening_word a lt = subst (λ (ws : List ℕ). IsOpeningWord (word_in k ws (Anchor a)) r.greatest) o.words (⊎_elim
       (λ (q : (f : Found) × Contains r.winners f × (place f ≡ a)). subst (λ (z : ℕ). IsOpeningWord (word s z) r.greatest) q.2
-      (subst (λ (n : ℕ). IsOpeningWord n r.greatest) (sym (o.kept q.0 q.1).word_is) (closed_word q.0.version r.greatest (b.versions q.0 q.1))))
+      (subst (λ (n : ℕ). IsOpeningWord n r.greatest) (sym (o.kept q.0 q.1).word_is) (closed_word q.0.version r.greatest (b.some_version q.0 q.1) (b.versions q.0 q.1))))
       (λ (none : (f : Found) → Contains r.winners f → place f ≡ a → ⊥). subst (λ (n : ℕ). IsOpeningWord n r.greatest) (sym (o.empty a lt none).word_is) (empty_word r.greatest))
       (numbered place a r.winners))
 
@@ -50,4 +51,5 @@ module _ {X : Type 0} (k : Setting X) (r : Rebuilt) (s : State X) (o : IsOpened 
     undoomed = λ a lt. (opening_word a lt).undoomed;
     stage = λ a lt. (opening_word a lt).stage;
     version = λ a lt. let z = counter_is in let y = (opening_word a lt).version in omega arith;
+    some_version = λ a lt. (opening_word a lt).some_version;
   }

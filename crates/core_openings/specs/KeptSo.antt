@@ -16,5 +16,6 @@ pub record IsKeptSo (anchors slots : ℕ) (r : Rebuilt) : Type 0 where
   pub one_a_slot : length r.owner ≡ slots  -- each slot has a number that tells whose it is
   pub owned : (f : Found) (s : ℕ) → Contains r.winners f → Contains f.chain s → slice_index r.owner s ≡ anchor_of f.key anchors + 1
   pub free : (s : ℕ) → ((f : Found) → Contains r.winners f → Contains f.chain s → ⊥) → slice_index r.owner s ≡ 0
+  pub some_version : (f : Found) → Contains r.winners f → 0 < f.version  -- each version is above 0
   pub versions : (f : Found) → Contains r.winners f → f.version ≤ r.greatest  -- no version is above the greatest
   pub limited : r.greatest ≤ version_limit  -- which is within what a header has room for

@@ -46,7 +46,7 @@ module _ (file : FileImage) (o : Offers) (from : Machine) where
   abbrev off : Offering
   off = offering_of file o from
 
-  keeps_to : (w : Writer Content) (p : Piece) → KeepsTo file from.anchors o w p → Keeps off w p
+  pub keeps_to : (w : Writer Content) (p : Piece) → KeepsTo file from.anchors o w p → Keeps off w p
   keeps_to w p h = record {
     key0 = key0_of (o.url p.offer);
     key1 = key1_of (o.url p.offer);
@@ -124,7 +124,7 @@ module _ (file : FileImage) (o : Offers) (from : Machine) where
 
   module _ (steps : List Step) (cores : List Machine) (run : IsRun steps cores) (first : get_elem? cores 0 ≡ some from) (so : IsSound from) (st : OffersStand off (setting_of from) (state_of from))
       (faithful : (j : ℕ) (m : Machine) → get_elem? cores j ≡ some m → IsFaithful file o m) where
-    setting_stays : (i : ℕ) (core : Machine) → get_elem? cores i ≡ some core → setting_of core ≡ setting_of from
+    pub setting_stays : (i : ℕ) (core : Machine) → get_elem? cores i ≡ some core → setting_of core ≡ setting_of from
     setting_stays zero core at = ap setting_of (some-injective core from (sym at ∙ first))
     setting_stays (suc i) core at =
         let lt = at_length cores (suc i) core at in
@@ -145,12 +145,3 @@ module _ (file : FileImage) (o : Offers) (from : Machine) where
         let more : suc i ≡ i + 1 = omega arith in
         let follows = run.follows i made.0 was.0 core made.1 was.1 (ap (get_elem? cores) (sym more) ∙ at) in
         step_offers was.0 core made.0 follows.1.0 (stays_sound steps cores from run first so i was.0 was.1) (ap Setting.anchors (setting_stays (suc i) core at)) (faithful (suc i) core at) follows.0 follows.1.1 (all_offers i was.0 was.1)
-
-    pub all_standing : from.words ≡ from.opening → ((a : ℕ) → a < from.anchors → (length (chain_of (state_of from) a).slots ≡ 0) ⊎ IsOld file (setting_of from) (state_of from) a)
-        → (i : ℕ) (core : Machine) → get_elem? cores i ≡ some core → (a : ℕ) → a < core.anchors → Standing file o (setting_of core) (state_of core) a
-    all_standing opened was i core at a lt = let same = setting_stays i core at in let low : a < from.anchors = (let z = ap Setting.anchors same in omega arith) in
-        subst (λ (k : Setting Content). Standing file o k (state_of core) a) (sym same)
-        (standing_of (state_of core)
-        (subst (λ (k : Setting Content). Sound k (state_of core)) same (stays_sound steps cores from run first so i core at))
-        (subst (λ (k : Setting Content). OffersStand off k (state_of core)) same (all_offers i core at))
-        opened a low (was a low))

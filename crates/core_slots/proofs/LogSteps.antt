@@ -17,8 +17,8 @@ use Rattle.core_model.specs.CellMoves.{MayLog, logged_by, logs, piece_of}
 use Rattle.core_model.specs.Layout.{index}
 use Rattle.core_model.specs.Tabs.{OfWriter, inner}
 use Rattle.core_table.specs.declared.content.Content.{Content}
-use Rattle.core_table.specs.declared.table.Opening.{Opening}
-use Rattle.core_table.specs.declared.table.Table.{Table}
+use Rattle.core_table.specs.declared.opening.Opening.{Opening}
+use Rattle.core_change.specs.declared.table.Table.{Table}
 use Rattle.core_table.specs.Inside.{setting}
 use Rattle.core_change.specs.declared.change.ChainChange.TheVariants as chains
 use Rattle.core_change.specs.declared.change.NotesChange.TheVariants as notes

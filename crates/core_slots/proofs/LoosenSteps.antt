@@ -24,10 +24,11 @@ use Rattle.core_change.specs.declared.change.Change.{Change}
 use Rattle.core_change.specs.declared.change.TabsChange.{TabsChange}
 use Rattle.core_change.specs.declared.tab_change.TabChange.TheVariants.{Reserves, Loosens}
 use Rattle.core_table.specs.declared.content.Content.{Content}
-use Rattle.core_table.specs.declared.table.Opening.{Opening}
-use Rattle.core_table.specs.declared.table.Table.{Table}
+use Rattle.core_table.specs.declared.opening.Opening.{Opening}
+use Rattle.core_change.specs.declared.table.Table.{Table}
 use Rattle.core_change.specs.Changed.{word_addition, tabs_changed, FitsTabs}
-use Rattle.core_table.specs.Inside.{setting, state}
+use Rattle.core_table.specs.Inside.{setting}
+use Rattle.core_change.specs.Inside.{state}
 use Rattle.core_slots.specs.Loosening.{loosened_change, handed_change, link_found, unlinked_change}
 use Rattle.core_change.specs.Planned.{IsScene, Plans}
 use Rattle.core_change.specs.Tabs.{changed_tab}

@@ -19,10 +19,11 @@ use Rattle.core_change.specs.declared.change.Change.{Change}
 use Rattle.core_change.specs.declared.change.TabsChange.{TabsChange}
 use Rattle.core_change.specs.declared.tab_change.TabChange.TheVariants.{Publishes}
 use Rattle.core_table.specs.declared.content.Content.{Content}
-use Rattle.core_table.specs.declared.table.Opening.{Opening}
-use Rattle.core_table.specs.declared.table.Table.{Table}
+use Rattle.core_table.specs.declared.opening.Opening.{Opening}
+use Rattle.core_change.specs.declared.table.Table.{Table}
 use Rattle.core_change.specs.Changed.{tabs_changed}
-use Rattle.core_table.specs.Inside.{setting, state}
+use Rattle.core_table.specs.Inside.{setting}
+use Rattle.core_change.specs.Inside.{state}
 use Rattle.core_change.specs.Planned.{IsScene, Plans, Matches}
 use Rattle.core_slots.specs.Publishing.{published_tab, published_change}
 use Rattle.core_change.specs.Tabs.{changed_tab}

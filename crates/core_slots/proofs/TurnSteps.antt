@@ -22,7 +22,7 @@ use Rattle.core_model.specs.declared.view.View.{View}
 use Rattle.core_model.specs.Cells.{CellsSound, TurnFits}
 use Rattle.core_model.specs.Layout.{index}
 use Rattle.core_model.specs.Tabs.{tab_at, holds_turn, OfReader, OfWriter, OfFreer}
-use Rattle.core_model.specs.CellMoves.{EndsSo, MayRead, MayWrite, Holds, turn_with, tries, ends, MayWipe, wiped_by}
+use Rattle.core_model.specs.CellMoves.{EndsSo, MayRead, MayWrite, Holds, turn_with, tries, ends, MayWipe, wiped_by, news_of, all_seen}
 use Rattle.core_change.specs.declared.change.ChainChange.TheVariants as chains
 use Rattle.core_change.specs.declared.change.Change.{Change}
 use Rattle.core_change.specs.declared.change.NotesChange.TheVariants as notes
@@ -31,12 +31,13 @@ use Rattle.core_change.specs.declared.change.TabsChange.TheVariants as tabs
 use Rattle.core_table.specs.declared.content.Content.{Content}
 use Rattle.core_change.specs.declared.tab_change.TabChange.{TabChange}
 use Rattle.core_change.specs.declared.tab_change.TabChange.TheVariants.{Leaves}
-use Rattle.core_table.specs.declared.table.Opening.{Opening}
-use Rattle.core_table.specs.declared.table.Table.{Table}
+use Rattle.core_table.specs.declared.opening.Opening.{Opening}
+use Rattle.core_change.specs.declared.table.Table.{Table}
 use Rattle.core_change.specs.declared.turn_change.TurnChange.{TurnChange}
 use Rattle.core_change.specs.declared.turn_change.TurnChange.TheVariants as turns
 use Rattle.core_change.specs.Changed.{word_addition, turned_view, tabs_changed, FitsTabs}
-use Rattle.core_table.specs.Inside.{setting, state}
+use Rattle.core_table.specs.Inside.{setting}
+use Rattle.core_change.specs.Inside.{state}
 use Rattle.core_change.specs.Planned.{IsScene, Plans}
 use Rattle.core_change.specs.Tabs.{changed_tab}
 use Rattle.core_slots.specs.Trying.{MayTry, tried_turn, tried_tabs, ended_tabs, ended_sight}
@@ -157,6 +158,13 @@ module _ (o : Opening) (t : Table) (v : View Content) (scene : IsScene o t v) (a
     notes = notes.Same;
   }
 
+  -- what the pass learns, where the turn word told this number, and an addition with that
+  abbrev news : ℕ → List Sight
+  news n = cond (n == 0) (news_of slot v.seen (all_seen t.views.items)) []
+
+  abbrev learning : Addition → List Sight → Addition
+  learning base learned = record base { learned = Some learned }
+
   turn_there : slot < o.slots → index (setting o) (Turn slot) < length t.words.items
   turn_there inside = let n = scene.sound.shaped.words in omega arith
 
@@ -183,7 +191,7 @@ module _ (o : Opening) (t : Table) (v : View Content) (scene : IsScene o t v) (a
 
     tried : Plans o t v (move.TryTurn at slot)
         (turn_change turn_found (index (setting o) (Turn slot)) (cond (turn_found == 0) 1 turn_found) (tried_turn at slot turn_found) (tried_tabs at x turn_found)
-        (word_addition kind.Tried (Turn slot) slot turn_found (cond (turn_found == 0) 1 turn_found) None))
+        (learning (word_addition kind.Tried (Turn slot) slot turn_found (cond (turn_found == 0) 1 turn_found) None) (news turn_found)))
     tried = record {
       allowed = (below o t v scene at x there, subst (λ (y : Tab Content). holds_turn y ≡ false) (sym is) may.0, subst (λ (y : Tab Content). OfReader (MayRead (state t) slot) y ⊎ OfWriter (MayWrite slot) y ⊎ OfFreer (MayWipe slot) y) (sym is) may.1);
       answers = refl;
@@ -210,15 +218,15 @@ module _ (o : Opening) (t : Table) (v : View Content) (scene : IsScene o t v) (a
       pub try_there : word < length t.words.items
       try_there = let h = turn_there try_inside in omega (arith, h, word_is)
 
-      pub try_planned : (left : ℕ) (turn : TurnChange) (change : TabsChange) (base : Addition) → n ≡ slice_index t.words.items word → left ≡ cond (n == 0) 1 n → turn ≡ tried_turn at slot n → change ≡ tried_tabs at x n
-          → base ≡ word_addition kind.Tried (Turn slot) slot n left None
-          → Plans o t v (move.TryTurn at slot) (turn_change n word left turn change base)
-      try_planned left turn change base n_is left_is turn_is change_is base_is =
+      pub try_planned : (left : ℕ) (learned : List Sight) (turn : TurnChange) (change : TabsChange) (base : Addition) → n ≡ slice_index t.words.items word → left ≡ cond (n == 0) 1 n → learned ≡ news n
+          → turn ≡ tried_turn at slot n → change ≡ tried_tabs at x n → base ≡ word_addition kind.Tried (Turn slot) slot n left None
+          → Plans o t v (move.TryTurn at slot) (turn_change n word left turn change (learning base learned))
+      try_planned left learned turn change base n_is left_is learned_is turn_is change_is base_is =
           let found : n ≡ turn_found = n_is ∙ ap (λ i. slice_index t.words.items i) word_is in
           let lefts : left ≡ cond (turn_found == 0) 1 turn_found = left_is ∙ ap (λ i. cond (i == 0) 1 i) found in
           subst (λ (c : Change). Plans o t v (move.TryTurn at slot) c)
           (sym (λ j. turn_change (found j) (word_is j) (lefts j) ((turn_is ∙ ap (tried_turn at slot) found) j) ((change_is ∙ ap (tried_tabs at x) found) j)
-          ((base_is ∙ (λ k. word_addition kind.Tried (Turn slot) slot (found k) (lefts k) None)) j)))
+          (learning ((base_is ∙ (λ k. word_addition kind.Tried (Turn slot) slot (found k) (lefts k) None)) j) ((learned_is ∙ ap news found) j))))
           tried
 
   module _ (cells : CellsSound (setting o) (state t)) (out : Bool) (holds : Holds slot out x) where

@@ -17,8 +17,8 @@ use Rattle.core_change.specs.declared.change.TabsChange.{TabsChange}
 use Rattle.core_change.specs.declared.change.TabsChange.TheVariants as tabs
 use Rattle.core_table.specs.declared.content.Content.{Content}
 use Rattle.core_change.specs.declared.tab_change.TabChange.TheVariants.{Publishes}
-use Rattle.core_table.specs.declared.table.Opening.{Opening}
-use Rattle.core_table.specs.declared.table.Table.{Table}
+use Rattle.core_table.specs.declared.opening.Opening.{Opening}
+use Rattle.core_change.specs.declared.table.Table.{Table}
 use Rattle.core_change.specs.declared.turn_change.TurnChange.TheVariants as turns
 use Rattle.core_table.specs.Inside.{setting}
 use Rattle.core_slots.specs.Loosening.{link_found}

@@ -6,16 +6,17 @@ ghost use Rattle.core_model.specs.Tabs.{tab_at, turn_of, inner, IsPass};
 ghost use Rattle.core_model.specs.Table.{Allowed};
 ghost use Rattle.core_model.specs.CellMoves.{Holds, MayChange, is_kept, is_nothing, rewritten, settled_by_write, settled_by_sync};
 ghost use Rattle.core_slots.specs.Cells.{cell_change, content_of, written_turn, synced_turn};
-ghost use Rattle.core_table.specs.Inside.{setting, state};
+ghost use Rattle.core_table.specs.Inside.{setting};
+ghost use Rattle.core_change.specs.Inside.{state};
 ghost use Rattle.core_change.specs.Planned.{IsScene, Plans};
 
 use crate::turns::{holds, was_settled};
 use core_change::{
-    ChainChange, Change, NotesChange, Refusal, TabChange, TabsChange, TurnChange, bare_addition,
-    tab_at,
+    ChainChange, Change, NotesChange, Refusal, TabChange, Table, TabsChange, TurnChange,
+    bare_addition, tab_at,
 };
 use core_model::{Cell, Kind, Outcome, Row, Tab, Turn, View};
-use core_table::{Content, Opening, Table};
+use core_table::{Content, Opening};
 use std::alloc::{AllocError, Global};
 
 /// The step of this kind on the cell of a slot changes this of the tab, and no word.

@@ -10,17 +10,18 @@ ghost use Rattle.core_model.specs.Table.{Allowed};
 ghost use Rattle.core_model.specs.SlotMoves.{IsNext, IsFront, follows, looks};
 ghost use Rattle.core_model.specs.Chains.{link_of};
 ghost use Rattle.core_table.specs.declared.content.Content.{Content as ContentOf};
-ghost use Rattle.core_table.specs.Inside.{setting, state};
+ghost use Rattle.core_table.specs.Inside.{setting};
+ghost use Rattle.core_change.specs.Inside.{state};
 ghost use Rattle.core_change.specs.Planned.{IsScene, Plans};
 ghost use Rattle.core_change.specs.Tabs.{changed_tab};
 
 use crate::loosening::is_front;
 use core_change::{
-    ChainChange, Change, NotesChange, Refusal, TabChange, TabsChange, TurnChange, WordChange,
-    tab_at, word_addition,
+    ChainChange, Change, NotesChange, Refusal, TabChange, Table, TabsChange, TurnChange,
+    WordChange, tab_at, word_addition,
 };
 use core_model::{Kind, Place, Reader, Sight, Tab, View};
-use core_table::{Content, Opening, Table};
+use core_table::{Content, Opening};
 use link_word::{Link, unpack_link};
 
 /// Whether the link names this slot.

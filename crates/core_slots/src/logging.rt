@@ -7,17 +7,18 @@ ghost use Rattle.core_model.specs.CellMoves.{MayLog, piece_of};
 ghost use Rattle.core_model.specs.Chains.{first_of, link_to, rest_of};
 ghost use Rattle.core_model.specs.Table.{Allowed};
 ghost use Rattle.core_model.specs.Tabs.{OfWriter, inner, tab_at};
-ghost use Rattle.core_table.specs.Inside.{setting, state};
+ghost use Rattle.core_table.specs.Inside.{setting};
+ghost use Rattle.core_change.specs.Inside.{state};
 ghost use Rattle.core_change.specs.Planned.{IsScene, Plans};
 ghost use Rattle.core_slots.specs.Logging.{logged_piece};
 
 use crate::publishing::is_first;
 use core_change::{
-    ChainChange, Change, NotesChange, Refusal, TabChange, TabsChange, TurnChange, WordChange,
-    tab_at, word_addition,
+    ChainChange, Change, NotesChange, Refusal, TabChange, Table, TabsChange, TurnChange,
+    WordChange, tab_at, word_addition,
 };
 use core_model::{INNER_TAB, Kind, LoggedPiece, Piece, Place, Sight, Tab, View, Writer};
-use core_table::{Content, Opening, Table};
+use core_table::{Content, Opening};
 use link_word::Link;
 
 /// Whether a writing tab may log a piece for this slot: it has named its entry, this is the first slot that

@@ -8,17 +8,18 @@ ghost use Rattle.core_model.specs.Layout.{index};
 ghost use Rattle.core_model.specs.Tabs.{inner, tab_at, OfFreer};
 ghost use Rattle.core_model.specs.Table.{Allowed};
 ghost use Rattle.core_model.specs.SlotMoves.{IsFront, MayLoosen};
-ghost use Rattle.core_table.specs.Inside.{setting, state};
+ghost use Rattle.core_table.specs.Inside.{setting};
+ghost use Rattle.core_change.specs.Inside.{state};
 ghost use Rattle.core_slots.specs.Loosening.{loosened_change, handed_change, unlinked_change};
 ghost use Rattle.core_change.specs.Planned.{IsScene, Plans};
 
 use crate::slots::{reserving_writer, with_slot};
 use core_change::{
-    ChainChange, Change, NotesChange, Refusal, TabChange, TabsChange, TurnChange, WordChange,
-    tab_at, word_addition,
+    ChainChange, Change, NotesChange, Refusal, TabChange, Table, TabsChange, TurnChange,
+    WordChange, tab_at, word_addition,
 };
 use core_model::{Freer, INNER_TAB, Kind, Place, Row, Tab, Turn, View, Writer};
-use core_table::{Content, Opening, Table};
+use core_table::{Content, Opening};
 use std::alloc::{AllocError, Global};
 
 /// Whether the slot is the first of the rest of a freeing tab.

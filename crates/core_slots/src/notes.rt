@@ -4,15 +4,16 @@ ghost use Rattle.std.specs.List.{position};
 ghost use Rattle.core_model.specs.declared.moves.Move.TheVariants as move;
 ghost use Rattle.core_model.specs.Table.{Allowed};
 ghost use Rattle.core_model.specs.CellMoves.{IsNote, is_spent, free_note};
-ghost use Rattle.core_table.specs.Inside.{setting, state};
+ghost use Rattle.core_table.specs.Inside.{setting};
+ghost use Rattle.core_change.specs.Inside.{state};
 ghost use Rattle.core_change.specs.Notes.{note_with};
 ghost use Rattle.core_change.specs.Planned.{IsScene, Plans};
 
 use core_change::{
-    ChainChange, Change, NotesChange, Refusal, TabsChange, TurnChange, bare_addition,
+    ChainChange, Change, NotesChange, Refusal, Table, TabsChange, TurnChange, bare_addition,
 };
 use core_model::{Addition, Kind, Log, Row, Sight, View};
-use core_table::{Content, Opening, Table};
+use core_table::{Content, Opening};
 use std::alloc::{AllocError, Global};
 
 /// A note of this, and of nothing else.

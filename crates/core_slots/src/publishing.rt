@@ -13,21 +13,22 @@ ghost use Rattle.core_model.specs.Table.{Allowed};
 ghost use Rattle.core_model.specs.SlotMoves.{MayPublish};
 ghost use Rattle.core_table.specs.declared.content.Content.{Content as ContentOf};
 ghost use Rattle.core_table.specs.declared.content.Content.TheVariants.{Offered};
-ghost use Rattle.core_table.specs.Inside.{setting, state};
+ghost use Rattle.core_table.specs.Inside.{setting};
+ghost use Rattle.core_change.specs.Inside.{state};
 ghost use Rattle.core_change.specs.Planned.{IsScene, Plans};
 ghost use Rattle.core_slots.specs.Publishing.{published_tab, published_addition, published_change};
 
 use crate::loosening::rest_of;
 use crate::slots::with_slot;
 use core_change::{
-    ChainChange, Change, NotesChange, Refusal, TabChange, TabsChange, TurnChange, WordChange,
-    tab_at,
+    ChainChange, Change, NotesChange, Refusal, TabChange, Table, TabsChange, TurnChange,
+    WordChange, tab_at,
 };
 use core_model::{
     Addition, Chain, INNER_TAB, Item, Kind, Names, Piece, Place, Row, Sight, Tab, Trace, View,
     Writer,
 };
-use core_table::{Content, Opening, Table};
+use core_table::{Content, Opening};
 use link_word::{Link, pack_link};
 use std::alloc::{AllocError, Global};
 

@@ -9,15 +9,16 @@ ghost use Rattle.core_model.specs.Table.{Allowed};
 ghost use Rattle.core_model.specs.SlotMoves.{MayReserve, MayGiveBack, goes_past, misses, reserves, searches};
 ghost use Rattle.link_word.specs.Map.{taken_in};
 ghost use Rattle.core_change.specs.Tabs.{changed_tab};
-ghost use Rattle.core_table.specs.Inside.{setting, state};
+ghost use Rattle.core_table.specs.Inside.{setting};
+ghost use Rattle.core_change.specs.Inside.{state};
 ghost use Rattle.core_change.specs.Planned.{IsScene, Plans};
 
 use core_change::{
-    ChainChange, Change, NotesChange, Refusal, TabChange, TabsChange, TurnChange, WordChange,
-    inner_is_free, tab_at, word_addition,
+    ChainChange, Change, NotesChange, Refusal, TabChange, Table, TabsChange, TurnChange,
+    WordChange, inner_is_free, tab_at, word_addition,
 };
 use core_model::{INNER_TAB, Kind, Piece, Place, Row, Tab, Turn, View, Writer};
-use core_table::{Content, Opening, Table};
+use core_table::{Content, Opening};
 use link_word::{Link, is_set, map_bit, map_place, map_words, next_free};
 use std::alloc::{AllocError, Global};
 

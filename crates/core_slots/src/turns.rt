@@ -8,20 +8,23 @@ ghost use Rattle.core_model.specs.Tabs.{anchor_of, is_reading};
 ghost use Rattle.core_model.specs.Table.{Allowed};
 ghost use Rattle.core_model.specs.CellMoves.{EndsSo, HasWiped, MayRead, MayWipe, MayWrite, Holds, next_slot, was_written, was_settled};
 ghost use Rattle.core_table.specs.declared.content.Content.{Content as ContentOf};
-ghost use Rattle.core_table.specs.Inside.{setting, state};
+ghost use Rattle.core_table.specs.Inside.{setting};
+ghost use Rattle.core_change.specs.Inside.{state};
 ghost use Rattle.core_change.specs.Planned.{IsScene, Plans};
 ghost use Rattle.core_slots.specs.Trying.{MayTry, tried_turn, tried_tabs, ended_sight, ended_tabs};
 
 use crate::links::is_next;
 use crate::loosening::is_front;
+use crate::news::brought;
 use crate::publishing::{is_alone, is_first};
 use core_change::{
-    ChainChange, Change, NotesChange, Refusal, TabChange, TabsChange, TurnChange, WordChange,
-    tab_at, word_addition,
+    ChainChange, Change, NotesChange, Refusal, TabChange, Table, TabsChange, TurnChange,
+    WordChange, tab_at, word_addition,
 };
-use core_model::{Freer, Kind, Place, Reader, Sight, Tab, Then, Turn, View, Writer};
-use core_table::{Content, Opening, Table};
+use core_model::{Addition, Freer, Kind, Place, Reader, Sight, Tab, Then, Turn, View, Writer};
+use core_table::{Content, Opening};
 use link_word::Link;
+use std::alloc::Global;
 
 /// Whether a reading tab found the link at this slot written, which is at its place.
 fn may_read(table: &Table, reader: &Reader<Content>, slot: u32) -> bool
@@ -92,7 +95,9 @@ fn tried_tabs(tab: u8, now: &Tab<Content>, found: u64) -> TabsChange
 }
 
 /// A reading, writing or freeing tab tries to take the turn at a slot: it has it, and the cell, where no tab had it.
+/// The pass then knows each piece that was logged for the slot.
 pub fn try_turn(
+    alloc: Global,
     opening: &Opening,
     table: &Table,
     view: &View<Content>,
@@ -114,6 +119,7 @@ pub fn try_turn(
     let index = opening.index_of(place);
     let found = table.words[index];
     let left = tried_word(found);
+    let learned = brought(alloc, table, view, slot, found)?;
     Ok(Change {
         answer: found,
         word: Some(WordChange { index, left }),
@@ -121,7 +127,10 @@ pub fn try_turn(
         tabs: tried_tabs(tab, now, found),
         chain: ChainChange::Same,
         used: None,
-        addition: word_addition(Kind::Tried, place, slot, found, left, None),
+        addition: Addition {
+            learned: Some(learned),
+            ..word_addition(Kind::Tried, place, slot, found, left, None)
+        },
         notes: NotesChange::Same,
     })
 }

@@ -2,7 +2,8 @@
 use Rattle.core_model.specs.Sound.{Sound}
 use Rattle.core_state.specs.declared.machine.Core.TheInside.{Inside}
 use Rattle.core_table.specs.Machine.{Machine}
-use Rattle.core_table.specs.Inside.{setting, state}
+use Rattle.core_table.specs.Inside.{setting}
+use Rattle.core_change.specs.Inside.{state}
 
 abbrev pub machine_of : Inside → Machine
 machine_of c = record {

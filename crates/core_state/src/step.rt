@@ -2,12 +2,13 @@
 ghost use Rattle.std.specs.Prelude.{◌≡◌, IfOk, IsErrOf, OnErr};
 ghost use Rattle.core_model.specs.Sound.{Sound};
 ghost use Rattle.core_model.specs.Steps.{IsStep, MayMove};
-ghost use Rattle.core_table.specs.Inside.{setting, state};
+ghost use Rattle.core_table.specs.Inside.{setting};
+ghost use Rattle.core_change.specs.Inside.{state};
 
 use crate::plan::plan;
-use core_change::{Refusal, make_change};
+use core_change::{Refusal, Table, make_change};
 use core_model::Move;
-use core_table::{Opening, Table};
+use core_table::Opening;
 use std::alloc::Global;
 
 /// Makes a step of the pass of this number, and answers the number that it tells. Where it is refused

@@ -98,6 +98,13 @@ module _ (slot anchors : ℕ) (images : List (List ℕ)) (r : Rebuilt) (b : IsRe
       let most = b.greatest.above e.0.first first.sane in let version = whole.version in
       subst (λ (g : Found). g.version ≤ r.greatest) e.2 (omega arith)
 
+  pub version_from : (f : Found) → Contains r.winners f → 0 < f.version
+  version_from f h = let e = entry_is f h in let whole = (b.won e.0 e.1).complete in
+      let belong = subst (All (BelongsTo slot images e.0.first)) whole.chain.begins whole.chain.belong in
+      let first = All-head (BelongsTo slot images e.0.first) e.0.first whole.chain.behind belong in
+      let least = first.sane.sane.version_from in let version = whole.version in
+      subst (λ (g : Found). 0 < g.version) e.2 (omega arith)
+
   pub greatest_to : r.greatest ≤ version_limit
   greatest_to = dite (ℕ_discrete r.greatest 0) (λ e. omega arith)
       (λ ne. let there = b.greatest.there (omega arith) in let most = there.1.sane.version_to in let same = there.2 in omega arith)

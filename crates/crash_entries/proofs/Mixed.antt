@@ -14,7 +14,7 @@ use Rattle.rebuild_model.specs.Rebuilt.{IsWinner}
 use Rattle.entry_cut.specs.Content.{Cut, count, image}
 use Rattle.entry_cut.specs.Standing.{IsWritable, Stand, StandFrom, entry_of}
 use Rattle.crash_entries.specs.Parts.{HasPart, IsMixed, IsOfPart, KeepsTo, Offers, Part, PartsStand, bytes_of, cut_of, next_number}
-use Rattle.crash_entries.proofs.Depends.{complete_in}
+use Rattle.rebuild_model.proofs.Depends.{complete_in}
 use Rattle.crash_entries.proofs.Telling.{Tells, Tools, tells}
 
 same_pos : {z : ℤ} {a b : ℕ} → z ≡ pos a → z ≡ pos b → a ≡ b

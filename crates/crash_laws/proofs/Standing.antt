@@ -35,7 +35,7 @@ use Rattle.core_model.proofs.SlotFrame.{published_few, used_few}
 use Rattle.core_model.proofs.Spelling.{distinct, suc_is}
 use Rattle.core_log.specs.Logged.{CellsLogged, IsFast, LinksStand, SettledStand}
 use Rattle.crash_entries.specs.Parts.{KeepsTo, Offers, cut_of, next_number}
-use Rattle.crash_entries.proofs.Depends.{complete_in}
+use Rattle.rebuild_model.proofs.Depends.{complete_in}
 use Rattle.crash_entries.proofs.Telling.{Tools}
 use Rattle.crash_laws.specs.Left.{IsFileOf, IsLeftWhile, IsPossible, IsWriting, LogKeeps, StandsNew, StandsOld, entry_at, part_at, piece_at, IsWiping}
 use Rattle.crash_laws.proofs.Crashing.{a_cell, kept}

@@ -14,7 +14,7 @@ use Rattle.rock_disk.specs.Opened.{HasShape, IsSmall}
 use Rattle.rock_disk.proofs.Out.{get_inserted}
 use Rattle.rock_open.specs.declared.fault.OpenStoreFault.{OpenStoreFault}
 use Rattle.rock_open.specs.declared.fault.OpenStoreFault.TheVariants.{BadGeometry, Failed, Memory, Missing, Small}
-use Rattle.rock_open.specs.Device.{Counts, OneStation}
+use Rattle.rock_disk.specs.Counts.{Counts, OneStation}
 use Rattle.rock_open.specs.Opening.{FileSays, IsPasses, OpensStore}
 use Rattle.store_rule.specs.declared.store.Pass.{Pass}
 use Rattle.store_rule.specs.declared.store.Store.{Store}

@@ -9,7 +9,7 @@ use Rattle.rock_disk.specs.Cell.{CellState}
 use Rattle.rock_disk.specs.File.{Files, HasSlots}
 use Rattle.rock_disk.specs.Opened.{HasShape, IsSmall}
 use Rattle.rock_open.specs.declared.fault.OpenStoreFault.{OpenStoreFault}
-use Rattle.rock_open.specs.Device.{counts}
+use Rattle.rock_disk.specs.Counts.{counted}
 use Rattle.rock_open.specs.Opening.{IsAnchors}
 use Rattle.store_rule.specs.declared.store.Store.{Store}
 use Rattle.store_rule.specs.Ground.{Offers}
@@ -31,8 +31,8 @@ ok_is_none h = cc
 pub err_of : {T U E : Type 0} {e f : E} → IsErrOf {T = T} {E = E} (Err e) f → IsErrOf {T = U} {E = E} (Err e) f
 err_of h = cc
 
-pub same_counts : (f g m n : ℕ) (e d : List ℕ) → f ≡ g → m ≡ n → e ≡ d → counts f m e ≡ counts g n d
-same_counts f g m n e d x y z = ap (λ (k : ℕ). counts k m e) x ∙ ap (λ (k : ℕ). counts g k e) y ∙ ap (λ (k : List ℕ). counts g n k) z
+pub same_counts : (f g m n : ℕ) (e d : List ℕ) → f ≡ g → m ≡ n → e ≡ d → counted f m e ≡ counted g n d
+same_counts f g m n e d x y z = ap (λ (k : ℕ). counted k m e) x ∙ ap (λ (k : ℕ). counted g k e) y ∙ ap (λ (k : List ℕ). counted g n k) z
 
 -- a call that was refused at this file was refused no later than at any that has a cause
 pub refused_by : {T : Type 0} (R : OpenStoreFault → Type 0) (d : ℕ) (r : DirFault) → (d < r.dir → ⊥) → (r.dir ≡ d → R r.fault) → IsRefusedBy {T = T} d R (Err r)

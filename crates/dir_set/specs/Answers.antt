@@ -13,6 +13,7 @@ use Rattle.store_rule.specs.declared.store.Pass.{Pass}
 use Rattle.store_rule.specs.declared.store.Store.{Store}
 use Rattle.store_rule.specs.Ground.{Offers, anchor_for}
 use Rattle.store_rule.specs.Passes.{basis, view}
+use Rattle.store_rule.specs.Quiet.{DoomsNothing}
 use Rattle.dir_set.specs.declared.dirs.DirPass.{DirPass}
 use Rattle.dir_set.specs.declared.dirs.Dirs.{Dirs}
 use Rattle.dir_set.specs.Dirs.{EachDir, answer_at}
@@ -24,12 +25,14 @@ module _ {C O : Type 0} (tells : Bool) (state : C → CellState) (offers : O →
       pub refused : Refused (basis tells state offers s) t url (view p) cause (view q)
       pub free : (view q).tabs ≡ (view p).tabs
       pub follows : FollowsTab tells state offers s t p q
+      pub quiet : DoomsNothing (view p) (view q)
 
     -- the entry was opened
     pub record OpenedBy (version : ℕ) : Type 0 where
       pub opened : OpenedEntry (basis tells state offers s) t url (view p) version (view q)
       pub reads : (offer : ℕ) × ReadsAs tells state offers s q t (newly (anchor_for (basis tells state offers s) url) version offer url)
       pub follows : FollowsReader tells state offers s t p q
+      pub quiet : DoomsNothing (view p) (view q)
 
   module _ (url : List ℕ) (s : Store C O) (p q : Pass C) where
     -- the entry was purged

@@ -11,6 +11,7 @@ use Rattle.store_rule.specs.declared.store.Pass.{Pass}
 use Rattle.store_rule.specs.declared.store.Store.{Store}
 use Rattle.store_rule.specs.Ground.{Offers, anchor_for}
 use Rattle.store_rule.specs.Passes.{basis, view}
+use Rattle.store_rule.specs.Quiet.{Quiet}
 use Rattle.dir_set.specs.declared.dirs.DirPass.{DirPass}
 use Rattle.dir_set.specs.declared.dirs.Dirs.{Dirs}
 use Rattle.dir_set.specs.declared.fault.DirBeginFault.{DirBeginFault}
@@ -41,6 +42,7 @@ module _ {C O : Type 0} (tells : Bool) (state : C → CellState) (offers : O →
       pub logged : LoggedSoFar (basis tells state offers s) (begun tells state offers s t (offer_in s line) url is_durable p q version) (view q)
       pub hand : q.hand ≡ p.hand
       pub follows : FollowsWriting tells state offers s t p q
+      pub quiet : Quiet (view p) (view q)
 
     -- none was, for this fault
     pub record RefusedBegin (fault : BeginFault) : Type 0 where
@@ -50,6 +52,7 @@ module _ {C O : Type 0} (tells : Bool) (state : C → CellState) (offers : O →
       pub desks : q.desks ≡ p.desks
       pub hand : q.hand ≡ p.hand
       pub follows : FollowsWriting tells state offers s t p q
+      pub quiet : Quiet (view p) (view q)
 
   -- The URL was purged first, and then it went so.
   pub record PurgesFirst (url : List ℕ) (Then : (p q : Pass C) → Type 0) (s : Store C O) (p q : Pass C) : Type 0 where

@@ -14,7 +14,7 @@ use Rattle.store_rule.specs.Ground.{Offers}
 use Rattle.store_rule.specs.Passes.{IsOf, KeepsRoom, basis}
 use Rattle.rock_open.specs.declared.fault.OpenStoreFault.{OpenStoreFault}
 use Rattle.rock_open.specs.declared.fault.OpenStoreFault.TheVariants.{Failed, Memory}
-use Rattle.rock_open.specs.Device.{Counts, EachEnded, NoneFailed}
+use Rattle.rock_disk.specs.Counts.{Counts, EachEnded, NoneFailed}
 use Rattle.rock_open.specs.Opening.{OpeningEnds, OpensStore}
 use Rattle.dir_set.specs.declared.dirs.DirPass.{DirPass}
 use Rattle.dir_set.specs.declared.dirs.Dirs.{Dirs}

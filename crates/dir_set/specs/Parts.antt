@@ -8,7 +8,7 @@ use Rattle.rock_disk.specs.File.{Files}
 use Rattle.rock_disk.specs.Opened.{IsSmall}
 use Rattle.rock_open.specs.declared.fault.OpenStoreFault.{OpenStoreFault}
 use Rattle.rock_open.specs.declared.fault.OpenStoreFault.TheVariants.{BadGeometry, Failed, Missing, Small}
-use Rattle.rock_open.specs.Device.{Counts, EachEnded, NoneFailed}
+use Rattle.rock_disk.specs.Counts.{Counts, EachEnded, NoneFailed}
 use Rattle.rock_open.specs.Opening.{FileSays, HasSlots, IsAnchors, IsPasses, OpeningEnds}
 use Rattle.store_rule.specs.declared.store.Pass.{Pass}
 use Rattle.store_rule.specs.declared.store.Store.{Store}

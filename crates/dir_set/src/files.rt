@@ -14,7 +14,7 @@ ghost use Rattle.rock_disk.specs.Cell.{shape};
 ghost use Rattle.rock_disk.specs.File.{Files, HasSlots};
 ghost use Rattle.rock_disk.specs.Opened.{IsSmall};
 ghost use Rattle.rock_disk.specs.declared.cell.TheConstants.{HEADER_NUMBER};
-ghost use Rattle.rock_open.specs.Device.{EachEnded, NoneFailed, OneStation, counts};
+ghost use Rattle.rock_disk.specs.Counts.{EachEnded, NoneFailed, OneStation, counts};
 ghost use Rattle.rock_open.specs.Opening.{FileSays, IsAnchors, IsPasses, OpeningEnds, OpensStore};
 ghost use Rattle.store_rule.specs.Passes.{basis};
 ghost use Rattle.store_rule.specs.declared.store.Pass.{Pass as PassOf};
@@ -23,13 +23,14 @@ ghost use Rattle.store_rule.specs.declared.store.Store.{Store as StoreOf};
 use crate::dirs::{DirPass, Dirs};
 use crate::fault::DirFault;
 use crate::parts::{DirHome, Parts, gather};
+use pass_laws::new_passes_rest;
 use rock_disk::{Cell, Volume, opened_cells_are_the_files, opened_slots_are_wide_and_few};
 use rock_io::Words;
 use rock_open::{
     OpenStore, OpenStoreFault, close_store, closed_cells_may_be_given_back, open_store,
 };
 use std::alloc::Global;
-use store_rule::{Origin, Pass, Store, new_passes_rest};
+use store_rule::{Origin, Pass, Store};
 
 /// A cache whose files are open.
 #[derive(Drop)]
@@ -66,14 +67,14 @@ pub fn open_dirs<V: Volume, O: Origin>(
     ensures opened { IfOk result (λ o. OpensDirs V.tells V.C.tells V.C.state O.offers (V.files volume.old) (V.files volume.new)
         slot anchors passes names.now origins.items o.dirs o.passes.items o.homes.items) }
     ensures stations { OnOk result (HaveOpened (length names.now)
-        (counts (V.faults volume.old) (V.made volume.old) (V.ended volume.old))
-        (counts (V.faults volume.new) (V.made volume.new) (V.ended volume.new))) }
+        (counts V.faults V.made V.ended volume.old)
+        (counts V.faults V.made V.ended volume.new)) }
 
     // When each refusal comes: only where its cause stands, by the numbers, the counts and the file;
     ensures there { IfErr result (λ r. r.dir < length names.now) }
     ensures refused { IfErr result (DirsEnd slot anchors passes
-        (counts (V.faults volume.old) (V.made volume.old) (V.ended volume.old))
-        (counts (V.faults volume.new) (V.made volume.new) (V.ended volume.new))) }
+        (counts V.faults V.made V.ended volume.old)
+        (counts V.faults V.made V.ended volume.new)) }
     ensures says { IsTrue V.tells → IfErr result (λ r. (name : List ℕ) → slice_get names.now r.dir ≡ Some name
         → FileSays (V.files volume.old) name slot anchors r.fault) }
 
@@ -197,13 +198,13 @@ fn open_first<V: Volume, O: Origin>(
     requires home { IsTrue V.tells → AreHome (V.files volume.old) names.now }
     ensures open { IfOk result (AreOpen V.tells V.C.tells V.C.state O.offers (V.files volume.old) (V.files volume.new) slot anchors passes names.now origins.old.items 1) }
     ensures stations { OnOk result (HaveOpened 1
-        (counts (V.faults volume.old) (V.made volume.old) (V.ended volume.old))
-        (counts (V.faults volume.new) (V.made volume.new) (V.ended volume.new))) }
+        (counts V.faults V.made V.ended volume.old)
+        (counts V.faults V.made V.ended volume.new)) }
     ensures size { OnOk result (IsSlotSize slot × IsPasses passes) }
     ensures refused { IfErr result (λ fault. (name : List ℕ) (origin : O) → slice_get names.now 0 ≡ Some name → slice_get origins.old.items 0 ≡ Some origin
         → IsRefused V.tells (V.files volume.old)
-        (counts (V.faults volume.old) (V.made volume.old) (V.ended volume.old))
-        (counts (V.faults volume.new) (V.made volume.new) (V.ended volume.new)) slot anchors passes name fault
+        (counts V.faults V.made V.ended volume.old)
+        (counts V.faults V.made V.ended volume.new) slot anchors passes name fault
         × ((IsTrue V.tells → KeepsFile slot name (V.files volume.old) (V.files volume.new))
         ⊎ ((fault ≡ OpenStoreFault.Memory) × ClosesAgain V.tells V.C.tells V.C.state O.offers (V.files volume.old) (V.files volume.new) slot anchors passes name origin))) }
     ensures others { OnErr result (IsTrue V.tells → (name : List ℕ) → (slice_get names.now 0 ≡ Some name) ⊎ (get (V.files volume.new) name ≡ get (V.files volume.old) name)) }

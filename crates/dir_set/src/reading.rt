@@ -9,6 +9,7 @@ ghost use Rattle.rock_reader.specs.Reading.{Gave, MayRead, ReadsAs, Standing};
 ghost use Rattle.rock_reader.specs.Wanted.{FollowsReader};
 ghost use Rattle.slice_chain.specs.Freeing.{FollowsTab};
 ghost use Rattle.store_rule.specs.Passes.{basis, view};
+ghost use Rattle.store_rule.specs.Quiet.{Quiet};
 
 use crate::dirs::{DirPass, Dirs};
 use rock_disk::{Cell, Station};
@@ -32,6 +33,7 @@ pub fn dir_more<R: Wait, C: Cell, O: Origin, St: Station<C = C>>(
     requires may { AtPass dirs.now pass.old (dir_of pass.old tab) (λ s p. MayRead C.tells C.state O.offers s p tab (length out.old)) }
     ensures gave { AtDir dirs.now pass.old pass.new (dir_of pass.old tab) (λ s p q. (e : Standing) → ReadsAs C.tells C.state O.offers s p tab e → Gave C.tells C.state O.offers s tab p e out.old out.new q result) }
     ensures others { AtDir dirs.now pass.old pass.new (dir_of pass.old tab) (λ s p q. FollowsReader C.tells C.state O.offers s tab p q) }
+    ensures quiet { AtDir dirs.now pass.old pass.new (dir_of pass.old tab) (λ s p q. Quiet (view p) (view q)) }
     ensures inner { AtDir dirs.now pass.old pass.new (dir_of pass.old tab) (λ s p q. tab_at (view q) inner ≡ tab_at (view p) inner) }
     ensures length { length out.new ≡ length out.old }
     ensures only { OnlyDir (dir_of pass.old tab) pass.old pass.new }
@@ -59,6 +61,7 @@ pub fn dir_close<C: Cell, O: Origin>(dirs: &Dirs<C, O>, pass: &mut DirPass<C>, t
     ensures parted { AtDir dirs.now pass.old pass.new (dir_of pass.old tab) (λ s p q. Parted (basis C.tells C.state O.offers s) tab (view p) (view q)) }
     ensures free { AtDir dirs.now pass.old pass.new (dir_of pass.old tab) (λ s p q. (view q).tabs ≡ with_tab (view p) tab Free) }
     ensures others { AtDir dirs.now pass.old pass.new (dir_of pass.old tab) (λ s p q. FollowsTab C.tells C.state O.offers s tab p q) }
+    ensures quiet { AtDir dirs.now pass.old pass.new (dir_of pass.old tab) (λ s p q. Quiet (view p) (view q)) }
     ensures only { OnlyDir (dir_of pass.old tab) pass.old pass.new }
     ensures own { IsDirPass C.tells C.state O.offers dirs.now pass.new }
 {

@@ -10,6 +10,7 @@ ghost use Rattle.rock_writer.specs.Halting.{Halts};
 ghost use Rattle.rock_writer.specs.Passes.{FollowsWriting};
 ghost use Rattle.slice_chain.specs.Freeing.{FollowsTab};
 ghost use Rattle.store_rule.specs.Passes.{basis, view};
+ghost use Rattle.store_rule.specs.Quiet.{Quiet};
 
 use crate::dirs::{DirPass, Dirs};
 use rock_disk::{Cell, Station};
@@ -39,6 +40,7 @@ pub fn dir_append<C: Cell, O: Origin, St: Station<C = C>>(
     ensures within { IfOk result (λ count. count ≤ length bytes.now) }
     ensures err { AtDir dirs.now pass.old pass.new (dir_of pass.old tab) (λ s p q. (e : Entry) → MayAppend C.tells C.state O.offers s tab e bytes.now p → IfErr result (λ fault. NotAppended C.tells C.state O.offers s tab e bytes.now p q fault)) }
     ensures others { AtDir dirs.now pass.old pass.new (dir_of pass.old tab) (λ s p q. FollowsWriting C.tells C.state O.offers s tab p q) }
+    ensures quiet { AtDir dirs.now pass.old pass.new (dir_of pass.old tab) (λ s p q. Quiet (view p) (view q)) }
     ensures only { OnlyDir (dir_of pass.old tab) pass.old pass.new }
     ensures own { IsDirPass C.tells C.state O.offers dirs.now pass.new }
     ensures unfailed { (IsErrOf result WriteFault.Fault → ⊥) → AtItem stations.old stations.new (dir_of pass.old tab) (λ x y. St.faults y ≡ St.faults x) }
@@ -74,6 +76,7 @@ pub fn dir_finish<C: Cell, O: Origin, St: Station<C = C>>(
     ensures durable { AtDir dirs.now pass.old pass.new (dir_of pass.old tab) (λ s p q. (e : Entry) → MayFinish C.tells C.state O.offers s tab e p → e.is_durable ≡ true → LoggedSoFar (basis C.tells C.state O.offers s) e (view p) → OnOk result (ClosedDurably (basis C.tells C.state O.offers s) tab e (view q))) }
     ensures err { AtDir dirs.now pass.old pass.new (dir_of pass.old tab) (λ s p q. (e : Entry) → MayFinish C.tells C.state O.offers s tab e p → IfErr result (λ fault. NotFinished C.tells C.state O.offers s tab e p q fault)) }
     ensures others { AtDir dirs.now pass.old pass.new (dir_of pass.old tab) (λ s p q. FollowsWriting C.tells C.state O.offers s tab p q) }
+    ensures quiet { AtDir dirs.now pass.old pass.new (dir_of pass.old tab) (λ s p q. Quiet (view p) (view q)) }
     ensures only { OnlyDir (dir_of pass.old tab) pass.old pass.new }
     ensures own { IsDirPass C.tells C.state O.offers dirs.now pass.new }
     ensures unfailed { (IsErrOf result WriteFault.Fault → ⊥) → AtItem stations.old stations.new (dir_of pass.old tab) (λ x y. St.faults y ≡ St.faults x) }
@@ -96,6 +99,7 @@ pub fn dir_abort<C: Cell, O: Origin>(dirs: &Dirs<C, O>, pass: &mut DirPass<C>, t
     requires may { AtPass dirs.now pass.old (dir_of pass.old tab) (λ s p. (e : Entry) × WritesAs C.tells C.state O.offers s p tab e) }
     ensures halts { AtDir dirs.now pass.old pass.new (dir_of pass.old tab) (λ s p q. Halts (basis C.tells C.state O.offers s) tab (view p) (view q)) }
     ensures others { AtDir dirs.now pass.old pass.new (dir_of pass.old tab) (λ s p q. FollowsTab C.tells C.state O.offers s tab p q) }
+    ensures quiet { AtDir dirs.now pass.old pass.new (dir_of pass.old tab) (λ s p q. Quiet (view p) (view q)) }
     ensures only { OnlyDir (dir_of pass.old tab) pass.old pass.new }
     ensures own { IsDirPass C.tells C.state O.offers dirs.now pass.new }
 {

@@ -1,5 +1,5 @@
 -- A file that is opened, whose header area is written, and that is given back.
-use Rattle.std.proofs.Common.{◌≡◌, ◌⊎◌, inl, inr, ◌+◌, ◌*◌, ◌-◌, ◌≤◌, ◌++◌, [], ◌∷◌, ℕ, List, length, length-append, take, drop, arith, Bool, cond, true, false, refl, ap, sym, ◌∙◌, subst, Some}
+use Rattle.std.proofs.Common.{◌≡◌, ◌⊎◌, inl, inr, ◌+◌, ◌*◌, ◌≤◌, ◌++◌, [], ◌∷◌, ℕ, List, length, length-append, take, drop, arith, Bool, cond, true, false, refl, ap, sym, ◌∙◌, subst, Some}
 use Rattle.std.specs.Prelude.{Contains, Err, IfErr, IsErrOf, Ok, OnErr, OnOk, Option, Result}
 use Rattle.std.proofs.lemmas.List.{length-drop, take_at}
 use Rattle.std.proofs.lemmas.List.Elements.{All-cons, All-contains, All-nil}
@@ -14,6 +14,7 @@ use Rattle.db_layout.specs.Geometry.{header_of}
 use Rattle.db_layout.specs.Layout.{slots_of}
 use Rattle.db_layout.specs.declared.geometry.Geometry.{Geometry}
 use Rattle.rock_disk.specs.Cell.{CellState, settle, settled, shape}
+use Rattle.rock_disk.specs.Counts.{Counts}
 use Rattle.rock_disk.specs.File.{File, Files, IsKept, bytes_of, cut, rest_cut, slots_cut, slots_from}
 use Rattle.rock_disk.specs.File.File.{Home, Away}
 use Rattle.rock_disk.specs.Opened.{HasShape, IsOpened}
@@ -143,22 +144,22 @@ short_open opening.Failed s bytes h told = cc
 short_open opening.Memory s bytes h told = cc
 
 -- how the writing of an opened file's header area may be refused
-pub station_says : (v v' : ℕ) (e e' : List ℕ) (files : Files) (name : List ℕ) (slot : ℕ) (r : Result (Unit {0}) Status) → IfErr r (OpenedEnds AnyCount 0 v v' e e') → IfErr r (ReadSays AnyCount files name slot)
-station_says v v' e e' files name slot (Ok x) k = tt
-station_says v v' e e' files name slot (Err Done) k = absurd k
-station_says v v' e e' files name slot (Err Usage) k = absurd k
-station_says v v' e e' files name slot (Err Memory) k = tt
-station_says v v' e e' files name slot (Err SourceFault) k = absurd k
-station_says v v' e e' files name slot (Err SinkFault) k = absurd k
-station_says v v' e e' files name slot (Err DeviceFault) k = tt
-station_says v v' e e' files name slot (Err (BadScript line cause)) k = absurd k
-station_says v v' e e' files name slot (Err Missing) k = absurd k
-station_says v v' e e' files name slot (Err (Small bytes)) k = absurd k
-station_says v v' e e' files name slot (Err (BadGeometry field)) k = absurd (k.1 tt)
-station_says v v' e e' files name slot (Err Exists) k = absurd k
+pub station_says : (c c' : Counts) (files : Files) (name : List ℕ) (slot : ℕ) (r : Result (Unit {0}) Status) → IfErr r (OpenedEnds AnyCount 0 c c') → IfErr r (ReadSays AnyCount files name slot)
+station_says c c' files name slot (Ok x) k = tt
+station_says c c' files name slot (Err Done) k = absurd k
+station_says c c' files name slot (Err Usage) k = absurd k
+station_says c c' files name slot (Err Memory) k = tt
+station_says c c' files name slot (Err SourceFault) k = absurd k
+station_says c c' files name slot (Err SinkFault) k = absurd k
+station_says c c' files name slot (Err DeviceFault) k = tt
+station_says c c' files name slot (Err (BadScript line cause)) k = absurd k
+station_says c c' files name slot (Err Missing) k = absurd k
+station_says c c' files name slot (Err (Small bytes)) k = absurd k
+station_says c c' files name slot (Err (BadGeometry field)) k = absurd (k.1 tt)
+station_says c c' files name slot (Err Exists) k = absurd k
 
-pub station_not_short : {A : Type 0} (v v' : ℕ) (e e' : List ℕ) (bytes : ℕ) (r : Result (Unit {0}) Status) → IfErr r (OpenedEnds AnyCount 0 v v' e e') → IsErrOf r (Small bytes) → A
-station_not_short v v' e e' bytes r k told = absurd (subst (λ (q : Result (Unit {0}) Status). IfErr q (OpenedEnds AnyCount 0 v v' e e')) told k)
+pub station_not_short : {A : Type 0} (c c' : Counts) (bytes : ℕ) (r : Result (Unit {0}) Status) → IfErr r (OpenedEnds AnyCount 0 c c') → IsErrOf r (Small bytes) → A
+station_not_short c c' bytes r k told = absurd (subst (λ (q : Result (Unit {0}) Status). IfErr q (OpenedEnds AnyCount 0 c c')) told k)
 
 module _ {before after now final : Files} {name : List ℕ} {bytes : ℕ} {header : CellState} {cells : List CellState} (g : Geometry) (o : IsOpened before after name g.slot bytes header cells) (has : HasShape g.slot bytes header cells) (whole : length (header_of g) ≡ 16384)
     (away : get after name ≡ Some (Away (slots_of bytes g.slot) g.slot (rest_cut g.slot (bytes_of o.was)))) (same : now ≡ after) (header_now : CellState)
@@ -191,20 +192,20 @@ module _ {before after now final : Files} {name : List ℕ} {bytes : ℕ} {heade
   back_either (Ok x) t shaped settled left = maybe_recorded (holds_new (take 16384 (bytes_of o.was)) (header_of g) header header_now has.header_shape (settled t))
   back_either (Err status) t shaped settled left = maybe_recorded (holds_left (take 16384 (bytes_of o.was)) (header_of g) header header_now status its_header shaped (left t))
 
-  pub back_left : {U : Type 0} (v v' : ℕ) (e e' : List ℕ) (r : Result (Unit {0}) Status) → U → shape header_now ≡ shape header → OnOk r (U → header_now ≡ settled header.number header.width (header_of g))
-      → IfErr r (λ (status : Status). U → HeaderLeft (header_of g) header header_now status) → IfErr r (OpenedEnds AnyCount 0 v v' e e') → IfErr r (RecordLeaves g name before final)
-  back_left v v' e e' (Ok x) t shaped settled left k = tt
-  back_left v v' e e' (Err Done) t shaped settled left k = absurd k
-  back_left v v' e e' (Err Usage) t shaped settled left k = absurd k
-  back_left v v' e e' (Err Memory) t shaped settled left k = back_kept (left t)
-  back_left v v' e e' (Err SourceFault) t shaped settled left k = absurd k
-  back_left v v' e e' (Err SinkFault) t shaped settled left k = absurd k
-  back_left v v' e e' (Err DeviceFault) t shaped settled left k = inr (back_either (Err DeviceFault) t shaped settled left)
-  back_left v v' e e' (Err (BadScript line cause)) t shaped settled left k = absurd k
-  back_left v v' e e' (Err Missing) t shaped settled left k = absurd k
-  back_left v v' e e' (Err (Small bytes)) t shaped settled left k = absurd k
-  back_left v v' e e' (Err (BadGeometry field)) t shaped settled left k = absurd (k.1 tt)
-  back_left v v' e e' (Err Exists) t shaped settled left k = absurd k
+  pub back_left : {U : Type 0} (c c' : Counts) (r : Result (Unit {0}) Status) → U → shape header_now ≡ shape header → OnOk r (U → header_now ≡ settled header.number header.width (header_of g))
+      → IfErr r (λ (status : Status). U → HeaderLeft (header_of g) header header_now status) → IfErr r (OpenedEnds AnyCount 0 c c') → IfErr r (RecordLeaves g name before final)
+  back_left c c' (Ok x) t shaped settled left k = tt
+  back_left c c' (Err Done) t shaped settled left k = absurd k
+  back_left c c' (Err Usage) t shaped settled left k = absurd k
+  back_left c c' (Err Memory) t shaped settled left k = back_kept (left t)
+  back_left c c' (Err SourceFault) t shaped settled left k = absurd k
+  back_left c c' (Err SinkFault) t shaped settled left k = absurd k
+  back_left c c' (Err DeviceFault) t shaped settled left k = inr (back_either (Err DeviceFault) t shaped settled left)
+  back_left c c' (Err (BadScript line cause)) t shaped settled left k = absurd k
+  back_left c c' (Err Missing) t shaped settled left k = absurd k
+  back_left c c' (Err (Small bytes)) t shaped settled left k = absurd k
+  back_left c c' (Err (BadGeometry field)) t shaped settled left k = absurd (k.1 tt)
+  back_left c c' (Err Exists) t shaped settled left k = absurd k
 
 -- what holds of a refusal wherever the volume tells
 pub left_by : {T : Type 0} (P : Status → Type 0) (r : Result (Unit {0}) Status) → (T → IfErr r P) → IfErr r (λ (status : Status). T → P status)

@@ -5,6 +5,7 @@ use Rattle.std.proofs.lemmas.List.{drop-replicate, length-replicate, take-replic
 use Rattle.std.specs.FinMap.{get, insert}
 use Rattle.db_layout.specs.Geometry.{header_of}
 use Rattle.db_layout.specs.Layout.{file_size}
+use Rattle.rock_disk.specs.Counts.{Counts}
 use Rattle.rock_disk.specs.Created.{IsCreated, IsMaybeCreated}
 use Rattle.rock_disk.specs.File.{File, Files, IsKept, IsNotAway, bytes_of, cut, uncut, zeros}
 use Rattle.rock_disk.specs.Opened.{IsSmall}
@@ -92,45 +93,45 @@ module _ (slot slots : ℕ) (name : List ℕ) (before made : Files) (is : IsCrea
   maybe_made after made_so = maybe_inserted after (cut slot (made_bytes slot slots)) tt made_so
 
   -- nothing but this file is another, where its slots were not recorded
-  pub unrecorded_maybe : (v v' : ℕ) (e e' : List ℕ) (after : Files) (status : Status) → ReadEnds AnyCount v v' e e' status → RecordLeaves (geometry_of slot slots) name made after status → IsMaybeCreated before after name
-  unrecorded_maybe v v' e e' after Done k left = absurd k
-  unrecorded_maybe v v' e e' after Usage k left = absurd k
-  unrecorded_maybe v v' e e' after Memory k (inl same) = maybe_left after (inl same)
-  unrecorded_maybe v v' e e' after Memory k (inr kept) = maybe_inserted after (cut slot (bytes_of kept.0)) tt (put_over after (cut slot (bytes_of kept.0)) kept.2)
-  unrecorded_maybe v v' e e' after SourceFault k left = absurd k
-  unrecorded_maybe v v' e e' after SinkFault k left = absurd k
-  unrecorded_maybe v v' e e' after DeviceFault k left = maybe_left after left
-  unrecorded_maybe v v' e e' after (BadScript line cause) k left = absurd k
-  unrecorded_maybe v v' e e' after Missing k left = maybe_left after (inl left)
-  unrecorded_maybe v v' e e' after (Small bytes) k left = maybe_left after (inl left)
-  unrecorded_maybe v v' e e' after (BadGeometry field) k left = absurd (k.1.1 tt)
-  unrecorded_maybe v v' e e' after Exists k left = absurd k
+  pub unrecorded_maybe : (c c' : Counts) (after : Files) (status : Status) → ReadEnds AnyCount c c' status → RecordLeaves (geometry_of slot slots) name made after status → IsMaybeCreated before after name
+  unrecorded_maybe c c' after Done k left = absurd k
+  unrecorded_maybe c c' after Usage k left = absurd k
+  unrecorded_maybe c c' after Memory k (inl same) = maybe_left after (inl same)
+  unrecorded_maybe c c' after Memory k (inr kept) = maybe_inserted after (cut slot (bytes_of kept.0)) tt (put_over after (cut slot (bytes_of kept.0)) kept.2)
+  unrecorded_maybe c c' after SourceFault k left = absurd k
+  unrecorded_maybe c c' after SinkFault k left = absurd k
+  unrecorded_maybe c c' after DeviceFault k left = maybe_left after left
+  unrecorded_maybe c c' after (BadScript line cause) k left = absurd k
+  unrecorded_maybe c c' after Missing k left = maybe_left after (inl left)
+  unrecorded_maybe c c' after (Small bytes) k left = maybe_left after (inl left)
+  unrecorded_maybe c c' after (BadGeometry field) k left = absurd (k.1.1 tt)
+  unrecorded_maybe c c' after Exists k left = absurd k
 
 -- what is said and left where its slots were not recorded
-pub unrecorded_says : (slot slots v v' : ℕ) (e e' : List ℕ) (name : List ℕ) (before made : Files) (status : Status) → IsGeometry slot slots → IsCreated before made name (file_size slots slot)
-    → ReadEnds AnyCount v v' e e' status → ReadSays AnyCount made name slot status → CreateSays before name status
-unrecorded_says slot slots v v' e e' name before made Done may is k says = absurd k
-unrecorded_says slot slots v v' e e' name before made Usage may is k says = tt
-unrecorded_says slot slots v v' e e' name before made Memory may is k says = tt
-unrecorded_says slot slots v v' e e' name before made SourceFault may is k says = tt
-unrecorded_says slot slots v v' e e' name before made SinkFault may is k says = tt
-unrecorded_says slot slots v v' e e' name before made DeviceFault may is k says = tt
-unrecorded_says slot slots v v' e e' name before made (BadScript line cause) may is k says = tt
-unrecorded_says slot slots v v' e e' name before made Missing may is k says = absurd (not_missing slot slots name before made is says)
-unrecorded_says slot slots v v' e e' name before made (Small bytes) may is k says = absurd (not_small slot slots name before made is bytes may.count.from says)
-unrecorded_says slot slots v v' e e' name before made (BadGeometry field) may is k says = tt
-unrecorded_says slot slots v v' e e' name before made Exists may is k says = absurd k
+pub unrecorded_says : (slot slots : ℕ) (c c' : Counts) (name : List ℕ) (before made : Files) (status : Status) → IsGeometry slot slots → IsCreated before made name (file_size slots slot)
+    → ReadEnds AnyCount c c' status → ReadSays AnyCount made name slot status → CreateSays before name status
+unrecorded_says slot slots c c' name before made Done may is k says = absurd k
+unrecorded_says slot slots c c' name before made Usage may is k says = tt
+unrecorded_says slot slots c c' name before made Memory may is k says = tt
+unrecorded_says slot slots c c' name before made SourceFault may is k says = tt
+unrecorded_says slot slots c c' name before made SinkFault may is k says = tt
+unrecorded_says slot slots c c' name before made DeviceFault may is k says = tt
+unrecorded_says slot slots c c' name before made (BadScript line cause) may is k says = tt
+unrecorded_says slot slots c c' name before made Missing may is k says = absurd (not_missing slot slots name before made is says)
+unrecorded_says slot slots c c' name before made (Small bytes) may is k says = absurd (not_small slot slots name before made is bytes may.count.from says)
+unrecorded_says slot slots c c' name before made (BadGeometry field) may is k says = tt
+unrecorded_says slot slots c c' name before made Exists may is k says = absurd k
 
-pub unrecorded_leaves : (tells : Bool) (slot slots v v' : ℕ) (e e' : List ℕ) (name : List ℕ) (before made after : Files) (status : Status) → (IsTrue tells → IsCreated before made name (file_size slots slot))
-    → ReadEnds AnyCount v v' e e' status → (IsTrue tells → RecordLeaves (geometry_of slot slots) name made after status) → CreateLeaves tells slot slots name before after status
-unrecorded_leaves tells slot slots v v' e e' name before made after Done is k left = absurd k
-unrecorded_leaves tells slot slots v v' e e' name before made after Usage is k left = absurd k
-unrecorded_leaves tells slot slots v v' e e' name before made after Memory is k left = λ t. inr (made_blank slot slots name before made (is t) after (left t))
-unrecorded_leaves tells slot slots v v' e e' name before made after SourceFault is k left = absurd k
-unrecorded_leaves tells slot slots v v' e e' name before made after SinkFault is k left = absurd k
-unrecorded_leaves tells slot slots v v' e e' name before made after DeviceFault is k left = λ t. maybe_left slot slots name before made (is t) after (left t)
-unrecorded_leaves tells slot slots v v' e e' name before made after (BadScript line cause) is k left = absurd k
-unrecorded_leaves tells slot slots v v' e e' name before made after Missing is k left = tt
-unrecorded_leaves tells slot slots v v' e e' name before made after (Small bytes) is k left = tt
-unrecorded_leaves tells slot slots v v' e e' name before made after (BadGeometry field) is k left = absurd (k.1.1 tt)
-unrecorded_leaves tells slot slots v v' e e' name before made after Exists is k left = absurd k
+pub unrecorded_leaves : (tells : Bool) (slot slots : ℕ) (c c' : Counts) (name : List ℕ) (before made after : Files) (status : Status) → (IsTrue tells → IsCreated before made name (file_size slots slot))
+    → ReadEnds AnyCount c c' status → (IsTrue tells → RecordLeaves (geometry_of slot slots) name made after status) → CreateLeaves tells slot slots name before after status
+unrecorded_leaves tells slot slots c c' name before made after Done is k left = absurd k
+unrecorded_leaves tells slot slots c c' name before made after Usage is k left = absurd k
+unrecorded_leaves tells slot slots c c' name before made after Memory is k left = λ t. inr (made_blank slot slots name before made (is t) after (left t))
+unrecorded_leaves tells slot slots c c' name before made after SourceFault is k left = absurd k
+unrecorded_leaves tells slot slots c c' name before made after SinkFault is k left = absurd k
+unrecorded_leaves tells slot slots c c' name before made after DeviceFault is k left = λ t. maybe_left slot slots name before made (is t) after (left t)
+unrecorded_leaves tells slot slots c c' name before made after (BadScript line cause) is k left = absurd k
+unrecorded_leaves tells slot slots c c' name before made after Missing is k left = tt
+unrecorded_leaves tells slot slots c c' name before made after (Small bytes) is k left = tt
+unrecorded_leaves tells slot slots c c' name before made after (BadGeometry field) is k left = absurd (k.1.1 tt)
+unrecorded_leaves tells slot slots c c' name before made after Exists is k left = absurd k

@@ -1,23 +1,22 @@
 -- A file whose header area is looked at, and written where it records nothing.
-use Rattle.std.proofs.Common.{◌≡◌, ◌≢◌, ◌⊎◌, ⊎_elim, inl, inr, ℕ, List, Bool, ◌+◌, ◌<◌, ◌≤◌, length, take, arith, refl, ap, sym, ◌∙◌, subst, Some, None}
-use Rattle.std.specs.Prelude.{Err, IfErr, IsErrOf, IsTrue, Ok, Option, Result, ◌↔◌}
-use Rattle.std.specs.FinMap.{get, insert}
+use Rattle.std.proofs.Common.{◌≡◌, ◌≢◌, ◌⊎◌, ⊎_elim, inl, inr, ℕ, List, ◌+◌, ◌<◌, ◌≤◌, length, take, arith, refl, ap, sym, ◌∙◌, subst, Some, None}
+use Rattle.std.specs.Prelude.{Err, IsErrOf, Option, ◌↔◌}
+use Rattle.std.specs.FinMap.{get}
 use Rattle.db_layout.specs.Layout.{slots_of}
-use Rattle.db_layout.specs.Geometry.{IsMarked, Records}
 use Rattle.db_layout.specs.declared.geometry.Geometry.{Geometry}
 use Rattle.db_layout.proofs.Geometries.{one_geometry, recorded_is_marked}
 use Rattle.rock_io.specs.Faults.{Rose}
+use Rattle.rock_disk.specs.Counts.{Counts}
 use Rattle.rock_disk.specs.Created.{IsMaybeCreated}
 use Rattle.rock_disk.specs.File.{File, Files, HasSlots, IsKept, IsNotAway, NoneAway, bytes_of, cut}
 use Rattle.rock_disk.proofs.Out.{get_inserted}
 use Rattle.rock_disk.specs.Opened.{IsPeeked, IsSmall}
 use Rattle.slot_finding.specs.declared.finding.FindFault.{FindFault}
 use Rattle.slot_finding.specs.declared.finding.FindFault.TheVariants as finding
-use Rattle.slot_finding.specs.declared.finding.Looked.{Looked}
 use Rattle.slot_finding.specs.Faults.{OrFailed, status_of_find}
 use Rattle.slot_finding.specs.Finding.{FileRecords, FindsSlot, Fits, GivesSlot, HeaderSays}
 use Rattle.slot_finding.proofs.Causes.{found_long, found_there}
-use Rattle.file_commands.specs.Migrate.{IsMarkedFile, IsMigrated, IsUnmarkedFile, MayBeMigrated, MigrateLeaves, RecordsItself}
+use Rattle.file_commands.specs.Migrate.{IsMarkedFile, IsUnmarkedFile, MayBeMigrated, MigrateLeaves, RecordsItself}
 use Rattle.file_commands.specs.Recording.{IsRecorded, MayBeRecorded, RecordLeaves, geometry_of}
 use Rattle.file_commands.specs.Report.{AnyCount, ReadEnds, ReadSays}
 use Rattle.file_commands.proofs.HeaderWritten.{others_inserted}
@@ -129,18 +128,18 @@ module _ (slot : ℕ) (name : List ℕ) (before after : Files) (b : ℕ) (unmark
   }
 
   -- what is left where its slots were not recorded
-  pub leaves_refused : (v v' : ℕ) (e e' : List ℕ) (status : Status) → ReadEnds AnyCount v v' e e' status → RecordLeaves (geometry_of slot (slots_of b slot)) name before after status → MigrateLeaves slot name before after status
-  leaves_refused v v' e e' Done k left = absurd k
-  leaves_refused v v' e e' Usage k left = absurd k
-  leaves_refused v v' e e' Memory k left = leaves_kept slot name before after Memory (λ e. cc) (λ e. cc) left
-  leaves_refused v v' e e' SourceFault k left = absurd k
-  leaves_refused v v' e e' SinkFault k left = absurd k
-  leaves_refused v v' e e' DeviceFault k left = leaves_failed left
-  leaves_refused v v' e e' (BadScript line cause) k left = absurd k
-  leaves_refused v v' e e' Missing k left = leaves_kept slot name before after Missing (λ e. cc) (λ e. cc) (inl left)
-  leaves_refused v v' e e' (Small bytes) k left = leaves_kept slot name before after (Small bytes) (λ e. cc) (λ e. cc) (inl left)
-  leaves_refused v v' e e' (BadGeometry field) k left = absurd (k.1.1 tt)
-  leaves_refused v v' e e' Exists k left = absurd k
+  pub leaves_refused : (c c' : Counts) (status : Status) → ReadEnds AnyCount c c' status → RecordLeaves (geometry_of slot (slots_of b slot)) name before after status → MigrateLeaves slot name before after status
+  leaves_refused c c' Done k left = absurd k
+  leaves_refused c c' Usage k left = absurd k
+  leaves_refused c c' Memory k left = leaves_kept slot name before after Memory (λ e. cc) (λ e. cc) left
+  leaves_refused c c' SourceFault k left = absurd k
+  leaves_refused c c' SinkFault k left = absurd k
+  leaves_refused c c' DeviceFault k left = leaves_failed left
+  leaves_refused c c' (BadScript line cause) k left = absurd k
+  leaves_refused c c' Missing k left = leaves_kept slot name before after Missing (λ e. cc) (λ e. cc) (inl left)
+  leaves_refused c c' (Small bytes) k left = leaves_kept slot name before after (Small bytes) (λ e. cc) (λ e. cc) (inl left)
+  leaves_refused c c' (BadGeometry field) k left = absurd (k.1.1 tt)
+  leaves_refused c c' Exists k left = absurd k
 
 -- what is left where the line alone was not printed
 pub leaves_unprinted : (slot : ℕ) (name : List ℕ) (before after : Files) → MigrateLeaves slot name before after Done → MigrateLeaves slot name before after SinkFault
@@ -172,13 +171,13 @@ leaves_unfound slot name before after fault status is same = subst (MigrateLeave
 
 -- what a second look may meet
 module _ (files : Files) (name : List ℕ) (slot : ℕ) where
-  pub unseen_ends : {T : Type 0} (v v' : ℕ) (e e' : List ℕ) (fault : FindFault) (status : Status) → status ≡ status_of_find fault → ((n : ℕ) → IsErrOf {T = T} (Err fault) (finding.BadGeometry n) → ⊥)
-      → (IsErrOf {T = T} (Err fault) finding.Failed → Rose v v') → ReadEnds AnyCount v v' e e' status
-  unseen_ends v v' e e' finding.Missing status is fields failed = subst (ReadEnds AnyCount v v' e e') (sym is) tt
-  unseen_ends v v' e e' (finding.Small bytes) status is fields failed = subst (ReadEnds AnyCount v v' e e') (sym is) tt
-  unseen_ends v v' e e' (finding.BadGeometry field) status is fields failed = absurd (fields field refl)
-  unseen_ends v v' e e' finding.Failed status is fields failed = subst (ReadEnds AnyCount v v' e e') (sym is) (inl (failed refl))
-  unseen_ends v v' e e' finding.Memory status is fields failed = subst (ReadEnds AnyCount v v' e e') (sym is) tt
+  pub unseen_ends : {T : Type 0} (c c' : Counts) (fault : FindFault) (status : Status) → status ≡ status_of_find fault → ((n : ℕ) → IsErrOf {T = T} (Err fault) (finding.BadGeometry n) → ⊥)
+      → (IsErrOf {T = T} (Err fault) finding.Failed → Rose c.faults c'.faults) → ReadEnds AnyCount c c' status
+  unseen_ends c c' finding.Missing status is fields failed = subst (ReadEnds AnyCount c c') (sym is) tt
+  unseen_ends c c' (finding.Small bytes) status is fields failed = subst (ReadEnds AnyCount c c') (sym is) tt
+  unseen_ends c c' (finding.BadGeometry field) status is fields failed = absurd (fields field refl)
+  unseen_ends c c' finding.Failed status is fields failed = subst (ReadEnds AnyCount c c') (sym is) (inl (failed refl))
+  unseen_ends c c' finding.Memory status is fields failed = subst (ReadEnds AnyCount c c') (sym is) tt
 
   -- the look fails, or wants memory
   pub unseen_fails : {T : Type 0} (fault : FindFault) (due : Status) → FindsSlot files name (Some slot) slot → (IsErrOf {T = T} (Err fault) finding.Missing ↔ get files name ≡ None)

@@ -1,6 +1,7 @@
 -- A report of a file whose header area records its slots, where no slot size is given, is one for the size that is recorded.
 use Rattle.std.proofs.Common.{◌≡◌, ◌⊎◌, inl, inr, ℕ, List, Some, None}
 use Rattle.std.specs.Prelude.{Bool, IsTrue, Option}
+use Rattle.rock_disk.specs.Counts.{Counts}
 use Rattle.rock_disk.specs.File.{Files}
 use Rattle.slot_finding.specs.Finding.{FieldSays, FindsSlot, IsUnknown}
 use Rattle.slot_finding.proofs.Recorded.{field_given, kept_given, none_differs, recorded_size, small_given, unknown_given, with_given, without_given}
@@ -30,19 +31,19 @@ module _ {files : Files} {name : List ℕ} {slot : ℕ} (found : FindsSlot files
   unfit_given field says (inl unknown) = inl (unknown_given found field says unknown)
   unfit_given field says (inr unfit) = inr unfit
 
-  ends_given : (s s' v v' : ℕ) (e e' : List ℕ) (status : Status) → ReportSays Fits files name None status → ReportEnds Fits None s s' v v' e e' status → ReportEnds Fits (Some slot) s s' v v' e e' status
-  ends_given s s' v v' e e' Done says ends = recorded_size found
-  ends_given s s' v v' e e' Usage says ends = absurd ends
-  ends_given s s' v v' e e' Memory says ends = recorded_size found
-  ends_given s s' v v' e e' SourceFault says ends = absurd ends
-  ends_given s s' v v' e e' SinkFault says ends = (recorded_size found, ends.1)
-  ends_given s s' v v' e e' DeviceFault says ends = (recorded_size found, ends.1)
-  ends_given s s' v v' e e' (BadScript line cause) says ends = absurd ends
-  ends_given s s' v v' e e' Missing says ends = recorded_size found
-  ends_given s s' v v' e e' (Small bytes) says ends = recorded_size found
-  ends_given s s' v v' e e' (BadGeometry field) says (inl first) = absurd (first.1 tt)
-  ends_given s s' v v' e e' (BadGeometry field) says (inr other) = inr (recorded_size found, unfit_given field says other.1)
-  ends_given s s' v v' e e' Exists says ends = absurd ends
+  ends_given : (s s' : ℕ) (c c' : Counts) (status : Status) → ReportSays Fits files name None status → ReportEnds Fits None s s' c c' status → ReportEnds Fits (Some slot) s s' c c' status
+  ends_given s s' c c' Done says ends = recorded_size found
+  ends_given s s' c c' Usage says ends = absurd ends
+  ends_given s s' c c' Memory says ends = recorded_size found
+  ends_given s s' c c' SourceFault says ends = absurd ends
+  ends_given s s' c c' SinkFault says ends = (recorded_size found, ends.1)
+  ends_given s s' c c' DeviceFault says ends = (recorded_size found, ends.1)
+  ends_given s s' c c' (BadScript line cause) says ends = absurd ends
+  ends_given s s' c c' Missing says ends = recorded_size found
+  ends_given s s' c c' (Small bytes) says ends = recorded_size found
+  ends_given s s' c c' (BadGeometry field) says (inl first) = absurd (first.1 tt)
+  ends_given s s' c c' (BadGeometry field) says (inr other) = inr (recorded_size found, unfit_given field says other.1)
+  ends_given s s' c c' Exists says ends = absurd ends
 
   says_given : (status : Status) → ReportSays Fits files name None status → ReportSays Fits files name (Some slot) status
   says_given Done says = with_given found says
@@ -69,10 +70,10 @@ module _ {files : Files} {name : List ℕ} {slot : ℕ} (found : FindsSlot files
     unfit = λ t sized w. refused.unfit t tt (without_given found w);
   }
 
-  pub report_given : (tells sink_tells : Bool) (Shows : ℕ → List (List ℕ) → List ℕ → Type 0) (after : Files) (s s' v v' : ℕ) (e e' taken taken' : List ℕ) (status : Status) → IsTrue tells
-      → IsReport tells sink_tells Fits Shows files after name None s s' v v' e e' taken taken' status → IsReport tells sink_tells Fits Shows files after name (Some slot) s s' v v' e e' taken taken' status
-  report_given tells sink_tells Shows after s s' v v' e e' taken taken' status t report = record {
-    ends = ends_given s s' v v' e e' status (report.says t) report.ends;
+  pub report_given : (tells sink_tells : Bool) (Shows : ℕ → List (List ℕ) → List ℕ → Type 0) (after : Files) (s s' : ℕ) (c c' : Counts) (taken taken' : List ℕ) (status : Status) → IsTrue tells
+      → IsReport tells sink_tells Fits Shows files after name None s s' c c' taken taken' status → IsReport tells sink_tells Fits Shows files after name (Some slot) s s' c c' taken taken' status
+  report_given tells sink_tells Shows after s s' c c' taken taken' status t report = record {
+    ends = ends_given s s' c c' status (report.says t) report.ends;
     says = λ told. says_given status (report.says told);
     refused = refused_given tells status report.refused;
     prints = λ k. prints_as taken taken' status (λ text is told. with_given found (is told)) (report.prints k);

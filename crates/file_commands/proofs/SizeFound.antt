@@ -1,19 +1,17 @@
 -- A file whose slot size is found, or is not, and which is read then.
-use Rattle.std.proofs.Common.{◌≡◌, inl, inr, ℕ, List, ◌+◌, ◌++◌, ◌∷◌, [], length, arith, refl, ap, sym, ◌∙◌, subst, Some, None}
+use Rattle.std.proofs.Common.{◌≡◌, inl, inr, ℕ, List, length, arith, refl, ap, sym, ◌∙◌, subst, Some, None}
 use Rattle.std.specs.Prelude.{Bool, Err, IfErr, IsErrOf, IsTrue, Ok, Option, Result}
 use Rattle.std.specs.FinMap.{get}
-use Rattle.rock_io.specs.Faults.{Rose}
+use Rattle.rock_disk.specs.Counts.{Counts}
 use Rattle.rock_disk.specs.File.{File, Files, bytes_of}
 use Rattle.rock_disk.specs.Opened.{IsSmall}
 use Rattle.slot_finding.specs.declared.finding.FindFault.{FindFault}
 use Rattle.slot_finding.specs.declared.finding.FindFault.TheVariants as finding
 use Rattle.slot_finding.specs.Faults.{OrFailed, status_of_find}
-use Rattle.slot_finding.specs.Finding.{AnswersOrFails, FindingSays, FindsSlot, IsGiven, IsUnknown, RecordsMisfit, RecordsOther, TellsNoSlot, WithSlot}
+use Rattle.slot_finding.specs.Finding.{AnswersOrFails, FindingSays, FindsSlot, IsGiven, RecordsMisfit, RecordsOther, TellsNoSlot, WithSlot}
 use Rattle.slot_finding.proofs.Causes.{due_status, failed_status, found_agrees, found_fits, found_known, found_long, found_there, of_one, same_status as one_status, second_says, unknown_says}
-use Rattle.file_commands.specs.Device.{EndedOne}
-use Rattle.file_commands.specs.Report.{FoundEnds, HasSlots, IsFit, IsRefused, IsUnfit, ReadEnds, ReadSays, ReportSays}
+use Rattle.file_commands.specs.Report.{HasSlots, IsFit, IsRefused, IsUnfit, ReadEnds, ReadSays, ReportSays}
 use Rattle.file_commands.proofs.Kept.{one_count, one_file}
-use Rattle.file_commands.proofs.Telling.{failed_on}
 use Rattle.rock_status.specs.declared.status.Status.{Status}
 use Rattle.rock_status.specs.declared.status.Status.TheVariants.{Done, Usage, Memory, SourceFault, SinkFault, DeviceFault, BadScript, Missing, Small, BadGeometry, Exists}
 
@@ -29,14 +27,6 @@ pub fits_not : (Fits : ℕ → Type 0) (files : Files) (name : List ℕ) (slot :
 fits_not Fits files name slot unfit fit = unfit.2 (subst Fits (one_count files name slot fit.0 unfit.0 fit.1 unfit.1) fit.2)
 
 -- where no slot size was found
-pub unfound_ends : (Fits : ℕ → Type 0) (given : Option ℕ) (v v' : ℕ) (e e' : List ℕ) (fault : FindFault) (s : Status) → s ≡ status_of_find fault
-    → ((field : ℕ) → IsErrOf {T = ℕ} (Err fault) (finding.BadGeometry field) → IsUnknown given field) → (IsErrOf {T = ℕ} (Err fault) finding.Failed → Rose v v') → FoundEnds Fits given v v' e e' s
-unfound_ends Fits given v v' e e' finding.Missing s h fields failed = subst (FoundEnds Fits given v v' e e') (sym h) tt
-unfound_ends Fits given v v' e e' (finding.Small bytes) s h fields failed = subst (FoundEnds Fits given v v' e e') (sym h) tt
-unfound_ends Fits given v v' e e' (finding.BadGeometry field) s h fields failed = subst (FoundEnds Fits given v v' e e') (sym h) (inl (fields field refl))
-unfound_ends Fits given v v' e e' finding.Failed s h fields failed = subst (FoundEnds Fits given v v' e e') (sym h) (inl (failed refl))
-unfound_ends Fits given v v' e e' finding.Memory s h fields failed = subst (FoundEnds Fits given v v' e e') (sym h) tt
-
 pub unfound_says : (Fits : ℕ → Type 0) (files : Files) (name : List ℕ) (given : Option ℕ) (fault : FindFault) (s : Status) → s ≡ status_of_find fault → FindingSays files name given fault → ReportSays Fits files name given s
 unfound_says Fits files name given finding.Missing s h says = subst (ReportSays Fits files name given) (sym h) says
 unfound_says Fits files name given (finding.Small bytes) s h says = subst (ReportSays Fits files name given) (sym h) (inl says)
@@ -63,51 +53,21 @@ unfound_refused tells Fits files name given fault s h may complete no_file short
   unfit = λ t sized w. subst (OrFailed (BadGeometry 2)) (sym h) (failed_status (BadGeometry 2) w.0 fault (complete t w.0 w.1));
 }
 
--- what tells no fault of the disk met none
-pub not_failed_find : {T U : Type 0} (fault : FindFault) (s : Status) → s ≡ status_of_find fault → (IsErrOf {T = U} (Err s) DeviceFault → ⊥) → IsErrOf {T = T} (Err fault) finding.Failed → ⊥
-not_failed_find finding.Missing s h none failed = cc
-not_failed_find (finding.Small bytes) s h none failed = cc
-not_failed_find (finding.BadGeometry field) s h none failed = cc
-not_failed_find finding.Failed s h none failed = none (ap (λ f. Err f) h)
-not_failed_find finding.Memory s h none failed = cc
-
--- and a fault of the disk is told by nothing else
-pub failed_find : {T U : Type 0} (fault : FindFault) (s : Status) → s ≡ status_of_find fault → IsErrOf {T = U} (Err s) DeviceFault → IsErrOf {T = T} (Err fault) finding.Failed
-failed_find finding.Missing s h told = cc
-failed_find (finding.Small bytes) s h told = cc
-failed_find (finding.BadGeometry field) s h told = cc
-failed_find finding.Failed s h told = refl
-failed_find finding.Memory s h told = cc
-
 -- where one was found
-pub found_ends : {T : Type 0} (Fits : ℕ → Type 0) (given : Option ℕ) (v v1 v' : ℕ) (e e1 e' : List ℕ) (r : Result T Status) → v1 ≡ v → e1 ≡ e → IfErr r (ReadEnds Fits v1 v' e1 e') → IfErr r (FoundEnds Fits given v v' e e')
-found_ends Fits given v v1 v' e e1 e' (Ok x) p q k = tt
-found_ends Fits given v v1 v' e e1 e' (Err Done) p q k = absurd k
-found_ends Fits given v v1 v' e e1 e' (Err Usage) p q k = absurd k
-found_ends Fits given v v1 v' e e1 e' (Err Memory) p q k = tt
-found_ends Fits given v v1 v' e e1 e' (Err SourceFault) p q k = absurd k
-found_ends Fits given v v1 v' e e1 e' (Err SinkFault) p q k = absurd k
-found_ends Fits given v v1 v' e e1 e' (Err DeviceFault) p q k = failed_on v v1 v' v' e e1 e' e' p q refl refl k
-found_ends Fits given v v1 v' e e1 e' (Err (BadScript line cause)) p q k = absurd k
-found_ends Fits given v v1 v' e e1 e' (Err Missing) p q k = tt
-found_ends Fits given v v1 v' e e1 e' (Err (Small bytes)) p q k = tt
-found_ends Fits given v v1 v' e e1 e' (Err (BadGeometry field)) p q k = inr k
-found_ends Fits given v v1 v' e e1 e' (Err Exists) p q k = absurd k
-
-pub found_says : {T : Type 0} (Fits : ℕ → Type 0) (v v' : ℕ) (e e' : List ℕ) (files : Files) (name : List ℕ) (given : Option ℕ) (slot : ℕ) (r : Result T Status) → FindsSlot files name given slot
-    → IfErr r (ReadEnds Fits v v' e e') → IfErr r (ReadSays Fits files name slot) → IfErr r (ReportSays Fits files name given)
-found_says Fits v v' e e' files name given slot (Ok x) finds k says = tt
-found_says Fits v v' e e' files name given slot (Err Done) finds k says = absurd k
-found_says Fits v v' e e' files name given slot (Err Usage) finds k says = absurd k
-found_says Fits v v' e e' files name given slot (Err Memory) finds k says = tt
-found_says Fits v v' e e' files name given slot (Err SourceFault) finds k says = absurd k
-found_says Fits v v' e e' files name given slot (Err SinkFault) finds k says = absurd k
-found_says Fits v v' e e' files name given slot (Err DeviceFault) finds k says = tt
-found_says Fits v v' e e' files name given slot (Err (BadScript line cause)) finds k says = absurd k
-found_says Fits v v' e e' files name given slot (Err Missing) finds k says = says
-found_says Fits v v' e e' files name given slot (Err (Small bytes)) finds k says = inr (slot, finds, says)
-found_says Fits v v' e e' files name given slot (Err (BadGeometry field)) finds k says = second_says field k.0 (slot, finds, says k.0)
-found_says Fits v v' e e' files name given slot (Err Exists) finds k says = absurd k
+pub found_says : {T : Type 0} (Fits : ℕ → Type 0) (c c' : Counts) (files : Files) (name : List ℕ) (given : Option ℕ) (slot : ℕ) (r : Result T Status) → FindsSlot files name given slot
+    → IfErr r (ReadEnds Fits c c') → IfErr r (ReadSays Fits files name slot) → IfErr r (ReportSays Fits files name given)
+found_says Fits c c' files name given slot (Ok x) finds k says = tt
+found_says Fits c c' files name given slot (Err Done) finds k says = absurd k
+found_says Fits c c' files name given slot (Err Usage) finds k says = absurd k
+found_says Fits c c' files name given slot (Err Memory) finds k says = tt
+found_says Fits c c' files name given slot (Err SourceFault) finds k says = absurd k
+found_says Fits c c' files name given slot (Err SinkFault) finds k says = absurd k
+found_says Fits c c' files name given slot (Err DeviceFault) finds k says = tt
+found_says Fits c c' files name given slot (Err (BadScript line cause)) finds k says = absurd k
+found_says Fits c c' files name given slot (Err Missing) finds k says = says
+found_says Fits c c' files name given slot (Err (Small bytes)) finds k says = inr (slot, finds, says)
+found_says Fits c c' files name given slot (Err (BadGeometry field)) finds k says = second_says field k.0 (slot, finds, says k.0)
+found_says Fits c c' files name given slot (Err Exists) finds k says = absurd k
 
 -- a status that is due comes
 pub due_err : {T : Type 0} (r : Result T Status) (due : Status) → IsErrOf r due → IfErr r (OrFailed due)
@@ -115,25 +75,25 @@ due_err (Ok x) due is = tt
 due_err (Err status) due is = let same : status ≡ due = cc in inl same
 
 -- where the number of slots does not fit, it is refused, unless the disk failed or memory was wanting
-sized_unfit : (Fits : ℕ → Type 0) (v v' : ℕ) (e e' : List ℕ) (files : Files) (name : List ℕ) (slot : ℕ) (status : Status) → ReadEnds Fits v v' e e' status → ReadSays Fits files name slot status → IsUnfit Fits files name slot
+sized_unfit : (Fits : ℕ → Type 0) (c c' : Counts) (files : Files) (name : List ℕ) (slot : ℕ) (status : Status) → ReadEnds Fits c c' status → ReadSays Fits files name slot status → IsUnfit Fits files name slot
     → OrFailed (BadGeometry 2) status
-sized_unfit Fits v v' e e' files name slot Done k says unfit = absurd k
-sized_unfit Fits v v' e e' files name slot Usage k says unfit = absurd k
-sized_unfit Fits v v' e e' files name slot Memory k says unfit = inr (inr refl)
-sized_unfit Fits v v' e e' files name slot SourceFault k says unfit = absurd k
-sized_unfit Fits v v' e e' files name slot SinkFault k says unfit = absurd k
-sized_unfit Fits v v' e e' files name slot DeviceFault k says unfit = inr (inl refl)
-sized_unfit Fits v v' e e' files name slot (BadScript line cause) k says unfit = absurd k
-sized_unfit Fits v v' e e' files name slot Missing k says unfit = absurd (lacks_no_file says unfit.1.there)
-sized_unfit Fits v v' e e' files name slot (Small bytes) k says unfit = absurd (not_short files name slot unfit.0 bytes unfit.1 says)
-sized_unfit Fits v v' e e' files name slot (BadGeometry field) k says unfit = inl (ap BadGeometry k.0)
-sized_unfit Fits v v' e e' files name slot Exists k says unfit = absurd k
+sized_unfit Fits c c' files name slot Done k says unfit = absurd k
+sized_unfit Fits c c' files name slot Usage k says unfit = absurd k
+sized_unfit Fits c c' files name slot Memory k says unfit = inr (inr refl)
+sized_unfit Fits c c' files name slot SourceFault k says unfit = absurd k
+sized_unfit Fits c c' files name slot SinkFault k says unfit = absurd k
+sized_unfit Fits c c' files name slot DeviceFault k says unfit = inr (inl refl)
+sized_unfit Fits c c' files name slot (BadScript line cause) k says unfit = absurd k
+sized_unfit Fits c c' files name slot Missing k says unfit = absurd (lacks_no_file says unfit.1.there)
+sized_unfit Fits c c' files name slot (Small bytes) k says unfit = absurd (not_short files name slot unfit.0 bytes unfit.1 says)
+sized_unfit Fits c c' files name slot (BadGeometry field) k says unfit = inl (ap BadGeometry k.0)
+sized_unfit Fits c c' files name slot Exists k says unfit = absurd k
 
-pub found_refused : {T : Type 0} (tells : Bool) (Fits : ℕ → Type 0) (v v' : ℕ) (e e' : List ℕ) (files : Files) (name : List ℕ) (given : Option ℕ) (slot : ℕ) (r : Result T Status) → IsGiven given → (IsTrue tells → FindsSlot files name given slot)
-    → IfErr r (ReadEnds Fits v v' e e') → (IsTrue tells → IfErr r (ReadSays Fits files name slot)) → (IsTrue tells → (bytes : ℕ) → IsSmall files name slot bytes → IfErr r (OrFailed (Small bytes)))
+pub found_refused : {T : Type 0} (tells : Bool) (Fits : ℕ → Type 0) (c c' : Counts) (files : Files) (name : List ℕ) (given : Option ℕ) (slot : ℕ) (r : Result T Status) → IsGiven given → (IsTrue tells → FindsSlot files name given slot)
+    → IfErr r (ReadEnds Fits c c') → (IsTrue tells → IfErr r (ReadSays Fits files name slot)) → (IsTrue tells → (bytes : ℕ) → IsSmall files name slot bytes → IfErr r (OrFailed (Small bytes)))
     → IfErr r (IsRefused tells Fits files name given)
-found_refused tells Fits v v' e e' files name given slot (Ok x) may finds ends says short = tt
-found_refused tells Fits v v' e e' files name given slot (Err status) may finds ends says short = record {
+found_refused tells Fits c c' files name given slot (Ok x) may finds ends says short = tt
+found_refused tells Fits c c' files name given slot (Err status) may finds ends says short = record {
   geometry = λ not. absurd (not may);
   missing = λ t sized none. absurd (found_there files name given slot (finds t) none);
   small = λ bytes t sized is. absurd (found_long files name given slot bytes (finds t) is);
@@ -141,7 +101,7 @@ found_refused tells Fits v v' e e' files name given slot (Err status) may finds 
   differs = λ t sized m. absurd (found_agrees files name given slot (finds t) m);
   unknown = λ t m. absurd (found_known files name given slot (finds t) m);
   short = λ bytes t sized w. short t bytes (of_one files name given slot (finds t) w);
-  unfit = λ t sized w. sized_unfit Fits v v' e e' files name slot status ends (says t) (of_one files name given slot (finds t) w);
+  unfit = λ t sized w. sized_unfit Fits c c' files name slot status ends (says t) (of_one files name given slot (finds t) w);
 }
 
 -- nothing refuses a file that was read
@@ -169,7 +129,3 @@ ungiven_refused tells Fits files name given not = record {
   short = λ bytes t sized w. absurd (not sized);
   unfit = λ t sized w. absurd (not sized);
 }
-
-pub ended_on : (made made1 made' : ℕ) (e e1 e' : List ℕ) → made1 ≡ made → e1 ≡ e → EndedOne made1 made' e1 e' → EndedOne made made' e e'
-ended_on made made1 made' e e1 e' p q (inl none) = inl (none.0 ∙ p, none.1 ∙ q)
-ended_on made made1 made' e e1 e' p q (inr one) = inr (one.0 ∙ ap (λ n. n + 1) p, (one.1.0, one.1.1 ∙ ap (λ l. l ++ one.1.0 ∷ []) q))

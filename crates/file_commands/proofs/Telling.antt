@@ -1,8 +1,8 @@
 -- A fault is told as a fault.
-use Rattle.std.proofs.Common.{◌≡◌, inl, inr, ◌++◌, ◌∷◌, [], ℕ, List, length, length-append, arith, refl, ap, sym, ◌∙◌, subst}
+use Rattle.std.proofs.Common.{◌≡◌, inr, ◌++◌, ◌∷◌, [], ℕ, List, arith, ◌+◌, refl, ap, sym, ◌∙◌, subst}
 use Rattle.std.specs.Prelude.{Result, IsErrOf, IfErr, Ok, Err, None, Option, ◌↔◌}
 use Rattle.std.specs.FinMap.{get}
-use Rattle.rock_io.specs.Faults.{Rose}
+use Rattle.rock_disk.specs.Counts.{Counts, HasFailed, NoStation, NoneFailed, OneStation, counted}
 use Rattle.rock_disk.specs.File.{Files}
 use Rattle.rock_disk.specs.Opened.{IsSmall}
 use Rattle.rock_disk.specs.declared.volume.OpenFault.{OpenFault}
@@ -11,38 +11,36 @@ use Rattle.rock_disk.specs.declared.volume.StationFault.{StationFault}
 use Rattle.rock_disk.specs.declared.volume.StationFault.TheVariants as station
 use Rattle.rock_rebuild.specs.declared.outcome.RebuildFault.{RebuildFault}
 use Rattle.rock_rebuild.specs.declared.outcome.RebuildFault.TheVariants as rebuild
-use Rattle.file_commands.specs.Device.{DeviceFailed, DeviceKept}
 use Rattle.file_commands.specs.Faults.{status_of_open, status_of_station, status_of_rebuild}
 use Rattle.slot_finding.specs.Finding.{IsGiven, WithSlot}
 use Rattle.file_commands.specs.Report.{FoundEnds, HasSlots, IsFit, OpenedEnds, PrintEnds, ReadEnds, ReadSays, ReportEnds, ReportPrints, ReportSays}
 use Rattle.rock_status.specs.declared.status.Status.{Status}
 use Rattle.rock_status.specs.declared.status.Status.TheVariants.{Done, Usage, Memory, SourceFault, SinkFault, DeviceFault, BadScript, Missing, Small, BadGeometry, Exists}
 
--- a list that grew is not as it was
-grew : (before : List ℕ) (count : ℕ) → before ≡ before ++ count ∷ [] → ⊥
-grew before count e = let longer = ap length e ∙ length-append before (count ∷ []) in omega (arith, longer)
-
 -- the last element of a list is one
 last_of : (before : List ℕ) (a b : ℕ) → before ++ a ∷ [] ≡ before ++ b ∷ [] → a ≡ b
 last_of [] a b e = cc
 last_of (x ∷ xs) a b e = let rest : xs ++ a ∷ [] ≡ xs ++ b ∷ [] = cc in last_of xs a b rest
 
--- no station was ended
-pub none_ended : {v v' : ℕ} {e e' : List ℕ} → v' ≡ v → e' ≡ e → DeviceKept v v' e e'
-none_ended {e = e} same ended = record { volume = same; station = λ count is. absurd (grew e count (sym ended ∙ is)) }
+-- counts of the same members are the same
+pub same_counts : {f f' m m' : ℕ} {e e' : List ℕ} → f ≡ f' → m ≡ m' → e ≡ e' → counted f m e ≡ counted f' m' e'
+same_counts p q r = cc
 
--- one station was ended, of which no call failed
-pub one_ended : {v v' faults : ℕ} {e now e' : List ℕ} → v' ≡ v → now ≡ e → e' ≡ now ++ faults ∷ [] → faults ≡ 0 → DeviceKept v v' e e'
-one_ended {faults = faults} {e = e} same made ended none =
-    record { volume = same; station = λ count is. last_of e count faults (sym is ∙ (ended ∙ ap (λ l. l ++ faults ∷ []) made)) ∙ none }
+-- what holds of the counts holds where calls before and after leave them
+pub moved : {c c1 c2 c' : Counts} → c1 ≡ c → c' ≡ c2 → (P : Counts → Counts → Type 0) → P c1 c2 → P c c'
+moved {c1 = c1} {c' = c'} p q P h = subst (λ (x : Counts). P x c') p (subst (λ (x : Counts). P c1 x) (sym q) h)
 
--- calls before and after that neither fail nor end a station
-pub kept_on : {v v1 v2 v' : ℕ} {e e1 e2 e' : List ℕ} → v1 ≡ v → e1 ≡ e → v' ≡ v2 → e' ≡ e2 → DeviceKept v1 v2 e1 e2 → DeviceKept v v' e e'
-kept_on p q r s k = record { volume = r ∙ k.volume ∙ p; station = λ count is. k.station count (sym s ∙ is ∙ ap (λ l. l ++ count ∷ []) (sym q)) }
+-- a station that was made and then ended
+pub one_station : {f f' m m1 m' : ℕ} {e e1 e' : List ℕ} (count : ℕ) → m1 ≡ m + 1 → e1 ≡ e → m' ≡ m1 → e' ≡ e1 ++ count ∷ [] → OneStation count (counted f m e) (counted f' m' e')
+one_station count made same still ended = record { made = still ∙ made; ended = ended ∙ ap (λ (l : List ℕ). l ++ count ∷ []) same }
 
-pub failed_on : (v v1 v2 v' : ℕ) (e e1 e2 e' : List ℕ) → v1 ≡ v → e1 ≡ e → v' ≡ v2 → e' ≡ e2 → DeviceFailed v1 v2 e1 e2 → DeviceFailed v v' e e'
-failed_on v v1 v2 v' e e1 e2 e' p q r s (inl rose) = inl (subst (λ x. Rose x v') p (subst (λ x. Rose v1 x) (sym r) rose))
-failed_on v v1 v2 v' e e1 e2 e' p q r s (inr ended) = inr (ended.0, s ∙ ended.1 ∙ ap (λ l. l ++ ended.0 ∷ []) q, ended.2)
+-- no station was made
+pub none_ended : {c c' : Counts} → NoStation c c' → c'.faults ≡ c.faults → NoneFailed c c'
+none_ended none same = record { faults = same; station = λ count one. let m = one.made in let n = none.made in absurd (omega (arith, m, n)) }
+
+-- one station was made, of which no call failed
+pub one_ended : {c c' : Counts} {count : ℕ} → OneStation count c c' → count ≡ 0 → c'.faults ≡ c.faults → NoneFailed c c'
+one_ended {c = c} {count = count} one none same = record { faults = same; station = λ other is. last_of c.ended other count (sym is.ended ∙ one.ended) ∙ none }
 
 pub same_status : {T : Type 0} {s status : Status} → ◌≡◌ {A = Result T Status} (Err s) (Err status) → s ≡ status
 same_status e = cc
@@ -74,12 +72,12 @@ pub only_unfit : {T : Type 0} (r : Result T Status) → IsErrOf r (BadGeometry 2
 only_unfit r unfit device = cc
 
 -- how a file is refused, by what the volume says
-pub open_refused : {T : Type 0} (Fits : ℕ → Type 0) (v v' : ℕ) (e e' : List ℕ) (f : OpenFault) (s : Status) → s ≡ status_of_open f
-    → (IsErrOf {T = T} (Err f) opening.Failed → DeviceFailed v v' e e') → ReadEnds Fits v v' e e' s
-open_refused Fits v v' e e' opening.Missing s h failed = subst (ReadEnds Fits v v' e e') (sym h) tt
-open_refused Fits v v' e e' (opening.Small n) s h failed = subst (ReadEnds Fits v v' e e') (sym h) tt
-open_refused Fits v v' e e' opening.Failed s h failed = subst (ReadEnds Fits v v' e e') (sym h) (failed refl)
-open_refused Fits v v' e e' opening.Memory s h failed = subst (ReadEnds Fits v v' e e') (sym h) tt
+pub open_refused : {T : Type 0} (Fits : ℕ → Type 0) (c c' : Counts) (f : OpenFault) (s : Status) → s ≡ status_of_open f
+    → (IsErrOf {T = T} (Err f) opening.Failed → HasFailed c c') → ReadEnds Fits c c' s
+open_refused Fits c c' opening.Missing s h failed = subst (ReadEnds Fits c c') (sym h) tt
+open_refused Fits c c' (opening.Small n) s h failed = subst (ReadEnds Fits c c') (sym h) tt
+open_refused Fits c c' opening.Failed s h failed = subst (ReadEnds Fits c c') (sym h) (failed refl)
+open_refused Fits c c' opening.Memory s h failed = subst (ReadEnds Fits c c') (sym h) tt
 
 pub open_says : {T : Type 0} (Fits : ℕ → Type 0) (files : Files) (name : List ℕ) (slot : ℕ) (f : OpenFault) (s : Status) → s ≡ status_of_open f
     → (IsErrOf {T = T} (Err f) opening.Missing ↔ (get files name ≡ None)) → ((bytes : ℕ) → (IsErrOf {T = T} (Err f) (opening.Small bytes) ↔ IsSmall files name slot bytes)) → ReadSays Fits files name slot s
@@ -96,77 +94,77 @@ pub open_told : {T U : Type 0} (f g : OpenFault) (s : Status) → s ≡ status_o
 open_told f g s h is = ap (λ s. Err s) (h ∙ ap status_of_open (same_fault is))
 
 -- how an opened file is refused is how a file is
-pub opened_refused : {T : Type 0} (Fits : ℕ → Type 0) (slots : ℕ) {v v1 v2 v' : ℕ} {e e1 e2 e' : List ℕ} (r : Result T Status) → v1 ≡ v → e1 ≡ e → v' ≡ v2 → e' ≡ e2 → IfErr r (OpenedEnds Fits slots v1 v2 e1 e2)
-    → IfErr r (ReadEnds Fits v v' e e')
-opened_refused Fits slots (Ok x) p q r s k = tt
-opened_refused Fits slots (Err Done) p q r s k = absurd k
-opened_refused Fits slots (Err Usage) p q r s k = absurd k
-opened_refused Fits slots (Err Memory) p q r s k = tt
-opened_refused Fits slots (Err SourceFault) p q r s k = absurd k
-opened_refused Fits slots (Err SinkFault) p q r s k = absurd k
-opened_refused Fits slots {v = v} {v1 = v1} {v2 = v2} {v' = v'} {e = e} {e1 = e1} {e2 = e2} {e' = e'} (Err DeviceFault) p q r s k = failed_on v v1 v2 v' e e1 e2 e' p q r s k
-opened_refused Fits slots (Err (BadScript line cause)) p q r s k = absurd k
-opened_refused Fits slots (Err Missing) p q r s k = absurd k
-opened_refused Fits slots (Err (Small bytes)) p q r s k = absurd k
-opened_refused Fits slots (Err (BadGeometry field)) p q r s k = (k.0, (slots, k.1))
-opened_refused Fits slots (Err Exists) p q r s k = absurd k
+pub opened_refused : {T : Type 0} (Fits : ℕ → Type 0) (slots : ℕ) {c c1 c2 c' : Counts} (r : Result T Status) → c1 ≡ c → c' ≡ c2 → IfErr r (OpenedEnds Fits slots c1 c2)
+    → IfErr r (ReadEnds Fits c c')
+opened_refused Fits slots (Ok x) p q k = tt
+opened_refused Fits slots (Err Done) p q k = absurd k
+opened_refused Fits slots (Err Usage) p q k = absurd k
+opened_refused Fits slots (Err Memory) p q k = tt
+opened_refused Fits slots (Err SourceFault) p q k = absurd k
+opened_refused Fits slots (Err SinkFault) p q k = absurd k
+opened_refused Fits slots (Err DeviceFault) p q k = moved p q HasFailed k
+opened_refused Fits slots (Err (BadScript line cause)) p q k = absurd k
+opened_refused Fits slots (Err Missing) p q k = absurd k
+opened_refused Fits slots (Err (Small bytes)) p q k = absurd k
+opened_refused Fits slots (Err (BadGeometry field)) p q k = (k.0, (slots, k.1))
+opened_refused Fits slots (Err Exists) p q k = absurd k
 
-pub opened_says : {T : Type 0} (Fits : ℕ → Type 0) (slots v v' : ℕ) (e e' : List ℕ) (files : Files) (name : List ℕ) (slot : ℕ) (r : Result T Status) → HasSlots files name slot slots → IfErr r (OpenedEnds Fits slots v v' e e')
+pub opened_says : {T : Type 0} (Fits : ℕ → Type 0) (slots : ℕ) (c c' : Counts) (files : Files) (name : List ℕ) (slot : ℕ) (r : Result T Status) → HasSlots files name slot slots → IfErr r (OpenedEnds Fits slots c c')
     → IfErr r (ReadSays Fits files name slot)
-opened_says Fits slots v v' e e' files name slot (Ok x) has k = tt
-opened_says Fits slots v v' e e' files name slot (Err Done) has k = absurd k
-opened_says Fits slots v v' e e' files name slot (Err Usage) has k = absurd k
-opened_says Fits slots v v' e e' files name slot (Err Memory) has k = tt
-opened_says Fits slots v v' e e' files name slot (Err SourceFault) has k = absurd k
-opened_says Fits slots v v' e e' files name slot (Err SinkFault) has k = absurd k
-opened_says Fits slots v v' e e' files name slot (Err DeviceFault) has k = tt
-opened_says Fits slots v v' e e' files name slot (Err (BadScript line cause)) has k = absurd k
-opened_says Fits slots v v' e e' files name slot (Err Missing) has k = absurd k
-opened_says Fits slots v v' e e' files name slot (Err (Small bytes)) has k = absurd k
-opened_says Fits slots v v' e e' files name slot (Err (BadGeometry field)) has k = λ two. (slots, has, k.1)
-opened_says Fits slots v v' e e' files name slot (Err Exists) has k = absurd k
+opened_says Fits slots c c' files name slot (Ok x) has k = tt
+opened_says Fits slots c c' files name slot (Err Done) has k = absurd k
+opened_says Fits slots c c' files name slot (Err Usage) has k = absurd k
+opened_says Fits slots c c' files name slot (Err Memory) has k = tt
+opened_says Fits slots c c' files name slot (Err SourceFault) has k = absurd k
+opened_says Fits slots c c' files name slot (Err SinkFault) has k = absurd k
+opened_says Fits slots c c' files name slot (Err DeviceFault) has k = tt
+opened_says Fits slots c c' files name slot (Err (BadScript line cause)) has k = absurd k
+opened_says Fits slots c c' files name slot (Err Missing) has k = absurd k
+opened_says Fits slots c c' files name slot (Err (Small bytes)) has k = absurd k
+opened_says Fits slots c c' files name slot (Err (BadGeometry field)) has k = λ two. (slots, has, k.1)
+opened_says Fits slots c c' files name slot (Err Exists) has k = absurd k
 
 -- how a file is refused is how the command ends
-pub refused_ends : (Fits : ℕ → Type 0) (given : Option ℕ) (s v v' : ℕ) (e e' : List ℕ) (status : Status) → IsGiven given → FoundEnds Fits given v v' e e' status → ReportEnds Fits given s s v v' e e' status
-refused_ends Fits given s v v' e e' Done sized k = absurd k
-refused_ends Fits given s v v' e e' Usage sized k = absurd k
-refused_ends Fits given s v v' e e' Memory sized k = sized
-refused_ends Fits given s v v' e e' SourceFault sized k = absurd k
-refused_ends Fits given s v v' e e' SinkFault sized k = absurd k
-refused_ends Fits given s v v' e e' DeviceFault sized k = (sized, k)
-refused_ends Fits given s v v' e e' (BadScript line cause) sized k = absurd k
-refused_ends Fits given s v v' e e' Missing sized k = sized
-refused_ends Fits given s v v' e e' (Small bytes) sized k = sized
-refused_ends Fits given s v v' e e' (BadGeometry field) sized k = inr (sized, k)
-refused_ends Fits given s v v' e e' Exists sized k = absurd k
+pub refused_ends : (Fits : ℕ → Type 0) (given : Option ℕ) (s : ℕ) (c c' : Counts) (status : Status) → IsGiven given → FoundEnds Fits given c c' status → ReportEnds Fits given s s c c' status
+refused_ends Fits given s c c' Done sized k = absurd k
+refused_ends Fits given s c c' Usage sized k = absurd k
+refused_ends Fits given s c c' Memory sized k = sized
+refused_ends Fits given s c c' SourceFault sized k = absurd k
+refused_ends Fits given s c c' SinkFault sized k = absurd k
+refused_ends Fits given s c c' DeviceFault sized k = (sized, k)
+refused_ends Fits given s c c' (BadScript line cause) sized k = absurd k
+refused_ends Fits given s c c' Missing sized k = sized
+refused_ends Fits given s c c' (Small bytes) sized k = sized
+refused_ends Fits given s c c' (BadGeometry field) sized k = inr (sized, k)
+refused_ends Fits given s c c' Exists sized k = absurd k
 
 -- and nothing is printed
-pub refused_prints : (Fits : ℕ → Type 0) (given : Option ℕ) (v v' : ℕ) (e e' : List ℕ) (IsText : List ℕ → Type 0) (text : List ℕ) (status : Status) → FoundEnds Fits given v v' e e' status → ReportPrints IsText text text status
-refused_prints Fits given v v' e e' IsText text Done k = absurd k
-refused_prints Fits given v v' e e' IsText text Usage k = absurd k
-refused_prints Fits given v v' e e' IsText text Memory k = refl
-refused_prints Fits given v v' e e' IsText text SourceFault k = absurd k
-refused_prints Fits given v v' e e' IsText text SinkFault k = absurd k
-refused_prints Fits given v v' e e' IsText text DeviceFault k = refl
-refused_prints Fits given v v' e e' IsText text (BadScript line cause) k = absurd k
-refused_prints Fits given v v' e e' IsText text Missing k = refl
-refused_prints Fits given v v' e e' IsText text (Small bytes) k = refl
-refused_prints Fits given v v' e e' IsText text (BadGeometry field) k = refl
-refused_prints Fits given v v' e e' IsText text Exists k = absurd k
+pub refused_prints : (Fits : ℕ → Type 0) (given : Option ℕ) (c c' : Counts) (IsText : List ℕ → Type 0) (text : List ℕ) (status : Status) → FoundEnds Fits given c c' status → ReportPrints IsText text text status
+refused_prints Fits given c c' IsText text Done k = absurd k
+refused_prints Fits given c c' IsText text Usage k = absurd k
+refused_prints Fits given c c' IsText text Memory k = refl
+refused_prints Fits given c c' IsText text SourceFault k = absurd k
+refused_prints Fits given c c' IsText text SinkFault k = absurd k
+refused_prints Fits given c c' IsText text DeviceFault k = refl
+refused_prints Fits given c c' IsText text (BadScript line cause) k = absurd k
+refused_prints Fits given c c' IsText text Missing k = refl
+refused_prints Fits given c c' IsText text (Small bytes) k = refl
+refused_prints Fits given c c' IsText text (BadGeometry field) k = refl
+refused_prints Fits given c c' IsText text Exists k = absurd k
 
 -- how printing ends is how the command ends
-pub printed_ends : (Fits : ℕ → Type 0) (given : Option ℕ) (s s' v v' : ℕ) (e e' : List ℕ) (status : Status) → IsGiven given → PrintEnds s s' status → ReportEnds Fits given s s' v v' e e' status
-printed_ends Fits given s s' v v' e e' Done sized k = sized
-printed_ends Fits given s s' v v' e e' Usage sized k = absurd k
-printed_ends Fits given s s' v v' e e' Memory sized k = sized
-printed_ends Fits given s s' v v' e e' SourceFault sized k = absurd k
-printed_ends Fits given s s' v v' e e' SinkFault sized k = (sized, k)
-printed_ends Fits given s s' v v' e e' DeviceFault sized k = absurd k
-printed_ends Fits given s s' v v' e e' (BadScript line cause) sized k = absurd k
-printed_ends Fits given s s' v v' e e' Missing sized k = absurd k
-printed_ends Fits given s s' v v' e e' (Small bytes) sized k = absurd k
-printed_ends Fits given s s' v v' e e' (BadGeometry field) sized k = absurd k
-printed_ends Fits given s s' v v' e e' Exists sized k = absurd k
+pub printed_ends : (Fits : ℕ → Type 0) (given : Option ℕ) (s s' : ℕ) (c c' : Counts) (status : Status) → IsGiven given → PrintEnds s s' status → ReportEnds Fits given s s' c c' status
+printed_ends Fits given s s' c c' Done sized k = sized
+printed_ends Fits given s s' c c' Usage sized k = absurd k
+printed_ends Fits given s s' c c' Memory sized k = sized
+printed_ends Fits given s s' c c' SourceFault sized k = absurd k
+printed_ends Fits given s s' c c' SinkFault sized k = (sized, k)
+printed_ends Fits given s s' c c' DeviceFault sized k = absurd k
+printed_ends Fits given s s' c c' (BadScript line cause) sized k = absurd k
+printed_ends Fits given s s' c c' Missing sized k = absurd k
+printed_ends Fits given s s' c c' (Small bytes) sized k = absurd k
+printed_ends Fits given s s' c c' (BadGeometry field) sized k = absurd k
+printed_ends Fits given s s' c c' Exists sized k = absurd k
 
 pub printed_says : (Fits : ℕ → Type 0) (s s' : ℕ) (files : Files) (name : List ℕ) (given : Option ℕ) (status : Status) → WithSlot files name given (IsFit Fits files name) → PrintEnds s s' status → ReportSays Fits files name given status
 printed_says Fits s s' files name given Done fit k = fit

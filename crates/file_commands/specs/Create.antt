@@ -1,13 +1,13 @@
 -- What `create` answers, and why, and what it leaves of the files.
-use Rattle.std.specs.Prelude.{◌≡◌, ◌≢◌, ◌⊎◌, ◌<◌, ◌+◌, ◌*◌, ◌++◌, ◌∷◌, [], ℕ, ◌≤◌, List, Bool, IsTrue}
+use Rattle.std.specs.Prelude.{◌≡◌, ◌≢◌, ◌⊎◌, ◌<◌, ◌+◌, ◌*◌, ◌++◌, ℕ, ◌≤◌, List, Bool, IsTrue}
 use Rattle.std.specs.FinMap.{insert}
 use Rattle.rock_disk.specs.File.{Files, IsThere, cut, zeros}
 use Rattle.rock_disk.specs.Cell.{CellState}
+use Rattle.rock_disk.specs.Counts.{Counts, HasFailed, NoStation, OneStation}
 use Rattle.rock_disk.specs.Created.{IsCreated, IsMaybeCreated}
 use Rattle.db_layout.specs.Geometry.{header_of}
 use Rattle.db_layout.specs.Layout.{IsSlotSize, file_size}
 use Rattle.db_layout.specs.declared.layout.TheConstants.{HEADER_BYTES, MOST_SLOTS}
-use Rattle.file_commands.specs.Device.{DeviceFailed}
 use Rattle.file_commands.specs.Recording.{HoldsEither, geometry_of, with_header}
 use Rattle.rock_status.specs.declared.status.Status.{Status}
 use Rattle.rock_status.specs.declared.status.Status.TheVariants.{Done, Usage, Memory, SourceFault, SinkFault, DeviceFault, BadScript, Missing, Small, BadGeometry, Exists}
@@ -22,20 +22,20 @@ pub record IsGeometry (slot slots : ℕ) : Type 0 where
   pub size : IsSlotSize slot
   pub count : IsSlotCount slots
 
--- When each status comes: by the numbers, and by the counts of the volume and of the station. A file that was made may be gone, or shorter, when it
+-- When each status comes: by the numbers, and by the counts of the volume. A file that was made may be gone, or shorter, when it
 -- is opened for its header area.
-abbrev pub CreateEnds : (slot slots : ℕ) → (volume_before volume_after : ℕ) → (ended_before ended_after : List ℕ) → Status → Type 0
-CreateEnds slot slots v v' e e' Done = IsGeometry slot slots
-CreateEnds slot slots v v' e e' Usage = ⊥
-CreateEnds slot slots v v' e e' Memory = IsGeometry slot slots
-CreateEnds slot slots v v' e e' SourceFault = ⊥
-CreateEnds slot slots v v' e e' SinkFault = ⊥
-CreateEnds slot slots v v' e e' DeviceFault = IsGeometry slot slots × DeviceFailed v v' e e'
-CreateEnds slot slots v v' e e' (BadScript line cause) = ⊥
-CreateEnds slot slots v v' e e' Missing = IsGeometry slot slots
-CreateEnds slot slots v v' e e' (Small bytes) = IsGeometry slot slots × (bytes < HEADER_BYTES + slot)
-CreateEnds slot slots v v' e e' (BadGeometry field) = ((field ≡ 1) × ¬ IsSlotSize slot) ⊎ ((field ≡ 4) × IsSlotSize slot × ¬ IsSlotCount slots)
-CreateEnds slot slots v v' e e' Exists = IsGeometry slot slots
+abbrev pub CreateEnds : (slot slots : ℕ) → (before after : Counts) → Status → Type 0
+CreateEnds slot slots before after Done = IsGeometry slot slots
+CreateEnds slot slots before after Usage = ⊥
+CreateEnds slot slots before after Memory = IsGeometry slot slots
+CreateEnds slot slots before after SourceFault = ⊥
+CreateEnds slot slots before after SinkFault = ⊥
+CreateEnds slot slots before after DeviceFault = IsGeometry slot slots × HasFailed before after
+CreateEnds slot slots before after (BadScript line cause) = ⊥
+CreateEnds slot slots before after Missing = IsGeometry slot slots
+CreateEnds slot slots before after (Small bytes) = IsGeometry slot slots × (bytes < HEADER_BYTES + slot)
+CreateEnds slot slots before after (BadGeometry field) = ((field ≡ 1) × ¬ IsSlotSize slot) ⊎ ((field ≡ 4) × IsSlotSize slot × ¬ IsSlotCount slots)
+CreateEnds slot slots before after Exists = IsGeometry slot slots
 
 -- When each status comes, by the files. A file that was made is there, and long enough: so two refusals of opening do not come.
 abbrev pub CreateSays : Files → List ℕ → Status → Type 0
@@ -81,9 +81,9 @@ CreateLeaves tells slot slots name before after (Small bytes) = Unit {0}
 CreateLeaves tells slot slots name before after status = after ≡ before
 
 -- how many stations were made: at `Done` the one of the header area, which met no fault, and at each other status but a fault of the disk none
-pub record CreateStations (made_before made_after : ℕ) (ended_before ended_after : List ℕ) (status : Status) : Type 0 where
-  pub done : status ≡ Done → (made_after ≡ made_before + 1) × (ended_after ≡ ended_before ++ 0 ∷ [])
-  pub none : status ≢ Done → status ≢ DeviceFault → (made_after ≡ made_before) × (ended_after ≡ ended_before)
+pub record CreateStations (before after : Counts) (status : Status) : Type 0 where
+  pub done : status ≡ Done → OneStation 0 before after
+  pub none : status ≢ Done → status ≢ DeviceFault → NoStation before after
 
 -- neither the numbers nor the map refuse the command
 pub record MayCreate (files : Files) (name : List ℕ) (slot slots : ℕ) : Type 0 where

@@ -1,7 +1,6 @@
 pub mod Listing
 pub mod Summary
 pub mod Faults
-pub mod Device
 pub mod Report
 pub mod Recording
 pub mod Create

@@ -1,5 +1,5 @@
 -- What `migrate` prints, and what it leaves of the files. When each status comes is said as of a report.
-use Rattle.std.specs.Prelude.{◌≡◌, ◌≢◌, ◌⊎◌, ◌++◌, List, None, Option, Some, codes, decimal, ℕ}
+use Rattle.std.specs.Prelude.{◌≡◌, ◌≢◌, ◌⊎◌, ◌++◌, List, None, Some, codes, decimal, ℕ}
 use Rattle.std.specs.FinMap.{get}
 use Rattle.db_layout.specs.declared.geometry.Geometry.{Geometry}
 use Rattle.rock_disk.specs.File.{Files, HasSlots, IsKept}

@@ -1,17 +1,15 @@
 -- What a command that reads a whole file answers, and why.
-use Rattle.std.specs.Prelude.{◌≡◌, ◌⊎◌, ℕ, ◌+◌, ◌≤◌, List, ◌++◌, length, Option, Some, None, IsTrue, Bool}
+use Rattle.std.specs.Prelude.{◌≡◌, ◌⊎◌, ℕ, List, ◌++◌, Option, Some, None, IsTrue, Bool}
 use Rattle.std.specs.FinMap.{get}
 use Rattle.rock_io.specs.Faults.{Rose}
 use Rattle.rock_io.specs.Sink.{TakesPrefix}
 pub use Rattle.rebuild_model.specs.Keeping.{IsAnchors}
 pub use Rattle.rock_disk.specs.File.{HasSlots}
+use Rattle.rock_disk.specs.Counts.{Counts, HasFailed}
 use Rattle.rock_disk.specs.File.{File, Files, bytes_of}
-use Rattle.db_layout.specs.Layout.{slots_of}
 use Rattle.rock_disk.specs.Opened.{IsSmall}
 use Rattle.slot_finding.specs.Faults.{OrFailed}
 use Rattle.slot_finding.specs.Finding.{FieldSays, IsGiven, IsKeptFor, IsTooSmall, IsUnknown, RecordsMisfit, RecordsOther, TellsNoSlot, WithSlot}
-use Rattle.db_layout.specs.declared.layout.TheConstants.{HEADER_BYTES}
-use Rattle.file_commands.specs.Device.{DeviceFailed}
 use Rattle.std.specs.List.{flat_map}
 use Rattle.file_commands.specs.Listing.{images_of, Lists, line_of_found}
 use Rattle.file_commands.specs.Summary.{Sums, line_of_tally}
@@ -55,21 +53,21 @@ OfFileFor Prints files name given text = WithSlot files name given (λ slot. OfF
 abbrev pub IsFit : (ℕ → Type 0) → Files → List ℕ → ℕ → Type 0
 IsFit Fits files name slot = (slots : ℕ) × HasSlots files name slot slots × Fits slots
 
--- how an opened file may be refused, by the number of its slots and the counts of the volume and the station
-abbrev pub OpenedEnds : (Fits : ℕ → Type 0) (slots : ℕ) → (volume_before volume_after : ℕ) → (ended_before ended_after : List ℕ) → Status → Type 0
-OpenedEnds Fits slots v v' e e' Memory = Unit {0}
-OpenedEnds Fits slots v v' e e' DeviceFault = DeviceFailed v v' e e'
-OpenedEnds Fits slots v v' e e' (BadGeometry field) = (field ≡ 2) × ¬ Fits slots
-OpenedEnds Fits slots v v' e e' status = ⊥
+-- how an opened file may be refused, by the number of its slots and the counts of the volume
+abbrev pub OpenedEnds : (Fits : ℕ → Type 0) (slots : ℕ) → (before after : Counts) → Status → Type 0
+OpenedEnds Fits slots before after Memory = Unit {0}
+OpenedEnds Fits slots before after DeviceFault = HasFailed before after
+OpenedEnds Fits slots before after (BadGeometry field) = (field ≡ 2) × ¬ Fits slots
+OpenedEnds Fits slots before after status = ⊥
 
 -- how a file may be refused that is to be read by its slot size, by the same
-abbrev pub ReadEnds : (Fits : ℕ → Type 0) → (volume_before volume_after : ℕ) → (ended_before ended_after : List ℕ) → Status → Type 0
-ReadEnds Fits v v' e e' Memory = Unit {0}
-ReadEnds Fits v v' e e' DeviceFault = DeviceFailed v v' e e'
-ReadEnds Fits v v' e e' Missing = Unit {0}
-ReadEnds Fits v v' e e' (Small bytes) = Unit {0}
-ReadEnds Fits v v' e e' (BadGeometry field) = (field ≡ 2) × ((slots : ℕ) × ¬ Fits slots)
-ReadEnds Fits v v' e e' status = ⊥
+abbrev pub ReadEnds : (Fits : ℕ → Type 0) → (before after : Counts) → Status → Type 0
+ReadEnds Fits before after Memory = Unit {0}
+ReadEnds Fits before after DeviceFault = HasFailed before after
+ReadEnds Fits before after Missing = Unit {0}
+ReadEnds Fits before after (Small bytes) = Unit {0}
+ReadEnds Fits before after (BadGeometry field) = (field ≡ 2) × ((slots : ℕ) × ¬ Fits slots)
+ReadEnds Fits before after status = ⊥
 
 -- it has another number of slots than the command asks for
 abbrev pub IsUnfit : (ℕ → Type 0) → Files → List ℕ → ℕ → Type 0
@@ -82,28 +80,28 @@ ReadSays Fits files name slot (Small bytes) = IsSmall files name slot bytes
 ReadSays Fits files name slot (BadGeometry field) = field ≡ 2 → IsUnfit Fits files name slot
 ReadSays Fits files name slot status = Unit {0}
 
--- how a file may be refused whose slot size is to be found, by what was given, by the number of its slots, and by the counts of the volume and the station
-abbrev pub FoundEnds : (Fits : ℕ → Type 0) (given : Option ℕ) → (volume_before volume_after : ℕ) → (ended_before ended_after : List ℕ) → Status → Type 0
-FoundEnds Fits given v v' e e' Memory = Unit {0}
-FoundEnds Fits given v v' e e' DeviceFault = DeviceFailed v v' e e'
-FoundEnds Fits given v v' e e' Missing = Unit {0}
-FoundEnds Fits given v v' e e' (Small bytes) = Unit {0}
-FoundEnds Fits given v v' e e' (BadGeometry field) = IsUnknown given field ⊎ ((field ≡ 2) × ((slots : ℕ) × ¬ Fits slots))
-FoundEnds Fits given v v' e e' status = ⊥
+-- how a file may be refused whose slot size is to be found, by what was given, by the number of its slots, and by the counts of the volume
+abbrev pub FoundEnds : (Fits : ℕ → Type 0) (given : Option ℕ) → (before after : Counts) → Status → Type 0
+FoundEnds Fits given before after Memory = Unit {0}
+FoundEnds Fits given before after DeviceFault = HasFailed before after
+FoundEnds Fits given before after Missing = Unit {0}
+FoundEnds Fits given before after (Small bytes) = Unit {0}
+FoundEnds Fits given before after (BadGeometry field) = IsUnknown given field ⊎ ((field ≡ 2) × ((slots : ℕ) × ¬ Fits slots))
+FoundEnds Fits given before after status = ⊥
 
--- when each status comes: by what was given and by the counts of faults, of the sink, the volume and the station
-abbrev pub ReportEnds : (Fits : ℕ → Type 0) (given : Option ℕ) → (sink_before sink_after volume_before volume_after : ℕ) → (ended_before ended_after : List ℕ) → Status → Type 0
-ReportEnds Fits given s s' v v' e e' Done = IsGiven given
-ReportEnds Fits given s s' v v' e e' Usage = ⊥
-ReportEnds Fits given s s' v v' e e' Memory = IsGiven given
-ReportEnds Fits given s s' v v' e e' SourceFault = ⊥
-ReportEnds Fits given s s' v v' e e' SinkFault = IsGiven given × Rose s s'
-ReportEnds Fits given s s' v v' e e' DeviceFault = IsGiven given × DeviceFailed v v' e e'
-ReportEnds Fits given s s' v v' e e' (BadScript line cause) = ⊥
-ReportEnds Fits given s s' v v' e e' Missing = IsGiven given
-ReportEnds Fits given s s' v v' e e' (Small bytes) = IsGiven given
-ReportEnds Fits given s s' v v' e e' (BadGeometry field) = ((field ≡ 1) × ¬ IsGiven given) ⊎ (IsGiven given × (IsUnknown given field ⊎ ((field ≡ 2) × ((slots : ℕ) × ¬ Fits slots))))
-ReportEnds Fits given s s' v v' e e' Exists = ⊥
+-- when each status comes: by what was given, by the sink's count of faults, and by the counts of the volume
+abbrev pub ReportEnds : (Fits : ℕ → Type 0) (given : Option ℕ) → (sink_before sink_after : ℕ) → (before after : Counts) → Status → Type 0
+ReportEnds Fits given s s' before after Done = IsGiven given
+ReportEnds Fits given s s' before after Usage = ⊥
+ReportEnds Fits given s s' before after Memory = IsGiven given
+ReportEnds Fits given s s' before after SourceFault = ⊥
+ReportEnds Fits given s s' before after SinkFault = IsGiven given × Rose s s'
+ReportEnds Fits given s s' before after DeviceFault = IsGiven given × HasFailed before after
+ReportEnds Fits given s s' before after (BadScript line cause) = ⊥
+ReportEnds Fits given s s' before after Missing = IsGiven given
+ReportEnds Fits given s s' before after (Small bytes) = IsGiven given
+ReportEnds Fits given s s' before after (BadGeometry field) = ((field ≡ 1) × ¬ IsGiven given) ⊎ (IsGiven given × (IsUnknown given field ⊎ ((field ≡ 2) × ((slots : ℕ) × ¬ Fits slots))))
+ReportEnds Fits given s s' before after Exists = ⊥
 
 -- when each status comes, by the files, of which one has a slot size by itself and by what was given, or has none
 abbrev pub ReportSays : (ℕ → Type 0) → Files → List ℕ → Option ℕ → Status → Type 0
@@ -144,13 +142,19 @@ pub record MayReport (Fits : ℕ → Type 0) (files : Files) (name : List ℕ) (
   pub sized : IsGiven given
   pub fit : WithSlot files name given (IsFit Fits files name)
 
+-- no fault comes: the sink's count of faults did not rise, and neither the volume failed nor its station
+pub record NoFault (sink sink_after : ℕ) (before after : Counts) : Type 0 where
+  pub sink_none : ¬ Rose sink sink_after
+  pub device_none : ¬ HasFailed before after
+
 -- how a command ends that nothing refuses and no fault meets
 abbrev pub ReportsOrLacksMemory : Status → Type 0
 ReportsOrLacksMemory status = (status ≡ Done) ⊎ (status ≡ Memory)
 
 -- All that is said of a report of the file of this name for what was given: how it ended, what it printed, and what it left of the files.
-pub record IsReport (tells sink_tells : Bool) (Fits : ℕ → Type 0) (Shows : ℕ → List (List ℕ) → List ℕ → Type 0) (files files_after : Files) (name : List ℕ) (given : Option ℕ) (sink sink_after volume volume_after : ℕ) (ended ended_after taken taken_after : List ℕ) (status : Status) : Type 0 where
-  pub ends : ReportEnds Fits given sink sink_after volume volume_after ended ended_after status
+pub record IsReport (tells sink_tells : Bool) (Fits : ℕ → Type 0) (Shows : ℕ → List (List ℕ) → List ℕ → Type 0) (files files_after : Files)
+    (name : List ℕ) (given : Option ℕ) (sink sink_after : ℕ) (before after : Counts) (taken taken_after : List ℕ) (status : Status) : Type 0 where
+  pub ends : ReportEnds Fits given sink sink_after before after status
   pub says : IsTrue tells → ReportSays Fits files name given status
   pub refused : IsRefused tells Fits files name given status
   pub prints : IsTrue sink_tells → ReportPrints (λ text. IsTrue tells → OfFileFor Shows files name given text) taken taken_after status

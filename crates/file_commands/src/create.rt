@@ -1,9 +1,9 @@
 // Making a file of empty slots, which its header area records.
-ghost use Rattle.std.specs.Prelude.{◌≡◌, ◌+◌, ◌++◌, ◌∷◌, ◌≤◌, ◌↔◌, [], IsTrue};
+ghost use Rattle.std.specs.Prelude.{◌≡◌, ◌≤◌, ◌↔◌, IsTrue};
 ghost use Rattle.db_layout.specs.Layout.{IsSlotSize};
+ghost use Rattle.rock_disk.specs.Counts.{EachEnded, NoStation, NoneFailed, OneStation, counts};
 ghost use Rattle.rock_disk.specs.File.{IsThere, NoneAway};
 ghost use Rattle.file_commands.specs.Create.{IsSlotCount, IsGeometry, IsHalfMade, CreateEnds, CreateSays, CreateLeaves};
-ghost use Rattle.file_commands.specs.Device.{DeviceKept, EndedOne};
 
 use crate::recording::record;
 use db_layout::{Geometry, MOST_SLOTS, slot_size_ok};
@@ -24,8 +24,9 @@ pub fn create_file<V: Volume>(
     slots: u32,
 ) -> Status
     // When each status comes.
-    ensures ends { CreateEnds slot slots (V.faults volume.old) (V.faults volume.new)
-        (V.ended volume.old) (V.ended volume.new) result }
+    ensures ends { CreateEnds slot slots
+        (counts V.faults V.made V.ended volume.old)
+        (counts V.faults V.made V.ended volume.new) result }
     ensures says { IsTrue V.tells → CreateSays (V.files volume.old) name.now result }
     ensures size { (IsSlotSize slot → ⊥) → result ≡ Status.BadGeometry 1 }
     ensures count { IsSlotSize slot → (IsSlotCount slots → ⊥) → result ≡ Status.BadGeometry 4 }
@@ -41,18 +42,21 @@ pub fn create_file<V: Volume>(
     ensures back { IsTrue V.tells → NoneAway (V.files volume.old) → NoneAway (V.files volume.new) }
 
     // Its station: that of the header area.
-    ensures ended { EndedOne (V.made volume.old) (V.made volume.new)
-        (V.ended volume.old) (V.ended volume.new) }
-    ensures done { result ≡ Status.Done → (V.made volume.new ≡ V.made volume.old + 1)
-        × (V.ended volume.new ≡ V.ended volume.old ++ 0 ∷ []) }
-    ensures none { (result ≡ Status.Done → ⊥) → (result ≡ Status.DeviceFault → ⊥)
-        → (V.made volume.new ≡ V.made volume.old) × (V.ended volume.new ≡ V.ended volume.old) }
+    ensures ended { EachEnded
+        (counts V.faults V.made V.ended volume.old)
+        (counts V.faults V.made V.ended volume.new) }
+    ensures done { result ≡ Status.Done → OneStation 0
+        (counts V.faults V.made V.ended volume.old)
+        (counts V.faults V.made V.ended volume.new) }
+    ensures none { (result ≡ Status.Done → ⊥) → (result ≡ Status.DeviceFault → ⊥) → NoStation
+        (counts V.faults V.made V.ended volume.old)
+        (counts V.faults V.made V.ended volume.new) }
 
     // A fault is told as a fault.
     ensures faults { V.faults volume.old ≤ V.faults volume.new }
-    ensures unfailed { (result ≡ Status.DeviceFault → ⊥)
-        → DeviceKept (V.faults volume.old) (V.faults volume.new)
-        (V.ended volume.old) (V.ended volume.new) }
+    ensures unfailed { (result ≡ Status.DeviceFault → ⊥) → NoneFailed
+        (counts V.faults V.made V.ended volume.old)
+        (counts V.faults V.made V.ended volume.new) }
 {
     created_files_are_in();
     if !slot_size_ok(slot) {

@@ -1,7 +1,8 @@
 // The header area of a file that records nothing is written, and how many slots the file has is printed.
-ghost use Rattle.std.specs.Prelude.{◌≡◌, ℕ, ◌+◌, ◌++◌, ◌∷◌, ◌≤◌, [], IsErrOf, IsTrue, IfErr, IfOk, OnErr, OnOk, Some, length};
+ghost use Rattle.std.specs.Prelude.{◌≡◌, ℕ, ◌++◌, ◌≤◌, [], IsErrOf, IsTrue, IfErr, IfOk, OnErr, OnOk, Some};
 ghost use Rattle.std.specs.FinMap.{get};
 ghost use Rattle.db_layout.specs.Layout.{IsSlotSize};
+ghost use Rattle.rock_disk.specs.Counts.{EachEnded, NoStation, NoneFailed, counts};
 ghost use Rattle.rock_disk.specs.File.{HasSlots, IsNotAway, NoneAway};
 ghost use Rattle.rock_disk.specs.Opened.{IsSmall};
 ghost use Rattle.rock_io.specs.Faults.{Rose};
@@ -9,7 +10,6 @@ ghost use Rattle.rock_io.specs.LineBuffer.{Adds, HasRoom, held_of, size_of};
 ghost use Rattle.rock_io.specs.Sink.{TakesPrefix};
 ghost use Rattle.slot_finding.specs.Faults.{OrFailed};
 ghost use Rattle.slot_finding.specs.Finding.{FileRecords, FindsSlot};
-ghost use Rattle.file_commands.specs.Device.{DeviceKept, EndedOne};
 ghost use Rattle.file_commands.specs.Migrate.{IsMarkedFile, IsMigratedText, MigrateLeaves, migrated_line};
 ghost use Rattle.file_commands.specs.Report.{AnyCount, FoundEnds, IsRefused, ReadEnds, ReadSays, ReportEnds, ReportPrints, ReportSays};
 
@@ -54,25 +54,27 @@ fn record_unmarked<V: Volume>(
         → MigrateLeaves slot name.now (V.files volume.old) (V.files volume.new) status) }
 
     // When each refusal comes.
-    ensures refused { IfErr result (ReadEnds AnyCount (V.faults volume.old) (V.faults volume.new)
-        (V.ended volume.old) (V.ended volume.new)) }
+    ensures refused { IfErr result (ReadEnds AnyCount
+        (counts V.faults V.made V.ended volume.old)
+        (counts V.faults V.made V.ended volume.new)) }
     ensures says { IsTrue V.tells
         → IfErr result (ReadSays AnyCount (V.files volume.old) name.now slot) }
     ensures short { IsTrue V.tells → (bytes : ℕ)
         → IsSmall (V.files volume.old) name.now slot bytes → IfErr result (OrFailed (Status.Small bytes)) }
 
     // Its station, and how a fault shows.
-    ensures ended { EndedOne (V.made volume.old) (V.made volume.new)
-        (V.ended volume.old) (V.ended volume.new) }
+    ensures ended { EachEnded
+        (counts V.faults V.made V.ended volume.old)
+        (counts V.faults V.made V.ended volume.new) }
     ensures faults { V.faults volume.old ≤ V.faults volume.new }
-    ensures unfailed { (IsErrOf result Status.DeviceFault → ⊥)
-        → DeviceKept (V.faults volume.old) (V.faults volume.new)
-        (V.ended volume.old) (V.ended volume.new) }
+    ensures unfailed { (IsErrOf result Status.DeviceFault → ⊥) → NoneFailed
+        (counts V.faults V.made V.ended volume.old)
+        (counts V.faults V.made V.ended volume.new) }
 
     // A file that is marked is left alone.
     ensures marked { IsTrue V.tells → IsMarkedFile (V.files volume.old) name.now
         → (V.files volume.new ≡ V.files volume.old)
-        × (V.made volume.new ≡ V.made volume.old) × (V.ended volume.new ≡ V.ended volume.old)
+        × NoStation (counts V.faults V.made V.ended volume.old) (counts V.faults V.made V.ended volume.new)
         × (IsErrOf result Status.DeviceFault → Rose (V.faults volume.old) (V.faults volume.new)) }
 {
     slots_are_whole();
@@ -107,25 +109,27 @@ fn record_looked<V: Volume>(
         → MigrateLeaves slot name.now (V.files volume.old) (V.files volume.new) status) }
 
     // When each refusal comes.
-    ensures refused { IfErr result (ReadEnds AnyCount (V.faults volume.old) (V.faults volume.new)
-        (V.ended volume.old) (V.ended volume.new)) }
+    ensures refused { IfErr result (ReadEnds AnyCount
+        (counts V.faults V.made V.ended volume.old)
+        (counts V.faults V.made V.ended volume.new)) }
     ensures says { IsTrue V.tells
         → IfErr result (ReadSays AnyCount (V.files volume.old) name.now slot) }
     ensures short { IsTrue V.tells → (bytes : ℕ)
         → IsSmall (V.files volume.old) name.now slot bytes → IfErr result (OrFailed (Status.Small bytes)) }
 
     // Its station, and how a fault shows.
-    ensures ended { EndedOne (V.made volume.old) (V.made volume.new)
-        (V.ended volume.old) (V.ended volume.new) }
+    ensures ended { EachEnded
+        (counts V.faults V.made V.ended volume.old)
+        (counts V.faults V.made V.ended volume.new) }
     ensures faults { V.faults volume.old ≤ V.faults volume.new }
-    ensures unfailed { (IsErrOf result Status.DeviceFault → ⊥)
-        → DeviceKept (V.faults volume.old) (V.faults volume.new)
-        (V.ended volume.old) (V.ended volume.new) }
+    ensures unfailed { (IsErrOf result Status.DeviceFault → ⊥) → NoneFailed
+        (counts V.faults V.made V.ended volume.old)
+        (counts V.faults V.made V.ended volume.new) }
 
     // A file that is marked is left alone.
     ensures marked { IsTrue V.tells → IsMarkedFile (V.files volume.old) name.now
         → (V.files volume.new ≡ V.files volume.old)
-        × (V.made volume.new ≡ V.made volume.old) × (V.ended volume.new ≡ V.ended volume.old)
+        × NoStation (counts V.faults V.made V.ended volume.old) (counts V.faults V.made V.ended volume.new)
         × (IsErrOf result Status.DeviceFault → Rose (V.faults volume.old) (V.faults volume.new)) }
 {
     let looked = match look_at_header(volume, name) {
@@ -161,24 +165,26 @@ fn migrate_found<V: Volume>(
         → MigrateLeaves slot name.now (V.files volume.old) (V.files volume.new) status) }
 
     // When each refusal comes, and that it does.
-    ensures ends { IfErr result (FoundEnds AnyCount (Some slot) (V.faults volume.old) (V.faults volume.new)
-        (V.ended volume.old) (V.ended volume.new)) }
+    ensures ends { IfErr result (FoundEnds AnyCount (Some slot)
+        (counts V.faults V.made V.ended volume.old)
+        (counts V.faults V.made V.ended volume.new)) }
     ensures says { IsTrue V.tells
         → IfErr result (ReportSays AnyCount (V.files volume.old) name.now (Some slot)) }
     ensures refused { IfErr result (IsRefused V.tells AnyCount (V.files volume.old) name.now (Some slot)) }
 
     // Its station, and how a fault shows.
-    ensures ended { EndedOne (V.made volume.old) (V.made volume.new)
-        (V.ended volume.old) (V.ended volume.new) }
+    ensures ended { EachEnded
+        (counts V.faults V.made V.ended volume.old)
+        (counts V.faults V.made V.ended volume.new) }
     ensures faults { V.faults volume.old ≤ V.faults volume.new }
-    ensures unfailed { (IsErrOf result Status.DeviceFault → ⊥)
-        → DeviceKept (V.faults volume.old) (V.faults volume.new)
-        (V.ended volume.old) (V.ended volume.new) }
+    ensures unfailed { (IsErrOf result Status.DeviceFault → ⊥) → NoneFailed
+        (counts V.faults V.made V.ended volume.old)
+        (counts V.faults V.made V.ended volume.new) }
 
     // A file that is marked is left alone.
     ensures marked { IsTrue V.tells → IsMarkedFile (V.files volume.old) name.now
         → (V.files volume.new ≡ V.files volume.old)
-        × (V.made volume.new ≡ V.made volume.old) × (V.ended volume.new ≡ V.ended volume.old)
+        × NoStation (counts V.faults V.made V.ended volume.old) (counts V.faults V.made V.ended volume.new)
         × (IsErrOf result Status.DeviceFault → Rose (V.faults volume.old) (V.faults volume.new)) }
 {
     match find_slot(volume, name, Some(slot)) {
@@ -231,7 +237,8 @@ pub fn migrate_file<V: Volume, K: Sink>(
 
     // When each status comes.
     ensures ends { ReportEnds AnyCount (Some slot) (K.faults out.old) (K.faults out.new)
-        (V.faults volume.old) (V.faults volume.new) (V.ended volume.old) (V.ended volume.new) result }
+        (counts V.faults V.made V.ended volume.old)
+        (counts V.faults V.made V.ended volume.new) result }
     ensures says { IsTrue V.tells → ReportSays AnyCount (V.files volume.old) name.now (Some slot) result }
     ensures refused { IsRefused V.tells AnyCount (V.files volume.old) name.now (Some slot) result }
 
@@ -244,21 +251,22 @@ pub fn migrate_file<V: Volume, K: Sink>(
     ensures leaves { IsTrue V.tells → MigrateLeaves slot name.now (V.files volume.old) (V.files volume.new) result }
     ensures back { IsTrue V.tells → NoneAway (V.files volume.old) → NoneAway (V.files volume.new) }
 
-    ensures ended { EndedOne (V.made volume.old) (V.made volume.new)
-        (V.ended volume.old) (V.ended volume.new) }
+    ensures ended { EachEnded
+        (counts V.faults V.made V.ended volume.old)
+        (counts V.faults V.made V.ended volume.new) }
     ensures faults { V.faults volume.old ≤ V.faults volume.new }
     ensures sink_faults { K.faults out.old ≤ K.faults out.new }
 
     // A fault is told as a fault.
     ensures sink_unfailed { (result ≡ Status.SinkFault → ⊥) → K.faults out.new ≡ K.faults out.old }
-    ensures device_unfailed { (result ≡ Status.DeviceFault → ⊥)
-        → DeviceKept (V.faults volume.old) (V.faults volume.new)
-        (V.ended volume.old) (V.ended volume.new) }
+    ensures device_unfailed { (result ≡ Status.DeviceFault → ⊥) → NoneFailed
+        (counts V.faults V.made V.ended volume.old)
+        (counts V.faults V.made V.ended volume.new) }
 
     // A file that is marked is left alone: nothing is written, and no station is made.
     ensures marked { IsTrue V.tells → IsMarkedFile (V.files volume.old) name.now
         → (V.files volume.new ≡ V.files volume.old)
-        × (V.made volume.new ≡ V.made volume.old) × (V.ended volume.new ≡ V.ended volume.old)
+        × NoStation (counts V.faults V.made V.ended volume.old) (counts V.faults V.made V.ended volume.new)
         × (result ≡ Status.DeviceFault → Rose (V.faults volume.old) (V.faults volume.new)) }
 {
     created_files_are_in();

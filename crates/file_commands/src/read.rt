@@ -3,11 +3,11 @@ ghost use Rattle.std.specs.Prelude.{◌≡◌, ℕ, ◌≤◌, IsTrue, IsOk, IfO
 ghost use Rattle.std.specs.FinMap.{get};
 ghost use Rattle.rock_io.specs.Faults.{Rose};
 ghost use Rattle.rock_disk.specs.Cell.{CellState};
+ghost use Rattle.rock_disk.specs.Counts.{EachEnded, NoStation, NoneFailed, counts};
 ghost use Rattle.rock_disk.specs.File.{IsNotAway, IsThere, IsKept};
 ghost use Rattle.rock_disk.specs.Opened.{AreSlots, IsSmall};
 ghost use Rattle.db_layout.specs.Layout.{IsSlotSize};
 ghost use Rattle.file_commands.specs.Faults.{status_of_open, status_of_rebuild, status_of_station};
-ghost use Rattle.file_commands.specs.Device.{EndedOne, DeviceKept};
 ghost use Rattle.file_commands.specs.Report.{Fits, Prints, OfFile, HasSlots, IsFit, OpenedEnds, ReadEnds, ReadSays, text_of};
 
 use crate::report::{Reading, Report};
@@ -68,13 +68,15 @@ fn read_by_station<V: Volume>(
     ensures cells { map V.C.state cells.new ≡ map V.C.state cells.old }
     ensures files { V.files volume.new ≡ V.files volume.old }
     ensures faults { V.faults volume.old ≤ V.faults volume.new }
-    ensures ended { EndedOne (V.made volume.old) (V.made volume.new)
-        (V.ended volume.old) (V.ended volume.new) }
-    ensures unfailed { (IsErrOf result Status.DeviceFault → ⊥)
-        → DeviceKept (V.faults volume.old) (V.faults volume.new)
-        (V.ended volume.old) (V.ended volume.new) }
+    ensures ended { EachEnded
+        (counts V.faults V.made V.ended volume.old)
+        (counts V.faults V.made V.ended volume.new) }
+    ensures unfailed { (IsErrOf result Status.DeviceFault → ⊥) → NoneFailed
+        (counts V.faults V.made V.ended volume.old)
+        (counts V.faults V.made V.ended volume.new) }
     ensures refused { IfErr result (OpenedEnds (Fits report) (length cells.old)
-        (V.faults volume.old) (V.faults volume.new) (V.ended volume.old) (V.ended volume.new)) }
+        (counts V.faults V.made V.ended volume.old)
+        (counts V.faults V.made V.ended volume.new)) }
 {
     let mut station = match volume.station(name) {
         Ok(station) => station,
@@ -105,16 +107,19 @@ fn read_if_fit<V: Volume>(
     ensures cells { map V.C.state cells.new ≡ map V.C.state cells.old }
     ensures files { V.files volume.new ≡ V.files volume.old }
     ensures faults { V.faults volume.old ≤ V.faults volume.new }
-    ensures ended { EndedOne (V.made volume.old) (V.made volume.new)
-        (V.ended volume.old) (V.ended volume.new) }
-    ensures unfailed { (IsErrOf result Status.DeviceFault → ⊥)
-        → DeviceKept (V.faults volume.old) (V.faults volume.new)
-        (V.ended volume.old) (V.ended volume.new) }
+    ensures ended { EachEnded
+        (counts V.faults V.made V.ended volume.old)
+        (counts V.faults V.made V.ended volume.new) }
+    ensures unfailed { (IsErrOf result Status.DeviceFault → ⊥) → NoneFailed
+        (counts V.faults V.made V.ended volume.old)
+        (counts V.faults V.made V.ended volume.new) }
     ensures refused { IfErr result (OpenedEnds (Fits report) (length cells.old)
-        (V.faults volume.old) (V.faults volume.new) (V.ended volume.old) (V.ended volume.new)) }
+        (counts V.faults V.made V.ended volume.old)
+        (counts V.faults V.made V.ended volume.new)) }
     ensures unfit { (Fits report (length cells.old) → ⊥)
-        → IsErrOf result (Status.BadGeometry 2)
-        × (V.made volume.new ≡ V.made volume.old) × (V.ended volume.new ≡ V.ended volume.old) }
+        → IsErrOf result (Status.BadGeometry 2) × NoStation
+        (counts V.faults V.made V.ended volume.old)
+        (counts V.faults V.made V.ended volume.new) }
 {
     if !report.is_for(cells.len()) {
         return Err(Status::BadGeometry { field: 2 });
@@ -138,27 +143,29 @@ pub fn read_file<V: Volume>(
     ensures fits { IsTrue V.tells → IsOk result
         → IsFit (Fits report) (V.files volume.old) name.now slot }
     ensures kept { IsTrue V.tells → IsKept slot name.now (V.files volume.old) (V.files volume.new) }
-    ensures ended { EndedOne (V.made volume.old) (V.made volume.new)
-        (V.ended volume.old) (V.ended volume.new) }
+    ensures ended { EachEnded
+        (counts V.faults V.made V.ended volume.old)
+        (counts V.faults V.made V.ended volume.new) }
     ensures faults { V.faults volume.old ≤ V.faults volume.new }
 
     // When each refusal comes.
-    ensures refused { IfErr result (ReadEnds (Fits report) (V.faults volume.old) (V.faults volume.new)
-        (V.ended volume.old) (V.ended volume.new)) }
+    ensures refused { IfErr result (ReadEnds (Fits report)
+        (counts V.faults V.made V.ended volume.old)
+        (counts V.faults V.made V.ended volume.new)) }
     ensures says { IsTrue V.tells
         → IfErr result (ReadSays (Fits report) (V.files volume.old) name.now slot) }
     ensures missing { IsTrue V.tells → get (V.files volume.old) name.now ≡ None
         → IsErrOf result Status.Missing }
     ensures small { IsTrue V.tells → (bytes : ℕ)
         → IsSmall (V.files volume.old) name.now slot bytes → IsErrOf result (Status.Small bytes) }
-    ensures unfailed { (IsErrOf result Status.DeviceFault → ⊥)
-        → DeviceKept (V.faults volume.old) (V.faults volume.new)
-        (V.ended volume.old) (V.ended volume.new) }
+    ensures unfailed { (IsErrOf result Status.DeviceFault → ⊥) → NoneFailed
+        (counts V.faults V.made V.ended volume.old)
+        (counts V.faults V.made V.ended volume.new) }
 
     // Where the report is not for a file with its number of slots, no station is made.
     ensures early { IsTrue V.tells → (slots : ℕ)
         → HasSlots (V.files volume.old) name.now slot slots → (Fits report slots → ⊥)
-        → (V.made volume.new ≡ V.made volume.old) × (V.ended volume.new ≡ V.ended volume.old)
+        → NoStation (counts V.faults V.made V.ended volume.old) (counts V.faults V.made V.ended volume.new)
         × (IsErrOf result Status.DeviceFault → Rose (V.faults volume.old) (V.faults volume.new)) }
 {
     opened_slots_are_wide_and_few();

@@ -1,13 +1,13 @@
 // The header area of a file is written, and records the slots of its file.
-ghost use Rattle.std.specs.Prelude.{◌≡◌, ℕ, ◌+◌, ◌++◌, ◌∷◌, ◌<◌, ◌≤◌, [], IsTrue, IfErr, IsErrOf, OnErr, OnOk, None, length};
+ghost use Rattle.std.specs.Prelude.{◌≡◌, ℕ, ◌+◌, ◌<◌, ◌≤◌, IsTrue, IfErr, IsErrOf, OnErr, OnOk, None, length};
 ghost use Rattle.std.specs.FinMap.{get};
 ghost use Rattle.db_layout.specs.Layout.{IsSlotSize};
 ghost use Rattle.rock_io.specs.Faults.{Rose};
 ghost use Rattle.rock_disk.specs.Cell.{settled, shape};
+ghost use Rattle.rock_disk.specs.Counts.{EachEnded, NoStation, NoneFailed, OneStation, counts};
 ghost use Rattle.rock_disk.specs.File.{IsNotAway, IsThere};
 ghost use Rattle.rock_disk.specs.Opened.{IsSmall};
 ghost use Rattle.rock_disk.specs.Written.{AddsAtMost, ReadsOldOrNew};
-ghost use Rattle.file_commands.specs.Device.{DeviceKept, EndedOne};
 ghost use Rattle.file_commands.specs.Recording.{HeaderLeft, IsRecorded, MayBeRecorded, RecordLeaves};
 ghost use Rattle.file_commands.specs.Report.{AnyCount, OpenedEnds, ReadEnds, ReadSays};
 
@@ -58,17 +58,21 @@ fn record_by_station<V: Volume>(
 
     // Its station, and how a fault shows.
     ensures refused { IfErr result (OpenedEnds AnyCount 0
-        (V.faults volume.old) (V.faults volume.new) (V.ended volume.old) (V.ended volume.new)) }
-    ensures ended { EndedOne (V.made volume.old) (V.made volume.new)
-        (V.ended volume.old) (V.ended volume.new) }
-    ensures done { OnOk result ((V.made volume.new ≡ V.made volume.old + 1)
-        × (V.ended volume.new ≡ V.ended volume.old ++ 0 ∷ [])) }
-    ensures none { IsErrOf result Status.Memory
-        → (V.made volume.new ≡ V.made volume.old) × (V.ended volume.new ≡ V.ended volume.old) }
+        (counts V.faults V.made V.ended volume.old)
+        (counts V.faults V.made V.ended volume.new)) }
+    ensures ended { EachEnded
+        (counts V.faults V.made V.ended volume.old)
+        (counts V.faults V.made V.ended volume.new) }
+    ensures done { OnOk result (OneStation 0
+        (counts V.faults V.made V.ended volume.old)
+        (counts V.faults V.made V.ended volume.new)) }
+    ensures none { IsErrOf result Status.Memory → NoStation
+        (counts V.faults V.made V.ended volume.old)
+        (counts V.faults V.made V.ended volume.new) }
     ensures faults { V.faults volume.old ≤ V.faults volume.new }
-    ensures unfailed { (IsErrOf result Status.DeviceFault → ⊥)
-        → DeviceKept (V.faults volume.old) (V.faults volume.new)
-        (V.ended volume.old) (V.ended volume.new) }
+    ensures unfailed { (IsErrOf result Status.DeviceFault → ⊥) → NoneFailed
+        (counts V.faults V.made V.ended volume.old)
+        (counts V.faults V.made V.ended volume.new) }
 {
     let mut station = match volume.station(name) {
         Ok(station) => station,
@@ -111,8 +115,9 @@ pub(crate) fn record<V: Volume>(
         → MayBeRecorded geometry.now name.now (V.files volume.old) (V.files volume.new) }
 
     // When each refusal comes.
-    ensures refused { IfErr result (ReadEnds AnyCount (V.faults volume.old) (V.faults volume.new)
-        (V.ended volume.old) (V.ended volume.new)) }
+    ensures refused { IfErr result (ReadEnds AnyCount
+        (counts V.faults V.made V.ended volume.old)
+        (counts V.faults V.made V.ended volume.new)) }
     ensures says { IsTrue V.tells
         → IfErr result (ReadSays AnyCount (V.files volume.old) name.now geometry.now.slot) }
     ensures short { (bytes : ℕ) → IsErrOf result (Status.Small bytes) → bytes < HEADER_BYTES + geometry.now.slot }
@@ -122,16 +127,19 @@ pub(crate) fn record<V: Volume>(
         → IsSmall (V.files volume.old) name.now geometry.now.slot bytes → IsErrOf result (Status.Small bytes) }
 
     // Its station, and how a fault shows.
-    ensures ended { EndedOne (V.made volume.old) (V.made volume.new)
-        (V.ended volume.old) (V.ended volume.new) }
-    ensures done { OnOk result ((V.made volume.new ≡ V.made volume.old + 1)
-        × (V.ended volume.new ≡ V.ended volume.old ++ 0 ∷ [])) }
-    ensures none { OnErr result ((IsErrOf result Status.DeviceFault → ⊥)
-        → (V.made volume.new ≡ V.made volume.old) × (V.ended volume.new ≡ V.ended volume.old)) }
+    ensures ended { EachEnded
+        (counts V.faults V.made V.ended volume.old)
+        (counts V.faults V.made V.ended volume.new) }
+    ensures done { OnOk result (OneStation 0
+        (counts V.faults V.made V.ended volume.old)
+        (counts V.faults V.made V.ended volume.new)) }
+    ensures none { OnErr result ((IsErrOf result Status.DeviceFault → ⊥) → NoStation
+        (counts V.faults V.made V.ended volume.old)
+        (counts V.faults V.made V.ended volume.new)) }
     ensures faults { V.faults volume.old ≤ V.faults volume.new }
-    ensures unfailed { (IsErrOf result Status.DeviceFault → ⊥)
-        → DeviceKept (V.faults volume.old) (V.faults volume.new)
-        (V.ended volume.old) (V.ended volume.new) }
+    ensures unfailed { (IsErrOf result Status.DeviceFault → ⊥) → NoneFailed
+        (counts V.faults V.made V.ended volume.old)
+        (counts V.faults V.made V.ended volume.new) }
 {
     geometries_are_read_as_written();
     opened_cells_are_the_files();

@@ -5,10 +5,10 @@ ghost use Rattle.rock_io.specs.Faults.{Rose};
 ghost use Rattle.rock_io.specs.LineBuffer.{held_of, size_of};
 ghost use Rattle.rock_io.specs.Sink.{TakesPrefix};
 ghost use Rattle.rock_disk.specs.Cell.{CellState};
+ghost use Rattle.rock_disk.specs.Counts.{EachEnded, NoStation, NoneFailed, counts};
 ghost use Rattle.rock_disk.specs.File.{IsNotAway};
 ghost use Rattle.rock_disk.specs.Opened.{AreSlots};
 ghost use Rattle.slot_finding.specs.Finding.{IsKeptFor, WithSlot};
-ghost use Rattle.file_commands.specs.Device.{EndedOne, DeviceKept};
 ghost use Rattle.file_commands.specs.Report.{Fits, IsAnchors, IsRefused, IsUnfit, OfFileFor, PrintEnds, Prints, ReportEnds, ReportPrints, ReportSays, text_of};
 
 use crate::found::read_found;
@@ -140,7 +140,8 @@ pub fn print_report<V: Volume, K: Sink>(
 
     // When each status comes.
     ensures ends { ReportEnds (Fits report) given (K.faults out.old) (K.faults out.new)
-        (V.faults volume.old) (V.faults volume.new) (V.ended volume.old) (V.ended volume.new) result }
+        (counts V.faults V.made V.ended volume.old)
+        (counts V.faults V.made V.ended volume.new) result }
     ensures says { IsTrue V.tells → ReportSays (Fits report) (V.files volume.old) name.now given result }
     ensures refused { IsRefused V.tells (Fits report) (V.files volume.old) name.now given result }
 
@@ -150,21 +151,22 @@ pub fn print_report<V: Volume, K: Sink>(
         (K.taken out.old) (K.taken out.new) result }
 
     ensures kept { IsTrue V.tells → IsKeptFor name.now given (V.files volume.old) (V.files volume.new) }
-    ensures ended { EndedOne (V.made volume.old) (V.made volume.new)
-        (V.ended volume.old) (V.ended volume.new) }
+    ensures ended { EachEnded
+        (counts V.faults V.made V.ended volume.old)
+        (counts V.faults V.made V.ended volume.new) }
     ensures faults { V.faults volume.old ≤ V.faults volume.new }
     ensures sink_faults { K.faults out.old ≤ K.faults out.new }
 
     // A fault is told as a fault.
     ensures sink_unfailed { (result ≡ Status.SinkFault → ⊥) → K.faults out.new ≡ K.faults out.old }
-    ensures device_unfailed { (result ≡ Status.DeviceFault → ⊥)
-        → DeviceKept (V.faults volume.old) (V.faults volume.new)
-        (V.ended volume.old) (V.ended volume.new) }
+    ensures device_unfailed { (result ≡ Status.DeviceFault → ⊥) → NoneFailed
+        (counts V.faults V.made V.ended volume.old)
+        (counts V.faults V.made V.ended volume.new) }
 
     // Where the report is not for a file with its number of slots, no station is made.
     ensures early { IsTrue V.tells
         → WithSlot (V.files volume.old) name.now given (IsUnfit (Fits report) (V.files volume.old) name.now)
-        → (V.made volume.new ≡ V.made volume.old) × (V.ended volume.new ≡ V.ended volume.old)
+        → NoStation (counts V.faults V.made V.ended volume.old) (counts V.faults V.made V.ended volume.new)
         × (result ≡ Status.DeviceFault → Rose (V.faults volume.old) (V.faults volume.new)) }
 {
     if !may_be_given(given) {

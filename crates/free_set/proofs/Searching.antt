@@ -1,5 +1,5 @@
 -- One step of a search for a free slot behind others.
-use Rattle.std.proofs.Common.{All, Bool, Contains, List, Option, Some, [], ap, arith, cond, eq-eqb, false, get_or, get_or-set_other, get_or-set_same, inl, inr, min, ne_eqb, refl, set, subst, suc, sym, true, unwrap_or, zero, ◌%◌, ◌*◌, ◌+◌, ◌-◌, ◌/◌, ◌<◌, ◌==◌, ◌∷◌, ◌≡◌, ◌≢◌, ◌≤◌, ◌⊎◌, ◌∙◌, ℕ}
+use Rattle.std.proofs.Common.{All, Bool, Contains, List, Option, Some, ap, arith, cond, eq-eqb, false, get_or, get_or-set_other, get_or-set_same, inl, inr, min, ne_eqb, refl, set, subst, suc, sym, true, unwrap_or, zero, ◌%◌, ◌*◌, ◌+◌, ◌-◌, ◌/◌, ◌<◌, ◌==◌, ◌∷◌, ◌≡◌, ◌≢◌, ◌≤◌, ◌⊎◌, ◌∙◌, ℕ}
 use Rattle.std.proofs.lemmas.Nat.Bits.{bit_at-lt}
 use mathlib.Core.Logic.{dite}
 use native.Mathlib.Decide.{ℕ_discrete}
@@ -16,7 +16,8 @@ use Rattle.core_model.specs.declared.tab.Tab.{Tab}
 use Rattle.core_model.specs.declared.tab.Tab.TheVariants.{Free, Freeing, Last, Reading, Retreating, Writing}
 use Rattle.core_model.specs.declared.tab.Writer.{Writer}
 use Rattle.core_model.specs.declared.view.Item.{Item}
-use Rattle.core_model.specs.declared.view.Kind.TheVariants.{Owned, Searched}
+use Rattle.core_model.specs.declared.view.Kind.{Kind}
+use Rattle.core_model.specs.declared.view.Kind.TheVariants.{Doomed, Entered, Owned, Searched}
 use Rattle.core_model.specs.declared.view.Place.TheVariants.{Map}
 use Rattle.core_model.specs.declared.view.View.{View}
 use Rattle.store_rule.specs.declared.store.Pass.{Pass}
@@ -28,7 +29,9 @@ use Rattle.store_rule.specs.Calls.{Follows}
 use Rattle.store_rule.specs.Runs.{Added, added_by, nothing_added, together}
 use Rattle.store_rule.specs.Words.{Mine, has, is_free_slot}
 use Rattle.store_rule.proofs.AddingUp.{found_mine, has_else, has_left, went_none, went_one, went_then}
+use Rattle.store_rule.specs.Quiet.{Quiet}
 use Rattle.store_rule.proofs.Following.{follows_on, made_follows}
+use Rattle.store_rule.proofs.Quieting.{quiet_went}
 use Rattle.store_rule.proofs.Seating.{set_twice}
 use Rattle.free_set.specs.Claims.{Claimed, FoundAllTaken, FoundTaken, Passed, found_free, item, looks_in, lost_in, searched_to, tries_in, word_of}
 
@@ -42,6 +45,18 @@ newest x items slot kind word taken = record { item = x; made = (0, omega arith,
 all_and : (x : Item) (items : List Item) → (x.kind ≡ Searched) ⊎ (x.kind ≡ Owned) → All (λ (y : Item). (y.kind ≡ Searched) ⊎ (y.kind ≡ Owned)) items → All (λ (y : Item). (y.kind ≡ Searched) ⊎ (y.kind ≡ Owned)) (x ∷ items)
 all_and x items one all zero d lt = one
 all_and x items one all (suc k) d lt = all k d (omega arith)
+
+-- looks at the map and tries for slots count no reader and doom nothing
+pub passed_quiet : {X : Type 0} {g : Ground X} {v w : View X} {slot : ℕ} {d : Added} → Passed g v slot d w → Quiet v w
+passed_quiet {X} {g} {v} {w} {slot} {d} h = quiet_went h.went (λ k x lt e. no_entering _ (h.kinds k x lt) e) (λ k x lt e. no_doom _ (h.kinds k x lt) e)
+  where
+    no_entering : (kind : Kind) → (kind ≡ Searched) ⊎ (kind ≡ Owned) → kind ≢ Entered
+    no_entering kind (inl is) e = cc
+    no_entering kind (inr is) e = cc
+
+    no_doom : (kind : Kind) → (kind ≡ Searched) ⊎ (kind ≡ Owned) → kind ≢ Doomed
+    no_doom kind (inl is) e = cc
+    no_doom kind (inr is) e = cc
 
 word_is : (word : ℕ) → 64 * word / 64 ≡ word
 word_is word = omega arith

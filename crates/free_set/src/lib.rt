@@ -7,6 +7,7 @@ ghost use Rattle.std.specs.Prelude.{IfOk, OnErr, ℕ};
 ghost use Rattle.core_model.specs.declared.moves.Move.TheVariants.{Disown};
 ghost use Rattle.free_set.specs.Claims.{Claimed, FoundAllTaken, MayClaim};
 ghost use Rattle.store_rule.specs.Calls.{Follows};
+ghost use Rattle.store_rule.specs.Quiet.{Quiet};
 ghost use Rattle.store_rule.specs.Passes.{Made, May, basis, view};
 
 use link_word::{first_clear, is_set, map_words};
@@ -34,6 +35,7 @@ pub fn claim<C: Cell, O: Origin>(
     ensures ok { IfOk result (λ slot. Claimed (basis C.tells C.state O.offers store.now) tab (view pass.old) slot (view pass.new)) }
     ensures err { OnErr result (FoundAllTaken (basis C.tells C.state O.offers store.now) tab (view pass.old) (view pass.new)) }
     ensures others { Follows C.tells C.state O.offers store.now tab pass.old pass.new }
+    ensures quiet { Quiet (view pass.old) (view pass.new) }
 {
     let slots = store.slots();
     let words = map_words(slots);
@@ -59,6 +61,7 @@ pub fn give<C: Cell, O: Origin>(store: &Store<C, O>, pass: &mut Pass<C>, tab: u8
     requires { May C.tells C.state O.offers store.now pass.old (Disown tab slot) }
     ensures made { (found : ℕ) × Made C.tells C.state O.offers store.now pass.old (Disown tab slot) found pass.new }
     ensures others { Follows C.tells C.state O.offers store.now tab pass.old pass.new }
+    ensures quiet { Quiet (view pass.old) (view pass.new) }
 {
     store.disown(pass, tab, slot);
 }

@@ -108,7 +108,7 @@ module _ (file : FileImage) (contents : List FirstContent) where
   -- an entry begins at a slot that shows its version
   pub shows : (f : Found) → IsNamedEntry file contents f → ShowsVersion file contents f.first f.version
   shows f (inl q) = inl (first_file f q, subst (λ (g : Found). IsSaneAt file.slot file.slots g.first) (sym q.told) (first_belongs file.slot file.slots q.entry.first q.entry.chain q.complete.chain).sane, version_is f q)
-  shows f (inr q) = inr (q.head, q.there, q.version_is)
+  shows f (inr q) = inr record { piece = q.head; there = q.there; some = q.some_version; version_is = q.version_is }
 
   pub first_within : length contents ≡ length file.slots → (f : Found) → IsNamedEntry file contents f → f.first < length contents
   first_within many f q = let b = begins f q in let lt = within many f q f.first (subst (λ (xs : List ℕ). Contains xs f.first) (sym b.1) (0, omega arith, refl)) in omega arith

@@ -113,7 +113,11 @@ module _ (file : FileImage) (contents : List FirstContent) (anchors : ℕ) where
       where
         of_slot : (s : ℕ) × (s < length contents) × ShowsVersion file contents s r.greatest → r.greatest ≤ version_limit
         of_slot (s, lt, inl q) = let most = q.1.sane.version_to in let is = q.2 in omega arith
-        of_slot (s, lt, inr q) = let most = (are.pieces s q.0 q.1).version_to in let is = q.2 in omega arith
+        of_slot (s, lt, inr q) = let most = (are.pieces s q.piece q.there).version_to in let is = q.version_is in omega arith
+
+    some_version : (s version : ℕ) → ShowsVersion file contents s version → 0 < version
+    some_version s version (inl q) = let least = q.1.sane.version_from in let is = q.2 in omega arith
+    some_version s version (inr q) = let least = q.some in let is = q.version_is in omega arith
 
     pub kept_so : IsKeptSo anchors (length file.slots) r
     kept_so = record {
@@ -124,6 +128,7 @@ module _ (file : FileImage) (contents : List FirstContent) (anchors : ℕ) where
       one_a_slot = b.one_a_slot ∙ are.many;
       owned = b.owned;
       free = b.free;
+      some_version = λ f h. some_version f.first f.version (shows file contents f (b.won f h).entry);
       versions = λ f h. b.greatest.above f.first f.version (first_within file contents are.many f (b.won f h).entry) (shows file contents f (b.won f h).entry);
       limited = limited;
     }

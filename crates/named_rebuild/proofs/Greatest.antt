@@ -24,9 +24,9 @@ of_all file contents bound greatest g all = record {
 -- a slot shows one version at most
 one_version : (file : FileImage) (contents : List FirstContent) (s v w : ℕ) → ShowsVersion file contents s v → ShowsVersion file contents s w → v ≡ w
 one_version file contents s v w (inl p) (inl q) = p.2 ∙ sym q.2
-one_version file contents s v w (inl p) (inr q) = absurd (not_both contents s q.0 p.0 q.1)
-one_version file contents s v w (inr p) (inl q) = absurd (not_both contents s p.0 q.0 p.1)
-one_version file contents s v w (inr p) (inr q) = p.2 ∙ ap (λ (l : LoggedPiece). l.piece.version) (same_piece contents s p.0 q.0 p.1 q.1) ∙ sym q.2
+one_version file contents s v w (inl p) (inr q) = absurd (not_both contents s q.piece p.0 q.there)
+one_version file contents s v w (inr p) (inl q) = absurd (not_both contents s p.piece q.0 p.there)
+one_version file contents s v w (inr p) (inr q) = p.version_is ∙ ap (λ (l : LoggedPiece). l.piece.version) (same_piece contents s p.piece q.piece p.there q.there) ∙ sym q.version_is
 
 pub shown_on : (file : FileImage) (contents : List FirstContent) (bound greatest version grown : ℕ) → GreatestBefore file contents bound greatest → bound < length contents → ShowsVersion file contents bound version
     → grown ≡ max greatest version → GreatestBefore file contents (bound + 1) grown

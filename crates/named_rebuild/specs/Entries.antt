@@ -1,5 +1,5 @@
 -- The complete entries of contents that are told by names.
-use Rattle.std.specs.Prelude.{◌≡◌, ◌⊎◌, ◌+◌, ◌∷◌, ◌++◌, [], ℕ, All, List}
+use Rattle.std.specs.Prelude.{◌≡◌, ◌⊎◌, ◌+◌, ◌<◌, ◌∷◌, ◌++◌, [], ℕ, All, List}
 use Rattle.std.specs.Int.{to_le_bytes, w64}
 use Rattle.link_word.specs.declared.link.Link.{Link}
 use Rattle.link_word.specs.declared.link.Link.TheVariants.{Last}
@@ -43,12 +43,13 @@ pub record IsFileEntry (file : FileImage) (contents : List FirstContent) (f : Fo
   pub told : f ≡ found_of entry
   pub stays : All (λ s. content_at contents s ≡ File) entry.chain
 
--- The entry has all its pieces: one that stands in the slot that it names as the first, the others behind it, and a last one. Its name
--- is its key.
+-- The entry has all its pieces: one that stands in the slot that it names as the first, the others behind it, and a last one. Their version
+-- is above 0, as in a sane header. Its name is its key.
 pub record IsPieceEntry (contents : List FirstContent) (f : Found) : Type 0 where
   pub head : LoggedPiece
   pub there : content_at contents f.first ≡ Logged head
   pub first_is : head.piece.first ≡ f.first
+  pub some_version : 0 < head.piece.version
   pub behind : List ℕ
   pub begins : f.chain ≡ f.first ∷ behind
   pub pieces : ArePieces contents head 0 (f.first ∷ behind)

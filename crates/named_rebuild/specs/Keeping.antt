@@ -12,11 +12,18 @@ use Rattle.named_rebuild.specs.declared.contents.FirstContent.TheVariants.{File,
 use Rattle.named_rebuild.specs.Contents.{content_at}
 use Rattle.named_rebuild.specs.Entries.{IsNamedEntry}
 
+-- the slot holds a piece of this version, which is above 0, as in a sane header
+pub record IsOfPiece (contents : List FirstContent) (slot version : ℕ) : Type 0 where
+  pub piece : LoggedPiece
+  pub there : content_at contents slot ≡ Logged piece
+  pub some : 0 < piece.piece.version
+  pub version_is : version ≡ piece.piece.version
+
 -- a slot shows this version: by the header that it has in the first file, where that is sane, or by its piece
 abbrev pub ShowsVersion : FileImage → List FirstContent → (slot version : ℕ) → Type 0
 ShowsVersion file contents s version =
     ((content_at contents s ≡ File) × IsSaneAt file.slot file.slots s × (version ≡ (header_at file.slots s).version))
-    ⊎ ((l : LoggedPiece) × (content_at contents s ≡ Logged l) × (version ≡ l.piece.version))
+    ⊎ IsOfPiece contents s version
 
 -- the greatest version that a slot shows, or 0 where none shows one
 pub record IsGreatestShown (file : FileImage) (contents : List FirstContent) (greatest : ℕ) : Type 0 where

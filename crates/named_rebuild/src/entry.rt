@@ -103,6 +103,9 @@ fn piece_entry(
     if head.piece.first != first {
         return Ok(None);
     }
+    if head.piece.version == 0 {
+        return Ok(None);
+    }
     let Some(chain) = pieces_from(alloc, contents, head, first)? else {
         return Ok(None);
     };

@@ -45,8 +45,8 @@ fn version_at(file: &FileImage, contents: &[FirstContent], slot: u32) -> Option<
 {
     match content_at(contents, slot) {
         FirstContent::File => version_in_file(file, slot),
-        FirstContent::Logged(piece) => Some(piece.piece.version),
-        FirstContent::Blank => None,
+        FirstContent::Logged(piece) if piece.piece.version > 0 => Some(piece.piece.version),
+        FirstContent::Logged(_) | FirstContent::Blank => None,
     }
 }
 

@@ -243,7 +243,7 @@ module _ (s : Setting) (url body : List ℕ) (offer : ℕ) (p : Plain) (free : t
   put_refused (Busy looked found) is = rw (free, is) refl
   put_refused (Spent versions) is = rw (free, is) refl
 
--- The same where each version stands for itself, as of the request.
+-- What a begin answers is as the request says, where each version stands for itself.
 module _ {C O : Type 0} (tells : Bool) (state : C → CellState) (offers : O → Offers) (s : Store C O) (lone : IsLone (basis tells state offers s)) where
   pub begins_as : (t offer : ℕ) (url : List ℕ) (body : Body) (p q : Pass C) (given : Answer) (plain : Plain) → t < 8 → Shows tells state offers s (λ v. v) p plain → tab_at plain t ≡ Free
       → IsOffered tells state offers s offer url body → IsTyped given → q.hand ≡ p.hand → Begins tells state offers s t p given q offer url

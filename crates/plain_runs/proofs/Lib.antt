@@ -1,4 +1,3 @@
-pub mod Depends
 pub mod Spelled
 pub mod Filled
 pub mod Kept

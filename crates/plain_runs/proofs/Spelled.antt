@@ -31,7 +31,7 @@ use Rattle.core_model.proofs.SlotsLoosened.{standing_few}
 use Rattle.core_model.proofs.Spelling.{distinct, last_is_written, some_fits, suc_is}
 use Rattle.core_model.proofs.Tabs.{contains_times}
 use Rattle.core_model.proofs.Telling.{stage_told, told_out}
-use Rattle.plain_runs.proofs.Depends.{complete_in}
+use Rattle.rebuild_model.proofs.Depends.{complete_in}
 use Rattle.store_rule.specs.Ground.{Ground, Rule, cut_of}
 use Rattle.store_rule.specs.Setting.{next_number}
 use Rattle.rock_reader.specs.Responses.{IsResponse}

@@ -3,7 +3,8 @@ ghost use Rattle.core_model.specs.Tabs.{inner};
 ghost use Rattle.purge_entry.specs.Purging.{MayPurge, Purged};
 ghost use Rattle.rock_reader.specs.Opening.{Refused};
 ghost use Rattle.slice_chain.specs.Freeing.{FollowsTab};
-ghost use Rattle.std.specs.Prelude.{IfErr, IfOk, ◌≡◌};
+ghost use Rattle.store_rule.specs.Quiet.{DoomsNothing};
+ghost use Rattle.std.specs.Prelude.{IfErr, IfOk, OnErr, ◌≡◌};
 ghost use Rattle.store_rule.specs.Passes.{basis, view};
 
 use core_model::INNER_TAB;
@@ -30,6 +31,7 @@ pub fn purge<C: Cell, O: Origin>(
     ensures err { IfErr result (λ cause. Refused (basis C.tells C.state O.offers store.now) inner url.now (view pass.old) cause (view pass.new)) }
     ensures free { (view pass.new).tabs ≡ (view pass.old).tabs }
     ensures others { FollowsTab C.tells C.state O.offers store.now inner pass.old pass.new }
+    ensures quiet { OnErr result (DoomsNothing (view pass.old) (view pass.new)) }
 {
     come(store, pass, INNER_TAB, url)?;
     let word = doom(store, pass, INNER_TAB);

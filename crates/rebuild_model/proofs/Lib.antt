@@ -6,3 +6,4 @@ pub mod Winners
 pub mod Whole
 pub mod Finds
 pub mod One
+pub mod Depends

@@ -2,7 +2,7 @@
 ghost use Rattle.std.specs.Prelude.{◌≡◌, ◌≢◌, ◌+◌, ◌<◌, ℕ, List, [], ◌∷◌, ◌++◌, length, map, slice_index, Contains};
 ghost use Rattle.std.specs.List.Sorted.{IsStrictlyIncreasing};
 ghost use Rattle.store_key.specs.Anchor.{anchor_of};
-ghost use Rattle.rebuild_model.specs.Image.{IsGreatest};
+ghost use Rattle.rebuild_model.specs.Image.{IsGreatest, image_at};
 ghost use Rattle.rebuild_model.specs.Entry.{Entry, IsChain, IsComplete};
 ghost use Rattle.rebuild_model.specs.Keeping.{HasNoneAt, IsKept, AreWinners, AreOwners};
 ghost use Rattle.rebuild_model.specs.Rebuilt.{IsWinner, IsRebuilt};
@@ -18,6 +18,15 @@ pub fn one_entry_at_a_slot()
 {
     no_spelling_is_a_prefix();
 }
+
+/// Whether an entry is complete depends on the bytes of its slots alone: it is complete in each file of as many
+/// slots where these have the same bytes.
+pub fn entries_depend_on_their_slots()
+    ensures { (slot : ℕ) (images others : List (List ℕ)) (e : Entry)
+        → length others ≡ length images
+        → ((s : ℕ) → Contains e.chain s → image_at others s ≡ image_at images s)
+        → IsComplete slot images e → IsComplete slot others e }
+{}
 
 /// Chains that begin at different slots share no slot, and so complete entries do not either.
 pub fn chains_are_apart()

@@ -14,8 +14,8 @@ pub use found::Found;
 pub use found_list::FoundList;
 pub use image::{FileImage, Images};
 pub use laws::{
-    a_file_has_one_rebuild, chains_are_apart, finds_are_known, one_entry_at_a_slot,
-    one_winner_at_an_anchor, winners_and_owners_make_a_rebuild, winners_are_apart,
-    winners_are_gathered,
+    a_file_has_one_rebuild, chains_are_apart, entries_depend_on_their_slots, finds_are_known,
+    one_entry_at_a_slot, one_winner_at_an_anchor, winners_and_owners_make_a_rebuild,
+    winners_are_apart, winners_are_gathered,
 };
 pub use rebuilt::Rebuilt;

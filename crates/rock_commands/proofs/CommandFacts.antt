@@ -120,8 +120,26 @@ migrate_is_no_bench m b = three_are_not_five (sym m.words_are ∙ b.words_are)
 pub check_is_no_run : {words : List (List ℕ)} {name name' : List ℕ} {given given' : Option ℕ} {count anchors workers : ℕ} → IsCheck words name given count → IsRun words name' given' anchors workers → ⊥
 check_is_no_run k r = four_are_not_five (sym k.words_are ∙ r.words_are)
 
+pub check_is_no_bench : {words : List (List ℕ)} {name name' : List ℕ} {given : Option ℕ} {anchors seed workers count : ℕ} → IsCheck words name given anchors → IsBench words name' seed workers count → ⊥
+check_is_no_bench k b = four_are_not_five (sym k.words_are ∙ b.words_are)
+
+first_of_four : {a b c d a' b' c' d' : List ℕ} → a ∷ b ∷ c ∷ d ∷ [] ≡ a' ∷ b' ∷ c' ∷ d' ∷ [] → a ≡ a'
+first_of_four e = cc
+
+pub check_is_no_create : {words : List (List ℕ)} {name name' : List ℕ} {given : Option ℕ} {anchors slot slots : ℕ} → IsCheck words name given anchors → IsCreate words name' slot slots → ⊥
+check_is_no_create k m = let first = ap length (first_of_four (sym k.words_are ∙ m.words_are)) in omega (arith, first)
+
 pub create_is_no_run : {words : List (List ℕ)} {name name' : List ℕ} {given' : Option ℕ} {slot count anchors workers : ℕ} → IsCreate words name slot count → IsRun words name' given' anchors workers → ⊥
 create_is_no_run k r = four_are_not_five (sym k.words_are ∙ r.words_are)
+
+pub create_is_no_bench : {words : List (List ℕ)} {name name' : List ℕ} {slot slots seed workers count : ℕ} → IsCreate words name slot slots → IsBench words name' seed workers count → ⊥
+create_is_no_bench k b = four_are_not_five (sym k.words_are ∙ b.words_are)
+
+first_of_five : {a b c d e a' b' c' d' e' : List ℕ} → a ∷ b ∷ c ∷ d ∷ e ∷ [] ≡ a' ∷ b' ∷ c' ∷ d' ∷ e' ∷ [] → a ≡ a'
+first_of_five same = cc
+
+pub run_is_no_bench : {words : List (List ℕ)} {name name' : List ℕ} {given : Option ℕ} {anchors workers seed others count : ℕ} → IsRun words name given anchors workers → IsBench words name' seed others count → ⊥
+run_is_no_bench r b = let first = ap length (first_of_five (sym r.words_are ∙ b.words_are)) in omega (arith, first)
 
 -- a list of three is its elements
 pub three : {A : Type 0} (xs : List A) (a b c : A) → length xs ≡ 3 → a ≡ get_or xs 0 a → b ≡ get_or xs 1 b → c ≡ get_or xs 2 c → xs ≡ a ∷ b ∷ c ∷ []

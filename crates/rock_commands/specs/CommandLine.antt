@@ -6,7 +6,8 @@ abbrev pub IsName : List ℕ → Type 0
 IsName [] = ⊥
 IsName (first ∷ rest) = first ≢ 45
 
--- The word SLOT of `list`, `check` and `run`: the size of a slot, or `-` where none is given. A number is written with no sign and no leading zero
+-- The word SLOT of `list`, `check` and `run`: the size of a slot, or `-` where none is given. A number is written with no sign and no
+-- leading zero.
 abbrev pub slot_word : (given : Option ℕ) → List ℕ
 slot_word None = codes "-"
 slot_word (Some slot) = decimal slot
@@ -70,4 +71,5 @@ abbrev pub IsCommandLine : List (List ℕ) → Type 0
 IsCommandLine words =
     ((name : List ℕ) × (given : Option ℕ) × IsList words name given)
     ⊎ (((name : List ℕ) × (given : Option ℕ) × (anchors : ℕ) × IsCheck words name given anchors)
-    ⊎ (((name : List ℕ) × (slot slots : ℕ) × IsCreate words name slot slots) ⊎ (IsRunLine words ⊎ (IsBenchLine words ⊎ ((name : List ℕ) × (slot : ℕ) × IsMigrate words name slot)))))
+    ⊎ (((name : List ℕ) × (slot slots : ℕ) × IsCreate words name slot slots)
+    ⊎ (IsRunLine words ⊎ (IsBenchLine words ⊎ ((name : List ℕ) × (slot : ℕ) × IsMigrate words name slot)))))

@@ -1,3 +1,10 @@
 pub mod CommandLine
 pub mod Command
-pub mod Terms
+pub mod World
+pub mod Report
+pub mod Create
+pub mod Migrate
+pub mod Run
+pub mod Bench
+pub mod Alike
+pub mod Carried

@@ -1,5 +1,6 @@
 pub mod Cell
 pub mod Crash
+pub mod Counts
 pub mod Created
 pub mod File
 pub mod Memory

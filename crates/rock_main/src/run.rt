@@ -1,10 +1,15 @@
 // How the program ends.
-ghost use Rattle.std.specs.Prelude.{◌≡◌, ◌↔◌, ℕ, List, Option, IsTrue, Some};
+ghost use Rattle.std.specs.Prelude.{◌≡◌, ◌↔◌, ℕ, List, Option, IsTrue};
 ghost use Rattle.std.specs.Process.{exit_status};
 ghost use Rattle.rock_disk.specs.File.{NoneAway};
 ghost use Rattle.rock_io.specs.Faults.{Rose};
-ghost use Rattle.rock_commands.specs.CommandLine.{IsList, IsCheck, IsCreate, IsMigrate, IsRun, IsBench, IsCommandLine};
-ghost use Rattle.rock_commands.specs.Terms.{AnyCount, bench_lines, BenchEnds, BenchLeaves, BenchSays, counts, CreateEnds, CreateLeaves, CreateSays, CreateStations, IsAnchors, IsBenchRefused, IsBenchText, IsCreateRefused, IsMigratedText, IsRefused, IsRunRefused, IsRunText, Lists, MigrateLeaves, OfFileFor, ReportEnds, ReportPrints, ReportSays, RunEnds, RunLeaves, RunPrints, RunSays, Sums};
+ghost use Rattle.rock_commands.specs.Bench.{BenchDoes};
+ghost use Rattle.rock_commands.specs.CommandLine.{IsBench, IsCheck, IsCommandLine, IsCreate, IsList, IsMigrate, IsRun};
+ghost use Rattle.rock_commands.specs.Create.{CreateDoes};
+ghost use Rattle.rock_commands.specs.Migrate.{MigrateDoes};
+ghost use Rattle.rock_commands.specs.Report.{CheckDoes, ListDoes};
+ghost use Rattle.rock_commands.specs.Run.{RunDoes};
+ghost use Rattle.rock_commands.specs.World.{telling, world_of};
 ghost use Rattle.rock_main.specs.Ending.{EndsFor};
 ghost use Rattle.rock_status.specs.Status.{code_of};
 
@@ -43,69 +48,39 @@ where
     ensures sink_unfailed { (exit_status result ≡ 5 → ⊥) → K.faults out.new ≡ K.faults out.old }
     ensures device_unfailed { (exit_status result ≡ 6 → ⊥) → V.faults volume.new ≡ V.faults volume.old }
 
-    // Of each command: it is the code of a status with the causes that the command gives it, by the numbers and the
-    // counts of faults, and by the files; which is the one that the numbers and the files ask for where they
-    // refuse the command; and what was printed, or made, is what that status says.
-    ensures list { (name : List ℕ) (given : Option ℕ) → IsList words.now name given → EndsFor (λ status.
-        ReportEnds AnyCount given (K.faults out.old) (K.faults out.new)
-        (V.faults volume.old) (V.faults volume.new) (V.ended volume.old) (V.ended volume.new) status
-        × (IsTrue V.tells → ReportSays AnyCount (V.files volume.old) name given status)
-        × IsRefused V.tells AnyCount (V.files volume.old) name given status
-        × (IsTrue K.tells → ReportPrints (λ text. IsTrue V.tells → OfFileFor Lists (V.files volume.old) name given text)
-        (K.taken out.old) (K.taken out.new) status)) (exit_status result) }
-    ensures check { (name : List ℕ) (given : Option ℕ) (anchors : ℕ) → IsCheck words.now name given anchors → EndsFor (λ status.
-        ReportEnds (IsAnchors anchors) given (K.faults out.old) (K.faults out.new)
-        (V.faults volume.old) (V.faults volume.new) (V.ended volume.old) (V.ended volume.new) status
-        × (IsTrue V.tells → ReportSays (IsAnchors anchors) (V.files volume.old) name given status)
-        × IsRefused V.tells (IsAnchors anchors) (V.files volume.old) name given status
-        × (IsTrue K.tells → ReportPrints (λ text. IsTrue V.tells → OfFileFor (Sums anchors) (V.files volume.old) name given text)
-        (K.taken out.old) (K.taken out.new) status)) (exit_status result) }
-    ensures create { (name : List ℕ) (slot slots : ℕ) → IsCreate words.now name slot slots → EndsFor (λ status.
-        CreateEnds slot slots (V.faults volume.old) (V.faults volume.new) (V.ended volume.old) (V.ended volume.new) status
-        × (IsTrue V.tells → CreateSays (V.files volume.old) name status)
-        × IsCreateRefused V.tells (V.files volume.old) name slot slots status
-        × CreateLeaves V.tells slot slots name (V.files volume.old) (V.files volume.new) status
-        × CreateStations (V.made volume.old) (V.made volume.new) (V.ended volume.old) (V.ended volume.new) status) (exit_status result) }
-    ensures migrate { (name : List ℕ) (slot : ℕ) → IsMigrate words.now name slot → EndsFor (λ status.
-        ReportEnds AnyCount (Some slot) (K.faults out.old) (K.faults out.new)
-        (V.faults volume.old) (V.faults volume.new) (V.ended volume.old) (V.ended volume.new) status
-        × (IsTrue V.tells → ReportSays AnyCount (V.files volume.old) name (Some slot) status)
-        × IsRefused V.tells AnyCount (V.files volume.old) name (Some slot) status
-        × (IsTrue K.tells → ReportPrints (λ text. IsTrue V.tells → IsMigratedText (V.files volume.old) name slot text)
-        (K.taken out.old) (K.taken out.new) status)
-        × (IsTrue V.tells → MigrateLeaves slot name (V.files volume.old) (V.files volume.new) status)) (exit_status result) }
-    ensures run { (name : List ℕ) (given : Option ℕ) (anchors workers : ℕ) → IsRun words.now name given anchors workers → EndsFor (λ status.
-        RunEnds given anchors workers (S.faults script.old) (S.faults script.new) (K.faults out.old) (K.faults out.new)
-        (counts (V.faults volume.old) (V.made volume.old) (V.ended volume.old))
-        (counts (V.faults volume.new) (V.made volume.new) (V.ended volume.new)) status
-        × RunSays S.tells V.tells workers (S.left script.old) (S.left script.new) (V.files volume.old) name given anchors status
-        × IsRunRefused S.tells V.tells (S.left script.old) (V.files volume.old) name given anchors workers
-        (counts (V.faults volume.old) (V.made volume.old) (V.ended volume.old))
-        (counts (V.faults volume.new) (V.made volume.new) (V.ended volume.new)) status
-        × (IsTrue K.tells → RunPrints (IsRunText S.tells V.tells
-        (S.left script.old) (S.left script.new) (V.files volume.old) (V.files volume.new) name given anchors workers
-        (counts (V.faults volume.old) (V.made volume.old) (V.ended volume.old))
-        (counts (V.faults volume.new) (V.made volume.new) (V.ended volume.new)))
-        (K.taken out.old) (K.taken out.new) status)
-        × RunLeaves S.tells V.tells (S.left script.old) (S.left script.new)
-        (V.files volume.old) (V.files volume.new) name given anchors workers
-        (counts (V.faults volume.old) (V.made volume.old) (V.ended volume.old))
-        (counts (V.faults volume.new) (V.made volume.new) (V.ended volume.new)) status) (exit_status result) }
-    ensures bench { (name : List ℕ) (seed workers count : ℕ) → IsBench words.now name seed workers count → EndsFor (λ status.
-        BenchEnds workers count (K.faults out.old) (K.faults out.new)
-        (counts (V.faults volume.old) (V.made volume.old) (V.ended volume.old))
-        (counts (V.faults volume.new) (V.made volume.new) (V.ended volume.new)) status
-        × (IsTrue V.tells → BenchSays (V.files volume.old) name status)
-        × IsBenchRefused V.tells (V.files volume.old) name workers count status
-        × (IsTrue K.tells → ReportPrints (IsBenchText V.tells
-        (V.files volume.old) (V.files volume.new) name seed workers count
-        (counts (V.faults volume.old) (V.made volume.old) (V.ended volume.old))
-        (counts (V.faults volume.new) (V.made volume.new) (V.ended volume.new)))
-        (K.taken out.old) (K.taken out.new) status)
-        × BenchLeaves V.tells (V.files volume.old) (V.files volume.new)
-        name workers (bench_lines seed workers count)
-        (counts (V.faults volume.old) (V.made volume.old) (V.ended volume.old))
-        (counts (V.faults volume.new) (V.made volume.new) (V.ended volume.new)) status) (exit_status result) }
+    // Of each command: it is the code of a status with all that `rock` says of this command and its status. So it is one
+    // that the numbers, the counts of faults and the files allow, and the one that they ask for where they refuse the
+    // command; and what was printed, and what is left of the files, is what that status says.
+    ensures list { (name : List ℕ) (given : Option ℕ) → IsList words.now name given
+        → EndsFor (λ status. ListDoes (telling V.tells K.tells S.tells) name given
+        (world_of V.files V.faults V.made V.ended K.taken K.faults S.left S.faults volume.old out.old script.old)
+        (world_of V.files V.faults V.made V.ended K.taken K.faults S.left S.faults volume.new out.new script.new) status)
+        (exit_status result) }
+    ensures check { (name : List ℕ) (given : Option ℕ) (anchors : ℕ) → IsCheck words.now name given anchors
+        → EndsFor (λ status. CheckDoes (telling V.tells K.tells S.tells) name given anchors
+        (world_of V.files V.faults V.made V.ended K.taken K.faults S.left S.faults volume.old out.old script.old)
+        (world_of V.files V.faults V.made V.ended K.taken K.faults S.left S.faults volume.new out.new script.new) status)
+        (exit_status result) }
+    ensures create { (name : List ℕ) (slot slots : ℕ) → IsCreate words.now name slot slots
+        → EndsFor (λ status. CreateDoes (telling V.tells K.tells S.tells) name slot slots
+        (world_of V.files V.faults V.made V.ended K.taken K.faults S.left S.faults volume.old out.old script.old)
+        (world_of V.files V.faults V.made V.ended K.taken K.faults S.left S.faults volume.new out.new script.new) status)
+        (exit_status result) }
+    ensures migrate { (name : List ℕ) (slot : ℕ) → IsMigrate words.now name slot
+        → EndsFor (λ status. MigrateDoes (telling V.tells K.tells S.tells) name slot
+        (world_of V.files V.faults V.made V.ended K.taken K.faults S.left S.faults volume.old out.old script.old)
+        (world_of V.files V.faults V.made V.ended K.taken K.faults S.left S.faults volume.new out.new script.new) status)
+        (exit_status result) }
+    ensures run { (name : List ℕ) (given : Option ℕ) (anchors workers : ℕ) → IsRun words.now name given anchors workers
+        → EndsFor (λ status. RunDoes (telling V.tells K.tells S.tells) name given anchors workers
+        (world_of V.files V.faults V.made V.ended K.taken K.faults S.left S.faults volume.old out.old script.old)
+        (world_of V.files V.faults V.made V.ended K.taken K.faults S.left S.faults volume.new out.new script.new) status)
+        (exit_status result) }
+    ensures bench { (name : List ℕ) (seed workers count : ℕ) → IsBench words.now name seed workers count
+        → EndsFor (λ status. BenchDoes (telling V.tells K.tells S.tells) name seed workers count
+        (world_of V.files V.faults V.made V.ended K.taken K.faults S.left S.faults volume.old out.old script.old)
+        (world_of V.files V.faults V.made V.ended K.taken K.faults S.left S.faults volume.new out.new script.new) status)
+        (exit_status result) }
 {
     let status = rock(rt, alloc, words, volume, script, out);
     let asked = Asked {

@@ -1,3 +1,4 @@
 pub mod Cells
+pub mod Counting
 pub mod Files
 pub mod Refusals

@@ -15,7 +15,7 @@ use Rattle.rock_rebuild.specs.declared.outcome.RebuildFault.{RebuildFault}
 use Rattle.rock_rebuild.specs.declared.outcome.RebuildFault.TheVariants as rebuilding
 use Rattle.rock_open.specs.declared.fault.OpenStoreFault.{OpenStoreFault}
 use Rattle.rock_open.specs.declared.fault.OpenStoreFault.TheVariants.{BadGeometry, Failed, Memory, Missing, Small}
-use Rattle.rock_open.specs.Device.{Counts, EachEnded, HasFailed, NoStation, NoneFailed, OneStation, counts}
+use Rattle.rock_disk.specs.Counts.{Counts, EachEnded, HasFailed, NoStation, NoneFailed, OneStation, counted}
 use Rattle.rock_open.specs.Faults.{fault_of_open, fault_of_rebuild, fault_of_station}
 use Rattle.rock_open.specs.Opening.{FileSays, HasSlots, IsPasses, KeepingEnds, OpeningEnds, ReadingEnds, RebuildEnds}
 
@@ -72,23 +72,23 @@ keeping_of anchors slots before after Memory ends = tt
 
 module _ (v m : ℕ) (e : List ℕ) (v1 m1 : ℕ) (e1 : List ℕ) (v2 m2 : ℕ) (e2 : List ℕ) (v' m' : ℕ) (e' : List ℕ) (pv : v1 ≡ v) (pm : m1 ≡ m) (pe : e1 ≡ e) (qv : v' ≡ v2) (qm : m' ≡ m2) (qe : e' ≡ e2) where
   -- calls around that leave the counts
-  moved : (P : Counts → Counts → Type 0) → P (counts v1 m1 e1) (counts v2 m2 e2) → P (counts v m e) (counts v' m' e')
-  moved P h = subst (λ (z : Counts × Counts). P z.0 z.1) (λ i. (counts (pv i) (pm i) (pe i), counts (sym qv i) (sym qm i) (sym qe i))) h
+  moved : (P : Counts → Counts → Type 0) → P (counted v1 m1 e1) (counted v2 m2 e2) → P (counted v m e) (counted v' m' e')
+  moved P h = subst (λ (z : Counts × Counts). P z.0 z.1) (λ i. (counted (pv i) (pm i) (pe i), counted (sym qv i) (sym qm i) (sym qe i))) h
 
-  pub ended_around : EachEnded (counts v1 m1 e1) (counts v2 m2 e2) → EachEnded (counts v m e) (counts v' m' e')
+  pub ended_around : EachEnded (counted v1 m1 e1) (counted v2 m2 e2) → EachEnded (counted v m e) (counted v' m' e')
   ended_around h = moved EachEnded h
 
-  pub none_around : NoStation (counts v1 m1 e1) (counts v2 m2 e2) → NoStation (counts v m e) (counts v' m' e')
+  pub none_around : NoStation (counted v1 m1 e1) (counted v2 m2 e2) → NoStation (counted v m e) (counted v' m' e')
   none_around h = moved NoStation h
 
-  pub unfailed_around : NoneFailed (counts v1 m1 e1) (counts v2 m2 e2) → NoneFailed (counts v m e) (counts v' m' e')
+  pub unfailed_around : NoneFailed (counted v1 m1 e1) (counted v2 m2 e2) → NoneFailed (counted v m e) (counted v' m' e')
   unfailed_around h = moved NoneFailed h
 
-  pub one_around : OneStation 0 (counts v1 m1 e1) (counts v2 m2 e2) → OneStation 0 (counts v m e) (counts v' m' e')
+  pub one_around : OneStation 0 (counted v1 m1 e1) (counted v2 m2 e2) → OneStation 0 (counted v m e) (counted v' m' e')
   one_around h = moved (OneStation 0) h
 
   -- an opened file, which has slots, is refused as a file is
-  pub opened_refused : (slot anchors slots : ℕ) (f : OpenStoreFault) → 0 < slots → KeepingEnds anchors slots (counts v1 m1 e1) (counts v2 m2 e2) f → ReadingEnds slot anchors (counts v m e) (counts v' m' e') f
+  pub opened_refused : (slot anchors slots : ℕ) (f : OpenStoreFault) → 0 < slots → KeepingEnds anchors slots (counted v1 m1 e1) (counted v2 m2 e2) f → ReadingEnds slot anchors (counted v m e) (counted v' m' e') f
   opened_refused slot anchors slots (BadGeometry field) some ends = (ends.0, (slots, some, ends.1), moved NoStation ends.2)
   opened_refused slot anchors slots Missing some ends = absurd ends
   opened_refused slot anchors slots (Small bytes) some ends = absurd ends

@@ -1,3 +1,3 @@
+pub mod Closing
 pub mod Faults
-pub mod Device
 pub mod Opening

@@ -18,7 +18,7 @@ use Rattle.store_rule.specs.Rebuilding.{IsOpenedWith, IsRebuildOf}
 use Rattle.store_rule.specs.Setting.{shown}
 use Rattle.rock_open.specs.declared.fault.OpenStoreFault.{OpenStoreFault}
 use Rattle.rock_open.specs.declared.fault.OpenStoreFault.TheVariants.{BadGeometry, Failed, Memory, Missing, Small}
-use Rattle.rock_open.specs.Device.{Counts, HasFailed, NoStation}
+use Rattle.rock_disk.specs.Counts.{Counts, HasFailed, NoStation}
 
 -- as many passes as a store may have
 pub record IsPasses (passes : ℕ) : Type 0 where

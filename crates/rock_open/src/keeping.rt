@@ -4,7 +4,7 @@ ghost use Rattle.rebuild_model.specs.Rebuilt.{IsRebuilt};
 ghost use Rattle.rock_disk.specs.File.{IsThere};
 ghost use Rattle.rock_disk.specs.Opened.{AreSlots};
 ghost use Rattle.rock_rebuild.specs.Read.{AreImagesOf};
-ghost use Rattle.rock_open.specs.Device.{EachEnded, NoStation, NoneFailed, OneStation, counts};
+ghost use Rattle.rock_disk.specs.Counts.{EachEnded, NoStation, NoneFailed, OneStation, counts};
 ghost use Rattle.rock_open.specs.Opening.{IsAnchors, KeepingEnds, RebuildEnds};
 
 use crate::fault::{OpenStoreFault, of_rebuild, of_station};
@@ -35,20 +35,20 @@ fn rebuilt_by_station<V: Volume>(
     ensures kept { IfOk result (λ rebuilt. (images : List (List ℕ))
         × AreImagesOf V.C.tells slot (map V.C.state cells.old) images × IsRebuilt slot images anchors rebuilt) }
     ensures one { OnOk result (OneStation 0
-        (counts (V.faults volume.old) (V.made volume.old) (V.ended volume.old))
-        (counts (V.faults volume.new) (V.made volume.new) (V.ended volume.new))) }
+        (counts V.faults V.made V.ended volume.old)
+        (counts V.faults V.made V.ended volume.new)) }
     ensures cells { map V.C.state cells.new ≡ map V.C.state cells.old }
     ensures files { V.files volume.new ≡ V.files volume.old }
     ensures faults { V.faults volume.old ≤ V.faults volume.new }
     ensures unfailed { (IsErrOf result OpenStoreFault.Failed → ⊥) → NoneFailed
-        (counts (V.faults volume.old) (V.made volume.old) (V.ended volume.old))
-        (counts (V.faults volume.new) (V.made volume.new) (V.ended volume.new)) }
+        (counts V.faults V.made V.ended volume.old)
+        (counts V.faults V.made V.ended volume.new) }
     ensures ended { EachEnded
-        (counts (V.faults volume.old) (V.made volume.old) (V.ended volume.old))
-        (counts (V.faults volume.new) (V.made volume.new) (V.ended volume.new)) }
+        (counts V.faults V.made V.ended volume.old)
+        (counts V.faults V.made V.ended volume.new) }
     ensures refused { IfErr result (RebuildEnds
-        (counts (V.faults volume.old) (V.made volume.old) (V.ended volume.old))
-        (counts (V.faults volume.new) (V.made volume.new) (V.ended volume.new))) }
+        (counts V.faults V.made V.ended volume.old)
+        (counts V.faults V.made V.ended volume.new)) }
 {
     let mut station = match volume.station(name) {
         Ok(station) => station,
@@ -77,24 +77,24 @@ pub(crate) fn kept_of<V: Volume>(
         × AreImagesOf V.C.tells slot (map V.C.state cells.old) images × IsRebuilt slot images anchors rebuilt) }
     ensures fit { OnOk result (IsAnchors anchors (length cells.old)) }
     ensures one { OnOk result (OneStation 0
-        (counts (V.faults volume.old) (V.made volume.old) (V.ended volume.old))
-        (counts (V.faults volume.new) (V.made volume.new) (V.ended volume.new))) }
+        (counts V.faults V.made V.ended volume.old)
+        (counts V.faults V.made V.ended volume.new)) }
     ensures cells { map V.C.state cells.new ≡ map V.C.state cells.old }
     ensures files { V.files volume.new ≡ V.files volume.old }
     ensures faults { V.faults volume.old ≤ V.faults volume.new }
     ensures unfailed { (IsErrOf result OpenStoreFault.Failed → ⊥) → NoneFailed
-        (counts (V.faults volume.old) (V.made volume.old) (V.ended volume.old))
-        (counts (V.faults volume.new) (V.made volume.new) (V.ended volume.new)) }
+        (counts V.faults V.made V.ended volume.old)
+        (counts V.faults V.made V.ended volume.new) }
     ensures ended { EachEnded
-        (counts (V.faults volume.old) (V.made volume.old) (V.ended volume.old))
-        (counts (V.faults volume.new) (V.made volume.new) (V.ended volume.new)) }
+        (counts V.faults V.made V.ended volume.old)
+        (counts V.faults V.made V.ended volume.new) }
     ensures refused { IfErr result (KeepingEnds anchors (length cells.old)
-        (counts (V.faults volume.old) (V.made volume.old) (V.ended volume.old))
-        (counts (V.faults volume.new) (V.made volume.new) (V.ended volume.new))) }
+        (counts V.faults V.made V.ended volume.old)
+        (counts V.faults V.made V.ended volume.new)) }
     ensures unfit { (IsAnchors anchors (length cells.old) → ⊥)
         → IsErrOf result (OpenStoreFault.BadGeometry 2) × NoStation
-        (counts (V.faults volume.old) (V.made volume.old) (V.ended volume.old))
-        (counts (V.faults volume.new) (V.made volume.new) (V.ended volume.new)) }
+        (counts V.faults V.made V.ended volume.old)
+        (counts V.faults V.made V.ended volume.new) }
 {
     if !are_anchors(anchors, cells.len()) {
         return Err(OpenStoreFault::BadGeometry { field: 2 });

@@ -6,6 +6,6 @@ mod fault;
 mod keeping;
 mod opening;
 
-pub use closing::{close_store, closed_cells_may_be_given_back};
+pub use closing::{Counted, close_counted, close_store, closed_cells_may_be_given_back};
 pub use fault::OpenStoreFault;
 pub use opening::{OpenStore, open_store};

@@ -4,7 +4,7 @@ ghost use Rattle.std.specs.FinMap.{get};
 ghost use Rattle.db_layout.specs.Layout.{IsSlotSize};
 ghost use Rattle.rock_disk.specs.File.{IsKept, IsNotAway};
 ghost use Rattle.rock_disk.specs.Opened.{IsSmall};
-ghost use Rattle.rock_open.specs.Device.{EachEnded, NoStation, NoneFailed, OneStation, counts};
+ghost use Rattle.rock_disk.specs.Counts.{EachEnded, NoStation, NoneFailed, OneStation, counts};
 ghost use Rattle.store_rule.specs.Rebuilding.{IsRebuildOf};
 ghost use Rattle.store_rule.specs.Setting.{IsRow, IsSettled};
 ghost use Rattle.rock_open.specs.Opening.{FileSays, HasSlots, IsAnchors, IsPasses, IsStoreOver, OpeningEnds, OpensStore, ReadingEnds};
@@ -94,26 +94,26 @@ fn open_within<V: Volume, O: Origin>(
     ensures opened { IfOk result (λ o. OpensStore V.tells V.C.tells V.C.state O.offers (V.files volume.old) (V.files volume.new)
         name.now slot anchors passes origin o.header o.store o.passes) }
     ensures one { OnOk result (OneStation 0
-        (counts (V.faults volume.old) (V.made volume.old) (V.ended volume.old))
-        (counts (V.faults volume.new) (V.made volume.new) (V.ended volume.new))) }
+        (counts V.faults V.made V.ended volume.old)
+        (counts V.faults V.made V.ended volume.new)) }
     ensures refused { IfErr result (ReadingEnds slot anchors
-        (counts (V.faults volume.old) (V.made volume.old) (V.ended volume.old))
-        (counts (V.faults volume.new) (V.made volume.new) (V.ended volume.new))) }
+        (counts V.faults V.made V.ended volume.old)
+        (counts V.faults V.made V.ended volume.new)) }
     ensures says { IsTrue V.tells → IfErr result (FileSays (V.files volume.old) name.now slot anchors) }
     ensures missing { IsTrue V.tells → get (V.files volume.old) name.now ≡ None → IsErrOf result OpenStoreFault.Missing }
     ensures small { IsTrue V.tells → (bytes : ℕ) → IsSmall (V.files volume.old) name.now slot bytes → IsErrOf result (OpenStoreFault.Small bytes) }
     ensures unfit { IsTrue V.tells → (slots : ℕ) → HasSlots (V.files volume.old) name.now slot slots → (IsAnchors anchors slots → ⊥)
         → IsErr result × NoStation
-        (counts (V.faults volume.old) (V.made volume.old) (V.ended volume.old))
-        (counts (V.faults volume.new) (V.made volume.new) (V.ended volume.new)) }
+        (counts V.faults V.made V.ended volume.old)
+        (counts V.faults V.made V.ended volume.new) }
     ensures kept { OnErr result (IsTrue V.tells → IsKept slot name.now (V.files volume.old) (V.files volume.new)) }
     ensures ended { EachEnded
-        (counts (V.faults volume.old) (V.made volume.old) (V.ended volume.old))
-        (counts (V.faults volume.new) (V.made volume.new) (V.ended volume.new)) }
+        (counts V.faults V.made V.ended volume.old)
+        (counts V.faults V.made V.ended volume.new) }
     ensures faults { V.faults volume.old ≤ V.faults volume.new }
     ensures unfailed { (IsErrOf result OpenStoreFault.Failed → ⊥) → NoneFailed
-        (counts (V.faults volume.old) (V.made volume.old) (V.ended volume.old))
-        (counts (V.faults volume.new) (V.made volume.new) (V.ended volume.new)) }
+        (counts V.faults V.made V.ended volume.old)
+        (counts V.faults V.made V.ended volume.new) }
 {
     opened_slots_are_wide_and_few();
     opened_cells_are_the_files();
@@ -170,13 +170,13 @@ pub fn open_store<V: Volume, O: Origin>(
     ensures opened { IfOk result (λ o. OpensStore V.tells V.C.tells V.C.state O.offers (V.files volume.old) (V.files volume.new)
         name.now slot anchors passes origin o.header o.store o.passes) }
     ensures one { OnOk result (OneStation 0
-        (counts (V.faults volume.old) (V.made volume.old) (V.ended volume.old))
-        (counts (V.faults volume.new) (V.made volume.new) (V.ended volume.new))) }
+        (counts V.faults V.made V.ended volume.old)
+        (counts V.faults V.made V.ended volume.new)) }
 
     // When each refusal comes: only where its cause stands, by the numbers, the counts and the file;
     ensures refused { IfErr result (OpeningEnds slot anchors passes
-        (counts (V.faults volume.old) (V.made volume.old) (V.ended volume.old))
-        (counts (V.faults volume.new) (V.made volume.new) (V.ended volume.new))) }
+        (counts V.faults V.made V.ended volume.old)
+        (counts V.faults V.made V.ended volume.new)) }
     ensures says { IsTrue V.tells → IfErr result (FileSays (V.files volume.old) name.now slot anchors) }
 
     // and wherever it stands, want of memory and faults aside.
@@ -189,18 +189,18 @@ pub fn open_store<V: Volume, O: Origin>(
     ensures bad_anchors { IsTrue V.tells → (slots : ℕ)
         → HasSlots (V.files volume.old) name.now slot slots → (IsAnchors anchors slots → ⊥)
         → IsErr result × NoStation
-        (counts (V.faults volume.old) (V.made volume.old) (V.ended volume.old))
-        (counts (V.faults volume.new) (V.made volume.new) (V.ended volume.new)) }
+        (counts V.faults V.made V.ended volume.old)
+        (counts V.faults V.made V.ended volume.new) }
 
     // What is left of the volume.
     ensures kept { OnErr result (IsTrue V.tells → IsKept slot name.now (V.files volume.old) (V.files volume.new)) }
     ensures ended { EachEnded
-        (counts (V.faults volume.old) (V.made volume.old) (V.ended volume.old))
-        (counts (V.faults volume.new) (V.made volume.new) (V.ended volume.new)) }
+        (counts V.faults V.made V.ended volume.old)
+        (counts V.faults V.made V.ended volume.new) }
     ensures faults { V.faults volume.old ≤ V.faults volume.new }
     ensures unfailed { (IsErrOf result OpenStoreFault.Failed → ⊥) → NoneFailed
-        (counts (V.faults volume.old) (V.made volume.old) (V.ended volume.old))
-        (counts (V.faults volume.new) (V.made volume.new) (V.ended volume.new)) }
+        (counts V.faults V.made V.ended volume.old)
+        (counts V.faults V.made V.ended volume.new) }
 {
     if !slot_size_ok(slot) {
         return Err(OpenStoreFault::BadGeometry { field: 1 });

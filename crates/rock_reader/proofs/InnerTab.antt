@@ -1,5 +1,5 @@
 -- A tab that reads on leaves the inner tab as it is.
-use Rattle.std.proofs.Common.{◌≡◌, ℕ, ◌∙◌, ◌<◌, List, Bool, ap, arith, get_or, inl, inr, refl}
+use Rattle.std.proofs.Common.{◌≡◌, ℕ, ◌∙◌, ◌<◌, List, Bool, ap, arith, get_or, inl, inr}
 use Rattle.std.specs.Prelude.{◌≢◌}
 use Rattle.std.proofs.lemmas.List.{get_or-set_other}
 use Rattle.lock_word.specs.declared.epoch.Epoch.{Epoch}

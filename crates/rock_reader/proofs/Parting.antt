@@ -4,7 +4,7 @@ use Rattle.std.proofs.lemmas.Bool.{false≢true}
 use Rattle.std.proofs.lemmas.List.{set-get_or}
 use Rattle.rock_disk.specs.Cell.{CellState}
 use Rattle.core_model.specs.AnchorMoves.{freer_of}
-use Rattle.core_model.specs.Tabs.{InnerIsFree, IsPass, OfReader, anchor_of, has_turn, holds_turn, inner, is_counted, is_free, tab_at, with_tab}
+use Rattle.core_model.specs.Tabs.{InnerIsFree, OfReader, anchor_of, has_turn, holds_turn, inner, is_counted, is_free, tab_at, with_tab}
 use Rattle.core_model.specs.Trails.{last_find}
 use Rattle.core_model.specs.declared.moves.Move.TheVariants.{Evict, Leave}
 use Rattle.core_model.specs.declared.tab.Freer.{Freer}

@@ -14,6 +14,8 @@ use Rattle.store_rule.specs.Passes.{IsOf, hand, view}
 use Rattle.store_rule.specs.Told.{the_view}
 use Rattle.store_rule.proofs.Drafting.{drafted_own}
 use Rattle.store_rule.specs.Calls.{Follows}
+use Rattle.store_rule.specs.Quiet.{Quiet}
+use Rattle.store_rule.proofs.Quieting.{quiet_same}
 use Rattle.slice_chain.specs.Reads.{FollowsReading}
 use Rattle.rock_reader.specs.Reading.{Delivered}
 use Rattle.rock_reader.specs.Wanted.{FollowsReader, held_at}
@@ -81,6 +83,15 @@ module _ {C O : Type 0} (tells : Bool) (state : C → CellState) (offers : O →
   follows_given slots place p u q before after More.End h d = absurd d
   follows_given slots place p u q before after More.Halted h d = absurd d
   follows_given slots place p u q before after More.Fault h d = absurd d
+
+-- to give it is no step
+pub given_quiet : {C : Type 0} (t slots place : ℕ) (p q : Pass C) (before after : List ℕ) (r : More) → Delivered t slots place p before after q r → Quiet (view p) (view q)
+given_quiet {C} t slots place p q before after (More.Piece count) d = quiet_same (view p) (view q) (ap (λ (z : Pass C). (view z).trail) d.still)
+given_quiet t slots place p q before after More.OtherUrl d = quiet_same (view p) (view q) (ap View.trail (drafted_view t _ p q d.forgot))
+given_quiet t slots place p q before after (More.NotYet epoch) d = absurd d
+given_quiet t slots place p q before after More.End d = absurd d
+given_quiet t slots place p q before after More.Halted d = absurd d
+given_quiet t slots place p q before after More.Fault d = absurd d
 
 -- what is given is no fault
 pub not_fault : {C : Type 0} (t slots place : ℕ) (p q : Pass C) (before after : List ℕ) (r : More) → Delivered t slots place p before after q r → r ≢ More.Fault

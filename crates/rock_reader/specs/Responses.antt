@@ -1,5 +1,5 @@
 -- The responses that entries hold: what each of their slots adds to a body.
-use Rattle.std.specs.Prelude.{List, [], cond, drop, length, nat_lt, slice_index, suc, zero, ◌+◌, ◌++◌, ◌-◌, ◌<◌, ◌≡◌, ◌≢◌, ◌≤◌, ℕ}
+use Rattle.std.specs.Prelude.{List, [], cond, drop, length, nat_lt, slice_index, suc, zero, ◌++◌, ◌-◌, ◌<◌, ◌≡◌, ◌≢◌, ◌≤◌, ℕ}
 use Rattle.swap_meta.specs.Meta.{whole_length}
 use Rattle.rebuild_model.specs.Entry.{Entry, IsComplete}
 use Rattle.rebuild_model.specs.Image.{payload_at}

@@ -3,6 +3,7 @@ ghost use Rattle.core_model.specs.Tabs.{tab_at, with_tab};
 ghost use Rattle.core_model.specs.declared.tab.Tab.TheVariants.{Free};
 ghost use Rattle.rock_reader.specs.Closing.{MayClose, MayPart, Parted};
 ghost use Rattle.slice_chain.specs.Freeing.{FollowsTab};
+ghost use Rattle.store_rule.specs.Quiet.{Quiet};
 ghost use Rattle.std.specs.Prelude.{◌≡◌};
 ghost use Rattle.store_rule.specs.Passes.{basis, view};
 
@@ -18,6 +19,7 @@ pub fn close_entry<C: Cell, O: Origin>(store: &Store<C, O>, pass: &mut Pass<C>, 
     ensures parted { Parted (basis C.tells C.state O.offers store.now) tab (view pass.old) (view pass.new) }
     ensures free { (view pass.new).tabs ≡ with_tab (view pass.old) tab Free }
     ensures others { FollowsTab C.tells C.state O.offers store.now tab pass.old pass.new }
+    ensures quiet { Quiet (view pass.old) (view pass.new) }
 {
     part(store, pass, tab);
 }
@@ -29,6 +31,7 @@ pub fn part<C: Cell, O: Origin>(store: &Store<C, O>, pass: &mut Pass<C>, tab: u8
     ensures parted { Parted (basis C.tells C.state O.offers store.now) tab (view pass.old) (view pass.new) }
     ensures free { (view pass.new).tabs ≡ with_tab (view pass.old) tab Free }
     ensures others { FollowsTab C.tells C.state O.offers store.now tab pass.old pass.new }
+    ensures quiet { Quiet (view pass.old) (view pass.new) }
 {
     match leave(store, pass, tab) {
         Left::Done => (),

@@ -5,6 +5,7 @@ ghost use Rattle.lock_word.specs.Cause.{cause_of};
 ghost use Rattle.lock_word.specs.Life.{IsReadable};
 ghost use Rattle.slice_chain.specs.Freeing.{FollowsTab};
 ghost use Rattle.slice_chain.specs.Names.{KeyLoaded};
+ghost use Rattle.store_rule.specs.Quiet.{DoomsNothing, Quiet};
 ghost use Rattle.rock_reader.specs.Opening.{CameTo, Declined, MayCome, MayJudge, Refused};
 ghost use Rattle.std.specs.Prelude.{IfErr, IfOk, List, OnErr, OnOk, Some, ◌≡◌, ℕ};
 ghost use Rattle.store_rule.specs.Passes.{basis, view};
@@ -36,6 +37,7 @@ pub fn come<C: Cell, O: Origin>(
     ensures err { IfErr result (λ cause. Refused (basis C.tells C.state O.offers store.now) tab url.now (view pass.old) cause (view pass.new)) }
     ensures free { OnErr result ((view pass.new).tabs ≡ (view pass.old).tabs) }
     ensures others { FollowsTab C.tells C.state O.offers store.now tab pass.old pass.new }
+    ensures quiet { DoomsNothing (view pass.old) (view pass.new) }
 {
     let key = key_of(url);
     let anchor = anchor_of(&key, store.anchors());
@@ -65,6 +67,7 @@ fn judge<C: Cell, O: Origin>(
     ensures stays { OnOk result ((view pass.new).tabs ≡ (view pass.old).tabs) }
     ensures free { OnErr result ((view pass.new).tabs ≡ with_tab (view pass.old) tab Free) }
     ensures others { FollowsTab C.tells C.state O.offers store.now tab pass.old pass.new }
+    ensures quiet { Quiet (view pass.old) (view pass.new) }
 {
     let key = entry_key(store, pass, tab);
     match cause_of(epoch, &key, wanted) {

@@ -1,5 +1,6 @@
 // An entry is opened for a tab.
 ghost use Rattle.slice_chain.specs.Freeing.{FollowsTab};
+ghost use Rattle.store_rule.specs.Quiet.{DoomsNothing};
 ghost use Rattle.store_rule.specs.Ground.{anchor_for};
 ghost use Rattle.rock_reader.specs.Opening.{MayOpen, OpenedEntry, Refused};
 ghost use Rattle.rock_reader.specs.Reading.{ReadsAs, newly};
@@ -36,6 +37,7 @@ pub fn open_entry<C: Cell, O: Origin>(
     ensures free { OnErr result ((view pass.new).tabs ≡ (view pass.old).tabs) }
     ensures refused { OnErr result (FollowsTab C.tells C.state O.offers store.now tab pass.old pass.new) }
     ensures others { FollowsReader C.tells C.state O.offers store.now tab pass.old pass.new }
+    ensures quiet { DoomsNothing (view pass.old) (view pass.new) }
 {
     slots_are_small(store);
     let epoch = come(store, pass, tab, url)?;

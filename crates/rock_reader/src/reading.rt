@@ -3,6 +3,7 @@ ghost use Rattle.core_model.specs.Tabs.{OfReader, anchor_of, inner, tab_at};
 ghost use Rattle.link_word.specs.declared.link.Link.TheVariants.{NotWritten};
 ghost use Rattle.lock_word.specs.Words.{epoch_number};
 ghost use Rattle.store_rule.specs.Calls.{Follows, IsFresh};
+ghost use Rattle.store_rule.specs.Quiet.{Quiet};
 ghost use Rattle.rock_io.specs.Faults.{Rose};
 ghost use Rattle.rock_reader.specs.Bodies.{IsOfEntry, body_of};
 ghost use Rattle.rock_reader.specs.Reading.{Delivered, Gave, LookedAt, MayRead, ReadsAs, Standing};
@@ -62,6 +63,7 @@ pub fn more<R: Wait, C: Cell, O: Origin, St: Station<C = C>>(
     ensures gave { (e : Standing) → ReadsAs C.tells C.state O.offers store.now pass.old tab e
         → Gave C.tells C.state O.offers store.now tab pass.old e out.old out.new pass.new result }
     ensures others { FollowsReader C.tells C.state O.offers store.now tab pass.old pass.new }
+    ensures quiet { Quiet (view pass.old) (view pass.new) }
     ensures inner { tab_at (view pass.new) inner ≡ tab_at (view pass.old) inner }
     ensures length { length out.new ≡ length out.old }
     ensures failed { result ≡ More.Fault → Rose (St.faults station.old) (St.faults station.new) }
@@ -103,6 +105,7 @@ fn look_on<C: Cell, O: Origin>(store: &Store<C, O>, pass: &mut Pass<C>, tab: u8)
     ensures found { LookedAt (basis C.tells C.state O.offers store.now) tab result.epoch result.link (view pass.old) (view pass.new) }
     ensures fresh { IsFresh (anchor_of (tab_at (view pass.old) tab)) (epoch_number result.epoch) (view pass.old) (view pass.new) }
     ensures others { Follows C.tells C.state O.offers store.now tab pass.old pass.new }
+    ensures quiet { Quiet (view pass.old) (view pass.new) }
 {
     let anchor = pass.anchor(tab);
     let word = look(store, pass, anchor);
@@ -128,6 +131,7 @@ fn read_on<R: Wait, C: Cell, O: Origin, St: Station<C = C>>(
     ensures gave { (e : Standing) → ReadsAs C.tells C.state O.offers store.now pass.old tab e
         → Gave C.tells C.state O.offers store.now tab pass.old e out.old out.new pass.new result }
     ensures others { FollowsReader C.tells C.state O.offers store.now tab pass.old pass.new }
+    ensures quiet { Quiet (view pass.old) (view pass.new) }
     ensures inner { tab_at (view pass.new) inner ≡ tab_at (view pass.old) inner }
     ensures length { length out.new ≡ length out.old }
     ensures failed { result ≡ More.Fault → Rose (St.faults station.old) (St.faults station.new) }

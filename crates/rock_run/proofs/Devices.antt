@@ -6,9 +6,9 @@ use Rattle.db_layout.specs.Layout.{IsSlotSize}
 use Rattle.rock_disk.specs.File.{Files}
 use Rattle.rock_open.specs.declared.fault.OpenStoreFault.{OpenStoreFault}
 use Rattle.rock_open.specs.declared.fault.OpenStoreFault.TheVariants.{BadGeometry, Failed, Memory, Missing, Small}
-use Rattle.rock_open.specs.Device.{Counts, HasFailed as OpenFailed, EachEnded as OpenEnded, NoneFailed as OpenUnfailed, NoStation, OneStation}
+use Rattle.rock_disk.specs.Counts.{Counts, HasFailed, EachEnded, NoneFailed, NoStation, OneStation}
 use Rattle.rock_open.specs.Opening.{FileSays, IsPasses, OpeningEnds, ReadingEnds}
-use Rattle.rock_run.specs.Device.{EachEnded, HasEnded, HasFailed, NoneFailed, RunEnds, ServingEnds, StartingEnds}
+use Rattle.rock_run.specs.Device.{RunEnded, HasEnded, RunFailed, RunUnfailed, RunEnds, ServingEnds, StartingEnds}
 
 -- lists with the same front go on with the same
 first_same : (front : List ℕ) (x y : ℕ) (xs ys : List ℕ) → front ++ x ∷ xs ≡ front ++ y ∷ ys → x ≡ y
@@ -26,11 +26,11 @@ module _ (before after : Counts) where
   no_worker : (rebuild : ℕ) (workers : List ℕ) → HasEnded rebuild workers before after → NoStation before after → ⊥
   no_worker rebuild workers h none = let m = h.made in let n = none.made in absurd (omega (arith, m, n))
 
-  pub ended_alone : OpenEnded before after → EachEnded before after
+  pub ended_alone : EachEnded before after → RunEnded before after
   ended_alone (inl none) = inl none
   ended_alone (inr one) = inr (one.0, [], alone one.0 one.1)
 
-  failed_alone : OpenFailed before after → HasFailed before after
+  failed_alone : HasFailed before after → RunFailed before after
   failed_alone (inl rose) = inl rose
   failed_alone (inr one) = inr (one.0, [], alone one.0 one.1, one.2)
 
@@ -54,7 +54,7 @@ module _ (before after : Counts) where
   one_is_all count rebuild (w ∷ workers) one h = let m = one.made in let n = h.made in absurd (omega (arith, m, n))
 
   -- where no call failed, the station of the rebuild was ended with none
-  pub unfailed_alone : OpenEnded before after → OpenUnfailed before after → NoneFailed before after
+  pub unfailed_alone : EachEnded before after → NoneFailed before after → RunUnfailed before after
   unfailed_alone ended h = record {
     faults = h.faults;
     station = λ rebuild workers all. ⊎_elim (λ none. absurd (no_worker rebuild workers all none)) (λ one. h.station rebuild (one_is_all one.0 rebuild workers one.1 all)) ended;
@@ -68,7 +68,7 @@ module _ (before opened after : Counts) (counts : List ℕ) (one : OneStation 0 
     ended = ended ∙ ap (λ (xs : List ℕ). xs ++ counts) one.ended ∙ append_assoc before.ended (0 ∷ []) counts;
   }
 
-  pub none_failed : opened.faults ≡ before.faults → after.faults ≡ opened.faults → NoneFailed before after
+  pub none_failed : opened.faults ≡ before.faults → after.faults ≡ opened.faults → RunUnfailed before after
   none_failed first then = record { faults = then ∙ first; station = λ rebuild workers all. first_same before.ended rebuild 0 workers counts (sym all.ended ∙ all_ended.ended) }
 
   pub ends_serving : (slot anchors workers : ℕ) (fault : OpenStoreFault) → IsSlotSize slot → IsPasses workers → opened.faults ≡ before.faults → ServingEnds opened.faults after.faults fault → RunEnds slot anchors workers before after fault

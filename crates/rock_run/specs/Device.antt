@@ -5,7 +5,7 @@ use Rattle.db_layout.specs.declared.layout.TheConstants.{HEADER_BYTES}
 use Rattle.rock_io.specs.Faults.{Rose}
 use Rattle.rock_open.specs.declared.fault.OpenStoreFault.{OpenStoreFault}
 use Rattle.rock_open.specs.declared.fault.OpenStoreFault.TheVariants.{BadGeometry, Failed, Memory, Missing, Small}
-use Rattle.rock_open.specs.Device.{Counts, NoStation}
+use Rattle.rock_disk.specs.Counts.{Counts, NoStation}
 use Rattle.rock_open.specs.Opening.{IsBeyond, IsPasses}
 
 -- Stations were made, that of the rebuild and then those of workers, and each was ended, in that order and with these counts of faults.
@@ -14,15 +14,15 @@ pub record HasEnded (rebuild : ℕ) (workers : List ℕ) (before after : Counts)
   pub ended : after.ended ≡ before.ended ++ rebuild ∷ workers
 
 -- each station that was made was ended
-abbrev pub EachEnded : Counts → Counts → Type 0
-EachEnded before after = NoStation before after ⊎ ((rebuild : ℕ) × (workers : List ℕ) × HasEnded rebuild workers before after)
+abbrev pub RunEnded : Counts → Counts → Type 0
+RunEnded before after = NoStation before after ⊎ ((rebuild : ℕ) × (workers : List ℕ) × HasEnded rebuild workers before after)
 
 -- the volume failed, or the station of the rebuild
-abbrev pub HasFailed : Counts → Counts → Type 0
-HasFailed before after = Rose before.faults after.faults ⊎ ((rebuild : ℕ) × (workers : List ℕ) × HasEnded rebuild workers before after × (0 < rebuild))
+abbrev pub RunFailed : Counts → Counts → Type 0
+RunFailed before after = Rose before.faults after.faults ⊎ ((rebuild : ℕ) × (workers : List ℕ) × HasEnded rebuild workers before after × (0 < rebuild))
 
 -- the volume's count of faults is as it was, and the rebuild's station, if it was made, was ended with none
-pub record NoneFailed (before after : Counts) : Type 0 where
+pub record RunUnfailed (before after : Counts) : Type 0 where
   pub faults : after.faults ≡ before.faults
   pub station : (rebuild : ℕ) (workers : List ℕ) → HasEnded rebuild workers before after → rebuild ≡ 0
 
@@ -31,7 +31,7 @@ abbrev pub StartingEnds : (slot anchors : ℕ) → (before after : Counts) → O
 StartingEnds slot anchors before after (BadGeometry field) = (field ≡ 2) × IsBeyond anchors × NoStation before after
 StartingEnds slot anchors before after Missing = NoStation before after
 StartingEnds slot anchors before after (Small bytes) = (bytes < HEADER_BYTES + slot) × NoStation before after
-StartingEnds slot anchors before after Failed = HasFailed before after
+StartingEnds slot anchors before after Failed = RunFailed before after
 StartingEnds slot anchors before after Memory = Unit {0}
 
 -- and any run

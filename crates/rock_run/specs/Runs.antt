@@ -14,7 +14,7 @@ use Rattle.store_rule.specs.Ground.{Offers}
 use Rattle.store_rule.specs.Passes.{basis}
 use Rattle.rock_open.specs.declared.fault.OpenStoreFault.{OpenStoreFault}
 use Rattle.rock_open.specs.declared.fault.OpenStoreFault.TheVariants.{BadGeometry, Failed, Memory, Missing, Small}
-use Rattle.rock_open.specs.Device.{Counts}
+use Rattle.rock_disk.specs.Counts.{Counts}
 use Rattle.rock_open.specs.Opening.{OpensStore}
 use Rattle.worker_pool.specs.Courses.{At}
 use Rattle.worker_pool.specs.Running.{Account, answers_of}

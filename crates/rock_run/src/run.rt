@@ -5,26 +5,27 @@ ghost use Rattle.db_layout.specs.Layout.{IsSlotSize};
 ghost use Rattle.rock_disk.specs.File.{IsKept, IsNotAway, IsThere, NoneAway};
 ghost use Rattle.rock_disk.specs.Opened.{IsSmall};
 ghost use Rattle.store_rule.specs.Passes.{AreNumbered, IsNewOf, basis};
-ghost use Rattle.rock_open.specs.Device.{NoStation, counts};
+ghost use Rattle.rock_disk.specs.Counts.{NoStation, counts};
 ghost use Rattle.rock_open.specs.Opening.{FileSays, HasSlots, IsAnchors, IsPasses};
 ghost use Rattle.rock_run.specs.Offered.{offers_of};
 ghost use Rattle.rock_run.specs.Crews.{MayRest};
-ghost use Rattle.rock_run.specs.Device.{EachEnded, NoneFailed, RunEnds, ServingEnds};
+ghost use Rattle.rock_run.specs.Device.{RunEnded, RunUnfailed, RunEnds, ServingEnds};
 ghost use Rattle.rock_run.specs.Runs.{HasClosed, HasRun, HasServed, RefusalLeaves};
 ghost use Rattle.rock_run.specs.Scripts.{MayBeServed};
 
 use crate::origin::ScriptOrigin;
 use crate::serving::serve;
 use crate::stations::{end_stations, make_stations};
+use pass_laws::new_passes_rest;
 use rock_disk::{StationFault, Volume, opened_cells_are_the_files, opened_slots_are_wide_and_few};
 use rock_open::{
-    OpenStore, OpenStoreFault, close_store, closed_cells_may_be_given_back, open_store,
+    Counted, OpenStore, OpenStoreFault, close_counted, closed_cells_may_be_given_back, open_store,
 };
 use script_text::{Answer, Script};
 use std::alloc::Global;
 use std::sync::Wait;
 use std::thread::Threads;
-use store_rule::{Pass, Store, new_passes_rest};
+use store_rule::{Pass, Store};
 
 /// The numbers of the lines of each worker, with their answers.
 type Answers = Vec<Vec<(u32, Answer)>>;
@@ -108,13 +109,13 @@ where
 
     ensures ran { IfOk result (λ answers. HasRun V.tells V.C.tells V.C.state (V.files volume.old) (V.files volume.new)
         name.now slot anchors workers script.now.lines V.St.faults (map (λ each. each.items) answers.items)
-        (counts (V.faults volume.old) (V.made volume.old) (V.ended volume.old))
-        (counts (V.faults volume.new) (V.made volume.new) (V.ended volume.new))) }
+        (counts V.faults V.made V.ended volume.old)
+        (counts V.faults V.made V.ended volume.new)) }
 
     // When each refusal comes: only where its cause stands, by the numbers, the counts and the file;
     ensures refused { IfErr result (RunEnds slot anchors workers
-        (counts (V.faults volume.old) (V.made volume.old) (V.ended volume.old))
-        (counts (V.faults volume.new) (V.made volume.new) (V.ended volume.new))) }
+        (counts V.faults V.made V.ended volume.old)
+        (counts V.faults V.made V.ended volume.new)) }
     ensures says { IsTrue V.tells → IfErr result (FileSays (V.files volume.old) name.now slot anchors) }
 
     // and wherever it stands, want of memory and faults aside.
@@ -127,21 +128,21 @@ where
     ensures bad_anchors { IsTrue V.tells → (slots : ℕ)
         → HasSlots (V.files volume.old) name.now slot slots → (IsAnchors anchors slots → ⊥)
         → IsErr result × NoStation
-        (counts (V.faults volume.old) (V.made volume.old) (V.ended volume.old))
-        (counts (V.faults volume.new) (V.made volume.new) (V.ended volume.new)) }
+        (counts V.faults V.made V.ended volume.old)
+        (counts V.faults V.made V.ended volume.new) }
 
     // What is left of the volume: at each refusal before the store was open the file is as it was, or as opening cuts it, and
     // else its cells are back as the store left them. Where a number or the file refuses the run, the store was not open.
     ensures kept { IfErr result (RefusalLeaves (IsTrue V.tells → IsKept slot name.now (V.files volume.old) (V.files volume.new))
         (HasClosed V.tells V.C.tells V.C.state (V.files volume.old) (V.files volume.new) name.now slot anchors workers script.now.lines)) }
     ensures back { IsTrue V.tells → NoneAway (V.files volume.old) → NoneAway (V.files volume.new) }
-    ensures ended { EachEnded
-        (counts (V.faults volume.old) (V.made volume.old) (V.ended volume.old))
-        (counts (V.faults volume.new) (V.made volume.new) (V.ended volume.new)) }
+    ensures ended { RunEnded
+        (counts V.faults V.made V.ended volume.old)
+        (counts V.faults V.made V.ended volume.new) }
     ensures faults { V.faults volume.old ≤ V.faults volume.new }
-    ensures unfailed { (IsErrOf result OpenStoreFault.Failed → ⊥) → NoneFailed
-        (counts (V.faults volume.old) (V.made volume.old) (V.ended volume.old))
-        (counts (V.faults volume.new) (V.made volume.new) (V.ended volume.new)) }
+    ensures unfailed { (IsErrOf result OpenStoreFault.Failed → ⊥) → RunUnfailed
+        (counts V.faults V.made V.ended volume.old)
+        (counts V.faults V.made V.ended volume.new) }
 {
     new_passes_rest::<V::C, ScriptOrigin>();
     opened_cells_are_the_files();
@@ -167,7 +168,8 @@ where
         &mut stations,
         script,
     );
-    volume.give_back(name, header, close_store(store, passes));
+    let Counted { cells, .. } = close_counted(store, passes);
+    volume.give_back(name, header, cells);
     end_stations(volume, stations);
     served
 }

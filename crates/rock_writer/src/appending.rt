@@ -7,6 +7,7 @@ ghost use Rattle.rock_writer.specs.During.{LeftDuringAppend};
 ghost use Rattle.rock_writer.specs.Durable.{LoggedSoFar};
 ghost use Rattle.rock_writer.specs.Entries.{Entry, with_taken};
 ghost use Rattle.rock_writer.specs.Passes.{FollowsWriting};
+ghost use Rattle.store_rule.specs.Quiet.{Quiet};
 ghost use Rattle.slot_cell.specs.declared.header.TheConstants.{HEADER_SIZE};
 ghost use Rattle.tab_states.specs.Desks.{draft_at};
 ghost use Rattle.store_rule.specs.Passes.{basis, view};
@@ -47,6 +48,7 @@ pub fn append<C: Cell, O: Origin, St: Station<C = C>>(
     ensures err { (e : Entry) → MayAppend C.tells C.state O.offers store.now tab e bytes.now pass.old
         → IfErr result (λ fault. NotAppended C.tells C.state O.offers store.now tab e bytes.now pass.old pass.new fault) }
     ensures others { FollowsWriting C.tells C.state O.offers store.now tab pass.old pass.new }
+    ensures quiet { Quiet (view pass.old) (view pass.new) }
     ensures unfailed { (IsErrOf result WriteFault.Fault → ⊥) → St.faults station.new ≡ St.faults station.old }
     ensures failed { IsErrOf result WriteFault.Fault → Rose (St.faults station.old) (St.faults station.new) }
 {

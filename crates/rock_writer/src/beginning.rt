@@ -3,6 +3,7 @@ ghost use Rattle.std.specs.Prelude.{IfErr, IfOk, IsErrOf, OnErr, false, true, �
 ghost use Rattle.core_model.specs.Tabs.{InnerIsFree, inner};
 ghost use Rattle.lock_word.specs.Words.{is_idle, is_vacant, word_number};
 ghost use Rattle.store_rule.specs.Calls.{Follows};
+ghost use Rattle.store_rule.specs.Quiet.{Quiet};
 ghost use Rattle.rock_writer.specs.Beginning.{Began, IsTooLong, MayBegin, MayClear, MayTakeAnchor, NotTaken, TookAnchor, begun};
 ghost use Rattle.rock_writer.specs.Durable.{LoggedSoFar};
 ghost use Rattle.store_rule.specs.Ground.{anchor_for};
@@ -46,6 +47,7 @@ pub fn begin<C: Cell, O: Origin>(
     ensures desks { OnErr result (pass.new.desks ≡ pass.old.desks) }
     ensures hand { pass.new.hand ≡ pass.old.hand }
     ensures others { FollowsWriting C.tells C.state O.offers store.now tab pass.old pass.new }
+    ensures quiet { Quiet (view pass.old) (view pass.new) }
 {
     if is_too_long(store, url) {
         return Err(BeginFault::LongUrl);
@@ -92,6 +94,7 @@ fn take_anchor<C: Cell, O: Origin>(
     ensures short { IsErrOf result BeginFault.LongUrl → ⊥ }
     ensures tabs { OnErr result ((view pass.new).tabs ≡ (view pass.old).tabs) }
     ensures others { Follows C.tells C.state O.offers store.now tab pass.old pass.new }
+    ensures quiet { Quiet (view pass.old) (view pass.new) }
 {
     let looked = look(store, pass, anchor);
     if !is_open(&looked) {
@@ -120,6 +123,7 @@ fn clear<C: Cell, O: Origin>(store: &Store<C, O>, pass: &mut Pass<C>)
     ensures free { InnerIsFree (view pass.old) → pass.new ≡ pass.old }
     ensures freed { (InnerIsFree (view pass.old) → ⊥) → Freed (basis C.tells C.state O.offers store.now) (view pass.old) (view pass.new) }
     ensures others { Follows C.tells C.state O.offers store.now inner pass.old pass.new }
+    ensures quiet { Quiet (view pass.old) (view pass.new) }
 {
     if pass.freeing().is_some() {
         free_chain(store, pass);

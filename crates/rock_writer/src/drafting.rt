@@ -14,10 +14,11 @@ ghost use Rattle.store_rule.specs.Passes.{IsOf, basis};
 ghost use Rattle.swap_meta.specs.Meta.{meta_bytes};
 
 use entry_cut::{Behind, Label, piece_header, put_header};
+use pass_laws::{drafts_keep_passes, lending_keeps_passes};
 use rock_disk::Cell;
 use slot_cell::HEADER_SIZE;
 use store_key::keys_have_16_bytes;
-use store_rule::{Origin, Pass, Store, drafts_keep_passes, lending_keeps_passes};
+use store_rule::{Origin, Pass, Store};
 use swap_meta::{write_meta, written_meta_is_spelled};
 use tab_states::Draft;
 

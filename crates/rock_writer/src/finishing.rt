@@ -7,6 +7,7 @@ ghost use Rattle.rock_writer.specs.Entries.{Entry, WritesAs, size_of};
 ghost use Rattle.rock_writer.specs.Finishing.{Finished, MayClose, MayFinish, NotFinished, NotWrittenLast, WroteLast, is_doomed, version_of};
 ghost use Rattle.rock_writer.specs.Halting.{Halts, MayHalt};
 ghost use Rattle.rock_writer.specs.Passes.{FollowsWriting};
+ghost use Rattle.store_rule.specs.Quiet.{Quiet};
 ghost use Rattle.slice_chain.specs.Freeing.{FollowsTab};
 ghost use Rattle.store_rule.specs.Passes.{basis, view};
 
@@ -46,6 +47,7 @@ pub fn finish<C: Cell, O: Origin, St: Station<C = C>>(
     ensures err { (e : Entry) → MayFinish C.tells C.state O.offers store.now tab e pass.old
         → IfErr result (λ fault. NotFinished C.tells C.state O.offers store.now tab e pass.old pass.new fault) }
     ensures others { FollowsWriting C.tells C.state O.offers store.now tab pass.old pass.new }
+    ensures quiet { Quiet (view pass.old) (view pass.new) }
     ensures unfailed { (IsErrOf result WriteFault.Fault → ⊥) → St.faults station.new ≡ St.faults station.old }
     ensures failed { IsErrOf result WriteFault.Fault → Rose (St.faults station.old) (St.faults station.new) }
 {
@@ -66,6 +68,7 @@ pub fn abort<C: Cell, O: Origin>(store: &Store<C, O>, pass: &mut Pass<C>, tab: u
     requires { (e : Entry) × WritesAs C.tells C.state O.offers store.now pass.old tab e }
     ensures halts { Halts (basis C.tells C.state O.offers store.now) tab (view pass.old) (view pass.new) }
     ensures others { FollowsTab C.tells C.state O.offers store.now tab pass.old pass.new }
+    ensures quiet { Quiet (view pass.old) (view pass.new) }
 {
     halt(store, pass, tab);
 }
@@ -101,6 +104,7 @@ fn write_last<C: Cell, O: Origin, St: Station<C = C>>(
         → IfErr result (λ fault. NotWrittenLast (basis C.tells C.state O.offers store.now) tab pass.old.hand e.is_durable (view pass.old) fault (view pass.new) pass.new.hand) }
     ensures halts { OnErr result (MayHalt C.tells C.state O.offers store.now pass.new tab) }
     ensures others { FollowsWriting C.tells C.state O.offers store.now tab pass.old pass.new }
+    ensures quiet { Quiet (view pass.old) (view pass.new) }
     ensures unfailed { (IsErrOf result WriteFault.Fault → ⊥) → St.faults station.new ≡ St.faults station.old }
     ensures failed { IsErrOf result WriteFault.Fault → Rose (St.faults station.old) (St.faults station.new) }
 {

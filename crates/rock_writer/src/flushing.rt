@@ -14,6 +14,7 @@ ghost use Rattle.store_rule.specs.Passes.{IsOf, Made, May, basis, view};
 ghost use Rattle.core_model.specs.declared.moves.Move.TheVariants.{Raise};
 ghost use Rattle.lock_word.specs.declared.stage.Stage.TheVariants.{Appending};
 ghost use Rattle.store_rule.specs.Calls.{Follows};
+ghost use Rattle.store_rule.specs.Quiet.{Quiet};
 
 use crate::drafting::{next_piece, seal};
 use crate::fault::WriteFault;
@@ -48,6 +49,7 @@ pub(crate) fn slot_for_piece<C: Cell, O: Origin>(
     ensures err { OnErr result (LacksSlot (basis C.tells C.state O.offers store.now) tab pass.old.hand (view pass.old) (view pass.new)) }
     ensures stays { OnErr result (pass.new.hand ≡ pass.old.hand) }
     ensures others { FollowsEvicting C.tells C.state O.offers store.now tab pass.old pass.new }
+    ensures quiet { Quiet (view pass.old) (view pass.new) }
 {
     let Some(writing) = pass.writing(tab) else {
         unreachable!()
@@ -81,6 +83,7 @@ pub(crate) fn flush<C: Cell, O: Origin, St: Station<C = C>>(
         → (IsErrOf result WriteFault.Large ↔ IsAtLimit (basis C.tells C.state O.offers store.now) (length may.writes.published)) }
     ensures halts { OnErr result (MayHalt C.tells C.state O.offers store.now pass.new tab) }
     ensures others { FollowsWriting C.tells C.state O.offers store.now tab pass.old pass.new }
+    ensures quiet { Quiet (view pass.old) (view pass.new) }
     ensures unfailed { (IsErrOf result WriteFault.Fault → ⊥) → St.faults station.new ≡ St.faults station.old }
     ensures failed { IsErrOf result WriteFault.Fault → Rose (St.faults station.old) (St.faults station.new) }
 {
@@ -112,6 +115,7 @@ fn raise_first<C: Cell, O: Origin>(store: &Store<C, O>, pass: &mut Pass<C>, tab:
     ensures first { published ≡ 0 → (n : ℕ) × Made C.tells C.state O.offers store.now pass.old (Raise tab Appending) n pass.new }
     ensures later { published ≢ 0 → pass.new ≡ pass.old }
     ensures others { Follows C.tells C.state O.offers store.now tab pass.old pass.new }
+    ensures quiet { Quiet (view pass.old) (view pass.new) }
 {
     if published == 0 {
         advance(store, pass, tab, Stage::Appending);
@@ -131,6 +135,7 @@ fn reserve_both<C: Cell, O: Origin>(
     ensures err { OnErr result (RanShort (basis C.tells C.state O.offers store.now) tab pass.old.hand (view pass.old) (view pass.new) pass.new.hand) }
     ensures halts { OnErr result (MayHalt C.tells C.state O.offers store.now pass.new tab) }
     ensures others { FollowsEvicting C.tells C.state O.offers store.now tab pass.old pass.new }
+    ensures quiet { Quiet (view pass.old) (view pass.new) }
 {
     let slot = slot_for_piece(store, pass, tab)?;
     let next = reserve(store, pass, tab)?;
@@ -156,6 +161,7 @@ pub(crate) fn publish_piece<C: Cell, O: Origin, St: Station<C = C>>(
     ensures draft { draft_at pass.new.desks tab ≡ draft_at pass.old.desks tab }
     ensures hand { pass.new.hand ≡ pass.old.hand }
     ensures others { FollowsWriting C.tells C.state O.offers store.now tab pass.old pass.new }
+    ensures quiet { Quiet (view pass.old) (view pass.new) }
     ensures unfailed { OnOk result (St.faults station.new ≡ St.faults station.old) }
     ensures failed { OnErr result (Rose (St.faults station.old) (St.faults station.new)) }
 {

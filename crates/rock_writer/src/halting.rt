@@ -1,6 +1,7 @@
 // An entry is given up, and a tab parts from its anchor.
 ghost use Rattle.std.specs.Prelude.{None, ◌≡◌, ◌≢◌};
 ghost use Rattle.store_rule.specs.Calls.{Follows};
+ghost use Rattle.store_rule.specs.Quiet.{Quiet};
 ghost use Rattle.rock_writer.specs.Halting.{GaveBack, GaveUnlinked, Halts, MayGive, MayHalt, MayPart, Parted};
 ghost use Rattle.slice_chain.specs.Freeing.{FollowsTab};
 ghost use Rattle.store_rule.specs.Passes.{basis, view};
@@ -19,6 +20,7 @@ pub(crate) fn halt<C: Cell, O: Origin>(store: &Store<C, O>, pass: &mut Pass<C>, 
     requires { MayHalt C.tells C.state O.offers store.now pass.old tab }
     ensures halts { Halts (basis C.tells C.state O.offers store.now) tab (view pass.old) (view pass.new) }
     ensures others { FollowsTab C.tells C.state O.offers store.now tab pass.old pass.new }
+    ensures quiet { Quiet (view pass.old) (view pass.new) }
 {
     give_unlinked(store, pass, tab);
     advance(store, pass, tab, Stage::Halted);
@@ -30,6 +32,7 @@ fn give_unlinked<C: Cell, O: Origin>(store: &Store<C, O>, pass: &mut Pass<C>, ta
     requires { MayHalt C.tells C.state O.offers store.now pass.old tab }
     ensures gave { GaveUnlinked (basis C.tells C.state O.offers store.now) tab (view pass.old) (view pass.new) }
     ensures others { Follows C.tells C.state O.offers store.now tab pass.old pass.new }
+    ensures quiet { Quiet (view pass.old) (view pass.new) }
 {
     let Some(writing) = pass.writing(tab) else {
         unreachable!()
@@ -60,6 +63,7 @@ fn give_back<C: Cell, O: Origin>(
     requires { MayGive C.tells C.state O.offers store.now pass.old tab slot }
     ensures gave { GaveBack (basis C.tells C.state O.offers store.now) tab slot (view pass.old) (view pass.new) }
     ensures others { Follows C.tells C.state O.offers store.now tab pass.old pass.new }
+    ensures quiet { Quiet (view pass.old) (view pass.new) }
 {
     if let Some(slot) = slot {
         give(store, pass, tab, slot);
@@ -71,6 +75,7 @@ pub(crate) fn part<C: Cell, O: Origin>(store: &Store<C, O>, pass: &mut Pass<C>, 
     requires { MayPart C.tells C.state O.offers store.now pass.old tab }
     ensures parted { Parted (basis C.tells C.state O.offers store.now) tab (view pass.old) (view pass.new) }
     ensures others { FollowsTab C.tells C.state O.offers store.now tab pass.old pass.new }
+    ensures quiet { Quiet (view pass.old) (view pass.new) }
 {
     if !pass.is_last(tab) {
         return;

@@ -3,6 +3,7 @@ ghost use Rattle.std.specs.Prelude.{IfOk, OnErr, ◌≡◌};
 ghost use Rattle.free_set.specs.Claims.{MayClaim};
 ghost use Rattle.rock_writer.specs.Reserving.{RanOut, Reserved};
 ghost use Rattle.slice_chain.specs.Victims.{FollowsEvicting};
+ghost use Rattle.store_rule.specs.Quiet.{Quiet};
 ghost use Rattle.store_rule.specs.Passes.{basis, view};
 
 use free_set::{AllTaken, claim};
@@ -26,6 +27,7 @@ pub(crate) fn reserve<C: Cell, O: Origin>(
     ensures err { OnErr result (RanOut (basis C.tells C.state O.offers store.now) tab pass.old.hand (view pass.old) (view pass.new)) }
     ensures stays { OnErr result (pass.new.hand ≡ pass.old.hand) }
     ensures others { FollowsEvicting C.tells C.state O.offers store.now tab pass.old pass.new }
+    ensures quiet { Quiet (view pass.old) (view pass.new) }
 {
     match claim(store, pass, tab) {
         Ok(slot) => Ok(slot),

@@ -5,7 +5,7 @@ use Rattle.std.specs.Prelude.{IsTrue, Option}
 use Rattle.rock_disk.specs.Cell.{CellState}
 use Rattle.rock_disk.specs.File.{Files}
 use Rattle.rock_io.specs.Faults.{Rose}
-use Rattle.rock_open.specs.Device.{Counts}
+use Rattle.rock_disk.specs.Counts.{Counts}
 use Rattle.rock_open.specs.Opening.{IsPasses}
 use Rattle.rock_run.specs.Runs.{HasRun}
 use Rattle.rock_status.specs.declared.status.Status.{Status}

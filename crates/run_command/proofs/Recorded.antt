@@ -3,7 +3,7 @@ use Rattle.std.proofs.Common.{Bool, List, None, Some, arith, inl, inr, subst, â—
 use Rattle.std.specs.Prelude.{IsTrue, Option}
 use Rattle.rock_disk.specs.File.{Files}
 use Rattle.rock_disk.specs.Opened.{IsSmall}
-use Rattle.rock_open.specs.Device.{Counts}
+use Rattle.rock_disk.specs.Counts.{Counts}
 use Rattle.rock_open.specs.Opening.{IsBeyond}
 use Rattle.rock_status.specs.declared.status.Status.{Status}
 use Rattle.rock_status.specs.declared.status.Status.TheVariants.{BadGeometry, BadScript, DeviceFault, Done, Exists, Memory, Missing, SinkFault, Small, SourceFault, Usage}

@@ -4,9 +4,9 @@ use Rattle.std.specs.Prelude.{IsTrue, Option}
 use Rattle.db_layout.specs.Layout.{IsSlotSize}
 use Rattle.rock_disk.specs.Cell.{CellState}
 use Rattle.rock_disk.specs.File.{Files}
-use Rattle.rock_open.specs.Device.{Counts}
+use Rattle.rock_disk.specs.Counts.{Counts}
 use Rattle.rock_open.specs.Opening.{IsPasses}
-use Rattle.rock_run.specs.Device.{HasFailed}
+use Rattle.rock_run.specs.Device.{RunFailed}
 use Rattle.rock_run.specs.Runs.{HasClosed}
 use Rattle.run_rules.specs.Left.{IsGivenBack}
 use Rattle.rock_status.specs.declared.status.Status.{Status}
@@ -106,7 +106,7 @@ workers_refused source_tells volume_tells text files name given anchor_count wor
 pub third_says : {Unfit : ℕ → Type 0} {files : Files} {name : List ℕ} {given : Option ℕ} → FieldSays Unfit files name given 3
 third_says = record { unfit = λ e. absurd (omega (arith, e)); wrong = λ e. absurd (omega (arith, e)); differs = λ e. absurd (omega (arith, e)); unknown = λ e. absurd (omega (arith, e)) }
 
-not_failed : (s s' k k' : ℕ) (before after : Counts) → NoFault s s' k k' before after → HasFailed before after → ⊥
+not_failed : (s s' k k' : ℕ) (before after : Counts) → NoFault s s' k k' before after → RunFailed before after → ⊥
 not_failed s s' k k' before after none (inl rose) = none.volume_none rose
 not_failed s s' k k' before after none (inr ended) = let count = (none.stations_none ended.0 ended.1 ended.2).0 in omega (arith, count, ended.3)
 

@@ -8,7 +8,7 @@ use Rattle.rock_disk.specs.File.{Files, IsKept}
 use Rattle.rock_disk.specs.Opened.{IsSmall}
 use Rattle.rock_open.specs.declared.fault.OpenStoreFault.{OpenStoreFault}
 use Rattle.rock_open.specs.declared.fault.OpenStoreFault.TheVariants.{BadGeometry, Failed, Memory, Missing, Small}
-use Rattle.rock_open.specs.Device.{Counts, NoStation, counts}
+use Rattle.rock_disk.specs.Counts.{Counts, NoStation, counted}
 use Rattle.rock_open.specs.Opening.{FileSays as OpeningSays, HasSlots, IsAnchors, IsPasses}
 use Rattle.rock_run.specs.Device.{RunEnds as RefusalEnds}
 use Rattle.rock_run.specs.Faults.{status_of_run}
@@ -27,8 +27,8 @@ use Rattle.run_command.specs.Slots.{IsSlotOf}
 use Rattle.run_command.proofs.Filed.{lacks_no_file, not_short}
 
 -- what is said of the counts of a volume that are as they were
-pub before_as : (P : Counts → Type 0) (v v1 m m1 : ℕ) (e e1 : List ℕ) → v1 ≡ v → m1 ≡ m → e1 ≡ e → P (counts v1 m1 e1) → P (counts v m e)
-before_as P v v1 m m1 e e1 faults made ended h = subst (λ x. P (counts v m x)) ended (subst (λ x. P (counts v x e1)) made (subst (λ x. P (counts x m1 e1)) faults h))
+pub before_as : (P : Counts → Type 0) (v v1 m m1 : ℕ) (e e1 : List ℕ) → v1 ≡ v → m1 ≡ m → e1 ≡ e → P (counted v1 m1 e1) → P (counted v m e)
+before_as P v v1 m m1 e e1 faults made ended h = subst (λ x. P (counted v m x)) ended (subst (λ x. P (counted v x e1)) made (subst (λ x. P (counted x m1 e1)) faults h))
 
 same_fault : {T : Type 0} {f g : OpenStoreFault} → ◌≡◌ {A = Result T OpenStoreFault} (Err f) (Err g) → f ≡ g
 same_fault e = cc

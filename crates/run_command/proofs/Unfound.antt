@@ -6,7 +6,7 @@ use Rattle.db_layout.specs.declared.layout.TheConstants.{HEADER_BYTES}
 use Rattle.rock_disk.specs.File.{Files}
 use Rattle.rock_disk.specs.Opened.{IsSmall}
 use Rattle.rock_io.specs.Faults.{Rose}
-use Rattle.rock_open.specs.Device.{Counts, NoStation}
+use Rattle.rock_disk.specs.Counts.{Counts, NoStation}
 use Rattle.rock_status.specs.declared.status.Status.{Status}
 use Rattle.rock_status.specs.declared.status.Status.TheVariants.{BadGeometry, Small}
 use Rattle.slot_finding.specs.declared.finding.FindFault.{FindFault}

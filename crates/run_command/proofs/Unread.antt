@@ -2,7 +2,7 @@
 use Rattle.std.proofs.Common.{Bool, List, ap, inl, inr, refl, ◌∙◌, ◌≡◌, ℕ}
 use Rattle.std.specs.Prelude.{IsTrue, Option}
 use Rattle.rock_disk.specs.File.{Files}
-use Rattle.rock_open.specs.Device.{Counts, NoStation}
+use Rattle.rock_disk.specs.Counts.{Counts, NoStation}
 use Rattle.rock_status.specs.declared.status.Status.{Status}
 use Rattle.rock_status.specs.declared.status.Status.TheVariants.{BadGeometry, BadScript, Missing, Small}
 use Rattle.script_text.specs.Script.{Explains, IsBadScript, IsScript}

@@ -3,9 +3,9 @@ use Rattle.std.specs.Prelude.{All, List, None, Option, Some, ◌+◌, ◌<◌, �
 use Rattle.db_layout.specs.Layout.{IsSlotSize}
 use Rattle.db_layout.specs.declared.layout.TheConstants.{HEADER_BYTES}
 use Rattle.rock_io.specs.Faults.{Rose}
-use Rattle.rock_open.specs.Device.{Counts, NoStation}
+use Rattle.rock_disk.specs.Counts.{Counts, NoStation}
 use Rattle.rock_open.specs.Opening.{IsBeyond, IsPasses}
-use Rattle.rock_run.specs.Device.{HasEnded, HasFailed}
+use Rattle.rock_run.specs.Device.{HasEnded, RunFailed}
 use Rattle.slot_finding.specs.Finding.{IsGiven, IsUnknown}
 use Rattle.rock_status.specs.declared.status.Status.{Status}
 use Rattle.rock_status.specs.declared.status.Status.TheVariants.{BadGeometry, BadScript, DeviceFault, Done, Exists, Memory, Missing, SinkFault, Small, SourceFault, Usage}
@@ -18,7 +18,7 @@ IsShort None bytes = (slot : ℕ) × IsSlotSize slot × (bytes < HEADER_BYTES + 
 -- how a run may be refused whose numbers are within their limits, by what was given, the anchors, and the counts of the volume, before and after
 abbrev pub FoundEnds : (given : Option ℕ) → (anchors : ℕ) → (before after : Counts) → Status → Type 0
 FoundEnds given anchors before after Memory = Unit {0}
-FoundEnds given anchors before after DeviceFault = HasFailed before after
+FoundEnds given anchors before after DeviceFault = RunFailed before after
 FoundEnds given anchors before after Missing = NoStation before after
 FoundEnds given anchors before after (Small bytes) = IsShort given bytes × NoStation before after
 FoundEnds given anchors before after (BadGeometry field) = (IsUnknown given field ⊎ ((field ≡ 2) × IsBeyond anchors)) × NoStation before after
@@ -32,7 +32,7 @@ RunEnds given anchors workers s s' k k' before after Usage = ⊥
 RunEnds given anchors workers s s' k k' before after Memory = Unit {0}
 RunEnds given anchors workers s s' k k' before after SourceFault = Rose s s' × NoStation before after
 RunEnds given anchors workers s s' k k' before after SinkFault = IsGiven given × IsPasses workers × Rose k k'
-RunEnds given anchors workers s s' k k' before after DeviceFault = IsGiven given × IsPasses workers × HasFailed before after
+RunEnds given anchors workers s s' k k' before after DeviceFault = IsGiven given × IsPasses workers × RunFailed before after
 RunEnds given anchors workers s s' k k' before after (BadScript line cause) = NoStation before after
 RunEnds given anchors workers s s' k k' before after Missing = IsGiven given × IsPasses workers × NoStation before after
 RunEnds given anchors workers s s' k k' before after (Small bytes) = IsGiven given × IsPasses workers × IsShort given bytes × NoStation before after

@@ -1,7 +1,7 @@
 -- A run that came to its end.
 use Rattle.std.specs.Prelude.{Bool, List, Option, ℕ}
 use Rattle.rock_disk.specs.File.{Files}
-use Rattle.rock_open.specs.Device.{Counts}
+use Rattle.rock_disk.specs.Counts.{Counts}
 use Rattle.run_rules.specs.Served.{WasServed}
 use Rattle.script_text.specs.Script.{GivesScript}
 use Rattle.script_text.specs.declared.answer.Answer.{Answer}

@@ -2,7 +2,7 @@
 use Rattle.std.specs.Prelude.{Bool, List, Option, ◌⊎◌, ℕ}
 use Rattle.rock_disk.specs.Cell.{CellState}
 use Rattle.rock_disk.specs.File.{Files}
-use Rattle.rock_open.specs.Device.{Counts}
+use Rattle.rock_disk.specs.Counts.{Counts}
 use Rattle.rock_run.specs.Runs.{HasClosed, HasRun}
 use Rattle.rock_status.specs.declared.status.Status.{Status}
 use Rattle.rock_status.specs.declared.status.Status.TheVariants.{DeviceFault, Memory}

@@ -1,7 +1,7 @@
 -- What a run leaves of the files.
 use Rattle.std.specs.Prelude.{Bool, IsTrue, List, Option, ◌≡◌, ◌⊎◌, ℕ}
 use Rattle.rock_disk.specs.File.{Files}
-use Rattle.rock_open.specs.Device.{Counts}
+use Rattle.rock_disk.specs.Counts.{Counts}
 use Rattle.run_rules.specs.Left.{IsGivenBack}
 use Rattle.rock_status.specs.declared.status.Status.{Status}
 use Rattle.rock_status.specs.declared.status.Status.TheVariants.{BadGeometry, BadScript, DeviceFault, Done, Exists, Memory, Missing, SinkFault, Small, SourceFault, Usage}

@@ -4,7 +4,7 @@ use Rattle.answer_text.specs.Text.{text_of}
 use Rattle.rock_disk.specs.File.{Files}
 use Rattle.rock_io.specs.Faults.{Rose}
 use Rattle.rock_io.specs.Sink.{TakesPrefix}
-use Rattle.rock_open.specs.Device.{Counts}
+use Rattle.rock_disk.specs.Counts.{Counts}
 use Rattle.rock_status.specs.declared.status.Status.{Status}
 use Rattle.rock_status.specs.declared.status.Status.TheVariants.{Done, Memory, SinkFault}
 use Rattle.run_command.specs.Finished.{IsFinishedRun}

@@ -3,7 +3,7 @@ use Rattle.std.specs.Prelude.{Bool, IsTrue, List, None, Option, ◌≡◌, ◌�
 use Rattle.std.specs.FinMap.{get}
 use Rattle.rock_disk.specs.File.{Files}
 use Rattle.rock_disk.specs.Opened.{IsSmall}
-use Rattle.rock_open.specs.Device.{Counts, NoStation}
+use Rattle.rock_disk.specs.Counts.{Counts, NoStation}
 use Rattle.rock_open.specs.Opening.{HasSlots, IsAnchors, IsPasses}
 use Rattle.rock_status.specs.declared.status.Status.{Status}
 use Rattle.rock_status.specs.declared.status.Status.TheVariants.{BadGeometry, BadScript, DeviceFault, Done, Memory, Missing, SinkFault, Small, SourceFault, Usage}

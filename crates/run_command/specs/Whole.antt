@@ -1,7 +1,7 @@
 -- All that is said of a run.
 use Rattle.std.specs.Prelude.{Bool, IsTrue, List, Option, ℕ}
 use Rattle.rock_disk.specs.File.{Files}
-use Rattle.rock_open.specs.Device.{Counts}
+use Rattle.rock_disk.specs.Counts.{Counts}
 use Rattle.rock_status.specs.declared.status.Status.{Status}
 use Rattle.run_command.specs.Ends.{RunEnds}
 use Rattle.run_command.specs.Leaves.{RunLeaves}

@@ -3,9 +3,9 @@ ghost use Rattle.std.specs.Prelude.{IsTrue, length, map, ◌≡◌, ◌≤◌, �
 ghost use Rattle.std.specs.FinMap.{get};
 ghost use Rattle.answer_text.specs.Text.{text_of};
 ghost use Rattle.rock_disk.specs.File.{IsNotAway, NoneAway};
-ghost use Rattle.rock_open.specs.Device.{counts};
+ghost use Rattle.rock_disk.specs.Counts.{counts};
 ghost use Rattle.rock_open.specs.Opening.{IsPasses};
-ghost use Rattle.rock_run.specs.Device.{EachEnded, NoneFailed};
+ghost use Rattle.rock_run.specs.Device.{RunEnded, RunUnfailed};
 ghost use Rattle.script_text.specs.Script.{IsTakenFrom};
 ghost use Rattle.run_command.specs.Ends.{NoFault, RunEnds, RunsOrLacksMemory};
 ghost use Rattle.run_command.specs.Leaves.{RunLeaves};
@@ -83,44 +83,44 @@ where
     // When each status comes: by the numbers and the counts of faults,
     ensures ends { RunEnds target.now.slot target.now.anchors target.now.workers
         (S.faults script.old) (S.faults script.new) (K.faults out.old) (K.faults out.new)
-        (counts (V.faults volume.old) (V.made volume.old) (V.ended volume.old))
-        (counts (V.faults volume.new) (V.made volume.new) (V.ended volume.new)) result }
+        (counts V.faults V.made V.ended volume.old)
+        (counts V.faults V.made V.ended volume.new) result }
     // and by the script and the files.
     ensures says { RunSays S.tells V.tells target.now.workers (S.left script.old) (S.left script.new)
         (V.files volume.old) target.now.name.now target.now.slot target.now.anchors result }
     // Where the script, a number or the file refuses the run, it is refused so,
     ensures refused { IsRunRefused S.tells V.tells (S.left script.old) (V.files volume.old)
         target.now.name.now target.now.slot target.now.anchors target.now.workers
-        (counts (V.faults volume.old) (V.made volume.old) (V.ended volume.old))
-        (counts (V.faults volume.new) (V.made volume.new) (V.ended volume.new)) result }
+        (counts V.faults V.made V.ended volume.old)
+        (counts V.faults V.made V.ended volume.new) result }
     // and where nothing refuses it and no fault comes, it is done, unless memory runs out.
     ensures complete { IsTrue S.tells → IsTrue V.tells
         → MayRun (S.left script.old) (V.files volume.old) target.now.name.now target.now.slot target.now.anchors target.now.workers
         → NoFault (S.faults script.old) (S.faults script.new) (K.faults out.old) (K.faults out.new)
-        (counts (V.faults volume.old) (V.made volume.old) (V.ended volume.old))
-        (counts (V.faults volume.new) (V.made volume.new) (V.ended volume.new))
+        (counts V.faults V.made V.ended volume.old)
+        (counts V.faults V.made V.ended volume.new)
         → RunsOrLacksMemory result }
 
     // What was printed.
     ensures prints { IsTrue K.tells → RunPrints (IsRunText S.tells V.tells
         (S.left script.old) (S.left script.new) (V.files volume.old) (V.files volume.new)
         target.now.name.now target.now.slot target.now.anchors target.now.workers
-        (counts (V.faults volume.old) (V.made volume.old) (V.ended volume.old))
-        (counts (V.faults volume.new) (V.made volume.new) (V.ended volume.new)))
+        (counts V.faults V.made V.ended volume.old)
+        (counts V.faults V.made V.ended volume.new))
         (K.taken out.old) (K.taken out.new) result }
 
     // What is left of the files, and that none is out.
     ensures kept { RunLeaves S.tells V.tells (S.left script.old) (S.left script.new)
         (V.files volume.old) (V.files volume.new)
         target.now.name.now target.now.slot target.now.anchors target.now.workers
-        (counts (V.faults volume.old) (V.made volume.old) (V.ended volume.old))
-        (counts (V.faults volume.new) (V.made volume.new) (V.ended volume.new)) result }
+        (counts V.faults V.made V.ended volume.old)
+        (counts V.faults V.made V.ended volume.new) result }
     ensures back { IsTrue V.tells → NoneAway (V.files volume.old) → NoneAway (V.files volume.new) }
 
     // Each station that was made was ended.
-    ensures ended { EachEnded
-        (counts (V.faults volume.old) (V.made volume.old) (V.ended volume.old))
-        (counts (V.faults volume.new) (V.made volume.new) (V.ended volume.new)) }
+    ensures ended { RunEnded
+        (counts V.faults V.made V.ended volume.old)
+        (counts V.faults V.made V.ended volume.new) }
     ensures script_taken { IsTakenFrom S.tells (S.left script.old) (S.left script.new) }
     ensures source_faults { S.faults script.old ≤ S.faults script.new }
     ensures faults { V.faults volume.old ≤ V.faults volume.new }
@@ -129,9 +129,9 @@ where
     // A fault is told as a fault.
     ensures source_unfailed { (result ≡ Status.SourceFault → ⊥) → S.faults script.new ≡ S.faults script.old }
     ensures sink_unfailed { (result ≡ Status.SinkFault → ⊥) → K.faults out.new ≡ K.faults out.old }
-    ensures device_unfailed { (result ≡ Status.DeviceFault → ⊥) → NoneFailed
-        (counts (V.faults volume.old) (V.made volume.old) (V.ended volume.old))
-        (counts (V.faults volume.new) (V.made volume.new) (V.ended volume.new)) }
+    ensures device_unfailed { (result ≡ Status.DeviceFault → ⊥) → RunUnfailed
+        (counts V.faults V.made V.ended volume.old)
+        (counts V.faults V.made V.ended volume.new) }
 {
     read_scripts_may_be_served();
     closed_runs_leave_responses::<V::C>();

@@ -2,9 +2,9 @@
 ghost use Rattle.std.specs.Prelude.{IfErr, IfOk, IsErrOf, IsOk, IsTrue, map, ◌≤◌};
 ghost use Rattle.std.specs.FinMap.{get};
 ghost use Rattle.rock_disk.specs.File.{IsNotAway, NoneAway};
-ghost use Rattle.rock_open.specs.Device.{counts};
+ghost use Rattle.rock_disk.specs.Counts.{counts};
 ghost use Rattle.rock_open.specs.Opening.{IsPasses};
-ghost use Rattle.rock_run.specs.Device.{EachEnded, NoneFailed};
+ghost use Rattle.rock_run.specs.Device.{RunEnded, RunUnfailed};
 ghost use Rattle.rock_run.specs.Scripts.{MayBeServed};
 ghost use Rattle.slot_finding.specs.Finding.{IsGiven, WithSlot};
 ghost use Rattle.run_command.specs.Ends.{FoundEnds};
@@ -42,21 +42,21 @@ where
     ensures ran { IfOk result (λ answers. HasRunFor V.tells V.C.tells V.C.state (V.files volume.old) (V.files volume.new)
         target.now.name.now target.now.slot target.now.anchors target.now.workers script.now.lines V.St.faults
         (map (λ each. each.items) answers.items)
-        (counts (V.faults volume.old) (V.made volume.old) (V.ended volume.old))
-        (counts (V.faults volume.new) (V.made volume.new) (V.ended volume.new))) }
+        (counts V.faults V.made V.ended volume.old)
+        (counts V.faults V.made V.ended volume.new)) }
     ensures fits { IsTrue V.tells → IsOk result → WithSlot (V.files volume.old) target.now.name.now target.now.slot
         (λ slot. Fits (V.files volume.old) target.now.name.now slot target.now.anchors) }
 
     // When each refusal comes, and that it does.
     ensures ends { IfErr result (FoundEnds target.now.slot target.now.anchors
-        (counts (V.faults volume.old) (V.made volume.old) (V.ended volume.old))
-        (counts (V.faults volume.new) (V.made volume.new) (V.ended volume.new))) }
+        (counts V.faults V.made V.ended volume.old)
+        (counts V.faults V.made V.ended volume.new)) }
     ensures says { IsTrue V.tells
         → IfErr result (FileSays (V.files volume.old) target.now.name.now target.now.slot target.now.anchors) }
     ensures refused { IfErr result (IsFileRefused V.tells (V.files volume.old)
         target.now.name.now target.now.slot target.now.anchors
-        (counts (V.faults volume.old) (V.made volume.old) (V.ended volume.old))
-        (counts (V.faults volume.new) (V.made volume.new) (V.ended volume.new))) }
+        (counts V.faults V.made V.ended volume.old)
+        (counts V.faults V.made V.ended volume.new)) }
 
     // What is left of the volume.
     ensures kept { IfErr result (FoundLeaves
@@ -64,13 +64,13 @@ where
         (HasClosedFor V.tells V.C.tells V.C.state (V.files volume.old) (V.files volume.new)
         target.now.name.now target.now.slot target.now.anchors target.now.workers script.now.lines)) }
     ensures back { IsTrue V.tells → NoneAway (V.files volume.old) → NoneAway (V.files volume.new) }
-    ensures ended { EachEnded
-        (counts (V.faults volume.old) (V.made volume.old) (V.ended volume.old))
-        (counts (V.faults volume.new) (V.made volume.new) (V.ended volume.new)) }
+    ensures ended { RunEnded
+        (counts V.faults V.made V.ended volume.old)
+        (counts V.faults V.made V.ended volume.new) }
     ensures faults { V.faults volume.old ≤ V.faults volume.new }
-    ensures unfailed { (IsErrOf result Status.DeviceFault → ⊥) → NoneFailed
-        (counts (V.faults volume.old) (V.made volume.old) (V.ended volume.old))
-        (counts (V.faults volume.new) (V.made volume.new) (V.ended volume.new)) }
+    ensures unfailed { (IsErrOf result Status.DeviceFault → ⊥) → RunUnfailed
+        (counts V.faults V.made V.ended volume.old)
+        (counts V.faults V.made V.ended volume.new) }
 {
     let RunTarget {
         name,

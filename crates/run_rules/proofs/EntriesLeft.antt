@@ -33,7 +33,7 @@ use Rattle.store_rule.specs.declared.store.Pass.{Pass}
 use Rattle.store_rule.specs.Closing.{views_of}
 use Rattle.store_rule.specs.Passes.{basis, view}
 use Rattle.store_rule.specs.Setting.{shown}
-use Rattle.rock_open.specs.Device.{Counts}
+use Rattle.rock_disk.specs.Counts.{Counts}
 use Rattle.crashed_stores.specs.Left.{bytes_now}
 use Rattle.crashed_stores.specs.Standing.{HaveEntry, IsLasting, offer_at}
 use Rattle.rock_run.specs.Offered.{offers_of}

@@ -32,7 +32,7 @@ use Rattle.store_rule.specs.declared.store.Pass.{Pass}
 use Rattle.store_rule.specs.Closing.{views_of}
 use Rattle.store_rule.specs.Ground.{Ground}
 use Rattle.store_rule.specs.Passes.{basis, view}
-use Rattle.rock_open.specs.Device.{Counts}
+use Rattle.rock_disk.specs.Counts.{Counts}
 use Rattle.worker_pool.specs.Running.{Account as PlayedBy}
 use Rattle.worker_shelf.specs.Shelves.{OnShelf}
 use Rattle.crew_accounts.specs.Runs.{run_of}

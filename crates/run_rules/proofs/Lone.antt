@@ -20,7 +20,7 @@ use Rattle.plain_model.specs.declared.store.Setting.{Setting}
 use Rattle.plain_model.specs.Opening.{IsOpened}
 use Rattle.plain_model.specs.Serving.{answers_of, left_by, lines_for}
 use Rattle.plain_model.specs.Store.{word_at}
-use Rattle.rock_open.specs.Device.{Counts}
+use Rattle.rock_disk.specs.Counts.{Counts}
 use Rattle.rock_open.specs.Opening.{IsStoreOver}
 use Rattle.rock_run.specs.Offered.{offers_of}
 use Rattle.store_rule.specs.declared.store.Pass.{Pass}

@@ -22,7 +22,7 @@ use Rattle.line_account.specs.Rules.{KeepsRules}
 use Rattle.store_rule.specs.Closing.{Closed}
 use Rattle.store_rule.specs.Ground.{Ground}
 use Rattle.store_rule.specs.Passes.{basis, view}
-use Rattle.rock_open.specs.Device.{Counts}
+use Rattle.rock_disk.specs.Counts.{Counts}
 use Rattle.crew_accounts.specs.Runs.{IsTold, Past, run_of}
 use Rattle.crew_accounts.specs.Openings.{HadKept, HadNone, HasPast, OpenedAsKept}
 use Rattle.rock_run.specs.Offered.{offers_of}

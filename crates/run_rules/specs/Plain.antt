@@ -15,7 +15,7 @@ use Rattle.plain_model.specs.declared.store.Plain.{Plain}
 use Rattle.plain_model.specs.Opening.{IsOpened}
 use Rattle.plain_model.specs.Serving.{answers_of, left_by, lines_for}
 use Rattle.plain_model.specs.Store.{word_at}
-use Rattle.rock_open.specs.Device.{Counts}
+use Rattle.rock_disk.specs.Counts.{Counts}
 use Rattle.rock_run.specs.Device.{HasEnded}
 use Rattle.plain_runs.specs.Ends.{HoldsWhole}
 use Rattle.plain_runs.specs.Runs.{setting_over}

@@ -14,7 +14,7 @@ use Rattle.line_account.specs.Closing.{ShownIn, Worker}
 use Rattle.line_account.specs.Lines.{Served}
 use Rattle.line_account.specs.Scripts.{ServesScript}
 use Rattle.line_account.specs.Rules.{KeepsRules}
-use Rattle.rock_open.specs.Device.{Counts}
+use Rattle.rock_disk.specs.Counts.{Counts}
 use Rattle.worker_pool.specs.Courses.{lines_of}
 use Rattle.store_serve.specs.Answers.{is_fault}
 use Rattle.worker_shelf.specs.Playing.{answer_to_await}

@@ -3,7 +3,7 @@ use Rattle.std.specs.Prelude.{Bool, IsTrue, List, ◌≡◌, ℕ}
 use Rattle.rock_disk.specs.File.{Files}
 use Rattle.script_text.specs.declared.answer.Answer.{Answer}
 use Rattle.script_text.specs.declared.line.Line.{Line}
-use Rattle.rock_open.specs.Device.{Counts}
+use Rattle.rock_disk.specs.Counts.{Counts}
 use Rattle.run_rules.specs.Last.{AreLastWords}
 use Rattle.run_rules.specs.Plain.{EndedPlainly, IsAnsweredPlainly, NoneFailedServing}
 use Rattle.run_rules.specs.Runs.{IsExplained}

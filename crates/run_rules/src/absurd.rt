@@ -7,7 +7,7 @@ ghost use Rattle.script_text.specs.declared.answer.Answer.{Answer};
 ghost use Rattle.script_text.specs.declared.body.Body.{Body};
 ghost use Rattle.script_text.specs.declared.line.Line.{Line};
 ghost use Rattle.script_text.specs.declared.request.Request.{Request};
-ghost use Rattle.rock_open.specs.Device.{Counts};
+ghost use Rattle.rock_disk.specs.Counts.{Counts};
 ghost use Rattle.run_rules.specs.Runs.{IsExplained};
 
 /// Two workers printed FAULT, and no station was made for them (`made`; `many` of `IsExplained` refuses it). Or one was made for each, and

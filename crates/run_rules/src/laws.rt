@@ -7,7 +7,7 @@ ghost use Rattle.rock_disk.specs.File.{Files};
 ghost use Rattle.script_text.specs.Script.{IsScript};
 ghost use Rattle.script_text.specs.declared.answer.Answer.{Answer};
 ghost use Rattle.script_text.specs.declared.line.Line.{Line};
-ghost use Rattle.rock_open.specs.Device.{Counts};
+ghost use Rattle.rock_disk.specs.Counts.{Counts};
 ghost use Rattle.rock_run.specs.Runs.{HasRun};
 ghost use Rattle.run_rules.specs.Last.{AreLastWords};
 ghost use Rattle.run_rules.specs.Plain.{AreInOrder, EndedPlainly, IsAnsweredPlainly, NoneFailedServing};

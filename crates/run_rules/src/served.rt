@@ -4,7 +4,7 @@ ghost use Rattle.db_layout.specs.Layout.{IsSlotSize};
 ghost use Rattle.rock_disk.specs.File.{Files};
 ghost use Rattle.script_text.specs.declared.answer.Answer.{Answer};
 ghost use Rattle.script_text.specs.declared.line.Line.{Line};
-ghost use Rattle.rock_open.specs.Device.{Counts};
+ghost use Rattle.rock_disk.specs.Counts.{Counts};
 ghost use Rattle.rock_run.specs.Runs.{HasRun};
 ghost use Rattle.run_rules.specs.Plain.{AreInOrder};
 ghost use Rattle.run_rules.specs.Served.{WasServed};

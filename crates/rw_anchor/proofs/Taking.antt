@@ -11,7 +11,9 @@ use Rattle.store_rule.specs.Passes.{Made, view}
 use Rattle.store_rule.specs.declared.store.Pass.{Pass}
 use Rattle.store_rule.specs.declared.store.Store.{Store}
 use Rattle.store_rule.specs.Calls.{Follows, IsFresh}
+use Rattle.store_rule.specs.Quiet.{Quiet}
 use Rattle.store_rule.proofs.Following.{fresh_word, made_follows}
+use Rattle.store_rule.proofs.Quieting.{quiet_step}
 
 module _ {C O : Type 0} (tells : Bool) (state : C → CellState) (offers : O → Offers) (s : Store C O) (p q : Pass C) (t a version : ℕ) where
   took_follows : (told : ℕ) → Made tells state offers s p (Take t a version) told q → Follows tells state offers s t p q
@@ -27,6 +29,10 @@ module _ {C O : Type 0} (tells : Bool) (state : C → CellState) (offers : O →
   pub tried_follows : (looked : Word) (told : ℕ) (r : Result Unit Word) → OnOk r (Made tells state offers s p (Take t a version) told q) → IfErr r (Lost looked) → Follows tells state offers s t p q
   tried_follows looked told (Ok x) won lost = took_follows told won
   tried_follows looked told (Err w) won lost = took_follows (word_number w) lost.0
+
+  pub tried_quiet : (looked : Word) (told : ℕ) (r : Result Unit Word) → OnOk r (Made tells state offers s p (Take t a version) told q) → IfErr r (Lost looked) → Quiet (view p) (view q)
+  tried_quiet looked told (Ok x) won lost = quiet_step won.step tt
+  tried_quiet looked told (Err w) won lost = quiet_step lost.0.step tt
 
   pub tried_fresh : (looked : Word) → word_number looked ≡ last_find a (view p).trail → (r : Result Unit Word) → IfErr r (Lost looked) → IfErr r (λ w. IsFresh a (epoch_number w.epoch) (view p) (view q))
   tried_fresh looked is (Ok x) lost = lost

@@ -18,6 +18,7 @@ ghost use Rattle.core_model.specs.declared.view.View.{View};
 ghost use Rattle.store_rule.specs.Ground.{Ground};
 ghost use Rattle.core_model.specs.declared.moves.Move.TheVariants.{Doom, Enter, Leave, Look, Raise, Take};
 ghost use Rattle.store_rule.specs.Calls.{Follows, IsFresh};
+ghost use Rattle.store_rule.specs.Quiet.{CountsNoReader, DoomsNothing, Quiet};
 ghost use Rattle.rw_anchor.specs.Calls.{Drew, Found, GivenUp, Leaves, MayGiveUp, SpentAtDraw, SpentAtLook};
 ghost use Rattle.store_rule.specs.Passes.{IsOf, Keeps, Made, May, basis, view};
 ghost use Rattle.tab_states.specs.Tabs.{is_last};
@@ -48,6 +49,7 @@ pub fn look<C: Cell, O: Origin>(store: &Store<C, O>, pass: &mut Pass<C>, anchor:
     ensures in_range { IsInRange result }
     ensures fresh { IsFresh anchor (epoch_number result.epoch) (view pass.old) (view pass.new) }
     ensures tabs { (view pass.new).tabs ≡ (view pass.old).tabs }
+    ensures quiet { Quiet (view pass.old) (view pass.new) }
 {
     store.look(pass, anchor)
 }
@@ -64,6 +66,7 @@ pub fn share<C: Cell, O: Origin>(
     ensures ok { IfOk result (λ epoch. Found C.tells C.state O.offers store.now pass.old (Enter tab anchor) anchor epoch pass.new × IsReadable epoch) }
     ensures err { IfErr result (λ epoch. Found C.tells C.state O.offers store.now pass.old (Enter tab anchor) anchor epoch pass.new × (¬ IsReadable epoch)) }
     ensures others { Follows C.tells C.state O.offers store.now tab pass.old pass.new }
+    ensures quiet { DoomsNothing (view pass.old) (view pass.new) }
 {
     let word = store.enter(pass, tab, anchor);
     if readable(&word.epoch) {
@@ -83,6 +86,7 @@ pub fn leave<C: Cell, O: Origin>(store: &Store<C, O>, pass: &mut Pass<C>, tab: u
     requires inner { InnerIsFree (view pass.old) ⊎ (tab ≡ inner) }
     ensures left { Leaves (basis C.tells C.state O.offers store.now) (view pass.old) tab result (view pass.new) }
     ensures others { Follows C.tells C.state O.offers store.now tab pass.old pass.new }
+    ensures quiet { Quiet (view pass.old) (view pass.new) }
 {
     if pass.is_last(tab) {
         return give_up(store, pass, tab);
@@ -100,6 +104,7 @@ fn give_up<C: Cell, O: Origin>(store: &Store<C, O>, pass: &mut Pass<C>, tab: u8)
     requires last { MayGiveUp C.tells C.state O.offers store.now pass.old tab }
     ensures gives_up { GivenUp (basis C.tells C.state O.offers store.now) (view pass.old) tab result (view pass.new) }
     ensures others { Follows C.tells C.state O.offers store.now tab pass.old pass.new }
+    ensures quiet { Quiet (view pass.old) (view pass.new) }
 {
     let anchor = pass.anchor(tab);
     let word = pass.left(tab);
@@ -122,6 +127,7 @@ pub fn draw<C: Cell, O: Origin>(store: &Store<C, O>, pass: &mut Pass<C>) -> Resu
         ⊎ SpentAtDraw (basis C.tells C.state O.offers store.now) (view pass.old) spent.versions (view pass.new)) }
     ensures kept { Keeps C.tells C.state O.offers store.now pass.old pass.new }
     ensures tabs { (view pass.new).tabs ≡ (view pass.old).tabs }
+    ensures quiet { Quiet (view pass.old) (view pass.new) }
 {
     let counted = store.versions(pass);
     if counted >= GREATEST_VERSION {
@@ -163,6 +169,7 @@ pub fn take<C: Cell, O: Origin>(
     ensures err { IfErr result (λ word. Made C.tells C.state O.offers store.now pass.old (Take tab anchor version) (word_number word) pass.new × (word_number word ≢ word_number looked.now) × IsInRange word) }
     ensures fresh { IfErr result (λ word. IsFresh anchor (epoch_number word.epoch) (view pass.old) (view pass.new)) }
     ensures others { Follows C.tells C.state O.offers store.now tab pass.old pass.new }
+    ensures quiet { Quiet (view pass.old) (view pass.new) }
 {
     store.take_word(pass, tab, anchor, looked, version)
 }
@@ -179,6 +186,7 @@ pub fn advance<C: Cell, O: Origin>(
     ensures in_range { IsInRange result }
     ensures fresh { IsFresh (anchor_of (tab_at (view pass.old) tab)) (epoch_number result.epoch) (view pass.old) (view pass.new) }
     ensures others { Follows C.tells C.state O.offers store.now tab pass.old pass.new }
+    ensures quiet { Quiet (view pass.old) (view pass.new) }
 {
     store.raise(pass, tab, to)
 }
@@ -190,6 +198,7 @@ pub fn doom<C: Cell, O: Origin>(store: &Store<C, O>, pass: &mut Pass<C>, tab: u8
     ensures in_range { IsInRange result }
     ensures fresh { IsFresh (anchor_of (tab_at (view pass.old) tab)) (epoch_number result.epoch) (view pass.old) (view pass.new) }
     ensures tabs { (view pass.new).tabs ≡ (view pass.old).tabs }
+    ensures quiet { CountsNoReader (view pass.old) (view pass.new) }
 {
     store.set_doom(pass, tab)
 }

@@ -20,6 +20,7 @@ use Rattle.core_model.specs.State.{State, chain_of, word}
 use Rattle.core_model.specs.Tabs.{count}
 use Rattle.core_model.proofs.Lists.{sum_some}
 use Rattle.core_model.proofs.Telling.{stage_told}
+use Rattle.closed_counts.proofs.Adding.{all_kept}
 use Rattle.settled_stores.specs.Settled.{IsGivenBack, IsKept, IsSettled}
 
 module _ {X : Type 0} (k : Setting X) (s : State X) (so : Sound k s) (free : AllFree s)
@@ -101,4 +102,5 @@ module _ {X : Type 0} (k : Setting X) (s : State X) (so : Sound k s) (free : All
     unchained = unchained;
     slots = λ slot lt. let h = spot slot lt in one_of slot h.spot h.is_in h.only;
     counted = let n = none_held in let z = all in omega arith;
+    kept = all_kept s k so.anchors.shaped.chains (λ a lt. (no_tail a lt, unchained a lt));
   }

@@ -12,3 +12,4 @@ pub mod FreeingChain
 pub mod Evicting
 pub mod KeepingFirst
 pub mod EvictingOne
+pub mod Quieting

@@ -3,11 +3,12 @@ use Rattle.std.proofs.Common.{Bool, List, None, Option, Some, [], ap, arith, con
 use Rattle.std.proofs.lemmas.Bool.{eqb-true}
 use Rattle.std.specs.Prelude.{Contains, Err, IsTrue, Ok, OnErr, OnOk, Result}
 use Rattle.std.proofs.lemmas.List.{with_items_is}
+use Rattle.std.proofs.lemmas.List.Elements.{Contains-append_right}
 use Rattle.std.specs.Result.{is_ok}
 use Rattle.rock_disk.specs.Cell.{CellState, shape}
 use Rattle.core_model.specs.AllowedByView.{KnowsLink}
 use Rattle.core_model.specs.CellMoves.{EndsSo, ends, tries}
-use Rattle.core_model.specs.Steps.{cell_found}
+use Rattle.core_model.specs.Steps.{cell_found, sights_found}
 use Rattle.core_model.specs.Tabs.{inner, tab_at, turn_of, with_tab}
 use Rattle.core_model.specs.declared.moves.Move.TheVariants.{EndTurn, TryTurn}
 use Rattle.core_model.specs.declared.moves.Then.{Then}
@@ -19,6 +20,7 @@ use Rattle.core_model.specs.declared.tab.Tab.{Tab}
 use Rattle.core_model.specs.declared.tab.Tab.TheVariants.{Reading}
 use Rattle.core_model.specs.declared.tab.Turn.{Turn as TurnOf}
 use Rattle.core_model.specs.declared.tab.Turn.TheVariants.{Has, NoTurn}
+use Rattle.core_model.specs.declared.view.Sight.{Sight}
 use Rattle.core_model.specs.declared.view.Sight.TheVariants.{Named}
 use Rattle.core_model.specs.declared.view.View.{View}
 use Rattle.core_model.proofs.OffersTold.{reads_seen}
@@ -35,6 +37,7 @@ use Rattle.store_rule.specs.Setting.{form_of, shown, shown_in}
 use Rattle.store_rule.specs.Told.{Steps}
 use Rattle.store_rule.specs.Turns.{HasReturned, HasTaken, IsReturned, Lost, MayComeHome, MayReturn, MovesCell, TurnEnded, TurnFound, TurnWaited, new_hold}
 use Rattle.store_rule.proofs.Lending.{lent_own}
+use Rattle.store_rule.proofs.Moves.{known_of}
 use Rattle.store_rule.proofs.Passing.{pass_of}
 use Rattle.slice_chain.specs.Links.{slot_known}
 use Rattle.slice_chain.specs.Reads.{after_reading, FollowsReading, HoldsPiece, MayReadSlot, ReadSlot, went_on}
@@ -64,7 +67,7 @@ module _ {X : Type 0} (g : Ground X) (t slot : ℕ) (v : View X) (r : Reader X) 
   lost_once : (u w : View X) (n : ℕ) → Stayed u → Steps g u (TryTurn t slot) n w → n ≢ 0 → Stayed w
   lost_once u w n h st taken = record {
     tabs = ap View.tabs st.leaves ∙ ap (set u.tabs t) (is_reader ∙ sym at_u) ∙ set_there u.tabs t Tab.Free (subst (λ (xs : List (Tab X)). t < length xs) (sym h.tabs) there) ∙ h.tabs;
-    seen = ap View.seen st.leaves ∙ h.seen;
+    seen = ap View.seen st.leaves ∙ (known_of g u (TryTurn t slot) n w st).logged.lost taken ∙ h.seen;
   }
     where
       at_u : get_or u.tabs t Tab.Free ≡ Reading r
@@ -188,8 +191,10 @@ module _ {C O : Type 0} (tells : Bool) (state : C → CellState) (offers : O →
           tabs5 = ap View.tabs ends_from.leaves ∙ ap (set (view p1).tabs t) (ap (λ (x : Tab (List ℕ)). ends x (after_reading done)) (tab_of p1 tabs1) ∙ ended_reader may.reader (new_hold slot cell) done may.idle)
               ∙ ap (λ (xs : List (Tab (List ℕ))). set xs t (Reading (cond done (went_on may.reader) may.reader))) tabs1 ∙ set_again (view p).tabs t (Reading with_turn) (Reading (cond done (went_on may.reader) may.reader))
 
-          seen1 : (view p1).seen ≡ (view p).seen
-          seen1 = ap View.seen found.made.step.leaves ∙ stayed.seen
+          -- the turn tells of pieces, and what was seen stays
+          seen1 : (x : Sight) → Contains (view p).seen x → Contains (view p1).seen x
+          seen1 x c = subst (λ (xs : List Sight). Contains xs x) (sym (ap View.seen found.made.step.leaves))
+              (Contains-append_right (sights_found g.setting found.made.step.state (view waited.last) (TryTurn t slot)) (view waited.last).seen x (subst (λ (xs : List Sight). Contains xs x) (sym stayed.seen) c))
 
           holds : (offer : ℕ) → Contains (view p).seen (Named may.reader.anchor may.reader.version Offer offer) → HoldsPiece g offer with_turn slot cell
           holds offer seen = record {
@@ -197,7 +202,7 @@ module _ {C O : Type 0} (tells : Bool) (state : C → CellState) (offers : O →
             rule = ends_from.rule;
             reads = reads_seen (offering_of g) g.setting ends_from.state ends_from.rule.sound ends_from.rule.offered ends_from.index t with_turn (new_hold slot cell)
                 record { view = view p1; at = ends_from.at; there = tab_there (view p1) t (Reading with_turn) (below_all p1) (tab_of p1 tabs1) } refl
-                ends_from.index (view p1) offer ends_from.at (subst (λ xs. Contains xs (Named may.reader.anchor may.reader.version Offer offer)) (sym seen1) seen);
+                ends_from.index (view p1) offer ends_from.at (seen1 (Named may.reader.anchor may.reader.version Offer offer) seen);
           }
 
           pub read : ReadSlot g t (view p) done cell (view p5)

@@ -2,6 +2,7 @@
 ghost use Rattle.std.specs.Prelude.{◌≡◌, ◌≤◌};
 ghost use Rattle.core_model.specs.Tabs.{inner, tab_at};
 ghost use Rattle.store_rule.specs.Calls.{Follows};
+ghost use Rattle.store_rule.specs.Quiet.{Quiet};
 ghost use Rattle.slice_chain.specs.Freeing.{CountsFreed, Freed, FrontFreed, MayFreeChain, MayFreeFront, MayFreeRest, RestFreed, is_freeing_anchor, slot_named};
 ghost use Rattle.store_rule.specs.Passes.{basis, view};
 
@@ -16,6 +17,7 @@ fn free_front<C: Cell, O: Origin>(store: &Store<C, O>, pass: &mut Pass<C>, slot:
     requires { MayFreeFront C.tells C.state O.offers store.now pass.old slot }
     ensures freed { FrontFreed (basis C.tells C.state O.offers store.now) slot (view pass.old) result (view pass.new) }
     ensures others { Follows C.tells C.state O.offers store.now inner pass.old pass.new }
+    ensures quiet { Quiet (view pass.old) (view pass.new) }
 {
     let link = store.get_link(pass, INNER_TAB, slot);
     store.loosen(pass, INNER_TAB, slot);
@@ -30,6 +32,7 @@ pub fn free_chain<C: Cell, O: Origin>(store: &Store<C, O>, pass: &mut Pass<C>)
     ensures freed { Freed (basis C.tells C.state O.offers store.now) (view pass.old) (view pass.new) }
     ensures counted { CountsFreed (view pass.old) (view pass.new) }
     ensures others { Follows C.tells C.state O.offers store.now inner pass.old pass.new }
+    ensures quiet { Quiet (view pass.old) (view pass.new) }
 {
     let is_freeing = frees_anchor(pass);
     let start = store.load_side(pass, INNER_TAB, Side::Start);
@@ -66,6 +69,7 @@ pub(crate) fn free_rest<C: Cell, O: Origin>(
     requires { MayFreeRest C.tells C.state O.offers store.now pass.old front }
     ensures freed { RestFreed (basis C.tells C.state O.offers store.now) (view pass.old) (view pass.new) }
     ensures others { Follows C.tells C.state O.offers store.now inner pass.old pass.new }
+    ensures quiet { Quiet (view pass.old) (view pass.new) }
 {
     let mut front = front;
     while let Some(slot) = front {

@@ -1,6 +1,7 @@
 // The links of an entry's slots: a writer publishes a slot, and a reader looks where its entry goes on.
 ghost use Rattle.link_word.specs.Words.{link_number};
 ghost use Rattle.store_rule.specs.Calls.{Follows};
+ghost use Rattle.store_rule.specs.Quiet.{Quiet};
 ghost use Rattle.slice_chain.specs.Links.{Linked, Located, MayLocate, MayPublishSlot, Published, next_link, slot_known};
 ghost use Rattle.core_model.specs.Tabs.{tab_at};
 ghost use Rattle.std.specs.Prelude.{◌<◌, ◌≡◌};
@@ -24,6 +25,7 @@ pub fn publish<C: Cell, O: Origin>(
     requires { MayPublishSlot C.tells C.state O.offers store.now pass.old tab slot next }
     ensures published { Published (basis C.tells C.state O.offers store.now) tab slot next (view pass.old) (view pass.new) }
     ensures others { Follows C.tells C.state O.offers store.now tab pass.old pass.new }
+    ensures quiet { Quiet (view pass.old) (view pass.new) }
 {
     let writing = pass.writing(tab);
     store.set_link(pass, tab, slot, link_to(next));
@@ -51,6 +53,7 @@ pub fn link<C: Cell, O: Origin>(store: &Store<C, O>, pass: &mut Pass<C>, tab: u8
     requires { MayLocate C.tells C.state O.offers store.now pass.old tab }
     ensures linked { Linked (basis C.tells C.state O.offers store.now) tab result (view pass.old) (view pass.new) }
     ensures others { Follows C.tells C.state O.offers store.now tab pass.old pass.new }
+    ensures quiet { Quiet (view pass.old) (view pass.new) }
 {
     let slot = locate(store, pass, tab);
     store.get_link(pass, tab, slot)
@@ -61,6 +64,7 @@ fn locate<C: Cell, O: Origin>(store: &Store<C, O>, pass: &mut Pass<C>, tab: u8) 
     requires { MayLocate C.tells C.state O.offers store.now pass.old tab }
     ensures located { Located (basis C.tells C.state O.offers store.now) tab result (view pass.old) (view pass.new) }
     ensures others { Follows C.tells C.state O.offers store.now tab pass.old pass.new }
+    ensures quiet { Quiet (view pass.old) (view pass.new) }
 {
     if let Some(slot) = slot_at(pass, tab) {
         return slot;

@@ -3,6 +3,7 @@ ghost use Rattle.std.specs.Prelude.{length, ◌≡◌};
 ghost use Rattle.core_model.specs.declared.moves.Move.TheVariants.{LoadSide};
 ghost use Rattle.core_model.specs.declared.moves.Side.{Side};
 ghost use Rattle.store_rule.specs.Calls.{Follows};
+ghost use Rattle.store_rule.specs.Quiet.{Quiet};
 ghost use Rattle.slice_chain.specs.Names.{KeyLoaded, MayLoadNames, MayNameEntry, Named};
 ghost use Rattle.store_key.specs.Anchor.{back_half, front_half};
 ghost use Rattle.store_rule.specs.Passes.{Made, basis, view};
@@ -54,6 +55,7 @@ pub fn name_entry<C: Cell, O: Origin>(
     requires { MayNameEntry C.tells C.state O.offers store.now pass.old tab key.now offer }
     ensures named { Named (basis C.tells C.state O.offers store.now) tab (view pass.old) key.now offer (view pass.new) }
     ensures others { Follows C.tells C.state O.offers store.now tab pass.old pass.new }
+    ensures quiet { Quiet (view pass.old) (view pass.new) }
 {
     store.store_side(pass, tab, Side::Key0, front_of(key));
     store.store_side(pass, tab, Side::Key1, back_of(key));
@@ -66,6 +68,7 @@ pub fn entry_key<C: Cell, O: Origin>(store: &Store<C, O>, pass: &mut Pass<C>, ta
     requires { MayLoadNames C.tells C.state O.offers store.now pass.old tab }
     ensures loaded { KeyLoaded (basis C.tells C.state O.offers store.now) tab (view pass.old) result (view pass.new) }
     ensures others { Follows C.tells C.state O.offers store.now tab pass.old pass.new }
+    ensures quiet { Quiet (view pass.old) (view pass.new) }
 {
     let front = store.load_side(pass, tab, Side::Key0);
     let back = store.load_side(pass, tab, Side::Key1);
@@ -77,6 +80,7 @@ pub fn entry_offer<C: Cell, O: Origin>(store: &Store<C, O>, pass: &mut Pass<C>, 
     requires { MayLoadNames C.tells C.state O.offers store.now pass.old tab }
     ensures made { Made C.tells C.state O.offers store.now pass.old (LoadSide tab Side.Offer) result pass.new }
     ensures others { Follows C.tells C.state O.offers store.now tab pass.old pass.new }
+    ensures quiet { Quiet (view pass.old) (view pass.new) }
 {
     store.load_side(pass, tab, Side::Offer)
 }

@@ -1,5 +1,6 @@
 // Slots of an entry are written and read, under the turns of their cells.
 ghost use Rattle.store_rule.specs.Calls.{Follows};
+ghost use Rattle.store_rule.specs.Quiet.{Quiet};
 ghost use Rattle.rock_io.specs.Faults.{Rose, one_more};
 ghost use Rattle.core_model.specs.Tabs.{inner, tab_at};
 ghost use Rattle.core_model.specs.declared.tab.Cell.{Cell as CoreCell};
@@ -46,6 +47,7 @@ pub fn write_slot<C: Cell, O: Origin, St: Station<C = C>>(
         → IsLeftDuring (basis C.tells C.state O.offers store.now) tab wrote.slot wrote.out.before wrote.middle }
     ensures steps { CountsWritten (view pass.old) (view pass.new) }
     ensures others { Follows C.tells C.state O.offers store.now tab pass.old pass.new }
+    ensures quiet { Quiet (view pass.old) (view pass.new) }
     ensures called { IsTrue St.counts → OnOk result (St.calls station.new ≡ calls_to_write durable (St.calls station.old)) }
     ensures stopped { IsTrue St.counts → OnErr result (StoppedAt durable (St.calls station.old) (St.calls station.new)) }
     ensures unfailed { OnOk result (St.faults station.new ≡ St.faults station.old) }
@@ -83,6 +85,7 @@ pub fn read_slot<R: Wait, C: Cell, O: Origin, St: Station<C = C>>(
     ensures ok { OnOk result ((cell : CoreCell (List ℕ)) × HasRead C.tells C.state O.offers store.now tab pass.old pass.new cell) }
     ensures err { OnErr result ((cell : CoreCell (List ℕ)) × ReadSlot (basis C.tells C.state O.offers store.now) tab (view pass.old) false cell (view pass.new)) }
     ensures others { FollowsReading C.tells C.state O.offers store.now tab pass.old pass.new }
+    ensures quiet { Quiet (view pass.old) (view pass.new) }
     ensures called { IsTrue St.counts → St.calls station.new ≡ one_more (St.calls station.old) }
     ensures unfailed { OnOk result (St.faults station.new ≡ St.faults station.old) }
     ensures failed { OnErr result (Rose (St.faults station.old) (St.faults station.new)) }

@@ -2,6 +2,7 @@
 ghost use Rattle.std.specs.Prelude.{IfOk, OnErr, false, true, ◌<◌, ◌≡◌, ◌≤◌};
 ghost use Rattle.core_model.specs.Tabs.{InnerIsFree};
 ghost use Rattle.store_rule.specs.Calls.{Follows};
+ghost use Rattle.store_rule.specs.Quiet.{Quiet};
 ghost use Rattle.core_model.specs.Tabs.{inner};
 ghost use Rattle.slice_chain.specs.Victims.{CountsEvicted, CountsNone, Evicted, FollowsEvicting, KeptFirst, MayEvictOne, MayKeepFirst, NoneIdle, Spared, Won, hand_in, onward};
 ghost use Rattle.store_rule.specs.Passes.{IsOf, basis, view};
@@ -37,6 +38,7 @@ pub fn evict_one<C: Cell, O: Origin>(
     ensures counted_none { OnErr result (CountsNone (basis C.tells C.state O.offers store.now) (view pass.old) (view pass.new)) }
     ensures stays { OnErr result (pass.new.hand ≡ pass.old.hand) }
     ensures others { FollowsEvicting C.tells C.state O.offers store.now tab pass.old pass.new }
+    ensures quiet { Quiet (view pass.old) (view pass.new) }
 {
     let anchors = store.anchors();
     let hand = first_in_round(anchors, pass.hand());
@@ -81,6 +83,7 @@ fn try_evict<C: Cell, O: Origin>(store: &Store<C, O>, pass: &mut Pass<C>, anchor
     ensures won { result ≡ true → Won (basis C.tells C.state O.offers store.now) anchor (view pass.old) (view pass.new) }
     ensures spared { result ≡ false → Spared (basis C.tells C.state O.offers store.now) anchor (view pass.old) (view pass.new) }
     ensures others { Follows C.tells C.state O.offers store.now inner pass.old pass.new }
+    ensures quiet { Quiet (view pass.old) (view pass.new) }
 {
     let mut word = store.look(pass, anchor);
     while is_idle(&word) {
@@ -98,6 +101,7 @@ fn keep_first<C: Cell, O: Origin>(store: &Store<C, O>, pass: &mut Pass<C>, tab: 
     requires { MayKeepFirst C.tells C.state O.offers store.now pass.old tab }
     ensures kept { KeptFirst (basis C.tells C.state O.offers store.now) tab (view pass.old) result (view pass.new) }
     ensures others { FollowsEvicting C.tells C.state O.offers store.now tab pass.old pass.new }
+    ensures quiet { Quiet (view pass.old) (view pass.new) }
 {
     let start = store.load_side(pass, INNER_TAB, Side::Start);
     let Some(slot) = first_slot(start) else {

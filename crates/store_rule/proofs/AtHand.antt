@@ -56,6 +56,9 @@ module _ {X : Type 0} where
   stage_same (Last a) = refl
   stage_same (Freeing f) = refl
 
+  pub held_stage : (x : Tab X) (at : At) (n : ℕ) → n ≡ stage_here at → at ≡ at_of x → n ≡ stage_held x
+  held_stage x at n here is = here ∙ ap stage_here is ∙ stage_same x
+
   pub raised_at : (x : Tab X) (to : Stage) (n : ℕ) → at_of (raised_tab x to n) ≡ raised_here (at_of x) to n
   raised_at (Writing w) Stage.Appending n = refl
   raised_at (Writing w) Stage.Empty n = left_at X w.anchor n

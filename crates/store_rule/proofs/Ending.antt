@@ -20,20 +20,16 @@ use Rattle.core_model.specs.Anchors.{tabs_in}
 use Rattle.core_model.specs.Holders.{AllFree}
 use Rattle.core_model.specs.State.{turn_word}
 use Rattle.core_model.specs.CellMoves.{spent}
-use Rattle.core_model.specs.Tabs.{is_free, tab_at, turn_of}
+use Rattle.core_model.specs.Tabs.{is_free, turn_of}
 use Rattle.core_model.proofs.Holders.{has_holder}
 use Rattle.core_model.proofs.Lists.{le_sum_at, set_else, sum_at}
 use Rattle.store_rule.specs.declared.store.Pass.{Pass}
-use Rattle.store_rule.specs.Closing.{Closed, Gathered, IsResting, views_of}
-use Rattle.store_rule.specs.Ground.{Ground, Offers}
-use Rattle.core_model.specs.Layout.{Setting}
-use Rattle.core_model.specs.Opening.{new_view}
-use Rattle.store_rule.specs.declared.store.Store.{Store}
-use Rattle.store_rule.specs.Passes.{IsNewOf, IsOf, basis, hand, view}
+use Rattle.store_rule.specs.Closing.{Closed, Gathered, IsEnded, IsResting, views_of}
+use Rattle.store_rule.specs.Ground.{Ground}
+use Rattle.store_rule.specs.Passes.{view}
 use Rattle.store_rule.specs.Ruled.{Ruled, place_shown, state_of}
 use Rattle.store_rule.specs.Setting.{form_of, shown}
-use Rattle.store_rule.proofs.CellLists.{same_cells}
-use Rattle.store_rule.proofs.Fresh.{same_at}
+use Rattle.cell_places.proofs.CellLists.{same_cells}
 use Rattle.store_rule.proofs.Passing.{pass_of}
 
 -- where n items at different places count 9 each, what any other counts is within the rest
@@ -211,13 +207,7 @@ module _ {C : Type 0} (tells : Bool) (cell : C → CellState) where
         homes : final.0.homes ≡ map (λ (c : C). some (Some c)) cells
         homes = cells_home.2 ∙ ap (map (λ (c : C). some (Some c))) (same_cells cells_home.0 cells (sym cells_home.1 ∙ is))
 
--- all tabs of a new pass are free
-new_rests : {C : Type 0} (k : Setting (List ℕ)) (p : Pass C) (n : ℕ) → view p ≡ new_view k n → hand p ≡ [] → IsResting p
-new_rests k p n is places = record { free = λ tab lt. ap (λ (v : View (List ℕ)). is_free (tab_at v tab)) is ∙ ap is_free (same_at 9 tab Free); home = places }
-
-module _ {C O : Type 0} (tells : Bool) (cell : C → CellState) (offers : O → Offers) (s : Store C O) where
-  pub all_of : (passes : List (Pass C)) → All (IsNewOf tells cell offers s) passes → All (IsOf tells cell offers s) passes
-  all_of passes h k d lt = (h k d lt).own
-
-  pub all_rest : (passes : List (Pass C)) → All (IsNewOf tells cell offers s) passes → All IsResting passes
-  all_rest passes h k d lt = let new = h k d lt in new_rests (basis tells cell offers s).setting (slice_index_or passes k d) (view (slice_index_or passes k d)).pass new.fresh new.places
+    -- the words of the table are those of this state
+    pub ended : IsEnded tells cell g (views_of passes) words xs
+    unfolding closes
+    ended = record { cells = cells_home.0; closed = closes cells_home.0 cells_home.1; words_are = final.2; places_are = cells_home.1 }

@@ -1,10 +1,12 @@
 -- A store that was just made.
-use Rattle.std.proofs.Common.{◌≡◌, ℕ, zero, suc, ◌+◌, ◌<◌, List, [], ◌∷◌, ◌++◌, map, length, get_or, replicate, sym, refl, ap, ◌∙◌, subst, arith, Option, Some, All, Bool, rules, unwrap_or}
-use Rattle.std.proofs.lemmas.List.{length-replicate}
+use Rattle.std.proofs.Common.{◌≡◌, ℕ, zero, suc, ◌+◌, ◌<◌, List, [], ◌∷◌, ◌++◌, map, length, get_or, replicate, sym, refl, ap, ◌∙◌, subst, arith, Option, Some, All, Bool, false, rules, true, unwrap_or}
+use Rattle.std.specs.Prelude.{IsTrue}
+use Rattle.std.proofs.lemmas.List.{length-map, length-replicate}
 use mathlib.Core.Option.{some, some-injective, some-ne-none}
 use lib.ListN.{get_elem?}
 use Rattle.atomic_table.specs.Table.{opening}
-use Rattle.rebuild_model.specs.Image.{IsSaneAt, IsGreatest}
+use Rattle.slot_cell.specs.Header.{header_of}
+use Rattle.rebuild_model.specs.Image.{BelongsTo, IsSaneAt}
 use Rattle.rebuild_model.specs.Entry.{Entry, IsComplete}
 use Rattle.rebuild_model.specs.Rebuilt.{IsRebuilt}
 use Rattle.rock_disk.specs.Cell.{CellState}
@@ -18,8 +20,9 @@ use Rattle.core_model.specs.Opening.{new_view, new_views}
 use Rattle.core_table.specs.Kept.{opened_chains}
 use Rattle.core_model.proofs.Lists.{contains_none}
 use Rattle.rebuild_model.specs.declared.found.Found.{Found}
+use Rattle.rebuild_model.specs.declared.rebuilt.Rebuilt.{Rebuilt}
 use Rattle.store_rule.specs.Ground.{Ground, Rule}
-use Rattle.store_rule.specs.Rebuilding.{IsKept, at_home, chain_kept, none_kept, opened_state}
+use Rattle.store_rule.specs.Rebuilding.{HoldNothing, IsRebuildOf, at_home, chain_kept, none_kept, opened_state}
 use Rattle.store_rule.specs.Setting.{IsRow, IsSettled, form_of, now_in, shown}
 use Rattle.store_rule.specs.Ruled.{Ruled, Seated, place_shown}
 use Rattle.store_rule.specs.Told.{Stands, the_view}
@@ -33,32 +36,55 @@ same_at (suc n) (suc i) d = same_at n i d
 pub none_chained : (anchors a : ℕ) → chain_kept [] anchors a ≡ []
 none_chained anchors a = ap Chain.slots (same_at anchors a no_chain)
 
-not_sane : (images : List (List ℕ)) (s : ℕ) → IsSaneAt 0 images s → ⊥
-not_sane images s h = let z = h.sane.payload_to in omega arith
-
-not_complete : (images : List (List ℕ)) (e : Entry) → IsComplete 0 images e → ⊥
-not_complete images e h = at_front e.chain h.chain.begins h.chain.belong
+not_complete : (slot : ℕ) (images : List (List ℕ)) (none : (s : ℕ) → IsSaneAt slot images s → ⊥) (e : Entry) → IsComplete slot images e → ⊥
+not_complete slot images none e h = at_front e.chain h.chain.begins h.chain.belong
   where
-    at_front : (chain : List ℕ) → chain ≡ e.first ∷ h.chain.behind → All (Rattle.rebuild_model.specs.Image.BelongsTo 0 images e.first) chain → ⊥
+    at_front : (chain : List ℕ) → chain ≡ e.first ∷ h.chain.behind → All (BelongsTo slot images e.first) chain → ⊥
     at_front [] q b = cc
-    at_front (x ∷ xs) q b = not_sane images x (b 0 0 (omega arith)).sane
+    at_front (x ∷ xs) q b = none x (b 0 0 (omega arith)).sane
 
-rebuilt_none : (slots anchors : ℕ) → IsRebuilt 0 (replicate slots []) anchors (none_kept slots)
-rebuilt_none slots anchors = record {
+-- a rebuild of a file in which no slot is sane keeps nothing
+rebuilt_none : (slot : ℕ) (images : List (List ℕ)) (slots anchors : ℕ) → length images ≡ slots → ((s : ℕ) → IsSaneAt slot images s → ⊥) → IsRebuilt slot images anchors (none_kept slots)
+rebuilt_none slot images slots anchors many none = record {
   entries = [];
   told = refl;
   won = λ e h. absurd (contains_none e h);
   ordered = search rules;
-  every = λ e h. absurd (not_complete (replicate slots []) e h);
-  one_a_slot = length-replicate slots 0 ∙ sym (length-replicate slots []);
+  every = λ e h. absurd (not_complete slot images none e h);
+  one_a_slot = length-replicate slots 0 ∙ sym many;
   owned = λ e s h g. absurd (contains_none e h);
   free = λ s none. same_at slots s 0;
-  greatest = record { above = λ s h. absurd (not_sane (replicate slots []) s h); there = λ h. absurd (omega arith) };
+  greatest = record { above = λ s h. absurd (none s h); there = λ h. absurd (omega arith) };
 }
 
--- a rebuild of a file of slots without bytes keeps nothing
-pub nothing_is_kept : (slots anchors : ℕ) → IsKept anchors slots (none_kept slots)
-nothing_is_kept slots anchors = record { size = 0; images = replicate slots []; many = length-replicate slots []; rebuilt = rebuilt_none slots anchors }
+-- a slot without bytes has version 0, so it is not sane
+no_version : (header_of []).version ≡ 0
+unfolding header_of
+no_version = refl
+
+none_sane : (slot slots s : ℕ) → IsSaneAt slot (replicate slots []) s → ⊥
+none_sane slot slots s h = let some = h.sane.version_from in let none = ap (λ (image : List ℕ). (header_of image).version) (same_at slots s []) ∙ no_version in omega (arith, some, none)
+
+no_truth : IsTrue false → ⊥
+no_truth t = cc
+
+pub nothing_is : (r : Rebuilt) (slots : ℕ) {n : ℕ} → r.winners ≡ [] → r.owner ≡ replicate n 0 → r.greatest ≡ 0 → n ≡ slots → r ≡ none_kept slots
+nothing_is r slots winners owner greatest many i = record { winners = winners i; owner = (owner ∙ ap (λ (z : ℕ). replicate z 0) many) i; greatest = greatest i }
+
+-- a rebuild of cells that hold nothing keeps nothing
+pub nothing_rebuilt : {C : Type 0} (tells : Bool) (state : C → CellState) (slot anchors : ℕ) (cells : List C) → HoldNothing tells state slot cells → IsRebuildOf tells state slot anchors cells (none_kept (length cells))
+nothing_rebuilt true state slot anchors cells h = let images = map (λ c. (state c).now) cells in record {
+  images = images;
+  many = length-map cells (λ c. (state c).now);
+  told = λ t. refl;
+  rebuilt = rebuilt_none slot images (length cells) anchors (length-map cells (λ c. (state c).now)) (h refl);
+}
+nothing_rebuilt false state slot anchors cells h = let images : List (List ℕ) = replicate (length cells) [] in record {
+  images = images;
+  many = length-replicate (length cells) [];
+  told = λ t. absurd (no_truth t);
+  rebuilt = rebuilt_none slot images (length cells) anchors (length-replicate (length cells) []) (none_sane slot (length cells));
+}
 
 -- each tab of a new view is free
 all_same : {A : Type 0} → (n : ℕ) (y x : A) (t : ℕ) → get_elem? (replicate n y) t ≡ some x → x ≡ y

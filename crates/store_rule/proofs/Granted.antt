@@ -10,23 +10,18 @@ use Rattle.core_model.specs.declared.view.Place.{Place}
 use Rattle.core_model.specs.Layout.{Setting, index}
 use Rattle.core_model.specs.State.{State}
 use Rattle.core_model.specs.Steps.{finding, view_after, chains_after, after}
-use Rattle.core_model.proofs.AllKept.{keeps_sound}
 use Rattle.core_model.proofs.Lists.{at_length, set_here}
 use Rattle.store_rule.specs.Ruled.{Form, Ruled, state_of}
 use Rattle.core_model.specs.AllowedByView.{MayMake}
 use Rattle.store_rule.specs.Told.{Becomes, Told, found_as, the_view}
 use Rattle.store_rule.specs.Machine.{CanAct, OnWord, Same}
 use Rattle.core_model.proofs.AllowedByView.{may_step}
-use Rattle.store_rule.proofs.HaltedShort.{short_after, short_rewritten}
-use Rattle.store_rule.proofs.RestsEnd.{rests_end_after, rests_end_rewritten}
+use Rattle.store_rule.proofs.RuleKept.{rule_after, rule_rewritten}
 use Rattle.store_rule.proofs.Seating.{reseated, set_twice}
 use Rattle.core_model.specs.Tabs.{IsPass}
 use Rattle.core_model.specs.Offers.{ChoosesRight}
-use Rattle.core_model.specs.TableForms.{renewed, with_hold}
-use Rattle.core_model.proofs.HeldCells.{rewritten_sound, rewritten_tells}
-use Rattle.core_model.proofs.OffersKept.{offers_kept, offers_stay}
+use Rattle.core_model.specs.TableForms.{renewed}
 use Rattle.store_rule.specs.Ground.{Ground, Rule, offering_of}
-use Rattle.core_log.proofs.HasLog.{log_rewritten, log_after}
 
 -- A view becomes another one by no step: the rule holds of the state with that view.
 pub becomes_so : {X : Type 0} → (g : Ground X) (s : State X) (i : ℕ) (v u : View X) → Rule g s → get_elem? s.views i ≡ some v → IsPass v → Becomes g.setting v u → Rule g (renewed s (set s.views i u))
@@ -36,14 +31,8 @@ becomes_so {X} g s i v u r at pass (inl same) = subst (λ (vs : List (View X)). 
     set_as_was [] i v u e same = refl
     set_as_was (x ∷ xs) zero v u e same = ap (λ (z : View X). z ∷ xs) (sym (some-injective x v e ∙ same))
     set_as_was (x ∷ xs) (suc i) v u e same = ap (λ (zs : List (View X)). x ∷ zs) (set_as_was xs i v u e same)
-becomes_so {X} g s i v u r at pass (inr h) = subst (λ (z : View X). Rule g (renewed s (set s.views i z))) (sym h.is) record {
-  sound = rewritten_sound g.setting s i v r.sound at pass h.tab h.writer h.old h.new h.may;
-  offered = offers_stay (offering_of g) g.setting s (renewed s (set s.views i (with_hold v h.tab h.writer h.new)))
-      (rewritten_tells s i v h.tab h.writer h.new v.trail at h.may.writes) r.offered;
-  rests = rests_end_rewritten s i v h.tab h.writer h.new at r.rests;
-  halted = short_rewritten (offering_of g) s i v h.tab h.writer h.new at r.halted;
-  logged = log_rewritten (offering_of g) g.setting s i h.tab v h.writer h.old h.new r.sound at h.may r.logged;
-}
+becomes_so {X} g s i v u r at pass (inr h) = subst (λ (z : View X). Rule g (renewed s (set s.views i z))) (sym h.is)
+    (rule_rewritten g s i v h.tab h.writer h.old h.new r at pass h.may)
 
 module _ {C X : Type 0} (form : Form C X) (g : Ground X) where
   pub granted : (slots id : ℕ) (me : Me (Option C) (List (View X))) (m d : Move) (u e : View X) (j : Ground X) (i : ℕ) (p : Place) (f : ℕ → ℕ)
@@ -64,15 +53,7 @@ module _ {C X : Type 0} (form : Form C X) (g : Ground X) where
       let step = may_step k c a u m rule.sound there may in
       let w : View X = view_after u m (finding k c u m) in
       let act = act s renewed_views r.chains rule a there in
-      let sound = keeps_sound k c a u m rule.sound there step in
-      let offered = offers_kept (offering_of g) k c a u m rule.sound rule.offered there step chooses in
-      let left : Rule g (after k c a u m) = record {
-        sound = sound;
-        offered = offered;
-        rests = rests_end_after k c a u m there rule.rests;
-        halted = short_after (offering_of g) k c a u m rule.sound there step may.allowed (ap State.views (on.leaves c a)) sound offered rule.halted;
-        logged = log_after (offering_of g) k c a u m rule.sound rule.offered there step chooses rule.logged;
-      } in
+      let left : Rule g (after k c a u m) = rule_after g c a u m rule there step may.allowed chooses (ap State.views (on.leaves c a)) in
       let after_word = subst (Rule g) (on.leaves c a) left in
       let twice : set renewed_views a w ≡ set r.views a w = set_twice r.views a u w in (
         w ∷ [],

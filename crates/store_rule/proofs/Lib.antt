@@ -1,7 +1,8 @@
-pub mod CellLists
+pub mod ListEnds
 pub mod Seating
 pub mod RestsEnd
 pub mod HaltedShort
+pub mod RuleKept
 pub mod Granted
 pub mod Moves
 pub mod Bounds
@@ -10,7 +11,6 @@ pub mod Noting
 pub mod Fresh
 pub mod Keeping
 pub mod Passing
-pub mod Alone
 pub mod NewPasses
 pub mod SideMoves
 pub mod Joining
@@ -26,4 +26,4 @@ pub mod OtherTabs
 pub mod FreshEpochs
 pub mod Following
 pub mod AddingUp
-pub mod Counting
+pub mod Quieting

@@ -9,7 +9,9 @@ use Rattle.page_pool.specs.Seats.{IsSeatOf}
 use Rattle.page_pool.specs.declared.seat.PoolSeat.{PoolSeat}
 use Rattle.rock_disk.specs.Cell.{CellState}
 use Rattle.core_model.specs.declared.view.View.{View}
-use Rattle.core_model.specs.Opening.{new_view}
+use Rattle.core_model.specs.Opening.{new_view, new_views}
+use Rattle.core_model.specs.declared.tab.Tab.TheVariants.{Free}
+use Rattle.store_rule.specs.Notes.{first_row, others}
 use Rattle.tab_states.specs.declared.hands.Hands.{Hands}
 use Rattle.tab_states.specs.Desks.{page_at}
 use Rattle.tab_states.specs.Hands.{AreAllHands, AreHands}
@@ -20,7 +22,7 @@ use Rattle.store_rule.specs.Ground.{Offers}
 use Rattle.core_model.specs.Layout.{Setting}
 use Rattle.store_rule.specs.Told.{Stands, the_view}
 use Rattle.store_rule.specs.Passes.{AreNumbered, HaveOwnPages, IsNewOf, basis, first_cells, view}
-use Rattle.store_rule.proofs.Fresh.{new_row}
+use Rattle.store_rule.proofs.Fresh.{new_row, views_more}
 use Rattle.store_rule.proofs.Joining.{in_two}
 
 pub nine_words : (words : List ℕ) → words ≡ replicate 9 0 → length words ≡ 9
@@ -42,6 +44,22 @@ module _ {C O : Type 0} (tells : Bool) (state : C → CellState) (offers : O →
         pages = subst (IsSeatOf s.pool) (sym pages_are) apart;
         hand = hand_is;
       }
+
+-- of the row of new views from one on, one more than so many, the first is cut off and the others stay
+module _ {A X : Type 0} (k : Setting X) (n left : ℕ) (me : List (View X) × List A) (many : me ≡ (new_views k n (left + 1), [])) where
+  pub cut_others : ◌≡◌ {A = List (View X) × List A} (others me.0, me.1) (new_views k (n + 1) left, [])
+  cut_others = (λ i. (others (many i).0, (many i).1)) ∙ (λ i. (others (views_more k n left i), []))
+
+  pub cut_first : ◌≡◌ {A = List (View X) × List A} (first_row me.0, []) (new_view k n ∷ [], [])
+  cut_first = (λ i. (first_row (many i).0, [])) ∙ (λ i. (first_row (views_more k n left i), []))
+
+-- a seat that has a new view has it alone, and all its tabs are free
+module _ {A X : Type 0} (k : Setting X) (n : ℕ) (me : List (View X) × List A) (is : me ≡ (new_view k n ∷ [], [])) where
+  pub one_view : me.0 ≡ the_view me.0 ∷ []
+  one_view = (λ i. (is i).0) ∙ sym (λ i. the_view (is i).0 ∷ [])
+
+  pub nine_free : (the_view me.0).tabs ≡ replicate 9 Free
+  nine_free = λ i. (the_view (is i).0).tabs
 
 module _ {C : Type 0} where
   -- the passes stay in order where the next one comes behind them

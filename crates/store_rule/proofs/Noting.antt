@@ -14,38 +14,22 @@ use Rattle.core_model.proofs.Lists.{at_set, at_length, set_here, set_else}
 use Rattle.core_model.proofs.Telling.{set_again}
 use Rattle.core_model.proofs.NotesFrame.{IsSeen, known_view, known_none, known_both}
 use Rattle.core_model.specs.TableForms.{renewed}
-use Rattle.core_model.proofs.NotesCells.{renews_sound}
-use Rattle.core_model.proofs.NotesFrame.{Renews}
-use Rattle.core_model.proofs.OffersKept.{offers_stay}
-use Rattle.core_model.proofs.TellsNoMore.{renews_tells}
-use Rattle.store_rule.specs.Ground.{Ground, Rule, offering_of}
+use Rattle.store_rule.specs.Ground.{Ground, Rule}
 use Rattle.core_model.proofs.NotesRenewed.{noted, learned, learns_goes, pass_renews, note_renews, new_note_renews}
 use Rattle.store_rule.specs.Ruled.{Form, Ruled, Seated, state_of}
 use Rattle.store_rule.specs.Told.{the_view, Stands}
 use Rattle.store_rule.specs.Notes.{noting, learning, noting_row, note_row, learning_row, others, first_row}
-use Rattle.store_rule.proofs.HaltedShort.{short_renewed}
-use Rattle.store_rule.proofs.RestsEnd.{rests_end_renewed}
+use Rattle.store_rule.proofs.RuleKept.{rule_renewed}
 use Rattle.store_rule.proofs.Seating.{only, reseated}
-use Rattle.core_log.proofs.HasLog.{log_renewed}
 
 -- In the core.
 
--- a change of views that tells nothing new of words keeps the rule
-renews_rule : {X : Type 0} → (g : Ground X) (s : State X) (views : List (View X)) → Renews g.setting s views → Rule g s → Rule g (renewed s views)
-renews_rule g s views r so = record {
-  sound = renews_sound g.setting s views r so.sound;
-  offered = offers_stay (offering_of g) g.setting s (renewed s views) (renews_tells g.setting s views r) so.offered;
-  rests = rests_end_renewed g.setting s views r so.rests;
-  halted = short_renewed (offering_of g) g.setting s views r so.halted;
-  logged = log_renewed (offering_of g) g.setting s views r so.logged;
-}
-
 module _ {X : Type 0} (g : Ground X) (s : State X) (so : Rule g s) (i : ℕ) (v : View X) (at : get_elem? s.views i ≡ some v) (pass : IsPass v) where
   pub noting_sound : Rule g (renewed s (set s.views i (noting v)))
-  noting_sound = renews_rule g s (set s.views i (noting v)) (pass_renews g.setting s so.sound i v (noting v) at pass (learns_goes v [] _ noted) (known_view g.setting s so.sound.anchors.seen i v at)) so
+  noting_sound = rule_renewed g s (set s.views i (noting v)) (pass_renews g.setting s so.sound i v (noting v) at pass (learns_goes v [] _ noted) (known_view g.setting s so.sound.anchors.seen i v at)) so
 
   pub noted_sound : Rule g (renewed s (set s.views i (noting v) ++ note_of v ∷ []))
-  noted_sound = renews_rule g (renewed s (set s.views i (noting v))) (set s.views i (noting v) ++ note_of v ∷ [])
+  noted_sound = rule_renewed g (renewed s (set s.views i (noting v))) (set s.views i (noting v) ++ note_of v ∷ [])
       (new_note_renews g.setting (renewed s (set s.views i (noting v))) noting_sound.sound v
       (known_view g.setting (renewed s (set s.views i (noting v))) noting_sound.sound.anchors.seen i (noting v) (set_here s.views i (noting v) (at_length s.views i v at))))
       noting_sound
@@ -59,7 +43,7 @@ module _ {X : Type 0} (g : Ground X) (s : State X) (so : Rule g s) (i : ℕ) (v 
     more = learning v u.seen
 
     learning_sound : Rule g (renewed s (set s.views i more))
-    learning_sound = renews_rule g s (set s.views i more) (pass_renews g.setting s so.sound i v more at pass (learns_goes v u.seen _ learned)
+    learning_sound = rule_renewed g s (set s.views i more) (pass_renews g.setting s so.sound i v more at pass (learns_goes v u.seen _ learned)
         (known_both g.setting s u.seen v.seen (known_view g.setting s so.sound.anchors.seen j u uat) (known_view g.setting s so.sound.anchors.seen i v at))) so
 
     still_known : (x : Sight) → Contains u.seen x → IsSeen (set (set s.views i more) j spent) x
@@ -71,7 +55,7 @@ module _ {X : Type 0} (g : Ground X) (s : State X) (so : Rule g s) (i : ℕ) (v 
     }
 
     pub learned_sound : Rule g (renewed s (set (set s.views i more) j spent))
-    learned_sound = renews_rule g (renewed s (set s.views i more)) (set (set s.views i more) j spent)
+    learned_sound = rule_renewed g (renewed s (set s.views i more)) (set (set s.views i more) j spent)
         (note_renews g.setting (renewed s (set s.views i more)) learning_sound.sound j u spent (set_else s.views i j more elsewhere ∙ uat) (so.sound.anchors.shaped.notes j u uat none) still_known (known_none g.setting (renewed s (set s.views i more))))
         learning_sound
 

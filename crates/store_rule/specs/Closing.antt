@@ -1,5 +1,5 @@
 -- All passes of a store, joined again into one row, and the cells that have come home.
-use Rattle.std.specs.Prelude.{List, Some, [], length, map, true, Bool, ◌++◌, ◌<◌, ◌≡◌, ◌⊎◌, ℕ}
+use Rattle.std.specs.Prelude.{List, Option, Some, [], length, map, true, Bool, ◌++◌, ◌<◌, ◌≡◌, ◌⊎◌, ℕ}
 use mathlib.Core.Option.{some}
 use lib.ListN.{get_elem?}
 use Rattle.rock_disk.specs.Cell.{CellState}
@@ -42,3 +42,11 @@ pub record Closed {C : Type 0} (tells : Bool) (cell : C → CellState) (g : Grou
   pub home : gathered.state.places ≡ map (λ c. Some (shown tells cell c)) cells
   pub many : length cells ≡ g.setting.slots
   pub row : IsRow cell g.slot cells
+
+-- The store ended so, and its table is shared no more: these are its words, and its places have these cells.
+pub record IsEnded {C : Type 0} (tells : Bool) (cell : C → CellState) (g : Ground (List ℕ)) (views : List (View (List ℕ)))
+    (words : List ℕ) (places : List (Option C)) : Type 0 where
+  pub cells : List C
+  pub closed : Closed tells cell g views cells
+  pub words_are : closed.gathered.state.words ≡ words
+  pub places_are : places ≡ map Some cells

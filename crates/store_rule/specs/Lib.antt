@@ -14,3 +14,4 @@ pub mod Calls
 pub mod Steps
 pub mod Words
 pub mod Runs
+pub mod Quiet

@@ -19,7 +19,7 @@ use Rattle.store_rule.specs.Ruled.{Form, IsFitting, cell_shown}
 
 -- what the step finds in the state s, where the number is n
 abbrev pub found_as : {X : Type 0} → Setting X → State X → View X → Move → ℕ → Finding X
-found_as k s v m n = record { word = n; cell = cell_found k s v m; chain = chain_found s m; sights = sights_found k s m }
+found_as k s v m n = record { word = n; cell = cell_found k s v m; chain = chain_found s m; sights = sights_found k s v m }
 
 -- In some state that keeps the rule the pass had the view v and made the step m, which found n and left the view w.
 pub record Steps {X : Type 0} (g : Ground X) (v : View X) (m : Move) (n : ℕ) (w : View X) : Type 0 where

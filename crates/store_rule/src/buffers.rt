@@ -1,20 +1,7 @@
 // The buffers of a pass: each of its tabs has one, a page of the store's pool as long as a slot, and lends it.
-ghost use Rattle.std.specs.Prelude.{List, ◌<◌, ◌≡◌, ℕ};
-ghost use Rattle.store_rule.specs.Lending.{with_bytes};
-ghost use Rattle.store_rule.specs.Passes.{IsOf};
-ghost use Rattle.store_rule.specs.declared.store.Pass.{Pass};
-ghost use Rattle.store_rule.specs.declared.store.Store.{Store};
+ghost use Rattle.std.specs.Prelude.{◌<◌, ◌≡◌};
 
-use crate::rule::Origin;
-use crate::store::{Pass, Store};
-use rock_disk::Cell;
-
-/// A pass is one of its store still when a buffer that it lent comes back. The function does nothing: the
-/// proof of a function that calls it may use what it ensures.
-pub fn lending_keeps_passes<C: Cell, O: Origin>()
-    ensures { (store : Store C O) (pass : Pass C) (tab : ℕ) (bytes : List ℕ) → IsOf C.tells C.state O.offers store pass
-        → IsOf C.tells C.state O.offers store (with_bytes pass tab bytes) }
-{}
+use crate::store::Pass;
 
 impl<C> Pass<C> {
     ghost use Rattle.std.specs.Borrow.{sem};

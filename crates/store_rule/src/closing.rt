@@ -1,28 +1,16 @@
-// The end of a store: all passes are joined again, and the cells are taken out of their places.
-ghost use Rattle.std.specs.Prelude.{All, List};
-ghost use Rattle.store_rule.specs.declared.store.Pass.{Pass};
-ghost use Rattle.store_rule.specs.declared.store.Store.{Store};
-ghost use Rattle.store_rule.specs.Closing.{IsResting};
-ghost use Rattle.store_rule.specs.Passes.{IsNewOf, IsOf};
-
-use crate::cells::take_cells;
+// The end of a store: all passes are joined again, and its table is shared no more.
 use crate::rule::{Joined, Origin};
 use crate::store::{Pass, Store};
-use atomic_table::Seat;
+use atomic_table::{Closed, Seat};
 use core_model::{Row, View};
 use rock_disk::Cell;
 use rock_io::Octets;
-
-/// New passes are of their store, and have nothing at hand, so that it may be closed at once. The function
-/// does nothing: the proof of a function that calls it may use what it ensures.
-pub fn new_passes_rest<C: Cell, O: Origin>()
-    ensures own { (store : Store C O) (passes : List (Pass C)) → All (IsNewOf C.tells C.state O.offers store) passes → All (IsOf C.tells C.state O.offers store) passes }
-    ensures rest { (store : Store C O) (passes : List (Pass C)) → All (IsNewOf C.tells C.state O.offers store) passes → All IsResting passes }
-{}
+use std::alloc::Global;
 
 impl<C: Cell, O: Origin> Store<C, O> {
-    ghost use Rattle.std.specs.Prelude.{◌<◌, ◌≡◌, ◌++◌, All, [], length, vec_len};
-    ghost use Rattle.store_rule.specs.Closing.{Closed, IsResting, views_of};
+    ghost use Rattle.std.specs.Prelude.{◌<◌, ◌≡◌, ◌≤◌, ◌++◌, All, [], length, vec_capacity, vec_len};
+    ghost use Rattle.std.specs.Mem.Slots.{IsFull, slots_items, slots_len};
+    ghost use Rattle.store_rule.specs.Closing.{IsEnded, IsResting, views_of};
     ghost use Rattle.store_rule.specs.Passes.{IsOf, KeepsRoom, basis, first_cells};
 
     // All passes are joined into one seat, which has their views in order. The vector that the first pass
@@ -47,20 +35,23 @@ impl<C: Cell, O: Origin> Store<C, O> {
         (seat, cells)
     }
 
-    /// Ends the store, and gives its cells, in the order of their slots, in the vector in which they came,
-    /// which the first pass kept. All passes are here, with all tabs free. They are joined again, each
-    /// whole, and stand in one state. It takes no memory.
-    pub fn close(self, passes: Vec<Pass<C>>) -> Vec<C>
+    /// Ends the store, and gives its table, which nobody shares any more, and the emptied vector in which the
+    /// cells came, which the first pass kept and which has room for them. All passes are here, with all tabs
+    /// free. They are joined again, each whole, and stand in one state; each cell lies in its place. It takes no
+    /// memory.
+    pub fn close(self, passes: Vec<Pass<C>>) -> (Closed<Option<C>, Global>, Vec<C>)
         requires some { 0 < vec_len passes }
         requires all { vec_len passes ≡ (basis C.tells C.state O.offers self).setting.passes }
         requires own { All (IsOf C.tells C.state O.offers self) passes.items }
         requires rest { All IsResting passes.items }
         requires room { KeepsRoom (basis C.tells C.state O.offers self).setting.slots passes.items }
-        ensures { Closed C.tells C.state (basis C.tells C.state O.offers self) (views_of passes.items) result.items }
+        ensures ended { IsEnded C.tells C.state (basis C.tells C.state O.offers self) (views_of passes.items) (slots_items result.0.words) (slots_items result.0.slots) }
+        ensures full { IsFull result.0.words × IsFull result.0.slots }
+        ensures room { (result.1.items ≡ []) × (vec_len result.1 ≡ 0) × (slots_len result.0.slots ≤ vec_capacity result.1) }
     {
         let (seat, cells) = self.joined(passes);
         let Store { table, .. } = self;
-        take_cells(table.close_with(seat), cells)
+        (table.close_with(seat), cells)
     }
 }
 

@@ -49,22 +49,10 @@ impl<C: Cell, O: Origin> Store<C, O> {
         let made = Move::GetLink { tab, slot };
         let place = link_index(self.anchors, slot);
         let found = self.load_as::<Brand>(&mut pass.seat, place, made);
-        let link = link_found(found);
+        let Some(link) = unpack_link(found) else {
+            unreachable!()
+        };
         pass.tabs.set(tab as usize, followed_at(at, link));
         link
-    }
-}
-
-ghost use Rattle.std.specs.Prelude.{◌≡◌, ◌≤◌};
-ghost use Rattle.link_word.specs.Words.{link_number};
-
-// The link of these bits, which names a slot of 32 bits, if any.
-fn link_found(bits: u64) -> Link
-    requires { bits ≤ 4294967297 }
-    ensures { link_number result ≡ bits }
-{
-    match unpack_link(bits) {
-        Some(link) => link,
-        None => unreachable!(),
     }
 }

@@ -9,17 +9,17 @@ ghost use Rattle.store_rule.specs.Setting.{IsRow, IsSettled, basis_of};
 ghost use Rattle.store_rule.specs.Told.{Stands, the_view};
 ghost use Rattle.store_rule.specs.Rebuilding.{HoldNothing, MayOpen, none_kept};
 
-use crate::cells::{from_places, to_places};
 use crate::rule::{About, Off, Origin, Rule};
 use crate::store::{Pass, Store};
 use atomic_table::{Refused, Seat, Table};
+use cell_places::{from_places, to_places};
 use core_model::{Row, View};
 use core_table::{Opening, opening_of};
 use page_pool::{Pool, PoolSeat};
 use rebuild_model::{FoundList, Rebuilt};
 use rock_disk::Cell;
 use rock_io::{Memory, Numbers, Octets};
-use std::alloc::{AllocError, Global};
+use std::alloc::Global;
 use std::snapshot::Snapshot;
 use tab_states::{Hands, all_hands};
 
@@ -102,24 +102,7 @@ impl<C: Cell, O: Origin> Store<C, O> {
     ghost use Rattle.page_pool.specs.Seats.{IsSeatOf};
     ghost use Rattle.tab_states.specs.Hands.{AreAllHands};
     ghost use Rattle.store_rule.specs.Passes.{AreNumbered, HaveOwnPages, IsNewOf, KeepsRoom, basis, first_cells};
-    ghost use Rattle.store_rule.specs.Rebuilding.{IsKept, IsOpenedWith, none_kept};
-
-    // The next pass is cut off.
-    fn part(
-        &self,
-        seat: &mut Seat<Option<C>, Row<View<Octets>>>,
-        number: u32,
-        left: u32,
-    ) -> Seat<Option<C>, Row<View<Octets>>>
-        requires own { seat.old.table_id ≡ self.now.table.shared.table_id }
-        requires many { seat.old.me ≡ (new_views (basis C.tells C.state O.offers self.now).setting number (left + 1), []) }
-        ensures kept { (seat.new.table_id ≡ seat.old.table_id) × (seat.new.me ≡ (new_views (basis C.tells C.state O.offers self.now).setting (number + 1) left, [])) }
-        ensures part { (result.table_id ≡ seat.old.table_id) × (result.me ≡ (new_view (basis C.tells C.state O.offers self.now).setting number ∷ [], [])) }
-    {
-        let _ = number;
-        let _ = left;
-        self.table.shared.split_seat::<Off>(seat)
-    }
+    ghost use Rattle.store_rule.specs.Rebuilding.{IsOpenedWith, IsRebuildOf, none_kept};
 
     // Each pass gets the view of its number, and what it has at hand.
     fn part_all(
@@ -149,7 +132,8 @@ impl<C: Cell, O: Origin> Store<C, O> {
         } = parts;
         let passes = hands.len() as u32;
         for number in 1..passes {
-            let part = self.part(&mut seat, number - 1, passes - number);
+            let _ = number;
+            let part = self.table.shared.split_seat::<Off>(&mut seat);
             let apart = self.pool.split(&mut pages);
             let Some(hand) = hands.pop() else {
                 unreachable!()
@@ -201,15 +185,29 @@ impl<C: Cell, O: Origin> Store<C, O> {
         ensures room { IfOk result (λ r. KeepsRoom (length cells.items) r.1.items) }
         ensures err { IfErr result (λ r. r.cells.items ≡ cells.items) }
     {
-        let slots = cells.as_slice().len() as u32;
-        let Ok(nothing) = nothing_kept(alloc, slots) else {
+        let Ok(owner) = vec![in alloc; 0u32; cells.len()] else {
             return Err(NoRoom { cells });
         };
-        Store::over(alloc, cells, &nothing, slot, anchors, passes, origin)
+        let nothing = Rebuilt {
+            winners: FoundList::from_vec(Vec::new(alloc)),
+            owner: Numbers::from_vec(owner),
+            greatest: 0,
+        };
+        Store::of_rebuild(alloc, cells, &nothing, slot, anchors, passes, origin)
     }
 
-    /// A store over these cells and what a rebuild kept.
-    pub(crate) fn over(
+    /// A store over these cells and what a rebuild of them kept, and its passes, in the order of their
+    /// numbers. `slot` is the width of each cell in bytes. Each cell has its place in the vector for its
+    /// number, and a crash leaves what a read of it gives.
+    ///
+    /// Each entry that was kept stands closed with its version, and is offered by the number of its first
+    /// slot. Any other anchor is empty with version 0, and any other slot is free. The counter of versions
+    /// is at the greatest version of a sane slot.
+    ///
+    /// # Errors
+    ///
+    /// Want of memory.
+    pub fn of_rebuild(
         alloc: Global,
         mut cells: Vec<C>,
         rebuilt: &Rebuilt,
@@ -222,7 +220,7 @@ impl<C: Cell, O: Origin> Store<C, O> {
         requires anchors { 0 < anchors }
         requires slots { length cells.items ≤ MOST_SLOTS }
         requires cells { IsRow C.state slot cells.items × All (IsSettled C.tells C.state) cells.items }
-        requires kept { IsKept anchors (length cells.items) rebuilt.now }
+        requires kept { IsRebuildOf C.tells C.state slot anchors cells.items rebuilt.now }
         ensures counts { IfOk result (λ r. ((basis C.tells C.state O.offers r.0).setting.anchors ≡ anchors) × ((basis C.tells C.state O.offers r.0).setting.slots ≡ length cells.items) × ((basis C.tells C.state O.offers r.0).setting.passes ≡ passes) × ((basis C.tells C.state O.offers r.0).slot ≡ slot)) }
         ensures offers { IfOk result (λ r. (basis C.tells C.state O.offers r.0).offers ≡ O.offers origin) }
         ensures contents { IfOk result (λ r. (basis C.tells C.state O.offers r.0).setting.contents ≡ map (λ c. (shown C.tells C.state c).now) cells.items) }
@@ -272,18 +270,6 @@ impl<C: Cell, O: Origin> Store<C, O> {
             }
         }
     }
-}
-
-/// What a rebuild keeps of a file of so many slots in which there is no entry.
-fn nothing_kept(alloc: Global, slots: u32) -> Result<Rebuilt, AllocError>
-    ensures { IfOk result (λ r. r ≡ none_kept slots) }
-{
-    let owner = vec![in alloc; 0u32; slots as usize]?;
-    Ok(Rebuilt {
-        winners: FoundList::from_vec(Vec::new(alloc)),
-        owner: Numbers::from_vec(owner),
-        greatest: 0,
-    })
 }
 
 fn new_pass<C>(

@@ -9,7 +9,7 @@ use core_table::{anchor_index, counter_index};
 use lock_word::{DOOM_BIT, Epoch, ONE_STAGE, Stage, Word, evicted_number, is_idle, pack, word_of};
 use rock_disk::Cell;
 use std::marker::Brand;
-use tab_states::{At, entered_at, evict_at, left_at, raised_at, take_at};
+use tab_states::{At, entered_at, evict_at, held_at, left_at, raised_at, take_at};
 
 impl<C: Cell, O: Origin> Store<C, O> {
     ghost use Rattle.std.specs.Prelude.{◌≡◌, ◌≢◌, OnOk, IfErr};
@@ -87,7 +87,7 @@ impl<C: Cell, O: Origin> Store<C, O> {
     {
         let at = pass.at(tab);
         let anchor = pass.anchor(tab);
-        let by = ONE_STAGE * (to.number() - pass.stage(tab));
+        let by = ONE_STAGE * (to.number() - held_at(at));
         let made = Move::Raise { tab, to };
         let place = anchor_index(anchor);
         let found = self.add_as::<Brand>(&mut pass.seat, place, by, made);

@@ -1,6 +1,4 @@
 // The step calls on the turns of cells, and the moves of a cell under its turn.
-ghost use Rattle.std.specs.Prelude.{Contains, IsTrue};
-
 use crate::rule::Origin;
 use crate::store::{Pass, Store};
 use core_model::{Move, Then};
@@ -18,11 +16,6 @@ const QUICK_TRIES: u64 = 100;
 
 /// The tries from which on it sleeps no longer.
 const MOST_TRIES: u64 = QUICK_TRIES + 1_000;
-
-// A law of cells, for proofs: what a read gives may outlive a crash. The function does nothing.
-fn reads_may_stay<C: Cell>()
-    ensures { (cell : C) → IsTrue C.tells → Contains (C.state cell).possible (C.state cell).now }
-{}
 
 impl<C: Cell, O: Origin> Store<C, O> {
     ghost use Rattle.std.specs.Prelude.{ℕ};
@@ -100,7 +93,6 @@ impl<C: Cell, O: Origin> Store<C, O> {
         requires home { HasReturned C.tells C.state O.offers self.now pass.old tab slot }
         ensures { TurnEnded C.tells C.state O.offers self.now pass.old tab slot then pass.new }
     {
-        reads_may_stay::<C>();
         let at = pass.at(tab);
         let made = Move::EndTurn { tab, slot, then };
         let place = turn_index(self.anchors, slot);

@@ -1,9 +1,10 @@
 mod rows;
 
 use crate::play::{act_in, answer_in, numbers, parted, standing};
+use crate::steps::images::file_of;
 use core_lives::Life;
 use core_state::{Picks, Step};
-use rows::LIVES;
+use rows::{LIVES, OVER_A_FILE};
 use std::alloc::Global;
 use std::process::Abort;
 use test_core_kit::{SLOT, life_over, live};
@@ -91,4 +92,18 @@ fn lives_go_on_as_their_rows_say(rt: HostRuntime) {
         };
         play_life(&rt, rt.alloc(), &mut life, rows);
     }
+}
+
+/// A life of one pass over the base of the images, with one anchor.
+fn life_over_the_base(alloc: Global) -> Option<Life> {
+    life_over(alloc, &file_of(alloc, "")?, 1, 1)
+}
+
+#[test]
+fn an_entry_of_the_file_stands_while_its_slots_do(rt: HostRuntime) {
+    let Some(mut life) = life_over_the_base(rt.alloc()) else {
+        assert!(rt; false, "no life");
+        return;
+    };
+    play_life(&rt, rt.alloc(), &mut life, OVER_A_FILE);
 }

@@ -1,4 +1,4 @@
-mod images;
+pub(crate) mod images;
 mod other_rows;
 mod rows;
 mod wiping_rows;
@@ -22,7 +22,7 @@ fn script_of(alloc: Global, script: &str) -> Option<(Core, &str)> {
 
 #[test]
 fn steps_answer_as_their_rows_say(rt: HostRuntime) {
-    assert_eq!(rt; SCRIPTS.split("\n\n").count(), 16);
+    assert_eq!(rt; SCRIPTS.split("\n\n").count(), 17);
     assert_eq!(rt; WIPING.split("\n\n").count(), 2);
     for script in SCRIPTS.split("\n\n").chain(WIPING.split("\n\n")) {
         let Some((mut core, rows)) = script_of(rt.alloc(), script) else {

@@ -224,3 +224,29 @@ fn a_last_station_that_fails_is_told(rt: HostRuntime) {
     let wanted = "file 2: Failed; same same same; 0 0 1";
     assert_eq!(rt; story.as_ref().map(|s| s.as_str()), Some(wanted));
 }
+
+/// What opening three files may come to where an allocation of the test is refused: the file that is told, how far each file
+/// came, and the stations that were ended. In front is what it comes to where none is.
+const WITH_LITTLE_MEMORY: [&str; 10] = [
+    "3 files for 2; same same same; 0 0 0",
+    "file 0: Memory; untouched untouched untouched;",
+    "file 0: Memory; same untouched untouched;",
+    "file 0: Memory; same untouched untouched; 0",
+    "file 1: Memory; same untouched untouched; 0",
+    "file 1: Memory; same same untouched; 0",
+    "file 1: Memory; same same untouched; 0 0",
+    "file 2: Memory; same same untouched; 0 0",
+    "file 2: Memory; same same same; 0 0",
+    "file 2: Memory; same same same; 0 0 0",
+];
+
+/// `tests/refused_tests.sh test_dirs` runs it with each allocation refused in turn.
+#[test]
+fn each_file_has_its_bytes_where_memory_is_wanting(rt: HostRuntime) {
+    let story = told(rt.alloc(), &THREE_FILES);
+    let is_one = match &story {
+        Some(text) => WITH_LITTLE_MEMORY.iter().any(|each| *each == text.as_str()),
+        None => false,
+    };
+    assert!(rt; is_one);
+}

@@ -394,7 +394,7 @@ held;Failed 2 InUse;Failed 1 InUse
 free and held;opened 2 InUse;opened 1 InUse
 many;Failed 3 TooManyOpen;Failed 2 TooManyOpen";
 
-/// The same of a volume.
+/// How a volume answers an opening, its count of faults, and why its last call failed.
 fn told(volume: &mut FileVolume<Made>, alloc: Global, name: &str) -> Result<String, AllocError> {
     let answer = opened(volume, alloc, name)?;
     let faults = volume.faults();

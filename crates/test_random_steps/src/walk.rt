@@ -1,9 +1,11 @@
 // Random allowed steps of all kinds, and what each brings about.
 mod choice;
+mod crashes;
 mod freeing;
 mod kinds;
 mod life;
 mod log;
+mod named;
 mod random;
 mod reading;
 mod rows;

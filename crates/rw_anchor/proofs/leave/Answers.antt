@@ -1,6 +1,7 @@
 use Rattle.std.proofs.Common.{Option, ap, sym, unwrap_or, ◌∙◌, ℕ}
 use Rattle.store_rule.proofs.Following.{follows_on, made_follows}
 use Rattle.rw_anchor.proofs.LastTabs.{may_give_up}
+use Rattle.store_rule.proofs.Quieting.{quiet_step, quiet_then}
 use Rattle.rw_anchor.proofs.leave.Goals as goal
 
 pub give_up-requires-2-clause-last : goal.give_up-requires-2-clause-last
@@ -10,3 +11,9 @@ give_up-requires-2-clause-last g c = may_give_up g.C.Cell.tells g.C.Cell.state g
 pub returns-clause-others : goal.returns-clause-others
 returns-clause-others g c = follows_on g.C.Cell.tells g.C.Cell.state g.O.Origin.offers c.args.store.now c.args.tab c.args.pass.now c.exit-word.new.pass c.give_up-2.new.pass
     (made_follows g.C.Cell.tells g.C.Cell.state g.O.Origin.offers c.args.store.now c.args.tab _ _ _ _ c.exit-word.ensures.made (λ u e. ap (λ (o : Option ℕ). unwrap_or o c.args.tab) (sym e)) (λ h. h)) c.give_up-2.ensures.others
+
+pub returns-clause-quiet : goal.returns-clause-quiet
+returns-clause-quiet g c = quiet_then (quiet_step c.exit-word.ensures.made.step tt) c.give_up-2.ensures.quiet
+
+pub returns-then-not-is_left_over-clause-quiet : goal.returns-then-not-is_left_over-clause-quiet
+returns-then-not-is_left_over-clause-quiet g c = quiet_step c.exit-word.ensures.made.step tt

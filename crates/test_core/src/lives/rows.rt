@@ -213,3 +213,81 @@ stands 0 0 0
 chain []
 counter 1
 ";
+
+/// Rows over the base of the images, whose one anchor has `http://a/b` of version 7, in slots 2 and 0. The older
+/// `http://a/c` of version 3, in slot 1, is complete too.
+pub(super) const OVER_A_FILE: &str = "\
+stands 7 3 0
+chain [2, 0]
+map [5]
+# A writer takes the anchor, and the old entry's slots are given back. It reserves slot 0, writes the first of two pieces
+# there with no sync, and gives the slot back.
+0 0 1 0 0 = word 7 3 0
+0 0 4 0 0 = 7
+0 0 5 0 0 = 7
+0 0 6 0 8 = word 7 3 0
+stands 8 1 0
+0 8 13 2 0 = 2
+0 8 12 2 0 = 2
+0 8 13 0 0 = 1
+0 8 12 0 0 = 1
+0 8 11 2 0 = 5
+0 8 11 0 0 = 1
+0 0 9 4 77 = 0
+0 0 9 5 78 = 0
+0 0 9 6 123 = 0
+0 0 10 0 0 = 0
+0 0 10 3 0 = 1
+0 0 14 0 0 = 0
+0 0 15 0 0 = 0
+0 0 17 0 0 = 0
+0 0 21 0 1 = 0
+0 0 18 0 0 = 0
+0 0 16 0 0 = 1
+0 0 11 0 0 = 9
+crash 2 0 0 0 = refused
+# Picked as it was, the entry stands as it did in the file.
+crash 1 0 0 0 = 0
+rebuild = 0
+stands 7 3 0
+chain [2, 0]
+counter 7
+map [5]
+logged 0
+0 1 2 0 0 = word 7 3 0
+0 1 9 0 0 = 7364101636907690010
+0 1 3 0 0 = word 7 3 0
+# The same once more. Picked new, the slot has a piece that is no whole entry; the entry is gone, and the older one stands.
+0 0 1 0 0 = word 7 3 0
+0 0 4 0 0 = 7
+0 0 5 0 0 = 7
+0 0 6 0 8 = word 7 3 0
+stands 8 1 0
+0 8 13 2 0 = 2
+0 8 12 2 0 = 2
+0 8 13 0 0 = 1
+0 8 12 0 0 = 1
+0 8 11 2 0 = 5
+0 8 11 0 0 = 1
+0 0 9 4 77 = 0
+0 0 9 5 78 = 0
+0 0 9 6 123 = 0
+0 0 10 0 0 = 0
+0 0 10 3 0 = 1
+0 0 14 0 0 = 0
+0 0 15 0 0 = 0
+0 0 17 0 0 = 0
+0 0 21 0 1 = 0
+0 0 18 0 0 = 0
+0 0 16 0 0 = 1
+0 0 11 0 0 = 9
+crash 0 0 0 0 = 0
+rebuild = 0
+stands 3 3 0
+chain [1]
+counter 8
+map [2]
+logged 0
+0 1 2 0 0 = word 3 3 0
+0 1 9 0 0 = 11057020479801489224
+";

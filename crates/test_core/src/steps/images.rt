@@ -216,14 +216,19 @@ fn slots_of(text: &str) -> Option<usize> {
     Some(4)
 }
 
-/// A core of one pass over the base with the patches of a text.
-fn core_of(alloc: Global, patches: &str, anchors: u32) -> Option<Core> {
+/// The bytes of the base with the patches of a text.
+pub(crate) fn file_of(alloc: Global, patches: &str) -> Option<Vec<u8>> {
     let mut file = Vec::new(alloc);
     file.resize(slots_of(patches)?.saturating_mul(SLOT), 0)
         .ok()?;
     patch_all(&mut file, BASE)?;
     patch_all(&mut file, patches)?;
-    core_over(alloc, &file, anchors, 1)
+    Some(file)
+}
+
+/// A core of one pass over the base with the patches of a text.
+fn core_of(alloc: Global, patches: &str, anchors: u32) -> Option<Core> {
+    core_over(alloc, &file_of(alloc, patches)?, anchors, 1)
 }
 
 /// Adds the words that a line names behind its first word, where it is of words.

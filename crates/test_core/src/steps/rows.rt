@@ -610,14 +610,15 @@ stage a durable piece is published alone
 0 0 18 0 0 = 0
 0 0 16 0 0 = 1
 0 0 12 0 3 = refused
-# Once it is synced it is published.
+# Once it is synced it is published. A crash leaves the cell one content then, and who writes may not say that it wiped the slot.
 0 0 15 0 0 = 0
 0 0 17 0 0 = 0
 0 0 22 0 1 = 0
 0 0 18 0 0 = 0
+0 0 16 0 2 = refused
 0 0 16 0 0 = 1
 0 0 12 0 3 = 0
-made 18
+made 19
 stage the next piece is logged
 # One that is not durable is published as it is written.
 0 0 14 1 0 = 1
@@ -706,6 +707,63 @@ seen 2 Some(4)
 1 0 20 0 0 = 0
 seen 1 Some(5)
 made 3
+
+core 2 1 3
+stage a writer begins
+# Tab 0 of pass 0 writes version 1 at the anchor, has named its entry and reserved the slots 0 and 1.
+0 0 1 0 0 = 0
+0 0 4 0 0 = 0
+0 0 5 0 0 = 0
+0 0 6 0 1 = 0
+0 0 9 4 77 = 0
+0 0 9 5 78 = 0
+0 0 9 6 7 = 0
+0 0 10 0 0 = 0
+0 0 10 1 0 = 1
+made 9
+stage its first slot is published
+# A turn at a slot tells the writer nothing that it knows: it logged the piece itself.
+0 0 14 0 0 = 0
+seen 0 Some(4)
+0 0 15 0 0 = 0
+seen 0 Some(4)
+0 0 17 0 0 = 0
+0 0 21 0 1 = 0
+0 0 18 0 0 = 0
+0 0 16 0 0 = 1
+0 0 12 0 3 = 0
+0 0 9 7 1 = 0
+0 0 7 0 2 = word 1 2 0
+made 9
+stage the other piece is logged, and a note has both
+0 0 14 1 0 = 1
+0 0 19 0 0 = 0
+made 2
+stage a turn tells of the piece of its slot
+# Pass 1 learns no note. With the turn at slot 0 it knows the piece of this slot, once, and not the one of slot 1.
+seen 1 Some(1)
+1 0 2 0 0 = word 1 2 0
+1 0 13 0 0 = 3
+seen 1 Some(3)
+1 0 15 0 0 = 0
+seen 1 Some(4)
+made 3
+stage a turn that is taken tells of nothing
+2 0 2 0 0 = word 1 2 1
+2 0 13 0 0 = 3
+seen 2 Some(3)
+2 0 15 0 0 = 1
+seen 2 Some(3)
+1 0 16 0 0 = 1
+2 0 15 0 0 = 0
+seen 2 Some(4)
+2 0 16 0 0 = 1
+made 6
+stage a turn tells of nothing twice
+1 0 15 0 0 = 0
+seen 1 Some(4)
+1 0 16 0 0 = 1
+made 2
 
 core 3 2 2
 stage a writer begins

@@ -1,4 +1,5 @@
 // The log of pieces: its counter, and what passes and notes know of it.
+use super::rows::Row;
 use super::{Act, Core, STEPS};
 use core_model::{LoggedPiece, Sight};
 use std::process::Abort;
@@ -28,6 +29,67 @@ pub(super) fn watch_logged<R: Abort>(rt: &R, core: &Core, act: &Act, number: u64
         logged.number == number && logged.slot == act.at && logged.is_durable == is_durable,
         "{act:?} told of {logged:?}"
     );
+}
+
+/// What the pass of a step has seen, the oldest first.
+fn seen_by<'a>(core: &'a Core, act: &Act) -> Option<&'a [Sight]> {
+    let view = core.views().get(act.pass as usize)?;
+    Some(view.seen.as_slice())
+}
+
+/// How much the pass of a step has seen.
+pub(super) fn seen_count(core: &Core, act: &Act) -> usize {
+    match seen_by(core, act) {
+        Some(seen) => seen.len(),
+        None => 0,
+    }
+}
+
+/// Whether this is of a piece that was logged for the slot.
+fn is_of_slot(sight: &Sight, slot: u32) -> bool {
+    matches!(sight, Sight::Logged(logged) if logged.slot == slot)
+}
+
+/// How often a sight is among these.
+fn times(sight: &Sight, seen: &[Sight]) -> usize {
+    seen.iter().filter(|other| *other == sight).count()
+}
+
+/// Each piece that a pass or a note knows to be logged for the slot is among these.
+fn check_told<R: Abort>(rt: &R, core: &Core, slot: u32, seen: &[Sight]) {
+    for view in core.views() {
+        for sight in view.seen.as_slice() {
+            assert!(rt;
+                !is_of_slot(sight, slot) || seen.contains(sight),
+                "a turn at {slot} does not tell of {sight:?}"
+            );
+        }
+    }
+}
+
+/// A try for a turn that found it free told of each piece that was logged for the slot and that its pass did not
+/// know, once and of nothing else; one that found it taken told of nothing. Whether it told of any.
+pub(super) fn watch_turn<R: Abort>(
+    rt: &R,
+    core: &Core,
+    act: &Act,
+    number: u64,
+    before: usize,
+) -> Option<Row> {
+    let seen = seen_by(core, act)?;
+    let told = seen.get(before..)?;
+    if number != 0 {
+        assert!(rt; told.is_empty(), "{act:?} was lost and told of {told:?}");
+        return None;
+    }
+    for sight in told {
+        assert!(rt;
+            is_of_slot(sight, act.at) && times(sight, seen) == 1,
+            "{act:?} told of {sight:?}"
+        );
+    }
+    check_told(rt, core, act.at, seen);
+    (!told.is_empty()).then_some(Row::TurnTells)
 }
 
 /// Each piece that was logged is known to a pass or a note, and no other is.

@@ -67,6 +67,7 @@ pub(super) enum Row {
     SearchEndsWithAll,
     SearchTakes,
     LostTryTurn,
+    TurnTells,
     LearnedFromAnother,
     WroteNothing,
     WroteKept,
@@ -81,7 +82,7 @@ pub(super) enum Row {
     ReadThreeSlots,
 }
 
-const ROW_COUNT: usize = 72;
+const ROW_COUNT: usize = 73;
 
 /// The names of all of them, in order.
 const NAMES: &str = "\
@@ -145,6 +146,7 @@ SearchGoesOn
 SearchEndsWithAll
 SearchTakes
 LostTryTurn
+TurnTells
 LearnedFromAnother
 WroteNothing
 WroteKept

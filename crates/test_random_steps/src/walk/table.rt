@@ -55,3 +55,14 @@ pub(super) fn hold_of(tab: &Tab<Content>) -> Option<&Hold<Content>> {
         Turn::NoTurn => None,
     }
 }
+
+/// The turn that a tab holds, also one that frees.
+pub(super) fn hold_in(tab: &Tab<Content>) -> Option<&Hold<Content>> {
+    match tab {
+        Tab::Freeing(freer) => match &freer.turn {
+            Turn::Has(hold) => Some(hold),
+            Turn::NoTurn => None,
+        },
+        _ => hold_of(tab),
+    }
+}

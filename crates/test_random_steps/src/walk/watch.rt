@@ -6,7 +6,7 @@ use super::kinds::{
     RAISE, SIDE, STORES, SYNC, TRY_TURN, UNSURE, WRITE,
 };
 use super::life::life_row;
-use super::log::{log_count, watch_logged};
+use super::log::{log_count, seen_count, watch_logged, watch_turn};
 use super::rows::{Row, Tally};
 use super::table::{is_taken, published_at, word_at};
 use super::{ANCHORS, Act, Core, PASSES, SLOTS};
@@ -44,6 +44,8 @@ pub(super) struct Before {
     role: Role,
     /// Where the tab was.
     anchor: Option<u32>,
+    /// How much its pass had seen.
+    seen: usize,
 }
 
 fn role_of(tab: &Tab<Content>) -> (Role, Option<u32>) {
@@ -78,6 +80,7 @@ impl Before {
             words,
             role,
             anchor,
+            seen: seen_count(core, act),
         }
     }
 
@@ -309,6 +312,9 @@ impl Watch {
         assert!(rt; kind.is_some(), "no step is {act:?}");
         tally.add(kind);
         self.watch_log(rt, core, act, number);
+        if act.kind == TRY_TURN {
+            tally.add(watch_turn(rt, core, act, number, before.seen));
+        }
         let is_same = watch_anchors(rt, core, before, tally);
         tally.add(doomed_row(act, before));
         tally.add(lost_row(act, before, number, is_same));

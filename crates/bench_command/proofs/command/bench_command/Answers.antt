@@ -1,6 +1,6 @@
 use Rattle.std.proofs.Common.{arith, inl, inr, refl, subst, ◌∙◌, ◌≡◌}
-use Rattle.rock_open.specs.Device.{Counts, counts}
-use Rattle.rock_run.specs.Device.{EachEnded as RunEnded, HasFailed as RunFailed, NoneFailed as NoneFailedRunning}
+use Rattle.rock_disk.specs.Counts.{Counts, counts}
+use Rattle.rock_run.specs.Device.{RunEnded, RunFailed, RunUnfailed}
 use Rattle.rock_status.specs.declared.status.Status.{Status}
 use Rattle.rock_status.specs.declared.status.Status.TheVariants as status
 use Rattle.workload.specs.Script.{bench_lines}
@@ -11,7 +11,7 @@ use Rattle.bench_command.proofs.Made.{done_or_memory, leaves_of_run, made_home, 
 use Rattle.bench_command.proofs.Plain.{line_of_one, sized}
 use Rattle.bench_command.proofs.Printed.{told_so}
 use Rattle.bench_command.proofs.Refused.{few, unmade_complete, unmade_ends, unmade_leaves, unmade_prints, unmade_says}
-use Rattle.bench_command.proofs.Stations.{header_ended, header_kept, run_kept}
+use Rattle.bench_command.proofs.Stations.{header_kept, run_kept}
 use Rattle.bench_command.proofs.command.bench_command.Goals as goal
 
 done_no_fault : {result : Status} → result ≡ status.Done → result ≡ status.DeviceFault → ⊥
@@ -24,10 +24,10 @@ pub returns-in-Done-clause-ends : goal.returns-in-Done-clause-ends
 returns-in-Done-clause-ends g c =
     let none = c.create_file.ensures.unfailed (done_no_fault c.in-Done.is) in
     let station = c.create_file.ensures.done c.in-Done.is in
-    let same = same_counts none.volume station.0 station.1 in
-    run_made_ends c.args.target.now.workers c.args.target.now.count (g.K.Sink.faults c.args.out.now) (g.K.Sink.faults c.run_bench.new.out) (counts (g.V.Volume.faults c.args.volume.now) (g.V.Volume.made c.args.volume.now) (g.V.Volume.ended c.args.volume.now)) _ c.run_bench.result
+    let same = same_counts none.faults station.made station.ended in
+    run_made_ends c.args.target.now.workers c.args.target.now.count (g.K.Sink.faults c.args.out.now) (g.K.Sink.faults c.run_bench.new.out) (counts g.V.Volume.faults g.V.Volume.made g.V.Volume.ended c.args.volume.now) _ c.run_bench.result
     (record { passes = c.is_workers.ensures.0 c.if-not-is_workers.false; rounds = c.is_rounds.ensures.0 c.if-not-is_rounds.false })
-    (subst (λ (before : Counts). RunEnds c.args.target.now.workers (g.K.Sink.faults c.args.out.now) (g.K.Sink.faults c.run_bench.new.out) before (counts (g.V.Volume.faults c.run_bench.new.volume) (g.V.Volume.made c.run_bench.new.volume) (g.V.Volume.ended c.run_bench.new.volume)) c.run_bench.result) same c.run_bench.ensures.ends)
+    (subst (λ (before : Counts). RunEnds c.args.target.now.workers (g.K.Sink.faults c.args.out.now) (g.K.Sink.faults c.run_bench.new.out) before (counts g.V.Volume.faults g.V.Volume.made g.V.Volume.ended c.run_bench.new.volume) c.run_bench.result) same c.run_bench.ensures.ends)
 
 pub returns-in-Done-clause-says : goal.returns-in-Done-clause-says
 returns-in-Done-clause-says g c t =
@@ -38,9 +38,9 @@ pub returns-in-Done-clause-complete : goal.returns-in-Done-clause-complete
 returns-in-Done-clause-complete g c t may sink device =
     let none = c.create_file.ensures.unfailed (done_no_fault c.in-Done.is) in
     let station = c.create_file.ensures.done c.in-Done.is in
-    let same = same_counts none.volume station.0 station.1 in
+    let same = same_counts none.faults station.made station.ended in
     done_or_memory _ _ _ _ _ c.run_bench.result sink
-    (λ failed. device (inr (subst (λ (before : Counts). RunFailed before (counts (g.V.Volume.faults c.run_bench.new.volume) (g.V.Volume.made c.run_bench.new.volume) (g.V.Volume.ended c.run_bench.new.volume))) same failed)))
+    (λ failed. device (inr (subst (λ (before : Counts). RunFailed before (counts g.V.Volume.faults g.V.Volume.made g.V.Volume.ended c.run_bench.new.volume)) same failed)))
     c.run_bench.ensures.ends (c.run_bench.ensures.says t (made_slots c.cutting_keeps_the_bytes.ensures c.geometries_are_read_as_written.ensures.whole _ _ _ c.args.target.now.workers may.numbers.passes (c.in-Done.ensures.leaves t)))
 
 pub returns-in-Done-clause-prints : goal.returns-in-Done-clause-prints
@@ -48,9 +48,9 @@ returns-in-Done-clause-prints g c told =
     let t = c.args.target.now in
     let none = c.create_file.ensures.unfailed (done_no_fault c.in-Done.is) in
     let station = c.create_file.ensures.done c.in-Done.is in
-    let same = same_counts none.volume station.0 station.1 in
+    let same = same_counts none.faults station.made station.ended in
     told_so _ _ _ _ c.run_bench.result (λ text is.
-    let line = subst (λ (before : Counts). IsLineOfRun g.V.Volume.tells (g.V.Volume.files c.create_file.new.volume) (g.V.Volume.files c.run_bench.new.volume) t.name.now t.seed t.workers t.count before (counts (g.V.Volume.faults c.run_bench.new.volume) (g.V.Volume.made c.run_bench.new.volume) (g.V.Volume.ended c.run_bench.new.volume)) text) same is in
+    let line = subst (λ (before : Counts). IsLineOfRun g.V.Volume.tells (g.V.Volume.files c.create_file.new.volume) (g.V.Volume.files c.run_bench.new.volume) t.name.now t.seed t.workers t.count before (counts g.V.Volume.faults g.V.Volume.made g.V.Volume.ended c.run_bench.new.volume) text) same is in
     record {
       middle = g.V.Volume.files c.create_file.new.volume;
       made = c.in-Done.ensures.leaves;
@@ -63,11 +63,11 @@ returns-in-Done-clause-leaves g c =
     let t = c.args.target.now in
     let none = c.create_file.ensures.unfailed (done_no_fault c.in-Done.is) in
     let station = c.create_file.ensures.done c.in-Done.is in
-    let same = same_counts none.volume station.0 station.1 in
+    let same = same_counts none.faults station.made station.ended in
     leaves_of_run g.V.Volume.tells (g.V.Volume.files c.args.volume.now) (g.V.Volume.files c.create_file.new.volume) (g.V.Volume.files c.run_bench.new.volume) t.name.now t.workers _ c.in-Done.ensures.leaves
-    (counts (g.V.Volume.faults c.args.volume.now) (g.V.Volume.made c.args.volume.now) (g.V.Volume.ended c.args.volume.now)) _ _ _ c.run_bench.result
-    (subst (λ (before : Counts). RunEnds t.workers (g.K.Sink.faults c.args.out.now) (g.K.Sink.faults c.run_bench.new.out) before (counts (g.V.Volume.faults c.run_bench.new.volume) (g.V.Volume.made c.run_bench.new.volume) (g.V.Volume.ended c.run_bench.new.volume)) c.run_bench.result) same c.run_bench.ensures.ends)
-    (subst (λ (before : Counts). RunLeaves g.V.Volume.tells (g.V.Volume.files c.create_file.new.volume) (g.V.Volume.files c.run_bench.new.volume) t.name.now t.workers (bench_lines t.seed t.workers t.count) before (counts (g.V.Volume.faults c.run_bench.new.volume) (g.V.Volume.made c.run_bench.new.volume) (g.V.Volume.ended c.run_bench.new.volume)) c.run_bench.result) same c.run_bench.ensures.leaves)
+    (counts g.V.Volume.faults g.V.Volume.made g.V.Volume.ended c.args.volume.now) _ _ _ c.run_bench.result
+    (subst (λ (before : Counts). RunEnds t.workers (g.K.Sink.faults c.args.out.now) (g.K.Sink.faults c.run_bench.new.out) before (counts g.V.Volume.faults g.V.Volume.made g.V.Volume.ended c.run_bench.new.volume) c.run_bench.result) same c.run_bench.ensures.ends)
+    (subst (λ (before : Counts). RunLeaves g.V.Volume.tells (g.V.Volume.files c.create_file.new.volume) (g.V.Volume.files c.run_bench.new.volume) t.name.now t.workers (bench_lines t.seed t.workers t.count) before (counts g.V.Volume.faults g.V.Volume.made g.V.Volume.ended c.run_bench.new.volume) c.run_bench.result) same c.run_bench.ensures.leaves)
 
 pub returns-in-Done-clause-back : goal.returns-in-Done-clause-back
 returns-in-Done-clause-back g c t home = c.run_bench.ensures.back t (c.create_file.ensures.back t home)
@@ -76,17 +76,17 @@ pub returns-in-Done-clause-ended : goal.returns-in-Done-clause-ended
 returns-in-Done-clause-ended g c =
     let none = c.create_file.ensures.unfailed (done_no_fault c.in-Done.is) in
     let station = c.create_file.ensures.done c.in-Done.is in
-    let same = same_counts none.volume station.0 station.1 in
-    inr (subst (λ (before : Counts). RunEnded before (counts (g.V.Volume.faults c.run_bench.new.volume) (g.V.Volume.made c.run_bench.new.volume) (g.V.Volume.ended c.run_bench.new.volume))) same c.run_bench.ensures.ended)
+    let same = same_counts none.faults station.made station.ended in
+    inr (subst (λ (before : Counts). RunEnded before (counts g.V.Volume.faults g.V.Volume.made g.V.Volume.ended c.run_bench.new.volume)) same c.run_bench.ensures.ended)
 
 pub returns-in-Done-clause-device_unfailed : goal.returns-in-Done-clause-device_unfailed
 returns-in-Done-clause-device_unfailed g c not =
     let none = c.create_file.ensures.unfailed (done_no_fault c.in-Done.is) in
     let station = c.create_file.ensures.done c.in-Done.is in
-    let same = same_counts none.volume station.0 station.1 in
-    run_kept (counts (g.V.Volume.faults c.args.volume.now) (g.V.Volume.made c.args.volume.now) (g.V.Volume.ended c.args.volume.now)) _
-    (subst (λ (before : Counts). RunEnded before (counts (g.V.Volume.faults c.run_bench.new.volume) (g.V.Volume.made c.run_bench.new.volume) (g.V.Volume.ended c.run_bench.new.volume))) same c.run_bench.ensures.ended)
-    (subst (λ (before : Counts). NoneFailedRunning before (counts (g.V.Volume.faults c.run_bench.new.volume) (g.V.Volume.made c.run_bench.new.volume) (g.V.Volume.ended c.run_bench.new.volume))) same (c.run_bench.ensures.device_unfailed not))
+    let same = same_counts none.faults station.made station.ended in
+    run_kept (counts g.V.Volume.faults g.V.Volume.made g.V.Volume.ended c.args.volume.now) _
+    (subst (λ (before : Counts). RunEnded before (counts g.V.Volume.faults g.V.Volume.made g.V.Volume.ended c.run_bench.new.volume)) same c.run_bench.ensures.ended)
+    (subst (λ (before : Counts). RunUnfailed before (counts g.V.Volume.faults g.V.Volume.made g.V.Volume.ended c.run_bench.new.volume)) same (c.run_bench.ensures.device_unfailed not))
 
 pub returns-in_default : goal.returns-in_default
 returns-in_default g c =
@@ -95,23 +95,23 @@ returns-in_default g c =
     let rounds = c.is_rounds.ensures.0 c.if-not-is_rounds.false in
     let not = c.in_default.not-Done in
     let made = c.create_file.ensures in
-    let all = unmade_ends t.workers t.count (g.K.Sink.faults c.args.out.now) (g.K.Sink.faults c.args.out.now) (counts (g.V.Volume.faults c.args.volume.now) (g.V.Volume.made c.args.volume.now) (g.V.Volume.ended c.args.volume.now)) (counts (g.V.Volume.faults c.create_file.new.volume) (g.V.Volume.made c.create_file.new.volume) (g.V.Volume.ended c.create_file.new.volume)) c.create_file.result (record { passes = passes; rounds = rounds }) not made.ended made.none made.ends in
+    let all = unmade_ends t.workers t.count (g.K.Sink.faults c.args.out.now) (g.K.Sink.faults c.args.out.now) (counts g.V.Volume.faults g.V.Volume.made g.V.Volume.ended c.args.volume.now) (counts g.V.Volume.faults g.V.Volume.made g.V.Volume.ended c.create_file.new.volume) c.create_file.result (record { passes = passes; rounds = rounds }) not made.none made.ends in
     record {
       ends = all;
-      says = λ told. unmade_says t.workers _ _ _ _ (g.V.Volume.files c.args.volume.now) t.name.now c.create_file.result passes (λ free there. free (made.exists told (record { size = sized; count = few t.workers passes }) there)) made.ends (made.says told);
+      says = λ told. unmade_says t.workers _ _ (g.V.Volume.files c.args.volume.now) t.name.now c.create_file.result passes (λ free there. free (made.exists told (record { size = sized; count = few t.workers passes }) there)) made.ends (made.says told);
       refused = record {
         passes = λ bad. absurd (bad passes);
         rounds = λ good bad. absurd (bad rounds);
         exists = λ told numbers there. made.exists told (record { size = sized; count = few t.workers passes }) there;
       };
       complete = λ told may sink device.
-          unmade_complete t.workers t.count (g.K.Sink.faults c.args.out.now) (g.K.Sink.faults c.args.out.now) (counts (g.V.Volume.faults c.args.volume.now) (g.V.Volume.made c.args.volume.now) (g.V.Volume.ended c.args.volume.now)) (counts (g.V.Volume.faults c.create_file.new.volume) (g.V.Volume.made c.create_file.new.volume) (g.V.Volume.ended c.create_file.new.volume)) (g.V.Volume.files c.args.volume.now) t.name.now c.create_file.result may.free not device all made.ends (made.says told) may.numbers;
-      prints = λ told. unmade_prints t.workers _ _ _ _ _ (g.K.Sink.taken c.args.out.now) c.create_file.result not made.ends;
-      leaves = unmade_leaves g.V.Volume.tells (g.V.Volume.files c.args.volume.now) (g.V.Volume.files c.create_file.new.volume) t.name.now t.workers _ _ _ _ _ _ _ c.create_file.result passes not made.says made.ends made.leaves;
+          unmade_complete t.workers t.count (g.K.Sink.faults c.args.out.now) (g.K.Sink.faults c.args.out.now) (counts g.V.Volume.faults g.V.Volume.made g.V.Volume.ended c.args.volume.now) (counts g.V.Volume.faults g.V.Volume.made g.V.Volume.ended c.create_file.new.volume) (g.V.Volume.files c.args.volume.now) t.name.now c.create_file.result may.free not device all made.ends (made.says told) may.numbers;
+      prints = λ told. unmade_prints t.workers _ _ _ (g.K.Sink.taken c.args.out.now) c.create_file.result not made.ends;
+      leaves = unmade_leaves g.V.Volume.tells (g.V.Volume.files c.args.volume.now) (g.V.Volume.files c.create_file.new.volume) t.name.now t.workers _ _ _ _ _ c.create_file.result passes not made.says made.ends made.leaves;
       back = λ told home. made.back told home;
-      ended = inl (header_ended (counts (g.V.Volume.faults c.args.volume.now) (g.V.Volume.made c.args.volume.now) (g.V.Volume.ended c.args.volume.now)) (counts (g.V.Volume.faults c.create_file.new.volume) (g.V.Volume.made c.create_file.new.volume) (g.V.Volume.ended c.create_file.new.volume)) made.ended);
+      ended = inl made.ended;
       faults = made.faults;
       sink_faults = omega arith;
       sink_unfailed = λ other. refl;
-      device_unfailed = λ other. header_kept (counts (g.V.Volume.faults c.args.volume.now) (g.V.Volume.made c.args.volume.now) (g.V.Volume.ended c.args.volume.now)) (counts (g.V.Volume.faults c.create_file.new.volume) (g.V.Volume.made c.create_file.new.volume) (g.V.Volume.ended c.create_file.new.volume)) made.ended (made.unfailed other);
+      device_unfailed = λ other. header_kept (counts g.V.Volume.faults g.V.Volume.made g.V.Volume.ended c.args.volume.now) (counts g.V.Volume.faults g.V.Volume.made g.V.Volume.ended c.create_file.new.volume) made.ended (made.unfailed other);
     }

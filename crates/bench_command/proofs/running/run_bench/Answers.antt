@@ -3,7 +3,7 @@ use Rattle.std.proofs.lemmas.List.{length-map}
 use Rattle.std.proofs.lemmas.List.Concat.{length-flat_map}
 use Rattle.std.proofs.lemmas.List.Sums.{sum_by-cons}
 use Rattle.std.specs.Prelude.{sum_by}
-use Rattle.rock_open.specs.Device.{counts}
+use Rattle.rock_disk.specs.Counts.{counts}
 use Rattle.rock_run.specs.Runs.{HasRun, RefusalLeaves}
 use Rattle.rock_run.specs.Scripts.{MayBeServed}
 use Rattle.script_text.specs.declared.answer.Answer.{Answer}
@@ -46,8 +46,8 @@ pub returns-in-Ok-run_script-clause-prints : goal.returns-in-Ok-run_script-claus
 returns-in-Ok-run_script-clause-prints g c told =
     let t = c.args.target.now in
     let ran = subst (λ (lines : List Line). HasRun g.V.Volume.tells g.V.C.Cell.tells g.V.C.Cell.state (g.V.Volume.files c.args.volume.now) (g.V.Volume.files c.run_script.new.volume) t.name.now slot_size (anchors_for t.workers) t.workers lines g.V.St.Station.faults (map (λ each. each.items) c.in-Ok-run_script.answers.items)
-    (counts (g.V.Volume.faults c.args.volume.now) (g.V.Volume.made c.args.volume.now) (g.V.Volume.ended c.args.volume.now))
-    (counts (g.V.Volume.faults c.run_script.new.volume) (g.V.Volume.made c.run_script.new.volume) (g.V.Volume.ended c.run_script.new.volume))) c.in-Ok.ensures c.in-Ok-run_script.ensures.ran in
+    (counts g.V.Volume.faults g.V.Volume.made g.V.Volume.ended c.args.volume.now)
+    (counts g.V.Volume.faults g.V.Volume.made g.V.Volume.ended c.run_script.new.volume)) c.in-Ok.ensures c.in-Ok-run_script.ensures.ran in
     let given = map (λ each. each.items) c.in-Ok-run_script.answers.items in
     told_so _ _ _ _ c.print_summary.result (λ text is. record {
       run = record { answers = given; served = c.finished_runs_were_served.ensures _ _ _ _ _ _ _ _ _ _ _ sized (λ k line at. c.bench_lines_may_be_served.ensures.numbers t.seed t.workers t.count k line at) ran };
@@ -61,8 +61,8 @@ pub returns-in-Ok-run_script-clause-leaves : goal.returns-in-Ok-run_script-claus
 returns-in-Ok-run_script-clause-leaves g c =
     let t = c.args.target.now in
     let ran = subst (λ (lines : List Line). HasRun g.V.Volume.tells g.V.C.Cell.tells g.V.C.Cell.state (g.V.Volume.files c.args.volume.now) (g.V.Volume.files c.run_script.new.volume) t.name.now slot_size (anchors_for t.workers) t.workers lines g.V.St.Station.faults (map (λ each. each.items) c.in-Ok-run_script.answers.items)
-    (counts (g.V.Volume.faults c.args.volume.now) (g.V.Volume.made c.args.volume.now) (g.V.Volume.ended c.args.volume.now))
-    (counts (g.V.Volume.faults c.run_script.new.volume) (g.V.Volume.made c.run_script.new.volume) (g.V.Volume.ended c.run_script.new.volume))) c.in-Ok.ensures c.in-Ok-run_script.ensures.ran in
+    (counts g.V.Volume.faults g.V.Volume.made g.V.Volume.ended c.args.volume.now)
+    (counts g.V.Volume.faults g.V.Volume.made g.V.Volume.ended c.run_script.new.volume)) c.in-Ok.ensures c.in-Ok-run_script.ensures.ran in
     let served : RunServed g.V.Volume.tells (g.V.Volume.files c.args.volume.now) (g.V.Volume.files c.run_script.new.volume) t.name.now t.workers _ _ _ = record {
       answers = map (λ each. each.items) c.in-Ok-run_script.answers.items;
       served = c.finished_runs_were_served.ensures _ _ _ _ _ _ _ _ _ _ _ sized (λ k line at. c.bench_lines_may_be_served.ensures.numbers t.seed t.workers t.count k line at) ran;

@@ -3,7 +3,8 @@ use Rattle.std.proofs.lemmas.Bool.{false≢true}
 use Rattle.core_model.specs.declared.tab.Tab.{Tab}
 use Rattle.core_model.specs.Chains.{no_chain}
 use Rattle.core_table.specs.declared.content.Content.{Content}
-use Rattle.core_table.specs.Inside.{setting, state}
+use Rattle.core_table.specs.Inside.{setting}
+use Rattle.core_change.specs.Inside.{state}
 use Rattle.core_anchors.specs.Raising.{MayRaiseTab}
 use Rattle.core_change.proofs.Facts.{in_table, tab_is}
 use Rattle.core_table.proofs.Lists.{same_default}

@@ -2,7 +2,7 @@ use Rattle.std.proofs.Common.{refl, subst, ◌∙◌, arith}
 use Rattle.std.proofs.lemmas.Bool.{false≢true}
 use Rattle.core_model.specs.declared.tab.Tab.{Tab}
 use Rattle.core_table.specs.declared.content.Content.{Content}
-use Rattle.core_table.specs.Inside.{state}
+use Rattle.core_change.specs.Inside.{state}
 use Rattle.core_slots.specs.Trying.{MayTry}
 use Rattle.core_change.proofs.Facts.{tab_is}
 use Rattle.core_slots.proofs.LinkSteps.{chain_there}
@@ -26,5 +26,5 @@ pub returns-clause-planned : goal.returns-clause-planned
 returns-clause-planned c =
     let may = c.if-not-may_try.ensures.0 refl in
     let there = try_there _ _ _ c.requires _ c.args.slot _ c.in-Some.ensures may _ 0 c.index_of-index.ensures in
-    try_planned _ _ _ c.requires _ c.args.slot _ c.in-Some.ensures may _ _ c.index_of-index.ensures _ _ _ _ (c.index-found.ensures ∙ same_default _ _ c.index-found.result.now 0 there)
-    c.tried_word-left.ensures c.tried_turn.ensures c.tried_tabs.ensures c.word_addition.ensures
+    try_planned _ _ _ c.requires _ c.args.slot _ c.in-Some.ensures may _ _ c.index_of-index.ensures _ _ _ _ _ (c.index-found.ensures ∙ same_default _ _ c.index-found.result.now 0 there)
+    c.tried_word-left.ensures c.in_ok-learned.ensures c.tried_turn.ensures c.tried_tabs.ensures c.word_addition.ensures

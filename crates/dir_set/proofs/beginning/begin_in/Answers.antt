@@ -15,7 +15,7 @@ pub returns-in-Ok-clause-ok : goal.returns-in-Ok-clause-ok
 returns-in-Ok-clause-ok g c =
     let h = hits g.C.Cell.tells g.C.Cell.state g.O.Origin.offers c.args.dirs.now c.args.pass.now c.requires.pass c.args.dir c.args.dir c.index-store.result.now c.index_mut.result.now c.begin.new.pass refl c.requires.there c.index-store.ensures c.index_mut.ensures.value in
     at_dir h _ (begun_by g.C.Cell.tells g.C.Cell.state g.O.Origin.offers c.args.tab c.args.line c.args.url.now c.args.durable c.index-store.result.now c.index_mut.result.now c.begin.new.pass c.offer_of-offer.result c.in-Ok.version
-    c.offer_of-offer.ensures c.in-Ok.ensures.ok c.in-Ok.ensures.durable c.begin.ensures.hand c.begin.ensures.others)
+    c.offer_of-offer.ensures c.in-Ok.ensures.ok c.in-Ok.ensures.durable c.begin.ensures.hand c.begin.ensures.others c.begin.ensures.quiet)
 
 pub returns-in-Err-clause-err : goal.returns-in-Err-clause-err
 returns-in-Err-clause-err g c =
@@ -28,6 +28,7 @@ returns-in-Err-clause-err g c =
       desks = c.in-Err.ensures.desks;
       hand = c.begin.ensures.hand;
       follows = c.begin.ensures.others;
+      quiet = c.begin.ensures.quiet;
     })
 
 pub returns-in-Ok-clause-only : goal.returns-in-Ok-clause-only

@@ -5,7 +5,7 @@ use Rattle.std.specs.FinMap.{get}
 use Rattle.std.specs.Prelude.{slice_get, string_bytes}
 use Rattle.rock_disk.specs.File.{HasSlots, IsNotAway}
 use Rattle.rock_disk.specs.Opened.{IsSmall}
-use Rattle.rock_open.specs.Device.{Counts, EachEnded, NoneFailed, counts}
+use Rattle.rock_disk.specs.Counts.{Counts, EachEnded, NoneFailed, counts}
 use Rattle.rock_open.specs.Opening.{FileSays, OpeningEnds}
 use Rattle.rock_open.specs.declared.fault.OpenStoreFault.TheVariants.{BadGeometry, Missing, Small}
 use Rattle.dir_set.specs.Parts.{AreOpen}
@@ -22,8 +22,8 @@ returns-in-Err-clause-refused g c =
     let name = there_is c.args.names.now 0 c.requires.some in
     let origin = there_is c.args.origins.items 0 (omega (arith, c.requires.some, c.requires.origins, c.args.origins.ok.0)) in
     let r = (c.in-Err.ensures.refused name.0 origin.0 name.1 origin.1).0 in record {
-      middle = (counts (g.V.Volume.faults c.args.volume.now) (g.V.Volume.made c.args.volume.now) (g.V.Volume.ended c.args.volume.now));
-      opened = no_stations (counts (g.V.Volume.faults c.args.volume.now) (g.V.Volume.made c.args.volume.now) (g.V.Volume.ended c.args.volume.now));
+      middle = (counts g.V.Volume.faults g.V.Volume.made g.V.Volume.ended c.args.volume.now);
+      opened = no_stations (counts g.V.Volume.faults g.V.Volume.made g.V.Volume.ended c.args.volume.now);
       ends = r.ends;
       ended = r.ended;
       unfailed = r.unfailed;
@@ -106,7 +106,7 @@ loop-dir-preserved g c =
           c.name_at-name.result.now c.remove-origin.result c.in-Ok-open_store.opened.header c.in-Ok-open_store.opened.store c.in-Ok-open_store.opened.passes c.name_at-name.ensures
           (first_left c.args.origins.items c.loop-dir.dir c.remove-origin.result lt (ap (λ (xs : List _). slice_get xs 0) (sym i.left) ∙ slice_get_read c.loop-dir.origins.items (length c.loop-dir.origins.items) 0 c.remove-origin.result refl (omega (arith, c.remove-origin.ensures.len, c.loop-dir.origins.ok.0)) c.remove-origin.ensures.value))
           c.in-Ok-open_store.ensures.opened c.add.ensures;
-      stations = one_more_station c.loop-dir.dir (counts (g.V.Volume.faults c.args.volume.now) (g.V.Volume.made c.args.volume.now) (g.V.Volume.ended c.args.volume.now)) (counts (g.V.Volume.faults c.loop-dir.volume) (g.V.Volume.made c.loop-dir.volume) (g.V.Volume.ended c.loop-dir.volume)) (counts (g.V.Volume.faults c.open_store.new.volume) (g.V.Volume.made c.open_store.new.volume) (g.V.Volume.ended c.open_store.new.volume)) i.stations (c.in-Ok-open_store.ensures.unfailed ok_is_none).faults c.in-Ok-open_store.ensures.one;
+      stations = one_more_station c.loop-dir.dir (counts g.V.Volume.faults g.V.Volume.made g.V.Volume.ended c.args.volume.now) (counts g.V.Volume.faults g.V.Volume.made g.V.Volume.ended c.loop-dir.volume) (counts g.V.Volume.faults g.V.Volume.made g.V.Volume.ended c.open_store.new.volume) i.stations (c.in-Ok-open_store.ensures.unfailed ok_is_none).faults c.in-Ok-open_store.ensures.one;
       left = c.remove-origin.ensures.by_index.2 ∙ ap (λ (xs : List _). drop 1 xs) i.left ∙ drop_first c.args.origins.items c.loop-dir.dir;
     }
 
@@ -118,11 +118,11 @@ pub returns-in-Err-open_store-clause-refused : goal.returns-in-Err-open_store-cl
 returns-in-Err-open_store-clause-refused g c =
     let f = c.close_parts.ensures in
     let same = same_counts _ _ _ _ _ _ (sym f.faults) (sym f.made) (sym f.ended) in record {
-      middle = (counts (g.V.Volume.faults c.loop-dir.volume) (g.V.Volume.made c.loop-dir.volume) (g.V.Volume.ended c.loop-dir.volume));
+      middle = (counts g.V.Volume.faults g.V.Volume.made g.V.Volume.ended c.loop-dir.volume);
       opened = c.loop-dir.invariant.stations;
-      ends = subst (λ (z : Counts). OpeningEnds c.args.slot c.args.anchors c.args.passes (counts (g.V.Volume.faults c.loop-dir.volume) (g.V.Volume.made c.loop-dir.volume) (g.V.Volume.ended c.loop-dir.volume)) z c.in-Err-open_store.fault) same c.in-Err-open_store.ensures.refused;
-      ended = subst (λ (z : Counts). EachEnded (counts (g.V.Volume.faults c.loop-dir.volume) (g.V.Volume.made c.loop-dir.volume) (g.V.Volume.ended c.loop-dir.volume)) z) same c.in-Err-open_store.ensures.ended;
-      unfailed = λ ne. subst (λ (z : Counts). NoneFailed (counts (g.V.Volume.faults c.loop-dir.volume) (g.V.Volume.made c.loop-dir.volume) (g.V.Volume.ended c.loop-dir.volume)) z) same (c.in-Err-open_store.ensures.unfailed (λ z. ne (err_is z)));
+      ends = subst (λ (z : Counts). OpeningEnds c.args.slot c.args.anchors c.args.passes (counts g.V.Volume.faults g.V.Volume.made g.V.Volume.ended c.loop-dir.volume) z c.in-Err-open_store.fault) same c.in-Err-open_store.ensures.refused;
+      ended = subst (λ (z : Counts). EachEnded (counts g.V.Volume.faults g.V.Volume.made g.V.Volume.ended c.loop-dir.volume) z) same c.in-Err-open_store.ensures.ended;
+      unfailed = λ ne. subst (λ (z : Counts). NoneFailed (counts g.V.Volume.faults g.V.Volume.made g.V.Volume.ended c.loop-dir.volume) z) same (c.in-Err-open_store.ensures.unfailed (λ z. ne (err_is z)));
     }
 
 pub returns-in-Err-open_store-clause-says : goal.returns-in-Err-open_store-clause-says

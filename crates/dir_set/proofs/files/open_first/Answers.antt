@@ -5,7 +5,7 @@ use Rattle.std.specs.FinMap.{get}
 use Rattle.std.specs.Prelude.{slice_get, string_bytes}
 use Rattle.rock_disk.specs.File.{Files}
 use Rattle.rock_open.specs.declared.fault.OpenStoreFault.TheVariants.{Memory}
-use Rattle.rock_open.specs.Device.{counts}
+use Rattle.rock_disk.specs.Counts.{counts}
 use Rattle.dir_set.specs.Files.{ClosesAgain, KeepsFile}
 use Rattle.dir_set.specs.Parts.{AreParts, IsRefused}
 use Rattle.dir_set.proofs.Dealing.{one_item}
@@ -20,8 +20,8 @@ returns-in-Err-clause-refused g c name origin en eo =
     let mine = c.name_at-name.result.now in
     let e = c.in-Err.ensures in
     let same : mine ≡ name = one_item (slice_get c.args.names.now 0) mine name c.name_at-name.ensures en in (
-      subst (λ (z : List ℕ). IsRefused g.V.Volume.tells (g.V.Volume.files c.args.volume.now) (counts (g.V.Volume.faults c.args.volume.now) (g.V.Volume.made c.args.volume.now) (g.V.Volume.ended c.args.volume.now))
-          (counts (g.V.Volume.faults c.open_store.new.volume) (g.V.Volume.made c.open_store.new.volume) (g.V.Volume.ended c.open_store.new.volume)) c.args.slot c.args.anchors c.args.passes z c.in-Err.fault) same
+      subst (λ (z : List ℕ). IsRefused g.V.Volume.tells (g.V.Volume.files c.args.volume.now) (counts g.V.Volume.faults g.V.Volume.made g.V.Volume.ended c.args.volume.now)
+          (counts g.V.Volume.faults g.V.Volume.made g.V.Volume.ended c.open_store.new.volume) c.args.slot c.args.anchors c.args.passes z c.in-Err.fault) same
           (record {
             ends = e.refused;
             ended = e.ended;
@@ -85,8 +85,8 @@ returns-in-Err-with_room-clause-refused g c name origin en eo =
     let passes = as_passes c.args.passes (λ unfit. ok_is_none (e.bad_passes size unfit)) in
     let name_is : mine ≡ name = one_item (slice_get c.args.names.now 0) mine name c.name_at-name.ensures en in
     let origin_is : its ≡ origin = one_item (slice_get c.args.origins.now.items 0) its origin (slice_get_read c.args.origins.now.items (length c.args.origins.now.items) 0 its refl (omega (arith, c.requires.some, c.requires.origins, c.args.origins.now.ok.0)) c.remove-origin.ensures.value) eo in (
-      subst (λ (z : List ℕ). IsRefused g.V.Volume.tells before (counts (g.V.Volume.faults c.args.volume.now) (g.V.Volume.made c.args.volume.now) (g.V.Volume.ended c.args.volume.now))
-          (counts (g.V.Volume.faults c.close_file.new.volume) (g.V.Volume.made c.close_file.new.volume) (g.V.Volume.ended c.close_file.new.volume)) c.args.slot c.args.anchors c.args.passes z Memory) name_is
+      subst (λ (z : List ℕ). IsRefused g.V.Volume.tells before (counts g.V.Volume.faults g.V.Volume.made g.V.Volume.ended c.args.volume.now)
+          (counts g.V.Volume.faults g.V.Volume.made g.V.Volume.ended c.close_file.new.volume) c.args.slot c.args.anchors c.args.passes z Memory) name_is
           (record {
             ends = (size, passes, tt);
             ended = inr (0, record { made = f.made ∙ e.one.made; ended = f.ended ∙ e.one.ended });

@@ -10,12 +10,12 @@ open_entry-requires g c =
 pub returns-in-Ok-clause-ok : goal.returns-in-Ok-clause-ok
 returns-in-Ok-clause-ok g c =
     let h = hits g.C.Cell.tells g.C.Cell.state g.O.Origin.offers c.args.dirs.now c.args.pass.now c.requires.pass c.args.dir c.args.dir c.index.result.now c.index_mut.result.now c.open_entry.new.pass refl c.requires.there c.index.ensures c.index_mut.ensures.value in
-    at_dir h _ (record { opened = c.in-Ok.ensures.ok; reads = c.in-Ok.ensures.reads; follows = c.open_entry.ensures.others })
+    at_dir h _ (record { opened = c.in-Ok.ensures.ok; reads = c.in-Ok.ensures.reads; follows = c.open_entry.ensures.others; quiet = c.open_entry.ensures.quiet })
 
 pub returns-in-Err-clause-err : goal.returns-in-Err-clause-err
 returns-in-Err-clause-err g c =
     let h = hits g.C.Cell.tells g.C.Cell.state g.O.Origin.offers c.args.dirs.now c.args.pass.now c.requires.pass c.args.dir c.args.dir c.index.result.now c.index_mut.result.now c.open_entry.new.pass refl c.requires.there c.index.ensures c.index_mut.ensures.value in
-    at_dir h _ (record { refused = c.in-Err.ensures.err; free = c.in-Err.ensures.free; follows = c.in-Err.ensures.refused })
+    at_dir h _ (record { refused = c.in-Err.ensures.err; free = c.in-Err.ensures.free; follows = c.in-Err.ensures.refused; quiet = c.open_entry.ensures.quiet })
 
 pub returns-in-Ok-clause-only : goal.returns-in-Ok-clause-only
 returns-in-Ok-clause-only g c =

@@ -20,7 +20,7 @@ returns-in-Err-clause-says g c =
     let h = hits g.C.Cell.tells g.C.Cell.state g.O.Origin.offers c.args.dirs.now c.args.pass.now c.requires.pass c.args.dir c.args.dir c.index.result.now c.index_mut.result.now c.purge.new.pass refl c.requires.there c.index.ensures c.index_mut.ensures.value in
     at_dir h _ (says_cause g.C.Cell.tells g.C.Cell.state g.O.Origin.offers c.args.url.now c.index.result.now c.index_mut.result.now c.purge.new.pass c.args.left.now c.args.causes.now c.args.dir c.in-Err.cause
     (omega (arith, c.args.dirs.now.few, c.args.dirs.now.stores.ok.0, c.requires.there, c.requires.room.1)) c.requires.none.0
-    (record { refused = c.in-Err.ensures.err; free = c.purge.ensures.free; follows = c.purge.ensures.others }))
+    (record { refused = c.in-Err.ensures.err; free = c.purge.ensures.free; follows = c.purge.ensures.others; quiet = c.in-Err.ensures.quiet }))
 
 pub returns-in-Ok-clause-beside : goal.returns-in-Ok-clause-beside
 returns-in-Ok-clause-beside g c d ne = (answer_beside c.args.left.now c.args.dir _ d ne, refl)

@@ -49,6 +49,12 @@ returns-clause-others g c =
     let h = hits g.C.Cell.tells g.C.Cell.state g.O.Origin.offers c.args.dirs.now c.args.pass.now c.requires.pass c.index_of-dir.result (dir_of c.args.pass.now c.args.tab) c.index.result.now c.index_mut.result.now c.finish.new.pass c.index_of-dir.ensures lt c.index.ensures c.index_mut.ensures.value in
     at_dir h _ c.finish.ensures.others
 
+pub returns-clause-quiet : goal.returns-clause-quiet
+returns-clause-quiet g c =
+    let lt : c.index_of-dir.result < dir_count c.args.dirs.now = subst (λ (n : ℕ). n < dir_count c.args.dirs.now) (sym c.index_of-dir.ensures) (c.requires.pass.tabs c.args.tab c.requires.tab) in
+    let h = hits g.C.Cell.tells g.C.Cell.state g.O.Origin.offers c.args.dirs.now c.args.pass.now c.requires.pass c.index_of-dir.result (dir_of c.args.pass.now c.args.tab) c.index.result.now c.index_mut.result.now c.finish.new.pass c.index_of-dir.ensures lt c.index.ensures c.index_mut.ensures.value in
+    at_dir h _ c.finish.ensures.quiet
+
 pub returns-clause-only : goal.returns-clause-only
 returns-clause-only g c =
     let lt : c.index_of-dir.result < dir_count c.args.dirs.now = subst (λ (n : ℕ). n < dir_count c.args.dirs.now) (sym c.index_of-dir.ensures) (c.requires.pass.tabs c.args.tab c.requires.tab) in

@@ -22,7 +22,7 @@ returns-in-Ok-clause-done g c t =
     leaves_migrated c.args.slot c.args.name.now (g.V.Volume.files c.args.volume.now) (g.V.Volume.files c.record.new.volume) c.args.looked.now.bytes
     (subst (λ (r : Option Geometry). FileRecords (g.V.Volume.files c.args.volume.now) c.args.name.now r c.args.looked.now.bytes) c.in-None.is (c.requires.looked t))
     (subst (λ (n : ℕ). MayBeRecorded (geometry_of c.args.slot n) c.args.name.now (g.V.Volume.files c.args.volume.now) (g.V.Volume.files c.record.new.volume)) c.slots_of-slots.ensures.value
-    (c.in-Ok.ensures.either t (λ same. let one = c.in-Ok.ensures.done.0 in omega (arith, same, one))))
+    (c.in-Ok.ensures.either t (λ same. let one = c.in-Ok.ensures.done.made in omega (arith, same, one))))
     (subst (λ (n : ℕ). IsRecorded (geometry_of c.args.slot n) c.args.name.now (g.V.Volume.files c.args.volume.now) (g.V.Volume.files c.record.new.volume)) c.slots_of-slots.ensures.value (c.in-Ok.ensures.recorded t))
 
 pub returns-in-Ok-clause-marked : goal.returns-in-Ok-clause-marked
@@ -35,7 +35,7 @@ pub returns-in-Err-clause-left : goal.returns-in-Err-clause-left
 returns-in-Err-clause-left g c t =
     leaves_refused c.args.slot c.args.name.now (g.V.Volume.files c.args.volume.now) (g.V.Volume.files c.record.new.volume) c.args.looked.now.bytes
     (subst (λ (r : Option Geometry). FileRecords (g.V.Volume.files c.args.volume.now) c.args.name.now r c.args.looked.now.bytes) c.in-None.is (c.requires.looked t))
-    _ _ _ _ c.in-Err.status c.in-Err.ensures.refused
+    _ _ c.in-Err.status c.in-Err.ensures.refused
     (subst (λ (n : ℕ). RecordLeaves (geometry_of c.args.slot n) c.args.name.now (g.V.Volume.files c.args.volume.now) (g.V.Volume.files c.record.new.volume) c.in-Err.status) c.slots_of-slots.ensures.value (c.in-Err.ensures.left t))
 
 pub returns-in-Err-clause-marked : goal.returns-in-Err-clause-marked

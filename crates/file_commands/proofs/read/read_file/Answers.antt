@@ -1,8 +1,9 @@
 use Rattle.std.proofs.Common.{◌≡◌, inl, length, map, drop, arith, ◌∙◌, ap, subst}
+use Rattle.rock_disk.specs.Counts.{NoStation, NoneFailed}
 use Rattle.rock_disk.specs.declared.volume.OpenFault.TheVariants as opening
 use Rattle.file_commands.specs.Report.{Fits}
 use Rattle.file_commands.proofs.Kept.{filled, slots_when_opened, one_count, out_still, handed_back}
-use Rattle.file_commands.proofs.Telling.{none_ended, kept_on, not_failed_open, failed_open, only_unfit, open_refused, open_says, open_told, opened_refused, opened_says}
+use Rattle.file_commands.proofs.Telling.{none_ended, moved, not_failed_open, failed_open, only_unfit, open_refused, open_says, open_told, opened_refused, opened_says, same_counts}
 use Rattle.file_commands.proofs.read.read_file.Goals as goal
 
 pub read_if_fit-outcome-requires-clause-there : goal.read_if_fit-outcome-requires-clause-there
@@ -19,7 +20,7 @@ give_back-requires g c t =
     out_still c.opened_cells_may_be_given_back.ensures.out _ _ _ _ _ _ _ _ _ c.in-Ok.ensures.shape ((c.in-Ok.ensures.opened t).1) c.read_if_fit-outcome.ensures.files same
 
 pub returns-in-Err-clause-refused : goal.returns-in-Err-clause-refused
-returns-in-Err-clause-refused g c = open_refused (Fits c.args.report) _ _ _ _ c.in-Err.fault c.not_opened.result c.not_opened.ensures (λ failed. inl (c.in-Err.ensures.failed failed))
+returns-in-Err-clause-refused g c = open_refused (Fits c.args.report) _ _ c.in-Err.fault c.not_opened.result c.not_opened.ensures (λ failed. inl (c.in-Err.ensures.failed failed))
 
 pub returns-in-Err-clause-says : goal.returns-in-Err-clause-says
 returns-in-Err-clause-says g c t =
@@ -33,12 +34,11 @@ returns-in-Err-clause-small g c t bytes is = open_told c.in-Err.fault (opening.S
 
 pub returns-in-Err-clause-unfailed : goal.returns-in-Err-clause-unfailed
 returns-in-Err-clause-unfailed g c none =
-    none_ended (c.in-Err.ensures.unfailed (not_failed_open c.in-Err.fault c.not_opened.result c.not_opened.ensures none)) c.in-Err.ensures.ended
+    none_ended (record { made = c.in-Err.ensures.made; ended = c.in-Err.ensures.ended }) (c.in-Err.ensures.unfailed (not_failed_open c.in-Err.fault c.not_opened.result c.not_opened.ensures none))
 
 pub returns-in-Err-clause-early : goal.returns-in-Err-clause-early
 returns-in-Err-clause-early g c t slots has not = (
-  c.in-Err.ensures.made,
-  c.in-Err.ensures.ended,
+  record { made = c.in-Err.ensures.made; ended = c.in-Err.ensures.ended },
   λ told. c.in-Err.ensures.failed (failed_open c.in-Err.fault c.not_opened.result c.not_opened.ensures told),
 )
 
@@ -51,12 +51,13 @@ returns-clause-fits g c t ok = (
 
 pub returns-clause-refused : goal.returns-clause-refused
 returns-clause-refused g c =
-    opened_refused (Fits c.args.report) _ c.read_if_fit-outcome.result (c.in-Ok.ensures.unfailed (λ w. cc)) c.in-Ok.ensures.ended c.give_back.ensures.faults c.give_back.ensures.ended c.read_if_fit-outcome.ensures.refused
+    opened_refused (Fits c.args.report) _ c.read_if_fit-outcome.result (same_counts (c.in-Ok.ensures.unfailed (λ w. cc)) c.in-Ok.ensures.made c.in-Ok.ensures.ended)
+    (same_counts c.give_back.ensures.faults c.give_back.ensures.made c.give_back.ensures.ended) c.read_if_fit-outcome.ensures.refused
 
 pub returns-clause-says : goal.returns-clause-says
 returns-clause-says g c t =
     let mine = slots_when_opened g.V.C.Cell.state c.in-Ok.opened.cells.items c.in-Ok.ensures.shape (c.opened_slots_are_wide_and_few.ensures.count _ _ _ _ c.in-Ok.ensures.shape) ((c.in-Ok.ensures.opened t).1) in
-    opened_says (Fits c.args.report) _ _ _ _ _ (g.V.Volume.files c.args.volume.now) c.args.name.now c.args.slot c.read_if_fit-outcome.result (rw c.deref_mut.ensures.value mine) c.read_if_fit-outcome.ensures.refused
+    opened_says (Fits c.args.report) _ _ _ (g.V.Volume.files c.args.volume.now) c.args.name.now c.args.slot c.read_if_fit-outcome.result (rw c.deref_mut.ensures.value mine) c.read_if_fit-outcome.ensures.refused
 
 pub returns-clause-missing : goal.returns-clause-missing
 returns-clause-missing g c t none = let told = (c.in-Ok.ensures.missing t).1 none in absurd (cc)
@@ -74,7 +75,8 @@ returns-clause-kept g c t =
 
 pub returns-clause-unfailed : goal.returns-clause-unfailed
 returns-clause-unfailed g c none =
-    kept_on (c.in-Ok.ensures.unfailed (λ w. cc)) c.in-Ok.ensures.ended c.give_back.ensures.faults c.give_back.ensures.ended (c.read_if_fit-outcome.ensures.unfailed none)
+    moved (same_counts (c.in-Ok.ensures.unfailed (λ w. cc)) c.in-Ok.ensures.made c.in-Ok.ensures.ended) (same_counts c.give_back.ensures.faults c.give_back.ensures.made c.give_back.ensures.ended) NoneFailed
+    (c.read_if_fit-outcome.ensures.unfailed none)
 
 pub returns-clause-early : goal.returns-clause-early
 returns-clause-early g c t slots has not =
@@ -82,7 +84,8 @@ returns-clause-early g c t slots has not =
     let count : length c.in-Ok.opened.cells.items ≡ slots = one_count (g.V.Volume.files c.args.volume.now) c.args.name.now c.args.slot _ slots mine has in
     let unfit =
     c.read_if_fit-outcome.ensures.unfit (λ fits. not (subst (λ n. Fits c.args.report n) count (subst (λ cells. Fits c.args.report (length cells)) c.deref_mut.ensures.value fits))) in (
-      c.give_back.ensures.made ∙ (unfit.1 ∙ c.in-Ok.ensures.made),
-      c.give_back.ensures.ended ∙ (unfit.2 ∙ c.in-Ok.ensures.ended),
+      moved (same_counts (c.in-Ok.ensures.unfailed (λ w. cc)) c.in-Ok.ensures.made c.in-Ok.ensures.ended)
+          (same_counts {f = g.V.Volume.faults c.give_back.new.self} {m = g.V.Volume.made c.give_back.new.self} {e = g.V.Volume.ended c.give_back.new.self} c.give_back.ensures.faults c.give_back.ensures.made c.give_back.ensures.ended)
+          NoStation unfit.1,
       λ told. absurd (only_unfit c.read_if_fit-outcome.result unfit.0 told),
     )

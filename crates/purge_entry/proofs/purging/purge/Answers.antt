@@ -1,7 +1,7 @@
 use Rattle.std.proofs.Common.{sym}
 use Rattle.lock_word.proofs.Parts.{epoch_of-word_number}
 use Rattle.store_rule.specs.Passes.{view}
-use Rattle.purge_entry.proofs.Answering.{follows, free_again, may_come, may_doom, may_part, purged}
+use Rattle.purge_entry.proofs.Answering.{follows, free_again, may_doom, may_part, purged}
 use Rattle.purge_entry.proofs.purging.purge.Goals as goal
 
 pub doom-word-requires : goal.doom-word-requires

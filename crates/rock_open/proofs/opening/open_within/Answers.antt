@@ -4,7 +4,7 @@ use Rattle.rock_disk.specs.Cell.{shape}
 use Rattle.rock_disk.specs.File.{bytes_of}
 use Rattle.rock_disk.specs.Opened.{HasShape}
 use Rattle.rock_disk.specs.declared.volume.OpenFault.TheVariants as opening
-use Rattle.rock_open.specs.Device.{counts}
+use Rattle.rock_disk.specs.Counts.{counts}
 use Rattle.rock_open.specs.Opening.{FileSays, IsAnchors, ReadingEnds}
 use Rattle.rock_open.proofs.Cells.{few_of, rebuilds, row_of, sure_of}
 use Rattle.rock_open.proofs.Files.{filled, handed_back, of_error, on_ok, out_still, slots_when_opened}
@@ -76,8 +76,8 @@ returns-in-Ok-store_of-clause-one g c = one_around _ _ _ _ _ _ _ _ _ _ _ _ (c.in
 pub returns-in-Err-store_of-clause-refused : goal.returns-in-Err-store_of-clause-refused
 returns-in-Err-store_of-clause-refused g c =
     let slots = length c.deref_mut.result.now in let fault = c.in-Err-store_of.field-0.fault in
-    let before = counts (g.V.Volume.faults c.args.volume.now) (g.V.Volume.made c.args.volume.now) (g.V.Volume.ended c.args.volume.now) in
-    let after = counts (g.V.Volume.faults c.give_back.new.self) (g.V.Volume.made c.give_back.new.self) (g.V.Volume.ended c.give_back.new.self) in
+    let before = counts g.V.Volume.faults g.V.Volume.made g.V.Volume.ended c.args.volume.now in
+    let after = counts g.V.Volume.faults g.V.Volume.made g.V.Volume.ended c.give_back.new.self in
     ⊎_elim
     (λ e. opened_refused _ _ _ _ _ _ _ _ _ _ _ _ (c.in-Ok.ensures.unfailed (λ w. cc)) c.in-Ok.ensures.made c.in-Ok.ensures.ended c.give_back.ensures.faults c.give_back.ensures.made c.give_back.ensures.ended
     c.args.slot c.args.anchors slots fault

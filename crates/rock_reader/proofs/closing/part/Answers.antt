@@ -1,6 +1,7 @@
 use Rattle.std.proofs.Common.{inl}
 use Rattle.store_rule.specs.Passes.{basis, view}
 use Rattle.rock_reader.proofs.Parting.{done_tabs, follows_freeing, follows_tab, freed_tabs, may_free}
+use Rattle.store_rule.proofs.Quieting.{quiet_then}
 use Rattle.rock_reader.proofs.closing.part.Goals as goal
 
 pub free_chain-requires : goal.free_chain-requires
@@ -21,3 +22,6 @@ returns-in-Done-clause-others g c = follows_tab g.C.Cell.tells g.C.Cell.state g.
 
 pub returns-in-MustFree-clause-others : goal.returns-in-MustFree-clause-others
 returns-in-MustFree-clause-others g c = follows_freeing g.C.Cell.tells g.C.Cell.state g.O.Origin.offers c.args.store.now c.args.pass.now c.args.tab c.free_chain.new.pass c.leave.new.pass c.leave.ensures.others c.free_chain.ensures.others
+
+pub returns-in-MustFree-clause-quiet : goal.returns-in-MustFree-clause-quiet
+returns-in-MustFree-clause-quiet g c = quiet_then c.leave.ensures.quiet c.free_chain.ensures.quiet

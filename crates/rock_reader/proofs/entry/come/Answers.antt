@@ -4,6 +4,7 @@ use Rattle.lock_word.specs.Cause.{cause_of}
 use Rattle.store_rule.specs.Passes.{view}
 use Rattle.rock_reader.proofs.Judging.{came_to, free_again, judged_other, may_judge, may_retreat, may_share, turned_away}
 use Rattle.rock_reader.proofs.Parting.{follows_both, follows_tab}
+use Rattle.store_rule.proofs.Quieting.{none_then}
 use Rattle.rock_reader.proofs.entry.come.Goals as goal
 
 pub anchor_of-anchor-requires : goal.anchor_of-anchor-requires
@@ -58,3 +59,12 @@ returns-in-Err-clause-free g c = free_again g.C.Cell.tells g.C.Cell.state g.O.Or
 pub returns-in-Err-clause-others : goal.returns-in-Err-clause-others
 returns-in-Err-clause-others g c = follows_both g.C.Cell.tells g.C.Cell.state g.O.Origin.offers c.args.store.now c.args.pass.now c.args.tab c.part.new.pass c.share.new.pass
     (follows_tab g.C.Cell.tells g.C.Cell.state g.O.Origin.offers c.args.store.now c.args.pass.now c.args.tab c.share.new.pass c.share.ensures.others) c.part.ensures.others
+
+pub returns-in-Ok-judge-clause-quiet : goal.returns-in-Ok-judge-clause-quiet
+returns-in-Ok-judge-clause-quiet g c = none_then c.share.ensures.quiet c.judge.ensures.quiet.dooms
+
+pub returns-in-Err-judge-clause-quiet : goal.returns-in-Err-judge-clause-quiet
+returns-in-Err-judge-clause-quiet g c = none_then c.share.ensures.quiet c.judge.ensures.quiet.dooms
+
+pub returns-in-Err-clause-quiet : goal.returns-in-Err-clause-quiet
+returns-in-Err-clause-quiet g c = none_then c.share.ensures.quiet c.part.ensures.quiet.dooms

@@ -1,6 +1,7 @@
 use Rattle.store_rule.specs.Passes.{basis, view}
 use Rattle.rock_reader.proofs.Coming.{key_tabs}
 use Rattle.rock_reader.proofs.Parting.{follows_both, follows_tab}
+use Rattle.store_rule.proofs.Quieting.{quiet_then}
 use Rattle.rock_reader.proofs.entry.judge.Goals as goal
 
 pub returns-in-Some-clause-others : goal.returns-in-Some-clause-others
@@ -12,3 +13,6 @@ returns-in-None-clause-stays g c = key_tabs (basis g.C.Cell.tells g.C.Cell.state
 
 pub returns-in-None-clause-others : goal.returns-in-None-clause-others
 returns-in-None-clause-others g c = follows_tab g.C.Cell.tells g.C.Cell.state g.O.Origin.offers c.args.store.now c.args.pass.now c.args.tab c.entry_key-key.new.pass c.entry_key-key.ensures.others
+
+pub returns-in-Some-clause-quiet : goal.returns-in-Some-clause-quiet
+returns-in-Some-clause-quiet g c = quiet_then c.entry_key-key.ensures.quiet c.part.ensures.quiet

@@ -1,10 +1,12 @@
-use Rattle.std.proofs.Common.{arith, length, ◌<◌, ◌≡◌, ℕ}
+use Rattle.std.proofs.Common.{ap, arith, length}
 use Rattle.tab_states.specs.Desks.{buffer_at}
 use Rattle.store_rule.specs.Passes.{view}
 use Rattle.slice_chain.proofs.Writing.{buffer_long}
-use Rattle.rock_reader.proofs.Judging.{may_come, may_load_offer, opened_entry}
-use Rattle.rock_reader.proofs.Opened.{follows_as, follows_kept, opened_kept, reads_kept}
+use Rattle.rock_reader.proofs.Judging.{may_load_offer, opened_entry}
+use Rattle.rock_reader.proofs.Opened.{follows_kept, opened_kept, reads_kept}
 use Rattle.rock_reader.proofs.Parting.{follows_both, follows_tab}
+use Rattle.store_rule.proofs.Quieting.{none_same, none_then}
+use Rattle.store_rule.specs.Told.{the_view}
 use Rattle.rock_reader.proofs.opening.open_entry.Goals as goal
 
 pub entry_offer-requires : goal.entry_offer-requires
@@ -27,3 +29,6 @@ pub returns-clause-others : goal.returns-clause-others
 returns-clause-others g c = follows_kept g.C.Cell.tells g.C.Cell.state g.O.Origin.offers c.args.store.now c.args.tab c.args.pass.now c.requires.below c.args.url.now c.entry_offer.new.pass c.keep_url.new.pass (length (buffer_at c.entry_offer.new.pass.desks c.args.tab)) c.entry_offer.ensures.others.own c.keep_url.ensures
     (follows_both g.C.Cell.tells g.C.Cell.state g.O.Origin.offers c.args.store.now c.args.pass.now c.args.tab c.entry_offer.new.pass c.come.new.pass c.come.ensures.others
     (follows_tab g.C.Cell.tells g.C.Cell.state g.O.Origin.offers c.args.store.now c.come.new.pass c.args.tab c.entry_offer.new.pass c.entry_offer.ensures.others))
+
+pub returns-clause-quiet : goal.returns-clause-quiet
+returns-clause-quiet g c = none_then (none_then c.come.ensures.quiet c.entry_offer.ensures.quiet.dooms) (none_same _ _ (ap (λ z. (the_view z.me.0).trail) c.keep_url.ensures.seat))

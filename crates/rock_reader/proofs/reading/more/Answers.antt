@@ -6,6 +6,7 @@ use Rattle.rock_reader.specs.declared.answer.More.{More}
 use Rattle.rock_reader.proofs.Answering.{ended, has_held, may_locate, turned_out}
 use Rattle.rock_reader.proofs.Looking.{of_reader}
 use Rattle.rock_reader.proofs.ReaderFollows.{follows_still}
+use Rattle.store_rule.proofs.Quieting.{quiet_same}
 use Rattle.rock_reader.proofs.reading.more.Goals as goal
 
 end_fault : More.End ≡ More.Fault → ⊥
@@ -82,3 +83,12 @@ returns-in-Other-clause-failed g c e = absurd (other_fault e)
 
 pub returns-in-Other-clause-unfailed : goal.returns-in-Other-clause-unfailed
 returns-in-Other-clause-unfailed g c ne = refl
+
+pub returns-in-Slot-clause-quiet : goal.returns-in-Slot-clause-quiet
+returns-in-Slot-clause-quiet g c = c.read_on.ensures.quiet
+
+pub returns-in-End-clause-quiet : goal.returns-in-End-clause-quiet
+returns-in-End-clause-quiet g c = quiet_same _ _ refl
+
+pub returns-in-Other-clause-quiet : goal.returns-in-Other-clause-quiet
+returns-in-Other-clause-quiet g c = quiet_same _ _ refl

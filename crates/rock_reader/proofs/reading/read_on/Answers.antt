@@ -6,8 +6,9 @@ use Rattle.slice_chain.proofs.Writing.{buffer_long}
 use Rattle.rock_reader.proofs.GivenBodies.{gave_read}
 use Rattle.rock_reader.proofs.InnerTab.{given_inner, looked_inner, not_inner, read_inner}
 use Rattle.rock_reader.proofs.Looking.{of_reader}
-use Rattle.rock_reader.proofs.ReaderFollows.{follows_given, follows_looked, follows_read, not_fault, read_held}
+use Rattle.rock_reader.proofs.ReaderFollows.{follows_given, follows_looked, follows_read, given_quiet, not_fault, read_held}
 use Rattle.rock_reader.proofs.ReadingOn.{fails, gave_none, known_held, may_read}
+use Rattle.store_rule.proofs.Quieting.{quiet_then}
 use Rattle.rock_reader.proofs.reading.read_on.Goals as goal
 
 pub place_of-place-requires-clause-below : goal.place_of-place-requires-clause-below
@@ -103,3 +104,12 @@ returns-in-Err-clause-failed g c e = c.in-Err.ensures.failed
 
 pub returns-in-Err-clause-unfailed : goal.returns-in-Err-clause-unfailed
 returns-in-Err-clause-unfailed g c ne = absurd (ne refl)
+
+pub returns-in-NotWritten-clause-quiet : goal.returns-in-NotWritten-clause-quiet
+returns-in-NotWritten-clause-quiet g c = c.look_on-found.ensures.quiet
+
+pub returns-in-Ok-clause-quiet : goal.returns-in-Ok-clause-quiet
+returns-in-Ok-clause-quiet g c = quiet_then (quiet_then c.look_on-found.ensures.quiet c.read_slot.ensures.quiet) (given_quiet c.args.tab (basis g.C.Cell.tells g.C.Cell.state g.O.Origin.offers c.args.store.now).setting.slots c.place_of-place.result c.read_slot.new.pass c.give.new.pass c.args.out.now c.give.new.out c.give.result c.give.ensures.given)
+
+pub returns-in-Err-clause-quiet : goal.returns-in-Err-clause-quiet
+returns-in-Err-clause-quiet g c = quiet_then c.look_on-found.ensures.quiet c.read_slot.ensures.quiet

@@ -9,7 +9,7 @@ use Rattle.rock_run.specs.Offered.{offers_of}
 use Rattle.store_rule.specs.Passes.{KeepsRoom}
 use Rattle.store_rule.specs.Setting.{IsRow}
 use Rattle.script_text.specs.declared.line.Line.{Line}
-use Rattle.rock_open.specs.Device.{counts}
+use Rattle.rock_disk.specs.Counts.{counts}
 use Rattle.rock_open.specs.Opening.{OpensStore}
 use Rattle.rock_run.specs.Device.{ServingEnds}
 use Rattle.rock_run.proofs.Devices.{all_ended, ends_serving, none_failed, says_serving, unfailed_alone}
@@ -35,14 +35,14 @@ serve_by_stations-served-requires-clause-rest g c κs within = let over = c.in-O
     may_rest g.V.C.Cell.tells g.V.C.Cell.state offers_of c.in-Ok.open.store ps over.numbered (subst (λ (n : ℕ). KeepsRoom n ps) (sym over.slots_are) over.room)
     (c.new_passes_rest.ensures.own c.in-Ok.open.store ps over.new) (c.new_passes_rest.ensures.rest c.in-Ok.open.store ps over.new)
 
-pub close_store-requires-clause-own : goal.close_store-requires-clause-own
-close_store-requires-clause-own g c = own_all g.V.C.Cell.tells g.V.C.Cell.state offers_of c.in-Ok.open.store c.serve_by_stations-served.new.passes.items c.serve_by_stations-served.ensures.rest
+pub close_counted-cells-requires-clause-own : goal.close_counted-cells-requires-clause-own
+close_counted-cells-requires-clause-own g c = own_all g.V.C.Cell.tells g.V.C.Cell.state offers_of c.in-Ok.open.store c.serve_by_stations-served.new.passes.items c.serve_by_stations-served.ensures.rest
 
-pub close_store-requires-clause-rest : goal.close_store-requires-clause-rest
-close_store-requires-clause-rest g c = rest_all g.V.C.Cell.tells g.V.C.Cell.state offers_of c.in-Ok.open.store c.serve_by_stations-served.new.passes.items c.serve_by_stations-served.ensures.rest
+pub close_counted-cells-requires-clause-rest : goal.close_counted-cells-requires-clause-rest
+close_counted-cells-requires-clause-rest g c = rest_all g.V.C.Cell.tells g.V.C.Cell.state offers_of c.in-Ok.open.store c.serve_by_stations-served.new.passes.items c.serve_by_stations-served.ensures.rest
 
-pub close_store-requires-clause-room : goal.close_store-requires-clause-room
-close_store-requires-clause-room g c =
+pub close_counted-cells-requires-clause-room : goal.close_counted-cells-requires-clause-room
+close_counted-cells-requires-clause-room g c =
     let size = sized c.args.slot (λ n. ok_not_err _ _ (c.in-Ok.ensures.bad_slot n)) in
     let passes = as_passes c.args.workers (λ n. ok_not_err _ _ (c.in-Ok.ensures.bad_passes size n)) in
     room_all g.V.C.Cell.tells g.V.C.Cell.state offers_of c.in-Ok.open.store c.serve_by_stations-served.new.passes.items
@@ -51,11 +51,11 @@ close_store-requires-clause-room g c =
 
 pub give_back-requires : goal.give_back-requires
 give_back-requires g c t =
-    let opened = c.in-Ok.ensures.opened in let closed = c.close_store.ensures in
+    let opened = c.in-Ok.ensures.opened in let closed = c.close_counted-cells.ensures.closed in
     let count = c.opened_slots_are_wide_and_few.ensures.count _ _ _ _ opened.shape in
-    c.closed_cells_may_be_given_back.ensures (g.V.Volume.files c.serve_by_stations-served.new.volume) c.args.name.now _ c.args.slot _ c.in-Ok.open.header c.close_store.result.items
+    c.closed_cells_may_be_given_back.ensures (g.V.Volume.files c.serve_by_stations-served.new.volume) c.args.name.now _ c.args.slot _ c.in-Ok.open.header c.close_counted-cells.result.cells.items
     (ap (λ files. get files c.args.name.now) c.serve_by_stations-served.ensures.files ∙ c.opened_cells_are_the_files.ensures.away _ _ _ _ _ _ _ (opened.out t)) opened.shape.header_shape
-    (closed.many ∙ opened.store.slots_are ∙ sym (length-map opened.cells g.V.C.Cell.state) ∙ count) (subst (λ (n : ℕ). IsRow g.V.C.Cell.state n c.close_store.result.items) opened.store.slot_is closed.row)
+    (closed.many ∙ opened.store.slots_are ∙ sym (length-map opened.cells g.V.C.Cell.state) ∙ count) (subst (λ (n : ℕ). IsRow g.V.C.Cell.state n c.close_counted-cells.result.cells.items) opened.store.slot_is closed.row)
 
 pub end_stations-requires-after_bounds : goal.end_stations-requires-after_bounds
 end_stations-requires-after_bounds g c κs within =
@@ -78,15 +78,15 @@ returns-clause-ran g c =
         middle = g.V.Volume.files c.open_store.new.volume;
         opened = opened;
         left = c.serve_by_stations-served.new.passes.items;
-        cells = c.close_store.result.items;
-        closed = c.close_store.ensures;
+        cells = c.close_counted-cells.result.cells.items;
+        closed = c.close_counted-cells.ensures.closed;
         back = λ t. c.end_stations.ensures.files
             ∙ c.give_back.ensures.back _ _ _ t (ap (λ files. get files c.args.name.now) c.serve_by_stations-served.ensures.files ∙ c.opened_cells_are_the_files.ensures.away _ _ _ _ _ _ _ (opened.out t))
-            ∙ ap (λ files. insert files c.args.name.now (Home (g.V.C.Cell.state c.in-Ok.open.header) (map g.V.C.Cell.state c.close_store.result.items) (rest_cut c.args.slot (bytes_of (opened.out t).was)))) c.serve_by_stations-served.ensures.files;
+            ∙ ap (λ files. insert files c.args.name.now (Home (g.V.C.Cell.state c.in-Ok.open.header) (map g.V.C.Cell.state c.close_counted-cells.result.cells.items) (rest_cut c.args.slot (bytes_of (opened.out t).was)))) c.serve_by_stations-served.ensures.files;
       };
       stations = stations.items;
       served = served;
-      ended = all_ended _ (counts (g.V.Volume.faults c.open_store.new.volume) (g.V.Volume.made c.open_store.new.volume) (g.V.Volume.ended c.open_store.new.volume)) _ (map g.V.St.Station.faults stations.items) c.in-Ok.ensures.one
+      ended = all_ended _ (counts g.V.Volume.faults g.V.Volume.made g.V.Volume.ended c.open_store.new.volume) _ (map g.V.St.Station.faults stations.items) c.in-Ok.ensures.one
           (c.end_stations.ensures.made ∙ c.give_back.ensures.made ∙ c.serve_by_stations-served.ensures.made ∙ ap (λ (n : ℕ). g.V.Volume.made c.open_store.new.volume + n) (stations.ok.0 ∙ sym (length-map stations.items g.V.St.Station.faults)))
           (c.end_stations.ensures.ended ∙ ap (λ (xs : List ℕ). xs ++ map g.V.St.Station.faults stations.items) (c.give_back.ensures.ended ∙ c.serve_by_stations-served.ensures.ended));
     }) c.serve_by_stations-served.ensures.played
@@ -94,13 +94,13 @@ returns-clause-ran g c =
 pub returns-clause-refused : goal.returns-clause-refused
 returns-clause-refused g c =
     let stations = c.serve_by_stations-served.new.stations in
-    let middle = counts (g.V.Volume.faults c.open_store.new.volume) (g.V.Volume.made c.open_store.new.volume) (g.V.Volume.ended c.open_store.new.volume) in
+    let middle = counts g.V.Volume.faults g.V.Volume.made g.V.Volume.ended c.open_store.new.volume in
     let made = c.end_stations.ensures.made ∙ c.give_back.ensures.made ∙ c.serve_by_stations-served.ensures.made ∙ ap (λ (n : ℕ). g.V.Volume.made c.open_store.new.volume + n) (stations.ok.0 ∙ sym (length-map stations.items g.V.St.Station.faults)) in
     let ended = c.end_stations.ensures.ended ∙ ap (λ (xs : List ℕ). xs ++ map g.V.St.Station.faults stations.items) (c.give_back.ensures.ended ∙ c.serve_by_stations-served.ensures.ended) in
     let size = sized c.args.slot (λ n. ok_not_err _ _ (c.in-Ok.ensures.bad_slot n)) in
     let passes = as_passes c.args.workers (λ n. ok_not_err _ _ (c.in-Ok.ensures.bad_passes size n)) in
     let first = (c.in-Ok.ensures.unfailed (ok_not_err _ _)).faults in
-    if_err _ _ c.serve_by_stations-served.result (λ fault ends. ends_serving (counts (g.V.Volume.faults c.args.volume.now) (g.V.Volume.made c.args.volume.now) (g.V.Volume.ended c.args.volume.now)) middle (counts (g.V.Volume.faults c.end_stations.new.volume) (g.V.Volume.made c.end_stations.new.volume) (g.V.Volume.ended c.end_stations.new.volume)) (map g.V.St.Station.faults stations.items) c.in-Ok.ensures.one made ended c.args.slot c.args.anchors c.args.workers fault size passes first
+    if_err _ _ c.serve_by_stations-served.result (λ fault ends. ends_serving (counts g.V.Volume.faults g.V.Volume.made g.V.Volume.ended c.args.volume.now) middle (counts g.V.Volume.faults g.V.Volume.made g.V.Volume.ended c.end_stations.new.volume) (map g.V.St.Station.faults stations.items) c.in-Ok.ensures.one made ended c.args.slot c.args.anchors c.args.workers fault size passes first
     (subst (λ (n : ℕ). ServingEnds (g.V.Volume.faults c.open_store.new.volume) n fault) (sym (c.end_stations.ensures.faults ∙ c.give_back.ensures.faults)) ends)) c.serve_by_stations-served.ensures.refused
 
 pub returns-clause-says : goal.returns-clause-says
@@ -118,11 +118,11 @@ returns-clause-kept g c = let opened = subst (λ (o : List Line). OpensStore g.V
       middle = g.V.Volume.files c.open_store.new.volume;
       opened = opened;
       left = c.serve_by_stations-served.new.passes.items;
-      cells = c.close_store.result.items;
-      closed = c.close_store.ensures;
+      cells = c.close_counted-cells.result.cells.items;
+      closed = c.close_counted-cells.ensures.closed;
       back = λ t. c.end_stations.ensures.files
           ∙ c.give_back.ensures.back _ _ _ t (ap (λ files. get files c.args.name.now) c.serve_by_stations-served.ensures.files ∙ c.opened_cells_are_the_files.ensures.away _ _ _ _ _ _ _ (opened.out t))
-          ∙ ap (λ files. insert files c.args.name.now (Home (g.V.C.Cell.state c.in-Ok.open.header) (map g.V.C.Cell.state c.close_store.result.items) (rest_cut c.args.slot (bytes_of (opened.out t).was)))) c.serve_by_stations-served.ensures.files;
+          ∙ ap (λ files. insert files c.args.name.now (Home (g.V.C.Cell.state c.in-Ok.open.header) (map g.V.C.Cell.state c.close_counted-cells.result.cells.items) (rest_cut c.args.slot (bytes_of (opened.out t).was)))) c.serve_by_stations-served.ensures.files;
     }) c.serve_by_stations-served.ensures.refused
 
 pub returns-in-Err-clause-kept : goal.returns-in-Err-clause-kept
@@ -142,16 +142,16 @@ returns-clause-back g c t home =
 pub returns-clause-ended : goal.returns-clause-ended
 returns-clause-ended g c =
     let stations = c.serve_by_stations-served.new.stations in
-    let middle = counts (g.V.Volume.faults c.open_store.new.volume) (g.V.Volume.made c.open_store.new.volume) (g.V.Volume.ended c.open_store.new.volume) in
+    let middle = counts g.V.Volume.faults g.V.Volume.made g.V.Volume.ended c.open_store.new.volume in
     let made = c.end_stations.ensures.made ∙ c.give_back.ensures.made ∙ c.serve_by_stations-served.ensures.made ∙ ap (λ (n : ℕ). g.V.Volume.made c.open_store.new.volume + n) (stations.ok.0 ∙ sym (length-map stations.items g.V.St.Station.faults)) in
     let ended = c.end_stations.ensures.ended ∙ ap (λ (xs : List ℕ). xs ++ map g.V.St.Station.faults stations.items) (c.give_back.ensures.ended ∙ c.serve_by_stations-served.ensures.ended) in
-    inr (0, map g.V.St.Station.faults stations.items, all_ended (counts (g.V.Volume.faults c.args.volume.now) (g.V.Volume.made c.args.volume.now) (g.V.Volume.ended c.args.volume.now)) middle (counts (g.V.Volume.faults c.end_stations.new.volume) (g.V.Volume.made c.end_stations.new.volume) (g.V.Volume.ended c.end_stations.new.volume)) (map g.V.St.Station.faults stations.items) c.in-Ok.ensures.one made ended)
+    inr (0, map g.V.St.Station.faults stations.items, all_ended (counts g.V.Volume.faults g.V.Volume.made g.V.Volume.ended c.args.volume.now) middle (counts g.V.Volume.faults g.V.Volume.made g.V.Volume.ended c.end_stations.new.volume) (map g.V.St.Station.faults stations.items) c.in-Ok.ensures.one made ended)
 
 pub returns-clause-unfailed : goal.returns-clause-unfailed
 returns-clause-unfailed g c none =
     let stations = c.serve_by_stations-served.new.stations in
-    let middle = counts (g.V.Volume.faults c.open_store.new.volume) (g.V.Volume.made c.open_store.new.volume) (g.V.Volume.ended c.open_store.new.volume) in
+    let middle = counts g.V.Volume.faults g.V.Volume.made g.V.Volume.ended c.open_store.new.volume in
     let made = c.end_stations.ensures.made ∙ c.give_back.ensures.made ∙ c.serve_by_stations-served.ensures.made ∙ ap (λ (n : ℕ). g.V.Volume.made c.open_store.new.volume + n) (stations.ok.0 ∙ sym (length-map stations.items g.V.St.Station.faults)) in
     let ended = c.end_stations.ensures.ended ∙ ap (λ (xs : List ℕ). xs ++ map g.V.St.Station.faults stations.items) (c.give_back.ensures.ended ∙ c.serve_by_stations-served.ensures.ended) in
-    none_failed (counts (g.V.Volume.faults c.args.volume.now) (g.V.Volume.made c.args.volume.now) (g.V.Volume.ended c.args.volume.now)) middle (counts (g.V.Volume.faults c.end_stations.new.volume) (g.V.Volume.made c.end_stations.new.volume) (g.V.Volume.ended c.end_stations.new.volume)) (map g.V.St.Station.faults stations.items) c.in-Ok.ensures.one made ended (c.in-Ok.ensures.unfailed (ok_not_err _ _)).faults
+    none_failed (counts g.V.Volume.faults g.V.Volume.made g.V.Volume.ended c.args.volume.now) middle (counts g.V.Volume.faults g.V.Volume.made g.V.Volume.ended c.end_stations.new.volume) (map g.V.St.Station.faults stations.items) c.in-Ok.ensures.one made ended (c.in-Ok.ensures.unfailed (ok_not_err _ _)).faults
     (c.end_stations.ensures.faults ∙ c.give_back.ensures.faults ∙ c.serve_by_stations-served.ensures.unfailed none)

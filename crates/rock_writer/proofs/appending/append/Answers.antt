@@ -1,4 +1,4 @@
-use Rattle.std.proofs.Common.{Err, List, [], ap, arith, eq-eqb, inl, inr, length, refl, subst, sym, ◌+◌, ◌-◌, ◌∷◌, ◌≡◌, ◌≢◌, ◌∙◌, ℕ}
+use Rattle.std.proofs.Common.{Err, List, [], ap, arith, eq-eqb, inl, inr, length, refl, subst, sym, ℕ, ◌+◌, ◌-◌, ◌∙◌, ◌∷◌, ◌≡◌, ◌≢◌}
 use Rattle.std.proofs.lemmas.Bool.{eqb-true, false≢true}
 use Rattle.entry_cut.specs.Content.{room_of}
 use Rattle.tab_states.specs.Desks.{draft_at}
@@ -10,6 +10,8 @@ use Rattle.rock_writer.proofs.Durable.{appended_so_far}
 use Rattle.rock_writer.proofs.Following.{err_is, err_of, no_err, writing_desk, writing_halting, writing_on}
 use Rattle.rock_writer.proofs.Publishing.{same_view}
 use Rattle.rock_writer.proofs.Taking.{full_there, may_flush, not_full, place_there, room_there, took}
+use Rattle.store_rule.proofs.Quieting.{quiet_same, quiet_then}
+use Rattle.store_rule.specs.Told.{the_view}
 use Rattle.rock_writer.proofs.appending.append.Goals as goal
 
 -- no bytes
@@ -114,3 +116,15 @@ returns-in-Err-clause-during g c e = left_during_append g.C.Cell.tells g.C.Cell.
 
 pub returns-clause-during : goal.returns-clause-during
 returns-clause-during g c e = left_during_append g.C.Cell.tells g.C.Cell.state g.O.Origin.offers c.args.store.now c.args.tab e c.args.pass.now c.fill-2.new.pass c.args.bytes.now
+
+pub returns-then-is_empty-clause-quiet : goal.returns-then-is_empty-clause-quiet
+returns-then-is_empty-clause-quiet g c = quiet_same _ _ refl
+
+pub returns-then-not-is_full-clause-quiet : goal.returns-then-not-is_full-clause-quiet
+returns-then-not-is_full-clause-quiet g c = quiet_same _ _ (ap (λ z. (the_view z.me.0).trail) c.fill.ensures.kept.seat)
+
+pub returns-in-Err-clause-quiet : goal.returns-in-Err-clause-quiet
+returns-in-Err-clause-quiet g c = quiet_then c.flush.ensures.quiet c.halt.ensures.quiet
+
+pub returns-clause-quiet : goal.returns-clause-quiet
+returns-clause-quiet g c = quiet_then c.flush.ensures.quiet (quiet_same _ _ (ap (λ z. (the_view z.me.0).trail) c.fill-2.ensures.kept.seat))

@@ -8,6 +8,8 @@ use Rattle.rock_writer.proofs.Durable.{begun_so_far}
 use Rattle.rock_writer.proofs.Following.{no_err, writing_desk, writing_halting, writing_on, writing_one}
 use Rattle.rock_writer.proofs.Parting.{halting_inner}
 use Rattle.rock_writer.proofs.Publishing.{same_view}
+use Rattle.store_rule.proofs.Quieting.{quiet_same, quiet_then}
+use Rattle.store_rule.specs.Told.{the_view}
 use Rattle.rock_writer.proofs.beginning.begin.Goals as goal
 
 pub clear-requires : goal.clear-requires
@@ -56,3 +58,6 @@ returns-clause-others g c = writing_on g.C.Cell.tells g.C.Cell.state g.O.Origin.
 
 pub returns-clause-durable : goal.returns-clause-durable
 returns-clause-durable g c = begun_so_far g.C.Cell.tells g.C.Cell.state g.O.Origin.offers c.args.store.now c.args.tab _ c.start.new.pass (returns-clause-ok g c).writes refl
+
+pub returns-clause-quiet : goal.returns-clause-quiet
+returns-clause-quiet g c = quiet_then (quiet_then c.take_anchor.ensures.quiet c.clear.ensures.quiet) (quiet_then c.name_entry.ensures.quiet (quiet_same _ _ (ap (λ z. (the_view z.me.0).trail) c.start.ensures.kept.seat)))

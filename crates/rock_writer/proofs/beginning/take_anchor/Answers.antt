@@ -8,6 +8,7 @@ use Rattle.store_rule.proofs.Following.{follows_on}
 use Rattle.rock_writer.proofs.Begun.{grows_drew, looked_seen, take_may}
 use Rattle.rock_writer.proofs.Following.{kept_follows}
 use Rattle.rock_writer.proofs.Seeing.{fresh_grows, grows_on, grows_same, grows_step, seen_grows}
+use Rattle.store_rule.proofs.Quieting.{quiet_then}
 use Rattle.rock_writer.proofs.beginning.take_anchor.Goals as goal
 
 pub take-requires-clause-may : goal.take-requires-clause-may
@@ -61,3 +62,12 @@ returns-in-Err-take-clause-err g c = let looks = subst (λ n. Steps (basis g.C.C
             let n = epoch_of-word_number c.look-looked.result c.look-looked.ensures.in_range.readers in let d = found.above in omega (arith, a, b, n, d);
       },
     )
+
+pub returns-in-Ok-take-clause-quiet : goal.returns-in-Ok-take-clause-quiet
+returns-in-Ok-take-clause-quiet g c = quiet_then (quiet_then c.look-looked.ensures.quiet c.draw.ensures.quiet) c.take.ensures.quiet
+
+pub returns-in-Err-take-clause-quiet : goal.returns-in-Err-take-clause-quiet
+returns-in-Err-take-clause-quiet g c = quiet_then (quiet_then c.look-looked.ensures.quiet c.draw.ensures.quiet) c.take.ensures.quiet
+
+pub returns-in-Err-clause-quiet : goal.returns-in-Err-clause-quiet
+returns-in-Err-clause-quiet g c = quiet_then c.look-looked.ensures.quiet c.draw.ensures.quiet

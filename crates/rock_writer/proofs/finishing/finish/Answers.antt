@@ -17,6 +17,7 @@ use Rattle.rock_writer.proofs.Ending.{at_anchor, doom_is, may_part_closed, may_r
 use Rattle.rock_writer.proofs.Following.{err_of, writing_halting, writing_on, writing_one}
 use Rattle.rock_writer.proofs.Seeing.{fresh_grows, grows_last, grows_on, grows_parted, grows_step}
 use Rattle.rock_writer.proofs.Unlinking.{at_hand}
+use Rattle.store_rule.proofs.Quieting.{quiet_then}
 use Rattle.rock_writer.proofs.finishing.finish.Goals as goal
 
 pub returns-in-Err-clause-err : goal.returns-in-Err-clause-err
@@ -87,3 +88,9 @@ returns-in-Err-clause-during g c e = left_during_finish g.C.Cell.tells g.C.Cell.
 
 pub returns-clause-during : goal.returns-clause-during
 returns-clause-during g c e = left_during_finish g.C.Cell.tells g.C.Cell.state g.O.Origin.offers c.args.store.now c.args.tab e c.args.pass.now c.part.new.pass
+
+pub returns-in-Err-clause-quiet : goal.returns-in-Err-clause-quiet
+returns-in-Err-clause-quiet g c = quiet_then c.write_last.ensures.quiet c.halt.ensures.quiet
+
+pub returns-clause-quiet : goal.returns-clause-quiet
+returns-clause-quiet g c = quiet_then (quiet_then c.write_last.ensures.quiet c.advance-word.ensures.quiet) c.part.ensures.quiet

@@ -13,6 +13,7 @@ use Rattle.rock_writer.proofs.Following.{writing_evicting, writing_on}
 use Rattle.rock_writer.proofs.Publishing.{may_halt}
 use Rattle.rock_writer.proofs.Resting.{out_may_halt, slot_rests}
 use Rattle.rock_writer.proofs.Sizes.{whole_size}
+use Rattle.store_rule.proofs.Quieting.{quiet_then}
 use Rattle.rock_writer.proofs.finishing.write_last.Goals as goal
 
 pub returns-in_default-clause-halts : goal.returns-in_default-clause-halts
@@ -65,3 +66,9 @@ returns-in-Err-clause-others g c = writing_on g.C.Cell.tells g.C.Cell.state g.O.
 pub returns-in-Ok-publish_piece-clause-durable : goal.returns-in-Ok-publish_piece-clause-durable
 returns-in-Ok-publish_piece-clause-durable g c e h durable so_far = let ws = whole_size (basis g.C.Cell.tells g.C.Cell.state g.O.Origin.offers c.args.store.now) e (c.written_meta_is_spelled.ensures.size (key_of (url_in (basis g.C.Cell.tells g.C.Cell.state g.O.Origin.offers c.args.store.now) e)) (url_in (basis g.C.Cell.tells g.C.Cell.state g.O.Origin.offers c.args.store.now) e) (c.keys_have_16_bytes.ensures.length (url_in (basis g.C.Cell.tells g.C.Cell.state g.O.Origin.offers c.args.store.now) e))) in
     last_whole g.C.Cell.tells g.C.Cell.state g.O.Origin.offers c.args.store.now c.args.tab e c.args.pass.now c.publish_piece.new.pass c.publish_piece.new.pass.hand h ws durable (returns-in-Ok-publish_piece-clause-ok g c e h) so_far
+
+pub returns-in-Ok-publish_piece-clause-quiet : goal.returns-in-Ok-publish_piece-clause-quiet
+returns-in-Ok-publish_piece-clause-quiet g c = quiet_then c.slot_for_piece.ensures.quiet c.publish_piece.ensures.quiet
+
+pub returns-in-Err-clause-quiet : goal.returns-in-Err-clause-quiet
+returns-in-Err-clause-quiet g c = quiet_then c.slot_for_piece.ensures.quiet c.publish_piece.ensures.quiet

@@ -14,6 +14,8 @@ use Rattle.rock_writer.proofs.Growing.{goes_on, may_publish_piece, may_raise, ra
 use Rattle.rock_writer.proofs.Publishing.{may_halt, same_view}
 use Rattle.rock_writer.proofs.Sizes.{whole_size}
 use Rattle.rock_writer.proofs.Unlinking.{at_hand}
+use Rattle.store_rule.proofs.Quieting.{quiet_same, quiet_then}
+use Rattle.store_rule.specs.Told.{the_view}
 use Rattle.rock_writer.proofs.flushing.flush.Goals as goal
 
 pub returns-in_default-reserve_both-clause-others : goal.returns-in_default-reserve_both-clause-others
@@ -79,3 +81,9 @@ returns-clause-others g c = writing_on g.C.Cell.tells g.C.Cell.state g.O.Origin.
     (writing_evicting g.C.Cell.tells g.C.Cell.state g.O.Origin.offers c.args.store.now c.args.tab c.args.pass.now c.reserve_both.new.pass c.reserve_both.ensures.others) c.publish_piece.ensures.others)
     (writing_one g.C.Cell.tells g.C.Cell.state g.O.Origin.offers c.args.store.now c.args.tab c.publish_piece.new.pass c.raise_first.new.pass c.raise_first.ensures.others))
     (writing_desk g.C.Cell.tells g.C.Cell.state g.O.Origin.offers c.args.store.now c.args.tab c.raise_first.new.pass c.next_piece.new.pass c.next_piece.ensures.kept c.next_piece.ensures.own)
+
+pub returns-in-Err-clause-quiet : goal.returns-in-Err-clause-quiet
+returns-in-Err-clause-quiet g c = quiet_then c.reserve_both.ensures.quiet c.publish_piece.ensures.quiet
+
+pub returns-clause-quiet : goal.returns-clause-quiet
+returns-clause-quiet g c = quiet_then (quiet_then c.reserve_both.ensures.quiet c.publish_piece.ensures.quiet) (quiet_then c.raise_first.ensures.quiet (quiet_same _ _ (ap (λ z. (the_view z.me.0).trail) c.next_piece.ensures.kept.seat)))

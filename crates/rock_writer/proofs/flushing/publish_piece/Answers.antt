@@ -1,4 +1,4 @@
-use Rattle.std.proofs.Common.{ap, refl, subst, sym, true, ◌<◌, ◌∙◌, ℕ}
+use Rattle.std.proofs.Common.{ap, refl, subst, sym, true, ℕ, ◌<◌, ◌∙◌}
 use Rattle.core_model.specs.Tabs.{tab_at}
 use Rattle.tab_states.specs.Desks.{buffer_at}
 use Rattle.store_rule.specs.Passes.{basis, view}
@@ -8,6 +8,8 @@ use Rattle.slice_chain.specs.Writes.{WroteSlot}
 use Rattle.rock_writer.proofs.Publishing.{first_fits, may_publish, may_write, next_fits, same_view, sealed_is, w}
 use Rattle.rock_writer.proofs.Following.{when_ok, writing_desk, writing_on, writing_one}
 use Rattle.rock_writer.proofs.Unlinking.{at_hand}
+use Rattle.store_rule.proofs.Quieting.{quiet_same, quiet_then}
+use Rattle.store_rule.specs.Told.{the_view}
 use Rattle.rock_writer.proofs.flushing.publish_piece.Goals as goal
 
 pub seal-requires-clause-first : goal.seal-requires-clause-first
@@ -44,3 +46,9 @@ returns-clause-others g c = writing_on g.C.Cell.tells g.C.Cell.state g.O.Origin.
     (writing_desk g.C.Cell.tells g.C.Cell.state g.O.Origin.offers c.args.store.now c.args.tab c.args.pass.now c.seal.new.pass c.seal.ensures.kept c.seal.ensures.own)
     (writing_one g.C.Cell.tells g.C.Cell.state g.O.Origin.offers c.args.store.now c.args.tab c.seal.new.pass c.write_slot.new.pass c.write_slot.ensures.others))
     (writing_one g.C.Cell.tells g.C.Cell.state g.O.Origin.offers c.args.store.now c.args.tab c.write_slot.new.pass c.publish.new.pass c.publish.ensures.others)
+
+pub returns-in-Err-clause-quiet : goal.returns-in-Err-clause-quiet
+returns-in-Err-clause-quiet g c = quiet_then (quiet_same _ _ (ap (λ z. (the_view z.me.0).trail) c.seal.ensures.kept.seat)) c.write_slot.ensures.quiet
+
+pub returns-clause-quiet : goal.returns-clause-quiet
+returns-clause-quiet g c = quiet_then (quiet_then (quiet_same _ _ (ap (λ z. (the_view z.me.0).trail) c.seal.ensures.kept.seat)) c.write_slot.ensures.quiet) c.publish.ensures.quiet

@@ -4,6 +4,7 @@ use Rattle.rock_writer.specs.Flushing.{SlotFor}
 use Rattle.rock_writer.proofs.Following.{evicting_on, on_err}
 use Rattle.rock_writer.proofs.Resting.{may_claim, out_may_halt, reserved_rests, slot_rests}
 use Rattle.core_model.specs.Chains.{slots_of_link}
+use Rattle.store_rule.proofs.Quieting.{quiet_then}
 use Rattle.rock_writer.proofs.flushing.reserve_both.Goals as goal
 
 pub returns-in_err-slot-clause-halts : goal.returns-in_err-slot-clause-halts
@@ -40,3 +41,9 @@ returns-clause-rests g c e h =
 
 pub returns-clause-others : goal.returns-clause-others
 returns-clause-others g c = evicting_on g.C.Cell.tells g.C.Cell.state g.O.Origin.offers c.args.store.now c.args.tab c.args.pass.now c.slot_for_piece.new.pass c.reserve.new.pass c.slot_for_piece.ensures.others c.reserve.ensures.others
+
+pub returns-in_err-next-clause-quiet : goal.returns-in_err-next-clause-quiet
+returns-in_err-next-clause-quiet g c = quiet_then c.slot_for_piece.ensures.quiet c.reserve.ensures.quiet
+
+pub returns-clause-quiet : goal.returns-clause-quiet
+returns-clause-quiet g c = quiet_then c.slot_for_piece.ensures.quiet c.reserve.ensures.quiet

@@ -5,6 +5,7 @@ use Rattle.rock_writer.specs.Halting.{GaveBack, first_of, second_of}
 use Rattle.rock_writer.proofs.Unlinking.{at_hand, first_is, may_first, may_second}
 use Rattle.core_model.specs.Tabs.{tab_at}
 use Rattle.store_rule.proofs.Following.{follows_on}
+use Rattle.store_rule.proofs.Quieting.{quiet_then}
 use Rattle.rock_writer.proofs.halting.give_unlinked.Goals as goal
 
 pub give_back-requires : goal.give_back-requires
@@ -33,3 +34,6 @@ returns-clause-gave g c = let x = at_hand (tab_at (view c.args.pass.now) c.args.
 
 pub returns-clause-others : goal.returns-clause-others
 returns-clause-others g c = follows_on g.C.Cell.tells g.C.Cell.state g.O.Origin.offers c.args.store.now c.args.tab c.args.pass.now c.give_back.new.pass c.give_back-2.new.pass c.give_back.ensures.others c.give_back-2.ensures.others
+
+pub returns-clause-quiet : goal.returns-clause-quiet
+returns-clause-quiet g c = quiet_then c.give_back.ensures.quiet c.give_back-2.ensures.quiet

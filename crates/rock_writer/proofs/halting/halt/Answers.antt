@@ -3,6 +3,7 @@ use Rattle.lock_word.specs.declared.stage.Stage.{Stage}
 use Rattle.rock_writer.proofs.Parting.{halting_of, halting_on, may_part}
 use Rattle.rock_writer.proofs.Unlinking.{after, last, may_halt}
 use Rattle.store_rule.proofs.Following.{follows_on}
+use Rattle.store_rule.proofs.Quieting.{quiet_then}
 use Rattle.rock_writer.proofs.halting.halt.Goals as goal
 
 pub advance-requires : goal.advance-requires
@@ -18,3 +19,6 @@ pub returns-clause-others : goal.returns-clause-others
 returns-clause-others g c = halting_on g.C.Cell.tells g.C.Cell.state g.O.Origin.offers c.args.store.now c.args.tab c.args.pass.now c.advance.new.pass c.part.new.pass
     (halting_of g.C.Cell.tells g.C.Cell.state g.O.Origin.offers c.args.store.now c.args.tab c.args.pass.now c.advance.new.pass (follows_on g.C.Cell.tells g.C.Cell.state g.O.Origin.offers c.args.store.now c.args.tab c.args.pass.now c.give_unlinked.new.pass c.advance.new.pass c.give_unlinked.ensures.others c.advance.ensures.others))
     c.part.ensures.others
+
+pub returns-clause-quiet : goal.returns-clause-quiet
+returns-clause-quiet g c = quiet_then (quiet_then c.give_unlinked.ensures.quiet c.advance.ensures.quiet) c.part.ensures.quiet

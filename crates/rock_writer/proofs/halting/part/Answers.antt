@@ -4,6 +4,7 @@ use Rattle.rw_anchor.specs.Calls.{Leaves}
 use Rattle.rw_anchor.specs.declared.Left.{Left}
 use Rattle.rock_writer.proofs.Parting.{freed_tabs, gave_up_done, gives_up, halting_inner, halting_of, halting_on, may_free}
 use Rattle.store_rule.proofs.Passing.{pass_of}
+use Rattle.store_rule.proofs.Quieting.{quiet_then}
 use Rattle.rock_writer.proofs.halting.part.Goals as goal
 
 pub free_chain-requires : goal.free_chain-requires
@@ -32,3 +33,6 @@ pub returns-in-MustFree-clause-others : goal.returns-in-MustFree-clause-others
 returns-in-MustFree-clause-others g c = halting_on g.C.Cell.tells g.C.Cell.state g.O.Origin.offers c.args.store.now c.args.tab c.args.pass.now c.leave.new.pass c.free_chain.new.pass
     (halting_of g.C.Cell.tells g.C.Cell.state g.O.Origin.offers c.args.store.now c.args.tab c.args.pass.now c.leave.new.pass c.leave.ensures.others)
     (halting_inner g.C.Cell.tells g.C.Cell.state g.O.Origin.offers c.args.store.now c.args.tab c.leave.new.pass c.free_chain.new.pass c.free_chain.ensures.others)
+
+pub returns-in-MustFree-clause-quiet : goal.returns-in-MustFree-clause-quiet
+returns-in-MustFree-clause-quiet g c = quiet_then c.leave.ensures.quiet c.free_chain.ensures.quiet

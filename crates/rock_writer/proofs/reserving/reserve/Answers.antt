@@ -1,6 +1,7 @@
 use Rattle.store_rule.specs.Passes.{view}
 use Rattle.rock_writer.proofs.Following.{evicting_on, evicting_one, if_ok_weaker, on_err_weaker}
 use Rattle.rock_writer.proofs.Resting.{may_evict, ran_out, reserved_by}
+use Rattle.store_rule.proofs.Quieting.{quiet_then}
 use Rattle.rock_writer.proofs.reserving.reserve.Goals as goal
 
 pub evict_one-requires : goal.evict_one-requires
@@ -22,3 +23,6 @@ returns-in-Err-clause-err g c = on_err_weaker c.evict_one.result
 pub returns-in-Err-clause-others : goal.returns-in-Err-clause-others
 returns-in-Err-clause-others g c = evicting_on g.C.Cell.tells g.C.Cell.state g.O.Origin.offers c.args.store.now c.args.tab c.args.pass.now c.claim.new.pass c.evict_one.new.pass
     (evicting_one g.C.Cell.tells g.C.Cell.state g.O.Origin.offers c.args.store.now c.args.tab c.args.pass.now c.claim.new.pass c.claim.ensures.others) c.evict_one.ensures.others
+
+pub returns-in-Err-clause-quiet : goal.returns-in-Err-clause-quiet
+returns-in-Err-clause-quiet g c = quiet_then c.claim.ensures.quiet c.evict_one.ensures.quiet

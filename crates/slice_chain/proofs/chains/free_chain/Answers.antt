@@ -1,6 +1,7 @@
 use Rattle.std.proofs.Common.{Option, ap, subst, sym, ◌∙◌, ℕ}
 use Rattle.slice_chain.specs.Freeing.{MayFreeRest, is_freeing_anchor}
 use Rattle.slice_chain.proofs.FreeingChain.{chain_follows, counted_gone, counted_other, freed_gone, freed_other, may_end, may_rest, rest_follows, start_fits}
+use Rattle.store_rule.proofs.Quieting.{quiet_step, quiet_then}
 use Rattle.slice_chain.proofs.chains.free_chain.Goals as goal
 
 pub first_slot-requires : goal.first_slot-requires
@@ -35,3 +36,9 @@ returns-then-is_freeing-clause-counted g c = let on = ap is_freeing_anchor (sym 
 pub returns-else-is_freeing-clause-counted : goal.returns-else-is_freeing-clause-counted
 returns-else-is_freeing-clause-counted g c = let off = ap is_freeing_anchor (sym c.requires.is) ∙ sym c.frees_anchor-is_freeing.ensures ∙ c.if-is_freeing.false in
     counted_other g.C.Cell.tells g.C.Cell.state g.O.Origin.offers c.args.store.now c.args.pass.now c.requires c.load_side-start.result c.load_side-start.new.pass c.load_side-start.ensures c.free_rest.new.pass c.free_rest.ensures.freed c.free_rest.ensures.others.own off
+
+pub returns-then-is_freeing-clause-quiet : goal.returns-then-is_freeing-clause-quiet
+returns-then-is_freeing-clause-quiet g c = quiet_then (quiet_step c.load_side-start.ensures.step tt) (quiet_then c.free_rest.ensures.quiet (quiet_step c.raise.ensures.made.step tt))
+
+pub returns-else-is_freeing-clause-quiet : goal.returns-else-is_freeing-clause-quiet
+returns-else-is_freeing-clause-quiet g c = quiet_then (quiet_step c.load_side-start.ensures.step tt) c.free_rest.ensures.quiet

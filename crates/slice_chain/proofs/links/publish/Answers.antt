@@ -5,6 +5,7 @@ use Rattle.core_model.specs.Tabs.{tab_at}
 use Rattle.store_rule.specs.Passes.{Made, basis, view}
 use Rattle.store_rule.specs.Told.{Steps}
 use Rattle.slice_chain.proofs.Linking.{may_start, none_published}
+use Rattle.store_rule.proofs.Quieting.{quiet_step, quiet_then}
 use Rattle.slice_chain.proofs.links.publish.Goals as goal
 
 pub store_side-requires : goal.store_side-requires
@@ -20,3 +21,9 @@ returns-in-Some-clause-published g c = inl record {
   found = c.store_side.ensures.found;
   started = c.store_side.ensures.step;
 }
+
+pub returns-in-Some-clause-quiet : goal.returns-in-Some-clause-quiet
+returns-in-Some-clause-quiet g c = quiet_then (quiet_step c.set_link.ensures.step tt) (quiet_step c.store_side.ensures.step tt)
+
+pub returns-else-writing-eq0-clause-quiet : goal.returns-else-writing-eq0-clause-quiet
+returns-else-writing-eq0-clause-quiet g c = quiet_step c.set_link.ensures.step tt

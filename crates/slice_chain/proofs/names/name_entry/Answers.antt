@@ -6,6 +6,7 @@ use Rattle.store_rule.specs.Passes.{basis, view}
 use Rattle.store_rule.specs.Told.{Steps}
 use Rattle.store_rule.proofs.Following.{follows_on}
 use Rattle.slice_chain.proofs.Naming.{Ready, may_store, ready_on, stored_follows}
+use Rattle.store_rule.proofs.Quieting.{quiet_step, quiet_then}
 use Rattle.slice_chain.proofs.names.name_entry.Goals as goal
 
 pub store_side-requires-2 : goal.store_side-requires-2
@@ -47,3 +48,6 @@ returns-clause-others g c = let t = c.args.tab in let b = c.requires.below in
     (follows_on g.C.Cell.tells g.C.Cell.state g.O.Origin.offers c.args.store.now t c.args.pass.now c.store_side.new.pass c.store_side-2.new.pass (stored_follows g.C.Cell.tells g.C.Cell.state g.O.Origin.offers c.args.store.now t b _ _ _ _ c.store_side.ensures) (stored_follows g.C.Cell.tells g.C.Cell.state g.O.Origin.offers c.args.store.now t b _ _ _ _ c.store_side-2.ensures))
     (stored_follows g.C.Cell.tells g.C.Cell.state g.O.Origin.offers c.args.store.now t b _ _ _ _ c.store_side-3.ensures))
     (stored_follows g.C.Cell.tells g.C.Cell.state g.O.Origin.offers c.args.store.now t b _ _ _ _ c.store_side-4.ensures)
+
+pub returns-clause-quiet : goal.returns-clause-quiet
+returns-clause-quiet g c = quiet_then (quiet_then (quiet_step c.store_side.ensures.step tt) (quiet_step c.store_side-2.ensures.step tt)) (quiet_then (quiet_step c.store_side-3.ensures.step tt) (quiet_step c.store_side-4.ensures.step tt))

@@ -3,6 +3,7 @@ use Rattle.store_rule.specs.Passes.{basis, view}
 use Rattle.store_rule.specs.Setting.{shown}
 use Rattle.slice_chain.specs.Reads.{ReadSlot}
 use Rattle.slice_chain.proofs.ReadingSlots.{follows, has_returned, known_slot, may_end_turn, may_put, own3, read, read_bytes, taken, when_err, when_ok, wide_enough}
+use Rattle.slice_chain.proofs.Quieting.{read_quiet}
 use Rattle.slice_chain.proofs.slots.read_slot.Goals as goal
 
 pub read_cell-result-requires : goal.read_cell-result-requires
@@ -65,3 +66,6 @@ returns-clause-err g c = let a = c.args in let s = a.store.now in let p = a.pass
       shown g.C.Cell.tells g.C.Cell.state (taken g.C.Cell.tells g.C.Cell.state g.O.Origin.offers s a.tab p may slot e c.wait_turn.new.pass c.wait_turn.ensures out.result out.new.pass out.ensures.out out.ensures.kept).cell,
       subst (λ (b : Bool). ReadSlot (basis g.C.Cell.tells g.C.Cell.state g.O.Origin.offers s) a.tab (view p) b (shown g.C.Cell.tells g.C.Cell.state (taken g.C.Cell.tells g.C.Cell.state g.O.Origin.offers s a.tab p may slot e c.wait_turn.new.pass c.wait_turn.ensures out.result out.new.pass out.ensures.out out.ensures.kept).cell) (view c.end_turn.new.pass)) done (read g.C.Cell.tells g.C.Cell.state g.O.Origin.offers s a.tab p may slot e c.wait_turn.new.pass c.wait_turn.ensures out.result out.new.pass out.ensures.out out.ensures.kept got.new.cell got.ensures.cell got.ensures.lent.0 got.new.pass got.ensures.lent.1 c.cell_in.new.pass c.cell_in.ensures.home c.cell_in.ensures.kept c.is_ok.result _ c.after_reading.ensures c.end_turn.new.pass c.end_turn.ensures),
     ))
+
+pub returns-clause-quiet : goal.returns-clause-quiet
+returns-clause-quiet g c = read_quiet g.C.Cell.tells g.C.Cell.state g.O.Origin.offers c.args.store.now c.args.tab c.in-Some.slot c.wait_turn.ensures c.cell_out-cell.ensures.kept c.read_cell-result.ensures.lent.0 c.read_cell-result.ensures.lent.1 c.cell_in.ensures.kept c.end_turn.ensures

@@ -6,6 +6,7 @@ use Rattle.store_rule.specs.Turns.{TurnFound}
 use Rattle.slice_chain.specs.Written.{IsWrittenCell, MayBeLeft, WentThrough}
 use Rattle.slice_chain.proofs.During.{left_during}
 use Rattle.slice_chain.proofs.Writing.{on_err, always_won, counted, follows, may_end_turn, may_log, may_put, may_try, has_returned, slot_is, taken_cell, wide_enough, wrote}
+use Rattle.slice_chain.proofs.Quieting.{wrote_quiet}
 use Rattle.slice_chain.proofs.slots.write_slot.Goals as goal
 
 pub log_piece-requires : goal.log_piece-requires
@@ -106,3 +107,6 @@ returns-clause-steps g c = let a = c.args in let s = a.store.now in let p = a.pa
 pub returns-clause-during : goal.returns-clause-during
 returns-clause-during g c done wrote = let a = c.args in
     left_during (basis g.C.Cell.tells g.C.Cell.state g.O.Origin.offers a.store.now) a.tab (view a.pass.now) a.durable done (view c.end_turn.new.pass) wrote
+
+pub returns-clause-quiet : goal.returns-clause-quiet
+returns-clause-quiet g c = wrote_quiet g.C.Cell.tells g.C.Cell.state g.O.Origin.offers c.args.store.now c.args.tab c.in-Some.slot c.log_piece.ensures c.try_turn.ensures c.cell_out-cell.ensures.kept c.cell_in.ensures.kept c.end_turn.ensures

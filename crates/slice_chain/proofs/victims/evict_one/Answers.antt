@@ -1,4 +1,4 @@
-use Rattle.std.proofs.Common.{ap, arith, subst, sym, ◌≡◌, ◌∙◌, ℕ}
+use Rattle.std.proofs.Common.{ap, arith, refl, subst, sym, ◌≡◌, ◌∙◌, ℕ}
 use Rattle.core_model.specs.Tabs.{inner}
 use Rattle.store_rule.specs.Passes.{basis, view}
 use Rattle.store_rule.specs.Told.{the_view}
@@ -6,6 +6,7 @@ use Rattle.store_rule.proofs.Passing.{pass_of}
 use Rattle.store_rule.proofs.Following.{follows_none, follows_on}
 use Rattle.slice_chain.specs.Victims.{CountsEvicted, Evicted, KeptFirst, NoneIdle, PassedSome, Spared, Won, hand_in, onward}
 use Rattle.slice_chain.proofs.EvictingOne.{begins_or_none, counted, counted_none, evicts, may_keep, moved_follows, none_idle, not_inner, passed_more, passed_none, round_begins}
+use Rattle.store_rule.proofs.Quieting.{quiet_same, quiet_then}
 use Rattle.slice_chain.proofs.victims.evict_one.Goals as goal
 
 pub loop-steps-init : goal.loop-steps-init
@@ -13,6 +14,7 @@ loop-steps-init g c = record {
   to = omega arith;
   passed = passed_none (basis g.C.Cell.tells g.C.Cell.state g.O.Origin.offers c.args.store.now) c.first_in_round-hand.result (view c.args.pass.now);
   follows = follows_none g.C.Cell.tells g.C.Cell.state g.O.Origin.offers c.args.store.now inner c.args.pass.now c.requires.own;
+  quiet = quiet_same (view c.args.pass.now) (view c.args.pass.now) refl;
 }
 
 pub keep_first-slot-requires : goal.keep_first-slot-requires
@@ -46,6 +48,7 @@ loop-steps-preserved g c = let b = basis g.C.Cell.tells g.C.Cell.state g.O.Origi
       passed = passed_more b c.first_in_round-hand.result (view c.args.pass.now) (round_begins _ _ _ hand_is (omega arith)) c.loop-steps.steps (omega arith) (view c.loop-steps.pass) c.loop-steps.invariant.passed (view c.try_evict.new.pass)
           (subst (λ (a : ℕ). Spared b a (view c.loop-steps.pass) (view c.try_evict.new.pass)) (c.next_in_round-anchor.ensures.value ∙ ap (λ (n : ℕ). onward n c.first_in_round-hand.result c.loop-steps.steps) many) (c.try_evict.ensures.spared c.if-try_evict.false));
       follows = follows_on g.C.Cell.tells g.C.Cell.state g.O.Origin.offers c.args.store.now inner c.args.pass.now c.loop-steps.pass c.try_evict.new.pass c.loop-steps.invariant.follows c.try_evict.ensures.others;
+      quiet = quiet_then c.loop-steps.invariant.quiet c.try_evict.ensures.quiet;
     }
 
 pub returns-clause-err : goal.returns-clause-err
@@ -72,3 +75,6 @@ returns-clause-counted_none g c = let b = basis g.C.Cell.tells g.C.Cell.state g.
     let past = c.loop-steps-test.false in let to = c.loop-steps.invariant.to in
     let all : c.loop-steps.steps ≡ b.setting.anchors = omega arith in
     counted_none b c.first_in_round-hand.result (view p) (view c.loop-steps.pass) (subst (λ (n : ℕ). PassedSome b c.first_in_round-hand.result (view p) n (view c.loop-steps.pass)) all c.loop-steps.invariant.passed)
+
+pub returns-then-try_evict-clause-quiet : goal.returns-then-try_evict-clause-quiet
+returns-then-try_evict-clause-quiet g c = quiet_then (quiet_then c.loop-steps.invariant.quiet c.try_evict.ensures.quiet) (quiet_then c.keep_first-slot.ensures.quiet (quiet_same _ _ (ap (λ z. (the_view z.me.0).trail) c.set_hand.ensures.kept.seat)))

@@ -4,6 +4,7 @@ use Rattle.core_model.specs.Tabs.{inner}
 use Rattle.store_rule.specs.Calls.{Follows}
 use Rattle.store_rule.specs.Passes.{basis, view}
 use Rattle.slice_chain.specs.Victims.{LooksAt}
+use Rattle.store_rule.specs.Quiet.{Quiet}
 use Rattle.slice_chain.proofs.victims.try_evict.Given as goal
 
 -- the epoch rises, or stays while the entry is idle no more
@@ -15,4 +16,5 @@ invariant-loop-word g l = record {
   looks : LooksAt (basis g.C.Cell.tells g.C.Cell.state g.O.Origin.offers l.store) l.anchor (view l.fn.pass) (word_number l.word) (view l.pass);
   range : IsInRange l.word;
   follows : Follows g.C.Cell.tells g.C.Cell.state g.O.Origin.offers l.store inner l.fn.pass l.pass;
+  quiet : Quiet (view l.fn.pass) (view l.pass);
 }

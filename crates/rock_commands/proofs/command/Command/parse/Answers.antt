@@ -1,8 +1,8 @@
 use Rattle.std.proofs.Common.{◌≡◌, length, None, Some, sym, ◌∙◌, subst, refl, arith}
 use Rattle.std.specs.Prelude.{Option, MatchOption, string_bytes}
 use Rattle.rock_commands.specs.Command.{IsCommand}
-use Rattle.rock_commands.specs.CommandLine.{IsName, IsCommandLine}
-use Rattle.rock_commands.proofs.CommandFacts.{three_words, four_words, five_words, no_number, no_two_numbers, found_equal}
+use Rattle.rock_commands.specs.CommandLine.{IsCommandLine}
+use Rattle.rock_commands.proofs.CommandFacts.{three_words, four_words, five_words, no_number, no_two_numbers}
 use Rattle.rock_commands.proofs.command.Command.parse.Goals as goal
 
 none_is_none : {X : Type 0} {o : Option X} {x : X} → o ≡ None → o ≡ Some x → ⊥

@@ -2,7 +2,7 @@ use Rattle.std.proofs.Common.{ap, sym, ◌++◌, ◌∙◌}
 use Rattle.store_rule.specs.Closing.{IsResting, views_of}
 use Rattle.store_rule.specs.Passes.{IsOf, basis, first_cells}
 use Rattle.store_rule.specs.Setting.{form_of}
-use Rattle.store_rule.proofs.CellLists.{front_all, last_all, popped_is}
+use Rattle.store_rule.proofs.ListEnds.{front_all, last_all, popped_is}
 use Rattle.store_rule.proofs.Gathering.{row_grows, views_end}
 use Rattle.store_rule.proofs.Joining.{pass_joins}
 use Rattle.store_rule.proofs.Moves.{some_word}

@@ -1,33 +1,48 @@
 use Rattle.std.proofs.Common.{◌+◌, ◌-◌, ◌≡◌, ◌∙◌, [], ap, arith, refl, sym}
 use Rattle.core_model.specs.Opening.{new_views}
+use Rattle.store_rule.specs.Setting.{form_of}
 use Rattle.store_rule.specs.Passes.{IsNewOf, basis, first_cells}
-use Rattle.store_rule.proofs.CellLists.{popped_is}
-use Rattle.store_rule.proofs.Fresh.{all_end}
-use Rattle.store_rule.proofs.NewPasses.{first_end, hands_front, hands_last, have_own, is_new, nine_words, numbered_end, numbered_so, parted_end}
+use Rattle.store_rule.proofs.ListEnds.{popped_is}
+use Rattle.store_rule.proofs.Fresh.{all_end, views_more}
+use Rattle.store_rule.proofs.Moves.{some_word}
+use Rattle.store_rule.proofs.Noting.{pass_parts}
+use Rattle.store_rule.proofs.NewPasses.{cut_first, cut_others, first_end, hands_front, hands_last, have_own, is_new, nine_free, nine_words, numbered_end, numbered_so, one_view, parted_end}
 use Rattle.store_rule.proofs.store.Store.part_all.Goals as goal
 
+pub split_seat-part-requires : goal.split_seat-part-requires
+split_seat-part-requires g c = let s = c.args.self.now in let l = c.loop-number in let i = l.invariant in let b = basis g.C.Cell.tells g.C.Cell.state g.O.Origin.offers s in
+    (i.own, some_word _ _ _ s.sized, pass_parts (form_of g.C.Cell.tells g.C.Cell.state) b _ _ _ _ ((λ j. (i.left j).0) ∙ views_more b.setting (l.number - 1) (c.len-passes.result - l.number)))
+
+pub new_pass-requires-clause-one : goal.new_pass-requires-clause-one
+new_pass-requires-clause-one g c = let l = c.loop-number in let i = l.invariant in let b = basis g.C.Cell.tells g.C.Cell.state g.O.Origin.offers c.args.self.now in
+    one_view b.setting (l.number - 1) _ (c.split_seat-part.ensures.4 ∙ cut_first b.setting (l.number - 1) (c.len-passes.result - l.number) _ i.left)
+
+pub new_pass-requires-clause-free : goal.new_pass-requires-clause-free
+new_pass-requires-clause-free g c = let l = c.loop-number in let i = l.invariant in let b = basis g.C.Cell.tells g.C.Cell.state g.O.Origin.offers c.args.self.now in
+    nine_free b.setting (l.number - 1) _ (c.split_seat-part.ensures.4 ∙ cut_first b.setting (l.number - 1) (c.len-passes.result - l.number) _ i.left)
+
 pub loop-number-preserved : goal.loop-number-preserved
-loop-number-preserved g c = let l = c.loop-number in let i = l.invariant in let e = c.part-part.ensures in let from = i.from in let count = i.count in
+loop-number-preserved g c = let l = c.loop-number in let i = l.invariant in let e = c.split_seat-part.ensures in let from = i.from in let count = i.count in
     let p = c.in-Ok.ensures in let b = basis g.C.Cell.tells g.C.Cell.state g.O.Origin.offers c.args.self.now in let many = c.len-passes.ensures in
     let low : l.number - 1 + 1 ≡ l.number + 1 - 1 = omega arith in let high : c.len-passes.result - l.number ≡ c.len-passes.result - (l.number + 1) + 1 = omega (arith, c.loop-number-test.true) in
     let popped = popped_is _ _ _ c.in-Some.hand c.pop.ensures.items c.in-Some.is in
     let hands = i.hands in let rest = c.in-Some.ensures.len in let left : c.len-passes.result - 1 - (l.number - 1) ≡ c.len-passes.result - l.number = omega arith in
     let hand = hands_last b.slot (c.len-passes.result - 1 - (l.number - 1)) _ _ c.in-Some.hand popped (sym c.pop.new.self.ok.0 ∙ (omega (arith, hands, rest, left, c.loop-number-test.true))) i.good in
-    let made = c.new_pass.ensures in record {
+    let part = e.4 ∙ cut_first b.setting (l.number - 1) (c.len-passes.result - l.number) _ i.left in let made = c.new_pass.ensures in record {
       from = omega arith;
       to = omega (arith, c.loop-number-test.true);
-      own = e.kept.0 ∙ i.own;
-      left = e.kept.1 ∙ (λ j. (new_views b.setting (low j) (high j), []));
+      own = e.0 ∙ i.own;
+      left = e.2 ∙ cut_others b.setting (l.number - 1) (c.len-passes.result - l.number) _ i.left ∙ (λ j. (new_views b.setting (low j) (high j), []));
       hands = let a = i.hands in let d = c.in-Some.ensures.len in let lt = c.loop-number-test.true in omega arith;
       good = hands_front b.slot _ _ c.in-Some.hand popped i.good;
       pages = c.split-apart.ensures.own.0;
       parted = parted_end c.len-passes.result (l.number - 1) _ c.new_pass.result _ c.in-Some.hand b.slot p.items i.parted (sym l.made.ok.0 ∙ count) made.3 hand;
       count = let q = p.len in omega arith;
       room = let r = i.room in let q = p.capacity in omega arith;
-      numbered = numbered_end _ c.new_pass.result _ (l.number - 1) p.items i.numbered (let n = i.count in omega arith) (numbered_so b.setting c.new_pass.result _ (l.number - 1) made.0 (λ j. (e.part.1 j).0));
+      numbered = numbered_end _ c.new_pass.result _ (l.number - 1) p.items i.numbered (let n = i.count in omega arith) (numbered_so b.setting c.new_pass.result _ (l.number - 1) made.0 (λ j. (part j).0));
       first = first_end _ c.new_pass.result _ _ p.items ∙ ap (first_cells l.made.items) made.5 ∙ i.first;
       fresh = all_end (IsNewOf g.C.Cell.tells g.C.Cell.state g.O.Origin.offers c.args.self.now) _ _ _ p.items i.fresh
-          (is_new g.C.Cell.tells g.C.Cell.state g.O.Origin.offers c.args.self.now _ _ c.in-Some.hand (l.number - 1) _ _ made.0 made.6 made.3 made.4 (e.part.0 ∙ i.own) (λ j. (e.part.1 j).0) (λ j. (e.part.1 j).1)
+          (is_new g.C.Cell.tells g.C.Cell.state g.O.Origin.offers c.args.self.now _ _ c.in-Some.hand (l.number - 1) _ _ made.0 made.6 made.3 made.4 (e.3 ∙ i.own) (λ j. (part j).0) (λ j. (part j).1)
           (c.requires.stands (l.number - 1) (omega (arith, c.loop-number-test.true))) hand c.split-apart.ensures.own.1);
     }
 

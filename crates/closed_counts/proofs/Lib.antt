@@ -1,0 +1,4 @@
+mod Reading
+mod Walking
+mod Mapping
+pub mod Adding

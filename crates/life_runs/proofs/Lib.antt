@@ -1,0 +1,5 @@
+mod Keys
+mod Openings
+mod Ordered
+mod Acting
+mod Along

@@ -1,0 +1,4 @@
+pub mod Images
+pub mod Named
+mod Sane
+pub mod Rebuilds

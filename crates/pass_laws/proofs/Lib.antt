@@ -1,0 +1,2 @@
+pub mod NewPasses
+pub mod Counting

@@ -1,0 +1,100 @@
+-- The rule, part by part: it holds at the opening, after each step, where the cell in a tab's hands is rewritten, and where notes are made
+-- and learned and passes are cut off.
+use Rattle.std.proofs.Common.{List, ap, refl, set, ◌<◌, ◌^◌, ◌≡◌, ℕ}
+use mathlib.Core.Option.{some}
+use lib.ListN.{get_elem?}
+use Rattle.rebuild_model.specs.declared.rebuilt.Rebuilt.{Rebuilt}
+use Rattle.core_model.specs.AllowedByView.{AllowedByView}
+use Rattle.core_model.specs.Anchors.{IsSetting}
+use Rattle.core_model.specs.Offers.{ChoosesRight, OffersStand}
+use Rattle.core_model.specs.Opening.{IsOpened}
+use Rattle.core_model.specs.Sound.{Sound}
+use Rattle.core_model.specs.State.{State}
+use Rattle.core_model.specs.Steps.{after, finding, view_after}
+use Rattle.core_model.specs.Table.{MayStep}
+use Rattle.core_model.specs.TableForms.{MayRewrite, renewed, with_hold}
+use Rattle.core_model.specs.Tabs.{IsPass}
+use Rattle.core_model.specs.declared.moves.Move.{Move}
+use Rattle.core_model.specs.declared.tab.Hold.{Hold}
+use Rattle.core_model.specs.declared.tab.Writer.{Writer}
+use Rattle.core_model.specs.declared.view.View.{View}
+use Rattle.core_model.proofs.AllKept.{keeps_sound}
+use Rattle.core_model.proofs.CellsOpened.{opens_cells}
+use Rattle.core_model.proofs.HeldCells.{rewritten_sound, rewritten_tells}
+use Rattle.core_model.proofs.NotesCells.{renews_sound}
+use Rattle.core_model.proofs.NotesFrame.{Renews}
+use Rattle.core_model.proofs.OffersKept.{offers_kept, offers_stay}
+use Rattle.core_model.proofs.OffersOpened.{opened_deeds, opened_offers}
+use Rattle.core_model.proofs.Opened.{opens}
+use Rattle.core_model.proofs.SightsOpened.{opens_sights}
+use Rattle.core_model.proofs.SlotsOpened.{opens_slots}
+use Rattle.core_model.proofs.TellsNoMore.{renews_tells}
+use Rattle.core_log.proofs.HasLog.{log_after, log_opened, log_renewed, log_rewritten}
+use Rattle.store_rule.specs.Ground.{Ground, Rule, offering_of}
+use Rattle.store_rule.specs.Rebuilding.{IsKept, chain_kept, opened_state}
+use Rattle.store_rule.proofs.Fresh.{new_free}
+use Rattle.store_rule.proofs.HaltedShort.{short_after, short_new, short_renewed, short_rewritten}
+use Rattle.store_rule.proofs.RestsEnd.{rests_end_after, rests_end_new, rests_end_renewed, rests_end_rewritten}
+
+module _ {X : Type 0} (g : Ground X) where
+  -- what a rebuild of some file kept is opened
+  pub rule_opened : (r : Rebuilt) → IsSetting g.setting → IsOpened g.setting r (opened_state g.setting r.winners) → IsKept g.setting.anchors g.setting.slots r → g.setting.slots < 2 ^ 32
+      → g.chain ≡ chain_kept r.winners g.setting.anchors → Rule g (opened_state g.setting r.winners)
+  rule_opened r is_set opened kept low chain = record {
+    sound = sound;
+    offered = opened_offers (offering_of g) g.setting r s is_set opened kept.size kept.images kept.rebuilt kept.many (λ a lt. ap (λ (c : ℕ → List ℕ). c a) chain);
+    rests = rests_end_new s (λ i v at t x there. new_free g.setting g.setting.passes 0 i v at t x there);
+    halted = short_new (offering_of g) g.setting s g.setting.passes refl;
+    logged = log_opened (offering_of g) g.setting s r is_set opened sound low;
+  }
+    where
+      s : State X
+      s = opened_state g.setting r.winners
+
+      sound : Sound g.setting s
+      sound = record {
+        anchors = opens g.setting r s is_set opened;
+        slots = opens_slots g.setting r s is_set opened kept.size kept.images kept.rebuilt kept.many;
+        map = opened.ends;
+        cells = opens_cells g.setting r s is_set opened kept.size kept.images kept.rebuilt kept.many;
+        deeds_tell = opened_deeds g.setting r s is_set opened;
+        sights = opens_sights g.setting r s is_set opened;
+      }
+
+  -- a step that may be made, and that changes one view
+  pub rule_after : (s : State X) (i : ℕ) (v : View X) (m : Move) → Rule g s → get_elem? s.views i ≡ some v → MayStep g.setting s v m → AllowedByView g.setting v m → ChoosesRight (offering_of g) v m
+      → (after g.setting s i v m).views ≡ set s.views i (view_after v m (finding g.setting s v m)) → Rule g (after g.setting s i v m)
+  rule_after s i v m rule at step allowed chooses views = record {
+    sound = sound;
+    offered = offered;
+    rests = rests_end_after g.setting s i v m at rule.rests;
+    halted = short_after (offering_of g) g.setting s i v m rule.sound at step allowed views sound offered rule.halted;
+    logged = log_after (offering_of g) g.setting s i v m rule.sound rule.offered at step chooses rule.logged;
+  }
+    where
+      sound : Sound g.setting (after g.setting s i v m)
+      sound = keeps_sound g.setting s i v m rule.sound at step
+
+      offered : OffersStand (offering_of g) g.setting (after g.setting s i v m)
+      offered = offers_kept (offering_of g) g.setting s i v m rule.sound rule.offered at step chooses
+
+  -- a tab that writes has another cell in its hands
+  pub rule_rewritten : (s : State X) (i : ℕ) (v : View X) (t : ℕ) (w : Writer X) (old new : Hold X) → Rule g s → get_elem? s.views i ≡ some v → IsPass v → MayRewrite g.setting v t w old new
+      → Rule g (renewed s (set s.views i (with_hold v t w new)))
+  rule_rewritten s i v t w old new rule at pass may = record {
+    sound = rewritten_sound g.setting s i v rule.sound at pass t w old new may;
+    offered = offers_stay (offering_of g) g.setting s (renewed s (set s.views i (with_hold v t w new))) (rewritten_tells s i v t w new v.trail at may.writes) rule.offered;
+    rests = rests_end_rewritten s i v t w new at rule.rests;
+    halted = short_rewritten (offering_of g) s i v t w new at rule.halted;
+    logged = log_rewritten (offering_of g) g.setting s i t v w old new rule.sound at may rule.logged;
+  }
+
+  -- a change of views that tells nothing new of words
+  pub rule_renewed : (s : State X) (views : List (View X)) → Renews g.setting s views → Rule g s → Rule g (renewed s views)
+  rule_renewed s views r rule = record {
+    sound = renews_sound g.setting s views r rule.sound;
+    offered = offers_stay (offering_of g) g.setting s (renewed s views) (renews_tells g.setting s views r) rule.offered;
+    rests = rests_end_renewed g.setting s views r rule.rests;
+    halted = short_renewed (offering_of g) g.setting s views r rule.halted;
+    logged = log_renewed (offering_of g) g.setting s views r rule.logged;
+  }

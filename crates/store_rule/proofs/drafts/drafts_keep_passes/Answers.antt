@@ -1,5 +1,0 @@
-use Rattle.store_rule.proofs.Drafting.{drafted_own}
-use Rattle.store_rule.proofs.drafts.drafts_keep_passes.Goals as goal
-
-pub returns : goal.returns
-returns g c = λ store tab draft before after own moves. drafted_own g.C.Cell.tells g.C.Cell.state g.O.Origin.offers store tab draft before after own moves

@@ -1,0 +1,27 @@
+use Rattle.std.proofs.Common.{List, ap, subst, sym, ◌∙◌}
+use Rattle.std.specs.List.{Contains}
+use Rattle.script_text.specs.declared.line.Line.{Line}
+use Rattle.store_rule.specs.Passes.{IsOf}
+use Rattle.worker_shelf.specs.Shelves.{KeepsCells}
+use Rattle.worker_shelf.specs.Taking.{Takes}
+use Rattle.rock_run.specs.Offered.{offers_of}
+use Rattle.test_closings.proofs.closing.serve_all.Goals as goal
+
+pub serve-requires : goal.serve-requires
+serve-requires g c =
+    let line = c.line-item.result in
+    let there = subst (λ (lines : List Line). Contains lines line) c.as_slice-line-items.ensures
+    (c.loop-line.line-index, c.loop-line-test.true, sym c.line-item.is) in
+    subst (λ s. Takes g.C.Cell.tells g.C.Cell.state offers_of s c.loop-line.shelf.pass line) (sym c.loop-line.invariant.store)
+    (c.script_lines_may_be_asked.ensures.takes c.args.store.now c.args.script.now.lines line c.loop-line.shelf.pass c.requires.offers
+    (c.requires.lines.found line there) (c.requires.lines.asked line there) c.in_default.not-Mark c.in_default.not-Await)
+
+pub returns-clause-may : goal.returns-clause-may
+returns-clause-may g c =
+    let pass = c.into_parts.result.0 in
+    let same = ap (λ home. home.0) c.leave_all.ensures.home ∙ c.loop-line.invariant.store in
+    record {
+      own = subst (λ s. IsOf g.C.Cell.tells g.C.Cell.state offers_of s pass) same c.into_parts.ensures.own;
+      rest = c.into_parts.ensures.rest;
+      cells = subst (λ s. KeepsCells g.C.Cell.tells g.C.Cell.state offers_of s pass) same c.into_parts.ensures.cells;
+    }
