@@ -1,12 +1,14 @@
 pub(crate) mod images;
 mod other_rows;
 mod rows;
+mod slot_rows;
 mod wiping_rows;
 
 use crate::play::{numbers, parted, play};
 use core_state::{Core, Picks, Step, StepFault};
 use other_rows::{NO_STEPS, SECOND_WORD};
 use rows::SCRIPTS;
+use slot_rows::SLOT_SCRIPTS;
 use std::alloc::Global;
 use test_core_kit::{blank_core, make};
 use wiping_rows::WIPING;
@@ -22,9 +24,11 @@ fn script_of(alloc: Global, script: &str) -> Option<(Core, &str)> {
 
 #[test]
 fn steps_answer_as_their_rows_say(rt: HostRuntime) {
-    assert_eq!(rt; SCRIPTS.split("\n\n").count(), 17);
+    assert_eq!(rt; SCRIPTS.split("\n\n").count(), 9);
+    assert_eq!(rt; SLOT_SCRIPTS.split("\n\n").count(), 8);
     assert_eq!(rt; WIPING.split("\n\n").count(), 2);
-    for script in SCRIPTS.split("\n\n").chain(WIPING.split("\n\n")) {
+    let scripts = SCRIPTS.split("\n\n").chain(SLOT_SCRIPTS.split("\n\n"));
+    for script in scripts.chain(WIPING.split("\n\n")) {
         let Some((mut core, rows)) = script_of(rt.alloc(), script) else {
             assert!(rt; false, "a script begins with no core: {script}");
             return;

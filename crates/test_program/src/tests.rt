@@ -9,6 +9,7 @@ mod found;
 mod headers;
 mod listing;
 mod migrating;
+mod opening_faults;
 mod recorded;
 mod refused;
 mod serving;
