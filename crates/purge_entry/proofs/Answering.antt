@@ -73,7 +73,7 @@ module _ {C O : Type 0} (tells : Bool) (state : C → CellState) (offers : O →
         ∙ get_or-set_same (view p).tabs inner (Tab.Reading (opened (anchor_for g url) e.version)) Tab.Free (let n = pass_of p in omega arith)
 
     pub may_doom : May tells state offers s q (Doom inner)
-    may_doom = record { own = own; can = record { allowed = (omega arith, ap is_reading reads); chooses = tt; names = tt } }
+    may_doom = record { own = own; can = record { allowed = (omega arith, ap is_reading reads); asks = tt } }
 
     module _ (u : Pass C) (told : ℕ) (made : Made tells state offers s q (Doom inner) told u) where
       tabs : (view u).tabs ≡ (view q).tabs

@@ -39,7 +39,7 @@ module _ {C O : Type 0} (tells : Bool) (state : C → CellState) (offers : O →
     pub may_share : (a : ℕ) → a ≡ anchor_for g url → a < g.setting.anchors → May tells state offers s p (Enter t a)
     may_share a e lt = record {
       own = may.own;
-      can = record { allowed = (lt, (let b = may.below in omega arith), may.free); chooses = tt; names = subst (MayName g (view p)) (sym e) may.names };
+      can = record { allowed = (lt, (let b = may.below in omega arith), may.free); asks = subst (MayName g (view p)) (sym e) may.names };
     }
 
     module _ (a : ℕ) (e : Epoch) (q : Pass C) (found : Found tells state offers s p (Enter t a) a e q) where

@@ -62,8 +62,7 @@ module _ {C O : Type 0} (tells : Bool) (state : C → CellState) (offers : O →
     own = may.own;
     can = record {
       allowed = subst (λ (z : ℕ). z < g.setting.anchors) (sym at) (tab_inside g (view p) may.own.stands (pass_of p) t may.below (not_free (tab_at (view p) t) (inl (reader_counted _ (tab_at (view p) t) may.reads))));
-      chooses = tt;
-      names = tt;
+      asks = tt;
     };
   }
 

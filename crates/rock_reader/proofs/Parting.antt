@@ -125,7 +125,7 @@ module _ {X : Type 0} (g : Ground X) (t : ℕ) (v : View X) (counted : is_counte
 
 module _ {C O : Type 0} (tells : Bool) (state : C → CellState) (offers : O → Offers) (s : Store C O) (p : Pass C) (t : ℕ) where
   pub may_leave : MayPart tells state offers s p t → May tells state offers s p (Leave t)
-  may_leave may = record { own = may.own; can = record { allowed = (let b = may.below in omega arith, may.counted, may.idle); chooses = tt; names = tt } }
+  may_leave may = record { own = may.own; can = record { allowed = (let b = may.below in omega arith, may.counted, may.idle); asks = tt } }
 
   pub may_part : MayClose tells state offers s p t → MayPart tells state offers s p t
   may_part may = let h = reads_counted (tab_at (view p) t) may.reads in record { own = may.own; below = (let b = may.below in omega arith); inner_free = inl may.inner_free; counted = h.0; idle = h.1 }

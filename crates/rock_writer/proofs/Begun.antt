@@ -82,8 +82,7 @@ module _ {C O : Type 0} (tells : Bool) (state : C → CellState) (offers : O →
       allowed = may_take g (view p1) (view p2) version drew t a may.there may.below (ap (λ xs. get_or xs t Tab.Free) looked_tabs ∙ may.free) (looked_has g (view p) (view p1) a n looks) (⊎_elim
           (λ (v : is_vacant n ≡ true). inl (ap is_vacant (looked_last g (view p) (view p1) a n looks) ∙ v))
           (λ (i : is_idle n ≡ true). inr (ap is_idle (looked_last g (view p) (view p1) a n looks) ∙ i, ap (λ xs. is_free (get_or xs inner Tab.Free)) looked_tabs ∙ may.inner_free)) open_to);
-      chooses = tt;
-      names = λ pass alone. may.name pass alone ∙ sym (drew_pass g (view p1) (view p2) version drew ∙ ap View.pass looks.leaves);
+      asks = λ pass alone. may.name pass alone ∙ sym (drew_pass g (view p1) (view p2) version drew ∙ ap View.pass looks.leaves);
     };
   }
 

@@ -71,8 +71,7 @@ module _ {C O : Type 0} (tells : Bool) (state : C → CellState) (offers : O →
     own = h.own;
     can = record {
       allowed = (let b = h.below in omega arith, inl (subst (OfWriter (λ w. MayRaise w Closed × StoredStart w)) (sym h.is) (h.end, h.start)));
-      chooses = tt;
-      names = tt;
+      asks = tt;
     };
   }
 

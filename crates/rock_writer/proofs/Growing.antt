@@ -124,8 +124,7 @@ module _ {C O : Type 0} (tells : Bool) (state : C → CellState) (offers : O →
         own = own;
         can = record {
           allowed = (let b = rests.below in omega arith, inl (subst (OfWriter (λ w. MayRaise w Appending × StoredStart w)) (sym now.0) ((by_list ps none, (next, refl)), λ z. refl)));
-          chooses = tt;
-          names = tt;
+          asks = tt;
         };
       }
         where

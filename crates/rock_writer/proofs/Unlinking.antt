@@ -58,8 +58,7 @@ module _ {C O : Type 0} (tells : Bool) (state : C → CellState) (offers : O →
         let b = h.below in omega arith,
         inl (subst (OfWriter (MayGiveBack x)) (sym h.is) (second_may w x (standing.few g (view p) h.own.stands t w there) (standing.once g (view p) h.own.stands t w there) (standing.tied g (view p) h.own.stands t w there) h.turn (sym is ∙ e))),
       );
-      chooses = tt;
-      names = tt;
+      asks = tt;
     };
   }
 
@@ -75,8 +74,7 @@ module _ {C O : Type 0} (tells : Bool) (state : C → CellState) (offers : O →
           let b = h.below in omega arith,
           inl (subst (OfWriter (MayGiveBack x)) (sym tab1.0) (first_may w x (standing.few g (view p) h.own.stands t w there) (standing.once g (view p) h.own.stands t w there) (standing.fits g (view p) h.own.stands t w there) h.turn (sym is ∙ e))),
         );
-        chooses = tt;
-        names = tt;
+        asks = tt;
       };
     }
 
@@ -104,7 +102,6 @@ module _ {C O : Type 0} (tells : Bool) (state : C → CellState) (offers : O →
       own = own;
       can = record {
         allowed = (let b = h.below in omega arith, inl (subst (OfWriter (λ x. MayRaise x Halted × StoredStart x)) (sym after.0) raises));
-        chooses = tt;
-        names = tt;
+        asks = tt;
       };
     }

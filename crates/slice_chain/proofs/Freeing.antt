@@ -52,14 +52,14 @@ module _ {C O : Type 0} (tells : Bool) (state : C → CellState) (offers : O →
   at_inner q x e = ap (λ (xs : List (Tab (List ℕ))). get_or xs inner Tab.Free) e ∙ get_or-set_same (view p).tabs inner x Tab.Free (let n = pass_of p in omega arith)
 
   pub may_look : May tells state offers s p (GetLink inner slot)
-  may_look = record { own = may.own; can = record { allowed = (omega arith, inr (subst (OfFreer (IsFront slot)) (sym may.is) may.front)); chooses = tt; names = tt } }
+  may_look = record { own = may.own; can = record { allowed = (omega arith, inr (subst (OfFreer (IsFront slot)) (sym may.is) may.front)); asks = tt } }
 
   module _ (n : ℕ) (p1 : Pass C) (looked : Made tells state offers s p (GetLink inner slot) n p1) where
     pub tabs1 : (view p1).tabs ≡ with_tab (view p) inner (Freeing (record f { is_looked = true }))
     tabs1 = ap View.tabs looked.step.leaves ∙ ap (λ (x : Tab (List ℕ)). set (view p).tabs inner (looks x looked.found)) may.is
 
     pub may_leave : May tells state offers s p1 (Loosen inner slot)
-    may_leave = record { own = looked.own; can = record { allowed = (omega arith, inl (subst (OfFreer (MayLoosen slot)) (sym (at_inner p1 (Freeing (record f { is_looked = true })) tabs1)) (may.front, refl, may.unheld))); chooses = tt; names = tt } }
+    may_leave = record { own = looked.own; can = record { allowed = (omega arith, inl (subst (OfFreer (MayLoosen slot)) (sym (at_inner p1 (Freeing (record f { is_looked = true })) tabs1)) (may.front, refl, may.unheld))); asks = tt } }
 
     pub link_is : (link : Link) → link_number link ≡ n → next_slot link ≡ head_of (rest_of f.rest)
     link_is link e = ap next_slot (same_link link (link_to (rest_of f.rest) f.behind) (e ∙ looked.answers ∙ found)) ∙ next_is_head (rest_of f.rest) f.behind
@@ -83,7 +83,7 @@ module _ {C O : Type 0} (tells : Bool) (state : C → CellState) (offers : O →
           ∙ ap (λ (xs : List (Tab (List ℕ))). set xs inner (Freeing loose_freer)) tabs1 ∙ set_again (view p).tabs inner (Freeing (record f { is_looked = true })) (Freeing loose_freer)
 
       pub may_give : May tells state offers s p2 (Disown inner slot)
-      may_give = record { own = left.own; can = record { allowed = (omega arith, inr (subst (OfFreer (λ x. Rattle.std.specs.Prelude.Contains x.loose slot)) (sym (at_inner p2 (Freeing loose_freer) tabs2)) (subst (λ (xs : List ℕ). Rattle.std.specs.Prelude.Contains (xs ++ slot ∷ []) slot) (sym may.none) (0, omega arith, refl)))); chooses = tt; names = tt } }
+      may_give = record { own = left.own; can = record { allowed = (omega arith, inr (subst (OfFreer (λ x. Rattle.std.specs.Prelude.Contains x.loose slot)) (sym (at_inner p2 (Freeing loose_freer) tabs2)) (subst (λ (xs : List ℕ). Rattle.std.specs.Prelude.Contains (xs ++ slot ∷ []) slot) (sym may.none) (0, omega arith, refl)))); asks = tt } }
 
       module _ (k : ℕ) (p3 : Pass C) (gave : Made tells state offers s p2 (Disown inner slot) k p3) where
         tabs3 : (view p3).tabs ≡ with_tab (view p) inner (emptied (with_less f))

@@ -37,7 +37,7 @@ module _ {C O : Type 0} (tells : Bool) (state : C → CellState) (offers : O →
   pub may_end : May tells state offers s p (Raise inner Stage.Gone)
   may_end = record {
     own = own;
-    can = record { allowed = (omega arith, inr (subst (OfFreer (λ x. MayEnd x Stage.Gone)) (sym tab) (on, rest, loose))); chooses = tt; names = tt };
+    can = record { allowed = (omega arith, inr (subst (OfFreer (λ x. MayEnd x Stage.Gone)) (sym tab) (on, rest, loose))); asks = tt };
   }
 
   module _ (m : ℕ) (q : Pass C) (ended : Made tells state offers s p (Raise inner Stage.Gone) m q) where

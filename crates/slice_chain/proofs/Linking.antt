@@ -79,7 +79,7 @@ module _ {C O : Type 0} (tells : Bool) (state : C → CellState) (offers : O →
       → May tells state offers s q (StoreSide t Start (slot + 1))
   may_start next x may is none made = record {
     own = made.own;
-    can = record { allowed = (may.below, inner_free, started (tab_at (view p) t) there refl is); chooses = tt; names = tt };
+    can = record { allowed = (may.below, inner_free, started (tab_at (view p) t) there refl is); asks = tt };
   }
     where
       there : get_elem? (view p).tabs t ≡ some (tab_at (view p) t)

@@ -58,8 +58,7 @@ module _ {C O : Type 0} (tells : Bool) (state : C → CellState) (offers : O →
     own = h.own;
     can = record {
       allowed = (below, h.inner_free, of_writer Unchosen (λ w. (w.is_appending ≡ false) × MayStore (basis tells state offers s).setting w side value) (tab_at (view p) t) (λ w u. (u.0, may w u)) h.unchosen);
-      chooses = tt;
-      names = tt;
+      asks = tt;
     };
   }
 

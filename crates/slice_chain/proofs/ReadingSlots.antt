@@ -173,7 +173,7 @@ module _ {C O : Type 0} (tells : Bool) (state : C → CellState) (offers : O →
         pub may_end_turn : (done : Bool) (then : Then) → then ≡ after_reading done → May tells state offers s p4 (EndTurn t slot then)
         may_end_turn done then is = subst (λ (x : Then). May tells state offers s p4 (EndTurn t slot x)) (sym is) record {
           own = back.own;
-          can = record { allowed = (may.below, (new_hold slot cell, ap turn_of (tab_of p4 tabs4), refl, refl), ends_so done); chooses = tt; names = tt };
+          can = record { allowed = (may.below, (new_hold slot cell, ap turn_of (tab_of p4 tabs4), refl, refl), ends_so done); asks = tt };
         }
 
         pub has_returned : HasReturned tells state offers s p4 t slot

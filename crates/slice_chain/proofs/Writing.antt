@@ -108,8 +108,7 @@ module _ {C O : Type 0} (tells : Bool) (state : C → CellState) (offers : O →
     own = may.own;
     can = record {
       allowed = (may.below, subst (OfWriter (MayLog slot)) (sym may.is) (subst (λ (z : ℕ). MayLog z writer) (sym e) may.may));
-      chooses = λ w is none. subst (λ (z : Writer (List ℕ)). KeepsTo (offering_of g) z (piece_of z)) (same_writer writer w (sym may.is ∙ is)) may.keeps;
-      names = tt;
+      asks = λ w is none. subst (λ (z : Writer (List ℕ)). KeepsTo (offering_of g) z (piece_of z)) (same_writer writer w (sym may.is ∙ is)) may.keeps;
     };
   }
     where
@@ -139,8 +138,7 @@ module _ {C O : Type 0} (tells : Bool) (state : C → CellState) (offers : O →
           ap (λ (x : Tab (List ℕ)). has_turn (turn_of x)) logged_tab ∙ may.idle,
           inr (inl (subst (OfWriter (MayWrite slot)) (sym logged_tab) record { first = subst (λ (z : ℕ). writer.reserved ≡ z ∷ rest_of writer.reserved) (sym slot_same) may.may.first; logged = refl })),
         );
-        chooses = tt;
-        names = tt;
+        asks = tt;
       };
     }
 
@@ -171,7 +169,7 @@ module _ {C O : Type 0} (tells : Bool) (state : C → CellState) (offers : O →
     pub may_end : IsOf tells state offers s q → May tells state offers s q (EndTurn t slot Stays)
     may_end own = record {
       own = own;
-      can = record { allowed = (let b = may.below in omega arith, (new_hold slot cell, ap turn_of tab_is, refl, refl), tt); chooses = tt; names = tt };
+      can = record { allowed = (let b = may.below in omega arith, (new_hold slot cell, ap turn_of tab_is, refl, refl), tt); asks = tt };
     }
 
     -- what a write leaves

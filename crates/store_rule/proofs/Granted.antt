@@ -19,9 +19,8 @@ use Rattle.core_model.proofs.AllowedByView.{may_step}
 use Rattle.store_rule.proofs.RuleKept.{rule_after, rule_rewritten}
 use Rattle.store_rule.proofs.Seating.{reseated, set_twice}
 use Rattle.core_model.specs.Tabs.{IsPass}
-use Rattle.core_model.specs.Offers.{ChoosesRight}
 use Rattle.core_model.specs.TableForms.{renewed}
-use Rattle.store_rule.specs.Ground.{Ground, Rule, offering_of}
+use Rattle.store_rule.specs.Ground.{Asks, Ground, Rule}
 
 -- A view becomes another one by no step: the rule holds of the state with that view.
 pub becomes_so : {X : Type 0} → (g : Ground X) (s : State X) (i : ℕ) (v u : View X) → Rule g s → get_elem? s.views i ≡ some v → IsPass v → Becomes g.setting v u → Rule g (renewed s (set s.views i u))
@@ -36,10 +35,10 @@ becomes_so {X} g s i v u r at pass (inr h) = subst (λ (z : View X). Rule g (ren
 
 module _ {C X : Type 0} (form : Form C X) (g : Ground X) where
   pub granted : (slots id : ℕ) (me : Me (Option C) (List (View X))) (m d : Move) (u e : View X) (j : Ground X) (i : ℕ) (p : Place) (f : ℕ → ℕ)
-      → i ≡ index g.setting p → m ≡ d → u ≡ e → g ≡ j → me.0 ≡ the_view me.0 ∷ [] → IsPass (the_view me.0) → Becomes g.setting (the_view me.0) u → MayMake g.setting u m → ChoosesRight (offering_of g) u m
+      → i ≡ index g.setting p → m ≡ d → u ≡ e → g ≡ j → me.0 ≡ the_view me.0 ∷ [] → IsPass (the_view me.0) → Becomes g.setting (the_view me.0) u → MayMake g.setting u m → Asks g u m
       → OnWord g.setting u m p → Same g u m p f → CanAct form g u me.1 m p
       → Allows (Ruled form g) slots id me i f (Told form j d e me)
-  granted slots id me m d u e j i p f here named from_so set_so one pass becomes may chooses on same act =
+  granted slots id me m d u e j i p f here named from_so set_so one pass becomes may asks on same act =
       subst (λ (z : ((ℕ × Move) × View X) × Ground X). Allows (Ruled form g) slots id me z.0.0.0 f (Told form z.1 z.0.0.1 z.0.1 me)) (λ q. (((sym here q, named q), from_so q), set_so q))
       (λ s r deep at fits.
       let k : Setting X = g.setting in let v : View X = the_view me.0 in let a = r.seated.index id 0 in
@@ -53,7 +52,7 @@ module _ {C X : Type 0} (form : Form C X) (g : Ground X) where
       let step = may_step k c a u m rule.sound there may in
       let w : View X = view_after u m (finding k c u m) in
       let act = act s renewed_views r.chains rule a there in
-      let left : Rule g (after k c a u m) = rule_after g c a u m rule there step may.allowed chooses (ap State.views (on.leaves c a)) in
+      let left : Rule g (after k c a u m) = rule_after g c a u m rule there step may.allowed asks (ap State.views (on.leaves c a)) in
       let after_word = subst (Rule g) (on.leaves c a) left in
       let twice : set renewed_views a w ≡ set r.views a w = set_twice r.views a u w in (
         w ∷ [],

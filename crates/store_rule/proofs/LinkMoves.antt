@@ -25,7 +25,7 @@ use Rattle.core_model.specs.declared.tab.Tab.{Tab}
 use Rattle.core_model.specs.declared.view.Place.TheVariants.{Link as LinkWord}
 use Rattle.core_model.specs.declared.view.View.{View}
 use Rattle.core_model.proofs.FollowsKept.{followed, link_of_number}
-use Rattle.store_rule.specs.Ground.{Ground, Rule}
+use Rattle.store_rule.specs.Ground.{Asks, Ground, Rule}
 use Rattle.store_rule.specs.Machine.{StepsOn}
 use Rattle.store_rule.specs.Ruled.{Form}
 use Rattle.tab_states.specs.Tabs.{HasLooseRoom, HasPlace, at_of, freeing_at, is_next, link_seen, loosened_here, loosened_tabs, reserved_here, tabs_at}
@@ -256,11 +256,11 @@ module _ {C X : Type 0} (form : Form C X) (g : Ground X) (z : TableId) (seat : S
       (looked_inside g v t slot st may)
       may tt record { finds = λ s. refl; leaves = λ s i. refl } (λ s i r at may fits. refl) (λ ps n. refl) (λ o n y. refl) (λ s. refl) (λ y. tt)
 
-  pub loosens_ : (t slot word : ℕ) → word ≡ 5 * g.setting.anchors + 2 * slot → Stands g v → MayMake g.setting v (Loosen t slot)
+  pub loosens_ : (t slot word : ℕ) → word ≡ 5 * g.setting.anchors + 2 * slot → Stands g v → MayMake g.setting v (Loosen t slot) → Asks g v (Loosen t slot)
       → StepsOn form g z seat word (Loosen t slot) v (λ n. 0)
-  loosens_ t slot word is st may = quiet form g z seat own sized one_view (Loosen t slot) (LinkWord slot) word _ is
+  loosens_ t slot word is st may asks = quiet form g z seat own sized one_view (Loosen t slot) (LinkWord slot) word _ is
       (loosened_inside g v t slot st may)
-      may tt record { finds = λ s. refl; leaves = λ s i. refl } (λ s i r at may fits. refl) (λ ps n. refl) (λ o n y. refl) (λ s. refl) (λ y. tt)
+      may asks record { finds = λ s. refl; leaves = λ s i. refl } (λ s i r at may fits. refl) (λ ps n. refl) (λ o n y. refl) (λ s. refl) (λ y. tt)
 
 pub loosened_nine : (old new : List At) (t slot : ℕ) → length old ≡ 9 → new ≡ loosened_tabs old t slot → length new ≡ 9
 loosened_nine old new t slot nine is = ap length is ∙ by_tab (t == 8) ∙ nine

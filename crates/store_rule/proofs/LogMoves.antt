@@ -10,9 +10,8 @@ use Rattle.core_model.specs.declared.view.View.{View}
 use Rattle.core_model.specs.AllowedByView.{MayMake}
 use Rattle.core_model.specs.CellMoves.{logs}
 use Rattle.core_model.specs.Layout.{word_count}
-use Rattle.core_model.specs.Offers.{ChoosesRight}
 use Rattle.core_model.specs.Tabs.{tab_at}
-use Rattle.store_rule.specs.Ground.{Ground, offering_of}
+use Rattle.store_rule.specs.Ground.{Asks, Ground}
 use Rattle.store_rule.specs.Machine.{StepsOn}
 use Rattle.store_rule.specs.Ruled.{Form}
 use Rattle.store_rule.specs.Told.{Steps, the_view}
@@ -43,6 +42,6 @@ module _ {C X : Type 0} (form : Form C X) (g : Ground X) (z : TableId) (seat : S
   v = the_view seat.me.0
 
   pub logs_ : (t slot : ℕ) (durable : Bool) (word : ℕ) → word ≡ 5 * g.setting.anchors + 2 * g.setting.slots + map_words g.setting.slots + 1 → MayMake g.setting v (LogPiece t slot durable)
-      → ChoosesRight (offering_of g) v (LogPiece t slot durable) → StepsOn form g z seat word (LogPiece t slot durable) v (λ n. (n + 1) % 18446744073709551616)
-  logs_ t slot durable word is may chooses = quiet form g z seat own sized one (LogPiece t slot durable) LogCounter word _ is tt may chooses record { finds = λ s. refl; leaves = λ s i. refl }
+      → Asks g v (LogPiece t slot durable) → StepsOn form g z seat word (LogPiece t slot durable) v (λ n. (n + 1) % 18446744073709551616)
+  logs_ t slot durable word is may asks = quiet form g z seat own sized one (LogPiece t slot durable) LogCounter word _ is tt may asks record { finds = λ s. refl; leaves = λ s i. refl }
       (λ s i r at may fits. refl) (λ ps n. refl) (λ o n y. refl) (λ s. refl) (λ y. tt)

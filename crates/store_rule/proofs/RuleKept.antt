@@ -15,6 +15,7 @@ use Rattle.core_model.specs.Table.{MayStep}
 use Rattle.core_model.specs.TableForms.{MayRewrite, renewed, with_hold}
 use Rattle.core_model.specs.Tabs.{IsPass}
 use Rattle.core_model.specs.declared.moves.Move.{Move}
+use Rattle.core_model.specs.declared.moves.Move.TheVariants.{LogPiece}
 use Rattle.core_model.specs.declared.tab.Hold.{Hold}
 use Rattle.core_model.specs.declared.tab.Writer.{Writer}
 use Rattle.core_model.specs.declared.view.View.{View}
@@ -30,7 +31,7 @@ use Rattle.core_model.proofs.SightsOpened.{opens_sights}
 use Rattle.core_model.proofs.SlotsOpened.{opens_slots}
 use Rattle.core_model.proofs.TellsNoMore.{renews_tells}
 use Rattle.core_log.proofs.HasLog.{log_after, log_opened, log_renewed, log_rewritten}
-use Rattle.store_rule.specs.Ground.{Ground, Rule, offering_of}
+use Rattle.store_rule.specs.Ground.{Asks, Ground, Rule, offering_of}
 use Rattle.store_rule.specs.Rebuilding.{IsKept, chain_kept, opened_state}
 use Rattle.store_rule.proofs.Fresh.{new_free}
 use Rattle.store_rule.proofs.HaltedShort.{short_after, short_new, short_renewed, short_rewritten}
@@ -61,22 +62,27 @@ module _ {X : Type 0} (g : Ground X) where
         sights = opens_sights g.setting r s is_set opened;
       }
 
+  -- a piece that is logged keeps to its offer, and no other step chooses one
+  asks_offer : (v : View X) (m : Move) → Asks g v m → ChoosesRight (offering_of g) v m
+  asks_offer v (LogPiece t slot durable) asks = asks
+  asks_offer v m asks = tt
+
   -- a step that may be made, and that changes one view
-  pub rule_after : (s : State X) (i : ℕ) (v : View X) (m : Move) → Rule g s → get_elem? s.views i ≡ some v → MayStep g.setting s v m → AllowedByView g.setting v m → ChoosesRight (offering_of g) v m
+  pub rule_after : (s : State X) (i : ℕ) (v : View X) (m : Move) → Rule g s → get_elem? s.views i ≡ some v → MayStep g.setting s v m → AllowedByView g.setting v m → Asks g v m
       → (after g.setting s i v m).views ≡ set s.views i (view_after v m (finding g.setting s v m)) → Rule g (after g.setting s i v m)
-  rule_after s i v m rule at step allowed chooses views = record {
+  rule_after s i v m rule at step allowed asks views = record {
     sound = sound;
     offered = offered;
     rests = rests_end_after g.setting s i v m at rule.rests;
     halted = short_after (offering_of g) g.setting s i v m rule.sound at step allowed views sound offered rule.halted;
-    logged = log_after (offering_of g) g.setting s i v m rule.sound rule.offered at step chooses rule.logged;
+    logged = log_after (offering_of g) g.setting s i v m rule.sound rule.offered at step (asks_offer v m asks) rule.logged;
   }
     where
       sound : Sound g.setting (after g.setting s i v m)
       sound = keeps_sound g.setting s i v m rule.sound at step
 
       offered : OffersStand (offering_of g) g.setting (after g.setting s i v m)
-      offered = offers_kept (offering_of g) g.setting s i v m rule.sound rule.offered at step chooses
+      offered = offers_kept (offering_of g) g.setting s i v m rule.sound rule.offered at step (asks_offer v m asks)
 
   -- a tab that writes has another cell in its hands
   pub rule_rewritten : (s : State X) (i : ℕ) (v : View X) (t : ℕ) (w : Writer X) (old new : Hold X) → Rule g s → get_elem? s.views i ≡ some v → IsPass v → MayRewrite g.setting v t w old new

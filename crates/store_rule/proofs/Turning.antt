@@ -35,14 +35,13 @@ use Rattle.core_model.specs.Slots.{ReaderHolds}
 use Rattle.core_model.specs.State.{chain_of}
 use Rattle.core_model.specs.TableForms.{MayRewrite, with_hold}
 use Rattle.core_model.specs.AllowedByView.{KnowsLink, MayMake}
-use Rattle.core_model.specs.Offers.{ChoosesRight}
 use Rattle.core_model.proofs.AllowedByView.{allowed_so}
 use Rattle.core_model.proofs.Holders.{end_inside, try_inside}
 use Rattle.core_model.proofs.Lists.{at_set}
 use Rattle.core_model.proofs.Tabs.{tab_there}
 use Rattle.store_rule.specs.declared.store.Pass.{Pass}
 use Rattle.store_rule.specs.declared.store.Store.{Store}
-use Rattle.store_rule.specs.Ground.{Can, Ground, Offers, offering_of}
+use Rattle.store_rule.specs.Ground.{Can, Ground, Offers}
 use Rattle.store_rule.specs.Machine.{Acts, CanAct, StepsOn}
 use Rattle.store_rule.specs.Ruled.{Form, HomesFit, IsFitting, cell_shown, place_shown, state_of}
 use Rattle.store_rule.specs.Setting.{shown}
@@ -178,16 +177,16 @@ module _ {C X : Type 0} (form : Form C X) where
     abbrev v : View X
     v = the_view seat.me.0
 
-    pub tries_ : (t slot word : ℕ) → word ≡ 5 * g.setting.anchors + 2 * slot + 1 → Stands g v → MayMake g.setting v (TryTurn t slot) → ChoosesRight (offering_of g) v (TryTurn t slot)
+    pub tries_ : (t slot word : ℕ) → word ≡ 5 * g.setting.anchors + 2 * slot + 1 → Stands g v → MayMake g.setting v (TryTurn t slot)
         → StepsOn form g z seat word (TryTurn t slot) v (λ n. either (n == 0) 1 n)
-    tries_ t slot word is st may chooses = let lt = tried_inside g v st t slot may in record {
+    tries_ t slot word is st may = let lt = tried_inside g v st t slot may in record {
       own = own;
       within = let q = turn_within z.words g.setting.anchors g.setting.slots slot sized lt in omega arith;
       one = one;
       pass = may.pass;
       becomes = inl refl;
       may = may;
-      chooses = chooses;
+      asks = tt;
       place = Turn slot;
       here = is;
       on = record { finds = λ s. refl; leaves = λ s i. refl };
@@ -204,7 +203,7 @@ module _ {C X : Type 0} (form : Form C X) where
       pass = pass;
       becomes = e.becomes;
       may = e.may;
-      chooses = tt;
+      asks = tt;
       place = Turn slot;
       here = is;
       on = record { finds = λ s. refl; leaves = λ s i. refl };
@@ -306,8 +305,7 @@ module _ {X : Type 0} (g : Ground X) (v w : View X) (t slot n : ℕ) (st : Steps
       subst (λ (x : Tab X). holds_turn x ≡ false) (sym lost_tab) can.allowed.1,
       subst (λ (x : Tab X). OfReader (KnowsLink slot) x ⊎ OfWriter (MayWrite slot) x ⊎ OfFreer (MayWipe slot) x) (sym lost_tab) can.allowed.2,
     );
-    chooses = tt;
-    names = tt;
+    asks = tt;
   }
 
 -- A tab that writes always wins.

@@ -9,7 +9,7 @@ use Rattle.store_key.specs.Key.{key_of}
 use Rattle.store_key.specs.Url.{IsUrl}
 use Rattle.entry_cut.specs.Content.{Cut, LeavesRoom, count}
 use Rattle.core_model.specs.declared.moves.Move.{Move}
-use Rattle.core_model.specs.declared.moves.Move.TheVariants.{Enter, Take}
+use Rattle.core_model.specs.declared.moves.Move.TheVariants.{Enter, LogPiece, Take}
 use Rattle.core_model.specs.declared.moves.Side.TheVariants.{Offer}
 use Rattle.core_model.specs.declared.tab.Freer.{Freer}
 use Rattle.core_model.specs.declared.tab.Tab.TheVariants.{Freeing}
@@ -92,14 +92,15 @@ pub record Rule {X : Type 0} (g : Ground X) (s : State X) : Type 0 where
 abbrev pub MayName : {X : Type 0} → Ground X → View X → ℕ → Type 0
 MayName g v a = (pass : ℕ) → g.offers.alone a ≡ Some pass → pass ≡ v.pass
 
--- a tab that comes to an anchor may name it
-abbrev pub Names : {X : Type 0} → Ground X → View X → Move → Type 0
-Names g v (Enter t a) = MayName g v a
-Names g v (Take t a version) = MayName g v a
-Names g v m = Unit {0}
+-- What the store asks of a step beside the step table, one row a move: a tab that comes to an anchor may name it, and a piece that is
+-- logged keeps to its offer. Nothing is asked of any other move.
+abbrev pub Asks : {X : Type 0} → Ground X → View X → Move → Type 0
+Asks g v (Enter t a) = MayName g v a
+Asks g v (Take t a version) = MayName g v a
+Asks g v (LogPiece t slot durable) = ChoosesRight (offering_of g) v (LogPiece t slot durable)
+Asks g v m = Unit {0}
 
--- What a step asks of the pass that makes it, by the view of that pass alone.
+-- What a step needs of the pass that makes it, by the view of that pass alone: that the step table allows it, and what the store asks.
 pub record Can {X : Type 0} (g : Ground X) (v : View X) (m : Move) : Type 0 where
   pub allowed : AllowedByView g.setting v m
-  pub chooses : ChoosesRight (offering_of g) v m  -- a piece that it chooses keeps to its offer
-  pub names : Names g v m
+  pub asks : Asks g v m

@@ -14,9 +14,8 @@ use Rattle.core_model.specs.State.{State}
 use Rattle.core_model.specs.Table.{left_by}
 use Rattle.core_model.specs.Tabs.{IsPass}
 use Rattle.core_model.specs.Steps.{after, cell_found, chains_after, finding, number_found, places_after, view_after}
-use Rattle.core_model.specs.Offers.{ChoosesRight}
 use Rattle.core_model.specs.AllowedByView.{MayMake}
-use Rattle.store_rule.specs.Ground.{Ground, Rule, offering_of}
+use Rattle.store_rule.specs.Ground.{Asks, Ground, Rule}
 use Rattle.store_rule.specs.Ruled.{Form, HomesFit, cell_shown, place_shown, state_of}
 use Rattle.store_rule.specs.Told.{Becomes, CellFits, Told, out_after, the_view}
 
@@ -57,7 +56,7 @@ module _ {C X : Type 0} (form : Form C X) (g : Ground X) where
     pub pass : IsPass (the_view seat.me.0)
     pub becomes : Becomes g.setting (the_view seat.me.0) u
     pub may : MayMake g.setting u m
-    pub chooses : ChoosesRight (offering_of g) u m
+    pub asks : Asks g u m
     pub place : Place
     pub here : word ≡ index g.setting place
     pub on : OnWord g.setting u m place

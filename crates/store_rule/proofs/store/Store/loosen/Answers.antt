@@ -12,7 +12,7 @@ use Rattle.store_rule.proofs.store.Store.loosen.Goals as goal
 
 pub swap_as-found-requires-clause-step : goal.swap_as-found-requires-clause-step
 swap_as-found-requires-clause-step g c = let s = c.args.self.now in
-    loosens_ (form_of g.C.Cell.tells g.C.Cell.state) (basis g.C.Cell.tells g.C.Cell.state g.O.Origin.offers c.args.self.now) s.table.shared.table_id c.args.pass.now.seat c.requires.own.table (wide _ _ _ _ _ s.sized s.anchors_are s.slots_are) c.args.pass.now.one c.args.tab c.args.slot _ (linked_at _ _ _ _ c.link_index-place.ensures s.anchors_are) c.requires.own.stands (may_of c.args.pass.now c.requires.can.allowed)
+    loosens_ (form_of g.C.Cell.tells g.C.Cell.state) (basis g.C.Cell.tells g.C.Cell.state g.O.Origin.offers c.args.self.now) s.table.shared.table_id c.args.pass.now.seat c.requires.own.table (wide _ _ _ _ _ s.sized s.anchors_are s.slots_are) c.args.pass.now.one c.args.tab c.args.slot _ (linked_at _ _ _ _ c.link_index-place.ensures s.anchors_are) c.requires.own.stands (may_of c.args.pass.now c.requires.can.allowed) c.requires.can.asks
 
 pub loosen_at-requires-clause-room : goal.loosen_at-requires-clause-room
 loosen_at-requires-clause-room g c = let p = c.args.pass.now in

@@ -6,4 +6,4 @@ use Rattle.store_rule.proofs.store.Store.or_as.Goals as goal
 
 pub fetch_or-requires : goal.fetch_or-requires
 fetch_or-requires g c = let r = c.requires.step in let n = c.requires.named in
-    (r.own, r.within, granted (form_of g.C.Cell.tells g.C.Cell.state) _ _ _ _ _ _ _ _ _ _ r.place (λ n. bit_or n c.args.bits) r.here n.0 refl n.1 r.one r.pass r.becomes r.may r.chooses r.on r.same r.acts)
+    (r.own, r.within, granted (form_of g.C.Cell.tells g.C.Cell.state) _ _ _ _ _ _ _ _ _ _ r.place (λ n. bit_or n c.args.bits) r.here n.0 refl n.1 r.one r.pass r.becomes r.may r.asks r.on r.same r.acts)

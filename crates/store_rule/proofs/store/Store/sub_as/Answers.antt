@@ -6,4 +6,4 @@ use Rattle.store_rule.proofs.store.Store.sub_as.Goals as goal
 
 pub fetch_sub-requires : goal.fetch_sub-requires
 fetch_sub-requires g c = let r = c.requires.step in let n = c.requires.named in
-    (r.own, r.within, granted (form_of g.C.Cell.tells g.C.Cell.state) _ _ _ _ _ _ _ _ _ _ r.place (λ n. (n + (18446744073709551616 - c.args.by)) % 18446744073709551616) r.here n.0 refl n.1 r.one r.pass r.becomes r.may r.chooses r.on r.same r.acts)
+    (r.own, r.within, granted (form_of g.C.Cell.tells g.C.Cell.state) _ _ _ _ _ _ _ _ _ _ r.place (λ n. (n + (18446744073709551616 - c.args.by)) % 18446744073709551616) r.here n.0 refl n.1 r.one r.pass r.becomes r.may r.asks r.on r.same r.acts)
