@@ -1,0 +1,16 @@
+pub mod Searching
+pub mod Passed
+pub mod Tabs
+pub mod Held
+pub mod Anchors
+pub mod Quiet
+pub mod Words
+pub mod Views
+pub mod Sums
+pub mod Counted
+pub mod Sole
+pub mod Looks
+pub mod Searched
+pub mod Kept
+pub mod Renewed
+pub mod Opened
