@@ -35,6 +35,7 @@ module _ {C O : Type 0} (tells : Bool) (state : C → CellState) (offers : O →
     from = may.from;
     url_is = may.url_is;
     good = may.good;
+    needed = may.needed;
     name = λ pass is. may.name pass is ∙ sym number;
   }
 

@@ -90,6 +90,7 @@ module _ {C O : Type 0} (tells : Bool) (state : C → CellState) (offers : O →
     from = may.from;
     url_is = may.url_is;
     good = may.good;
+    needed = may.needed;
     name = λ pass alone. may.name pass alone ∙ sym (same_purged (basis tells state offers s) (view p) (view q) inner url left h.purged);
   }
   may_begin_still t line url d s p q None (cause, h) may = record {
@@ -100,6 +101,7 @@ module _ {C O : Type 0} (tells : Bool) (state : C → CellState) (offers : O →
     from = may.from;
     url_is = may.url_is;
     good = may.good;
+    needed = may.needed;
     name = λ pass alone. may.name pass alone ∙ sym (same_refused (basis tells state offers s) (view p) (view q) inner url cause h.refused);
   }
 

@@ -22,7 +22,8 @@ use Rattle.core_model.specs.declared.view.Place.TheVariants.{Map}
 use Rattle.core_model.specs.declared.view.View.{View}
 use Rattle.store_rule.specs.declared.store.Pass.{Pass}
 use Rattle.store_rule.specs.declared.store.Store.{Store}
-use Rattle.store_rule.specs.Ground.{Ground, Offers}
+use Rattle.core_room.specs.Conditions.{HasCome, MayBegin}
+use Rattle.store_rule.specs.Ground.{Asks, Ground, Offers, fits, need_of}
 use Rattle.store_rule.specs.Passes.{Made}
 use Rattle.store_rule.specs.Told.{Stands, Steps, found_as}
 use Rattle.store_rule.specs.Calls.{Follows}
@@ -32,6 +33,7 @@ use Rattle.store_rule.proofs.AddingUp.{found_mine, has_else, has_left, went_none
 use Rattle.store_rule.specs.Quiet.{Quiet}
 use Rattle.store_rule.proofs.Following.{follows_on, made_follows}
 use Rattle.store_rule.proofs.Quieting.{quiet_went}
+use Rattle.store_rule.proofs.RoomKept.{search_unfit}
 use Rattle.store_rule.proofs.Seating.{set_twice}
 use Rattle.free_set.specs.Claims.{Claimed, FoundAllTaken, FoundTaken, Passed, found_free, item, looks_in, lost_in, searched_to, tries_in, word_of}
 
@@ -233,6 +235,19 @@ module _ {X : Type 0} (g : Ground X) (t : ℕ) (v : View X) (x : Writer X) where
         (λ past. known_at j (omega arith) (set_at bit j le set (omega arith) lt) mine)
         (λ before. h.came.passed.taken j (omega arith) mine)
 
+    -- the search has come to the first bit that is clear
+    come_to : (bit : ℕ) → bit < 64 → from ≤ bit → bit_at bits bit ≡ 0 → ((i : ℕ) → from ≤ i → i < bit → bit_at bits i ≡ 1) → h.place ≡ 64 * word + bit
+    come_to bit lt low clear set_before = dite (ℕ_discrete (h.place - (64 * word + bit)) 0)
+        (λ le. dite (ℕ_discrete h.place (64 * word + bit)) (λ e. e) (λ ne. absurd (let z = h.low in let a = h.free (omega arith) in let b = set_at bit h.place (omega arith) set_before h.low (omega arith) in omega arith)))
+        (λ gt. absurd (let z = h.passed_on (64 * word + bit) (omega arith) (omega arith) in let y = slot_clear in omega arith))
+      where
+        slot_clear : taken_in bits (64 * word + bit) ≡ 0
+        slot_clear = ap (bit_at bits) (bit_is word bit lt) ∙ clear
+
+    -- so it may try for that slot in a store that fits
+    pub asks_try : (bit : ℕ) → bit < 64 → from ≤ bit → bit_at bits bit ≡ 0 → ((i : ℕ) → from ≤ i → i < bit → bit_at bits i ≡ 1) → Asks g u (Own t (64 * word + bit))
+    asks_try bit lt low clear set_before fitting = subst (OfWriter (HasCome (64 * word + bit))) (sym h.came.here) (ap Some (come_to bit lt low clear set_before))
+
     module _ (writes : t < inner) (bit : ℕ) (lt : bit < 64) (low : from ≤ bit) (clear : bit_at bits bit ≡ 0) (set_before : (i : ℕ) → from ≤ i → i < bit → bit_at bits i ≡ 1) (n : ℕ) (w : View X) (st : Steps g u (Own t (64 * word + bit)) n w) (after : Stands g w) where
       abbrev slot : ℕ
       slot = 64 * word + bit
@@ -256,9 +271,7 @@ module _ {X : Type 0} (g : Ground X) (t : ℕ) (v : View X) (x : Writer X) where
       slot_clear = ap (bit_at bits) (bit_is word bit lt) ∙ clear
 
       place_is : h.place ≡ slot
-      place_is = dite (ℕ_discrete (h.place - slot) 0)
-          (λ le. dite (ℕ_discrete h.place slot) (λ e. e) (λ ne. absurd (let z = h.low in let a = h.free (omega arith) in let b = set_at bit h.place (omega arith) set_before h.low (omega arith) in omega arith)))
-          (λ gt. absurd (let z = h.passed_on slot (omega arith) (omega arith) in let y = slot_clear in omega arith))
+      place_is = come_to bit lt low clear set_before
 
       was_free : found_free (slot / 64) slot h.came.added.items ≡ true
       was_free = ap (λ (z : ℕ). found_free z slot h.came.added.items) slot_word ∙ h.free_by slot ∙ eq-eqb (taken_in bits slot) 0 slot_clear
@@ -383,8 +396,8 @@ module _ {X : Type 0} (g : Ground X) (t : ℕ) (v : View X) (x : Writer X) where
         over (inl e) = inl (let z = reaches_end in omega arith)
         over (inr e) = inr (let z = reaches_end in omega arith)
 
-  pub all_taken : (u : View X) → tab_at v t ≡ Writing x → AtWord (map_words g.setting.slots) u → FoundAllTaken g t v u
-  all_taken u is h = record {
+  pub all_taken : (u : View X) → tab_at v t ≡ Writing x → AtWord (map_words g.setting.slots) u → Stands g u → IsPass u → t < inner → FoundAllTaken g t v u
+  all_taken u is h st pass writes = record {
     added = h.came.added;
     passed = record {
       went = h.came.passed.went;
@@ -397,7 +410,8 @@ module _ {X : Type 0} (g : Ground X) (t : ℕ) (v : View X) (x : Writer X) where
     tries = h.came.tries;
     alone = h.came.alone;
     claim = h.claim;
-    place = λ some_slot. let p = h.place (omega arith) in (p.0, p.1, behind p.0 p.3);
+    place = past;
+    unfit = search_unfit g u t record x { claim = h.claim } st pass (omega arith) h.came.here past;
     tabs = sym (set_back u.tabs t Free) ∙ ap (λ (z : Tab X). with_tab u t z) h.came.here ∙ h.came.others (tab_to h.claim) ∙ ap (λ (z : Tab X). with_tab v t (searched_to z h.claim)) (sym is);
     same = h.came.same;
   }
@@ -406,12 +420,28 @@ module _ {X : Type 0} (g : Ground X) (t : ℕ) (v : View X) (x : Writer X) where
       behind p (inl e) = omega arith
       behind p (inr e) = e
 
+      past : 0 < g.setting.slots → (p : ℕ) × (h.claim ≡ Some p) × (g.setting.slots ≤ p)
+      past some_slot = let p = h.place (omega arith) in (p.0, p.1, behind p.0 p.3)
+
   -- what the tab may do after some steps of the search
   pub may_still : (slot : ℕ) (claim : Option ℕ) (u : View X) → MayReserve x → Came slot claim u → OfWriter MayReserve (tab_at u t)
   may_still slot claim u may h = subst (OfWriter MayReserve) (sym h.here) record { room = may.room; chosen = may.chosen; open_end = may.open_end; goes_on = may.goes_on }
 
   pub inner_still : (slot : ℕ) (claim : Option ℕ) (u : View X) → t < inner → InnerIsFree v → Came slot claim u → InnerIsFree u
   inner_still slot claim u writes free h = ap tab_is_free (sym (get_or-set_other u.tabs t inner Free Free (λ e. absurd (omega arith))) ∙ ap (λ (xs : List (Tab X)). get_or xs inner Free) (h.others Free) ∙ get_or-set_other v.tabs t inner Free Free (λ e. absurd (omega arith))) ∙ free
+
+  -- In a store that fits a search begins at the first word, and at each other one it has come to the first slot.
+  pub asks_look : (word : ℕ) (u : View X) → t < inner → InnerIsFree v → MayReserve x → (fits g ≡ true → MayBegin g.setting (need_of g) x) → AtWord word u → word < map_words g.setting.slots → Asks g u (LookMap t word)
+  asks_look word u writes free may needed h inside fitting = dite (ℕ_discrete word 0)
+      (λ z. inl (z, writes, inner_still h.slot h.claim u writes free h.came, subst (OfWriter (MayBegin g.setting (need_of g))) (sym h.came.here) record {
+        reserves = record { room = may.room; chosen = may.chosen; open_end = may.open_end; goes_on = may.goes_on };
+        within = (needed fitting).within;
+      }))
+      (λ ne. let p = h.place (omega arith) in inr (subst (OfWriter (HasCome (64 * word))) (sym h.came.here) (p.1 ∙ ap Some (at_first p.0 p.2 p.3))))
+    where
+      at_first : (p : ℕ) → p ≤ 64 * word → (64 * word ≤ p) ⊎ (g.setting.slots ≤ p) → p ≡ 64 * word
+      at_first p le (inl ge) = omega arith
+      at_first p le (inr ge) = absurd (omega arith)
 
 -- the same of the tab's writer, whichever it is
 pub record WordCame {X : Type 0} (g : Ground X) (t : ℕ) (v : View X) (word : ℕ) (u : View X) : Type 0 where

@@ -11,19 +11,21 @@ use Rattle.core_model.specs.declared.view.Kind.{Kind}
 use Rattle.core_model.specs.declared.view.Kind.TheVariants.{Owned, Searched}
 use Rattle.core_model.specs.declared.view.Place.TheVariants.{Map}
 use Rattle.core_model.specs.declared.view.View.{View}
+use Rattle.core_room.specs.Conditions.{MayBegin}
 use Rattle.store_rule.specs.declared.store.Pass.{Pass}
 use Rattle.store_rule.specs.declared.store.Store.{Store}
-use Rattle.store_rule.specs.Ground.{Ground, Offers}
-use Rattle.store_rule.specs.Passes.{IsOf, view}
+use Rattle.store_rule.specs.Ground.{Ground, Offers, fits, need_of}
+use Rattle.store_rule.specs.Passes.{IsOf, basis, view}
 use Rattle.store_rule.specs.Runs.{Added, Went}
 use Rattle.store_rule.specs.Words.{Mine, has, is_free_slot}
 
--- The tab may reserve one slot more.
+-- The tab may reserve one slot more. In a store that fits, its entry has with that at most as many as are needed at its anchor.
 pub record MayClaim {C O : Type 0} (tells : Bool) (state : C → CellState) (offers : O → Offers) (s : Store C O) (p : Pass C) (t : ℕ) : Type 0 where
   pub own : IsOf tells state offers s p
   pub below : t < inner
   pub inner_free : InnerIsFree (view p)
   pub may : OfWriter MayReserve (tab_at (view p) t)
+  pub needed : fits (basis tells state offers s) ≡ true → OfWriter (MayBegin (basis tells state offers s).setting (need_of (basis tells state offers s))) (tab_at (view p) t)
 
 abbrev pub item : Kind → ℕ → ℕ → Item
 item kind at n = record { kind = kind; at = at; found = n }
@@ -106,4 +108,5 @@ pub record FoundAllTaken {X : Type 0} (g : Ground X) (t : ℕ) (v w : View X) : 
   pub claim : Option ℕ
   pub place : 0 < g.setting.slots → (p : ℕ) × (claim ≡ Some p) × (g.setting.slots ≤ p)
   pub tabs : w.tabs ≡ with_tab v t (searched_to (tab_at v t) claim)
+  pub unfit : fits g ≡ false  -- the store does not fit
   pub same : (word : ℕ) → word < map_words g.setting.slots → Mine g v (Map word) → has g w (Map word) ≡ has g v (Map word)

@@ -1,6 +1,7 @@
 -- What may be asked of a store that is offered what the lines of a script offer.
-use Rattle.std.proofs.Common.{◌∙◌, ◌+◌, ◌-◌, ◌≡◌, ◌≢◌, Bool, Contains, List, [], ap, arith, refl, ℕ}
-use Rattle.std.specs.Prelude.{None, Option, Some, option_and_then}
+use Rattle.std.proofs.Common.{◌∙◌, ◌+◌, ◌-◌, ◌==◌, ◌∷◌, ◌≡◌, ◌≢◌, ◌≤◌, Bool, Contains, List, [], ap, arith, eq-eqb, false, length, min, refl, sym, true, ℕ}
+use Rattle.std.specs.Prelude.{None, Option, Some, nat_le, option_and_then}
+use Rattle.std.proofs.lemmas.Bool.{le-leb}
 use Rattle.std.specs.Option.{option_map_or}
 use Rattle.rock_disk.specs.Cell.{CellState}
 use Rattle.store_key.specs.Url.{IsUrl}
@@ -12,13 +13,16 @@ use Rattle.script_text.specs.declared.request.Request.{Request}
 use Rattle.script_text.specs.declared.request.Request.TheVariants.{Add, Await, Begin, CloseTab, DropTab, End, Get, Mark, More, OpenTab, Purge, Put, Save}
 use Rattle.script_text.specs.declared.verb.Verb.{Verb}
 use Rattle.plain_model.specs.Serving.{bytes_of}
-use Rattle.store_rule.specs.Ground.{Offers, anchor_for}
+use Rattle.store_key.specs.Anchor.{anchor_of}
+use Rattle.store_key.specs.Key.{key_of}
+use Rattle.entry_cut.specs.Content.{LeavesRoom, content_of, count, front_size, slots_needed}
+use Rattle.store_rule.specs.Ground.{Offers, anchor_for, cut_of, need_of, url_of}
 use Rattle.store_rule.specs.Passes.{basis}
 use Rattle.store_rule.specs.declared.store.Pass.{Pass}
 use Rattle.store_rule.specs.declared.store.Store.{Store}
 use Rattle.worker_shelf.specs.Taking.{IsOffered, MayAsk, MayGo, offer_of}
 use Rattle.rock_run.specs.Asked.{IsAsked, IsFound}
-use Rattle.rock_run.specs.Offered.{Response, offered_by, offered_in, offers_of}
+use Rattle.rock_run.specs.Offered.{Response, most_taken, offered_by, offered_in, offers_of, taken_at}
 use Rattle.rock_run.proofs.Found.{found, spelled}
 
 -- a request that is spelled by words of a script names a tab and a URL of one
@@ -49,19 +53,62 @@ left_to_none : (lines : List Line) (a : ℕ) → (offers_of lines).alone a ≡ N
 unfolding offers_of
 left_to_none lines a = refl
 
+need_offered : (lines : List Line) (anchors slot a : ℕ) → (offers_of lines).need anchors slot a ≡ most_taken anchors slot a lines
+unfolding offers_of
+need_offered lines anchors slot a = refl
+
+-- what the line of a number offers takes at most what the lines together do
+most_offered : (anchors slot a : ℕ) (lines : List Line) (number : ℕ) (r : Response) → offered_by lines number ≡ Some r → taken_at anchors slot a r ≤ most_taken anchors slot a lines
+most_offered anchors slot a [] number r e = absurd (none_some e)
+  where
+    none_some : None ≡ Some r → ⊥
+    none_some z = cc
+most_offered anchors slot a (x ∷ xs) number r e = by_case (x.number == number) refl
+  where
+    by_case : (b : Bool) → (x.number == number) ≡ b → taken_at anchors slot a r ≤ most_taken anchors slot a (x ∷ xs)
+    by_case true q =
+        let this : offered_by (x ∷ xs) number ≡ offered_in x.request = rw q refl in
+        let takes = ap (λ (o : Option Response). option_map_or (taken_at anchors slot a) o 0) (sym this ∙ e) in omega arith
+    by_case false q =
+        let other : offered_by (x ∷ xs) number ≡ offered_by xs number = rw q refl in
+        let h = most_offered anchors slot a xs number r (sym other ∙ e) in omega arith
+
+-- at its own anchor it takes as many slots as its content needs, and at most 4,096
+takes_here : (anchors slot : ℕ) (url : List ℕ) (body : Body) → LeavesRoom slot url
+    → taken_at anchors slot (anchor_of (key_of url) anchors) record { url = url; body = body } ≡ min (slots_needed (length (content_of url (bytes_of body))) slot) 4096
+takes_here anchors slot url body short =
+    let same = eq-eqb (anchor_of (key_of url) anchors) (anchor_of (key_of url) anchors) refl in
+    let room = le-leb (length url + front_size) slot short in rw (same, room) refl
+
 behind : (slots number : ℕ) → (slots + number) - slots ≡ number
 behind slots number = omega arith
 
 module _ {C O : Type 0} (tells : Bool) (state : C → CellState) (offers : O → Offers) (s : Store C O) (lines : List Line) (given : (basis tells state offers s).offers ≡ offers_of lines) where
+  url_there : (number : ℕ) (url : List ℕ) (body : Body) → offered_by lines number ≡ Some record { url = url; body = body }
+      → url_of (basis tells state offers s) (offer_of tells state offers s number) ≡ url
+  url_there number url body e = ap (basis tells state offers s).offers.url (behind (basis tells state offers s).setting.slots number)
+      ∙ (ap (λ (o : Offers). o.url number) given ∙ url_offered lines number url body e)
+
+  body_there : (number : ℕ) (url : List ℕ) (body : Body) → offered_by lines number ≡ Some record { url = url; body = body }
+      → (basis tells state offers s).offers.body (offer_of tells state offers s number - (basis tells state offers s).setting.slots) ≡ bytes_of body
+  body_there number url body e = ap (basis tells state offers s).offers.body (behind (basis tells state offers s).setting.slots number)
+      ∙ (ap (λ (o : Offers). o.body number) given ∙ body_offered lines number url body e)
+
   is_offered : (number : ℕ) (url : List ℕ) (body : Body) → IsUrl url → offered_by lines number ≡ Some record { url = url; body = body }
       → IsOffered tells state offers s (offer_of tells state offers s number) url body
   is_offered number url body good e = record {
     from = omega arith;
-    url_is = ap (basis tells state offers s).offers.url (behind (basis tells state offers s).setting.slots number)
-        ∙ (ap (λ (o : Offers). o.url number) given ∙ url_offered lines number url body e);
-    body_is = ap (basis tells state offers s).offers.body (behind (basis tells state offers s).setting.slots number)
-        ∙ (ap (λ (o : Offers). o.body number) given ∙ body_offered lines number url body e);
+    url_is = url_there number url body e;
+    body_is = body_there number url body e;
     good = good;
+    needed = λ short fitting.
+        let g = basis tells state offers s in
+        let a : ℕ = anchor_for g url in
+        let n : need_of g a ≡ most_taken g.setting.anchors g.slot a lines = ap (λ (o : Offers). o.need g.setting.anchors g.slot a) given ∙ need_offered lines g.setting.anchors g.slot a in
+        let m = most_offered g.setting.anchors g.slot a lines number record { url = url; body = body } e in
+        let t = takes_here g.setting.anchors g.slot url body short in
+        let c : count (cut_of g (offer_of tells state offers s number) 0 0) ≡ slots_needed (length (content_of url (bytes_of body))) g.slot =
+            (λ i. slots_needed (length (content_of (url_there number url body e i) (body_there number url body e i))) g.slot) in omega arith;
   }
 
   may_ask : (number : ℕ) (request : Request) → IsAsked request → offered_by lines number ≡ offered_in request

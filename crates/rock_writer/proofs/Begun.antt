@@ -219,6 +219,7 @@ module _ {C O : Type 0} (tells : Bool) (state : C → CellState) (offers : O →
             goes_on = refl;
             is = ap (λ z. tab_at z t) same_view ∙ tab_named.0;
             from = may.from;
+            needed = may.needed room;
             fits = offer_fits;
           };
           drafts = drafts;

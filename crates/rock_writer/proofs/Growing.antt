@@ -7,7 +7,7 @@ use Rattle.link_word.specs.declared.link.Link.{Link}
 use Rattle.link_word.specs.declared.link.Link.TheVariants.{Next}
 use Rattle.lock_word.specs.declared.stage.Stage.TheVariants.{Appending}
 use Rattle.rock_disk.specs.Cell.{CellState}
-use Rattle.entry_cut.specs.Content.{room_of}
+use Rattle.entry_cut.specs.Content.{count, room_of}
 use Rattle.entry_cut.specs.declared.piece.Behind.TheVariants.{Slot}
 use Rattle.core_model.specs.AllowedByView.{StoredStart}
 use Rattle.core_model.specs.AnchorMoves.{MayRaise, raised_tab}
@@ -23,7 +23,7 @@ use Rattle.tab_states.specs.declared.desks.Desk.{Desk}
 use Rattle.store_rule.specs.declared.store.Pass.{Pass}
 use Rattle.store_rule.specs.declared.store.Store.{Store}
 use Rattle.tab_states.specs.Desks.{draft_at}
-use Rattle.store_rule.specs.Ground.{Ground, Offers}
+use Rattle.store_rule.specs.Ground.{Ground, Offers, cut_of}
 use Rattle.store_rule.specs.Passes.{IsOf, Made, May, basis, view}
 use Rattle.store_rule.proofs.Passing.{pass_of}
 use Rattle.slice_chain.specs.Links.{Published, next_link}
@@ -100,6 +100,10 @@ module _ {C O : Type 0} (tells : Bool) (state : C → CellState) (offers : O →
   longer : length ps * room_of g.slot + room_of g.slot < length (whole_in g e)
   longer = let c = h.writes.drafts.count in let f = h.full in let m = h.more in omega (arith, whole_size)
 
+  -- the content takes one slot more, behind this piece
+  pub more_pieces : length ps + 1 < count (cut_of g e.offer 0 0)
+  more_pieces = needs_more (length (whole_in g e)) (length ps) (room_of g.slot) some_room longer
+
   module _ (q : Pass C) (slot next : ℕ) (rests : Rests tells state offers s q t e ps h.writes.end (slot ∷ next ∷ [])) (desks : q.desks ≡ p.desks) where
     pub may_publish_piece : MayPublishPiece tells state offers s q t slot (Slot next)
     may_publish_piece = record {
@@ -137,7 +141,7 @@ module _ {C O : Type 0} (tells : Bool) (state : C → CellState) (offers : O →
         goes_on = record {
           published = ps ++ slot ∷ [];
           end = Next next;
-          rests = record { own = own2; below = rests.below; inner_free = free; goes_on = grown ps; is = is; from = rests.from; fits = rests.fits };
+          rests = record { own = own2; below = rests.below; inner_free = free; goes_on = grown ps; is = is; from = rests.from; needed = rests.needed; fits = rests.fits };
           drafts = let d = h.writes.drafts in record {
             key = ap Rattle.tab_states.specs.declared.desks.Draft.Draft.key draft ∙ d.key;
             durable = ap Rattle.tab_states.specs.declared.desks.Draft.Draft.is_durable draft ∙ d.durable;

@@ -16,3 +16,4 @@ pub mod Begun
 pub mod Staying
 pub mod Durable
 pub mod During
+pub mod Lacking

@@ -100,7 +100,7 @@ module _ {C O : Type 0} (tells : Bool) (state : C → CellState) (offers : O →
           can = record {
             allowed = subst (λ (z : ℕ). Rattle.core_model.specs.AllowedByView.AllowedByView (basis tells state offers s).setting (view q) (Evict t z)) (sym (ap anchor_of at))
                 (standing.anchor_inside (basis tells state offers s) (view p) own.stands t w there, inr (let b = below in omega arith, at, ap is_left_over find ∙ e, inl inner_free));
-            asks = tt;
+            asks = λ fitting. at ∙ ap Last (sym (ap anchor_of at));
           };
         };
         left = ap (λ (z : List ℕ). get_or z t 0) made.left ∙ get_or-set_same p.left t told 0 (let n = p.nine_left in let b = below in omega arith) ∙ sym find ∙ ap (λ (z : ℕ). last_find z (view q).trail) (sym (ap anchor_of at));

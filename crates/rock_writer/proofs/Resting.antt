@@ -1,5 +1,5 @@
 -- A tab that writes, from one step of its pass to the next.
-use Rattle.std.proofs.Common.{Bool, List, None, Option, Some, [], ap, arith, get_or, get_or-set_other, get_or-set_same, inr, length, length-set, refl, set, subst, sym, unwrap_or, ◌++◌, ◌<◌, ◌≡◌, ◌≢◌, ◌∙◌, ◌∷◌, ⊎_elim, ℕ}
+use Rattle.std.proofs.Common.{Bool, List, None, Option, Some, [], ap, arith, get_or, get_or-set_other, get_or-set_same, inr, length, length-set, min, refl, set, subst, sym, true, unwrap_or, ◌++◌, ◌+◌, ◌<◌, ◌≡◌, ◌≢◌, ◌≤◌, ◌∙◌, ◌∷◌, ⊎_elim, ℕ}
 use Rattle.link_word.specs.declared.link.Link.{Link}
 use Rattle.link_word.specs.declared.link.Link.TheVariants.{Last as LastLink, Next, NotWritten}
 use Rattle.rock_disk.specs.Cell.{CellState}
@@ -12,19 +12,24 @@ use Rattle.core_model.specs.declared.tab.Tab.TheVariants.{Free, Freeing, Last, R
 use Rattle.core_model.specs.declared.view.View.{View}
 use Rattle.store_rule.specs.declared.store.Pass.{Pass}
 use Rattle.store_rule.specs.declared.store.Store.{Store}
-use Rattle.store_rule.specs.Ground.{Ground, Offers}
+use Rattle.core_room.specs.Conditions.{MayBegin}
+use Rattle.entry_cut.specs.Content.{room_of}
+use Rattle.store_rule.specs.Ground.{Ground, Offers, fits, need_of}
 use Rattle.store_rule.specs.Calls.{Follows}
 use Rattle.store_rule.specs.Passes.{IsOf, basis, view}
 use Rattle.tab_states.specs.Tabs.{head_of}
 use Rattle.store_rule.proofs.Passing.{pass_of}
+use Rattle.store_rule.proofs.RoomKept.{fits_some}
 use Rattle.store_rule.proofs.Seating.{set_twice}
 use Rattle.free_set.specs.Claims.{FoundAllTaken, MayClaim, searched_to}
 use Rattle.slice_chain.specs.Writes.{reserved_first}
-use Rattle.rock_writer.specs.Entries.{Entry, GoesOn, Rests, writer_as}
+use Rattle.rock_writer.specs.Durable.{pieces_in}
+use Rattle.rock_writer.specs.Entries.{Entry, GoesOn, Rests, whole_in, writer_as}
 use Rattle.rock_writer.specs.Flushing.{LacksSlot, SlotFor}
 use Rattle.slice_chain.specs.Victims.{Evicted, MayEvictOne, NoneIdle, hand_in}
 use Rattle.rock_writer.specs.Halting.{MayHalt}
 use Rattle.rock_writer.specs.Reserving.{RanOut, Reserved}
+use Rattle.rock_writer.proofs.Sizes.{needs_one}
 
 module _ {X : Type 0} (t : ℕ) (v w : View X) (x : Tab X) (pass : IsPass v) (below : t < inner) (is : w.tabs ≡ with_tab v t x) where
   pub tab_now : tab_at w t ≡ x
@@ -73,20 +78,53 @@ open_end (x ∷ xs) end h e = not_last (sym h.1 ∙ e)
     not_last : Next h.0 ≡ LastLink → ⊥
     not_last z = cc
 
+-- Where no slot is named behind what is published, nothing is published, and none is reserved.
+module _ (end : Link) (none : head_of (slots_of_link end) ≡ None) where
+  none_named : (next : ℕ) → end ≡ Next next → ⊥
+  none_named next e = not_some (sym (ap (λ (l : Link). head_of (slots_of_link l)) e) ∙ none)
+    where
+      not_some : Some next ≡ None → ⊥
+      not_some z = cc
+
+  pub none_reserved : length (slots_of_link end) ≡ 0
+  none_reserved = by_list (slots_of_link end) none
+    where
+      by_list : (xs : List ℕ) → head_of xs ≡ None → length xs ≡ 0
+      by_list [] e = refl
+      by_list (x ∷ xs) e = cc
+
+  pub none_published : (published : List ℕ) → GoesOn published end → length published ≡ 0
+  none_published [] h = refl
+  none_published (x ∷ xs) h = absurd (none_named h.0 h.1)
+
 module _ {C O : Type 0} (tells : Bool) (state : C → CellState) (offers : O → Offers) (s : Store C O) (t : ℕ) (e : Entry) (published : List ℕ) (end : Link) where
   abbrev g : Ground (List ℕ)
   g = basis tells state offers s
 
-  pub may_claim : (p : Pass C) (rs : List ℕ) → Rests tells state offers s p t e published end rs → length rs < 2 → MayClaim tells state offers s p t
-  may_claim p rs h few = record {
+  -- with one slot more it has at most what its content takes, and an entry may have
+  pub may_claim : (p : Pass C) (rs : List ℕ) → Rests tells state offers s p t e published end rs → length rs < 2
+      → (fits g ≡ true → length published + length rs + 1 ≤ min (pieces_in g e) (min 4096 g.setting.slots)) → MayClaim tells state offers s p t
+  may_claim p rs h few within = record {
     own = h.own;
     below = h.below;
     inner_free = h.inner_free;
-    may = subst (OfWriter MayReserve) (sym h.is) record { room = few; chosen = λ q e. absurd (no_piece q e); open_end = open_end published end h.goes_on; goes_on = refl };
+    may = subst (OfWriter MayReserve) (sym h.is) reserves_one;
+    needed = λ fitting. subst (OfWriter (MayBegin g.setting (need_of g))) (sym h.is) record { reserves = reserves_one; within = let n = h.needed fitting in let w = within fitting in omega arith };
   }
     where
+      reserves_one : MayReserve (writer_as g e published end rs)
+      reserves_one = record { room = few; chosen = λ q e. absurd (no_piece q e); open_end = open_end published end h.goes_on; goes_on = refl }
+
       no_piece : (q : Piece) → None ≡ Some q → ⊥
       no_piece q e = cc
+
+  -- the first slot of all
+  pub may_claim_first : (p : Pass C) → Rests tells state offers s p t e published end (slots_of_link end) → head_of (slots_of_link end) ≡ None → 0 < length (whole_in g e) → MayClaim tells state offers s p t
+  may_claim_first p h none some =
+      let r = none_reserved end none in let n = none_published end none published h.goes_on in
+      let room : 0 < room_of g.slot = (let z = h.fits.short in omega arith) in
+      let one = needs_one (length (whole_in g e)) (room_of g.slot) room some in
+      may_claim p (slots_of_link end) h (omega arith) (λ fitting. let slots = fits_some g fitting in omega arith)
 
   pub may_halt : (p : Pass C) (rs : List ℕ) → Rests tells state offers s p t e published end rs → MayHalt tells state offers s p t
   may_halt p rs h = record {
@@ -117,7 +155,7 @@ module _ {C O : Type 0} (tells : Bool) (state : C → CellState) (offers : O →
   -- the same tab at another pass
   pub rests_at : (p q : Pass C) (rs more : List ℕ) → Rests tells state offers s p t e published end rs → IsOf tells state offers s q → tab_at (view q) t ≡ Writing (writer_as g e published end more) → InnerIsFree (view q)
       → Rests tells state offers s q t e published end more
-  rests_at p q rs more h own is free = record { own = own; below = h.below; inner_free = free; goes_on = h.goes_on; is = is; from = h.from; fits = h.fits }
+  rests_at p q rs more h own is free = record { own = own; below = h.below; inner_free = free; goes_on = h.goes_on; is = is; from = h.from; needed = h.needed; fits = h.fits }
 
   pub rests_on : (p q : Pass C) (rs : List ℕ) → Rests tells state offers s p t e published end rs → IsOf tells state offers s q → (view q).tabs ≡ (view p).tabs → Rests tells state offers s q t e published end rs
   rests_on p q rs h own same = rests_at p q rs rs h own (ap (λ xs. get_or xs t Tab.Free) same ∙ h.is) (ap (λ xs. is_free (get_or xs inner Tab.Free)) same ∙ h.inner_free)
@@ -159,6 +197,7 @@ module _ {C O : Type 0} (tells : Bool) (state : C → CellState) (offers : O →
     below = may.below;
     inner_free = inner_now t (view p) (view q) (searched_to (tab_at (view p) t) none.claim) (pass_of p) may.below none.tabs may.inner_free;
     may = subst (OfWriter MayReserve) (sym (tab_now t (view p) (view q) (searched_to (tab_at (view p) t) none.claim) (pass_of p) may.below none.tabs)) (still_may (tab_at (view p) t) none.claim may.may);
+    unfit = none.unfit;
   }
 
   pub reserved_by : (slot hand_after : ℕ) (w : View (List ℕ)) → Evicted h (hand_in h.setting.anchors q.hand) (view q) t slot w hand_after → Reserved h t p.hand (view p) slot w hand_after

@@ -31,6 +31,10 @@ module _ (k h r : ℕ) (some : 1 ≤ h) (within : h ≤ r) where
 pub needs_more : (size k r : ℕ) → 0 < r → k * r + r < size → k + 1 < (size + (r - 1)) / r
 needs_more size k r some more = let l = le-div (k + 1 + 1) (size + (r - 1)) r some (omega (arith, next_room (k + 1) r, next_room k r)) in omega arith
 
+-- one that has a byte needs a slot
+pub needs_one : (size r : ℕ) → 0 < r → 0 < size → 0 < (size + (r - 1)) / r
+needs_one size r some more = let l = le-div 1 (size + (r - 1)) r some (omega arith) in omega arith
+
 -- a piece that is full, and the last one
 pub full_piece : (r : ℕ) (content : List ℕ) (k : ℕ) → k * r + r ≤ length content → length (piece r content k) ≡ r
 full_piece r content k le = omega (arith, length-take r (drop (k * r) content), length-drop (k * r) content)

@@ -39,6 +39,7 @@ module _ {C O : Type 0} (tells : Bool) (state : C → CellState) (offers : O →
       goes_on = r.goes_on;
       is = follows.others t ne (λ z. let b = r.below in omega arith) ∙ r.is;
       from = r.from;
+      needed = r.needed;
       fits = r.fits;
     };
     drafts = let d = h.drafts in record {

@@ -35,6 +35,7 @@ module _ {C O : Type 0} (tells : Bool) (state : C → CellState) (offers : O →
       goes_on = r.goes_on;
       is = ap (λ z. tab_at z t) (same_view t p q kept) ∙ r.is;
       from = r.from;
+      needed = r.needed;
       fits = r.fits;
     };
     drafts = record { key = d.key; durable = d.durable; count = d.count; least = let l = d.least in omega arith; within = d.within; inside = d.inside; bytes = d.bytes };

@@ -1,14 +1,14 @@
 -- More bytes of a body are taken, or the entry is given up.
-use Rattle.std.specs.Prelude.{Bool, List, [], length, min, ◌*◌, ◌+◌, ◌-◌, ◌/◌, ◌≡◌, ◌≢◌, ◌⊎◌, ℕ}
+use Rattle.std.specs.Prelude.{Bool, List, [], false, length, min, ◌*◌, ◌+◌, ◌-◌, ◌/◌, ◌≡◌, ◌≢◌, ◌⊎◌, ℕ}
 use Rattle.rock_disk.specs.Cell.{CellState}
 use Rattle.entry_cut.specs.Content.{room_of}
 use Rattle.core_model.specs.declared.view.View.{View}
 use Rattle.store_rule.specs.declared.store.Pass.{Pass}
 use Rattle.store_rule.specs.declared.store.Store.{Store}
-use Rattle.store_rule.specs.Ground.{Ground, Offers}
+use Rattle.store_rule.specs.Ground.{Ground, Offers, fits}
 use Rattle.store_rule.specs.Passes.{basis, view}
 use Rattle.rock_writer.specs.declared.fault.WriteFault.{WriteFault}
-use Rattle.rock_writer.specs.declared.fault.WriteFault.TheVariants.{Large}
+use Rattle.rock_writer.specs.declared.fault.WriteFault.TheVariants.{Full, Large}
 use Rattle.rock_writer.specs.Entries.{Continues, Entry, WritesAs, size_of, with_taken}
 use Rattle.rock_writer.specs.Flushing.{Flushed, IsAtLimit, NotFlushed}
 use Rattle.rock_writer.specs.Halting.{Halts}
@@ -72,4 +72,5 @@ module _ {C O : Type 0} (tells : Bool) (state : C → CellState) (offers : O →
       pub limit : (fault ≡ Large → IsAtLimit g (place_of g e)) × (fault ≢ Large → ¬ IsAtLimit g (place_of g e))
       pub middle : View (List ℕ)
       pub stopped : NotFlushed g t p.hand e.is_durable (view p) fault middle q.hand
+      pub unfit : fault ≡ Full → fits g ≡ false  -- in a store that fits there is a slot
       pub halts : Halts g t middle (view q)

@@ -5,14 +5,14 @@ use Rattle.lock_word.specs.declared.word.Word.{Word}
 use Rattle.rock_disk.specs.Cell.{CellState}
 use Rattle.store_key.specs.Key.{key_of}
 use Rattle.store_key.specs.Url.{IsUrl}
-use Rattle.entry_cut.specs.Content.{room_of}
+use Rattle.entry_cut.specs.Content.{LeavesRoom, room_of}
 use Rattle.core_model.specs.Tabs.{InnerIsFree, inner, tab_at}
 use Rattle.core_model.specs.declared.moves.Move.TheVariants.{Look, Take}
 use Rattle.core_model.specs.declared.tab.Tab.TheVariants.{Free}
 use Rattle.core_model.specs.declared.view.View.{View}
 use Rattle.store_rule.specs.declared.store.Pass.{Pass}
 use Rattle.store_rule.specs.declared.store.Store.{Store}
-use Rattle.store_rule.specs.Ground.{Ground, MayName, Offers, anchor_for, url_of}
+use Rattle.store_rule.specs.Ground.{Ground, IsNeeded, MayName, Offers, anchor_for, url_of}
 use Rattle.store_rule.specs.Passes.{IsOf, basis, view}
 use Rattle.store_rule.specs.Told.{Steps}
 use Rattle.store_rule.specs.Calls.{IsFresh}
@@ -40,7 +40,8 @@ pub record MayTakeAnchor {C O : Type 0} (tells : Bool) (state : C → CellState)
 abbrev pub MayClear : {C O : Type 0} → Bool → (C → CellState) → (O → Offers) → Store C O → Pass C → Type 0
 MayClear tells state offers s p = (IsOf tells state offers s p × InnerIsFree (view p)) ⊎ MayFreeChain tells state offers s p
 
--- The tab is free, and the URL is that of the offer.
+-- The tab is free, and the URL is that of the offer. Where it leaves room in a slot, a store that fits has as many slots for the offer at its anchor
+-- as are needed.
 pub record MayBegin {C O : Type 0} (tells : Bool) (state : C → CellState) (offers : O → Offers) (s : Store C O) (p : Pass C) (t offer : ℕ) (url : List ℕ) : Type 0 where
   pub own : IsOf tells state offers s p
   pub below : t < inner
@@ -49,6 +50,7 @@ pub record MayBegin {C O : Type 0} (tells : Bool) (state : C → CellState) (off
   pub from : (basis tells state offers s).setting.slots ≤ offer
   pub url_is : url_of (basis tells state offers s) offer ≡ url
   pub good : IsUrl url
+  pub needed : LeavesRoom (basis tells state offers s).slot url → IsNeeded (basis tells state offers s) offer (anchor_for (basis tells state offers s) url)
   pub name : MayName (basis tells state offers s) (view p) (anchor_for (basis tells state offers s) url)
 
 module _ {X : Type 0} (g : Ground X) (t a : ℕ) (v : View X) where

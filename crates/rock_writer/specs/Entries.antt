@@ -16,7 +16,7 @@ use Rattle.tab_states.specs.declared.desks.Desk.{Desk}
 use Rattle.store_rule.specs.declared.store.Pass.{Pass}
 use Rattle.store_rule.specs.declared.store.Store.{Store}
 use Rattle.tab_states.specs.Desks.{buffer_at, draft_at}
-use Rattle.store_rule.specs.Ground.{Ground, IsOfferFor, Offers, url_of}
+use Rattle.store_rule.specs.Ground.{Ground, IsNeeded, IsOfferFor, Offers, url_of}
 use Rattle.store_rule.specs.Passes.{IsOf, basis, view}
 
 -- an entry that a tab writes: where, of which version and offer, whether its slots are synced, and how many bytes of its body were taken
@@ -99,6 +99,7 @@ module _ {C O : Type 0} (tells : Bool) (state : C → CellState) (offers : O →
     pub goes_on : GoesOn published end
     pub is : tab_at (view p) t ≡ Writing (writer_as (basis tells state offers s) e published end reserved)
     pub from : (basis tells state offers s).setting.slots ≤ e.offer
+    pub needed : IsNeeded (basis tells state offers s) e.offer e.anchor
     pub fits : IsOfferFor (basis tells state offers s) e.offer e.anchor (front_half (key_of (url_in (basis tells state offers s) e))) (back_half (key_of (url_in (basis tells state offers s) e)))
 
   -- it writes this entry, and has at least so many bytes of the next piece

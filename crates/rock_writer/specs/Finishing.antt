@@ -8,7 +8,7 @@ use Rattle.core_model.specs.declared.moves.Move.TheVariants.{Raise}
 use Rattle.core_model.specs.declared.view.View.{View}
 use Rattle.store_rule.specs.declared.store.Pass.{Pass}
 use Rattle.store_rule.specs.declared.store.Store.{Store}
-use Rattle.store_rule.specs.Ground.{Ground, Offers}
+use Rattle.store_rule.specs.Ground.{Ground, Offers, fits}
 use Rattle.store_rule.specs.Passes.{IsOf, basis, view}
 use Rattle.core_model.specs.AllowedByView.{StoredStart}
 use Rattle.core_model.specs.Tabs.{InnerIsFree, inner, tab_at}
@@ -92,4 +92,5 @@ module _ {C O : Type 0} (tells : Bool) (state : C → CellState) (offers : O →
     pub record NotFinished (fault : WriteFault) : Type 0 where
       pub middle : View (List ℕ)
       pub stopped : NotWrittenLast g t p.hand e.is_durable (view p) fault middle q.hand
+      pub unfit : fault ≡ Full → fits g ≡ false  -- in a store that fits there is a slot
       pub halts : Halts g t middle (view q)

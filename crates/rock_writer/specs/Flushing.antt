@@ -11,7 +11,7 @@ use Rattle.core_model.specs.declared.moves.Move.TheVariants.{Raise}
 use Rattle.core_model.specs.declared.view.View.{View}
 use Rattle.store_rule.specs.declared.store.Pass.{Pass}
 use Rattle.store_rule.specs.declared.store.Store.{Store}
-use Rattle.store_rule.specs.Ground.{Ground, Offers}
+use Rattle.store_rule.specs.Ground.{Ground, Offers, cut_of}
 use Rattle.store_rule.specs.Passes.{basis}
 use Rattle.store_rule.specs.Told.{Steps}
 use Rattle.slice_chain.specs.Links.{Published}
@@ -20,7 +20,7 @@ use Rattle.rock_writer.specs.declared.fault.WriteFault.{WriteFault}
 use Rattle.rock_writer.specs.declared.fault.WriteFault.TheVariants.{Fault, Full, Large}
 use Rattle.rock_writer.specs.Drafting.{IsWhole}
 use Rattle.rock_writer.specs.Entries.{Entry, Rests, WritesAs, body_in}
-use Rattle.entry_cut.specs.Content.{room_of}
+use Rattle.entry_cut.specs.Content.{count, room_of}
 use Rattle.tab_states.specs.Desks.{draft_at}
 use Rattle.rock_writer.specs.Reserving.{RanOut, Reserved}
 
@@ -47,6 +47,12 @@ pub record MayFlush {C O : Type 0} (tells : Bool) (state : C → CellState) (off
   pub writes : WritesAs tells state offers s p t e
   pub full : (draft_at p.desks t).held ≡ room_of (basis tells state offers s).slot
   pub more : e.taken < length (body_in (basis tells state offers s) e)
+
+-- A tab writes an entry that has at most as many slots as its content takes, and as an entry may have, with one for its piece and one behind it.
+pub record MayReserveBoth {C O : Type 0} (tells : Bool) (state : C → CellState) (offers : O → Offers) (s : Store C O) (p : Pass C) (t : ℕ) : Type 0 where
+  pub entry : Entry
+  pub writes : WritesAs tells state offers s p t entry
+  pub within : length writes.published + 2 ≤ min (count (cut_of (basis tells state offers s) entry.offer 0 0)) (min 4096 (basis tells state offers s).setting.slots)
 
 module _ {X : Type 0} (g : Ground X) (t : ℕ) where
   -- the tab has reserved the slot for its next piece already: the last published one names it

@@ -4,7 +4,7 @@ ghost use Rattle.core_model.specs.Chains.{first_of};
 ghost use Rattle.tab_states.specs.Tabs.{head_of};
 ghost use Rattle.rock_io.specs.Faults.{Rose};
 ghost use Rattle.rock_writer.specs.Entries.{Entry, Rests, WritesAs, WritesWith};
-ghost use Rattle.rock_writer.specs.Flushing.{Flushed, HasBoth, IsAtLimit, LacksSlot, MayFlush, MayPublishPiece, NotFlushed, RanShort, SlotFor, WrotePiece, next_behind};
+ghost use Rattle.rock_writer.specs.Flushing.{Flushed, HasBoth, IsAtLimit, LacksSlot, MayFlush, MayPublishPiece, MayReserveBoth, NotFlushed, RanShort, SlotFor, WrotePiece, next_behind};
 ghost use Rattle.rock_writer.specs.Halting.{MayHalt};
 ghost use Rattle.rock_writer.specs.Passes.{FollowsWriting};
 ghost use Rattle.slice_chain.specs.Victims.{FollowsEvicting};
@@ -51,6 +51,8 @@ pub(crate) fn slot_for_piece<C: Cell, O: Origin>(
     ensures others { FollowsEvicting C.tells C.state O.offers store.now tab pass.old pass.new }
     ensures quiet { Quiet (view pass.old) (view pass.new) }
 {
+    written_meta_is_spelled();
+    keys_have_16_bytes();
     let Some(writing) = pass.writing(tab) else {
         unreachable!()
     };
@@ -128,7 +130,7 @@ fn reserve_both<C: Cell, O: Origin>(
     pass: &mut Pass<C>,
     tab: u8,
 ) -> Result<(u32, u32), NoVictim>
-    requires { (e : Entry) × WritesAs C.tells C.state O.offers store.now pass.old tab e }
+    requires { MayReserveBoth C.tells C.state O.offers store.now pass.old tab }
     ensures ok { IfOk result (λ slots. HasBoth (basis C.tells C.state O.offers store.now) tab pass.old.hand (view pass.old) slots.0 slots.1 (view pass.new) pass.new.hand) }
     ensures rests { (e : Entry) → (h : WritesAs C.tells C.state O.offers store.now pass.old tab e)
         → IfOk result (λ slots. Rests C.tells C.state O.offers store.now pass.new tab e h.published h.end (slots.0 ∷ slots.1 ∷ [])) }

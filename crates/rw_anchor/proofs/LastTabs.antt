@@ -56,7 +56,7 @@ module _ {C O : Type 0} (tells : Bool) (state : C → CellState) (offers : O →
           own = made.own;
           can = record {
             allowed = subst (λ (z : ℕ). AllowedByView g.setting (view q) (Evict t z)) (sym at) (may_evict g (view p) (view q) t made.found made.step (pass_of p) le lt is_over free);
-            asks = tt;
+            asks = λ fitting. tab_is g (view p) (view q) t made.found made.step (pass_of p) le is_over ∙ ap Tab.Last (sym at);
           };
         };
         left = ap (λ (z : List ℕ). get_or z t 0) made.left ∙ get_or-set_same p.left t told 0 (let n = p.nine_left in omega arith)

@@ -30,7 +30,7 @@ use Rattle.core_model.proofs.Lists.{contains_none}
 use Rattle.core_model.proofs.Telling.{stage_told}
 use Rattle.store_rule.specs.declared.store.Pass.{Pass}
 use Rattle.store_rule.specs.declared.store.Store.{Store}
-use Rattle.store_rule.specs.Ground.{Ground, Offers}
+use Rattle.store_rule.specs.Ground.{Ground, Offers, fits}
 use Rattle.store_rule.specs.Passes.{HandMoves, IsOf, basis, hand, view}
 use Rattle.store_rule.specs.Told.{found_as, the_view}
 use Rattle.store_rule.proofs.Passing.{pass_of}
@@ -176,8 +176,8 @@ module _ {X : Type 0} (g : Ground X) (hand : ℕ) (v : View X) where
           (λ l. absurd (contains_none q (subst (λ (xs : List Place). Contains xs q) (ap (λ xs. xs ++ h.added.changed) x.looked.calm.1 ∙ h.calm.1) l)))
           (Contains-append_cases evict_added.changed (together x.looked.added h.added).changed q c)
 
-      pub evicts : (t slot : ℕ) (w : View X) → t ≢ inner → KeptFirst g t won slot w → (hand_after : ℕ) → hand_after ≡ onward g.setting.anchors a 1 → Evicted g hand v t slot w hand_after
-      evicts t slot w other k hand_after moved = record {
+      pub evicts : (t slot : ℕ) (w : View X) → t ≢ inner → KeptFirst g t won slot w → (hand_after : ℕ) → hand_after ≡ onward g.setting.anchors a 1 → fits g ≡ false → Evicted g hand v t slot w hand_after
+      evicts t slot w other k hand_after moved unfit = record {
         steps = steps;
         moved = moved;
         within = below;
@@ -196,14 +196,15 @@ module _ {X : Type 0} (g : Ground X) (hand : ℕ) (v : View X) where
         changed = λ q c. ⊎_elim (λ l. ⊎_elim (λ y. inl y) (λ (e : q ≡ Anchor k.freer.anchor). inr (e ∙ ap Anchor (ap Freer.anchor same))) (k.changed q l)) (λ l. inr (front_changed q l)) (Contains-append_cases k.added.changed front.changed q c);
         done = ap (λ xs. xs ++ front.done) k.done ∙ (λ i. record { pass = front_went.pass i; kind = Raised; anchor = (ap Freer.anchor same) i; epoch = epoch_of k.word; was_idle = false } ∷ front_done i);
         left = subst (λ (z : ℕ). has g w (Anchor z) ≡ k.word) (ap Freer.anchor same) k.left;
+        unfit = unfit;
       }
         where
           same : k.freer ≡ freer_of a true x.word (chain_of x.step.state a)
           same = same_freer k.freer (freer_of a true x.word (chain_of x.step.state a)) (sym k.was ∙ won_inner)
 
-      pub counted : (t slot : ℕ) (w : View X) (other : t ≢ inner) (k : KeptFirst g t won slot w) (hand_after : ℕ) (moved : hand_after ≡ onward g.setting.anchors a 1) → CountsEvicted g hand v t slot w hand_after
+      pub counted : (t slot : ℕ) (w : View X) (other : t ≢ inner) (k : KeptFirst g t won slot w) (hand_after : ℕ) (moved : hand_after ≡ onward g.setting.anchors a 1) (unfit : fits g ≡ false) → CountsEvicted g hand v t slot w hand_after
       unfolding evicts
-      counted t slot w other k hand_after moved = record { evicted = evicts t slot w other k hand_after moved; counts = counts }
+      counted t slot w other k hand_after moved unfit = record { evicted = evicts t slot w other k hand_after moved unfit; counts = counts }
         where
           front_counted : (asked : Kind → Bool) → asked Changed ≡ false → of_kinds asked front.items ≡ many asked Looked (steps + 1)
           front_counted asked not_asked = first_not asked (item_of x.before (Evict inner a) x.word) (x.looked.added.items ++ h.added.items) _ not_asked (one_looked asked x.looked.added.items h.added.items steps (x.looked.counted asked not_asked) (h.counted asked not_asked))
@@ -225,8 +226,8 @@ module _ {X : Type 0} (g : Ground X) (hand : ℕ) (v : View X) where
   pub counted_none : (w : View X) → PassedSome g hand v g.setting.anchors w → CountsNone g v w
   counted_none w h asked not_asked = let t = ap (of_kinds asked) h.went.trail ∙ of_kinds-append asked h.added.items v.trail in let c = h.counted asked not_asked in omega arith
 
-  pub none_idle : (w : View X) → hand < g.setting.anchors ⊎ (g.setting.anchors ≡ 0) → PassedSome g hand v g.setting.anchors w → NoneIdle g hand v w
-  none_idle w begins h = record {
+  pub none_idle : (w : View X) → hand < g.setting.anchors ⊎ (g.setting.anchors ≡ 0) → PassedSome g hand v g.setting.anchors w → fits g ≡ false → NoneIdle g hand v w
+  none_idle w begins h unfit = record {
     added = h.added;
     went = h.went;
     calm = h.calm;
@@ -234,6 +235,7 @@ module _ {X : Type 0} (g : Ground X) (hand : ℕ) (v : View X) where
     tabs = h.tabs;
     each = λ a lt. let r = in_round g.setting.anchors hand a (in_all a lt begins) lt in subst (FoundBusy h.added.items) r.2 (h.passed r.0 r.1);
     was = λ a lt mine. let r = in_round g.setting.anchors hand a (in_all a lt begins) lt in subst (λ (z : ℕ). is_idle (has g v (Anchor z)) ≡ false) r.2 (h.was r.0 r.1 mine);
+    unfit = unfit;
   }
     where
       in_all : (a : ℕ) → a < g.setting.anchors → hand < g.setting.anchors ⊎ (g.setting.anchors ≡ 0) → hand < g.setting.anchors
@@ -252,6 +254,7 @@ module _ {C O : Type 0} (tells : Bool) (state : C → CellState) (offers : O →
     freeing = refl;
     some = has_slots (basis tells state offers s) hand (view p) begins steps below u h (pass_of p) may.inner_free (view q) x;
     may = subst (OfWriter MayReserve) (sym (won_other (basis tells state offers s) hand (view p) begins steps below u h (pass_of p) may.inner_free (view q) x t other)) may.may;
+    unfit = may.unfit;
   }
 
   pub not_inner : t ≢ inner

@@ -59,7 +59,7 @@ module _ {C O : Type 0} (tells : Bool) (state : C → CellState) (offers : O →
     tabs1 = ap View.tabs looked.step.leaves ∙ ap (λ (x : Tab (List ℕ)). set (view p).tabs inner (looks x looked.found)) may.is
 
     pub may_leave : May tells state offers s p1 (Loosen inner slot)
-    may_leave = record { own = looked.own; can = record { allowed = (omega arith, inl (subst (OfFreer (MayLoosen slot)) (sym (at_inner p1 (Freeing (record f { is_looked = true })) tabs1)) (may.front, refl, may.unheld))); asks = tt } }
+    may_leave = record { own = looked.own; can = record { allowed = (omega arith, inl (subst (OfFreer (MayLoosen slot)) (sym (at_inner p1 (Freeing (record f { is_looked = true })) tabs1)) (may.front, refl, may.unheld))); asks = λ fitting. refl } }
 
     pub link_is : (link : Link) → link_number link ≡ n → next_slot link ≡ head_of (rest_of f.rest)
     link_is link e = ap next_slot (same_link link (link_to (rest_of f.rest) f.behind) (e ∙ looked.answers ∙ found)) ∙ next_is_head (rest_of f.rest) f.behind

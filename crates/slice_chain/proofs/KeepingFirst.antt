@@ -109,7 +109,7 @@ module _ {C O : Type 0} (tells : Bool) (state : C → CellState) (offers : O →
             let b = may.below in omega arith,
             inr (subst (OfWriter MayReserve) (sym at_tab) may.may, subst (OfFreer (λ x. MayLoosen slot x × (x.is_freeing ≡ true))) (sym at_inner) ((first, refl, may.chain.unheld), may.freeing)),
           );
-          asks = tt;
+          asks = λ fitting. absurd (false≢true (sym may.unfit ∙ fitting));
         };
       }
 

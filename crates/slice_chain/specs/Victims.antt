@@ -19,8 +19,8 @@ use Rattle.core_model.specs.declared.view.Place.TheVariants.{Anchor, Link}
 use Rattle.core_model.specs.declared.view.View.{View}
 use Rattle.store_rule.specs.declared.store.Pass.{Pass}
 use Rattle.store_rule.specs.declared.store.Store.{Store}
-use Rattle.store_rule.specs.Ground.{Ground, Offers}
-use Rattle.store_rule.specs.Passes.{IsOf, hand, view}
+use Rattle.store_rule.specs.Ground.{Ground, Offers, fits}
+use Rattle.store_rule.specs.Passes.{IsOf, basis, hand, view}
 use Rattle.store_rule.specs.Told.{Stands, Steps}
 use Rattle.store_rule.specs.Calls.{Others}
 use Rattle.store_rule.specs.Runs.{Added, Went}
@@ -64,13 +64,14 @@ module _ {X : Type 0} (g : Ground X) (a : ℕ) (v : View X) where
     pub step : Steps g before (Evict inner a) word w
     pub stands : Stands g w
 
--- The inner tab frees an entry at FREEING, of whose chain no slot has left yet, and a writing tab may reserve one more.
+-- The inner tab frees an entry at FREEING, of whose chain no slot has left yet, and a writing tab may reserve one more. The store does not fit.
 pub record MayKeepFirst {C O : Type 0} (tells : Bool) (state : C → CellState) (offers : O → Offers) (s : Store C O) (p : Pass C) (t : ℕ) : Type 0 where
   pub chain : MayFreeChain tells state offers s p
   pub below : t < inner
   pub freeing : chain.freer.is_freeing ≡ true
   pub some : chain.freer.rest ≢ []
   pub may : OfWriter MayReserve (tab_at (view p) t)
+  pub unfit : fits (basis tells state offers s) ≡ false
 
 -- The first slot of the chain was reserved by the tab, and each other one given back. The anchor is at GONE. No version was drawn.
 pub record KeptFirst {X : Type 0} (g : Ground X) (t : ℕ) (v : View X) (slot : ℕ) (w : View X) : Type 0 where
@@ -108,12 +109,13 @@ onward anchors anchor steps = cond (nat_lt (anchor + steps) anchors) (anchor + s
 abbrev pub hand_in : (anchors hand : ℕ) → ℕ
 hand_in anchors hand = cond (nat_lt hand anchors) hand 0
 
--- The tab writes and may reserve one slot more, and the inner tab is free.
+-- The tab writes and may reserve one slot more, and the inner tab is free. The store does not fit.
 pub record MayEvictOne {C O : Type 0} (tells : Bool) (state : C → CellState) (offers : O → Offers) (s : Store C O) (p : Pass C) (t : ℕ) : Type 0 where
   pub own : IsOf tells state offers s p
   pub below : t < inner
   pub inner_free : InnerIsFree (view p)
   pub may : OfWriter MayReserve (tab_at (view p) t)
+  pub unfit : fits (basis tells state offers s) ≡ false
 
 -- an entry was found that is not idle, at a step among these
 pub record FoundBusy (items : List Item) (a : ℕ) : Type 0 where
@@ -154,6 +156,7 @@ module _ {X : Type 0} (g : Ground X) (hand : ℕ) (v : View X) where
     pub changed : (q : Place) → Contains added.changed q → ((j : ℕ) × (q ≡ Link j) × Contains kept.freer.rest j) ⊎ (q ≡ Anchor (onward g.setting.anchors hand steps))
     pub done : added.done ≡ deed_of v Raised (onward g.setting.anchors hand steps) kept.word false ∷ deed_of v Changed (onward g.setting.anchors hand steps) (evicted victim.word) true ∷ []
     pub left : has g w (Anchor (onward g.setting.anchors hand steps)) ≡ kept.word
+    pub unfit : fits g ≡ false  -- the store does not fit
 
   -- Each anchor was found without an idle entry. The pass did, changed and drew nothing.
   pub record NoneIdle (w : View X) : Type 0 where
@@ -164,6 +167,7 @@ module _ {X : Type 0} (g : Ground X) (hand : ℕ) (v : View X) where
     pub tabs : w.tabs ≡ v.tabs
     pub each : (a : ℕ) → a < g.setting.anchors → FoundBusy added.items a
     pub was : (a : ℕ) → a < g.setting.anchors → Mine g v (Anchor a) → is_idle (has g v (Anchor a)) ≡ false
+    pub unfit : fits g ≡ false  -- the store does not fit
 
   -- The steps of a call that evicted an entry: one look at each anchor up to the victim, a load of its start, a look at the link of each
   -- slot of its chain, each of which left it, and all but the first given back, and one step that raised the anchor. Tries to evict are not

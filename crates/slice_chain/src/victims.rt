@@ -2,6 +2,7 @@
 ghost use Rattle.std.specs.Prelude.{IfOk, OnErr, false, true, ◌<◌, ◌≡◌, ◌≤◌};
 ghost use Rattle.core_model.specs.Tabs.{InnerIsFree};
 ghost use Rattle.store_rule.specs.Calls.{Follows};
+ghost use Rattle.store_rule.specs.Ground.{fits};
 ghost use Rattle.store_rule.specs.Quiet.{Quiet};
 ghost use Rattle.core_model.specs.Tabs.{inner};
 ghost use Rattle.slice_chain.specs.Victims.{CountsEvicted, CountsNone, Evicted, FollowsEvicting, KeptFirst, MayEvictOne, MayKeepFirst, NoneIdle, Spared, Won, hand_in, onward};
@@ -80,6 +81,7 @@ fn try_evict<C: Cell, O: Origin>(store: &Store<C, O>, pass: &mut Pass<C>, anchor
     requires own { IsOf C.tells C.state O.offers store.now pass.old }
     requires anchor { anchor < (basis C.tells C.state O.offers store.now).setting.anchors }
     requires free { InnerIsFree (view pass.old) }
+    requires unfit { fits (basis C.tells C.state O.offers store.now) ≡ false }
     ensures won { result ≡ true → Won (basis C.tells C.state O.offers store.now) anchor (view pass.old) (view pass.new) }
     ensures spared { result ≡ false → Spared (basis C.tells C.state O.offers store.now) anchor (view pass.old) (view pass.new) }
     ensures others { Follows C.tells C.state O.offers store.now inner pass.old pass.new }

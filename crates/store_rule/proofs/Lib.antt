@@ -2,6 +2,7 @@ pub mod ListEnds
 pub mod Seating
 pub mod RestsEnd
 pub mod HaltedShort
+pub mod RoomKept
 pub mod RuleKept
 pub mod Granted
 pub mod Moves

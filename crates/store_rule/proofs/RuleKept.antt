@@ -30,11 +30,15 @@ use Rattle.core_model.proofs.Opened.{opens}
 use Rattle.core_model.proofs.SightsOpened.{opens_sights}
 use Rattle.core_model.proofs.SlotsOpened.{opens_slots}
 use Rattle.core_model.proofs.TellsNoMore.{renews_tells}
+use Rattle.core_room.proofs.Kept.{keeps_room}
+use Rattle.core_room.proofs.Opened.{room_opened}
+use Rattle.core_room.proofs.Renewed.{room_renewed, room_rewritten}
 use Rattle.core_log.proofs.HasLog.{log_after, log_opened, log_renewed, log_rewritten}
-use Rattle.store_rule.specs.Ground.{Asks, Ground, Rule, offering_of}
+use Rattle.store_rule.specs.Ground.{Asks, Ground, Rule, capacity_of, need_of, offering_of}
 use Rattle.store_rule.specs.Rebuilding.{IsKept, chain_kept, opened_state}
 use Rattle.store_rule.proofs.Fresh.{new_free}
 use Rattle.store_rule.proofs.HaltedShort.{short_after, short_new, short_renewed, short_rewritten}
+use Rattle.store_rule.proofs.RoomKept.{asks_room, fits_all}
 use Rattle.store_rule.proofs.RestsEnd.{rests_end_after, rests_end_new, rests_end_renewed, rests_end_rewritten}
 
 module _ {X : Type 0} (g : Ground X) where
@@ -47,6 +51,7 @@ module _ {X : Type 0} (g : Ground X) where
     rests = rests_end_new s (λ i v at t x there. new_free g.setting g.setting.passes 0 i v at t x there);
     halted = short_new (offering_of g) g.setting s g.setting.passes refl;
     logged = log_opened (offering_of g) g.setting s r is_set opened sound low;
+    room = λ fitting. room_opened g.setting r s is_set opened (need_of g) g.chain (λ a lt. ap (λ (c : ℕ → List ℕ). c a) chain);
   }
     where
       s : State X
@@ -76,6 +81,7 @@ module _ {X : Type 0} (g : Ground X) where
     rests = rests_end_after g.setting s i v m at rule.rests;
     halted = short_after (offering_of g) g.setting s i v m rule.sound at step allowed views sound offered rule.halted;
     logged = log_after (offering_of g) g.setting s i v m rule.sound rule.offered at step (asks_offer v m asks) rule.logged;
+    room = λ fitting. keeps_room g.setting s (need_of g) g.chain i v (fits_all g fitting) rule.sound (rule.room fitting) at m step (asks_room g v m fitting asks);
   }
     where
       sound : Sound g.setting (after g.setting s i v m)
@@ -93,6 +99,7 @@ module _ {X : Type 0} (g : Ground X) where
     rests = rests_end_rewritten s i v t w new at rule.rests;
     halted = short_rewritten (offering_of g) s i v t w new at rule.halted;
     logged = log_rewritten (offering_of g) g.setting s i t v w old new rule.sound at may rule.logged;
+    room = λ fitting. room_rewritten g.setting (capacity_of g) s (rule.room fitting) i v at t w new may.writes;
   }
 
   -- a change of views that tells nothing new of words
@@ -103,4 +110,5 @@ module _ {X : Type 0} (g : Ground X) where
     rests = rests_end_renewed g.setting s views r rule.rests;
     halted = short_renewed (offering_of g) g.setting s views r rule.halted;
     logged = log_renewed (offering_of g) g.setting s views r rule.logged;
+    room = λ fitting. room_renewed g.setting (capacity_of g) s (rule.room fitting) views r;
   }

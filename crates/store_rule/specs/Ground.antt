@@ -1,5 +1,5 @@
 -- What does not change while a store is open, and what holds of its table between any two steps.
-use Rattle.std.specs.Prelude.{◌-◌, ◌<◌, ◌≡◌, ◌≢◌, Contains, List, Option, Some, drop, take, ℕ}
+use Rattle.std.specs.Prelude.{Bool, ◌-◌, ◌<◌, ◌≡◌, ◌≢◌, ◌&&◌, Contains, List, Option, Some, drop, min, nat_lt, take, true, ◌≤◌, ℕ}
 use mathlib.Core.Option.{some}
 use lib.ListN.{get_elem?}
 use Rattle.std.specs.Int.{from_le_bytes, w64}
@@ -9,7 +9,7 @@ use Rattle.store_key.specs.Key.{key_of}
 use Rattle.store_key.specs.Url.{IsUrl}
 use Rattle.entry_cut.specs.Content.{Cut, LeavesRoom, count}
 use Rattle.core_model.specs.declared.moves.Move.{Move}
-use Rattle.core_model.specs.declared.moves.Move.TheVariants.{Enter, LogPiece, Take}
+use Rattle.core_model.specs.declared.moves.Move.TheVariants.{Enter, Evict, LogPiece, LookMap, Loosen, Own, Take}
 use Rattle.core_model.specs.declared.moves.Side.TheVariants.{Offer}
 use Rattle.core_model.specs.declared.tab.Freer.{Freer}
 use Rattle.core_model.specs.declared.tab.Tab.TheVariants.{Freeing}
@@ -23,12 +23,20 @@ use Rattle.core_model.specs.Sound.{Sound}
 use Rattle.core_model.specs.AllowedByView.{AllowedByView}
 use Rattle.core_model.specs.Offers.{ChoosesRight, Offering, OffersStand}
 use Rattle.core_log.specs.Keeps.{HasLog}
+use Rattle.core_room.specs.Conditions.{KeepsRoom}
+use Rattle.core_room.specs.Room.{Room}
+use Rattle.core_room.specs.Fitting.{capacity, fits as fits_in}
 
--- The responses that a store is offered, by their numbers, and the pass to which an anchor is left alone, if it is.
+-- What an origin says of the responses that a store is offered, which have numbers.
 pub record Offers : Type 0 where
   pub url : ℕ → List ℕ
   pub body : ℕ → List ℕ
-  pub alone : ℕ → Option ℕ
+  pub alone : ℕ → Option ℕ  -- the pass to which an anchor is left alone, if it is
+  -- The most slots that an offer for an anchor takes, in a store of so many anchors with slots of this size. It is the same however many
+  -- slots there are, and whatever a file has.
+  pub need : (anchors slot anchor : ℕ) → ℕ
+  -- Whether the origin says what it offers. Each one does, and nothing reads it yet.
+  pub told : Bool
 
 -- the setting of the core; the slots of the entry that an anchor had at the opening; the size of a slot; and what is offered
 pub record Ground (X : Type 0) : Type 0 where
@@ -36,6 +44,18 @@ pub record Ground (X : Type 0) : Type 0 where
   pub chain : ℕ → List ℕ
   pub slot : ℕ
   pub offers : Offers
+
+-- the most slots that an offer for this anchor takes
+abbrev pub need_of : {X : Type 0} → Ground X → ℕ → ℕ
+need_of g a = g.offers.need g.setting.anchors g.slot a
+
+-- The store fits: it has a slot, and slots for the most that each anchor ever holds. Nobody computes it.
+unfoldable pub fits : {X : Type 0} → Ground X → Bool
+fits g = nat_lt 0 g.setting.slots && fits_in g.setting.anchors g.setting.slots (need_of g) g.chain
+
+-- the most slots that an anchor ever holds
+abbrev pub capacity_of : {X : Type 0} → Ground X → ℕ → ℕ
+capacity_of g = capacity g.setting.slots (need_of g) g.chain
 
 -- the offer n of the origin stands beside an anchor as so many numbers above those of the slots
 abbrev pub url_of : {X : Type 0} → Ground X → ℕ → List ℕ
@@ -49,6 +69,11 @@ cut_of g offer version first = record {
   version = version;
   first = first;
 }
+
+-- In a store that fits, as many slots are needed at this anchor as the offer takes: as many as its pieces, but never more than an entry may have,
+-- nor than there are.
+abbrev pub IsNeeded : {X : Type 0} → Ground X → (offer a : ℕ) → Type 0
+IsNeeded g offer a = fits g ≡ true → min (count (cut_of g offer 0 0)) (min 4096 g.setting.slots) ≤ need_of g a
 
 -- the anchor of a URL
 abbrev pub anchor_for : {X : Type 0} → Ground X → List ℕ → ℕ
@@ -80,24 +105,31 @@ pub record HaltedShort {X : Type 0} (o : Offering) (s : State X) : Type 0 where
       → Contains u.seen (Stood a e) → Contains v.seen (Published a (version_of e) many) → Contains w.seen (Named a (version_of e) Offer offer) → many < o.pieces offer
 
 -- The rule: the state is sound, each entry is the opening's or one of its offer, what is given back has an end, what was halted was
--- never whole, and what was logged is in order: a crash leaves of a slot the opening's content or a piece that was logged for it.
+-- never whole, and what was logged is in order: a crash leaves of a slot the opening's content or a piece that was logged for it. In a store
+-- that fits there is room: a free slot for each tab that searches for one.
 pub record Rule {X : Type 0} (g : Ground X) (s : State X) : Type 0 where
   pub sound : Sound g.setting s
   pub offered : OffersStand (offering_of g) g.setting s
   pub rests : RestsEnd s
   pub halted : HaltedShort (offering_of g) s
   pub logged : HasLog (offering_of g) g.setting s
+  pub room : fits g ≡ true → Room g.setting (capacity_of g) s
 
 -- an anchor that is left alone is named by its own pass
 abbrev pub MayName : {X : Type 0} → Ground X → View X → ℕ → Type 0
 MayName g v a = (pass : ℕ) → g.offers.alone a ≡ Some pass → pass ≡ v.pass
 
--- What the store asks of a step beside the step table, one row a move: a tab that comes to an anchor may name it, and a piece that is
--- logged keeps to its offer. Nothing is asked of any other move.
+-- What the store asks of a step beside the step table, one row a move. A tab that comes to an anchor may name it, and a piece that is logged
+-- keeps to its offer. In a store that fits a search for a free slot begins only where there is room and goes on at its
+-- place, no idle entry is evicted, and no slot that is given back goes to a writing tab. Nothing is asked of any other move.
 abbrev pub Asks : {X : Type 0} → Ground X → View X → Move → Type 0
 Asks g v (Enter t a) = MayName g v a
 Asks g v (Take t a version) = MayName g v a
 Asks g v (LogPiece t slot durable) = ChoosesRight (offering_of g) v (LogPiece t slot durable)
+Asks g v (LookMap t word) = fits g ≡ true → KeepsRoom g.setting (need_of g) v (LookMap t word)
+Asks g v (Own t slot) = fits g ≡ true → KeepsRoom g.setting (need_of g) v (Own t slot)
+Asks g v (Evict t a) = fits g ≡ true → KeepsRoom g.setting (need_of g) v (Evict t a)
+Asks g v (Loosen t slot) = fits g ≡ true → KeepsRoom g.setting (need_of g) v (Loosen t slot)
 Asks g v m = Unit {0}
 
 -- What a step needs of the pass that makes it, by the view of that pass alone: that the step table allows it, and what the store asks.

@@ -11,7 +11,8 @@ use std::snapshot::Snapshot;
 pub trait Origin: Drop {
     ghost use Rattle.store_rule.specs.Ground.{Offers};
 
-    /// The URL and the body of each offer, and the pass to which an anchor is left alone.
+    /// The URL and the body of each offer, the pass to which an anchor is left alone, the most slots that an offer
+    /// for an anchor takes, and whether the origin says what it offers.
     ghost offers: { Self → Offers };
 }
 

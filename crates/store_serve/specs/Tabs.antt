@@ -11,7 +11,8 @@ use Rattle.core_model.specs.declared.tab.Tab.TheVariants as tab
 use Rattle.core_model.specs.Knowing.{KnowsAll}
 use Rattle.store_rule.specs.declared.store.Pass.{Pass}
 use Rattle.store_rule.specs.declared.store.Store.{Store}
-use Rattle.store_rule.specs.Ground.{MayName, Offers, anchor_for, url_of}
+use Rattle.entry_cut.specs.Content.{LeavesRoom}
+use Rattle.store_rule.specs.Ground.{IsNeeded, MayName, Offers, anchor_for, url_of}
 use Rattle.store_rule.specs.Passes.{IsOf, basis, hand, view}
 use Rattle.store_rule.specs.Calls.{Others}
 pub use Rattle.rock_reader.specs.Reading.{ReadsAs, Standing}
@@ -61,12 +62,14 @@ module _ {C O : Type 0} (tells : Bool) (state : C → CellState) (offers : O →
     pub own : IsOf tells state offers s p
     pub inner_free : InnerIsFree (view p)
 
-  -- The offer is that of a line, with this URL and this body.
+  -- The offer is that of a line, with this URL and this body. Where the URL leaves room in a slot, a store that fits has as many slots for it at the
+  -- anchor as are needed.
   pub record IsOffered (offer : ℕ) (url : List ℕ) (body : Body) : Type 0 where
     pub from : (basis tells state offers s).setting.slots ≤ offer
     pub url_is : url_of (basis tells state offers s) offer ≡ url
     pub body_is : (basis tells state offers s).offers.body (offer - (basis tells state offers s).setting.slots) ≡ bytes_of body
     pub good : IsUrl url
+    pub needed : LeavesRoom (basis tells state offers s).slot url → IsNeeded (basis tells state offers s) offer (anchor_for (basis tells state offers s) url)
 
   -- the pass may name the anchor of the URL
   abbrev pub MayGo : Pass C → List ℕ → Type 0

@@ -10,7 +10,7 @@ use Rattle.rock_disk.specs.Cell.{CellState}
 use Rattle.store_key.specs.Url.{IsUrl}
 use Rattle.store_rule.specs.declared.store.Pass.{Pass}
 use Rattle.store_rule.specs.declared.store.Store.{Store}
-use Rattle.store_rule.specs.Ground.{Offers}
+use Rattle.store_rule.specs.Ground.{Offers, anchor_for, need_of}
 use Rattle.store_rule.specs.Passes.{basis, view}
 use Rattle.dir_set.specs.declared.dirs.DirPass.{DirPass}
 use Rattle.dir_set.specs.declared.dirs.Dirs.{Dirs}
@@ -63,6 +63,8 @@ module _ {C O : Type 0} (tells : Bool) (state : C → CellState) (offers : O →
       from = omega arith;
       url_is = url_at _ first second body url (basis tells state offers s).setting.slots line (i.offers_are ∙ is) picks;
       good = good;
+      needed = λ short fitting. let g = basis tells state offers s in
+          let n : need_of g (anchor_for g url) ≡ 4096 = ap (λ (z : Offers). z.need g.setting.anchors g.slot (anchor_for g url)) (i.offers_are ∙ is) in omega arith;
       name = λ pass alone. not_alone _ first second body (i.offers_are ∙ is) _ pass _ alone;
     }
 

@@ -8,6 +8,7 @@ use Rattle.rock_writer.specs.Flushing.{Flushed, IsAtLimit, NotFlushed}
 use Rattle.rock_writer.proofs.During.{left_during_append}
 use Rattle.rock_writer.proofs.Durable.{appended_so_far}
 use Rattle.rock_writer.proofs.Following.{err_is, err_of, no_err, writing_desk, writing_halting, writing_on}
+use Rattle.rock_writer.proofs.Lacking.{flush_unfit}
 use Rattle.rock_writer.proofs.Publishing.{same_view}
 use Rattle.rock_writer.proofs.Taking.{full_there, may_flush, not_full, place_there, room_there, took}
 use Rattle.store_rule.proofs.Quieting.{quiet_same, quiet_then}
@@ -51,6 +52,7 @@ returns-in-Err-clause-err g c e may = let ne0 : length c.args.bytes.now ≢ 0 = 
       limit = ((λ z. subst (IsAtLimit (basis g.C.Cell.tells g.C.Cell.state g.O.Origin.offers c.args.store.now)) (sym at) (limit.0 (ap Err z))), (λ ne z. ne (err_is _ _ (limit.1 (subst (IsAtLimit (basis g.C.Cell.tells g.C.Cell.state g.O.Origin.offers c.args.store.now)) at z)))));
       middle = view c.flush.new.pass;
       stopped = subst (NotFlushed (basis g.C.Cell.tells g.C.Cell.state g.O.Origin.offers c.args.store.now) c.args.tab c.args.pass.now.hand e.is_durable (view c.args.pass.now) c.in-Err.fault (view c.flush.new.pass)) (sym c.halt.ensures.others.hand) (c.in-Err.ensures.err e f);
+      unfit = flush_unfit _ _ _ _ _ _ _ _ (c.in-Err.ensures.err e f);
       halts = c.halt.ensures.halts;
     }
 

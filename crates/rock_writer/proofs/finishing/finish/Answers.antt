@@ -15,6 +15,7 @@ use Rattle.rock_writer.proofs.During.{left_during_finish}
 use Rattle.rock_writer.proofs.Durable.{whole_grows}
 use Rattle.rock_writer.proofs.Ending.{at_anchor, doom_is, may_part_closed, may_raise_closed}
 use Rattle.rock_writer.proofs.Following.{err_of, writing_halting, writing_on, writing_one}
+use Rattle.rock_writer.proofs.Lacking.{last_unfit}
 use Rattle.rock_writer.proofs.Seeing.{fresh_grows, grows_last, grows_on, grows_parted, grows_step}
 use Rattle.rock_writer.proofs.Unlinking.{at_hand}
 use Rattle.store_rule.proofs.Quieting.{quiet_then}
@@ -24,6 +25,7 @@ pub returns-in-Err-clause-err : goal.returns-in-Err-clause-err
 returns-in-Err-clause-err g c e may = record {
   middle = view c.write_last.new.pass;
   stopped = subst (NotWrittenLast (basis g.C.Cell.tells g.C.Cell.state g.O.Origin.offers c.args.store.now) c.args.tab c.args.pass.now.hand e.is_durable (view c.args.pass.now) c.in-Err.fault (view c.write_last.new.pass)) (sym c.halt.ensures.others.hand) (c.in-Err.ensures.err e may);
+  unfit = last_unfit _ _ _ _ _ _ _ _ (c.in-Err.ensures.err e may);
   halts = c.halt.ensures.halts;
 }
 

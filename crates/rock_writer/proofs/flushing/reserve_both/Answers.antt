@@ -8,14 +8,14 @@ use Rattle.store_rule.proofs.Quieting.{quiet_then}
 use Rattle.rock_writer.proofs.flushing.reserve_both.Goals as goal
 
 pub returns-in_err-slot-clause-halts : goal.returns-in_err-slot-clause-halts
-returns-in_err-slot-clause-halts g c = let e = c.requires.0 in let h = c.requires.1 in
+returns-in_err-slot-clause-halts g c = let e = c.requires.entry in let h = c.requires.writes in
     on_err c.from_residual.result (out_may_halt g.C.Cell.tells g.C.Cell.state g.O.Origin.offers c.args.store.now c.args.tab e h.published h.end c.args.pass.now c.slot_for_piece.new.pass (slots_of_link h.end) c.in_err-slot.ensures.err.out.none.claim
     h.rests c.in_err-slot.ensures.others.own c.in_err-slot.ensures.err.out.tabs)
 
 pub reserve-requires : goal.reserve-requires
-reserve-requires g c = let e = c.requires.0 in let h = c.requires.1 in
+reserve-requires g c = let e = c.requires.entry in let h = c.requires.writes in
     may_claim g.C.Cell.tells g.C.Cell.state g.O.Origin.offers c.args.store.now c.args.tab e h.published h.end c.slot_for_piece.new.pass (c.in_ok-slot.slot ∷ [])
-    (slot_rests g.C.Cell.tells g.C.Cell.state g.O.Origin.offers c.args.store.now c.args.tab e h.published h.end c.args.pass.now c.slot_for_piece.new.pass c.in_ok-slot.slot c.args.pass.now.hand c.slot_for_piece.new.pass.hand h.rests c.in_ok-slot.ensures.ok c.in_ok-slot.ensures.others.own) (omega arith)
+    (slot_rests g.C.Cell.tells g.C.Cell.state g.O.Origin.offers c.args.store.now c.args.tab e h.published h.end c.args.pass.now c.slot_for_piece.new.pass c.in_ok-slot.slot c.args.pass.now.hand c.slot_for_piece.new.pass.hand h.rests c.in_ok-slot.ensures.ok c.in_ok-slot.ensures.others.own) (omega arith) (λ fitting. let w = c.requires.within in omega arith)
 
 pub returns-in_err-next-clause-err : goal.returns-in_err-next-clause-err
 returns-in_err-next-clause-err g c = on_err c.from_residual-in_err-next.result (inr record {
@@ -26,7 +26,7 @@ returns-in_err-next-clause-err g c = on_err c.from_residual-in_err-next.result (
 })
 
 pub returns-in_err-next-clause-halts : goal.returns-in_err-next-clause-halts
-returns-in_err-next-clause-halts g c = let e = c.requires.0 in let h = c.requires.1 in
+returns-in_err-next-clause-halts g c = let e = c.requires.entry in let h = c.requires.writes in
     let r = slot_rests g.C.Cell.tells g.C.Cell.state g.O.Origin.offers c.args.store.now c.args.tab e h.published h.end c.args.pass.now c.slot_for_piece.new.pass c.in_ok-slot.slot c.args.pass.now.hand c.slot_for_piece.new.pass.hand h.rests c.in_ok-slot.ensures.ok c.in_ok-slot.ensures.others.own in
     on_err c.from_residual-in_err-next.result (out_may_halt g.C.Cell.tells g.C.Cell.state g.O.Origin.offers c.args.store.now c.args.tab e h.published h.end c.slot_for_piece.new.pass c.reserve.new.pass (c.in_ok-slot.slot ∷ []) c.in_err-next.ensures.err.none.claim
     r c.in_err-next.ensures.others.own c.in_err-next.ensures.err.tabs)

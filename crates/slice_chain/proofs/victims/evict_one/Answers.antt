@@ -34,7 +34,7 @@ returns-then-try_evict-clause-ok g c = let b = basis g.C.Cell.tells g.C.Cell.sta
     (subst (λ (a : ℕ). Won b a (view c.loop-steps.pass) (view c.try_evict.new.pass)) anchor_is (c.try_evict.ensures.won c.if-try_evict.true)) c.args.tab c.keep_first-slot.result (view c.set_hand.new.self)
     (not_inner g.C.Cell.tells g.C.Cell.state g.O.Origin.offers c.args.store.now c.args.tab p c.requires)
     (subst (λ z. KeptFirst b c.args.tab (view c.try_evict.new.pass) c.keep_first-slot.result (the_view z.me.0)) (sym c.set_hand.ensures.kept.seat) c.keep_first-slot.ensures.kept) c.set_hand.new.self.hand
-    (c.set_hand.ensures.hand ∙ c.next_in_round.ensures.value ∙ (λ i. onward (many i) (anchor_is i) 1)))
+    (c.set_hand.ensures.hand ∙ c.next_in_round.ensures.value ∙ (λ i. onward (many i) (anchor_is i) 1)) c.requires.unfit)
 
 pub returns-then-try_evict-clause-others : goal.returns-then-try_evict-clause-others
 returns-then-try_evict-clause-others g c = moved_follows g.C.Cell.tells g.C.Cell.state g.O.Origin.offers c.args.store.now c.args.tab c.args.pass.now c.requires c.try_evict.new.pass c.keep_first-slot.new.pass c.set_hand.new.self
@@ -56,7 +56,7 @@ returns-clause-err g c = let b = basis g.C.Cell.tells g.C.Cell.state g.O.Origin.
     let hand_is = c.first_in_round-hand.ensures ∙ (λ i. hand_in (many i) (c.hand.ensures i)) in let past = c.loop-steps-test.false in let to = c.loop-steps.invariant.to in
     let all : c.loop-steps.steps ≡ b.setting.anchors = omega arith in
     subst (λ (h : ℕ). NoneIdle b h (view p) (view c.loop-steps.pass)) hand_is (none_idle b c.first_in_round-hand.result (view p) (view c.loop-steps.pass) (begins_or_none _ _ _ hand_is)
-    (subst (λ (n : ℕ). PassedSome b c.first_in_round-hand.result (view p) n (view c.loop-steps.pass)) all c.loop-steps.invariant.passed))
+    (subst (λ (n : ℕ). PassedSome b c.first_in_round-hand.result (view p) n (view c.loop-steps.pass)) all c.loop-steps.invariant.passed) c.requires.unfit)
 
 pub returns-then-try_evict-clause-counted : goal.returns-then-try_evict-clause-counted
 returns-then-try_evict-clause-counted g c = let b = basis g.C.Cell.tells g.C.Cell.state g.O.Origin.offers c.args.store.now in let many = c.anchors-anchors.ensures.value in let p = c.args.pass.now in
@@ -68,7 +68,7 @@ returns-then-try_evict-clause-counted g c = let b = basis g.C.Cell.tells g.C.Cel
     (subst (λ (a : ℕ). Won b a (view c.loop-steps.pass) (view c.try_evict.new.pass)) anchor_is (c.try_evict.ensures.won c.if-try_evict.true)) c.args.tab c.keep_first-slot.result (view c.set_hand.new.self)
     (not_inner g.C.Cell.tells g.C.Cell.state g.O.Origin.offers c.args.store.now c.args.tab p c.requires)
     (subst (λ z. KeptFirst b c.args.tab (view c.try_evict.new.pass) c.keep_first-slot.result (the_view z.me.0)) (sym c.set_hand.ensures.kept.seat) c.keep_first-slot.ensures.kept) c.set_hand.new.self.hand
-    (c.set_hand.ensures.hand ∙ c.next_in_round.ensures.value ∙ (λ i. onward (many i) (anchor_is i) 1)))
+    (c.set_hand.ensures.hand ∙ c.next_in_round.ensures.value ∙ (λ i. onward (many i) (anchor_is i) 1)) c.requires.unfit)
 
 pub returns-clause-counted_none : goal.returns-clause-counted_none
 returns-clause-counted_none g c = let b = basis g.C.Cell.tells g.C.Cell.state g.O.Origin.offers c.args.store.now in let many = c.anchors-anchors.ensures.value in let p = c.args.pass.now in

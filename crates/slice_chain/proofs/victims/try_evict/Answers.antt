@@ -1,4 +1,5 @@
-use Rattle.std.proofs.Common.{subst, sym, ◌≤◌, ◌∙◌, ℕ}
+use Rattle.std.proofs.Common.{rules, subst, sym, ◌≤◌, ◌∙◌, ℕ}
+use Rattle.std.proofs.lemmas.Bool.{false≢true}
 use Rattle.lock_word.specs.Words.{IsWord, epoch_of, word_number}
 use Rattle.core_model.specs.declared.moves.Move.TheVariants.{Evict}
 use Rattle.store_rule.specs.Told.{Steps}
@@ -19,6 +20,12 @@ loop-word-init g c = let m = c.look-word.ensures.made in record {
   range = c.look-word.ensures.in_range;
   follows = made_follows g.C.Cell.tells g.C.Cell.state g.O.Origin.offers c.args.store.now inner c.args.pass.now c.look-word.new.pass _ _ m (λ u e. cc) (λ h. h);
   quiet = quiet_step m.step tt;
+}
+
+pub evict_word-requires-clause-may : goal.evict_word-requires-clause-may
+evict_word-requires-clause-may g c = record {
+  own = c.loop-word.invariant.follows.own;
+  can = record { allowed = search rules; asks = λ fitting. absurd (false≢true (sym c.requires.unfit ∙ fitting)) };
 }
 
 pub returns-in-Ok-clause-won : goal.returns-in-Ok-clause-won

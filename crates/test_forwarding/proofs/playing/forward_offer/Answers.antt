@@ -11,6 +11,7 @@ forward_within-answer-requires g c = record {
     from = c.requires.offered.from;
     url_is = c.requires.offered.url_is;
     good = c.requires.offered.good;
+    needed = c.requires.offered.needed;
     name = c.requires.goes;
   };
   body_is = c.requires.offered.body_is ∙ sym (c.new-fetcher.ensures.body c.args.url.now c.args.offer ∙ c.in-Ok.ensures);
