@@ -33,13 +33,17 @@ holds_at a (Writing w) = cond (w.anchor == a) (length w.reserved + running w.cla
 holds_at a (Freeing f) = cond (f.anchor == a) (length f.rest + length f.loose) 0
 holds_at a _ = 0
 
+-- 1 where a slot is taken, by its bit in the map, and else 0
+abbrev pub taken_at : {X : Type 0} → Setting X → State X → ℕ → ℕ
+taken_at k s slot = taken_in (word_in k s.words (Map (slot / 64))) slot
+
 -- how many of the n slots from this one on are taken
-abbrev pub taken_from : {X : Type 0} → Setting X → State X → (slot n : ℕ) → ℕ
-taken_from k s slot zero = 0
-taken_from k s slot (suc n) = taken_in (word_in k s.words (Map (slot / 64))) slot + taken_from k s (slot + 1) n
+abbrev pub taken_from : (taken : ℕ → ℕ) → (slot n : ℕ) → ℕ
+taken_from taken slot zero = 0
+taken_from taken slot (suc n) = taken slot + taken_from taken (slot + 1) n
 
 -- There is room. Of the n slots from any one on up to the last, those that are taken and the searches that have found each slot below them taken
 -- are together at most n. And each anchor's slots are at most its capacity: those of its chain and its tail, and what tabs have of them.
 pub record Room {X : Type 0} (k : Setting X) (capacity : ℕ → ℕ) (s : State X) : Type 0 where
-  pub places : (slot n : ℕ) → slot + n ≡ k.slots → taken_from k s slot n + sum_by (count (past_in slot)) s.views ≤ n
+  pub places : (slot n : ℕ) → slot + n ≡ k.slots → taken_from (taken_at k s) slot n + sum_by (count (past_in slot)) s.views ≤ n
   pub anchors : (a : ℕ) → a < k.anchors → slots_chained (chain_of s a) + sum_by (count (holds_at a)) s.views ≤ capacity a
