@@ -6,3 +6,8 @@ pub mod Anchors
 pub mod Quiet
 pub mod Words
 pub mod Views
+pub mod Sums
+pub mod Counted
+pub mod Sole
+pub mod Looks
+pub mod Searched

@@ -5,10 +5,10 @@ use mathlib.Core.Logic.{dite}
 use native.Mathlib.Decide.{ℕ_discrete}
 use Rattle.core_room.specs.Room.{past, taken_from}
 
-past_at : (slot place : ℕ) → slot ≤ place → past slot (Some place) ≡ 1
+pub past_at : (slot place : ℕ) → slot ≤ place → past slot (Some place) ≡ 1
 past_at slot place le = let b = le-leb slot place le in rw b refl
 
-not_past : (slot place : ℕ) → place < slot → past slot (Some place) ≡ 0
+pub not_past : (slot place : ℕ) → place < slot → past slot (Some place) ≡ 0
 not_past slot place lt = let b = lt-leb slot place lt in rw b refl
 
 -- a search that has found the slots below the next one taken has found those below this one so
@@ -22,7 +22,7 @@ past_less slot (Some place) = dite (ℕ_discrete (slot + 1 - place) 0)
 abbrev pub Places : (slots : ℕ) → (taken searches : ℕ → ℕ) → Type 0
 Places slots taken searches = (slot n : ℕ) → slot + n ≡ slots → taken_from taken slot n + searches slot ≤ n
 
-fewer_from : (taken less : ℕ → ℕ) (slots : ℕ) → ((j : ℕ) → j < slots → less j ≤ taken j) → (slot n : ℕ) → slot + n ≡ slots → taken_from less slot n ≤ taken_from taken slot n
+pub fewer_from : (taken less : ℕ → ℕ) (slots : ℕ) → ((j : ℕ) → j < slots → less j ≤ taken j) → (slot n : ℕ) → slot + n ≡ slots → taken_from less slot n ≤ taken_from taken slot n
 fewer_from taken less slots h slot zero e = omega arith
 fewer_from taken less slots h slot (suc n) e = let a = h slot (omega arith) in let r = fewer_from taken less slots h (slot + 1) n (omega arith) in omega arith
 
