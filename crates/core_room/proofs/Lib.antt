@@ -11,3 +11,4 @@ pub mod Counted
 pub mod Sole
 pub mod Looks
 pub mod Searched
+pub mod Kept

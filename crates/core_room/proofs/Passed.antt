@@ -9,13 +9,6 @@ use Rattle.core_model.specs.Holders.{IsTab}
 use Rattle.core_model.proofs.Lists.{le_sum_at}
 use Rattle.core_room.specs.Room.{Room, past, past_in, taken_at}
 use Rattle.core_room.proofs.Searching.{none_past_all}
-use Rattle.core_room.proofs.Quiet.{past_after}
-use Rattle.core_room.proofs.Words.{far_less}
-use Rattle.core_room.proofs.Views.{views_few}
-use Rattle.core_room.proofs.Counted.{all_told}
-use Rattle.core_room.proofs.Sole.{none_else}
-use Rattle.core_room.proofs.Looks.{far}
-use Rattle.core_room.proofs.Searched.{look_keeps}
 
 module _ {X : Type 0} (k : Setting X) (capacity : ℕ → ℕ) (s : State X) (room : Room k capacity s) where
   pub no_search_passes : (i t : ℕ) (w : Writer X) (place : ℕ) → IsTab s i t (Writing w) → w.claim ≡ Some place → place < k.slots
