@@ -1,9 +1,7 @@
 -- No step but a look at the map gives an anchor more slots, with what tabs of the pass have of them.
-use Rattle.std.proofs.Common.{Bool, List, None, Some, [], ap, arith, cond, eq-eqb, false, get_or, inl, inr, length, ne_eqb, refl, set, subst, suc, sum_by, sym, true, zero, ⊎_elim, ◌++◌, ◌+◌, ◌-◌, ◌==◌, ◌∙◌, ◌∷◌, ◌≡◌, ◌≢◌, ◌≤◌, ◌⊎◌, ℕ}
+use Rattle.std.proofs.Common.{Bool, Some, [], ap, arith, cond, eq-eqb, false, get_or, length, set, subst, sym, true, ⊎_elim, ◌++◌, ◌+◌, ◌==◌, ◌∷◌, ◌≡◌, ◌≤◌, ℕ}
 use Rattle.std.proofs.lemmas.List.{length-append}
 use mathlib.Core.Option.{some}
-use mathlib.Core.Logic.{dite}
-use native.Mathlib.Decide.{ℕ_discrete}
 use lib.ListN.{get_elem?}
 use Rattle.lock_word.specs.declared.stage.Stage.{Stage}
 use Rattle.lock_word.specs.declared.stage.Stage.TheVariants.{Appending, Closed, Empty, Freeing as FreeingStage, Gone, Halted, Taken}
@@ -19,24 +17,21 @@ use Rattle.core_model.specs.declared.tab.Writer.{Writer}
 use Rattle.core_model.specs.declared.view.View.{View}
 use Rattle.core_model.specs.declared.chain.Chain.{Chain}
 use Rattle.core_model.specs.Layout.{Setting}
-use Rattle.core_model.specs.Chains.{no_chain, rest_of, slots_of_link}
+use Rattle.core_model.specs.Chains.{no_chain, rest_of}
 use Rattle.core_model.specs.State.{State, chain_of, word}
-use Rattle.core_model.specs.Spots.{slots_chained}
 use Rattle.core_model.specs.Trails.{last_find}
 use Rattle.core_model.specs.Tabs.{OfFreer, OfWriter, anchor_of, inner, tab_at}
-use Rattle.core_model.specs.AnchorMoves.{MayEnd, MayRaise, StartsRight, entered, evicted_tabs, freer_of, left_tab, raised_tab, taken_tabs, writer_of}
+use Rattle.core_model.specs.AnchorMoves.{MayEnd, MayRaise, StartsRight, entered, left_tab, raised_tab}
 use Rattle.core_model.specs.SlotMoves.{MayLoosen, MayPublish, MayReserve, gives_back, loaded, looks, loosens, misses, publishes, reserves, stores}
 use Rattle.core_model.specs.CellMoves.{ends, is_kept, logs, moves, rewrites, settled_by_sync, settled_by_write, tries}
 use Rattle.core_model.specs.Steps.{cell_found, chains_after, finding, halted, longer, number_found}
 use Rattle.core_model.specs.Table.{Allowed, left_by, tabs_after}
-use Rattle.core_model.specs.Slots.{SlotsSound}
 use Rattle.core_model.specs.Sound.{Sound}
 use Rattle.core_model.proofs.ReservesKept.{of_freer, of_writer}
 use Rattle.core_model.proofs.Tabs.{tab_there}
 use Rattle.core_model.specs.Tabs.{IsPass}
-use Rattle.core_room.specs.Room.{holds_at, running}
 use Rattle.core_room.specs.Conditions.{HasCome, KeepsRoom}
-use Rattle.core_room.proofs.Tabs.{Less, ends_less, entered_less, gives_back_less, left_less, loaded_less, logs_less, looks_less, moves_less, raised_less, rewrites_less, set_less, set_more, set_tab, stores_less, tries_less}
+use Rattle.core_room.proofs.Tabs.{Less, ends_less, entered_less, gives_back_less, left_less, loaded_less, logs_less, looks_less, moves_less, raised_less, rewrites_less, stores_less, tries_less}
 use Rattle.core_model.specs.SlotMoves.{goes_past}
 use Rattle.core_room.proofs.Tabs.{if_at}
 use Rattle.core_room.proofs.Held.{at_anchor, evicted, halts, runs_on, shows_one, stays, taken, wins}

@@ -1,8 +1,6 @@
 -- In a store that fits, where each anchor has at most its capacity, the taken slots and the searches are together at most the slots.
-use Rattle.std.proofs.Common.{List, None, Option, Some, [], ap, arith, cond, get_or, length, refl, subst, suc, sum_by, sym, zero, ◌+◌, ◌/◌, ◌<◌, ◌==◌, ◌∙◌, ◌∷◌, ◌≡◌, ◌≢◌, ◌≤◌, ℕ}
+use Rattle.std.proofs.Common.{List, None, Option, Some, ap, arith, cond, get_or, length, refl, suc, sum_by, sym, zero, ◌+◌, ◌/◌, ◌<◌, ◌==◌, ◌∙◌, ◌≡◌, ◌≤◌, ℕ}
 use Rattle.std.specs.List.{range_with_len}
-use mathlib.Core.Option.{some}
-use lib.ListN.{get_elem?}
 use Rattle.link_word.proofs.Mapped.{few}
 use Rattle.core_model.specs.declared.tab.Tab.{Tab}
 use Rattle.core_model.specs.declared.tab.Tab.TheVariants.{Free, Freeing, Last, Reading, Retreating, Writing}
@@ -70,7 +68,7 @@ module _ {X : Type 0} (k : Setting X) (s : State X) (so : Sound k s) where
   tabs_whole =
       let anchors : List ℕ = range_with_len 0 k.anchors in
       let a = sum_less (count whole) (λ (u : View X). sum_by (λ (x : Tab X). sum_by (λ b. holds_at b x) anchors) u.tabs) s.views
-        (λ i u at. sum_less whole (λ (x : Tab X). sum_by (λ b. holds_at b x) anchors) u.tabs (λ t x there. tab_whole u t x (so.anchors.tabs i u at t x there))) in
+      (λ i u at. sum_less whole (λ (x : Tab X). sum_by (λ b. holds_at b x) anchors) u.tabs (λ t x there. tab_whole u t x (so.anchors.tabs i u at t x there))) in
       let b = sum_even (λ (u : View X). sum_by (λ (x : Tab X). sum_by (λ b. holds_at b x) anchors) u.tabs) (λ (u : View X). sum_by (λ b. count (holds_at b) u) anchors) s.views (λ u. sym (exchange holds_at anchors u.tabs)) in
       let c = exchange (λ b (u : View X). count (holds_at b) u) anchors s.views in
       let d = sum_even (count whole) (λ (u : View X). count slots_held u + count (past_in 0) u) s.views (λ u. sum_plus slots_held (past_in 0) u.tabs) in

@@ -1,42 +1,22 @@
 -- What steps make of the slots of each anchor: but where a search begins, no anchor comes to have more, in its chain, its tail and at tabs together.
-use Rattle.std.proofs.Common.{Bool, List, None, Some, [], ap, arith, cond, eq-eqb, false, get_or, inl, inr, length, ne_eqb, refl, set, subst, suc, sum_by, sym, true, zero, ⊎_elim, ◌++◌, ◌+◌, ◌-◌, ◌==◌, ◌∙◌, ◌∷◌, ◌≡◌, ◌≢◌, ◌≤◌, ◌⊎◌, ℕ}
+use Rattle.std.proofs.Common.{Bool, List, Some, [], ap, arith, cond, eq-eqb, false, get_or, length, ne_eqb, refl, set, suc, sum_by, sym, true, zero, ◌+◌, ◌∷◌, ◌≡◌, ◌≢◌, ◌≤◌, ℕ}
 use Rattle.std.proofs.lemmas.List.{length-append}
-use mathlib.Core.Option.{some}
 use mathlib.Core.Logic.{dite}
 use native.Mathlib.Decide.{ℕ_discrete}
-use lib.ListN.{get_elem?}
-use Rattle.lock_word.specs.declared.stage.Stage.{Stage}
-use Rattle.lock_word.specs.declared.stage.Stage.TheVariants.{Appending, Closed, Empty, Freeing as FreeingStage, Gone, Halted, Taken}
-use Rattle.lock_word.specs.Words.{epoch_of, is_idle}
 use Rattle.link_word.specs.declared.link.Link.{Link}
-use Rattle.link_word.specs.Map.{next_free, taken_in}
-use Rattle.core_model.specs.declared.moves.Move.{Move}
-use Rattle.core_model.specs.declared.moves.Move.TheVariants.{CellIn, CellOut, Count, Disown, Doom, Draw, EndTurn, Enter, Evict, GetLink, Learn, Leave, LoadSide, LogPiece, Look, LookMap, Loosen, Note, Own, Publish, Raise, StoreSide, Sync, Take, TryTurn, Write}
 use Rattle.core_model.specs.declared.tab.Freer.{Freer}
 use Rattle.core_model.specs.declared.tab.Tab.{Tab}
-use Rattle.core_model.specs.declared.tab.Tab.TheVariants.{Free, Freeing, Last, Reading, Retreating, Writing}
+use Rattle.core_model.specs.declared.tab.Tab.TheVariants.{Free, Freeing, Writing}
 use Rattle.core_model.specs.declared.tab.Writer.{Writer}
-use Rattle.core_model.specs.declared.view.View.{View}
 use Rattle.core_model.specs.declared.chain.Chain.{Chain}
-use Rattle.core_model.specs.Layout.{Setting}
 use Rattle.core_model.specs.Chains.{no_chain, rest_of, slots_of_link}
-use Rattle.core_model.specs.State.{State, chain_of, word}
 use Rattle.core_model.specs.Spots.{slots_chained}
-use Rattle.core_model.specs.Trails.{last_find}
-use Rattle.core_model.specs.Tabs.{OfFreer, OfWriter, anchor_of, inner, tab_at}
-use Rattle.core_model.specs.AnchorMoves.{MayEnd, MayRaise, StartsRight, entered, evicted_tabs, freer_of, left_tab, raised_tab, taken_tabs, writer_of}
-use Rattle.core_model.specs.SlotMoves.{MayLoosen, MayPublish, MayReserve, gives_back, loaded, looks, loosens, misses, publishes, reserves, stores}
-use Rattle.core_model.specs.CellMoves.{ends, is_kept, logs, moves, rewrites, settled_by_sync, settled_by_write, tries}
-use Rattle.core_model.specs.Steps.{cell_found, chains_after, finding, halted, longer, number_found}
-use Rattle.core_model.specs.Table.{Allowed, left_by, tabs_after}
-use Rattle.core_model.specs.Slots.{SlotsSound}
-use Rattle.core_model.specs.Sound.{Sound}
-use Rattle.core_model.proofs.ReservesKept.{of_freer, of_writer}
-use Rattle.core_model.proofs.Tabs.{tab_there}
-use Rattle.core_model.specs.Tabs.{IsPass}
+use Rattle.core_model.specs.Tabs.{inner}
+use Rattle.core_model.specs.AnchorMoves.{freer_of, left_tab, writer_of}
+use Rattle.core_model.specs.SlotMoves.{publishes, reserves}
+use Rattle.core_model.specs.Steps.{halted, longer}
 use Rattle.core_room.specs.Room.{holds_at, running}
-use Rattle.core_room.specs.Conditions.{HasCome, KeepsRoom}
-use Rattle.core_room.proofs.Tabs.{Less, ends_less, entered_less, gives_back_less, left_less, loaded_less, logs_less, looks_less, moves_less, raised_less, rewrites_less, set_less, set_more, set_tab, stores_less, tries_less}
+use Rattle.core_room.proofs.Tabs.{Less, left_less, set_less, set_more, set_tab}
 
 -- a chain of a list becomes another
 set_chain : (cs : List Chain) (a : ℕ) (d : Chain) (b m : ℕ) → (b ≡ a → slots_chained d ≤ m) → (b ≢ a → slots_chained (get_or cs b no_chain) ≤ m) → slots_chained (get_or (set cs a d) b no_chain) ≤ m
@@ -107,8 +87,8 @@ module _ {X : Type 0} (cs : List Chain) (tabs : List (Tab X)) (t : ℕ) (w : Wri
   halts n b end all = let c : Chain = get_or cs w.anchor no_chain in let l : holds_at {X = X} b (left_tab w.anchor n) ≤ 0 = (left_less Free w.anchor n).held b in let x = now (left_tab w.anchor n) b in
       let r = ap length all in let q = ap (λ (z : Link). length (slots_of_link z)) end in
       let d = set_chain cs w.anchor (halted c) b (slots_chained (get_or cs b no_chain) + holds_at b (Writing w))
-        (λ e. let h = writer_here b w (sym e) in let s = ap (λ (z : ℕ). slots_chained (get_or cs z no_chain)) e in omega arith)
-        (λ _. omega arith) in omega arith
+      (λ e. let h = writer_here b w (sym e) in let s = ap (λ (z : ℕ). slots_chained (get_or cs z no_chain)) e in omega arith)
+      (λ _. omega arith) in omega arith
 
   -- a slot that it had reserved is published
   pub shows_one : (slot : ℕ) (link : Link) (b : ℕ) → w.reserved ≡ slot ∷ rest_of w.reserved

@@ -1,5 +1,5 @@
 -- In a store that fits each step that meets the conditions of one keeps room.
-use Rattle.std.proofs.Common.{List, arith, get_or, sum_by, true, ◌+◌, ◌<◌, ◌≡◌, ◌≤◌, ℕ}
+use Rattle.std.proofs.Common.{List, arith, sum_by, true, ◌+◌, ◌<◌, ◌≡◌, ◌≤◌, ℕ}
 use mathlib.Core.Option.{some}
 use lib.ListN.{get_elem?}
 use Rattle.core_model.specs.declared.moves.Move.{Move}

@@ -12,3 +12,5 @@ pub mod Sole
 pub mod Looks
 pub mod Searched
 pub mod Kept
+pub mod Renewed
+pub mod Opened

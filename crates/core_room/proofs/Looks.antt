@@ -1,20 +1,19 @@
 -- One search of a state: what the others have come to, and how far a look or a try lets it come.
-use Rattle.std.proofs.Common.{List, None, Option, Some, [], ap, arith, cond, eq-eqb, get_or, length, refl, set, subst, sum_by, sym, ◌*◌, ◌+◌, ◌-◌, ◌/◌, ◌<◌, ◌==◌, ◌∙◌, ◌≡◌, ◌≢◌, ◌≤◌, ℕ}
+use Rattle.std.proofs.Common.{Option, Some, ap, arith, cond, eq-eqb, get_or, refl, set, subst, sum_by, sym, ◌*◌, ◌+◌, ◌-◌, ◌/◌, ◌<◌, ◌∙◌, ◌≡◌, ◌≤◌, ℕ}
 use mathlib.Core.Option.{some}
 use lib.ListN.{get_elem?}
 use Rattle.link_word.specs.Map.{next_free, taken_in}
 use Rattle.link_word.proofs.Mapped.{passed, passes, stays}
 use Rattle.core_model.specs.declared.tab.Tab.{Tab}
 use Rattle.core_model.specs.declared.tab.Tab.TheVariants.{Free, Freeing, Last, Reading, Retreating, Writing}
-use Rattle.core_model.specs.declared.tab.Writer.{Writer}
 use Rattle.core_model.specs.declared.view.View.{View}
 use Rattle.core_model.specs.Layout.{Setting, map_index}
 use Rattle.core_model.specs.State.{State}
 use Rattle.core_model.specs.Tabs.{count}
 use Rattle.core_model.specs.SlotMoves.{begun_at, goes_past}
 use Rattle.core_model.proofs.Lists.{by_eq, sum_at, sum_mono}
-use Rattle.core_room.specs.Room.{past, past_in, taken_at}
-use Rattle.core_room.proofs.Searching.{Places, WithOne, goes_far, past_less}
+use Rattle.core_room.specs.Room.{past_in, taken_at}
+use Rattle.core_room.proofs.Searching.{WithOne, goes_far, past_less}
 use Rattle.core_room.proofs.Sole.{without_tab}
 use Rattle.core_room.proofs.Words.{same_word}
 

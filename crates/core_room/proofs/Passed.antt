@@ -1,5 +1,5 @@
 -- Where there is room no search has found all slots taken.
-use Rattle.std.proofs.Common.{Some, ap, arith, subst, sum_by, ◌<◌, ◌≡◌, ◌≤◌, ℕ}
+use Rattle.std.proofs.Common.{Some, ap, arith, sum_by, ◌<◌, ◌≡◌, ℕ}
 use Rattle.core_model.specs.declared.tab.Tab.TheVariants.{Writing}
 use Rattle.core_model.specs.declared.tab.Writer.{Writer}
 use Rattle.core_model.specs.Layout.{Setting}

@@ -1,5 +1,5 @@
 -- A look at the map and a try for a slot keep room.
-use Rattle.std.proofs.Common.{Bool, List, None, Option, Some, [], ap, arith, cond, eq-eqb, false, get_or, length, max, min, ne_eqb, refl, set, subst, sum_by, sym, true, ⊎_elim, ◌*◌, ◌++◌, ◌+◌, ◌/◌, ◌<◌, ◌==◌, ◌∙◌, ◌∷◌, ◌≡◌, ◌≢◌, ◌≤◌, ◌⊎◌, ℕ}
+use Rattle.std.proofs.Common.{Bool, List, None, Some, [], ap, arith, cond, eq-eqb, false, get_or, length, ne_eqb, refl, set, subst, sum_by, sym, true, ⊎_elim, ◌*◌, ◌++◌, ◌+◌, ◌<◌, ◌==◌, ◌∙◌, ◌∷◌, ◌≡◌, ◌≢◌, ◌≤◌, ℕ}
 use Rattle.std.specs.List.{range_with_len}
 use Rattle.std.proofs.lemmas.Bool.{leb-true}
 use mathlib.Core.Option.{some}
@@ -8,13 +8,11 @@ use native.Mathlib.Decide.{ℕ_discrete}
 use lib.ListN.{get_elem?}
 use Rattle.link_word.specs.Map.{next_free, taken_in}
 use Rattle.link_word.proofs.Mapped.{few}
-use Rattle.core_model.specs.declared.moves.Move.{Move}
 use Rattle.core_model.specs.declared.moves.Move.TheVariants.{LookMap, Own}
 use Rattle.core_model.specs.declared.tab.Tab.{Tab}
 use Rattle.core_model.specs.declared.tab.Tab.TheVariants.{Free, Writing}
 use Rattle.core_model.specs.declared.tab.Writer.{Writer}
 use Rattle.core_model.specs.declared.view.View.{View}
-use Rattle.core_model.specs.declared.chain.Chain.{Chain}
 use Rattle.core_model.specs.Layout.{Setting, map_index}
 use Rattle.core_model.specs.State.{State, chain_of}
 use Rattle.core_model.specs.Spots.{slots_chained}
@@ -22,11 +20,11 @@ use Rattle.core_model.specs.Sound.{Sound}
 use Rattle.core_model.specs.Steps.{after, finding, number_found, view_after}
 use Rattle.core_model.specs.Tabs.{InnerIsFree, IsPass, OfWriter, count, inner, tab_at}
 use Rattle.core_model.specs.SlotMoves.{begun_at, goes_past, misses, reserves, searches}
-use Rattle.core_model.specs.Table.{Allowed, MayStep, tabs_after}
+use Rattle.core_model.specs.Table.{MayStep, tabs_after}
 use Rattle.core_model.proofs.AllKept.{keeps_sound}
 use Rattle.core_model.proofs.ReservesKept.{of_writer}
 use Rattle.core_model.proofs.Tabs.{tab_there}
-use Rattle.core_room.specs.Fitting.{capacity, fits, most_written}
+use Rattle.core_room.specs.Fitting.{capacity, fits}
 use Rattle.core_room.specs.Room.{Room, holds_at, past, past_in, running, taken_at, taken_from}
 use Rattle.core_room.specs.Conditions.{HasCome, KeepsRoom, MayBegin}
 use Rattle.core_room.proofs.Searching.{Places, begins, fewer, fewer_from, past_at, takes}

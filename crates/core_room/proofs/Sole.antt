@@ -1,5 +1,5 @@
 -- A tab that writes, while the inner tab of its pass is free, is the only one that has slots of its anchor.
-use Rattle.std.proofs.Common.{Bool, List, [], ap, arith, cond, false, get_or, inl, inr, length, set, subst, sum_by, sym, true, ⊎_elim, ◌+◌, ◌<◌, ◌==◌, ◌∙◌, ◌≡◌, ◌≢◌, ◌≤◌, ◌⊎◌, ℕ}
+use Rattle.std.proofs.Common.{ap, arith, cond, false, length, set, subst, sum_by, sym, true, ⊎_elim, ◌+◌, ◌<◌, ◌==◌, ◌∙◌, ◌≡◌, ◌≢◌, ℕ}
 use mathlib.Core.Option.{some, some-injective}
 use mathlib.Core.Logic.{dite}
 use native.Mathlib.Decide.{ℕ_discrete}

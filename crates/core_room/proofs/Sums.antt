@@ -1,5 +1,5 @@
 -- Sums over lists, and over the numbers of anchors.
-use Rattle.std.proofs.Common.{List, [], arith, cond, eq-eqb, get_or, length, ne_eqb, refl, suc, sum_by, sym, zero, ◌+◌, ◌<◌, ◌==◌, ◌∙◌, ◌∷◌, ◌≡◌, ◌≤◌, ap, subst, ℕ}
+use Rattle.std.proofs.Common.{List, [], arith, cond, eq-eqb, get_or, length, refl, suc, sum_by, sym, zero, ◌+◌, ◌<◌, ◌==◌, ◌∙◌, ◌∷◌, ◌≡◌, ◌≤◌, ap, ℕ}
 use Rattle.std.specs.List.{range_with_len}
 use Rattle.std.proofs.lemmas.List.Sums.{sum_by-cons}
 use mathlib.Core.Option.{some, some-injective, some-ne-none}

@@ -1,22 +1,19 @@
 -- What steps make of one tab, to room: its search comes no further, and it has no more slots of any anchor.
-use Rattle.std.proofs.Common.{Bool, List, None, Option, Some, [], ap, arith, cond, false, get_or, length, not, refl, set, suc, sum_by, sym, true, zero, ◌&&◌, ◌++◌, ◌+◌, ◌==◌, ◌∙◌, ◌∷◌, ◌≡◌, ◌≤◌, ℕ}
+use Rattle.std.proofs.Common.{Bool, List, Option, [], arith, cond, false, get_or, length, not, refl, set, suc, sum_by, true, zero, ◌&&◌, ◌+◌, ◌==◌, ◌∷◌, ◌≡◌, ◌≤◌, ℕ}
 use Rattle.std.proofs.lemmas.List.Sums.{sum_by-cons}
 use Rattle.lock_word.specs.declared.stage.Stage.{Stage}
 use Rattle.lock_word.specs.declared.stage.Stage.TheVariants.{Appending, Closed, Empty, Freeing as FreeingStage, Gone, Halted, Taken}
 use Rattle.lock_word.specs.Words.{is_left_over, is_readable}
-use Rattle.link_word.specs.declared.link.Link.{Link}
 use Rattle.core_model.specs.declared.moves.Side.{Side}
 use Rattle.core_model.specs.declared.moves.Side.TheVariants.{Key0, Key1, Offer, Start}
 use Rattle.core_model.specs.declared.moves.Then.{Then}
 use Rattle.core_model.specs.declared.moves.Then.TheVariants.{GoesOn, Stays, Wiped}
 use Rattle.core_model.specs.declared.tab.Cell.{Cell}
-use Rattle.core_model.specs.declared.tab.Freer.{Freer}
 use Rattle.core_model.specs.declared.tab.Tab.{Tab}
 use Rattle.core_model.specs.declared.tab.Tab.TheVariants.{Free, Freeing, Last, Reading, Retreating, Writing}
-use Rattle.core_model.specs.declared.tab.Writer.{Writer}
 use Rattle.core_model.specs.Chains.{without}
 use Rattle.core_model.specs.AnchorMoves.{entered, left_tab, raised_tab}
-use Rattle.core_model.specs.SlotMoves.{emptied, gives_back, loaded, looks, publishes, stores}
+use Rattle.core_model.specs.SlotMoves.{gives_back, loaded, looks, stores}
 use Rattle.core_model.specs.CellMoves.{ends, logs, moves, rewrites, tries}
 use Rattle.core_room.specs.Room.{holds_at, past_in, running}
 

@@ -1,5 +1,5 @@
 -- What steps make of sums over the views: a step changes the view of its pass, and a note has no tabs.
-use Rattle.std.proofs.Common.{Bool, List, [], ap, arith, cond, drop, false, length, ltb, refl, set, suc, sum_by, sym, true, zero, ◌++◌, ◌+◌, ◌∷◌, ◌≡◌, ◌≤◌, ℕ}
+use Rattle.std.proofs.Common.{Bool, List, [], arith, cond, drop, false, length, ltb, refl, set, suc, sum_by, true, zero, ◌++◌, ◌+◌, ◌∷◌, ◌≡◌, ◌≤◌, ℕ}
 use Rattle.std.proofs.lemmas.List.Sums.{sum_by-cons, sum_by_push}
 use mathlib.Core.Option.{some}
 use lib.ListN.{get_elem?}
@@ -30,7 +30,7 @@ module _ {X : Type 0} (f : Tab X → ℕ) (k : Setting X) (s : State X) (i : ℕ
   pub view_set : (w : View X) → sum_by (count f) (set s.views i w) + count f v ≤ sum_by (count f) s.views + count f w
   view_set w = let e = sum_at (count f) s.views i v w at in omega arith
 
-  noted : (w : View X) (b : Bool) (p : ℕ) → sum_by (count f) (cond b (set (set s.views i w) p (note_of v)) (set s.views i w ++ note_of v ∷ [])) + count f v ≤ sum_by (count f) s.views + count f w
+  pub noted : (w : View X) (b : Bool) (p : ℕ) → sum_by (count f) (cond b (set (set s.views i w) p (note_of v)) (set s.views i w ++ note_of v ∷ [])) + count f v ≤ sum_by (count f) s.views + count f w
   noted w true p = let e = view_set w in let n = set_none (count f) (set s.views i w) p (note_of v) refl in omega arith
   noted w false p = let e = view_set w in let n = push_none (count f) (set s.views i w) (note_of v) refl in omega arith
 

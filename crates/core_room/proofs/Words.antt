@@ -1,11 +1,11 @@
 -- What steps make of the map of taken slots.
-use Rattle.std.proofs.Common.{List, None, Option, Some, ap, arith, get_or, get_or-set_other, get_or-set_same, length, refl, set, subst, sym, ◌+◌, ◌/◌, ◌<◌, ◌==◌, ◌∙◌, ◌≡◌, ◌≢◌, ◌≤◌, ℕ}
+use Rattle.std.proofs.Common.{List, None, Option, Some, ap, arith, get_or, get_or-set_other, get_or-set_same, length, refl, set, subst, sym, ◌/◌, ◌<◌, ◌∙◌, ◌≡◌, ◌≢◌, ◌≤◌, ℕ}
 use mathlib.Core.Option.{some}
 use mathlib.Core.Logic.{dite}
 use native.Mathlib.Decide.{ℕ_discrete}
 use lib.ListN.{get_elem?}
-use Rattle.link_word.specs.Map.{map_words, taken_in, with_slot, without_slot}
-use Rattle.link_word.proofs.Mapped.{clear_here, clear_other, few, set_again, set_here, set_other, word_within}
+use Rattle.link_word.specs.Map.{taken_in, with_slot, without_slot}
+use Rattle.link_word.proofs.Mapped.{clear_here, clear_other, set_here, set_other, word_within}
 use Rattle.core_model.specs.declared.moves.Move.{Move}
 use Rattle.core_model.specs.declared.moves.Move.TheVariants.{Disown, LookMap, Own}
 use Rattle.core_model.specs.declared.view.Place.{Place}

@@ -18,7 +18,7 @@ ghost use Rattle.core_model.specs.Sound.{Sound};
 ghost use Rattle.core_model.specs.Table.{MayStep};
 ghost use Rattle.core_model.specs.Steps.{after};
 ghost use Rattle.core_model.specs.Holders.{IsTab};
-ghost use Rattle.core_model.specs.TableForms.{IsNoteAt, IsSpentAt, MayBlank, MayRewrite, learned_from, noted_at, noted_behind, with_held, with_wiped};
+ghost use Rattle.core_model.specs.TableForms.{MayBlank, MayRewrite, learned_from, noted_at, noted_behind, with_held, with_wiped};
 ghost use Rattle.core_room.specs.Fitting.{capacity, fits};
 ghost use Rattle.core_room.specs.Room.{Room};
 ghost use Rattle.core_room.specs.Conditions.{KeepsRoom};
@@ -56,16 +56,16 @@ pub fn held_cells_keep_room<X>()
         → Room k capacity (with_wiped s i v t f new) }
 {}
 
-/// And where a note is made, behind all views or in place of a spent one.
+/// And where a note is made, behind all views or in place of one.
 pub fn notes_made_keep_room<X>()
     ensures behind { (k : Setting X) (s : State X) (capacity : ℕ → ℕ) (i : ℕ) (v : View X) (item : Item)
         → Room k capacity s → get_elem? s.views i ≡ some v → Room k capacity (noted_behind s i v item) }
-    ensures at { (k : Setting X) (s : State X) (capacity : ℕ → ℕ) (i : ℕ) (v : View X) (item : Item) (n : ℕ) (u : View X)
-        → Room k capacity s → get_elem? s.views i ≡ some v → IsSpentAt s n u → Room k capacity (noted_at s i v item n) }
+    ensures at { (k : Setting X) (s : State X) (capacity : ℕ → ℕ) (i : ℕ) (v : View X) (item : Item) (n : ℕ)
+        → Room k capacity s → get_elem? s.views i ≡ some v → Room k capacity (noted_at s i v item n) }
 {}
 
-/// And where a pass learns what a note has seen, wherever the note is.
+/// And where a pass learns what a note has seen, wherever the note is, and the note is spent.
 pub fn notes_learned_keep_room<X>()
     ensures { (k : Setting X) (s : State X) (capacity : ℕ → ℕ) (i : ℕ) (v : View X) (item : Item) (n : ℕ) (u : View X)
-        → Room k capacity s → get_elem? s.views i ≡ some v → IsNoteAt s n u → Room k capacity (learned_from s i v item n u) }
+        → Room k capacity s → get_elem? s.views i ≡ some v → Room k capacity (learned_from s i v item n u) }
 {}
