@@ -33,7 +33,8 @@ module _ {X : Type 0} where
   not_free : (f : Freer X) → is_free {X = X} (Freeing f) ≡ true → ⊥
   not_free f e = cc
 
-module _ {X : Type 0} (k : Setting X) (s : State X) (i : ℕ) (v : View X) (so : Sound k s) (at : get_elem? s.views i ≡ some v) (t : ℕ) (w : Writer X) (is : get_elem? v.tabs t ≡ some (Writing w)) (free : InnerIsFree v) where
+module _ {X : Type 0} (k : Setting X) (s : State X) (i : ℕ) (v : View X) (so : Sound k s) (at : get_elem? s.views i ≡ some v) (t : ℕ)
+    (w : Writer X) (is : get_elem? v.tabs t ≡ some (Writing w)) (free : InnerIsFree v) where
   writer : IsTab s i t (Writing w)
   writer = record { view = v; at = at; there = is }
 
@@ -51,7 +52,8 @@ module _ {X : Type 0} (k : Setting X) (s : State X) (i : ℕ) (v : View X) (so :
       mine q =
           let same : u ≡ v = some-injective u v (sym ut ∙ subst (λ (z : ℕ). get_elem? s.views z ≡ some v) q at) in
           let last : p ≡ inner = (so.anchors.tabs j u ut p (Freeing f) there).1 in
-          let x : tab_at v inner ≡ Freeing f = at_or v.tabs inner (Freeing f) Free (subst (λ (z : ℕ). get_elem? v.tabs z ≡ some (Freeing f)) last (subst (λ (z : View X). get_elem? z.tabs p ≡ some (Freeing f)) same there)) in
+          let x : tab_at v inner ≡ Freeing f = at_or v.tabs inner (Freeing f) Free (subst
+            (λ (z : ℕ). get_elem? v.tabs z ≡ some (Freeing f)) last (subst (λ (z : View X). get_elem? z.tabs p ≡ some (Freeing f)) same there)) in
           not_free f (subst (λ (z : Tab X). is_free z ≡ true) x free)
 
       -- an anchor at FREEING has no writer, and an entry is replaced by a tab of the same pass
@@ -66,7 +68,8 @@ module _ {X : Type 0} (k : Setting X) (s : State X) (i : ℕ) (v : View X) (so :
           let r = replaced k s so.anchors so.slots j p f tab q in
           mine (one_writer_there j r.t r.writer r.tab (r.anchor_is ∙ e)).0
 
-  only_this : (j : ℕ) (u : View X) → get_elem? s.views j ≡ some u → (p : ℕ) (x : Tab X) → get_elem? u.tabs p ≡ some x → 0 < holds_at w.anchor x → (i ≡ j) × (t ≡ p)
+  only_this : (j : ℕ) (u : View X) → get_elem? s.views j ≡ some u → (p : ℕ) (x : Tab X) → get_elem? u.tabs p ≡ some x
+      → 0 < holds_at w.anchor x → (i ≡ j) × (t ≡ p)
   only_this j u ut p Free there h = absurd (omega arith)
   only_this j u ut p (Retreating a) there h = absurd (omega arith)
   only_this j u ut p (Reading r) there h = absurd (omega arith)
@@ -79,7 +82,8 @@ module _ {X : Type 0} (k : Setting X) (s : State X) (i : ℕ) (v : View X) (so :
   pub none_else : sum_by (count (holds_at w.anchor)) (set s.views i (without_tab v t)) ≡ 0
   none_else = dite (ℕ_discrete (sum_by (count (holds_at w.anchor)) (set s.views i (without_tab v t))) 0)
       (λ e. e)
-      (λ ne. absurd (let q = sum_some (count (holds_at w.anchor)) (set s.views i (without_tab v t)) (omega arith) in let r = sum_some (holds_at w.anchor) q.item.tabs q.some_ in
+      (λ ne. absurd (let q = sum_some (count (holds_at w.anchor)) (set s.views i (without_tab v t)) (omega arith) in
+        let r = sum_some (holds_at w.anchor) q.item.tabs q.some_ in
       ⊎_elim (λ (z : (q.i ≡ i) × (without_tab v t ≡ q.item)). here r.i r.item (subst (λ (u : View X). get_elem? u.tabs r.i ≡ some r.item) (sym z.1) r.at) r.some_)
       (λ (z : (q.i ≢ i) × (get_elem? s.views q.i ≡ some q.item)). z.0 (sym (only_this q.i q.item z.1 r.i r.item r.at r.some_).0))
       (at_set s.views i q.i (without_tab v t) q.item q.at)))

@@ -50,10 +50,12 @@ module _ {X : Type 0} where
   either false x y z p q = q
 
   pub entered_less : (x : Tab X) (a e : ℕ) → Less x (entered a e)
-  entered_less x a e = either (is_readable e) x _ (Retreating a) (nothing x _ (λ slot. refl) (λ b. refl)) (nothing x (Retreating a) (λ slot. refl) (λ b. refl))
+  entered_less x a e = either (is_readable e) x _ (Retreating a) (nothing x _ (λ slot. refl) (λ b. refl)) (nothing x (Retreating a)
+      (λ slot. refl) (λ b. refl))
 
   pub left_less : (x : Tab X) (a n : ℕ) → Less x (left_tab a n)
-  left_less x a n = either (is_left_over n) x (Last a) Free (nothing x (Last a) (λ slot. refl) (λ b. refl)) (nothing x Free (λ slot. refl) (λ b. refl))
+  left_less x a n = either (is_left_over n) x (Last a) Free (nothing x (Last a) (λ slot. refl) (λ b. refl)) (nothing x Free (λ slot. refl)
+      (λ b. refl))
 
   pub raised_less : (to : Stage) (n : ℕ) (x : Tab X) → Less x (raised_tab x to n)
   raised_less to n Free = left_less Free 0 n
