@@ -42,8 +42,11 @@ IsNoLook (LookMap t word) = ⊥
 IsNoLook m = Unit {0}
 
 module _ {X : Type 0} where
+  abbrev Looser : ℕ → Tab X → Type 0
+  Looser slot x = Less x (loosens x (slot ∷ []))
+
   -- the first slot of a rest comes to be loose
-  loosens_less : (slot : ℕ) (f : Freer X) → MayLoosen slot f → Less (Freeing f) (loosens (Freeing f) (slot ∷ []))
+  loosens_less : (slot : ℕ) (f : Freer X) → MayLoosen slot f → Looser slot (Freeing f)
   loosens_less slot f may = record {
     past = λ j. omega arith;
     held = λ a. if_at (f.anchor == a) (length (rest_of f.rest) + length (f.loose ++ slot ∷ [])) (length f.rest + length f.loose)
@@ -73,6 +76,23 @@ module _ {X : Type 0} (k : Setting X) (s : State X) (i : ℕ) (v : View X) (so :
   raised t to = let n : ℕ = left_by v (Raise t to) (number_found k s v (Raise t to)) in
       one t (raised_tab (tab_at v t) to n) (raised_less to n (tab_at v t))
 
+  -- what a row comes to, of a tab that is so
+  abbrev HaltedBy : (t n b : ℕ) → Tab X → Type 0
+  HaltedBy t n b z = at_anchor (set s.chains (anchor_of z) (halted (get_or s.chains (anchor_of z) no_chain)))
+      (set v.tabs t (raised_tab z Halted n)) b ≤ at_anchor s.chains v.tabs b
+
+  abbrev PublishedBy : (t slot : ℕ) → Link → (b : ℕ) → Tab X → Type 0
+  PublishedBy t slot link b z = at_anchor (set s.chains (anchor_of z) (longer (get_or s.chains (anchor_of z) no_chain) slot link))
+      (set v.tabs t (publishes z slot link)) b ≤ at_anchor s.chains v.tabs b
+
+  abbrev TriedBy : (t slot n b : ℕ) → Tab X → Type 0
+  TriedBy t slot n b z =
+      at_anchor s.chains (set v.tabs t (cond (taken_in n slot == 0) (reserves z slot) (misses z slot n))) b ≤ at_anchor s.chains v.tabs b
+
+  abbrev LoosenedIf : (t slot b : ℕ) → Bool → Type 0
+  LoosenedIf t slot b c = at_anchor s.chains (cond c (set v.tabs inner (loosens (tab_at v inner) (slot ∷ [])))
+      (set (set v.tabs inner (loosens (tab_at v inner) [])) t (reserves (tab_at v t) slot))) b ≤ at_anchor s.chains v.tabs b
+
   halts_row : (t : ℕ) → Allowed k s v (Raise t Halted) → Keeps (Raise t Halted)
   halts_row t may b = ⊎_elim writer
       (λ (h : OfFreer (λ f. MayEnd f Halted) (tab_at v t)). absurd (of_freer (λ f. MayEnd f Halted) (tab_at v t) h).2) may.1
@@ -80,21 +100,17 @@ module _ {X : Type 0} (k : Setting X) (s : State X) (i : ℕ) (v : View X) (so :
       n : ℕ
       n = left_by v (Raise t Halted) (number_found k s v (Raise t Halted))
 
-      writer : OfWriter (λ w. MayRaise w Halted × StartsRight k s w) (tab_at v t)
-          → at_anchor (set s.chains (anchor_of (tab_at v t)) (halted (get_or s.chains (anchor_of (tab_at v t)) no_chain))) (set v.tabs t (raised_tab (tab_at v t) Halted n)) b ≤ at_anchor s.chains v.tabs b
+      writer : OfWriter (λ w. MayRaise w Halted × StartsRight k s w) (tab_at v t) → HaltedBy t n b (tab_at v t)
       writer h = let q = of_writer (λ w. MayRaise w Halted × StartsRight k s w) (tab_at v t) h in
-          subst (λ (z : Tab X). at_anchor (set s.chains (anchor_of z) (halted (get_or s.chains (anchor_of z) no_chain))) (set v.tabs t (raised_tab z Halted n)) b ≤ at_anchor s.chains v.tabs b) (sym q.1)
-          (halts s.chains v.tabs t q.0 q.1 n b (ap Chain.end (chain_is t q.0 may.0 q.1)) q.2.0.2)
+          subst (HaltedBy t n b) (sym q.1) (halts s.chains v.tabs t q.0 q.1 n b (ap Chain.end (chain_is t q.0 may.0 q.1)) q.2.0.2)
 
   publishes_row : (t slot : ℕ) (link : Link) → Allowed k s v (Publish t slot link) → Keeps (Publish t slot link)
   publishes_row t slot link may b = let q = of_writer (MayPublish k s slot link) (tab_at v t) may.1 in
-      subst (λ (z : Tab X). at_anchor (set s.chains (anchor_of z) (longer (get_or s.chains (anchor_of z) no_chain) slot link)) (set v.tabs t (publishes z slot link)) b ≤ at_anchor s.chains v.tabs b) (sym q.1)
-      (shows_one s.chains v.tabs t q.0 q.1 slot link b q.2.first)
+      subst (PublishedBy t slot link b) (sym q.1) (shows_one s.chains v.tabs t q.0 q.1 slot link b q.2.first)
 
   tries_row : (t slot : ℕ) → OfWriter (HasCome slot) (tab_at v t) → Keeps (Own t slot)
   tries_row t slot come b = let q = of_writer (HasCome slot) (tab_at v t) come in
-      subst (λ (z : Tab X). at_anchor s.chains (set v.tabs t (cond (taken_in n slot == 0) (reserves z slot) (misses z slot n))) b
-        ≤ at_anchor s.chains v.tabs b) (sym q.1) (by_hit q.0 q.1 q.2 (taken_in n slot == 0))
+      subst (TriedBy t slot n b) (sym q.1) (by_hit q.0 q.1 q.2 (taken_in n slot == 0))
     where
       n : ℕ
       n = number_found k s v (Own t slot)
@@ -103,13 +119,14 @@ module _ {X : Type 0} (k : Setting X) (s : State X) (i : ℕ) (v : View X) (so :
           → at_anchor s.chains (set v.tabs t (cond hit (reserves (Writing w) slot) (misses (Writing w) slot n))) b
             ≤ at_anchor s.chains v.tabs b
       by_hit w e come true = wins s.chains v.tabs t w e slot b come
-      by_hit w e come false = runs_on s.chains v.tabs t w e (record w { claim = goes_past w.claim slot n }) (cond (slot == slot) (next_free n slot) slot) slot b (ap (λ c. record w { claim = goes_past c slot n }) come) come
+      by_hit w e come false =
+          runs_on s.chains v.tabs t w e (record w { claim = goes_past w.claim slot n }) (cond (slot == slot) (next_free n slot) slot) slot b
+          (ap (λ c. record w { claim = goes_past c slot n }) come) come
 
   loosens_row : (t slot : ℕ) → Allowed k s v (Loosen t slot) → t ≡ inner → Keeps (Loosen t slot)
   loosens_row t slot may is b = let q = of_freer (MayLoosen slot) (tab_at v inner) frees in let z = eq-eqb t inner is in
-      subst (λ (c : Bool). at_anchor s.chains (cond c (set v.tabs inner (loosens (tab_at v inner) (slot ∷ []))) (set (set v.tabs inner (loosens (tab_at v inner) [])) t (reserves (tab_at v t) slot))) b ≤ at_anchor s.chains v.tabs b) (sym z)
-      (one inner (loosens (tab_at v inner) (slot ∷ [])) (subst
-        (λ (x : Tab X). Less x (loosens x (slot ∷ []))) (sym q.1) (loosens_less slot q.0 q.2)) b)
+      subst (LoosenedIf t slot b) (sym z)
+      (one inner (loosens (tab_at v inner) (slot ∷ [])) (subst (Looser slot) (sym q.1) (loosens_less slot q.0 q.2)) b)
     where
       weaker : (x : Tab X) → OfFreer (λ f. MayLoosen slot f × (f.is_freeing ≡ true)) x → OfFreer (MayLoosen slot) x
       weaker (Freeing f) h = h.0
@@ -122,7 +139,8 @@ module _ {X : Type 0} (k : Setting X) (s : State X) (i : ℕ) (v : View X) (so :
       frees : OfFreer (MayLoosen slot) (tab_at v inner)
       frees = ⊎_elim
           (λ (h : OfFreer (MayLoosen slot) (tab_at v t)). subst (λ (u : ℕ). OfFreer (MayLoosen slot) (tab_at v u)) is h)
-          (λ (h : OfWriter MayReserve (tab_at v t) × OfFreer (λ f. MayLoosen slot f × (f.is_freeing ≡ true)) (tab_at v inner)). weaker (tab_at v inner) h.1)
+          (λ (h : OfWriter MayReserve (tab_at v t) × OfFreer (λ f. MayLoosen slot f × (f.is_freeing ≡ true)) (tab_at v inner)).
+          weaker (tab_at v inner) h.1)
           may.1
 
   pub held_after : (m : Move) → IsNoLook m → Allowed k s v m → KeepsRoom k need v m → Keeps m

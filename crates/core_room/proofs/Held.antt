@@ -29,10 +29,10 @@ set_chain (c ∷ cs) (suc a) d (suc b) m p q = set_chain cs a d b m (λ e. p (ap
 
 module _ {X : Type 0} where
   -- what a writing and a freeing tab have of an anchor
-  writer_here : (a : ℕ) (w : Writer X) → w.anchor ≡ a → holds_at a (Writing w) ≡ length w.reserved + running w.claim
+  pub writer_here : (a : ℕ) (w : Writer X) → w.anchor ≡ a → holds_at a (Writing w) ≡ length w.reserved + running w.claim
   writer_here a w e = let z = eq-eqb w.anchor a e in rw z refl
 
-  writer_else : (a : ℕ) (w : Writer X) → w.anchor ≢ a → holds_at a (Writing w) ≡ 0
+  pub writer_else : (a : ℕ) (w : Writer X) → w.anchor ≢ a → holds_at a (Writing w) ≡ 0
   writer_else a w ne = let z = ne_eqb w.anchor a ne in rw z refl
 
   freer_here : (a : ℕ) (f : Freer X) → f.anchor ≡ a → holds_at a (Freeing f) ≡ length f.rest + length f.loose
