@@ -72,7 +72,7 @@ module _ {X : Type 0} (k : Setting X) (s : State X) (i : ℕ) (v : View X) (so :
 
   raised : (t : ℕ) (to : Stage) (b : ℕ)
       → at_anchor s.chains (set v.tabs t (raised_tab (tab_at v t) to (left_by v (Raise t to) (number_found k s v (Raise t to))))) b
-        ≤ at_anchor s.chains v.tabs b
+      ≤ at_anchor s.chains v.tabs b
   raised t to = let n : ℕ = left_by v (Raise t to) (number_found k s v (Raise t to)) in
       one t (raised_tab (tab_at v t) to n) (raised_less to n (tab_at v t))
 
@@ -117,7 +117,7 @@ module _ {X : Type 0} (k : Setting X) (s : State X) (i : ℕ) (v : View X) (so :
 
       by_hit : (w : Writer X) → tab_at v t ≡ Writing w → w.claim ≡ Some slot → (hit : Bool)
           → at_anchor s.chains (set v.tabs t (cond hit (reserves (Writing w) slot) (misses (Writing w) slot n))) b
-            ≤ at_anchor s.chains v.tabs b
+          ≤ at_anchor s.chains v.tabs b
       by_hit w e come true = wins s.chains v.tabs t w e slot b come
       by_hit w e come false =
           runs_on s.chains v.tabs t w e (record w { claim = goes_past w.claim slot n }) (cond (slot == slot) (next_free n slot) slot) slot b

@@ -24,7 +24,8 @@ module _ {X : Type 0} (k : Setting X) (r : Rebuilt) (s : State X) (is : IsSettin
   -- no chain has a tail
   no_tail : (a : ℕ) → a < k.anchors → (chain_of s a).tail ≡ []
   no_tail a lt = ⊎_elim
-      (λ (q : (f : Found) × Contains r.winners f × (anchor_of f.key k.anchors ≡ a)). subst (λ (z : ℕ). (chain_of s z).tail ≡ []) q.2 (ap Chain.tail (o.kept q.0 q.1).chain))
+      (λ (q : (f : Found) × Contains r.winners f × (anchor_of f.key k.anchors ≡ a)).
+      subst (λ (z : ℕ). (chain_of s z).tail ≡ []) q.2 (ap Chain.tail (o.kept q.0 q.1).chain))
       (λ (q : (f : Found) → Contains r.winners f → anchor_of f.key k.anchors ≡ a → ⊥). ap Chain.tail (o.empty a lt q).chain)
       (numbered (λ (f : Found). anchor_of f.key k.anchors) a r.winners)
 

@@ -65,13 +65,13 @@ module _ {X : Type 0} (k : Setting X) (s : State X) (v : View X) where
 
   raised : (t : ℕ) (to : Stage) (j : ℕ)
       → sum_by (past_in j) (set v.tabs t (raised_tab (tab_at v t) to (left_by v (Raise t to) (number_found k s v (Raise t to)))))
-        ≤ sum_by (past_in j) v.tabs
+      ≤ sum_by (past_in j) v.tabs
   raised t to = let n : ℕ = left_by v (Raise t to) (number_found k s v (Raise t to)) in
       one t (raised_tab (tab_at v t) to n) (raised_less to n (tab_at v t))
 
   taken_row : (hit idle : Bool) (t u : ℕ) (f : Freer X) (w : Writer X) → w.claim ≡ None → (j : ℕ)
       → sum_by (past_in j) (cond hit (set (cond idle (set v.tabs inner (Freeing f)) v.tabs) t (Writing w)) v.tabs)
-        ≤ sum_by (past_in j) v.tabs
+      ≤ sum_by (past_in j) v.tabs
   taken_row false idle t u f w none j = omega arith
   taken_row true true t u f w none j = let x = set_more (past_in j) refl (set v.tabs inner (Freeing f)) t (Writing w) in
       let y = set_more (past_in j) refl v.tabs inner (Freeing f) in let z = ap (past j) none in omega arith
@@ -84,11 +84,14 @@ module _ {X : Type 0} (k : Setting X) (s : State X) (v : View X) where
   evicted_row false t f j = let y = set_more (past_in j) refl v.tabs t Free in omega arith
 
   loosens_row : (hit : Bool) (t slot j : ℕ)
-      → sum_by (past_in j) (cond hit (set v.tabs inner (loosens (tab_at v inner) (slot ∷ []))) (set (set v.tabs inner (loosens (tab_at v inner) [])) t (reserves (tab_at v t) slot))) ≤ sum_by (past_in j) v.tabs
-  loosens_row true t slot j = set_less (past_in j) refl v.tabs inner (loosens (tab_at v inner) (slot ∷ [])) (loosens_past (slot ∷ []) j (tab_at v inner))
-  loosens_row false t slot j = let x = set_more (past_in j) refl (set v.tabs inner (loosens (tab_at v inner) [])) t (reserves (tab_at v t) slot) in
+      → sum_by (past_in j) (cond hit (set v.tabs inner (loosens (tab_at v inner) (slot ∷ [])))
+      (set (set v.tabs inner (loosens (tab_at v inner) [])) t (reserves (tab_at v t) slot))) ≤ sum_by (past_in j) v.tabs
+  loosens_row true t slot j =
+      set_less (past_in j) refl v.tabs inner (loosens (tab_at v inner) (slot ∷ [])) (loosens_past (slot ∷ []) j (tab_at v inner))
+  loosens_row false t slot j =
+      let x = set_more (past_in j) refl (set v.tabs inner (loosens (tab_at v inner) [])) t (reserves (tab_at v t) slot) in
       let y = set_less (past_in j) refl v.tabs inner (loosens (tab_at v inner) []) (loosens_past [] j (tab_at v inner)) in
-        let z = no_claim slot j (tab_at v t) in omega arith
+      let z = no_claim slot j (tab_at v t) in omega arith
 
   pub past_after : (m : Move) → IsNoSearch m → ComesNoFurther m
   past_after (Look a) off = same
@@ -97,7 +100,8 @@ module _ {X : Type 0} (k : Setting X) (s : State X) (v : View X) where
       one t (left_tab (anchor_of (tab_at v t)) n) (left_less (tab_at v t) (anchor_of (tab_at v t)) n)
   past_after Count off = same
   past_after Draw off = same
-  past_after (Take t a u) off = taken_row (word s a == last_find a v.trail) (is_idle (word s a)) t u (freer_of a false (word s a) (chain_of s a)) (writer_of a u) refl
+  past_after (Take t a u) off =
+      taken_row (word s a == last_find a v.trail) (is_idle (word s a)) t u (freer_of a false (word s a) (chain_of s a)) (writer_of a u) refl
   past_after (Evict t a) off = evicted_row (word s a == last_find a v.trail) t (freer_of a true (word s a) (chain_of s a))
   past_after (Raise t to) off = raised t to
   past_after (Doom t) off = same
@@ -108,7 +112,8 @@ module _ {X : Type 0} (k : Setting X) (s : State X) (v : View X) where
   past_after (Own t slot) off = absurd off
   past_after (Disown t slot) off = one t (gives_back (tab_at v t) slot) (gives_back_less slot (tab_at v t))
   past_after (LogPiece t slot durable) off = one t (logs (tab_at v t) slot durable) (logs_less slot durable (tab_at v t))
-  past_after (Publish t slot link) off = λ j. set_less (past_in j) refl v.tabs t (publishes (tab_at v t) slot link) (publishes_past slot link j (tab_at v t))
+  past_after (Publish t slot link) off = λ j.
+      set_less (past_in j) refl v.tabs t (publishes (tab_at v t) slot link) (publishes_past slot link j (tab_at v t))
   past_after (Loosen t slot) off = loosens_row (t == inner) t slot
   past_after (GetLink t slot) off = let n : ℕ = number_found k s v (GetLink t slot) in
       one t (looks (tab_at v t) n) (looks_less n (tab_at v t))

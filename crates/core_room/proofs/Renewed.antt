@@ -1,4 +1,5 @@
--- Where views are renewed and words and chains stay, there is still room: where notes are made and learned, and where a held cell is another one.
+-- Where views are renewed and words and chains stay, there is still room: where notes are made and learned, and where a held cell is
+-- another one.
 use Rattle.std.proofs.Common.{List, [], ap, arith, false, refl, set, sum_by, true, ◌≡◌, ◌≤◌, ℕ}
 use mathlib.Core.Option.{some}
 use lib.ListN.{get_elem?}

@@ -33,7 +33,7 @@ use Rattle.core_room.proofs.Held.{writer_else, writer_here}
 use Rattle.core_room.proofs.Anchors.{chain_is}
 use Rattle.core_room.proofs.Words.{look_same, try_else, try_here}
 use Rattle.core_room.proofs.Counted.{all_told}
-use Rattle.core_room.proofs.Sole.{none_else, without_tab}
+use Rattle.core_room.proofs.Sole.{none_else}
 use Rattle.core_room.proofs.Looks.{Comes, apart_by, begins_at, far, goes_on_at, others_by, others_fall, others_past, with_by}
 
 module _ {X : Type 0} (k : Setting X) (s : State X) (need : ℕ → ℕ) (chain : ℕ → List ℕ) (i : ℕ) (v : View X)
@@ -84,7 +84,8 @@ module _ {X : Type 0} (k : Setting X) (s : State X) (need : ℕ → ℕ) (chain 
       claim_is = goes_on_at (begun_at w.claim word) (64 * word) seen begun
 
       sums : (f : Tab X → ℕ) → (none : f Free ≡ 0) → sum_by (count f) looked.views ≡ others f none + f (Writing seeker)
-      sums f none = with_by f none s i v at t (Writing w) there (view_after v (LookMap t word) (finding k s v (LookMap t word))) (Writing seeker)
+      sums f none =
+          with_by f none s i v at t (Writing w) there (view_after v (LookMap t word) (finding k s v (LookMap t word))) (Writing seeker)
           (ap (λ (z : Tab X). set v.tabs t (searches z word seen)) is)
 
       same : (j : ℕ) → taken_at k looked j ≡ taken_at k s j
@@ -106,11 +107,11 @@ module _ {X : Type 0} (k : Setting X) (s : State X) (need : ℕ → ℕ) (chain 
       goes_on come = record {
         places = looks_on (subst Come come was);
         anchors = λ a lt.
-          let r = room.anchors a lt in
-          let e = sums (holds_at a) refl in
-          let b = apart_by (holds_at a) refl s i v at t (Writing w) there in
-          let l = as_many seeker a (next_free seen (64 * word)) (64 * word) refl refl claim_is come in
-          omega arith;
+            let r = room.anchors a lt in
+            let e = sums (holds_at a) refl in
+            let b = apart_by (holds_at a) refl s i v at t (Writing w) there in
+            let l = as_many seeker a (next_free seen (64 * word)) (64 * word) refl refl claim_is come in
+            omega arith;
       }
 
       -- or it begins, where the anchor has room for one slot more.
@@ -148,7 +149,7 @@ module _ {X : Type 0} (k : Setting X) (s : State X) (need : ℕ → ℕ) (chain 
         search_begins : Room k most looked
         search_begins = record {
           places = looks_on (subst (λ (z : ℕ). Come (Some z)) (omega arith)
-            (begins k.slots (taken_at k s) (others_past k s i v t) (others_fall k s i v t) w.claim one_fits was));
+              (begins k.slots (taken_at k s) (others_past k s i v t) (others_fall k s i v t) w.claim one_fits was));
           anchors = anchors_begun;
         }
 
@@ -170,7 +171,8 @@ module _ {X : Type 0} (k : Setting X) (s : State X) (need : ℕ → ℕ) (chain 
       tabs_if b = set v.tabs t (cond b (reserves (Writing w) slot) (misses (Writing w) slot bits))
 
       tabs_are : (b : Bool) → (taken_in bits slot == 0) ≡ b → tabs_now ≡ tabs_if b
-      tabs_are b e = ap (λ (z : Tab X). set v.tabs t (cond (taken_in bits slot == 0) (reserves z slot) (misses z slot bits))) is ∙ ap tabs_if e
+      tabs_are b e =
+          ap (λ (z : Tab X). set v.tabs t (cond (taken_in bits slot == 0) (reserves z slot) (misses z slot bits))) is ∙ ap tabs_if e
 
       sums_now : (y : Writer X) → tabs_now ≡ set v.tabs t (Writing y)
           → (f : Tab X → ℕ) → (none : f Free ≡ 0) → sum_by (count f) tried.views ≡ others f none + f (Writing y)
@@ -197,7 +199,7 @@ module _ {X : Type 0} (k : Setting X) (s : State X) (need : ℕ → ℕ) (chain 
           (λ j lt. omega arith)
           (λ j. let q = sums_now winner (tabs_are true (eq-eqb (taken_in bits slot) 0 e)) (past_in j) refl in omega arith)
           (takes k.slots (taken_at k s) (others_past k s i v t) (others_fall k s i v t) (taken_at k tried) slot e here_now
-            (λ j lt. else_same j) at_slot)
+          (λ j lt. else_same j) at_slot)
 
       miss : taken_in bits slot ≢ 0 → TriedPlaces
       miss ne = fewer k.slots (taken_at k s) (taken_at k tried)
@@ -212,7 +214,8 @@ module _ {X : Type 0} (k : Setting X) (s : State X) (need : ℕ → ℕ) (chain 
 
           no_more : (j : ℕ) → taken_at k tried j ≤ taken_at k s j
           no_more j = dite (ℕ_discrete j slot)
-              (λ e. let h = here_now in let a = ap (taken_at k tried) e in let b = ap (taken_at k s) e in let c = few bits slot in omega arith)
+              (λ e. let h = here_now in let a = ap (taken_at k tried) e in let b = ap (taken_at k s) e in let c = few bits slot in
+              omega arith)
               (λ other. let h = else_same j other in omega arith)
 
       try_places : TriedPlaces

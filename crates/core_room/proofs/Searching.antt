@@ -75,7 +75,8 @@ module _ (slots : ℕ) (taken others : ℕ → ℕ) (falls : (slot : ℕ) → ot
       → WithOne (Some (place + many))
   goes_far place zero all room = subst (λ (z : ℕ). WithOne (Some z)) (omega arith) room
   goes_far place (suc many) all room = subst (λ (z : ℕ). WithOne (Some z)) (omega arith)
-      (goes_far (place + 1) many (λ j from low. all j (omega arith) (omega arith)) (goes_on place (all place (omega arith) (omega arith)) room))
+      (goes_far (place + 1) many (λ j from low. all j (omega arith) (omega arith))
+      (goes_on place (all place (omega arith) (omega arith)) room))
 
   -- it takes the slot at its place
   pub takes : (now : ℕ → ℕ) (place : ℕ) → taken place ≡ 0 → now place ≡ 1 → ((j : ℕ) → j < slots → j ≢ place → now j ≡ taken j)

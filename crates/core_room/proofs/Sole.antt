@@ -39,7 +39,8 @@ module _ {X : Type 0} (k : Setting X) (s : State X) (i : ℕ) (v : View X) (so :
   writer = record { view = v; at = at; there = is }
 
   one_writer_there : (j p : ℕ) (y : Writer X) → IsTab s j p (Writing y) → y.anchor ≡ w.anchor → (i ≡ j) × (t ≡ p)
-  one_writer_there j p y tab e = one_writer k s so.anchors w.anchor i j t p w y (matches_writer k s so.anchors i t w writer).0 writer tab refl e
+  one_writer_there j p y tab e =
+      one_writer k s so.anchors w.anchor i j t p w y (matches_writer k s so.anchors i t w writer).0 writer tab refl e
 
   frees_none : (j : ℕ) (u : View X) → get_elem? s.views j ≡ some u → (p : ℕ) (f : Freer X) → get_elem? u.tabs p ≡ some (Freeing f)
       → f.anchor ≡ w.anchor → ⊥
@@ -53,7 +54,8 @@ module _ {X : Type 0} (k : Setting X) (s : State X) (i : ℕ) (v : View X) (so :
           let same : u ≡ v = some-injective u v (sym ut ∙ subst (λ (z : ℕ). get_elem? s.views z ≡ some v) q at) in
           let last : p ≡ inner = (so.anchors.tabs j u ut p (Freeing f) there).1 in
           let x : tab_at v inner ≡ Freeing f = at_or v.tabs inner (Freeing f) Free (subst
-            (λ (z : ℕ). get_elem? v.tabs z ≡ some (Freeing f)) last (subst (λ (z : View X). get_elem? z.tabs p ≡ some (Freeing f)) same there)) in
+          (λ (z : ℕ). get_elem? v.tabs z ≡ some (Freeing f)) last
+          (subst (λ (z : View X). get_elem? z.tabs p ≡ some (Freeing f)) same there)) in
           not_free f (subst (λ (z : Tab X). is_free z ≡ true) x free)
 
       -- an anchor at FREEING has no writer, and an entry is replaced by a tab of the same pass
@@ -75,16 +77,19 @@ module _ {X : Type 0} (k : Setting X) (s : State X) (i : ℕ) (v : View X) (so :
   only_this j u ut p (Reading r) there h = absurd (omega arith)
   only_this j u ut p (Last a) there h = absurd (omega arith)
   only_this j u ut p (Writing y) there h =
-      one_writer_there j p y record { view = u; at = ut; there = there } (at_its_own w.anchor y.anchor (length y.reserved + running y.claim) h)
-  only_this j u ut p (Freeing f) there h = absurd (frees_none j u ut p f there (at_its_own w.anchor f.anchor (length f.rest + length f.loose) h))
+      one_writer_there j p y record { view = u; at = ut; there = there }
+      (at_its_own w.anchor y.anchor (length y.reserved + running y.claim) h)
+  only_this j u ut p (Freeing f) there h =
+      absurd (frees_none j u ut p f there (at_its_own w.anchor f.anchor (length f.rest + length f.loose) h))
 
   -- no other tab has slots of its anchor
   pub none_else : sum_by (count (holds_at w.anchor)) (set s.views i (without_tab v t)) ≡ 0
   none_else = dite (ℕ_discrete (sum_by (count (holds_at w.anchor)) (set s.views i (without_tab v t))) 0)
       (λ e. e)
       (λ ne. absurd (let q = sum_some (count (holds_at w.anchor)) (set s.views i (without_tab v t)) (omega arith) in
-        let r = sum_some (holds_at w.anchor) q.item.tabs q.some_ in
-      ⊎_elim (λ (z : (q.i ≡ i) × (without_tab v t ≡ q.item)). here r.i r.item (subst (λ (u : View X). get_elem? u.tabs r.i ≡ some r.item) (sym z.1) r.at) r.some_)
+      let r = sum_some (holds_at w.anchor) q.item.tabs q.some_ in
+      ⊎_elim (λ (z : (q.i ≡ i) × (without_tab v t ≡ q.item)).
+      here r.i r.item (subst (λ (u : View X). get_elem? u.tabs r.i ≡ some r.item) (sym z.1) r.at) r.some_)
       (λ (z : (q.i ≢ i) × (get_elem? s.views q.i ≡ some q.item)). z.0 (sym (only_this q.i q.item z.1 r.i r.item r.at r.some_).0))
       (at_set s.views i q.i (without_tab v t) q.item q.at)))
     where

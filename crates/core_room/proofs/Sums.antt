@@ -33,7 +33,7 @@ pub exchange : {A B : Type 0} (f : B → A → ℕ) (bs : List B) (xs : List A)
 exchange f bs [] = sum_even (λ b. sum_by (f b) []) (λ b. 0) bs (λ b. refl) ∙ sum_zero bs
 exchange f bs (x ∷ xs) = let a = sum_even (λ b. sum_by (f b) (x ∷ xs)) (λ b. f b x + sum_by (f b) xs) bs (λ b. sum_by-cons (f b) x xs) in
     let p = sum_plus (λ b. f b x) (λ b. sum_by (f b) xs) bs in let c = sum_by-cons (λ y. sum_by (λ b. f b y) bs) x xs in
-      let r = exchange f bs xs in omega arith
+    let r = exchange f bs xs in omega arith
 
 -- a number of a range is below its end
 pub in_range : (from n i a : ℕ) → get_elem? (range_with_len from n) i ≡ some a → a < from + n
@@ -57,7 +57,7 @@ pub by_number : {A : Type 0} (f : A → ℕ) (d : A) (xs : List A) (g : ℕ → 
 by_number f d [] g from h = refl
 by_number f d (x ∷ xs) g from h = let a = sum_by-cons f x xs in let b = sum_by-cons g from (range_with_len (from + 1) (length xs)) in
     let e = h 0 (omega arith) in let z = ap g (plus_zero from) in let r = by_number f d xs g (from + 1)
-      (λ j lt. h (suc j) (omega arith) ∙ ap g (omega arith)) in omega arith
+    (λ j lt. h (suc j) (omega arith) ∙ ap g (omega arith)) in omega arith
   where
     plus_zero : (n : ℕ) → n + 0 ≡ n
     plus_zero n = omega arith

@@ -99,7 +99,8 @@ module _ {X : Type 0} where
   gives_back_less slot (Reading r) = itself (Reading r)
   gives_back_less slot (Writing w) = record {
     past = λ j. omega arith;
-    held = λ a. if_at (w.anchor == a) (length (without slot w.reserved) + running w.claim) (length w.reserved + running w.claim) (let l = length_without slot w.reserved in omega arith);
+    held = λ a. if_at (w.anchor == a) (length (without slot w.reserved) + running w.claim) (length w.reserved + running w.claim)
+        (let l = length_without slot w.reserved in omega arith);
   }
   gives_back_less slot (Last b) = itself (Last b)
   gives_back_less slot (Freeing f) = let y : Tab X = Freeing record f { loose = without slot f.loose } in
@@ -107,7 +108,8 @@ module _ {X : Type 0} where
       (nothing (Freeing f) Free (λ j. refl) (λ a. refl))
       record {
         past = λ j. omega arith;
-        held = λ a. if_at (f.anchor == a) (length f.rest + length (without slot f.loose)) (length f.rest + length f.loose) (let l = length_without slot f.loose in omega arith);
+        held = λ a. if_at (f.anchor == a) (length f.rest + length (without slot f.loose)) (length f.rest + length f.loose)
+            (let l = length_without slot f.loose in omega arith);
       }
 
   pub logs_less : (slot : ℕ) (durable : Bool) (x : Tab X) → Less x (logs x slot durable)

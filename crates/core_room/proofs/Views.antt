@@ -33,7 +33,7 @@ module _ {X : Type 0} (f : Tab X → ℕ) (k : Setting X) (s : State X) (i : ℕ
 
   pub noted : (w : View X) (b : Bool) (p : ℕ)
       → sum_by (count f) (cond b (set (set s.views i w) p (note_of v)) (set s.views i w ++ note_of v ∷ [])) + count f v
-        ≤ sum_by (count f) s.views + count f w
+      ≤ sum_by (count f) s.views + count f w
   noted w true p = let e = view_set w in let n = set_none (count f) (set s.views i w) p (note_of v) refl in omega arith
   noted w false p = let e = view_set w in let n = push_none (count f) (set s.views i w) (note_of v) refl in omega arith
 
@@ -64,7 +64,9 @@ module _ {X : Type 0} (f : Tab X → ℕ) (k : Setting X) (s : State X) (i : ℕ
   views_few (EndTurn t slot then) = view_set (mine (EndTurn t slot then))
   views_few (CellOut t slot) = view_set (mine (CellOut t slot))
   views_few (CellIn t slot) = view_set (mine (CellIn t slot))
-  views_few Note = noted (mine Note) (ltb (k.passes + free_note (drop k.passes s.views)) (length (set s.views i (mine Note)))) (k.passes + free_note (drop k.passes s.views))
+  views_few Note =
+      noted (mine Note) (ltb (k.passes + free_note (drop k.passes s.views)) (length (set s.views i (mine Note))))
+      (k.passes + free_note (drop k.passes s.views))
   views_few (Learn note) = let e = view_set (mine (Learn note)) in
       let n = set_none (count f) (set s.views i (mine (Learn note))) (k.passes + note) spent refl in omega arith
   views_few (Write t slot outcome) = view_set (mine (Write t slot outcome))
