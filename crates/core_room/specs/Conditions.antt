@@ -10,7 +10,7 @@ use Rattle.core_model.specs.Tabs.{InnerIsFree, OfWriter, inner, tab_at}
 use Rattle.core_model.specs.SlotMoves.{MayReserve}
 use Rattle.core_room.specs.Fitting.{most_written}
 
--- a tab may begin to search where it may reserve a slot, and where one slot more leaves its entry within what is written at its anchor at most
+-- a tab may begin to search where it may reserve a slot, and where its entry comes with one slot more to at most `most_written`
 pub record MayBegin {X : Type 0} (k : Setting X) (need : ℕ → ℕ) (w : Writer X) : Type 0 where
   pub reserves : MayReserve w
   pub within : length w.published + length w.reserved + 1 ≤ most_written k.slots need w.anchor
