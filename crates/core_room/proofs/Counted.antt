@@ -54,9 +54,12 @@ module _ {X : Type 0} (k : Setting X) (s : State X) (so : Sound k s) where
   tab_whole u t Free h = omega arith
   tab_whole u t (Retreating a) h = omega arith
   tab_whole u t (Reading r) h = omega arith
-  tab_whole u t (Writing w) h = let lt = h.0 in let o = once (length w.reserved + running w.claim) w.anchor 0 k.anchors (omega arith) (omega arith) in let r = runs_at_most w.claim in omega arith
+  tab_whole u t (Writing w) h = let lt = h.0 in
+      let o = once (length w.reserved + running w.claim) w.anchor 0 k.anchors (omega arith) (omega arith) in let r = runs_at_most w.claim in
+      omega arith
   tab_whole u t (Last a) h = omega arith
-  tab_whole u t (Freeing f) h = let lt = h.0 in let o = once (length f.rest + length f.loose) f.anchor 0 k.anchors (omega arith) (omega arith) in omega arith
+  tab_whole u t (Freeing f) h = let lt = h.0 in
+      let o = once (length f.rest + length f.loose) f.anchor 0 k.anchors (omega arith) (omega arith) in omega arith
 
   abbrev at_tabs : ℕ → ℕ
   at_tabs a = sum_by (count (holds_at a)) s.views
@@ -68,20 +71,26 @@ module _ {X : Type 0} (k : Setting X) (s : State X) (so : Sound k s) where
   tabs_whole =
       let anchors : List ℕ = range_with_len 0 k.anchors in
       let a = sum_less (count whole) (λ (u : View X). sum_by (λ (x : Tab X). sum_by (λ b. holds_at b x) anchors) u.tabs) s.views
-      (λ i u at. sum_less whole (λ (x : Tab X). sum_by (λ b. holds_at b x) anchors) u.tabs (λ t x there. tab_whole u t x (so.anchors.tabs i u at t x there))) in
-      let b = sum_even (λ (u : View X). sum_by (λ (x : Tab X). sum_by (λ b. holds_at b x) anchors) u.tabs) (λ (u : View X). sum_by (λ b. count (holds_at b) u) anchors) s.views (λ u. sym (exchange holds_at anchors u.tabs)) in
+      (λ i u at. sum_less whole (λ (x : Tab X). sum_by (λ b. holds_at b x) anchors) u.tabs
+      (λ t x there. tab_whole u t x (so.anchors.tabs i u at t x there))) in
+      let b = sum_even (λ (u : View X). sum_by (λ (x : Tab X). sum_by (λ b. holds_at b x) anchors) u.tabs)
+      (λ (u : View X). sum_by (λ b. count (holds_at b) u) anchors) s.views (λ u. sym (exchange holds_at anchors u.tabs)) in
       let c = exchange (λ b (u : View X). count (holds_at b) u) anchors s.views in
-      let d = sum_even (count whole) (λ (u : View X). count slots_held u + count (past_in 0) u) s.views (λ u. sum_plus slots_held (past_in 0) u.tabs) in
+      let d = sum_even (count whole) (λ (u : View X). count slots_held u + count (past_in 0) u) s.views
+      (λ u. sum_plus slots_held (past_in 0) u.tabs) in
       let e = sum_plus (count slots_held) (count (past_in 0)) s.views in
       omega arith
 
   chains_whole : sum_by slots_chained s.chains ≡ sum_by in_chain (range_with_len 0 k.anchors)
-  chains_whole = by_number slots_chained no_chain s.chains in_chain 0 (λ j lt. ap (λ (z : ℕ). slots_chained (get_or s.chains z no_chain)) (zero_plus j)) ∙ ap (λ (n : ℕ). sum_by in_chain (range_with_len 0 n)) so.anchors.shaped.chains
+  chains_whole = by_number slots_chained no_chain s.chains in_chain 0
+      (λ j lt. ap (λ (z : ℕ). slots_chained (get_or s.chains z no_chain)) (zero_plus j))
+      ∙ ap (λ (n : ℕ). sum_by in_chain (range_with_len 0 n)) so.anchors.shaped.chains
     where
       zero_plus : (n : ℕ) → n ≡ 0 + n
       zero_plus n = omega arith
 
-  pub all_told : (capacity : ℕ → ℕ) → sum_by capacity (range_with_len 0 k.anchors) ≤ k.slots → ((a : ℕ) → a < k.anchors → in_chain a + at_tabs a ≤ capacity a)
+  pub all_told : (capacity : ℕ → ℕ) → sum_by capacity (range_with_len 0 k.anchors) ≤ k.slots
+      → ((a : ℕ) → a < k.anchors → in_chain a + at_tabs a ≤ capacity a)
       → taken_from (taken_at k s) 0 k.slots + sum_by (count (past_in 0)) s.views ≤ k.slots
   all_told capacity fit each =
       let f = free_and_taken k.slots in
@@ -89,5 +98,6 @@ module _ {X : Type 0} (k : Setting X) (s : State X) (so : Sound k s) where
       let t = tabs_whole in
       let h = chains_whole in
       let p = sum_plus in_chain at_tabs (range_with_len 0 k.anchors) in
-      let l = sum_less (λ a. in_chain a + at_tabs a) capacity (range_with_len 0 k.anchors) (λ i a at. each a (let r = in_range 0 k.anchors i a at in omega arith)) in
+      let l = sum_less (λ a. in_chain a + at_tabs a) capacity (range_with_len 0 k.anchors)
+      (λ i a at. each a (let r = in_range 0 k.anchors i a at in omega arith)) in
       omega arith

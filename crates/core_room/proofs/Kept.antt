@@ -22,22 +22,27 @@ use Rattle.core_room.proofs.Words.{IsFar, LessTaken, back_less, far_less}
 use Rattle.core_room.proofs.Views.{views_few}
 use Rattle.core_room.proofs.Searched.{look_keeps, try_keeps}
 
-module _ {X : Type 0} (k : Setting X) (s : State X) (need : ℕ → ℕ) (chain : ℕ → List ℕ) (i : ℕ) (v : View X) (fit : fits k.anchors k.slots need chain ≡ true)
+module _ {X : Type 0} (k : Setting X) (s : State X) (need : ℕ → ℕ) (chain : ℕ → List ℕ) (i : ℕ) (v : View X)
+    (fit : fits k.anchors k.slots need chain ≡ true)
     (so : Sound k s) (room : Room k (capacity k.slots need chain) s) (at : get_elem? s.views i ≡ some v) where
   -- each anchor has at most its capacity,
   anchors_kept : (m : Move) → IsNoLook m → MayStep k s v m → KeepsRoom k need v m → (a : ℕ) → a < k.anchors
       → slots_chained (chain_of (after k s i v m) a) + sum_by (count (holds_at a)) (after k s i v m).views ≤ capacity k.slots need chain a
-  anchors_kept m off may keeps a lt = let r = room.anchors a lt in let h = held_after k s i v so at may.pass need m off may.allowed keeps a in let e = views_few (holds_at a) k s i v at m in omega arith
+  anchors_kept m off may keeps a lt = let r = room.anchors a lt in
+      let h = held_after k s i v so at may.pass need m off may.allowed keeps a in let e = views_few (holds_at a) k s i v at m in omega arith
 
   -- and where no search comes further and no slot is taken, all are in their places
-  quiet : (m : Move) → IsNoLook m → IsNoSearch m → (may : MayStep k s v m) → KeepsRoom k need v m → LessTaken k s i v so at may.pass m → Room k (capacity k.slots need chain) (after k s i v m)
+  quiet : (m : Move) → IsNoLook m → IsNoSearch m → (may : MayStep k s v m) → KeepsRoom k need v m → LessTaken k s i v so at may.pass m
+      → Room k (capacity k.slots need chain) (after k s i v m)
   quiet m off calm may keeps less = record {
-    places = fewer k.slots (taken_at k s) (taken_at k (after k s i v m)) (λ slot. sum_by (count (past_in slot)) s.views) (λ slot. sum_by (count (past_in slot)) (after k s i v m).views) less
+    places = fewer k.slots (taken_at k s) (taken_at k (after k s i v m)) (λ slot. sum_by (count (past_in slot)) s.views)
+        (λ slot. sum_by (count (past_in slot)) (after k s i v m).views) less
         (λ slot. let p = past_after k s v m calm slot in let e = views_few (past_in slot) k s i v at m in omega arith) room.places;
     anchors = anchors_kept m off may keeps;
   }
 
-  far : (m : Move) → IsNoLook m → IsNoSearch m → IsFar (place v m) → MayStep k s v m → KeepsRoom k need v m → Room k (capacity k.slots need chain) (after k s i v m)
+  far : (m : Move) → IsNoLook m → IsNoSearch m → IsFar (place v m) → MayStep k s v m → KeepsRoom k need v m
+      → Room k (capacity k.slots need chain) (after k s i v m)
   far m off calm there may keeps = quiet m off calm may keeps (far_less k s i v so at may.pass m may.allowed there)
 
   pub keeps_room : (m : Move) → MayStep k s v m → KeepsRoom k need v m → Room k (capacity k.slots need chain) (after k s i v m)

@@ -19,7 +19,8 @@ use Rattle.core_room.proofs.Words.{same_word}
 
 -- where a search comes that is at the place that was looked at
 pub goes_on_at : (claim : Option ℕ) (place n : ℕ) → claim ≡ Some place → goes_past claim place n ≡ Some (next_free n place)
-goes_on_at claim place n e = ap (λ (c : Option ℕ). goes_past c place n) e ∙ ap (λ b. Some (cond b (next_free n place) place)) (eq-eqb place place refl)
+goes_on_at claim place n e = ap (λ (c : Option ℕ). goes_past c place n) e
+    ∙ ap (λ b. Some (cond b (next_free n place) place)) (eq-eqb place place refl)
 
 pub begins_at : (claim : Option ℕ) (word : ℕ) → claim ≡ Some (64 * word) → begun_at claim word ≡ Some (64 * word)
 begins_at claim word e = by_eq (λ z. cond z (Some 0) claim ≡ Some (64 * word)) word 0 (λ q. ap (λ (w : ℕ). Some (64 * w)) (sym q)) (λ _. e)
@@ -34,7 +35,8 @@ module _ {X : Type 0} where
   comes_less slot (Freeing f) = omega arith
 
 -- anything that tabs are counted by, and a free one is not
-module _ {X : Type 0} (f : Tab X → ℕ) (none : f Free ≡ 0) (s : State X) (i : ℕ) (v : View X) (at : get_elem? s.views i ≡ some v) (t : ℕ) (x : Tab X) (is : get_elem? v.tabs t ≡ some x) where
+module _ {X : Type 0} (f : Tab X → ℕ) (none : f Free ≡ 0) (s : State X) (i : ℕ) (v : View X) (at : get_elem? s.views i ≡ some v) (t : ℕ)
+    (x : Tab X) (is : get_elem? v.tabs t ≡ some x) where
   -- what the other tabs count
   abbrev pub others_by : ℕ
   others_by = sum_by (count f) (set s.views i (without_tab v t))
@@ -43,7 +45,8 @@ module _ {X : Type 0} (f : Tab X → ℕ) (none : f Free ≡ 0) (s : State X) (i
   apart_by = let a = sum_at (count f) s.views i v (without_tab v t) at in let b = sum_at f v.tabs t x Free is in omega arith
 
   pub with_by : (u : View X) (y : Tab X) → u.tabs ≡ set v.tabs t y → sum_by (count f) (set s.views i u) ≡ others_by + f y
-  with_by u y e = let a = sum_at (count f) s.views i v u at in let b = sum_at f v.tabs t x y is in let c = apart_by in let d = ap (sum_by f) e in omega arith
+  with_by u y e = let a = sum_at (count f) s.views i v u at in let b = sum_at f v.tabs t x y is in let c = apart_by in
+      let d = ap (sum_by f) e in omega arith
 
 module _ {X : Type 0} (k : Setting X) (s : State X) (i : ℕ) (v : View X) (t : ℕ) where
   -- how many of the other tabs' searches have found all below this slot taken
@@ -51,7 +54,8 @@ module _ {X : Type 0} (k : Setting X) (s : State X) (i : ℕ) (v : View X) (t : 
   others_past slot = sum_by (count (past_in slot)) (set s.views i (without_tab v t))
 
   pub others_fall : (slot : ℕ) → others_past (slot + 1) ≤ others_past slot
-  others_fall slot = sum_mono (count (past_in (slot + 1))) (count (past_in slot)) (λ u. sum_mono (past_in (slot + 1)) (past_in slot) (comes_less slot) u.tabs) (set s.views i (without_tab v t))
+  others_fall slot = sum_mono (count (past_in (slot + 1))) (count (past_in slot))
+      (λ u. sum_mono (past_in (slot + 1)) (past_in slot) (comes_less slot) u.tabs) (set s.views i (without_tab v t))
 
   abbrev pub Comes : Option ℕ → Type 0
   Comes claim = WithOne k.slots (taken_at k s) others_past others_fall claim

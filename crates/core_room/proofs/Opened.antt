@@ -24,12 +24,15 @@ module _ {X : Type 0} (k : Setting X) (r : Rebuilt) (s : State X) (is : IsSettin
   -- no chain has a tail
   no_tail : (a : ℕ) → a < k.anchors → (chain_of s a).tail ≡ []
   no_tail a lt = ⊎_elim
-      (λ (q : (f : Found) × Contains r.winners f × (anchor_of f.key k.anchors ≡ a)). subst (λ (z : ℕ). (chain_of s z).tail ≡ []) q.2 (ap Chain.tail (o.kept q.0 q.1).chain))
+      (λ (q : (f : Found) × Contains r.winners f × (anchor_of f.key k.anchors ≡ a)).
+      subst (λ (z : ℕ). (chain_of s z).tail ≡ []) q.2 (ap Chain.tail (o.kept q.0 q.1).chain))
       (λ (q : (f : Found) → Contains r.winners f → anchor_of f.key k.anchors ≡ a → ⊥). ap Chain.tail (o.empty a lt q).chain)
       (numbered (λ (f : Found). anchor_of f.key k.anchors) a r.winners)
 
-  pub room_opened : (need : ℕ → ℕ) (chain : ℕ → List ℕ) → ((a : ℕ) → a < k.anchors → chain a ≡ (chain_of s a).slots) → Room k (capacity k.slots need chain) s
+  pub room_opened : (need : ℕ → ℕ) (chain : ℕ → List ℕ) → ((a : ℕ) → a < k.anchors → chain a ≡ (chain_of s a).slots)
+      → Room k (capacity k.slots need chain) s
   room_opened need chain kept = record {
     places = λ slot n e. let f = few_taken slot n in let z = no_sum k r s is o (count (past_in slot)) (λ p. refl) in omega arith;
-    anchors = λ a lt. let t = ap length (no_tail a lt) in let c = ap length (kept a lt) in let z = no_sum k r s is o (count (holds_at a)) (λ p. refl) in omega arith;
+    anchors = λ a lt. let t = ap length (no_tail a lt) in let c = ap length (kept a lt) in let z = no_sum k r s is o (count (holds_at a))
+        (λ p. refl) in omega arith;
   }

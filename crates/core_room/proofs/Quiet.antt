@@ -63,50 +63,69 @@ module _ {X : Type 0} (k : Setting X) (s : State X) (v : View X) where
   one : (t : ℕ) (y : Tab X) → Less (tab_at v t) y → (j : ℕ) → sum_by (past_in j) (set v.tabs t y) ≤ sum_by (past_in j) v.tabs
   one t y less j = set_less (past_in j) refl v.tabs t y (less.past j)
 
-  raised : (t : ℕ) (to : Stage) (j : ℕ) → sum_by (past_in j) (set v.tabs t (raised_tab (tab_at v t) to (left_by v (Raise t to) (number_found k s v (Raise t to))))) ≤ sum_by (past_in j) v.tabs
-  raised t to = let n : ℕ = left_by v (Raise t to) (number_found k s v (Raise t to)) in one t (raised_tab (tab_at v t) to n) (raised_less to n (tab_at v t))
+  raised : (t : ℕ) (to : Stage) (j : ℕ)
+      → sum_by (past_in j) (set v.tabs t (raised_tab (tab_at v t) to (left_by v (Raise t to) (number_found k s v (Raise t to)))))
+      ≤ sum_by (past_in j) v.tabs
+  raised t to = let n : ℕ = left_by v (Raise t to) (number_found k s v (Raise t to)) in
+      one t (raised_tab (tab_at v t) to n) (raised_less to n (tab_at v t))
 
   taken_row : (hit idle : Bool) (t u : ℕ) (f : Freer X) (w : Writer X) → w.claim ≡ None → (j : ℕ)
-      → sum_by (past_in j) (cond hit (set (cond idle (set v.tabs inner (Freeing f)) v.tabs) t (Writing w)) v.tabs) ≤ sum_by (past_in j) v.tabs
+      → sum_by (past_in j) (cond hit (set (cond idle (set v.tabs inner (Freeing f)) v.tabs) t (Writing w)) v.tabs)
+      ≤ sum_by (past_in j) v.tabs
   taken_row false idle t u f w none j = omega arith
-  taken_row true true t u f w none j = let x = set_more (past_in j) refl (set v.tabs inner (Freeing f)) t (Writing w) in let y = set_more (past_in j) refl v.tabs inner (Freeing f) in let z = ap (past j) none in omega arith
+  taken_row true true t u f w none j = let x = set_more (past_in j) refl (set v.tabs inner (Freeing f)) t (Writing w) in
+      let y = set_more (past_in j) refl v.tabs inner (Freeing f) in let z = ap (past j) none in omega arith
   taken_row true false t u f w none j = let x = set_more (past_in j) refl v.tabs t (Writing w) in let z = ap (past j) none in omega arith
 
-  evicted_row : (hit : Bool) (t : ℕ) (f : Freer X) (j : ℕ) → sum_by (past_in j) (cond hit (set (set v.tabs t Free) inner (Freeing f)) (set v.tabs t Free)) ≤ sum_by (past_in j) v.tabs
-  evicted_row true t f j = let x = set_more (past_in j) refl (set v.tabs t Free) inner (Freeing f) in let y = set_more (past_in j) refl v.tabs t Free in omega arith
+  evicted_row : (hit : Bool) (t : ℕ) (f : Freer X) (j : ℕ)
+      → sum_by (past_in j) (cond hit (set (set v.tabs t Free) inner (Freeing f)) (set v.tabs t Free)) ≤ sum_by (past_in j) v.tabs
+  evicted_row true t f j = let x = set_more (past_in j) refl (set v.tabs t Free) inner (Freeing f) in
+      let y = set_more (past_in j) refl v.tabs t Free in omega arith
   evicted_row false t f j = let y = set_more (past_in j) refl v.tabs t Free in omega arith
 
-  loosens_row : (hit : Bool) (t slot j : ℕ) → sum_by (past_in j) (cond hit (set v.tabs inner (loosens (tab_at v inner) (slot ∷ []))) (set (set v.tabs inner (loosens (tab_at v inner) [])) t (reserves (tab_at v t) slot))) ≤ sum_by (past_in j) v.tabs
-  loosens_row true t slot j = set_less (past_in j) refl v.tabs inner (loosens (tab_at v inner) (slot ∷ [])) (loosens_past (slot ∷ []) j (tab_at v inner))
-  loosens_row false t slot j = let x = set_more (past_in j) refl (set v.tabs inner (loosens (tab_at v inner) [])) t (reserves (tab_at v t) slot) in
-      let y = set_less (past_in j) refl v.tabs inner (loosens (tab_at v inner) []) (loosens_past [] j (tab_at v inner)) in let z = no_claim slot j (tab_at v t) in omega arith
+  loosens_row : (hit : Bool) (t slot j : ℕ)
+      → sum_by (past_in j) (cond hit (set v.tabs inner (loosens (tab_at v inner) (slot ∷ [])))
+      (set (set v.tabs inner (loosens (tab_at v inner) [])) t (reserves (tab_at v t) slot))) ≤ sum_by (past_in j) v.tabs
+  loosens_row true t slot j =
+      set_less (past_in j) refl v.tabs inner (loosens (tab_at v inner) (slot ∷ [])) (loosens_past (slot ∷ []) j (tab_at v inner))
+  loosens_row false t slot j =
+      let x = set_more (past_in j) refl (set v.tabs inner (loosens (tab_at v inner) [])) t (reserves (tab_at v t) slot) in
+      let y = set_less (past_in j) refl v.tabs inner (loosens (tab_at v inner) []) (loosens_past [] j (tab_at v inner)) in
+      let z = no_claim slot j (tab_at v t) in omega arith
 
   pub past_after : (m : Move) → IsNoSearch m → ComesNoFurther m
   past_after (Look a) off = same
   past_after (Enter t a) off = one t (entered a (epoch_of (word s a))) (entered_less (tab_at v t) a (epoch_of (word s a)))
-  past_after (Leave t) off = let n : ℕ = left_by v (Leave t) (number_found k s v (Leave t)) in one t (left_tab (anchor_of (tab_at v t)) n) (left_less (tab_at v t) (anchor_of (tab_at v t)) n)
+  past_after (Leave t) off = let n : ℕ = left_by v (Leave t) (number_found k s v (Leave t)) in
+      one t (left_tab (anchor_of (tab_at v t)) n) (left_less (tab_at v t) (anchor_of (tab_at v t)) n)
   past_after Count off = same
   past_after Draw off = same
-  past_after (Take t a u) off = taken_row (word s a == last_find a v.trail) (is_idle (word s a)) t u (freer_of a false (word s a) (chain_of s a)) (writer_of a u) refl
+  past_after (Take t a u) off =
+      taken_row (word s a == last_find a v.trail) (is_idle (word s a)) t u (freer_of a false (word s a) (chain_of s a)) (writer_of a u) refl
   past_after (Evict t a) off = evicted_row (word s a == last_find a v.trail) t (freer_of a true (word s a) (chain_of s a))
   past_after (Raise t to) off = raised t to
   past_after (Doom t) off = same
-  past_after (LoadSide t side) off = let n : ℕ = number_found k s v (LoadSide t side) in one t (loaded (tab_at v t) side n) (loaded_less side n (tab_at v t))
+  past_after (LoadSide t side) off = let n : ℕ = number_found k s v (LoadSide t side) in
+      one t (loaded (tab_at v t) side n) (loaded_less side n (tab_at v t))
   past_after (StoreSide t side value) off = one t (stores (tab_at v t) side value) (stores_less side value (tab_at v t))
   past_after (LookMap t w) off = absurd off
   past_after (Own t slot) off = absurd off
   past_after (Disown t slot) off = one t (gives_back (tab_at v t) slot) (gives_back_less slot (tab_at v t))
   past_after (LogPiece t slot durable) off = one t (logs (tab_at v t) slot durable) (logs_less slot durable (tab_at v t))
-  past_after (Publish t slot link) off = λ j. set_less (past_in j) refl v.tabs t (publishes (tab_at v t) slot link) (publishes_past slot link j (tab_at v t))
+  past_after (Publish t slot link) off = λ j.
+      set_less (past_in j) refl v.tabs t (publishes (tab_at v t) slot link) (publishes_past slot link j (tab_at v t))
   past_after (Loosen t slot) off = loosens_row (t == inner) t slot
-  past_after (GetLink t slot) off = let n : ℕ = number_found k s v (GetLink t slot) in one t (looks (tab_at v t) n) (looks_less n (tab_at v t))
-  past_after (TryTurn t slot) off = let n : ℕ = number_found k s v (TryTurn t slot) in let c = cell_found k s v (TryTurn t slot) in one t (tries (tab_at v t) slot n c) (tries_less slot n c (tab_at v t))
+  past_after (GetLink t slot) off = let n : ℕ = number_found k s v (GetLink t slot) in
+      one t (looks (tab_at v t) n) (looks_less n (tab_at v t))
+  past_after (TryTurn t slot) off = let n : ℕ = number_found k s v (TryTurn t slot) in let c = cell_found k s v (TryTurn t slot) in
+      one t (tries (tab_at v t) slot n c) (tries_less slot n c (tab_at v t))
   past_after (EndTurn t slot then) off = one t (ends (tab_at v t) then) (ends_less then (tab_at v t))
   past_after (CellOut t slot) off = one t (moves (tab_at v t) true) (moves_less true (tab_at v t))
   past_after (CellIn t slot) off = one t (moves (tab_at v t) false) (moves_less false (tab_at v t))
   past_after Note off = same
   past_after (Learn note) off = same
-  past_after (Write t slot outcome) off = let c = cell_found k s v (Write t slot outcome) in let b : Bool = settled_by_write (tab_at v t) outcome in
+  past_after (Write t slot outcome) off = let c = cell_found k s v (Write t slot outcome) in
+      let b : Bool = settled_by_write (tab_at v t) outcome in
       one t (rewrites (tab_at v t) (is_kept outcome) b c) (rewrites_less (is_kept outcome) b c (tab_at v t))
   past_after (Sync t slot kept) off = let c = cell_found k s v (Sync t slot kept) in let b : Bool = settled_by_sync (tab_at v t) kept in
       one t (rewrites (tab_at v t) false b c) (rewrites_less false b c (tab_at v t))

@@ -22,16 +22,21 @@ past_less slot (Some place) = dite (ℕ_discrete (slot + 1 - place) 0)
 abbrev pub Places : (slots : ℕ) → (taken searches : ℕ → ℕ) → Type 0
 Places slots taken searches = (slot n : ℕ) → slot + n ≡ slots → taken_from taken slot n + searches slot ≤ n
 
-pub fewer_from : (taken less : ℕ → ℕ) (slots : ℕ) → ((j : ℕ) → j < slots → less j ≤ taken j) → (slot n : ℕ) → slot + n ≡ slots → taken_from less slot n ≤ taken_from taken slot n
+pub fewer_from : (taken less : ℕ → ℕ) (slots : ℕ) → ((j : ℕ) → j < slots → less j ≤ taken j) → (slot n : ℕ) → slot + n ≡ slots
+    → taken_from less slot n ≤ taken_from taken slot n
 fewer_from taken less slots h slot zero e = omega arith
-fewer_from taken less slots h slot (suc n) e = let a = h slot (omega arith) in let r = fewer_from taken less slots h (slot + 1) n (omega arith) in omega arith
+fewer_from taken less slots h slot (suc n) e = let a = h slot (omega arith) in
+    let r = fewer_from taken less slots h (slot + 1) n (omega arith) in omega arith
 
 -- fewer slots are taken, and fewer search
-pub fewer : (slots : ℕ) (taken less searches few : ℕ → ℕ) → ((j : ℕ) → j < slots → less j ≤ taken j) → ((j : ℕ) → few j ≤ searches j) → Places slots taken searches → Places slots less few
-fewer slots taken less searches few h g room slot n e = let a = fewer_from taken less slots h slot n e in let b = g slot in let r = room slot n e in omega arith
+pub fewer : (slots : ℕ) (taken less searches few : ℕ → ℕ) → ((j : ℕ) → j < slots → less j ≤ taken j) → ((j : ℕ) → few j ≤ searches j)
+    → Places slots taken searches → Places slots less few
+fewer slots taken less searches few h g room slot n e = let a = fewer_from taken less slots h slot n e in let b = g slot in
+    let r = room slot n e in omega arith
 
 -- no search has come past all slots
-pub none_past_all : (slots : ℕ) (taken searches : ℕ → ℕ) (place : ℕ) → Places slots taken searches → past slots (Some place) ≤ searches slots → place < slots
+pub none_past_all : (slots : ℕ) (taken searches : ℕ → ℕ) (place : ℕ) → Places slots taken searches → past slots (Some place)
+    ≤ searches slots → place < slots
 none_past_all slots taken searches place room counts = dite (ℕ_discrete (slots - place) 0)
     (λ e. absurd (let h = room slots 0 (omega arith) in let b = past_at slots place (omega arith) in omega arith))
     (λ ne. omega arith)
@@ -66,20 +71,24 @@ module _ (slots : ℕ) (taken others : ℕ → ℕ) (falls : (slot : ℕ) → ot
           (λ far. let a = not_past slot place (omega arith) in let b = not_past slot (place + 1) (omega arith) in omega arith)
 
   -- and past several
-  pub goes_far : (place many : ℕ) → ((j : ℕ) → place ≤ j → j < place + many → taken j ≡ 1) → WithOne (Some place) → WithOne (Some (place + many))
+  pub goes_far : (place many : ℕ) → ((j : ℕ) → place ≤ j → j < place + many → taken j ≡ 1) → WithOne (Some place)
+      → WithOne (Some (place + many))
   goes_far place zero all room = subst (λ (z : ℕ). WithOne (Some z)) (omega arith) room
   goes_far place (suc many) all room = subst (λ (z : ℕ). WithOne (Some z)) (omega arith)
-      (goes_far (place + 1) many (λ j from low. all j (omega arith) (omega arith)) (goes_on place (all place (omega arith) (omega arith)) room))
+      (goes_far (place + 1) many (λ j from low. all j (omega arith) (omega arith))
+      (goes_on place (all place (omega arith) (omega arith)) room))
 
   -- it takes the slot at its place
-  pub takes : (now : ℕ → ℕ) (place : ℕ) → taken place ≡ 0 → now place ≡ 1 → ((j : ℕ) → j < slots → j ≢ place → now j ≡ taken j) → WithOne (Some place) → Places slots now (λ slot. others slot + past slot None)
+  pub takes : (now : ℕ → ℕ) (place : ℕ) → taken place ≡ 0 → now place ≡ 1 → ((j : ℕ) → j < slots → j ≢ place → now j ≡ taken j)
+      → WithOne (Some place) → Places slots now (λ slot. others slot + past slot None)
   takes now place was is else room slot n e = let h = room slot n e in let m = most slot n e in dite (ℕ_discrete (slot - place) 0)
       (λ low. let a = past_at slot place (omega arith) in omega arith)
       (λ far. let a = not_past slot place (omega arith) in let b = behind slot n e (omega arith) in omega arith)
     where
       behind : (slot n : ℕ) → slot + n ≡ slots → place < slot → taken_from now slot n ≡ taken_from taken slot n
       behind slot zero e far = refl
-      behind slot (suc n) e far = let a = else slot (omega arith) (λ q. absurd (omega arith)) in let f = behind (slot + 1) n (omega arith) (omega arith) in omega arith
+      behind slot (suc n) e far = let a = else slot (omega arith) (λ q. absurd (omega arith)) in
+          let f = behind (slot + 1) n (omega arith) (omega arith) in omega arith
 
       most : (slot n : ℕ) → slot + n ≡ slots → taken_from now slot n ≤ taken_from taken slot n + 1
       most slot zero e = omega arith

@@ -1,5 +1,5 @@
 -- A tab that writes, while the inner tab of its pass is free, is the only one that has slots of its anchor.
-use Rattle.std.proofs.Common.{ap, arith, cond, false, length, set, subst, sum_by, sym, true, ⊎_elim, ◌+◌, ◌<◌, ◌==◌, ◌∙◌, ◌≡◌, ◌≢◌, ℕ}
+use Rattle.std.proofs.Common.{Bool, ap, arith, cond, false, refl, length, set, subst, sum_by, sym, true, ⊎_elim, ◌+◌, ◌<◌, ◌==◌, ◌∙◌, ◌≡◌, ◌≢◌, ℕ}
 use mathlib.Core.Option.{some, some-injective}
 use mathlib.Core.Logic.{dite}
 use native.Mathlib.Decide.{ℕ_discrete}
@@ -16,7 +16,9 @@ use Rattle.core_model.specs.Sound.{Sound}
 use Rattle.core_model.specs.Tabs.{InnerIsFree, count, inner, is_free, tab_at}
 use Rattle.core_model.proofs.Lists.{at_or, at_set, by_eq, sum_some}
 use Rattle.core_model.proofs.Rests.{replaced}
-use Rattle.core_model.proofs.SlotAnchors.{freer_stage, sole_writer, writer_stage}
+use Rattle.core_model.proofs.Matching.{matches_freer, matches_writer, one_writer}
+use Rattle.core_model.proofs.SlotAnchors.{written_few}
+use Rattle.core_model.specs.Holders.{IsTab}
 use Rattle.core_room.specs.Room.{holds_at, running}
 
 -- a tab that has slots of an anchor is there
@@ -31,35 +33,63 @@ module _ {X : Type 0} where
   not_free : (f : Freer X) → is_free {X = X} (Freeing f) ≡ true → ⊥
   not_free f e = cc
 
-module _ {X : Type 0} (k : Setting X) (s : State X) (i : ℕ) (v : View X) (so : Sound k s) (at : get_elem? s.views i ≡ some v) (t : ℕ) (w : Writer X) (is : get_elem? v.tabs t ≡ some (Writing w)) (free : InnerIsFree v) where
-  frees_none : (j : ℕ) (u : View X) → get_elem? s.views j ≡ some u → (p : ℕ) (f : Freer X) → get_elem? u.tabs p ≡ some (Freeing f) → f.anchor ≡ w.anchor → ⊥
-  frees_none j u ut p f there e = ⊎_elim
-      (λ (q : (f.is_freeing ≡ true) × (_ ≡ 5)). let m = writer_stage k s so.anchors so.slots i v at t w is in let high = m.3 in let five = q.1 in let z = ap (λ (b : ℕ). stage_of (epoch_of (word s b))) e in absurd (omega arith))
-      (λ (q : (f.is_freeing ≡ false) × (_ ≡ 1)). let r = replaced k s so.anchors so.slots j p f record { view = u; at = ut; there = there } q.0 in
-      let one = sole_writer k s so.anchors so.slots i v at t w is j r.tab.view r.tab.at r.t r.writer r.tab.there (sym e ∙ sym r.anchor_is) in mine one.0)
-      (freer_stage k s so.anchors so.slots j u ut p f there)
+module _ {X : Type 0} (k : Setting X) (s : State X) (i : ℕ) (v : View X) (so : Sound k s) (at : get_elem? s.views i ≡ some v) (t : ℕ)
+    (w : Writer X) (is : get_elem? v.tabs t ≡ some (Writing w)) (free : InnerIsFree v) where
+  writer : IsTab s i t (Writing w)
+  writer = record { view = v; at = at; there = is }
+
+  one_writer_there : (j p : ℕ) (y : Writer X) → IsTab s j p (Writing y) → y.anchor ≡ w.anchor → (i ≡ j) × (t ≡ p)
+  one_writer_there j p y tab e =
+      one_writer k s so.anchors w.anchor i j t p w y (matches_writer k s so.anchors i t w writer).0 writer tab refl e
+
+  frees_none : (j : ℕ) (u : View X) → get_elem? s.views j ≡ some u → (p : ℕ) (f : Freer X) → get_elem? u.tabs p ≡ some (Freeing f)
+      → f.anchor ≡ w.anchor → ⊥
+  frees_none j u ut p f there e = by_test f.is_freeing refl
     where
+      tab : IsTab s j p (Freeing f)
+      tab = record { view = u; at = ut; there = there }
+
       mine : i ≡ j → ⊥
       mine q =
           let same : u ≡ v = some-injective u v (sym ut ∙ subst (λ (z : ℕ). get_elem? s.views z ≡ some v) q at) in
           let last : p ≡ inner = (so.anchors.tabs j u ut p (Freeing f) there).1 in
-          let x : tab_at v inner ≡ Freeing f = at_or v.tabs inner (Freeing f) Free (subst (λ (z : ℕ). get_elem? v.tabs z ≡ some (Freeing f)) last (subst (λ (z : View X). get_elem? z.tabs p ≡ some (Freeing f)) same there)) in
+          let x : tab_at v inner ≡ Freeing f = at_or v.tabs inner (Freeing f) Free (subst
+          (λ (z : ℕ). get_elem? v.tabs z ≡ some (Freeing f)) last
+          (subst (λ (z : View X). get_elem? z.tabs p ≡ some (Freeing f)) same there)) in
           not_free f (subst (λ (z : Tab X). is_free z ≡ true) x free)
 
-  only_this : (j : ℕ) (u : View X) → get_elem? s.views j ≡ some u → (p : ℕ) (x : Tab X) → get_elem? u.tabs p ≡ some x → 0 < holds_at w.anchor x → (i ≡ j) × (t ≡ p)
+      -- an anchor at FREEING has no writer, and an entry is replaced by a tab of the same pass
+      by_test : (b : Bool) → f.is_freeing ≡ b → ⊥
+      by_test true q =
+          let five = matches_freer k s so.anchors j p f tab q in
+          let m = (matches_writer k s so.anchors i t w writer).1.stage_is in
+          let high = (written_few w).1 in
+          let z = ap (λ (b : ℕ). stage_of (epoch_of (word s b))) e in
+          absurd (omega arith)
+      by_test false q =
+          let r = replaced k s so.anchors so.slots j p f tab q in
+          mine (one_writer_there j r.t r.writer r.tab (r.anchor_is ∙ e)).0
+
+  only_this : (j : ℕ) (u : View X) → get_elem? s.views j ≡ some u → (p : ℕ) (x : Tab X) → get_elem? u.tabs p ≡ some x
+      → 0 < holds_at w.anchor x → (i ≡ j) × (t ≡ p)
   only_this j u ut p Free there h = absurd (omega arith)
   only_this j u ut p (Retreating a) there h = absurd (omega arith)
   only_this j u ut p (Reading r) there h = absurd (omega arith)
   only_this j u ut p (Last a) there h = absurd (omega arith)
-  only_this j u ut p (Writing y) there h = sole_writer k s so.anchors so.slots i v at t w is j u ut p y there (sym (at_its_own w.anchor y.anchor (length y.reserved + running y.claim) h))
-  only_this j u ut p (Freeing f) there h = absurd (frees_none j u ut p f there (at_its_own w.anchor f.anchor (length f.rest + length f.loose) h))
+  only_this j u ut p (Writing y) there h =
+      one_writer_there j p y record { view = u; at = ut; there = there }
+      (at_its_own w.anchor y.anchor (length y.reserved + running y.claim) h)
+  only_this j u ut p (Freeing f) there h =
+      absurd (frees_none j u ut p f there (at_its_own w.anchor f.anchor (length f.rest + length f.loose) h))
 
   -- no other tab has slots of its anchor
   pub none_else : sum_by (count (holds_at w.anchor)) (set s.views i (without_tab v t)) ≡ 0
   none_else = dite (ℕ_discrete (sum_by (count (holds_at w.anchor)) (set s.views i (without_tab v t))) 0)
       (λ e. e)
-      (λ ne. absurd (let q = sum_some (count (holds_at w.anchor)) (set s.views i (without_tab v t)) (omega arith) in let r = sum_some (holds_at w.anchor) q.item.tabs q.some_ in
-      ⊎_elim (λ (z : (q.i ≡ i) × (without_tab v t ≡ q.item)). here r.i r.item (subst (λ (u : View X). get_elem? u.tabs r.i ≡ some r.item) (sym z.1) r.at) r.some_)
+      (λ ne. absurd (let q = sum_some (count (holds_at w.anchor)) (set s.views i (without_tab v t)) (omega arith) in
+      let r = sum_some (holds_at w.anchor) q.item.tabs q.some_ in
+      ⊎_elim (λ (z : (q.i ≡ i) × (without_tab v t ≡ q.item)).
+      here r.i r.item (subst (λ (u : View X). get_elem? u.tabs r.i ≡ some r.item) (sym z.1) r.at) r.some_)
       (λ (z : (q.i ≢ i) × (get_elem? s.views q.i ≡ some q.item)). z.0 (sym (only_this q.i q.item z.1 r.i r.item r.at r.some_).0))
       (at_set s.views i q.i (without_tab v t) q.item q.at)))
     where

@@ -50,10 +50,12 @@ module _ {X : Type 0} where
   either false x y z p q = q
 
   pub entered_less : (x : Tab X) (a e : ℕ) → Less x (entered a e)
-  entered_less x a e = either (is_readable e) x _ (Retreating a) (nothing x _ (λ slot. refl) (λ b. refl)) (nothing x (Retreating a) (λ slot. refl) (λ b. refl))
+  entered_less x a e = either (is_readable e) x _ (Retreating a) (nothing x _ (λ slot. refl) (λ b. refl)) (nothing x (Retreating a)
+      (λ slot. refl) (λ b. refl))
 
   pub left_less : (x : Tab X) (a n : ℕ) → Less x (left_tab a n)
-  left_less x a n = either (is_left_over n) x (Last a) Free (nothing x (Last a) (λ slot. refl) (λ b. refl)) (nothing x Free (λ slot. refl) (λ b. refl))
+  left_less x a n = either (is_left_over n) x (Last a) Free (nothing x (Last a) (λ slot. refl) (λ b. refl)) (nothing x Free (λ slot. refl)
+      (λ b. refl))
 
   pub raised_less : (to : Stage) (n : ℕ) (x : Tab X) → Less x (raised_tab x to n)
   raised_less to n Free = left_less Free 0 n
@@ -97,7 +99,8 @@ module _ {X : Type 0} where
   gives_back_less slot (Reading r) = itself (Reading r)
   gives_back_less slot (Writing w) = record {
     past = λ j. omega arith;
-    held = λ a. if_at (w.anchor == a) (length (without slot w.reserved) + running w.claim) (length w.reserved + running w.claim) (let l = length_without slot w.reserved in omega arith);
+    held = λ a. if_at (w.anchor == a) (length (without slot w.reserved) + running w.claim) (length w.reserved + running w.claim)
+        (let l = length_without slot w.reserved in omega arith);
   }
   gives_back_less slot (Last b) = itself (Last b)
   gives_back_less slot (Freeing f) = let y : Tab X = Freeing record f { loose = without slot f.loose } in
@@ -105,7 +108,8 @@ module _ {X : Type 0} where
       (nothing (Freeing f) Free (λ j. refl) (λ a. refl))
       record {
         past = λ j. omega arith;
-        held = λ a. if_at (f.anchor == a) (length f.rest + length (without slot f.loose)) (length f.rest + length f.loose) (let l = length_without slot f.loose in omega arith);
+        held = λ a. if_at (f.anchor == a) (length f.rest + length (without slot f.loose)) (length f.rest + length f.loose)
+            (let l = length_without slot f.loose in omega arith);
       }
 
   pub logs_less : (slot : ℕ) (durable : Bool) (x : Tab X) → Less x (logs x slot durable)

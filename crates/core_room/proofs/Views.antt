@@ -20,7 +20,8 @@ module _ {A : Type 0} (g : A → ℕ) where
   pub set_none : (xs : List A) (p : ℕ) (y : A) → g y ≡ 0 → sum_by g (set xs p y) ≤ sum_by g xs
   set_none [] p y none = omega arith
   set_none (x ∷ xs) zero y none = let a = sum_by-cons g x xs in let b = sum_by-cons g y xs in omega arith
-  set_none (x ∷ xs) (suc p) y none = let a = sum_by-cons g x xs in let b = sum_by-cons g x (set xs p y) in let r = set_none xs p y none in omega arith
+  set_none (x ∷ xs) (suc p) y none = let a = sum_by-cons g x xs in let b = sum_by-cons g x (set xs p y) in let r = set_none xs p y none in
+      omega arith
 
   -- or one such comes behind it
   pub push_none : (xs : List A) (y : A) → g y ≡ 0 → sum_by g (xs ++ y ∷ []) ≤ sum_by g xs
@@ -30,14 +31,17 @@ module _ {X : Type 0} (f : Tab X → ℕ) (k : Setting X) (s : State X) (i : ℕ
   pub view_set : (w : View X) → sum_by (count f) (set s.views i w) + count f v ≤ sum_by (count f) s.views + count f w
   view_set w = let e = sum_at (count f) s.views i v w at in omega arith
 
-  pub noted : (w : View X) (b : Bool) (p : ℕ) → sum_by (count f) (cond b (set (set s.views i w) p (note_of v)) (set s.views i w ++ note_of v ∷ [])) + count f v ≤ sum_by (count f) s.views + count f w
+  pub noted : (w : View X) (b : Bool) (p : ℕ)
+      → sum_by (count f) (cond b (set (set s.views i w) p (note_of v)) (set s.views i w ++ note_of v ∷ [])) + count f v
+      ≤ sum_by (count f) s.views + count f w
   noted w true p = let e = view_set w in let n = set_none (count f) (set s.views i w) p (note_of v) refl in omega arith
   noted w false p = let e = view_set w in let n = push_none (count f) (set s.views i w) (note_of v) refl in omega arith
 
   abbrev mine : Move → View X
   mine m = view_after v m (finding k s v m)
 
-  pub views_few : (m : Move) → sum_by (count f) (after k s i v m).views + count f v ≤ sum_by (count f) s.views + sum_by f (tabs_after v m (finding k s v m))
+  pub views_few : (m : Move) → sum_by (count f) (after k s i v m).views + count f v
+      ≤ sum_by (count f) s.views + sum_by f (tabs_after v m (finding k s v m))
   views_few (Look a) = view_set (mine (Look a))
   views_few (Enter t a) = view_set (mine (Enter t a))
   views_few (Leave t) = view_set (mine (Leave t))
@@ -60,7 +64,10 @@ module _ {X : Type 0} (f : Tab X → ℕ) (k : Setting X) (s : State X) (i : ℕ
   views_few (EndTurn t slot then) = view_set (mine (EndTurn t slot then))
   views_few (CellOut t slot) = view_set (mine (CellOut t slot))
   views_few (CellIn t slot) = view_set (mine (CellIn t slot))
-  views_few Note = noted (mine Note) (ltb (k.passes + free_note (drop k.passes s.views)) (length (set s.views i (mine Note)))) (k.passes + free_note (drop k.passes s.views))
-  views_few (Learn note) = let e = view_set (mine (Learn note)) in let n = set_none (count f) (set s.views i (mine (Learn note))) (k.passes + note) spent refl in omega arith
+  views_few Note =
+      noted (mine Note) (ltb (k.passes + free_note (drop k.passes s.views)) (length (set s.views i (mine Note))))
+      (k.passes + free_note (drop k.passes s.views))
+  views_few (Learn note) = let e = view_set (mine (Learn note)) in
+      let n = set_none (count f) (set s.views i (mine (Learn note))) (k.passes + note) spent refl in omega arith
   views_few (Write t slot outcome) = view_set (mine (Write t slot outcome))
   views_few (Sync t slot kept) = view_set (mine (Sync t slot kept))

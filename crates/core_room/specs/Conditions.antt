@@ -10,7 +10,7 @@ use Rattle.core_model.specs.Tabs.{InnerIsFree, OfWriter, inner, tab_at}
 use Rattle.core_model.specs.SlotMoves.{MayReserve}
 use Rattle.core_room.specs.Fitting.{most_written}
 
--- a tab may begin to search where it may reserve a slot, and where its entry has at most what is needed with one slot more
+-- a tab may begin to search where it may reserve a slot, and where its entry comes with one slot more to at most `most_written`
 pub record MayBegin {X : Type 0} (k : Setting X) (need : ℕ → ℕ) (w : Writer X) : Type 0 where
   pub reserves : MayReserve w
   pub within : length w.published + length w.reserved + 1 ≤ most_written k.slots need w.anchor
@@ -19,9 +19,9 @@ pub record MayBegin {X : Type 0} (k : Setting X) (need : ℕ → ℕ) (w : Write
 abbrev pub HasCome : {X : Type 0} → ℕ → Writer X → Type 0
 HasCome slot w = w.claim ≡ Some slot
 
--- A look at the first word of the map begins a search, while the inner tab has nothing to give back. A search goes on at its place: it looks at
--- the word of which this is the first slot, and it tries for that slot. An entry is evicted only by the tab that was last there, and a slot that
--- is given back goes to no writing tab. Any other step is free.
+-- A look at the first word of the map begins a search, while the inner tab has nothing to give back. A search goes on at its place: it
+-- looks at the word of which this is the first slot, and it tries for that slot. An entry is evicted only by the tab that was last there,
+-- and a slot that is given back goes to no writing tab. Any other step is free.
 abbrev pub KeepsRoom : {X : Type 0} → Setting X → (need : ℕ → ℕ) → View X → Move → Type 0
 KeepsRoom k need v (LookMap t word) =
     ((word ≡ 0) × (t < inner) × InnerIsFree v × OfWriter (MayBegin k need) (tab_at v t)) ⊎ OfWriter (HasCome (64 * word)) (tab_at v t)

@@ -1,5 +1,5 @@
--- The most that each anchor of a store ever holds, and whether that is together no more than the store has. Slots are numbers, `need` says how
--- many of them a writer may come to need at an anchor, and `chain` which ones the opening kept there.
+-- The most slots that each anchor of a store ever holds, and whether that is together no more than the store has. `need` says how many a
+-- writer may come to need at an anchor, and `chain` which ones the opening kept there.
 use Rattle.std.specs.Prelude.{Bool, List, length, max, min, nat_le, sum_by, ℕ}
 use Rattle.std.specs.List.{range_with_len}
 

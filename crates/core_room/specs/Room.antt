@@ -26,8 +26,8 @@ abbrev pub past_in : {X : Type 0} → ℕ → Tab X → ℕ
 past_in slot (Writing w) = past slot w.claim
 past_in slot _ = 0
 
--- What a tab has of the slots of an anchor: what it has reserved there and one where it searches for one more, or what it has yet to give back,
--- in a chain or loose.
+-- What a tab has of the slots of an anchor: what it has reserved there, and one where it searches for one more; or what it has yet to give
+-- back, in a chain or loose.
 abbrev pub holds_at : {X : Type 0} → ℕ → Tab X → ℕ
 holds_at a (Writing w) = cond (w.anchor == a) (length w.reserved + running w.claim) 0
 holds_at a (Freeing f) = cond (f.anchor == a) (length f.rest + length f.loose) 0
@@ -42,8 +42,10 @@ abbrev pub taken_from : (taken : ℕ → ℕ) → (slot n : ℕ) → ℕ
 taken_from taken slot zero = 0
 taken_from taken slot (suc n) = taken slot + taken_from taken (slot + 1) n
 
--- There is room. Of the n slots from any one on up to the last, those that are taken and the searches that have found each slot below them taken
--- are together at most n. And each anchor's slots are at most its capacity: those of its chain and its tail, and what tabs have of them.
+-- at every moment of a store that fits
 pub record Room {X : Type 0} (k : Setting X) (capacity : ℕ → ℕ) (s : State X) : Type 0 where
+  -- Of the n slots from any one on up to the last, those that are taken, and the searches that have found each slot below them taken, are
+  -- together at most n.
   pub places : (slot n : ℕ) → slot + n ≡ k.slots → taken_from (taken_at k s) slot n + sum_by (count (past_in slot)) s.views ≤ n
+  -- The slots of each anchor are at most its capacity: those of its chain and its tail, and what tabs have of them.
   pub anchors : (a : ℕ) → a < k.anchors → slots_chained (chain_of s a) + sum_by (count (holds_at a)) s.views ≤ capacity a
