@@ -3,3 +3,9 @@ pub mod Linking
 pub mod Tabbing
 pub mod Foreign
 pub mod Chaining
+pub mod Views
+pub mod Inside
+pub mod Finding
+pub mod Kept
+pub mod Spelling
+pub mod Coming
