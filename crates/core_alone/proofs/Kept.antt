@@ -1,5 +1,5 @@
 -- A step of any pass keeps what passes know of the anchors that are left to them.
-use Rattle.std.proofs.Common.{◌≡◌, ◌≢◌, ◌⊎◌, inl, inr, ⊎_elim, ℕ, ◌<◌, List, [], ◌∷◌, ◌++◌, Bool, true, sym, refl, ap, ◌∙◌, subst, Contains}
+use Rattle.std.proofs.Common.{◌≡◌, ◌≢◌, inl, inr, ⊎_elim, ℕ, ◌<◌, List, [], ◌++◌, Bool, true, sym, refl, ap, ◌∙◌, subst, Contains}
 use mathlib.Core.Option.{some, some-ne-none}
 use lib.ListN.{get_elem?}
 use Rattle.core_model.specs.declared.chain.Chain.{Chain}

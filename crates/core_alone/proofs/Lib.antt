@@ -9,3 +9,5 @@ pub mod Finding
 pub mod Kept
 pub mod Spelling
 pub mod Coming
+pub mod Opened
+pub mod Renewed

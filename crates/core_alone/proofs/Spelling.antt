@@ -1,7 +1,6 @@
 -- The chain of an anchor that is left to a pass is spelled by what the pass has of words, also where its writer gave up.
-use Rattle.std.proofs.Common.{◌≡◌, ◌≢◌, ℕ, ◌+◌, ◌<◌, ◌≤◌, List, [], ◌∷◌, ◌++◌, Bool, true, eq-eqb, ne_eqb, sym, refl, ap, ◌∙◌, subst, sum_by, arith, Contains}
+use Rattle.std.proofs.Common.{◌≡◌, ◌≢◌, ℕ, ◌<◌, ◌≤◌, List, [], ◌∷◌, ◌++◌, Bool, true, eq-eqb, ne_eqb, sym, refl, ap, ◌∙◌, subst, arith, Contains}
 use Rattle.std.proofs.lemmas.List.Elements.{Contains-append_left, Contains-append_right}
-use Rattle.std.proofs.lemmas.List.Sums.{sum_by-cons}
 use mathlib.Core.Logic.{dite}
 use mathlib.Core.Option.{some, some-injective}
 use native.Mathlib.Decide.{ℕ_discrete}
@@ -12,18 +11,15 @@ use Rattle.lock_word.specs.Words.{epoch_of, is_written, stage_of}
 use Rattle.core_model.specs.declared.chain.Chain.{Chain}
 use Rattle.core_model.specs.declared.moves.Side.TheVariants.{Start}
 use Rattle.core_model.specs.declared.spot.Spot.TheVariants.{Reserved}
-use Rattle.core_model.specs.declared.tab.Tab.{Tab}
 use Rattle.core_model.specs.declared.tab.Tab.TheVariants.{Writing}
 use Rattle.core_model.specs.declared.view.Place.TheVariants.{Beside}
 use Rattle.core_model.specs.declared.view.View.{View}
-use Rattle.core_model.specs.Chains.{EndsUnwritten, IsSpelled, Spells, Tied, no_chain, rest_of, slots_of_link, times}
+use Rattle.core_model.specs.Chains.{EndsUnwritten, IsSpelled, Tied, rest_of, slots_of_link}
 use Rattle.core_model.specs.Holders.{HasWriter}
 use Rattle.core_model.specs.Layout.{Setting}
 use Rattle.core_model.specs.Slots.{ChainStands, held_in, published_in, resting_in, slot_words, standing_in, told, used}
 use Rattle.core_model.specs.Sound.{Sound}
 use Rattle.core_model.specs.State.{State, chain_of, word}
-use Rattle.core_model.specs.Tabs.{count}
-use Rattle.core_model.proofs.Lists.{at_index, le_sum_at, sum_mono}
 use Rattle.core_model.proofs.Matching.{has_writer}
 use Rattle.core_model.proofs.OneSpot.{unwritten}
 use Rattle.core_model.proofs.SlotFrame.{tail_unwritten}

@@ -28,7 +28,7 @@ use Rattle.core_model.specs.Layout.{Setting}
 use Rattle.core_model.specs.State.{State, word, chain_of}
 use Rattle.core_model.specs.Trails.{last_find}
 use Rattle.core_model.specs.Chains.{rest_of, without}
-use Rattle.core_model.specs.SlotMoves.{loaded, stores, searches, reserves, misses, emptied, gives_back, publishes, loosens, looks}
+use Rattle.core_model.specs.SlotMoves.{loaded, stores, searches, reserves, misses, gives_back, publishes, loosens, looks}
 use Rattle.core_model.specs.CellMoves.{logs, tries, ends, moves, is_kept, rewrites, settled_by_write, settled_by_sync}
 use Rattle.core_model.specs.Table.{tabs_after, left_by, Allowed}
 use Rattle.core_model.specs.AnchorMoves.{entered, left_tab, writer_of, freer_of, raised_tab, taken_tabs, evicted_tabs, MayEnd, MayRaise, StartsRight}
