@@ -20,13 +20,15 @@ use Rattle.core_model.proofs.Lists.{le_sum_at, two_le_sum}
 use Rattle.core_alone.specs.Alone.{MayCome}
 use Rattle.core_alone.proofs.Finding.{has_tabs}
 
-module _ {X : Type 0} (left : ℕ → ℕ → Bool) (k : Setting X) (s : State X) (so : AnchorsSound k s) (i : ℕ) (v : View X) (at : get_elem? s.views i ≡ some v) (pass : IsPass v) where
+module _ {X : Type 0} (left : ℕ → ℕ → Bool) (k : Setting X) (s : State X) (so : AnchorsSound k s) (i : ℕ) (v : View X)
+    (at : get_elem? s.views i ≡ some v) (pass : IsPass v) where
   pub comes_by_number : (a : ℕ) → ((q : ℕ) → left q a ≡ true → q ≡ v.pass) → MayCome left s i a
   comes_by_number a mine j u uat owns = so.deeds.numbers j i u v uat at owns.0 (has_tabs v pass) (mine u.pass owns.1)
 
   pub comes_lone : k.passes ≡ 1 → (a : ℕ) → MayCome left s i a
   comes_lone one a j u uat owns = dite (ℕ_discrete j i) (λ e. e)
-      (λ ne. absurd (owns.0 (none u.tabs (let two = two_le_sum tabs_in s.views i j v u at uat ne in let all = so.shaped.tabs in let nine = pass in omega arith))))
+      (λ ne. absurd (owns.0 (none u.tabs (let two = two_le_sum tabs_in s.views i j v u at uat ne in let all = so.shaped.tabs in
+      let nine = pass in omega arith))))
     where
       none : (xs : List (Tab X)) → length xs ≡ 0 → xs ≡ []
       none [] h = refl
@@ -34,5 +36,6 @@ module _ {X : Type 0} (left : ℕ → ℕ → Bool) (k : Setting X) (s : State X
 
 -- A version that a pass drew is at most what any draw finds later, so that the next one is above it.
 module _ {X : Type 0} (k : Setting X) (s : State X) (so : AnchorsSound k s) where
-  pub drawn_below : (i : ℕ) (v w : View X) (version : ℕ) → get_elem? s.views i ≡ some v → 0 < drawn version v.trail → version ≤ number_found k s w Draw
+  pub drawn_below : (i : ℕ) (v w : View X) (version : ℕ) → get_elem? s.views i ≡ some v → 0 < drawn version v.trail
+      → version ≤ number_found k s w Draw
   drawn_below i v w version at drew = let l = le_sum_at (drawn_by version) s.views i v at in (so.drawn.above version (omega arith)).1

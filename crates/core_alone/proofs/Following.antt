@@ -20,7 +20,8 @@ use Rattle.core_model.proofs.StepPlaces.{IsInside, found_at, place_inside}
 abbrev pub mirror_of : {X : Type 0} → Setting X → View X → Place → ℕ
 mirror_of k v q = mirrored k (index k q) v.mirror
 
-module _ {X : Type 0} (k : Setting X) (s : State X) (i : ℕ) (v : View X) (so : Sound k s) (at : get_elem? s.views i ≡ some v) (m : Move) (may : MayStep k s v m) where
+module _ {X : Type 0} (k : Setting X) (s : State X) (i : ℕ) (v : View X) (so : Sound k s) (at : get_elem? s.views i ≡ some v) (m : Move)
+    (may : MayStep k s v m) where
   abbrev left : ℕ
   left = left_by v m (number_found k s v m)
 
@@ -37,7 +38,8 @@ module _ {X : Type 0} (k : Setting X) (s : State X) (i : ℕ) (v : View X) (so :
   mirror_is o is = ap (λ (z : Option Place). traces_of z left ++ v.mirror) is
 
   inside : (p : Place) → place v m ≡ Some p → index k p < length s.words
-  inside p is = let h = within k p (subst (IsInside k) is (place_inside k s i v so at may.pass m may.allowed)) in let many = so.anchors.shaped.words in omega arith
+  inside p is = let h = within k p (subst (IsInside k) is (place_inside k s i v so at may.pass m may.allowed)) in
+      let many = so.anchors.shaped.words in omega arith
 
   found_is : (p : Place) → place v m ≡ Some p → number_found k s v m ≡ word_in k s.words p
   found_is p is = found_at k s v m p is
@@ -49,7 +51,8 @@ module _ {X : Type 0} (k : Setting X) (s : State X) (i : ℕ) (v : View X) (so :
       ∙ subst (λ (z : ℕ). get_or (set s.words (index k p) left) z 0 ≡ left) e (get_or-set_same s.words (index k p) left 0 (inside p is))
 
   pub word_far : (p q : Place) → place v m ≡ Some p → index k p ≢ index k q → word_in k t.words q ≡ word_in k s.words q
-  word_far p q is ne = ap (λ (ws : List ℕ). get_or ws (index k q) 0) (words_are (Some p) is) ∙ get_or-set_other s.words (index k p) (index k q) left 0 (λ e. ne (sym e))
+  word_far p q is ne = ap (λ (ws : List ℕ). get_or ws (index k q) 0) (words_are (Some p) is)
+      ∙ get_or-set_other s.words (index k p) (index k q) left 0 (λ e. ne (sym e))
 
   pub word_none : (q : Place) → place v m ≡ None → word_in k t.words q ≡ word_in k s.words q
   word_none q is = ap (λ (ws : List ℕ). get_or ws (index k q) 0) (words_are None is)
@@ -76,7 +79,8 @@ module _ {X : Type 0} (k : Setting X) (s : State X) (i : ℕ) (v : View X) (so :
           (λ ne. word_far p q is ne ∙ h ∙ sym (known_far p q is ne))
 
   -- A word that the step is not on, or that it leaves as it finds it, stays.
-  pub stays : (q : Place) → ((p : Place) → place v m ≡ Some p → index k p ≡ index k q → left ≡ number_found k s v m) → word_in k t.words q ≡ word_in k s.words q
+  pub stays : (q : Place) → ((p : Place) → place v m ≡ Some p → index k p ≡ index k q → left ≡ number_found k s v m)
+      → word_in k t.words q ≡ word_in k s.words q
   stays q same = by_place (place v m) refl
     where
       by_place : (o : Option Place) → place v m ≡ o → word_in k t.words q ≡ word_in k s.words q

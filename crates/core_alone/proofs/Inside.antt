@@ -21,13 +21,15 @@ use Rattle.core_model.proofs.Lists.{at_index, le_sum_at}
 use Rattle.core_model.proofs.Tabs.{contains_times}
 use Rattle.core_model.proofs.Telling.{told_out}
 use Rattle.core_alone.specs.Alone.{HoldsSlot}
-use Rattle.core_alone.proofs.Foreign.{IsOthers}
+use Rattle.core_alone.proofs.Others.{IsOthers}
 
 module _ {X : Type 0} (k : Setting X) (s : State X) (so : Sound k s) where
   pub chained_inside : (a slot : ℕ) → a < k.anchors → Contains ((chain_of s a).slots ++ (chain_of s a).tail) slot → slot < k.slots
   chained_inside a slot lt c = dite (ℕ_discrete (k.slots - slot) 0)
-      (λ e. absurd (let o = so.slots.places.taken slot in let z : used ((slot_words k s.words).taken slot) ≡ 0 = ap used (told_out k.slots slot _ (omega arith)) in
-      let l = le_sum_at (standing_in slot) s.chains a (chain_of s a) (at_index s.chains a (chain_of s a) no_chain (let m = so.anchors.shaped.chains in omega arith) refl) in
+      (λ e. absurd (let o = so.slots.places.taken slot in let z : used ((slot_words k s.words).taken slot) ≡ 0 = ap used
+      (told_out k.slots slot _ (omega arith)) in
+      let l = le_sum_at (standing_in slot) s.chains a (chain_of s a)
+      (at_index s.chains a (chain_of s a) no_chain (let m = so.anchors.shaped.chains in omega arith) refl) in
       let n = counted (Contains-append_cases (chain_of s a).slots (chain_of s a).tail slot c) in omega arith))
       (λ ne. omega arith)
     where
@@ -38,12 +40,14 @@ module _ {X : Type 0} (k : Setting X) (s : State X) (so : Sound k s) where
   module _ (j : ℕ) (u : View X) (at : get_elem? s.views j ≡ some u) where
     held_inside : (t slot : ℕ) (x : Tab X) → get_elem? u.tabs t ≡ some x → 0 < held_in slot x → slot < k.slots
     held_inside t slot x there h = dite (ℕ_discrete (k.slots - slot) 0)
-        (λ e. absurd (let o = so.slots.places.taken slot in let z : used ((slot_words k s.words).taken slot) ≡ 0 = ap used (told_out k.slots slot _ (omega arith)) in
+        (λ e. absurd (let o = so.slots.places.taken slot in let z : used ((slot_words k s.words).taken slot) ≡ 0 = ap used
+        (told_out k.slots slot _ (omega arith)) in
         let l = le_sum_at (held_in slot) u.tabs t x there in let p = le_sum_at (count (held_in slot)) s.views j u at in omega arith))
         (λ ne. omega arith)
 
     pub tab_slot_inside : (t slot : ℕ) (x : Tab X) → get_elem? u.tabs t ≡ some x → HoldsSlot x slot → slot < k.slots
-    tab_slot_inside t slot (Writing w) there c = held_inside t slot (Writing w) there (let z = contains_times slot w.reserved c in omega arith)
+    tab_slot_inside t slot (Writing w) there c =
+        held_inside t slot (Writing w) there (let z = contains_times slot w.reserved c in omega arith)
     tab_slot_inside t slot (Freeing f) there c = held_inside t slot (Freeing f) there (let z = contains_times slot f.rest c in omega arith)
     tab_slot_inside t slot Free there c = absurd c
     tab_slot_inside t slot (Retreating a) there c = absurd c
@@ -51,7 +55,8 @@ module _ {X : Type 0} (k : Setting X) (s : State X) (so : Sound k s) where
     tab_slot_inside t slot (Last a) there c = absurd c
 
     -- its spot is one of another pass than i
-    pub tab_spot : (i t slot : ℕ) (x : Tab X) → j ≢ i → get_elem? u.tabs t ≡ some x → HoldsSlot x slot → (y : Spot) × IsIn k s slot y × IsOthers i y
+    pub tab_spot : (i t slot : ℕ) (x : Tab X) → j ≢ i → get_elem? u.tabs t ≡ some x → HoldsSlot x slot
+        → (y : Spot) × IsIn k s slot y × IsOthers i y
     tab_spot i t slot (Writing w) ne there c = (Reserved j t, (w, record { view = u; at = at; there = there }, c), ne)
     tab_spot i t slot (Freeing f) ne there c = (Resting j t, (f, record { view = u; at = at; there = there }, c), ne)
     tab_spot i t slot Free ne there c = absurd c

@@ -22,13 +22,14 @@ use Rattle.core_alone.specs.Alone.{ComesRight, HoldsSlot, IsLeftTo, IsTabAt, Kno
 use Rattle.core_alone.proofs.Chaining.{Becomes, Grows, HasReserved, chain_becomes}
 use Rattle.core_alone.proofs.Finding.{has_tabs}
 use Rattle.core_alone.proofs.Following.{follows}
-use Rattle.core_alone.proofs.Foreign.{ComesTo, IsOthers, anchor_stays, others_link}
+use Rattle.core_alone.proofs.Others.{ComesTo, IsOthers, anchor_stays, others_link}
 use Rattle.core_alone.proofs.Inside.{chained_inside, tab_slot_inside, tab_spot}
 use Rattle.core_alone.proofs.Linking.{link_follows, loosen_fresh, own_fresh}
-use Rattle.core_alone.proofs.Tabbing.{AllFine, Fine, News, tabs_fine}
+use Rattle.core_alone.proofs.Tabbing.{TabsHave, TabHas, News, tabs_have}
 use Rattle.core_alone.proofs.Views.{ViewWas, view_was}
 
-module _ {X : Type 0} (left : ℕ → ℕ → Bool) (k : Setting X) (s : State X) (i : ℕ) (v : View X) (m : Move) (so : Sound k s) (at : get_elem? s.views i ≡ some v) (may : MayStep k s v m) (alone : StandsAlone left k s) (come : ComesRight left s i m) where
+module _ {X : Type 0} (left : ℕ → ℕ → Bool) (k : Setting X) (s : State X) (i : ℕ) (v : View X) (m : Move) (so : Sound k s)
+    (at : get_elem? s.views i ≡ some v) (may : MayStep k s v m) (alone : StandsAlone left k s) (come : ComesRight left s i m) where
   abbrev t : State X
   t = after k s i v m
 
@@ -57,18 +58,20 @@ module _ {X : Type 0} (left : ℕ → ℕ → Bool) (k : Setting X) (s : State X
   at_tab : (u a : ℕ) (x : Tab X) → get_elem? v.tabs u ≡ some x → IsTabAt x a → A a
   at_tab u a x there is = λ j z zat owns. sym (alone.apart j i u a z x zat owns record { view = v; at = at; there = there } is)
 
-  was_fine : AllFine A B v.tabs
-  was_fine u Free there = tt
-  was_fine u (Retreating a) there = at_tab u a (Retreating a) there refl
-  was_fine u (Reading r) there = at_tab u r.anchor (Reading r) there refl
-  was_fine u (Writing x) there = (
+  tabs_had : TabsHave A B v.tabs
+  tabs_had u Free there = tt
+  tabs_had u (Retreating a) there = at_tab u a (Retreating a) there refl
+  tabs_had u (Reading r) there = at_tab u r.anchor (Reading r) there refl
+  tabs_had u (Writing x) there = (
     at_tab u x.anchor (Writing x) there refl,
-    λ slot c is. known slot (tab_slot_inside k s so i v at u slot (Writing x) there c) (mine.held u x.anchor slot (Writing x) there refl is c),
+    λ slot c is. known slot (tab_slot_inside k s so i v at u slot (Writing x) there c)
+        (mine.held u x.anchor slot (Writing x) there refl is c),
   )
-  was_fine u (Last a) there = at_tab u a (Last a) there refl
-  was_fine u (Freeing f) there = (
+  tabs_had u (Last a) there = at_tab u a (Last a) there refl
+  tabs_had u (Freeing f) there = (
     at_tab u f.anchor (Freeing f) there refl,
-    λ slot c is. known slot (tab_slot_inside k s so i v at u slot (Freeing f) there c) (mine.held u f.anchor slot (Freeing f) there refl is c),
+    λ slot c is. known slot (tab_slot_inside k s so i v at u slot (Freeing f) there c)
+        (mine.held u f.anchor slot (Freeing f) there refl is c),
   )
 
   comes_to : (m : Move) → ComesRight left s i m → ComesTo A m
@@ -103,10 +106,12 @@ module _ {X : Type 0} (left : ℕ → ℕ → Bool) (k : Setting X) (s : State X
   old_chain a slot lt is c = known slot (chained_inside k s so a slot lt c) (mine.links a slot lt is c)
 
   -- A chain that it takes is at an anchor of the table.
-  news : (n : Move) → n ≡ m → News A B k s v was_fine n
+  news : (n : Move) → n ≡ m → News A B k s v tabs_had n
   news (Enter u a) e = subst (ComesTo A) (sym e) (comes_to m come)
-  news (Take u a version) e = let may_take = subst (λ (z : Move). MayStep k s v z) (sym e) may in (subst (ComesTo A) (sym e) (comes_to m come), λ slot c is. old_chain a slot may_take.allowed.0 is c)
-  news (Evict u a) e = let may_evict = subst (λ (z : Move). MayStep k s v z) (sym e) may in (subst (ComesTo A) (sym e) (comes_to m come), λ slot c is. old_chain a slot may_evict.allowed.0 is c)
+  news (Take u a version) e = let may_take = subst (λ (z : Move). MayStep k s v z) (sym e) may in
+      (subst (ComesTo A) (sym e) (comes_to m come), λ slot c is. old_chain a slot may_take.allowed.0 is c)
+  news (Evict u a) e = let may_evict = subst (λ (z : Move). MayStep k s v z) (sym e) may in
+      (subst (ComesTo A) (sym e) (comes_to m come), λ slot c is. old_chain a slot may_evict.allowed.0 is c)
   news (Own u slot) e = λ zero_ a is. subst (λ (z : Move). KnowsWord k (after k s i v z) (view_after v z (finding k s v z)) (Link slot)) e
       (own_fresh k s i v so at u slot (subst (λ (z : Move). MayStep k s v z) (sym e) may) zero_)
   news (Loosen u slot) e = λ a is. subst (λ (z : Move). KnowsWord k (after k s i v z) (view_after v z (finding k s v z)) (Link slot)) e
@@ -134,27 +139,27 @@ module _ {X : Type 0} (left : ℕ → ℕ → Bool) (k : Setting X) (s : State X
   news (Sync u slot kept) e = tt
 
   -- The tabs of the pass after the step.
-  now_fine : AllFine A B w.tabs
-  now_fine = tabs_fine A B k s v was_fine m may.allowed (news m refl)
+  tabs_now : TabsHave A B w.tabs
+  tabs_now = tabs_have A B k s v tabs_had m may.allowed (news m refl)
 
-  fine_at : (a : ℕ) (x : Tab X) → Fine A B x → IsTabAt x a → A a
-  fine_at a Free h is = absurd is
-  fine_at a (Retreating b) h is = subst A is h
-  fine_at a (Reading r) h is = subst A is h
-  fine_at a (Writing x) h is = subst A is h.0
-  fine_at a (Last b) h is = subst A is h
-  fine_at a (Freeing f) h is = subst A is h.0
+  may_come_at : (a : ℕ) (x : Tab X) → TabHas A B x → IsTabAt x a → A a
+  may_come_at a Free h is = absurd is
+  may_come_at a (Retreating b) h is = subst A is h
+  may_come_at a (Reading r) h is = subst A is h
+  may_come_at a (Writing x) h is = subst A is h.0
+  may_come_at a (Last b) h is = subst A is h
+  may_come_at a (Freeing f) h is = subst A is h.0
 
-  fine_slot : (a slot : ℕ) (x : Tab X) → Fine A B x → IsTabAt x a → HoldsSlot x slot → left v.pass a ≡ true → Known slot
-  fine_slot a slot (Writing x) h is c owned = h.1 slot c (subst (λ (z : ℕ). left v.pass z ≡ true) (sym is) owned)
-  fine_slot a slot (Freeing f) h is c owned = h.1 slot c (subst (λ (z : ℕ). left v.pass z ≡ true) (sym is) owned)
-  fine_slot a slot Free h is c owned = absurd c
-  fine_slot a slot (Retreating b) h is c owned = absurd c
-  fine_slot a slot (Reading r) h is c owned = absurd c
-  fine_slot a slot (Last b) h is c owned = absurd c
+  slot_known : (a slot : ℕ) (x : Tab X) → TabHas A B x → IsTabAt x a → HoldsSlot x slot → left v.pass a ≡ true → Known slot
+  slot_known a slot (Writing x) h is c owned = h.1 slot c (subst (λ (z : ℕ). left v.pass z ≡ true) (sym is) owned)
+  slot_known a slot (Freeing f) h is c owned = h.1 slot c (subst (λ (z : ℕ). left v.pass z ≡ true) (sym is) owned)
+  slot_known a slot Free h is c owned = absurd c
+  slot_known a slot (Retreating b) h is c owned = absurd c
+  slot_known a slot (Reading r) h is c owned = absurd c
+  slot_known a slot (Last b) h is c owned = absurd c
 
-  chain_now : (a : ℕ) → a < k.anchors → Becomes k s i v so at A B was_fine a (chain_of t a)
-  chain_now a lt = chain_becomes k s i v so at A B was_fine m may (comes_to m come) a lt
+  chain_now : (a : ℕ) → a < k.anchors → Becomes k s i v so at A B tabs_had a (chain_of t a)
+  chain_now a lt = chain_becomes k s i v so at A B tabs_had m may (comes_to m come) a lt
 
   own_link : (a slot : ℕ) → a < k.anchors → left v.pass a ≡ true → Contains ((chain_of t a).slots ++ (chain_of t a).tail) slot → Known slot
   own_link a slot lt is c = ⊎_elim
@@ -171,7 +176,7 @@ module _ {X : Type 0} (left : ℕ → ℕ → Bool) (k : Setting X) (s : State X
     word = λ a lt is. follows k s i v so at m may (Anchor a) (mine.word a lt is);
     sides = λ side a lt is. follows k s i v so at m may (Beside side a) (mine.sides side a lt is);
     links = λ a slot lt is c. own_link a slot lt is c;
-    held = λ u a slot x there is_at is c. fine_slot a slot x (now_fine u x there) is_at c is;
+    held = λ u a slot x there is_at is c. slot_known a slot x (tabs_now u x there) is_at c is;
   }
 
   -- Another pass.
@@ -183,19 +188,24 @@ module _ {X : Type 0} (left : ℕ → ℕ → Bool) (k : Setting X) (s : State X
     never a is h = ne (h j u uat (tabs, is))
 
     their_chain : (a : ℕ) → a < k.anchors → left u.pass a ≡ true → chain_of t a ≡ chain_of s a
-    their_chain a lt is = ⊎_elim (λ (e : chain_of t a ≡ chain_of s a). e) (λ (q : A a × Grows k s i v so at a (chain_of t a)). absurd (never a is q.0)) (chain_now a lt)
+    their_chain a lt is = ⊎_elim (λ (e : chain_of t a ≡ chain_of s a). e)
+        (λ (q : A a × Grows k s i v so at a (chain_of t a)). absurd (never a is q.0)) (chain_now a lt)
 
-    their_link : (slot : ℕ) → slot < k.slots → (y : Spot) → IsIn k s slot y → IsOthers i y → KnowsWord k s u (Link slot) → KnowsWord k t u (Link slot)
+    their_link : (slot : ℕ) → slot < k.slots → (y : Spot) → IsIn k s slot y → IsOthers i y → KnowsWord k s u (Link slot)
+        → KnowsWord k t u (Link slot)
     their_link slot lt y is others h = others_link k s i v so at m may slot lt y is others ∙ h
 
-    their_held : (n a slot : ℕ) (x : Tab X) → get_elem? u.tabs n ≡ some x → IsTabAt x a → left u.pass a ≡ true → HoldsSlot x slot → KnowsWord k t u (Link slot)
+    their_held : (n a slot : ℕ) (x : Tab X) → get_elem? u.tabs n ≡ some x → IsTabAt x a → left u.pass a ≡ true → HoldsSlot x slot
+        → KnowsWord k t u (Link slot)
     their_held n a slot x there is_at is c = let y = tab_spot k s so j u uat i n slot x ne there c in
         their_link slot (tab_slot_inside k s so j u uat n slot x there c) y.0 y.1 y.2 (theirs.held n a slot x there is_at is c)
 
     other_knows : KnowsAlone left k t u
     other_knows = record {
-      word = λ a lt is. anchor_stays A B k s v was_fine i so at m may (comes_to m come) a lt (never a is) (Anchor a) refl ∙ theirs.word a lt is;
-      sides = λ side a lt is. anchor_stays A B k s v was_fine i so at m may (comes_to m come) a lt (never a is) (Beside side a) refl ∙ theirs.sides side a lt is;
+      word = λ a lt is. anchor_stays A B k s v tabs_had i so at m may (comes_to m come) a lt (never a is) (Anchor a) refl
+          ∙ theirs.word a lt is;
+      sides = λ side a lt is. anchor_stays A B k s v tabs_had i so at m may (comes_to m come) a lt (never a is) (Beside side a) refl
+          ∙ theirs.sides side a lt is;
       links = λ a slot lt is c. let d = subst (λ (z : Chain). Contains (z.slots ++ z.tail) slot) (their_chain a lt is) c in
           their_link slot (chained_inside k s so a slot lt d) (Chained a) (lt, d) tt (theirs.links a slot lt is d);
       held = λ n a slot x there is_at is c. their_held n a slot x there is_at is c;
@@ -212,11 +222,18 @@ module _ {X : Type 0} (left : ℕ → ℕ → Bool) (k : Setting X) (s : State X
     tabs : old.tabs ≢ []
 
   was_of : (j : ℕ) (u : View X) → u.tabs ≢ [] → ViewWas k s i v w j u → Was j u
-  was_of j u some_ (inl q) = record { old = v; there = subst (λ (z : ℕ). get_elem? s.views z ≡ some v) (sym q.0) at; pass = ap View.pass (sym q.1); tabs = some_tabs }
+  was_of j u some_ (inl q) = record {
+    old = v;
+    there = subst (λ (z : ℕ). get_elem? s.views z ≡ some v) (sym q.0) at;
+    pass = ap View.pass
+        (sym q.1);
+    tabs = some_tabs;
+  }
   was_of j u some_ (inr (inl r)) = record { old = u; there = r.1; pass = refl; tabs = some_ }
   was_of j u some_ (inr (inr none)) = absurd (some_ none)
 
-  apart_now : (p q n a : ℕ) (u : View X) (tab : Tab X) → get_elem? t.views p ≡ some u → IsLeftTo left u a → IsTab t q n tab → IsTabAt tab a → q ≡ p
+  apart_now : (p q n a : ℕ) (u : View X) (tab : Tab X) → get_elem? t.views p ≡ some u → IsLeftTo left u a → IsTab t q n tab → IsTabAt tab a
+      → q ≡ p
   apart_now p q n a u tab uat owns is is_at = by_view (view_was k s i v m q is.view is.at)
     where
       owner : Was p u
@@ -226,8 +243,11 @@ module _ {X : Type 0} (left : ℕ → ℕ → Bool) (k : Setting X) (s : State X
       owned = (owner.tabs, subst (λ (z : ℕ). left z a ≡ true) (sym owner.pass) owns.1)
 
       by_view : ViewWas k s i v w q is.view → q ≡ p
-      by_view (inl h) = h.0 ∙ sym (fine_at a tab (now_fine n tab (subst (λ (z : View X). get_elem? z.tabs n ≡ some tab) h.1 is.there)) is_at p owner.old owner.there owned)
-      by_view (inr (inl g)) = alone.apart p q n a owner.old tab owner.there owned record { view = is.view; at = g.1; there = is.there } is_at
+      by_view (inl h) = h.0
+          ∙ sym (may_come_at a tab (tabs_now n tab
+          (subst (λ (z : View X). get_elem? z.tabs n ≡ some tab) h.1 is.there)) is_at p owner.old owner.there owned)
+      by_view (inr (inl g)) =
+          alone.apart p q n a owner.old tab owner.there owned record { view = is.view; at = g.1; there = is.there } is_at
       by_view (inr (inr none)) = absurd (no_tab is.view none n tab is.there)
 
   pub stands_after : StandsAlone left k t

@@ -1,7 +1,7 @@
 pub mod Following
 pub mod Linking
 pub mod Tabbing
-pub mod Foreign
+pub mod Others
 pub mod Chaining
 pub mod Views
 pub mod Inside

@@ -26,22 +26,22 @@ use Rattle.core_alone.specs.Alone.{is_unlinked, link_in}
 use Rattle.core_alone.proofs.Following.{known_far, known_here, known_none, mirror_of, word_far, word_here, word_none}
 
 -- a step that is on no link, and reserves no slot
-abbrev pub OnNoSlot : Move → Type 0
-OnNoSlot (Own t slot) = ⊥
-OnNoSlot (Publish t slot link) = ⊥
-OnNoSlot (Loosen t slot) = ⊥
-OnNoSlot (GetLink t slot) = ⊥
-OnNoSlot m = Unit {0}
+abbrev pub OffLinks : Move → Type 0
+OffLinks (Own t slot) = ⊥
+OffLinks (Publish t slot link) = ⊥
+OffLinks (Loosen t slot) = ⊥
+OffLinks (GetLink t slot) = ⊥
+OffLinks m = Unit {0}
 
 -- a place of an anchor is one of the table's, and it is none of a link
-abbrev pub InRow : {X : Type 0} → Setting X → Option Place → Type 0
-InRow k (Some (Anchor a)) = a < k.anchors
-InRow k (Some (Beside side a)) = a < k.anchors
-InRow k (Some (Link slot)) = ⊥
-InRow k o = Unit {0}
+abbrev pub FarFromLinks : {X : Type 0} → Setting X → Option Place → Type 0
+FarFromLinks k (Some (Anchor a)) = a < k.anchors
+FarFromLinks k (Some (Beside side a)) = a < k.anchors
+FarFromLinks k (Some (Link slot)) = ⊥
+FarFromLinks k o = Unit {0}
 
 module _ {X : Type 0} (k : Setting X) where
-  far_at : (q : Place) (slot : ℕ) → slot < k.slots → InRow k (Some q) → index k q ≡ index k (Link slot) → ⊥
+  far_at : (q : Place) (slot : ℕ) → slot < k.slots → FarFromLinks k (Some q) → index k q ≡ index k (Link slot) → ⊥
   far_at (Anchor a) slot lt row e = absurd (let r = row in omega arith)
   far_at (Beside side a) slot lt row e = absurd (let b = beside_inside k side a row in omega arith)
   far_at (Map x) slot lt row e = absurd (omega arith)
@@ -50,11 +50,12 @@ module _ {X : Type 0} (k : Setting X) where
   far_at Counter slot lt row e = absurd (omega arith)
   far_at LogCounter slot lt row e = absurd (omega arith)
 
-  pub far_place : (o : Option Place) (slot : ℕ) → slot < k.slots → InRow k o → (p : Place) → o ≡ Some p → index k p ≡ index k (Link slot) → ⊥
-  far_place o slot lt row p is e = far_at p slot lt (subst (InRow k) is row) e
+  pub far_place : (o : Option Place) (slot : ℕ) → slot < k.slots → FarFromLinks k o → (p : Place) → o ≡ Some p
+      → index k p ≡ index k (Link slot) → ⊥
+  far_place o slot lt row p is e = far_at p slot lt (subst (FarFromLinks k) is row) e
 
 module _ {X : Type 0} (v : View X) where
-  unlinked_else : (m : Move) (n slot : ℕ) (xs : List Item) → OnNoSlot m → is_unlinked slot (item_of v m n ∷ xs) ≡ is_unlinked slot xs
+  unlinked_else : (m : Move) (n slot : ℕ) (xs : List Item) → OffLinks m → is_unlinked slot (item_of v m n ∷ xs) ≡ is_unlinked slot xs
   unlinked_else (Look a) n slot xs h = refl
   unlinked_else (Enter t a) n slot xs h = refl
   unlinked_else (Leave t) n slot xs h = refl
@@ -83,33 +84,35 @@ module _ {X : Type 0} (v : View X) where
   unlinked_else (Sync t x kept) n slot xs h = refl
 
 module _ {X : Type 0} (k : Setting X) (s : State X) (i : ℕ) (v : View X) (so : Sound k s) (at : get_elem? s.views i ≡ some v) where
-  pub in_row : (m : Move) → MayStep k s v m → OnNoSlot m → InRow k (place v m)
-  in_row (Look a) may h = may.allowed
-  in_row (Enter t a) may h = may.allowed.0
-  in_row (Leave t) may h = counted_inside k s i v so at may.pass t may.allowed.0 may.allowed.1
-  in_row Count may h = tt
-  in_row Draw may h = tt
-  in_row (Take t a u) may h = may.allowed.0
-  in_row (Evict t a) may h = may.allowed.0
-  in_row (Raise t to) may h = either_inside k s i v so at may.pass t (λ w. MayRaise w to × StartsRight k s w) (λ f. MayEnd f to) may.allowed.0 may.allowed.1
-  in_row (Doom t) may h = reading_inside k s i v so at may.pass t may.allowed.0 may.allowed.1
-  in_row (LoadSide t side) may h = using_inside k s i v so at may.pass t may.allowed.0 may.allowed.1
-  in_row (StoreSide t side value) may h = writing_inside k s i v so at may.pass t (λ w. (w.is_appending ≡ false) × MayStore k w side value) (let y = may.allowed.0 in omega arith) may.allowed.2
-  in_row (LookMap t word) may h = tt
-  in_row (Own t x) may h = absurd h
-  in_row (Disown t x) may h = tt
-  in_row (LogPiece t x durable) may h = tt
-  in_row (Publish t x link) may h = absurd h
-  in_row (Loosen t x) may h = absurd h
-  in_row (GetLink t x) may h = absurd h
-  in_row (TryTurn t x) may h = tt
-  in_row (EndTurn t x then) may h = tt
-  in_row (CellOut t x) may h = tt
-  in_row (CellIn t x) may h = tt
-  in_row Note may h = tt
-  in_row (Learn note) may h = tt
-  in_row (Write t x outcome) may h = tt
-  in_row (Sync t x kept) may h = tt
+  pub far_from_links : (m : Move) → MayStep k s v m → OffLinks m → FarFromLinks k (place v m)
+  far_from_links (Look a) may h = may.allowed
+  far_from_links (Enter t a) may h = may.allowed.0
+  far_from_links (Leave t) may h = counted_inside k s i v so at may.pass t may.allowed.0 may.allowed.1
+  far_from_links Count may h = tt
+  far_from_links Draw may h = tt
+  far_from_links (Take t a u) may h = may.allowed.0
+  far_from_links (Evict t a) may h = may.allowed.0
+  far_from_links (Raise t to) may h =
+      either_inside k s i v so at may.pass t (λ w. MayRaise w to × StartsRight k s w) (λ f. MayEnd f to) may.allowed.0 may.allowed.1
+  far_from_links (Doom t) may h = reading_inside k s i v so at may.pass t may.allowed.0 may.allowed.1
+  far_from_links (LoadSide t side) may h = using_inside k s i v so at may.pass t may.allowed.0 may.allowed.1
+  far_from_links (StoreSide t side value) may h = writing_inside k s i v so at may.pass t
+      (λ w. (w.is_appending ≡ false) × MayStore k w side value) (let y = may.allowed.0 in omega arith) may.allowed.2
+  far_from_links (LookMap t word) may h = tt
+  far_from_links (Own t x) may h = absurd h
+  far_from_links (Disown t x) may h = tt
+  far_from_links (LogPiece t x durable) may h = tt
+  far_from_links (Publish t x link) may h = absurd h
+  far_from_links (Loosen t x) may h = absurd h
+  far_from_links (GetLink t x) may h = absurd h
+  far_from_links (TryTurn t x) may h = tt
+  far_from_links (EndTurn t x then) may h = tt
+  far_from_links (CellOut t x) may h = tt
+  far_from_links (CellIn t x) may h = tt
+  far_from_links Note may h = tt
+  far_from_links (Learn note) may h = tt
+  far_from_links (Write t x outcome) may h = tt
+  far_from_links (Sync t x kept) may h = tt
 
   -- Of a link word, and of what the pass has of it, where a step is on none.
   module _ (m : Move) (may : MayStep k s v m) (slot : ℕ) (lt : slot < k.slots) where
@@ -120,45 +123,53 @@ module _ {X : Type 0} (k : Setting X) (s : State X) (i : ℕ) (v : View X) (so :
     w = view_after v m (finding k s v m)
 
     -- the step is on no link
-    off_word : InRow k (place v m) → word_in k t.words (Link slot) ≡ word_in k s.words (Link slot)
+    off_word : FarFromLinks k (place v m) → word_in k t.words (Link slot) ≡ word_in k s.words (Link slot)
     off_word row = by_place (place v m) refl
       where
         by_place : (o : Option Place) → place v m ≡ o → word_in k t.words (Link slot) ≡ word_in k s.words (Link slot)
         by_place None is = word_none k s i v so at m may (Link slot) is
         by_place (Some p) is = word_far k s i v so at m may p (Link slot) is (far_place k (place v m) slot lt row p is)
 
-    off_known : InRow k (place v m) → mirror_of k w (Link slot) ≡ mirror_of k v (Link slot)
+    off_known : FarFromLinks k (place v m) → mirror_of k w (Link slot) ≡ mirror_of k v (Link slot)
     off_known row = by_place (place v m) refl
       where
         by_place : (o : Option Place) → place v m ≡ o → mirror_of k w (Link slot) ≡ mirror_of k v (Link slot)
         by_place None is = known_none k s i v so at m may (Link slot) is
         by_place (Some p) is = known_far k s i v so at m may p (Link slot) is (far_place k (place v m) slot lt row p is)
 
-    same_link : is_unlinked slot w.trail ≡ is_unlinked slot v.trail → mirror_of k w (Link slot) ≡ mirror_of k v (Link slot) → link_in k w slot ≡ link_in k v slot
+    same_link : is_unlinked slot w.trail ≡ is_unlinked slot v.trail → mirror_of k w (Link slot) ≡ mirror_of k v (Link slot)
+        → link_in k w slot ≡ link_in k v slot
     same_link e f = ap (λ (b : Bool). cond b 0 (mirror_of k w (Link slot))) e ∙ ap (λ (z : ℕ). cond (is_unlinked slot v.trail) 0 z) f
 
-    off_link : OnNoSlot m → word_in k s.words (Link slot) ≡ link_in k v slot → word_in k t.words (Link slot) ≡ link_in k w slot
-    off_link off h = off_word (in_row m may off) ∙ h ∙ sym (same_link (unlinked_else v m (number_found k s v m) slot v.trail off) (off_known (in_row m may off)))
+    off_link : OffLinks m → word_in k s.words (Link slot) ≡ link_in k v slot → word_in k t.words (Link slot) ≡ link_in k w slot
+    off_link off h = off_word (far_from_links m may off) ∙ h
+        ∙ sym (same_link (unlinked_else v m (number_found k s v m) slot v.trail off) (off_known (far_from_links m may off)))
 
     -- it is on the link of a slot
-    on_link : (x : ℕ) → place v m ≡ Some (Link x) → is_unlinked slot w.trail ≡ cond (x == slot) false (is_unlinked slot v.trail) → word_in k s.words (Link slot) ≡ link_in k v slot → word_in k t.words (Link slot) ≡ link_in k w slot
+    on_link : (x : ℕ) → place v m ≡ Some (Link x) → is_unlinked slot w.trail ≡ cond (x == slot) false (is_unlinked slot v.trail)
+        → word_in k s.words (Link slot) ≡ link_in k v slot → word_in k t.words (Link slot) ≡ link_in k w slot
     on_link x is unlinked h = dite (ℕ_discrete x slot)
         (λ e. word_here k s i v so at m may (Link x) (Link slot) is (ap (λ (z : ℕ). index k (Link z)) e)
-        ∙ sym (ap (λ (b : Bool). cond b 0 (mirror_of k w (Link slot))) (unlinked ∙ ap (λ (b : Bool). cond b false (is_unlinked slot v.trail)) (eq-eqb x slot e)) ∙ known_here k s i v so at m may (Link x) (Link slot) is (ap (λ (z : ℕ). index k (Link z)) e)))
+        ∙ sym (ap (λ (b : Bool). cond b 0 (mirror_of k w (Link slot)))
+        (unlinked ∙ ap (λ (b : Bool). cond b false (is_unlinked slot v.trail)) (eq-eqb x slot e)) ∙ known_here k s i v so at m may (Link x)
+        (Link slot) is (ap (λ (z : ℕ). index k (Link z)) e)))
         (λ ne. word_far k s i v so at m may (Link x) (Link slot) is (λ e. ne (omega arith)) ∙ h
-        ∙ sym (same_link (unlinked ∙ ap (λ (b : Bool). cond b false (is_unlinked slot v.trail)) (ne_eqb x slot ne)) (known_far k s i v so at m may (Link x) (Link slot) is (λ e. ne (omega arith)))))
+        ∙ sym (same_link (unlinked ∙ ap (λ (b : Bool). cond b false (is_unlinked slot v.trail)) (ne_eqb x slot ne))
+        (known_far k s i v so at m may (Link x) (Link slot) is (λ e. ne (omega arith)))))
 
   -- a slot that is found free has no link
   own_link : (t x : ℕ) (may : MayStep k s v (Own t x)) (slot : ℕ) → slot < k.slots → word_in k s.words (Link slot) ≡ link_in k v slot
       → word_in k (after k s i v (Own t x)).words (Link slot) ≡ link_in k (view_after v (Own t x) (finding k s v (Own t x))) slot
   own_link t x may slot lt h = dite (ℕ_discrete x slot)
       (λ e. dite (ℕ_discrete (taken_in (number_found k s v (Own t x)) slot) 0)
-      (λ z. off_word (Own t x) may slot lt tt ∙ free_link e z ∙ sym (let a = eq-eqb x slot e in let b = eq-eqb (taken_in (number_found k s v (Own t x)) slot) 0 z in rw (a, b) refl))
+      (λ z. off_word (Own t x) may slot lt tt ∙ free_link e z ∙ sym
+      (let a = eq-eqb x slot e in let b = eq-eqb (taken_in (number_found k s v (Own t x)) slot) 0 z in rw (a, b) refl))
       (λ nz. still (let a = eq-eqb x slot e in let b = ne_eqb (taken_in (number_found k s v (Own t x)) slot) 0 nz in rw (a, b) refl)))
       (λ ne. still (let a = ne_eqb x slot ne in rw a refl))
     where
       free_link : x ≡ slot → taken_in (number_found k s v (Own t x)) slot ≡ 0 → word_in k s.words (Link slot) ≡ 0
-      free_link e z = unwritten k s so.anchors.shaped so.slots slot lt FreeSpot tt (subst (λ (y : ℕ). taken_in (word_in k s.words (Map (y / 64))) slot ≡ 0) e z)
+      free_link e z = unwritten k s so.anchors.shaped so.slots slot lt FreeSpot tt
+          (subst (λ (y : ℕ). taken_in (word_in k s.words (Map (y / 64))) slot ≡ 0) e z)
 
       still : is_unlinked slot (view_after v (Own t x) (finding k s v (Own t x))).trail ≡ is_unlinked slot v.trail
           → word_in k (after k s i v (Own t x)).words (Link slot) ≡ link_in k (view_after v (Own t x) (finding k s v (Own t x))) slot
@@ -201,9 +212,11 @@ module _ {X : Type 0} (k : Setting X) (s : State X) (i : ℕ) (v : View X) (so :
       ∙ sym (let a = eq-eqb x x refl in let b = eq-eqb (taken_in (number_found k s v (Own t x)) x) 0 z in rw (a, b) refl)
 
   -- nor does one that it loosened
-  pub loosen_fresh : (t x : ℕ) (may : MayStep k s v (Loosen t x)) → word_in k (after k s i v (Loosen t x)).words (Link x) ≡ link_in k (view_after v (Loosen t x) (finding k s v (Loosen t x))) x
+  pub loosen_fresh : (t x : ℕ) (may : MayStep k s v (Loosen t x))
+      → word_in k (after k s i v (Loosen t x)).words (Link x) ≡ link_in k (view_after v (Loosen t x) (finding k s v (Loosen t x))) x
   loosen_fresh t x may = word_here k s i v so at (Loosen t x) may (Link x) (Link x) refl refl
-      ∙ sym (ap (λ (b : Bool). cond b 0 (mirror_of k (view_after v (Loosen t x) (finding k s v (Loosen t x))) (Link x))) (unlinked x v.trail) ∙ known_here k s i v so at (Loosen t x) may (Link x) (Link x) refl refl)
+      ∙ sym (ap (λ (b : Bool). cond b 0 (mirror_of k (view_after v (Loosen t x) (finding k s v (Loosen t x))) (Link x)))
+      (unlinked x v.trail) ∙ known_here k s i v so at (Loosen t x) may (Link x) (Link x) refl refl)
     where
       unlinked : (x : ℕ) (xs : List Item) → cond (x == x) false (is_unlinked x xs) ≡ false
       unlinked x xs = let b = eq-eqb x x refl in rw b refl

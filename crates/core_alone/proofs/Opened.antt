@@ -26,22 +26,27 @@ all_free (suc n) (suc t) x e = all_free n t x e
 
 new_at : {X : Type 0} → (k : Setting X) (n from i : ℕ) (v : View X) → get_elem? (new_views k from n) i ≡ some v → IsNew v
 new_at k zero from i v e = absurd (some-ne-none v (sym e))
-new_at k (suc n) from zero v e = subst IsNew (some-injective (new_view k from) v e) record { mirror = refl; trail = refl; tabs = λ t x h. all_free 9 t x h }
+new_at k (suc n) from zero v e =
+    subst IsNew (some-injective (new_view k from) v e) record { mirror = refl; trail = refl; tabs = λ t x h. all_free 9 t x h }
 new_at k (suc n) from (suc i) v e = new_at k n (from + 1) i v e
 
-module _ {X : Type 0} (left : ℕ → ℕ → Bool) (k : Setting X) (s : State X) (words : s.words ≡ k.words) (views : s.views ≡ new_views k 0 k.passes) where
+module _ {X : Type 0} (left : ℕ → ℕ → Bool) (k : Setting X) (s : State X) (words : s.words ≡ k.words)
+    (views : s.views ≡ new_views k 0 k.passes) where
   bare : (i : ℕ) (v : View X) → get_elem? s.views i ≡ some v → IsNew v
   bare i v at = new_at k k.passes 0 i v (subst (λ (z : List (View X)). get_elem? z i ≡ some v) views at)
 
   same : (v : View X) → v.mirror ≡ [] → (q : Place) → word_in k s.words q ≡ mirror_of k v q
-  same v none q = ap (λ (ws : List ℕ). word_in k ws q) words ∙ sym (ap (Rattle.core_model.specs.Deeds.mirrored k (Rattle.core_model.specs.Layout.index k q)) none)
+  same v none q = ap (λ (ws : List ℕ). word_in k ws q) words
+      ∙ sym (ap (Rattle.core_model.specs.Deeds.mirrored k (Rattle.core_model.specs.Layout.index k q)) none)
 
   linked : (v : View X) → IsNew v → (slot : ℕ) → word_in k s.words (Link slot) ≡ link_in k v slot
-  linked v n slot = same v n.mirror (Link slot) ∙ sym (ap (λ (b : Bool). cond b 0 (mirror_of k v (Link slot))) (ap (is_unlinked slot) n.trail))
+  linked v n slot = same v n.mirror (Link slot)
+      ∙ sym (ap (λ (b : Bool). cond b 0 (mirror_of k v (Link slot))) (ap (is_unlinked slot) n.trail))
 
   pub alone_new : StandsAlone left k s
   alone_new = record {
-    apart = λ i j t a u tab uat owns is is_at. absurd (subst (λ (z : Tab X). IsTabAt z a) ((bare j is.view is.at).tabs t tab is.there) is_at);
+    apart =
+        λ i j t a u tab uat owns is is_at. absurd (subst (λ (z : Tab X). IsTabAt z a) ((bare j is.view is.at).tabs t tab is.there) is_at);
     each = λ i v at tabs. let n = bare i v at in record {
       word = λ a lt is. same v n.mirror (Anchor a);
       sides = λ side a lt is. same v n.mirror (Beside side a);

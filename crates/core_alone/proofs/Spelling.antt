@@ -34,7 +34,8 @@ use Rattle.core_alone.proofs.Inside.{chained_inside, tab_slot_inside}
 abbrev pub links_in : {X : Type 0} → Setting X → View X → ℕ → ℕ
 links_in k v slot = told k.slots slot (link_in k v slot)
 
-module _ {X : Type 0} (left : ℕ → ℕ → Bool) (k : Setting X) (s : State X) (i : ℕ) (v : View X) (so : Sound k s) (at : get_elem? s.views i ≡ some v) (some_tabs : v.tabs ≢ []) (alone : StandsAlone left k s)
+module _ {X : Type 0} (left : ℕ → ℕ → Bool) (k : Setting X) (s : State X) (i : ℕ) (v : View X) (so : Sound k s)
+    (at : get_elem? s.views i ≡ some v) (some_tabs : v.tabs ≢ []) (alone : StandsAlone left k s)
     (a : ℕ) (lt : a < k.anchors) (is : left v.pass a ≡ true) where
   mine : KnowsAlone left k s v
   mine = alone.each i v at some_tabs
@@ -52,11 +53,13 @@ module _ {X : Type 0} (left : ℕ → ℕ → Bool) (k : Setting X) (s : State X
   stands = so.slots.stand a lt
 
   link_is : (slot : ℕ) → Contains (c.slots ++ c.tail) slot → links_in k v slot ≡ (slot_words k s.words).link slot
-  link_is slot h = let inside = chained_inside k s so a slot lt h in told_in k.slots slot _ inside ∙ sym (mine.links a slot lt is h) ∙ sym (told_in k.slots slot _ inside)
+  link_is slot h = let inside = chained_inside k s so a slot lt h in told_in k.slots slot _ inside ∙ sym (mine.links a slot lt is h)
+      ∙ sym (told_in k.slots slot _ inside)
 
   -- the tail of a chain has no link
   unwritten_tail : (x : ℕ) → Contains c.tail x → (slot_words k s.words).link x ≡ 0
-  unwritten_tail x m = tail_unwritten k.anchors (slot_words k s.words) s.chains s.views so.slots x a (let many = so.anchors.shaped.chains in omega arith) (contains_times x c.tail m)
+  unwritten_tail x m = tail_unwritten k.anchors (slot_words k s.words) s.chains s.views so.slots x a
+      (let many = so.anchors.shaped.chains in omega arith) (contains_times x c.tail m)
 
   -- While it grows, the slot that its last link names is reserved by the tab of this pass that writes there.
   by_writer : (x : ℕ) → c.end ≡ Next x → is_written (epoch_of (word s a)) ≡ true → links_in k v x ≡ 0
@@ -70,9 +73,11 @@ module _ {X : Type 0} (left : ℕ → ℕ → Bool) (k : Setting X) (s : State X
       here = alone.apart i w.i w.t a v (Writing w.writer) at (some_tabs, is) w.tab w.anchor_is
 
       own : get_elem? v.tabs w.t ≡ some (Writing w.writer)
-      own = subst (λ (u : View X). get_elem? u.tabs w.t ≡ some (Writing w.writer)) (some-injective w.tab.view v (sym w.tab.at ∙ ap (get_elem? s.views) here ∙ at)) w.tab.there
+      own = subst (λ (u : View X). get_elem? u.tabs w.t ≡ some (Writing w.writer))
+          (some-injective w.tab.view v (sym w.tab.at ∙ ap (get_elem? s.views) here ∙ at)) w.tab.there
 
-      holds : Rattle.core_model.specs.Slots.WriterHolds ((slot_words k s.words).beside w.writer.anchor) (chain_of s w.writer.anchor) w.writer
+      holds : Rattle.core_model.specs.Slots.WriterHolds ((slot_words k s.words).beside w.writer.anchor)
+          (chain_of s w.writer.anchor) w.writer
       holds = so.slots.tabs w.i w.tab.view w.tab.at w.t (Writing w.writer) w.tab.there
 
       end_is : w.writer.end ≡ Next x
@@ -82,14 +87,16 @@ module _ {X : Type 0} (left : ℕ → ℕ → Bool) (k : Setting X) (s : State X
       tied e published reserved same h = subst (λ (z : LinkOf). Tied z published reserved) same h
 
       reserved : Contains w.writer.reserved x
-      reserved = subst (λ (z : List ℕ). Contains z x) (sym (tied w.writer.end w.writer.published w.writer.reserved end_is holds.tied)) (0, omega arith, refl)
+      reserved = subst (λ (z : List ℕ). Contains z x) (sym (tied w.writer.end w.writer.published w.writer.reserved end_is holds.tied))
+          (0, omega arith, refl)
 
       inside : x < k.slots
       inside = tab_slot_inside k s so i v at w.t x (Writing w.writer) own reserved
 
   end_unwritten : (x : ℕ) → c.end ≡ Next x → 2 ≤ stage_at → stage_at ≤ 4 → links_in k v x ≡ 0
   end_unwritten x e least most = dite (ℕ_discrete stage_at 4)
-      (λ four. let there = in_tail (stands.tails ∙ (let b = eq-eqb _ 4 (stage_is ∙ four) in rw b refl)) in link_is x (Contains-append_right c.slots c.tail x there) ∙ unwritten_tail x there)
+      (λ four. let there = in_tail (stands.tails ∙ (let b = eq-eqb _ 4 (stage_is ∙ four) in rw b refl)) in link_is x
+      (Contains-append_right c.slots c.tail x there) ∙ unwritten_tail x there)
       (λ nf. dite (ℕ_discrete stage_at 2)
       (λ two. by_writer x e (let f = ne_eqb stage_at 1 (λ h. omega arith) in let b = eq-eqb stage_at 2 two in rw (f, b) refl))
       (λ nt. absurd (no_next (sym e ∙ stands.closed (stage_is ∙ three nf nt)))))
@@ -111,12 +118,16 @@ module _ {X : Type 0} (left : ℕ → ℕ → Bool) (k : Setting X) (s : State X
   -- What the pass has spells the chain.
   pub chain_spelled : 2 ≤ stage_at → stage_at ≤ 4 → IsSpelled (has_word k v (Beside Start a)) (links_in k v) c.slots c.end
   chain_spelled least most = record {
-    starts = sym (mine.sides Start a lt is) ∙ sym (told_in k.anchors a _ lt) ∙ stands.starts (let e = stage_is in omega arith) (let e = stage_is in omega arith);
-    spelled = spells_alike (slot_words k s.words).link (links_in k v) c.slots c.end (λ j h. link_is j (Contains-append_left c.slots c.tail j h)) stands.spelled;
+    starts = sym (mine.sides Start a lt is) ∙ sym (told_in k.anchors a _ lt)
+        ∙ stands.starts (let e = stage_is in omega arith) (let e = stage_is in omega arith);
+    spelled = spells_alike (slot_words k s.words).link (links_in k v) c.slots c.end
+        (λ j h. link_is j (Contains-append_left c.slots c.tail j h)) stands.spelled;
     fits = stands.fits;
     ends = ends least most c.end refl;
   }
 
   -- And nothing else: slots that it spells are those of the chain.
-  pub chain_is : (slots : List ℕ) (end : LinkOf) → IsSpelled (has_word k v (Beside Start a)) (links_in k v) slots end → 2 ≤ stage_at → stage_at ≤ 4 → (slots ≡ c.slots) × (end ≡ c.end)
-  chain_is slots end h least most = spelled_once (links_in k v) (has_word k v (Beside Start a)) slots c.slots end c.end h (chain_spelled least most)
+  pub chain_is : (slots : List ℕ) (end : LinkOf) → IsSpelled (has_word k v (Beside Start a)) (links_in k v) slots end → 2 ≤ stage_at
+      → stage_at ≤ 4 → (slots ≡ c.slots) × (end ≡ c.end)
+  chain_is slots end h least most =
+      spelled_once (links_in k v) (has_word k v (Beside Start a)) slots c.slots end c.end h (chain_spelled least most)

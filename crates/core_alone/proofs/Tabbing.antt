@@ -44,205 +44,209 @@ rest_contains (y ∷ ys) x c = (suc c.0, (let z = c.1 in omega arith), c.2)
 
 module _ {X : Type 0} (A : ℕ → Type 0) (B : ℕ → ℕ → Type 0) where
   -- the tab is at such an anchor, with such slots
-  abbrev pub Fine : Tab X → Type 0
-  Fine Free = Unit {0}
-  Fine (Retreating a) = A a
-  Fine (Reading r) = A r.anchor
-  Fine (Writing w) = A w.anchor × ((slot : ℕ) → Contains w.reserved slot → B w.anchor slot)
-  Fine (Last a) = A a
-  Fine (Freeing f) = A f.anchor × ((slot : ℕ) → Contains f.rest slot → B f.anchor slot)
+  abbrev pub TabHas : Tab X → Type 0
+  TabHas Free = Unit {0}
+  TabHas (Retreating a) = A a
+  TabHas (Reading r) = A r.anchor
+  TabHas (Writing w) = A w.anchor × ((slot : ℕ) → Contains w.reserved slot → B w.anchor slot)
+  TabHas (Last a) = A a
+  TabHas (Freeing f) = A f.anchor × ((slot : ℕ) → Contains f.rest slot → B f.anchor slot)
 
-  either_fine : (b : Bool) (x y : Tab X) → Fine x → Fine y → Fine (cond b x y)
-  either_fine true x y h j = h
-  either_fine false x y h j = j
+  either_has : (b : Bool) (x y : Tab X) → TabHas x → TabHas y → TabHas (cond b x y)
+  either_has true x y h j = h
+  either_has false x y h j = j
 
 -- a slot of the chain of an anchor
 abbrev pub Chained : (B : ℕ → ℕ → Type 0) → Chain → ℕ → Type 0
 Chained B c a = (slot : ℕ) → Contains (c.slots ++ c.tail) slot → B a slot
 
 module _ (X : Type 0) (A : ℕ → Type 0) (B : ℕ → ℕ → Type 0) where
-  freer_fine : (a n : ℕ) (b : Bool) (c : Chain) → A a → Chained B c a → Fine {X = X} A B (Freeing (freer_of a b n c))
-  freer_fine a n b c h g = (h, g)
+  freer_has : (a n : ℕ) (b : Bool) (c : Chain) → A a → Chained B c a → TabHas {X = X} A B (Freeing (freer_of a b n c))
+  freer_has a n b c h g = (h, g)
 
-  writer_fine : (a version : ℕ) → A a → Fine {X = X} A B (Writing (writer_of a version))
-  writer_fine a version h = (h, λ slot c. absurd (contains_none slot c))
+  writer_has : (a version : ℕ) → A a → TabHas {X = X} A B (Writing (writer_of a version))
+  writer_has a version h = (h, λ slot c. absurd (contains_none slot c))
 
-  entered_fine : (a e : ℕ) → A a → Fine {X = X} A B (entered a e)
-  entered_fine a e h = either_fine A B (is_readable e) (Reading record { anchor = a; version = version_of e; place = 0; slot = None; found = NotWritten; turn = NoTurn }) (Retreating a) h h
+  entered_has : (a e : ℕ) → A a → TabHas {X = X} A B (entered a e)
+  entered_has a e h = either_has A B (is_readable e)
+      (Reading record { anchor = a; version = version_of e; place = 0; slot = None; found = NotWritten; turn = NoTurn }) (Retreating a) h h
 
-  left_fine : (a n : ℕ) → A a → Fine {X = X} A B (left_tab a n)
-  left_fine a n h = either_fine A B (is_left_over n) (Last a) Free h tt
+  left_has : (a n : ℕ) → A a → TabHas {X = X} A B (left_tab a n)
+  left_has a n h = either_has A B (is_left_over n) (Last a) Free h tt
 
 module _ {X : Type 0} (A : ℕ → Type 0) (B : ℕ → ℕ → Type 0) where
-  counted_fine : (n : ℕ) (x : Tab X) → is_counted x ≡ true → Fine A B x → Fine {X = X} A B (left_tab (anchor_of x) n)
-  counted_fine n Free c h = cc
-  counted_fine n (Retreating a) c h = left_fine X A B a n h
-  counted_fine n (Reading r) c h = left_fine X A B r.anchor n h
-  counted_fine n (Writing w) c h = cc
-  counted_fine n (Last a) c h = cc
-  counted_fine n (Freeing f) c h = cc
+  counted_has : (n : ℕ) (x : Tab X) → is_counted x ≡ true → TabHas A B x → TabHas {X = X} A B (left_tab (anchor_of x) n)
+  counted_has n Free c h = cc
+  counted_has n (Retreating a) c h = left_has X A B a n h
+  counted_has n (Reading r) c h = left_has X A B r.anchor n h
+  counted_has n (Writing w) c h = cc
+  counted_has n (Last a) c h = cc
+  counted_has n (Freeing f) c h = cc
 
-  raised_fine : (to : Stage) (n : ℕ) (x : Tab X) → (P : Writer X → Type 0) (Q : Freer X → Type 0) → OfWriter P x ⊎ OfFreer Q x → Fine A B x → Fine {X = X} A B (raised_tab x to n)
-  raised_fine to n Free P Q o h = absurd (⊎_elim (λ (z : ⊥). z) (λ (z : ⊥). z) o)
-  raised_fine to n (Retreating b) P Q o h = absurd (⊎_elim (λ (z : ⊥). z) (λ (z : ⊥). z) o)
-  raised_fine to n (Reading r) P Q o h = absurd (⊎_elim (λ (z : ⊥). z) (λ (z : ⊥). z) o)
-  raised_fine to n (Last b) P Q o h = absurd (⊎_elim (λ (z : ⊥). z) (λ (z : ⊥). z) o)
-  raised_fine to n (Freeing f) P Q o h = left_fine X A B f.anchor n h.0
-  raised_fine Empty n (Writing w) P Q o h = left_fine X A B w.anchor n h.0
-  raised_fine Taken n (Writing w) P Q o h = left_fine X A B w.anchor n h.0
-  raised_fine Closed n (Writing w) P Q o h = left_fine X A B w.anchor n h.0
-  raised_fine Halted n (Writing w) P Q o h = left_fine X A B w.anchor n h.0
-  raised_fine FreeingStage n (Writing w) P Q o h = left_fine X A B w.anchor n h.0
-  raised_fine Gone n (Writing w) P Q o h = left_fine X A B w.anchor n h.0
-  raised_fine Appending n (Writing w) P Q o h = h
+  raised_has : (to : Stage) (n : ℕ) (x : Tab X) → (P : Writer X → Type 0) (Q : Freer X → Type 0) → OfWriter P x ⊎ OfFreer Q x → TabHas A B x
+      → TabHas {X = X} A B (raised_tab x to n)
+  raised_has to n Free P Q o h = absurd (⊎_elim (λ (z : ⊥). z) (λ (z : ⊥). z) o)
+  raised_has to n (Retreating b) P Q o h = absurd (⊎_elim (λ (z : ⊥). z) (λ (z : ⊥). z) o)
+  raised_has to n (Reading r) P Q o h = absurd (⊎_elim (λ (z : ⊥). z) (λ (z : ⊥). z) o)
+  raised_has to n (Last b) P Q o h = absurd (⊎_elim (λ (z : ⊥). z) (λ (z : ⊥). z) o)
+  raised_has to n (Freeing f) P Q o h = left_has X A B f.anchor n h.0
+  raised_has Empty n (Writing w) P Q o h = left_has X A B w.anchor n h.0
+  raised_has Taken n (Writing w) P Q o h = left_has X A B w.anchor n h.0
+  raised_has Closed n (Writing w) P Q o h = left_has X A B w.anchor n h.0
+  raised_has Halted n (Writing w) P Q o h = left_has X A B w.anchor n h.0
+  raised_has FreeingStage n (Writing w) P Q o h = left_has X A B w.anchor n h.0
+  raised_has Gone n (Writing w) P Q o h = left_has X A B w.anchor n h.0
+  raised_has Appending n (Writing w) P Q o h = h
 
-  loaded_fine : (side : Side) (n : ℕ) (x : Tab X) → Fine A B x → Fine A B (loaded x side n)
-  loaded_fine side n Free h = tt
-  loaded_fine side n (Retreating b) h = h
-  loaded_fine Key0 n (Reading r) h = h
-  loaded_fine Key1 n (Reading r) h = h
-  loaded_fine Offer n (Reading r) h = h
-  loaded_fine Start n (Reading r) h = h
-  loaded_fine side n (Writing w) h = h
-  loaded_fine side n (Last b) h = h
-  loaded_fine side n (Freeing f) h = h
+  loaded_has : (side : Side) (n : ℕ) (x : Tab X) → TabHas A B x → TabHas A B (loaded x side n)
+  loaded_has side n Free h = tt
+  loaded_has side n (Retreating b) h = h
+  loaded_has Key0 n (Reading r) h = h
+  loaded_has Key1 n (Reading r) h = h
+  loaded_has Offer n (Reading r) h = h
+  loaded_has Start n (Reading r) h = h
+  loaded_has side n (Writing w) h = h
+  loaded_has side n (Last b) h = h
+  loaded_has side n (Freeing f) h = h
 
-  stores_fine : (side : Side) (n : ℕ) (x : Tab X) → Fine A B x → Fine A B (stores x side n)
-  stores_fine side n Free h = tt
-  stores_fine side n (Retreating b) h = h
-  stores_fine side n (Reading r) h = h
-  stores_fine Key0 n (Writing w) h = h
-  stores_fine Key1 n (Writing w) h = h
-  stores_fine Offer n (Writing w) h = h
-  stores_fine Start n (Writing w) h = h
-  stores_fine side n (Last b) h = h
-  stores_fine side n (Freeing f) h = h
+  stores_has : (side : Side) (n : ℕ) (x : Tab X) → TabHas A B x → TabHas A B (stores x side n)
+  stores_has side n Free h = tt
+  stores_has side n (Retreating b) h = h
+  stores_has side n (Reading r) h = h
+  stores_has Key0 n (Writing w) h = h
+  stores_has Key1 n (Writing w) h = h
+  stores_has Offer n (Writing w) h = h
+  stores_has Start n (Writing w) h = h
+  stores_has side n (Last b) h = h
+  stores_has side n (Freeing f) h = h
 
   -- a slot more is reserved, of which B holds wherever it is
-  reserves_fine : (slot : ℕ) → ((a : ℕ) → B a slot) → (x : Tab X) → Fine A B x → Fine A B (reserves x slot)
-  reserves_fine slot new Free h = tt
-  reserves_fine slot new (Retreating b) h = h
-  reserves_fine slot new (Reading r) h = h
-  reserves_fine slot new (Writing w) h = (h.0, λ y c. ⊎_elim (λ q. h.1 y q) (λ q. one_more y q) (Contains-append_cases w.reserved (slot ∷ []) y c))
+  reserves_has : (slot : ℕ) → ((a : ℕ) → B a slot) → (x : Tab X) → TabHas A B x → TabHas A B (reserves x slot)
+  reserves_has slot new Free h = tt
+  reserves_has slot new (Retreating b) h = h
+  reserves_has slot new (Reading r) h = h
+  reserves_has slot new (Writing w) h =
+      (h.0, λ y c. ⊎_elim (λ q. h.1 y q) (λ q. one_more y q) (Contains-append_cases w.reserved (slot ∷ []) y c))
     where
       one_more : (y : ℕ) → Contains (slot ∷ []) y → B w.anchor y
       one_more y (zero, lt, e) = subst (B w.anchor) e (new w.anchor)
       one_more y (suc j, lt, e) = absurd (omega arith)
-  reserves_fine slot new (Last b) h = h
-  reserves_fine slot new (Freeing f) h = h
+  reserves_has slot new (Last b) h = h
+  reserves_has slot new (Freeing f) h = h
 
-  gives_back_fine : (slot : ℕ) (x : Tab X) → Fine A B x → Fine A B (gives_back x slot)
-  gives_back_fine slot Free h = tt
-  gives_back_fine slot (Retreating b) h = h
-  gives_back_fine slot (Reading r) h = h
-  gives_back_fine slot (Writing w) h = (h.0, λ y c. h.1 y ((in_without slot y w.reserved c).0))
-  gives_back_fine slot (Last b) h = h
-  gives_back_fine slot (Freeing f) h = either_fine A B ((length f.rest == 0) && (length (without slot f.loose) == 0) && not f.is_freeing) Free (Freeing record f { loose = without slot f.loose }) tt h
+  gives_back_has : (slot : ℕ) (x : Tab X) → TabHas A B x → TabHas A B (gives_back x slot)
+  gives_back_has slot Free h = tt
+  gives_back_has slot (Retreating b) h = h
+  gives_back_has slot (Reading r) h = h
+  gives_back_has slot (Writing w) h = (h.0, λ y c. h.1 y ((in_without slot y w.reserved c).0))
+  gives_back_has slot (Last b) h = h
+  gives_back_has slot (Freeing f) h = either_has A B ((length f.rest == 0) && (length (without slot f.loose) == 0) && not f.is_freeing) Free
+      (Freeing record f { loose = without slot f.loose }) tt h
 
-  searches_fine : (word n : ℕ) (x : Tab X) → Fine A B x → Fine A B (searches x word n)
-  searches_fine word n Free h = tt
-  searches_fine word n (Retreating b) h = h
-  searches_fine word n (Reading r) h = h
-  searches_fine word n (Writing w) h = h
-  searches_fine word n (Last b) h = h
-  searches_fine word n (Freeing f) h = h
+  searches_has : (word n : ℕ) (x : Tab X) → TabHas A B x → TabHas A B (searches x word n)
+  searches_has word n Free h = tt
+  searches_has word n (Retreating b) h = h
+  searches_has word n (Reading r) h = h
+  searches_has word n (Writing w) h = h
+  searches_has word n (Last b) h = h
+  searches_has word n (Freeing f) h = h
 
-  misses_fine : (slot n : ℕ) (x : Tab X) → Fine A B x → Fine A B (misses x slot n)
-  misses_fine slot n Free h = tt
-  misses_fine slot n (Retreating b) h = h
-  misses_fine slot n (Reading r) h = h
-  misses_fine slot n (Writing w) h = h
-  misses_fine slot n (Last b) h = h
-  misses_fine slot n (Freeing f) h = h
+  misses_has : (slot n : ℕ) (x : Tab X) → TabHas A B x → TabHas A B (misses x slot n)
+  misses_has slot n Free h = tt
+  misses_has slot n (Retreating b) h = h
+  misses_has slot n (Reading r) h = h
+  misses_has slot n (Writing w) h = h
+  misses_has slot n (Last b) h = h
+  misses_has slot n (Freeing f) h = h
 
-  logs_fine : (slot : ℕ) (durable : Bool) (x : Tab X) → Fine A B x → Fine A B (logs x slot durable)
-  logs_fine slot durable Free h = tt
-  logs_fine slot durable (Retreating b) h = h
-  logs_fine slot durable (Reading r) h = h
-  logs_fine slot durable (Writing w) h = h
-  logs_fine slot durable (Last b) h = h
-  logs_fine slot durable (Freeing f) h = h
+  logs_has : (slot : ℕ) (durable : Bool) (x : Tab X) → TabHas A B x → TabHas A B (logs x slot durable)
+  logs_has slot durable Free h = tt
+  logs_has slot durable (Retreating b) h = h
+  logs_has slot durable (Reading r) h = h
+  logs_has slot durable (Writing w) h = h
+  logs_has slot durable (Last b) h = h
+  logs_has slot durable (Freeing f) h = h
 
-  publishes_fine : (slot : ℕ) (link : Link) (x : Tab X) → Fine A B x → Fine A B (publishes x slot link)
-  publishes_fine slot link Free h = tt
-  publishes_fine slot link (Retreating b) h = h
-  publishes_fine slot link (Reading r) h = h
-  publishes_fine slot link (Writing w) h = (h.0, λ y c. h.1 y (rest_contains w.reserved y c))
-  publishes_fine slot link (Last b) h = h
-  publishes_fine slot link (Freeing f) h = h
+  publishes_has : (slot : ℕ) (link : Link) (x : Tab X) → TabHas A B x → TabHas A B (publishes x slot link)
+  publishes_has slot link Free h = tt
+  publishes_has slot link (Retreating b) h = h
+  publishes_has slot link (Reading r) h = h
+  publishes_has slot link (Writing w) h = (h.0, λ y c. h.1 y (rest_contains w.reserved y c))
+  publishes_has slot link (Last b) h = h
+  publishes_has slot link (Freeing f) h = h
 
-  loosens_fine : (slots : List ℕ) (x : Tab X) → Fine A B x → Fine A B (loosens x slots)
-  loosens_fine slots Free h = tt
-  loosens_fine slots (Retreating b) h = h
-  loosens_fine slots (Reading r) h = h
-  loosens_fine slots (Writing w) h = h
-  loosens_fine slots (Last b) h = h
-  loosens_fine slots (Freeing f) h = (h.0, λ y c. h.1 y (rest_contains f.rest y c))
+  loosens_has : (slots : List ℕ) (x : Tab X) → TabHas A B x → TabHas A B (loosens x slots)
+  loosens_has slots Free h = tt
+  loosens_has slots (Retreating b) h = h
+  loosens_has slots (Reading r) h = h
+  loosens_has slots (Writing w) h = h
+  loosens_has slots (Last b) h = h
+  loosens_has slots (Freeing f) h = (h.0, λ y c. h.1 y (rest_contains f.rest y c))
 
-  looks_fine : (n : ℕ) (x : Tab X) → Fine A B x → Fine A B (looks x n)
-  looks_fine n Free h = tt
-  looks_fine n (Retreating b) h = h
-  looks_fine n (Reading r) h = h
-  looks_fine n (Writing w) h = h
-  looks_fine n (Last b) h = h
-  looks_fine n (Freeing f) h = h
+  looks_has : (n : ℕ) (x : Tab X) → TabHas A B x → TabHas A B (looks x n)
+  looks_has n Free h = tt
+  looks_has n (Retreating b) h = h
+  looks_has n (Reading r) h = h
+  looks_has n (Writing w) h = h
+  looks_has n (Last b) h = h
+  looks_has n (Freeing f) h = h
 
-  tries_fine : (slot n : ℕ) (cell : Option (Cell X)) (x : Tab X) → Fine A B x → Fine A B (tries x slot n cell)
-  tries_fine slot n cell Free h = tt
-  tries_fine slot n cell (Retreating b) h = h
-  tries_fine slot n cell (Reading r) h = h
-  tries_fine slot n cell (Writing w) h = h
-  tries_fine slot n cell (Last b) h = h
-  tries_fine slot n cell (Freeing f) h = h
+  tries_has : (slot n : ℕ) (cell : Option (Cell X)) (x : Tab X) → TabHas A B x → TabHas A B (tries x slot n cell)
+  tries_has slot n cell Free h = tt
+  tries_has slot n cell (Retreating b) h = h
+  tries_has slot n cell (Reading r) h = h
+  tries_has slot n cell (Writing w) h = h
+  tries_has slot n cell (Last b) h = h
+  tries_has slot n cell (Freeing f) h = h
 
-  ends_fine : (then : Then) (x : Tab X) → Fine A B x → Fine A B (ends x then)
-  ends_fine then Free h = tt
-  ends_fine then (Retreating b) h = h
-  ends_fine GoesOn (Reading r) h = h
-  ends_fine Stays (Reading r) h = h
-  ends_fine Wiped (Reading r) h = h
-  ends_fine then (Writing w) h = h
-  ends_fine then (Last b) h = h
-  ends_fine then (Freeing f) h = h
+  ends_has : (then : Then) (x : Tab X) → TabHas A B x → TabHas A B (ends x then)
+  ends_has then Free h = tt
+  ends_has then (Retreating b) h = h
+  ends_has GoesOn (Reading r) h = h
+  ends_has Stays (Reading r) h = h
+  ends_has Wiped (Reading r) h = h
+  ends_has then (Writing w) h = h
+  ends_has then (Last b) h = h
+  ends_has then (Freeing f) h = h
 
-  moves_fine : (out : Bool) (x : Tab X) → Fine A B x → Fine A B (moves x out)
-  moves_fine out Free h = tt
-  moves_fine out (Retreating b) h = h
-  moves_fine out (Reading r) h = h
-  moves_fine out (Writing w) h = h
-  moves_fine out (Last b) h = h
-  moves_fine out (Freeing f) h = h
+  moves_has : (out : Bool) (x : Tab X) → TabHas A B x → TabHas A B (moves x out)
+  moves_has out Free h = tt
+  moves_has out (Retreating b) h = h
+  moves_has out (Reading r) h = h
+  moves_has out (Writing w) h = h
+  moves_has out (Last b) h = h
+  moves_has out (Freeing f) h = h
 
-  rewrites_fine : (kept settled : Bool) (cell : Option (Cell X)) (x : Tab X) → Fine A B x → Fine A B (rewrites x kept settled cell)
-  rewrites_fine kept settled cell Free h = tt
-  rewrites_fine kept settled cell (Retreating b) h = h
-  rewrites_fine kept settled cell (Reading r) h = h
-  rewrites_fine kept settled cell (Writing w) h = h
-  rewrites_fine kept settled cell (Last b) h = h
-  rewrites_fine kept settled cell (Freeing f) h = h
+  rewrites_has : (kept settled : Bool) (cell : Option (Cell X)) (x : Tab X) → TabHas A B x → TabHas A B (rewrites x kept settled cell)
+  rewrites_has kept settled cell Free h = tt
+  rewrites_has kept settled cell (Retreating b) h = h
+  rewrites_has kept settled cell (Reading r) h = h
+  rewrites_has kept settled cell (Writing w) h = h
+  rewrites_has kept settled cell (Last b) h = h
+  rewrites_has kept settled cell (Freeing f) h = h
 
-  abbrev pub AllFine : List (Tab X) → Type 0
-  AllFine tabs = (t : ℕ) (x : Tab X) → get_elem? tabs t ≡ some x → Fine A B x
+  abbrev pub TabsHave : List (Tab X) → Type 0
+  TabsHave tabs = (t : ℕ) (x : Tab X) → get_elem? tabs t ≡ some x → TabHas A B x
 
-  pub fine_there : (tabs : List (Tab X)) (t : ℕ) → AllFine tabs → Fine A B (get_or tabs t Free)
-  fine_there [] t h = tt
-  fine_there (x ∷ xs) zero h = h 0 x refl
-  fine_there (x ∷ xs) (suc t) h = fine_there xs t (λ u y e. h (suc u) y e)
+  pub has_there : (tabs : List (Tab X)) (t : ℕ) → TabsHave tabs → TabHas A B (get_or tabs t Free)
+  has_there [] t h = tt
+  has_there (x ∷ xs) zero h = h 0 x refl
+  has_there (x ∷ xs) (suc t) h = has_there xs t (λ u y e. h (suc u) y e)
 
-  pub one_fine : (tabs : List (Tab X)) → AllFine tabs → (t : ℕ) (y : Tab X) → Fine A B y → AllFine (set tabs t y)
-  one_fine tabs g t y h u x e = ⊎_elim
-      (λ (q : (u ≡ t) × (y ≡ x)). subst (λ (z : Tab X). Fine A B z) q.1 h)
+  pub one_has : (tabs : List (Tab X)) → TabsHave tabs → (t : ℕ) (y : Tab X) → TabHas A B y → TabsHave (set tabs t y)
+  one_has tabs g t y h u x e = ⊎_elim
+      (λ (q : (u ≡ t) × (y ≡ x)). subst (λ (z : Tab X). TabHas A B z) q.1 h)
       (λ (q : (u ≢ t) × (get_elem? tabs u ≡ some x)). g u x q.1)
       (at_set tabs t u y x e)
 
-  all_either : (b : Bool) (xs ys : List (Tab X)) → AllFine xs → AllFine ys → AllFine (cond b xs ys)
+  all_either : (b : Bool) (xs ys : List (Tab X)) → TabsHave xs → TabsHave ys → TabsHave (cond b xs ys)
   all_either true xs ys g h = g
   all_either false xs ys g h = h
 
   -- The tabs of a pass after a step: what a step comes to is so, a slot that it reserves is, and so are those of a chain that it takes.
-  module _ (k : Setting X) (s : State X) (v : View X) (all : AllFine v.tabs) where
-    fine : (t : ℕ) → Fine A B (tab_at v t)
-    fine t = fine_there v.tabs t all
+  module _ (k : Setting X) (s : State X) (v : View X) (all : TabsHave v.tabs) where
+    has_at : (t : ℕ) → TabHas A B (tab_at v t)
+    has_at t = has_there v.tabs t all
 
     -- what has to hold of what comes anew
     abbrev pub News : Move → Type 0
@@ -254,49 +258,73 @@ module _ {X : Type 0} (A : ℕ → Type 0) (B : ℕ → ℕ → Type 0) where
     News m = Unit {0}
 
     -- a slot whose bit was clear is reserved, and one whose bit was set is not
-    owns_fine : (n slot t : ℕ) → (taken_in n slot ≡ 0 → (a : ℕ) → B a slot) → Fine A B (cond (taken_in n slot == 0) (reserves (tab_at v t) slot) (misses (tab_at v t) slot n))
-    owns_fine n slot t new = dite (ℕ_discrete (taken_in n slot) 0)
-        (λ e. subst (λ (b : Bool). Fine A B (cond b (reserves (tab_at v t) slot) (misses (tab_at v t) slot n))) (sym (eq-eqb (taken_in n slot) 0 e)) (reserves_fine slot (new e) (tab_at v t) (fine t)))
-        (λ ne. subst (λ (b : Bool). Fine A B (cond b (reserves (tab_at v t) slot) (misses (tab_at v t) slot n))) (sym (ne_eqb (taken_in n slot) 0 ne)) (misses_fine slot n (tab_at v t) (fine t)))
+    owns_has : (n slot t : ℕ) → (taken_in n slot ≡ 0 → (a : ℕ) → B a slot)
+        → TabHas A B (cond (taken_in n slot == 0) (reserves (tab_at v t) slot) (misses (tab_at v t) slot n))
+    owns_has n slot t new = dite (ℕ_discrete (taken_in n slot) 0)
+        (λ e. subst (λ (b : Bool). TabHas A B (cond b (reserves (tab_at v t) slot) (misses (tab_at v t) slot n)))
+        (sym (eq-eqb (taken_in n slot) 0 e)) (reserves_has slot (new e) (tab_at v t) (has_at t)))
+        (λ ne. subst (λ (b : Bool). TabHas A B (cond b (reserves (tab_at v t) slot) (misses (tab_at v t) slot n)))
+        (sym (ne_eqb (taken_in n slot) 0 ne)) (misses_has slot n (tab_at v t) (has_at t)))
 
-    pub tabs_fine : (m : Move) → Allowed k s v m → News m → AllFine (tabs_after v m (finding k s v m))
-    tabs_fine (Look a) may new = all
-    tabs_fine (Enter t a) may new = one_fine v.tabs all t (entered a (epoch_of (word s a))) (entered_fine X A B a (epoch_of (word s a)) new)
-    tabs_fine (Leave t) may new = one_fine v.tabs all t (left_tab (anchor_of (tab_at v t)) (word s (anchor_of (tab_at v t)) - 1)) (counted_fine (word s (anchor_of (tab_at v t)) - 1) (tab_at v t) may.1 (fine t))
-    tabs_fine Count may new = all
-    tabs_fine Draw may new = all
-    tabs_fine (Take t a u) may new = all_either (word s a == last_find a v.trail) (taken_tabs v t a u (finding k s v (Take t a u))) v.tabs
-        (one_fine (cond (is_idle (word s a)) (set v.tabs inner (Freeing (freer_of a false (word s a) (chain_of s a)))) v.tabs)
-        (all_either (is_idle (word s a)) (set v.tabs inner (Freeing (freer_of a false (word s a) (chain_of s a)))) v.tabs (one_fine v.tabs all inner (Freeing (freer_of a false (word s a) (chain_of s a))) (freer_fine X A B a (word s a) false (chain_of s a) new.0 new.1)) all)
-        t (Writing (writer_of a u)) (writer_fine X A B a u new.0))
+    pub tabs_have : (m : Move) → Allowed k s v m → News m → TabsHave (tabs_after v m (finding k s v m))
+    tabs_have (Look a) may new = all
+    tabs_have (Enter t a) may new = one_has v.tabs all t (entered a (epoch_of (word s a))) (entered_has X A B a (epoch_of (word s a)) new)
+    tabs_have (Leave t) may new = one_has v.tabs all t (left_tab (anchor_of (tab_at v t)) (word s (anchor_of (tab_at v t)) - 1))
+        (counted_has (word s (anchor_of (tab_at v t)) - 1) (tab_at v t) may.1 (has_at t))
+    tabs_have Count may new = all
+    tabs_have Draw may new = all
+    tabs_have (Take t a u) may new = all_either (word s a == last_find a v.trail) (taken_tabs v t a u (finding k s v (Take t a u))) v.tabs
+        (one_has (cond (is_idle (word s a)) (set v.tabs inner (Freeing (freer_of a false (word s a) (chain_of s a)))) v.tabs)
+        (all_either (is_idle (word s a)) (set v.tabs inner (Freeing (freer_of a false (word s a) (chain_of s a)))) v.tabs
+        (one_has v.tabs all inner (Freeing (freer_of a false (word s a) (chain_of s a)))
+        (freer_has X A B a (word s a) false (chain_of s a) new.0 new.1)) all)
+        t (Writing (writer_of a u)) (writer_has X A B a u new.0))
         all
-    tabs_fine (Evict t a) may new = all_either (word s a == last_find a v.trail) (evicted_tabs v t a (finding k s v (Evict t a))) (set v.tabs t Free)
-        (one_fine (set v.tabs t Free) (one_fine v.tabs all t Free tt) inner (Freeing (freer_of a true (word s a) (chain_of s a))) (freer_fine X A B a (word s a) true (chain_of s a) new.0 new.1))
-        (one_fine v.tabs all t Free tt)
-    tabs_fine (Raise t to) may new = one_fine v.tabs all t (raised_tab (tab_at v t) to (left_by v (Raise t to) (word s (anchor_of (tab_at v t)))))
-        (raised_fine to (left_by v (Raise t to) (word s (anchor_of (tab_at v t)))) (tab_at v t) (λ w. MayRaise w to × StartsRight k s w) (λ f. MayEnd f to) may.1 (fine t))
-    tabs_fine (Doom t) may new = all
-    tabs_fine (LoadSide t side) may new = one_fine v.tabs all t (loaded (tab_at v t) side (number_found k s v (LoadSide t side))) (loaded_fine side (number_found k s v (LoadSide t side)) (tab_at v t) (fine t))
-    tabs_fine (StoreSide t side value) may new = one_fine v.tabs all t (stores (tab_at v t) side value) (stores_fine side value (tab_at v t) (fine t))
-    tabs_fine (LookMap t place) may new = one_fine v.tabs all t (searches (tab_at v t) place (number_found k s v (LookMap t place))) (searches_fine place (number_found k s v (LookMap t place)) (tab_at v t) (fine t))
-    tabs_fine (Own t slot) may new = one_fine v.tabs all t
-        (cond (taken_in (number_found k s v (Own t slot)) slot == 0) (reserves (tab_at v t) slot) (misses (tab_at v t) slot (number_found k s v (Own t slot))))
-        (owns_fine (number_found k s v (Own t slot)) slot t new)
-    tabs_fine (Disown t slot) may new = one_fine v.tabs all t (gives_back (tab_at v t) slot) (gives_back_fine slot (tab_at v t) (fine t))
-    tabs_fine (LogPiece t slot durable) may new = one_fine v.tabs all t (logs (tab_at v t) slot durable) (logs_fine slot durable (tab_at v t) (fine t))
-    tabs_fine (Publish t slot link) may new = one_fine v.tabs all t (publishes (tab_at v t) slot link) (publishes_fine slot link (tab_at v t) (fine t))
-    tabs_fine (Loosen t slot) may new = all_either (t == inner) (set v.tabs inner (loosens (tab_at v inner) (slot ∷ []))) (set (set v.tabs inner (loosens (tab_at v inner) [])) t (reserves (tab_at v t) slot))
-        (one_fine v.tabs all inner (loosens (tab_at v inner) (slot ∷ [])) (loosens_fine (slot ∷ []) (tab_at v inner) (fine inner)))
-        (one_fine (set v.tabs inner (loosens (tab_at v inner) [])) (one_fine v.tabs all inner (loosens (tab_at v inner) []) (loosens_fine [] (tab_at v inner) (fine inner)))
-        t (reserves (tab_at v t) slot) (reserves_fine slot new (tab_at v t) (fine t)))
-    tabs_fine (GetLink t slot) may new = one_fine v.tabs all t (looks (tab_at v t) (number_found k s v (GetLink t slot))) (looks_fine (number_found k s v (GetLink t slot)) (tab_at v t) (fine t))
-    tabs_fine (TryTurn t slot) may new = one_fine v.tabs all t (tries (tab_at v t) slot (number_found k s v (TryTurn t slot)) (cell_found k s v (TryTurn t slot))) (tries_fine slot (number_found k s v (TryTurn t slot)) (cell_found k s v (TryTurn t slot)) (tab_at v t) (fine t))
-    tabs_fine (EndTurn t slot then) may new = one_fine v.tabs all t (ends (tab_at v t) then) (ends_fine then (tab_at v t) (fine t))
-    tabs_fine (CellOut t slot) may new = one_fine v.tabs all t (moves (tab_at v t) true) (moves_fine true (tab_at v t) (fine t))
-    tabs_fine (CellIn t slot) may new = one_fine v.tabs all t (moves (tab_at v t) false) (moves_fine false (tab_at v t) (fine t))
-    tabs_fine Note may new = all
-    tabs_fine (Learn note) may new = all
-    tabs_fine (Write t slot outcome) may new = one_fine v.tabs all t (rewrites (tab_at v t) (is_kept outcome) (settled_by_write (tab_at v t) outcome) (cell_found k s v (Write t slot outcome)))
-        (rewrites_fine (is_kept outcome) (settled_by_write (tab_at v t) outcome) (cell_found k s v (Write t slot outcome)) (tab_at v t) (fine t))
-    tabs_fine (Sync t slot kept) may new = one_fine v.tabs all t (rewrites (tab_at v t) false (settled_by_sync (tab_at v t) kept) (cell_found k s v (Sync t slot kept)))
-        (rewrites_fine false (settled_by_sync (tab_at v t) kept) (cell_found k s v (Sync t slot kept)) (tab_at v t) (fine t))
+    tabs_have (Evict t a) may new =
+        all_either (word s a == last_find a v.trail) (evicted_tabs v t a (finding k s v (Evict t a))) (set v.tabs t Free)
+        (one_has (set v.tabs t Free) (one_has v.tabs all t Free tt) inner (Freeing (freer_of a true (word s a) (chain_of s a)))
+        (freer_has X A B a (word s a) true (chain_of s a) new.0 new.1))
+        (one_has v.tabs all t Free tt)
+    tabs_have (Raise t to) may new =
+        one_has v.tabs all t (raised_tab (tab_at v t) to (left_by v (Raise t to) (word s (anchor_of (tab_at v t)))))
+        (raised_has to (left_by v (Raise t to) (word s (anchor_of (tab_at v t)))) (tab_at v t) (λ w. MayRaise w to × StartsRight k s w)
+        (λ f. MayEnd f to) may.1 (has_at t))
+    tabs_have (Doom t) may new = all
+    tabs_have (LoadSide t side) may new = one_has v.tabs all t (loaded (tab_at v t) side (number_found k s v (LoadSide t side)))
+        (loaded_has side (number_found k s v (LoadSide t side)) (tab_at v t) (has_at t))
+    tabs_have (StoreSide t side value) may new =
+        one_has v.tabs all t (stores (tab_at v t) side value) (stores_has side value (tab_at v t) (has_at t))
+    tabs_have (LookMap t place) may new = one_has v.tabs all t (searches (tab_at v t) place (number_found k s v (LookMap t place)))
+        (searches_has place (number_found k s v (LookMap t place)) (tab_at v t) (has_at t))
+    tabs_have (Own t slot) may new = one_has v.tabs all t
+        (cond (taken_in (number_found k s v (Own t slot)) slot == 0) (reserves (tab_at v t) slot)
+        (misses (tab_at v t) slot (number_found k s v (Own t slot))))
+        (owns_has (number_found k s v (Own t slot)) slot t new)
+    tabs_have (Disown t slot) may new = one_has v.tabs all t (gives_back (tab_at v t) slot) (gives_back_has slot (tab_at v t) (has_at t))
+    tabs_have (LogPiece t slot durable) may new =
+        one_has v.tabs all t (logs (tab_at v t) slot durable) (logs_has slot durable (tab_at v t) (has_at t))
+    tabs_have (Publish t slot link) may new =
+        one_has v.tabs all t (publishes (tab_at v t) slot link) (publishes_has slot link (tab_at v t) (has_at t))
+    tabs_have (Loosen t slot) may new = all_either (t == inner) (set v.tabs inner (loosens (tab_at v inner) (slot ∷ [])))
+        (set (set v.tabs inner (loosens (tab_at v inner) [])) t (reserves (tab_at v t) slot))
+        (one_has v.tabs all inner (loosens (tab_at v inner) (slot ∷ [])) (loosens_has (slot ∷ []) (tab_at v inner) (has_at inner)))
+        (one_has (set v.tabs inner (loosens (tab_at v inner) []))
+        (one_has v.tabs all inner (loosens (tab_at v inner) []) (loosens_has [] (tab_at v inner) (has_at inner)))
+        t (reserves (tab_at v t) slot) (reserves_has slot new (tab_at v t) (has_at t)))
+    tabs_have (GetLink t slot) may new = one_has v.tabs all t (looks (tab_at v t) (number_found k s v (GetLink t slot)))
+        (looks_has (number_found k s v (GetLink t slot)) (tab_at v t) (has_at t))
+    tabs_have (TryTurn t slot) may new = one_has v.tabs all t
+        (tries (tab_at v t) slot (number_found k s v (TryTurn t slot)) (cell_found k s v (TryTurn t slot)))
+        (tries_has slot (number_found k s v (TryTurn t slot)) (cell_found k s v (TryTurn t slot)) (tab_at v t) (has_at t))
+    tabs_have (EndTurn t slot then) may new = one_has v.tabs all t (ends (tab_at v t) then) (ends_has then (tab_at v t) (has_at t))
+    tabs_have (CellOut t slot) may new = one_has v.tabs all t (moves (tab_at v t) true) (moves_has true (tab_at v t) (has_at t))
+    tabs_have (CellIn t slot) may new = one_has v.tabs all t (moves (tab_at v t) false) (moves_has false (tab_at v t) (has_at t))
+    tabs_have Note may new = all
+    tabs_have (Learn note) may new = all
+    tabs_have (Write t slot outcome) may new = one_has v.tabs all t
+        (rewrites (tab_at v t) (is_kept outcome) (settled_by_write (tab_at v t) outcome) (cell_found k s v (Write t slot outcome)))
+        (rewrites_has (is_kept outcome) (settled_by_write (tab_at v t) outcome) (cell_found k s v (Write t slot outcome)) (tab_at v t)
+        (has_at t))
+    tabs_have (Sync t slot kept) may new =
+        one_has v.tabs all t (rewrites (tab_at v t) false (settled_by_sync (tab_at v t) kept) (cell_found k s v (Sync t slot kept)))
+        (rewrites_has false (settled_by_sync (tab_at v t) kept) (cell_found k s v (Sync t slot kept)) (tab_at v t) (has_at t))

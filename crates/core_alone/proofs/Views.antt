@@ -11,7 +11,8 @@ use Rattle.core_model.specs.State.{State}
 use Rattle.core_model.specs.Steps.{after, finding, view_after}
 use Rattle.core_model.proofs.Lists.{at_set}
 
-pub at_more : {A : Type 0} → (xs : List A) (y : A) (j : ℕ) (z : A) → get_elem? (xs ++ y ∷ []) j ≡ some z → (get_elem? xs j ≡ some z) ⊎ (y ≡ z)
+pub at_more : {A : Type 0} → (xs : List A) (y : A) (j : ℕ) (z : A) → get_elem? (xs ++ y ∷ []) j ≡ some z
+    → (get_elem? xs j ≡ some z) ⊎ (y ≡ z)
 at_more [] y zero z e = inr (some-injective y z e)
 at_more [] y (suc j) z e = absurd (some-ne-none z (sym e))
 at_more (x ∷ xs) y zero z e = inl e
@@ -23,16 +24,21 @@ module _ {X : Type 0} (k : Setting X) (s : State X) (i : ℕ) (v : View X) where
   ViewWas u j w = ((j ≡ i) × (w ≡ u)) ⊎ (((j ≢ i) × (get_elem? s.views j ≡ some w)) ⊎ (w.tabs ≡ []))
 
   was_set : (u : View X) (j : ℕ) (w : View X) → get_elem? (set s.views i u) j ≡ some w → ViewWas u j w
-  was_set u j w e = ⊎_elim (λ (q : (j ≡ i) × (u ≡ w)). inl (q.0, sym q.1)) (λ (q : (j ≢ i) × (get_elem? s.views j ≡ some w)). inr (inl q)) (at_set s.views i j u w e)
+  was_set u j w e = ⊎_elim (λ (q : (j ≡ i) × (u ≡ w)). inl (q.0, sym q.1)) (λ (q : (j ≢ i) × (get_elem? s.views j ≡ some w)). inr (inl q))
+      (at_set s.views i j u w e)
 
   over : (p : ℕ) (u x : View X) → x.tabs ≡ [] → (j : ℕ) (w : View X) → get_elem? (set (set s.views i u) p x) j ≡ some w → ViewWas u j w
-  over p u x none j w e = ⊎_elim (λ (q : (j ≡ p) × (x ≡ w)). inr (inr (subst (λ (z : View X). z.tabs ≡ []) q.1 none))) (λ (q : (j ≢ p) × (get_elem? (set s.views i u) j ≡ some w)). was_set u j w q.1) (at_set (set s.views i u) p j x w e)
+  over p u x none j w e = ⊎_elim (λ (q : (j ≡ p) × (x ≡ w)). inr (inr (subst (λ (z : View X). z.tabs ≡ []) q.1 none)))
+      (λ (q : (j ≢ p) × (get_elem? (set s.views i u) j ≡ some w)). was_set u j w q.1) (at_set (set s.views i u) p j x w e)
 
-  noted : (b : Bool) (p : ℕ) (u : View X) (j : ℕ) (w : View X) → get_elem? (cond b (set (set s.views i u) p (note_of v)) (set s.views i u ++ note_of v ∷ [])) j ≡ some w → ViewWas u j w
+  noted : (b : Bool) (p : ℕ) (u : View X) (j : ℕ) (w : View X)
+      → get_elem? (cond b (set (set s.views i u) p (note_of v)) (set s.views i u ++ note_of v ∷ [])) j ≡ some w → ViewWas u j w
   noted true p u j w e = over p u (note_of v) refl j w e
-  noted false p u j w e = ⊎_elim (λ (q : get_elem? (set s.views i u) j ≡ some w). was_set u j w q) (λ (q : note_of v ≡ w). inr (inr (subst (λ (z : View X). z.tabs ≡ []) q refl))) (at_more (set s.views i u) (note_of v) j w e)
+  noted false p u j w e = ⊎_elim (λ (q : get_elem? (set s.views i u) j ≡ some w). was_set u j w q)
+      (λ (q : note_of v ≡ w). inr (inr (subst (λ (z : View X). z.tabs ≡ []) q refl))) (at_more (set s.views i u) (note_of v) j w e)
 
-  pub view_was : (m : Move) (j : ℕ) (w : View X) → get_elem? (after k s i v m).views j ≡ some w → ViewWas (view_after v m (finding k s v m)) j w
+  pub view_was : (m : Move) (j : ℕ) (w : View X) → get_elem? (after k s i v m).views j ≡ some w
+      → ViewWas (view_after v m (finding k s v m)) j w
   view_was (Look a) j w h = was_set (view_after v (Look a) (finding k s v (Look a))) j w h
   view_was (Enter t a) j w h = was_set (view_after v (Enter t a) (finding k s v (Enter t a))) j w h
   view_was (Leave t) j w h = was_set (view_after v (Leave t) (finding k s v (Leave t))) j w h
@@ -47,7 +53,8 @@ module _ {X : Type 0} (k : Setting X) (s : State X) (i : ℕ) (v : View X) where
   view_was (LookMap t word) j w h = was_set (view_after v (LookMap t word) (finding k s v (LookMap t word))) j w h
   view_was (Own t slot) j w h = was_set (view_after v (Own t slot) (finding k s v (Own t slot))) j w h
   view_was (Disown t slot) j w h = was_set (view_after v (Disown t slot) (finding k s v (Disown t slot))) j w h
-  view_was (LogPiece t slot durable) j w h = was_set (view_after v (LogPiece t slot durable) (finding k s v (LogPiece t slot durable))) j w h
+  view_was (LogPiece t slot durable) j w h =
+      was_set (view_after v (LogPiece t slot durable) (finding k s v (LogPiece t slot durable))) j w h
   view_was (Publish t slot link) j w h = was_set (view_after v (Publish t slot link) (finding k s v (Publish t slot link))) j w h
   view_was (Loosen t slot) j w h = was_set (view_after v (Loosen t slot) (finding k s v (Loosen t slot))) j w h
   view_was (GetLink t slot) j w h = was_set (view_after v (GetLink t slot) (finding k s v (GetLink t slot))) j w h
@@ -55,7 +62,8 @@ module _ {X : Type 0} (k : Setting X) (s : State X) (i : ℕ) (v : View X) where
   view_was (EndTurn t slot then) j w h = was_set (view_after v (EndTurn t slot then) (finding k s v (EndTurn t slot then))) j w h
   view_was (CellOut t slot) j w h = was_set (view_after v (CellOut t slot) (finding k s v (CellOut t slot))) j w h
   view_was (CellIn t slot) j w h = was_set (view_after v (CellIn t slot) (finding k s v (CellIn t slot))) j w h
-  view_was Note j w h = let p : ℕ = k.passes + free_note (drop k.passes s.views) in let u : View X = view_after v Note (finding k s v Note) in noted (ltb p (length (set s.views i u))) p u j w h
+  view_was Note j w h = let p : ℕ = k.passes + free_note (drop k.passes s.views) in
+      let u : View X = view_after v Note (finding k s v Note) in noted (ltb p (length (set s.views i u))) p u j w h
   view_was (Learn note) j w h = over (k.passes + note) (view_after v (Learn note) (finding k s v (Learn note))) spent refl j w h
   view_was (Write t slot outcome) j w h = was_set (view_after v (Write t slot outcome) (finding k s v (Write t slot outcome))) j w h
   view_was (Sync t slot kept) j w h = was_set (view_after v (Sync t slot kept) (finding k s v (Sync t slot kept))) j w h

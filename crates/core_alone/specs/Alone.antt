@@ -85,14 +85,17 @@ module _ {X : Type 0} (left : ℕ → ℕ → Bool) (k : Setting X) (s : State X
     -- the four words beside it
     pub sides : (side : Side) (a : ℕ) → a < k.anchors → left v.pass a ≡ true → KnowsWord k s v (Beside side a)
     -- the link of each slot of its chain, and of the chain's tail
-    pub links : (a slot : ℕ) → a < k.anchors → left v.pass a ≡ true → Contains ((chain_of s a).slots ++ (chain_of s a).tail) slot → KnowsWord k s v (Link slot)
+    pub links : (a slot : ℕ) → a < k.anchors → left v.pass a ≡ true → Contains ((chain_of s a).slots ++ (chain_of s a).tail) slot
+        → KnowsWord k s v (Link slot)
     -- and of each slot that a tab of the pass there has reserved, or has yet to give back
-    pub held : (t a slot : ℕ) (tab : Tab X) → get_elem? v.tabs t ≡ some tab → IsTabAt tab a → left v.pass a ≡ true → HoldsSlot tab slot → KnowsWord k s v (Link slot)
+    pub held : (t a slot : ℕ) (tab : Tab X) → get_elem? v.tabs t ≡ some tab → IsTabAt tab a → left v.pass a ≡ true → HoldsSlot tab slot
+        → KnowsWord k s v (Link slot)
 
   -- Anchors that are left to a pass are its own.
   pub record StandsAlone : Type 0 where
     -- a tab that is at one of them is of this pass
-    pub apart : (i j t a : ℕ) (u : View X) (tab : Tab X) → get_elem? s.views i ≡ some u → IsLeftTo left u a → IsTab s j t tab → IsTabAt tab a → j ≡ i
+    pub apart : (i j t a : ℕ) (u : View X) (tab : Tab X) → get_elem? s.views i ≡ some u → IsLeftTo left u a → IsTab s j t tab
+        → IsTabAt tab a → j ≡ i
     -- and each pass knows what stands at its own
     pub each : (i : ℕ) (v : View X) → get_elem? s.views i ≡ some v → v.tabs ≢ [] → KnowsAlone v
 

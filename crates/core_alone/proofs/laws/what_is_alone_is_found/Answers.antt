@@ -11,4 +11,5 @@ pub returns-clause-link : goal.returns-clause-link
 returns-clause-link c start left k s i v m a slot alone at may lt is there on = finds_link left k s i v m alone at may a slot lt is there on
 
 pub returns-clause-held : goal.returns-clause-held
-returns-clause-held c start left k s i v m t a slot tab alone at may is there is_at holds on = finds_held left k s i v m alone at may t a slot tab is there is_at holds on
+returns-clause-held c start left k s i v m t a slot tab alone at may is there is_at holds on =
+    finds_held left k s i v m alone at may t a slot tab is there is_at holds on
