@@ -43,7 +43,7 @@ rest_contains [] x c = c
 rest_contains (y ∷ ys) x c = (suc c.0, (let z = c.1 in omega arith), c.2)
 
 module _ {X : Type 0} (A : ℕ → Type 0) (B : ℕ → ℕ → Type 0) where
-  -- the tab is at such an anchor, with such slots
+  -- A holds of the anchor where the tab is, and B of that anchor with each slot that the tab has reserved or has yet to take out of a chain
   abbrev pub TabHas : Tab X → Type 0
   TabHas Free = Unit {0}
   TabHas (Retreating a) = A a
@@ -56,12 +56,12 @@ module _ {X : Type 0} (A : ℕ → Type 0) (B : ℕ → ℕ → Type 0) where
   either_has true x y h j = h
   either_has false x y h j = j
 
--- a slot of the chain of an anchor
-abbrev pub Chained : (B : ℕ → ℕ → Type 0) → Chain → ℕ → Type 0
-Chained B c a = (slot : ℕ) → Contains (c.slots ++ c.tail) slot → B a slot
+-- B holds of the anchor with each slot of this chain
+abbrev pub ChainHas : (B : ℕ → ℕ → Type 0) → Chain → ℕ → Type 0
+ChainHas B c a = (slot : ℕ) → Contains (c.slots ++ c.tail) slot → B a slot
 
 module _ (X : Type 0) (A : ℕ → Type 0) (B : ℕ → ℕ → Type 0) where
-  freer_has : (a n : ℕ) (b : Bool) (c : Chain) → A a → Chained B c a → TabHas {X = X} A B (Freeing (freer_of a b n c))
+  freer_has : (a n : ℕ) (b : Bool) (c : Chain) → A a → ChainHas B c a → TabHas {X = X} A B (Freeing (freer_of a b n c))
   freer_has a n b c h g = (h, g)
 
   writer_has : (a version : ℕ) → A a → TabHas {X = X} A B (Writing (writer_of a version))
@@ -251,8 +251,8 @@ module _ {X : Type 0} (A : ℕ → Type 0) (B : ℕ → ℕ → Type 0) where
     -- what has to hold of what comes anew
     abbrev pub News : Move → Type 0
     News (Enter t a) = A a
-    News (Take t a version) = A a × Chained B (chain_of s a) a
-    News (Evict t a) = A a × Chained B (chain_of s a) a
+    News (Take t a version) = A a × ChainHas B (chain_of s a) a
+    News (Evict t a) = A a × ChainHas B (chain_of s a) a
     News (Own t slot) = taken_in (number_found k s v (Own t slot)) slot ≡ 0 → (a : ℕ) → B a slot
     News (Loosen t slot) = (a : ℕ) → B a slot
     News m = Unit {0}
