@@ -5,12 +5,12 @@ use mathlib.Core.Logic.{dite}
 use mathlib.Core.Option.{some}
 use native.Mathlib.Decide.{ℕ_discrete}
 use lib.ListN.{get_elem?}
-use Rattle.lock_word.specs.declared.stage.Stage.TheVariants.{Empty, Taken, Appending, Closed, Halted, Freeing as FreeingStage, Gone}
+use Rattle.lock_word.specs.declared.stage.Stage.TheVariants.{Halted}
 use Rattle.link_word.specs.declared.link.Link.{Link}
 use Rattle.link_word.specs.declared.link.Link.TheVariants.{Last as LastLink, Next, NotWritten}
 use Rattle.core_model.specs.declared.chain.Chain.{Chain}
 use Rattle.core_model.specs.declared.moves.Move.{Move}
-use Rattle.core_model.specs.declared.moves.Move.TheVariants.{Look, Enter, Leave, Count, Draw, Take, Evict, Raise, Doom, LoadSide, StoreSide, LookMap, Own, Disown, LogPiece, Publish, Loosen, GetLink, TryTurn, EndTurn, CellOut, CellIn, Note, Learn, Write, Sync}
+use Rattle.core_model.specs.declared.moves.Move.TheVariants.{Take, Evict, Raise, Publish}
 use Rattle.core_model.specs.declared.tab.Writer.{Writer}
 use Rattle.core_model.specs.declared.tab.Tab.{Tab}
 use Rattle.core_model.specs.declared.tab.Tab.TheVariants.{Writing}
@@ -176,37 +176,10 @@ module _ {X : Type 0} (k : Setting X) (s : State X) (i : ℕ) (v : View X) (so :
     chain_becomes (Take t b u) may come a lt = gone a b (word s b == last_find b v.trail) come
     chain_becomes (Evict t b) may come a lt = gone a b (word s b == last_find b v.trail) come
     chain_becomes (Raise t Halted) may come a lt = raise_halted t a lt may
-    chain_becomes (Raise t Empty) may come a lt = inl refl
-    chain_becomes (Raise t Taken) may come a lt = inl refl
-    chain_becomes (Raise t Appending) may come a lt = inl refl
-    chain_becomes (Raise t Closed) may come a lt = inl refl
-    chain_becomes (Raise t FreeingStage) may come a lt = inl refl
-    chain_becomes (Raise t Gone) may come a lt = inl refl
     chain_becomes (Publish t slot link) may come a lt = let q = of_writer (MayPublish k s slot link) (tab_at v t) may.allowed.1 in
         subst (λ (z : Tab X). Becomes a (get_or (set s.chains (anchor_of z)
         (longer (get_or s.chains (anchor_of z) no_chain) slot link)) a no_chain)) (sym q.1)
         (publishes t q.0 (there may.pass t (let z = may.allowed.0 in omega arith) (Writing q.0) q.1) a slot link lt
         (subst (λ (z : Tab X). A (anchor_of z)) q.1
         (writing_at A B (MayPublish k s slot link) (tab_at v t) may.allowed.1 (has_there A B v.tabs t all))) q.2.first)
-    chain_becomes (Look b) may come a lt = inl refl
-    chain_becomes (Enter t b) may come a lt = inl refl
-    chain_becomes (Leave t) may come a lt = inl refl
-    chain_becomes Count may come a lt = inl refl
-    chain_becomes Draw may come a lt = inl refl
-    chain_becomes (Doom t) may come a lt = inl refl
-    chain_becomes (LoadSide t side) may come a lt = inl refl
-    chain_becomes (StoreSide t side value) may come a lt = inl refl
-    chain_becomes (LookMap t place) may come a lt = inl refl
-    chain_becomes (Own t slot) may come a lt = inl refl
-    chain_becomes (Disown t slot) may come a lt = inl refl
-    chain_becomes (LogPiece t slot durable) may come a lt = inl refl
-    chain_becomes (Loosen t slot) may come a lt = inl refl
-    chain_becomes (GetLink t slot) may come a lt = inl refl
-    chain_becomes (TryTurn t slot) may come a lt = inl refl
-    chain_becomes (EndTurn t slot then) may come a lt = inl refl
-    chain_becomes (CellOut t slot) may come a lt = inl refl
-    chain_becomes (CellIn t slot) may come a lt = inl refl
-    chain_becomes Note may come a lt = inl refl
-    chain_becomes (Learn note) may come a lt = inl refl
-    chain_becomes (Write t slot outcome) may come a lt = inl refl
-    chain_becomes (Sync t slot kept) may come a lt = inl refl
+    chain_becomes m may come a lt = inl refl

@@ -4,7 +4,7 @@ use mathlib.Core.Option.{some, some-ne-none}
 use lib.ListN.{get_elem?}
 use Rattle.core_model.specs.declared.chain.Chain.{Chain}
 use Rattle.core_model.specs.declared.moves.Move.{Move}
-use Rattle.core_model.specs.declared.moves.Move.TheVariants.{Look, Enter, Leave, Count, Draw, Take, Evict, Raise, Doom, LoadSide, StoreSide, LookMap, Own, Disown, LogPiece, Publish, Loosen, GetLink, TryTurn, EndTurn, CellOut, CellIn, Note, Learn, Write, Sync}
+use Rattle.core_model.specs.declared.moves.Move.TheVariants.{Enter, Take, Evict, Own, Loosen}
 use Rattle.core_model.specs.declared.spot.Spot.{Spot}
 use Rattle.core_model.specs.declared.spot.Spot.TheVariants.{Chained}
 use Rattle.core_model.specs.declared.tab.Tab.{Tab}
@@ -78,29 +78,7 @@ module _ {X : Type 0} (left : ℕ → ℕ → Bool) (k : Setting X) (s : State X
   comes_to (Enter u a) h = h
   comes_to (Take u a version) h = h
   comes_to (Evict u a) h = h
-  comes_to (Look a) h = tt
-  comes_to (Leave u) h = tt
-  comes_to Count h = tt
-  comes_to Draw h = tt
-  comes_to (Raise u to) h = tt
-  comes_to (Doom u) h = tt
-  comes_to (LoadSide u side) h = tt
-  comes_to (StoreSide u side value) h = tt
-  comes_to (LookMap u place) h = tt
-  comes_to (Own u slot) h = tt
-  comes_to (Disown u slot) h = tt
-  comes_to (LogPiece u slot durable) h = tt
-  comes_to (Publish u slot link) h = tt
-  comes_to (Loosen u slot) h = tt
-  comes_to (GetLink u slot) h = tt
-  comes_to (TryTurn u slot) h = tt
-  comes_to (EndTurn u slot then) h = tt
-  comes_to (CellOut u slot) h = tt
-  comes_to (CellIn u slot) h = tt
-  comes_to Note h = tt
-  comes_to (Learn note) h = tt
-  comes_to (Write u slot outcome) h = tt
-  comes_to (Sync u slot kept) h = tt
+  comes_to m h = tt
 
   old_chain : (a slot : ℕ) → a < k.anchors → left v.pass a ≡ true → Contains ((chain_of s a).slots ++ (chain_of s a).tail) slot → Known slot
   old_chain a slot lt is c = known slot (chained_inside k s so a slot lt c) (mine.links a slot lt is c)
@@ -116,27 +94,7 @@ module _ {X : Type 0} (left : ℕ → ℕ → Bool) (k : Setting X) (s : State X
       (own_fresh k s i v so at u slot (subst (λ (z : Move). MayStep k s v z) (sym e) may) zero_)
   news (Loosen u slot) e = λ a is. subst (λ (z : Move). KnowsWord k (after k s i v z) (view_after v z (finding k s v z)) (Link slot)) e
       (loosen_fresh k s i v so at u slot (subst (λ (z : Move). MayStep k s v z) (sym e) may))
-  news (Look a) e = tt
-  news (Leave u) e = tt
-  news Count e = tt
-  news Draw e = tt
-  news (Raise u to) e = tt
-  news (Doom u) e = tt
-  news (LoadSide u side) e = tt
-  news (StoreSide u side value) e = tt
-  news (LookMap u place) e = tt
-  news (Disown u slot) e = tt
-  news (LogPiece u slot durable) e = tt
-  news (Publish u slot link) e = tt
-  news (GetLink u slot) e = tt
-  news (TryTurn u slot) e = tt
-  news (EndTurn u slot then) e = tt
-  news (CellOut u slot) e = tt
-  news (CellIn u slot) e = tt
-  news Note e = tt
-  news (Learn note) e = tt
-  news (Write u slot outcome) e = tt
-  news (Sync u slot kept) e = tt
+  news n e = tt
 
   -- The tabs of the pass after the step.
   tabs_now : TabsHave A B w.tabs

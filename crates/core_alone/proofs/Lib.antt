@@ -11,3 +11,4 @@ pub mod Spelling
 pub mod Coming
 pub mod Opened
 pub mod Renewed
+pub mod Touched

@@ -5,7 +5,7 @@ use mathlib.Core.Option.{some}
 use native.Mathlib.Decide.{ℕ_discrete}
 use lib.ListN.{get_elem?}
 use Rattle.core_model.specs.declared.moves.Move.{Move}
-use Rattle.core_model.specs.declared.moves.Move.TheVariants.{Look, Enter, Leave, Count, Draw, Take, Evict, Raise, Doom, LoadSide, StoreSide, LookMap, Own, Disown, LogPiece, Publish, Loosen, GetLink, TryTurn, EndTurn, CellOut, CellIn, Note, Learn, Write, Sync}
+use Rattle.core_model.specs.declared.moves.Move.TheVariants.{Look, Enter, Leave, Take, Evict, Raise, Doom, LoadSide, StoreSide, Own, Publish, Loosen, GetLink}
 use Rattle.link_word.specs.Map.{taken_in}
 use Rattle.core_model.specs.declared.spot.Spot.TheVariants.{Free as FreeSpot}
 use Rattle.core_model.specs.declared.view.Item.{Item}
@@ -55,41 +55,18 @@ module _ {X : Type 0} (k : Setting X) where
   far_place o slot lt row p is e = far_at p slot lt (subst (FarFromLinks k) is row) e
 
 module _ {X : Type 0} (v : View X) where
-  unlinked_else : (m : Move) (n slot : ℕ) (xs : List Item) → OffLinks m → is_unlinked slot (item_of v m n ∷ xs) ≡ is_unlinked slot xs
-  unlinked_else (Look a) n slot xs h = refl
-  unlinked_else (Enter t a) n slot xs h = refl
-  unlinked_else (Leave t) n slot xs h = refl
-  unlinked_else Count n slot xs h = refl
-  unlinked_else Draw n slot xs h = refl
-  unlinked_else (Take t a u) n slot xs h = refl
-  unlinked_else (Evict t a) n slot xs h = refl
-  unlinked_else (Raise t to) n slot xs h = refl
-  unlinked_else (Doom t) n slot xs h = refl
-  unlinked_else (LoadSide t side) n slot xs h = refl
-  unlinked_else (StoreSide t side value) n slot xs h = refl
-  unlinked_else (LookMap t word) n slot xs h = refl
+  pub unlinked_else : (m : Move) (n slot : ℕ) (xs : List Item) → OffLinks m → is_unlinked slot (item_of v m n ∷ xs) ≡ is_unlinked slot xs
   unlinked_else (Own t x) n slot xs h = absurd h
-  unlinked_else (Disown t x) n slot xs h = refl
-  unlinked_else (LogPiece t x durable) n slot xs h = refl
   unlinked_else (Publish t x link) n slot xs h = absurd h
   unlinked_else (Loosen t x) n slot xs h = absurd h
   unlinked_else (GetLink t x) n slot xs h = absurd h
-  unlinked_else (TryTurn t x) n slot xs h = refl
-  unlinked_else (EndTurn t x then) n slot xs h = refl
-  unlinked_else (CellOut t x) n slot xs h = refl
-  unlinked_else (CellIn t x) n slot xs h = refl
-  unlinked_else Note n slot xs h = refl
-  unlinked_else (Learn note) n slot xs h = refl
-  unlinked_else (Write t x outcome) n slot xs h = refl
-  unlinked_else (Sync t x kept) n slot xs h = refl
+  unlinked_else m n slot xs h = refl
 
 module _ {X : Type 0} (k : Setting X) (s : State X) (i : ℕ) (v : View X) (so : Sound k s) (at : get_elem? s.views i ≡ some v) where
   pub far_from_links : (m : Move) → MayStep k s v m → OffLinks m → FarFromLinks k (place v m)
   far_from_links (Look a) may h = may.allowed
   far_from_links (Enter t a) may h = may.allowed.0
   far_from_links (Leave t) may h = counted_inside k s i v so at may.pass t may.allowed.0 may.allowed.1
-  far_from_links Count may h = tt
-  far_from_links Draw may h = tt
   far_from_links (Take t a u) may h = may.allowed.0
   far_from_links (Evict t a) may h = may.allowed.0
   far_from_links (Raise t to) may h =
@@ -98,21 +75,11 @@ module _ {X : Type 0} (k : Setting X) (s : State X) (i : ℕ) (v : View X) (so :
   far_from_links (LoadSide t side) may h = using_inside k s i v so at may.pass t may.allowed.0 may.allowed.1
   far_from_links (StoreSide t side value) may h = writing_inside k s i v so at may.pass t
       (λ w. (w.is_appending ≡ false) × MayStore k w side value) (let y = may.allowed.0 in omega arith) may.allowed.2
-  far_from_links (LookMap t word) may h = tt
   far_from_links (Own t x) may h = absurd h
-  far_from_links (Disown t x) may h = tt
-  far_from_links (LogPiece t x durable) may h = tt
   far_from_links (Publish t x link) may h = absurd h
   far_from_links (Loosen t x) may h = absurd h
   far_from_links (GetLink t x) may h = absurd h
-  far_from_links (TryTurn t x) may h = tt
-  far_from_links (EndTurn t x then) may h = tt
-  far_from_links (CellOut t x) may h = tt
-  far_from_links (CellIn t x) may h = tt
-  far_from_links Note may h = tt
-  far_from_links (Learn note) may h = tt
-  far_from_links (Write t x outcome) may h = tt
-  far_from_links (Sync t x kept) may h = tt
+  far_from_links m may h = tt
 
   -- Of a link word, and of what the pass has of it, where a step is on none.
   module _ (m : Move) (may : MayStep k s v m) (slot : ℕ) (lt : slot < k.slots) where
@@ -182,28 +149,7 @@ module _ {X : Type 0} (k : Setting X) (s : State X) (i : ℕ) (v : View X) (so :
   link_follows (Publish t x link) may slot lt h = on_link (Publish t x link) may slot lt x refl refl h
   link_follows (Loosen t x) may slot lt h = on_link (Loosen t x) may slot lt x refl refl h
   link_follows (GetLink t x) may slot lt h = on_link (GetLink t x) may slot lt x refl refl h
-  link_follows (Look a) may slot lt h = off_link (Look a) may slot lt tt h
-  link_follows (Enter t a) may slot lt h = off_link (Enter t a) may slot lt tt h
-  link_follows (Leave t) may slot lt h = off_link (Leave t) may slot lt tt h
-  link_follows Count may slot lt h = off_link Count may slot lt tt h
-  link_follows Draw may slot lt h = off_link Draw may slot lt tt h
-  link_follows (Take t a u) may slot lt h = off_link (Take t a u) may slot lt tt h
-  link_follows (Evict t a) may slot lt h = off_link (Evict t a) may slot lt tt h
-  link_follows (Raise t to) may slot lt h = off_link (Raise t to) may slot lt tt h
-  link_follows (Doom t) may slot lt h = off_link (Doom t) may slot lt tt h
-  link_follows (LoadSide t side) may slot lt h = off_link (LoadSide t side) may slot lt tt h
-  link_follows (StoreSide t side value) may slot lt h = off_link (StoreSide t side value) may slot lt tt h
-  link_follows (LookMap t word) may slot lt h = off_link (LookMap t word) may slot lt tt h
-  link_follows (Disown t x) may slot lt h = off_link (Disown t x) may slot lt tt h
-  link_follows (LogPiece t x durable) may slot lt h = off_link (LogPiece t x durable) may slot lt tt h
-  link_follows (TryTurn t x) may slot lt h = off_link (TryTurn t x) may slot lt tt h
-  link_follows (EndTurn t x then) may slot lt h = off_link (EndTurn t x then) may slot lt tt h
-  link_follows (CellOut t x) may slot lt h = off_link (CellOut t x) may slot lt tt h
-  link_follows (CellIn t x) may slot lt h = off_link (CellIn t x) may slot lt tt h
-  link_follows Note may slot lt h = off_link Note may slot lt tt h
-  link_follows (Learn note) may slot lt h = off_link (Learn note) may slot lt tt h
-  link_follows (Write t x outcome) may slot lt h = off_link (Write t x outcome) may slot lt tt h
-  link_follows (Sync t x kept) may slot lt h = off_link (Sync t x kept) may slot lt tt h
+  link_follows m may slot lt h = off_link m may slot lt tt h
 
   -- a slot that it reserves from now on has none, and it knows so
   pub own_fresh : (t x : ℕ) (may : MayStep k s v (Own t x)) → taken_in (number_found k s v (Own t x)) x ≡ 0

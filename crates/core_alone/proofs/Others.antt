@@ -4,7 +4,7 @@ use Rattle.std.proofs.Common.{◌≡◌, ◌≢◌, ◌⊎◌, inl, inr, ⊎_eli
 use mathlib.Core.Option.{some}
 use lib.ListN.{get_elem?}
 use Rattle.core_model.specs.declared.moves.Move.{Move}
-use Rattle.core_model.specs.declared.moves.Move.TheVariants.{Look, Enter, Leave, Count, Draw, Take, Evict, Raise, Doom, LoadSide, StoreSide, LookMap, Own, Disown, LogPiece, Publish, Loosen, GetLink, TryTurn, EndTurn, CellOut, CellIn, Note, Learn, Write, Sync}
+use Rattle.core_model.specs.declared.moves.Move.TheVariants.{Enter, Leave, Draw, Take, Evict, Raise, Doom, StoreSide, Own, Disown, LogPiece, Publish, Loosen, GetLink, TryTurn, EndTurn}
 use Rattle.core_model.specs.declared.spot.Spot.{Spot}
 use Rattle.core_model.specs.declared.spot.Spot.TheVariants.{Chained, Free as FreeSpot, Loose, Reserved, Resting}
 use Rattle.core_model.specs.declared.tab.Freer.{Freer}
@@ -115,34 +115,24 @@ module _ {X : Type 0} (A : ℕ → Type 0) (B : ℕ → ℕ → Type 0) where
     -- A step leaves its word as it found it, or comes to such an anchor.
     pub touched : (m : Move) → Allowed k s v m → ComesTo A m
         → (left_by v m (number_found k s v m) ≡ number_found k s v m) ⊎ OfAnchor A (place v m)
-    touched (Look a) may come = inl refl
-    touched (Enter t a) may come = inr come
-    touched (Leave t) may come = inr (counted_at (tab_at v t) may.1 (has_there A B v.tabs t all))
-    touched Count may come = inl refl
     touched Draw may come = inr tt
-    touched (Take t a u) may come = inr come
-    touched (Evict t a) may come = inr come
-    touched (Raise t to) may come =
-        inr (raising_at (λ w. MayRaise w to × StartsRight k s w) (λ f. MayEnd f to) (tab_at v t) may.1 (has_there A B v.tabs t all))
-    touched (Doom t) may come = inr (reading_at (tab_at v t) may.1 (has_there A B v.tabs t all))
-    touched (LoadSide t side) may come = inl refl
-    touched (StoreSide t side value) may come =
-        inr (writing_at (λ w. (w.is_appending ≡ false) × MayStore k w side value) (tab_at v t) may.2 (has_there A B v.tabs t all))
-    touched (LookMap t place) may come = inl refl
     touched (Own t slot) may come = inr tt
     touched (Disown t slot) may come = inr tt
     touched (LogPiece t slot durable) may come = inr tt
     touched (Publish t slot link) may come = inr tt
     touched (Loosen t slot) may come = inr tt
-    touched (GetLink t slot) may come = inl refl
     touched (TryTurn t slot) may come = inr tt
     touched (EndTurn t slot then) may come = inr tt
-    touched (CellOut t slot) may come = inl refl
-    touched (CellIn t slot) may come = inl refl
-    touched Note may come = inl refl
-    touched (Learn note) may come = inl refl
-    touched (Write t slot outcome) may come = inl refl
-    touched (Sync t slot kept) may come = inl refl
+    touched (Enter t a) may come = inr come
+    touched (Leave t) may come = inr (counted_at (tab_at v t) may.1 (has_there A B v.tabs t all))
+    touched (Take t a u) may come = inr come
+    touched (Evict t a) may come = inr come
+    touched (Raise t to) may come =
+        inr (raising_at (λ w. MayRaise w to × StartsRight k s w) (λ f. MayEnd f to) (tab_at v t) may.1 (has_there A B v.tabs t all))
+    touched (Doom t) may come = inr (reading_at (tab_at v t) may.1 (has_there A B v.tabs t all))
+    touched (StoreSide t side value) may come =
+        inr (writing_at (λ w. (w.is_appending ≡ false) × MayStore k w side value) (tab_at v t) may.2 (has_there A B v.tabs t all))
+    touched m may come = inl refl
 
     -- A word at an anchor to which it does not come stays.
     pub anchor_stays : (i : ℕ) → Sound k s → get_elem? s.views i ≡ some v → (m : Move) → (may : MayStep k s v m) → ComesTo A m → (a : ℕ)
@@ -271,25 +261,4 @@ module _ {X : Type 0} (k : Setting X) (s : State X) (i : ℕ) (v : View X) (so :
       left_same (Publish t x link) may p there e = absurd (not_own x (published_own t x link may) p there e)
       left_same (Loosen t x) may p there e = absurd (not_own x (loosened_own t x may) p there e)
       left_same (GetLink t x) may p there e = refl
-      left_same (Look a) may p there e = off (Look a) may tt p there e
-      left_same (Enter t a) may p there e = off (Enter t a) may tt p there e
-      left_same (Leave t) may p there e = off (Leave t) may tt p there e
-      left_same Count may p there e = off Count may tt p there e
-      left_same Draw may p there e = off Draw may tt p there e
-      left_same (Take t a u) may p there e = off (Take t a u) may tt p there e
-      left_same (Evict t a) may p there e = off (Evict t a) may tt p there e
-      left_same (Raise t to) may p there e = off (Raise t to) may tt p there e
-      left_same (Doom t) may p there e = off (Doom t) may tt p there e
-      left_same (LoadSide t side) may p there e = off (LoadSide t side) may tt p there e
-      left_same (StoreSide t side value) may p there e = off (StoreSide t side value) may tt p there e
-      left_same (LookMap t word) may p there e = off (LookMap t word) may tt p there e
-      left_same (Disown t x) may p there e = off (Disown t x) may tt p there e
-      left_same (LogPiece t x durable) may p there e = off (LogPiece t x durable) may tt p there e
-      left_same (TryTurn t x) may p there e = off (TryTurn t x) may tt p there e
-      left_same (EndTurn t x then) may p there e = off (EndTurn t x then) may tt p there e
-      left_same (CellOut t x) may p there e = off (CellOut t x) may tt p there e
-      left_same (CellIn t x) may p there e = off (CellIn t x) may tt p there e
-      left_same Note may p there e = off Note may tt p there e
-      left_same (Learn note) may p there e = off (Learn note) may tt p there e
-      left_same (Write t x outcome) may p there e = off (Write t x outcome) may tt p there e
-      left_same (Sync t x kept) may p there e = off (Sync t x kept) may tt p there e
+      left_same m may p there e = off m may tt p there e

@@ -14,9 +14,9 @@ use Rattle.link_word.specs.Map.{taken_in}
 use Rattle.core_model.specs.declared.moves.Side.{Side}
 use Rattle.core_model.specs.declared.moves.Side.TheVariants.{Key0, Key1, Offer, Start}
 use Rattle.core_model.specs.declared.moves.Move.{Move}
-use Rattle.core_model.specs.declared.moves.Move.TheVariants.{Look, Enter, Leave, Count, Draw, Take, Evict, Raise, Doom, LoadSide, StoreSide, LookMap, Own, Disown, LogPiece, Publish, Loosen, GetLink, TryTurn, EndTurn, CellOut, CellIn, Note, Learn, Write, Sync}
+use Rattle.core_model.specs.declared.moves.Move.TheVariants.{Enter, Leave, Take, Evict, Raise, LoadSide, StoreSide, LookMap, Own, Disown, LogPiece, Publish, Loosen, GetLink, TryTurn, EndTurn, CellOut, CellIn, Write, Sync}
 use Rattle.core_model.specs.declared.moves.Then.{Then}
-use Rattle.core_model.specs.declared.moves.Then.TheVariants.{GoesOn, Stays, Wiped}
+use Rattle.core_model.specs.declared.moves.Then.TheVariants.{GoesOn}
 use Rattle.core_model.specs.declared.tab.Cell.{Cell}
 use Rattle.core_model.specs.declared.tab.Writer.{Writer}
 use Rattle.core_model.specs.declared.tab.Freer.{Freer}
@@ -99,131 +99,75 @@ module _ {X : Type 0} (A : ℕ → Type 0) (B : ℕ → ℕ → Type 0) where
   raised_has Appending n (Writing w) P Q o h = h
 
   loaded_has : (side : Side) (n : ℕ) (x : Tab X) → TabHas A B x → TabHas A B (loaded x side n)
-  loaded_has side n Free h = tt
-  loaded_has side n (Retreating b) h = h
   loaded_has Key0 n (Reading r) h = h
   loaded_has Key1 n (Reading r) h = h
   loaded_has Offer n (Reading r) h = h
   loaded_has Start n (Reading r) h = h
-  loaded_has side n (Writing w) h = h
-  loaded_has side n (Last b) h = h
-  loaded_has side n (Freeing f) h = h
+  loaded_has side n x h = h
 
   stores_has : (side : Side) (n : ℕ) (x : Tab X) → TabHas A B x → TabHas A B (stores x side n)
-  stores_has side n Free h = tt
-  stores_has side n (Retreating b) h = h
-  stores_has side n (Reading r) h = h
   stores_has Key0 n (Writing w) h = h
   stores_has Key1 n (Writing w) h = h
   stores_has Offer n (Writing w) h = h
   stores_has Start n (Writing w) h = h
-  stores_has side n (Last b) h = h
-  stores_has side n (Freeing f) h = h
+  stores_has side n x h = h
 
   -- a slot more is reserved, of which B holds wherever it is
   reserves_has : (slot : ℕ) → ((a : ℕ) → B a slot) → (x : Tab X) → TabHas A B x → TabHas A B (reserves x slot)
-  reserves_has slot new Free h = tt
-  reserves_has slot new (Retreating b) h = h
-  reserves_has slot new (Reading r) h = h
   reserves_has slot new (Writing w) h =
       (h.0, λ y c. ⊎_elim (λ q. h.1 y q) (λ q. one_more y q) (Contains-append_cases w.reserved (slot ∷ []) y c))
     where
       one_more : (y : ℕ) → Contains (slot ∷ []) y → B w.anchor y
       one_more y (zero, lt, e) = subst (B w.anchor) e (new w.anchor)
       one_more y (suc j, lt, e) = absurd (omega arith)
-  reserves_has slot new (Last b) h = h
-  reserves_has slot new (Freeing f) h = h
+  reserves_has slot new x h = h
 
   gives_back_has : (slot : ℕ) (x : Tab X) → TabHas A B x → TabHas A B (gives_back x slot)
-  gives_back_has slot Free h = tt
-  gives_back_has slot (Retreating b) h = h
-  gives_back_has slot (Reading r) h = h
   gives_back_has slot (Writing w) h = (h.0, λ y c. h.1 y ((in_without slot y w.reserved c).0))
-  gives_back_has slot (Last b) h = h
   gives_back_has slot (Freeing f) h = either_has A B ((length f.rest == 0) && (length (without slot f.loose) == 0) && not f.is_freeing) Free
       (Freeing record f { loose = without slot f.loose }) tt h
+  gives_back_has slot x h = h
 
   searches_has : (word n : ℕ) (x : Tab X) → TabHas A B x → TabHas A B (searches x word n)
-  searches_has word n Free h = tt
-  searches_has word n (Retreating b) h = h
-  searches_has word n (Reading r) h = h
   searches_has word n (Writing w) h = h
-  searches_has word n (Last b) h = h
-  searches_has word n (Freeing f) h = h
+  searches_has word n x h = h
 
   misses_has : (slot n : ℕ) (x : Tab X) → TabHas A B x → TabHas A B (misses x slot n)
-  misses_has slot n Free h = tt
-  misses_has slot n (Retreating b) h = h
-  misses_has slot n (Reading r) h = h
   misses_has slot n (Writing w) h = h
-  misses_has slot n (Last b) h = h
-  misses_has slot n (Freeing f) h = h
+  misses_has slot n x h = h
 
   logs_has : (slot : ℕ) (durable : Bool) (x : Tab X) → TabHas A B x → TabHas A B (logs x slot durable)
-  logs_has slot durable Free h = tt
-  logs_has slot durable (Retreating b) h = h
-  logs_has slot durable (Reading r) h = h
   logs_has slot durable (Writing w) h = h
-  logs_has slot durable (Last b) h = h
-  logs_has slot durable (Freeing f) h = h
+  logs_has slot durable x h = h
 
   publishes_has : (slot : ℕ) (link : Link) (x : Tab X) → TabHas A B x → TabHas A B (publishes x slot link)
-  publishes_has slot link Free h = tt
-  publishes_has slot link (Retreating b) h = h
-  publishes_has slot link (Reading r) h = h
   publishes_has slot link (Writing w) h = (h.0, λ y c. h.1 y (rest_contains w.reserved y c))
-  publishes_has slot link (Last b) h = h
-  publishes_has slot link (Freeing f) h = h
+  publishes_has slot link x h = h
 
   loosens_has : (slots : List ℕ) (x : Tab X) → TabHas A B x → TabHas A B (loosens x slots)
-  loosens_has slots Free h = tt
-  loosens_has slots (Retreating b) h = h
-  loosens_has slots (Reading r) h = h
-  loosens_has slots (Writing w) h = h
-  loosens_has slots (Last b) h = h
   loosens_has slots (Freeing f) h = (h.0, λ y c. h.1 y (rest_contains f.rest y c))
+  loosens_has slots x h = h
 
   looks_has : (n : ℕ) (x : Tab X) → TabHas A B x → TabHas A B (looks x n)
-  looks_has n Free h = tt
-  looks_has n (Retreating b) h = h
   looks_has n (Reading r) h = h
-  looks_has n (Writing w) h = h
-  looks_has n (Last b) h = h
-  looks_has n (Freeing f) h = h
+  looks_has n x h = h
 
   tries_has : (slot n : ℕ) (cell : Option (Cell X)) (x : Tab X) → TabHas A B x → TabHas A B (tries x slot n cell)
-  tries_has slot n cell Free h = tt
-  tries_has slot n cell (Retreating b) h = h
   tries_has slot n cell (Reading r) h = h
-  tries_has slot n cell (Writing w) h = h
-  tries_has slot n cell (Last b) h = h
-  tries_has slot n cell (Freeing f) h = h
+  tries_has slot n cell x h = h
 
   ends_has : (then : Then) (x : Tab X) → TabHas A B x → TabHas A B (ends x then)
-  ends_has then Free h = tt
-  ends_has then (Retreating b) h = h
   ends_has GoesOn (Reading r) h = h
-  ends_has Stays (Reading r) h = h
-  ends_has Wiped (Reading r) h = h
-  ends_has then (Writing w) h = h
-  ends_has then (Last b) h = h
   ends_has then (Freeing f) h = h
+  ends_has then x h = h
 
   moves_has : (out : Bool) (x : Tab X) → TabHas A B x → TabHas A B (moves x out)
-  moves_has out Free h = tt
-  moves_has out (Retreating b) h = h
   moves_has out (Reading r) h = h
-  moves_has out (Writing w) h = h
-  moves_has out (Last b) h = h
-  moves_has out (Freeing f) h = h
+  moves_has out x h = h
 
   rewrites_has : (kept settled : Bool) (cell : Option (Cell X)) (x : Tab X) → TabHas A B x → TabHas A B (rewrites x kept settled cell)
-  rewrites_has kept settled cell Free h = tt
-  rewrites_has kept settled cell (Retreating b) h = h
-  rewrites_has kept settled cell (Reading r) h = h
   rewrites_has kept settled cell (Writing w) h = h
-  rewrites_has kept settled cell (Last b) h = h
-  rewrites_has kept settled cell (Freeing f) h = h
+  rewrites_has kept settled cell x h = h
 
   abbrev pub TabsHave : List (Tab X) → Type 0
   TabsHave tabs = (t : ℕ) (x : Tab X) → get_elem? tabs t ≡ some x → TabHas A B x
@@ -267,12 +211,9 @@ module _ {X : Type 0} (A : ℕ → Type 0) (B : ℕ → ℕ → Type 0) where
         (sym (ne_eqb (taken_in n slot) 0 ne)) (misses_has slot n (tab_at v t) (has_at t)))
 
     pub tabs_have : (m : Move) → Allowed k s v m → News m → TabsHave (tabs_after v m (finding k s v m))
-    tabs_have (Look a) may new = all
     tabs_have (Enter t a) may new = one_has v.tabs all t (entered a (epoch_of (word s a))) (entered_has X A B a (epoch_of (word s a)) new)
     tabs_have (Leave t) may new = one_has v.tabs all t (left_tab (anchor_of (tab_at v t)) (word s (anchor_of (tab_at v t)) - 1))
         (counted_has (word s (anchor_of (tab_at v t)) - 1) (tab_at v t) may.1 (has_at t))
-    tabs_have Count may new = all
-    tabs_have Draw may new = all
     tabs_have (Take t a u) may new = all_either (word s a == last_find a v.trail) (taken_tabs v t a u (finding k s v (Take t a u))) v.tabs
         (one_has (cond (is_idle (word s a)) (set v.tabs inner (Freeing (freer_of a false (word s a) (chain_of s a)))) v.tabs)
         (all_either (is_idle (word s a)) (set v.tabs inner (Freeing (freer_of a false (word s a) (chain_of s a)))) v.tabs
@@ -289,7 +230,6 @@ module _ {X : Type 0} (A : ℕ → Type 0) (B : ℕ → ℕ → Type 0) where
         one_has v.tabs all t (raised_tab (tab_at v t) to (left_by v (Raise t to) (word s (anchor_of (tab_at v t)))))
         (raised_has to (left_by v (Raise t to) (word s (anchor_of (tab_at v t)))) (tab_at v t) (λ w. MayRaise w to × StartsRight k s w)
         (λ f. MayEnd f to) may.1 (has_at t))
-    tabs_have (Doom t) may new = all
     tabs_have (LoadSide t side) may new = one_has v.tabs all t (loaded (tab_at v t) side (number_found k s v (LoadSide t side)))
         (loaded_has side (number_found k s v (LoadSide t side)) (tab_at v t) (has_at t))
     tabs_have (StoreSide t side value) may new =
@@ -319,8 +259,6 @@ module _ {X : Type 0} (A : ℕ → Type 0) (B : ℕ → ℕ → Type 0) where
     tabs_have (EndTurn t slot then) may new = one_has v.tabs all t (ends (tab_at v t) then) (ends_has then (tab_at v t) (has_at t))
     tabs_have (CellOut t slot) may new = one_has v.tabs all t (moves (tab_at v t) true) (moves_has true (tab_at v t) (has_at t))
     tabs_have (CellIn t slot) may new = one_has v.tabs all t (moves (tab_at v t) false) (moves_has false (tab_at v t) (has_at t))
-    tabs_have Note may new = all
-    tabs_have (Learn note) may new = all
     tabs_have (Write t slot outcome) may new = one_has v.tabs all t
         (rewrites (tab_at v t) (is_kept outcome) (settled_by_write (tab_at v t) outcome) (cell_found k s v (Write t slot outcome)))
         (rewrites_has (is_kept outcome) (settled_by_write (tab_at v t) outcome) (cell_found k s v (Write t slot outcome)) (tab_at v t)
@@ -328,3 +266,4 @@ module _ {X : Type 0} (A : ℕ → Type 0) (B : ℕ → ℕ → Type 0) where
     tabs_have (Sync t slot kept) may new =
         one_has v.tabs all t (rewrites (tab_at v t) false (settled_by_sync (tab_at v t) kept) (cell_found k s v (Sync t slot kept)))
         (rewrites_has false (settled_by_sync (tab_at v t) kept) (cell_found k s v (Sync t slot kept)) (tab_at v t) (has_at t))
+    tabs_have m may new = all

@@ -3,7 +3,7 @@ use Rattle.std.proofs.Common.{◌≡◌, ◌≢◌, ◌⊎◌, inl, inr, ⊎_eli
 use mathlib.Core.Option.{some, some-injective, some-ne-none}
 use lib.ListN.{get_elem?}
 use Rattle.core_model.specs.declared.moves.Move.{Move}
-use Rattle.core_model.specs.declared.moves.Move.TheVariants.{Look, Enter, Leave, Count, Draw, Take, Evict, Raise, Doom, LoadSide, StoreSide, LookMap, Own, Disown, LogPiece, Publish, Loosen, GetLink, TryTurn, EndTurn, CellOut, CellIn, Note, Learn, Write, Sync}
+use Rattle.core_model.specs.declared.moves.Move.TheVariants.{Note, Learn}
 use Rattle.core_model.specs.declared.view.View.{View}
 use Rattle.core_model.specs.CellMoves.{free_note, note_of, spent}
 use Rattle.core_model.specs.Layout.{Setting}
@@ -39,31 +39,7 @@ module _ {X : Type 0} (k : Setting X) (s : State X) (i : ℕ) (v : View X) where
 
   pub view_was : (m : Move) (j : ℕ) (w : View X) → get_elem? (after k s i v m).views j ≡ some w
       → ViewWas (view_after v m (finding k s v m)) j w
-  view_was (Look a) j w h = was_set (view_after v (Look a) (finding k s v (Look a))) j w h
-  view_was (Enter t a) j w h = was_set (view_after v (Enter t a) (finding k s v (Enter t a))) j w h
-  view_was (Leave t) j w h = was_set (view_after v (Leave t) (finding k s v (Leave t))) j w h
-  view_was Count j w h = was_set (view_after v Count (finding k s v Count)) j w h
-  view_was Draw j w h = was_set (view_after v Draw (finding k s v Draw)) j w h
-  view_was (Take t a u) j w h = was_set (view_after v (Take t a u) (finding k s v (Take t a u))) j w h
-  view_was (Evict t a) j w h = was_set (view_after v (Evict t a) (finding k s v (Evict t a))) j w h
-  view_was (Raise t to) j w h = was_set (view_after v (Raise t to) (finding k s v (Raise t to))) j w h
-  view_was (Doom t) j w h = was_set (view_after v (Doom t) (finding k s v (Doom t))) j w h
-  view_was (LoadSide t side) j w h = was_set (view_after v (LoadSide t side) (finding k s v (LoadSide t side))) j w h
-  view_was (StoreSide t side value) j w h = was_set (view_after v (StoreSide t side value) (finding k s v (StoreSide t side value))) j w h
-  view_was (LookMap t word) j w h = was_set (view_after v (LookMap t word) (finding k s v (LookMap t word))) j w h
-  view_was (Own t slot) j w h = was_set (view_after v (Own t slot) (finding k s v (Own t slot))) j w h
-  view_was (Disown t slot) j w h = was_set (view_after v (Disown t slot) (finding k s v (Disown t slot))) j w h
-  view_was (LogPiece t slot durable) j w h =
-      was_set (view_after v (LogPiece t slot durable) (finding k s v (LogPiece t slot durable))) j w h
-  view_was (Publish t slot link) j w h = was_set (view_after v (Publish t slot link) (finding k s v (Publish t slot link))) j w h
-  view_was (Loosen t slot) j w h = was_set (view_after v (Loosen t slot) (finding k s v (Loosen t slot))) j w h
-  view_was (GetLink t slot) j w h = was_set (view_after v (GetLink t slot) (finding k s v (GetLink t slot))) j w h
-  view_was (TryTurn t slot) j w h = was_set (view_after v (TryTurn t slot) (finding k s v (TryTurn t slot))) j w h
-  view_was (EndTurn t slot then) j w h = was_set (view_after v (EndTurn t slot then) (finding k s v (EndTurn t slot then))) j w h
-  view_was (CellOut t slot) j w h = was_set (view_after v (CellOut t slot) (finding k s v (CellOut t slot))) j w h
-  view_was (CellIn t slot) j w h = was_set (view_after v (CellIn t slot) (finding k s v (CellIn t slot))) j w h
   view_was Note j w h = let p : ℕ = k.passes + free_note (drop k.passes s.views) in
       let u : View X = view_after v Note (finding k s v Note) in noted (ltb p (length (set s.views i u))) p u j w h
   view_was (Learn note) j w h = over (k.passes + note) (view_after v (Learn note) (finding k s v (Learn note))) spent refl j w h
-  view_was (Write t slot outcome) j w h = was_set (view_after v (Write t slot outcome) (finding k s v (Write t slot outcome))) j w h
-  view_was (Sync t slot kept) j w h = was_set (view_after v (Sync t slot kept) (finding k s v (Sync t slot kept))) j w h
+  view_was m j w h = was_set (view_after v m (finding k s v m)) j w h

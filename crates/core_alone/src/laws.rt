@@ -2,10 +2,11 @@
 ghost use Rattle.std.specs.Prelude.{Bool, Contains, List, Some, [], true, ◌+◌, ◌++◌, ◌<◌, ◌≡◌, ◌≢◌, ◌≤◌, ℕ};
 ghost use mathlib.Core.Option.{some};
 ghost use lib.ListN.{get_elem?};
+ghost use Rattle.link_word.specs.Map.{taken_in};
 ghost use Rattle.link_word.specs.declared.link.Link.{Link as LinkOf};
 ghost use Rattle.lock_word.specs.Words.{epoch_of, stage_of};
 ghost use Rattle.core_model.specs.declared.moves.Move.{Move};
-ghost use Rattle.core_model.specs.declared.moves.Move.TheVariants.{Draw};
+ghost use Rattle.core_model.specs.declared.moves.Move.TheVariants.{Draw, Own};
 ghost use Rattle.core_model.specs.declared.moves.Side.{Side};
 ghost use Rattle.core_model.specs.declared.moves.Side.TheVariants.{Start};
 ghost use Rattle.core_model.specs.declared.tab.Freer.{Freer};
@@ -14,20 +15,22 @@ ghost use Rattle.core_model.specs.declared.tab.Tab.{Tab};
 ghost use Rattle.core_model.specs.declared.tab.Writer.{Writer};
 ghost use Rattle.core_model.specs.declared.view.Item.{Item};
 ghost use Rattle.core_model.specs.declared.view.Kind.{Kind};
+ghost use Rattle.core_model.specs.declared.view.Place.{Place};
 ghost use Rattle.core_model.specs.declared.view.Place.TheVariants.{Anchor, Beside, Link};
 ghost use Rattle.core_model.specs.declared.view.View.{View};
 ghost use Rattle.core_model.specs.Chains.{IsSpelled};
-ghost use Rattle.core_model.specs.Layout.{Setting};
+ghost use Rattle.core_model.specs.Layout.{Setting, index};
 ghost use Rattle.core_model.specs.Opening.{new_views};
 ghost use Rattle.core_model.specs.Slots.{told};
 ghost use Rattle.core_model.specs.Sound.{AnchorsSound, Sound};
-ghost use Rattle.core_model.specs.State.{State, chain_of, word};
-ghost use Rattle.core_model.specs.Steps.{after, number_found};
-ghost use Rattle.core_model.specs.Table.{MayStep, place};
+ghost use Rattle.core_model.specs.State.{Finding, State, chain_of, word};
+ghost use Rattle.core_model.specs.Steps.{after, number_found, view_after};
+ghost use Rattle.core_model.specs.Table.{MayStep, left_by, place};
 ghost use Rattle.core_model.specs.TableForms.{IsNoteAt, IsSpentAt, MayBlank, MayRewrite, learned_from, noted_at, noted_behind, with_held, with_wiped};
 ghost use Rattle.core_model.specs.Tabs.{IsPass};
 ghost use Rattle.core_model.specs.Trails.{drawn};
 ghost use Rattle.core_alone.specs.Alone.{ComesRight, HoldsSlot, IsTabAt, MayCome, StandsAlone, has_word, link_in};
+ghost use Rattle.core_alone.specs.Touched.{touched_by};
 ghost use Rattle.core_alone.specs.Versions.{renamed_from};
 
 /// What passes know of the anchors that are left to them they know after each step of any pass, if that comes to no
@@ -89,6 +92,18 @@ pub fn what_is_alone_is_found<X>()
         → StandsAlone left k s → get_elem? s.views i ≡ some v → MayStep k s v m → left v.pass a ≡ true
         → get_elem? v.tabs t ≡ some tab → IsTabAt tab a → HoldsSlot tab slot
         → place v m ≡ Some (Link slot) → number_found k s v m ≡ has_word k v (Link slot) }
+{}
+
+/// What a pass has of words after a step of it: of the word that the step is on what the step left, of a slot that it
+/// reserved no link, and of each word that it did not touch what it had before.
+pub fn passes_have_what_they_left<X>()
+    ensures left { (k : Setting X) (v : View X) (m : Move) (x : Finding X) (p : Place)
+        → place v m ≡ Some p → has_word k (view_after v m x) p ≡ left_by v m x.word }
+    ensures reserved { (k : Setting X) (v : View X) (t slot : ℕ) (x : Finding X)
+        → taken_in x.word slot ≡ 0 → has_word k (view_after v (Own t slot) x) (Link slot) ≡ 0 }
+    ensures untouched { (k : Setting X) (v : View X) (m : Move) (x : Finding X) (p : Place)
+        → ((q : Place) → Contains (touched_by v m x.word) q → index k q ≡ index k p → ⊥)
+        → has_word k (view_after v m x) p ≡ has_word k v p }
 {}
 
 /// What a pass has of words spells the chain of each anchor that is left to it, and nothing else: while the entry
