@@ -12,3 +12,4 @@ pub mod Coming
 pub mod Opened
 pub mod Renewed
 pub mod Touched
+pub mod LinkSteps

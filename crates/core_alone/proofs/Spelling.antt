@@ -1,5 +1,5 @@
 -- The chain of an anchor that is left to a pass is spelled by what the pass has of words, also where its writer gave up.
-use Rattle.std.proofs.Common.{◌≡◌, ◌≢◌, ℕ, ◌<◌, ◌≤◌, List, [], ◌∷◌, ◌++◌, Bool, true, eq-eqb, ne_eqb, sym, refl, ap, ◌∙◌, subst, arith, Contains}
+use Rattle.std.proofs.Common.{◌≡◌, ◌≢◌, ◌⊎◌, inl, inr, ℕ, ◌<◌, ◌≤◌, List, [], ◌∷◌, ◌++◌, Bool, true, eq-eqb, ne_eqb, sym, refl, ap, ◌∙◌, subst, arith, Contains}
 use Rattle.std.proofs.lemmas.List.Elements.{Contains-append_left, Contains-append_right}
 use mathlib.Core.Logic.{dite}
 use mathlib.Core.Option.{some, some-injective}
@@ -12,12 +12,13 @@ use Rattle.core_model.specs.declared.chain.Chain.{Chain}
 use Rattle.core_model.specs.declared.moves.Side.TheVariants.{Start}
 use Rattle.core_model.specs.declared.spot.Spot.TheVariants.{Reserved}
 use Rattle.core_model.specs.declared.tab.Tab.TheVariants.{Writing}
-use Rattle.core_model.specs.declared.view.Place.TheVariants.{Beside}
+use Rattle.core_model.specs.declared.view.Place.TheVariants.{Beside, Link}
+use Rattle.core_model.specs.declared.tab.Writer.{Writer}
 use Rattle.core_model.specs.declared.view.View.{View}
 use Rattle.core_model.specs.Chains.{EndsUnwritten, IsSpelled, Tied, rest_of, slots_of_link}
 use Rattle.core_model.specs.Holders.{HasWriter}
 use Rattle.core_model.specs.Layout.{Setting}
-use Rattle.core_model.specs.Slots.{ChainStands, held_in, published_in, resting_in, slot_words, standing_in, told, used}
+use Rattle.core_model.specs.Slots.{ChainStands, slot_words, told, WriterHolds}
 use Rattle.core_model.specs.Sound.{Sound}
 use Rattle.core_model.specs.State.{State, chain_of, word}
 use Rattle.core_model.proofs.Matching.{has_writer}
@@ -27,7 +28,7 @@ use Rattle.core_model.proofs.SlotsOpened.{spells_alike}
 use Rattle.core_model.proofs.SpelledOnce.{spelled_once}
 use Rattle.core_model.proofs.Tabs.{contains_times}
 use Rattle.core_model.proofs.Telling.{stage_told, told_in}
-use Rattle.core_alone.specs.Alone.{KnowsAlone, StandsAlone, has_word, link_in}
+use Rattle.core_alone.specs.Alone.{KnowsAlone, StandsAlone, has_word, link_in, KnowsWord}
 use Rattle.core_alone.proofs.Inside.{chained_inside, tab_slot_inside}
 
 -- the links that a pass has, and 0 for a slot that the table does not have
@@ -61,10 +62,17 @@ module _ {X : Type 0} (left : ℕ → ℕ → Bool) (k : Setting X) (s : State X
   unwritten_tail x m = tail_unwritten k.anchors (slot_words k s.words) s.chains s.views so.slots x a
       (let many = so.anchors.shaped.chains in omega arith) (contains_times x c.tail m)
 
-  -- While it grows, the slot that its last link names is reserved by the tab of this pass that writes there.
-  by_writer : (x : ℕ) → c.end ≡ Next x → is_written (epoch_of (word s a)) ≡ true → links_in k v x ≡ 0
-  by_writer x e h = told_in k.slots x _ inside ∙ sym (mine.held w.t a x (Writing w.writer) own w.anchor_is is reserved)
-      ∙ unwritten k s so.anchors.shaped so.slots x inside (Reserved w.i w.t) tt (w.writer, w.tab, reserved)
+  -- a tab of the pass that writes there has reserved the slot
+  record ReservedHere (x : ℕ) : Type 0 where
+    t : ℕ
+    writer : Writer X
+    there : get_elem? v.tabs t ≡ some (Writing writer)
+    anchor_is : writer.anchor ≡ a
+    reserved : Contains writer.reserved x
+
+  -- While the entry is written, the slot that its last link names is reserved by such a tab.
+  by_writer : (x : ℕ) → c.end ≡ Next x → is_written (epoch_of (word s a)) ≡ true → ReservedHere x
+  by_writer x e h = record { t = w.t; writer = w.writer; there = own; anchor_is = w.anchor_is; reserved = reserved }
     where
       w : HasWriter s a
       w = has_writer k s so.anchors a lt h
@@ -76,8 +84,7 @@ module _ {X : Type 0} (left : ℕ → ℕ → Bool) (k : Setting X) (s : State X
       own = subst (λ (u : View X). get_elem? u.tabs w.t ≡ some (Writing w.writer))
           (some-injective w.tab.view v (sym w.tab.at ∙ ap (get_elem? s.views) here ∙ at)) w.tab.there
 
-      holds : Rattle.core_model.specs.Slots.WriterHolds ((slot_words k s.words).beside w.writer.anchor)
-          (chain_of s w.writer.anchor) w.writer
+      holds : WriterHolds ((slot_words k s.words).beside w.writer.anchor) (chain_of s w.writer.anchor) w.writer
       holds = so.slots.tabs w.i w.tab.view w.tab.at w.t (Writing w.writer) w.tab.there
 
       end_is : w.writer.end ≡ Next x
@@ -90,15 +97,12 @@ module _ {X : Type 0} (left : ℕ → ℕ → Bool) (k : Setting X) (s : State X
       reserved = subst (λ (z : List ℕ). Contains z x) (sym (tied w.writer.end w.writer.published w.writer.reserved end_is holds.tied))
           (0, omega arith, refl)
 
-      inside : x < k.slots
-      inside = tab_slot_inside k s so i v at w.t x (Writing w.writer) own reserved
-
-  end_unwritten : (x : ℕ) → c.end ≡ Next x → 2 ≤ stage_at → stage_at ≤ 4 → links_in k v x ≡ 0
-  end_unwritten x e least most = dite (ℕ_discrete stage_at 4)
-      (λ four. let there = in_tail (stands.tails ∙ (let b = eq-eqb _ 4 (stage_is ∙ four) in rw b refl)) in link_is x
-      (Contains-append_right c.slots c.tail x there) ∙ unwritten_tail x there)
+  -- where the slot is that the last link of an entry names: it is the tail, or reserved by the tab that writes there
+  end_spot : (x : ℕ) → c.end ≡ Next x → 2 ≤ stage_at → stage_at ≤ 4 → Contains c.tail x ⊎ ReservedHere x
+  end_spot x e least most = dite (ℕ_discrete stage_at 4)
+      (λ four. inl (in_tail (stands.tails ∙ (let b = eq-eqb _ 4 (stage_is ∙ four) in rw b refl))))
       (λ nf. dite (ℕ_discrete stage_at 2)
-      (λ two. by_writer x e (let f = ne_eqb stage_at 1 (λ h. omega arith) in let b = eq-eqb stage_at 2 two in rw (f, b) refl))
+      (λ two. inr (by_writer x e (let f = ne_eqb stage_at 1 (λ h. omega arith) in let b = eq-eqb stage_at 2 two in rw (f, b) refl)))
       (λ nt. absurd (no_next (sym e ∙ stands.closed (stage_is ∙ three nf nt)))))
     where
       three : stage_at ≢ 4 → stage_at ≢ 2 → stage_at ≡ 3
@@ -109,6 +113,24 @@ module _ {X : Type 0} (left : ℕ → ℕ → Bool) (k : Setting X) (s : State X
 
       in_tail : c.tail ≡ slots_of_link c.end → Contains c.tail x
       in_tail h = subst (λ (z : List ℕ). Contains z x) (sym (h ∙ ap slots_of_link e)) (0, omega arith, refl)
+
+  -- the pass has its link, which is not written
+  pub end_known : (x : ℕ) → c.end ≡ Next x → 2 ≤ stage_at → stage_at ≤ 4 → KnowsWord k s v (Link x)
+  end_known x e least most = by_spot (end_spot x e least most)
+    where
+      by_spot : Contains c.tail x ⊎ ReservedHere x → KnowsWord k s v (Link x)
+      by_spot (inl there) = mine.links a x lt is (Contains-append_right c.slots c.tail x there)
+      by_spot (inr r) = mine.held r.t a x (Writing r.writer) r.there r.anchor_is is r.reserved
+
+  end_unwritten : (x : ℕ) → c.end ≡ Next x → 2 ≤ stage_at → stage_at ≤ 4 → links_in k v x ≡ 0
+  end_unwritten x e least most = by_spot (end_spot x e least most)
+    where
+      by_spot : Contains c.tail x ⊎ ReservedHere x → links_in k v x ≡ 0
+      by_spot (inl there) = link_is x (Contains-append_right c.slots c.tail x there) ∙ unwritten_tail x there
+      by_spot (inr r) = let inside = tab_slot_inside k s so i v at r.t x (Writing r.writer) r.there r.reserved in
+          told_in k.slots x _ inside ∙ sym (mine.held r.t a x (Writing r.writer) r.there r.anchor_is is r.reserved)
+          ∙ unwritten k s so.anchors.shaped so.slots x inside (Reserved i r.t) tt
+          (r.writer, record { view = v; at = at; there = r.there }, r.reserved)
 
   ends : 2 ≤ stage_at → stage_at ≤ 4 → (e : LinkOf) → c.end ≡ e → EndsUnwritten (links_in k v) e
   ends least most NotWritten e = tt

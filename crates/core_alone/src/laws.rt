@@ -6,7 +6,7 @@ ghost use Rattle.link_word.specs.Map.{taken_in};
 ghost use Rattle.link_word.specs.declared.link.Link.{Link as LinkOf};
 ghost use Rattle.lock_word.specs.Words.{epoch_of, stage_of};
 ghost use Rattle.core_model.specs.declared.moves.Move.{Move};
-ghost use Rattle.core_model.specs.declared.moves.Move.TheVariants.{Draw, Own};
+ghost use Rattle.core_model.specs.declared.moves.Move.TheVariants.{Draw, GetLink, Loosen, Own, Publish};
 ghost use Rattle.core_model.specs.declared.moves.Side.{Side};
 ghost use Rattle.core_model.specs.declared.moves.Side.TheVariants.{Start};
 ghost use Rattle.core_model.specs.declared.tab.Freer.{Freer};
@@ -27,7 +27,7 @@ ghost use Rattle.core_model.specs.State.{Finding, State, chain_of, word};
 ghost use Rattle.core_model.specs.Steps.{after, number_found, view_after};
 ghost use Rattle.core_model.specs.Table.{MayStep, left_by, place};
 ghost use Rattle.core_model.specs.TableForms.{IsNoteAt, IsSpentAt, MayBlank, MayRewrite, learned_from, noted_at, noted_behind, with_held, with_wiped};
-ghost use Rattle.core_model.specs.Tabs.{IsPass};
+ghost use Rattle.core_model.specs.Tabs.{IsPass, inner, tab_at};
 ghost use Rattle.core_model.specs.Trails.{drawn};
 ghost use Rattle.core_alone.specs.Alone.{ComesRight, HoldsSlot, IsTabAt, MayCome, StandsAlone, has_word, link_in};
 ghost use Rattle.core_alone.specs.Touched.{touched_by};
@@ -92,6 +92,23 @@ pub fn what_is_alone_is_found<X>()
         → StandsAlone left k s → get_elem? s.views i ≡ some v → MayStep k s v m → left v.pass a ≡ true
         → get_elem? v.tabs t ≡ some tab → IsTabAt tab a → HoldsSlot tab slot
         → place v m ≡ Some (Link slot) → number_found k s v m ≡ has_word k v (Link slot) }
+{}
+
+/// A step on a link, by a tab at an anchor that is left to its pass, finds what the pass has: where a slot is published,
+/// where one is taken out of a chain that is given back, and where a tab looks at the link of its next slot.
+pub fn links_are_known_alone<X>()
+    ensures published { (left : ℕ → ℕ → Bool) (k : Setting X) (s : State X) (i : ℕ) (v : View X) (t a slot : ℕ) (link : LinkOf)
+        → Sound k s → StandsAlone left k s → get_elem? s.views i ≡ some v → MayStep k s v (Publish t slot link)
+        → IsTabAt (tab_at v t) a → left v.pass a ≡ true
+        → number_found k s v (Publish t slot link) ≡ has_word k v (Link slot) }
+    ensures loosened { (left : ℕ → ℕ → Bool) (k : Setting X) (s : State X) (i : ℕ) (v : View X) (t a slot : ℕ)
+        → Sound k s → StandsAlone left k s → get_elem? s.views i ≡ some v → MayStep k s v (Loosen t slot)
+        → IsTabAt (tab_at v inner) a → left v.pass a ≡ true
+        → number_found k s v (Loosen t slot) ≡ has_word k v (Link slot) }
+    ensures looked { (left : ℕ → ℕ → Bool) (k : Setting X) (s : State X) (i : ℕ) (v : View X) (t a slot : ℕ)
+        → Sound k s → StandsAlone left k s → get_elem? s.views i ≡ some v → MayStep k s v (GetLink t slot)
+        → IsTabAt (tab_at v t) a → left v.pass a ≡ true
+        → number_found k s v (GetLink t slot) ≡ has_word k v (Link slot) }
 {}
 
 /// What a pass has of words after a step of it: of the word that the step is on what the step left, of a slot that it

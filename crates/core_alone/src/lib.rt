@@ -6,7 +6,7 @@ mod laws;
 
 pub use laws::{
     chains_are_known_alone, drawn_versions_rise, held_cells_keep_what_is_alone,
-    notes_learned_keep_what_is_alone, notes_made_keep_what_is_alone, openings_stand_alone,
-    passes_come_to_their_own, passes_have_what_they_left, renamings_go_on,
+    links_are_known_alone, notes_learned_keep_what_is_alone, notes_made_keep_what_is_alone,
+    openings_stand_alone, passes_come_to_their_own, passes_have_what_they_left, renamings_go_on,
     steps_keep_what_is_alone, what_is_alone_is_found,
 };
