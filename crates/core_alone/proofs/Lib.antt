@@ -1,0 +1,15 @@
+pub mod Following
+pub mod Linking
+pub mod Tabbing
+pub mod Others
+pub mod Chaining
+pub mod Views
+pub mod Inside
+pub mod Finding
+pub mod Kept
+pub mod Spelling
+pub mod Coming
+pub mod Opened
+pub mod Renewed
+pub mod Touched
+pub mod LinkSteps
