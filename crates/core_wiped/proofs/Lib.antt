@@ -1,0 +1,4 @@
+pub mod Over
+pub mod Marked
+pub mod Seen
+pub mod Starts

@@ -1,5 +1,5 @@
 // The laws on marks: what a pass or a note has seen as wiped.
-ghost use Rattle.std.specs.Prelude.{◌++◌, ◌≡◌, ◌≢◌, Contains, List, ℕ};
+ghost use Rattle.std.specs.Prelude.{◌++◌, ◌≡◌, ◌≢◌, Contains, List, [], ℕ};
 ghost use mathlib.Core.Option.{some};
 ghost use lib.ListN.{get_elem?};
 ghost use Rattle.rebuild_model.specs.declared.rebuilt.Rebuilt.{Rebuilt};
