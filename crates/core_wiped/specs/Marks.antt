@@ -1,5 +1,5 @@
 -- What it means that the first slot of an entry was wiped, and what a crash may leave of the slot from then on.
-use Rattle.std.specs.Prelude.{◌+◌, ◌<◌, ◌≡◌, ◌≢◌, ◌≤◌, ◌⊎◌, ℕ, Contains, List}
+use Rattle.std.specs.Prelude.{◌+◌, ◌<◌, ◌≡◌, ◌≢◌, ◌≤◌, ◌⊎◌, ℕ, Contains, List, Some}
 use mathlib.Core.Option.{some}
 use lib.ListN.{get_elem?}
 use Rattle.lock_word.specs.Words.{doom_of, epoch_of, stage_of, version_of}
@@ -53,11 +53,16 @@ StartsNamed k s log = (l : LoggedPiece) → Contains log l → version_of (epoch
 abbrev pub DeedsSeen : {X : Type 0} → State X → Type 0
 DeedsSeen {X} s = (i : ℕ) (v : View X) → get_elem? s.views i ≡ some v → (d : Deed) → Contains v.deeds d → Changes d.anchor d → IsSeen s.views (Stood d.anchor d.epoch)
 
+-- the piece that a tab chose is of the version that the tab writes, also where the tab gave a slot back
+abbrev pub ChoicesOwn : {X : Type 0} → State X → Type 0
+ChoicesOwn {X} s = (i t : ℕ) (w : Writer X) (p : Piece) → IsTab s i t (Writing w) → w.chosen ≡ Some p → p.version ≡ w.version
+
 -- all that holds of marks between two steps, and of what they are made from
 pub record MarksStand {X : Type 0} (k : Setting X) (s : State X) (log : List LoggedPiece) : Type 0 where
   pub marks : (a version slot : ℕ) → IsMarked s a version slot → IsWiped k s log a version slot
   pub starts : StartsNamed k s log
   pub deeds : DeedsSeen s
+  pub choices : ChoicesOwn s
 
 -- What follows from a mark.
 
