@@ -1,5 +1,5 @@
 -- The piece that a tab chose is of the version that the tab writes: a step keeps it.
-use Rattle.std.proofs.Common.{◌≡◌, ◌⊎◌, inl, inr, ⊎_elim, ℕ, List, Option, Some, None, refl, sym, ap, ◌∙◌, subst}
+use Rattle.std.proofs.Common.{◌≡◌, ◌⊎◌, inl, inr, ⊎_elim, ℕ, Some, None, sym, ap, ◌∙◌, subst}
 use mathlib.Core.Option.{some, some-injective, some-ne-none}
 use lib.ListN.{get_elem?}
 use Rattle.core_model.specs.declared.moves.Move.{Move}
@@ -18,7 +18,7 @@ use Rattle.core_model.specs.Table.{Allowed}
 use Rattle.core_model.specs.Tabs.{tab_at}
 use Rattle.core_model.proofs.Choices.{choice_after, view_was}
 use Rattle.core_model.proofs.Lists.{at_or}
-use Rattle.core_log.proofs.Follows.{Begins, Continues, Follow, tabs_follow}
+use Rattle.core_log.proofs.Follows.{Follow, tabs_follow}
 use Rattle.core_wiped.specs.Marks.{ChoicesOwn}
 
 none_some : (p : Piece) → None ≡ Some p → ⊥
@@ -47,9 +47,9 @@ module _ {X : Type 0} (k : Setting X) (s : State X) (i : ℕ) (v : View X) (at :
   pub choices_kept : ChoicesOwn (after k s i v m)
   choices_kept j t x p is c = ⊎_elim
       (λ (q : (j ≡ i) × (is.view ≡ view_after v m (finding k s v m))). mine t x p c (tabs_follow k s v m may t (Writing x) (subst (λ (z : View X). get_elem? z.tabs t ≡ some (Writing x)) q.1 is.there))
-          (subst (λ (n : ℕ). ChoiceAfter s i m n t x p) q.0 (choice_after k s i v m at may j t x p is c)))
+      (subst (λ (n : ℕ). ChoiceAfter s i m n t x p) q.0 (choice_after k s i v m at may j t x p is c)))
       (λ (q : (get_elem? s.views j ≡ some is.view) ⊎ (is.view ≡ note_of is.view)). ⊎_elim
-          (λ (r : get_elem? s.views j ≡ some is.view). own j t x p record { view = is.view; at = r; there = is.there } c)
-          (λ (r : is.view ≡ note_of is.view). absurd (some-ne-none (Writing x) (sym (subst (λ (z : View X). get_elem? z.tabs t ≡ some (Writing x)) r is.there))))
-          q)
+      (λ (r : get_elem? s.views j ≡ some is.view). own j t x p record { view = is.view; at = r; there = is.there } c)
+      (λ (r : is.view ≡ note_of is.view). absurd (some-ne-none (Writing x) (sym (subst (λ (z : View X). get_elem? z.tabs t ≡ some (Writing x)) r is.there))))
+      q)
       (view_was k s i v m j is.view is.at)

@@ -6,3 +6,6 @@ pub mod Choosing
 pub mod Left
 pub mod Marking
 pub mod MarksKept
+pub mod Opening
+pub mod Following
+pub mod Quiet

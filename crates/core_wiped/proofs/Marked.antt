@@ -1,5 +1,5 @@
 -- A step that sees a slot as wiped ends the turn of a tab that frees, which says so; or some pass or note had seen it.
-use Rattle.std.proofs.Common.{◌≡◌, ◌⊎◌, inl, inr, ⊎_elim, ℕ, ◌+◌, ◌==◌, List, [], ◌∷◌, ◌++◌, Bool, true, false, cond, refl, sym, ap, ◌∙◌, subst, arith, Contains, Option}
+use Rattle.std.proofs.Common.{◌≡◌, ◌⊎◌, inl, inr, ⊎_elim, ℕ, ◌+◌, ◌==◌, List, [], ◌∷◌, Bool, true, false, cond, refl, ap, subst, Contains, Option}
 use mathlib.Core.Option.{some}
 use lib.ListN.{get_elem?}
 use Rattle.core_model.specs.declared.moves.Move.{Move}

@@ -1,5 +1,5 @@
 -- A turn that ends with the slot wiped makes a mark that says what a mark says.
-use Rattle.std.proofs.Common.{◌≡◌, ◌≢◌, ◌⊎◌, inl, inr, ⊎_elim, ℕ, zero, suc, ◌+◌, ◌<◌, ◌≤◌, ◌==◌, List, [], ◌∷◌, ◌++◌, get_or, Bool, true, false, cond, Option, Some, None, refl, sym, ap, ◌∙◌, subst, arith, Contains}
+use Rattle.std.proofs.Common.{◌≡◌, inl, inr, ⊎_elim, ℕ, ◌+◌, ◌<◌, List, ◌++◌, get_or, Bool, None, refl, sym, ap, ◌∙◌, subst, arith, Contains}
 use mathlib.Core.Option.{some, some-injective}
 use lib.ListN.{get_elem?}
 use Rattle.lock_word.specs.Words.{doom_number, doom_of, epoch_of, stage_of, version_of}
@@ -11,7 +11,7 @@ use Rattle.core_model.specs.declared.tab.Cell.{Cell}
 use Rattle.core_model.specs.declared.tab.Freer.{Freer}
 use Rattle.core_model.specs.declared.tab.Hold.{Hold}
 use Rattle.core_model.specs.declared.tab.Tab.{Tab}
-use Rattle.core_model.specs.declared.tab.Tab.TheVariants.{Free, Freeing, Writing}
+use Rattle.core_model.specs.declared.tab.Tab.TheVariants.{Freeing, Writing}
 use Rattle.core_model.specs.declared.tab.Turn.{Turn}
 use Rattle.core_model.specs.declared.tab.Turn.TheVariants.{Has}
 use Rattle.core_model.specs.declared.tab.Writer.{Writer}
@@ -20,8 +20,8 @@ use Rattle.core_model.specs.declared.view.Sight.TheVariants.{Stood}
 use Rattle.core_model.specs.declared.view.View.{View}
 use Rattle.core_model.specs.Anchors.{opening_epoch}
 use Rattle.core_model.specs.CellMoves.{HasWiped, MayWipe}
-use Rattle.core_model.specs.Cells.{IsCell, IsHeldCell}
-use Rattle.core_model.specs.Chains.{rest_of, start_number}
+use Rattle.core_model.specs.Cells.{IsCell}
+use Rattle.core_model.specs.Chains.{start_number}
 use Rattle.core_model.specs.Deeds.{IsDone, LeftEpoch}
 use Rattle.core_model.specs.Holders.{IsTab}
 use Rattle.core_model.specs.Layout.{Setting}
@@ -29,17 +29,16 @@ use Rattle.core_model.specs.Sound.{Sound}
 use Rattle.core_model.specs.State.{State, side_word, word}
 use Rattle.core_model.specs.Steps.{after}
 use Rattle.core_model.specs.Table.{Allowed}
-use Rattle.core_model.specs.Tabs.{IsPass, OfFreer, tab_at, turn_of}
+use Rattle.core_model.specs.Tabs.{IsPass, OfFreer, turn_of}
 use Rattle.core_model.proofs.Holders.{is_away, one_holder}
-use Rattle.core_model.proofs.Lists.{contains_none, cons_contains}
 use Rattle.core_model.proofs.Matching.{matches_freed, matches_freer}
 use Rattle.core_model.proofs.Telling.{told_in}
-use Rattle.core_log.specs.Logged.{CellsLogged, LinksStand, LogStands, logged_now}
+use Rattle.core_log.specs.Logged.{LogStands, logged_now}
 use Rattle.core_log.specs.Seen.{IsSeen}
 use Rattle.core_log.proofs.Kept.{no_cell, there_at}
 use Rattle.core_log.proofs.KnownStays.{stays_seen}
 use Rattle.core_log.proofs.LinksKept.{new_is, one_of, split}
-use Rattle.core_wiped.specs.Marks.{DeedsSeen, IsOfOther, IsWiped, MarksStand, StartsNamed, WasFreed}
+use Rattle.core_wiped.specs.Marks.{IsWiped, MarksStand}
 use Rattle.core_wiped.proofs.Left.{IsChosenAt, IsPossible, was_left}
 use Rattle.core_wiped.proofs.Marked.{EndsWiped}
 
@@ -133,8 +132,8 @@ module _ {X : Type 0} (k : Setting X) (s : State X) (log : List LoggedPiece) (i 
         (λ (z : IsPossible k s slot x). held_alone z.cell x z.is z.possible)
         (⊎_elim
         (λ (z : IsChosenAt k s slot x). absurd (let one = one_holder k s so z.i i z.t e.t (Writing z.writer) (Freeing f) z.hold wiped.hold z.tab tab z.turn wiped.turn (z.slot_is ∙ sym slot_is) in
-            let view : z.tab.view ≡ v = some-injective z.tab.view v (sym z.tab.at ∙ ap (get_elem? s.views) one.0 ∙ at) in
-            writes_or_frees z.writer f (some-injective (Writing z.writer) (Freeing f) (sym z.tab.there ∙ ap (λ (u : View X). get_elem? u.tabs z.t) view ∙ ap (get_elem? v.tabs) one.1 ∙ there))))
+        let view : z.tab.view ≡ v = some-injective z.tab.view v (sym z.tab.at ∙ ap (get_elem? s.views) one.0 ∙ at) in
+        writes_or_frees z.writer f (some-injective (Writing z.writer) (Freeing f) (sym z.tab.there ∙ ap (λ (u : View X). get_elem? u.tabs z.t) view ∙ ap (get_elem? v.tabs) one.1 ∙ there))))
         (λ (z : x ≡ k.blank). z))
         (was_left k s log i v so st.cells at m may slot c x is q));
   }

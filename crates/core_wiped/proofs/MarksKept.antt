@@ -1,14 +1,12 @@
 -- A step keeps all that holds of marks.
-use Rattle.std.proofs.Common.{◌≡◌, ◌≢◌, ◌⊎◌, inl, inr, ⊎_elim, ℕ, zero, suc, ◌<◌, List, [], ◌∷◌, ◌++◌, refl, sym, ap, ◌∙◌, subst, arith, Contains}
+use Rattle.std.proofs.Common.{◌≡◌, ◌≢◌, inl, inr, ⊎_elim, ℕ, List, [], ◌∷◌, ◌++◌, sym, ap, ◌∙◌, subst, Contains}
 use mathlib.Core.Option.{some}
 use lib.ListN.{get_elem?}
 use Rattle.core_model.specs.declared.moves.Move.{Move}
-use Rattle.core_model.specs.declared.tab.Cell.{Cell}
 use Rattle.core_model.specs.declared.tab.Piece.{Piece}
 use Rattle.core_model.specs.declared.view.LoggedPiece.{LoggedPiece}
 use Rattle.core_model.specs.declared.view.Sight.TheVariants.{Stood, Wiped}
 use Rattle.core_model.specs.declared.view.View.{View}
-use Rattle.core_model.specs.Cells.{IsCell}
 use Rattle.core_model.specs.Layout.{Setting}
 use Rattle.core_model.specs.Sound.{Sound}
 use Rattle.core_model.specs.State.{State}
@@ -41,8 +39,12 @@ module _ {X : Type 0} (k : Setting X) where
 
   -- what a tab writes is of another version than one that is over
   pub chosen_other : (s : State X) (log : List LoggedPiece) (so : Sound k s) (st : LogStands k s log) (mk : MarksStand k s log) (a version slot j : ℕ) (x : X) → IsWiped k s log a version slot → IsChosenAt k s j x → IsOfOther k log version j x
-  chosen_other s log so st mk a version slot j x is c = inr (c.piece, chosen_logged k s log st.cells j x c,
-      (λ e. (over k s so a version is.freed).unwritten c.i c.t c.writer c.tab (sym (mk.choices c.i c.t c.writer c.piece c.tab c.chosen) ∙ e)), c.is)
+  chosen_other s log so st mk a version slot j x is c = inr (
+    c.piece,
+    chosen_logged k s log st.cells j x c,
+    (λ e. (over k s so a version is.freed).unwritten c.i c.t c.writer c.tab (sym (mk.choices c.i c.t c.writer c.piece c.tab c.chosen) ∙ e)),
+    c.is,
+  )
 
 module _ {X : Type 0} (k : Setting X) (s : State X) (log : List LoggedPiece) (i : ℕ) (v : View X) (m : Move) (so : Sound k s) (st : LogStands k s log) (mk : MarksStand k s log) (at : get_elem? s.views i ≡ some v) (may : MayStep k s v m) where
   -- no piece of a version that is over is logged

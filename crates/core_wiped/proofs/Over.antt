@@ -1,5 +1,5 @@
 -- A version that was seen doomed at FREEING is over: what stands at its anchor is not below it, no tab writes it, and no pass holds it.
-use Rattle.std.proofs.Common.{◌≡◌, ◌≢◌, ◌⊎◌, inl, inr, ⊎_elim, ℕ, ◌<◌, ◌≤◌, List, sym, refl, ap, ◌∙◌, subst, arith, Contains, Bool, true, false, cond}
+use Rattle.std.proofs.Common.{◌≡◌, ◌≢◌, inl, inr, ⊎_elim, ℕ, ◌<◌, ◌≤◌, sym, refl, ap, ◌∙◌, subst, arith, Contains, Bool, true, false, cond}
 use mathlib.Core.Option.{some}
 use mathlib.Core.Logic.{dite}
 use native.Mathlib.Decide.{ℕ_discrete}
@@ -13,7 +13,6 @@ use Rattle.core_model.specs.Layout.{Setting}
 use Rattle.core_model.specs.State.{State, word}
 use Rattle.core_model.specs.Holders.{IsTab}
 use Rattle.core_model.specs.Sound.{Sound}
-use Rattle.core_model.specs.Tabs.{stage_written}
 use Rattle.core_model.specs.Versions.{IsSighted, Leads}
 use Rattle.core_model.proofs.Matching.{matches_writer}
 use Rattle.core_wiped.specs.Marks.{IsOver, IsPast, WasFreed}

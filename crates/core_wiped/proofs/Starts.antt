@@ -1,5 +1,5 @@
 -- Where the version of a logged piece stands and is written no more, the Start word names the first slot of that piece: a step keeps it.
-use Rattle.std.proofs.Common.{◌≡◌, ◌≢◌, ◌⊎◌, inl, inr, ⊎_elim, ℕ, zero, suc, ◌+◌, ◌-◌, ◌*◌, ◌/◌, ◌%◌, ◌^◌, ◌<◌, ◌≤◌, ◌==◌, List, [], ◌∷◌, ◌++◌, length, get_or, set, Bool, true, false, cond, refl, sym, ap, ◌∙◌, subst, arith, Contains, eqb-true, get_or-set_same, get_or-set_other}
+use Rattle.std.proofs.Common.{◌≡◌, ◌≢◌, ◌⊎◌, inl, inr, ⊎_elim, ℕ, ◌+◌, ◌-◌, ◌/◌, ◌<◌, ◌≤◌, ◌==◌, List, [], ◌∷◌, ◌++◌, length, get_or, set, Bool, true, false, cond, refl, sym, ap, ◌∙◌, subst, arith, Contains, eqb-true, get_or-set_same, get_or-set_other}
 use mathlib.Core.Option.{some}
 use mathlib.Core.Logic.{dite}
 use native.Mathlib.Decide.{ℕ_discrete}
@@ -16,20 +16,17 @@ use Rattle.core_model.specs.declared.moves.Move.{Move}
 use Rattle.core_model.specs.declared.moves.Move.TheVariants.{Look, Enter, Leave, Count, Draw, Take, Evict, Raise, Doom, LoadSide, StoreSide, Own, Disown, Publish, Loosen, GetLink, TryTurn, EndTurn, CellOut, CellIn, Note, Learn, Write, Sync, LookMap, LogPiece}
 use Rattle.core_model.specs.declared.moves.Side.{Side}
 use Rattle.core_model.specs.declared.moves.Side.TheVariants.{Start}
-use Rattle.core_model.specs.declared.tab.Freer.{Freer}
-use Rattle.core_model.specs.declared.tab.Tab.{Tab}
-use Rattle.core_model.specs.declared.tab.Tab.TheVariants.{Writing, Freeing}
+use Rattle.core_model.specs.declared.tab.Tab.TheVariants.{Writing}
 use Rattle.core_model.specs.declared.tab.Writer.{Writer}
 use Rattle.core_model.specs.declared.view.LoggedPiece.{LoggedPiece}
-use Rattle.core_model.specs.declared.view.Place.{Place}
-use Rattle.core_model.specs.declared.view.Place.TheVariants.{Anchor, Beside}
+use Rattle.core_model.specs.declared.view.Place.TheVariants.{Beside}
 use Rattle.core_model.specs.declared.view.View.{View}
 use Rattle.core_model.specs.AnchorMoves.{MayEnd, MayEvict, MayRaise, StartsRight}
 use Rattle.core_model.specs.Chains.{first_of, start_number}
-use Rattle.core_model.specs.Layout.{IsPlace, Setting, anchor_index, beside_index, counter_index, index, link_index, log_index, map_index, side_index, turn_index, word_count, word_in}
+use Rattle.core_model.specs.Layout.{Setting, anchor_index, beside_index, counter_index, index, link_index, log_index, map_index, turn_index}
 use Rattle.core_model.specs.SlotMoves.{MayStore}
 use Rattle.core_model.specs.Sound.{Sound}
-use Rattle.core_model.specs.State.{State, chain_of, side_word, word}
+use Rattle.core_model.specs.State.{State, side_word, word}
 use Rattle.core_model.specs.Steps.{after}
 use Rattle.core_model.specs.Table.{Allowed}
 use Rattle.core_model.specs.Tabs.{IsPass, anchor_of, stage_held, stage_written, tab_at}
@@ -37,7 +34,7 @@ use Rattle.core_model.specs.Trails.{last_find}
 use Rattle.core_model.proofs.EntersKept.{few_readers}
 use Rattle.core_model.proofs.Knowing.{knows}
 use Rattle.core_model.proofs.Matching.{matches_writer}
-use Rattle.core_model.proofs.Places.{beside_far, side_below, side_same, within}
+use Rattle.core_model.proofs.Places.{beside_far, side_below, within}
 use Rattle.core_model.proofs.ReservesKept.{of_writer, of_freer, tab_was}
 use Rattle.core_model.proofs.Telling.{stage_told, told_in}
 use Rattle.core_model.specs.declared.chain.Chain.{Chain}
@@ -109,10 +106,11 @@ module _ {X : Type 0} (k : Setting X) (s : State X) (i : ℕ) (v : View X) (so :
       here : b ≡ a → (version_of (epoch_of (get_or (set s.words (anchor_index b) n) (anchor_index a) 0)) ≡ version_of (epoch_of (word s a)))
           × (get_or (set s.words (anchor_index b) n) (beside_index Start a) 0 ≡ side_word k s Start a) × ((3 ≤ stage_of (epoch_of (word s a))) ⊎ IsRaising m a)
       here e = let w : get_or (set s.words (anchor_index b) n) (anchor_index a) 0 ≡ n = ap (λ (z : ℕ). get_or (set s.words (anchor_index b) n) (anchor_index z) 0) (sym e) ∙ get_or-set_same s.words (anchor_index b) n 0 (wide b lt) in
-          let q = comes (let z = ap (λ (y : ℕ). stage_of (epoch_of y)) w in omega arith) in
-          (ap (λ (z : ℕ). version_of (epoch_of z)) w ∙ q.0 ∙ ap (λ (z : ℕ). version_of (epoch_of (word s z))) e,
-          get_or-set_other s.words (anchor_index b) (beside_index Start a) n 0 (λ z. omega arith),
-          subst (λ (z : ℕ). (3 ≤ stage_of (epoch_of (word s z))) ⊎ IsRaising m z) e q.1)
+          let q = comes (let z = ap (λ (y : ℕ). stage_of (epoch_of y)) w in omega arith) in (
+            ap (λ (z : ℕ). version_of (epoch_of z)) w ∙ q.0 ∙ ap (λ (z : ℕ). version_of (epoch_of (word s z))) e,
+            get_or-set_other s.words (anchor_index b) (beside_index Start a) n 0 (λ z. omega arith),
+            subst (λ (z : ℕ). (3 ≤ stage_of (epoch_of (word s z))) ⊎ IsRaising m z) e q.1,
+          )
 
   tried : (m : Move) (hit : Bool) (b n a : ℕ) → b < k.anchors → (hit ≡ true → Comes m b n) → Follows m a (set s.words (anchor_index b) (cond hit n (word s b)))
   tried m true b n a lt comes = on_anchor m b n a lt (comes refl)
