@@ -8,6 +8,7 @@ use Rattle.core_model.specs.declared.tab.Freer.{Freer}
 use Rattle.core_model.specs.declared.tab.Hold.{Hold}
 use Rattle.core_model.specs.declared.tab.Piece.{Piece}
 use Rattle.core_model.specs.declared.tab.Reader.{Reader}
+use Rattle.core_model.specs.declared.tab.Tab.{Tab}
 use Rattle.core_model.specs.declared.tab.Tab.TheVariants.{Freeing, Reading, Writing}
 use Rattle.core_model.specs.declared.tab.Turn.TheVariants.{Has}
 use Rattle.core_model.specs.declared.tab.Writer.{Writer}
@@ -25,7 +26,7 @@ use Rattle.core_model.specs.Tabs.{tab_at, turn_of}
 use Rattle.core_model.proofs.CellsTab.{turn_tab}
 use Rattle.core_log.specs.Logged.{CellsLogged, HasLogged}
 use Rattle.core_log.proofs.Changes.{Goes, HoldWas, WasHome}
-use Rattle.core_log.proofs.Kept.{chosen_some, home_was, mine, one_slot, tab_was, writes_at}
+use Rattle.core_log.proofs.Kept.{chosen_some, home_was, mine, one_slot, tab_was, there_at}
 
 module _ {X : Type 0} (k : Setting X) (s : State X) where
   -- a crash might leave it
@@ -55,22 +56,23 @@ module _ {X : Type 0} (k : Setting X) (s : State X) where
   chosen_logged log cl slot x c = let found = cl.chosen c.i c.t c.writer c.piece c.tab c.chosen in
       subst (λ (n : ℕ). HasLogged log n c.piece) (one_slot found.0 c.hold.slot (sym found.1.slot_is ∙ cl.turn c.i c.t c.writer c.hold c.tab c.turn) ∙ c.slot_is) found.1.logged
 
-module _ {X : Type 0} (k : Setting X) (s : State X) (log : List LoggedPiece) (i : ℕ) (v : View X) (so : Sound k s) (cl : CellsLogged k s log) (at : get_elem? s.views i ≡ some v) (m : Move) (may : Allowed k s v m) where
-  written : (t slot : ℕ) (h : Hold X) (x : X) → turn_of (tab_at v t) ≡ Has h → h.slot ≡ slot → chosen_content k (tab_at v t) ≡ Some x → WasLeft k s slot x
-  written t slot h x turn slot_is e = of_tab (turn_tab (tab_at v t) h turn)
+  -- what a tab writes that holds the turn at the slot
+  pub written_by : (i t slot : ℕ) (y : Tab X) (h : Hold X) (x : X) → IsTab s i t y → turn_of y ≡ Has h → h.slot ≡ slot → chosen_content k y ≡ Some x → WasLeft slot x
+  written_by i t slot y h x tab turn slot_is e = of_tab (turn_tab y h turn)
     where
       none : ◌≡◌ {A = Option X} None (Some x) → ⊥
       none e = cc
 
-      one_content : (y : X) → Some y ≡ Some x → x ≡ y
-      one_content y e = cc
+      one_content : (z : X) → Some z ≡ Some x → x ≡ z
+      one_content z e = cc
 
-      of_tab : ((r : Reader X) × (tab_at v t ≡ Reading r) × (r.turn ≡ Has h)) ⊎ ((y : Writer X) × (tab_at v t ≡ Writing y) × (y.turn ≡ Has h)) ⊎ ((f : Freer X) × (tab_at v t ≡ Freeing f) × (f.turn ≡ Has h)) → WasLeft k s slot x
+      of_tab : ((r : Reader X) × (y ≡ Reading r) × (r.turn ≡ Has h)) ⊎ ((w : Writer X) × (y ≡ Writing w) × (w.turn ≡ Has h)) ⊎ ((f : Freer X) × (y ≡ Freeing f) × (f.turn ≡ Has h)) → WasLeft slot x
       of_tab (inl r) = absurd (none (sym (ap (chosen_content k) r.1) ∙ e))
-      of_tab (inr (inl y)) = let c = chosen_some k y.0 x (sym (ap (chosen_content k) y.1) ∙ e) in
-          inr (inl record { i = i; t = t; writer = y.0; tab = record { view = v; at = at; there = writes_at v.tabs t y.0 y.1 }; hold = h; turn = y.2; slot_is = slot_is; piece = c.0; chosen = c.1; is = c.2 })
+      of_tab (inr (inl w)) = let c = chosen_some k w.0 x (sym (ap (chosen_content k) w.1) ∙ e) in
+          inr (inl record { i = i; t = t; writer = w.0; tab = subst (IsTab s i t) w.1 tab; hold = h; turn = w.2; slot_is = slot_is; piece = c.0; chosen = c.1; is = c.2 })
       of_tab (inr (inr f)) = inr (inr (one_content k.blank (sym (ap (chosen_content k) f.1) ∙ e)))
 
+module _ {X : Type 0} (k : Setting X) (s : State X) (log : List LoggedPiece) (i : ℕ) (v : View X) (so : Sound k s) (cl : CellsLogged k s log) (at : get_elem? s.views i ≡ some v) (m : Move) (may : Allowed k s v m) where
   pub was_left : (slot : ℕ) (c : Cell X) (x : X) → IsCell (after k s i v m) slot c → Contains c.possible x → WasLeft k s slot x
   was_left slot c x (inl e) q = inl (⊎_elim
       (λ (z : get_or s.places slot None ≡ Some c). record { cell = c; is = inl z; possible = q })
@@ -87,10 +89,13 @@ module _ {X : Type 0} (k : Setting X) (s : State X) (log : List LoggedPiece) (i 
       here : Contains h.hold.cell.possible x
       here = subst (λ (d : Cell X). Contains d.possible x) (sym h.cell_is) q
 
+      my_tab : (w : HoldWas k s (tab_at v h.t) h.hold) → IsTab s i h.t (tab_at v h.t)
+      my_tab w = record { view = v; at = at; there = there_at v.tabs h.t w.hold w.turn }
+
       held_was : HoldWas k s (tab_at v h.t) h.hold → WasLeft k s slot x
       held_was w = let is : IsCell s slot w.hold.cell = inr (subst (λ (n : ℕ). IsHeldCell s n w.hold.cell) (w.slot_is ∙ h.slot_is) (mine k s log i v so cl at h.t w.hold w.turn)) in ⊎_elim
           (λ (p : Contains w.hold.cell.possible x). inl record { cell = w.hold.cell; is = is; possible = p })
           (⊎_elim
           (λ (p : x ≡ w.hold.cell.now). inl record { cell = w.hold.cell; is = is; possible = subst (Contains w.hold.cell.possible) (sym p) (so.cells.contents.possible slot w.hold.cell is) })
-          (λ (p : chosen_content k (tab_at v h.t) ≡ Some x). written h.t slot w.hold x w.turn (w.slot_is ∙ h.slot_is) p))
+          (λ (p : chosen_content k (tab_at v h.t) ≡ Some x). written_by k s i h.t slot (tab_at v h.t) w.hold x (my_tab w) w.turn (w.slot_is ∙ h.slot_is) p))
           (w.possible x here)

@@ -9,3 +9,4 @@ pub mod MarksKept
 pub mod Opening
 pub mod Following
 pub mod Quiet
+pub mod HasMarks

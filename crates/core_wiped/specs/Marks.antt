@@ -17,7 +17,7 @@ use Rattle.core_model.specs.State.{State, side_word, word}
 use Rattle.core_model.specs.Cells.{IsCell}
 use Rattle.core_model.specs.Deeds.{Changes}
 use Rattle.core_model.specs.Holders.{IsTab}
-use Rattle.core_log.specs.Logged.{HasLogged}
+use Rattle.core_log.specs.Logged.{HasLogged, IsLogOf}
 use Rattle.core_log.specs.Seen.{IsSeen}
 
 -- some pass or note has seen that the slot of the entry of this version was wiped
@@ -63,6 +63,10 @@ pub record MarksStand {X : Type 0} (k : Setting X) (s : State X) (log : List Log
   pub starts : StartsNamed k s log
   pub deeds : DeedsSeen s
   pub choices : ChoicesOwn s
+
+-- what a rule over a running store keeps of it, beside the log of the state: it holds of each list that is the log
+abbrev pub HasMarks : {X : Type 0} → Setting X → State X → Type 0
+HasMarks k s = (log : List LoggedPiece) → IsLogOf s.views log → MarksStand k s log
 
 -- What follows from a mark.
 

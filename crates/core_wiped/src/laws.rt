@@ -22,8 +22,8 @@ ghost use Rattle.core_model.specs.Steps.{after};
 ghost use Rattle.core_model.specs.Table.{MayStep};
 ghost use Rattle.core_model.specs.TableForms.{IsNoteAt, IsSpentAt, MayBlank, MayRewrite, learned_from, noted_at, noted_behind, with_held, with_wiped};
 ghost use Rattle.core_model.specs.Tabs.{IsPass};
-ghost use Rattle.core_log.specs.Logged.{IsLoggedRun, LogStands, PassMove, logged_now};
-ghost use Rattle.core_wiped.specs.Marks.{IsLeftOf, IsMarked, IsOfOther, IsOver, MarksStand};
+ghost use Rattle.core_log.specs.Logged.{IsLogOf, IsLoggedRun, LogStands, PassMove, logged_now};
+ghost use Rattle.core_wiped.specs.Marks.{HasMarks, IsLeftOf, IsMarked, IsOfOther, IsOver, MarksStand};
 
 /// An allowed step keeps all that holds of marks, the end of a turn by which a slot is wiped among them.
 pub fn steps_keep_marks<X>()
@@ -98,4 +98,9 @@ pub fn wiped_entries_begin_nowhere<X>()
     ensures { (k : Setting X) (s : State X) (log : List LoggedPiece) (a version wiped slot : ℕ) (c : Cell X) (x : X)
         → LogStands k s log → MarksStand k s log → IsMarked s a version wiped → IsCell s slot c → Contains c.possible x
         → IsLeftOf k log version wiped slot x }
+{}
+
+/// All lists that are the log of a state have the same pieces, so what holds of marks holds with each of them.
+pub fn marks_hold_with_any_log<X>()
+    ensures { (k : Setting X) (s : State X) (log : List LoggedPiece) → IsLogOf s.views log → MarksStand k s log → HasMarks k s }
 {}
