@@ -73,7 +73,7 @@ module _ {X : Type 0} (k : Setting X) (s : State X) (log : List LoggedPiece) (i 
     marks = λ a version slot seen. ⊎_elim
         (λ (q : IsSeen s.views (Wiped a version slot)). old_mark a version slot (mk.marks a version slot q))
         (λ (q : Contains (sights_of v m (finding k s v m)) (Wiped a version slot)). ⊎_elim
-        (λ (z : EndsWiped m v a version slot). new_mark k s log i v m so st mk at may.pass may.allowed a version slot z)
+        (λ (z : EndsWiped m v a version slot). new_mark k s log i v m so st at may.allowed a version slot z mk may.pass)
         (λ (z : IsSeen s.views (Wiped a version slot)). old_mark a version slot (mk.marks a version slot z))
         (mark_seen k s i v at a version slot m may.allowed q))
         (was_seen k s i v at may.pass m (Wiped a version slot) seen);

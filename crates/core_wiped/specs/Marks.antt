@@ -1,12 +1,13 @@
 -- What it means that the first slot of an entry was wiped, and what a crash may leave of the slot from then on.
-use Rattle.std.specs.Prelude.{◌+◌, ◌<◌, ◌≡◌, ◌≢◌, ◌≤◌, ◌⊎◌, ℕ, Contains, List, Some}
+use Rattle.std.specs.Prelude.{◌+◌, ◌<◌, ◌≡◌, ◌≢◌, ◌≤◌, ◌⊎◌, ◌∷◌, ℕ, Contains, List, Some}
 use mathlib.Core.Option.{some}
 use lib.ListN.{get_elem?}
 use Rattle.lock_word.specs.Words.{doom_of, epoch_of, stage_of, version_of}
 use Rattle.core_model.specs.declared.moves.Side.TheVariants.{Start}
 use Rattle.core_model.specs.declared.tab.Cell.{Cell}
+use Rattle.core_model.specs.declared.tab.Freer.{Freer}
 use Rattle.core_model.specs.declared.tab.Piece.{Piece}
-use Rattle.core_model.specs.declared.tab.Tab.TheVariants.{Writing}
+use Rattle.core_model.specs.declared.tab.Tab.TheVariants.{Freeing, Writing}
 use Rattle.core_model.specs.declared.tab.Writer.{Writer}
 use Rattle.core_model.specs.declared.view.Deed.{Deed}
 use Rattle.core_model.specs.declared.view.LoggedPiece.{LoggedPiece}
@@ -15,6 +16,8 @@ use Rattle.core_model.specs.declared.view.View.{View}
 use Rattle.core_model.specs.Layout.{Setting}
 use Rattle.core_model.specs.State.{State, side_word, word}
 use Rattle.core_model.specs.Cells.{IsCell}
+use Rattle.core_model.specs.Chains.{rest_of}
+use Rattle.core_model.specs.Tabs.{tab_at}
 use Rattle.core_model.specs.Deeds.{Changes}
 use Rattle.core_model.specs.Holders.{IsTab}
 use Rattle.core_log.specs.Logged.{HasLogged, IsLogOf}
@@ -67,6 +70,15 @@ pub record MarksStand {X : Type 0} (k : Setting X) (s : State X) (log : List Log
 -- what a rule over a running store keeps of it, beside the log of the state: it holds of each list that is the log
 abbrev pub HasMarks : {X : Type 0} → Setting X → State X → Type 0
 HasMarks k s = (log : List LoggedPiece) → IsLogOf s.views log → MarksStand k s log
+
+-- The tab t of a pass, whose view is v, ended its turn with the slot wiped, which left the state s: from then on there is a mark of the
+-- version that the tab frees, and a crash leaves the slot blank and nothing else.
+pub record MakesMark {X : Type 0} (k : Setting X) (s : State X) (v : View X) (t slot : ℕ) : Type 0 where
+  pub freer : Freer X
+  pub tab : tab_at v t ≡ Freeing freer
+  pub mark : IsMarked s freer.anchor freer.version slot
+  pub first : freer.rest ≡ slot ∷ rest_of freer.rest
+  pub blank : (c : Cell X) (x : X) → IsCell s slot c → Contains c.possible x → x ≡ k.blank
 
 -- What follows from a mark.
 

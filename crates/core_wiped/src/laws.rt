@@ -4,6 +4,8 @@ ghost use mathlib.Core.Option.{some};
 ghost use lib.ListN.{get_elem?};
 ghost use Rattle.rebuild_model.specs.declared.rebuilt.Rebuilt.{Rebuilt};
 ghost use Rattle.core_model.specs.declared.moves.Move.{Move};
+ghost use Rattle.core_model.specs.declared.moves.Move.TheVariants.{EndTurn};
+ghost use Rattle.core_model.specs.declared.moves.Then.TheVariants.{Wiped};
 ghost use Rattle.core_model.specs.declared.tab.Cell.{Cell};
 ghost use Rattle.core_model.specs.declared.tab.Freer.{Freer};
 ghost use Rattle.core_model.specs.declared.tab.Hold.{Hold};
@@ -23,13 +25,21 @@ ghost use Rattle.core_model.specs.Table.{MayStep};
 ghost use Rattle.core_model.specs.TableForms.{IsNoteAt, IsSpentAt, MayBlank, MayRewrite, learned_from, noted_at, noted_behind, with_held, with_wiped};
 ghost use Rattle.core_model.specs.Tabs.{IsPass};
 ghost use Rattle.core_log.specs.Logged.{IsLogOf, IsLoggedRun, LogStands, PassMove, logged_now};
-ghost use Rattle.core_wiped.specs.Marks.{HasMarks, IsLeftOf, IsMarked, IsOfOther, IsOver, MarksStand};
+ghost use Rattle.core_wiped.specs.Marks.{HasMarks, IsLeftOf, IsMarked, IsOfOther, IsOver, MakesMark, MarksStand};
 
 /// An allowed step keeps all that holds of marks, the end of a turn by which a slot is wiped among them.
 pub fn steps_keep_marks<X>()
     ensures { (k : Setting X) (s : State X) (log : List LoggedPiece) (i : ℕ) (v : View X) (m : Move)
         → Sound k s → LogStands k s log → MarksStand k s log → get_elem? s.views i ≡ some v → MayStep k s v m
         → MarksStand k (after k s i v m) (logged_now k s v m ++ log) }
+{}
+
+/// The end of a turn by which a tab that frees says that it wiped the slot makes a mark: of the version that the tab
+/// frees, and of the first slot of its chain. A crash then leaves that slot blank and nothing else.
+pub fn wiped_turns_make_marks<X>()
+    ensures { (k : Setting X) (s : State X) (log : List LoggedPiece) (i : ℕ) (v : View X) (t slot : ℕ)
+        → Sound k s → LogStands k s log → get_elem? s.views i ≡ some v → MayStep k s v (EndTurn t slot Wiped)
+        → MakesMark k (after k s i v (EndTurn t slot Wiped)) v t slot }
 {}
 
 /// In a store that was just opened nothing is marked, and all that holds of marks holds.

@@ -10,6 +10,7 @@ ghost use Rattle.core_model.specs.State.{State};
 ghost use Rattle.core_log.specs.Logged.{CellsLogged, LogStands};
 ghost use Rattle.core_wiped.specs.Marks.{IsMarked, MarksStand};
 ghost use Rattle.crash_entries.specs.Parts.{Offers};
+ghost use Rattle.crash_laws.specs.Crashes.{IsLife};
 ghost use Rattle.crash_laws.specs.Left.{IsFileOf, IsLeftWhile, LogKeeps};
 ghost use Rattle.wiped_entries.specs.Now.{IsLeftNow};
 
@@ -49,6 +50,22 @@ pub fn wiped_entries_are_gone<X>()
     ensures new { (slot : ℕ) (o : Offers) (k : Setting X) (b : X → List ℕ) (file : List (List ℕ)) (s : State X) (log : List LoggedPiece) (images : List (List ℕ)) (a version wiped : ℕ) (e : Entry)
         → slot < 2 ^ 32 → k.slots ≤ MOST_SLOTS → IsFileOf slot o k b file → Sound k s → LogStands k s log → LogKeeps slot o k log → MarksStand k s log
         → IsLeftNow k b s images → IsMarked s a version wiped → opening_counter k < version → IsComplete slot images e → e.version ≢ version }
+{
+    images_are_read_as_built();
+    keys_have_16_bytes();
+    one_entry_at_a_slot();
+    pieces_make_the_content();
+    placed_pieces_are_an_entry();
+    written_meta_is_spelled();
+}
+
+/// So it is from each opening of a file on, whatever allowed steps follow, also where several tabs write slots at the
+/// time of the crash.
+pub fn lives_leave_no_wiped_entries<X>()
+    ensures begun { (slot : ℕ) (o : Offers) (before after : List (List ℕ)) (l : IsLife X slot o before after) (a version wiped : ℕ) (e : Entry)
+        → slot < 2 ^ 32 → IsLeftNow l.setting l.bytes l.state after → IsMarked l.state a version wiped → IsComplete slot after e → e.first ≡ wiped → e.version ≢ version }
+    ensures new { (slot : ℕ) (o : Offers) (before after : List (List ℕ)) (l : IsLife X slot o before after) (a version wiped : ℕ) (e : Entry)
+        → slot < 2 ^ 32 → IsLeftNow l.setting l.bytes l.state after → IsMarked l.state a version wiped → opening_counter l.setting < version → IsComplete slot after e → e.version ≢ version }
 {
     images_are_read_as_built();
     keys_have_16_bytes();

@@ -5,5 +5,6 @@
 mod laws;
 
 pub use laws::{
-    crashes_now_are_crashes_within, wiped_entries_are_gone, wiped_slots_are_not_of_their_entry,
+    crashes_now_are_crashes_within, lives_leave_no_wiped_entries, wiped_entries_are_gone,
+    wiped_slots_are_not_of_their_entry,
 };
