@@ -19,7 +19,7 @@ use Rattle.core_model.specs.Tabs.{tab_at}
 use Rattle.core_model.proofs.Choices.{choice_after, view_was}
 use Rattle.core_model.proofs.Lists.{at_or}
 use Rattle.core_log.proofs.Follows.{Follow, tabs_follow}
-use Rattle.core_wiped.specs.Marks.{ChoicesOwn}
+use Rattle.core_wiped.specs.Wipes.{ChoicesOwn}
 
 none_some : (p : Piece) → None ≡ Some p → ⊥
 none_some p e = cc

@@ -1,4 +1,4 @@
--- In a store that was just opened nothing is marked.
+-- In a store that was just opened nothing is wiped.
 use Rattle.std.proofs.Common.{◌≡◌, ℕ, [], sym, subst, Contains}
 use Rattle.rebuild_model.specs.declared.rebuilt.Rebuilt.{Rebuilt}
 use Rattle.core_model.specs.declared.tab.Tab.{Tab}
@@ -14,14 +14,14 @@ use Rattle.core_model.specs.State.{State}
 use Rattle.core_model.proofs.CellsOpened.{tab_free}
 use Rattle.core_model.proofs.Lists.{contains_none}
 use Rattle.core_model.proofs.Opened.{at_new, sight_is}
-use Rattle.core_wiped.specs.Marks.{IsMarked, MarksStand}
+use Rattle.core_wiped.specs.Wipes.{IsSeenWiped, WipesStand}
 
 not_stood : (a version slot b e : ℕ) → Wiped a version slot ≡ Stood b e → ⊥
 not_stood a version slot b e h = cc
 
 module _ {X : Type 0} (k : Setting X) (r : Rebuilt) (s : State X) (is : IsSetting k) (o : IsOpened k r s) where
-  none_marked : (a version slot : ℕ) → IsMarked s a version slot → ⊥
-  none_marked a version slot h = let q = sight_is k k.anchors (Wiped a version slot) (subst (λ (w : View X). Contains w.seen (Wiped a version slot)) (at_new k r s is o h.i h.view h.at).0 h.seen) in
+  none_wipeed : (a version slot : ℕ) → IsSeenWiped s a version slot → ⊥
+  none_wipeed a version slot h = let q = sight_is k k.anchors (Wiped a version slot) (subst (λ (w : View X). Contains w.seen (Wiped a version slot)) (at_new k r s is o h.i h.view h.at).0 h.seen) in
       not_stood a version slot q.0 (opening_epoch k q.0) q.2
 
   no_writer : (i t : ℕ) (w : Writer X) → IsTab s i t (Writing w) → ⊥
@@ -30,9 +30,9 @@ module _ {X : Type 0} (k : Setting X) (r : Rebuilt) (s : State X) (is : IsSettin
       not_free : ◌≡◌ {A = Tab X} Free (Writing w) → ⊥
       not_free e = cc
 
-  pub no_marks : MarksStand k s []
-  no_marks = record {
-    marks = λ a version slot h. absurd (none_marked a version slot h);
+  pub no_wipes : WipesStand k s []
+  no_wipes = record {
+    each = λ a version slot h. absurd (none_wipeed a version slot h);
     starts = λ l c. absurd (contains_none l c);
     deeds = λ i v at d c. absurd (contains_none d (subst (λ (w : View X). Contains w.deeds d) (at_new k r s is o i v at).0 c));
     choices = λ i t w p h. absurd (no_writer i t w h);

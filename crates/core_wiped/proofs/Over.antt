@@ -15,7 +15,7 @@ use Rattle.core_model.specs.Holders.{IsTab}
 use Rattle.core_model.specs.Sound.{Sound}
 use Rattle.core_model.specs.Versions.{IsSighted, Leads}
 use Rattle.core_model.proofs.Matching.{matches_writer}
-use Rattle.core_wiped.specs.Marks.{IsOver, IsPast, WasFreed}
+use Rattle.core_wiped.specs.Wipes.{IsOver, IsPast, WasFreed}
 
 low_stage : (b : Bool) → cond b 2 1 ≤ 2
 low_stage true = omega arith

@@ -1,4 +1,4 @@
--- Words and chains stay, what was seen is what is seen, and no cell has more that a crash may leave: what holds of marks stays. So it is where notes
+-- Words and chains stay, what was seen is what is seen, and no cell has more that a crash may leave: what holds of wiped slots stays. So it is where notes
 -- come and go, and where a cell in the hands of a tab becomes another one.
 use Rattle.std.proofs.Common.{◌≡◌, ◌≢◌, ◌⊎◌, inl, inr, ⊎_elim, ℕ, List, [], ◌∷◌, ◌++◌, set, length, Some, refl, sym, ap, ◌∙◌, subst, arith, Contains}
 use Rattle.std.proofs.lemmas.List.Elements.{Contains-append_left}
@@ -36,9 +36,9 @@ use Rattle.core_model.proofs.NotesRenewed.{Quiet, learns_goes, new_note_renews, 
 use Rattle.core_log.specs.Logged.{LogStands}
 use Rattle.core_log.specs.Seen.{IsSeen}
 use Rattle.core_log.proofs.Kept.{chosen_some}
-use Rattle.core_wiped.specs.Marks.{ChoicesOwn, IsOfOther, IsWiped, MarksStand}
+use Rattle.core_wiped.specs.Wipes.{ChoicesOwn, IsOfOther, IsWiped, WipesStand}
 use Rattle.core_wiped.proofs.Left.{IsChosenAt, IsPossible, WasLeft}
-use Rattle.core_wiped.proofs.MarksKept.{chosen_other}
+use Rattle.core_wiped.proofs.WipesKept.{chosen_other}
 
 -- a deed of one of these views
 pub record HasDeed {X : Type 0} (views : List (View X)) (d : Deed) : Type 0 where
@@ -47,7 +47,7 @@ pub record HasDeed {X : Type 0} (views : List (View X)) (d : Deed) : Type 0 wher
   pub at : get_elem? views i ≡ some view
   pub done : Contains view.deeds d
 
-module _ {X : Type 0} (k : Setting X) (s : State X) (log : List LoggedPiece) (views : List (View X)) (mk : MarksStand k s log)
+module _ {X : Type 0} (k : Setting X) (s : State X) (log : List LoggedPiece) (views : List (View X)) (ws : WipesStand k s log)
     (now : (x : Sight) → IsSeen s.views x → IsSeen views x) (then : (x : Sight) → IsSeen views x → IsSeen s.views x)
     (deeds : (d : Deed) → HasDeed views d → HasDeed s.views d)
     (left : (a version slot : ℕ) → IsWiped k s log a version slot → (c : Cell X) (x : X) → IsCell (renewed s views) slot c → Contains c.possible x → IsOfOther k log version slot x)
@@ -60,17 +60,17 @@ module _ {X : Type 0} (k : Setting X) (s : State X) (log : List LoggedPiece) (vi
     left = left a version slot is;
   }
 
-  pub quiet_marks : MarksStand k (renewed s views) log
-  quiet_marks = record {
-    marks = λ a version slot h. still_wiped a version slot (mk.marks a version slot (then (Wiped a version slot) h));
-    starts = mk.starts;
-    deeds = λ i v at d c changes. let q = deeds d record { i = i; view = v; at = at; done = c } in now (Stood d.anchor d.epoch) (mk.deeds q.i q.view q.at d q.done changes);
+  pub quiet_wipes : WipesStand k (renewed s views) log
+  quiet_wipes = record {
+    each = λ a version slot h. still_wiped a version slot (ws.each a version slot (then (Wiped a version slot) h));
+    starts = ws.starts;
+    deeds = λ i v at d c changes. let q = deeds d record { i = i; view = v; at = at; done = c } in now (Stood d.anchor d.epoch) (ws.deeds q.i q.view q.at d q.done changes);
     choices = choices;
   }
 
 -- Notes.
 
-module _ {X : Type 0} (k : Setting X) (s : State X) (log : List LoggedPiece) (views : List (View X)) (r : Renews k s views) (mk : MarksStand k s log) where
+module _ {X : Type 0} (k : Setting X) (s : State X) (log : List LoggedPiece) (views : List (View X)) (r : Renews k s views) (ws : WipesStand k s log) where
   tab_was : (j t : ℕ) (x : Tab X) → IsTab (renewed s views) j t x → IsTab s j t x
   tab_was j t x is = ⊎_elim
       (λ (b : Before s.views j is.view). record { view = b.0; at = b.1; there = subst (λ (z : List (Tab X)). get_elem? z t ≡ some x) b.2.tabs is.there })
@@ -88,15 +88,15 @@ module _ {X : Type 0} (k : Setting X) (s : State X) (log : List LoggedPiece) (vi
       (λ (e : h.view ≡ note_of h.view). absurd (contains_none d (subst (λ (z : View X). Contains z.deeds d) e h.done)))
       (r.now h.i h.view h.at)
 
-  pub renews_marks : MarksStand k (renewed s views) log
-  renews_marks = quiet_marks k s log views mk
+  pub renews_wipes : WipesStand k (renewed s views) log
+  renews_wipes = quiet_wipes k s log views ws
       (λ x h. let q = still_seen k s views r x record { i = h.i; view = h.view; at = h.at; seen = h.seen } in record { i = q.i; view = q.view; at = q.at; seen = q.seen })
       (λ x h. let q = was_seen k s views r h.i h.view h.at x h.seen in record { i = q.i; view = q.view; at = q.at; seen = q.seen })
       deed_was
       (λ a version slot is c x cell q. is.left c x (cell_was slot c cell) q)
-      (λ i t w p is. mk.choices i t w p (tab_was i t (Writing w) is))
+      (λ i t w p is. ws.choices i t w p (tab_was i t (Writing w) is))
 
-module _ {X : Type 0} (k : Setting X) (s : State X) (log : List LoggedPiece) (mk : MarksStand k s log) (i : ℕ) (v : View X) (so : Sound k s) (at : get_elem? s.views i ≡ some v) (pass : IsPass v) (item : Item) (quiet : Quiet item.kind) where
+module _ {X : Type 0} (k : Setting X) (s : State X) (log : List LoggedPiece) (ws : WipesStand k s log) (i : ℕ) (v : View X) (so : Sound k s) (at : get_elem? s.views i ≡ some v) (pass : IsPass v) (item : Item) (quiet : Quiet item.kind) where
   -- a view without tabs is not that of the pass
   elsewhere : (n : ℕ) (u : View X) → IsNoteAt s n u → n ≢ i
   elsewhere n u note e = let same : v ≡ u = some-injective v u (sym at ∙ subst (λ (z : ℕ). get_elem? s.views z ≡ some u) e note.at) in
@@ -114,23 +114,23 @@ module _ {X : Type 0} (k : Setting X) (s : State X) (log : List LoggedPiece) (mk
   noting_sound : Sound k noting_state
   noting_sound = renews_sound k s (set s.views i noting) noting_renews so
 
-  noting_marks : MarksStand k noting_state log
-  noting_marks = renews_marks k s log (set s.views i noting) noting_renews mk
+  noting_wipes : WipesStand k noting_state log
+  noting_wipes = renews_wipes k s log (set s.views i noting) noting_renews ws
 
   noting_known : SightsKnown k noting_state v.seen
   noting_known = known_view k noting_state noting_sound.anchors.seen i noting (set_here s.views i noting (at_length s.views i v at))
 
-  pub noted_behind_marks : MarksStand k (noted_behind s i v item) log
-  noted_behind_marks = renews_marks k noting_state log (noting_state.views ++ note_of v ∷ []) (new_note_renews k noting_state noting_sound v noting_known) noting_marks
+  pub noted_behind_wipes : WipesStand k (noted_behind s i v item) log
+  noted_behind_wipes = renews_wipes k noting_state log (noting_state.views ++ note_of v ∷ []) (new_note_renews k noting_state noting_sound v noting_known) noting_wipes
 
-  pub noted_at_marks : (n : ℕ) (u : View X) → IsSpentAt s n u → MarksStand k (noted_at s i v item n) log
-  noted_at_marks n u free = renews_marks k noting_state log (set noting_state.views n (note_of v))
+  pub noted_at_wipes : (n : ℕ) (u : View X) → IsSpentAt s n u → WipesStand k (noted_at s i v item n) log
+  noted_at_wipes n u free = renews_wipes k noting_state log (set noting_state.views n (note_of v))
       (note_renews k noting_state noting_sound n u v
       (set_else s.views i n noting (elsewhere n u free.note) ∙ free.note.at)
       (so.anchors.shaped.notes n u free.note.at free.note.no_tabs)
       (λ x h. absurd (contains_none x (subst (λ z. Contains z x) free.unseen h)))
       noting_known)
-      noting_marks
+      noting_wipes
 
   module _ (n : ℕ) (u : View X) (note : IsNoteAt s n u) where
     abbrev learning : View X
@@ -151,11 +151,11 @@ module _ {X : Type 0} (k : Setting X) (s : State X) (log : List LoggedPiece) (mk
       seen = Contains-append_left u.seen v.seen x h;
     }
 
-    pub learned_from_marks : MarksStand k (learned_from s i v item n u) log
-    learned_from_marks = let sound = renews_sound k s (set s.views i learning) learning_renews so in renews_marks k learning_state log (set learning_state.views n spent)
+    pub learned_from_wipes : WipesStand k (learned_from s i v item n u) log
+    learned_from_wipes = let sound = renews_sound k s (set s.views i learning) learning_renews so in renews_wipes k learning_state log (set learning_state.views n spent)
         (note_renews k learning_state sound n u spent (set_else s.views i n learning (elsewhere n u note) ∙ note.at)
         (so.anchors.shaped.notes n u note.at note.no_tabs) still_known (known_none k learning_state))
-        (renews_marks k s log (set s.views i learning) learning_renews mk)
+        (renews_wipes k s log (set s.views i learning) learning_renews ws)
 
 -- Cells in the hands of a tab.
 
@@ -163,7 +163,7 @@ module _ {X : Type 0} (k : Setting X) (s : State X) (log : List LoggedPiece) (mk
 abbrev pub with_turned : {X : Type 0} → View X → ℕ → Tab X → View X
 with_turned v t y = record v { tabs = set v.tabs t y }
 
-module _ {X : Type 0} (k : Setting X) (s : State X) (log : List LoggedPiece) (i t : ℕ) (v : View X) (x y : Tab X) (old new : Hold X) (so : Sound k s) (st : LogStands k s log) (mk : MarksStand k s log) (at : get_elem? s.views i ≡ some v)
+module _ {X : Type 0} (k : Setting X) (s : State X) (log : List LoggedPiece) (i t : ℕ) (v : View X) (x y : Tab X) (old new : Hold X) (so : Sound k s) (st : LogStands k s log) (ws : WipesStand k s log) (at : get_elem? s.views i ≡ some v)
     (there : get_elem? v.tabs t ≡ some x) (turn : turn_of x ≡ Has old) (turned : turn_of y ≡ Has new) (slot_is : new.slot ≡ old.slot)
     (within : (z : X) → Contains new.cell.possible z → WasLeft k s old.slot z)
     (own : (w : Writer X) (p : Piece) → y ≡ Writing w → w.chosen ≡ Some p → p.version ≡ w.version) where
@@ -212,17 +212,17 @@ module _ {X : Type 0} (k : Setting X) (s : State X) (log : List LoggedPiece) (i 
       (λ (q : (h.i ≢ i) × (get_elem? s.views h.i ≡ some h.view)). record { i = h.i; view = h.view; at = q.1; done = h.done })
       (at_set s.views i h.i w h.view h.at)
 
-  pub turned_marks : MarksStand k s' log
-  turned_marks = quiet_marks k s log (set s.views i w) mk seen_after seen_before deed_before
+  pub turned_wipes : WipesStand k s' log
+  turned_wipes = quiet_wipes k s log (set s.views i w) ws seen_after seen_before deed_before
       (λ a version slot is c z cell q. ⊎_elim
       (λ (p : IsPossible k s slot z). is.left p.cell z p.is p.possible)
       (⊎_elim
-      (λ (p : IsChosenAt k s slot z). chosen_other k s log so st mk a version slot slot z is p)
+      (λ (p : IsChosenAt k s slot z). chosen_other k s log so st ws a version slot slot z is p)
       (λ (p : z ≡ k.blank). inl p))
       (left_was slot c z cell q))
-      (λ j u z p is c. ⊎_elim (λ (a : IsTab s j u (Writing z)). mk.choices j u z p a c) (λ (e : y ≡ Writing z). own z p e c) (turned_was j u (Writing z) is))
+      (λ j u z p is c. ⊎_elim (λ (a : IsTab s j u (Writing z)). ws.choices j u z p a c) (λ (e : y ≡ Writing z). own z p e c) (turned_was j u (Writing z) is))
 
-module _ {X : Type 0} (k : Setting X) (s : State X) (log : List LoggedPiece) (i t : ℕ) (v : View X) (old new : Hold X) (so : Sound k s) (st : LogStands k s log) (mk : MarksStand k s log) (at : get_elem? s.views i ≡ some v) where
+module _ {X : Type 0} (k : Setting X) (s : State X) (log : List LoggedPiece) (i t : ℕ) (v : View X) (old new : Hold X) (so : Sound k s) (st : LogStands k s log) (ws : WipesStand k s log) (at : get_elem? s.views i ≡ some v) where
   held : (x : Tab X) → get_elem? v.tabs t ≡ some x → turn_of x ≡ Has old → IsCell s old.slot old.cell
   held x there turn = inr record { i = i; view = v; at = at; t = t; tab = x; there = there; hold = old; turn = turn; slot_is = refl; cell_is = refl }
 
@@ -236,18 +236,18 @@ module _ {X : Type 0} (k : Setting X) (s : State X) (log : List LoggedPiece) (i 
   not_writer : (f : Freer X) (w : Writer X) → ◌≡◌ {A = Tab X} (Freeing f) (Writing w) → ⊥
   not_writer f w e = cc
 
-  pub written_marks : (w : Writer X) → MayRewrite k v t w old new → MarksStand k (with_held s i v t w new) log
-  written_marks w may = turned_marks k s log i t v (Writing w) (Writing record w { turn = Has new }) old new so st mk at may.writes may.turn refl may.slot_is
+  pub written_wipes : (w : Writer X) → MayRewrite k v t w old new → WipesStand k (with_held s i v t w new) log
+  written_wipes w may = turned_wipes k s log i t v (Writing w) (Writing record w { turn = Has new }) old new so st ws at may.writes may.turn refl may.slot_is
       (λ z c. ⊎_elim
       (λ (q : Contains old.cell.possible z). inl record { cell = old.cell; is = held (Writing w) may.writes may.turn; possible = q })
       (λ (q : map_some k.image w.chosen ≡ Some z). let p = chosen_some k w z q in
       inr (inl record { i = i; t = t; writer = w; tab = record { view = v; at = at; there = may.writes }; hold = old; turn = may.turn; slot_is = refl; piece = p.0; chosen = p.1; is = p.2 }))
       (may.within z c))
       (λ z p e c. let same = same_writer (record w { turn = Has new }) z e in
-      mk.choices i t w p record { view = v; at = at; there = may.writes } (ap Writer.chosen same ∙ c) ∙ ap Writer.version same)
+      ws.choices i t w p record { view = v; at = at; there = may.writes } (ap Writer.chosen same ∙ c) ∙ ap Writer.version same)
 
-  pub blanked_marks : (f : Freer X) → MayBlank k v t f old new → MarksStand k (with_wiped s i v t f new) log
-  blanked_marks f may = turned_marks k s log i t v (Freeing f) (Freeing record f { turn = Has new }) old new so st mk at may.frees may.turn refl may.slot_is
+  pub blanked_wipes : (f : Freer X) → MayBlank k v t f old new → WipesStand k (with_wiped s i v t f new) log
+  blanked_wipes f may = turned_wipes k s log i t v (Freeing f) (Freeing record f { turn = Has new }) old new so st ws at may.frees may.turn refl may.slot_is
       (λ z c. ⊎_elim
       (λ (q : Contains old.cell.possible z). inl record { cell = old.cell; is = held (Freeing f) may.frees may.turn; possible = q })
       (λ (q : z ≡ k.blank). inr (inr q))

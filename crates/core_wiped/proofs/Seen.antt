@@ -25,7 +25,7 @@ use Rattle.core_model.proofs.Lists.{at_length, contains_none, set_here}
 use Rattle.core_log.specs.Seen.{IsSeen}
 use Rattle.core_log.proofs.KnownStays.{stays_seen}
 use Rattle.core_log.proofs.LinksKept.{one_of}
-use Rattle.core_wiped.specs.Marks.{DeedsSeen}
+use Rattle.core_wiped.specs.Wipes.{DeedsSeen}
 
 module _ {X : Type 0} (k : Setting X) (s : State X) (i : ℕ) (v : View X) (at : get_elem? s.views i ≡ some v) where
   abbrev next : Move → View X

@@ -42,7 +42,7 @@ use Rattle.core_model.proofs.StepPlaces.{counted_inside, place_inside, reading_i
 use Rattle.core_log.specs.Logged.{LinksStand, logged_now}
 use Rattle.core_log.proofs.LinksKept.{my_tab, new_is, split, writes_at}
 use Rattle.core_log.proofs.Versions.{version_stands}
-use Rattle.core_wiped.specs.Marks.{StartsNamed}
+use Rattle.core_wiped.specs.Wipes.{StartsNamed}
 
 written_low : (b : Bool) → cond b 2 1 ≤ 2
 written_low true = omega arith

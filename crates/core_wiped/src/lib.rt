@@ -5,8 +5,8 @@
 mod laws;
 
 pub use laws::{
-    held_cells_keep_marks, marked_slots_are_left_to_others, marked_versions_are_not_logged,
-    marked_versions_are_over, marks_hold_with_any_log, notes_learned_keep_marks,
-    notes_made_keep_marks, openings_have_no_marks, runs_keep_marks, steps_keep_marks,
-    wiped_entries_begin_nowhere, wiped_turns_make_marks,
+    held_cells_keep_wipes, notes_learned_keep_wipes, notes_made_keep_wipes, openings_have_no_wipes,
+    runs_keep_wipes, steps_keep_wipes, wiped_entries_begin_nowhere, wiped_slots_are_left_to_others,
+    wiped_turns_are_seen, wiped_versions_are_not_logged, wiped_versions_are_over,
+    wipes_hold_with_any_log,
 };

@@ -25,10 +25,10 @@ use Rattle.core_model.proofs.CellsTab.{reserves_first, turn_tab}
 use Rattle.core_model.proofs.Spelling.{one_same}
 use Rattle.core_log.specs.Logged.{CellsLogged, HasLogged, LogStands}
 use Rattle.core_log.proofs.Kept.{chosen_some}
-use Rattle.core_wiped.specs.Marks.{BeginsElsewhere, IsLeftOf, IsMarked, IsOfOther, IsWiped, MarksStand}
+use Rattle.core_wiped.specs.Wipes.{BeginsElsewhere, IsLeftOf, IsSeenWiped, IsOfOther, IsWiped, WipesStand}
 use Rattle.core_wiped.proofs.Following.{begins_nowhere}
 use Rattle.core_wiped.proofs.Left.{IsChosenAt, WasLeft, chosen_logged, written_by}
-use Rattle.core_wiped.proofs.MarksKept.{chosen_other}
+use Rattle.core_wiped.proofs.WipesKept.{chosen_other}
 use Rattle.crash_entries.specs.Parts.{Offers}
 use Rattle.crash_entries.proofs.Telling.{Tools, tells}
 use Rattle.crash_laws.specs.Left.{IsFileOf, IsLeftWhile, IsPossible, IsWiping, IsWriting, LogKeeps, logged_part}
@@ -89,9 +89,9 @@ module _ {X : Type 0} (k : Setting X) (b : X → List ℕ) (s : State X) (log : 
   }
 
 module _ {X : Type 0} (t : Tools) (slot : ℕ) (o : Offers) (k : Setting X) (b : X → List ℕ) (was : List (List ℕ)) (s : State X) (log : List LoggedPiece) (sized : slot < 2 ^ 32) (few : k.slots ≤ 1048576) (file : IsFileOf slot o k b was) (so : Sound k s)
-    (st : LogStands k s log) (keeps : LogKeeps slot o k log) (mk : MarksStand k s log) (images : List (List ℕ)) (left : IsLeftNow k b s images) (a version wiped : ℕ) (mark : IsMarked s a version wiped) where
+    (st : LogStands k s log) (keeps : LogKeeps slot o k log) (ws : WipesStand k s log) (images : List (List ℕ)) (left : IsLeftNow k b s images) (a version wiped : ℕ) (seen : IsSeenWiped s a version wiped) where
   abbrev is : IsWiped k s log a version wiped
-  is = mk.marks a version wiped mark
+  is = ws.each a version wiped seen
 
   -- the bytes of a slot are those of a content, which is told of by what holds of its cell, or of what a tab writes
   told : (P : X → Type 0) (j : ℕ) → j < k.slots → ((c : Cell X) (x : X) → Rattle.core_model.specs.Cells.IsCell s j c → Contains c.possible x → P x) → ((x : X) → IsOfOther k log version j x → P x) → (x : X) × P x × (image_at images j ≡ b x)
@@ -102,7 +102,7 @@ module _ {X : Type 0} (t : Tools) (slot : ℕ) (o : Offers) (k : Setting X) (b :
     where
       writing : (q : IsWrittenNow k b s j (image_at images j)) → WasLeft k s j q.content → P q.content
       writing q (inl p) = of_cell p.cell q.content p.is p.possible
-      writing q (inr (inl c)) = of_other q.content (chosen_other k s log so st mk a version wiped j q.content is c)
+      writing q (inr (inl c)) = of_other q.content (chosen_other k s log so st ws a version wiped j q.content is c)
       writing q (inr (inr e)) = of_other q.content (inl e)
 
   -- what the header of a slot with the image of a logged piece says
@@ -113,8 +113,8 @@ module _ {X : Type 0} (t : Tools) (slot : ℕ) (o : Offers) (k : Setting X) (b :
         ap (λ (i : List ℕ). (header_of i).first_slot) bytes ∙ told.first ∙ ap (λ (q : Piece). pos q.first) h.piece_is,
       )
 
-  pub marked_slot : IsSaneAt slot images wiped → (header_at images wiped).version ≢ version
-  marked_slot sane e = of_content (told (IsOfOther k log version wiped) wiped is.inside is.left (λ x q. q))
+  pub wiped_slot : IsSaneAt slot images wiped → (header_at images wiped).version ≢ version
+  wiped_slot sane e = of_content (told (IsOfOther k log version wiped) wiped is.inside is.left (λ x q. q))
     where
       of_content : (x : X) × IsOfOther k log version wiped x × (image_at images wiped ≡ b x) → ⊥
       of_content (x, inl q, bytes) = file.blank images wiped (bytes ∙ ap b q) sane
@@ -125,7 +125,7 @@ module _ {X : Type 0} (t : Tools) (slot : ℕ) (o : Offers) (k : Setting X) (b :
     belongs = All-contains (BelongsTo slot images e.first) e.chain e.first c.chain.belong (subst (λ (xs : List ℕ). Contains xs e.first) (sym c.chain.begins) (0, omega arith, refl))
 
     pub begun : e.first ≡ wiped → e.version ≢ version
-    begun same v = marked_slot (subst (IsSaneAt slot images) same belongs.sane) (ap (λ (j : ℕ). (header_at images j).version) (sym same) ∙ sym c.version ∙ v)
+    begun same v = wiped_slot (subst (IsSaneAt slot images) same belongs.sane) (ap (λ (j : ℕ). (header_at images j).version) (sym same) ∙ sym c.version ∙ v)
 
     other_left : (x : X) → IsOfOther k log version e.first x → IsLeftOf k log version wiped e.first x
     other_left x (inl q) = inr (inr q)
@@ -133,7 +133,7 @@ module _ {X : Type 0} (t : Tools) (slot : ℕ) (o : Offers) (k : Setting X) (b :
 
     pub new_gone : opening_counter k < version → e.version ≢ version
     new_gone new v = of_content (told (IsLeftOf k log version wiped e.first) e.first (let z = belongs.sane.within in let m = left.many in omega arith)
-        (λ d x cell q. begins_nowhere k s log a version wiped e.first d x st mk mark cell q) other_left)
+        (λ d x cell q. begins_nowhere k s log a version wiped e.first d x st ws seen cell q) other_left)
       where
         of_piece : (p : Piece) (h : HasLogged log e.first p) → image_at images e.first ≡ b (k.image p) → BeginsElsewhere version wiped e.first p → ⊥
         of_piece p h bytes (inl other) = other (sym (says e.first p h bytes).0 ∙ sym c.version ∙ v)

@@ -1,4 +1,4 @@
--- From each opening on: after a mark no file that a crash leaves has a complete entry of what was wiped.
+-- From each opening on: once a slot was wiped no file that a crash leaves has a complete entry of what was wiped.
 use Rattle.std.proofs.Common.{◌≡◌, ◌≢◌, ℕ, ◌<◌, ◌^◌, List, [], sym, ap, ◌∙◌, arith}
 use Rattle.rebuild_model.specs.Entry.{Entry, IsComplete}
 use Rattle.core_model.specs.declared.view.Place.TheVariants.{Counter}
@@ -13,9 +13,9 @@ use Rattle.core_model.proofs.SlotsOpened.{opens_slots}
 use Rattle.core_log.specs.Logged.{LogStands}
 use Rattle.core_log.proofs.LogOpened.{no_log}
 use Rattle.core_log.proofs.LogRuns.{runs}
-use Rattle.core_wiped.specs.Marks.{IsMarked, MarksStand}
-use Rattle.core_wiped.proofs.MarksKept.{runs_kept}
-use Rattle.core_wiped.proofs.Opening.{no_marks}
+use Rattle.core_wiped.specs.Wipes.{IsSeenWiped, WipesStand}
+use Rattle.core_wiped.proofs.WipesKept.{runs_kept}
+use Rattle.core_wiped.proofs.Opening.{no_wipes}
 use Rattle.crash_entries.specs.Parts.{Offers}
 use Rattle.crash_entries.proofs.Telling.{Tools}
 use Rattle.crash_laws.specs.Crashes.{IsLife}
@@ -40,8 +40,8 @@ module _ (X : Type 0) (t : Tools) (slot : ℕ) (o : Offers) (sized : slot < 2 ^ 
   ends : Sound l.setting l.state × LogStands l.setting l.state l.log
   ends = runs l.setting l.opened [] l.steps l.state l.log begins nothing l.run
 
-  marks : MarksStand l.setting l.state l.log
-  marks = runs_kept l.setting l.opened [] l.steps l.state l.log begins nothing (no_marks l.setting l.rebuilt l.opened l.is_setting l.is_opened) l.run
+  wipes : WipesStand l.setting l.state l.log
+  wipes = runs_kept l.setting l.opened [] l.steps l.state l.log begins nothing (no_wipes l.setting l.rebuilt l.opened l.is_setting l.is_opened) l.run
 
   file : IsFileOf slot o l.setting l.bytes before
   file = record {
@@ -53,9 +53,9 @@ module _ (X : Type 0) (t : Tools) (slot : ℕ) (o : Offers) (sized : slot < 2 ^ 
         let c = ap (λ (ws : List ℕ). word_in l.setting ws Counter) (sym l.is_opened.words) ∙ l.is_opened.counter in omega arith;
   }
 
-  module _ (left : IsLeftNow l.setting l.bytes l.state after) (a version wiped : ℕ) (mark : IsMarked l.state a version wiped) (e : Entry) (c : IsComplete slot after e) where
+  module _ (left : IsLeftNow l.setting l.bytes l.state after) (a version wiped : ℕ) (seen : IsSeenWiped l.state a version wiped) (e : Entry) (c : IsComplete slot after e) where
     pub life_begun : e.first ≡ wiped → e.version ≢ version
-    life_begun = begun t slot o l.setting l.bytes before l.state l.log sized l.few file ends.0 ends.1 l.keeps marks after left a version wiped mark e c
+    life_begun = begun t slot o l.setting l.bytes before l.state l.log sized l.few file ends.0 ends.1 l.keeps wipes after left a version wiped seen e c
 
     pub life_new : opening_counter l.setting < version → e.version ≢ version
-    life_new = new_gone t slot o l.setting l.bytes before l.state l.log sized l.few file ends.0 ends.1 l.keeps marks after left a version wiped mark e c
+    life_new = new_gone t slot o l.setting l.bytes before l.state l.log sized l.few file ends.0 ends.1 l.keeps wipes after left a version wiped seen e c

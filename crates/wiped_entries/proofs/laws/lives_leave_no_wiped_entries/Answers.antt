@@ -2,7 +2,7 @@ use Rattle.wiped_entries.proofs.Lives.{life_begun, life_new}
 use Rattle.wiped_entries.proofs.laws.lives_leave_no_wiped_entries.Goals as goal
 
 pub returns-clause-begun : goal.returns-clause-begun
-returns-clause-begun g c slot o before after l a version wiped e sized left mark complete = life_begun _
+returns-clause-begun g c slot o before after l a version wiped e sized left seen complete = life_begun _
     (record {
       reads = c.images_are_read_as_built.ensures.header;
       small = c.keys_have_16_bytes.ensures.bytes;
@@ -12,10 +12,10 @@ returns-clause-begun g c slot o before after l a version wiped e sized left mark
       placed = c.placed_pieces_are_an_entry.ensures;
       one = c.one_entry_at_a_slot.ensures;
     })
-    slot o sized before after l left a version wiped mark e complete
+    slot o sized before after l left a version wiped seen e complete
 
 pub returns-clause-new : goal.returns-clause-new
-returns-clause-new g c slot o before after l a version wiped e sized left mark new complete = life_new _
+returns-clause-new g c slot o before after l a version wiped e sized left seen new complete = life_new _
     (record {
       reads = c.images_are_read_as_built.ensures.header;
       small = c.keys_have_16_bytes.ensures.bytes;
@@ -25,4 +25,4 @@ returns-clause-new g c slot o before after l a version wiped e sized left mark n
       placed = c.placed_pieces_are_an_entry.ensures;
       one = c.one_entry_at_a_slot.ensures;
     })
-    slot o sized before after l left a version wiped mark e complete new
+    slot o sized before after l left a version wiped seen e complete new

@@ -24,8 +24,8 @@ use Rattle.core_log.specs.Logged.{HasLogged, IsLogOf}
 use Rattle.core_log.specs.Seen.{IsSeen}
 
 -- some pass or note has seen that the slot of the entry of this version was wiped
-abbrev pub IsMarked : {X : Type 0} → State X → (a version slot : ℕ) → Type 0
-IsMarked s a version slot = IsSeen s.views (Wiped a version slot)
+abbrev pub IsSeenWiped : {X : Type 0} → State X → (a version slot : ℕ) → Type 0
+IsSeenWiped s a version slot = IsSeen s.views (Wiped a version slot)
 
 -- the entry of this version was seen doomed, at FREEING
 pub record WasFreed {X : Type 0} (views : List (View X)) (a version : ℕ) : Type 0 where
@@ -39,7 +39,7 @@ pub record WasFreed {X : Type 0} (views : List (View X)) (a version : ℕ) : Typ
 abbrev pub IsOfOther : {X : Type 0} → Setting X → List LoggedPiece → (version slot : ℕ) → X → Type 0
 IsOfOther k log version slot x = (x ≡ k.blank) ⊎ ((p : Piece) × HasLogged log slot p × (p.version ≢ version) × (x ≡ k.image p))
 
--- What a mark says: the entry was freed as a doomed one, the slot is the one that each piece of its version names as the first, and a crash
+-- What it says that the slot was wiped: the entry was freed as a doomed one, each piece of its version names this slot as the first, and a crash
 -- leaves there nothing that the opening had, and no piece of that version.
 pub record IsWiped {X : Type 0} (k : Setting X) (s : State X) (log : List LoggedPiece) (a version slot : ℕ) : Type 0 where
   pub freed : WasFreed s.views a version
@@ -60,27 +60,27 @@ DeedsSeen {X} s = (i : ℕ) (v : View X) → get_elem? s.views i ≡ some v → 
 abbrev pub ChoicesOwn : {X : Type 0} → State X → Type 0
 ChoicesOwn {X} s = (i t : ℕ) (w : Writer X) (p : Piece) → IsTab s i t (Writing w) → w.chosen ≡ Some p → p.version ≡ w.version
 
--- all that holds of marks between two steps, and of what they are made from
-pub record MarksStand {X : Type 0} (k : Setting X) (s : State X) (log : List LoggedPiece) : Type 0 where
-  pub marks : (a version slot : ℕ) → IsMarked s a version slot → IsWiped k s log a version slot
+-- all that holds between two steps of slots that were wiped, and of what it is told by when one is wiped
+pub record WipesStand {X : Type 0} (k : Setting X) (s : State X) (log : List LoggedPiece) : Type 0 where
+  pub each : (a version slot : ℕ) → IsSeenWiped s a version slot → IsWiped k s log a version slot
   pub starts : StartsNamed k s log
   pub deeds : DeedsSeen s
   pub choices : ChoicesOwn s
 
 -- what a rule over a running store keeps of it, beside the log of the state: it holds of each list that is the log
-abbrev pub HasMarks : {X : Type 0} → Setting X → State X → Type 0
-HasMarks k s = (log : List LoggedPiece) → IsLogOf s.views log → MarksStand k s log
+abbrev pub HasWipes : {X : Type 0} → Setting X → State X → Type 0
+HasWipes k s = (log : List LoggedPiece) → IsLogOf s.views log → WipesStand k s log
 
--- The tab t of a pass, whose view is v, ended its turn with the slot wiped, which left the state s: from then on there is a mark of the
--- version that the tab frees, and a crash leaves the slot blank and nothing else.
-pub record MakesMark {X : Type 0} (k : Setting X) (s : State X) (v : View X) (t slot : ℕ) : Type 0 where
+-- The tab t of a pass, whose view is v, ended its turn with the slot wiped, which left the state s: its pass has seen so of the
+-- version that the tab frees and of the first slot of its chain, and a crash leaves the slot blank and nothing else.
+pub record LeavesWiped {X : Type 0} (k : Setting X) (s : State X) (v : View X) (t slot : ℕ) : Type 0 where
   pub freer : Freer X
   pub tab : tab_at v t ≡ Freeing freer
-  pub mark : IsMarked s freer.anchor freer.version slot
+  pub seen : IsSeenWiped s freer.anchor freer.version slot
   pub first : freer.rest ≡ slot ∷ rest_of freer.rest
   pub blank : (c : Cell X) (x : X) → IsCell s slot c → Contains c.possible x → x ≡ k.blank
 
--- What follows from a mark.
+-- What follows where a slot was wiped.
 
 -- the version stands at the anchor and is given back, or is gone, or a later one stands there
 abbrev pub IsPast : {X : Type 0} → State X → (a version : ℕ) → Type 0

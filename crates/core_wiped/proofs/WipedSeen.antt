@@ -101,12 +101,12 @@ module _ {X : Type 0} (k : Setting X) (s : State X) (i : ℕ) (v : View X) (at :
   not_logged : (l : LoggedPiece) → Wiped a version slot ≡ Logged l → ⊥
   not_logged l e = cc
 
-  one_mark : (b u j : ℕ) → Wiped b u j ≡ Wiped a version slot → (b ≡ a) × (u ≡ version) × (j ≡ slot)
-  one_mark b u j e = let p : b ≡ a = cc in let q : u ≡ version = cc in let r : j ≡ slot = cc in (p, q, r)
+  one_wipe : (b u j : ℕ) → Wiped b u j ≡ Wiped a version slot → (b ≡ a) × (u ≡ version) × (j ≡ slot)
+  one_wipe b u j e = let p : b ≡ a = cc in let q : u ≡ version = cc in let r : j ≡ slot = cc in (p, q, r)
 
   ended : (t j : ℕ) (then : Then) (x : Tab X) → tab_at v t ≡ x → Contains (wiped_by x j then) (Wiped a version slot) → Sees (EndTurn t j then)
   ended t j WipedThen (Freeing f) e c = ⊎_elim
-      (λ (q : Wiped f.anchor f.version j ≡ Wiped a version slot). let z = one_mark f.anchor f.version j q in inl record { t = t; is = ap (λ (n : ℕ). EndTurn t n WipedThen) z.2; freer = f; tab = e; anchor_is = z.0; version_is = z.1 })
+      (λ (q : Wiped f.anchor f.version j ≡ Wiped a version slot). let z = one_wipe f.anchor f.version j q in inl record { t = t; is = ap (λ (n : ℕ). EndTurn t n WipedThen) z.2; freer = f; tab = e; anchor_is = z.0; version_is = z.1 })
       (λ (q : Contains [] (Wiped a version slot)). absurd (contains_none (Wiped a version slot) q))
       (cons_contains (Wiped f.anchor f.version j) (Wiped a version slot) [] c)
   ended t j Stays (Freeing f) e c = absurd (contains_none (Wiped a version slot) c)
@@ -117,30 +117,30 @@ module _ {X : Type 0} (k : Setting X) (s : State X) (i : ℕ) (v : View X) (at :
   ended t j then (Writing w) e c = absurd (contains_none (Wiped a version slot) c)
   ended t j then (Last b) e c = absurd (contains_none (Wiped a version slot) c)
 
-  pub mark_seen : (m : Move) → Allowed k s v m → Contains (sights_of v m (finding k s v m)) (Wiped a version slot) → Sees m
-  mark_seen (Look b) may c = none (Look b) (tt, tt) c
-  mark_seen (Enter t b) may c = none (Enter t b) (tt, tt) c
-  mark_seen (Leave t) may c = none (Leave t) (tt, tt) c
-  mark_seen Count may c = none Count tt c
-  mark_seen Draw may c = none Draw tt c
-  mark_seen (Take t b u) may c = none (Take t b u) (tt, tt) c
-  mark_seen (Evict t b) may c = none (Evict t b) (tt, tt) c
-  mark_seen (Raise t to) may c = none (Raise t to) (tt, tt) c
-  mark_seen (Doom t) may c = none (Doom t) (tt, tt) c
-  mark_seen (LoadSide t side) may c = none (LoadSide t side) (loads_others (tab_at v t) side _) c
-  mark_seen (StoreSide t side value) may c = none (StoreSide t side value) tt c
-  mark_seen (LookMap t word) may c = none (LookMap t word) tt c
-  mark_seen (Own t j) may c = none (Own t j) tt c
-  mark_seen (Disown t j) may c = none (Disown t j) tt c
-  mark_seen (LogPiece t j is_durable) may c = none (LogPiece t j is_durable) (logs_others (tab_at v t) j is_durable (word_in k s.words LogCounter)) c
-  mark_seen (Publish t j link) may c = none (Publish t j link) (shows_others (tab_at v t)) c
-  mark_seen (Loosen t j) may c = none (Loosen t j) tt c
-  mark_seen (GetLink t j) may c = none (GetLink t j) (follows_others (tab_at v t) _) c
-  mark_seen (TryTurn t j) may c = let q = brought j v.seen s.views (turn_word k s j == 0) (Wiped a version slot) c in absurd (not_logged _ q.is)
-  mark_seen (EndTurn t j then) may c = ended t j then (tab_at v t) refl c
-  mark_seen (CellOut t j) may c = none (CellOut t j) tt c
-  mark_seen (CellIn t j) may c = none (CellIn t j) tt c
-  mark_seen Note may c = none Note tt c
-  mark_seen (Learn note) may c = inr record { i = k.passes + note; view = may.0; at = may.1; seen = subst (λ (o : Option (View X)). Contains (seen_in o) (Wiped a version slot)) (at_get s.views (k.passes + note) may.0 may.1) c }
-  mark_seen (Write t j outcome) may c = none (Write t j outcome) tt c
-  mark_seen (Sync t j kept) may c = none (Sync t j kept) tt c
+  pub wipe_seen : (m : Move) → Allowed k s v m → Contains (sights_of v m (finding k s v m)) (Wiped a version slot) → Sees m
+  wipe_seen (Look b) may c = none (Look b) (tt, tt) c
+  wipe_seen (Enter t b) may c = none (Enter t b) (tt, tt) c
+  wipe_seen (Leave t) may c = none (Leave t) (tt, tt) c
+  wipe_seen Count may c = none Count tt c
+  wipe_seen Draw may c = none Draw tt c
+  wipe_seen (Take t b u) may c = none (Take t b u) (tt, tt) c
+  wipe_seen (Evict t b) may c = none (Evict t b) (tt, tt) c
+  wipe_seen (Raise t to) may c = none (Raise t to) (tt, tt) c
+  wipe_seen (Doom t) may c = none (Doom t) (tt, tt) c
+  wipe_seen (LoadSide t side) may c = none (LoadSide t side) (loads_others (tab_at v t) side _) c
+  wipe_seen (StoreSide t side value) may c = none (StoreSide t side value) tt c
+  wipe_seen (LookMap t word) may c = none (LookMap t word) tt c
+  wipe_seen (Own t j) may c = none (Own t j) tt c
+  wipe_seen (Disown t j) may c = none (Disown t j) tt c
+  wipe_seen (LogPiece t j is_durable) may c = none (LogPiece t j is_durable) (logs_others (tab_at v t) j is_durable (word_in k s.words LogCounter)) c
+  wipe_seen (Publish t j link) may c = none (Publish t j link) (shows_others (tab_at v t)) c
+  wipe_seen (Loosen t j) may c = none (Loosen t j) tt c
+  wipe_seen (GetLink t j) may c = none (GetLink t j) (follows_others (tab_at v t) _) c
+  wipe_seen (TryTurn t j) may c = let q = brought j v.seen s.views (turn_word k s j == 0) (Wiped a version slot) c in absurd (not_logged _ q.is)
+  wipe_seen (EndTurn t j then) may c = ended t j then (tab_at v t) refl c
+  wipe_seen (CellOut t j) may c = none (CellOut t j) tt c
+  wipe_seen (CellIn t j) may c = none (CellIn t j) tt c
+  wipe_seen Note may c = none Note tt c
+  wipe_seen (Learn note) may c = inr record { i = k.passes + note; view = may.0; at = may.1; seen = subst (λ (o : Option (View X)). Contains (seen_in o) (Wiped a version slot)) (at_get s.views (k.passes + note) may.0 may.1) c }
+  wipe_seen (Write t j outcome) may c = none (Write t j outcome) tt c
+  wipe_seen (Sync t j kept) may c = none (Sync t j kept) tt c

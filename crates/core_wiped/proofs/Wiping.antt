@@ -1,4 +1,4 @@
--- A turn that ends with the slot wiped makes a mark that says what a mark says.
+-- A turn that ends with the slot wiped: what holds of a wiped slot holds of it.
 use Rattle.std.proofs.Common.{◌≡◌, inl, inr, ⊎_elim, ℕ, ◌+◌, ◌<◌, List, ◌∷◌, ◌++◌, get_or, Bool, None, refl, sym, ap, ◌∙◌, subst, arith, Contains}
 use mathlib.Core.Option.{some, some-injective}
 use lib.ListN.{get_elem?}
@@ -41,9 +41,9 @@ use Rattle.core_log.specs.Seen.{IsSeen}
 use Rattle.core_log.proofs.Kept.{no_cell, there_at}
 use Rattle.core_log.proofs.KnownStays.{stays_seen}
 use Rattle.core_log.proofs.LinksKept.{new_is, one_of, split}
-use Rattle.core_wiped.specs.Marks.{IsWiped, MakesMark, MarksStand}
+use Rattle.core_wiped.specs.Wipes.{IsWiped, LeavesWiped, WipesStand}
 use Rattle.core_wiped.proofs.Left.{IsChosenAt, IsPossible, was_left}
-use Rattle.core_wiped.proofs.Marked.{EndsWiped}
+use Rattle.core_wiped.proofs.WipedSeen.{EndsWiped}
 
 module _ {X : Type 0} where
   one_hold : (g h : Hold X) → ◌≡◌ {A = Turn X} (Has g) (Has h) → g ≡ h
@@ -117,12 +117,12 @@ module _ {X : Type 0} (k : Setting X) (s : State X) (log : List LoggedPiece) (i 
       (λ (z : x ≡ k.blank). z))
       (was_left k s log i v so st.cells at m may slot c x is q)
 
-  module _ (mk : MarksStand k s log) (pass : IsPass v) where
+  module _ (ws : WipesStand k s log) (pass : IsPass v) where
     -- a deed left the epoch, and so it was seen
     was_seen : IsSeen s.views (Stood a epoch)
     was_seen = ⊎_elim
         (λ (q : epoch ≡ opening_epoch k f.anchor). absurd (let z = ap stage_of q in let y = stage_is in ⊎_elim (λ (w : stage_of (opening_epoch k f.anchor) ≡ 0). omega arith) (λ (w : stage_of (opening_epoch k f.anchor) ≡ 3). omega arith) (so.anchors.setting.stage f.anchor lt)))
-        (λ (q : IsDone s (LeftEpoch f.anchor epoch)). subst (λ (n : ℕ). IsSeen s.views (Stood n epoch)) (q.so.0.0 ∙ e.anchor_is) (subst (λ (n : ℕ). IsSeen s.views (Stood q.deed.anchor n)) q.so.1 (mk.deeds q.i q.view q.at q.deed q.done (refl, q.so.0.1))))
+        (λ (q : IsDone s (LeftEpoch f.anchor epoch)). subst (λ (n : ℕ). IsSeen s.views (Stood n epoch)) (q.so.0.0 ∙ e.anchor_is) (subst (λ (n : ℕ). IsSeen s.views (Stood q.deed.anchor n)) q.so.1 (ws.deeds q.i q.view q.at q.deed q.done (refl, q.so.0.1))))
         (so.anchors.deeds.left f.anchor epoch (inl (lt, refl)))
 
     -- each piece of the version names the first slot of the chain
@@ -136,10 +136,10 @@ module _ {X : Type 0} (k : Setting X) (s : State X) (log : List LoggedPiece) (i 
         let j = slot_is in ⊎_elim
         (λ (q : side_word k s Start l.anchor ≡ 0). absurd (omega arith))
         (λ (q : side_word k s Start l.anchor ≡ l.piece.first + 1). omega arith)
-        (mk.starts l c stands (omega arith))
+        (ws.starts l c stands (omega arith))
 
-    pub new_mark : IsWiped k (after k s i v m) (logged_now k s v m ++ log) a version slot
-    new_mark = record {
+    pub new_wipe : IsWiped k (after k s i v m) (logged_now k s v m ++ log) a version slot
+    new_wipe = record {
       freed = record { epoch = epoch; seen = stays_seen k s i v at pass m may (Stood a epoch) was_seen; version_is = version_is; stage_is = stage_is; doom_is = doom_is };
       inside = let z = fits.0 in let y = slot_is in omega arith;
       first = λ l c same. ⊎_elim
@@ -150,15 +150,15 @@ module _ {X : Type 0} (k : Setting X) (s : State X) (log : List LoggedPiece) (i 
     }
 
 -- the end of a turn by which a slot is wiped
-pub makes_mark : {X : Type 0} → (k : Setting X) (s : State X) (log : List LoggedPiece) (i : ℕ) (v : View X) (t slot : ℕ) → Sound k s → LogStands k s log → get_elem? s.views i ≡ some v → MayStep k s v (EndTurn t slot WipedThen)
-    → MakesMark k (after k s i v (EndTurn t slot WipedThen)) v t slot
-makes_mark {X} k s log i v t slot so st at may = let q = of_freer (HasWiped k) (tab_at v t) may.allowed.2 in
+pub leaves_wiped : {X : Type 0} → (k : Setting X) (s : State X) (log : List LoggedPiece) (i : ℕ) (v : View X) (t slot : ℕ) → Sound k s → LogStands k s log → get_elem? s.views i ≡ some v → MayStep k s v (EndTurn t slot WipedThen)
+    → LeavesWiped k (after k s i v (EndTurn t slot WipedThen)) v t slot
+leaves_wiped {X} k s log i v t slot so st at may = let q = of_freer (HasWiped k) (tab_at v t) may.allowed.2 in
     let e : EndsWiped (EndTurn t slot WipedThen) v q.0.anchor q.0.version slot = record { t = t; is = refl; freer = q.0; tab = q.1; anchor_is = refl; version_is = refl } in
     let h = may.allowed.1 in
     record {
       freer = q.0;
       tab = q.1;
-      mark = record {
+      seen = record {
         i = i;
         view = view_after v (EndTurn t slot WipedThen) (finding k s v (EndTurn t slot WipedThen));
         at = set_here s.views i (view_after v (EndTurn t slot WipedThen) (finding k s v (EndTurn t slot WipedThen))) (at_length s.views i v at);

@@ -1,7 +1,0 @@
-use Rattle.std.proofs.Common.{sym, subst}
-use Rattle.core_model.proofs.NotesRenewed.{Quiet, learned}
-use Rattle.core_wiped.proofs.Quiet.{learned_from_marks}
-use Rattle.core_wiped.proofs.laws.notes_learned_keep_marks.Goals as goal
-
-pub returns : goal.returns
-returns g c k s log i v item n u so mk at pass kind note = learned_from_marks k s log mk i v so at pass item (subst Quiet (sym kind) learned) n u note
