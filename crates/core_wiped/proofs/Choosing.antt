@@ -24,7 +24,8 @@ use Rattle.core_wiped.specs.Wipes.{ChoicesOwn}
 none_some : (p : Piece) → None ≡ Some p → ⊥
 none_some p e = cc
 
-module _ {X : Type 0} (k : Setting X) (s : State X) (i : ℕ) (v : View X) (at : get_elem? s.views i ≡ some v) (m : Move) (may : Allowed k s v m) (own : ChoicesOwn s) where
+module _ {X : Type 0} (k : Setting X) (s : State X) (i : ℕ) (v : View X) (at : get_elem? s.views i ≡ some v) (m : Move)
+    (may : Allowed k s v m) (own : ChoicesOwn s) where
   same_writer : (w x : Writer X) → ◌≡◌ {A = Tab X} (Writing w) (Writing x) → w.version ≡ x.version
   same_writer w x e = ap version_in e
     where
@@ -33,23 +34,29 @@ module _ {X : Type 0} (k : Setting X) (s : State X) (i : ℕ) (v : View X) (at :
       version_in _ = 0
 
   -- of a tab of the pass
-  mine : (t : ℕ) (x : Writer X) (p : Piece) → x.chosen ≡ Some p → Follow k s v m t (tab_at v t) (Writing x) → (a : ChoiceAfter s i m i t x p) → p.version ≡ x.version
+  mine : (t : ℕ) (x : Writer X) (p : Piece) → x.chosen ≡ Some p → Follow k s v m t (tab_at v t) (Writing x)
+      → (a : ChoiceAfter s i m i t x p) → p.version ≡ x.version
   mine t x p c (inl b) a = absurd (none_some p (sym b.none ∙ c))
   mine t x p c (inr q) a = ⊎_elim
-      (λ (z : IsStillChosen a.old x p). own i t z.writer p (subst (IsTab s i t) z.is a.was) z.chosen ∙ same_writer z.writer q.writer (sym z.is ∙ was) ∙ sym q.version)
-      (λ (z : (i ≡ i) × IsNowChosen m t a.old x p). ap Piece.version z.1.piece ∙ same_writer z.1.writer q.writer (sym z.1.is ∙ was) ∙ sym q.version)
+      (λ (z : IsStillChosen a.old x p). own i t z.writer p (subst (IsTab s i t) z.is a.was) z.chosen
+      ∙ same_writer z.writer q.writer (sym z.is ∙ was) ∙ sym q.version)
+      (λ (z : (i ≡ i) × IsNowChosen m t a.old x p). ap Piece.version z.1.piece ∙ same_writer z.1.writer q.writer (sym z.1.is ∙ was)
+      ∙ sym q.version)
       a.so
     where
       was : a.old ≡ Writing q.writer
-      was = let here : get_elem? v.tabs t ≡ some a.old = subst (λ (u : View X). get_elem? u.tabs t ≡ some a.old) (some-injective a.was.view v (sym a.was.at ∙ at)) a.was.there in
+      was = let here : get_elem? v.tabs t ≡ some a.old = subst
+          (λ (u : View X). get_elem? u.tabs t ≡ some a.old) (some-injective a.was.view v (sym a.was.at ∙ at)) a.was.there in
           sym (at_or v.tabs t a.old Free here) ∙ q.is
 
   pub choices_kept : ChoicesOwn (after k s i v m)
   choices_kept j t x p is c = ⊎_elim
-      (λ (q : (j ≡ i) × (is.view ≡ view_after v m (finding k s v m))). mine t x p c (tabs_follow k s v m may t (Writing x) (subst (λ (z : View X). get_elem? z.tabs t ≡ some (Writing x)) q.1 is.there))
+      (λ (q : (j ≡ i) × (is.view ≡ view_after v m (finding k s v m))). mine t x p c
+      (tabs_follow k s v m may t (Writing x) (subst (λ (z : View X). get_elem? z.tabs t ≡ some (Writing x)) q.1 is.there))
       (subst (λ (n : ℕ). ChoiceAfter s i m n t x p) q.0 (choice_after k s i v m at may j t x p is c)))
       (λ (q : (get_elem? s.views j ≡ some is.view) ⊎ (is.view ≡ note_of is.view)). ⊎_elim
       (λ (r : get_elem? s.views j ≡ some is.view). own j t x p record { view = is.view; at = r; there = is.there } c)
-      (λ (r : is.view ≡ note_of is.view). absurd (some-ne-none (Writing x) (sym (subst (λ (z : View X). get_elem? z.tabs t ≡ some (Writing x)) r is.there))))
+      (λ (r : is.view ≡ note_of is.view). absurd
+      (some-ne-none (Writing x) (sym (subst (λ (z : View X). get_elem? z.tabs t ≡ some (Writing x)) r is.there))))
       q)
       (view_was k s i v m j is.view is.at)

@@ -11,7 +11,9 @@ use Rattle.core_model.specs.State.{State}
 use Rattle.core_log.specs.Logged.{HasLogged, IsKnown, LogStands}
 use Rattle.core_wiped.specs.Wipes.{BeginsElsewhere, IsLeftOf, IsSeenWiped, IsOfOther, WipesStand}
 
-module _ {X : Type 0} (k : Setting X) (s : State X) (log : List LoggedPiece) (a version wiped slot : ℕ) (c : Cell X) (x : X) (st : LogStands k s log) (ws : WipesStand k s log) (seen : IsSeenWiped s a version wiped) (cell : IsCell s slot c) (there : Contains c.possible x) where
+module _ {X : Type 0} (k : Setting X) (s : State X) (log : List LoggedPiece) (a version wiped slot : ℕ) (c : Cell X) (x : X)
+    (st : LogStands k s log) (ws : WipesStand k s log) (seen : IsSeenWiped s a version wiped) (cell : IsCell s slot c)
+    (there : Contains c.possible x) where
   -- at the wiped slot there is none of that version
   here : slot ≡ wiped → IsLeftOf k log version wiped slot x
   here e = of_other ((ws.each a version wiped seen).left c x (subst (λ (n : ℕ). IsCell s n c) e cell) there)
@@ -26,7 +28,11 @@ module _ {X : Type 0} (k : Setting X) (s : State X) (log : List LoggedPiece) (a 
     where
       begins : (p : Piece) → HasLogged log slot p → BeginsElsewhere version wiped slot p
       begins p h = dite (ℕ_discrete p.version version)
-          (λ e. inr (ap Piece.first (sym h.piece_is) ∙ (ws.each a version wiped seen).first h.link h.among (ap Piece.version h.piece_is ∙ e), ne))
+          (λ e. inr (
+            ap Piece.first (sym h.piece_is)
+                ∙ (ws.each a version wiped seen).first h.link h.among (ap Piece.version h.piece_is ∙ e),
+            ne,
+          ))
           (λ other. inl other)
 
       of_known : IsKnown k log slot x → IsLeftOf k log version wiped slot x

@@ -1,4 +1,5 @@
--- What holds of wiped slots, with whatever list is the log of the state: what becomes of it by steps, notes, and cells in the hands of tabs.
+-- What holds of wiped slots, with whatever list is the log of the state: what becomes of it by steps, notes, and cells in the
+-- hands of tabs.
 use Rattle.std.proofs.Common.{◌≡◌, inl, inr, ℕ, List, [], ◌++◌, Contains}
 use mathlib.Core.Option.{some}
 use lib.ListN.{get_elem?}
@@ -32,9 +33,11 @@ module _ {X : Type 0} (k : Setting X) (s : State X) (log : List LoggedPiece) (of
   among : (more : List LoggedPiece) → IsLogOf s.views more → (l : LoggedPiece) → Contains log l → Contains more l
   among more m l c = m.all l (of.seen l c)
 
-  other : (more : List LoggedPiece) → IsLogOf s.views more → (version slot : ℕ) (x : X) → IsOfOther k log version slot x → IsOfOther k more version slot x
+  other : (more : List LoggedPiece) → IsLogOf s.views more → (version slot : ℕ) (x : X) → IsOfOther k log version slot x
+      → IsOfOther k more version slot x
   other more m version slot x (inl e) = inl e
-  other more m version slot x (inr q) = let h = q.1 in inr (q.0, record { link = h.link; among = among more m h.link h.among; slot_is = h.slot_is; piece_is = h.piece_is }, q.2, q.3)
+  other more m version slot x (inr q) = let h = q.1 in
+      inr (q.0, record { link = h.link; among = among more m h.link h.among; slot_is = h.slot_is; piece_is = h.piece_is }, q.2, q.3)
 
   pub any_log : HasWipes k s
   any_log more m = record {
@@ -49,18 +52,26 @@ module _ {X : Type 0} (k : Setting X) (s : State X) (log : List LoggedPiece) (of
     choices = ws.choices;
   }
 
-module _ {X : Type 0} (k : Setting X) (s : State X) (log : List LoggedPiece) (so : Sound k s) (st : LogStands k s log) (ws : HasWipes k s) where
+module _ {X : Type 0} (k : Setting X) (s : State X) (log : List LoggedPiece) (so : Sound k s) (st : LogStands k s log)
+    (ws : HasWipes k s) where
   pub wipes_after : (i : ℕ) (v : View X) (m : Move) → get_elem? s.views i ≡ some v → MayStep k s v m → HasWipes k (after k s i v m)
-  wipes_after i v m at may = any_log k (after k s i v m) (logged_now k s v m ++ log) (logs_kept k s log i v m so st at may).of (wipes_kept k s log i v m so st (ws log st.of) at may)
+  wipes_after i v m at may = any_log k (after k s i v m) (logged_now k s v m ++ log) (logs_kept k s log i v m so st at may).of
+      (wipes_kept k s log i v m so st (ws log st.of) at may)
 
-  pub wipes_rewritten : (i t : ℕ) (v : View X) (w : Writer X) (old new : Hold X) → get_elem? s.views i ≡ some v → MayRewrite k v t w old new → HasWipes k (with_held s i v t w new)
-  wipes_rewritten i t v w old new at may = any_log k (with_held s i v t w new) log (rewritten k s log i t v w old new so st at may).of (written_wipes k s log i t v old new so st (ws log st.of) at w may)
+  pub wipes_rewritten : (i t : ℕ) (v : View X) (w : Writer X) (old new : Hold X) → get_elem? s.views i ≡ some v → MayRewrite k v t w old new
+      → HasWipes k (with_held s i v t w new)
+  wipes_rewritten i t v w old new at may = any_log k (with_held s i v t w new) log (rewritten k s log i t v w old new so st at may).of
+      (written_wipes k s log i t v old new so st (ws log st.of) at w may)
 
-  pub wipes_wiped : (i t : ℕ) (v : View X) (f : Freer X) (old new : Hold X) → get_elem? s.views i ≡ some v → MayBlank k v t f old new → HasWipes k (with_wiped s i v t f new)
-  wipes_wiped i t v f old new at may = any_log k (with_wiped s i v t f new) log (wiped k s log i t v f old new so st at may).of (blanked_wipes k s log i t v old new so st (ws log st.of) at f may)
+  pub wipes_wiped : (i t : ℕ) (v : View X) (f : Freer X) (old new : Hold X) → get_elem? s.views i ≡ some v → MayBlank k v t f old new
+      → HasWipes k (with_wiped s i v t f new)
+  wipes_wiped i t v f old new at may = any_log k (with_wiped s i v t f new) log (wiped k s log i t v f old new so st at may).of
+      (blanked_wipes k s log i t v old new so st (ws log st.of) at f may)
 
   pub wipes_renewed : (views : List (View X)) → Renews k s views → HasWipes k (renewed s views)
-  wipes_renewed views r = any_log k (renewed s views) log (renews_logged k s log views r st).of (renews_wipes k s log views r (ws log st.of))
+  wipes_renewed views r = any_log k (renewed s views) log (renews_logged k s log views r st).of
+      (renews_wipes k s log views r (ws log st.of))
 
-pub wipes_opened : {X : Type 0} → (k : Setting X) (r : Rebuilt) (s : State X) → IsSetting k → IsOpened k r s → LogStands k s [] → HasWipes k s
+pub wipes_opened : {X : Type 0} → (k : Setting X) (r : Rebuilt) (s : State X) → IsSetting k → IsOpened k r s → LogStands k s []
+    → HasWipes k s
 wipes_opened k r s is o st = any_log k s [] st.of (no_wipes k r s is o)

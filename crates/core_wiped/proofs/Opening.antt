@@ -21,7 +21,8 @@ not_stood a version slot b e h = cc
 
 module _ {X : Type 0} (k : Setting X) (r : Rebuilt) (s : State X) (is : IsSetting k) (o : IsOpened k r s) where
   none_wipeed : (a version slot : ℕ) → IsSeenWiped s a version slot → ⊥
-  none_wipeed a version slot h = let q = sight_is k k.anchors (Wiped a version slot) (subst (λ (w : View X). Contains w.seen (Wiped a version slot)) (at_new k r s is o h.i h.view h.at).0 h.seen) in
+  none_wipeed a version slot h = let q = sight_is k k.anchors (Wiped a version slot)
+      (subst (λ (w : View X). Contains w.seen (Wiped a version slot)) (at_new k r s is o h.i h.view h.at).0 h.seen) in
       not_stood a version slot q.0 (opening_epoch k q.0) q.2
 
   no_writer : (i t : ℕ) (w : Writer X) → IsTab s i t (Writing w) → ⊥

@@ -30,20 +30,34 @@ module _ {X : Type 0} (k : Setting X) (s : State X) (so : Sound k s) (a version 
   anchor = so.anchors.seen.inside f.seen.i f.seen.view f.seen.at (Stood a f.epoch) f.seen.seen
 
   pub sighted : IsSighted s a version
-  sighted = record { i = f.seen.i; view = f.seen.view; at = f.seen.at; sight = Stood a f.epoch; seen = f.seen.seen; anchor = refl; version_is = f.version_is }
+  sighted = record {
+    i = f.seen.i;
+    view = f.seen.view;
+    at = f.seen.at;
+    sight = Stood a f.epoch;
+    seen = f.seen.seen;
+    anchor =
+        refl;
+    version_is = f.version_is;
+  }
 
   past : IsPast s a version
   past = let low = so.anchors.seen.known f.seen.i f.seen.view f.seen.at (Stood a f.epoch) f.seen.seen in
       let up = so.anchors.seen.epochs f.seen.i f.seen.view f.seen.at a anchor in
       let e = f.version_is in
       dite (ℕ_discrete (version_of (epoch_of (word s a))) version)
-      (λ q. inr (q, leads_late (stage_of f.epoch) (stage_of (epoch_of (word s a))) f.stage_is (so.sights.stages f.seen.i f.seen.view f.seen.at a f.epoch anchor f.seen.seen (e ∙ sym q))))
+      (λ q. inr (
+        q,
+        leads_late (stage_of f.epoch) (stage_of (epoch_of (word s a))) f.stage_is
+            (so.sights.stages f.seen.i f.seen.view f.seen.at a f.epoch anchor f.seen.seen (e ∙ sym q)),
+      ))
       (λ ne. inl (omega arith))
 
   unwritten : (i t : ℕ) (w : Writer X) → IsTab s i t (Writing w) → w.version ≢ version
   unwritten i t w tab e = let m = matches_writer k s so.anchors i t w tab in
       let new = (so.cells.writers i tab.view tab.at t (Writing w) tab.there).drawn in
-      let here : a ≡ w.anchor = so.anchors.held.one_anchor a w.anchor w.version new (inr (subst (IsSighted s a) (sym e) sighted)) (inl (m.0, m.1.version_is)) in
+      let here : a ≡ w.anchor = so.anchors.held.one_anchor a w.anchor w.version new (inr (subst (IsSighted s a) (sym e) sighted))
+      (inl (m.0, m.1.version_is)) in
       let v = m.1.version_is in let g = m.1.stage_is in let low = low_stage w.is_appending in
       let same = ap (λ (n : ℕ). epoch_of (word s n)) here in
       ⊎_elim (λ (q : version < version_of (epoch_of (word s a))). omega arith)

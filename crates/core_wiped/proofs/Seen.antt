@@ -1,11 +1,14 @@
 -- Each epoch that a deed left was seen, and a step keeps that.
-use Rattle.std.proofs.Common.{◌≡◌, ◌⊎◌, inl, inr, ⊎_elim, ℕ, ◌==◌, List, [], ◌∷◌, Bool, true, false, cond, refl, sym, ap, ◌∙◌, subst, arith, Contains, set}
+use Rattle.std.proofs.Common.{◌≡◌, ◌⊎◌, inl, inr, ⊎_elim, ℕ, ◌==◌, List, [], ◌∷◌, Bool, true, false, cond, refl, sym, ap, ◌∙◌, subst}
+use Rattle.std.proofs.Common.{arith, Contains, set}
 use mathlib.Core.Option.{some}
 use lib.ListN.{get_elem?}
 use Rattle.std.proofs.lemmas.List.Elements.{Contains-append_left, Contains-append_cases}
 use Rattle.lock_word.specs.Words.{epoch_of, evicted, word_at}
 use Rattle.core_model.specs.declared.moves.Move.{Move}
-use Rattle.core_model.specs.declared.moves.Move.TheVariants.{Look, Enter, Leave, Count, Draw, Take, Evict, Raise, Doom, LoadSide, StoreSide, Own, Disown, Publish, Loosen, GetLink, TryTurn, EndTurn, CellOut, CellIn, Note, Learn, Write, Sync, LookMap, LogPiece}
+use Rattle.core_model.specs.declared.moves.Move.TheVariants.{Look, Enter, Leave, Count, Draw, Take, Evict, Raise, Doom, LoadSide}
+use Rattle.core_model.specs.declared.moves.Move.TheVariants.{StoreSide, Own, Disown, Publish, Loosen, GetLink, TryTurn, EndTurn, CellOut}
+use Rattle.core_model.specs.declared.moves.Move.TheVariants.{CellIn, Note, Learn, Write, Sync, LookMap, LogPiece}
 use Rattle.core_model.specs.declared.view.Deed.{Deed}
 use Rattle.core_model.specs.declared.view.Kind.{Kind}
 use Rattle.core_model.specs.declared.view.Kind.TheVariants.{Changed, Doomed, Entered, Raised}
@@ -32,7 +35,8 @@ module _ {X : Type 0} (k : Setting X) (s : State X) (i : ℕ) (v : View X) (at :
   next m = view_after v m (finding k s v m)
 
   -- what the pass sees by a step that changes its own view alone
-  now_seen : (m : Move) → (after k s i v m).views ≡ set s.views i (next m) → (x : Sight) → Contains (sights_of v m (finding k s v m)) x → IsSeen (after k s i v m).views x
+  now_seen : (m : Move) → (after k s i v m).views ≡ set s.views i (next m) → (x : Sight) → Contains (sights_of v m (finding k s v m)) x
+      → IsSeen (after k s i v m).views x
   now_seen m views x c = record {
     i = i;
     view = next m;
@@ -41,11 +45,14 @@ module _ {X : Type 0} (k : Setting X) (s : State X) (i : ℕ) (v : View X) (at :
   }
 
   -- the deed of a step that may change an anchor, where it does
-  tried : (hit : Bool) (a new n : ℕ) (deed d : Deed) → deed.anchor ≡ a → deed.epoch ≡ epoch_of new → Contains (cond hit (deed ∷ []) []) d → Contains (Stood a (epoch_of (cond hit new n)) ∷ []) (Stood d.anchor d.epoch)
-  tried true a new n deed d e f c = let q = one_of deed d c in (0, omega arith, ap (λ (z : ℕ). Stood z (epoch_of new)) (sym e ∙ ap Deed.anchor q) ∙ ap (Stood d.anchor) (sym f ∙ ap Deed.epoch q))
+  tried : (hit : Bool) (a new n : ℕ) (deed d : Deed) → deed.anchor ≡ a → deed.epoch ≡ epoch_of new → Contains (cond hit (deed ∷ []) []) d
+      → Contains (Stood a (epoch_of (cond hit new n)) ∷ []) (Stood d.anchor d.epoch)
+  tried true a new n deed d e f c = let q = one_of deed d c in
+      (0, omega arith, ap (λ (z : ℕ). Stood z (epoch_of new)) (sym e ∙ ap Deed.anchor q) ∙ ap (Stood d.anchor) (sym f ∙ ap Deed.epoch q))
   tried false a new n deed d e f c = absurd (contains_none d c)
 
-  done : (a new : ℕ) (deed d : Deed) → deed.anchor ≡ a → deed.epoch ≡ epoch_of new → Contains (deed ∷ []) d → Contains (Stood a (epoch_of new) ∷ []) (Stood d.anchor d.epoch)
+  done : (a new : ℕ) (deed d : Deed) → deed.anchor ≡ a → deed.epoch ≡ epoch_of new → Contains (deed ∷ []) d
+      → Contains (Stood a (epoch_of new) ∷ []) (Stood d.anchor d.epoch)
   done a new deed d e f c = tried true a new 0 deed d e f c
 
   entered_not : (deed d : Deed) → deed.kind ≡ Entered → Contains (deed ∷ []) d → Changes d.anchor d → ⊥
@@ -57,16 +64,21 @@ module _ {X : Type 0} (k : Setting X) (s : State X) (i : ℕ) (v : View X) (at :
       not_one z e (inr (inr q)) = cc
 
   -- the deed of a step leaves an epoch that the step sees
-  new_seen : (m : Move) (d : Deed) → Contains (deeds_of v m (number_found k s v m)) d → Changes d.anchor d → IsSeen (after k s i v m).views (Stood d.anchor d.epoch)
+  new_seen : (m : Move) (d : Deed) → Contains (deeds_of v m (number_found k s v m)) d → Changes d.anchor d
+      → IsSeen (after k s i v m).views (Stood d.anchor d.epoch)
   new_seen (Look b) d c h = absurd (contains_none d c)
   new_seen (Enter t b) d c h = absurd (entered_not _ d refl c h)
   new_seen (Leave t) d c h = absurd (contains_none d c)
   new_seen Count d c h = absurd (contains_none d c)
   new_seen Draw d c h = absurd (contains_none d c)
-  new_seen (Take t b u) d c h = now_seen (Take t b u) refl (Stood d.anchor d.epoch) (tried (number_found k s v (Take t b u) == last_find b v.trail) b (word_at u 1) (number_found k s v (Take t b u)) _ d refl refl c)
-  new_seen (Evict t b) d c h = let n = number_found k s v (Evict t b) in now_seen (Evict t b) refl (Stood d.anchor d.epoch) (tried (n == last_find b v.trail) b (evicted n) n _ d refl refl c)
-  new_seen (Raise t to) d c h = now_seen (Raise t to) refl (Stood d.anchor d.epoch) (done _ (left_by v (Raise t to) (number_found k s v (Raise t to))) _ d refl refl c)
-  new_seen (Doom t) d c h = now_seen (Doom t) refl (Stood d.anchor d.epoch) (done _ (left_by v (Doom t) (number_found k s v (Doom t))) _ d refl refl c)
+  new_seen (Take t b u) d c h = now_seen (Take t b u) refl (Stood d.anchor d.epoch)
+      (tried (number_found k s v (Take t b u) == last_find b v.trail) b (word_at u 1) (number_found k s v (Take t b u)) _ d refl refl c)
+  new_seen (Evict t b) d c h = let n = number_found k s v (Evict t b) in
+      now_seen (Evict t b) refl (Stood d.anchor d.epoch) (tried (n == last_find b v.trail) b (evicted n) n _ d refl refl c)
+  new_seen (Raise t to) d c h = now_seen (Raise t to) refl (Stood d.anchor d.epoch)
+      (done _ (left_by v (Raise t to) (number_found k s v (Raise t to))) _ d refl refl c)
+  new_seen (Doom t) d c h = now_seen (Doom t) refl (Stood d.anchor d.epoch)
+      (done _ (left_by v (Doom t) (number_found k s v (Doom t))) _ d refl refl c)
   new_seen (LoadSide t side) d c h = absurd (contains_none d c)
   new_seen (StoreSide t side value) d c h = absurd (contains_none d c)
   new_seen (LookMap t word) d c h = absurd (contains_none d c)

@@ -1,9 +1,12 @@
 -- A step that sees a slot as wiped ends the turn of a tab that frees, which says so; or some pass or note had seen it.
-use Rattle.std.proofs.Common.{◌≡◌, ◌⊎◌, inl, inr, ⊎_elim, ℕ, ◌+◌, ◌==◌, List, [], ◌∷◌, Bool, true, false, cond, refl, ap, subst, Contains, Option}
+use Rattle.std.proofs.Common.{◌≡◌, ◌⊎◌, inl, inr, ⊎_elim, ℕ, ◌+◌, ◌==◌, List, [], ◌∷◌, Bool, true, false, cond, refl, ap, subst, Contains}
+use Rattle.std.proofs.Common.{Option}
 use mathlib.Core.Option.{some}
 use lib.ListN.{get_elem?}
 use Rattle.core_model.specs.declared.moves.Move.{Move}
-use Rattle.core_model.specs.declared.moves.Move.TheVariants.{Look, Enter, Leave, Count, Draw, Take, Evict, Raise, Doom, LoadSide, StoreSide, Own, Disown, Publish, Loosen, GetLink, TryTurn, EndTurn, CellOut, CellIn, Note, Learn, Write, Sync, LookMap, LogPiece}
+use Rattle.core_model.specs.declared.moves.Move.TheVariants.{Look, Enter, Leave, Count, Draw, Take, Evict, Raise, Doom, LoadSide}
+use Rattle.core_model.specs.declared.moves.Move.TheVariants.{StoreSide, Own, Disown, Publish, Loosen, GetLink, TryTurn, EndTurn, CellOut}
+use Rattle.core_model.specs.declared.moves.Move.TheVariants.{CellIn, Note, Learn, Write, Sync, LookMap, LogPiece}
 use Rattle.core_model.specs.declared.moves.Side.{Side}
 use Rattle.core_model.specs.declared.moves.Side.TheVariants.{Key0, Key1, Offer, Start}
 use Rattle.core_model.specs.declared.moves.Then.{Then}
@@ -40,7 +43,8 @@ Others (x ∷ xs) = Other x × Others xs
 
 others_not : (xs : List Sight) → Others xs → (a version slot : ℕ) → Contains xs (Wiped a version slot) → ⊥
 others_not [] h a version slot c = contains_none (Wiped a version slot) c
-others_not (x ∷ xs) h a version slot c = ⊎_elim (λ (e : x ≡ Wiped a version slot). subst Other e h.0) (λ (q : Contains xs (Wiped a version slot)). others_not xs h.1 a version slot q) (cons_contains x (Wiped a version slot) xs c)
+others_not (x ∷ xs) h a version slot c = ⊎_elim (λ (e : x ≡ Wiped a version slot). subst Other e h.0)
+    (λ (q : Contains xs (Wiped a version slot)). others_not xs h.1 a version slot q) (cons_contains x (Wiped a version slot) xs c)
 
 cond_others : (b : Bool) (xs : List Sight) → Others xs → Others (cond b [] xs)
 cond_others true xs h = tt
@@ -104,9 +108,11 @@ module _ {X : Type 0} (k : Setting X) (s : State X) (i : ℕ) (v : View X) (at :
   one_wipe : (b u j : ℕ) → Wiped b u j ≡ Wiped a version slot → (b ≡ a) × (u ≡ version) × (j ≡ slot)
   one_wipe b u j e = let p : b ≡ a = cc in let q : u ≡ version = cc in let r : j ≡ slot = cc in (p, q, r)
 
-  ended : (t j : ℕ) (then : Then) (x : Tab X) → tab_at v t ≡ x → Contains (wiped_by x j then) (Wiped a version slot) → Sees (EndTurn t j then)
+  ended : (t j : ℕ) (then : Then) (x : Tab X) → tab_at v t ≡ x → Contains (wiped_by x j then) (Wiped a version slot)
+      → Sees (EndTurn t j then)
   ended t j WipedThen (Freeing f) e c = ⊎_elim
-      (λ (q : Wiped f.anchor f.version j ≡ Wiped a version slot). let z = one_wipe f.anchor f.version j q in inl record { t = t; is = ap (λ (n : ℕ). EndTurn t n WipedThen) z.2; freer = f; tab = e; anchor_is = z.0; version_is = z.1 })
+      (λ (q : Wiped f.anchor f.version j ≡ Wiped a version slot). let z = one_wipe f.anchor f.version j q in
+      inl record { t = t; is = ap (λ (n : ℕ). EndTurn t n WipedThen) z.2; freer = f; tab = e; anchor_is = z.0; version_is = z.1 })
       (λ (q : Contains [] (Wiped a version slot)). absurd (contains_none (Wiped a version slot) q))
       (cons_contains (Wiped f.anchor f.version j) (Wiped a version slot) [] c)
   ended t j Stays (Freeing f) e c = absurd (contains_none (Wiped a version slot) c)
@@ -132,15 +138,23 @@ module _ {X : Type 0} (k : Setting X) (s : State X) (i : ℕ) (v : View X) (at :
   wipe_seen (LookMap t word) may c = none (LookMap t word) tt c
   wipe_seen (Own t j) may c = none (Own t j) tt c
   wipe_seen (Disown t j) may c = none (Disown t j) tt c
-  wipe_seen (LogPiece t j is_durable) may c = none (LogPiece t j is_durable) (logs_others (tab_at v t) j is_durable (word_in k s.words LogCounter)) c
+  wipe_seen (LogPiece t j is_durable) may c = none (LogPiece t j is_durable)
+      (logs_others (tab_at v t) j is_durable (word_in k s.words LogCounter)) c
   wipe_seen (Publish t j link) may c = none (Publish t j link) (shows_others (tab_at v t)) c
   wipe_seen (Loosen t j) may c = none (Loosen t j) tt c
   wipe_seen (GetLink t j) may c = none (GetLink t j) (follows_others (tab_at v t) _) c
-  wipe_seen (TryTurn t j) may c = let q = brought j v.seen s.views (turn_word k s j == 0) (Wiped a version slot) c in absurd (not_logged _ q.is)
+  wipe_seen (TryTurn t j) may c = let q = brought j v.seen s.views (turn_word k s j == 0) (Wiped a version slot) c in
+      absurd (not_logged _ q.is)
   wipe_seen (EndTurn t j then) may c = ended t j then (tab_at v t) refl c
   wipe_seen (CellOut t j) may c = none (CellOut t j) tt c
   wipe_seen (CellIn t j) may c = none (CellIn t j) tt c
   wipe_seen Note may c = none Note tt c
-  wipe_seen (Learn note) may c = inr record { i = k.passes + note; view = may.0; at = may.1; seen = subst (λ (o : Option (View X)). Contains (seen_in o) (Wiped a version slot)) (at_get s.views (k.passes + note) may.0 may.1) c }
+  wipe_seen (Learn note) may c = inr record {
+    i = k.passes + note;
+    view = may.0;
+    at = may.1;
+    seen = subst
+        (λ (o : Option (View X)). Contains (seen_in o) (Wiped a version slot)) (at_get s.views (k.passes + note) may.0 may.1) c;
+  }
   wipe_seen (Write t j outcome) may c = none (Write t j outcome) tt c
   wipe_seen (Sync t j kept) may c = none (Sync t j kept) tt c

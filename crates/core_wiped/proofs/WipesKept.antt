@@ -30,15 +30,23 @@ use Rattle.core_wiped.proofs.Starts.{starts_kept}
 
 -- what was logged stays
 pub later : (new log : List LoggedPiece) (slot : ℕ) (p : Piece) → HasLogged log slot p → HasLogged (new ++ log) slot p
-later new log slot p h = record { link = h.link; among = Contains-append_right new log h.link h.among; slot_is = h.slot_is; piece_is = h.piece_is }
+later new log slot p h = record {
+  link = h.link;
+  among = Contains-append_right new log h.link h.among;
+  slot_is = h.slot_is;
+  piece_is =
+      h.piece_is;
+}
 
 module _ {X : Type 0} (k : Setting X) where
-  pub other_later : (new log : List LoggedPiece) (version slot : ℕ) (x : X) → IsOfOther k log version slot x → IsOfOther k (new ++ log) version slot x
+  pub other_later : (new log : List LoggedPiece) (version slot : ℕ) (x : X) → IsOfOther k log version slot x
+      → IsOfOther k (new ++ log) version slot x
   other_later new log version slot x (inl e) = inl e
   other_later new log version slot x (inr q) = inr (q.0, later new log slot q.0 q.1, q.2, q.3)
 
   -- what a tab writes is of another version than one that is over
-  pub chosen_other : (s : State X) (log : List LoggedPiece) (so : Sound k s) (st : LogStands k s log) (ws : WipesStand k s log) (a version slot j : ℕ) (x : X) → IsWiped k s log a version slot → IsChosenAt k s j x → IsOfOther k log version j x
+  pub chosen_other : (s : State X) (log : List LoggedPiece) (so : Sound k s) (st : LogStands k s log) (ws : WipesStand k s log)
+      (a version slot j : ℕ) (x : X) → IsWiped k s log a version slot → IsChosenAt k s j x → IsOfOther k log version j x
   chosen_other s log so st ws a version slot j x is c = inr (
     c.piece,
     chosen_logged k s log st.cells j x c,
@@ -46,15 +54,26 @@ module _ {X : Type 0} (k : Setting X) where
     c.is,
   )
 
-module _ {X : Type 0} (k : Setting X) (s : State X) (log : List LoggedPiece) (i : ℕ) (v : View X) (m : Move) (so : Sound k s) (st : LogStands k s log) (ws : WipesStand k s log) (at : get_elem? s.views i ≡ some v) (may : MayStep k s v m) where
+module _ {X : Type 0} (k : Setting X) (s : State X) (log : List LoggedPiece) (i : ℕ) (v : View X) (m : Move) (so : Sound k s)
+    (st : LogStands k s log) (ws : WipesStand k s log) (at : get_elem? s.views i ≡ some v) (may : MayStep k s v m) where
   -- no piece of a version that is over is logged
-  pub not_logged : (a version slot : ℕ) → IsWiped k s log a version slot → (l : LoggedPiece) → Contains (logged_now k s v m) l → l.piece.version ≢ version
+  pub not_logged : (a version slot : ℕ) → IsWiped k s log a version slot → (l : LoggedPiece) → Contains (logged_now k s v m) l
+      → l.piece.version ≢ version
   not_logged a version slot is l c e = let n = new_is k s log i v so st.links at m may.allowed l c in
-      (over k s so a version is.freed).unwritten i n.t n.writer (my_tab k s log i v so st.links at n.t n.writer n.is) (sym (ap Piece.version n.piece_is) ∙ e)
+      (over k s so a version is.freed).unwritten i n.t n.writer (my_tab k s log i v so st.links at n.t n.writer n.is)
+      (sym (ap Piece.version n.piece_is) ∙ e)
 
   old_wipe : (a version slot : ℕ) → IsWiped k s log a version slot → IsWiped k (after k s i v m) (logged_now k s v m ++ log) a version slot
   old_wipe a version slot is = record {
-    freed = record { epoch = is.freed.epoch; seen = stays_seen k s i v at may.pass m may.allowed (Stood a is.freed.epoch) is.freed.seen; version_is = is.freed.version_is; stage_is = is.freed.stage_is; doom_is = is.freed.doom_is };
+    freed = record {
+      epoch = is.freed.epoch;
+      seen = stays_seen k s i v at may.pass m may.allowed
+          (Stood a is.freed.epoch) is.freed.seen;
+      version_is = is.freed.version_is;
+      stage_is = is.freed.stage_is;
+      doom_is =
+          is.freed.doom_is;
+    };
     inside = is.inside;
     first = λ l c same. ⊎_elim
         (λ (q : Contains (logged_now k s v m) l). absurd (not_logged a version slot is l q same))
@@ -83,8 +102,11 @@ module _ {X : Type 0} (k : Setting X) (s : State X) (log : List LoggedPiece) (i 
   }
 
 -- and so does every run
-pub runs_kept : {X : Type 0} → (k : Setting X) (s : State X) (log : List LoggedPiece) (steps : List PassMove) (t : State X) (more : List LoggedPiece) → Sound k s → LogStands k s log → WipesStand k s log → IsLoggedRun k s log steps t more
+pub runs_kept : {X : Type 0} → (k : Setting X) (s : State X) (log : List LoggedPiece) (steps : List PassMove) (t : State X)
+    (more : List LoggedPiece) → Sound k s → LogStands k s log → WipesStand k s log → IsLoggedRun k s log steps t more
     → WipesStand k t more
-runs_kept {X} k s log [] t more so st ws run = subst (λ (u : State X). WipesStand k u more) (sym run.0) (subst (WipesStand k s) (sym run.1) ws)
+runs_kept {X} k s log [] t more so st ws run = subst
+    (λ (u : State X). WipesStand k u more) (sym run.0) (subst (WipesStand k s) (sym run.1) ws)
 runs_kept k s log (x ∷ xs) t more so st ws run = let v = run.0 in let at = run.1 in let may = run.2 in
-    runs_kept k (after k s x.pass v x.move) (logged_now k s v x.move ++ log) xs t more (keeps_sound k s x.pass v x.move so at may) (logs_kept k s log x.pass v x.move so st at may) (wipes_kept k s log x.pass v x.move so st ws at may) run.3
+    runs_kept k (after k s x.pass v x.move) (logged_now k s v x.move ++ log) xs t more (keeps_sound k s x.pass v x.move so at may)
+    (logs_kept k s log x.pass v x.move so st at may) (wipes_kept k s log x.pass v x.move so st ws at may) run.3

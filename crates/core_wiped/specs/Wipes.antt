@@ -39,8 +39,8 @@ pub record WasFreed {X : Type 0} (views : List (View X)) (a version : ℕ) : Typ
 abbrev pub IsOfOther : {X : Type 0} → Setting X → List LoggedPiece → (version slot : ℕ) → X → Type 0
 IsOfOther k log version slot x = (x ≡ k.blank) ⊎ ((p : Piece) × HasLogged log slot p × (p.version ≢ version) × (x ≡ k.image p))
 
--- What it says that the slot was wiped: the entry was freed as a doomed one, each piece of its version names this slot as the first, and a crash
--- leaves there nothing that the opening had, and no piece of that version.
+-- What it says that the slot was wiped: the entry was freed as a doomed one, each piece of its version names this slot as the
+-- first, and a crash leaves there nothing that the opening had, and no piece of that version.
 pub record IsWiped {X : Type 0} (k : Setting X) (s : State X) (log : List LoggedPiece) (a version slot : ℕ) : Type 0 where
   pub freed : WasFreed s.views a version
   pub inside : slot < k.slots
@@ -49,12 +49,14 @@ pub record IsWiped {X : Type 0} (k : Setting X) (s : State X) (log : List Logged
 
 -- Where the version of a logged piece stands and is written no more, the Start word names the first slot of that piece, or none.
 abbrev pub StartsNamed : {X : Type 0} → Setting X → State X → List LoggedPiece → Type 0
-StartsNamed k s log = (l : LoggedPiece) → Contains log l → version_of (epoch_of (word s l.anchor)) ≡ l.piece.version → 3 ≤ stage_of (epoch_of (word s l.anchor))
+StartsNamed k s log = (l : LoggedPiece) → Contains log l → version_of (epoch_of (word s l.anchor)) ≡ l.piece.version
+    → 3 ≤ stage_of (epoch_of (word s l.anchor))
     → (side_word k s Start l.anchor ≡ 0) ⊎ (side_word k s Start l.anchor ≡ l.piece.first + 1)
 
 -- each epoch that a deed left was seen
 abbrev pub DeedsSeen : {X : Type 0} → State X → Type 0
-DeedsSeen {X} s = (i : ℕ) (v : View X) → get_elem? s.views i ≡ some v → (d : Deed) → Contains v.deeds d → Changes d.anchor d → IsSeen s.views (Stood d.anchor d.epoch)
+DeedsSeen {X} s = (i : ℕ) (v : View X) → get_elem? s.views i ≡ some v → (d : Deed) → Contains v.deeds d → Changes d.anchor d
+    → IsSeen s.views (Stood d.anchor d.epoch)
 
 -- the piece that a tab chose is of the version that the tab writes, also where the tab gave a slot back
 abbrev pub ChoicesOwn : {X : Type 0} → State X → Type 0
@@ -84,7 +86,8 @@ pub record LeavesWiped {X : Type 0} (k : Setting X) (s : State X) (v : View X) (
 
 -- the version stands at the anchor and is given back, or is gone, or a later one stands there
 abbrev pub IsPast : {X : Type 0} → State X → (a version : ℕ) → Type 0
-IsPast s a version = (version < version_of (epoch_of (word s a))) ⊎ ((version_of (epoch_of (word s a)) ≡ version) × (5 ≤ stage_of (epoch_of (word s a))))
+IsPast s a version = (version < version_of (epoch_of (word s a)))
+    ⊎ ((version_of (epoch_of (word s a)) ≡ version) × (5 ≤ stage_of (epoch_of (word s a))))
 
 -- No tab writes the version any more, and no pass holds it. So no piece of it is logged.
 pub record IsOver {X : Type 0} (k : Setting X) (s : State X) (a version : ℕ) : Type 0 where
@@ -100,4 +103,5 @@ BeginsElsewhere version wiped slot p = (p.version ≢ version) ⊎ ((p.first ≡
 -- a content is the opening's of this slot, or the blank one, or that of such a piece which was logged for the slot
 abbrev pub IsLeftOf : {X : Type 0} → Setting X → List LoggedPiece → (version wiped slot : ℕ) → X → Type 0
 IsLeftOf k log version wiped slot x =
-    (get_elem? k.contents slot ≡ some x) ⊎ ((p : Piece) × HasLogged log slot p × BeginsElsewhere version wiped slot p × (x ≡ k.image p)) ⊎ (x ≡ k.blank)
+    (get_elem? k.contents slot ≡ some x) ⊎ ((p : Piece) × HasLogged log slot p × BeginsElsewhere version wiped slot p × (x ≡ k.image p))
+    ⊎ (x ≡ k.blank)

@@ -1,5 +1,6 @@
 -- Of an entry that was wiped no file that a crash may leave has its first slot.
-use Rattle.std.proofs.Common.{◌≡◌, ◌≢◌, ◌⊎◌, inl, inr, ⊎_elim, ℕ, ◌<◌, ◌≤◌, ◌^◌, List, length, Option, Some, None, sym, refl, ap, ◌∙◌, subst, arith, Contains}
+use Rattle.std.proofs.Common.{◌≡◌, ◌≢◌, ◌⊎◌, inl, inr, ⊎_elim, ℕ, ◌<◌, ◌≤◌, ◌^◌, List, length, Option, Some, None, sym, refl, ap, ◌∙◌}
+use Rattle.std.proofs.Common.{subst, arith, Contains}
 use Rattle.std.specs.Prelude.{ℤ, pos}
 use Rattle.std.proofs.lemmas.List.Elements.{All-contains}
 use mathlib.Core.Option.{some}
@@ -39,7 +40,8 @@ same_pos : {z : ℤ} {m n : ℕ} → z ≡ pos m → z ≡ pos n → m ≡ n
 same_pos e f = cc
 
 -- What is left now is left while pieces that were logged are written.
-module _ {X : Type 0} (k : Setting X) (b : X → List ℕ) (s : State X) (log : List LoggedPiece) (so : Sound k s) (cells : CellsLogged k s log) (images : List (List ℕ)) (left : IsLeftNow k b s images) where
+module _ {X : Type 0} (k : Setting X) (b : X → List ℕ) (s : State X) (log : List LoggedPiece) (so : Sound k s) (cells : CellsLogged k s log)
+    (images : List (List ℕ)) (left : IsLeftNow k b s images) where
   none : (x : X) → ◌≡◌ {A = Option X} None (Some x) → ⊥
   none x e = cc
 
@@ -49,12 +51,25 @@ module _ {X : Type 0} (k : Setting X) (b : X → List ℕ) (s : State X) (log : 
   written : (j : ℕ) (bytes : List ℕ) → IsWrittenNow k b s j bytes → IsWriting k b s log j bytes ⊎ IsWiping k b s j bytes
   written j bytes w = of_tab (turn_tab w.tab w.hold w.turn)
     where
-      of_tab : ((r : Reader X) × (w.tab ≡ Reading r) × (r.turn ≡ Has w.hold)) ⊎ ((y : Writer X) × (w.tab ≡ Writing y) × (y.turn ≡ Has w.hold)) ⊎ ((f : Freer X) × (w.tab ≡ Freeing f) × (f.turn ≡ Has w.hold))
+      of_tab : ((r : Reader X) × (w.tab ≡ Reading r) × (r.turn ≡ Has w.hold))
+          ⊎ ((y : Writer X) × (w.tab ≡ Writing y) × (y.turn ≡ Has w.hold)) ⊎ ((f : Freer X) × (w.tab ≡ Freeing f) × (f.turn ≡ Has w.hold))
           → IsWriting k b s log j bytes ⊎ IsWiping k b s j bytes
       of_tab (inl r) = absurd (none w.content (sym (ap (chosen_content k) r.1) ∙ w.writes))
       of_tab (inr (inl y)) = let there = w.is_tab.there ∙ ap some y.1 in
           let c = chosen_some k y.0 w.content (sym (ap (chosen_content k) y.1) ∙ w.writes) in
-          let at : IsChosenAt k s j w.content = record { i = w.i; t = w.t; writer = y.0; tab = record { view = w.is_tab.view; at = w.is_tab.at; there = there }; hold = w.hold; turn = y.2; slot_is = w.slot_is; piece = c.0; chosen = c.1; is = c.2 } in
+          let at : IsChosenAt k s j w.content = record {
+            i = w.i;
+            t = w.t;
+            writer = y.0;
+            tab = record { view = w.is_tab.view; at = w.is_tab.at; there = there };
+            hold =
+                w.hold;
+            turn = y.2;
+            slot_is = w.slot_is;
+            piece = c.0;
+            chosen = c.1;
+            is = c.2;
+          } in
           let first = reserves_first y.0 w.hold.slot (so.cells.turns w.i w.is_tab.view w.is_tab.at w.t (Writing y.0) there w.hold y.2).1 in
           inl record {
             piece = c.0;
@@ -85,19 +100,25 @@ module _ {X : Type 0} (k : Setting X) (b : X → List ℕ) (s : State X) (log : 
   pub left_while : IsLeftWhile k b s log images
   left_while = record {
     many = left.many;
-    each = λ j c lt is. ⊎_elim (λ (q : IsPossible b c (image_at images j)). inl q) (λ (q : IsWrittenNow k b s j (image_at images j)). inr (written j (image_at images j) q)) (left.each j c lt is);
+    each = λ j c lt is. ⊎_elim (λ (q : IsPossible b c (image_at images j)). inl q)
+        (λ (q : IsWrittenNow k b s j (image_at images j)). inr (written j (image_at images j) q)) (left.each j c lt is);
   }
 
-module _ {X : Type 0} (t : Tools) (slot : ℕ) (o : Offers) (k : Setting X) (b : X → List ℕ) (was : List (List ℕ)) (s : State X) (log : List LoggedPiece) (sized : slot < 2 ^ 32) (few : k.slots ≤ 1048576) (file : IsFileOf slot o k b was) (so : Sound k s)
-    (st : LogStands k s log) (keeps : LogKeeps slot o k log) (ws : WipesStand k s log) (images : List (List ℕ)) (left : IsLeftNow k b s images) (a version wiped : ℕ) (seen : IsSeenWiped s a version wiped) where
+module _ {X : Type 0} (t : Tools) (slot : ℕ) (o : Offers) (k : Setting X) (b : X → List ℕ) (was : List (List ℕ)) (s : State X)
+    (log : List LoggedPiece) (sized : slot < 2 ^ 32) (few : k.slots ≤ 1048576) (file : IsFileOf slot o k b was) (so : Sound k s)
+    (st : LogStands k s log) (keeps : LogKeeps slot o k log) (ws : WipesStand k s log) (images : List (List ℕ))
+    (left : IsLeftNow k b s images) (a version wiped : ℕ) (seen : IsSeenWiped s a version wiped) where
   abbrev is : IsWiped k s log a version wiped
   is = ws.each a version wiped seen
 
   -- the bytes of a slot are those of a content, which is told of by what holds of its cell, or of what a tab writes
-  told : (P : X → Type 0) (j : ℕ) → j < k.slots → ((c : Cell X) (x : X) → Rattle.core_model.specs.Cells.IsCell s j c → Contains c.possible x → P x) → ((x : X) → IsOfOther k log version j x → P x) → (x : X) × P x × (image_at images j ≡ b x)
+  told : (P : X → Type 0) (j : ℕ) → j < k.slots
+      → ((c : Cell X) (x : X) → Rattle.core_model.specs.Cells.IsCell s j c → Contains c.possible x → P x)
+      → ((x : X) → IsOfOther k log version j x → P x) → (x : X) × P x × (image_at images j ≡ b x)
   told P j lt of_cell of_other = let c = a_cell t slot o k b was s log sized few file so st.cells st.links keeps j lt in ⊎_elim
       (λ (q : IsPossible b c.0 (image_at images j)). (q.0, of_cell c.0 q.0 c.1 q.1, q.2))
-      (λ (q : IsWrittenNow k b s j (image_at images j)). (q.content, writing q (written_by k s q.i q.t j q.tab q.hold q.content q.is_tab q.turn q.slot_is q.writes), q.bytes_are))
+      (λ (q : IsWrittenNow k b s j (image_at images j)).
+      (q.content, writing q (written_by k s q.i q.t j q.tab q.hold q.content q.is_tab q.turn q.slot_is q.writes), q.bytes_are))
       (left.each j c.0 lt c.1)
     where
       writing : (q : IsWrittenNow k b s j (image_at images j)) → WasLeft k s j q.content → P q.content
@@ -106,7 +127,8 @@ module _ {X : Type 0} (t : Tools) (slot : ℕ) (o : Offers) (k : Setting X) (b :
       writing q (inr (inr e)) = of_other q.content (inl e)
 
   -- what the header of a slot with the image of a logged piece says
-  says : (j : ℕ) (p : Piece) (h : HasLogged log j p) → image_at images j ≡ b (k.image p) → ((header_at images j).version ≡ p.version) × ((header_at images j).first_slot ≡ pos p.first)
+  says : (j : ℕ) (p : Piece) (h : HasLogged log j p) → image_at images j ≡ b (k.image p)
+      → ((header_at images j).version ≡ p.version) × ((header_at images j).first_slot ≡ pos p.first)
   says j p h e = let told = tells t slot k.anchors k.slots o (logged_part h.link) (keeps h.link h.among).0 sized few in
       let bytes = e ∙ ap (λ (q : Piece). b (k.image q)) (sym h.piece_is) ∙ file.image h.link.slot h.link.anchor h.link.piece in (
         ap (λ (i : List ℕ). (header_of i).version) bytes ∙ told.version ∙ ap Piece.version h.piece_is,
@@ -122,20 +144,24 @@ module _ {X : Type 0} (t : Tools) (slot : ℕ) (o : Offers) (k : Setting X) (b :
 
   module _ (e : Entry) (c : IsComplete slot images e) where
     belongs : BelongsTo slot images e.first e.first
-    belongs = All-contains (BelongsTo slot images e.first) e.chain e.first c.chain.belong (subst (λ (xs : List ℕ). Contains xs e.first) (sym c.chain.begins) (0, omega arith, refl))
+    belongs = All-contains (BelongsTo slot images e.first) e.chain e.first c.chain.belong
+        (subst (λ (xs : List ℕ). Contains xs e.first) (sym c.chain.begins) (0, omega arith, refl))
 
     pub begun : e.first ≡ wiped → e.version ≢ version
-    begun same v = wiped_slot (subst (IsSaneAt slot images) same belongs.sane) (ap (λ (j : ℕ). (header_at images j).version) (sym same) ∙ sym c.version ∙ v)
+    begun same v = wiped_slot (subst (IsSaneAt slot images) same belongs.sane)
+        (ap (λ (j : ℕ). (header_at images j).version) (sym same) ∙ sym c.version ∙ v)
 
     other_left : (x : X) → IsOfOther k log version e.first x → IsLeftOf k log version wiped e.first x
     other_left x (inl q) = inr (inr q)
     other_left x (inr q) = inr (inl (q.0, q.1, inl q.2, q.3))
 
     pub new_gone : opening_counter k < version → e.version ≢ version
-    new_gone new v = of_content (told (IsLeftOf k log version wiped e.first) e.first (let z = belongs.sane.within in let m = left.many in omega arith)
+    new_gone new v = of_content (told (IsLeftOf k log version wiped e.first) e.first (let z = belongs.sane.within in let m = left.many in
+        omega arith)
         (λ d x cell q. begins_nowhere k s log a version wiped e.first d x st ws seen cell q) other_left)
       where
-        of_piece : (p : Piece) (h : HasLogged log e.first p) → image_at images e.first ≡ b (k.image p) → BeginsElsewhere version wiped e.first p → ⊥
+        of_piece : (p : Piece) (h : HasLogged log e.first p) → image_at images e.first ≡ b (k.image p)
+            → BeginsElsewhere version wiped e.first p → ⊥
         of_piece p h bytes (inl other) = other (sym (says e.first p h bytes).0 ∙ sym c.version ∙ v)
         of_piece p h bytes (inr q) = q.1 (sym (same_pos (says e.first p h bytes).1 belongs.first) ∙ q.0)
 
@@ -144,7 +170,8 @@ module _ {X : Type 0} (t : Tools) (slot : ℕ) (o : Offers) (k : Setting X) (b :
             let m : length images ≡ length was = left.many ∙ sym file.many in
             let sane : IsSaneAt slot was e.first = record {
               within = (let z = belongs.sane.within in omega arith);
-              sane = subst (λ (n : ℕ). IsSane (header_at was e.first) n slot) m (subst (λ (i : List ℕ). IsSane (header_of i) (length images) slot) same belongs.sane.sane);
+              sane = subst (λ (n : ℕ). IsSane (header_at was e.first) n slot) m
+                  (subst (λ (i : List ℕ). IsSane (header_of i) (length images) slot) same belongs.sane.sane);
             } in
             let low = file.greatest e.first sane in let told = ap (λ (i : List ℕ). (header_of i).version) same in let w = c.version in
             omega arith

@@ -23,7 +23,8 @@ use Rattle.crash_laws.specs.Left.{IsFileOf}
 use Rattle.wiped_entries.specs.Now.{IsLeftNow}
 use Rattle.wiped_entries.proofs.Gone.{begun, new_gone}
 
-module _ (X : Type 0) (t : Tools) (slot : ℕ) (o : Offers) (sized : slot < 2 ^ 32) (before after : List (List ℕ)) (l : IsLife X slot o before after) where
+module _ (X : Type 0) (t : Tools) (slot : ℕ) (o : Offers) (sized : slot < 2 ^ 32) (before after : List (List ℕ))
+    (l : IsLife X slot o before after) where
   begins : Sound l.setting l.opened
   begins = record {
     anchors = opens l.setting l.rebuilt l.opened l.is_setting l.is_opened;
@@ -41,7 +42,8 @@ module _ (X : Type 0) (t : Tools) (slot : ℕ) (o : Offers) (sized : slot < 2 ^ 
   ends = runs l.setting l.opened [] l.steps l.state l.log begins nothing l.run
 
   wipes : WipesStand l.setting l.state l.log
-  wipes = runs_kept l.setting l.opened [] l.steps l.state l.log begins nothing (no_wipes l.setting l.rebuilt l.opened l.is_setting l.is_opened) l.run
+  wipes = runs_kept l.setting l.opened [] l.steps l.state l.log begins nothing
+      (no_wipes l.setting l.rebuilt l.opened l.is_setting l.is_opened) l.run
 
   file : IsFileOf slot o l.setting l.bytes before
   file = record {
@@ -53,9 +55,12 @@ module _ (X : Type 0) (t : Tools) (slot : ℕ) (o : Offers) (sized : slot < 2 ^ 
         let c = ap (λ (ws : List ℕ). word_in l.setting ws Counter) (sym l.is_opened.words) ∙ l.is_opened.counter in omega arith;
   }
 
-  module _ (left : IsLeftNow l.setting l.bytes l.state after) (a version wiped : ℕ) (seen : IsSeenWiped l.state a version wiped) (e : Entry) (c : IsComplete slot after e) where
+  module _ (left : IsLeftNow l.setting l.bytes l.state after) (a version wiped : ℕ) (seen : IsSeenWiped l.state a version wiped) (e : Entry)
+      (c : IsComplete slot after e) where
     pub life_begun : e.first ≡ wiped → e.version ≢ version
-    life_begun = begun t slot o l.setting l.bytes before l.state l.log sized l.few file ends.0 ends.1 l.keeps wipes after left a version wiped seen e c
+    life_begun = begun t slot o l.setting l.bytes before l.state l.log sized l.few file ends.0 ends.1 l.keeps wipes after left a version
+        wiped seen e c
 
     pub life_new : opening_counter l.setting < version → e.version ≢ version
-    life_new = new_gone t slot o l.setting l.bytes before l.state l.log sized l.few file ends.0 ends.1 l.keeps wipes after left a version wiped seen e c
+    life_new = new_gone t slot o l.setting l.bytes before l.state l.log sized l.few file ends.0 ends.1 l.keeps wipes after left a version
+        wiped seen e c

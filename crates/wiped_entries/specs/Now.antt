@@ -13,7 +13,8 @@ use Rattle.core_model.specs.State.{State}
 use Rattle.core_model.specs.Tabs.{turn_of}
 use Rattle.crash_laws.specs.Left.{IsPossible}
 
--- A tab holds the turn at the slot, and the bytes are what it writes there: the piece that it chose, or of a tab that frees the blank content.
+-- A tab holds the turn at the slot, and the bytes are what it writes there: the piece that it chose, or of a tab that frees the
+-- blank content.
 pub record IsWrittenNow {X : Type 0} (k : Setting X) (b : X → List ℕ) (s : State X) (slot : ℕ) (bytes : List ℕ) : Type 0 where
   pub i : ℕ
   pub t : ℕ
@@ -29,4 +30,5 @@ pub record IsWrittenNow {X : Type 0} (k : Setting X) (b : X → List ℕ) (s : S
 -- each slot has a content that a crash may leave of its cell, or what a tab is writing into it now: any number of slots at once
 pub record IsLeftNow {X : Type 0} (k : Setting X) (b : X → List ℕ) (s : State X) (images : List (List ℕ)) : Type 0 where
   pub many : length images ≡ k.slots
-  pub each : (slot : ℕ) (c : Cell X) → slot < k.slots → IsCell s slot c → IsPossible b c (image_at images slot) ⊎ IsWrittenNow k b s slot (image_at images slot)
+  pub each : (slot : ℕ) (c : Cell X) → slot < k.slots → IsCell s slot c
+      → IsPossible b c (image_at images slot) ⊎ IsWrittenNow k b s slot (image_at images slot)

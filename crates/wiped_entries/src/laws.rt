@@ -29,8 +29,10 @@ pub fn crashes_now_are_crashes_within<X>()
 
 /// In no file that a crash may leave is a wiped slot sane with the version of the entry that was wiped there.
 pub fn wiped_slots_are_not_of_their_entry<X>()
-    ensures { (slot : ℕ) (o : Offers) (k : Setting X) (b : X → List ℕ) (file : List (List ℕ)) (s : State X) (log : List LoggedPiece) (images : List (List ℕ)) (a version wiped : ℕ)
-        → slot < 2 ^ 32 → k.slots ≤ MOST_SLOTS → IsFileOf slot o k b file → Sound k s → LogStands k s log → LogKeeps slot o k log → WipesStand k s log
+    ensures { (slot : ℕ) (o : Offers) (k : Setting X) (b : X → List ℕ) (file : List (List ℕ)) (s : State X) (log : List LoggedPiece)
+        (images : List (List ℕ)) (a version wiped : ℕ)
+        → slot < 2 ^ 32 → k.slots ≤ MOST_SLOTS → IsFileOf slot o k b file → Sound k s → LogStands k s log → LogKeeps slot o k log
+        → WipesStand k s log
         → IsLeftNow k b s images → IsSeenWiped s a version wiped → IsSaneAt slot images wiped → (header_at images wiped).version ≢ version }
 {
     images_are_read_as_built();
@@ -44,12 +46,17 @@ pub fn wiped_slots_are_not_of_their_entry<X>()
 /// Once a slot was wiped no file that a crash may leave has a complete entry of that version which begins at the slot; and
 /// where the version is above the counter of the opening, none of that version at all.
 pub fn wiped_entries_are_gone<X>()
-    ensures begun { (slot : ℕ) (o : Offers) (k : Setting X) (b : X → List ℕ) (file : List (List ℕ)) (s : State X) (log : List LoggedPiece) (images : List (List ℕ)) (a version wiped : ℕ) (e : Entry)
-        → slot < 2 ^ 32 → k.slots ≤ MOST_SLOTS → IsFileOf slot o k b file → Sound k s → LogStands k s log → LogKeeps slot o k log → WipesStand k s log
+    ensures begun { (slot : ℕ) (o : Offers) (k : Setting X) (b : X → List ℕ) (file : List (List ℕ)) (s : State X) (log : List LoggedPiece)
+        (images : List (List ℕ)) (a version wiped : ℕ) (e : Entry)
+        → slot < 2 ^ 32 → k.slots ≤ MOST_SLOTS → IsFileOf slot o k b file → Sound k s → LogStands k s log → LogKeeps slot o k log
+        → WipesStand k s log
         → IsLeftNow k b s images → IsSeenWiped s a version wiped → IsComplete slot images e → e.first ≡ wiped → e.version ≢ version }
-    ensures new { (slot : ℕ) (o : Offers) (k : Setting X) (b : X → List ℕ) (file : List (List ℕ)) (s : State X) (log : List LoggedPiece) (images : List (List ℕ)) (a version wiped : ℕ) (e : Entry)
-        → slot < 2 ^ 32 → k.slots ≤ MOST_SLOTS → IsFileOf slot o k b file → Sound k s → LogStands k s log → LogKeeps slot o k log → WipesStand k s log
-        → IsLeftNow k b s images → IsSeenWiped s a version wiped → opening_counter k < version → IsComplete slot images e → e.version ≢ version }
+    ensures new { (slot : ℕ) (o : Offers) (k : Setting X) (b : X → List ℕ) (file : List (List ℕ)) (s : State X) (log : List LoggedPiece)
+        (images : List (List ℕ)) (a version wiped : ℕ) (e : Entry)
+        → slot < 2 ^ 32 → k.slots ≤ MOST_SLOTS → IsFileOf slot o k b file → Sound k s → LogStands k s log → LogKeeps slot o k log
+        → WipesStand k s log
+        → IsLeftNow k b s images → IsSeenWiped s a version wiped → opening_counter k < version → IsComplete slot images e
+        → e.version ≢ version }
 {
     images_are_read_as_built();
     keys_have_16_bytes();
@@ -62,10 +69,14 @@ pub fn wiped_entries_are_gone<X>()
 /// So it is from each opening of a file on, whatever allowed steps follow, also where several tabs write slots at the
 /// time of the crash.
 pub fn lives_leave_no_wiped_entries<X>()
-    ensures begun { (slot : ℕ) (o : Offers) (before after : List (List ℕ)) (l : IsLife X slot o before after) (a version wiped : ℕ) (e : Entry)
-        → slot < 2 ^ 32 → IsLeftNow l.setting l.bytes l.state after → IsSeenWiped l.state a version wiped → IsComplete slot after e → e.first ≡ wiped → e.version ≢ version }
-    ensures new { (slot : ℕ) (o : Offers) (before after : List (List ℕ)) (l : IsLife X slot o before after) (a version wiped : ℕ) (e : Entry)
-        → slot < 2 ^ 32 → IsLeftNow l.setting l.bytes l.state after → IsSeenWiped l.state a version wiped → opening_counter l.setting < version → IsComplete slot after e → e.version ≢ version }
+    ensures begun { (slot : ℕ) (o : Offers) (before after : List (List ℕ)) (l : IsLife X slot o before after) (a version wiped : ℕ)
+        (e : Entry)
+        → slot < 2 ^ 32 → IsLeftNow l.setting l.bytes l.state after → IsSeenWiped l.state a version wiped → IsComplete slot after e
+        → e.first ≡ wiped → e.version ≢ version }
+    ensures new { (slot : ℕ) (o : Offers) (before after : List (List ℕ)) (l : IsLife X slot o before after) (a version wiped : ℕ)
+        (e : Entry)
+        → slot < 2 ^ 32 → IsLeftNow l.setting l.bytes l.state after → IsSeenWiped l.state a version wiped
+        → opening_counter l.setting < version → IsComplete slot after e → e.version ≢ version }
 {
     images_are_read_as_built();
     keys_have_16_bytes();
