@@ -1,0 +1,12 @@
+pub mod Over
+pub mod WipedSeen
+pub mod Seen
+pub mod Starts
+pub mod Choosing
+pub mod Left
+pub mod Wiping
+pub mod WipesKept
+pub mod Opening
+pub mod Following
+pub mod Quiet
+pub mod HasWipes
