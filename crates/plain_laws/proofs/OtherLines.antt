@@ -75,13 +75,6 @@ elsewhere rename own mine s (Get url) p q h free off sorts a (inl named) = ap ow
 elsewhere rename own mine s (Purge url) p q h free off sorts a (inl named) = ap own (sym named) ∙ off
 elsewhere rename own mine s (Begin tab url made) p q h free off sorts a (inl named) = ap own (sym named) ∙ (sorts ∙ off)
 elsewhere rename own mine s (OpenTab tab url) p q h free off sorts a (inl named) = ap own (sym named) ∙ (sorts ∙ off)
-elsewhere rename own mine s (Add tab count) p q h free off sorts a (inl named) = absurd named
-elsewhere rename own mine s (End tab) p q h free off sorts a (inl named) = absurd named
-elsewhere rename own mine s (DropTab tab) p q h free off sorts a (inl named) = absurd named
-elsewhere rename own mine s (More tab) p q h free off sorts a (inl named) = absurd named
-elsewhere rename own mine s (CloseTab tab) p q h free off sorts a (inl named) = absurd named
-elsewhere rename own mine s (Mark mark) p q h free off sorts a (inl named) = absurd named
-elsewhere rename own mine s (Await mark) p q h free off sorts a (inl named) = absurd named
 elsewhere rename own mine s (Put url made) p q h free off sorts a (inr at) = absurd (last_at a p free at)
 elsewhere rename own mine s (Save url made) p q h free off sorts a (inr at) = absurd (last_at a p free at)
 elsewhere rename own mine s (Get url) p q h free off sorts a (inr at) = absurd (last_at a p free at)
@@ -95,6 +88,7 @@ elsewhere rename own mine s (More tab) p q h free off sorts a (inr at) = tab_els
 elsewhere rename own mine s (CloseTab tab) p q h free off sorts a (inr at) = tab_elsewhere rename own mine tab a p q h off at
 elsewhere rename own mine s (Mark mark) p q h free off sorts a (inr at) = absurd (last_at a p free at)
 elsewhere rename own mine s (Await mark) p q h free off sorts a (inr at) = absurd (last_at a p free at)
+elsewhere rename own mine s _ p q h free off sorts a (inl named) = absurd named
 
 -- the tab of such a line is an other's, or the last one, which is free again
 pub spares : (own mine : ℕ → Bool) (s : Setting) (request : Request) (p : Plain) (r : Step) → is_of s own mine request ≡ false → tab_at r.after 7 ≡ tab_at p 7 → Spares mine (tab_of request) p r
@@ -104,10 +98,4 @@ spares own mine s (Get url) p r off same = inr same
 spares own mine s (Purge url) p r off same = inr same
 spares own mine s (Mark mark) p r off same = inr same
 spares own mine s (Await mark) p r off same = inr same
-spares own mine s (Begin tab url made) p r off same = inl off
-spares own mine s (OpenTab tab url) p r off same = inl off
-spares own mine s (Add tab count) p r off same = inl off
-spares own mine s (End tab) p r off same = inl off
-spares own mine s (DropTab tab) p r off same = inl off
-spares own mine s (More tab) p r off same = inl off
-spares own mine s (CloseTab tab) p r off same = inl off
+spares own mine s _ p r off same = inl off
