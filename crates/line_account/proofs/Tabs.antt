@@ -41,15 +41,7 @@ opened_at_url earlier s first (Get url) is e = ap url_in is ∙ ap (λ (z : Serv
 opened_at_url earlier s first (OpenTab tab url) is e = ap url_in is ∙ ap (λ (z : Served). url_in z.line.request) (one_some s first e)
 opened_at_url earlier s first (More tab) is e = ap url_named e
 opened_at_url earlier s first (CloseTab tab) is e = ap url_named e
-opened_at_url earlier s first (Put url body) is e = absurd (let z : None ≡ Some first = e in cc)
-opened_at_url earlier s first (Save url body) is e = absurd (let z : None ≡ Some first = e in cc)
-opened_at_url earlier s first (Begin tab url body) is e = absurd (let z : None ≡ Some first = e in cc)
-opened_at_url earlier s first (Purge url) is e = absurd (let z : None ≡ Some first = e in cc)
-opened_at_url earlier s first (Add tab count) is e = absurd (let z : None ≡ Some first = e in cc)
-opened_at_url earlier s first (End tab) is e = absurd (let z : None ≡ Some first = e in cc)
-opened_at_url earlier s first (DropTab tab) is e = absurd (let z : None ≡ Some first = e in cc)
-opened_at_url earlier s first (Mark mark) is e = absurd (let z : None ≡ Some first = e in cc)
-opened_at_url earlier s first (Await mark) is e = absurd (let z : None ≡ Some first = e in cc)
+opened_at_url earlier s first _ is e = absurd (let z : None ≡ Some first = e in cc)
 
 at_anchor : (anchors : ℕ) (earlier : List Served) (s : Served) (a x : ℕ) → ReadsVersion anchors earlier s a x → IsAt anchors earlier s a
 at_anchor anchors earlier s a x so = record { url = so.anchor.url; named_is = opened_at_url earlier s so.first s.line.request refl so.opened_is ∙ so.anchor.named_is; anchor = so.anchor.anchor }
