@@ -261,13 +261,14 @@ module _ {X : Type 0} (r : Run X) where
   -- lines whose tab was not as they needed it
 
   tab_answers : (earlier : List Served) (q : Request) → ¬ Fits earlier q → IsAnswerTo q answer.Tab
-  tab_answers earlier (Put url body) n = absurd (n tt)
-  tab_answers earlier (Save url body) n = absurd (n tt)
-  tab_answers earlier (Get url) n = absurd (n tt)
-  tab_answers earlier (Purge url) n = absurd (n tt)
-  tab_answers earlier (Mark mark) n = absurd (n tt)
-  tab_answers earlier (Await mark) n = absurd (n tt)
-  tab_answers earlier _ n = tt
+  tab_answers earlier (Begin tab url body) n = tt
+  tab_answers earlier (Add tab count) n = tt
+  tab_answers earlier (End tab) n = tt
+  tab_answers earlier (DropTab tab) n = tt
+  tab_answers earlier (OpenTab tab url) n = tt
+  tab_answers earlier (More tab) n = tt
+  tab_answers earlier (CloseTab tab) n = tt
+  tab_answers earlier _ n = absurd (n tt)
 
   pub tab_adds : (v w : View X) (earlier : List Served) (s : Served) → IsTabLine r earlier s → IsIdle v w → Adds r v earlier s w
   tab_adds v w earlier s m idle =

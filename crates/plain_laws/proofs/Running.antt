@@ -18,6 +18,7 @@ use Rattle.std.proofs.lemmas.List.Sums.{sum_by-cons}
 use Rattle.std.proofs.Common.{length-set}
 use Rattle.store_key.specs.Key.{key_of}
 use Rattle.store_key.specs.Anchor.{anchor_of}
+use Rattle.script_text.specs.Shapes.{Shape, shape_of}
 use Rattle.script_text.specs.Requests.{offers_body, OffersBody}
 use Rattle.script_text.specs.declared.answer.Answer.TheVariants as answer
 use Rattle.script_text.specs.declared.line.Line.{Line}
@@ -130,14 +131,17 @@ put_room s cap url body offer p h below le (BeginsAs.begun t fits able e) = rw e
 
 -- the tab that a request is on: that of whole requests where it names none
 abbrev pub tab_of : Request → ℕ
-tab_of (Begin tab url made) = tab
-tab_of (Add tab count) = tab
-tab_of (End tab) = tab
-tab_of (DropTab tab) = tab
-tab_of (OpenTab tab url) = tab
-tab_of (More tab) = tab
-tab_of (CloseTab tab) = tab
-tab_of _ = 7
+tab_of request = of_shape (shape_of request)
+  where
+    of_shape : Shape → ℕ
+    of_shape (Shape.Stores url body durable) = 7
+    of_shape (Shape.Reads url) = 7
+    of_shape (Shape.Purges url) = 7
+    of_shape (Shape.Begins tab url body) = tab
+    of_shape (Shape.Opens tab url) = tab
+    of_shape (Shape.WritesOn tab) = tab
+    of_shape (Shape.ReadsOn tab) = tab
+    of_shape (Shape.AtMark mark) = 7
 
 -- why a request moves an anchor: it names it, or its tab is there
 abbrev pub Because : Setting → Plain → Request → ℕ → Type 0

@@ -20,19 +20,8 @@ use Rattle.worker_pool.specs.Knowing.{HasSet, Answered, Served}
 use Rattle.worker_pool.proofs.Going.{lines_next, map_push, linked_push}
 
 no_mark : (r : Request) → ((m : ℕ) → r ≡ Mark m → ⊥) → is_mark r ≡ false
-no_mark (Put u b) n = refl
-no_mark (Save u b) n = refl
-no_mark (Get u) n = refl
-no_mark (Purge u) n = refl
-no_mark (Begin t u b) n = refl
-no_mark (Add t c) n = refl
-no_mark (End t) n = refl
-no_mark (DropTab t) n = refl
-no_mark (OpenTab t u) n = refl
-no_mark (More t) n = refl
-no_mark (CloseTab t) n = refl
-no_mark (Await m) n = refl
 no_mark (Mark m) n = absurd (n m refl)
+no_mark _ n = refl
 
 not_less : (b : Bool) (k n : ℕ) → nat_lt k n ≡ b → n ≤ k → b ≡ false
 not_less true k n e le = let lt : k < n = ltb-true k n e in absurd (omega arith)
