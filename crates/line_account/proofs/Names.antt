@@ -7,7 +7,7 @@ use Rattle.lock_word.specs.Words.{doom_of, is_readable, stage_of, version_of}
 use Rattle.lock_word.proofs.Testing.{doom_of-readable, stage_of-readable}
 use Rattle.script_text.specs.declared.body.Body.{Body}
 use Rattle.script_text.specs.declared.request.Request.{Request}
-use Rattle.script_text.specs.declared.request.Request.TheVariants.{Add, Await, Begin, CloseTab, DropTab, End, Get, Mark, More, OpenTab, Purge, Put, Save}
+use Rattle.script_text.specs.declared.request.Request.TheVariants.{Add, Begin, DropTab, End, Put, Save}
 use Rattle.script_text.specs.declared.answer.Answer.{Answer}
 use Rattle.core_model.specs.declared.view.Deed.{Deed}
 use Rattle.core_model.specs.declared.view.Kind.TheVariants.{Changed, Doomed, Raised}

@@ -6,7 +6,7 @@ use Rattle.script_text.specs.Tabs.{IsOnTab}
 use Rattle.script_text.specs.declared.verb.Verb.{Verb}
 use Rattle.script_text.specs.declared.line.Line.{Line}
 use Rattle.script_text.specs.declared.request.Request.{Request}
-use Rattle.script_text.specs.declared.request.Request.TheVariants.{Put, Save, Get, Purge, Begin, Add, End, DropTab, OpenTab, More, CloseTab, Mark, Await}
+use Rattle.script_text.specs.declared.request.Request.TheVariants.{Begin, Add, End, DropTab, OpenTab, More, CloseTab}
 use Rattle.script_text.specs.Requests.{SpellsRequest}
 use Rattle.script_text.specs.Lines.{AreLines}
 use Rattle.script_text.specs.Lines.AreLines.{no_line, one_more}
