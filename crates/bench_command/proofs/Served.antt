@@ -3,7 +3,7 @@ use Rattle.std.proofs.Common.{◌==◌, ◌≡◌, ◌≤◌, List, subst, ℕ}
 use Rattle.std.specs.Prelude.{Contains, Some, find}
 use Rattle.script_text.specs.declared.line.Line.{Line}
 use Rattle.script_text.specs.declared.request.Request.{Request}
-use Rattle.script_text.specs.declared.request.Request.TheVariants.{Add, Await, Begin, CloseTab, DropTab, End, Get, Mark, More, OpenTab, Purge, Put, Save}
+use Rattle.script_text.specs.declared.request.Request.TheVariants.{Get, Purge, Put, Save}
 use Rattle.workload.specs.Requests.{NamesUrl}
 use Rattle.rock_run.specs.Scripts.{MayBeServed}
 use Rattle.rock_run.specs.Asked.{IsAsked}
@@ -13,15 +13,7 @@ asked_by_url (Get url) h = h
 asked_by_url (Put url body) h = h
 asked_by_url (Save url body) h = h
 asked_by_url (Purge url) h = h
-asked_by_url (Begin tab url body) h = absurd h
-asked_by_url (Add tab count) h = absurd h
-asked_by_url (End tab) h = absurd h
-asked_by_url (DropTab tab) h = absurd h
-asked_by_url (OpenTab tab url) h = absurd h
-asked_by_url (More tab) h = absurd h
-asked_by_url (CloseTab tab) h = absurd h
-asked_by_url (Mark mark) h = absurd h
-asked_by_url (Await mark) h = absurd h
+asked_by_url _ h = absurd h
 
 pub lines_served : (workers : ℕ) (lines : List Line)
     → ((line : Line) → Contains lines line → (1 ≤ line.worker) × (line.worker ≤ workers))

@@ -5,7 +5,7 @@ use Rattle.std.proofs.lemmas.List.Sums.{sum_by-cons}
 use Rattle.rock_disk.specs.Cell.{CellState}
 use Rattle.script_text.specs.declared.answer.Answer.{Answer}
 use Rattle.script_text.specs.declared.request.Request.{Request}
-use Rattle.script_text.specs.declared.request.Request.TheVariants.{Add, Await, Begin, CloseTab, DropTab, End, Get, Mark, More, OpenTab, Purge, Put, Save}
+use Rattle.script_text.specs.declared.request.Request.TheVariants.{Await, Mark}
 use Rattle.store_rule.specs.Ground.{Offers}
 use Rattle.worker_pool.specs.Courses.{Linked, Stage}
 use Rattle.store_serve.specs.Answers.{TellsFaults, is_fault}
@@ -23,17 +23,7 @@ module _ {C O St : Type 0} (tells : Bool) (state : C → CellState) (offers : O 
   told x (Mark mark) step = quiet x.answer x.before.station x.after.station (ap is_fault step.0) step.1.noted.station
   told x (Await mark) (inl met) = quiet x.answer x.before.station x.after.station (ap is_fault met.0) (met.1.notes.station ∙ met.1.learns.station)
   told x (Await mark) (inr unmet) = quiet x.answer x.before.station x.after.station (ap is_fault unmet.0) (ap OnShelf.station unmet.1)
-  told x (Put url body) step = step.serves.faults
-  told x (Save url body) step = step.serves.faults
-  told x (Get url) step = step.serves.faults
-  told x (Purge url) step = step.serves.faults
-  told x (Begin tab url body) step = step.serves.faults
-  told x (Add tab count) step = step.serves.faults
-  told x (End tab) step = step.serves.faults
-  told x (DropTab tab) step = step.serves.faults
-  told x (OpenTab tab url) step = step.serves.faults
-  told x (More tab) step = step.serves.faults
-  told x (CloseTab tab) step = step.serves.faults
+  told x _ step = step.serves.faults
 
   abbrev fault_of : Stage (OnShelf C O St) → Bool
   fault_of x = is_fault x.answer

@@ -8,7 +8,7 @@ use Rattle.script_text.specs.declared.answer.Answer.TheVariants as answer
 use Rattle.script_text.specs.declared.body.Body.{Body}
 use Rattle.script_text.specs.declared.line.Line.{Line}
 use Rattle.script_text.specs.declared.request.Request.{Request}
-use Rattle.script_text.specs.declared.request.Request.TheVariants.{Add, Await, Begin, CloseTab, DropTab, End, Get, Mark, More, OpenTab, Purge, Put, Save}
+use Rattle.script_text.specs.declared.request.Request.TheVariants.{Await, Mark, Save}
 use Rattle.core_model.specs.declared.view.Sight.{Sight}
 use Rattle.core_model.specs.declared.view.Sight.TheVariants.{Logged, Named, Published}
 use Rattle.core_model.specs.declared.moves.Side.TheVariants.{Offer}
@@ -71,34 +71,14 @@ module _ {C O St : Type 0} (tells : Bool) (state : C → CellState) (offers : O 
   sees_on x (Await mark) is (inl met) = λ s h. subst (λ (v : View (List ℕ)). Contains v.seen s) (sym met.1.notes.view_is)
       (subst (λ (v : View (List ℕ)). Contains v.seen s) (sym met.1.learns.view_is) (Contains-append_right _ (view x.before.pass).seen s h))
   sees_on x (Await mark) is (inr unmet) = λ s h. subst (λ (shelf : OnShelf C O St). Contains (view shelf.pass).seen s) (sym unmet.1) h
-  sees_on x (Put url body) is step = went_on x (Put url body) is tt step
-  sees_on x (Save url body) is step = went_on x (Save url body) is tt step
-  sees_on x (Get url) is step = went_on x (Get url) is tt step
-  sees_on x (Purge url) is step = went_on x (Purge url) is tt step
-  sees_on x (Begin tab url body) is step = went_on x (Begin tab url body) is tt step
-  sees_on x (Add tab count) is step = went_on x (Add tab count) is tt step
-  sees_on x (End tab) is step = went_on x (End tab) is tt step
-  sees_on x (DropTab tab) is step = went_on x (DropTab tab) is tt step
-  sees_on x (OpenTab tab url) is step = went_on x (OpenTab tab url) is tt step
-  sees_on x (More tab) is step = went_on x (More tab) is tt step
-  sees_on x (CloseTab tab) is step = went_on x (CloseTab tab) is tt step
+  sees_on x request is step = went_on x request is tt step
 
   -- and leaves the store
   stays : (x : Stage (OnShelf C O St)) (request : Request) → StepOn tells state offers faults request x.before x.line x.answer x.after → x.after.store ≡ x.before.store
   stays x (Mark mark) step = step.1.noted.store
   stays x (Await mark) (inl met) = met.1.notes.store ∙ met.1.learns.store
   stays x (Await mark) (inr unmet) = ap OnShelf.store unmet.1
-  stays x (Put url body) step = step.store
-  stays x (Save url body) step = step.store
-  stays x (Get url) step = step.store
-  stays x (Purge url) step = step.store
-  stays x (Begin tab url body) step = step.store
-  stays x (Add tab count) step = step.store
-  stays x (End tab) step = step.store
-  stays x (DropTab tab) step = step.store
-  stays x (OpenTab tab url) step = step.store
-  stays x (More tab) step = step.store
-  stays x (CloseTab tab) step = step.store
+  stays x _ step = step.store
 
   abbrev AllSteps : List (Stage (OnShelf C O St)) → Type 0
   AllSteps stages = (x : Stage (OnShelf C O St)) → Contains stages x → IsStep tells state offers faults x

@@ -5,7 +5,7 @@ use Rattle.script_text.specs.declared.answer.Answer.{Answer}
 use Rattle.script_text.specs.declared.answer.Answer.TheVariants as answer
 use Rattle.script_text.specs.declared.line.Line.{Line}
 use Rattle.script_text.specs.declared.request.Request.{Request}
-use Rattle.script_text.specs.declared.request.Request.TheVariants.{Add, Await, Begin, CloseTab, DropTab, End, Get, Mark, More, OpenTab, Purge, Put, Save}
+use Rattle.script_text.specs.declared.request.Request.TheVariants.{Await, Mark}
 use Rattle.core_model.specs.declared.view.Sight.{Sight}
 use Rattle.line_account.specs.Lines.{Served}
 use Rattle.store_rule.specs.declared.store.Note.{Note}
@@ -90,14 +90,4 @@ module _ {C O St : Type 0} (tells : Bool) (state : C → CellState) (offers : O 
     pub goes : (request : Request) → x.line.request ≡ request → StepOn tells state offers faults request x.before x.line x.answer x.after → Goes served x
     goes (Mark mark) is step = set_one mark is step
     goes (Await mark) is step = met_one mark is step
-    goes (Put url body) is step = served_one step (takes (asked (Put url body) is tt))
-    goes (Save url body) is step = served_one step (takes (asked (Save url body) is tt))
-    goes (Get url) is step = served_one step (takes (asked (Get url) is tt))
-    goes (Purge url) is step = served_one step (takes (asked (Purge url) is tt))
-    goes (Begin tab url body) is step = served_one step (takes (asked (Begin tab url body) is tt))
-    goes (Add tab count) is step = served_one step (takes (asked (Add tab count) is tt))
-    goes (End tab) is step = served_one step (takes (asked (End tab) is tt))
-    goes (DropTab tab) is step = served_one step (takes (asked (DropTab tab) is tt))
-    goes (OpenTab tab url) is step = served_one step (takes (asked (OpenTab tab url) is tt))
-    goes (More tab) is step = served_one step (takes (asked (More tab) is tt))
-    goes (CloseTab tab) is step = served_one step (takes (asked (CloseTab tab) is tt))
+    goes request is step = served_one step (takes (asked request is tt))

@@ -10,7 +10,7 @@ use Rattle.script_text.specs.declared.answer.Answer.TheVariants as answer
 use Rattle.script_text.specs.declared.body.Body.{Body}
 use Rattle.script_text.specs.declared.line.Line.{Line}
 use Rattle.script_text.specs.declared.request.Request.{Request}
-use Rattle.script_text.specs.declared.request.Request.TheVariants.{Add, Await, Begin, CloseTab, DropTab, End, Get, Mark, More, OpenTab, Purge, Put, Save}
+use Rattle.script_text.specs.declared.request.Request.TheVariants.{Add, Await, Begin, DropTab, End, Mark, Put, Save}
 use Rattle.store_key.specs.Anchor.{anchor_of}
 use Rattle.store_key.specs.Key.{key_of}
 use Rattle.core_model.specs.declared.moves.Side.TheVariants.{Offer}
@@ -54,18 +54,7 @@ IsBegin _ = ⊥
 begins_it : (t : ℕ) (q : Request) (a : Answer) → begins t q a ≡ true → IsBegin q
 unfolding IsBegin
 begins_it t (Begin tab url body) a e = tt
-begins_it t (Put url body) a e = absurd (let z : false ≡ true = e in cc)
-begins_it t (Save url body) a e = absurd (let z : false ≡ true = e in cc)
-begins_it t (Get url) a e = absurd (let z : false ≡ true = e in cc)
-begins_it t (Purge url) a e = absurd (let z : false ≡ true = e in cc)
-begins_it t (Add tab count) a e = absurd (let z : false ≡ true = e in cc)
-begins_it t (End tab) a e = absurd (let z : false ≡ true = e in cc)
-begins_it t (DropTab tab) a e = absurd (let z : false ≡ true = e in cc)
-begins_it t (OpenTab tab url) a e = absurd (let z : false ≡ true = e in cc)
-begins_it t (More tab) a e = absurd (let z : false ≡ true = e in cc)
-begins_it t (CloseTab tab) a e = absurd (let z : false ≡ true = e in cc)
-begins_it t (Mark mark) a e = absurd (let z : false ≡ true = e in cc)
-begins_it t (Await mark) a e = absurd (let z : false ≡ true = e in cc)
+begins_it t _ a e = absurd (let z : false ≡ true = e in cc)
 
 writing_began : (t : ℕ) (served : List Served) (b : Served) → writing t served ≡ Some b → IsBegin b.line.request
 writing_began t [] b e = absurd (let q : None ≡ Some b = e in cc)
@@ -80,35 +69,13 @@ writing_began t (s ∷ earlier) b e = by_tests (begins t s.line.request s.answer
 begin_offers : (q : Request) → IsBegin q → HasOffer q
 unfolding IsBegin
 begin_offers (Begin tab url body) h = record { url = url; body = body; offers = (refl, refl) }
-begin_offers (Put url body) h = absurd h
-begin_offers (Save url body) h = absurd h
-begin_offers (Get url) h = absurd h
-begin_offers (Purge url) h = absurd h
-begin_offers (Add tab count) h = absurd h
-begin_offers (End tab) h = absurd h
-begin_offers (DropTab tab) h = absurd h
-begin_offers (OpenTab tab url) h = absurd h
-begin_offers (More tab) h = absurd h
-begin_offers (CloseTab tab) h = absurd h
-begin_offers (Mark mark) h = absurd h
-begin_offers (Await mark) h = absurd h
+begin_offers _ h = absurd h
 
 -- and is no `save`
 no_save : (q : Request) → IsBegin q → IsSave q → ⊥
 unfolding IsBegin
 no_save (Begin tab url body) h g = g
-no_save (Put url body) h g = h
-no_save (Save url body) h g = h
-no_save (Get url) h g = h
-no_save (Purge url) h g = h
-no_save (Add tab count) h g = h
-no_save (End tab) h g = h
-no_save (DropTab tab) h g = h
-no_save (OpenTab tab url) h g = h
-no_save (More tab) h g = h
-no_save (CloseTab tab) h g = h
-no_save (Mark mark) h g = h
-no_save (Await mark) h g = h
+no_save _ h g = h
 
 -- what a line began that writes, and that a `save` among these is the line itself
 record Began (s b : Served) : Type 0 where
@@ -128,13 +95,7 @@ began earlier s b (Begin tab url body) is e = at_once s b (let same : s ≡ b = 
 began earlier s b (Add tab count) is e = on_tab s b (writing_began tab earlier b e)
 began earlier s b (End tab) is e = on_tab s b (writing_began tab earlier b e)
 began earlier s b (DropTab tab) is e = on_tab s b (writing_began tab earlier b e)
-began earlier s b (Get url) is e = absurd (let q : None ≡ Some b = e in cc)
-began earlier s b (Purge url) is e = absurd (let q : None ≡ Some b = e in cc)
-began earlier s b (OpenTab tab url) is e = absurd (let q : None ≡ Some b = e in cc)
-began earlier s b (More tab) is e = absurd (let q : None ≡ Some b = e in cc)
-began earlier s b (CloseTab tab) is e = absurd (let q : None ≡ Some b = e in cc)
-began earlier s b (Mark mark) is e = absurd (let q : None ≡ Some b = e in cc)
-began earlier s b (Await mark) is e = absurd (let q : None ≡ Some b = e in cc)
+began earlier s b _ is e = absurd (let q : None ≡ Some b = e in cc)
 
 -- A line that left an epoch at CLOSED that is not doomed.
 module _ {X : Type 0} (r : Run X) (a e : ℕ) (three : stage_of e ≡ 3) (undoomed : doom_of e ≡ 0) where
@@ -188,19 +149,9 @@ served_told (x ∷ earlier) s (suc i, lt, is) = Contains-append_left (in_order e
 
 -- a request that offers a body is served
 pub offered_served : (q : Request) (url : List ℕ) (body : Body) → Offers q url body → IsServed q
-offered_served (Put u b) url body o = tt
-offered_served (Save u b) url body o = tt
-offered_served (Begin tab u b) url body o = tt
-offered_served (Get u) url body o = tt
-offered_served (Purge u) url body o = tt
-offered_served (Add tab count) url body o = tt
-offered_served (End tab) url body o = tt
-offered_served (DropTab tab) url body o = tt
-offered_served (OpenTab tab u) url body o = tt
-offered_served (More tab) url body o = tt
-offered_served (CloseTab tab) url body o = tt
 offered_served (Mark mark) url body o = absurd o
 offered_served (Await mark) url body o = absurd o
+offered_served _ url body o = tt
 
 module _ {C O : Type 0} (tells : Bool) (state : C → CellState) (offers : O → Origins) (s : Store C O) where
   renamed : (number : ℕ) (u url : List ℕ) (b body : Body) → (u ≡ url) × (b ≡ body) → IsOffered tells state offers s (offer_of tells state offers s number) u b → IsOffered tells state offers s (offer_of tells state offers s number) url body
@@ -212,16 +163,7 @@ module _ {C O : Type 0} (tells : Bool) (state : C → CellState) (offers : O →
   asked number (Put u b) url body o h = renamed number u url b body o h
   asked number (Save u b) url body o h = renamed number u url b body o h
   asked number (Begin tab u b) url body o h = renamed number u url b body o h.1
-  asked number (Get u) url body o h = absurd o
-  asked number (Purge u) url body o h = absurd o
-  asked number (Add tab count) url body o h = absurd o
-  asked number (End tab) url body o h = absurd o
-  asked number (DropTab tab) url body o h = absurd o
-  asked number (OpenTab tab u) url body o h = absurd o
-  asked number (More tab) url body o h = absurd o
-  asked number (CloseTab tab) url body o h = absurd o
-  asked number (Mark mark) url body o h = absurd o
-  asked number (Await mark) url body o h = absurd o
+  asked number _ url body o h = absurd o
 
 module _ {C O St : Type 0} (tells : Bool) (state : C → CellState) (offers : O → Origins) (faults : St → ℕ) (s : Store C O) (script : List Line) (told : Bool) (past : Past)
     (laws : Laws tells state offers faults s script told past) (accounts : List (Account (OnShelf C O St))) (cells : List C) (h : HasRun tells state offers faults s script accounts cells) where

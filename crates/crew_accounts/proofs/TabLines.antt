@@ -6,7 +6,7 @@ use Rattle.script_text.specs.declared.answer.Answer.{Answer}
 use Rattle.script_text.specs.declared.answer.Answer.TheVariants as answer
 use Rattle.script_text.specs.declared.body.Body.{Body}
 use Rattle.script_text.specs.declared.request.Request.{Request}
-use Rattle.script_text.specs.declared.request.Request.TheVariants.{Add, Await, Begin, CloseTab, DropTab, End, Get, Mark, More, OpenTab, Purge, Put, Save}
+use Rattle.script_text.specs.declared.request.Request.TheVariants.{Add, Begin, CloseTab, DropTab, End, Get, More, OpenTab, Purge, Put, Save}
 use Rattle.line_account.specs.Lines.{Served, added, added_by, added_in, begins, bytes_given, bytes_in, closes, ends, given_by, is_begun, is_closed, is_dropped, is_finished, is_opened, is_refused, opens, reading, writing}
 use Rattle.std.proofs.Common.{◌||◌}
 
@@ -37,10 +37,6 @@ alone : (j : ℕ) (request : Request) (a : Answer) → begins j request a ≡ fa
 alone j request a b e o c g n = record { begins = b; ends = e; opens = o; closes = c; given = g; added = n }
 
 pub elsewhere : (request : Request) (a : Answer) (j : ℕ) → (UsesTab request j → ⊥) → LeavesAlone j request a
-elsewhere (Put url body) a j ne = alone j (Put url body) a refl refl refl refl refl refl
-elsewhere (Save url body) a j ne = alone j (Save url body) a refl refl refl refl refl refl
-elsewhere (Get url) a j ne = alone j (Get url) a refl refl refl refl refl refl
-elsewhere (Purge url) a j ne = alone j (Purge url) a refl refl refl refl refl refl
 elsewhere (Begin t url body) a j ne = alone j (Begin t url body) a (at_other (t == j) (is_begun a) (other t j ne)) refl refl refl refl refl
 elsewhere (Add t count) a j ne = alone j (Add t count) a refl (at_other (t == j) (is_refused a) (other t j ne)) refl refl refl (no_count (t == j) (added_in a) (other t j ne))
 elsewhere (End t) a j ne = alone j (End t) a refl (at_other (t == j) (is_refused a || is_finished a) (other t j ne)) refl refl refl refl
@@ -48,8 +44,7 @@ elsewhere (DropTab t) a j ne = alone j (DropTab t) a refl (at_other (t == j) (is
 elsewhere (OpenTab t url) a j ne = alone j (OpenTab t url) a refl refl (at_other (t == j) (is_opened a) (other t j ne)) refl refl refl
 elsewhere (More t) a j ne = alone j (More t) a refl refl refl refl (no_bytes (t == j) (bytes_in a) (other t j ne)) refl
 elsewhere (CloseTab t) a j ne = alone j (CloseTab t) a refl refl refl (at_other (t == j) (is_closed a) (other t j ne)) refl refl
-elsewhere (Mark mark) a j ne = alone j (Mark mark) a refl refl refl refl refl refl
-elsewhere (Await mark) a j ne = alone j (Await mark) a refl refl refl refl refl refl
+elsewhere request a j ne = alone j request a refl refl refl refl refl refl
 
 -- A whole request is nothing to any tab.
 pub get_alone : (url : List ℕ) (a : Answer) (j : ℕ) → LeavesAlone j (Get url) a
@@ -89,10 +84,6 @@ pub record IsMute (a : Answer) : Type 0 where
   pub count : added_in a ≡ 0
 
 pub mute : (request : Request) (a : Answer) (j : ℕ) → IsMute a → LeavesAlone j request a
-mute (Put url body) a j m = alone j (Put url body) a refl refl refl refl refl refl
-mute (Save url body) a j m = alone j (Save url body) a refl refl refl refl refl refl
-mute (Get url) a j m = alone j (Get url) a refl refl refl refl refl refl
-mute (Purge url) a j m = alone j (Purge url) a refl refl refl refl refl refl
 mute (Begin t url body) a j m = alone j (Begin t url body) a (never (t == j) (is_begun a) m.begun) refl refl refl refl refl
 mute (Add t count) a j m = alone j (Add t count) a refl (never (t == j) (is_refused a) m.refused) refl refl refl (zero_more (t == j) (added_in a) m.count)
 mute (End t) a j m = alone j (End t) a refl (never (t == j) (is_refused a || is_finished a) (λ i. m.refused i || m.finished i)) refl refl refl refl
@@ -100,8 +91,7 @@ mute (DropTab t) a j m = alone j (DropTab t) a refl (never (t == j) (is_dropped 
 mute (OpenTab t url) a j m = alone j (OpenTab t url) a refl refl (never (t == j) (is_opened a) m.opened) refl refl refl
 mute (More t) a j m = alone j (More t) a refl refl refl refl (nothing (t == j) (bytes_in a) m.bytes) refl
 mute (CloseTab t) a j m = alone j (CloseTab t) a refl refl refl (never (t == j) (is_closed a) m.closed) refl refl
-mute (Mark mark) a j m = alone j (Mark mark) a refl refl refl refl refl refl
-mute (Await mark) a j m = alone j (Await mark) a refl refl refl refl refl refl
+mute request a j m = alone j request a refl refl refl refl refl refl
 
 pub tab_is_mute : IsMute answer.Tab
 tab_is_mute = record { begun = refl; refused = refl; finished = refl; dropped = refl; opened = refl; closed = refl; bytes = refl; count = refl }

@@ -4,7 +4,7 @@ use Rattle.rock_disk.specs.Cell.{CellState}
 use Rattle.script_text.specs.Tabs.{UsesTab}
 use Rattle.script_text.specs.declared.line.Line.{Line}
 use Rattle.script_text.specs.declared.request.Request.{Request}
-use Rattle.script_text.specs.declared.request.Request.TheVariants.{Add, Await, Begin, CloseTab, DropTab, End, Get, Mark, More, OpenTab, Purge, Put, Save}
+use Rattle.script_text.specs.declared.request.Request.TheVariants.{Add, Await, Begin, CloseTab, DropTab, End, Mark, More, OpenTab}
 use Rattle.core_model.specs.declared.view.View.{View}
 use Rattle.core_model.proofs.Lists.{cons_contains, contains_none}
 use Rattle.store_rule.specs.declared.store.Pass.{Pass}
@@ -19,10 +19,6 @@ use Rattle.crew_accounts.proofs.CrewLists.{behind, first}
 
 -- a request that is served uses a tab
 pub uses : (request : Request) → IsServed request → (tab : ℕ) × UsesTab request tab
-uses (Put url body) served = (7, refl)
-uses (Save url body) served = (7, refl)
-uses (Get url) served = (7, refl)
-uses (Purge url) served = (7, refl)
 uses (Begin tab url body) served = (tab, refl)
 uses (Add tab count) served = (tab, refl)
 uses (End tab) served = (tab, refl)
@@ -32,6 +28,7 @@ uses (More tab) served = (tab, refl)
 uses (CloseTab tab) served = (tab, refl)
 uses (Mark mark) served = absurd served
 uses (Await mark) served = absurd served
+uses _ served = (7, refl)
 
 module _ {C O St : Type 0} (tells : Bool) (state : C → CellState) (offers : O → Offers) (faults : St → ℕ) where
   abbrev number_of : OnShelf C O St → ℕ
@@ -44,17 +41,7 @@ module _ {C O St : Type 0} (tells : Bool) (state : C → CellState) (offers : O 
   same x (Mark mark) is step = ap View.pass step.1.noted.view_is
   same x (Await mark) is (inl met) = ap View.pass met.1.notes.view_is ∙ ap View.pass met.1.learns.view_is
   same x (Await mark) is (inr unmet) = ap number_of unmet.1
-  same x (Put url body) is step = went x (Put url body) is tt step
-  same x (Save url body) is step = went x (Save url body) is tt step
-  same x (Get url) is step = went x (Get url) is tt step
-  same x (Purge url) is step = went x (Purge url) is tt step
-  same x (Begin tab url body) is step = went x (Begin tab url body) is tt step
-  same x (Add tab count) is step = went x (Add tab count) is tt step
-  same x (End tab) is step = went x (End tab) is tt step
-  same x (DropTab tab) is step = went x (DropTab tab) is tt step
-  same x (OpenTab tab url) is step = went x (OpenTab tab url) is tt step
-  same x (More tab) is step = went x (More tab) is tt step
-  same x (CloseTab tab) is step = went x (CloseTab tab) is tt step
+  same x request is step = went x request is tt step
 
   -- each line begins on the pass of the start
   one_pass : (stages : List (Stage (OnShelf C O St))) (start last : OnShelf C O St) → Linked start stages last → ((x : Stage (OnShelf C O St)) → Contains stages x → IsStep tells state offers faults x)

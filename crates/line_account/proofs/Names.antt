@@ -7,7 +7,7 @@ use Rattle.lock_word.specs.Words.{doom_of, is_readable, stage_of, version_of}
 use Rattle.lock_word.proofs.Testing.{doom_of-readable, stage_of-readable}
 use Rattle.script_text.specs.declared.body.Body.{Body}
 use Rattle.script_text.specs.declared.request.Request.{Request}
-use Rattle.script_text.specs.declared.request.Request.TheVariants.{Add, Await, Begin, CloseTab, DropTab, End, Get, Mark, More, OpenTab, Purge, Put, Save}
+use Rattle.script_text.specs.declared.request.Request.TheVariants.{Add, Begin, DropTab, End, Put, Save}
 use Rattle.script_text.specs.declared.answer.Answer.{Answer}
 use Rattle.core_model.specs.declared.view.Deed.{Deed}
 use Rattle.core_model.specs.declared.view.Kind.TheVariants.{Changed, Doomed, Raised}
@@ -45,13 +45,7 @@ begun_among earlier s b (Begin tab url body) e = let is : s ≡ b = cc in record
 begun_among earlier s b (Add tab count) e = later_split s earlier b (writing_among tab earlier b e)
 begun_among earlier s b (End tab) e = later_split s earlier b (writing_among tab earlier b e)
 begun_among earlier s b (DropTab tab) e = later_split s earlier b (writing_among tab earlier b e)
-begun_among earlier s b (Get url) e = absurd (let q : None ≡ Some b = e in cc)
-begun_among earlier s b (Purge url) e = absurd (let q : None ≡ Some b = e in cc)
-begun_among earlier s b (OpenTab tab url) e = absurd (let q : None ≡ Some b = e in cc)
-begun_among earlier s b (More tab) e = absurd (let q : None ≡ Some b = e in cc)
-begun_among earlier s b (CloseTab tab) e = absurd (let q : None ≡ Some b = e in cc)
-begun_among earlier s b (Mark mark) e = absurd (let q : None ≡ Some b = e in cc)
-begun_among earlier s b (Await mark) e = absurd (let q : None ≡ Some b = e in cc)
+begun_among earlier s b _ e = absurd (let q : None ≡ Some b = e in cc)
 
 -- Offers.
 
@@ -65,31 +59,13 @@ pub offer_of : (q : Request) (a : Answer) (x : ℕ) → Began q a x → HasOffer
 offer_of (Put url body) a x h = record { url = url; body = body; offers = (refl, refl) }
 offer_of (Save url body) a x h = record { url = url; body = body; offers = (refl, refl) }
 offer_of (Begin tab url body) a x h = record { url = url; body = body; offers = (refl, refl) }
-offer_of (Get url) a x h = absurd h
-offer_of (Purge url) a x h = absurd h
-offer_of (Add tab count) a x h = absurd h
-offer_of (End tab) a x h = absurd h
-offer_of (DropTab tab) a x h = absurd h
-offer_of (OpenTab tab url) a x h = absurd h
-offer_of (More tab) a x h = absurd h
-offer_of (CloseTab tab) a x h = absurd h
-offer_of (Mark mark) a x h = absurd h
-offer_of (Await mark) a x h = absurd h
+offer_of _ a x h = absurd h
 
 pub offered_url : (q : Request) (url : List ℕ) (body : Body) → Offers q url body → url_in q ≡ Some url
 offered_url (Put u b) url body h = ap Some h.0
 offered_url (Save u b) url body h = ap Some h.0
 offered_url (Begin tab u b) url body h = ap Some h.0
-offered_url (Get u) url body h = absurd h
-offered_url (Purge u) url body h = absurd h
-offered_url (Add tab count) url body h = absurd h
-offered_url (End tab) url body h = absurd h
-offered_url (DropTab tab) url body h = absurd h
-offered_url (OpenTab tab u) url body h = absurd h
-offered_url (More tab) url body h = absurd h
-offered_url (CloseTab tab) url body h = absurd h
-offered_url (Mark mark) url body h = absurd h
-offered_url (Await mark) url body h = absurd h
+offered_url _ url body h = absurd h
 
 module _ {X : Type 0} (r : Run X) (crew : List (Worker X)) (c : Closed r crew) where
   abbrev GrowsAt : ℕ → ℕ → View X → List Served → Served → Type 0

@@ -8,7 +8,7 @@ use Rattle.lock_word.proofs.Testing.{mode_of-readable}
 use Rattle.script_text.specs.declared.answer.Answer.{Answer}
 use Rattle.script_text.specs.declared.answer.Answer.TheVariants as answer
 use Rattle.script_text.specs.declared.request.Request.{Request}
-use Rattle.script_text.specs.declared.request.Request.TheVariants.{Add, Await, Begin, CloseTab, DropTab, End, Get, Mark, More, OpenTab, Purge, Put, Save}
+use Rattle.script_text.specs.declared.request.Request.TheVariants.{Get, OpenTab}
 use Rattle.core_model.specs.declared.view.Sight.{Sight}
 use Rattle.core_model.specs.declared.view.Sight.TheVariants.{Stood}
 use Rattle.core_model.specs.declared.view.View.{View}
@@ -219,64 +219,20 @@ counted opened looked e answer.Tab found h = absurd (contains_none e h)
 -- OPEN and HIT come to lines that opened an entry
 
 comes_opened : (q : Request) (version : ℕ) → IsAnswerTo q (answer.Opened version) → ComesIn q (answer.Opened version) version
-comes_opened (Put url body) version h = absurd h
-comes_opened (Save url body) version h = absurd h
-comes_opened (Get url) version h = absurd h
-comes_opened (Purge url) version h = absurd h
-comes_opened (Begin tab url body) version h = absurd h
-comes_opened (Add tab count) version h = absurd h
-comes_opened (End tab) version h = absurd h
-comes_opened (DropTab tab) version h = absurd h
 comes_opened (OpenTab tab url) version h = refl
-comes_opened (More tab) version h = absurd h
-comes_opened (CloseTab tab) version h = absurd h
-comes_opened (Mark mark) version h = absurd h
-comes_opened (Await mark) version h = absurd h
+comes_opened _ version h = absurd h
 
 comes_hit : (q : Request) (version : ℕ) (bytes : List ℕ) → IsAnswerTo q (answer.Hit version bytes) → ComesIn q (answer.Hit version bytes) version
-comes_hit (Put url body) version bytes h = absurd h
-comes_hit (Save url body) version bytes h = absurd h
 comes_hit (Get url) version bytes h = refl
-comes_hit (Purge url) version bytes h = absurd h
-comes_hit (Begin tab url body) version bytes h = absurd h
-comes_hit (Add tab count) version bytes h = absurd h
-comes_hit (End tab) version bytes h = absurd h
-comes_hit (DropTab tab) version bytes h = absurd h
-comes_hit (OpenTab tab url) version bytes h = absurd h
-comes_hit (More tab) version bytes h = absurd h
-comes_hit (CloseTab tab) version bytes h = absurd h
-comes_hit (Mark mark) version bytes h = absurd h
-comes_hit (Await mark) version bytes h = absurd h
+comes_hit _ version bytes h = absurd h
 
 told_opened : (q : Request) (version x : ℕ) → ComesIn q (answer.Opened version) x → version ≡ x
-told_opened (Put url body) version x h = absurd h
-told_opened (Save url body) version x h = absurd h
-told_opened (Get url) version x h = absurd h
-told_opened (Purge url) version x h = absurd h
-told_opened (Begin tab url body) version x h = absurd h
-told_opened (Add tab count) version x h = absurd h
-told_opened (End tab) version x h = absurd h
-told_opened (DropTab tab) version x h = absurd h
 told_opened (OpenTab tab url) version x h = h
-told_opened (More tab) version x h = absurd h
-told_opened (CloseTab tab) version x h = absurd h
-told_opened (Mark mark) version x h = absurd h
-told_opened (Await mark) version x h = absurd h
+told_opened _ version x h = absurd h
 
 told_hit : (q : Request) (version x : ℕ) (bytes : List ℕ) → ComesIn q (answer.Hit version bytes) x → version ≡ x
-told_hit (Put url body) version x bytes h = absurd h
-told_hit (Save url body) version x bytes h = absurd h
 told_hit (Get url) version x bytes h = h
-told_hit (Purge url) version x bytes h = absurd h
-told_hit (Begin tab url body) version x bytes h = absurd h
-told_hit (Add tab count) version x bytes h = absurd h
-told_hit (End tab) version x bytes h = absurd h
-told_hit (DropTab tab) version x bytes h = absurd h
-told_hit (OpenTab tab url) version x bytes h = absurd h
-told_hit (More tab) version x bytes h = absurd h
-told_hit (CloseTab tab) version x bytes h = absurd h
-told_hit (Mark mark) version x bytes h = absurd h
-told_hit (Await mark) version x bytes h = absurd h
+told_hit _ version x bytes h = absurd h
 
 -- what was opened was found
 pub opens_finds : (a : Answer) (x : ℕ) → Opens a x → FindsEntry a x

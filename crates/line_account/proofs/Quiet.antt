@@ -9,7 +9,7 @@ use Rattle.script_text.specs.declared.answer.Answer.{Answer}
 use Rattle.script_text.specs.declared.answer.Answer.TheVariants as answer
 use Rattle.script_text.specs.declared.body.Body.{Body}
 use Rattle.script_text.specs.declared.request.Request.{Request}
-use Rattle.script_text.specs.declared.request.Request.TheVariants.{Add, Await, Begin, CloseTab, DropTab, End, Get, Mark, More, OpenTab, Purge, Put, Save}
+use Rattle.script_text.specs.declared.request.Request.TheVariants.{Add, Await, Begin, CloseTab, DropTab, End, Get, Mark, More, OpenTab, Put, Save}
 use Rattle.core_model.specs.declared.view.Deed.{Deed}
 use Rattle.core_model.specs.declared.view.Item.{Item}
 use Rattle.core_model.specs.declared.view.Sight.{Sight}
@@ -18,8 +18,8 @@ use Rattle.core_model.specs.Trails.{drawn, draws, has_drawn, is_drawn}
 use Rattle.core_model.proofs.Lists.{contains_none}
 use Rattle.line_account.specs.Lines.{Fits, Offers, Served, gives_up}
 use Rattle.line_account.specs.Requests.{IsAnswerTo}
-use Rattle.line_account.specs.Deeds.{Began}
-use Rattle.line_account.specs.Answers.{ComesIn, Reads, Refuses, Run}
+use Rattle.line_account.specs.Deeds.{Began, BeganAndEnded, BeganOnTab}
+use Rattle.line_account.specs.Answers.{ComesIn, OpenedAs, ReadAs, Reads, Refuses, Run}
 use Rattle.line_account.specs.Accounts.{IsOffered, Tells, drew_some, drew_version, epochs_of}
 use Rattle.core_model.specs.Knowing.{KnowsAll}
 use Rattle.line_account.specs.Courses.{Adds, one_if}
@@ -76,40 +76,22 @@ record IsSilent (a : Answer) : Type 0 where
   added : (n : ℕ) → a ≢ answer.Added n
   reads : Reads a → ⊥
 
-began_tab : (q : Request) (x : ℕ) → Began q answer.Tab x → ⊥
-began_tab (Put url body) x h = h
-began_tab (Save url body) x h = h
-began_tab (Get url) x h = h
-began_tab (Purge url) x h = h
-began_tab (Begin tab url body) x h = h
-began_tab (Add tab count) x h = h
-began_tab (End tab) x h = h
-began_tab (DropTab tab) x h = h
-began_tab (OpenTab tab url) x h = h
-began_tab (More tab) x h = h
-began_tab (CloseTab tab) x h = h
-began_tab (Mark mark) x h = h
-began_tab (Await mark) x h = h
+-- by shape: what a line that begins a version tells, and what one tells that comes to an entry
+none_began : (a : Answer) → ((x : ℕ) → BeganAndEnded a x → ⊥) → ((x : ℕ) → BeganOnTab a x → ⊥) → (q : Request) (x : ℕ) → Began q a x → ⊥
+none_began a ended begun (Put url body) x h = ended x h
+none_began a ended begun (Save url body) x h = ended x h
+none_began a ended begun (Begin tab url body) x h = begun x h
+none_began a ended begun _ x h = absurd h
 
-comes_tab : (q : Request) (x : ℕ) → ComesIn q answer.Tab x → ⊥
-comes_tab (Put url body) x h = h
-comes_tab (Save url body) x h = h
-comes_tab (Get url) x h = h
-comes_tab (Purge url) x h = h
-comes_tab (Begin tab url body) x h = h
-comes_tab (Add tab count) x h = h
-comes_tab (End tab) x h = h
-comes_tab (DropTab tab) x h = h
-comes_tab (OpenTab tab url) x h = h
-comes_tab (More tab) x h = h
-comes_tab (CloseTab tab) x h = h
-comes_tab (Mark mark) x h = h
-comes_tab (Await mark) x h = h
+none_came : (a : Answer) → ((x : ℕ) → OpenedAs a x → ⊥) → ((x : ℕ) → ReadAs a x → ⊥) → (q : Request) (x : ℕ) → ComesIn q a x → ⊥
+none_came a opened read (Get url) x h = read x h
+none_came a opened read (OpenTab tab url) x h = opened x h
+none_came a opened read _ x h = absurd h
 
 silent_tab : IsSilent answer.Tab
 silent_tab = record {
   epochs = λ opened looked. refl;
-  began = began_tab;
+  began = none_began answer.Tab (λ x h. h) (λ x h. h);
   finished = λ x h. ⊎_elim (λ (q : answer.Tab ≡ answer.Stored x). cc) (λ (q : answer.Tab ≡ answer.Doomed x). cc) h;
   gave_up = refl;
   full = λ h. cc;
@@ -118,7 +100,7 @@ silent_tab = record {
   busy = λ looked other h. cc;
   spent = λ n h. cc;
   refuses = λ c h. h;
-  opened = comes_tab;
+  opened = none_came answer.Tab (λ x h. h) (λ x h. h);
   hit = λ x bytes h. cc;
   other = λ h. cc;
   halted = λ bytes h. cc;
@@ -128,40 +110,10 @@ silent_tab = record {
   reads = λ h. h;
 }
 
-began_marked : (q : Request) (x : ℕ) → Began q answer.Marked x → ⊥
-began_marked (Put url body) x h = h
-began_marked (Save url body) x h = h
-began_marked (Get url) x h = h
-began_marked (Purge url) x h = h
-began_marked (Begin tab url body) x h = h
-began_marked (Add tab count) x h = h
-began_marked (End tab) x h = h
-began_marked (DropTab tab) x h = h
-began_marked (OpenTab tab url) x h = h
-began_marked (More tab) x h = h
-began_marked (CloseTab tab) x h = h
-began_marked (Mark mark) x h = h
-began_marked (Await mark) x h = h
-
-comes_marked : (q : Request) (x : ℕ) → ComesIn q answer.Marked x → ⊥
-comes_marked (Put url body) x h = h
-comes_marked (Save url body) x h = h
-comes_marked (Get url) x h = h
-comes_marked (Purge url) x h = h
-comes_marked (Begin tab url body) x h = h
-comes_marked (Add tab count) x h = h
-comes_marked (End tab) x h = h
-comes_marked (DropTab tab) x h = h
-comes_marked (OpenTab tab url) x h = h
-comes_marked (More tab) x h = h
-comes_marked (CloseTab tab) x h = h
-comes_marked (Mark mark) x h = h
-comes_marked (Await mark) x h = h
-
 silent_marked : IsSilent answer.Marked
 silent_marked = record {
   epochs = λ opened looked. refl;
-  began = began_marked;
+  began = none_began answer.Marked (λ x h. h) (λ x h. h);
   finished = λ x h. ⊎_elim (λ (q : answer.Marked ≡ answer.Stored x). cc) (λ (q : answer.Marked ≡ answer.Doomed x). cc) h;
   gave_up = refl;
   full = λ h. cc;
@@ -170,7 +122,7 @@ silent_marked = record {
   busy = λ looked other h. cc;
   spent = λ n h. cc;
   refuses = λ c h. h;
-  opened = comes_marked;
+  opened = none_came answer.Marked (λ x h. h) (λ x h. h);
   hit = λ x bytes h. cc;
   other = λ h. cc;
   halted = λ bytes h. cc;
@@ -180,40 +132,10 @@ silent_marked = record {
   reads = λ h. h;
 }
 
-began_met : (q : Request) (x : ℕ) → Began q answer.Met x → ⊥
-began_met (Put url body) x h = h
-began_met (Save url body) x h = h
-began_met (Get url) x h = h
-began_met (Purge url) x h = h
-began_met (Begin tab url body) x h = h
-began_met (Add tab count) x h = h
-began_met (End tab) x h = h
-began_met (DropTab tab) x h = h
-began_met (OpenTab tab url) x h = h
-began_met (More tab) x h = h
-began_met (CloseTab tab) x h = h
-began_met (Mark mark) x h = h
-began_met (Await mark) x h = h
-
-comes_met : (q : Request) (x : ℕ) → ComesIn q answer.Met x → ⊥
-comes_met (Put url body) x h = h
-comes_met (Save url body) x h = h
-comes_met (Get url) x h = h
-comes_met (Purge url) x h = h
-comes_met (Begin tab url body) x h = h
-comes_met (Add tab count) x h = h
-comes_met (End tab) x h = h
-comes_met (DropTab tab) x h = h
-comes_met (OpenTab tab url) x h = h
-comes_met (More tab) x h = h
-comes_met (CloseTab tab) x h = h
-comes_met (Mark mark) x h = h
-comes_met (Await mark) x h = h
-
 silent_met : IsSilent answer.Met
 silent_met = record {
   epochs = λ opened looked. refl;
-  began = began_met;
+  began = none_began answer.Met (λ x h. h) (λ x h. h);
   finished = λ x h. ⊎_elim (λ (q : answer.Met ≡ answer.Stored x). cc) (λ (q : answer.Met ≡ answer.Doomed x). cc) h;
   gave_up = refl;
   full = λ h. cc;
@@ -222,7 +144,7 @@ silent_met = record {
   busy = λ looked other h. cc;
   spent = λ n h. cc;
   refuses = λ c h. h;
-  opened = comes_met;
+  opened = none_came answer.Met (λ x h. h) (λ x h. h);
   hit = λ x bytes h. cc;
   other = λ h. cc;
   halted = λ bytes h. cc;
@@ -232,40 +154,10 @@ silent_met = record {
   reads = λ h. h;
 }
 
-began_unmet : (q : Request) (x : ℕ) → Began q answer.Unmet x → ⊥
-began_unmet (Put url body) x h = h
-began_unmet (Save url body) x h = h
-began_unmet (Get url) x h = h
-began_unmet (Purge url) x h = h
-began_unmet (Begin tab url body) x h = h
-began_unmet (Add tab count) x h = h
-began_unmet (End tab) x h = h
-began_unmet (DropTab tab) x h = h
-began_unmet (OpenTab tab url) x h = h
-began_unmet (More tab) x h = h
-began_unmet (CloseTab tab) x h = h
-began_unmet (Mark mark) x h = h
-began_unmet (Await mark) x h = h
-
-comes_unmet : (q : Request) (x : ℕ) → ComesIn q answer.Unmet x → ⊥
-comes_unmet (Put url body) x h = h
-comes_unmet (Save url body) x h = h
-comes_unmet (Get url) x h = h
-comes_unmet (Purge url) x h = h
-comes_unmet (Begin tab url body) x h = h
-comes_unmet (Add tab count) x h = h
-comes_unmet (End tab) x h = h
-comes_unmet (DropTab tab) x h = h
-comes_unmet (OpenTab tab url) x h = h
-comes_unmet (More tab) x h = h
-comes_unmet (CloseTab tab) x h = h
-comes_unmet (Mark mark) x h = h
-comes_unmet (Await mark) x h = h
-
 silent_unmet : IsSilent answer.Unmet
 silent_unmet = record {
   epochs = λ opened looked. refl;
-  began = began_unmet;
+  began = none_began answer.Unmet (λ x h. h) (λ x h. h);
   finished = λ x h. ⊎_elim (λ (q : answer.Unmet ≡ answer.Stored x). cc) (λ (q : answer.Unmet ≡ answer.Doomed x). cc) h;
   gave_up = refl;
   full = λ h. cc;
@@ -274,7 +166,7 @@ silent_unmet = record {
   busy = λ looked other h. cc;
   spent = λ n h. cc;
   refuses = λ c h. h;
-  opened = comes_unmet;
+  opened = none_came answer.Unmet (λ x h. h) (λ x h. h);
   hit = λ x bytes h. cc;
   other = λ h. cc;
   halted = λ bytes h. cc;
@@ -334,79 +226,29 @@ module _ {X : Type 0} (r : Run X) where
   -- lines at marks
 
   not_offered : (s : Served) (q : Request) (a : Answer) → AtMark q a → (url : List ℕ) (body : Body) → Offers q url body → ⊥
-  not_offered s (Put url body) a at other_url other_body h = at
-  not_offered s (Save url body) a at other_url other_body h = at
-  not_offered s (Get url) a at other_url other_body h = at
-  not_offered s (Purge url) a at other_url other_body h = at
-  not_offered s (Begin tab url body) a at other_url other_body h = at
-  not_offered s (Add tab count) a at other_url other_body h = at
-  not_offered s (End tab) a at other_url other_body h = at
-  not_offered s (DropTab tab) a at other_url other_body h = at
-  not_offered s (OpenTab tab url) a at other_url other_body h = at
-  not_offered s (More tab) a at other_url other_body h = at
-  not_offered s (CloseTab tab) a at other_url other_body h = at
   not_offered s (Mark mark) a at other_url other_body h = h
   not_offered s (Await mark) a at other_url other_body h = h
+  not_offered s _ a at other_url other_body h = at
 
   mark_silent : (q : Request) (a : Answer) → AtMark q a → IsSilent a
-  mark_silent (Put url body) a at = absurd at
-  mark_silent (Save url body) a at = absurd at
-  mark_silent (Get url) a at = absurd at
-  mark_silent (Purge url) a at = absurd at
-  mark_silent (Begin tab url body) a at = absurd at
-  mark_silent (Add tab count) a at = absurd at
-  mark_silent (End tab) a at = absurd at
-  mark_silent (DropTab tab) a at = absurd at
-  mark_silent (OpenTab tab url) a at = absurd at
-  mark_silent (More tab) a at = absurd at
-  mark_silent (CloseTab tab) a at = absurd at
   mark_silent (Mark mark) a at = subst IsSilent (sym at) silent_marked
   mark_silent (Await mark) a at = ⊎_elim (λ (z : a ≡ answer.Met). subst IsSilent (sym z) silent_met) (λ (z : a ≡ answer.Unmet). subst IsSilent (sym z) silent_unmet) at
+  mark_silent _ a at = absurd at
 
   mark_answers : (q : Request) (a : Answer) → AtMark q a → IsAnswerTo q a
-  mark_answers (Put url body) a at = absurd at
-  mark_answers (Save url body) a at = absurd at
-  mark_answers (Get url) a at = absurd at
-  mark_answers (Purge url) a at = absurd at
-  mark_answers (Begin tab url body) a at = absurd at
-  mark_answers (Add tab count) a at = absurd at
-  mark_answers (End tab) a at = absurd at
-  mark_answers (DropTab tab) a at = absurd at
-  mark_answers (OpenTab tab url) a at = absurd at
-  mark_answers (More tab) a at = absurd at
-  mark_answers (CloseTab tab) a at = absurd at
   mark_answers (Mark mark) a at = subst (IsAnswerTo (Mark mark)) (sym at) tt
   mark_answers (Await mark) a at = ⊎_elim (λ (z : a ≡ answer.Met). subst (IsAnswerTo (Await mark)) (sym z) tt) (λ (z : a ≡ answer.Unmet). subst (IsAnswerTo (Await mark)) (sym z) tt) at
+  mark_answers _ a at = absurd at
 
   mark_fits : (earlier : List Served) (q : Request) (a : Answer) → AtMark q a → Fits earlier q
-  mark_fits earlier (Put url body) a at = absurd at
-  mark_fits earlier (Save url body) a at = absurd at
-  mark_fits earlier (Get url) a at = absurd at
-  mark_fits earlier (Purge url) a at = absurd at
-  mark_fits earlier (Begin tab url body) a at = absurd at
-  mark_fits earlier (Add tab count) a at = absurd at
-  mark_fits earlier (End tab) a at = absurd at
-  mark_fits earlier (DropTab tab) a at = absurd at
-  mark_fits earlier (OpenTab tab url) a at = absurd at
-  mark_fits earlier (More tab) a at = absurd at
-  mark_fits earlier (CloseTab tab) a at = absurd at
   mark_fits earlier (Mark mark) a at = tt
   mark_fits earlier (Await mark) a at = tt
+  mark_fits earlier _ a at = absurd at
 
   mark_no_tab : (q : Request) (a : Answer) → AtMark q a → a ≢ answer.Tab
-  mark_no_tab (Put url body) a at h = absurd at
-  mark_no_tab (Save url body) a at h = absurd at
-  mark_no_tab (Get url) a at h = absurd at
-  mark_no_tab (Purge url) a at h = absurd at
-  mark_no_tab (Begin tab url body) a at h = absurd at
-  mark_no_tab (Add tab count) a at h = absurd at
-  mark_no_tab (End tab) a at h = absurd at
-  mark_no_tab (DropTab tab) a at h = absurd at
-  mark_no_tab (OpenTab tab url) a at h = absurd at
-  mark_no_tab (More tab) a at h = absurd at
-  mark_no_tab (CloseTab tab) a at h = absurd at
   mark_no_tab (Mark mark) a at h = let z : answer.Marked ≡ answer.Tab = sym at ∙ h in cc
   mark_no_tab (Await mark) a at h = ⊎_elim (λ (k : a ≡ answer.Met). let z : answer.Met ≡ answer.Tab = sym k ∙ h in cc) (λ (k : a ≡ answer.Unmet). let z : answer.Unmet ≡ answer.Tab = sym k ∙ h in cc) at
+  mark_no_tab _ a at h = absurd at
 
   pub mark_adds : (v w : View X) (earlier : List Served) (s : Served) → IsMarkLine s → IsIdle v w → Adds r v earlier s w
   mark_adds v w earlier s m idle =
@@ -419,10 +261,6 @@ module _ {X : Type 0} (r : Run X) where
   -- lines whose tab was not as they needed it
 
   tab_answers : (earlier : List Served) (q : Request) → ¬ Fits earlier q → IsAnswerTo q answer.Tab
-  tab_answers earlier (Put url body) n = absurd (n tt)
-  tab_answers earlier (Save url body) n = absurd (n tt)
-  tab_answers earlier (Get url) n = absurd (n tt)
-  tab_answers earlier (Purge url) n = absurd (n tt)
   tab_answers earlier (Begin tab url body) n = tt
   tab_answers earlier (Add tab count) n = tt
   tab_answers earlier (End tab) n = tt
@@ -430,8 +268,7 @@ module _ {X : Type 0} (r : Run X) where
   tab_answers earlier (OpenTab tab url) n = tt
   tab_answers earlier (More tab) n = tt
   tab_answers earlier (CloseTab tab) n = tt
-  tab_answers earlier (Mark mark) n = absurd (n tt)
-  tab_answers earlier (Await mark) n = absurd (n tt)
+  tab_answers earlier _ n = absurd (n tt)
 
   pub tab_adds : (v w : View X) (earlier : List Served) (s : Served) → IsTabLine r earlier s → IsIdle v w → Adds r v earlier s w
   tab_adds v w earlier s m idle =

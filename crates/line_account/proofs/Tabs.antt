@@ -11,7 +11,7 @@ use Rattle.lock_word.specs.declared.epoch.Epoch.{Epoch}
 use Rattle.script_text.specs.declared.answer.Answer.{Answer}
 use Rattle.script_text.specs.declared.answer.Answer.TheVariants as answer
 use Rattle.script_text.specs.declared.request.Request.{Request}
-use Rattle.script_text.specs.declared.request.Request.TheVariants.{Add, Await, Begin, CloseTab, DropTab, End, Get, Mark, More, OpenTab, Purge, Put, Save}
+use Rattle.script_text.specs.declared.request.Request.TheVariants.{CloseTab, Get, More, OpenTab}
 use Rattle.core_model.specs.declared.moves.Side.TheVariants.{Offer}
 use Rattle.core_model.specs.declared.view.Sight.TheVariants.{Named}
 use Rattle.core_model.specs.Anchors.{opening_counter}
@@ -41,15 +41,7 @@ opened_at_url earlier s first (Get url) is e = ap url_in is ∙ ap (λ (z : Serv
 opened_at_url earlier s first (OpenTab tab url) is e = ap url_in is ∙ ap (λ (z : Served). url_in z.line.request) (one_some s first e)
 opened_at_url earlier s first (More tab) is e = ap url_named e
 opened_at_url earlier s first (CloseTab tab) is e = ap url_named e
-opened_at_url earlier s first (Put url body) is e = absurd (let z : None ≡ Some first = e in cc)
-opened_at_url earlier s first (Save url body) is e = absurd (let z : None ≡ Some first = e in cc)
-opened_at_url earlier s first (Begin tab url body) is e = absurd (let z : None ≡ Some first = e in cc)
-opened_at_url earlier s first (Purge url) is e = absurd (let z : None ≡ Some first = e in cc)
-opened_at_url earlier s first (Add tab count) is e = absurd (let z : None ≡ Some first = e in cc)
-opened_at_url earlier s first (End tab) is e = absurd (let z : None ≡ Some first = e in cc)
-opened_at_url earlier s first (DropTab tab) is e = absurd (let z : None ≡ Some first = e in cc)
-opened_at_url earlier s first (Mark mark) is e = absurd (let z : None ≡ Some first = e in cc)
-opened_at_url earlier s first (Await mark) is e = absurd (let z : None ≡ Some first = e in cc)
+opened_at_url earlier s first _ is e = absurd (let z : None ≡ Some first = e in cc)
 
 at_anchor : (anchors : ℕ) (earlier : List Served) (s : Served) (a x : ℕ) → ReadsVersion anchors earlier s a x → IsAt anchors earlier s a
 at_anchor anchors earlier s a x so = record { url = so.anchor.url; named_is = opened_at_url earlier s so.first s.line.request refl so.opened_is ∙ so.anchor.named_is; anchor = so.anchor.anchor }

@@ -10,10 +10,11 @@ use Rattle.lock_word.specs.declared.cause.Cause.{Cause}
 use Rattle.lock_word.specs.declared.epoch.Epoch.{Epoch}
 use Rattle.lock_word.specs.declared.word.Word.{Word}
 use Rattle.plain_model.specs.Store.{meta_size, published}
+use Rattle.script_text.specs.Shapes.{Shape, shape_of}
 use Rattle.script_text.specs.declared.answer.Answer.{Answer}
 use Rattle.script_text.specs.declared.answer.Answer.TheVariants as answer
 use Rattle.script_text.specs.declared.request.Request.{Request}
-use Rattle.script_text.specs.declared.request.Request.TheVariants.{Add, Get, More, OpenTab}
+use Rattle.script_text.specs.declared.request.Request.TheVariants.{Add, Get, More}
 use Rattle.core_model.specs.declared.moves.Side.TheVariants.{Key0, Key1, Offer}
 use Rattle.core_model.specs.declared.view.Item.{Item}
 use Rattle.core_model.specs.declared.view.Kind.{Kind}
@@ -160,9 +161,17 @@ ReadAs answer.OtherUrl version = Unit {0}
 ReadAs _ version = ⊥
 
 abbrev pub ComesIn : Request → Answer → ℕ → Type 0
-ComesIn (OpenTab tab url) a version = OpenedAs a version
-ComesIn (Get url) a version = ReadAs a version
-ComesIn _ a version = ⊥
+ComesIn request a version = of_shape (shape_of request)
+  where
+    of_shape : Shape → Type 0
+    of_shape (Shape.Stores url body durable) = ⊥
+    of_shape (Shape.Reads url) = ReadAs a version
+    of_shape (Shape.Purges url) = ⊥
+    of_shape (Shape.Begins tab url body) = ⊥
+    of_shape (Shape.Opens tab url) = OpenedAs a version
+    of_shape (Shape.WritesOn tab) = ⊥
+    of_shape (Shape.ReadsOn tab) = ⊥
+    of_shape (Shape.AtMark mark) = ⊥
 
 -- the line opened an entry
 pub record HasOpened {X : Type 0} (r : Run X) (v : View X) (s : Served) : Type 0 where

@@ -4,10 +4,11 @@ use Rattle.lock_word.specs.Words.{doom_of, epoch_number, stage_of, version_of}
 use Rattle.lock_word.specs.declared.epoch.Epoch.{Epoch}
 use Rattle.store_key.specs.Anchor.{anchor_of, back_half, front_half}
 use Rattle.store_key.specs.Key.{key_of}
+use Rattle.script_text.specs.Shapes.{Shape, shape_of}
 use Rattle.script_text.specs.declared.answer.Answer.{Answer}
 use Rattle.script_text.specs.declared.answer.Answer.TheVariants as answer
 use Rattle.script_text.specs.declared.request.Request.{Request}
-use Rattle.script_text.specs.declared.request.Request.TheVariants.{Add, Begin, End, Get, OpenTab, Purge, Put, Save}
+use Rattle.script_text.specs.declared.request.Request.TheVariants.{Add, End, Purge, Put, Save}
 use Rattle.core_model.specs.declared.moves.Side.TheVariants.{Key0, Key1, Offer}
 use Rattle.core_model.specs.declared.view.Deed.{Deed}
 use Rattle.core_model.specs.declared.view.Kind.TheVariants.{Changed, Doomed, Entered, Raised}
@@ -20,10 +21,17 @@ use Rattle.line_account.specs.Answers.{Run}
 
 -- a request that comes to the entry of a URL to read or to purge it
 abbrev pub Comes : Request → List ℕ → Type 0
-Comes (Get u) url = u ≡ url
-Comes (Purge u) url = u ≡ url
-Comes (OpenTab tab u) url = u ≡ url
-Comes _ url = ⊥
+Comes request url = of_shape (shape_of request)
+  where
+    of_shape : Shape → Type 0
+    of_shape (Shape.Stores u body durable) = ⊥
+    of_shape (Shape.Reads u) = u ≡ url
+    of_shape (Shape.Purges u) = u ≡ url
+    of_shape (Shape.Begins tab u body) = ⊥
+    of_shape (Shape.Opens tab u) = u ≡ url
+    of_shape (Shape.WritesOn tab) = ⊥
+    of_shape (Shape.ReadsOn tab) = ⊥
+    of_shape (Shape.AtMark mark) = ⊥
 
 pub record ComesTo (anchors : ℕ) (request : Request) (a : ℕ) : Type 0 where
   pub url : List ℕ
@@ -56,10 +64,17 @@ PrintsBegun _ = ⊥
 
 -- the line offers a body, and its answer is that of one that began the version x
 abbrev pub Began : Request → Answer → ℕ → Type 0
-Began (Put url body) a x = BeganAndEnded a x
-Began (Save url body) a x = BeganAndEnded a x
-Began (Begin tab url body) a x = BeganOnTab a x
-Began _ a x = ⊥
+Began request a x = of_shape (shape_of request)
+  where
+    of_shape : Shape → Type 0
+    of_shape (Shape.Stores url body durable) = BeganAndEnded a x
+    of_shape (Shape.Reads url) = ⊥
+    of_shape (Shape.Purges url) = ⊥
+    of_shape (Shape.Begins tab url body) = BeganOnTab a x
+    of_shape (Shape.Opens tab url) = ⊥
+    of_shape (Shape.WritesOn tab) = ⊥
+    of_shape (Shape.ReadsOn tab) = ⊥
+    of_shape (Shape.AtMark mark) = ⊥
 
 -- a line that began the version x at the anchor a
 pub record Begins (anchors : ℕ) (s : Served) (a x : ℕ) : Type 0 where
@@ -75,10 +90,17 @@ TellsEnded _ x = ⊥
 
 -- the answers to a line that offers a body which tell that it began the version x
 abbrev pub TellsBegun : Request → Answer → ℕ → Type 0
-TellsBegun (Put url body) a x = TellsEnded a x
-TellsBegun (Save url body) a x = TellsEnded a x
-TellsBegun (Begin tab url body) a x = BeganOnTab a x
-TellsBegun _ a x = ⊥
+TellsBegun request a x = of_shape (shape_of request)
+  where
+    of_shape : Shape → Type 0
+    of_shape (Shape.Stores url body durable) = TellsEnded a x
+    of_shape (Shape.Reads url) = ⊥
+    of_shape (Shape.Purges url) = ⊥
+    of_shape (Shape.Begins tab url body) = BeganOnTab a x
+    of_shape (Shape.Opens tab url) = ⊥
+    of_shape (Shape.WritesOn tab) = ⊥
+    of_shape (Shape.ReadsOn tab) = ⊥
+    of_shape (Shape.AtMark mark) = ⊥
 
 -- a line printed that it began the version x at the anchor a
 pub record PrintsBegunVersion (anchors : ℕ) (s : Served) (a x : ℕ) : Type 0 where

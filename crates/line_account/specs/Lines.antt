@@ -2,13 +2,14 @@
 use Rattle.std.specs.Prelude.{◌&&◌, ◌+◌, ◌++◌, ◌==◌, ◌||◌, ◌∷◌, ◌≡◌, ◌≢◌, Bool, List, None, Option, Some, [], cond, false, length, true, ℕ}
 use Rattle.store_key.specs.Anchor.{anchor_of}
 use Rattle.store_key.specs.Key.{key_of}
-use Rattle.script_text.specs.Requests.{url_in}
+use Rattle.script_text.specs.Requests.{OffersBody, offers_body, url_in}
+use Rattle.script_text.specs.Shapes.{Shape, shape_of}
 use Rattle.script_text.specs.declared.answer.Answer.{Answer}
 use Rattle.script_text.specs.declared.answer.Answer.TheVariants as answer
 use Rattle.script_text.specs.declared.body.Body.{Body}
 use Rattle.script_text.specs.declared.line.Line.{Line}
 use Rattle.script_text.specs.declared.request.Request.{Request}
-use Rattle.script_text.specs.declared.request.Request.TheVariants.{Add, Begin, CloseTab, DropTab, End, Get, More, OpenTab, Put, Save}
+use Rattle.script_text.specs.declared.request.Request.TheVariants.{Add, CloseTab, DropTab, End, More}
 
 -- A line that was served, and its answer. Three things that are not printed stand beside them: the version that the line drew, if it
 -- drew one, and the epochs at which it opened an entry, or found the one that it purged, and looked at one last. A worker's lines stand with the newest first.
@@ -29,11 +30,9 @@ pub record LineOf (served : List Served) (P : List Served → Served → Type 0)
 
 -- What requests and answers are.
 
+-- the request offers a body
 abbrev pub offers : Request → Bool
-offers (Put url body) = true
-offers (Save url body) = true
-offers (Begin tab url body) = true
-offers _ = false
+offers request = offers_body request
 
 abbrev pub is_begun : Answer → Bool
 is_begun (answer.Begun version) = true
@@ -67,8 +66,17 @@ is_closed _ = false
 
 -- the line begins to write on the tab t
 abbrev pub begins : ℕ → Request → Answer → Bool
-begins t (Begin u url body) a = (u == t) && is_begun a
-begins t _ a = false
+begins t request a = of_shape (shape_of request)
+  where
+    of_shape : Shape → Bool
+    of_shape (Shape.Stores url body durable) = false
+    of_shape (Shape.Reads url) = false
+    of_shape (Shape.Purges url) = false
+    of_shape (Shape.Begins u url body) = (u == t) && is_begun a
+    of_shape (Shape.Opens u url) = false
+    of_shape (Shape.WritesOn u) = false
+    of_shape (Shape.ReadsOn u) = false
+    of_shape (Shape.AtMark mark) = false
 
 -- it ends the writing there
 abbrev pub ends : ℕ → Request → Answer → Bool
@@ -78,8 +86,17 @@ ends t (DropTab u) a = (u == t) && is_dropped a
 ends t _ a = false
 
 abbrev pub opens : ℕ → Request → Answer → Bool
-opens t (OpenTab u url) a = (u == t) && is_opened a
-opens t _ a = false
+opens t request a = of_shape (shape_of request)
+  where
+    of_shape : Shape → Bool
+    of_shape (Shape.Stores url body durable) = false
+    of_shape (Shape.Reads url) = false
+    of_shape (Shape.Purges url) = false
+    of_shape (Shape.Begins u url body) = false
+    of_shape (Shape.Opens u url) = (u == t) && is_opened a
+    of_shape (Shape.WritesOn u) = false
+    of_shape (Shape.ReadsOn u) = false
+    of_shape (Shape.AtMark mark) = false
 
 abbrev pub closes : ℕ → Request → Answer → Bool
 closes t (CloseTab u) a = (u == t) && is_closed a
@@ -103,12 +120,17 @@ url_named (Some s) = url_in s.line.request
 
 -- the URL that a line names, or that its tab was opened or begun with
 abbrev pub url_at : List Served → Request → Option (List ℕ)
-url_at earlier (Add tab count) = url_named (writing tab earlier)
-url_at earlier (End tab) = url_named (writing tab earlier)
-url_at earlier (DropTab tab) = url_named (writing tab earlier)
-url_at earlier (More tab) = url_named (reading tab earlier)
-url_at earlier (CloseTab tab) = url_named (reading tab earlier)
-url_at earlier request = url_in request
+url_at earlier request = of_shape (shape_of request)
+  where
+    of_shape : Shape → Option (List ℕ)
+    of_shape (Shape.Stores url body durable) = Some url
+    of_shape (Shape.Reads url) = Some url
+    of_shape (Shape.Purges url) = Some url
+    of_shape (Shape.Begins tab url body) = Some url
+    of_shape (Shape.Opens tab url) = Some url
+    of_shape (Shape.WritesOn tab) = url_named (writing tab earlier)
+    of_shape (Shape.ReadsOn tab) = url_named (reading tab earlier)
+    of_shape (Shape.AtMark mark) = None
 
 -- the anchor a is that of this URL, if there is one
 pub record IsAnchorOf (anchors : ℕ) (named : Option (List ℕ)) (a : ℕ) : Type 0 where
@@ -122,13 +144,17 @@ IsAt anchors earlier s a = IsAnchorOf anchors (url_at earlier s.line.request) a
 
 -- the line that began what a line writes: it does so itself, or its tab's first line did
 abbrev pub begun_of : List Served → Served → Request → Option Served
-begun_of earlier s (Put url body) = Some s
-begun_of earlier s (Save url body) = Some s
-begun_of earlier s (Begin tab url body) = Some s
-begun_of earlier s (Add tab count) = writing tab earlier
-begun_of earlier s (End tab) = writing tab earlier
-begun_of earlier s (DropTab tab) = writing tab earlier
-begun_of earlier s _ = None
+begun_of earlier s request = of_shape (shape_of request)
+  where
+    of_shape : Shape → Option Served
+    of_shape (Shape.Stores url body durable) = Some s
+    of_shape (Shape.Reads url) = None
+    of_shape (Shape.Purges url) = None
+    of_shape (Shape.Begins tab url body) = Some s
+    of_shape (Shape.Opens tab url) = None
+    of_shape (Shape.WritesOn tab) = writing tab earlier
+    of_shape (Shape.ReadsOn tab) = None
+    of_shape (Shape.AtMark mark) = None
 
 abbrev pub begun_by : List Served → Served → Option Served
 begun_by earlier s = begun_of earlier s s.line.request
@@ -150,32 +176,38 @@ gives_up a = is_refused a || is_dropped a
 
 -- the line that opened what a line reads: it does so itself, or its tab's first line did
 abbrev pub opened_of : List Served → Served → Request → Option Served
-opened_of earlier s (Get url) = Some s
-opened_of earlier s (OpenTab tab url) = Some s
-opened_of earlier s (More tab) = reading tab earlier
-opened_of earlier s (CloseTab tab) = reading tab earlier
-opened_of earlier s _ = None
+opened_of earlier s request = of_shape (shape_of request)
+  where
+    of_shape : Shape → Option Served
+    of_shape (Shape.Stores url body durable) = None
+    of_shape (Shape.Reads url) = Some s
+    of_shape (Shape.Purges url) = None
+    of_shape (Shape.Begins tab url body) = None
+    of_shape (Shape.Opens tab url) = Some s
+    of_shape (Shape.WritesOn tab) = None
+    of_shape (Shape.ReadsOn tab) = reading tab earlier
+    of_shape (Shape.AtMark mark) = None
 
 abbrev pub opened_by : List Served → Served → Option Served
 opened_by earlier s = opened_of earlier s s.line.request
 
 -- the tab of a request is as the request needs it
 abbrev pub Fits : List Served → Request → Type 0
-Fits earlier (Begin tab url body) = (writing tab earlier ≡ None) × (reading tab earlier ≡ None)
-Fits earlier (OpenTab tab url) = (writing tab earlier ≡ None) × (reading tab earlier ≡ None)
-Fits earlier (Add tab count) = writing tab earlier ≢ None
-Fits earlier (End tab) = writing tab earlier ≢ None
-Fits earlier (DropTab tab) = writing tab earlier ≢ None
-Fits earlier (More tab) = reading tab earlier ≢ None
-Fits earlier (CloseTab tab) = reading tab earlier ≢ None
-Fits earlier _ = Unit {0}
+Fits earlier request = of_shape (shape_of request)
+  where
+    of_shape : Shape → Type 0
+    of_shape (Shape.Stores url body durable) = Unit {0}
+    of_shape (Shape.Reads url) = Unit {0}
+    of_shape (Shape.Purges url) = Unit {0}
+    of_shape (Shape.Begins tab url body) = (writing tab earlier ≡ None) × (reading tab earlier ≡ None)
+    of_shape (Shape.Opens tab url) = (writing tab earlier ≡ None) × (reading tab earlier ≡ None)
+    of_shape (Shape.WritesOn tab) = writing tab earlier ≢ None
+    of_shape (Shape.ReadsOn tab) = reading tab earlier ≢ None
+    of_shape (Shape.AtMark mark) = Unit {0}
 
 -- the request offers this body under this URL
 abbrev pub Offers : Request → List ℕ → Body → Type 0
-Offers (Put u b) url body = (u ≡ url) × (b ≡ body)
-Offers (Save u b) url body = (u ≡ url) × (b ≡ body)
-Offers (Begin tab u b) url body = (u ≡ url) × (b ≡ body)
-Offers _ url body = ⊥
+Offers request url body = OffersBody request url body
 
 -- How many bytes lines gave and took.
 

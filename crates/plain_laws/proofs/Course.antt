@@ -3,6 +3,7 @@ use Rattle.std.proofs.Common.{◌≡◌, ◌⊎◌, inl, inr, ◌∙◌, ℕ, �
 use Rattle.std.specs.Prelude.{Option, Some, None}
 use Rattle.store_key.specs.Key.{key_of}
 use Rattle.store_key.specs.Anchor.{anchor_of}
+use Rattle.script_text.specs.Requests.{OffersBody}
 use Rattle.script_text.specs.declared.answer.Answer.{Answer}
 use Rattle.script_text.specs.declared.body.Body.{Body}
 use Rattle.script_text.specs.declared.line.Line.{Line}
@@ -15,7 +16,7 @@ use Rattle.plain_model.specs.Store.{entry_at}
 use Rattle.plain_model.specs.Writing.{Step, taken_by, entry_of}
 use Rattle.plain_model.specs.Serving.{bytes_of, serve, answers, after}
 use Rattle.plain_laws.specs.Kept.{SameOffer, IsLeft, Keeps}
-use Rattle.plain_laws.specs.Offered.{Offers, IsOffered, IsOfStore, HasOrigin}
+use Rattle.plain_laws.specs.Offered.{IsOffered, IsOfStore, HasOrigin}
 use Rattle.plain_laws.specs.Begun.{begun_by, begun, RiseAbove}
 use Rattle.plain_laws.proofs.Keeping.{same_offer}
 use Rattle.plain_laws.proofs.Beginning.{set_there}
@@ -57,14 +58,14 @@ begun_or_old tab a anchor e d p is =
       | inr h ↦ inr (sym (ap (λ (x : Place). x.entry) h) ∙ is)
     ]
 
-offered_by : (s : Setting) (line : Line) (url : List ℕ) (made : Body) (anchor : ℕ) (d e : Entry) → Offers line.request url made → anchor ≡ anchor_of (key_of url) s.anchors
+offered_by : (s : Setting) (line : Line) (url : List ℕ) (made : Body) (anchor : ℕ) (d e : Entry) → OffersBody line.request url made → anchor ≡ anchor_of (key_of url) s.anchors
     → entry_of url (bytes_of made) (s.slots + line.number) ≡ d → SameOffer d e → IsOffered s anchor line e
 offered_by s line url made anchor d e offers at is same =
     let u : e.url ≡ url = same.url ∙ sym (ap (λ (x : Entry). x.url) is) in
     let k : e.key ≡ key_of url = same.key ∙ sym (ap (λ (x : Entry). x.key) is) in
     record {
       made = made;
-      offers = subst (λ (x : List ℕ). Offers line.request x made) (sym u) offers;
+      offers = subst (λ (x : List ℕ). OffersBody line.request x made) (sym u) offers;
       body = same.body ∙ sym (ap (λ (x : Entry). x.body) is);
       key = k ∙ sym (ap key_of u);
       at = at ∙ sym (ap (λ (x : List ℕ). anchor_of x s.anchors) k);
@@ -98,7 +99,7 @@ later s line p q anchor e lines step (inr h) =
         among = first line lines;
         offered = record {
           made = o.made;
-          offers = subst (λ (x : List ℕ). Offers line.request x o.made) (sym h.same.url) o.offers;
+          offers = subst (λ (x : List ℕ). OffersBody line.request x o.made) (sym h.same.url) o.offers;
           body = h.same.body ∙ o.body;
           key = h.same.key ∙ (o.key ∙ ap key_of (sym h.same.url));
           at = o.at ∙ ap (λ (x : List ℕ). anchor_of x s.anchors) (sym h.same.key);

@@ -3,7 +3,7 @@ use Rattle.std.proofs.Common.{◌≡◌, ◌∙◌, ℕ, List, [], ◌∷◌, �
 use Rattle.std.proofs.lemmas.List.{map-append}
 use Rattle.script_text.specs.declared.line.Line.{Line}
 use Rattle.script_text.specs.declared.request.Request.{Request}
-use Rattle.script_text.specs.declared.request.Request.TheVariants.{Put, Save, Get, Purge, Begin, Add, End, DropTab, OpenTab, More, CloseTab, Mark, Await}
+use Rattle.script_text.specs.declared.request.Request.TheVariants.{Put, Save, Begin}
 use Rattle.script_text.specs.declared.answer.Answer.{Answer}
 use Rattle.script_text.specs.declared.answer.Answer.TheVariants as answer
 use Rattle.plain_laws.specs.Begun.{told_begun, told_stored, begun_by, begun}
@@ -22,16 +22,7 @@ by_renamed : (rename : ℕ → ℕ) (request : Request) (a : Answer) → begun_b
 by_renamed rename (Put url made) a = told_stored_renamed rename a
 by_renamed rename (Save url made) a = told_stored_renamed rename a
 by_renamed rename (Begin tab url made) a = told_begun_renamed rename a
-by_renamed rename (Get url) a = refl
-by_renamed rename (Purge url) a = refl
-by_renamed rename (Add tab count) a = refl
-by_renamed rename (End tab) a = refl
-by_renamed rename (DropTab tab) a = refl
-by_renamed rename (OpenTab tab url) a = refl
-by_renamed rename (More tab) a = refl
-by_renamed rename (CloseTab tab) a = refl
-by_renamed rename (Mark mark) a = refl
-by_renamed rename (Await mark) a = refl
+by_renamed rename _ a = refl
 
 pub begun_renamed : (rename : ℕ → ℕ) (lines : List Line) (given : List Answer) → begun lines (map (renamed rename) given) ≡ map rename (begun lines given)
 begun_renamed rename [] given = refl

@@ -3,6 +3,7 @@ use Rattle.std.proofs.Common.{◌≡◌, ◌⊎◌, inl, inr, ◌∙◌, ℕ, �
 use Rattle.std.specs.Prelude.{Option, Some, None, not}
 use Rattle.store_key.specs.Key.{key_of}
 use Rattle.store_key.specs.Anchor.{anchor_of}
+use Rattle.script_text.specs.Tabs.{IsOnTab}
 use Rattle.script_text.specs.declared.line.Line.{Line}
 use Rattle.script_text.specs.declared.request.Request.{Request}
 use Rattle.script_text.specs.declared.request.Request.TheVariants.{Put, Save, Get, Purge, Begin, Add, End, DropTab, OpenTab, More, CloseTab, Mark, Await}
@@ -22,7 +23,6 @@ use Rattle.plain_model.specs.Slots.{Grown}
 use Rattle.plain_model.specs.Writing.{Step, settle, close_writer, lacking, append, taken_by, entry_of, unless_refused, last_slot, finish, end}
 use Rattle.plain_model.specs.Reading.{judge, has_url, more, close, doom_at, purge_at}
 use Rattle.plain_model.specs.Serving.{bytes_of, put, get, serve}
-use Rattle.plain_laws.specs.Private.{IsOnTab}
 use Rattle.plain_laws.proofs.Choosing.{either}
 use Rattle.plain_laws.proofs.Looking.{Opens, opens}
 use Rattle.plain_laws.proofs.Beginning.{BeginsAs, begins, set_here}

@@ -3,13 +3,14 @@ use Rattle.std.proofs.Common.{◌≡◌, ◌⊎◌, inl, inr, ◌∙◌, ℕ, le
 use Rattle.std.specs.Prelude.{◌==◌}
 use Rattle.std.proofs.lemmas.Bool.Decides.{nat_tests}
 use Rattle.script_text.specs.declared.request.Request.{Request}
-use Rattle.script_text.specs.declared.request.Request.TheVariants.{Put, Save, Get, Purge, Begin, Add, End, DropTab, OpenTab, More, CloseTab, Mark, Await}
+use Rattle.script_text.specs.declared.request.Request.TheVariants.{Put, Save, Get, Purge, Begin, Add, End, DropTab, OpenTab, More, CloseTab}
 use Rattle.plain_model.specs.declared.store.Setting.{Setting}
 use Rattle.plain_model.specs.declared.store.Tab.{Tab}
 use Rattle.plain_model.specs.declared.store.Tab.TheVariants.{Free}
 use Rattle.plain_model.specs.declared.store.Plain.{Plain}
 use Rattle.plain_model.specs.Store.{tab_at}
 use Rattle.plain_model.specs.Writing.{Step}
+use Rattle.plain_laws.specs.Fitting.{Names}
 use Rattle.plain_laws.specs.Private.{is_of}
 use Rattle.plain_laws.proofs.Staying.{Stays}
 use Rattle.plain_laws.proofs.Roomed.{Outcome, IsAt}
@@ -67,47 +68,38 @@ tab_elsewhere rename own mine tab a p q h off at = h.left tab a at ∙ off
 last_at : (a : ℕ) (p : Plain) → tab_at p 7 ≡ Free → IsAt a (tab_at p 7) → ⊥
 last_at a p free at = subst (λ (t : Tab). IsAt a t) free at
 
+-- a request that is not own uses the tab of whole requests, or one that is not mine
+off_tab : (own mine : ℕ → Bool) (s : Setting) (request : Request) → is_of s own mine request ≡ false → (tab_of request ≡ 7) ⊎ (mine (tab_of request) ≡ false)
+off_tab own mine s (Begin tab url made) off = inr off
+off_tab own mine s (OpenTab tab url) off = inr off
+off_tab own mine s (Add tab count) off = inr off
+off_tab own mine s (End tab) off = inr off
+off_tab own mine s (DropTab tab) off = inr off
+off_tab own mine s (More tab) off = inr off
+off_tab own mine s (CloseTab tab) off = inr off
+off_tab own mine s _ off = inl refl
+
+-- the URL that it names is of another's anchor
+off_url : (own mine : ℕ → Bool) (s : Setting) (request : Request) (a : ℕ) → is_of s own mine request ≡ false → Sorts s own mine request → Names s a request → own a ≡ false
+off_url own mine s (Put url made) a off sorts named = ap own (sym named) ∙ off
+off_url own mine s (Save url made) a off sorts named = ap own (sym named) ∙ off
+off_url own mine s (Get url) a off sorts named = ap own (sym named) ∙ off
+off_url own mine s (Purge url) a off sorts named = ap own (sym named) ∙ off
+off_url own mine s (Begin tab url made) a off sorts named = ap own (sym named) ∙ (sorts ∙ off)
+off_url own mine s (OpenTab tab url) a off sorts named = ap own (sym named) ∙ (sorts ∙ off)
+off_url own mine s _ a off sorts named = absurd named
+
 pub elsewhere : (rename : ℕ → ℕ) (own mine : ℕ → Bool) (s : Setting) (request : Request) (p q : Plain) → Agree rename own mine p q → tab_at p 7 ≡ Free → is_of s own mine request ≡ false → Sorts s own mine request
     → (a : ℕ) → Because s p request a → own a ≡ false
-elsewhere rename own mine s (Put url made) p q h free off sorts a (inl named) = ap own (sym named) ∙ off
-elsewhere rename own mine s (Save url made) p q h free off sorts a (inl named) = ap own (sym named) ∙ off
-elsewhere rename own mine s (Get url) p q h free off sorts a (inl named) = ap own (sym named) ∙ off
-elsewhere rename own mine s (Purge url) p q h free off sorts a (inl named) = ap own (sym named) ∙ off
-elsewhere rename own mine s (Begin tab url made) p q h free off sorts a (inl named) = ap own (sym named) ∙ (sorts ∙ off)
-elsewhere rename own mine s (OpenTab tab url) p q h free off sorts a (inl named) = ap own (sym named) ∙ (sorts ∙ off)
-elsewhere rename own mine s (Add tab count) p q h free off sorts a (inl named) = absurd named
-elsewhere rename own mine s (End tab) p q h free off sorts a (inl named) = absurd named
-elsewhere rename own mine s (DropTab tab) p q h free off sorts a (inl named) = absurd named
-elsewhere rename own mine s (More tab) p q h free off sorts a (inl named) = absurd named
-elsewhere rename own mine s (CloseTab tab) p q h free off sorts a (inl named) = absurd named
-elsewhere rename own mine s (Mark mark) p q h free off sorts a (inl named) = absurd named
-elsewhere rename own mine s (Await mark) p q h free off sorts a (inl named) = absurd named
-elsewhere rename own mine s (Put url made) p q h free off sorts a (inr at) = absurd (last_at a p free at)
-elsewhere rename own mine s (Save url made) p q h free off sorts a (inr at) = absurd (last_at a p free at)
-elsewhere rename own mine s (Get url) p q h free off sorts a (inr at) = absurd (last_at a p free at)
-elsewhere rename own mine s (Purge url) p q h free off sorts a (inr at) = absurd (last_at a p free at)
-elsewhere rename own mine s (Begin tab url made) p q h free off sorts a (inr at) = tab_elsewhere rename own mine tab a p q h off at
-elsewhere rename own mine s (OpenTab tab url) p q h free off sorts a (inr at) = tab_elsewhere rename own mine tab a p q h off at
-elsewhere rename own mine s (Add tab count) p q h free off sorts a (inr at) = tab_elsewhere rename own mine tab a p q h off at
-elsewhere rename own mine s (End tab) p q h free off sorts a (inr at) = tab_elsewhere rename own mine tab a p q h off at
-elsewhere rename own mine s (DropTab tab) p q h free off sorts a (inr at) = tab_elsewhere rename own mine tab a p q h off at
-elsewhere rename own mine s (More tab) p q h free off sorts a (inr at) = tab_elsewhere rename own mine tab a p q h off at
-elsewhere rename own mine s (CloseTab tab) p q h free off sorts a (inr at) = tab_elsewhere rename own mine tab a p q h off at
-elsewhere rename own mine s (Mark mark) p q h free off sorts a (inr at) = absurd (last_at a p free at)
-elsewhere rename own mine s (Await mark) p q h free off sorts a (inr at) = absurd (last_at a p free at)
+elsewhere rename own mine s request p q h free off sorts a (inl named) = off_url own mine s request a off sorts named
+elsewhere rename own mine s request p q h free off sorts a (inr at) = elim (off_tab own mine s request off) [
+  | inl last ↦ absurd (last_at a p free (subst (λ (tab : ℕ). IsAt a (tab_at p tab)) last at))
+  | inr other ↦ tab_elsewhere rename own mine (tab_of request) a p q h other at
+]
 
 -- the tab of such a line is an other's, or the last one, which is free again
 pub spares : (own mine : ℕ → Bool) (s : Setting) (request : Request) (p : Plain) (r : Step) → is_of s own mine request ≡ false → tab_at r.after 7 ≡ tab_at p 7 → Spares mine (tab_of request) p r
-spares own mine s (Put url made) p r off same = inr same
-spares own mine s (Save url made) p r off same = inr same
-spares own mine s (Get url) p r off same = inr same
-spares own mine s (Purge url) p r off same = inr same
-spares own mine s (Mark mark) p r off same = inr same
-spares own mine s (Await mark) p r off same = inr same
-spares own mine s (Begin tab url made) p r off same = inl off
-spares own mine s (OpenTab tab url) p r off same = inl off
-spares own mine s (Add tab count) p r off same = inl off
-spares own mine s (End tab) p r off same = inl off
-spares own mine s (DropTab tab) p r off same = inl off
-spares own mine s (More tab) p r off same = inl off
-spares own mine s (CloseTab tab) p r off same = inl off
+spares own mine s request p r off same = elim (off_tab own mine s request off) [
+  | inl last ↦ inr (subst (λ (tab : ℕ). tab_at r.after tab ≡ tab_at p tab) (sym last) same)
+  | inr other ↦ inl other
+]

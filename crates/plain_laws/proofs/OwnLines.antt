@@ -1,5 +1,6 @@
 -- Own lines are answered alike by stores that agree and have room.
 use Rattle.std.proofs.Common.{◌≡◌, ◌∙◌, ℕ, ◌+◌, ◌<◌, ◌≤◌, List, refl, Bool, true, false}
+use Rattle.script_text.specs.Requests.{offers_body}
 use Rattle.script_text.specs.declared.line.Line.{Line}
 use Rattle.script_text.specs.declared.request.Request.{Request}
 use Rattle.script_text.specs.declared.request.Request.TheVariants.{Put, Save, Get, Purge, Begin, Add, End, DropTab, OpenTab, More, CloseTab, Mark, Await}
@@ -10,7 +11,7 @@ use Rattle.plain_model.specs.Store.{tab_at}
 use Rattle.plain_model.specs.Writing.{Step, add, end, give_up}
 use Rattle.plain_model.specs.Reading.{open_tab, more, close, purge}
 use Rattle.plain_model.specs.Serving.{bytes_of, get, serve}
-use Rattle.plain_laws.specs.Fitting.{need_at, offers_body}
+use Rattle.plain_laws.specs.Fitting.{need_at}
 use Rattle.plain_laws.specs.Kept.{Keeps}
 use Rattle.plain_laws.specs.Private.{url_anchor, is_of}
 use Rattle.plain_laws.proofs.Keeping.{keeps_add, keeps_end, keeps_give_up}

@@ -2,6 +2,8 @@
 use Rattle.std.proofs.Common.{◌≡◌, ◌⊎◌, inl, inr, ◌∙◌, ℕ, ◌+◌, ◌<◌, ◌≤◌, List, [], ◌∷◌, ◌++◌, refl, sym, ap, subst, arith, Bool, true, false, cond, map}
 use Rattle.std.specs.Prelude.{◌==◌, filter}
 use Rattle.std.proofs.lemmas.Bool.Decides.{nat_tests}
+use Rattle.script_text.specs.Tabs.{IsOnTab}
+use Rattle.script_text.specs.Requests.{offers_body}
 use Rattle.script_text.specs.declared.answer.Answer.{Answer}
 use Rattle.script_text.specs.declared.line.Line.{Line}
 use Rattle.plain_model.specs.declared.store.Setting.{Setting}
@@ -11,9 +13,9 @@ use Rattle.plain_model.specs.Store.{tab_at}
 use Rattle.plain_model.specs.Writing.{Step}
 use Rattle.plain_model.specs.Serving.{serve, answers, after}
 use Rattle.plain_laws.specs.Begun.{RiseAbove}
-use Rattle.plain_laws.specs.Fitting.{need_at, offers_body}
+use Rattle.plain_laws.specs.Fitting.{need_at}
 use Rattle.plain_laws.specs.Renaming.{renamed}
-use Rattle.plain_laws.specs.Private.{is_of, answers_to, IsOnTab}
+use Rattle.plain_laws.specs.Private.{is_of, answers_to}
 use Rattle.plain_laws.proofs.Serving.{Effect, effect, anchors_stay}
 use Rattle.plain_laws.proofs.Course.{rise_told}
 use Rattle.plain_laws.proofs.Roomed.{Outcome, InRoom}

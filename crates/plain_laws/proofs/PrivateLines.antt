@@ -5,9 +5,10 @@ use Rattle.std.specs.List.{range_with_len, list_all}
 use Rattle.std.proofs.lemmas.Bool.Decides.{nat_tests}
 use Rattle.std.proofs.lemmas.List.Elements.{All-weaker, All-contains, All-contains_itself}
 use Rattle.std.proofs.lemmas.List.Sums.{AllPass-from_list_all, list_all-from_AllPass}
+use Rattle.script_text.specs.Tabs.{IsOnTab}
 use Rattle.script_text.specs.declared.line.Line.{Line}
 use Rattle.script_text.specs.declared.request.Request.{Request}
-use Rattle.script_text.specs.declared.request.Request.TheVariants.{Put, Save, Get, Purge, Begin, Add, End, DropTab, OpenTab, More, CloseTab, Mark, Await}
+use Rattle.script_text.specs.declared.request.Request.TheVariants.{Begin, OpenTab}
 use Rattle.plain_model.specs.declared.store.Setting.{Setting}
 use Rattle.plain_model.specs.declared.store.Plain.{Plain}
 use Rattle.plain_model.specs.Store.{place_at, tab_at}
@@ -15,7 +16,7 @@ use Rattle.plain_model.specs.Serving.{answers, after, lines_for}
 use Rattle.plain_laws.specs.Begun.{begun}
 use Rattle.plain_laws.specs.Fitting.{most_held, Fits, IsAtRest}
 use Rattle.plain_laws.specs.Renaming.{IsRenaming, CountsVersions}
-use Rattle.plain_laws.specs.Private.{names_only, takes, is_private_anchor, is_private_tab, is_private, private_lines, IsOnTab, OpenOnly, TabsApart, AnswersAlone}
+use Rattle.plain_laws.specs.Private.{names_only, takes, is_private_anchor, is_private_tab, is_private, private_lines, OpenOnly, TabsApart, AnswersAlone}
 use Rattle.plain_laws.proofs.Course.{first, further}
 use Rattle.plain_laws.proofs.Running.{not_at, room_at_rest, all_needed}
 use Rattle.plain_laws.proofs.Agreeing.{Agree}
@@ -64,17 +65,7 @@ sorts : (s : Setting) (own : ℕ → Bool) (lines : List Line) (worker number : 
     → ((tab : ℕ) → OpenOnly s own tab lines ⊎ OpenOnly s (λ a. not (own a)) tab lines) → Sorts s own (λ tab. list_all (only_opens s own tab) lines) request
 sorts s own lines w n (Begin tab url made) among apart = opens_alike s own tab lines (record { worker = w; number = n; request = Begin tab url made }) among (same_number tab) _ _ refl refl (apart tab) refl
 sorts s own lines w n (OpenTab tab url) among apart = opens_alike s own tab lines (record { worker = w; number = n; request = OpenTab tab url }) among (same_number tab) _ _ refl refl (apart tab) refl
-sorts s own lines w n (Put url made) among apart = tt
-sorts s own lines w n (Save url made) among apart = tt
-sorts s own lines w n (Get url) among apart = tt
-sorts s own lines w n (Purge url) among apart = tt
-sorts s own lines w n (Add tab count) among apart = tt
-sorts s own lines w n (End tab) among apart = tt
-sorts s own lines w n (DropTab tab) among apart = tt
-sorts s own lines w n (More tab) among apart = tt
-sorts s own lines w n (CloseTab tab) among apart = tt
-sorts s own lines w n (Mark mark) among apart = tt
-sorts s own lines w n (Await mark) among apart = tt
+sorts s own lines w n _ among apart = tt
 
 all_sorted : (s : Setting) (own mine : ℕ → Bool) (lines : List Line) → ((line : Line) → Contains lines line → Sorts s own mine line.request) → ((line : Line) → Contains lines line → IsOnTab line.request) → AllSorted s own mine lines
 all_sorted s own mine [] h k = tt
@@ -91,17 +82,7 @@ never_last tab h = grind (arith, nat_tests)
 last_not_taken : (request : Request) → IsOnTab request → takes 7 request ≡ false
 last_not_taken (Begin tab url made) on = never_last tab on
 last_not_taken (OpenTab tab url) on = never_last tab on
-last_not_taken (Put url made) on = refl
-last_not_taken (Save url made) on = refl
-last_not_taken (Get url) on = refl
-last_not_taken (Purge url) on = refl
-last_not_taken (Add tab count) on = refl
-last_not_taken (End tab) on = refl
-last_not_taken (DropTab tab) on = refl
-last_not_taken (More tab) on = refl
-last_not_taken (CloseTab tab) on = refl
-last_not_taken (Mark mark) on = refl
-last_not_taken (Await mark) on = refl
+last_not_taken _ on = refl
 
 last_private : (s : Setting) (script : List Line) (worker : ℕ) → TabsApart s script worker → is_private_tab s script worker 7 ≡ true
 last_private s script worker h = all_of (only_opens s (is_private_anchor s script worker) 7) (lines_for worker script)

@@ -18,6 +18,8 @@ use Rattle.std.proofs.lemmas.List.Sums.{sum_by-cons}
 use Rattle.std.proofs.Common.{length-set}
 use Rattle.store_key.specs.Key.{key_of}
 use Rattle.store_key.specs.Anchor.{anchor_of}
+use Rattle.script_text.specs.Shapes.{Shape, shape_of}
+use Rattle.script_text.specs.Requests.{offers_body, OffersBody}
 use Rattle.script_text.specs.declared.answer.Answer.TheVariants as answer
 use Rattle.script_text.specs.declared.line.Line.{Line}
 use Rattle.script_text.specs.declared.request.Request.{Request}
@@ -26,7 +28,7 @@ use Rattle.plain_model.specs.Store.{meta_size, is_vacant_at, is_idle_at}
 use Rattle.plain_model.specs.Writing.{Step, step, taken_by, entry_of, begin, add, end, give_up}
 use Rattle.plain_model.specs.Reading.{open_tab, told, more, close, purge}
 use Rattle.plain_model.specs.Serving.{bytes_of, put, get, serve, answers, after, is_set_before}
-use Rattle.plain_laws.specs.Fitting.{need, need_if_at, need_at, most_needed, most_held, offers_body, Fits, IsAtRest, Names, NamesNone, HadRoom, RunsInRoom}
+use Rattle.plain_laws.specs.Fitting.{need, need_if_at, need_at, most_needed, most_held, Fits, IsAtRest, Names, NamesNone, HadRoom, RunsInRoom}
 use Rattle.plain_laws.specs.Holding.{HoldsItsSlots}
 use Rattle.plain_laws.proofs.Staying.{IsOn, stays_taken}
 use Rattle.plain_laws.proofs.Fitted.{Sized, PlaceFits}
@@ -34,7 +36,6 @@ use Rattle.plain_laws.proofs.Roomed.{Outcome, IsAt, InRoom, fits_changed, add_ro
 use Rattle.plain_laws.proofs.Beginning.{BeginsAs, begins, set_here}
 use Rattle.plain_laws.proofs.Looking.{opens}
 use Rattle.script_text.specs.declared.body.Body.{Body}
-use Rattle.plain_laws.specs.Offered.{Offers}
 use Rattle.plain_laws.proofs.Alone.{all_caps}
 use Rattle.plain_laws.proofs.Held.{new_holds_none, taken_holds, able_not, serve_holds, anchor_inside}
 use Rattle.plain_laws.proofs.Serving.{Effect, effect, anchors_stay}
@@ -130,19 +131,17 @@ put_room s cap url body offer p h below le (BeginsAs.begun t fits able e) = rw e
 
 -- the tab that a request is on: that of whole requests where it names none
 abbrev pub tab_of : Request → ℕ
-tab_of (Put url made) = 7
-tab_of (Save url made) = 7
-tab_of (Get url) = 7
-tab_of (Purge url) = 7
-tab_of (Begin tab url made) = tab
-tab_of (Add tab count) = tab
-tab_of (End tab) = tab
-tab_of (DropTab tab) = tab
-tab_of (OpenTab tab url) = tab
-tab_of (More tab) = tab
-tab_of (CloseTab tab) = tab
-tab_of (Mark mark) = 7
-tab_of (Await mark) = 7
+tab_of request = of_shape (shape_of request)
+  where
+    of_shape : Shape → ℕ
+    of_shape (Shape.Stores url body durable) = 7
+    of_shape (Shape.Reads url) = 7
+    of_shape (Shape.Purges url) = 7
+    of_shape (Shape.Begins tab url body) = tab
+    of_shape (Shape.Opens tab url) = tab
+    of_shape (Shape.WritesOn tab) = tab
+    of_shape (Shape.ReadsOn tab) = tab
+    of_shape (Shape.AtMark mark) = 7
 
 -- why a request moves an anchor: it names it, or its tab is there
 abbrev pub Because : Setting → Plain → Request → ℕ → Type 0
@@ -236,20 +235,11 @@ hand_of s cap tab p W r (Outcome.still e fine) = ap (λ (q : Plain). q.hand) e
 hand_of s cap tab p W r (Outcome.moved a why stays place fine) = stays.hand
 
 -- the counter rises by what a line offers
-offered_one : (line : Line) (url : List ℕ) (made : Body) → (r : Request) → r ≡ line.request → Offers r url made → offers_body r ≡ true
+offered_one : (line : Line) (url : List ℕ) (made : Body) → (r : Request) → r ≡ line.request → OffersBody r url made → offers_body r ≡ true
 offered_one line url made (Put u b) e o = refl
 offered_one line url made (Save u b) e o = refl
 offered_one line url made (Begin tab u b) e o = refl
-offered_one line url made (Get u) e o = absurd o
-offered_one line url made (Purge u) e o = absurd o
-offered_one line url made (Add tab count) e o = absurd o
-offered_one line url made (End tab) e o = absurd o
-offered_one line url made (DropTab tab) e o = absurd o
-offered_one line url made (OpenTab tab u) e o = absurd o
-offered_one line url made (More tab) e o = absurd o
-offered_one line url made (CloseTab tab) e o = absurd o
-offered_one line url made (Mark mark) e o = absurd o
-offered_one line url made (Await mark) e o = absurd o
+offered_one line url made _ e o = absurd o
 
 abbrev pub one_if : Bool → ℕ
 one_if b = cond b 1 0

@@ -3,6 +3,7 @@ use Rattle.std.proofs.Common.{◌≡◌, ◌⊎◌, inl, inr, ◌∙◌, ℕ, �
 use Rattle.std.specs.Prelude.{Some, None}
 use Rattle.store_key.specs.Key.{key_of}
 use Rattle.store_key.specs.Anchor.{anchor_of}
+use Rattle.script_text.specs.Requests.{OffersBody}
 use Rattle.script_text.specs.declared.body.Body.{Body}
 use Rattle.script_text.specs.declared.line.Line.{Line}
 use Rattle.script_text.specs.declared.request.Request.{Request}
@@ -18,7 +19,6 @@ use Rattle.plain_model.specs.Store.{place_at, entry_at, tab_at}
 use Rattle.plain_model.specs.Writing.{Step, begin, taken_by, entry_of}
 use Rattle.plain_model.specs.Serving.{bytes_of, put, serve}
 use Rattle.plain_laws.specs.Kept.{Keeps, Begins}
-use Rattle.plain_laws.specs.Offered.{Offers}
 use Rattle.plain_laws.specs.Begun.{told_begun, told_stored, begun_by}
 use Rattle.plain_laws.proofs.Keeping.{keeps_refl, keeps_add, keeps_end, keeps_give_up}
 use Rattle.plain_laws.proofs.Looking.{keeps_open, keeps_more, keeps_close, keeps_purge, keeps_get}
@@ -28,7 +28,7 @@ use Rattle.plain_laws.proofs.Ending.{TellsAtMost, end_tells}
 -- nothing begins and none is told, or one begins, and none or that one is told
 pub data Effect (s : Setting) (line : Line) (p : Plain) (r : Step) : Type 0 where
   kept : Keeps p r.after → begun_by line.request r.answer ≡ [] → Effect s line p r
-  began : (tab : ℕ) (url : List ℕ) (made : Body) → Offers line.request url made → Begins s tab url (bytes_of made) (s.slots + line.number) p r.after
+  began : (tab : ℕ) (url : List ℕ) (made : Body) → OffersBody line.request url made → Begins s tab url (bytes_of made) (s.slots + line.number) p r.after
       → (begun_by line.request r.answer ≡ []) ⊎ (begun_by line.request r.answer ≡ (p.counter + 1) ∷ []) → Effect s line p r
 
 one_tab : (a b : ℕ) (t : Tab) → t ≡ Writing b → (t ≡ Writing a) ⊎ (t ≡ Free) → a ≡ b

@@ -1,8 +1,8 @@
 -- The versions that lines begin.
 use Rattle.std.specs.Prelude.{ℕ, ◌<◌, List, [], ◌∷◌, ◌++◌}
+use Rattle.script_text.specs.Shapes.{Shape, shape_of}
 use Rattle.script_text.specs.declared.line.Line.{Line}
 use Rattle.script_text.specs.declared.request.Request.{Request}
-use Rattle.script_text.specs.declared.request.Request.TheVariants.{Put, Save, Get, Purge, Begin, Add, End, DropTab, OpenTab, More, CloseTab, Mark, Await}
 use Rattle.script_text.specs.declared.answer.Answer.{Answer}
 use Rattle.script_text.specs.declared.answer.Answer.TheVariants as answer
 
@@ -19,19 +19,17 @@ told_stored other = []
 
 -- the version that a line begins, as its answer tells it
 abbrev pub begun_by : Request → Answer → List ℕ
-begun_by (Put url body) a = told_stored a
-begun_by (Save url body) a = told_stored a
-begun_by (Get url) a = []
-begun_by (Purge url) a = []
-begun_by (Begin tab url body) a = told_begun a
-begun_by (Add tab count) a = []
-begun_by (End tab) a = []
-begun_by (DropTab tab) a = []
-begun_by (OpenTab tab url) a = []
-begun_by (More tab) a = []
-begun_by (CloseTab tab) a = []
-begun_by (Mark mark) a = []
-begun_by (Await mark) a = []
+begun_by request a = of_shape (shape_of request)
+  where
+    of_shape : Shape → List ℕ
+    of_shape (Shape.Stores url body durable) = told_stored a
+    of_shape (Shape.Reads url) = []
+    of_shape (Shape.Purges url) = []
+    of_shape (Shape.Begins tab url body) = told_begun a
+    of_shape (Shape.Opens tab url) = []
+    of_shape (Shape.WritesOn tab) = []
+    of_shape (Shape.ReadsOn tab) = []
+    of_shape (Shape.AtMark mark) = []
 
 -- the versions that lines begin, by their answers
 abbrev pub begun : List Line → List Answer → List ℕ

@@ -1,13 +1,14 @@
 -- Scripts that fit into a store.
-use Rattle.std.specs.Prelude.{◌≡◌, ℕ, ◌+◌, ◌≤◌, ◌==◌, List, [], ◌∷◌, length, sum_by, count_by, All, min, max, nat_lt, if◌then◌else◌, Bool, true, false}
+use Rattle.std.specs.Prelude.{◌≡◌, ℕ, ◌+◌, ◌≤◌, ◌==◌, List, [], ◌∷◌, length, sum_by, count_by, All, min, max, nat_lt, if◌then◌else◌, Option, Some, None}
 use Rattle.std.specs.List.{range_with_len}
 use Rattle.store_key.specs.Key.{key_of}
 use Rattle.store_key.specs.Anchor.{anchor_of}
+use Rattle.script_text.specs.Shapes.{Shape, shape_of}
+use Rattle.script_text.specs.Requests.{url_in, offers_body}
 use Rattle.script_text.specs.declared.answer.Answer.{Answer}
 use Rattle.script_text.specs.declared.answer.Answer.TheVariants as answer
 use Rattle.script_text.specs.declared.line.Line.{Line}
 use Rattle.script_text.specs.declared.request.Request.{Request}
-use Rattle.script_text.specs.declared.request.Request.TheVariants.{Put, Save, Get, Purge, Begin, Add, End, DropTab, OpenTab, More, CloseTab, Mark, Await}
 use Rattle.plain_model.specs.declared.store.Setting.{Setting}
 use Rattle.plain_model.specs.declared.store.Tab.TheVariants.{Free}
 use Rattle.plain_model.specs.declared.store.Plain.{Plain}
@@ -25,19 +26,17 @@ need_if_at s anchor url body = (if anchor_of (key_of url) s.anchors == anchor th
 
 -- what a request may take at an anchor
 abbrev pub need_at : Setting → ℕ → Request → ℕ
-need_at s anchor (Put url made) = need_if_at s anchor url (bytes_of made)
-need_at s anchor (Save url made) = need_if_at s anchor url (bytes_of made)
-need_at s anchor (Get url) = 0
-need_at s anchor (Purge url) = 0
-need_at s anchor (Begin tab url made) = need_if_at s anchor url (bytes_of made)
-need_at s anchor (Add tab count) = 0
-need_at s anchor (End tab) = 0
-need_at s anchor (DropTab tab) = 0
-need_at s anchor (OpenTab tab url) = 0
-need_at s anchor (More tab) = 0
-need_at s anchor (CloseTab tab) = 0
-need_at s anchor (Mark mark) = 0
-need_at s anchor (Await mark) = 0
+need_at s anchor request = of_shape (shape_of request)
+  where
+    of_shape : Shape → ℕ
+    of_shape (Shape.Stores url made durable) = need_if_at s anchor url (bytes_of made)
+    of_shape (Shape.Reads url) = 0
+    of_shape (Shape.Purges url) = 0
+    of_shape (Shape.Begins tab url made) = need_if_at s anchor url (bytes_of made)
+    of_shape (Shape.Opens tab url) = 0
+    of_shape (Shape.WritesOn tab) = 0
+    of_shape (Shape.ReadsOn tab) = 0
+    of_shape (Shape.AtMark mark) = 0
 
 -- the most that one of these lines may take there
 abbrev pub most_needed : Setting → ℕ → List Line → ℕ
@@ -47,12 +46,6 @@ most_needed s anchor (line ∷ lines) = max (need_at s anchor line.request) (mos
 -- the most that the anchor ever holds
 abbrev pub most_held : Setting → List Line → Plain → ℕ → ℕ
 most_held s lines p anchor = max (held s.room (place_at p anchor)) (most_needed s anchor lines)
-
-abbrev pub offers_body : Request → Bool
-offers_body (Put url made) = true
-offers_body (Save url made) = true
-offers_body (Begin tab url made) = true
-offers_body _ = false
 
 -- there are slots for the most that each anchor ever holds, and versions for all that lines offer
 pub record Fits (s : Setting) (lines : List Line) (p : Plain) : Type 0 where
@@ -66,19 +59,11 @@ pub record IsAtRest (p : Plain) : Type 0 where
 
 -- the request names a URL of this anchor
 abbrev pub Names : Setting → ℕ → Request → Type 0
-Names s anchor (Put url made) = anchor_of (key_of url) s.anchors ≡ anchor
-Names s anchor (Save url made) = anchor_of (key_of url) s.anchors ≡ anchor
-Names s anchor (Get url) = anchor_of (key_of url) s.anchors ≡ anchor
-Names s anchor (Purge url) = anchor_of (key_of url) s.anchors ≡ anchor
-Names s anchor (Begin tab url made) = anchor_of (key_of url) s.anchors ≡ anchor
-Names s anchor (Add tab count) = ⊥
-Names s anchor (End tab) = ⊥
-Names s anchor (DropTab tab) = ⊥
-Names s anchor (OpenTab tab url) = anchor_of (key_of url) s.anchors ≡ anchor
-Names s anchor (More tab) = ⊥
-Names s anchor (CloseTab tab) = ⊥
-Names s anchor (Mark mark) = ⊥
-Names s anchor (Await mark) = ⊥
+Names s anchor request = of_url (url_in request)
+  where
+    of_url : Option (List ℕ) → Type 0
+    of_url (Some url) = anchor_of (key_of url) s.anchors ≡ anchor
+    of_url None = ⊥
 
 abbrev pub NamesNone : Setting → ℕ → List Line → Type 0
 NamesNone s anchor [] = Unit {0}

@@ -4,10 +4,9 @@ use Rattle.store_key.specs.Key.{key_of}
 use Rattle.store_key.specs.Anchor.{anchor_of}
 use Rattle.rebuild_model.specs.Entry.{Entry as FileEntry}
 use Rattle.rebuild_model.specs.Rebuilt.{IsWinner}
+use Rattle.script_text.specs.Requests.{OffersBody}
 use Rattle.script_text.specs.declared.body.Body.{Body}
 use Rattle.script_text.specs.declared.line.Line.{Line}
-use Rattle.script_text.specs.declared.request.Request.{Request}
-use Rattle.script_text.specs.declared.request.Request.TheVariants.{Put, Save, Get, Purge, Begin, Add, End, DropTab, OpenTab, More, CloseTab, Mark, Await}
 use Rattle.plain_model.specs.declared.entry.Entry.{Entry}
 use Rattle.plain_model.specs.declared.store.Setting.{Setting}
 use Rattle.plain_model.specs.declared.store.Plain.{Plain}
@@ -15,26 +14,10 @@ use Rattle.plain_model.specs.Store.{entry_at}
 use Rattle.plain_model.specs.Serving.{bytes_of}
 use Rattle.plain_laws.specs.Kept.{SameOffer}
 
--- the request offers this body under this URL
-abbrev pub Offers : Request → List ℕ → Body → Type 0
-Offers (Put u b) url body = (u ≡ url) × (b ≡ body)
-Offers (Save u b) url body = (u ≡ url) × (b ≡ body)
-Offers (Get u) url body = ⊥
-Offers (Purge u) url body = ⊥
-Offers (Begin tab u b) url body = (u ≡ url) × (b ≡ body)
-Offers (Add tab count) url body = ⊥
-Offers (End tab) url body = ⊥
-Offers (DropTab tab) url body = ⊥
-Offers (OpenTab tab u) url body = ⊥
-Offers (More tab) url body = ⊥
-Offers (CloseTab tab) url body = ⊥
-Offers (Mark mark) url body = ⊥
-Offers (Await mark) url body = ⊥
-
 -- the entry at this anchor is what this line offers
 pub record IsOffered (s : Setting) (anchor : ℕ) (line : Line) (e : Entry) : Type 0 where
   pub made : Body
-  pub offers : Offers line.request e.url made
+  pub offers : OffersBody line.request e.url made
   pub body : e.body ≡ bytes_of made
   pub key : e.key ≡ key_of e.url
   pub at : anchor ≡ anchor_of e.key s.anchors

@@ -1,12 +1,14 @@
 -- Anchors, tabs and lines that are one worker's own.
-use Rattle.std.specs.Prelude.{◌≡◌, ◌⊎◌, ℕ, ◌≤◌, ◌==◌, ◌||◌, List, [], ◌∷◌, map, filter, Contains, if◌then◌else◌, Bool, true, false, not}
+use Rattle.std.specs.Prelude.{◌≡◌, ◌⊎◌, ℕ, ◌≤◌, ◌==◌, ◌||◌, List, [], ◌∷◌, map, filter, Contains, if◌then◌else◌, Bool, true, false, not, Option, Some, None}
 use Rattle.std.specs.List.{range_with_len, list_all}
 use Rattle.store_key.specs.Key.{key_of}
 use Rattle.store_key.specs.Anchor.{anchor_of}
+use Rattle.script_text.specs.Shapes.{Shape, shape_of}
+use Rattle.script_text.specs.Requests.{url_in}
+use Rattle.script_text.specs.Tabs.{IsOnTab}
 use Rattle.script_text.specs.declared.answer.Answer.{Answer}
 use Rattle.script_text.specs.declared.line.Line.{Line}
 use Rattle.script_text.specs.declared.request.Request.{Request}
-use Rattle.script_text.specs.declared.request.Request.TheVariants.{Put, Save, Get, Purge, Begin, Add, End, DropTab, OpenTab, More, CloseTab, Mark, Await}
 use Rattle.plain_model.specs.declared.store.Setting.{Setting}
 use Rattle.plain_model.specs.declared.store.Plain.{Plain}
 use Rattle.plain_model.specs.Store.{place_at}
@@ -19,19 +21,25 @@ url_anchor s url = anchor_of (key_of url) s.anchors
 
 -- the anchor of the URL that a request names is one of these, if it names a URL
 abbrev pub names_only : Setting → (ℕ → Bool) → Request → Bool
-names_only s these (Put url made) = these (url_anchor s url)
-names_only s these (Save url made) = these (url_anchor s url)
-names_only s these (Get url) = these (url_anchor s url)
-names_only s these (Purge url) = these (url_anchor s url)
-names_only s these (Begin tab url made) = these (url_anchor s url)
-names_only s these (OpenTab tab url) = these (url_anchor s url)
-names_only s these _ = true
+names_only s these request = of_url (url_in request)
+  where
+    of_url : Option (List ℕ) → Bool
+    of_url (Some url) = these (url_anchor s url)
+    of_url None = true
 
 -- the request opens this tab, to write or to read
 abbrev pub takes : ℕ → Request → Bool
-takes tab (Begin on url made) = on == tab
-takes tab (OpenTab on url) = on == tab
-takes tab _ = false
+takes tab request = of_shape (shape_of request)
+  where
+    of_shape : Shape → Bool
+    of_shape (Shape.Stores url made durable) = false
+    of_shape (Shape.Reads url) = false
+    of_shape (Shape.Purges url) = false
+    of_shape (Shape.Begins on url made) = on == tab
+    of_shape (Shape.Opens on url) = on == tab
+    of_shape (Shape.WritesOn on) = false
+    of_shape (Shape.ReadsOn on) = false
+    of_shape (Shape.AtMark mark) = false
 
 -- only lines of this worker name a URL of the anchor
 abbrev pub is_private_anchor : Setting → List Line → ℕ → ℕ → Bool
@@ -43,19 +51,17 @@ is_private_tab s script worker tab = list_all (λ line. not (takes tab line.requ
 
 -- a whole request at one of these anchors, or one on one of these tabs
 abbrev pub is_of : Setting → (anchors tabs : ℕ → Bool) → Request → Bool
-is_of s anchors tabs (Put url made) = anchors (url_anchor s url)
-is_of s anchors tabs (Save url made) = anchors (url_anchor s url)
-is_of s anchors tabs (Get url) = anchors (url_anchor s url)
-is_of s anchors tabs (Purge url) = anchors (url_anchor s url)
-is_of s anchors tabs (Begin tab url made) = tabs tab
-is_of s anchors tabs (Add tab count) = tabs tab
-is_of s anchors tabs (End tab) = tabs tab
-is_of s anchors tabs (DropTab tab) = tabs tab
-is_of s anchors tabs (OpenTab tab url) = tabs tab
-is_of s anchors tabs (More tab) = tabs tab
-is_of s anchors tabs (CloseTab tab) = tabs tab
-is_of s anchors tabs (Mark mark) = false
-is_of s anchors tabs (Await mark) = false
+is_of s anchors tabs request = of_shape (shape_of request)
+  where
+    of_shape : Shape → Bool
+    of_shape (Shape.Stores url made durable) = anchors (url_anchor s url)
+    of_shape (Shape.Reads url) = anchors (url_anchor s url)
+    of_shape (Shape.Purges url) = anchors (url_anchor s url)
+    of_shape (Shape.Begins tab url made) = tabs tab
+    of_shape (Shape.Opens tab url) = tabs tab
+    of_shape (Shape.WritesOn tab) = tabs tab
+    of_shape (Shape.ReadsOn tab) = tabs tab
+    of_shape (Shape.AtMark mark) = false
 
 -- a line of the worker that is private to it
 abbrev pub is_private : Setting → List Line → ℕ → Line → Bool
@@ -69,17 +75,6 @@ abbrev pub answers_to : (Line → Bool) → List Line → List Answer → List A
 answers_to these [] given = []
 answers_to these (line ∷ lines) [] = []
 answers_to these (line ∷ lines) (a ∷ given) = (if these line then a ∷ answers_to these lines given else answers_to these lines given)
-
--- a tab that a request names is one of a script; the last one is left to whole requests
-abbrev pub IsOnTab : Request → Type 0
-IsOnTab (Begin tab url made) = tab ≤ 6
-IsOnTab (Add tab count) = tab ≤ 6
-IsOnTab (End tab) = tab ≤ 6
-IsOnTab (DropTab tab) = tab ≤ 6
-IsOnTab (OpenTab tab url) = tab ≤ 6
-IsOnTab (More tab) = tab ≤ 6
-IsOnTab (CloseTab tab) = tab ≤ 6
-IsOnTab _ = Unit {0}
 
 -- the requests that open this tab name these anchors alone
 abbrev pub OpenOnly : Setting → (ℕ → Bool) → ℕ → List Line → Type 0

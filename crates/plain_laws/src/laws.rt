@@ -1,5 +1,6 @@
 // The laws.
 ghost use Rattle.std.specs.Prelude.{◌≡◌, ◌⊎◌, ◌+◌, ◌<◌, ◌≤◌, ℕ, List, length, map, filter, All, Contains, Bool, Some};
+ghost use Rattle.script_text.specs.Tabs.{IsOnTab};
 ghost use Rattle.script_text.specs.Script.{IsScript};
 ghost use Rattle.script_text.specs.declared.line.Line.{Line};
 ghost use Rattle.script_text.specs.declared.answer.Answer.{Answer};
@@ -19,7 +20,7 @@ ghost use Rattle.plain_laws.specs.Hit.{IsHit};
 ghost use Rattle.plain_laws.specs.Holding.{HoldsItsSlots, slots_held};
 ghost use Rattle.plain_laws.specs.Fitting.{Fits, IsAtRest, RunsInRoom};
 ghost use Rattle.plain_laws.specs.Renaming.{CountsVersions};
-ghost use Rattle.plain_laws.specs.Private.{IsOnTab, TabsApart, AnswersAlone};
+ghost use Rattle.plain_laws.specs.Private.{TabsApart, AnswersAlone};
 ghost use Rattle.plain_laws.specs.Opened.{FitsFile};
 
 /// A version is begun by one line: those that lines begin rise, and are above all that were given out

@@ -5,7 +5,7 @@ use Rattle.std.specs.List.{list_any}
 use Rattle.std.proofs.lemmas.Bool.{eqb-true, le-ltb, lt-ltb}
 use Rattle.script_text.specs.declared.line.Line.{Line}
 use Rattle.script_text.specs.declared.request.Request.{Request}
-use Rattle.script_text.specs.declared.request.Request.TheVariants.{Add, Await, Begin, CloseTab, DropTab, End, Get, Mark, More, OpenTab, Purge, Put, Save}
+use Rattle.script_text.specs.declared.request.Request.TheVariants.{Mark}
 use Rattle.core_model.proofs.Lists.{cons_contains, contains_none}
 use Rattle.core_model.proofs.SlotsOpened.{map_contains}
 use Rattle.plain_model.specs.Serving.{is_set_before, lines_for, sets as sets_in}
@@ -14,19 +14,8 @@ use Rattle.plain_runs.specs.Runs.{Numbered}
 
 -- whether a request sets a mark is said twice
 same_sets : (mark : ℕ) (request : Request) → sets_in mark request ≡ sets_by mark request
-same_sets mark (Put url body) = refl
-same_sets mark (Save url body) = refl
-same_sets mark (Get url) = refl
-same_sets mark (Purge url) = refl
-same_sets mark (Begin tab url body) = refl
-same_sets mark (Add tab count) = refl
-same_sets mark (End tab) = refl
-same_sets mark (DropTab tab) = refl
-same_sets mark (OpenTab tab url) = refl
-same_sets mark (More tab) = refl
-same_sets mark (CloseTab tab) = refl
 same_sets mark (Mark other) = refl
-same_sets mark (Await other) = refl
+same_sets mark _ = refl
 
 and_true : (b : Bool) → b && true ≡ b
 and_true true = refl

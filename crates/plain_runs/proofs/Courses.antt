@@ -7,7 +7,7 @@ use Rattle.script_text.specs.declared.answer.Answer.{Answer}
 use Rattle.script_text.specs.declared.answer.Answer.TheVariants as answer
 use Rattle.script_text.specs.declared.line.Line.{Line}
 use Rattle.script_text.specs.declared.request.Request.{Request}
-use Rattle.script_text.specs.declared.request.Request.TheVariants.{Add, Await, Begin, CloseTab, DropTab, End, Get, Mark, More, OpenTab, Purge, Put, Save}
+use Rattle.script_text.specs.declared.request.Request.TheVariants.{Add, Await, Begin, CloseTab, DropTab, End, Mark, More, OpenTab, Purge}
 use Rattle.core_model.specs.declared.tab.Tab.{Tab}
 use Rattle.core_model.specs.declared.tab.Tab.TheVariants as tab
 use Rattle.core_model.specs.declared.view.View.{View}
@@ -31,6 +31,7 @@ use Rattle.store_serve.specs.Whole.{whole_tab}
 use Rattle.worker_shelf.specs.Shelves.{Learned, Noted, OnShelf, Went}
 use Rattle.worker_shelf.proofs.Holding.{Stays}
 use Rattle.worker_shelf.specs.Playing.{IsStep, Meets, Notes, StepOn}
+use Rattle.crew_accounts.proofs.Taking.{uses}
 use Rattle.plain_runs.specs.Shows.{ShowsTab}
 use Rattle.plain_runs.specs.Words.{setting_of}
 use Rattle.plain_runs.specs.Runs.{ShowsPlain}
@@ -50,9 +51,6 @@ module _ {C O : Type 0} (tells : Bool) (state : C → CellState) (offers : O →
   -- a request leaves the tab of whole requests free
   whole_stays : (number : ℕ) (p : Pass C) (a : Answer) (q : Pass C) (request : Request) → MayAsk tells state offers s number request → ServesRequest tells state offers s number p a q request
       → ((t : ℕ) → UsesTab request t → Leaves tells state offers s t p q) → IsFree p whole_tab → IsFree q whole_tab
-  whole_stays number p a q (Put url body) asks served leaves free = served.free
-  whole_stays number p a q (Save url body) asks served leaves free = served.free
-  whole_stays number p a q (Get url) asks served leaves free = served.free
   whole_stays number p a q (Purge url) asks served leaves free = ap (λ (ts : List (Tab (List ℕ))). slice_index_or ts whole_tab tab.Free) served.same ∙ free
   whole_stays number p a q (Begin t url body) asks served leaves free = (leaves t refl).others whole_tab (λ e. let z = e in let l = asks.0 in omega arith) (λ e. let z = e in omega arith) ∙ free
   whole_stays number p a q (Add t count) asks served leaves free = (leaves t refl).others whole_tab (λ e. let z = e in omega arith) (λ e. let z = e in omega arith) ∙ free
@@ -63,22 +61,7 @@ module _ {C O : Type 0} (tells : Bool) (state : C → CellState) (offers : O →
   whole_stays number p a q (CloseTab t) asks served leaves free = (leaves t refl).others whole_tab (λ e. let z = e in omega arith) (λ e. let z = e in omega arith) ∙ free
   whole_stays number p a q (Mark mark) asks served leaves free = absurd served
   whole_stays number p a q (Await mark) asks served leaves free = absurd served
-
-  -- a request that is served uses a tab
-  uses : (request : Request) → IsServed request → (t : ℕ) × UsesTab request t
-  uses (Put url body) served = (7, refl)
-  uses (Save url body) served = (7, refl)
-  uses (Get url) served = (7, refl)
-  uses (Purge url) served = (7, refl)
-  uses (Begin t url body) served = (t, refl)
-  uses (Add t count) served = (t, refl)
-  uses (End t) served = (t, refl)
-  uses (DropTab t) served = (t, refl)
-  uses (OpenTab t url) served = (t, refl)
-  uses (More t) served = (t, refl)
-  uses (CloseTab t) served = (t, refl)
-  uses (Mark mark) served = absurd served
-  uses (Await mark) served = absurd served
+  whole_stays number p a q _ asks served leaves free = served.free
 
 module _ {C O St : Type 0} (tells : Bool) (state : C → CellState) (offers : O → Offers) (faults : St → ℕ) (s : Store C O) (script : List Line) (lines : LinesRight tells state offers s) (stays : Stays tells state offers s) (start : Pass C) where
   abbrev S : Setting
@@ -116,7 +99,7 @@ module _ {C O St : Type 0} (tells : Bool) (state : C → CellState) (offers : O 
         let here : Takes tells state offers s x.before.pass x.line = record { asks = takes.asks; goes = λ url named pass alone. takes.goes url named pass alone ∙ sym r.number } in
         let right = lines.line script x.line x.before.pass x.after.pass x.answer (faults x.before.station) (faults x.after.station) plain here serves went.typed h.fair r.shows
         (plain_free tells state offers s x.before.pass plain whole_tab (omega arith) r.shows r.whole) in
-        let t = uses tells state offers s x.line.request asked in record {
+        let t = uses x.line.request asked in record {
           answered = right.0;
           reached = record {
             store = went.store ∙ r.store;
@@ -174,17 +157,7 @@ module _ {C O St : Type 0} (tells : Bool) (state : C → CellState) (offers : O 
     goes : (request : Request) → x.line.request ≡ request → StepOn tells state offers faults request x.before x.line x.answer x.after → Right x plain
     goes (Mark mark) is step = set_one mark is step
     goes (Await mark) is step = met_one mark is step
-    goes (Put url body) is step = served_one (Put url body) is tt step
-    goes (Save url body) is step = served_one (Save url body) is tt step
-    goes (Get url) is step = served_one (Get url) is tt step
-    goes (Purge url) is step = served_one (Purge url) is tt step
-    goes (Begin t url body) is step = served_one (Begin t url body) is tt step
-    goes (Add t count) is step = served_one (Add t count) is tt step
-    goes (End t) is step = served_one (End t) is tt step
-    goes (DropTab t) is step = served_one (DropTab t) is tt step
-    goes (OpenTab t url) is step = served_one (OpenTab t url) is tt step
-    goes (More t) is step = served_one (More t) is tt step
-    goes (CloseTab t) is step = served_one (CloseTab t) is tt step
+    goes request is step = served_one request is tt step
 
   one_right : (x : Stage (OnShelf C O St)) (plain : Plain) → Reached x.before plain → IsFair x → Right x plain
   one_right x plain r h = goes x plain r h x.line.request refl h.step

@@ -6,7 +6,7 @@ use Rattle.script_text.specs.declared.answer.Answer.{Answer}
 use Rattle.script_text.specs.declared.answer.Answer.TheVariants.{Met, Unmet}
 use Rattle.script_text.specs.declared.line.Line.{Line}
 use Rattle.script_text.specs.declared.request.Request.{Request}
-use Rattle.script_text.specs.declared.request.Request.TheVariants.{Add, Await, Begin, CloseTab, DropTab, End, Get, Mark, More, OpenTab, Purge, Put, Save}
+use Rattle.script_text.specs.declared.request.Request.TheVariants.{Await, Mark}
 use Rattle.script_text.specs.declared.shelf.Shelf.{Ghosts}
 use Rattle.store_rule.specs.declared.store.Note.{Note}
 use Rattle.store_rule.specs.declared.store.Store.{Store}
@@ -36,17 +36,7 @@ module _ {C O St N : Type 0} (tells : Bool) (state : C → CellState) (offers : 
   step_on : (request : Request) (earlier : List Line) (line : Line) (b : OnShelf C O St) (a : Answer) (c : OnShelf C O St) → StepOf g request earlier line b a c → StepOn tells state offers faults request b line a c
   step_on (Mark mark) earlier line b a c h = (h.0, notes b c h.1)
   step_on (Await mark) earlier line b a c h = awaited (list_any (sets mark) earlier) b a c h
-  step_on (Put url body) earlier line b a c h = went b line a c h
-  step_on (Save url body) earlier line b a c h = went b line a c h
-  step_on (Get url) earlier line b a c h = went b line a c h
-  step_on (Purge url) earlier line b a c h = went b line a c h
-  step_on (Begin tab url body) earlier line b a c h = went b line a c h
-  step_on (Add tab count) earlier line b a c h = went b line a c h
-  step_on (End tab) earlier line b a c h = went b line a c h
-  step_on (DropTab tab) earlier line b a c h = went b line a c h
-  step_on (OpenTab tab url) earlier line b a c h = went b line a c h
-  step_on (More tab) earlier line b a c h = went b line a c h
-  step_on (CloseTab tab) earlier line b a c h = went b line a c h
+  step_on _ earlier line b a c h = went b line a c h
 
   answer_is : (is_set : Bool) (b : OnShelf C O St) (a : Answer) (c : OnShelf C O St) → Awaited g is_set b a c → a ≡ cond is_set Met Unmet
   answer_is true b a c h = h.0

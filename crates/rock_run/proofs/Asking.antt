@@ -10,7 +10,7 @@ use Rattle.script_text.specs.Requests.{SpellsRequest}
 use Rattle.script_text.specs.declared.body.Body.{Body}
 use Rattle.script_text.specs.declared.line.Line.{Line}
 use Rattle.script_text.specs.declared.request.Request.{Request}
-use Rattle.script_text.specs.declared.request.Request.TheVariants.{Add, Await, Begin, CloseTab, DropTab, End, Get, Mark, More, OpenTab, Purge, Put, Save}
+use Rattle.script_text.specs.declared.request.Request.TheVariants.{Await, Begin, Get, Mark, OpenTab, Purge, Put, Save}
 use Rattle.script_text.specs.declared.verb.Verb.{Verb}
 use Rattle.plain_model.specs.Serving.{bytes_of}
 use Rattle.store_key.specs.Anchor.{anchor_of}
@@ -27,19 +27,11 @@ use Rattle.rock_run.proofs.Found.{found, spelled}
 
 -- a request that is spelled by words of a script names a tab and a URL of one
 asked_by_words : (request : Request) (name : Verb) (words : List (List ℕ)) → SpellsRequest request name words → IsAsked request
-asked_by_words (Put url body) name words h = h.1.0
-asked_by_words (Save url body) name words h = h.1.0
-asked_by_words (Get url) name words h = h.1.0
-asked_by_words (Purge url) name words h = h.1.0
 asked_by_words (Begin tab url body) name words h = (h.1.0, h.1.1)
-asked_by_words (Add tab count) name words h = h.1.0
-asked_by_words (End tab) name words h = h.1.0
-asked_by_words (DropTab tab) name words h = h.1.0
 asked_by_words (OpenTab tab url) name words h = (h.1.0, h.1.1)
-asked_by_words (More tab) name words h = h.1.0
-asked_by_words (CloseTab tab) name words h = h.1.0
 asked_by_words (Mark mark) name words h = tt
 asked_by_words (Await mark) name words h = tt
+asked_by_words _ name words h = h.1.0
 
 url_offered : (lines : List Line) (number : ℕ) (url : List ℕ) (body : Body) → offered_by lines number ≡ Some record { url = url; body = body } → (offers_of lines).url number ≡ url
 unfolding offers_of
@@ -118,14 +110,10 @@ module _ {C O : Type 0} (tells : Bool) (state : C → CellState) (offers : O →
   may_ask number (Get url) h e marks awaits = h
   may_ask number (Purge url) h e marks awaits = h
   may_ask number (Begin tab url body) h e marks awaits = let le = h.0 in (omega arith, is_offered number url body h.1 e)
-  may_ask number (Add tab count) h e marks awaits = omega arith
-  may_ask number (End tab) h e marks awaits = omega arith
-  may_ask number (DropTab tab) h e marks awaits = omega arith
   may_ask number (OpenTab tab url) h e marks awaits = let le = h.0 in (omega arith, h.1)
-  may_ask number (More tab) h e marks awaits = omega arith
-  may_ask number (CloseTab tab) h e marks awaits = omega arith
   may_ask number (Mark mark) h e marks awaits = marks mark refl
   may_ask number (Await mark) h e marks awaits = awaits mark refl
+  may_ask number _ h e marks awaits = omega arith
 
   -- a line that is the first of its number may ask for what it asks
   pub asks : (line : Line) → IsFound lines line → IsAsked line.request

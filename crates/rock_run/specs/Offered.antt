@@ -1,10 +1,10 @@
 -- What the lines of a script offer to a store.
 use Rattle.std.specs.Prelude.{◌&&◌, ◌+◌, ◌==◌, ◌∷◌, List, None, Option, Some, [], find, if◌then◌else◌, length, max, min, nat_le, option_and_then, true, ℕ}
 use Rattle.std.specs.Option.{option_map_or}
+use Rattle.script_text.specs.Shapes.{Shape, shape_of}
 use Rattle.script_text.specs.declared.body.Body.{Body}
 use Rattle.script_text.specs.declared.line.Line.{Line}
 use Rattle.script_text.specs.declared.request.Request.{Request}
-use Rattle.script_text.specs.declared.request.Request.TheVariants.{Begin, Put, Save}
 use Rattle.store_key.specs.Anchor.{anchor_of}
 use Rattle.store_key.specs.Key.{key_of}
 use Rattle.entry_cut.specs.Content.{content_of, front_size, slots_needed}
@@ -18,10 +18,17 @@ pub record Response : Type 0 where
 
 -- what a request offers, if it offers a response
 abbrev pub offered_in : Request → Option Response
-offered_in (Put url body) = Some record { url = url; body = body }
-offered_in (Save url body) = Some record { url = url; body = body }
-offered_in (Begin tab url body) = Some record { url = url; body = body }
-offered_in _ = None
+offered_in request = of_shape (shape_of request)
+  where
+    of_shape : Shape → Option Response
+    of_shape (Shape.Stores url body durable) = Some record { url = url; body = body }
+    of_shape (Shape.Reads url) = None
+    of_shape (Shape.Purges url) = None
+    of_shape (Shape.Begins tab url body) = Some record { url = url; body = body }
+    of_shape (Shape.Opens tab url) = None
+    of_shape (Shape.WritesOn tab) = None
+    of_shape (Shape.ReadsOn tab) = None
+    of_shape (Shape.AtMark mark) = None
 
 -- what the line of this number offers, if there is one and it offers a response
 abbrev pub offered_by : List Line → ℕ → Option Response

@@ -17,7 +17,7 @@ use Rattle.script_text.specs.declared.answer.Answer.TheVariants.{Stored}
 use Rattle.script_text.specs.declared.body.Body.{Body}
 use Rattle.script_text.specs.declared.line.Line.{Line}
 use Rattle.script_text.specs.declared.request.Request.{Request}
-use Rattle.script_text.specs.declared.request.Request.TheVariants.{Add, Await, Begin, CloseTab, DropTab, End, Get, Mark, More, OpenTab, Purge, Put, Save}
+use Rattle.script_text.specs.declared.request.Request.TheVariants.{Save}
 use Rattle.plain_model.specs.declared.entry.Entry.{Entry as PlainEntry}
 use Rattle.plain_model.specs.declared.store.Plain.{Plain}
 use Rattle.plain_model.specs.Serving.{bytes_of}
@@ -65,18 +65,7 @@ record Saves (request : Request) : Type 0 where
 
 saves : (request : Request) → IsSave request → Saves request
 saves (Save url body) h = record { url = url; body = body; is = refl }
-saves (Put url body) h = absurd h
-saves (Get url) h = absurd h
-saves (Purge url) h = absurd h
-saves (Begin tab url body) h = absurd h
-saves (Add tab count) h = absurd h
-saves (End tab) h = absurd h
-saves (DropTab tab) h = absurd h
-saves (OpenTab tab url) h = absurd h
-saves (More tab) h = absurd h
-saves (CloseTab tab) h = absurd h
-saves (Mark mark) h = absurd h
-saves (Await mark) h = absurd h
+saves _ h = absurd h
 
 -- lines of one number are one line
 one_number : (script : List Line) → AreInOrder script → (l m : Line) → Contains script l → Contains script m → l.number ≡ m.number → l ≡ m

@@ -4,7 +4,7 @@ use Rattle.std.specs.Prelude.{find, option_and_then, ◌==◌}
 use Rattle.std.specs.Option.{option_map_or}
 use Rattle.script_text.specs.declared.line.Line.{Line}
 use Rattle.script_text.specs.declared.request.Request.{Request}
-use Rattle.script_text.specs.declared.request.Request.TheVariants.{Add, Await, Begin, CloseTab, DropTab, End, Get, Mark, More, OpenTab, Purge, Put, Save}
+use Rattle.script_text.specs.declared.request.Request.TheVariants.{Begin, Put, Save}
 use Rattle.plain_model.specs.Serving.{bytes_of}
 use Rattle.line_account.specs.Lines.{Offers}
 use Rattle.rock_run.specs.Offered.{Response, offered_by, offered_in, offers_of}
@@ -27,16 +27,7 @@ offers_it : (request : Request) (r : Response) → offered_in request ≡ Some r
 offers_it (Put u b) r e = (ap (λ (z : Option Response). option_map_or (λ x. x.url) z u) e, ap (λ (z : Option Response). option_map_or (λ x. x.body) z b) e)
 offers_it (Save u b) r e = (ap (λ (z : Option Response). option_map_or (λ x. x.url) z u) e, ap (λ (z : Option Response). option_map_or (λ x. x.body) z b) e)
 offers_it (Begin tab u b) r e = (ap (λ (z : Option Response). option_map_or (λ x. x.url) z u) e, ap (λ (z : Option Response). option_map_or (λ x. x.body) z b) e)
-offers_it (Get u) r e = cc
-offers_it (Purge u) r e = cc
-offers_it (Add tab count) r e = cc
-offers_it (End tab) r e = cc
-offers_it (DropTab tab) r e = cc
-offers_it (OpenTab tab u) r e = cc
-offers_it (More tab) r e = cc
-offers_it (CloseTab tab) r e = cc
-offers_it (Mark mark) r e = cc
-offers_it (Await mark) r e = cc
+offers_it _ r e = cc
 
 module _ (lines : List Line) (number : ℕ) where
   of_line : (found : Option Line) → find (λ line. line.number == number) lines ≡ found → (r : Response) → option_and_then (λ line. offered_in line.request) found ≡ Some r → IsOffered lines r.url (bytes_of r.body)

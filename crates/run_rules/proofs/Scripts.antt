@@ -7,7 +7,7 @@ use Rattle.plain_model.specs.Serving.{bytes_of}
 use Rattle.script_text.specs.declared.body.Body.{Body}
 use Rattle.script_text.specs.declared.line.Line.{Line}
 use Rattle.script_text.specs.declared.request.Request.{Request}
-use Rattle.script_text.specs.declared.request.Request.TheVariants.{Add, Await, Begin, CloseTab, DropTab, End, Get, Mark, More, OpenTab, Purge, Put, Save}
+use Rattle.script_text.specs.declared.request.Request.TheVariants.{Begin, Put, Save}
 use Rattle.core_model.proofs.Lists.{cons_contains, contains_none}
 use Rattle.line_account.specs.Closing.{LineIn, Worker}
 use Rattle.script_text.specs.Requests.{url_in}
@@ -53,16 +53,7 @@ pub offer_of : (request : Request) (url : List ℕ) → offers request ≡ true 
 offer_of (Put u b) url is named = (b, (cc, refl))
 offer_of (Save u b) url is named = (b, (cc, refl))
 offer_of (Begin tab u b) url is named = (b, (cc, refl))
-offer_of (Get u) url is named = absurd cc
-offer_of (Purge u) url is named = absurd cc
-offer_of (Add tab count) url is named = absurd cc
-offer_of (End tab) url is named = absurd cc
-offer_of (DropTab tab) url is named = absurd cc
-offer_of (OpenTab tab u) url is named = absurd cc
-offer_of (More tab) url is named = absurd cc
-offer_of (CloseTab tab) url is named = absurd cc
-offer_of (Mark mark) url is named = absurd cc
-offer_of (Await mark) url is named = absurd cc
+offer_of _ url is named = absurd cc
 
 -- so the script offers it
 pub offered : {X : Type 0} (script : List Line) (crew : List (Worker X)) (P : List Served → Served → Type 0) → ServesScript script crew → (p : LineIn crew P) → (url : List ℕ) (body : Body)

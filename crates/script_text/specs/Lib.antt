@@ -1,5 +1,6 @@
 pub mod Words
 pub mod Fields
+pub mod Shapes
 pub mod Requests
 pub mod Lines
 pub mod Causes

@@ -1,8 +1,9 @@
 -- The table of requests.
-use Rattle.std.specs.Prelude.{◌≡◌, ℕ, ◌≤◌, List, None, Option, Some, [], ◌∷◌, codes, decimal}
+use Rattle.std.specs.Prelude.{◌≡◌, ℕ, ◌≤◌, List, None, Option, Some, [], ◌∷◌, codes, decimal, Bool, true, false}
 use Rattle.store_key.specs.Url.{IsUrl}
 use Rattle.script_text.specs.Fields.{Kind, SpellsBody, body_size}
 use Rattle.script_text.specs.declared.body.Body.{Body}
+use Rattle.script_text.specs.Shapes.{Shape, shape_of}
 use Rattle.script_text.specs.Fields.Kind.{TabWord, UrlWord, BodyWord, CountWord, MarkWord}
 use Rattle.script_text.specs.declared.request.Request.{Request}
 use Rattle.script_text.specs.declared.request.Request.TheVariants.{Put, Save, Get, Purge, Begin, Add, End, DropTab, OpenTab, More, CloseTab, Mark, Await}
@@ -42,13 +43,17 @@ kinds_of verb.Await = MarkWord ∷ []
 
 -- the URL that a request names, if it does
 abbrev pub url_in : Request → Option (List ℕ)
-url_in (Put url body) = Some url
-url_in (Save url body) = Some url
-url_in (Get url) = Some url
-url_in (Purge url) = Some url
-url_in (Begin tab url body) = Some url
-url_in (OpenTab tab url) = Some url
-url_in _ = None
+url_in request = of_shape (shape_of request)
+  where
+    of_shape : Shape → Option (List ℕ)
+    of_shape (Shape.Stores url body durable) = Some url
+    of_shape (Shape.Reads url) = Some url
+    of_shape (Shape.Purges url) = Some url
+    of_shape (Shape.Begins tab url body) = Some url
+    of_shape (Shape.Opens tab url) = Some url
+    of_shape (Shape.WritesOn tab) = None
+    of_shape (Shape.ReadsOn tab) = None
+    of_shape (Shape.AtMark mark) = None
 
 -- the numbers and texts that words behind a request's name stand for
 abbrev pub AreTab : ℕ → List (List ℕ) → Type 0
@@ -91,7 +96,42 @@ SpellsRequest (Await mark) name words = (name ≡ verb.Await) × AreMark mark wo
 
 -- how many bytes a request offers to store
 abbrev pub offered_size : Request → ℕ
-offered_size (Put url body) = body_size body
-offered_size (Save url body) = body_size body
-offered_size (Begin tab url body) = body_size body
-offered_size request = 0
+offered_size request = of_shape (shape_of request)
+  where
+    of_shape : Shape → ℕ
+    of_shape (Shape.Stores url body durable) = body_size body
+    of_shape (Shape.Reads url) = 0
+    of_shape (Shape.Purges url) = 0
+    of_shape (Shape.Begins tab url body) = body_size body
+    of_shape (Shape.Opens tab url) = 0
+    of_shape (Shape.WritesOn tab) = 0
+    of_shape (Shape.ReadsOn tab) = 0
+    of_shape (Shape.AtMark mark) = 0
+
+-- the request offers this body under this URL
+abbrev pub OffersBody : Request → List ℕ → Body → Type 0
+OffersBody request url body = of_shape (shape_of request)
+  where
+    of_shape : Shape → Type 0
+    of_shape (Shape.Stores u b durable) = (u ≡ url) × (b ≡ body)
+    of_shape (Shape.Reads u) = ⊥
+    of_shape (Shape.Purges u) = ⊥
+    of_shape (Shape.Begins tab u b) = (u ≡ url) × (b ≡ body)
+    of_shape (Shape.Opens tab u) = ⊥
+    of_shape (Shape.WritesOn tab) = ⊥
+    of_shape (Shape.ReadsOn tab) = ⊥
+    of_shape (Shape.AtMark mark) = ⊥
+
+-- and the test whether it offers one
+abbrev pub offers_body : Request → Bool
+offers_body request = of_shape (shape_of request)
+  where
+    of_shape : Shape → Bool
+    of_shape (Shape.Stores url body durable) = true
+    of_shape (Shape.Reads url) = false
+    of_shape (Shape.Purges url) = false
+    of_shape (Shape.Begins tab url body) = true
+    of_shape (Shape.Opens tab url) = false
+    of_shape (Shape.WritesOn tab) = false
+    of_shape (Shape.ReadsOn tab) = false
+    of_shape (Shape.AtMark mark) = false

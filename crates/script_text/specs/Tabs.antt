@@ -1,20 +1,32 @@
 -- The tabs of a request.
-use Rattle.std.specs.Prelude.{◌≡◌, ℕ}
+use Rattle.std.specs.Prelude.{◌≡◌, ℕ, ◌≤◌}
+use Rattle.script_text.specs.Shapes.{Shape, shape_of}
 use Rattle.script_text.specs.declared.request.Request.{Request}
-use Rattle.script_text.specs.declared.request.Request.TheVariants.{Put, Save, Get, Purge, Begin, Add, End, DropTab, OpenTab, More, CloseTab, Mark, Await}
 
 -- the tab that a request names, or the one that whole requests use
 abbrev pub UsesTab : Request → ℕ → Type 0
-UsesTab (Put url body) tab = tab ≡ 7
-UsesTab (Save url body) tab = tab ≡ 7
-UsesTab (Get url) tab = tab ≡ 7
-UsesTab (Purge url) tab = tab ≡ 7
-UsesTab (Begin named url body) tab = tab ≡ named
-UsesTab (Add named count) tab = tab ≡ named
-UsesTab (End named) tab = tab ≡ named
-UsesTab (DropTab named) tab = tab ≡ named
-UsesTab (OpenTab named url) tab = tab ≡ named
-UsesTab (More named) tab = tab ≡ named
-UsesTab (CloseTab named) tab = tab ≡ named
-UsesTab (Mark mark) tab = ⊥
-UsesTab (Await mark) tab = ⊥
+UsesTab request tab = of_shape (shape_of request)
+  where
+    of_shape : Shape → Type 0
+    of_shape (Shape.Stores url body durable) = tab ≡ 7
+    of_shape (Shape.Reads url) = tab ≡ 7
+    of_shape (Shape.Purges url) = tab ≡ 7
+    of_shape (Shape.Begins named url body) = tab ≡ named
+    of_shape (Shape.Opens named url) = tab ≡ named
+    of_shape (Shape.WritesOn named) = tab ≡ named
+    of_shape (Shape.ReadsOn named) = tab ≡ named
+    of_shape (Shape.AtMark mark) = ⊥
+
+-- a tab that a request names is one of a script; the last one is left to whole requests
+abbrev pub IsOnTab : Request → Type 0
+IsOnTab request = of_shape (shape_of request)
+  where
+    of_shape : Shape → Type 0
+    of_shape (Shape.Stores url body durable) = Unit {0}
+    of_shape (Shape.Reads url) = Unit {0}
+    of_shape (Shape.Purges url) = Unit {0}
+    of_shape (Shape.Begins tab url body) = tab ≤ 6
+    of_shape (Shape.Opens tab url) = tab ≤ 6
+    of_shape (Shape.WritesOn tab) = tab ≤ 6
+    of_shape (Shape.ReadsOn tab) = tab ≤ 6
+    of_shape (Shape.AtMark mark) = Unit {0}

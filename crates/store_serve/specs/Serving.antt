@@ -1,6 +1,7 @@
 -- What a line may be answered, and what it leaves: one relation for all requests.
 use Rattle.std.specs.Prelude.{Bool, List, Some, false, true, ◌+◌, ◌<◌, ◌≡◌, ℕ}
 use Rattle.rock_disk.specs.Cell.{CellState}
+use Rattle.script_text.specs.Shapes.{Shape, shape_of}
 use Rattle.script_text.specs.Tabs.{UsesTab}
 use Rattle.script_text.specs.declared.answer.Answer.{Answer}
 use Rattle.script_text.specs.declared.line.Line.{Line}
@@ -26,19 +27,17 @@ module _ {C O : Type 0} (tells : Bool) (state : C → CellState) (offers : O →
   -- What a line asks of the store: a tab of it is one of the script's, its URL is one, and what it offers is the offer of its number.
   -- Marks are not met here.
   abbrev pub MayAsk : (number : ℕ) → Request → Type 0
-  MayAsk number (Put url body) = IsOffered tells state offers s (offer_of number) url body
-  MayAsk number (Save url body) = IsOffered tells state offers s (offer_of number) url body
-  MayAsk number (Get url) = IsUrl url
-  MayAsk number (Purge url) = IsUrl url
-  MayAsk number (Begin t url body) = (t < whole_tab) × IsOffered tells state offers s (offer_of number) url body
-  MayAsk number (Add t count) = t < whole_tab
-  MayAsk number (End t) = t < whole_tab
-  MayAsk number (DropTab t) = t < whole_tab
-  MayAsk number (OpenTab t url) = (t < whole_tab) × IsUrl url
-  MayAsk number (More t) = t < whole_tab
-  MayAsk number (CloseTab t) = t < whole_tab
-  MayAsk number (Mark mark) = ⊥
-  MayAsk number (Await mark) = ⊥
+  MayAsk number request = of_shape (shape_of request)
+    where
+      of_shape : Shape → Type 0
+      of_shape (Shape.Stores url body durable) = IsOffered tells state offers s (offer_of number) url body
+      of_shape (Shape.Reads url) = IsUrl url
+      of_shape (Shape.Purges url) = IsUrl url
+      of_shape (Shape.Begins t url body) = (t < whole_tab) × IsOffered tells state offers s (offer_of number) url body
+      of_shape (Shape.Opens t url) = (t < whole_tab) × IsUrl url
+      of_shape (Shape.WritesOn t) = t < whole_tab
+      of_shape (Shape.ReadsOn t) = t < whole_tab
+      of_shape (Shape.AtMark mark) = ⊥
 
   -- A pass takes a line that asks so, and whose URL it may go to.
   pub record Takes (p : Pass C) (line : Line) : Type 0 where

@@ -4,7 +4,7 @@ use Rattle.std.specs.List.{list_any, filter}
 use Rattle.std.proofs.lemmas.List.Folds.{list_any-append}
 use Rattle.script_text.specs.declared.line.Line.{Line}
 use Rattle.script_text.specs.declared.request.Request.{Request}
-use Rattle.script_text.specs.declared.request.Request.TheVariants.{Put, Save, Get, Purge, Begin, Add, End, DropTab, OpenTab, More, CloseTab, Mark, Await}
+use Rattle.script_text.specs.declared.request.Request.TheVariants.{Mark, Await}
 use Rattle.script_text.specs.declared.answer.Answer.{Answer}
 use Rattle.script_text.specs.declared.answer.Answer.TheVariants.{Marked, Met, Unmet}
 use Rattle.script_text.specs.declared.shelf.Shelf.{Ghosts}
@@ -29,19 +29,9 @@ pub none_last : (m : ℕ) (lines : List Line) (line : Line) → list_any (sets m
 none_last m lines line e = left_false (sets m line) false (right_false (list_any (sets m) lines) (list_any (sets m) (line ∷ [])) (sym (list_any-append (sets m) lines (line ∷ [])) ∙ e))
 
 pub is_served : (r : Request) → ((m : ℕ) → r ≡ Mark m → ⊥) → ((m : ℕ) → r ≡ Await m → ⊥) → IsServed r
-is_served (Put u b) n o = tt
-is_served (Save u b) n o = tt
-is_served (Get u) n o = tt
-is_served (Purge u) n o = tt
-is_served (Begin t u b) n o = tt
-is_served (Add t c) n o = tt
-is_served (End t) n o = tt
-is_served (DropTab t) n o = tt
-is_served (OpenTab t u) n o = tt
-is_served (More t) n o = tt
-is_served (CloseTab t) n o = tt
 is_served (Mark m) n o = n m refl
 is_served (Await m) n o = o m refl
+is_served _ n o = tt
 
 module _ {H N : Type 0} where
   pub same_extends : (v : View H N) → Extends v v
@@ -52,19 +42,9 @@ kept_held {N} m k list ne h = to_filter (λ (r : ℕ × Option N). not (r.0 == m
 
 module _ {H N : Type 0} (g : Ghosts H N) where
   plain_step : (r : Request) (earlier : List Line) (line : Line) (b : H) (a : Answer) (c : H) → IsServed r → g.went b line a c → StepOf g r earlier line b a c
-  plain_step (Put u x) earlier line b a c is w = w
-  plain_step (Save u x) earlier line b a c is w = w
-  plain_step (Get u) earlier line b a c is w = w
-  plain_step (Purge u) earlier line b a c is w = w
-  plain_step (Begin t u x) earlier line b a c is w = w
-  plain_step (Add t n) earlier line b a c is w = w
-  plain_step (End t) earlier line b a c is w = w
-  plain_step (DropTab t) earlier line b a c is w = w
-  plain_step (OpenTab t u) earlier line b a c is w = w
-  plain_step (More t) earlier line b a c is w = w
-  plain_step (CloseTab t) earlier line b a c is w = w
   plain_step (Mark m) earlier line b a c is w = absurd is
   plain_step (Await m) earlier line b a c is w = absurd is
+  plain_step _ earlier line b a c is w = w
 
   pub served_answer : (earlier : List Line) (line : Line) (b : H) (a : Answer) (c : H) (v : View H N) → IsServed line.request → g.went b line a c → Answered g earlier line b a c v
   served_answer earlier line b a c v is w = record {

@@ -6,7 +6,7 @@ use Rattle.std.proofs.lemmas.List.Folds.{list_any_none}
 use Rattle.std.proofs.lemmas.List.Elements.{Contains-push_cases, Contains-get_or}
 use Rattle.script_text.specs.declared.line.Line.{Line}
 use Rattle.script_text.specs.declared.request.Request.{Request}
-use Rattle.script_text.specs.declared.request.Request.TheVariants.{Put, Save, Get, Purge, Begin, Add, End, DropTab, OpenTab, More, CloseTab, Mark, Await}
+use Rattle.script_text.specs.declared.request.Request.TheVariants.{Mark, Await}
 use Rattle.script_text.specs.declared.verb.Verb.{Verb}
 use Rattle.script_text.specs.Requests.{SpellsRequest}
 use Rattle.script_text.specs.Lines.{AreLines, IsMarked}
@@ -19,18 +19,7 @@ use Rattle.worker_pool.proofs.Places.{push_cases, take_whole}
 tested : (r : Request) (m : ℕ) (b : Bool) → sets_by m r ≡ b → (r ≡ Mark m → ⊥) → b ≡ false
 tested r m false e none = refl
 tested (Mark n) m true e none = absurd (none (ap Mark (eqb-true n m e)))
-tested (Put u x) m true e none = sym e
-tested (Save u x) m true e none = sym e
-tested (Get u) m true e none = sym e
-tested (Purge u) m true e none = sym e
-tested (Begin t u x) m true e none = sym e
-tested (Add t n) m true e none = sym e
-tested (End t) m true e none = sym e
-tested (DropTab t) m true e none = sym e
-tested (OpenTab t u) m true e none = sym e
-tested (More t) m true e none = sym e
-tested (CloseTab t) m true e none = sym e
-tested (Await n) m true e none = sym e
+tested _ m true e none = sym e
 
 none_sets : (lines : List Line) (m : ℕ) → (IsMarked lines m → ⊥) → list_any (sets m) lines ≡ false
 none_sets lines m none = list_any_none (sets m) lines (λ k d lt. let line = get_or lines k d in

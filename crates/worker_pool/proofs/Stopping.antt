@@ -9,7 +9,7 @@ use Rattle.std.proofs.lemmas.List.Elements.{Contains-push_cases, filter-append}
 use Rattle.script_text.specs.Tabs.{UsesTab}
 use Rattle.script_text.specs.declared.line.Line.{Line}
 use Rattle.script_text.specs.declared.request.Request.{Request}
-use Rattle.script_text.specs.declared.request.Request.TheVariants.{Put, Save, Get, Purge, Begin, Add, End, DropTab, OpenTab, More, CloseTab, Mark, Await}
+use Rattle.script_text.specs.declared.request.Request.TheVariants.{Mark}
 use Rattle.script_text.specs.declared.answer.Answer.{Answer}
 use Rattle.script_text.specs.declared.answer.Answer.TheVariants.{Marked}
 use Rattle.script_text.specs.declared.shelf.Shelf.{Ghosts}
@@ -20,19 +20,8 @@ use Rattle.worker_pool.specs.Knowing.{HasSet, Answered, Served}
 use Rattle.worker_pool.proofs.Going.{lines_next, map_push, linked_push}
 
 no_mark : (r : Request) → ((m : ℕ) → r ≡ Mark m → ⊥) → is_mark r ≡ false
-no_mark (Put u b) n = refl
-no_mark (Save u b) n = refl
-no_mark (Get u) n = refl
-no_mark (Purge u) n = refl
-no_mark (Begin t u b) n = refl
-no_mark (Add t c) n = refl
-no_mark (End t) n = refl
-no_mark (DropTab t) n = refl
-no_mark (OpenTab t u) n = refl
-no_mark (More t) n = refl
-no_mark (CloseTab t) n = refl
-no_mark (Await m) n = refl
 no_mark (Mark m) n = absurd (n m refl)
+no_mark _ n = refl
 
 not_less : (b : Bool) (k n : ℕ) → nat_lt k n ≡ b → n ≤ k → b ≡ false
 not_less true k n e le = let lt : k < n = ltb-true k n e in absurd (omega arith)

@@ -1,6 +1,7 @@
 -- The course of a worker: which lines it serves, and what it makes of its shelf.
 use Rattle.std.specs.Prelude.{◌≡◌, ◌⊎◌, ℕ, ◌+◌, ◌<◌, ◌==◌, nat_lt, ◌&&◌, Bool, true, false, cond, List, [], ◌∷◌, map, take, length, slice_index_or}
 use Rattle.std.specs.List.{Contains, filter, list_any}
+use Rattle.script_text.specs.Shapes.{Shape, shape_of}
 use Rattle.script_text.specs.Tabs.{UsesTab}
 use Rattle.script_text.specs.declared.line.Line.{Line}
 use Rattle.script_text.specs.declared.request.Request.{Request}
@@ -31,9 +32,17 @@ sets_behind place p = nat_lt place p.0 && is_mark p.1.request
 
 -- the requests that a shelf is asked for
 abbrev pub IsServed : Request → Type 0
-IsServed (Mark m) = ⊥
-IsServed (Await m) = ⊥
-IsServed _ = Unit {0}
+IsServed request = of_shape (shape_of request)
+  where
+    of_shape : Shape → Type 0
+    of_shape (Shape.Stores url body durable) = Unit {0}
+    of_shape (Shape.Reads url) = Unit {0}
+    of_shape (Shape.Purges url) = Unit {0}
+    of_shape (Shape.Begins tab url body) = Unit {0}
+    of_shape (Shape.Opens tab url) = Unit {0}
+    of_shape (Shape.WritesOn tab) = Unit {0}
+    of_shape (Shape.ReadsOn tab) = Unit {0}
+    of_shape (Shape.AtMark mark) = ⊥
 
 -- the lines of worker w, each with its place, the first of all at n
 abbrev pub lines_from : ℕ → ℕ → List Line → List (ℕ × Line)
