@@ -1,3 +1,4 @@
 pub mod Seen
 pub mod Logged
 pub mod Keeps
+pub mod Within

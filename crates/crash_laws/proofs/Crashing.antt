@@ -29,7 +29,8 @@ use Rattle.core_log.specs.Logged.{Agree, CellsLogged, HasLogged, IsKnown, LinksS
 use Rattle.crash_entries.specs.Parts.{HasPart, IsMixed, IsOfPart, KeepsTo, Offers, Part, PartsStand}
 use Rattle.crash_entries.proofs.Mixed.{known_entry, wins}
 use Rattle.crash_entries.proofs.Telling.{Tools}
-use Rattle.crash_laws.specs.Left.{IsFileOf, IsLeftWhile, IsPossible, IsWholeOffer, IsWriting, LogKeeps, logged_part, IsWiping}
+use Rattle.crash_laws.specs.Left.{IsFileOf, IsLeftWhile, IsWholeOffer, LogKeeps, logged_part}
+use Rattle.core_log.specs.Within.{IsPossible, IsWriting, IsWiping}
 
 -- a part of a file that was logged
 pub record IsPart (log : List LoggedPiece) (p : Part) : Type 0 where

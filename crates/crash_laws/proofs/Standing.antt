@@ -37,7 +37,8 @@ use Rattle.core_log.specs.Logged.{CellsLogged, IsFast, LinksStand, SettledStand}
 use Rattle.crash_entries.specs.Parts.{KeepsTo, Offers, cut_of, next_number}
 use Rattle.rebuild_model.proofs.Depends.{complete_in}
 use Rattle.crash_entries.proofs.Telling.{Tools}
-use Rattle.crash_laws.specs.Left.{IsFileOf, IsLeftWhile, IsPossible, IsWriting, LogKeeps, StandsNew, StandsOld, entry_at, part_at, piece_at, IsWiping}
+use Rattle.crash_laws.specs.Left.{IsFileOf, IsLeftWhile, LogKeeps, StandsNew, StandsOld, entry_at, part_at, piece_at}
+use Rattle.core_log.specs.Within.{IsPossible, IsWriting, IsWiping}
 use Rattle.crash_laws.proofs.Crashing.{a_cell, kept}
 
 at_in : (xs : List ℕ) (i d : ℕ) → i < length xs → get_elem? xs i ≡ some (get_or xs i d)

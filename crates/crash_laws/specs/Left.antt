@@ -5,13 +5,9 @@ use Rattle.lock_word.specs.Words.{epoch_of, version_of}
 use Rattle.link_word.specs.declared.link.Link.TheVariants.{Last}
 use Rattle.entry_cut.specs.Standing.{entry_of}
 use Rattle.rebuild_model.specs.Rebuilt.{IsWinner}
-use Rattle.core_model.specs.declared.tab.Freer.{Freer}
 use Rattle.core_model.specs.declared.view.LoggedPiece.{LoggedPiece}
 use Rattle.core_model.specs.declared.moves.Side.TheVariants.{Offer}
-use Rattle.core_model.specs.declared.tab.Tab.TheVariants.{Writing, Freeing}
-use Rattle.core_model.specs.declared.tab.Writer.{Writer}
-use Rattle.core_model.specs.declared.view.View.{View}
-use Rattle.core_model.specs.Chains.{first_of, link_at, times}
+use Rattle.core_model.specs.Chains.{first_of, link_at}
 use Rattle.std.specs.Prelude.{◌≡◌, ◌≤◌, ◌<◌, ◌⊎◌, ℕ, Contains, List, get_or, length}
 use Rattle.rebuild_model.specs.Image.{IsSaneAt, header_at, image_at}
 use Rattle.rebuild_model.specs.Entry.{Entry}
@@ -21,7 +17,8 @@ use Rattle.core_model.specs.Layout.{Setting}
 use Rattle.core_model.specs.State.{State, chain_of, side_word, word}
 use Rattle.core_model.specs.Anchors.{opening_counter}
 use Rattle.core_model.specs.Cells.{IsCell}
-use Rattle.core_log.specs.Logged.{HasLogged, IsDurable}
+use Rattle.core_log.specs.Logged.{IsDurable}
+use Rattle.core_log.specs.Within.{IsPossible, IsWiping, IsWriting}
 use Rattle.crash_entries.specs.Parts.{KeepsTo, Offers, Part, bytes_of, cut_of}
 
 -- a piece in a slot, for an anchor, as a part of a file
@@ -44,34 +41,6 @@ pub record IsFileOf {X : Type 0} (slot : ℕ) (o : Offers) (k : Setting X) (b : 
 -- each logged piece keeps to its offer, whose number is of no slot of the opening
 abbrev pub LogKeeps : {X : Type 0} → (slot : ℕ) → Offers → Setting X → List LoggedPiece → Type 0
 LogKeeps slot o k log = (l : LoggedPiece) → Contains log l → KeepsTo slot k.anchors k.slots o (logged_part l) × (k.slots ≤ l.piece.offer)
-
--- a crash may leave these bytes of the cell
-abbrev pub IsPossible : {X : Type 0} → (X → List ℕ) → Cell X → List ℕ → Type 0
-IsPossible {X} b c bytes = (x : X) × Contains c.possible x × (bytes ≡ b x)
-
--- the bytes are those of a piece that was logged for the slot, which a tab reserves and may be writing now
-pub record IsWriting {X : Type 0} (k : Setting X) (b : X → List ℕ) (s : State X) (log : List LoggedPiece) (slot : ℕ) (bytes : List ℕ) : Type 0 where
-  pub piece : Piece
-  pub logged : HasLogged log slot piece
-  pub bytes_are : bytes ≡ b (k.image piece)
-  pub i : ℕ
-  pub view : View X
-  pub at : get_elem? s.views i ≡ some view
-  pub t : ℕ
-  pub writer : Writer X
-  pub writes : get_elem? view.tabs t ≡ some (Writing writer)
-  pub reserved : 0 < times slot writer.reserved
-
--- the bytes are the blank content's, and the slot is in the chain that a tab gives back, which may be wiping it now
-pub record IsWiping {X : Type 0} (k : Setting X) (b : X → List ℕ) (s : State X) (slot : ℕ) (bytes : List ℕ) : Type 0 where
-  pub bytes_are : bytes ≡ b k.blank
-  pub i : ℕ
-  pub view : View X
-  pub at : get_elem? s.views i ≡ some view
-  pub t : ℕ
-  pub freer : Freer X
-  pub frees : get_elem? view.tabs t ≡ some (Freeing freer)
-  pub rests : 0 < times slot freer.rest
 
 -- each slot has a content that a crash may leave of its cell, or a piece that is being written, or it is being wiped: any number of slots at once
 pub record IsLeftWhile {X : Type 0} (k : Setting X) (b : X → List ℕ) (s : State X) (log : List LoggedPiece) (images : List (List ℕ)) : Type 0 where

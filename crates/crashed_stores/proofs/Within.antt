@@ -2,7 +2,7 @@
 use Rattle.std.proofs.Common.{⊎_elim, inl, inr, ℕ, List}
 use Rattle.rebuild_model.specs.Image.{image_at}
 use Rattle.core_model.specs.State.{State}
-use Rattle.crash_laws.specs.Left.{IsPossible, IsWriting}
+use Rattle.core_log.specs.Within.{IsPossible, IsWriting}
 use Rattle.store_rule.specs.Ground.{Ground, Rule}
 use Rattle.crashed_stores.specs.Left.{IsLeftOf}
 use Rattle.crashed_stores.specs.Within.{IsLeftWithin, IsUnderWay}

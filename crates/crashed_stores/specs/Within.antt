@@ -8,7 +8,7 @@ use Rattle.core_model.specs.declared.view.View.{View}
 use Rattle.core_model.specs.Cells.{IsCell}
 use Rattle.core_model.specs.State.{State}
 use Rattle.core_model.specs.Tabs.{tab_at}
-use Rattle.crash_laws.specs.Left.{IsPossible}
+use Rattle.core_log.specs.Within.{IsPossible}
 use Rattle.store_rule.specs.Ground.{Ground}
 use Rattle.store_rule.specs.Turns.{MayReturn}
 use Rattle.slice_chain.specs.During.{IsLeftDuring}

@@ -19,7 +19,7 @@ use Rattle.core_model.specs.declared.view.View.{View}
 use Rattle.core_model.proofs.Holders.{is_away, one_holder}
 use Rattle.core_model.proofs.Tabs.{contains_times}
 use Rattle.core_log.specs.Logged.{HasLogged}
-use Rattle.crash_laws.specs.Left.{IsPossible, IsWriting}
+use Rattle.core_log.specs.Within.{IsPossible, IsWriting}
 use Rattle.store_rule.specs.Ground.{Ground, Rule}
 use Rattle.store_rule.specs.Turns.{MayReturn, new_hold}
 use Rattle.slice_chain.specs.During.{IsLeftDuring, holding}

@@ -13,7 +13,7 @@ use Rattle.core_model.specs.declared.tab.Tab.TheVariants.{Writing}
 use Rattle.core_model.specs.declared.tab.Turn.TheVariants.{Has}
 use Rattle.core_model.specs.declared.tab.Writer.{Writer}
 use Rattle.core_model.specs.declared.view.View.{View}
-use Rattle.crash_laws.specs.Left.{IsPossible, IsWriting}
+use Rattle.core_log.specs.Within.{IsPossible, IsWriting}
 use Rattle.store_rule.specs.Ground.{Ground, Rule}
 use Rattle.store_rule.specs.Turns.{MayReturn, new_hold}
 

@@ -32,7 +32,8 @@ use Rattle.core_wiped.proofs.Left.{IsChosenAt, WasLeft, chosen_logged, written_b
 use Rattle.core_wiped.proofs.WipesKept.{chosen_other}
 use Rattle.crash_entries.specs.Parts.{Offers}
 use Rattle.crash_entries.proofs.Telling.{Tools, tells}
-use Rattle.crash_laws.specs.Left.{IsFileOf, IsLeftWhile, IsPossible, IsWiping, IsWriting, LogKeeps, logged_part}
+use Rattle.crash_laws.specs.Left.{IsFileOf, IsLeftWhile, LogKeeps, logged_part}
+use Rattle.core_log.specs.Within.{IsPossible, IsWiping, IsWriting}
 use Rattle.crash_laws.proofs.Crashing.{a_cell}
 use Rattle.wiped_entries.specs.Now.{IsLeftNow, IsWrittenNow}
 

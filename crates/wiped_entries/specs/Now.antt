@@ -11,7 +11,7 @@ use Rattle.core_model.specs.Holders.{IsTab}
 use Rattle.core_model.specs.Layout.{Setting}
 use Rattle.core_model.specs.State.{State}
 use Rattle.core_model.specs.Tabs.{turn_of}
-use Rattle.crash_laws.specs.Left.{IsPossible}
+use Rattle.core_log.specs.Within.{IsPossible}
 
 -- A tab holds the turn at the slot, and the bytes are what it writes there: the piece that it chose, or of a tab that frees the
 -- blank content.
