@@ -112,11 +112,11 @@ module _ {C O : Type 0} (tells : Bool) (state : C → CellState) (offers : O →
     needed = λ fitting. subst (OfWriter (MayBegin g.setting (need_of g))) (sym h.is) record { reserves = reserves_one; within = let n = h.needed fitting in let w = within fitting in omega arith };
   }
     where
-      reserves_one : MayReserve (writer_as g e published end rs)
-      reserves_one = record { room = few; chosen = λ q e. absurd (no_piece q e); open_end = open_end published end h.goes_on; goes_on = refl }
-
       no_piece : (q : Piece) → None ≡ Some q → ⊥
       no_piece q e = cc
+
+      reserves_one : MayReserve (writer_as g e published end rs)
+      reserves_one = record { room = few; chosen = λ q e. absurd (no_piece q e); open_end = open_end published end h.goes_on; goes_on = refl }
 
   -- the first slot of all
   pub may_claim_first : (p : Pass C) → Rests tells state offers s p t e published end (slots_of_link end) → head_of (slots_of_link end) ≡ None → 0 < length (whole_in g e) → MayClaim tells state offers s p t

@@ -10,7 +10,7 @@ use Rattle.rock_writer.specs.Entries.{url_in, writer_as}
 use Rattle.rock_writer.specs.Flushing.{HasBoth, WrotePiece}
 use Rattle.slice_chain.specs.Writes.{WroteSlot}
 use Rattle.rock_writer.proofs.Following.{writing_desk, writing_evicting, writing_on, writing_one}
-use Rattle.rock_writer.proofs.Growing.{goes_on, may_publish_piece, may_raise, raised_is, tab_after}
+use Rattle.rock_writer.proofs.Growing.{goes_on, may_publish_piece, more_pieces, may_raise, raised_is, tab_after}
 use Rattle.rock_writer.proofs.Publishing.{may_halt, same_view}
 use Rattle.rock_writer.proofs.Sizes.{whole_size}
 use Rattle.rock_writer.proofs.Unlinking.{at_hand}
@@ -20,6 +20,17 @@ use Rattle.rock_writer.proofs.flushing.flush.Goals as goal
 
 pub returns-in_default-reserve_both-clause-others : goal.returns-in_default-reserve_both-clause-others
 returns-in_default-reserve_both-clause-others g c = writing_evicting g.C.Cell.tells g.C.Cell.state g.O.Origin.offers c.args.store.now c.args.tab c.args.pass.now c.reserve_both.new.pass c.reserve_both.ensures.others
+
+pub reserve_both-requires : goal.reserve_both-requires
+reserve_both-requires g c = let e = c.requires.0 in let h = c.requires.1 in let k = basis g.C.Cell.tells g.C.Cell.state g.O.Origin.offers c.args.store.now in
+    let ws = whole_size k e (c.written_meta_is_spelled.ensures.size (key_of (url_in k e)) (url_in k e) (c.keys_have_16_bytes.ensures.length (url_in k e))) in
+    let x = at_hand (tab_at (view c.args.pass.now) c.args.tab) (writer_as k e h.writes.published h.writes.end (Rattle.core_model.specs.Chains.slots_of_link h.writes.end)) c.in-Some.writing h.writes.rests.is (sym c.in-Some.is ∙ c.writing.ensures) in
+    let placed = ap WritingAt.published x in
+    let more = more_pieces g.C.Cell.tells g.C.Cell.state g.O.Origin.offers c.args.store.now c.args.pass.now c.args.tab e h ws in record {
+      entry = e;
+      writes = h.writes;
+      within = omega (arith, more, placed);
+    }
 
 pub publish_piece-requires : goal.publish_piece-requires
 publish_piece-requires g c = let e = c.requires.0 in let h = c.requires.1 in let ws = whole_size (basis g.C.Cell.tells g.C.Cell.state g.O.Origin.offers c.args.store.now) e (c.written_meta_is_spelled.ensures.size (key_of (url_in (basis g.C.Cell.tells g.C.Cell.state g.O.Origin.offers c.args.store.now) e)) (url_in (basis g.C.Cell.tells g.C.Cell.state g.O.Origin.offers c.args.store.now) e) (c.keys_have_16_bytes.ensures.length (url_in (basis g.C.Cell.tells g.C.Cell.state g.O.Origin.offers c.args.store.now) e))) in
