@@ -1,5 +1,5 @@
 -- A step on a link, by a tab at an anchor that is left to its pass, finds what the pass has.
-use Rattle.std.proofs.Common.{◌≡◌, ◌⊎◌, inl, inr, ⊎_elim, ℕ, ◌≤◌, List, [], ◌∷◌, ◌++◌, true, Bool, sym, refl, ap, ◌∙◌, subst, arith, Contains}
+use Rattle.std.proofs.Common.{◌≡◌, ◌⊎◌, inl, inr, ⊎_elim, ℕ, ◌≤◌, List, [], ◌∷◌, ◌++◌, true, Bool, sym, refl, ap, ◌∙◌, subst, arith, Contains, Option, Some}
 use Rattle.std.proofs.lemmas.List.Elements.{Contains-append_cases, Contains-append_left}
 use mathlib.Core.Option.{some}
 use lib.ListN.{get_elem?}
@@ -10,21 +10,24 @@ use Rattle.core_model.specs.declared.tab.Freer.{Freer}
 use Rattle.core_model.specs.declared.tab.Reader.{Reader}
 use Rattle.core_model.specs.declared.tab.Tab.{Tab}
 use Rattle.core_model.specs.declared.tab.Tab.TheVariants.{Free, Freeing, Last, Reading, Retreating, Writing}
+use Rattle.core_model.specs.declared.moves.Move.{Move}
+use Rattle.core_model.specs.declared.view.Place.{Place}
 use Rattle.core_model.specs.declared.view.Place.TheVariants.{Link}
 use Rattle.core_model.specs.declared.view.View.{View}
 use Rattle.core_model.specs.Anchors.{TabStands}
 use Rattle.core_model.specs.Chains.{rest_of, slots_of_link}
-use Rattle.core_model.specs.Layout.{Setting}
+use Rattle.core_model.specs.Layout.{Setting, word_in}
 use Rattle.core_model.specs.SlotMoves.{IsFront, IsNext, MayLoosen, MayPublish, MayReserve}
 use Rattle.core_model.specs.Sound.{Sound}
 use Rattle.core_model.specs.State.{State, chain_of}
-use Rattle.core_model.specs.Table.{MayStep}
-use Rattle.core_model.specs.Tabs.{IsPass, OfFreer, OfReader, OfWriter, inner, tab_at}
+use Rattle.core_model.specs.Steps.{number_found}
+use Rattle.core_model.specs.Table.{MayStep, place}
+use Rattle.core_model.specs.Tabs.{IsPass, OfFreer, OfReader, OfWriter, inner, tab_at, anchor_of}
 use Rattle.core_model.proofs.FollowsKept.{at_times}
 use Rattle.core_model.proofs.Lists.{cons_contains, contains_none}
 use Rattle.core_model.proofs.ReservesKept.{of_freer, of_writer, tab_was}
 use Rattle.core_model.proofs.Tabs.{times_contains}
-use Rattle.core_alone.specs.Alone.{IsTabAt, KnowsAlone, KnowsWord, StandsAlone}
+use Rattle.core_alone.specs.Alone.{IsTabAt, KnowsAlone, KnowsWord, StandsAlone, has_word}
 use Rattle.core_alone.proofs.Finding.{has_tabs}
 use Rattle.core_alone.proofs.Spelling.{end_known}
 
@@ -108,3 +111,56 @@ module _ {X : Type 0} (left : ℕ → ℕ → Bool) (k : Setting X) (s : State X
       by_tab (Retreating b) e h here = absurd (⊎_elim (λ (z : ⊥). z) (λ (z : ⊥). z) h)
       by_tab (Writing w) e h here = absurd (⊎_elim (λ (z : ⊥). z) (λ (z : ⊥). z) h)
       by_tab (Last b) e h here = absurd (⊎_elim (λ (z : ⊥). z) (λ (z : ⊥). z) h)
+
+-- Where every anchor is left to the pass, as where a store has one, each step on a link finds what the pass has.
+module _ {X : Type 0} (left : ℕ → ℕ → Bool) (k : Setting X) (s : State X) (i : ℕ) (v : View X) (so : Sound k s)
+    (alone : StandsAlone left k s) (at : get_elem? s.views i ≡ some v) (all : (a : ℕ) → left v.pass a ≡ true) where
+  slot_is : (x slot : ℕ) → ◌≡◌ {A = Option Place} (Some (Link x)) (Some (Link slot)) → x ≡ slot
+  slot_is x slot e = ap link_slot e
+    where
+      link_slot : Option Place → ℕ
+      link_slot (Some (Link n)) = n
+      link_slot o = x
+
+  -- a tab that is not free is at its anchor
+  at_its_anchor : (x : Tab X) → (x ≡ Free → ⊥) → IsTabAt x (anchor_of x)
+  at_its_anchor Free ne = absurd (ne refl)
+  at_its_anchor (Retreating a) ne = refl
+  at_its_anchor (Reading r) ne = refl
+  at_its_anchor (Writing w) ne = refl
+  at_its_anchor (Last a) ne = refl
+  at_its_anchor (Freeing f) ne = refl
+
+  publishing : (t x : ℕ) (link : LinkOf) → MayStep k s v (Publish t x link) → KnowsWord k s v (Link x)
+  publishing t x link may =
+      publish_finds left k s i v so alone at (anchor_of (tab_at v t)) (all (anchor_of (tab_at v t))) may.pass t x link may
+      (at_its_anchor (tab_at v t) (λ e. subst (OfWriter (MayPublish k s x link)) e may.allowed.1))
+
+  loosening : (t x : ℕ) → MayStep k s v (Loosen t x) → KnowsWord k s v (Link x)
+  loosening t x may = loosen_finds left k s i v so alone at (anchor_of (tab_at v inner)) (all (anchor_of (tab_at v inner))) may.pass t x may
+      (at_its_anchor (tab_at v inner) (inner_used may.allowed.1))
+    where
+      only_inner : (f : Freer X) → tab_at v t ≡ Freeing f → t ≡ inner
+      only_inner f e =
+          (so.anchors.tabs i v at t (Freeing f) (tab_was k s i v so.anchors so.slots at may.pass t (Freeing f) may.allowed.0 e)).1
+
+      inner_used : OfFreer (MayLoosen x) (tab_at v t)
+          ⊎ (OfWriter MayReserve (tab_at v t) × OfFreer (λ f. MayLoosen x f × (f.is_freeing ≡ true)) (tab_at v inner))
+          → tab_at v inner ≡ Free → ⊥
+      inner_used (inl h) e = let q = of_freer (MayLoosen x) (tab_at v t) h in
+          subst (OfFreer (MayLoosen x)) (ap (tab_at v) (only_inner q.0 q.1) ∙ e) h
+      inner_used (inr h) e = subst (OfFreer (λ f. MayLoosen x f × (f.is_freeing ≡ true))) e h.1
+
+  looking : (t x : ℕ) → MayStep k s v (GetLink t x) → KnowsWord k s v (Link x)
+  looking t x may = look_finds left k s i v so alone at (anchor_of (tab_at v t)) (all (anchor_of (tab_at v t))) may.pass t x may
+      (at_its_anchor (tab_at v t) (λ e. ⊎_elim (λ (z : ⊥). z) (λ (z : ⊥). z)
+      (subst (λ (y : Tab X). OfReader (IsNext s x) y ⊎ OfFreer (IsFront x) y) e may.allowed.1)))
+
+  pub link_found : (m : Move) (slot : ℕ) → MayStep k s v m → place v m ≡ Some (Link slot) → number_found k s v m ≡ has_word k v (Link slot)
+  link_found (Publish t x link) slot may is =
+      subst (λ (n : ℕ). word_in k s.words (Link x) ≡ has_word k v (Link n)) (slot_is x slot is) (publishing t x link may)
+  link_found (Loosen t x) slot may is =
+      subst (λ (n : ℕ). word_in k s.words (Link x) ≡ has_word k v (Link n)) (slot_is x slot is) (loosening t x may)
+  link_found (GetLink t x) slot may is =
+      subst (λ (n : ℕ). word_in k s.words (Link x) ≡ has_word k v (Link n)) (slot_is x slot is) (looking t x may)
+  link_found m slot may is = cc
