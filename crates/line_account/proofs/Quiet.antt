@@ -78,7 +78,8 @@ record IsSilent (a : Answer) : Type 0 where
   reads : Reads a → ⊥
 
 -- by shape: what a line that begins a version tells, and what one tells that comes to an entry
-none_began : (a : Answer) → ((x : ℕ) → BeganAndEnded a x → ⊥) → ((x : ℕ) → BeganOnTab a x → ⊥) → (q : Request) (x : ℕ) → Began q a x → ⊥
+none_began : (a : Answer) → ((x : ℕ) → BeganAndEnded a x → ⊥) → ((x : ℕ) → BeganOnTab a x → ⊥)
+    → (q : Request) (x : ℕ) → Began q a x → ⊥
 none_began a ended begun (Put url body) x h = ended x h
 none_began a ended begun (Save url body) x h = ended x h
 none_began a ended begun (Begin tab url body) x h = begun x h

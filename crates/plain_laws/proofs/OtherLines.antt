@@ -69,7 +69,8 @@ last_at : (a : ℕ) (p : Plain) → tab_at p 7 ≡ Free → IsAt a (tab_at p 7) 
 last_at a p free at = subst (λ (t : Tab). IsAt a t) free at
 
 -- a request that is not own uses the tab of whole requests, or one that is not mine
-off_tab : (own mine : ℕ → Bool) (s : Setting) (request : Request) → is_of s own mine request ≡ false → (tab_of request ≡ 7) ⊎ (mine (tab_of request) ≡ false)
+off_tab : (own mine : ℕ → Bool) (s : Setting) (request : Request) → is_of s own mine request ≡ false
+    → (tab_of request ≡ 7) ⊎ (mine (tab_of request) ≡ false)
 off_tab own mine s (Begin tab url made) off = inr off
 off_tab own mine s (OpenTab tab url) off = inr off
 off_tab own mine s (Add tab count) off = inr off
@@ -80,7 +81,8 @@ off_tab own mine s (CloseTab tab) off = inr off
 off_tab own mine s _ off = inl refl
 
 -- the URL that it names is of another's anchor
-off_url : (own mine : ℕ → Bool) (s : Setting) (request : Request) (a : ℕ) → is_of s own mine request ≡ false → Sorts s own mine request → Names s a request → own a ≡ false
+off_url : (own mine : ℕ → Bool) (s : Setting) (request : Request) (a : ℕ) → is_of s own mine request ≡ false → Sorts s own mine request
+    → Names s a request → own a ≡ false
 off_url own mine s (Put url made) a off sorts named = ap own (sym named) ∙ off
 off_url own mine s (Save url made) a off sorts named = ap own (sym named) ∙ off
 off_url own mine s (Get url) a off sorts named = ap own (sym named) ∙ off

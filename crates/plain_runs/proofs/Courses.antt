@@ -31,7 +31,6 @@ use Rattle.store_serve.specs.Whole.{whole_tab}
 use Rattle.worker_shelf.specs.Shelves.{Learned, Noted, OnShelf, Went}
 use Rattle.worker_shelf.proofs.Holding.{Stays}
 use Rattle.worker_shelf.specs.Playing.{IsStep, Meets, Notes, StepOn}
-use Rattle.crew_accounts.proofs.Taking.{uses}
 use Rattle.plain_runs.specs.Shows.{ShowsTab}
 use Rattle.plain_runs.specs.Words.{setting_of}
 use Rattle.plain_runs.specs.Runs.{ShowsPlain}
@@ -62,6 +61,19 @@ module _ {C O : Type 0} (tells : Bool) (state : C → CellState) (offers : O →
   whole_stays number p a q (Mark mark) asks served leaves free = absurd served
   whole_stays number p a q (Await mark) asks served leaves free = absurd served
   whole_stays number p a q _ asks served leaves free = served.free
+
+-- a request that is served uses a tab
+uses : (request : Request) → IsServed request → (tab : ℕ) × UsesTab request tab
+uses (Begin tab url body) served = (tab, refl)
+uses (Add tab count) served = (tab, refl)
+uses (End tab) served = (tab, refl)
+uses (DropTab tab) served = (tab, refl)
+uses (OpenTab tab url) served = (tab, refl)
+uses (More tab) served = (tab, refl)
+uses (CloseTab tab) served = (tab, refl)
+uses (Mark mark) served = absurd served
+uses (Await mark) served = absurd served
+uses _ served = (7, refl)
 
 module _ {C O St : Type 0} (tells : Bool) (state : C → CellState) (offers : O → Offers) (faults : St → ℕ) (s : Store C O) (script : List Line) (lines : LinesRight tells state offers s) (stays : Stays tells state offers s) (start : Pass C) where
   abbrev S : Setting
