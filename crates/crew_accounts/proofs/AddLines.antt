@@ -37,11 +37,11 @@ use Rattle.crew_accounts.specs.Runs.{Past, run_of}
 use Rattle.crew_accounts.specs.Tracks.{IsWriter, Tracks}
 use Rattle.crew_accounts.proofs.CallDeeds.{adds_by, of_giving_up, of_publishing}
 use Rattle.crew_accounts.proofs.Fitting.{on_writer, writer_fits}
-use Rattle.crew_accounts.proofs.GivingUp.{body_eq, fault_no_part, fault_no_tab, fault_told, gives_up_fault, large_of, refuses_fault, self_both, shows_no_epoch, url_eq}
+use Rattle.crew_accounts.proofs.GivingUp.{body_eq, fault_evicts, fault_no_part, fault_no_tab, fault_told, gives_up_fault, large_of, refuses_fault, self_both, shows_no_epoch, url_eq}
 use Rattle.crew_accounts.proofs.Halting.{not_added_seen}
 use Rattle.crew_accounts.proofs.Shown.{shows_none}
 use Rattle.crew_accounts.proofs.TabLines.{elsewhere, no_more_writes}
-use Rattle.crew_accounts.proofs.Telling.{plain, tells_by}
+use Rattle.crew_accounts.proofs.Telling.{no_more, plain, tells_by}
 use Rattle.crew_accounts.proofs.Small.{took_small}
 use Rattle.crew_accounts.proofs.TooLarge.{not_added_large}
 use Rattle.crew_accounts.proofs.Tracking.{tracks_on_tab}
@@ -112,7 +112,7 @@ module _ {C O : Type 0} (tells : Bool) (state : C → CellState) (offers : O →
                 (λ d. of_publishing r (view q) served l d (record { may = tt; wants = refl }) (name_of g e) (view q).seen (grows g e h.first first served l h.writes (view q)))
                 none
                 (tells_by r (view q) served l has_added
-                (plain r (view q) served l (λ b f shows. (none b f shows).seen) tt refl (λ x z. z) (λ x z. z) (λ url body z. z) (writer_fits tells state offers s told past served p t (answer.Added count) q h) (λ z. cc)))
+                (plain r (view q) served l (no_more r (view q) served l (λ j e. cc)) (λ b f shows. (none b f shows).seen) tt refl (λ x z. z) (λ x z. z) (λ url body z. z) (writer_fits tells state offers s told past served p t (answer.Added count) q h) (λ z. cc)))
                 (λ y f bytes z. absurd (let c : answer.Added count ≡ answer.Part f bytes = z in cc));
             tracks = tracks_on_tab tells state offers s told past served p q t l below leaves (λ j ne. elsewhere (Add t asked) (answer.Added count) j ne)
                 (inr (inl (record {
@@ -145,10 +145,10 @@ module _ {C O : Type 0} (tells : Bool) (state : C → CellState) (offers : O →
           looked = 0;
           adds = adds_by r (view p) (view q) served l refl (OfGivingUp (name_of g e) (view q).seen)
               (serving.not_added tells state offers s t e p q (entry_of tells state offers s t e h.is) k)
-              (λ d. of_giving_up r (view q) served l d (record { may = tt; wants = refl }) (name_of g e) (view q).seen (grows g e h.first first served l h.writes (view q)) (halts g e h.first first served l h.writes (gives_up_fault fault)))
+              (λ d. of_giving_up r (view q) served l d (record { may = fault_evicts fault; wants = refl }) (name_of g e) (view q).seen (grows g e h.first first served l h.writes (view q)) (halts g e h.first first served l h.writes (gives_up_fault fault)))
               none
               (tells_by r (view q) served l (fault_told r (view q) served l fault up refl (λ z. large_of g told past e h.first first h.is.rests.from served l h.writes (not_added_large tells state offers s t e p q fault k z)))
-              (plain r (view q) served l (λ b f shows. (none b f shows).seen) (answers fault) refl (λ x z. z) (λ x z. z) (λ url body z. z) (writer_fits tells state offers s told past served p t (answer_to_fault fault) q h) (fault_no_tab fault)))
+              (plain r (view q) served l (no_more r (view q) served l (λ j e. cc)) (λ b f shows. (none b f shows).seen) (answers fault) refl (λ x z. z) (λ x z. z) (λ url body z. z) (writer_fits tells state offers s told past served p t (answer_to_fault fault) q h) (fault_no_tab fault)))
               (λ y f bytes z. absurd (fault_no_part fault f bytes z));
           tracks = tracks_on_tab tells state offers s told past served p q t l below leaves (λ j ne. elsewhere (Add t asked) (answer_to_fault fault) j ne)
               (inl (record { writes = no_more_writes t l served refl (self_both t _ (refuses_fault fault)); reads = h.reads; free = k.stopped.halts.parted.free })) tracks;

@@ -24,7 +24,7 @@ use Rattle.crew_accounts.proofs.Dropping.{self_true}
 use Rattle.crew_accounts.proofs.Fitting.{on_reader, reader_fits}
 use Rattle.crew_accounts.proofs.Shown.{shows_none}
 use Rattle.crew_accounts.proofs.TabLines.{elsewhere, no_more_reads}
-use Rattle.crew_accounts.proofs.Telling.{plain, tells_by}
+use Rattle.crew_accounts.proofs.Telling.{no_more, plain, tells_by}
 use Rattle.crew_accounts.proofs.Tracking.{tracks_on_tab}
 use Rattle.crew_accounts.proofs.TurningAway.{away_adds}
 
@@ -53,7 +53,7 @@ module _ {C O : Type 0} (tells : Bool) (state : C → CellState) (offers : O →
             (λ d. of_leaving r (view q) served l d)
             none
             (tells_by r (view q) served l tt
-            (plain r (view q) served l (λ b e shows. (none b e shows).seen) tt refl (λ x k. k) (λ x k. k) (λ url body k. k) (reader_fits tells state offers s told past served p t a q h) (λ z. cc)))
+            (plain r (view q) served l (no_more r (view q) served l (λ j e. cc)) (λ b e shows. (none b e shows).seen) tt refl (λ x k. k) (λ x k. k) (λ url body k. k) (reader_fits tells state offers s told past served p t a q h) (λ z. cc)))
             (λ y e bytes z. absurd (let k : answer.Closed ≡ answer.Part e bytes = z in cc));
         tracks = tracks_on_tab tells state offers s told past served p q t l below leaves (λ j ne. elsewhere (CloseTab t) answer.Closed j ne)
             (inl (record { writes = h.writes; reads = no_more_reads t l served refl (self_true t); free = closes.free })) tracks;

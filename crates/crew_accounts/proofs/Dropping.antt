@@ -24,7 +24,7 @@ use Rattle.crew_accounts.proofs.Fitting.{on_writer, writer_fits}
 use Rattle.crew_accounts.proofs.Halting.{halts_seen}
 use Rattle.crew_accounts.proofs.Shown.{shows_none}
 use Rattle.crew_accounts.proofs.TabLines.{elsewhere, no_more_writes}
-use Rattle.crew_accounts.proofs.Telling.{plain, tells_by}
+use Rattle.crew_accounts.proofs.Telling.{no_more, plain, tells_by}
 use Rattle.crew_accounts.proofs.Tracking.{tracks_on_tab}
 use Rattle.crew_accounts.proofs.TurningAway.{away_adds}
 use Rattle.crew_accounts.proofs.WriterLines.{begun_by_first, given_up, halts}
@@ -60,7 +60,7 @@ module _ {C O : Type 0} (tells : Bool) (state : C → CellState) (offers : O →
             (λ d. of_halting r (view q) served l d h.entry.anchor h.entry.version up)
             none
             (tells_by r (view q) served l (given_up g h.entry h.first first served l h.writes (view q) (halts_seen g t (name_of g h.entry) (view p) (view q) entry drops.halts))
-            (plain r (view q) served l (λ b e shows. (none b e shows).seen) tt refl (λ x k. k) (λ x k. k) (λ url body k. k) (writer_fits tells state offers s told past served p t a q h) (λ z. cc)))
+            (plain r (view q) served l (no_more r (view q) served l (λ j e. cc)) (λ b e shows. (none b e shows).seen) tt refl (λ x k. k) (λ x k. k) (λ url body k. k) (writer_fits tells state offers s told past served p t a q h) (λ z. cc)))
             (λ y e bytes z. absurd (let k : answer.Dropped ≡ answer.Part e bytes = z in cc));
         tracks = tracks_on_tab tells state offers s told past served p q t l below leaves (λ j ne. elsewhere (DropTab t) answer.Dropped j ne)
             (inl (record { writes = no_more_writes t l served refl (self_true t); reads = h.reads; free = drops.halts.parted.free })) tracks;

@@ -34,11 +34,11 @@ use Rattle.crew_accounts.specs.Tracks.{IsWriter, Tracks}
 use Rattle.crew_accounts.proofs.CallDeeds.{adds_by, of_ending, of_giving_up}
 use Rattle.crew_accounts.proofs.Ended.{ended_names, ended_turn, ended_version}
 use Rattle.crew_accounts.proofs.Fitting.{on_writer, writer_fits}
-use Rattle.crew_accounts.proofs.GivingUp.{closed_epoch, ended_no_part, ended_no_tab, ended_told, ends_ended, ends_fault, fault_no_part, fault_no_tab, fault_told, gives_up_fault, large_of, self_both, small_of, shows_closed, shows_no_epoch}
+use Rattle.crew_accounts.proofs.GivingUp.{closed_epoch, ended_evicts, ended_no_part, ended_no_tab, ended_told, ends_ended, ends_fault, fault_evicts, fault_no_part, fault_no_tab, fault_told, gives_up_fault, large_of, self_both, shows_closed, shows_no_epoch, small_of}
 use Rattle.crew_accounts.proofs.Halting.{not_ended_seen}
 use Rattle.crew_accounts.proofs.Shown.{IsInTurn, shows_none, shows_one}
 use Rattle.crew_accounts.proofs.TabLines.{elsewhere, no_more_writes}
-use Rattle.crew_accounts.proofs.Telling.{plain, tells_by}
+use Rattle.crew_accounts.proofs.Telling.{no_more, plain, tells_by}
 use Rattle.crew_accounts.proofs.Small.{ended_small}
 use Rattle.crew_accounts.proofs.TooLarge.{not_ended_large}
 use Rattle.crew_accounts.proofs.Tracking.{tracks_on_tab}
@@ -86,10 +86,10 @@ module _ {C O : Type 0} (tells : Bool) (state : C → CellState) (offers : O →
           looked = 0;
           adds = adds_by r (view p) (view q) served l refl (OfEnding (name_of g e) (view q).seen ended)
               (serving.ended tells state offers s t e p q (entry_of tells state offers s t e h.is) k)
-              (λ d. of_ending r (view q) served l d (record { may = tt; wants = refl }) (name_of g e) (view q).seen ended (grows g e h.first first served l h.writes (view q)) refl)
+              (λ d. of_ending r (view q) served l d (record { may = ended_evicts ended; wants = refl }) (name_of g e) (view q).seen ended (grows g e h.first first served l h.writes (view q)) refl)
               shows
               (tells_by r (view q) served l (ended_told r (view q) served l ended finished (small_of g told past e h.first first h.is.rests.from served l h.writes (ended_small tells state offers s t e p q ended k h.small)))
-              (plain r (view q) served l (λ b f z. (shows b f z).seen) (answers_ended ended) refl (λ x z. z) (λ x z. z) (λ url body z. z) (writer_fits tells state offers s told past served p t (answer_to_ended ended) q h) (ended_no_tab ended)))
+              (plain r (view q) served l (no_more r (view q) served l (λ j e. cc)) (λ b f z. (shows b f z).seen) (answers_ended ended) refl (λ x z. z) (λ x z. z) (λ url body z. z) (writer_fits tells state offers s told past served p t (answer_to_ended ended) q h) (ended_no_tab ended)))
               (λ y f bytes z. absurd (ended_no_part ended f bytes z));
           tracks = tracks_on_tab tells state offers s told past served p q t l below leaves (λ j ne. elsewhere (End t) (answer_to_ended ended) j ne)
               (inl (record { writes = no_more_writes t l served refl (self_both t _ (ends_ended ended)); reads = h.reads; free = k.finished.parted.free })) tracks;
@@ -107,10 +107,10 @@ module _ {C O : Type 0} (tells : Bool) (state : C → CellState) (offers : O →
           looked = 0;
           adds = adds_by r (view p) (view q) served l refl (OfGivingUp (name_of g e) (view q).seen)
               (serving.not_ended tells state offers s t e p q fault (entry_of tells state offers s t e h.is) k)
-              (λ d. of_giving_up r (view q) served l d (record { may = tt; wants = refl }) (name_of g e) (view q).seen (grows g e h.first first served l h.writes (view q)) (halts g e h.first first served l h.writes (gives_up_fault fault)))
+              (λ d. of_giving_up r (view q) served l d (record { may = fault_evicts fault; wants = refl }) (name_of g e) (view q).seen (grows g e h.first first served l h.writes (view q)) (halts g e h.first first served l h.writes (gives_up_fault fault)))
               none
               (tells_by r (view q) served l (fault_told r (view q) served l fault up refl (λ z. large_of g told past e h.first first h.is.rests.from served l h.writes (not_ended_large tells state offers s t e p q fault k z)))
-              (plain r (view q) served l (λ b f z. (none b f z).seen) (answers_fault fault) refl (λ x z. z) (λ x z. z) (λ url body z. z) (writer_fits tells state offers s told past served p t (answer_to_fault fault) q h) (fault_no_tab fault)))
+              (plain r (view q) served l (no_more r (view q) served l (λ j e. cc)) (λ b f z. (none b f z).seen) (answers_fault fault) refl (λ x z. z) (λ x z. z) (λ url body z. z) (writer_fits tells state offers s told past served p t (answer_to_fault fault) q h) (fault_no_tab fault)))
               (λ y f bytes z. absurd (fault_no_part fault f bytes z));
           tracks = tracks_on_tab tells state offers s told past served p q t l below leaves (λ j ne. elsewhere (End t) (answer_to_fault fault) j ne)
               (inl (record { writes = no_more_writes t l served refl (self_both t _ (ends_fault fault)); reads = h.reads; free = free_again e fault k })) tracks;

@@ -57,7 +57,7 @@ use Rattle.crew_accounts.proofs.OtherUrls.{entry_key, other_url}
 use Rattle.crew_accounts.proofs.ReadingOn.{ReadOn, gives_on}
 use Rattle.crew_accounts.proofs.Shown.{IsInTurn, ShowsInTurn, shows_none, shows_one, turn_from, turn_to}
 use Rattle.crew_accounts.proofs.TabLines.{get_alone}
-use Rattle.crew_accounts.proofs.Telling.{ToTell, plain, tells_by}
+use Rattle.crew_accounts.proofs.Telling.{ToTell, no_more, plain, tells_by}
 use Rattle.crew_accounts.proofs.Tracking.{entry_moved, entry_on, tracks_whole}
 use Rattle.crew_accounts.proofs.Turns.{came_turn, waits_turn}
 use Rattle.crew_accounts.proofs.Waiting.{grown_version}
@@ -87,7 +87,7 @@ module _ {C O : Type 0} (tells : Bool) (state : C → CellState) (offers : O →
               (λ d. of_visiting r (view q) served l d (anchor_for g url) (record { url = url; comes = refl; anchor = refl }))
               shows
               (tells_by r (view q) served l refusal.cause
-              (plain r (view q) served l (λ b e z. (shows b e z).seen) tt refl (λ x z. z) (λ x z. z) (λ u body z. z) tt (λ z. cc)))
+              (plain r (view q) served l (no_more r (view q) served l (λ j e. cc)) (λ b e z. (shows b e z).seen) tt refl (λ x z. z) (λ x z. z) (λ u body z. z) tt (λ z. cc)))
               (λ y e gave z. absurd (let w : answer.Miss c ≡ answer.Part e gave = z in cc));
           tracks = tracks_whole tells state offers s told past served p q l leaves free (get_alone url (answer.Miss c)) tracks;
         }
@@ -144,6 +144,7 @@ module _ {C O : Type 0} (tells : Bool) (state : C → CellState) (offers : O →
                   short = λ u body z. absurd z;
                   offered = λ u body z. absurd z;
                   tab = ((λ z. absurd (no_tab z)), (λ n. absurd (n tt)));
+                  stays = no_more r (view q) served l (λ j e. cc);
                 }))
                 parts;
             tracks = tracks_whole tells state offers s told past served p q l leaves free (get_alone url a) tracks;

@@ -5,6 +5,7 @@ use Rattle.core_model.specs.declared.view.View.{View}
 use Rattle.entry_cut.specs.Content.{room_of}
 use Rattle.line_account.specs.Accounts.{HasFinished, HasGivenUp, epochs_of}
 use Rattle.line_account.specs.Answers.{IsLarge, IsSmall, Run}
+use Rattle.line_account.specs.Deeds.{MayEvict}
 use Rattle.line_account.specs.Lines.{Served, begun_by, gives_up, is_finished, is_refused}
 use Rattle.lock_word.specs.Words.{epoch_at}
 use Rattle.lock_word.specs.declared.epoch.Epoch.{Epoch}
@@ -43,6 +44,16 @@ pub ends_fault : (fault : WriteFault) → (is_refused (answer_to_fault fault) ||
 ends_fault Large = refl
 ends_fault Full = refl
 ends_fault Fault = refl
+
+-- a line that was answered so came so far that it needed slots
+pub fault_evicts : (fault : WriteFault) → MayEvict (answer_to_fault fault)
+fault_evicts Large = tt
+fault_evicts Full = tt
+fault_evicts Fault = tt
+
+pub ended_evicts : (ended : Ended) → MayEvict (answer_to_ended ended)
+ended_evicts (Stored x) = tt
+ended_evicts (Doomed x) = tt
 
 pub shows_no_epoch : (fault : WriteFault) → epochs_of 0 0 (answer_to_fault fault) ≡ []
 shows_no_epoch Large = refl

@@ -36,6 +36,7 @@ pub mod PutLines
 pub mod Opened
 pub mod OpenLines
 pub mod ReadingOn
+pub mod Stopped
 pub mod MoreLines
 pub mod GetLines
 pub mod LeavingTabs

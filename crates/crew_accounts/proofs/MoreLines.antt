@@ -1,5 +1,5 @@
 -- A line that reads on, on a tab.
-use Rattle.std.proofs.Common.{Bool, Contains, List, None, Some, [], ap, arith, cond, eq-eqb, false, inl, inr, refl, subst, sym, true, ⊎_elim, ◌++◌, ◌<◌, ◌∙◌, ◌∷◌, ◌≡◌, ◌≤◌, ◌⊎◌, ℕ}
+use Rattle.std.proofs.Common.{Bool, Contains, List, None, Some, [], ap, arith, cond, eq-eqb, false, inl, inr, refl, subst, sym, true, ⊎_elim, ◌++◌, ◌<◌, ◌∙◌, ◌∷◌, ◌≡◌, ◌≤◌, ◌⊎◌, ℕ, ◌&&◌, ◌||◌, ◌==◌}
 use Rattle.std.specs.Prelude.{IsTrue}
 use Rattle.std.proofs.lemmas.List.{append-nil}
 use Rattle.lock_word.specs.Words.{epoch_number, stage_number, stage_of, version_of}
@@ -14,14 +14,16 @@ use Rattle.store_key.specs.Key.{key_of}
 use Rattle.store_key.specs.Url.{IsUrl}
 use Rattle.entry_cut.specs.Content.{count}
 use Rattle.core_model.specs.Anchors.{opening_counter}
+use Rattle.core_model.specs.Tabs.{OfReader, tab_at}
 use Rattle.core_model.specs.declared.view.Sight.TheVariants.{Published, Stood}
 use Rattle.script_text.specs.declared.request.Request.TheVariants.{More as MoreOf}
-use Rattle.line_account.specs.Accounts.{epochs_of}
+use Rattle.line_account.specs.Accounts.{HasHalted, epochs_of}
 use Rattle.line_account.specs.Answers.{IsPart, ComesIn, HasGiven, HasOther, HasPart, IsOfOpened, IsSure, IsWhole, Run}
 use Rattle.core_model.specs.Knowing.{KnowsAll}
 use Rattle.line_account.specs.Deeds.{Began}
 use Rattle.line_account.specs.Lines.{Served, bytes_given, bytes_in, reading, url_named}
 use Rattle.line_account.specs.Requests.{IsAnswerTo}
+use Rattle.line_account.specs.Stopping.{ReadsBehind, answered_more, is_end, is_halted, is_other_url as is_turned}
 use Rattle.store_rule.specs.declared.store.Pass.{Pass}
 use Rattle.store_rule.specs.declared.store.Store.{Store}
 use Rattle.store_rule.specs.Ground.{Ground, Offers, anchor_for, cut_of}
@@ -41,7 +43,7 @@ use Rattle.store_serve.specs.Tabs.{IsTurnedAway, Leaves}
 use Rattle.store_serve.specs.Whole.{whole_tab}
 use Rattle.crew_accounts.specs.Lines.{AddsLine, served_as}
 use Rattle.crew_accounts.specs.Runs.{IsTold, Past, run_of}
-use Rattle.crew_accounts.specs.Tracks.{IsOtherUrl, IsReader, Tracks}
+use Rattle.crew_accounts.specs.Tracks.{HasEnded, IsOtherUrl, IsReader, Tracks}
 use Rattle.crew_accounts.proofs.CallDeeds.{adds_by}
 use Rattle.crew_accounts.proofs.Fitting.{on_reader, reader_fits}
 use Rattle.crew_accounts.proofs.GivenBytes.{IsGrowing, IsFromFront, given_of, gives_bytes, part_of}
@@ -49,8 +51,9 @@ use Rattle.crew_accounts.proofs.OtherUrls.{entry_key, other_on, other_url}
 use Rattle.crew_accounts.proofs.ReadingOn.{HasSeen, IsSameEntry, ReadOn, gives_on, tried_seen}
 use Rattle.crew_accounts.proofs.Shown.{IsInTurn, ShowsInTurn, shows_none, shows_one, turn_from}
 use Rattle.crew_accounts.proofs.TabLines.{elsewhere}
-use Rattle.crew_accounts.proofs.Telling.{ToTell, plain, tells_by}
-use Rattle.crew_accounts.proofs.Tracking.{entry_moved, entry_on, tracks_on_tab}
+use Rattle.crew_accounts.proofs.Stopped.{went_ended, went_turned}
+use Rattle.crew_accounts.proofs.Telling.{Stays, ToTell, plain, tells_by}
+use Rattle.crew_accounts.proofs.Tracking.{entry_moved, entry_on, halted_on, tracks_on_tab}
 use Rattle.crew_accounts.proofs.TurningAway.{away_adds}
 use Rattle.crew_accounts.proofs.Turns.{waits_turn}
 use Rattle.crew_accounts.proofs.Waiting.{grown_version}
@@ -95,6 +98,21 @@ same_line s t e = cc
 pub one_bool : (b : Bool) → b ≡ true → b ≡ false → ⊥
 one_bool b e f = let z : true ≡ false = sym e ∙ f in cc
 
+or_cases : (b c : Bool) → (b || c) ≡ true → (b ≡ true) ⊎ (c ≡ true)
+or_cases true c e = inl refl
+or_cases false c e = inr e
+
+and_right : (b c : Bool) → (b && c) ≡ true → c ≡ true
+and_right true c e = e
+and_right false c e = absurd (let z : false ≡ true = e in cc)
+
+same_tab : (t u : ℕ) → MoreOf t ≡ MoreOf u → u ≡ t
+same_tab t u e = cc
+
+neither : (b : Bool) (P : Type 0) → b ≡ false → (P → ⊥) → (b ≡ true) ⊎ P → ⊥
+neither b P f none (inl e) = one_bool b e f
+neither b P f none (inr h) = none h
+
 module _ {C O : Type 0} (tells : Bool) (state : C → CellState) (offers : O → Offers) (s : Store C O) (told : Bool) (past : Past) (served : List Served) (worker number t : ℕ) (p q : Pass C) (below : t < whole_tab) (from : IsFromFront)
     (told_so : IsTrue told → IsTold (basis tells state offers s) told past tells) where
   abbrev g : Ground (List ℕ)
@@ -111,12 +129,68 @@ module _ {C O : Type 0} (tells : Bool) (state : C → CellState) (offers : O →
     so : ReadOn tells state offers s t h.standing p went.standing went.middle
     so = gives_on tells state offers s t h.standing p went.calls went.standing went.middle bytes h.is went.gives
 
+    -- Behind END it came to END again, with no byte, and behind OTHERURL to that.
+    was_ended : answered_more is_end t served ≡ true → (why ≡ more.End) × (bytes ≡ [])
+    was_ended e = went_ended tells state offers s t h.standing p h.is (h.ended e) q bytes why went
+
+    was_turned : answered_more is_turned t served ≡ true → (why ≡ more.OtherUrl) × (bytes ≡ [])
+    was_turned e = went_turned tells state offers s t h.standing p h.is (h.turned e) q bytes why went
+
+    -- what was halted before is halted still
+    was_halted : (last : Standing) → last.anchor ≡ h.standing.anchor → last.version ≡ h.standing.version → answered_more is_halted t served ≡ true → HasHalted (view q) last.anchor last.version
+    was_halted last anchor version e = subst (λ (n : ℕ). HasHalted (view q) last.anchor n) (sym version)
+        (subst (λ (n : ℕ). HasHalted (view q) n h.standing.version) (sym anchor) (halted_on (view p) (view q) h.standing.anchor h.standing.version leaves.keeps (h.halted e)))
+
+    -- the line was answered so, or one before it on the tab
+    answered_so : (so : Answer → Bool) (a : Answer) (looked : ℕ) → answered_more so t (served_as line a None 0 looked ∷ served) ≡ true → (so a ≡ true) ⊎ (answered_more so t served ≡ true)
+    answered_so so a looked e = ⊎_elim
+        (λ (z : ((t == t) && so a) ≡ true). inl (and_right (t == t) (so a) z))
+        (λ (z : answered_more so t served ≡ true). inr z)
+        (or_cases ((t == t) && so a) (answered_more so t served) e)
+
+    -- where the tab is then, once an answer was one of the last ones
+    record IsStopped (a : Answer) (looked : ℕ) (last : Standing) : Type 0 where
+      ended : answered_more is_end t (served_as line a None 0 looked ∷ served) ≡ true → HasEnded q t last
+      turned : answered_more is_turned t (served_as line a None 0 looked ∷ served) ≡ true → last.is_other ≡ true
+      halted : answered_more is_halted t (served_as line a None 0 looked ∷ served) ≡ true → HasHalted (view q) last.anchor last.version
+
+    stopped : (a : Answer) (looked : ℕ) (last : Standing) → last.anchor ≡ h.standing.anchor → last.version ≡ h.standing.version → ((is_end a ≡ true) ⊎ (why ≡ more.End) → HasEnded q t last)
+        → ((is_turned a ≡ true) ⊎ (why ≡ more.OtherUrl) → last.is_other ≡ true) → (is_halted a ≡ true → HasHalted (view q) last.anchor last.version) → IsStopped a looked last
+    stopped a looked last anchor version end other halt = record {
+      ended = λ e. ⊎_elim (λ (z : is_end a ≡ true). end (inl z)) (λ (z : answered_more is_end t served ≡ true). end (inr (was_ended z).0)) (answered_so is_end a looked e);
+      turned = λ e. ⊎_elim (λ (z : is_turned a ≡ true). other (inl z)) (λ (z : answered_more is_turned t served ≡ true). other (inr (was_turned z).0)) (answered_so is_turned a looked e);
+      halted = λ e. ⊎_elim (λ (z : is_halted a ≡ true). halt z) (λ (z : answered_more is_halted t served ≡ true). was_halted last anchor version z) (answered_so is_halted a looked e);
+    }
+
+    anchor_same : went.standing.anchor ≡ h.standing.anchor
+    anchor_same = so.entry.anchor
+
+    version_same : went.standing.version ≡ h.standing.version
+    version_same = so.entry.version
+
+    -- it is stopped by none of these, but for what was halted before
+    goes_on : (a : Answer) (looked : ℕ) → is_end a ≡ false → (why ≡ more.End → ⊥) → is_turned a ≡ false → (why ≡ more.OtherUrl → ⊥) → (is_halted a ≡ true → HasHalted (view q) went.standing.anchor went.standing.version) → IsStopped a looked went.standing
+    goes_on a looked no_end not_end no_other not_other halt = stopped a looked went.standing anchor_same version_same (λ z. absurd (neither (is_end a) (why ≡ more.End) no_end not_end z))
+        (λ z. absurd (neither (is_turned a) (why ≡ more.OtherUrl) no_other not_other z)) halt
+
+    -- what the line tells behind such an answer
+    stays_so : (a : Answer) (looked : ℕ) → ((why ≡ more.End) × (bytes ≡ []) → a ≡ answer.End []) → ((why ≡ more.OtherUrl) × (bytes ≡ []) → a ≡ answer.OtherUrl)
+        → (HasHalted (view q) went.standing.anchor went.standing.version → (e : Epoch) (gave : List ℕ) → a ≡ answer.Part e gave → ⊥) → Stays r (view q) served (served_as line a None 0 looked)
+    stays_so a looked end other part = record {
+      behind_end = λ u b. end (was_ended (behind_here is_end u b));
+      behind_other = λ u b. other (was_turned (behind_here is_turned u b));
+      no_part = λ u e gave b is. part (was_halted went.standing anchor_same version_same (behind_here is_halted u b)) e gave is;
+    }
+      where
+        behind_here : (f : Answer → Bool) (u : ℕ) → ReadsBehind f served (served_as line a None 0 looked) u → answered_more f t served ≡ true
+        behind_here f u b = subst (λ (n : ℕ). answered_more f n served ≡ true) (same_tab t u b.request) b.behind
+
     -- the tab is as the lines say with this one, which gave these bytes
-    abbrev reader_at : (a : Answer) (looked : ℕ) (at : EndedAt tells state offers s t went.standing went.middle q)
+    abbrev reader_at : (a : Answer) (looked : ℕ) (at : EndedAt tells state offers s t went.standing went.middle q) → IsStopped a looked at.last
         → (IsTrue told → at.last.is_other ≡ false → bytes_given t (served_as line a None 0 looked ∷ served) ≡ body_below g at.last.anchor at.last.offer at.last.place)
         → (IsTrue told → at.last.is_other ≡ true → bytes_given t (served_as line a None 0 looked ∷ served) ≡ []) → (IsTrue told → at.last.is_other ≡ true → IsOtherUrl r at.last)
         → IsReader tells state offers s told past (served_as line a None 0 looked ∷ served) q t
-    reader_at a looked at given none other =
+    reader_at a looked at stop given none other =
         let last = at.last in
         let anchor : last.anchor ≡ h.standing.anchor = at.entry.anchor ∙ so.entry.anchor in
         let version : last.version ≡ h.standing.version = at.entry.version ∙ so.entry.version in
@@ -140,14 +214,17 @@ module _ {C O : Type 0} (tells : Bool) (state : C → CellState) (offers : O →
           none = none;
           other = other;
           shown = at.seen (so.seen h.shown);
+          ended = stop.ended;
+          turned = stop.turned;
+          halted = stop.halted;
         }
 
     -- the line adds what it should, whatever it tells
-    add_it : (a : Answer) (looked : ℕ) → ShowsInTurn r.setting.anchors (view p) (view q) served (served_as line a None 0 looked) → IsReader tells state offers s told past (served_as line a None 0 looked ∷ served) q t
+    add_it : (a : Answer) (looked : ℕ) → Stays r (view q) served (served_as line a None 0 looked) → ShowsInTurn r.setting.anchors (view p) (view q) served (served_as line a None 0 looked) → IsReader tells state offers s told past (served_as line a None 0 looked ∷ served) q t
         → ToTell r (view q) served (served_as line a None 0 looked) a
         → (IsTrue r.tells → (e : Epoch) (bytes : List ℕ) → a ≡ answer.Part e bytes → HasPart r (view p) (view q) served (served_as line a None 0 looked) (epoch_number e))
         → IsAnswerTo (MoreOf t) a → ((x : ℕ) → Began (MoreOf t) a x → ⊥) → ((x : ℕ) → ComesIn (MoreOf t) a x → ⊥) → (a ≡ answer.Tab → ⊥) → AddsLine tells state offers s told past served line p a q
-    add_it a looked shows reader to parts may none_begun none_opened no_tab =
+    add_it a looked stays shows reader to parts may none_begun none_opened no_tab =
         let l = served_as line a None 0 looked in
         record {
           drew = None;
@@ -155,7 +232,7 @@ module _ {C O : Type 0} (tells : Bool) (state : C → CellState) (offers : O →
           looked = looked;
           adds = adds_by r (view p) (view q) served l refl NoDeed (serving.went_on tells state offers s t went) (λ d z. absurd z) shows
               (tells_by r (view q) served l to
-              (plain r (view q) served l (λ b e z. (shows b e z).seen) may refl none_begun none_opened (λ u body z. z) (reader_fits tells state offers s told past served p t a q h) no_tab))
+              (plain r (view q) served l stays (λ b e z. (shows b e z).seen) may refl none_begun none_opened (λ u body z. z) (reader_fits tells state offers s told past served p t a q h) no_tab))
               parts;
           tracks = tracks_on_tab tells state offers s told past served p q t l below leaves (λ j ne. elsewhere (MoreOf t) a j ne) (inr (inr reader)) tracks;
         }
@@ -186,14 +263,14 @@ module _ {C O : Type 0} (tells : Bool) (state : C → CellState) (offers : O →
     all_bytes y mine a looked is = with_bytes a looked ∙ (λ i. h.given y mine i ++ is i) ∙ gives_bytes tells state offers s told past (told_so y) y t h.standing p went.calls went.standing went.middle bytes h.is went.gives
         ∙ (λ i. body_below g (sym so.entry.anchor i) (sym so.entry.offer i) went.standing.place)
 
-    module _ (a : Answer) (looked : ℕ) (is : bytes_in a ≡ bytes) (was : went.standing.is_other ≡ false) where
+    module _ (a : Answer) (looked : ℕ) (is : bytes_in a ≡ bytes) (was : went.standing.is_other ≡ false) (stop : IsStopped a looked went.standing) where
       -- it had not turned
       mine : h.standing.is_other ≡ false
       mine = sym so.other ∙ was
 
       -- the tab stays at the entry, with all bytes that were given
       abbrev stays_reader : ReadsAs tells state offers s q t went.standing → IsReader tells state offers s told past (served_as line a None 0 looked ∷ served) q t
-      stays_reader reads = reader_at a looked (stays_at tells state offers s t went.standing went.middle q reads keeps_on) (λ y z. all_bytes y mine a looked is)
+      stays_reader reads = reader_at a looked (stays_at tells state offers s t went.standing went.middle q reads keeps_on) stop (λ y z. all_bytes y mine a looked is)
           (λ y z. absurd (one_bool went.standing.is_other z was)) (λ y z. absurd (one_bool went.standing.is_other z was))
 
       -- and the line has given what it should
@@ -245,11 +322,13 @@ module _ {C O : Type 0} (tells : Bool) (state : C → CellState) (offers : O →
     none_before : IsTrue told → went.standing.is_other ≡ false → went.standing.place ≡ 0 → bytes_given t served ≡ []
     none_before y was first = h.given y (sym so.other ∙ was) ∙ ap (body_below g h.standing.anchor h.standing.offer) (let z = so.onward in let w : h.standing.place ≡ 0 = omega arith in w)
 
-    turned_reader : StaysOther tells state offers s t went.middle went.standing went.before went.after q ⊎ TurnsOut tells state offers s t went.middle went.standing went.before went.after q → (IsTrue told → IsOtherUrl r went.standing)
+    turned_reader : (why ≡ more.End → ⊥) → StaysOther tells state offers s t went.middle went.standing went.before went.after q ⊎ TurnsOut tells state offers s t went.middle went.standing went.before went.after q → (IsTrue told → IsOtherUrl r went.standing)
         → IsReader tells state offers s told past (served_as line answer.OtherUrl None 0 0 ∷ served) q t
-    turned_reader (inl k) its = reader_at answer.OtherUrl 0 (still_at tells state offers s t went.standing went.middle q so.reads k.still) (λ y z. absurd (one_bool went.standing.is_other k.was z))
+    turned_reader not_end (inl k) its = reader_at answer.OtherUrl 0 (still_at tells state offers s t went.standing went.middle q so.reads k.still)
+        (stopped answer.OtherUrl 0 went.standing anchor_same version_same (λ z. absurd (neither false (why ≡ more.End) refl not_end z)) (λ z. k.was) (λ z. absurd (one_bool false z refl))) (λ y z. absurd (one_bool went.standing.is_other k.was z))
         (λ y z. no_bytes ∙ h.none y (sym so.other ∙ k.was)) (λ y z. its y)
-    turned_reader (inr k) its = reader_at answer.OtherUrl 0 (turned_out tells state offers s t went.standing went.middle q went.before went.after so.reads k) (λ y z. absurd (let w : true ≡ false = z in cc))
+    turned_reader not_end (inr k) its = reader_at answer.OtherUrl 0 (turned_out tells state offers s t went.standing went.middle q went.before went.after so.reads k)
+        (stopped answer.OtherUrl 0 (turned went.standing) anchor_same version_same (λ z. absurd (neither false (why ≡ more.End) refl not_end z)) (λ z. refl) (λ z. absurd (one_bool false z refl))) (λ y z. absurd (let w : true ≡ false = z in cc))
         (λ y z. no_bytes ∙ none_before y k.was (k.url ((told_so y).cells y) ((told_so y).file y)).0) (λ y z. other_on r went.standing (turned went.standing) refl refl (its y))
 
   more_read : (tracks : Tracks tells state offers s told past served p) (leaves : Leaves tells state offers s t p q) (h : IsReader tells state offers s told past served p t) (why : More) (bytes : List ℕ)
@@ -262,21 +341,24 @@ module _ {C O : Type 0} (tells : Bool) (state : C → CellState) (offers : O →
       let stage = at_stage epoch Stage.Appending k.grows in
       let version : version_of (epoch_number epoch) ≡ went.standing.version = version_of-epoch_number epoch ∙ k.waits.version_is in
       let high = subst (λ (n : ℕ). opening_counter g.setting < n) version (grown_version g (view q) went.standing.anchor (epoch_number epoch) k.waits.stays.own.stands k.waits.fresh.seen stage) in
-      let reader = stays_reader tracks leaves h (more.NotYet epoch) bytes went (answer.Part epoch bytes) 0 refl k.waits.was k.waits.stays in
+      let stop = goes_on tracks leaves h (more.NotYet epoch) bytes went (answer.Part epoch bytes) 0 refl (λ z. cc) refl (λ z. cc) (λ z. absurd (one_bool false z refl)) in
+      let on = stays_so tracks leaves h (more.NotYet epoch) bytes went (answer.Part epoch bytes) 0 (λ z. absurd (let w : more.NotYet epoch ≡ more.End = z.0 in cc)) (λ z. absurd (let w : more.NotYet epoch ≡ more.OtherUrl = z.0 in cc))
+      (λ halt e gave z. let low = k.stages halt.epoch halt.seen halt.version_is in let four = halt.halted in omega arith) in
+      let reader = stays_reader tracks leaves h (more.NotYet epoch) bytes went (answer.Part epoch bytes) 0 refl k.waits.was stop k.waits.stays in
       subst (λ (z : Answer). AddsLine tells state offers s told past served line p z q) (sym is)
-      (add_it tracks leaves h (more.NotYet epoch) bytes went (answer.Part epoch bytes) 0
+      (add_it tracks leaves h (more.NotYet epoch) bytes went (answer.Part epoch bytes) 0 on
       (shows_one r.setting.anchors (view p) (view q) served l h.standing.url (at_url tracks leaves h (more.NotYet epoch) bytes went) (epoch_number epoch) refl (found_turn tracks leaves h (more.NotYet epoch) bytes went (epoch_number epoch)
       (waits_turn tells state offers s t went.middle q went.standing went.before went.after epoch (so tracks leaves h (more.NotYet epoch) bytes went).reads k.waits)))
       reader (
         stage,
         of_opened tracks leaves h (more.NotYet epoch) bytes went (answer.Part epoch bytes) 0 (epoch_number epoch) version,
-        (λ y. has_given tracks leaves h (more.NotYet epoch) bytes went (answer.Part epoch bytes) 0 refl k.waits.was k.waits.stays y (λ z. some) (λ z. absurd z) (λ z. (
+        (λ y. has_given tracks leaves h (more.NotYet epoch) bytes went (answer.Part epoch bytes) 0 refl k.waits.was stop k.waits.stays y (λ z. some) (λ z. absurd z) (λ z. (
           some,
           reader.new high,
           waits_more tells state offers s t went.middle q went.standing went.before went.after epoch (so tracks leaves h (more.NotYet epoch) bytes went).reads k.waits high,
         ))),
       )
-      (λ y e gave z. part_at e gave z (has_part tracks leaves h (more.NotYet epoch) bytes went (answer.Part epoch bytes) 0 refl k.waits.was k.waits.stays y (epoch_number epoch) (λ x. some) (λ x. x) version k.waits.fresh.seen some (reader.new high)
+      (λ y e gave z. part_at e gave z (has_part tracks leaves h (more.NotYet epoch) bytes went (answer.Part epoch bytes) 0 refl k.waits.was stop k.waits.stays y (epoch_number epoch) (λ x. some) (λ x. x) version k.waits.fresh.seen some (reader.new high)
       (waits_more tells state offers s t went.middle q went.standing went.before went.after epoch (so tracks leaves h (more.NotYet epoch) bytes went).reads k.waits high) (λ n c. k.waits.published n (leaves.keeps.seen _ c))))
       tt (λ x z. z) (λ x z. z) (λ z. cc))
     where
@@ -285,36 +367,50 @@ module _ {C O : Type 0} (tells : Bool) (state : C → CellState) (offers : O →
   more_read tracks leaves h more.End bytes went a is =
       let k = went.ends in
       let reads = subst (λ (z : Pass C). ReadsAs tells state offers s z t went.standing) (sym k.still) (so tracks leaves h more.End bytes went).reads in
+      let at : HasEnded q t went.standing = record { was = k.was; some = k.some; none = subst (λ (z : Pass C). OfReader (λ r. r.slot ≡ None) (tab_at (view z) t)) (sym k.still) k.ended } in
+      let stop = stopped tracks leaves h more.End bytes went (answer.End bytes) 0 went.standing (anchor_same tracks leaves h more.End bytes went) (version_same tracks leaves h more.End bytes went) (λ z. at)
+      (λ z. absurd (neither false (more.End ≡ more.OtherUrl) refl (λ w. cc) z)) (λ z. absurd (one_bool false z refl)) in
+      let on = stays_so tracks leaves h more.End bytes went (answer.End bytes) 0 (λ z. ap answer.End z.1) (λ z. absurd (let w : more.End ≡ more.OtherUrl = z.0 in cc)) (λ halt e gave z. absurd (let w : answer.End bytes ≡ answer.Part e gave = z in cc)) in
       subst (λ (z : Answer). AddsLine tells state offers s told past served line p z q) (sym is)
-      (add_it tracks leaves h more.End bytes went (answer.End bytes) 0 (no_epoch tracks leaves h more.End bytes went (answer.End bytes) refl)
-      (stays_reader tracks leaves h more.End bytes went (answer.End bytes) 0 refl k.was reads)
-      (λ y. has_given tracks leaves h more.End bytes went (answer.End bytes) 0 refl k.was reads y (λ z. k.some) (λ z. (k.some, k.all)) (λ z. absurd z))
+      (add_it tracks leaves h more.End bytes went (answer.End bytes) 0 on (no_epoch tracks leaves h more.End bytes went (answer.End bytes) refl)
+      (stays_reader tracks leaves h more.End bytes went (answer.End bytes) 0 refl k.was stop reads)
+      (λ y. has_given tracks leaves h more.End bytes went (answer.End bytes) 0 refl k.was stop reads y (λ z. k.some) (λ z. (k.some, k.all)) (λ z. absurd z))
       (λ y e gave z. absurd (let w : answer.End bytes ≡ answer.Part e gave = z in cc)) tt (λ x z. z) (λ x z. z) (λ z. cc))
   more_read tracks leaves h more.Halted bytes went a is =
       let k = went.ends in
       let l = served_as line (answer.Halted bytes) None 0 (epoch_number k.epoch) in
       let some = waits_some tells state offers s t went.middle q went.standing went.before went.after k.epoch (so tracks leaves h more.Halted bytes went).reads k.waits in
+      let seen : HasHalted (view q) went.standing.anchor went.standing.version =
+      record { epoch = epoch_number k.epoch; version_is = version_of-epoch_number k.epoch ∙ k.waits.version_is; halted = at_stage k.epoch Stage.Halted k.halted; seen = k.waits.fresh.seen } in
+      let stop = goes_on tracks leaves h more.Halted bytes went (answer.Halted bytes) (epoch_number k.epoch) refl (λ z. cc) refl (λ z. cc) (λ z. seen) in
+      let on = stays_so tracks leaves h more.Halted bytes went (answer.Halted bytes) (epoch_number k.epoch) (λ z. absurd (let w : more.Halted ≡ more.End = z.0 in cc)) (λ z. absurd (let w : more.Halted ≡ more.OtherUrl = z.0 in cc))
+      (λ halt e gave z. absurd (let w : answer.Halted bytes ≡ answer.Part e gave = z in cc)) in
       subst (λ (z : Answer). AddsLine tells state offers s told past served line p z q) (sym is)
-      (add_it tracks leaves h more.Halted bytes went (answer.Halted bytes) (epoch_number k.epoch)
+      (add_it tracks leaves h more.Halted bytes went (answer.Halted bytes) (epoch_number k.epoch) on
       (shows_one r.setting.anchors (view p) (view q) served l h.standing.url (at_url tracks leaves h more.Halted bytes went) (epoch_number k.epoch) refl (found_turn tracks leaves h more.Halted bytes went (epoch_number k.epoch)
       (waits_turn tells state offers s t went.middle q went.standing went.before went.after k.epoch (so tracks leaves h more.Halted bytes went).reads k.waits)))
-      (stays_reader tracks leaves h more.Halted bytes went (answer.Halted bytes) (epoch_number k.epoch) refl k.waits.was k.waits.stays) (
+      (stays_reader tracks leaves h more.Halted bytes went (answer.Halted bytes) (epoch_number k.epoch) refl k.waits.was stop k.waits.stays) (
         at_stage k.epoch Stage.Halted k.halted,
         of_opened tracks leaves h more.Halted bytes went (answer.Halted bytes) (epoch_number k.epoch) (epoch_number k.epoch) (version_of-epoch_number k.epoch ∙ k.waits.version_is),
-        (λ y. has_given tracks leaves h more.Halted bytes went (answer.Halted bytes) (epoch_number k.epoch) refl k.waits.was k.waits.stays y (λ z. some) (λ z. absurd z) (λ z. absurd z)),
+        (λ y. has_given tracks leaves h more.Halted bytes went (answer.Halted bytes) (epoch_number k.epoch) refl k.waits.was stop k.waits.stays y (λ z. some) (λ z. absurd z) (λ z. absurd z)),
       )
       (λ y e gave z. absurd (let w : answer.Halted bytes ≡ answer.Part e gave = z in cc)) tt (λ x z. z) (λ x z. z) (λ z. cc))
   more_read tracks leaves h more.OtherUrl bytes went a is =
       let its = is_other_url tracks leaves h more.OtherUrl bytes went went.ends in
       subst (λ (z : Answer). AddsLine tells state offers s told past served line p z q) (sym is)
-      (add_it tracks leaves h more.OtherUrl bytes went answer.OtherUrl 0 (no_epoch tracks leaves h more.OtherUrl bytes went answer.OtherUrl refl) (turned_reader tracks leaves h more.OtherUrl bytes went went.ends its)
+      (add_it tracks leaves h more.OtherUrl bytes went answer.OtherUrl 0
+      (stays_so tracks leaves h more.OtherUrl bytes went answer.OtherUrl 0 (λ z. absurd (let w : more.OtherUrl ≡ more.End = z.0 in cc)) (λ z. refl) (λ halt e gave z. absurd (let w : answer.OtherUrl ≡ answer.Part e gave = z in cc)))
+      (no_epoch tracks leaves h more.OtherUrl bytes went answer.OtherUrl refl) (turned_reader tracks leaves h more.OtherUrl bytes went (λ z. cc) went.ends its)
       (λ y. has_other tracks leaves h more.OtherUrl bytes went its y)
       (λ y e gave z. absurd (let w : answer.OtherUrl ≡ answer.Part e gave = z in cc)) tt (λ x z. z) (λ x z. z) (λ z. cc))
   more_read tracks leaves h more.Fault bytes went a is =
+      let stop = goes_on tracks leaves h more.Fault bytes went (answer.ReadFault bytes) 0 refl (λ z. cc) refl (λ z. cc) (λ z. absurd (one_bool false z refl)) in
+      let on = stays_so tracks leaves h more.Fault bytes went (answer.ReadFault bytes) 0 (λ z. absurd (let w : more.Fault ≡ more.End = z.0 in cc)) (λ z. absurd (let w : more.Fault ≡ more.OtherUrl = z.0 in cc))
+      (λ halt e gave z. absurd (let w : answer.ReadFault bytes ≡ answer.Part e gave = z in cc)) in
       subst (λ (z : Answer). AddsLine tells state offers s told past served line p z q) (sym is)
-      (add_it tracks leaves h more.Fault bytes went (answer.ReadFault bytes) 0 (no_epoch tracks leaves h more.Fault bytes went (answer.ReadFault bytes) refl)
-      (stays_reader tracks leaves h more.Fault bytes went (answer.ReadFault bytes) 0 refl went.ends.was went.ends.stays)
-      (λ y. has_given tracks leaves h more.Fault bytes went (answer.ReadFault bytes) 0 refl went.ends.was went.ends.stays y (λ z. absurd z) (λ z. absurd z) (λ z. absurd z))
+      (add_it tracks leaves h more.Fault bytes went (answer.ReadFault bytes) 0 on (no_epoch tracks leaves h more.Fault bytes went (answer.ReadFault bytes) refl)
+      (stays_reader tracks leaves h more.Fault bytes went (answer.ReadFault bytes) 0 refl went.ends.was stop went.ends.stays)
+      (λ y. has_given tracks leaves h more.Fault bytes went (answer.ReadFault bytes) 0 refl went.ends.was stop went.ends.stays y (λ z. absurd z) (λ z. absurd z) (λ z. absurd z))
       (λ y e gave z. absurd (let w : answer.ReadFault bytes ≡ answer.Part e gave = z in cc)) tt (λ x z. z) (λ x z. z) (λ z. cc))
 
   pub more_adds : (a : Answer) → Tracks tells state offers s told past served p → Leaves tells state offers s t p q → ReadsMore tells state offers s t p a q → AddsLine tells state offers s told past served line p a q

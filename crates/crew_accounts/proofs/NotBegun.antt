@@ -41,9 +41,9 @@ use Rattle.crew_accounts.proofs.Telling.{tells_by}
 use Rattle.crew_accounts.proofs.Turns.{found_turn, looked_turn}
 
 pub refusals_are_mute : (fault : BeginFault) → IsMute (answer_to_refusal fault)
-refusals_are_mute LongUrl = record { begun = refl; refused = refl; finished = refl; dropped = refl; opened = refl; closed = refl; bytes = refl; count = refl }
-refusals_are_mute (Busy looked found) = record { begun = refl; refused = refl; finished = refl; dropped = refl; opened = refl; closed = refl; bytes = refl; count = refl }
-refusals_are_mute (Spent versions) = record { begun = refl; refused = refl; finished = refl; dropped = refl; opened = refl; closed = refl; bytes = refl; count = refl }
+refusals_are_mute LongUrl = record { begun = refl; refused = refl; finished = refl; dropped = refl; opened = refl; closed = refl; bytes = refl; count = refl; last = refl }
+refusals_are_mute (Busy looked found) = record { begun = refl; refused = refl; finished = refl; dropped = refl; opened = refl; closed = refl; bytes = refl; count = refl; last = refl }
+refusals_are_mute (Spent versions) = record { begun = refl; refused = refl; finished = refl; dropped = refl; opened = refl; closed = refl; bytes = refl; count = refl; last = refl }
 
 module _ {C O : Type 0} (tells : Bool) (state : C → CellState) (offers : O → Offers) (s : Store C O) (told : Bool) (past : Past) (served : List Served) (line : Line) (url : List ℕ) (body : Body) (t : ℕ) (p q : Pass C) where
   abbrev g : Ground (List ℕ)

@@ -1,5 +1,5 @@
 -- Lines that offer a body.
-use Rattle.std.proofs.Common.{Bool, Contains, List, Some, length, refl, subst, sym, true, ◌+◌, ◌<◌, ◌≡◌, ℕ}
+use Rattle.std.proofs.Common.{Bool, Contains, List, Some, ap, false, length, ◌∙◌, refl, subst, sym, true, ◌+◌, ◌<◌, ◌≡◌, ℕ}
 use Rattle.std.specs.Prelude.{◌≢◌, ◌↔◌}
 use Rattle.lock_word.specs.declared.word.Word.{Word}
 use Rattle.rock_disk.specs.Cell.{CellState}
@@ -23,7 +23,7 @@ use Rattle.rock_writer.specs.Beginning.{IsTooLong}
 use Rattle.store_serve.specs.Tabs.{IsOffered}
 use Rattle.crew_accounts.specs.Runs.{Past, run_of}
 use Rattle.crew_accounts.proofs.Running.{is_offered}
-use Rattle.crew_accounts.proofs.Telling.{ToAnswer}
+use Rattle.crew_accounts.proofs.Telling.{ToAnswer, no_more}
 
 -- The request offers this body under this URL.
 pub record IsOffering (request : Request) (url : List ℕ) (body : Body) : Type 0 where
@@ -104,4 +104,5 @@ module _ {C O : Type 0} (tells : Bool) (state : C → CellState) (offers : O →
     short = λ u b h fit far. long.1 (subst (λ (z : List ℕ). r.room < 32 + length z) (sym (is.only u b h).0) far);
     offered = λ u b h. is_offered tells state offers s told past l url body body_is u b (is.only u b h);
     tab = ((λ h. absurd (no_tab h)), (λ n. absurd (n fits)));
+    stays = no_more r v earlier l (λ t e. let z : false ≡ true = sym (ap offers_body e) ∙ is.offers in cc);
   }

@@ -1,5 +1,5 @@
 -- A line that opens an entry on a tab.
-use Rattle.std.proofs.Common.{Bool, Err, List, None, Ok, Result, Contains, arith, false, inl, inr, refl, subst, sym, true, ⊎_elim, ◌<◌, ◌∙◌, ◌≡◌, ◌≤◌, ℕ}
+use Rattle.std.proofs.Common.{Bool, Err, List, None, Ok, Result, Contains, arith, false, inl, inr, refl, subst, sym, true, ⊎_elim, ◌<◌, ◌∙◌, ◌≡◌, ◌≤◌, ◌∷◌, ℕ}
 use Rattle.std.specs.Result.{IfErr, IfOk, OnErr}
 use Rattle.lock_word.specs.Words.{epoch_number}
 use Rattle.lock_word.specs.declared.cause.Cause.{Cause}
@@ -13,6 +13,7 @@ use Rattle.core_model.specs.declared.view.Sight.TheVariants.{Named}
 use Rattle.line_account.specs.Accounts.{epoch_in}
 use Rattle.line_account.specs.Answers.{HasOpened, Run}
 use Rattle.line_account.specs.Lines.{Served, reading, writing}
+use Rattle.line_account.specs.Stopping.{answered_more, is_end, is_halted, is_other_url}
 use Rattle.store_rule.specs.declared.store.Pass.{Pass}
 use Rattle.store_rule.specs.declared.store.Store.{Store}
 use Rattle.store_rule.specs.Ground.{Ground, Offers, anchor_for}
@@ -35,14 +36,17 @@ use Rattle.crew_accounts.proofs.Dropping.{self_true}
 use Rattle.crew_accounts.proofs.Fitting.{on_free}
 use Rattle.crew_accounts.proofs.Opened.{one_offer, opened_entry, opened_new, version_is}
 use Rattle.crew_accounts.proofs.Shown.{shows_one}
-use Rattle.crew_accounts.proofs.TabLines.{IsMute, elsewhere, mute, none_given, now_reads, reading_on, writing_on}
-use Rattle.crew_accounts.proofs.Telling.{plain, tells_by}
+use Rattle.crew_accounts.proofs.TabLines.{IsMute, elsewhere, mute, none_answered, none_given, now_reads, reading_on, writing_on}
+use Rattle.crew_accounts.proofs.Telling.{no_more, plain, tells_by}
 use Rattle.crew_accounts.proofs.Tracking.{tracks_on_tab}
 use Rattle.crew_accounts.proofs.TurningAway.{away_adds}
 use Rattle.crew_accounts.proofs.Turns.{came_turn}
 
+both : (b : Bool) → b ≡ true → b ≡ false → ⊥
+both b e f = let z : true ≡ false = sym e ∙ f in cc
+
 miss_is_mute : (c : Cause) → IsMute (answer.Miss c)
-miss_is_mute c = record { begun = refl; refused = refl; finished = refl; dropped = refl; opened = refl; closed = refl; bytes = refl; count = refl }
+miss_is_mute c = record { begun = refl; refused = refl; finished = refl; dropped = refl; opened = refl; closed = refl; bytes = refl; count = refl; last = refl }
 
 module _ {C O : Type 0} (tells : Bool) (state : C → CellState) (offers : O → Offers) (s : Store C O) (told : Bool) (past : Past) (served : List Served) (worker number t : ℕ) (url : List ℕ) (p q : Pass C) (below : t < whole_tab) where
   abbrev g : Ground (List ℕ)
@@ -79,6 +83,7 @@ module _ {C O : Type 0} (tells : Bool) (state : C → CellState) (offers : O →
                 short = λ u body z. absurd z;
                 offered = λ u body z. absurd z;
                 tab = ((λ z. cc), (λ n. absurd (n (h.writes, h.reads))));
+                stays = no_more r (view q) served l (λ j e. cc);
               }))
               (λ y e bytes z. absurd (let c : answer.Opened version ≡ answer.Part e bytes = z in cc));
           tracks = tracks_on_tab tells state offers s told past served p q t l below leaves (λ j ne. elsewhere (OpenTab t url) (answer.Opened version) j ne)
@@ -98,6 +103,9 @@ module _ {C O : Type 0} (tells : Bool) (state : C → CellState) (offers : O →
                 none = λ y z. absurd (let c : false ≡ true = z in cc);
                 other = λ y z. absurd (let c : false ≡ true = z in cc);
                 shown = λ some. absurd (omega arith);
+                ended = λ z. absurd (both (answered_more is_end t (l ∷ served)) z (none_answered t l served is_end (self_true t)));
+                turned = λ z. absurd (both (answered_more is_other_url t (l ∷ served)) z (none_answered t l served is_other_url (self_true t)));
+                halted = λ z. absurd (both (answered_more is_halted t (l ∷ served)) z (none_answered t l served is_halted (self_true t)));
               }))) tracks;
         }
 
@@ -115,7 +123,7 @@ module _ {C O : Type 0} (tells : Bool) (state : C → CellState) (offers : O →
               (λ d. of_visiting r (view q) served l d (anchor_for g url) (record { url = url; comes = refl; anchor = refl }))
               shows
               (tells_by r (view q) served l refusal.cause
-              (plain r (view q) served l (λ b e z. (shows b e z).seen) tt refl (λ x z. z) (λ x z. z) (λ u body z. z) (h.writes, h.reads) (λ z. cc)))
+              (plain r (view q) served l (no_more r (view q) served l (λ j e. cc)) (λ b e z. (shows b e z).seen) tt refl (λ x z. z) (λ x z. z) (λ u body z. z) (h.writes, h.reads) (λ z. cc)))
               (λ y e bytes z. absurd (let d : answer.Miss c ≡ answer.Part e bytes = z in cc));
           tracks = tracks_on_tab tells state offers s told past served p q t l below leaves (λ j ne. elsewhere (OpenTab t url) (answer.Miss c) j ne)
               (inl (record { writes = writing_on t l served alone ∙ h.writes; reads = reading_on t l served alone ∙ h.reads; free = free })) tracks;

@@ -37,7 +37,7 @@ use Rattle.crew_accounts.proofs.Coming as coming
 use Rattle.crew_accounts.proofs.Dooming.{has_purged}
 use Rattle.crew_accounts.proofs.Shown.{shows_one, shows_two}
 use Rattle.crew_accounts.proofs.TabLines.{purge_alone}
-use Rattle.crew_accounts.proofs.Telling.{plain, tells_by}
+use Rattle.crew_accounts.proofs.Telling.{no_more, plain, tells_by}
 use Rattle.crew_accounts.proofs.Tracking.{tracks_whole}
 use Rattle.crew_accounts.proofs.Turns.{came_turn, doomed_turn}
 
@@ -66,7 +66,7 @@ module _ {C O : Type 0} (tells : Bool) (state : C → CellState) (offers : O →
               (record { url = url; request = refl; anchor = refl; epoch = left; answered = refl; epoch_is = refl }))
               shows
               (tells_by r (view q) served l (has_purged g told past url (view p) (view q) inner left h l refl refl)
-              (plain r (view q) served l (λ b e k. (shows b e k).seen) tt refl (λ x k. k) (λ x k. k) (λ u body k. k) tt (λ z. cc)))
+              (plain r (view q) served l (no_more r (view q) served l (λ j e. cc)) (λ b e k. (shows b e k).seen) tt refl (λ x k. k) (λ x k. k) (λ u body k. k) tt (λ z. cc)))
               (λ y e bytes z. absurd (let k : answer.Purged left ≡ answer.Part e bytes = z in cc));
           tracks = tracks_whole tells state offers s told past served p q l leaves free (purge_alone url (answer.Purged left)) tracks;
         }
@@ -85,7 +85,7 @@ module _ {C O : Type 0} (tells : Bool) (state : C → CellState) (offers : O →
               (λ d. of_visiting r (view q) served l d (anchor_for g url) (record { url = url; comes = refl; anchor = refl }))
               shows
               (tells_by r (view q) served l refusal.cause
-              (plain r (view q) served l (λ b e k. (shows b e k).seen) tt refl (λ x k. k) (λ x k. k) (λ u body k. k) tt (λ z. cc)))
+              (plain r (view q) served l (no_more r (view q) served l (λ j e. cc)) (λ b e k. (shows b e k).seen) tt refl (λ x k. k) (λ x k. k) (λ u body k. k) tt (λ z. cc)))
               (λ y e bytes z. absurd (let k : answer.NoEntry c ≡ answer.Part e bytes = z in cc));
           tracks = tracks_whole tells state offers s told past served p q l leaves free (purge_alone url (answer.NoEntry c)) tracks;
         }

@@ -11,7 +11,7 @@ use Rattle.script_text.specs.declared.request.Request.{Request}
 use Rattle.script_text.specs.declared.request.Request.TheVariants.{Put, Save}
 use Rattle.line_account.specs.Accounts.{HasFinished}
 use Rattle.line_account.specs.Answers.{Run}
-use Rattle.line_account.specs.Deeds.{Began, Grows, MayEvict, TellsBegun}
+use Rattle.line_account.specs.Deeds.{Began, Grows, TellsBegun}
 use Rattle.line_account.specs.Lines.{Fits, Served}
 use Rattle.line_account.specs.Requests.{IsAnswerTo}
 use Rattle.store_rule.specs.declared.store.Pass.{Pass}
@@ -43,7 +43,7 @@ use Rattle.crew_accounts.specs.Tracks.{Tracks}
 use Rattle.crew_accounts.proofs.Beginning.{begun_later}
 use Rattle.crew_accounts.proofs.CallDeeds.{adds_drawing, of_putting, of_putting_in_vain}
 use Rattle.crew_accounts.proofs.Ended.{closed_version, ended_fresh, ended_names, ended_version}
-use Rattle.crew_accounts.proofs.GivingUp.{closed_epoch, ended_no_part, ended_no_tab, ended_told, fault_no_part, fault_no_tab, fault_told, gives_up_fault, large_of, shows_closed, shows_no_epoch, small_of}
+use Rattle.crew_accounts.proofs.GivingUp.{closed_epoch, ended_evicts, ended_no_part, ended_no_tab, ended_told, fault_evicts, fault_no_part, fault_no_tab, fault_told, gives_up_fault, large_of, shows_closed, shows_no_epoch, small_of}
 use Rattle.crew_accounts.proofs.Halting.{gave_up_seen}
 use Rattle.crew_accounts.proofs.NotBegun.{not_begun}
 use Rattle.crew_accounts.proofs.Offering.{IsOffering, offering}
@@ -63,7 +63,6 @@ pub record IsPutting (request : Request) : Type 0 where
   pub began_fault : (fault : WriteFault) (x : ℕ) → Began request (answer_to_fault fault) x
   pub told_ended : (ended : Ended) (x : ℕ) → TellsBegun request (answer_to_ended ended) x → version_of ended ≡ x
   pub told_fault : (fault : WriteFault) (x : ℕ) → TellsBegun request (answer_to_fault fault) x → ⊥
-  pub may : MayEvict request
   pub fits : (earlier : List Served) → Fits earlier request
   pub alone : (a : Answer) (j : ℕ) → LeavesAlone j request a
 
@@ -101,10 +100,10 @@ module _ (url : List ℕ) (body : Body) where
   put_told_none Fault x h = h
 
   pub puts_whole : IsPutting (Put url body)
-  puts_whole = record { ended = put_ended; fault = put_fault; began_ended = put_began; began_fault = put_gave_up; told_ended = put_told; told_fault = put_told_none; may = tt; fits = λ earlier. tt; alone = put_alone url body }
+  puts_whole = record { ended = put_ended; fault = put_fault; began_ended = put_began; began_fault = put_gave_up; told_ended = put_told; told_fault = put_told_none; fits = λ earlier. tt; alone = put_alone url body }
 
   pub saves_whole : IsPutting (Save url body)
-  saves_whole = record { ended = put_ended; fault = put_fault; began_ended = put_began; began_fault = put_gave_up; told_ended = put_told; told_fault = put_told_none; may = tt; fits = λ earlier. tt; alone = save_alone url body }
+  saves_whole = record { ended = put_ended; fault = put_fault; began_ended = put_began; began_fault = put_gave_up; told_ended = put_told; told_fault = put_told_none; fits = λ earlier. tt; alone = save_alone url body }
 
 module _ {C O : Type 0} (tells : Bool) (state : C → CellState) (offers : O → Offers) (s : Store C O) (told : Bool) (past : Past) (served : List Served) (line : Line) (url : List ℕ) (body : Body) (durable : Bool) (p q : Pass C) where
   abbrev g : Ground (List ℕ)
@@ -149,7 +148,7 @@ module _ {C O : Type 0} (tells : Bool) (state : C → CellState) (offers : O →
               (begun_above r.setting.anchors (view p) l url x is.named (let later = begun_later k.began.took in let same = ended_version tells state offers s whole_tab e0 k.middle q ended k.ends in omega arith) (putting.told_ended ended))
               (OfPutting (name_of g e) (view q).seen ended)
               (serving.put tells state offers s whole_tab offer url durable p q k)
-              (λ d. of_putting r (view q) served l d (record { may = putting.may; wants = refl }) (name_of g e) (view q).seen ended
+              (λ d. of_putting r (view q) served l d (record { may = ended_evicts ended; wants = refl }) (name_of g e) (view q).seen ended
               (record { anchor = record { url = url; named_is = is.named; anchor = refl }; drew = refl; began = putting.began_ended ended })
               (grows g e l first served l begun_is (view q)) refl)
               shows
@@ -178,7 +177,7 @@ module _ {C O : Type 0} (tells : Bool) (state : C → CellState) (offers : O →
           looked = 0;
           adds = adds_drawing r (view p) (view q) served l (λ b y h. absurd (putting.told_fault fault y h.told)) (OfPuttingInVain (name_of g e) (view q).seen)
               (serving.gave_up tells state offers s whole_tab offer url durable p q k)
-              (λ d. of_putting_in_vain r (view q) served l d (record { may = putting.may; wants = refl }) (name_of g e) (view q).seen
+              (λ d. of_putting_in_vain r (view q) served l d (record { may = fault_evicts fault; wants = refl }) (name_of g e) (view q).seen
               (record { anchor = record { url = url; named_is = is.named; anchor = refl }; drew = refl; began = putting.began_fault fault x })
               (grows g e l first served l begun_is (view q)) (halts g e l first served l begun_is (gives_up_fault fault)))
               none

@@ -1,5 +1,5 @@
 -- What a line tells, by its answer.
-use Rattle.std.proofs.Common.{Contains, List, None, false, length, refl, subst, true, ◌<◌, ◌≡◌, ◌⊎◌, ⊎_elim, ℕ}
+use Rattle.std.proofs.Common.{Contains, List, None, [], false, length, refl, subst, true, ◌<◌, ◌≡◌, ◌⊎◌, ⊎_elim, ℕ}
 use Rattle.std.specs.Prelude.{IsTrue, ◌+◌, ◌≢◌, ◌↔◌}
 use Rattle.lock_word.specs.Words.{epoch_number, stage_of}
 use Rattle.lock_word.specs.declared.cause.Cause.{Cause}
@@ -8,15 +8,23 @@ use Rattle.lock_word.specs.declared.epoch.Epoch.{Epoch}
 use Rattle.script_text.specs.declared.answer.Answer.{Answer}
 use Rattle.script_text.specs.declared.answer.Answer.TheVariants as answer
 use Rattle.script_text.specs.declared.body.Body.{Body}
+use Rattle.script_text.specs.declared.request.Request.TheVariants.{More}
 use Rattle.core_model.specs.declared.view.Sight.TheVariants.{Stood}
 use Rattle.core_model.specs.declared.view.View.{View}
 use Rattle.line_account.specs.Lines.{Fits, IsAt, Offers, Served, gives_up, offers}
 use Rattle.line_account.specs.Requests.{IsAnswerTo}
+use Rattle.line_account.specs.Stopping.{ReadsBehind, is_end, is_halted, is_other_url}
 use Rattle.line_account.specs.Deeds.{Began}
 use Rattle.line_account.specs.Answers.{ComesIn, HasAdded, HasGiven, HasHit, HasOpened, HasOther, HasPurged, IsBusy, IsCauseOf, IsKeyRead, IsLarge, IsLong, IsOfOpened, IsSmall, IsSpent, Reads, Refuses, Run}
 use Rattle.line_account.specs.Accounts.{HasBegun, HasFinished, HasGivenUp, IsOffered, Shows, Tells, epoch_in}
 
 module _ {X : Type 0} (r : Run X) (v : View X) (earlier : List Served) (s : Served) where
+  -- what the line tells behind END, OTHERURL and HALTED of its tab
+  pub record Stays : Type 0 where
+    pub behind_end : (t : ℕ) → ReadsBehind is_end earlier s t → s.answer ≡ answer.End []
+    pub behind_other : (t : ℕ) → ReadsBehind is_other_url earlier s t → s.answer ≡ answer.OtherUrl
+    pub no_part : (t : ℕ) (e : Epoch) (bytes : List ℕ) → ReadsBehind is_halted earlier s t → s.answer ≡ answer.Part e bytes → ⊥
+
   -- a refusal by this cause
   pub record ForCause (c : Cause) : Type 0 where
     pub cause : IsCauseOf s (epoch_in c) c
@@ -65,6 +73,14 @@ module _ {X : Type 0} (r : Run X) (v : View X) (earlier : List Served) (s : Serv
   by_reading (answer.ReadFault bytes) t y h = t y
   by_reading _ t y h = absurd h
 
+  -- a line that is not on a tab that reads is behind no other one
+  pub no_more : ((t : ℕ) → s.line.request ≡ More t → ⊥) → Stays
+  no_more none = record {
+    behind_end = λ t h. absurd (none t h.request);
+    behind_other = λ t h. absurd (none t h.request);
+    no_part = λ t e bytes h is. none t h.request;
+  }
+
   -- what the account asks of a line by its request too
   pub record ToAnswer : Type 0 where
     pub shown : (a e : ℕ) → Shows r.setting.anchors earlier s a e → Contains v.seen (Stood a e)
@@ -75,6 +91,7 @@ module _ {X : Type 0} (r : Run X) (v : View X) (earlier : List Served) (s : Serv
     pub short : (url : List ℕ) (body : Body) → Offers s.line.request url body → Fits earlier s.line.request → r.room < 32 + length url → s.answer ≡ answer.LongUrl
     pub offered : (url : List ℕ) (body : Body) → Offers s.line.request url body → IsOffered r s url body
     pub tab : (s.answer ≡ answer.Tab) ↔ ¬ Fits earlier s.line.request
+    pub stays : Stays
 
   pub tells_by : ToTell s.answer → ToAnswer → Tells r v earlier s
   tells_by t q = record {
@@ -105,15 +122,18 @@ module _ {X : Type 0} (r : Run X) (v : View X) (earlier : List Served) (s : Serv
     added = λ count h. subst ToTell h t;
     given = λ y h. by_reading s.answer t y h;
     tab = q.tab;
+    behind_end = q.stays.behind_end;
+    behind_other = q.stays.behind_other;
+    no_part = q.stays.no_part;
   }
     where
       ends : (x : ℕ) → (s.answer ≡ answer.Stored x) ⊎ (s.answer ≡ answer.Doomed x) → HasFinished r.setting v earlier s x × IsSmall r earlier s
       ends x h = ⊎_elim (λ (e : s.answer ≡ answer.Stored x). subst ToTell e t) (λ (e : s.answer ≡ answer.Doomed x). subst ToTell e t) h
 
   -- a line that offers no body, and begins and opens nothing
-  pub plain : ((a e : ℕ) → Shows r.setting.anchors earlier s a e → Contains v.seen (Stood a e)) → IsAnswerTo s.line.request s.answer → s.drew ≡ None → ((x : ℕ) → Began s.line.request s.answer x → ⊥)
+  pub plain : Stays → ((a e : ℕ) → Shows r.setting.anchors earlier s a e → Contains v.seen (Stood a e)) → IsAnswerTo s.line.request s.answer → s.drew ≡ None → ((x : ℕ) → Began s.line.request s.answer x → ⊥)
       → ((x : ℕ) → ComesIn s.line.request s.answer x → ⊥) → ((url : List ℕ) (body : Body) → Offers s.line.request url body → ⊥) → Fits earlier s.line.request → s.answer ≢ answer.Tab → ToAnswer
-  plain shown answers none begins opens offers_none fits no_tab = record {
+  plain on shown answers none begins opens offers_none fits no_tab = record {
     shown = shown;
     answers = answers;
     drew = λ n. absurd (n none);
@@ -122,4 +142,5 @@ module _ {X : Type 0} (r : Run X) (v : View X) (earlier : List Served) (s : Serv
     short = λ url body h f far. absurd (offers_none url body h);
     offered = λ url body h. absurd (offers_none url body h);
     tab = ((λ h. absurd (no_tab h)), (λ n. absurd (n fits)));
+    stays = on;
   }

@@ -1,15 +1,18 @@
 -- Tabs are as the lines say, behind one line more.
 use Rattle.std.proofs.Common.{Bool, Contains, List, arith, inl, inr, refl, subst, sym, ◌<◌, ◌∷◌, ◌≡◌, ◌∙◌, ℕ}
-use Rattle.std.specs.Prelude.{◌≢◌}
+use Rattle.std.specs.Prelude.{None, ◌≢◌}
 use mathlib.Core.Logic.{dite}
 use native.Mathlib.Decide.{ℕ_discrete}
 use Rattle.rock_disk.specs.Cell.{CellState}
-use Rattle.core_model.specs.Tabs.{inner}
+use Rattle.core_model.specs.Tabs.{OfReader, inner, tab_at}
 use Rattle.core_model.specs.declared.view.Sight.{Sight}
 use Rattle.core_model.specs.declared.view.View.{View}
 use Rattle.line_account.specs.Answers.{IsEntryAt, Run}
 use Rattle.core_model.specs.Knowing.{KnowsAll}
+use Rattle.line_account.specs.Accounts.{HasHalted}
 use Rattle.line_account.specs.Lines.{Served}
+use Rattle.line_account.specs.Stopping.{is_end, is_halted, is_other_url}
+use Rattle.rock_reader.specs.Reading.{Standing}
 use Rattle.store_rule.specs.declared.store.Pass.{Pass}
 use Rattle.store_rule.specs.declared.store.Store.{Store}
 use Rattle.store_rule.specs.Ground.{Ground, Offers}
@@ -22,8 +25,8 @@ use Rattle.store_serve.specs.Tabs.{IsFree, Leaves}
 use Rattle.store_serve.specs.Whole.{whole_tab}
 use Rattle.store_serve.proofs.Standing.{writes_still}
 use Rattle.crew_accounts.specs.Runs.{Past, run_of}
-use Rattle.crew_accounts.specs.Tracks.{IsTracked, Tracks}
-use Rattle.crew_accounts.proofs.TabLines.{LeavesAlone, added_on, given_on, reading_on, writing_on}
+use Rattle.crew_accounts.specs.Tracks.{HasEnded, IsTracked, Tracks}
+use Rattle.crew_accounts.proofs.TabLines.{LeavesAlone, added_on, answered_on, given_on, not_end, not_halted, not_other_url, reading_on, writing_on}
 
 pub shown_on : {X : Type 0} (g : Ground X) (e : Entry) (seen all : List Sight) → ((x : Sight) → Contains seen x → Contains all x) → HasShown g e seen → HasShown g e all
 shown_on g e seen all f h = λ some. let k = h some in (f _ k.0, names_on k.1 f)
@@ -48,6 +51,13 @@ entry_on r v w a e url keeps h = (
 pub entry_moved : {X : Type 0} (r : Run X) (v : View X) (a b e : ℕ) (url u : List ℕ) → a ≡ b → url ≡ u → (h : IsEntryAt r v a e url) → (k : IsEntryAt r v b e u) × (k.offer ≡ h.offer)
 entry_moved r v a b e url u same its h = subst (λ (z : List ℕ). (k : IsEntryAt r v b e z) × (k.offer ≡ h.offer)) its
     (subst (λ (c : ℕ). (k : IsEntryAt r v c e url) × (k.offer ≡ h.offer)) same (h, refl))
+
+-- what comes to the end of its entry, or to one that was halted, is so still
+pub halted_on : {X : Type 0} (v w : View X) (a x : ℕ) → KnowsAll v w → HasHalted v a x → HasHalted w a x
+halted_on v w a x keeps h = record { epoch = h.epoch; version_is = h.version_is; halted = h.halted; seen = keeps.seen _ h.seen }
+
+pub ended_on : {C : Type 0} (j : ℕ) (e : Standing) (p q : Pass C) → tab_at (view q) j ≡ tab_at (view p) j → HasEnded p j e → HasEnded q j e
+ended_on j e p q same h = record { was = h.was; some = h.some; none = subst (OfReader (λ r. r.slot ≡ None)) (sym same) h.none }
 
 module _ {C O : Type 0} (tells : Bool) (state : C → CellState) (offers : O → Offers) (s : Store C O) (told : Bool) (past : Past) where
   -- by the lines: behind one that is nothing to the tab
@@ -85,6 +95,9 @@ module _ {C O : Type 0} (tells : Bool) (state : C → CellState) (offers : O →
     none = λ y other. given_on j l served alone ∙ h.none y other;
     other = h.other;
     shown = h.shown;
+    ended = λ e. h.ended (sym (answered_on j l served alone is_end not_end) ∙ e);
+    turned = λ e. h.turned (sym (answered_on j l served alone is_other_url not_other_url) ∙ e);
+    halted = λ e. h.halted (sym (answered_on j l served alone is_halted not_halted) ∙ e);
   }))
 
   -- by the pass: where a request left the tab as it was
@@ -123,6 +136,9 @@ module _ {C O : Type 0} (tells : Bool) (state : C → CellState) (offers : O →
         none = h.none;
         other = h.other;
         shown = λ some. leaves.keeps.seen _ (h.shown some);
+        ended = λ e. ended_on j h.standing p q (leaves.others j ne far) (h.ended e);
+        turned = h.turned;
+        halted = λ e. halted_on (view p) (view q) h.standing.anchor h.standing.version leaves.keeps (h.halted e);
       }))
 
   far : (j : ℕ) → j < whole_tab → j ≢ inner

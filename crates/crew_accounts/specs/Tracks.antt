@@ -7,7 +7,10 @@ use Rattle.store_key.specs.Url.{IsUrl}
 use Rattle.entry_cut.specs.Content.{room_of}
 use Rattle.core_model.specs.Anchors.{opening_counter}
 use Rattle.core_model.specs.declared.view.Sight.TheVariants.{Published}
+use Rattle.core_model.specs.Tabs.{OfReader, tab_at}
+use Rattle.line_account.specs.Accounts.{HasHalted}
 use Rattle.line_account.specs.Answers.{IsEntryAt, Run}
+use Rattle.line_account.specs.Stopping.{answered_more, is_end, is_halted, is_other_url}
 use Rattle.script_text.specs.Requests.{url_in}
 use Rattle.line_account.specs.Lines.{Served, added, bytes_given, reading, writing}
 use Rattle.store_rule.specs.declared.store.Pass.{Pass}
@@ -27,6 +30,12 @@ pub record IsOtherUrl (r : Run (List ℕ)) (e : Standing) : Type 0 where
   pub good : IsUrl (r.url e.offer)
   pub same_key : key_of (r.url e.offer) ≡ key_of e.url
   pub differs : r.url e.offer ≢ e.url
+
+-- a tab was given all of its entry, and has no slot at its place
+pub record HasEnded {C : Type 0} (p : Pass C) (t : ℕ) (e : Standing) : Type 0 where
+  pub was : e.is_other ≡ false
+  pub some : 0 < e.place
+  pub none : OfReader (λ r. r.slot ≡ None) (tab_at (view p) t)
 
 -- where there is a slot, the content so far needs no more slots than an entry may have
 abbrev pub StaysSmall : {X : Type 0} → Ground X → Entry → Type 0
@@ -60,7 +69,7 @@ module _ {C O : Type 0} (tells : Bool) (state : C → CellState) (offers : O →
 
     -- By the lines it reads, and it does: the URL and the epoch are those of the line that opened it, and the bytes that lines gave are those of
     -- the slots that it was given. Where it turned from its entry these are none, and the offer has another URL. The pass has seen how many slots
-    -- it was given.
+    -- it was given. Behind END it has no slot at its place, behind OTHERURL it has turned, and behind HALTED the pass has seen the version at HALTED.
     pub record IsReader : Type 0 where
       pub writes : writing t served ≡ None
       pub first : Served
@@ -77,6 +86,9 @@ module _ {C O : Type 0} (tells : Bool) (state : C → CellState) (offers : O →
       pub none : IsTrue told → standing.is_other ≡ true → bytes_given t served ≡ []
       pub other : IsTrue told → standing.is_other ≡ true → IsOtherUrl (run_of (basis tells state offers s) told past) standing
       pub shown : 0 < standing.place → Contains (view p).seen (Published standing.anchor standing.version standing.place)
+      pub ended : answered_more is_end t served ≡ true → HasEnded p t standing
+      pub turned : answered_more is_other_url t served ≡ true → standing.is_other ≡ true
+      pub halted : answered_more is_halted t served ≡ true → HasHalted (view p) standing.anchor standing.version
 
     abbrev pub IsTracked : Type 0
     IsTracked = IsIdle ⊎ IsWriter ⊎ IsReader

@@ -181,6 +181,9 @@ module _ {X : Type 0} (r : Run X) (v w : View X) (h : KnowsAll v w) where
     added = λ count q. added_later earlier s count (t.added count q);
     given = λ y q. given_later earlier s (t.given y q);
     tab = t.tab;
+    behind_end = t.behind_end;
+    behind_other = t.behind_other;
+    no_part = t.no_part;
   }
 
 module _ {X : Type 0} (r : Run X) where

@@ -8,6 +8,7 @@ pub mod HitVersions
 pub mod Found
 pub mod Finished
 pub mod Tabs
+mod Stopping
 pub mod Ordering
 pub mod Parts
 pub mod Scripts
@@ -22,3 +23,4 @@ pub mod Known
 mod Unexplained
 mod UnexplainedEpochs
 mod UnexplainedOrder
+mod UnexplainedTabs

@@ -342,7 +342,7 @@ module _ {X : Type 0} (r : Run X) (crew : List (Worker X)) (c : Closed r crew) w
   given_back a e p undoomed four = ⊎_elim
       (λ (h : IsDone c.state (HaltedVersion a (version_of e))). inl (halted_in r crew c a (version_of e) h))
       (λ (h : IsDone c.state (EvictedVersion a (version_of e))). inr (
-        by_line r crew c (EvictedVersion a (version_of e)) (λ earlier s. MayEvict s.line.request)
+        by_line r crew c (EvictedVersion a (version_of e)) (λ earlier s. MayEvict s.answer)
             (λ v d earlier s q o. (o.evicted q.0 q.3 q.4).may)
             (λ d served q o. absurd (let f : true ≡ false = sym q.4 ∙ (o.changed q.0).1 in cc))
             h,

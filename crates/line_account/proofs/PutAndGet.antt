@@ -9,6 +9,7 @@ use Rattle.lock_word.proofs.Testing.{readable_where}
 use Rattle.plain_model.specs.Serving.{bytes_of}
 use Rattle.script_text.specs.declared.answer.Answer.TheVariants as answer
 use Rattle.script_text.specs.declared.body.Body.{Body}
+use Rattle.script_text.specs.declared.request.Request.TheVariants.{Get, More, Put}
 use Rattle.core_model.specs.declared.moves.Side.TheVariants.{Key0, Key1, Offer}
 use Rattle.core_model.specs.declared.view.Deed.{Deed}
 use Rattle.core_model.specs.declared.view.Kind.TheVariants.{Changed, Doomed, Entered, Raised}
@@ -177,6 +178,12 @@ module _ {X : Type 0} (r : Run X) (url : List ℕ) (o : OffersNothing r url) whe
       one_slot : 1 ≤ min 4096 r.setting.slots
       one_slot = let some = o.some in omega arith
 
+  put_no_more : (t : ℕ) → Put url nothing ≡ More t → ⊥
+  put_no_more t e = cc
+
+  get_no_more : (t : ℕ) → Get url ≡ More t → ⊥
+  get_no_more t e = cc
+
   put_tells : Tells r v [] put
   put_tells = record {
     shown = λ b e h. shown_of b e h.at.url h.at.named_is h.at.anchor (one (epoch_at x 3) e h.shown);
@@ -209,6 +216,9 @@ module _ {X : Type 0} (r : Run X) (url : List ℕ) (o : OffersNothing r url) whe
     added = λ n h. absurd (let z : answer.Stored x ≡ answer.Added n = h in cc);
     given = λ t h. absurd h;
     tab = ((λ h. absurd (let z : answer.Stored x ≡ answer.Tab = h in cc)), (λ n. absurd (n tt)));
+    behind_end = λ t h. absurd (put_no_more t h.request);
+    behind_other = λ t h. absurd (put_no_more t h.request);
+    no_part = λ t e bytes h is. put_no_more t h.request;
   }
 
   abbrev entry : IsEntryAt r v a (epoch_at x 3) url
@@ -282,6 +292,9 @@ module _ {X : Type 0} (r : Run X) (url : List ℕ) (o : OffersNothing r url) whe
     added = λ n h. absurd (let z : answer.Hit x [] ≡ answer.Added n = h in cc);
     given = λ t h. get_given;
     tab = ((λ h. absurd (let z : answer.Hit x [] ≡ answer.Tab = h in cc)), (λ n. absurd (n tt)));
+    behind_end = λ t h. absurd (get_no_more t h.request);
+    behind_other = λ t h. absurd (get_no_more t h.request);
+    no_part = λ t e bytes h is. get_no_more t h.request;
   }
 
   pub has_account : Account r v both true

@@ -1,5 +1,5 @@
 -- What steps add is kept, and lines that ask nothing of the store add nothing.
-use Rattle.std.proofs.Common.{◌≡◌, ◌≢◌, ◌⊎◌, inl, inr, ⊎_elim, ℕ, ◌+◌, List, [], ◌∷◌, ◌++◌, sym, refl, ap, ◌∙◌, subst, arith, true, false, Contains}
+use Rattle.std.proofs.Common.{◌≡◌, ◌≢◌, ◌⊎◌, inl, inr, ⊎_elim, ℕ, ◌+◌, List, [], ◌∷◌, ◌++◌, sym, refl, ap, ◌∙◌, subst, arith, Bool, true, false, Contains}
 use Rattle.std.specs.Prelude.{None, ◌↔◌}
 use Rattle.std.proofs.lemmas.List.Elements.{Contains-append_cases, Contains-append_right}
 use Rattle.lock_word.specs.declared.cause.Cause.{Cause}
@@ -18,6 +18,7 @@ use Rattle.core_model.specs.Trails.{drawn, draws, has_drawn, is_drawn}
 use Rattle.core_model.proofs.Lists.{contains_none}
 use Rattle.line_account.specs.Lines.{Fits, Offers, Served, gives_up}
 use Rattle.line_account.specs.Requests.{IsAnswerTo}
+use Rattle.line_account.specs.Stopping.{ReadsBehind, is_end, is_halted, is_other_url}
 use Rattle.line_account.specs.Deeds.{Began}
 use Rattle.line_account.specs.Answers.{ComesIn, Reads, Refuses, Run}
 use Rattle.line_account.specs.Accounts.{IsOffered, Tells, drew_some, drew_version, epochs_of}
@@ -284,7 +285,22 @@ silent_unmet = record {
   reads = λ h. h;
 }
 
+-- a tab that reads is not answered so
+silent_no_more : (tab : ℕ) (a : Answer) → IsSilent a → IsAnswerTo (More tab) a → (a ≡ answer.Tab → ⊥) → ⊥
+silent_no_more tab (answer.Part e bytes) q may fits = q.reads tt
+silent_no_more tab (answer.End bytes) q may fits = q.reads tt
+silent_no_more tab (answer.Halted bytes) q may fits = q.reads tt
+silent_no_more tab (answer.ReadFault bytes) q may fits = q.reads tt
+silent_no_more tab answer.OtherUrl q may fits = q.other refl
+silent_no_more tab answer.Tab q may fits = fits refl
+silent_no_more tab _ q may fits = may
+
 module _ {X : Type 0} (r : Run X) where
+  -- so it is not behind another line
+  none_behind : (so : Answer → Bool) (earlier : List Served) (s : Served) (t : ℕ) → IsSilent s.answer → IsAnswerTo s.line.request s.answer → ((s.answer ≡ answer.Tab) ↔ ¬ Fits earlier s.line.request) → ReadsBehind so earlier s t → ⊥
+  none_behind so earlier s t q may tab h = silent_no_more t s.answer q (subst (λ (z : Request). IsAnswerTo z s.answer) h.request may)
+      (λ e. tab.0 e (subst (Fits earlier) (sym h.request) h.reads))
+
   silent_tells : (v : View X) (earlier : List Served) (s : Served) → IsSilent s.answer → IsAnswerTo s.line.request s.answer → s.drew ≡ None
       → ((url : List ℕ) (body : Body) → Offers s.line.request url body → IsOffered r s url body) → ((url : List ℕ) (body : Body) → Offers s.line.request url body → Fits earlier s.line.request → ⊥)
       → ((s.answer ≡ answer.Tab) ↔ ¬ Fits earlier s.line.request) → Tells r v earlier s
@@ -316,6 +332,9 @@ module _ {X : Type 0} (r : Run X) where
     added = λ n h. absurd (q.added n h);
     given = λ t h. absurd (q.reads h);
     tab = tab;
+    behind_end = λ t h. absurd (none_behind is_end earlier s t q may tab h);
+    behind_other = λ t h. absurd (none_behind is_other_url earlier s t q may tab h);
+    no_part = λ t e bytes h is. none_behind is_halted earlier s t q may tab h;
   }
 
   silent_adds : (v w : View X) (earlier : List Served) (s : Served) → IsSilent s.answer → s.drew ≡ None → Tells r w earlier s → IsIdle v w → Adds r v earlier s w

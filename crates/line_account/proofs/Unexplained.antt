@@ -12,7 +12,7 @@ use Rattle.script_text.specs.declared.answer.Answer.TheVariants as answer
 use Rattle.script_text.specs.declared.body.Body.{Body}
 use Rattle.script_text.specs.declared.line.Line.{Line}
 use Rattle.script_text.specs.declared.request.Request.{Request}
-use Rattle.script_text.specs.declared.request.Request.TheVariants.{Begin, DropTab, Get, More, OpenTab, Purge, Put}
+use Rattle.script_text.specs.declared.request.Request.TheVariants.{Add, Begin, DropTab, Get, More, OpenTab, Purge, Put}
 use Rattle.core_model.specs.Anchors.{opening_counter, opening_epoch}
 use Rattle.line_account.specs.Alone.{alone, home}
 use Rattle.line_account.specs.Answers.{IsWhole, Run}
@@ -129,6 +129,61 @@ module _ {X : Type 0} (r : Run X) (script : List Line) (u w : Worker X) (rules :
           };
         };
       }))
+
+  -- nor is what ended with FULL given to its end
+  pub refused_not_whole : (b d o m : Served) (url bytes : List ℕ) (body : Body) (x count : ℕ) → u.served ≡ d ∷ b ∷ [] → w.served ≡ m ∷ o ∷ []
+      → b.line.request ≡ Begin 0 url body → b.answer ≡ answer.Begun x → d.line.request ≡ Add 0 count → d.answer ≡ answer.Full
+      → o.line.request ≡ OpenTab 0 url → o.answer ≡ answer.Opened x → m.line.request ≡ More 0 → m.answer ≡ answer.End bytes → ⊥
+  refused_not_whole b d o m url bytes body x count us ws bq ba dq da oq oa mq ma =
+      let began = begins_x r script (u ∷ w ∷ []) rules 0 u refl (d ∷ []) b us url body x bq ba in
+      (rules.bodies y).not_halted (anchor_of (key_of url) r.setting.anchors) x
+      (record {
+        j = 1;
+        worker = w;
+        at = refl;
+        line_of = record {
+          later = [];
+          line = m;
+          earlier = o ∷ [];
+          split = ws;
+          so = record {
+            of = record {
+              first = o;
+              opened_is = ap (opened_of (o ∷ []) m) mq ∙ reads;
+              anchor = record { url = url; named_is = ap url_in oq; anchor = refl };
+              told = subst (λ (z : Answer). Opens z x) (sym oa) refl;
+            };
+            whole = subst IsWhole (sym ma) tt;
+          };
+        };
+      })
+      (high r script (u ∷ w ∷ []) rules 0 u refl (d ∷ []) b us url body x bq ba)
+      (inl (record {
+        j = 0;
+        worker = u;
+        at = refl;
+        line_of = record {
+          later = [];
+          line = d;
+          earlier = b ∷ [];
+          split = us;
+          so = record {
+            writes = record {
+              first = b;
+              begun_is = ap (begun_of (b ∷ []) d) dq ∙ writes r script (u ∷ w ∷ []) rules 0 u refl (d ∷ []) b us url body x bq ba;
+              drew = began.drew;
+              anchor = began.anchor;
+            };
+            gave_up = ap gives_up da;
+          };
+        };
+      }))
+    where
+      opened : opens 0 o.line.request o.answer ≡ true
+      opened = ap (λ (q : Request). opens 0 q o.answer) oq ∙ ap (opens 0 (OpenTab 0 url)) oa
+
+      reads : reading 0 (o ∷ []) ≡ Some o
+      reads = λ i. cond (opened i) (Some o) (cond (closes 0 o.line.request o.answer) None None)
 
   pub left_not_hit : (b g : Served) (url bytes : List ℕ) (body : Body) (x : ℕ) → u.served ≡ b ∷ [] → w.served ≡ g ∷ []
       → b.line.request ≡ Begin 0 url body → b.answer ≡ answer.Begun x → g.line.request ≡ Get url → g.answer ≡ answer.Hit x bytes → ⊥

@@ -25,8 +25,9 @@ use Rattle.line_account.specs.Alone.{alone, home}
 use Rattle.line_account.specs.Answers.{Run}
 use Rattle.line_account.specs.Closing.{HaltedIn, LineIn, ShownIn, Stores, TellsBegunIn, Worker}
 use Rattle.line_account.specs.Deeds.{Halts, MayEvict, TellsBegun}
-use Rattle.line_account.specs.Lines.{Served, begins, ends, gives_up, url_at, writing}
+use Rattle.line_account.specs.Lines.{IsAt, Served, begins, ends, gives_up, url_at, writing}
 use Rattle.line_account.specs.Printed.{WasWhole}
+use Rattle.line_account.specs.Refusals.{Any}
 use Rattle.line_account.specs.Rules.{KeepsRules}
 
 -- a line that refuses a `get` by an epoch shows this
@@ -118,8 +119,8 @@ module _ {X : Type 0} (r : Run X) (script : List Line) (w : Worker X) (rules : K
     abbrev e : ℕ
     e = epoch_number held.epoch
 
-    none_evicts : LineIn (alone w) (λ earlier z. MayEvict z.line.request) → ⊥
-    none_evicts p = subst MayEvict (ap (λ (z : Served). z.line.request) (sym (only (λ earlier z. MayEvict z.line.request) p)) ∙ sq) p.line_of.so
+    none_evicts : LineIn (alone w) (λ earlier z. MayEvict z.answer) → ⊥
+    none_evicts p = subst MayEvict (ap Served.answer (sym (only (λ earlier z. MayEvict z.answer) p)) ∙ sa) p.line_of.so
 
     nothing : (t : ℕ) → writing t (s ∷ []) ≡ None
     nothing t = none_written t s (ap (λ (q : Request). begins t q s.answer) sq ∙ ap (begins t (Begin 0 url body)) sa ∙ and_right (0 == t) false refl)
@@ -137,11 +138,72 @@ module _ {X : Type 0} (r : Run X) (script : List Line) (w : Worker X) (rules : K
     pub never_freed : ⊥
     never_freed = ⊎_elim
         (λ (h : HaltedIn r (alone w) (home r url) (version_of e)). none_halted h)
-        (λ (h : LineIn (alone w) (λ earlier z. MayEvict z.line.request) × WasWhole r (alone w) (home r url) (version_of e)). none_evicts h.0)
+        (λ (h : LineIn (alone w) (λ earlier z. MayEvict z.answer) × WasWhole r (alone w) (home r url) (version_of e)). none_evicts h.0)
         (rules.epochs.given_back (home r url) e
         (line_in r script (alone w) rules 0 w refl s is (λ earlier z. Shows r.setting.anchors earlier z (home r url) e) (record { at = record { url = url; named_is = ap (url_at []) sq; anchor = refl }; shown = busy s held sa }))
         (doom_of-epoch_number held.epoch ∙ ap (λ (z : Epoch). doom_number z.doom) of)
         (let at = stage_of-epoch_number held.epoch ∙ ap (λ (z : Epoch). stage_number z.stage) of in omega arith))
+
+-- Lines that were all refused.
+
+begins_none : (t : ℕ) (q : Request) (held : Word) → begins t q (answer.Busy held held) ≡ false
+begins_none t (Begin u url body) held = and_right (u == t) false refl
+begins_none t _ held = refl
+
+-- no tab writes behind them
+refused_none : (t : ℕ) (held : Word) (served : List Served) → ((later earlier : List Served) (s : Served) → served ≡ later ++ s ∷ earlier → s.answer ≡ answer.Busy held held) → writing t served ≡ None
+refused_none t held [] all = refl
+refused_none t held (s ∷ earlier) all =
+    let is = all [] earlier s refl in
+    let not_begun : begins t s.line.request s.answer ≡ false = ap (begins t s.line.request) is ∙ begins_none t s.line.request held in
+    let before = refused_none t held earlier (λ later back z split. all (s ∷ later) back z (ap (λ (l : List Served). s ∷ l) split)) in
+    (λ i. cond (not_begun i) (Some s) (cond (ends t s.line.request s.answer) None (before i))) ∙ same (ends t s.line.request s.answer)
+  where
+    same : (b : Bool) → cond b None (writing t []) ≡ None
+    same true = refl
+    same false = refl
+
+module _ {X : Type 0} (r : Run X) (script : List Line) (crew : List (Worker X)) (rules : KeepsRules r script crew) (a x : ℕ) (held : Word)
+    (all : (p : LineIn crew Any) → p.line_of.line.answer ≡ answer.Busy held held) where
+  any_line : (P : List Served → Served → Type 0) → (p : LineIn crew P) → p.line_of.line.answer ≡ answer.Busy held held
+  any_line P p = all (record { j = p.j; worker = p.worker; at = p.at; line_of = record { later = p.line_of.later; line = p.line_of.line; earlier = p.line_of.earlier; split = p.line_of.split; so = tt } })
+
+  abbrev freed : ℕ
+  freed = epoch_number held.epoch
+
+  no_eviction : LineIn crew (λ earlier z. MayEvict z.answer) → ⊥
+  no_eviction p = subst MayEvict (any_line (λ earlier z. MayEvict z.answer) p) p.line_of.so
+
+  no_giving_up : HaltedIn r crew a (version_of freed) → ⊥
+  no_giving_up (inl p) =
+      let z : false ≡ true = sym (ap gives_up (any_line (λ earlier y. Halts r.setting.anchors earlier y a (version_of freed)) p)) ∙ p.line_of.so.gave_up in
+      cc
+  no_giving_up (inr q) =
+      let none = refused_none q.writing.tab held q.worker.served (λ later earlier s split. all (record { j = q.j; worker = q.worker; at = q.at; line_of = record { later = later; line = s; earlier = earlier; split = split; so = tt } })) in
+      let z : None ≡ Some q.writing.writes.first = sym none ∙ q.writing.writes.begun_is in
+      cc
+
+  pub never_refused_away : LineIn crew (λ earlier s. IsAt r.setting.anchors earlier s a) → held.epoch ≡ record { version = x; stage = stage.Freeing; doom = false } → ⊥
+  never_refused_away p of = ⊎_elim
+      (λ (h : HaltedIn r crew a (version_of freed)). no_giving_up h)
+      (λ (h : LineIn crew (λ earlier z. MayEvict z.answer) × WasWhole r crew a (version_of freed)). no_eviction h.0)
+      (rules.epochs.given_back a freed shown
+      (doom_of-epoch_number held.epoch ∙ ap (λ (z : Epoch). doom_number z.doom) of)
+      (let at = stage_of-epoch_number held.epoch ∙ ap (λ (z : Epoch). stage_number z.stage) of in omega arith))
+    where
+      shown : ShownIn r crew a freed
+      shown = record {
+        j = p.j;
+        worker = p.worker;
+        at = p.at;
+        line_of = record {
+          later = p.line_of.later;
+          line = p.line_of.line;
+          earlier = p.line_of.earlier;
+          split = p.line_of.split;
+          so = record { at = p.line_of.so; shown = busy p.line_of.line held (any_line (λ earlier s. IsAt r.setting.anchors earlier s a) p) };
+        };
+      }
 
 module _ {X : Type 0} (r : Run X) (script : List Line) (u w : Worker X) (rules : KeepsRules r script (u ∷ w ∷ [])) (p g : Served) (us : u.served ≡ p ∷ []) (ws : w.served ≡ g ∷ [])
     (url : List ℕ) (body : Body) (pq : p.line.request ≡ Put url body) (gq : g.line.request ≡ Get url) where
@@ -206,5 +268,5 @@ module _ {X : Type 0} (r : Run X) (script : List Line) (u w : Worker X) (rules :
     pub never_evicted : ⊥
     never_evicted = ⊎_elim
         (λ (h : HaltedIn r crew a (version_of gone)). no_halt h)
-        (λ (h : LineIn crew (λ earlier z. MayEvict z.line.request) × WasWhole r crew a (version_of gone)). none_whole h.1)
+        (λ (h : LineIn crew (λ earlier z. MayEvict z.answer) × WasWhole r crew a (version_of gone)). none_whole h.1)
         (rules.epochs.given_back a gone (shown epoch ga) (doom_of-epoch_number epoch) (let at = stage_of-epoch_number epoch in omega arith))

@@ -1,6 +1,6 @@
 -- Lines in an order that no run explains.
-use Rattle.std.proofs.Common.{Contains, List, [], ap, arith, cond, false, refl, subst, sym, true, ◌∙◌, ◌∷◌, ◌≡◌, ◌≤◌, ◌||◌, ℕ}
-use Rattle.std.specs.Prelude.{IsTrue, None, Some}
+use Rattle.std.proofs.Common.{Bool, Contains, List, [], ap, arith, cond, false, refl, subst, sym, true, ◌∙◌, ◌∷◌, ◌≡◌, ◌≤◌, ◌||◌, ℕ}
+use Rattle.std.specs.Prelude.{IsTrue, None, Some, ◌≢◌}
 use Rattle.lock_word.specs.Words.{doom_number, doom_of, epoch_at, epoch_number, version_of}
 use Rattle.lock_word.proofs.Parts.{doom_of-epoch_number, stage_of-epoch_number, version_of-epoch_number}
 use Rattle.lock_word.specs.declared.cause.Cause.TheVariants.{Absent, Leaving}
@@ -15,13 +15,14 @@ use Rattle.script_text.specs.declared.request.Request.TheVariants.{Await, Get, M
 use Rattle.script_text.specs.Requests.{url_in}
 use Rattle.line_account.specs.Alone.{alone, home}
 use Rattle.line_account.specs.Answers.{IsSure, Reads, Run}
-use Rattle.line_account.specs.Closing.{Worker}
+use Rattle.line_account.specs.Closing.{LineIn, Worker}
 use Rattle.line_account.specs.Crews.{KnewOf}
 use Rattle.line_account.specs.Crews.KnewOf.{own, told}
 use Rattle.line_account.specs.Lines.{Served, closes, opened_by, opened_of, opens, reading, url_at}
 use Rattle.line_account.specs.Order.{FindsOrStores, NotBelow, Opens, counts_as, epochs_told, printed}
 use Rattle.line_account.specs.Printed.{ReadsVersion}
-use Rattle.line_account.specs.Tabs.{IsOver, came_to_end, comes_to_end}
+use Rattle.line_account.specs.Stopping.{ReadsBehind, answered_more, answers_more, is_end, is_halted, is_other_url}
+use Rattle.line_account.specs.Tabs.{IsStillHalted, PartBehindHalted}
 use Rattle.line_account.specs.Rules.{KeepsRules}
 
 module _ {X : Type 0} (r : Run X) (script : List Line) (u v w : Worker X) (rules : KeepsRules r script (u ∷ v ∷ w ∷ [])) (p a b c d g : Served) (us : u.served ≡ a ∷ p ∷ []) (vs : v.served ≡ c ∷ b ∷ []) (ws : w.served ≡ g ∷ d ∷ [])
@@ -72,9 +73,9 @@ module _ {X : Type 0} (r : Run X) (script : List Line) (w : Worker X) (rules : K
       let up = order.stages n (subst (λ (z : Answer). Contains (epochs_told z) n) (sym ga) (0, omega arith, refl)) (omega arith) in
       omega arith
 
-  -- A tab that came to END, and a line behind that.
-  module _ (y : IsTrue r.tells) (o e m : Served) (url bytes : List ℕ) (x : ℕ) (is : w.served ≡ m ∷ e ∷ o ∷ []) (oq : o.line.request ≡ OpenTab 0 url) (oa : o.answer ≡ answer.Opened x)
-      (eq : e.line.request ≡ More 0) (ea : e.answer ≡ answer.End bytes) (mq : m.line.request ≡ More 0) where
+  -- A line on a tab that was answered so, and one behind it.
+  module _ (so : Answer → Bool) (o e m : Served) (url : List ℕ) (x : ℕ) (is : w.served ≡ m ∷ e ∷ o ∷ []) (oq : o.line.request ≡ OpenTab 0 url) (oa : o.answer ≡ answer.Opened x)
+      (eq : e.line.request ≡ More 0) (ea : so e.answer ≡ true) (mq : m.line.request ≡ More 0) where
     opened : opens 0 o.line.request o.answer ≡ true
     opened = ap (λ (q : Request). opens 0 q o.answer) oq ∙ ap (opens 0 (OpenTab 0 url)) oa
 
@@ -84,49 +85,35 @@ module _ {X : Type 0} (r : Run X) (script : List Line) (w : Worker X) (rules : K
     reading_still : reading 0 (e ∷ o ∷ []) ≡ Some o
     reading_still = (λ i. cond (opens 0 (eq i) e.answer) (Some e) (cond (closes 0 (eq i) e.answer) None (reading 0 (o ∷ [])))) ∙ reading_first
 
-    ended : came_to_end 0 (e ∷ o ∷ []) ≡ true
-    ended = (λ i. cond (opens 0 (eq i) e.answer) false (comes_to_end 0 (eq i) e.answer || came_to_end 0 (o ∷ []))) ∙ (λ i. comes_to_end 0 (More 0) (ea i) || came_to_end 0 (o ∷ []))
+    answered : answered_more so 0 (e ∷ o ∷ []) ≡ true
+    answered = (λ i. cond (opens 0 (eq i) e.answer) false (answers_more so 0 (eq i) e.answer || answered_more so 0 (o ∷ []))) ∙ (λ i. ea i || answered_more so 0 (o ∷ []))
 
-    abbrev of : (earlier : List Served) (s : Served) → opened_by earlier s ≡ Some o → ReadsVersion r.setting.anchors earlier s (home r url) x
-    of earlier s is_opened = record { first = o; opened_is = is_opened; anchor = record { url = url; named_is = ap url_in oq; anchor = refl }; told = subst (λ (z : Answer). Opens z x) (sym oa) refl }
+    still_reads : reading 0 (e ∷ o ∷ []) ≢ None
+    still_reads none = let z : None ≡ Some o = sym none ∙ reading_still in cc
 
-    pub never_part : (epoch : Epoch) (more : List ℕ) → m.answer ≡ answer.Part epoch more → ⊥
-    never_part epoch more ma = subst IsOver ma (rules.tabs.behind_end y 0 (record {
-      j = 0;
-      worker = w;
-      at = refl;
-      line_of = record {
-        later = [];
-        line = m;
-        earlier = e ∷ o ∷ [];
-        split = is;
-        so = record { request = mq; reads = subst Reads (sym ma) tt; ended = ended };
-      };
-    }))
+    abbrev behind_so : ReadsBehind so (e ∷ o ∷ []) m 0
+    behind_so = record { request = mq; reads = still_reads; behind = answered }
 
-    pub never_other : m.answer ≡ answer.OtherUrl → ⊥
-    never_other ma = rules.tabs.one_url y (home r url) x url
-        (record {
-          j = 0;
-          worker = w;
-          at = refl;
-          line_of = record {
-            later = m ∷ [];
-            line = e;
-            earlier = o ∷ [];
-            split = is;
-            so = record { of = of (o ∷ []) e (ap (opened_of (o ∷ []) e) eq ∙ reading_first); named = ap url_in oq; sure = subst IsSure (sym ea) tt };
-          };
-        })
-        (record {
-          j = 0;
-          worker = w;
-          at = refl;
-          line_of = record {
-            later = [];
-            line = m;
-            earlier = e ∷ o ∷ [];
-            split = is;
-            so = record { of = of (e ∷ o ∷ []) m (ap (opened_of (e ∷ o ∷ []) m) mq ∙ reading_still); named = ap url_in oq; printed = ma };
-          };
-        })
+    pub behind : LineIn (alone w) (λ earlier s. ReadsBehind so earlier s 0)
+    behind = record { j = 0; worker = w; at = refl; line_of = record { later = []; line = m; earlier = e ∷ o ∷ []; split = is; so = behind_so } }
+
+    pub part_behind : (epoch : Epoch) (more : List ℕ) → so ≡ is_halted → m.answer ≡ answer.Part epoch more → LineIn (alone w) (λ earlier s. PartBehindHalted earlier s 0)
+    part_behind epoch more same ma = record { j = 0; worker = w; at = refl; line_of = record { later = []; line = m; earlier = e ∷ o ∷ []; split = is; so = record { behind = subst (λ (f : Answer → Bool). ReadsBehind f (e ∷ o ∷ []) m 0) same behind_so; epoch = epoch; bytes = more; printed = ma } } }
+
+  -- it comes to nothing else
+  module _ (o e m : Served) (url : List ℕ) (x : ℕ) (is : w.served ≡ m ∷ e ∷ o ∷ []) (oq : o.line.request ≡ OpenTab 0 url) (oa : o.answer ≡ answer.Opened x)
+      (eq : e.line.request ≡ More 0) (mq : m.line.request ≡ More 0) where
+    pub still_ended : (bytes : List ℕ) → e.answer ≡ answer.End bytes → m.answer ≡ answer.End []
+    unfolding behind
+    still_ended bytes ea = rules.tabs.behind_end 0 (behind is_end o e m url x is oq oa eq (ap is_end ea) mq)
+
+    pub still_other : e.answer ≡ answer.OtherUrl → m.answer ≡ answer.OtherUrl
+    unfolding behind
+    still_other ea = rules.tabs.behind_other 0 (behind is_other_url o e m url x is oq oa eq (ap is_other_url ea) mq)
+
+    pub no_part : (bytes more : List ℕ) (epoch : Epoch) → e.answer ≡ answer.Halted bytes → m.answer ≡ answer.Part epoch more → ⊥
+    no_part bytes more epoch ea ma = rules.tabs.no_part 0 (part_behind is_halted o e m url x is oq oa eq (ap is_halted ea) mq epoch more refl ma)
+
+    pub still_halted : IsTrue r.tells → (bytes : List ℕ) → e.answer ≡ answer.Halted bytes → IsStillHalted m.answer
+    unfolding behind
+    still_halted y bytes ea = rules.tabs.behind_halted y 0 (behind is_halted o e m url x is oq oa eq (ap is_halted ea) mq)

@@ -17,6 +17,7 @@ use Rattle.core_model.specs.Layout.{Setting}
 use Rattle.core_model.specs.Trails.{drawn, draws, has_drawn, is_drawn}
 use Rattle.line_account.specs.Lines.{Fits, IsAt, Offers, Served, Writes, gives_up, offers}
 use Rattle.line_account.specs.Requests.{IsAnswerTo}
+use Rattle.line_account.specs.Stopping.{ReadsBehind, is_end, is_halted, is_other_url}
 use Rattle.line_account.specs.Deeds.{Began, Grows, HasLine, IsWriting}
 use Rattle.line_account.specs.Answers.{ComesIn, HasAdded, HasGiven, HasHit, HasOpened, HasOther, HasPurged, IsBusy, IsCauseOf, IsKeyRead, IsLarge, IsLong, IsOfOpened, IsSmall, IsSpent, Reads, Refuses, Run}
 
@@ -111,6 +112,10 @@ pub record Tells {X : Type 0} (r : Run X) (v : View X) (earlier : List Served) (
   pub added : (count : ℕ) → s.answer ≡ answer.Added count → HasAdded r v earlier s count
   pub given : IsTrue r.tells → Reads s.answer → HasGiven r v earlier s
   pub tab : (s.answer ≡ answer.Tab) ↔ ¬ Fits earlier s.line.request  -- exactly where its tab is not as it needs it
+  -- a tab that came to its end, or turned from its entry, stays there, and one whose entry was halted grows no more
+  pub behind_end : (tab : ℕ) → ReadsBehind is_end earlier s tab → s.answer ≡ answer.End []
+  pub behind_other : (tab : ℕ) → ReadsBehind is_other_url earlier s tab → s.answer ≡ answer.OtherUrl
+  pub no_part : (tab : ℕ) (e : Epoch) (bytes : List ℕ) → ReadsBehind is_halted earlier s tab → s.answer ≡ answer.Part e bytes → ⊥
 
 -- whether a line drew the version x, and whether it drew one
 abbrev pub drew_version : ℕ → Served → Bool

@@ -7,7 +7,7 @@ use Rattle.store_key.specs.Key.{key_of}
 use Rattle.script_text.specs.declared.answer.Answer.{Answer}
 use Rattle.script_text.specs.declared.answer.Answer.TheVariants as answer
 use Rattle.script_text.specs.declared.request.Request.{Request}
-use Rattle.script_text.specs.declared.request.Request.TheVariants.{Add, Begin, End, Get, OpenTab, Purge, Put, Save}
+use Rattle.script_text.specs.declared.request.Request.TheVariants.{Begin, Get, OpenTab, Purge, Put, Save}
 use Rattle.core_model.specs.declared.moves.Side.TheVariants.{Key0, Key1, Offer}
 use Rattle.core_model.specs.declared.view.Deed.{Deed}
 use Rattle.core_model.specs.declared.view.Kind.TheVariants.{Changed, Doomed, Entered, Raised}
@@ -85,17 +85,20 @@ pub record PrintsBegunVersion (anchors : ℕ) (s : Served) (a x : ℕ) : Type 0 
   pub anchor : IsAnchorOf anchors (url_in s.line.request) a
   pub told : TellsBegun s.line.request s.answer x
 
--- a line may have to evict an entry for a slot that it needs
-abbrev pub MayEvict : Request → Type 0
-MayEvict (Put url body) = Unit {0}
-MayEvict (Save url body) = Unit {0}
-MayEvict (Add tab count) = Unit {0}
-MayEvict (End tab) = Unit {0}
+-- The answers to a line that came so far that it needed slots, and may have had to evict an entry for one: STORED, DOOMED, ADDED, FULL, LARGE
+-- and FAULT. A line that printed BUSY, SPENT, LONGURL or TAB was refused before, and `begin` needs none.
+abbrev pub MayEvict : Answer → Type 0
+MayEvict (answer.Stored version) = Unit {0}
+MayEvict (answer.Doomed version) = Unit {0}
+MayEvict (answer.Added count) = Unit {0}
+MayEvict answer.Full = Unit {0}
+MayEvict answer.Large = Unit {0}
+MayEvict answer.Fault = Unit {0}
 MayEvict _ = ⊥
 
 -- a line that evicted an entry, in a run that does not fit
 pub record Evicts {X : Type 0} (r : Run X) (s : Served) : Type 0 where
-  pub may : MayEvict s.line.request
+  pub may : MayEvict s.answer
   pub wants : r.fits ≡ false
 
 -- what the worker knows of the entry of version x, at the anchor a, that a line of its own began: its key and its offer

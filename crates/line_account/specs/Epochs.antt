@@ -45,5 +45,5 @@ module _ {X : Type 0} (r : Run X) (crew : List (Worker X)) where
     pub purged_stage : (e : Epoch) → LineIn crew (λ earlier s. s.answer ≡ answer.Purged e)
         → (2 ≤ stage_of (epoch_number e)) × (stage_of (epoch_number e) ≤ 4)
     -- An epoch at HALTED, FREEING or GONE is not doomed only where the writing of its version was halted, or some line may have evicted
-    -- an entry, and its own was whole.
+    -- an entry, for it printed STORED, DOOMED, ADDED, FULL, LARGE or FAULT, and its own was whole.
     pub given_back : (a e : ℕ) → ShownIn r crew a e → doom_of e ≡ 0 → 4 ≤ stage_of e → GivenBackIn r crew a (version_of e)

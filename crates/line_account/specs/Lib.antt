@@ -1,5 +1,6 @@
 pub mod Lines
 pub mod Requests
+pub mod Stopping
 pub mod Answers
 pub mod Deeds
 pub mod Accounts

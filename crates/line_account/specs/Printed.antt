@@ -182,9 +182,9 @@ pub record PrintsAdded (earlier : List Served) (s : Served) (first : Served) (ta
 abbrev pub WasWhole : {X : Type 0} → Run X → List (Worker X) → (a x : ℕ) → Type 0
 WasWhole r crew a x = StoredIn r crew a x ⊎ (HadEntry r a × (x ≡ version_of (opening_epoch r.setting a)))
 
--- the writing of the version x at the anchor a was halted; or some line is one of those that may evict an entry, and the version was whole
+-- the writing of the version x at the anchor a was halted; or some line may have evicted an entry, by its answer, and the version was whole
 abbrev pub GivenBackIn : {X : Type 0} → Run X → List (Worker X) → (a x : ℕ) → Type 0
-GivenBackIn r crew a x = HaltedIn r crew a x ⊎ (LineIn crew (λ earlier s. MayEvict s.line.request) × WasWhole r crew a x)
+GivenBackIn r crew a x = HaltedIn r crew a x ⊎ (LineIn crew (λ earlier s. MayEvict s.answer) × WasWhole r crew a x)
 
 -- Bytes.
 

@@ -1,33 +1,18 @@
 -- What the lines of one tab that reads have in common.
-use Rattle.std.specs.Prelude.{Bool, IsTrue, List, Some, [], cond, false, length, take, true, ◌&&◌, ◌<◌, ◌==◌, ◌||◌, ◌∷◌, ◌≡◌, ◌≤◌, ℕ}
+use Rattle.std.specs.Prelude.{IsTrue, List, Some, [], length, take, ◌<◌, ◌≡◌, ◌≤◌, ℕ}
 use Rattle.lock_word.specs.Words.{epoch_number, version_of}
 use Rattle.lock_word.specs.declared.epoch.Epoch.{Epoch}
 use Rattle.plain_model.specs.Serving.{bytes_of}
 use Rattle.script_text.specs.declared.answer.Answer.{Answer}
 use Rattle.script_text.specs.declared.answer.Answer.TheVariants as answer
 use Rattle.script_text.specs.declared.body.Body.{Body}
-use Rattle.script_text.specs.declared.request.Request.{Request}
-use Rattle.script_text.specs.declared.request.Request.TheVariants.{More}
 use Rattle.script_text.specs.Requests.{url_in}
 use Rattle.core_model.specs.Anchors.{opening_counter}
 use Rattle.line_account.specs.Answers.{IsSure, IsWhole, Reads, Run, bytes_with}
 use Rattle.line_account.specs.Closing.{BegunIn, HaltedIn, LineIn, Worker}
-use Rattle.line_account.specs.Lines.{Offers, Served, opens}
+use Rattle.line_account.specs.Lines.{Offers, Served}
 use Rattle.line_account.specs.Printed.{HadEntry, ReadsVersion, old_offer}
-
-abbrev pub is_end : Answer → Bool
-is_end (answer.End bytes) = true
-is_end _ = false
-
--- the line read on the tab t and printed END
-abbrev pub comes_to_end : ℕ → Request → Answer → Bool
-comes_to_end t (More u) a = (u == t) && is_end a
-comes_to_end t _ a = false
-
--- a line did so among these, since the tab was opened
-abbrev pub came_to_end : ℕ → List Served → Bool
-came_to_end t [] = false
-came_to_end t (s ∷ earlier) = cond (opens t s.line.request s.answer) false (comes_to_end t s.line.request s.answer || came_to_end t earlier)
+use Rattle.line_account.specs.Stopping.{ReadsBehind, is_end, is_halted, is_other_url}
 
 -- a line that reads what was opened with the version x at the anchor a
 pub record ReadsOn (anchors : ℕ) (earlier : List Served) (s : Served) (a x : ℕ) : Type 0 where
@@ -45,17 +30,18 @@ pub record ReadsHalted (anchors : ℕ) (earlier : List Served) (s : Served) (a x
   pub bytes : List ℕ
   pub printed : s.answer ≡ answer.Halted bytes
 
--- a line that reads on a tab which came to END
-pub record ReadsBehindEnd (earlier : List Served) (s : Served) (tab : ℕ) : Type 0 where
-  pub request : s.line.request ≡ More tab
-  pub reads : Reads s.answer
-  pub ended : came_to_end tab earlier ≡ true
+-- a line that prints PART, on a tab that reads, behind one on it that printed HALTED
+pub record PartBehindHalted (earlier : List Served) (s : Served) (tab : ℕ) : Type 0 where
+  pub behind : ReadsBehind is_halted earlier s tab
+  pub epoch : Epoch
+  pub bytes : List ℕ
+  pub printed : s.answer ≡ answer.Part epoch bytes
 
--- such a line gives no byte, and prints END, or FAULT
-abbrev pub IsOver : Answer → Type 0
-IsOver (answer.End bytes) = bytes ≡ []
-IsOver (answer.ReadFault bytes) = bytes ≡ []
-IsOver _ = ⊥
+-- the answers that may come behind HALTED
+abbrev pub IsStillHalted : Answer → Type 0
+IsStillHalted (answer.Halted bytes) = Unit {0}
+IsStillHalted (answer.ReadFault bytes) = Unit {0}
+IsStillHalted _ = ⊥
 
 -- a line that reads what was opened with the version x at the anchor a under this URL, and found its first slot
 pub record ReadsUnder (anchors : ℕ) (earlier : List Served) (s : Served) (a x : ℕ) (url : List ℕ) : Type 0 where
@@ -97,8 +83,14 @@ module _ {X : Type 0} (r : Run X) (crew : List (Worker X)) where
         → x ≤ opening_counter r.setting → IsFrontOfOld r a p.line_of.line.answer (bytes_with p.line_of.earlier p.line_of.line)
     pub new : IsTrue r.tells → (a x : ℕ) → (p : LineIn crew (λ earlier s. ReadsOn r.setting.anchors earlier s a x))
         → opening_counter r.setting < x → IsFrontOfLine r crew a x p.line_of.line.answer (bytes_with p.line_of.earlier p.line_of.line)
-    -- Behind END a tab gives no byte, and prints neither PART nor HALTED.
-    pub behind_end : IsTrue r.tells → (tab : ℕ) → (p : LineIn crew (λ earlier s. ReadsBehindEnd earlier s tab)) → IsOver p.line_of.line.answer
+    -- Behind END a tab that reads prints END and no byte, and behind OTHERURL it prints OTHERURL.
+    pub behind_end : (tab : ℕ) → (p : LineIn crew (λ earlier s. ReadsBehind is_end earlier s tab)) → p.line_of.line.answer ≡ answer.End []
+    pub behind_other : (tab : ℕ) → (p : LineIn crew (λ earlier s. ReadsBehind is_other_url earlier s tab))
+        → p.line_of.line.answer ≡ answer.OtherUrl
+    -- Behind HALTED it prints no PART; and where bytes are told, nothing but HALTED, and FAULT.
+    pub no_part : (tab : ℕ) → LineIn crew (λ earlier s. PartBehindHalted earlier s tab) → ⊥
+    pub behind_halted : IsTrue r.tells → (tab : ℕ) → (p : LineIn crew (λ earlier s. ReadsBehind is_halted earlier s tab))
+        → IsStillHalted p.line_of.line.answer
     -- Of one version under one URL, either OTHERURL is printed, or HIT, PART, END and HALTED.
     pub one_url : IsTrue r.tells → (a x : ℕ) (url : List ℕ) → LineIn crew (λ earlier s. ReadsUnder r.setting.anchors earlier s a x url)
         → LineIn crew (λ earlier s. ReadsOther r.setting.anchors earlier s a x url) → ⊥

@@ -10,8 +10,9 @@ ghost use Rattle.script_text.specs.declared.request.Request.{Request};
 ghost use Rattle.core_model.specs.Anchors.{opening_epoch};
 ghost use Rattle.line_account.specs.Alone.{alone, home};
 ghost use Rattle.line_account.specs.Answers.{Run};
-ghost use Rattle.line_account.specs.Closing.{Worker};
-ghost use Rattle.line_account.specs.Lines.{Served};
+ghost use Rattle.line_account.specs.Closing.{LineIn, Worker};
+ghost use Rattle.line_account.specs.Lines.{IsAt, Served};
+ghost use Rattle.line_account.specs.Refusals.{Any};
 ghost use Rattle.line_account.specs.Rules.{KeepsRules};
 
 /// `put` printed BUSY 0.5/0 0.5/0 at an anchor that had nothing when the store was opened: no entry is given back where none
@@ -46,6 +47,15 @@ pub fn nothing_is_evicted_that_was_not_whole<X>()
         → KeepsRules r script (u ∷ w ∷ []) → u.served ≡ p ∷ [] → w.served ≡ g ∷ [] → opening_epoch r.setting (home r url) ≡ 0
         → p.line.request ≡ Request.Put url body → p.answer ≡ Answer.Doomed x → g.line.request ≡ Request.Get url
         → g.answer ≡ Answer.Miss (Cause.Absent (record { version = x; stage = stage.Gone; doom = false })) → ⊥ }
+{}
+
+/// All lines of a run, of however many workers, printed BUSY with the same words, at FREEING and not doomed: none of them came
+/// so far that it could evict (`epochs.given_back`).
+pub fn nothing_is_given_back_by_refusals<X>()
+    ensures { (r : Run X) (script : List Line) (crew : List (Worker X)) (a x : ℕ) (held : Word)
+        → KeepsRules r script crew → ((p : LineIn crew Any) → p.line_of.line.answer ≡ Answer.Busy held held)
+        → LineIn crew (λ earlier s. IsAt r.setting.anchors earlier s a)
+        → held.epoch ≡ record { version = x; stage = stage.Freeing; doom = false } → ⊥ }
 {}
 
 /// A lone `begin` printed BUSY with a word at FREEING, not doomed: no line was there that may evict (`epochs.given_back`).

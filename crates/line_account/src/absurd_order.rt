@@ -1,5 +1,5 @@
 //! Examples: lines in an order that no run explains, for the rules refuse them. Each says by which rule.
-ghost use Rattle.std.specs.Prelude.{◌≡◌, ◌∷◌, IsTrue, ℕ, List, [], false, true};
+ghost use Rattle.std.specs.Prelude.{◌≡◌, ◌≢◌, ◌∷◌, IsTrue, ℕ, List, [], false, true};
 ghost use Rattle.lock_word.specs.declared.cause.Cause.{Cause};
 ghost use Rattle.lock_word.specs.declared.epoch.Epoch.{Epoch};
 ghost use Rattle.lock_word.specs.declared.stage.Stage.TheVariants as stage;
@@ -42,15 +42,37 @@ pub fn no_stage_falls<X>()
         → g.answer ≡ Answer.Miss (Cause.Leaving (record { version = x; stage = stage.Appending; doom = true })) → ⊥ }
 {}
 
-/// `open` printed OPEN, `more` on its tab END, and the next one PART (`tabs.behind_end`) or OTHERURL (`tabs.one_url`): a tab that came to
-/// its end stays there.
+/// `open` printed OPEN, `more` on its tab END, and the next one something else than END with no byte: PART, OTHERURL, HALTED or FAULT,
+/// or END again with bytes (`tabs.behind_end`). A tab that came to its end stays there.
 pub fn nothing_comes_behind_an_end<X>()
-    ensures part { (r : Run X) (script : List Line) (w : Worker X) (o e m : Served) (url bytes more : List ℕ) (x : ℕ) (epoch : Epoch)
-        → KeepsRules r script (alone w) → IsTrue r.tells → w.served ≡ m ∷ e ∷ o ∷ [] → o.line.request ≡ Request.OpenTab 0 url
+    ensures { (r : Run X) (script : List Line) (w : Worker X) (o e m : Served) (url bytes : List ℕ) (x : ℕ)
+        → KeepsRules r script (alone w) → w.served ≡ m ∷ e ∷ o ∷ [] → o.line.request ≡ Request.OpenTab 0 url
         → o.answer ≡ Answer.Opened x → e.line.request ≡ Request.More 0 → e.answer ≡ Answer.End bytes
+        → m.line.request ≡ Request.More 0 → m.answer ≢ Answer.End [] → ⊥ }
+{}
+
+/// `open` printed OPEN, `more` on its tab OTHERURL, and the next one something else (`tabs.behind_other`): a tab that turned from its
+/// entry does not come back to it.
+pub fn nothing_comes_behind_another_url<X>()
+    ensures { (r : Run X) (script : List Line) (w : Worker X) (o e m : Served) (url : List ℕ) (x : ℕ)
+        → KeepsRules r script (alone w) → w.served ≡ m ∷ e ∷ o ∷ [] → o.line.request ≡ Request.OpenTab 0 url
+        → o.answer ≡ Answer.Opened x → e.line.request ≡ Request.More 0 → e.answer ≡ Answer.OtherUrl
+        → m.line.request ≡ Request.More 0 → m.answer ≢ Answer.OtherUrl → ⊥ }
+{}
+
+/// `open` printed OPEN, `more` on its tab HALTED, and the next one PART (`tabs.no_part`), END or OTHERURL (`tabs.behind_halted`): an entry
+/// that was given up grows no more.
+pub fn nothing_grows_behind_a_halt<X>()
+    ensures part { (r : Run X) (script : List Line) (w : Worker X) (o e m : Served) (url bytes more : List ℕ) (x : ℕ) (epoch : Epoch)
+        → KeepsRules r script (alone w) → w.served ≡ m ∷ e ∷ o ∷ [] → o.line.request ≡ Request.OpenTab 0 url
+        → o.answer ≡ Answer.Opened x → e.line.request ≡ Request.More 0 → e.answer ≡ Answer.Halted bytes
         → m.line.request ≡ Request.More 0 → m.answer ≡ Answer.Part epoch more → ⊥ }
+    ensures end { (r : Run X) (script : List Line) (w : Worker X) (o e m : Served) (url bytes more : List ℕ) (x : ℕ)
+        → KeepsRules r script (alone w) → IsTrue r.tells → w.served ≡ m ∷ e ∷ o ∷ [] → o.line.request ≡ Request.OpenTab 0 url
+        → o.answer ≡ Answer.Opened x → e.line.request ≡ Request.More 0 → e.answer ≡ Answer.Halted bytes
+        → m.line.request ≡ Request.More 0 → m.answer ≡ Answer.End more → ⊥ }
     ensures other { (r : Run X) (script : List Line) (w : Worker X) (o e m : Served) (url bytes : List ℕ) (x : ℕ)
         → KeepsRules r script (alone w) → IsTrue r.tells → w.served ≡ m ∷ e ∷ o ∷ [] → o.line.request ≡ Request.OpenTab 0 url
-        → o.answer ≡ Answer.Opened x → e.line.request ≡ Request.More 0 → e.answer ≡ Answer.End bytes
+        → o.answer ≡ Answer.Opened x → e.line.request ≡ Request.More 0 → e.answer ≡ Answer.Halted bytes
         → m.line.request ≡ Request.More 0 → m.answer ≡ Answer.OtherUrl → ⊥ }
 {}

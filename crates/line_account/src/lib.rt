@@ -6,6 +6,7 @@
 mod absurd;
 mod absurd_epochs;
 mod absurd_order;
+mod absurd_tabs;
 mod examples;
 mod laws;
 mod rules;
@@ -18,11 +19,15 @@ pub use absurd::{
 pub use absurd_epochs::{
     no_begun_version_is_at_empty, nothing_is_doomed_at_taken,
     nothing_is_evicted_that_was_not_whole, nothing_is_given_back_by_itself,
-    nothing_is_given_back_that_never_was,
+    nothing_is_given_back_by_refusals, nothing_is_given_back_that_never_was,
 };
 pub use absurd_order::{
-    no_stage_falls, nothing_comes_behind_an_end, nothing_is_purged_twice,
-    nothing_told_twice_is_forgotten,
+    no_stage_falls, nothing_comes_behind_an_end, nothing_comes_behind_another_url,
+    nothing_grows_behind_a_halt, nothing_is_purged_twice, nothing_told_twice_is_forgotten,
+};
+pub use absurd_tabs::{
+    no_neighbour_is_opened, no_tab_gives_another_body, nothing_refused_is_given_whole,
+    nothing_stored_is_halted,
 };
 pub use examples::{
     a_hit_has_what_was_stored, a_lone_spent_number_is_the_counter, a_lone_version_is_the_next_one,

@@ -30,6 +30,7 @@ module _ {C O : Type 0} (tells : Bool) (state : C → CellState) (offers : O →
           was = not_other e.is_other (λ o. let z = (reads.other o).1 in let y = r.2 in absurd (omega arith));
           some = some_place;
           all = reads.at_end r.1 some_place;
+          ended = subst (OfReader (λ r. r.slot ≡ None)) (sym reads.is) r.1;
           still = refl;
           same = refl;
         }

@@ -14,6 +14,7 @@ pub mod KnownRead
 pub mod Decoding
 pub mod DecodedRead
 pub mod Answering
+pub mod Stopped
 pub mod GivenBodies
 pub mod InnerTab
 pub mod Opened

@@ -29,7 +29,7 @@ module _ {X : Type 0} where
   looked_reader r slot link = record r { slot = Some slot; found = link }
 
   -- the slot that it knows once it loaded its start
-  abbrev start_slot : Reader X → ℕ → Option ℕ
+  abbrev pub start_slot : Reader X → ℕ → Option ℕ
   start_slot r n = cond (r.place == 0) (cond (n == 0) None (Some (n - 1))) r.slot
 
   there : (v : View X) (t : ℕ) (x : Tab X) → IsPass v → t ≤ inner → tab_at v t ≡ x → v.tabs ≡ with_tab v t x

@@ -176,11 +176,12 @@ module _ {C O : Type 0} (tells : Bool) (state : C → CellState) (offers : O →
     pub still : q ≡ p
     pub same : after ≡ before
 
-  -- all slots of the offer's response were given, and nothing is done
+  -- All slots of the offer's response were given, and nothing is done. The tab has no slot at its place, so each later call comes to this too.
   pub record IsAtEnd : Type 0 where
     pub was : e.is_other ≡ false
     pub some : 0 < e.place
     pub all : e.place ≡ pieces_of g e.anchor e.offer
+    pub ended : OfReader (λ r. r.slot ≡ None) (tab_at (view p) t)
     pub still : q ≡ p
     pub same : after ≡ before
 

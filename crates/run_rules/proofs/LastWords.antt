@@ -161,7 +161,7 @@ module _ {X : Type 0} (r : Run X) (crew : List (Worker X)) (s : State X) (sound 
       gone six undoomed = ⊎_elim
           (λ (h : IsDone s (HaltedVersion a (version_of (epoch_of (word s a))))). inl (halted a (version_of (epoch_of (word s a))) h))
           (λ (h : IsDone s (EvictedVersion a (version_of (epoch_of (word s a))))). inr (
-            by_line (EvictedVersion a (version_of (epoch_of (word s a)))) (λ earlier line. MayEvict line.line.request)
+            by_line (EvictedVersion a (version_of (epoch_of (word s a)))) (λ earlier line. MayEvict line.answer)
                 (λ v d earlier line q o. (o.evicted q.0 q.3 q.4).may)
                 (λ d served q o. absurd (let f = sym q.4 ∙ (o.changed q.0).1 in cc))
                 h,

@@ -2,6 +2,7 @@ mod Lists
 mod Scripts
 mod Files
 mod Zero
+mod Refused
 mod Crews
 mod Opened
 mod Numbers

@@ -53,12 +53,12 @@ module _ {X : Type 0} (r : Run X) (slot anchors : ℕ) (images : List (List ℕ)
           (began.each a below)
 
 -- The one line of a worker that printed one answer.
-record OneLine (served : List Served) (a : Answer) : Type 0 where
-  line : Served
-  is : served ≡ line ∷ []
-  answer_is : line.answer ≡ a
+pub record OneLine (served : List Served) (a : Answer) : Type 0 where
+  pub line : Served
+  pub is : served ≡ line ∷ []
+  pub answer_is : line.answer ≡ a
 
-one_line : (served : List Served) (n : ℕ) (a : Answer) → printed_by served ≡ (n, a) ∷ [] → OneLine served a
+pub one_line : (served : List Served) (n : ℕ) (a : Answer) → printed_by served ≡ (n, a) ∷ [] → OneLine served a
 one_line [] n a e = absurd (let long = ap length e in omega arith)
 one_line (s ∷ []) n a e = let one : (s.line.number, s.answer) ≡ (n, a) = cc in record { line = s; is = refl; answer_is = ap (λ (p : ℕ × Answer). p.1) one }
 one_line (s ∷ t ∷ rest) n a e =

@@ -10,6 +10,9 @@ ghost use Rattle.script_text.specs.declared.request.Request.{Request};
 ghost use Rattle.rock_disk.specs.Counts.{Counts};
 ghost use Rattle.run_rules.specs.Runs.{IsExplained};
 
+use line_account::nothing_is_given_back_by_refusals;
+use rock_io::Octets;
+
 /// Two workers printed FAULT, and no station was made for them (`made`; `many` of `IsExplained` refuses it). Or one was made for each, and
 /// ended with no fault (`counted`; `faults` refuses it).
 pub fn no_fault_comes_of_no_call()
@@ -28,3 +31,15 @@ pub fn no_entry_has_version_0()
         (((1, Answer.Busy held held) ∷ []) ∷ []) before after
         → held.epoch ≡ record { version = 0; stage = stage.Freeing; doom = false } → ⊥ }
 {}
+
+/// Two workers' `put` of a URL printed BUSY with the same words, those of an entry at FREEING that is not doomed and that nobody reads, as
+/// the file's winner would be while it is evicted: no line came so far that it could evict (`rules.epochs.given_back`).
+pub fn no_winner_is_freed_by_refusals()
+    ensures { (tells : Bool) (files : Files) (name : List ℕ) (slot anchors x : ℕ) (url : List ℕ) (body other : Body) (held : Word) (before after : Counts)
+        → IsExplained tells files name slot anchors 2
+        (record { worker = 1; number = 1; request = Request.Put url body } ∷ record { worker = 2; number = 2; request = Request.Put url other } ∷ [])
+        (((1, Answer.Busy held held) ∷ []) ∷ ((2, Answer.Busy held held) ∷ []) ∷ []) before after
+        → held.epoch ≡ record { version = x; stage = stage.Freeing; doom = false } → ⊥ }
+{
+    nothing_is_given_back_by_refusals::<Octets>();
+}

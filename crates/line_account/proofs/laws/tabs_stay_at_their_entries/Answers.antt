@@ -1,4 +1,5 @@
-use Rattle.line_account.proofs.Tabs.{front_new, front_old, halted_same, never_both, over_behind_end, part_same}
+use Rattle.line_account.proofs.Tabs.{front_new, front_old, halted_same, never_both, part_same}
+use Rattle.line_account.proofs.Stopping.{ended_stays, halted_stays, never_grows, turned_stays}
 use Rattle.line_account.proofs.laws.tabs_stay_at_their_entries.Goals as goal
 
 pub returns-clause-part : goal.returns-clause-part
@@ -14,7 +15,16 @@ pub returns-clause-new : goal.returns-clause-new
 returns-clause-new c start r crew a x closed y p high = front_new r crew closed a x y p high
 
 pub returns-clause-behind_end : goal.returns-clause-behind_end
-returns-clause-behind_end c start r crew tab closed y p = over_behind_end r crew closed y tab p
+returns-clause-behind_end c start r crew tab closed p = ended_stays r crew closed tab p
+
+pub returns-clause-behind_other : goal.returns-clause-behind_other
+returns-clause-behind_other c start r crew tab closed p = turned_stays r crew closed tab p
+
+pub returns-clause-no_part : goal.returns-clause-no_part
+returns-clause-no_part c start r crew tab closed p = never_grows r crew closed tab p
+
+pub returns-clause-behind_halted : goal.returns-clause-behind_halted
+returns-clause-behind_halted c start r crew tab closed y p = halted_stays r crew closed tab y p
 
 pub returns-clause-one_url : goal.returns-clause-one_url
 returns-clause-one_url c start r crew a x url closed y p q = never_both r crew closed y a x url p q
