@@ -69,7 +69,8 @@ module _ {C O : Type 0} (tells : Bool) (state : C → CellState) (offers : O →
 
     -- By the lines it reads, and it does: the URL and the epoch are those of the line that opened it, and the bytes that lines gave are those of
     -- the slots that it was given. Where it turned from its entry these are none, and the offer has another URL. The pass has seen how many slots
-    -- it was given. Behind END it has no slot at its place, behind OTHERURL it has turned, and behind HALTED the pass has seen the version at HALTED.
+    -- it was given. Behind END it has no slot at its place, behind OTHERURL it has turned, and behind HALTED the pass has seen the version
+    -- at HALTED.
     pub record IsReader : Type 0 where
       pub writes : writing t served ≡ None
       pub first : Served

@@ -50,7 +50,8 @@ reading_opened : (tab : ℕ) (served : List Served) (first : Served) → reading
 reading_opened tab [] first e = absurd (let q : None ≡ Some first = e in cc)
 reading_opened tab (s ∷ earlier) first e = by_line (λ q. reading_opened tab earlier first q) (opens tab s.line.request s.answer) (closes tab s.line.request s.answer) refl e
   where
-    by_line : (reading tab earlier ≡ Some first → is_opened first.answer ≡ true) → (o k : Bool) → opens tab s.line.request s.answer ≡ o → cond o (Some s) (cond k None (reading tab earlier)) ≡ Some first → is_opened first.answer ≡ true
+    by_line : (reading tab earlier ≡ Some first → is_opened first.answer ≡ true) → (o k : Bool) → opens tab s.line.request s.answer ≡ o
+        → cond o (Some s) (cond k None (reading tab earlier)) ≡ Some first → is_opened first.answer ≡ true
     by_line before true k is q = let same : s ≡ first = cc in ap (λ (z : Served). is_opened z.answer) (sym same) ∙ opens_opened tab s.line.request s.answer is
     by_line before false true is q = absurd (let z : None ≡ Some first = q in cc)
     by_line before false false is q = before q
@@ -77,7 +78,8 @@ module _ (so : Answer → Bool) where
     is : IsOn tab line.line.request line.answer
     reads : reading tab back ≡ Some first
 
-  answered_before : (tab : ℕ) (earlier : List Served) (first : Served) → reading tab earlier ≡ Some first → answered_more so tab earlier ≡ true → AnsweredBefore tab earlier first
+  answered_before : (tab : ℕ) (earlier : List Served) (first : Served) → reading tab earlier ≡ Some first
+      → answered_more so tab earlier ≡ true → AnsweredBefore tab earlier first
   answered_before tab [] first r e = absurd (let z : false ≡ true = e in cc)
   answered_before tab (s ∷ earlier) first r e = by_line (λ reads came. answered_before tab earlier first reads came)
       (opens tab s.line.request s.answer) (closes tab s.line.request s.answer) (answers_more so tab s.line.request s.answer) refl refl refl
@@ -89,7 +91,9 @@ module _ (so : Answer → Bool) where
       came : (o m : Bool) → o ≡ false → m ≡ false → cond o false (m || answered_more so tab earlier) ≡ answered_more so tab earlier
       came o m not_open not_so = λ i. cond (not_open i) false (not_so i || answered_more so tab earlier)
 
-      by_line : (reading tab earlier ≡ Some first → answered_more so tab earlier ≡ true → AnsweredBefore tab earlier first) → (o k m : Bool) → opens tab s.line.request s.answer ≡ o → closes tab s.line.request s.answer ≡ k → answers_more so tab s.line.request s.answer ≡ m
+      by_line : (reading tab earlier ≡ Some first → answered_more so tab earlier ≡ true → AnsweredBefore tab earlier first)
+          → (o k m : Bool) → opens tab s.line.request s.answer ≡ o → closes tab s.line.request s.answer ≡ k
+          → answers_more so tab s.line.request s.answer ≡ m
           → AnsweredBefore tab (s ∷ earlier) first
       by_line before true k m is_o is_k is_m = absurd (
           let z : cond (opens tab s.line.request s.answer) false (answers_more so tab s.line.request s.answer || answered_more so tab earlier) ≡ false = λ i. cond (is_o i) false (answers_more so tab s.line.request s.answer || answered_more so tab earlier) in
@@ -167,7 +171,8 @@ module _ {X : Type 0} (r : Run X) (crew : List (Worker X)) (c : Closed r crew) (
     abbrev a : ℕ
     a = anchor_of (key_of g.url) r.setting.anchors
 
-    abbrev reads_version : (earlier : List Served) (s : Served) → opened_by earlier s ≡ Some open_line.0 → ReadsVersion r.setting.anchors earlier s a x
+    abbrev reads_version : (earlier : List Served) (s : Served) → opened_by earlier s ≡ Some open_line.0
+        → ReadsVersion r.setting.anchors earlier s a x
     reads_version earlier s is = record { first = open_line.0; opened_is = is; anchor = record { url = g.url; named_is = named; anchor = refl }; told = opened.1 }
 
     abbrev of_halted : ReadsVersion r.setting.anchors b.back b.line a x

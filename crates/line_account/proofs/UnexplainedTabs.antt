@@ -29,7 +29,8 @@ one_of_two s t (y ∷ []) earlier x e = inr cc
 one_of_two s t (y ∷ z ∷ []) earlier x e = absurd (let n : [] ≡ x ∷ earlier = cc in cc)
 one_of_two s t (y ∷ z ∷ v ∷ later) earlier x e = absurd (let n : [] ≡ v ∷ (later ++ x ∷ earlier) = cc in cc)
 
-one_of_three : (s t u : Served) (later earlier : List Served) (x : Served) → s ∷ t ∷ u ∷ [] ≡ later ++ x ∷ earlier → (s ≡ x) ⊎ ((t ≡ x) ⊎ (u ≡ x))
+one_of_three : (s t u : Served) (later earlier : List Served) (x : Served) → s ∷ t ∷ u ∷ [] ≡ later ++ x ∷ earlier
+    → (s ≡ x) ⊎ ((t ≡ x) ⊎ (u ≡ x))
 one_of_three s t u [] earlier x e = inl cc
 one_of_three s t u (y ∷ later) earlier x e = inr (one_of_two t u later earlier x cc)
 
@@ -46,7 +47,8 @@ module _ {X : Type 0} (r : Run X) (script : List Line) (w : Worker X) (rules : K
   same_lines (suc l) v at = absurd (some-ne-none v (sym at))
 
   -- a line of it that stored a body
-  module _ (later earlier : List Served) (p : Served) (url : List ℕ) (body : Body) (x : ℕ) (is : w.served ≡ later ++ p ∷ earlier) (pq : p.line.request ≡ Put url body) (pa : p.answer ≡ answer.Stored x) where
+  module _ (later earlier : List Served) (p : Served) (url : List ℕ) (body : Body) (x : ℕ) (is : w.served ≡ later ++ p ∷ earlier)
+      (pq : p.line.request ≡ Put url body) (pa : p.answer ≡ answer.Stored x) where
     put_begun : TellsBegunIn r (alone w) (home r url) x
     put_begun = record {
       j = 0;
@@ -69,9 +71,11 @@ module _ {X : Type 0} (r : Run X) (script : List Line) (w : Worker X) (rules : K
     above = (rules.versions.bounds (home r url) x (record { j = 0; worker = w; at = refl; line_of = record { later = later; line = p; earlier = earlier; split = is; so = rules.versions.told (home r url) x put_begun } })).0
 
   -- `open` of another URL
-  module _ (p s : Served) (url other : List ℕ) (body : Body) (x : ℕ) (is : w.served ≡ s ∷ p ∷ []) (pq : p.line.request ≡ Put other body) (pa : p.answer ≡ answer.Stored x)
+  module _ (p s : Served) (url other : List ℕ) (body : Body) (x : ℕ) (is : w.served ≡ s ∷ p ∷ []) (pq : p.line.request ≡ Put other body)
+      (pa : p.answer ≡ answer.Stored x)
       (sq : s.line.request ≡ OpenTab 0 url) (sa : s.answer ≡ answer.Opened x) where
-    begun_by_put : (l : ℕ) (v : Worker X) → get_elem? (alone w) l ≡ some v → (later earlier : List Served) (z : Served) → v.served ≡ later ++ z ∷ earlier → Begins r.setting.anchors z (home r url) x → p ≡ z
+    begun_by_put : (l : ℕ) (v : Worker X) → get_elem? (alone w) l ≡ some v → (later earlier : List Served) (z : Served)
+        → v.served ≡ later ++ z ∷ earlier → Begins r.setting.anchors z (home r url) x → p ≡ z
     begun_by_put l v at later earlier z split begins_it = ⊎_elim
         (λ (opening : s ≡ z). absurd (subst (λ (q : Request). Began q z.answer x) (ap (λ (y : Served). y.line.request) (sym opening) ∙ sq) begins_it.began))
         (λ (put : p ≡ z). put)
@@ -88,7 +92,8 @@ module _ {X : Type 0} (r : Run X) (script : List Line) (w : Worker X) (rules : K
         sym (k.key_is ∙ ap key_of same)
 
   -- `put`, and `open` and `more` of what it stored
-  module _ (p o m : Served) (url : List ℕ) (body : Body) (x : ℕ) (is : w.served ≡ m ∷ o ∷ p ∷ []) (pq : p.line.request ≡ Put url body) (pa : p.answer ≡ answer.Stored x)
+  module _ (p o m : Served) (url : List ℕ) (body : Body) (x : ℕ) (is : w.served ≡ m ∷ o ∷ p ∷ []) (pq : p.line.request ≡ Put url body)
+      (pa : p.answer ≡ answer.Stored x)
       (oq : o.line.request ≡ OpenTab 0 url) (oa : o.answer ≡ answer.Opened x) (mq : m.line.request ≡ More 0) where
     abbrev here : ℕ
     here = home r url
@@ -111,7 +116,8 @@ module _ {X : Type 0} (r : Run X) (script : List Line) (w : Worker X) (rules : K
     }
 
     -- the line that began the version is the `put`
-    begun_by : (l : ℕ) (v : Worker X) → get_elem? (alone w) l ≡ some v → (later earlier : List Served) (z : Served) → v.served ≡ later ++ z ∷ earlier → Begins r.setting.anchors z here x → p ≡ z
+    begun_by : (l : ℕ) (v : Worker X) → get_elem? (alone w) l ≡ some v → (later earlier : List Served) (z : Served)
+        → v.served ≡ later ++ z ∷ earlier → Begins r.setting.anchors z here x → p ≡ z
     begun_by l v at later earlier z split begins_it = ⊎_elim
         (λ (more : m ≡ z). absurd (subst (λ (q : Request). Began q z.answer x) (ap (λ (y : Served). y.line.request) (sym more) ∙ mq) begins_it.began))
         (λ (rest : (o ≡ z) ⊎ (p ≡ z)). ⊎_elim
@@ -144,7 +150,8 @@ module _ {X : Type 0} (r : Run X) (script : List Line) (w : Worker X) (rules : K
         same true = refl
         same false = refl
 
-        with_line : (s : Served) (earlier : List Served) → begins t s.line.request s.answer ≡ false → writing t earlier ≡ None → writing t (s ∷ earlier) ≡ None
+        with_line : (s : Served) (earlier : List Served) → begins t s.line.request s.answer ≡ false → writing t earlier ≡ None
+            → writing t (s ∷ earlier) ≡ None
         with_line s earlier not_begun before = (λ i. cond (not_begun i) (Some s) (cond (ends t s.line.request s.answer) None (before i))) ∙ same (ends t s.line.request s.answer)
 
     pub never_halted : (bytes : List ℕ) → m.answer ≡ answer.Halted bytes → ⊥

@@ -107,8 +107,8 @@ pub record PrintsBegunVersion (anchors : ℕ) (s : Served) (a x : ℕ) : Type 0 
   pub anchor : IsAnchorOf anchors (url_in s.line.request) a
   pub told : TellsBegun s.line.request s.answer x
 
--- The answers to a line that came so far that it needed slots, and may have had to evict an entry for one: STORED, DOOMED, ADDED, FULL, LARGE
--- and FAULT. A line that printed BUSY, SPENT, LONGURL or TAB was refused before, and `begin` needs none.
+-- The answers to a line that came so far that it needed slots, and may have had to evict an entry for one: STORED, DOOMED, ADDED, FULL,
+-- LARGE and FAULT. A line that printed BUSY, SPENT, LONGURL or TAB was refused before, and `begin` needs none.
 abbrev pub MayEvict : Answer → Type 0
 MayEvict (answer.Stored version) = Unit {0}
 MayEvict (answer.Doomed version) = Unit {0}

@@ -26,7 +26,8 @@ answers_more so t _ a = false
 -- a line among these was, since the tab was opened
 abbrev pub answered_more : (Answer → Bool) → ℕ → List Served → Bool
 answered_more so t [] = false
-answered_more so t (s ∷ earlier) = cond (opens t s.line.request s.answer) false (answers_more so t s.line.request s.answer || answered_more so t earlier)
+answered_more so t (s ∷ earlier) = cond (opens t s.line.request s.answer) false
+    (answers_more so t s.line.request s.answer || answered_more so t earlier)
 
 -- a line that reads on, on a tab that reads, behind one on it that was answered so
 pub record ReadsBehind (so : Answer → Bool) (earlier : List Served) (s : Served) (tab : ℕ) : Type 0 where

@@ -12,13 +12,15 @@ ghost use Rattle.line_account.specs.Closing.{Worker};
 ghost use Rattle.line_account.specs.Lines.{Served};
 ghost use Rattle.line_account.specs.Rules.{KeepsRules};
 
-/// `begin` printed BEGUN and `add` FULL, and another worker's `open` of the URL printed OPEN with the version and `more` on its tab END: what
-/// was given up is not given whole (`bodies.not_halted`).
+/// `begin` printed BEGUN and `add` FULL, and another worker's `open` of the URL printed OPEN with the version and `more` on its
+/// tab END: what was given up is not given whole (`bodies.not_halted`).
 pub fn nothing_refused_is_given_whole<X>()
     ensures { (r : Run X) (script : List Line) (u w : Worker X) (b d o m : Served) (url bytes : List ℕ) (body : Body) (x count : ℕ)
         → KeepsRules r script (u ∷ w ∷ []) → IsTrue r.tells → u.served ≡ d ∷ b ∷ [] → w.served ≡ m ∷ o ∷ []
-        → b.line.request ≡ Request.Begin 0 url body → b.answer ≡ Answer.Begun x → d.line.request ≡ Request.Add 0 count → d.answer ≡ Answer.Full
-        → o.line.request ≡ Request.OpenTab 0 url → o.answer ≡ Answer.Opened x → m.line.request ≡ Request.More 0 → m.answer ≡ Answer.End bytes → ⊥ }
+        → b.line.request ≡ Request.Begin 0 url body → b.answer ≡ Answer.Begun x
+        → d.line.request ≡ Request.Add 0 count → d.answer ≡ Answer.Full
+        → o.line.request ≡ Request.OpenTab 0 url → o.answer ≡ Answer.Opened x
+        → m.line.request ≡ Request.More 0 → m.answer ≡ Answer.End bytes → ⊥ }
 {}
 
 /// `put` of one URL printed STORED, and `open` of another URL, with another key, OPEN with the version (`keys.found_new`).

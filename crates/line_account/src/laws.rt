@@ -16,7 +16,8 @@ ghost use Rattle.core_model.specs.State.{State};
 ghost use Rattle.core_model.specs.Anchors.{opening_counter, opening_epoch};
 ghost use Rattle.line_account.specs.Lines.{Fits, Offers, Served, added, offers};
 ghost use Rattle.line_account.specs.Stopping.{ReadsBehind, is_end, is_halted, is_other_url};
-ghost use Rattle.line_account.specs.Tabs.{IsFrontOfLine, IsFrontOfOld, IsStillHalted, PartBehindHalted, ReadsHalted, ReadsOn, ReadsOther, ReadsPart, ReadsUnder};
+ghost use Rattle.line_account.specs.Tabs.{IsFrontOfLine, IsFrontOfOld, IsStillHalted, PartBehindHalted, ReadsHalted, ReadsOn};
+ghost use Rattle.line_account.specs.Tabs.{ReadsOther, ReadsPart, ReadsUnder};
 ghost use Rattle.line_account.specs.Deeds.{Begins, PrintsBegun, PrintsBegunVersion};
 ghost use Rattle.line_account.specs.Requests.{IsAnswerTo};
 ghost use Rattle.line_account.specs.Crews.{HaveCourses};
@@ -317,7 +318,8 @@ pub fn tabs_stay_at_their_entries<X>()
         → (p : LineIn crew (λ earlier s. ReadsBehind is_end earlier s tab)) → p.line_of.line.answer ≡ Answer.End [] }
     ensures behind_other { (r : Run X) (crew : List (Worker X)) (tab : ℕ) → Closed r crew
         → (p : LineIn crew (λ earlier s. ReadsBehind is_other_url earlier s tab)) → p.line_of.line.answer ≡ Answer.OtherUrl }
-    ensures no_part { (r : Run X) (crew : List (Worker X)) (tab : ℕ) → Closed r crew → LineIn crew (λ earlier s. PartBehindHalted earlier s tab) → ⊥ }
+    ensures no_part { (r : Run X) (crew : List (Worker X)) (tab : ℕ) → Closed r crew
+        → LineIn crew (λ earlier s. PartBehindHalted earlier s tab) → ⊥ }
     ensures behind_halted { (r : Run X) (crew : List (Worker X)) (tab : ℕ) → Closed r crew → IsTrue r.tells
         → (p : LineIn crew (λ earlier s. ReadsBehind is_halted earlier s tab)) → IsStillHalted p.line_of.line.answer }
     ensures one_url { (r : Run X) (crew : List (Worker X)) (a x : ℕ) (url : List ℕ) → Closed r crew → IsTrue r.tells

@@ -176,7 +176,8 @@ module _ {C O : Type 0} (tells : Bool) (state : C → CellState) (offers : O →
     pub still : q ≡ p
     pub same : after ≡ before
 
-  -- All slots of the offer's response were given, and nothing is done. The tab has no slot at its place, so each later call comes to this too.
+  -- All slots of the offer's response were given, and nothing is done. The tab has no slot at its place, so each later call comes to
+  -- this too.
   pub record IsAtEnd : Type 0 where
     pub was : e.is_other ≡ false
     pub some : 0 < e.place

@@ -1,5 +1,5 @@
 -- What lines print of the file: the URLs, the bodies and the keys of its entries.
-use Rattle.std.proofs.Common.{IsTrue, List, ap, length, take, inl, inr, refl, subst, sym, ⊎_elim, ◌%◌, ◌+◌, ◌<◌, ◌^◌, ◌∙◌, ◌≡◌, ◌≤◌, ℕ}
+use Rattle.std.proofs.Common.{IsTrue, List, ap, arith, length, take, inl, inr, refl, subst, sym, ⊎_elim, ◌%◌, ◌+◌, ◌<◌, ◌^◌, ◌∙◌, ◌≡◌, ◌≤◌, ℕ}
 use Rattle.std.specs.Prelude.{Some}
 use Rattle.std.proofs.Math.Nat.{mod-lt}
 use Rattle.rebuild_model.specs.Entry.{Entry, IsStored as IsInFile}
@@ -8,7 +8,8 @@ use Rattle.store_key.specs.Anchor.{anchor_of, back_half, front_half}
 use Rattle.store_key.specs.Key.{key_of}
 use Rattle.plain_model.specs.Serving.{bytes_of}
 use Rattle.script_text.specs.declared.line.Line.{Line}
-use Rattle.core_model.specs.Anchors.{opening_counter}
+use Rattle.core_model.specs.Anchors.{opening_counter, opening_epoch}
+use Rattle.lock_word.specs.Words.{stage_of}
 use Rattle.line_account.specs.Answers.{Run, bytes_with}
 use Rattle.line_account.specs.Closing.{BegunIn, LineIn, Worker}
 use Rattle.line_account.specs.Deeds.{Begins, PrintsBegunVersion}
@@ -18,6 +19,7 @@ use Rattle.line_account.specs.Printed.{HadEntry, HasOtherUrl, HitIn, IsBodyAsPri
 use Rattle.line_account.specs.Scripts.{ServesScript}
 use Rattle.line_account.specs.Rules.{KeepsRules}
 use Rattle.line_account.specs.Tabs.{ReadsOn}
+use Rattle.run_rules.specs.Openings.{BeganWithFile, HadNothing, HadWinner}
 use Rattle.run_rules.specs.Printed.{AreKeysOfWinners, AreResponses, IsFrontOfWinner, IsOfWinner}
 use Rattle.run_rules.specs.Responses.{HasTwin, IsFrontOf, IsOffered, IsResponse, IsUsed}
 use Rattle.run_rules.proofs.Lists.{not_above}
@@ -35,6 +37,13 @@ module _ (r : Run (List ℕ)) (slot anchors : ℕ) (images : List (List ℕ)) wh
     pub keyed : IsOldUrl r a entry.url
     pub url_is : IsTrue r.tells → r.url (old_offer r a) ≡ entry.url
     pub body_is : IsTrue r.tells → r.body (old_offer r a) ≡ entry.body
+
+  -- a store that was opened over the file had it
+  pub old_winners : BeganWithFile r slot anchors images → (a : ℕ) → a < anchors → HadEntry r a → OldWinner a
+  old_winners began a small there = ⊎_elim
+      (λ (h : HadWinner r slot anchors images a). record { entry = h.entry; winner = h.winner; keyed = h.keyed; url_is = h.url_is; body_is = h.body_is })
+      (λ (h : HadNothing r slot anchors images a). absurd (let none : stage_of (opening_epoch r.setting a) ≡ 0 = ap stage_of h.epoch in omega arith))
+      (began.each a small)
 
   module _ (script : List Line) (crew : List (Worker (List ℕ))) (rules : KeepsRules r script crew) (serves : ServesScript script crew) (same : r.setting.anchors ≡ anchors) (some : 0 < anchors)
       (kept : (a : ℕ) → a < anchors → HadEntry r a → OldWinner a) where

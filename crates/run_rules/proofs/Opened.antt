@@ -6,16 +6,13 @@ use Rattle.std.proofs.lemmas.List.{length-map}
 use Rattle.rock_disk.specs.Cell.{CellState}
 use Rattle.rock_disk.specs.File.{Files}
 use Rattle.entry_cut.specs.Content.{room_of}
-use Rattle.lock_word.specs.Words.{stage_of}
 use Rattle.rebuild_model.specs.Image.{IsGreatest}
 use Rattle.rebuild_model.specs.Rebuilt.{IsWinner}
 use Rattle.store_key.specs.Anchor.{back_half, front_half}
 use Rattle.script_text.specs.declared.answer.Answer.{Answer}
 use Rattle.script_text.specs.declared.line.Line.{Line}
-use Rattle.core_model.specs.Anchors.{opening_epoch}
 use Rattle.line_account.specs.Answers.{Run}
 use Rattle.line_account.specs.Closing.{Closed as ClosedCrew, Worker}
-use Rattle.line_account.specs.Printed.{HadEntry}
 use Rattle.line_account.specs.Scripts.{ServesScript}
 use Rattle.line_account.specs.Crews.{HaveCourses}
 use Rattle.line_account.specs.Rules.{KeepsRules}
@@ -35,7 +32,7 @@ use Rattle.rock_run.specs.Runs.{HasRun}
 use Rattle.run_rules.specs.Openings.{BeganWithFile}
 use Rattle.run_rules.specs.Runs.{IsExplained}
 use Rattle.run_rules.proofs.Crews.{are_counted, have_courses, met, printed}
-use Rattle.run_rules.proofs.Files.{OldWinner, keys, responses}
+use Rattle.run_rules.proofs.Files.{OldWinner}
 use Rattle.run_rules.proofs.Lists.{at_place, both}
 use Rattle.run_rules.proofs.Zero.{zero_empty}
 
@@ -63,16 +60,6 @@ module _ {C : Type 0} (told : Bool) (state : C → CellState) (g : Ground (List 
     url_is = λ t. ap run.url h.offer ∙ first_taken h.entry.first g.setting.slots (past.url h.entry.first) _ h.below ∙ (told_of a h t).0;
     body_is = λ t. ap run.body h.offer ∙ first_taken h.entry.first g.setting.slots (past.body h.entry.first) _ h.below ∙ (told_of a h t).1;
   }
-
-  -- an anchor that had nothing had no entry
-  none_had : (a : ℕ) → HadNone g slot anchors o.kept.images a → HadEntry run a → ⊥
-  none_had a h there = let none : stage_of (opening_epoch g.setting a) ≡ 0 = ap stage_of h.epoch in omega arith
-
-  pub old_winner : (a : ℕ) → a < anchors → HadEntry run a → OldWinner run slot anchors o.kept.images a
-  old_winner a small there = ⊎_elim
-      (λ (h : HadKept g slot anchors o.kept.images a). winner_of a h)
-      (λ (h : HadNone g slot anchors o.kept.images a). absurd (none_had a h there))
-      (o.each a small)
 
   pub began : BeganWithFile run slot anchors o.kept.images
   unfolding winner_of
@@ -136,9 +123,6 @@ module _ {C St : Type 0} (volume_tells told : Bool) (state : C → CellState) (f
     pub rules : KeepsRules r script crew
     rules = laws.keeps r crew closing.closed closing.serves (have_courses r script accounts closing)
 
-    pub kept : (a : ℕ) → a < anchors → HadEntry r a → OldWinner r slot anchors laws.opening.kept.images a
-    kept = old_winner told state g laws.past.past slot anchors h.closed.opened.cells laws.opening laws.past.winners
-
     pub above_none : 0 < anchors
     above_none = let from = h.closed.opened.fit.from in omega (arith, from)
 
@@ -168,6 +152,4 @@ module _ {C St : Type 0} (volume_tells told : Bool) (state : C → CellState) (f
           answers h.stations h.served.played.answers_are h.served.played.stations_left_are;
       rules = rules;
       zero = zero_empty r slot anchors laws.opening.kept.images script crew rules (began told state g laws.past.past slot anchors h.closed.opened.cells laws.opening laws.past.winners) h.closed.opened.store.anchors_are above_none;
-      responses = λ t. responses r slot anchors laws.opening.kept.images script crew rules closing.serves h.closed.opened.store.anchors_are above_none kept (h.closed.opened.told t);
-      keys = keys r slot anchors laws.opening.kept.images script crew rules closing.serves h.closed.opened.store.anchors_are above_none kept;
     }

@@ -20,7 +20,6 @@ use Rattle.store_serve.specs.Answers.{is_fault}
 use Rattle.worker_shelf.specs.Playing.{answer_to_await}
 use Rattle.rock_run.specs.Device.{HasEnded}
 use Rattle.run_rules.specs.Openings.{BeganWithFile}
-use Rattle.run_rules.specs.Printed.{AreKeysOfWinners, AreResponses}
 
 -- the file of this name has slots with these images
 pub record HasImages (files : Files) (name : List ℕ) (slot : ℕ) (images : List (List ℕ)) : Type 0 where
@@ -74,5 +73,3 @@ pub record IsExplained (tells : Bool) (files : Files) (name : List ℕ) (slot an
   pub rules : KeepsRules run script crew
   -- an epoch of version 0 is at EMPTY and not doomed, since no entry of a file has this version, and no line begins it
   pub zero : (a e : ℕ) → ShownIn run crew a e → version_of e ≡ 0 → (stage_of e ≡ 0) × (doom_of e ≡ 0)
-  pub responses : IsTrue tells → AreResponses run slot anchors images script crew
-  pub keys : AreKeysOfWinners run slot anchors images script crew
