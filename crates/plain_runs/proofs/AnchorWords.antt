@@ -21,8 +21,9 @@ use Rattle.plain_model.specs.Store.{entry_at, place_at, reads_at, readers, tab_a
 use Rattle.plain_laws.specs.Renaming.{renamed_epoch, renamed_word}
 use Rattle.store_rule.specs.Ground.{Ground}
 use Rattle.store_rule.specs.Told.{Steps}
+use Rattle.store_rule.specs.Words.{Mine}
 use Rattle.store_rule.proofs.AddingUp.{found_mine, has_left}
-use Rattle.plain_runs.specs.Words.{IsLone, Knows, ShowsAt, ShowsEntryIf, no_guests, setting_of}
+use Rattle.plain_runs.specs.Words.{Knows, ShowsAt, ShowsEntryIf, no_guests, setting_of}
 use Rattle.plain_runs.proofs.Frames.{same_none, step_same}
 use Rattle.plain_runs.proofs.Freeing.{SameElse, but_guests, but_moved, but_step, knows_all, knows_but, put_else, same_else}
 use Rattle.plain_runs.proofs.LeftTabs.{entry_kept, guest_at, guest_else, guest_here}
@@ -30,8 +31,8 @@ use Rattle.plain_runs.proofs.PlainWords.{doom_there, epoch_counted, readers_put}
 
 module _ (g : Ground (List ℕ)) (rename : ℕ → ℕ) where
   -- a tab came to the anchor
-  pub enter_knows : IsLone g → (v w : View (List ℕ)) (p : Plain) (t a n : ℕ) → Knows g rename v p no_guests → Steps g v (Enter t a) n w → Knows g rename w p (guest_at a)
-  enter_knows lone v w p t a n k st = knows_all g rename w p (guest_at a) a (but_guests g rename w p no_guests (guest_at a) a (λ b ne. guest_else a b ne)
+  pub enter_knows : (v w : View (List ℕ)) (p : Plain) (t a n : ℕ) → Mine g v (Anchor a) → Knows g rename v p no_guests → Steps g v (Enter t a) n w → Knows g rename w p (guest_at a)
+  enter_knows v w p t a n mine k st = knows_all g rename w p (guest_at a) a (but_guests g rename w p no_guests (guest_at a) a (λ b ne. guest_else a b ne)
       (but_step g rename v w (Enter t a) n p p no_guests a st refl st.may.allowed.0 (same_else p a) (knows_but g rename v p no_guests a k))) here
     where
       one_more : n ≡ word_number (renamed_word rename (word_at (setting_of g) p a)) + 0 → n + 1 ≡ word_number (renamed_word rename (word_at (setting_of g) p a)) + guest_at a a
@@ -39,7 +40,7 @@ module _ (g : Ground (List ℕ)) (rename : ℕ → ℕ) where
 
       here : a < g.setting.anchors → ShowsAt g rename w p (guest_at a a) a
       here lt = record {
-        word = has_left g v w (Enter t a) n (Anchor a) (Anchor a) st refl refl ∙ one_more (found_mine g v w (Enter t a) n (Anchor a) st lone refl ∙ (k.each a lt).word);
+        word = has_left g v w (Enter t a) n (Anchor a) (Anchor a) st refl refl ∙ one_more (found_mine g v w (Enter t a) n (Anchor a) st mine refl ∙ (k.each a lt).word);
         entry = entry_kept g rename v w a (place_at p a).version (entry_at p a) lt (step_same g v w (Enter t a) n (Anchor a) st refl lt) (k.each a lt).entry;
       }
 
@@ -111,7 +112,7 @@ module _ (g : Ground (List ℕ)) (rename : ℕ → ℕ) where
         same b = ap (λ (y : Tab). cond (reads_at b y) 1 0) reads
 
   -- it doomed the entry
-  module _ (lone : IsLone g) (v w : View (List ℕ)) (p : Plain) (t a n : ℕ) (lt : a < g.setting.anchors) (at : core.anchor_of (core.tab_at v t) ≡ a) (undoomed : (place_at p a).doom ≡ false) (few : readers p a + 1 < 65536)
+  module _ (v w : View (List ℕ)) (p : Plain) (t a n : ℕ) (mine : Mine g v (Anchor a)) (lt : a < g.setting.anchors) (at : core.anchor_of (core.tab_at v t) ≡ a) (undoomed : (place_at p a).doom ≡ false) (few : readers p a + 1 < 65536)
       (k : Knows g rename v p (guest_at a)) (st : Steps g v (Doom t) n w) where
     pub doomed_there : place_at (doom_at a p) a ≡ plain_place.doomed (place_at p a)
     doomed_there = get_or-set_same p.places a (plain_place.doomed (place_at p a)) nothing (let m = k.many in omega arith)
@@ -126,7 +127,7 @@ module _ (g : Ground (List ℕ)) (rename : ℕ → ℕ) where
     on = ap (λ (z : ℕ). Some (Anchor z)) at
 
     found : n ≡ word_number (renamed_word rename (word_at (setting_of g) p a)) + guest_at a a
-    found = found_mine g v w (Doom t) n (Anchor a) st lone on ∙ (k.each a lt).word
+    found = found_mine g v w (Doom t) n (Anchor a) st mine on ∙ (k.each a lt).word
 
     room : readers p a + guest_at a a < 65536
     room = let one = guest_here a in omega arith

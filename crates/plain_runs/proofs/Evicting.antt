@@ -13,6 +13,7 @@ use Rattle.plain_runs.specs.Words.{IsLone, Knows, no_guests, setting_of}
 use Rattle.plain_runs.proofs.Frames.{knows_same}
 use Rattle.plain_runs.proofs.Frames as frame
 use Rattle.plain_runs.proofs.Freeing.{EvictedAt, FewReaders, KnowsBut, evict_leaves, gave_but, gave_right, vacated_at}
+use Rattle.plain_runs.proofs.OwnAnchors.{mine_lone}
 use Rattle.plain_runs.proofs.PlainWords.{idle_there, readers_there}
 use Rattle.plain_runs.proofs.Rounds.{onward_inside, victim_is}
 use Rattle.plain_model.specs.declared.store.Plain.{Plain}
@@ -36,7 +37,7 @@ module _ (g : Ground (List ℕ)) (lone : IsLone g) (rename : ℕ → ℕ) (m : V
   idle_at a lt = sym (idle_there rename (setting_of g) p 0 a (has g m (Anchor a)) (knows.each a lt).word (few a) refl)
 
   word_idle : is_idle (has g m (Anchor x)) ≡ true
-  word_idle = ap is_idle (e.was lone) ∙ e.victim.idle
+  word_idle = ap is_idle (e.was (mine_lone g lone m (Anchor x))) ∙ e.victim.idle
 
   pub idle : is_idle_at p x ≡ true
   idle = idle_at x x_inside ∙ word_idle
@@ -47,7 +48,7 @@ module _ (g : Ground (List ℕ)) (lone : IsLone g) (rename : ℕ → ℕ) (m : V
       (subst (λ z. is_idle_at p (onward k.anchors z e.steps) ≡ true) hand_is idle) ∙ ap (λ z. Some (onward k.anchors z e.steps)) (sym hand_is)
     where
       before : (j : ℕ) → j < e.steps → is_idle_at p (onward k.anchors h j) ≡ false
-      before j lt = idle_at (onward k.anchors h j) (onward_inside k.anchors h j begins (let le = e.within in omega arith)) ∙ e.before.was j lt lone
+      before j lt = idle_at (onward k.anchors h j) (onward_inside k.anchors h j begins (let le = e.within in omega arith)) ∙ e.before.was j lt (mine_lone g lone m (Anchor (onward k.anchors h j)))
 
   knows_before : Knows g rename e.victim.before p no_guests
   knows_before = knows_same g rename e.looked e.victim.before p no_guests
@@ -57,8 +58,8 @@ module _ (g : Ground (List ℕ)) (lone : IsLone g) (rename : ℕ → ℕ) (m : V
   unread : readers p x ≡ 0
   unread = let r = readers_there rename (setting_of g) p 0 x (has g m (Anchor x)) (knows.each x x_inside).word (few x) in let none = readers_of-idle (has g m (Anchor x)) word_idle in omega arith
 
-  at_freeing : EvictedAt g rename lone e.won x p no_guests
-  at_freeing = let whole = idle_whole p x idle in evict_leaves g rename lone e.victim.before e.won inner x e.victim.word p no_guests whole.0 knows_before e.victim.step (sym e.victim.looked.last) whole.1 unread refl
+  at_freeing : EvictedAt g rename e.won x p no_guests
+  at_freeing = let whole = idle_whole p x idle in evict_leaves g rename e.victim.before e.won inner x e.victim.word p no_guests whole.0 (mine_lone g lone e.victim.before (Anchor x)) knows_before e.victim.step (sym e.victim.looked.last) whole.1 unread refl
 
   anchor_is : e.kept.freer.anchor ≡ x
   anchor_is = ap Freer.anchor e.chain
@@ -68,7 +69,7 @@ module _ (g : Ground (List ℕ)) (lone : IsLone g) (rename : ℕ → ℕ) (m : V
       (gave_but g rename lone e.won w e.kept.freer e.kept.added p no_guests few e.victim.stands e.kept.was e.kept.went e.kept.changed (subst (KnowsBut g rename e.won p no_guests) (sym anchor_is) at_freeing.others))
 
   a_stage_on : has g w (Anchor x) ≡ raised (has g e.won (Anchor x)) 1
-  a_stage_on = e.left ∙ e.kept.from (subst (λ z. z < k.anchors) (sym anchor_is) x_inside) lone ∙ ap (λ z. raised (has g e.won (Anchor z)) 1) anchor_is
+  a_stage_on = e.left ∙ e.kept.from (subst (λ z. z < k.anchors) (sym anchor_is) x_inside) (mine_lone g lone e.won (Anchor e.kept.freer.anchor)) ∙ ap (λ z. raised (has g e.won (Anchor z)) 1) anchor_is
 
   knows_vacated : Knows g rename w (vacated_at x p) no_guests
   knows_vacated = gave_right g rename lone w p no_guests x (has g e.won (Anchor x)) others at_freeing.drawn at_freeing.word a_stage_on

@@ -48,6 +48,7 @@ use Rattle.plain_runs.specs.Words.{HasChain, HasNames, IsLone, IsOfOffer, Knows,
 use Rattle.plain_runs.proofs.Frames.{SameBut, same_none, same_on, same_weaker}
 use Rattle.plain_runs.proofs.Freeing.{KnowsBut, but_moved, knows_all, knows_but, put_else, same_else}
 use Rattle.plain_runs.proofs.PlainWords.{readers_fit, stage_counted}
+use Rattle.plain_runs.proofs.OwnAnchors.{mine_lone}
 use Rattle.plain_runs.proofs.Published.{Linking, Touched, anchor_there, no_anchor, published_same, raise_left, raise_same, touched_but, touched_either, touched_linking, touched_names, wrote_same}
 use Rattle.plain_runs.proofs.Publishing.{HasGrown, both_right}
 use Rattle.plain_runs.proofs.Reserving.{ClaimStays, IsReadied}
@@ -90,7 +91,7 @@ pub resized_at : (a c : ℕ) (p : Plain) (x : Entry) → entry_at p a ≡ Some x
 resized_at a c p x there = get_or-set_same p.places a (resized c (place_at p a)) nothing (inside p.places a x there)
     ∙ ap (λ (o : Option Entry). record (place_at p a) { entry = Rattle.plain_model.specs.Place.changed (λ d. record d { content = c }) o }) there
 
-module _ (g : Ground (List ℕ)) (lone : IsLone g) (rename : ℕ → ℕ) where
+module _ (g : Ground (List ℕ)) (rename : ℕ → ℕ) where
   abbrev s : Setting
   s = setting_of g
 
@@ -140,8 +141,8 @@ module _ (g : Ground (List ℕ)) (lone : IsLone g) (rename : ℕ → ℕ) (t : �
       → WrotePiece g t durable slot next u w → PieceOut u w ps slot next more
   piece_out u w ps end slot more durable next pass free is h = record {
     same = same_weaker g u w (λ q. ⊥ ⊎ Linking e.anchor slot q) (Linking e.anchor slot) (λ q c. of_either q c)
-        (same_on g u h.written w (λ q. ⊥) (Linking e.anchor slot) (wrote_same g lone u h.written t durable true pass below h.wrote)
-        (published_same g lone h.written w t slot next (chose (writer_as g e ps end (slot ∷ more)) h.wrote.slot durable h.wrote.written h.wrote.settled) nine below at (0, omega arith, refl) h.publishes));
+        (same_on g u h.written w (λ q. ⊥) (Linking e.anchor slot) (wrote_same g u h.written t durable true pass below h.wrote)
+        (published_same g h.written w t slot next (chose (writer_as g e ps end (slot ∷ more)) h.wrote.slot durable h.wrote.written h.wrote.settled) nine below at (0, omega arith, refl) h.publishes));
     tab = now.0;
     inner_free = now.1;
     pass = of_published h.publishes;
@@ -212,7 +213,7 @@ module _ (g : Ground (List ℕ)) (lone : IsLone g) (rename : ℕ → ℕ) (t : �
         there_q = ap (λ (o : PlaceOf). o.entry) hg.stays.place ∙ there
 
         lt : e.anchor < g.setting.anchors
-        lt = anchor_there g lone u t (writer_as g e ps end (f.slot ∷ f.next ∷ [])) hg.readied.stands hg.readied.pass below hg.tab
+        lt = anchor_there g u t (writer_as g e ps end (f.slot ∷ f.next ∷ [])) hg.readied.stands hg.readied.pass below hg.tab
 
         shown : ShowsAt g rename u q 0 e.anchor
         shown = hg.readied.knows.each e.anchor lt
@@ -230,11 +231,11 @@ module _ (g : Ground (List ℕ)) (lone : IsLone g) (rename : ℕ → ℕ) (t : �
           grown = both.1;
           stays = hg.stays;
           hand_is = hg.readied.hand_is;
-          but = touched_but g lone rename u w t f.slot (writer_as g e ps end (f.slot ∷ f.next ∷ [])) q q hg.readied.stands hg.readied.pass below hg.tab (0, omega arith, refl) same (same_else q e.anchor) hg.readied.eight
+          but = touched_but g rename lone u w t f.slot (writer_as g e ps end (f.slot ∷ f.next ∷ [])) q q hg.readied.stands hg.readied.pass below hg.tab (0, omega arith, refl) same (same_else q e.anchor) hg.readied.eight
               (knows_but g rename u q no_guests e.anchor hg.readied.knows);
           word = word;
           shown = entry_shown g rename v p e.anchor (h.knows.each e.anchor lt) x there;
-          names = touched_names g lone u w e.anchor f.slot x lt same (entry_shown g rename u q e.anchor shown x there_q).names;
+          names = touched_names g u w e.anchor f.slot x lt same (entry_shown g rename u q e.anchor shown x there_q).names;
           others = others_go_on v u w t hg.others others;
         }
 
@@ -252,7 +253,7 @@ module _ (g : Ground (List ℕ)) (lone : IsLone g) (rename : ℕ → ℕ) (t : �
         of_raised (inl first) = done
             (same_weaker g u w (λ r. Touched e.anchor f.slot r ⊎ Touched e.anchor f.slot r) (Touched e.anchor f.slot) (touched_either e.anchor f.slot)
             (same_on g u f.linked w (Touched e.anchor f.slot) (Touched e.anchor f.slot) linking
-            (raise_same g lone f.linked w t first.word f.slot stage.Appending (linked_as g t below e ps f.slot (Next f.next) (f.next ∷ [])) po.pass below po.tab first.raises)))
+            (raise_same g f.linked w t first.word f.slot stage.Appending (linked_as g t below e ps f.slot (Next f.next) (f.next ∷ [])) po.pass below po.tab first.raises)))
             (left.1 ∙ (ap (λ (z : ℕ). raised z (2 - stage_in (epoch_in z))) found ∙ (ap (λ (k : ℕ). raised (staged rename q e.anchor stage.Taken) (2 - k)) one ∙ staged_raised rename q e.anchor stage.Taken stage.Appending (omega arith))))
             (others_go_on u f.linked w t po.others (others_stay g f.linked w (Raise t stage.Appending) first.word t first.raises (λ z k. acts k)))
           where
@@ -264,7 +265,7 @@ module _ (g : Ground (List ℕ)) (lone : IsLone g) (rename : ℕ → ℕ) (t : �
 
             left : (first.word ≡ has g f.linked (Anchor e.anchor)) × (has g w (Anchor e.anchor) ≡ raised first.word (2 - stage_in (epoch_in first.word)))
                 × (left_by f.linked (Raise t stage.Appending) first.word ≡ raised first.word (2 - stage_in (epoch_in first.word)))
-            left = raise_left g lone f.linked w t first.word stage.Appending (linked_as g t below e ps f.slot (Next f.next) (f.next ∷ [])) po.tab first.raises
+            left = raise_left g f.linked w t first.word stage.Appending (linked_as g t below e ps f.slot (Next f.next) (f.next ∷ [])) (mine_lone g lone f.linked (Anchor e.anchor)) po.tab first.raises
 
             found : first.word ≡ staged rename q e.anchor stage.Taken
             found = left.0 ∙ here stage.Taken (let z = eq-eqb (published (room_of g.slot) x.content) 0 level0 in rw z refl)

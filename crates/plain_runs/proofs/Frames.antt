@@ -29,8 +29,9 @@ use Rattle.std.proofs.lemmas.List.Elements.{Contains-append_left, Contains-appen
 use Rattle.store_rule.specs.Ground.{Ground}
 use Rattle.store_rule.specs.Told.{Stands, Steps, found_as}
 use Rattle.store_rule.specs.Runs.{Added, IsFollowed, Went, added_by}
-use Rattle.store_rule.specs.Words.{Mine, has}
+use Rattle.store_rule.specs.Words.{has}
 use Rattle.plain_runs.specs.Words.{HasChain, HasNames, IsLone, Knows, ShowsAt, ShowsEntry, ShowsEntryIf, link_known, setting_of}
+use Rattle.plain_runs.proofs.OwnAnchors.{mine_lone}
 
 -- the words of which `Knows` speaks: those of turns, of the map of taken slots and of the counter of logged pieces are left out
 abbrev pub IsKnown : Place → Type 0
@@ -64,10 +65,10 @@ module _ (g : Ground (List ℕ)) where
 
   -- of steps that may have changed these places of the table
   pub went_same : IsLone g → (v w : View (List ℕ)) (d : Added) → Went g v d w → ((q : Place) → Contains d.changed q → IsPlace g.setting q) → SameBut v w (Contains d.changed)
-  went_same lone v w d went there = record { same = λ q known here ne. went.steady q (known_followed q known) here lone (λ r c e. ne (subst (Contains d.changed) (apart g.setting r q (there r c) here e) c)) }
+  went_same lone v w d went there = record { same = λ q known here ne. went.steady q (known_followed q known) here (mine_lone g lone v q) (λ r c e. ne (subst (Contains d.changed) (apart g.setting r q (there r c) here e) c)) }
 
   pub went_none : IsLone g → (v w : View (List ℕ)) (d : Added) → Went g v d w → d.changed ≡ [] → SameBut v w (λ q. ⊥)
-  went_none lone v w d went none = record { same = λ q known here ne. went.steady q (known_followed q known) here lone (λ r c e. nothing_in r (subst (λ (z : List Place). Contains z r) none c)) }
+  went_none lone v w d went none = record { same = λ q known here ne. went.steady q (known_followed q known) here (mine_lone g lone v q) (λ r c e. nothing_in r (subst (λ (z : List Place). Contains z r) none c)) }
     where
       nothing_in : (r : Place) → Contains [] r → ⊥
       nothing_in r c = contains_none r c

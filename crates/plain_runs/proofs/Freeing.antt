@@ -45,12 +45,13 @@ use Rattle.plain_laws.proofs.Choosing.{either}
 use Rattle.store_rule.specs.Ground.{Ground}
 use Rattle.store_rule.specs.Told.{Stands, Steps}
 use Rattle.store_rule.specs.Runs.{Added, Went}
-use Rattle.store_rule.specs.Words.{has}
+use Rattle.store_rule.specs.Words.{Mine, has}
 use Rattle.store_rule.proofs.AddingUp.{found_mine, has_left}
 use Rattle.slice_chain.specs.Freeing.{Freed}
 use Rattle.plain_runs.specs.Words.{HasChain, IsLone, Knows, ShowsAt, ShowsEntryIf, setting_of}
 use Rattle.plain_runs.proofs.Frames.{LeavesAlone, SameBut, same_none, same_weaker, shows_elsewhere, step_same, went_same}
-use Rattle.plain_runs.proofs.Chains.{chain_is, not_resting, own_tab, word_is}
+use Rattle.plain_runs.proofs.Chains.{not_resting, own_tab}
+use Rattle.plain_runs.proofs.OwnAnchors.{OwnsAnchor, mine_lone, own_chain, owns_lone}
 use Rattle.plain_runs.proofs.PlainWords.{stage_there}
 
 anchor_in : Place → ℕ
@@ -142,17 +143,17 @@ abbrev pub FewReaders : Plain → (ℕ → ℕ) → Type 0
 FewReaders p guests = (b : ℕ) → readers p b + guests b < 65536
 
 -- The slots of other entries are in no chain that is given back.
-module _ (g : Ground (List ℕ)) (lone : IsLone g) (v : View (List ℕ)) (st : Stands g v) (pass : IsPass v) (f : Freer (List ℕ)) (is : tab_at v inner ≡ Freeing f)
-    (b version : ℕ) (lt : b < g.setting.anchors) (e : Entry) (h : HasChain g v b e) where
+module _ (g : Ground (List ℕ)) (v : View (List ℕ)) (st : Stands g v) (pass : IsPass v) (f : Freer (List ℕ)) (is : tab_at v inner ≡ Freeing f)
+    (b version : ℕ) (own : OwnsAnchor g v.pass b) (lt : b < g.setting.anchors) (e : Entry) (h : HasChain g v b e) where
   abbrev stage_here : ℕ
   stage_here = stage_in (epoch_in (word st.state b))
 
   -- an entry of which slots are published
   apart_spelled : 2 ≤ stage_here → stage_here ≤ 4 → (j : ℕ) → Contains (h.slots ++ slots_of_link h.end) j → Contains f.rest j → ⊥
-  apart_spelled least most j c d = let same = chain_is g lone st.state st.index v st.rule st.at pass b lt e h least most in
-      not_resting g lone st.state st.index v st.rule st.at pass b lt j st.index inner f
+  apart_spelled least most j c d = let same = own_chain g v b own st pass lt e h least most in
+      not_resting g st.state st.rule b lt j st.index inner f
       (subst (λ (z : LinkOf). Contains ((chain_of st.state b).slots ++ slots_of_link z) j) same.1 (subst (λ (z : List ℕ). Contains (z ++ slots_of_link h.end) j) same.0 c))
-      (own_tab g lone st.state st.index v st.rule st.at pass inner (Freeing f) (omega arith) is) d
+      (own_tab st.state st.index v st.at pass inner (Freeing f) (omega arith) is) d
 
   -- one of which none is
   apart_none : length h.slots ≡ 0 → (j : ℕ) → Contains (h.slots ++ slots_of_link h.end) j → ⊥
@@ -171,10 +172,10 @@ module _ (g : Ground (List ℕ)) (lone : IsLone g) (v : View (List ℕ)) (st : S
       (λ none. apart_none (h.many ∙ (rw l none)) j c)
       (λ some_. let k : stage_here ≡ 2 = s ∙ (let z = ne_eqb (published (room_of g.slot) e.content) 0 some_ in rw (l, z) refl) in apart_spelled (omega arith) (omega arith) j c d)
 
-chained_apart_rest : (g : Ground (List ℕ)) (rename : ℕ → ℕ) → IsLone g → (v : View (List ℕ)) → Stands g v → IsPass v → (p : Plain) (n b : ℕ) → readers p b + n < 65536 → b < g.setting.anchors → ShowsAt g rename v p n b
+chained_apart_rest : (g : Ground (List ℕ)) (rename : ℕ → ℕ) (v : View (List ℕ)) → Stands g v → IsPass v → (p : Plain) (n b : ℕ) → OwnsAnchor g v.pass b → readers p b + n < 65536 → b < g.setting.anchors → ShowsAt g rename v p n b
     → (e : Entry) → entry_at p b ≡ Some e → (h : HasChain g v b e) → (f : Freer (List ℕ)) → tab_at v inner ≡ Freeing f → (j : ℕ) → Contains (h.slots ++ slots_of_link h.end) j → Contains f.rest j → ⊥
-chained_apart_rest g rename lone v st pass p n b few lt shown e there h f is j c d = apart_life g lone v st pass f is b (place_at p b).version lt e h e.life refl
-    (stage_there rename (setting_of g) p n b (word st.state b) (word_is g lone st.state st.index v st.rule st.at pass (Anchor b) lt ∙ shown.word) few ∙ ap (λ o. stage_number (stage_of (room_of g.slot) (place_at p b).version o)) there) j c d
+chained_apart_rest g rename v st pass p n b own few lt shown e there h f is j c d = apart_life g v st pass f is b (place_at p b).version own lt e h e.life refl
+    (stage_there rename (setting_of g) p n b (word st.state b) (own.stands v st (Anchor b) refl pass refl lt ∙ shown.word) few ∙ ap (λ o. stage_number (stage_of (room_of g.slot) (place_at p b).version o)) there) j c d
 
 module _ (g : Ground (List ℕ)) (lone : IsLone g) where
   -- a pass whose inner tab gives slots back has nine tabs
@@ -242,7 +243,7 @@ module _ (g : Ground (List ℕ)) (rename : ℕ → ℕ) (lone : IsLone g) where
 
       no_link : (b : ℕ) → b < g.setting.anchors → b ≢ f.anchor → (e : Entry) → entry_at p b ≡ Some e → (chain : HasChain g v b e) → (j : ℕ) → Contains (chain.slots ++ slots_of_link chain.end) j
           → ((slot : ℕ) × (Link j ≡ Link slot) × Contains f.rest slot) ⊎ (Link j ≡ Anchor f.anchor) → ⊥
-      no_link b lt ne e here chain j c (inl x) = chained_apart_rest g rename lone v st (nine_tabs g lone v f st is) p (guests b) b (few b) lt (h.each b lt ne) e here chain f is j c
+      no_link b lt ne e here chain j c (inl x) = chained_apart_rest g rename v st (nine_tabs g lone v f st is) p (guests b) b (owns_lone g lone v.pass b) (few b) lt (h.each b lt ne) e here chain f is j c
           (subst (λ (z : ℕ). Contains f.rest z) (sym (same_link j x.0 x.1)) x.2)
       no_link b lt ne e here chain j c (inr k) = cc
 
@@ -264,7 +265,7 @@ module _ (g : Ground (List ℕ)) (rename : ℕ → ℕ) (lone : IsLone g) where
 
   -- The anchor's word is a stage on from the one that the pass knew.
   pub raised_from : (v w : View (List ℕ)) → (h : Freed g v w) → h.freer.is_freeing ≡ true → has g w (Anchor h.freer.anchor) ≡ raised (has g v (Anchor h.freer.anchor)) 1
-  raised_from v w h freeing = h.from freeing (freer_inside g lone v h.freer (freed_stands v w h).0 h.was) lone
+  raised_from v w h freeing = h.from freeing (freer_inside g lone v h.freer (freed_stands v w h).0 h.was) (mine_lone g lone v (Anchor h.freer.anchor))
 
   -- Links of the chain changed, and the word of its anchor where that was at FREEING.
   abbrev pub FreedAt : Freer (List ℕ) → Place → Type 0
@@ -349,7 +350,7 @@ module _ (g : Ground (List ℕ)) where
       ∙ get_or-set_other (set v.tabs inner (Freeing (freer_of a false n (chain_of st.state a)))) t inner (Writing (writer_of a version)) Free (let w = st.may.allowed.1.writes in omega arith)
       ∙ get_or-set_same v.tabs inner (Freeing (freer_of a false n (chain_of st.state a))) Free (let n = st.may.pass in omega arith)
 
-module _ (g : Ground (List ℕ)) (rename : ℕ → ℕ) (lone : IsLone g) where
+module _ (g : Ground (List ℕ)) (rename : ℕ → ℕ) where
   -- After an entry that nobody reads was evicted its chain is at the inner tab, and its anchor at FREEING.
   pub record EvictedAt (u : View (List ℕ)) (a : ℕ) (p : Plain) (guests : ℕ → ℕ) : Type 0 where
     pub inside : a < g.setting.anchors
@@ -361,9 +362,9 @@ module _ (g : Ground (List ℕ)) (rename : ℕ → ℕ) (lone : IsLone g) where
     pub drawn : 0 < (place_at p a).version
     pub word : has g u (Anchor a) ≡ word_number (renamed_word rename (freeing_word p a)) + guests a
 
-  pub evict_leaves : (v u : View (List ℕ)) (t a n : ℕ) (p : Plain) (guests : ℕ → ℕ) (e : Entry) → Knows g rename v p guests → (st : Steps g v (Evict t a) n u) → n ≡ last_find a v.trail
+  pub evict_leaves : (v u : View (List ℕ)) (t a n : ℕ) (p : Plain) (guests : ℕ → ℕ) (e : Entry) → Mine g v (Anchor a) → Knows g rename v p guests → (st : Steps g v (Evict t a) n u) → n ≡ last_find a v.trail
       → entry_at p a ≡ Some e → readers p a ≡ 0 → guests a ≡ 0 → EvictedAt u a p guests
-  evict_leaves v u t a n p guests e knows st won there unread alone = record {
+  evict_leaves v u t a n p guests e mine knows st won there unread alone = record {
     inside = inside_;
     freer = freer_of a true n (chain_of st.state a);
     is = evict_freer g v u t a n st won;
@@ -387,11 +388,11 @@ module _ (g : Ground (List ℕ)) (rename : ℕ → ℕ) (lone : IsLone g) where
       drawn_ (Some x) is h = h.drawn
 
       found : n ≡ word_number (renamed_word rename (word_at (setting_of g) p a))
-      found = found_mine g v u (Evict t a) n (Anchor a) st lone refl ∙ shown.word ∙ (let z = alone in omega arith)
+      found = found_mine g v u (Evict t a) n (Anchor a) st mine refl ∙ shown.word ∙ (let z = alone in omega arith)
 
   -- Then it was given back: the plain store has it no more.
-  pub evict_freed : (u w : View (List ℕ)) (a : ℕ) (p : Plain) (guests : ℕ → ℕ) → FewReaders p guests → EvictedAt u a p guests → Freed g u w → Knows g rename w (vacated_at a p) guests
-  evict_freed u w a p guests few h freed = freed_right g rename lone u w p guests a few freed (ap (λ (z : Freer (List ℕ)). z.anchor) same ∙ h.anchor_is) (ap (λ (z : Freer (List ℕ)). z.is_freeing) same ∙ h.freeing) h.others h.drawn h.word
+  pub evict_freed : IsLone g → (u w : View (List ℕ)) (a : ℕ) (p : Plain) (guests : ℕ → ℕ) → FewReaders p guests → EvictedAt u a p guests → Freed g u w → Knows g rename w (vacated_at a p) guests
+  evict_freed lone u w a p guests few h freed = freed_right g rename lone u w p guests a few freed (ap (λ (z : Freer (List ℕ)). z.anchor) same ∙ h.anchor_is) (ap (λ (z : Freer (List ℕ)). z.is_freeing) same ∙ h.freeing) h.others h.drawn h.word
     where
       same : freed.freer ≡ h.freer
       same = same_freer freed.freer h.freer (sym freed.was ∙ h.is)
@@ -401,9 +402,9 @@ module _ (g : Ground (List ℕ)) (rename : ℕ → ℕ) (lone : IsLone g) where
     pub others : KnowsBut g rename w p guests a
     pub word : has g w (Anchor a) ≡ word_at_stage version 1
 
-  pub take_freed : (v u w : View (List ℕ)) (t a version n : ℕ) (p : Plain) (guests : ℕ → ℕ) → FewReaders p guests → Knows g rename v p guests → (st : Steps g v (Take t a version) n u) → n ≡ last_find a v.trail → is_idle n ≡ true
+  pub take_freed : IsLone g → (v u w : View (List ℕ)) (t a version n : ℕ) (p : Plain) (guests : ℕ → ℕ) → FewReaders p guests → Knows g rename v p guests → (st : Steps g v (Take t a version) n u) → n ≡ last_find a v.trail → is_idle n ≡ true
       → Freed g u w → TookOver w a version p guests
-  take_freed v u w t a version n p guests few knows st won idle freed = record {
+  take_freed lone v u w t a version n p guests few knows st won idle freed = record {
     others = freed_but g rename lone u w p guests a few freed (ap (λ (z : Freer (List ℕ)). z.anchor) freer_is) (but_step g rename v u (Take t a version) n p p guests a st refl inside (same_else p a) (knows_but g rename v p guests a knows));
     word = (freed_same g rename lone u w freed).same (Anchor a) tt inside (not_freed (ap (λ (z : Freer (List ℕ)). z.is_freeing) freer_is)) ∙ has_left g v u (Take t a version) n (Anchor a) (Anchor a) st refl refl
         ∙ (let z = eq-eqb n (last_find a v.trail) won in rw z refl);

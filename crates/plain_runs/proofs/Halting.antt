@@ -30,7 +30,7 @@ use Rattle.plain_model.specs.Place.{ended, nothing}
 use Rattle.plain_model.specs.Store.{entry_at, epoch_of, place_at, published, readers, reads_at, stage_of_entry, tab_at as plain_tab}
 use Rattle.plain_model.specs.Writing.{close_writer, settle}
 use Rattle.store_rule.specs.Calls.{Others}
-use Rattle.store_rule.specs.Words.{has}
+use Rattle.store_rule.specs.Words.{Mine, has}
 use Rattle.store_rule.proofs.OtherTabs.{others_go_on, others_stay}
 use Rattle.rock_writer.specs.Halting.{GaveBack, GaveUnlinked, Halts, Parted, first_of, second_of}
 use Rattle.rock_writer.proofs.GivingBack.{gave_nine, gave_tab, given}
@@ -45,11 +45,12 @@ use Rattle.plain_runs.proofs.Flushing.{entry_shown, staged, staged_raised, word_
 use Rattle.plain_runs.proofs.Frames.{SameBut, knows_same, same_none, same_on, same_weaker, step_same, step_same_map}
 use Rattle.plain_runs.proofs.Freeing.{KnowsBut, SameElse, but_step, knows_all, knows_but}
 use Rattle.plain_runs.proofs.LeftTabs.{entry_kept, raised_parts_right}
+use Rattle.plain_runs.proofs.OwnAnchors.{mine_lone, stands_before}
 use Rattle.plain_runs.proofs.PlainWords.{readers_fit, readers_put, stage_counted}
-use Rattle.plain_runs.proofs.Published.{anchor_there, raise_left, reserved_there, stands_before}
+use Rattle.plain_runs.proofs.Published.{anchor_there, raise_left, reserved_there}
 use Rattle.plain_runs.proofs.Reserving.{IsReadied}
 
-module _ (g : Ground (List ℕ)) (lone : IsLone g) (t : ℕ) (below : t < inner) where
+module _ (g : Ground (List ℕ)) (t : ℕ) (below : t < inner) where
   -- What giving a slot back leaves, if there is one.
   record GaveSo (v w : View (List ℕ)) (x : Writer (List ℕ)) : Type 0 where
     same : SameBut g v w (λ q. ⊥)
@@ -81,7 +82,7 @@ module _ (g : Ground (List ℕ)) (lone : IsLone g) (t : ℕ) (below : t < inner)
   }
     where
       mapped : MayGiveBack slot x ⊎ ⊥ → slot / 64 < map_words g.setting.slots
-      mapped (inl m) = word_within g.setting.slots slot (reserved_there g lone v t slot x (stands_before gave.step) pass below is m.0)
+      mapped (inl m) = word_within g.setting.slots slot (reserved_there g v t slot x (stands_before gave.step) pass below is m.0)
       mapped (inr none) = absurd none
 
       acts : {y z : ℕ} → Some y ≡ Some z → z ≡ y
@@ -150,15 +151,16 @@ ends_either GivenUp to h = inr h
 pub growing_stage : (room content : ℕ) → stage_number (stage_of_entry room Growing content) ≤ 2
 growing_stage room content = either (λ (k : Stage). stage_number k ≤ 2) (published room content == 0) stage.Taken stage.Appending (λ z. omega arith) (λ z. omega arith)
 
-module _ (g : Ground (List ℕ)) (lone : IsLone g) (rename : ℕ → ℕ) (t : ℕ) (below : t < inner) where
+module _ (g : Ground (List ℕ)) (rename : ℕ → ℕ) (t : ℕ) (below : t < inner) where
   -- The tab raises the word of its anchor to this stage.
-  pub raised_so : (from to : Stage) (u v : View (List ℕ)) (p : Plain) (y : Writer (List ℕ)) (a n : ℕ) → stage_number from ≤ stage_number to → y.anchor ≡ a → tab_at u t ≡ Writing y → length p.tabs ≡ 8 → has g u (Anchor a) ≡ staged rename p a from
+  pub raised_so : (from to : Stage) (u v : View (List ℕ)) (p : Plain) (y : Writer (List ℕ)) (a n : ℕ) → Mine g u (Anchor y.anchor) → stage_number from ≤ stage_number to → y.anchor ≡ a → tab_at u t ≡ Writing y → length p.tabs ≡ 8
+      → has g u (Anchor a) ≡ staged rename p a from
       → Steps g u (Raise t to) n v → (has g v (Anchor a) ≡ staged rename p a to) × (left_by u (Raise t to) n ≡ staged rename p a to)
-  raised_so from to u v p y a n le same is eight word raises = (left.1 ∙ raises_to, left.2 ∙ raises_to)
+  raised_so from to u v p y a n mine le same is eight word raises = (left.1 ∙ raises_to, left.2 ∙ raises_to)
     where
       left : (n ≡ has g u (Anchor a)) × (has g v (Anchor a) ≡ raised n (stage_number to - stage_in (epoch_in n))) × (left_by u (Raise t to) n ≡ raised n (stage_number to - stage_in (epoch_in n)))
       left = subst (λ (z : ℕ). (n ≡ has g u (Anchor z)) × (has g v (Anchor z) ≡ raised n (stage_number to - stage_in (epoch_in n))) × (left_by u (Raise t to) n ≡ raised n (stage_number to - stage_in (epoch_in n)))) same
-          (raise_left g lone u v t n to y is raises)
+          (raise_left g u v t n to y mine is raises)
 
       found : n ≡ staged rename p a from
       found = left.0 ∙ word
@@ -170,6 +172,7 @@ module _ (g : Ground (List ℕ)) (lone : IsLone g) (rename : ℕ → ℕ) (t : �
       raises_to : raised n (stage_number to - stage_in (epoch_in n)) ≡ staged rename p a to
       raises_to = ap (λ (z : ℕ). raised z (stage_number to - stage_in (epoch_in z))) found ∙ (ap (λ (k : ℕ). raised (staged rename p a from) (stage_number to - k)) stage_is ∙ staged_raised rename p a from to le)
 
+module _ (g : Ground (List ℕ)) (lone : IsLone g) (rename : ℕ → ℕ) (t : ℕ) (below : t < inner) where
   -- The tab ends its entry and parts from it.
   pub ended_right : (life : Life) (from to : Stage) (u v w : View (List ℕ)) (p : Plain) (x : Entry) (y : Writer (List ℕ)) (a n : ℕ) → y.anchor ≡ a → EndsAs life to → stage_number from ≤ stage_number to → IsPass u → Stands g u → tab_at u t ≡ Writing y
       → length p.tabs ≡ 8 → plain_tab p t ≡ plain.Writing a → entry_at p a ≡ Some x → KnowsBut g rename u p no_guests a → has g u (Anchor a) ≡ staged rename p a from
@@ -181,13 +184,13 @@ module _ (g : Ground (List ℕ)) (lone : IsLone g) (rename : ℕ → ℕ) (t : �
       few_tabs = let b = below in omega arith
 
       lt : a < g.setting.anchors
-      lt = subst (λ (z : ℕ). z < g.setting.anchors) same (anchor_there g lone u t y stands pass below is)
+      lt = subst (λ (z : ℕ). z < g.setting.anchors) same (anchor_there g u t y stands pass below is)
 
       here : place u (Raise t to) ≡ Some (Anchor a)
       here = ap (λ (z : Tab (List ℕ)). Some (Anchor (anchor_of z))) is ∙ ap (λ (z : ℕ). Some (Anchor z)) same
 
       word_after : has g v (Anchor a) ≡ staged rename p a to
-      word_after = (raised_so from to u v p y a n le same is eight word raises).0
+      word_after = (raised_so g rename t below from to u v p y a n (mine_lone g lone u (Anchor y.anchor)) le same is eight word raises).0
 
       at_place : place_at (ended_with life t a p) a ≡ record (place_at p a) { entry = Some (record x { life = life }) } → ShowsAt g rename v (ended_with life t a p) 0 a
       at_place now = record {
@@ -250,11 +253,11 @@ module _ (g : Ground (List ℕ)) (lone : IsLone g) (rename : ℕ → ℕ) (t : �
     inner_free = h.parted.inner_free;
   }
     where
-      gave : GaveSo g lone t below v h.middle y
-      gave = gave_unlinked g lone t below v h.middle y ready.pass is ready.inner_free h.gave
+      gave : GaveSo g t below v h.middle y
+      gave = gave_unlinked g t below v h.middle y ready.pass is ready.inner_free h.gave
 
       lt : y.anchor < g.setting.anchors
-      lt = anchor_there g lone v t y ready.stands ready.pass below is
+      lt = anchor_there g v t y ready.stands ready.pass below is
 
       knows : Knows g rename h.middle p no_guests
       knows = knows_same g rename v h.middle p no_guests ready.knows gave.same

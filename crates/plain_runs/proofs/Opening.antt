@@ -45,12 +45,13 @@ use Rattle.crew_accounts.proofs.GivenBytes.{IsFromFront}
 use Rattle.plain_runs.specs.Shows.{Shows, ShowsReading, ShowsTab}
 use Rattle.plain_runs.specs.Words.{IsLone, Knows, no_guests, setting_of}
 use Rattle.plain_runs.proofs.AnchorWords.{closed_knows, opened_knows}
-use Rattle.plain_runs.proofs.Coming.{HasCome, away_judged, came_knows, entry, entry_there, hit_judged, inside, key_hit, keyed_knows, keyed_tab, other_judged, reads, retreats, shown, version_same}
+use Rattle.plain_runs.proofs.Coming.{HasCome, away_judged, came_knows, entry, entry_there, hit_judged, inside, key_hit, keyed_at, keyed_knows, keyed_pass, keyed_tab, other_judged, reads, retreats, shown, version_same}
 use Rattle.plain_runs.proofs.Frames.{knows_same}
 use Rattle.plain_runs.proofs.LeftTabs.{guest_at, none_left_over, parts_right, settle_stays}
 use Rattle.plain_runs.proofs.ServedLines.{IsAs}
 use Rattle.plain_runs.proofs.Renamed.{IsRenamed, own_step, renamed_step}
-use Rattle.plain_runs.proofs.QuietSteps.{step_quiet}
+use Rattle.plain_runs.proofs.OwnAnchors.{owns_lone}
+use Rattle.plain_runs.proofs.QuietSteps.{load_quiet}
 use Rattle.plain_runs.proofs.Reading.{ReadRight, more_hand, no_fault, read_offer, went_right}
 use Rattle.plain_runs.proofs.ShowingOthers.{OneBegins, ShowsOn}
 
@@ -75,7 +76,7 @@ module _ {C O : Type 0} (tells : Bool) (state : C → CellState) (offers : O →
         (cases_lt t 8)
 
     pub settled : (a : ℕ) → a < g.setting.anchors → settle a pl ≡ pl
-    settled a lt = settle_stays pl a (none_left_over g rename lone (view p) pl a h.eight h.own.stands (pass_of p) no_last lt h.knows)
+    settled a lt = settle_stays pl a (none_left_over g rename (view p) pl a (owns_lone g lone (view p).pass a) h.eight h.own.stands (pass_of p) no_last lt h.knows)
 
   -- A tab comes to an anchor, and the inner one stays free.
   came_long : (v w : View (List ℕ)) (t a n : ℕ) → Steps g v (Enter t a) n w → IsPass w
@@ -100,25 +101,25 @@ module _ {C O : Type 0} (tells : Bool) (state : C → CellState) (offers : O →
     low = omega arith
 
     abbrev come : (epoch : Epoch) (entered w : View (List ℕ)) → Came g t url (view p) epoch entered w → HasCome g rename t a
-    come epoch entered w c = record { store = pl; eight = h.eight; before = view p; knows = h.knows; found = c.found; came = entered; enter = c.enter; epoch = epoch; epoch_is = c.epoch_is }
+    come epoch entered w c = record { store = pl; eight = h.eight; before = view p; own = owns_lone (basis tells state offers s) lone (view p).pass (anchor_for (basis tells state offers s) url); knows = h.knows; found = c.found; came = entered; enter = c.enter; epoch = epoch; epoch_is = c.epoch_is }
 
     pub refused_right : (w : View (List ℕ)) (c : Cause) → TellsKey c → Refused g t url (view p) c w → MissRight a (key_of url) c pl w
     refused_right w c typed (inl r) =
         let st = r.came.enter in
-        let told = away_judged g rename lone t a (come r.epoch r.entered w r.came) (key_of url) c r.cause_is in
-        let tab = retreats g rename lone t a (come r.epoch r.entered w r.came) r.unreadable in
+        let told = away_judged g rename t a (come r.epoch r.entered w r.came) (key_of url) c r.cause_is in
+        let tab = retreats g rename t a (come r.epoch r.entered w r.came) r.unreadable in
         let left = parts_right g rename lone r.entered w t a pl h.eight (came_long (view p) r.entered t a r.came.found st) low (came_inner (view p) r.entered t a r.came.found low h.inner_free st)
-        (ap core.is_counted tab) (ap core.anchor_of tab) st.may.allowed.0 (came_knows g rename lone t a (come r.epoch r.entered w r.came)) r.parted in
+        (ap core.is_counted tab) (ap core.anchor_of tab) st.may.allowed.0 (came_knows g rename t a (come r.epoch r.entered w r.came)) r.parted in
         record { cause = told.0; judged = told.1; cause_is = told.2; knows = subst (λ (x : Plain). Knows g rename w x no_guests) (settled p pl h a st.may.allowed.0) left.knows }
     refused_right w c typed (inr r) =
         let st = r.came.enter in
         let d = r.declined in
-        let told = other_judged g rename lone t a (come r.epoch r.entered w r.came) r.readable d.key d.keyed d.loaded (key_of url) c typed d.other d.cause_is in
-        let tab = keyed_tab g rename lone t a (come r.epoch r.entered w r.came) r.readable d.key d.keyed d.loaded in
+        let told = other_judged g rename t a (come r.epoch r.entered w r.came) r.readable d.key d.keyed d.loaded (key_of url) c typed d.other d.cause_is in
+        let tab = keyed_tab g rename t a (come r.epoch r.entered w r.came) r.readable d.key d.keyed d.loaded in
         let tabs = key_tabs g r.entered d.keyed t d.key d.loaded in
         let left = parts_right g rename lone d.keyed w t a pl h.eight (ap length tabs ∙ came_long (view p) r.entered t a r.came.found st) low
         (ap (λ (xs : List (core_tab.Tab (List ℕ))). core.is_free (get_or xs inner core_tab.Tab.Free)) tabs ∙ came_inner (view p) r.entered t a r.came.found low h.inner_free st)
-        (ap core.is_counted tab) (ap core.anchor_of tab) st.may.allowed.0 (keyed_knows g rename lone t a (come r.epoch r.entered w r.came) r.readable d.key d.keyed d.loaded) d.parted in
+        (ap core.is_counted tab) (ap core.anchor_of tab) st.may.allowed.0 (keyed_knows g rename t a (come r.epoch r.entered w r.came) r.readable d.key d.keyed d.loaded) d.parted in
         record { cause = told.0; judged = told.1; cause_is = told.2; knows = subst (λ (x : Plain). Knows g rename w x no_guests) (settled p pl h a st.may.allowed.0) left.knows }
 
     -- Where there is an entry the plain store opens it too.
@@ -143,29 +144,31 @@ module _ {C O : Type 0} (tells : Bool) (state : C → CellState) (offers : O →
       within = o.came.enter.may.allowed.0
 
       abbrev x : Entry
-      x = entry g rename lone t a (come o.epoch o.entered (view q) o.came) o.readable
+      x = entry g rename t a (come o.epoch o.entered (view q) o.came) o.readable
 
       there : entry_at pl a ≡ Some x
-      there = entry_there g rename lone t a (come o.epoch o.entered (view q) o.came) o.readable
+      there = entry_there g rename t a (come o.epoch o.entered (view q) o.came) o.readable
 
       kept : x.key ≡ key_of url
-      kept = key_hit g rename lone t a (come o.epoch o.entered (view q) o.came) o.readable (key_of url) o.accepted.keyed o.accepted.key url refl
+      kept = key_hit g rename t a (come o.epoch o.entered (view q) o.came) o.readable (key_of url) o.accepted.keyed o.accepted.key url refl
 
       counted : Knows g rename (view q) pl (guest_at a)
       counted = knows_same g rename o.accepted.keyed (view q) pl (guest_at a)
-          (keyed_knows g rename lone t a (come o.epoch o.entered (view q) o.came) o.readable (key_of url) o.accepted.keyed o.accepted.key)
-          (step_quiet g lone o.accepted.keyed (view q) (LoadSide t Offer) o.accepted.offer o.accepted.loaded refl)
+          (keyed_knows g rename t a (come o.epoch o.entered (view q) o.came) o.readable (key_of url) o.accepted.keyed o.accepted.key)
+          (load_quiet g (view p).pass a (owns_lone g lone (view p).pass a) t o.accepted.offer Offer o.accepted.keyed (view q)
+          (keyed_pass g rename t a (come o.epoch o.entered (view q) o.came) o.readable (key_of url) o.accepted.keyed o.accepted.key)
+          (keyed_at g rename t a (come o.epoch o.entered (view q) o.came) o.readable (key_of url) o.accepted.keyed o.accepted.key) o.accepted.loaded)
 
       version_there : version ≡ rename (place_at pl a).version
-      version_there = o.accepted.version_is ∙ version_same g rename lone t a (come o.epoch o.entered (view q) o.came)
+      version_there = o.accepted.version_is ∙ version_same g rename t a (come o.epoch o.entered (view q) o.came)
 
       offer_there : offer ≡ x.offer
-      offer_there = read_offer tells state offers s rename lone t q (newly (anchor_for g url) version offer url) reading
-          ∙ (shown g rename lone t a (come o.epoch o.entered (view q) o.came) o.readable (view q) (guest_at a) counted).names.offer
+      offer_there = read_offer tells state offers s rename t q (newly (anchor_for g url) version offer url) reading (owns_lone g lone (view q).pass (anchor_for g url))
+          ∙ (shown g rename t a (come o.epoch o.entered (view q) o.came) o.readable (view q) (guest_at a) counted).names.offer
 
       pub opened_right : OpenRight version offer q reading
       opened_right = record {
-        judged = hit_judged g rename lone t a (come o.epoch o.entered (view q) o.came) o.readable (key_of url) o.accepted.keyed o.accepted.key url refl;
+        judged = hit_judged g rename t a (come o.epoch o.entered (view q) o.came) o.readable (key_of url) o.accepted.keyed o.accepted.key url refl;
         version_is = version_there;
         knows = opened_knows g rename (view q) pl t a 0 other_url h.eight below free counted;
         tab = record {
@@ -273,8 +276,8 @@ module _ {C O : Type 0} (tells : Bool) (state : C → CellState) (offers : O →
       on : ReadsOn tells state offers s t p told q sh.standing
       on = h sh.standing sh.reads
 
-      right : ReadRight tells state offers s rename lone t on.why on.bytes q (more (setting_of g) t pl)
-      right = went_right tells state offers s rename lone t begins known file from sized p q pl a given shows.eight below shows.knows other at sh on.why on.bytes on.went (no_fault on.why on.bytes told on.answer_is fair)
+      right : ReadRight tells state offers s rename t on.why on.bytes q (more (setting_of g) t pl)
+      right = went_right tells state offers s rename t begins known file from sized p q pl a given shows.eight below shows.knows (owns_lone g lone (view p).pass a) other at sh on.why on.bytes on.went (no_fault on.why on.bytes told on.answer_is fair)
 
 -- The requests, where each version stands for itself.
 module _ {C O : Type 0} (tells : Bool) (state : C → CellState) (offers : O → Offers) (s : Store C O) (lone : IsLone (basis tells state offers s)) where
