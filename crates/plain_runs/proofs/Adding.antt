@@ -1,13 +1,12 @@
 -- Bytes that a call adds to the entry that a tab writes, in the store and in the plain store.
-use Rattle.std.proofs.Common.{Bool, List, None, Option, Some, [], ap, arith, cond, false, inl, inr, length, ne_eqb, refl, subst, sym, true, ◌*◌, ◌+◌, ◌-◌, ◌<◌, ◌∙◌, ◌≡◌, ◌≢◌, ◌≤◌, ◌⊎◌, ◌∷◌, ℕ}
-use Rattle.std.specs.Prelude.{min, ◌==◌}
+use Rattle.std.proofs.Common.{Bool, List, None, Some, [], ap, arith, cond, inl, inr, length, ne_eqb, refl, subst, sym, ◌*◌, ◌+◌, ◌-◌, ◌<◌, ◌∙◌, ◌≡◌, ◌≢◌, ◌≤◌, ◌⊎◌, ◌∷◌, ℕ}
+use Rattle.std.specs.Prelude.{◌==◌}
 use Rattle.lock_word.specs.declared.stage.Stage.{Stage}
 use Rattle.lock_word.specs.declared.stage.Stage.TheVariants as stage
 use Rattle.rock_disk.specs.Cell.{CellState}
 use Rattle.entry_cut.specs.Content.{room_of}
 use Rattle.core_model.specs.Chains.{slots_of_link}
-use Rattle.core_model.specs.Tabs.{inner, tab_at}
-use Rattle.core_model.specs.declared.tab.Tab.TheVariants.{Writing}
+use Rattle.core_model.specs.Tabs.{tab_at}
 use Rattle.core_model.specs.declared.view.Place.TheVariants.{Anchor}
 use Rattle.core_model.specs.declared.view.View.{View}
 use Rattle.plain_model.specs.declared.entry.Entry.{Entry}
@@ -24,9 +23,8 @@ use Rattle.plain_laws.proofs.Filling.{resized_there}
 use Rattle.store_rule.specs.Calls.{Others}
 use Rattle.store_rule.specs.Words.{has}
 use Rattle.store_rule.proofs.OtherTabs.{others_go_on}
-use Rattle.rock_writer.specs.Appending.{Appended, IsFull, TookBehind, TookHere, TookNone, place_of, room_in}
+use Rattle.rock_writer.specs.Appending.{TookBehind, TookHere, TookNone, place_of, room_in}
 use Rattle.rock_writer.specs.Entries.{Entry as Writing_, WritesAs, body_in, size_of, url_in, with_taken, writer_as}
-use Rattle.rock_writer.specs.Flushing.{IsAtLimit}
 use Rattle.rock_writer.proofs.Resting.{open_end}
 use Rattle.rock_writer.proofs.Sizes.{next_room}
 use Rattle.store_rule.specs.declared.store.Pass.{Pass}
@@ -92,7 +90,7 @@ module _ {C O : Type 0} (tells : Bool) (state : C → CellState) (offers : O →
     lt = writer_there pass e h.writes
 
     shown_at : ShowsAt g rename (view pass) p 0 e.anchor
-    shown_at = ready.knows.each e.anchor lt
+    shown_at = ready.knows.each e.anchor lt refl
 
     shown : ShowsEntry g (view pass) e.anchor (place_at p e.anchor).version x
     shown = entry_shown g rename (view pass) p e.anchor shown_at x h.there

@@ -1,5 +1,5 @@
 -- An entry that a line begins is begun as in the plain store.
-use Rattle.std.proofs.Common.{Bool, Err, List, Ok, Result, Some, ap, arith, false, get_or-set_same, inl, inr, length, nat_lt, refl, subst, sym, true, ◌+◌, ◌-◌, ◌<◌, ◌∙◌, ◌≡◌, ◌≤◌, ◌⊎◌, ℕ}
+use Rattle.std.proofs.Common.{Bool, Err, List, Ok, Result, Some, ap, arith, false, get_or-set_same, inl, inr, length, nat_lt, refl, subst, sym, true, ◌+◌, ◌<◌, ◌∙◌, ◌≡◌, ◌≤◌, ◌⊎◌, ℕ}
 use Rattle.std.specs.Prelude.{IfErr, IfOk, OnErr, nat_le, ◌||◌, ◌↔◌}
 use Rattle.std.proofs.lemmas.Bool.Decides.{nat_tests}
 use Rattle.rock_disk.specs.Cell.{CellState}
@@ -92,7 +92,7 @@ module _ {C O : Type 0} (tells : Bool) (state : C → CellState) (offers : O →
 
   -- what the word of the anchor allows, the plain store allows
   open_is : (n : ℕ) → a < g.setting.anchors → n ≡ has g (view pass) (Anchor a) → (is_vacant n || is_idle n) ≡ (is_vacant_at p a || is_idle_at p a)
-  open_is n lt is = let k : n ≡ word_number (renamed_word rename (word_at (setting_of g) p a)) + 0 = is ∙ (shows.knows.each a lt).word in
+  open_is n lt is = let k : n ≡ word_number (renamed_word rename (word_at (setting_of g) p a)) + 0 = is ∙ (shows.knows.each a lt refl).word in
       ap (λ (z : Bool). z || is_idle n) (vacant_there rename (setting_of g) p 0 a n k (few a) refl) ∙ ap (λ (z : Bool). is_vacant_at p a || z) (idle_there rename (setting_of g) p 0 a n k (few a) refl)
 
   either_true : (x y : Bool) → (x ≡ true) ⊎ (y ≡ true) → (x || y) ≡ true
@@ -138,7 +138,7 @@ module _ {C O : Type 0} (tells : Bool) (state : C → CellState) (offers : O →
           found_is = looked_is g (view pass) (view q) a (word_number looked) mine u.looks
 
           looked_word : looked ≡ renamed_word rename (word_at (setting_of g) p a)
-          looked_word = word_there rename (setting_of g) p a looked (found_is ∙ (shows.knows.each a lt).word) typed.0 (let f = few a in omega arith)
+          looked_word = word_there rename (setting_of g) p a looked (found_is ∙ (shows.knows.each a lt refl).word) typed.0 (let f = few a in omega arith)
   not_begun (Spent versions) q h long typed = of_spent h.spent
     where
       short : meta_size url ≤ (setting_of g).room

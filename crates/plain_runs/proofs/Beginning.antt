@@ -1,10 +1,8 @@
 -- What is known of the plain store once an anchor was taken for a new entry.
-use Rattle.std.proofs.Common.{Bool, Contains, List, Some, [], ap, arith, cond, eq-eqb, false, get_or, get_or-set_other, get_or-set_same, inl, inr, length, length-set, refl, subst, sym, true, ◌+◌, ◌-◌, ◌<◌, ◌∙◌, ◌≡◌, ◌≢◌, ◌≤◌, ◌⊎◌, ℕ}
+use Rattle.std.proofs.Common.{Bool, Contains, List, Some, [], ap, arith, cond, eq-eqb, false, get_or, get_or-set_other, get_or-set_same, inl, inr, length, length-set, refl, subst, sym, true, ◌+◌, ◌-◌, ◌<◌, ◌∙◌, ◌≡◌, ◌≤◌, ◌⊎◌, ℕ}
 use Rattle.std.proofs.lemmas.Bool.{false≢true}
 use Rattle.std.specs.Prelude.{◌||◌}
 use Rattle.std.proofs.Math.Nat.{div-eq_of_lt}
-use mathlib.Core.Logic.{dite}
-use native.Mathlib.Decide.{ℕ_discrete}
 use Rattle.lock_word.specs.declared.word.Word.{Word}
 use Rattle.lock_word.specs.Words.{is_idle, is_vacant, readers_of, version_limit, word_at as word_of, word_number}
 use Rattle.lock_word.proofs.Testing.{readers_of-idle, readers_of-vacant}
@@ -13,15 +11,13 @@ use Rattle.store_key.specs.Anchor.{back_half, front_half}
 use Rattle.store_key.specs.Key.{key_of}
 use Rattle.entry_cut.specs.Content.{LeavesRoom, room_of}
 use Rattle.core_model.specs.AnchorMoves.{freer_of, writer_of}
-use Rattle.core_model.specs.Deeds.{mirrored}
-use Rattle.core_model.specs.Layout.{IsPlace, index}
-use Rattle.core_model.specs.Table.{left_by, place}
+use Rattle.core_model.specs.Layout.{index}
+use Rattle.core_model.specs.Table.{place}
 use Rattle.core_model.specs.SlotMoves.{stores}
 use Rattle.core_model.specs.Steps.{chain_found}
 use Rattle.core_model.specs.Tabs.{InnerIsFree, IsPass, anchor_of, inner, tab_at as tab_in}
 use Rattle.core_model.specs.Trails.{last_find}
 use Rattle.core_model.specs.declared.chain.Chain.{Chain}
-use Rattle.core_model.specs.declared.moves.Move.{Move}
 use Rattle.core_model.specs.declared.moves.Move.TheVariants.{Count, Draw, Look, StoreSide, Take}
 use Rattle.core_model.specs.declared.tab.Freer.{Freer}
 use Rattle.core_model.specs.declared.moves.Side.{Side}
@@ -82,9 +78,9 @@ module _ (g : Ground (List ℕ)) (lone : IsLone g) where
   module _ (rename : ℕ → ℕ) where
     pub drew_knows : (v w : View (List ℕ)) (m : ℕ) (p : Plain) (guests : ℕ → ℕ) → Knows g rename v p guests → Steps g v Draw m w → Knows g rename w (counted_on p) guests
     drew_knows v w m p guests h st = record {
-      counter = has_left g v w Draw m Counter Counter st refl refl ∙ ap (λ (z : ℕ). z + 1) (found_mine g v w Draw m Counter st (mine_lone g lone v Counter) refl ∙ h.counter);
+      counter = λ own. has_left g v w Draw m Counter Counter st refl refl ∙ ap (λ (z : ℕ). z + 1) (found_mine g v w Draw m Counter st (mine_lone g lone v Counter) refl ∙ h.counter refl);
       many = h.many;
-      each = λ a lt. shows_elsewhere g rename v w (λ q. q ≡ Counter) p (counted_on p) (guests a) a lt (h.each a lt) refl refl (step_same g v w Draw m Counter st refl tt)
+      each = λ a lt own. shows_elsewhere g rename v w (λ q. q ≡ Counter) p (counted_on p) (guests a) a lt (h.each a lt own) refl refl (step_same g v w Draw m Counter st refl tt)
           record { word = λ e. cc; sides = λ side e. cc; links = λ x there chain j c e. cc };
     }
 
@@ -97,7 +93,7 @@ module _ (g : Ground (List ℕ)) (lone : IsLone g) where
     pub drew_next : (v w : View (List ℕ)) (version : ℕ) (p : Plain) (guests : ℕ → ℕ) → Knows g rename v p guests → Drew g v version w → DrewNext w version p guests
     drew_next v w version p guests h d =
         let k : Knows g rename d.middle p guests = knows_same g rename v d.middle p guests h (counted_same v d.middle d.counted d.look) in
-        let f : d.found ≡ p.counter = found_mine g d.middle w Draw d.found Counter d.draw (mine_lone g lone d.middle Counter) refl ∙ k.counter in record {
+        let f : d.found ≡ p.counter = found_mine g d.middle w Draw d.found Counter d.draw (mine_lone g lone d.middle Counter) refl ∙ k.counter refl in record {
           version_is = sym d.version_is ∙ ap (λ (z : ℕ). z + 1) f;
           left = subst (λ (z : ℕ). z < version_limit) f d.left;
           knows = drew_knows d.middle w d.found p guests k d.draw;
@@ -106,14 +102,14 @@ module _ (g : Ground (List ℕ)) (lone : IsLone g) where
     -- none is left where the counter is looked at, and then the draw is not tried
     pub spent_at_look : (v w : View (List ℕ)) (versions : ℕ) (p : Plain) (guests : ℕ → ℕ) → Knows g rename v p guests → SpentAtLook g v versions w → (versions ≡ p.counter) × (version_limit ≤ p.counter) × Knows g rename w p guests
     spent_at_look v w versions p guests h s =
-        let is : versions ≡ p.counter = counted_is v w versions s.look ∙ h.counter in
+        let is : versions ≡ p.counter = counted_is v w versions s.look ∙ h.counter refl in
         (is, subst (λ (z : ℕ). version_limit ≤ z) is s.spent, knows_same g rename v w p guests h (counted_same v w versions s.look))
 
     pub never_spent_at_draw : (v w : View (List ℕ)) (versions : ℕ) (p : Plain) (guests : ℕ → ℕ) → Knows g rename v p guests → SpentAtDraw g v versions w → ⊥
     never_spent_at_draw v w versions p guests h s =
-        let c : s.counted ≡ p.counter = counted_is v s.middle s.counted s.look ∙ h.counter in
+        let c : s.counted ≡ p.counter = counted_is v s.middle s.counted s.look ∙ h.counter refl in
         let k : Knows g rename s.middle p guests = knows_same g rename v s.middle p guests h (counted_same v s.middle s.counted s.look) in
-        let f : versions ≡ p.counter = found_mine g s.middle w Draw versions Counter s.draw (mine_lone g lone s.middle Counter) refl ∙ k.counter in
+        let f : versions ≡ p.counter = found_mine g s.middle w Draw versions Counter s.draw (mine_lone g lone s.middle Counter) refl ∙ k.counter refl in
         let room : s.counted < version_limit = s.room in let spent : version_limit ≤ versions = s.spent in omega arith
 
 -- The anchor is taken.
@@ -236,7 +232,7 @@ module _ (g : Ground (List ℕ)) (rename : ℕ → ℕ) where
 
     pub stored_but : (p : Plain) (guests : ℕ → ℕ) → a < g.setting.anchors → KnowsBut g rename v p guests a → KnowsBut g rename w p guests a
     stored_but p guests lt h = but_moved g rename v w (λ q. q ≡ Beside side a) p p guests a (stored_same lt) (same_else p a) (λ e. cc)
-        (λ b there ne. record { word = λ e. cc; sides = λ other e. ne (same_beside other side b a e); links = λ x is chain j c e. cc }) h
+        (λ b there own ne. record { word = λ e. cc; sides = λ other e. ne (same_beside other side b a e); links = λ x is chain j c e. cc }) h
 
   -- all its names were, one after the other
   pub record IsNamed (a : ℕ) (key : List ℕ) (offer : ℕ) (v w : View (List ℕ)) (p : Plain) (guests : ℕ → ℕ) : Type 0 where
@@ -355,7 +351,7 @@ module _ (g : Ground (List ℕ)) (lone : IsLone g) (rename : ℕ → ℕ) (t a n
   nine = took.took.looks.may.pass
 
   found_is : n ≡ word_number (renamed_word rename (word_at (setting_of g) p a)) + 0
-  found_is = took_found g lone rename t a n version v took.taken took.took p h ∙ (h.each a lt).word
+  found_is = took_found g lone rename t a n version v took.taken took.took p h ∙ (h.each a lt refl).word
 
   -- the anchor was vacant or idle, and so nobody read there
   pub took_open : (is_vacant_at p a || is_idle_at p a) ≡ true
@@ -423,5 +419,5 @@ module _ (g : Ground (List ℕ)) (lone : IsLone g) (rename : ℕ → ℕ) (t a n
         let e = entry_of url body offer in
         let k = is_taken e in
         let m = named_right g rename t a (key_of url) offer w u (taken_by t a e p) no_guests lt (ap anchor_of k.tab) named k.but in
-        knows_all g rename u (taken_by t a e p) no_guests a m.but (λ inside. begun_shown g a offer url body response from at rename u t p (let many = h.many in let l = lt in omega arith) free below unread
+        knows_all g rename u (taken_by t a e p) no_guests a m.but (λ inside own. begun_shown g a offer url body response from at rename u t p (let many = h.many in let l = lt in omega arith) free below unread
         (m.word ∙ k.word ∙ ap (λ (z : ℕ). word_of z 1) (took_next.version_is ∙ sym renamed)) m.key0 m.key1 m.offer_is m.start)

@@ -1,47 +1,44 @@
 -- What a state of a pass tells: where the slots of a chain are, and, of a lone pass, that its words and its chains are those that the pass knows.
-use Rattle.std.proofs.Common.{Bool, Contains, List, None, Option, Some, [], ap, arith, false, inl, inr, length, ne_eqb, refl, subst, sum_by, sym, true, ◌++◌, ◌==◌, ◌+◌, ◌*◌, ◌-◌, ◌/◌, ◌<◌, ◌≤◌, ◌∙◌, ◌≡◌, ◌≢◌, ◌⊎◌, ◌∷◌, ℕ, zero, suc, cond, eq-eqb}
+use Rattle.std.proofs.Common.{Contains, List, [], ap, arith, inl, inr, length, ne_eqb, refl, subst, sum_by, sym, true, ◌++◌, ◌==◌, ◌+◌, ◌*◌, ◌-◌, ◌/◌, ◌<◌, ◌≤◌, ◌∙◌, ◌≡◌, ◌≢◌, ◌⊎◌, ◌∷◌, ℕ, cond, eq-eqb}
 use Rattle.std.proofs.lemmas.List.Elements.{Contains-append_cases, Contains-append_left, Contains-append_right}
 use Rattle.std.proofs.lemmas.List.Sums.{sum_by-cons}
 use mathlib.Core.Logic.{dite}
 use mathlib.Core.Option.{some, some-injective}
 use native.Mathlib.Decide.{ℕ_discrete}
 use lib.ListN.{get_elem?}
-use Rattle.std.specs.Prelude.{slice_index, slice_index_or}
 use Rattle.link_word.specs.Map.{taken_in}
 use Rattle.link_word.specs.declared.link.Link.{Link as LinkOf}
 use Rattle.link_word.specs.declared.link.Link.TheVariants.{Last as LastLink, Next, NotWritten}
 use Rattle.lock_word.specs.Words.{epoch_of, is_written, stage_of}
-use Rattle.core_model.specs.Chains.{EndsUnwritten, Fits, IsSpelled, Spells, Tied, behind_of, no_chain, rest_of, slots_of_link, start_number, times}
-use Rattle.core_model.specs.Holders.{HasWriter, IsTab}
+use Rattle.core_model.specs.Chains.{EndsUnwritten, IsSpelled, Spells, Tied, no_chain, rest_of, slots_of_link, start_number, times}
+use Rattle.core_model.specs.Holders.{IsTab}
 use Rattle.core_model.specs.Layout.{IsPlace, Setting, index, word_in}
-use Rattle.core_model.specs.Slots.{ChainStands, TabHolds, WriterHolds, held_in, published_in, resting_in, slot_words, standing_in, told, used}
-use Rattle.core_model.specs.Spots.{HasOneSpot, IsIn, IsUnwritten}
+use Rattle.core_model.specs.Slots.{ChainStands, WriterHolds, held_in, published_in, resting_in, slot_words, standing_in, used}
+use Rattle.core_model.specs.Spots.{IsIn}
 use Rattle.core_model.specs.State.{State, chain_of, word}
 use Rattle.core_model.specs.Tabs.{IsPass, count, inner, tab_at}
 use Rattle.core_model.specs.Anchors.{tabs_in}
 use Rattle.core_model.specs.declared.chain.Chain.{Chain}
 use Rattle.core_model.specs.declared.moves.Side.TheVariants.{Start}
 use Rattle.core_model.specs.declared.spot.Spot.{Spot}
-use Rattle.core_model.specs.declared.spot.Spot.TheVariants.{Chained, Free as FreeSpot, Loose, Reserved, Resting}
+use Rattle.core_model.specs.declared.spot.Spot.TheVariants.{Chained, Free as FreeSpot, Reserved, Resting}
 use Rattle.core_model.specs.declared.tab.Freer.{Freer}
 use Rattle.core_model.specs.declared.tab.Tab.{Tab}
-use Rattle.core_model.specs.declared.tab.Tab.TheVariants.{Free, Freeing, Last, Reading, Retreating, Writing}
+use Rattle.core_model.specs.declared.tab.Tab.TheVariants.{Freeing, Writing}
 use Rattle.core_model.specs.declared.tab.Writer.{Writer}
 use Rattle.core_model.specs.declared.view.Place.{Place}
-use Rattle.core_model.specs.declared.view.Place.TheVariants.{Anchor, Beside, Link, Map}
+use Rattle.core_model.specs.declared.view.Place.TheVariants.{Beside, Link, Map}
 use Rattle.core_model.specs.declared.view.View.{View}
 use Rattle.core_model.proofs.Lists.{at_index, cons_contains, contains_none, le_sum_at, sum_mono, two_le_sum}
 use Rattle.core_model.proofs.Matching.{has_writer}
 use Rattle.core_model.proofs.OneSpot.{one_spot, unwritten}
 use Rattle.core_model.proofs.Places.{within}
 use Rattle.core_model.proofs.SlotFrame.{used_few, used_some}
-use Rattle.core_model.proofs.SpelledOnce.{spelled_once}
 use Rattle.core_model.proofs.Tabs.{contains_times, tab_there}
 use Rattle.core_model.proofs.Telling.{told_in, told_out}
 use Rattle.store_rule.specs.Ground.{Ground, Rule}
 use Rattle.store_rule.specs.Words.{has}
-use Rattle.plain_model.specs.declared.entry.Entry.{Entry}
-use Rattle.plain_runs.specs.Words.{HasChain, IsLone, link_known}
+use Rattle.plain_runs.specs.Words.{IsLone, link_known}
 
 module _ {A : Type 0} where
   sum_plus : (f g : A → ℕ) (xs : List A) → sum_by (λ x. f x + g x) xs ≡ sum_by f xs + sum_by g xs

@@ -146,7 +146,7 @@ module _ (g : Ground (List ℕ)) (lone : IsLone g) (rename : ℕ → ℕ) (v : V
   }
     where
       no_one : victim (setting_of g) p ≡ None
-      no_one = no_victim (setting_of g) p (λ a lt. sym (idle_there rename (setting_of g) p 0 a (has g out.middle (Anchor a)) ((knows_after t out.middle out.none).each a lt).word (few a) refl) ∙ out.busy.was a lt (mine_lone g lone out.middle (Anchor a)))
+      no_one = no_victim (setting_of g) p (λ a lt. sym (idle_there rename (setting_of g) p 0 a (has g out.middle (Anchor a)) ((knows_after t out.middle out.none).each a lt refl).word (few a) refl) ∙ out.busy.was a lt (mine_lone g lone out.middle (Anchor a)))
 
       of_stands : (u ≡ out.middle) ⊎ (Stands g out.middle × Stands g u) → Stands g u
       of_stands (inl e) = subst (Stands g) (sym e) (stands_after t out.middle out.none)

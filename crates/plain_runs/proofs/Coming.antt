@@ -1,5 +1,5 @@
 -- A tab comes to the anchor of a URL, and judges what it finds there as the plain store does.
-use Rattle.std.proofs.Common.{Bool, List, None, Option, Some, [], ap, arith, get_or, get_or-set_same, length, length-drop, refl, subst, sym, ◌+◌, ◌++◌, ◌<◌, ◌∙◌, ◌≡◌, ◌≢◌, ◌∷◌, drop, suc, take, zero, ℕ}
+use Rattle.std.proofs.Common.{Bool, List, None, Option, Some, [], ap, arith, get_or, get_or-set_same, length, length-drop, refl, subst, sym, true, ◌+◌, ◌++◌, ◌<◌, ◌∙◌, ◌≡◌, ◌≢◌, ◌∷◌, drop, suc, take, zero, ℕ}
 use Rattle.std.specs.Int.{from_le_bytes, to_le_bytes, w64}
 use Rattle.std.proofs.lemmas.List.{get_or-drop, length-take-le, take-append-drop}
 use Rattle.std.proofs.lemmas.Nat.{le_bytes_8}
@@ -37,7 +37,7 @@ use Rattle.rock_reader.proofs.Coming.{came_tabs, entered_else, entered_readable}
 use Rattle.worker_shelf.specs.Typed.{TellsKey}
 use Rattle.crew_accounts.proofs.Loading.{keyed_reads, still_reads}
 use Rattle.crew_accounts.proofs.OneKey.{one_key}
-use Rattle.plain_runs.specs.Words.{Knows, ShowsAt, ShowsEntry, ShowsEntryIf, no_guests, setting_of}
+use Rattle.plain_runs.specs.Words.{KnowsLot, Lot, ShowsAt, ShowsEntry, ShowsEntryIf, no_guests, setting_of}
 use Rattle.plain_runs.proofs.AnchorWords.{enter_knows}
 use Rattle.plain_runs.proofs.Frames.{knows_same}
 use Rattle.plain_runs.proofs.Judging.{entry_found, epoch_found, hits, judged_hit, judged_miss, refuses}
@@ -76,13 +76,15 @@ abbrev key_in : Option Entry → List ℕ
 key_in None = []
 key_in (Some e) = e.key
 
--- A tab came to the anchor, which is its pass's own, where its pass knew the plain store, and found this epoch there.
+-- A tab came to the anchor, which is its pass's own and in its lot, where its pass knew the plain store of the lot, and found this epoch there.
 pub record HasCome (g : Ground (List ℕ)) (rename : ℕ → ℕ) (t a : ℕ) : Type 0 where
   pub store : Plain
   pub eight : length store.tabs ≡ 8
   pub before : View (List ℕ)
   pub own : OwnsAnchor g before.pass a
-  pub knows : Knows g rename before store no_guests
+  pub lot : Lot
+  pub ours : lot.anchors a ≡ true
+  pub knows : KnowsLot g rename lot before store no_guests
   pub found : ℕ
   pub came : View (List ℕ)
   pub enter : Steps g before (Enter t a) found came
@@ -109,7 +111,7 @@ module _ (g : Ground (List ℕ)) (rename : ℕ → ℕ) (t a : ℕ) (come : HasC
   epoch_plain = plain.epoch_of (room_of g.slot) (place_at p a)
 
   shows : ShowsAt g rename v p 0 a
-  shows = come.knows.each a inside
+  shows = come.knows.each a inside come.ours
 
   few : readers p a + 0 < 65536
   few = readers_fit p a 0 come.eight (omega arith)
@@ -123,7 +125,7 @@ module _ (g : Ground (List ℕ)) (rename : ℕ → ℕ) (t a : ℕ) (come : HasC
   pub undoomed : IsReadable epoch → (place_at p a).doom ≡ Bool.false
   undoomed h = sym (ap Epoch.doom epoch_same) ∙ h.1
 
-  pub came_knows : Knows g rename came p (guest_at a)
+  pub came_knows : KnowsLot g rename come.lot came p (guest_at a)
   came_knows = enter_knows g rename v came p t a come.found (come.own.words v (Anchor a) refl refl) come.knows come.enter
 
   came_pass : came.pass ≡ v.pass
@@ -152,14 +154,14 @@ module _ (g : Ground (List ℕ)) (rename : ℕ → ℕ) (t a : ℕ) (come : HasC
     entry_there = (entry_found g rename v p 0 a shows few epoch epoch_same readable).1
 
     -- what the pass knows of the entry while nothing changes
-    pub shown : (u : View (List ℕ)) (n : ℕ → ℕ) → Knows g rename u p n → ShowsEntry g u a (place_at p a).version entry
-    shown u n k = subst (ShowsEntryIf g u a (place_at p a).version) entry_there (k.each a inside).entry
+    pub shown : (u : View (List ℕ)) (n : ℕ → ℕ) → KnowsLot g rename come.lot u p n → ShowsEntry g u a (place_at p a).version entry
+    shown u n k = subst (ShowsEntryIf g u a (place_at p a).version) entry_there (k.each a inside come.ours).entry
 
     came_at : anchor_of (tab_at came t) ≡ a
     came_at = ap anchor_of (reads readable)
 
     module _ (key : List ℕ) (keyed : View (List ℕ)) (loaded : KeyLoaded g t came key keyed) where
-      pub keyed_knows : Knows g rename keyed p (guest_at a)
+      pub keyed_knows : KnowsLot g rename come.lot keyed p (guest_at a)
       keyed_knows = knows_same g rename came keyed p (guest_at a) came_knows (key_quiet g v.pass a come.own t came key keyed came_pass came_at loaded)
 
       pub keyed_tab : tab_at keyed t ≡ Reading (opened a epoch.version)
@@ -171,7 +173,7 @@ module _ (g : Ground (List ℕ)) (rename : ℕ → ℕ) (t a : ℕ) (come : HasC
       pub keyed_at : anchor_of (tab_at keyed t) ≡ a
       keyed_at = ap anchor_of keyed_tab
 
-      middle_knows : Knows g rename loaded.middle p (guest_at a)
+      middle_knows : KnowsLot g rename come.lot loaded.middle p (guest_at a)
       middle_knows = knows_same g rename came loaded.middle p (guest_at a) came_knows (front_quiet g v.pass a come.own t came key keyed came_pass came_at loaded)
 
       front_is : front_half key ≡ front_half entry.key

@@ -79,7 +79,7 @@ module _ (g : Ground (List ℕ)) (lone : IsLone g) (s : State (List ℕ)) (i : �
 
     at_place : (a : ℕ) → a < length s.chains → slots_chained (Rattle.core_model.specs.State.chain_of s a) + sum_by (linked_at (0 + a)) v.tabs ≡ held room (place_at p a)
     at_place a lt = let inside : a < k.anchors = (let e = rule.sound.anchors.shaped.chains in omega arith) in
-        let h = holds_at g s i v rule at pass a (owns_lone g lone v.pass a) inside rename p (guests a) (knows.each a inside) (few a) raised in let e = ap (λ z. sum_by (linked_at z) v.tabs) (zero_first a) in omega arith
+        let h = holds_at g s i v rule at pass a (owns_lone g lone v.pass a) inside rename p (guests a) (knows.each a inside refl) (few a) raised in let e = ap (λ z. sum_by (linked_at z) v.tabs) (zero_first a) in omega arith
       where
         zero_first : (n : ℕ) → 0 + n ≡ n
         zero_first n = omega arith

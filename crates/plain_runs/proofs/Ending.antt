@@ -1,5 +1,5 @@
 -- The last piece of an entry is published and the entry closed, in the store and in the plain store.
-use Rattle.std.proofs.Common.{Bool, Contains, List, None, Option, Some, [], ap, arith, cond, eq-eqb, false, get_or, inl, inr, length, ne_eqb, refl, subst, sym, true, ◌*◌, ◌++◌, ◌+◌, ◌-◌, ◌<◌, ◌==◌, ◌∙◌, ◌≡◌, ◌≢◌, ◌≤◌, ◌⊎◌, ◌∷◌, ℕ}
+use Rattle.std.proofs.Common.{Bool, List, None, Some, [], ap, arith, cond, eq-eqb, false, get_or, inl, inr, length, ne_eqb, refl, subst, sym, true, ◌+◌, ◌-◌, ◌<◌, ◌∙◌, ◌≡◌, ◌≢◌, ◌≤◌, ◌∷◌, ℕ}
 use Rattle.std.specs.Prelude.{◌/◌, ◌↔◌}
 use Rattle.std.proofs.lemmas.List.{length_push}
 use Rattle.std.proofs.lemmas.Bool.{le-ltb}
@@ -33,7 +33,7 @@ use Rattle.plain_model.specs.declared.entry.Place.{Place as PlaceOf}
 use Rattle.plain_model.specs.declared.store.Plain.{Plain}
 use Rattle.plain_model.specs.declared.store.Refusal.TheVariants.{Full}
 use Rattle.plain_model.specs.declared.store.Setting.{Setting}
-use Rattle.plain_model.specs.Slots.{Grown, claim, grown_as}
+use Rattle.plain_model.specs.Slots.{claim, grown_as}
 use Rattle.plain_model.specs.declared.store.Tab.{Tab as PlainTab}
 use Rattle.plain_model.specs.declared.store.Tab.TheVariants as plain
 use Rattle.plain_model.specs.Store.{entry_at, meta_size, place_at, published, readers, stage_of_entry, tab_at as plain_tab}
@@ -171,7 +171,7 @@ module _ {C O : Type 0} (tells : Bool) (state : C → CellState) (offers : O →
     level = level_here tells state offers st lone rename t pass p e x ready h
 
     entry : ShowsEntry g (view pass) e.anchor (place_at p e.anchor).version x
-    entry = entry_shown g rename (view pass) p e.anchor (ready.knows.each e.anchor lt) x h.there
+    entry = entry_shown g rename (view pass) p e.anchor (ready.knows.each e.anchor lt refl) x h.there
 
     from_origin : g.setting.slots ≤ x.offer
     from_origin = let k = h.writes.rests.from in let o = h.offer_is in omega arith
@@ -257,7 +257,7 @@ module _ {C O : Type 0} (tells : Bool) (state : C → CellState) (offers : O →
         le = let k = growing_stage room x.content in omega arith
 
         before : ShowsAt g rename f.wrote.reserved store 0 e.anchor
-        before = hg.readied.knows.each e.anchor lt
+        before = hg.readied.knows.each e.anchor lt refl
 
         same : SameBut g f.wrote.reserved f.linked (Touched e.anchor f.wrote.slot)
         same = same_weaker g f.wrote.reserved f.linked (Linking e.anchor f.wrote.slot) (Touched e.anchor f.wrote.slot) (touched_linking e.anchor f.wrote.slot) po.same

@@ -4,25 +4,23 @@ use Rattle.std.specs.Prelude.{IsTrue, None, Option, Some, slice_index_or}
 use Rattle.std.proofs.lemmas.List.{length-map}
 use mathlib.Core.Option.{some}
 use lib.ListN.{get_elem?}
-use Rattle.lock_word.specs.Words.{epoch_of, stage_number, stage_of, version_of, word_number}
+use Rattle.lock_word.specs.Words.{epoch_of, stage_of, version_of, word_number}
 use Rattle.store_key.specs.Anchor.{anchor_of}
 use Rattle.store_key.specs.Key.{key_of}
 use Rattle.rock_disk.specs.Cell.{CellState}
 use Rattle.rebuild_model.specs.Entry.{IsComplete}
-use Rattle.entry_cut.specs.Content.{Cut, room_of}
+use Rattle.entry_cut.specs.Content.{Cut}
 use Rattle.entry_cut.specs.Standing.{IsWritable, Stand, entry_of}
 use Rattle.core_model.specs.declared.moves.Side.TheVariants.{Offer}
 use Rattle.core_model.specs.declared.tab.Cell.{Cell}
-use Rattle.core_model.specs.declared.view.Place.TheVariants.{Anchor, Beside}
+use Rattle.core_model.specs.declared.view.Place.TheVariants.{Anchor}
 use Rattle.core_model.specs.declared.view.View.{View}
 use Rattle.core_model.specs.State.{State, side_word, word}
 use Rattle.core_model.specs.Tabs.{IsPass}
 use Rattle.plain_model.specs.declared.entry.Entry.{Entry}
-use Rattle.plain_model.specs.declared.entry.Life.{Life}
 use Rattle.plain_model.specs.declared.entry.Life.TheVariants.{Whole}
 use Rattle.plain_model.specs.declared.store.Plain.{Plain}
-use Rattle.plain_model.specs.Store.{entry_at, place_at, stage_of as stage_of_place, stage_of_entry, word_at}
-use Rattle.store_rule.specs.Words.{has}
+use Rattle.plain_model.specs.Store.{entry_at, place_at, word_at}
 use Rattle.store_rule.specs.declared.store.Pass.{Pass}
 use Rattle.store_rule.specs.declared.store.Store.{Store}
 use Rattle.store_rule.specs.Closing.{Closed}
@@ -32,9 +30,8 @@ use Rattle.store_rule.specs.Passes.{basis, view}
 use Rattle.store_rule.proofs.Passing.{pass_of}
 use Rattle.store_rule.specs.Setting.{shown}
 use Rattle.rock_reader.specs.Responses.{IsResponse}
-use Rattle.plain_runs.specs.Words.{IsLone, Knows, ShowsEntry, ShowsEntryIf, no_guests, setting_of}
+use Rattle.plain_runs.specs.Words.{IsLone, Knows, ShowsEntry, no_guests, setting_of}
 use Rattle.plain_runs.proofs.OwnAnchors.{OwnsAnchor, owns_lone}
-use Rattle.plain_runs.proofs.PlainWords.{readers_fit, stage_there, version_there}
 use Rattle.plain_runs.specs.Ends.{HasVersions, HoldsEntry, HoldsWhole, IsHomeAs, SpellsResponse, TellsPieces}
 use Rattle.plain_runs.specs.Runs.{ShowsPlain}
 use Rattle.plain_runs.proofs.Spelled.{spells}
@@ -113,7 +110,7 @@ module _ {C O : Type 0} (tells : Bool) (state : C → CellState) (offers : O →
   pub closed_word : word closed.gathered.state a ≡ word_number (word_at (setting_of (basis tells state offers s)) plain a)
   closed_word = let gathered = closed.gathered in
       (owns_lone (basis tells state offers s) lone (view p).pass a).stands (view p) record { state = gathered.state; index = gathered.index 0; rule = gathered.rule; at = gathered.at 0 (view p) first } (Anchor a) refl (pass_of p) refl lt
-      ∙ (shows.knows.each a lt).word ∙ plus_none _
+      ∙ (shows.knows.each a lt refl).word ∙ plus_none _
     where
       plus_none : (n : ℕ) → n + 0 ≡ n
       plus_none n = omega arith

@@ -9,7 +9,7 @@ use Rattle.lock_word.specs.Words.{is_idle, raised}
 use Rattle.lock_word.proofs.Testing.{readers_of-idle}
 use Rattle.store_rule.specs.Words.{has}
 use Rattle.plain_laws.proofs.Evicting.{idle_whole}
-use Rattle.plain_runs.specs.Words.{IsLone, Knows, no_guests, setting_of}
+use Rattle.plain_runs.specs.Words.{IsLone, Knows, no_guests, setting_of, whole_lot}
 use Rattle.plain_runs.proofs.Frames.{knows_same}
 use Rattle.plain_runs.proofs.Frames as frame
 use Rattle.plain_runs.proofs.Freeing.{EvictedAt, FewReaders, KnowsBut, evict_leaves, gave_but, gave_right, vacated_at}
@@ -34,7 +34,7 @@ module _ (g : Ground (List ℕ)) (lone : IsLone g) (rename : ℕ → ℕ) (m : V
   x_inside = onward_inside k.anchors h e.steps begins (let lt = e.within in omega arith)
 
   idle_at : (a : ℕ) → a < k.anchors → is_idle_at p a ≡ is_idle (has g m (Anchor a))
-  idle_at a lt = sym (idle_there rename (setting_of g) p 0 a (has g m (Anchor a)) (knows.each a lt).word (few a) refl)
+  idle_at a lt = sym (idle_there rename (setting_of g) p 0 a (has g m (Anchor a)) (knows.each a lt refl).word (few a) refl)
 
   word_idle : is_idle (has g m (Anchor x)) ≡ true
   word_idle = ap is_idle (e.was (mine_lone g lone m (Anchor x))) ∙ e.victim.idle
@@ -56,10 +56,10 @@ module _ (g : Ground (List ℕ)) (lone : IsLone g) (rename : ℕ → ℕ) (m : V
       (frame.went_none g lone e.looked e.victim.before e.victim.looked.added e.victim.looked.went e.victim.looked.calm.1)
 
   unread : readers p x ≡ 0
-  unread = let r = readers_there rename (setting_of g) p 0 x (has g m (Anchor x)) (knows.each x x_inside).word (few x) in let none = readers_of-idle (has g m (Anchor x)) word_idle in omega arith
+  unread = let r = readers_there rename (setting_of g) p 0 x (has g m (Anchor x)) (knows.each x x_inside refl).word (few x) in let none = readers_of-idle (has g m (Anchor x)) word_idle in omega arith
 
-  at_freeing : EvictedAt g rename e.won x p no_guests
-  at_freeing = let whole = idle_whole p x idle in evict_leaves g rename e.victim.before e.won inner x e.victim.word p no_guests whole.0 (mine_lone g lone e.victim.before (Anchor x)) knows_before e.victim.step (sym e.victim.looked.last) whole.1 unread refl
+  at_freeing : EvictedAt g rename whole_lot e.won x p no_guests
+  at_freeing = let whole = idle_whole p x idle in evict_leaves g rename e.victim.before e.won inner x e.victim.word p no_guests whole.0 (mine_lone g lone e.victim.before (Anchor x)) refl knows_before e.victim.step (sym e.victim.looked.last) whole.1 unread refl
 
   anchor_is : e.kept.freer.anchor ≡ x
   anchor_is = ap Freer.anchor e.chain
@@ -76,4 +76,4 @@ module _ (g : Ground (List ℕ)) (lone : IsLone g) (rename : ℕ → ℕ) (m : V
 
   -- Without it the words are the plain store's.
   pub knows_without : Knows g rename w (evicted (setting_of g) x p) no_guests
-  knows_without = record { counter = knows_vacated.counter; many = knows_vacated.many; each = λ a lt. record { word = (knows_vacated.each a lt).word; entry = (knows_vacated.each a lt).entry } }
+  knows_without = record { counter = knows_vacated.counter; many = knows_vacated.many; each = λ a lt own. record { word = (knows_vacated.each a lt refl).word; entry = (knows_vacated.each a lt refl).entry } }

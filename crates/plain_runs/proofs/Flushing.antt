@@ -1,13 +1,12 @@
 -- What is known of the plain store once a tab has written and published a piece.
-use Rattle.std.proofs.Common.{Bool, Contains, List, None, Option, Some, [], ap, arith, false, get_or, get_or-set_other, get_or-set_same, inl, inr, length, ne_eqb, eq-eqb, refl, subst, sym, true, ◌*◌, ◌++◌, ◌+◌, ◌-◌, ◌<◌, ◌∙◌, ◌≡◌, ◌≢◌, ◌≤◌, ◌⊎◌, ◌∷◌, ℕ}
+use Rattle.std.proofs.Common.{Bool, List, None, Option, Some, [], ap, arith, get_or, get_or-set_other, get_or-set_same, inl, inr, length, ne_eqb, eq-eqb, refl, subst, sym, true, ◌*◌, ◌+◌, ◌-◌, ◌<◌, ◌∙◌, ◌≡◌, ◌≢◌, ◌≤◌, ◌⊎◌, ◌∷◌, ℕ}
 use Rattle.link_word.specs.declared.link.Link.{Link as LinkOf}
-use Rattle.link_word.specs.declared.link.Link.TheVariants.{Last as LastLink, Next, NotWritten}
+use Rattle.link_word.specs.declared.link.Link.TheVariants.{Next}
 use Rattle.lock_word.specs.Words.{epoch_of as epoch_in, raised, stage_number, stage_of as stage_in, word_number}
 use Rattle.lock_word.specs.declared.stage.Stage.{Stage}
 use Rattle.lock_word.specs.declared.stage.Stage.TheVariants as stage
-use Rattle.lock_word.specs.declared.word.Word.{Word}
 use Rattle.entry_cut.specs.Content.{room_of}
-use Rattle.core_model.specs.Chains.{slots_of_link, start_number}
+use Rattle.core_model.specs.Chains.{slots_of_link}
 use Rattle.core_model.specs.SlotMoves.{publishes, stores}
 use Rattle.core_model.specs.Table.{left_by}
 use Rattle.core_model.specs.Tabs.{InnerIsFree, IsPass, OfWriter, inner, tab_at, with_tab}
@@ -21,17 +20,16 @@ use Rattle.core_model.specs.declared.view.Place.TheVariants.{Anchor}
 use Rattle.core_model.specs.declared.view.View.{View}
 use Rattle.plain_model.specs.declared.entry.Entry.{Entry}
 use Rattle.plain_model.specs.declared.entry.Life.{Life}
-use Rattle.plain_model.specs.declared.entry.Life.TheVariants.{GivenUp, Growing, Whole}
+use Rattle.plain_model.specs.declared.entry.Life.TheVariants.{Growing, Whole}
 use Rattle.plain_model.specs.declared.entry.Place.{Place as PlaceOf}
 use Rattle.plain_model.specs.declared.store.Plain.{Plain}
 use Rattle.plain_model.specs.declared.store.Setting.{Setting}
 use Rattle.plain_model.specs.Place.{nothing, resized}
 use Rattle.plain_model.specs.Slots.{grown_as, limit, publish, resize}
-use Rattle.plain_model.specs.Store.{entry_at, epoch_of, meta_size, place_at, published, readers, stage_of, stage_of_entry, word_at}
+use Rattle.plain_model.specs.Store.{entry_at, epoch_of, meta_size, place_at, published, readers, stage_of, stage_of_entry}
 use Rattle.plain_laws.specs.Renaming.{renamed_word}
 use Rattle.plain_laws.proofs.Sums.{inside}
 use Rattle.store_rule.specs.Calls.{Others}
-use Rattle.store_rule.specs.Steps.{ActsFor}
 use Rattle.store_rule.specs.Words.{has}
 use Rattle.store_rule.proofs.OtherTabs.{others_go_on, others_stay}
 use Rattle.rock_writer.specs.Entries.{Entry as Writing_, GoesOn, writer_as}
@@ -43,7 +41,6 @@ use Rattle.slice_chain.specs.Links.{Published, next_link}
 use Rattle.slice_chain.specs.Writes.{chose}
 use Rattle.slice_chain.specs.Victims.{hand_in}
 use Rattle.store_rule.specs.Ground.{Ground}
-use Rattle.store_rule.specs.Told.{Stands, Steps}
 use Rattle.plain_runs.specs.Words.{HasChain, HasNames, IsLone, IsOfOffer, Knows, ShowsAt, ShowsEntry, ShowsEntryIf, no_guests, setting_of}
 use Rattle.plain_runs.proofs.Frames.{SameBut, same_none, same_on, same_weaker}
 use Rattle.plain_runs.proofs.Freeing.{KnowsBut, but_moved, knows_all, knows_but, put_else, same_else}
@@ -100,8 +97,8 @@ module _ (g : Ground (List ℕ)) (rename : ℕ → ℕ) where
       → stage_of_entry (room_of g.slot) Growing c ≡ st → HasNames g v a x → HasChain g v a (record x { content = c }) → IsOfOffer g a (record x { content = c }) → 0 < (place_at p a).version → Knows g rename v (resize a c p) no_guests
   knows_grown v p a c x st but there grows word is names chain offer drawn = knows_all g rename v (resize a c p) no_guests a
       (but_moved g rename v v (λ q. ⊥) p (resize a c p) no_guests a (same_none g v (λ q. ⊥)) (put_else p a (resized c (place_at p a))) (λ none. none)
-      (λ b lt ne. record { word = λ none. none; sides = λ side none. none; links = λ e k chain j m none. none }) but)
-      (λ lt. at_place (resized_at a c p x there))
+      (λ b lt own ne. record { word = λ none. none; sides = λ side none. none; links = λ e k chain j m none. none }) but)
+      (λ lt own. at_place (resized_at a c p x there))
     where
       new : Entry
       new = record x { content = c }
@@ -216,7 +213,7 @@ module _ (g : Ground (List ℕ)) (lone : IsLone g) (rename : ℕ → ℕ) (t : �
         lt = anchor_there g u t (writer_as g e ps end (f.slot ∷ f.next ∷ [])) hg.readied.stands hg.readied.pass below hg.tab
 
         shown : ShowsAt g rename u q 0 e.anchor
-        shown = hg.readied.knows.each e.anchor lt
+        shown = hg.readied.knows.each e.anchor lt refl
 
         here : (st : Stage) → stage_of_entry (room_of g.slot) Growing x.content ≡ st → has g f.linked (Anchor e.anchor) ≡ staged rename q e.anchor st
         here st k = po.same.same (Anchor e.anchor) tt lt (no_anchor e.anchor f.slot e.anchor)
@@ -234,7 +231,7 @@ module _ (g : Ground (List ℕ)) (lone : IsLone g) (rename : ℕ → ℕ) (t : �
           but = touched_but g rename lone u w t f.slot (writer_as g e ps end (f.slot ∷ f.next ∷ [])) q q hg.readied.stands hg.readied.pass below hg.tab (0, omega arith, refl) same (same_else q e.anchor) hg.readied.eight
               (knows_but g rename u q no_guests e.anchor hg.readied.knows);
           word = word;
-          shown = entry_shown g rename v p e.anchor (h.knows.each e.anchor lt) x there;
+          shown = entry_shown g rename v p e.anchor (h.knows.each e.anchor lt refl) x there;
           names = touched_names g u w e.anchor f.slot x lt same (entry_shown g rename u q e.anchor shown x there_q).names;
           others = others_go_on v u w t hg.others others;
         }

@@ -1,19 +1,16 @@
 -- An entry that a tab gives up, in the store and in the plain store.
-use Rattle.std.proofs.Common.{Bool, Contains, List, None, Option, Some, [], ap, arith, cond, false, get_or, get_or-set_other, get_or-set_same, inl, inr, length, length-set, refl, set, subst, sym, true, ◌+◌, ◌-◌, ◌/◌, ◌<◌, ◌==◌, ◌∙◌, ◌≡◌, ◌≢◌, ◌≤◌, ◌⊎◌, ◌∷◌, ℕ}
-use Rattle.lock_word.specs.Words.{epoch_of as epoch_in, is_left_over, raised, stage_number, stage_of as stage_in, word_number}
+use Rattle.std.proofs.Common.{Contains, List, None, Option, Some, ap, arith, cond, get_or-set_other, get_or-set_same, inl, inr, length, length-set, refl, set, subst, sym, ◌-◌, ◌/◌, ◌<◌, ◌==◌, ◌∙◌, ◌≡◌, ◌≤◌, ◌⊎◌, ℕ}
+use Rattle.lock_word.specs.Words.{epoch_of as epoch_in, raised, stage_number, stage_of as stage_in, word_number}
 use Rattle.lock_word.specs.declared.stage.Stage.{Stage}
 use Rattle.lock_word.specs.declared.stage.Stage.TheVariants as stage
-use Rattle.core_model.specs.AnchorMoves.{left_tab, raised_tab}
-use Rattle.core_model.specs.Chains.{rest_of, slots_of_link}
-use Rattle.core_model.specs.SlotMoves.{MayGiveBack, gives_back}
+use Rattle.core_model.specs.SlotMoves.{MayGiveBack}
 use Rattle.core_model.specs.Table.{left_by, place}
-use Rattle.core_model.specs.Tabs.{InnerIsFree, IsPass, OfFreer, OfWriter, anchor_of, inner, tab_at, with_tab}
+use Rattle.core_model.specs.Tabs.{InnerIsFree, IsPass, OfFreer, OfWriter, anchor_of, inner, tab_at}
 use Rattle.core_model.specs.declared.moves.Move.TheVariants.{Disown, Raise}
 use Rattle.core_model.specs.declared.tab.Freer.{Freer}
 use Rattle.core_model.specs.declared.tab.Tab.{Tab}
-use Rattle.core_model.specs.declared.tab.Tab.TheVariants.{Free, Last, Writing}
+use Rattle.core_model.specs.declared.tab.Tab.TheVariants.{Free, Writing}
 use Rattle.core_model.specs.declared.tab.Writer.{Writer}
-use Rattle.core_model.specs.declared.view.Place.{Place}
 use Rattle.core_model.specs.declared.view.Place.TheVariants.{Anchor}
 use Rattle.core_model.specs.declared.view.View.{View}
 use Rattle.link_word.specs.Map.{map_words}
@@ -28,16 +25,15 @@ use Rattle.plain_model.specs.declared.store.Tab.{Tab as PlainTab}
 use Rattle.plain_model.specs.declared.store.Tab.TheVariants as plain
 use Rattle.plain_model.specs.Place.{ended, nothing}
 use Rattle.plain_model.specs.Store.{entry_at, epoch_of, place_at, published, readers, reads_at, stage_of_entry, tab_at as plain_tab}
-use Rattle.plain_model.specs.Writing.{close_writer, settle}
+use Rattle.plain_model.specs.Writing.{close_writer}
 use Rattle.store_rule.specs.Calls.{Others}
 use Rattle.store_rule.specs.Words.{Mine, has}
 use Rattle.store_rule.proofs.OtherTabs.{others_go_on, others_stay}
 use Rattle.rock_writer.specs.Halting.{GaveBack, GaveUnlinked, Halts, Parted, first_of, second_of}
 use Rattle.rock_writer.proofs.GivingBack.{gave_nine, gave_tab, given}
 use Rattle.store_rule.specs.Ground.{Ground}
-use Rattle.tab_states.specs.Tabs.{is_last}
 use Rattle.store_rule.specs.Told.{Stands, Steps}
-use Rattle.plain_runs.specs.Words.{EndsSo, IsLone, IsOfOffer, Knows, ShowsAt, ShowsEntry, ShowsEntryIf, no_guests, setting_of, slots_published}
+use Rattle.plain_runs.specs.Words.{EndsSo, IsLone, Knows, ShowsAt, ShowsEntry, ShowsEntryIf, no_guests, slots_published}
 use Rattle.plain_laws.specs.Renaming.{renamed_word}
 use Rattle.plain_laws.proofs.Choosing.{either}
 use Rattle.plain_laws.proofs.Sums.{inside}
@@ -178,7 +174,7 @@ module _ (g : Ground (List ℕ)) (lone : IsLone g) (rename : ℕ → ℕ) (t : �
       → length p.tabs ≡ 8 → plain_tab p t ≡ plain.Writing a → entry_at p a ≡ Some x → KnowsBut g rename u p no_guests a → has g u (Anchor a) ≡ staged rename p a from
       → ShowsEntry g u a (place_at p a).version (record x { life = life }) → Steps g u (Raise t to) n v → Parted g t v w → Knows g rename w (close_writer life t a p) no_guests
   ended_right life from to u v w p x y a n same ends le pass stands is eight plain_is there but word entry raises parted =
-      raised_parts_right g rename lone u v w t a n to y (ended_with life t a p) (length-set p.tabs t plain.Free ∙ eight) raises (ends_either life to ends) is same lt knows parted
+      raised_parts_right g rename lone u v w t a n to y (ended_with life t a p) (length-set p.tabs t plain.Free ∙ eight) raises (ends_either life to ends) is same lt refl knows parted
     where
       few_tabs : t < length p.tabs
       few_tabs = let b = below in omega arith
@@ -204,7 +200,7 @@ module _ (g : Ground (List ℕ)) (lone : IsLone g) (rename : ℕ → ℕ) (t : �
       knows : Knows g rename v (ended_with life t a p) no_guests
       knows = knows_all g rename v (ended_with life t a p) no_guests a
           (but_step g rename u v (Raise t to) n p (ended_with life t a p) no_guests a raises here lt (ended_else life t a p few_tabs plain_is) but)
-          (λ k. at_place (ended_at life t a p x there))
+          (λ k own. at_place (ended_at life t a p x there))
 
   -- an entry that grows, given up
   given_up : (v : View (List ℕ)) (a version : ℕ) (x : Entry) → ShowsEntry g v a version x → x.life ≡ Growing → ShowsEntry g v a version (record x { life = GivenUp })
@@ -247,8 +243,8 @@ module _ (g : Ground (List ℕ)) (lone : IsLone g) (rename : ℕ → ℕ) (t : �
   halts_right v w p hand x y ready is plain_is there grows h = record {
     knows = ended_right GivenUp (stage_of_entry (room_of g.slot) Growing x.content) stage.Halted h.middle h.raised w p x gave.writer y.anchor h.word gave.anchor refl (let k = growing_stage (room_of g.slot) x.content in omega arith)
         gave.pass (stands_before h.raises) gave.tab ready.eight plain_is there (knows_but g rename h.middle p no_guests y.anchor knows)
-        (word_staged g rename h.middle p y.anchor (knows.each y.anchor lt) x there (stage_of_entry (room_of g.slot) Growing x.content) (ap (λ (l : Life). stage_of_entry (room_of g.slot) l x.content) grows))
-        (given_up h.middle y.anchor (place_at p y.anchor).version x (entry_shown g rename h.middle p y.anchor (knows.each y.anchor lt) x there) grows) h.raises h.parted;
+        (word_staged g rename h.middle p y.anchor (knows.each y.anchor lt refl) x there (stage_of_entry (room_of g.slot) Growing x.content) (ap (λ (l : Life). stage_of_entry (room_of g.slot) l x.content) grows))
+        (given_up h.middle y.anchor (place_at p y.anchor).version x (entry_shown g rename h.middle p y.anchor (knows.each y.anchor lt refl) x there) grows) h.raises h.parted;
     free = h.parted.free;
     inner_free = h.parted.inner_free;
   }

@@ -1,5 +1,5 @@
 -- A tab leaves its anchor, and what nobody uses any more goes from the plain store.
-use Rattle.std.proofs.Common.{Bool, List, None, Option, Some, ap, arith, cond, eq-eqb, false, get_or, get_or-set_other, get_or-set_same, inl, inr, length, ne_eqb, refl, set, subst, sym, true, ◌&&◌, ◌+◌, ◌-◌, ◌<◌, ◌==◌, ◌||◌, ◌≤◌, ◌∙◌, ◌≡◌, ◌≢◌, ◌⊎◌, ℕ}
+use Rattle.std.proofs.Common.{Bool, List, None, Option, Some, ap, arith, cond, eq-eqb, false, get_or, get_or-set_other, get_or-set_same, inl, inr, length, ne_eqb, refl, subst, sym, true, ◌&&◌, ◌+◌, ◌-◌, ◌<◌, ◌==◌, ◌||◌, ◌≤◌, ◌∙◌, ◌≡◌, ◌≢◌, ◌⊎◌, ℕ}
 use Rattle.std.proofs.lemmas.Bool.{false≢true}
 use mathlib.Core.Logic.{dite}
 use native.Mathlib.Decide.{ℕ_discrete}
@@ -24,7 +24,6 @@ use Rattle.plain_model.specs.declared.store.Plain.{Plain}
 use Rattle.plain_model.specs.Store.{entry_at, has_life, is_left_over_at, place_at, readers, word_at}
 use Rattle.plain_model.specs.Writing.{settle}
 use Rattle.plain_laws.specs.Renaming.{renamed_word}
-use Rattle.plain_laws.proofs.Beginning.{set_here}
 use Rattle.plain_laws.proofs.Choosing.{either}
 use Rattle.store_rule.specs.Ground.{Ground}
 use Rattle.tab_states.specs.Tabs.{is_last}
@@ -37,7 +36,7 @@ use Rattle.slice_chain.specs.Freeing.{Freed}
 use Rattle.rock_reader.specs.Closing.{Parted}
 use Rattle.rock_reader.proofs.Parting.{done_tabs, freed_tabs, not_last, set_free}
 use Rattle.rock_writer.specs.Halting.{FreedLast, LeftToOther, Parted as WriterParted, Stayed}
-use Rattle.plain_runs.specs.Words.{IsLone, Knows, ShowsAt, ShowsEntryIf, no_guests, setting_of}
+use Rattle.plain_runs.specs.Words.{IsLone, KnowsLot, Lot, ShowsAt, ShowsEntryIf, no_guests, setting_of}
 use Rattle.plain_runs.proofs.Frames.{SameBut, chain_same, names_same, step_same}
 use Rattle.plain_runs.proofs.OwnAnchors.{OwnsAnchor, mine_lone, owns_lone, pass_stays}
 use Rattle.plain_runs.proofs.PlainWords.{left_over_there, readers_fit}
@@ -100,9 +99,9 @@ module _ (g : Ground (List ℕ)) (rename : ℕ → ℕ) where
   }
 
   -- A tab that is counted leaves: one reader less is counted.
-  pub leave_knows : (v w : View (List ℕ)) (t a n : ℕ) (p : Plain) → Mine g v (Anchor a) → Steps g v (Leave t) n w → anchor_of (tab_at v t) ≡ a → a < g.setting.anchors → Knows g rename v p (guest_at a)
-      → Knows g rename w p no_guests × (n ≡ word_number (renamed_word rename (word_at (setting_of g) p a)) + 1)
-  leave_knows v w t a n p mine st at lt knows = (
+  pub leave_knows : {lot : Lot} (v w : View (List ℕ)) (t a n : ℕ) (p : Plain) → Mine g v (Anchor a) → Steps g v (Leave t) n w → anchor_of (tab_at v t) ≡ a → a < g.setting.anchors → lot.anchors a ≡ true
+      → KnowsLot g rename lot v p (guest_at a) → KnowsLot g rename lot w p no_guests × (n ≡ word_number (renamed_word rename (word_at (setting_of g) p a)) + 1)
+  leave_knows {lot} v w t a n p mine st at lt own knows = (
     knows_all g rename w p no_guests a (but_guests g rename w p (guest_at a) no_guests a (λ b ne. sym (guest_else a b ne))
         (but_step g rename v w (Leave t) n p p (guest_at a) a st is lt (same_else p a) (knows_but g rename v p (guest_at a) a knows))) here,
     found,
@@ -112,40 +111,40 @@ module _ (g : Ground (List ℕ)) (rename : ℕ → ℕ) where
       is = ap (λ z. Some (Anchor z)) at
 
       shown : ShowsAt g rename v p (guest_at a a) a
-      shown = knows.each a lt
+      shown = knows.each a lt own
 
       found : n ≡ word_number (renamed_word rename (word_at (setting_of g) p a)) + 1
       found = found_mine g v w (Leave t) n (Anchor a) st mine is ∙ shown.word ∙ ap (λ z. word_number (renamed_word rename (word_at (setting_of g) p a)) + z) (guest_here a)
 
-      here : a < g.setting.anchors → ShowsAt g rename w p 0 a
-      here lt = record {
+      here : a < g.setting.anchors → lot.anchors a ≡ true → ShowsAt g rename w p 0 a
+      here lt ours = record {
         word = has_left g v w (Leave t) n (Anchor a) (Anchor a) st is refl ∙ (let f = found in omega arith);
         entry = entry_kept v w a (place_at p a).version (entry_at p a) lt (step_same g v w (Leave t) n (Anchor a) st is lt) shown.entry;
       }
 
   -- The entry that a last tab left over is freed, and nobody comes before.
-  pub last_right : IsLone g → (v u w : View (List ℕ)) (t a n : ℕ) (p : Plain) → length p.tabs ≡ 8 → Knows g rename v p no_guests → is_left_over_at p a ≡ true → Steps g v (Evict t a) n u → n ≡ last_find a v.trail → Freed g u w
-      → Knows g rename w (settle a p) no_guests
-  last_right lone v u w t a n p eight knows over st won freed = let o = is_over p a over in subst (λ q. Knows g rename w q no_guests) (sym (settle_gone p a over))
-      (evict_freed g rename lone u w a p no_guests (few_all p no_guests eight (λ b. omega arith)) (evict_leaves g rename v u t a n p no_guests o.entry (mine_lone g lone v (Anchor a)) knows st won o.there o.unread refl) freed)
+  pub last_right : {lot : Lot} → IsLone g → (v u w : View (List ℕ)) (t a n : ℕ) (p : Plain) → length p.tabs ≡ 8 → lot.anchors a ≡ true → KnowsLot g rename lot v p no_guests → is_left_over_at p a ≡ true → Steps g v (Evict t a) n u → n ≡ last_find a v.trail → Freed g u w
+      → KnowsLot g rename lot w (settle a p) no_guests
+  last_right {lot} lone v u w t a n p eight own knows over st won freed = let o = is_over p a over in subst (λ q. KnowsLot g rename lot w q no_guests) (sym (settle_gone p a over))
+      (evict_freed g rename lone u w a p no_guests (few_all p no_guests eight (λ b. omega arith)) (evict_leaves g rename v u t a n p no_guests o.entry (mine_lone g lone v (Anchor a)) own knows st won o.there o.unread refl) freed)
 
   -- what the word of an anchor tells of its entry
-  pub over_known : (v : View (List ℕ)) (a : ℕ) (p : Plain) → length p.tabs ≡ 8 → a < g.setting.anchors → Knows g rename v p no_guests → is_left_over (has g v (Anchor a)) ≡ is_left_over_at p a
-  over_known v a p eight lt knows = left_over_there rename (setting_of g) p 0 a (has g v (Anchor a)) (knows.each a lt).word (readers_fit p a 0 eight (omega arith)) refl
+  pub over_known : {lot : Lot} (v : View (List ℕ)) (a : ℕ) (p : Plain) → length p.tabs ≡ 8 → a < g.setting.anchors → lot.anchors a ≡ true → KnowsLot g rename lot v p no_guests → is_left_over (has g v (Anchor a)) ≡ is_left_over_at p a
+  over_known v a p eight lt own knows = left_over_there rename (setting_of g) p 0 a (has g v (Anchor a)) (knows.each a lt own).word (readers_fit p a 0 eight (omega arith)) refl
 
   -- the pass found its own word there last, where it left one that is left over
   won_there : (v w : View (List ℕ)) (t a n : ℕ) → Mine g v (Anchor a) → Steps g v (Evict t a) n w → last_find a v.trail ≡ has g v (Anchor a) → n ≡ last_find a v.trail
   won_there v w t a n mine st last = found_mine g v w (Evict t a) n (Anchor a) st mine refl ∙ sym last
 
   -- A tab that is counted leaves its anchor, which is its pass's own: of a last one nobody comes before.
-  module _ (v : View (List ℕ)) (t a : ℕ) (p : Plain) (eight : length p.tabs ≡ 8) (own : OwnsAnchor g v.pass a) (counted : is_counted (tab_at v t) ≡ true) (at : anchor_of (tab_at v t) ≡ a) (lt : a < g.setting.anchors)
-      (knows : Knows g rename v p (guest_at a)) where
+  module _ (lot : Lot) (v : View (List ℕ)) (t a : ℕ) (p : Plain) (eight : length p.tabs ≡ 8) (own : OwnsAnchor g v.pass a) (ours : lot.anchors a ≡ true) (counted : is_counted (tab_at v t) ≡ true) (at : anchor_of (tab_at v t) ≡ a) (lt : a < g.setting.anchors)
+      (knows : KnowsLot g rename lot v p (guest_at a)) where
     module _ (u : View (List ℕ)) (n : ℕ) (st : Steps g v (Leave t) n u) where
-      knows_left : Knows g rename u p no_guests
-      knows_left = (leave_knows v u t a n p (own.words v (Anchor a) refl refl) st at lt knows).0
+      knows_left : KnowsLot g rename lot u p no_guests
+      knows_left = (leave_knows v u t a n p (own.words v (Anchor a) refl refl) st at lt ours knows).0
 
       left_is : n - 1 ≡ word_number (renamed_word rename (word_at (setting_of g) p a))
-      left_is = let f = (leave_knows v u t a n p (own.words v (Anchor a) refl refl) st at lt knows).1 in omega arith
+      left_is = let f = (leave_knows v u t a n p (own.words v (Anchor a) refl refl) st at lt ours knows).1 in omega arith
 
       over_is : is_left_over (n - 1) ≡ is_left_over_at p a
       over_is = left_over_there rename (setting_of g) p 0 a (n - 1) (let e = left_is in omega arith) (readers_fit p a 0 eight (omega arith)) refl
@@ -163,8 +162,8 @@ module _ (g : Ground (List ℕ)) (rename : ℕ → ℕ) where
       has_is : has g u (Anchor a) ≡ n - 1
       has_is = has_left g v u (Leave t) n (Anchor a) (Anchor a) st (ap (λ z. Some (Anchor z)) at) refl
 
-    gone_right : (left : Left) (w : View (List ℕ)) → Gone g v t left w → Knows g rename w (settle a p) no_guests
-    gone_right left w h = subst (λ q. Knows g rename w q no_guests) (sym (settle_stays p a (sym (over_is w h.found h.leave) ∙ h.used))) (knows_left w h.found h.leave)
+    gone_right : (left : Left) (w : View (List ℕ)) → Gone g v t left w → KnowsLot g rename lot w (settle a p) no_guests
+    gone_right left w h = subst (λ q. KnowsLot g rename lot w q no_guests) (sym (settle_stays p a (sym (over_is w h.found h.leave) ∙ h.used))) (knows_left w h.found h.leave)
 
     -- the try of a last tab finds the word that the tab left
     try_wins : (left : Left) (w : View (List ℕ)) (h : LeftLast g v t left w) → h.gives_up.found ≡ last_find (anchor_of (tab_at h.middle t)) h.middle.trail
@@ -174,21 +173,21 @@ module _ (g : Ground (List ℕ)) (rename : ℕ → ℕ) where
     no_done : (w : View (List ℕ)) → LeftLast g v t Left.Done w → ⊥
     no_done w h = let e : Left.Done ≡ Left.MustFree = h.gives_up.won.1 (try_wins Left.Done w h) in cc
 
-    pub behind_right : (w : View (List ℕ)) → Leaves g v t Left.Done w → Knows g rename w (settle a p) no_guests
+    pub behind_right : (w : View (List ℕ)) → Leaves g v t Left.Done w → KnowsLot g rename lot w (settle a p) no_guests
     behind_right w (inl h) = absurd (false≢true (sym (not_last (tab_at v t) counted) ∙ h.0))
     behind_right w (inr (off, inl h)) = gone_right Left.Done w h
     behind_right w (inr (off, inr h)) = absurd (no_done w h)
 
-    pub last_freed_right : IsLone g → (m w : View (List ℕ)) → Leaves g v t Left.MustFree m → Freed g m w → Knows g rename w (settle a p) no_guests
+    pub last_freed_right : IsLone g → (m w : View (List ℕ)) → Leaves g v t Left.MustFree m → Freed g m w → KnowsLot g rename lot w (settle a p) no_guests
     last_freed_right lone m w (inl h) freed = absurd (false≢true (sym (not_last (tab_at v t) counted) ∙ h.0))
     last_freed_right lone m w (inr (off, inl h)) freed = absurd (let e : Left.Done ≡ Left.MustFree = sym h.done in cc)
-    last_freed_right lone m w (inr (off, inr h)) freed = subst (λ (b : ℕ). Steps g h.middle (Evict t b) h.gives_up.found m → Knows g rename w (settle a p) no_guests) (sym (tab_left h.middle h.found h.leave h.over))
-        (λ st. last_right lone h.middle m w t a h.gives_up.found p eight (knows_left h.middle h.found h.leave) (sym (over_is h.middle h.found h.leave) ∙ h.over) st
+    last_freed_right lone m w (inr (off, inr h)) freed = subst (λ (b : ℕ). Steps g h.middle (Evict t b) h.gives_up.found m → KnowsLot g rename lot w (settle a p) no_guests) (sym (tab_left h.middle h.found h.leave h.over))
+        (λ st. last_right lone h.middle m w t a h.gives_up.found p eight ours (knows_left h.middle h.found h.leave) (sym (over_is h.middle h.found h.leave) ∙ h.over) st
         (won_there h.middle m t a h.gives_up.found (mine_left h.middle h.found h.leave) st (find_is h.middle h.found h.leave ∙ sym (has_is h.middle h.found h.leave))) freed) h.gives_up.evict
 
   -- What a tab that was counted and left comes to: the plain store is settled at its anchor, and the tab is free.
-  pub record LeavesRight (t a : ℕ) (p : Plain) (v w : View (List ℕ)) : Type 0 where
-    pub knows : Knows g rename w (settle a p) no_guests
+  pub record LeavesRight (lot : Lot) (t a : ℕ) (p : Plain) (v w : View (List ℕ)) : Type 0 where
+    pub knows : KnowsLot g rename lot w (settle a p) no_guests
     pub tabs : w.tabs ≡ with_tab v t Free
     pub free : tab_at w t ≡ Free
     pub inner_free : InnerIsFree w
@@ -199,28 +198,28 @@ module _ (g : Ground (List ℕ)) (rename : ℕ → ℕ) where
   inner_by : (v w : View (List ℕ)) (t : ℕ) → w.tabs ≡ with_tab v t Free → t < inner → InnerIsFree v → InnerIsFree w
   inner_by v w t tabs below free = ap (λ (xs : List (Tab (List ℕ))). is_free (get_or xs inner Free)) tabs ∙ ap is_free (get_or-set_other v.tabs t inner Free Free (λ e. let b = below in omega arith)) ∙ free
 
-  parted_so : (v w : View (List ℕ)) (t a : ℕ) (p : Plain) → t < inner → InnerIsFree v → Knows g rename w (settle a p) no_guests → w.tabs ≡ with_tab v t Free → LeavesRight t a p v w
+  parted_so : {lot : Lot} (v w : View (List ℕ)) (t a : ℕ) (p : Plain) → t < inner → InnerIsFree v → KnowsLot g rename lot w (settle a p) no_guests → w.tabs ≡ with_tab v t Free → LeavesRight lot t a p v w
   parted_so v w t a p below free knows tabs = record { knows = knows; tabs = tabs; free = free_by v w t tabs; inner_free = inner_by v w t tabs below free }
 
-  purged_so : (v w : View (List ℕ)) (a : ℕ) (p : Plain) → Knows g rename w (settle a p) no_guests → w.tabs ≡ with_tab v inner Free → LeavesRight inner a p v w
+  purged_so : {lot : Lot} (v w : View (List ℕ)) (a : ℕ) (p : Plain) → KnowsLot g rename lot w (settle a p) no_guests → w.tabs ≡ with_tab v inner Free → LeavesRight lot inner a p v w
   purged_so v w a p knows tabs = record { knows = knows; tabs = tabs; free = free_by v w inner tabs; inner_free = ap is_free (free_by v w inner tabs) }
 
   -- A tab below the inner one that reads or retreats parts from its anchor.
-  pub parts_right : IsLone g → (v w : View (List ℕ)) (t a : ℕ) (p : Plain) → length p.tabs ≡ 8 → IsPass v → t < inner → InnerIsFree v → is_counted (tab_at v t) ≡ true → anchor_of (tab_at v t) ≡ a → a < g.setting.anchors
-      → Knows g rename v p (guest_at a) → Parted g t v w → LeavesRight t a p v w
-  parts_right lone v w t a p eight pass below free counted at lt knows (inl h) = parted_so v w t a p below free (behind_right v t a p eight (owns_lone g lone v.pass a) counted at lt knows w h.leaves) (done_tabs g t v counted w h.leaves)
-  parts_right lone v w t a p eight pass below free counted at lt knows (inr h) = parted_so v w t a p below free (last_freed_right v t a p eight (owns_lone g lone v.pass a) counted at lt knows lone h.middle w h.leaves h.freed) (freed_tabs g t v counted (inl free) h.middle w h.leaves h.freed)
+  pub parts_right : {lot : Lot} → IsLone g → (v w : View (List ℕ)) (t a : ℕ) (p : Plain) → length p.tabs ≡ 8 → IsPass v → t < inner → InnerIsFree v → is_counted (tab_at v t) ≡ true → anchor_of (tab_at v t) ≡ a → a < g.setting.anchors
+      → lot.anchors a ≡ true → KnowsLot g rename lot v p (guest_at a) → Parted g t v w → LeavesRight lot t a p v w
+  parts_right {lot} lone v w t a p eight pass below free counted at lt ours knows (inl h) = parted_so v w t a p below free (behind_right lot v t a p eight (owns_lone g lone v.pass a) ours counted at lt knows w h.leaves) (done_tabs g t v counted w h.leaves)
+  parts_right {lot} lone v w t a p eight pass below free counted at lt ours knows (inr h) = parted_so v w t a p below free (last_freed_right lot v t a p eight (owns_lone g lone v.pass a) ours counted at lt knows lone h.middle w h.leaves h.freed) (freed_tabs g t v counted (inl free) h.middle w h.leaves h.freed)
 
   -- The inner tab, by which an entry is purged, parts from its anchor.
-  pub purge_parts_right : IsLone g → (v w : View (List ℕ)) (a : ℕ) (p : Plain) → length p.tabs ≡ 8 → is_counted (tab_at v inner) ≡ true → anchor_of (tab_at v inner) ≡ a → a < g.setting.anchors
-      → Knows g rename v p (guest_at a) → Parted g inner v w → LeavesRight inner a p v w
-  purge_parts_right lone v w a p eight counted at lt knows (inl h) = purged_so v w a p (behind_right v inner a p eight (owns_lone g lone v.pass a) counted at lt knows w h.leaves) (done_tabs g inner v counted w h.leaves)
-  purge_parts_right lone v w a p eight counted at lt knows (inr h) = purged_so v w a p (last_freed_right v inner a p eight (owns_lone g lone v.pass a) counted at lt knows lone h.middle w h.leaves h.freed) (freed_tabs g inner v counted (inr refl) h.middle w h.leaves h.freed)
+  pub purge_parts_right : {lot : Lot} → IsLone g → (v w : View (List ℕ)) (a : ℕ) (p : Plain) → length p.tabs ≡ 8 → is_counted (tab_at v inner) ≡ true → anchor_of (tab_at v inner) ≡ a → a < g.setting.anchors
+      → lot.anchors a ≡ true → KnowsLot g rename lot v p (guest_at a) → Parted g inner v w → LeavesRight lot inner a p v w
+  purge_parts_right {lot} lone v w a p eight counted at lt ours knows (inl h) = purged_so v w a p (behind_right lot v inner a p eight (owns_lone g lone v.pass a) ours counted at lt knows w h.leaves) (done_tabs g inner v counted w h.leaves)
+  purge_parts_right {lot} lone v w a p eight counted at lt ours knows (inr h) = purged_so v w a p (last_freed_right lot v inner a p eight (owns_lone g lone v.pass a) ours counted at lt knows lone h.middle w h.leaves h.freed) (freed_tabs g inner v counted (inr refl) h.middle w h.leaves h.freed)
 
   -- A tab raised its entry to an end, and parts from it. It is last exactly where the entry is left over.
-  pub writer_parts_right : IsLone g → (v w : View (List ℕ)) (t a : ℕ) (p : Plain) → length p.tabs ≡ 8 → a < g.setting.anchors → Knows g rename v p no_guests → is_last (tab_at v t) ≡ is_left_over_at p a
-      → (is_last (tab_at v t) ≡ true → (anchor_of (tab_at v t) ≡ a) × (last_find a v.trail ≡ has g v (Anchor a))) → WriterParted g t v w → Knows g rename w (settle a p) no_guests
-  writer_parts_right lone v w t a p eight lt knows same last parted = by_parting parted.parting
+  pub writer_parts_right : {lot : Lot} → IsLone g → (v w : View (List ℕ)) (t a : ℕ) (p : Plain) → length p.tabs ≡ 8 → a < g.setting.anchors → lot.anchors a ≡ true → KnowsLot g rename lot v p no_guests → is_last (tab_at v t) ≡ is_left_over_at p a
+      → (is_last (tab_at v t) ≡ true → (anchor_of (tab_at v t) ≡ a) × (last_find a v.trail ≡ has g v (Anchor a))) → WriterParted g t v w → KnowsLot g rename lot w (settle a p) no_guests
+  writer_parts_right {lot} lone v w t a p eight lt ours knows same last parted = by_parting parted.parting
     where
       tried : (left : Left) (u : View (List ℕ)) → is_last (tab_at v t) ≡ true → (h : TriedToFree g v t left u) → Steps g v (Evict t a) h.found u
       tried left u was h = subst (λ (b : ℕ). Steps g v (Evict t b) h.found u) (last was).0 h.evict
@@ -228,16 +227,16 @@ module _ (g : Ground (List ℕ)) (rename : ℕ → ℕ) where
       wins : (left : Left) (u : View (List ℕ)) → (was : is_last (tab_at v t) ≡ true) → (h : TriedToFree g v t left u) → h.found ≡ last_find (anchor_of (tab_at v t)) v.trail
       wins left u was h = won_there v u t a h.found (mine_lone g lone v (Anchor a)) (tried left u was h) (last was).1 ∙ ap (λ b. last_find b v.trail) (sym (last was).0)
 
-      by_parting : Stayed g t v w ⊎ LeftToOther g t v w ⊎ FreedLast g t v w → Knows g rename w (settle a p) no_guests
-      by_parting (inl h) = subst (λ q. Knows g rename w q no_guests) (sym (settle_stays p a (sym same ∙ h.used))) (subst (λ (z : View (List ℕ)). Knows g rename z p no_guests) (sym h.same) knows)
+      by_parting : Stayed g t v w ⊎ LeftToOther g t v w ⊎ FreedLast g t v w → KnowsLot g rename lot w (settle a p) no_guests
+      by_parting (inl h) = subst (λ q. KnowsLot g rename lot w q no_guests) (sym (settle_stays p a (sym same ∙ h.used))) (subst (λ (z : View (List ℕ)). KnowsLot g rename lot z p no_guests) (sym h.same) knows)
       by_parting (inr (inl h)) = absurd (let e : Left.Done ≡ Left.MustFree = h.gives_up.won.1 (wins Left.Done w h.was h.gives_up) in cc)
-      by_parting (inr (inr h)) = last_right lone v h.middle w t a h.gives_up.found p eight knows (sym same ∙ h.was) (tried Left.MustFree h.middle h.was h.gives_up)
+      by_parting (inr (inr h)) = last_right lone v h.middle w t a h.gives_up.found p eight ours knows (sym same ∙ h.was) (tried Left.MustFree h.middle h.was h.gives_up)
           (won_there v h.middle t a h.gives_up.found (mine_lone g lone v (Anchor a)) (tried Left.MustFree h.middle h.was h.gives_up) (last h.was).1) h.freed
 
   -- the same, of the tab that a step to CLOSED or HALTED left
-  pub raised_parts_right : IsLone g → (u v w : View (List ℕ)) (t a n : ℕ) (to : Stage) (x : Writer (List ℕ)) (p : Plain) → length p.tabs ≡ 8 → Steps g u (Raise t to) n v → (to ≡ stage.Closed) ⊎ (to ≡ stage.Halted) → tab_at u t ≡ Writing x
-      → x.anchor ≡ a → a < g.setting.anchors → Knows g rename v p no_guests → WriterParted g t v w → Knows g rename w (settle a p) no_guests
-  raised_parts_right lone u v w t a n to x p eight st ended is at lt knows parted = writer_parts_right lone v w t a p eight lt knows
+  pub raised_parts_right : {lot : Lot} → IsLone g → (u v w : View (List ℕ)) (t a n : ℕ) (to : Stage) (x : Writer (List ℕ)) (p : Plain) → length p.tabs ≡ 8 → Steps g u (Raise t to) n v → (to ≡ stage.Closed) ⊎ (to ≡ stage.Halted) → tab_at u t ≡ Writing x
+      → x.anchor ≡ a → a < g.setting.anchors → lot.anchors a ≡ true → KnowsLot g rename lot v p no_guests → WriterParted g t v w → KnowsLot g rename lot w (settle a p) no_guests
+  raised_parts_right {lot} lone u v w t a n to x p eight st ended is at lt ours knows parted = writer_parts_right lone v w t a p eight lt ours knows
       (ap is_last tab ∙ last_if (is_left_over left) ∙ over) (λ was. (ap anchor_of tab ∙ anchor_if (is_left_over left) (sym (last_if (is_left_over left)) ∙ ap is_last (sym tab) ∙ was), find ∙ sym left_there)) parted
     where
       left : ℕ
@@ -250,7 +249,7 @@ module _ (g : Ground (List ℕ)) (rename : ℕ → ℕ) where
       left_there = has_left g u v (Raise t to) n (Anchor a) (Anchor a) st (ap (λ z. Some (Anchor z)) at_tab) refl
 
       over : is_left_over left ≡ is_left_over_at p a
-      over = ap is_left_over (sym left_there) ∙ over_known v a p eight lt knows
+      over = ap is_left_over (sym left_there) ∙ over_known v a p eight lt ours knows
 
       find : last_find a v.trail ≡ left
       find = ap (λ (z : View (List ℕ)). last_find a z.trail) st.leaves ∙ (let e = eq-eqb (anchor_of (tab_at u t)) a at_tab in rw e refl)
@@ -272,12 +271,12 @@ module _ (g : Ground (List ℕ)) (rename : ℕ → ℕ) where
       anchor_if false e = absurd (false≢true e)
 
   -- Where no tab is the last user of an entry, none is left over.
-  pub none_left_over : (v : View (List ℕ)) (p : Plain) (a : ℕ) → OwnsAnchor g v.pass a → length p.tabs ≡ 8 → Stands g v → IsPass v → ((t b : ℕ) → tab_at v t ≡ Last b → ⊥) → a < g.setting.anchors → Knows g rename v p no_guests
+  pub none_left_over : {lot : Lot} (v : View (List ℕ)) (p : Plain) (a : ℕ) → OwnsAnchor g v.pass a → length p.tabs ≡ 8 → Stands g v → IsPass v → ((t b : ℕ) → tab_at v t ≡ Last b → ⊥) → a < g.setting.anchors → lot.anchors a ≡ true → KnowsLot g rename lot v p no_guests
       → is_left_over_at p a ≡ false
-  none_left_over v p a own eight st pass no_last lt knows = decide (is_left_over_at p a) refl
+  none_left_over v p a own eight st pass no_last lt ours knows = decide (is_left_over_at p a) refl
     where
       over_there : is_left_over_at p a ≡ true → is_left_over (word st.state a) ≡ true
-      over_there e = ap is_left_over (own.stands v st (Anchor a) refl pass refl lt) ∙ over_known v a p eight lt knows ∙ e
+      over_there e = ap is_left_over (own.stands v st (Anchor a) refl pass refl lt) ∙ over_known v a p eight lt ours knows ∙ e
 
       none : is_left_over_at p a ≡ true → ⊥
       none e = let x = st.rule.sound.anchors.lasts a lt (over_there e) in

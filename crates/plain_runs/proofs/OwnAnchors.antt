@@ -48,13 +48,17 @@ pub record OwnsAnchor (g : Ground (List ℕ)) (pass a : ℕ) : Type 0 where
   -- nobody else changes its word and those beside it
   pub words : (v : View (List ℕ)) (q : Place) → v.pass ≡ pass → IsOfAnchor a q → Mine g v q
   -- a tab that is there finds each link as the pass has it
-  pub links : (v w : View (List ℕ)) (t slot n : ℕ) → v.pass ≡ pass → anchor_of (tab_at v t) ≡ a → Steps g v (GetLink t slot) n w → n ≡ has g v (Link slot)
+  pub links : (v w : View (List ℕ)) (t slot n : ℕ) → v.pass ≡ pass → anchor_of (tab_at v t) ≡ a → Steps g v (GetLink t slot) n w
+      → n ≡ has g v (Link slot)
   -- where the pass stands in a state, its words there are as the pass has them
-  pub stands : (v : View (List ℕ)) (st : Stands g v) (q : Place) → v.pass ≡ pass → IsPass v → IsOfAnchor a q → IsPlace g.setting q → word_in g.setting st.state.words q ≡ has g v q
+  pub stands : (v : View (List ℕ)) (st : Stands g v) (q : Place) → v.pass ≡ pass → IsPass v → IsOfAnchor a q → IsPlace g.setting q
+      → word_in g.setting st.state.words q ≡ has g v q
   -- each tab there is one of it
-  pub tabs : (v : View (List ℕ)) (st : Stands g v) (j t : ℕ) (tab : Tab (List ℕ)) → v.pass ≡ pass → IsPass v → IsTab st.state j t tab → is_free tab ≡ false → anchor_of tab ≡ a → (j ≡ st.index) × (get_elem? v.tabs t ≡ some tab)
+  pub tabs : (v : View (List ℕ)) (st : Stands g v) (j t : ℕ) (tab : Tab (List ℕ)) → v.pass ≡ pass → IsPass v → IsTab st.state j t tab
+      → is_free tab ≡ false → anchor_of tab ≡ a → (j ≡ st.index) × (get_elem? v.tabs t ≡ some tab)
   -- and what it has spells the chain, where the Start word names the first slot
-  pub spelled : (v : View (List ℕ)) (st : Stands g v) → v.pass ≡ pass → IsPass v → a < g.setting.anchors → has g v (Beside Start a) ≡ start_number (chain_of st.state a).slots
+  pub spelled : (v : View (List ℕ)) (st : Stands g v) → v.pass ≡ pass → IsPass v → a < g.setting.anchors
+      → has g v (Beside Start a) ≡ start_number (chain_of st.state a).slots
       → IsSpelled (has g v (Beside Start a)) (link_known g v) (chain_of st.state a).slots (chain_of st.state a).end
 
 -- in a store with one pass each anchor is its own
@@ -68,10 +72,12 @@ owns_lone g lone pass a = record {
 }
 
 -- What spells the chain of an entry at such an anchor of which slots are published spells the chain that stands there.
-pub own_chain : (g : Ground (List ℕ)) (v : View (List ℕ)) (a : ℕ) → OwnsAnchor g v.pass a → (st : Stands g v) → IsPass v → a < g.setting.anchors → (e : Entry) (h : HasChain g v a e)
-    → 2 ≤ stage_of (epoch_of (word st.state a)) → stage_of (epoch_of (word st.state a)) ≤ 4 → (h.slots ≡ (chain_of st.state a).slots) × (h.end ≡ (chain_of st.state a).end)
-own_chain g v a own st nine lt e h least most = spelled_once (link_known g v) (has g v (Beside Start a)) h.slots (chain_of st.state a).slots h.end (chain_of st.state a).end h.spelled
-    (own.spelled v st refl nine lt starts)
+pub own_chain : (g : Ground (List ℕ)) (v : View (List ℕ)) (a : ℕ) → OwnsAnchor g v.pass a → (st : Stands g v) → IsPass v
+    → a < g.setting.anchors → (e : Entry) (h : HasChain g v a e) → 2 ≤ stage_of (epoch_of (word st.state a)) → stage_of (epoch_of (word st.state a)) ≤ 4
+    → (h.slots ≡ (chain_of st.state a).slots) × (h.end ≡ (chain_of st.state a).end)
+own_chain g v a own st nine lt e h least most = spelled_once (link_known g v) (has g v (Beside Start a))
+    h.slots (chain_of st.state a).slots h.end (chain_of st.state a).end h.spelled (own.spelled v st refl nine lt starts)
   where
     starts : has g v (Beside Start a) ≡ start_number (chain_of st.state a).slots
-    starts = sym (told_in g.setting.anchors a _ lt ∙ own.stands v st (Beside Start a) refl nine refl lt) ∙ chain_starts g st.state st.rule a lt least most
+    starts = sym (told_in g.setting.anchors a _ lt ∙ own.stands v st (Beside Start a) refl nine refl lt)
+        ∙ chain_starts g st.state st.rule a lt least most

@@ -1,24 +1,21 @@
 -- Which words a tab changes that writes: at its own anchor, and the links of slots that it reserved.
-use Rattle.std.proofs.Common.{Bool, Contains, List, None, Option, Some, [], ap, arith, false, inl, inr, length, ne_eqb, refl, subst, sym, true, ◌+◌, ◌++◌, ◌-◌, ◌*◌, ◌<◌, ◌∙◌, ◌≡◌, ◌≢◌, ◌≤◌, ◌⊎◌, ◌∷◌, ℕ}
+use Rattle.std.proofs.Common.{Bool, Contains, List, Option, Some, [], ap, arith, inl, inr, length, ne_eqb, refl, subst, sym, ◌+◌, ◌++◌, ◌-◌, ◌<◌, ◌∙◌, ◌≡◌, ◌≢◌, ◌≤◌, ◌⊎◌, ◌∷◌, ℕ}
 use mathlib.Core.Logic.{dite}
-use mathlib.Core.Option.{some}
 use native.Mathlib.Decide.{ℕ_discrete}
-use lib.ListN.{get_elem?}
 use Rattle.entry_cut.specs.Content.{room_of}
 use Rattle.link_word.specs.declared.link.Link.{Link as LinkOf}
 use Rattle.link_word.specs.declared.link.Link.TheVariants.{Last as LastLink, Next, NotWritten}
-use Rattle.lock_word.specs.Words.{epoch_of, raised, stage_number, stage_of, word_number}
+use Rattle.lock_word.specs.Words.{epoch_of, raised, stage_number, stage_of}
 use Rattle.lock_word.specs.declared.stage.Stage.{Stage}
-use Rattle.core_model.specs.Chains.{Fits, rest_of, slots_of_link, start_number}
+use Rattle.core_model.specs.Chains.{Fits, slots_of_link, start_number}
 use Rattle.core_model.specs.Deeds.{mirrored}
-use Rattle.core_model.specs.Layout.{IsPlace, Setting, index}
+use Rattle.core_model.specs.Layout.{index}
 use Rattle.core_model.specs.SlotMoves.{publishes}
 use Rattle.core_model.specs.Slots.{WriterHolds, slot_words}
 use Rattle.core_model.specs.State.{chain_of}
 use Rattle.core_model.specs.Table.{left_by, place}
 use Rattle.core_model.specs.Tabs.{IsPass, anchor_of, inner, tab_at}
 use Rattle.core_model.specs.declared.chain.Chain.{Chain}
-use Rattle.core_model.specs.declared.moves.Move.{Move}
 use Rattle.core_model.specs.declared.moves.Move.TheVariants.{EndTurn, Publish, Raise, StoreSide, TryTurn, LogPiece}
 use Rattle.core_model.specs.declared.moves.Then.TheVariants.{Stays}
 use Rattle.core_model.specs.declared.moves.Side.{Side}
@@ -28,7 +25,7 @@ use Rattle.core_model.specs.declared.tab.Tab.{Tab}
 use Rattle.core_model.specs.declared.tab.Tab.TheVariants.{Free, Freeing, Last, Reading, Retreating, Writing}
 use Rattle.core_model.specs.declared.tab.Writer.{Writer}
 use Rattle.core_model.specs.declared.view.Place.{Place}
-use Rattle.core_model.specs.declared.view.Place.TheVariants.{Anchor, Beside, Counter, Link, Turn}
+use Rattle.core_model.specs.declared.view.Place.TheVariants.{Anchor, Beside, Counter, Link}
 use Rattle.core_model.specs.declared.view.View.{View}
 use Rattle.core_model.proofs.Lists.{contains_none}
 use Rattle.core_model.proofs.Tabs.{tab_there}
@@ -49,9 +46,9 @@ use Rattle.slice_chain.specs.Links.{Published, next_link}
 use Rattle.slice_chain.specs.Writes.{WroteSlot}
 use Rattle.rock_writer.proofs.Resting.{tab_now}
 use Rattle.rock_writer.proofs.Standing as standing
-use Rattle.plain_runs.specs.Words.{EndsSo, HasChain, HasNames, IsLone, Knows, ShowsAt, ShowsEntry, ShowsEntryIf, no_guests, setting_of, slots_published}
+use Rattle.plain_runs.specs.Words.{EndsSo, HasChain, HasNames, IsLone, ShowsAt, no_guests, setting_of, slots_published}
 use Rattle.plain_runs.proofs.Chains as told
-use Rattle.plain_runs.proofs.Frames.{LeavesAlone, SameBut, names_same, same_on, same_weaker, step_same, step_same_turn, step_same_log}
+use Rattle.plain_runs.proofs.Frames.{SameBut, same_on, same_weaker, step_same, step_same_turn, step_same_log}
 use Rattle.plain_runs.proofs.Freeing.{KnowsBut, SameElse, but_moved}
 use Rattle.plain_runs.proofs.PlainWords.{readers_fit, stage_there}
 
@@ -213,10 +210,10 @@ module _ (g : Ground (List ℕ)) where
     pub touched_but : IsLone g → (v w : View (List ℕ)) (t slot : ℕ) (x : Writer (List ℕ)) (p q : Plain) → Stands g v → IsPass v → t < inner → tab_at v t ≡ Writing x → Contains x.reserved slot → SameBut g v w (Touched x.anchor slot)
         → SameElse p q x.anchor → length p.tabs ≡ 8 → KnowsBut g rename v p no_guests x.anchor → KnowsBut g rename w q no_guests x.anchor
     touched_but lone v w t slot x p q st pass below is reserved same other eight h = but_moved g rename v w (Touched x.anchor slot) p q no_guests x.anchor same other no_counter
-        (λ b lt ne. record {
+        (λ b lt mine ne. record {
           word = λ c. ne (only_anchor x.anchor slot b c);
           sides = λ side c. ne (only_start x.anchor slot b side c).0;
-          links = λ e there chain j c k. reserved_apart v t x p 0 b (owns_lone g lone v.pass b) st pass below is lt (λ z. ne (sym z)) (h.each b lt ne) (readers_fit p b 0 eight (omega arith)) e there chain j c
+          links = λ e there chain j c k. reserved_apart v t x p 0 b (owns_lone g lone v.pass b) st pass below is lt (λ z. ne (sym z)) (h.each b lt mine ne) (readers_fit p b 0 eight (omega arith)) e there chain j c
               (subst (λ (z : ℕ). Contains x.reserved z) (sym (only_link x.anchor slot j k)) reserved);
         }) h
       where

@@ -1,5 +1,5 @@
 -- What a reading call does changes no word of which the plain store knows: it looks and loads, and takes and ends turns.
-use Rattle.std.proofs.Common.{Bool, List, Some, ap, arith, get_or-set_same, inl, inr, refl, subst, sym, true, false, ◌+◌, ◌<◌, ◌∙◌, ◌∷◌, ◌≡◌, ◌⊎◌, [], ℕ}
+use Rattle.std.proofs.Common.{Bool, List, Some, ap, arith, get_or-set_same, inl, inr, refl, subst, sym, true, false, ◌+◌, ◌∙◌, ◌∷◌, ◌≡◌, ◌⊎◌, [], ℕ}
 use mathlib.Core.Logic.{dite}
 use native.Mathlib.Decide.{ℕ_discrete}
 use Rattle.lock_word.specs.declared.epoch.Epoch.{Epoch}

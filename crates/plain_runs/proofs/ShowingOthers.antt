@@ -1,7 +1,8 @@
 -- Tabs that a request does not use are shown still.
 use Rattle.std.proofs.Common.{Bool, Contains, List, None, Option, Some, ap, arith, false, inl, inr, length, nat_lt, not, refl, subst, sym, true, ◌+◌, ◌-◌, ◌<◌, ◌≤◌, ◌∙◌, ◌≡◌, ◌≢◌, ◌⊎◌, ◌∷◌, ℕ, zero, suc, eq-eqb, ne_eqb}
+use Rattle.std.proofs.lemmas.Bool.{false≢true}
 use mathlib.Core.Logic.{dite}
-use mathlib.Core.Option.{some, some-injective}
+use mathlib.Core.Option.{some}
 use native.Mathlib.Decide.{ℕ_discrete}
 use lib.ListN.{get_elem?}
 use Rattle.std.specs.Str.{bytes_eq}
@@ -11,19 +12,13 @@ use Rattle.lock_word.specs.Words.{stage_number}
 use Rattle.store_key.specs.Key.{key_of}
 use Rattle.rebuild_model.specs.Entry.{Entry as FileEntry, IsComplete}
 use Rattle.core_model.specs.Anchors.{IsReadAt}
-use Rattle.core_model.specs.Holders.{IsTab}
 use Rattle.core_model.specs.Layout.{word_in}
-use Rattle.core_model.specs.State.{State, word}
-use Rattle.core_model.specs.Tabs.{inner, tab_at as view_tab}
+use Rattle.core_model.specs.State.{word}
 use Rattle.core_model.specs.declared.moves.Side.TheVariants.{Offer}
-use Rattle.core_model.specs.declared.tab.Reader.{Reader}
 use Rattle.core_model.specs.declared.tab.Tab.TheVariants as tab
 use Rattle.core_model.specs.declared.view.Place.TheVariants as place
-use Rattle.core_model.specs.declared.view.View.{View}
 use Rattle.core_model.proofs.Matching.{one_writer}
 use Rattle.plain_model.specs.declared.entry.Entry.{Entry}
-use Rattle.plain_model.specs.declared.entry.Life.TheVariants.{Growing}
-use Rattle.plain_model.specs.declared.entry.Place.{Place as PlaceOf}
 use Rattle.plain_model.specs.declared.store.Plain.{Plain}
 use Rattle.plain_model.specs.declared.store.Tab.{Tab}
 use Rattle.plain_model.specs.declared.store.Tab.TheVariants.{Free, Reading, Writing}
@@ -31,7 +26,7 @@ use Rattle.plain_model.specs.Store.{entry_at, place_at, readers, stage_of as sta
 use Rattle.plain_laws.specs.Holding.{IsGrowing}
 use Rattle.store_rule.specs.declared.store.Pass.{Pass}
 use Rattle.store_rule.specs.declared.store.Store.{Store}
-use Rattle.store_rule.specs.Ground.{Ground, Offers, Rule}
+use Rattle.store_rule.specs.Ground.{Ground, Offers}
 use Rattle.store_rule.specs.Passes.{IsOf, basis, view}
 use Rattle.store_rule.specs.Told.{Stands}
 use Rattle.store_rule.proofs.Passing.{pass_of}
@@ -39,8 +34,7 @@ use Rattle.store_rule.specs.Words.{has}
 use Rattle.slice_chain.specs.Victims.{hand_in}
 use Rattle.rock_reader.specs.Reading.{ReadsAs, Standing}
 use Rattle.rock_reader.specs.Responses.{IsOpened, IsResponse, body_below}
-use Rattle.rock_writer.specs.Entries.{WritesAs}
-use Rattle.store_serve.specs.Tabs.{IsFree, Leaves}
+use Rattle.store_serve.specs.Tabs.{Leaves}
 use Rattle.worker_shelf.proofs.Holding.{Stays}
 use Rattle.plain_runs.specs.Words.{IsLone, IsOfOffer, Knows, ShowsEntry, ShowsEntryIf, no_guests, setting_of}
 use Rattle.plain_runs.specs.Shows.{Shows, ShowsReading, ShowsTab, ShowsWriting}
@@ -90,13 +84,13 @@ module _ {C O : Type 0} (tells : Bool) (state : C → CellState) (offers : O →
     anchor_word a owns lt = owns.stands (view q) st (place.Anchor a) refl (pass_of q) refl lt
 
     stage_known : (a : ℕ) → OwnsAnchor g (view q).pass a → a < g.setting.anchors → stage_of (epoch_of (word st.state a)) ≡ stage_number (stage_in (setting_of g).room (place_at p' a).version (entry_at p' a))
-    stage_known a owns lt = stage_there rename (setting_of g) p' 0 a (word st.state a) (anchor_word a owns lt ∙ (knows.each a lt).word) (few a)
+    stage_known a owns lt = stage_there rename (setting_of g) p' 0 a (word st.state a) (anchor_word a owns lt ∙ (knows.each a lt refl).word) (few a)
 
     version_known : (a : ℕ) → OwnsAnchor g (view q).pass a → a < g.setting.anchors → version_of (epoch_of (word st.state a)) ≡ rename (place_at p' a).version
-    version_known a owns lt = version_there rename (setting_of g) p' 0 a (word st.state a) (anchor_word a owns lt ∙ (knows.each a lt).word) (few a)
+    version_known a owns lt = version_there rename (setting_of g) p' 0 a (word st.state a) (anchor_word a owns lt ∙ (knows.each a lt refl).word) (few a)
 
     pub some_entry : (a : ℕ) → OwnsAnchor g (view q).pass a → a < g.setting.anchors → 2 ≤ stage_of (epoch_of (word st.state a)) → stage_of (epoch_of (word st.state a)) ≤ 4 → (e : Entry) × (entry_at p' a ≡ Some e) × ShowsEntry g (view q) a (place_at p' a).version e
-    some_entry a owns lt least most = of_entry (entry_at p' a) refl ((knows.each a lt).entry)
+    some_entry a owns lt least most = of_entry (entry_at p' a) refl ((knows.each a lt refl).entry)
       where
         no_stage : (version : ℕ) → stage_number (stage_in (setting_of g).room version None) ≢ 0 → 5 ≤ stage_number (stage_in (setting_of g).room version None)
         no_stage version ne = dite (ℕ_discrete version 0) (λ e. absurd (ne (empty e))) (λ other. gone other)
@@ -178,13 +172,14 @@ module _ {C O : Type 0} (tells : Bool) (state : C → CellState) (offers : O →
     knows = served.knows;
     hand = served.hand;
     eight = keeps.eight ∙ h.eight;
-    tabs = λ j lt. dite (ℕ_discrete j t)
+    tabs = λ j lt own. dite (ℕ_discrete j t)
         (λ e. subst (λ (n : ℕ). ShowsTab tells state offers s rename q p' n (tab_at p' n)) (sym e) served.tab)
-        (λ ne. subst (ShowsTab tells state offers s rename q p' j) (sym (keeps.tabs j ne)) (other j ne lt (tab_at p j) refl (h.tabs j lt)));
+        (λ ne. subst (ShowsTab tells state offers s rename q p' j) (sym (keeps.tabs j ne)) (other j ne lt (tab_at p j) refl (h.tabs j lt own)));
+    away = λ j lt no. absurd (false≢true (sym no));
   }
     where
       old : (a : ℕ) (e : Entry) → a < g.setting.anchors → entry_at p a ≡ Some e → IsOfOffer g a e
-      old a e lt is = (subst (ShowsEntryIf g (view pass) a (place_at p a).version) is (h.knows.each a lt).entry).offer
+      old a e lt is = (subst (ShowsEntryIf g (view pass) a (place_at p a).version) is (h.knows.each a lt refl).entry).offer
 
       eight : length p'.tabs ≡ 8
       eight = keeps.eight ∙ h.eight
@@ -196,7 +191,7 @@ module _ {C O : Type 0} (tells : Bool) (state : C → CellState) (offers : O →
           grows = subst IsGrowing (sym w.there) w.grows
 
           apart : IsOwn t p a → ⊥
-          apart own = ne (sym (writers_apart pass p t j a (subst (ShowsTab tells state offers s rename pass p t) own (h.tabs t below)) w))
+          apart own = ne (sym (writers_apart pass p t j a (subst (ShowsTab tells state offers s rename pass p t) own (h.tabs t below refl)) w))
 
       other : (j : ℕ) → j ≢ t → j < 8 → (x : Tab) → tab_at p j ≡ x → ShowsTab tells state offers s rename pass p j (tab_at p j) → ShowsTab tells state offers s rename q p' j x
       other j ne lt Free is shown = leaves.others j ne (λ e. let z = e in omega arith) ∙ subst (ShowsTab tells state offers s rename pass p j) is shown

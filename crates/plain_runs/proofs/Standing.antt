@@ -49,20 +49,20 @@ module _ (g : Ground (List ℕ)) (v : View (List ℕ)) (st : Stands g v) (pass :
 
   pub stage_is : stage_of (epoch_of (word s a)) ≡ 3
   stage_is = ap (λ (n : ℕ). stage_of (epoch_of n)) word_there
-      ∙ stage_there (λ v. v) (setting_of g) p 0 a (has g v (Anchor a)) (knows.each a lt).word (readers_fit p a 0 eight (omega arith))
+      ∙ stage_there (λ v. v) (setting_of g) p 0 a (has g v (Anchor a)) (knows.each a lt refl).word (readers_fit p a 0 eight (omega arith))
       ∙ ap (λ (o : Option Entry). stage_number (stage_of_place (room_of g.slot) (place_at p a).version o)) there
       ∙ ap (λ (life : Life). stage_number (stage_of_entry (room_of g.slot) life e.content)) whole
 
   pub version_stands : version_of (epoch_of (word s a)) ≡ (place_at p a).version
   version_stands = ap (λ (n : ℕ). version_of (epoch_of n)) word_there
-      ∙ version_there (λ v. v) (setting_of g) p 0 a (has g v (Anchor a)) (knows.each a lt).word (readers_fit p a 0 eight (omega arith))
+      ∙ version_there (λ v. v) (setting_of g) p 0 a (has g v (Anchor a)) (knows.each a lt refl).word (readers_fit p a 0 eight (omega arith))
 
   doom_stands : doom_of (epoch_of (word s a)) ≡ doom_number (place_at p a).doom
   doom_stands = ap (λ (n : ℕ). doom_of (epoch_of n)) word_there
-      ∙ doom_there (λ v. v) (setting_of g) p 0 a (has g v (Anchor a)) (knows.each a lt).word (readers_fit p a 0 eight (omega arith))
+      ∙ doom_there (λ v. v) (setting_of g) p 0 a (has g v (Anchor a)) (knows.each a lt refl).word (readers_fit p a 0 eight (omega arith))
 
   pub entry_shown : ShowsEntry g v a (place_at p a).version e
-  entry_shown = subst (ShowsEntryIf g v a (place_at p a).version) there (knows.each a lt).entry
+  entry_shown = subst (ShowsEntryIf g v a (place_at p a).version) there (knows.each a lt refl).entry
 
   pub offer_stands : side_word g.setting s Offer a ≡ e.offer
   offer_stands = own.stands v st (Beside Offer a) refl pass refl lt ∙ entry_shown.names.offer
