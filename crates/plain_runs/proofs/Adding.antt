@@ -1,13 +1,12 @@
 -- Bytes that a call adds to the entry that a tab writes, in the store and in the plain store.
-use Rattle.std.proofs.Common.{Bool, List, None, Option, Some, [], ap, arith, cond, false, inl, inr, length, ne_eqb, refl, subst, sym, true, ◌*◌, ◌+◌, ◌-◌, ◌<◌, ◌∙◌, ◌≡◌, ◌≢◌, ◌≤◌, ◌⊎◌, ◌∷◌, ℕ}
-use Rattle.std.specs.Prelude.{min, ◌==◌}
+use Rattle.std.proofs.Common.{Bool, List, None, Some, [], ap, arith, cond, inl, inr, length, ne_eqb, refl, subst, sym, ◌*◌, ◌+◌, ◌-◌, ◌<◌, ◌∙◌, ◌≡◌, ◌≢◌, ◌≤◌, ◌⊎◌, ◌∷◌, ℕ}
+use Rattle.std.specs.Prelude.{◌==◌}
 use Rattle.lock_word.specs.declared.stage.Stage.{Stage}
 use Rattle.lock_word.specs.declared.stage.Stage.TheVariants as stage
 use Rattle.rock_disk.specs.Cell.{CellState}
 use Rattle.entry_cut.specs.Content.{room_of}
 use Rattle.core_model.specs.Chains.{slots_of_link}
-use Rattle.core_model.specs.Tabs.{inner, tab_at}
-use Rattle.core_model.specs.declared.tab.Tab.TheVariants.{Writing}
+use Rattle.core_model.specs.Tabs.{tab_at}
 use Rattle.core_model.specs.declared.view.Place.TheVariants.{Anchor}
 use Rattle.core_model.specs.declared.view.View.{View}
 use Rattle.plain_model.specs.declared.entry.Entry.{Entry}
@@ -24,9 +23,8 @@ use Rattle.plain_laws.proofs.Filling.{resized_there}
 use Rattle.store_rule.specs.Calls.{Others}
 use Rattle.store_rule.specs.Words.{has}
 use Rattle.store_rule.proofs.OtherTabs.{others_go_on}
-use Rattle.rock_writer.specs.Appending.{Appended, IsFull, TookBehind, TookHere, TookNone, place_of, room_in}
+use Rattle.rock_writer.specs.Appending.{TookBehind, TookHere, TookNone, place_of, room_in}
 use Rattle.rock_writer.specs.Entries.{Entry as Writing_, WritesAs, body_in, size_of, url_in, with_taken, writer_as}
-use Rattle.rock_writer.specs.Flushing.{IsAtLimit}
 use Rattle.rock_writer.proofs.Resting.{open_end}
 use Rattle.rock_writer.proofs.Sizes.{next_room}
 use Rattle.store_rule.specs.declared.store.Pass.{Pass}
@@ -40,6 +38,7 @@ use Rattle.plain_runs.specs.Words.{HasChain, HasNames, IsLone, IsOfOffer, Knows,
 use Rattle.plain_runs.proofs.Flushing.{HasFlushed, entry_shown, flushed_right, knows_grown, resized_at, resized_offer, staged, word_staged}
 use Rattle.plain_runs.proofs.Freeing.{KnowsBut, knows_but}
 use Rattle.plain_runs.proofs.Growth.{append_behind, append_here, append_on, published_is}
+use Rattle.plain_runs.proofs.OwnAnchors.{owns_lone}
 use Rattle.plain_runs.proofs.Published.{anchor_there, chain_of_tab}
 use Rattle.plain_runs.proofs.Reserving.{IsReadied, quiet_on}
 
@@ -71,14 +70,14 @@ module _ {C O : Type 0} (tells : Bool) (state : C → CellState) (offers : O →
     level_is = published_is room (length w.published) (size_of g e) (let d = w.drafts.count in let k = w.drafts.least in omega arith) (let d = w.drafts.count in let k = w.drafts.within in omega arith)
 
     pub writer_there : e.anchor < g.setting.anchors
-    writer_there = anchor_there g lone (view pass) t (writer_as g e w.published w.end (slots_of_link w.end)) w.rests.own.stands (pass_of pass) w.rests.below w.rests.is
+    writer_there = anchor_there g (view pass) t (writer_as g e w.published w.end (slots_of_link w.end)) w.rests.own.stands (pass_of pass) w.rests.below w.rests.is
 
   -- what is known of the anchor, with another size of the entry
   module _ (q : Pass C) (p : Plain) (e : Writing_) (w : WritesAs tells state offers st q t e) (x : Entry) (there : entry_at p e.anchor ≡ Some x) (grows : x.life ≡ Growing) where
     pub regrown : (c : ℕ) (k : Stage) → size_of g e ≡ c → KnowsBut g rename (view q) p no_guests e.anchor → has g (view q) (Anchor e.anchor) ≡ staged rename p e.anchor k → stage_of_entry room Growing c ≡ k
         → HasNames g (view q) e.anchor x → IsOfOffer g e.anchor (record x { content = c }) → 0 < (place_at p e.anchor).version → Knows g rename (view q) (resize e.anchor c p) no_guests
-    regrown c k size but word is names offer drawn = knows_grown g lone rename (view q) p e.anchor c x k but there grows word is names
-        (chain_of_tab g lone (view q) t (writer_as g e w.published w.end (slots_of_link w.end)) (record x { content = c }) w.rests.own.stands (pass_of q) w.rests.below w.rests.is refl many ends) offer drawn
+    regrown c k size but word is names offer drawn = knows_grown g rename (view q) p e.anchor c x k but there grows word is names
+        (chain_of_tab g (view q) t (writer_as g e w.published w.end (slots_of_link w.end)) (record x { content = c }) (owns_lone g lone (view q).pass e.anchor) w.rests.own.stands (pass_of q) w.rests.below w.rests.is refl many ends) offer drawn
       where
         many : length w.published ≡ Rattle.plain_runs.specs.Words.slots_published room x.life c
         many = sym (level_is q e w) ∙ (ap (published room) size ∙ ap (λ (l : Life). Rattle.plain_runs.specs.Words.slots_published room l c) (sym grows))
@@ -91,7 +90,7 @@ module _ {C O : Type 0} (tells : Bool) (state : C → CellState) (offers : O →
     lt = writer_there pass e h.writes
 
     shown_at : ShowsAt g rename (view pass) p 0 e.anchor
-    shown_at = ready.knows.each e.anchor lt
+    shown_at = ready.knows.each e.anchor lt refl
 
     shown : ShowsEntry g (view pass) e.anchor (place_at p e.anchor).version x
     shown = entry_shown g rename (view pass) p e.anchor shown_at x h.there

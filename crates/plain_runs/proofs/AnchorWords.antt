@@ -1,5 +1,5 @@
 -- The word of one anchor changes: a tab comes to it, an entry is doomed, and who comes or goes is counted with the tabs of the plain store.
-use Rattle.std.proofs.Common.{Bool, List, Some, ap, arith, cond, eq-eqb, false, get_or-set_same, length, ne_eqb, refl, subst, suc, sym, zero, ◌*◌, ◌+◌, ◌<◌, ◌∙◌, ◌≡◌, ◌≢◌, ℕ}
+use Rattle.std.proofs.Common.{Bool, List, Some, ap, arith, cond, eq-eqb, false, get_or-set_same, length, ne_eqb, refl, subst, suc, sym, true, zero, ◌*◌, ◌+◌, ◌<◌, ◌∙◌, ◌≡◌, ◌≢◌, ℕ}
 use Rattle.lock_word.specs.Words.{doom_number, doom_of, doomed, epoch_number, epoch_of, word_number}
 use Rattle.lock_word.specs.declared.epoch.Epoch.{Epoch}
 use Rattle.lock_word.proofs.Dooming.{doomed-undoomed}
@@ -21,8 +21,9 @@ use Rattle.plain_model.specs.Store.{entry_at, place_at, reads_at, readers, tab_a
 use Rattle.plain_laws.specs.Renaming.{renamed_epoch, renamed_word}
 use Rattle.store_rule.specs.Ground.{Ground}
 use Rattle.store_rule.specs.Told.{Steps}
+use Rattle.store_rule.specs.Words.{Mine}
 use Rattle.store_rule.proofs.AddingUp.{found_mine, has_left}
-use Rattle.plain_runs.specs.Words.{IsLone, Knows, ShowsAt, ShowsEntryIf, no_guests, setting_of}
+use Rattle.plain_runs.specs.Words.{KnowsLot, Lot, ShowsAt, ShowsEntryIf, no_guests, setting_of}
 use Rattle.plain_runs.proofs.Frames.{same_none, step_same}
 use Rattle.plain_runs.proofs.Freeing.{SameElse, but_guests, but_moved, but_step, knows_all, knows_but, put_else, same_else}
 use Rattle.plain_runs.proofs.LeftTabs.{entry_kept, guest_at, guest_else, guest_here}
@@ -30,17 +31,17 @@ use Rattle.plain_runs.proofs.PlainWords.{doom_there, epoch_counted, readers_put}
 
 module _ (g : Ground (List ℕ)) (rename : ℕ → ℕ) where
   -- a tab came to the anchor
-  pub enter_knows : IsLone g → (v w : View (List ℕ)) (p : Plain) (t a n : ℕ) → Knows g rename v p no_guests → Steps g v (Enter t a) n w → Knows g rename w p (guest_at a)
-  enter_knows lone v w p t a n k st = knows_all g rename w p (guest_at a) a (but_guests g rename w p no_guests (guest_at a) a (λ b ne. guest_else a b ne)
+  pub enter_knows : {lot : Lot} (v w : View (List ℕ)) (p : Plain) (t a n : ℕ) → Mine g v (Anchor a) → KnowsLot g rename lot v p no_guests → Steps g v (Enter t a) n w → KnowsLot g rename lot w p (guest_at a)
+  enter_knows {lot} v w p t a n mine k st = knows_all g rename w p (guest_at a) a (but_guests g rename w p no_guests (guest_at a) a (λ b ne. guest_else a b ne)
       (but_step g rename v w (Enter t a) n p p no_guests a st refl st.may.allowed.0 (same_else p a) (knows_but g rename v p no_guests a k))) here
     where
       one_more : n ≡ word_number (renamed_word rename (word_at (setting_of g) p a)) + 0 → n + 1 ≡ word_number (renamed_word rename (word_at (setting_of g) p a)) + guest_at a a
       one_more e = let one = guest_here a in omega arith
 
-      here : a < g.setting.anchors → ShowsAt g rename w p (guest_at a a) a
-      here lt = record {
-        word = has_left g v w (Enter t a) n (Anchor a) (Anchor a) st refl refl ∙ one_more (found_mine g v w (Enter t a) n (Anchor a) st lone refl ∙ (k.each a lt).word);
-        entry = entry_kept g rename v w a (place_at p a).version (entry_at p a) lt (step_same g v w (Enter t a) n (Anchor a) st refl lt) (k.each a lt).entry;
+      here : a < g.setting.anchors → lot.anchors a ≡ true → ShowsAt g rename w p (guest_at a a) a
+      here lt own = record {
+        word = has_left g v w (Enter t a) n (Anchor a) (Anchor a) st refl refl ∙ one_more (found_mine g v w (Enter t a) n (Anchor a) st mine refl ∙ (k.each a lt own).word);
+        entry = entry_kept g rename v w a (place_at p a).version (entry_at p a) lt (step_same g v w (Enter t a) n (Anchor a) st refl lt) (k.each a lt own).entry;
       }
 
   -- the word of an anchor, with another number of readers
@@ -62,10 +63,10 @@ module _ (g : Ground (List ℕ)) (rename : ℕ → ℕ) where
       entry = subst (λ (x : PlaceOf). ShowsEntryIf g v a x.version x.entry) (sym there) h.entry;
     }
 
-    pub counted_knows : Knows g rename v p guests → Knows g rename v q more
+    pub counted_knows : {lot : Lot} → KnowsLot g rename lot v p guests → KnowsLot g rename lot v q more
     counted_knows k = knows_all g rename v q more a (but_guests g rename v q guests more a others
-        (but_moved g rename v v (λ z. ⊥) p q guests a (same_none g v (λ z. ⊥)) s (λ none. none) (λ b lt ne. record { word = λ none. none; sides = λ side none. none; links = λ e x chain j c none. none }) (knows_but g rename v p guests a k)))
-        (λ lt. here_too (k.each a lt))
+        (but_moved g rename v v (λ z. ⊥) p q guests a (same_none g v (λ z. ⊥)) s (λ none. none) (λ b lt own ne. record { word = λ none. none; sides = λ side none. none; links = λ e x chain j c none. none }) (knows_but g rename v p guests a k)))
+        (λ lt own. here_too (k.each a lt own))
 
   module _ (v : View (List ℕ)) (p : Plain) (t a given : ℕ) (other : Bool) (eight : length p.tabs ≡ 8) (lt : t < 8) where
     read_else : (b : ℕ) → b ≢ a → cond (reads_at b (Reading a given other)) 1 0 ≡ zero
@@ -75,7 +76,7 @@ module _ (g : Ground (List ℕ)) (rename : ℕ → ℕ) where
     read_here = ap (λ (y : Bool). cond y 1 0) (eq-eqb a a refl)
 
     -- it reads there in the plain store too
-    pub opened_knows : tab_at p t ≡ Free → Knows g rename v p (guest_at a) → Knows g rename v (with_tab p t (Reading a given other)) no_guests
+    pub opened_knows : {lot : Lot} → tab_at p t ≡ Free → KnowsLot g rename lot v p (guest_at a) → KnowsLot g rename lot v (with_tab p t (Reading a given other)) no_guests
     opened_knows free k = counted_knows v p (with_tab p t (Reading a given other)) (guest_at a) no_guests a
         record { counter = refl; many = refl; places = λ b ne. refl; readers = λ b ne. let c = count b in let z = read_else b ne in let f = none b in omega arith }
         refl (λ b ne. sym (guest_else a b ne)) (let c = count a in let z = read_here in let f = none a in let h = guest_here a in omega arith) k
@@ -87,7 +88,7 @@ module _ (g : Ground (List ℕ)) (rename : ℕ → ℕ) where
         none b = ap (λ (y : Tab). cond (reads_at b y) 1 0) free
 
     -- it reads there no longer, and is counted still
-    pub closed_knows : tab_at p t ≡ Reading a given other → Knows g rename v p no_guests → Knows g rename v (with_tab p t Free) (guest_at a)
+    pub closed_knows : {lot : Lot} → tab_at p t ≡ Reading a given other → KnowsLot g rename lot v p no_guests → KnowsLot g rename lot v (with_tab p t Free) (guest_at a)
     closed_knows reads k = counted_knows v p (with_tab p t Free) no_guests (guest_at a) a
         record { counter = refl; many = refl; places = λ b ne. refl; readers = λ b ne. let c = count b in let z = read_else b ne in let f = same b in omega arith }
         refl (λ b ne. guest_else a b ne) (let c = count a in let z = read_here in let f = same a in let h = guest_here a in omega arith) k
@@ -99,7 +100,7 @@ module _ (g : Ground (List ℕ)) (rename : ℕ → ℕ) where
         same b = ap (λ (y : Tab). cond (reads_at b y) 1 0) reads
 
     -- it reads on there
-    pub read_knows : (more : ℕ) (turned : Bool) → tab_at p t ≡ Reading a given other → Knows g rename v p no_guests → Knows g rename v (with_tab p t (Reading a more turned)) no_guests
+    pub read_knows : {lot : Lot} (more : ℕ) (turned : Bool) → tab_at p t ≡ Reading a given other → KnowsLot g rename lot v p no_guests → KnowsLot g rename lot v (with_tab p t (Reading a more turned)) no_guests
     read_knows more turned reads k = counted_knows v p (with_tab p t (Reading a more turned)) no_guests no_guests a
         record { counter = refl; many = refl; places = λ b ne. refl; readers = λ b ne. let c = count b in let f = same b in omega arith }
         refl (λ b ne. refl) (let c = count a in let f = same a in omega arith) k
@@ -111,8 +112,8 @@ module _ (g : Ground (List ℕ)) (rename : ℕ → ℕ) where
         same b = ap (λ (y : Tab). cond (reads_at b y) 1 0) reads
 
   -- it doomed the entry
-  module _ (lone : IsLone g) (v w : View (List ℕ)) (p : Plain) (t a n : ℕ) (lt : a < g.setting.anchors) (at : core.anchor_of (core.tab_at v t) ≡ a) (undoomed : (place_at p a).doom ≡ false) (few : readers p a + 1 < 65536)
-      (k : Knows g rename v p (guest_at a)) (st : Steps g v (Doom t) n w) where
+  module _ (lot : Lot) (v w : View (List ℕ)) (p : Plain) (t a n : ℕ) (mine : Mine g v (Anchor a)) (own : lot.anchors a ≡ true) (lt : a < g.setting.anchors) (at : core.anchor_of (core.tab_at v t) ≡ a) (undoomed : (place_at p a).doom ≡ false) (few : readers p a + 1 < 65536)
+      (k : KnowsLot g rename lot v p (guest_at a)) (st : Steps g v (Doom t) n w) where
     pub doomed_there : place_at (doom_at a p) a ≡ plain_place.doomed (place_at p a)
     doomed_there = get_or-set_same p.places a (plain_place.doomed (place_at p a)) nothing (let m = k.many in omega arith)
 
@@ -126,7 +127,7 @@ module _ (g : Ground (List ℕ)) (rename : ℕ → ℕ) where
     on = ap (λ (z : ℕ). Some (Anchor z)) at
 
     found : n ≡ word_number (renamed_word rename (word_at (setting_of g) p a)) + guest_at a a
-    found = found_mine g v w (Doom t) n (Anchor a) st lone on ∙ (k.each a lt).word
+    found = found_mine g v w (Doom t) n (Anchor a) st mine on ∙ (k.each a lt own).word
 
     room : readers p a + guest_at a a < 65536
     room = let one = guest_here a in omega arith
@@ -148,9 +149,9 @@ module _ (g : Ground (List ℕ)) (rename : ℕ → ℕ) where
     here = record {
       word = has_left g v w (Doom t) n (Anchor a) (Anchor a) st on refl ∙ doomed_is
           ∙ ap (λ (x : PlaceOf). word_number record { epoch = renamed_epoch rename (plain.epoch_of (room_of g.slot) x); readers = readers p a } + guest_at a a) (sym doomed_there);
-      entry = subst (λ (x : PlaceOf). ShowsEntryIf g w a x.version x.entry) (sym doomed_there) (entry_kept g rename v w a (place_at p a).version (entry_at p a) lt (step_same g v w (Doom t) n (Anchor a) st on lt) (k.each a lt).entry);
+      entry = subst (λ (x : PlaceOf). ShowsEntryIf g w a x.version x.entry) (sym doomed_there) (entry_kept g rename v w a (place_at p a).version (entry_at p a) lt (step_same g v w (Doom t) n (Anchor a) st on lt) (k.each a lt own).entry);
     }
 
-    pub doom_knows : Knows g rename w (doom_at a p) (guest_at a)
+    pub doom_knows : KnowsLot g rename lot w (doom_at a p) (guest_at a)
     doom_knows = knows_all g rename w (doom_at a p) (guest_at a) a
-        (but_step g rename v w (Doom t) n p (doom_at a p) (guest_at a) a st on lt (put_else p a (plain_place.doomed (place_at p a))) (knows_but g rename v p (guest_at a) a k)) (λ _. here)
+        (but_step g rename v w (Doom t) n p (doom_at a p) (guest_at a) a st on lt (put_else p a (plain_place.doomed (place_at p a))) (knows_but g rename v p (guest_at a) a k)) (λ _ ours. here)

@@ -192,9 +192,9 @@ module _ (g : Ground (List ℕ)) (images : List (List ℕ)) (r : Rebuilt) (b : I
 
   pub knows_opened : Knows g (λ v. v) fresh plain no_guests
   knows_opened = record {
-    counter = o.opened.counter ∙ one_greatest g.slot images r.greatest l.greatest b.greatest d.greatest;
+    counter = λ own. o.opened.counter ∙ one_greatest g.slot images r.greatest l.greatest b.greatest d.greatest;
     many = length-map-range_with_len (λ (a : ℕ). place_kept (kept_at g.setting.anchors kept a)) 0 g.setting.anchors;
-    each = shows_each;
+    each = λ a lt own. shows_each a lt;
   }
 
   -- An entry of the file that an anchor had at the opening has the version that the anchor had.

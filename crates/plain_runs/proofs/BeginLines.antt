@@ -1,5 +1,5 @@
 -- An entry that a line begins is begun as in the plain store.
-use Rattle.std.proofs.Common.{Bool, Err, List, Ok, Result, Some, ap, arith, false, get_or-set_same, inl, inr, length, nat_lt, refl, subst, sym, true, ◌+◌, ◌-◌, ◌<◌, ◌∙◌, ◌≡◌, ◌≤◌, ◌⊎◌, ℕ}
+use Rattle.std.proofs.Common.{Bool, Err, List, Ok, Result, Some, ap, arith, false, get_or-set_same, inl, inr, length, nat_lt, refl, subst, sym, true, ◌+◌, ◌<◌, ◌∙◌, ◌≡◌, ◌≤◌, ◌⊎◌, ℕ}
 use Rattle.std.specs.Prelude.{IfErr, IfOk, OnErr, nat_le, ◌||◌, ◌↔◌}
 use Rattle.std.proofs.lemmas.Bool.Decides.{nat_tests}
 use Rattle.rock_disk.specs.Cell.{CellState}
@@ -13,7 +13,7 @@ use Rattle.store_key.specs.Key.{key_of}
 use Rattle.entry_cut.specs.Content.{LeavesRoom}
 use Rattle.core_model.specs.declared.view.Place.TheVariants.{Anchor}
 use Rattle.core_model.specs.declared.view.View.{View}
-use Rattle.store_rule.specs.Words.{has}
+use Rattle.store_rule.specs.Words.{Mine, has}
 use Rattle.plain_model.specs.declared.entry.Entry.{Entry}
 use Rattle.plain_model.specs.declared.entry.Place.{Place as PlaceOf}
 use Rattle.plain_model.specs.declared.store.Plain.{Plain}
@@ -43,6 +43,7 @@ use Rattle.plain_runs.specs.Shows.{Shows, ShowsTab, ShowsWriting}
 use Rattle.plain_runs.proofs.Beginning.{DrewNext, began_knows, looked_is, looked_same, never_overtaken, never_spent_at_draw, spent_at_look, took_next, took_open}
 use Rattle.plain_runs.proofs.Frames.{knows_same}
 use Rattle.plain_runs.proofs.Freeing.{FewReaders}
+use Rattle.plain_runs.proofs.OwnAnchors.{mine_lone, owns_lone}
 use Rattle.plain_runs.proofs.ServedLines.{IsAs}
 use Rattle.plain_runs.proofs.OwnVersions.{same_answer}
 use Rattle.plain_runs.proofs.PlainWords.{idle_there, readers_fit, vacant_there, word_there}
@@ -83,12 +84,15 @@ module _ {C O : Type 0} (tells : Bool) (state : C → CellState) (offers : O →
   few : FewReaders p no_guests
   few b = readers_fit p b 0 shows.eight (omega arith)
 
+  mine : Mine g (view pass) (Anchor a)
+  mine = mine_lone g lone (view pass) (Anchor a)
+
   inside_tabs : t < length p.tabs
   inside_tabs = let n = shows.eight in omega arith
 
   -- what the word of the anchor allows, the plain store allows
   open_is : (n : ℕ) → a < g.setting.anchors → n ≡ has g (view pass) (Anchor a) → (is_vacant n || is_idle n) ≡ (is_vacant_at p a || is_idle_at p a)
-  open_is n lt is = let k : n ≡ word_number (renamed_word rename (word_at (setting_of g) p a)) + 0 = is ∙ (shows.knows.each a lt).word in
+  open_is n lt is = let k : n ≡ word_number (renamed_word rename (word_at (setting_of g) p a)) + 0 = is ∙ (shows.knows.each a lt refl).word in
       ap (λ (z : Bool). z || is_idle n) (vacant_there rename (setting_of g) p 0 a n k (few a) refl) ∙ ap (λ (z : Bool). is_vacant_at p a || z) (idle_there rename (setting_of g) p 0 a n k (few a) refl)
 
   either_true : (x y : Bool) → (x ≡ true) ⊎ (y ≡ true) → (x || y) ≡ true
@@ -119,22 +123,22 @@ module _ {C O : Type 0} (tells : Bool) (state : C → CellState) (offers : O →
       short = let no : IsTooLong g url → ⊥ = λ l. let z : answer.Busy looked found ≡ answer.LongUrl = long.1 l in cc in omega arith
 
       of_busy : InUse g t a (view pass) looked found (view q) ⊎ Overtaken g t a (view pass) looked found (view q) → NotBegun (Busy looked found) q
-      of_busy (inr o) = absurd (never_overtaken g lone rename t a (view pass) (view q) looked found o)
+      of_busy (inr o) = absurd (never_overtaken g t a (view pass) (view q) looked found (owns_lone g lone (view pass).pass a) o)
       of_busy (inl u) = record {
         plain_fault = Busy (word_at (setting_of g) p a) (word_at (setting_of g) p a);
         begins_is = begin_busy (setting_of g) t url (bytes_of body) offer p short (sym (open_is (word_number looked) lt found_is) ∙ both_false _ _ u.used.0 u.used.1);
         answer_is = ap (λ (w : Word). answer.Busy looked w) u.same ∙ ap (λ (w : Word). answer.Busy w w) looked_word;
-        knows = knows_same g rename (view pass) (view q) p no_guests shows.knows (looked_same g lone (view pass) (view q) a (word_number looked) u.looks);
+        knows = knows_same g rename (view pass) (view q) p no_guests shows.knows (looked_same g (view pass) (view q) a (word_number looked) mine u.looks);
       }
         where
           lt : a < g.setting.anchors
           lt = u.looks.may.allowed
 
           found_is : word_number looked ≡ has g (view pass) (Anchor a)
-          found_is = looked_is g lone (view pass) (view q) a (word_number looked) u.looks
+          found_is = looked_is g (view pass) (view q) a (word_number looked) mine u.looks
 
           looked_word : looked ≡ renamed_word rename (word_at (setting_of g) p a)
-          looked_word = word_there rename (setting_of g) p a looked (found_is ∙ (shows.knows.each a lt).word) typed.0 (let f = few a in omega arith)
+          looked_word = word_there rename (setting_of g) p a looked (found_is ∙ (shows.knows.each a lt refl).word) typed.0 (let f = few a in omega arith)
   not_begun (Spent versions) q h long typed = of_spent h.spent
     where
       short : meta_size url ≤ (setting_of g).room
@@ -144,10 +148,10 @@ module _ {C O : Type 0} (tells : Bool) (state : C → CellState) (offers : O →
       lt = h.looks.may.allowed
 
       seen_knows : Knows g rename h.seen p no_guests
-      seen_knows = knows_same g rename (view pass) h.seen p no_guests shows.knows (looked_same g lone (view pass) h.seen a h.n h.looks)
+      seen_knows = knows_same g rename (view pass) h.seen p no_guests shows.knows (looked_same g (view pass) h.seen a h.n mine h.looks)
 
       open_to : (is_vacant_at p a || is_idle_at p a) ≡ true
-      open_to = sym (open_is h.n lt (looked_is g lone (view pass) h.seen a h.n h.looks)) ∙ either_true _ _ h.open_to
+      open_to = sym (open_is h.n lt (looked_is g (view pass) h.seen a h.n mine h.looks)) ∙ either_true _ _ h.open_to
 
       of_spent : SpentAtLook g h.seen versions (view q) ⊎ SpentAtDraw g h.seen versions (view q) → NotBegun (Spent versions) q
       of_spent (inr d) = absurd (never_spent_at_draw g lone rename h.seen (view q) versions p no_guests seen_knows d)

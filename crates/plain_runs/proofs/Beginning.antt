@@ -1,10 +1,8 @@
 -- What is known of the plain store once an anchor was taken for a new entry.
-use Rattle.std.proofs.Common.{Bool, Contains, List, Some, [], ap, arith, cond, eq-eqb, false, get_or, get_or-set_other, get_or-set_same, inl, inr, length, length-set, refl, subst, sym, true, ◌+◌, ◌-◌, ◌<◌, ◌∙◌, ◌≡◌, ◌≢◌, ◌≤◌, ◌⊎◌, ℕ}
+use Rattle.std.proofs.Common.{Bool, Contains, List, Some, [], ap, arith, cond, eq-eqb, false, get_or, get_or-set_other, get_or-set_same, inl, inr, length, length-set, refl, subst, sym, true, ◌+◌, ◌-◌, ◌<◌, ◌∙◌, ◌≡◌, ◌≤◌, ◌⊎◌, ℕ}
 use Rattle.std.proofs.lemmas.Bool.{false≢true}
 use Rattle.std.specs.Prelude.{◌||◌}
 use Rattle.std.proofs.Math.Nat.{div-eq_of_lt}
-use mathlib.Core.Logic.{dite}
-use native.Mathlib.Decide.{ℕ_discrete}
 use Rattle.lock_word.specs.declared.word.Word.{Word}
 use Rattle.lock_word.specs.Words.{is_idle, is_vacant, readers_of, version_limit, word_at as word_of, word_number}
 use Rattle.lock_word.proofs.Testing.{readers_of-idle, readers_of-vacant}
@@ -13,15 +11,13 @@ use Rattle.store_key.specs.Anchor.{back_half, front_half}
 use Rattle.store_key.specs.Key.{key_of}
 use Rattle.entry_cut.specs.Content.{LeavesRoom, room_of}
 use Rattle.core_model.specs.AnchorMoves.{freer_of, writer_of}
-use Rattle.core_model.specs.Deeds.{mirrored}
-use Rattle.core_model.specs.Layout.{IsPlace, index}
-use Rattle.core_model.specs.Table.{left_by, place}
+use Rattle.core_model.specs.Layout.{index}
+use Rattle.core_model.specs.Table.{place}
 use Rattle.core_model.specs.SlotMoves.{stores}
 use Rattle.core_model.specs.Steps.{chain_found}
 use Rattle.core_model.specs.Tabs.{InnerIsFree, IsPass, anchor_of, inner, tab_at as tab_in}
 use Rattle.core_model.specs.Trails.{last_find}
 use Rattle.core_model.specs.declared.chain.Chain.{Chain}
-use Rattle.core_model.specs.declared.moves.Move.{Move}
 use Rattle.core_model.specs.declared.moves.Move.TheVariants.{Count, Draw, Look, StoreSide, Take}
 use Rattle.core_model.specs.declared.tab.Freer.{Freer}
 use Rattle.core_model.specs.declared.moves.Side.{Side}
@@ -44,7 +40,7 @@ use Rattle.plain_laws.specs.Renaming.{renamed_word}
 use Rattle.rock_reader.specs.Responses.{IsOffered}
 use Rattle.store_rule.specs.Ground.{Ground, anchor_for}
 use Rattle.store_rule.specs.Told.{Steps}
-use Rattle.store_rule.specs.Words.{has}
+use Rattle.store_rule.specs.Words.{Mine, has}
 use Rattle.store_rule.proofs.AddingUp.{found_mine, has_left}
 use Rattle.rw_anchor.specs.Calls.{Drew, SpentAtDraw, SpentAtLook}
 use Rattle.rw_anchor.proofs.Drawing.{same_find}
@@ -55,41 +51,36 @@ use Rattle.rock_writer.proofs.Begun.{looked_last, took_idle, took_vacant}
 use Rattle.plain_runs.specs.Words.{HasChain, IsLone, IsOfOffer, Knows, ShowsAt, ShowsEntryIf, no_guests, setting_of}
 use Rattle.plain_runs.proofs.Frames.{SameBut, knows_same, shows_elsewhere, step_same}
 use Rattle.plain_runs.proofs.Freeing.{FewReaders, KnowsBut, SameElse, but_moved, but_step, same_else, freed_but, knows_all, knows_but, same_freer}
+use Rattle.plain_runs.proofs.OwnAnchors.{OwnsAnchor, mine_lone, pass_stays}
 use Rattle.plain_runs.proofs.PlainWords.{idle_there, readers_put, readers_there, vacant_there}
+use Rattle.plain_runs.proofs.QuietSteps.{step_quiet}
 
 -- a version more was given out
 abbrev pub counted_on : Plain → Plain
 counted_on p = record p { counter = p.counter + 1 }
 
+-- A look at an anchor whose word nobody else changes finds the word that is known, and leaves all words.
+module _ (g : Ground (List ℕ)) where
+  pub looked_is : (v w : View (List ℕ)) (a n : ℕ) → Mine g v (Anchor a) → Steps g v (Look a) n w → n ≡ has g v (Anchor a)
+  looked_is v w a n mine st = found_mine g v w (Look a) n (Anchor a) st mine refl
+
+  pub looked_same : (v w : View (List ℕ)) (a n : ℕ) → Mine g v (Anchor a) → Steps g v (Look a) n w → SameBut g v w (λ q. ⊥)
+  looked_same v w a n mine st = step_quiet g v w (Look a) n (Anchor a) st refl refl mine
+
 module _ (g : Ground (List ℕ)) (lone : IsLone g) where
-  -- a step that leaves the word as it found it changes nothing
-  pub still_same : (v w : View (List ℕ)) (m : Move) (n : ℕ) (r : Place) → Steps g v m n w → place v m ≡ Some r → IsPlace g.setting r → left_by v m n ≡ n → SameBut g v w (λ q. ⊥)
-  still_same v w m n r st is there stays = record {
-    same = λ q known here none. dite (ℕ_discrete (index g.setting r) (index g.setting q))
-        (λ e. has_left g v w m n r q st is e ∙ stays ∙ found_mine g v w m n r st lone is ∙ ap (λ (z : ℕ). mirrored g.setting z v.mirror) e)
-        (λ far. (step_same g v w m n r st is there).same q known here (λ e. far (ap (index g.setting) (sym e))));
-  }
-
-  -- a look finds the word that is known, and leaves all words
-  pub looked_is : (v w : View (List ℕ)) (a n : ℕ) → Steps g v (Look a) n w → n ≡ has g v (Anchor a)
-  looked_is v w a n st = found_mine g v w (Look a) n (Anchor a) st lone refl
-
-  pub looked_same : (v w : View (List ℕ)) (a n : ℕ) → Steps g v (Look a) n w → SameBut g v w (λ q. ⊥)
-  looked_same v w a n st = still_same v w (Look a) n (Anchor a) st refl st.may.allowed refl
-
-  -- and so does a look at the counter
+  -- so does a look at the counter
   pub counted_is : (v w : View (List ℕ)) (n : ℕ) → Steps g v Count n w → n ≡ has g v Counter
-  counted_is v w n st = found_mine g v w Count n Counter st lone refl
+  counted_is v w n st = found_mine g v w Count n Counter st (mine_lone g lone v Counter) refl
 
   pub counted_same : (v w : View (List ℕ)) (n : ℕ) → Steps g v Count n w → SameBut g v w (λ q. ⊥)
-  counted_same v w n st = still_same v w Count n Counter st refl tt refl
+  counted_same v w n st = step_quiet g v w Count n Counter st refl refl (mine_lone g lone v Counter)
 
   module _ (rename : ℕ → ℕ) where
     pub drew_knows : (v w : View (List ℕ)) (m : ℕ) (p : Plain) (guests : ℕ → ℕ) → Knows g rename v p guests → Steps g v Draw m w → Knows g rename w (counted_on p) guests
     drew_knows v w m p guests h st = record {
-      counter = has_left g v w Draw m Counter Counter st refl refl ∙ ap (λ (z : ℕ). z + 1) (found_mine g v w Draw m Counter st lone refl ∙ h.counter);
+      counter = λ own. has_left g v w Draw m Counter Counter st refl refl ∙ ap (λ (z : ℕ). z + 1) (found_mine g v w Draw m Counter st (mine_lone g lone v Counter) refl ∙ h.counter refl);
       many = h.many;
-      each = λ a lt. shows_elsewhere g rename v w (λ q. q ≡ Counter) p (counted_on p) (guests a) a lt (h.each a lt) refl refl (step_same g v w Draw m Counter st refl tt)
+      each = λ a lt own. shows_elsewhere g rename v w (λ q. q ≡ Counter) p (counted_on p) (guests a) a lt (h.each a lt own) refl refl (step_same g v w Draw m Counter st refl tt)
           record { word = λ e. cc; sides = λ side e. cc; links = λ x there chain j c e. cc };
     }
 
@@ -102,7 +93,7 @@ module _ (g : Ground (List ℕ)) (lone : IsLone g) where
     pub drew_next : (v w : View (List ℕ)) (version : ℕ) (p : Plain) (guests : ℕ → ℕ) → Knows g rename v p guests → Drew g v version w → DrewNext w version p guests
     drew_next v w version p guests h d =
         let k : Knows g rename d.middle p guests = knows_same g rename v d.middle p guests h (counted_same v d.middle d.counted d.look) in
-        let f : d.found ≡ p.counter = found_mine g d.middle w Draw d.found Counter d.draw lone refl ∙ k.counter in record {
+        let f : d.found ≡ p.counter = found_mine g d.middle w Draw d.found Counter d.draw (mine_lone g lone d.middle Counter) refl ∙ k.counter refl in record {
           version_is = sym d.version_is ∙ ap (λ (z : ℕ). z + 1) f;
           left = subst (λ (z : ℕ). z < version_limit) f d.left;
           knows = drew_knows d.middle w d.found p guests k d.draw;
@@ -111,14 +102,14 @@ module _ (g : Ground (List ℕ)) (lone : IsLone g) where
     -- none is left where the counter is looked at, and then the draw is not tried
     pub spent_at_look : (v w : View (List ℕ)) (versions : ℕ) (p : Plain) (guests : ℕ → ℕ) → Knows g rename v p guests → SpentAtLook g v versions w → (versions ≡ p.counter) × (version_limit ≤ p.counter) × Knows g rename w p guests
     spent_at_look v w versions p guests h s =
-        let is : versions ≡ p.counter = counted_is v w versions s.look ∙ h.counter in
+        let is : versions ≡ p.counter = counted_is v w versions s.look ∙ h.counter refl in
         (is, subst (λ (z : ℕ). version_limit ≤ z) is s.spent, knows_same g rename v w p guests h (counted_same v w versions s.look))
 
     pub never_spent_at_draw : (v w : View (List ℕ)) (versions : ℕ) (p : Plain) (guests : ℕ → ℕ) → Knows g rename v p guests → SpentAtDraw g v versions w → ⊥
     never_spent_at_draw v w versions p guests h s =
-        let c : s.counted ≡ p.counter = counted_is v s.middle s.counted s.look ∙ h.counter in
+        let c : s.counted ≡ p.counter = counted_is v s.middle s.counted s.look ∙ h.counter refl in
         let k : Knows g rename s.middle p guests = knows_same g rename v s.middle p guests h (counted_same v s.middle s.counted s.look) in
-        let f : versions ≡ p.counter = found_mine g s.middle w Draw versions Counter s.draw lone refl ∙ k.counter in
+        let f : versions ≡ p.counter = found_mine g s.middle w Draw versions Counter s.draw (mine_lone g lone s.middle Counter) refl ∙ k.counter refl in
         let room : s.counted < version_limit = s.room in let spent : version_limit ≤ versions = s.spent in omega arith
 
 -- The anchor is taken.
@@ -163,10 +154,10 @@ module _ (g : Ground (List ℕ)) (lone : IsLone g) (rename : ℕ → ℕ) where
 
     -- the word was the one that is known
     pub took_found : n ≡ has g v (Anchor a)
-    took_found = looked_is g lone v took.seen a n took.looks
+    took_found = looked_is g v took.seen a n (mine_lone g lone v (Anchor a)) took.looks
 
     pub took_drew : DrewNext g lone rename took.drawn version p no_guests
-    took_drew = drew_next g lone rename took.seen took.drawn version p no_guests (knows_same g rename v took.seen p no_guests h (looked_same g lone v took.seen a n took.looks)) took.drew
+    took_drew = drew_next g lone rename took.seen took.drawn version p no_guests (knows_same g rename v took.seen p no_guests h (looked_same g v took.seen a n (mine_lone g lone v (Anchor a)) took.looks)) took.drew
 
     found_last : n ≡ last_find a took.drawn.trail
     found_last = sym (same_find g took.seen took.drawn version took.drew a ∙ looked_last g v took.seen a n took.looks)
@@ -179,26 +170,36 @@ module _ (g : Ground (List ℕ)) (lone : IsLone g) (rename : ℕ → ℕ) where
     took_but e free below = but_step g rename took.drawn w (Take t a version) n (counted_on p) (taken_by t a e p) no_guests a took.takes refl inside (taken_else t a e p free below)
         (knows_but g rename took.drawn (counted_on p) no_guests a took_drew.knows)
 
-  -- A try that another pass overtook finds the word that was looked at.
-  pub never_overtaken : (t a : ℕ) (v w : View (List ℕ)) (looked found : Word) → Overtaken g t a v looked found w → ⊥
-  never_overtaken t a v w looked found o = o.other (found_mine g o.drawn w (Take t a o.version) (word_number found) (Anchor a) o.misses lone refl ∙ drawn_word ∙ seen_word ∙ sym (looked_is g lone v o.seen a (word_number looked) o.looks))
+module _ (g : Ground (List ℕ)) where
+  -- A try that another pass overtook finds the word that was looked at, at an anchor that is the pass's own.
+  pub never_overtaken : (t a : ℕ) (v w : View (List ℕ)) (looked found : Word) → OwnsAnchor g v.pass a → Overtaken g t a v looked found w → ⊥
+  never_overtaken t a v w looked found own o = o.other (found_mine g o.drawn w (Take t a o.version) (word_number found) (Anchor a) o.misses (own.words o.drawn (Anchor a) drawn_pass refl) refl
+      ∙ drawn_word ∙ seen_word ∙ sym (looked_is g v o.seen a (word_number looked) mine o.looks))
     where
       lt : a < g.setting.anchors
       lt = o.looks.may.allowed
 
+      mine : Mine g v (Anchor a)
+      mine = own.words v (Anchor a) refl refl
+
+      drawn_pass : o.drawn.pass ≡ v.pass
+      drawn_pass = pass_stays g o.drew.middle o.drawn Draw o.drew.found o.drew.draw
+          ∙ (pass_stays g o.seen o.drew.middle Count o.drew.counted o.drew.look ∙ pass_stays g v o.seen (Look a) (word_number looked) o.looks)
+
       seen_word : has g o.seen (Anchor a) ≡ has g v (Anchor a)
-      seen_word = (looked_same g lone v o.seen a (word_number looked) o.looks).same (Anchor a) tt lt (λ none. none)
+      seen_word = (looked_same g v o.seen a (word_number looked) mine o.looks).same (Anchor a) tt lt (λ none. none)
 
       drawn_word : has g o.drawn (Anchor a) ≡ has g o.seen (Anchor a)
-      drawn_word = (step_same g o.drew.middle o.drawn Draw o.drew.found Counter o.drew.draw refl tt).same (Anchor a) tt lt (λ e. cc) ∙ (counted_same g lone o.seen o.drew.middle o.drew.counted o.drew.look).same (Anchor a) tt lt (λ none. none)
+      drawn_word = (step_same g o.drew.middle o.drawn Draw o.drew.found Counter o.drew.draw refl tt).same (Anchor a) tt lt (λ e. cc)
+          ∙ (step_same g o.seen o.drew.middle Count o.drew.counted Counter o.drew.look refl tt).same (Anchor a) tt lt (λ e. cc)
 
   -- Where an idle entry was there, its slots are given back. The word stays.
   module _ (v w : View (List ℕ)) (freed : Freed g v w) (a n : ℕ) (c : Chain) (was : tab_in v inner ≡ Freeing (freer_of a false n c)) where
     freer_is : freed.freer ≡ freer_of a false n c
     freer_is = same_freer (freed.freer) (freer_of a false n c) (sym freed.was ∙ was)
 
-    pub freed_word : a < g.setting.anchors → has g w (Anchor a) ≡ has g v (Anchor a)
-    freed_word lt = freed.went.steady (Anchor a) tt lt lone (λ q k e. of_one q e (freed.changed q k))
+    pub freed_word : Mine g v (Anchor a) → a < g.setting.anchors → has g w (Anchor a) ≡ has g v (Anchor a)
+    freed_word mine lt = freed.went.steady (Anchor a) tt lt mine (λ q k e. of_one q e (freed.changed q k))
       where
         no_link : (slot : ℕ) → index g.setting (Link slot) ≡ index g.setting (Anchor a) → ⊥
         no_link slot e = omega arith
@@ -207,9 +208,10 @@ module _ (g : Ground (List ℕ)) (lone : IsLone g) (rename : ℕ → ℕ) where
         of_one q e (inl x) = no_link x.0 (ap (index g.setting) (sym x.1) ∙ e)
         of_one q e (inr x) = false≢true (sym (ap (λ (f : Freer (List ℕ)). f.is_freeing) freer_is) ∙ x.0)
 
-    pub freed_else : (p : Plain) → FewReaders p no_guests → KnowsBut g rename v p no_guests a → KnowsBut g rename w p no_guests a
-    freed_else p few h = freed_but g rename lone v w p no_guests a few freed (ap (λ (f : Freer (List ℕ)). f.anchor) freer_is) h
+    pub freed_else : IsLone g → (rename : ℕ → ℕ) (p : Plain) → FewReaders p no_guests → KnowsBut g rename v p no_guests a → KnowsBut g rename w p no_guests a
+    freed_else lone rename p few h = freed_but g rename lone v w p no_guests a few freed (ap (λ (f : Freer (List ℕ)). f.anchor) freer_is) h
 
+module _ (g : Ground (List ℕ)) (rename : ℕ → ℕ) where
   -- The entry is named.
 
   -- a word beside the anchor is stored
@@ -230,7 +232,7 @@ module _ (g : Ground (List ℕ)) (lone : IsLone g) (rename : ℕ → ℕ) where
 
     pub stored_but : (p : Plain) (guests : ℕ → ℕ) → a < g.setting.anchors → KnowsBut g rename v p guests a → KnowsBut g rename w p guests a
     stored_but p guests lt h = but_moved g rename v w (λ q. q ≡ Beside side a) p p guests a (stored_same lt) (same_else p a) (λ e. cc)
-        (λ b there ne. record { word = λ e. cc; sides = λ other e. ne (same_beside other side b a e); links = λ x is chain j c e. cc }) h
+        (λ b there own ne. record { word = λ e. cc; sides = λ other e. ne (same_beside other side b a e); links = λ x is chain j c e. cc }) h
 
   -- all its names were, one after the other
   pub record IsNamed (a : ℕ) (key : List ℕ) (offer : ℕ) (v w : View (List ℕ)) (p : Plain) (guests : ℕ → ℕ) : Type 0 where
@@ -349,7 +351,7 @@ module _ (g : Ground (List ℕ)) (lone : IsLone g) (rename : ℕ → ℕ) (t a n
   nine = took.took.looks.may.pass
 
   found_is : n ≡ word_number (renamed_word rename (word_at (setting_of g) p a)) + 0
-  found_is = took_found g lone rename t a n version v took.taken took.took p h ∙ (h.each a lt).word
+  found_is = took_found g lone rename t a n version v took.taken took.took p h ∙ (h.each a lt refl).word
 
   -- the anchor was vacant or idle, and so nobody read there
   pub took_open : (is_vacant_at p a || is_idle_at p a) ≡ true
@@ -393,9 +395,9 @@ module _ (g : Ground (List ℕ)) (lone : IsLone g) (rename : ℕ → ℕ) (t a n
 
       of_idle : (idle : is_idle n ≡ true) → Freed g took.taken w → IsTaken e
       of_idle idle f = let k = took_idle g t a n version v took.taken nine writes_below inner_free took.took idle in record {
-        word = freed_word g lone rename took.taken w f a n (chain_found took.took.takes.state (Take t a version)) k.1 lt ∙ taken_word;
+        word = freed_word g took.taken w f a n (chain_found took.took.takes.state (Take t a version)) k.1 (mine_lone g lone took.taken (Anchor a)) lt ∙ taken_word;
         tab = ap (λ (xs : List (TabOf (List ℕ))). get_or xs t TabOf.Free) f.tabs ∙ get_or-set_other took.taken.tabs inner t TabOf.Free TabOf.Free (λ z. let b = writes_below in omega arith) ∙ k.0;
-        but = freed_else g lone rename took.taken w f a n (chain_found took.took.takes.state (Take t a version)) k.1 (taken_by t a e p) (few_after e) taken_but;
+        but = freed_else g took.taken w f a n (chain_found took.took.takes.state (Take t a version)) k.1 lone rename (taken_by t a e p) (few_after e) taken_but;
       }
 
       of_cleared : WasVacant g t a v n took.taken w ⊎ WasIdle g t a v n took.taken w → IsTaken e
@@ -416,6 +418,6 @@ module _ (g : Ground (List ℕ)) (lone : IsLone g) (rename : ℕ → ℕ) (t a n
     began_knows =
         let e = entry_of url body offer in
         let k = is_taken e in
-        let m = named_right g lone rename t a (key_of url) offer w u (taken_by t a e p) no_guests lt (ap anchor_of k.tab) named k.but in
-        knows_all g rename u (taken_by t a e p) no_guests a m.but (λ inside. begun_shown g a offer url body response from at rename u t p (let many = h.many in let l = lt in omega arith) free below unread
+        let m = named_right g rename t a (key_of url) offer w u (taken_by t a e p) no_guests lt (ap anchor_of k.tab) named k.but in
+        knows_all g rename u (taken_by t a e p) no_guests a m.but (λ inside own. begun_shown g a offer url body response from at rename u t p (let many = h.many in let l = lt in omega arith) free below unread
         (m.word ∙ k.word ∙ ap (λ (z : ℕ). word_of z 1) (took_next.version_is ∙ sym renamed)) m.key0 m.key1 m.offer_is m.start)

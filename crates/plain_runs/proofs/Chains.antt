@@ -1,47 +1,44 @@
--- What a state of a lone pass tells: its words and its chains are those that the pass knows.
-use Rattle.std.proofs.Common.{Bool, Contains, List, None, Option, Some, [], ap, arith, false, inl, inr, length, ne_eqb, refl, subst, sum_by, sym, true, ◌++◌, ◌==◌, ◌+◌, ◌*◌, ◌-◌, ◌/◌, ◌<◌, ◌≤◌, ◌∙◌, ◌≡◌, ◌≢◌, ◌⊎◌, ◌∷◌, ℕ, zero, suc, cond, eq-eqb}
+-- What a state of a pass tells: where the slots of a chain are, and, of a lone pass, that its words and its chains are those that the pass knows.
+use Rattle.std.proofs.Common.{Contains, List, [], ap, arith, inl, inr, length, ne_eqb, refl, subst, sum_by, sym, true, ◌++◌, ◌==◌, ◌+◌, ◌*◌, ◌-◌, ◌/◌, ◌<◌, ◌≤◌, ◌∙◌, ◌≡◌, ◌≢◌, ◌⊎◌, ◌∷◌, ℕ, cond, eq-eqb}
 use Rattle.std.proofs.lemmas.List.Elements.{Contains-append_cases, Contains-append_left, Contains-append_right}
 use Rattle.std.proofs.lemmas.List.Sums.{sum_by-cons}
 use mathlib.Core.Logic.{dite}
 use mathlib.Core.Option.{some, some-injective}
 use native.Mathlib.Decide.{ℕ_discrete}
 use lib.ListN.{get_elem?}
-use Rattle.std.specs.Prelude.{slice_index, slice_index_or}
 use Rattle.link_word.specs.Map.{taken_in}
 use Rattle.link_word.specs.declared.link.Link.{Link as LinkOf}
 use Rattle.link_word.specs.declared.link.Link.TheVariants.{Last as LastLink, Next, NotWritten}
 use Rattle.lock_word.specs.Words.{epoch_of, is_written, stage_of}
-use Rattle.core_model.specs.Chains.{EndsUnwritten, Fits, IsSpelled, Spells, Tied, behind_of, no_chain, rest_of, slots_of_link, start_number, times}
-use Rattle.core_model.specs.Holders.{HasWriter, IsTab}
+use Rattle.core_model.specs.Chains.{EndsUnwritten, IsSpelled, Spells, Tied, no_chain, rest_of, slots_of_link, start_number, times}
+use Rattle.core_model.specs.Holders.{IsTab}
 use Rattle.core_model.specs.Layout.{IsPlace, Setting, index, word_in}
-use Rattle.core_model.specs.Slots.{ChainStands, TabHolds, WriterHolds, held_in, published_in, resting_in, slot_words, standing_in, told, used}
-use Rattle.core_model.specs.Spots.{HasOneSpot, IsIn, IsUnwritten}
+use Rattle.core_model.specs.Slots.{ChainStands, WriterHolds, held_in, published_in, resting_in, slot_words, standing_in, used}
+use Rattle.core_model.specs.Spots.{IsIn}
 use Rattle.core_model.specs.State.{State, chain_of, word}
 use Rattle.core_model.specs.Tabs.{IsPass, count, inner, tab_at}
 use Rattle.core_model.specs.Anchors.{tabs_in}
 use Rattle.core_model.specs.declared.chain.Chain.{Chain}
 use Rattle.core_model.specs.declared.moves.Side.TheVariants.{Start}
 use Rattle.core_model.specs.declared.spot.Spot.{Spot}
-use Rattle.core_model.specs.declared.spot.Spot.TheVariants.{Chained, Free as FreeSpot, Loose, Reserved, Resting}
+use Rattle.core_model.specs.declared.spot.Spot.TheVariants.{Chained, Free as FreeSpot, Reserved, Resting}
 use Rattle.core_model.specs.declared.tab.Freer.{Freer}
 use Rattle.core_model.specs.declared.tab.Tab.{Tab}
-use Rattle.core_model.specs.declared.tab.Tab.TheVariants.{Free, Freeing, Last, Reading, Retreating, Writing}
+use Rattle.core_model.specs.declared.tab.Tab.TheVariants.{Freeing, Writing}
 use Rattle.core_model.specs.declared.tab.Writer.{Writer}
 use Rattle.core_model.specs.declared.view.Place.{Place}
-use Rattle.core_model.specs.declared.view.Place.TheVariants.{Anchor, Beside, Link, Map}
+use Rattle.core_model.specs.declared.view.Place.TheVariants.{Beside, Link, Map}
 use Rattle.core_model.specs.declared.view.View.{View}
 use Rattle.core_model.proofs.Lists.{at_index, cons_contains, contains_none, le_sum_at, sum_mono, two_le_sum}
 use Rattle.core_model.proofs.Matching.{has_writer}
 use Rattle.core_model.proofs.OneSpot.{one_spot, unwritten}
 use Rattle.core_model.proofs.Places.{within}
 use Rattle.core_model.proofs.SlotFrame.{used_few, used_some}
-use Rattle.core_model.proofs.SpelledOnce.{spelled_once}
 use Rattle.core_model.proofs.Tabs.{contains_times, tab_there}
 use Rattle.core_model.proofs.Telling.{told_in, told_out}
 use Rattle.store_rule.specs.Ground.{Ground, Rule}
 use Rattle.store_rule.specs.Words.{has}
-use Rattle.plain_model.specs.declared.entry.Entry.{Entry}
-use Rattle.plain_runs.specs.Words.{HasChain, IsLone, link_known}
+use Rattle.plain_runs.specs.Words.{IsLone, link_known}
 
 module _ {A : Type 0} where
   sum_plus : (f g : A → ℕ) (xs : List A) → sum_by (λ x. f x + g x) xs ≡ sum_by f xs + sum_by g xs
@@ -51,27 +48,13 @@ module _ {A : Type 0} where
 abbrev no_tabs : List (Tab (List ℕ))
 no_tabs = []
 
-module _ (g : Ground (List ℕ)) (lone : IsLone g) (s : State (List ℕ)) (i : ℕ) (v : View (List ℕ)) (rule : Rule g s) (at : get_elem? s.views i ≡ some v) (pass : IsPass v) where
+-- a tab that the pass has is one of the state
+pub own_tab : (s : State (List ℕ)) (i : ℕ) (v : View (List ℕ)) → get_elem? s.views i ≡ some v → IsPass v → (t : ℕ) (tab : Tab (List ℕ)) → t ≤ inner → tab_at v t ≡ tab → IsTab s i t tab
+own_tab s i v at pass t tab le e = record { view = v; at = at; there = tab_there v t tab (let nine = pass in omega arith) e }
+
+module _ (g : Ground (List ℕ)) (s : State (List ℕ)) (rule : Rule g s) where
   abbrev k : Setting (List ℕ)
   k = g.setting
-
-  some_tab : v.tabs ≢ []
-  some_tab e = let none = ap length e in let nine = pass in omega arith
-
-  -- each word is as the pass knows it
-  pub word_is : (q : Place) → IsPlace k q → word_in k s.words q ≡ has g v q
-  word_is q here = sym (rule.sound.anchors.mirror lone i v at some_tab (index k q) (within k q here))
-
-  pub link_is : (j : ℕ) → (slot_words k s.words).link j ≡ link_known g v j
-  link_is j = dite (ℕ_discrete (k.slots - j) 0)
-      (λ e. told_out k.slots j _ (omega arith) ∙ sym (told_out k.slots j _ (omega arith)))
-      (λ less. told_in k.slots j _ (omega arith) ∙ word_is (Link j) (omega arith) ∙ sym (told_in k.slots j _ (omega arith)))
-
-  links_are : (slot_words k s.words).link ≡ link_known g v
-  links_are = λ d j. link_is j d
-
-  start_is : (a : ℕ) → a < k.anchors → (slot_words k s.words).start a ≡ has g v (Beside Start a)
-  start_is a lt = told_in k.anchors a _ lt ∙ word_is (Beside Start a) lt
 
   abbrev stage_at : ℕ → ℕ
   stage_at a = stage_of (epoch_of (word s a))
@@ -81,32 +64,6 @@ module _ (g : Ground (List ℕ)) (lone : IsLone g) (s : State (List ℕ)) (i : �
 
   stands : (a : ℕ) → a < k.anchors → ChainStands ((slot_words k s.words).stage a) ((slot_words k s.words).start a) (slot_words k s.words).link (chain_of s a)
   stands a lt = rule.sound.slots.stand a lt
-
-  -- no other view has a tab
-  pub other_views : (j : ℕ) (u : View (List ℕ)) → get_elem? s.views j ≡ some u → j ≢ i → u.tabs ≡ []
-  other_views j u there ne = none u.tabs (let two = two_le_sum tabs_in s.views i j v u at there ne in let all = rule.sound.anchors.shaped.tabs in let nine = pass in let one = lone in few two all nine one)
-    where
-      few : {x y n p : ℕ} → x + y ≤ n → n ≡ 9 * p → x ≡ 9 → p ≡ 1 → y ≡ 0
-      few two all nine one = omega arith
-
-      none : (xs : List (Tab (List ℕ))) → length xs ≡ 0 → xs ≡ []
-      none [] e = refl
-      none (x ∷ xs) e = absurd (omega arith)
-
-  -- a tab that some view has is one of the pass
-  pub only_tabs : (j t : ℕ) (tab : Tab (List ℕ)) → IsTab s j t tab → (j ≡ i) × (get_elem? v.tabs t ≡ some tab)
-  only_tabs j t tab x = dite (ℕ_discrete j i)
-      (λ e. (e, subst (λ (u : View (List ℕ)). get_elem? u.tabs t ≡ some tab) (some-injective x.view v (sym x.at ∙ ap (get_elem? s.views) e ∙ at)) x.there))
-      (λ ne. absurd (nothing_in (other_views j x.view x.at ne) x.there))
-    where
-      nothing_in : x.view.tabs ≡ [] → get_elem? x.view.tabs t ≡ some tab → ⊥
-      nothing_in none there = let h = ap (λ (z : List (Tab (List ℕ))). get_elem? z t) none in no_item (sym h ∙ there)
-        where
-          no_item : get_elem? no_tabs t ≡ some tab → ⊥
-          no_item e = cc
-
-  pub own_tab : (t : ℕ) (tab : Tab (List ℕ)) → t ≤ inner → tab_at v t ≡ tab → IsTab s i t tab
-  own_tab t tab le e = record { view = v; at = at; there = tab_there v t tab (let nine = pass in omega arith) e }
 
   -- the chain of a writing tab's anchor is what it published
   pub writer_holds : (j t : ℕ) (w : Writer (List ℕ)) → IsTab s j t (Writing w) → WriterHolds ((slot_words k s.words).beside w.anchor) (chain_of s w.anchor) w
@@ -242,21 +199,9 @@ module _ (g : Ground (List ℕ)) (lone : IsLone g) (s : State (List ℕ)) (i : �
         of_spot (inr r) = let there = reserved_inside r.j r.t x r.writer r.is_tab r.reserved in
             told_in k.slots x _ there ∙ unwritten k s rule.sound.anchors.shaped rule.sound.slots x there (Reserved r.j r.t) tt (r.writer, r.is_tab, r.reserved)
 
-    ends : (e : LinkOf) → c.end ≡ e → EndsUnwritten (link_known g v) e
-    ends NotWritten is = tt
-    ends LastLink is = tt
-    ends (Next x) is = sym (link_is x) ∙ end_unwritten x is
-
-    -- The words spell the chain, where the Start word names its first slot. Where an entry may be read or was given up it does.
-    pub chain_spelled : has g v (Beside Start a) ≡ start_number c.slots → IsSpelled (has g v (Beside Start a)) (link_known g v) c.slots c.end
-    chain_spelled starts = record { starts = starts; spelled = subst (λ (f : ℕ → ℕ). Spells f c.slots c.end) links_are (stands a lt).spelled; fits = (stands a lt).fits; ends = ends c.end refl }
-
-    pub chain_starts : 2 ≤ stage_at a → stage_at a ≤ 4 → has g v (Beside Start a) ≡ start_number c.slots
-    chain_starts least most = sym (start_is a lt) ∙ (stands a lt).starts (let e = stage_here in omega arith) (let e = stage_here in omega arith)
-
-    -- so what the words spell is the chain
-    pub chain_is : (e : Entry) (h : HasChain g v a e) → 2 ≤ stage_at a → stage_at a ≤ 4 → (h.slots ≡ c.slots) × (h.end ≡ c.end)
-    chain_is e h least most = spelled_once (link_known g v) (has g v (Beside Start a)) h.slots c.slots h.end c.end h.spelled (chain_spelled (chain_starts least most))
+    -- where an entry may be read or was given up the Start word names the first slot of its chain
+    pub chain_starts : 2 ≤ stage_at a → stage_at a ≤ 4 → (slot_words k s.words).start a ≡ start_number c.slots
+    chain_starts least most = (stands a lt).starts (let e = stage_here in omega arith) (let e = stage_here in omega arith)
 
     pub tail_is : c.tail ≡ cond (stage_at a == 4) (slots_of_link c.end) []
     tail_is = (stands a lt).tails ∙ ap (λ z. cond (z == 4) (slots_of_link c.end) []) stage_here
@@ -274,7 +219,7 @@ module _ (g : Ground (List ℕ)) (lone : IsLone g) (s : State (List ℕ)) (i : �
         differ (subst (IsOf a) (one.only y.spot y.is_in ∙ sym (one.only (Reserved j t) (w, tab, reserved))) y.of)
       where
         differ : IsOf a (Reserved j t) → ⊥
-        differ (u, there, anchor_is) = other (same_anchor (some-injective (Writing w) (Writing u) (sym (only_tabs j t (Writing w) tab).1 ∙ (only_tabs j t (Writing u) there).1)) ∙ anchor_is)
+        differ (u, there, anchor_is) = other (same_anchor (some-injective (Writing w) (Writing u) (sym tab.there ∙ ap (λ (z : View (List ℕ)). get_elem? z.tabs t) (some-injective tab.view there.view (sym tab.at ∙ there.at)) ∙ there.there)) ∙ anchor_is)
           where
             same_anchor : Writing w ≡ Writing u → w.anchor ≡ u.anchor
             same_anchor e = ap (λ (z : Writer (List ℕ)). z.anchor) (writing_is e)
@@ -289,3 +234,55 @@ module _ (g : Ground (List ℕ)) (lone : IsLone g) (s : State (List ℕ)) (i : �
       where
         differ : (y : Spot) → y ≡ FreeSpot → IsOf a y → ⊥
         differ y e h = subst (IsOf a) e h
+
+module _ (g : Ground (List ℕ)) (lone : IsLone g) (s : State (List ℕ)) (i : ℕ) (v : View (List ℕ)) (rule : Rule g s) (at : get_elem? s.views i ≡ some v) (pass : IsPass v) where
+  some_tab : v.tabs ≢ []
+  some_tab e = let none = ap length e in let nine = pass in omega arith
+
+  -- each word is as the pass knows it
+  pub word_is : (q : Place) → IsPlace g.setting q → word_in g.setting s.words q ≡ has g v q
+  word_is q here = sym (rule.sound.anchors.mirror lone i v at some_tab (index g.setting q) (within g.setting q here))
+
+  pub link_is : (j : ℕ) → (slot_words g.setting s.words).link j ≡ link_known g v j
+  link_is j = dite (ℕ_discrete (g.setting.slots - j) 0)
+      (λ e. told_out g.setting.slots j _ (omega arith) ∙ sym (told_out g.setting.slots j _ (omega arith)))
+      (λ less. told_in g.setting.slots j _ (omega arith) ∙ word_is (Link j) (omega arith) ∙ sym (told_in g.setting.slots j _ (omega arith)))
+
+  links_are : (slot_words g.setting s.words).link ≡ link_known g v
+  links_are = λ d j. link_is j d
+
+  -- no other view has a tab
+  pub other_views : (j : ℕ) (u : View (List ℕ)) → get_elem? s.views j ≡ some u → j ≢ i → u.tabs ≡ []
+  other_views j u there ne = none u.tabs (let two = two_le_sum tabs_in s.views i j v u at there ne in let all = rule.sound.anchors.shaped.tabs in let nine = pass in let one = lone in few two all nine one)
+    where
+      few : {x y n p : ℕ} → x + y ≤ n → n ≡ 9 * p → x ≡ 9 → p ≡ 1 → y ≡ 0
+      few two all nine one = omega arith
+
+      none : (xs : List (Tab (List ℕ))) → length xs ≡ 0 → xs ≡ []
+      none [] e = refl
+      none (x ∷ xs) e = absurd (omega arith)
+
+  -- a tab that some view has is one of the pass
+  pub only_tabs : (j t : ℕ) (tab : Tab (List ℕ)) → IsTab s j t tab → (j ≡ i) × (get_elem? v.tabs t ≡ some tab)
+  only_tabs j t tab x = dite (ℕ_discrete j i)
+      (λ e. (e, subst (λ (u : View (List ℕ)). get_elem? u.tabs t ≡ some tab) (some-injective x.view v (sym x.at ∙ ap (get_elem? s.views) e ∙ at)) x.there))
+      (λ ne. absurd (nothing_in (other_views j x.view x.at ne) x.there))
+    where
+      nothing_in : x.view.tabs ≡ [] → get_elem? x.view.tabs t ≡ some tab → ⊥
+      nothing_in none there = let h = ap (λ (z : List (Tab (List ℕ))). get_elem? z t) none in no_item (sym h ∙ there)
+        where
+          no_item : get_elem? no_tabs t ≡ some tab → ⊥
+          no_item e = cc
+
+  -- What the words that the pass knows spell is the chain, where the Start word names its first slot.
+  module _ (a : ℕ) (lt : a < g.setting.anchors) where
+    abbrev known : Chain
+    known = chain_of s a
+
+    ends : (e : LinkOf) → known.end ≡ e → EndsUnwritten (link_known g v) e
+    ends NotWritten is = tt
+    ends LastLink is = tt
+    ends (Next x) is = sym (link_is x) ∙ end_unwritten g s rule a lt x is
+
+    pub chain_spelled : has g v (Beside Start a) ≡ start_number known.slots → IsSpelled (has g v (Beside Start a)) (link_known g v) known.slots known.end
+    chain_spelled starts = let h = stands g s rule a lt in record { starts = starts; spelled = subst (λ (f : ℕ → ℕ). Spells f known.slots known.end) links_are h.spelled; fits = h.fits; ends = ends known.end refl }

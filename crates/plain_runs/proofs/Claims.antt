@@ -28,6 +28,7 @@ use Rattle.plain_runs.proofs.Freeing.{FewReaders}
 use Rattle.plain_runs.proofs.Frames.{knows_same}
 use Rattle.plain_runs.proofs.Frames as frame
 use Rattle.plain_runs.proofs.Holding.{AllRaised}
+use Rattle.plain_runs.proofs.OwnAnchors.{mine_lone}
 use Rattle.plain_runs.proofs.PlainWords.{idle_there, readers_fit}
 use Rattle.plain_runs.proofs.Rounds.{hand_inside, no_victim, onward_inside, onward_is}
 use Rattle.plain_runs.proofs.Evicting as gone
@@ -115,7 +116,7 @@ module _ (g : Ground (List ℕ)) (lone : IsLone g) (rename : ℕ → ℕ) (v : V
   leaves = (claim_leaves (setting_of g) (spare v) p (let h = all in omega arith)).untouched
 
   all_taken : (t : ℕ) (w : View (List ℕ)) → FoundAllTaken g t v w → free_below k s k.slots ≡ 0
-  all_taken t w h = none_below k.slots (λ j lt. test_is j lt ∙ h.passed.taken j lt lone)
+  all_taken t w h = none_below k.slots (λ j lt. test_is j lt ∙ h.passed.taken j lt (mine_lone g lone v (Map (j / 64))))
 
   was_free : (slot : ℕ) → slot < k.slots → is_free_slot g v slot ≡ true → 0 < free_below k s k.slots
   was_free slot lt h = some_below k.slots slot lt (by_test (taken_in (word_in k s.words (Map (slot / 64))) slot) (test_is slot lt ∙ h))
@@ -145,7 +146,7 @@ module _ (g : Ground (List ℕ)) (lone : IsLone g) (rename : ℕ → ℕ) (v : V
   }
     where
       no_one : victim (setting_of g) p ≡ None
-      no_one = no_victim (setting_of g) p (λ a lt. sym (idle_there rename (setting_of g) p 0 a (has g out.middle (Anchor a)) ((knows_after t out.middle out.none).each a lt).word (few a) refl) ∙ out.busy.was a lt lone)
+      no_one = no_victim (setting_of g) p (λ a lt. sym (idle_there rename (setting_of g) p 0 a (has g out.middle (Anchor a)) ((knows_after t out.middle out.none).each a lt refl).word (few a) refl) ∙ out.busy.was a lt (mine_lone g lone out.middle (Anchor a)))
 
       of_stands : (u ≡ out.middle) ⊎ (Stands g out.middle × Stands g u) → Stands g u
       of_stands (inl e) = subst (Stands g) (sym e) (stands_after t out.middle out.none)
@@ -194,7 +195,7 @@ module _ (g : Ground (List ℕ)) (lone : IsLone g) (rename : ℕ → ℕ) (v : V
 
     module _ (hand hand_after : ℕ) (hand_is : hand_in k.anchors hand ≡ p.hand) where
       by_claim : ByClaim g t hand v slot u hand_after → ClaimsRight g rename p v u hand_after (claim (setting_of g) (spare v) p)
-      by_claim h = let is = claims_free (was_free slot h.claimed.there (h.claimed.was lone)) in subst (ClaimsRight g rename p v u hand_after) (sym is) record {
+      by_claim h = let is = claims_free (was_free slot h.claimed.there (h.claimed.was (mine_lone g lone v (Map (slot / 64))))) in subst (ClaimsRight g rename p v u hand_after) (sym is) record {
         done = refl;
         knows = knows_same g rename v u p no_guests knows (frame.went_none g lone v u h.claimed.added h.claimed.passed.went h.claimed.passed.quiet.3);
         hand = ap (hand_in k.anchors) h.stays ∙ hand_is;

@@ -1,5 +1,5 @@
 -- A tab comes to the anchor of a URL, and judges what it finds there as the plain store does.
-use Rattle.std.proofs.Common.{Bool, List, None, Option, Some, [], ap, arith, get_or, get_or-set_same, length, length-drop, refl, subst, sym, ◌+◌, ◌++◌, ◌<◌, ◌∙◌, ◌≡◌, ◌≢◌, ◌∷◌, drop, suc, take, zero, ℕ}
+use Rattle.std.proofs.Common.{Bool, List, None, Option, Some, [], ap, arith, get_or, get_or-set_same, length, length-drop, refl, subst, sym, true, ◌+◌, ◌++◌, ◌<◌, ◌∙◌, ◌≡◌, ◌≢◌, ◌∷◌, drop, suc, take, zero, ℕ}
 use Rattle.std.specs.Int.{from_le_bytes, to_le_bytes, w64}
 use Rattle.std.proofs.lemmas.List.{get_or-drop, length-take-le, take-append-drop}
 use Rattle.std.proofs.lemmas.Nat.{le_bytes_8}
@@ -37,13 +37,14 @@ use Rattle.rock_reader.proofs.Coming.{came_tabs, entered_else, entered_readable}
 use Rattle.worker_shelf.specs.Typed.{TellsKey}
 use Rattle.crew_accounts.proofs.Loading.{keyed_reads, still_reads}
 use Rattle.crew_accounts.proofs.OneKey.{one_key}
-use Rattle.plain_runs.specs.Words.{IsLone, Knows, ShowsAt, ShowsEntry, ShowsEntryIf, no_guests, setting_of}
+use Rattle.plain_runs.specs.Words.{KnowsLot, Lot, ShowsAt, ShowsEntry, ShowsEntryIf, no_guests, setting_of}
 use Rattle.plain_runs.proofs.AnchorWords.{enter_knows}
 use Rattle.plain_runs.proofs.Frames.{knows_same}
 use Rattle.plain_runs.proofs.Judging.{entry_found, epoch_found, hits, judged_hit, judged_miss, refuses}
 use Rattle.plain_runs.proofs.LeftTabs.{guest_at}
+use Rattle.plain_runs.proofs.OwnAnchors.{OwnsAnchor, pass_stays}
 use Rattle.plain_runs.proofs.PlainWords.{readers_fit}
-use Rattle.plain_runs.proofs.QuietSteps.{front_quiet, key_quiet}
+use Rattle.plain_runs.proofs.QuietSteps.{front_at, front_pass, front_quiet, key_pass, key_quiet}
 
 -- Keys of 16 bytes are one where their halves are.
 
@@ -75,19 +76,22 @@ abbrev key_in : Option Entry → List ℕ
 key_in None = []
 key_in (Some e) = e.key
 
--- A tab came to the anchor, where its pass knew the plain store, and found this epoch there.
+-- A tab came to the anchor, which is its pass's own and in its lot, where its pass knew the plain store of the lot, and found this epoch there.
 pub record HasCome (g : Ground (List ℕ)) (rename : ℕ → ℕ) (t a : ℕ) : Type 0 where
   pub store : Plain
   pub eight : length store.tabs ≡ 8
   pub before : View (List ℕ)
-  pub knows : Knows g rename before store no_guests
+  pub own : OwnsAnchor g before.pass a
+  pub lot : Lot
+  pub ours : lot.anchors a ≡ true
+  pub knows : KnowsLot g rename lot before store no_guests
   pub found : ℕ
   pub came : View (List ℕ)
   pub enter : Steps g before (Enter t a) found came
   pub epoch : Epoch
   pub epoch_is : epoch_of found ≡ epoch_number epoch
 
-module _ (g : Ground (List ℕ)) (rename : ℕ → ℕ) (lone : IsLone g) (t a : ℕ) (come : HasCome g rename t a) where
+module _ (g : Ground (List ℕ)) (rename : ℕ → ℕ) (t a : ℕ) (come : HasCome g rename t a) where
   abbrev p : Plain
   p = come.store
 
@@ -107,13 +111,13 @@ module _ (g : Ground (List ℕ)) (rename : ℕ → ℕ) (lone : IsLone g) (t a :
   epoch_plain = plain.epoch_of (room_of g.slot) (place_at p a)
 
   shows : ShowsAt g rename v p 0 a
-  shows = come.knows.each a inside
+  shows = come.knows.each a inside come.ours
 
   few : readers p a + 0 < 65536
   few = readers_fit p a 0 come.eight (omega arith)
 
   pub epoch_same : epoch ≡ renamed_epoch rename epoch_plain
-  epoch_same = epoch_found g rename v p 0 a shows few come.found epoch (found_mine g v came (Enter t a) come.found (Anchor a) come.enter lone refl) come.epoch_is
+  epoch_same = epoch_found g rename v p 0 a shows few come.found epoch (found_mine g v came (Enter t a) come.found (Anchor a) come.enter (come.own.words v (Anchor a) refl refl) refl) come.epoch_is
 
   pub version_same : epoch.version ≡ rename (place_at p a).version
   version_same = ap Epoch.version epoch_same
@@ -121,8 +125,11 @@ module _ (g : Ground (List ℕ)) (rename : ℕ → ℕ) (lone : IsLone g) (t a :
   pub undoomed : IsReadable epoch → (place_at p a).doom ≡ Bool.false
   undoomed h = sym (ap Epoch.doom epoch_same) ∙ h.1
 
-  pub came_knows : Knows g rename came p (guest_at a)
-  came_knows = enter_knows g rename lone v came p t a come.found come.knows come.enter
+  pub came_knows : KnowsLot g rename come.lot came p (guest_at a)
+  came_knows = enter_knows g rename v came p t a come.found (come.own.words v (Anchor a) refl refl) come.knows come.enter
+
+  came_pass : came.pass ≡ v.pass
+  came_pass = pass_stays g v came (Enter t a) come.found come.enter
 
   came_tab : tab_at came t ≡ entered a (epoch_number epoch)
   came_tab = ap (λ (xs : List (Tab (List ℕ))). get_or xs t Free) (came_tabs g v came t a come.found come.enter)
@@ -147,25 +154,37 @@ module _ (g : Ground (List ℕ)) (rename : ℕ → ℕ) (lone : IsLone g) (t a :
     entry_there = (entry_found g rename v p 0 a shows few epoch epoch_same readable).1
 
     -- what the pass knows of the entry while nothing changes
-    pub shown : (u : View (List ℕ)) (n : ℕ → ℕ) → Knows g rename u p n → ShowsEntry g u a (place_at p a).version entry
-    shown u n k = subst (ShowsEntryIf g u a (place_at p a).version) entry_there (k.each a inside).entry
+    pub shown : (u : View (List ℕ)) (n : ℕ → ℕ) → KnowsLot g rename come.lot u p n → ShowsEntry g u a (place_at p a).version entry
+    shown u n k = subst (ShowsEntryIf g u a (place_at p a).version) entry_there (k.each a inside come.ours).entry
+
+    came_at : anchor_of (tab_at came t) ≡ a
+    came_at = ap anchor_of (reads readable)
 
     module _ (key : List ℕ) (keyed : View (List ℕ)) (loaded : KeyLoaded g t came key keyed) where
-      pub keyed_knows : Knows g rename keyed p (guest_at a)
-      keyed_knows = knows_same g rename came keyed p (guest_at a) came_knows (key_quiet g lone t came key keyed loaded)
+      pub keyed_knows : KnowsLot g rename come.lot keyed p (guest_at a)
+      keyed_knows = knows_same g rename came keyed p (guest_at a) came_knows (key_quiet g v.pass a come.own t came key keyed came_pass came_at loaded)
 
       pub keyed_tab : tab_at keyed t ≡ Reading (opened a epoch.version)
       keyed_tab = keyed_reads g came keyed t (opened a epoch.version) (reads readable) key loaded
 
-      middle_knows : Knows g rename loaded.middle p (guest_at a)
-      middle_knows = knows_same g rename came loaded.middle p (guest_at a) came_knows (front_quiet g lone t came key keyed loaded)
+      pub keyed_pass : keyed.pass ≡ v.pass
+      keyed_pass = key_pass g v.pass a come.own t came key keyed came_pass came_at loaded
+
+      pub keyed_at : anchor_of (tab_at keyed t) ≡ a
+      keyed_at = ap anchor_of keyed_tab
+
+      middle_knows : KnowsLot g rename come.lot loaded.middle p (guest_at a)
+      middle_knows = knows_same g rename came loaded.middle p (guest_at a) came_knows (front_quiet g v.pass a come.own t came key keyed came_pass came_at loaded)
 
       front_is : front_half key ≡ front_half entry.key
-      front_is = found_mine g came loaded.middle (LoadSide t Key0) (front_half key) (Beside Key0 (anchor_of (tab_at came t))) loaded.front lone refl
+      front_is = found_mine g came loaded.middle (LoadSide t Key0) (front_half key) (Beside Key0 (anchor_of (tab_at came t))) loaded.front
+          (come.own.words came (Beside Key0 (anchor_of (tab_at came t))) came_pass came_at) refl
           ∙ ap (λ (x : Tab (List ℕ)). has g came (Beside Key0 (anchor_of x))) (reads readable) ∙ (shown came (guest_at a) came_knows).names.key0
 
       back_is : back_half key ≡ back_half entry.key
-      back_is = found_mine g loaded.middle keyed (LoadSide t Key1) (back_half key) (Beside Key1 (anchor_of (tab_at loaded.middle t))) loaded.back lone refl
+      back_is = found_mine g loaded.middle keyed (LoadSide t Key1) (back_half key) (Beside Key1 (anchor_of (tab_at loaded.middle t))) loaded.back
+          (come.own.words loaded.middle (Beside Key1 (anchor_of (tab_at loaded.middle t)))
+          (front_pass g v.pass a come.own t came key keyed came_pass came_at loaded) (front_at g v.pass a come.own t came key keyed came_pass came_at loaded)) refl
           ∙ ap (λ (x : Tab (List ℕ)). has g loaded.middle (Beside Key1 (anchor_of x))) (still_reads g came loaded.middle t (opened a epoch.version) (reads readable) Key0 (front_half key) (λ z. cc) loaded.front)
           ∙ (shown loaded.middle (guest_at a) middle_knows).names.key1
 

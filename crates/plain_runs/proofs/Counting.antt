@@ -20,6 +20,7 @@ use Rattle.link_word.specs.declared.link.Link.{Link}
 use Rattle.link_word.specs.declared.link.Link.TheVariants.{Last, Next, NotWritten}
 use Rattle.plain_runs.specs.Words.{IsLone, Knows, spare, spare_of}
 use Rattle.plain_runs.proofs.Chains as told
+use Rattle.plain_runs.proofs.OwnAnchors.{owns_lone}
 use Rattle.plain_runs.proofs.Freeing.{FewReaders}
 use Rattle.plain_runs.proofs.Holding.{AllRaised, holds_at, linked, linked_at}
 use Rattle.plain_runs.proofs.Totals.{sum_only, sum_plus, sum_same, sums_match, total, total_none, total_of_sums, total_only}
@@ -40,7 +41,7 @@ module _ (g : Ground (List ℕ)) (lone : IsLone g) (s : State (List ℕ)) (i : �
   k = g.setting
 
   pub writer_tied : (t : ℕ) (w : Writer (List ℕ)) → get_elem? v.tabs t ≡ some (Writing w) → length (slots_of_link w.end) ≤ length w.reserved
-  writer_tied t w there = tied_few w.end w.published w.reserved (told.writer_holds g lone s i v rule at pass i t w record { view = v; at = at; there = there }).tied
+  writer_tied t w there = tied_few w.end w.published w.reserved (told.writer_holds g s rule i t w record { view = v; at = at; there = there }).tied
 
   own_tabs : sum_by (count slots_held) s.views ≡ sum_by slots_held v.tabs
   own_tabs = sum_only (count slots_held) s.views i v at (λ j u there ne. ap (sum_by slots_held) (told.other_views g lone s i v rule at pass j u there ne))
@@ -78,7 +79,7 @@ module _ (g : Ground (List ℕ)) (lone : IsLone g) (s : State (List ℕ)) (i : �
 
     at_place : (a : ℕ) → a < length s.chains → slots_chained (Rattle.core_model.specs.State.chain_of s a) + sum_by (linked_at (0 + a)) v.tabs ≡ held room (place_at p a)
     at_place a lt = let inside : a < k.anchors = (let e = rule.sound.anchors.shaped.chains in omega arith) in
-        let h = holds_at g lone s i v rule at pass a inside rename p (guests a) (knows.each a inside) (few a) raised in let e = ap (λ z. sum_by (linked_at z) v.tabs) (zero_first a) in omega arith
+        let h = holds_at g s i v rule at pass a (owns_lone g lone v.pass a) inside rename p (guests a) (knows.each a inside refl) (few a) raised in let e = ap (λ z. sum_by (linked_at z) v.tabs) (zero_first a) in omega arith
       where
         zero_first : (n : ℕ) → 0 + n ≡ n
         zero_first n = omega arith

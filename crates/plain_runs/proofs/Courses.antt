@@ -40,7 +40,7 @@ use Rattle.plain_runs.proofs.Marks.{SeesMore, free_still, shows_still}
 module _ {C O : Type 0} (tells : Bool) (state : C → CellState) (offers : O → Offers) (s : Store C O) where
   -- a tab that is free, the plain store has free
   pub plain_free : (p : Pass C) (plain : Plain) (t : ℕ) → t < 8 → ShowsPlain tells state offers s p plain → IsFree p t → tab_at plain t ≡ Free
-  plain_free p plain t lt shows free = of_tab (tab_at plain t) refl (shows.tabs t lt)
+  plain_free p plain t lt shows free = of_tab (tab_at plain t) refl (shows.tabs t lt refl)
     where
       of_tab : (x : PlainTab) → tab_at plain t ≡ x → ShowsTab tells state offers s (λ v. v) p plain t (tab_at plain t) → tab_at plain t ≡ Free
       of_tab Free is h = is

@@ -1,5 +1,5 @@
 -- The last piece of an entry is published and the entry closed, in the store and in the plain store.
-use Rattle.std.proofs.Common.{Bool, Contains, List, None, Option, Some, [], ap, arith, cond, eq-eqb, false, get_or, inl, inr, length, ne_eqb, refl, subst, sym, true, ◌*◌, ◌++◌, ◌+◌, ◌-◌, ◌<◌, ◌==◌, ◌∙◌, ◌≡◌, ◌≢◌, ◌≤◌, ◌⊎◌, ◌∷◌, ℕ}
+use Rattle.std.proofs.Common.{Bool, List, None, Some, [], ap, arith, cond, eq-eqb, false, get_or, inl, inr, length, ne_eqb, refl, subst, sym, true, ◌+◌, ◌-◌, ◌<◌, ◌∙◌, ◌≡◌, ◌≢◌, ◌≤◌, ◌∷◌, ℕ}
 use Rattle.std.specs.Prelude.{◌/◌, ◌↔◌}
 use Rattle.std.proofs.lemmas.List.{length_push}
 use Rattle.std.proofs.lemmas.Bool.{le-ltb}
@@ -33,7 +33,7 @@ use Rattle.plain_model.specs.declared.entry.Place.{Place as PlaceOf}
 use Rattle.plain_model.specs.declared.store.Plain.{Plain}
 use Rattle.plain_model.specs.declared.store.Refusal.TheVariants.{Full}
 use Rattle.plain_model.specs.declared.store.Setting.{Setting}
-use Rattle.plain_model.specs.Slots.{Grown, claim, grown_as}
+use Rattle.plain_model.specs.Slots.{claim, grown_as}
 use Rattle.plain_model.specs.declared.store.Tab.{Tab as PlainTab}
 use Rattle.plain_model.specs.declared.store.Tab.TheVariants as plain
 use Rattle.plain_model.specs.Store.{entry_at, meta_size, place_at, published, readers, stage_of_entry, tab_at as plain_tab}
@@ -64,7 +64,8 @@ use Rattle.plain_runs.proofs.Frames.{SameBut, same_weaker}
 use Rattle.plain_runs.proofs.Freeing.{KnowsBut, knows_but, same_else}
 use Rattle.plain_runs.proofs.Halting.{ended_right, growing_stage, raised_so}
 use Rattle.plain_runs.proofs.PlainWords.{doom_counted, readers_fit}
-use Rattle.plain_runs.proofs.Published.{Linking, Touched, chain_of_tab, no_anchor, stands_before, touched_but, touched_linking, touched_names}
+use Rattle.plain_runs.proofs.OwnAnchors.{mine_lone, owns_lone, stands_before}
+use Rattle.plain_runs.proofs.Published.{Linking, Touched, chain_of_tab, no_anchor, touched_but, touched_linking, touched_names}
 use Rattle.plain_runs.proofs.Growth.{grown_done, grown_not, grown_of}
 use Rattle.plain_runs.proofs.Publishing.{HasGrown, HasRunShort, first_claimed, stays_none}
 use Rattle.plain_runs.proofs.Reserving.{HasClaimed, HasRunOut, IsReadied, runs_out}
@@ -170,7 +171,7 @@ module _ {C O : Type 0} (tells : Bool) (state : C → CellState) (offers : O →
     level = level_here tells state offers st lone rename t pass p e x ready h
 
     entry : ShowsEntry g (view pass) e.anchor (place_at p e.anchor).version x
-    entry = entry_shown g rename (view pass) p e.anchor (ready.knows.each e.anchor lt) x h.there
+    entry = entry_shown g rename (view pass) p e.anchor (ready.knows.each e.anchor lt refl) x h.there
 
     from_origin : g.setting.slots ≤ x.offer
     from_origin = let k = h.writes.rests.from in let o = h.offer_is in omega arith
@@ -256,13 +257,13 @@ module _ {C O : Type 0} (tells : Bool) (state : C → CellState) (offers : O →
         le = let k = growing_stage room x.content in omega arith
 
         before : ShowsAt g rename f.wrote.reserved store 0 e.anchor
-        before = hg.readied.knows.each e.anchor lt
+        before = hg.readied.knows.each e.anchor lt refl
 
         same : SameBut g f.wrote.reserved f.linked (Touched e.anchor f.wrote.slot)
         same = same_weaker g f.wrote.reserved f.linked (Linking e.anchor f.wrote.slot) (Touched e.anchor f.wrote.slot) (touched_linking e.anchor f.wrote.slot) po.same
 
         but : KnowsBut g rename f.linked store no_guests e.anchor
-        but = touched_but g lone rename f.wrote.reserved f.linked t f.wrote.slot (writer_as g e ps h.writes.end (f.wrote.slot ∷ [])) store store hg.readied.stands hg.readied.pass below hg.tab (0, omega arith, refl) same
+        but = touched_but g rename lone f.wrote.reserved f.linked t f.wrote.slot (writer_as g e ps h.writes.end (f.wrote.slot ∷ [])) store store hg.readied.stands hg.readied.pass below hg.tab (0, omega arith, refl) same
             (same_else store e.anchor) hg.readied.eight (knows_but g rename f.wrote.reserved store no_guests e.anchor hg.readied.knows)
 
         word : has g f.linked (Anchor e.anchor) ≡ staged rename store e.anchor from
@@ -270,15 +271,15 @@ module _ {C O : Type 0} (tells : Bool) (state : C → CellState) (offers : O →
             ∙ word_staged g rename f.wrote.reserved store e.anchor before x there from (ap (λ (l : Life). stage_of_entry room l x.content) h.grows)
 
         shown : ShowsEntry g f.linked e.anchor (place_at store e.anchor).version (record x { life = Whole })
-        shown = let n = touched_names g lone f.wrote.reserved f.linked e.anchor f.wrote.slot x lt same (entry_shown g rename f.wrote.reserved store e.anchor before x there).names in record {
+        shown = let n = touched_names g f.wrote.reserved f.linked e.anchor f.wrote.slot x lt same (entry_shown g rename f.wrote.reserved store e.anchor before x there).names in record {
           names = record { key0 = n.key0; key1 = n.key1; offer = n.offer };
-          chain = chain_of_tab g lone f.linked t y (record x { life = Whole }) (stands_before f.closes) po.pass below po.tab refl (length_push ps f.wrote.slot ∙ (let l = level in omega arith)) refl;
+          chain = chain_of_tab g f.linked t y (record x { life = Whole }) (owns_lone g lone f.linked.pass y.anchor) (stands_before f.closes) po.pass below po.tab refl (length_push ps f.wrote.slot ∙ (let l = level in omega arith)) refl;
           offer = whole_offer;
           drawn = (entry_shown g rename f.wrote.reserved store e.anchor before x there).drawn;
         }
 
         left : left_by f.linked (Raise t stage.Closed) f.word ≡ staged rename store e.anchor stage.Closed
-        left = (raised_so g lone rename t below from stage.Closed f.linked f.closed store y e.anchor f.word le refl po.tab hg.readied.eight word f.closes).1
+        left = (raised_so g rename t below from stage.Closed f.linked f.closed store y e.anchor f.word (mine_lone g lone f.linked (Anchor y.anchor)) le refl po.tab hg.readied.eight word f.closes).1
 
         doom_is : doom_of (epoch_in (left_by f.linked (Raise t stage.Closed) f.word)) ≡ doom_number (place_at store e.anchor).doom
         doom_is = ap (λ (n : ℕ). doom_of (epoch_in n)) left ∙ doom_counted (renamed_word rename record { epoch = record { version = (place_at store e.anchor).version; doom = (place_at store e.anchor).doom; stage = stage.Closed }; readers = readers store e.anchor })

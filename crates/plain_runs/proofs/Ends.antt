@@ -4,36 +4,34 @@ use Rattle.std.specs.Prelude.{IsTrue, None, Option, Some, slice_index_or}
 use Rattle.std.proofs.lemmas.List.{length-map}
 use mathlib.Core.Option.{some}
 use lib.ListN.{get_elem?}
-use Rattle.lock_word.specs.Words.{epoch_of, stage_number, stage_of, version_of, word_number}
+use Rattle.lock_word.specs.Words.{epoch_of, stage_of, version_of, word_number}
 use Rattle.store_key.specs.Anchor.{anchor_of}
 use Rattle.store_key.specs.Key.{key_of}
 use Rattle.rock_disk.specs.Cell.{CellState}
 use Rattle.rebuild_model.specs.Entry.{IsComplete}
-use Rattle.entry_cut.specs.Content.{Cut, room_of}
+use Rattle.entry_cut.specs.Content.{Cut}
 use Rattle.entry_cut.specs.Standing.{IsWritable, Stand, entry_of}
 use Rattle.core_model.specs.declared.moves.Side.TheVariants.{Offer}
 use Rattle.core_model.specs.declared.tab.Cell.{Cell}
-use Rattle.core_model.specs.declared.view.Place.TheVariants.{Anchor, Beside}
+use Rattle.core_model.specs.declared.view.Place.TheVariants.{Anchor}
 use Rattle.core_model.specs.declared.view.View.{View}
 use Rattle.core_model.specs.State.{State, side_word, word}
 use Rattle.core_model.specs.Tabs.{IsPass}
 use Rattle.plain_model.specs.declared.entry.Entry.{Entry}
-use Rattle.plain_model.specs.declared.entry.Life.{Life}
 use Rattle.plain_model.specs.declared.entry.Life.TheVariants.{Whole}
 use Rattle.plain_model.specs.declared.store.Plain.{Plain}
-use Rattle.plain_model.specs.Store.{entry_at, place_at, stage_of as stage_of_place, stage_of_entry, word_at}
-use Rattle.store_rule.specs.Words.{has}
+use Rattle.plain_model.specs.Store.{entry_at, place_at, word_at}
 use Rattle.store_rule.specs.declared.store.Pass.{Pass}
 use Rattle.store_rule.specs.declared.store.Store.{Store}
 use Rattle.store_rule.specs.Closing.{Closed}
 use Rattle.store_rule.specs.Ground.{Ground, Offers, Rule}
+use Rattle.store_rule.specs.Told.{Stands}
 use Rattle.store_rule.specs.Passes.{basis, view}
 use Rattle.store_rule.proofs.Passing.{pass_of}
 use Rattle.store_rule.specs.Setting.{shown}
 use Rattle.rock_reader.specs.Responses.{IsResponse}
-use Rattle.plain_runs.specs.Words.{IsLone, Knows, ShowsEntry, ShowsEntryIf, no_guests, setting_of}
-use Rattle.plain_runs.proofs.Chains.{word_is}
-use Rattle.plain_runs.proofs.PlainWords.{readers_fit, stage_there, version_there}
+use Rattle.plain_runs.specs.Words.{IsLone, Knows, ShowsEntry, no_guests, setting_of}
+use Rattle.plain_runs.proofs.OwnAnchors.{OwnsAnchor, owns_lone}
 use Rattle.plain_runs.specs.Ends.{HasVersions, HoldsEntry, HoldsWhole, IsHomeAs, SpellsResponse, TellsPieces}
 use Rattle.plain_runs.specs.Runs.{ShowsPlain}
 use Rattle.plain_runs.proofs.Spelled.{spells}
@@ -69,18 +67,24 @@ module _ {C : Type 0} (tells : Bool) (state : C → CellState) (told : IsTrue te
 module _ (g : Ground (List ℕ)) (lone : IsLone g) (s : State (List ℕ)) (i : ℕ) (v : View (List ℕ)) (rule : Rule g s) (at : get_elem? s.views i ≡ some v) (pass : IsPass v)
     (pieces : TellsPieces g) (versions : HasVersions g) (images : List (List ℕ)) (home : IsHomeAs g s images) (many : length g.setting.contents ≡ g.setting.slots)
     (sized : g.slot < 2 ^ 32) (few : g.setting.slots ≤ 1048576) (placed : PlacedPieces) (p : Plain) (knows : Knows g (λ v. v) v p no_guests) (eight : length p.tabs ≡ 8) where
+  abbrev at_state : Stands g v
+  at_state = record { state = s; index = i; rule = rule; at = at }
+
   module _ (a : ℕ) (e : Entry) (lt : a < g.setting.anchors) (there : entry_at p a ≡ Some e) (whole : e.life ≡ Whole) where
+    own : OwnsAnchor g v.pass a
+    own = owns_lone g lone v.pass a
+
     closed : stage_of (epoch_of (word s a)) ≡ 3
-    closed = stage_is g lone s i v rule at pass p knows eight a e lt there whole
+    closed = stage_is g v at_state pass p knows eight a own e lt there whole
 
     version_is : version_of (epoch_of (word s a)) ≡ (place_at p a).version
-    version_is = version_stands g lone s i v rule at pass p knows eight a e lt there whole
+    version_is = version_stands g v at_state pass p knows eight a own e lt there whole
 
     entry_there : ShowsEntry g v a (place_at p a).version e
-    entry_there = entry_shown g lone s i v rule at pass p knows eight a e lt there whole
+    entry_there = entry_shown g v at_state pass p knows eight a own e lt there whole
 
     offer_is : side_word g.setting s Offer a ≡ e.offer
-    offer_is = offer_stands g lone s i v rule at pass p knows eight a e lt there whole
+    offer_is = offer_stands g v at_state pass p knows eight a own e lt there whole
 
     spelled : SpellsResponse g s images a e.url e.body
     spelled = spells g s rule pieces versions images home a lt closed many sized few placed e.url e.body
@@ -105,8 +109,8 @@ module _ {C O : Type 0} (tells : Bool) (state : C → CellState) (offers : O →
     (shows : ShowsPlain tells state offers s p plain) (lt : a < (basis tells state offers s).setting.anchors) where
   pub closed_word : word closed.gathered.state a ≡ word_number (word_at (setting_of (basis tells state offers s)) plain a)
   closed_word = let gathered = closed.gathered in
-      word_is (basis tells state offers s) lone gathered.state (gathered.index 0) (view p) gathered.rule (gathered.at 0 (view p) first) (pass_of p) (Anchor a) lt
-      ∙ (shows.knows.each a lt).word ∙ plus_none _
+      (owns_lone (basis tells state offers s) lone (view p).pass a).stands (view p) record { state = gathered.state; index = gathered.index 0; rule = gathered.rule; at = gathered.at 0 (view p) first } (Anchor a) refl (pass_of p) refl lt
+      ∙ (shows.knows.each a lt refl).word ∙ plus_none _
     where
       plus_none : (n : ℕ) → n + 0 ≡ n
       plus_none n = omega arith

@@ -1,13 +1,12 @@
 -- What is known of the plain store once a tab has written and published a piece.
-use Rattle.std.proofs.Common.{Bool, Contains, List, None, Option, Some, [], ap, arith, false, get_or, get_or-set_other, get_or-set_same, inl, inr, length, ne_eqb, eq-eqb, refl, subst, sym, true, ◌*◌, ◌++◌, ◌+◌, ◌-◌, ◌<◌, ◌∙◌, ◌≡◌, ◌≢◌, ◌≤◌, ◌⊎◌, ◌∷◌, ℕ}
+use Rattle.std.proofs.Common.{Bool, List, None, Option, Some, [], ap, arith, get_or, get_or-set_other, get_or-set_same, inl, inr, length, ne_eqb, eq-eqb, refl, subst, sym, true, ◌*◌, ◌+◌, ◌-◌, ◌<◌, ◌∙◌, ◌≡◌, ◌≢◌, ◌≤◌, ◌⊎◌, ◌∷◌, ℕ}
 use Rattle.link_word.specs.declared.link.Link.{Link as LinkOf}
-use Rattle.link_word.specs.declared.link.Link.TheVariants.{Last as LastLink, Next, NotWritten}
+use Rattle.link_word.specs.declared.link.Link.TheVariants.{Next}
 use Rattle.lock_word.specs.Words.{epoch_of as epoch_in, raised, stage_number, stage_of as stage_in, word_number}
 use Rattle.lock_word.specs.declared.stage.Stage.{Stage}
 use Rattle.lock_word.specs.declared.stage.Stage.TheVariants as stage
-use Rattle.lock_word.specs.declared.word.Word.{Word}
 use Rattle.entry_cut.specs.Content.{room_of}
-use Rattle.core_model.specs.Chains.{slots_of_link, start_number}
+use Rattle.core_model.specs.Chains.{slots_of_link}
 use Rattle.core_model.specs.SlotMoves.{publishes, stores}
 use Rattle.core_model.specs.Table.{left_by}
 use Rattle.core_model.specs.Tabs.{InnerIsFree, IsPass, OfWriter, inner, tab_at, with_tab}
@@ -21,17 +20,16 @@ use Rattle.core_model.specs.declared.view.Place.TheVariants.{Anchor}
 use Rattle.core_model.specs.declared.view.View.{View}
 use Rattle.plain_model.specs.declared.entry.Entry.{Entry}
 use Rattle.plain_model.specs.declared.entry.Life.{Life}
-use Rattle.plain_model.specs.declared.entry.Life.TheVariants.{GivenUp, Growing, Whole}
+use Rattle.plain_model.specs.declared.entry.Life.TheVariants.{Growing, Whole}
 use Rattle.plain_model.specs.declared.entry.Place.{Place as PlaceOf}
 use Rattle.plain_model.specs.declared.store.Plain.{Plain}
 use Rattle.plain_model.specs.declared.store.Setting.{Setting}
 use Rattle.plain_model.specs.Place.{nothing, resized}
 use Rattle.plain_model.specs.Slots.{grown_as, limit, publish, resize}
-use Rattle.plain_model.specs.Store.{entry_at, epoch_of, meta_size, place_at, published, readers, stage_of, stage_of_entry, word_at}
+use Rattle.plain_model.specs.Store.{entry_at, epoch_of, meta_size, place_at, published, readers, stage_of, stage_of_entry}
 use Rattle.plain_laws.specs.Renaming.{renamed_word}
 use Rattle.plain_laws.proofs.Sums.{inside}
 use Rattle.store_rule.specs.Calls.{Others}
-use Rattle.store_rule.specs.Steps.{ActsFor}
 use Rattle.store_rule.specs.Words.{has}
 use Rattle.store_rule.proofs.OtherTabs.{others_go_on, others_stay}
 use Rattle.rock_writer.specs.Entries.{Entry as Writing_, GoesOn, writer_as}
@@ -43,11 +41,11 @@ use Rattle.slice_chain.specs.Links.{Published, next_link}
 use Rattle.slice_chain.specs.Writes.{chose}
 use Rattle.slice_chain.specs.Victims.{hand_in}
 use Rattle.store_rule.specs.Ground.{Ground}
-use Rattle.store_rule.specs.Told.{Stands, Steps}
 use Rattle.plain_runs.specs.Words.{HasChain, HasNames, IsLone, IsOfOffer, Knows, ShowsAt, ShowsEntry, ShowsEntryIf, no_guests, setting_of}
 use Rattle.plain_runs.proofs.Frames.{SameBut, same_none, same_on, same_weaker}
 use Rattle.plain_runs.proofs.Freeing.{KnowsBut, but_moved, knows_all, knows_but, put_else, same_else}
 use Rattle.plain_runs.proofs.PlainWords.{readers_fit, stage_counted}
+use Rattle.plain_runs.proofs.OwnAnchors.{mine_lone}
 use Rattle.plain_runs.proofs.Published.{Linking, Touched, anchor_there, no_anchor, published_same, raise_left, raise_same, touched_but, touched_either, touched_linking, touched_names, wrote_same}
 use Rattle.plain_runs.proofs.Publishing.{HasGrown, both_right}
 use Rattle.plain_runs.proofs.Reserving.{ClaimStays, IsReadied}
@@ -90,7 +88,7 @@ pub resized_at : (a c : ℕ) (p : Plain) (x : Entry) → entry_at p a ≡ Some x
 resized_at a c p x there = get_or-set_same p.places a (resized c (place_at p a)) nothing (inside p.places a x there)
     ∙ ap (λ (o : Option Entry). record (place_at p a) { entry = Rattle.plain_model.specs.Place.changed (λ d. record d { content = c }) o }) there
 
-module _ (g : Ground (List ℕ)) (lone : IsLone g) (rename : ℕ → ℕ) where
+module _ (g : Ground (List ℕ)) (rename : ℕ → ℕ) where
   abbrev s : Setting
   s = setting_of g
 
@@ -99,8 +97,8 @@ module _ (g : Ground (List ℕ)) (lone : IsLone g) (rename : ℕ → ℕ) where
       → stage_of_entry (room_of g.slot) Growing c ≡ st → HasNames g v a x → HasChain g v a (record x { content = c }) → IsOfOffer g a (record x { content = c }) → 0 < (place_at p a).version → Knows g rename v (resize a c p) no_guests
   knows_grown v p a c x st but there grows word is names chain offer drawn = knows_all g rename v (resize a c p) no_guests a
       (but_moved g rename v v (λ q. ⊥) p (resize a c p) no_guests a (same_none g v (λ q. ⊥)) (put_else p a (resized c (place_at p a))) (λ none. none)
-      (λ b lt ne. record { word = λ none. none; sides = λ side none. none; links = λ e k chain j m none. none }) but)
-      (λ lt. at_place (resized_at a c p x there))
+      (λ b lt own ne. record { word = λ none. none; sides = λ side none. none; links = λ e k chain j m none. none }) but)
+      (λ lt own. at_place (resized_at a c p x there))
     where
       new : Entry
       new = record x { content = c }
@@ -140,8 +138,8 @@ module _ (g : Ground (List ℕ)) (lone : IsLone g) (rename : ℕ → ℕ) (t : �
       → WrotePiece g t durable slot next u w → PieceOut u w ps slot next more
   piece_out u w ps end slot more durable next pass free is h = record {
     same = same_weaker g u w (λ q. ⊥ ⊎ Linking e.anchor slot q) (Linking e.anchor slot) (λ q c. of_either q c)
-        (same_on g u h.written w (λ q. ⊥) (Linking e.anchor slot) (wrote_same g lone u h.written t durable true pass below h.wrote)
-        (published_same g lone h.written w t slot next (chose (writer_as g e ps end (slot ∷ more)) h.wrote.slot durable h.wrote.written h.wrote.settled) nine below at (0, omega arith, refl) h.publishes));
+        (same_on g u h.written w (λ q. ⊥) (Linking e.anchor slot) (wrote_same g u h.written t durable true pass below h.wrote)
+        (published_same g h.written w t slot next (chose (writer_as g e ps end (slot ∷ more)) h.wrote.slot durable h.wrote.written h.wrote.settled) nine below at (0, omega arith, refl) h.publishes));
     tab = now.0;
     inner_free = now.1;
     pass = of_published h.publishes;
@@ -212,10 +210,10 @@ module _ (g : Ground (List ℕ)) (lone : IsLone g) (rename : ℕ → ℕ) (t : �
         there_q = ap (λ (o : PlaceOf). o.entry) hg.stays.place ∙ there
 
         lt : e.anchor < g.setting.anchors
-        lt = anchor_there g lone u t (writer_as g e ps end (f.slot ∷ f.next ∷ [])) hg.readied.stands hg.readied.pass below hg.tab
+        lt = anchor_there g u t (writer_as g e ps end (f.slot ∷ f.next ∷ [])) hg.readied.stands hg.readied.pass below hg.tab
 
         shown : ShowsAt g rename u q 0 e.anchor
-        shown = hg.readied.knows.each e.anchor lt
+        shown = hg.readied.knows.each e.anchor lt refl
 
         here : (st : Stage) → stage_of_entry (room_of g.slot) Growing x.content ≡ st → has g f.linked (Anchor e.anchor) ≡ staged rename q e.anchor st
         here st k = po.same.same (Anchor e.anchor) tt lt (no_anchor e.anchor f.slot e.anchor)
@@ -230,11 +228,11 @@ module _ (g : Ground (List ℕ)) (lone : IsLone g) (rename : ℕ → ℕ) (t : �
           grown = both.1;
           stays = hg.stays;
           hand_is = hg.readied.hand_is;
-          but = touched_but g lone rename u w t f.slot (writer_as g e ps end (f.slot ∷ f.next ∷ [])) q q hg.readied.stands hg.readied.pass below hg.tab (0, omega arith, refl) same (same_else q e.anchor) hg.readied.eight
+          but = touched_but g rename lone u w t f.slot (writer_as g e ps end (f.slot ∷ f.next ∷ [])) q q hg.readied.stands hg.readied.pass below hg.tab (0, omega arith, refl) same (same_else q e.anchor) hg.readied.eight
               (knows_but g rename u q no_guests e.anchor hg.readied.knows);
           word = word;
-          shown = entry_shown g rename v p e.anchor (h.knows.each e.anchor lt) x there;
-          names = touched_names g lone u w e.anchor f.slot x lt same (entry_shown g rename u q e.anchor shown x there_q).names;
+          shown = entry_shown g rename v p e.anchor (h.knows.each e.anchor lt refl) x there;
+          names = touched_names g u w e.anchor f.slot x lt same (entry_shown g rename u q e.anchor shown x there_q).names;
           others = others_go_on v u w t hg.others others;
         }
 
@@ -252,7 +250,7 @@ module _ (g : Ground (List ℕ)) (lone : IsLone g) (rename : ℕ → ℕ) (t : �
         of_raised (inl first) = done
             (same_weaker g u w (λ r. Touched e.anchor f.slot r ⊎ Touched e.anchor f.slot r) (Touched e.anchor f.slot) (touched_either e.anchor f.slot)
             (same_on g u f.linked w (Touched e.anchor f.slot) (Touched e.anchor f.slot) linking
-            (raise_same g lone f.linked w t first.word f.slot stage.Appending (linked_as g t below e ps f.slot (Next f.next) (f.next ∷ [])) po.pass below po.tab first.raises)))
+            (raise_same g f.linked w t first.word f.slot stage.Appending (linked_as g t below e ps f.slot (Next f.next) (f.next ∷ [])) po.pass below po.tab first.raises)))
             (left.1 ∙ (ap (λ (z : ℕ). raised z (2 - stage_in (epoch_in z))) found ∙ (ap (λ (k : ℕ). raised (staged rename q e.anchor stage.Taken) (2 - k)) one ∙ staged_raised rename q e.anchor stage.Taken stage.Appending (omega arith))))
             (others_go_on u f.linked w t po.others (others_stay g f.linked w (Raise t stage.Appending) first.word t first.raises (λ z k. acts k)))
           where
@@ -264,7 +262,7 @@ module _ (g : Ground (List ℕ)) (lone : IsLone g) (rename : ℕ → ℕ) (t : �
 
             left : (first.word ≡ has g f.linked (Anchor e.anchor)) × (has g w (Anchor e.anchor) ≡ raised first.word (2 - stage_in (epoch_in first.word)))
                 × (left_by f.linked (Raise t stage.Appending) first.word ≡ raised first.word (2 - stage_in (epoch_in first.word)))
-            left = raise_left g lone f.linked w t first.word stage.Appending (linked_as g t below e ps f.slot (Next f.next) (f.next ∷ [])) po.tab first.raises
+            left = raise_left g f.linked w t first.word stage.Appending (linked_as g t below e ps f.slot (Next f.next) (f.next ∷ [])) (mine_lone g lone f.linked (Anchor e.anchor)) po.tab first.raises
 
             found : first.word ≡ staged rename q e.anchor stage.Taken
             found = left.0 ∙ here stage.Taken (let z = eq-eqb (published (room_of g.slot) x.content) 0 level0 in rw z refl)

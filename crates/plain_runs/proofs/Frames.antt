@@ -1,11 +1,10 @@
 -- Words that steps leave alone, and what of the plain store they leave with them.
-use Rattle.std.proofs.Common.{Contains, List, None, Option, Some, [], ap, arith, inl, inr, ne_eqb, refl, subst, sym, ◌++◌, ◌+◌, ◌-◌, ◌<◌, ◌∙◌, ◌≡◌, ◌≢◌, ◌⊎◌, ◌∷◌, ℕ, false, true, Bool}
+use Rattle.std.proofs.Common.{Contains, List, None, Option, Some, [], ap, arith, inl, inr, ne_eqb, refl, subst, sym, ◌++◌, ◌+◌, ◌-◌, ◌<◌, ◌∙◌, ◌≡◌, ◌≢◌, ◌⊎◌, ◌∷◌, ℕ}
 use mathlib.Core.Logic.{dite}
 use native.Mathlib.Decide.{ℕ_discrete}
-use Rattle.core_model.specs.Chains.{IsSpelled, Spells, EndsUnwritten, Fits, link_to, slots_of_link}
+use Rattle.core_model.specs.Chains.{IsSpelled, Spells, EndsUnwritten, slots_of_link}
 use Rattle.core_model.specs.Layout.{IsPlace, index}
 use Rattle.core_model.specs.Table.{left_by, place}
-use Rattle.core_model.specs.Tabs.{IsPass}
 use Rattle.core_model.specs.declared.moves.Move.{Move}
 use Rattle.core_model.specs.declared.moves.Side.{Side}
 use Rattle.core_model.specs.declared.moves.Side.TheVariants.{Key0, Key1, Offer, Start}
@@ -22,15 +21,16 @@ use Rattle.plain_model.specs.declared.entry.Entry.{Entry}
 use Rattle.plain_model.specs.declared.store.Plain.{Plain}
 use Rattle.lock_word.specs.Words.{word_number}
 use Rattle.plain_model.specs.declared.entry.Place.{Place as PlaceOf}
-use Rattle.plain_model.specs.Store.{entry_at, epoch_of, place_at, readers, word_at}
+use Rattle.plain_model.specs.Store.{entry_at, epoch_of, place_at, readers}
 use Rattle.plain_laws.specs.Renaming.{renamed_word}
 use Rattle.core_model.proofs.Telling.{told_in, told_out}
 use Rattle.std.proofs.lemmas.List.Elements.{Contains-append_left, Contains-append_right}
 use Rattle.store_rule.specs.Ground.{Ground}
-use Rattle.store_rule.specs.Told.{Stands, Steps, found_as}
-use Rattle.store_rule.specs.Runs.{Added, IsFollowed, Went, added_by}
-use Rattle.store_rule.specs.Words.{Mine, has}
-use Rattle.plain_runs.specs.Words.{HasChain, HasNames, IsLone, Knows, ShowsAt, ShowsEntry, ShowsEntryIf, link_known, setting_of}
+use Rattle.store_rule.specs.Told.{Steps}
+use Rattle.store_rule.specs.Runs.{Added, IsFollowed, Went}
+use Rattle.store_rule.specs.Words.{has}
+use Rattle.plain_runs.specs.Words.{HasChain, HasNames, IsLone, KnowsLot, Lot, ShowsAt, ShowsEntry, ShowsEntryIf, link_known, setting_of}
+use Rattle.plain_runs.proofs.OwnAnchors.{mine_lone}
 
 -- the words of which `Knows` speaks: those of turns, of the map of taken slots and of the counter of logged pieces are left out
 abbrev pub IsKnown : Place → Type 0
@@ -64,10 +64,10 @@ module _ (g : Ground (List ℕ)) where
 
   -- of steps that may have changed these places of the table
   pub went_same : IsLone g → (v w : View (List ℕ)) (d : Added) → Went g v d w → ((q : Place) → Contains d.changed q → IsPlace g.setting q) → SameBut v w (Contains d.changed)
-  went_same lone v w d went there = record { same = λ q known here ne. went.steady q (known_followed q known) here lone (λ r c e. ne (subst (Contains d.changed) (apart g.setting r q (there r c) here e) c)) }
+  went_same lone v w d went there = record { same = λ q known here ne. went.steady q (known_followed q known) here (mine_lone g lone v q) (λ r c e. ne (subst (Contains d.changed) (apart g.setting r q (there r c) here e) c)) }
 
   pub went_none : IsLone g → (v w : View (List ℕ)) (d : Added) → Went g v d w → d.changed ≡ [] → SameBut v w (λ q. ⊥)
-  went_none lone v w d went none = record { same = λ q known here ne. went.steady q (known_followed q known) here lone (λ r c e. nothing_in r (subst (λ (z : List Place). Contains z r) none c)) }
+  went_none lone v w d went none = record { same = λ q known here ne. went.steady q (known_followed q known) here (mine_lone g lone v q) (λ r c e. nothing_in r (subst (λ (z : List Place). Contains z r) none c)) }
     where
       nothing_in : (r : Place) → Contains [] r → ⊥
       nothing_in r c = contains_none r c
@@ -165,9 +165,9 @@ module _ (g : Ground (List ℕ)) where
         moved : {x y : PlaceOf} → x ≡ y → ShowsEntryIf g w b x.version x.entry → ShowsEntryIf g w b y.version y.entry
         moved e k = subst (λ (z : PlaceOf). ShowsEntryIf g w b z.version z.entry) e k
 
-    pub knows_same : (v w : View (List ℕ)) (p : Plain) (guests : ℕ → ℕ) → Knows g rename v p guests → SameBut v w (λ q. ⊥) → Knows g rename w p guests
+    pub knows_same : {lot : Lot} (v w : View (List ℕ)) (p : Plain) (guests : ℕ → ℕ) → KnowsLot g rename lot v p guests → SameBut v w (λ q. ⊥) → KnowsLot g rename lot w p guests
     knows_same v w p guests h s = record {
-      counter = s.same Counter tt tt (λ none. none) ∙ h.counter;
+      counter = λ own. s.same Counter tt tt (λ none. none) ∙ h.counter own;
       many = h.many;
-      each = λ a lt. shows_elsewhere v w (λ q. ⊥) p p (guests a) a lt (h.each a lt) refl refl s record { word = λ none. none; sides = λ side none. none; links = λ x e k j c none. none };
+      each = λ a lt own. shows_elsewhere v w (λ q. ⊥) p p (guests a) a lt (h.each a lt own) refl refl s record { word = λ none. none; sides = λ side none. none; links = λ x e k j c none. none };
     }

@@ -45,12 +45,13 @@ use Rattle.plain_laws.proofs.Choosing.{either}
 use Rattle.store_rule.specs.Ground.{Ground}
 use Rattle.store_rule.specs.Told.{Stands, Steps}
 use Rattle.store_rule.specs.Runs.{Added, Went}
-use Rattle.store_rule.specs.Words.{has}
+use Rattle.store_rule.specs.Words.{Mine, has}
 use Rattle.store_rule.proofs.AddingUp.{found_mine, has_left}
 use Rattle.slice_chain.specs.Freeing.{Freed}
-use Rattle.plain_runs.specs.Words.{HasChain, IsLone, Knows, ShowsAt, ShowsEntryIf, setting_of}
+use Rattle.plain_runs.specs.Words.{HasChain, IsLone, Knows, KnowsLot, Lot, ShowsAt, whole_lot, ShowsEntryIf, setting_of}
 use Rattle.plain_runs.proofs.Frames.{LeavesAlone, SameBut, same_none, same_weaker, shows_elsewhere, step_same, went_same}
-use Rattle.plain_runs.proofs.Chains.{chain_is, not_resting, own_tab, word_is}
+use Rattle.plain_runs.proofs.Chains.{not_resting, own_tab}
+use Rattle.plain_runs.proofs.OwnAnchors.{OwnsAnchor, mine_lone, own_chain, owns_lone}
 use Rattle.plain_runs.proofs.PlainWords.{stage_there}
 
 anchor_in : Place → ℕ
@@ -96,63 +97,68 @@ abbrev pub vacated_at : ℕ → Plain → Plain
 vacated_at a p = put_at a (vacated (place_at p a)) p
 
 module _ (g : Ground (List ℕ)) (rename : ℕ → ℕ) where
-  -- What the pass knows is the plain store p, but for the anchor a, of which this says nothing.
-  pub record KnowsBut (v : View (List ℕ)) (p : Plain) (guests : ℕ → ℕ) (a : ℕ) : Type 0 where
-    pub counter : has g v Counter ≡ p.counter
+  -- What the pass knows of its lot is the plain store p, but for the anchor a, of which this says nothing.
+  pub record KnowsLotBut (lot : Lot) (v : View (List ℕ)) (p : Plain) (guests : ℕ → ℕ) (a : ℕ) : Type 0 where
+    pub counter : lot.counter ≡ true → has g v Counter ≡ p.counter
     pub many : length p.places ≡ g.setting.anchors
-    pub each : (b : ℕ) → b < g.setting.anchors → b ≢ a → ShowsAt g rename v p (guests b) b
+    pub each : (b : ℕ) → b < g.setting.anchors → lot.anchors b ≡ true → b ≢ a → ShowsAt g rename v p (guests b) b
 
-  pub knows_but : (v : View (List ℕ)) (p : Plain) (guests : ℕ → ℕ) (a : ℕ) → Knows g rename v p guests → KnowsBut v p guests a
-  knows_but v p guests a h = record { counter = h.counter; many = h.many; each = λ b lt ne. h.each b lt }
+  -- and of the whole store
+  abbrev pub KnowsBut : View (List ℕ) → Plain → (guests : ℕ → ℕ) → ℕ → Type 0
+  KnowsBut v p guests a = KnowsLotBut whole_lot v p guests a
 
-  pub knows_all : (v : View (List ℕ)) (p : Plain) (guests : ℕ → ℕ) (a : ℕ) → KnowsBut v p guests a → (a < g.setting.anchors → ShowsAt g rename v p (guests a) a) → Knows g rename v p guests
-  knows_all v p guests a h here = record {
+  pub knows_but : {lot : Lot} (v : View (List ℕ)) (p : Plain) (guests : ℕ → ℕ) (a : ℕ) → KnowsLot g rename lot v p guests → KnowsLotBut lot v p guests a
+  knows_but v p guests a h = record { counter = h.counter; many = h.many; each = λ b lt own ne. h.each b lt own }
+
+  pub knows_all : {lot : Lot} (v : View (List ℕ)) (p : Plain) (guests : ℕ → ℕ) (a : ℕ) → KnowsLotBut lot v p guests a → (a < g.setting.anchors → lot.anchors a ≡ true → ShowsAt g rename v p (guests a) a)
+      → KnowsLot g rename lot v p guests
+  knows_all {lot} v p guests a h here = record {
     counter = h.counter;
     many = h.many;
-    each = λ b lt. dite (ℕ_discrete b a)
-        (λ e. subst (λ (z : ℕ). ShowsAt g rename v p (guests z) z) (sym e) (here (subst (λ (z : ℕ). z < g.setting.anchors) e lt)))
-        (λ ne. h.each b lt ne);
+    each = λ b lt own. dite (ℕ_discrete b a)
+        (λ e. subst (λ (z : ℕ). ShowsAt g rename v p (guests z) z) (sym e) (here (subst (λ (z : ℕ). z < g.setting.anchors) e lt) (subst (λ (z : ℕ). lot.anchors z ≡ true) e own)))
+        (λ ne. h.each b lt own ne);
   }
 
   -- where other readers are counted beside those of the plain store at no other anchor
-  pub but_guests : (v : View (List ℕ)) (p : Plain) (guests others : ℕ → ℕ) (a : ℕ) → ((b : ℕ) → b ≢ a → others b ≡ guests b) → KnowsBut v p guests a → KnowsBut v p others a
+  pub but_guests : {lot : Lot} (v : View (List ℕ)) (p : Plain) (guests others : ℕ → ℕ) (a : ℕ) → ((b : ℕ) → b ≢ a → others b ≡ guests b) → KnowsLotBut lot v p guests a → KnowsLotBut lot v p others a
   but_guests v p guests others a same h = record {
     counter = h.counter;
     many = h.many;
-    each = λ b lt ne. subst (λ (n : ℕ). ShowsAt g rename v p n b) (sym (same b ne)) (h.each b lt ne);
+    each = λ b lt own ne. subst (λ (n : ℕ). ShowsAt g rename v p n b) (sym (same b ne)) (h.each b lt own ne);
   }
 
   -- the words change, and the plain store at the anchor a
-  pub but_moved : (v w : View (List ℕ)) (Changed : Place → Type 0) (p q : Plain) (guests : ℕ → ℕ) (a : ℕ) → SameBut g v w Changed → SameElse p q a → (Changed Counter → ⊥)
-      → ((b : ℕ) → b < g.setting.anchors → b ≢ a → LeavesAlone g v Changed b (entry_at p b)) → KnowsBut v p guests a → KnowsBut w q guests a
+  pub but_moved : {lot : Lot} (v w : View (List ℕ)) (Changed : Place → Type 0) (p q : Plain) (guests : ℕ → ℕ) (a : ℕ) → SameBut g v w Changed → SameElse p q a → (Changed Counter → ⊥)
+      → ((b : ℕ) → b < g.setting.anchors → lot.anchors b ≡ true → b ≢ a → LeavesAlone g v Changed b (entry_at p b)) → KnowsLotBut lot v p guests a → KnowsLotBut lot w q guests a
   but_moved v w Changed p q guests a s other still alone h = record {
-    counter = s.same Counter tt tt still ∙ h.counter ∙ sym other.counter;
+    counter = λ own. s.same Counter tt tt still ∙ h.counter own ∙ sym other.counter;
     many = other.many ∙ h.many;
-    each = λ b lt ne. shows_elsewhere g rename v w Changed p q (guests b) b lt (h.each b lt ne) (other.places b ne) (other.readers b ne) s (alone b lt ne);
+    each = λ b lt own ne. shows_elsewhere g rename v w Changed p q (guests b) b lt (h.each b lt own ne) (other.places b ne) (other.readers b ne) s (alone b lt own ne);
   }
 
   -- a step on the word of the anchor a
-  pub but_step : (v w : View (List ℕ)) (m : Move) (n : ℕ) (p q : Plain) (guests : ℕ → ℕ) (a : ℕ) → Steps g v m n w → place v m ≡ Some (Anchor a) → a < g.setting.anchors → SameElse p q a
-      → KnowsBut v p guests a → KnowsBut w q guests a
+  pub but_step : {lot : Lot} (v w : View (List ℕ)) (m : Move) (n : ℕ) (p q : Plain) (guests : ℕ → ℕ) (a : ℕ) → Steps g v m n w → place v m ≡ Some (Anchor a) → a < g.setting.anchors → SameElse p q a
+      → KnowsLotBut lot v p guests a → KnowsLotBut lot w q guests a
   but_step v w m n p q guests a st is lt other h = but_moved v w (λ r. r ≡ Anchor a) p q guests a (step_same g v w m n (Anchor a) st is lt) other (λ e. cc)
-      (λ b here ne. record { word = λ e. ne (same_anchor b a e); sides = λ side e. cc; links = λ x there chain j c e. cc }) h
+      (λ b here own ne. record { word = λ e. ne (same_anchor b a e); sides = λ side e. cc; links = λ x there chain j c e. cc }) h
 
 -- No more readers are counted than the word of an anchor has room for.
 abbrev pub FewReaders : Plain → (ℕ → ℕ) → Type 0
 FewReaders p guests = (b : ℕ) → readers p b + guests b < 65536
 
 -- The slots of other entries are in no chain that is given back.
-module _ (g : Ground (List ℕ)) (lone : IsLone g) (v : View (List ℕ)) (st : Stands g v) (pass : IsPass v) (f : Freer (List ℕ)) (is : tab_at v inner ≡ Freeing f)
-    (b version : ℕ) (lt : b < g.setting.anchors) (e : Entry) (h : HasChain g v b e) where
+module _ (g : Ground (List ℕ)) (v : View (List ℕ)) (st : Stands g v) (pass : IsPass v) (f : Freer (List ℕ)) (is : tab_at v inner ≡ Freeing f)
+    (b version : ℕ) (own : OwnsAnchor g v.pass b) (lt : b < g.setting.anchors) (e : Entry) (h : HasChain g v b e) where
   abbrev stage_here : ℕ
   stage_here = stage_in (epoch_in (word st.state b))
 
   -- an entry of which slots are published
   apart_spelled : 2 ≤ stage_here → stage_here ≤ 4 → (j : ℕ) → Contains (h.slots ++ slots_of_link h.end) j → Contains f.rest j → ⊥
-  apart_spelled least most j c d = let same = chain_is g lone st.state st.index v st.rule st.at pass b lt e h least most in
-      not_resting g lone st.state st.index v st.rule st.at pass b lt j st.index inner f
+  apart_spelled least most j c d = let same = own_chain g v b own st pass lt e h least most in
+      not_resting g st.state st.rule b lt j st.index inner f
       (subst (λ (z : LinkOf). Contains ((chain_of st.state b).slots ++ slots_of_link z) j) same.1 (subst (λ (z : List ℕ). Contains (z ++ slots_of_link h.end) j) same.0 c))
-      (own_tab g lone st.state st.index v st.rule st.at pass inner (Freeing f) (omega arith) is) d
+      (own_tab st.state st.index v st.at pass inner (Freeing f) (omega arith) is) d
 
   -- one of which none is
   apart_none : length h.slots ≡ 0 → (j : ℕ) → Contains (h.slots ++ slots_of_link h.end) j → ⊥
@@ -171,10 +177,10 @@ module _ (g : Ground (List ℕ)) (lone : IsLone g) (v : View (List ℕ)) (st : S
       (λ none. apart_none (h.many ∙ (rw l none)) j c)
       (λ some_. let k : stage_here ≡ 2 = s ∙ (let z = ne_eqb (published (room_of g.slot) e.content) 0 some_ in rw (l, z) refl) in apart_spelled (omega arith) (omega arith) j c d)
 
-chained_apart_rest : (g : Ground (List ℕ)) (rename : ℕ → ℕ) → IsLone g → (v : View (List ℕ)) → Stands g v → IsPass v → (p : Plain) (n b : ℕ) → readers p b + n < 65536 → b < g.setting.anchors → ShowsAt g rename v p n b
+chained_apart_rest : (g : Ground (List ℕ)) (rename : ℕ → ℕ) (v : View (List ℕ)) → Stands g v → IsPass v → (p : Plain) (n b : ℕ) → OwnsAnchor g v.pass b → readers p b + n < 65536 → b < g.setting.anchors → ShowsAt g rename v p n b
     → (e : Entry) → entry_at p b ≡ Some e → (h : HasChain g v b e) → (f : Freer (List ℕ)) → tab_at v inner ≡ Freeing f → (j : ℕ) → Contains (h.slots ++ slots_of_link h.end) j → Contains f.rest j → ⊥
-chained_apart_rest g rename lone v st pass p n b few lt shown e there h f is j c d = apart_life g lone v st pass f is b (place_at p b).version lt e h e.life refl
-    (stage_there rename (setting_of g) p n b (word st.state b) (word_is g lone st.state st.index v st.rule st.at pass (Anchor b) lt ∙ shown.word) few ∙ ap (λ o. stage_number (stage_of (room_of g.slot) (place_at p b).version o)) there) j c d
+chained_apart_rest g rename v st pass p n b own few lt shown e there h f is j c d = apart_life g v st pass f is b (place_at p b).version own lt e h e.life refl
+    (stage_there rename (setting_of g) p n b (word st.state b) (own.stands v st (Anchor b) refl pass refl lt ∙ shown.word) few ∙ ap (λ o. stage_number (stage_of (room_of g.slot) (place_at p b).version o)) there) j c d
 
 module _ (g : Ground (List ℕ)) (lone : IsLone g) where
   -- a pass whose inner tab gives slots back has nine tabs
@@ -213,10 +219,10 @@ raised_word rename room x counted n some_version = let none = ne_eqb x.version 0
 
 module _ (g : Ground (List ℕ)) (rename : ℕ → ℕ) (lone : IsLone g) where
   -- Where slots of a chain are given back, and the word of its anchor may have changed, other entries stay.
-  pub gave_but : (v w : View (List ℕ)) (f : Freer (List ℕ)) (d : Added) (p : Plain) (guests : ℕ → ℕ) → FewReaders p guests → Stands g v → tab_at v inner ≡ Freeing f → Went g v d w
-      → ((q : Place) → Contains d.changed q → ((slot : ℕ) × (q ≡ Link slot) × Contains f.rest slot) ⊎ (q ≡ Anchor f.anchor)) → KnowsBut g rename v p guests f.anchor → KnowsBut g rename w p guests f.anchor
-  gave_but v w f d p guests few st is went only h = but_moved g rename v w (Contains d.changed) p p guests f.anchor (went_same g lone v w d went there) (same_else p f.anchor) (λ c. no_counter (only Counter c))
-      (λ b lt ne. record { word = λ c. no_anchor b ne (only (Anchor b) c); sides = λ side c. no_side side b (only (Beside side b) c); links = λ e here chain j c k. no_link b lt ne e here chain j c (only (Link j) k) }) h
+  pub gave_but : {lot : Lot} (v w : View (List ℕ)) (f : Freer (List ℕ)) (d : Added) (p : Plain) (guests : ℕ → ℕ) → FewReaders p guests → Stands g v → tab_at v inner ≡ Freeing f → Went g v d w
+      → ((q : Place) → Contains d.changed q → ((slot : ℕ) × (q ≡ Link slot) × Contains f.rest slot) ⊎ (q ≡ Anchor f.anchor)) → KnowsLotBut g rename lot v p guests f.anchor → KnowsLotBut g rename lot w p guests f.anchor
+  gave_but {lot} v w f d p guests few st is went only h = but_moved g rename v w (Contains d.changed) p p guests f.anchor (went_same g lone v w d went there) (same_else p f.anchor) (λ c. no_counter (only Counter c))
+      (λ b lt mine ne. record { word = λ c. no_anchor b ne (only (Anchor b) c); sides = λ side c. no_side side b (only (Beside side b) c); links = λ e here chain j c k. no_link b lt mine ne e here chain j c (only (Link j) k) }) h
     where
       OneOf : Place → Type 0
       OneOf q = ((slot : ℕ) × (q ≡ Link slot) × Contains f.rest slot) ⊎ (q ≡ Anchor f.anchor)
@@ -240,11 +246,11 @@ module _ (g : Ground (List ℕ)) (rename : ℕ → ℕ) (lone : IsLone g) where
       no_side side b (inl x) = let e = x.1 in cc
       no_side side b (inr e) = cc
 
-      no_link : (b : ℕ) → b < g.setting.anchors → b ≢ f.anchor → (e : Entry) → entry_at p b ≡ Some e → (chain : HasChain g v b e) → (j : ℕ) → Contains (chain.slots ++ slots_of_link chain.end) j
+      no_link : (b : ℕ) → b < g.setting.anchors → lot.anchors b ≡ true → b ≢ f.anchor → (e : Entry) → entry_at p b ≡ Some e → (chain : HasChain g v b e) → (j : ℕ) → Contains (chain.slots ++ slots_of_link chain.end) j
           → ((slot : ℕ) × (Link j ≡ Link slot) × Contains f.rest slot) ⊎ (Link j ≡ Anchor f.anchor) → ⊥
-      no_link b lt ne e here chain j c (inl x) = chained_apart_rest g rename lone v st (nine_tabs g lone v f st is) p (guests b) b (few b) lt (h.each b lt ne) e here chain f is j c
+      no_link b lt mine ne e here chain j c (inl x) = chained_apart_rest g rename v st (nine_tabs g lone v f st is) p (guests b) b (owns_lone g lone v.pass b) (few b) lt (h.each b lt mine ne) e here chain f is j c
           (subst (λ (z : ℕ). Contains f.rest z) (sym (same_link j x.0 x.1)) x.2)
-      no_link b lt ne e here chain j c (inr k) = cc
+      no_link b lt mine ne e here chain j c (inr k) = cc
 
   -- The pass had an inner tab that gave back a chain: so its view is that of some state.
   freed_stands : (v w : View (List ℕ)) → Freed g v w → Stands g v × Stands g w
@@ -264,7 +270,7 @@ module _ (g : Ground (List ℕ)) (rename : ℕ → ℕ) (lone : IsLone g) where
 
   -- The anchor's word is a stage on from the one that the pass knew.
   pub raised_from : (v w : View (List ℕ)) → (h : Freed g v w) → h.freer.is_freeing ≡ true → has g w (Anchor h.freer.anchor) ≡ raised (has g v (Anchor h.freer.anchor)) 1
-  raised_from v w h freeing = h.from freeing (freer_inside g lone v h.freer (freed_stands v w h).0 h.was) lone
+  raised_from v w h freeing = h.from freeing (freer_inside g lone v h.freer (freed_stands v w h).0 h.was) (mine_lone g lone v (Anchor h.freer.anchor))
 
   -- Links of the chain changed, and the word of its anchor where that was at FREEING.
   abbrev pub FreedAt : Freer (List ℕ) → Place → Type 0
@@ -284,26 +290,26 @@ module _ (g : Ground (List ℕ)) (rename : ℕ → ℕ) (lone : IsLone g) where
       there q c = placed (h.changed q c)
 
   -- Whatever becomes of the anchor, other entries stay where a chain was given back.
-  pub freed_but : (v w : View (List ℕ)) (p : Plain) (guests : ℕ → ℕ) (a : ℕ) → FewReaders p guests → (h : Freed g v w) → h.freer.anchor ≡ a → KnowsBut g rename v p guests a → KnowsBut g rename w p guests a
-  freed_but v w p guests a few h at but = subst (KnowsBut g rename w p guests) at
-      (gave_but v w h.freer h.added p guests few (freed_stands v w h).0 h.was h.went (λ q c. may_be (h.changed q c)) (subst (KnowsBut g rename v p guests) (sym at) but))
+  pub freed_but : {lot : Lot} (v w : View (List ℕ)) (p : Plain) (guests : ℕ → ℕ) (a : ℕ) → FewReaders p guests → (h : Freed g v w) → h.freer.anchor ≡ a → KnowsLotBut g rename lot v p guests a → KnowsLotBut g rename lot w p guests a
+  freed_but {lot} v w p guests a few h at but = subst (KnowsLotBut g rename lot w p guests) at
+      (gave_but v w h.freer h.added p guests few (freed_stands v w h).0 h.was h.went (λ q c. may_be (h.changed q c)) (subst (KnowsLotBut g rename lot v p guests) (sym at) but))
     where
       may_be : {q : Place} → FreedAt h.freer q → ((slot : ℕ) × (q ≡ Link slot) × Contains h.freer.rest slot) ⊎ (q ≡ Anchor h.freer.anchor)
       may_be (inl x) = inl x
       may_be (inr x) = inr x.1
 
   -- the plain store changes at an anchor of which nothing is said
-  pub but_put : (v : View (List ℕ)) (p : Plain) (guests : ℕ → ℕ) (a : ℕ) (x : PlaceOf) → KnowsBut g rename v p guests a → KnowsBut g rename v (put_at a x p) guests a
+  pub but_put : {lot : Lot} (v : View (List ℕ)) (p : Plain) (guests : ℕ → ℕ) (a : ℕ) (x : PlaceOf) → KnowsLotBut g rename lot v p guests a → KnowsLotBut g rename lot v (put_at a x p) guests a
   but_put v p guests a x h = but_moved g rename v v (λ q. ⊥) p (put_at a x p) guests a (same_none g v (λ q. ⊥)) (put_else p a x) (λ none. none)
-      (λ b lt ne. record { word = λ none. none; sides = λ side none. none; links = λ e there chain j c none. none }) h
+      (λ b lt own ne. record { word = λ none. none; sides = λ side none. none; links = λ e there chain j c none. none }) h
 
   -- An entry at FREEING was given back: the plain store has it no more.
-  pub gave_right : (w : View (List ℕ)) (p : Plain) (guests : ℕ → ℕ) (a n : ℕ) → KnowsBut g rename w p guests a → 0 < (place_at p a).version → n ≡ word_number (renamed_word rename (freeing_word p a)) + guests a
-      → has g w (Anchor a) ≡ raised n 1 → Knows g rename w (vacated_at a p) guests
-  gave_right w p guests a n but some_version was left = knows_all g rename w (vacated_at a p) guests a (but_put w p guests a (vacated (place_at p a)) but) here
+  pub gave_right : {lot : Lot} (w : View (List ℕ)) (p : Plain) (guests : ℕ → ℕ) (a n : ℕ) → KnowsLotBut g rename lot w p guests a → 0 < (place_at p a).version → n ≡ word_number (renamed_word rename (freeing_word p a)) + guests a
+      → has g w (Anchor a) ≡ raised n 1 → KnowsLot g rename lot w (vacated_at a p) guests
+  gave_right {lot} w p guests a n but some_version was left = knows_all g rename w (vacated_at a p) guests a (but_put w p guests a (vacated (place_at p a)) but) here
     where
-      here : a < g.setting.anchors → ShowsAt g rename w (vacated_at a p) (guests a) a
-      here lt = record {
+      here : a < g.setting.anchors → lot.anchors a ≡ true → ShowsAt g rename w (vacated_at a p) (guests a) a
+      here lt own = record {
         word = left ∙ ap (λ z. raised z 1) was ∙ sym (raised_word rename (room_of g.slot) (place_at p a) (readers p a) (guests a) some_version)
             ∙ ap (λ (y : PlaceOf). word_number (renamed_word rename record { epoch = epoch_of (room_of g.slot) y; readers = readers p a }) + guests a) (sym there);
         entry = subst (λ (y : PlaceOf). ShowsEntryIf g w a y.version y.entry) (sym there) tt;
@@ -312,8 +318,8 @@ module _ (g : Ground (List ℕ)) (rename : ℕ → ℕ) (lone : IsLone g) where
           there : place_at (vacated_at a p) a ≡ vacated (place_at p a)
           there = get_or-set_same p.places a (vacated (place_at p a)) nothing (let n = but.many in omega arith)
 
-  pub freed_right : (v w : View (List ℕ)) (p : Plain) (guests : ℕ → ℕ) (a : ℕ) → FewReaders p guests → (h : Freed g v w) → h.freer.anchor ≡ a → h.freer.is_freeing ≡ true
-      → KnowsBut g rename v p guests a → 0 < (place_at p a).version → has g v (Anchor a) ≡ word_number (renamed_word rename (freeing_word p a)) + guests a → Knows g rename w (vacated_at a p) guests
+  pub freed_right : {lot : Lot} (v w : View (List ℕ)) (p : Plain) (guests : ℕ → ℕ) (a : ℕ) → FewReaders p guests → (h : Freed g v w) → h.freer.anchor ≡ a → h.freer.is_freeing ≡ true
+      → KnowsLotBut g rename lot v p guests a → 0 < (place_at p a).version → has g v (Anchor a) ≡ word_number (renamed_word rename (freeing_word p a)) + guests a → KnowsLot g rename lot w (vacated_at a p) guests
   freed_right v w p guests a few h at freeing but some_version was = gave_right w p guests a (has g v (Anchor a)) (freed_but v w p guests a few h at but) some_version was
       (subst (λ (z : ℕ). has g w (Anchor z) ≡ raised (has g v (Anchor z)) 1) at (raised_from v w h freeing))
 
@@ -349,21 +355,21 @@ module _ (g : Ground (List ℕ)) where
       ∙ get_or-set_other (set v.tabs inner (Freeing (freer_of a false n (chain_of st.state a)))) t inner (Writing (writer_of a version)) Free (let w = st.may.allowed.1.writes in omega arith)
       ∙ get_or-set_same v.tabs inner (Freeing (freer_of a false n (chain_of st.state a))) Free (let n = st.may.pass in omega arith)
 
-module _ (g : Ground (List ℕ)) (rename : ℕ → ℕ) (lone : IsLone g) where
+module _ (g : Ground (List ℕ)) (rename : ℕ → ℕ) where
   -- After an entry that nobody reads was evicted its chain is at the inner tab, and its anchor at FREEING.
-  pub record EvictedAt (u : View (List ℕ)) (a : ℕ) (p : Plain) (guests : ℕ → ℕ) : Type 0 where
+  pub record EvictedAt (lot : Lot) (u : View (List ℕ)) (a : ℕ) (p : Plain) (guests : ℕ → ℕ) : Type 0 where
     pub inside : a < g.setting.anchors
     pub freer : Freer (List ℕ)
     pub is : tab_at u inner ≡ Freeing freer
     pub anchor_is : freer.anchor ≡ a
     pub freeing : freer.is_freeing ≡ true
-    pub others : KnowsBut g rename u p guests a
+    pub others : KnowsLotBut g rename lot u p guests a
     pub drawn : 0 < (place_at p a).version
     pub word : has g u (Anchor a) ≡ word_number (renamed_word rename (freeing_word p a)) + guests a
 
-  pub evict_leaves : (v u : View (List ℕ)) (t a n : ℕ) (p : Plain) (guests : ℕ → ℕ) (e : Entry) → Knows g rename v p guests → (st : Steps g v (Evict t a) n u) → n ≡ last_find a v.trail
-      → entry_at p a ≡ Some e → readers p a ≡ 0 → guests a ≡ 0 → EvictedAt u a p guests
-  evict_leaves v u t a n p guests e knows st won there unread alone = record {
+  pub evict_leaves : {lot : Lot} (v u : View (List ℕ)) (t a n : ℕ) (p : Plain) (guests : ℕ → ℕ) (e : Entry) → Mine g v (Anchor a) → lot.anchors a ≡ true → KnowsLot g rename lot v p guests → (st : Steps g v (Evict t a) n u) → n ≡ last_find a v.trail
+      → entry_at p a ≡ Some e → readers p a ≡ 0 → guests a ≡ 0 → EvictedAt lot u a p guests
+  evict_leaves v u t a n p guests e mine own knows st won there unread alone = record {
     inside = inside_;
     freer = freer_of a true n (chain_of st.state a);
     is = evict_freer g v u t a n st won;
@@ -380,30 +386,30 @@ module _ (g : Ground (List ℕ)) (rename : ℕ → ℕ) (lone : IsLone g) where
       inside_ = st.may.allowed.0
 
       shown : ShowsAt g rename v p (guests a) a
-      shown = knows.each a inside_
+      shown = knows.each a inside_ own
 
       drawn_ : (o : Option Entry) → o ≡ Some e → ShowsEntryIf g v a (place_at p a).version o → 0 < (place_at p a).version
       drawn_ None is h = let k : None ≡ Some e = is in absurd (cc)
       drawn_ (Some x) is h = h.drawn
 
       found : n ≡ word_number (renamed_word rename (word_at (setting_of g) p a))
-      found = found_mine g v u (Evict t a) n (Anchor a) st lone refl ∙ shown.word ∙ (let z = alone in omega arith)
+      found = found_mine g v u (Evict t a) n (Anchor a) st mine refl ∙ shown.word ∙ (let z = alone in omega arith)
 
   -- Then it was given back: the plain store has it no more.
-  pub evict_freed : (u w : View (List ℕ)) (a : ℕ) (p : Plain) (guests : ℕ → ℕ) → FewReaders p guests → EvictedAt u a p guests → Freed g u w → Knows g rename w (vacated_at a p) guests
-  evict_freed u w a p guests few h freed = freed_right g rename lone u w p guests a few freed (ap (λ (z : Freer (List ℕ)). z.anchor) same ∙ h.anchor_is) (ap (λ (z : Freer (List ℕ)). z.is_freeing) same ∙ h.freeing) h.others h.drawn h.word
+  pub evict_freed : {lot : Lot} → IsLone g → (u w : View (List ℕ)) (a : ℕ) (p : Plain) (guests : ℕ → ℕ) → FewReaders p guests → EvictedAt lot u a p guests → Freed g u w → KnowsLot g rename lot w (vacated_at a p) guests
+  evict_freed lone u w a p guests few h freed = freed_right g rename lone u w p guests a few freed (ap (λ (z : Freer (List ℕ)). z.anchor) same ∙ h.anchor_is) (ap (λ (z : Freer (List ℕ)). z.is_freeing) same ∙ h.freeing) h.others h.drawn h.word
     where
       same : freed.freer ≡ h.freer
       same = same_freer freed.freer h.freer (sym freed.was ∙ h.is)
 
   -- The anchor of an idle entry was taken, and what it had was given back: nothing is said of that anchor but its word.
-  pub record TookOver (w : View (List ℕ)) (a version : ℕ) (p : Plain) (guests : ℕ → ℕ) : Type 0 where
-    pub others : KnowsBut g rename w p guests a
+  pub record TookOver (lot : Lot) (w : View (List ℕ)) (a version : ℕ) (p : Plain) (guests : ℕ → ℕ) : Type 0 where
+    pub others : KnowsLotBut g rename lot w p guests a
     pub word : has g w (Anchor a) ≡ word_at_stage version 1
 
-  pub take_freed : (v u w : View (List ℕ)) (t a version n : ℕ) (p : Plain) (guests : ℕ → ℕ) → FewReaders p guests → Knows g rename v p guests → (st : Steps g v (Take t a version) n u) → n ≡ last_find a v.trail → is_idle n ≡ true
-      → Freed g u w → TookOver w a version p guests
-  take_freed v u w t a version n p guests few knows st won idle freed = record {
+  pub take_freed : {lot : Lot} → IsLone g → (v u w : View (List ℕ)) (t a version n : ℕ) (p : Plain) (guests : ℕ → ℕ) → FewReaders p guests → KnowsLot g rename lot v p guests → (st : Steps g v (Take t a version) n u) → n ≡ last_find a v.trail → is_idle n ≡ true
+      → Freed g u w → TookOver lot w a version p guests
+  take_freed lone v u w t a version n p guests few knows st won idle freed = record {
     others = freed_but g rename lone u w p guests a few freed (ap (λ (z : Freer (List ℕ)). z.anchor) freer_is) (but_step g rename v u (Take t a version) n p p guests a st refl inside (same_else p a) (knows_but g rename v p guests a knows));
     word = (freed_same g rename lone u w freed).same (Anchor a) tt inside (not_freed (ap (λ (z : Freer (List ℕ)). z.is_freeing) freer_is)) ∙ has_left g v u (Take t a version) n (Anchor a) (Anchor a) st refl refl
         ∙ (let z = eq-eqb n (last_find a v.trail) won in rw z refl);

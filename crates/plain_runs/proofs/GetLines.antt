@@ -10,7 +10,6 @@ use Rattle.core_model.specs.Tabs as core
 use Rattle.core_model.specs.Tabs.{InnerIsFree, inner}
 use Rattle.core_model.specs.declared.tab.Tab as core_tab
 use Rattle.plain_model.specs.declared.store.Plain.{Plain}
-use Rattle.plain_model.specs.declared.store.Tab.{Tab}
 use Rattle.plain_model.specs.declared.store.Tab.TheVariants.{Free, Reading}
 use Rattle.plain_model.specs.Reading.{close, judge, more}
 use Rattle.plain_model.specs.Serving.{get, hit_by}
@@ -36,7 +35,8 @@ use Rattle.store_serve.specs.Whole.{Gets, whole_tab}
 use Rattle.worker_shelf.specs.Typed.{IsTyped}
 use Rattle.crew_accounts.proofs.GivenBytes.{IsFromFront}
 use Rattle.plain_runs.specs.Shows.{Shows, ShowsTab}
-use Rattle.plain_runs.specs.Words.{IsLone, setting_of}
+use Rattle.plain_runs.specs.Words.{IsLone, setting_of, whole_lot}
+use Rattle.plain_runs.proofs.OwnAnchors.{owns_lone}
 use Rattle.plain_runs.proofs.InnerTabs.{went_inner}
 use Rattle.plain_runs.proofs.ServedLines.{IsAs}
 use Rattle.plain_runs.proofs.Opening.{OpenRight, closed_shows, opened_right, opened_store, other_url, refused_right}
@@ -110,8 +110,8 @@ module _ {C O : Type 0} (tells : Bool) (state : C → CellState) (offers : O →
       went : WentOn tells state offers s 7 r.tab.standing got.opened got.read bytes ended
       went = subst (λ (z : Standing). WentOn tells state offers s 7 z got.opened got.read bytes ended) (sym r.standing) got.went
 
-      m : ReadRight tells state offers s rename lone 7 ended bytes got.read (more (setting_of g) 7 pl1)
-      m = went_right tells state offers s rename lone 7 begins known file from sized got.opened got.read pl1 a 0 eight1 below r.knows other at1 r.tab ended bytes went (whole_fault version ended bytes given is fair)
+      m : ReadRight tells state offers s rename 7 whole_lot ended bytes got.read (more (setting_of g) 7 pl1)
+      m = went_right tells state offers s rename 7 begins known file from sized got.opened got.read pl1 a 0 eight1 below whole_lot r.knows (owns_lone g lone (view got.opened).pass a) refl other at1 r.tab ended bytes went (whole_fault version ended bytes given is fair)
 
       abbrev pl2 : Plain
       pl2 = (more (setting_of g) 7 pl1).after

@@ -108,7 +108,7 @@ module _ {C O : Type 0} (tells : Bool) (state : C → CellState) (offers : O →
     pub quiet : AreQuiet t (view pass)
     quiet j ne far = dite (ℕ_discrete (8 - j) 0)
         (λ past. subst IsQuiet (sym (get_or_past (view pass).tabs j tab.Free (let n = pass_of pass in let f = far in omega arith))) tt)
-        (λ within. of_tab (plain_tab p j) (h.tabs j (omega arith)))
+        (λ within. of_tab (plain_tab p j) (h.tabs j (omega arith) refl))
       where
         shown_empty : (xs : List ℕ) → Rattle.rock_writer.specs.Entries.not_empty xs ≡ false → xs ≡ []
         shown_empty [] e = refl
@@ -123,7 +123,7 @@ module _ {C O : Type 0} (tells : Bool) (state : C → CellState) (offers : O →
     ready = record { knows = h.knows; stands = h.own.stands; pass = pass_of pass; inner_free = h.inner_free; quiet = quiet; hand_is = h.hand; eight = h.eight }
 
     pub writing_shown : (anchor : ℕ) → plain_tab p t ≡ plain.Writing anchor → ShowsWriting tells state offers st rename pass p t anchor
-    writing_shown anchor writes = subst (ShowsTab tells state offers st rename pass p t) writes (h.tabs t below)
+    writing_shown anchor writes = subst (ShowsTab tells state offers st rename pass p t) writes (h.tabs t below refl)
 
   -- A tab that writes at this anchor, of a pass that is at rest.
   module _ (pass : Pass C) (p : Plain) (ready : IsReadied g lone rename t (view pass) p pass.hand) (anchor : ℕ) (writes : plain_tab p t ≡ plain.Writing anchor) (w : ShowsWriting tells state offers st rename pass p t anchor) where

@@ -1,19 +1,16 @@
 -- An entry that a tab gives up, in the store and in the plain store.
-use Rattle.std.proofs.Common.{Bool, Contains, List, None, Option, Some, [], ap, arith, cond, false, get_or, get_or-set_other, get_or-set_same, inl, inr, length, length-set, refl, set, subst, sym, true, ◌+◌, ◌-◌, ◌/◌, ◌<◌, ◌==◌, ◌∙◌, ◌≡◌, ◌≢◌, ◌≤◌, ◌⊎◌, ◌∷◌, ℕ}
-use Rattle.lock_word.specs.Words.{epoch_of as epoch_in, is_left_over, raised, stage_number, stage_of as stage_in, word_number}
+use Rattle.std.proofs.Common.{Contains, List, None, Option, Some, ap, arith, cond, get_or-set_other, get_or-set_same, inl, inr, length, length-set, refl, set, subst, sym, ◌-◌, ◌/◌, ◌<◌, ◌==◌, ◌∙◌, ◌≡◌, ◌≤◌, ◌⊎◌, ℕ}
+use Rattle.lock_word.specs.Words.{epoch_of as epoch_in, raised, stage_number, stage_of as stage_in, word_number}
 use Rattle.lock_word.specs.declared.stage.Stage.{Stage}
 use Rattle.lock_word.specs.declared.stage.Stage.TheVariants as stage
-use Rattle.core_model.specs.AnchorMoves.{left_tab, raised_tab}
-use Rattle.core_model.specs.Chains.{rest_of, slots_of_link}
-use Rattle.core_model.specs.SlotMoves.{MayGiveBack, gives_back}
+use Rattle.core_model.specs.SlotMoves.{MayGiveBack}
 use Rattle.core_model.specs.Table.{left_by, place}
-use Rattle.core_model.specs.Tabs.{InnerIsFree, IsPass, OfFreer, OfWriter, anchor_of, inner, tab_at, with_tab}
+use Rattle.core_model.specs.Tabs.{InnerIsFree, IsPass, OfFreer, OfWriter, anchor_of, inner, tab_at}
 use Rattle.core_model.specs.declared.moves.Move.TheVariants.{Disown, Raise}
 use Rattle.core_model.specs.declared.tab.Freer.{Freer}
 use Rattle.core_model.specs.declared.tab.Tab.{Tab}
-use Rattle.core_model.specs.declared.tab.Tab.TheVariants.{Free, Last, Writing}
+use Rattle.core_model.specs.declared.tab.Tab.TheVariants.{Free, Writing}
 use Rattle.core_model.specs.declared.tab.Writer.{Writer}
-use Rattle.core_model.specs.declared.view.Place.{Place}
 use Rattle.core_model.specs.declared.view.Place.TheVariants.{Anchor}
 use Rattle.core_model.specs.declared.view.View.{View}
 use Rattle.link_word.specs.Map.{map_words}
@@ -28,16 +25,15 @@ use Rattle.plain_model.specs.declared.store.Tab.{Tab as PlainTab}
 use Rattle.plain_model.specs.declared.store.Tab.TheVariants as plain
 use Rattle.plain_model.specs.Place.{ended, nothing}
 use Rattle.plain_model.specs.Store.{entry_at, epoch_of, place_at, published, readers, reads_at, stage_of_entry, tab_at as plain_tab}
-use Rattle.plain_model.specs.Writing.{close_writer, settle}
+use Rattle.plain_model.specs.Writing.{close_writer}
 use Rattle.store_rule.specs.Calls.{Others}
-use Rattle.store_rule.specs.Words.{has}
+use Rattle.store_rule.specs.Words.{Mine, has}
 use Rattle.store_rule.proofs.OtherTabs.{others_go_on, others_stay}
 use Rattle.rock_writer.specs.Halting.{GaveBack, GaveUnlinked, Halts, Parted, first_of, second_of}
 use Rattle.rock_writer.proofs.GivingBack.{gave_nine, gave_tab, given}
 use Rattle.store_rule.specs.Ground.{Ground}
-use Rattle.tab_states.specs.Tabs.{is_last}
 use Rattle.store_rule.specs.Told.{Stands, Steps}
-use Rattle.plain_runs.specs.Words.{EndsSo, IsLone, IsOfOffer, Knows, ShowsAt, ShowsEntry, ShowsEntryIf, no_guests, setting_of, slots_published}
+use Rattle.plain_runs.specs.Words.{EndsSo, IsLone, Knows, ShowsAt, ShowsEntry, ShowsEntryIf, no_guests, slots_published}
 use Rattle.plain_laws.specs.Renaming.{renamed_word}
 use Rattle.plain_laws.proofs.Choosing.{either}
 use Rattle.plain_laws.proofs.Sums.{inside}
@@ -45,11 +41,12 @@ use Rattle.plain_runs.proofs.Flushing.{entry_shown, staged, staged_raised, word_
 use Rattle.plain_runs.proofs.Frames.{SameBut, knows_same, same_none, same_on, same_weaker, step_same, step_same_map}
 use Rattle.plain_runs.proofs.Freeing.{KnowsBut, SameElse, but_step, knows_all, knows_but}
 use Rattle.plain_runs.proofs.LeftTabs.{entry_kept, raised_parts_right}
+use Rattle.plain_runs.proofs.OwnAnchors.{mine_lone, stands_before}
 use Rattle.plain_runs.proofs.PlainWords.{readers_fit, readers_put, stage_counted}
-use Rattle.plain_runs.proofs.Published.{anchor_there, raise_left, reserved_there, stands_before}
+use Rattle.plain_runs.proofs.Published.{anchor_there, raise_left, reserved_there}
 use Rattle.plain_runs.proofs.Reserving.{IsReadied}
 
-module _ (g : Ground (List ℕ)) (lone : IsLone g) (t : ℕ) (below : t < inner) where
+module _ (g : Ground (List ℕ)) (t : ℕ) (below : t < inner) where
   -- What giving a slot back leaves, if there is one.
   record GaveSo (v w : View (List ℕ)) (x : Writer (List ℕ)) : Type 0 where
     same : SameBut g v w (λ q. ⊥)
@@ -81,7 +78,7 @@ module _ (g : Ground (List ℕ)) (lone : IsLone g) (t : ℕ) (below : t < inner)
   }
     where
       mapped : MayGiveBack slot x ⊎ ⊥ → slot / 64 < map_words g.setting.slots
-      mapped (inl m) = word_within g.setting.slots slot (reserved_there g lone v t slot x (stands_before gave.step) pass below is m.0)
+      mapped (inl m) = word_within g.setting.slots slot (reserved_there g v t slot x (stands_before gave.step) pass below is m.0)
       mapped (inr none) = absurd none
 
       acts : {y z : ℕ} → Some y ≡ Some z → z ≡ y
@@ -150,15 +147,16 @@ ends_either GivenUp to h = inr h
 pub growing_stage : (room content : ℕ) → stage_number (stage_of_entry room Growing content) ≤ 2
 growing_stage room content = either (λ (k : Stage). stage_number k ≤ 2) (published room content == 0) stage.Taken stage.Appending (λ z. omega arith) (λ z. omega arith)
 
-module _ (g : Ground (List ℕ)) (lone : IsLone g) (rename : ℕ → ℕ) (t : ℕ) (below : t < inner) where
+module _ (g : Ground (List ℕ)) (rename : ℕ → ℕ) (t : ℕ) (below : t < inner) where
   -- The tab raises the word of its anchor to this stage.
-  pub raised_so : (from to : Stage) (u v : View (List ℕ)) (p : Plain) (y : Writer (List ℕ)) (a n : ℕ) → stage_number from ≤ stage_number to → y.anchor ≡ a → tab_at u t ≡ Writing y → length p.tabs ≡ 8 → has g u (Anchor a) ≡ staged rename p a from
+  pub raised_so : (from to : Stage) (u v : View (List ℕ)) (p : Plain) (y : Writer (List ℕ)) (a n : ℕ) → Mine g u (Anchor y.anchor) → stage_number from ≤ stage_number to → y.anchor ≡ a → tab_at u t ≡ Writing y → length p.tabs ≡ 8
+      → has g u (Anchor a) ≡ staged rename p a from
       → Steps g u (Raise t to) n v → (has g v (Anchor a) ≡ staged rename p a to) × (left_by u (Raise t to) n ≡ staged rename p a to)
-  raised_so from to u v p y a n le same is eight word raises = (left.1 ∙ raises_to, left.2 ∙ raises_to)
+  raised_so from to u v p y a n mine le same is eight word raises = (left.1 ∙ raises_to, left.2 ∙ raises_to)
     where
       left : (n ≡ has g u (Anchor a)) × (has g v (Anchor a) ≡ raised n (stage_number to - stage_in (epoch_in n))) × (left_by u (Raise t to) n ≡ raised n (stage_number to - stage_in (epoch_in n)))
       left = subst (λ (z : ℕ). (n ≡ has g u (Anchor z)) × (has g v (Anchor z) ≡ raised n (stage_number to - stage_in (epoch_in n))) × (left_by u (Raise t to) n ≡ raised n (stage_number to - stage_in (epoch_in n)))) same
-          (raise_left g lone u v t n to y is raises)
+          (raise_left g u v t n to y mine is raises)
 
       found : n ≡ staged rename p a from
       found = left.0 ∙ word
@@ -170,24 +168,25 @@ module _ (g : Ground (List ℕ)) (lone : IsLone g) (rename : ℕ → ℕ) (t : �
       raises_to : raised n (stage_number to - stage_in (epoch_in n)) ≡ staged rename p a to
       raises_to = ap (λ (z : ℕ). raised z (stage_number to - stage_in (epoch_in z))) found ∙ (ap (λ (k : ℕ). raised (staged rename p a from) (stage_number to - k)) stage_is ∙ staged_raised rename p a from to le)
 
+module _ (g : Ground (List ℕ)) (lone : IsLone g) (rename : ℕ → ℕ) (t : ℕ) (below : t < inner) where
   -- The tab ends its entry and parts from it.
   pub ended_right : (life : Life) (from to : Stage) (u v w : View (List ℕ)) (p : Plain) (x : Entry) (y : Writer (List ℕ)) (a n : ℕ) → y.anchor ≡ a → EndsAs life to → stage_number from ≤ stage_number to → IsPass u → Stands g u → tab_at u t ≡ Writing y
       → length p.tabs ≡ 8 → plain_tab p t ≡ plain.Writing a → entry_at p a ≡ Some x → KnowsBut g rename u p no_guests a → has g u (Anchor a) ≡ staged rename p a from
       → ShowsEntry g u a (place_at p a).version (record x { life = life }) → Steps g u (Raise t to) n v → Parted g t v w → Knows g rename w (close_writer life t a p) no_guests
   ended_right life from to u v w p x y a n same ends le pass stands is eight plain_is there but word entry raises parted =
-      raised_parts_right g rename lone u v w t a n to y (ended_with life t a p) (length-set p.tabs t plain.Free ∙ eight) raises (ends_either life to ends) is same lt knows parted
+      raised_parts_right g rename lone u v w t a n to y (ended_with life t a p) (length-set p.tabs t plain.Free ∙ eight) raises (ends_either life to ends) is same lt refl knows parted
     where
       few_tabs : t < length p.tabs
       few_tabs = let b = below in omega arith
 
       lt : a < g.setting.anchors
-      lt = subst (λ (z : ℕ). z < g.setting.anchors) same (anchor_there g lone u t y stands pass below is)
+      lt = subst (λ (z : ℕ). z < g.setting.anchors) same (anchor_there g u t y stands pass below is)
 
       here : place u (Raise t to) ≡ Some (Anchor a)
       here = ap (λ (z : Tab (List ℕ)). Some (Anchor (anchor_of z))) is ∙ ap (λ (z : ℕ). Some (Anchor z)) same
 
       word_after : has g v (Anchor a) ≡ staged rename p a to
-      word_after = (raised_so from to u v p y a n le same is eight word raises).0
+      word_after = (raised_so g rename t below from to u v p y a n (mine_lone g lone u (Anchor y.anchor)) le same is eight word raises).0
 
       at_place : place_at (ended_with life t a p) a ≡ record (place_at p a) { entry = Some (record x { life = life }) } → ShowsAt g rename v (ended_with life t a p) 0 a
       at_place now = record {
@@ -201,7 +200,7 @@ module _ (g : Ground (List ℕ)) (lone : IsLone g) (rename : ℕ → ℕ) (t : �
       knows : Knows g rename v (ended_with life t a p) no_guests
       knows = knows_all g rename v (ended_with life t a p) no_guests a
           (but_step g rename u v (Raise t to) n p (ended_with life t a p) no_guests a raises here lt (ended_else life t a p few_tabs plain_is) but)
-          (λ k. at_place (ended_at life t a p x there))
+          (λ k own. at_place (ended_at life t a p x there))
 
   -- an entry that grows, given up
   given_up : (v : View (List ℕ)) (a version : ℕ) (x : Entry) → ShowsEntry g v a version x → x.life ≡ Growing → ShowsEntry g v a version (record x { life = GivenUp })
@@ -244,17 +243,17 @@ module _ (g : Ground (List ℕ)) (lone : IsLone g) (rename : ℕ → ℕ) (t : �
   halts_right v w p hand x y ready is plain_is there grows h = record {
     knows = ended_right GivenUp (stage_of_entry (room_of g.slot) Growing x.content) stage.Halted h.middle h.raised w p x gave.writer y.anchor h.word gave.anchor refl (let k = growing_stage (room_of g.slot) x.content in omega arith)
         gave.pass (stands_before h.raises) gave.tab ready.eight plain_is there (knows_but g rename h.middle p no_guests y.anchor knows)
-        (word_staged g rename h.middle p y.anchor (knows.each y.anchor lt) x there (stage_of_entry (room_of g.slot) Growing x.content) (ap (λ (l : Life). stage_of_entry (room_of g.slot) l x.content) grows))
-        (given_up h.middle y.anchor (place_at p y.anchor).version x (entry_shown g rename h.middle p y.anchor (knows.each y.anchor lt) x there) grows) h.raises h.parted;
+        (word_staged g rename h.middle p y.anchor (knows.each y.anchor lt refl) x there (stage_of_entry (room_of g.slot) Growing x.content) (ap (λ (l : Life). stage_of_entry (room_of g.slot) l x.content) grows))
+        (given_up h.middle y.anchor (place_at p y.anchor).version x (entry_shown g rename h.middle p y.anchor (knows.each y.anchor lt refl) x there) grows) h.raises h.parted;
     free = h.parted.free;
     inner_free = h.parted.inner_free;
   }
     where
-      gave : GaveSo g lone t below v h.middle y
-      gave = gave_unlinked g lone t below v h.middle y ready.pass is ready.inner_free h.gave
+      gave : GaveSo g t below v h.middle y
+      gave = gave_unlinked g t below v h.middle y ready.pass is ready.inner_free h.gave
 
       lt : y.anchor < g.setting.anchors
-      lt = anchor_there g lone v t y ready.stands ready.pass below is
+      lt = anchor_there g v t y ready.stands ready.pass below is
 
       knows : Knows g rename h.middle p no_guests
       knows = knows_same g rename v h.middle p no_guests ready.knows gave.same

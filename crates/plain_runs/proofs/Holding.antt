@@ -30,6 +30,7 @@ use Rattle.store_rule.specs.Words.{has}
 use Rattle.plain_laws.proofs.Sums.{held_unfinished, held_whole, hold}
 use Rattle.plain_runs.specs.Words.{HasChain, IsLone, ShowsAt, ShowsEntry, ShowsEntryIf, setting_of}
 use Rattle.plain_runs.proofs.Chains as told
+use Rattle.plain_runs.proofs.OwnAnchors.{OwnsAnchor, own_chain}
 use Rattle.plain_runs.proofs.PlainWords.{stage_there}
 use Rattle.plain_runs.proofs.Totals.{sum_none, sum_only}
 use Rattle.plain_model.specs.declared.entry.Entry.{Entry}
@@ -39,6 +40,7 @@ use Rattle.plain_model.specs.declared.store.Plain.{Plain}
 use Rattle.plain_model.specs.Slots.{held, held_by}
 use Rattle.plain_model.specs.Store.{entry_at, place_at, published, readers, stage_of as stage_at}
 use Rattle.store_rule.specs.Ground.{Ground, Rule}
+use Rattle.store_rule.specs.Told.{Stands}
 
 -- how many slots the last link of a tab names that writes, also where it writes at this anchor
 abbrev pub linked : {X : Type 0} → Tab X → ℕ
@@ -70,7 +72,7 @@ not_last NotWritten fits is = cc
 not_last Last fits is = fits
 not_last (Next x) fits is = fits
 
-module _ (g : Ground (List ℕ)) (lone : IsLone g) (s : State (List ℕ)) (i : ℕ) (v : View (List ℕ)) (rule : Rule g s) (at : get_elem? s.views i ≡ some v) (pass : IsPass v) where
+module _ (g : Ground (List ℕ)) (s : State (List ℕ)) (i : ℕ) (v : View (List ℕ)) (rule : Rule g s) (at : get_elem? s.views i ≡ some v) (pass : IsPass v) where
   abbrev k : Setting (List ℕ)
   k = g.setting
 
@@ -80,10 +82,13 @@ module _ (g : Ground (List ℕ)) (lone : IsLone g) (s : State (List ℕ)) (i : �
   tab_here : (t : ℕ) (tab : Tab (List ℕ)) → get_elem? v.tabs t ≡ some tab → IsTab s i t tab
   tab_here t tab there = record { view = v; at = at; there = there }
 
+  abbrev at_state : Stands g v
+  at_state = record { state = s; index = i; rule = rule; at = at }
+
   writer_here : (t : ℕ) (w : Writer (List ℕ)) → get_elem? v.tabs t ≡ some (Writing w) → (w.anchor < k.anchors) × MatchesWriter s w
   writer_here t w there = matches_writer k s rule.sound.anchors i t w (tab_here t (Writing w) there)
 
-  module _ (a : ℕ) (lt : a < k.anchors) where
+  module _ (a : ℕ) (own : OwnsAnchor g v.pass a) (lt : a < k.anchors) where
     abbrev c : Chain
     c = chain_of s a
 
@@ -122,8 +127,8 @@ module _ (g : Ground (List ℕ)) (lone : IsLone g) (s : State (List ℕ)) (i : �
       linked_is : sum_by (linked_at a) v.tabs ≡ length (slots_of_link c.end)
 
     writer_at : is_written (epoch_of (word s a)) ≡ true → WriterAt
-    writer_at h = let w = has_writer k s rule.sound.anchors a lt h in let there = (told.only_tabs g lone s i v rule at pass w.i w.t (Writing w.writer) w.tab).1 in
-        let chain = sym (ap (chain_of s) w.anchor_is) ∙ (told.writer_holds g lone s i v rule at pass w.i w.t w.writer w.tab).chain in record {
+    writer_at h = let w = has_writer k s rule.sound.anchors a lt h in let there = (own.tabs v at_state w.i w.t (Writing w.writer) refl pass w.tab refl w.anchor_is).1 in
+        let chain = sym (ap (chain_of s) w.anchor_is) ∙ (told.writer_holds g s rule w.i w.t w.writer w.tab).chain in record {
           t = w.t;
           writer = w.writer;
           there = there;
@@ -146,7 +151,7 @@ module _ (g : Ground (List ℕ)) (lone : IsLone g) (s : State (List ℕ)) (i : �
       room = room_of g.slot
 
       stage_here : stage_in a ≡ stage_number (stage_at room (place_at p a).version (entry_at p a))
-      stage_here = ap (λ z. stage_of (epoch_of z)) (told.word_is g lone s i v rule at pass (Anchor a) lt) ∙ stage_there rename (setting_of g) p n a (has g v (Anchor a)) shown.word few
+      stage_here = ap (λ z. stage_of (epoch_of z)) (own.stands v at_state (Anchor a) refl pass refl lt) ∙ stage_there rename (setting_of g) p n a (has g v (Anchor a)) shown.word few
 
       none_there : entry_at p a ≡ None → slots_chained c + sum_by (linked_at a) v.tabs ≡ 0
       none_there is = let st = stage_here ∙ ap (λ (o : Option Entry). stage_number (stage_at room (place_at p a).version o)) is in of_version st
@@ -166,19 +171,19 @@ module _ (g : Ground (List ℕ)) (lone : IsLone g) (s : State (List ℕ)) (i : �
 
         -- where the words spell the chain
         many_there : 2 ≤ stage_in a → stage_in a ≤ 4 → length c.slots ≡ length entry.chain.slots
-        many_there least most = ap length (sym (told.chain_is g lone s i v rule at pass a lt e entry.chain least most).0)
+        many_there least most = ap length (sym (own_chain g v a own at_state pass lt e entry.chain least most).0)
 
         end_there : 2 ≤ stage_in a → stage_in a ≤ 4 → entry.chain.end ≡ c.end
-        end_there least most = (told.chain_is g lone s i v rule at pass a lt e entry.chain least most).1
+        end_there least most = (own_chain g v a own at_state pass lt e entry.chain least most).1
 
         whole_there : e.life ≡ Whole → slots_chained c + sum_by (linked_at a) v.tabs ≡ held_by room (Some e)
         whole_there l = let st : stage_in a ≡ 3 = stage_of_entry ∙ (rw l refl) in let m = many_there (omega arith) (omega arith) in let many : length entry.chain.slots ≡ published room e.content + 1 = entry.chain.many ∙ (rw l refl) in
-            let tail : length c.tail ≡ 0 = ap length (told.tail_is g lone s i v rule at pass a lt) ∙ (let ne = ne_eqb (stage_in a) 4 (λ h. omega arith) in rw ne refl) in
+            let tail : length c.tail ≡ 0 = ap length (told.tail_is g s rule a lt) ∙ (let ne = ne_eqb (stage_in a) 4 (λ h. omega arith) in rw ne refl) in
             let none = none_linked (λ h. omega arith) (λ h. omega arith) in let held = held_whole room e l in omega arith
 
         given_up_there : e.life ≡ GivenUp → slots_chained c + sum_by (linked_at a) v.tabs ≡ held_by room (Some e)
         given_up_there l = let st : stage_in a ≡ 4 = stage_of_entry ∙ (rw l refl) in let m = many_there (omega arith) (omega arith) in let many : length entry.chain.slots ≡ published room e.content = entry.chain.many ∙ (rw l refl) in
-            let tail : length c.tail ≡ length (slots_of_link c.end) = ap length (told.tail_is g lone s i v rule at pass a lt) ∙ (let eq = eq-eqb (stage_in a) 4 st in rw eq refl) in
+            let tail : length c.tail ≡ length (slots_of_link c.end) = ap length (told.tail_is g s rule a lt) ∙ (let eq = eq-eqb (stage_in a) 4 st in rw eq refl) in
             let none = none_linked (λ h. omega arith) (λ h. omega arith) in let held = held_unfinished room e GivenUp l (inr refl) in
             let so = held_so c.slots c.end fits_there (subst (λ (z : Link). z ≢ Last) (end_there (omega arith) (omega arith)) (not_ended l entry.chain.ends)) in let same = ap hold (m ∙ many) in omega arith
           where

@@ -1,5 +1,5 @@
 -- A tab leaves its anchor, and what nobody uses any more goes from the plain store.
-use Rattle.std.proofs.Common.{Bool, List, None, Option, Some, ap, arith, cond, eq-eqb, false, get_or, get_or-set_other, get_or-set_same, inl, inr, length, ne_eqb, refl, set, subst, sym, true, ◌&&◌, ◌+◌, ◌-◌, ◌<◌, ◌==◌, ◌||◌, ◌≤◌, ◌∙◌, ◌≡◌, ◌≢◌, ◌⊎◌, ℕ}
+use Rattle.std.proofs.Common.{Bool, List, None, Option, Some, ap, arith, cond, eq-eqb, false, get_or, get_or-set_other, get_or-set_same, inl, inr, length, ne_eqb, refl, subst, sym, true, ◌&&◌, ◌+◌, ◌-◌, ◌<◌, ◌==◌, ◌||◌, ◌≤◌, ◌∙◌, ◌≡◌, ◌≢◌, ◌⊎◌, ℕ}
 use Rattle.std.proofs.lemmas.Bool.{false≢true}
 use mathlib.Core.Logic.{dite}
 use native.Mathlib.Decide.{ℕ_discrete}
@@ -24,12 +24,11 @@ use Rattle.plain_model.specs.declared.store.Plain.{Plain}
 use Rattle.plain_model.specs.Store.{entry_at, has_life, is_left_over_at, place_at, readers, word_at}
 use Rattle.plain_model.specs.Writing.{settle}
 use Rattle.plain_laws.specs.Renaming.{renamed_word}
-use Rattle.plain_laws.proofs.Beginning.{set_here}
 use Rattle.plain_laws.proofs.Choosing.{either}
 use Rattle.store_rule.specs.Ground.{Ground}
 use Rattle.tab_states.specs.Tabs.{is_last}
 use Rattle.store_rule.specs.Told.{Stands, Steps}
-use Rattle.store_rule.specs.Words.{has}
+use Rattle.store_rule.specs.Words.{Mine, has}
 use Rattle.store_rule.proofs.AddingUp.{found_mine, has_left}
 use Rattle.rw_anchor.specs.Calls.{GivenUp as TriedToFree, Gone, LeftLast, Leaves}
 use Rattle.rw_anchor.specs.declared.Left.{Left}
@@ -37,9 +36,9 @@ use Rattle.slice_chain.specs.Freeing.{Freed}
 use Rattle.rock_reader.specs.Closing.{Parted}
 use Rattle.rock_reader.proofs.Parting.{done_tabs, freed_tabs, not_last, set_free}
 use Rattle.rock_writer.specs.Halting.{FreedLast, LeftToOther, Parted as WriterParted, Stayed}
-use Rattle.plain_runs.specs.Words.{IsLone, Knows, ShowsAt, ShowsEntryIf, no_guests, setting_of}
+use Rattle.plain_runs.specs.Words.{IsLone, KnowsLot, Lot, ShowsAt, ShowsEntryIf, no_guests, setting_of}
 use Rattle.plain_runs.proofs.Frames.{SameBut, chain_same, names_same, step_same}
-use Rattle.plain_runs.proofs.Chains.{only_tabs, word_is}
+use Rattle.plain_runs.proofs.OwnAnchors.{OwnsAnchor, mine_lone, owns_lone, pass_stays}
 use Rattle.plain_runs.proofs.PlainWords.{left_over_there, readers_fit}
 use Rattle.plain_runs.proofs.Freeing.{FewReaders, but_guests, but_step, evict_freed, evict_leaves, knows_all, knows_but, same_else, vacated_at}
 
@@ -99,189 +98,191 @@ module _ (g : Ground (List ℕ)) (rename : ℕ → ℕ) where
     drawn = h.drawn;
   }
 
-  module _ (lone : IsLone g) where
-    -- A tab that is counted leaves: one reader less is counted.
-    pub leave_knows : (v w : View (List ℕ)) (t a n : ℕ) (p : Plain) → Steps g v (Leave t) n w → anchor_of (tab_at v t) ≡ a → a < g.setting.anchors → Knows g rename v p (guest_at a)
-        → Knows g rename w p no_guests × (n ≡ word_number (renamed_word rename (word_at (setting_of g) p a)) + 1)
-    leave_knows v w t a n p st at lt knows = (
-      knows_all g rename w p no_guests a (but_guests g rename w p (guest_at a) no_guests a (λ b ne. sym (guest_else a b ne))
-          (but_step g rename v w (Leave t) n p p (guest_at a) a st is lt (same_else p a) (knows_but g rename v p (guest_at a) a knows))) here,
-      found,
-    )
-      where
-        is : place v (Leave t) ≡ Some (Anchor a)
-        is = ap (λ z. Some (Anchor z)) at
+  -- A tab that is counted leaves: one reader less is counted.
+  pub leave_knows : {lot : Lot} (v w : View (List ℕ)) (t a n : ℕ) (p : Plain) → Mine g v (Anchor a) → Steps g v (Leave t) n w → anchor_of (tab_at v t) ≡ a → a < g.setting.anchors → lot.anchors a ≡ true
+      → KnowsLot g rename lot v p (guest_at a) → KnowsLot g rename lot w p no_guests × (n ≡ word_number (renamed_word rename (word_at (setting_of g) p a)) + 1)
+  leave_knows {lot} v w t a n p mine st at lt own knows = (
+    knows_all g rename w p no_guests a (but_guests g rename w p (guest_at a) no_guests a (λ b ne. sym (guest_else a b ne))
+        (but_step g rename v w (Leave t) n p p (guest_at a) a st is lt (same_else p a) (knows_but g rename v p (guest_at a) a knows))) here,
+    found,
+  )
+    where
+      is : place v (Leave t) ≡ Some (Anchor a)
+      is = ap (λ z. Some (Anchor z)) at
 
-        shown : ShowsAt g rename v p (guest_at a a) a
-        shown = knows.each a lt
+      shown : ShowsAt g rename v p (guest_at a a) a
+      shown = knows.each a lt own
 
-        found : n ≡ word_number (renamed_word rename (word_at (setting_of g) p a)) + 1
-        found = found_mine g v w (Leave t) n (Anchor a) st lone is ∙ shown.word ∙ ap (λ z. word_number (renamed_word rename (word_at (setting_of g) p a)) + z) (guest_here a)
+      found : n ≡ word_number (renamed_word rename (word_at (setting_of g) p a)) + 1
+      found = found_mine g v w (Leave t) n (Anchor a) st mine is ∙ shown.word ∙ ap (λ z. word_number (renamed_word rename (word_at (setting_of g) p a)) + z) (guest_here a)
 
-        here : a < g.setting.anchors → ShowsAt g rename w p 0 a
-        here lt = record {
-          word = has_left g v w (Leave t) n (Anchor a) (Anchor a) st is refl ∙ (let f = found in omega arith);
-          entry = entry_kept v w a (place_at p a).version (entry_at p a) lt (step_same g v w (Leave t) n (Anchor a) st is lt) shown.entry;
-        }
+      here : a < g.setting.anchors → lot.anchors a ≡ true → ShowsAt g rename w p 0 a
+      here lt ours = record {
+        word = has_left g v w (Leave t) n (Anchor a) (Anchor a) st is refl ∙ (let f = found in omega arith);
+        entry = entry_kept v w a (place_at p a).version (entry_at p a) lt (step_same g v w (Leave t) n (Anchor a) st is lt) shown.entry;
+      }
 
-    -- The entry that a last tab left over is freed, and nobody comes before.
-    pub last_right : (v u w : View (List ℕ)) (t a n : ℕ) (p : Plain) → length p.tabs ≡ 8 → Knows g rename v p no_guests → is_left_over_at p a ≡ true → Steps g v (Evict t a) n u → n ≡ last_find a v.trail → Freed g u w
-        → Knows g rename w (settle a p) no_guests
-    last_right v u w t a n p eight knows over st won freed = let o = is_over p a over in subst (λ q. Knows g rename w q no_guests) (sym (settle_gone p a over))
-        (evict_freed g rename lone u w a p no_guests (few_all p no_guests eight (λ b. omega arith)) (evict_leaves g rename lone v u t a n p no_guests o.entry knows st won o.there o.unread refl) freed)
+  -- The entry that a last tab left over is freed, and nobody comes before.
+  pub last_right : {lot : Lot} → IsLone g → (v u w : View (List ℕ)) (t a n : ℕ) (p : Plain) → length p.tabs ≡ 8 → lot.anchors a ≡ true → KnowsLot g rename lot v p no_guests → is_left_over_at p a ≡ true → Steps g v (Evict t a) n u → n ≡ last_find a v.trail → Freed g u w
+      → KnowsLot g rename lot w (settle a p) no_guests
+  last_right {lot} lone v u w t a n p eight own knows over st won freed = let o = is_over p a over in subst (λ q. KnowsLot g rename lot w q no_guests) (sym (settle_gone p a over))
+      (evict_freed g rename lone u w a p no_guests (few_all p no_guests eight (λ b. omega arith)) (evict_leaves g rename v u t a n p no_guests o.entry (mine_lone g lone v (Anchor a)) own knows st won o.there o.unread refl) freed)
 
-    -- what the word of an anchor tells of its entry
-    pub over_known : (v : View (List ℕ)) (a : ℕ) (p : Plain) → length p.tabs ≡ 8 → a < g.setting.anchors → Knows g rename v p no_guests → is_left_over (has g v (Anchor a)) ≡ is_left_over_at p a
-    over_known v a p eight lt knows = left_over_there rename (setting_of g) p 0 a (has g v (Anchor a)) (knows.each a lt).word (readers_fit p a 0 eight (omega arith)) refl
+  -- what the word of an anchor tells of its entry
+  pub over_known : {lot : Lot} (v : View (List ℕ)) (a : ℕ) (p : Plain) → length p.tabs ≡ 8 → a < g.setting.anchors → lot.anchors a ≡ true → KnowsLot g rename lot v p no_guests → is_left_over (has g v (Anchor a)) ≡ is_left_over_at p a
+  over_known v a p eight lt own knows = left_over_there rename (setting_of g) p 0 a (has g v (Anchor a)) (knows.each a lt own).word (readers_fit p a 0 eight (omega arith)) refl
 
-    -- the pass found its own word there last, where it left one that is left over
-    won_there : (v w : View (List ℕ)) (t a n : ℕ) → Steps g v (Evict t a) n w → last_find a v.trail ≡ has g v (Anchor a) → n ≡ last_find a v.trail
-    won_there v w t a n st last = found_mine g v w (Evict t a) n (Anchor a) st lone refl ∙ sym last
+  -- the pass found its own word there last, where it left one that is left over
+  won_there : (v w : View (List ℕ)) (t a n : ℕ) → Mine g v (Anchor a) → Steps g v (Evict t a) n w → last_find a v.trail ≡ has g v (Anchor a) → n ≡ last_find a v.trail
+  won_there v w t a n mine st last = found_mine g v w (Evict t a) n (Anchor a) st mine refl ∙ sym last
 
-    -- A tab that is counted leaves its anchor: of a last one nobody comes before.
-    module _ (v : View (List ℕ)) (t a : ℕ) (p : Plain) (eight : length p.tabs ≡ 8) (counted : is_counted (tab_at v t) ≡ true) (at : anchor_of (tab_at v t) ≡ a) (lt : a < g.setting.anchors)
-        (knows : Knows g rename v p (guest_at a)) where
-      module _ (u : View (List ℕ)) (n : ℕ) (st : Steps g v (Leave t) n u) where
-        knows_left : Knows g rename u p no_guests
-        knows_left = (leave_knows v u t a n p st at lt knows).0
+  -- A tab that is counted leaves its anchor, which is its pass's own: of a last one nobody comes before.
+  module _ (lot : Lot) (v : View (List ℕ)) (t a : ℕ) (p : Plain) (eight : length p.tabs ≡ 8) (own : OwnsAnchor g v.pass a) (ours : lot.anchors a ≡ true) (counted : is_counted (tab_at v t) ≡ true) (at : anchor_of (tab_at v t) ≡ a) (lt : a < g.setting.anchors)
+      (knows : KnowsLot g rename lot v p (guest_at a)) where
+    module _ (u : View (List ℕ)) (n : ℕ) (st : Steps g v (Leave t) n u) where
+      knows_left : KnowsLot g rename lot u p no_guests
+      knows_left = (leave_knows v u t a n p (own.words v (Anchor a) refl refl) st at lt ours knows).0
 
-        left_is : n - 1 ≡ word_number (renamed_word rename (word_at (setting_of g) p a))
-        left_is = let f = (leave_knows v u t a n p st at lt knows).1 in omega arith
+      left_is : n - 1 ≡ word_number (renamed_word rename (word_at (setting_of g) p a))
+      left_is = let f = (leave_knows v u t a n p (own.words v (Anchor a) refl refl) st at lt ours knows).1 in omega arith
 
-        over_is : is_left_over (n - 1) ≡ is_left_over_at p a
-        over_is = left_over_there rename (setting_of g) p 0 a (n - 1) (let e = left_is in omega arith) (readers_fit p a 0 eight (omega arith)) refl
+      over_is : is_left_over (n - 1) ≡ is_left_over_at p a
+      over_is = left_over_there rename (setting_of g) p 0 a (n - 1) (let e = left_is in omega arith) (readers_fit p a 0 eight (omega arith)) refl
 
-        find_is : last_find a u.trail ≡ n - 1
-        find_is = ap (λ (z : View (List ℕ)). last_find a z.trail) st.leaves ∙ (let e = eq-eqb (anchor_of (tab_at v t)) a at in rw e refl)
+      find_is : last_find a u.trail ≡ n - 1
+      find_is = ap (λ (z : View (List ℕ)). last_find a z.trail) st.leaves ∙ (let e = eq-eqb (anchor_of (tab_at v t)) a at in rw e refl)
 
-        tab_left : is_left_over (n - 1) ≡ true → anchor_of (tab_at u t) ≡ a
-        tab_left over = ap (λ (z : View (List ℕ)). anchor_of (tab_at z t)) st.leaves
-            ∙ ap anchor_of (get_or-set_same v.tabs t (left_tab (anchor_of (tab_at v t)) (n - 1)) Free (let m = st.may.allowed.0 in let k = st.may.pass in omega arith)) ∙ (rw over at)
+      tab_left : is_left_over (n - 1) ≡ true → anchor_of (tab_at u t) ≡ a
+      tab_left over = ap (λ (z : View (List ℕ)). anchor_of (tab_at z t)) st.leaves
+          ∙ ap anchor_of (get_or-set_same v.tabs t (left_tab (anchor_of (tab_at v t)) (n - 1)) Free (let m = st.may.allowed.0 in let k = st.may.pass in omega arith)) ∙ (rw over at)
 
-        has_is : has g u (Anchor a) ≡ n - 1
-        has_is = has_left g v u (Leave t) n (Anchor a) (Anchor a) st (ap (λ z. Some (Anchor z)) at) refl
+      mine_left : Mine g u (Anchor a)
+      mine_left = own.words u (Anchor a) (pass_stays g v u (Leave t) n st) refl
 
-      gone_right : (left : Left) (w : View (List ℕ)) → Gone g v t left w → Knows g rename w (settle a p) no_guests
-      gone_right left w h = subst (λ q. Knows g rename w q no_guests) (sym (settle_stays p a (sym (over_is w h.found h.leave) ∙ h.used))) (knows_left w h.found h.leave)
+      has_is : has g u (Anchor a) ≡ n - 1
+      has_is = has_left g v u (Leave t) n (Anchor a) (Anchor a) st (ap (λ z. Some (Anchor z)) at) refl
 
-      -- the try of a last tab finds the word that the tab left
-      try_wins : (left : Left) (w : View (List ℕ)) (h : LeftLast g v t left w) → h.gives_up.found ≡ last_find (anchor_of (tab_at h.middle t)) h.middle.trail
-      try_wins left w h = subst (λ (b : ℕ). Steps g h.middle (Evict t b) h.gives_up.found w → h.gives_up.found ≡ last_find b h.middle.trail) (sym (tab_left h.middle h.found h.leave h.over))
-          (λ st. won_there h.middle w t a h.gives_up.found st (find_is h.middle h.found h.leave ∙ sym (has_is h.middle h.found h.leave))) h.gives_up.evict
+    gone_right : (left : Left) (w : View (List ℕ)) → Gone g v t left w → KnowsLot g rename lot w (settle a p) no_guests
+    gone_right left w h = subst (λ q. KnowsLot g rename lot w q no_guests) (sym (settle_stays p a (sym (over_is w h.found h.leave) ∙ h.used))) (knows_left w h.found h.leave)
 
-      no_done : (w : View (List ℕ)) → LeftLast g v t Left.Done w → ⊥
-      no_done w h = let e : Left.Done ≡ Left.MustFree = h.gives_up.won.1 (try_wins Left.Done w h) in cc
+    -- the try of a last tab finds the word that the tab left
+    try_wins : (left : Left) (w : View (List ℕ)) (h : LeftLast g v t left w) → h.gives_up.found ≡ last_find (anchor_of (tab_at h.middle t)) h.middle.trail
+    try_wins left w h = subst (λ (b : ℕ). Steps g h.middle (Evict t b) h.gives_up.found w → h.gives_up.found ≡ last_find b h.middle.trail) (sym (tab_left h.middle h.found h.leave h.over))
+        (λ st. won_there h.middle w t a h.gives_up.found (mine_left h.middle h.found h.leave) st (find_is h.middle h.found h.leave ∙ sym (has_is h.middle h.found h.leave))) h.gives_up.evict
 
-      pub behind_right : (w : View (List ℕ)) → Leaves g v t Left.Done w → Knows g rename w (settle a p) no_guests
-      behind_right w (inl h) = absurd (false≢true (sym (not_last (tab_at v t) counted) ∙ h.0))
-      behind_right w (inr (off, inl h)) = gone_right Left.Done w h
-      behind_right w (inr (off, inr h)) = absurd (no_done w h)
+    no_done : (w : View (List ℕ)) → LeftLast g v t Left.Done w → ⊥
+    no_done w h = let e : Left.Done ≡ Left.MustFree = h.gives_up.won.1 (try_wins Left.Done w h) in cc
 
-      pub last_freed_right : (m w : View (List ℕ)) → Leaves g v t Left.MustFree m → Freed g m w → Knows g rename w (settle a p) no_guests
-      last_freed_right m w (inl h) freed = absurd (false≢true (sym (not_last (tab_at v t) counted) ∙ h.0))
-      last_freed_right m w (inr (off, inl h)) freed = absurd (let e : Left.Done ≡ Left.MustFree = sym h.done in cc)
-      last_freed_right m w (inr (off, inr h)) freed = subst (λ (b : ℕ). Steps g h.middle (Evict t b) h.gives_up.found m → Knows g rename w (settle a p) no_guests) (sym (tab_left h.middle h.found h.leave h.over))
-          (λ st. last_right h.middle m w t a h.gives_up.found p eight (knows_left h.middle h.found h.leave) (sym (over_is h.middle h.found h.leave) ∙ h.over) st
-          (won_there h.middle m t a h.gives_up.found st (find_is h.middle h.found h.leave ∙ sym (has_is h.middle h.found h.leave))) freed) h.gives_up.evict
+    pub behind_right : (w : View (List ℕ)) → Leaves g v t Left.Done w → KnowsLot g rename lot w (settle a p) no_guests
+    behind_right w (inl h) = absurd (false≢true (sym (not_last (tab_at v t) counted) ∙ h.0))
+    behind_right w (inr (off, inl h)) = gone_right Left.Done w h
+    behind_right w (inr (off, inr h)) = absurd (no_done w h)
 
-    -- What a tab that was counted and left comes to: the plain store is settled at its anchor, and the tab is free.
-    pub record LeavesRight (t a : ℕ) (p : Plain) (v w : View (List ℕ)) : Type 0 where
-      pub knows : Knows g rename w (settle a p) no_guests
-      pub tabs : w.tabs ≡ with_tab v t Free
-      pub free : tab_at w t ≡ Free
-      pub inner_free : InnerIsFree w
+    pub last_freed_right : IsLone g → (m w : View (List ℕ)) → Leaves g v t Left.MustFree m → Freed g m w → KnowsLot g rename lot w (settle a p) no_guests
+    last_freed_right lone m w (inl h) freed = absurd (false≢true (sym (not_last (tab_at v t) counted) ∙ h.0))
+    last_freed_right lone m w (inr (off, inl h)) freed = absurd (let e : Left.Done ≡ Left.MustFree = sym h.done in cc)
+    last_freed_right lone m w (inr (off, inr h)) freed = subst (λ (b : ℕ). Steps g h.middle (Evict t b) h.gives_up.found m → KnowsLot g rename lot w (settle a p) no_guests) (sym (tab_left h.middle h.found h.leave h.over))
+        (λ st. last_right lone h.middle m w t a h.gives_up.found p eight ours (knows_left h.middle h.found h.leave) (sym (over_is h.middle h.found h.leave) ∙ h.over) st
+        (won_there h.middle m t a h.gives_up.found (mine_left h.middle h.found h.leave) st (find_is h.middle h.found h.leave ∙ sym (has_is h.middle h.found h.leave))) freed) h.gives_up.evict
 
-    free_by : (v w : View (List ℕ)) (t : ℕ) → w.tabs ≡ with_tab v t Free → tab_at w t ≡ Free
-    free_by v w t tabs = ap (λ (xs : List (Tab (List ℕ))). get_or xs t Free) tabs ∙ set_free v.tabs t
+  -- What a tab that was counted and left comes to: the plain store is settled at its anchor, and the tab is free.
+  pub record LeavesRight (lot : Lot) (t a : ℕ) (p : Plain) (v w : View (List ℕ)) : Type 0 where
+    pub knows : KnowsLot g rename lot w (settle a p) no_guests
+    pub tabs : w.tabs ≡ with_tab v t Free
+    pub free : tab_at w t ≡ Free
+    pub inner_free : InnerIsFree w
 
-    inner_by : (v w : View (List ℕ)) (t : ℕ) → w.tabs ≡ with_tab v t Free → t < inner → InnerIsFree v → InnerIsFree w
-    inner_by v w t tabs below free = ap (λ (xs : List (Tab (List ℕ))). is_free (get_or xs inner Free)) tabs ∙ ap is_free (get_or-set_other v.tabs t inner Free Free (λ e. let b = below in omega arith)) ∙ free
+  free_by : (v w : View (List ℕ)) (t : ℕ) → w.tabs ≡ with_tab v t Free → tab_at w t ≡ Free
+  free_by v w t tabs = ap (λ (xs : List (Tab (List ℕ))). get_or xs t Free) tabs ∙ set_free v.tabs t
 
-    parted_so : (v w : View (List ℕ)) (t a : ℕ) (p : Plain) → t < inner → InnerIsFree v → Knows g rename w (settle a p) no_guests → w.tabs ≡ with_tab v t Free → LeavesRight t a p v w
-    parted_so v w t a p below free knows tabs = record { knows = knows; tabs = tabs; free = free_by v w t tabs; inner_free = inner_by v w t tabs below free }
+  inner_by : (v w : View (List ℕ)) (t : ℕ) → w.tabs ≡ with_tab v t Free → t < inner → InnerIsFree v → InnerIsFree w
+  inner_by v w t tabs below free = ap (λ (xs : List (Tab (List ℕ))). is_free (get_or xs inner Free)) tabs ∙ ap is_free (get_or-set_other v.tabs t inner Free Free (λ e. let b = below in omega arith)) ∙ free
 
-    purged_so : (v w : View (List ℕ)) (a : ℕ) (p : Plain) → Knows g rename w (settle a p) no_guests → w.tabs ≡ with_tab v inner Free → LeavesRight inner a p v w
-    purged_so v w a p knows tabs = record { knows = knows; tabs = tabs; free = free_by v w inner tabs; inner_free = ap is_free (free_by v w inner tabs) }
+  parted_so : {lot : Lot} (v w : View (List ℕ)) (t a : ℕ) (p : Plain) → t < inner → InnerIsFree v → KnowsLot g rename lot w (settle a p) no_guests → w.tabs ≡ with_tab v t Free → LeavesRight lot t a p v w
+  parted_so v w t a p below free knows tabs = record { knows = knows; tabs = tabs; free = free_by v w t tabs; inner_free = inner_by v w t tabs below free }
 
-    -- A tab below the inner one that reads or retreats parts from its anchor.
-    pub parts_right : (v w : View (List ℕ)) (t a : ℕ) (p : Plain) → length p.tabs ≡ 8 → IsPass v → t < inner → InnerIsFree v → is_counted (tab_at v t) ≡ true → anchor_of (tab_at v t) ≡ a → a < g.setting.anchors
-        → Knows g rename v p (guest_at a) → Parted g t v w → LeavesRight t a p v w
-    parts_right v w t a p eight pass below free counted at lt knows (inl h) = parted_so v w t a p below free (behind_right v t a p eight counted at lt knows w h.leaves) (done_tabs g t v counted w h.leaves)
-    parts_right v w t a p eight pass below free counted at lt knows (inr h) = parted_so v w t a p below free (last_freed_right v t a p eight counted at lt knows h.middle w h.leaves h.freed) (freed_tabs g t v counted (inl free) h.middle w h.leaves h.freed)
+  purged_so : {lot : Lot} (v w : View (List ℕ)) (a : ℕ) (p : Plain) → KnowsLot g rename lot w (settle a p) no_guests → w.tabs ≡ with_tab v inner Free → LeavesRight lot inner a p v w
+  purged_so v w a p knows tabs = record { knows = knows; tabs = tabs; free = free_by v w inner tabs; inner_free = ap is_free (free_by v w inner tabs) }
 
-    -- The inner tab, by which an entry is purged, parts from its anchor.
-    pub purge_parts_right : (v w : View (List ℕ)) (a : ℕ) (p : Plain) → length p.tabs ≡ 8 → is_counted (tab_at v inner) ≡ true → anchor_of (tab_at v inner) ≡ a → a < g.setting.anchors
-        → Knows g rename v p (guest_at a) → Parted g inner v w → LeavesRight inner a p v w
-    purge_parts_right v w a p eight counted at lt knows (inl h) = purged_so v w a p (behind_right v inner a p eight counted at lt knows w h.leaves) (done_tabs g inner v counted w h.leaves)
-    purge_parts_right v w a p eight counted at lt knows (inr h) = purged_so v w a p (last_freed_right v inner a p eight counted at lt knows h.middle w h.leaves h.freed) (freed_tabs g inner v counted (inr refl) h.middle w h.leaves h.freed)
+  -- A tab below the inner one that reads or retreats parts from its anchor.
+  pub parts_right : {lot : Lot} → IsLone g → (v w : View (List ℕ)) (t a : ℕ) (p : Plain) → length p.tabs ≡ 8 → IsPass v → t < inner → InnerIsFree v → is_counted (tab_at v t) ≡ true → anchor_of (tab_at v t) ≡ a → a < g.setting.anchors
+      → lot.anchors a ≡ true → KnowsLot g rename lot v p (guest_at a) → Parted g t v w → LeavesRight lot t a p v w
+  parts_right {lot} lone v w t a p eight pass below free counted at lt ours knows (inl h) = parted_so v w t a p below free (behind_right lot v t a p eight (owns_lone g lone v.pass a) ours counted at lt knows w h.leaves) (done_tabs g t v counted w h.leaves)
+  parts_right {lot} lone v w t a p eight pass below free counted at lt ours knows (inr h) = parted_so v w t a p below free (last_freed_right lot v t a p eight (owns_lone g lone v.pass a) ours counted at lt knows lone h.middle w h.leaves h.freed) (freed_tabs g t v counted (inl free) h.middle w h.leaves h.freed)
 
-    -- A tab raised its entry to an end, and parts from it. It is last exactly where the entry is left over.
-    pub writer_parts_right : (v w : View (List ℕ)) (t a : ℕ) (p : Plain) → length p.tabs ≡ 8 → a < g.setting.anchors → Knows g rename v p no_guests → is_last (tab_at v t) ≡ is_left_over_at p a
-        → (is_last (tab_at v t) ≡ true → (anchor_of (tab_at v t) ≡ a) × (last_find a v.trail ≡ has g v (Anchor a))) → WriterParted g t v w → Knows g rename w (settle a p) no_guests
-    writer_parts_right v w t a p eight lt knows same last parted = by_parting parted.parting
-      where
-        tried : (left : Left) (u : View (List ℕ)) → is_last (tab_at v t) ≡ true → (h : TriedToFree g v t left u) → Steps g v (Evict t a) h.found u
-        tried left u was h = subst (λ (b : ℕ). Steps g v (Evict t b) h.found u) (last was).0 h.evict
+  -- The inner tab, by which an entry is purged, parts from its anchor.
+  pub purge_parts_right : {lot : Lot} → IsLone g → (v w : View (List ℕ)) (a : ℕ) (p : Plain) → length p.tabs ≡ 8 → is_counted (tab_at v inner) ≡ true → anchor_of (tab_at v inner) ≡ a → a < g.setting.anchors
+      → lot.anchors a ≡ true → KnowsLot g rename lot v p (guest_at a) → Parted g inner v w → LeavesRight lot inner a p v w
+  purge_parts_right {lot} lone v w a p eight counted at lt ours knows (inl h) = purged_so v w a p (behind_right lot v inner a p eight (owns_lone g lone v.pass a) ours counted at lt knows w h.leaves) (done_tabs g inner v counted w h.leaves)
+  purge_parts_right {lot} lone v w a p eight counted at lt ours knows (inr h) = purged_so v w a p (last_freed_right lot v inner a p eight (owns_lone g lone v.pass a) ours counted at lt knows lone h.middle w h.leaves h.freed) (freed_tabs g inner v counted (inr refl) h.middle w h.leaves h.freed)
 
-        wins : (left : Left) (u : View (List ℕ)) → (was : is_last (tab_at v t) ≡ true) → (h : TriedToFree g v t left u) → h.found ≡ last_find (anchor_of (tab_at v t)) v.trail
-        wins left u was h = won_there v u t a h.found (tried left u was h) (last was).1 ∙ ap (λ b. last_find b v.trail) (sym (last was).0)
+  -- A tab raised its entry to an end, and parts from it. It is last exactly where the entry is left over.
+  pub writer_parts_right : {lot : Lot} → IsLone g → (v w : View (List ℕ)) (t a : ℕ) (p : Plain) → length p.tabs ≡ 8 → a < g.setting.anchors → lot.anchors a ≡ true → KnowsLot g rename lot v p no_guests → is_last (tab_at v t) ≡ is_left_over_at p a
+      → (is_last (tab_at v t) ≡ true → (anchor_of (tab_at v t) ≡ a) × (last_find a v.trail ≡ has g v (Anchor a))) → WriterParted g t v w → KnowsLot g rename lot w (settle a p) no_guests
+  writer_parts_right {lot} lone v w t a p eight lt ours knows same last parted = by_parting parted.parting
+    where
+      tried : (left : Left) (u : View (List ℕ)) → is_last (tab_at v t) ≡ true → (h : TriedToFree g v t left u) → Steps g v (Evict t a) h.found u
+      tried left u was h = subst (λ (b : ℕ). Steps g v (Evict t b) h.found u) (last was).0 h.evict
 
-        by_parting : Stayed g t v w ⊎ LeftToOther g t v w ⊎ FreedLast g t v w → Knows g rename w (settle a p) no_guests
-        by_parting (inl h) = subst (λ q. Knows g rename w q no_guests) (sym (settle_stays p a (sym same ∙ h.used))) (subst (λ (z : View (List ℕ)). Knows g rename z p no_guests) (sym h.same) knows)
-        by_parting (inr (inl h)) = absurd (let e : Left.Done ≡ Left.MustFree = h.gives_up.won.1 (wins Left.Done w h.was h.gives_up) in cc)
-        by_parting (inr (inr h)) = last_right v h.middle w t a h.gives_up.found p eight knows (sym same ∙ h.was) (tried Left.MustFree h.middle h.was h.gives_up)
-            (won_there v h.middle t a h.gives_up.found (tried Left.MustFree h.middle h.was h.gives_up) (last h.was).1) h.freed
+      wins : (left : Left) (u : View (List ℕ)) → (was : is_last (tab_at v t) ≡ true) → (h : TriedToFree g v t left u) → h.found ≡ last_find (anchor_of (tab_at v t)) v.trail
+      wins left u was h = won_there v u t a h.found (mine_lone g lone v (Anchor a)) (tried left u was h) (last was).1 ∙ ap (λ b. last_find b v.trail) (sym (last was).0)
 
-    -- the same, of the tab that a step to CLOSED or HALTED left
-    pub raised_parts_right : (u v w : View (List ℕ)) (t a n : ℕ) (to : Stage) (x : Writer (List ℕ)) (p : Plain) → length p.tabs ≡ 8 → Steps g u (Raise t to) n v → (to ≡ stage.Closed) ⊎ (to ≡ stage.Halted) → tab_at u t ≡ Writing x
-        → x.anchor ≡ a → a < g.setting.anchors → Knows g rename v p no_guests → WriterParted g t v w → Knows g rename w (settle a p) no_guests
-    raised_parts_right u v w t a n to x p eight st ended is at lt knows parted = writer_parts_right v w t a p eight lt knows
-        (ap is_last tab ∙ last_if (is_left_over left) ∙ over) (λ was. (ap anchor_of tab ∙ anchor_if (is_left_over left) (sym (last_if (is_left_over left)) ∙ ap is_last (sym tab) ∙ was), find ∙ sym left_there)) parted
-      where
-        left : ℕ
-        left = left_by u (Raise t to) n
+      by_parting : Stayed g t v w ⊎ LeftToOther g t v w ⊎ FreedLast g t v w → KnowsLot g rename lot w (settle a p) no_guests
+      by_parting (inl h) = subst (λ q. KnowsLot g rename lot w q no_guests) (sym (settle_stays p a (sym same ∙ h.used))) (subst (λ (z : View (List ℕ)). KnowsLot g rename lot z p no_guests) (sym h.same) knows)
+      by_parting (inr (inl h)) = absurd (let e : Left.Done ≡ Left.MustFree = h.gives_up.won.1 (wins Left.Done w h.was h.gives_up) in cc)
+      by_parting (inr (inr h)) = last_right lone v h.middle w t a h.gives_up.found p eight ours knows (sym same ∙ h.was) (tried Left.MustFree h.middle h.was h.gives_up)
+          (won_there v h.middle t a h.gives_up.found (mine_lone g lone v (Anchor a)) (tried Left.MustFree h.middle h.was h.gives_up) (last h.was).1) h.freed
 
-        at_tab : anchor_of (tab_at u t) ≡ a
-        at_tab = ap anchor_of is ∙ at
+  -- the same, of the tab that a step to CLOSED or HALTED left
+  pub raised_parts_right : {lot : Lot} → IsLone g → (u v w : View (List ℕ)) (t a n : ℕ) (to : Stage) (x : Writer (List ℕ)) (p : Plain) → length p.tabs ≡ 8 → Steps g u (Raise t to) n v → (to ≡ stage.Closed) ⊎ (to ≡ stage.Halted) → tab_at u t ≡ Writing x
+      → x.anchor ≡ a → a < g.setting.anchors → lot.anchors a ≡ true → KnowsLot g rename lot v p no_guests → WriterParted g t v w → KnowsLot g rename lot w (settle a p) no_guests
+  raised_parts_right {lot} lone u v w t a n to x p eight st ended is at lt ours knows parted = writer_parts_right lone v w t a p eight lt ours knows
+      (ap is_last tab ∙ last_if (is_left_over left) ∙ over) (λ was. (ap anchor_of tab ∙ anchor_if (is_left_over left) (sym (last_if (is_left_over left)) ∙ ap is_last (sym tab) ∙ was), find ∙ sym left_there)) parted
+    where
+      left : ℕ
+      left = left_by u (Raise t to) n
 
-        left_there : has g v (Anchor a) ≡ left
-        left_there = has_left g u v (Raise t to) n (Anchor a) (Anchor a) st (ap (λ z. Some (Anchor z)) at_tab) refl
+      at_tab : anchor_of (tab_at u t) ≡ a
+      at_tab = ap anchor_of is ∙ at
 
-        over : is_left_over left ≡ is_left_over_at p a
-        over = ap is_left_over (sym left_there) ∙ over_known v a p eight lt knows
+      left_there : has g v (Anchor a) ≡ left
+      left_there = has_left g u v (Raise t to) n (Anchor a) (Anchor a) st (ap (λ z. Some (Anchor z)) at_tab) refl
 
-        find : last_find a v.trail ≡ left
-        find = ap (λ (z : View (List ℕ)). last_find a z.trail) st.leaves ∙ (let e = eq-eqb (anchor_of (tab_at u t)) a at_tab in rw e refl)
+      over : is_left_over left ≡ is_left_over_at p a
+      over = ap is_left_over (sym left_there) ∙ over_known v a p eight lt ours knows
 
-        ended_tab : (to ≡ stage.Closed) ⊎ (to ≡ stage.Halted) → raised_tab (Writing x) to left ≡ left_tab x.anchor left
-        ended_tab (inl e) = rw e refl
-        ended_tab (inr e) = rw e refl
+      find : last_find a v.trail ≡ left
+      find = ap (λ (z : View (List ℕ)). last_find a z.trail) st.leaves ∙ (let e = eq-eqb (anchor_of (tab_at u t)) a at_tab in rw e refl)
 
-        tab : tab_at v t ≡ left_tab a left
-        tab = ap (λ (z : View (List ℕ)). tab_at z t) st.leaves ∙ get_or-set_same u.tabs t (raised_tab (tab_at u t) to left) Free (let m = st.may.allowed.0 in let k = st.may.pass in omega arith)
-            ∙ ap (λ (z : Tab (List ℕ)). raised_tab z to left) is ∙ ended_tab ended ∙ ap (λ b. left_tab b left) at
+      ended_tab : (to ≡ stage.Closed) ⊎ (to ≡ stage.Halted) → raised_tab (Writing x) to left ≡ left_tab x.anchor left
+      ended_tab (inl e) = rw e refl
+      ended_tab (inr e) = rw e refl
 
-        last_if : (b : Bool) → is_last {X = List ℕ} (cond b (Last a) Free) ≡ b
-        last_if true = refl
-        last_if false = refl
+      tab : tab_at v t ≡ left_tab a left
+      tab = ap (λ (z : View (List ℕ)). tab_at z t) st.leaves ∙ get_or-set_same u.tabs t (raised_tab (tab_at u t) to left) Free (let m = st.may.allowed.0 in let k = st.may.pass in omega arith)
+          ∙ ap (λ (z : Tab (List ℕ)). raised_tab z to left) is ∙ ended_tab ended ∙ ap (λ b. left_tab b left) at
 
-        anchor_if : (b : Bool) → b ≡ true → anchor_of {X = List ℕ} (cond b (Last a) Free) ≡ a
-        anchor_if true e = refl
-        anchor_if false e = absurd (false≢true e)
+      last_if : (b : Bool) → is_last {X = List ℕ} (cond b (Last a) Free) ≡ b
+      last_if true = refl
+      last_if false = refl
 
-    -- Where no tab is the last user of an entry, none is left over.
-    pub none_left_over : (v : View (List ℕ)) (p : Plain) (a : ℕ) → length p.tabs ≡ 8 → Stands g v → IsPass v → ((t b : ℕ) → tab_at v t ≡ Last b → ⊥) → a < g.setting.anchors → Knows g rename v p no_guests
-        → is_left_over_at p a ≡ false
-    none_left_over v p a eight st pass no_last lt knows = decide (is_left_over_at p a) refl
-      where
-        over_there : is_left_over_at p a ≡ true → is_left_over (word st.state a) ≡ true
-        over_there e = ap is_left_over (word_is g lone st.state st.index v st.rule st.at pass (Anchor a) lt) ∙ over_known v a p eight lt knows ∙ e
+      anchor_if : (b : Bool) → b ≡ true → anchor_of {X = List ℕ} (cond b (Last a) Free) ≡ a
+      anchor_if true e = refl
+      anchor_if false e = absurd (false≢true e)
 
-        none : is_left_over_at p a ≡ true → ⊥
-        none e = let x = st.rule.sound.anchors.lasts a lt (over_there e) in
-            let y = only_tabs g lone st.state st.index v st.rule st.at pass x.i x.t (Last a) record { view = x.view; at = x.at; there = x.last } in
-            no_last x.t a (at_or v.tabs x.t (Last a) Free y.1)
+  -- Where no tab is the last user of an entry, none is left over.
+  pub none_left_over : {lot : Lot} (v : View (List ℕ)) (p : Plain) (a : ℕ) → OwnsAnchor g v.pass a → length p.tabs ≡ 8 → Stands g v → IsPass v → ((t b : ℕ) → tab_at v t ≡ Last b → ⊥) → a < g.setting.anchors → lot.anchors a ≡ true → KnowsLot g rename lot v p no_guests
+      → is_left_over_at p a ≡ false
+  none_left_over v p a own eight st pass no_last lt ours knows = decide (is_left_over_at p a) refl
+    where
+      over_there : is_left_over_at p a ≡ true → is_left_over (word st.state a) ≡ true
+      over_there e = ap is_left_over (own.stands v st (Anchor a) refl pass refl lt) ∙ over_known v a p eight lt ours knows ∙ e
 
-        decide : (b : Bool) → is_left_over_at p a ≡ b → is_left_over_at p a ≡ false
-        decide true e = absurd (none e)
-        decide false e = e
+      none : is_left_over_at p a ≡ true → ⊥
+      none e = let x = st.rule.sound.anchors.lasts a lt (over_there e) in
+          let y = own.tabs v st x.i x.t (Last a) refl pass record { view = x.view; at = x.at; there = x.last } refl refl in
+          no_last x.t a (at_or v.tabs x.t (Last a) Free y.1)
+
+      decide : (b : Bool) → is_left_over_at p a ≡ b → is_left_over_at p a ≡ false
+      decide true e = absurd (none e)
+      decide false e = e

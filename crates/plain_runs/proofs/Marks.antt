@@ -1,5 +1,6 @@
 -- Marks change nothing of what a pass shows.
 use Rattle.std.proofs.Common.{Contains, Bool, List, [], ap, arith, refl, subst, sym, true, ◌<◌, ◌∷◌, ◌≡◌, ◌∙◌, ℕ}
+use Rattle.std.proofs.lemmas.Bool.{false≢true}
 use Rattle.std.proofs.lemmas.List.Elements.{Contains-append_right}
 use Rattle.rock_disk.specs.Cell.{CellState}
 use Rattle.core_model.specs.Tabs.{inner, is_free, tab_at}
@@ -97,7 +98,8 @@ module _ {C O : Type 0} (tells : Bool) (state : C → CellState) (offers : O →
         knows = knows_more;
         hand = (cc (more.keeps.hand, shows.hand));
         eight = shows.eight;
-        tabs = λ t lt. tab_still t lt (plain_tab plain t) (shows.tabs t lt);
+        tabs = λ t lt own. tab_still t lt (plain_tab plain t) (shows.tabs t lt own);
+        away = λ t lt no. absurd (false≢true (sym no));
       }
         where
           -- no word has changed

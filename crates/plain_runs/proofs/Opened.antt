@@ -1,5 +1,6 @@
 -- A store that was opened over cells that tell what they hold: a new pass shows the plain store, and what else is asked of such a store holds.
 use Rattle.std.proofs.Common.{Bool, Contains, List, ap, arith, cond, false, length, map, refl, subst, suc, sym, true, zero, ◌∙◌, ◌≡◌, ℕ}
+use Rattle.std.proofs.lemmas.Bool.{false≢true}
 use Rattle.std.specs.Prelude.{IsTrue, nat_lt, replicate, slice_index_or}
 use Rattle.std.specs.Global.{Vec}
 use Rattle.std.proofs.lemmas.List.{length-map}
@@ -125,7 +126,8 @@ module _ {C O : Type 0} (tells : Bool) (state : C → CellState) (offers : O →
         knows = knows_it;
         hand = ap (λ (n : ℕ). cond (nat_lt n g.setting.anchors) n 0) new.hand ∙ first_hand (nat_lt 0 g.setting.anchors);
         eight = refl;
-        tabs = λ t lt. subst (ShowsTab tells state offers s (λ v. v) p first t) (sym (free_tab 8 t)) (new_free t);
+        tabs = λ t lt own. subst (ShowsTab tells state offers s (λ v. v) p first t) (sym (free_tab 8 t)) (new_free t);
+        away = λ t lt no. absurd (false≢true (sym no));
       }
 
       pub shows_opened : ShowsPlain tells state offers s p plain

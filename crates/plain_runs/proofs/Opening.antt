@@ -12,7 +12,7 @@ use Rattle.store_key.specs.Key.{key_of}
 use Rattle.core_model.specs.AnchorMoves.{entered}
 use Rattle.core_model.specs.Tabs as core
 use Rattle.core_model.specs.Tabs.{InnerIsFree, IsPass, inner}
-use Rattle.core_model.specs.declared.moves.Move.TheVariants.{Enter, LoadSide}
+use Rattle.core_model.specs.declared.moves.Move.TheVariants.{Enter}
 use Rattle.core_model.specs.declared.moves.Side.TheVariants.{Offer}
 use Rattle.core_model.specs.declared.tab.Tab as core_tab
 use Rattle.core_model.specs.declared.view.View.{View}
@@ -33,7 +33,7 @@ use Rattle.store_rule.specs.Told.{Steps}
 use Rattle.store_rule.proofs.Passing.{pass_of}
 use Rattle.slice_chain.specs.Victims.{hand_in}
 use Rattle.rock_reader.specs.Closing.{Parted}
-use Rattle.rock_reader.specs.Opening.{Came, OpenedEntry, Refused, opened}
+use Rattle.rock_reader.specs.Opening.{Came, OpenedEntry, Refused}
 use Rattle.rock_reader.specs.Reading.{ReadsAs, Standing, newly}
 use Rattle.rock_reader.specs.Responses.{HoldsFile}
 use Rattle.rock_reader.proofs.Coming.{came_tabs, key_tabs}
@@ -43,14 +43,15 @@ use Rattle.store_serve.specs.Tabs.{IsFree}
 use Rattle.worker_shelf.specs.Typed.{IsTyped, TellsKey}
 use Rattle.crew_accounts.proofs.GivenBytes.{IsFromFront}
 use Rattle.plain_runs.specs.Shows.{Shows, ShowsReading, ShowsTab}
-use Rattle.plain_runs.specs.Words.{IsLone, Knows, no_guests, setting_of}
+use Rattle.plain_runs.specs.Words.{IsLone, Knows, no_guests, setting_of, whole_lot}
 use Rattle.plain_runs.proofs.AnchorWords.{closed_knows, opened_knows}
-use Rattle.plain_runs.proofs.Coming.{HasCome, away_judged, came_knows, entry, entry_there, hit_judged, inside, key_hit, keyed_knows, keyed_tab, other_judged, reads, retreats, shown, version_same}
+use Rattle.plain_runs.proofs.Coming.{HasCome, away_judged, came_knows, entry, entry_there, hit_judged, key_hit, keyed_at, keyed_knows, keyed_pass, keyed_tab, other_judged, retreats, shown, version_same}
 use Rattle.plain_runs.proofs.Frames.{knows_same}
 use Rattle.plain_runs.proofs.LeftTabs.{guest_at, none_left_over, parts_right, settle_stays}
 use Rattle.plain_runs.proofs.ServedLines.{IsAs}
 use Rattle.plain_runs.proofs.Renamed.{IsRenamed, own_step, renamed_step}
-use Rattle.plain_runs.proofs.QuietSteps.{step_quiet}
+use Rattle.plain_runs.proofs.OwnAnchors.{owns_lone}
+use Rattle.plain_runs.proofs.QuietSteps.{load_quiet}
 use Rattle.plain_runs.proofs.Reading.{ReadRight, more_hand, no_fault, read_offer, went_right}
 use Rattle.plain_runs.proofs.ShowingOthers.{OneBegins, ShowsOn}
 
@@ -67,7 +68,7 @@ module _ {C O : Type 0} (tells : Bool) (state : C → CellState) (offers : O →
 
     no_last : (t b : ℕ) → core.tab_at (view p) t ≡ core_tab.Tab.Last b → ⊥
     no_last t b e = ⊎_elim {C = ⊥}
-        (λ (below : t < 8). no_last_below t b (tab_at pl t) (h.tabs t below) e)
+        (λ (below : t < 8). no_last_below t b (tab_at pl t) (h.tabs t below refl) e)
         (λ (above : 8 ≤ t). ⊎_elim {C = ⊥}
         (λ (behind : 8 < t). let z : ◌≡◌ {A = core_tab.Tab (List ℕ)} core_tab.Tab.Free (core_tab.Tab.Last b) = sym (get_or_past (view p).tabs t core_tab.Tab.Free (let nine = pass_of p in omega arith)) ∙ e in cc)
         (λ (low : t ≤ 8). false≢true (sym (ap core.is_free (ap (core.tab_at (view p)) (let z : t ≡ inner = omega arith in sym z) ∙ e)) ∙ h.inner_free))
@@ -75,7 +76,7 @@ module _ {C O : Type 0} (tells : Bool) (state : C → CellState) (offers : O →
         (cases_lt t 8)
 
     pub settled : (a : ℕ) → a < g.setting.anchors → settle a pl ≡ pl
-    settled a lt = settle_stays pl a (none_left_over g rename lone (view p) pl a h.eight h.own.stands (pass_of p) no_last lt h.knows)
+    settled a lt = settle_stays pl a (none_left_over g rename (view p) pl a (owns_lone g lone (view p).pass a) h.eight h.own.stands (pass_of p) no_last lt refl h.knows)
 
   -- A tab comes to an anchor, and the inner one stays free.
   came_long : (v w : View (List ℕ)) (t a n : ℕ) → Steps g v (Enter t a) n w → IsPass w
@@ -100,25 +101,25 @@ module _ {C O : Type 0} (tells : Bool) (state : C → CellState) (offers : O →
     low = omega arith
 
     abbrev come : (epoch : Epoch) (entered w : View (List ℕ)) → Came g t url (view p) epoch entered w → HasCome g rename t a
-    come epoch entered w c = record { store = pl; eight = h.eight; before = view p; knows = h.knows; found = c.found; came = entered; enter = c.enter; epoch = epoch; epoch_is = c.epoch_is }
+    come epoch entered w c = record { store = pl; eight = h.eight; before = view p; own = owns_lone (basis tells state offers s) lone (view p).pass (anchor_for (basis tells state offers s) url); lot = whole_lot; ours = refl; knows = h.knows; found = c.found; came = entered; enter = c.enter; epoch = epoch; epoch_is = c.epoch_is }
 
     pub refused_right : (w : View (List ℕ)) (c : Cause) → TellsKey c → Refused g t url (view p) c w → MissRight a (key_of url) c pl w
     refused_right w c typed (inl r) =
         let st = r.came.enter in
-        let told = away_judged g rename lone t a (come r.epoch r.entered w r.came) (key_of url) c r.cause_is in
-        let tab = retreats g rename lone t a (come r.epoch r.entered w r.came) r.unreadable in
+        let told = away_judged g rename t a (come r.epoch r.entered w r.came) (key_of url) c r.cause_is in
+        let tab = retreats g rename t a (come r.epoch r.entered w r.came) r.unreadable in
         let left = parts_right g rename lone r.entered w t a pl h.eight (came_long (view p) r.entered t a r.came.found st) low (came_inner (view p) r.entered t a r.came.found low h.inner_free st)
-        (ap core.is_counted tab) (ap core.anchor_of tab) st.may.allowed.0 (came_knows g rename lone t a (come r.epoch r.entered w r.came)) r.parted in
+        (ap core.is_counted tab) (ap core.anchor_of tab) st.may.allowed.0 refl (came_knows g rename t a (come r.epoch r.entered w r.came)) r.parted in
         record { cause = told.0; judged = told.1; cause_is = told.2; knows = subst (λ (x : Plain). Knows g rename w x no_guests) (settled p pl h a st.may.allowed.0) left.knows }
     refused_right w c typed (inr r) =
         let st = r.came.enter in
         let d = r.declined in
-        let told = other_judged g rename lone t a (come r.epoch r.entered w r.came) r.readable d.key d.keyed d.loaded (key_of url) c typed d.other d.cause_is in
-        let tab = keyed_tab g rename lone t a (come r.epoch r.entered w r.came) r.readable d.key d.keyed d.loaded in
+        let told = other_judged g rename t a (come r.epoch r.entered w r.came) r.readable d.key d.keyed d.loaded (key_of url) c typed d.other d.cause_is in
+        let tab = keyed_tab g rename t a (come r.epoch r.entered w r.came) r.readable d.key d.keyed d.loaded in
         let tabs = key_tabs g r.entered d.keyed t d.key d.loaded in
         let left = parts_right g rename lone d.keyed w t a pl h.eight (ap length tabs ∙ came_long (view p) r.entered t a r.came.found st) low
         (ap (λ (xs : List (core_tab.Tab (List ℕ))). core.is_free (get_or xs inner core_tab.Tab.Free)) tabs ∙ came_inner (view p) r.entered t a r.came.found low h.inner_free st)
-        (ap core.is_counted tab) (ap core.anchor_of tab) st.may.allowed.0 (keyed_knows g rename lone t a (come r.epoch r.entered w r.came) r.readable d.key d.keyed d.loaded) d.parted in
+        (ap core.is_counted tab) (ap core.anchor_of tab) st.may.allowed.0 refl (keyed_knows g rename t a (come r.epoch r.entered w r.came) r.readable d.key d.keyed d.loaded) d.parted in
         record { cause = told.0; judged = told.1; cause_is = told.2; knows = subst (λ (x : Plain). Knows g rename w x no_guests) (settled p pl h a st.may.allowed.0) left.knows }
 
     -- Where there is an entry the plain store opens it too.
@@ -143,29 +144,31 @@ module _ {C O : Type 0} (tells : Bool) (state : C → CellState) (offers : O →
       within = o.came.enter.may.allowed.0
 
       abbrev x : Entry
-      x = entry g rename lone t a (come o.epoch o.entered (view q) o.came) o.readable
+      x = entry g rename t a (come o.epoch o.entered (view q) o.came) o.readable
 
       there : entry_at pl a ≡ Some x
-      there = entry_there g rename lone t a (come o.epoch o.entered (view q) o.came) o.readable
+      there = entry_there g rename t a (come o.epoch o.entered (view q) o.came) o.readable
 
       kept : x.key ≡ key_of url
-      kept = key_hit g rename lone t a (come o.epoch o.entered (view q) o.came) o.readable (key_of url) o.accepted.keyed o.accepted.key url refl
+      kept = key_hit g rename t a (come o.epoch o.entered (view q) o.came) o.readable (key_of url) o.accepted.keyed o.accepted.key url refl
 
       counted : Knows g rename (view q) pl (guest_at a)
       counted = knows_same g rename o.accepted.keyed (view q) pl (guest_at a)
-          (keyed_knows g rename lone t a (come o.epoch o.entered (view q) o.came) o.readable (key_of url) o.accepted.keyed o.accepted.key)
-          (step_quiet g lone o.accepted.keyed (view q) (LoadSide t Offer) o.accepted.offer o.accepted.loaded refl)
+          (keyed_knows g rename t a (come o.epoch o.entered (view q) o.came) o.readable (key_of url) o.accepted.keyed o.accepted.key)
+          (load_quiet g (view p).pass a (owns_lone g lone (view p).pass a) t o.accepted.offer Offer o.accepted.keyed (view q)
+          (keyed_pass g rename t a (come o.epoch o.entered (view q) o.came) o.readable (key_of url) o.accepted.keyed o.accepted.key)
+          (keyed_at g rename t a (come o.epoch o.entered (view q) o.came) o.readable (key_of url) o.accepted.keyed o.accepted.key) o.accepted.loaded)
 
       version_there : version ≡ rename (place_at pl a).version
-      version_there = o.accepted.version_is ∙ version_same g rename lone t a (come o.epoch o.entered (view q) o.came)
+      version_there = o.accepted.version_is ∙ version_same g rename t a (come o.epoch o.entered (view q) o.came)
 
       offer_there : offer ≡ x.offer
-      offer_there = read_offer tells state offers s rename lone t q (newly (anchor_for g url) version offer url) reading
-          ∙ (shown g rename lone t a (come o.epoch o.entered (view q) o.came) o.readable (view q) (guest_at a) counted).names.offer
+      offer_there = read_offer tells state offers s rename t q (newly (anchor_for g url) version offer url) reading (owns_lone g lone (view q).pass (anchor_for g url))
+          ∙ (shown g rename t a (come o.epoch o.entered (view q) o.came) o.readable (view q) (guest_at a) counted).names.offer
 
       pub opened_right : OpenRight version offer q reading
       opened_right = record {
-        judged = hit_judged g rename lone t a (come o.epoch o.entered (view q) o.came) o.readable (key_of url) o.accepted.keyed o.accepted.key url refl;
+        judged = hit_judged g rename t a (come o.epoch o.entered (view q) o.came) o.readable (key_of url) o.accepted.keyed o.accepted.key url refl;
         version_is = version_there;
         knows = opened_knows g rename (view q) pl t a 0 other_url h.eight below free counted;
         tab = record {
@@ -226,7 +229,7 @@ module _ {C O : Type 0} (tells : Bool) (state : C → CellState) (offers : O →
     reads_at = ap core.anchor_of sh.reads.is ∙ sh.reads.anchor_is ∙ sh.anchor_is
 
     pub parted_right : Parted g t (view p) (view q) → Knows g rename (view q) (settle a (with_tab pl t Free)) no_guests
-    parted_right parted = (parts_right g rename lone (view p) (view q) t a (with_tab pl t Free) (length-set pl.tabs t Free ∙ eight) (pass_of p) (omega arith) inner_free (ap core.is_counted sh.reads.is) reads_at sh.inside
+    parted_right parted = (parts_right g rename lone (view p) (view q) t a (with_tab pl t Free) (length-set pl.tabs t Free ∙ eight) (pass_of p) (omega arith) inner_free (ap core.is_counted sh.reads.is) reads_at sh.inside refl
         (closed_knows g rename (view p) pl t a given other eight below at k) parted).knows
 
     free_after : tab_at (settle a (with_tab pl t Free)) t ≡ Free
@@ -255,7 +258,7 @@ module _ {C O : Type 0} (tells : Bool) (state : C → CellState) (offers : O →
       → IsRenamed tells state offers s rename told q t (close t pl)
   closes_right t a given other p q told pl below shows at hand h = record {
     answered = h.answer_is ∙ ap (λ (z : Step). renamed rename z.answer) (sym (close_is t a given other pl at));
-    shows = closed_shows t p q pl a given other shows.eight below shows.inner_free shows.knows at (subst (ShowsTab tells state offers s rename p pl t) at (shows.tabs t below)) h.parted h.free (ap (hand_in g.setting.anchors) hand ∙ shows.hand);
+    shows = closed_shows t p q pl a given other shows.eight below shows.inner_free shows.knows at (subst (ShowsTab tells state offers s rename p pl t) at (shows.tabs t below refl)) h.parted h.free (ap (hand_in g.setting.anchors) hand ∙ shows.hand);
   }
 
   -- A request to read on.
@@ -268,13 +271,13 @@ module _ {C O : Type 0} (tells : Bool) (state : C → CellState) (offers : O →
   }
     where
       sh : ShowsReading tells state offers s rename p pl t a given other
-      sh = subst (ShowsTab tells state offers s rename p pl t) at (shows.tabs t below)
+      sh = subst (ShowsTab tells state offers s rename p pl t) at (shows.tabs t below refl)
 
       on : ReadsOn tells state offers s t p told q sh.standing
       on = h sh.standing sh.reads
 
-      right : ReadRight tells state offers s rename lone t on.why on.bytes q (more (setting_of g) t pl)
-      right = went_right tells state offers s rename lone t begins known file from sized p q pl a given shows.eight below shows.knows other at sh on.why on.bytes on.went (no_fault on.why on.bytes told on.answer_is fair)
+      right : ReadRight tells state offers s rename t whole_lot on.why on.bytes q (more (setting_of g) t pl)
+      right = went_right tells state offers s rename t begins known file from sized p q pl a given shows.eight below whole_lot shows.knows (owns_lone g lone (view p).pass a) refl other at sh on.why on.bytes on.went (no_fault on.why on.bytes told on.answer_is fair)
 
 -- The requests, where each version stands for itself.
 module _ {C O : Type 0} (tells : Bool) (state : C → CellState) (offers : O → Offers) (s : Store C O) (lone : IsLone (basis tells state offers s)) where

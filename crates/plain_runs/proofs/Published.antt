@@ -1,24 +1,21 @@
 -- Which words a tab changes that writes: at its own anchor, and the links of slots that it reserved.
-use Rattle.std.proofs.Common.{Bool, Contains, List, None, Option, Some, [], ap, arith, false, inl, inr, length, ne_eqb, refl, subst, sym, true, ◌+◌, ◌++◌, ◌-◌, ◌*◌, ◌<◌, ◌∙◌, ◌≡◌, ◌≢◌, ◌≤◌, ◌⊎◌, ◌∷◌, ℕ}
+use Rattle.std.proofs.Common.{Bool, Contains, List, Option, Some, [], ap, arith, inl, inr, length, ne_eqb, refl, subst, sym, ◌+◌, ◌++◌, ◌-◌, ◌<◌, ◌∙◌, ◌≡◌, ◌≢◌, ◌≤◌, ◌⊎◌, ◌∷◌, ℕ}
 use mathlib.Core.Logic.{dite}
-use mathlib.Core.Option.{some}
 use native.Mathlib.Decide.{ℕ_discrete}
-use lib.ListN.{get_elem?}
 use Rattle.entry_cut.specs.Content.{room_of}
 use Rattle.link_word.specs.declared.link.Link.{Link as LinkOf}
 use Rattle.link_word.specs.declared.link.Link.TheVariants.{Last as LastLink, Next, NotWritten}
-use Rattle.lock_word.specs.Words.{epoch_of, raised, stage_number, stage_of, word_number}
+use Rattle.lock_word.specs.Words.{epoch_of, raised, stage_number, stage_of}
 use Rattle.lock_word.specs.declared.stage.Stage.{Stage}
-use Rattle.core_model.specs.Chains.{Fits, rest_of, slots_of_link, start_number}
+use Rattle.core_model.specs.Chains.{Fits, slots_of_link, start_number}
 use Rattle.core_model.specs.Deeds.{mirrored}
-use Rattle.core_model.specs.Layout.{IsPlace, Setting, index}
+use Rattle.core_model.specs.Layout.{index}
 use Rattle.core_model.specs.SlotMoves.{publishes}
 use Rattle.core_model.specs.Slots.{WriterHolds, slot_words}
 use Rattle.core_model.specs.State.{chain_of}
 use Rattle.core_model.specs.Table.{left_by, place}
 use Rattle.core_model.specs.Tabs.{IsPass, anchor_of, inner, tab_at}
 use Rattle.core_model.specs.declared.chain.Chain.{Chain}
-use Rattle.core_model.specs.declared.moves.Move.{Move}
 use Rattle.core_model.specs.declared.moves.Move.TheVariants.{EndTurn, Publish, Raise, StoreSide, TryTurn, LogPiece}
 use Rattle.core_model.specs.declared.moves.Then.TheVariants.{Stays}
 use Rattle.core_model.specs.declared.moves.Side.{Side}
@@ -28,7 +25,7 @@ use Rattle.core_model.specs.declared.tab.Tab.{Tab}
 use Rattle.core_model.specs.declared.tab.Tab.TheVariants.{Free, Freeing, Last, Reading, Retreating, Writing}
 use Rattle.core_model.specs.declared.tab.Writer.{Writer}
 use Rattle.core_model.specs.declared.view.Place.{Place}
-use Rattle.core_model.specs.declared.view.Place.TheVariants.{Anchor, Beside, Counter, Link, Turn}
+use Rattle.core_model.specs.declared.view.Place.TheVariants.{Anchor, Beside, Counter, Link}
 use Rattle.core_model.specs.declared.view.View.{View}
 use Rattle.core_model.proofs.Lists.{contains_none}
 use Rattle.core_model.proofs.Tabs.{tab_there}
@@ -42,15 +39,16 @@ use Rattle.store_rule.specs.Ground.{Ground}
 use Rattle.store_rule.specs.Told.{Stands, Steps}
 use Rattle.store_rule.specs.Turns.{IsReturned}
 use Rattle.store_rule.proofs.Moves.{known_of}
-use Rattle.store_rule.specs.Words.{has}
+use Rattle.store_rule.specs.Words.{Mine, has}
+use Rattle.plain_runs.proofs.OwnAnchors.{OwnsAnchor, own_chain, owns_lone, stands_before}
 use Rattle.store_rule.proofs.AddingUp.{found_mine, has_left}
 use Rattle.slice_chain.specs.Links.{Published, next_link}
 use Rattle.slice_chain.specs.Writes.{WroteSlot}
 use Rattle.rock_writer.proofs.Resting.{tab_now}
 use Rattle.rock_writer.proofs.Standing as standing
-use Rattle.plain_runs.specs.Words.{EndsSo, HasChain, HasNames, IsLone, Knows, ShowsAt, ShowsEntry, ShowsEntryIf, no_guests, setting_of, slots_published}
+use Rattle.plain_runs.specs.Words.{EndsSo, HasChain, HasNames, IsLone, ShowsAt, no_guests, setting_of, slots_published}
 use Rattle.plain_runs.proofs.Chains as told
-use Rattle.plain_runs.proofs.Frames.{LeavesAlone, SameBut, names_same, same_on, same_weaker, step_same, step_same_turn, step_same_log}
+use Rattle.plain_runs.proofs.Frames.{SameBut, same_on, same_weaker, step_same, step_same_turn, step_same_log}
 use Rattle.plain_runs.proofs.Freeing.{KnowsBut, SameElse, but_moved}
 use Rattle.plain_runs.proofs.PlainWords.{readers_fit, stage_there}
 
@@ -101,10 +99,6 @@ only_link a slot j (inl e) = ap slot_in e
 only_link a slot j (inr (inl e)) = cc
 only_link a slot j (inr (inr e)) = cc
 
--- a step was made from the view of a state
-pub stands_before : {g : Ground (List ℕ)} {v w : View (List ℕ)} {m : Move} {n : ℕ} → Steps g v m n w → Stands g v
-stands_before st = record { state = st.state; index = st.index; rule = st.rule; at = st.at }
-
 -- An entry of which a slot is published may be read, or was given up.
 stage_span : (room : ℕ) (life : Life) (content : ℕ) → slots_published room life content ≢ 0 → (2 ≤ stage_number (stage_of_entry room life content)) × (stage_number (stage_of_entry room life content) ≤ 4)
 stage_span room Growing content has_slots = let e = ne_eqb (published room content) 0 has_slots in
@@ -112,7 +106,7 @@ stage_span room Growing content has_slots = let e = ne_eqb (published room conte
 stage_span room Whole content has_slots = (omega arith, omega arith)
 stage_span room GivenUp content has_slots = (omega arith, omega arith)
 
-module _ (g : Ground (List ℕ)) (lone : IsLone g) where
+module _ (g : Ground (List ℕ)) where
   -- a slot that a writing tab reserved is one of the table, and so is its anchor
   pub reserved_there : (v : View (List ℕ)) (t slot : ℕ) (w : Writer (List ℕ)) → Stands g v → IsPass v → t < inner → tab_at v t ≡ Writing w → Contains w.reserved slot → slot < g.setting.slots
   reserved_there v t slot w st pass below is c = standing.inside g v st t w (tab_there v t (Writing w) (let n = pass in let b = below in omega arith) is) slot c
@@ -159,13 +153,13 @@ module _ (g : Ground (List ℕ)) (lone : IsLone g) where
       same_weaker g v w (λ q. q ≡ Link slot) (Linking x.anchor slot) (λ q e. inl e)
       (step_same g v w (Publish t slot (next_link next)) 0 (Link slot) h.linked refl (reserved_there v t slot x (stands_before h.linked) pass below is c))
 
-  -- The words of an anchor where a tab writes spell what it has published, where it stored where that begins.
-  pub chain_of_tab : (v : View (List ℕ)) (t : ℕ) (w : Writer (List ℕ)) (x : Entry) → Stands g v → IsPass v → t < inner → tab_at v t ≡ Writing w → w.start ≡ Some (start_number w.published)
+  -- The words of an anchor that is the pass's own, and where a tab writes, spell what it has published, where it stored where that begins.
+  pub chain_of_tab : (v : View (List ℕ)) (t : ℕ) (w : Writer (List ℕ)) (x : Entry) → OwnsAnchor g v.pass w.anchor → Stands g v → IsPass v → t < inner → tab_at v t ≡ Writing w → w.start ≡ Some (start_number w.published)
       → length w.published ≡ slots_published (room_of g.slot) x.life x.content → EndsSo x.life w.end → HasChain g v w.anchor x
-  chain_of_tab v t w x st pass below is start many ends = record {
+  chain_of_tab v t w x own st pass below is start many ends = record {
     slots = c.slots;
     end = c.end;
-    spelled = told.chain_spelled g lone st.state st.index v st.rule st.at pass w.anchor lt starts;
+    spelled = own.spelled v st refl pass lt starts;
     many = ap (λ (z : Chain). length z.slots) holds.chain ∙ many;
     ends = subst (λ (z : Chain). EndsSo x.life z.end) (sym holds.chain) ends;
   }
@@ -180,7 +174,7 @@ module _ (g : Ground (List ℕ)) (lone : IsLone g) where
       holds = standing.holds g v st t w (tab_there v t (Writing w) (let n = pass in let b = below in omega arith) is)
 
       starts : has g v (Beside Start w.anchor) ≡ start_number c.slots
-      starts = sym (told_in g.setting.anchors w.anchor _ lt ∙ told.word_is g lone st.state st.index v st.rule st.at pass (Beside Start w.anchor) lt) ∙ (holds.names_are.start (start_number w.published) start ∙ ap (λ (z : Chain). start_number z.slots) (sym holds.chain))
+      starts = sym (told_in g.setting.anchors w.anchor _ lt ∙ own.stands v st (Beside Start w.anchor) refl pass refl lt) ∙ (holds.names_are.start (start_number w.published) start ∙ ap (λ (z : Chain). start_number z.slots) (sym holds.chain))
 
   -- An entry of which no slot is published has no chain.
   no_slots : (v : View (List ℕ)) (b : ℕ) (e : Entry) → (h : HasChain g v b e) → length h.slots ≡ 0 → (j : ℕ) → Contains (h.slots ++ slots_of_link h.end) j → ⊥
@@ -193,33 +187,33 @@ module _ (g : Ground (List ℕ)) (lone : IsLone g) where
       by_list (x ∷ xs) end z fits c = absurd (omega arith)
 
   module _ (rename : ℕ → ℕ) where
-    -- A slot that a tab reserved which writes at another anchor is in no chain of an entry, and no such chain goes on there.
-    pub reserved_apart : (v : View (List ℕ)) (t : ℕ) (w : Writer (List ℕ)) (p : Plain) (n b : ℕ) → Stands g v → IsPass v → t < inner → tab_at v t ≡ Writing w → b < g.setting.anchors → w.anchor ≢ b
+    -- A slot that a tab reserved which writes at another anchor is in no chain of an entry at an anchor that is the pass's own, and no such chain goes on there.
+    pub reserved_apart : (v : View (List ℕ)) (t : ℕ) (w : Writer (List ℕ)) (p : Plain) (n b : ℕ) → OwnsAnchor g v.pass b → Stands g v → IsPass v → t < inner → tab_at v t ≡ Writing w → b < g.setting.anchors → w.anchor ≢ b
         → ShowsAt g rename v p n b → readers p b + n < 65536 → (e : Entry) → entry_at p b ≡ Some e → (h : HasChain g v b e) → (j : ℕ) → Contains (h.slots ++ slots_of_link h.end) j → Contains w.reserved j → ⊥
-    reserved_apart v t w p n b st pass below is lt other shown few e there h j c reserved = dite (ℕ_discrete (length h.slots) 0)
+    reserved_apart v t w p n b own st pass below is lt other shown few e there h j c reserved = dite (ℕ_discrete (length h.slots) 0)
         (λ none. no_slots v b e h none j c)
-        (λ some_slots. let range = in_range some_slots in let same = told.chain_is g lone st.state st.index v st.rule st.at pass b lt e h range.0 range.1 in
-        told.not_reserved g lone st.state st.index v st.rule st.at pass b lt j st.index t w (moved same.0 same.1 c)
-        (told.own_tab g lone st.state st.index v st.rule st.at pass t (Writing w) (let z = below in omega arith) is) other reserved)
+        (λ some_slots. let range = in_range some_slots in let same = own_chain g v b own st pass lt e h range.0 range.1 in
+        told.not_reserved g st.state st.rule b lt j st.index t w (moved same.0 same.1 c)
+        (told.own_tab st.state st.index v st.at pass t (Writing w) (let z = below in omega arith) is) other reserved)
       where
         moved : {xs ys : List ℕ} {d f : LinkOf} → xs ≡ ys → d ≡ f → Contains (xs ++ slots_of_link d) j → Contains (ys ++ slots_of_link f) j
         moved p q k = subst (λ (z : List ℕ). Contains z j) (λ i. p i ++ slots_of_link (q i)) k
 
         stage_here : stage_of (epoch_of (Rattle.core_model.specs.State.word st.state b)) ≡ stage_number (stage_at (room_of g.slot) (place_at p b).version (Some e))
-        stage_here = ap (λ (z : ℕ). stage_of (epoch_of z)) (told.word_is g lone st.state st.index v st.rule st.at pass (Anchor b) lt)
+        stage_here = ap (λ (z : ℕ). stage_of (epoch_of z)) (own.stands v st (Anchor b) refl pass refl lt)
             ∙ (stage_there rename (setting_of g) p n b (has g v (Anchor b)) shown.word few ∙ ap (λ (o : Option Entry). stage_number (stage_at (room_of g.slot) (place_at p b).version o)) there)
 
         in_range : length h.slots ≢ 0 → (2 ≤ stage_of (epoch_of (Rattle.core_model.specs.State.word st.state b))) × (stage_of (epoch_of (Rattle.core_model.specs.State.word st.state b)) ≤ 4)
         in_range some_slots = let span = stage_span (room_of g.slot) e.life e.content (λ z. some_slots (h.many ∙ z)) in let st = stage_here in (omega arith, omega arith)
 
     -- What a tab changes at its own anchor leaves all others alone.
-    pub touched_but : (v w : View (List ℕ)) (t slot : ℕ) (x : Writer (List ℕ)) (p q : Plain) → Stands g v → IsPass v → t < inner → tab_at v t ≡ Writing x → Contains x.reserved slot → SameBut g v w (Touched x.anchor slot)
+    pub touched_but : IsLone g → (v w : View (List ℕ)) (t slot : ℕ) (x : Writer (List ℕ)) (p q : Plain) → Stands g v → IsPass v → t < inner → tab_at v t ≡ Writing x → Contains x.reserved slot → SameBut g v w (Touched x.anchor slot)
         → SameElse p q x.anchor → length p.tabs ≡ 8 → KnowsBut g rename v p no_guests x.anchor → KnowsBut g rename w q no_guests x.anchor
-    touched_but v w t slot x p q st pass below is reserved same other eight h = but_moved g rename v w (Touched x.anchor slot) p q no_guests x.anchor same other no_counter
-        (λ b lt ne. record {
+    touched_but lone v w t slot x p q st pass below is reserved same other eight h = but_moved g rename v w (Touched x.anchor slot) p q no_guests x.anchor same other no_counter
+        (λ b lt mine ne. record {
           word = λ c. ne (only_anchor x.anchor slot b c);
           sides = λ side c. ne (only_start x.anchor slot b side c).0;
-          links = λ e there chain j c k. reserved_apart v t x p 0 b st pass below is lt (λ z. ne (sym z)) (h.each b lt ne) (readers_fit p b 0 eight (omega arith)) e there chain j c
+          links = λ e there chain j c k. reserved_apart v t x p 0 b (owns_lone g lone v.pass b) st pass below is lt (λ z. ne (sym z)) (h.each b lt mine ne) (readers_fit p b 0 eight (omega arith)) e there chain j c
               (subst (λ (z : ℕ). Contains x.reserved z) (sym (only_link x.anchor slot j k)) reserved);
         }) h
       where
@@ -242,9 +236,9 @@ module _ (g : Ground (List ℕ)) (lone : IsLone g) where
       same_weaker g v w (λ q. q ≡ Anchor (anchor_of (tab_at v t))) (Touched x.anchor slot) (λ q e. inr (inr (e ∙ ap (λ (z : Tab (List ℕ)). Anchor (anchor_of z)) is)))
       (step_same g v w (Raise t to) n (Anchor (anchor_of (tab_at v t))) st refl (subst (λ (z : Tab (List ℕ)). anchor_of z < g.setting.anchors) (sym is) (anchor_there v t x (stands_before st) pass below is)))
 
-  pub raise_left : (v w : View (List ℕ)) (t n : ℕ) (to : Stage) (x : Writer (List ℕ)) → tab_at v t ≡ Writing x → Steps g v (Raise t to) n w
+  pub raise_left : (v w : View (List ℕ)) (t n : ℕ) (to : Stage) (x : Writer (List ℕ)) → Mine g v (Anchor x.anchor) → tab_at v t ≡ Writing x → Steps g v (Raise t to) n w
       → (n ≡ has g v (Anchor x.anchor)) × (has g w (Anchor x.anchor) ≡ raised n (stage_number to - stage_of (epoch_of n))) × (left_by v (Raise t to) n ≡ raised n (stage_number to - stage_of (epoch_of n)))
-  raise_left v w t n to x is st = (found_mine g v w (Raise t to) n (Anchor x.anchor) st lone here, has_left g v w (Raise t to) n (Anchor x.anchor) (Anchor x.anchor) st here refl ∙ left, left)
+  raise_left v w t n to x mine is st = (found_mine g v w (Raise t to) n (Anchor x.anchor) st mine here, has_left g v w (Raise t to) n (Anchor x.anchor) (Anchor x.anchor) st here refl ∙ left, left)
     where
       here : place v (Raise t to) ≡ Some (Anchor x.anchor)
       here = ap (λ (z : Tab (List ℕ)). Some (Anchor (anchor_of z))) is

@@ -1,7 +1,7 @@
 -- An entry is purged as by the plain store.
 use Rattle.std.proofs.Common.{Bool, List, None, Some, ap, arith, false, get_or, inl, inr, refl, subst, sym, true, ◌<◌, ◌∙◌, ◌≡◌, ℕ}
 use Rattle.std.specs.Prelude.{Err, IfErr, IfOk, Ok, Result}
-use Rattle.lock_word.specs.Words.{epoch_number, epoch_of}
+use Rattle.lock_word.specs.Words.{epoch_number}
 use Rattle.lock_word.specs.declared.cause.Cause.{Cause}
 use Rattle.lock_word.specs.declared.epoch.Epoch.{Epoch}
 use Rattle.lock_word.proofs.Parts.{same_epoch}
@@ -16,7 +16,6 @@ use Rattle.core_model.specs.declared.view.View.{View}
 use Rattle.entry_cut.specs.Content.{room_of}
 use Rattle.plain_model.specs.declared.entry.Place.{Place as PlaceOf}
 use Rattle.plain_model.specs.declared.store.Plain.{Plain}
-use Rattle.plain_model.specs.declared.store.Tab.{Tab}
 use Rattle.plain_model.specs.declared.store.Tab.TheVariants.{Free}
 use Rattle.plain_model.specs.Reading.{doom_at, judge, purge}
 use Rattle.plain_model.specs.Store as plain
@@ -27,6 +26,8 @@ use Rattle.store_rule.specs.declared.store.Pass.{Pass}
 use Rattle.store_rule.specs.declared.store.Store.{Store}
 use Rattle.store_rule.specs.Ground.{Ground, Offers, anchor_for}
 use Rattle.store_rule.specs.Passes.{basis, view}
+use Rattle.store_rule.specs.Words.{Mine}
+use Rattle.core_model.specs.declared.view.Place.TheVariants.{Anchor}
 use Rattle.slice_chain.specs.Victims.{hand_in}
 use Rattle.rock_reader.specs.Opening.{Came, Refused}
 use Rattle.purge_entry.specs.Purging.{Purged}
@@ -35,12 +36,13 @@ use Rattle.store_serve.specs.Tabs.{IsFree}
 use Rattle.store_serve.specs.Whole.{Purges, whole_tab}
 use Rattle.worker_shelf.specs.Typed.{IsTyped, TellsKey}
 use Rattle.plain_runs.specs.Shows.{Shows, ShowsTab}
-use Rattle.plain_runs.specs.Words.{IsLone, Knows, no_guests, setting_of}
+use Rattle.plain_runs.specs.Words.{IsLone, Knows, no_guests, setting_of, whole_lot}
 use Rattle.plain_runs.proofs.AnchorWords.{doom_knows, doomed_there, left_epoch}
-use Rattle.plain_runs.proofs.Coming.{HasCome, away_judged, came_knows, hit_judged, keyed_knows, keyed_tab, other_judged, retreats, undoomed}
+use Rattle.plain_runs.proofs.Coming.{HasCome, away_judged, came_knows, hit_judged, keyed_knows, keyed_pass, keyed_tab, other_judged, retreats, undoomed}
 use Rattle.plain_runs.proofs.LeftTabs.{guest_at, purge_parts_right}
 use Rattle.plain_runs.proofs.ServedLines.{IsAs}
 use Rattle.plain_runs.proofs.Opening.{MissRight, settled}
+use Rattle.plain_runs.proofs.OwnAnchors.{owns_lone}
 use Rattle.plain_runs.proofs.Renamed.{IsRenamed, own_step, renamed_step}
 use Rattle.plain_runs.proofs.PlainWords.{readers_fit}
 
@@ -52,24 +54,24 @@ module _ {C O : Type 0} (tells : Bool) (state : C → CellState) (offers : O →
   a = anchor_for g url
 
   abbrev come : (epoch : Epoch) (entered w : View (List ℕ)) → Came g inner url (view p) epoch entered w → HasCome g rename inner a
-  come epoch entered w c = record { store = pl; eight = h.eight; before = view p; knows = h.knows; found = c.found; came = entered; enter = c.enter; epoch = epoch; epoch_is = c.epoch_is }
+  come epoch entered w c = record { store = pl; eight = h.eight; before = view p; own = owns_lone (basis tells state offers s) lone (view p).pass (anchor_for (basis tells state offers s) url); lot = whole_lot; ours = refl; knows = h.knows; found = c.found; came = entered; enter = c.enter; epoch = epoch; epoch_is = c.epoch_is }
 
   -- There was nothing to purge.
   pub purge_refused : (w : View (List ℕ)) (c : Cause) → TellsKey c → Refused g inner url (view p) c w → MissRight tells state offers s rename lone a (key_of url) c pl w
   purge_refused w c typed (inl r) =
       let st = r.came.enter in
-      let told = away_judged g rename lone inner a (come r.epoch r.entered w r.came) (key_of url) c r.cause_is in
-      let tab = retreats g rename lone inner a (come r.epoch r.entered w r.came) r.unreadable in
-      let left = purge_parts_right g rename lone r.entered w a pl h.eight (ap core.is_counted tab) (ap core.anchor_of tab) st.may.allowed.0
-      (came_knows g rename lone inner a (come r.epoch r.entered w r.came)) r.parted in
+      let told = away_judged g rename inner a (come r.epoch r.entered w r.came) (key_of url) c r.cause_is in
+      let tab = retreats g rename inner a (come r.epoch r.entered w r.came) r.unreadable in
+      let left = purge_parts_right g rename lone r.entered w a pl h.eight (ap core.is_counted tab) (ap core.anchor_of tab) st.may.allowed.0 refl
+      (came_knows g rename inner a (come r.epoch r.entered w r.came)) r.parted in
       record { cause = told.0; judged = told.1; cause_is = told.2; knows = subst (λ (x : Plain). Knows g rename w x no_guests) (settled tells state offers s rename lone p pl h a st.may.allowed.0) left.knows }
   purge_refused w c typed (inr r) =
       let st = r.came.enter in
       let d = r.declined in
-      let told = other_judged g rename lone inner a (come r.epoch r.entered w r.came) r.readable d.key d.keyed d.loaded (key_of url) c typed d.other d.cause_is in
-      let tab = keyed_tab g rename lone inner a (come r.epoch r.entered w r.came) r.readable d.key d.keyed d.loaded in
-      let left = purge_parts_right g rename lone d.keyed w a pl h.eight (ap core.is_counted tab) (ap core.anchor_of tab) st.may.allowed.0
-      (keyed_knows g rename lone inner a (come r.epoch r.entered w r.came) r.readable d.key d.keyed d.loaded) d.parted in
+      let told = other_judged g rename inner a (come r.epoch r.entered w r.came) r.readable d.key d.keyed d.loaded (key_of url) c typed d.other d.cause_is in
+      let tab = keyed_tab g rename inner a (come r.epoch r.entered w r.came) r.readable d.key d.keyed d.loaded in
+      let left = purge_parts_right g rename lone d.keyed w a pl h.eight (ap core.is_counted tab) (ap core.anchor_of tab) st.may.allowed.0 refl
+      (keyed_knows g rename inner a (come r.epoch r.entered w r.came) r.readable d.key d.keyed d.loaded) d.parted in
       record { cause = told.0; judged = told.1; cause_is = told.2; knows = subst (λ (x : Plain). Knows g rename w x no_guests) (settled tells state offers s rename lone p pl h a st.may.allowed.0) left.knows }
 
   -- An entry was doomed.
@@ -83,30 +85,33 @@ module _ {C O : Type 0} (tells : Bool) (state : C → CellState) (offers : O →
     within = o.came.enter.may.allowed.0
 
     loaded : Knows g rename o.entry.keyed pl (guest_at a)
-    loaded = keyed_knows g rename lone inner a (come o.epoch o.entered w o.came) o.readable (key_of url) o.entry.keyed o.entry.key
+    loaded = keyed_knows g rename inner a (come o.epoch o.entered w o.came) o.readable (key_of url) o.entry.keyed o.entry.key
 
     at : core.anchor_of (core.tab_at o.entry.keyed inner) ≡ a
     at = ap core.anchor_of o.entry.reads
 
     not_yet : (place_at pl a).doom ≡ false
-    not_yet = undoomed g rename lone inner a (come o.epoch o.entered w o.came) o.readable
+    not_yet = undoomed g rename inner a (come o.epoch o.entered w o.came) o.readable
+
+    mine : Mine g o.entry.keyed (Anchor a)
+    mine = (owns_lone g lone (view p).pass a).words o.entry.keyed (Anchor a) (keyed_pass g rename inner a (come o.epoch o.entered w o.came) o.readable (key_of url) o.entry.keyed o.entry.key) refl
 
     doomed_knows : Knows g rename o.entry.after (doom_at a pl) (guest_at a)
-    doomed_knows = doom_knows g rename lone o.entry.keyed o.entry.after pl inner a o.entry.word within at not_yet (readers_fit pl a 1 h.eight (omega arith)) loaded o.entry.doom
+    doomed_knows = doom_knows g rename whole_lot o.entry.keyed o.entry.after pl inner a o.entry.word mine refl within at not_yet (readers_fit pl a 1 h.eight (omega arith)) loaded o.entry.doom
 
     epoch_left : left ≡ renamed_epoch rename (plain.epoch_of (room_of g.slot) (place_at (doom_at a pl) a))
     epoch_left = same_epoch left (renamed_epoch rename (plain.epoch_of (room_of g.slot) (place_at (doom_at a pl) a)))
-        (o.entry.left_is ∙ left_epoch g rename lone o.entry.keyed o.entry.after pl inner a o.entry.word within at not_yet (readers_fit pl a 1 h.eight (omega arith)) loaded o.entry.doom
-        ∙ ap (λ (x : PlaceOf). epoch_number (renamed_epoch rename (plain.epoch_of (room_of g.slot) x))) (sym (doomed_there g rename lone o.entry.keyed o.entry.after pl inner a o.entry.word within at not_yet (readers_fit pl a 1 h.eight (omega arith)) loaded o.entry.doom)))
+        (o.entry.left_is ∙ left_epoch g rename whole_lot o.entry.keyed o.entry.after pl inner a o.entry.word mine refl within at not_yet (readers_fit pl a 1 h.eight (omega arith)) loaded o.entry.doom
+        ∙ ap (λ (x : PlaceOf). epoch_number (renamed_epoch rename (plain.epoch_of (room_of g.slot) x))) (sym (doomed_there g rename whole_lot o.entry.keyed o.entry.after pl inner a o.entry.word mine refl within at not_yet (readers_fit pl a 1 h.eight (omega arith)) loaded o.entry.doom)))
 
     reads_still : core.tab_at o.entry.after inner ≡ core.tab_at o.entry.keyed inner
     reads_still = ap (λ (v : View (List ℕ)). core.tab_at v inner) o.entry.doom.leaves
 
     pub purged_right : PurgedRight left w
     purged_right = record {
-      judged = hit_judged g rename lone inner a (come o.epoch o.entered w o.came) o.readable (key_of url) o.entry.keyed o.entry.key url refl;
+      judged = hit_judged g rename inner a (come o.epoch o.entered w o.came) o.readable (key_of url) o.entry.keyed o.entry.key url refl;
       left_is = epoch_left;
-      knows = (purge_parts_right g rename lone o.entry.after w a (doom_at a pl) h.eight (ap core.is_counted (reads_still ∙ o.entry.reads)) (ap core.anchor_of reads_still ∙ at) within doomed_knows o.entry.parted).knows;
+      knows = (purge_parts_right g rename lone o.entry.after w a (doom_at a pl) h.eight (ap core.is_counted (reads_still ∙ o.entry.reads)) (ap core.anchor_of reads_still ∙ at) within refl doomed_knows o.entry.parted).knows;
     }
 
   -- A request to purge.
@@ -114,7 +119,7 @@ module _ {C O : Type 0} (tells : Bool) (state : C → CellState) (offers : O →
   purges_right given q free typed hand k = of_outcome k.outcome k.answer_is k.purged k.refused
     where
       free_still : IsFree q whole_tab
-      free_still = ap (λ (xs : List (core_tab.Tab (List ℕ))). get_or xs whole_tab core_tab.Tab.Free) k.same ∙ subst (ShowsTab tells state offers s rename p pl whole_tab) free (h.tabs whole_tab (omega arith))
+      free_still = ap (λ (xs : List (core_tab.Tab (List ℕ))). get_or xs whole_tab core_tab.Tab.Free) k.same ∙ subst (ShowsTab tells state offers s rename p pl whole_tab) free (h.tabs whole_tab (omega arith) refl)
 
       is_step : (r : Step) → purge (setting_of g) url pl ≡ r → given ≡ renamed rename r.answer → r.after.hand ≡ pl.hand → tab_at r.after whole_tab ≡ Free → Knows g rename (view q) r.after no_guests
           → IsRenamed tells state offers s rename given q whole_tab (purge (setting_of g) url pl)

@@ -1,5 +1,5 @@
 -- What a reading call does changes no word of which the plain store knows: it looks and loads, and takes and ends turns.
-use Rattle.std.proofs.Common.{Bool, List, None, Option, Some, ap, cond, inl, inr, ne_eqb, refl, subst, sym, true, false, ◌+◌, ◌∙◌, ◌∷◌, ◌≡◌, ◌≢◌, ◌⊎◌, [], ℕ}
+use Rattle.std.proofs.Common.{Bool, List, Some, ap, arith, get_or-set_same, inl, inr, refl, subst, sym, true, false, ◌+◌, ◌∙◌, ◌∷◌, ◌≡◌, ◌⊎◌, [], ℕ}
 use mathlib.Core.Logic.{dite}
 use native.Mathlib.Decide.{ℕ_discrete}
 use Rattle.lock_word.specs.declared.epoch.Epoch.{Epoch}
@@ -14,9 +14,14 @@ use Rattle.core_model.specs.Tabs.{anchor_of, tab_at}
 use Rattle.core_model.specs.declared.moves.Move.{Move}
 use Rattle.core_model.specs.declared.moves.Move.TheVariants.{EndTurn, GetLink, LoadSide, Look, TryTurn}
 use Rattle.core_model.specs.declared.moves.Then.{Then}
-use Rattle.core_model.specs.declared.moves.Side.TheVariants.{Key0, Key1, Start}
+use Rattle.core_model.specs.declared.moves.Side.{Side}
+use Rattle.core_model.specs.declared.moves.Side.TheVariants.{Key0, Key1, Offer, Start}
+use Rattle.core_model.specs.SlotMoves.{loaded}
+use Rattle.core_model.specs.declared.tab.Tab.{Tab}
+use Rattle.core_model.specs.declared.tab.Tab.TheVariants.{Free, Freeing, Last, Reading, Retreating, Writing}
 use Rattle.core_model.specs.declared.tab.Cell.{Cell}
 use Rattle.core_model.specs.declared.view.Place.{Place}
+use Rattle.core_model.specs.declared.view.Place.TheVariants.{Anchor, Beside, Link as LinkAt}
 use Rattle.core_model.specs.declared.view.View.{View}
 use Rattle.core_model.proofs.Holders.{end_inside, try_inside}
 use Rattle.store_rule.specs.declared.store.Pass.{Pass}
@@ -25,16 +30,18 @@ use Rattle.store_rule.specs.Ground.{Ground, Offers}
 use Rattle.store_rule.specs.Passes.{basis, view}
 use Rattle.store_rule.specs.Told.{Steps}
 use Rattle.store_rule.specs.Turns.{Lost}
+use Rattle.store_rule.specs.Words.{Mine, has}
 use Rattle.store_rule.proofs.AddingUp.{found_mine, has_else, has_left}
 use Rattle.slice_chain.specs.Links.{Located}
 use Rattle.slice_chain.specs.Names.{KeyLoaded}
 use Rattle.slice_chain.specs.Reads.{after_reading, ReadSlot}
-use Rattle.rock_reader.specs.Reading.{Gave, HasTried, LookedAt, Standing, StaysOther, TurnsOut}
+use Rattle.rock_reader.specs.Reading.{Gave, HasTried, LookedAt, ReadsAs, Standing, StaysOther, TurnsOut}
 use Rattle.rock_reader.specs.declared.answer.More.{More}
 use Rattle.rock_reader.specs.declared.answer.More.TheVariants as more
 use Rattle.store_serve.specs.Following.{Given, Gives, WentOn}
-use Rattle.plain_runs.specs.Words.{IsLone}
-use Rattle.plain_runs.proofs.Frames.{SameBut, same_none, step_same_none, step_same_turn}
+use Rattle.crew_accounts.proofs.ReadingOn.{gives_on}
+use Rattle.plain_runs.proofs.Frames.{SameBut, same_none, step_same_turn}
+use Rattle.plain_runs.proofs.OwnAnchors.{OwnsAnchor, pass_stays}
 
 -- nothing changed
 abbrev pub Quiet : Ground (List ℕ) → View (List ℕ) → View (List ℕ) → Type 0
@@ -50,77 +57,134 @@ module _ (g : Ground (List ℕ)) where
   pub quiet_on : (v u w : View (List ℕ)) → Quiet g v u → Quiet g u w → Quiet g v w
   quiet_on v u w first second = record { same = λ q known here ne. second.same q known here ne ∙ first.same q known here ne }
 
-module _ (g : Ground (List ℕ)) (lone : IsLone g) where
-  -- a step that leaves the word which it found
-  pub step_quiet : (v w : View (List ℕ)) (m : Move) (n : ℕ) → Steps g v m n w → left_by v m n ≡ n → Quiet g v w
-  step_quiet v w m n st stays = by_place (place v m) refl
-    where
-      by_place : (o : Option Place) → place v m ≡ o → Quiet g v w
-      by_place None is = step_same_none g v w m n st is
-      by_place (Some r) is = record {
-        same = λ q known here ne. dite (ℕ_discrete (index g.setting r) (index g.setting q))
-            (λ e. has_left g v w m n r q st is e ∙ stays ∙ found_mine g v w m n r st lone is ∙ ap (λ (z : ℕ). mirrored g.setting z v.mirror) e)
-            (λ far. has_else g v w m n r q st is far);
-      }
+  -- a step that leaves the word which it found, where that is what the pass has
+  pub found_quiet : (v w : View (List ℕ)) (m : Move) (n : ℕ) (r : Place) → Steps g v m n w → place v m ≡ Some r → left_by v m n ≡ n → n ≡ has g v r → Quiet g v w
+  found_quiet v w m n r st is stays found = record {
+    same = λ q known here ne. dite (ℕ_discrete (index g.setting r) (index g.setting q))
+        (λ e. has_left g v w m n r q st is e ∙ stays ∙ found ∙ ap (λ (z : ℕ). mirrored g.setting z v.mirror) e)
+        (λ far. has_else g v w m n r q st is far);
+  }
+
+  -- so it is where nobody else changes the word
+  pub step_quiet : (v w : View (List ℕ)) (m : Move) (n : ℕ) (r : Place) → Steps g v m n w → place v m ≡ Some r → left_by v m n ≡ n → Mine g v r → Quiet g v w
+  step_quiet v w m n r st is stays mine = found_quiet v w m n r st is stays (found_mine g v w m n r st mine is)
 
   -- turns
-  lost_step : (v w : View (List ℕ)) (t slot n : ℕ) → n ≢ 0 → Steps g v (TryTurn t slot) n w → Quiet g v w
-  lost_step v w t slot n ne st = step_quiet v w (TryTurn t slot) n st (ap (λ (b : Bool). cond b 1 n) (ne_eqb n 0 ne))
+  try_quiet : (v w : View (List ℕ)) (t slot n : ℕ) → Steps g v (TryTurn t slot) n w → Quiet g v w
+  try_quiet v w t slot n st = step_same_turn g v w (TryTurn t slot) n slot st refl (try_inside g.setting st.state st.index v st.rule.sound st.at st.may.pass t slot st.may.allowed)
 
   lost_quiet : (t slot : ℕ) (v : View (List ℕ)) (us : List (View (List ℕ))) (w : View (List ℕ)) → Lost g t slot v us w → Quiet g v w
-  lost_quiet t slot v [] w h = quiet_is g v w h
-  lost_quiet t slot v (u ∷ us) w h = quiet_on g v u w (lost_quiet t slot v us u h.3) (lost_step u w t slot h.0 h.2 h.1)
-
-  won_quiet : (v w : View (List ℕ)) (t slot n : ℕ) → Steps g v (TryTurn t slot) n w → Quiet g v w
-  won_quiet v w t slot n st = step_same_turn g v w (TryTurn t slot) n slot st refl (try_inside g.setting st.state st.index v st.rule.sound st.at st.may.pass t slot st.may.allowed)
+  lost_quiet t slot v [] w h = quiet_is v w h
+  lost_quiet t slot v (u ∷ us) w h = quiet_on v u w (lost_quiet t slot v us u h.3) (try_quiet u w t slot h.0 h.1)
 
   ended_quiet : (v w : View (List ℕ)) (t slot n : ℕ) (then : Then) → Steps g v (EndTurn t slot then) n w → Quiet g v w
   ended_quiet v w t slot n then st = step_same_turn g v w (EndTurn t slot then) n slot st refl (end_inside g.setting st.state st.index v st.rule.sound st.at st.may.pass t slot then st.may.allowed)
 
   pub read_quiet : (t : ℕ) (v : View (List ℕ)) (done : Bool) (cell : Cell (List ℕ)) (w : View (List ℕ)) → ReadSlot g t v done cell w → Quiet g v w
-  read_quiet t v done cell w h = quiet_on g v h.last w (lost_quiet t h.slot v h.views h.last h.lost)
-      (quiet_on g h.last h.middle w (won_quiet h.last h.middle t h.slot 0 h.tried) (ended_quiet h.middle w t h.slot 1 (after_reading done) h.ended))
+  read_quiet t v done cell w h = quiet_on v h.last w (lost_quiet t h.slot v h.views h.last h.lost)
+      (quiet_on h.last h.middle w (try_quiet h.last h.middle t h.slot 0 h.tried) (ended_quiet h.middle w t h.slot 1 (after_reading done) h.ended))
 
-  -- looks and loads
-  located_quiet : (t slot : ℕ) (v w : View (List ℕ)) → Located g t slot v w → Quiet g v w
-  located_quiet t slot v w (inl k) = quiet_is g v w k.stays
-  located_quiet t slot v w (inr k) = step_quiet v w (LoadSide t Start) (slot + 1) k.start refl
+-- a tab that loads a word beside its anchor stays there
+loaded_anchor : (x : Tab (List ℕ)) (side : Side) (n : ℕ) → anchor_of (loaded x side n) ≡ anchor_of x
+loaded_anchor (Reading r) Start n = refl
+loaded_anchor (Reading r) Key0 n = refl
+loaded_anchor (Reading r) Key1 n = refl
+loaded_anchor (Reading r) Offer n = refl
+loaded_anchor Free side n = refl
+loaded_anchor (Retreating a) side n = refl
+loaded_anchor (Writing w) side n = refl
+loaded_anchor (Last a) side n = refl
+loaded_anchor (Freeing f) side n = refl
 
-  pub located_first : (t : ℕ) (epoch : Epoch) (link : Link) (v w : View (List ℕ)) → (h : LookedAt g t epoch link v w) → Quiet g v h.linked.middle
-  located_first t epoch link v w h = quiet_on g v h.looked h.linked.middle (step_quiet v h.looked (Look (anchor_of (tab_at v t))) h.word h.look refl) (located_quiet t h.linked.slot h.looked h.linked.middle h.linked.located)
+load_stays : (g : Ground (List ℕ)) (v w : View (List ℕ)) (t n : ℕ) (side : Side) → Steps g v (LoadSide t side) n w → anchor_of (tab_at w t) ≡ anchor_of (tab_at v t)
+load_stays g v w t n side st = ap (λ (z : View (List ℕ)). anchor_of (tab_at z t)) st.leaves
+    ∙ ap anchor_of (get_or-set_same v.tabs t (loaded (tab_at v t) side n) Free (let nine = st.may.pass in let low = st.may.allowed.0 in omega arith)) ∙ loaded_anchor (tab_at v t) side n
 
-  pub looked_quiet : (t : ℕ) (epoch : Epoch) (link : Link) (v w : View (List ℕ)) → LookedAt g t epoch link v w → Quiet g v w
-  looked_quiet t epoch link v w h = quiet_on g v h.linked.middle w (located_first t epoch link v w h) (step_quiet h.linked.middle w (GetLink t h.linked.slot) (link_number link) h.linked.step refl)
+-- Looks and loads of a tab at an anchor that is the pass's own.
+module _ (g : Ground (List ℕ)) (pass a : ℕ) (own : OwnsAnchor g pass a) where
+  pub load_quiet : (t n : ℕ) (side : Side) (v w : View (List ℕ)) → v.pass ≡ pass → anchor_of (tab_at v t) ≡ a → Steps g v (LoadSide t side) n w → Quiet g v w
+  load_quiet t n side v w same at st = step_quiet g v w (LoadSide t side) n (Beside side (anchor_of (tab_at v t))) st refl refl (own.words v (Beside side (anchor_of (tab_at v t))) same at)
 
-  pub front_quiet : (t : ℕ) (v : View (List ℕ)) (key : List ℕ) (w : View (List ℕ)) → (h : KeyLoaded g t v key w) → Quiet g v h.middle
-  front_quiet t v key w h = step_quiet v h.middle (LoadSide t Key0) (front_half key) h.front refl
+  located_quiet : (t slot : ℕ) (v w : View (List ℕ)) → v.pass ≡ pass → anchor_of (tab_at v t) ≡ a → Located g t slot v w → Quiet g v w
+  located_quiet t slot v w same at (inl k) = quiet_is g v w k.stays
+  located_quiet t slot v w same at (inr k) = load_quiet t (slot + 1) Start v w same at k.start
 
-  pub key_quiet : (t : ℕ) (v : View (List ℕ)) (key : List ℕ) (w : View (List ℕ)) → KeyLoaded g t v key w → Quiet g v w
-  key_quiet t v key w h = quiet_on g v h.middle w (front_quiet t v key w h) (step_quiet h.middle w (LoadSide t Key1) (back_half key) h.back refl)
+  located_at : (t slot : ℕ) (v w : View (List ℕ)) → v.pass ≡ pass → anchor_of (tab_at v t) ≡ a → Located g t slot v w → (w.pass ≡ pass) × (anchor_of (tab_at w t) ≡ a)
+  located_at t slot v w same at (inl k) = (ap View.pass k.stays ∙ same, ap (λ (z : View (List ℕ)). anchor_of (tab_at z t)) k.stays ∙ at)
+  located_at t slot v w same at (inr k) = (pass_stays g v w (LoadSide t Start) (slot + 1) k.start ∙ same, load_stays g v w t (slot + 1) Start k.start ∙ at)
 
-module _ {C O : Type 0} (tells : Bool) (state : C → CellState) (offers : O → Offers) (s : Store C O) (lone : IsLone (basis tells state offers s)) (t : ℕ) where
+  module _ (t : ℕ) (epoch : Epoch) (link : Link) (v w : View (List ℕ)) (same : v.pass ≡ pass) (at : anchor_of (tab_at v t) ≡ a) (h : LookedAt g t epoch link v w) where
+    looked_pass : h.looked.pass ≡ pass
+    looked_pass = pass_stays g v h.looked (Look (anchor_of (tab_at v t))) h.word h.look ∙ same
+
+    looked_at : anchor_of (tab_at h.looked t) ≡ a
+    looked_at = ap (λ (z : View (List ℕ)). anchor_of (tab_at z t)) h.look.leaves ∙ at
+
+    pub located_first : Quiet g v h.linked.middle
+    located_first = quiet_on g v h.looked h.linked.middle
+        (step_quiet g v h.looked (Look (anchor_of (tab_at v t))) h.word (Anchor (anchor_of (tab_at v t))) h.look refl refl (own.words v (Anchor (anchor_of (tab_at v t))) same at))
+        (located_quiet t h.linked.slot h.looked h.linked.middle looked_pass looked_at h.linked.located)
+
+    middle_there : (h.linked.middle.pass ≡ pass) × (anchor_of (tab_at h.linked.middle t) ≡ a)
+    middle_there = located_at t h.linked.slot h.looked h.linked.middle looked_pass looked_at h.linked.located
+
+    pub located_pass : h.linked.middle.pass ≡ pass
+    located_pass = middle_there.0
+
+    pub looked_quiet : Quiet g v w
+    looked_quiet = quiet_on g v h.linked.middle w located_first
+        (found_quiet g h.linked.middle w (GetLink t h.linked.slot) (link_number link) (LinkAt h.linked.slot) h.linked.step refl refl
+        (own.links h.linked.middle w t h.linked.slot (link_number link) middle_there.0 middle_there.1 h.linked.step))
+
+  module _ (t : ℕ) (v : View (List ℕ)) (key : List ℕ) (w : View (List ℕ)) (same : v.pass ≡ pass) (at : anchor_of (tab_at v t) ≡ a) (h : KeyLoaded g t v key w) where
+    pub front_quiet : Quiet g v h.middle
+    front_quiet = load_quiet t (front_half key) Key0 v h.middle same at h.front
+
+    pub front_pass : h.middle.pass ≡ pass
+    front_pass = pass_stays g v h.middle (LoadSide t Key0) (front_half key) h.front ∙ same
+
+    pub front_at : anchor_of (tab_at h.middle t) ≡ a
+    front_at = load_stays g v h.middle t (front_half key) Key0 h.front ∙ at
+
+    pub key_pass : w.pass ≡ pass
+    key_pass = pass_stays g h.middle w (LoadSide t Key1) (back_half key) h.back ∙ front_pass
+
+    pub key_quiet : Quiet g v w
+    key_quiet = quiet_on g v h.middle w front_quiet (load_quiet t (back_half key) Key1 h.middle w front_pass front_at h.back)
+
+module _ {C O : Type 0} (tells : Bool) (state : C → CellState) (offers : O → Offers) (s : Store C O) (t pass a : ℕ) (own : OwnsAnchor (basis tells state offers s) pass a) where
   abbrev g : Ground (List ℕ)
   g = basis tells state offers s
 
-  tried_quiet : (p : Pass C) (e : Standing) (before after : List ℕ) (q : Pass C) (done : Bool) → HasTried tells state offers s t p e before after q done → Quiet g (view p) (view q)
-  tried_quiet p e before after q done h = quiet_on g (view p) h.middle (view q) (looked_quiet g lone t h.epoch h.link (view p) h.middle h.found) (read_quiet g lone t h.middle done h.cell (view q) h.read)
+  -- the pass has this number, and its tab is at the anchor
+  abbrev IsThere : Pass C → Type 0
+  IsThere p = ((view p).pass ≡ pass) × (anchor_of (tab_at (view p) t) ≡ a)
 
-  pub gave_quiet : (p : Pass C) (e : Standing) (before after : List ℕ) (q : Pass C) (answer : More) → Gave tells state offers s t p e before after q answer → Quiet g (view p) (view q)
-  gave_quiet p e before after q (more.Piece count) h = tried_quiet p e before after q true h.tried
-  gave_quiet p e before after q (more.NotYet epoch) h = looked_quiet g lone t epoch _ (view p) (view q) h.waits.found
-  gave_quiet p e before after q more.End h = quiet_is g (view p) (view q) (ap view h.still)
-  gave_quiet p e before after q more.Halted h = looked_quiet g lone t h.epoch _ (view p) (view q) h.waits.found
-  gave_quiet p e before after q more.OtherUrl h = of_other h
+  tried_quiet : (p : Pass C) (e : Standing) (before after : List ℕ) (q : Pass C) (done : Bool) → IsThere p → HasTried tells state offers s t p e before after q done → Quiet g (view p) (view q)
+  tried_quiet p e before after q done at h = quiet_on g (view p) h.middle (view q) (looked_quiet g pass a own t h.epoch h.link (view p) h.middle at.0 at.1 h.found) (read_quiet g t h.middle done h.cell (view q) h.read)
+
+  pub gave_quiet : (p : Pass C) (e : Standing) (before after : List ℕ) (q : Pass C) (answer : More) → IsThere p → Gave tells state offers s t p e before after q answer → Quiet g (view p) (view q)
+  gave_quiet p e before after q (more.Piece count) at h = tried_quiet p e before after q true at h.tried
+  gave_quiet p e before after q (more.NotYet epoch) at h = looked_quiet g pass a own t epoch _ (view p) (view q) at.0 at.1 h.waits.found
+  gave_quiet p e before after q more.End at h = quiet_is g (view p) (view q) (ap view h.still)
+  gave_quiet p e before after q more.Halted at h = looked_quiet g pass a own t h.epoch _ (view p) (view q) at.0 at.1 h.waits.found
+  gave_quiet p e before after q more.OtherUrl at h = of_other h
     where
       of_other : StaysOther tells state offers s t p e before after q ⊎ TurnsOut tells state offers s t p e before after q → Quiet g (view p) (view q)
       of_other (inl k) = quiet_is g (view p) (view q) (ap view k.still)
-      of_other (inr k) = tried_quiet p e before after q true k.tried
-  gave_quiet p e before after q more.Fault h = tried_quiet p e before after q false h.tried
+      of_other (inr k) = tried_quiet p e before after q true at k.tried
+  gave_quiet p e before after q more.Fault at h = tried_quiet p e before after q false at h.tried
 
-  pub gives_quiet : (e : Standing) (p : Pass C) (calls : List (Given C)) (f : Standing) (q : Pass C) (bytes : List ℕ) → Gives tells state offers s t e p calls f q bytes → Quiet g (view p) (view q)
-  gives_quiet e p [] f q bytes h = quiet_is g (view p) (view q) (ap view h.1)
-  gives_quiet e p (c ∷ earlier) f q bytes h = quiet_on g (view p) (view h.1) (view q) (gives_quiet e p earlier h.0 h.1 h.2 h.3)
-      (quiet_on g (view h.1) (view c.left) (view q) (gave_quiet h.1 h.0 c.before c.after c.left (more.Piece c.count) h.4) (quiet_is g (view c.left) (view q) (ap view h.6)))
+  -- pieces, one behind the other
+  module _ (e : Standing) (p : Pass C) (same : (view p).pass ≡ pass) (e_at : e.anchor ≡ a) (reads : ReadsAs tells state offers s p t e) where
+    there_on : (calls : List (Given C)) (f : Standing) (q : Pass C) (bytes : List ℕ) → Gives tells state offers s t e p calls f q bytes → IsThere q
+    there_on calls f q bytes h = let on = gives_on tells state offers s t e p calls f q bytes reads h in (on.keeps.pass ∙ same, ap anchor_of on.reads.is ∙ on.reads.anchor_is ∙ on.entry.anchor ∙ e_at)
 
-  pub went_quiet : (e : Standing) (p q : Pass C) (bytes : List ℕ) (answer : More) → WentOn tells state offers s t e p q bytes answer → Quiet g (view p) (view q)
-  went_quiet e p q bytes answer h = quiet_on g (view p) (view h.middle) (view q) (gives_quiet e p h.calls h.standing h.middle bytes h.gives) (gave_quiet h.middle h.standing h.before h.after q answer h.ends)
+    pub gives_quiet : (calls : List (Given C)) (f : Standing) (q : Pass C) (bytes : List ℕ) → Gives tells state offers s t e p calls f q bytes → Quiet g (view p) (view q)
+    gives_quiet [] f q bytes h = quiet_is g (view p) (view q) (ap view h.1)
+    gives_quiet (c ∷ earlier) f q bytes h = quiet_on g (view p) (view h.1) (view q) (gives_quiet earlier h.0 h.1 h.2 h.3)
+        (quiet_on g (view h.1) (view c.left) (view q) (gave_quiet h.1 h.0 c.before c.after c.left (more.Piece c.count) (there_on earlier h.0 h.1 h.2 h.3) h.4) (quiet_is g (view c.left) (view q) (ap view h.6)))
+
+    pub went_quiet : (q : Pass C) (bytes : List ℕ) (answer : More) → WentOn tells state offers s t e p q bytes answer → Quiet g (view p) (view q)
+    went_quiet q bytes answer h = quiet_on g (view p) (view h.middle) (view q) (gives_quiet h.calls h.standing h.middle bytes h.gives)
+        (gave_quiet h.middle h.standing h.before h.after q answer (there_on h.calls h.standing h.middle bytes h.gives) h.ends)

@@ -8,7 +8,7 @@ use Rattle.std.proofs.lemmas.List.{append-nil}
 use Rattle.std.proofs.lemmas.Slice.Eq.{bytes_eq-Decides}
 use mathlib.Core.Option.{some}
 use lib.ListN.{get_elem?}
-use Rattle.lock_word.specs.Words.{epoch_of, stage_of, version_of}
+use Rattle.lock_word.specs.Words.{version_of}
 use Rattle.lock_word.specs.declared.epoch.Epoch.{Epoch}
 use Rattle.lock_word.specs.declared.stage.Stage.TheVariants as stage
 use Rattle.link_word.specs.declared.link.Link.TheVariants.{NotWritten}
@@ -17,7 +17,7 @@ use Rattle.script_text.specs.declared.answer.Answer.{Answer}
 use Rattle.script_text.specs.declared.answer.Answer.TheVariants as answer
 use Rattle.store_key.specs.Key.{key_of}
 use Rattle.core_model.specs.Anchors.{IsReadAt}
-use Rattle.core_model.specs.State.{State, chain_of, word}
+use Rattle.core_model.specs.State.{State, chain_of}
 use Rattle.core_model.specs.Tabs as core
 use Rattle.core_model.specs.Told.{LinkFound}
 use Rattle.core_model.specs.Trails.{seen_at}
@@ -62,14 +62,14 @@ use Rattle.crew_accounts.proofs.GivenBytes.{IsFromFront}
 use Rattle.crew_accounts.proofs.ReadingOn.{IsSameEntry, ReadOn, gives_on}
 use Rattle.crew_accounts.proofs.WaitsAt.{waits_some}
 use Rattle.plain_runs.specs.Shows.{ShowsReading, ShowsTab}
-use Rattle.plain_runs.specs.Words.{IsLone, IsOfOffer, Knows, ShowsEntry, ShowsEntryIf, no_guests, setting_of, slots_published}
+use Rattle.plain_runs.specs.Words.{IsOfOffer, KnowsLot, Lot, ShowsEntry, ShowsEntryIf, no_guests, setting_of, slots_published}
 use Rattle.plain_runs.proofs.AnchorWords.{read_knows}
 use Rattle.plain_runs.proofs.Bodies.{not_all, published_bytes}
-use Rattle.plain_runs.proofs.Chains.{chain_is, word_is}
+use Rattle.plain_runs.proofs.OwnAnchors.{OwnsAnchor, own_chain, stands_before}
 use Rattle.plain_runs.proofs.Frames.{knows_same}
 use Rattle.plain_runs.proofs.Judging.{epoch_found}
 use Rattle.plain_runs.proofs.PlainWords.{readers_fit}
-use Rattle.plain_runs.proofs.QuietSteps.{gives_quiet, located_first, went_quiet}
+use Rattle.plain_runs.proofs.QuietSteps.{gives_quiet, located_first, located_pass, went_quiet}
 use Rattle.plain_runs.proofs.ShowingOthers.{OneBegins, one_url}
 
 -- the stage of an entry tells how it ended
@@ -123,12 +123,12 @@ more_long st t a given false p at = more_long_to st t a given p (entry_at p a) r
 pub no_fault : (why : More) (bytes : List ℕ) (a : Answer) → AnswersMore why bytes a → is_fault a ≡ false → why ≡ more_answer.Fault → ⊥
 no_fault why bytes a is fair e = let told : a ≡ answer.ReadFault bytes = subst (λ (w : More). AnswersMore w bytes a) e is in let z : true ≡ false = sym (ap is_fault told) ∙ fair in cc
 
-module _ {C O : Type 0} (tells : Bool) (state : C → CellState) (offers : O → Offers) (s : Store C O) (rename : ℕ → ℕ) (lone : IsLone (basis tells state offers s)) (t : ℕ) where
+module _ {C O : Type 0} (tells : Bool) (state : C → CellState) (offers : O → Offers) (s : Store C O) (rename : ℕ → ℕ) (t : ℕ) where
   abbrev g : Ground (List ℕ)
   g = basis tells state offers s
 
-  -- Of a tab that reads: the state in which its pass stands.
-  module _ (q : Pass C) (e : Standing) (h : ReadsAs tells state offers s q t e) where
+  -- Of a tab that reads at an anchor that is its pass's own: the state in which its pass stands.
+  module _ (q : Pass C) (e : Standing) (h : ReadsAs tells state offers s q t e) (own : OwnsAnchor g (view q).pass e.anchor) where
     abbrev st : Stands g (view q)
     st = h.own.stands
 
@@ -147,18 +147,18 @@ module _ {C O : Type 0} (tells : Bool) (state : C → CellState) (offers : O →
     -- its offer is the word beside its anchor
     pub read_offer : e.offer ≡ has g (view q) (Beside Offer e.anchor)
     read_offer = sym (st.rule.sound.anchors.seen.named st.index (view q) st.at e.anchor e.version Offer e.offer h.offer_seen (read_at.version_is ∙ h.version_is)).0
-        ∙ word_is g lone st.state st.index (view q) st.rule st.at (pass_of q) (Beside Offer e.anchor) read_inside
+        ∙ own.stands (view q) st (Beside Offer e.anchor) refl (pass_of q) refl read_inside
 
     -- it was given no more slots than are published
-    pub place_most : (p : Plain) (n : ℕ → ℕ) (x : Entry) → Knows g rename (view q) p n → entry_at p e.anchor ≡ Some x → e.place ≤ slots_published (room_of g.slot) x.life x.content
-    place_most p n x k is =
-        let shown : ShowsEntry g (view q) e.anchor (place_at p e.anchor).version x = subst (ShowsEntryIf g (view q) e.anchor (place_at p e.anchor).version) is (k.each e.anchor read_inside).entry in
+    pub place_most : {lot : Lot} (p : Plain) (n : ℕ → ℕ) (x : Entry) → lot.anchors e.anchor ≡ true → KnowsLot g rename lot (view q) p n → entry_at p e.anchor ≡ Some x → e.place ≤ slots_published (room_of g.slot) x.life x.content
+    place_most p n x ours k is =
+        let shown : ShowsEntry g (view q) e.anchor (place_at p e.anchor).version x = subst (ShowsEntryIf g (view q) e.anchor (place_at p e.anchor).version) is (k.each e.anchor read_inside ours).entry in
         let holds = st.rule.sound.slots.tabs st.index (view q) st.at t (core_tab.Tab.Reading h.reader) there in
-        let c = chain_is g lone st.state st.index (view q) st.rule st.at (pass_of q) e.anchor read_inside x shown.chain read_at.from read_at.to in
+        let c = own_chain g (view q) e.anchor own st (pass_of q) read_inside x shown.chain read_at.from read_at.to in
         let i = holds.inside in let m = shown.chain.many in let l = ap length c.0 in let a = ap (λ (z : ℕ). length (chain_of st.state z).slots) h.anchor_is in let z = h.place_is in omega arith
 
   -- A tab that found the link at its place not written was given all that are published.
-  module _ (m q : Pass C) (e : Standing) (h : ReadsAs tells state offers s m t e) (epoch : Epoch) (found : LookedAt g t epoch NotWritten (view m) (view q)) where
+  module _ (m q : Pass C) (e : Standing) (h : ReadsAs tells state offers s m t e) (own : OwnsAnchor g (view m).pass e.anchor) (epoch : Epoch) (found : LookedAt g t epoch NotWritten (view m) (view q)) where
     abbrev v1 : View (List ℕ)
     v1 = found.linked.middle
 
@@ -167,6 +167,12 @@ module _ {C O : Type 0} (tells : Bool) (state : C → CellState) (offers : O →
 
     abbrev r1 : Reader (List ℕ)
     r1 = at_slot h.reader found.linked.slot
+
+    at0 : core.anchor_of (core.tab_at (view m) t) ≡ e.anchor
+    at0 = ap core.anchor_of h.is ∙ h.anchor_is
+
+    own1 : OwnsAnchor g v1.pass e.anchor
+    own1 = subst (λ (n : ℕ). OwnsAnchor g n e.anchor) (sym (located_pass g (view m).pass e.anchor own t epoch NotWritten (view m) (view q) refl at0 found)) own
 
     low : t ≤ core.inner
     low = let b = h.below in omega arith
@@ -190,17 +196,18 @@ module _ {C O : Type 0} (tells : Bool) (state : C → CellState) (offers : O →
     read1 : IsReadAt s1 e.anchor h.reader.version
     read1 = subst (λ (a : ℕ). IsReadAt s1 a h.reader.version) h.anchor_is at1.1
 
-    pub place_all : (p : Plain) (n : ℕ → ℕ) (x : Entry) → Knows g rename (view m) p n → entry_at p e.anchor ≡ Some x → e.place ≡ slots_published (room_of g.slot) x.life x.content
-    place_all p n x k is =
-        let k1 = knows_same g rename (view m) v1 p n k (located_first g lone t epoch NotWritten (view m) (view q) found) in
-        let shown : ShowsEntry g v1 e.anchor (place_at p e.anchor).version x = subst (ShowsEntryIf g v1 e.anchor (place_at p e.anchor).version) is (k1.each e.anchor inside1).entry in
-        let c = chain_is g lone s1 found.linked.step.index v1 found.linked.step.rule found.linked.step.at found.linked.step.may.pass e.anchor inside1 x shown.chain read1.from read1.to in
+    pub place_all : {lot : Lot} (p : Plain) (n : ℕ → ℕ) (x : Entry) → lot.anchors e.anchor ≡ true → KnowsLot g rename lot (view m) p n → entry_at p e.anchor ≡ Some x → e.place ≡ slots_published (room_of g.slot) x.life x.content
+    place_all p n x ours k is =
+        let k1 = knows_same g rename (view m) v1 p n k (located_first g (view m).pass e.anchor own t epoch NotWritten (view m) (view q) refl at0 found) in
+        let shown : ShowsEntry g v1 e.anchor (place_at p e.anchor).version x = subst (ShowsEntryIf g v1 e.anchor (place_at p e.anchor).version) is (k1.each e.anchor inside1 ours).entry in
+        let c = own_chain g v1 e.anchor own1 (stands_before found.linked.step) found.linked.step.may.pass inside1 x shown.chain read1.from read1.to in
         let i = behind in let y = shown.chain.many in let l = ap length c.0 in let a = ap (λ (z : ℕ). length (chain_of s1 z).slots) h.anchor_is in let z = h.place_is in omega arith
 
     -- and the epoch that it found is that of the plain store
-    pub epoch_looked : (p : Plain) → length p.tabs ≡ 8 → Knows g rename (view m) p no_guests → epoch ≡ renamed_epoch rename (plain.epoch_of (room_of g.slot) (place_at p e.anchor))
-    epoch_looked p eight k = epoch_found g rename (view m) p 0 e.anchor (k.each e.anchor inside1) (readers_fit p e.anchor 0 eight (omega arith)) found.word epoch
-        (found_mine g (view m) found.looked (Look (core.anchor_of (core.tab_at (view m) t))) found.word (Anchor (core.anchor_of (core.tab_at (view m) t))) found.look lone refl
+    pub epoch_looked : {lot : Lot} (p : Plain) → length p.tabs ≡ 8 → lot.anchors e.anchor ≡ true → KnowsLot g rename lot (view m) p no_guests → epoch ≡ renamed_epoch rename (plain.epoch_of (room_of g.slot) (place_at p e.anchor))
+    epoch_looked p eight ours k = epoch_found g rename (view m) p 0 e.anchor (k.each e.anchor inside1 ours) (readers_fit p e.anchor 0 eight (omega arith)) found.word epoch
+        (found_mine g (view m) found.looked (Look (core.anchor_of (core.tab_at (view m) t))) found.word (Anchor (core.anchor_of (core.tab_at (view m) t))) found.look
+        (own.words (view m) (Anchor (core.anchor_of (core.tab_at (view m) t))) refl at0) refl
         ∙ ap (λ (x : core_tab.Tab (List ℕ)). has g (view m) (Anchor (core.anchor_of x))) h.is ∙ ap (λ (a : ℕ). has g (view m) (Anchor a)) h.anchor_is)
         found.epoch_is
 
@@ -220,13 +227,13 @@ module _ {C O : Type 0} (tells : Bool) (state : C → CellState) (offers : O →
       ∙ ap (λ (z : Standing). body_below g e.anchor e.offer z.place) (sym k.5)
 
   -- How reading on ended, and what it left: it is answered as the plain store answers, which the pass shows again, and the tab too.
-  pub record ReadRight (why : More) (bytes : List ℕ) (q : Pass C) (r : Step) : Type 0 where
+  pub record ReadRight (lot : Lot) (why : More) (bytes : List ℕ) (q : Pass C) (r : Step) : Type 0 where
     pub answer : (a : Answer) → AnswersMore why bytes a → a ≡ renamed rename r.answer
-    pub knows : Knows g rename (view q) r.after no_guests
+    pub knows : KnowsLot g rename lot (view q) r.after no_guests
     pub tab : ShowsTab tells state offers s rename q r.after t (tab_at r.after t)
 
   module _ (begins : OneBegins) (known : IsTrue tells) (file : HoldsFile g) (from : IsFromFront) (sized : g.slot < 4294967296) (p q : Pass C) (pl : Plain) (a given : ℕ) (eight : length pl.tabs ≡ 8) (lt : t < 8)
-      (k : Knows g rename (view p) pl no_guests) where
+      (lot : Lot) (k : KnowsLot g rename lot (view p) pl no_guests) (own : OwnsAnchor g (view p).pass a) (ours : lot.anchors a ≡ true) where
     abbrev room : ℕ
     room = room_of g.slot
 
@@ -246,14 +253,20 @@ module _ {C O : Type 0} (tells : Bool) (state : C → CellState) (offers : O →
       so : ReadOn tells state offers s t e p f m
       so = gives_on tells state offers s t e p went.calls f m bytes sh.reads went.gives
 
-      km : Knows g rename (view m) pl no_guests
-      km = knows_same g rename (view p) (view m) pl no_guests k (gives_quiet tells state offers s lone t e p went.calls f m bytes went.gives)
+      km : KnowsLot g rename lot (view m) pl no_guests
+      km = knows_same g rename (view p) (view m) pl no_guests k (gives_quiet tells state offers s t (view p).pass a own e p refl sh.anchor_is sh.reads went.calls f m bytes went.gives)
 
-      kq : Knows g rename (view q) pl no_guests
-      kq = knows_same g rename (view p) (view q) pl no_guests k (went_quiet tells state offers s lone t e p q bytes why went)
+      kq : KnowsLot g rename lot (view q) pl no_guests
+      kq = knows_same g rename (view p) (view q) pl no_guests k (went_quiet tells state offers s t (view p).pass a own e p refl sh.anchor_is sh.reads q bytes why went)
 
       f_anchor : f.anchor ≡ a
       f_anchor = so.entry.anchor ∙ sh.anchor_is
+
+      ours_f : lot.anchors f.anchor ≡ true
+      ours_f = ap lot.anchors f_anchor ∙ ours
+
+      own_f : OwnsAnchor g (view m).pass f.anchor
+      own_f = subst (OwnsAnchor g (view m).pass) (sym f_anchor) (subst (λ (n : ℕ). OwnsAnchor g n a) (sym so.keeps.pass) own)
 
       f_offer : f.offer ≡ x.offer
       f_offer = so.entry.offer ∙ sh.offer_is
@@ -262,7 +275,7 @@ module _ {C O : Type 0} (tells : Bool) (state : C → CellState) (offers : O →
       there_f = ap (entry_at pl) f_anchor ∙ sh.there
 
       of : IsOfOffer g a x
-      of = let shown : ShowsEntry g (view p) a (place_at pl a).version x = subst (ShowsEntryIf g (view p) a (place_at pl a).version) sh.there (k.each a sh.inside).entry in shown.offer
+      of = let shown : ShowsEntry g (view p) a (place_at pl a).version x = subst (ShowsEntryIf g (view p) a (place_at pl a).version) sh.there (k.each a sh.inside ours).entry in shown.offer
 
       -- the offer's response under the URL of the entry is the one that the standing knows
       moved : (u b : List ℕ) → IsResponse g f.anchor f.offer u b → IsResponse g a x.offer u b
@@ -322,10 +335,10 @@ module _ {C O : Type 0} (tells : Bool) (state : C → CellState) (offers : O →
         waited : (epoch : Epoch) → Waits tells state offers s t m f went.before went.after q epoch → ⊥
         waited epoch h = let z = none_given h.was in let w = waits_some tells state offers s t m q f went.before went.after epoch so.reads h in absurd (omega arith)
 
-        other_right : (why ≡ more_answer.Fault → ⊥) → ReadRight why bytes q (more (setting_of g) t pl)
-        other_right fine = subst (λ (r : Step). ReadRight why bytes q r) (sym more_other) (by_end why refl went.ends went.no_piece)
+        other_right : (why ≡ more_answer.Fault → ⊥) → ReadRight lot why bytes q (more (setting_of g) t pl)
+        other_right fine = subst (λ (r : Step). ReadRight lot why bytes q r) (sym more_other) (by_end why refl went.ends went.no_piece)
           where
-            by_end : (w : More) → why ≡ w → Gave tells state offers s t m f went.before went.after q w → ((count : ℕ) → w ≢ more_answer.Piece count) → ReadRight w bytes q (step answer.OtherUrl pl)
+            by_end : (w : More) → why ≡ w → Gave tells state offers s t m f went.before went.after q w → ((count : ℕ) → w ≢ more_answer.Piece count) → ReadRight lot w bytes q (step answer.OtherUrl pl)
             by_end (more_answer.Piece count) e h none = absurd (none count refl)
             by_end (more_answer.NotYet epoch) e h none = absurd (waited epoch h.waits)
             by_end more_answer.End e h none = absurd (let z = none_given h.was in let w = h.some in omega arith)
@@ -382,11 +395,11 @@ module _ {C O : Type 0} (tells : Bool) (state : C → CellState) (offers : O →
           read_tab = subst (ShowsTab tells state offers s rename q after t) (sym after_tab)
               (shows_read after (length all_there) false f sh.there refl reads itself (sym is) (λ z. absurd (not_turned z)) (λ z. absurd (let y : true ≡ false = sym z in cc)) (λ z. ap length (sym whole_there)))
 
-          after_knows : Knows g rename (view q) after no_guests
+          after_knows : KnowsLot g rename lot (view q) after no_guests
           after_knows = read_knows g rename (view q) pl t a given false eight lt (length all_there) false at_read kq
 
-          read_right : (w : More) → ((z : Answer) → AnswersMore w bytes z → z ≡ renamed rename (told x.life (plain.epoch_of room (place_at pl a)) bytes)) → ReadRight w bytes q (more (setting_of g) t pl)
-          read_right w tells_so = subst (λ (r : Step). ReadRight w bytes q r) (sym more_all) record {
+          read_right : (w : More) → ((z : Answer) → AnswersMore w bytes z → z ≡ renamed rename (told x.life (plain.epoch_of room (place_at pl a)) bytes)) → ReadRight lot w bytes q (more (setting_of g) t pl)
+          read_right w tells_so = subst (λ (r : Step). ReadRight lot w bytes q r) (sym more_all) record {
             answer = λ z so_told. tells_so z so_told ∙ ap (λ (ys : List ℕ). renamed rename (told x.life (plain.epoch_of room (place_at pl a)) ys)) (sym bytes_are);
             knows = after_knows;
             tab = read_tab;
@@ -396,10 +409,10 @@ module _ {C O : Type 0} (tells : Bool) (state : C → CellState) (offers : O →
         stage_there = ap (plain.stage_of room (place_at pl a).version) sh.there
 
         epoch_there : (epoch : Epoch) → (h : Waits tells state offers s t m f went.before went.after q epoch) → epoch ≡ renamed_epoch rename (plain.epoch_of room (place_at pl a))
-        epoch_there epoch h = epoch_looked m q f so.reads epoch h.found pl eight km ∙ ap (λ (n : ℕ). renamed_epoch rename (plain.epoch_of room (place_at pl n))) f_anchor
+        epoch_there epoch h = epoch_looked m q f so.reads own_f epoch h.found pl eight ours_f km ∙ ap (λ (n : ℕ). renamed_epoch rename (plain.epoch_of room (place_at pl n))) f_anchor
 
         all_given : (epoch : Epoch) → (h : Waits tells state offers s t m f went.before went.after q epoch) → f.place ≡ slots_published room x.life x.content
-        all_given epoch h = place_all m q f so.reads epoch h.found pl no_guests x km there_f
+        all_given epoch h = place_all m q f so.reads own_f epoch h.found pl no_guests x ours_f km there_f
 
         told_as : (life : Life) → x.life ≡ life → renamed rename (told life (plain.epoch_of room (place_at pl a)) bytes) ≡ renamed rename (told x.life (plain.epoch_of room (place_at pl a)) bytes)
         told_as life l = ap (λ (y : Life). renamed rename (told y (plain.epoch_of room (place_at pl a)) bytes)) (sym l)
@@ -409,7 +422,7 @@ module _ {C O : Type 0} (tells : Bool) (state : C → CellState) (offers : O →
         whole_at_end end = by_life x.life refl
           where
             most : f.place ≤ slots_published room x.life x.content
-            most = place_most m f so.reads pl no_guests x km there_f
+            most = place_most m f so.reads own_f pl no_guests x ours_f km there_f
 
             pieces : f.place ≡ pieces_of g a x.offer
             pieces = end ∙ ap (λ (n : ℕ). pieces_of g n f.offer) f_anchor ∙ ap (pieces_of g a) f_offer
@@ -422,10 +435,10 @@ module _ {C O : Type 0} (tells : Bool) (state : C → CellState) (offers : O →
             by_life Growing l = absurd (short (λ z. let y : Growing ≡ Whole = sym l ∙ z in cc) (ap (λ (y : Life). slots_published room y x.content) l))
             by_life GivenUp l = absurd (short (λ z. let y : GivenUp ≡ Whole = sym l ∙ z in cc) (ap (λ (y : Life). slots_published room y x.content) l))
 
-        own_right : (why ≡ more_answer.Fault → ⊥) → ReadRight why bytes q (more (setting_of g) t pl)
+        own_right : (why ≡ more_answer.Fault → ⊥) → ReadRight lot why bytes q (more (setting_of g) t pl)
         own_right fine = by_end why refl went.ends went.no_piece
           where
-            by_end : (w : More) → why ≡ w → Gave tells state offers s t m f went.before went.after q w → ((count : ℕ) → w ≢ more_answer.Piece count) → ReadRight w bytes q (more (setting_of g) t pl)
+            by_end : (w : More) → why ≡ w → Gave tells state offers s t m f went.before went.after q w → ((count : ℕ) → w ≢ more_answer.Piece count) → ReadRight lot w bytes q (more (setting_of g) t pl)
             by_end (more_answer.Piece count) e h none = absurd (none count refl)
             by_end (more_answer.NotYet epoch) e h none =
                 let there = epoch_there epoch h.waits in
@@ -449,9 +462,9 @@ module _ {C O : Type 0} (tells : Bool) (state : C → CellState) (offers : O →
 
     -- whichever URL the entry has
     pub went_right : (other : Bool) (at : tab_at pl t ≡ Reading a given other) (sh : ShowsReading tells state offers s rename p pl t a given other) (why : More) (bytes : List ℕ) → WentOn tells state offers s t sh.standing p q bytes why
-        → (why ≡ more_answer.Fault → ⊥) → ReadRight why bytes q (more (setting_of g) t pl)
+        → (why ≡ more_answer.Fault → ⊥) → ReadRight lot why bytes q (more (setting_of g) t pl)
     went_right other at sh why bytes went fine = by_url other refl
       where
-        by_url : (b : Bool) → other ≡ b → ReadRight why bytes q (more (setting_of g) t pl)
+        by_url : (b : Bool) → other ≡ b → ReadRight lot why bytes q (more (setting_of g) t pl)
         by_url true is = other_right other at sh why bytes went is fine
         by_url false is = own_right other at sh why bytes went is fine

@@ -57,7 +57,7 @@ module _ {C O : Type 0} (tells : Bool) (state : C → CellState) (offers : O →
       where
         read_stays : (t anchor given : ℕ) (is_other : Bool) (p q : Pass C) (a : Answer) (plain : Plain) → t < 8 → Shows tells state offers s (λ v. v) p plain → tab_at plain t ≡ Reading anchor given is_other
             → ((e : Standing) → ReadsAs tells state offers s p t e → ReadsOn tells state offers s t p a q e) → q.hand ≡ p.hand
-        read_stays t anchor given is_other p q a plain below h reads met = let r = subst (ShowsTab tells state offers s (λ v. v) p plain t) reads (h.tabs t below) in (met r.standing r.reads).stays
+        read_stays t anchor given is_other p q a plain below h reads met = let r = subst (ShowsTab tells state offers s (λ v. v) p plain t) reads (h.tabs t below refl) in (met r.standing r.reads).stays
 
     -- A line that the pass takes and that meets no fault is answered as by the plain store, and the pass shows what that has then.
     pub line_right : (script : List Line) (line : Line) (p q : Pass C) (a : Answer) (before after : ℕ) (plain : Plain) → Takes tells state offers s p line → Serves tells state offers s line p a q before after → IsTyped a
@@ -109,7 +109,7 @@ module _ {C O : Type 0} (tells : Bool) (state : C → CellState) (offers : O →
     leaves_right = of_tab (tab_at plain t) refl left.how
       where
         shown : {x : Tab} → tab_at plain t ≡ x → ShowsTab tells state offers s (λ v. v) p plain t x
-        shown is = subst (ShowsTab tells state offers s (λ v. v) p plain t) is (h.tabs t eighth)
+        shown is = subst (ShowsTab tells state offers s (λ v. v) p plain t) is (h.tabs t eighth refl)
 
         of_tab : (x : Tab) → tab_at plain t ≡ x → LeavesFree tells state offers s t p q ⊎ LeavesReader tells state offers s t p q ⊎ LeavesWriter tells state offers s t p q → Shows tells state offers s (λ v. v) q (leave t plain)
         of_tab Free is (inl free) = stayed is free.1

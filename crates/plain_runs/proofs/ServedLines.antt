@@ -79,7 +79,7 @@ module _ {C O : Type 0} (tells : Bool) (state : C → CellState) (offers : O →
   -- What a tab of the pass is, the plain store has it as.
   module _ (p : Pass C) (plain : Plain) (h : ShowsPlain p plain) (t : ℕ) (below : t < 8) where
     shown : ShowsTab tells state offers s (λ v. v) p plain t (tab_at plain t)
-    shown = h.tabs t below
+    shown = h.tabs t below refl
 
     pub writes_not_free : (a : ℕ) → ShowsWriting tells state offers s (λ v. v) p plain t a → IsFree p t → ⊥
     writes_not_free a w free = let k = sym w.writes.rests.is ∙ free in cc

@@ -1,7 +1,8 @@
 -- Tabs that a request does not use are shown still.
 use Rattle.std.proofs.Common.{Bool, Contains, List, None, Option, Some, ap, arith, false, inl, inr, length, nat_lt, not, refl, subst, sym, true, ◌+◌, ◌-◌, ◌<◌, ◌≤◌, ◌∙◌, ◌≡◌, ◌≢◌, ◌⊎◌, ◌∷◌, ℕ, zero, suc, eq-eqb, ne_eqb}
+use Rattle.std.proofs.lemmas.Bool.{false≢true}
 use mathlib.Core.Logic.{dite}
-use mathlib.Core.Option.{some, some-injective}
+use mathlib.Core.Option.{some}
 use native.Mathlib.Decide.{ℕ_discrete}
 use lib.ListN.{get_elem?}
 use Rattle.std.specs.Str.{bytes_eq}
@@ -11,19 +12,13 @@ use Rattle.lock_word.specs.Words.{stage_number}
 use Rattle.store_key.specs.Key.{key_of}
 use Rattle.rebuild_model.specs.Entry.{Entry as FileEntry, IsComplete}
 use Rattle.core_model.specs.Anchors.{IsReadAt}
-use Rattle.core_model.specs.Holders.{IsTab}
 use Rattle.core_model.specs.Layout.{word_in}
-use Rattle.core_model.specs.State.{State, word}
-use Rattle.core_model.specs.Tabs.{inner, tab_at as view_tab}
+use Rattle.core_model.specs.State.{word}
 use Rattle.core_model.specs.declared.moves.Side.TheVariants.{Offer}
-use Rattle.core_model.specs.declared.tab.Reader.{Reader}
 use Rattle.core_model.specs.declared.tab.Tab.TheVariants as tab
 use Rattle.core_model.specs.declared.view.Place.TheVariants as place
-use Rattle.core_model.specs.declared.view.View.{View}
 use Rattle.core_model.proofs.Matching.{one_writer}
 use Rattle.plain_model.specs.declared.entry.Entry.{Entry}
-use Rattle.plain_model.specs.declared.entry.Life.TheVariants.{Growing}
-use Rattle.plain_model.specs.declared.entry.Place.{Place as PlaceOf}
 use Rattle.plain_model.specs.declared.store.Plain.{Plain}
 use Rattle.plain_model.specs.declared.store.Tab.{Tab}
 use Rattle.plain_model.specs.declared.store.Tab.TheVariants.{Free, Reading, Writing}
@@ -31,7 +26,7 @@ use Rattle.plain_model.specs.Store.{entry_at, place_at, readers, stage_of as sta
 use Rattle.plain_laws.specs.Holding.{IsGrowing}
 use Rattle.store_rule.specs.declared.store.Pass.{Pass}
 use Rattle.store_rule.specs.declared.store.Store.{Store}
-use Rattle.store_rule.specs.Ground.{Ground, Offers, Rule}
+use Rattle.store_rule.specs.Ground.{Ground, Offers}
 use Rattle.store_rule.specs.Passes.{IsOf, basis, view}
 use Rattle.store_rule.specs.Told.{Stands}
 use Rattle.store_rule.proofs.Passing.{pass_of}
@@ -39,13 +34,12 @@ use Rattle.store_rule.specs.Words.{has}
 use Rattle.slice_chain.specs.Victims.{hand_in}
 use Rattle.rock_reader.specs.Reading.{ReadsAs, Standing}
 use Rattle.rock_reader.specs.Responses.{IsOpened, IsResponse, body_below}
-use Rattle.rock_writer.specs.Entries.{WritesAs}
-use Rattle.store_serve.specs.Tabs.{IsFree, Leaves}
+use Rattle.store_serve.specs.Tabs.{Leaves}
 use Rattle.worker_shelf.proofs.Holding.{Stays}
 use Rattle.plain_runs.specs.Words.{IsLone, IsOfOffer, Knows, ShowsEntry, ShowsEntryIf, no_guests, setting_of}
 use Rattle.plain_runs.specs.Shows.{Shows, ShowsReading, ShowsTab, ShowsWriting}
 use Rattle.core_model.proofs.Tabs.{tab_there}
-use Rattle.plain_runs.proofs.Chains.{word_is}
+use Rattle.plain_runs.proofs.OwnAnchors.{OwnsAnchor, owns_lone}
 use Rattle.plain_runs.proofs.OtherTabs.{IsOwn, KeepsElse}
 use Rattle.plain_runs.proofs.PlainWords.{readers_fit, stage_there, version_there}
 
@@ -74,7 +68,7 @@ module _ {C O : Type 0} (tells : Bool) (state : C → CellState) (offers : O →
     pub hand : hand_in (basis tells state offers s).setting.anchors q.hand ≡ p'.hand
     pub tab : ShowsTab tells state offers s rename q p' t (tab_at p' t)
 
-module _ {C O : Type 0} (tells : Bool) (state : C → CellState) (offers : O → Offers) (s : Store C O) (rename : ℕ → ℕ) (begins : OneBegins) (stays : Stays tells state offers s) (lone : IsLone (basis tells state offers s)) where
+module _ {C O : Type 0} (tells : Bool) (state : C → CellState) (offers : O → Offers) (s : Store C O) (rename : ℕ → ℕ) (begins : OneBegins) (stays : Stays tells state offers s) where
   abbrev g : Ground (List ℕ)
   g = basis tells state offers s
 
@@ -83,20 +77,20 @@ module _ {C O : Type 0} (tells : Bool) (state : C → CellState) (offers : O →
     abbrev st : Stands g (view q)
     st = own.stands
 
-    anchor_word : (a : ℕ) → a < g.setting.anchors → word st.state a ≡ has g (view q) (place.Anchor a)
-    anchor_word a lt = word_is g lone st.state st.index (view q) st.rule st.at (pass_of q) (place.Anchor a) lt
-
     few : (a : ℕ) → readers p' a + 0 < 65536
     few a = readers_fit p' a 0 eight (omega arith)
 
-    stage_known : (a : ℕ) → a < g.setting.anchors → stage_of (epoch_of (word st.state a)) ≡ stage_number (stage_in (setting_of g).room (place_at p' a).version (entry_at p' a))
-    stage_known a lt = stage_there rename (setting_of g) p' 0 a (word st.state a) (anchor_word a lt ∙ (knows.each a lt).word) (few a)
+    anchor_word : (a : ℕ) → OwnsAnchor g (view q).pass a → a < g.setting.anchors → word st.state a ≡ has g (view q) (place.Anchor a)
+    anchor_word a owns lt = owns.stands (view q) st (place.Anchor a) refl (pass_of q) refl lt
 
-    version_known : (a : ℕ) → a < g.setting.anchors → version_of (epoch_of (word st.state a)) ≡ rename (place_at p' a).version
-    version_known a lt = version_there rename (setting_of g) p' 0 a (word st.state a) (anchor_word a lt ∙ (knows.each a lt).word) (few a)
+    stage_known : (a : ℕ) → OwnsAnchor g (view q).pass a → a < g.setting.anchors → stage_of (epoch_of (word st.state a)) ≡ stage_number (stage_in (setting_of g).room (place_at p' a).version (entry_at p' a))
+    stage_known a owns lt = stage_there rename (setting_of g) p' 0 a (word st.state a) (anchor_word a owns lt ∙ (knows.each a lt refl).word) (few a)
 
-    pub some_entry : (a : ℕ) → a < g.setting.anchors → 2 ≤ stage_of (epoch_of (word st.state a)) → stage_of (epoch_of (word st.state a)) ≤ 4 → (e : Entry) × (entry_at p' a ≡ Some e) × ShowsEntry g (view q) a (place_at p' a).version e
-    some_entry a lt least most = of_entry (entry_at p' a) refl ((knows.each a lt).entry)
+    version_known : (a : ℕ) → OwnsAnchor g (view q).pass a → a < g.setting.anchors → version_of (epoch_of (word st.state a)) ≡ rename (place_at p' a).version
+    version_known a owns lt = version_there rename (setting_of g) p' 0 a (word st.state a) (anchor_word a owns lt ∙ (knows.each a lt refl).word) (few a)
+
+    pub some_entry : (a : ℕ) → OwnsAnchor g (view q).pass a → a < g.setting.anchors → 2 ≤ stage_of (epoch_of (word st.state a)) → stage_of (epoch_of (word st.state a)) ≤ 4 → (e : Entry) × (entry_at p' a ≡ Some e) × ShowsEntry g (view q) a (place_at p' a).version e
+    some_entry a owns lt least most = of_entry (entry_at p' a) refl ((knows.each a lt refl).entry)
       where
         no_stage : (version : ℕ) → stage_number (stage_in (setting_of g).room version None) ≢ 0 → 5 ≤ stage_number (stage_in (setting_of g).room version None)
         no_stage version ne = dite (ℕ_discrete version 0) (λ e. absurd (ne (empty e))) (λ other. gone other)
@@ -109,14 +103,14 @@ module _ {C O : Type 0} (tells : Bool) (state : C → CellState) (offers : O →
 
         of_entry : (o : Option Entry) → entry_at p' a ≡ o → ShowsEntryIf g (view q) a (place_at p' a).version (entry_at p' a) → (e : Entry) × (entry_at p' a ≡ Some e) × ShowsEntry g (view q) a (place_at p' a).version e
         of_entry (Some e) is h = (e, is, subst (ShowsEntryIf g (view q) a (place_at p' a).version) is h)
-        of_entry None is h = absurd (let k : stage_of (epoch_of (word st.state a)) ≡ stage_number (stage_in (setting_of g).room (place_at p' a).version None) = stage_known a lt ∙ ap (λ (o : Option Entry). stage_number (stage_in (setting_of g).room (place_at p' a).version o)) is in
+        of_entry None is h = absurd (let k : stage_of (epoch_of (word st.state a)) ≡ stage_number (stage_in (setting_of g).room (place_at p' a).version None) = stage_known a owns lt ∙ ap (λ (o : Option Entry). stage_number (stage_in (setting_of g).room (place_at p' a).version o)) is in
             let five = no_stage (place_at p' a).version (λ z. omega arith) in omega arith)
 
     -- what a tab that reads there has seen of its offer is what the entry has
-    pub read_shows : (p : Plain) (j a given : ℕ) (is_other : Bool) (old : Entry) → IsOfOffer g a old → (standing : Standing) → ReadsAs tells state offers s q j standing → a < g.setting.anchors
+    pub read_shows : (p : Plain) (j a given : ℕ) (is_other : Bool) (old : Entry) → OwnsAnchor g (view q).pass a → IsOfOffer g a old → (standing : Standing) → ReadsAs tells state offers s q j standing → a < g.setting.anchors
         → standing.anchor ≡ a → standing.offer ≡ old.offer → old.key ≡ key_of standing.url → is_other ≡ not (bytes_eq old.url standing.url) → (standing.is_other ≡ true → is_other ≡ true)
         → (is_other ≡ true → standing.is_other ≡ false → standing.place ≡ 0) → (is_other ≡ false → given ≡ length (body_below g a old.offer standing.place)) → ShowsReading tells state offers s rename q p' j a given is_other
-    read_shows p j a given is_other old offer standing reads lt anchor_is offer_is key_is other_is turned unread given_is = let r = at_anchor in let e = some_entry a lt r.from r.to in let same_offer = offers_are r e.0 e.2 in
+    read_shows p j a given is_other old owns offer standing reads lt anchor_is offer_is key_is other_is turned unread given_is = let r = at_anchor in let e = some_entry a owns lt r.from r.to in let same_offer = offers_are r e.0 e.2 in
         let url = one_url begins g a old.offer e.0.url old.url e.0.body old.body (subst (λ (n : ℕ). IsResponse g a n e.0.url e.0.body) (sym same_offer) e.2.offer.response) offer.response in record {
           inside = lt;
           entry = e.0;
@@ -124,7 +118,7 @@ module _ {C O : Type 0} (tells : Bool) (state : C → CellState) (offers : O →
           standing = standing;
           reads = reads;
           anchor_is = anchor_is;
-          version_is = sym reads.version_is ∙ sym r.version_is ∙ version_known a lt;
+          version_is = sym reads.version_is ∙ sym r.version_is ∙ version_known a owns lt;
           offer_is = offer_is ∙ same_offer;
           key_is = e.2.offer.key ∙ ap key_of url ∙ sym offer.key ∙ key_is;
           other_is = other_is ∙ ap (λ (u : List ℕ). not (bytes_eq u standing.url)) (sym url);
@@ -142,12 +136,12 @@ module _ {C O : Type 0} (tells : Bool) (state : C → CellState) (offers : O →
         offers_are : IsReadAt st.state a reads.reader.version → (e : Entry) → ShowsEntry g (view q) a (place_at p' a).version e → old.offer ≡ e.offer
         offers_are r e h = let seen = st.rule.sound.anchors.seen.named st.index (view q) st.at standing.anchor standing.version Offer standing.offer reads.offer_seen
             (ap (λ (b : ℕ). version_of (epoch_of (word st.state b))) anchor_is ∙ r.version_is ∙ reads.version_is) in
-            sym offer_is ∙ sym seen.0 ∙ ap (λ (b : ℕ). word_in g.setting st.state.words (place.Beside Offer b)) anchor_is ∙ word_is g lone st.state st.index (view q) st.rule st.at (pass_of q) (place.Beside Offer a) lt ∙ h.names.offer
+            sym offer_is ∙ sym seen.0 ∙ ap (λ (b : ℕ). word_in g.setting st.state.words (place.Beside Offer b)) anchor_is ∙ owns.stands (view q) st (place.Beside Offer a) refl (pass_of q) refl lt ∙ h.names.offer
 
     -- A tab of the pass p that showed p is shown by q, where q has the tab and its desk still, and the plain store has it, and what it writes.
     module _ (pass : Pass C) (p : Plain) (t : ℕ) (leaves : Leaves tells state offers s t pass q) (old : (a : ℕ) (e : Entry) → a < g.setting.anchors → entry_at p a ≡ Some e → IsOfOffer g a e) where
-      pub reading_shows : (j a given : ℕ) (is_other : Bool) → j ≢ t → ShowsReading tells state offers s rename pass p j a given is_other → ShowsReading tells state offers s rename q p' j a given is_other
-      reading_shows j a given is_other ne h = read_shows p j a given is_other h.entry (old a h.entry h.inside h.there) h.standing (stays.reads pass q t j h.standing leaves ne h.reads) h.inside h.anchor_is h.offer_is h.key_is h.other_is h.turned h.unread h.given_is
+      pub reading_shows : (j a given : ℕ) (is_other : Bool) → OwnsAnchor g (view q).pass a → j ≢ t → ShowsReading tells state offers s rename pass p j a given is_other → ShowsReading tells state offers s rename q p' j a given is_other
+      reading_shows j a given is_other owns ne h = read_shows p j a given is_other h.entry owns (old a h.entry h.inside h.there) h.standing (stays.reads pass q t j h.standing leaves ne h.reads) h.inside h.anchor_is h.offer_is h.key_is h.other_is h.turned h.unread h.given_is
 
       pub writing_shows : (j a : ℕ) → j ≢ t → (h : ShowsWriting tells state offers s rename pass p j a) → entry_at p' a ≡ entry_at p a → (place_at p' a).version ≡ (place_at p a).version → ShowsWriting tells state offers s rename q p' j a
       writing_shows j a ne h same version = record {
@@ -171,20 +165,21 @@ module _ {C O : Type 0} (tells : Bool) (state : C → CellState) (offers : O →
       record { view = view pass; at = st.at; there = tab_there (view pass) j _ (let nine = pass_of pass in let b = k.writes.rests.below in omega arith) k.writes.rests.is }
       h.anchor_is k.anchor_is).1
 
-  pub shows_after : (pass q : Pass C) (p p' : Plain) (t : ℕ) → Shows tells state offers s rename pass p → Leaves tells state offers s t pass q → KeepsElse t (IsOwn t p) p p' → ShowsOn tells state offers s rename q p' t → t < 8 → Shows tells state offers s rename q p'
-  shows_after pass q p p' t h leaves keeps served below = record {
+  pub shows_after : IsLone g → (pass q : Pass C) (p p' : Plain) (t : ℕ) → Shows tells state offers s rename pass p → Leaves tells state offers s t pass q → KeepsElse t (IsOwn t p) p p' → ShowsOn tells state offers s rename q p' t → t < 8 → Shows tells state offers s rename q p'
+  shows_after lone pass q p p' t h leaves keeps served below = record {
     own = leaves.own;
     inner_free = leaves.inner_free;
     knows = served.knows;
     hand = served.hand;
     eight = keeps.eight ∙ h.eight;
-    tabs = λ j lt. dite (ℕ_discrete j t)
+    tabs = λ j lt own. dite (ℕ_discrete j t)
         (λ e. subst (λ (n : ℕ). ShowsTab tells state offers s rename q p' n (tab_at p' n)) (sym e) served.tab)
-        (λ ne. subst (ShowsTab tells state offers s rename q p' j) (sym (keeps.tabs j ne)) (other j ne lt (tab_at p j) refl (h.tabs j lt)));
+        (λ ne. subst (ShowsTab tells state offers s rename q p' j) (sym (keeps.tabs j ne)) (other j ne lt (tab_at p j) refl (h.tabs j lt own)));
+    away = λ j lt no. absurd (false≢true (sym no));
   }
     where
       old : (a : ℕ) (e : Entry) → a < g.setting.anchors → entry_at p a ≡ Some e → IsOfOffer g a e
-      old a e lt is = (subst (ShowsEntryIf g (view pass) a (place_at p a).version) is (h.knows.each a lt).entry).offer
+      old a e lt is = (subst (ShowsEntryIf g (view pass) a (place_at p a).version) is (h.knows.each a lt refl).entry).offer
 
       eight : length p'.tabs ≡ 8
       eight = keeps.eight ∙ h.eight
@@ -196,9 +191,9 @@ module _ {C O : Type 0} (tells : Bool) (state : C → CellState) (offers : O →
           grows = subst IsGrowing (sym w.there) w.grows
 
           apart : IsOwn t p a → ⊥
-          apart own = ne (sym (writers_apart pass p t j a (subst (ShowsTab tells state offers s rename pass p t) own (h.tabs t below)) w))
+          apart own = ne (sym (writers_apart pass p t j a (subst (ShowsTab tells state offers s rename pass p t) own (h.tabs t below refl)) w))
 
       other : (j : ℕ) → j ≢ t → j < 8 → (x : Tab) → tab_at p j ≡ x → ShowsTab tells state offers s rename pass p j (tab_at p j) → ShowsTab tells state offers s rename q p' j x
       other j ne lt Free is shown = leaves.others j ne (λ e. let z = e in omega arith) ∙ subst (ShowsTab tells state offers s rename pass p j) is shown
       other j ne lt (Writing a) is shown = writer j a ne (subst (ShowsTab tells state offers s rename pass p j) is shown) is
-      other j ne lt (Reading a given is_other) is shown = reading_shows q p' leaves.own served.knows eight pass p t leaves old j a given is_other ne (subst (ShowsTab tells state offers s rename pass p j) is shown)
+      other j ne lt (Reading a given is_other) is shown = reading_shows q p' leaves.own served.knows eight pass p t leaves old j a given is_other (owns_lone g lone (view q).pass a) ne (subst (ShowsTab tells state offers s rename pass p j) is shown)

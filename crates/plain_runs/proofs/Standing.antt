@@ -1,4 +1,4 @@
--- A whole entry of the plain store that a lone pass shows stands closed in the state.
+-- A whole entry of the plain store that a pass shows, at an anchor that is the pass's own, stands closed in the state.
 use Rattle.std.proofs.Common.{Bool, List, ap, arith, length, refl, subst, sym, ◌-◌, ◌<◌, ◌∙◌, ◌≡◌, ◌≤◌, ℕ}
 use Rattle.std.specs.Prelude.{Option, Some}
 use mathlib.Core.Option.{some}
@@ -28,37 +28,44 @@ use Rattle.store_rule.specs.declared.store.Store.{Store}
 use Rattle.store_rule.specs.Closing.{Closed}
 use Rattle.store_rule.specs.Ground.{Ground, Offers, Rule}
 use Rattle.store_rule.specs.Passes.{basis, view}
+use Rattle.store_rule.specs.Told.{Stands}
 use Rattle.store_rule.proofs.Passing.{pass_of}
 use Rattle.plain_runs.specs.Ends.{SpellsOpened, StandsClosed}
 use Rattle.plain_runs.specs.Runs.{ShowsPlain}
 use Rattle.plain_runs.specs.Words.{IsLone, Knows, ShowsEntry, ShowsEntryIf, no_guests, setting_of}
-use Rattle.plain_runs.proofs.Chains.{word_is}
+use Rattle.plain_runs.proofs.OwnAnchors.{OwnsAnchor, owns_lone}
 use Rattle.plain_runs.proofs.PlainWords.{doom_there, readers_fit, stage_there, version_there}
 
-module _ (g : Ground (List ℕ)) (lone : IsLone g) (s : State (List ℕ)) (i : ℕ) (v : View (List ℕ)) (rule : Rule g s) (at : get_elem? s.views i ≡ some v) (pass : IsPass v)
-    (p : Plain) (knows : Knows g (λ v. v) v p no_guests) (eight : length p.tabs ≡ 8) (a : ℕ) (e : Entry) (lt : a < g.setting.anchors) (there : entry_at p a ≡ Some e) (whole : e.life ≡ Whole) where
+module _ (g : Ground (List ℕ)) (v : View (List ℕ)) (st : Stands g v) (pass : IsPass v)
+    (p : Plain) (knows : Knows g (λ v. v) v p no_guests) (eight : length p.tabs ≡ 8) (a : ℕ) (own : OwnsAnchor g v.pass a) (e : Entry) (lt : a < g.setting.anchors) (there : entry_at p a ≡ Some e) (whole : e.life ≡ Whole) where
+  abbrev s : State (List ℕ)
+  s = st.state
+
+  abbrev rule : Rule g s
+  rule = st.rule
+
   word_there : word s a ≡ has g v (Anchor a)
-  word_there = word_is g lone s i v rule at pass (Anchor a) lt
+  word_there = own.stands v st (Anchor a) refl pass refl lt
 
   pub stage_is : stage_of (epoch_of (word s a)) ≡ 3
   stage_is = ap (λ (n : ℕ). stage_of (epoch_of n)) word_there
-      ∙ stage_there (λ v. v) (setting_of g) p 0 a (has g v (Anchor a)) (knows.each a lt).word (readers_fit p a 0 eight (omega arith))
+      ∙ stage_there (λ v. v) (setting_of g) p 0 a (has g v (Anchor a)) (knows.each a lt refl).word (readers_fit p a 0 eight (omega arith))
       ∙ ap (λ (o : Option Entry). stage_number (stage_of_place (room_of g.slot) (place_at p a).version o)) there
       ∙ ap (λ (life : Life). stage_number (stage_of_entry (room_of g.slot) life e.content)) whole
 
   pub version_stands : version_of (epoch_of (word s a)) ≡ (place_at p a).version
   version_stands = ap (λ (n : ℕ). version_of (epoch_of n)) word_there
-      ∙ version_there (λ v. v) (setting_of g) p 0 a (has g v (Anchor a)) (knows.each a lt).word (readers_fit p a 0 eight (omega arith))
+      ∙ version_there (λ v. v) (setting_of g) p 0 a (has g v (Anchor a)) (knows.each a lt refl).word (readers_fit p a 0 eight (omega arith))
 
   doom_stands : doom_of (epoch_of (word s a)) ≡ doom_number (place_at p a).doom
   doom_stands = ap (λ (n : ℕ). doom_of (epoch_of n)) word_there
-      ∙ doom_there (λ v. v) (setting_of g) p 0 a (has g v (Anchor a)) (knows.each a lt).word (readers_fit p a 0 eight (omega arith))
+      ∙ doom_there (λ v. v) (setting_of g) p 0 a (has g v (Anchor a)) (knows.each a lt refl).word (readers_fit p a 0 eight (omega arith))
 
   pub entry_shown : ShowsEntry g v a (place_at p a).version e
-  entry_shown = subst (ShowsEntryIf g v a (place_at p a).version) there (knows.each a lt).entry
+  entry_shown = subst (ShowsEntryIf g v a (place_at p a).version) there (knows.each a lt refl).entry
 
   pub offer_stands : side_word g.setting s Offer a ≡ e.offer
-  offer_stands = word_is g lone s i v rule at pass (Beside Offer a) lt ∙ entry_shown.names.offer
+  offer_stands = own.stands v st (Beside Offer a) refl pass refl lt ∙ entry_shown.names.offer
 
   stands : ChainStands 3 ((slot_words g.setting s.words).start a) (slot_words g.setting s.words).link (chain_of s a)
   stands = subst (λ (z : ℕ). ChainStands z ((slot_words g.setting s.words).start a) (slot_words g.setting s.words).link (chain_of s a)) (stage_told g.setting s.words a lt ∙ stage_is) (rule.sound.slots.stand a lt)
@@ -97,4 +104,5 @@ module _ {C O : Type 0} (tells : Bool) (state : C → CellState) (offers : O →
     (shows : ShowsPlain tells state offers s p plain) (lt : a < (basis tells state offers s).setting.anchors) (there : entry_at plain a ≡ Some e) (whole : e.life ≡ Whole) where
   pub whole_stands : StandsClosed (basis tells state offers s) closed.gathered.state plain a e
   whole_stands = let gathered = closed.gathered in
-      stands_closed (basis tells state offers s) lone gathered.state (gathered.index 0) (view p) gathered.rule (gathered.at 0 (view p) first) (pass_of p) plain shows.knows shows.eight a e lt there whole
+      stands_closed (basis tells state offers s) (view p) record { state = gathered.state; index = gathered.index 0; rule = gathered.rule; at = gathered.at 0 (view p) first } (pass_of p) plain shows.knows shows.eight a
+      (owns_lone (basis tells state offers s) lone (view p).pass a) e lt there whole

@@ -3,7 +3,7 @@ use Rattle.std.specs.Prelude.{Bool, List, Some, false, length, not, true, ◌<�
 use Rattle.std.specs.Str.{bytes_eq}
 use Rattle.rock_disk.specs.Cell.{CellState}
 use Rattle.store_key.specs.Key.{key_of}
-use Rattle.core_model.specs.Tabs.{InnerIsFree}
+use Rattle.core_model.specs.Tabs.{InnerIsFree, anchor_of, is_free, tab_at as core_tab_at}
 use Rattle.plain_model.specs.declared.entry.Entry.{Entry}
 use Rattle.plain_model.specs.declared.entry.Life.TheVariants.{Growing}
 use Rattle.plain_model.specs.declared.store.Plain.{Plain}
@@ -19,7 +19,7 @@ use Rattle.rock_reader.specs.Reading.{ReadsAs, Standing}
 use Rattle.rock_reader.specs.Responses.{body_below}
 use Rattle.rock_writer.specs.Entries.{Entry as Writing_, WritesAs, size_of}
 use Rattle.store_serve.specs.Tabs.{IsFree}
-use Rattle.plain_runs.specs.Words.{Knows, no_guests}
+use Rattle.plain_runs.specs.Words.{KnowsLot, Lot, no_guests, whole_lot}
 
 module _ {C O : Type 0} (tells : Bool) (state : C → CellState) (offers : O → Offers) (s : Store C O) (rename : ℕ → ℕ) (pass : Pass C) (p : Plain) where
   -- the tab writes the entry that grows at the anchor
@@ -57,11 +57,21 @@ module _ {C O : Type 0} (tells : Bool) (state : C → CellState) (offers : O →
   ShowsTab t (Writing a) = ShowsWriting t a
   ShowsTab t (Reading a given is_other) = ShowsReading t a given is_other
 
-  -- The pass shows the plain store p: by the words that it knows, its tabs and its hand.
-  pub record Shows : Type 0 where
+  -- the tab is at no anchor of the lot
+  abbrev pub IsElsewhere : Lot → ℕ → Type 0
+  IsElsewhere lot t = (is_free (core_tab_at (view pass) t) ≡ false) → lot.anchors (anchor_of (core_tab_at (view pass) t)) ≡ false
+
+  -- Of its lot the pass shows the plain store p: by the words that it knows, its tabs and its hand. In p no other tab has an entry, and none
+  -- of the pass is at an anchor of the lot.
+  pub record ShowsLot (lot : Lot) : Type 0 where
     pub own : IsOf tells state offers s pass
     pub inner_free : InnerIsFree (view pass)
-    pub knows : Knows (basis tells state offers s) rename (view pass) p no_guests
+    pub knows : KnowsLot (basis tells state offers s) rename lot (view pass) p no_guests
     pub hand : hand_in (basis tells state offers s).setting.anchors pass.hand ≡ p.hand
     pub eight : length p.tabs ≡ 8
-    pub tabs : (t : ℕ) → t < 8 → ShowsTab t (tab_at p t)
+    pub tabs : (t : ℕ) → t < 8 → lot.tabs t ≡ true → ShowsTab t (tab_at p t)
+    pub away : (t : ℕ) → t < 8 → lot.tabs t ≡ false → (tab_at p t ≡ Free) × IsElsewhere lot t
+
+  -- The pass shows the plain store p of the whole store.
+  abbrev pub Shows : Type 0
+  Shows = ShowsLot whole_lot

@@ -1,5 +1,5 @@
 -- What the words that a pass knows tell of the plain store. The pass is the only one of its store, so what it knows is what the words are.
-use Rattle.std.specs.Prelude.{List, Option, None, Some, length, ◌+◌, ◌-◌, ◌<◌, ◌≡◌, ◌≢◌, ◌≤◌, ℕ, sum_by}
+use Rattle.std.specs.Prelude.{Bool, List, Option, None, Some, length, true, ◌+◌, ◌-◌, ◌<◌, ◌≡◌, ◌≢◌, ◌≤◌, ℕ, sum_by}
 use Rattle.link_word.specs.declared.link.Link.{Link}
 use Rattle.link_word.specs.declared.link.Link.TheVariants.{Last}
 use Rattle.lock_word.specs.Words.{word_number}
@@ -27,6 +27,16 @@ use Rattle.rock_reader.specs.Responses.{IsResponse, pieces_of}
 -- what does not change while the store is open, for the plain store
 abbrev pub setting_of : {X : Type 0} → Ground X → Setting
 setting_of g = record { slots = g.setting.slots; room = room_of g.slot; anchors = g.setting.anchors }
+
+-- What of a store is one pass's own: anchors, tabs that open URLs of these anchors alone, and whether the counter of versions is too.
+pub record Lot : Type 0 where
+  pub anchors : ℕ → Bool
+  pub tabs : ℕ → Bool
+  pub counter : Bool
+
+-- the whole store, of its only pass
+abbrev pub whole_lot : Lot
+whole_lot = record { anchors = λ a. true; tabs = λ t. true; counter = true }
 
 -- the store has one pass
 abbrev pub IsLone : {X : Type 0} → Ground X → Type 0
@@ -104,8 +114,12 @@ module _ (g : Ground (List ℕ)) where
       pub word : has g v (place.Anchor a) ≡ word_number (renamed_word rename (word_at (setting_of g) p a)) + guests
       pub entry : ShowsEntryIf v a (place_at p a).version (entry_at p a)
 
-    -- What the pass knows is the plain store p: at each anchor, where so many readers more are counted, and of the counter.
-    pub record Knows (v : View (List ℕ)) (p : Plain) (guests : ℕ → ℕ) : Type 0 where
-      pub counter : has g v place.Counter ≡ p.counter
+    -- What the pass knows of its lot is the plain store p: at each anchor of the lot, where so many readers more are counted, and of the counter.
+    pub record KnowsLot (lot : Lot) (v : View (List ℕ)) (p : Plain) (guests : ℕ → ℕ) : Type 0 where
+      pub counter : lot.counter ≡ true → has g v place.Counter ≡ p.counter
       pub many : length p.places ≡ g.setting.anchors
-      pub each : (a : ℕ) → a < g.setting.anchors → ShowsAt v p (guests a) a
+      pub each : (a : ℕ) → a < g.setting.anchors → lot.anchors a ≡ true → ShowsAt v p (guests a) a
+
+    -- What it knows of the whole store is p.
+    abbrev pub Knows : View (List ℕ) → Plain → (guests : ℕ → ℕ) → Type 0
+    Knows v p guests = KnowsLot whole_lot v p guests
