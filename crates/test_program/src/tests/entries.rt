@@ -342,6 +342,31 @@ list db 512
     )
 }
 
+/// All slots are taken as it is given up. Its reader finds where it ended, and the entry at the other anchor stays.
+#[test]
+fn an_entry_that_is_given_up_leaves_the_other_one(rt: HostRuntime) -> Result<(), Fail> {
+    plays(
+        &rt,
+        rt.alloc(),
+        "\
+volume
+
+create db 512 4
+
+run db 512 2 1
+1 put u0 #901:0 -> STORED 1
+1 begin 0 u1 #901:0 -> BEGUN 2
+1 add 0 900 -> ADDED 900
+1 open 1 u1 -> OPEN 2
+1 drop 0 -> DROPPED
+1 more 1 -> HALTED 429 MADE(0,429)
+1 more 1 -> HALTED 0 -
+1 close 1 -> CLOSED
+1 get u0 -> HIT 1 901 MADE(0,901)
+",
+    )
+}
+
 /// Three entries give way to others. The first is read meanwhile and passed over, and is the last one once its reader has left.
 #[test]
 fn the_hand_goes_round_and_passes_over_what_is_read(rt: HostRuntime) -> Result<(), Fail> {
