@@ -13,8 +13,9 @@
 // - `logged COUNT`: the counter of logged pieces;
 // - `claim PASS TAB PLACE`: how far the search of this tab, which writes, has come, `Some(..)`, or `None` where it
 //   searches for no slot;
+// - `reserved PASS TAB [SLOT, ..]`: the slots that this tab, which writes, has reserved and not published;
 // - `# ..`: a comment.
-use core_model::{Cell, INNER_TAB, Tab, Turn};
+use core_model::{Cell, INNER_TAB, Tab, Turn, Writer};
 use core_state::{Act, Content, Core, Step, StepFault};
 use std::alloc::Global;
 use std::process::Abort;
@@ -141,13 +142,25 @@ fn log_told(alloc: Global, core: &Core) -> Option<String> {
     format!(in alloc; "logged {count}").ok()
 }
 
+/// What the tab `PASS TAB` writes.
+fn writer_of<'a>(core: &'a Core, pass: &str, tab: &str) -> Option<&'a Writer<Content>> {
+    let (pass, tab): (usize, usize) = (pass.parse().ok()?, tab.parse().ok()?);
+    match core.views().get(pass)?.tabs.as_slice().get(tab)? {
+        Tab::Writing(writer) => Some(writer),
+        _ => None,
+    }
+}
+
 /// The line on the search of the tab `PASS TAB`.
 fn claim_told(alloc: Global, core: &Core, pass: &str, tab: &str) -> Option<String> {
-    let (pass, tab): (usize, usize) = (pass.parse().ok()?, tab.parse().ok()?);
-    let Tab::Writing(writer) = core.views().get(pass)?.tabs.as_slice().get(tab)? else {
-        return None;
-    };
+    let writer = writer_of(core, pass, tab)?;
     format!(in alloc; "claim {pass} {tab} {:?}", writer.claim).ok()
+}
+
+/// The line on the slots that it has reserved.
+fn reserved_told(alloc: Global, core: &Core, pass: &str, tab: &str) -> Option<String> {
+    let reserved = writer_of(core, pass, tab)?.reserved.as_slice();
+    format!(in alloc; "reserved {pass} {tab} {reserved:?}").ok()
 }
 
 /// What a line that begins so should be, as the core stands.
@@ -161,6 +174,7 @@ pub(crate) fn standing(alloc: Global, core: &Core, line: &str) -> Option<String>
         "map" => map_told(alloc, core),
         "logged" => log_told(alloc, core),
         "claim" => claim_told(alloc, core, words.next()?, words.next()?),
+        "reserved" => reserved_told(alloc, core, words.next()?, words.next()?),
         _ => None,
     }
 }

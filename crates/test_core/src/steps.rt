@@ -1,6 +1,8 @@
 pub(crate) mod images;
 mod other_rows;
 mod rows;
+mod search_rows;
+mod searches;
 mod slot_rows;
 mod wiping_rows;
 
@@ -51,35 +53,41 @@ fn what_is_no_step_of_a_pass_is_refused(rt: HostRuntime) {
     assert!(rt; rebuild == Err(StepFault::NotAllowed { kind: 24 }));
 }
 
-/// The rows by which 32 writers take the slots of the first word of the map in order, two slots each.
-fn first_word(alloc: Global) -> Option<String> {
+/// The rows by which 32 writers take so many slots of the first word of the map in order, two slots each.
+fn first_word(alloc: Global, taken: u32) -> Option<String> {
     let mut rows = String::new(alloc);
     let mut found = 0u64;
+    let mut made = 0u32;
     for writer in 0..32u32 {
         let (pass, tab) = (writer / 8, writer % 8);
         let version = writer + 1;
         let begun = format!(in alloc;
             "{pass} {tab} 1 {writer} 0 = 0\n{pass} {tab} 4 0 0 = {writer}\n"
         ).ok()?;
-        let taken = format!(in alloc;
+        let drawn = format!(in alloc;
             "{pass} {tab} 5 0 0 = {writer}\n{pass} {tab} 6 {writer} {version} = 0\n"
         ).ok()?;
         rows.push_str(&begun).ok()?;
-        rows.push_str(&taken).ok()?;
+        rows.push_str(&drawn).ok()?;
+        made = made.saturating_add(4);
         for slot in 2 * writer..2 * writer + 2 {
-            let reserved = format!(in alloc; "{pass} {tab} 10 {slot} 0 = {found}\n").ok()?;
-            rows.push_str(&reserved).ok()?;
-            found = found.wrapping_mul(2).wrapping_add(1);
+            if slot < taken {
+                let reserved = format!(in alloc; "{pass} {tab} 10 {slot} 0 = {found}\n").ok()?;
+                rows.push_str(&reserved).ok()?;
+                found = found.wrapping_mul(2).wrapping_add(1);
+                made = made.saturating_add(1);
+            }
         }
     }
-    rows.push_str("made 192\n").ok()?;
+    let count = format!(in alloc; "made {made}\n").ok()?;
+    rows.push_str(&count).ok()?;
     Some(rows)
 }
 
 #[test]
 fn a_search_goes_on_in_the_next_word(rt: HostRuntime) {
     let alloc = rt.alloc();
-    let (Some(mut core), Some(rows)) = (blank_core(alloc, 65, 33, 5), first_word(alloc)) else {
+    let (Some(mut core), Some(rows)) = (blank_core(alloc, 65, 33, 5), first_word(alloc, 64)) else {
         assert!(rt; false, "no core");
         return;
     };

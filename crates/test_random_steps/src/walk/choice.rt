@@ -5,6 +5,7 @@ use super::freeing::freer_act;
 use super::kinds::{CHANGE, COUNT, DRAW, ENTER, KIND_END, LEARN, LEAVE, LOOK, NOTE};
 use super::random::Numbers;
 use super::reading::reader_act;
+use super::store::Store;
 use super::straying::stray_act;
 use super::table::hold_of;
 use super::writing::writer_act;
@@ -109,7 +110,7 @@ pub(super) fn tab_of(core: &Core, seat: Seat) -> Option<&Tab<Content>> {
 }
 
 /// A step that makes sense for the tab there, or now and then another.
-pub(super) fn choose(numbers: &mut Numbers, core: &Core, seat: Seat) -> Act {
+pub(super) fn choose(numbers: &mut Numbers, store: &Store, core: &Core, seat: Seat) -> Act {
     if numbers.is_one_in(LEARNS) {
         return note_act(core, seat);
     }
@@ -117,9 +118,9 @@ pub(super) fn choose(numbers: &mut Numbers, core: &Core, seat: Seat) -> Act {
     match (view, tab_of(core, seat)) {
         (Some(view), Some(tab)) if !numbers.is_one_in(ANY) => {
             if numbers.is_one_in(STRAYS) {
-                return stray_act(numbers, seat, view, tab);
+                return stray_act(numbers, store, seat, view, tab);
             }
-            tab_act(numbers, seat, view, tab)
+            tab_act(numbers, store, seat, view, tab)
         }
         _ => any_act(numbers, core),
     }
@@ -127,7 +128,7 @@ pub(super) fn choose(numbers: &mut Numbers, core: &Core, seat: Seat) -> Act {
 
 /// A lesson from the first note that is there, or else a note.
 fn note_act(core: &Core, seat: Seat) -> Act {
-    let mut notes = core.views().iter().skip(PASSES as usize);
+    let mut notes = core.views().iter().skip(core.passes() as usize);
     let note = notes.position(|view| !view.seen.as_slice().is_empty());
     match note.and_then(|note| u32::try_from(note).ok()) {
         Some(note) => seat.act(LEARN, note, 0),
@@ -161,13 +162,19 @@ pub(super) fn newest_version(view: &View<Content>) -> Option<u32> {
 }
 
 /// A step that makes sense for the tab there.
-fn tab_act(numbers: &mut Numbers, seat: Seat, view: &View<Content>, tab: &Tab<Content>) -> Act {
+fn tab_act(
+    numbers: &mut Numbers,
+    store: &Store,
+    seat: Seat,
+    view: &View<Content>,
+    tab: &Tab<Content>,
+) -> Act {
     match tab {
         Tab::Free if seat.tab == INNER_TAB => evict_act(numbers, seat, view),
         Tab::Free => free_act(numbers, seat, view),
         Tab::Retreating { .. } => seat.act(LEAVE, 0, 0),
         Tab::Reading(reader) => reader_act(numbers, seat, reader),
-        Tab::Writing(writer) => writer_act(numbers, seat, view, writer),
+        Tab::Writing(writer) => writer_act(numbers, store, seat, view, writer),
         Tab::Last { anchor } => last_act(numbers, seat, view, *anchor),
         Tab::Freeing(freer) => freer_act(numbers, seat, view, freer),
     }

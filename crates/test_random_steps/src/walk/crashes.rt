@@ -3,6 +3,7 @@ use super::choice::{Seat, calm_of, choose, next_seat};
 use super::kinds::LOG_PIECE;
 use super::named::{Contents, kept_at, words_of};
 use super::random::Numbers;
+use super::store::STORE;
 use super::table::hold_in;
 use super::{ANCHORS, Act, Core, PASSES, SLOTS};
 use core_lives::{FirstContent, Life};
@@ -273,7 +274,7 @@ fn walk_from<R: Abort>(rt: &R, alloc: Global, seed: u32, counts: &mut Counts) ->
             break;
         }
         seat = next_seat(&mut numbers, walk.life.core(), seat, calm);
-        let act = choose(&mut numbers, walk.life.core(), seat);
+        let act = choose(&mut numbers, &STORE, walk.life.core(), seat);
         if act_on(rt, &mut walk, &act)? {
             made = made.saturating_add(1);
             if numbers.is_one_in(CRASHES) {

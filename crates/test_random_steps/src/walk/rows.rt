@@ -2,7 +2,7 @@
 use std::process::Abort;
 
 /// What can come about, each to be counted.
-#[derive(Clone, Copy)]
+#[derive(Clone, Copy, Debug)]
 pub(super) enum Row {
     // The kinds of steps.
     Look,
@@ -181,6 +181,14 @@ impl Tally {
         };
         if let Some(count) = self.counts.get_mut(row as usize) {
             *count = count.saturating_add(1);
+        }
+    }
+
+    /// How often it came about.
+    pub fn count(&self, row: Row) -> u32 {
+        match self.counts.get(row as usize) {
+            Some(count) => *count,
+            None => 0,
         }
     }
 

@@ -5,6 +5,7 @@ use super::kinds::{
     SIDE_END, STAGE_END, SYNC, WRITE, WRITE_END,
 };
 use super::random::Numbers;
+use super::store::Store;
 use super::{ANCHORS, Act, SLOTS};
 use core_model::{Tab, View};
 use core_state::Content;
@@ -15,12 +16,13 @@ const WORD_END: u32 = SLOTS + 2;
 
 const NOTE_END: u32 = 4;
 
-/// The map has one word.
+/// The map has one word, or two.
 const MAP_END: u32 = 2;
 
 /// A step of any kind. What a tab has at hand it is mostly on.
 pub(super) fn stray_act(
     numbers: &mut Numbers,
+    store: &Store,
     seat: Seat,
     view: &View<Content>,
     tab: &Tab<Content>,
@@ -28,7 +30,7 @@ pub(super) fn stray_act(
     let kind = numbers.below(KIND_END) as u8;
     let at = match kind {
         SIDE => numbers.below(SIDE_END),
-        OWN..=CELL_IN | WRITE | SYNC => stray_slot(numbers, tab),
+        OWN..=CELL_IN | WRITE | SYNC => stray_slot(numbers, store, tab),
         LEARN => numbers.below(NOTE_END),
         LOOK_MAP => numbers.below(MAP_END),
         _ => numbers.below(ANCHORS),
@@ -37,7 +39,7 @@ pub(super) fn stray_act(
 }
 
 /// A slot: mostly the first that the tab has reserved, reads or gives back.
-fn stray_slot(numbers: &mut Numbers, tab: &Tab<Content>) -> u32 {
+fn stray_slot(numbers: &mut Numbers, store: &Store, tab: &Tab<Content>) -> u32 {
     let first = match tab {
         Tab::Reading(reader) => reader.slot,
         Tab::Writing(writer) => writer.reserved.as_slice().first().copied(),
@@ -46,7 +48,7 @@ fn stray_slot(numbers: &mut Numbers, tab: &Tab<Content>) -> u32 {
     };
     match first {
         Some(slot) if !numbers.is_one_in(3) => slot,
-        _ => numbers.below(SLOTS),
+        _ => store.any_slot(numbers),
     }
 }
 

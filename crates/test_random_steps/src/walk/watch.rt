@@ -9,7 +9,7 @@ use super::life::life_row;
 use super::log::{log_count, seen_count, watch_logged, watch_turn};
 use super::rows::{Row, Tally};
 use super::table::{is_taken, published_at, word_at};
-use super::{ANCHORS, Act, Core, PASSES, SLOTS};
+use super::{ANCHORS, Act, Core, PASSES};
 use core_model::{INNER_TAB, TABS, Tab};
 use core_state::Content;
 use lock_word::Word;
@@ -226,9 +226,9 @@ fn writer_row(act: &Act, before: &Before, published: usize) -> Option<Row> {
 }
 
 /// What a look at the map made of the search for a free slot.
-fn looked_row(from: Option<u64>, to: Option<u64>) -> Option<Row> {
+fn looked_row(slots: u64, from: Option<u64>, to: Option<u64>) -> Option<Row> {
     let to = to?;
-    if to >= u64::from(SLOTS) {
+    if to >= slots {
         Some(Row::SearchEndsWithAll)
     } else {
         from.is_none().then_some(Row::SearchBegins)
@@ -236,12 +236,12 @@ fn looked_row(from: Option<u64>, to: Option<u64>) -> Option<Row> {
 }
 
 /// What a try for a slot made of it.
-fn tried_row(slot: u32, from: Option<u64>, to: Option<u64>) -> Option<Row> {
+fn tried_row(slots: u64, slot: u32, from: Option<u64>, to: Option<u64>) -> Option<Row> {
     let from = from?;
     match to {
         None => (from == u64::from(slot)).then_some(Row::SearchTakes),
         Some(to) if to == from => None,
-        Some(to) if to >= u64::from(SLOTS) => Some(Row::SearchEndsWithAll),
+        Some(to) if to >= slots => Some(Row::SearchEndsWithAll),
         Some(_) => Some(Row::SearchGoesOn),
     }
 }
@@ -255,9 +255,10 @@ fn search_row(core: &Core, act: &Act, before: &Before) -> Option<Row> {
         Some(Tab::Writing(writer)) => writer.claim,
         _ => None,
     };
+    let slots = core.places().len() as u64;
     match act.kind {
-        LOOK_MAP => looked_row(claim, now),
-        OWN => tried_row(act.at, claim, now),
+        LOOK_MAP => looked_row(slots, claim, now),
+        OWN => tried_row(slots, act.at, claim, now),
         _ => None,
     }
 }

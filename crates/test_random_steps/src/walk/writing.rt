@@ -1,4 +1,5 @@
 // Steps of a tab that writes.
+use super::Act;
 use super::choice::{Seat, evict_act, inner_tab};
 use super::freeing::{freer_act, has_room};
 use super::kinds::{
@@ -7,8 +8,8 @@ use super::kinds::{
     STORE_START, SYNC, TRY_TURN, UNSURE, WRITE,
 };
 use super::random::Numbers;
+use super::store::Store;
 use super::table::start_number;
-use super::{Act, SLOTS};
 use core_model::{Hold, Piece, Tab, Turn, View, Writer};
 use core_state::Content;
 use link_word::{Link, pack_link};
@@ -35,12 +36,16 @@ const TRIES_ANY: u32 = 8;
 /// That it evicts another entry, to have a slot of that.
 const EVICTS: u32 = 2;
 
+/// That it looks at the word of which the slot is the first, to which its search has come.
+const LOOKS: u32 = 2;
+
 /// Keys are below this, and so is what an offer is above the slots.
 const NAMES: u32 = 8;
 
 /// The next step of a tab towards a whole entry.
 pub(super) fn writer_act(
     numbers: &mut Numbers,
+    store: &Store,
     seat: Seat,
     view: &View<Content>,
     writer: &Writer<Content>,
@@ -59,7 +64,7 @@ pub(super) fn writer_act(
     if writer.is_ending || gives_up(numbers, writer) {
         return give_up_act(seat, writer);
     }
-    grow_act(numbers, seat, view, writer)
+    grow_act(numbers, store, seat, view, writer)
 }
 
 /// Whether the entry is one that is given up, and is so now.
@@ -137,12 +142,13 @@ fn is_ready(writer: &Writer<Content>) -> bool {
 /// The entry is named, slots are reserved, and a piece is logged for the first of them, written and published.
 fn grow_act(
     numbers: &mut Numbers,
+    store: &Store,
     seat: Seat,
     view: &View<Content>,
     writer: &Writer<Content>,
 ) -> Act {
     if let Some(side) = unnamed_side(writer) {
-        let above = if side == STORE_OFFER { SLOTS } else { 0 };
+        let above = if side == STORE_OFFER { store.slots } else { 0 };
         let value = u64::from(above) + u64::from(numbers.below(NAMES));
         return seat.act(SIDE, side, value);
     }
@@ -154,10 +160,11 @@ fn grow_act(
         (Some(slot), Some(piece)) if is_ready(writer) => {
             seat.act(LINK, *slot, pack_link(piece.next))
         }
-        (Some(slot), chosen) if !has_room(writer) || numbers.is_one_in(STOPS) => {
+        (Some(slot), chosen)
+            if !has_room(writer) || !store.is_within(writer) || numbers.is_one_in(STOPS) => {
             piece_act(numbers, seat, *slot, chosen)
         }
-        _ => own_act(numbers, seat, view, writer),
+        _ => own_act(numbers, store, seat, view, writer),
     }
 }
 
@@ -169,20 +176,25 @@ fn piece_act(numbers: &mut Numbers, seat: Seat, slot: u32, chosen: Option<Piece>
     }
 }
 
-/// A look at the map begins a search, and the slot to which it has come is tried. Where all were found taken
+/// A look at the map begins a search, and the slot to which it has come is tried, or its word looked at. Where all were found taken
 /// another entry is evicted, or the search begins again.
 fn own_act(
     numbers: &mut Numbers,
+    store: &Store,
     seat: Seat,
     view: &View<Content>,
     writer: &Writer<Content>,
 ) -> Act {
     if numbers.is_one_in(TRIES_ANY) {
-        return seat.act(OWN, numbers.below(SLOTS), 0);
+        return seat.act(OWN, store.any_slot(numbers), 0);
     }
     let place = writer.claim.and_then(|place| u32::try_from(place).ok());
     match place {
-        Some(slot) if slot < SLOTS => seat.act(OWN, slot, 0),
+        Some(slot)
+            if slot > 0 && slot < store.slots && slot % 64 == 0 && numbers.is_one_in(LOOKS) => {
+            seat.act(LOOK_MAP, slot / 64, 0)
+        }
+        Some(slot) if slot < store.slots => seat.act(OWN, slot, 0),
         Some(_) if numbers.is_one_in(EVICTS) => evict_act(numbers, seat.inner(), view),
         _ => seat.act(LOOK_MAP, 0, 0),
     }
