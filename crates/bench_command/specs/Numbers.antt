@@ -20,12 +20,16 @@ IsRounds count = count ≤ 10000
 
 -- its numbers are within their limits
 pub record AreBenchNumbers (workers count : ℕ) : Type 0 where
+  -- there may be as many workers
   pub passes : IsPasses workers
+  -- and as many rounds
   pub rounds : IsRounds count
 
 -- neither the numbers nor the files refuse it
 pub record MayBench (files : Files) (name : List ℕ) (workers count : ℕ) : Type 0 where
+  -- its numbers are within their limits
   pub numbers : AreBenchNumbers workers count
+  -- no file has the name
   pub free : ¬ IsThere files name
 
 -- its file was made as `create` makes one

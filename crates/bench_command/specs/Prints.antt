@@ -16,9 +16,11 @@ pub record IsLineOfRun (volume_tells : Bool) (files files_after : Files) (name :
     (before after : Counts) (text : List ℕ) : Type 0 where
   -- They served these lines over the file.
   pub run : RunServed volume_tells files files_after name workers (bench_lines seed workers count) before after
+  -- The line sums up their answers.
   pub is : text ≡ summary_line (summary_of (answers_in run.answers))
   -- There is one answer for each line, and each is counted once.
   pub requests : (summary_of (answers_in run.answers)).requests ≡ length (bench_lines seed workers count)
+  -- Each answer is of one kind.
   pub kinds : (summary_of (answers_in run.answers)).requests ≡ kinds_in (summary_of (answers_in run.answers))
 
 -- The text is what a benchmark prints.

@@ -3,7 +3,8 @@ use Rattle.std.specs.Prelude.{List, [], ◌+◌, ◌++◌, ◌∷◌, ◌≡◌,
 use Rattle.rock_disk.specs.Counts.{Counts, NoStation, counted, EachEnded, HasFailed}
 use Rattle.rock_run.specs.Device.{RunEnded, RunFailed, RunUnfailed}
 
--- The counts with which the run begins: the file was made, the volume did not fail, and the station of the header area was ended with no fault.
+-- The counts with which the run begins: the file was made, the volume did not fail, and the station of the header area was ended with no
+-- fault.
 abbrev pub made_counts : Counts → Counts
 made_counts before = counted before.faults (before.made + 1) (before.ended ++ 0 ∷ [])
 
@@ -21,6 +22,9 @@ NoneBehind before after = NoStation before after ⊎ NoStation (made_counts befo
 
 -- The volume's count of faults is as it was, the first station that was ended was so with none, and so was that of the rebuild.
 pub record BenchUnfailed (before after : Counts) : Type 0 where
+  -- The volume met no fault,
   pub faults : after.faults ≡ before.faults
+  -- nor did the station of the header area,
   pub header : (count : ℕ) (others : List ℕ) → after.ended ≡ before.ended ++ count ∷ others → count ≡ 0
+  -- nor the volume in the run, nor the station of the rebuild.
   pub rebuild : RunUnfailed (made_counts before) after

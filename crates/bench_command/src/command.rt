@@ -40,8 +40,8 @@ fn is_rounds(count: u32) -> bool
     count <= 10_000
 }
 
-/// Makes a file with 64 slots of 512 bytes for each worker, which its header area records, runs the script of a benchmark over it by a store with 16 anchors
-/// for each worker, and prints one line that sums up what the workers were answered. The file stays.
+/// Makes a file with 64 slots of 512 bytes for each worker, which its header area records, runs the script of a benchmark over it by a
+/// store with 16 anchors for each worker, and prints one line that sums up what the workers were answered. The file stays.
 ///
 /// It is refused, in this order, with [`Status::BadGeometry`] and field 3 where there are not 1 to 32 workers, and field 4
 /// where there are more than 10,000 rounds; then with [`Status::Exists`] where a file of that name is there. A fault of a

@@ -95,7 +95,7 @@ module _ {C O : Type 0} (tells : Bool) (state : C → CellState) (offers : O →
             subst (λ (a : ℕ). Contains (view q).seen (Published a e.version (slots_after r.room h.url t (l ∷ served)))) h.anchor
             (subst (λ (n : ℕ). Contains (view q).seen (Published e.anchor e.version n)) (sym place_is) seen);
         offer = λ some. let seen = (shown (subst (λ (n : ℕ). 0 < n) place_is some)).1 in
-            subst (λ (a : ℕ). Contains (view q).seen (Named a e.version Offer (g.setting.slots + h.first.line.number))) h.anchor
+            subst (λ (a : ℕ). Contains (view q).seen (Named a e.version Offer (g.setting.slots + h.first.asked.number))) h.anchor
             (subst (λ (n : ℕ). Contains (view q).seen (Named e.anchor e.version Offer n)) h.offer seen.offer);
       }
 

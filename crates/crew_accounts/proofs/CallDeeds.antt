@@ -39,11 +39,11 @@ module _ {X : Type 0} (r : Run X) (v : View X) (earlier : List Served) (s : Serv
   of_leaving (inl h) = deed.freed r v earlier s d h.kind h.stage h.was_idle
   of_leaving (inr h) = deed.gone r v earlier s d h.kind h.stage
 
-  pub of_visiting : (a : ℕ) → ComesTo r.setting.anchors s.line.request a → OfVisiting a d → IsDeedOf r v d earlier s
-  of_visiting a comes (inl h) = deed.entered r v earlier s d h.kind (subst (ComesTo r.setting.anchors s.line.request) (sym h.anchor) comes)
+  pub of_visiting : (a : ℕ) → ComesTo r.setting.anchors s.asked.request a → OfVisiting a d → IsDeedOf r v d earlier s
+  of_visiting a comes (inl h) = deed.entered r v earlier s d h.kind (subst (ComesTo r.setting.anchors s.asked.request) (sym h.anchor) comes)
   of_visiting a comes (inr h) = of_leaving h
 
-  pub of_purging : (a epoch : ℕ) → ComesTo r.setting.anchors s.line.request a → Purges r.setting.anchors s a epoch → OfPurging a epoch d → IsDeedOf r v d earlier s
+  pub of_purging : (a epoch : ℕ) → ComesTo r.setting.anchors s.asked.request a → Purges r.setting.anchors s a epoch → OfPurging a epoch d → IsDeedOf r v d earlier s
   of_purging a epoch comes purges (inl h) = deed.doomed r v earlier s d h.kind h.doomed
       (subst (λ b. Purges r.setting.anchors s b d.epoch) (sym h.anchor) (subst (Purges r.setting.anchors s a) (sym h.epoch_is) purges))
   of_purging a epoch comes purges (inr h) = of_visiting a comes h
@@ -116,5 +116,5 @@ module _ {X : Type 0} (r : Run X) (v w : View X) (earlier : List Served) (s : Se
   pub adds_by : s.drew ≡ None → (P : Deed → Type 0) → Acted s.drew P v w → ((d : Deed) → P d → IsDeedOf r w d earlier s) → ShowsInTurn r.setting.anchors v w earlier s → Tells r w earlier s
       → (IsTrue r.tells → (e : Epoch) (bytes : List ℕ) → s.answer ≡ answer.Part e bytes → HasPart r v w earlier s (epoch_number e)) → Adds r v earlier s w
   adds_by none P acted so shows tells parts = adds_drawing
-      (λ a x h. let began = tells.began x (told_began s.line.request s.answer x h.told) in let z : None ≡ Some began.version = sym none ∙ began.drew in absurd (let q : ⊥ = cc in q))
+      (λ a x h. let began = tells.began x (told_began s.asked.request s.answer x h.told) in let z : None ≡ Some began.version = sym none ∙ began.drew in absurd (let q : ⊥ = cc in q))
       P acted so shows tells parts

@@ -37,7 +37,7 @@ pub record IsRefused (g : Ground (List ℕ)) (told : Bool) (past : Past) (earlie
   pub cause : ForCause (run_of g told past) w earlier l c
   pub turn : IsInTurn (anchor_for g url) (epoch_number (epoch_in c)) v w
 
-module _ (g : Ground (List ℕ)) (told : Bool) (past : Past) (earlier : List Served) (l : Served) (url : List ℕ) (named : url_in l.line.request ≡ Some url) (at_url : url_at earlier l.line.request ≡ Some url) (v w : View (List ℕ)) (c : Cause) where
+module _ (g : Ground (List ℕ)) (told : Bool) (past : Past) (earlier : List Served) (l : Served) (url : List ℕ) (named : url_in l.asked.request ≡ Some url) (at_url : url_at earlier l.asked.request ≡ Some url) (v w : View (List ℕ)) (c : Cause) where
   refused_at : (epoch : Epoch) → IsInTurn (anchor_for g url) (epoch_number epoch) v w → ForCause (run_of g told past) w earlier l c × (epoch_in c ≡ epoch) → IsRefused g told past earlier l url v w c
   refused_at epoch turn h = record { cause = h.0; turn = subst (λ (e : Epoch). IsInTurn (anchor_for g url) (epoch_number e) v w) (sym h.1) turn }
 

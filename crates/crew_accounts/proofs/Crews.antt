@@ -138,7 +138,7 @@ module _ {C O St : Type 0} (tells : Bool) (state : C → CellState) (offers : O 
           (script_lines (j + 1) script o.course.stages o.account.stages o.done.is.lines (played j o.account o.at).each)
 
       meets : (c d : Played (List ℕ)) (m n : Told (List ℕ)) (mark : ℕ) → Contains all.items c → Contains all.items d → Contains c.stages m → Contains d.stages n
-          → m.served.line.request ≡ Mark mark → n.served.line.request ≡ Await mark → n.served.answer ≡ Met → HandsOver m n
+          → m.served.asked.request ≡ Mark mark → n.served.asked.request ≡ Await mark → n.served.answer ≡ Met → HandsOver m n
       meets c d m n mark has_c has_d has_m has_n =
           let x = all.each has_c.0 c (place_of all.items c has_c) in
           let y = all.each has_d.0 d (place_of all.items d has_d) in

@@ -9,7 +9,7 @@ use Rattle.line_account.specs.Deeds.{Begins, ComesTo, Evicts, Finishes, Grows, H
 use Rattle.line_account.specs.Answers.{Run}
 
 module _ {X : Type 0} (r : Run X) (v : View X) (earlier : List Served) (s : Served) (d : Deed) where
-  pub entered : d.kind ≡ Entered → ComesTo r.setting.anchors s.line.request d.anchor → IsDeedOf r v d earlier s
+  pub entered : d.kind ≡ Entered → ComesTo r.setting.anchors s.asked.request d.anchor → IsDeedOf r v d earlier s
   entered e comes = record {
     entered = λ k. comes;
     changed = λ k. absurd (let z : Entered ≡ Changed = sym e ∙ k in cc);

@@ -83,7 +83,7 @@ module _ (g : Ground (List ℕ)) (told : Bool) (past : Past) (url : List ℕ) (v
   stage : (2 ≤ stage_of (epoch_number left)) × (stage_of (epoch_number left) ≤ 4)
   stage = subst (λ (e : ℕ). (2 ≤ stage_of e) × (stage_of e ≤ 4)) (sym h.entry.left_is) (doom_stage g h.entry.keyed h.entry.after t h.entry.word r h.entry.reads h.entry.doom)
 
-  pub has_purged : (l : Served) → url_in l.line.request ≡ Some url → l.opened ≡ epoch_number h.epoch → HasPurged (run_of g told past) w l left
+  pub has_purged : (l : Served) → url_in l.asked.request ≡ Some url → l.opened ≡ epoch_number h.epoch → HasPurged (run_of g told past) w l left
   has_purged l named found = record {
     doomed = h.dooms;
     from = stage.0;

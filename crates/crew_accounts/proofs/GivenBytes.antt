@@ -153,7 +153,7 @@ module _ {C O : Type 0} (tells : Bool) (state : C → CellState) (offers : O →
       all_of_it some all = let k = known some in ap (body_below g f.anchor f.offer) all ∙ sym (from.whole g f.anchor f.offer f.url k.body so.small k.response) ∙ sym k.body_is
 
       -- So a line that was given these bytes in all has given what the account asks.
-      pub given_of : (w : View (List ℕ)) (served : List Served) (l first : Served) → opened_by served l ≡ Some first → url_in first.line.request ≡ Some f.url → f.anchor ≡ anchor_for g f.url → version_of first.opened ≡ f.version
+      pub given_of : (w : View (List ℕ)) (served : List Served) (l first : Served) → opened_by served l ≡ Some first → url_in first.asked.request ≡ Some f.url → f.anchor ≡ anchor_for g f.url → version_of first.opened ≡ f.version
           → (entry : IsEntryAt r w f.anchor first.opened f.url) → entry.offer ≡ f.offer → bytes_with served l ≡ body_below g f.anchor f.offer f.place → (0 < f.place → Contains w.seen (Published f.anchor f.version f.place))
           → (IsSure l.answer → 0 < f.place) → (IsWhole l.answer → (0 < f.place) × (f.place ≡ pieces_of g f.anchor f.offer)) → (IsPart l.answer → IsGrowing g f) → HasGiven r w served l
       given_of w served l first opened named anchor version entry offer gave shown sure whole part = record {
@@ -179,7 +179,7 @@ module _ {C O : Type 0} (tells : Bool) (state : C → CellState) (offers : O →
           same_offer = moved.1 ∙ offer
 
       -- PART
-      pub part_of : (w : View (List ℕ)) (served : List Served) (l first : Served) (opened : opened_by served l ≡ Some first) (named : url_in first.line.request ≡ Some f.url) (anchor : f.anchor ≡ anchor_for g f.url) (version : version_of first.opened ≡ f.version)
+      pub part_of : (w : View (List ℕ)) (served : List Served) (l first : Served) (opened : opened_by served l ≡ Some first) (named : url_in first.asked.request ≡ Some f.url) (anchor : f.anchor ≡ anchor_for g f.url) (version : version_of first.opened ≡ f.version)
           (entry : IsEntryAt r w f.anchor first.opened f.url) (offer : entry.offer ≡ f.offer) (gave : bytes_with served l ≡ body_below g f.anchor f.offer f.place) (shown : 0 < f.place → Contains w.seen (Published f.anchor f.version f.place))
           (sure : IsSure l.answer → 0 < f.place) (whole : IsWhole l.answer → (0 < f.place) × (f.place ≡ pieces_of g f.anchor f.offer)) (v : View (List ℕ)) (e : ℕ) → version_of e ≡ f.version
           → Contains w.seen (Stood f.anchor e) → 0 < f.place → g.setting.slots ≤ f.offer → f.place < count (cut_of g f.offer 0 0) → ((n : ℕ) → Contains v.seen (Published f.anchor f.version n) → n ≤ f.place) → HasPart r v w served l e

@@ -99,14 +99,14 @@ module _ {X : Type 0} (r : Run X) (v : View X) (earlier : List Served) (s : Serv
 
 -- a body that needs too many slots, as the account has it
 module _ (g : Ground (List ℕ)) (told : Bool) (past : Past) (e : Entry) (first : Served) (h : IsBegunBy g e first) (from : g.setting.slots ≤ e.offer) where
-  pub body_eq : (run_of g told past).body (g.setting.slots + first.line.number) ≡ body_in g e
+  pub body_eq : (run_of g told past).body (g.setting.slots + first.asked.number) ≡ body_in g e
   body_eq = ap (run_of g told past).body (sym h.offer) ∙ new_body g told past e.offer from
 
-  pub url_eq : (run_of g told past).url (g.setting.slots + first.line.number) ≡ h.url
+  pub url_eq : (run_of g told past).url (g.setting.slots + first.asked.number) ≡ h.url
   url_eq = ap (run_of g told past).url (sym h.offer) ∙ new_url g told past e.offer from ∙ h.url_is
 
   -- metadata and body together, as the account has them and as the writer does
-  sizes : 32 + length (url_in g e) + length (body_in g e) ≡ 32 + length h.url + length ((run_of g told past).body (g.setting.slots + first.line.number))
+  sizes : 32 + length (url_in g e) + length (body_in g e) ≡ 32 + length h.url + length ((run_of g told past).body (g.setting.slots + first.asked.number))
   sizes = let a = ap length body_eq in let b = ap length h.url_is in omega arith
 
   pub large_of : (earlier : List Served) (l : Served) → begun_by earlier l ≡ Some first → NeedsTooMany g (url_in g e) (body_in g e) → IsLarge (run_of g told past) earlier l

@@ -30,10 +30,10 @@ nothing_behind [] = refl
 nothing_behind (x ∷ xs) = ap (λ ys. x ∷ ys) (nothing_behind xs)
 
 -- one line more
-told_next : {X : Type 0} (course : List (Told X)) (x : Told X) → in_order (x ∷ course) ≡ in_order course ++ (x.served.line, x.served.answer) ∷ []
+told_next : {X : Type 0} (course : List (Told X)) (x : Told X) → in_order (x ∷ course) ≡ in_order course ++ (x.served.asked, x.served.answer) ∷ []
 told_next course x = refl
 
-shown_next : {X : Type 0} (course : List (Told X)) (x : Told X) → with_views (x ∷ course) ≡ with_views course ++ (x.before, x.served.line, x.served.answer, x.after) ∷ []
+shown_next : {X : Type 0} (course : List (Told X)) (x : Told X) → with_views (x ∷ course) ≡ with_views course ++ (x.before, x.served.asked, x.served.answer, x.after) ∷ []
 shown_next course x = refl
 
 module _ {C O St : Type 0} (tells : Bool) (state : C → CellState) (offers : O → Offers) (faults : St → ℕ) (s : Store C O) (told : Bool) (past : Past)

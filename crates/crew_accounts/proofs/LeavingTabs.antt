@@ -105,7 +105,7 @@ module _ {C O : Type 0} (tells : Bool) (state : C → CellState) (offers : O →
       let seen = halts_seen (basis tells state offers s) t (name_of (basis tells state offers s) h.entry) (view p) (view q) (entry_of tells state offers s t h.entry h.is) halts.1 in
       let first : w.first ≡ h.first = same_first w.first h.first (sym w.begun_is ∙ h.writes) in
       let version : x ≡ h.entry.version = same_number x h.entry.version (sym w.drew ∙ ap Served.drew first ∙ h.drew) in
-      let url : w.anchor.url ≡ h.url = same_url w.anchor.url h.url (sym w.anchor.named_is ∙ ap (λ (z : Served). url_in z.line.request) first ∙ h.named) in
+      let url : w.anchor.url ≡ h.url = same_url w.anchor.url h.url (sym w.anchor.named_is ∙ ap (λ (z : Served). url_in z.asked.request) first ∙ h.named) in
       let at : a ≡ h.entry.anchor = w.anchor.anchor ∙ ap (λ (u : List ℕ). anchor_for (basis tells state offers s) u) url ∙ sym h.anchor in
       record { epoch = seen.epoch; version_is = seen.version_is ∙ sym version; halted = seen.halted; seen = subst (λ (b : ℕ). Contains (view q).seen (Stood b seen.epoch)) (sym at) seen.seen }
 

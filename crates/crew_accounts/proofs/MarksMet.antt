@@ -21,7 +21,7 @@ use Rattle.crew_accounts.proofs.CrewLists.{image, there}
 
 -- a line of an account is shown with its views
 abbrev shown : {X : Type 0} → Told X → View X × Line × Answer × View X
-shown m = (m.before, m.served.line, m.served.answer, m.after)
+shown m = (m.before, m.served.asked, m.served.answer, m.after)
 
 is_shown : {X : Type 0} → (course : List (Told X)) (m : Told X) → Contains course m → Contains (with_views course) (shown m)
 is_shown [] m h = absurd (contains_none m h)
@@ -44,7 +44,7 @@ module _ {C O St : Type 0} where
       record { stage = s.0; among = s.1; is = s.2 }
 
   pub hands_over : (a b : Account (OnShelf C O St)) (c d : List (Told (List ℕ))) → with_views c ≡ map stage_shown a.stages → with_views d ≡ map stage_shown b.stages → TellsAtMarks a b
-      → (m n : Told (List ℕ)) (mark : ℕ) → Contains c m → Contains d n → m.served.line.request ≡ Mark mark → n.served.line.request ≡ Await mark → n.served.answer ≡ Met → HandsOver m n
+      → (m n : Told (List ℕ)) (mark : ℕ) → Contains c m → Contains d n → m.served.asked.request ≡ Mark mark → n.served.asked.request ≡ Await mark → n.served.answer ≡ Met → HandsOver m n
   hands_over a b c d c_is d_is tells m n mark has_m has_n sets awaits met =
       let x = stage_of a.stages c c_is m has_m in
       let y = stage_of b.stages d d_is n has_n in

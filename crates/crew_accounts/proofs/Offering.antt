@@ -92,8 +92,8 @@ module _ {C O : Type 0} (tells : Bool) (state : C → CellState) (offers : O →
   abbrev r : Run (List ℕ)
   r = run_of (basis tells state offers s) told past
 
-  pub offering : IsOffering l.line.request url body → IsOffered tells state offers s ((basis tells state offers s).setting.slots + l.line.number) url body → ((l.answer ≡ answer.LongUrl) ↔ IsTooLong (basis tells state offers s) url)
-      → ((a e : ℕ) → Shows r.setting.anchors earlier l a e → Contains v.seen (Stood a e)) → IsAnswerTo l.line.request l.answer → ((x : ℕ) → Began l.line.request l.answer x → HasBegun l) → Fits earlier l.line.request → l.answer ≢ answer.Tab
+  pub offering : IsOffering l.asked.request url body → IsOffered tells state offers s ((basis tells state offers s).setting.slots + l.asked.number) url body → ((l.answer ≡ answer.LongUrl) ↔ IsTooLong (basis tells state offers s) url)
+      → ((a e : ℕ) → Shows r.setting.anchors earlier l a e → Contains v.seen (Stood a e)) → IsAnswerTo l.asked.request l.answer → ((x : ℕ) → Began l.asked.request l.answer x → HasBegun l) → Fits earlier l.asked.request → l.answer ≢ answer.Tab
       → ToAnswer r v earlier l
   offering is body_is long shown answers began fits no_tab = record {
     shown = shown;

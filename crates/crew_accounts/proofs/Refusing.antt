@@ -31,7 +31,7 @@ use Rattle.crew_accounts.proofs.Loading.{back_loaded, front_loaded}
 use Rattle.crew_accounts.proofs.Shown.{anchor_at}
 use Rattle.crew_accounts.proofs.Telling.{ForCause}
 
-module _ (g : Ground (List ℕ)) (told : Bool) (past : Past) (earlier : List Served) (l : Served) (url : List ℕ) (named : url_in l.line.request ≡ Some url) (at_url : url_at earlier l.line.request ≡ Some url) where
+module _ (g : Ground (List ℕ)) (told : Bool) (past : Past) (earlier : List Served) (l : Served) (url : List ℕ) (named : url_in l.asked.request ≡ Some url) (at_url : url_at earlier l.asked.request ≡ Some url) where
   abbrev r : Run (List ℕ)
   r = run_of g told past
 
@@ -78,7 +78,7 @@ module _ (g : Ground (List ℕ)) (told : Bool) (past : Past) (earlier : List Ser
                   let same : epoch_in c ≡ e = ap epoch_in z in
                   let its = (tells.other e other z).0 in
                   let key_fits = subst TellsKey z fits in
-                  subst (λ (b : ℕ). IsKeyRead r w b (epoch_number e) other) (anchor_at g.setting.anchors (url_at earlier l.line.request) url a at_url at)
+                  subst (λ (b : ℕ). IsKeyRead r w b (epoch_number e) other) (anchor_at g.setting.anchors (url_at earlier l.asked.request) url a at_url at)
                   (subst (λ (f : Epoch). IsKeyRead r w anchor (epoch_number f) other) (sym tells.epoch ∙ same)
                   (subst (IsKeyRead r w anchor (epoch_number epoch)) (sym its)
                   (read_as (subst (λ (k : List ℕ). (length k ≡ 16) × ((i : ℕ) → slice_index_or k i 0 < 256)) its key_fits))));

@@ -21,9 +21,9 @@ module _ (g : Ground (List ℕ)) (told : Bool) (past : Past) (offer : ℕ) (from
 
 module _ {C O : Type 0} (tells : Bool) (state : C → CellState) (offers : O → Offers) (s : Store C O) (told : Bool) (past : Past) where
   -- what a line offers is the offer of its number
-  pub is_offered : (l : Served) (u : List ℕ) (b : Body) → OffersBody tells state offers s ((basis tells state offers s).setting.slots + l.line.number) u b → (url : List ℕ) (body : Body) → (u ≡ url) × (b ≡ body)
+  pub is_offered : (l : Served) (u : List ℕ) (b : Body) → OffersBody tells state offers s ((basis tells state offers s).setting.slots + l.asked.number) u b → (url : List ℕ) (body : Body) → (u ≡ url) × (b ≡ body)
       → IsOffered (run_of (basis tells state offers s) told past) l url body
   is_offered l u b h url body e = record {
-    url_is = new_url (basis tells state offers s) told past ((basis tells state offers s).setting.slots + l.line.number) (omega arith) ∙ h.url_is ∙ e.0;
-    body_is = new_body (basis tells state offers s) told past ((basis tells state offers s).setting.slots + l.line.number) (omega arith) ∙ h.body_is ∙ ap bytes_of e.1;
+    url_is = new_url (basis tells state offers s) told past ((basis tells state offers s).setting.slots + l.asked.number) (omega arith) ∙ h.url_is ∙ e.0;
+    body_is = new_body (basis tells state offers s) told past ((basis tells state offers s).setting.slots + l.asked.number) (omega arith) ∙ h.body_is ∙ ap bytes_of e.1;
   }

@@ -58,7 +58,7 @@ in_script {H} w script stages each x h = own_line w 0 script x.place x.line
 -- the lines of a course without their answers
 course_lines : {X : Type 0} → (course : List (Told X)) → map line_told (in_order course) ≡ lines_of_served (lines_in course)
 course_lines [] = refl
-course_lines (x ∷ earlier) = map-append line_told (in_order earlier) ((x.served.line, x.served.answer) ∷ []) ∙ ap (λ (ls : List Line). ls ++ x.served.line ∷ []) (course_lines earlier)
+course_lines (x ∷ earlier) = map-append line_told (in_order earlier) ((x.served.asked, x.served.answer) ∷ []) ∙ ap (λ (ls : List Line). ls ++ x.served.asked ∷ []) (course_lines earlier)
 
 -- the lines of a worker's course are its lines of the script
 pub script_lines : {X H : Type 0} (w : ℕ) (script : List Line) (course : List (Told X)) (stages : List (Stage H)) → in_order course ≡ map (λ x. (x.line, x.answer)) stages

@@ -81,10 +81,10 @@ pub anchor_at : (anchors : ℕ) (named : Option (List ℕ)) (url : List ℕ) (a 
 anchor_at anchors named url a is h = ap (λ (u : List ℕ). anchor_of (key_of u) anchors) (same_url url h.url (sym is ∙ h.named_is)) ∙ sym h.anchor
 
 -- a line that printed that it began a version, where this is later than all that was seen at the anchor of its URL
-pub begun_above : {X : Type 0} → (anchors : ℕ) (v : View X) (s : Served) (url : List ℕ) (version : ℕ) → url_in s.line.request ≡ Some url → version_of (seen_at (anchor_of (key_of url) anchors) v.seen) < version
-    → ((x : ℕ) → TellsBegun s.line.request s.answer x → version ≡ x) → (a x : ℕ) → PrintsBegunVersion anchors s a x → version_of (seen_at a v.seen) < x
+pub begun_above : {X : Type 0} → (anchors : ℕ) (v : View X) (s : Served) (url : List ℕ) (version : ℕ) → url_in s.asked.request ≡ Some url → version_of (seen_at (anchor_of (key_of url) anchors) v.seen) < version
+    → ((x : ℕ) → TellsBegun s.asked.request s.answer x → version ≡ x) → (a x : ℕ) → PrintsBegunVersion anchors s a x → version_of (seen_at a v.seen) < x
 begun_above anchors v s url version named later told a x h =
-    let here = anchor_at anchors (url_in s.line.request) url a named h.anchor in
+    let here = anchor_at anchors (url_in s.asked.request) url a named h.anchor in
     let same = told x h.told in
     subst (λ (z : ℕ). version_of (seen_at z v.seen) < x) here (omega arith)
 
@@ -96,10 +96,10 @@ module _ {X : Type 0} (anchors : ℕ) (v w : View X) (earlier : List Served) (s 
   pub shows_none : epochs_of s.opened s.looked s.answer ≡ [] → ShowsInTurn
   shows_none none a e h = absurd (contains_none e (subst (λ (l : List ℕ). Contains l e) none h.shown))
 
-  module _ (url : List ℕ) (named : url_at earlier s.line.request ≡ Some url) where
+  module _ (url : List ℕ) (named : url_at earlier s.asked.request ≡ Some url) where
     there : (a e f : ℕ) → Shows anchors earlier s a e → f ≡ e → IsInTurn (anchor_of (key_of url) anchors) f v w → IsInTurn a e v w
     there a e f h same turn = subst (λ (z : ℕ). IsInTurn a z v w) same
-        (subst (λ (b : ℕ). IsInTurn b f v w) (anchor_at anchors (url_at earlier s.line.request) url a named h.at) turn)
+        (subst (λ (b : ℕ). IsInTurn b f v w) (anchor_at anchors (url_at earlier s.asked.request) url a named h.at) turn)
 
     pub shows_one : (f : ℕ) → epochs_of s.opened s.looked s.answer ≡ f ∷ [] → IsInTurn (anchor_of (key_of url) anchors) f v w → ShowsInTurn
     shows_one f one turn a e h = there a e f h (one_there f e (subst (λ (l : List ℕ). Contains l e) one h.shown)) turn

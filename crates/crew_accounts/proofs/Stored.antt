@@ -56,12 +56,12 @@ unfolding IsBegin
 begins_it t (Begin tab url body) a e = tt
 begins_it t _ a e = absurd (let z : false ≡ true = e in cc)
 
-writing_began : (t : ℕ) (served : List Served) (b : Served) → writing t served ≡ Some b → IsBegin b.line.request
+writing_began : (t : ℕ) (served : List Served) (b : Served) → writing t served ≡ Some b → IsBegin b.asked.request
 writing_began t [] b e = absurd (let q : None ≡ Some b = e in cc)
-writing_began t (s ∷ earlier) b e = by_tests (begins t s.line.request s.answer) refl (ends t s.line.request s.answer) e (writing_began t earlier b)
+writing_began t (s ∷ earlier) b e = by_tests (begins t s.asked.request s.answer) refl (ends t s.asked.request s.answer) e (writing_began t earlier b)
   where
-    by_tests : (x : Bool) → begins t s.line.request s.answer ≡ x → (y : Bool) → cond x (Some s) (cond y None (writing t earlier)) ≡ Some b → (writing t earlier ≡ Some b → IsBegin b.line.request) → IsBegin b.line.request
-    by_tests true is y q rest = let same : s ≡ b = cc in subst (λ (z : Served). IsBegin z.line.request) same (begins_it t s.line.request s.answer is)
+    by_tests : (x : Bool) → begins t s.asked.request s.answer ≡ x → (y : Bool) → cond x (Some s) (cond y None (writing t earlier)) ≡ Some b → (writing t earlier ≡ Some b → IsBegin b.asked.request) → IsBegin b.asked.request
+    by_tests true is y q rest = let same : s ≡ b = cc in subst (λ (z : Served). IsBegin z.asked.request) same (begins_it t s.asked.request s.answer is)
     by_tests false is true q rest = absurd (let z : None ≡ Some b = q in cc)
     by_tests false is false q rest = rest q
 
@@ -79,16 +79,16 @@ no_save _ h g = h
 
 -- what a line began that writes, and that a `save` among these is the line itself
 record Began (s b : Served) : Type 0 where
-  offer : HasOffer b.line.request
-  itself : IsSave b.line.request → s ≡ b
+  offer : HasOffer b.asked.request
+  itself : IsSave b.asked.request → s ≡ b
 
-on_tab : (s b : Served) → IsBegin b.line.request → Began s b
-on_tab s b h = record { offer = begin_offers b.line.request h; itself = λ save. absurd (no_save b.line.request h save) }
+on_tab : (s b : Served) → IsBegin b.asked.request → Began s b
+on_tab s b h = record { offer = begin_offers b.asked.request h; itself = λ save. absurd (no_save b.asked.request h save) }
 
-at_once : (s b : Served) → s ≡ b → HasOffer s.line.request → Began s b
-at_once s b is o = record { offer = subst (λ (z : Served). HasOffer z.line.request) is o; itself = λ save. is }
+at_once : (s b : Served) → s ≡ b → HasOffer s.asked.request → Began s b
+at_once s b is o = record { offer = subst (λ (z : Served). HasOffer z.asked.request) is o; itself = λ save. is }
 
-began : (earlier : List Served) (s b : Served) (q : Request) → s.line.request ≡ q → begun_of earlier s q ≡ Some b → Began s b
+began : (earlier : List Served) (s b : Served) (q : Request) → s.asked.request ≡ q → begun_of earlier s q ≡ Some b → Began s b
 began earlier s b (Put url body) is e = at_once s b (let same : s ≡ b = cc in same) (subst HasOffer (sym is) record { url = url; body = body; offers = (refl, refl) })
 began earlier s b (Save url body) is e = at_once s b (let same : s ≡ b = cc in same) (subst HasOffer (sym is) record { url = url; body = body; offers = (refl, refl) })
 began earlier s b (Begin tab url body) is e = at_once s b (let same : s ≡ b = cc in same) (subst HasOffer (sym is) record { url = url; body = body; offers = (refl, refl) })
@@ -139,7 +139,7 @@ split_among zs front back s e = subst (λ (l : List Served). Contains l s) (sym 
 
 -- a line that was served stands in the course with its answer
 abbrev told_by : Served → Line × Answer
-told_by s = (s.line, s.answer)
+told_by s = (s.asked, s.answer)
 
 served_told : {X : Type 0} → (course : List (Told X)) (s : Served) → Contains (lines_in course) s → Contains (in_order course) (told_by s)
 served_told [] s h = absurd (let lt = h.1 in omega arith)
@@ -186,7 +186,7 @@ module _ {C O St : Type 0} (tells : Bool) (state : C → CellState) (offers : O 
   record IsStage (account : Account (OnShelf C O St)) (line : Served) : Type 0 where
     stage : Stage (OnShelf C O St)
     among : Contains account.stages stage
-    line_is : stage.line ≡ line.line
+    line_is : stage.line ≡ line.asked
     answer_is : stage.answer ≡ line.answer
 
   stage_of_line : (j : ℕ) (w : Worker (List ℕ)) (o : IsOne tells state offers faults s script told past laws accounts cells h j w) (line : Served) → Contains w.served line → IsStage o.account line
@@ -213,22 +213,22 @@ module _ {C O St : Type 0} (tells : Bool) (state : C → CellState) (offers : O 
     one = here.one by.j by.worker by.at
 
     abbrev line : Served
-    line = by.line_of.line
+    line = by.served
 
     abbrev begun : Served
-    begun = by.line_of.so.grows.writes.first
+    begun = by.so.grows.writes.first
 
-    what : Began by.line_of.line by.line_of.so.grows.writes.first
-    what = began by.line_of.earlier by.line_of.line by.line_of.so.grows.writes.first by.line_of.line.line.request refl by.line_of.so.grows.writes.begun_is
+    what : Began by.served by.so.grows.writes.first
+    what = began by.earlier by.served by.so.grows.writes.first by.served.asked.request refl by.so.grows.writes.begun_is
 
-    line_there : Contains by.worker.served by.line_of.line
-    line_there = split_among by.worker.served by.line_of.later by.line_of.earlier by.line_of.line by.line_of.split
+    line_there : Contains by.worker.served by.served
+    line_there = split_among by.worker.served by.later by.earlier by.served by.split
 
-    begun_there : Contains by.worker.served by.line_of.so.grows.writes.first
-    begun_there = let b = begun_among by.line_of.earlier by.line_of.line by.line_of.so.grows.writes.first by.line_of.line.line.request by.line_of.so.grows.writes.begun_is in
-        subst (λ (l : List Served). Contains l by.line_of.so.grows.writes.first) (sym by.line_of.split)
-        (Contains-append_right by.line_of.later (by.line_of.line ∷ by.line_of.earlier) by.line_of.so.grows.writes.first
-        (split_among (by.line_of.line ∷ by.line_of.earlier) b.front b.back by.line_of.so.grows.writes.first b.split))
+    begun_there : Contains by.worker.served by.so.grows.writes.first
+    begun_there = let b = begun_among by.earlier by.served by.so.grows.writes.first by.served.asked.request by.so.grows.writes.begun_is in
+        subst (λ (l : List Served). Contains l by.so.grows.writes.first) (sym by.split)
+        (Contains-append_right by.later (by.served ∷ by.earlier) by.so.grows.writes.first
+        (split_among (by.served ∷ by.earlier) b.front b.back by.so.grows.writes.first b.split))
 
     played : IsPlayed tells state offers faults s script by.j one.account
     played = h.each by.j one.account (at_place one.at)
@@ -236,39 +236,39 @@ module _ {C O St : Type 0} (tells : Bool) (state : C → CellState) (offers : O 
         at_place : get_elem? accounts by.j ≡ some one.account → At accounts by.j one.account
         at_place e = (at_length accounts by.j one.account e, at_or accounts by.j one.account one.account e)
 
-    of_script : Contains script begun.line × (begun.line.worker ≡ by.j + 1)
-    of_script = let x = stage_of_line by.j by.worker one by.line_of.so.grows.writes.first begun_there in
+    of_script : Contains script begun.asked × (begun.asked.worker ≡ by.j + 1)
+    of_script = let x = stage_of_line by.j by.worker one by.so.grows.writes.first begun_there in
         subst (λ (l : Line). Contains script l × (l.worker ≡ by.j + 1)) x.line_is (in_script (by.j + 1) script one.account.stages played.each x.stage x.among)
 
-    offered : IsOffered tells state offers s (offer_of tells state offers s begun.line.number) what.offer.url what.offer.body
-    offered = asked tells state offers s begun.line.number begun.line.request what.offer.url what.offer.body what.offer.offers
-        (played.takes begun.line of_script.0 of_script.1 (offered_served begun.line.request what.offer.url what.offer.body what.offer.offers)).asks
+    offered : IsOffered tells state offers s (offer_of tells state offers s begun.asked.number) what.offer.url what.offer.body
+    offered = asked tells state offers s begun.asked.number begun.asked.request what.offer.url what.offer.body what.offer.offers
+        (played.takes begun.asked of_script.0 of_script.1 (offered_served begun.asked.request what.offer.url what.offer.body what.offer.offers)).asks
 
     -- what its worker has seen as the offer stands beside the anchor
-    offer_is : side_word g.setting last Offer a ≡ offer_of tells state offers s begun.line.number
+    offer_is : side_word g.setting last Offer a ≡ offer_of tells state offers s begun.asked.number
     offer_is = let at = subst (λ (z : State (List ℕ)). get_elem? z.views (here.closed.index by.j) ≡ some by.worker.view) here.same (here.closed.at by.j by.worker by.at) in
-        (rule.sound.anchors.seen.named (here.closed.index by.j) by.worker.view at a (version_of epoch) Offer (offer_of tells state offers s begun.line.number) by.line_of.so.grows.named.offer refl).0
+        (rule.sound.anchors.seen.named (here.closed.index by.j) by.worker.view at a (version_of epoch) Offer (offer_of tells state offers s begun.asked.number) by.so.grows.named.offer refl).0
 
     at_anchor : anchor_of (key_of what.offer.url) g.setting.anchors ≡ a
-    at_anchor = let there = by.line_of.so.grows.writes.anchor in
-        let same : Some what.offer.url ≡ Some there.url = sym (offered_url begun.line.request what.offer.url what.offer.body what.offer.offers) ∙ there.named_is in
+    at_anchor = let there = by.so.grows.writes.anchor in
+        let same : Some what.offer.url ≡ Some there.url = sym (offered_url begun.asked.request what.offer.url what.offer.body what.offer.offers) ∙ there.named_is in
         let is : what.offer.url ≡ there.url = cc in
         ap (λ (u : List ℕ). anchor_of (key_of u) g.setting.anchors) is ∙ sym there.anchor
 
-    was_stored : IsSave begun.line.request → WasStored g script accounts a (version_of epoch) (side_word g.setting last Offer a) begun.line
-    was_stored save = let x = stage_of_line by.j by.worker one by.line_of.line line_there in record {
+    was_stored : IsSave begun.asked.request → WasStored g script accounts a (version_of epoch) (side_word g.setting last Offer a) begun.asked
+    was_stored save = let x = stage_of_line by.j by.worker one by.served line_there in record {
       w = by.j;
       account = one.account;
       at = one.at;
       stage = x.stage;
       among = x.among;
-      line_is = x.line_is ∙ ap (λ (z : Served). z.line) (what.itself save);
-      answered = x.answer_is ∙ by.line_of.so.stored;
+      line_is = x.line_is ∙ ap (λ (z : Served). z.asked) (what.itself save);
+      answered = x.answer_is ∙ by.so.stored;
     }
 
     pub of_line : IsOfLine g script accounts a (version_of (epoch_of (word h.closed.gathered.state a))) (side_word g.setting h.closed.gathered.state Offer a)
     of_line = record {
-      line = begun.line;
+      line = begun.asked;
       among = of_script.0;
       offer_is = offer_is;
       url = what.offer.url;

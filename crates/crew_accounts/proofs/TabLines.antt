@@ -134,7 +134,7 @@ pub not_other_url : (a : Answer) → is_last a ≡ false → is_other_url a ≡ 
 not_other_url a h = or_right (is_halted a) (is_other_url a) (or_right (is_end a) (is_halted a || is_other_url a) h)
 
 -- So what the tab writes and reads by the lines is as it was.
-module _ (j : ℕ) (s : Served) (served : List Served) (h : LeavesAlone j s.line.request s.answer) where
+module _ (j : ℕ) (s : Served) (served : List Served) (h : LeavesAlone j s.asked.request s.answer) where
   pub writing_on : writing j (s ∷ served) ≡ writing j served
   writing_on = λ i. cond (h.begins i) (Some s) (cond (h.ends i) None (writing j served))
 
@@ -148,27 +148,27 @@ module _ (j : ℕ) (s : Served) (served : List Served) (h : LeavesAlone j s.line
   given_on = let e : bytes_given j (s ∷ served) ≡ bytes_given j served ++ [] = λ i. cond (h.opens i) [] (bytes_given j served ++ h.given i) in e ∙ append-nil (bytes_given j served)
 
   pub answered_on : (so : Answer → Bool) → ((a : Answer) → is_last a ≡ false → so a ≡ false) → answered_more so j (s ∷ served) ≡ answered_more so j served
-  answered_on so of = λ i. cond (h.opens i) false (not_so so of j s.line.request s.answer h.last i || answered_more so j served)
+  answered_on so of = λ i. cond (h.opens i) false (not_so so of j s.asked.request s.answer h.last i || answered_more so j served)
 
 -- What a tab writes and reads behind a line that does something with it.
 module _ (t : ℕ) (s : Served) (served : List Served) where
-  pub now_writes : begins t s.line.request s.answer ≡ true → writing t (s ∷ served) ≡ Some s
-  now_writes e = λ i. cond (e i) (Some s) (cond (ends t s.line.request s.answer) None (writing t served))
+  pub now_writes : begins t s.asked.request s.answer ≡ true → writing t (s ∷ served) ≡ Some s
+  now_writes e = λ i. cond (e i) (Some s) (cond (ends t s.asked.request s.answer) None (writing t served))
 
-  pub none_added : begins t s.line.request s.answer ≡ true → added t (s ∷ served) ≡ 0
-  none_added e = λ i. cond (e i) 0 (added_by t s.line.request s.answer + added t served)
+  pub none_added : begins t s.asked.request s.answer ≡ true → added t (s ∷ served) ≡ 0
+  none_added e = λ i. cond (e i) 0 (added_by t s.asked.request s.answer + added t served)
 
-  pub no_more_writes : begins t s.line.request s.answer ≡ false → ends t s.line.request s.answer ≡ true → writing t (s ∷ served) ≡ None
+  pub no_more_writes : begins t s.asked.request s.answer ≡ false → ends t s.asked.request s.answer ≡ true → writing t (s ∷ served) ≡ None
   no_more_writes e f = λ i. cond (e i) (Some s) (cond (f i) None (writing t served))
 
-  pub now_reads : opens t s.line.request s.answer ≡ true → reading t (s ∷ served) ≡ Some s
-  now_reads e = λ i. cond (e i) (Some s) (cond (closes t s.line.request s.answer) None (reading t served))
+  pub now_reads : opens t s.asked.request s.answer ≡ true → reading t (s ∷ served) ≡ Some s
+  now_reads e = λ i. cond (e i) (Some s) (cond (closes t s.asked.request s.answer) None (reading t served))
 
-  pub none_answered : (so : Answer → Bool) → opens t s.line.request s.answer ≡ true → answered_more so t (s ∷ served) ≡ false
-  none_answered so e = λ i. cond (e i) false (answers_more so t s.line.request s.answer || answered_more so t served)
+  pub none_answered : (so : Answer → Bool) → opens t s.asked.request s.answer ≡ true → answered_more so t (s ∷ served) ≡ false
+  none_answered so e = λ i. cond (e i) false (answers_more so t s.asked.request s.answer || answered_more so t served)
 
-  pub none_given : opens t s.line.request s.answer ≡ true → bytes_given t (s ∷ served) ≡ []
-  none_given e = λ i. cond (e i) [] (bytes_given t served ++ given_by t s.line.request s.answer)
+  pub none_given : opens t s.asked.request s.answer ≡ true → bytes_given t (s ∷ served) ≡ []
+  none_given e = λ i. cond (e i) [] (bytes_given t served ++ given_by t s.asked.request s.answer)
 
-  pub no_more_reads : opens t s.line.request s.answer ≡ false → closes t s.line.request s.answer ≡ true → reading t (s ∷ served) ≡ None
+  pub no_more_reads : opens t s.asked.request s.answer ≡ false → closes t s.asked.request s.answer ≡ true → reading t (s ∷ served) ≡ None
   no_more_reads e f = λ i. cond (e i) (Some s) (cond (f i) None (reading t served))

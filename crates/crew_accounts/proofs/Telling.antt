@@ -74,7 +74,7 @@ module _ {X : Type 0} (r : Run X) (v : View X) (earlier : List Served) (s : Serv
   by_reading _ t y h = absurd h
 
   -- a line that is not on a tab that reads is behind no other one
-  pub no_more : ((t : ℕ) → s.line.request ≡ More t → ⊥) → Stays
+  pub no_more : ((t : ℕ) → s.asked.request ≡ More t → ⊥) → Stays
   no_more none = record {
     behind_end = λ t h. absurd (none t h.request);
     behind_other = λ t h. absurd (none t h.request);
@@ -84,13 +84,13 @@ module _ {X : Type 0} (r : Run X) (v : View X) (earlier : List Served) (s : Serv
   -- what the account asks of a line by its request too
   pub record ToAnswer : Type 0 where
     pub shown : (a e : ℕ) → Shows r.setting.anchors earlier s a e → Contains v.seen (Stood a e)
-    pub answers : IsAnswerTo s.line.request s.answer
-    pub drew : s.drew ≢ None → offers s.line.request ≡ true
-    pub began : (x : ℕ) → Began s.line.request s.answer x → HasBegun s
-    pub opened : (x : ℕ) → ComesIn s.line.request s.answer x → HasOpened r v s
-    pub short : (url : List ℕ) (body : Body) → Offers s.line.request url body → Fits earlier s.line.request → r.room < 32 + length url → s.answer ≡ answer.LongUrl
-    pub offered : (url : List ℕ) (body : Body) → Offers s.line.request url body → IsOffered r s url body
-    pub tab : (s.answer ≡ answer.Tab) ↔ ¬ Fits earlier s.line.request
+    pub answers : IsAnswerTo s.asked.request s.answer
+    pub drew : s.drew ≢ None → offers s.asked.request ≡ true
+    pub began : (x : ℕ) → Began s.asked.request s.answer x → HasBegun s
+    pub opened : (x : ℕ) → ComesIn s.asked.request s.answer x → HasOpened r v s
+    pub short : (url : List ℕ) (body : Body) → Offers s.asked.request url body → Fits earlier s.asked.request → r.room < 32 + length url → s.answer ≡ answer.LongUrl
+    pub offered : (url : List ℕ) (body : Body) → Offers s.asked.request url body → IsOffered r s url body
+    pub tab : (s.answer ≡ answer.Tab) ↔ ¬ Fits earlier s.asked.request
     pub stays : Stays
 
   pub tells_by : ToTell s.answer → ToAnswer → Tells r v earlier s
@@ -131,8 +131,8 @@ module _ {X : Type 0} (r : Run X) (v : View X) (earlier : List Served) (s : Serv
       ends x h = ⊎_elim (λ (e : s.answer ≡ answer.Stored x). subst ToTell e t) (λ (e : s.answer ≡ answer.Doomed x). subst ToTell e t) h
 
   -- a line that offers no body, and begins and opens nothing
-  pub plain : Stays → ((a e : ℕ) → Shows r.setting.anchors earlier s a e → Contains v.seen (Stood a e)) → IsAnswerTo s.line.request s.answer → s.drew ≡ None → ((x : ℕ) → Began s.line.request s.answer x → ⊥)
-      → ((x : ℕ) → ComesIn s.line.request s.answer x → ⊥) → ((url : List ℕ) (body : Body) → Offers s.line.request url body → ⊥) → Fits earlier s.line.request → s.answer ≢ answer.Tab → ToAnswer
+  pub plain : Stays → ((a e : ℕ) → Shows r.setting.anchors earlier s a e → Contains v.seen (Stood a e)) → IsAnswerTo s.asked.request s.answer → s.drew ≡ None → ((x : ℕ) → Began s.asked.request s.answer x → ⊥)
+      → ((x : ℕ) → ComesIn s.asked.request s.answer x → ⊥) → ((url : List ℕ) (body : Body) → Offers s.asked.request url body → ⊥) → Fits earlier s.asked.request → s.answer ≢ answer.Tab → ToAnswer
   plain on shown answers none begins opens offers_none fits no_tab = record {
     shown = shown;
     answers = answers;

@@ -61,7 +61,7 @@ ended_on j e p q same h = record { was = h.was; some = h.some; none = subst (OfR
 
 module _ {C O : Type 0} (tells : Bool) (state : C → CellState) (offers : O → Offers) (s : Store C O) (told : Bool) (past : Past) where
   -- by the lines: behind one that is nothing to the tab
-  pub lines_on : (served : List Served) (p : Pass C) (j : ℕ) (l : Served) → LeavesAlone j l.line.request l.answer → IsTracked tells state offers s told past served p j → IsTracked tells state offers s told past (l ∷ served) p j
+  pub lines_on : (served : List Served) (p : Pass C) (j : ℕ) (l : Served) → LeavesAlone j l.asked.request l.answer → IsTracked tells state offers s told past served p j → IsTracked tells state offers s told past (l ∷ served) p j
   lines_on served p j l alone (inl h) = inl (record { writes = writing_on j l served alone ∙ h.writes; reads = reading_on j l served alone ∙ h.reads; free = h.free })
   lines_on served p j l alone (inr (inl h)) = inr (inl (record {
     reads = reading_on j l served alone ∙ h.reads;
@@ -145,7 +145,7 @@ module _ {C O : Type 0} (tells : Bool) (state : C → CellState) (offers : O →
   far j lt e = absurd (omega arith)
 
   -- a line on a tab of the script
-  pub tracks_on_tab : (served : List Served) (p q : Pass C) (t : ℕ) (l : Served) → t < whole_tab → Leaves tells state offers s t p q → ((j : ℕ) → j ≢ t → LeavesAlone j l.line.request l.answer)
+  pub tracks_on_tab : (served : List Served) (p q : Pass C) (t : ℕ) (l : Served) → t < whole_tab → Leaves tells state offers s t p q → ((j : ℕ) → j ≢ t → LeavesAlone j l.asked.request l.answer)
       → IsTracked tells state offers s told past (l ∷ served) q t → Tracks tells state offers s told past served p → Tracks tells state offers s told past (l ∷ served) q
   tracks_on_tab served p q t l lt leaves alone own h = record {
     ready = record { own = leaves.own; inner_free = leaves.inner_free };
@@ -157,7 +157,7 @@ module _ {C O : Type 0} (tells : Bool) (state : C → CellState) (offers : O →
   }
 
   -- a whole request
-  pub tracks_whole : (served : List Served) (p q : Pass C) (l : Served) → Leaves tells state offers s whole_tab p q → IsFree q whole_tab → ((j : ℕ) → LeavesAlone j l.line.request l.answer)
+  pub tracks_whole : (served : List Served) (p q : Pass C) (l : Served) → Leaves tells state offers s whole_tab p q → IsFree q whole_tab → ((j : ℕ) → LeavesAlone j l.asked.request l.answer)
       → Tracks tells state offers s told past served p → Tracks tells state offers s told past (l ∷ served) q
   tracks_whole served p q l leaves free alone h = record {
     ready = record { own = leaves.own; inner_free = leaves.inner_free };
@@ -167,6 +167,6 @@ module _ {C O : Type 0} (tells : Bool) (state : C → CellState) (offers : O →
   }
 
   -- a line that was turned away
-  pub tracks_still : (served : List Served) (p q : Pass C) (l : Served) → q ≡ p → ((j : ℕ) → LeavesAlone j l.line.request l.answer) → Tracks tells state offers s told past served p → Tracks tells state offers s told past (l ∷ served) q
+  pub tracks_still : (served : List Served) (p q : Pass C) (l : Served) → q ≡ p → ((j : ℕ) → LeavesAlone j l.asked.request l.answer) → Tracks tells state offers s told past served p → Tracks tells state offers s told past (l ∷ served) q
   tracks_still served p q l same alone h = subst (Tracks tells state offers s told past (l ∷ served)) (sym same)
       (record { ready = h.ready; whole = h.whole; beyond = λ j from. writing_on j l served (alone j) ∙ h.beyond j from; each = λ j below. lines_on served p j l (alone j) (h.each j below) })

@@ -23,14 +23,14 @@ use Rattle.crew_accounts.proofs.Halting.{SeenHalted}
 -- the entry of a writing, with the line that began it
 pub record IsBegunBy (g : Ground (List ℕ)) (e : Entry) (first : Served) : Type 0 where
   pub url : List ℕ
-  pub named : url_in first.line.request ≡ Some url
-  pub offer : e.offer ≡ g.setting.slots + first.line.number
+  pub named : url_in first.asked.request ≡ Some url
+  pub offer : e.offer ≡ g.setting.slots + first.asked.number
   pub url_is : url_of g e.offer ≡ url
   pub anchor : e.anchor ≡ anchor_for g url
   pub drew : first.drew ≡ Some e.version
 
 module _ (g : Ground (List ℕ)) (e : Entry) (first : Served) (h : IsBegunBy g e first) where
-  pub anchor_is : IsAnchorOf g.setting.anchors (url_in first.line.request) e.anchor
+  pub anchor_is : IsAnchorOf g.setting.anchors (url_in first.asked.request) e.anchor
   anchor_is = record { url = h.url; named_is = h.named; anchor = h.anchor }
 
   module _ (earlier : List Served) (l : Served) (begun : begun_by earlier l ≡ Some first) where

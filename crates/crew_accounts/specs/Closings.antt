@@ -20,7 +20,7 @@ use Rattle.worker_shelf.specs.Shelves.{OnShelf}
 use Rattle.crew_accounts.specs.Courses.{in_order}
 use Rattle.worker_shelf.specs.Playing.{answer_to_await}
 
--- the course of a worker: the view with which it began, the lines that it served, the newest first, and the view at the end
+-- the course of a worker: the view with which it began, the lines that it served, and the view at the end
 pub record Played (X : Type 0) : Type 0 where
   pub start : View X
   pub stages : List (Stage X)
@@ -43,7 +43,8 @@ module _ {C O St : Type 0} (r : Run (List ℕ)) (script : List Line) where
     pub is : IsCourseOf r (worker_of c) c.start c.stages
     pub last : is.last ≡ view a.last.pass
     pub lines : in_order c.stages ≡ map (λ x. (x.line, x.answer)) a.stages
-    pub awaits : (k place mark : ℕ) (line : Line) (answer : Answer) → get_elem? (lines_of (w + 1) script) k ≡ some (place, line) → get_elem? (in_order c.stages) k ≡ some (line, answer)
+    pub awaits : (k place mark : ℕ) (line : Line) (answer : Answer) → get_elem? (lines_of (w + 1) script) k ≡ some (place, line)
+        → get_elem? (in_order c.stages) k ≡ some (line, answer)
         → line.request ≡ Await mark → answer ≡ answer_to_await (take place script) mark
 
   -- Each account has its course. The accounts are closed, the lines are those of the script, and where a line met a mark that a line of the
@@ -51,8 +52,10 @@ module _ {C O St : Type 0} (r : Run (List ℕ)) (script : List Line) where
   pub record HasClosing (accounts : List (Account (OnShelf C O St))) : Type 0 where
     pub courses : List (Played (List ℕ))
     pub count : length courses ≡ length accounts
-    pub each : (w : ℕ) (a : Account (OnShelf C O St)) (c : Played (List ℕ)) → get_elem? accounts w ≡ some a → get_elem? courses w ≡ some c → IsCourseFor w a c
+    pub each : (w : ℕ) (a : Account (OnShelf C O St)) (c : Played (List ℕ)) → get_elem? accounts w ≡ some a → get_elem? courses w ≡ some c
+        → IsCourseFor w a c
     pub closed : Closed r (crew_of courses)
     pub serves : ServesScript script (crew_of courses)
-    pub meets : (c d : Played (List ℕ)) (m n : Stage (List ℕ)) (mark : ℕ) → Contains courses c → Contains courses d → Contains c.stages m → Contains d.stages n
-        → m.served.line.request ≡ Mark mark → n.served.line.request ≡ Await mark → n.served.answer ≡ Met → HandsOver m n
+    pub meets : (c d : Played (List ℕ)) (m n : Stage (List ℕ)) (mark : ℕ) → Contains courses c → Contains courses d → Contains c.stages m
+        → Contains d.stages n
+        → m.served.asked.request ≡ Mark mark → n.served.asked.request ≡ Await mark → n.served.answer ≡ Met → HandsOver m n

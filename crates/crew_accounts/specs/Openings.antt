@@ -19,8 +19,9 @@ use Rattle.store_rule.specs.Passes.{basis}
 use Rattle.store_rule.specs.Rebuilding.{IsRebuildOf}
 use Rattle.crew_accounts.specs.Runs.{IsTold, Past, run_of}
 
--- A rebuild of a file with these images and so many anchors keeps an entry at the anchor a, and the anchor had it at the opening: it was closed
--- with the version of the entry, and not doomed; beside it stood the first slot as its offer, and the halves of the key; and it had the slots.
+-- A rebuild of a file with these images and so many anchors keeps an entry at the anchor a, and the anchor had it at the opening: it was
+-- closed with the version of the entry, and not doomed; beside it stood the first slot as its offer, and the halves of the key; and it had
+-- the slots.
 pub record HadKept (g : Ground (List ℕ)) (slot anchors : ℕ) (images : List (List ℕ)) (a : ℕ) : Type 0 where
   pub entry : Entry
   pub winner : IsWinner slot images anchors a entry
@@ -37,23 +38,25 @@ pub record HadNone (g : Ground (List ℕ)) (slot anchors : ℕ) (images : List (
   pub epoch : opening_epoch g.setting a ≡ 0
   pub chain : g.chain a ≡ []
 
--- Each anchor had at the opening what a rebuild of the file keeps there, or nothing, and the counter was at the greatest version of a sane slot.
--- The file is what the cells hold; where they do not tell that, it is some file of as many slots.
-pub record OpenedAsKept {C : Type 0} (tells : Bool) (state : C → CellState) (g : Ground (List ℕ)) (slot anchors : ℕ) (cells : List C) : Type 0 where
+-- Each anchor had at the opening what a rebuild of the file keeps there, or nothing, and the counter was at the greatest version of a sane
+-- slot. The file is what the cells hold; where they do not tell that, it is some file of as many slots.
+pub record OpenedAsKept {C : Type 0} (tells : Bool) (state : C → CellState) (g : Ground (List ℕ)) (slot anchors : ℕ) (cells : List C)
+    : Type 0 where
   pub rebuilt : Rebuilt
   pub kept : IsRebuildOf tells state slot anchors cells rebuilt
   pub each : (a : ℕ) → a < anchors → HadKept g slot anchors kept.images a ⊎ HadNone g slot anchors kept.images a
   pub counter : opening_counter g.setting ≡ rebuilt.greatest
 
--- What a run says of the entry that the anchor a had at the opening is so of a file with these images: it stores the body of the offer beside the
--- anchor under the URL of this offer, and the halves of this URL's key stood beside the anchor.
+-- What a run says of the entry that the anchor a had at the opening is so of a file with these images: it stores the body of the offer
+-- beside the anchor under the URL of this offer, and the halves of this URL's key stood beside the anchor.
 pub record IsOldEntry (r : Run (List ℕ)) (slot : ℕ) (images : List (List ℕ)) (a : ℕ) : Type 0 where
   pub stored : IsStored slot images (r.url (old_offer r a)) (r.body (old_offer r a))
   pub keyed : IsOldUrl r a (r.url (old_offer r a))
 
--- There is a past for which the run of the store is as the laws on lines ask. Where the cells tell what they hold, it has the URL and the body
--- of each entry that a rebuild of them keeps, by its first slot; and what the run says of an entry that an anchor had is so of them.
-pub record HasPast {C O : Type 0} (tells : Bool) (state : C → CellState) (offers : O → Offers) (slot anchors : ℕ) (cells : List C) (s : Store C O) : Type 0 where
+-- There is a past for which the run of the store is as the laws on lines ask. Where the cells tell what they hold, it has the URL and the
+-- body of each entry that a rebuild of them keeps, by its first slot; and what the run says of an entry that an anchor had is so of them.
+pub record HasPast {C O : Type 0} (tells : Bool) (state : C → CellState) (offers : O → Offers) (slot anchors : ℕ) (cells : List C)
+    (s : Store C O) : Type 0 where
   pub past : Past
   pub told : IsTold (basis tells state offers s) tells past tells
   pub winners : IsTrue tells → (a : ℕ) (e : Entry) → IsWinner slot (map (λ c. (state c).now) cells) anchors a e

@@ -11,7 +11,8 @@ use Rattle.worker_pool.specs.Running.{Account}
 use Rattle.worker_shelf.specs.Playing.{IsPlayed, TellsAtMarks}
 use Rattle.worker_shelf.specs.Shelves.{OnShelf}
 
-module _ {C O St : Type 0} (tells : Bool) (state : C → CellState) (offers : O → Offers) (faults : St → ℕ) (s : Store C O) (script : List Line) where
+module _ {C O St : Type 0} (tells : Bool) (state : C → CellState) (offers : O → Offers) (faults : St → ℕ) (s : Store C O)
+    (script : List Line) where
   -- Workers did so, one for each pass of the store, and told one another at marks what they knew. The store was closed with their passes.
   pub record HasRun (accounts : List (Account (OnShelf C O St))) (cells : List C) : Type 0 where
     pub count : length accounts ≡ (basis tells state offers s).setting.passes

@@ -16,8 +16,8 @@ pub record Past : Type 0 where
   pub body : ℕ → List ℕ
 
 module _ (g : Ground (List ℕ)) (told : Bool) (past : Past) where
-  -- The run of a store with this ground: where `told` is false nothing is said of bytes. An offer from the slots on is the origin's. Nothing
-  -- is said of runs that fit.
+  -- The run of a store with this ground: where `told` is false nothing is said of bytes. An offer from the slots on is the origin's.
+  -- Nothing is said of runs that fit.
   abbrev pub run_of : Run (List ℕ)
   run_of = record {
     setting = g.setting;
@@ -28,15 +28,18 @@ module _ (g : Ground (List ℕ)) (told : Bool) (past : Past) where
     body = λ offer. cond (nat_lt offer g.setting.slots) (past.body offer) (g.offers.body (offer - g.setting.slots));
   }
 
-  -- Where something is said of bytes, the cells tell what they hold, and the opening's entries were those of the file. Where an anchor had an
-  -- offer below the slots then, this has the URL and the body of the entry that the anchor had, and the halves of the key of this URL stood
-  -- beside the anchor. The size of a slot has 32 bits.
+  -- Where something is said of bytes, the cells tell what they hold, and the opening's entries were those of the file. Where an anchor had
+  -- an offer below the slots then, this has the URL and the body of the entry that the anchor had, and the halves of the key of this URL
+  -- stood beside the anchor. The size of a slot has 32 bits.
   pub record IsTold (tells : Bool) : Type 0 where
     pub cells : IsTrue told → IsTrue tells
     pub file : IsTrue told → HoldsFile g
-    pub old : IsTrue told → (a offer : ℕ) (url body : List ℕ) → a < g.setting.anchors → offer < g.setting.slots → word_in g.setting g.setting.words (Beside Offer a) ≡ offer
+    pub old : IsTrue told → (a offer : ℕ) (url body : List ℕ) → a < g.setting.anchors → offer < g.setting.slots
+        → word_in g.setting g.setting.words (Beside Offer a) ≡ offer
         → IsOpened g a offer url body → (past.url offer ≡ url) × (past.body offer ≡ body)
-    pub keyed : IsTrue told → (a offer : ℕ) (url body : List ℕ) → a < g.setting.anchors → offer < g.setting.slots → word_in g.setting g.setting.words (Beside Offer a) ≡ offer
+    pub keyed : IsTrue told → (a offer : ℕ) (url body : List ℕ) → a < g.setting.anchors → offer < g.setting.slots
+        → word_in g.setting g.setting.words (Beside Offer a) ≡ offer
         → IsOpened g a offer url body
-        → (word_in g.setting g.setting.words (Beside Key0 a) ≡ front_half (key_of url)) × (word_in g.setting g.setting.words (Beside Key1 a) ≡ back_half (key_of url))
+        → (word_in g.setting g.setting.words (Beside Key0 a) ≡ front_half (key_of url))
+        × (word_in g.setting g.setting.words (Beside Key1 a) ≡ back_half (key_of url))
     pub small : g.slot < 4294967296

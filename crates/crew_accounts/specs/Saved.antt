@@ -25,7 +25,8 @@ abbrev pub IsSave : Request → Type 0
 IsSave (Save url body) = Unit {0}
 IsSave _ = ⊥
 
-module _ {C O St : Type 0} (g : Ground (List ℕ)) (script : List Line) (accounts : List (Account (OnShelf C O St))) (a version offer : ℕ) where
+module _ {C O St : Type 0} (g : Ground (List ℕ)) (script : List Line) (accounts : List (Account (OnShelf C O St)))
+    (a version offer : ℕ) where
   -- a worker served the line, and was answered STORED with the version
   pub record WasStored (line : Line) : Type 0 where
     pub w : ℕ
@@ -36,7 +37,8 @@ module _ {C O St : Type 0} (g : Ground (List ℕ)) (script : List Line) (account
     pub line_is : stage.line ≡ line
     pub answered : stage.answer ≡ answer.Stored version
 
-  -- The offer is that of a line of the script, which offers it under a URL of the anchor. If it is a `save`, it was answered STORED with the version.
+  -- The offer is that of a line of the script, which offers it under a URL of the anchor. If it is a `save`, it was answered STORED with
+  -- the version.
   pub record IsOfLine : Type 0 where
     pub line : Line
     pub among : Contains script line

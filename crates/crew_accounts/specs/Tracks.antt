@@ -41,7 +41,8 @@ pub record HasEnded {C : Type 0} (p : Pass C) (t : ℕ) (e : Standing) : Type 0 
 abbrev pub StaysSmall : {X : Type 0} → Ground X → Entry → Type 0
 StaysSmall g e = 0 < g.setting.slots → size_of g e ≤ min 4096 g.setting.slots * room_of g.slot
 
-module _ {C O : Type 0} (tells : Bool) (state : C → CellState) (offers : O → Offers) (s : Store C O) (told : Bool) (past : Past) (served : List Served) (p : Pass C) where
+module _ {C O : Type 0} (tells : Bool) (state : C → CellState) (offers : O → Offers) (s : Store C O) (told : Bool) (past : Past)
+    (served : List Served) (p : Pass C) where
   module _ (t : ℕ) where
     -- by the lines the tab neither writes nor reads, and it is free
     pub record IsIdle : Type 0 where
@@ -49,17 +50,17 @@ module _ {C O : Type 0} (tells : Bool) (state : C → CellState) (offers : O →
       pub reads : reading t served ≡ None
       pub free : IsFree p t
 
-    -- By the lines it writes, and it does: the offer, the URL and the version are those of the line that began it, of the body were taken the
-    -- bytes that lines added, and the pass has seen what is published.
+    -- By the lines it writes, and it does: the offer, the URL and the version are those of the line that began it, of the body were taken
+    -- the bytes that lines added, and the pass has seen what is published.
     pub record IsWriter : Type 0 where
       pub reads : reading t served ≡ None
       pub first : Served
       pub writes : writing t served ≡ Some first
       pub url : List ℕ
-      pub named : url_in first.line.request ≡ Some url
+      pub named : url_in first.asked.request ≡ Some url
       pub entry : Entry
       pub is : WritesAs tells state offers s p t entry
-      pub offer : entry.offer ≡ (basis tells state offers s).setting.slots + first.line.number
+      pub offer : entry.offer ≡ (basis tells state offers s).setting.slots + first.asked.number
       pub url_is : url_of (basis tells state offers s) entry.offer ≡ url
       pub anchor : entry.anchor ≡ anchor_for (basis tells state offers s) url
       pub drew : first.drew ≡ Some entry.version
@@ -67,23 +68,25 @@ module _ {C O : Type 0} (tells : Bool) (state : C → CellState) (offers : O →
       pub shown : HasShown (basis tells state offers s) entry (view p).seen
       pub small : StaysSmall (basis tells state offers s) entry
 
-    -- By the lines it reads, and it does: the URL and the epoch are those of the line that opened it, and the bytes that lines gave are those of
-    -- the slots that it was given. Where it turned from its entry these are none, and the offer has another URL. The pass has seen how many slots
-    -- it was given. Behind END it has no slot at its place, behind OTHERURL it has turned, and behind HALTED the pass has seen the version
-    -- at HALTED.
+    -- By the lines it reads, and it does: the URL and the epoch are those of the line that opened it, and the bytes that lines gave are
+    -- those of the slots that it was given. Where it turned from its entry these are none, and the offer has another URL. The pass has seen
+    -- how many slots it was given. Behind END it has no slot at its place, behind OTHERURL it has turned, and behind HALTED the pass has
+    -- seen the version at HALTED.
     pub record IsReader : Type 0 where
       pub writes : writing t served ≡ None
       pub first : Served
       pub reads : reading t served ≡ Some first
       pub standing : Standing
       pub is : ReadsAs tells state offers s p t standing
-      pub named : url_in first.line.request ≡ Some standing.url
+      pub named : url_in first.asked.request ≡ Some standing.url
       pub anchor : standing.anchor ≡ anchor_for (basis tells state offers s) standing.url
       pub version : version_of first.opened ≡ standing.version
       pub entry : IsEntryAt (run_of (basis tells state offers s) told past) (view p) standing.anchor first.opened standing.url
       pub offer : entry.offer ≡ standing.offer
-      pub new : opening_counter (basis tells state offers s).setting < standing.version → (basis tells state offers s).setting.slots ≤ standing.offer
-      pub given : IsTrue told → standing.is_other ≡ false → bytes_given t served ≡ body_below (basis tells state offers s) standing.anchor standing.offer standing.place
+      pub new : opening_counter (basis tells state offers s).setting < standing.version
+          → (basis tells state offers s).setting.slots ≤ standing.offer
+      pub given : IsTrue told → standing.is_other ≡ false
+          → bytes_given t served ≡ body_below (basis tells state offers s) standing.anchor standing.offer standing.place
       pub none : IsTrue told → standing.is_other ≡ true → bytes_given t served ≡ []
       pub other : IsTrue told → standing.is_other ≡ true → IsOtherUrl (run_of (basis tells state offers s) told past) standing
       pub shown : 0 < standing.place → Contains (view p).seen (Published standing.anchor standing.version standing.place)

@@ -25,28 +25,32 @@ use store_rule::Origin;
 
 /// A new pass tracks that no line was served.
 pub fn new_passes_track<C: Cell, O: Origin>()
-    ensures { (s : Store C O) (told : Bool) (past : Past) (p : Pass C) → IsNewOf C.tells C.state O.offers s p → Tracks C.tells C.state O.offers s told past [] p }
+    ensures { (s : Store C O) (told : Bool) (past : Past) (p : Pass C) → IsNewOf C.tells C.state O.offers s p
+        → Tracks C.tells C.state O.offers s told past [] p }
 {}
 
 /// Each line that is served adds to the account of its worker what it should. Its answer fits its types, and where bytes
 /// are told of, this is as `IsTold` says.
 pub fn lines_add<C: Cell, O: Origin>()
-    ensures { (s : Store C O) (told : Bool) (past : Past) (served : List Served) (line : Line) (p q : Pass C) (a : Answer) (before after : ℕ)
+    ensures { (s : Store C O) (told : Bool) (past : Past) (served : List Served) (line : Line) (p q : Pass C) (a : Answer)
+        (before after : ℕ)
         → (IsTrue told → IsTold (basis C.tells C.state O.offers s) told past C.tells)
-        → Tracks C.tells C.state O.offers s told past served p → Takes C.tells C.state O.offers s p line → Serves C.tells C.state O.offers s line p a q before after
+        → Tracks C.tells C.state O.offers s told past served p → Takes C.tells C.state O.offers s p line
+        → Serves C.tells C.state O.offers s line p a q before after
         → IsTyped a → AddsLine C.tells C.state O.offers s told past served line p a q }
 {
     bodies_are_given_from_the_front();
 }
 
 /// A line at a mark adds to the account of its worker what it should: one that sets a mark (`set`), for which the pass
-/// noted what it has seen; one that meets it (`met`), by which the pass learned what a note tells, and noted what it has seen then; and one that does not
-/// (`unmet`).
+/// noted what it has seen; one that meets it (`met`), by which the pass learned what a note tells, and noted what it has seen then; and one
+/// that does not (`unmet`).
 pub fn marks_add<C: Cell, O: Origin>()
     ensures set { (s : Store C O) (told : Bool) (past : Past) (served : List Served) (worker number mark : ℕ) (p q : Pass C)
         → Tracks C.tells C.state O.offers s told past served p → Keeps C.tells C.state O.offers s p q → view q ≡ noting (view p)
         → AddsLine C.tells C.state O.offers s told past served (line_with worker number (Request.Mark mark)) p Answer.Marked q }
-    ensures met { (s : Store C O) (told : Bool) (past : Past) (served : List Served) (worker number mark : ℕ) (p m q : Pass C) (sights : List Sight)
+    ensures met { (s : Store C O) (told : Bool) (past : Past) (served : List Served) (worker number mark : ℕ) (p m q : Pass C)
+        (sights : List Sight)
         → Tracks C.tells C.state O.offers s told past served p → Keeps C.tells C.state O.offers s p m → view m ≡ learning (view p) sights
         → Keeps C.tells C.state O.offers s m q → view q ≡ noting (view m)
         → AddsLine C.tells C.state O.offers s told past served (line_with worker number (Request.Await mark)) p Answer.Met q }

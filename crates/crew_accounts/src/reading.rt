@@ -19,33 +19,41 @@ use store_rule::Origin;
 
 /// A line that purges the entry of a URL, whose answer fits its types, adds to the account of its worker what it should.
 pub fn purges_add<C: Cell, O: Origin>()
-    ensures { (s : Store C O) (told : Bool) (past : Past) (served : List Served) (worker number : ℕ) (url : List ℕ) (p q : Pass C) (a : Answer) (before after : ℕ)
-        → Tracks C.tells C.state O.offers s told past served p → Takes C.tells C.state O.offers s p (line_with worker number (Request.Purge url))
+    ensures { (s : Store C O) (told : Bool) (past : Past) (served : List Served) (worker number : ℕ) (url : List ℕ) (p q : Pass C)
+        (a : Answer) (before after : ℕ)
+        → Tracks C.tells C.state O.offers s told past served p
+        → Takes C.tells C.state O.offers s p (line_with worker number (Request.Purge url))
         → Serves C.tells C.state O.offers s (line_with worker number (Request.Purge url)) p a q before after → IsTyped a
         → AddsLine C.tells C.state O.offers s told past served (line_with worker number (Request.Purge url)) p a q }
 {}
 
 /// So does one that opens an entry on a tab.
 pub fn opens_add<C: Cell, O: Origin>()
-    ensures { (s : Store C O) (told : Bool) (past : Past) (served : List Served) (worker number t : ℕ) (url : List ℕ) (p q : Pass C) (a : Answer) (before after : ℕ)
-        → Tracks C.tells C.state O.offers s told past served p → Takes C.tells C.state O.offers s p (line_with worker number (Request.OpenTab t url))
+    ensures { (s : Store C O) (told : Bool) (past : Past) (served : List Served) (worker number t : ℕ) (url : List ℕ) (p q : Pass C)
+        (a : Answer) (before after : ℕ)
+        → Tracks C.tells C.state O.offers s told past served p
+        → Takes C.tells C.state O.offers s p (line_with worker number (Request.OpenTab t url))
         → Serves C.tells C.state O.offers s (line_with worker number (Request.OpenTab t url)) p a q before after → IsTyped a
         → AddsLine C.tells C.state O.offers s told past served (line_with worker number (Request.OpenTab t url)) p a q }
 {}
 
 /// And one that closes it.
 pub fn closes_add<C: Cell, O: Origin>()
-    ensures { (s : Store C O) (told : Bool) (past : Past) (served : List Served) (worker number t : ℕ) (p q : Pass C) (a : Answer) (before after : ℕ)
-        → Tracks C.tells C.state O.offers s told past served p → Takes C.tells C.state O.offers s p (line_with worker number (Request.CloseTab t))
+    ensures { (s : Store C O) (told : Bool) (past : Past) (served : List Served) (worker number t : ℕ) (p q : Pass C) (a : Answer)
+        (before after : ℕ)
+        → Tracks C.tells C.state O.offers s told past served p
+        → Takes C.tells C.state O.offers s p (line_with worker number (Request.CloseTab t))
         → Serves C.tells C.state O.offers s (line_with worker number (Request.CloseTab t)) p a q before after
         → AddsLine C.tells C.state O.offers s told past served (line_with worker number (Request.CloseTab t)) p a q }
 {}
 
 /// So does one that reads on, where bytes are told of only as `IsTold` says.
 pub fn mores_add<C: Cell, O: Origin>()
-    ensures { (s : Store C O) (told : Bool) (past : Past) (served : List Served) (worker number t : ℕ) (p q : Pass C) (a : Answer) (before after : ℕ)
+    ensures { (s : Store C O) (told : Bool) (past : Past) (served : List Served) (worker number t : ℕ) (p q : Pass C) (a : Answer)
+        (before after : ℕ)
         → (IsTrue told → IsTold (basis C.tells C.state O.offers s) told past C.tells)
-        → Tracks C.tells C.state O.offers s told past served p → Takes C.tells C.state O.offers s p (line_with worker number (Request.More t))
+        → Tracks C.tells C.state O.offers s told past served p
+        → Takes C.tells C.state O.offers s p (line_with worker number (Request.More t))
         → Serves C.tells C.state O.offers s (line_with worker number (Request.More t)) p a q before after
         → AddsLine C.tells C.state O.offers s told past served (line_with worker number (Request.More t)) p a q }
 {
@@ -54,9 +62,11 @@ pub fn mores_add<C: Cell, O: Origin>()
 
 /// And one that gets the entry of a URL.
 pub fn gets_add<C: Cell, O: Origin>()
-    ensures { (s : Store C O) (told : Bool) (past : Past) (served : List Served) (worker number : ℕ) (url : List ℕ) (p q : Pass C) (a : Answer) (before after : ℕ)
+    ensures { (s : Store C O) (told : Bool) (past : Past) (served : List Served) (worker number : ℕ) (url : List ℕ) (p q : Pass C)
+        (a : Answer) (before after : ℕ)
         → (IsTrue told → IsTold (basis C.tells C.state O.offers s) told past C.tells)
-        → Tracks C.tells C.state O.offers s told past served p → Takes C.tells C.state O.offers s p (line_with worker number (Request.Get url))
+        → Tracks C.tells C.state O.offers s told past served p
+        → Takes C.tells C.state O.offers s p (line_with worker number (Request.Get url))
         → Serves C.tells C.state O.offers s (line_with worker number (Request.Get url)) p a q before after → IsTyped a
         → AddsLine C.tells C.state O.offers s told past served (line_with worker number (Request.Get url)) p a q }
 {

@@ -34,11 +34,14 @@ use swap_meta::written_meta_is_spelled;
 /// line was served it knows still: over its other lines, the marks that it set or met, and the tabs that it left. What a
 /// `save` line offers is the offer of its number (`offered`).
 pub fn saved_entries_stay_known<C: Cell, O: Origin, St: Station<C = C>>()
-    ensures known { (s : Store C O) (script : List Line) (w : ℕ) (a : Account (OnShelf C O St)) (x : Stage (OnShelf C O St)) (url : List ℕ) (body : Body) (version : ℕ)
+    ensures known { (s : Store C O) (script : List Line) (w : ℕ) (a : Account (OnShelf C O St)) (x : Stage (OnShelf C O St)) (url : List ℕ)
+        (body : Body) (version : ℕ)
         → IsPlayed C.tells C.state O.offers St.faults s script w a → Contains a.stages x
         → x.line.request ≡ Request.Save url body → x.answer ≡ Answer.Stored version
-        → LoggedWhole (basis C.tells C.state O.offers s) (saved_as (basis C.tells C.state O.offers s) x.line.number url version) (view a.end.pass) }
-    ensures offered { (s : Store C O) (script : List Line) (w : ℕ) (a : Account (OnShelf C O St)) (x : Stage (OnShelf C O St)) (url : List ℕ) (body : Body)
+        → LoggedWhole (basis C.tells C.state O.offers s) (saved_as (basis C.tells C.state O.offers s) x.line.number url version)
+        (view a.end.pass) }
+    ensures offered { (s : Store C O) (script : List Line) (w : ℕ) (a : Account (OnShelf C O St)) (x : Stage (OnShelf C O St))
+        (url : List ℕ) (body : Body)
         → IsPlayed C.tells C.state O.offers St.faults s script w a → Contains a.stages x → x.line.request ≡ Request.Save url body
         → IsOffered C.tells C.state O.offers s (offer_of C.tells C.state O.offers s x.line.number) url body }
 {}

@@ -34,7 +34,8 @@ CreateEnds slot slots before after DeviceFault = IsGeometry slot slots × HasFai
 CreateEnds slot slots before after (BadScript line cause) = ⊥
 CreateEnds slot slots before after Missing = IsGeometry slot slots
 CreateEnds slot slots before after (Small bytes) = IsGeometry slot slots × (bytes < HEADER_BYTES + slot)
-CreateEnds slot slots before after (BadGeometry field) = ((field ≡ 1) × ¬ IsSlotSize slot) ⊎ ((field ≡ 4) × IsSlotSize slot × ¬ IsSlotCount slots)
+CreateEnds slot slots before after (BadGeometry field) = ((field ≡ 1) × ¬ IsSlotSize slot)
+    ⊎ ((field ≡ 4) × IsSlotSize slot × ¬ IsSlotCount slots)
 CreateEnds slot slots before after Exists = IsGeometry slot slots
 
 -- When each status comes, by the files. A file that was made is there, and long enough: so two refusals of opening do not come.
@@ -47,8 +48,11 @@ CreateSays files name status = Unit {0}
 
 -- where the slot size, the number of slots or the map refuses the command, it is refused so, in this order
 pub record IsCreateRefused (tells : Bool) (files : Files) (name : List ℕ) (slot slots : ℕ) (status : Status) : Type 0 where
+  -- Slots may not have the size that was given.
   pub size : ¬ IsSlotSize slot → status ≡ BadGeometry 1
+  -- A file may not have as many slots.
   pub count : IsSlotSize slot → ¬ IsSlotCount slots → status ≡ BadGeometry 4
+  -- A file has the name.
   pub exists : IsTrue tells → IsGeometry slot slots → IsThere files name → status ≡ Exists
 
 -- the bytes of a new file: its header area records its slots, and these are zeros
@@ -61,7 +65,8 @@ IsMade slot slots name before after = after ≡ insert before name (cut slot (ma
 
 -- a file of zeros was put in, of the same length, and a crash leaves these alone. It may be cut into its slots
 abbrev pub IsBlank : (slot slots : ℕ) → List ℕ → Files → Files → Type 0
-IsBlank slot slots name before after = IsCreated before after name (file_size slots slot) ⊎ (after ≡ insert before name (cut slot (zeros (file_size slots slot))))
+IsBlank slot slots name before after = IsCreated before after name (file_size slots slot)
+    ⊎ (after ≡ insert before name (cut slot (zeros (file_size slots slot))))
 
 -- A file of so many slots was put in, each of zeros. Its header area is zeros or records them, and a crash leaves one of these two.
 pub record IsHalfMade (slot slots : ℕ) (name : List ℕ) (before after : Files) : Type 0 where
@@ -69,9 +74,9 @@ pub record IsHalfMade (slot slots : ℕ) (name : List ℕ) (before after : Files
   pub either : HoldsEither (zeros HEADER_BYTES) (header_of (geometry_of slot slots)) header
   pub is : after ≡ insert before name (with_header slot (zeros (file_size slots slot)) header)
 
--- What each status leaves: at `Done` one file more, whose header area records its slots; at want of memory the files as they were, or one more, of
--- zeros; at a fault of the disk nothing but this file is another. Of a file that was gone or shorter when it was opened nothing is said. At each
--- other status all is as it was.
+-- What each status leaves: at `Done` one file more, whose header area records its slots; at want of memory the files as they were, or one
+-- more, of zeros; at a fault of the disk nothing but this file is another. Of a file that was gone or shorter when it was opened nothing is
+-- said. At each other status all is as it was.
 abbrev pub CreateLeaves : Bool → (slot slots : ℕ) → List ℕ → Files → Files → Status → Type 0
 CreateLeaves tells slot slots name before after Done = IsTrue tells → IsMade slot slots name before after
 CreateLeaves tells slot slots name before after DeviceFault = IsTrue tells → IsMaybeCreated before after name
@@ -80,12 +85,17 @@ CreateLeaves tells slot slots name before after Missing = Unit {0}
 CreateLeaves tells slot slots name before after (Small bytes) = Unit {0}
 CreateLeaves tells slot slots name before after status = after ≡ before
 
--- how many stations were made: at `Done` the one of the header area, which met no fault, and at each other status but a fault of the disk none
+-- how many stations were made: at `Done` the one of the header area, which met no fault, and at each other status but a fault of the disk
+-- none
 pub record CreateStations (before after : Counts) (status : Status) : Type 0 where
+  -- the one of the header area
   pub done : status ≡ Done → OneStation 0 before after
+  -- no station
   pub none : status ≢ Done → status ≢ DeviceFault → NoStation before after
 
 -- neither the numbers nor the map refuse the command
 pub record MayCreate (files : Files) (name : List ℕ) (slot slots : ℕ) : Type 0 where
+  -- a file may have as many slots of this size
   pub geometry : IsGeometry slot slots
+  -- no file has the name
   pub free : ¬ IsThere files name

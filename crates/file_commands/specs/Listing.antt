@@ -12,7 +12,8 @@ images_of slot bytes = map (λ c. c.now) (slots_cut slot bytes)
 
 -- a line: first slot, version, slots, length of the body, and URL
 abbrev pub numbers : (first version slots length : ℕ) → List ℕ
-numbers first version slots length = codes "ENTRY " ++ decimal first ++ codes " " ++ decimal version ++ codes " " ++ decimal slots ++ codes " " ++ decimal length ++ codes " "
+numbers first version slots length = codes "ENTRY " ++ decimal first ++ codes " " ++ decimal version ++ codes " " ++ decimal slots
+    ++ codes " " ++ decimal length ++ codes " "
 
 abbrev pub line : (first version slots length : ℕ) (url : List ℕ) → List ℕ
 line first version slots length url = numbers first version slots length ++ url ++ codes "\n"
@@ -30,8 +31,13 @@ HasShortUrl f = length f.url ≤ 2048
 
 -- the text has the lines of exactly the complete entries of these slots, in order of their first slots
 pub record Lists (slot : ℕ) (images : List (List ℕ)) (text : List ℕ) : Type 0 where
+  -- these entries
   pub entries : List Entry
+  -- are complete
   pub complete : (e : Entry) → Contains entries e → IsComplete slot images e
+  -- and are all that are
   pub every : (e : Entry) → IsComplete slot images e → Contains entries e
+  -- in this order
   pub ordered : IsStrictlyIncreasing (map (λ e. e.first) entries)
+  -- with a line each
   pub joined : text ≡ flat_map line_of entries

@@ -38,8 +38,8 @@ pub record IsMigrated (slot : ℕ) (name : List ℕ) (before after : Files) : Ty
   pub unmarked : IsUnmarkedFile before name
   pub recorded : IsRecorded (geometry_of slot slots) name before after
 
--- The file was not marked, and its header area may have been written: it holds what it held, or the record, and a crash leaves one of the two. The
--- slots are as opening cuts them, and a crash leaves what they hold.
+-- The file was not marked, and its header area may have been written: it holds what it held, or the record, and a crash leaves one of the
+-- two. The slots are as opening cuts them, and a crash leaves what they hold.
 pub record MayBeMigrated (slot : ℕ) (name : List ℕ) (before after : Files) : Type 0 where
   pub slots : ℕ
   pub has : HasSlots before name slot slots
@@ -53,6 +53,7 @@ pub record MigrateLeaves (slot : ℕ) (name : List ℕ) (before after : Files) (
   -- the file is as it was, or as opening cuts it, or its header area may have been written
   pub file : IsKept slot name before after ⊎ MayBeMigrated slot name before after
   -- at `Done`, and where the line alone was not printed, the header area records the slots: it did so before, or it was written
-  pub done : (status ≡ Done) ⊎ (status ≡ SinkFault) → (RecordsItself slot before name × (after ≡ before)) ⊎ IsMigrated slot name before after
+  pub done : (status ≡ Done) ⊎ (status ≡ SinkFault)
+      → (RecordsItself slot before name × (after ≡ before)) ⊎ IsMigrated slot name before after
   -- where it was not begun, the file is as it was, or as opening cuts it
   pub refused : status ≢ Done → status ≢ SinkFault → status ≢ DeviceFault → IsKept slot name before after

@@ -37,8 +37,8 @@ pub record HoldsEither (old new : List ℕ) (header : CellState) : Type 0 where
 abbrev pub with_header : (slot : ℕ) → List ℕ → CellState → File
 with_header slot bytes header = Home header (slots_cut slot bytes) (rest_cut slot bytes)
 
--- The header area of the file of this name may have been written: it holds what it held, or the record, and a crash leaves one of the two. The
--- slots are as opening cuts them.
+-- The header area of the file of this name may have been written: it holds what it held, or the record, and a crash leaves one of the two.
+-- The slots are as opening cuts them.
 pub record MayBeRecorded (geometry : Geometry) (name : List ℕ) (before after : Files) : Type 0 where
   pub was : File
   pub there : get before name ≡ Some was

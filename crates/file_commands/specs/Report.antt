@@ -100,7 +100,8 @@ ReportEnds Fits given s s' before after DeviceFault = IsGiven given × HasFailed
 ReportEnds Fits given s s' before after (BadScript line cause) = ⊥
 ReportEnds Fits given s s' before after Missing = IsGiven given
 ReportEnds Fits given s s' before after (Small bytes) = IsGiven given
-ReportEnds Fits given s s' before after (BadGeometry field) = ((field ≡ 1) × ¬ IsGiven given) ⊎ (IsGiven given × (IsUnknown given field ⊎ ((field ≡ 2) × ((slots : ℕ) × ¬ Fits slots))))
+ReportEnds Fits given s s' before after (BadGeometry field) = ((field ≡ 1) × ¬ IsGiven given)
+    ⊎ (IsGiven given × (IsUnknown given field ⊎ ((field ≡ 2) × ((slots : ℕ) × ¬ Fits slots))))
 ReportEnds Fits given s s' before after Exists = ⊥
 
 -- when each status comes, by the files, of which one has a slot size by itself and by what was given, or has none
@@ -112,16 +113,25 @@ ReportSays Fits files name given Done = WithSlot files name given (IsFit Fits fi
 ReportSays Fits files name given SinkFault = WithSlot files name given (IsFit Fits files name)
 ReportSays Fits files name given status = Unit {0}
 
--- Where what was given, the map, the length, the header area or the number of slots refuses the command, it is refused so. The look at the header
--- area and the opening may meet a fault or want of memory before what they are to find.
+-- Where what was given, the map, the length, the header area or the number of slots refuses the command, it is refused so. The look at the
+-- header area and the opening may meet a fault or want of memory before what they are to find.
 pub record IsRefused (tells : Bool) (Fits : ℕ → Type 0) (files : Files) (name : List ℕ) (given : Option ℕ) (status : Status) : Type 0 where
+  -- A slot size was given that slots may not have.
   pub geometry : ¬ IsGiven given → status ≡ BadGeometry 1
+  -- There is no file of the name.
   pub missing : IsTrue tells → IsGiven given → get files name ≡ None → status ≡ Missing
+  -- The file is shorter than its header area.
   pub small : (bytes : ℕ) → IsTrue tells → IsGiven given → IsSmall files name 0 bytes → status ≡ Small bytes
+  -- The header area records what the file is not.
   pub wrong : IsTrue tells → IsGiven given → RecordsMisfit files name → OrFailed (BadGeometry 6) status
+  -- It records another slot size than the one that was given.
   pub differs : IsTrue tells → IsGiven given → RecordsOther files name given → OrFailed (BadGeometry 5) status
+  -- It records nothing, and no slot size was given.
   pub unknown : IsTrue tells → TellsNoSlot files name given → OrFailed (BadGeometry 7) status
-  pub short : (bytes : ℕ) → IsTrue tells → IsGiven given → WithSlot files name given (λ slot. IsSmall files name slot bytes) → OrFailed (Small bytes) status
+  -- The file is too short for one slot.
+  pub short : (bytes : ℕ) → IsTrue tells → IsGiven given → WithSlot files name given (λ slot. IsSmall files name slot bytes)
+      → OrFailed (Small bytes) status
+  -- The command does not fit its number of slots.
   pub unfit : IsTrue tells → IsGiven given → WithSlot files name given (IsUnfit Fits files name) → OrFailed (BadGeometry 2) status
 
 -- how printing ends, by the sink's count
@@ -139,12 +149,16 @@ ReportPrints IsText before after status = after ≡ before
 
 -- neither what was given nor the map nor the length nor the header area nor the number of slots refuses the command
 pub record MayReport (Fits : ℕ → Type 0) (files : Files) (name : List ℕ) (given : Option ℕ) : Type 0 where
+  -- the slot size is one that slots may have, where one was given
   pub sized : IsGiven given
+  -- the command fits the slots of the file
   pub fit : WithSlot files name given (IsFit Fits files name)
 
 -- no fault comes: the sink's count of faults did not rise, and neither the volume failed nor its station
 pub record NoFault (sink sink_after : ℕ) (before after : Counts) : Type 0 where
+  -- none of the sink
   pub sink_none : ¬ Rose sink sink_after
+  -- none of the volume or its station
   pub device_none : ¬ HasFailed before after
 
 -- how a command ends that nothing refuses and no fault meets
@@ -153,9 +167,15 @@ ReportsOrLacksMemory status = (status ≡ Done) ⊎ (status ≡ Memory)
 
 -- All that is said of a report of the file of this name for what was given: how it ended, what it printed, and what it left of the files.
 pub record IsReport (tells sink_tells : Bool) (Fits : ℕ → Type 0) (Shows : ℕ → List (List ℕ) → List ℕ → Type 0) (files files_after : Files)
-    (name : List ℕ) (given : Option ℕ) (sink sink_after : ℕ) (before after : Counts) (taken taken_after : List ℕ) (status : Status) : Type 0 where
+    (name : List ℕ) (given : Option ℕ) (sink sink_after : ℕ) (before after : Counts) (taken taken_after : List ℕ)
+    (status : Status) : Type 0 where
+  -- How it ended, by the counts.
   pub ends : ReportEnds Fits given sink sink_after before after status
+  -- What its status says of the file.
   pub says : IsTrue tells → ReportSays Fits files name given status
+  -- What refuses it.
   pub refused : IsRefused tells Fits files name given status
+  -- What it printed.
   pub prints : IsTrue sink_tells → ReportPrints (λ text. IsTrue tells → OfFileFor Shows files name given text) taken taken_after status
+  -- What it left of the files.
   pub kept : IsTrue tells → IsKeptFor name given files files_after

@@ -19,7 +19,8 @@ abbrev pub line_of_tally : Tally → List ℕ
 line_of_tally tally = summary tally.slots tally.kept tally.used (tally.slots - tally.used) tally.greatest
 
 abbrev pub line_of_rebuilt : Rebuilt → List ℕ
-line_of_rebuilt rebuilt = summary (length rebuilt.owner) (length rebuilt.winners) (used_in rebuilt.owner) (length rebuilt.owner - used_in rebuilt.owner) rebuilt.greatest
+line_of_rebuilt rebuilt = summary (length rebuilt.owner) (length rebuilt.winners) (used_in rebuilt.owner)
+    (length rebuilt.owner - used_in rebuilt.owner) rebuilt.greatest
 
 -- the text sums up what a store with this number of anchors keeps of these slots
 pub record Sums (anchors slot : ℕ) (images : List (List ℕ)) (text : List ℕ) : Type 0 where

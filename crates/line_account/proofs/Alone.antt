@@ -44,29 +44,29 @@ one_of b = cond b 1 0
 module _ {X : Type 0} (r : Run X) (w : Worker X) (c : Closed r (alone w)) where
   -- a line of the worker
   abbrev line_in : (later : List Served) (s : Served) (earlier : List Served) → w.served ≡ later ++ s ∷ earlier → (P : List Served → Served → Type 0) → P earlier s → LineIn (alone w) P
-  line_in later s earlier e P h = record { j = 0; worker = w; at = refl; line_of = record { later = later; line = s; earlier = earlier; split = e; so = h } }
+  line_in later s earlier e P h = record { j = 0; worker = w; at = refl; later = later; served = s; earlier = earlier; split = e; so = h }
 
   -- how many lines of two offer a body
   offered_one : (s : Served) → w.served ≡ s ∷ [] → offered (alone w) ≤ 1
   offered_one s e =
       let a = sum_by-cons offered_by w [] in
-      let b : offered_by w ≡ count_by (λ (z : Served). offers z.line.request) (s ∷ []) = ap (count_by (λ (z : Served). offers z.line.request)) e in
-      let d = sum_by-cons (λ (z : Served). one_of (offers z.line.request)) s [] in
-      let le = small (offers s.line.request) in
+      let b : offered_by w ≡ count_by (λ (z : Served). offers z.asked.request) (s ∷ []) = ap (count_by (λ (z : Served). offers z.asked.request)) e in
+      let d = sum_by-cons (λ (z : Served). one_of (offers z.asked.request)) s [] in
+      let le = small (offers s.asked.request) in
       omega arith
     where
       small : (b : Bool) → one_of b ≤ 1
       small true = omega arith
       small false = omega arith
 
-  offered_two : (s t : Served) → w.served ≡ s ∷ t ∷ [] → offers s.line.request ≡ false → offered (alone w) ≤ 1
+  offered_two : (s t : Served) → w.served ≡ s ∷ t ∷ [] → offers s.asked.request ≡ false → offered (alone w) ≤ 1
   offered_two s t e none =
       let a = sum_by-cons offered_by w [] in
-      let b : offered_by w ≡ count_by (λ (z : Served). offers z.line.request) (s ∷ t ∷ []) = ap (count_by (λ (z : Served). offers z.line.request)) e in
-      let d = sum_by-cons (λ (z : Served). one_of (offers z.line.request)) s (t ∷ []) in
-      let f = sum_by-cons (λ (z : Served). one_of (offers z.line.request)) t [] in
-      let le = small (offers t.line.request) in
-      let zero_ : one_of (offers s.line.request) ≡ 0 = ap one_of none in
+      let b : offered_by w ≡ count_by (λ (z : Served). offers z.asked.request) (s ∷ t ∷ []) = ap (count_by (λ (z : Served). offers z.asked.request)) e in
+      let d = sum_by-cons (λ (z : Served). one_of (offers z.asked.request)) s (t ∷ []) in
+      let f = sum_by-cons (λ (z : Served). one_of (offers z.asked.request)) t [] in
+      let le = small (offers t.asked.request) in
+      let zero_ : one_of (offers s.asked.request) ≡ 0 = ap one_of none in
       omega arith
     where
       small : (b : Bool) → one_of b ≤ 1
@@ -74,11 +74,11 @@ module _ {X : Type 0} (r : Run X) (w : Worker X) (c : Closed r (alone w)) where
       small false = omega arith
 
   -- a put that printed STORED began the version
-  stored_begins : (later : List Served) (s : Served) (earlier : List Served) (url : List ℕ) (body : Body) (x : ℕ) → w.served ≡ later ++ s ∷ earlier → s.line.request ≡ Put url body → s.answer ≡ answer.Stored x
+  stored_begins : (later : List Served) (s : Served) (earlier : List Served) (url : List ℕ) (body : Body) (x : ℕ) → w.served ≡ later ++ s ∷ earlier → s.asked.request ≡ Put url body → s.answer ≡ answer.Stored x
       → BeginsVersion r.setting.anchors s (anchor_of (key_of url) r.setting.anchors) x
   stored_begins later s earlier url body x e q a =
       let told = (c.accounts 0 w refl).lines later earlier s e in
-      let as_put : (y : ℕ) → x ≡ y → Began s.line.request s.answer y = λ y h. subst (λ (z : Request). Began z s.answer y) (sym q) (subst (λ (z : Answer). Began (Put url body) z y) (sym a) h) in
+      let as_put : (y : ℕ) → x ≡ y → Began s.asked.request s.answer y = λ y h. subst (λ (z : Request). Began z s.answer y) (sym q) (subst (λ (z : Answer). Began (Put url body) z y) (sym a) h) in
       let b = told.began x (as_put x refl) in
       let same : x ≡ b.version = subst (λ (z : Answer). Began (Put url body) z b.version) a (subst (λ (z : Request). Began z s.answer b.version) q b.began) in
       record {
@@ -90,7 +90,7 @@ module _ {X : Type 0} (r : Run X) (w : Worker X) (c : Closed r (alone w)) where
   abbrev Begun : ℕ → ℕ → List Served → Served → Type 0
   Begun a x earlier s = BeginsVersion r.setting.anchors s a x
 
-  pub lone_version : (s : Served) (url : List ℕ) (body : Body) (x : ℕ) → w.served ≡ s ∷ [] → s.line.request ≡ Put url body → s.answer ≡ answer.Stored x → x ≡ next_version r
+  pub lone_version : (s : Served) (url : List ℕ) (body : Body) (x : ℕ) → w.served ≡ s ∷ [] → s.asked.request ≡ Put url body → s.answer ≡ answer.Stored x → x ≡ next_version r
   lone_version s url body x e q a =
       let p : BegunIn r (alone w) (anchor_of (key_of url) r.setting.anchors) x = line_in [] s [] e (Begun (anchor_of (key_of url) r.setting.anchors) x) (stored_begins [] s [] url body x e q a) in
       let b = bounded r (alone w) c (anchor_of (key_of url) r.setting.anchors) x p in
@@ -111,8 +111,8 @@ module _ {X : Type 0} (r : Run X) (w : Worker X) (c : Closed r (alone w)) where
   put_body : (q : Request) (url url2 : List ℕ) (body body2 : Body) → q ≡ Put url body → Offers q url2 body2 → body2 ≡ body
   put_body q url url2 body body2 e h = sym (subst (λ (z : Request). Offers z url2 body2) e h).1
 
-  pub hit_is_stored : IsTrue r.tells → (start : View X) (p g : Stage X) (url bytes : List ℕ) (body : Body) (x y : ℕ) → IsCourseOf r w start (g ∷ p ∷ []) → p.served.line.request ≡ Put url body → p.served.answer ≡ answer.Stored x
-      → g.served.line.request ≡ Get url → g.served.answer ≡ answer.Hit y bytes → (x ≡ next_version r) × (y ≡ next_version r) × (bytes ≡ bytes_of body)
+  pub hit_is_stored : IsTrue r.tells → (start : View X) (p g : Stage X) (url bytes : List ℕ) (body : Body) (x y : ℕ) → IsCourseOf r w start (g ∷ p ∷ []) → p.served.asked.request ≡ Put url body → p.served.answer ≡ answer.Stored x
+      → g.served.asked.request ≡ Get url → g.served.answer ≡ answer.Hit y bytes → (x ≡ next_version r) × (y ≡ next_version r) × (bytes ≡ bytes_of body)
   hit_is_stored tells start p g url bytes body x y o pq pa gq ga =
       let a : ℕ = anchor_of (key_of url) r.setting.anchors in
       let e : w.served ≡ g.served ∷ p.served ∷ [] = sym o.lines in
@@ -132,22 +132,22 @@ module _ {X : Type 0} (r : Run X) (w : Worker X) (c : Closed r (alone w)) where
       let d = bounded r (alone w) c a y found.begun in
       let d1 = d.1 in
       let same : x ≡ y = omega arith in
-      let lines : found.begun.line_of.line ≡ p.served = same_line r (alone w) c (Begun a y) (Begun a x) found.begun put
-      (one_line r (alone w) c (Begun a y) (Begun a x) found.begun put y found.begun.line_of.so.drew (put.line_of.so.drew ∙ ap Some same)) in
-      (omega arith, omega arith, found.whole ∙ ap bytes_of (put_body found.begun.line_of.line.line.request url url body found.body (ap (λ (z : Served). z.line.request) lines ∙ pq) found.offers))
+      let lines : found.begun.served ≡ p.served = same_line r (alone w) c (Begun a y) (Begun a x) found.begun put
+      (one_line r (alone w) c (Begun a y) (Begun a x) found.begun put y found.begun.so.drew (put.so.drew ∙ ap Some same)) in
+      (omega arith, omega arith, found.whole ∙ ap bytes_of (put_body found.begun.served.asked.request url url body found.body (ap (λ (z : Served). z.asked.request) lines ∙ pq) found.offers))
     where
-      at_get : g.served.line.request ≡ Get url → url_at (lines_in (p ∷ [])) g.served.line.request ≡ Some url
+      at_get : g.served.asked.request ≡ Get url → url_at (lines_in (p ∷ [])) g.served.asked.request ≡ Some url
       at_get q = ap (url_at (lines_in (p ∷ []))) q
 
-      at_put : p.served.line.request ≡ Put url body → url_at [] p.served.line.request ≡ Some url
+      at_put : p.served.asked.request ≡ Put url body → url_at [] p.served.asked.request ≡ Some url
       at_put q = ap (url_at []) q
 
       counts_first : p.served.answer ≡ answer.Stored x → Contains (counts_as p.served.answer) (epoch_at x 3)
       counts_first h = subst (λ (z : Answer). Contains (counts_as z) (epoch_at x 3)) (sym h) (0, omega arith, refl)
 
   -- no line gave a writing up, and no tab writes
-  halts_not : (s : Served) (url : List ℕ) (a x : ℕ) → w.served ≡ s ∷ [] → s.line.request ≡ Get url → gives_up s.answer ≡ false → HaltedIn r (alone w) a x → ⊥
-  halts_not s url a x is q m (inl h) = by_place h.j h.worker h.at h.line_of
+  halts_not : (s : Served) (url : List ℕ) (a x : ℕ) → w.served ≡ s ∷ [] → s.asked.request ≡ Get url → gives_up s.answer ≡ false → HaltedIn r (alone w) a x → ⊥
+  halts_not s url a x is q m (inl h) = by_place h.j h.worker h.at (record { later = h.later; served = h.served; earlier = h.earlier; split = h.split; so = h.so })
     where
       in_one : (later earlier : List Served) (t : Served) → s ∷ [] ≡ later ++ t ∷ earlier → gives_up t.answer ≡ true → ⊥
       in_one [] earlier t k g = let same : s ≡ t = cc in let no : gives_up t.answer ≡ false = ap (λ (z : Served). gives_up z.answer) (sym same) ∙ m in let f : true ≡ false = sym g ∙ no in cc
@@ -155,7 +155,7 @@ module _ {X : Type 0} (r : Run X) (w : Worker X) (c : Closed r (alone w)) where
       in_one (y ∷ z ∷ later) earlier t k g = let f : [] ≡ z ∷ (later ++ t ∷ earlier) = cc in cc
 
       by_place : (j : ℕ) (u : Worker X) → get_elem? (alone w) j ≡ some u → LineOf u.served (λ earlier t. Halts r.setting.anchors earlier t a x) → ⊥
-      by_place zero u k l = let same : w ≡ u = some-injective w u k in in_one l.later l.earlier l.line (sym is ∙ ap Worker.served same ∙ l.split) l.so.gave_up
+      by_place zero u k l = let same : w ≡ u = some-injective w u k in in_one l.later l.earlier l.served (sym is ∙ ap Worker.served same ∙ l.split) l.so.gave_up
       by_place (suc j) u k l = absurd (some-ne-none u (sym k))
   halts_not s url a x is q m (inr h) = by_place h.j h.worker h.at h.writing.tab h.writing.writes.first h.writing.writes.begun_is
     where
@@ -166,7 +166,7 @@ module _ {X : Type 0} (r : Run X) (w : Worker X) (c : Closed r (alone w)) where
       by_place zero u k t b l = let same : w ≡ u = some-injective w u k in let f : None ≡ Some b = sym (none t) ∙ ap (writing t) (sym is ∙ ap Worker.served same) ∙ l in cc
       by_place (suc j) u k t b l = absurd (some-ne-none u (sym k))
 
-  pub none_halted : (s : Served) (url : List ℕ) (e : Epoch) → w.served ≡ s ∷ [] → s.line.request ≡ Get url → s.answer ≡ answer.Miss (Leaving e) → stage_of (epoch_number e) ≡ 4 → ⊥
+  pub none_halted : (s : Served) (url : List ℕ) (e : Epoch) → w.served ≡ s ∷ [] → s.asked.request ≡ Get url → s.answer ≡ answer.Miss (Leaving e) → stage_of (epoch_number e) ≡ 4 → ⊥
   none_halted s url e is q m four =
       let a : ℕ = anchor_of (key_of url) r.setting.anchors in
       let shown : ShownIn r (alone w) a (epoch_number e) = line_in [] s [] is (λ earlier t. Shows r.setting.anchors earlier t a (epoch_number e)) (record {
@@ -179,7 +179,7 @@ module _ {X : Type 0} (r : Run X) (w : Worker X) (c : Closed r (alone w)) where
   not_false true h = refl
   not_false false h = absurd (h refl)
 
-  pub none_gone : IsTrue r.fits → (s : Served) (url : List ℕ) (e : Epoch) → w.served ≡ s ∷ [] → s.line.request ≡ Get url → s.answer ≡ answer.Miss (Absent e) → stage_of (epoch_number e) ≡ 6 → e.doom ≡ true
+  pub none_gone : IsTrue r.fits → (s : Served) (url : List ℕ) (e : Epoch) → w.served ≡ s ∷ [] → s.asked.request ≡ Get url → s.answer ≡ answer.Miss (Absent e) → stage_of (epoch_number e) ≡ 6 → e.doom ≡ true
   none_gone fit s url e is q m six =
       let a : ℕ = anchor_of (key_of url) r.setting.anchors in
       let shown : ShownIn r (alone w) a (epoch_number e) = line_in [] s [] is (λ earlier t. Shows r.setting.anchors earlier t a (epoch_number e)) (record {
@@ -191,8 +191,8 @@ module _ {X : Type 0} (r : Run X) (w : Worker X) (c : Closed r (alone w)) where
 
   -- Behind a put that was given up.
 
-  pub given_up_not_hit : IsTrue r.tells → (p g : Served) (url bytes : List ℕ) (body : Body) (y : ℕ) → w.served ≡ g ∷ p ∷ [] → p.line.request ≡ Put url body → gives_up p.answer ≡ true
-      → g.line.request ≡ Get url → g.answer ≡ answer.Hit y bytes → y ≤ opening_counter r.setting
+  pub given_up_not_hit : IsTrue r.tells → (p g : Served) (url bytes : List ℕ) (body : Body) (y : ℕ) → w.served ≡ g ∷ p ∷ [] → p.asked.request ≡ Put url body → gives_up p.answer ≡ true
+      → g.asked.request ≡ Get url → g.answer ≡ answer.Hit y bytes → y ≤ opening_counter r.setting
   given_up_not_hit tells p g url bytes body y e pq pa gq ga = dite (ℕ_discrete (y - opening_counter r.setting) 0)
       (λ z. omega arith)
       (λ z. absurd (none (hit_body_printed r (alone w) c tells a y url bytes
@@ -207,24 +207,24 @@ module _ {X : Type 0} (r : Run X) (w : Worker X) (c : Closed r (alone w)) where
       in_two (u ∷ v ∷ []) earlier t k = let f : [] ≡ t ∷ earlier = cc in cc
       in_two (u ∷ v ∷ z ∷ later) earlier t k = let f : [] ≡ z ∷ (later ++ t ∷ earlier) = cc in cc
 
-      not_told : (t : Served) → (g ≡ t) ⊎ (p ≡ t) → TellsBegun t.line.request t.answer y → ⊥
-      not_told t (inl same) h = subst (λ (q : Request). TellsBegun q t.answer y) (ap (λ (z : Served). z.line.request) (sym same) ∙ gq) h
+      not_told : (t : Served) → (g ≡ t) ⊎ (p ≡ t) → TellsBegun t.asked.request t.answer y → ⊥
+      not_told t (inl same) h = subst (λ (q : Request). TellsBegun q t.answer y) (ap (λ (z : Served). z.asked.request) (sym same) ∙ gq) h
       not_told t (inr same) h = ⊎_elim (λ (q : p.answer ≡ answer.Stored y). not_given (ap gives_up q)) (λ (q : p.answer ≡ answer.Doomed y). not_given (ap gives_up q))
-          (told_at_once (Put url body) p.answer y tt (subst (λ (q : Request). TellsBegun q p.answer y) pq (subst (λ (z : Served). TellsBegun z.line.request z.answer y) (sym same) h)))
+          (told_at_once (Put url body) p.answer y tt (subst (λ (q : Request). TellsBegun q p.answer y) pq (subst (λ (z : Served). TellsBegun z.asked.request z.answer y) (sym same) h)))
         where
           not_given : gives_up p.answer ≡ false → ⊥
           not_given q = let f : true ≡ false = sym pa ∙ q in cc
 
       by_place : (j : ℕ) (u : Worker X) → get_elem? (alone w) j ≡ some u → LineOf u.served (λ earlier t. PrintsBegunVersion r.setting.anchors t a y) → ⊥
-      by_place zero u k l = let same : w ≡ u = some-injective w u k in not_told l.line (in_two l.later l.earlier l.line (sym e ∙ ap Worker.served same ∙ l.split)) l.so.told
+      by_place zero u k l = let same : w ≡ u = some-injective w u k in not_told l.served (in_two l.later l.earlier l.served (sym e ∙ ap Worker.served same ∙ l.split)) l.so.told
       by_place (suc j) u k l = absurd (some-ne-none u (sym k))
 
       none : IsBodyAsPrinted r (alone w) a y url bytes → ⊥
-      none b = by_place b.begun.j b.begun.worker b.begun.at b.begun.line_of
+      none b = by_place b.begun.j b.begun.worker b.begun.at (record { later = b.begun.later; served = b.begun.served; earlier = b.begun.earlier; split = b.begun.split; so = b.begun.so })
 
 module _ {X : Type 0} (r : Run X) (w : Worker X) where
-  pub no_hit : (start : View X) (p g : Stage X) (url bytes : List ℕ) (e : Epoch) (y : ℕ) → IsCourseOf r w start (g ∷ p ∷ []) → p.served.line.request ≡ Purge url → p.served.answer ≡ answer.Purged e
-      → g.served.line.request ≡ Get url → g.served.answer ≡ answer.Hit y bytes → version_of (epoch_number e) ≡ y → ⊥
+  pub no_hit : (start : View X) (p g : Stage X) (url bytes : List ℕ) (e : Epoch) (y : ℕ) → IsCourseOf r w start (g ∷ p ∷ []) → p.served.asked.request ≡ Purge url → p.served.answer ≡ answer.Purged e
+      → g.served.asked.request ≡ Get url → g.served.answer ≡ answer.Hit y bytes → version_of (epoch_number e) ≡ y → ⊥
   no_hit start p g url bytes e y o pq pa gq ga same =
       let a : ℕ = anchor_of (key_of url) r.setting.anchors in
       let order : NotBelow (epoch_number e) g.served.answer = not_below_earlier r start (g ∷ p ∷ []) o.last g p (p ∷ []) [] a (epoch_number e) o.course
@@ -238,7 +238,7 @@ module _ {X : Type 0} (r : Run X) (w : Worker X) where
 
 module _ {X : Type 0} (r : Run X) where
   pub no_old_miss : (start end other last : View X) (p m n g : Stage X) (url : List ℕ) (body : Body) (x : ℕ) (cause : Cause) → Course r start (g ∷ n ∷ []) end → Course r other (m ∷ p ∷ []) last
-      → p.served.line.request ≡ Put url body → p.served.answer ≡ answer.Stored x → HandsOver m n → g.served.line.request ≡ Get url → g.served.answer ≡ answer.Miss cause
+      → p.served.asked.request ≡ Put url body → p.served.answer ≡ answer.Stored x → HandsOver m n → g.served.asked.request ≡ Get url → g.served.answer ≡ answer.Miss cause
       → epoch_at x 3 ≤ epoch_number (epoch_in cause)
   no_old_miss start end other last p m n g url body x cause c o pq pa hands gq ga =
       let a : ℕ = anchor_of (key_of url) r.setting.anchors in

@@ -40,7 +40,7 @@ module _ {X : Type 0} (r : Run X) (v w : View X) (h : KnowsAll v w) where
   }
 
   line_later : (d : Deed) (served : List Served) (at_end : Bool) → HasLine r v d served at_end → HasLine r w d served at_end
-  line_later d served at_end (inl l) = inl record { later = l.later; line = l.line; earlier = l.earlier; split = l.split; so = deed_later d l.earlier l.line l.so }
+  line_later d served at_end (inl l) = inl record { later = l.later; served = l.served; earlier = l.earlier; split = l.split; so = deed_later d l.earlier l.served l.so }
   line_later d served at_end (inr l) = inr l
 
   item_later : (kind : Kind) (n : ℕ) → HasItem v kind n → HasItem w kind n
@@ -205,7 +205,7 @@ module _ {X : Type 0} (r : Run X) where
   }
 
   one_more : (v : View X) (d : Deed) (served : List Served) (s : Served) → HasLine r v d served false → HasLine r v d (s ∷ served) false
-  one_more v d served s (inl l) = inl record { later = s ∷ l.later; line = l.line; earlier = l.earlier; split = ap (λ (z : List Served). s ∷ z) l.split; so = l.so }
+  one_more v d served s (inl l) = inl record { later = s ∷ l.later; served = l.served; earlier = l.earlier; split = ap (λ (z : List Served). s ∷ z) l.split; so = l.so }
   one_more v d served s (inr l) = absurd (let q : false ≡ true = l.0 in cc)
 
   pub lines_more : (w : View X) (served : List Served) (s : Served) → Tells r w served s → ((later earlier : List Served) (x : Served) → served ≡ later ++ x ∷ earlier → Tells r w earlier x)
@@ -223,7 +223,7 @@ module _ {X : Type 0} (r : Run X) where
     draws = let c = count_line drew_some s served in n.draws ∙ ap (λ m. one_if (drew_some s) + m) a.draws ∙ sym c;
     deeds = λ d h. ⊎_elim
         (λ (q : Contains v.deeds d). let o = a.deeds d q in (o.0 ∙ sym n.keeps.pass, one_more w d served s (line_later r v w n.keeps d served false o.1)))
-        (λ (q : (d.pass ≡ v.pass) × IsDeedOf r w d served s). (q.0 ∙ sym n.keeps.pass, inl record { later = []; line = s; earlier = served; split = refl; so = q.1 }))
+        (λ (q : (d.pass ≡ v.pass) × IsDeedOf r w d served s). (q.0 ∙ sym n.keeps.pass, inl record { later = []; served = s; earlier = served; split = refl; so = q.1 }))
         (n.deeds d h);
     lines = lines_more w served s n.tells (λ later earlier x e. tells_later r v w n.keeps earlier x (a.lines later earlier x e));
     left = λ e. absurd (let q : false ≡ true = e in cc);

@@ -69,16 +69,16 @@ module _ {X : Type 0} (r : Run X) (crew : List (Worker X)) (have : HaveCourses r
       let d = stage_of others.stages m.worker.served m.setter marked others.is.lines m.sets in
       let before = (passed m.j m.worker m.at d.stage d.before d.stands).reached in
       let hands : HandsOver d.stage h.stage = have.meets m.j j m.worker w m.at at d.stage h.stage m.mark (is_in others.stages d.before d.stage d.stands) (reached.inside h.stage (is_in stages h.before h.stage h.stands))
-      (of_stage (λ past x. x.line.request ≡ Mark m.mark) others.stages m.setter marked d m.set)
-      (of_stage (λ past x. x.line.request ≡ Await m.mark) stages m.met m.between h m.asked)
+      (of_stage (λ past x. x.asked.request ≡ Mark m.mark) others.stages m.setter marked d m.set)
+      (of_stage (λ past x. x.asked.request ≡ Await m.mark) stages m.met m.between h m.asked)
       (of_stage (λ past x. x.answer ≡ Met) stages m.met m.between h m.meets) in
       let k = knew knows m.j m.worker m.at d.before d.stage.before before d.lines_are in
       record { j = k.j; worker = k.worker; at = k.at; stages = k.stages; has = k.has; course = k.course; adds = k.adds; known = λ x q. g.keeps x (hands.hands x (k.known x q)); kept = k.kept }
 
   -- A line that has this before it, as a stage of the course of its worker.
   module _ (P : List Served → Served → Type 0) (p : LineIn crew P) where
-    pub has_stage : HasStage (have.course p.j p.worker p.at).stages p.line_of.line p.line_of.earlier
-    has_stage = stage_of (have.course p.j p.worker p.at).stages p.worker.served p.line_of.line p.line_of.earlier (have.course p.j p.worker p.at).is.lines (record { later = p.line_of.later; split = p.line_of.split })
+    pub has_stage : HasStage (have.course p.j p.worker p.at).stages p.served p.earlier
+    has_stage = stage_of (have.course p.j p.worker p.at).stages p.worker.served p.served p.earlier (have.course p.j p.worker p.at).is.lines (record { later = p.later; split = p.split })
 
     along : Passed p.j p.worker p.at has_stage.stage has_stage.before
     along = passed p.j p.worker p.at has_stage.stage has_stage.before has_stage.stands
@@ -93,5 +93,5 @@ module _ {X : Type 0} (r : Run X) (crew : List (Worker X)) (have : HaveCourses r
     course = along.reached.course
 
     -- and what was known of the lines of which the worker knew before it
-    pub known_before : (s : Served) (earlier : List Served) → KnewOf crew p.line_of.earlier s earlier → IsKnown has_stage.stage.before s earlier
+    pub known_before : (s : Served) (earlier : List Served) → KnewOf crew p.earlier s earlier → IsKnown has_stage.stage.before s earlier
     known_before s earlier knows = knew knows p.j p.worker p.at has_stage.before has_stage.stage.before along.reached has_stage.lines_are

@@ -18,24 +18,24 @@ use Rattle.line_account.proofs.HitVersions.{both_none, finished_so, whole_begun,
 -- the line ends what the tab writes that this line began
 pub record EndsTab (tab : ℕ) (first : Served) (earlier : List Served) (s : Served) : Type 0 where
   pub writes : writing tab earlier ≡ Some first
-  pub ended : ends tab s.line.request s.answer ≡ true
+  pub ended : ends tab s.asked.request s.answer ≡ true
 
 -- A tab that a line began to write on still does so behind later lines, or one of these ended that.
-module _ (tab : ℕ) (t : Served) (earlier : List Served) (began : begins tab t.line.request t.answer ≡ true) where
+module _ (tab : ℕ) (t : Served) (earlier : List Served) (began : begins tab t.asked.request t.answer ≡ true) where
   abbrev Goes : List Served → Type 0
   Goes later = (writing tab (later ++ t ∷ earlier) ≡ Some t) ⊎ LineOf (later ++ t ∷ earlier) (EndsTab tab t)
 
-  one_more : (s : Served) (later : List Served) → (begins tab s.line.request s.answer ≡ true → writing tab (later ++ t ∷ earlier) ≡ None) → (b e : Bool) → begins tab s.line.request s.answer ≡ b → ends tab s.line.request s.answer ≡ e
+  one_more : (s : Served) (later : List Served) → (begins tab s.asked.request s.answer ≡ true → writing tab (later ++ t ∷ earlier) ≡ None) → (b e : Bool) → begins tab s.asked.request s.answer ≡ b → ends tab s.asked.request s.answer ≡ e
       → writing tab (later ++ t ∷ earlier) ≡ Some t → Goes (s ∷ later)
   one_more s later fits true e is_b is_e w = absurd (let z : None ≡ Some t = sym (fits is_b) ∙ w in cc)
-  one_more s later fits false true is_b is_e w = inr (record { later = []; line = s; earlier = later ++ t ∷ earlier; split = refl; so = record { writes = w; ended = is_e } })
+  one_more s later fits false true is_b is_e w = inr (record { later = []; served = s; earlier = later ++ t ∷ earlier; split = refl; so = record { writes = w; ended = is_e } })
   one_more s later fits false false is_b is_e w = inl ((λ i. cond (is_b i) (Some s) (cond (is_e i) None (writing tab (later ++ t ∷ earlier)))) ∙ w)
 
-  goes : (later : List Served) → ((front back : List Served) (s : Served) → later ≡ front ++ s ∷ back → begins tab s.line.request s.answer ≡ true → writing tab (back ++ t ∷ earlier) ≡ None) → Goes later
-  goes [] fits = inl (λ i. cond (began i) (Some t) (cond (ends tab t.line.request t.answer) None (writing tab earlier)))
+  goes : (later : List Served) → ((front back : List Served) (s : Served) → later ≡ front ++ s ∷ back → begins tab s.asked.request s.answer ≡ true → writing tab (back ++ t ∷ earlier) ≡ None) → Goes later
+  goes [] fits = inl (λ i. cond (began i) (Some t) (cond (ends tab t.asked.request t.answer) None (writing tab earlier)))
   goes (s ∷ later) fits = ⊎_elim
-      (λ (w : writing tab (later ++ t ∷ earlier) ≡ Some t). one_more s later (fits [] later s refl) (begins tab s.line.request s.answer) (ends tab s.line.request s.answer) refl refl w)
-      (λ (l : LineOf (later ++ t ∷ earlier) (EndsTab tab t)). inr (record { later = s ∷ l.later; line = l.line; earlier = l.earlier; split = ap (λ (z : List Served). s ∷ z) l.split; so = l.so }))
+      (λ (w : writing tab (later ++ t ∷ earlier) ≡ Some t). one_more s later (fits [] later s refl) (begins tab s.asked.request s.answer) (ends tab s.asked.request s.answer) refl refl w)
+      (λ (l : LineOf (later ++ t ∷ earlier) (EndsTab tab t)). inr (record { later = s ∷ l.later; served = l.served; earlier = l.earlier; split = ap (λ (z : List Served). s ∷ z) l.split; so = l.so }))
       (goes later (λ front back u is. fits (s ∷ front) back u (ap (λ (z : List Served). s ∷ z) is)))
 
 -- What begins and ends a writing on a tab.
@@ -92,20 +92,20 @@ module _ {X : Type 0} (r : Run X) (v : View X) (earlier : List Served) (s : Serv
       ap (λ (w : ℕ). writing w earlier) (sym (eqb-true u tab h.0)) ∙ fits.0
   free_of tab _ unfit e = absurd (let z : false ≡ true = e in cc)
 
-  free_before : (tab : ℕ) → begins tab s.line.request s.answer ≡ true → writing tab earlier ≡ None
-  free_before tab e = free_of tab s.line.request told.tab.1 e
+  free_before : (tab : ℕ) → begins tab s.asked.request s.answer ≡ true → writing tab earlier ≡ None
+  free_before tab e = free_of tab s.asked.request told.tab.1 e
 
 -- what began a version on a tab began to write there
 record BeginsOn (t : Served) : Type 0 where
   tab : ℕ
-  begins_there : begins tab t.line.request t.answer ≡ true
+  begins_there : begins tab t.asked.request t.answer ≡ true
 
 begins_on : (a : Answer) (x : ℕ) (tab : ℕ) → BeganOnTab a x → ((tab == tab) && is_begun a) ≡ true
 begins_on (answer.Begun version) x tab h = ap (λ (b : Bool). b && true) (eq-eqb tab tab refl)
 begins_on _ x tab h = absurd h
 
 -- it did so, or it printed that it ended it too
-begins_or_ended : (t : Served) (q : Request) (x : ℕ) → q ≡ t.line.request → TellsBegun q t.answer x → BeginsOn t ⊎ ((begun_of [] t q ≡ Some t) × TellsEnded t.answer x)
+begins_or_ended : (t : Served) (q : Request) (x : ℕ) → q ≡ t.asked.request → TellsBegun q t.answer x → BeginsOn t ⊎ ((begun_of [] t q ≡ Some t) × TellsEnded t.answer x)
 begins_or_ended t (Put url body) x is h = inr (refl, h)
 begins_or_ended t (Save url body) x is h = inr (refl, h)
 begins_or_ended t (Begin tab url body) x is h = inl (record { tab = tab; begins_there = subst (λ (q : Request). begins tab q t.answer ≡ true) is (begins_on t.answer x tab h) })
@@ -116,66 +116,70 @@ module _ {X : Type 0} (r : Run X) (crew : List (Worker X)) (c : Closed r crew) (
   b = whole_begun r crew c y a x p high
 
   abbrev t : Served
-  t = b.line_of.line
+  t = b.served
 
-  writes_first : (earlier : List Served) (s : Served) → begun_of earlier s s.line.request ≡ Some t → Writes r.setting.anchors earlier s a x
-  writes_first earlier s is = record { first = t; begun_is = is; drew = b.line_of.so.drew; anchor = b.line_of.so.anchor }
+  writes_first : (earlier : List Served) (s : Served) → begun_of earlier s s.asked.request ≡ Some t → Writes r.setting.anchors earlier s a x
+  writes_first earlier s is = record { first = t; begun_is = is; drew = b.so.drew; anchor = b.so.anchor }
 
   -- a line that finished the writing printed the version
-  finishes : (later earlier : List Served) (s : Served) → b.worker.served ≡ later ++ s ∷ earlier → begun_of earlier s s.line.request ≡ Some t → (z : ℕ) → (s.answer ≡ answer.Stored z) ⊎ (s.answer ≡ answer.Doomed z) → PrintsFinished s x
+  finishes : (later earlier : List Served) (s : Served) → b.worker.served ≡ later ++ s ∷ earlier → begun_of earlier s s.asked.request ≡ Some t → (z : ℕ) → (s.answer ≡ answer.Stored z) ⊎ (s.answer ≡ answer.Doomed z) → PrintsFinished s x
   finishes later earlier s split is z printed =
       let f = ((c.accounts b.j b.worker b.at).lines later earlier s split).finished z printed in
       let first : f.grows.writes.first ≡ t = one_some f.grows.writes.first t (sym f.grows.writes.begun_is ∙ is) in
-      let same : z ≡ x = some_number z x (sym f.grows.writes.drew ∙ ap Served.drew first ∙ b.line_of.so.drew) in
+      let same : z ≡ x = some_number z x (sym f.grows.writes.drew ∙ ap Served.drew first ∙ b.so.drew) in
       subst (λ (n : ℕ). PrintsFinished s n) same printed
 
   in_worker : (later earlier : List Served) (s : Served) → b.worker.served ≡ later ++ s ∷ earlier → Ends r.setting.anchors earlier s a x → FinishedIn r crew a x
-  in_worker later earlier s split so = record { j = b.j; worker = b.worker; at = b.at; line_of = record { later = later; line = s; earlier = earlier; split = split; so = so } }
+  in_worker later earlier s split so = record { j = b.j; worker = b.worker; at = b.at; later = later; served = s; earlier = earlier; split = split; so = so }
 
   module _ (on : BeginsOn t) where
-    later_fits : (front back : List Served) (s : Served) → b.line_of.later ≡ front ++ s ∷ back → begins on.tab s.line.request s.answer ≡ true → writing on.tab (back ++ t ∷ b.line_of.earlier) ≡ None
+    later_fits : (front back : List Served) (s : Served) → b.later ≡ front ++ s ∷ back → begins on.tab s.asked.request s.answer ≡ true → writing on.tab (back ++ t ∷ b.earlier) ≡ None
     later_fits front back s is begun =
-        let split = b.line_of.split ∙ ap (λ (z : List Served). z ++ t ∷ b.line_of.earlier) is ∙ append_assoc front (s ∷ back) (t ∷ b.line_of.earlier) in
-        free_before r b.worker.view (back ++ t ∷ b.line_of.earlier) s ((c.accounts b.j b.worker b.at).lines front (back ++ t ∷ b.line_of.earlier) s split) on.tab begun
+        let split = b.split ∙ ap (λ (z : List Served). z ++ t ∷ b.earlier) is ∙ append_assoc front (s ∷ back) (t ∷ b.earlier) in
+        free_before r b.worker.view (back ++ t ∷ b.earlier) s ((c.accounts b.j b.worker b.at).lines front (back ++ t ∷ b.earlier) s split) on.tab begun
 
-    by_end : (l : LineOf (b.line_of.later ++ t ∷ b.line_of.earlier) (EndsTab on.tab t)) → FinishedIn r crew a x
+    by_end : (l : LineOf (b.later ++ t ∷ b.earlier) (EndsTab on.tab t)) → FinishedIn r crew a x
     by_end l =
-        let split = b.line_of.split ∙ l.split in
-        let e = ends_so on.tab l.earlier l.line l.line.line.request l.so.ended in
-        let is : begun_of l.earlier l.line l.line.line.request ≡ Some t = e.on ∙ l.so.writes in
+        let split = b.split ∙ l.split in
+        let e = ends_so on.tab l.earlier l.served l.served.asked.request l.so.ended in
+        let is : begun_of l.earlier l.served l.served.asked.request ≡ Some t = e.on ∙ l.so.writes in
         ⊎_elim
-        (λ (up : gives_up l.line.answer ≡ true). absurd (whole_kept r crew c y a x p high (inl (record {
+        (λ (up : gives_up l.served.answer ≡ true). absurd (whole_kept r crew c y a x p high (inl (record {
           j = b.j;
           worker = b.worker;
           at = b.at;
-          line_of = record { later = l.later; line = l.line; earlier = l.earlier; split = split; so = record { writes = writes_first l.earlier l.line is; gave_up = up } };
+          later = l.later;
+          served = l.served;
+          earlier = l.earlier;
+          split = split;
+          so = record { writes = writes_first l.earlier l.served is; gave_up = up };
         }))))
-        (λ (done : is_finished l.line.answer ≡ true).
-        let f = finished_as l.line.answer done in
-        in_worker l.later l.earlier l.line split (record { writes = writes_first l.earlier l.line is; printed = finishes l.later l.earlier l.line split is f.0 f.1 }))
+        (λ (done : is_finished l.served.answer ≡ true).
+        let f = finished_as l.served.answer done in
+        in_worker l.later l.earlier l.served split (record { writes = writes_first l.earlier l.served is; printed = finishes l.later l.earlier l.served split is f.0 f.1 }))
         e.so
 
-    still : writing on.tab (b.line_of.later ++ t ∷ b.line_of.earlier) ≡ Some t → FinishedIn r crew a x
+    still : writing on.tab (b.later ++ t ∷ b.earlier) ≡ Some t → FinishedIn r crew a x
     still w = absurd (whole_kept r crew c y a x p high (inr (record {
       j = b.j;
       worker = b.worker;
       at = b.at;
       writing = record {
         tab = on.tab;
-        writes = record { first = t; begun_is = ap (writing on.tab) b.line_of.split ∙ w; drew = b.line_of.so.drew; anchor = b.line_of.so.anchor };
+        writes = record { first = t; begun_is = ap (writing on.tab) b.split ∙ w; drew = b.so.drew; anchor = b.so.anchor };
       };
     })))
 
     on_tab : FinishedIn r crew a x
-    on_tab = ⊎_elim still by_end (goes on.tab t b.line_of.earlier on.begins_there b.line_of.later later_fits)
+    on_tab = ⊎_elim still by_end (goes on.tab t b.earlier on.begins_there b.later later_fits)
 
   pub whole_finished : FinishedIn r crew a x
   whole_finished = ⊎_elim
       (λ (on : BeginsOn t). on_tab on)
-      (λ (at_once : (begun_of [] t t.line.request ≡ Some t) × TellsEnded t.answer x).
-      in_worker b.line_of.later b.line_of.earlier t b.line_of.split
-      (record { writes = writes_first b.line_of.earlier t (own b.line_of.earlier t.line.request at_once.0); printed = finished_so t.answer x at_once.1 }))
-      (begins_or_ended t t.line.request x refl (whole_printed r crew c y a x p b).told)
+      (λ (at_once : (begun_of [] t t.asked.request ≡ Some t) × TellsEnded t.answer x).
+      in_worker b.later b.earlier t b.split
+      (record { writes = writes_first b.earlier t (own b.earlier t.asked.request at_once.0); printed = finished_so t.answer x at_once.1 }))
+      (begins_or_ended t t.asked.request x refl (whole_printed r crew c y a x p b).told)
     where
       own : (earlier : List Served) (q : Request) → begun_of [] t q ≡ Some t → begun_of earlier t q ≡ Some t
       own earlier (Put url body) h = refl

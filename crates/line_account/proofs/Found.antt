@@ -65,7 +65,7 @@ module _ {X : Type 0} (r : Run X) (v : View X) (earlier : List Served) (s : Serv
     pub version_is : version_of epoch ≡ x
     pub keyed : IsKeyRead r v a epoch (key_of url)
 
-  of_opened : (x : ℕ) (url : List ℕ) → url_in s.line.request ≡ Some url → (o : HasOpened r v s) → version_of s.opened ≡ x → HasFound (anchor_of (key_of url) r.setting.anchors) x url
+  of_opened : (x : ℕ) (url : List ℕ) → url_in s.asked.request ≡ Some url → (o : HasOpened r v s) → version_of s.opened ≡ x → HasFound (anchor_of (key_of url) r.setting.anchors) x url
   of_opened x url named o same = subst (λ (u : List ℕ). HasFound (anchor_of (key_of u) r.setting.anchors) x u) (one_url o.url url (sym o.named ∙ named)) (record {
     epoch = s.opened;
     version_is = same;
@@ -81,19 +81,19 @@ module _ {X : Type 0} (r : Run X) (v : View X) (earlier : List Served) (s : Serv
     };
   })
 
-  of_purged : (epoch : Epoch) (x : ℕ) (url : List ℕ) → url_in s.line.request ≡ Some url → HasPurged r v s epoch → version_of (epoch_number epoch) ≡ x → HasFound (anchor_of (key_of url) r.setting.anchors) x url
+  of_purged : (epoch : Epoch) (x : ℕ) (url : List ℕ) → url_in s.asked.request ≡ Some url → HasPurged r v s epoch → version_of (epoch_number epoch) ≡ x → HasFound (anchor_of (key_of url) r.setting.anchors) x url
   of_purged epoch x url named h same = subst (λ (u : List ℕ). HasFound (anchor_of (key_of u) r.setting.anchors) x u) (one_url h.url url (sym h.named ∙ named))
       (record { epoch = s.opened; version_is = h.version_is ∙ same; keyed = h.keyed })
 
   opens : (a : Answer) (x : ℕ) → s.answer ≡ a → Opens a x → (o : HasOpened r v s) × (version_of s.opened ≡ x)
   opens (answer.Opened version) x is e =
-      let comes = subst (λ (z : Answer). ComesIn s.line.request z x) (sym is) (comes_opened s.line.request version x (subst (IsAnswerTo s.line.request) is told.answers) e) in
+      let comes = subst (λ (z : Answer). ComesIn s.asked.request z x) (sym is) (comes_opened s.asked.request version x (subst (IsAnswerTo s.asked.request) is told.answers) e) in
       let o = told.opened x comes in
-      (o, sym (told_opened s.line.request version (version_of s.opened) (subst (λ (z : Answer). ComesIn s.line.request z (version_of s.opened)) is o.told)) ∙ e)
+      (o, sym (told_opened s.asked.request version (version_of s.opened) (subst (λ (z : Answer). ComesIn s.asked.request z (version_of s.opened)) is o.told)) ∙ e)
   opens (answer.Hit version bytes) x is e =
-      let comes = subst (λ (z : Answer). ComesIn s.line.request z x) (sym is) (comes_hit s.line.request version bytes x (subst (IsAnswerTo s.line.request) is told.answers) e) in
+      let comes = subst (λ (z : Answer). ComesIn s.asked.request z x) (sym is) (comes_hit s.asked.request version bytes x (subst (IsAnswerTo s.asked.request) is told.answers) e) in
       let o = told.opened x comes in
-      (o, sym (told_hit s.line.request version bytes (version_of s.opened) (subst (λ (z : Answer). ComesIn s.line.request z (version_of s.opened)) is o.told)) ∙ e)
+      (o, sym (told_hit s.asked.request version bytes (version_of s.opened) (subst (λ (z : Answer). ComesIn s.asked.request z (version_of s.opened)) is o.told)) ∙ e)
   opens _ x is e = absurd e
 
   -- where the line found an entry
@@ -106,14 +106,14 @@ module _ {X : Type 0} (r : Run X) (v : View X) (earlier : List Served) (s : Serv
   pub opened_so : (x : ℕ) → FindsEntry s.answer x → (version_of s.opened ≡ x) × (is_readable s.opened ≡ true)
   opened_so x h = found_so s.answer x refl h
 
-  found_by : (a : Answer) (x : ℕ) (url : List ℕ) → s.answer ≡ a → url_in s.line.request ≡ Some url → TellsFound a x → HasFound (anchor_of (key_of url) r.setting.anchors) x url
+  found_by : (a : Answer) (x : ℕ) (url : List ℕ) → s.answer ≡ a → url_in s.asked.request ≡ Some url → TellsFound a x → HasFound (anchor_of (key_of url) r.setting.anchors) x url
   found_by (answer.Opened version) x url is named e = let o = opens (answer.Opened version) x is e in of_opened x url named o.0 o.1
   found_by (answer.Hit version bytes) x url is named e = let o = opens (answer.Hit version bytes) x is e in of_opened x url named o.0 o.1
   found_by (answer.Part epoch bytes) x url is named e =
-      let comes = subst (λ (z : Answer). ComesIn s.line.request z x) (sym is) (comes_part s.line.request epoch bytes x url (subst (IsAnswerTo s.line.request) is told.answers) named e) in
+      let comes = subst (λ (z : Answer). ComesIn s.asked.request z x) (sym is) (comes_part s.asked.request epoch bytes x url (subst (IsAnswerTo s.asked.request) is told.answers) named e) in
       let o = told.opened x comes in
       of_opened x url named o
-      (sym (told_part s.line.request epoch bytes (version_of s.opened) (subst (λ (z : Answer). ComesIn s.line.request z (version_of s.opened)) is o.told)) ∙ e)
+      (sym (told_part s.asked.request epoch bytes (version_of s.opened) (subst (λ (z : Answer). ComesIn s.asked.request z (version_of s.opened)) is o.told)) ∙ e)
   found_by (answer.Purged epoch) x url is named e = of_purged epoch x url named (told.purged epoch is) e
   found_by _ x url is named e = absurd e
 
@@ -121,8 +121,8 @@ module _ {X : Type 0} (r : Run X) (v : View X) (earlier : List Served) (s : Serv
   found a x url f = subst (λ (b : ℕ). HasFound b x url) (sym f.anchor) (found_by s.answer x url refl f.named f.found)
 
 module _ {X : Type 0} (r : Run X) (crew : List (Worker X)) (c : Closed r crew) (a x : ℕ) (url : List ℕ) (p : LineIn crew (λ earlier s. Finds r.setting.anchors s a x url)) where
-  has : HasFound r p.worker.view p.line_of.earlier p.line_of.line (tells_at r crew c (λ earlier s. Finds r.setting.anchors s a x url) p) a x url
-  has = found r p.worker.view p.line_of.earlier p.line_of.line (tells_at r crew c (λ earlier s. Finds r.setting.anchors s a x url) p) a x url p.line_of.so
+  has : HasFound r p.worker.view p.earlier p.served (tells_at r crew c (λ earlier s. Finds r.setting.anchors s a x url) p) a x url
+  has = found r p.worker.view p.earlier p.served (tells_at r crew c (λ earlier s. Finds r.setting.anchors s a x url) p) a x url p.so
 
   known : IsEpochAt r.setting c.state a has.epoch
   known = inr (c.index p.j, p.worker.view, c.at p.j p.worker p.at, has.keyed.seen)

@@ -66,12 +66,12 @@ module _ {X : Type 0} (r : Run X) (crew : List (Worker X)) (c : Closed r crew) w
       omega arith
 
   -- what the account of the worker says of a line
-  pub tells_at : (P : List Served → Served → Type 0) (p : LineIn crew P) → Tells r p.worker.view p.line_of.earlier p.line_of.line
-  tells_at P p = (c.accounts p.j p.worker p.at).lines p.line_of.later p.line_of.earlier p.line_of.line p.line_of.split
+  pub tells_at : (P : List Served → Served → Type 0) (p : LineIn crew P) → Tells r p.worker.view p.earlier p.served
+  tells_at P p = (c.accounts p.j p.worker p.at).lines p.later p.earlier p.served p.split
 
   -- what a line shows was seen
   pub shown_known : (a e : ℕ) → ShownIn r crew a e → IsEpochAt r.setting c.state a e
-  shown_known a e p = inr (c.index p.j, p.worker.view, c.at p.j p.worker p.at, (tells_at (λ earlier s. Shows r.setting.anchors earlier s a e) p).shown a e p.line_of.so)
+  shown_known a e p = inr (c.index p.j, p.worker.view, c.at p.j p.worker p.at, (tells_at (λ earlier s. Shows r.setting.anchors earlier s a e) p).shown a e p.so)
 
   pub inside : (a e : ℕ) → IsEpochAt r.setting c.state a e → a < r.setting.anchors
   inside a e (inl h) = h.0
@@ -99,7 +99,11 @@ module _ {X : Type 0} (r : Run X) (crew : List (Worker X)) (c : Closed r crew) w
     pub j : ℕ
     pub worker : Worker X
     pub at : get_elem? crew j ≡ some worker
-    pub line_of : LineOf worker.served (Q worker.view)
+    pub earlier : List Served
+    pub served : Served
+    pub later : List Served
+    pub split : worker.served ≡ later ++ served ∷ earlier
+    pub so : Q worker.view earlier served
 
   abbrev pub AtEnd : (List Served → Type 0) → Type 0
   AtEnd R = (j : ℕ) × (w : Worker X) × (get_elem? crew j ≡ some w) × R w.served
@@ -114,13 +118,11 @@ module _ {X : Type 0} (r : Run X) (crew : List (Worker X)) (c : Closed r crew) w
         j = d.j;
         worker = d.worker;
         at = d.at;
-        line_of = record {
-          later = l.later;
-          line = l.line;
-          earlier = l.earlier;
-          split = l.split;
-          so = of_line d.worker.view d.deed l.earlier l.line d.so d.own l.so;
-        };
+        later = l.later;
+        served = l.served;
+        earlier = l.earlier;
+        split = l.split;
+        so = of_line d.worker.view d.deed l.earlier l.served d.so d.own l.so;
       }))
       (λ (l : (true ≡ true) × IsDeedOfEnd r.setting d.deed d.worker.served). inr (d.j, d.worker, d.at, of_end d.deed d.worker.served d.so l.1))
       d.line
@@ -136,7 +138,7 @@ module _ {X : Type 0} (r : Run X) (crew : List (Worker X)) (c : Closed r crew) w
       → ((d : Deed) (served : List Served) → P d → IsDeedOfEnd r.setting d served → R served)
       → IsDone c.state P → LineIn crew Q ⊎ AtEnd R
   by_cause P Q R of_line of_end done = ⊎_elim
-      (λ (l : ByWorker (λ v. Q)). inl (record { j = l.j; worker = l.worker; at = l.at; line_of = l.line_of }))
+      (λ (l : ByWorker (λ v. Q)). inl (record { j = l.j; worker = l.worker; at = l.at; later = l.later; served = l.served; earlier = l.earlier; split = l.split; so = l.so }))
       (λ (l : AtEnd R). inr l)
       (by_view P (λ v. Q) R (λ v d earlier s p own o. of_line v d earlier s p o) of_end done)
 
@@ -155,21 +157,20 @@ module _ {X : Type 0} (r : Run X) (crew : List (Worker X)) (c : Closed r crew) w
   drew_one x s e = ap one_if (ap (is_drawn x) e ∙ eq-eqb x x refl)
 
   -- a worker that served a line which drew the version drew it
-  pub drawn_by_worker : (P : List Served → Served → Type 0) (p : LineIn crew P) (x : ℕ) → p.line_of.line.drew ≡ Some x → 1 ≤ drawn_by x p.worker.view
+  pub drawn_by_worker : (P : List Served → Served → Type 0) (p : LineIn crew P) (x : ℕ) → p.served.drew ≡ Some x → 1 ≤ drawn_by x p.worker.view
   drawn_by_worker P p x e =
-      let l = p.line_of in
-      let one = drew_one x l.line e in
-      let k = le_sum_at (λ (s : Served). one_if (drew_version x s)) p.worker.served (length l.later) l.line (seam_at p.worker.served l.later l.line l.earlier l.split) in
+      let one = drew_one x p.served e in
+      let k = le_sum_at (λ (s : Served). one_if (drew_version x s)) p.worker.served (length p.later) p.served (seam_at p.worker.served p.later p.served p.earlier p.split) in
       let a = (c.accounts p.j p.worker p.at).drawn x in
       omega arith
 
   drawn_sum : (x : ℕ) → sum_by (λ (w : Worker X). drawn_by x w.view) crew ≤ 1
   drawn_sum x = let h = counted_by_workers (drawn_by x) refl (λ u. refl) in let o = c.sound.anchors.drawn.once x in omega arith
 
-  pub drawn_some : (P : List Served → Served → Type 0) (p : LineIn crew P) (x : ℕ) → p.line_of.line.drew ≡ Some x → 0 < sum_by (drawn_by x) views
+  pub drawn_some : (P : List Served → Served → Type 0) (p : LineIn crew P) (x : ℕ) → p.served.drew ≡ Some x → 0 < sum_by (drawn_by x) views
   drawn_some P p x e = let d = drawn_by_worker P p x e in let l = le_sum_at (drawn_by x) views (c.index p.j) p.worker.view (c.at p.j p.worker p.at) in omega arith
 
-  same_worker : (P Q : List Served → Served → Type 0) (p : LineIn crew P) (q : LineIn crew Q) (x : ℕ) → p.line_of.line.drew ≡ Some x → q.line_of.line.drew ≡ Some x → p.j ≡ q.j
+  same_worker : (P Q : List Served → Served → Type 0) (p : LineIn crew P) (q : LineIn crew Q) (x : ℕ) → p.served.drew ≡ Some x → q.served.drew ≡ Some x → p.j ≡ q.j
   same_worker P Q p q x d e = dite (ℕ_discrete p.j q.j) (λ h. h) (λ ne. absurd
       (let f = drawn_by_worker P p x d in
       let g = drawn_by_worker Q q x e in
@@ -181,7 +182,7 @@ module _ {X : Type 0} (r : Run X) (crew : List (Worker X)) (c : Closed r crew) w
   back_length zs xs x ys e = ap length e ∙ length-append xs (x ∷ ys)
 
   -- two lines that drew one version are the same
-  pub one_line : (P Q : List Served → Served → Type 0) (p : LineIn crew P) (q : LineIn crew Q) (x : ℕ) → p.line_of.line.drew ≡ Some x → q.line_of.line.drew ≡ Some x → IsSameLine crew P Q p q
+  pub one_line : (P Q : List Served → Served → Type 0) (p : LineIn crew P) (q : LineIn crew Q) (x : ℕ) → p.served.drew ≡ Some x → q.served.drew ≡ Some x → IsSameLine crew P Q p q
   one_line P Q p q x d e = record { worker = same_j; place = place }
     where
       same_j : p.j ≡ q.j
@@ -193,61 +194,61 @@ module _ {X : Type 0} (r : Run X) (crew : List (Worker X)) (c : Closed r crew) w
       same_lines : p.worker.served ≡ q.worker.served
       same_lines = ap Worker.served same
 
-      there : get_elem? p.worker.served (length q.line_of.later) ≡ some q.line_of.line
-      there = ap (λ l. get_elem? l (length q.line_of.later)) same_lines ∙ seam_at q.worker.served q.line_of.later q.line_of.line q.line_of.earlier q.line_of.split
+      there : get_elem? p.worker.served (length q.later) ≡ some q.served
+      there = ap (λ l. get_elem? l (length q.later)) same_lines ∙ seam_at q.worker.served q.later q.served q.earlier q.split
 
-      later : length p.line_of.later ≡ length q.line_of.later
-      later = dite (ℕ_discrete (length p.line_of.later) (length q.line_of.later)) (λ h. h) (λ ne. absurd
-          (let f = drew_one x p.line_of.line d in
-          let g = drew_one x q.line_of.line e in
-          let two = two_le_sum (λ (s : Served). one_if (drew_version x s)) p.worker.served (length q.line_of.later) (length p.line_of.later) q.line_of.line p.line_of.line
-          there (seam_at p.worker.served p.line_of.later p.line_of.line p.line_of.earlier p.line_of.split) ne in
+      later : length p.later ≡ length q.later
+      later = dite (ℕ_discrete (length p.later) (length q.later)) (λ h. h) (λ ne. absurd
+          (let f = drew_one x p.served d in
+          let g = drew_one x q.served e in
+          let two = two_le_sum (λ (s : Served). one_if (drew_version x s)) p.worker.served (length q.later) (length p.later) q.served p.served
+          there (seam_at p.worker.served p.later p.served p.earlier p.split) ne in
           let a = (c.accounts p.j p.worker p.at).drawn x in
           let most = drawn_sum x in
           let l = le_sum_at (λ (w : Worker X). drawn_by x w.view) crew p.j p.worker p.at in
           omega arith))
 
-      place : length p.line_of.earlier ≡ length q.line_of.earlier
+      place : length p.earlier ≡ length q.earlier
       place =
-          let a = back_length p.worker.served p.line_of.later p.line_of.line p.line_of.earlier p.line_of.split in
-          let b = back_length q.worker.served q.line_of.later q.line_of.line q.line_of.earlier q.line_of.split in
+          let a = back_length p.worker.served p.later p.served p.earlier p.split in
+          let b = back_length q.worker.served q.later q.served q.earlier q.split in
           let k = later in
           let n = ap length same_lines in
           omega arith
 
   -- so they have one and the same line
-  pub same_line : (P Q : List Served → Served → Type 0) (p : LineIn crew P) (q : LineIn crew Q) → IsSameLine crew P Q p q → p.line_of.line ≡ q.line_of.line
-  same_line P Q p q is = some-injective p.line_of.line q.line_of.line (sym here ∙ ap (get_elem? p.worker.served) later ∙ there)
+  pub same_line : (P Q : List Served → Served → Type 0) (p : LineIn crew P) (q : LineIn crew Q) → IsSameLine crew P Q p q → p.served ≡ q.served
+  same_line P Q p q is = some-injective p.served q.served (sym here ∙ ap (get_elem? p.worker.served) later ∙ there)
     where
       same_lines : p.worker.served ≡ q.worker.served
       same_lines = ap Worker.served (some-injective p.worker q.worker (sym p.at ∙ ap (get_elem? crew) is.worker ∙ q.at))
 
-      here : get_elem? p.worker.served (length p.line_of.later) ≡ some p.line_of.line
-      here = seam_at p.worker.served p.line_of.later p.line_of.line p.line_of.earlier p.line_of.split
+      here : get_elem? p.worker.served (length p.later) ≡ some p.served
+      here = seam_at p.worker.served p.later p.served p.earlier p.split
 
-      there : get_elem? p.worker.served (length q.line_of.later) ≡ some q.line_of.line
-      there = ap (λ l. get_elem? l (length q.line_of.later)) same_lines ∙ seam_at q.worker.served q.line_of.later q.line_of.line q.line_of.earlier q.line_of.split
+      there : get_elem? p.worker.served (length q.later) ≡ some q.served
+      there = ap (λ l. get_elem? l (length q.later)) same_lines ∙ seam_at q.worker.served q.later q.served q.earlier q.split
 
-      later : length p.line_of.later ≡ length q.line_of.later
+      later : length p.later ≡ length q.later
       later =
-          let a = back_length p.worker.served p.line_of.later p.line_of.line p.line_of.earlier p.line_of.split in
-          let b = back_length q.worker.served q.line_of.later q.line_of.line q.line_of.earlier q.line_of.split in
+          let a = back_length p.worker.served p.later p.served p.earlier p.split in
+          let b = back_length q.worker.served q.later q.served q.earlier q.split in
           let n = ap length same_lines in
           let k = is.place in
           omega arith
 
   -- a line that drew a version offers a body
-  draws_offer : (v : View X) (earlier : List Served) (s : Served) → Tells r v earlier s → one_if (drew_some s) ≤ one_if (offers s.line.request)
+  draws_offer : (v : View X) (earlier : List Served) (s : Served) → Tells r v earlier s → one_if (drew_some s) ≤ one_if (offers s.asked.request)
   draws_offer v earlier s t = by_drew s.drew refl
     where
-      by_drew : (d : Option ℕ) → d ≡ s.drew → one_if (has_drawn d) ≤ one_if (offers s.line.request)
+      by_drew : (d : Option ℕ) → d ≡ s.drew → one_if (has_drawn d) ≤ one_if (offers s.asked.request)
       by_drew None e = omega arith
-      by_drew (Some x) e = let o : one_if (offers s.line.request) ≡ 1 = ap one_if (t.drew (λ n. let z : Some x ≡ None = e ∙ n in cc)) in omega arith
+      by_drew (Some x) e = let o : one_if (offers s.asked.request) ≡ 1 = ap one_if (t.drew (λ n. let z : Some x ≡ None = e ∙ n in cc)) in omega arith
 
   pub offers_suffice : sum_by (λ (w : Worker X). draws_by w.view) crew ≤ offered crew
   offers_suffice = sum_within (λ (w : Worker X). draws_by w.view) offered_by crew (λ j w at.
       let a = (c.accounts j w at).draws in
-      let k = sum_within (λ (s : Served). one_if (drew_some s)) (λ (s : Served). one_if (offers s.line.request)) w.served
+      let k = sum_within (λ (s : Served). one_if (drew_some s)) (λ (s : Served). one_if (offers s.asked.request)) w.served
       (λ i s h. let split = split_at w.served i s h in draws_offer w.view split.back s ((c.accounts j w at).lines split.front split.back s split.split)) in
       omega arith)
 
@@ -259,22 +260,22 @@ module _ {X : Type 0} (r : Run X) (crew : List (Worker X)) (c : Closed r crew) w
       omega arith
 
   -- a line that offers a body and drew no version leaves one version more
-  pub offers_more : (P : List Served → Served → Type 0) (p : LineIn crew P) → p.line_of.line.drew ≡ None → offers p.line_of.line.line.request ≡ true
+  pub offers_more : (P : List Served → Served → Type 0) (p : LineIn crew P) → p.served.drew ≡ None → offers p.served.asked.request ≡ true
       → sum_by (λ (w : Worker X). draws_by w.view) crew < offered crew
   offers_more P p none offers_body = sum_below (λ (w : Worker X). draws_by w.view) offered_by crew p.j p.worker p.at (λ j w at.
       let a = (c.accounts j w at).draws in
-      let k = sum_within (λ (s : Served). one_if (drew_some s)) (λ (s : Served). one_if (offers s.line.request)) w.served (each j w at) in
+      let k = sum_within (λ (s : Served). one_if (drew_some s)) (λ (s : Served). one_if (offers s.asked.request)) w.served (each j w at) in
       omega arith)
       (let a = (c.accounts p.j p.worker p.at).draws in
-      let k = sum_below (λ (s : Served). one_if (drew_some s)) (λ (s : Served). one_if (offers s.line.request)) p.worker.served (length p.line_of.later) p.line_of.line
-      (seam_at p.worker.served p.line_of.later p.line_of.line p.line_of.earlier p.line_of.split) (each p.j p.worker p.at)
-      (let z : one_if (drew_some p.line_of.line) ≡ 0 = ap one_if (ap has_drawn none) in let y : one_if (offers p.line_of.line.line.request) ≡ 1 = ap one_if offers_body in omega arith) in
+      let k = sum_below (λ (s : Served). one_if (drew_some s)) (λ (s : Served). one_if (offers s.asked.request)) p.worker.served (length p.later) p.served
+      (seam_at p.worker.served p.later p.served p.earlier p.split) (each p.j p.worker p.at)
+      (let z : one_if (drew_some p.served) ≡ 0 = ap one_if (ap has_drawn none) in let y : one_if (offers p.served.asked.request) ≡ 1 = ap one_if offers_body in omega arith) in
       omega arith)
     where
-      each : (j : ℕ) (w : Worker X) → get_elem? crew j ≡ some w → (i : ℕ) (s : Served) → get_elem? w.served i ≡ some s → one_if (drew_some s) ≤ one_if (offers s.line.request)
+      each : (j : ℕ) (w : Worker X) → get_elem? crew j ≡ some w → (i : ℕ) (s : Served) → get_elem? w.served i ≡ some s → one_if (drew_some s) ≤ one_if (offers s.asked.request)
       each j w at i s h = let split = split_at w.served i s h in draws_offer w.view split.back s ((c.accounts j w at).lines split.front split.back s split.split)
 
-  pub counter_below : (P : List Served → Served → Type 0) (p : LineIn crew P) → p.line_of.line.drew ≡ None → offers p.line_of.line.line.request ≡ true
+  pub counter_below : (P : List Served → Served → Type 0) (p : LineIn crew P) → p.served.drew ≡ None → offers p.served.asked.request ≡ true
       → counter r.setting c.state < opening_counter r.setting + offered crew
   counter_below P p none offers_body =
       let n = c.sound.anchors.drawn.counted in

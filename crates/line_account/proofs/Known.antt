@@ -31,28 +31,28 @@ module _ {X : Type 0} (r : Run X) (crew : List (Worker X)) (have : HaveCourses r
     stages = (have.course p.j p.worker p.at).stages
 
     -- what was seen before the line is not above what it prints
-    of_seen : (d : ℕ) → Seen r a d (has_stage r crew have At p).stage.before → NotBelow d p.line_of.line.answer
+    of_seen : (d : ℕ) → Seen r a d (has_stage r crew have At p).stage.before → NotBelow d p.served.answer
     of_seen d seen =
         let h = has_stage r crew have At p in
-        of_line (λ before t. NotBelow d t.answer) stages p.line_of.line p.line_of.earlier h
-        (not_below_seen r h.stage h.before a d (adds r crew have At p) (of_stage At stages p.line_of.line p.line_of.earlier h p.line_of.so) seen)
+        of_line (λ before t. NotBelow d t.answer) stages p.served p.earlier h
+        (not_below_seen r h.stage h.before a d (adds r crew have At p) (of_stage At stages p.served p.earlier h p.so) seen)
 
-    not_below_opening : a < r.setting.anchors → NotBelow (opening_epoch r.setting a) p.line_of.line.answer
+    not_below_opening : a < r.setting.anchors → NotBelow (opening_epoch r.setting a) p.served.answer
     not_below_opening small =
         let c = have.course p.j p.worker p.at in
         let h = has_stage r crew have At p in
         of_seen (opening_epoch r.setting a) (itself r a (opening_epoch r.setting a) h.stage.before
         (start_known r c.start h.before h.stage.before (Stood a (opening_epoch r.setting a)) (course r crew have At p) (c.is.begins.opening a small)))
 
-    not_below_known : (e : ℕ) (s : Served) (earlier : List Served) → KnewOf crew p.line_of.earlier s earlier → CountsAt r.setting.anchors earlier s a e → NotBelow e p.line_of.line.answer
+    not_below_known : (e : ℕ) (s : Served) (earlier : List Served) → KnewOf crew p.earlier s earlier → CountsAt r.setting.anchors earlier s a e → NotBelow e p.served.answer
     not_below_known e s earlier knows counts = of_seen e (seen_known (has_stage r crew have At p).stage.before a e s earlier (known_before r crew have At p s earlier knows) counts)
 
-  above_known : (a x e : ℕ) (s : Served) (earlier : List Served) → (p : LineIn crew (λ before t. PrintsBegunVersion r.setting.anchors t a x)) → KnewOf crew p.line_of.earlier s earlier → CountsAt r.setting.anchors earlier s a e
+  above_known : (a x e : ℕ) (s : Served) (earlier : List Served) → (p : LineIn crew (λ before t. PrintsBegunVersion r.setting.anchors t a x)) → KnewOf crew p.earlier s earlier → CountsAt r.setting.anchors earlier s a e
       → version_of e < x
   above_known a x e s earlier p knows counts =
       let P : List Served → Served → Type 0 = λ before t. PrintsBegunVersion r.setting.anchors t a x in
       let h = has_stage r crew have P p in
-      above_seen r h.stage h.before a x e (adds r crew have P p) (of_stage P (have.course p.j p.worker p.at).stages p.line_of.line p.line_of.earlier h p.line_of.so)
+      above_seen r h.stage h.before a x e (adds r crew have P p) (of_stage P (have.course p.j p.worker p.at).stages p.served p.earlier h p.so)
       (seen_known h.stage.before a e s earlier (known_before r crew have P p s earlier knows) counts)
 
   pub in_order : AreInOrder r crew

@@ -28,7 +28,7 @@ use Rattle.line_account.proofs.Versions.{taken_by_line}
 
 writing_among : (t : ℕ) (served : List Served) (b : Served) → writing t served ≡ Some b → Split served b
 writing_among t [] b e = absurd (let q : None ≡ Some b = e in cc)
-writing_among t (s ∷ earlier) b e = among (λ q. writing_among t earlier b q) (begins t s.line.request s.answer) (ends t s.line.request s.answer) e
+writing_among t (s ∷ earlier) b e = among (λ q. writing_among t earlier b q) (begins t s.asked.request s.answer) (ends t s.asked.request s.answer) e
   where
     among : (writing t earlier ≡ Some b → Split earlier b) → (x y : Bool) → cond x (Some s) (cond y None (writing t earlier)) ≡ Some b → Split (s ∷ earlier) b
     among before true y q = let is : s ≡ b = cc in record { front = []; back = earlier; split = ap (λ z. z ∷ earlier) is }
@@ -110,23 +110,20 @@ module _ {X : Type 0} (r : Run X) (crew : List (Worker X)) (c : Closed r crew) w
     pub j : ℕ
     pub worker : Worker X
     pub at : get_elem? crew j ≡ some worker
-    pub named : IsNamed r.setting worker.view a x begun.line_of.line
+    pub named : IsNamed r.setting worker.view a x begun.served
 
   abbrev first_in : (a x : ℕ) (g : ByWorker r crew c (GrowsAt a x)) → LineIn crew (λ earlier s. s.drew ≡ Some x)
   first_in a x g =
-      let l = g.line_of in
-      let h = begun_among l.earlier l.line l.so.writes.first l.line.line.request l.so.writes.begun_is in
+      let h = begun_among g.earlier g.served g.so.writes.first g.served.asked.request g.so.writes.begun_is in
       record {
         j = g.j;
         worker = g.worker;
         at = g.at;
-        line_of = record {
-          later = l.later ++ h.front;
-          line = l.so.writes.first;
-          earlier = h.back;
-          split = l.split ∙ ap (λ z. l.later ++ z) h.split ∙ sym (append_assoc l.later h.front (l.so.writes.first ∷ h.back));
-          so = l.so.writes.drew;
-        };
+        later = g.later ++ h.front;
+        served = g.so.writes.first;
+        earlier = h.back;
+        split = g.split ∙ ap (λ z. g.later ++ z) h.split ∙ sym (append_assoc g.later h.front (g.so.writes.first ∷ h.back));
+        so = g.so.writes.drew;
       }
 
   pub names_of : (a e : ℕ) → IsEpochAt r.setting c.state a e → is_readable e ≡ true → opening_counter r.setting < version_of e → HasNames a (version_of e)
@@ -139,6 +136,6 @@ module _ {X : Type 0} (r : Run X) (crew : List (Worker X)) (c : Closed r crew) w
       let g : ByWorker r crew c (GrowsAt a x) = by_worker r crew c (LeftEpoch a e) (GrowsAt a x) (grown_line a e read) (grown_end a e read) left in
       let begun : BegunIn r crew a x = taken_by_line r crew c a x (known_taken r.setting c.state c.sound a e known high) in
       let first : LineIn crew (λ earlier s. s.drew ≡ Some x) = first_in a x g in
-      let same : g.line_of.so.writes.first ≡ begun.line_of.line = same_line r crew c (λ earlier s. s.drew ≡ Some x) (λ earlier s. Begins r.setting.anchors s a x) first begun
-      (one_line r crew c (λ earlier s. s.drew ≡ Some x) (λ earlier s. Begins r.setting.anchors s a x) first begun x g.line_of.so.writes.drew begun.line_of.so.drew) in
-      record { begun = begun; j = g.j; worker = g.worker; at = g.at; named = subst (λ (s : Served). IsNamed r.setting g.worker.view a x s) same g.line_of.so.named }
+      let same : g.so.writes.first ≡ begun.served = same_line r crew c (λ earlier s. s.drew ≡ Some x) (λ earlier s. Begins r.setting.anchors s a x) first begun
+      (one_line r crew c (λ earlier s. s.drew ≡ Some x) (λ earlier s. Begins r.setting.anchors s a x) first begun x g.so.writes.drew begun.so.drew) in
+      record { begun = begun; j = g.j; worker = g.worker; at = g.at; named = subst (λ (s : Served). IsNamed r.setting g.worker.view a x s) same g.so.named }

@@ -246,17 +246,17 @@ module _ {X : Type 0} (r : Run X) (v : View X) (earlier : List Served) (s : Serv
 
   pub opened_at : (version : ℕ) → s.answer ≡ answer.Opened version → FoundAt s.opened version
   opened_at version e =
-      let may : IsAnswerTo s.line.request (answer.Opened version) = subst (IsAnswerTo s.line.request) e t.answers in
-      let comes : ComesIn s.line.request s.answer version = subst (λ (z : Answer). ComesIn s.line.request z version) (sym e) (comes_opened s.line.request version may) in
+      let may : IsAnswerTo s.asked.request (answer.Opened version) = subst (IsAnswerTo s.asked.request) e t.answers in
+      let comes : ComesIn s.asked.request s.answer version = subst (λ (z : Answer). ComesIn s.asked.request z version) (sym e) (comes_opened s.asked.request version may) in
       let o = t.opened version comes in
-      found_of version (told_opened s.line.request version (version_of s.opened) (subst (λ (z : Answer). ComesIn s.line.request z (version_of s.opened)) e o.told)) o
+      found_of version (told_opened s.asked.request version (version_of s.opened) (subst (λ (z : Answer). ComesIn s.asked.request z (version_of s.opened)) e o.told)) o
 
   hit_at : (version : ℕ) (bytes : List ℕ) → s.answer ≡ answer.Hit version bytes → FoundAt s.opened version
   hit_at version bytes e =
-      let may : IsAnswerTo s.line.request (answer.Hit version bytes) = subst (IsAnswerTo s.line.request) e t.answers in
-      let comes : ComesIn s.line.request s.answer version = subst (λ (z : Answer). ComesIn s.line.request z version) (sym e) (comes_hit s.line.request version bytes may) in
+      let may : IsAnswerTo s.asked.request (answer.Hit version bytes) = subst (IsAnswerTo s.asked.request) e t.answers in
+      let comes : ComesIn s.asked.request s.answer version = subst (λ (z : Answer). ComesIn s.asked.request z version) (sym e) (comes_hit s.asked.request version bytes may) in
       let o = t.opened version comes in
-      found_of version (told_hit s.line.request version (version_of s.opened) bytes (subst (λ (z : Answer). ComesIn s.line.request z (version_of s.opened)) e o.told)) o
+      found_of version (told_hit s.asked.request version (version_of s.opened) bytes (subst (λ (z : Answer). ComesIn s.asked.request z (version_of s.opened)) e o.told)) o
 
   purged_at : (epoch : Epoch) → s.answer ≡ answer.Purged epoch → FoundAt s.opened (version_of (epoch_number epoch))
   purged_at epoch e = let h = t.purged epoch e in record { readable = h.keyed.readable; version_is = sym h.version_is }

@@ -33,7 +33,7 @@ use Rattle.line_account.proofs.Stages.{HasStage, of_line, of_stage}
 
 pub reading_among : (t : ℕ) (served : List Served) (b : Served) → reading t served ≡ Some b → Split served b
 reading_among t [] b e = absurd (let q : None ≡ Some b = e in cc)
-reading_among t (s ∷ earlier) b e = among (λ q. reading_among t earlier b q) (opens t s.line.request s.answer) (closes t s.line.request s.answer) e
+reading_among t (s ∷ earlier) b e = among (λ q. reading_among t earlier b q) (opens t s.asked.request s.answer) (closes t s.asked.request s.answer) e
   where
     among : (reading t earlier ≡ Some b → Split earlier b) → (x y : Bool) → cond x (Some s) (cond y None (reading t earlier)) ≡ Some b → Split (s ∷ earlier) b
     among before true y q = let is : s ≡ b = cc in record { front = []; back = earlier; split = ap (λ z. z ∷ earlier) is }
@@ -94,7 +94,7 @@ module _ {X : Type 0} (r : Run X) where
       let tab : h.tab ≡ a.tab = cc in
       let f : Some h.writes.first ≡ Some a.first = sym h.writes.begun_is ∙ ap (λ u. writing u earlier) tab ∙ a.begun_is in
       let first : h.writes.first ≡ a.first = cc in
-      let u : Some h.writes.url ≡ Some url = sym h.writes.named ∙ ap (λ (z : Served). url_in z.line.request) first ∙ a.named in
+      let u : Some h.writes.url ≡ Some url = sym h.writes.named ∙ ap (λ (z : Served). url_in z.asked.request) first ∙ a.named in
       let urls : h.writes.url ≡ url = cc in
       let w : Some h.writes.version ≡ Some x = sym h.writes.drew ∙ ap Served.drew first ∙ a.drew in
       let version : h.writes.version ≡ x = cc in
@@ -103,10 +103,10 @@ module _ {X : Type 0} (r : Run X) where
       let b : ℕ = anchor_of (key_of h.writes.url) r.setting.anchors in
       record {
         anchor = b;
-        offer = r.setting.slots + h.writes.first.line.number;
+        offer = r.setting.slots + h.writes.first.asked.number;
         url_is = h.url_is ∙ urls;
         published = subst (λ n. Contains v.seen (Published b x n)) slots_are (subst (λ y. Contains v.seen (Published b y (slots_after r.room h.writes.url h.tab (s ∷ earlier)))) version (h.published some_there));
-        named = subst (λ y. Contains v.seen (Named b y Offer (r.setting.slots + h.writes.first.line.number))) version (h.offer some_there);
+        named = subst (λ y. Contains v.seen (Named b y Offer (r.setting.slots + h.writes.first.asked.number))) version (h.offer some_there);
       }
 
   -- what a read tells, by what it prints
@@ -180,21 +180,21 @@ module _ {X : Type 0} (r : Run X) (crew : List (Worker X)) (c : Closed r crew) (
       let m = h.most in
       omega arith
 
-  module _ (have : HaveCourses r crew) (x : ℕ) (p : LineIn crew (λ before t. PrintsPart t x)) (s : Served) (earlier : List Served) (knows : KnewOf crew p.line_of.earlier s earlier) where
+  module _ (have : HaveCourses r crew) (x : ℕ) (p : LineIn crew (λ before t. PrintsPart t x)) (s : Served) (earlier : List Served) (knows : KnewOf crew p.earlier s earlier) where
     abbrev P : List Served → Served → Type 0
     P before t = PrintsPart t x
 
     abbrev stages : List (Stage X)
     stages = (have.course p.j p.worker p.at).stages
 
-    abbrev h : HasStage stages p.line_of.line p.line_of.earlier
+    abbrev h : HasStage stages p.served p.earlier
     h = has_stage r crew have P p
 
     line : IsLineOf p.worker h.stage h.before
     line = record { adds = adds r crew have P p; keeps = kept r crew have P p }
 
     part : PrintsPart h.stage.served x
-    part = of_stage P stages p.line_of.line p.line_of.earlier h p.line_of.so
+    part = of_stage P stages p.served p.earlier h p.so
 
     k : Known r crew have h.stage.before s earlier
     k = known_before r crew have P p s earlier knows
@@ -208,12 +208,12 @@ module _ {X : Type 0} (r : Run X) (crew : List (Worker X)) (c : Closed r crew) (
       kept = k.kept;
     }
 
-    pub added_known : (slots : ℕ) (url : List ℕ) → AddsTo r earlier s x url slots → bytes_behind r.room url slots ≤ given_with p.line_of.earlier p.line_of.line
-    added_known slots url a = of_line (λ before t. bytes_behind r.room url slots ≤ given_with before t) stages p.line_of.line p.line_of.earlier h
+    pub added_known : (slots : ℕ) (url : List ℕ) → AddsTo r earlier s x url slots → bytes_behind r.room url slots ≤ given_with p.earlier p.served
+    added_known slots url a = of_line (λ before t. bytes_behind r.room url slots ≤ given_with before t) stages p.served p.earlier h
         (added_bound p.j k.j p.worker k.worker p.at k.at h.stage k.has.stage h.before k.has.before x slots url line known part (of_stage (λ before z. AddsTo r before z x url slots) k.stages s earlier k.has a))
 
-    pub given_known : (tab : ℕ) → GivesOf earlier s tab x → given tab (s ∷ earlier) ≤ given_with p.line_of.earlier p.line_of.line
-    given_known tab g = of_line (λ before t. given tab (s ∷ earlier) ≤ given_with before t) stages p.line_of.line p.line_of.earlier h
+    pub given_known : (tab : ℕ) → GivesOf earlier s tab x → given tab (s ∷ earlier) ≤ given_with p.earlier p.served
+    given_known tab g = of_line (λ before t. given tab (s ∷ earlier) ≤ given_with before t) stages p.served p.earlier h
         (of_line (λ before z. given tab (z ∷ before) ≤ given_with (lines_in h.before) h.stage.served) k.stages s earlier k.has
         (given_bound p.j k.j p.worker k.worker p.at k.at h.stage k.has.stage h.before k.has.before x tab line known part (of_stage (λ before z. GivesOf before z tab x) k.stages s earlier k.has g)))
 

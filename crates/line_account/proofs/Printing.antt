@@ -88,7 +88,7 @@ module _ {X : Type 0} (r : Run X) (crew : List (Worker X)) (c : Closed r crew) w
   pub key_kept : (a : ℕ) (epoch : Epoch) (key : List ℕ) → KeyIn r crew a epoch key → version_of (epoch_number epoch) ≤ opening_counter r.setting → HadEntry r a
   key_kept a epoch key p low =
       let P : List Served → Served → Type 0 = λ earlier s. PrintsKey r.setting.anchors earlier s a epoch key in
-      let k = (tells_at r crew c P p).key epoch key a p.line_of.so.printed p.line_of.so.at in
+      let k = (tells_at r crew c P p).key epoch key a p.so.printed p.so.at in
       old_kept a (epoch_number epoch) (known P p a (epoch_number epoch) k.seen) k.readable low
 
   -- a key of the opening that was read is that of the entry which the anchor had then
@@ -111,12 +111,12 @@ module _ {X : Type 0} (r : Run X) (crew : List (Worker X)) (c : Closed r crew) w
 
   pub key_of_old : (a : ℕ) (epoch : Epoch) (key url : List ℕ) → KeyIn r crew a epoch key → version_of (epoch_number epoch) ≤ opening_counter r.setting → IsOldUrl r a url → key ≡ key_of url
   key_of_old a epoch key url p low old =
-      let k = (tells_at r crew c (λ earlier s. PrintsKey r.setting.anchors earlier s a epoch key) p).key epoch key a p.line_of.so.printed p.line_of.so.at in
+      let k = (tells_at r crew c (λ earlier s. PrintsKey r.setting.anchors earlier s a epoch key) p).key epoch key a p.so.printed p.so.at in
       of_old_key p.worker.view a (epoch_number epoch) key url k low old
 
   pub key_of_new : (a : ℕ) (epoch : Epoch) (key : List ℕ) → KeyIn r crew a epoch key → opening_counter r.setting < version_of (epoch_number epoch) → IsKeyOfLine r crew a (version_of (epoch_number epoch)) key
   key_of_new a epoch key p high =
-      let k = (tells_at r crew c (λ earlier s. PrintsKey r.setting.anchors earlier s a epoch key) p).key epoch key a p.line_of.so.printed p.line_of.so.at in
+      let k = (tells_at r crew c (λ earlier s. PrintsKey r.setting.anchors earlier s a epoch key) p).key epoch key a p.so.printed p.so.at in
       of_new_key p.j p.worker p.at a (epoch_number epoch) key k high
 
   -- Offers.
@@ -124,25 +124,25 @@ module _ {X : Type 0} (r : Run X) (crew : List (Worker X)) (c : Closed r crew) w
   -- the offer of a new version that a worker read is that of the line that began it
   pub record IsOfLine (a x offer : ℕ) : Type 0 where
     pub begun : BegunIn r crew a x
-    pub made : HasOffer begun.line_of.line.line.request
+    pub made : HasOffer begun.served.asked.request
     pub url_is : r.url offer ≡ made.url
     pub body_is : r.body offer ≡ bytes_of made.body
 
   pub of_line : (P : List Served → Served → Type 0) (p : LineIn crew P) (a e : ℕ) (url : List ℕ) (i : IsEntryAt r p.worker.view a e url) → opening_counter r.setting < version_of e → IsOfLine a (version_of e) i.offer
   of_line P p a e url i high =
       let n = names_of r crew c a e (known P p a e i.seen) i.readable high in
-      let same : i.offer ≡ r.setting.slots + n.begun.line_of.line.line.number = c.sound.anchors.seen.agree (c.index p.j) (c.index n.j) p.worker.view n.worker.view
-      (c.at p.j p.worker p.at) (c.at n.j n.worker n.at) a (version_of e) Offer i.offer (r.setting.slots + n.begun.line_of.line.line.number) i.offered n.named.offer in
-      let made = offer_of n.begun.line_of.line.line.request n.begun.line_of.line.answer (version_of e) n.begun.line_of.so.began in
+      let same : i.offer ≡ r.setting.slots + n.begun.served.asked.number = c.sound.anchors.seen.agree (c.index p.j) (c.index n.j) p.worker.view n.worker.view
+      (c.at p.j p.worker p.at) (c.at n.j n.worker n.at) a (version_of e) Offer i.offer (r.setting.slots + n.begun.served.asked.number) i.offered n.named.offer in
+      let made = offer_of n.begun.served.asked.request n.begun.served.answer (version_of e) n.begun.so.began in
       let told = (tells_at r crew c (λ earlier s. Begins r.setting.anchors s a (version_of e)) n.begun).offered made.url made.body made.offers in
       record { begun = n.begun; made = made; url_is = ap r.url same ∙ told.url_is; body_is = ap r.body same ∙ told.body_is }
 
   -- Hits.
 
-  get_url : (s : Served) (url told : List ℕ) → s.line.request ≡ Get url → url_in s.line.request ≡ Some told → told ≡ url
+  get_url : (s : Served) (url told : List ℕ) → s.asked.request ≡ Get url → url_in s.asked.request ≡ Some told → told ≡ url
   get_url s url told q h = let k : Some url ≡ Some told = sym (ap url_in q) ∙ h in let e : url ≡ told = cc in sym e
 
-  hit_version : (s : Served) (url bytes : List ℕ) (x : ℕ) → s.line.request ≡ Get url → s.answer ≡ answer.Hit x bytes → ComesIn s.line.request s.answer (version_of s.opened) → x ≡ version_of s.opened
+  hit_version : (s : Served) (url bytes : List ℕ) (x : ℕ) → s.asked.request ≡ Get url → s.answer ≡ answer.Hit x bytes → ComesIn s.asked.request s.answer (version_of s.opened) → x ≡ version_of s.opened
   hit_version s url bytes x q a h = subst (λ (z : Answer). ReadAs z (version_of s.opened)) a (subst (λ (z : Request). ComesIn z s.answer (version_of s.opened)) q h)
 
   abbrev Hits : ℕ → ℕ → List ℕ → List ℕ → List Served → Served → Type 0
@@ -150,28 +150,28 @@ module _ {X : Type 0} (r : Run X) (crew : List (Worker X)) (c : Closed r crew) w
 
   pub hit_of_old : IsTrue r.tells → (a x : ℕ) (url bytes : List ℕ) → HitIn r crew a x url bytes → x ≤ opening_counter r.setting → IsOldBody r a url bytes
   hit_of_old y a x url bytes p low =
-      let s : Served = p.line_of.line in
-      let h = (tells_at r crew c (Hits a x url bytes) p).hit y x bytes p.line_of.so.printed in
-      let same : h.opened.url ≡ url = get_url s url h.opened.url p.line_of.so.request h.opened.named in
-      let version : x ≡ version_of s.opened = hit_version s url bytes x p.line_of.so.request p.line_of.so.printed h.opened.told in
-      let there : anchor_of (key_of h.opened.url) r.setting.anchors ≡ a = ap (λ u. anchor_of (key_of u) r.setting.anchors) same ∙ sym p.line_of.so.anchor in
+      let s : Served = p.served in
+      let h = (tells_at r crew c (Hits a x url bytes) p).hit y x bytes p.so.printed in
+      let same : h.opened.url ≡ url = get_url s url h.opened.url p.so.request h.opened.named in
+      let version : x ≡ version_of s.opened = hit_version s url bytes x p.so.request p.so.printed h.opened.told in
+      let there : anchor_of (key_of h.opened.url) r.setting.anchors ≡ a = ap (λ u. anchor_of (key_of u) r.setting.anchors) same ∙ sym p.so.anchor in
       let offer : h.opened.entry.offer ≡ old_offer r a = h.opened.entry.old (omega arith) ∙ ap (old_offer r) there in
       let kept = old_kept (anchor_of (key_of h.opened.url) r.setting.anchors) s.opened (known (Hits a x url bytes) p (anchor_of (key_of h.opened.url) r.setting.anchors) s.opened h.opened.entry.seen) h.opened.entry.readable (omega arith) in
       record { there = subst (HadEntry r) there kept; whole = h.whole ∙ ap r.body offer; url_is = sym (ap r.url offer) ∙ h.same ∙ same }
 
   pub hit_of_new : IsTrue r.tells → (a x : ℕ) (url bytes : List ℕ) → HitIn r crew a x url bytes → opening_counter r.setting < x → IsBodyOfLine r crew a x url bytes
   hit_of_new y a x url bytes p high =
-      let s : Served = p.line_of.line in
-      let h = (tells_at r crew c (Hits a x url bytes) p).hit y x bytes p.line_of.so.printed in
-      let same : h.opened.url ≡ url = get_url s url h.opened.url p.line_of.so.request h.opened.named in
-      let version : x ≡ version_of s.opened = hit_version s url bytes x p.line_of.so.request p.line_of.so.printed h.opened.told in
-      let there : anchor_of (key_of h.opened.url) r.setting.anchors ≡ a = ap (λ u. anchor_of (key_of u) r.setting.anchors) same ∙ sym p.line_of.so.anchor in
+      let s : Served = p.served in
+      let h = (tells_at r crew c (Hits a x url bytes) p).hit y x bytes p.so.printed in
+      let same : h.opened.url ≡ url = get_url s url h.opened.url p.so.request h.opened.named in
+      let version : x ≡ version_of s.opened = hit_version s url bytes x p.so.request p.so.printed h.opened.told in
+      let there : anchor_of (key_of h.opened.url) r.setting.anchors ≡ a = ap (λ u. anchor_of (key_of u) r.setting.anchors) same ∙ sym p.so.anchor in
       let o = of_line (Hits a x url bytes) p (anchor_of (key_of h.opened.url) r.setting.anchors) s.opened h.opened.url h.opened.entry (omega arith) in
       let url_is : o.made.url ≡ url = sym o.url_is ∙ h.same ∙ same in
       let found : IsBodyOfLine r crew (anchor_of (key_of h.opened.url) r.setting.anchors) (version_of s.opened) url bytes = record {
         begun = o.begun;
         body = o.made.body;
-        offers = subst (λ u. Offers o.begun.line_of.line.line.request u o.made.body) url_is o.made.offers;
+        offers = subst (λ u. Offers o.begun.served.asked.request u o.made.body) url_is o.made.offers;
         whole = h.whole ∙ o.body_is;
       } in
       subst (λ b. IsBodyOfLine r crew b x url bytes) there (subst (λ y. IsBodyOfLine r crew (anchor_of (key_of h.opened.url) r.setting.anchors) y url bytes) (sym version) found)
@@ -184,27 +184,27 @@ module _ {X : Type 0} (r : Run X) (crew : List (Worker X)) (c : Closed r crew) w
       P : List Served → Served → Type 0
       P earlier s = PrintsOther earlier s url
 
-      told : HasOther r p.worker.view p.line_of.earlier p.line_of.line
-      told = (tells_at r crew c (λ earlier s. PrintsOther earlier s url) p).other y p.line_of.so.printed
+      told : HasOther r p.worker.view p.earlier p.served
+      told = (tells_at r crew c (λ earlier s. PrintsOther earlier s url) p).other y p.so.printed
 
-      first : told.first ≡ p.line_of.so.first
-      first = let k : Some told.first ≡ Some p.line_of.so.first = sym told.opened_is ∙ p.line_of.so.opened_is in cc
+      first : told.first ≡ p.so.first
+      first = let k : Some told.first ≡ Some p.so.first = sym told.opened_is ∙ p.so.opened_is in cc
 
       same : told.url ≡ url
-      same = let k : Some told.url ≡ Some url = sym told.named ∙ ap (λ (s : Served). url_in s.line.request) first ∙ p.line_of.so.named in cc
+      same = let k : Some told.url ≡ Some url = sym told.named ∙ ap (λ (s : Served). url_in s.asked.request) first ∙ p.so.named in cc
 
       a : ℕ
       a = anchor_of (key_of told.url) r.setting.anchors
 
       source : (HadEntry r (anchor_of (key_of told.url) r.setting.anchors) × (r.url (old_offer r (anchor_of (key_of told.url) r.setting.anchors)) ≡ r.url told.entry.offer))
-          ⊎ ((x : ℕ) × (q : BegunIn r crew (anchor_of (key_of told.url) r.setting.anchors) x) × (url_in q.line_of.line.line.request ≡ Some (r.url told.entry.offer)))
+          ⊎ ((x : ℕ) × (q : BegunIn r crew (anchor_of (key_of told.url) r.setting.anchors) x) × (url_in q.served.asked.request ≡ Some (r.url told.entry.offer)))
       source = dite (dec_le (version_of told.first.opened) (opening_counter r.setting))
           (λ low. inl (
             old_kept (anchor_of (key_of told.url) r.setting.anchors) told.first.opened (known (λ earlier s. PrintsOther earlier s url) p (anchor_of (key_of told.url) r.setting.anchors) told.first.opened told.entry.seen) told.entry.readable low,
             sym (ap r.url (told.entry.old low)),
           ))
           (λ high. let o = of_line (λ earlier s. PrintsOther earlier s url) p (anchor_of (key_of told.url) r.setting.anchors) told.first.opened told.url told.entry (omega arith) in
-          inr (version_of told.first.opened, o.begun, offered_url o.begun.line_of.line.line.request o.made.url o.made.body o.made.offers ∙ ap Some (sym o.url_is)))
+          inr (version_of told.first.opened, o.begun, offered_url o.begun.served.asked.request o.made.url o.made.body o.made.offers ∙ ap Some (sym o.url_is)))
 
       found : HasOtherUrl r crew told.url
       found = record { other = r.url told.entry.offer; is = record { same_key = told.same_key; differs = told.differs; source = source } }
@@ -215,7 +215,7 @@ module _ {X : Type 0} (r : Run X) (crew : List (Worker X)) (c : Closed r crew) w
   another_comes a p = of_deed (deed_in r crew c (EnteredByAnother a p.worker.view.pass) (c.sound.anchors.deeds.met (c.index p.j) p.worker.view (c.at p.j p.worker p.at) a met))
     where
       met : Contains p.worker.view.met a
-      met = ((tells_at r crew c (λ earlier s. PrintsReaders r.setting.anchors earlier s a) p).busy p.line_of.so.looked p.line_of.so.other p.line_of.so.printed).met a p.line_of.so.at p.line_of.so.more
+      met = ((tells_at r crew c (λ earlier s. PrintsReaders r.setting.anchors earlier s a) p).busy p.so.looked p.so.other p.so.printed).met a p.so.at p.so.more
 
       of_deed : DeedIn r crew c (EnteredByAnother a p.worker.view.pass) → AnotherComes r crew p.j a
       of_deed d = ⊎_elim
@@ -224,13 +224,11 @@ module _ {X : Type 0} (r : Run X) (crew : List (Worker X)) (c : Closed r crew) w
               j = d.j;
               worker = d.worker;
               at = d.at;
-              line_of = record {
-                later = l.later;
-                line = l.line;
-                earlier = l.earlier;
-                split = l.split;
-                so = subst (λ b. ComesTo r.setting.anchors l.line.line.request b) d.so.1 (l.so.entered d.so.0);
-              };
+              later = l.later;
+              served = l.served;
+              earlier = l.earlier;
+              split = l.split;
+              so = subst (λ b. ComesTo r.setting.anchors l.served.asked.request b) d.so.1 (l.so.entered d.so.0);
             };
             another = λ same. d.so.2 (d.own ∙ ap (λ (w : Worker X). w.view.pass) (some-injective d.worker p.worker (sym d.at ∙ ap (get_elem? crew) same ∙ p.at)));
           })
@@ -243,12 +241,12 @@ module _ {X : Type 0} (r : Run X) (crew : List (Worker X)) (c : Closed r crew) w
   spent_bounds n p = (
     told.limit,
     ⊎_elim
-        (λ (q : (p.line_of.line.drew ≡ None) × HasItem p.worker.view Counted n).
+        (λ (q : (p.served.drew ≡ None) × HasItem p.worker.view Counted n).
         let most = c.sound.anchors.drawn.looked (c.index p.j) p.worker.view (c.at p.j p.worker p.at) q.1.item q.1.among q.1.kind_is in
         let is = q.1.found_is in
         let below = counter_below r crew c (λ earlier s. s.answer ≡ answer.Spent n) p q.0 told.offers in
         omega arith)
-        (λ (q : (p.line_of.line.drew ≡ Some (n + 1)) × HasItem p.worker.view Drew n).
+        (λ (q : (p.served.drew ≡ Some (n + 1)) × HasItem p.worker.view Drew n).
         let less = c.sound.anchors.drawn.drew (c.index p.j) p.worker.view (c.at p.j p.worker p.at) q.1.item q.1.among q.1.kind_is in
         let is = q.1.found_is in
         let most = counter_is r crew c in
@@ -256,77 +254,75 @@ module _ {X : Type 0} (r : Run X) (crew : List (Worker X)) (c : Closed r crew) w
         told.found,
   )
     where
-      told : IsSpent p.worker.view p.line_of.line n
-      told = (tells_at r crew c (λ earlier s. s.answer ≡ answer.Spent n) p).spent n p.line_of.so
+      told : IsSpent p.worker.view p.served n
+      told = (tells_at r crew c (λ earlier s. s.answer ≡ answer.Spent n) p).spent n p.so
 
   -- Refusals.
 
   -- the line that began a writing, as two accounts of it name it, offers a content of this size
-  content_size : (first : Served) (url : List ℕ) (body : Body) (same : Served) (named : List ℕ) (P : List Served → Served → Type 0) (p : LineIn crew P) → begun_by p.line_of.earlier p.line_of.line ≡ Some first
-      → begun_by p.line_of.earlier p.line_of.line ≡ Some same → url_in same.line.request ≡ Some named → Offers first.line.request url body
-      → 32 + length named + length (r.body (r.setting.slots + same.line.number)) ≡ 32 + length url + length (bytes_of body)
+  content_size : (first : Served) (url : List ℕ) (body : Body) (same : Served) (named : List ℕ) (P : List Served → Served → Type 0) (p : LineIn crew P) → begun_by p.earlier p.served ≡ Some first
+      → begun_by p.earlier p.served ≡ Some same → url_in same.asked.request ≡ Some named → Offers first.asked.request url body
+      → 32 + length named + length (r.body (r.setting.slots + same.asked.number)) ≡ 32 + length url + length (bytes_of body)
   content_size first url body same named P p begun_is same_is named_is offers =
-      let l = p.line_of in
       let k : Some same ≡ Some first = sym same_is ∙ begun_is in
       let one : same ≡ first = cc in
-      let among = begun_among l.earlier l.line first l.line.line.request begun_is in
-      let of_first = ((c.accounts p.j p.worker p.at).lines (l.later ++ among.front) among.back first (l.split ∙ ap (λ z. l.later ++ z) among.split ∙ sym (append_assoc l.later among.front (first ∷ among.back)))).offered url body offers in
-      let u : Some named ≡ Some url = sym named_is ∙ ap (λ (s : Served). url_in s.line.request) one ∙ offered_url first.line.request url body offers in
+      let among = begun_among p.earlier p.served first p.served.asked.request begun_is in
+      let of_first = ((c.accounts p.j p.worker p.at).lines (p.later ++ among.front) among.back first (p.split ∙ ap (λ z. p.later ++ z) among.split ∙ sym (append_assoc p.later among.front (first ∷ among.back)))).offered url body offers in
+      let u : Some named ≡ Some url = sym named_is ∙ ap (λ (s : Served). url_in s.asked.request) one ∙ offered_url first.asked.request url body offers in
       let url_is : named ≡ url = cc in
-      let size : length (r.body (r.setting.slots + same.line.number)) ≡ length (bytes_of body) = ap (λ (s : Served). length (r.body (r.setting.slots + s.line.number))) one ∙ ap length of_first.body_is in
+      let size : length (r.body (r.setting.slots + same.asked.number)) ≡ length (bytes_of body) = ap (λ (s : Served). length (r.body (r.setting.slots + s.asked.number))) one ∙ ap length of_first.body_is in
       let long = ap length url_is in
       omega arith
 
-  pub too_large : (first : Served) (url : List ℕ) (body : Body) → LineIn crew (λ earlier s. PrintsLarge earlier s first) → Offers first.line.request url body → NeedsTooMany r url body
+  pub too_large : (first : Served) (url : List ℕ) (body : Body) → LineIn crew (λ earlier s. PrintsLarge earlier s first) → Offers first.asked.request url body → NeedsTooMany r url body
   too_large first url body p offers =
-      let told = (tells_at r crew c (λ earlier s. PrintsLarge earlier s first) p).large p.line_of.so.printed in
-      let size = content_size first url body told.first told.url (λ earlier s. PrintsLarge earlier s first) p p.line_of.so.begun_is told.begun_is told.named offers in
+      let told = (tells_at r crew c (λ earlier s. PrintsLarge earlier s first) p).large p.so.printed in
+      let size = content_size first url body told.first told.url (λ earlier s. PrintsLarge earlier s first) p p.so.begun_is told.begun_is told.named offers in
       let large = told.large in
       omega arith
 
-  pub small_enough : (first : Served) (url : List ℕ) (body : Body) → LineIn crew (λ earlier s. PrintsEnded earlier s first) → Offers first.line.request url body → ¬ NeedsTooMany r url body
+  pub small_enough : (first : Served) (url : List ℕ) (body : Body) → LineIn crew (λ earlier s. PrintsEnded earlier s first) → Offers first.asked.request url body → ¬ NeedsTooMany r url body
   small_enough first url body p offers many =
-      let told = (tells_at r crew c (λ earlier s. PrintsEnded earlier s first) p).small p.line_of.so.version p.line_of.so.printed in
-      let size = content_size first url body told.first told.url (λ earlier s. PrintsEnded earlier s first) p p.line_of.so.begun_is told.begun_is told.named offers in
+      let told = (tells_at r crew c (λ earlier s. PrintsEnded earlier s first) p).small p.so.version p.so.printed in
+      let size = content_size first url body told.first told.url (λ earlier s. PrintsEnded earlier s first) p p.so.begun_is told.begun_is told.named offers in
       let small = told.small in
       omega arith
 
   pub busy_words : (looked other : Word) → LineIn crew (λ earlier s. s.answer ≡ answer.Busy looked other) → HasBusyWords looked other
-  busy_words looked other p = let b = (tells_at r crew c (λ earlier s. s.answer ≡ answer.Busy looked other) p).busy looked other p.line_of.so in record { cause = b.cause; rises = b.rises }
+  busy_words looked other p = let b = (tells_at r crew c (λ earlier s. s.answer ≡ answer.Busy looked other) p).busy looked other p.so in record { cause = b.cause; rises = b.rises }
 
-  pub cause_told : (cause : Cause) (p : LineIn crew (λ earlier s. Refuses s.answer cause)) → IsCauseOf p.line_of.line (epoch_in cause) cause
-  cause_told cause p = (tells_at r crew c (λ earlier s. Refuses s.answer cause) p).cause cause p.line_of.so
+  pub cause_told : (cause : Cause) (p : LineIn crew (λ earlier s. Refuses s.answer cause)) → IsCauseOf p.served (epoch_in cause) cause
+  cause_told cause p = (tells_at r crew c (λ earlier s. Refuses s.answer cause) p).cause cause p.so
 
-  pub long_told : (p : LineIn crew (λ earlier s. s.answer ≡ answer.LongUrl)) → IsLong r p.line_of.line
-  long_told p = (tells_at r crew c (λ earlier s. s.answer ≡ answer.LongUrl) p).long p.line_of.so
+  pub long_told : (p : LineIn crew (λ earlier s. s.answer ≡ answer.LongUrl)) → IsLong r p.served
+  long_told p = (tells_at r crew c (λ earlier s. s.answer ≡ answer.LongUrl) p).long p.so
 
-  pub short_told : (url : List ℕ) (body : Body) (p : LineIn crew (λ earlier s. Offers s.line.request url body × Fits earlier s.line.request)) → r.room < 32 + length url → p.line_of.line.answer ≡ answer.LongUrl
-  short_told url body p far = (tells_at r crew c (λ earlier s. Offers s.line.request url body × Fits earlier s.line.request) p).short url body p.line_of.so.0 p.line_of.so.1 far
+  pub short_told : (url : List ℕ) (body : Body) (p : LineIn crew (λ earlier s. Offers s.asked.request url body × Fits earlier s.asked.request)) → r.room < 32 + length url → p.served.answer ≡ answer.LongUrl
+  short_told url body p far = (tells_at r crew c (λ earlier s. Offers s.asked.request url body × Fits earlier s.asked.request) p).short url body p.so.0 p.so.1 far
 
   pub part_told : (epoch : Epoch) (bytes : List ℕ) → LineIn crew (λ earlier s. s.answer ≡ answer.Part epoch bytes) → stage_of (epoch_number epoch) ≡ 2
-  part_told epoch bytes p = (tells_at r crew c (λ earlier s. s.answer ≡ answer.Part epoch bytes) p).part epoch bytes p.line_of.so
+  part_told epoch bytes p = (tells_at r crew c (λ earlier s. s.answer ≡ answer.Part epoch bytes) p).part epoch bytes p.so
 
-  pub tab_told : (P : List Served → Served → Type 0) (p : LineIn crew P) → (p.line_of.line.answer ≡ answer.Tab) ↔ ¬ Fits p.line_of.earlier p.line_of.line.line.request
+  pub tab_told : (P : List Served → Served → Type 0) (p : LineIn crew P) → (p.served.answer ≡ answer.Tab) ↔ ¬ Fits p.earlier p.served.asked.request
   tab_told P p = (tells_at r crew c P p).tab
 
-  pub answer_told : (P : List Served → Served → Type 0) (p : LineIn crew P) → IsAnswerTo p.line_of.line.line.request p.line_of.line.answer
+  pub answer_told : (P : List Served → Served → Type 0) (p : LineIn crew P) → IsAnswerTo p.served.asked.request p.served.answer
   answer_told P p = (tells_at r crew c P p).answers
 
-  pub added_count : (first : Served) (url : List ℕ) (body : Body) (tab asked count : ℕ) (p : LineIn crew (λ earlier s. PrintsAdded earlier s first tab asked count)) → Offers first.line.request url body
-      → count ≡ min asked (length (bytes_of body) - added tab p.line_of.earlier)
+  pub added_count : (first : Served) (url : List ℕ) (body : Body) (tab asked count : ℕ) (p : LineIn crew (λ earlier s. PrintsAdded earlier s first tab asked count)) → Offers first.asked.request url body
+      → count ≡ min asked (length (bytes_of body) - added tab p.earlier)
   added_count first url body tab asked count p offers =
-      let l = p.line_of in
-      let h = (tells_at r crew c (λ earlier s. PrintsAdded earlier s first tab asked count) p).added count l.so.printed in
-      let k : Add h.tab h.asked ≡ Add tab asked = sym h.request ∙ l.so.request in
+      let h = (tells_at r crew c (λ earlier s. PrintsAdded earlier s first tab asked count) p).added count p.so.printed in
+      let k : Add h.tab h.asked ≡ Add tab asked = sym h.request ∙ p.so.request in
       let tabs : h.tab ≡ tab = cc in
       let asks : h.asked ≡ asked = cc in
-      let f : Some h.writes.first ≡ Some first = sym h.writes.begun_is ∙ ap (λ u. writing u l.earlier) tabs ∙ l.so.begun_is in
+      let f : Some h.writes.first ≡ Some first = sym h.writes.begun_is ∙ ap (λ u. writing u p.earlier) tabs ∙ p.so.begun_is in
       let same : h.writes.first ≡ first = cc in
-      let among = begun_among l.earlier l.line first l.line.line.request (ap (begun_of l.earlier l.line) l.so.request ∙ l.so.begun_is) in
-      let of_first = ((c.accounts p.j p.worker p.at).lines (l.later ++ among.front) among.back first (l.split ∙ ap (λ z. l.later ++ z) among.split ∙ sym (append_assoc l.later among.front (first ∷ among.back)))).offered url body offers in
-      let size : length (r.body (r.setting.slots + h.writes.first.line.number)) ≡ length (bytes_of body) = ap (λ (s : Served). length (r.body (r.setting.slots + s.line.number))) same ∙ ap length of_first.body_is in
-      h.count_is ∙ ap (λ n. min n (length (r.body (r.setting.slots + h.writes.first.line.number)) - added h.tab l.earlier)) asks
-      ∙ ap (λ n. min asked (n - added h.tab l.earlier)) size ∙ ap (λ t. min asked (length (bytes_of body) - added t l.earlier)) tabs
+      let among = begun_among p.earlier p.served first p.served.asked.request (ap (begun_of p.earlier p.served) p.so.request ∙ p.so.begun_is) in
+      let of_first = ((c.accounts p.j p.worker p.at).lines (p.later ++ among.front) among.back first (p.split ∙ ap (λ z. p.later ++ z) among.split ∙ sym (append_assoc p.later among.front (first ∷ among.back)))).offered url body offers in
+      let size : length (r.body (r.setting.slots + h.writes.first.asked.number)) ≡ length (bytes_of body) = ap (λ (s : Served). length (r.body (r.setting.slots + s.asked.number))) same ∙ ap length of_first.body_is in
+      h.count_is ∙ ap (λ n. min n (length (r.body (r.setting.slots + h.writes.first.asked.number)) - added h.tab p.earlier)) asks
+      ∙ ap (λ n. min asked (n - added h.tab p.earlier)) size ∙ ap (λ t. min asked (length (bytes_of body) - added t p.earlier)) tabs
 
   -- what was evicted from an idle word was stored by a line, or the anchor had it at the opening
   was_whole : (a e : ℕ) → IsEpochAt r.setting c.state a e → 4 ≤ stage_of e → IsDone c.state (EvictedVersion a (version_of e)) → WasWhole r crew a (version_of e)
@@ -358,7 +354,7 @@ module _ {X : Type 0} (r : Run X) (crew : List (Worker X)) (c : Closed r crew) w
       (λ (h : IsDone c.state (EvictedVersion a (version_of e))). absurd (by_line r crew c (EvictedVersion a (version_of e)) (λ earlier s. ⊥)
       (λ v d earlier s q o. absurd (let f : true ≡ false = sym fit ∙ (o.evicted q.0 q.3 q.4).wants in cc))
       (λ d served q o. absurd (let f : true ≡ false = sym q.4 ∙ (o.changed q.0).1 in cc))
-      h).line_of.so)
+      h).so)
       (c.sound.anchors.deeds.undoomed a e (shown_known r crew c a e p) undoomed four)
 
   pub given_back_halted : IsTrue r.fits → (a e : ℕ) → ShownIn r crew a e → doom_of e ≡ 0 → 4 ≤ stage_of e → HaltedIn r crew a (version_of e)
@@ -385,7 +381,7 @@ module _ {X : Type 0} (r : Run X) (crew : List (Worker X)) (c : Closed r crew) w
   given_back_new fit a e p undoomed four = halted_new a (version_of e) (inside r crew c a e (shown_known r crew c a e p)) (given_back_deed fit a e p undoomed four)
 
   pub never_full : IsTrue r.fits → LineIn crew (λ earlier s. s.answer ≡ answer.Full) → ⊥
-  never_full fit p = let f : true ≡ false = sym fit ∙ (tells_at r crew c (λ earlier s. s.answer ≡ answer.Full) p).full p.line_of.so in cc
+  never_full fit p = let f : true ≡ false = sym fit ∙ (tells_at r crew c (λ earlier s. s.answer ≡ answer.Full) p).full p.so in cc
 
   -- Bytes.
 
@@ -399,22 +395,22 @@ module _ {X : Type 0} (r : Run X) (crew : List (Worker X)) (c : Closed r crew) w
       empty [] h = refl
       empty (x ∷ xs) h = absurd (omega arith)
 
-  pub bytes_stored : IsTrue r.tells → (first : Served) (url : List ℕ) (p : LineIn crew (λ earlier s. ReadsOf earlier s first url)) → AreFirstOnes r crew p.line_of.line.answer url (bytes_with p.line_of.earlier p.line_of.line)
-  bytes_stored y first url p = subst (λ u. AreFirstOnes r crew p.line_of.line.answer u (bytes_with p.line_of.earlier p.line_of.line)) same
+  pub bytes_stored : IsTrue r.tells → (first : Served) (url : List ℕ) (p : LineIn crew (λ earlier s. ReadsOf earlier s first url)) → AreFirstOnes r crew p.served.answer url (bytes_with p.earlier p.served)
+  bytes_stored y first url p = subst (λ u. AreFirstOnes r crew p.served.answer u (bytes_with p.earlier p.served)) same
       (record { body = r.body g.entry.offer; stored = stored; first_ones = g.first_ones; whole = g.whole })
     where
-      g : HasGiven r p.worker.view p.line_of.earlier p.line_of.line
-      g = (tells_at r crew c (λ earlier s. ReadsOf earlier s first url) p).given y p.line_of.so.reads
+      g : HasGiven r p.worker.view p.earlier p.served
+      g = (tells_at r crew c (λ earlier s. ReadsOf earlier s first url) p).given y p.so.reads
 
       same : g.url ≡ url
       same =
-          let k : Some g.first ≡ Some first = sym g.opened_is ∙ p.line_of.so.opened_is in
+          let k : Some g.first ≡ Some first = sym g.opened_is ∙ p.so.opened_is in
           let is : g.first ≡ first = cc in
-          let u : Some g.url ≡ Some url = sym g.named ∙ ap (λ (s : Served). url_in s.line.request) is ∙ p.line_of.so.named in
+          let u : Some g.url ≡ Some url = sym g.named ∙ ap (λ (s : Served). url_in s.asked.request) is ∙ p.so.named in
           cc
 
       url_is : r.url g.entry.offer ≡ g.url
-      url_is = g.url_is (some_place p.line_of.earlier p.line_of.line p.worker.view g p.line_of.so.some)
+      url_is = g.url_is (some_place p.earlier p.served p.worker.view g p.so.some)
 
       stored : IsStored r crew g.url (r.body g.entry.offer)
       stored = dite (dec_le (version_of g.first.opened) (opening_counter r.setting))
@@ -428,14 +424,14 @@ module _ {X : Type 0} (r : Run X) (crew : List (Worker X)) (c : Closed r crew) w
               record {
                 begun = o.begun;
                 body = o.made.body;
-                offers = subst (λ u. Offers o.begun.line_of.line.line.request u o.made.body) (sym o.url_is ∙ url_is) o.made.offers;
+                offers = subst (λ u. Offers o.begun.served.asked.request u o.made.body) (sym o.url_is ∙ url_is) o.made.offers;
                 whole = o.body_is;
               },
             );
           })
 
-  told_purged : (e : Epoch) (p : LineIn crew (λ earlier s. s.answer ≡ answer.Purged e)) → HasPurged r p.worker.view p.line_of.line e
-  told_purged e p = (tells_at r crew c (λ earlier s. s.answer ≡ answer.Purged e) p).purged e p.line_of.so
+  told_purged : (e : Epoch) (p : LineIn crew (λ earlier s. s.answer ≡ answer.Purged e)) → HasPurged r p.worker.view p.served e
+  told_purged e p = (tells_at r crew c (λ earlier s. s.answer ≡ answer.Purged e) p).purged e p.so
 
   pub purged_told : (e : Epoch) → LineIn crew (λ earlier s. s.answer ≡ answer.Purged e) → e.doom ≡ true
   purged_told e p = (told_purged e p).doomed
@@ -448,14 +444,13 @@ module _ {X : Type 0} (r : Run X) (crew : List (Worker X)) (c : Closed r crew) w
 
   pub end_of_begun : (version x : ℕ) → LineIn crew (λ earlier s. EndsBegun earlier s version x) → x ≡ version
   end_of_begun version x p =
-      let l = p.line_of in
-      let f = (tells_at r crew c (λ earlier s. EndsBegun earlier s version x) p).finished x l.so.printed in
-      let k : Some f.grows.writes.first ≡ Some l.so.first = sym f.grows.writes.begun_is ∙ ap (begun_of l.earlier l.line) l.so.request ∙ l.so.begun_is in
-      let same : f.grows.writes.first ≡ l.so.first = cc in
-      let among = begun_among l.earlier l.line l.so.first l.line.line.request (ap (begun_of l.earlier l.line) l.so.request ∙ l.so.begun_is) in
-      let told = (c.accounts p.j p.worker p.at).lines (l.later ++ among.front) among.back l.so.first (l.split ∙ ap (λ z. l.later ++ z) among.split ∙ sym (append_assoc l.later among.front (l.so.first ∷ among.back))) in
-      let begun = told.began version (subst (λ (q : Request). Began q l.so.first.answer version) (sym l.so.begins) (subst (λ (a : Answer). BeganOnTab a version) (sym l.so.begun) refl)) in
-      let is : version ≡ begun.version = subst (λ (a : Answer). BeganOnTab a begun.version) l.so.begun (subst (λ (q : Request). Began q l.so.first.answer begun.version) l.so.begins begun.began) in
+      let f = (tells_at r crew c (λ earlier s. EndsBegun earlier s version x) p).finished x p.so.printed in
+      let k : Some f.grows.writes.first ≡ Some p.so.first = sym f.grows.writes.begun_is ∙ ap (begun_of p.earlier p.served) p.so.request ∙ p.so.begun_is in
+      let same : f.grows.writes.first ≡ p.so.first = cc in
+      let among = begun_among p.earlier p.served p.so.first p.served.asked.request (ap (begun_of p.earlier p.served) p.so.request ∙ p.so.begun_is) in
+      let told = (c.accounts p.j p.worker p.at).lines (p.later ++ among.front) among.back p.so.first (p.split ∙ ap (λ z. p.later ++ z) among.split ∙ sym (append_assoc p.later among.front (p.so.first ∷ among.back))) in
+      let begun = told.began version (subst (λ (q : Request). Began q p.so.first.answer version) (sym p.so.begins) (subst (λ (a : Answer). BeganOnTab a version) (sym p.so.begun) refl)) in
+      let is : version ≡ begun.version = subst (λ (a : Answer). BeganOnTab a begun.version) p.so.begun (subst (λ (q : Request). Began q p.so.first.answer begun.version) p.so.begins begun.began) in
       let d : Some x ≡ Some begun.version = sym f.grows.writes.drew ∙ ap Served.drew same ∙ begun.drew in
       let e : x ≡ begun.version = cc in
       e ∙ sym is

@@ -144,11 +144,11 @@ module _ {X : Type 0} (r : Run X) (url : List ℕ) (o : OffersNothing r url) whe
 
   deeds : (d : Deed) → Contains (entered ∷ closed ∷ taken ∷ []) d → HasOne d
   deeds d h = ⊎_elim
-      (λ (q : entered ≡ d). subst HasOne q (refl, inl record { later = []; line = get; earlier = put ∷ []; split = refl; so = entered_line }))
+      (λ (q : entered ≡ d). subst HasOne q (refl, inl record { later = []; served = get; earlier = put ∷ []; split = refl; so = entered_line }))
       (λ (t : Contains (closed ∷ taken ∷ []) d). ⊎_elim
-      (λ (q : closed ≡ d). subst HasOne q (refl, inl record { later = get ∷ []; line = put; earlier = []; split = refl; so = closed_line }))
+      (λ (q : closed ≡ d). subst HasOne q (refl, inl record { later = get ∷ []; served = put; earlier = []; split = refl; so = closed_line }))
       (λ (u : Contains (taken ∷ []) d). ⊎_elim
-      (λ (q : taken ≡ d). subst HasOne q (refl, inl record { later = get ∷ []; line = put; earlier = []; split = refl; so = taken_line }))
+      (λ (q : taken ≡ d). subst HasOne q (refl, inl record { later = get ∷ []; served = put; earlier = []; split = refl; so = taken_line }))
       (λ (n : Contains [] d). absurd (contains_none d n))
       (cons_contains taken d [] u))
       (cons_contains closed d (taken ∷ []) t))

@@ -190,18 +190,18 @@ silent_no_more tab _ q may fits = may
 
 module _ {X : Type 0} (r : Run X) where
   -- so it is not behind another line
-  none_behind : (so : Answer → Bool) (earlier : List Served) (s : Served) (t : ℕ) → IsSilent s.answer → IsAnswerTo s.line.request s.answer → ((s.answer ≡ answer.Tab) ↔ ¬ Fits earlier s.line.request) → ReadsBehind so earlier s t → ⊥
+  none_behind : (so : Answer → Bool) (earlier : List Served) (s : Served) (t : ℕ) → IsSilent s.answer → IsAnswerTo s.asked.request s.answer → ((s.answer ≡ answer.Tab) ↔ ¬ Fits earlier s.asked.request) → ReadsBehind so earlier s t → ⊥
   none_behind so earlier s t q may tab h = silent_no_more t s.answer q (subst (λ (z : Request). IsAnswerTo z s.answer) h.request may)
       (λ e. tab.0 e (subst (Fits earlier) (sym h.request) h.reads))
 
-  silent_tells : (v : View X) (earlier : List Served) (s : Served) → IsSilent s.answer → IsAnswerTo s.line.request s.answer → s.drew ≡ None
-      → ((url : List ℕ) (body : Body) → Offers s.line.request url body → IsOffered r s url body) → ((url : List ℕ) (body : Body) → Offers s.line.request url body → Fits earlier s.line.request → ⊥)
-      → ((s.answer ≡ answer.Tab) ↔ ¬ Fits earlier s.line.request) → Tells r v earlier s
+  silent_tells : (v : View X) (earlier : List Served) (s : Served) → IsSilent s.answer → IsAnswerTo s.asked.request s.answer → s.drew ≡ None
+      → ((url : List ℕ) (body : Body) → Offers s.asked.request url body → IsOffered r s url body) → ((url : List ℕ) (body : Body) → Offers s.asked.request url body → Fits earlier s.asked.request → ⊥)
+      → ((s.answer ≡ answer.Tab) ↔ ¬ Fits earlier s.asked.request) → Tells r v earlier s
   silent_tells v earlier s q may none offered unfit tab = record {
     shown = λ a e h. absurd (contains_none e (subst (λ (l : List ℕ). Contains l e) (q.epochs s.opened s.looked) h.shown));
     answers = may;
     drew = λ n. absurd (n none);
-    began = λ x h. absurd (q.began s.line.request x h);
+    began = λ x h. absurd (q.began s.asked.request x h);
     finished = λ x h. absurd (q.finished x h);
     gave_up = λ h. absurd (let z : true ≡ false = sym h ∙ q.gave_up in cc);
     full = λ h. absurd (q.full h);
@@ -214,7 +214,7 @@ module _ {X : Type 0} (r : Run X) where
     offered = offered;
     cause = λ c h. absurd (q.refuses c h);
     key = λ e key a h at. absurd (q.refuses _ h);
-    opened = λ x h. absurd (q.opened s.line.request x h);
+    opened = λ x h. absurd (q.opened s.asked.request x h);
     hit = λ t x bytes h. absurd (q.hit x bytes h);
     other = λ t h. absurd (q.other h);
     halted = λ bytes h. absurd (q.halted bytes h);
@@ -238,7 +238,7 @@ module _ {X : Type 0} (r : Run X) where
     deeds = λ d h. inl (subst (λ (l : List Deed). Contains l d) idle.deeds h);
     fresh = λ a e h. absurd (contains_none e (subst (λ (l : List ℕ). Contains l e) (q.epochs s.opened s.looked) h.shown));
     stages = λ a d e h seen same. absurd (contains_none e (subst (λ (l : List ℕ). Contains l e) (q.epochs s.opened s.looked) h.shown));
-    above = λ a x h. absurd (q.began s.line.request x (told_began s.line.request s.answer x h.told));
+    above = λ a x h. absurd (q.began s.asked.request x (told_began s.asked.request s.answer x h.told));
     tells = tells;
     parts = λ t e bytes h. absurd (q.part e bytes h);
   }
@@ -272,10 +272,10 @@ module _ {X : Type 0} (r : Run X) where
 
   pub mark_adds : (v w : View X) (earlier : List Served) (s : Served) → IsMarkLine s → IsIdle v w → Adds r v earlier s w
   mark_adds v w earlier s m idle =
-      let q = mark_silent s.line.request s.answer m.at in
+      let q = mark_silent s.asked.request s.answer m.at in
       silent_adds v w earlier s q m.drew
-      (silent_tells w earlier s q (mark_answers s.line.request s.answer m.at) m.drew (λ url body h. absurd (not_offered s s.line.request s.answer m.at url body h)) (λ url body h fits. not_offered s s.line.request s.answer m.at url body h)
-      ((λ h. absurd (mark_no_tab s.line.request s.answer m.at h)), (λ n. absurd (n (mark_fits earlier s.line.request s.answer m.at)))))
+      (silent_tells w earlier s q (mark_answers s.asked.request s.answer m.at) m.drew (λ url body h. absurd (not_offered s s.asked.request s.answer m.at url body h)) (λ url body h fits. not_offered s s.asked.request s.answer m.at url body h)
+      ((λ h. absurd (mark_no_tab s.asked.request s.answer m.at h)), (λ n. absurd (n (mark_fits earlier s.asked.request s.answer m.at)))))
       idle
 
   -- lines whose tab was not as they needed it
@@ -294,6 +294,6 @@ module _ {X : Type 0} (r : Run X) where
   tab_adds v w earlier s m idle =
       let q : IsSilent s.answer = subst IsSilent (sym m.answered) silent_tab in
       silent_adds v w earlier s q m.drew
-      (silent_tells w earlier s q (subst (IsAnswerTo s.line.request) (sym m.answered) (tab_answers earlier s.line.request m.unfit)) m.drew m.offered (λ url body h fits. m.unfit fits)
+      (silent_tells w earlier s q (subst (IsAnswerTo s.asked.request) (sym m.answered) (tab_answers earlier s.asked.request m.unfit)) m.drew m.offered (λ url body h fits. m.unfit fits)
       ((λ h. m.unfit), (λ n. m.answered)))
       idle

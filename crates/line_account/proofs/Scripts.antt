@@ -24,11 +24,11 @@ count_first : {A : Type 0} → (p : A → Bool) (x : A) (xs : List A) → count_
 count_first p x xs = sum_by-cons (λ y. one_if (p y)) x xs
 
 -- lines and served lines offer alike
-served_offer : (served : List Served) → count_by offer_of (in_order served) ≡ count_by (λ (s : Served). offers s.line.request) served
+served_offer : (served : List Served) → count_by offer_of (in_order served) ≡ count_by (λ (s : Served). offers s.asked.request) served
 served_offer [] = refl
 served_offer (s ∷ earlier) =
-    let a = sum_by_push (λ (l : Line). one_if (offer_of l)) (in_order earlier) s.line in
-    let b = count_first (λ (z : Served). offers z.line.request) s earlier in
+    let a = sum_by_push (λ (l : Line). one_if (offer_of l)) (in_order earlier) s.asked in
+    let b = count_first (λ (z : Served). offers z.asked.request) s earlier in
     let h = served_offer earlier in
     omega arith
 

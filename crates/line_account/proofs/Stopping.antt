@@ -48,11 +48,11 @@ opens_opened tab _ a e = absurd (let z : false ≡ true = e in cc)
 
 reading_opened : (tab : ℕ) (served : List Served) (first : Served) → reading tab served ≡ Some first → is_opened first.answer ≡ true
 reading_opened tab [] first e = absurd (let q : None ≡ Some first = e in cc)
-reading_opened tab (s ∷ earlier) first e = by_line (λ q. reading_opened tab earlier first q) (opens tab s.line.request s.answer) (closes tab s.line.request s.answer) refl e
+reading_opened tab (s ∷ earlier) first e = by_line (λ q. reading_opened tab earlier first q) (opens tab s.asked.request s.answer) (closes tab s.asked.request s.answer) refl e
   where
-    by_line : (reading tab earlier ≡ Some first → is_opened first.answer ≡ true) → (o k : Bool) → opens tab s.line.request s.answer ≡ o
+    by_line : (reading tab earlier ≡ Some first → is_opened first.answer ≡ true) → (o k : Bool) → opens tab s.asked.request s.answer ≡ o
         → cond o (Some s) (cond k None (reading tab earlier)) ≡ Some first → is_opened first.answer ≡ true
-    by_line before true k is q = let same : s ≡ first = cc in ap (λ (z : Served). is_opened z.answer) (sym same) ∙ opens_opened tab s.line.request s.answer is
+    by_line before true k is q = let same : s ≡ first = cc in ap (λ (z : Served). is_opened z.answer) (sym same) ∙ opens_opened tab s.asked.request s.answer is
     by_line before false true is q = absurd (let z : None ≡ Some first = q in cc)
     by_line before false false is q = before q
 
@@ -75,14 +75,14 @@ module _ (so : Answer → Bool) where
     line : Served
     back : List Served
     split : earlier ≡ later ++ line ∷ back
-    is : IsOn tab line.line.request line.answer
+    is : IsOn tab line.asked.request line.answer
     reads : reading tab back ≡ Some first
 
   answered_before : (tab : ℕ) (earlier : List Served) (first : Served) → reading tab earlier ≡ Some first
       → answered_more so tab earlier ≡ true → AnsweredBefore tab earlier first
   answered_before tab [] first r e = absurd (let z : false ≡ true = e in cc)
   answered_before tab (s ∷ earlier) first r e = by_line (λ reads came. answered_before tab earlier first reads came)
-      (opens tab s.line.request s.answer) (closes tab s.line.request s.answer) (answers_more so tab s.line.request s.answer) refl refl refl
+      (opens tab s.asked.request s.answer) (closes tab s.asked.request s.answer) (answers_more so tab s.asked.request s.answer) refl refl refl
     where
       -- what is left of the two where the line does not open or close the tab
       on : (o k : Bool) → o ≡ false → k ≡ false → cond o (Some s) (cond k None (reading tab earlier)) ≡ reading tab earlier
@@ -92,62 +92,62 @@ module _ (so : Answer → Bool) where
       came o m not_open not_so = λ i. cond (not_open i) false (not_so i || answered_more so tab earlier)
 
       by_line : (reading tab earlier ≡ Some first → answered_more so tab earlier ≡ true → AnsweredBefore tab earlier first)
-          → (o k m : Bool) → opens tab s.line.request s.answer ≡ o → closes tab s.line.request s.answer ≡ k
-          → answers_more so tab s.line.request s.answer ≡ m
+          → (o k m : Bool) → opens tab s.asked.request s.answer ≡ o → closes tab s.asked.request s.answer ≡ k
+          → answers_more so tab s.asked.request s.answer ≡ m
           → AnsweredBefore tab (s ∷ earlier) first
       by_line before true k m is_o is_k is_m = absurd (
-          let z : cond (opens tab s.line.request s.answer) false (answers_more so tab s.line.request s.answer || answered_more so tab earlier) ≡ false = λ i. cond (is_o i) false (answers_more so tab s.line.request s.answer || answered_more so tab earlier) in
+          let z : cond (opens tab s.asked.request s.answer) false (answers_more so tab s.asked.request s.answer || answered_more so tab earlier) ≡ false = λ i. cond (is_o i) false (answers_more so tab s.asked.request s.answer || answered_more so tab earlier) in
           let w : false ≡ true = sym z ∙ e in cc)
       by_line before false true m is_o is_k is_m = absurd (
-          let z : cond (opens tab s.line.request s.answer) (Some s) (cond (closes tab s.line.request s.answer) None (reading tab earlier)) ≡ None = λ i. cond (is_o i) (Some s) (cond (is_k i) None (reading tab earlier)) in
+          let z : cond (opens tab s.asked.request s.answer) (Some s) (cond (closes tab s.asked.request s.answer) None (reading tab earlier)) ≡ None = λ i. cond (is_o i) (Some s) (cond (is_k i) None (reading tab earlier)) in
           let w : None ≡ Some first = sym z ∙ r in cc)
       by_line before false false true is_o is_k is_m = record {
         later = [];
         line = s;
         back = earlier;
         split = refl;
-        is = is_on tab s.line.request s.answer is_m;
-        reads = sym (on (opens tab s.line.request s.answer) (closes tab s.line.request s.answer) is_o is_k) ∙ r;
+        is = is_on tab s.asked.request s.answer is_m;
+        reads = sym (on (opens tab s.asked.request s.answer) (closes tab s.asked.request s.answer) is_o is_k) ∙ r;
       }
       by_line before false false false is_o is_k is_m =
-          let h = before (sym (on (opens tab s.line.request s.answer) (closes tab s.line.request s.answer) is_o is_k) ∙ r) (sym (came (opens tab s.line.request s.answer) (answers_more so tab s.line.request s.answer) is_o is_m) ∙ e) in
+          let h = before (sym (on (opens tab s.asked.request s.answer) (closes tab s.asked.request s.answer) is_o is_k) ∙ r) (sym (came (opens tab s.asked.request s.answer) (answers_more so tab s.asked.request s.answer) is_o is_m) ∙ e) in
           record { later = s ∷ h.later; line = h.line; back = h.back; split = ap (λ (z : List Served). s ∷ z) h.split; is = h.is; reads = h.reads }
 
 module _ {X : Type 0} (r : Run X) (crew : List (Worker X)) (c : Closed r crew) (tab : ℕ) where
-  pub ended_stays : (p : LineIn crew (λ earlier s. ReadsBehind is_end earlier s tab)) → p.line_of.line.answer ≡ answer.End []
-  ended_stays p = (tells_at r crew c (λ earlier s. ReadsBehind is_end earlier s tab) p).behind_end tab p.line_of.so
+  pub ended_stays : (p : LineIn crew (λ earlier s. ReadsBehind is_end earlier s tab)) → p.served.answer ≡ answer.End []
+  ended_stays p = (tells_at r crew c (λ earlier s. ReadsBehind is_end earlier s tab) p).behind_end tab p.so
 
-  pub turned_stays : (p : LineIn crew (λ earlier s. ReadsBehind is_other_url earlier s tab)) → p.line_of.line.answer ≡ answer.OtherUrl
-  turned_stays p = (tells_at r crew c (λ earlier s. ReadsBehind is_other_url earlier s tab) p).behind_other tab p.line_of.so
+  pub turned_stays : (p : LineIn crew (λ earlier s. ReadsBehind is_other_url earlier s tab)) → p.served.answer ≡ answer.OtherUrl
+  turned_stays p = (tells_at r crew c (λ earlier s. ReadsBehind is_other_url earlier s tab) p).behind_other tab p.so
 
   pub never_grows : LineIn crew (λ earlier s. PartBehindHalted earlier s tab) → ⊥
-  never_grows p = (tells_at r crew c (λ earlier s. PartBehindHalted earlier s tab) p).no_part tab p.line_of.so.epoch p.line_of.so.bytes p.line_of.so.behind p.line_of.so.printed
+  never_grows p = (tells_at r crew c (λ earlier s. PartBehindHalted earlier s tab) p).no_part tab p.so.epoch p.so.bytes p.so.behind p.so.printed
 
   -- Behind HALTED, where bytes are told.
   module _ (y : IsTrue r.tells) (p : LineIn crew (λ earlier s. ReadsBehind is_halted earlier s tab)) where
     abbrev l : Served
-    l = p.line_of.line
+    l = p.served
 
     abbrev before : List Served
-    before = p.line_of.earlier
+    before = p.earlier
 
     t : Tells r p.worker.view before l
     t = tells_at r crew c (λ earlier s. ReadsBehind is_halted earlier s tab) p
 
     open_line : (first : Served) × (reading tab before ≡ Some first)
-    open_line = there_is (reading tab before) p.line_of.so.reads
+    open_line = there_is (reading tab before) p.so.reads
 
     b : AnsweredBefore is_halted tab before open_line.0
-    b = answered_before is_halted tab before open_line.0 open_line.1 p.line_of.so.behind
+    b = answered_before is_halted tab before open_line.0 open_line.1 p.so.behind
 
     printed : (bytes : List ℕ) × (b.line.answer ≡ answer.Halted bytes)
     printed = halted_bytes b.line.answer b.is.is
 
-    split : p.worker.served ≡ (p.line_of.later ++ l ∷ b.later) ++ b.line ∷ b.back
-    split = p.line_of.split ∙ ap (λ (z : List Served). p.line_of.later ++ l ∷ z) b.split ∙ sym (append_assoc p.line_of.later (l ∷ b.later) (b.line ∷ b.back))
+    split : p.worker.served ≡ (p.later ++ l ∷ b.later) ++ b.line ∷ b.back
+    split = p.split ∙ ap (λ (z : List Served). p.later ++ l ∷ z) b.split ∙ sym (append_assoc p.later (l ∷ b.later) (b.line ∷ b.back))
 
     told : Tells r p.worker.view b.back b.line
-    told = (c.accounts p.j p.worker p.at).lines (p.line_of.later ++ l ∷ b.later) b.back b.line split
+    told = (c.accounts p.j p.worker p.at).lines (p.later ++ l ∷ b.later) b.back b.line split
 
     g : HasGiven r p.worker.view b.back b.line
     g = told.given y (halted_reads b.line.answer b.is.is)
@@ -159,8 +159,8 @@ module _ {X : Type 0} (r : Run X) (crew : List (Worker X)) (c : Closed r crew) (
     first_is : g.first ≡ open_line.0
     first_is = one_some g.first open_line.0 (sym g.opened_is ∙ ap (opened_of b.back b.line) b.is.on ∙ b.reads)
 
-    named : url_in (open_line.0).line.request ≡ Some g.url
-    named = ap (λ (z : Served). url_in z.line.request) (sym first_is) ∙ g.named
+    named : url_in (open_line.0).asked.request ≡ Some g.url
+    named = ap (λ (z : Served). url_in z.asked.request) (sym first_is) ∙ g.named
 
     opened : (x : ℕ) × Opens (open_line.0).answer x
     opened = opened_told (open_line.0).answer (reading_opened tab before open_line.0 open_line.1)
@@ -179,13 +179,13 @@ module _ {X : Type 0} (r : Run X) (crew : List (Worker X)) (c : Closed r crew) (
     of_halted = reads_version b.back b.line (ap (opened_of b.back b.line) b.is.on ∙ b.reads)
 
     abbrev of_later : ReadsVersion r.setting.anchors before l a x
-    of_later = reads_version before l (ap (opened_of before l) p.line_of.so.request ∙ open_line.1)
+    of_later = reads_version before l (ap (opened_of before l) p.so.request ∙ open_line.1)
 
     abbrev Halted : List Served → Served → Type 0
     Halted earlier s = ReadsHalted r.setting.anchors earlier s a x
 
     halted_line : LineIn crew (λ earlier s. ReadsHalted r.setting.anchors earlier s a x)
-    halted_line = record { j = p.j; worker = p.worker; at = p.at; line_of = record { later = p.line_of.later ++ l ∷ b.later; line = b.line; earlier = b.back; split = split; so = record { of = of_halted; bytes = printed.0; printed = printed.1 } } }
+    halted_line = record { j = p.j; worker = p.worker; at = p.at; later = p.later ++ l ∷ b.later; served = b.line; earlier = b.back; split = split; so = record { of = of_halted; bytes = printed.0; printed = printed.1 } }
 
     was_halted : HaltedIn r crew a x
     was_halted = halted_same r crew c a x halted_line
@@ -208,24 +208,24 @@ module _ {X : Type 0} (r : Run X) (crew : List (Worker X)) (c : Closed r crew) (
 
     -- so it is not given whole
     no_end : (bytes : List ℕ) → l.answer ≡ answer.End bytes → ⊥
-    no_end bytes is = whole_kept r crew c y a x (record { j = p.j; worker = p.worker; at = p.at; line_of = record { later = p.line_of.later; line = l; earlier = before; split = p.line_of.split; so = record { of = of_later; whole = subst IsWhole (sym is) tt } } }) high was_halted
+    no_end bytes is = whole_kept r crew c y a x (record { j = p.j; worker = p.worker; at = p.at; later = p.later; served = l; earlier = before; split = p.split; so = record { of = of_later; whole = subst IsWhole (sym is) tt } }) high was_halted
 
     -- and a slot of it had the URL
     no_other : l.answer ≡ answer.OtherUrl → ⊥
     no_other is = never_both r crew c y a x g.url
-        (record { j = p.j; worker = p.worker; at = p.at; line_of = record { later = p.line_of.later ++ l ∷ b.later; line = b.line; earlier = b.back; split = split; so = record { of = of_halted; named = named; sure = subst IsSure (sym printed.1) tt } } })
-        (record { j = p.j; worker = p.worker; at = p.at; line_of = record { later = p.line_of.later; line = l; earlier = before; split = p.line_of.split; so = record { of = of_later; named = named; printed = is } } })
+        (record { j = p.j; worker = p.worker; at = p.at; later = p.later ++ l ∷ b.later; served = b.line; earlier = b.back; split = split; so = record { of = of_halted; named = named; sure = subst IsSure (sym printed.1) tt } })
+        (record { j = p.j; worker = p.worker; at = p.at; later = p.later; served = l; earlier = before; split = p.split; so = record { of = of_later; named = named; printed = is } })
 
-    fits : Fits before l.line.request
-    fits = subst (Fits before) (sym p.line_of.so.request) p.line_of.so.reads
+    fits : Fits before l.asked.request
+    fits = subst (Fits before) (sym p.so.request) p.so.reads
 
     answers : IsAnswerTo (More tab) l.answer
-    answers = subst (λ (q : Request). IsAnswerTo q l.answer) p.line_of.so.request t.answers
+    answers = subst (λ (q : Request). IsAnswerTo q l.answer) p.so.request t.answers
 
     by_answer : (z : Answer) → l.answer ≡ z → IsAnswerTo (More tab) z → IsStillHalted z
     by_answer (answer.Halted bytes) is may = tt
     by_answer (answer.ReadFault bytes) is may = tt
-    by_answer (answer.Part epoch bytes) is may = absurd (t.no_part tab epoch bytes p.line_of.so is)
+    by_answer (answer.Part epoch bytes) is may = absurd (t.no_part tab epoch bytes p.so is)
     by_answer (answer.End bytes) is may = absurd (no_end bytes is)
     by_answer answer.OtherUrl is may = absurd (no_other is)
     by_answer answer.Tab is may = absurd (t.tab.0 is fits)

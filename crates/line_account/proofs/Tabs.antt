@@ -36,30 +36,30 @@ one_url : (u v : List ℕ) → Some u ≡ Some v → u ≡ v
 one_url u v e = cc
 
 -- the URL at which a line reads is that of the line that opened
-opened_at_url : (earlier : List Served) (s first : Served) (q : Request) → q ≡ s.line.request → opened_of earlier s q ≡ Some first → url_at earlier q ≡ url_in first.line.request
-opened_at_url earlier s first (Get url) is e = ap url_in is ∙ ap (λ (z : Served). url_in z.line.request) (one_some s first e)
-opened_at_url earlier s first (OpenTab tab url) is e = ap url_in is ∙ ap (λ (z : Served). url_in z.line.request) (one_some s first e)
+opened_at_url : (earlier : List Served) (s first : Served) (q : Request) → q ≡ s.asked.request → opened_of earlier s q ≡ Some first → url_at earlier q ≡ url_in first.asked.request
+opened_at_url earlier s first (Get url) is e = ap url_in is ∙ ap (λ (z : Served). url_in z.asked.request) (one_some s first e)
+opened_at_url earlier s first (OpenTab tab url) is e = ap url_in is ∙ ap (λ (z : Served). url_in z.asked.request) (one_some s first e)
 opened_at_url earlier s first (More tab) is e = ap url_named e
 opened_at_url earlier s first (CloseTab tab) is e = ap url_named e
 opened_at_url earlier s first _ is e = absurd (let z : None ≡ Some first = e in cc)
 
 at_anchor : (anchors : ℕ) (earlier : List Served) (s : Served) (a x : ℕ) → ReadsVersion anchors earlier s a x → IsAt anchors earlier s a
-at_anchor anchors earlier s a x so = record { url = so.anchor.url; named_is = opened_at_url earlier s so.first s.line.request refl so.opened_is ∙ so.anchor.named_is; anchor = so.anchor.anchor }
+at_anchor anchors earlier s a x so = record { url = so.anchor.url; named_is = opened_at_url earlier s so.first s.asked.request refl so.opened_is ∙ so.anchor.named_is; anchor = so.anchor.anchor }
 
 module _ {X : Type 0} (r : Run X) (crew : List (Worker X)) (c : Closed r crew) (a x : ℕ) where
   pub part_same : (epoch : Epoch) → LineIn crew (λ earlier s. ReadsPart r.setting.anchors earlier s a x epoch) → version_of (epoch_number epoch) ≡ x
   part_same epoch p =
       let P : List Served → Served → Type 0 = λ earlier s. ReadsPart r.setting.anchors earlier s a x epoch in
-      let so = p.line_of.so in
+      let so = p.so in
       (tells_at r crew c P p).part_version epoch so.bytes so.printed so.of.first so.of.opened_is ∙ sym (first_version r crew c P p a x so.of)
 
   pub halted_same : LineIn crew (λ earlier s. ReadsHalted r.setting.anchors earlier s a x) → HaltedIn r crew a x
   halted_same p =
       let P : List Served → Served → Type 0 = λ earlier s. ReadsHalted r.setting.anchors earlier s a x in
-      let s : Served = p.line_of.line in
-      let so = p.line_of.so in
+      let s : Served = p.served in
+      let so = p.so in
       let told = tells_at r crew c P p in
-      let shown = shows r crew c P p a s.looked (at_anchor r.setting.anchors p.line_of.earlier s a x so.of) (first_of_one r crew c s.looked (epochs_of s.opened s.looked s.answer) (ap (epochs_of s.opened s.looked) so.printed)) in
+      let shown = shows r crew c P p a s.looked (at_anchor r.setting.anchors p.earlier s a x so.of) (first_of_one r crew c s.looked (epochs_of s.opened s.looked s.answer) (ap (epochs_of s.opened s.looked) so.printed)) in
       let version : version_of s.looked ≡ x = told.halted_version so.bytes so.printed so.of.first so.of.opened_is ∙ sym (first_version r crew c P p a x so.of) in
       subst (λ (n : ℕ). HaltedIn r crew a n) version (halted_by r crew c a s.looked shown (told.halted so.bytes so.printed))
 
@@ -68,43 +68,43 @@ module _ {X : Type 0} (r : Run X) (crew : List (Worker X)) (c : Closed r crew) (
     P earlier s = ReadsOn r.setting.anchors earlier s a x
 
     abbrev s : Served
-    s = p.line_of.line
+    s = p.served
 
-    g : HasGiven r p.worker.view p.line_of.earlier s
-    g = (tells_at r crew c P p).given y p.line_of.so.reads
+    g : HasGiven r p.worker.view p.earlier s
+    g = (tells_at r crew c P p).given y p.so.reads
 
-    first_is : p.line_of.so.of.first ≡ g.first
-    first_is = one_some p.line_of.so.of.first g.first (sym p.line_of.so.of.opened_is ∙ g.opened_is)
+    first_is : p.so.of.first ≡ g.first
+    first_is = one_some p.so.of.first g.first (sym p.so.of.opened_is ∙ g.opened_is)
 
     version : x ≡ version_of g.first.opened
-    version = first_version r crew c P p a x p.line_of.so.of ∙ ap (λ (z : Served). version_of z.opened) first_is
+    version = first_version r crew c P p a x p.so.of ∙ ap (λ (z : Served). version_of z.opened) first_is
 
     abbrev here : ℕ
     here = anchor_of (key_of g.url) r.setting.anchors
 
     at_here : here ≡ a
     at_here =
-        let h = p.line_of.so.of.anchor in
-        let named = one_url h.url g.url (sym h.named_is ∙ ap (λ (z : Served). url_in z.line.request) first_is ∙ g.named) in
+        let h = p.so.of.anchor in
+        let named = one_url h.url g.url (sym h.named_is ∙ ap (λ (z : Served). url_in z.asked.request) first_is ∙ g.named) in
         sym (h.anchor ∙ ap (λ (u : List ℕ). anchor_of (key_of u) r.setting.anchors) named)
 
-    pub front_old : x ≤ opening_counter r.setting → IsFrontOfOld r a s.answer (bytes_with p.line_of.earlier s)
-    front_old low = subst (λ (b : ℕ). IsFrontOfOld r b s.answer (bytes_with p.line_of.earlier s)) at_here (
+    pub front_old : x ≤ opening_counter r.setting → IsFrontOfOld r a s.answer (bytes_with p.earlier s)
+    front_old low = subst (λ (b : ℕ). IsFrontOfOld r b s.answer (bytes_with p.earlier s)) at_here (
         let below = subst (λ (n : ℕ). n ≤ opening_counter r.setting) version low in
         let offer = g.entry.old below in record {
           there = old_kept r crew c here g.first.opened (inr (c.index p.j, p.worker.view, c.at p.j p.worker p.at, g.entry.seen)) g.entry.readable below;
-          first_ones = g.first_ones ∙ ap (λ (o : ℕ). take (length (bytes_with p.line_of.earlier s)) (r.body o)) offer;
+          first_ones = g.first_ones ∙ ap (λ (o : ℕ). take (length (bytes_with p.earlier s)) (r.body o)) offer;
           whole = λ w. g.whole w ∙ ap r.body offer;
         })
 
-    pub front_new : opening_counter r.setting < x → IsFrontOfLine r crew a x s.answer (bytes_with p.line_of.earlier s)
-    front_new high = subst (λ (b : ℕ). IsFrontOfLine r crew b x s.answer (bytes_with p.line_of.earlier s)) at_here (subst (λ (n : ℕ). IsFrontOfLine r crew here n s.answer (bytes_with p.line_of.earlier s)) (sym version) (
+    pub front_new : opening_counter r.setting < x → IsFrontOfLine r crew a x s.answer (bytes_with p.earlier s)
+    front_new high = subst (λ (b : ℕ). IsFrontOfLine r crew b x s.answer (bytes_with p.earlier s)) at_here (subst (λ (n : ℕ). IsFrontOfLine r crew here n s.answer (bytes_with p.earlier s)) (sym version) (
         let o = of_line r crew c P p here g.first.opened g.url g.entry (subst (λ (n : ℕ). opening_counter r.setting < n) version high) in record {
           begun = o.begun;
           url = o.made.url;
           body = o.made.body;
           offers = o.made.offers;
-          first_ones = g.first_ones ∙ ap (take (length (bytes_with p.line_of.earlier s))) o.body_is;
+          first_ones = g.first_ones ∙ ap (take (length (bytes_with p.earlier s))) o.body_is;
           whole = λ w. g.whole w ∙ o.body_is;
         }))
 
@@ -124,30 +124,30 @@ module _ {X : Type 0} (r : Run X) (crew : List (Worker X)) (c : Closed r crew) (
   abbrev Other : List Served → Served → Type 0
   Other earlier s = ReadsOther r.setting.anchors earlier s a x url
 
-  given_under : HasGiven r p.worker.view p.line_of.earlier p.line_of.line
-  given_under = (tells_at r crew c Under p).given y (sure_reads p.line_of.line.answer p.line_of.so.sure)
+  given_under : HasGiven r p.worker.view p.earlier p.served
+  given_under = (tells_at r crew c Under p).given y (sure_reads p.served.answer p.so.sure)
 
-  turned : HasOther r q.worker.view q.line_of.earlier q.line_of.line
-  turned = (tells_at r crew c Other q).other y q.line_of.so.printed
+  turned : HasOther r q.worker.view q.earlier q.served
+  turned = (tells_at r crew c Other q).other y q.so.printed
 
   -- the entry of the one and of the other
-  first_given : p.line_of.so.of.first ≡ given_under.first
-  first_given = one_some p.line_of.so.of.first given_under.first (sym p.line_of.so.of.opened_is ∙ given_under.opened_is)
+  first_given : p.so.of.first ≡ given_under.first
+  first_given = one_some p.so.of.first given_under.first (sym p.so.of.opened_is ∙ given_under.opened_is)
 
-  first_turned : q.line_of.so.of.first ≡ turned.first
-  first_turned = one_some q.line_of.so.of.first turned.first (sym q.line_of.so.of.opened_is ∙ turned.opened_is)
+  first_turned : q.so.of.first ≡ turned.first
+  first_turned = one_some q.so.of.first turned.first (sym q.so.of.opened_is ∙ turned.opened_is)
 
   url_given : given_under.url ≡ url
-  url_given = one_url given_under.url url (sym given_under.named ∙ ap (λ (z : Served). url_in z.line.request) (sym first_given) ∙ p.line_of.so.named)
+  url_given = one_url given_under.url url (sym given_under.named ∙ ap (λ (z : Served). url_in z.asked.request) (sym first_given) ∙ p.so.named)
 
   url_turned : turned.url ≡ url
-  url_turned = one_url turned.url url (sym turned.named ∙ ap (λ (z : Served). url_in z.line.request) (sym first_turned) ∙ q.line_of.so.named)
+  url_turned = one_url turned.url url (sym turned.named ∙ ap (λ (z : Served). url_in z.asked.request) (sym first_turned) ∙ q.so.named)
 
   version_given : version_of given_under.first.opened ≡ x
-  version_given = ap (λ (z : Served). version_of z.opened) (sym first_given) ∙ sym (first_version r crew c Under p a x p.line_of.so.of)
+  version_given = ap (λ (z : Served). version_of z.opened) (sym first_given) ∙ sym (first_version r crew c Under p a x p.so.of)
 
   version_turned : version_of turned.first.opened ≡ x
-  version_turned = ap (λ (z : Served). version_of z.opened) (sym first_turned) ∙ sym (first_version r crew c Other q a x q.line_of.so.of)
+  version_turned = ap (λ (z : Served). version_of z.opened) (sym first_turned) ∙ sym (first_version r crew c Other q a x q.so.of)
 
   abbrev home_of : List ℕ → ℕ
   home_of u = anchor_of (key_of u) r.setting.anchors
@@ -161,4 +161,4 @@ module _ {X : Type 0} (r : Run X) (crew : List (Worker X)) (c : Closed r crew) (
       c.sound.anchors.seen.agree (c.index p.j) (c.index q.j) p.worker.view q.worker.view (c.at p.j p.worker p.at) (c.at q.j q.worker q.at) (home_of url) x Offer given_under.entry.offer turned.entry.offer mine theirs
 
   pub never_both : ⊥
-  never_both = turned.differs (ap r.url (sym same_entry) ∙ given_under.url_is (given_under.sure p.line_of.so.sure) ∙ url_given ∙ sym url_turned)
+  never_both = turned.differs (ap r.url (sym same_entry) ∙ given_under.url_is (given_under.sure p.so.sure) ∙ url_given ∙ sym url_turned)

@@ -59,9 +59,8 @@ module _ {X : Type 0} (r : Run X) (crew : List (Worker X)) (c : Closed r crew) w
 
   shown_with : (a x : ℕ) → LineIn crew (λ earlier s. PrintsAlone r.setting.anchors earlier s a x) → ShownWith a x
   shown_with a x p =
-      let l = p.line_of in
       let told = tells_at r crew c (λ earlier s. PrintsAlone r.setting.anchors earlier s a x) p in
-      let h = shown_of l.line.opened l.line.looked x l.line.answer (reads r p.worker.view l.earlier l.line told) l.so.alone in
+      let h = shown_of p.served.opened p.served.looked x p.served.answer (reads r p.worker.view p.earlier p.served told) p.so.alone in
       record {
         epoch = h.epoch;
         version_is = h.version_is;
@@ -69,13 +68,11 @@ module _ {X : Type 0} (r : Run X) (crew : List (Worker X)) (c : Closed r crew) w
           j = p.j;
           worker = p.worker;
           at = p.at;
-          line_of = record {
-            later = l.later;
-            line = l.line;
-            earlier = l.earlier;
-            split = l.split;
-            so = record { at = l.so.at; shown = h.shown };
-          };
+          later = p.later;
+          served = p.served;
+          earlier = p.earlier;
+          split = p.split;
+          so = record { at = p.so.at; shown = h.shown };
         };
       }
 

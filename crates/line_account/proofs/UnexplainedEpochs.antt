@@ -31,7 +31,7 @@ use Rattle.line_account.specs.Refusals.{Any}
 use Rattle.line_account.specs.Rules.{KeepsRules}
 
 -- a line that refuses a `get` by an epoch shows this
-abbrev at_get : (anchors : ℕ) (s : Served) (url : List ℕ) → s.line.request ≡ Get url → (e : ℕ) → Contains (epochs_of s.opened s.looked s.answer) e → Shows anchors [] s (anchor_of (key_of url) anchors) e
+abbrev at_get : (anchors : ℕ) (s : Served) (url : List ℕ) → s.asked.request ≡ Get url → (e : ℕ) → Contains (epochs_of s.opened s.looked s.answer) e → Shows anchors [] s (anchor_of (key_of url) anchors) e
 at_get anchors s url is e shown = record { at = record { url = url; named_is = ap (url_at []) is; anchor = refl }; shown = shown }
 
 first_of : (e : ℕ) (es xs : List ℕ) → xs ≡ e ∷ es → Contains xs e
@@ -50,8 +50,8 @@ one_line s (y ∷ []) earlier x e = absurd (let n : [] ≡ x ∷ earlier = cc in
 one_line s (y ∷ z ∷ later) earlier x e = absurd (let n : [] ≡ z ∷ (later ++ x ∷ earlier) = cc in cc)
 
 -- a line that begins no writing leaves none
-none_written : (t : ℕ) (s : Served) → begins t s.line.request s.answer ≡ false → writing t (s ∷ []) ≡ None
-none_written t s is = ap (λ (b : Bool). cond b (Some s) (cond (ends t s.line.request s.answer) None None)) is ∙ same (ends t s.line.request s.answer)
+none_written : (t : ℕ) (s : Served) → begins t s.asked.request s.answer ≡ false → writing t (s ∷ []) ≡ None
+none_written t s is = ap (λ (b : Bool). cond b (Some s) (cond (ends t s.asked.request s.answer) None None)) is ∙ same (ends t s.asked.request s.answer)
   where
     same : (b : Bool) → cond b None (writing t []) ≡ None
     same true = refl
@@ -59,32 +59,30 @@ none_written t s is = ap (λ (b : Bool). cond b (Some s) (cond (ends t s.line.re
 
 module _ {X : Type 0} (r : Run X) (script : List Line) (crew : List (Worker X)) (rules : KeepsRules r script crew) where
   abbrev line_in : (j : ℕ) (w : Worker X) → get_elem? crew j ≡ some w → (s : Served) → w.served ≡ s ∷ [] → (P : List Served → Served → Type 0) → P [] s → LineIn crew P
-  line_in j w at s is P so = record { j = j; worker = w; at = at; line_of = record { later = []; line = s; earlier = []; split = is; so = so } }
+  line_in j w at s is P so = record { j = j; worker = w; at = at; later = []; served = s; earlier = []; split = is; so = so }
 
-  abbrev begun_there : (j : ℕ) (w : Worker X) → get_elem? crew j ≡ some w → (p : Served) (url : List ℕ) (body : Body) (x : ℕ) → w.served ≡ p ∷ [] → p.line.request ≡ Put url body → TellsBegun (Put url body) p.answer x
+  abbrev begun_there : (j : ℕ) (w : Worker X) → get_elem? crew j ≡ some w → (p : Served) (url : List ℕ) (body : Body) (x : ℕ) → w.served ≡ p ∷ [] → p.asked.request ≡ Put url body → TellsBegun (Put url body) p.answer x
       → TellsBegunIn r crew (home r url) x
   begun_there j w at p url body x is pq told = record {
     j = j;
     worker = w;
     at = at;
-    line_of = record {
-      later = [];
-      line = p;
-      earlier = [];
-      split = is;
-      so = record { anchor = record { url = url; named_is = ap url_in pq; anchor = refl }; told = subst (λ (q : Request). TellsBegun q p.answer x) (sym pq) told };
-    };
+    later = [];
+    served = p;
+    earlier = [];
+    split = is;
+    so = record { anchor = record { url = url; named_is = ap url_in pq; anchor = refl }; told = subst (λ (q : Request). TellsBegun q p.answer x) (sym pq) told };
   }
 
   -- a version that a `put` began is above the counter of the opening
-  above : (j : ℕ) (w : Worker X) (at : get_elem? crew j ≡ some w) (p : Served) (url : List ℕ) (body : Body) (x : ℕ) (is : w.served ≡ p ∷ []) (pq : p.line.request ≡ Put url body) (told : TellsBegun (Put url body) p.answer x)
+  above : (j : ℕ) (w : Worker X) (at : get_elem? crew j ≡ some w) (p : Served) (url : List ℕ) (body : Body) (x : ℕ) (is : w.served ≡ p ∷ []) (pq : p.asked.request ≡ Put url body) (told : TellsBegun (Put url body) p.answer x)
       → opening_counter r.setting < x
   above j w at p url body x is pq told =
       let b = begun_there j w at p url body x is pq told in
-      (rules.versions.bounds (home r url) x (record { j = j; worker = w; at = at; line_of = record { later = []; line = p; earlier = []; split = is; so = rules.versions.told (home r url) x b } })).0
+      (rules.versions.bounds (home r url) x (record { j = j; worker = w; at = at; later = []; served = p; earlier = []; split = is; so = rules.versions.told (home r url) x b })).0
 
 module _ {X : Type 0} (r : Run X) (script : List Line) (w : Worker X) (rules : KeepsRules r script (alone w)) (s : Served) (is : w.served ≡ s ∷ []) (url : List ℕ) where
-  pub never_held : (body : Body) (held : Word) → opening_epoch r.setting (home r url) ≡ 0 → s.line.request ≡ Put url body → s.answer ≡ answer.Busy held held
+  pub never_held : (body : Body) (held : Word) → opening_epoch r.setting (home r url) ≡ 0 → s.asked.request ≡ Put url body → s.answer ≡ answer.Busy held held
       → held.epoch ≡ record { version = 0; stage = stage.Freeing; doom = false } → ⊥
   never_held body held none sq sa of =
       let e : ℕ = epoch_number held.epoch in
@@ -96,7 +94,7 @@ module _ {X : Type 0} (r : Run X) (script : List Line) (w : Worker X) (rules : K
       let z = empty.0 in
       omega arith
 
-  pub never_doomed : (x : ℕ) → s.line.request ≡ Get url → s.answer ≡ answer.Miss (Writing (record { version = x; stage = stage.Taken; doom = true })) → ⊥
+  pub never_doomed : (x : ℕ) → s.asked.request ≡ Get url → s.answer ≡ answer.Miss (Writing (record { version = x; stage = stage.Taken; doom = true })) → ⊥
   never_doomed x sq sa =
       let epoch : Epoch = record { version = x; stage = stage.Taken; doom = true } in
       let e : ℕ = epoch_number epoch in
@@ -112,22 +110,22 @@ module _ {X : Type 0} (r : Run X) (script : List Line) (w : Worker X) (rules : K
   mine zero v at = sym (ap Worker.served (some-injective w v at)) ∙ is
   mine (suc j) v at = absurd (some-ne-none v (sym at))
 
-  only : (P : List Served → Served → Type 0) → (p : LineIn (alone w) P) → s ≡ p.line_of.line
-  only P p = one_line s p.line_of.later p.line_of.earlier p.line_of.line (sym (mine p.j p.worker p.at) ∙ p.line_of.split)
+  only : (P : List Served → Served → Type 0) → (p : LineIn (alone w) P) → s ≡ p.served
+  only P p = one_line s p.later p.earlier p.served (sym (mine p.j p.worker p.at) ∙ p.split)
 
-  module _ (body : Body) (held : Word) (x : ℕ) (sq : s.line.request ≡ Begin 0 url body) (sa : s.answer ≡ answer.Busy held held) (of : held.epoch ≡ record { version = x; stage = stage.Freeing; doom = false }) where
+  module _ (body : Body) (held : Word) (x : ℕ) (sq : s.asked.request ≡ Begin 0 url body) (sa : s.answer ≡ answer.Busy held held) (of : held.epoch ≡ record { version = x; stage = stage.Freeing; doom = false }) where
     abbrev e : ℕ
     e = epoch_number held.epoch
 
     none_evicts : LineIn (alone w) (λ earlier z. MayEvict z.answer) → ⊥
-    none_evicts p = subst MayEvict (ap Served.answer (sym (only (λ earlier z. MayEvict z.answer) p)) ∙ sa) p.line_of.so
+    none_evicts p = subst MayEvict (ap Served.answer (sym (only (λ earlier z. MayEvict z.answer) p)) ∙ sa) p.so
 
     nothing : (t : ℕ) → writing t (s ∷ []) ≡ None
     nothing t = none_written t s (ap (λ (q : Request). begins t q s.answer) sq ∙ ap (begins t (Begin 0 url body)) sa ∙ and_right (0 == t) false refl)
 
     none_halted : HaltedIn r (alone w) (home r url) (version_of e) → ⊥
     none_halted (inl p) =
-        let gave : gives_up s.answer ≡ true = ap (λ (z : Served). gives_up z.answer) (only (λ earlier z. Halts r.setting.anchors earlier z (home r url) (version_of e)) p) ∙ p.line_of.so.gave_up in
+        let gave : gives_up s.answer ≡ true = ap (λ (z : Served). gives_up z.answer) (only (λ earlier z. Halts r.setting.anchors earlier z (home r url) (version_of e)) p) ∙ p.so.gave_up in
         let none : false ≡ true = sym (ap gives_up sa) ∙ gave in
         cc
     none_halted (inr q) =
@@ -155,31 +153,31 @@ refused_none : (t : ℕ) (held : Word) (served : List Served) → ((later earlie
 refused_none t held [] all = refl
 refused_none t held (s ∷ earlier) all =
     let is = all [] earlier s refl in
-    let not_begun : begins t s.line.request s.answer ≡ false = ap (begins t s.line.request) is ∙ begins_none t s.line.request held in
+    let not_begun : begins t s.asked.request s.answer ≡ false = ap (begins t s.asked.request) is ∙ begins_none t s.asked.request held in
     let before = refused_none t held earlier (λ later back z split. all (s ∷ later) back z (ap (λ (l : List Served). s ∷ l) split)) in
-    (λ i. cond (not_begun i) (Some s) (cond (ends t s.line.request s.answer) None (before i))) ∙ same (ends t s.line.request s.answer)
+    (λ i. cond (not_begun i) (Some s) (cond (ends t s.asked.request s.answer) None (before i))) ∙ same (ends t s.asked.request s.answer)
   where
     same : (b : Bool) → cond b None (writing t []) ≡ None
     same true = refl
     same false = refl
 
 module _ {X : Type 0} (r : Run X) (script : List Line) (crew : List (Worker X)) (rules : KeepsRules r script crew) (a x : ℕ) (held : Word)
-    (all : (p : LineIn crew Any) → p.line_of.line.answer ≡ answer.Busy held held) where
-  any_line : (P : List Served → Served → Type 0) → (p : LineIn crew P) → p.line_of.line.answer ≡ answer.Busy held held
-  any_line P p = all (record { j = p.j; worker = p.worker; at = p.at; line_of = record { later = p.line_of.later; line = p.line_of.line; earlier = p.line_of.earlier; split = p.line_of.split; so = tt } })
+    (all : (p : LineIn crew Any) → p.served.answer ≡ answer.Busy held held) where
+  any_line : (P : List Served → Served → Type 0) → (p : LineIn crew P) → p.served.answer ≡ answer.Busy held held
+  any_line P p = all (record { j = p.j; worker = p.worker; at = p.at; later = p.later; served = p.served; earlier = p.earlier; split = p.split; so = tt })
 
   abbrev freed : ℕ
   freed = epoch_number held.epoch
 
   no_eviction : LineIn crew (λ earlier z. MayEvict z.answer) → ⊥
-  no_eviction p = subst MayEvict (any_line (λ earlier z. MayEvict z.answer) p) p.line_of.so
+  no_eviction p = subst MayEvict (any_line (λ earlier z. MayEvict z.answer) p) p.so
 
   no_giving_up : HaltedIn r crew a (version_of freed) → ⊥
   no_giving_up (inl p) =
-      let z : false ≡ true = sym (ap gives_up (any_line (λ earlier y. Halts r.setting.anchors earlier y a (version_of freed)) p)) ∙ p.line_of.so.gave_up in
+      let z : false ≡ true = sym (ap gives_up (any_line (λ earlier y. Halts r.setting.anchors earlier y a (version_of freed)) p)) ∙ p.so.gave_up in
       cc
   no_giving_up (inr q) =
-      let none = refused_none q.writing.tab held q.worker.served (λ later earlier s split. all (record { j = q.j; worker = q.worker; at = q.at; line_of = record { later = later; line = s; earlier = earlier; split = split; so = tt } })) in
+      let none = refused_none q.writing.tab held q.worker.served (λ later earlier s split. all (record { j = q.j; worker = q.worker; at = q.at; later = later; served = s; earlier = earlier; split = split; so = tt })) in
       let z : None ≡ Some q.writing.writes.first = sym none ∙ q.writing.writes.begun_is in
       cc
 
@@ -196,17 +194,15 @@ module _ {X : Type 0} (r : Run X) (script : List Line) (crew : List (Worker X)) 
         j = p.j;
         worker = p.worker;
         at = p.at;
-        line_of = record {
-          later = p.line_of.later;
-          line = p.line_of.line;
-          earlier = p.line_of.earlier;
-          split = p.line_of.split;
-          so = record { at = p.line_of.so; shown = busy p.line_of.line held (any_line (λ earlier s. IsAt r.setting.anchors earlier s a) p) };
-        };
+        later = p.later;
+        served = p.served;
+        earlier = p.earlier;
+        split = p.split;
+        so = record { at = p.so; shown = busy p.served held (any_line (λ earlier s. IsAt r.setting.anchors earlier s a) p) };
       }
 
 module _ {X : Type 0} (r : Run X) (script : List Line) (u w : Worker X) (rules : KeepsRules r script (u ∷ w ∷ [])) (p g : Served) (us : u.served ≡ p ∷ []) (ws : w.served ≡ g ∷ [])
-    (url : List ℕ) (body : Body) (pq : p.line.request ≡ Put url body) (gq : g.line.request ≡ Get url) where
+    (url : List ℕ) (body : Body) (pq : p.asked.request ≡ Put url body) (gq : g.asked.request ≡ Get url) where
   abbrev crew : List (Worker X)
   crew = u ∷ w ∷ []
 
@@ -229,10 +225,10 @@ module _ {X : Type 0} (r : Run X) (script : List Line) (u w : Worker X) (rules :
   ours (suc zero) v at = inr (sym (ap Worker.served (some-injective w v at)) ∙ ws)
   ours (suc (suc j)) v at = absurd (some-ne-none v (sym at))
 
-  either : (P : List Served → Served → Type 0) → (l : LineIn crew P) → (p ≡ l.line_of.line) ⊎ (g ≡ l.line_of.line)
+  either : (P : List Served → Served → Type 0) → (l : LineIn crew P) → (p ≡ l.served) ⊎ (g ≡ l.served)
   either P l = ⊎_elim
-      (λ (h : l.worker.served ≡ p ∷ []). inl (one_line p l.line_of.later l.line_of.earlier l.line_of.line (sym h ∙ l.line_of.split)))
-      (λ (h : l.worker.served ≡ g ∷ []). inr (one_line g l.line_of.later l.line_of.earlier l.line_of.line (sym h ∙ l.line_of.split)))
+      (λ (h : l.worker.served ≡ p ∷ []). inl (one_line p l.later l.earlier l.served (sym h ∙ l.split)))
+      (λ (h : l.worker.served ≡ g ∷ []). inr (one_line g l.later l.earlier l.served (sym h ∙ l.split)))
       (ours l.j l.worker l.at)
 
   module _ (x : ℕ) (none : opening_epoch r.setting (home r url) ≡ 0) (pa : p.answer ≡ answer.Doomed x) (ga : g.answer ≡ answer.Miss (Absent (record { version = x; stage = stage.Gone; doom = false }))) where
@@ -254,7 +250,7 @@ module _ {X : Type 0} (r : Run X) (script : List Line) (u w : Worker X) (rules :
     nothing_written t v (inr h) = ap (writing t) h ∙ none_written t g (ap (λ (q : Request). begins t q g.answer) gq)
 
     no_halt : HaltedIn r crew a (version_of gone) → ⊥
-    no_halt (inl l) = gave_up l.line_of.line (either (λ earlier z. Halts r.setting.anchors earlier z a (version_of gone)) l) l.line_of.so.gave_up
+    no_halt (inl l) = gave_up l.served (either (λ earlier z. Halts r.setting.anchors earlier z a (version_of gone)) l) l.so.gave_up
     no_halt (inr q) = let some : None ≡ Some q.writing.writes.first = sym (nothing_written q.writing.tab q.worker (ours q.j q.worker q.at)) ∙ q.writing.writes.begun_is in cc
 
     stored : (z : Served) → (p ≡ z) ⊎ (g ≡ z) → z.answer ≡ answer.Stored (version_of gone) → ⊥
@@ -262,7 +258,7 @@ module _ {X : Type 0} (r : Run X) (script : List Line) (u w : Worker X) (rules :
     stored z (inr h) at = let n : answer.Miss (Absent epoch) ≡ answer.Stored (version_of gone) = sym ga ∙ ap Served.answer h ∙ at in cc
 
     none_whole : WasWhole r crew a (version_of gone) → ⊥
-    none_whole (inl l) = stored l.line_of.line (either (λ earlier z. Stores r.setting.anchors earlier z a (version_of gone)) l) l.line_of.so.printed
+    none_whole (inl l) = stored l.served (either (λ earlier z. Stores r.setting.anchors earlier z a (version_of gone)) l) l.so.printed
     none_whole (inr h) = let had : stage_of (opening_epoch r.setting a) ≡ 3 = h.0 in let empty = ap stage_of none in omega arith
 
     pub never_evicted : ⊥

@@ -26,7 +26,7 @@ use Rattle.line_account.specs.Tabs.{IsStillHalted, PartBehindHalted}
 use Rattle.line_account.specs.Rules.{KeepsRules}
 
 module _ {X : Type 0} (r : Run X) (script : List Line) (u v w : Worker X) (rules : KeepsRules r script (u ∷ v ∷ w ∷ [])) (p a b c d g : Served) (us : u.served ≡ a ∷ p ∷ []) (vs : v.served ≡ c ∷ b ∷ []) (ws : w.served ≡ g ∷ d ∷ [])
-    (m n : ℕ) (aq : a.line.request ≡ Mark m) (bq : b.line.request ≡ Await m) (ba : b.answer ≡ answer.Met) (cq : c.line.request ≡ Mark n) (dq : d.line.request ≡ Await n) (da : d.answer ≡ answer.Met) where
+    (m n : ℕ) (aq : a.asked.request ≡ Mark m) (bq : b.asked.request ≡ Await m) (ba : b.answer ≡ answer.Met) (cq : c.asked.request ≡ Mark n) (dq : d.asked.request ≡ Await n) (da : d.answer ≡ answer.Met) where
   -- the third worker knew of the line by the second one
   told_on : KnewOf (u ∷ v ∷ w ∷ []) (d ∷ []) p []
   told_on = told
@@ -35,12 +35,12 @@ module _ {X : Type 0} (r : Run X) (script : List Line) (u v w : Worker X) (rules
       (record { mark = m; met = b; between = []; awaits = record { later = []; split = refl }; asked = bq; meets = ba; j = 0; worker = u; at = refl; setter = a; sets = record { later = []; split = us }; set = aq })
       (own (record { later = []; split = refl })))
 
-  pub never_forgotten : (url : List ℕ) (body : Body) (x : ℕ) → p.line.request ≡ Put url body → p.answer ≡ answer.Stored x → g.line.request ≡ Get url
+  pub never_forgotten : (url : List ℕ) (body : Body) (x : ℕ) → p.asked.request ≡ Put url body → p.answer ≡ answer.Stored x → g.asked.request ≡ Get url
       → g.answer ≡ answer.Miss (Absent (record { version = 0; stage = stage.Empty; doom = false })) → ⊥
   never_forgotten url body x pq pa gq ga =
       let none : Epoch = record { version = 0; stage = stage.Empty; doom = false } in
       let order = rules.order.known (home r url) (epoch_at x 3) p []
-      (record { j = 2; worker = w; at = refl; line_of = record { later = []; line = g; earlier = d ∷ []; split = ws; so = record { url = url; named_is = ap (url_at (d ∷ [])) gq; anchor = refl } } })
+      (record { j = 2; worker = w; at = refl; later = []; served = g; earlier = d ∷ []; split = ws; so = record { url = url; named_is = ap (url_at (d ∷ [])) gq; anchor = refl } })
       told_on
       (record { at = record { url = url; named_is = ap (url_at []) pq; anchor = refl }; counts = subst (λ (z : Answer). Contains (counts_as z) (epoch_at x 3)) (sym pa) (0, omega arith, refl) }) in
       let below : epoch_at x 3 ≤ epoch_number none = order.epochs (epoch_number none) (subst (λ (z : Answer). Contains (printed z) (epoch_number none)) (sym ga) (0, omega arith, refl)) in
@@ -48,13 +48,13 @@ module _ {X : Type 0} (r : Run X) (script : List Line) (u v w : Worker X) (rules
 
 module _ {X : Type 0} (r : Run X) (script : List Line) (w : Worker X) (rules : KeepsRules r script (alone w)) where
   -- what the later line of two prints is not below what the earlier one counts as
-  in_order : (s t : Served) (url : List ℕ) (e : ℕ) → w.served ≡ t ∷ s ∷ [] → url_at [] s.line.request ≡ Some url → url_at (s ∷ []) t.line.request ≡ Some url → Contains (counts_as s.answer) e → NotBelow e t.answer
+  in_order : (s t : Served) (url : List ℕ) (e : ℕ) → w.served ≡ t ∷ s ∷ [] → url_at [] s.asked.request ≡ Some url → url_at (s ∷ []) t.asked.request ≡ Some url → Contains (counts_as s.answer) e → NotBelow e t.answer
   in_order s t url e is first second counts = rules.order.known (home r url) e s []
-      (record { j = 0; worker = w; at = refl; line_of = record { later = []; line = t; earlier = s ∷ []; split = is; so = record { url = url; named_is = second; anchor = refl } } })
+      (record { j = 0; worker = w; at = refl; later = []; served = t; earlier = s ∷ []; split = is; so = record { url = url; named_is = second; anchor = refl } })
       (own (record { later = []; split = refl }))
       (record { at = record { url = url; named_is = first; anchor = refl }; counts = counts })
 
-  pub never_twice : (p s : Served) (url : List ℕ) (e : Epoch) → w.served ≡ s ∷ p ∷ [] → p.line.request ≡ Purge url → s.line.request ≡ Purge url → p.answer ≡ answer.Purged e → s.answer ≡ answer.Purged e → e.doom ≡ true → ⊥
+  pub never_twice : (p s : Served) (url : List ℕ) (e : Epoch) → w.served ≡ s ∷ p ∷ [] → p.asked.request ≡ Purge url → s.asked.request ≡ Purge url → p.answer ≡ answer.Purged e → s.answer ≡ answer.Purged e → e.doom ≡ true → ⊥
   never_twice p s url e is pq sq pa sa doom =
       let n : ℕ = epoch_number e in
       let order = in_order p s url n is (ap (url_at []) pq) (ap (url_at (p ∷ [])) sq) (subst (λ (z : Answer). Contains (counts_as z) n) (sym pa) (0, omega arith, refl)) in
@@ -62,7 +62,7 @@ module _ {X : Type 0} (r : Run X) (script : List Line) (w : Worker X) (rules : K
       let doomed : doom_of n ≡ 1 = doom_of-epoch_number e ∙ ap doom_number doom in
       omega arith
 
-  pub never_falls : (p g : Served) (url : List ℕ) (body : Body) (x : ℕ) → w.served ≡ g ∷ p ∷ [] → p.line.request ≡ Put url body → p.answer ≡ answer.Stored x → g.line.request ≡ Get url
+  pub never_falls : (p g : Served) (url : List ℕ) (body : Body) (x : ℕ) → w.served ≡ g ∷ p ∷ [] → p.asked.request ≡ Put url body → p.answer ≡ answer.Stored x → g.asked.request ≡ Get url
       → g.answer ≡ answer.Miss (Leaving (record { version = x; stage = stage.Appending; doom = true })) → ⊥
   never_falls p g url body x is pq pa gq ga =
       let e : Epoch = record { version = x; stage = stage.Appending; doom = true } in
@@ -74,13 +74,13 @@ module _ {X : Type 0} (r : Run X) (script : List Line) (w : Worker X) (rules : K
       omega arith
 
   -- A line on a tab that was answered so, and one behind it.
-  module _ (so : Answer → Bool) (o e m : Served) (url : List ℕ) (x : ℕ) (is : w.served ≡ m ∷ e ∷ o ∷ []) (oq : o.line.request ≡ OpenTab 0 url) (oa : o.answer ≡ answer.Opened x)
-      (eq : e.line.request ≡ More 0) (ea : so e.answer ≡ true) (mq : m.line.request ≡ More 0) where
-    opened : opens 0 o.line.request o.answer ≡ true
+  module _ (so : Answer → Bool) (o e m : Served) (url : List ℕ) (x : ℕ) (is : w.served ≡ m ∷ e ∷ o ∷ []) (oq : o.asked.request ≡ OpenTab 0 url) (oa : o.answer ≡ answer.Opened x)
+      (eq : e.asked.request ≡ More 0) (ea : so e.answer ≡ true) (mq : m.asked.request ≡ More 0) where
+    opened : opens 0 o.asked.request o.answer ≡ true
     opened = ap (λ (q : Request). opens 0 q o.answer) oq ∙ ap (opens 0 (OpenTab 0 url)) oa
 
     reading_first : reading 0 (o ∷ []) ≡ Some o
-    reading_first = λ i. cond (opened i) (Some o) (cond (closes 0 o.line.request o.answer) None None)
+    reading_first = λ i. cond (opened i) (Some o) (cond (closes 0 o.asked.request o.answer) None None)
 
     reading_still : reading 0 (e ∷ o ∷ []) ≡ Some o
     reading_still = (λ i. cond (opens 0 (eq i) e.answer) (Some e) (cond (closes 0 (eq i) e.answer) None (reading 0 (o ∷ [])))) ∙ reading_first
@@ -95,14 +95,14 @@ module _ {X : Type 0} (r : Run X) (script : List Line) (w : Worker X) (rules : K
     behind_so = record { request = mq; reads = still_reads; behind = answered }
 
     pub behind : LineIn (alone w) (λ earlier s. ReadsBehind so earlier s 0)
-    behind = record { j = 0; worker = w; at = refl; line_of = record { later = []; line = m; earlier = e ∷ o ∷ []; split = is; so = behind_so } }
+    behind = record { j = 0; worker = w; at = refl; later = []; served = m; earlier = e ∷ o ∷ []; split = is; so = behind_so }
 
     pub part_behind : (epoch : Epoch) (more : List ℕ) → so ≡ is_halted → m.answer ≡ answer.Part epoch more → LineIn (alone w) (λ earlier s. PartBehindHalted earlier s 0)
-    part_behind epoch more same ma = record { j = 0; worker = w; at = refl; line_of = record { later = []; line = m; earlier = e ∷ o ∷ []; split = is; so = record { behind = subst (λ (f : Answer → Bool). ReadsBehind f (e ∷ o ∷ []) m 0) same behind_so; epoch = epoch; bytes = more; printed = ma } } }
+    part_behind epoch more same ma = record { j = 0; worker = w; at = refl; later = []; served = m; earlier = e ∷ o ∷ []; split = is; so = record { behind = subst (λ (f : Answer → Bool). ReadsBehind f (e ∷ o ∷ []) m 0) same behind_so; epoch = epoch; bytes = more; printed = ma } }
 
   -- it comes to nothing else
-  module _ (o e m : Served) (url : List ℕ) (x : ℕ) (is : w.served ≡ m ∷ e ∷ o ∷ []) (oq : o.line.request ≡ OpenTab 0 url) (oa : o.answer ≡ answer.Opened x)
-      (eq : e.line.request ≡ More 0) (mq : m.line.request ≡ More 0) where
+  module _ (o e m : Served) (url : List ℕ) (x : ℕ) (is : w.served ≡ m ∷ e ∷ o ∷ []) (oq : o.asked.request ≡ OpenTab 0 url) (oa : o.answer ≡ answer.Opened x)
+      (eq : e.asked.request ≡ More 0) (mq : m.asked.request ≡ More 0) where
     pub still_ended : (bytes : List ℕ) → e.answer ≡ answer.End bytes → m.answer ≡ answer.End []
     unfolding behind
     still_ended bytes ea = rules.tabs.behind_end 0 (behind is_end o e m url x is oq oa eq (ap is_end ea) mq)

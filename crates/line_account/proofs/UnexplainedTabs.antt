@@ -48,64 +48,61 @@ module _ {X : Type 0} (r : Run X) (script : List Line) (w : Worker X) (rules : K
 
   -- a line of it that stored a body
   module _ (later earlier : List Served) (p : Served) (url : List ℕ) (body : Body) (x : ℕ) (is : w.served ≡ later ++ p ∷ earlier)
-      (pq : p.line.request ≡ Put url body) (pa : p.answer ≡ answer.Stored x) where
+      (pq : p.asked.request ≡ Put url body) (pa : p.answer ≡ answer.Stored x) where
     put_begun : TellsBegunIn r (alone w) (home r url) x
     put_begun = record {
       j = 0;
       worker = w;
       at = refl;
-      line_of = record {
-        later = later;
-        line = p;
-        earlier = earlier;
-        split = is;
-        so = record {
-          anchor = record { url = url; named_is = ap url_in pq; anchor = refl };
-          told = subst (λ (q : Request). TellsBegun q p.answer x) (sym pq) (subst (λ (z : Answer). TellsBegun (Put url body) z x) (sym pa) refl);
-        };
+      later = later;
+      served = p;
+      earlier = earlier;
+      split = is;
+      so = record {
+        anchor = record { url = url; named_is = ap url_in pq; anchor = refl };
+        told = subst (λ (q : Request). TellsBegun q p.answer x) (sym pq) (subst (λ (z : Answer). TellsBegun (Put url body) z x) (sym pa) refl);
       };
     }
 
     above : opening_counter r.setting < x
     unfolding put_begun
-    above = (rules.versions.bounds (home r url) x (record { j = 0; worker = w; at = refl; line_of = record { later = later; line = p; earlier = earlier; split = is; so = rules.versions.told (home r url) x put_begun } })).0
+    above = (rules.versions.bounds (home r url) x (record { j = 0; worker = w; at = refl; later = later; served = p; earlier = earlier; split = is; so = rules.versions.told (home r url) x put_begun })).0
 
   -- `open` of another URL
-  module _ (p s : Served) (url other : List ℕ) (body : Body) (x : ℕ) (is : w.served ≡ s ∷ p ∷ []) (pq : p.line.request ≡ Put other body)
+  module _ (p s : Served) (url other : List ℕ) (body : Body) (x : ℕ) (is : w.served ≡ s ∷ p ∷ []) (pq : p.asked.request ≡ Put other body)
       (pa : p.answer ≡ answer.Stored x)
-      (sq : s.line.request ≡ OpenTab 0 url) (sa : s.answer ≡ answer.Opened x) where
+      (sq : s.asked.request ≡ OpenTab 0 url) (sa : s.answer ≡ answer.Opened x) where
     begun_by_put : (l : ℕ) (v : Worker X) → get_elem? (alone w) l ≡ some v → (later earlier : List Served) (z : Served)
         → v.served ≡ later ++ z ∷ earlier → Begins r.setting.anchors z (home r url) x → p ≡ z
     begun_by_put l v at later earlier z split begins_it = ⊎_elim
-        (λ (opening : s ≡ z). absurd (subst (λ (q : Request). Began q z.answer x) (ap (λ (y : Served). y.line.request) (sym opening) ∙ sq) begins_it.began))
+        (λ (opening : s ≡ z). absurd (subst (λ (q : Request). Began q z.answer x) (ap (λ (y : Served). y.asked.request) (sym opening) ∙ sq) begins_it.began))
         (λ (put : p ≡ z). put)
         (one_of_two s p later earlier z (sym is ∙ same_lines l v at ∙ split))
 
     pub opened_key : key_of other ≡ key_of url
     opened_key =
         let k = rules.keys.found_new (home r url) x url
-        (record { j = 0; worker = w; at = refl; line_of = record { later = []; line = s; earlier = p ∷ []; split = is; so = record { named = ap url_in sq; anchor = refl; found = subst (λ (z : Answer). TellsFound z x) (sym sa) refl } } })
+        (record { j = 0; worker = w; at = refl; later = []; served = s; earlier = p ∷ []; split = is; so = record { named = ap url_in sq; anchor = refl; found = subst (λ (z : Answer). TellsFound z x) (sym sa) refl } })
         (above (s ∷ []) [] p other body x is pq pa) in
-        let l = k.begun.line_of in
-        let put = begun_by_put k.begun.j k.begun.worker k.begun.at l.later l.earlier l.line l.split l.so in
-        let same : k.url ≡ other = one_url k.url other (sym k.url_is ∙ ap (λ (y : Served). url_in y.line.request) (sym put) ∙ ap url_in pq) in
+        let put = begun_by_put k.begun.j k.begun.worker k.begun.at k.begun.later k.begun.earlier k.begun.served k.begun.split k.begun.so in
+        let same : k.url ≡ other = one_url k.url other (sym k.url_is ∙ ap (λ (y : Served). url_in y.asked.request) (sym put) ∙ ap url_in pq) in
         sym (k.key_is ∙ ap key_of same)
 
   -- `put`, and `open` and `more` of what it stored
-  module _ (p o m : Served) (url : List ℕ) (body : Body) (x : ℕ) (is : w.served ≡ m ∷ o ∷ p ∷ []) (pq : p.line.request ≡ Put url body)
+  module _ (p o m : Served) (url : List ℕ) (body : Body) (x : ℕ) (is : w.served ≡ m ∷ o ∷ p ∷ []) (pq : p.asked.request ≡ Put url body)
       (pa : p.answer ≡ answer.Stored x)
-      (oq : o.line.request ≡ OpenTab 0 url) (oa : o.answer ≡ answer.Opened x) (mq : m.line.request ≡ More 0) where
+      (oq : o.asked.request ≡ OpenTab 0 url) (oa : o.answer ≡ answer.Opened x) (mq : m.asked.request ≡ More 0) where
     abbrev here : ℕ
     here = home r url
 
-    opened : opens 0 o.line.request o.answer ≡ true
+    opened : opens 0 o.asked.request o.answer ≡ true
     opened = ap (λ (q : Request). opens 0 q o.answer) oq ∙ ap (opens 0 (OpenTab 0 url)) oa
 
     reads_first : reading 0 (o ∷ p ∷ []) ≡ Some o
-    reads_first = λ i. cond (opened i) (Some o) (cond (closes 0 o.line.request o.answer) None (reading 0 (p ∷ [])))
+    reads_first = λ i. cond (opened i) (Some o) (cond (closes 0 o.asked.request o.answer) None (reading 0 (p ∷ [])))
 
     none_before : bytes_given 0 (o ∷ p ∷ []) ≡ []
-    none_before = λ i. cond (opened i) [] (bytes_given 0 (p ∷ []) ++ given_by 0 o.line.request o.answer)
+    none_before = λ i. cond (opened i) [] (bytes_given 0 (p ∷ []) ++ given_by 0 o.asked.request o.answer)
 
     abbrev of : ReadsVersion r.setting.anchors (o ∷ p ∷ []) m here x
     of = record {
@@ -119,9 +116,9 @@ module _ {X : Type 0} (r : Run X) (script : List Line) (w : Worker X) (rules : K
     begun_by : (l : ℕ) (v : Worker X) → get_elem? (alone w) l ≡ some v → (later earlier : List Served) (z : Served)
         → v.served ≡ later ++ z ∷ earlier → Begins r.setting.anchors z here x → p ≡ z
     begun_by l v at later earlier z split begins_it = ⊎_elim
-        (λ (more : m ≡ z). absurd (subst (λ (q : Request). Began q z.answer x) (ap (λ (y : Served). y.line.request) (sym more) ∙ mq) begins_it.began))
+        (λ (more : m ≡ z). absurd (subst (λ (q : Request). Began q z.answer x) (ap (λ (y : Served). y.asked.request) (sym more) ∙ mq) begins_it.began))
         (λ (rest : (o ≡ z) ⊎ (p ≡ z)). ⊎_elim
-        (λ (opening : o ≡ z). absurd (subst (λ (q : Request). Began q z.answer x) (ap (λ (y : Served). y.line.request) (sym opening) ∙ oq) begins_it.began))
+        (λ (opening : o ≡ z). absurd (subst (λ (q : Request). Began q z.answer x) (ap (λ (y : Served). y.asked.request) (sym opening) ∙ oq) begins_it.began))
         (λ (put : p ≡ z). put)
         rest)
         (one_of_three m o p later earlier z (sym is ∙ same_lines l v at ∙ split))
@@ -129,11 +126,10 @@ module _ {X : Type 0} (r : Run X) (script : List Line) (w : Worker X) (rules : K
     pub its_body : IsTrue r.tells → (bytes : List ℕ) → m.answer ≡ answer.End bytes → bytes ≡ bytes_of body
     its_body y bytes ma =
         let f = rules.tabs.new y here x
-        (record { j = 0; worker = w; at = refl; line_of = record { later = []; line = m; earlier = o ∷ p ∷ []; split = is; so = record { of = of; reads = subst Reads (sym ma) tt } } })
+        (record { j = 0; worker = w; at = refl; later = []; served = m; earlier = o ∷ p ∷ []; split = is; so = record { of = of; reads = subst Reads (sym ma) tt } })
         (above (m ∷ o ∷ []) [] p url body x is pq pa) in
-        let l = f.begun.line_of in
-        let put = begun_by f.begun.j f.begun.worker f.begun.at l.later l.earlier l.line l.split l.so in
-        let offered : Offers (Put url body) f.url f.body = subst (λ (q : Request). Offers q f.url f.body) (ap (λ (z : Served). z.line.request) (sym put) ∙ pq) f.offers in
+        let put = begun_by f.begun.j f.begun.worker f.begun.at f.begun.later f.begun.earlier f.begun.served f.begun.split f.begun.so in
+        let offered : Offers (Put url body) f.url f.body = subst (λ (q : Request). Offers q f.url f.body) (ap (λ (z : Served). z.asked.request) (sym put) ∙ pq) f.offers in
         sym given ∙ f.whole (subst IsWhole (sym ma) tt) ∙ sym (one_body body f.body offered.1)
       where
         given : bytes_with (o ∷ p ∷ []) m ≡ bytes
@@ -150,13 +146,13 @@ module _ {X : Type 0} (r : Run X) (script : List Line) (w : Worker X) (rules : K
         same true = refl
         same false = refl
 
-        with_line : (s : Served) (earlier : List Served) → begins t s.line.request s.answer ≡ false → writing t earlier ≡ None
+        with_line : (s : Served) (earlier : List Served) → begins t s.asked.request s.answer ≡ false → writing t earlier ≡ None
             → writing t (s ∷ earlier) ≡ None
-        with_line s earlier not_begun before = (λ i. cond (not_begun i) (Some s) (cond (ends t s.line.request s.answer) None (before i))) ∙ same (ends t s.line.request s.answer)
+        with_line s earlier not_begun before = (λ i. cond (not_begun i) (Some s) (cond (ends t s.asked.request s.answer) None (before i))) ∙ same (ends t s.asked.request s.answer)
 
     pub never_halted : (bytes : List ℕ) → m.answer ≡ answer.Halted bytes → ⊥
     never_halted bytes ma = no_halt (rules.tabs.halted here x
-        (record { j = 0; worker = w; at = refl; line_of = record { later = []; line = m; earlier = o ∷ p ∷ []; split = is; so = record { of = of; bytes = bytes; printed = ma } } }))
+        (record { j = 0; worker = w; at = refl; later = []; served = m; earlier = o ∷ p ∷ []; split = is; so = record { of = of; bytes = bytes; printed = ma } }))
       where
         kept : (z : Served) → (m ≡ z) ⊎ ((o ≡ z) ⊎ (p ≡ z)) → gives_up z.answer ≡ false
         kept z (inl e) = ap (λ (s : Served). gives_up s.answer) (sym e) ∙ ap gives_up ma
@@ -165,8 +161,7 @@ module _ {X : Type 0} (r : Run X) (script : List Line) (w : Worker X) (rules : K
 
         no_halt : HaltedIn r (alone w) here x → ⊥
         no_halt (inl q) =
-            let l = q.line_of in
-            let z : true ≡ false = sym l.so.gave_up ∙ kept l.line (one_of_three m o p l.later l.earlier l.line (sym is ∙ same_lines q.j q.worker q.at ∙ l.split)) in
+            let z : true ≡ false = sym q.so.gave_up ∙ kept q.served (one_of_three m o p q.later q.earlier q.served (sym is ∙ same_lines q.j q.worker q.at ∙ q.split)) in
             cc
         no_halt (inr q) =
             let z : None ≡ Some q.writing.writes.first = sym (none_writes q.writing.tab) ∙ ap (writing q.writing.tab) (sym is ∙ same_lines q.j q.worker q.at) ∙ q.writing.writes.begun_is in

@@ -55,16 +55,16 @@ one_told _ a x y h g = absurd h
 
 module _ {X : Type 0} (r : Run X) (crew : List (Worker X)) (c : Closed r crew) where
   pub begun_once : (a b x : ℕ) (p : BegunIn r crew a x) (q : BegunIn r crew b x) → IsSameLine crew (λ earlier s. Begins r.setting.anchors s a x) (λ earlier s. Begins r.setting.anchors s b x) p q
-  begun_once a b x p q = one_line r crew c (λ earlier s. Begins r.setting.anchors s a x) (λ earlier s. Begins r.setting.anchors s b x) p q x p.line_of.so.drew q.line_of.so.drew
+  begun_once a b x p q = one_line r crew c (λ earlier s. Begins r.setting.anchors s a x) (λ earlier s. Begins r.setting.anchors s b x) p q x p.so.drew q.so.drew
 
   pub begun_at_one : (a b x : ℕ) → BegunIn r crew a x → BegunIn r crew b x → a ≡ b
   begun_at_one a b x p q =
       let same = same_line r crew c (λ earlier s. Begins r.setting.anchors s a x) (λ earlier s. Begins r.setting.anchors s b x) p q (begun_once a b x p q) in
-      one_anchor p.line_of.line q.line_of.line same p.line_of.so.anchor q.line_of.so.anchor
+      one_anchor p.served q.served same p.so.anchor q.so.anchor
     where
-      one_anchor : (s t : Served) → s ≡ t → IsAnchorOf r.setting.anchors (url_in s.line.request) a → IsAnchorOf r.setting.anchors (url_in t.line.request) b → a ≡ b
+      one_anchor : (s t : Served) → s ≡ t → IsAnchorOf r.setting.anchors (url_in s.asked.request) a → IsAnchorOf r.setting.anchors (url_in t.asked.request) b → a ≡ b
       one_anchor s t same h g =
-          let k : Some h.url ≡ Some g.url = sym h.named_is ∙ ap (λ (u : Served). url_in u.line.request) same ∙ g.named_is in
+          let k : Some h.url ≡ Some g.url = sym h.named_is ∙ ap (λ (u : Served). url_in u.asked.request) same ∙ g.named_is in
           let e : h.url ≡ g.url = cc in
           h.anchor ∙ ap (λ (u : List ℕ). anchor_of (key_of u) r.setting.anchors) e ∙ sym g.anchor
 
@@ -72,19 +72,19 @@ module _ {X : Type 0} (r : Run X) (crew : List (Worker X)) (c : Closed r crew) w
   TellsSo a x earlier s = PrintsBegunVersion r.setting.anchors s a x
 
   -- a line that printed that it began a version did so
-  pub told_begun : (a x : ℕ) (p : LineIn crew (TellsSo a x)) → Begins r.setting.anchors p.line_of.line a x
+  pub told_begun : (a x : ℕ) (p : LineIn crew (TellsSo a x)) → Begins r.setting.anchors p.served a x
   told_begun a x p =
-      let s : Served = p.line_of.line in
-      let began = told_began s.line.request s.answer x p.line_of.so.told in
+      let s : Served = p.served in
+      let began = told_began s.asked.request s.answer x p.so.told in
       let h = (tells_at r crew c (TellsSo a x) p).began x began in
-      record { anchor = p.line_of.so.anchor; drew = h.drew ∙ ap Some (sym (one_told s.line.request s.answer x h.version p.line_of.so.told h.began)); began = began }
+      record { anchor = p.so.anchor; drew = h.drew ∙ ap Some (sym (one_told s.asked.request s.answer x h.version p.so.told h.began)); began = began }
 
   pub told_once : (a b x : ℕ) (p : LineIn crew (TellsSo a x)) (q : LineIn crew (TellsSo b x)) → IsSameLine crew (TellsSo a x) (TellsSo b x) p q
   told_once a b x p q = one_line r crew c (TellsSo a x) (TellsSo b x) p q x (told_begun a x p).drew (told_begun b x q).drew
 
   pub bounded : (a x : ℕ) → BegunIn r crew a x → (opening_counter r.setting < x) × (x ≤ opening_counter r.setting + offered crew)
   bounded a x p =
-      let above = c.sound.anchors.drawn.above x (drawn_some r crew c (λ earlier s. Begins r.setting.anchors s a x) p x p.line_of.so.drew) in
+      let above = c.sound.anchors.drawn.above x (drawn_some r crew c (λ earlier s. Begins r.setting.anchors s a x) p x p.so.drew) in
       let most = counter_is r crew c in
       (above.0, (let z = above.1 in omega arith))
 
@@ -203,33 +203,31 @@ module _ {X : Type 0} (r : Run X) (crew : List (Worker X)) (c : Closed r crew) w
   first_of_one e es h = subst (λ (l : List ℕ). Contains l e) (sym h) (0, omega arith, refl)
 
   -- the lines of these records show what this list has
-  pub shows : (P : List Served → Served → Type 0) (p : LineIn crew P) (a e : ℕ) → IsAt r.setting.anchors p.line_of.earlier p.line_of.line a → Contains (epochs_of p.line_of.line.opened p.line_of.line.looked p.line_of.line.answer) e → ShownIn r crew a e
+  pub shows : (P : List Served → Served → Type 0) (p : LineIn crew P) (a e : ℕ) → IsAt r.setting.anchors p.earlier p.served a → Contains (epochs_of p.served.opened p.served.looked p.served.answer) e → ShownIn r crew a e
   shows P p a e at h = record {
     j = p.j;
     worker = p.worker;
     at = p.at;
-    line_of = record {
-      later = p.line_of.later;
-      line = p.line_of.line;
-      earlier = p.line_of.earlier;
-      split = p.line_of.split;
-      so = record { at = at; shown = h };
-    };
+    later = p.later;
+    served = p.served;
+    earlier = p.earlier;
+    split = p.split;
+    so = record { at = at; shown = h };
   }
 
   pub halted_line : (a : ℕ) → LineIn crew (λ earlier s. PrintsHalted r.setting.anchors earlier s a) → SomeHalted r crew a
   halted_line a p =
       let P : List Served → Served → Type 0 = λ earlier s. PrintsHalted r.setting.anchors earlier s a in
-      let s : Served = p.line_of.line in
-      let h = p.line_of.so in
+      let s : Served = p.served in
+      let h = p.so in
       let shown = shows P p a s.looked h.at (first_of_one s.looked (epochs_of s.opened s.looked s.answer) (ap (epochs_of s.opened s.looked) h.printed)) in
       record { version = version_of s.looked; halted = halted_by a s.looked shown ((tells_at r crew c P p).halted h.bytes h.printed) }
 
   pub doomed_line : (a x : ℕ) → LineIn crew (λ earlier s. PrintsDoomed r.setting.anchors earlier s a x) → PurgedIn r crew a x
   doomed_line a x p =
       let P : List Served → Served → Type 0 = λ earlier s. PrintsDoomed r.setting.anchors earlier s a x in
-      let s : Served = p.line_of.line in
-      let h = p.line_of.so in
+      let s : Served = p.served in
+      let h = p.so in
       let shown = shows P p a (epoch_at x 11) h.at (first_of_one (epoch_at x 11) (epochs_of s.opened s.looked s.answer) (ap (epochs_of s.opened s.looked) h.printed)) in
       let doom : doom_of (epoch_at x 11) ≡ 1 = omega arith in
       let version : version_of (epoch_at x 11) ≡ x = omega arith in

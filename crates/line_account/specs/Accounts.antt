@@ -1,6 +1,6 @@
 -- The account of a worker: what it knows, and which line each of its deeds belongs to.
-use Rattle.std.specs.Prelude.{Bool, IsTrue, List, None, Some, [], count_by, false, length, true, ◌+◌, ◌++◌, ◌<◌, ◌∷◌, ◌↔◌, ◌≡◌, ◌≢◌, ◌⊎◌, Contains, ℕ}
-use Rattle.lock_word.specs.Words.{epoch_at, epoch_number, stage_of, version_of}
+use Rattle.std.specs.Prelude.{Bool, IsTrue, List, None, Some, [], count_by, false, length, true, ◌+◌, ◌<◌, ◌∷◌, ◌↔◌, ◌≡◌, ◌≢◌, ◌⊎◌, Contains, ℕ}
+use Rattle.lock_word.specs.Words.{epoch_number, version_of}
 use Rattle.lock_word.specs.declared.cause.Cause.{Cause}
 use Rattle.lock_word.specs.declared.cause.Cause.TheVariants.{Absent, Leaving, OtherKey, Writing}
 use Rattle.lock_word.specs.declared.epoch.Epoch.{Epoch}
@@ -20,6 +20,9 @@ use Rattle.line_account.specs.Requests.{IsAnswerTo}
 use Rattle.line_account.specs.Stopping.{ReadsBehind, is_end, is_halted, is_other_url}
 use Rattle.line_account.specs.Deeds.{Began, Grows, HasLine, IsWriting}
 use Rattle.line_account.specs.Answers.{ComesIn, HasAdded, HasGiven, HasHit, HasOpened, HasOther, HasPurged, IsBusy, IsCauseOf, IsKeyRead, IsLarge, IsLong, IsOfOpened, IsSmall, IsSpent, Reads, Refuses, Run}
+use Rattle.lock_word.specs.declared.stage.Stage.TheVariants.{Appending, Closed, Halted, Taken}
+use Rattle.line_account.specs.EpochNames.{IsAtStage, closed_and_doomed, undoomed_at}
+use Rattle.line_account.specs.ScriptOrder.{◌followed_by◌, ◌then◌}
 
 -- the epoch of a cause
 abbrev pub epoch_in : Cause → Epoch
@@ -32,9 +35,9 @@ epoch_in (OtherKey e key) = e
 -- entry, at BEGUN that of the entry that has no slot yet, and at OPEN and HIT the one at which the entry was opened. At PURGED it is the
 -- one at which the entry was found, beside that which its doom left, and at HALTED the one looked at last.
 abbrev pub epochs_of : (opened looked : ℕ) → Answer → List ℕ
-epochs_of opened looked (answer.Stored version) = epoch_at version 3 ∷ []
-epochs_of opened looked (answer.Doomed version) = epoch_at version 11 ∷ []
-epochs_of opened looked (answer.Begun version) = epoch_at version 1 ∷ []
+epochs_of opened looked (answer.Stored version) = undoomed_at Closed version ∷ []
+epochs_of opened looked (answer.Doomed version) = closed_and_doomed version ∷ []
+epochs_of opened looked (answer.Begun version) = undoomed_at Taken version ∷ []
 epochs_of opened looked (answer.Busy first second) = epoch_number first.epoch ∷ epoch_number second.epoch ∷ []
 epochs_of opened looked (answer.Opened version) = opened ∷ []
 epochs_of opened looked (answer.Hit version bytes) = opened ∷ []
@@ -54,7 +57,7 @@ pub record Shows (anchors : ℕ) (earlier : List Served) (s : Served) (a e : ℕ
 pub record HasBegun (s : Served) : Type 0 where
   pub version : ℕ
   pub drew : s.drew ≡ Some version
-  pub began : Began s.line.request s.answer version
+  pub began : Began s.asked.request s.answer version
 
 -- a line finished its writing of this version
 pub record HasFinished {X : Type 0} (k : Setting X) (v : View X) (earlier : List Served) (s : Served) (x : ℕ) : Type 0 where
@@ -68,50 +71,56 @@ pub record HasGivenUp {X : Type 0} (anchors : ℕ) (v : View X) (earlier : List 
   pub writes : Writes anchors earlier s anchor version
   pub epoch : ℕ
   pub version_is : version_of epoch ≡ version
-  pub halted : stage_of epoch ≡ 4
+  pub halted : IsAtStage Halted epoch
   pub seen : Contains v.seen (Stood anchor epoch)
 
 -- the worker has seen the version x of the anchor a at HALTED
 pub record HasHalted {X : Type 0} (v : View X) (a x : ℕ) : Type 0 where
   pub epoch : ℕ
   pub version_is : version_of epoch ≡ x
-  pub halted : stage_of epoch ≡ 4
+  pub halted : IsAtStage Halted epoch
   pub seen : Contains v.seen (Stood a epoch)
 
 -- what a line offers is the offer of its number, behind the slots
 pub record IsOffered {X : Type 0} (r : Run X) (s : Served) (url : List ℕ) (body : Body) : Type 0 where
-  pub url_is : r.url (r.setting.slots + s.line.number) ≡ url
-  pub body_is : r.body (r.setting.slots + s.line.number) ≡ bytes_of body
+  pub url_is : r.url (r.setting.slots + s.asked.number) ≡ url
+  pub body_is : r.body (r.setting.slots + s.asked.number) ≡ bytes_of body
 
 -- What the line s tells, with these before it, where v is what its worker knows.
 pub record Tells {X : Type 0} (r : Run X) (v : View X) (earlier : List Served) (s : Served) : Type 0 where
-  pub shown : (a e : ℕ) → Shows r.setting.anchors earlier s a e → Contains v.seen (Stood a e)  -- the worker has seen each epoch that it shows
-  pub answers : IsAnswerTo s.line.request s.answer  -- the answer is one that the request may get
-  pub drew : s.drew ≢ None → offers s.line.request ≡ true  -- only a line that offers a body draws a version
-  pub began : (x : ℕ) → Began s.line.request s.answer x → HasBegun s  -- and it drew the version that it began
+  -- the worker has seen each epoch that it shows
+  pub shown : (a e : ℕ) → Shows r.setting.anchors earlier s a e → Contains v.seen (Stood a e)
+  pub answers : IsAnswerTo s.asked.request s.answer  -- the answer is one that the request may get
+  pub drew : s.drew ≢ None → offers s.asked.request ≡ true  -- only a line that offers a body draws a version
+  pub began : (x : ℕ) → Began s.asked.request s.answer x → HasBegun s  -- and it drew the version that it began
   pub finished : (x : ℕ) → (s.answer ≡ answer.Stored x) ⊎ (s.answer ≡ answer.Doomed x) → HasFinished r.setting v earlier s x
   pub gave_up : gives_up s.answer ≡ true → HasGivenUp r.setting.anchors v earlier s
   pub full : s.answer ≡ answer.Full → r.fits ≡ false  -- a slot was wanting
   pub large : s.answer ≡ answer.Large → IsLarge r earlier s  -- nor may the entry have as many slots as its body needs
-  pub small : (x : ℕ) → (s.answer ≡ answer.Stored x) ⊎ (s.answer ≡ answer.Doomed x) → IsSmall r earlier s  -- it may have as many, where its body was stored
+  -- it may have as many, where its body was stored
+  pub small : (x : ℕ) → (s.answer ≡ answer.Stored x) ⊎ (s.answer ≡ answer.Doomed x) → IsSmall r earlier s
   pub long : s.answer ≡ answer.LongUrl → IsLong r s
-  pub short : (url : List ℕ) (body : Body) → Offers s.line.request url body → Fits earlier s.line.request → r.room < 32 + length url → s.answer ≡ answer.LongUrl  -- it comes wherever the URL is long
+  -- it comes wherever the URL is long
+  pub short : (url : List ℕ) (body : Body) → Offers s.asked.request url body → Fits earlier s.asked.request → r.room < 32 + length url
+      → s.answer ≡ answer.LongUrl
   pub busy : (looked other : Word) → s.answer ≡ answer.Busy looked other → IsBusy r v earlier s looked other
   pub spent : (n : ℕ) → s.answer ≡ answer.Spent n → IsSpent v s n
-  pub offered : (url : List ℕ) (body : Body) → Offers s.line.request url body → IsOffered r s url body  -- what it offers is the offer of its number
+  -- what it offers is the offer of its number
+  pub offered : (url : List ℕ) (body : Body) → Offers s.asked.request url body → IsOffered r s url body
   pub cause : (c : Cause) → Refuses s.answer c → IsCauseOf s (epoch_in c) c
-  pub key : (e : Epoch) (key : List ℕ) (a : ℕ) → Refuses s.answer (OtherKey e key) → IsAt r.setting.anchors earlier s a → IsKeyRead r v a (epoch_number e) key
-  pub opened : (x : ℕ) → ComesIn s.line.request s.answer x → HasOpened r v s
+  pub key : (e : Epoch) (key : List ℕ) (a : ℕ) → Refuses s.answer (OtherKey e key) → IsAt r.setting.anchors earlier s a
+      → IsKeyRead r v a (epoch_number e) key
+  pub opened : (x : ℕ) → ComesIn s.asked.request s.answer x → HasOpened r v s
   pub hit : IsTrue r.tells → (x : ℕ) (bytes : List ℕ) → s.answer ≡ answer.Hit x bytes → HasHit r v s bytes
   pub other : IsTrue r.tells → s.answer ≡ answer.OtherUrl → HasOther r v earlier s
-  pub halted : (bytes : List ℕ) → s.answer ≡ answer.Halted bytes → stage_of s.looked ≡ 4
-  pub part : (e : Epoch) (bytes : List ℕ) → s.answer ≡ answer.Part e bytes → stage_of (epoch_number e) ≡ 2
+  pub halted : (bytes : List ℕ) → s.answer ≡ answer.Halted bytes → IsAtStage Halted s.looked
+  pub part : (e : Epoch) (bytes : List ℕ) → s.answer ≡ answer.Part e bytes → IsAtStage Appending (epoch_number e)
   pub halted_version : (bytes : List ℕ) → s.answer ≡ answer.Halted bytes → IsOfOpened earlier s s.looked
   pub part_version : (e : Epoch) (bytes : List ℕ) → s.answer ≡ answer.Part e bytes → IsOfOpened earlier s (epoch_number e)
   pub purged : (e : Epoch) → s.answer ≡ answer.Purged e → HasPurged r v s e
   pub added : (count : ℕ) → s.answer ≡ answer.Added count → HasAdded r v earlier s count
   pub given : IsTrue r.tells → Reads s.answer → HasGiven r v earlier s
-  pub tab : (s.answer ≡ answer.Tab) ↔ ¬ Fits earlier s.line.request  -- exactly where its tab is not as it needs it
+  pub tab : (s.answer ≡ answer.Tab) ↔ ¬ Fits earlier s.asked.request  -- exactly where its tab is not as it needs it
   -- a tab that came to its end, or turned from its entry, stays there, and one whose entry was halted grows no more
   pub behind_end : (tab : ℕ) → ReadsBehind is_end earlier s tab → s.answer ≡ answer.End []
   pub behind_other : (tab : ℕ) → ReadsBehind is_other_url earlier s tab → s.answer ≡ answer.OtherUrl
@@ -127,10 +136,13 @@ drew_some s = has_drawn s.drew
 -- The account of a worker that has the view v, and served these lines. Each draw, each deed and what is told belongs to one of them, or a
 -- deed to the end, once the worker is there.
 pub record Account {X : Type 0} (r : Run X) (v : View X) (served : List Served) (at_end : Bool) : Type 0 where
-  pub opening : (a : ℕ) → a < r.setting.anchors → Contains v.seen (Stood a (opening_epoch r.setting a))  -- it has seen the epochs of the opening
+  -- it has seen the epochs of the opening
+  pub opening : (a : ℕ) → a < r.setting.anchors → Contains v.seen (Stood a (opening_epoch r.setting a))
   pub drawn : (x : ℕ) → drawn x v.trail ≡ count_by (drew_version x) served  -- a version was drawn as often as lines drew it
   pub draws : draws v.trail ≡ count_by drew_some served  -- and one by as many lines as drew one
-  pub deeds : (d : Deed) → Contains v.deeds d → (d.pass ≡ v.pass) × HasLine r v d served at_end  -- each deed is the worker's own, and has its line
-  pub lines : (later earlier : List Served) (s : Served) → served ≡ later ++ s ∷ earlier → Tells r v earlier s  -- each line tells what it should
+  -- each deed is the worker's own, and has its line
+  pub deeds : (d : Deed) → Contains v.deeds d → (d.pass ≡ v.pass) × HasLine r v d served at_end
+  -- each line tells what it should
+  pub lines : (later earlier : List Served) (s : Served) → served ≡ earlier then s followed_by later → Tells r v earlier s
   -- at the end it halted what its tabs still wrote
   pub left : at_end ≡ true → (a x : ℕ) → IsWriting r.setting.anchors served a x → HasHalted v a x

@@ -1,6 +1,5 @@
 -- Lines of one worker alone, as examples.
 use Rattle.std.specs.Prelude.{List, None, Some, [], false, length, replicate, ◌+◌, ◌<◌, ◌∷◌, ◌≡◌, ◌≤◌, ℕ}
-use Rattle.lock_word.specs.Words.{epoch_at}
 use Rattle.store_key.specs.Anchor.{anchor_of, back_half, front_half}
 use Rattle.store_key.specs.Key.{key_of}
 use Rattle.script_text.specs.declared.answer.Answer.TheVariants as answer
@@ -17,6 +16,8 @@ use Rattle.core_model.specs.Opening.{sights_below}
 use Rattle.line_account.specs.Lines.{Served}
 use Rattle.line_account.specs.Answers.{Run}
 use Rattle.line_account.specs.Closing.{Worker}
+use Rattle.lock_word.specs.declared.stage.Stage.TheVariants.{Closed, Taken}
+use Rattle.line_account.specs.EpochNames.{undoomed_at}
 
 -- a worker alone
 abbrev pub alone : {X : Type 0} → Worker X → List (Worker X)
@@ -28,11 +29,23 @@ nothing = Made 0 0
 
 -- `1 put URL -`, the first line, which printed STORED with this version
 abbrev pub stored_line : List ℕ → ℕ → Served
-stored_line url version = record { line = record { worker = 1; number = 1; request = Put url nothing }; answer = answer.Stored version; drew = Some version; opened = 0; looked = 0 }
+stored_line url version = record {
+  asked = record { worker = 1; number = 1; request = Put url nothing };
+  answer = answer.Stored version;
+  drew = Some version;
+  opened = 0;
+  looked = 0;
+}
 
 -- `1 get URL`, the second line, which printed HIT with this version and no bytes
 abbrev pub hit_line : List ℕ → ℕ → Served
-hit_line url version = record { line = record { worker = 1; number = 2; request = Get url }; answer = answer.Hit version []; drew = None; opened = epoch_at version 3; looked = 0 }
+hit_line url version = record {
+  asked = record { worker = 1; number = 2; request = Get url };
+  answer = answer.Hit version [];
+  drew = None;
+  opened = undoomed_at Closed version;
+  looked = 0;
+}
 
 -- the first version that is drawn
 abbrev pub next_version : {X : Type 0} → Run X → ℕ
@@ -51,15 +64,15 @@ view_after r url = record {
   seen = Named (home r url) (next_version r) Offer (r.setting.slots + 1)
       ∷ Named (home r url) (next_version r) Key1 (back_half (key_of url))
       ∷ Named (home r url) (next_version r) Key0 (front_half (key_of url))
-      ∷ Stood (home r url) (epoch_at (next_version r) 3)
+      ∷ Stood (home r url) (undoomed_at Closed (next_version r))
       ∷ Published (home r url) (next_version r) 1
-      ∷ Stood (home r url) (epoch_at (next_version r) 1)
+      ∷ Stood (home r url) (undoomed_at Taken (next_version r))
       ∷ sights_below r.setting r.setting.anchors;
   trail = record { kind = Drew; at = 0; found = opening_counter r.setting } ∷ [];
   mirror = [];
-  deeds = record { pass = 0; kind = Entered; anchor = home r url; epoch = epoch_at (next_version r) 3; was_idle = false }
-      ∷ record { pass = 0; kind = Raised; anchor = home r url; epoch = epoch_at (next_version r) 3; was_idle = false }
-      ∷ record { pass = 0; kind = Changed; anchor = home r url; epoch = epoch_at (next_version r) 1; was_idle = false }
+  deeds = record { pass = 0; kind = Entered; anchor = home r url; epoch = undoomed_at Closed (next_version r); was_idle = false }
+      ∷ record { pass = 0; kind = Raised; anchor = home r url; epoch = undoomed_at Closed (next_version r); was_idle = false }
+      ∷ record { pass = 0; kind = Changed; anchor = home r url; epoch = undoomed_at Taken (next_version r); was_idle = false }
       ∷ [];
   met = [];
 }

@@ -1,11 +1,11 @@
 -- What the answer to a line tells of the words and of the entry that the line found.
-use Rattle.std.specs.Prelude.{Bool, List, None, Option, Some, [], count_by, false, length, min, slice_index_or, take, true, ◌*◌, ◌+◌, ◌-◌, ◌<◌, ◌==◌, ◌∷◌, ◌≡◌, ◌≢◌, ◌≤◌, ◌⊎◌, Contains, ℕ}
+use Rattle.std.specs.Prelude.{Bool, List, None, Option, Some, [], count_by, false, length, min, slice_index_or, take, true, ◌*◌, ◌+◌, ◌-◌, ◌<◌, ◌==◌, ◌≡◌, ◌≢◌, ◌≤◌, ◌⊎◌, Contains, ℕ}
 use Rattle.std.specs.List.{range_with_len}
 use Rattle.store_key.specs.Anchor.{anchor_of, back_half, front_half}
 use Rattle.store_key.specs.Key.{key_of}
 use Rattle.store_key.specs.Url.{IsUrl}
 use Rattle.lock_word.specs.Cause.{cause_of}
-use Rattle.lock_word.specs.Words.{epoch_number, is_idle, is_readable, is_vacant, stage_of, version_limit, version_of, word_number}
+use Rattle.lock_word.specs.Words.{epoch_number, is_idle, is_readable, is_vacant, version_limit, version_of, word_number}
 use Rattle.lock_word.specs.declared.cause.Cause.{Cause}
 use Rattle.lock_word.specs.declared.epoch.Epoch.{Epoch}
 use Rattle.lock_word.specs.declared.word.Word.{Word}
@@ -26,6 +26,9 @@ use Rattle.core_model.specs.Anchors.{opening_counter}
 use Rattle.core_model.specs.Layout.{Setting, word_in}
 use Rattle.script_text.specs.Requests.{url_in}
 use Rattle.line_account.specs.Lines.{IsAt, Served, added, begun_by, bytes_given, bytes_in, offers, opened_by, reading, writing}
+use Rattle.lock_word.specs.declared.stage.Stage.TheVariants.{Appending, Halted}
+use Rattle.line_account.specs.EpochNames.{IsFromStage, IsUpToStage}
+use Rattle.line_account.specs.ScriptOrder.{◌then◌}
 
 -- What does not change during a run: the setting of the store, how many bytes of a content a slot takes, and the URL and the body of
 -- each offer. One below the slots is the entry of the file that begins at this slot, and another is that of a line. Where the cells do
@@ -48,7 +51,7 @@ pub record HasItem {X : Type 0} (v : View X) (kind : Kind) (n : ℕ) : Type 0 wh
 
 -- SPENT: the line looked at the counter and found n there, or drew in vain
 pub record IsSpent {X : Type 0} (v : View X) (s : Served) (n : ℕ) : Type 0 where
-  pub offers : offers s.line.request ≡ true
+  pub offers : offers s.asked.request ≡ true
   pub limit : version_limit ≤ n
   pub found : ((s.drew ≡ None) × HasItem v Counted n) ⊎ ((s.drew ≡ Some (n + 1)) × HasItem v Drew n)
 
@@ -60,7 +63,7 @@ is_anchor_of anchors a (Some url) = anchor_of (key_of url) anchors == a
 
 abbrev pub reads_at : ℕ → ℕ → Option Served → Bool
 reads_at anchors a None = false
-reads_at anchors a (Some s) = is_anchor_of anchors a (url_in s.line.request)
+reads_at anchors a (Some s) = is_anchor_of anchors a (url_in s.asked.request)
 
 -- how many of the worker's tabs read at the anchor a after these lines
 abbrev pub readers_at : (anchors : ℕ) → List Served → ℕ → ℕ
@@ -80,12 +83,15 @@ pub record IsOvertaken (looked other : Word) : Type 0 where
 pub record IsBusy {X : Type 0} (r : Run X) (v : View X) (earlier : List Served) (s : Served) (looked other : Word) : Type 0 where
   pub cause : IsHeld looked other ⊎ IsOvertaken looked other
   pub rises : epoch_number looked.epoch ≤ epoch_number other.epoch
-  pub met : (a : ℕ) → IsAt r.setting.anchors earlier s a → (readers_at r.setting.anchors earlier a < looked.readers) ⊎ (readers_at r.setting.anchors earlier a < other.readers) → Contains v.met a  -- the worker met more readers than its own
+  -- the worker met more readers than its own
+  pub met : (a : ℕ) → IsAt r.setting.anchors earlier s a
+      → (readers_at r.setting.anchors earlier a < looked.readers) ⊎ (readers_at r.setting.anchors earlier a < other.readers)
+      → Contains v.met a
 
 -- LONGURL
 pub record IsLong {X : Type 0} (r : Run X) (s : Served) : Type 0 where
   pub url : List ℕ
-  pub named : url_in s.line.request ≡ Some url
+  pub named : url_in s.asked.request ≡ Some url
   pub long : r.room < 32 + length url
   pub drew : s.drew ≡ None
 
@@ -94,16 +100,16 @@ pub record IsLarge {X : Type 0} (r : Run X) (earlier : List Served) (s : Served)
   pub first : Served
   pub begun_is : begun_by earlier s ≡ Some first
   pub url : List ℕ
-  pub named : url_in first.line.request ≡ Some url
-  pub large : min 4096 r.setting.slots * r.room < 32 + length url + length (r.body (r.setting.slots + first.line.number))
+  pub named : url_in first.asked.request ≡ Some url
+  pub large : min 4096 r.setting.slots * r.room < 32 + length url + length (r.body (r.setting.slots + first.asked.number))
 
 -- STORED and DOOMED: that body needs no more slots than an entry may have
 pub record IsSmall {X : Type 0} (r : Run X) (earlier : List Served) (s : Served) : Type 0 where
   pub first : Served
   pub begun_is : begun_by earlier s ≡ Some first
   pub url : List ℕ
-  pub named : url_in first.line.request ≡ Some url
-  pub small : 32 + length url + length (r.body (r.setting.slots + first.line.number)) ≤ min 4096 r.setting.slots * r.room
+  pub named : url_in first.asked.request ≡ Some url
+  pub small : 32 + length url + length (r.body (r.setting.slots + first.asked.number)) ≤ min 4096 r.setting.slots * r.room
 
 -- MISS and NONE.
 
@@ -116,7 +122,7 @@ Refuses _ cause = ⊥
 -- it is the cause at the epoch that it tells, for a key that is kept there, where that of the line's URL is wanted
 pub record IsCauseOf (s : Served) (epoch : Epoch) (cause : Cause) : Type 0 where
   pub url : List ℕ
-  pub named : url_in s.line.request ≡ Some url
+  pub named : url_in s.asked.request ≡ Some url
   pub kept : List ℕ
   pub judged : cause_of epoch kept (key_of url) ≡ Some cause
 
@@ -176,18 +182,18 @@ ComesIn request a version = of_shape (shape_of request)
 -- the line opened an entry
 pub record HasOpened {X : Type 0} (r : Run X) (v : View X) (s : Served) : Type 0 where
   pub url : List ℕ
-  pub named : url_in s.line.request ≡ Some url
+  pub named : url_in s.asked.request ≡ Some url
   pub entry : IsEntryAt r v (anchor_of (key_of url) r.setting.anchors) s.opened url
-  pub told : ComesIn s.line.request s.answer (version_of s.opened)
+  pub told : ComesIn s.asked.request s.answer (version_of s.opened)
 
 -- PURGED: the entry was found at an epoch at which it may be read, of the version that was doomed, with the key of the line's URL. The doom
 -- left it at APPENDING, CLOSED or HALTED.
 pub record HasPurged {X : Type 0} (r : Run X) (v : View X) (s : Served) (e : Epoch) : Type 0 where
   pub doomed : e.doom ≡ true
-  pub from : 2 ≤ stage_of (epoch_number e)
-  pub to : stage_of (epoch_number e) ≤ 4
+  pub from : IsFromStage Appending (epoch_number e)
+  pub to : IsUpToStage Halted (epoch_number e)
   pub url : List ℕ
-  pub named : url_in s.line.request ≡ Some url
+  pub named : url_in s.asked.request ≡ Some url
   pub version_is : version_of s.opened ≡ version_of (epoch_number e)
   pub keyed : IsKeyRead r v (anchor_of (key_of url) r.setting.anchors) s.opened (key_of url)
 
@@ -206,7 +212,7 @@ pub record HasOther {X : Type 0} (r : Run X) (v : View X) (earlier : List Served
   pub first : Served
   pub opened_is : opened_by earlier s ≡ Some first
   pub url : List ℕ
-  pub named : url_in first.line.request ≡ Some url
+  pub named : url_in first.asked.request ≡ Some url
   pub entry : IsEntryAt r v (anchor_of (key_of url) r.setting.anchors) first.opened url
   pub good : IsUrl (r.url entry.offer)
   pub same_key : key_of (r.url entry.offer) ≡ key_of url
@@ -223,7 +229,7 @@ pub record IsWritten (earlier : List Served) (s : Served) (tab : ℕ) : Type 0 w
   pub first : Served
   pub begun_is : writing tab earlier ≡ Some first
   pub url : List ℕ
-  pub named : url_in first.line.request ≡ Some url
+  pub named : url_in first.asked.request ≡ Some url
   pub version : ℕ
   pub drew : first.drew ≡ Some version
 
@@ -236,21 +242,25 @@ slots_after room url tab served = published room (meta_size url + added tab serv
 pub record HasAdded {X : Type 0} (r : Run X) (v : View X) (earlier : List Served) (s : Served) (count : ℕ) : Type 0 where
   pub tab : ℕ
   pub asked : ℕ
-  pub request : s.line.request ≡ Add tab asked
+  pub request : s.asked.request ≡ Add tab asked
   pub writes : IsWritten earlier s tab
-  pub count_is : count ≡ min asked (length (r.body (r.setting.slots + writes.first.line.number)) - added tab earlier)
-  pub url_is : r.url (r.setting.slots + writes.first.line.number) ≡ writes.url
-  pub published : 0 < slots_after r.room writes.url tab (s ∷ earlier) → Contains v.seen (Published (anchor_of (key_of writes.url) r.setting.anchors) writes.version (slots_after r.room writes.url tab (s ∷ earlier)))
-  pub offer : 0 < slots_after r.room writes.url tab (s ∷ earlier) → Contains v.seen (Named (anchor_of (key_of writes.url) r.setting.anchors) writes.version Offer (r.setting.slots + writes.first.line.number))
+  pub count_is : count ≡ min asked (length (r.body (r.setting.slots + writes.first.asked.number)) - added tab earlier)
+  pub url_is : r.url (r.setting.slots + writes.first.asked.number) ≡ writes.url
+  pub published : 0 < slots_after r.room writes.url tab (earlier then s)
+      → Contains v.seen (Published (anchor_of (key_of writes.url) r.setting.anchors) writes.version
+      (slots_after r.room writes.url tab (earlier then s)))
+  pub offer : 0 < slots_after r.room writes.url tab (earlier then s)
+      → Contains v.seen (Named (anchor_of (key_of writes.url) r.setting.anchors) writes.version Offer
+      (r.setting.slots + writes.first.asked.number))
 
 -- the bytes that the tab of a line was given since it was opened, with those of the line; or those of the line itself, where it gets
 abbrev pub bytes_of_tab : List Served → Served → Request → List ℕ
-bytes_of_tab earlier s (More tab) = bytes_given tab (s ∷ earlier)
+bytes_of_tab earlier s (More tab) = bytes_given tab (earlier then s)
 bytes_of_tab earlier s (Get url) = bytes_in s.answer
 bytes_of_tab earlier s _ = []
 
 abbrev pub bytes_with : List Served → Served → List ℕ
-bytes_with earlier s = bytes_of_tab earlier s s.line.request
+bytes_with earlier s = bytes_of_tab earlier s s.asked.request
 
 abbrev pub given_with : List Served → Served → ℕ
 given_with earlier s = length (bytes_with earlier s)
@@ -280,7 +290,7 @@ pub record HasGiven {X : Type 0} (r : Run X) (v : View X) (earlier : List Served
   pub first : Served
   pub opened_is : opened_by earlier s ≡ Some first
   pub url : List ℕ
-  pub named : url_in first.line.request ≡ Some url
+  pub named : url_in first.asked.request ≡ Some url
   pub entry : IsEntryAt r v (anchor_of (key_of url) r.setting.anchors) first.opened url
   pub place : ℕ
   pub most : given_with earlier s ≤ bytes_behind r.room url place
@@ -297,7 +307,8 @@ pub record HasPart {X : Type 0} (r : Run X) (v w : View X) (earlier : List Serve
   pub version : version_of e ≡ version_of given.first.opened
   pub seen : Contains w.seen (Stood (anchor_of (key_of given.url) r.setting.anchors) e)
   pub all : given_with earlier s ≡ bytes_behind r.room given.url given.place
-  pub least : (n : ℕ) → Contains v.seen (Published (anchor_of (key_of given.url) r.setting.anchors) (version_of given.first.opened) n) → n ≤ given.place
+  pub least : (n : ℕ) → Contains v.seen (Published (anchor_of (key_of given.url) r.setting.anchors) (version_of given.first.opened) n)
+      → n ≤ given.place
 
 -- a line that read, with bytes or without
 abbrev pub Reads : Answer → Type 0

@@ -2,7 +2,7 @@
 use Rattle.std.specs.Prelude.{List, count_by, length, sum_by, true, ◌*◌, ◌+◌, ◌<◌, ◌≡◌, ◌⊎◌, Contains, ℕ}
 use mathlib.Core.Option.{some}
 use lib.ListN.{get_elem?}
-use Rattle.lock_word.specs.Words.{stage_of, version_of}
+use Rattle.lock_word.specs.Words.{version_of}
 use Rattle.script_text.specs.declared.answer.Answer.TheVariants as answer
 use Rattle.core_model.specs.declared.moves.Side.TheVariants.{Offer}
 use Rattle.core_model.specs.declared.view.Sight.TheVariants.{Named, Published, Stood}
@@ -10,25 +10,30 @@ use Rattle.core_model.specs.declared.view.View.{View}
 use Rattle.core_model.specs.Sound.{Sound}
 use Rattle.core_model.specs.State.{State}
 use Rattle.core_model.specs.Tabs.{IsPass}
-use Rattle.line_account.specs.Lines.{IsAt, LineOf, Served, Writes, offers}
+use Rattle.line_account.specs.Lines.{IsAt, Served, Writes, offers}
 use Rattle.line_account.specs.Deeds.{Begins, Halts, IsWriting, PrintsBegunVersion, Purges}
 use Rattle.line_account.specs.Accounts.{Account, Shows}
 use Rattle.line_account.specs.Answers.{Run}
+use Rattle.lock_word.specs.declared.stage.Stage.TheVariants.{Halted}
+use Rattle.line_account.specs.EpochNames.{IsAtStage}
+use Rattle.line_account.specs.ScriptOrder.{◌followed_by◌, ◌then◌}
 
 -- a worker at the end: what it holds and knows, and the lines that it served
 pub record Worker (X : Type 0) : Type 0 where
   pub view : View X
   pub served : List Served
 
--- An entry that was halted was never whole: where a version was seen at HALTED, a number of its slots were seen published, and the offer of a
--- line was seen as its offer, these slots hold less than the content of that offer, which is its metadata and its body.
+-- An entry that was halted was never whole: where a version was seen at HALTED, a number of its slots were seen published, and the offer of
+-- a line was seen as its offer, these slots hold less than the content of that offer, which is its metadata and its body.
 pub record HaltedShort {X : Type 0} (r : Run X) (s : State X) : Type 0 where
-  pub short : (i j l : ℕ) (u v w : View X) → get_elem? s.views i ≡ some u → get_elem? s.views j ≡ some v → get_elem? s.views l ≡ some w → (a e many number : ℕ) → stage_of e ≡ 4
-      → Contains u.seen (Stood a e) → Contains v.seen (Published a (version_of e) many) → Contains w.seen (Named a (version_of e) Offer (r.setting.slots + number))
+  pub short : (i j l : ℕ) (u v w : View X) → get_elem? s.views i ≡ some u → get_elem? s.views j ≡ some v → get_elem? s.views l ≡ some w
+      → (a e many number : ℕ) → IsAtStage Halted e
+      → Contains u.seen (Stood a e) → Contains v.seen (Published a (version_of e) many)
+      → Contains w.seen (Named a (version_of e) Offer (r.setting.slots + number))
       → many * r.room < 32 + length (r.url (r.setting.slots + number)) + length (r.body (r.setting.slots + number))
 
--- The workers ended. Their views stand in one sound state, where what was halted was never whole. No two are at the same place, there are as
--- many as passes, and each has its account.
+-- The workers ended. Their views stand in one sound state, where what was halted was never whole. No two are at the same place, there are
+-- as many as passes, and each has its account.
 pub record Closed {X : Type 0} (r : Run X) (crew : List (Worker X)) : Type 0 where
   pub state : State X
   pub sound : Sound r.setting state
@@ -45,16 +50,21 @@ pub record LineIn {X : Type 0} (crew : List (Worker X)) (P : List Served → Ser
   pub j : ℕ
   pub worker : Worker X
   pub at : get_elem? crew j ≡ some worker
-  pub line_of : LineOf worker.served P
+  pub earlier : List Served
+  pub served : Served
+  pub later : List Served
+  pub split : worker.served ≡ earlier then served followed_by later
+  pub so : P earlier served
 
 -- they are lines of the same worker, with as many lines before them
-pub record IsSameLine {X : Type 0} (crew : List (Worker X)) (P Q : List Served → Served → Type 0) (p : LineIn crew P) (q : LineIn crew Q) : Type 0 where
+pub record IsSameLine {X : Type 0} (crew : List (Worker X)) (P Q : List Served → Served → Type 0) (p : LineIn crew P) (q : LineIn crew Q)
+    : Type 0 where
   pub worker : p.j ≡ q.j
-  pub place : length p.line_of.earlier ≡ length q.line_of.earlier
+  pub place : length p.earlier ≡ length q.earlier
 
 -- how many of the lines offer a body
 abbrev pub offered_by : {X : Type 0} → Worker X → ℕ
-offered_by w = count_by (λ s. offers s.line.request) w.served
+offered_by w = count_by (λ s. offers s.asked.request) w.served
 
 abbrev pub offered : {X : Type 0} → List (Worker X) → ℕ
 offered crew = sum_by offered_by crew

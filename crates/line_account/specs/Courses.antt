@@ -1,5 +1,5 @@
 -- The course of a worker: what each line adds to its account, and what the end does.
-use Rattle.std.specs.Prelude.{Bool, IsTrue, List, [], cond, ◌+◌, ◌<◌, ◌∷◌, ◌≡◌, ◌≤◌, ◌⊎◌, Contains, ℕ}
+use Rattle.std.specs.Prelude.{Bool, IsTrue, List, [], cond, ◌+◌, ◌<◌, ◌≡◌, ◌≤◌, ◌⊎◌, Contains, ℕ}
 use Rattle.lock_word.specs.Words.{epoch_number, stage_of, version_of}
 use Rattle.lock_word.specs.declared.epoch.Epoch.{Epoch}
 use Rattle.script_text.specs.declared.answer.Answer.TheVariants as answer
@@ -14,6 +14,7 @@ use Rattle.line_account.specs.Lines.{Served}
 use Rattle.line_account.specs.Deeds.{IsDeedOf, IsDeedOfEnd, IsWriting, PrintsBegunVersion}
 use Rattle.line_account.specs.Answers.{HasPart, Run}
 use Rattle.line_account.specs.Accounts.{HasHalted, Shows, Tells, drew_some, drew_version}
+use Rattle.line_account.specs.ScriptOrder.{◌then◌}
 
 -- 1 where it is so
 abbrev pub one_if : Bool → ℕ
@@ -31,9 +32,11 @@ pub record Adds {X : Type 0} (r : Run X) (v : View X) (earlier : List Served) (s
   -- of one version the stage that it shows is one to which those lead that the worker had seen there
   pub stages : (a d e : ℕ) → Shows r.setting.anchors earlier s a e → Contains v.seen (Stood a d) → version_of d ≡ version_of e
       → Leads (stage_of d) (stage_of e)
-  pub above : (a x : ℕ) → PrintsBegunVersion r.setting.anchors s a x → version_of (seen_at a v.seen) < x  -- a version that it began is later than what the worker had seen there
+  -- a version that it began is later than what the worker had seen there
+  pub above : (a x : ℕ) → PrintsBegunVersion r.setting.anchors s a x → version_of (seen_at a v.seen) < x
   pub tells : Tells r w earlier s
-  pub parts : IsTrue r.tells → (e : Epoch) (bytes : List ℕ) → s.answer ≡ answer.Part e bytes → HasPart r v w earlier s (epoch_number e)  -- PART gives what the worker had seen published
+  -- PART gives what the worker had seen published
+  pub parts : IsTrue r.tells → (e : Epoch) (bytes : List ℕ) → s.answer ≡ answer.Part e bytes → HasPart r v w earlier s (epoch_number e)
 
 -- what the end adds, after all lines
 pub record Leaves {X : Type 0} (r : Run X) (v : View X) (served : List Served) (w : View X) : Type 0 where
@@ -58,10 +61,11 @@ pub record Stage (X : Type 0) : Type 0 where
 
 abbrev pub lines_in : {X : Type 0} → List (Stage X) → List Served
 lines_in [] = []
-lines_in (s ∷ earlier) = s.served ∷ lines_in earlier
+lines_in (earlier then s) = lines_in earlier then s.served
 
--- A worker that began with one view served these lines, the newest first, each from the view that the line before it left, and came to
+-- A worker that began with one view served these lines, each from the view that the line before it left, and came to
 -- another view. A mark that is set or met is a line like others; a worker that met one has also seen what its note tells.
 abbrev pub Course : {X : Type 0} → Run X → View X → List (Stage X) → View X → Type 0
 Course r start [] end = end ≡ start
-Course r start (s ∷ earlier) end = (end ≡ s.after) × Adds r s.before (lines_in earlier) s.served s.after × Course r start earlier s.before
+Course r start (earlier then s) end = (end ≡ s.after) × Adds r s.before (lines_in earlier) s.served s.after
+    × Course r start earlier s.before

@@ -1,5 +1,5 @@
 -- The courses of workers, and where a line stands among those that its worker served.
-use Rattle.std.specs.Prelude.{Contains, List, ◌++◌, ◌∷◌, ◌≡◌, ℕ}
+use Rattle.std.specs.Prelude.{Contains, List, ◌≡◌, ℕ}
 use mathlib.Core.Option.{some}
 use lib.ListN.{get_elem?}
 use Rattle.script_text.specs.declared.answer.Answer.TheVariants.{Met}
@@ -11,6 +11,7 @@ use Rattle.line_account.specs.Courses.{Stage}
 use Rattle.line_account.specs.Lines.{Served}
 use Rattle.line_account.specs.Order.{HandsOver}
 use Rattle.line_account.specs.Parts.{IsCourseOf}
+use Rattle.line_account.specs.ScriptOrder.{◌followed_by◌, ◌then◌}
 
 -- a worker came to its end along a course
 pub record HasCourse {X : Type 0} (r : Run X) (w : Worker X) : Type 0 where
@@ -23,12 +24,12 @@ pub record HaveCourses {X : Type 0} (r : Run X) (crew : List (Worker X)) : Type 
   pub course : (j : ℕ) (w : Worker X) → get_elem? crew j ≡ some w → HasCourse r w
   pub meets : (j l : ℕ) (w u : Worker X) (setter : get_elem? crew j ≡ some w) (other : get_elem? crew l ≡ some u) (m n : Stage X) (mark : ℕ)
       → Contains (course j w setter).stages m → Contains (course l u other).stages n
-      → m.served.line.request ≡ Mark mark → n.served.line.request ≡ Await mark → n.served.answer ≡ Met → HandsOver m n
+      → m.served.asked.request ≡ Mark mark → n.served.asked.request ≡ Await mark → n.served.answer ≡ Met → HandsOver m n
 
--- the line is among these, the newest of which stands first, with those before it
+-- the line is among these, with those before it
 pub record IsAmong (served : List Served) (line : Served) (earlier : List Served) : Type 0 where
   pub later : List Served
-  pub split : served ≡ later ++ line ∷ earlier
+  pub split : served ≡ earlier then line followed_by later
 
 -- One of these lines met a mark. The worker of the crew that set this had served the other lines before it did so.
 pub record HasMet {X : Type 0} (crew : List (Worker X)) (served marked : List Served) : Type 0 where
@@ -36,17 +37,18 @@ pub record HasMet {X : Type 0} (crew : List (Worker X)) (served marked : List Se
   pub met : Served
   pub between : List Served
   pub awaits : IsAmong served met between
-  pub asked : met.line.request ≡ Await mark
+  pub asked : met.asked.request ≡ Await mark
   pub meets : met.answer ≡ Met
   pub j : ℕ
   pub worker : Worker X
   pub at : get_elem? crew j ≡ some worker
   pub setter : Served
   pub sets : IsAmong worker.served setter marked
-  pub set : setter.line.request ≡ Mark mark
+  pub set : setter.asked.request ≡ Mark mark
 
 -- A worker that had served these lines knew of the line s, which has `earlier` before it: s is one of them, or the worker had met a mark
 -- whose setter knew of s when it set it.
 pub data KnewOf {X : Type 0} (crew : List (Worker X)) : List Served → Served → List Served → Type 0 where
   own : {served earlier : List Served} {s : Served} → IsAmong served s earlier → KnewOf crew served s earlier
-  told : {served marked earlier : List Served} {s : Served} → HasMet crew served marked → KnewOf crew marked s earlier → KnewOf crew served s earlier
+  told : {served marked earlier : List Served} {s : Served} → HasMet crew served marked → KnewOf crew marked s earlier
+      → KnewOf crew served s earlier

@@ -1,6 +1,6 @@
 -- Which line a deed of a worker belongs to.
 use Rattle.std.specs.Prelude.{Bool, List, Some, ◌+◌, ◌≡◌, ◌⊎◌, Contains, false, true, ℕ}
-use Rattle.lock_word.specs.Words.{doom_of, epoch_number, stage_of, version_of}
+use Rattle.lock_word.specs.Words.{epoch_number, version_of}
 use Rattle.lock_word.specs.declared.epoch.Epoch.{Epoch}
 use Rattle.store_key.specs.Anchor.{anchor_of, back_half, front_half}
 use Rattle.store_key.specs.Key.{key_of}
@@ -18,6 +18,8 @@ use Rattle.core_model.specs.Layout.{Setting}
 use Rattle.script_text.specs.Requests.{url_in}
 use Rattle.line_account.specs.Lines.{IsAnchorOf, IsWritingOf, LineOf, Served, Writes, gives_up, writing}
 use Rattle.line_account.specs.Answers.{Run}
+use Rattle.lock_word.specs.declared.stage.Stage.TheVariants.{Appending, Closed, Freeing, Gone, Halted, Taken}
+use Rattle.line_account.specs.EpochNames.{IsAtStage, IsDoomed, IsUndoomed}
 
 -- a request that comes to the entry of a URL to read or to purge it
 abbrev pub Comes : Request → List ℕ → Type 0
@@ -78,9 +80,9 @@ Began request a x = of_shape (shape_of request)
 
 -- a line that began the version x at the anchor a
 pub record Begins (anchors : ℕ) (s : Served) (a x : ℕ) : Type 0 where
-  pub anchor : IsAnchorOf anchors (url_in s.line.request) a
+  pub anchor : IsAnchorOf anchors (url_in s.asked.request) a
   pub drew : s.drew ≡ Some x
-  pub began : Began s.line.request s.answer x
+  pub began : Began s.asked.request s.answer x
 
 -- the answers to a line that began and ended a writing which tell its version
 abbrev pub TellsEnded : Answer → ℕ → Type 0
@@ -104,8 +106,8 @@ TellsBegun request a x = of_shape (shape_of request)
 
 -- a line printed that it began the version x at the anchor a
 pub record PrintsBegunVersion (anchors : ℕ) (s : Served) (a x : ℕ) : Type 0 where
-  pub anchor : IsAnchorOf anchors (url_in s.line.request) a
-  pub told : TellsBegun s.line.request s.answer x
+  pub anchor : IsAnchorOf anchors (url_in s.asked.request) a
+  pub told : TellsBegun s.asked.request s.answer x
 
 -- The answers to a line that came so far that it needed slots, and may have had to evict an entry for one: STORED, DOOMED, ADDED, FULL,
 -- LARGE and FAULT. A line that printed BUSY, SPENT, LONGURL or TAB was refused before, and `begin` needs none.
@@ -126,10 +128,10 @@ pub record Evicts {X : Type 0} (r : Run X) (s : Served) : Type 0 where
 -- what the worker knows of the entry of version x, at the anchor a, that a line of its own began: its key and its offer
 pub record IsNamed {X : Type 0} (k : Setting X) (v : View X) (a x : ℕ) (first : Served) : Type 0 where
   pub url : List ℕ
-  pub url_is : url_in first.line.request ≡ Some url
+  pub url_is : url_in first.asked.request ≡ Some url
   pub key0 : Contains v.seen (Named a x Key0 (front_half (key_of url)))
   pub key1 : Contains v.seen (Named a x Key1 (back_half (key_of url)))
-  pub offer : Contains v.seen (Named a x Offer (k.slots + first.line.number))
+  pub offer : Contains v.seen (Named a x Offer (k.slots + first.asked.number))
 
 -- a line that published slots of the version x at the anchor a
 pub record Grows {X : Type 0} (k : Setting X) (v : View X) (earlier : List Served) (s : Served) (a x : ℕ) : Type 0 where
@@ -138,8 +140,8 @@ pub record Grows {X : Type 0} (k : Setting X) (v : View X) (earlier : List Serve
 
 -- the answer to a line that left its entry whole, at this epoch
 pub record Finishes (a : Answer) (e : ℕ) : Type 0 where
-  pub stored : doom_of e ≡ 0 → a ≡ answer.Stored (version_of e)
-  pub doomed : doom_of e ≡ 1 → a ≡ answer.Doomed (version_of e)
+  pub stored : IsUndoomed e → a ≡ answer.Stored (version_of e)
+  pub doomed : IsDoomed e → a ≡ answer.Doomed (version_of e)
 
 -- a line that gave up its writing of the version x at the anchor a
 pub record Halts (anchors : ℕ) (earlier : List Served) (s : Served) (a x : ℕ) : Type 0 where
@@ -149,7 +151,7 @@ pub record Halts (anchors : ℕ) (earlier : List Served) (s : Served) (a x : ℕ
 -- a line that purged the entry at the anchor a, and left this epoch
 pub record Purges (anchors : ℕ) (s : Served) (a e : ℕ) : Type 0 where
   pub url : List ℕ
-  pub request : s.line.request ≡ Purge url
+  pub request : s.asked.request ≡ Purge url
   pub anchor : a ≡ anchor_of (key_of url) anchors
   pub epoch : Epoch
   pub answered : s.answer ≡ answer.Purged epoch
@@ -158,15 +160,17 @@ pub record Purges (anchors : ℕ) (s : Served) (a e : ℕ) : Type 0 where
 -- The deed belongs to the line s, which has these before it; v is what its worker knows. It entered an anchor, or changed, raised or
 -- doomed one, and each of these has the lines that may do so.
 pub record IsDeedOf {X : Type 0} (r : Run X) (v : View X) (d : Deed) (earlier : List Served) (s : Served) : Type 0 where
-  pub entered : d.kind ≡ Entered → ComesTo r.setting.anchors s.line.request d.anchor
-  pub changed : d.kind ≡ Changed → (stage_of d.epoch ≡ 1) ⊎ (stage_of d.epoch ≡ 5)  -- it took the anchor for a new entry, or began to free its entry
-  pub took : d.kind ≡ Changed → stage_of d.epoch ≡ 1 → Begins r.setting.anchors s d.anchor (version_of d.epoch)
-  pub evicted : d.kind ≡ Changed → stage_of d.epoch ≡ 5 → d.was_idle ≡ true → Evicts r s
-  pub grew : d.kind ≡ Raised → (stage_of d.epoch ≡ 2) ⊎ (stage_of d.epoch ≡ 3) → Grows r.setting v earlier s d.anchor (version_of d.epoch)
-  pub closed : d.kind ≡ Raised → stage_of d.epoch ≡ 3 → Finishes s.answer d.epoch
-  pub halted : d.kind ≡ Raised → stage_of d.epoch ≡ 4 → Halts r.setting.anchors earlier s d.anchor (version_of d.epoch)
+  pub entered : d.kind ≡ Entered → ComesTo r.setting.anchors s.asked.request d.anchor
+  -- it took the anchor for a new entry, or began to free its entry
+  pub changed : d.kind ≡ Changed → IsAtStage Taken d.epoch ⊎ IsAtStage Freeing d.epoch
+  pub took : d.kind ≡ Changed → IsAtStage Taken d.epoch → Begins r.setting.anchors s d.anchor (version_of d.epoch)
+  pub evicted : d.kind ≡ Changed → IsAtStage Freeing d.epoch → d.was_idle ≡ true → Evicts r s
+  pub grew : d.kind ≡ Raised → IsAtStage Appending d.epoch ⊎ IsAtStage Closed d.epoch
+      → Grows r.setting v earlier s d.anchor (version_of d.epoch)
+  pub closed : d.kind ≡ Raised → IsAtStage Closed d.epoch → Finishes s.answer d.epoch
+  pub halted : d.kind ≡ Raised → IsAtStage Halted d.epoch → Halts r.setting.anchors earlier s d.anchor (version_of d.epoch)
   pub doomed : d.kind ≡ Doomed → Purges r.setting.anchors s d.anchor d.epoch
-  pub with_doom : d.kind ≡ Doomed → doom_of d.epoch ≡ 1
+  pub with_doom : d.kind ≡ Doomed → IsDoomed d.epoch
 
 -- some tab writes the version x at the anchor a after these lines
 pub record IsWriting (anchors : ℕ) (served : List Served) (a x : ℕ) : Type 0 where
@@ -176,9 +180,9 @@ pub record IsWriting (anchors : ℕ) (served : List Served) (a x : ℕ) : Type 0
 -- The deed belongs to the end, at which the worker closed the tabs that read and gave up those that wrote.
 pub record IsDeedOfEnd {X : Type 0} (k : Setting X) (d : Deed) (served : List Served) : Type 0 where
   pub entered : d.kind ≡ Entered → ⊥
-  pub changed : d.kind ≡ Changed → (stage_of d.epoch ≡ 5) × (d.was_idle ≡ false)
-  pub raised : d.kind ≡ Raised → (stage_of d.epoch ≡ 4) ⊎ (stage_of d.epoch ≡ 6)
-  pub halted : d.kind ≡ Raised → stage_of d.epoch ≡ 4 → IsWriting k.anchors served d.anchor (version_of d.epoch)
+  pub changed : d.kind ≡ Changed → IsAtStage Freeing d.epoch × (d.was_idle ≡ false)
+  pub raised : d.kind ≡ Raised → IsAtStage Halted d.epoch ⊎ IsAtStage Gone d.epoch
+  pub halted : d.kind ≡ Raised → IsAtStage Halted d.epoch → IsWriting k.anchors served d.anchor (version_of d.epoch)
   pub doomed : d.kind ≡ Doomed → ⊥
 
 -- the deed belongs to one of these lines, or to the end, if the worker is there

@@ -1,3 +1,5 @@
+pub mod ScriptOrder
+pub mod EpochNames
 pub mod Lines
 pub mod Requests
 pub mod Stopping

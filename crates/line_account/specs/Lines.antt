@@ -1,5 +1,5 @@
 -- Lines that a worker served, and what they say of its tabs.
-use Rattle.std.specs.Prelude.{◌&&◌, ◌+◌, ◌++◌, ◌==◌, ◌||◌, ◌∷◌, ◌≡◌, ◌≢◌, Bool, List, None, Option, Some, [], cond, false, length, true, ℕ}
+use Rattle.std.specs.Prelude.{◌&&◌, ◌+◌, ◌++◌, ◌==◌, ◌||◌, ◌≡◌, ◌≢◌, Bool, List, None, Option, Some, [], cond, false, length, true, ℕ}
 use Rattle.store_key.specs.Anchor.{anchor_of}
 use Rattle.store_key.specs.Key.{key_of}
 use Rattle.script_text.specs.Requests.{OffersBody, offers_body, url_in}
@@ -10,23 +10,24 @@ use Rattle.script_text.specs.declared.body.Body.{Body}
 use Rattle.script_text.specs.declared.line.Line.{Line}
 use Rattle.script_text.specs.declared.request.Request.{Request}
 use Rattle.script_text.specs.declared.request.Request.TheVariants.{Add, CloseTab, DropTab, End, More}
+use Rattle.line_account.specs.ScriptOrder.{◌followed_by◌, ◌then◌}
 
 -- A line that was served, and its answer. Three things that are not printed stand beside them: the version that the line drew, if it
--- drew one, and the epochs at which it opened an entry, or found the one that it purged, and looked at one last. A worker's lines stand with the newest first.
+-- drew one, and the epochs at which it opened an entry, or found the one that it purged, and looked at one last.
 pub record Served : Type 0 where
-  pub line : Line
+  pub asked : Line
   pub answer : Answer
   pub drew : Option ℕ
   pub opened : ℕ
   pub looked : ℕ
 
 -- A line of which P holds, given the lines of its worker before it.
-pub record LineOf (served : List Served) (P : List Served → Served → Type 0) : Type 0 where
-  pub later : List Served
-  pub line : Served
+pub record LineOf (lines : List Served) (P : List Served → Served → Type 0) : Type 0 where
   pub earlier : List Served
-  pub split : served ≡ later ++ line ∷ earlier
-  pub so : P earlier line
+  pub served : Served
+  pub later : List Served
+  pub split : lines ≡ earlier then served followed_by later
+  pub so : P earlier served
 
 -- What requests and answers are.
 
@@ -105,18 +106,20 @@ closes t _ a = false
 -- the line that began what the tab t writes after these lines, if it writes
 abbrev pub writing : ℕ → List Served → Option Served
 writing t [] = None
-writing t (s ∷ earlier) = cond (begins t s.line.request s.answer) (Some s) (cond (ends t s.line.request s.answer) None (writing t earlier))
+writing t (earlier then s) = cond (begins t s.asked.request s.answer) (Some s)
+    (cond (ends t s.asked.request s.answer) None (writing t earlier))
 
 -- the line that opened what the tab t reads after these lines, if it reads
 abbrev pub reading : ℕ → List Served → Option Served
 reading t [] = None
-reading t (s ∷ earlier) = cond (opens t s.line.request s.answer) (Some s) (cond (closes t s.line.request s.answer) None (reading t earlier))
+reading t (earlier then s) = cond (opens t s.asked.request s.answer) (Some s)
+    (cond (closes t s.asked.request s.answer) None (reading t earlier))
 
 -- Where a line is at work.
 
 abbrev pub url_named : Option Served → Option (List ℕ)
 url_named None = None
-url_named (Some s) = url_in s.line.request
+url_named (Some s) = url_in s.asked.request
 
 -- the URL that a line names, or that its tab was opened or begun with
 abbrev pub url_at : List Served → Request → Option (List ℕ)
@@ -140,7 +143,7 @@ pub record IsAnchorOf (anchors : ℕ) (named : Option (List ℕ)) (a : ℕ) : Ty
 
 -- the line, with these before it, is at work at the anchor a
 abbrev pub IsAt : (anchors : ℕ) → List Served → Served → ℕ → Type 0
-IsAt anchors earlier s a = IsAnchorOf anchors (url_at earlier s.line.request) a
+IsAt anchors earlier s a = IsAnchorOf anchors (url_at earlier s.asked.request) a
 
 -- the line that began what a line writes: it does so itself, or its tab's first line did
 abbrev pub begun_of : List Served → Served → Request → Option Served
@@ -157,14 +160,14 @@ begun_of earlier s request = of_shape (shape_of request)
     of_shape (Shape.AtMark mark) = None
 
 abbrev pub begun_by : List Served → Served → Option Served
-begun_by earlier s = begun_of earlier s s.line.request
+begun_by earlier s = begun_of earlier s s.asked.request
 
 -- this is the line that began a writing, with the version x, at the anchor a
 pub record IsWritingOf (anchors : ℕ) (begun : Option Served) (a x : ℕ) : Type 0 where
   pub first : Served
   pub begun_is : begun ≡ Some first
   pub drew : first.drew ≡ Some x
-  pub anchor : IsAnchorOf anchors (url_in first.line.request) a
+  pub anchor : IsAnchorOf anchors (url_in first.asked.request) a
 
 -- a line that writes the version x at the anchor a
 abbrev pub Writes : (anchors : ℕ) → List Served → Served → (a x : ℕ) → Type 0
@@ -189,7 +192,7 @@ opened_of earlier s request = of_shape (shape_of request)
     of_shape (Shape.AtMark mark) = None
 
 abbrev pub opened_by : List Served → Served → Option Served
-opened_by earlier s = opened_of earlier s s.line.request
+opened_by earlier s = opened_of earlier s s.asked.request
 
 -- the tab of a request is as the request needs it
 abbrev pub Fits : List Served → Request → Type 0
@@ -227,7 +230,7 @@ given_by t _ a = []
 -- the bytes that the tab t was given after these lines, since it was opened, and how many
 abbrev pub bytes_given : ℕ → List Served → List ℕ
 bytes_given t [] = []
-bytes_given t (s ∷ earlier) = cond (opens t s.line.request s.answer) [] (bytes_given t earlier ++ given_by t s.line.request s.answer)
+bytes_given t (earlier then s) = cond (opens t s.asked.request s.answer) [] (bytes_given t earlier ++ given_by t s.asked.request s.answer)
 
 abbrev pub given : ℕ → List Served → ℕ
 given t served = length (bytes_given t served)
@@ -243,4 +246,4 @@ added_by t _ a = 0
 -- how many bytes were added on the tab t after these lines, since it was begun
 abbrev pub added : ℕ → List Served → ℕ
 added t [] = 0
-added t (s ∷ earlier) = cond (begins t s.line.request s.answer) 0 (added_by t s.line.request s.answer + added t earlier)
+added t (earlier then s) = cond (begins t s.asked.request s.answer) 0 (added_by t s.asked.request s.answer + added t earlier)

@@ -1,6 +1,6 @@
 -- In which order workers print epochs and versions.
-use Rattle.std.specs.Prelude.{List, None, Option, Some, [], ◌++◌, ◌<◌, ◌∷◌, ◌≡◌, ◌≤◌, Contains, ℕ}
-use Rattle.lock_word.specs.Words.{doom_of, epoch_at, epoch_number, stage_of, version_of}
+use Rattle.std.specs.Prelude.{List, None, Option, Some, [], ◌∷◌, ◌≡◌, ◌≤◌, Contains, ℕ}
+use Rattle.lock_word.specs.Words.{epoch_number, stage_of, version_of}
 use Rattle.script_text.specs.declared.answer.Answer.{Answer}
 use Rattle.script_text.specs.declared.answer.Answer.TheVariants as answer
 use Rattle.script_text.specs.declared.request.Request.TheVariants.{Await, Mark}
@@ -8,6 +8,9 @@ use Rattle.core_model.specs.declared.view.Sight.{Sight}
 use Rattle.line_account.specs.Lines.{IsAt, Served}
 use Rattle.line_account.specs.Accounts.{epoch_in}
 use Rattle.line_account.specs.Courses.{Stage, lines_in}
+use Rattle.lock_word.specs.declared.stage.Stage.TheVariants.{Appending, Closed, Halted, Taken}
+use Rattle.line_account.specs.EpochNames.{IsBeforeStage, IsUndoomed, closed_and_doomed, undoomed_at}
+use Rattle.line_account.specs.ScriptOrder.{◌followed_by◌, ◌then◌}
 
 -- the epochs that an answer prints, and the version that it prints alone
 abbrev pub printed : Answer → List ℕ
@@ -29,11 +32,11 @@ version_alone _ = None
 -- What an answer counts as for later lines: STORED as the epoch of the version at CLOSED, DOOMED as that with the doom bit, OPEN and HIT
 -- as that at APPENDING, and BEGUN as that at TAKEN.
 abbrev pub counts_as : Answer → List ℕ
-counts_as (answer.Stored version) = epoch_at version 3 ∷ []
-counts_as (answer.Doomed version) = epoch_at version 11 ∷ []
-counts_as (answer.Opened version) = epoch_at version 2 ∷ []
-counts_as (answer.Hit version bytes) = epoch_at version 2 ∷ []
-counts_as (answer.Begun version) = epoch_at version 1 ∷ []
+counts_as (answer.Stored version) = undoomed_at Closed version ∷ []
+counts_as (answer.Doomed version) = closed_and_doomed version ∷ []
+counts_as (answer.Opened version) = undoomed_at Appending version ∷ []
+counts_as (answer.Hit version bytes) = undoomed_at Appending version ∷ []
+counts_as (answer.Begun version) = undoomed_at Taken version ∷ []
 counts_as (answer.Busy first second) = epoch_number first.epoch ∷ epoch_number second.epoch ∷ []
 counts_as (answer.Part epoch bytes) = epoch_number epoch ∷ []
 counts_as (answer.Purged epoch) = epoch_number epoch ∷ []
@@ -69,24 +72,27 @@ FindsOrStores _ x = ⊥
 
 -- the epochs that an answer prints, and that of the whole entry where it printed STORED or DOOMED
 abbrev pub epochs_told : Answer → List ℕ
-epochs_told (answer.Stored version) = epoch_at version 3 ∷ []
-epochs_told (answer.Doomed version) = epoch_at version 11 ∷ []
+epochs_told (answer.Stored version) = undoomed_at Closed version ∷ []
+epochs_told (answer.Doomed version) = closed_and_doomed version ∷ []
 epochs_told a = printed a
 
--- What the answer a prints is not below the epoch e, which was shown before: no epoch is, and no version that is printed alone is below
--- that of e. Where e is of the version that a finds or stores, it is not doomed, and where a finds it, e is not at HALTED, FREEING or GONE.
--- Of one version no stage falls, doomed or not.
+-- What the answer a prints is not below the epoch e, which was shown before.
 pub record NotBelow (e : ℕ) (a : Answer) : Type 0 where
+  -- no epoch that is printed is below e
   pub epochs : (f : ℕ) → Contains (printed a) f → e ≤ f
+  -- nor is a version that is printed alone below that of e
   pub versions : (x : ℕ) → version_alone a ≡ Some x → version_of e ≤ x
-  pub undoomed : (x : ℕ) → FindsOrStores a x → version_of e ≡ x → doom_of e ≡ 0
-  pub there : (x : ℕ) → FindsEntry a x → version_of e ≡ x → stage_of e < 4
+  -- where e is of the version that is found or stored, it is not doomed
+  pub undoomed : (x : ℕ) → FindsOrStores a x → version_of e ≡ x → IsUndoomed e
+  -- where it is of the version that is found, it is before HALTED
+  pub there : (x : ℕ) → FindsEntry a x → version_of e ≡ x → IsBeforeStage Halted e
+  -- of one version the stage does not fall, doomed or not
   pub stages : (f : ℕ) → Contains (epochs_told a) f → version_of f ≡ version_of e → stage_of e ≤ stage_of f
 
 -- the line t is among those that a worker served, with these before it
 pub record StandsIn {X : Type 0} (stages : List (Stage X)) (t : Stage X) (earlier : List (Stage X)) : Type 0 where
   pub later : List (Stage X)
-  pub split : stages ≡ later ++ t ∷ earlier
+  pub split : stages ≡ earlier then t followed_by later
 
 -- and is at work at the anchor a
 pub record StandsAt {X : Type 0} (anchors : ℕ) (stages : List (Stage X)) (t : Stage X) (earlier : List (Stage X)) (a : ℕ) : Type 0 where
@@ -96,8 +102,8 @@ pub record StandsAt {X : Type 0} (anchors : ℕ) (stages : List (Stage X)) (t : 
 -- The second line met the mark that the first one set: after it the worker has seen all that the other had seen when it set the mark.
 pub record HandsOver {X : Type 0} (mark met : Stage X) : Type 0 where
   pub number : ℕ
-  pub sets : mark.served.line.request ≡ Mark number
-  pub awaits : met.served.line.request ≡ Await number
+  pub sets : mark.served.asked.request ≡ Mark number
+  pub awaits : met.served.asked.request ≡ Await number
   pub meets : met.served.answer ≡ answer.Met
   pub hands : (x : Sight) → Contains mark.before.seen x → Contains met.after.seen x
 

@@ -1,5 +1,5 @@
 -- How much PART gives of a body that grows.
-use Rattle.std.specs.Prelude.{List, Some, ◌∷◌, ◌≡◌, ℕ}
+use Rattle.std.specs.Prelude.{List, Some, ◌≡◌, ℕ}
 use Rattle.lock_word.specs.Words.{epoch_number, version_of}
 use Rattle.lock_word.specs.declared.epoch.Epoch.{Epoch}
 use Rattle.script_text.specs.declared.answer.Answer.TheVariants as answer
@@ -10,6 +10,7 @@ use Rattle.line_account.specs.Lines.{Served, reading, writing}
 use Rattle.line_account.specs.Answers.{Reads, Run, slots_after}
 use Rattle.line_account.specs.Courses.{Begins, Course, Leaves, Stage, lines_in}
 use Rattle.line_account.specs.Closing.{Worker}
+use Rattle.line_account.specs.ScriptOrder.{◌then◌}
 
 -- the course of a worker, from its beginning to its end
 pub record IsCourseOf {X : Type 0} (r : Run X) (w : Worker X) (start : View X) (stages : List (Stage X)) : Type 0 where
@@ -31,18 +32,18 @@ pub record PrintsPart (s : Served) (x : ℕ) : Type 0 where
 pub record AddsTo {X : Type 0} (r : Run X) (earlier : List Served) (s : Served) (x : ℕ) (url : List ℕ) (slots : ℕ) : Type 0 where
   pub tab : ℕ
   pub asked : ℕ
-  pub request : s.line.request ≡ Add tab asked
+  pub request : s.asked.request ≡ Add tab asked
   pub count : ℕ
   pub printed : s.answer ≡ answer.Added count
   pub first : Served
   pub begun_is : writing tab earlier ≡ Some first
-  pub named : url_in first.line.request ≡ Some url
+  pub named : url_in first.asked.request ≡ Some url
   pub drew : first.drew ≡ Some x
-  pub slots_are : slots ≡ slots_after r.room url tab (s ∷ earlier)
+  pub slots_are : slots ≡ slots_after r.room url tab (earlier then s)
 
 -- a line read on a tab that was opened by a line which printed OPEN with the version x
 pub record GivesOf (earlier : List Served) (s : Served) (tab x : ℕ) : Type 0 where
-  pub request : s.line.request ≡ More tab
+  pub request : s.asked.request ≡ More tab
   pub reads : Reads s.answer
   pub first : Served
   pub opened_is : reading tab earlier ≡ Some first

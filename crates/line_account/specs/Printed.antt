@@ -2,7 +2,7 @@
 use Rattle.std.specs.Prelude.{List, Some, [], length, min, take, ◌*◌, ◌+◌, ◌<◌, ◌≡◌, ◌≢◌, ◌≤◌, ◌⊎◌, ℕ}
 use Rattle.store_key.specs.Anchor.{anchor_of, back_half, front_half}
 use Rattle.store_key.specs.Key.{key_of}
-use Rattle.lock_word.specs.Words.{epoch_number, stage_of, version_of}
+use Rattle.lock_word.specs.Words.{epoch_number, version_of}
 use Rattle.lock_word.specs.declared.cause.Cause.TheVariants.{OtherKey}
 use Rattle.lock_word.specs.declared.epoch.Epoch.{Epoch}
 use Rattle.lock_word.specs.declared.word.Word.{Word}
@@ -22,6 +22,8 @@ use Rattle.line_account.specs.Deeds.{ComesTo, MayEvict}
 use Rattle.line_account.specs.Answers.{IsHeld, IsOvertaken, IsSure, IsWhole, Reads, Refuses, Run, bytes_with, readers_at}
 use Rattle.line_account.specs.Closing.{BegunIn, HaltedIn, LineIn, StoredIn, TellsBegunIn, Worker}
 use Rattle.line_account.specs.Order.{Opens}
+use Rattle.lock_word.specs.declared.stage.Stage.TheVariants.{Closed}
+use Rattle.line_account.specs.EpochNames.{IsAtStage}
 
 -- Names and bodies.
 
@@ -42,12 +44,12 @@ pub record IsOldUrl {X : Type 0} (r : Run X) (a : ℕ) (url : List ℕ) : Type 0
 pub record IsKeyOfLine {X : Type 0} (r : Run X) (crew : List (Worker X)) (a x : ℕ) (key : List ℕ) : Type 0 where
   pub begun : BegunIn r crew a x
   pub url : List ℕ
-  pub url_is : url_in begun.line_of.line.line.request ≡ Some url
+  pub url_is : url_in begun.served.asked.request ≡ Some url
   pub key_is : key ≡ key_of url
 
 -- the anchor a had an entry at the opening
 abbrev pub HadEntry : {X : Type 0} → Run X → ℕ → Type 0
-HadEntry r a = stage_of (opening_epoch r.setting a) ≡ 3
+HadEntry r a = IsAtStage Closed (opening_epoch r.setting a)
 
 -- and its offer
 abbrev pub old_offer : {X : Type 0} → Run X → ℕ → ℕ
@@ -55,7 +57,7 @@ old_offer r a = word_in r.setting r.setting.words (Beside Offer a)
 
 -- a line that gets a URL of the anchor a printed HIT with the version x
 pub record PrintsHit (anchors : ℕ) (s : Served) (a x : ℕ) (url bytes : List ℕ) : Type 0 where
-  pub request : s.line.request ≡ Get url
+  pub request : s.asked.request ≡ Get url
   pub anchor : a ≡ anchor_of (key_of url) anchors
   pub printed : s.answer ≡ answer.Hit x bytes
 
@@ -66,14 +68,14 @@ HitIn r crew a x url bytes = LineIn crew (λ earlier s. PrintsHit r.setting.anch
 pub record IsBodyOfLine {X : Type 0} (r : Run X) (crew : List (Worker X)) (a x : ℕ) (url bytes : List ℕ) : Type 0 where
   pub begun : BegunIn r crew a x
   pub body : Body
-  pub offers : Offers begun.line_of.line.line.request url body
+  pub offers : Offers begun.served.asked.request url body
   pub whole : bytes ≡ bytes_of body
 
 -- they are the body that a line offers under this URL which printed that it began the version x at the anchor a
 pub record IsBodyAsPrinted {X : Type 0} (r : Run X) (crew : List (Worker X)) (a x : ℕ) (url bytes : List ℕ) : Type 0 where
   pub begun : TellsBegunIn r crew a x
   pub body : Body
-  pub offers : Offers begun.line_of.line.line.request url body
+  pub offers : Offers begun.served.asked.request url body
   pub whole : bytes ≡ bytes_of body
 
 -- a request that begins a writing and ends it
@@ -93,8 +95,9 @@ pub record IsOldBody {X : Type 0} (r : Run X) (a : ℕ) (url bytes : List ℕ) :
 pub record IsOtherUrl {X : Type 0} (r : Run X) (crew : List (Worker X)) (url other : List ℕ) : Type 0 where
   pub same_key : key_of other ≡ key_of url
   pub differs : other ≢ url
-  pub source : (HadEntry r (anchor_of (key_of url) r.setting.anchors) × (r.url (old_offer r (anchor_of (key_of url) r.setting.anchors)) ≡ other))
-      ⊎ ((x : ℕ) × (p : BegunIn r crew (anchor_of (key_of url) r.setting.anchors) x) × (url_in p.line_of.line.line.request ≡ Some other))
+  pub source : (HadEntry r (anchor_of (key_of url) r.setting.anchors)
+      × (r.url (old_offer r (anchor_of (key_of url) r.setting.anchors)) ≡ other))
+      ⊎ ((x : ℕ) × (p : BegunIn r crew (anchor_of (key_of url) r.setting.anchors) x) × (url_in p.served.asked.request ≡ Some other))
 
 -- some URL is such a one
 pub record HasOtherUrl {X : Type 0} (r : Run X) (crew : List (Worker X)) (url : List ℕ) : Type 0 where
@@ -105,7 +108,7 @@ pub record HasOtherUrl {X : Type 0} (r : Run X) (crew : List (Worker X)) (url : 
 pub record PrintsOther (earlier : List Served) (s : Served) (url : List ℕ) : Type 0 where
   pub first : Served
   pub opened_is : opened_by earlier s ≡ Some first
-  pub named : url_in first.line.request ≡ Some url
+  pub named : url_in first.asked.request ≡ Some url
   pub printed : s.answer ≡ answer.OtherUrl
 
 -- the answers that tell of an entry of the version x which was found to be there: OPEN, HIT, PART and PURGED
@@ -118,7 +121,7 @@ TellsFound _ x = ⊥
 
 -- a line that names this URL, of the anchor a, printed that an entry of the version x is there
 pub record Finds (anchors : ℕ) (s : Served) (a x : ℕ) (url : List ℕ) : Type 0 where
-  pub named : url_in s.line.request ≡ Some url
+  pub named : url_in s.asked.request ≡ Some url
   pub anchor : a ≡ anchor_of (key_of url) anchors
   pub found : TellsFound s.answer x
 
@@ -127,7 +130,7 @@ pub record Finds (anchors : ℕ) (s : Served) (a x : ℕ) (url : List ℕ) : Typ
 pub record ReadsVersion (anchors : ℕ) (earlier : List Served) (s : Served) (a x : ℕ) : Type 0 where
   pub first : Served
   pub opened_is : opened_by earlier s ≡ Some first
-  pub anchor : IsAnchorOf anchors (url_in first.line.request) a
+  pub anchor : IsAnchorOf anchors (url_in first.asked.request) a
   pub told : Opens first.answer x
 
 -- and the line gave it to its end, by HIT or END
@@ -147,7 +150,7 @@ pub record PrintsReaders (anchors : ℕ) (earlier : List Served) (s : Served) (a
 
 -- another worker than the one numbered j opens, gets or purges a URL of the anchor a
 pub record AnotherComes {X : Type 0} (r : Run X) (crew : List (Worker X)) (j a : ℕ) : Type 0 where
-  pub comes : LineIn crew (λ earlier s. ComesTo r.setting.anchors s.line.request a)
+  pub comes : LineIn crew (λ earlier s. ComesTo r.setting.anchors s.asked.request a)
   pub another : comes.j ≢ j
 
 -- Refusals.
@@ -174,7 +177,7 @@ pub record HasBusyWords (looked other : Word) : Type 0 where
 
 -- a line printed ADDED with this count, where it asked for `asked` bytes, and the line `first` began its tab's writing
 pub record PrintsAdded (earlier : List Served) (s : Served) (first : Served) (tab asked count : ℕ) : Type 0 where
-  pub request : s.line.request ≡ Add tab asked
+  pub request : s.asked.request ≡ Add tab asked
   pub printed : s.answer ≡ answer.Added count
   pub begun_is : writing tab earlier ≡ Some first
 
@@ -191,13 +194,14 @@ GivenBackIn r crew a x = HaltedIn r crew a x ⊎ (LineIn crew (λ earlier s. May
 -- a line read the entry that this line opened, with this URL
 pub record ReadsOf (earlier : List Served) (s : Served) (first : Served) (url : List ℕ) : Type 0 where
   pub opened_is : opened_by earlier s ≡ Some first
-  pub named : url_in first.line.request ≡ Some url
+  pub named : url_in first.asked.request ≡ Some url
   pub reads : Reads s.answer
   pub some : IsSure s.answer ⊎ (bytes_with earlier s ≢ [])  -- a FAULT that gave nothing may come before a slot was read
 
 -- a body that the anchor of this URL had at the opening under the URL, or that a line which began a version there offers under it
 pub record IsStored {X : Type 0} (r : Run X) (crew : List (Worker X)) (url bytes : List ℕ) : Type 0 where
-  pub source : IsOldBody r (anchor_of (key_of url) r.setting.anchors) url bytes ⊎ ((x : ℕ) × IsBodyOfLine r crew (anchor_of (key_of url) r.setting.anchors) x url bytes)
+  pub source : IsOldBody r (anchor_of (key_of url) r.setting.anchors) url bytes
+      ⊎ ((x : ℕ) × IsBodyOfLine r crew (anchor_of (key_of url) r.setting.anchors) x url bytes)
 
 -- the bytes are the first ones of such a body, and all of them where the answer says so
 pub record AreFirstOnes {X : Type 0} (r : Run X) (crew : List (Worker X)) (a : Answer) (url bytes : List ℕ) : Type 0 where
@@ -223,12 +227,12 @@ FinishedIn r crew a x = LineIn crew (λ earlier s. Ends r.setting.anchors earlie
 -- an `end` printed so, on a tab whose writing was begun by a line that printed BEGUN with this version
 pub record EndsBegun (earlier : List Served) (s : Served) (version x : ℕ) : Type 0 where
   pub tab : ℕ
-  pub request : s.line.request ≡ End tab
+  pub request : s.asked.request ≡ End tab
   pub printed : PrintsFinished s x
   pub first : Served
   pub begun_is : writing tab earlier ≡ Some first
   pub named : ℕ
   pub url : List ℕ
   pub body : Body
-  pub begins : first.line.request ≡ Begin named url body
+  pub begins : first.asked.request ≡ Begin named url body
   pub begun : first.answer ≡ answer.Begun version

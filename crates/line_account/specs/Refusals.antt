@@ -1,6 +1,6 @@
 -- Which answers come, and when each refusal does.
 use Rattle.std.specs.Prelude.{IsTrue, List, length, min, true, ◌+◌, ◌-◌, ◌<◌, ◌↔◌, ◌≡◌, ◌≤◌, ℕ}
-use Rattle.lock_word.specs.Words.{epoch_number, is_readable, stage_of, version_limit, version_of}
+use Rattle.lock_word.specs.Words.{epoch_number, is_readable, version_limit, version_of}
 use Rattle.lock_word.specs.declared.cause.Cause.{Cause}
 use Rattle.lock_word.specs.declared.epoch.Epoch.{Epoch}
 use Rattle.lock_word.specs.declared.word.Word.{Word}
@@ -17,6 +17,8 @@ use Rattle.line_account.specs.Order.{FindsEntry}
 use Rattle.line_account.specs.Printed.{AnotherComes, EndsBegun, HasBusyWords, HasOtherUrl, NeedsTooMany, PrintsAdded, PrintsEnded, PrintsLarge, PrintsOther, PrintsReaders}
 use Rattle.line_account.specs.Requests.{IsAnswerTo}
 use Rattle.line_account.specs.Scripts.{offering}
+use Rattle.lock_word.specs.declared.stage.Stage.TheVariants.{Appending}
+use Rattle.line_account.specs.EpochNames.{IsAtStage}
 
 -- any line
 abbrev pub Any : List Served → Served → Type 0
@@ -25,34 +27,42 @@ Any earlier s = Unit {0}
 module _ {X : Type 0} (r : Run X) (script : List Line) (crew : List (Worker X)) where
   pub record AnswersHaveCauses : Type 0 where
     -- each answer is one that its request may get
-    pub possible : (p : LineIn crew Any) → IsAnswerTo p.line_of.line.line.request p.line_of.line.answer
+    pub possible : (p : LineIn crew Any) → IsAnswerTo p.served.asked.request p.served.answer
     -- TAB comes exactly where the tab is not as the request needs it
-    pub tab : (p : LineIn crew Any) → ((p.line_of.line.answer ≡ answer.Tab) ↔ ¬ Fits p.line_of.earlier p.line_of.line.line.request)
-    -- LONGURL comes only where a URL leaves no room for its metadata, and wherever a body is offered under such a one
-    pub long : (p : LineIn crew (λ earlier s. s.answer ≡ answer.LongUrl)) → IsLong r p.line_of.line
-    pub short : (url : List ℕ) (body : Body) → (p : LineIn crew (λ earlier s. Offers s.line.request url body × Fits earlier s.line.request)) → r.room < 32 + length url
-        → p.line_of.line.answer ≡ answer.LongUrl
+    pub tab : (p : LineIn crew Any) → ((p.served.answer ≡ answer.Tab) ↔ ¬ Fits p.earlier p.served.asked.request)
+    -- LONGURL comes only where a URL leaves no room for its metadata
+    pub long : (p : LineIn crew (λ earlier s. s.answer ≡ answer.LongUrl)) → IsLong r p.served
+    -- and it comes wherever a body is offered under such a URL, on a tab that is as the request needs it
+    pub short : (url : List ℕ) (body : Body)
+        → (p : LineIn crew (λ earlier s. Offers s.asked.request url body × Fits earlier s.asked.request)) → r.room < 32 + length url
+        → p.served.answer ≡ answer.LongUrl
     -- the count of ADDED is what was asked for, or what the body had left
-    pub added : (first : Served) (url : List ℕ) (body : Body) (tab asked count : ℕ) → (p : LineIn crew (λ earlier s. PrintsAdded earlier s first tab asked count)) → Offers first.line.request url body
-        → count ≡ min asked (length (bytes_of body) - added tab p.line_of.earlier)
+    pub added : (first : Served) (url : List ℕ) (body : Body) (tab asked count : ℕ)
+        → (p : LineIn crew (λ earlier s. PrintsAdded earlier s first tab asked count)) → Offers first.asked.request url body
+        → count ≡ min asked (length (bytes_of body) - added tab p.earlier)
     -- `end` prints the version that its tab's `begin` printed
     pub ended : (version x : ℕ) → LineIn crew (λ earlier s. EndsBegun earlier s version x) → x ≡ version
     -- OPEN, HIT and PURGED come of an entry that was found at an epoch of the printed version, at which it may be read
     pub opened : (x : ℕ) → (p : LineIn crew (λ earlier s. FindsEntry s.answer x))
-        → (version_of p.line_of.line.opened ≡ x) × (is_readable p.line_of.line.opened ≡ true)
+        → (version_of p.served.opened ≡ x) × (is_readable p.served.opened ≡ true)
     -- the epoch of PART is at APPENDING
-    pub part : (epoch : Epoch) (bytes : List ℕ) → LineIn crew (λ earlier s. s.answer ≡ answer.Part epoch bytes) → stage_of (epoch_number epoch) ≡ 2
+    pub part : (epoch : Epoch) (bytes : List ℕ) → LineIn crew (λ earlier s. s.answer ≡ answer.Part epoch bytes)
+        → IsAtStage Appending (epoch_number epoch)
     -- the words of BUSY are the same, and neither vacant nor idle, or the first one is, and they differ
     pub busy : (looked other : Word) → LineIn crew (λ earlier s. s.answer ≡ answer.Busy looked other) → HasBusyWords looked other
     -- a word of BUSY has more readers than the worker's own tabs there only where another worker opens, gets or purges a URL of the anchor
     pub readers : (a : ℕ) → (p : LineIn crew (λ earlier s. PrintsReaders r.setting.anchors earlier s a)) → AnotherComes r crew p.j a
-    -- the number of SPENT is at least the greatest version, and at most the counter of the opening and the number of the other lines of the script that offer a body
-    pub spent : (n : ℕ) → LineIn crew (λ earlier s. s.answer ≡ answer.Spent n) → (version_limit ≤ n) × (n < opening_counter r.setting + offering script)
+    -- the number of SPENT is at least the greatest version, and at most the counter of the opening and the number of the other lines of the
+    -- script that offer a body
+    pub spent : (n : ℕ) → LineIn crew (λ earlier s. s.answer ≡ answer.Spent n)
+        → (version_limit ≤ n) × (n < opening_counter r.setting + offering script)
     -- LARGE comes only where the body of the line, or of the line that began its tab's writing, needs more slots than an entry may have
-    pub large : (first : Served) (url : List ℕ) (body : Body) → LineIn crew (λ earlier s. PrintsLarge earlier s first) → Offers first.line.request url body → NeedsTooMany r url body
+    pub large : (first : Served) (url : List ℕ) (body : Body) → LineIn crew (λ earlier s. PrintsLarge earlier s first)
+        → Offers first.asked.request url body → NeedsTooMany r url body
     -- and where it needs so many, no line prints STORED or DOOMED of it
-    pub small : (first : Served) (url : List ℕ) (body : Body) → LineIn crew (λ earlier s. PrintsEnded earlier s first) → Offers first.line.request url body → ¬ NeedsTooMany r url body
+    pub small : (first : Served) (url : List ℕ) (body : Body) → LineIn crew (λ earlier s. PrintsEnded earlier s first)
+        → Offers first.asked.request url body → ¬ NeedsTooMany r url body
     -- OTHERURL comes only where another URL has the key of the one that is read
     pub other : IsTrue r.tells → (url : List ℕ) → LineIn crew (λ earlier s. PrintsOther earlier s url) → HasOtherUrl r crew url
     -- the cause of MISS and NONE is that of the epoch and the key that it prints, for the URL of the line
-    pub cause : (cause : Cause) → (p : LineIn crew (λ earlier s. Refuses s.answer cause)) → IsCauseOf p.line_of.line (epoch_in cause) cause
+    pub cause : (cause : Cause) → (p : LineIn crew (λ earlier s. Refuses s.answer cause)) → IsCauseOf p.served (epoch_in cause) cause

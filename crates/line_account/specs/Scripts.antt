@@ -6,11 +6,12 @@ use lib.ListN.{get_elem?}
 use Rattle.script_text.specs.declared.line.Line.{Line}
 use Rattle.line_account.specs.Lines.{Served, offers}
 use Rattle.line_account.specs.Closing.{Worker}
+use Rattle.line_account.specs.ScriptOrder.{◌then◌}
 
 -- the lines that a worker served, the first one first
 abbrev pub in_order : List Served → List Line
 in_order [] = []
-in_order (s ∷ earlier) = in_order earlier ++ s.line ∷ []
+in_order (earlier then s) = in_order earlier ++ s.asked ∷ []
 
 -- the workers, numbered from 1, served the lines of a script, each its own ones in their order
 abbrev pub ServesScript : {X : Type 0} → List Line → List (Worker X) → Type 0

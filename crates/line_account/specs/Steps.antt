@@ -16,7 +16,8 @@ use Rattle.line_account.specs.Accounts.{IsOffered}
 use Rattle.core_model.specs.Knowing.{KnowsAll}
 
 -- the view w is v after steps of the pass that added these, all with the newest first
-pub record IsAfter {X : Type 0} (v : View X) (items : List Item) (sights : List Sight) (done : List Deed) (meetings : List ℕ) (w : View X) : Type 0 where
+pub record IsAfter {X : Type 0} (v : View X) (items : List Item) (sights : List Sight) (done : List Deed) (meetings : List ℕ) (w : View X)
+    : Type 0 where
   pub pass : w.pass ≡ v.pass
   pub trail : w.trail ≡ items ++ v.trail
   pub seen : w.seen ≡ sights ++ v.seen
@@ -38,12 +39,12 @@ AtMark _ a = ⊥
 
 -- a line that set or met a mark, or did not meet it
 pub record IsMarkLine (s : Served) : Type 0 where
-  pub at : AtMark s.line.request s.answer
+  pub at : AtMark s.asked.request s.answer
   pub drew : s.drew ≡ None
 
 -- a line whose tab was not as it needed it
 pub record IsTabLine {X : Type 0} (r : Run X) (earlier : List Served) (s : Served) : Type 0 where
   pub answered : s.answer ≡ answer.Tab
   pub drew : s.drew ≡ None
-  pub unfit : ¬ Fits earlier s.line.request
-  pub offered : (url : List ℕ) (body : Body) → Offers s.line.request url body → IsOffered r s url body
+  pub unfit : ¬ Fits earlier s.asked.request
+  pub offered : (url : List ℕ) (body : Body) → Offers s.asked.request url body → IsOffered r s url body

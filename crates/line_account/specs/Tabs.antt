@@ -46,13 +46,13 @@ IsStillHalted _ = ⊥
 -- a line that reads what was opened with the version x at the anchor a under this URL, and found its first slot
 pub record ReadsUnder (anchors : ℕ) (earlier : List Served) (s : Served) (a x : ℕ) (url : List ℕ) : Type 0 where
   pub of : ReadsVersion anchors earlier s a x
-  pub named : url_in of.first.line.request ≡ Some url
+  pub named : url_in of.first.asked.request ≡ Some url
   pub sure : IsSure s.answer
 
 -- one that printed OTHERURL of it
 pub record ReadsOther (anchors : ℕ) (earlier : List Served) (s : Served) (a x : ℕ) (url : List ℕ) : Type 0 where
   pub of : ReadsVersion anchors earlier s a x
-  pub named : url_in of.first.line.request ≡ Some url
+  pub named : url_in of.first.asked.request ≡ Some url
   pub printed : s.answer ≡ answer.OtherUrl
 
 -- the bytes are the first ones of the body of the entry that the anchor a had at the opening, and all of it where the answer says so
@@ -66,7 +66,7 @@ pub record IsFrontOfLine {X : Type 0} (r : Run X) (crew : List (Worker X)) (a x 
   pub begun : BegunIn r crew a x
   pub url : List ℕ
   pub body : Body
-  pub offers : Offers begun.line_of.line.line.request url body
+  pub offers : Offers begun.served.asked.request url body
   pub first_ones : bytes ≡ take (length bytes) (bytes_of body)
   pub whole : IsWhole told → bytes ≡ bytes_of body
 
@@ -80,17 +80,18 @@ module _ {X : Type 0} (r : Run X) (crew : List (Worker X)) where
     -- All bytes that a tab gave since its OPEN are the first ones of one body: of a version of the opening that of the entry that the
     -- anchor had then, and of a later one that of the line that began the version. They are all of it at END; and so are those of HIT.
     pub old : IsTrue r.tells → (a x : ℕ) → (p : LineIn crew (λ earlier s. ReadsOn r.setting.anchors earlier s a x))
-        → x ≤ opening_counter r.setting → IsFrontOfOld r a p.line_of.line.answer (bytes_with p.line_of.earlier p.line_of.line)
+        → x ≤ opening_counter r.setting → IsFrontOfOld r a p.served.answer (bytes_with p.earlier p.served)
+    -- of a later version those of the line that began the version
     pub new : IsTrue r.tells → (a x : ℕ) → (p : LineIn crew (λ earlier s. ReadsOn r.setting.anchors earlier s a x))
-        → opening_counter r.setting < x → IsFrontOfLine r crew a x p.line_of.line.answer (bytes_with p.line_of.earlier p.line_of.line)
+        → opening_counter r.setting < x → IsFrontOfLine r crew a x p.served.answer (bytes_with p.earlier p.served)
     -- Behind END a tab that reads prints END and no byte, and behind OTHERURL it prints OTHERURL.
-    pub behind_end : (tab : ℕ) → (p : LineIn crew (λ earlier s. ReadsBehind is_end earlier s tab)) → p.line_of.line.answer ≡ answer.End []
+    pub behind_end : (tab : ℕ) → (p : LineIn crew (λ earlier s. ReadsBehind is_end earlier s tab)) → p.served.answer ≡ answer.End []
     pub behind_other : (tab : ℕ) → (p : LineIn crew (λ earlier s. ReadsBehind is_other_url earlier s tab))
-        → p.line_of.line.answer ≡ answer.OtherUrl
+        → p.served.answer ≡ answer.OtherUrl
     -- Behind HALTED it prints no PART; and where bytes are told, nothing but HALTED, and FAULT.
     pub no_part : (tab : ℕ) → LineIn crew (λ earlier s. PartBehindHalted earlier s tab) → ⊥
     pub behind_halted : IsTrue r.tells → (tab : ℕ) → (p : LineIn crew (λ earlier s. ReadsBehind is_halted earlier s tab))
-        → IsStillHalted p.line_of.line.answer
+        → IsStillHalted p.served.answer
     -- Of one version under one URL, either OTHERURL is printed, or HIT, PART, END and HALTED.
     pub one_url : IsTrue r.tells → (a x : ℕ) (url : List ℕ) → LineIn crew (λ earlier s. ReadsUnder r.setting.anchors earlier s a x url)
         → LineIn crew (λ earlier s. ReadsOther r.setting.anchors earlier s a x url) → ⊥

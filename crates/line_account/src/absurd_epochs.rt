@@ -14,13 +14,14 @@ ghost use Rattle.line_account.specs.Closing.{LineIn, Worker};
 ghost use Rattle.line_account.specs.Lines.{IsAt, Served};
 ghost use Rattle.line_account.specs.Refusals.{Any};
 ghost use Rattle.line_account.specs.Rules.{KeepsRules};
+ghost use Rattle.line_account.specs.ScriptOrder.{◌then◌};
 
 /// `put` printed BUSY 0.5/0 0.5/0 at an anchor that had nothing when the store was opened: no entry is given back where none
 /// was (`epochs.empty`).
 pub fn nothing_is_given_back_that_never_was<X>()
     ensures { (r : Run X) (script : List Line) (w : Worker X) (s : Served) (url : List ℕ) (body : Body) (held : Word)
-        → KeepsRules r script (alone w) → w.served ≡ s ∷ [] → opening_epoch r.setting (home r url) ≡ 0
-        → s.line.request ≡ Request.Put url body → s.answer ≡ Answer.Busy held held
+        → KeepsRules r script (alone w) → w.served ≡ [] then s → opening_epoch r.setting (home r url) ≡ 0
+        → s.asked.request ≡ Request.Put url body → s.answer ≡ Answer.Busy held held
         → held.epoch ≡ record { version = 0; stage = stage.Freeing; doom = false } → ⊥ }
 {}
 
@@ -28,15 +29,15 @@ pub fn nothing_is_given_back_that_never_was<X>()
 /// a line began is not at EMPTY (`epochs.begun`).
 pub fn no_begun_version_is_at_empty<X>()
     ensures { (r : Run X) (script : List Line) (u w : Worker X) (p g : Served) (url : List ℕ) (body : Body) (x : ℕ)
-        → KeepsRules r script (u ∷ w ∷ []) → u.served ≡ p ∷ [] → w.served ≡ g ∷ []
-        → p.line.request ≡ Request.Put url body → p.answer ≡ Answer.Stored x → g.line.request ≡ Request.Get url
+        → KeepsRules r script (u ∷ w ∷ []) → u.served ≡ [] then p → w.served ≡ [] then g
+        → p.asked.request ≡ Request.Put url body → p.answer ≡ Answer.Stored x → g.asked.request ≡ Request.Get url
         → g.answer ≡ Answer.Miss (Cause.Absent (record { version = x; stage = stage.Empty; doom = false })) → ⊥ }
 {}
 
 /// `get` printed MISS writing with a doomed epoch at TAKEN: nothing is doomed before its first slot (`epochs.doomed_stage`).
 pub fn nothing_is_doomed_at_taken<X>()
     ensures { (r : Run X) (script : List Line) (w : Worker X) (s : Served) (url : List ℕ) (x : ℕ)
-        → KeepsRules r script (alone w) → w.served ≡ s ∷ [] → s.line.request ≡ Request.Get url
+        → KeepsRules r script (alone w) → w.served ≡ [] then s → s.asked.request ≡ Request.Get url
         → s.answer ≡ Answer.Miss (Cause.Writing (record { version = x; stage = stage.Taken; doom = true })) → ⊥ }
 {}
 
@@ -44,8 +45,8 @@ pub fn nothing_is_doomed_at_taken<X>()
 /// printed MISS absent at GONE with that version, not doomed: only what is whole is evicted (`epochs.given_back`).
 pub fn nothing_is_evicted_that_was_not_whole<X>()
     ensures { (r : Run X) (script : List Line) (u w : Worker X) (p g : Served) (url : List ℕ) (body : Body) (x : ℕ)
-        → KeepsRules r script (u ∷ w ∷ []) → u.served ≡ p ∷ [] → w.served ≡ g ∷ [] → opening_epoch r.setting (home r url) ≡ 0
-        → p.line.request ≡ Request.Put url body → p.answer ≡ Answer.Doomed x → g.line.request ≡ Request.Get url
+        → KeepsRules r script (u ∷ w ∷ []) → u.served ≡ [] then p → w.served ≡ [] then g → opening_epoch r.setting (home r url) ≡ 0
+        → p.asked.request ≡ Request.Put url body → p.answer ≡ Answer.Doomed x → g.asked.request ≡ Request.Get url
         → g.answer ≡ Answer.Miss (Cause.Absent (record { version = x; stage = stage.Gone; doom = false })) → ⊥ }
 {}
 
@@ -53,7 +54,7 @@ pub fn nothing_is_evicted_that_was_not_whole<X>()
 /// so far that it could evict (`epochs.given_back`).
 pub fn nothing_is_given_back_by_refusals<X>()
     ensures { (r : Run X) (script : List Line) (crew : List (Worker X)) (a x : ℕ) (held : Word)
-        → KeepsRules r script crew → ((p : LineIn crew Any) → p.line_of.line.answer ≡ Answer.Busy held held)
+        → KeepsRules r script crew → ((p : LineIn crew Any) → p.served.answer ≡ Answer.Busy held held)
         → LineIn crew (λ earlier s. IsAt r.setting.anchors earlier s a)
         → held.epoch ≡ record { version = x; stage = stage.Freeing; doom = false } → ⊥ }
 {}
@@ -61,6 +62,7 @@ pub fn nothing_is_given_back_by_refusals<X>()
 /// A lone `begin` printed BUSY with a word at FREEING, not doomed: no line was there that may evict (`epochs.given_back`).
 pub fn nothing_is_given_back_by_itself<X>()
     ensures { (r : Run X) (script : List Line) (w : Worker X) (s : Served) (url : List ℕ) (body : Body) (held : Word) (x : ℕ)
-        → KeepsRules r script (alone w) → w.served ≡ s ∷ [] → s.line.request ≡ Request.Begin 0 url body → s.answer ≡ Answer.Busy held held
+        → KeepsRules r script (alone w) → w.served ≡ [] then s → s.asked.request ≡ Request.Begin 0 url body
+        → s.answer ≡ Answer.Busy held held
         → held.epoch ≡ record { version = x; stage = stage.Freeing; doom = false } → ⊥ }
 {}

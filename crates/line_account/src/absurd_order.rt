@@ -12,15 +12,16 @@ ghost use Rattle.line_account.specs.Answers.{Run};
 ghost use Rattle.line_account.specs.Closing.{Worker};
 ghost use Rattle.line_account.specs.Lines.{Served};
 ghost use Rattle.line_account.specs.Rules.{KeepsRules};
+ghost use Rattle.line_account.specs.ScriptOrder.{◌then◌};
 
 /// A worker's `put` printed STORED, and it set a mark. A second one met the mark and set another, and a third one met this. Then its
 /// `get` of the URL printed MISS absent 0.0: what is told is told on (`order.known`).
 pub fn nothing_told_twice_is_forgotten<X>()
     ensures { (r : Run X) (script : List Line) (u v w : Worker X) (p a b c d g : Served) (url : List ℕ) (body : Body) (x m n : ℕ)
-        → KeepsRules r script (u ∷ v ∷ w ∷ []) → u.served ≡ a ∷ p ∷ [] → v.served ≡ c ∷ b ∷ [] → w.served ≡ g ∷ d ∷ []
-        → p.line.request ≡ Request.Put url body → p.answer ≡ Answer.Stored x → a.line.request ≡ Request.Mark m
-        → b.line.request ≡ Request.Await m → b.answer ≡ Answer.Met → c.line.request ≡ Request.Mark n
-        → d.line.request ≡ Request.Await n → d.answer ≡ Answer.Met → g.line.request ≡ Request.Get url
+        → KeepsRules r script (u ∷ v ∷ w ∷ []) → u.served ≡ [] then p then a → v.served ≡ [] then b then c → w.served ≡ [] then d then g
+        → p.asked.request ≡ Request.Put url body → p.answer ≡ Answer.Stored x → a.asked.request ≡ Request.Mark m
+        → b.asked.request ≡ Request.Await m → b.answer ≡ Answer.Met → c.asked.request ≡ Request.Mark n
+        → d.asked.request ≡ Request.Await n → d.answer ≡ Answer.Met → g.asked.request ≡ Request.Get url
         → g.answer ≡ Answer.Miss (Cause.Absent (record { version = 0; stage = stage.Empty; doom = false })) → ⊥ }
 {}
 
@@ -28,7 +29,8 @@ pub fn nothing_told_twice_is_forgotten<X>()
 /// no more (`order.known`).
 pub fn nothing_is_purged_twice<X>()
     ensures { (r : Run X) (script : List Line) (w : Worker X) (p s : Served) (url : List ℕ) (x : ℕ)
-        → KeepsRules r script (alone w) → w.served ≡ s ∷ p ∷ [] → p.line.request ≡ Request.Purge url → s.line.request ≡ Request.Purge url
+        → KeepsRules r script (alone w) → w.served ≡ [] then p then s → p.asked.request ≡ Request.Purge url
+        → s.asked.request ≡ Request.Purge url
         → p.answer ≡ Answer.Purged (record { version = x; stage = stage.Closed; doom = true })
         → s.answer ≡ Answer.Purged (record { version = x; stage = stage.Closed; doom = true }) → ⊥ }
 {}
@@ -37,8 +39,8 @@ pub fn nothing_is_purged_twice<X>()
 /// doomed (`order.known`).
 pub fn no_stage_falls<X>()
     ensures { (r : Run X) (script : List Line) (w : Worker X) (p g : Served) (url : List ℕ) (body : Body) (x : ℕ)
-        → KeepsRules r script (alone w) → w.served ≡ g ∷ p ∷ [] → p.line.request ≡ Request.Put url body → p.answer ≡ Answer.Stored x
-        → g.line.request ≡ Request.Get url
+        → KeepsRules r script (alone w) → w.served ≡ [] then p then g → p.asked.request ≡ Request.Put url body → p.answer ≡ Answer.Stored x
+        → g.asked.request ≡ Request.Get url
         → g.answer ≡ Answer.Miss (Cause.Leaving (record { version = x; stage = stage.Appending; doom = true })) → ⊥ }
 {}
 
@@ -46,33 +48,33 @@ pub fn no_stage_falls<X>()
 /// or END again with bytes (`tabs.behind_end`). A tab that came to its end stays there.
 pub fn nothing_comes_behind_an_end<X>()
     ensures { (r : Run X) (script : List Line) (w : Worker X) (o e m : Served) (url bytes : List ℕ) (x : ℕ)
-        → KeepsRules r script (alone w) → w.served ≡ m ∷ e ∷ o ∷ [] → o.line.request ≡ Request.OpenTab 0 url
-        → o.answer ≡ Answer.Opened x → e.line.request ≡ Request.More 0 → e.answer ≡ Answer.End bytes
-        → m.line.request ≡ Request.More 0 → m.answer ≢ Answer.End [] → ⊥ }
+        → KeepsRules r script (alone w) → w.served ≡ [] then o then e then m → o.asked.request ≡ Request.OpenTab 0 url
+        → o.answer ≡ Answer.Opened x → e.asked.request ≡ Request.More 0 → e.answer ≡ Answer.End bytes
+        → m.asked.request ≡ Request.More 0 → m.answer ≢ Answer.End [] → ⊥ }
 {}
 
 /// `open` printed OPEN, `more` on its tab OTHERURL, and the next one something else (`tabs.behind_other`): a tab that turned from its
 /// entry does not come back to it.
 pub fn nothing_comes_behind_another_url<X>()
     ensures { (r : Run X) (script : List Line) (w : Worker X) (o e m : Served) (url : List ℕ) (x : ℕ)
-        → KeepsRules r script (alone w) → w.served ≡ m ∷ e ∷ o ∷ [] → o.line.request ≡ Request.OpenTab 0 url
-        → o.answer ≡ Answer.Opened x → e.line.request ≡ Request.More 0 → e.answer ≡ Answer.OtherUrl
-        → m.line.request ≡ Request.More 0 → m.answer ≢ Answer.OtherUrl → ⊥ }
+        → KeepsRules r script (alone w) → w.served ≡ [] then o then e then m → o.asked.request ≡ Request.OpenTab 0 url
+        → o.answer ≡ Answer.Opened x → e.asked.request ≡ Request.More 0 → e.answer ≡ Answer.OtherUrl
+        → m.asked.request ≡ Request.More 0 → m.answer ≢ Answer.OtherUrl → ⊥ }
 {}
 
 /// `open` printed OPEN, `more` on its tab HALTED, and the next one PART (`tabs.no_part`), END or OTHERURL (`tabs.behind_halted`): an entry
 /// that was given up grows no more.
 pub fn nothing_grows_behind_a_halt<X>()
     ensures part { (r : Run X) (script : List Line) (w : Worker X) (o e m : Served) (url bytes more : List ℕ) (x : ℕ) (epoch : Epoch)
-        → KeepsRules r script (alone w) → w.served ≡ m ∷ e ∷ o ∷ [] → o.line.request ≡ Request.OpenTab 0 url
-        → o.answer ≡ Answer.Opened x → e.line.request ≡ Request.More 0 → e.answer ≡ Answer.Halted bytes
-        → m.line.request ≡ Request.More 0 → m.answer ≡ Answer.Part epoch more → ⊥ }
+        → KeepsRules r script (alone w) → w.served ≡ [] then o then e then m → o.asked.request ≡ Request.OpenTab 0 url
+        → o.answer ≡ Answer.Opened x → e.asked.request ≡ Request.More 0 → e.answer ≡ Answer.Halted bytes
+        → m.asked.request ≡ Request.More 0 → m.answer ≡ Answer.Part epoch more → ⊥ }
     ensures end { (r : Run X) (script : List Line) (w : Worker X) (o e m : Served) (url bytes more : List ℕ) (x : ℕ)
-        → KeepsRules r script (alone w) → IsTrue r.tells → w.served ≡ m ∷ e ∷ o ∷ [] → o.line.request ≡ Request.OpenTab 0 url
-        → o.answer ≡ Answer.Opened x → e.line.request ≡ Request.More 0 → e.answer ≡ Answer.Halted bytes
-        → m.line.request ≡ Request.More 0 → m.answer ≡ Answer.End more → ⊥ }
+        → KeepsRules r script (alone w) → IsTrue r.tells → w.served ≡ [] then o then e then m → o.asked.request ≡ Request.OpenTab 0 url
+        → o.answer ≡ Answer.Opened x → e.asked.request ≡ Request.More 0 → e.answer ≡ Answer.Halted bytes
+        → m.asked.request ≡ Request.More 0 → m.answer ≡ Answer.End more → ⊥ }
     ensures other { (r : Run X) (script : List Line) (w : Worker X) (o e m : Served) (url bytes : List ℕ) (x : ℕ)
-        → KeepsRules r script (alone w) → IsTrue r.tells → w.served ≡ m ∷ e ∷ o ∷ [] → o.line.request ≡ Request.OpenTab 0 url
-        → o.answer ≡ Answer.Opened x → e.line.request ≡ Request.More 0 → e.answer ≡ Answer.Halted bytes
-        → m.line.request ≡ Request.More 0 → m.answer ≡ Answer.OtherUrl → ⊥ }
+        → KeepsRules r script (alone w) → IsTrue r.tells → w.served ≡ [] then o then e then m → o.asked.request ≡ Request.OpenTab 0 url
+        → o.answer ≡ Answer.Opened x → e.asked.request ≡ Request.More 0 → e.answer ≡ Answer.Halted bytes
+        → m.asked.request ≡ Request.More 0 → m.answer ≡ Answer.OtherUrl → ⊥ }
 {}

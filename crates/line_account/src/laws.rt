@@ -1,8 +1,8 @@
 //! The laws of printed lines. These functions do nothing: the proof of a function that calls one may use
 //! what it ensures.
-ghost use Rattle.std.specs.Prelude.{◌≡◌, ◌≢◌, ◌+◌, ◌-◌, ◌<◌, ◌≤◌, ◌↔◌, ◌⊎◌, ◌∷◌, Contains, IsTrue, ℕ, List, [], length, min, true, false};
+ghost use Rattle.std.specs.Prelude.{◌≡◌, ◌+◌, ◌-◌, ◌<◌, ◌≤◌, ◌↔◌, ◌⊎◌, Contains, IsTrue, ℕ, List, [], length, min, true, false};
 ghost use Rattle.plain_model.specs.Serving.{bytes_of};
-ghost use Rattle.lock_word.specs.Words.{version_of, stage_of, doom_of, epoch_number, is_readable, version_limit};
+ghost use Rattle.lock_word.specs.Words.{version_of, stage_of, epoch_number, is_readable, version_limit};
 ghost use Rattle.lock_word.specs.declared.cause.Cause.{Cause};
 ghost use Rattle.lock_word.specs.declared.epoch.Epoch.{Epoch};
 ghost use Rattle.lock_word.specs.declared.word.Word.{Word};
@@ -37,6 +37,9 @@ ghost use Rattle.line_account.specs.Courses.{Adds, Begins as BeginsWork, Course,
 ghost use Rattle.line_account.specs.Steps.{IsAfter, IsIdle, IsMarkLine, IsTabLine};
 ghost use Rattle.line_account.specs.Printed.{AnotherComes, EndsBegun, AreFirstOnes, ReadsOf, GivenBackIn, HadEntry, PrintsAdded, HasBusyWords, HasOtherUrl, HitIn, IsBodyAsPrinted, IsBodyOfLine, IsKeyOfLine, IsOldBody, IsOldUrl, KeyIn, NeedsTooMany, OffersAtOnce, PrintsEnded, PrintsFinished, PrintsLarge, PrintsOther, ReadsWhole, Finds, FinishedIn, PrintsReaders};
 ghost use Rattle.line_account.specs.Closing.{Closed, Worker, BegunIn, TellsBegunIn, ShownIn, StoredIn, HaltedIn, PurgedIn, IsSameLine, LineIn, PrintsHalted, PrintsDoomed, SomeHalted, offered};
+ghost use Rattle.lock_word.specs.declared.stage.Stage.TheVariants as stage;
+ghost use Rattle.line_account.specs.EpochNames.{IsAtStage, IsDoomed, IsFromStage, IsUndoomed, IsUpToStage};
+ghost use Rattle.line_account.specs.ScriptOrder.{◌then◌};
 
 /// Each version is begun by one line, and at one anchor, and a line begins one version at most. It offers a
 /// body, and printed BEGUN, STORED, DOOMED, FULL, LARGE or FAULT. A `begin` that printed BEGUN with a version
@@ -44,13 +47,16 @@ ghost use Rattle.line_account.specs.Closing.{Closed, Worker, BegunIn, TellsBegun
 /// of one version.
 pub fn versions_are_begun_by_one_line<X>()
     ensures version { (anchors : ℕ) (s : Served) (a b x y : ℕ) → Begins anchors s a x → Begins anchors s b y → x ≡ y }
-    ensures printed { (anchors : ℕ) (s : Served) (a x : ℕ) → Begins anchors s a x → (offers s.line.request ≡ true) × PrintsBegun s.answer }
+    ensures printed { (anchors : ℕ) (s : Served) (a x : ℕ) → Begins anchors s a x → (offers s.asked.request ≡ true) × PrintsBegun s.answer }
     ensures line { (r : Run X) (crew : List (Worker X)) (a b x : ℕ) → Closed r crew → (p : BegunIn r crew a x) → (q : BegunIn r crew b x)
         → IsSameLine crew (λ earlier s. Begins r.setting.anchors s a x) (λ earlier s. Begins r.setting.anchors s b x) p q }
     ensures anchor { (r : Run X) (crew : List (Worker X)) (a b x : ℕ) → Closed r crew → BegunIn r crew a x → BegunIn r crew b x → a ≡ b }
-    ensures told { (r : Run X) (crew : List (Worker X)) (a x : ℕ) → Closed r crew → (p : TellsBegunIn r crew a x) → Begins r.setting.anchors p.line_of.line a x }
-    ensures once { (r : Run X) (crew : List (Worker X)) (a b x : ℕ) → Closed r crew → (p : TellsBegunIn r crew a x) → (q : TellsBegunIn r crew b x)
-        → IsSameLine crew (λ earlier s. PrintsBegunVersion r.setting.anchors s a x) (λ earlier s. PrintsBegunVersion r.setting.anchors s b x) p q }
+    ensures told { (r : Run X) (crew : List (Worker X)) (a x : ℕ) → Closed r crew → (p : TellsBegunIn r crew a x)
+        → Begins r.setting.anchors p.served a x }
+    ensures once { (r : Run X) (crew : List (Worker X)) (a b x : ℕ) → Closed r crew → (p : TellsBegunIn r crew a x)
+        → (q : TellsBegunIn r crew b x)
+        → IsSameLine crew (λ earlier s. PrintsBegunVersion r.setting.anchors s a x)
+        (λ earlier s. PrintsBegunVersion r.setting.anchors s b x) p q }
 {}
 
 /// A version that a line began is above the counter of the opening, and at most that and one for each
@@ -65,23 +71,31 @@ pub fn begun_versions_have_bounds<X>()
 /// which the anchor did have. Where the anchor had none, it is at EMPTY and not doomed. Or a line began it
 /// there, and it is not at EMPTY.
 pub fn epochs_have_versions<X>()
-    ensures old { (r : Run X) (crew : List (Worker X)) (a e : ℕ) → Closed r crew → ShownIn r crew a e → version_of e ≤ opening_counter r.setting
-        → (version_of e ≡ version_of (opening_epoch r.setting a)) × (stage_of e ≢ 1) × (stage_of e ≢ 2) × (stage_of e ≢ 4) }
-    ensures stage { (r : Run X) (crew : List (Worker X)) (a e : ℕ) → Closed r crew → ShownIn r crew a e → version_of e ≤ opening_counter r.setting
-        → (stage_of e ≡ stage_of (opening_epoch r.setting a)) ⊎ ((5 ≤ stage_of e) × HadEntry r a) }
-    ensures empty { (r : Run X) (crew : List (Worker X)) (a e : ℕ) → Closed r crew → ShownIn r crew a e → version_of e ≤ opening_counter r.setting
-        → stage_of (opening_epoch r.setting a) ≡ 0 → (stage_of e ≡ 0) × (doom_of e ≡ 0) }
-    ensures new { (r : Run X) (crew : List (Worker X)) (a e : ℕ) → Closed r crew → ShownIn r crew a e → opening_counter r.setting < version_of e
+    ensures old { (r : Run X) (crew : List (Worker X)) (a e : ℕ) → Closed r crew → ShownIn r crew a e
+        → version_of e ≤ opening_counter r.setting
+        → (version_of e ≡ version_of (opening_epoch r.setting a)) × (¬ IsAtStage stage.Taken e) × (¬ IsAtStage stage.Appending e)
+        × (¬ IsAtStage stage.Halted e) }
+    ensures stage { (r : Run X) (crew : List (Worker X)) (a e : ℕ) → Closed r crew → ShownIn r crew a e
+        → version_of e ≤ opening_counter r.setting
+        → (stage_of e ≡ stage_of (opening_epoch r.setting a)) ⊎ (IsFromStage stage.Freeing e × HadEntry r a) }
+    ensures empty { (r : Run X) (crew : List (Worker X)) (a e : ℕ) → Closed r crew → ShownIn r crew a e
+        → version_of e ≤ opening_counter r.setting
+        → IsAtStage stage.Empty (opening_epoch r.setting a) → IsAtStage stage.Empty e × IsUndoomed e }
+    ensures new { (r : Run X) (crew : List (Worker X)) (a e : ℕ) → Closed r crew → ShownIn r crew a e
+        → opening_counter r.setting < version_of e
         → BegunIn r crew a (version_of e) }
-    ensures begun { (r : Run X) (crew : List (Worker X)) (a e : ℕ) → Closed r crew → ShownIn r crew a e → opening_counter r.setting < version_of e
-        → 1 ≤ stage_of e }
+    ensures begun { (r : Run X) (crew : List (Worker X)) (a e : ℕ) → Closed r crew → ShownIn r crew a e
+        → opening_counter r.setting < version_of e
+        → IsFromStage stage.Taken e }
 {}
 
 /// So is a version that is printed alone, by BEGUN, STORED, DOOMED, OPEN or HIT.
 pub fn versions_printed_alone_are_known<X>()
-    ensures old { (r : Run X) (crew : List (Worker X)) (a x : ℕ) → Closed r crew → LineIn crew (λ earlier s. PrintsAlone r.setting.anchors earlier s a x)
+    ensures old { (r : Run X) (crew : List (Worker X)) (a x : ℕ) → Closed r crew
+        → LineIn crew (λ earlier s. PrintsAlone r.setting.anchors earlier s a x)
         → x ≤ opening_counter r.setting → x ≡ version_of (opening_epoch r.setting a) }
-    ensures new { (r : Run X) (crew : List (Worker X)) (a x : ℕ) → Closed r crew → LineIn crew (λ earlier s. PrintsAlone r.setting.anchors earlier s a x)
+    ensures new { (r : Run X) (crew : List (Worker X)) (a x : ℕ) → Closed r crew
+        → LineIn crew (λ earlier s. PrintsAlone r.setting.anchors earlier s a x)
         → opening_counter r.setting < x → BegunIn r crew a x }
 {}
 
@@ -89,13 +103,14 @@ pub fn versions_printed_alone_are_known<X>()
 /// that it is stored.
 pub fn entries_are_stored_by_lines<X>()
     ensures { (r : Run X) (crew : List (Worker X)) (a e : ℕ) → Closed r crew → ShownIn r crew a e → opening_counter r.setting < version_of e
-        → doom_of e ≡ 0 → stage_of e ≡ 3 → StoredIn r crew a (version_of e) }
+        → IsUndoomed e → IsAtStage stage.Closed e → StoredIn r crew a (version_of e) }
 {}
 
 /// An epoch at HALTED, and a HALTED line, comes only where the writing of its version was
 /// halted: by a line that printed DROPPED, FULL, LARGE or FAULT, or by its worker's end.
 pub fn halted_entries_were_given_up<X>()
-    ensures epoch { (r : Run X) (crew : List (Worker X)) (a e : ℕ) → Closed r crew → ShownIn r crew a e → stage_of e ≡ 4 → HaltedIn r crew a (version_of e) }
+    ensures epoch { (r : Run X) (crew : List (Worker X)) (a e : ℕ) → Closed r crew → ShownIn r crew a e → IsAtStage stage.Halted e
+        → HaltedIn r crew a (version_of e) }
     ensures line { (r : Run X) (crew : List (Worker X)) (a : ℕ) → Closed r crew
         → LineIn crew (λ earlier s. PrintsHalted r.setting.anchors earlier s a) → SomeHalted r crew a }
 {}
@@ -103,23 +118,29 @@ pub fn halted_entries_were_given_up<X>()
 /// A doomed epoch, and a DOOMED line, comes only where a line printed PURGED with its version, and such an
 /// epoch is at APPENDING or later. And the epoch of PURGED is doomed, at APPENDING, CLOSED or HALTED.
 pub fn doomed_entries_were_purged<X>()
-    ensures epoch { (r : Run X) (crew : List (Worker X)) (a e : ℕ) → Closed r crew → ShownIn r crew a e → doom_of e ≡ 1 → PurgedIn r crew a (version_of e) }
-    ensures epoch_stage { (r : Run X) (crew : List (Worker X)) (a e : ℕ) → Closed r crew → ShownIn r crew a e → doom_of e ≡ 1 → 2 ≤ stage_of e }
+    ensures epoch { (r : Run X) (crew : List (Worker X)) (a e : ℕ) → Closed r crew → ShownIn r crew a e → IsDoomed e
+        → PurgedIn r crew a (version_of e) }
+    ensures epoch_stage { (r : Run X) (crew : List (Worker X)) (a e : ℕ) → Closed r crew → ShownIn r crew a e → IsDoomed e
+        → IsFromStage stage.Appending e }
     ensures line { (r : Run X) (crew : List (Worker X)) (a x : ℕ) → Closed r crew
         → LineIn crew (λ earlier s. PrintsDoomed r.setting.anchors earlier s a x) → PurgedIn r crew a x }
-    ensures purged { (r : Run X) (crew : List (Worker X)) (e : Epoch) → Closed r crew → LineIn crew (λ earlier s. s.answer ≡ Answer.Purged e) → e.doom ≡ true }
+    ensures purged { (r : Run X) (crew : List (Worker X)) (e : Epoch) → Closed r crew
+        → LineIn crew (λ earlier s. s.answer ≡ Answer.Purged e) → e.doom ≡ true }
     ensures stage { (r : Run X) (crew : List (Worker X)) (e : Epoch) → Closed r crew → LineIn crew (λ earlier s. s.answer ≡ Answer.Purged e)
-        → (2 ≤ stage_of (epoch_number e)) × (stage_of (epoch_number e) ≤ 4) }
+        → IsFromStage stage.Appending (epoch_number e) × IsUpToStage stage.Halted (epoch_number e) }
 {}
 
-/// A pass of a store that was just opened begins. A worker that begins has an account of no lines; each line that it serves leaves one of that line too,
-/// and so does the end. So it has one of all lines along its course.
+/// A pass of a store that was just opened begins. A worker that begins has an account of no lines; each line that it serves leaves one of
+/// that line too, and so does the end. So it has one of all lines along its course.
 pub fn accounts_grow<X>()
     ensures opened { (r : Run X) (pass : ℕ) → BeginsWork r (new_view r.setting pass) }
     ensures begin { (r : Run X) (v : View X) → BeginsWork r v → Account r v [] false }
-    ensures line { (r : Run X) (v w : View X) (served : List Served) (s : Served) → Account r v served false → Adds r v served s w → Account r w (s ∷ served) false }
-    ensures end { (r : Run X) (v w : View X) (served : List Served) → Account r v served false → Leaves r v served w → Account r w served true }
-    ensures course { (r : Run X) (start end : View X) (stages : List (Stage X)) → BeginsWork r start → Course r start stages end → Account r end (lines_in stages) false }
+    ensures line { (r : Run X) (v w : View X) (served : List Served) (s : Served) → Account r v served false → Adds r v served s w
+        → Account r w (served then s) false }
+    ensures end { (r : Run X) (v w : View X) (served : List Served) → Account r v served false → Leaves r v served w
+        → Account r w served true }
+    ensures course { (r : Run X) (start end : View X) (stages : List (Stage X)) → BeginsWork r start → Course r start stages end
+        → Account r end (lines_in stages) false }
 {}
 
 /// A key that a line prints is that of one URL: of the entry that the anchor had at the opening, where its
@@ -136,20 +157,25 @@ pub fn keys_are_of_lines<X>()
 /// The bytes of a hit are the whole body of the entry that the anchor had at the opening, where the version
 /// is of then, or of the body that the line which began the version offers; and its URL is that one's.
 pub fn hits_are_of_lines<X>()
-    ensures old { (r : Run X) (crew : List (Worker X)) (a x : ℕ) (url bytes : List ℕ) → Closed r crew → IsTrue r.tells → HitIn r crew a x url bytes
+    ensures old { (r : Run X) (crew : List (Worker X)) (a x : ℕ) (url bytes : List ℕ) → Closed r crew → IsTrue r.tells
+        → HitIn r crew a x url bytes
         → x ≤ opening_counter r.setting → IsOldBody r a url bytes }
-    ensures new { (r : Run X) (crew : List (Worker X)) (a x : ℕ) (url bytes : List ℕ) → Closed r crew → IsTrue r.tells → HitIn r crew a x url bytes
+    ensures new { (r : Run X) (crew : List (Worker X)) (a x : ℕ) (url bytes : List ℕ) → Closed r crew → IsTrue r.tells
+        → HitIn r crew a x url bytes
         → opening_counter r.setting < x → IsBodyOfLine r crew a x url bytes }
 {}
 
 /// A version that is hit, and that a line began, was printed by that line: by BEGUN, or by STORED or DOOMED
 /// of a `put` or a `save`. So the body of the hit is the one that this line offers.
 pub fn hit_versions_were_printed<X>()
-    ensures begun { (r : Run X) (crew : List (Worker X)) (a x : ℕ) (url bytes : List ℕ) → Closed r crew → IsTrue r.tells → HitIn r crew a x url bytes
-        → (p : BegunIn r crew a x) → PrintsBegunVersion r.setting.anchors p.line_of.line a x }
-    ensures finished { (r : Run X) (crew : List (Worker X)) (a x : ℕ) (url bytes : List ℕ) → Closed r crew → IsTrue r.tells → HitIn r crew a x url bytes
-        → (p : BegunIn r crew a x) → OffersAtOnce p.line_of.line.line.request → PrintsFinished p.line_of.line x }
-    ensures body { (r : Run X) (crew : List (Worker X)) (a x : ℕ) (url bytes : List ℕ) → Closed r crew → IsTrue r.tells → HitIn r crew a x url bytes
+    ensures begun { (r : Run X) (crew : List (Worker X)) (a x : ℕ) (url bytes : List ℕ) → Closed r crew → IsTrue r.tells
+        → HitIn r crew a x url bytes
+        → (p : BegunIn r crew a x) → PrintsBegunVersion r.setting.anchors p.served a x }
+    ensures finished { (r : Run X) (crew : List (Worker X)) (a x : ℕ) (url bytes : List ℕ) → Closed r crew → IsTrue r.tells
+        → HitIn r crew a x url bytes
+        → (p : BegunIn r crew a x) → OffersAtOnce p.served.asked.request → PrintsFinished p.served x }
+    ensures body { (r : Run X) (crew : List (Worker X)) (a x : ℕ) (url bytes : List ℕ) → Closed r crew → IsTrue r.tells
+        → HitIn r crew a x url bytes
         → opening_counter r.setting < x → IsBodyAsPrinted r crew a x url bytes }
 {}
 
@@ -158,13 +184,15 @@ pub fn hit_versions_were_printed<X>()
 /// that the anchor had at the opening, which it did have, or of the line that began the version.
 pub fn entries_found_were_there<X>()
     ensures opened { (r : Run X) (crew : List (Worker X)) (x : ℕ) → Closed r crew → (p : LineIn crew (λ earlier s. FindsEntry s.answer x))
-        → (version_of p.line_of.line.opened ≡ x) × (is_readable p.line_of.line.opened ≡ true) }
+        → (version_of p.served.opened ≡ x) × (is_readable p.served.opened ≡ true) }
     ensures there { (r : Run X) (crew : List (Worker X)) (a x : ℕ) (url : List ℕ) → Closed r crew
         → LineIn crew (λ earlier s. Finds r.setting.anchors s a x url) → x ≤ opening_counter r.setting → HadEntry r a }
     ensures old { (r : Run X) (crew : List (Worker X)) (a x : ℕ) (url kept : List ℕ) → Closed r crew
-        → LineIn crew (λ earlier s. Finds r.setting.anchors s a x url) → x ≤ opening_counter r.setting → IsOldUrl r a kept → key_of url ≡ key_of kept }
+        → LineIn crew (λ earlier s. Finds r.setting.anchors s a x url) → x ≤ opening_counter r.setting → IsOldUrl r a kept
+        → key_of url ≡ key_of kept }
     ensures new { (r : Run X) (crew : List (Worker X)) (a x : ℕ) (url : List ℕ) → Closed r crew
-        → LineIn crew (λ earlier s. Finds r.setting.anchors s a x url) → opening_counter r.setting < x → IsKeyOfLine r crew a x (key_of url) }
+        → LineIn crew (λ earlier s. Finds r.setting.anchors s a x url) → opening_counter r.setting < x
+        → IsKeyOfLine r crew a x (key_of url) }
 {}
 
 /// A version above the counter of the opening that is given to its end, by HIT or by END, was finished by a line of its
@@ -180,20 +208,23 @@ pub fn entries_given_whole_were_finished<X>()
 /// under its URL: of the entry that the anchor had at the opening, or of a line that began a version there.
 /// They are all of it where the answer is HIT or END. A FAULT that gave no byte claims nothing.
 pub fn bytes_are_of_lines<X>()
-    ensures { (r : Run X) (crew : List (Worker X)) (first : Served) (url : List ℕ) → Closed r crew → IsTrue r.tells → (p : LineIn crew (λ earlier s. ReadsOf earlier s first url))
-        → AreFirstOnes r crew p.line_of.line.answer url (bytes_with p.line_of.earlier p.line_of.line) }
+    ensures { (r : Run X) (crew : List (Worker X)) (first : Served) (url : List ℕ) → Closed r crew → IsTrue r.tells
+        → (p : LineIn crew (λ earlier s. ReadsOf earlier s first url))
+        → AreFirstOnes r crew p.served.answer url (bytes_with p.earlier p.served) }
 {}
 
 /// OTHERURL comes only where another URL has the key of the URL that is read: that of the entry which the
 /// anchor had at the opening, or of a line that began a version there.
 pub fn other_urls_have_the_key<X>()
-    ensures { (r : Run X) (crew : List (Worker X)) (url : List ℕ) → Closed r crew → IsTrue r.tells → LineIn crew (λ earlier s. PrintsOther earlier s url) → HasOtherUrl r crew url }
+    ensures { (r : Run X) (crew : List (Worker X)) (url : List ℕ) → Closed r crew → IsTrue r.tells
+        → LineIn crew (λ earlier s. PrintsOther earlier s url) → HasOtherUrl r crew url }
 {}
 
 /// A word of BUSY has more readers than the worker's own tabs that read there only where another worker
 /// opens, gets or purges a URL of the anchor.
 pub fn more_readers_come_from_others<X>()
-    ensures { (r : Run X) (crew : List (Worker X)) (a : ℕ) → Closed r crew → (p : LineIn crew (λ earlier s. PrintsReaders r.setting.anchors earlier s a)) → AnotherComes r crew p.j a }
+    ensures { (r : Run X) (crew : List (Worker X)) (a : ℕ) → Closed r crew
+        → (p : LineIn crew (λ earlier s. PrintsReaders r.setting.anchors earlier s a)) → AnotherComes r crew p.j a }
 {}
 
 /// The number of SPENT is at least the greatest version that may be drawn, and at most the counter of the
@@ -204,23 +235,30 @@ pub fn spent_numbers_have_bounds<X>()
 {}
 
 /// Each answer is one that its request may get, and refusals have their causes. That of MISS and NONE is the
-/// one of the epoch and the key that it tells, for the URL of the line. LARGE comes only where the body of the line, or of the one that began its tab's
-/// writing, needs more slots than an entry may have, and STORED and DOOMED only where it needs no more. LONGURL comes exactly where a body is offered under a URL
-/// that leaves no room for its metadata, on a tab that is as the request needs it. TAB comes exactly where the
-/// tab is not so. The epoch of PART is at APPENDING.
+/// one of the epoch and the key that it tells, for the URL of the line. LARGE comes only where the body of the line, or of the one that
+/// began its tab's writing, needs more slots than an entry may have, and STORED and DOOMED only where it needs no more. LONGURL comes
+/// exactly where a body is offered under a URL that leaves no room for its metadata, on a tab that is as the request needs it. TAB comes
+/// exactly where the tab is not so. The epoch of PART is at APPENDING.
 pub fn refusals_have_causes<X>()
-    ensures answer { (r : Run X) (crew : List (Worker X)) → Closed r crew → (p : LineIn crew (λ earlier s. Unit {0})) → IsAnswerTo p.line_of.line.line.request p.line_of.line.answer }
-    ensures cause { (r : Run X) (crew : List (Worker X)) (cause : Cause) → Closed r crew → (p : LineIn crew (λ earlier s. Refuses s.answer cause)) → IsCauseOf p.line_of.line (epoch_in cause) cause }
-    ensures busy { (r : Run X) (crew : List (Worker X)) (looked other : Word) → Closed r crew → LineIn crew (λ earlier s. s.answer ≡ Answer.Busy looked other) → HasBusyWords looked other }
+    ensures answer { (r : Run X) (crew : List (Worker X)) → Closed r crew → (p : LineIn crew (λ earlier s. Unit {0}))
+        → IsAnswerTo p.served.asked.request p.served.answer }
+    ensures cause { (r : Run X) (crew : List (Worker X)) (cause : Cause) → Closed r crew
+        → (p : LineIn crew (λ earlier s. Refuses s.answer cause)) → IsCauseOf p.served (epoch_in cause) cause }
+    ensures busy { (r : Run X) (crew : List (Worker X)) (looked other : Word) → Closed r crew
+        → LineIn crew (λ earlier s. s.answer ≡ Answer.Busy looked other) → HasBusyWords looked other }
     ensures large { (r : Run X) (crew : List (Worker X)) (first : Served) (url : List ℕ) (body : Body) → Closed r crew
-        → LineIn crew (λ earlier s. PrintsLarge earlier s first) → Offers first.line.request url body → NeedsTooMany r url body }
+        → LineIn crew (λ earlier s. PrintsLarge earlier s first) → Offers first.asked.request url body → NeedsTooMany r url body }
     ensures small { (r : Run X) (crew : List (Worker X)) (first : Served) (url : List ℕ) (body : Body) → Closed r crew
-        → LineIn crew (λ earlier s. PrintsEnded earlier s first) → Offers first.line.request url body → ¬ NeedsTooMany r url body }
-    ensures long { (r : Run X) (crew : List (Worker X)) → Closed r crew → (p : LineIn crew (λ earlier s. s.answer ≡ Answer.LongUrl)) → IsLong r p.line_of.line }
+        → LineIn crew (λ earlier s. PrintsEnded earlier s first) → Offers first.asked.request url body → ¬ NeedsTooMany r url body }
+    ensures long { (r : Run X) (crew : List (Worker X)) → Closed r crew → (p : LineIn crew (λ earlier s. s.answer ≡ Answer.LongUrl))
+        → IsLong r p.served }
     ensures short { (r : Run X) (crew : List (Worker X)) (url : List ℕ) (body : Body) → Closed r crew
-        → (p : LineIn crew (λ earlier s. Offers s.line.request url body × Fits earlier s.line.request)) → r.room < 32 + length url → p.line_of.line.answer ≡ Answer.LongUrl }
-    ensures tab { (r : Run X) (crew : List (Worker X)) → Closed r crew → (p : LineIn crew (λ earlier s. Unit {0})) → ((p.line_of.line.answer ≡ Answer.Tab) ↔ ¬ Fits p.line_of.earlier p.line_of.line.line.request) }
-    ensures part { (r : Run X) (crew : List (Worker X)) (epoch : Epoch) (bytes : List ℕ) → Closed r crew → LineIn crew (λ earlier s. s.answer ≡ Answer.Part epoch bytes) → stage_of (epoch_number epoch) ≡ 2 }
+        → (p : LineIn crew (λ earlier s. Offers s.asked.request url body × Fits earlier s.asked.request)) → r.room < 32 + length url
+        → p.served.answer ≡ Answer.LongUrl }
+    ensures tab { (r : Run X) (crew : List (Worker X)) → Closed r crew → (p : LineIn crew (λ earlier s. Unit {0}))
+        → ((p.served.answer ≡ Answer.Tab) ↔ ¬ Fits p.earlier p.served.asked.request) }
+    ensures part { (r : Run X) (crew : List (Worker X)) (epoch : Epoch) (bytes : List ℕ) → Closed r crew
+        → LineIn crew (λ earlier s. s.answer ≡ Answer.Part epoch bytes) → IsAtStage stage.Appending (epoch_number epoch) }
 {}
 
 /// What a worker prints at an anchor is not below what the anchor had at the opening, nor below what a line
@@ -234,23 +272,27 @@ pub fn lines_are_in_order<X>()
 /// halted; or where some line is one of those that may evict an entry, and the version was whole: its
 /// writing printed STORED, or the anchor had it at the opening.
 pub fn entries_are_given_back_by_lines<X>()
-    ensures { (r : Run X) (crew : List (Worker X)) (a e : ℕ) → Closed r crew → ShownIn r crew a e → doom_of e ≡ 0 → 4 ≤ stage_of e → GivenBackIn r crew a (version_of e) }
+    ensures { (r : Run X) (crew : List (Worker X)) (a e : ℕ) → Closed r crew → ShownIn r crew a e → IsUndoomed e
+        → IsFromStage stage.Halted e → GivenBackIn r crew a (version_of e) }
 {}
 
 /// In a run that fits nothing is evicted and no slot is wanting: an epoch at HALTED, FREEING or GONE that is
 /// not doomed comes only where the writing of its version was halted, so with no version of the opening;
 /// and no line prints FULL.
 pub fn runs_that_fit_lose_nothing<X>()
-    ensures given_back { (r : Run X) (crew : List (Worker X)) (a e : ℕ) → Closed r crew → IsTrue r.fits → ShownIn r crew a e → doom_of e ≡ 0 → 4 ≤ stage_of e → HaltedIn r crew a (version_of e) }
-    ensures old { (r : Run X) (crew : List (Worker X)) (a e : ℕ) → Closed r crew → IsTrue r.fits → ShownIn r crew a e → doom_of e ≡ 0 → 4 ≤ stage_of e → opening_counter r.setting < version_of e }
-    ensures full { (r : Run X) (crew : List (Worker X)) → Closed r crew → IsTrue r.fits → LineIn crew (λ earlier s. s.answer ≡ Answer.Full) → ⊥ }
+    ensures given_back { (r : Run X) (crew : List (Worker X)) (a e : ℕ) → Closed r crew → IsTrue r.fits → ShownIn r crew a e → IsUndoomed e
+        → IsFromStage stage.Halted e → HaltedIn r crew a (version_of e) }
+    ensures old { (r : Run X) (crew : List (Worker X)) (a e : ℕ) → Closed r crew → IsTrue r.fits → ShownIn r crew a e → IsUndoomed e
+        → IsFromStage stage.Halted e → opening_counter r.setting < version_of e }
+    ensures full { (r : Run X) (crew : List (Worker X)) → Closed r crew → IsTrue r.fits → LineIn crew (λ earlier s. s.answer ≡ Answer.Full)
+        → ⊥ }
 {}
 
 /// The count of ADDED is that which was asked for, or what the body had left, if that is less.
 pub fn added_counts_are_exact<X>()
     ensures { (r : Run X) (crew : List (Worker X)) (first : Served) (url : List ℕ) (body : Body) (tab asked count : ℕ) → Closed r crew
-        → (p : LineIn crew (λ earlier s. PrintsAdded earlier s first tab asked count)) → Offers first.line.request url body
-        → count ≡ min asked (length (bytes_of body) - added tab p.line_of.earlier) }
+        → (p : LineIn crew (λ earlier s. PrintsAdded earlier s first tab asked count)) → Offers first.asked.request url body
+        → count ≡ min asked (length (bytes_of body) - added tab p.earlier) }
 {}
 
 /// What the tab of a PART line was given since it was opened, or a `get` in its own line, is at least the
@@ -264,7 +306,8 @@ pub fn parts_are_not_short<X>()
 /// So the bounds on versions hold with the script's lines too.
 pub fn scripts_bound_what_is_offered<X>()
     ensures offered { (lines : List Line) (crew : List (Worker X)) → ServesScript lines crew → offered crew ≤ offering lines }
-    ensures versions { (r : Run X) (lines : List Line) (crew : List (Worker X)) (a x : ℕ) → Closed r crew → ServesScript lines crew → BegunIn r crew a x
+    ensures versions { (r : Run X) (lines : List Line) (crew : List (Worker X)) (a x : ℕ) → Closed r crew → ServesScript lines crew
+        → BegunIn r crew a x
         → x ≤ opening_counter r.setting + offering lines }
     ensures spent { (r : Run X) (lines : List Line) (crew : List (Worker X)) (n : ℕ) → Closed r crew → ServesScript lines crew
         → LineIn crew (λ earlier s. s.answer ≡ Answer.Spent n) → n < opening_counter r.setting + offering lines }
@@ -272,18 +315,23 @@ pub fn scripts_bound_what_is_offered<X>()
 
 /// Workers of a store that was just opened, and who served nothing, have accounts and a closing.
 pub fn idle_workers_are_closed<X>()
-    ensures { (r : Run X) (s : State X) → Sound r.setting s → s.views ≡ new_views r.setting 0 r.setting.passes → Closed r (idle_workers r.setting 0 r.setting.passes) }
+    ensures { (r : Run X) (s : State X) → Sound r.setting s → s.views ≡ new_views r.setting 0 r.setting.passes
+        → Closed r (idle_workers r.setting 0 r.setting.passes) }
 {}
 
 /// What steps of a pass add is kept: it knows what it knew, its draws add up, and a deed is one of before or
 /// was added.
 pub fn additions_are_kept<X>()
-    ensures keeps { (v w : View X) (items : List Item) (sights : List Sight) (done : List Deed) (meetings : List ℕ) → IsAfter v items sights done meetings w → KnowsAll v w }
-    ensures drawn { (v w : View X) (items : List Item) (sights : List Sight) (done : List Deed) (meetings : List ℕ) (x : ℕ) → IsAfter v items sights done meetings w
+    ensures keeps { (v w : View X) (items : List Item) (sights : List Sight) (done : List Deed) (meetings : List ℕ)
+        → IsAfter v items sights done meetings w → KnowsAll v w }
+    ensures drawn { (v w : View X) (items : List Item) (sights : List Sight) (done : List Deed) (meetings : List ℕ) (x : ℕ)
+        → IsAfter v items sights done meetings w
         → drawn x w.trail ≡ drawn x items + drawn x v.trail }
-    ensures draws { (v w : View X) (items : List Item) (sights : List Sight) (done : List Deed) (meetings : List ℕ) → IsAfter v items sights done meetings w
+    ensures draws { (v w : View X) (items : List Item) (sights : List Sight) (done : List Deed) (meetings : List ℕ)
+        → IsAfter v items sights done meetings w
         → draws w.trail ≡ draws items + draws v.trail }
-    ensures deeds { (v w : View X) (items : List Item) (sights : List Sight) (done : List Deed) (meetings : List ℕ) (d : Deed) → IsAfter v items sights done meetings w
+    ensures deeds { (v w : View X) (items : List Item) (sights : List Sight) (done : List Deed) (meetings : List ℕ) (d : Deed)
+        → IsAfter v items sights done meetings w
         → Contains w.deeds d → Contains v.deeds d ⊎ Contains done d }
 {}
 
@@ -291,12 +339,14 @@ pub fn additions_are_kept<X>()
 /// what they should where the worker drew nothing and did nothing.
 pub fn quiet_lines_add_nothing<X>()
     ensures mark { (r : Run X) (v w : View X) (earlier : List Served) (s : Served) → IsMarkLine s → IsIdle v w → Adds r v earlier s w }
-    ensures tab { (r : Run X) (v w : View X) (earlier : List Served) (s : Served) → IsTabLine r earlier s → IsIdle v w → Adds r v earlier s w }
+    ensures tab { (r : Run X) (v w : View X) (earlier : List Served) (s : Served) → IsTabLine r earlier s → IsIdle v w
+        → Adds r v earlier s w }
 {}
 
 /// The version of STORED or DOOMED at `end` is the one with which its tab's writing was begun.
 pub fn ends_tell_the_version_begun<X>()
-    ensures { (r : Run X) (crew : List (Worker X)) (version x : ℕ) → Closed r crew → LineIn crew (λ earlier s. EndsBegun earlier s version x) → x ≡ version }
+    ensures { (r : Run X) (crew : List (Worker X)) (version x : ℕ) → Closed r crew
+        → LineIn crew (λ earlier s. EndsBegun earlier s version x) → x ≡ version }
 {}
 
 /// A tab that reads stays at the entry of which its OPEN told the version: PART is of that version, HALTED comes only where its
@@ -310,18 +360,18 @@ pub fn tabs_stay_at_their_entries<X>()
         → LineIn crew (λ earlier s. ReadsHalted r.setting.anchors earlier s a x) → HaltedIn r crew a x }
     ensures old { (r : Run X) (crew : List (Worker X)) (a x : ℕ) → Closed r crew → IsTrue r.tells
         → (p : LineIn crew (λ earlier s. ReadsOn r.setting.anchors earlier s a x)) → x ≤ opening_counter r.setting
-        → IsFrontOfOld r a p.line_of.line.answer (bytes_with p.line_of.earlier p.line_of.line) }
+        → IsFrontOfOld r a p.served.answer (bytes_with p.earlier p.served) }
     ensures new { (r : Run X) (crew : List (Worker X)) (a x : ℕ) → Closed r crew → IsTrue r.tells
         → (p : LineIn crew (λ earlier s. ReadsOn r.setting.anchors earlier s a x)) → opening_counter r.setting < x
-        → IsFrontOfLine r crew a x p.line_of.line.answer (bytes_with p.line_of.earlier p.line_of.line) }
+        → IsFrontOfLine r crew a x p.served.answer (bytes_with p.earlier p.served) }
     ensures behind_end { (r : Run X) (crew : List (Worker X)) (tab : ℕ) → Closed r crew
-        → (p : LineIn crew (λ earlier s. ReadsBehind is_end earlier s tab)) → p.line_of.line.answer ≡ Answer.End [] }
+        → (p : LineIn crew (λ earlier s. ReadsBehind is_end earlier s tab)) → p.served.answer ≡ Answer.End [] }
     ensures behind_other { (r : Run X) (crew : List (Worker X)) (tab : ℕ) → Closed r crew
-        → (p : LineIn crew (λ earlier s. ReadsBehind is_other_url earlier s tab)) → p.line_of.line.answer ≡ Answer.OtherUrl }
+        → (p : LineIn crew (λ earlier s. ReadsBehind is_other_url earlier s tab)) → p.served.answer ≡ Answer.OtherUrl }
     ensures no_part { (r : Run X) (crew : List (Worker X)) (tab : ℕ) → Closed r crew
         → LineIn crew (λ earlier s. PartBehindHalted earlier s tab) → ⊥ }
     ensures behind_halted { (r : Run X) (crew : List (Worker X)) (tab : ℕ) → Closed r crew → IsTrue r.tells
-        → (p : LineIn crew (λ earlier s. ReadsBehind is_halted earlier s tab)) → IsStillHalted p.line_of.line.answer }
+        → (p : LineIn crew (λ earlier s. ReadsBehind is_halted earlier s tab)) → IsStillHalted p.served.answer }
     ensures one_url { (r : Run X) (crew : List (Worker X)) (a x : ℕ) (url : List ℕ) → Closed r crew → IsTrue r.tells
         → LineIn crew (λ earlier s. ReadsUnder r.setting.anchors earlier s a x url)
         → LineIn crew (λ earlier s. ReadsOther r.setting.anchors earlier s a x url) → ⊥ }

@@ -38,6 +38,9 @@ ReadsItsScript other before after = LeavesScript before after
 
 -- a command was carried out
 pub record CarriesOut (tells : Tells) (asked : Command) (before after : World) (status : Status) : Type 0 where
+  -- What the command is asked for was done.
   pub does : CommandDoes tells asked before after status
+  -- Unless it serves, it made one station at most.
   pub stations : MakesItsStations asked before after status
+  -- Unless it reads a script, it left this alone.
   pub script : ReadsItsScript asked before after

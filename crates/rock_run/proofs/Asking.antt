@@ -100,7 +100,7 @@ module _ {C O : Type 0} (tells : Bool) (state : C → CellState) (offers : O →
         let m = most_offered g.setting.anchors g.slot a lines number record { url = url; body = body } e in
         let t = takes_here g.setting.anchors g.slot url body short in
         let c : count (cut_of g (offer_of tells state offers s number) 0 0) ≡ slots_needed (length (content_of url (bytes_of body))) g.slot =
-            (λ i. slots_needed (length (content_of (url_there number url body e i) (body_there number url body e i))) g.slot) in omega arith;
+        (λ i. slots_needed (length (content_of (url_there number url body e i) (body_there number url body e i))) g.slot) in omega arith;
   }
 
   may_ask : (number : ℕ) (request : Request) → IsAsked request → offered_by lines number ≡ offered_in request

@@ -17,7 +17,8 @@ module _ {C O : Type 0} (tells : Bool) (state : C → CellState) (offers : O →
     pub cells : KeepsCells tells state offers s p
 
 -- these shelves stand on the store, with these passes and these stations, in order
-pub record AreShelvesOf {C O St : Type 0} (s : Store C O) (passes : List (Pass C)) (stations : List St) (shelves : List (OnShelf C O St)) : Type 0 where
+pub record AreShelvesOf {C O St : Type 0} (s : Store C O) (passes : List (Pass C)) (stations : List St) (shelves : List (OnShelf C O St))
+    : Type 0 where
   pub passes_are : map (λ shelf. shelf.pass) shelves ≡ passes
   pub stations_are : map (λ shelf. shelf.station) shelves ≡ stations
   pub stores : (shelf : OnShelf C O St) → Contains shelves shelf → shelf.store ≡ s

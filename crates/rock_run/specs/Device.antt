@@ -19,7 +19,8 @@ RunEnded before after = NoStation before after ⊎ ((rebuild : ℕ) × (workers 
 
 -- the volume failed, or the station of the rebuild
 abbrev pub RunFailed : Counts → Counts → Type 0
-RunFailed before after = Rose before.faults after.faults ⊎ ((rebuild : ℕ) × (workers : List ℕ) × HasEnded rebuild workers before after × (0 < rebuild))
+RunFailed before after = Rose before.faults after.faults
+    ⊎ ((rebuild : ℕ) × (workers : List ℕ) × HasEnded rebuild workers before after × (0 < rebuild))
 
 -- the volume's count of faults is as it was, and the rebuild's station, if it was made, was ended with none
 pub record RunUnfailed (before after : Counts) : Type 0 where

@@ -34,8 +34,8 @@ offered_in request = of_shape (shape_of request)
 abbrev pub offered_by : List Line → ℕ → Option Response
 offered_by lines number = option_and_then (λ line. offered_in line.request) (find (λ line. line.number == number) lines)
 
--- How many slots a response takes at an anchor, of so many and with slots of this size: as many as its content needs, and never more than an entry
--- may have. It is none where the response is for another anchor, or its URL leaves no room in a slot.
+-- How many slots a response takes at an anchor, of so many and with slots of this size: as many as its content needs, and never more than
+-- an entry may have. It is none where the response is for another anchor, or its URL leaves no room in a slot.
 abbrev pub taken_at : (anchors slot anchor : ℕ) → Response → ℕ
 taken_at anchors slot anchor r = (if (anchor_of (key_of r.url) anchors == anchor) && nat_le (length r.url + front_size) slot
     then min (slots_needed (length (content_of r.url (bytes_of r.body))) slot) 4096 else 0)
@@ -43,10 +43,11 @@ taken_at anchors slot anchor r = (if (anchor_of (key_of r.url) anchors == anchor
 -- the most that what one of these lines offers takes there
 abbrev pub most_taken : (anchors slot anchor : ℕ) → List Line → ℕ
 most_taken anchors slot anchor [] = 0
-most_taken anchors slot anchor (line ∷ lines) = max (option_map_or (taken_at anchors slot anchor) (offered_in line.request) 0) (most_taken anchors slot anchor lines)
+most_taken anchors slot anchor (line ∷ lines) = max (option_map_or (taken_at anchors slot anchor) (offered_in line.request) 0)
+    (most_taken anchors slot anchor lines)
 
--- The offer of a number is what the line of this number offers, and an empty one where it offers nothing. No anchor is left to one pass. What lines
--- offer at an anchor takes as many slots as the one of them that takes most.
+-- The offer of a number is what the line of this number offers, and an empty one where it offers nothing. No anchor is left to one pass.
+-- What lines offer at an anchor takes as many slots as the one of them that takes most.
 unfoldable pub offers_of : List Line → Offers
 offers_of lines = record {
   url = λ number. option_map_or (λ response. response.url) (offered_by lines number) [];

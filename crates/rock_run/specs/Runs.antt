@@ -23,10 +23,12 @@ use Rattle.worker_shelf.specs.Playing.{IsPlayed, TellsAtMarks}
 use Rattle.rock_run.specs.Offered.{offers_of}
 use Rattle.rock_run.specs.Device.{HasEnded}
 
-module _ {C O St : Type 0} (tells : Bool) (state : C → CellState) (offers : O → Offers) (faults : St → ℕ) (s : Store C O) (lines : List Line) where
-  -- Workers served these lines, each with the pass and the station of its place, and answered so. What each did is its account, and what one
-  -- knew that set a mark is known to each that met it.
-  pub record HasPlayed (passes : List (Pass C)) (stations : List St) (passes_left : List (Pass C)) (stations_left : List St) (answers : List (List (ℕ × Answer))) : Type 0 where
+module _ {C O St : Type 0} (tells : Bool) (state : C → CellState) (offers : O → Offers) (faults : St → ℕ) (s : Store C O)
+    (lines : List Line) where
+  -- Workers served these lines, each with the pass and the station of its place, and answered so. What each did is its account, and what
+  -- one knew that set a mark is known to each that met it.
+  pub record HasPlayed (passes : List (Pass C)) (stations : List St) (passes_left : List (Pass C)) (stations_left : List St)
+      (answers : List (List (ℕ × Answer))) : Type 0 where
     pub accounts : List (Account (OnShelf C O St))
     pub each : (w : ℕ) (a : Account (OnShelf C O St)) → At accounts w a → IsPlayed tells state offers faults s lines w a
     pub told : (a b : Account (OnShelf C O St)) → Contains accounts a → Contains accounts b → TellsAtMarks a b
@@ -37,15 +39,17 @@ module _ {C O St : Type 0} (tells : Bool) (state : C → CellState) (offers : O 
     pub answers_are : map answers_of accounts ≡ answers
 
   -- workers played so, with stations that were new
-  pub record HasServed (passes : List (Pass C)) (passes_left : List (Pass C)) (stations_left : List St) (answers : List (List (ℕ × Answer))) : Type 0 where
+  pub record HasServed (passes : List (Pass C)) (passes_left : List (Pass C)) (stations_left : List St) (answers : List (List (ℕ × Answer)))
+      : Type 0 where
     pub stations : List St
     pub fresh : All (λ station. faults station ≡ 0) stations
     pub played : HasPlayed passes stations passes_left stations_left answers
 
-module _ {C : Type 0} (volume_tells tells : Bool) (state : C → CellState) (before after : Files) (name : List ℕ) (slot anchors workers : ℕ) (lines : List Line) where
+module _ {C : Type 0} (volume_tells tells : Bool) (state : C → CellState) (before after : Files) (name : List ℕ) (slot anchors workers : ℕ)
+    (lines : List Line) where
   -- The file was opened as a store, whose origin these lines are, and the store was closed: its passes stood in one state that keeps the
-  -- rule, with all tabs free. The cells are back in the file, each as it was in its place then, and the header area and the rest are as opening
-  -- cuts them.
+  -- rule, with all tabs free. The cells are back in the file, each as it was in its place then, and the header area and the rest are as
+  -- opening cuts them.
   pub record HasClosed : Type 0 where
     pub store : Store C (List Line)
     pub header : C
@@ -55,10 +59,12 @@ module _ {C : Type 0} (volume_tells tells : Bool) (state : C → CellState) (bef
     pub left : List (Pass C)
     pub cells : List C
     pub closed : Closed tells state (basis tells state offers_of store) (views_of left) cells
-    pub back : (told : IsTrue volume_tells) → after ≡ insert middle name (Home (state header) (map state cells) (rest_cut slot (bytes_of (opened.out told).was)))
+    pub back : (told : IsTrue volume_tells)
+        → after ≡ insert middle name (Home (state header) (map state cells) (rest_cut slot (bytes_of (opened.out told).was)))
 
   -- Workers served the lines in between, and answered so. Each station was ended with the count that it had then.
-  pub record HasRun {St : Type 0} (faults : St → ℕ) (answers : List (List (ℕ × Answer))) (counts_before counts_after : Counts) : Type 0 where
+  pub record HasRun {St : Type 0} (faults : St → ℕ) (answers : List (List (ℕ × Answer))) (counts_before counts_after : Counts)
+      : Type 0 where
     pub closed : HasClosed
     pub stations : List St
     pub served : HasServed tells state offers_of faults closed.store lines closed.passes.items closed.left stations answers

@@ -15,7 +15,8 @@ use Rattle.run_command.specs.Slots.{IsSlotOf}
 abbrev pub LeavesKept : (volume_tells : Bool) → Files → Files → (name : List ℕ) → (given : Option ℕ) → Type 0
 LeavesKept volume_tells before after name given = IsTrue volume_tells → IsKeptFor name given before after
 
-module _ (source_tells volume_tells : Bool) (script script_after : List ℕ) (files files_after : Files) (name : List ℕ) (given : Option ℕ) (anchors workers : ℕ) where
+module _ (source_tells volume_tells : Bool) (script script_after : List ℕ) (files files_after : Files) (name : List ℕ) (given : Option ℕ)
+    (anchors workers : ℕ) where
   -- The file was opened as a store for the lines of the script, and was given back, however many of the lines were served.
   pub record LeavesClosed : Type 0 where
     -- The script was read to its end, and has these lines.
@@ -30,8 +31,10 @@ module _ (source_tells volume_tells : Bool) (script script_after : List ℕ) (fi
   -- What each status leaves, by the counts of the volume before and after. At the end of a run the file has also the entries that stood
   -- closed. Lines may have been served before a fault of the disk or want of memory.
   abbrev pub RunLeaves : (before after : Counts) → Status → Type 0
-  RunLeaves before after Done = IsFinishedRun source_tells volume_tells script script_after files files_after name given anchors workers before after
-  RunLeaves before after SinkFault = IsFinishedRun source_tells volume_tells script script_after files files_after name given anchors workers before after
+  RunLeaves before after Done =
+      IsFinishedRun source_tells volume_tells script script_after files files_after name given anchors workers before after
+  RunLeaves before after SinkFault =
+      IsFinishedRun source_tells volume_tells script script_after files files_after name given anchors workers before after
   RunLeaves before after DeviceFault = LeavesKept volume_tells files files_after name given ⊎ LeavesClosed
   RunLeaves before after Memory = LeavesKept volume_tells files files_after name given ⊎ LeavesClosed
   RunLeaves before after Missing = LeavesKept volume_tells files files_after name given

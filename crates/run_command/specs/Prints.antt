@@ -12,7 +12,9 @@ use Rattle.run_command.specs.Finished.{IsFinishedRun}
 -- The text is what a run prints: that of the answers which workers gave to the lines of its script.
 pub record IsRunText (source_tells volume_tells : Bool) (script script_after : List ℕ) (files files_after : Files) (name : List ℕ)
     (given : Option ℕ) (anchors workers : ℕ) (before after : Counts) (text : List ℕ) : Type 0 where
+  -- The script was served over the file.
   pub run : IsFinishedRun source_tells volume_tells script script_after files files_after name given anchors workers before after
+  -- The text is that of the answers.
   pub is : text ≡ text_of run.answers
 
 -- What was printed behind what the sink had taken: at `Done` the text, at a fault of the sink a first part of it, at want of memory

@@ -32,8 +32,8 @@ shown p = (p.0.number, p.1)
 printed_lines : (stages : List (Told (List ℕ))) → printed_by (lines_in stages) ≡ map shown (in_order stages)
 printed_lines [] = refl
 printed_lines (x ∷ earlier) =
-    ap (λ (zs : List (ℕ × Answer)). zs ++ (x.served.line.number, x.served.answer) ∷ []) (printed_lines earlier)
-    ∙ sym (map-append shown (in_order earlier) ((x.served.line, x.served.answer) ∷ []))
+    ap (λ (zs : List (ℕ × Answer)). zs ++ (x.served.asked.number, x.served.answer) ∷ []) (printed_lines earlier)
+    ∙ sym (map-append shown (in_order earlier) ((x.served.asked, x.served.answer) ∷ []))
 
 module _ {C O St : Type 0} (r : Run (List ℕ)) (script : List Line) (accounts : List (Account (OnShelf C O St))) (h : HasClosing {C = C} {O = O} {St = St} r script accounts) where
   -- a worker of the crew has the course of its place

@@ -56,11 +56,11 @@ module _ (r : Run (List ℕ)) (slot anchors : ℕ) (images : List (List ℕ)) wh
     pub keys : AreKeysOfWinners r slot anchors images script crew
     keys = record {
       printed = λ a epoch key p low.
-          let at = p.line_of.so.at in
+          let at = p.so.at in
           let w = kept a (below at.url a at.anchor) (rules.keys.kept a epoch key p low) in
           record { entry = w.entry; winner = w.winner; key_is = rules.keys.old a epoch key w.entry.url p low w.keyed };
       found = λ a x url p low.
-          let w = kept a (below url a p.line_of.so.anchor) (rules.epochs.found_old a x url p low) in
+          let w = kept a (below url a p.so.anchor) (rules.epochs.found_old a x url p low) in
           record { entry = w.entry; winner = w.winner; key_is = rules.keys.found_old a x url w.entry.url p low w.keyed };
     }
 
@@ -83,11 +83,11 @@ module _ (r : Run (List ℕ)) (slot anchors : ℕ) (images : List (List ℕ)) wh
       as_printed a x url bytes b = subst (λ z. IsOffered script url z) (sym b.whole) (offered script crew (λ earlier s. PrintsBegunVersion r.setting.anchors s a x) serves b.begun url b.body b.offers)
 
       hit_old : (a x : ℕ) (url bytes : List ℕ) → HitIn r crew a x url bytes → x ≤ opening_counter r.setting → IsOfWinner r slot anchors images script crew a url bytes
-      hit_old a x url bytes p low = of_winner a url bytes (below url a p.line_of.so.anchor) ((rules.bodies tells).hit_old a x url bytes p low)
+      hit_old a x url bytes p low = of_winner a url bytes (below url a p.so.anchor) ((rules.bodies tells).hit_old a x url bytes p low)
 
       hit : (a x : ℕ) (url bytes : List ℕ) → HitIn r crew a x url bytes → IsResponse slot images script url bytes
       hit a x url bytes p = ⊎_elim
-          (λ (low : x ≤ opening_counter r.setting). inl (in_file a url bytes (below url a p.line_of.so.anchor) ((rules.bodies tells).hit_old a x url bytes p low)))
+          (λ (low : x ≤ opening_counter r.setting). inl (in_file a url bytes (below url a p.so.anchor) ((rules.bodies tells).hit_old a x url bytes p low)))
           (λ (high : opening_counter r.setting < x). inr (as_printed a x url bytes ((rules.bodies tells).hit_new a x url bytes p high)))
           (not_above x (opening_counter r.setting))
 
@@ -98,28 +98,28 @@ module _ (r : Run (List ℕ)) (slot anchors : ℕ) (images : List (List ℕ)) wh
           s.source
 
       bytes : (first : Served) (url : List ℕ) → (p : LineIn crew (λ earlier s. ReadsOf earlier s first url))
-          → IsFrontOf slot images script p.line_of.line.answer url (bytes_with p.line_of.earlier p.line_of.line)
+          → IsFrontOf slot images script p.served.answer url (bytes_with p.earlier p.served)
       bytes first url p = let f = (rules.bodies tells).bytes first url p in record { body = f.body; response = stored url f.body f.stored; first_ones = f.first_ones; whole = f.whole }
 
       tab_old : (a x : ℕ) → (p : LineIn crew (λ earlier s. ReadsOn r.setting.anchors earlier s a x)) → x ≤ opening_counter r.setting
-          → IsFrontOfWinner r slot anchors images script crew a p.line_of.line.answer (bytes_with p.line_of.earlier p.line_of.line)
+          → IsFrontOfWinner r slot anchors images script crew a p.served.answer (bytes_with p.earlier p.served)
       tab_old a x p low =
           let f = rules.tabs.old tells a x p low in
-          let at = p.line_of.so.of.anchor in
+          let at = p.so.of.anchor in
           let w = kept a (below at.url a at.anchor) f.there in
           record {
             entry = w.entry;
             winner = w.winner;
-            first_ones = f.first_ones ∙ ap (take (length (bytes_with p.line_of.earlier p.line_of.line))) (w.body_is tells);
+            first_ones = f.first_ones ∙ ap (take (length (bytes_with p.earlier p.served))) (w.body_is tells);
             whole = λ z. f.whole z ∙ w.body_is tells;
           }
 
       old_url : (url other : List ℕ) → HadEntry r (anchor_of (key_of url) r.setting.anchors) → r.url (old_offer r (anchor_of (key_of url) r.setting.anchors)) ≡ other → IsUsed slot images script other
       old_url url other there is = let w = kept (anchor_of (key_of url) r.setting.anchors) (here url) there in inl (w.entry, w.winner.complete, sym (w.url_is tells) ∙ is)
 
-      new_url : (a x : ℕ) (other : List ℕ) → (p : BegunIn r crew a x) → url_in p.line_of.line.line.request ≡ Some other → IsUsed slot images script other
+      new_url : (a x : ℕ) (other : List ℕ) → (p : BegunIn r crew a x) → url_in p.served.asked.request ≡ Some other → IsUsed slot images script other
       new_url a x other p named =
-          let o = offer_of p.line_of.line.line.request other ((rules.versions.printed a x p).0) named in
+          let o = offer_of p.served.asked.request other ((rules.versions.printed a x p).0) named in
           inr (bytes_of o.0, offered script crew (λ earlier s. Begins r.setting.anchors s a x) serves p other o.0 o.1)
 
       twin : (url : List ℕ) → HasOtherUrl r crew url → HasTwin slot images script url
@@ -127,7 +127,7 @@ module _ (r : Run (List ℕ)) (slot anchors : ℕ) (images : List (List ℕ)) wh
         other = h.other;
         used = ⊎_elim
             (λ (old : HadEntry r (anchor_of (key_of url) r.setting.anchors) × (r.url (old_offer r (anchor_of (key_of url) r.setting.anchors)) ≡ h.other)). old_url url h.other old.0 old.1)
-            (λ (new : (x : ℕ) × (p : BegunIn r crew (anchor_of (key_of url) r.setting.anchors) x) × (url_in p.line_of.line.line.request ≡ Some h.other)).
+            (λ (new : (x : ℕ) × (p : BegunIn r crew (anchor_of (key_of url) r.setting.anchors) x) × (url_in p.served.asked.request ≡ Some h.other)).
             new_url (anchor_of (key_of url) r.setting.anchors) new.0 h.other new.1 new.2)
             h.is.source;
         same_key = h.is.same_key;

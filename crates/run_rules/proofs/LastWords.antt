@@ -91,7 +91,11 @@ module _ {X : Type 0} (r : Run X) (crew : List (Worker X)) (s : State X) (sound 
           j = w.j;
           worker = w.worker;
           at = w.at;
-          line_of = record { later = l.later; line = l.line; earlier = l.earlier; split = l.split; so = of_line w.worker.view done.deed l.earlier l.line done.so l.so };
+          later = l.later;
+          served = l.served;
+          earlier = l.earlier;
+          split = l.split;
+          so = of_line w.worker.view done.deed l.earlier l.served done.so l.so;
         })
         (λ (l : (true ≡ true) × IsDeedOfEnd r.setting done.deed w.worker.served). inr record { j = w.j; worker = w.worker; at = w.at; so = of_end done.deed w.worker.served done.so l.1 })
         ((c.accounts w.j w.worker w.at).deeds done.deed own).1
@@ -174,14 +178,14 @@ module _ {X : Type 0} (r : Run X) (crew : List (Worker X)) (s : State X) (sound 
       finished = c.finished;
       latest = λ a f p.
           let w = c.stands p.j p.worker p.at in
-          let seen = ((c.accounts p.j p.worker p.at).lines p.line_of.later p.line_of.earlier p.line_of.line p.line_of.split).shown a f p.line_of.so in
+          let seen = ((c.accounts p.j p.worker p.at).lines p.later p.earlier p.served p.split).shown a f p.so in
           let lt = sound.anchors.seen.inside w.0 p.worker.view w.1 (Stood a f) seen in
           let below = seen_below a f p.worker.view.seen seen in
           let most = sound.anchors.seen.epochs w.0 p.worker.view w.1 a lt in
           omega arith;
       leads = λ a f p same.
           let w = c.stands p.j p.worker p.at in
-          let seen = ((c.accounts p.j p.worker p.at).lines p.line_of.later p.line_of.earlier p.line_of.line p.line_of.split).shown a f p.line_of.so in
+          let seen = ((c.accounts p.j p.worker p.at).lines p.later p.earlier p.served p.split).shown a f p.so in
           sound.sights.stages w.0 p.worker.view w.1 a f (sound.anchors.seen.inside w.0 p.worker.view w.1 (Stood a f) seen) seen same;
       old = λ a lt low. old_one a lt low;
       new = λ a lt high. begun a (version_of (epoch_of (word s a))) (known_taken r.setting s sound a (epoch_of (word s a)) (stands_there a lt) high);

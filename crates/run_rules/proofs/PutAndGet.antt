@@ -108,9 +108,9 @@ module _ {X : Type 0} (r : Run X) (url : List ℕ) (m : MayBegin r url) (w : Wor
   each Q of_get of_put earlier s (inl h) = subst (λ (z : List Served). Q z s) h.1 (subst (Q (put ∷ [])) h.0 of_get)
   each Q of_get of_put earlier s (inr h) = subst (λ (z : List Served). Q z s) h.1 (subst (Q []) h.0 of_put)
 
-  by_line : (P Q : List Served → Served → Type 0) → (P (put ∷ []) get → Q (put ∷ []) get) → (P [] put → Q [] put) → (p : LineIn crew P) → Q p.line_of.earlier p.line_of.line
-  by_line P Q of_get of_put p = each (λ earlier s. P earlier s → Q earlier s) of_get of_put p.line_of.earlier p.line_of.line
-      (two p.line_of.later p.line_of.earlier p.line_of.line (sym (only p.j p.worker p.at).1 ∙ p.line_of.split)) p.line_of.so
+  by_line : (P Q : List Served → Served → Type 0) → (P (put ∷ []) get → Q (put ∷ []) get) → (P [] put → Q [] put) → (p : LineIn crew P) → Q p.earlier p.served
+  by_line P Q of_get of_put p = each (λ earlier s. P earlier s → Q earlier s) of_get of_put p.earlier p.served
+      (two p.later p.earlier p.served (sym (only p.j p.worker p.at).1 ∙ p.split)) p.so
 
   -- what neither line prints
   never : (P : List Served → Served → Type 0) → (P (put ∷ []) get → ⊥) → (P [] put → ⊥) → LineIn crew P → ⊥
@@ -121,7 +121,7 @@ module _ {X : Type 0} (r : Run X) (url : List ℕ) (m : MayBegin r url) (w : Wor
 
   -- the `put` as one of the lines
   abbrev at_put : (P : List Served → Served → Type 0) → P [] put → LineIn crew P
-  at_put P so = record { j = 0; worker = w; at = refl; line_of = record { later = get ∷ []; line = put; earlier = []; split = is; so = so } }
+  at_put P so = record { j = 0; worker = w; at = refl; later = get ∷ []; served = put; earlier = []; split = is; so = so }
 
   here : (b : ℕ) → IsAnchorOf r.setting.anchors (Some url) b → b ≡ a
   here b h = h.anchor ∙ ap (λ (u : List ℕ). anchor_of (key_of u) r.setting.anchors) (sym (one_url url h.url h.named_is))
@@ -150,12 +150,12 @@ module _ {X : Type 0} (r : Run X) (url : List ℕ) (m : MayBegin r url) (w : Wor
 
   answers : AnswersHaveCauses r (put_and_get_script r url) crew
   answers = record {
-    possible = λ p. by_line Any (λ earlier s. IsAnswerTo s.line.request s.answer) (λ z. tt) (λ z. tt) p;
-    tab = λ p. by_line Any (λ earlier s. (s.answer ≡ answer.Tab) ↔ ¬ Fits earlier s.line.request)
+    possible = λ p. by_line Any (λ earlier s. IsAnswerTo s.asked.request s.answer) (λ z. tt) (λ z. tt) p;
+    tab = λ p. by_line Any (λ earlier s. (s.answer ≡ answer.Tab) ↔ ¬ Fits earlier s.asked.request)
         (λ z. ((λ h. absurd (let k : answer.Hit x [] ≡ answer.Tab = h in cc)), (λ n. absurd (n tt))))
         (λ z. ((λ h. absurd (let k : answer.Stored x ≡ answer.Tab = h in cc)), (λ n. absurd (n tt)))) p;
     long = λ p. absurd (never (λ earlier s. s.answer ≡ answer.LongUrl) (λ h. let k : answer.Hit x [] ≡ answer.LongUrl = h in cc) (λ h. let k : answer.Stored x ≡ answer.LongUrl = h in cc) p);
-    short = λ u body p far. absurd (never (λ earlier s. Offers s.line.request u body × Fits earlier s.line.request) (λ h. h.0) (λ h. let e = ap length h.0.0 in let room = m.offers.short in omega arith) p);
+    short = λ u body p far. absurd (never (λ earlier s. Offers s.asked.request u body × Fits earlier s.asked.request) (λ h. h.0) (λ h. let e = ap length h.0.0 in let room = m.offers.short in omega arith) p);
     added = λ first u body tab asked count p o. absurd (never (λ earlier s. PrintsAdded earlier s first tab asked count) (λ h. let k : answer.Hit x [] ≡ answer.Added count = h.printed in cc) (λ h. let k : answer.Stored x ≡ answer.Added count = h.printed in cc) p);
     ended = λ version y p. absurd (never (λ earlier s. EndsBegun earlier s version y) (λ h. let k : Get url ≡ End h.tab = h.request in cc) (λ h. let k : Put url nothing ≡ End h.tab = h.request in cc) p);
     opened = λ y p. by_line (λ earlier s. FindsEntry s.answer y) (λ earlier s. (version_of s.opened ≡ y) × (is_readable s.opened ≡ true))
@@ -165,12 +165,12 @@ module _ {X : Type 0} (r : Run X) (url : List ℕ) (m : MayBegin r url) (w : Wor
     readers = λ b p. absurd (never (λ earlier s. PrintsReaders r.setting.anchors earlier s b) (λ h. let k : answer.Hit x [] ≡ answer.Busy h.looked h.other = h.printed in cc) (λ h. let k : answer.Stored x ≡ answer.Busy h.looked h.other = h.printed in cc) p);
     spent = λ n p. absurd (never (λ earlier s. s.answer ≡ answer.Spent n) (λ h. let k : answer.Hit x [] ≡ answer.Spent n = h in cc) (λ h. let k : answer.Stored x ≡ answer.Spent n = h in cc) p);
     large = λ first u body p o. absurd (never (λ earlier s. PrintsLarge earlier s first) (λ h. let k : answer.Hit x [] ≡ answer.Large = h.printed in cc) (λ h. let k : answer.Stored x ≡ answer.Large = h.printed in cc) p);
-    small = λ first u body p o. by_line (λ earlier s. PrintsEnded earlier s first) (λ earlier s. Offers first.line.request u body → ¬ NeedsTooMany r u body)
+    small = λ first u body p o. by_line (λ earlier s. PrintsEnded earlier s first) (λ earlier s. Offers first.asked.request u body → ¬ NeedsTooMany r u body)
         (λ h. absurd (⊎_elim
         (λ (q : answer.Hit x [] ≡ answer.Stored h.version). let z : ⊥ = cc in z)
         (λ (q : answer.Hit x [] ≡ answer.Doomed h.version). let z : ⊥ = cc in z)
         h.printed))
-        (λ h offers many. nothing_is_small u body (subst (λ (f : Served). Offers f.line.request u body) (sym (one_served put first h.begun_is)) offers) many) p o;
+        (λ h offers many. nothing_is_small u body (subst (λ (f : Served). Offers f.asked.request u body) (sym (one_served put first h.begun_is)) offers) many) p o;
     other = λ tells u p. absurd (never (λ earlier s. PrintsOther earlier s u) (λ h. let k : answer.Hit x [] ≡ answer.OtherUrl = h.printed in cc) (λ h. let k : answer.Stored x ≡ answer.OtherUrl = h.printed in cc) p);
     cause = λ cause p. absurd (never (λ earlier s. Refuses s.answer cause) (λ h. h) (λ h. h) p);
   }
@@ -179,7 +179,7 @@ module _ {X : Type 0} (r : Run X) (url : List ℕ) (m : MayBegin r url) (w : Wor
   of_get : (b y : ℕ) → ReadsVersion r.setting.anchors (put ∷ []) get b y → (b ≡ a) × (x ≡ y)
   of_get b y h =
       let first : get ≡ h.first = one_served get h.first h.opened_is in
-      (here b (subst (λ (s : Served). IsAnchorOf r.setting.anchors (url_in s.line.request) b) (sym first) h.anchor), subst (λ (s : Served). Opens s.answer y) (sym first) h.told)
+      (here b (subst (λ (s : Served). IsAnchorOf r.setting.anchors (url_in s.asked.request) b) (sym first) h.anchor), subst (λ (s : Served). Opens s.answer y) (sym first) h.told)
 
   of_put : (b y : ℕ) → ReadsVersion r.setting.anchors [] put b y → ⊥
   of_put b y h = let k : None ≡ Some h.first = h.opened_is in cc
@@ -216,7 +216,7 @@ module _ {X : Type 0} (r : Run X) (url : List ℕ) (m : MayBegin r url) (w : Wor
     finished = λ b y p new. by_line (λ earlier s. ReadsWhole r.setting.anchors earlier s b y) (λ earlier s. FinishedIn r crew b y) (λ h. let k = of_get b y h.of in finished b y k.0 k.1) (λ h. absurd h.whole) p;
     not_halted = λ b y p new halted. none_halted b y halted;
     bytes = λ first u p. by_line (λ earlier s. ReadsOf earlier s first u) (λ earlier s. AreFirstOnes r crew s.answer u (bytes_with earlier s))
-        (λ h. let same : url ≡ u = one_url url u (ap (λ (s : Served). url_in s.line.request) (one_served get first h.opened_is) ∙ h.named) in
+        (λ h. let same : url ≡ u = one_url url u (ap (λ (s : Served). url_in s.asked.request) (one_served get first h.opened_is) ∙ h.named) in
         record { body = []; stored = record { source = inr (x, body_of_line u same) }; first_ones = refl; whole = λ z. refl })
         (λ h. absurd (let k : None ≡ Some first = h.opened_is in cc)) p;
   }
@@ -233,10 +233,10 @@ module _ {X : Type 0} (r : Run X) (url : List ℕ) (m : MayBegin r url) (w : Wor
         (λ h. absurd h.found) p;
   }
 
-  begun_last : (b y : ℕ) (p : BegunIn r crew b y) → length p.line_of.earlier ≡ 0
+  begun_last : (b y : ℕ) (p : BegunIn r crew b y) → length p.earlier ≡ 0
   begun_last b y p = by_line (λ earlier s. Begins r.setting.anchors s b y) (λ earlier s. length earlier ≡ 0) (λ h. absurd h.began) (λ h. refl) p
 
-  told_last : (b y : ℕ) (p : TellsBegunIn r crew b y) → length p.line_of.earlier ≡ 0
+  told_last : (b y : ℕ) (p : TellsBegunIn r crew b y) → length p.earlier ≡ 0
   told_last b y p = by_line (λ earlier s. PrintsBegunVersion r.setting.anchors s b y) (λ earlier s. length earlier ≡ 0) (λ h. absurd h.told) (λ h. refl) p
 
   begun_here : (b y : ℕ) → BegunIn r crew b y → (b ≡ a) × (x ≡ y)
@@ -244,17 +244,17 @@ module _ {X : Type 0} (r : Run X) (url : List ℕ) (m : MayBegin r url) (w : Wor
 
   few : offering (put_and_get_script r url) ≡ 1
   few =
-      let first = sum_by-cons (λ (l : Line). one_if (offers l.request)) put.line (get.line ∷ []) in
-      let second = sum_by-cons (λ (l : Line). one_if (offers l.request)) get.line [] in
+      let first = sum_by-cons (λ (l : Line). one_if (offers l.request)) put.asked (get.asked ∷ []) in
+      let second = sum_by-cons (λ (l : Line). one_if (offers l.request)) get.asked [] in
       omega arith
 
   versions : AreBegun r (put_and_get_script r url) crew
   versions = record {
-    printed = λ b y p. by_line (λ earlier s. Begins r.setting.anchors s b y) (λ earlier s. (offers s.line.request ≡ true) × PrintsBegun s.answer) (λ h. absurd h.began) (λ h. (refl, tt)) p;
+    printed = λ b y p. by_line (λ earlier s. Begins r.setting.anchors s b y) (λ earlier s. (offers s.asked.request ≡ true) × PrintsBegun s.answer) (λ h. absurd h.began) (λ h. (refl, tt)) p;
     told = λ b y p. by_line (λ earlier s. PrintsBegunVersion r.setting.anchors s b y) (λ earlier s. Begins r.setting.anchors s b y) (λ h. absurd h.told) (λ h. begins b y (here b h.anchor) h.told) p;
     line = λ b d y p q. record { worker = (only p.j p.worker p.at).0 ∙ sym (only q.j q.worker q.at).0; place = begun_last b y p ∙ sym (begun_last d y q) };
     anchor = λ b d y p q. (begun_here b y p).0 ∙ sym (begun_here d y q).0;
-    version = λ b d y z p q. one_number y z (sym p.line_of.so.drew ∙ q.drew);
+    version = λ b d y z p q. one_number y z (sym p.so.drew ∙ q.drew);
     once = λ b d y p q. record { worker = (only p.j p.worker p.at).0 ∙ sym (only q.j q.worker q.at).0; place = told_last b y p ∙ sym (told_last d y q) };
     bounds = λ b y p. let same = (begun_here b y p).1 in let n = few in (omega arith, omega arith);
   }
@@ -305,9 +305,9 @@ module _ {X : Type 0} (r : Run X) (url : List ℕ) (m : MayBegin r url) (w : Wor
   no_item (y ∷ later) earlier s e = cc
 
   -- neither met a mark
-  met_none : (earlier : List Served) (s : Served) → IsLine earlier s → (t : Served) (before : List Served) → IsAmong earlier t before → (mark : ℕ) → t.line.request ≡ Await mark → ⊥
+  met_none : (earlier : List Served) (s : Served) → IsLine earlier s → (t : Served) (before : List Served) → IsAmong earlier t before → (mark : ℕ) → t.asked.request ≡ Await mark → ⊥
   met_none earlier s line t before among mark asked = ⊎_elim
-      (λ (h : (get ≡ s) × (put ∷ [] ≡ earlier)). each (λ past z. z.line.request ≡ Await mark → ⊥)
+      (λ (h : (get ≡ s) × (put ∷ [] ≡ earlier)). each (λ past z. z.asked.request ≡ Await mark → ⊥)
       (λ q. let k : Get url ≡ Await mark = q in cc) (λ q. let k : Put url nothing ≡ Await mark = q in cc)
       before t (two (get ∷ among.later) before t (ap (λ (z : List Served). get ∷ z) (h.1 ∙ among.split))) asked)
       (λ (h : (put ≡ s) × ([] ≡ earlier)). no_item among.later before t (h.1 ∙ among.split))
@@ -322,8 +322,8 @@ module _ {X : Type 0} (r : Run X) (url : List ℕ) (m : MayBegin r url) (w : Wor
   knew earlier s line before t (told met knows) = absurd (met_none earlier s line met.met met.between met.awaits met.mark met.asked)
 
   -- the lines
-  line_of : (P : List Served → Served → Type 0) (p : LineIn crew P) → IsLine p.line_of.earlier p.line_of.line
-  line_of P p = two p.line_of.later p.line_of.earlier p.line_of.line (sym (only p.j p.worker p.at).1 ∙ p.line_of.split)
+  line_of : (P : List Served → Served → Type 0) (p : LineIn crew P) → IsLine p.earlier p.served
+  line_of P p = two p.later p.earlier p.served (sym (only p.j p.worker p.at).1 ∙ p.split)
 
   -- before the first line nothing was known
   knew_none : (earlier : List Served) → [] ≡ earlier → (t : Served) (before : List Served) → KnewOf crew earlier t before → ⊥
@@ -331,19 +331,19 @@ module _ {X : Type 0} (r : Run X) (url : List ℕ) (m : MayBegin r url) (w : Wor
   knew_none earlier none t before (told met knows) = no_item met.awaits.later met.between met.met (none ∙ met.awaits.split)
 
   -- the line that printed that it began a version is the first one, which knew of none
-  begun_first : (P : List Served → Served → Type 0) (p : LineIn crew P) (b y : ℕ) → PrintsBegunVersion r.setting.anchors p.line_of.line b y → (s : Served) (earlier : List Served) → KnewOf crew p.line_of.earlier s earlier → ⊥
+  begun_first : (P : List Served → Served → Type 0) (p : LineIn crew P) (b y : ℕ) → PrintsBegunVersion r.setting.anchors p.served b y → (s : Served) (earlier : List Served) → KnewOf crew p.earlier s earlier → ⊥
   begun_first P p b y begun s earlier knows = ⊎_elim
-      (λ (h : (get ≡ p.line_of.line) × (put ∷ [] ≡ p.line_of.earlier)). subst (λ (z : Served). TellsBegun z.line.request z.answer y) (sym h.0) begun.told)
-      (λ (h : (put ≡ p.line_of.line) × ([] ≡ p.line_of.earlier)). knew_none p.line_of.earlier h.1 s earlier knows)
+      (λ (h : (get ≡ p.served) × (put ∷ [] ≡ p.earlier)). subst (λ (z : Served). TellsBegun z.asked.request z.answer y) (sym h.0) begun.told)
+      (λ (h : (put ≡ p.served) × ([] ≡ p.earlier)). knew_none p.earlier h.1 s earlier knows)
       (line_of P p)
 
   order : AreInOrder r crew
   order = record {
-    opening = λ b small p. not_above (opening_epoch r.setting b) (let d = m.drawn b small in omega arith) p.line_of.earlier p.line_of.line (line_of (λ earlier t. IsAt r.setting.anchors earlier t b) p);
+    opening = λ b small p. not_above (opening_epoch r.setting b) (let d = m.drawn b small in omega arith) p.earlier p.served (line_of (λ earlier t. IsAt r.setting.anchors earlier t b) p);
     known = λ b e s earlier p knows counts.
         let line = line_of (λ before t. IsAt r.setting.anchors before t b) p in
-        not_above e (counted e s earlier (knew p.line_of.earlier p.line_of.line line earlier s knows) counts.counts) p.line_of.earlier p.line_of.line line;
-    begun = λ b y e s earlier p knows counts. absurd (begun_first (λ before t. PrintsBegunVersion r.setting.anchors t b y) p b y p.line_of.so s earlier knows);
+        not_above e (counted e s earlier (knew p.earlier p.served line earlier s knows) counts.counts) p.earlier p.served line;
+    begun = λ b y e s earlier p knows counts. absurd (begun_first (λ before t. PrintsBegunVersion r.setting.anchors t b y) p b y p.so s earlier knows);
   }
 
   no_part : (y : ℕ) → LineIn crew (λ before t. PrintsPart t y) → ⊥

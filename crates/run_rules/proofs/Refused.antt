@@ -35,7 +35,7 @@ module _ {X : Type 0} (crew : List (Worker X)) (held : Word) (printed : map (λ 
   busy = answer.Busy held held
 
   refused : (n : ℕ) (served later earlier : List Served) (s : Served) → printed_by served ≡ (n, busy) ∷ [] → served ≡ later ++ s ∷ earlier → s.answer ≡ busy
-  refused n served later earlier s is split = let l = one_line served n busy is in ap Served.answer (sym (only l.line later earlier s (sym l.is ∙ split))) ∙ l.answer_is
+  refused n served later earlier s is split = let l = one_line served n busy is in ap Served.answer (sym (only l.served later earlier s (sym l.is ∙ split))) ∙ l.answer_is
 
   by_place : (j : ℕ) (w : Worker X) → get_elem? crew j ≡ some w → (later earlier : List Served) (s : Served) → w.served ≡ later ++ s ∷ earlier → s.answer ≡ busy
   by_place j w at later earlier s split = at_index j (ap (λ (l : List (List (ℕ × Answer))). get_elem? l j) (sym printed) ∙ mapped (λ (w : Worker X). printed_by w.served) crew j w at)
@@ -45,8 +45,8 @@ module _ {X : Type 0} (crew : List (Worker X)) (held : Word) (printed : map (λ 
       at_index (suc zero) e = refused 2 w.served later earlier s (sym (some-injective ((2, busy) ∷ []) (printed_by w.served) e)) split
       at_index (suc (suc k)) e = absurd (some-ne-none (printed_by w.served) (sym e))
 
-  pub all_refused : (p : LineIn crew Any) → p.line_of.line.answer ≡ answer.Busy held held
-  all_refused p = by_place p.j p.worker p.at p.line_of.later p.line_of.earlier p.line_of.line p.line_of.split
+  pub all_refused : (p : LineIn crew Any) → p.served.answer ≡ answer.Busy held held
+  all_refused p = by_place p.j p.worker p.at p.later p.earlier p.served p.split
 
 -- the first worker's line is at the anchor of its URL
 pub at_home : {X : Type 0} (r : Run X) (crew : List (Worker X)) (url : List ℕ) (body other : Body) (held : Word)
@@ -57,11 +57,15 @@ at_home {X} r crew url body other held serves printed =
     let w = image (λ (w : Worker X). printed_by w.served) crew 0 ((1, answer.Busy held held) ∷ []) (ap (λ (l : List (List (ℕ × Answer))). get_elem? l 0) printed) in
     let l = one_line w.item.served 1 (answer.Busy held held) w.is in
     let line : Line = record { worker = 1; number = 1; request = Put url body } in
-    let lines : l.line.line ∷ [] ≡ line ∷ [] = sym (ap in_order l.is) ∙ serves 0 w.item w.at in
-    let one : l.line.line ≡ line = cc in
+    let lines : l.served.asked ∷ [] ≡ line ∷ [] = sym (ap in_order l.is) ∙ serves 0 w.item w.at in
+    let one : l.served.asked ≡ line = cc in
     record {
       j = 0;
       worker = w.item;
       at = w.at;
-      line_of = record { later = []; line = l.line; earlier = []; split = l.is; so = record { url = url; named_is = ap (λ (z : Line). url_at [] z.request) one; anchor = refl } };
+      later = [];
+      served = l.served;
+      earlier = [];
+      split = l.is;
+      so = record { url = url; named_is = ap (λ (z : Line). url_at [] z.request) one; anchor = refl };
     }

@@ -36,17 +36,17 @@ of_filter p (l ∷ lines) line h = by_test (p l) h (of_filter p lines line)
     by_test false g rest = Contains-append_right (l ∷ []) lines line (rest g)
 
 -- a line that was served is among those that were
-among : (served later earlier : List Served) (s : Served) → served ≡ later ++ s ∷ earlier → Contains (in_order served) s.line
+among : (served later earlier : List Served) (s : Served) → served ≡ later ++ s ∷ earlier → Contains (in_order served) s.asked
 among [] [] earlier s e = absurd cc
 among [] (x ∷ later) earlier s e = absurd cc
 among (y ∷ served) [] earlier s e = let here : y ≡ s = cc in
-    Contains-append_right (in_order served) (y.line ∷ []) s.line (0, omega arith, ap Served.line here)
-among (y ∷ served) (x ∷ later) earlier s e = in_front s.line (in_order served) (y.line ∷ []) (among served later earlier s cc)
+    Contains-append_right (in_order served) (y.asked ∷ []) s.asked (0, omega arith, ap Served.asked here)
+among (y ∷ served) (x ∷ later) earlier s e = in_front s.asked (in_order served) (y.asked ∷ []) (among served later earlier s cc)
 
 -- a line of a worker is one of the script
-pub in_script : {X : Type 0} (script : List Line) (crew : List (Worker X)) (P : List Served → Served → Type 0) → ServesScript script crew → (p : LineIn crew P) → Contains script p.line_of.line.line
-in_script script crew P serves p = of_filter (λ l. l.worker == p.j + 1) script p.line_of.line.line
-    (subst (λ ls. Contains ls p.line_of.line.line) (serves p.j p.worker p.at) (among p.worker.served p.line_of.later p.line_of.earlier p.line_of.line p.line_of.split))
+pub in_script : {X : Type 0} (script : List Line) (crew : List (Worker X)) (P : List Served → Served → Type 0) → ServesScript script crew → (p : LineIn crew P) → Contains script p.served.asked
+in_script script crew P serves p = of_filter (λ l. l.worker == p.j + 1) script p.served.asked
+    (subst (λ ls. Contains ls p.served.asked) (serves p.j p.worker p.at) (among p.worker.served p.later p.earlier p.served p.split))
 
 -- a request that offers a body, and names this URL, offers it under the URL
 pub offer_of : (request : Request) (url : List ℕ) → offers request ≡ true → url_in request ≡ Some url → (body : Body) × Offers request url body
@@ -57,9 +57,9 @@ offer_of _ url is named = absurd cc
 
 -- so the script offers it
 pub offered : {X : Type 0} (script : List Line) (crew : List (Worker X)) (P : List Served → Served → Type 0) → ServesScript script crew → (p : LineIn crew P) → (url : List ℕ) (body : Body)
-    → Offers p.line_of.line.line.request url body → IsOffered script url (bytes_of body)
+    → Offers p.served.asked.request url body → IsOffered script url (bytes_of body)
 offered script crew P serves p url body offers = record {
-  line = p.line_of.line.line;
+  line = p.served.asked;
   among = in_script script crew P serves p;
   made = body;
   offers = offers;

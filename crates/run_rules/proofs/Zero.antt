@@ -44,7 +44,7 @@ module _ {X : Type 0} (r : Run X) (slot anchors : ℕ) (images : List (List ℕ)
   zero_empty a e p none = rules.epochs.empty a e p (omega arith) nothing
     where
       below : a < anchors
-      below = let at = p.line_of.so.at in subst (λ n. n < anchors) (sym (at.anchor ∙ ap (λ n. anchor_of (key_of at.url) n) same)) (anchor_below (key_of at.url) anchors some_anchor)
+      below = let at = p.so.at in subst (λ n. n < anchors) (sym (at.anchor ∙ ap (λ n. anchor_of (key_of at.url) n) same)) (anchor_below (key_of at.url) anchors some_anchor)
 
       nothing : stage_of (opening_epoch r.setting a) ≡ 0
       nothing = ⊎_elim
@@ -53,17 +53,17 @@ module _ {X : Type 0} (r : Run X) (slot anchors : ℕ) (images : List (List ℕ)
           (began.each a below)
 
 -- The one line of a worker that printed one answer.
-pub record OneLine (served : List Served) (a : Answer) : Type 0 where
-  pub line : Served
-  pub is : served ≡ line ∷ []
-  pub answer_is : line.answer ≡ a
+pub record OneLine (lines : List Served) (a : Answer) : Type 0 where
+  pub served : Served
+  pub is : lines ≡ served ∷ []
+  pub answer_is : served.answer ≡ a
 
 pub one_line : (served : List Served) (n : ℕ) (a : Answer) → printed_by served ≡ (n, a) ∷ [] → OneLine served a
 one_line [] n a e = absurd (let long = ap length e in omega arith)
-one_line (s ∷ []) n a e = let one : (s.line.number, s.answer) ≡ (n, a) = cc in record { line = s; is = refl; answer_is = ap (λ (p : ℕ × Answer). p.1) one }
+one_line (s ∷ []) n a e = let one : (s.asked.number, s.answer) ≡ (n, a) = cc in record { served = s; is = refl; answer_is = ap (λ (p : ℕ × Answer). p.1) one }
 one_line (s ∷ t ∷ rest) n a e =
-    let inner = length-append (printed_by rest) ((t.line.number, t.answer) ∷ []) in
-    let outer = length-append (printed_by rest ++ (t.line.number, t.answer) ∷ []) ((s.line.number, s.answer) ∷ []) in
+    let inner = length-append (printed_by rest) ((t.asked.number, t.answer) ∷ []) in
+    let outer = length-append (printed_by rest ++ (t.asked.number, t.answer) ∷ []) ((s.asked.number, s.answer) ∷ []) in
     let long = ap length e in
     absurd (omega arith)
 
@@ -76,23 +76,21 @@ module _ {X : Type 0} (r : Run X) (crew : List (Worker X)) (zero : (a e : ℕ) �
       let w = image (λ (w : Worker X). printed_by w.served) crew 0 ((1, answer.Busy held held) ∷ []) (ap (λ (l : List (List (ℕ × Answer))). get_elem? l 0) printed) in
       let l = one_line w.item.served 1 (answer.Busy held held) w.is in
       let line : Line = record { worker = 1; number = 1; request = Put url body } in
-      let lines : l.line.line ∷ [] ≡ line ∷ [] = sym (ap in_order l.is) ∙ serves 0 w.item w.at in
-      let one : l.line.line ≡ line = cc in
+      let lines : l.served.asked ∷ [] ≡ line ∷ [] = sym (ap in_order l.is) ∙ serves 0 w.item w.at in
+      let one : l.served.asked ≡ line = cc in
       let e : ℕ = epoch_number held.epoch in
       let empty = zero (anchor_of (key_of url) r.setting.anchors) e
       (record {
         j = 0;
         worker = w.item;
         at = w.at;
-        line_of = record {
-          later = [];
-          line = l.line;
-          earlier = [];
-          split = l.is;
-          so = record {
-            at = record { url = url; named_is = ap (λ (z : Line). url_at [] z.request) one; anchor = refl };
-            shown = subst (λ (z : List ℕ). Contains z e) (sym (ap (epochs_of l.line.opened l.line.looked) l.answer_is)) (0, omega arith, refl);
-          };
+        later = [];
+        served = l.served;
+        earlier = [];
+        split = l.is;
+        so = record {
+          at = record { url = url; named_is = ap (λ (z : Line). url_at [] z.request) one; anchor = refl };
+          shown = subst (λ (z : List ℕ). Contains z e) (sym (ap (epochs_of l.served.opened l.served.looked) l.answer_is)) (0, omega arith, refl);
         };
       })
       (version_of-epoch_number held.epoch ∙ ap (λ (z : Epoch). z.version) of) in

@@ -1,12 +1,14 @@
 -- The words of the anchors at the end of a run, when all lines had been served and the store was closed. They are not printed.
 use Rattle.std.specs.Prelude.{List, ◌<◌, ◌≡◌, ◌≤◌, ◌⊎◌, ℕ}
-use Rattle.lock_word.specs.Words.{doom_of, epoch_of, stage_of, version_of}
+use Rattle.lock_word.specs.Words.{epoch_of, stage_of, version_of}
 use Rattle.core_model.specs.Anchors.{opening_counter, opening_epoch}
 use Rattle.core_model.specs.Holders.{IsFinished}
 use Rattle.core_model.specs.Versions.{Leads}
 use Rattle.line_account.specs.Answers.{Run}
 use Rattle.line_account.specs.Closing.{BegunIn, PurgedIn, ShownIn, StoredIn, Worker}
 use Rattle.line_account.specs.Printed.{GivenBackIn, HadEntry}
+use Rattle.lock_word.specs.declared.stage.Stage.TheVariants.{Closed, Freeing, Gone}
+use Rattle.line_account.specs.EpochNames.{IsAtStage, IsDoomed, IsFromStage, IsUndoomed}
 
 module _ {X : Type 0} (r : Run X) (crew : List (Worker X)) (last : ℕ → ℕ) where
   -- what stood at the anchor: an epoch, its version and its stage
@@ -30,14 +32,14 @@ module _ {X : Type 0} (r : Run X) (crew : List (Worker X)) (last : ℕ → ℕ) 
     -- A version of the opening is the one that the anchor had then, at the stage that it had, or given back.
     pub old : (a : ℕ) → a < r.setting.anchors → last_version a ≤ opening_counter r.setting
         → (last_version a ≡ version_of (opening_epoch r.setting a))
-        × ((last_stage a ≡ stage_of (opening_epoch r.setting a)) ⊎ ((5 ≤ last_stage a) × HadEntry r a))
+        × ((last_stage a ≡ stage_of (opening_epoch r.setting a)) ⊎ (IsFromStage Freeing (last_epoch a) × HadEntry r a))
     -- A later one was begun there by a line.
     pub new : (a : ℕ) → a < r.setting.anchors → opening_counter r.setting < last_version a → BegunIn r crew a (last_version a)
     -- It is at CLOSED only where a line of its writing printed STORED.
-    pub stored : (a : ℕ) → a < r.setting.anchors → opening_counter r.setting < last_version a → last_stage a ≡ 3
+    pub stored : (a : ℕ) → a < r.setting.anchors → opening_counter r.setting < last_version a → IsAtStage Closed (last_epoch a)
         → StoredIn r crew a (last_version a)
     -- A doomed one was purged by a line.
-    pub purged : (a : ℕ) → a < r.setting.anchors → doom_of (last_epoch a) ≡ 1 → PurgedIn r crew a (last_version a)
+    pub purged : (a : ℕ) → a < r.setting.anchors → IsDoomed (last_epoch a) → PurgedIn r crew a (last_version a)
     -- One at GONE that is not doomed was given up in its writing, or it was whole and some line may have evicted it.
-    pub given_back : (a : ℕ) → a < r.setting.anchors → last_stage a ≡ 6 → doom_of (last_epoch a) ≡ 0
+    pub given_back : (a : ℕ) → a < r.setting.anchors → IsAtStage Gone (last_epoch a) → IsUndoomed (last_epoch a)
         → GivenBackIn r crew a (last_version a)

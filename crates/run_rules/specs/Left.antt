@@ -18,9 +18,11 @@ images_of slot was = map (λ c. c.now) (slots_cut slot (bytes_of was))
 pub record IsGivenBack (before after : Files) (name : List ℕ) (slot : ℕ) (script : List Line) : Type 0 where
   -- The file as it was before.
   pub was : File
+  -- It was in.
   pub there : get before name ≡ Some was
   -- Its slots have cells again, as many as they were and as wide.
   pub cells : List CellState
+  -- They are as wide as opening cuts them.
   pub shapes : map shape cells ≡ shapes_from 0 (slots_of (length (bytes_of was)) slot) slot
   -- These are in the file. Its header area and what is behind its slots are as opening cuts them, and the other files are as they were.
   pub back : after ≡ insert before name (Home (header_cut (bytes_of was)) cells (rest_cut slot (bytes_of was)))

@@ -51,15 +51,20 @@ pub record IsAnsweredPlainly (files left : Files) (name : List ℕ) (slot anchor
     (answers : List (List (ℕ × Answer))) : Type 0 where
   -- The store is opened on the file.
   pub images : List (List ℕ)
+  -- These are the images of the file's slots.
   pub file : HasImages files name slot images
+  -- This is the store
   pub plain : Plain
+  -- that is opened on them.
   pub opened : IsOpened slot images anchors plain
   -- It has these answers to the lines, each with the line's number.
   pub answered : answers
       ≡ numbered (lines_for 1 script) (answers_of (setting_over slot anchors (length images)) script 1 plain) ∷ []
   -- The file that was given back has each entry that is whole in what the lines leave of the store.
   pub back : List (List ℕ)
+  -- The file is back, and a read of its cells gives these images.
   pub given_back : HasCells left name back
+  -- Each entry that is whole is complete in them.
   pub entries : HoldsWhole slot anchors back (left_of slot anchors (length images) script plain)
   -- A rebuild of it keeps each of them that is not doomed,
   pub kept : KeepsWhole slot anchors back (left_of slot anchors (length images) script plain) (λ e. Unit {0})

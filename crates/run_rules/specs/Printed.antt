@@ -42,13 +42,14 @@ module _ {X : Type 0} (r : Run X) (slot anchors : ℕ) (images : List (List ℕ)
     pub hit : (a x : ℕ) (url bytes : List ℕ) → HitIn r crew a x url bytes → IsResponse slot images script url bytes
     -- and with a version of the opening they are those of the file's winner at the anchor
     pub hit_old : (a x : ℕ) (url bytes : List ℕ) → HitIn r crew a x url bytes → x ≤ opening_counter r.setting → IsOfWinner a url bytes
-    -- the bytes of each PART, HALTED and FAULT of a `get`, and all that the `more` lines of a tab gave since its `open`, are the first ones of one stored response under the URL, and all
-    -- of it where HIT or END came. A FAULT before a slot was read gives no byte, and nothing is said of it.
+    -- the bytes of each PART, HALTED and FAULT of a `get`, and all that the `more` lines of a tab gave since its `open`, are the first ones
+    -- of one stored response under the URL, and all of it where HIT or END came. A FAULT before a slot was read gives no byte, and nothing
+    -- is said of it.
     pub bytes : (first : Served) (url : List ℕ) → (p : LineIn crew (λ earlier s. ReadsOf earlier s first url))
-        → IsFrontOf slot images script p.line_of.line.answer url (bytes_with p.line_of.earlier p.line_of.line)
+        → IsFrontOf slot images script p.served.answer url (bytes_with p.earlier p.served)
     -- where the tab was opened with a version of the opening they are those of the file's winner at the anchor
     pub tab_old : (a x : ℕ) → (p : LineIn crew (λ earlier s. ReadsOn r.setting.anchors earlier s a x)) → x ≤ opening_counter r.setting
-        → IsFrontOfWinner a p.line_of.line.answer (bytes_with p.line_of.earlier p.line_of.line)
+        → IsFrontOfWinner a p.served.answer (bytes_with p.earlier p.served)
     -- OTHERURL comes only where another URL of the file or of the script has the key of the URL
     pub other : (url : List ℕ) → LineIn crew (λ earlier s. PrintsOther earlier s url) → HasTwin slot images script url
 

@@ -16,6 +16,7 @@ pub record WasServed (tells : Bool) (before after : Files) (name : List ℕ) (sl
   pub explained : IsExplained tells before name slot anchors workers script answers counts_before counts_after
   -- So are the words at which the anchors stood at last.
   pub last : ℕ → ℕ
+  -- They are explained by the same workers.
   pub last_words : AreLastWords explained.run explained.crew last
   -- The file was given back. It has the entries that stood closed in these words, and a crash leaves those of them that last.
   pub left : IsTrue tells → LeavesStanding before after name slot anchors script answers last

@@ -3,7 +3,7 @@
 use Rattle.std.specs.Prelude.{◌-◌, ◌<◌, ◌≡◌, ◌⊎◌, ℕ, Contains, List, Some, false, map}
 use mathlib.Core.Option.{some}
 use lib.ListN.{get_elem?}
-use Rattle.lock_word.specs.Words.{doom_of, epoch_of, stage_of, version_of}
+use Rattle.lock_word.specs.Words.{epoch_of, version_of}
 use Rattle.store_key.specs.Anchor.{anchor_of}
 use Rattle.store_key.specs.Key.{key_of}
 use Rattle.rock_disk.specs.Cell.{CellState}
@@ -24,6 +24,8 @@ use Rattle.plain_model.specs.Store.{entry_at, place_at}
 use Rattle.crew_accounts.specs.Saved.{IsSave}
 use Rattle.run_rules.specs.Left.{IsGivenBack, images_of}
 use Rattle.run_rules.specs.Responses.{IsOffered}
+use Rattle.lock_word.specs.declared.stage.Stage.TheVariants.{Closed}
+use Rattle.line_account.specs.EpochNames.{IsAtStage, IsUndoomed}
 
 -- a rebuild of these images keeps an entry at the anchor, with this version, URL and body
 pub record KeepsAt (slot anchors : ℕ) (images : List (List ℕ)) (a version : ℕ) (url body : List ℕ) : Type 0 where
@@ -35,8 +37,8 @@ pub record KeepsAt (slot anchors : ℕ) (images : List (List ℕ)) (a version : 
 
 -- an anchor with this word has a closed entry that is not doomed
 pub record IsClosedWord (w : ℕ) : Type 0 where
-  pub stage : stage_of (epoch_of w) ≡ 3
-  pub undoomed : doom_of (epoch_of w) ≡ 0
+  pub stage : IsAtStage Closed (epoch_of w)
+  pub undoomed : IsUndoomed (epoch_of w)
 
 -- the line was answered so
 pub record IsAnswered (answers : List (List (ℕ × Answer))) (line : Line) (answer : Answer) : Type 0 where
@@ -79,7 +81,7 @@ pub record LeavesStanding (before after : Files) (name : List ℕ) (slot anchors
   pub saved : (line : Line) (url : List ℕ) (body : Body) (version : ℕ) → Contains script line → line.request ≡ Save url body
       → IsAnswered answers line (Stored version)
       → version_of (epoch_of (last (anchor_of (key_of url) anchors))) ≡ version
-      → stage_of (epoch_of (last (anchor_of (key_of url) anchors))) ≡ 3
+      → IsAtStage Closed (epoch_of (last (anchor_of (key_of url) anchors)))
       → (crashed : List (List ℕ)) → IsCrashImage file.cells crashed
       → KeepsAt slot anchors crashed (anchor_of (key_of url) anchors) version url (bytes_of body)
 

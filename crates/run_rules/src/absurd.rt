@@ -26,7 +26,8 @@ pub fn no_fault_comes_of_no_call()
 
 /// A lone worker's `put` printed BUSY 0.5/0 0.5/0: no entry has version 0, so none of this version is given back (`zero` of `IsExplained`).
 pub fn no_entry_has_version_0()
-    ensures { (tells : Bool) (files : Files) (name : List ℕ) (slot anchors : ℕ) (url : List ℕ) (body : Body) (held : Word) (before after : Counts)
+    ensures { (tells : Bool) (files : Files) (name : List ℕ) (slot anchors : ℕ) (url : List ℕ) (body : Body) (held : Word)
+        (before after : Counts)
         → IsExplained tells files name slot anchors 1 (record { worker = 1; number = 1; request = Request.Put url body } ∷ [])
         (((1, Answer.Busy held held) ∷ []) ∷ []) before after
         → held.epoch ≡ record { version = 0; stage = stage.Freeing; doom = false } → ⊥ }
@@ -35,9 +36,11 @@ pub fn no_entry_has_version_0()
 /// Two workers' `put` of a URL printed BUSY with the same words, those of an entry at FREEING that is not doomed and that nobody reads, as
 /// the file's winner would be while it is evicted: no line came so far that it could evict (`rules.epochs.given_back`).
 pub fn no_winner_is_freed_by_refusals()
-    ensures { (tells : Bool) (files : Files) (name : List ℕ) (slot anchors x : ℕ) (url : List ℕ) (body other : Body) (held : Word) (before after : Counts)
+    ensures { (tells : Bool) (files : Files) (name : List ℕ) (slot anchors x : ℕ) (url : List ℕ) (body other : Body) (held : Word)
+        (before after : Counts)
         → IsExplained tells files name slot anchors 2
-        (record { worker = 1; number = 1; request = Request.Put url body } ∷ record { worker = 2; number = 2; request = Request.Put url other } ∷ [])
+        (record { worker = 1; number = 1; request = Request.Put url body }
+        ∷ record { worker = 2; number = 2; request = Request.Put url other } ∷ [])
         (((1, Answer.Busy held held) ∷ []) ∷ ((2, Answer.Busy held held) ∷ []) ∷ []) before after
         → held.epoch ≡ record { version = x; stage = stage.Freeing; doom = false } → ⊥ }
 {

@@ -12,10 +12,12 @@ ghost use Rattle.run_rules.specs.Runs.{IsExplained};
 /// of the opening has the keys of the file's winners (`keys`). The rules say it by the offers of the opening and by the lines that began
 /// versions; this law joins them with the opening (`began`) and the script (`serves`).
 pub fn explained_lines_are_responses()
-    ensures responses { (tells : Bool) (files : Files) (name : List ℕ) (slot anchors workers : ℕ) (script : List Line) (answers : List (List (ℕ × Answer))) (before after : Counts)
+    ensures responses { (tells : Bool) (files : Files) (name : List ℕ) (slot anchors workers : ℕ) (script : List Line)
+        (answers : List (List (ℕ × Answer))) (before after : Counts)
         → 0 < anchors → (e : IsExplained tells files name slot anchors workers script answers before after)
         → IsTrue tells → AreResponses e.run slot anchors e.images script e.crew }
-    ensures keys { (tells : Bool) (files : Files) (name : List ℕ) (slot anchors workers : ℕ) (script : List Line) (answers : List (List (ℕ × Answer))) (before after : Counts)
+    ensures keys { (tells : Bool) (files : Files) (name : List ℕ) (slot anchors workers : ℕ) (script : List Line)
+        (answers : List (List (ℕ × Answer))) (before after : Counts)
         → 0 < anchors → (e : IsExplained tells files name slot anchors workers script answers before after)
         → AreKeysOfWinners e.run slot anchors e.images script e.crew }
 {}

@@ -33,9 +33,12 @@ use rock_run::ScriptOrigin;
 /// for each line of the script, the lines keep all rules, and their URLs, bodies and keys are those of the file and of the
 /// script. The words at which the anchors stood at last are explained too. The size of a slot has 32 bits.
 pub fn runs_keep_the_rules<C: Cell, St: Station<C = C>>()
-    ensures { (tells : Bool) (files left : Files) (name : List ℕ) (slot anchors workers : ℕ) (script : List Line) (answers : List (List (ℕ × Answer))) (before after : Counts)
-        → slot < 4294967296 → (ran : HasRun tells C.tells C.state files left name slot anchors workers script St.faults answers before after)
-        → (e : IsExplained tells files name slot anchors workers script answers before after) × AreLastWords e.run e.crew (word ran.closed.closed.gathered.state) }
+    ensures { (tells : Bool) (files left : Files) (name : List ℕ) (slot anchors workers : ℕ) (script : List Line)
+        (answers : List (List (ℕ × Answer))) (before after : Counts)
+        → slot < 4294967296
+        → (ran : HasRun tells C.tells C.state files left name slot anchors workers script St.faults answers before after)
+        → (e : IsExplained tells files name slot anchors workers script answers before after)
+        × AreLastWords e.run e.crew (word ran.closed.closed.gathered.state) }
 {
     crews_are_closed::<C, ScriptOrigin, St>();
     faults_are_counted::<C, ScriptOrigin, St>();
@@ -50,10 +53,13 @@ pub fn runs_keep_the_rules<C: Cell, St: Station<C = C>>()
 /// it. When the store was closed, each anchor had the word of that. Each line of the script has the number behind its
 /// place.
 pub fn lone_runs_are_answered_plainly<C: Cell, St: Station<C = C>>()
-    ensures { (tells : Bool) (files left : Files) (name : List ℕ) (slot anchors workers : ℕ) (script : List Line) (answers : List (List (ℕ × Answer))) (before after : Counts)
-        → IsSlotSize slot → AreInOrder script → (ran : HasRun tells C.tells C.state files left name slot anchors workers script St.faults answers before after)
+    ensures { (tells : Bool) (files left : Files) (name : List ℕ) (slot anchors workers : ℕ) (script : List Line)
+        (answers : List (List (ℕ × Answer))) (before after : Counts)
+        → IsSlotSize slot → AreInOrder script
+        → (ran : HasRun tells C.tells C.state files left name slot anchors workers script St.faults answers before after)
         → workers ≡ 1 → IsTrue tells → NoneFailedServing before after
-        → (plainly : IsAnsweredPlainly files left name slot anchors script answers) × EndedPlainly (word ran.closed.closed.gathered.state) plainly }
+        → (plainly : IsAnsweredPlainly files left name slot anchors script answers)
+        × EndedPlainly (word ran.closed.closed.gathered.state) plainly }
 {
     new_passes_show_plain_stores::<C, ScriptOrigin>();
     lone_runs_are_plain::<C, ScriptOrigin, St>();
@@ -75,7 +81,8 @@ pub fn read_lines_are_numbered()
 /// Each line of a script has one answer in a run that came to its end, where each line is for one of the workers: there are
 /// as many answers as lines.
 pub fn each_line_has_one_answer<C: Cell, St: Station<C = C>>()
-    ensures { (tells : Bool) (files left : Files) (name : List ℕ) (slot anchors workers : ℕ) (script : List Line) (answers : List (List (ℕ × Answer))) (before after : Counts)
+    ensures { (tells : Bool) (files left : Files) (name : List ℕ) (slot anchors workers : ℕ) (script : List Line)
+        (answers : List (List (ℕ × Answer))) (before after : Counts)
         → ((line : Line) → Contains script line → (1 ≤ line.worker) × (line.worker ≤ workers))
         → HasRun tells C.tells C.state files left name slot anchors workers script St.faults answers before after
         → sum_by (λ mine. length mine) answers ≡ length script }

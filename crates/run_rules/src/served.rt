@@ -17,8 +17,10 @@ use rock_disk::{Cell, Station};
 /// the script was served, its answers and the last words of the anchors are explained, and the file was given back with
 /// what stood at last. Each line of the script has the number behind its place.
 pub fn finished_runs_were_served<C: Cell, St: Station<C = C>>()
-    ensures { (tells : Bool) (files left : Files) (name : List ℕ) (slot anchors workers : ℕ) (script : List Line) (answers : List (List (ℕ × Answer))) (before after : Counts)
-        → IsSlotSize slot → AreInOrder script → HasRun tells C.tells C.state files left name slot anchors workers script St.faults answers before after
+    ensures { (tells : Bool) (files left : Files) (name : List ℕ) (slot anchors workers : ℕ) (script : List Line)
+        (answers : List (List (ℕ × Answer))) (before after : Counts)
+        → IsSlotSize slot → AreInOrder script
+        → HasRun tells C.tells C.state files left name slot anchors workers script St.faults answers before after
         → WasServed tells files left name slot anchors workers script answers before after }
 {
     runs_keep_the_rules::<C, St>();

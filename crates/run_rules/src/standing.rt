@@ -21,8 +21,10 @@ use rock_run::ScriptOrigin;
 /// that a crash may leave of the cells, where the file had it or the line is a `save`, and of what a `save` line was
 /// answered STORED for, wherever the version stands closed.
 pub fn runs_leave_standing<C: Cell, St: Station<C = C>>()
-    ensures { (tells : Bool) (files left : Files) (name : List ℕ) (slot anchors workers : ℕ) (script : List Line) (answers : List (List (ℕ × Answer))) (before after : Counts)
-        → IsSlotSize slot → AreInOrder script → (ran : HasRun tells C.tells C.state files left name slot anchors workers script St.faults answers before after) → IsTrue tells
+    ensures { (tells : Bool) (files left : Files) (name : List ℕ) (slot anchors workers : ℕ) (script : List Line)
+        (answers : List (List (ℕ × Answer))) (before after : Counts)
+        → IsSlotSize slot → AreInOrder script
+        → (ran : HasRun tells C.tells C.state files left name slot anchors workers script St.faults answers before after) → IsTrue tells
         → LeavesStanding files left name slot anchors script answers (word ran.closed.closed.gathered.state) }
 {
     closed_cells_leave_responses::<C, ScriptOrigin>();

@@ -11,7 +11,7 @@ pub returns-clause-version : goal.returns-clause-version
 returns-clause-version c start anchors s a b x y p q = begun_alone anchors s a b x y p q
 
 pub returns-clause-printed : goal.returns-clause-printed
-returns-clause-printed c start anchors s a x p = began_prints s.line.request s.answer x p.began
+returns-clause-printed c start anchors s a x p = began_prints s.asked.request s.answer x p.began
 
 pub returns-clause-told : goal.returns-clause-told
 returns-clause-told c start r crew a x closed p = told_begun r crew closed a x p

@@ -34,11 +34,11 @@ returns g c r script crew closed serves have = record {
     found_new = λ a x url p high. c.entries_found_were_there.ensures.new r crew a x url closed p high;
   };
   versions = record {
-    printed = λ a x p. c.versions_are_begun_by_one_line.ensures.printed r.setting.anchors p.line_of.line a x p.line_of.so;
+    printed = λ a x p. c.versions_are_begun_by_one_line.ensures.printed r.setting.anchors p.served a x p.so;
     told = λ a x p. c.versions_are_begun_by_one_line.ensures.told r crew a x closed p;
     line = λ a b x p q. c.versions_are_begun_by_one_line.ensures.line r crew a b x closed p q;
     anchor = λ a b x p q. c.versions_are_begun_by_one_line.ensures.anchor r crew a b x closed p q;
-    version = λ a b x y p q. c.versions_are_begun_by_one_line.ensures.version r.setting.anchors p.line_of.line a b x y p.line_of.so q;
+    version = λ a b x y p q. c.versions_are_begun_by_one_line.ensures.version r.setting.anchors p.served a b x y p.so q;
     once = λ a b x p q. c.versions_are_begun_by_one_line.ensures.once r crew a b x closed p q;
     bounds = λ a x p. ((c.begun_versions_have_bounds.ensures r crew a x closed p).0, c.scripts_bound_what_is_offered.ensures.versions r script crew a x closed serves p);
   };
