@@ -28,6 +28,7 @@ module _ {C O : Type 0} (tells : Bool) (state : C → CellState) (offers : O →
       goes_on = r.goes_on;
       is = leaves.others j ne (far j r.below) ∙ r.is;
       from = r.from;
+      needed = r.needed;
       fits = r.fits;
     };
     drafts = let d = h.drafts in let same = leaves.desks j ne (far j h.rests.below) in record {

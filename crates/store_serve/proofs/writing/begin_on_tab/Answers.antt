@@ -1,9 +1,11 @@
 use Rattle.std.proofs.Common.{ap, arith, inl, refl, subst, sym, ◌∙◌, ◌≡◌}
-use Rattle.std.specs.Prelude.{Err, Ok, OnErr, Result}
+use Rattle.std.specs.Prelude.{Err, Ok, OnErr, Result, false, ℕ}
 use Rattle.core_model.specs.Tabs.{inner}
 use Rattle.plain_model.specs.Serving.{bytes_of}
 use Rattle.store_rule.specs.Passes.{view}
-use Rattle.store_serve.specs.Answers.{answer_to_begin}
+use Rattle.rock_writer.specs.declared.fault.BeginFault.{BeginFault}
+use Rattle.rock_writer.specs.declared.fault.BeginFault.TheVariants.{Busy, LongUrl, Spent}
+use Rattle.store_serve.specs.Answers.{answer_to_begin, is_fault}
 use Rattle.store_serve.specs.Tabs.{Holds, IsFree}
 use Rattle.store_serve.specs.declared.tabs.ScriptTab.{ScriptTab}
 use Rattle.store_serve.specs.declared.tabs.Told.{Told}
@@ -16,6 +18,13 @@ use Rattle.store_serve.proofs.writing.begin_on_tab.Goals.{in-Ok, in-Err+in-Text-
 on_err : {T E : Type 0} {W Z : Type 0} (r : Result T E) → (W → Z) → OnErr r W → OnErr r Z
 on_err (Ok x) f w = tt
 on_err (Err x) f w = f w
+
+-- no answer to a beginning tells a fault
+no_fault : (r : Result ℕ BeginFault) → is_fault (answer_to_begin r) ≡ false
+no_fault (Ok version) = refl
+no_fault (Err LongUrl) = refl
+no_fault (Err (Busy looked found)) = refl
+no_fault (Err (Spent versions)) = refl
 
 module _ (g : Rattle.store_serve.proofs.writing.begin_on_tab.Given.Over) (c : goal.Joined-begin g) where
   was_free : IsFree c.args.pass.now c.args.tab
@@ -37,6 +46,9 @@ returns-clause-leaves g c = let p = c.args.pass.now in let q = c.begin.new.pass 
     (either_on c.begin.result (λ version h. h.writes.rests.inner_free) (λ same. inner_stays (view p) (view q) (same_tabs (view p) (view q) same inner) c.requires.ready.inner_free) c.begin.ensures.ok c.begin.ensures.tabs)
     (either_way c.begin.result (λ version h. c.writing_grows.ensures.began c.args.store.now c.args.tab c.args.offer version c.args.url.now _ p q h) (λ fault h. c.writing_grows.ensures.not_taken _ _ _ (view p) (view q) fault h)
     c.begin.ensures.ok c.begin.ensures.err)
+
+pub returns-clause-no_fault : goal.returns-clause-no_fault
+returns-clause-no_fault g c = ap is_fault (answered g c) ∙ no_fault c.begin.result
 
 pub returns-clause-served : goal.returns-clause-served
 returns-clause-served g c = record {
