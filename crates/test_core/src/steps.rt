@@ -27,7 +27,7 @@ fn script_of(alloc: Global, script: &str) -> Option<(Core, &str)> {
 #[test]
 fn steps_answer_as_their_rows_say(rt: HostRuntime) {
     assert_eq!(rt; SCRIPTS.split("\n\n").count(), 9);
-    assert_eq!(rt; SLOT_SCRIPTS.split("\n\n").count(), 8);
+    assert_eq!(rt; SLOT_SCRIPTS.split("\n\n").count(), 9);
     assert_eq!(rt; WIPING.split("\n\n").count(), 2);
     let scripts = SCRIPTS.split("\n\n").chain(SLOT_SCRIPTS.split("\n\n"));
     for script in scripts.chain(WIPING.split("\n\n")) {

@@ -119,10 +119,11 @@ fn workers_that_search_at_once_take_a_slot_each(rt: HostRuntime) {
             return;
         };
         assert_eq!(rt; searches.orders.lines().count(), count);
-        let mut last = "";
-        for order in searches.orders.lines() {
-            assert!(rt; last < order, "{order} stands behind {last}");
-            last = order;
+        let orders = searches.orders;
+        for (order, next) in orders.lines().zip(orders.lines().skip(1)) {
+            assert!(rt; order < next, "{next} stands behind {order}");
+        }
+        for order in orders.lines() {
             play_order(&rt, rt.alloc(), &searches, order);
         }
     }

@@ -372,4 +372,94 @@ map [0]
 1 0 1 0 0 = word 0 0 0
 1 0 1 1 0 = word 1 6 0
 made 14
+
+core 3 2 2
+stage an entry of the slots 0 and 1
+# Tab 0 of pass 0 writes version 1 at anchor 0, and publishes slot 0, whose link names slot 1, and slot 1.
+0 0 1 0 0 = 0
+0 0 4 0 0 = 0
+0 0 5 0 0 = 0
+0 0 6 0 1 = 0
+0 0 9 4 77 = 0
+0 0 9 5 78 = 0
+0 0 9 6 7 = 0
+0 0 10 0 0 = 0
+0 0 10 1 0 = 1
+0 0 14 0 0 = 0
+0 0 15 0 0 = 0
+0 0 17 0 0 = 0
+0 0 21 0 1 = 0
+0 0 18 0 0 = 0
+0 0 16 0 0 = 1
+0 0 12 0 3 = 0
+0 0 14 1 0 = 1
+0 0 15 1 0 = 0
+0 0 17 1 0 = 0
+0 0 21 1 1 = 0
+0 0 18 1 0 = 0
+0 0 16 1 0 = 1
+0 0 12 1 1 = 0
+0 0 9 7 1 = 0
+0 0 7 0 3 = word 1 3 0
+made 25
+stage it is evicted
+# The inner tab finds the link of slot 0, and gives both slots back.
+0 0 1 0 0 = word 1 3 0
+0 8 6 0 0 = word 1 3 0
+0 8 13 0 0 = 3
+0 8 12 0 0 = 3
+0 8 13 1 0 = 1
+0 8 12 1 0 = 1
+0 8 11 0 0 = 3
+0 8 11 1 0 = 2
+0 8 7 0 6 = word 1 6 0
+map [0]
+made 9
+stage slot 0 is named by another link
+# The tab writes version 2 at anchor 1, reserves the slots 2 and 0, and publishes slot 2 alone, whose link names slot 0.
+0 0 1 1 0 = 0
+0 0 4 0 0 = 1
+0 0 5 0 0 = 1
+0 0 6 1 2 = 0
+0 0 9 4 77 = 0
+0 0 9 5 78 = 0
+0 0 9 6 7 = 0
+0 0 10 2 0 = 0
+0 0 10 0 0 = 4
+0 0 14 2 0 = 2
+0 0 15 2 0 = 0
+0 0 17 2 0 = 0
+0 0 21 2 1 = 0
+0 0 18 2 0 = 0
+0 0 16 2 0 = 1
+0 0 12 2 2 = 0
+0 0 9 7 3 = 0
+0 0 7 0 2 = word 2 2 0
+made 18
+stage a reader comes to slot 0
+1 0 2 1 0 = word 2 2 0
+1 0 9 3 0 = 3
+1 0 13 2 0 = 2
+1 0 15 2 0 = 0
+1 0 17 2 0 = 0
+1 0 18 2 0 = 0
+1 0 16 2 1 = 1
+1 0 13 0 0 = 0
+made 8
+stage the entry is given up, and slot 0 is its tail
+# What slot 0 named in the first entry is found by nobody: neither by the reader nor by who frees the entry.
+0 0 7 0 4 = word 2 4 1
+1 0 13 0 0 = 0
+1 0 15 0 0 = refused
+1 0 3 0 0 = word 2 4 0
+1 0 6 1 0 = word 2 4 0
+1 8 13 2 0 = 2
+1 8 12 2 0 = 2
+1 8 13 0 0 = 0
+1 8 12 0 0 = 0
+1 8 11 2 0 = 5
+1 8 11 0 0 = 1
+1 8 7 0 6 = word 2 6 0
+map [0]
+made 12
 ";
