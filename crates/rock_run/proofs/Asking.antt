@@ -55,15 +55,16 @@ most_offered anchors slot a [] number r e = absurd (none_some e)
   where
     none_some : None ≡ Some r → ⊥
     none_some z = cc
-most_offered anchors slot a (x ∷ xs) number r e = by_case (x.number == number) refl
+most_offered anchors slot a (x ∷ xs) number r e = by_case (x.number == number) refl (most_offered anchors slot a xs number r)
   where
-    by_case : (b : Bool) → (x.number == number) ≡ b → taken_at anchors slot a r ≤ most_taken anchors slot a (x ∷ xs)
-    by_case true q =
+    by_case : (b : Bool) → (x.number == number) ≡ b → (offered_by xs number ≡ Some r → taken_at anchors slot a r ≤ most_taken anchors slot a xs)
+        → taken_at anchors slot a r ≤ most_taken anchors slot a (x ∷ xs)
+    by_case true q rest =
         let this : offered_by (x ∷ xs) number ≡ offered_in x.request = rw q refl in
         let takes = ap (λ (o : Option Response). option_map_or (taken_at anchors slot a) o 0) (sym this ∙ e) in omega arith
-    by_case false q =
+    by_case false q rest =
         let other : offered_by (x ∷ xs) number ≡ offered_by xs number = rw q refl in
-        let h = most_offered anchors slot a xs number r (sym other ∙ e) in omega arith
+        let h = rest (sym other ∙ e) in omega arith
 
 -- at its own anchor it takes as many slots as its content needs, and at most 4,096
 takes_here : (anchors slot : ℕ) (url : List ℕ) (body : Body) → LeavesRoom slot url
