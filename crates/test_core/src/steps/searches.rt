@@ -121,7 +121,8 @@ fn workers_that_search_at_once_take_a_slot_each(rt: HostRuntime) {
         assert_eq!(rt; searches.orders.lines().count(), count);
         let orders = searches.orders;
         for (order, next) in orders.lines().zip(orders.lines().skip(1)) {
-            assert!(rt; order < next, "{next} stands behind {order}");
+            let ascends = order < next;
+            assert!(rt; ascends);
         }
         for order in orders.lines() {
             play_order(&rt, rt.alloc(), &searches, order);
