@@ -433,10 +433,15 @@ module _ {X : Type 0} (g : Ground X) (t : ℕ) (v : View X) (x : Writer X) where
   -- In a store that fits a search begins at the first word, and at each other one it has come to the first slot.
   pub asks_look : (word : ℕ) (u : View X) → t < inner → InnerIsFree v → MayReserve x → (fits g ≡ true → MayBegin g.setting (need_of g) x) → AtWord word u → word < map_words g.setting.slots → Asks g u (LookMap t word)
   asks_look word u writes free may needed h inside fitting = dite (ℕ_discrete word 0)
-      (λ z. inl (z, writes, inner_still h.slot h.claim u writes free h.came, subst (OfWriter (MayBegin g.setting (need_of g))) (sym h.came.here) record {
-        reserves = record { room = may.room; chosen = may.chosen; open_end = may.open_end; goes_on = may.goes_on };
-        within = (needed fitting).within;
-      }))
+      (λ z. inl (
+        z,
+        writes,
+        inner_still h.slot h.claim u writes free h.came,
+        subst (OfWriter (MayBegin g.setting (need_of g))) (sym h.came.here) record {
+          reserves = record { room = may.room; chosen = may.chosen; open_end = may.open_end; goes_on = may.goes_on };
+          within = (needed fitting).within;
+        },
+      ))
       (λ ne. let p = h.place (omega arith) in inr (subst (OfWriter (HasCome (64 * word))) (sym h.came.here) (p.1 ∙ ap Some (at_first p.0 p.2 p.3))))
     where
       at_first : (p : ℕ) → p ≤ 64 * word → (64 * word ≤ p) ⊎ (g.setting.slots ≤ p) → p ≡ 64 * word
