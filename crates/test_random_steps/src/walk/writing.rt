@@ -149,8 +149,8 @@ fn grow_act(
 ) -> Act {
     if let Some(side) = unnamed_side(writer) {
         let above = if side == STORE_OFFER { store.slots } else { 0 };
-        let value = u64::from(above) + u64::from(numbers.below(NAMES));
-        return seat.act(SIDE, side, value);
+        let value = numbers.below(NAMES).saturating_add(above);
+        return seat.act(SIDE, side, u64::from(value));
     }
     let is_shown = writer.is_appending || writer.published.as_slice().is_empty();
     if !is_shown && numbers.is_one_in(SHOWS) {
