@@ -28,5 +28,3 @@ pub mod FreshEpochs
 pub mod Following
 pub mod AddingUp
 pub mod Quieting
-pub mod LeftAlone
-pub mod MyWords
