@@ -113,7 +113,16 @@ fn new_view(alloc: Global, opening: &Opening, pass: u32) -> Result<View<Content>
 {
     let tabs = free_tabs(alloc)?;
     let seen = first_sights(alloc, opening)?;
-    Ok(View::new(alloc, pass, tabs, seen))
+    Ok(View {
+        pass,
+        tabs,
+        held: Row::from_vec(Vec::new(alloc)),
+        seen,
+        trail: Log::from_vec(Vec::new(alloc)),
+        mirror: Log::from_vec(Vec::new(alloc)),
+        deeds: Log::from_vec(Vec::new(alloc)),
+        met: Log::from_vec(Vec::new(alloc)),
+    })
 }
 
 /// The views of new passes.

@@ -1,6 +1,5 @@
 pub mod Layout
 pub mod Chains
-pub mod Views
 pub mod State
 pub mod Trails
 pub mod Tabs
