@@ -1,5 +1,5 @@
 -- One step of a search for a free slot behind others.
-use Rattle.std.proofs.Common.{All, Bool, Contains, List, Option, Some, ap, arith, cond, eq-eqb, false, get_or, get_or-set_other, get_or-set_same, inl, inr, min, ne_eqb, refl, set, subst, suc, sym, true, unwrap_or, zero, ◌%◌, ◌*◌, ◌+◌, ◌-◌, ◌/◌, ◌<◌, ◌==◌, ◌∷◌, ◌≡◌, ◌≢◌, ◌≤◌, ◌⊎◌, ◌∙◌, ℕ}
+use Rattle.std.proofs.Common.{All, Bool, Contains, List, Option, Some, ap, arith, cond, eq-eqb, false, get_or, get_or-set_other, get_or-set_same, inl, inr, min, ne_eqb, refl, set, subst, suc, sym, true, unwrap_or, zero, ⊎_elim, [], ◌%◌, ◌*◌, ◌+◌, ◌-◌, ◌/◌, ◌<◌, ◌==◌, ◌∷◌, ◌≡◌, ◌≢◌, ◌≤◌, ◌⊎◌, ◌∙◌, ℕ}
 use Rattle.std.proofs.lemmas.Nat.Bits.{bit_at-lt}
 use mathlib.Core.Logic.{dite}
 use native.Mathlib.Decide.{ℕ_discrete}
@@ -18,8 +18,10 @@ use Rattle.core_model.specs.declared.tab.Writer.{Writer}
 use Rattle.core_model.specs.declared.view.Item.{Item}
 use Rattle.core_model.specs.declared.view.Kind.{Kind}
 use Rattle.core_model.specs.declared.view.Kind.TheVariants.{Doomed, Entered, Owned, Searched}
-use Rattle.core_model.specs.declared.view.Place.TheVariants.{Map}
+use Rattle.core_model.specs.declared.view.Place.{Place}
+use Rattle.core_model.specs.declared.view.Place.TheVariants.{Link, Map}
 use Rattle.core_model.specs.declared.view.View.{View}
+use Rattle.core_alone.specs.Touched.{touched_by}
 use Rattle.store_rule.specs.declared.store.Pass.{Pass}
 use Rattle.store_rule.specs.declared.store.Store.{Store}
 use Rattle.core_room.specs.Conditions.{HasCome, MayBegin}
@@ -29,7 +31,8 @@ use Rattle.store_rule.specs.Told.{Stands, Steps, found_as}
 use Rattle.store_rule.specs.Calls.{Follows}
 use Rattle.store_rule.specs.Runs.{Added, added_by, nothing_added, together}
 use Rattle.store_rule.specs.Words.{Mine, has, is_free_slot}
-use Rattle.store_rule.proofs.AddingUp.{found_mine, has_else, has_left, went_none, went_one, went_then}
+use Rattle.store_rule.proofs.AddingUp.{has_else, has_left, has_other, own_touches, went_none, went_one, went_then}
+use Rattle.store_rule.proofs.MyWords.{found_mine, mine_as, mine_lone}
 use Rattle.store_rule.specs.Quiet.{Quiet}
 use Rattle.store_rule.proofs.Following.{follows_on, made_follows}
 use Rattle.store_rule.proofs.Quieting.{quiet_went}
@@ -87,6 +90,7 @@ module _ {X : Type 0} (g : Ground X) (t : ℕ) (v : View X) (x : Writer X) where
     pub passed : Passed g v slot added u
     pub tries : tries_in added.items ≡ lost_in added.items
     pub alone : g.setting.passes ≡ 1 → lost_in added.items ≡ 0
+    pub touched : added.touched ≡ []
     pub here : tab_at u t ≡ tab_to claim
     pub others : (y : Tab X) → with_tab u t y ≡ with_tab v t y
     pub same : (word : ℕ) → word < map_words g.setting.slots → Mine g v (Map word) → has g u (Map word) ≡ has g v (Map word)
@@ -133,6 +137,7 @@ module _ {X : Type 0} (g : Ground X) (t : ℕ) (v : View X) (x : Writer X) where
       };
       tries = refl;
       alone = λ one. refl;
+      touched = refl;
       here = is;
       others = λ y. refl;
       same = λ word lt mine. refl;
@@ -161,7 +166,7 @@ module _ {X : Type 0} (g : Ground X) (t : ℕ) (v : View X) (x : Writer X) where
     look_inside = st.may.allowed.1
 
     look_found : Mine g v (Map word) → n ≡ has g v (Map word)
-    look_found mine = found_mine g u w (LookMap t word) n (Map word) st mine refl ∙ h.came.same word look_inside mine
+    look_found mine = found_mine g u w (LookMap t word) n (Map word) st (mine_as g v u (Map word) (Map word) h.came.passed.went.pass refl mine) refl ∙ h.came.same word look_inside mine
 
     claim_there : goes_past (begun_at h.claim word) (64 * word) n ≡ Some (next_free n (64 * word))
     claim_there = dite (ℕ_discrete word 0)
@@ -189,11 +194,13 @@ module _ {X : Type 0} (g : Ground X) (t : ℕ) (v : View X) (x : Writer X) where
         };
         tries = let z = h.came.tries in omega arith;
         alone = λ one. let z = h.came.alone one in omega arith;
+        touched = h.came.touched;
         here = here_after writes u w st.may.pass (tab_to (Some (next_free n (64 * word)))) look_makes;
         others = others_after writes u w st.may.pass (tab_to (Some (next_free n (64 * word)))) look_makes h.came.others;
         same = λ at lt mine. dite (ℕ_discrete word at)
-            (λ e. has_left g u w (LookMap t word) n (Map word) (Map at) st refl (ap (λ (z : ℕ). index g.setting (Map z)) e) ∙ look_found mine ∙ ap (λ (z : ℕ). has g v (Map z)) e)
-            (λ far. has_else g u w (LookMap t word) n (Map word) (Map at) st refl (λ e. far (omega arith)) ∙ h.came.same at lt mine);
+            (λ e. ap (λ (z : ℕ). has g w (Map z)) (sym e) ∙ has_left g u w (LookMap t word) n (Map word) st refl
+            ∙ look_found (mine_as g v v (Map at) (Map word) refl (ap Map (sym e)) mine) ∙ ap (λ (z : ℕ). has g v (Map z)) e)
+            (λ far. has_other g u w (LookMap t word) n (Map word) (Map at) st refl (λ e. far (omega arith)) ∙ h.came.same at lt mine);
       };
       looks = let z = h.looks in omega arith;
       inside = let z = look_inside in omega arith;
@@ -222,7 +229,7 @@ module _ {X : Type 0} (g : Ground X) (t : ℕ) (v : View X) (x : Writer X) where
     found_at j same taken = record { item = h.last; made = h.last_in; kind = h.last_kind; word = h.last_word ∙ sym same; taken = ap (λ (n : ℕ). taken_in n j) h.last_found ∙ taken }
 
     known_at : (j : ℕ) → j / 64 ≡ word → taken_in bits j ≡ 1 → Mine g v (Map (j / 64)) → is_free_slot g v j ≡ false
-    known_at j same taken mine = ne_eqb (taken_in (has g v (Map (j / 64))) j) 0 (λ e. absurd (let z = ap (λ (q : ℕ). taken_in (has g v (Map q)) j) same in let y = ap (λ (q : ℕ). taken_in q j) (h.mine mine) in omega arith))
+    known_at j same taken mine = ne_eqb (taken_in (has g v (Map (j / 64))) j) 0 (λ e. absurd (let z = ap (λ (q : ℕ). taken_in (has g v (Map q)) j) same in let y = ap (λ (q : ℕ). taken_in q j) (h.mine (mine_as g v v (Map (j / 64)) (Map word) refl (ap Map same) mine)) in omega arith))
 
     -- below a bit, where all between were set
     below_bit : (bit j : ℕ) → bit ≤ 64 → ((i : ℕ) → from ≤ i → i < bit → bit_at bits i ≡ 1) → j < 64 * word + bit → FoundTaken h.came.added.items j
@@ -277,7 +284,7 @@ module _ {X : Type 0} (g : Ground X) (t : ℕ) (v : View X) (x : Writer X) where
       was_free = ap (λ (z : ℕ). found_free z slot h.came.added.items) slot_word ∙ h.free_by slot ∙ eq-eqb (taken_in bits slot) 0 slot_clear
 
       try_found : Mine g v (Map word) → n ≡ has g v (Map word)
-      try_found mine = found_mine g u w (Own t slot) n (Map (slot / 64)) st mine refl ∙ ap (λ (z : ℕ). has g u (Map z)) slot_word ∙ h.came.same word word_there mine
+      try_found mine = found_mine g u w (Own t slot) n (Map (slot / 64)) st (mine_as g v u (Map word) (Map (slot / 64)) h.came.passed.went.pass (ap Map (sym slot_word)) mine) refl ∙ ap (λ (z : ℕ). has g u (Map z)) slot_word ∙ h.came.same word word_there mine
 
       went_on : Passed g v slot tried_more w
       went_on = record {
@@ -302,16 +309,18 @@ module _ {X : Type 0} (g : Ground X) (t : ℕ) (v : View X) (x : Writer X) where
                 (λ e. subst (FoundTaken tried_more.items) (sym e) (newest tried h.came.added.items slot (inr refl) refl taken))
                 (λ ne. went_on.below j (omega arith));
             taken = λ j l mine. dite (ℕ_discrete j slot)
-                (λ e. ne_eqb (taken_in (has g v (Map (j / 64))) j) 0 (λ z. absurd (let a = try_found mine in let b : j / 64 ≡ word = omega arith in let c = ap (λ (q : ℕ). taken_in (has g v (Map q)) j) b in let d = ap (λ (q : ℕ). taken_in q j) a in let f = ap (taken_in n) e in omega arith)))
+                (λ e. ne_eqb (taken_in (has g v (Map (j / 64))) j) 0 (λ z. absurd (let b : j / 64 ≡ word = omega arith in let a = try_found (mine_as g v v (Map (j / 64)) (Map word) refl (ap Map b) mine) in let c = ap (λ (q : ℕ). taken_in (has g v (Map q)) j) b in let d = ap (λ (q : ℕ). taken_in q j) a in let f = ap (taken_in n) e in omega arith)))
                 (λ ne. went_on.taken j (omega arith) mine);
           };
           tries = let z = h.came.tries in let a = eq-eqb (taken_in n slot) 1 taken in let b = was_free in rw (a, b) (omega arith);
-          alone = λ one. absurd (let a = ap (λ (q : ℕ). taken_in q slot) (try_found one ∙ h.mine one) in let b = slot_clear in omega arith);
+          alone = λ one. absurd (let m : Mine g v (Map word) = mine_lone g v.pass one (index g.setting (Map word)) in let a = ap (λ (q : ℕ). taken_in q slot) (try_found m ∙ h.mine m) in let b = slot_clear in omega arith);
+          touched = let b = miss in rw b h.came.touched;
           here = here_after writes u w st.may.pass (tab_to (Some (next_free n slot))) missed;
           others = others_after writes u w st.may.pass (tab_to (Some (next_free n slot))) missed h.came.others;
           same = λ at l mine. dite (ℕ_discrete word at)
-              (λ e. has_left g u w (Own t slot) n (Map (slot / 64)) (Map at) st refl (ap (λ (z : ℕ). index g.setting (Map z)) (slot_word ∙ e)) ∙ set_again n slot taken ∙ try_found mine ∙ ap (λ (z : ℕ). has g v (Map z)) e)
-              (λ far. has_else g u w (Own t slot) n (Map (slot / 64)) (Map at) st refl (λ e. far (let z = slot_word in omega arith)) ∙ h.came.same at l mine);
+              (λ e. ap (λ (z : ℕ). has g w (Map z)) (sym (slot_word ∙ e)) ∙ has_left g u w (Own t slot) n (Map (slot / 64)) st refl ∙ set_again n slot taken
+              ∙ try_found (mine_as g v v (Map at) (Map word) refl (ap Map (sym e)) mine) ∙ ap (λ (z : ℕ). has g v (Map z)) e)
+              (λ far. has_else g u w (Own t slot) n (Map at) st (not_touched at l far) ∙ h.came.same at l mine);
         };
         looks = let z = h.looks in omega arith;
         inside = h.inside;
@@ -328,6 +337,12 @@ module _ {X : Type 0} (g : Ground X) (t : ℕ) (v : View X) (x : Writer X) where
         passed_on = λ j a b. passed n slot j (omega arith) b;
       }
         where
+          not_touched : (at : ℕ) → at < map_words g.setting.slots → word ≢ at → (q : Place) → Contains (touched_by u (Own t slot) n) q → index g.setting q ≢ index g.setting (Map at)
+          not_touched at l far q c = ⊎_elim
+              (λ (e : q ≡ Map (slot / 64)). subst (λ (z : Place). index g.setting z ≢ index g.setting (Map at)) (sym e) (λ same. far (let z = slot_word in omega arith)))
+              (λ (e : (q ≡ Link slot) × (taken_in n slot ≡ 0)). absurd (let z = e.1 in omega arith))
+              (own_touches t slot n q c)
+
           miss : (taken_in n slot == 0) ≡ false
           miss = ne_eqb (taken_in n slot) 0 (λ e. absurd (omega arith))
 
@@ -347,11 +362,13 @@ module _ {X : Type 0} (g : Ground X) (t : ℕ) (v : View X) (x : Writer X) where
         looks = let z = h.looks in let e = slot_word in omega arith;
         tries = let z = h.came.tries in let a = ne_eqb (taken_in n slot) 1 (λ e. absurd (omega arith)) in rw a (omega arith);
         alone = λ one. let z = h.came.alone one in let a = ne_eqb (taken_in n slot) 1 (λ e. absurd (omega arith)) in rw a (omega arith);
+        touched = let b = hit in rw b (ap (λ (xs : List Place). Link slot ∷ xs) h.came.touched);
         there = slot_there;
         found = n;
         free = free;
         won = (0, omega arith, refl);
-        was = λ mine. eq-eqb (taken_in (has g v (Map (slot / 64))) slot) 0 (ap (λ (q : ℕ). taken_in (has g v (Map q)) slot) slot_word ∙ ap (λ (q : ℕ). taken_in q slot) (sym (try_found mine)) ∙ free);
+        was = λ mine. eq-eqb (taken_in (has g v (Map (slot / 64))) slot) 0 (ap (λ (q : ℕ). taken_in (has g v (Map q)) slot) slot_word
+            ∙ ap (λ (q : ℕ). taken_in q slot) (sym (try_found (mine_as g v v (Map (slot / 64)) (Map word) refl (ap Map slot_word) mine))) ∙ free);
         tabs = ap View.tabs st.leaves ∙ (let b = hit in rw b (ap (λ (z : Tab X). with_tab u t (reserves z slot)) h.came.here ∙ h.came.others (reserves (Writing x) slot) ∙ ap (λ (z : Tab X). with_tab v t (reserves z slot)) (sym is)));
       }
         where
@@ -374,6 +391,7 @@ module _ {X : Type 0} (g : Ground X) (t : ℕ) (v : View X) (x : Writer X) where
         };
         tries = h.came.tries;
         alone = h.came.alone;
+        touched = h.came.touched;
         here = h.came.here;
         others = h.came.others;
         same = h.came.same;
@@ -409,6 +427,7 @@ module _ {X : Type 0} (g : Ground X) (t : ℕ) (v : View X) (x : Writer X) where
     looks = h.looks;
     tries = h.came.tries;
     alone = h.came.alone;
+    touched = h.came.touched;
     claim = h.claim;
     place = past;
     unfit = search_unfit g u t record x { claim = h.claim } st pass (omega arith) h.came.here past;

@@ -9,7 +9,7 @@ use Rattle.core_model.specs.declared.tab.Tab.TheVariants.{Writing}
 use Rattle.core_model.specs.declared.view.Item.{Item}
 use Rattle.core_model.specs.declared.view.Kind.{Kind}
 use Rattle.core_model.specs.declared.view.Kind.TheVariants.{Owned, Searched}
-use Rattle.core_model.specs.declared.view.Place.TheVariants.{Map}
+use Rattle.core_model.specs.declared.view.Place.TheVariants.{Link, Map}
 use Rattle.core_model.specs.declared.view.View.{View}
 use Rattle.core_room.specs.Conditions.{MayBegin}
 use Rattle.store_rule.specs.declared.store.Pass.{Pass}
@@ -90,6 +90,7 @@ pub record Claimed {X : Type 0} (g : Ground X) (t : ℕ) (v : View X) (slot : �
   pub looks : looks_in added.items ≡ slot / 64 + 1
   pub tries : tries_in added.items ≡ lost_in added.items + 1
   pub alone : g.setting.passes ≡ 1 → lost_in added.items ≡ 0  -- the only pass of a store loses no try
+  pub touched : added.touched ≡ Link slot ∷ []  -- beside words of the map, which are left out
   pub there : slot < g.setting.slots
   pub found : ℕ
   pub free : taken_in found slot ≡ 0
@@ -105,6 +106,7 @@ pub record FoundAllTaken {X : Type 0} (g : Ground X) (t : ℕ) (v w : View X) : 
   pub looks : looks_in added.items ≡ map_words g.setting.slots
   pub tries : tries_in added.items ≡ lost_in added.items
   pub alone : g.setting.passes ≡ 1 → lost_in added.items ≡ 0
+  pub touched : added.touched ≡ []
   pub claim : Option ℕ
   pub place : 0 < g.setting.slots → (p : ℕ) × (claim ≡ Some p) × (g.setting.slots ≤ p)
   pub tabs : w.tabs ≡ with_tab v t (searched_to (tab_at v t) claim)

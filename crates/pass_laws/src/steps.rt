@@ -1,16 +1,22 @@
 // What steps leave alone, what they answer, and what they add up to.
-ghost use Rattle.std.specs.Prelude.{◌+◌, ◌<◌, ◌∷◌, ◌≡◌, ◌≢◌, ◌≤◌, List, Some, false, ℕ};
-ghost use Rattle.lock_word.specs.Words.{doom_of, doomed, epoch_of, readers_of};
+ghost use Rattle.std.specs.Prelude.{◌+◌, ◌<◌, ◌∷◌, ◌≡◌, ◌≢◌, ◌≤◌, List, Some, false, true, ℕ};
+ghost use Rattle.link_word.specs.declared.link.Link.{Link as LinkOf};
+ghost use Rattle.lock_word.specs.Words.{doom_of, doomed, epoch_of, readers_of, stage_of};
 ghost use Rattle.core_model.specs.AnchorMoves.{deed_of};
-ghost use Rattle.core_model.specs.Tabs.{anchor_of, tab_at};
+ghost use Rattle.core_model.specs.Chains.{IsSpelled};
+ghost use Rattle.core_model.specs.Slots.{told};
+ghost use Rattle.core_model.specs.State.{chain_of, word};
+ghost use Rattle.core_model.specs.Tabs.{IsPass, anchor_of, inner, tab_at};
 ghost use Rattle.core_model.specs.declared.moves.Move.{Move};
-ghost use Rattle.core_model.specs.declared.moves.Move.TheVariants.{Doom, Enter};
+ghost use Rattle.core_model.specs.declared.moves.Move.TheVariants.{Doom, Enter, GetLink, Loosen, Publish};
+ghost use Rattle.core_model.specs.declared.moves.Side.TheVariants.{Start};
 ghost use Rattle.core_model.specs.declared.view.Kind.TheVariants.{Doomed, Entered};
-ghost use Rattle.core_model.specs.declared.view.Place.TheVariants.{Anchor};
+ghost use Rattle.core_model.specs.declared.view.Place.TheVariants.{Anchor, Beside, Link};
 ghost use Rattle.core_model.specs.declared.view.View.{View};
 ghost use Rattle.core_model.specs.Table.{answer, left_by, place};
 ghost use Rattle.core_model.specs.declared.view.Place.{Place};
-ghost use Rattle.store_rule.specs.Ground.{Ground};
+ghost use Rattle.core_alone.specs.Alone.{IsTabAt};
+ghost use Rattle.store_rule.specs.Ground.{Ground, left_to};
 ghost use Rattle.store_rule.specs.Told.{Stands, Steps, found_as};
 ghost use Rattle.store_rule.specs.Runs.{Added, Went, added_by, nothing_added, together};
 ghost use Rattle.store_rule.specs.Words.{Mine, has};
@@ -73,4 +79,29 @@ pub fn words_are_known<X>()
         → place v m ≡ Some p → n ≡ has g v p }
     ensures left { (g : Ground X) (v w : View X) (m : Move) (n : ℕ) (p : Place) → Steps g v m n w
         → place v m ≡ Some p → has g w p ≡ left_by v m n }
+{}
+
+/// So does a step on a link, by a tab at an anchor that is left to its pass: where a slot is published, where one is taken
+/// out of a chain that is given back, and where a tab looks at the link of its next slot.
+pub fn links_are_known<X>()
+    ensures published { (g : Ground X) (v w : View X) (n t a slot : ℕ) (link : LinkOf) → Steps g v (Publish t slot link) n w
+        → IsTabAt (tab_at v t) a → left_to g v.pass a ≡ true → n ≡ has g v (Link slot) }
+    ensures loosened { (g : Ground X) (v w : View X) (n t a slot : ℕ) → Steps g v (Loosen t slot) n w
+        → IsTabAt (tab_at v inner) a → left_to g v.pass a ≡ true → n ≡ has g v (Link slot) }
+    ensures looked { (g : Ground X) (v w : View X) (n t a slot : ℕ) → Steps g v (GetLink t slot) n w
+        → IsTabAt (tab_at v t) a → left_to g v.pass a ≡ true → n ≡ has g v (Link slot) }
+{}
+
+/// What a pass has of words spells the chain of each anchor that is left to it, and nothing else: while the entry grows,
+/// when it is whole, and when its writer gave up.
+pub fn chains_are_known<X>()
+    ensures known { (g : Ground X) (v : View X) (a : ℕ) → (st : Stands g v) → IsPass v → a < g.setting.anchors
+        → left_to g v.pass a ≡ true → 2 ≤ stage_of (epoch_of (word st.state a)) → stage_of (epoch_of (word st.state a)) ≤ 4
+        → IsSpelled (has g v (Beside Start a)) (λ slot. told g.setting.slots slot (has g v (Link slot)))
+            (chain_of st.state a).slots (chain_of st.state a).end }
+    ensures only { (g : Ground X) (v : View X) (a : ℕ) (slots : List ℕ) (end : LinkOf) → (st : Stands g v) → IsPass v
+        → a < g.setting.anchors → left_to g v.pass a ≡ true
+        → 2 ≤ stage_of (epoch_of (word st.state a)) → stage_of (epoch_of (word st.state a)) ≤ 4
+        → IsSpelled (has g v (Beside Start a)) (λ slot. told g.setting.slots slot (has g v (Link slot))) slots end
+        → (slots ≡ (chain_of st.state a).slots) × (end ≡ (chain_of st.state a).end) }
 {}

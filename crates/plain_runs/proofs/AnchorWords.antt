@@ -22,7 +22,9 @@ use Rattle.plain_laws.specs.Renaming.{renamed_epoch, renamed_word}
 use Rattle.store_rule.specs.Ground.{Ground}
 use Rattle.store_rule.specs.Told.{Steps}
 use Rattle.store_rule.specs.Words.{Mine}
-use Rattle.store_rule.proofs.AddingUp.{found_mine, has_left}
+use Rattle.core_alone.specs.Touched.{places_in}
+use Rattle.store_rule.proofs.AddingUp.{has_left}
+use Rattle.store_rule.proofs.MyWords.{found_mine}
 use Rattle.plain_runs.specs.Words.{KnowsLot, Lot, ShowsAt, ShowsEntryIf, no_guests, setting_of}
 use Rattle.plain_runs.proofs.Frames.{same_none, step_same}
 use Rattle.plain_runs.proofs.Freeing.{SameElse, but_guests, but_moved, but_step, knows_all, knows_but, put_else, same_else}
@@ -40,7 +42,7 @@ module _ (g : Ground (List ℕ)) (rename : ℕ → ℕ) where
 
       here : a < g.setting.anchors → lot.anchors a ≡ true → ShowsAt g rename w p (guest_at a a) a
       here lt own = record {
-        word = has_left g v w (Enter t a) n (Anchor a) (Anchor a) st refl refl ∙ one_more (found_mine g v w (Enter t a) n (Anchor a) st mine refl ∙ (k.each a lt own).word);
+        word = has_left g v w (Enter t a) n (Anchor a) st refl ∙ one_more (found_mine g v w (Enter t a) n (Anchor a) st mine refl ∙ (k.each a lt own).word);
         entry = entry_kept g rename v w a (place_at p a).version (entry_at p a) lt (step_same g v w (Enter t a) n (Anchor a) st refl lt) (k.each a lt own).entry;
       }
 
@@ -147,11 +149,11 @@ module _ (g : Ground (List ℕ)) (rename : ℕ → ℕ) where
 
     here : ShowsAt g rename w (doom_at a p) (guest_at a a) a
     here = record {
-      word = has_left g v w (Doom t) n (Anchor a) (Anchor a) st on refl ∙ doomed_is
+      word = has_left g v w (Doom t) n (Anchor a) st on ∙ doomed_is
           ∙ ap (λ (x : PlaceOf). word_number record { epoch = renamed_epoch rename (plain.epoch_of (room_of g.slot) x); readers = readers p a } + guest_at a a) (sym doomed_there);
-      entry = subst (λ (x : PlaceOf). ShowsEntryIf g w a x.version x.entry) (sym doomed_there) (entry_kept g rename v w a (place_at p a).version (entry_at p a) lt (step_same g v w (Doom t) n (Anchor a) st on lt) (k.each a lt own).entry);
+      entry = subst (λ (x : PlaceOf). ShowsEntryIf g w a x.version x.entry) (sym doomed_there) (entry_kept g rename v w a (place_at p a).version (entry_at p a) lt (step_same g v w (Doom t) n (Anchor a) st (ap places_in on) lt) (k.each a lt own).entry);
     }
 
     pub doom_knows : KnowsLot g rename lot w (doom_at a p) (guest_at a)
     doom_knows = knows_all g rename w (doom_at a p) (guest_at a) a
-        (but_step g rename v w (Doom t) n p (doom_at a p) (guest_at a) a st on lt (put_else p a (plain_place.doomed (place_at p a))) (knows_but g rename v p (guest_at a) a k)) (λ _ ours. here)
+        (but_step g rename v w (Doom t) n p (doom_at a p) (guest_at a) a st (ap places_in on) lt (put_else p a (plain_place.doomed (place_at p a))) (knows_but g rename v p (guest_at a) a k)) (λ _ ours. here)

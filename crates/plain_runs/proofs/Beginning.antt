@@ -41,7 +41,9 @@ use Rattle.rock_reader.specs.Responses.{IsOffered}
 use Rattle.store_rule.specs.Ground.{Ground, anchor_for}
 use Rattle.store_rule.specs.Told.{Steps}
 use Rattle.store_rule.specs.Words.{Mine, has}
-use Rattle.store_rule.proofs.AddingUp.{found_mine, has_left}
+use Rattle.core_alone.specs.Touched.{places_in}
+use Rattle.store_rule.proofs.AddingUp.{has_left}
+use Rattle.store_rule.proofs.MyWords.{found_mine}
 use Rattle.rw_anchor.specs.Calls.{Drew, SpentAtDraw, SpentAtLook}
 use Rattle.rw_anchor.proofs.Drawing.{same_find}
 use Rattle.slice_chain.specs.Freeing.{Freed}
@@ -65,7 +67,7 @@ module _ (g : Ground (List ℕ)) where
   looked_is v w a n mine st = found_mine g v w (Look a) n (Anchor a) st mine refl
 
   pub looked_same : (v w : View (List ℕ)) (a n : ℕ) → Mine g v (Anchor a) → Steps g v (Look a) n w → SameBut g v w (λ q. ⊥)
-  looked_same v w a n mine st = step_quiet g v w (Look a) n (Anchor a) st refl refl mine
+  looked_same v w a n mine st = step_quiet g v w (Look a) n (Anchor a) st refl refl refl mine
 
 module _ (g : Ground (List ℕ)) (lone : IsLone g) where
   -- so does a look at the counter
@@ -73,12 +75,12 @@ module _ (g : Ground (List ℕ)) (lone : IsLone g) where
   counted_is v w n st = found_mine g v w Count n Counter st (mine_lone g lone v Counter) refl
 
   pub counted_same : (v w : View (List ℕ)) (n : ℕ) → Steps g v Count n w → SameBut g v w (λ q. ⊥)
-  counted_same v w n st = step_quiet g v w Count n Counter st refl refl (mine_lone g lone v Counter)
+  counted_same v w n st = step_quiet g v w Count n Counter st refl refl refl (mine_lone g lone v Counter)
 
   module _ (rename : ℕ → ℕ) where
     pub drew_knows : (v w : View (List ℕ)) (m : ℕ) (p : Plain) (guests : ℕ → ℕ) → Knows g rename v p guests → Steps g v Draw m w → Knows g rename w (counted_on p) guests
     drew_knows v w m p guests h st = record {
-      counter = λ own. has_left g v w Draw m Counter Counter st refl refl ∙ ap (λ (z : ℕ). z + 1) (found_mine g v w Draw m Counter st (mine_lone g lone v Counter) refl ∙ h.counter refl);
+      counter = λ own. has_left g v w Draw m Counter st refl ∙ ap (λ (z : ℕ). z + 1) (found_mine g v w Draw m Counter st (mine_lone g lone v Counter) refl ∙ h.counter refl);
       many = h.many;
       each = λ a lt own. shows_elsewhere g rename v w (λ q. q ≡ Counter) p (counted_on p) (guests a) a lt (h.each a lt own) refl refl (step_same g v w Draw m Counter st refl tt)
           record { word = λ e. cc; sides = λ side e. cc; links = λ x there chain j c e. cc };
@@ -164,7 +166,7 @@ module _ (g : Ground (List ℕ)) (lone : IsLone g) (rename : ℕ → ℕ) where
 
     -- what stands there now
     pub took_word : has g w (Anchor a) ≡ word_of version 1
-    took_word = has_left g took.drawn w (Take t a version) n (Anchor a) (Anchor a) took.takes refl refl ∙ (let e = eq-eqb n (last_find a took.drawn.trail) found_last in rw e refl)
+    took_word = has_left g took.drawn w (Take t a version) n (Anchor a) took.takes refl ∙ (let e = eq-eqb n (last_find a took.drawn.trail) found_last in rw e refl)
 
     pub took_but : (e : Entry) → tab_at p t ≡ Free → t < length p.tabs → KnowsBut g rename w (taken_by t a e p) no_guests a
     took_but e free below = but_step g rename took.drawn w (Take t a version) n (counted_on p) (taken_by t a e p) no_guests a took.takes refl inside (taken_else t a e p free below)
@@ -220,10 +222,10 @@ module _ (g : Ground (List ℕ)) (rename : ℕ → ℕ) where
     here = ap (λ (z : ℕ). Some (Beside side z)) at
 
     pub stored_same : a < g.setting.anchors → SameBut g v w (λ q. q ≡ Beside side a)
-    stored_same lt = step_same g v w (StoreSide t side value) n (Beside side a) st here lt
+    stored_same lt = step_same g v w (StoreSide t side value) n (Beside side a) st (ap places_in here) lt
 
     pub stored_is : has g w (Beside side a) ≡ value
-    stored_is = has_left g v w (StoreSide t side value) n (Beside side a) (Beside side a) st here refl
+    stored_is = has_left g v w (StoreSide t side value) n (Beside side a) st here
 
     pub stored_anchor : anchor_of (tab_in w t) ≡ a
     stored_anchor = ap (λ (z : View (List ℕ)). anchor_of (tab_in z t)) st.leaves

@@ -38,6 +38,7 @@ use Rattle.core_model.proofs.Tabs.{contains_times, tab_there}
 use Rattle.core_model.proofs.Telling.{told_in, told_out}
 use Rattle.store_rule.specs.Ground.{Ground, Rule}
 use Rattle.store_rule.specs.Words.{has}
+use Rattle.store_rule.proofs.MyWords.{word_alone}
 use Rattle.plain_runs.specs.Words.{IsLone, link_known}
 
 module _ {A : Type 0} where
@@ -75,7 +76,7 @@ module _ (g : Ground (List ℕ)) (s : State (List ℕ)) (rule : Rule g s) where
       (λ e. absurd (let o = rule.sound.slots.places.taken x in let z : used ((slot_words k s.words).taken x) ≡ 0 = ap used (told_out k.slots x _ (omega arith)) in omega arith))
       (λ ne. omega arith)
 
-  standing_inside : (a x : ℕ) → a < k.anchors → Contains ((chain_of s a).slots ++ (chain_of s a).tail) x → x < k.slots
+  pub standing_inside : (a x : ℕ) → a < k.anchors → Contains ((chain_of s a).slots ++ (chain_of s a).tail) x → x < k.slots
   standing_inside a x lt c = inside x (let l = le_sum_at (standing_in x) s.chains a (chain_of s a) (chain_there a lt) in let n = counted (Contains-append_cases (chain_of s a).slots (chain_of s a).tail x c) in omega arith)
     where
       chain_there : (b : ℕ) → b < k.anchors → get_elem? s.chains b ≡ some (chain_of s b)
@@ -85,7 +86,7 @@ module _ (g : Ground (List ℕ)) (s : State (List ℕ)) (rule : Rule g s) where
       counted (inl h) = let z = contains_times x (chain_of s a).slots h in omega arith
       counted (inr h) = let z = contains_times x (chain_of s a).tail h in omega arith
 
-  reserved_inside : (j t x : ℕ) (w : Writer (List ℕ)) → IsTab s j t (Writing w) → Contains w.reserved x → x < k.slots
+  pub reserved_inside : (j t x : ℕ) (w : Writer (List ℕ)) → IsTab s j t (Writing w) → Contains w.reserved x → x < k.slots
   reserved_inside j t x w h c = inside x (let z = contains_times x w.reserved c in let a = le_sum_at (held_in x) h.view.tabs t (Writing w) h.there in let b = le_sum_at (count (held_in x)) s.views j h.view h.at in omega arith)
 
   -- Where a slot of a chain is, or the one that its end names: in the chain, or reserved by the tab that writes there.
@@ -191,7 +192,7 @@ module _ (g : Ground (List ℕ)) (s : State (List ℕ)) (rule : Rule g s) where
         less : (tab : Tab (List ℕ)) → resting_in x tab ≤ held_in x tab
         less tab = omega arith
 
-    end_unwritten : (x : ℕ) → c.end ≡ Next x → (slot_words k s.words).link x ≡ 0
+    pub end_unwritten : (x : ℕ) → c.end ≡ Next x → (slot_words k s.words).link x ≡ 0
     end_unwritten x e = of_spot (end_spot x e)
       where
         of_spot : Contains c.tail x ⊎ ReservedAt a x → (slot_words k s.words).link x ≡ 0
@@ -241,7 +242,7 @@ module _ (g : Ground (List ℕ)) (lone : IsLone g) (s : State (List ℕ)) (i : �
 
   -- each word is as the pass knows it
   pub word_is : (q : Place) → IsPlace g.setting q → word_in g.setting s.words q ≡ has g v q
-  word_is q here = sym (rule.sound.anchors.mirror lone i v at some_tab (index g.setting q) (within g.setting q here))
+  word_is q here = word_alone g lone s i v rule at pass q here
 
   pub link_is : (j : ℕ) → (slot_words g.setting s.words).link j ≡ link_known g v j
   link_is j = dite (ℕ_discrete (g.setting.slots - j) 0)

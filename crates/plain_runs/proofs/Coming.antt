@@ -30,7 +30,7 @@ use Rattle.plain_laws.specs.Renaming.{renamed_cause, renamed_epoch}
 use Rattle.store_rule.specs.Ground.{Ground}
 use Rattle.store_rule.specs.Told.{Steps}
 use Rattle.store_rule.specs.Words.{has}
-use Rattle.store_rule.proofs.AddingUp.{found_mine}
+use Rattle.store_rule.proofs.MyWords.{found_mine}
 use Rattle.slice_chain.specs.Names.{KeyLoaded}
 use Rattle.rock_reader.specs.Opening.{opened}
 use Rattle.rock_reader.proofs.Coming.{came_tabs, entered_else, entered_readable}

@@ -4,15 +4,13 @@ use mathlib.Core.Logic.{dite}
 use native.Mathlib.Decide.{ℕ_discrete}
 use Rattle.core_model.specs.Chains.{IsSpelled, Spells, EndsUnwritten, slots_of_link}
 use Rattle.core_model.specs.Layout.{IsPlace, index}
-use Rattle.core_model.specs.Table.{left_by, place}
 use Rattle.core_model.specs.declared.moves.Move.{Move}
 use Rattle.core_model.specs.declared.moves.Side.{Side}
 use Rattle.core_model.specs.declared.moves.Side.TheVariants.{Key0, Key1, Offer, Start}
 use Rattle.core_model.specs.declared.view.Place.{Place}
 use Rattle.core_model.specs.declared.view.Place.TheVariants.{Anchor, Beside, Counter, Link, Map, Turn, LogCounter}
 use Rattle.core_model.specs.declared.view.View.{View}
-use Rattle.core_model.specs.Deeds.{mirrored}
-use Rattle.core_model.specs.Steps.{traces_of}
+use Rattle.core_alone.specs.Touched.{touched_by}
 use Rattle.core_model.proofs.Lists.{contains_none}
 use Rattle.core_model.proofs.Places.{apart}
 use Rattle.link_word.specs.declared.link.Link.{Link as LinkOf}
@@ -30,6 +28,7 @@ use Rattle.store_rule.specs.Told.{Steps}
 use Rattle.store_rule.specs.Runs.{Added, IsFollowed, Went}
 use Rattle.store_rule.specs.Words.{has}
 use Rattle.plain_runs.specs.Words.{HasChain, HasNames, IsLone, KnowsLot, Lot, ShowsAt, ShowsEntry, ShowsEntryIf, link_known, setting_of}
+use Rattle.store_rule.proofs.AddingUp.{has_else, has_other}
 use Rattle.plain_runs.proofs.OwnAnchors.{mine_lone}
 
 -- the words of which `Knows` speaks: those of turns, of the map of taken slots and of the counter of logged pieces are left out
@@ -73,26 +72,19 @@ module _ (g : Ground (List ℕ)) where
       nothing_in r c = contains_none r c
 
   -- Of one step: on this place, on none, on a word of the map, on a turn word, and on the counter of logged pieces.
-  mirror_is : (v w : View (List ℕ)) (m : Move) (n : ℕ) → Steps g v m n w → w.mirror ≡ traces_of (place v m) (left_by v m n) ++ v.mirror
-  mirror_is v w m n st = ap View.mirror st.leaves
+  pub step_same : (v w : View (List ℕ)) (m : Move) (n : ℕ) (r : Place) → Steps g v m n w → touched_by v m n ≡ r ∷ [] → IsPlace g.setting r → SameBut v w (λ q. q ≡ r)
+  step_same v w m n r st is there = record { same = λ q known here ne. has_other g v w m n r q st is (λ e. ne (sym (apart g.setting r q there here e))) }
 
-  has_else : (v w : View (List ℕ)) (m : Move) (n : ℕ) (q p : Place) → Steps g v m n w → place v m ≡ Some q → index g.setting q ≢ index g.setting p → has g w p ≡ has g v p
-  has_else v w m n q p st is other = ap (mirrored g.setting (index g.setting p)) (mirror_is v w m n st ∙ ap (λ (o : Option Place). traces_of o (left_by v m n) ++ v.mirror) is)
-      ∙ (let h = ne_eqb (index g.setting q) (index g.setting p) other in rw h refl)
+  pub step_same_none : (v w : View (List ℕ)) (m : Move) (n : ℕ) → Steps g v m n w → touched_by v m n ≡ [] → SameBut v w (λ q. ⊥)
+  step_same_none v w m n st is = record { same = λ q known here ne. has_else g v w m n q st (λ r c. absurd (contains_none r (subst (λ (z : List Place). Contains z r) is c))) }
 
-  pub step_same : (v w : View (List ℕ)) (m : Move) (n : ℕ) (r : Place) → Steps g v m n w → place v m ≡ Some r → IsPlace g.setting r → SameBut v w (λ q. q ≡ r)
-  step_same v w m n r st is there = record { same = λ q known here ne. has_else v w m n r q st is (λ e. ne (sym (apart g.setting r q there here e))) }
-
-  pub step_same_none : (v w : View (List ℕ)) (m : Move) (n : ℕ) → Steps g v m n w → place v m ≡ None → SameBut v w (λ q. ⊥)
-  step_same_none v w m n st is = record { same = λ q known here ne. ap (mirrored g.setting (index g.setting q)) (mirror_is v w m n st ∙ ap (λ (o : Option Place). traces_of o (left_by v m n) ++ v.mirror) is) }
-
-  pub step_same_map : (v w : View (List ℕ)) (m : Move) (n word : ℕ) → Steps g v m n w → place v m ≡ Some (Map word) → IsPlace g.setting (Map word) → SameBut v w (λ q. ⊥)
+  pub step_same_map : (v w : View (List ℕ)) (m : Move) (n word : ℕ) → Steps g v m n w → touched_by v m n ≡ Map word ∷ [] → IsPlace g.setting (Map word) → SameBut v w (λ q. ⊥)
   step_same_map v w m n word st is there = record { same = λ q known here ne. (step_same v w m n (Map word) st is there).same q known here (λ e. subst IsKnown e known) }
 
-  pub step_same_turn : (v w : View (List ℕ)) (m : Move) (n slot : ℕ) → Steps g v m n w → place v m ≡ Some (Turn slot) → IsPlace g.setting (Turn slot) → SameBut v w (λ q. ⊥)
+  pub step_same_turn : (v w : View (List ℕ)) (m : Move) (n slot : ℕ) → Steps g v m n w → touched_by v m n ≡ Turn slot ∷ [] → IsPlace g.setting (Turn slot) → SameBut v w (λ q. ⊥)
   step_same_turn v w m n slot st is there = record { same = λ q known here ne. (step_same v w m n (Turn slot) st is there).same q known here (λ e. subst IsKnown e known) }
 
-  pub step_same_log : (v w : View (List ℕ)) (m : Move) (n : ℕ) → Steps g v m n w → place v m ≡ Some LogCounter → SameBut v w (λ q. ⊥)
+  pub step_same_log : (v w : View (List ℕ)) (m : Move) (n : ℕ) → Steps g v m n w → touched_by v m n ≡ LogCounter ∷ [] → SameBut v w (λ q. ⊥)
   step_same_log v w m n st is = record { same = λ q known here ne. (step_same v w m n LogCounter st is tt).same q known here (λ e. subst IsKnown e known) }
 
   -- What is shown at an anchor stays, where its words and the links of its chain do.

@@ -46,7 +46,9 @@ use Rattle.store_rule.specs.Ground.{Ground}
 use Rattle.store_rule.specs.Told.{Stands, Steps}
 use Rattle.store_rule.specs.Runs.{Added, Went}
 use Rattle.store_rule.specs.Words.{Mine, has}
-use Rattle.store_rule.proofs.AddingUp.{found_mine, has_left}
+use Rattle.core_alone.specs.Touched.{touched_by}
+use Rattle.store_rule.proofs.AddingUp.{has_left}
+use Rattle.store_rule.proofs.MyWords.{found_mine}
 use Rattle.slice_chain.specs.Freeing.{Freed}
 use Rattle.plain_runs.specs.Words.{HasChain, IsLone, Knows, KnowsLot, Lot, ShowsAt, whole_lot, ShowsEntryIf, setting_of}
 use Rattle.plain_runs.proofs.Frames.{LeavesAlone, SameBut, same_none, same_weaker, shows_elsewhere, step_same, went_same}
@@ -138,7 +140,7 @@ module _ (g : Ground (List ℕ)) (rename : ℕ → ℕ) where
   }
 
   -- a step on the word of the anchor a
-  pub but_step : {lot : Lot} (v w : View (List ℕ)) (m : Move) (n : ℕ) (p q : Plain) (guests : ℕ → ℕ) (a : ℕ) → Steps g v m n w → place v m ≡ Some (Anchor a) → a < g.setting.anchors → SameElse p q a
+  pub but_step : {lot : Lot} (v w : View (List ℕ)) (m : Move) (n : ℕ) (p q : Plain) (guests : ℕ → ℕ) (a : ℕ) → Steps g v m n w → touched_by v m n ≡ Anchor a ∷ [] → a < g.setting.anchors → SameElse p q a
       → KnowsLotBut lot v p guests a → KnowsLotBut lot w q guests a
   but_step v w m n p q guests a st is lt other h = but_moved v w (λ r. r ≡ Anchor a) p q guests a (step_same g v w m n (Anchor a) st is lt) other (λ e. cc)
       (λ b here own ne. record { word = λ e. ne (same_anchor b a e); sides = λ side e. cc; links = λ x there chain j c e. cc }) h
@@ -377,7 +379,7 @@ module _ (g : Ground (List ℕ)) (rename : ℕ → ℕ) where
     freeing = refl;
     others = but_step g rename v u (Evict t a) n p p guests a st refl inside_ (same_else p a) (knows_but g rename v p guests a knows);
     drawn = drawn_ (entry_at p a) there shown.entry;
-    word = has_left g v u (Evict t a) n (Anchor a) (Anchor a) st refl refl ∙ (let z = eq-eqb n (last_find a v.trail) won in rw z refl) ∙ ap evicted found
+    word = has_left g v u (Evict t a) n (Anchor a) st refl ∙ (let z = eq-eqb n (last_find a v.trail) won in rw z refl) ∙ ap evicted found
         ∙ evicted_number (renamed_word rename (word_at (setting_of g) p a)) unread (subst (λ o. stage_number (stage_of (room_of g.slot) (place_at p a).version o) ≤ 5) (sym there) (low_stage (room_of g.slot) (place_at p a).version e e.life refl))
         ∙ (let z = alone in omega arith);
   }
@@ -411,7 +413,7 @@ module _ (g : Ground (List ℕ)) (rename : ℕ → ℕ) where
       → Freed g u w → TookOver lot w a version p guests
   take_freed lone v u w t a version n p guests few knows st won idle freed = record {
     others = freed_but g rename lone u w p guests a few freed (ap (λ (z : Freer (List ℕ)). z.anchor) freer_is) (but_step g rename v u (Take t a version) n p p guests a st refl inside (same_else p a) (knows_but g rename v p guests a knows));
-    word = (freed_same g rename lone u w freed).same (Anchor a) tt inside (not_freed (ap (λ (z : Freer (List ℕ)). z.is_freeing) freer_is)) ∙ has_left g v u (Take t a version) n (Anchor a) (Anchor a) st refl refl
+    word = (freed_same g rename lone u w freed).same (Anchor a) tt inside (not_freed (ap (λ (z : Freer (List ℕ)). z.is_freeing) freer_is)) ∙ has_left g v u (Take t a version) n (Anchor a) st refl
         ∙ (let z = eq-eqb n (last_find a v.trail) won in rw z refl);
   }
     where

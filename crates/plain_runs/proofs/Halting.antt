@@ -39,6 +39,7 @@ use Rattle.plain_laws.proofs.Choosing.{either}
 use Rattle.plain_laws.proofs.Sums.{inside}
 use Rattle.plain_runs.proofs.Flushing.{entry_shown, staged, staged_raised, word_staged}
 use Rattle.plain_runs.proofs.Frames.{SameBut, knows_same, same_none, same_on, same_weaker, step_same, step_same_map}
+use Rattle.core_alone.specs.Touched.{places_in}
 use Rattle.plain_runs.proofs.Freeing.{KnowsBut, SameElse, but_step, knows_all, knows_but}
 use Rattle.plain_runs.proofs.LeftTabs.{entry_kept, raised_parts_right}
 use Rattle.plain_runs.proofs.OwnAnchors.{mine_lone, stands_before}
@@ -194,12 +195,12 @@ module _ (g : Ground (List ℕ)) (lone : IsLone g) (rename : ℕ → ℕ) (t : �
             let m = ap (λ (o : PlaceOf). word_number (renamed_word rename record { epoch = epoch_of (room_of g.slot) o; readers = readers p a })) (sym now) in
             let q = ap (λ (c : ℕ). word_number (renamed_word rename record { epoch = epoch_of (room_of g.slot) (place_at (ended_with life t a p) a); readers = c })) (sym r) in omega arith);
         entry = subst (λ (o : PlaceOf). ShowsEntryIf g v a o.version o.entry) (sym now)
-            (entry_kept g rename u v a (place_at p a).version (Some (record x { life = life })) lt (step_same g u v (Raise t to) n (Anchor a) raises here lt) entry);
+            (entry_kept g rename u v a (place_at p a).version (Some (record x { life = life })) lt (step_same g u v (Raise t to) n (Anchor a) raises (ap places_in here) lt) entry);
       }
 
       knows : Knows g rename v (ended_with life t a p) no_guests
       knows = knows_all g rename v (ended_with life t a p) no_guests a
-          (but_step g rename u v (Raise t to) n p (ended_with life t a p) no_guests a raises here lt (ended_else life t a p few_tabs plain_is) but)
+          (but_step g rename u v (Raise t to) n p (ended_with life t a p) no_guests a raises (ap places_in here) lt (ended_else life t a p few_tabs plain_is) but)
           (λ k own. at_place (ended_at life t a p x there))
 
   -- an entry that grows, given up

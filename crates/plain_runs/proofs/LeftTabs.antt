@@ -29,7 +29,9 @@ use Rattle.store_rule.specs.Ground.{Ground}
 use Rattle.tab_states.specs.Tabs.{is_last}
 use Rattle.store_rule.specs.Told.{Stands, Steps}
 use Rattle.store_rule.specs.Words.{Mine, has}
-use Rattle.store_rule.proofs.AddingUp.{found_mine, has_left}
+use Rattle.core_alone.specs.Touched.{places_in}
+use Rattle.store_rule.proofs.AddingUp.{has_left}
+use Rattle.store_rule.proofs.MyWords.{found_mine}
 use Rattle.rw_anchor.specs.Calls.{GivenUp as TriedToFree, Gone, LeftLast, Leaves}
 use Rattle.rw_anchor.specs.declared.Left.{Left}
 use Rattle.slice_chain.specs.Freeing.{Freed}
@@ -103,7 +105,7 @@ module _ (g : Ground (List ℕ)) (rename : ℕ → ℕ) where
       → KnowsLot g rename lot v p (guest_at a) → KnowsLot g rename lot w p no_guests × (n ≡ word_number (renamed_word rename (word_at (setting_of g) p a)) + 1)
   leave_knows {lot} v w t a n p mine st at lt own knows = (
     knows_all g rename w p no_guests a (but_guests g rename w p (guest_at a) no_guests a (λ b ne. sym (guest_else a b ne))
-        (but_step g rename v w (Leave t) n p p (guest_at a) a st is lt (same_else p a) (knows_but g rename v p (guest_at a) a knows))) here,
+        (but_step g rename v w (Leave t) n p p (guest_at a) a st (ap places_in is) lt (same_else p a) (knows_but g rename v p (guest_at a) a knows))) here,
     found,
   )
     where
@@ -118,8 +120,8 @@ module _ (g : Ground (List ℕ)) (rename : ℕ → ℕ) where
 
       here : a < g.setting.anchors → lot.anchors a ≡ true → ShowsAt g rename w p 0 a
       here lt ours = record {
-        word = has_left g v w (Leave t) n (Anchor a) (Anchor a) st is refl ∙ (let f = found in omega arith);
-        entry = entry_kept v w a (place_at p a).version (entry_at p a) lt (step_same g v w (Leave t) n (Anchor a) st is lt) shown.entry;
+        word = has_left g v w (Leave t) n (Anchor a) st is ∙ (let f = found in omega arith);
+        entry = entry_kept v w a (place_at p a).version (entry_at p a) lt (step_same g v w (Leave t) n (Anchor a) st (ap places_in is) lt) shown.entry;
       }
 
   -- The entry that a last tab left over is freed, and nobody comes before.
@@ -160,7 +162,7 @@ module _ (g : Ground (List ℕ)) (rename : ℕ → ℕ) where
       mine_left = own.words u (Anchor a) (pass_stays g v u (Leave t) n st) refl
 
       has_is : has g u (Anchor a) ≡ n - 1
-      has_is = has_left g v u (Leave t) n (Anchor a) (Anchor a) st (ap (λ z. Some (Anchor z)) at) refl
+      has_is = has_left g v u (Leave t) n (Anchor a) st (ap (λ z. Some (Anchor z)) at)
 
     gone_right : (left : Left) (w : View (List ℕ)) → Gone g v t left w → KnowsLot g rename lot w (settle a p) no_guests
     gone_right left w h = subst (λ q. KnowsLot g rename lot w q no_guests) (sym (settle_stays p a (sym (over_is w h.found h.leave) ∙ h.used))) (knows_left w h.found h.leave)
@@ -246,7 +248,7 @@ module _ (g : Ground (List ℕ)) (rename : ℕ → ℕ) where
       at_tab = ap anchor_of is ∙ at
 
       left_there : has g v (Anchor a) ≡ left
-      left_there = has_left g u v (Raise t to) n (Anchor a) (Anchor a) st (ap (λ z. Some (Anchor z)) at_tab) refl
+      left_there = has_left g u v (Raise t to) n (Anchor a) st (ap (λ z. Some (Anchor z)) at_tab)
 
       over : is_left_over left ≡ is_left_over_at p a
       over = ap is_left_over (sym left_there) ∙ over_known v a p eight lt ours knows

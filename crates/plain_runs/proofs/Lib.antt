@@ -23,6 +23,7 @@ pub mod Renamed
 pub mod ServedLines
 pub mod QuietSteps
 pub mod Freeing
+pub mod LeftAnchors
 pub mod LeftTabs
 pub mod Totals
 pub mod Holding

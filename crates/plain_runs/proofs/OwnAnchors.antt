@@ -4,7 +4,7 @@ use lib.ListN.{get_elem?}
 use Rattle.std.proofs.Common.{List, ap, false, refl, sym, ◌<◌, ◌∙◌, ◌≡◌, ◌≤◌, ℕ}
 use Rattle.lock_word.specs.Words.{epoch_of, stage_of}
 use Rattle.core_model.specs.Chains.{IsSpelled, start_number}
-use Rattle.core_model.specs.Layout.{IsPlace, word_in}
+use Rattle.core_model.specs.Layout.{IsPlace, index, word_in}
 use Rattle.core_model.specs.State.{chain_of, word}
 use Rattle.core_model.specs.Holders.{IsTab}
 use Rattle.core_model.specs.Tabs.{IsPass, anchor_of, is_free, tab_at}
@@ -21,7 +21,7 @@ use Rattle.store_rule.specs.Told.{Stands, Steps}
 use Rattle.store_rule.specs.Words.{Mine, has}
 use Rattle.core_model.proofs.SpelledOnce.{spelled_once}
 use Rattle.core_model.proofs.Telling.{told_in}
-use Rattle.store_rule.proofs.AddingUp.{found_mine}
+use Rattle.store_rule.proofs.MyWords.{found_mine, mine_lone as one_owns}
 use Rattle.plain_runs.specs.Words.{HasChain, IsLone, link_known}
 use Rattle.plain_runs.proofs.Chains.{chain_spelled, chain_starts, only_tabs, word_is}
 
@@ -39,9 +39,9 @@ stands_before st = record { state = st.state; index = st.index; rule = st.rule; 
 pub pass_stays : (g : Ground (List ℕ)) (v w : View (List ℕ)) (m : Move) (n : ℕ) → Steps g v m n w → w.pass ≡ v.pass
 pass_stays g v w m n st = ap View.pass st.leaves
 
--- In a store with one pass nobody else changes any word. This alone says what `Mine` is there.
+-- In a store with one pass nobody else changes any word.
 pub mine_lone : (g : Ground (List ℕ)) → IsLone g → (v : View (List ℕ)) (q : Place) → Mine g v q
-mine_lone g lone v q = lone
+mine_lone g lone v q = one_owns g v.pass lone (index g.setting q)
 
 -- The anchor is the own one of the pass with this number.
 pub record OwnsAnchor (g : Ground (List ℕ)) (pass a : ℕ) : Type 0 where

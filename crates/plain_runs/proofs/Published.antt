@@ -41,7 +41,8 @@ use Rattle.store_rule.specs.Turns.{IsReturned}
 use Rattle.store_rule.proofs.Moves.{known_of}
 use Rattle.store_rule.specs.Words.{Mine, has}
 use Rattle.plain_runs.proofs.OwnAnchors.{OwnsAnchor, own_chain, owns_lone, stands_before}
-use Rattle.store_rule.proofs.AddingUp.{found_mine, has_left}
+use Rattle.store_rule.proofs.AddingUp.{has_left}
+use Rattle.store_rule.proofs.MyWords.{found_mine, has_same}
 use Rattle.slice_chain.specs.Links.{Published, next_link}
 use Rattle.slice_chain.specs.Writes.{WroteSlot}
 use Rattle.rock_writer.proofs.Resting.{tab_now}
@@ -114,20 +115,21 @@ module _ (g : Ground (List ℕ)) where
   pub anchor_there : (v : View (List ℕ)) (t : ℕ) (w : Writer (List ℕ)) → Stands g v → IsPass v → t < inner → tab_at v t ≡ Writing w → w.anchor < g.setting.anchors
   anchor_there v t w st pass below is = standing.anchor_inside g v st t w (tab_there v t (Writing w) (let n = pass in let b = below in omega arith) is)
 
-  returned_mirror : (tab : Tab (List ℕ)) (t slot : ℕ) (c : Cell (List ℕ)) (v u : View (List ℕ)) → IsReturned g.setting tab t slot c v u → u.mirror ≡ v.mirror
-  returned_mirror (Writing w) t slot c v u h = ap View.mirror h.2
-  returned_mirror Free t slot c v u h = ap View.mirror h
-  returned_mirror (Retreating a) t slot c v u h = ap View.mirror h
-  returned_mirror (Reading r) t slot c v u h = ap View.mirror h
-  returned_mirror (Last a) t slot c v u h = ap View.mirror h
-  returned_mirror (Freeing f) t slot c v u h = ap View.mirror h
+  -- a cell that comes back changes no word that the pass has
+  returned_has : (tab : Tab (List ℕ)) (t slot : ℕ) (c : Cell (List ℕ)) (v u : View (List ℕ)) → IsReturned g.setting tab t slot c v u → (q : Place) → has g u q ≡ has g v q
+  returned_has (Writing w) t slot c v u h q = has_same g v u (ap View.mirror h.2) (ap View.trail h.2) q
+  returned_has Free t slot c v u h q = ap (λ (z : View (List ℕ)). has g z q) h
+  returned_has (Retreating a) t slot c v u h q = ap (λ (z : View (List ℕ)). has g z q) h
+  returned_has (Reading r) t slot c v u h q = ap (λ (z : View (List ℕ)). has g z q) h
+  returned_has (Last a) t slot c v u h q = ap (λ (z : View (List ℕ)). has g z q) h
+  returned_has (Freeing f) t slot c v u h q = ap (λ (z : View (List ℕ)). has g z q) h
 
   -- writing a slot changes no word but the counter of logged pieces and its turn
   pub wrote_same : (v w : View (List ℕ)) (t : ℕ) (durable done : Bool) → IsPass v → t < inner → WroteSlot g t v durable done w → SameBut g v w (λ q. ⊥)
   wrote_same v w t durable done pass below h = record {
     same = λ q known here none.
         (step_same_turn g h.from w (EndTurn t h.slot Stays) 1 h.slot h.ended refl there).same q known here none
-        ∙ (ap (mirrored g.setting (index g.setting q)) (returned_mirror (tab_at h.middle t) t h.slot h.cell h.middle h.from h.returned)
+        ∙ (returned_has (tab_at h.middle t) t h.slot h.cell h.middle h.from h.returned q
         ∙ ((step_same_turn g h.logged h.middle (TryTurn t h.slot) 0 h.slot h.tried refl there).same q known here none
         ∙ (step_same_log g v h.logged (LogPiece t h.slot durable) h.number h.logs refl).same q known here none));
   }
@@ -238,7 +240,7 @@ module _ (g : Ground (List ℕ)) where
 
   pub raise_left : (v w : View (List ℕ)) (t n : ℕ) (to : Stage) (x : Writer (List ℕ)) → Mine g v (Anchor x.anchor) → tab_at v t ≡ Writing x → Steps g v (Raise t to) n w
       → (n ≡ has g v (Anchor x.anchor)) × (has g w (Anchor x.anchor) ≡ raised n (stage_number to - stage_of (epoch_of n))) × (left_by v (Raise t to) n ≡ raised n (stage_number to - stage_of (epoch_of n)))
-  raise_left v w t n to x mine is st = (found_mine g v w (Raise t to) n (Anchor x.anchor) st mine here, has_left g v w (Raise t to) n (Anchor x.anchor) (Anchor x.anchor) st here refl ∙ left, left)
+  raise_left v w t n to x mine is st = (found_mine g v w (Raise t to) n (Anchor x.anchor) st mine here, has_left g v w (Raise t to) n (Anchor x.anchor) st here ∙ left, left)
     where
       here : place v (Raise t to) ≡ Some (Anchor x.anchor)
       here = ap (λ (z : Tab (List ℕ)). Some (Anchor (anchor_of z))) is

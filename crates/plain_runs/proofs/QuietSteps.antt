@@ -7,8 +7,8 @@ use Rattle.link_word.specs.Words.{link_number}
 use Rattle.link_word.specs.declared.link.Link.{Link}
 use Rattle.store_key.specs.Anchor.{back_half, front_half}
 use Rattle.rock_disk.specs.Cell.{CellState}
-use Rattle.core_model.specs.Deeds.{mirrored}
-use Rattle.core_model.specs.Layout.{index}
+use Rattle.core_alone.specs.Touched.{touched_by}
+use Rattle.core_model.specs.Layout.{IsPlace, index}
 use Rattle.core_model.specs.Table.{left_by, place}
 use Rattle.core_model.specs.Tabs.{anchor_of, tab_at}
 use Rattle.core_model.specs.declared.moves.Move.{Move}
@@ -24,6 +24,8 @@ use Rattle.core_model.specs.declared.view.Place.{Place}
 use Rattle.core_model.specs.declared.view.Place.TheVariants.{Anchor, Beside, Link as LinkAt}
 use Rattle.core_model.specs.declared.view.View.{View}
 use Rattle.core_model.proofs.Holders.{end_inside, try_inside}
+use Rattle.core_model.proofs.Places.{apart}
+use Rattle.core_model.proofs.StepPlaces.{IsInside, place_inside}
 use Rattle.store_rule.specs.declared.store.Pass.{Pass}
 use Rattle.store_rule.specs.declared.store.Store.{Store}
 use Rattle.store_rule.specs.Ground.{Ground, Offers}
@@ -31,7 +33,8 @@ use Rattle.store_rule.specs.Passes.{basis, view}
 use Rattle.store_rule.specs.Told.{Steps}
 use Rattle.store_rule.specs.Turns.{Lost}
 use Rattle.store_rule.specs.Words.{Mine, has}
-use Rattle.store_rule.proofs.AddingUp.{found_mine, has_else, has_left}
+use Rattle.store_rule.proofs.AddingUp.{has_left, has_other}
+use Rattle.store_rule.proofs.MyWords.{found_mine}
 use Rattle.slice_chain.specs.Links.{Located}
 use Rattle.slice_chain.specs.Names.{KeyLoaded}
 use Rattle.slice_chain.specs.Reads.{after_reading, ReadSlot}
@@ -58,16 +61,19 @@ module _ (g : Ground (List ℕ)) where
   quiet_on v u w first second = record { same = λ q known here ne. second.same q known here ne ∙ first.same q known here ne }
 
   -- a step that leaves the word which it found, where that is what the pass has
-  pub found_quiet : (v w : View (List ℕ)) (m : Move) (n : ℕ) (r : Place) → Steps g v m n w → place v m ≡ Some r → left_by v m n ≡ n → n ≡ has g v r → Quiet g v w
-  found_quiet v w m n r st is stays found = record {
+  pub found_quiet : (v w : View (List ℕ)) (m : Move) (n : ℕ) (r : Place) → Steps g v m n w → place v m ≡ Some r → touched_by v m n ≡ r ∷ [] → left_by v m n ≡ n → n ≡ has g v r → Quiet g v w
+  found_quiet v w m n r st is only stays found = record {
     same = λ q known here ne. dite (ℕ_discrete (index g.setting r) (index g.setting q))
-        (λ e. has_left g v w m n r q st is e ∙ stays ∙ found ∙ ap (λ (z : ℕ). mirrored g.setting z v.mirror) e)
-        (λ far. has_else g v w m n r q st is far);
+        (λ e. subst (λ (z : Place). has g w z ≡ has g v z) (apart g.setting r q there here e) (has_left g v w m n r st is ∙ stays ∙ found))
+        (λ far. has_other g v w m n r q st only far);
   }
+    where
+      there : IsPlace g.setting r
+      there = subst (IsInside g.setting) is (place_inside g.setting st.state st.index v st.rule.sound st.at st.may.pass m st.may.allowed)
 
   -- so it is where nobody else changes the word
-  pub step_quiet : (v w : View (List ℕ)) (m : Move) (n : ℕ) (r : Place) → Steps g v m n w → place v m ≡ Some r → left_by v m n ≡ n → Mine g v r → Quiet g v w
-  step_quiet v w m n r st is stays mine = found_quiet v w m n r st is stays (found_mine g v w m n r st mine is)
+  pub step_quiet : (v w : View (List ℕ)) (m : Move) (n : ℕ) (r : Place) → Steps g v m n w → place v m ≡ Some r → touched_by v m n ≡ r ∷ [] → left_by v m n ≡ n → Mine g v r → Quiet g v w
+  step_quiet v w m n r st is only stays mine = found_quiet v w m n r st is only stays (found_mine g v w m n r st mine is)
 
   -- turns
   try_quiet : (v w : View (List ℕ)) (t slot n : ℕ) → Steps g v (TryTurn t slot) n w → Quiet g v w
@@ -103,7 +109,7 @@ load_stays g v w t n side st = ap (λ (z : View (List ℕ)). anchor_of (tab_at z
 -- Looks and loads of a tab at an anchor that is the pass's own.
 module _ (g : Ground (List ℕ)) (pass a : ℕ) (own : OwnsAnchor g pass a) where
   pub load_quiet : (t n : ℕ) (side : Side) (v w : View (List ℕ)) → v.pass ≡ pass → anchor_of (tab_at v t) ≡ a → Steps g v (LoadSide t side) n w → Quiet g v w
-  load_quiet t n side v w same at st = step_quiet g v w (LoadSide t side) n (Beside side (anchor_of (tab_at v t))) st refl refl (own.words v (Beside side (anchor_of (tab_at v t))) same at)
+  load_quiet t n side v w same at st = step_quiet g v w (LoadSide t side) n (Beside side (anchor_of (tab_at v t))) st refl refl refl (own.words v (Beside side (anchor_of (tab_at v t))) same at)
 
   located_quiet : (t slot : ℕ) (v w : View (List ℕ)) → v.pass ≡ pass → anchor_of (tab_at v t) ≡ a → Located g t slot v w → Quiet g v w
   located_quiet t slot v w same at (inl k) = quiet_is g v w k.stays
@@ -122,7 +128,7 @@ module _ (g : Ground (List ℕ)) (pass a : ℕ) (own : OwnsAnchor g pass a) wher
 
     pub located_first : Quiet g v h.linked.middle
     located_first = quiet_on g v h.looked h.linked.middle
-        (step_quiet g v h.looked (Look (anchor_of (tab_at v t))) h.word (Anchor (anchor_of (tab_at v t))) h.look refl refl (own.words v (Anchor (anchor_of (tab_at v t))) same at))
+        (step_quiet g v h.looked (Look (anchor_of (tab_at v t))) h.word (Anchor (anchor_of (tab_at v t))) h.look refl refl refl (own.words v (Anchor (anchor_of (tab_at v t))) same at))
         (located_quiet t h.linked.slot h.looked h.linked.middle looked_pass looked_at h.linked.located)
 
     middle_there : (h.linked.middle.pass ≡ pass) × (anchor_of (tab_at h.linked.middle t) ≡ a)
@@ -133,7 +139,7 @@ module _ (g : Ground (List ℕ)) (pass a : ℕ) (own : OwnsAnchor g pass a) wher
 
     pub looked_quiet : Quiet g v w
     looked_quiet = quiet_on g v h.linked.middle w located_first
-        (found_quiet g h.linked.middle w (GetLink t h.linked.slot) (link_number link) (LinkAt h.linked.slot) h.linked.step refl refl
+        (found_quiet g h.linked.middle w (GetLink t h.linked.slot) (link_number link) (LinkAt h.linked.slot) h.linked.step refl refl refl
         (own.links h.linked.middle w t h.linked.slot (link_number link) middle_there.0 middle_there.1 h.linked.step))
 
   module _ (t : ℕ) (v : View (List ℕ)) (key : List ℕ) (w : View (List ℕ)) (same : v.pass ≡ pass) (at : anchor_of (tab_at v t) ≡ a) (h : KeyLoaded g t v key w) where

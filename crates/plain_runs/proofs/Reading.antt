@@ -50,7 +50,7 @@ use Rattle.store_rule.specs.Told.{Stands}
 use Rattle.store_rule.proofs.Moves.{known_of}
 use Rattle.store_rule.proofs.Passing.{pass_of}
 use Rattle.store_rule.specs.Words.{has}
-use Rattle.store_rule.proofs.AddingUp.{found_mine}
+use Rattle.store_rule.proofs.MyWords.{found_mine}
 use Rattle.rock_reader.specs.Reading.{Gave, LookedAt, ReadsAs, Standing, StaysOther, TurnsOut, Waits, turned}
 use Rattle.rock_reader.specs.Responses.{HoldsFile, IsResponse, body_at, body_below, pieces_of}
 use Rattle.rock_reader.specs.declared.answer.More.{More}

@@ -25,7 +25,8 @@ use Rattle.store_rule.proofs.Following.{follows_on, made_follows}
 use Rattle.store_rule.specs.Told.{Stands, Steps, found_as}
 use Rattle.store_rule.specs.Runs.{added_by, changed_at, together}
 use Rattle.store_rule.specs.Words.{Mine}
-use Rattle.store_rule.proofs.AddingUp.{found_mine, has_left, went_one, went_then}
+use Rattle.store_rule.proofs.AddingUp.{has_left, went_one, went_then}
+use Rattle.store_rule.proofs.MyWords.{found_mine, mine_as}
 use Rattle.slice_chain.proofs.Drawing.{none_drawn}
 use Rattle.slice_chain.proofs.Counting.{first_not}
 use Rattle.slice_chain.specs.Victims.{LooksAt}
@@ -69,7 +70,7 @@ module _ {X : Type 0} (g : Ground X) (a : ℕ) where
     found = inl (0, omega arith, refl);
     sees = subst (λ (xs : List Sight). epoch_of n ≤ seen_at a xs) (sym (ap View.seen st.leaves)) (sees_epoch (epoch_of n) v.seen);
     was = λ mine. sym (found_mine g v w (Look a) n (Anchor a) st mine refl);
-    mirrored_is = λ mine. has_left g v w (Look a) n (Anchor a) (Anchor a) st refl refl;
+    mirrored_is = λ mine. has_left g v w (Look a) n (Anchor a) st refl;
   }
 
   -- a try that found another word than the one seen last
@@ -92,7 +93,7 @@ module _ {X : Type 0} (g : Ground X) (a : ℕ) where
     tabs_same = ap (set v.tabs inner) (sym (free_tab (tab_at v inner) free)) ∙ set_there v.tabs inner Tab.Free (let n = pass in omega arith)
 
     not_mine : Mine g v (Anchor a) → m ≡ n
-    not_mine mine = found_mine g u w (Evict inner a) m (Anchor a) st mine refl ∙ h.mirrored_is mine
+    not_mine mine = found_mine g u w (Evict inner a) m (Anchor a) st (mine_as g v u (Anchor a) (Anchor a) h.went.pass refl mine) refl ∙ h.mirrored_is mine
 
     pub looks_again : LooksAt g a v m w
     looks_again = record {

@@ -38,6 +38,7 @@ use Rattle.store_rule.specs.Calls.{Follows}
 use Rattle.store_rule.specs.Runs.{Added, Went, added_by, nothing_added, together}
 use Rattle.store_rule.specs.Words.{Mine, has}
 use Rattle.store_rule.proofs.AddingUp.{went_none, went_one, went_then}
+use Rattle.store_rule.proofs.MyWords.{mine_as}
 use Rattle.slice_chain.specs.Counts.{many, of_kinds}
 use Rattle.slice_chain.specs.Victims.{CountsEvicted, CountsNone, Evicted, FollowsEvicting, FoundBusy, KeptFirst, MayEvictOne, MayKeepFirst, NoneIdle, PassedSome, Spared, Won, hand_in, onward}
 use Rattle.slice_chain.proofs.Counting.{first_not, many_more, many_none, of_kinds-append, one_evicted, one_looked}
@@ -97,7 +98,8 @@ module _ {X : Type 0} (g : Ground X) (hand : ℕ) (v : View X) where
           (λ e. subst (λ (z : ℕ). FoundBusy (x.looked.added.items ++ h.added.items) (onward g.setting.anchors hand z)) (sym e) here)
           (λ ne. later_found x.looked.added.items h.added.items (onward g.setting.anchors hand j) (h.passed j (omega arith)));
       was = λ j lt mine. dite (ℕ_discrete j steps)
-          (λ e. subst (λ (z : ℕ). is_idle (has g v (Anchor (onward g.setting.anchors hand z))) ≡ false) (sym e) (ap is_idle (sym (had mine) ∙ x.looked.was mine) ∙ x.busy))
+          (λ e. subst (λ (z : ℕ). is_idle (has g v (Anchor (onward g.setting.anchors hand z))) ≡ false) (sym e) (ap is_idle (sym (had (mine_as g v v (Anchor (onward g.setting.anchors hand j)) (Anchor a) refl (ap (λ (z : ℕ). Anchor (onward g.setting.anchors hand z)) e) mine))
+          ∙ x.looked.was (mine_as g v u (Anchor (onward g.setting.anchors hand j)) (Anchor a) h.went.pass (ap (λ (z : ℕ). Anchor (onward g.setting.anchors hand z)) e) mine)) ∙ x.busy))
           (λ ne. h.was j (omega arith) mine);
     }
       where
@@ -185,7 +187,7 @@ module _ {X : Type 0} (g : Ground X) (hand : ℕ) (v : View X) where
         before = h;
         won = won;
         victim = x;
-        was = λ mine. sym (had mine) ∙ x.looked.was mine;
+        was = λ mine. sym (had mine) ∙ x.looked.was (mine_as g v u (Anchor a) (Anchor a) h.went.pass refl mine);
         kept = k;
         chain = same;
         added = together k.added front;
@@ -234,7 +236,8 @@ module _ {X : Type 0} (g : Ground X) (hand : ℕ) (v : View X) where
     undrawn = h.undrawn;
     tabs = h.tabs;
     each = λ a lt. let r = in_round g.setting.anchors hand a (in_all a lt begins) lt in subst (FoundBusy h.added.items) r.2 (h.passed r.0 r.1);
-    was = λ a lt mine. let r = in_round g.setting.anchors hand a (in_all a lt begins) lt in subst (λ (z : ℕ). is_idle (has g v (Anchor z)) ≡ false) r.2 (h.was r.0 r.1 mine);
+    was = λ a lt mine. let r = in_round g.setting.anchors hand a (in_all a lt begins) lt in subst (λ (z : ℕ). is_idle (has g v (Anchor z)) ≡ false) r.2
+        (h.was r.0 r.1 (mine_as g v v (Anchor a) (Anchor (onward g.setting.anchors hand r.0)) refl (ap Anchor (sym r.2)) mine));
     unfit = unfit;
   }
     where

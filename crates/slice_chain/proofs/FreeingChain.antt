@@ -1,5 +1,5 @@
 -- The whole chain of an entry is given back, and its anchor is gone.
-use Rattle.std.proofs.Common.{Bool, Contains, List, Option, [], ap, arith, cond, eq-eqb, false, get_or, get_or-set_same, inl, inr, ne_eqb, not, refl, set, subst, sym, true, unwrap_or, ⊎_elim, ◌+◌, ◌-◌, ◌++◌, ◌<◌, ◌==◌, ◌&&◌, ◌≡◌, ◌≢◌, ◌≤◌, ◌∙◌, ◌∷◌, ℕ, length}
+use Rattle.std.proofs.Common.{◌⊎◌, Bool, Contains, List, Option, [], ap, arith, cond, eq-eqb, false, get_or, get_or-set_same, inl, inr, ne_eqb, not, refl, set, subst, sym, true, unwrap_or, ⊎_elim, ◌+◌, ◌-◌, ◌++◌, ◌<◌, ◌==◌, ◌&&◌, ◌≡◌, ◌≢◌, ◌≤◌, ◌∙◌, ◌∷◌, ℕ, length, suc, zero}
 use Rattle.std.proofs.lemmas.Bool.{false≢true}
 use Rattle.std.proofs.lemmas.List.Elements.{Contains-append_cases, Contains-append_left, Contains-append_right}
 use mathlib.Core.Option.{some}
@@ -12,7 +12,7 @@ use Rattle.core_model.specs.Chains.{start_number, times}
 use Rattle.core_model.specs.SlotMoves.{emptied, loaded}
 use Rattle.core_model.specs.Slots.{FreerHolds}
 use Rattle.core_model.specs.Steps.{number_found}
-use Rattle.core_model.specs.Tabs.{inner, tab_at, with_tab}
+use Rattle.core_model.specs.Tabs.{anchor_of, inner, tab_at, with_tab}
 use Rattle.core_model.specs.Told.{NameFound, Tells}
 use Rattle.core_model.specs.Trails.{draws}
 use Rattle.core_model.specs.declared.moves.Move.TheVariants.{LoadSide, Raise}
@@ -23,7 +23,7 @@ use Rattle.core_model.specs.declared.tab.Tab.TheVariants.{Free, Freeing}
 use Rattle.core_model.specs.declared.view.Kind.{Kind}
 use Rattle.core_model.specs.declared.view.Kind.TheVariants.{Loaded, Raised}
 use Rattle.core_model.specs.declared.view.Place.{Place}
-use Rattle.core_model.specs.declared.view.Place.TheVariants.{Anchor, Link}
+use Rattle.core_model.specs.declared.view.Place.TheVariants.{Anchor, Beside, Link}
 use Rattle.core_model.specs.declared.view.View.{View}
 use Rattle.core_model.proofs.Lists.{contains_none}
 use Rattle.core_model.proofs.ReservesKept.{held_slot}
@@ -40,6 +40,7 @@ use Rattle.store_rule.proofs.Passing.{pass_of}
 use Rattle.store_rule.specs.Calls.{Follows}
 use Rattle.store_rule.specs.Runs.{Added, added_by, changed_at, together}
 use Rattle.store_rule.proofs.AddingUp.{went_one, went_then}
+use Rattle.store_rule.proofs.MyWords.{mine_as}
 use Rattle.store_rule.proofs.Following.{follows_on, made_follows}
 use Rattle.slice_chain.specs.Counts.{many, of_kinds, slots_freed}
 use Rattle.slice_chain.specs.Freeing.{CountsFreed, Freed, MayFreeChain, MayFreeRest, RestFreed, WasGiven, is_freeing_anchor, rest_length, slot_named}
@@ -100,6 +101,10 @@ module _ {C O : Type 0} (tells : Bool) (state : C → CellState) (offers : O →
     (let e = eq-eqb loaded_.found loaded_.found refl in rw e refl),
   )
 
+  pub load_touched : (q : Place) → Contains load_added.touched q → q ≡ Beside Start f.anchor
+  load_touched q (zero, lt, e) = sym e ∙ ap (λ (x : Tab (List ℕ)). Beside Start (anchor_of x)) may.is
+  load_touched q (suc k, lt, e) = absurd (omega arith)
+
   module _ (p2 : Pass C) (gave : RestFreed g (view p1) (view p2)) (own2 : IsOf tells state offers s p2) where
     same : gave.freer ≡ f
     same = same_freer gave.freer f (sym gave.was ∙ tabs1)
@@ -123,6 +128,10 @@ module _ {C O : Type 0} (tells : Bool) (state : C → CellState) (offers : O →
     changes : (q : Place) → Contains rest_added.changed q → (slot : ℕ) × (q ≡ Link slot) × Contains f.rest slot
     changes q c = ⊎_elim (λ l. let x = gave.all.changed q l in (x.0, x.1, subst (λ (y : Freer (List ℕ)). Contains y.rest x.0) same x.2)) (λ l. absurd (contains_none q (subst (λ (xs : List Place). Contains xs q) load_quiet.3 l)))
         (Contains-append_cases gave.all.added.changed load_added.changed q c)
+
+    touches : (q : Place) → Contains rest_added.touched q → ((slot : ℕ) × (q ≡ Link slot) × Contains f.rest slot) ⊎ (q ≡ Beside Start f.anchor)
+    touches q c = ⊎_elim (λ l. inl (let x = gave.all.touched q l in (x.0, x.1, subst (λ (y : Freer (List ℕ)). Contains y.rest x.0) same x.2))) (λ l. inr (load_touched q l))
+        (Contains-append_cases gave.all.added.touched load_added.touched q c)
 
     rest_went : Rattle.store_rule.specs.Runs.Went g (view p) rest_added (view p2)
     rest_went = went_then g (view p) (view p1) (view p2) load_added gave.all.added (went_one g (view p) (view p1) (LoadSide inner Start) loaded_.found loaded_.step loaded_.own.stands) gave.all.went
@@ -158,6 +167,7 @@ module _ {C O : Type 0} (tells : Bool) (state : C → CellState) (offers : O →
       gave = given;
       tabs = tabs0 ∙ ap (set (view p).tabs inner) (λ i. cond ((length (gave.all.rest i) == 0) && (length (gave.all.none i) == 0) && not ((is_freeing_still ∙ off) i)) Free (Freeing last));
       changed = λ q c. inl (changes q c);
+      touched = λ q c. ⊎_elim (λ l. inl l) (λ e. inr (inl e)) (touches q c);
       gone = λ on. absurd (false≢true (sym off ∙ on));
       from = λ on. absurd (false≢true (sym off ∙ on));
       quiet = λ e. rest_quiet;
@@ -199,6 +209,8 @@ module _ {C O : Type 0} (tells : Bool) (state : C → CellState) (offers : O →
           gave = λ slot c. let o = given slot c in (o.0, Contains-append_right last_added.items rest_added.items _ o.1);
           tabs = ending.gone_tabs tells state offers s p2 own2 last tab2 still_on gave.all.rest gave.all.none m p3 ended ∙ ap (λ (xs : List (Tab (List ℕ))). set xs inner Free) tabs0 ∙ set_again (view p).tabs inner (emptied last) Free;
           changed = λ q c. ⊎_elim (λ l. inr (on, ending.end_changed tells state offers s p2 own2 last tab2 still_on gave.all.rest gave.all.none m p3 ended q l ∙ ap Anchor anchor_is)) (λ l. inl (changes q l)) (Contains-append_cases last_added.changed rest_added.changed q c);
+          touched = λ q c. ⊎_elim (λ l. inr (inr (on, ending.end_touched tells state offers s p2 own2 last tab2 still_on gave.all.rest gave.all.none m p3 ended q l ∙ ap Anchor anchor_is)))
+              (λ l. ⊎_elim (λ x. inl x) (λ e. inr (inl e)) (touches q l)) (Contains-append_cases last_added.touched rest_added.touched q c);
           gone = λ e. (
             ended.found,
             ap (λ xs. last_added.done ++ xs) rest_quiet.1 ∙ ap (λ xs. xs ++ []) (ending.end_done tells state offers s p2 own2 last tab2 still_on gave.all.rest gave.all.none m p3 ended)
@@ -207,7 +219,8 @@ module _ {C O : Type 0} (tells : Bool) (state : C → CellState) (offers : O →
             subst (λ (a : ℕ). has g (view p3) (Anchor a) ≡ raised ended.found 1) anchor_is (ending.end_has tells state offers s p2 own2 last tab2 still_on gave.all.rest gave.all.none m p3 ended),
           );
           from = λ e lt mine. subst (λ (a : ℕ). has g (view p3) (Anchor a) ≡ raised ended.found 1) anchor_is (ending.end_has tells state offers s p2 own2 last tab2 still_on gave.all.rest gave.all.none m p3 ended)
-              ∙ ap (λ (n : ℕ). raised n 1) (ending.end_found tells state offers s p2 own2 last tab2 still_on gave.all.rest gave.all.none m p3 ended mine
+              ∙ ap (λ (n : ℕ). raised n 1) (ending.end_found tells state offers s p2 own2 last tab2 still_on gave.all.rest gave.all.none m p3 ended
+              (mine_as g (view p) (view p2) (Anchor f.anchor) (Anchor last.anchor) rest_went.pass (ap Anchor (sym anchor_is)) mine)
               ∙ ap (λ (a : ℕ). has g (view p2) (Anchor a)) anchor_is
               ∙ rest_went.steady (Anchor f.anchor) tt lt mine (λ q c same. let x = changes q c in behind_anchors x.0 lt (ap (index g.setting) (sym x.1) ∙ same)));
           quiet = λ off. absurd (false≢true (sym off ∙ on));

@@ -106,6 +106,11 @@ module _ {X : Type 0} (g : Ground X) (slot : ℕ) (u w : View X) (next : Option 
           only p (zero, lt, e) = e
           only p (suc k, lt, e) = absurd (omega arith)
 
+  front_touched : (p : Place) → Contains front_added.touched p → p ≡ Link slot
+  front_touched p (zero, lt, e) = sym e
+  front_touched p (suc zero, lt, e) = sym e
+  front_touched p (suc (suc k), lt, e) = absurd (omega arith)
+
   front_gave : WasGiven front_added.items slot
   front_gave = (h.map_word, (0, omega arith, refl))
 
@@ -129,6 +134,8 @@ module _ {X : Type 0} (g : Ground X) (v : View X) (pass : IsPass v) where
           (ap (λ (n : ℕ). of_kinds asked r.some.added.items + slots_freed asked n) (sym longer) ∙ r.some.counted asked);
       changed = λ p c. ⊎_elim (λ n. (slot, front_changed g slot u w next h p n, r.some.inside slot (subst (λ (xs : List ℕ). Contains xs slot) (sym there) (0, omega arith, refl)))) (λ o. r.some.changed p o)
           (Contains-append_cases (front_added g slot u w next h).changed r.some.added.changed p c);
+      touched = λ p c. ⊎_elim (λ n. (slot, front_touched g slot u w next h p n, r.some.inside slot (subst (λ (xs : List ℕ). Contains xs slot) (sym there) (0, omega arith, refl)))) (λ o. r.some.touched p o)
+          (Contains-append_cases (front_added g slot u w next h).touched r.some.added.touched p c);
       gave = λ j c. ⊎_elim (λ l. left_or_given j (subst (λ (xs : List ℕ). Contains xs j) there l)) (λ (o : WasGiven r.some.added.items j). inr (o.0, Contains-append_right (front_added g slot u w next h).items r.some.added.items _ o.1)) (r.some.gave j c);
       inside = λ j c. r.some.inside j (subst (λ (xs : List ℕ). Contains xs j) (sym there) (behind j c));
       freer = with_less r.some.freer;
@@ -177,6 +184,7 @@ module _ {C O : Type 0} (tells : Bool) (state : C → CellState) (offers : O →
       undrawn = refl;
       counted = λ asked. omega arith;
       changed = λ q c. absurd (Rattle.core_model.proofs.Lists.contains_none q c);
+      touched = λ q c. absurd (Rattle.core_model.proofs.Lists.contains_none q c);
       gave = λ j c. inl c;
       inside = λ j c. c;
       freer = may.freer;

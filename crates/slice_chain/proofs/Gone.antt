@@ -1,5 +1,5 @@
 -- The inner tab has no slot left, and its anchor goes from FREEING to GONE.
-use Rattle.std.proofs.Common.{Bool, Contains, List, [], ap, arith, cond, false, inr, refl, set, subst, suc, sym, true, zero, ⊎_elim, ◌*◌, ◌-◌, ◌==◌, ◌≡◌, ◌∙◌, ◌∷◌, ℕ}
+use Rattle.std.proofs.Common.{Bool, Contains, List, [], ap, arith, cond, false, inr, refl, set, subst, suc, sym, true, zero, ⊎_elim, ◌-◌, ◌==◌, ◌≡◌, ◌∙◌, ◌∷◌, ℕ}
 use Rattle.lock_word.specs.declared.stage.Stage.{Stage}
 use Rattle.lock_word.specs.Words.{epoch_of, is_left_over, raised, stage_of}
 use Rattle.lock_word.proofs.Raising.{stage_of-raised}
@@ -27,7 +27,8 @@ use Rattle.store_rule.specs.Passes.{IsOf, Made, May, basis, view}
 use Rattle.store_rule.specs.Told.{found_as}
 use Rattle.store_rule.specs.Runs.{Added, Went, added_by}
 use Rattle.store_rule.specs.Words.{Mine, has}
-use Rattle.store_rule.proofs.AddingUp.{found_mine, has_left, went_one}
+use Rattle.store_rule.proofs.AddingUp.{has_left, went_one}
+use Rattle.store_rule.proofs.MyWords.{found_mine, mine_as}
 
 module _ {C O : Type 0} (tells : Bool) (state : C → CellState) (offers : O → Offers) (s : Store C O) (p : Pass C) (own : IsOf tells state offers s p) (last : Freer (List ℕ)) (tab : tab_at (view p) inner ≡ Freeing last)
     (on : last.is_freeing ≡ true) (rest : last.rest ≡ []) (loose : last.loose ≡ []) where
@@ -83,12 +84,17 @@ module _ {C O : Type 0} (tells : Bool) (state : C → CellState) (offers : O →
     pub end_changed : (r : Place) → Contains end_added.changed r → r ≡ Anchor last.anchor
     end_changed r c = only_anchor r (left_there == ended.found) c ∙ ap Anchor a_is
 
+    pub end_touched : (r : Place) → Contains end_added.touched r → r ≡ Anchor last.anchor
+    end_touched r c = only_anchor r false c ∙ ap Anchor a_is
+
     pub end_done : end_added.done ≡ deed_of (view p) Raised last.anchor (raised ended.found 1) false ∷ []
     end_done = λ i. record { pass = (view p).pass; kind = Raised; anchor = a_is i; epoch = epoch_of (left_is i); was_idle = false } ∷ []
 
     pub end_has : has g (view q) (Anchor last.anchor) ≡ raised ended.found 1
-    end_has = has_left g (view p) (view q) (Raise inner Stage.Gone) ended.found (Anchor (anchor_of (tab_at (view p) inner))) (Anchor last.anchor) ended.step refl (ap (λ (a : ℕ). 5 * a) a_is) ∙ left_is
+    end_has = ap (λ (a : ℕ). has g (view q) (Anchor a)) (sym a_is)
+        ∙ has_left g (view p) (view q) (Raise inner Stage.Gone) ended.found (Anchor (anchor_of (tab_at (view p) inner))) ended.step refl ∙ left_is
 
     -- where nobody else changes the word, it found what the pass knew there
     pub end_found : Mine g (view p) (Anchor last.anchor) → ended.found ≡ has g (view p) (Anchor last.anchor)
-    end_found mine = found_mine g (view p) (view q) (Raise inner Stage.Gone) ended.found (Anchor (anchor_of (tab_at (view p) inner))) ended.step mine refl ∙ ap (λ (a : ℕ). has g (view p) (Anchor a)) a_is
+    end_found mine = found_mine g (view p) (view q) (Raise inner Stage.Gone) ended.found (Anchor (anchor_of (tab_at (view p) inner))) ended.step
+        (mine_as g (view p) (view p) (Anchor last.anchor) (Anchor (anchor_of (tab_at (view p) inner))) refl (ap Anchor (sym a_is)) mine) refl ∙ ap (λ (a : ℕ). has g (view p) (Anchor a)) a_is

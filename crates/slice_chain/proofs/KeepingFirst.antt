@@ -34,6 +34,7 @@ use Rattle.store_rule.specs.Calls.{Follows}
 use Rattle.store_rule.specs.Runs.{Added, Went, added_by, together}
 use Rattle.store_rule.specs.Words.{has}
 use Rattle.store_rule.proofs.AddingUp.{went_one, went_then}
+use Rattle.store_rule.proofs.MyWords.{mine_as}
 use Rattle.store_rule.proofs.Following.{made_follows}
 use Rattle.slice_chain.specs.Counts.{slots_freed}
 use Rattle.slice_chain.specs.Freeing.{MayFreeFront, MayFreeRest, RestFreed, WasGiven, slot_named}
@@ -246,7 +247,8 @@ module _ {C O : Type 0} (tells : Bool) (state : C → CellState) (offers : O →
                   ∙ (λ i. record { pass = rest_went.pass i; kind = Raised; anchor = anchor_is i; epoch = epoch_of (raised ended.found 1); was_idle = false } ∷ []);
               gone = ending.at_six tells state offers s p4 follows4.own last inner4 on gave.all.rest gave.all.none k p5 ended;
               left = subst (λ (a : ℕ). has g (view p5) (Anchor a) ≡ raised ended.found 1) anchor_is (ending.end_has tells state offers s p4 follows4.own last inner4 on gave.all.rest gave.all.none k p5 ended);
-              from = λ lt mine. ap (λ (n : ℕ). raised n 1) (ending.end_found tells state offers s p4 follows4.own last inner4 on gave.all.rest gave.all.none k p5 ended mine
+              from = λ lt mine. ap (λ (n : ℕ). raised n 1) (ending.end_found tells state offers s p4 follows4.own last inner4 on gave.all.rest gave.all.none k p5 ended
+                  (mine_as g (view p) (view p4) (Anchor f.anchor) (Anchor last.anchor) rest_went.pass (ap Anchor (sym anchor_is)) mine)
                   ∙ ap (λ (a : ℕ). has g (view p4) (Anchor a)) anchor_is
                   ∙ rest_went.steady (Anchor f.anchor) tt lt mine (λ q c same. let x = rest_changed q c in behind_anchors x.0 lt (ap (index g.setting) (sym x.1) ∙ same)));
             }

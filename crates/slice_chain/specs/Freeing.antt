@@ -5,8 +5,9 @@ use Rattle.core_model.specs.AnchorMoves.{deed_of}
 use Rattle.core_model.specs.declared.view.Item.{Item}
 use Rattle.core_model.specs.declared.view.Kind.{Kind}
 use Rattle.core_model.specs.declared.view.Kind.TheVariants.{Disowned, Loaded, Raised}
+use Rattle.core_model.specs.declared.moves.Side.TheVariants.{Start}
 use Rattle.core_model.specs.declared.view.Place.{Place}
-use Rattle.core_model.specs.declared.view.Place.TheVariants.{Anchor, Link}
+use Rattle.core_model.specs.declared.view.Place.TheVariants.{Anchor, Beside, Link}
 use Rattle.store_rule.specs.Calls.{Others}
 use Rattle.store_rule.specs.Runs.{Added, Went}
 use Rattle.store_rule.specs.Words.{Mine, has}
@@ -109,8 +110,8 @@ abbrev pub WasGiven : List Item → ℕ → Type 0
 WasGiven items slot = (n : ℕ) × Contains items record { kind = Disowned; at = slot; found = n }
 
 module _ {X : Type 0} (g : Ground X) where
-  -- Of the chain of the tab `f` these slots are left, and each other one was given back. The steps changed links of that chain alone, and
-  -- saw, did and drew nothing.
+  -- Of the chain of the tab `f` these slots are left, and each other one was given back. The steps touched and changed links of that chain
+  -- alone, and saw, did and drew nothing.
   pub record FreedSome (f : Freer X) (v : View X) (left : List ℕ) (w : View X) : Type 0 where
     pub added : Added
     pub went : Went g v added w
@@ -118,6 +119,7 @@ module _ {X : Type 0} (g : Ground X) where
     pub undrawn : draws added.items ≡ 0
     pub counted : (asked : Kind → Bool) → of_kinds asked added.items + slots_freed asked (length left) ≡ slots_freed asked (length f.rest)
     pub changed : (p : Place) → Contains added.changed p → (slot : ℕ) × (p ≡ Link slot) × Contains f.rest slot
+    pub touched : (p : Place) → Contains added.touched p → (slot : ℕ) × (p ≡ Link slot) × Contains f.rest slot
     pub gave : (slot : ℕ) → Contains f.rest slot → Contains left slot ⊎ WasGiven added.items slot
     pub inside : (slot : ℕ) → Contains left slot → Contains f.rest slot
     pub freer : Freer X
@@ -143,7 +145,8 @@ module _ {X : Type 0} (g : Ground X) where
     pub all : FreedSome freer v [] w
 
   -- Every slot of the chain was given back, and the inner tab is free. The steps may have changed the links of that chain and, where its
-  -- anchor was at FREEING, the word of that one, which is at GONE then, and nothing else but the map of taken slots. They drew no version.
+  -- anchor was at FREEING, the word of that one, which is at GONE then, and nothing else but the map of taken slots. Beside these words they
+  -- touched the one that tells where the chain starts. They drew no version.
   pub record Freed (v w : View X) : Type 0 where
     pub freer : Freer X
     pub was : tab_at v inner ≡ Freeing freer
@@ -153,6 +156,8 @@ module _ {X : Type 0} (g : Ground X) where
     pub gave : (slot : ℕ) → Contains freer.rest slot → WasGiven added.items slot
     pub tabs : w.tabs ≡ with_tab v inner Free
     pub changed : (p : Place) → Contains added.changed p → ((slot : ℕ) × (p ≡ Link slot) × Contains freer.rest slot) ⊎ ((freer.is_freeing ≡ true) × (p ≡ Anchor freer.anchor))
+    pub touched : (p : Place) → Contains added.touched p → ((slot : ℕ) × (p ≡ Link slot) × Contains freer.rest slot)
+        ⊎ ((p ≡ Beside Start freer.anchor) ⊎ ((freer.is_freeing ≡ true) × (p ≡ Anchor freer.anchor)))
     pub gone : freer.is_freeing ≡ true → (n : ℕ) × (added.done ≡ deed_of v Raised freer.anchor (raised n 1) false ∷ []) × (stage_of (epoch_of (raised n 1)) ≡ 6) × (has g w (Anchor freer.anchor) ≡ raised n 1)
     pub from : freer.is_freeing ≡ true → freer.anchor < g.setting.anchors → Mine g v (Anchor freer.anchor) → has g w (Anchor freer.anchor) ≡ raised (has g v (Anchor freer.anchor)) 1
     pub quiet : freer.is_freeing ≡ false → (added.sights ≡ []) × (added.done ≡ []) × (added.meetings ≡ [])

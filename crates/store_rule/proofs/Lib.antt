@@ -28,3 +28,5 @@ pub mod FreshEpochs
 pub mod Following
 pub mod AddingUp
 pub mod Quieting
+pub mod LeftAlone
+pub mod MyWords

@@ -34,9 +34,14 @@ use Rattle.core_room.proofs.Kept.{keeps_room}
 use Rattle.core_room.proofs.Opened.{room_opened}
 use Rattle.core_room.proofs.Renewed.{room_renewed, room_rewritten}
 use Rattle.core_log.proofs.HasLog.{log_after, log_opened, log_renewed, log_rewritten}
-use Rattle.store_rule.specs.Ground.{Asks, Ground, Rule, capacity_of, need_of, offering_of}
+use Rattle.core_alone.specs.Alone.{StandsAlone}
+use Rattle.core_alone.proofs.Kept.{stands_after}
+use Rattle.core_alone.proofs.Opened.{alone_new}
+use Rattle.core_alone.proofs.Renewed.{alone_rewritten}
+use Rattle.store_rule.specs.Ground.{Asks, Ground, Rule, capacity_of, left_to, need_of, offering_of}
 use Rattle.store_rule.specs.Rebuilding.{IsKept, chain_kept, opened_state}
 use Rattle.store_rule.proofs.Fresh.{new_free}
+use Rattle.store_rule.proofs.LeftAlone.{comes_right}
 use Rattle.store_rule.proofs.HaltedShort.{short_after, short_new, short_renewed, short_rewritten}
 use Rattle.store_rule.proofs.RoomKept.{asks_room, fits_all}
 use Rattle.store_rule.proofs.RestsEnd.{rests_end_after, rests_end_new, rests_end_renewed, rests_end_rewritten}
@@ -52,6 +57,7 @@ module _ {X : Type 0} (g : Ground X) where
     halted = short_new (offering_of g) g.setting s g.setting.passes refl;
     logged = log_opened (offering_of g) g.setting s r is_set opened sound low;
     room = λ fitting. room_opened g.setting r s is_set opened (need_of g) g.chain (λ a lt. ap (λ (c : ℕ → List ℕ). c a) chain);
+    alone = alone_new (left_to g) g.setting s opened.words opened.views;
   }
     where
       s : State X
@@ -82,6 +88,7 @@ module _ {X : Type 0} (g : Ground X) where
     halted = short_after (offering_of g) g.setting s i v m rule.sound at step allowed views sound offered rule.halted;
     logged = log_after (offering_of g) g.setting s i v m rule.sound rule.offered at step (asks_offer v m asks) rule.logged;
     room = λ fitting. keeps_room g.setting s (need_of g) g.chain i v (fits_all g fitting) rule.sound (rule.room fitting) at m step (asks_room g v m fitting asks);
+    alone = stands_after (left_to g) g.setting s i v m rule.sound at step rule.alone (comes_right g s rule.sound.anchors i v at step.pass rule.alone m allowed asks);
   }
     where
       sound : Sound g.setting (after g.setting s i v m)
@@ -100,15 +107,17 @@ module _ {X : Type 0} (g : Ground X) where
     halted = short_rewritten (offering_of g) s i v t w new at rule.halted;
     logged = log_rewritten (offering_of g) g.setting s i t v w old new rule.sound at may rule.logged;
     room = λ fitting. room_rewritten g.setting (capacity_of g) s (rule.room fitting) i v at t w new may.writes;
+    alone = alone_rewritten (left_to g) g.setting s i v at t w new may.writes rule.alone;
   }
 
   -- a change of views that tells nothing new of words
-  pub rule_renewed : (s : State X) (views : List (View X)) → Renews g.setting s views → Rule g s → Rule g (renewed s views)
-  rule_renewed s views r rule = record {
+  pub rule_renewed : (s : State X) (views : List (View X)) → Renews g.setting s views → StandsAlone (left_to g) g.setting (renewed s views) → Rule g s → Rule g (renewed s views)
+  rule_renewed s views r alone rule = record {
     sound = renews_sound g.setting s views r rule.sound;
     offered = offers_stay (offering_of g) g.setting s (renewed s views) (renews_tells g.setting s views r) rule.offered;
     rests = rests_end_renewed g.setting s views r rule.rests;
     halted = short_renewed (offering_of g) g.setting s views r rule.halted;
     logged = log_renewed (offering_of g) g.setting s views r rule.logged;
     room = λ fitting. room_renewed g.setting (capacity_of g) s (rule.room fitting) views r;
+    alone = alone;
   }

@@ -1,5 +1,5 @@
 -- What does not change while a store is open, and what holds of its table between any two steps.
-use Rattle.std.specs.Prelude.{Bool, ◌-◌, ◌<◌, ◌≡◌, ◌≢◌, ◌&&◌, Contains, List, Option, Some, drop, min, nat_lt, take, true, ◌≤◌, ℕ}
+use Rattle.std.specs.Prelude.{Bool, ◌-◌, ◌<◌, ◌==◌, ◌≡◌, ◌≢◌, ◌&&◌, ◌||◌, Contains, List, None, Option, Some, drop, false, min, nat_lt, take, true, ◌≤◌, ℕ}
 use mathlib.Core.Option.{some}
 use lib.ListN.{get_elem?}
 use Rattle.std.specs.Int.{from_le_bytes, w64}
@@ -23,6 +23,7 @@ use Rattle.core_model.specs.Sound.{Sound}
 use Rattle.core_model.specs.AllowedByView.{AllowedByView}
 use Rattle.core_model.specs.Offers.{ChoosesRight, Offering, OffersStand}
 use Rattle.core_log.specs.Keeps.{HasLog}
+use Rattle.core_alone.specs.Alone.{StandsAlone}
 use Rattle.core_room.specs.Conditions.{KeepsRoom}
 use Rattle.core_room.specs.Room.{Room}
 use Rattle.core_room.specs.Fitting.{capacity, fits as fits_in}
@@ -94,6 +95,16 @@ offering_of g = record {
   Fits = IsOfferFor g;
 }
 
+-- it is this number
+abbrev pub is_that : ℕ → Option ℕ → Bool
+is_that pass None = false
+is_that pass (Some number) = pass == number
+
+-- The anchor is left to the pass with this number, which alone changes what stands there: the store has one pass, or it fits and the origin leaves
+-- the anchor to that pass.
+unfoldable pub left_to : {X : Type 0} → Ground X → (pass a : ℕ) → Bool
+left_to g pass a = (g.setting.passes == 1) || (fits g && is_that pass (g.offers.alone a))
+
 -- behind the slots that an inner tab gives back no other one is named
 abbrev pub RestsEnd : {X : Type 0} → State X → Type 0
 RestsEnd {X} s = (i t : ℕ) (f : Freer X) → IsTab s i t (Freeing f) → (slot : ℕ) → f.behind ≢ Next slot
@@ -114,6 +125,7 @@ pub record Rule {X : Type 0} (g : Ground X) (s : State X) : Type 0 where
   pub halted : HaltedShort (offering_of g) s
   pub logged : HasLog (offering_of g) g.setting s
   pub room : fits g ≡ true → Room g.setting (capacity_of g) s
+  pub alone : StandsAlone (left_to g) g.setting s
 
 -- an anchor that is left alone is named by its own pass
 abbrev pub MayName : {X : Type 0} → Ground X → View X → ℕ → Type 0
