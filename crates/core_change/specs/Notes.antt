@@ -1,15 +1,10 @@
--- Notes, and what a change makes of them.
-use Rattle.std.specs.Prelude.{List, []}
-use Rattle.core_model.specs.declared.view.Sight.{Sight}
+-- What a change makes of notes.
+use Rattle.std.specs.Prelude.{List}
 use Rattle.core_model.specs.declared.view.View.{View}
 use Rattle.core_model.specs.CellMoves.{put}
 use Rattle.core_table.specs.declared.content.Content.{Content}
 use Rattle.core_change.specs.declared.change.NotesChange.{NotesChange}
 use Rattle.core_change.specs.declared.change.NotesChange.TheVariants.{Same, Put}
-
--- a note of this
-abbrev pub note_with : List Sight → View Content
-note_with seen = record { pass = 0; tabs = []; held = []; seen = seen; trail = []; mirror = []; deeds = []; met = [] }
 
 abbrev pub notes_changed : List (View Content) → NotesChange → List (View Content)
 notes_changed views Same = views

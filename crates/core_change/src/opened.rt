@@ -113,16 +113,7 @@ fn new_view(alloc: Global, opening: &Opening, pass: u32) -> Result<View<Content>
 {
     let tabs = free_tabs(alloc)?;
     let seen = first_sights(alloc, opening)?;
-    Ok(View {
-        pass,
-        tabs,
-        held: Row::from_vec(Vec::new(alloc)),
-        seen,
-        trail: Log::from_vec(Vec::new(alloc)),
-        mirror: Log::from_vec(Vec::new(alloc)),
-        deeds: Log::from_vec(Vec::new(alloc)),
-        met: Log::from_vec(Vec::new(alloc)),
-    })
+    Ok(View::new(alloc, pass, tabs, seen))
 }
 
 /// The views of new passes.

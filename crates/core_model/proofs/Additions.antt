@@ -34,10 +34,11 @@ logged_sights {A} xs ys zs ws us learned names o same learns named more =
 pub fronted : {A : Type 0} → (xs ys zs : List A) (o : Option A) → ys ≡ xs → zs ≡ option_to_list o ++ ys → zs ≡ option_to_list o ++ xs
 fronted {A} xs ys zs o same more = more ∙ ap (λ (l : List A). option_to_list o ++ l) same
 
-pub added_is : {X : Type 0} → (v : View X) (a : Addition) (pass : ℕ) (tabs : List (Tab X)) (h h' : List ℕ) (s s' : List Sight) (t t' : List Item) (m m' : List Trace) (d d' : List Deed) (e e' : List ℕ)
-    → record { pass = pass; tabs = tabs; held = h; seen = s; trail = t; mirror = m; deeds = d; met = e } ≡ v
-    → h' ≡ option_to_list a.drawn ++ h → s' ≡ option_to_list a.sight ++ (names_seen a.names ++ (sights_learned a.learned ++ s)) → t' ≡ a.item ∷ t → m' ≡ option_to_list a.trace ++ m → d' ≡ option_to_list a.deed ++ d → e' ≡ option_to_list a.met ++ e
-    → record { pass = pass; tabs = tabs; held = h'; seen = s'; trail = t'; mirror = m'; deeds = d'; met = e' } ≡ added v a
-added_is {X} v a pass tabs h h' s s' t t' m m' d d' e e' is held seen trail mirror deeds met =
-    (λ j. record { pass = pass; tabs = tabs; held = held j; seen = seen j; trail = trail j; mirror = mirror j; deeds = deeds j; met = met j })
+-- the view with these records is the one that has all of it
+pub added_is : {X : Type 0} → (v : View X) (a : Addition) (u : View X) (held : List ℕ) (seen : List Sight) (trail : List Item) (mirror : List Trace) (deeds : List Deed) (met : List ℕ) → u ≡ v
+    → held ≡ option_to_list a.drawn ++ u.held → seen ≡ option_to_list a.sight ++ (names_seen a.names ++ (sights_learned a.learned ++ u.seen)) → trail ≡ a.item ∷ u.trail
+    → mirror ≡ option_to_list a.trace ++ u.mirror → deeds ≡ option_to_list a.deed ++ u.deeds → met ≡ option_to_list a.met ++ u.met
+    → record u { held = held; seen = seen; trail = trail; mirror = mirror; deeds = deeds; met = met } ≡ added v a
+added_is {X} v a u held seen trail mirror deeds met is held_is seen_is trail_is mirror_is deeds_is met_is =
+    (λ j. record u { held = held_is j; seen = seen_is j; trail = trail_is j; mirror = mirror_is j; deeds = deeds_is j; met = met_is j })
     ∙ ap (λ (w : View X). added w a) is

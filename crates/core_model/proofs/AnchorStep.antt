@@ -21,8 +21,7 @@ use Rattle.core_model.specs.Deeds.{LeftEpoch, DoomedVersion, HaltedVersion, Evic
 
 -- the view after a step that left the word n' at the anchor a, and saw the epoch e
 abbrev pub stepped : {X : Type 0} → View X → ℕ → ℕ → ℕ → List (Tab X) → List ℕ → Item → List Deed → List ℕ → View X
-stepped v a n' e tabs held item deeds met = record {
-  pass = v.pass;
+stepped v a n' e tabs held item deeds met = record v {
   tabs = tabs;
   held = held;
   seen = Stood a e ∷ v.seen;

@@ -67,15 +67,11 @@ no_stood (Published a version many ∷ xs) h b e c = ⊎_elim (λ (q : Published
 
 -- the view after a step that left x in the word of a place, and saw this
 abbrev pub beside : {X : Type 0} → View X → List (Tab X) → List Sight → Item → Place → ℕ → View X
-beside v tabs sights item place x = record {
-  pass = v.pass;
+beside v tabs sights item place x = record v {
   tabs = tabs;
-  held = v.held;
   seen = sights ++ v.seen;
   trail = item ∷ v.trail;
   mirror = record { place = place; word = x } ∷ v.mirror;
-  deeds = v.deeds;
-  met = v.met;
 }
 
 abbrev pub besides : {X : Type 0} → Setting X → State X → ℕ → View X → Place → ℕ → List Chain → State X

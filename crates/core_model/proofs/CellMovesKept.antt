@@ -59,7 +59,7 @@ module _ {X : Type 0} (k : Setting X) (s : State X) (i : ℕ) (v : View X) (soun
 
   -- the view after a step on no word
   abbrev worked : List (Tab X) → Item → View X
-  worked tabs item = record { pass = v.pass; tabs = tabs; held = v.held; seen = v.seen; trail = item ∷ v.trail; mirror = v.mirror; deeds = v.deeds; met = v.met }
+  worked tabs item = record v { tabs = tabs; trail = item ∷ v.trail }
 
   mirror_stays : (tabs : List (Tab X)) (item : Item) → OneMirror k (of_parts s.words s.places (set s.views i (worked tabs item)) s.chains)
   mirror_stays tabs item one j u e some_tabs p lt = ⊎_elim

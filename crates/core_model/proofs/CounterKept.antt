@@ -31,16 +31,7 @@ use Rattle.core_model.specs.CellMoves.{note_of}
 
 -- the view after a step that left c in the counter
 abbrev pub counting : {X : Type 0} → View X → ℕ → List ℕ → Item → View X
-counting v c held item = record {
-  pass = v.pass;
-  tabs = v.tabs;
-  held = held;
-  seen = v.seen;
-  trail = item ∷ v.trail;
-  mirror = record { place = Counter; word = c } ∷ v.mirror;
-  deeds = v.deeds;
-  met = v.met;
-}
+counting v c held item = record v { held = held; trail = item ∷ v.trail; mirror = record { place = Counter; word = c } ∷ v.mirror }
 
 abbrev pub counted : {X : Type 0} → Setting X → State X → ℕ → View X → ℕ → State X
 counted k s i w c = record { words = set s.words (counter_index k) c; places = s.places; views = set s.views i w; chains = s.chains }

@@ -44,7 +44,7 @@ set_twice (z ∷ zs) (suc i) x y = ap (λ (q : List _). z ∷ q) (set_twice zs i
 
 -- the view with any trail
 abbrev pub with_trail : {X : Type 0} → View X → List Item → View X
-with_trail v trail = record { pass = v.pass; tabs = v.tabs; held = v.held; seen = v.seen; trail = trail; mirror = v.mirror; deeds = v.deeds; met = v.met }
+with_trail v trail = record v { trail = trail }
 
 -- the view with another tab
 abbrev pub with_other : {X : Type 0} → View X → ℕ → Tab X → View X

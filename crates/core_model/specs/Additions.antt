@@ -18,9 +18,7 @@ abbrev pub sights_learned : Option (List Sight) → List Sight
 sights_learned learned = unwrap_or learned []
 
 abbrev pub added : {X : Type 0} → View X → Addition → View X
-added v a = record {
-  pass = v.pass;
-  tabs = v.tabs;
+added v a = record v {
   held = option_to_list a.drawn ++ v.held;
   seen = option_to_list a.sight ++ (names_seen a.names ++ (sights_learned a.learned ++ v.seen));
   trail = a.item ∷ v.trail;

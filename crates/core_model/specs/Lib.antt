@@ -1,5 +1,6 @@
 pub mod Layout
 pub mod Chains
+pub mod Views
 pub mod State
 pub mod Trails
 pub mod Tabs

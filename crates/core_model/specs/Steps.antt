@@ -63,8 +63,7 @@ traces_of (Some p) left = record { place = p; word = left } ∷ []
 traces_of None left = []
 
 abbrev pub view_after : {X : Type 0} → View X → Move → Finding X → View X
-view_after v m x = record {
-  pass = v.pass;
+view_after v m x = record v {
   tabs = tabs_after v m x;
   held = held_after v m x.word;
   seen = sights_of v m x ++ v.seen;

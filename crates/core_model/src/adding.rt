@@ -2,11 +2,13 @@
 ghost use Rattle.std.specs.Prelude.{◌≡◌, ◌<◌, ◌≤◌, ◌+◌, ◌∷◌, [], ◌++◌, length, reverse, vec_len, vec_capacity, OnOk, OnErr};
 ghost use Rattle.std.specs.Option.{option_to_list};
 ghost use Rattle.core_model.specs.Additions.{added, names_seen, sights_learned};
+ghost use Rattle.core_model.specs.Views.{view_of};
 
-use crate::list::Log;
+use crate::list::{Log, Row};
 use crate::moves::Side;
+use crate::tab::Tab;
 use crate::view::{Deed, Item, Sight, Trace, View};
-use std::alloc::AllocError;
+use std::alloc::{AllocError, Global};
 
 /// What names an entry: its key in two halves, and its offer.
 #[derive(Clone, Copy, Debug, PartialEq, Eq)]
@@ -118,6 +120,22 @@ fn append_learned(items: &mut Vec<Sight>, learned: Option<Log<Sight>>)
 }
 
 impl<X> View<X> {
+    /// The view of a pass that has these tabs, knows this, and has made no step.
+    pub fn new(alloc: Global, pass: u32, tabs: Row<Tab<X>>, seen: Log<Sight>) -> Self
+        ensures { result ≡ view_of pass tabs seen }
+    {
+        View {
+            pass,
+            tabs,
+            held: Row::from_vec(Vec::new(alloc)),
+            seen,
+            trail: Log::from_vec(Vec::new(alloc)),
+            mirror: Log::from_vec(Vec::new(alloc)),
+            deeds: Log::from_vec(Vec::new(alloc)),
+            met: Log::from_vec(Vec::new(alloc)),
+        }
+    }
+
     /// Adds it all, or nothing where memory runs out.
     pub fn add(&mut self, addition: Addition) -> Result<(), AllocError>
         ensures ok { OnOk result (self.new ≡ added self.old addition) }

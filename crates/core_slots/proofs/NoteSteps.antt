@@ -23,7 +23,7 @@ use Rattle.core_table.specs.declared.opening.Opening.{Opening}
 use Rattle.core_change.specs.declared.table.Table.{Table}
 use Rattle.core_change.specs.declared.turn_change.TurnChange.TheVariants as turns
 use Rattle.core_change.specs.Changed.{bare_addition}
-use Rattle.core_change.specs.Notes.{note_with}
+use Rattle.core_model.specs.Views.{note_with}
 use Rattle.core_change.specs.Planned.{Plans}
 use Rattle.core_table.proofs.Lists.{at_length, at_slice}
 

@@ -6,7 +6,7 @@ ghost use Rattle.core_model.specs.Table.{Allowed};
 ghost use Rattle.core_model.specs.CellMoves.{IsNote, is_spent, free_note};
 ghost use Rattle.core_table.specs.Inside.{setting};
 ghost use Rattle.core_change.specs.Inside.{state};
-ghost use Rattle.core_change.specs.Notes.{note_with};
+ghost use Rattle.core_model.specs.Views.{note_with};
 ghost use Rattle.core_change.specs.Planned.{IsScene, Plans};
 
 use core_change::{
@@ -20,16 +20,7 @@ use std::alloc::{AllocError, Global};
 fn note_with(alloc: Global, seen: Log<Sight>) -> View<Content>
     ensures { result ≡ note_with seen }
 {
-    View {
-        pass: 0,
-        tabs: Row::from_vec(Vec::new(alloc)),
-        held: Row::from_vec(Vec::new(alloc)),
-        seen,
-        trail: Log::from_vec(Vec::new(alloc)),
-        mirror: Log::from_vec(Vec::new(alloc)),
-        deeds: Log::from_vec(Vec::new(alloc)),
-        met: Log::from_vec(Vec::new(alloc)),
-    }
+    View::new(alloc, 0, Row::from_vec(Vec::new(alloc)), seen)
 }
 
 /// A copy of what was seen.

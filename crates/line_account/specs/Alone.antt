@@ -12,7 +12,7 @@ use Rattle.core_model.specs.declared.view.Kind.TheVariants.{Changed, Drew, Enter
 use Rattle.core_model.specs.declared.view.Sight.TheVariants.{Named, Published, Stood}
 use Rattle.core_model.specs.declared.view.View.{View}
 use Rattle.core_model.specs.Anchors.{opening_counter}
-use Rattle.core_model.specs.Opening.{sights_below}
+use Rattle.core_model.specs.Opening.{new_view, sights_below}
 use Rattle.line_account.specs.Lines.{Served}
 use Rattle.line_account.specs.Answers.{Run}
 use Rattle.line_account.specs.Closing.{Worker}
@@ -57,10 +57,7 @@ home r url = anchor_of (key_of url) r.setting.anchors
 -- what the worker knows after these lines: it drew the version, took the anchor, stored the names, published one slot, closed the entry,
 -- and then entered it
 abbrev pub view_after : {X : Type 0} → Run X → List ℕ → View X
-view_after r url = record {
-  pass = 0;
-  tabs = replicate 9 Free;
-  held = [];
+view_after r url = record (new_view r.setting 0) {
   seen = Named (home r url) (next_version r) Offer (r.setting.slots + 1)
       ∷ Named (home r url) (next_version r) Key1 (back_half (key_of url))
       ∷ Named (home r url) (next_version r) Key0 (front_half (key_of url))
@@ -69,12 +66,10 @@ view_after r url = record {
       ∷ Stood (home r url) (undoomed_at Taken (next_version r))
       ∷ sights_below r.setting r.setting.anchors;
   trail = record { kind = Drew; at = 0; found = opening_counter r.setting } ∷ [];
-  mirror = [];
   deeds = record { pass = 0; kind = Entered; anchor = home r url; epoch = undoomed_at Closed (next_version r); was_idle = false }
       ∷ record { pass = 0; kind = Raised; anchor = home r url; epoch = undoomed_at Closed (next_version r); was_idle = false }
       ∷ record { pass = 0; kind = Changed; anchor = home r url; epoch = undoomed_at Taken (next_version r); was_idle = false }
       ∷ [];
-  met = [];
 }
 
 -- there is a slot, and the first line offers an empty body under this URL, which leaves room in one

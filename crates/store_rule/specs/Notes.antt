@@ -1,32 +1,19 @@
 -- What becomes of views where a note is made and learned, and where a pass is cut off.
-use Rattle.std.specs.Prelude.{List, [], ◌∷◌, ◌++◌}
+use Rattle.std.specs.Prelude.{List, [], ◌∷◌}
 use Rattle.core_model.specs.declared.view.Kind.TheVariants.{Noted, Learned}
-use Rattle.core_model.specs.declared.view.Item.{Item}
 use Rattle.core_model.specs.declared.view.Sight.{Sight}
 use Rattle.core_model.specs.declared.view.View.{View}
 use Rattle.core_model.specs.CellMoves.{note_of}
+use Rattle.core_model.specs.TableForms.{learns}
 use Rattle.store_rule.specs.Told.{the_view}
 
 module _ {X : Type 0} where
-  -- the pass has seen more, and one item more
-  abbrev pub sees : View X → List Sight → Item → View X
-  sees v sights item = record {
-    pass = v.pass;
-    tabs = v.tabs;
-    held = v.held;
-    seen = sights ++ v.seen;
-    trail = item ∷ v.trail;
-    mirror = v.mirror;
-    deeds = v.deeds;
-    met = v.met;
-  }
-
-  -- it made a note, or learned what one has seen: these items tell no number
+  -- a pass made a note, or learned what one has seen: these items tell no number
   abbrev pub noting : View X → View X
-  noting v = sees v [] record { kind = Noted; at = 0; found = 0 }
+  noting v = learns v [] record { kind = Noted; at = 0; found = 0 }
 
   abbrev pub learning : View X → List Sight → View X
-  learning v sights = sees v sights record { kind = Learned; at = 0; found = 0 }
+  learning v sights = learns v sights record { kind = Learned; at = 0; found = 0 }
 
   -- the rows of two seats after that
   abbrev pub noting_row : List (View X) → List (View X)

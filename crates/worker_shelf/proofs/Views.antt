@@ -18,7 +18,7 @@ use Rattle.store_rule.specs.declared.store.Pass.{Pass}
 use Rattle.store_rule.specs.declared.store.Store.{Store}
 use Rattle.tab_states.specs.Desks.{buffer_at, draft_at}
 use Rattle.store_rule.specs.Ground.{Offers}
-use Rattle.store_rule.specs.Notes.{sees}
+use Rattle.core_model.specs.TableForms.{learns}
 use Rattle.store_rule.specs.Passes.{Keeps, basis, hand, view}
 use Rattle.store_serve.specs.Serving.{Takes}
 use Rattle.store_serve.specs.Tabs.{IsFree, IsReady, Leaves}
@@ -31,7 +31,7 @@ abbrev pub on_shelf : {C O St : Type 0} → Store C O → Pass C → St → OnSh
 on_shelf s p st = record { store = s; pass = p; station = st }
 
 -- what a pass knows that has seen more
-knows_more : {X : Type 0} (v : View X) (sights : List Sight) (item : Item) → Knows v (sees v sights item)
+knows_more : {X : Type 0} (v : View X) (sights : List Sight) (item : Item) → Knows v (learns v sights item)
 knows_more v sights item = record {
   pass = refl;
   seen = λ x h. Contains-append_right sights v.seen x h;
@@ -44,10 +44,10 @@ pub put_back : {A : Type 0} (n : ℕ) (before after : List A) → n ≡ length a
 put_back n before after is = ap (λ (m : ℕ). take m (after ++ drop (length after) before)) is ∙ take-append_seam after (drop (length after) before)
 
 -- all that a shelf knew, its pass knows still, and what a note tells it knows too
-pub knew : {C O St : Type 0} (o : OnShelf C O St) (s : Store C O) (p q : Pass C) (st : St) (sights : List Sight) (item : Item) → on_shelf s p st ≡ o → view q ≡ sees (view p) sights item → (x : Sight) → Contains (view o.pass).seen x → Contains (view q).seen x
+pub knew : {C O St : Type 0} (o : OnShelf C O St) (s : Store C O) (p q : Pass C) (st : St) (sights : List Sight) (item : Item) → on_shelf s p st ≡ o → view q ≡ learns (view p) sights item → (x : Sight) → Contains (view o.pass).seen x → Contains (view q).seen x
 knew {C = C} {O = O} {St = St} o s p q st sights item is more x h = subst (λ (z : List Sight). Contains z x) (sym (ap View.seen more)) (Contains-append_right sights (view p).seen x (subst (λ (z : List Sight). Contains z x) (ap (λ (z : OnShelf C O St). (view z.pass).seen) (sym is)) h))
 
-pub learned : {C : Type 0} (p q : Pass C) (sights : List Sight) (item : Item) → view q ≡ sees (view p) sights item → (x : Sight) → Contains sights x → Contains (view q).seen x
+pub learned : {C : Type 0} (p q : Pass C) (sights : List Sight) (item : Item) → view q ≡ learns (view p) sights item → (x : Sight) → Contains sights x → Contains (view q).seen x
 learned p q sights item more x h = subst (λ (z : List Sight). Contains z x) (sym (ap View.seen more)) (Contains-append_left sights (view p).seen x h)
 
 module _ {C O : Type 0} (tells : Bool) (state : C → CellState) (offers : O → Offers) where
@@ -66,7 +66,7 @@ module _ {C O : Type 0} (tells : Bool) (state : C → CellState) (offers : O →
 
   module _ (s : Store C O) where
     -- where a pass has seen more, and has at hand what it had, its tabs are as they were
-    leaves_note : (p q : Pass C) (sights : List Sight) (item : Item) → Keeps tells state offers s p q → view q ≡ sees (view p) sights item → IsReady tells state offers s p → Leaves tells state offers s whole_tab p q
+    leaves_note : (p q : Pass C) (sights : List Sight) (item : Item) → Keeps tells state offers s p q → view q ≡ learns (view p) sights item → IsReady tells state offers s p → Leaves tells state offers s whole_tab p q
     leaves_note p q sights item keeps more ready = record {
       own = keeps.own;
       inner_free = ap (λ (v : View (List ℕ)). is_free (tab_at v inner)) more ∙ ready.inner_free;
@@ -81,7 +81,7 @@ module _ {C O : Type 0} (tells : Bool) (state : C → CellState) (offers : O →
     cells_kept : (p q : Pass C) → (view q).pass ≡ (view p).pass → q.cells ≡ p.cells → KeepsCells tells state offers s p → KeepsCells tells state offers s q
     cells_kept p q same cells h first = subst (λ (z : Vec C). (z.items ≡ []) × (vec_len z ≡ 0) × ((basis tells state offers s).setting.slots ≤ vec_capacity z)) (sym cells) (h (sym same ∙ first))
 
-    pub shelf_still : Stays tells state offers s → (p q : Pass C) (tabs : List ScriptTab) (piece : List ℕ) (sights : List Sight) (item : Item) → Keeps tells state offers s p q → view q ≡ sees (view p) sights item
+    pub shelf_still : Stays tells state offers s → (p q : Pass C) (tabs : List ScriptTab) (piece : List ℕ) (sights : List Sight) (item : Item) → Keeps tells state offers s p q → view q ≡ learns (view p) sights item
         → HasShelf tells state offers s p tabs piece → HasShelf tells state offers s q tabs piece
     shelf_still stays p q tabs piece sights item keeps more h = record {
       holds = all_hold_whole tells state offers s stays whole_tab p q (leaves_note p q sights item keeps more h.holds.ready) tabs refl h.holds (ap (λ (v : View (List ℕ)). tab_at v whole_tab) more ∙ h.holds.whole);
