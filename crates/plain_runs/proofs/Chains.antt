@@ -32,7 +32,6 @@ use Rattle.core_model.specs.declared.view.View.{View}
 use Rattle.core_model.proofs.Lists.{at_index, cons_contains, contains_none, le_sum_at, sum_mono, two_le_sum}
 use Rattle.core_model.proofs.Matching.{has_writer}
 use Rattle.core_model.proofs.OneSpot.{one_spot, unwritten}
-use Rattle.core_model.proofs.Places.{within}
 use Rattle.core_model.proofs.SlotFrame.{used_few, used_some}
 use Rattle.core_model.proofs.Tabs.{contains_times, tab_there}
 use Rattle.core_model.proofs.Telling.{told_in, told_out}
@@ -237,9 +236,6 @@ module _ (g : Ground (List ℕ)) (s : State (List ℕ)) (rule : Rule g s) where
         differ y e h = subst (IsOf a) e h
 
 module _ (g : Ground (List ℕ)) (lone : IsLone g) (s : State (List ℕ)) (i : ℕ) (v : View (List ℕ)) (rule : Rule g s) (at : get_elem? s.views i ≡ some v) (pass : IsPass v) where
-  some_tab : v.tabs ≢ []
-  some_tab e = let none = ap length e in let nine = pass in omega arith
-
   -- each word is as the pass knows it
   pub word_is : (q : Place) → IsPlace g.setting q → word_in g.setting s.words q ≡ has g v q
   word_is q here = word_alone g lone s i v rule at pass q here

@@ -8,7 +8,6 @@ use Rattle.link_word.specs.declared.link.Link.TheVariants.{Last as LastLink, Nex
 use Rattle.lock_word.specs.Words.{epoch_of, raised, stage_number, stage_of}
 use Rattle.lock_word.specs.declared.stage.Stage.{Stage}
 use Rattle.core_model.specs.Chains.{Fits, slots_of_link, start_number}
-use Rattle.core_model.specs.Deeds.{mirrored}
 use Rattle.core_model.specs.Layout.{index}
 use Rattle.core_model.specs.SlotMoves.{publishes}
 use Rattle.core_model.specs.Slots.{WriterHolds, slot_words}

@@ -176,7 +176,7 @@ module _ {C O : Type 0} (tells : Bool) (state : C → CellState) (offers : O →
   gave_quiet p e before after q more.Halted at h = of_halted h
     where
       of_halted : StaysHalted tells state offers s t p e before after q ⊎ IsHalted tells state offers s t p e before after q → Quiet g (view p) (view q)
-      of_halted (inl k) = step_quiet g (view p) (view q) (Look (anchor_of (tab_at (view p) t))) k.found.word (Anchor (anchor_of (tab_at (view p) t))) k.found.look refl refl
+      of_halted (inl k) = step_quiet g (view p) (view q) (Look (anchor_of (tab_at (view p) t))) k.found.word (Anchor (anchor_of (tab_at (view p) t))) k.found.look refl refl refl
           (own.words (view p) (Anchor (anchor_of (tab_at (view p) t))) at.0 at.1)
       of_halted (inr k) = looked_quiet g pass a own t k.epoch _ (view p) (view q) at.0 at.1 k.waits.found
   gave_quiet p e before after q more.OtherUrl at h = of_other h

@@ -44,7 +44,7 @@ module _ {C O St N : Type 0} (tells : Bool) (state : C → CellState) (offers : 
 
   module _ (s : Store C O) (lines : List Line) where
     pub played : (w : ℕ) (a : Account (OnShelf C O St)) → IsWhole g lines (w + 1) a → a.start.store ≡ s → IsNewOf tells state offers s a.start.pass → (view a.start.pass).pass ≡ w
-        → ((line : Line) → Contains lines line → IsServed line.request → Takes tells state offers s a.start.pass line) → IsPlayed tells state offers faults s lines w a
+        → ((line : Line) → Contains lines line → line.worker ≡ w + 1 → IsServed line.request → Takes tells state offers s a.start.pass line) → IsPlayed tells state offers faults s lines w a
     played w a whole store fresh number takes = record {
       store = store;
       fresh = fresh;
@@ -55,7 +55,7 @@ module _ {C O St N : Type 0} (tells : Bool) (state : C → CellState) (offers : 
         steps = λ x among. step_on x.line.request (take x.place lines) x.line x.before x.answer x.after (whole.course.steps x among);
         left = left a.last a.end whole.left;
       };
-      takes = λ line among mine served. takes line among served;
+      takes = takes;
       awaits = λ x among mark is. answer_is (list_any (sets mark) (take x.place lines)) x.before x.answer x.after
           (subst (λ (r : Request). StepOf g r (take x.place lines) x.line x.before x.answer x.after) is (whole.course.steps x among));
     }

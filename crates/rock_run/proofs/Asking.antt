@@ -6,7 +6,7 @@ use Rattle.std.specs.Option.{option_map_or}
 use Rattle.rock_disk.specs.Cell.{CellState}
 use Rattle.store_key.specs.Url.{IsUrl}
 use Rattle.script_text.specs.Lines.{AreLines}
-use Rattle.script_text.specs.Requests.{SpellsRequest}
+use Rattle.script_text.specs.Requests.{SpellsRequest, url_in}
 use Rattle.script_text.specs.declared.body.Body.{Body}
 use Rattle.script_text.specs.declared.line.Line.{Line}
 use Rattle.script_text.specs.declared.request.Request.{Request}
@@ -17,13 +17,15 @@ use Rattle.store_key.specs.Anchor.{anchor_of}
 use Rattle.store_key.specs.Key.{key_of}
 use Rattle.entry_cut.specs.Content.{LeavesRoom, content_of, count, front_size, slots_needed}
 use Rattle.store_rule.specs.Ground.{Offers, anchor_for, cut_of, need_of, url_of}
-use Rattle.store_rule.specs.Passes.{basis}
+use Rattle.store_rule.specs.Passes.{basis, view}
 use Rattle.store_rule.specs.declared.store.Pass.{Pass}
 use Rattle.store_rule.specs.declared.store.Store.{Store}
 use Rattle.worker_shelf.specs.Taking.{IsOffered, MayAsk, MayGo, offer_of}
 use Rattle.rock_run.specs.Asked.{IsAsked, IsFound}
-use Rattle.rock_run.specs.Offered.{Response, most_taken, offered_by, offered_in, offers_of, taken_at}
+use Rattle.rock_run.specs.Leaving.{leaves_to}
+use Rattle.rock_run.specs.Offered.{OffersLines, Response, most_taken, offered_by, offered_in, offers_of, taken_at}
 use Rattle.rock_run.proofs.Found.{found, spelled}
+use Rattle.rock_run.proofs.Leaving.{found_among, left_to_worker}
 
 -- a request that is spelled by words of a script names a tab and a URL of one
 asked_by_words : (request : Request) (name : Verb) (words : List (List ℕ)) → SpellsRequest request name words → IsAsked request
@@ -41,9 +43,9 @@ body_offered : (lines : List Line) (number : ℕ) (url : List ℕ) (body : Body)
 unfolding offers_of
 body_offered lines number url body e = ap (λ (o : Option Response). option_map_or (λ (r : Response). bytes_of r.body) o []) e
 
-left_to_none : (lines : List Line) (a : ℕ) → (offers_of lines).alone a ≡ None
+left_offered : (lines : List Line) (anchors a : ℕ) → (offers_of lines).alone anchors a ≡ leaves_to anchors a lines
 unfolding offers_of
-left_to_none lines a = refl
+left_offered lines anchors a = refl
 
 need_offered : (lines : List Line) (anchors slot a : ℕ) → (offers_of lines).need anchors slot a ≡ most_taken anchors slot a lines
 unfolding offers_of
@@ -76,16 +78,16 @@ takes_here anchors slot url body short =
 behind : (slots number : ℕ) → (slots + number) - slots ≡ number
 behind slots number = omega arith
 
-module _ {C O : Type 0} (tells : Bool) (state : C → CellState) (offers : O → Offers) (s : Store C O) (lines : List Line) (given : (basis tells state offers s).offers ≡ offers_of lines) where
+module _ {C O : Type 0} (tells : Bool) (state : C → CellState) (offers : O → Offers) (s : Store C O) (lines : List Line) (given : OffersLines lines (basis tells state offers s).offers) where
   url_there : (number : ℕ) (url : List ℕ) (body : Body) → offered_by lines number ≡ Some record { url = url; body = body }
       → url_of (basis tells state offers s) (offer_of tells state offers s number) ≡ url
   url_there number url body e = ap (basis tells state offers s).offers.url (behind (basis tells state offers s).setting.slots number)
-      ∙ (ap (λ (o : Offers). o.url number) given ∙ url_offered lines number url body e)
+      ∙ (ap (λ (f : ℕ → List ℕ). f number) given.url ∙ url_offered lines number url body e)
 
   body_there : (number : ℕ) (url : List ℕ) (body : Body) → offered_by lines number ≡ Some record { url = url; body = body }
       → (basis tells state offers s).offers.body (offer_of tells state offers s number - (basis tells state offers s).setting.slots) ≡ bytes_of body
   body_there number url body e = ap (basis tells state offers s).offers.body (behind (basis tells state offers s).setting.slots number)
-      ∙ (ap (λ (o : Offers). o.body number) given ∙ body_offered lines number url body e)
+      ∙ (ap (λ (f : ℕ → List ℕ). f number) given.body ∙ body_offered lines number url body e)
 
   is_offered : (number : ℕ) (url : List ℕ) (body : Body) → IsUrl url → offered_by lines number ≡ Some record { url = url; body = body }
       → IsOffered tells state offers s (offer_of tells state offers s number) url body
@@ -97,7 +99,7 @@ module _ {C O : Type 0} (tells : Bool) (state : C → CellState) (offers : O →
     needed = λ short fitting.
         let g = basis tells state offers s in
         let a : ℕ = anchor_for g url in
-        let n : need_of g a ≡ most_taken g.setting.anchors g.slot a lines = ap (λ (o : Offers). o.need g.setting.anchors g.slot a) given ∙ need_offered lines g.setting.anchors g.slot a in
+        let n : need_of g a ≡ most_taken g.setting.anchors g.slot a lines = ap (λ (f : ℕ → ℕ → ℕ → ℕ). f g.setting.anchors g.slot a) given.need ∙ need_offered lines g.setting.anchors g.slot a in
         let m = most_offered g.setting.anchors g.slot a lines number record { url = url; body = body } e in
         let t = takes_here g.setting.anchors g.slot url body short in
         let c : count (cut_of g (offer_of tells state offers s number) 0 0) ≡ slots_needed (length (content_of url (bytes_of body))) g.slot =
@@ -122,10 +124,18 @@ module _ {C O : Type 0} (tells : Bool) (state : C → CellState) (offers : O →
   asks line found asked marks awaits =
       may_ask line.number line.request asked (ap (option_and_then (λ (l : Line). offered_in l.request)) found) marks awaits
 
-  pub goes : (p : Pass C) (url : List ℕ) → MayGo tells state offers s p url
-  goes p url pass e =
+module _ {C O : Type 0} (tells : Bool) (state : C → CellState) (offers : O → Offers) (s : Store C O) (lines : List Line) (given : (basis tells state offers s).offers ≡ offers_of lines) where
+  pub lines_offered : OffersLines lines (basis tells state offers s).offers
+  lines_offered = record { url = ap Offers.url given; body = ap Offers.body given; need = ap Offers.need given }
+
+  -- the pass of a line's worker may go to the URL that the line names
+  pub goes : (line : Line) (p : Pass C) (url : List ℕ) → IsFound lines line → line.worker ≡ (view p).pass + 1 → url_in line.request ≡ Some url → MayGo tells state offers s p url
+  goes line p url first mine named pass e =
+      let anchors : ℕ = (basis tells state offers s).setting.anchors in
       let a : ℕ = anchor_for (basis tells state offers s) url in
-      cc (ap (λ (o : Offers). o.alone a) given, left_to_none lines a, e)
+      let left : leaves_to anchors a lines ≡ Some pass = sym (ap (λ (o : Offers). o.alone anchors a) given ∙ left_offered lines anchors a) ∙ e in
+      let its : pass ≡ line.worker - 1 = left_to_worker anchors lines line url (found_among (λ other. other.number == line.number) lines line first) named pass left in
+      omega (arith, its, mine)
 
 -- each line of a script that was read is the first of its number, and asks for what one may ask
 pub read : {workers : ℕ} {texts : List (List ℕ)} {lines : List Line} → AreLines workers texts lines → (line : Line) → Contains lines line → IsFound lines line × IsAsked line.request

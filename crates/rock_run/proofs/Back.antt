@@ -42,6 +42,12 @@ module _ {A B : Type 0} (f : A → B) where
   image_at (x ∷ xs) zero y e = ap (λ z. some (f z)) (some-injective x y e)
   image_at (x ∷ xs) (suc k) y e = image_at xs k y e
 
+-- the pass of the shelf at a place has the place as its number
+pub number_at : {C O St : Type 0} (s : Store C O) (passes : List (Pass C)) (stations : List St) (shelves : List (OnShelf C O St)) → AreShelvesOf s passes stations shelves → AreNumbered passes
+    → (w : ℕ) (shelf : OnShelf C O St) → At shelves w shelf → (view shelf.pass).pass ≡ w
+number_at {C} {O} {St} s passes stations shelves are numbered w shelf at =
+    numbered w shelf.pass (subst (λ (ps : List (Pass C)). get_elem? ps w ≡ some shelf.pass) are.passes_are (image_at (λ (x : OnShelf C O St). x.pass) shelves w shelf (at_place shelves w shelf at)))
+
 module _ {C O St : Type 0} (s : Store C O) (passes : List (Pass C)) (stations : List St) (shelves back : List (OnShelf C O St)) (are : AreShelvesOf s passes stations shelves) (count : length back ≡ length shelves)
     (kept : (w : ℕ) (before after : OnShelf C O St) → At shelves w before → At back w after → (after.store ≡ before.store) × ((view after.pass).pass ≡ (view before.pass).pass)) where
   abbrev shelf_at : (k : ℕ) → k < length back → (x : OnShelf C O St) × At shelves k x
@@ -55,7 +61,7 @@ module _ {C O St : Type 0} (s : Store C O) (passes : List (Pass C)) (stations : 
   pub numbers : AreNumbered passes → AreNumbered (map (λ shelf. shelf.pass) back)
   numbers numbered j p e = let i = image_of (λ (shelf : OnShelf C O St). shelf.pass) back j p e in let at = place_at back j i.0 i.1 in let b = shelf_at j at.0 in
       ap (λ (q : Pass C). (view q).pass) (sym i.2) ∙ (kept j b.0 i.0 b.1 at).1
-      ∙ numbered j b.0.pass (subst (λ (ps : List (Pass C)). get_elem? ps j ≡ some b.0.pass) are.passes_are (image_at (λ (shelf : OnShelf C O St). shelf.pass) shelves j b.0 (at_place shelves j b.0 b.1)))
+      ∙ number_at s passes stations shelves are numbered j b.0 b.1
 
   module _ (tells : Bool) (state : C → CellState) (offers : O → Offers) where
     -- and rest

@@ -7,3 +7,4 @@ pub mod Fronts
 pub mod Homes
 pub mod Asking
 mod Found
+mod Leaving

@@ -4,4 +4,5 @@ pub mod Device
 pub mod Crews
 pub mod Runs
 pub mod Asked
+pub mod Leaving
 pub mod Offered

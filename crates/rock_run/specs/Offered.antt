@@ -1,5 +1,5 @@
 -- What the lines of a script offer to a store.
-use Rattle.std.specs.Prelude.{◌&&◌, ◌+◌, ◌==◌, ◌∷◌, List, None, Option, Some, [], find, if◌then◌else◌, length, max, min, nat_le, option_and_then, true, ℕ}
+use Rattle.std.specs.Prelude.{◌&&◌, ◌+◌, ◌==◌, ◌≡◌, ◌∷◌, List, None, Option, Some, [], find, if◌then◌else◌, length, max, min, nat_le, option_and_then, true, ℕ}
 use Rattle.std.specs.Option.{option_map_or}
 use Rattle.script_text.specs.Shapes.{Shape, shape_of}
 use Rattle.script_text.specs.declared.body.Body.{Body}
@@ -10,6 +10,7 @@ use Rattle.store_key.specs.Key.{key_of}
 use Rattle.entry_cut.specs.Content.{content_of, front_size, slots_needed}
 use Rattle.plain_model.specs.Serving.{bytes_of}
 use Rattle.store_rule.specs.Ground.{Offers}
+use Rattle.rock_run.specs.Leaving.{leaves_to}
 
 -- a body under a URL
 pub record Response : Type 0 where
@@ -46,13 +47,19 @@ most_taken anchors slot anchor [] = 0
 most_taken anchors slot anchor (line ∷ lines) = max (option_map_or (taken_at anchors slot anchor) (offered_in line.request) 0)
     (most_taken anchors slot anchor lines)
 
--- The offer of a number is what the line of this number offers, and an empty one where it offers nothing. No anchor is left to one pass.
--- What lines offer at an anchor takes as many slots as the one of them that takes most.
+-- The offer of a number is what the line of this number offers, and an empty one where it offers nothing. An anchor is left to the pass of the
+-- worker whose lines alone name a URL of it. What lines offer at an anchor takes as many slots as the one of them that takes most.
 unfoldable pub offers_of : List Line → Offers
 offers_of lines = record {
   url = λ number. option_map_or (λ response. response.url) (offered_by lines number) [];
   body = λ number. option_map_or (λ response. bytes_of response.body) (offered_by lines number) [];
-  alone = λ anchor. None;
+  alone = λ anchors anchor. leaves_to anchors anchor lines;
   need = λ anchors slot anchor. most_taken anchors slot anchor lines;
   told = true;
 }
+
+-- What is offered are these lines, whatever anchors are left to whom.
+pub record OffersLines (lines : List Line) (o : Offers) : Type 0 where
+  pub url : o.url ≡ (offers_of lines).url
+  pub body : o.body ≡ (offers_of lines).body
+  pub need : o.need ≡ (offers_of lines).need

@@ -17,7 +17,7 @@ use Rattle.core_model.proofs.Tabs.{tab_there}
 use Rattle.core_alone.specs.Alone.{ComesRight, MayCome, StandsAlone}
 use Rattle.core_alone.proofs.Coming.{comes_lone}
 use Rattle.core_alone.proofs.Finding.{has_tabs}
-use Rattle.store_rule.specs.Ground.{Asks, Ground, MayName, fits, is_that, left_to}
+use Rattle.store_rule.specs.Ground.{Asks, Ground, MayName, alone_of, fits, is_that, left_to}
 
 or_true : (a b : Bool) → (a || b) ≡ true → (a ≡ true) ⊎ (b ≡ true)
 or_true true b h = inl refl
@@ -35,19 +35,19 @@ that_one p None h = cc
 that_one p (Some q) h = ap Some (sym (equal p q h))
 
 -- why an anchor is left to a pass
-pub left_cases : {X : Type 0} → (g : Ground X) (p a : ℕ) → left_to g p a ≡ true → (g.setting.passes ≡ 1) ⊎ ((fits g ≡ true) × (g.offers.alone a ≡ Some p))
+pub left_cases : {X : Type 0} → (g : Ground X) (p a : ℕ) → left_to g p a ≡ true → (g.setting.passes ≡ 1) ⊎ ((fits g ≡ true) × (alone_of g a ≡ Some p))
 unfolding left_to
 left_cases g p a h = ⊎_elim
     (λ (one : (g.setting.passes == 1) ≡ true). inl (equal g.setting.passes 1 one))
-    (λ (q : (fits g && is_that p (g.offers.alone a)) ≡ true). let both = and_true (fits g) (is_that p (g.offers.alone a)) q in inr (both.0, that_one p (g.offers.alone a) both.1))
-    (or_true (g.setting.passes == 1) (fits g && is_that p (g.offers.alone a)) h)
+    (λ (q : (fits g && is_that p (alone_of g a)) ≡ true). let both = and_true (fits g) (is_that p (alone_of g a)) q in inr (both.0, that_one p (alone_of g a) both.1))
+    (or_true (g.setting.passes == 1) (fits g && is_that p (alone_of g a)) h)
 
 module _ {X : Type 0} (g : Ground X) (s : State X) (so : AnchorsSound g.setting s) (i : ℕ) (v : View X) (at : get_elem? s.views i ≡ some v) (pass : IsPass v) where
   -- one that may name the anchor
   may_come : (a : ℕ) → MayName g v a → MayCome (left_to g) s i a
   may_come a names j u uat owns = ⊎_elim
       (λ (one : g.setting.passes ≡ 1). comes_lone (left_to g) g.setting s so i v at pass one a j u uat owns)
-      (λ (q : (fits g ≡ true) × (g.offers.alone a ≡ Some u.pass)). so.deeds.numbers j i u v uat at owns.0 (has_tabs v pass) (names u.pass q.1))
+      (λ (q : (fits g ≡ true) × (alone_of g a ≡ Some u.pass)). so.deeds.numbers j i u v uat at owns.0 (has_tabs v pass) (names u.pass q.1))
       (left_cases g u.pass a owns.1)
 
   module _ (alone : StandsAlone (left_to g) g.setting s) where
@@ -55,7 +55,7 @@ module _ {X : Type 0} (g : Ground X) (s : State X) (so : AnchorsSound g.setting 
     may_evict : (t a : ℕ) → t ≤ inner → (fits g ≡ true → tab_at v t ≡ Last a) → MayCome (left_to g) s i a
     may_evict t a le last j u uat owns = ⊎_elim
         (λ (one : g.setting.passes ≡ 1). comes_lone (left_to g) g.setting s so i v at pass one a j u uat owns)
-        (λ (q : (fits g ≡ true) × (g.offers.alone a ≡ Some u.pass)). sym (alone.apart j i t a u (Last a) uat owns
+        (λ (q : (fits g ≡ true) × (alone_of g a ≡ Some u.pass)). sym (alone.apart j i t a u (Last a) uat owns
         record { view = v; at = at; there = tab_there v t (Last a) (let p = pass in omega arith) (last q.0) } refl))
         (left_cases g u.pass a owns.1)
 

@@ -32,7 +32,7 @@ use Rattle.core_room.specs.Fitting.{capacity, fits as fits_in}
 pub record Offers : Type 0 where
   pub url : ℕ → List ℕ
   pub body : ℕ → List ℕ
-  pub alone : ℕ → Option ℕ  -- the pass to which an anchor is left alone, if it is
+  pub alone : (anchors anchor : ℕ) → Option ℕ  -- the pass to which an anchor, of so many, is left alone, if it is
   -- The most slots that an offer for an anchor takes, in a store of so many anchors with slots of this size. It is the same however many
   -- slots there are, and whatever a file has.
   pub need : (anchors slot anchor : ℕ) → ℕ
@@ -100,10 +100,14 @@ abbrev pub is_that : ℕ → Option ℕ → Bool
 is_that pass None = false
 is_that pass (Some number) = pass == number
 
+-- the pass to which the origin leaves this anchor
+abbrev pub alone_of : {X : Type 0} → Ground X → ℕ → Option ℕ
+alone_of g a = g.offers.alone g.setting.anchors a
+
 -- The anchor is left to the pass with this number, which alone changes what stands there: the store has one pass, or it fits and the origin leaves
 -- the anchor to that pass.
 unfoldable pub left_to : {X : Type 0} → Ground X → (pass a : ℕ) → Bool
-left_to g pass a = (g.setting.passes == 1) || (fits g && is_that pass (g.offers.alone a))
+left_to g pass a = (g.setting.passes == 1) || (fits g && is_that pass (alone_of g a))
 
 -- behind the slots that an inner tab gives back no other one is named
 abbrev pub RestsEnd : {X : Type 0} → State X → Type 0
@@ -129,7 +133,7 @@ pub record Rule {X : Type 0} (g : Ground X) (s : State X) : Type 0 where
 
 -- an anchor that is left alone is named by its own pass
 abbrev pub MayName : {X : Type 0} → Ground X → View X → ℕ → Type 0
-MayName g v a = (pass : ℕ) → g.offers.alone a ≡ Some pass → pass ≡ v.pass
+MayName g v a = (pass : ℕ) → alone_of g a ≡ Some pass → pass ≡ v.pass
 
 -- What the store asks of a step beside the step table, one row a move. A tab that comes to an anchor may name it, and a piece that is logged
 -- keeps to its offer. In a store that fits a search for a free slot begins only where there is room and goes on at its

@@ -80,5 +80,5 @@ no_ground = record {
   setting = record { anchors = 0; slots = 0; passes = 0; words = []; contents = []; image = λ p. []; blank = [] };
   chain = λ a. [];
   slot = 0;
-  offers = record { url = λ n. []; body = λ n. []; alone = λ a. None; need = λ anchors slot a. 4096; told = true };
+  offers = record { url = λ n. []; body = λ n. []; alone = λ anchors a. None; need = λ anchors slot a. 4096; told = true };
 }

@@ -16,8 +16,8 @@ use std::sync::Wait;
 use store_rule::{Pass, Store};
 use worker_shelf::WorkerShelf;
 
-/// Serves the lines of a script on a pass, in their order, but for those of marks, and leaves all tabs. A line for which memory is
-/// wanting is passed over.
+/// Serves the lines of a script on the first pass of a store, in their order, but for those of marks, and leaves all tabs. A line for
+/// which memory is wanting is passed over.
 fn serve_all<R: Wait, C: Cell + Send, St: Station<C = C>>(
     rt: &R,
     alloc: Global,
@@ -27,6 +27,7 @@ fn serve_all<R: Wait, C: Cell + Send, St: Station<C = C>>(
     script: &Script,
 ) -> (Pass<C>, St)
     requires may { MayRest C.tells C.state offers_of store.now pass }
+    requires number { (view pass).pass ≡ 0 }
     requires offers { (basis C.tells C.state offers_of store.now).offers ≡ offers_of script.now.lines }
     requires lines { MayBeServed 1 script.now.lines }
     ensures may { MayRest C.tells C.state offers_of store.now result.0 }

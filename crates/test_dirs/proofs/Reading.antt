@@ -148,12 +148,12 @@ module _ {C O : Type 0} (tells : Bool) (state : C → CellState) (offers : O →
       below = below;
       free = i.free;
       inner_free = i.inner_free;
-      names = λ pass alone. not_alone _ first second body (i.offers_are ∙ is) _ pass _ alone;
+      names = λ pass alone. not_alone _ first second body (i.offers_are ∙ is) _ _ pass _ alone;
     }
 
     pub may_purge_in : offered ≡ offers_in first second body → (dirs : Dirs C O) (a : DirPass C) → IsReady tells state offers t offered dirs a → (d : ℕ) (s : Store C O) (p : Pass C) → slice_get dirs.stores.items d ≡ Some s → slice_get a.passes.items d ≡ Some p → MayPurge tells state offers s p url
     may_purge_in is dirs a ready d s p es ep = let i = ready.idle d s p es ep in record {
       own = ready.own.own d s p es ep;
       inner_free = i.inner_free;
-      names = λ pass alone. not_alone _ first second body (i.offers_are ∙ is) _ pass _ alone;
+      names = λ pass alone. not_alone _ first second body (i.offers_are ∙ is) _ _ pass _ alone;
     }

@@ -26,8 +26,8 @@ pub url_at : (o : Offers) (first second body url : List ℕ) (slots k : ℕ) →
 url_at o first second body url slots k is picks = let e : (slots + k) - slots ≡ k = omega arith in
     ap (λ (z : Offers). z.url ((slots + k) - slots)) is ∙ ap (λ (j : ℕ). cond (j == 0) first second) e ∙ picks
 
-pub not_alone : (o : Offers) (first second body : List ℕ) → o ≡ offers_in first second body → (a pass mine : ℕ) → o.alone a ≡ Some pass → pass ≡ mine
-not_alone o first second body is a pass mine h = let e : None ≡ Some pass = sym (ap (λ (z : Offers). z.alone a) is) ∙ h in cc
+pub not_alone : (o : Offers) (first second body : List ℕ) → o ≡ offers_in first second body → (anchors a pass mine : ℕ) → o.alone anchors a ≡ Some pass → pass ≡ mine
+not_alone o first second body is anchors a pass mine h = let e : None ≡ Some pass = sym (ap (λ (z : Offers). z.alone anchors a) is) ∙ h in cc
 
 -- of two files one comes before the other
 pub one_first : (hand d dir : ℕ) → d ≢ dir → ComesBefore hand d dir ⊎ ComesBefore hand dir d
@@ -65,7 +65,7 @@ module _ {C O : Type 0} (tells : Bool) (state : C → CellState) (offers : O →
       good = good;
       needed = λ short fitting. let g = basis tells state offers s in
           let n : need_of g (anchor_for g url) ≡ 4096 = ap (λ (z : Offers). z.need g.setting.anchors g.slot (anchor_for g url)) (i.offers_are ∙ is) in omega arith;
-      name = λ pass alone. not_alone _ first second body (i.offers_are ∙ is) _ pass _ alone;
+      name = λ pass alone. not_alone _ first second body (i.offers_are ∙ is) _ _ pass _ alone;
     }
 
   -- no file took an entry

@@ -17,7 +17,7 @@ use Rattle.test_dirs.specs.declared.shelf.TwoUrls.{TwoUrls}
 -- The first offer has this URL, and each other one the second. All have one body, and no anchor is left to one pass. An offer may take as
 -- many slots as an entry may have at most.
 abbrev pub offers_in : (first second body : List ℕ) → Offers
-offers_in first second body = record { url = λ n. cond (n == 0) first second; body = λ n. body; alone = λ a. None; need = λ anchors slot a. 4096; told = true }
+offers_in first second body = record { url = λ n. cond (n == 0) first second; body = λ n. body; alone = λ anchors a. None; need = λ anchors slot a. 4096; told = true }
 
 abbrev pub offers_of : TwoUrls → Offers
 offers_of o = offers_in o.first.value.items o.second.value.items o.body.value.items

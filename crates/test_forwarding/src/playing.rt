@@ -3,7 +3,7 @@ ghost use Rattle.std.specs.Prelude.{All, IfOk, IfSome, IsTrue, map, ◌%◌, ◌
 ghost use Rattle.std.specs.List.{range_with_len};
 ghost use Rattle.plain_model.specs.Serving.{bytes_of};
 ghost use Rattle.rock_disk.specs.File.{NoneAway};
-ghost use Rattle.rock_run.specs.Offered.{offers_of};
+ghost use Rattle.test_forwarding_kit.specs.Shared.{shared_of};
 ghost use Rattle.store_rule.specs.Passes.{IsNewOf, basis};
 ghost use Rattle.store_serve.specs.Tabs.{IsFree, IsOffered, MayGo};
 ghost use Rattle.test_forwarding_kit.specs.Standing.{IsAtWork, IsRead, IsReady, IsScripted};
@@ -12,13 +12,14 @@ use collapse::{MemFetcher, forward_within};
 use rock_disk::{Cell, Station, Volume, opened_cells_are_the_files};
 use rock_io::MemSink;
 use rock_open::{OpenStore, open_store};
-use rock_run::{ScriptOrigin, script_lines_may_be_asked};
 use script_text::{Body, Line, Request, Script};
 use std::alloc::{AllocError, Global};
 use std::sync::Wait;
 use store_rule::{Pass, Store};
 use store_serve::{ScriptTab, add_to_tab, begin_on_tab};
-use test_forwarding_kit::{Midst, Other, forwarded, spelled, told};
+use test_forwarding_kit::{
+    Midst, Other, SharedOrigin, forwarded, shared_lines_may_be_asked, spelled, told,
+};
 
 /// How often a forwarding may look in vain, and the calls of the fetcher and of the sink that fail. A fetcher and a sink are
 /// new for each forwarding.
@@ -61,7 +62,7 @@ fn bytes_of(alloc: Global, body: &Body) -> Result<Vec<u8>, AllocError>
 fn forward_offer<R: Wait, C: Cell, St: Station<C = C>>(
     rt: &R,
     alloc: Global,
-    store: &Store<C, ScriptOrigin>,
+    store: &Store<C, SharedOrigin>,
     pass: &mut Pass<C>,
     station: &mut St,
     limits: &Limits,
@@ -70,10 +71,10 @@ fn forward_offer<R: Wait, C: Cell, St: Station<C = C>>(
     body: &Body,
     out: &mut Midst<'_, R, C, St>,
 ) -> Option<()>
-    requires ready { IsReady C.tells C.state offers_of store.now pass.old }
-    requires offered { IsOffered C.tells C.state offers_of store.now offer url.now body.now }
-    requires goes { MayGo C.tells C.state offers_of store.now pass.old url.now }
-    ensures ready { IsReady C.tells C.state offers_of store.now pass.new }
+    requires ready { IsReady C.tells C.state shared_of store.now pass.old }
+    requires offered { IsOffered C.tells C.state shared_of store.now offer url.now body.now }
+    requires goes { MayGo C.tells C.state shared_of store.now pass.old url.now }
+    ensures ready { IsReady C.tells C.state shared_of store.now pass.new }
     ensures idle { IsFree pass.old 0 → IsFree pass.new 0 }
 {
     let Ok(bytes) = bytes_of(alloc, body) else {
@@ -105,7 +106,7 @@ fn forward_offer<R: Wait, C: Cell, St: Station<C = C>>(
 /// Begins to write what a line offers on tab 0, and adds up to 900 bytes of it.
 fn write_offer<R: Wait, C: Cell, St: Station<C = C>>(
     alloc: Global,
-    store: &Store<C, ScriptOrigin>,
+    store: &Store<C, SharedOrigin>,
     pass: &mut Pass<C>,
     station: &mut St,
     offer: u64,
@@ -113,11 +114,11 @@ fn write_offer<R: Wait, C: Cell, St: Station<C = C>>(
     body: &Body,
     out: &mut Midst<'_, R, C, St>,
 ) -> Option<()>
-    requires ready { IsReady C.tells C.state offers_of store.now pass.old }
+    requires ready { IsReady C.tells C.state shared_of store.now pass.old }
     requires idle { IsFree pass.old 0 }
-    requires offered { IsOffered C.tells C.state offers_of store.now offer url.now body.now }
-    requires goes { MayGo C.tells C.state offers_of store.now pass.old url.now }
-    ensures { IsReady C.tells C.state offers_of store.now pass.new }
+    requires offered { IsOffered C.tells C.state shared_of store.now offer url.now body.now }
+    requires goes { MayGo C.tells C.state shared_of store.now pass.old url.now }
+    ensures { IsReady C.tells C.state shared_of store.now pass.new }
 {
     let Ok(begun) = begin_on_tab(alloc, store, pass, 0, ScriptTab::Free, offer, url, body) else {
         return None;
@@ -134,7 +135,7 @@ fn write_offer<R: Wait, C: Cell, St: Station<C = C>>(
 fn serve_line<R: Wait, C: Cell, St: Station<C = C>>(
     rt: &R,
     alloc: Global,
-    store: &Store<C, ScriptOrigin>,
+    store: &Store<C, SharedOrigin>,
     pass: &mut Pass<C>,
     station: &mut St,
     limits: &Limits,
@@ -143,14 +144,14 @@ fn serve_line<R: Wait, C: Cell, St: Station<C = C>>(
     is_idle: bool,
     out: &mut Midst<'_, R, C, St>,
 ) -> Option<bool>
-    requires ready { IsReady C.tells C.state offers_of store.now pass.old }
+    requires ready { IsReady C.tells C.state shared_of store.now pass.old }
     requires idle { IsTrue is_idle → IsFree pass.old 0 }
-    requires offers { (basis C.tells C.state offers_of store.now).offers ≡ offers_of lines.now }
+    requires offers { (basis C.tells C.state shared_of store.now).offers ≡ shared_of lines.now }
     requires read { IsRead lines.now line.now }
-    ensures ready { IsReady C.tells C.state offers_of store.now pass.new }
+    ensures ready { IsReady C.tells C.state shared_of store.now pass.new }
     ensures idle { IfSome result (λ is_still. IsTrue is_still → IsFree pass.new 0) }
 {
-    script_lines_may_be_asked::<C, ScriptOrigin>();
+    shared_lines_may_be_asked::<C, SharedOrigin>();
     let offer = u64::from(store.slots()) + u64::from(line.number);
     match &line.request {
         Request::Put { url, body } => {
@@ -190,16 +191,16 @@ fn serve_line<R: Wait, C: Cell, St: Station<C = C>>(
 fn serve_lines<R: Wait, C: Cell, St: Station<C = C>>(
     rt: &R,
     alloc: Global,
-    store: &Store<C, ScriptOrigin>,
+    store: &Store<C, SharedOrigin>,
     pass: &mut Pass<C>,
     station: &mut St,
     limits: &Limits,
     lines: &[Line],
     out: &mut Midst<'_, R, C, St>,
 ) -> Option<()>
-    requires ready { IsReady C.tells C.state offers_of store.now pass.old }
+    requires ready { IsReady C.tells C.state shared_of store.now pass.old }
     requires idle { IsFree pass.old 0 }
-    requires script { IsScripted C.tells C.state offers_of store.now lines.now }
+    requires script { IsScripted C.tells C.state shared_of store.now lines.now }
 {
     let mut is_idle = true;
     for at in 0..lines.len() {
@@ -222,10 +223,10 @@ fn serve_lines<R: Wait, C: Cell, St: Station<C = C>>(
 }
 
 /// One of the new passes of a store.
-fn next_pass<C: Cell>(store: &Store<C, ScriptOrigin>, passes: &mut Vec<Pass<C>>) -> Option<Pass<C>>
-    requires { All (IsNewOf C.tells C.state offers_of store.now) passes.old.items }
-    ensures pass { IfSome result (λ pass. IsAtWork C.tells C.state offers_of store.now pass ScriptTab.Free) }
-    ensures passes { All (IsNewOf C.tells C.state offers_of store.now) passes.new.items }
+fn next_pass<C: Cell>(store: &Store<C, SharedOrigin>, passes: &mut Vec<Pass<C>>) -> Option<Pass<C>>
+    requires { All (IsNewOf C.tells C.state shared_of store.now) passes.old.items }
+    ensures pass { IfSome result (λ pass. IsAtWork C.tells C.state shared_of store.now pass ScriptTab.Free) }
+    ensures passes { All (IsNewOf C.tells C.state shared_of store.now) passes.new.items }
 {
     passes.pop()
 }
@@ -234,15 +235,15 @@ fn next_pass<C: Cell>(store: &Store<C, ScriptOrigin>, passes: &mut Vec<Pass<C>>)
 fn serve_script<R: Wait, C: Cell, St: Station<C = C>>(
     rt: &R,
     alloc: Global,
-    store: &Store<C, ScriptOrigin>,
+    store: &Store<C, SharedOrigin>,
     passes: &mut Vec<Pass<C>>,
     station: &mut St,
     other: St,
     limits: &Limits,
     lines: &[Line],
 ) -> (St, Option<String>)
-    requires passes { All (IsNewOf C.tells C.state offers_of store.now) passes.old.items }
-    requires script { IsScripted C.tells C.state offers_of store.now lines.now }
+    requires passes { All (IsNewOf C.tells C.state shared_of store.now) passes.old.items }
+    requires script { IsScripted C.tells C.state shared_of store.now lines.now }
 {
     let Some(second) = next_pass(store, passes) else {
         return (other, None);
@@ -286,7 +287,7 @@ pub(crate) fn played<R: Wait, V: Volume>(
     requires read { All (IsRead script.now.lines) script.now.lines }
 {
     opened_cells_are_the_files();
-    let origin = ScriptOrigin::new(script);
+    let origin = SharedOrigin::new(script);
     let Ok(open) = open_store(alloc, volume, "db", 512, anchors, 2, origin) else {
         return None;
     };

@@ -2,7 +2,7 @@
 use Rattle.std.specs.Prelude.{All, Bool, List, ◌≡◌}
 use Rattle.rock_disk.specs.Cell.{CellState}
 use Rattle.rock_run.specs.Asked.{IsAsked, IsFound}
-use Rattle.rock_run.specs.Offered.{offers_of}
+use Rattle.test_forwarding_kit.specs.Shared.{shared_of}
 use Rattle.script_text.specs.declared.line.Line.{Line}
 use Rattle.store_rule.specs.declared.store.Pass.{Pass}
 use Rattle.store_rule.specs.declared.store.Store.{Store}
@@ -25,7 +25,7 @@ module _ {C O : Type 0} (tells : Bool) (state : C → CellState) (offers : O →
 
   -- the store is offered what these lines offer, and they were read
   pub record IsScripted (lines : List Line) : Type 0 where
-    pub offers_are : (basis tells state offers s).offers ≡ offers_of lines
+    pub offers_are : (basis tells state offers s).offers ≡ shared_of lines
     pub read : All (IsRead lines) lines
 
   -- the pass stands ready, and what is kept of its tab 0 is so

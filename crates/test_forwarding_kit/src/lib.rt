@@ -3,7 +3,9 @@
 
 mod other;
 mod serving;
+mod shared;
 mod telling;
 
 pub use other::{Midst, Other};
+pub use shared::{SharedOrigin, shared_lines_may_be_asked};
 pub use telling::{forwarded, spelled, told};

@@ -1,13 +1,13 @@
 // Another worker, and a sink in the midst of whose pieces it goes on.
 ghost use Rattle.std.specs.Prelude.{◌≡◌};
-ghost use Rattle.rock_run.specs.Offered.{offers_of};
+ghost use Rattle.test_forwarding_kit.specs.Shared.{shared_of};
 ghost use Rattle.test_forwarding_kit.specs.Standing.{IsAtWork, IsScripted};
 
 use crate::serving::{Served, serve_line};
 use crate::telling::told;
 use rock_disk::{Cell, Station};
 use rock_io::{Failed, MemSink, Sink};
-use rock_run::{ScriptOrigin, script_lines_may_be_asked};
+use crate::shared::{SharedOrigin, shared_lines_may_be_asked};
 use script_text::{Line, Request};
 use std::alloc::Global;
 use std::marker::Model;
@@ -21,7 +21,7 @@ use store_serve::ScriptTab;
 pub struct Other<'a, R: Wait, C: Cell, St: Station<C = C>> {
     rt: &'a R,
     alloc: Global,
-    store: &'a Store<C, ScriptOrigin>,
+    store: &'a Store<C, SharedOrigin>,
     lines: &'a [Line],
     pass: Pass<C>,
     tab: ScriptTab,
@@ -30,15 +30,15 @@ pub struct Other<'a, R: Wait, C: Cell, St: Station<C = C>> {
 }
 
 impl<'a, R: Wait, C: Cell, St: Station<C = C>> Model for Other<'a, R, C, St> {
-    ghost use Rattle.rock_run.specs.Offered.{offers_of};
+    ghost use Rattle.test_forwarding_kit.specs.Shared.{shared_of};
     ghost use Rattle.test_forwarding_kit.specs.Standing.{IsAtWork, IsScripted};
 
     ghost Value = { St };
 
     ghost view = { λ other. other.station };
 
-    ghost invariant = { λ other. IsScripted C.tells C.state offers_of other.store.now other.lines.now
-        × IsAtWork C.tells C.state offers_of other.store.now other.pass other.tab };
+    ghost invariant = { λ other. IsScripted C.tells C.state shared_of other.store.now other.lines.now
+        × IsAtWork C.tells C.state shared_of other.store.now other.pass other.tab };
 }
 
 impl<'a, R: Wait, C: Cell, St: Station<C = C>> Other<'a, R, C, St> {
@@ -46,13 +46,13 @@ impl<'a, R: Wait, C: Cell, St: Station<C = C>> Other<'a, R, C, St> {
     pub fn new(
         rt: &'a R,
         alloc: Global,
-        store: &'a Store<C, ScriptOrigin>,
+        store: &'a Store<C, SharedOrigin>,
         lines: &'a [Line],
         pass: Pass<C>,
         station: St,
     ) -> Self
-        requires script { IsScripted C.tells C.state offers_of store.now lines.now }
-        requires work { IsAtWork C.tells C.state offers_of store.now pass ScriptTab.Free }
+        requires script { IsScripted C.tells C.state shared_of store.now lines.now }
+        requires work { IsAtWork C.tells C.state shared_of store.now pass ScriptTab.Free }
     {
         Other {
             rt,
@@ -68,7 +68,7 @@ impl<'a, R: Wait, C: Cell, St: Station<C = C>> Other<'a, R, C, St> {
 
     /// Serves the line at a place, and tells the answer. Where memory is wanting nothing is told.
     pub fn serve(&mut self, at: usize) {
-        script_lines_may_be_asked::<C, ScriptOrigin>();
+        shared_lines_may_be_asked::<C, SharedOrigin>();
         let Some(line) = self.lines.get(at) else {
             return;
         };

@@ -1,6 +1,6 @@
 // A line of a script is served on a pass, of which tab 0 alone is used for those that name a tab.
 ghost use Rattle.std.specs.Prelude.{IfOk, OnErr, ◌≡◌, ◌≤◌};
-ghost use Rattle.rock_run.specs.Offered.{offers_of};
+ghost use Rattle.test_forwarding_kit.specs.Shared.{shared_of};
 ghost use Rattle.store_rule.specs.Passes.{basis};
 ghost use Rattle.store_serve.specs.Serving.{Takes, offer_of};
 ghost use Rattle.store_serve.specs.Tabs.{Holds, IsFree, Leaves};
@@ -9,7 +9,7 @@ ghost use Rattle.test_forwarding_kit.specs.Standing.{IsReady};
 
 use rock_disk::{Cell, Station};
 use rock_io::Memory;
-use rock_run::ScriptOrigin;
+use crate::shared::SharedOrigin;
 use script_text::{Answer, Line, Request};
 use std::alloc::Global;
 use std::sync::Wait;
@@ -29,20 +29,20 @@ pub(crate) struct Served {
 fn serve_whole<R: Wait, C: Cell, St: Station<C = C>>(
     rt: &R,
     alloc: Global,
-    store: &Store<C, ScriptOrigin>,
+    store: &Store<C, SharedOrigin>,
     pass: &mut Pass<C>,
     station: &mut St,
     offer: u64,
     line: &Line,
 ) -> Option<Answer>
-    requires ready { IsReady C.tells C.state offers_of store.now pass.old }
-    requires offer { offer ≡ offer_of C.tells C.state offers_of store.now line.now.number }
-    requires takes { Takes C.tells C.state offers_of store.now pass.old line.now }
-    requires room { (basis C.tells C.state offers_of store.now).slot ≤ 512 }
-    ensures ready { IsReady C.tells C.state offers_of store.now pass.new }
-    ensures holds { (kept : Kept) → Holds C.tells C.state offers_of store.now pass.old 0 kept → Holds C.tells C.state offers_of store.now pass.new 0 kept }
+    requires ready { IsReady C.tells C.state shared_of store.now pass.old }
+    requires offer { offer ≡ offer_of C.tells C.state shared_of store.now line.now.number }
+    requires takes { Takes C.tells C.state shared_of store.now pass.old line.now }
+    requires room { (basis C.tells C.state shared_of store.now).slot ≤ 512 }
+    ensures ready { IsReady C.tells C.state shared_of store.now pass.new }
+    ensures holds { (kept : Kept) → Holds C.tells C.state shared_of store.now pass.old 0 kept → Holds C.tells C.state shared_of store.now pass.new 0 kept }
 {
-    requests_keep_other_tabs::<C, ScriptOrigin>();
+    requests_keep_other_tabs::<C, SharedOrigin>();
     let mut piece = [0u8; 512];
     match &line.request {
         Request::Put { url, body } => Some(put_whole(
@@ -72,20 +72,20 @@ fn serve_whole<R: Wait, C: Cell, St: Station<C = C>>(
 fn serve_on_tab<R: Wait, C: Cell, St: Station<C = C>>(
     rt: &R,
     alloc: Global,
-    store: &Store<C, ScriptOrigin>,
+    store: &Store<C, SharedOrigin>,
     pass: &mut Pass<C>,
     station: &mut St,
     kept: ScriptTab,
     offer: u64,
     line: &Line,
 ) -> Result<Told, Memory>
-    requires ready { IsReady C.tells C.state offers_of store.now pass.old }
-    requires holds { Holds C.tells C.state offers_of store.now pass.old 0 kept }
-    requires offer { offer ≡ offer_of C.tells C.state offers_of store.now line.now.number }
-    requires takes { Takes C.tells C.state offers_of store.now pass.old line.now }
-    requires room { (basis C.tells C.state offers_of store.now).slot ≤ 512 }
-    ensures leaves { Leaves C.tells C.state offers_of store.now 0 pass.old pass.new }
-    ensures holds { IfOk result (λ told. Holds C.tells C.state offers_of store.now pass.new 0 told.tab) }
+    requires ready { IsReady C.tells C.state shared_of store.now pass.old }
+    requires holds { Holds C.tells C.state shared_of store.now pass.old 0 kept }
+    requires offer { offer ≡ offer_of C.tells C.state shared_of store.now line.now.number }
+    requires takes { Takes C.tells C.state shared_of store.now pass.old line.now }
+    requires room { (basis C.tells C.state shared_of store.now).slot ≤ 512 }
+    ensures leaves { Leaves C.tells C.state shared_of store.now 0 pass.old pass.new }
+    ensures holds { IfOk result (λ told. Holds C.tells C.state shared_of store.now pass.new 0 told.tab) }
     ensures free { OnErr result (IsFree pass.new 0) }
 {
     let mut piece = [0u8; 512];
@@ -106,19 +106,19 @@ fn serve_on_tab<R: Wait, C: Cell, St: Station<C = C>>(
 pub(crate) fn serve_line<R: Wait, C: Cell, St: Station<C = C>>(
     rt: &R,
     alloc: Global,
-    store: &Store<C, ScriptOrigin>,
+    store: &Store<C, SharedOrigin>,
     pass: &mut Pass<C>,
     station: &mut St,
     kept: ScriptTab,
     offer: u64,
     line: &Line,
 ) -> Served
-    requires ready { IsReady C.tells C.state offers_of store.now pass.old }
-    requires holds { Holds C.tells C.state offers_of store.now pass.old 0 kept }
-    requires offer { offer ≡ offer_of C.tells C.state offers_of store.now line.now.number }
-    requires takes { Takes C.tells C.state offers_of store.now pass.old line.now }
-    ensures ready { IsReady C.tells C.state offers_of store.now pass.new }
-    ensures holds { Holds C.tells C.state offers_of store.now pass.new 0 result.tab }
+    requires ready { IsReady C.tells C.state shared_of store.now pass.old }
+    requires holds { Holds C.tells C.state shared_of store.now pass.old 0 kept }
+    requires offer { offer ≡ offer_of C.tells C.state shared_of store.now line.now.number }
+    requires takes { Takes C.tells C.state shared_of store.now pass.old line.now }
+    ensures ready { IsReady C.tells C.state shared_of store.now pass.new }
+    ensures holds { Holds C.tells C.state shared_of store.now pass.new 0 result.tab }
 {
     if store.slot_size() > 512 {
         return Served {

@@ -11,7 +11,7 @@ struct Nothing;
 impl Origin for Nothing {
     ghost use Rattle.std.specs.Prelude.{[], None, true};
 
-    ghost offers = { λ _. record { url = λ n. []; body = λ n. []; alone = λ a. None; need = λ anchors slot a. 4096; told = true } };
+    ghost offers = { λ _. record { url = λ n. []; body = λ n. []; alone = λ anchors a. None; need = λ anchors slot a. 4096; told = true } };
 }
 
 /// The numbers of the pages of these passes, in order.

@@ -113,3 +113,85 @@ fn later_get_hits(rt: HostRuntime) -> Result<(), Fail> {
 ",
     )
 }
+
+/// Each anchor is named by the lines of one worker alone, and there are slots for both. So no answer is FULL, and each worker hits
+/// what it stored. The first writes of both wait for each other.
+#[test]
+fn workers_with_anchors_of_their_own_lose_nothing(rt: HostRuntime) -> Result<(), Fail> {
+    let both = Part {
+        sign_at: 1,
+        signs: 2,
+    };
+    meet(
+        &rt,
+        rt.alloc(),
+        2,
+        [both, both],
+        "\
+1 put u0 =x -> STORED 1
+1 get u0 -> HIT 1 1 78
+2 put u1 =y -> STORED 2
+2 get u1 -> HIT 2 1 79
+
+1 put u0 =x -> STORED 2
+1 get u0 -> HIT 2 1 78
+2 put u1 =y -> STORED 1
+2 get u1 -> HIT 1 1 79
+",
+    )
+}
+
+/// The same with two slots for each worker, which it needs for each of its responses. The versions of each worker rise, and those
+/// of both are the first four. Nobody waits, so they may be drawn in each order.
+#[test]
+fn workers_with_anchors_of_their_own_replace_what_they_stored(rt: HostRuntime) -> Result<(), Fail> {
+    meet(
+        &rt,
+        rt.alloc(),
+        2,
+        [REST, REST],
+        "\
+1 put u0 #901:0 -> STORED 1
+2 put u1 #901:0 -> STORED 3
+1 put u0 #901:0 -> STORED 2
+2 put u1 #901:0 -> STORED 4
+1 get u0 -> HIT 2 901 MADE(0,901)
+2 get u1 -> HIT 4 901 MADE(0,901)
+
+1 put u0 #901:0 -> STORED 1
+2 put u1 #901:0 -> STORED 2
+1 put u0 #901:0 -> STORED 3
+2 put u1 #901:0 -> STORED 4
+1 get u0 -> HIT 3 901 MADE(0,901)
+2 get u1 -> HIT 4 901 MADE(0,901)
+
+1 put u0 #901:0 -> STORED 1
+2 put u1 #901:0 -> STORED 2
+1 put u0 #901:0 -> STORED 4
+2 put u1 #901:0 -> STORED 3
+1 get u0 -> HIT 4 901 MADE(0,901)
+2 get u1 -> HIT 3 901 MADE(0,901)
+
+1 put u0 #901:0 -> STORED 2
+2 put u1 #901:0 -> STORED 1
+1 put u0 #901:0 -> STORED 3
+2 put u1 #901:0 -> STORED 4
+1 get u0 -> HIT 3 901 MADE(0,901)
+2 get u1 -> HIT 4 901 MADE(0,901)
+
+1 put u0 #901:0 -> STORED 2
+2 put u1 #901:0 -> STORED 1
+1 put u0 #901:0 -> STORED 4
+2 put u1 #901:0 -> STORED 3
+1 get u0 -> HIT 4 901 MADE(0,901)
+2 get u1 -> HIT 3 901 MADE(0,901)
+
+1 put u0 #901:0 -> STORED 3
+2 put u1 #901:0 -> STORED 1
+1 put u0 #901:0 -> STORED 4
+2 put u1 #901:0 -> STORED 2
+1 get u0 -> HIT 4 901 MADE(0,901)
+2 get u1 -> HIT 2 901 MADE(0,901)
+",
+    )
+}

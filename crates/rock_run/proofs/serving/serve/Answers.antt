@@ -1,4 +1,4 @@
-use Rattle.std.proofs.Common.{All, ap, arith, length, map, subst, sym, ◌∙◌, ◌≡◌}
+use Rattle.std.proofs.Common.{All, ap, arith, length, map, subst, sym, ◌+◌, ◌∙◌, ◌≡◌}
 use Rattle.std.proofs.lemmas.List.{length-map}
 use Rattle.std.proofs.lemmas.List.Elements.{All-contains}
 use Rattle.std.proofs.lemmas.Simd.{map-map}
@@ -11,7 +11,7 @@ use Rattle.worker_shelf.specs.Taking.{Takes}
 use Rattle.worker_pool.specs.Courses.{IsServed}
 use Rattle.rock_run.specs.Crews.{MayRest}
 use Rattle.rock_run.proofs.Accounts.{played}
-use Rattle.rock_run.proofs.Back.{among, at_place, image_at, numbers, place_at, rest}
+use Rattle.rock_run.proofs.Back.{among, at_place, image_at, number_at, numbers, place_at, rest}
 use Rattle.rock_run.proofs.serving.serve.Goals as goal
 
 pub run_workers-requires-clause-home : goal.run_workers-requires-clause-home
@@ -27,6 +27,7 @@ pub run_workers-requires-clause-takes : goal.run_workers-requires-clause-takes
 run_workers-requires-clause-takes g c κs within w k shelf line at is mine served =
     subst (λ s. Takes g.C.Cell.tells g.C.Cell.state offers_of s shelf.pass line) (sym (c.hire.ensures.hired.stores shelf (among c.hire.new.shelves.items w shelf at)))
     (c.script_lines_may_be_asked.ensures.takes c.args.store.now c.args.script.now.lines line shelf.pass c.requires.offers (c.requires.lines.found line (k, is.0, is.1)) (c.requires.lines.asked line (k, is.0, is.1))
+    (mine ∙ ap (λ n. n + 1) (sym (number_at c.args.store.now c.args.passes.now.items c.args.stations.now.items c.hire.new.shelves.items c.hire.ensures.hired c.requires.numbered w shelf at)))
     (λ mark e. subst IsServed e served) (λ mark e. subst IsServed e served))
 
 pub run_workers-requires-clause-marks : goal.run_workers-requires-clause-marks
@@ -64,7 +65,8 @@ returns-in-Ok-clause-played g c =
           (are.stores a.start (among shelves w a.start (place_at shelves w a.start shelf_at)))
           (All-contains (IsNewOf g.C.Cell.tells g.C.Cell.state offers_of s) passes a.start.pass c.requires.new (w, at_length passes w a.start.pass pass_at, at_or passes w a.start.pass a.start.pass pass_at))
           (c.requires.numbered w a.start.pass pass_at)
-          (λ line there served. c.script_lines_may_be_asked.ensures.takes s lines line a.start.pass c.requires.offers (c.requires.lines.found line there) (c.requires.lines.asked line there)
+          (λ line there mine served. c.script_lines_may_be_asked.ensures.takes s lines line a.start.pass c.requires.offers (c.requires.lines.found line there) (c.requires.lines.asked line there)
+          (mine ∙ ap (λ n. n + 1) (sym (c.requires.numbered w a.start.pass pass_at)))
           (λ mark e. subst IsServed e served) (λ mark e. subst IsServed e served));
       told = λ a b in_a in_b m n mark among_a among_b sets_it awaits_it met x seen. h.meets a b in_a in_b m n mark among_a among_b sets_it awaits_it met x seen;
       passes_are = sym (map-map (λ shelf. shelf.pass) (λ a. a.start) h.accounts) ∙ ap (map (λ shelf. shelf.pass)) h.starts ∙ are.passes_are;

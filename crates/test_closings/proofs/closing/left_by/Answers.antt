@@ -26,6 +26,16 @@ serve_all-pass-requires-clause-may g c κs within =
           (subst (λ n. KeepsRoom n ps) (sym over.slots_are) over.room);
     }
 
+pub serve_all-pass-requires-clause-number : goal.serve_all-pass-requires-clause-number
+serve_all-pass-requires-clause-number g c κs within =
+    let over = c.in-Ok.ensures.opened.store in
+    let ps = c.in-Ok.open.passes.items in
+    let pass = c.in-Some.pass in
+    let single : length ps ≡ 1 = let long = c.in-Ok.open.passes.ok.0 in let many = over.many in omega arith in
+    let none = none_before c.pop.new.self.items pass ps c.in-Some.ensures.items single in
+    let one : ps ≡ pass ∷ [] = c.in-Some.ensures.items ∙ ap (λ (xs : List (Pass g.row.V-C.Denot)). xs ++ pass ∷ []) none in
+    subst AreNumbered one over.numbered 0 pass refl
+
 pub end_station-requires : goal.end_station-requires
 end_station-requires g c =
     let kept = g.met.V.Volume.ended_were_made c.open_store.new.volume in

@@ -1,7 +1,7 @@
-use Rattle.std.proofs.Common.{List, ap, subst, sym, ◌∙◌}
+use Rattle.std.proofs.Common.{List, ap, arith, subst, sym, ◌+◌, ◌∙◌, ◌≡◌}
 use Rattle.std.specs.List.{Contains}
 use Rattle.script_text.specs.declared.line.Line.{Line}
-use Rattle.store_rule.specs.Passes.{IsOf}
+use Rattle.store_rule.specs.Passes.{IsOf, view}
 use Rattle.worker_shelf.specs.Shelves.{KeepsCells}
 use Rattle.worker_shelf.specs.Taking.{Takes}
 use Rattle.rock_run.specs.Offered.{offers_of}
@@ -12,9 +12,12 @@ serve-requires g c =
     let line = c.line-item.result in
     let there = subst (λ (lines : List Line). Contains lines line) c.as_slice-line-items.ensures
     (c.loop-line.line-index, c.loop-line-test.true, sym c.line-item.is) in
+    let within = c.requires.lines.within line there in
+    let first : (view c.loop-line.shelf.pass).pass ≡ 0 = c.loop-line.invariant.number ∙ c.requires.number in
+    let mine : line.worker ≡ (view c.loop-line.shelf.pass).pass + 1 = let least = within.0 in let most = within.1 in omega (arith, least, most, first) in
     subst (λ s. Takes g.C.Cell.tells g.C.Cell.state offers_of s c.loop-line.shelf.pass line) (sym c.loop-line.invariant.store)
     (c.script_lines_may_be_asked.ensures.takes c.args.store.now c.args.script.now.lines line c.loop-line.shelf.pass c.requires.offers
-    (c.requires.lines.found line there) (c.requires.lines.asked line there) c.in_default.not-Mark c.in_default.not-Await)
+    (c.requires.lines.found line there) (c.requires.lines.asked line there) mine c.in_default.not-Mark c.in_default.not-Await)
 
 pub returns-clause-may : goal.returns-clause-may
 returns-clause-may g c =

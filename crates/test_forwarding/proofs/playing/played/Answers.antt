@@ -2,7 +2,7 @@ use Rattle.std.proofs.Common.{All, List, ap, arith, length, subst, sym, ◌∷�
 use Rattle.std.proofs.lemmas.List.{length-append}
 use Rattle.std.specs.FinMap.{get}
 use Rattle.rock_disk.specs.File.{Files}
-use Rattle.rock_run.specs.Offered.{offers_of}
+use Rattle.test_forwarding_kit.specs.Shared.{shared_of}
 use Rattle.script_text.specs.declared.line.Line.{Line}
 use Rattle.test_forwarding_kit.specs.Standing.{IsRead}
 use Rattle.test_forwarding.proofs.playing.played.Goals as goal
@@ -23,7 +23,7 @@ end_station-requires g c =
 
 pub serve_script-other-requires-clause-script : goal.serve_script-other-requires-clause-script
 serve_script-other-requires-clause-script g c = record {
-  offers_are = c.in-Ok.ensures.opened.store.offers_are ∙ ap offers_of (c.new-origin.ensures ∙ sym c.as_slice.ensures);
+  offers_are = c.in-Ok.ensures.opened.store.offers_are ∙ ap shared_of (c.new-origin.ensures ∙ sym c.as_slice.ensures);
   read = subst (λ (lines : List Line). All (IsRead lines) lines) (sym c.as_slice.ensures) c.requires.read;
 }
 
