@@ -1,21 +1,17 @@
 -- Who may go to an anchor that the lines of a script leave to one pass.
-use Rattle.std.proofs.Common.{◌∙◌, ◌+◌, ◌-◌, ◌<◌, ◌==◌, ◌∷◌, ◌≡◌, ◌⊎◌, Bool, Contains, List, [], ap, arith, cond, eq-eqb, false, ne_eqb, refl, suc, sym, true, unwrap_or, ⊎_elim, ℕ}
+use Rattle.std.proofs.Common.{◌∙◌, ◌+◌, ◌-◌, ◌<◌, ◌==◌, ◌∷◌, ◌≡◌, ◌⊎◌, Bool, Contains, List, [], ap, arith, cond, eq-eqb, false, refl, sym, true, unwrap_or, ⊎_elim, ℕ}
 use Rattle.std.specs.List.{filter, list_all}
 use Rattle.std.specs.Option.{option_map_or}
 use Rattle.std.specs.Prelude.{None, Option, Some, find}
+use Rattle.std.proofs.lemmas.Bool.{eqb-true}
 use Rattle.std.proofs.lemmas.List.Elements.{All-contains}
 use Rattle.std.proofs.lemmas.List.Sums.{AllPass-from_list_all}
-use mathlib.Core.Logic.{dite}
-use native.Mathlib.Decide.{ℕ_discrete}
 use Rattle.marks.proofs.Lists.{cons_cases, later_in, to_filter}
 use Rattle.script_text.specs.Requests.{url_in}
 use Rattle.script_text.specs.declared.line.Line.{Line}
 use Rattle.store_key.specs.Anchor.{anchor_of}
 use Rattle.store_key.specs.Key.{key_of}
 use Rattle.rock_run.specs.Leaving.{leaves_to, names_at, pass_of_all}
-
-equal : (m n : ℕ) → (m == n) ≡ true → m ≡ n
-equal m n h = dite (ℕ_discrete m n) (λ e. e) (λ ne. let z = ne_eqb m n ne in cc)
 
 -- what is found in a list is in it
 pub found_among : (p : Line → Bool) (lines : List Line) (line : Line) → find p lines ≡ Some line → Contains lines line
@@ -40,7 +36,7 @@ one_worker (first ∷ rest) pass e line among = by_case (list_all same rest) ref
     of_first : list_all same rest ≡ true → line.worker ≡ first.worker
     of_first all = ⊎_elim
         (λ (is : first ≡ line). ap Line.worker (sym is))
-        (λ (c : Contains rest line). equal line.worker first.worker (All-contains (λ (l : Line). same l ≡ true) rest line (AllPass-from_list_all same rest all) c))
+        (λ (c : Contains rest line). eqb-true line.worker first.worker (All-contains (λ (l : Line). same l ≡ true) rest line (AllPass-from_list_all same rest all) c))
         (cons_cases first line rest among)
 
     by_case : (b : Bool) → list_all same rest ≡ b → cond b (Some (first.worker - 1)) None ≡ Some pass → pass ≡ line.worker - 1

@@ -1,8 +1,7 @@
 -- Who may come to an anchor that is left to one pass.
-use Rattle.std.proofs.Common.{◌≤◌, ◌≡◌, ◌⊎◌, inl, inr, ⊎_elim, ℕ, ◌==◌, ◌&&◌, ◌||◌, Bool, true, false, Option, Some, None, ne_eqb, sym, refl, ap, arith}
-use mathlib.Core.Logic.{dite}
+use Rattle.std.proofs.Common.{◌≤◌, ◌≡◌, ◌⊎◌, inl, inr, ⊎_elim, ℕ, ◌==◌, ◌&&◌, true, Option, Some, None, sym, ap, arith}
+use Rattle.std.proofs.lemmas.Bool.{and_parts, eqb-true, or_cases}
 use mathlib.Core.Option.{some}
-use native.Mathlib.Decide.{ℕ_discrete}
 use lib.ListN.{get_elem?}
 use Rattle.core_model.specs.declared.moves.Move.{Move}
 use Rattle.core_model.specs.declared.moves.Move.TheVariants.{Enter, Evict, Take}
@@ -19,28 +18,17 @@ use Rattle.core_alone.proofs.Coming.{comes_lone}
 use Rattle.core_alone.proofs.Finding.{has_tabs}
 use Rattle.store_rule.specs.Ground.{Asks, Ground, MayName, alone_of, fits, is_that, left_to}
 
-or_true : (a b : Bool) → (a || b) ≡ true → (a ≡ true) ⊎ (b ≡ true)
-or_true true b h = inl refl
-or_true false b h = inr h
-
-and_true : (a b : Bool) → (a && b) ≡ true → (a ≡ true) × (b ≡ true)
-and_true true b h = (refl, h)
-and_true false b h = cc
-
-pub equal : (m n : ℕ) → (m == n) ≡ true → m ≡ n
-equal m n h = dite (ℕ_discrete m n) (λ e. e) (λ ne. let z = ne_eqb m n ne in cc)
-
 that_one : (p : ℕ) (o : Option ℕ) → is_that p o ≡ true → o ≡ Some p
 that_one p None h = cc
-that_one p (Some q) h = ap Some (sym (equal p q h))
+that_one p (Some q) h = ap Some (sym (eqb-true p q h))
 
 -- why an anchor is left to a pass
 pub left_cases : {X : Type 0} → (g : Ground X) (p a : ℕ) → left_to g p a ≡ true → (g.setting.passes ≡ 1) ⊎ ((fits g ≡ true) × (alone_of g a ≡ Some p))
 unfolding left_to
 left_cases g p a h = ⊎_elim
-    (λ (one : (g.setting.passes == 1) ≡ true). inl (equal g.setting.passes 1 one))
-    (λ (q : (fits g && is_that p (alone_of g a)) ≡ true). let both = and_true (fits g) (is_that p (alone_of g a)) q in inr (both.0, that_one p (alone_of g a) both.1))
-    (or_true (g.setting.passes == 1) (fits g && is_that p (alone_of g a)) h)
+    (λ (one : (g.setting.passes == 1) ≡ true). inl (eqb-true g.setting.passes 1 one))
+    (λ (q : (fits g && is_that p (alone_of g a)) ≡ true). let both = and_parts (fits g) (is_that p (alone_of g a)) q in inr (both.0, that_one p (alone_of g a) both.1))
+    (or_cases (g.setting.passes == 1) (fits g && is_that p (alone_of g a)) h)
 
 module _ {X : Type 0} (g : Ground X) (s : State X) (so : AnchorsSound g.setting s) (i : ℕ) (v : View X) (at : get_elem? s.views i ≡ some v) (pass : IsPass v) where
   -- one that may name the anchor

@@ -1,5 +1,6 @@
 -- Words that nobody but one pass changes: which they are, and that a step on one finds what its pass has.
 use Rattle.std.proofs.Common.{◌≡◌, ◌⊎◌, inl, inr, ⊎_elim, ℕ, ◌-◌, ◌*◌, ◌/◌, ◌<◌, ◌≤◌, ◌==◌, Bool, true, false, cond, Some, sym, refl, ap, ◌∙◌, subst, arith, eq-eqb, nat_lt}
+use Rattle.std.proofs.lemmas.Bool.{eqb-true}
 use Rattle.std.proofs.lemmas.Bool.Decides.{nat_tests}
 use mathlib.Core.Logic.{dite}
 use mathlib.Core.Option.{some, some-injective}
@@ -30,7 +31,6 @@ use Rattle.core_alone.proofs.LinkSteps.{link_found, look_finds, loosen_finds, pu
 use Rattle.store_rule.specs.Ground.{Ground, Rule, left_to}
 use Rattle.store_rule.specs.Told.{Steps}
 use Rattle.store_rule.specs.Words.{Mine, has, is_mine}
-use Rattle.store_rule.proofs.LeftAlone.{equal}
 use Rattle.store_rule.proofs.Moves.{known_of}
 
 below_or_not : (m n : ℕ) → ((m < n) × (nat_lt m n ≡ true)) ⊎ ((n ≤ m) × (nat_lt m n ≡ false))
@@ -47,7 +47,7 @@ module _ {X : Type 0} (g : Ground X) (pass : ℕ) where
   mine_cases : (word : ℕ) → is_mine g pass word ≡ true → ((word < 5 * g.setting.anchors) × (left_to g pass (word / 5) ≡ true)) ⊎ (g.setting.passes ≡ 1)
   mine_cases word h = ⊎_elim
       (λ (q : (word < 5 * g.setting.anchors) × (nat_lt word (5 * g.setting.anchors) ≡ true)). inl (q.0, subst (λ (b : Bool). cond b (left_to g pass (word / 5)) (g.setting.passes == 1) ≡ true) q.1 h))
-      (λ (q : (5 * g.setting.anchors ≤ word) × (nat_lt word (5 * g.setting.anchors) ≡ false)). inr (equal g.setting.passes 1 (subst (λ (b : Bool). cond b (left_to g pass (word / 5)) (g.setting.passes == 1) ≡ true) q.1 h)))
+      (λ (q : (5 * g.setting.anchors ≤ word) × (nat_lt word (5 * g.setting.anchors) ≡ false)). inr (eqb-true g.setting.passes 1 (subst (λ (b : Bool). cond b (left_to g pass (word / 5)) (g.setting.passes == 1) ≡ true) q.1 h)))
       (below_or_not word (5 * g.setting.anchors))
 
   -- each word is the only pass's own
