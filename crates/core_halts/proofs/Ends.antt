@@ -25,8 +25,10 @@ use Rattle.core_halts.proofs.Links.{at_front, link_unwritten}
 use Rattle.core_halts.proofs.Seeing.{inside, stays_halted, was_halted}
 use Rattle.core_halts.proofs.Trails.{end_halted}
 
-module _ {X : Type 0} (k : Setting X) (s : State X) (so : Sound k s) (h : HaltsStand s) (i : ℕ) (v : View X) (at : get_elem? s.views i ≡ some v) where
-  pub reads_halted : (t : ℕ) (r : Reader X) → get_elem? v.tabs t ≡ some (Reading r) → HasHalted r.anchor r.version v.trail → SaysHalted r.version (word s r.anchor)
+module _ {X : Type 0} (k : Setting X) (s : State X) (so : Sound k s) (h : HaltsStand s) (i : ℕ) (v : View X)
+    (at : get_elem? s.views i ≡ some v) where
+  pub reads_halted : (t : ℕ) (r : Reader X) → get_elem? v.tabs t ≡ some (Reading r) → HasHalted r.anchor r.version v.trail
+      → SaysHalted r.version (word s r.anchor)
   reads_halted t r there f = let st = so.anchors.tabs i v at t (Reading r) there in
       stays_halted k s so r.anchor r.version (was_halted s h i v at r.anchor r.version f) st.1.version_is st.1.to
 
@@ -39,20 +41,23 @@ module _ {X : Type 0} (k : Setting X) (s : State X) (so : Sound k s) (h : HaltsS
         (subst (λ (x : Tab X). OfReader (IsNext s slot) x ⊎ OfFreer (IsFront slot) x) is may.allowed.1)
 
     told_link : LinkFound s (Reading r) (number_found k s v (GetLink t slot))
-    told_link = subst (λ (x : Tab X). LinkFound s x (number_found k s v (GetLink t slot))) is (tells k s i v (GetLink t slot) so at may).slots
+    told_link = subst (λ (x : Tab X). LinkFound s x (number_found k s v (GetLink t slot))) is
+        (tells k s i v (GetLink t slot) so at may).slots
 
     pub reads_no_link : FoundEnd v r.anchor r.version slot → number_found k s v (GetLink t slot) ≡ 0
     reads_no_link f = by_place told_link
       where
         by_place : LinkFound s (Reading r) (number_found k s v (GetLink t slot)) → number_found k s v (GetLink t slot) ≡ 0
-        by_place (inl q) = absurd (h.ends i v at r.anchor r.version slot (reads_halted t r there (end_halted r.anchor r.version slot v.trail f)) f
+        by_place (inl q) = absurd (h.ends i v at r.anchor r.version slot
+            (reads_halted t r there (end_halted r.anchor r.version slot v.trail f)) f
             (at_front (chain_of s r.anchor).slots (slots_of_link (chain_of s r.anchor).end) r.place slot q.0 next))
         by_place (inr q) = q.1
 
   -- whichever tab looks
-  pub no_link : (a version slot : ℕ) → SaysHalted version (word s a) → FoundEnd v a version slot → Contains ((chain_of s a).slots ++ (chain_of s a).tail) slot
-      → word_in k s.words (Link slot) ≡ 0
+  pub no_link : (a version slot : ℕ) → SaysHalted version (word s a) → FoundEnd v a version slot
+      → Contains ((chain_of s a).slots ++ (chain_of s a).tail) slot → word_in k s.words (Link slot) ≡ 0
   no_link a version slot says f c = ⊎_elim
       (λ (d : Contains (chain_of s a).slots slot). absurd (h.ends i v at a version slot says f d))
-      (λ (d : Contains (chain_of s a).tail slot). link_unwritten k s so a (inside k s so a version (was_halted s h i v at a version (end_halted a version slot v.trail f))) slot d)
+      (λ (d : Contains (chain_of s a).tail slot). link_unwritten k s so a
+      (inside k s so a version (was_halted s h i v at a version (end_halted a version slot v.trail f))) slot d)
       (Contains-append_cases (chain_of s a).slots (chain_of s a).tail slot c)

@@ -29,7 +29,8 @@ use Rattle.core_halts.proofs.Links.{no_link_published, stands}
 use Rattle.core_halts.proofs.Seeing.{WasHalted, inside, leads_on, was_halted}
 use Rattle.core_halts.proofs.Trails.{end_halted}
 
-module _ {X : Type 0} (k : Setting X) (s : State X) (i : ℕ) (v : View X) (so : Sound k s) (at : get_elem? s.views i ≡ some v) (h : HaltsStand s) where
+module _ {X : Type 0} (k : Setting X) (s : State X) (i : ℕ) (v : View X) (so : Sound k s) (at : get_elem? s.views i ≡ some v)
+    (h : HaltsStand s) where
   -- what a look finds its pass has seen then
   own_look : (m : Move) → kind_of m ≡ Looked
       → Contains (view_after v m (finding k s v m)).seen (Stood (at_of v m) (epoch_of (answer v m (number_found k s v m))))
@@ -37,7 +38,8 @@ module _ {X : Type 0} (k : Setting X) (s : State X) (i : ℕ) (v : View X) (so :
   own_look m is = cc
 
   -- a look at a link that finds none
-  own_link : (m : Move) (slot : ℕ) → kind_of m ≡ Followed → at_of v m ≡ slot → answer v m (number_found k s v m) ≡ 0 → word_in k s.words (Link slot) ≡ 0
+  own_link : (m : Move) (slot : ℕ) → kind_of m ≡ Followed → at_of v m ≡ slot → answer v m (number_found k s v m) ≡ 0
+      → word_in k s.words (Link slot) ≡ 0
   own_link (GetLink t x) slot is there none = subst (λ (z : ℕ). word_in k s.words (Link z) ≡ 0) there none
   own_link m slot is there none = cc
 
@@ -60,21 +62,25 @@ module _ {X : Type 0} (k : Setting X) (s : State X) (i : ℕ) (v : View X) (so :
     looks_own : (x : Item) → Contains (item ∷ v.trail) x → x.kind ≡ Looked → Contains w.seen (Stood x.at (epoch_of x.found))
     looks_own x c is = ⊎_elim
         (λ (e : item ≡ x). subst (λ (z : Item). Contains w.seen (Stood z.at (epoch_of z.found))) e (own_look m (ap Item.kind e ∙ is)))
-        (λ (d : Contains v.trail x). Contains-append_right (sights_of v m (finding k s v m)) v.seen (Stood x.at (epoch_of x.found)) (h.looks i v at x d is))
+        (λ (d : Contains v.trail x). Contains-append_right (sights_of v m (finding k s v m)) v.seen (Stood x.at (epoch_of x.found))
+        (h.looks i v at x d is))
         (cons_contains item x v.trail c)
 
-    looks_now : (j : ℕ) (u : View X) → WasView j u → (x : Item) → Contains u.trail x → x.kind ≡ Looked → Contains u.seen (Stood x.at (epoch_of x.found))
-    looks_now j u (inl q) x c is = subst (λ (z : View X). Contains z.seen (Stood x.at (epoch_of x.found))) (sym q.1) (looks_own x (subst (λ (z : View X). Contains z.trail x) q.1 c) is)
+    looks_now : (j : ℕ) (u : View X) → WasView j u → (x : Item) → Contains u.trail x → x.kind ≡ Looked
+        → Contains u.seen (Stood x.at (epoch_of x.found))
+    looks_now j u (inl q) x c is = subst (λ (z : View X). Contains z.seen (Stood x.at (epoch_of x.found))) (sym q.1)
+        (looks_own x (subst (λ (z : View X). Contains z.trail x) q.1 c) is)
     looks_now j u (inr (inl uat)) x c is = h.looks j u uat x c is
     looks_now j u (inr (inr e)) x c is = absurd (contains_none x (subst (λ (z : View X). Contains z.trail x) e c))
 
-    -- Ends. An entry that was given up, whose version still stands there: it stayed, its slots were given back, or it grew, which it may not.
+    -- Ends. Of an entry that was given up, and whose version still stands there: it stayed, or its slots were given back. It does not grow.
     module _ (a version slot : ℕ) (was : WasHalted s a version) (now : SaysHalted version (word t a))
         (none : SaysHalted version (word s a) → Contains (chain_of s a).slots slot → ⊥) (c : Contains (chain_of t a).slots slot) where
       stayed : EntryStays k s t a → ⊥
       stayed e = ⊎_elim
           (λ (q : stage_of (epoch_of (word s a)) ≡ 4). none record { version_is = same; stage_is = q } before)
-          (λ (q : 4 < stage_of (epoch_of (word s a))). contains_none slot (subst (λ (z : Chain). Contains z.slots slot) ((stands k s so a (inside k s so a version was)).gone (inr (omega arith))) before))
+          (λ (q : 4 < stage_of (epoch_of (word s a))). contains_none slot (subst (λ (z : Chain). Contains z.slots slot)
+          ((stands k s so a (inside k s so a version was)).gone (inr (omega arith))) before))
           (leads_on k s so a version was same)
         where
           same : version_of (epoch_of (word s a)) ≡ version
@@ -87,7 +93,8 @@ module _ {X : Type 0} (k : Setting X) (s : State X) (i : ℕ) (v : View X) (so :
       grew e = let l = leads_on k s so a version was (sym e.named.version ∙ now.version_is) in
           let m = (matches_writer k s so.anchors i e.tab e.writer e.writes).1.stage_is in let f = (written_few e.writer).1 in
           let there = ap (λ (b : ℕ). stage_of (epoch_of (word s b))) e.anchor_is in
-          ⊎_elim (λ (q : stage_of (epoch_of (word s a)) ≡ 4). absurd (omega arith)) (λ (q : 4 < stage_of (epoch_of (word s a))). absurd (omega arith)) l
+          ⊎_elim (λ (q : stage_of (epoch_of (word s a)) ≡ 4). absurd (omega arith))
+          (λ (q : 4 < stage_of (epoch_of (word s a))). absurd (omega arith)) l
 
       by_entry : EntryAfter k s t i a → ⊥
       by_entry (inl e) = stayed e
@@ -97,17 +104,21 @@ module _ {X : Type 0} (k : Setting X) (s : State X) (i : ℕ) (v : View X) (so :
       still : ⊥
       still = by_entry (entry_after k s i v m a so at may.pass may.allowed (inside k s so a version was))
 
-    ends_own : (a version slot : ℕ) → SaysHalted version (word t a) → (SawNoLink slot item × HasHalted a version v.trail) ⊎ HasEnd a version slot v.trail
+    ends_own : (a version slot : ℕ) → SaysHalted version (word t a)
+        → (SawNoLink slot item × HasHalted a version v.trail) ⊎ HasEnd a version slot v.trail
         → Contains (chain_of t a).slots slot → ⊥
     ends_own a version slot now (inl q) c = let was = was_halted s h i v at a version q.1 in
-        still a version slot was now (λ old d. no_link_published k s so a (inside k s so a version was) slot (own_link m slot q.0.kind q.0.at q.0.found) d) c
-    ends_own a version slot now (inr q) c = still a version slot (was_halted s h i v at a version (end_halted a version slot v.trail q)) now (λ old d. h.ends i v at a version slot old q d) c
+        still a version slot was now
+        (λ old d. no_link_published k s so a (inside k s so a version was) slot (own_link m slot q.0.kind q.0.at q.0.found) d) c
+    ends_own a version slot now (inr q) c = still a version slot (was_halted s h i v at a version (end_halted a version slot v.trail q)) now
+        (λ old d. h.ends i v at a version slot old q d) c
 
     ends_now : (j : ℕ) (u : View X) → WasView j u → (a version slot : ℕ) → SaysHalted version (word t a) → FoundEnd u a version slot
         → Contains (chain_of t a).slots slot → ⊥
     ends_now j u (inl q) a version slot now f c = ends_own a version slot now (subst (λ (z : View X). FoundEnd z a version slot) q.1 f) c
     ends_now j u (inr (inl uat)) a version slot now f c =
-        still a version slot (was_halted s h j u uat a version (end_halted a version slot u.trail f)) now (λ old d. h.ends j u uat a version slot old f d) c
+        still a version slot (was_halted s h j u uat a version (end_halted a version slot u.trail f)) now
+        (λ old d. h.ends j u uat a version slot old f d) c
     ends_now j u (inr (inr e)) a version slot now f c = absurd (subst (λ (z : View X). FoundEnd z a version slot) e f)
 
     pub halts_after : HaltsStand t

@@ -40,7 +40,8 @@ fits_rest x y ys (Next j) h = tt
 linked : (links : ℕ → ℕ) (xs : List ℕ) (e : Link) (slot : ℕ) → Spells links xs e → Fits xs e → Contains xs slot → 0 < links slot
 linked links [] e slot spells fits c = absurd (contains_none slot c)
 linked links (x ∷ []) e slot spells fits c = ⊎_elim
-    (λ (q : x ≡ slot). subst (λ (z : ℕ). 0 < links z) q (let l = spells.0 in let w = end_written x [] e fits in omega arith))
+    (λ (q : x ≡ slot). subst (λ (z : ℕ). 0 < links z) q
+    (let l : links x ≡ link_number e = spells.0 in let w = end_written x [] e fits in omega arith))
     (λ (q : Contains [] slot). absurd (contains_none slot q))
     (cons_contains x slot [] c)
 linked links (x ∷ y ∷ ys) e slot spells fits c = ⊎_elim
@@ -58,21 +59,26 @@ no_number many slot = by_bool (ltb slot many)
 module _ {X : Type 0} (k : Setting X) (s : State X) (so : Sound k s) (a : ℕ) (lt : a < k.anchors) where
   -- what holds of the chain there
   pub stands : ChainStands (stage_of (epoch_of (word s a))) ((slot_words k s.words).start a) (slot_words k s.words).link (chain_of s a)
-  stands = subst (λ (g : ℕ). ChainStands g ((slot_words k s.words).start a) (slot_words k s.words).link (chain_of s a)) (stage_told k s.words a lt) (so.slots.stand a lt)
+  stands = subst (λ (g : ℕ). ChainStands g ((slot_words k s.words).start a) (slot_words k s.words).link (chain_of s a))
+      (stage_told k s.words a lt) (so.slots.stand a lt)
 
   pub no_link_published : (slot : ℕ) → word_in k s.words (LinkWord slot) ≡ 0 → Contains (chain_of s a).slots slot → ⊥
   no_link_published slot none c =
-      let w = linked (slot_words k s.words).link (chain_of s a).slots (chain_of s a).end slot stands.spelled stands.fits c in
+      let w : 0 < (slot_words k s.words).link slot =
+          linked (slot_words k s.words).link (chain_of s a).slots (chain_of s a).end slot stands.spelled stands.fits c in
       let z : (slot_words k s.words).link slot ≡ 0 = ap (told k.slots slot) none ∙ no_number k.slots slot in absurd (omega arith)
 
   -- a tail is not written
   tail_inside : (slot : ℕ) → Contains (chain_of s a).tail slot → slot < k.slots
   tail_inside slot c = dite (ℕ_discrete (k.slots - slot) 0)
-      (λ e. absurd (let o = so.slots.places.taken slot in let z : used ((slot_words k s.words).taken slot) ≡ 0 = ap used (told_out k.slots slot _ (omega arith)) in
-      let l = le_sum_at (standing_in slot) s.chains a (chain_of s a) (at_index s.chains a (chain_of s a) no_chain (let m = so.anchors.shaped.chains in omega arith) refl) in
+      (λ e. absurd (let o = so.slots.places.taken slot in
+      let z : used ((slot_words k s.words).taken slot) ≡ 0 = ap used (told_out k.slots slot _ (omega arith)) in
+      let l = le_sum_at (standing_in slot) s.chains a (chain_of s a)
+      (at_index s.chains a (chain_of s a) no_chain (let m = so.anchors.shaped.chains in omega arith) refl) in
       let n = contains_times slot (chain_of s a).tail c in omega arith))
       (λ ne. omega arith)
 
   pub link_unwritten : (slot : ℕ) → Contains (chain_of s a).tail slot → word_in k s.words (LinkWord slot) ≡ 0
   link_unwritten slot c = sym (told_in k.slots slot (word_in k s.words (LinkWord slot)) (tail_inside slot c))
-      ∙ tail_unwritten k.anchors (slot_words k s.words) s.chains s.views so.slots slot a (let m = so.anchors.shaped.chains in omega arith) (contains_times slot (chain_of s a).tail c)
+      ∙ tail_unwritten k.anchors (slot_words k s.words) s.chains s.views so.slots slot a (let m = so.anchors.shaped.chains in omega arith)
+      (contains_times slot (chain_of s a).tail c)

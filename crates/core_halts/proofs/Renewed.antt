@@ -38,8 +38,16 @@ pub record FoundNoMore {X : Type 0} (u w : View X) : Type 0 where
   pub seen : (x : Sight) → Contains u.seen x → Contains w.seen x
 
 module _ {X : Type 0} where
+  -- it has the same trail, and has seen the same
+  same_trail : (u w : View X) → w.trail ≡ u.trail → w.seen ≡ u.seen → FoundNoMore u w
+  same_trail u w trail seen = record {
+    looks = λ x c is. subst (λ (z : List Item). Contains z x) trail c;
+    ends = λ a version slot f. subst (HasEnd a version slot) trail f;
+    seen = λ x c. subst (λ (z : List Sight). Contains z x) (sym seen) c;
+  }
+
   same_view : (u : View X) → FoundNoMore u u
-  same_view u = record { looks = λ x c is. c; ends = λ a version slot f. f; seen = λ x c. c }
+  same_view u = same_trail u u refl refl
 
   -- a pass has seen more, and its trail has an item that tells nothing of it
   learns_no_more : (v : View X) (sights : List Sight) (item : Item) → LooksNowhere item.kind → FoundNoMore v (learns v sights item)
@@ -52,7 +60,8 @@ module _ {X : Type 0} where
     seen = λ x c. Contains-append_right sights v.seen x c;
   }
     where
-      older : (a version slot : ℕ) → (SawNoLink slot item × HasHalted a version v.trail) ⊎ HasEnd a version slot v.trail → HasEnd a version slot v.trail
+      older : (a version slot : ℕ) → (SawNoLink slot item × HasHalted a version v.trail) ⊎ HasEnd a version slot v.trail
+          → HasEnd a version slot v.trail
       older a version slot (inl q) = absurd (quiet.no_link q.0.kind)
       older a version slot (inr q) = q
 
@@ -80,7 +89,8 @@ module _ {X : Type 0} (s : State X) where
   pub halts_appended : (n : View X) → n.trail ≡ [] → HaltsStand s → HaltsStand (renewed s (s.views ++ n ∷ []))
   halts_appended n none h = halts_renewed (s.views ++ n ∷ []) h (λ j w wat. by_place j w (at_more s.views n j w wat))
     where
-      at_more : (xs : List (View X)) (y : View X) (j : ℕ) (z : View X) → get_elem? (xs ++ y ∷ []) j ≡ some z → (get_elem? xs j ≡ some z) ⊎ (y ≡ z)
+      at_more : (xs : List (View X)) (y : View X) (j : ℕ) (z : View X) → get_elem? (xs ++ y ∷ []) j ≡ some z
+          → (get_elem? xs j ≡ some z) ⊎ (y ≡ z)
       at_more [] y zero z e = inr (some-injective y z e)
       at_more [] y (suc j) z e = absurd (some-ne-none z (sym e))
       at_more (x ∷ xs) y zero z e = inl e
@@ -107,24 +117,29 @@ module _ {X : Type 0} (s : State X) where
         by_place j u (inl q) = inl (i, v, at, subst (FoundNoMore v) q.1 no_more)
         by_place j u (inr q) = inl (j, u, q.1, same_view u)
 
-    pub halts_learned : (sights : List Sight) (item : Item) → LooksNowhere item.kind → HaltsStand s → HaltsStand (renewed s (set s.views i (learns v sights item)))
+    pub halts_learned : (sights : List Sight) (item : Item) → LooksNowhere item.kind → HaltsStand s
+        → HaltsStand (renewed s (set s.views i (learns v sights item)))
     halts_learned sights item quiet h = halts_changed (learns v sights item) (learns_no_more v sights item quiet) h
 
     -- the hold of a tab that writes is another one, and that of a tab that frees
     pub halts_rewritten : (t : ℕ) (w : Writer X) (new : Hold X) → HaltsStand s → HaltsStand (with_held s i v t w new)
-    halts_rewritten t w new h = halts_changed (with_hold v t w new) record { looks = λ x c is. c; ends = λ a version slot f. f; seen = λ x c. c } h
+    halts_rewritten t w new h = halts_changed (with_hold v t w new) (same_trail v (with_hold v t w new) refl refl) h
 
     pub halts_wiped : (t : ℕ) (f : Freer X) (new : Hold X) → HaltsStand s → HaltsStand (with_wiped s i v t f new)
-    halts_wiped t f new h = halts_changed (with_wiper v t f new) record { looks = λ x c is. c; ends = λ a version slot g. g; seen = λ x c. c } h
+    halts_wiped t f new h = halts_changed (with_wiper v t f new) (same_trail v (with_wiper v t f new) refl refl) h
 
 -- Notes.
 
-module _ {X : Type 0} (s : State X) (i : ℕ) (v : View X) (at : get_elem? s.views i ≡ some v) (item : Item) (quiet : LooksNowhere item.kind) (h : HaltsStand s) where
+module _ {X : Type 0} (s : State X) (i : ℕ) (v : View X) (at : get_elem? s.views i ≡ some v) (item : Item)
+    (quiet : LooksNowhere item.kind) (h : HaltsStand s) where
   pub noted_behind_halts : HaltsStand (noted_behind s i v item)
-  noted_behind_halts = halts_appended (renewed s (set s.views i (learns v [] item))) (note_of v) refl (halts_learned s i v at [] item quiet h)
+  noted_behind_halts =
+      halts_appended (renewed s (set s.views i (learns v [] item))) (note_of v) refl (halts_learned s i v at [] item quiet h)
 
   pub noted_at_halts : (n : ℕ) → HaltsStand (noted_at s i v item n)
-  noted_at_halts n = halts_emptied (renewed s (set s.views i (learns v [] item))) n (note_of v) refl (halts_learned s i v at [] item quiet h)
+  noted_at_halts n =
+      halts_emptied (renewed s (set s.views i (learns v [] item))) n (note_of v) refl (halts_learned s i v at [] item quiet h)
 
   pub learned_from_halts : (n : ℕ) (u : View X) → HaltsStand (learned_from s i v item n u)
-  learned_from_halts n u = halts_emptied (renewed s (set s.views i (learns v u.seen item))) n spent refl (halts_learned s i v at u.seen item quiet h)
+  learned_from_halts n u =
+      halts_emptied (renewed s (set s.views i (learns v u.seen item))) n spent refl (halts_learned s i v at u.seen item quiet h)

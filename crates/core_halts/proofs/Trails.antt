@@ -28,7 +28,11 @@ module _ (a version : ℕ) where
   module _ {X : Type 0} (v : View X) (x : Finding X) where
     -- a look at the anchor
     pub look_found : SaysHalted version x.word → HasHalted a version (view_after v (Look a) x).trail
-    look_found h = record { item = item_of v (Look a) x.word; there = (0, omega arith, refl); saw = record { kind = refl; at = refl; halted = h } }
+    look_found h = record {
+      item = item_of v (Look a) x.word;
+      there = (0, omega arith, refl);
+      saw = record { kind = refl; at = refl; halted = h };
+    }
 
     -- a look at a link behind it
     pub link_found : (t slot : ℕ) → HasHalted a version v.trail → x.word ≡ 0 → FoundEnd (view_after v (GetLink t slot) x) a version slot
