@@ -1,5 +1,5 @@
 -- A slot that is published has a link.
-use Rattle.std.proofs.Common.{◌≡◌, ◌⊎◌, ⊎_elim, ℕ, ◌+◌, ◌-◌, ◌<◌, ◌≤◌, List, [], ◌∷◌, ◌++◌, length, Bool, true, false, cond, ltb, sym, refl, ap, ◌∙◌, subst, arith, Contains, zero, suc}
+use Rattle.std.proofs.Common.{◌≡◌, ⊎_elim, ℕ, ◌+◌, ◌-◌, ◌<◌, List, [], ◌∷◌, ◌++◌, length, Bool, true, false, cond, ltb, sym, refl, ap, ◌∙◌, subst, arith, Contains, zero, suc}
 use Rattle.std.proofs.lemmas.List.Elements.{Contains-append_right}
 use mathlib.Core.Logic.{dite}
 use mathlib.Core.Option.{some, some-injective}
@@ -52,7 +52,7 @@ linked links (x ∷ y ∷ ys) e slot spells fits c = ⊎_elim
 no_number : (many slot : ℕ) → told many slot 0 ≡ 0
 no_number many slot = by_bool (ltb slot many)
   where
-    by_bool : (b : Bool) → cond b 0 0 ≡ 0
+    by_bool : (b : Bool) → ◌≡◌ {A = ℕ} (cond b 0 0) 0
     by_bool true = refl
     by_bool false = refl
 
@@ -65,7 +65,7 @@ module _ {X : Type 0} (k : Setting X) (s : State X) (so : Sound k s) (a : ℕ) (
   pub no_link_published : (slot : ℕ) → word_in k s.words (LinkWord slot) ≡ 0 → Contains (chain_of s a).slots slot → ⊥
   no_link_published slot none c =
       let w : 0 < (slot_words k s.words).link slot =
-          linked (slot_words k s.words).link (chain_of s a).slots (chain_of s a).end slot stands.spelled stands.fits c in
+      linked (slot_words k s.words).link (chain_of s a).slots (chain_of s a).end slot stands.spelled stands.fits c in
       let z : (slot_words k s.words).link slot ≡ 0 = ap (told k.slots slot) none ∙ no_number k.slots slot in absurd (omega arith)
 
   -- a tail is not written
