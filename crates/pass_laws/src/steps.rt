@@ -2,14 +2,17 @@
 ghost use Rattle.std.specs.Prelude.{◌+◌, ◌<◌, ◌∷◌, ◌≡◌, ◌≢◌, ◌≤◌, List, Some, false, true, ℕ};
 ghost use Rattle.link_word.specs.declared.link.Link.{Link as LinkOf};
 ghost use Rattle.lock_word.specs.Words.{doom_of, doomed, epoch_of, readers_of, stage_of};
+ghost use Rattle.core_halts.specs.Halts.{FoundEnd, HasHalted, SaysHalted};
 ghost use Rattle.core_model.specs.AnchorMoves.{deed_of};
 ghost use Rattle.core_model.specs.Chains.{IsSpelled};
 ghost use Rattle.core_model.specs.Slots.{told};
 ghost use Rattle.core_model.specs.State.{chain_of, word};
 ghost use Rattle.core_model.specs.Tabs.{IsPass, anchor_of, inner, tab_at};
 ghost use Rattle.core_model.specs.declared.moves.Move.{Move};
-ghost use Rattle.core_model.specs.declared.moves.Move.TheVariants.{Doom, Enter, GetLink, Loosen, Publish};
+ghost use Rattle.core_model.specs.declared.moves.Move.TheVariants.{Doom, Enter, GetLink, Look, Loosen, Publish};
 ghost use Rattle.core_model.specs.declared.moves.Side.TheVariants.{Start};
+ghost use Rattle.core_model.specs.declared.tab.Reader.{Reader};
+ghost use Rattle.core_model.specs.declared.tab.Tab.TheVariants.{Reading};
 ghost use Rattle.core_model.specs.declared.view.Kind.TheVariants.{Doomed, Entered};
 ghost use Rattle.core_model.specs.declared.view.Place.TheVariants.{Anchor, Beside, Link};
 ghost use Rattle.core_model.specs.declared.view.View.{View};
@@ -104,4 +107,26 @@ pub fn chains_are_known<X>()
         → 2 ≤ stage_of (epoch_of (word st.state a)) → stage_of (epoch_of (word st.state a)) ≤ 4
         → IsSpelled (has g v (Beside Start a)) (λ slot. told g.setting.slots slot (has g v (Link slot))) slots end
         → (slots ≡ (chain_of st.state a).slots) × (end ≡ (chain_of st.state a).end) }
+{}
+
+/// What a pass found of an entry that was given up it has found after later steps too: that a look at the anchor found it
+/// so, and that a look at the link of a slot behind that found none.
+pub fn ends_are_known<X>()
+    ensures looked { (g : Ground X) (v w : View X) (n a version : ℕ) → Steps g v (Look a) n w → SaysHalted version n
+        → HasHalted a version w.trail }
+    ensures followed { (g : Ground X) (v w : View X) (n t a version slot : ℕ) → Steps g v (GetLink t slot) n w
+        → HasHalted a version v.trail → n ≡ 0 → FoundEnd w a version slot }
+    ensures halted { (g : Ground X) (v w : View X) (m : Move) (n a version : ℕ) → Steps g v m n w
+        → HasHalted a version v.trail → HasHalted a version w.trail }
+    ensures end { (g : Ground X) (v w : View X) (m : Move) (n a version slot : ℕ) → Steps g v m n w
+        → FoundEnd v a version slot → FoundEnd w a version slot }
+{}
+
+/// And it finds the same again, while a tab of it reads the entry: a look at the anchor finds it given up, and a look of
+/// the tab at the link of the slot finds none.
+pub fn halted_links_stay_unwritten<X>()
+    ensures halted { (g : Ground X) (v w : View X) (n t : ℕ) (r : Reader X) → Steps g v (Look r.anchor) n w → t ≤ inner
+        → tab_at v t ≡ Reading r → HasHalted r.anchor r.version v.trail → SaysHalted r.version n }
+    ensures unwritten { (g : Ground X) (v w : View X) (n t slot : ℕ) (r : Reader X) → Steps g v (GetLink t slot) n w
+        → tab_at v t ≡ Reading r → FoundEnd v r.anchor r.version slot → n ≡ 0 }
 {}

@@ -30,3 +30,4 @@ pub mod AddingUp
 pub mod Quieting
 pub mod LeftAlone
 pub mod MyWords
+pub mod HaltedLinks

@@ -15,6 +15,7 @@ use Rattle.core_model.proofs.Telling.{set_again}
 use Rattle.core_model.proofs.NotesFrame.{IsSeen, known_view, known_none, known_both}
 use Rattle.core_model.specs.TableForms.{renewed}
 use Rattle.core_alone.proofs.Renewed.{alone_appended, alone_emptied, alone_learned}
+use Rattle.core_halts.proofs.Renewed.{halts_appended, halts_emptied, halts_learned, learned_nowhere, noted_nowhere}
 use Rattle.store_rule.specs.Ground.{Ground, Rule, left_to}
 use Rattle.core_model.proofs.NotesRenewed.{noted, learned, learns_goes, pass_renews, note_renews, new_note_renews}
 use Rattle.store_rule.specs.Ruled.{Form, Ruled, Seated, state_of}
@@ -28,13 +29,14 @@ use Rattle.store_rule.proofs.Seating.{only, reseated}
 module _ {X : Type 0} (g : Ground X) (s : State X) (so : Rule g s) (i : ℕ) (v : View X) (at : get_elem? s.views i ≡ some v) (pass : IsPass v) where
   pub noting_sound : Rule g (renewed s (set s.views i (noting v)))
   noting_sound = rule_renewed g s (set s.views i (noting v)) (pass_renews g.setting s so.sound i v (noting v) at pass (learns_goes v [] _ noted) (known_view g.setting s so.sound.anchors.seen i v at))
-      (alone_learned (left_to g) g.setting s i v at (noting v) refl refl refl (λ slot. refl) so.alone) so
+      (alone_learned (left_to g) g.setting s i v at (noting v) refl refl refl (λ slot. refl) so.alone) (halts_learned s i v at [] _ noted_nowhere so.halts) so
 
   pub noted_sound : Rule g (renewed s (set s.views i (noting v) ++ note_of v ∷ []))
   noted_sound = rule_renewed g (renewed s (set s.views i (noting v))) (set s.views i (noting v) ++ note_of v ∷ [])
       (new_note_renews g.setting (renewed s (set s.views i (noting v))) noting_sound.sound v
       (known_view g.setting (renewed s (set s.views i (noting v))) noting_sound.sound.anchors.seen i (noting v) (set_here s.views i (noting v) (at_length s.views i v at))))
       (alone_appended (left_to g) g.setting (renewed s (set s.views i (noting v))) (note_of v) refl noting_sound.alone)
+      (halts_appended (renewed s (set s.views i (noting v))) (note_of v) refl noting_sound.halts)
       noting_sound
 
   module _ (j : ℕ) (u : View X) (uat : get_elem? s.views j ≡ some u) (none : u.tabs ≡ []) where
@@ -48,7 +50,7 @@ module _ {X : Type 0} (g : Ground X) (s : State X) (so : Rule g s) (i : ℕ) (v 
     learning_sound : Rule g (renewed s (set s.views i more))
     learning_sound = rule_renewed g s (set s.views i more) (pass_renews g.setting s so.sound i v more at pass (learns_goes v u.seen _ learned)
         (known_both g.setting s u.seen v.seen (known_view g.setting s so.sound.anchors.seen j u uat) (known_view g.setting s so.sound.anchors.seen i v at)))
-        (alone_learned (left_to g) g.setting s i v at more refl refl refl (λ slot. refl) so.alone) so
+        (alone_learned (left_to g) g.setting s i v at more refl refl refl (λ slot. refl) so.alone) (halts_learned s i v at u.seen _ learned_nowhere so.halts) so
 
     still_known : (x : Sight) → Contains u.seen x → IsSeen (set (set s.views i more) j spent) x
     still_known x h = record {
@@ -62,6 +64,7 @@ module _ {X : Type 0} (g : Ground X) (s : State X) (so : Rule g s) (i : ℕ) (v 
     learned_sound = rule_renewed g (renewed s (set s.views i more)) (set (set s.views i more) j spent)
         (note_renews g.setting (renewed s (set s.views i more)) learning_sound.sound j u spent (set_else s.views i j more elsewhere ∙ uat) (so.sound.anchors.shaped.notes j u uat none) still_known (known_none g.setting (renewed s (set s.views i more))))
         (alone_emptied (left_to g) g.setting (renewed s (set s.views i more)) j spent refl learning_sound.alone)
+        (halts_emptied (renewed s (set s.views i more)) j spent refl learning_sound.halts)
         learning_sound
 
 -- In the rows of seats.

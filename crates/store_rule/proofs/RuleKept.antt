@@ -38,6 +38,10 @@ use Rattle.core_alone.specs.Alone.{StandsAlone}
 use Rattle.core_alone.proofs.Kept.{stands_after}
 use Rattle.core_alone.proofs.Opened.{alone_new}
 use Rattle.core_alone.proofs.Renewed.{alone_rewritten}
+use Rattle.core_halts.specs.Halts.{HaltsStand}
+use Rattle.core_halts.proofs.Kept.{halts_after}
+use Rattle.core_halts.proofs.Opened.{halts_new}
+use Rattle.core_halts.proofs.Renewed.{halts_rewritten}
 use Rattle.store_rule.specs.Ground.{Asks, Ground, Rule, capacity_of, left_to, need_of, offering_of}
 use Rattle.store_rule.specs.Rebuilding.{IsKept, chain_kept, opened_state}
 use Rattle.store_rule.proofs.Fresh.{new_free}
@@ -58,6 +62,7 @@ module _ {X : Type 0} (g : Ground X) where
     logged = log_opened (offering_of g) g.setting s r is_set opened sound low;
     room = λ fitting. room_opened g.setting r s is_set opened (need_of g) g.chain (λ a lt. ap (λ (c : ℕ → List ℕ). c a) chain);
     alone = alone_new (left_to g) g.setting s opened.words opened.views;
+    halts = halts_new g.setting s opened.views;
   }
     where
       s : State X
@@ -89,6 +94,7 @@ module _ {X : Type 0} (g : Ground X) where
     logged = log_after (offering_of g) g.setting s i v m rule.sound rule.offered at step (asks_offer v m asks) rule.logged;
     room = λ fitting. keeps_room g.setting s (need_of g) g.chain i v (fits_all g fitting) rule.sound (rule.room fitting) at m step (asks_room g v m fitting asks);
     alone = stands_after (left_to g) g.setting s i v m rule.sound at step rule.alone (comes_right g s rule.sound.anchors i v at step.pass rule.alone m allowed asks);
+    halts = halts_after g.setting s i v rule.sound at rule.halts m step;
   }
     where
       sound : Sound g.setting (after g.setting s i v m)
@@ -108,11 +114,12 @@ module _ {X : Type 0} (g : Ground X) where
     logged = log_rewritten (offering_of g) g.setting s i t v w old new rule.sound at may rule.logged;
     room = λ fitting. room_rewritten g.setting (capacity_of g) s (rule.room fitting) i v at t w new may.writes;
     alone = alone_rewritten (left_to g) g.setting s i v at t w new may.writes rule.alone;
+    halts = halts_rewritten s i v at t w new rule.halts;
   }
 
   -- a change of views that tells nothing new of words
-  pub rule_renewed : (s : State X) (views : List (View X)) → Renews g.setting s views → StandsAlone (left_to g) g.setting (renewed s views) → Rule g s → Rule g (renewed s views)
-  rule_renewed s views r alone rule = record {
+  pub rule_renewed : (s : State X) (views : List (View X)) → Renews g.setting s views → StandsAlone (left_to g) g.setting (renewed s views) → HaltsStand (renewed s views) → Rule g s → Rule g (renewed s views)
+  rule_renewed s views r alone halts rule = record {
     sound = renews_sound g.setting s views r rule.sound;
     offered = offers_stay (offering_of g) g.setting s (renewed s views) (renews_tells g.setting s views r) rule.offered;
     rests = rests_end_renewed g.setting s views r rule.rests;
@@ -120,4 +127,5 @@ module _ {X : Type 0} (g : Ground X) where
     logged = log_renewed (offering_of g) g.setting s views r rule.logged;
     room = λ fitting. room_renewed g.setting (capacity_of g) s (rule.room fitting) views r;
     alone = alone;
+    halts = halts;
   }
