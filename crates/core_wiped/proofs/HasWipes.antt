@@ -50,6 +50,7 @@ module _ {X : Type 0} (k : Setting X) (s : State X) (log : List LoggedPiece) (of
     starts = λ l c. ws.starts l (of.all l (m.seen l c));
     deeds = ws.deeds;
     choices = ws.choices;
+    filled = ws.filled;
   }
 
 module _ {X : Type 0} (k : Setting X) (s : State X) (log : List LoggedPiece) (so : Sound k s) (st : LogStands k s log)

@@ -3,6 +3,7 @@ pub mod WipedSeen
 pub mod Seen
 pub mod Starts
 pub mod Choosing
+pub mod Filled
 pub mod Left
 pub mod Wiping
 pub mod WipesKept

@@ -1,6 +1,7 @@
 -- In a store that was just opened nothing is wiped.
-use Rattle.std.proofs.Common.{◌≡◌, ℕ, [], sym, subst, Contains}
+use Rattle.std.proofs.Common.{◌≡◌, ℕ, List, [], ap, arith, get_or, sym, subst, Contains}
 use Rattle.rebuild_model.specs.declared.rebuilt.Rebuilt.{Rebuilt}
+use Rattle.lock_word.specs.Words.{doom_of, epoch_of}
 use Rattle.core_model.specs.declared.tab.Tab.{Tab}
 use Rattle.core_model.specs.declared.tab.Tab.TheVariants.{Free, Writing}
 use Rattle.core_model.specs.declared.tab.Writer.{Writer}
@@ -8,7 +9,7 @@ use Rattle.core_model.specs.declared.view.Sight.TheVariants.{Stood, Wiped}
 use Rattle.core_model.specs.declared.view.View.{View}
 use Rattle.core_model.specs.Anchors.{IsSetting, opening_epoch}
 use Rattle.core_model.specs.Holders.{IsTab}
-use Rattle.core_model.specs.Layout.{Setting}
+use Rattle.core_model.specs.Layout.{Setting, anchor_index}
 use Rattle.core_model.specs.Opening.{IsOpened}
 use Rattle.core_model.specs.State.{State}
 use Rattle.core_model.proofs.CellsOpened.{tab_free}
@@ -37,4 +38,6 @@ module _ {X : Type 0} (k : Setting X) (r : Rebuilt) (s : State X) (is : IsSettin
     starts = λ l c. absurd (contains_none l c);
     deeds = λ i v at d c. absurd (contains_none d (subst (λ (w : View X). Contains w.deeds d) (at_new k r s is o i v at).0 c));
     choices = λ i t w p h. absurd (no_writer i t w h);
+    filled = λ a lt doom low. absurd (let z = ap (λ (ws : List ℕ). doom_of (epoch_of (get_or ws (anchor_index a) 0))) o.words in
+        let y = is.undoomed a lt in omega arith);
   }

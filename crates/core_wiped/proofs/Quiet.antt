@@ -78,6 +78,7 @@ module _ {X : Type 0} (k : Setting X) (s : State X) (log : List LoggedPiece) (vi
     deeds = λ i v at d c changes. let q = deeds d record { i = i; view = v; at = at; done = c } in
         now (Stood d.anchor d.epoch) (ws.deeds q.i q.view q.at d q.done changes);
     choices = choices;
+    filled = ws.filled;
   }
 
 -- Notes.

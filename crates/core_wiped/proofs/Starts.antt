@@ -52,7 +52,7 @@ written_low : (b : Bool) → cond b 2 1 ≤ 2
 written_low true = omega arith
 written_low false = omega arith
 
-number_low : (to : Stage) → stage_number to ≤ 6
+pub number_low : (to : Stage) → stage_number to ≤ 6
 number_low Empty = omega arith
 number_low Taken = omega arith
 number_low Appending = omega arith
@@ -133,7 +133,7 @@ module _ {X : Type 0} (k : Setting X) (s : State X) (i : ℕ) (v : View X) (so :
   tried m false b n a lt comes = on_anchor m b (word s b) a lt (same_comes m b (word s b) refl)
 
   -- a word that is left as it was found
-  put_back : (p q : ℕ) → p < length s.words → get_or (set s.words p (get_or s.words p 0)) q 0 ≡ get_or s.words q 0
+  pub put_back : (p q : ℕ) → p < length s.words → get_or (set s.words p (get_or s.words p 0)) q 0 ≡ get_or s.words q 0
   put_back p q lt = dite (ℕ_discrete q p)
       (λ e. ap (λ (z : ℕ). get_or (set s.words p (get_or s.words p 0)) z 0) e ∙ get_or-set_same s.words p (get_or s.words p 0) 0 lt
       ∙ ap (λ (z : ℕ). get_or s.words z 0) (sym e))

@@ -21,6 +21,7 @@ use Rattle.core_log.proofs.LinksKept.{my_tab, new_is, split}
 use Rattle.core_log.proofs.LogsKept.{logs_kept}
 use Rattle.core_wiped.specs.Wipes.{IsOfOther, IsWiped, WipesStand}
 use Rattle.core_wiped.proofs.Choosing.{choices_kept}
+use Rattle.core_wiped.proofs.Filled.{filled_kept}
 use Rattle.core_wiped.proofs.Left.{IsChosenAt, IsPossible, chosen_logged, was_left}
 use Rattle.core_wiped.proofs.WipedSeen.{EndsWiped, wipe_seen}
 use Rattle.core_wiped.proofs.Wiping.{new_wipe}
@@ -99,6 +100,7 @@ module _ {X : Type 0} (k : Setting X) (s : State X) (log : List LoggedPiece) (i 
     starts = starts_kept k s log i v m so st.links ws.starts at may.pass may.allowed;
     deeds = deeds_seen k s i v at may.pass ws.deeds m may.allowed;
     choices = choices_kept k s i v at m may.allowed ws.choices;
+    filled = filled_kept k s i v so at may.pass ws.filled m may.allowed;
   }
 
 -- and so does every run

@@ -62,12 +62,17 @@ DeedsSeen {X} s = (i : ℕ) (v : View X) → get_elem? s.views i ≡ some v → 
 abbrev pub ChoicesOwn : {X : Type 0} → State X → Type 0
 ChoicesOwn {X} s = (i t : ℕ) (w : Writer X) (p : Piece) → IsTab s i t (Writing w) → w.chosen ≡ Some p → p.version ≡ w.version
 
+-- beside a doomed entry that is not gone the Start word names a slot
+abbrev pub DoomedStart : {X : Type 0} → Setting X → State X → Type 0
+DoomedStart k s = (a : ℕ) → a < k.anchors → doom_of (epoch_of (word s a)) ≡ 1 → stage_of (epoch_of (word s a)) ≤ 5 → 0 < side_word k s Start a
+
 -- all that holds between two steps of slots that were wiped, and of what it is told by when one is wiped
 pub record WipesStand {X : Type 0} (k : Setting X) (s : State X) (log : List LoggedPiece) : Type 0 where
   pub each : (a version slot : ℕ) → IsSeenWiped s a version slot → IsWiped k s log a version slot
   pub starts : StartsNamed k s log
   pub deeds : DeedsSeen s
   pub choices : ChoicesOwn s
+  pub filled : DoomedStart k s
 
 -- what a rule over a running store keeps of it, beside the log of the state: it holds of each list that is the log
 abbrev pub HasWipes : {X : Type 0} → Setting X → State X → Type 0

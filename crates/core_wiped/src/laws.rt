@@ -1,5 +1,5 @@
 // The laws on slots that a pass or a note has seen as wiped.
-ghost use Rattle.std.specs.Prelude.{◌++◌, ◌≡◌, ◌≢◌, Contains, List, [], ℕ};
+ghost use Rattle.std.specs.Prelude.{◌++◌, ◌≡◌, ◌≢◌, Contains, List, [], true, ℕ};
 ghost use mathlib.Core.Option.{some};
 ghost use lib.ListN.{get_elem?};
 ghost use Rattle.rebuild_model.specs.declared.rebuilt.Rebuilt.{Rebuilt};
@@ -9,6 +9,7 @@ ghost use Rattle.core_model.specs.declared.moves.Then.TheVariants.{Wiped};
 ghost use Rattle.core_model.specs.declared.tab.Cell.{Cell};
 ghost use Rattle.core_model.specs.declared.tab.Freer.{Freer};
 ghost use Rattle.core_model.specs.declared.tab.Hold.{Hold};
+ghost use Rattle.core_model.specs.declared.tab.Tab.TheVariants.{Freeing};
 ghost use Rattle.core_model.specs.declared.tab.Writer.{Writer};
 ghost use Rattle.core_model.specs.declared.view.Item.{Item};
 ghost use Rattle.core_model.specs.declared.view.Kind.{Kind};
@@ -16,6 +17,7 @@ ghost use Rattle.core_model.specs.declared.view.LoggedPiece.{LoggedPiece};
 ghost use Rattle.core_model.specs.declared.view.View.{View};
 ghost use Rattle.core_model.specs.Anchors.{IsSetting};
 ghost use Rattle.core_model.specs.Cells.{IsCell};
+ghost use Rattle.core_model.specs.Holders.{IsTab};
 ghost use Rattle.core_model.specs.Layout.{Setting};
 ghost use Rattle.core_model.specs.Opening.{IsOpened};
 ghost use Rattle.core_model.specs.Sound.{Sound};
@@ -109,6 +111,13 @@ pub fn wiped_entries_begin_nowhere<X>()
     ensures { (k : Setting X) (s : State X) (log : List LoggedPiece) (a version wiped slot : ℕ) (c : Cell X) (x : X)
         → LogStands k s log → WipesStand k s log → IsSeenWiped s a version wiped → IsCell s slot c → Contains c.possible x
         → IsLeftOf k log version wiped slot x }
+{}
+
+/// A tab that frees a doomed entry at FREEING, of which no slot has left the chain, has a slot of it.
+pub fn doomed_entries_have_a_slot<X>()
+    ensures { (k : Setting X) (s : State X) (log : List LoggedPiece) (i t : ℕ) (f : Freer X)
+        → Sound k s → WipesStand k s log → IsTab s i t (Freeing f) → f.is_freeing ≡ true → f.is_whole ≡ true → f.is_doomed ≡ true
+        → f.rest ≢ [] }
 {}
 
 /// All lists that are the log of a state have the same pieces, so what holds of wiped slots holds with each of them.

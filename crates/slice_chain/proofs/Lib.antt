@@ -13,3 +13,4 @@ pub mod Evicting
 pub mod KeepingFirst
 pub mod EvictingOne
 pub mod Quieting
+pub mod Wiping

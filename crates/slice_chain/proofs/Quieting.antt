@@ -43,6 +43,10 @@ module _ {C O : Type 0} (tells : Bool) (state : C → CellState) (offers : O →
   wrote_quiet logged found out home ended = quiet_then (quiet_then (quiet_step logged.step tt) (quiet_step found.made.step tt))
       (quiet_then (quiet_then (moved_quiet out) (moved_quiet home)) (ended_quiet ended))
 
+  pub wiped_quiet : {p p1 p2 p3 q : Pass C} {won : Bool} {then : Then} → TurnFound tells state offers s p t slot won p1 → MovesCell tells state offers s p1 p2 → MovesCell tells state offers s p2 p3
+      → TurnEnded tells state offers s p3 t slot then q → Quiet (view p) (view q)
+  wiped_quiet found out home ended = quiet_then (quiet_step found.made.step tt) (quiet_then (quiet_then (moved_quiet out) (moved_quiet home)) (ended_quiet ended))
+
   pub read_quiet : {p p1 p2 p3 p4 q : Pass C} {then : Then} → TurnWaited tells state offers s p t slot p1 → MovesCell tells state offers s p1 p2 → (bytes : List ℕ) → p3 ≡ with_bytes p2 inner bytes
       → MovesCell tells state offers s p3 p4 → TurnEnded tells state offers s p4 t slot then q → Quiet (view p) (view q)
   read_quiet {p} {p1} {p2} {p3} waited out bytes lent home ended = quiet_then (quiet_then (lost_quiet (basis tells state offers s) t slot (view p) waited.views (view waited.last) waited.lost) (quiet_step waited.won.made.step tt))

@@ -7,11 +7,12 @@ use Rattle.std.proofs.lemmas.List.Elements.{Contains-append_right}
 use Rattle.std.specs.Result.{is_ok}
 use Rattle.rock_disk.specs.Cell.{CellState, shape}
 use Rattle.core_model.specs.AllowedByView.{KnowsLink}
-use Rattle.core_model.specs.CellMoves.{EndsSo, ends, tries}
+use Rattle.core_model.specs.CellMoves.{ends, tries}
 use Rattle.core_model.specs.Steps.{cell_found, sights_found}
 use Rattle.core_model.specs.Tabs.{inner, tab_at, turn_of, with_tab}
 use Rattle.core_model.specs.declared.moves.Move.TheVariants.{EndTurn, TryTurn}
 use Rattle.core_model.specs.declared.moves.Then.{Then}
+use Rattle.core_model.specs.declared.moves.Then.TheVariants.{Stays}
 use Rattle.core_model.specs.declared.moves.Side.TheVariants.{Offer}
 use Rattle.core_model.specs.declared.tab.Cell.{Cell}
 use Rattle.core_model.specs.declared.tab.Hold.{Hold}
@@ -35,7 +36,7 @@ use Rattle.store_rule.specs.Passes.{HasCell, HasRoom, IsOf, May, basis, hand, vi
 use Rattle.store_rule.specs.Ruled.{IsFitting}
 use Rattle.store_rule.specs.Setting.{form_of, shown, shown_in}
 use Rattle.store_rule.specs.Told.{Steps}
-use Rattle.store_rule.specs.Turns.{HasReturned, HasTaken, IsReturned, Lost, MayComeHome, MayReturn, MovesCell, TurnEnded, TurnFound, TurnWaited, new_hold}
+use Rattle.store_rule.specs.Turns.{EndsWith, HasReturned, HasTaken, IsReturned, Lost, MayComeHome, MayReturn, MovesCell, TurnEnded, TurnFound, TurnWaited, new_hold}
 use Rattle.store_rule.proofs.Lending.{lent_own}
 use Rattle.store_rule.proofs.Moves.{known_of}
 use Rattle.store_rule.proofs.Passing.{pass_of}
@@ -166,18 +167,23 @@ module _ {C O : Type 0} (tells : Bool) (state : C → CellState) (offers : O →
         tabs4 : (view p4).tabs ≡ with_tab (view p) t (Reading with_turn)
         tabs4 = ap View.tabs back.same ∙ tabs3
 
-        ends_so : (done : Bool) → EndsSo g.setting (after_reading done) (tab_at (view p4) t)
+        pub may_end_turn : May tells state offers s p4 (EndTurn t slot Stays)
+        may_end_turn = record {
+          own = back.own;
+          can = record { allowed = (may.below, (new_hold slot cell, ap turn_of (tab_of p4 tabs4), refl, refl), tt); asks = tt };
+        }
+
+        ends_so : (done : Bool) → EndsWith g.setting (after_reading done) (tab_at (view p4) t) (shown tells state c2)
         ends_so true = tt
         ends_so false = tt
 
-        pub may_end_turn : (done : Bool) (then : Then) → then ≡ after_reading done → May tells state offers s p4 (EndTurn t slot then)
-        may_end_turn done then is = subst (λ (x : Then). May tells state offers s p4 (EndTurn t slot x)) (sym is) record {
-          own = back.own;
-          can = record { allowed = (may.below, (new_hold slot cell, ap turn_of (tab_of p4 tabs4), refl, refl), ends_so done); asks = tt };
+        pub has_returned : (done : Bool) (then : Then) → then ≡ after_reading done → HasReturned tells state offers s p4 t slot then
+        has_returned done then is = record {
+          cell = c2;
+          place = home;
+          may = comes p4 tabs4;
+          so = subst (λ (x : Then). EndsWith g.setting x (tab_at (view p4) t) (shown tells state c2)) (sym is) (ends_so done);
         }
-
-        pub has_returned : HasReturned tells state offers s p4 t slot
-        has_returned = record { cell = c2; place = home; may = comes p4 tabs4 }
 
         module _ (done : Bool) (then : Then) (then_is : then ≡ after_reading done) (p5 : Pass C) (ended : TurnEnded tells state offers s p4 t slot then p5) where
           from_is : ended.from ≡ view p1

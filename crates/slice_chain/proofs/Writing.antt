@@ -45,7 +45,7 @@ set_again {A} (z ∷ zs) (suc t) x y = ap (λ (q : List A). z ∷ q) (set_again 
 -- What cells that tell have, as the core sees them.
 
 -- a crash leaves what it might have, or the content that was written
-left_or_new : (tells : Bool) (before after : CellState) (bytes : List ℕ) → (IsTrue tells → MayBeLeft bytes before after) → (x : List ℕ) → Contains (shown_in tells after).possible x → Contains (shown_in tells before).possible x ⊎ (IsTrue tells × (x ≡ bytes))
+pub left_or_new : (tells : Bool) (before after : CellState) (bytes : List ℕ) → (IsTrue tells → MayBeLeft bytes before after) → (x : List ℕ) → Contains (shown_in tells after).possible x → Contains (shown_in tells before).possible x ⊎ (IsTrue tells × (x ≡ bytes))
 left_or_new true before after bytes h x c = ⊎_elim (λ l. inl l) (λ e. inr (refl, e)) (h refl x c)
 left_or_new false before after bytes h x c = inl c
 
@@ -55,7 +55,7 @@ image_there true offers slots slot p c bytes buffer now = sym (now refl ∙ buff
 image_there false offers slots slot p c bytes buffer now = refl
 
 -- the cell as a write left it, as the core sees it: what it adds, and how it came home
-between_there : (tells durable : Bool) (before after : CellState) (bytes : List ℕ) → (IsTrue tells → WentThrough bytes durable before after)
+pub between_there : (tells durable : Bool) (before after : CellState) (bytes : List ℕ) → (IsTrue tells → WentThrough bytes durable before after)
     → (written : Cell (List ℕ)) × ((x : List ℕ) → Contains written.possible x → Contains (shown_in tells before).possible x ⊎ (IsTrue tells × (x ≡ bytes))) × Contains written.possible written.now
     × ((shown_in tells after ≡ written) ⊎ ((durable ≡ true) × (shown_in tells after ≡ record { now = written.now; possible = written.now ∷ [] })))
 between_there true durable before after bytes h = let w = h refl in (
@@ -278,8 +278,8 @@ module _ {C O : Type 0} (tells : Bool) (state : C → CellState) (offers : O →
         pub may_end_turn : May tells state offers s p3 (EndTurn t slot Stays)
         may_end_turn = may_end tells state offers s p t may slot durable p3 cell tabs3 back.own
 
-        pub has_returned : HasReturned tells state offers s p3 t slot
-        has_returned = record { cell = c2; place = home; may = comes p3 tabs3 }
+        pub has_returned : HasReturned tells state offers s p3 t slot Stays
+        has_returned = record { cell = c2; place = home; may = comes p3 tabs3; so = tt }
 
         module _ (p4 : Pass C) (ended : TurnEnded tells state offers s p3 t slot Stays p4) where
           last : (written : Bool) × (settled : Bool) × ((view p4).tabs ≡ with_tab (view p) t (Writing (chose may.writer slot durable written settled)))

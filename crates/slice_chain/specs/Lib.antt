@@ -7,3 +7,4 @@ pub mod Reads
 pub mod Counts
 pub mod Freeing
 pub mod Victims
+pub mod Wiping

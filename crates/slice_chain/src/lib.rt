@@ -11,9 +11,11 @@ mod links;
 mod names;
 mod slots;
 mod victims;
+mod wiping;
 
 pub use chains::free_chain;
 pub use links::{link, publish};
 pub use names::{entry_key, entry_offer, name_entry};
 pub use slots::{read_slot, write_slot};
 pub use victims::{NoVictim, evict_one};
+pub use wiping::wipe_first;

@@ -16,7 +16,7 @@ use Rattle.core_model.specs.AllowedByView.{MayMake}
 use Rattle.store_rule.specs.Told.{Becomes, Told, found_as, the_view}
 use Rattle.store_rule.specs.Machine.{CanAct, OnWord, Same}
 use Rattle.core_model.proofs.AllowedByView.{may_step}
-use Rattle.store_rule.proofs.RuleKept.{rule_after, rule_rewritten}
+use Rattle.store_rule.proofs.RuleKept.{rule_after, rule_rewritten, rule_wiped}
 use Rattle.store_rule.proofs.Seating.{reseated, set_twice}
 use Rattle.core_model.specs.Tabs.{IsPass}
 use Rattle.core_model.specs.TableForms.{renewed}
@@ -30,8 +30,10 @@ becomes_so {X} g s i v u r at pass (inl same) = subst (λ (vs : List (View X)). 
     set_as_was [] i v u e same = refl
     set_as_was (x ∷ xs) zero v u e same = ap (λ (z : View X). z ∷ xs) (sym (some-injective x v e ∙ same))
     set_as_was (x ∷ xs) (suc i) v u e same = ap (λ (zs : List (View X)). x ∷ zs) (set_as_was xs i v u e same)
-becomes_so {X} g s i v u r at pass (inr h) = subst (λ (z : View X). Rule g (renewed s (set s.views i z))) (sym h.is)
+becomes_so {X} g s i v u r at pass (inr (inl h)) = subst (λ (z : View X). Rule g (renewed s (set s.views i z))) (sym h.is)
     (rule_rewritten g s i v h.tab h.writer h.old h.new r at pass h.may)
+becomes_so {X} g s i v u r at pass (inr (inr h)) = subst (λ (z : View X). Rule g (renewed s (set s.views i z))) (sym h.is)
+    (rule_wiped g s i v h.tab h.freer h.old h.new r at pass h.may)
 
 module _ {C X : Type 0} (form : Form C X) (g : Ground X) where
   pub granted : (slots id : ℕ) (me : Me (Option C) (List (View X))) (m d : Move) (u e : View X) (j : Ground X) (i : ℕ) (p : Place) (f : ℕ → ℕ)

@@ -12,16 +12,17 @@ use Rattle.core_model.specs.Sound.{Sound}
 use Rattle.core_model.specs.State.{State}
 use Rattle.core_model.specs.Steps.{after, finding, view_after}
 use Rattle.core_model.specs.Table.{MayStep}
-use Rattle.core_model.specs.TableForms.{MayRewrite, renewed, with_hold}
+use Rattle.core_model.specs.TableForms.{MayBlank, MayRewrite, renewed, with_hold, with_wiper}
 use Rattle.core_model.specs.Tabs.{IsPass}
 use Rattle.core_model.specs.declared.moves.Move.{Move}
 use Rattle.core_model.specs.declared.moves.Move.TheVariants.{LogPiece}
+use Rattle.core_model.specs.declared.tab.Freer.{Freer}
 use Rattle.core_model.specs.declared.tab.Hold.{Hold}
 use Rattle.core_model.specs.declared.tab.Writer.{Writer}
 use Rattle.core_model.specs.declared.view.View.{View}
 use Rattle.core_model.proofs.AllKept.{keeps_sound}
 use Rattle.core_model.proofs.CellsOpened.{opens_cells}
-use Rattle.core_model.proofs.HeldCells.{rewritten_sound, rewritten_tells}
+use Rattle.core_model.proofs.HeldCells.{rewritten_sound, rewritten_tells, wiped_sound, wiped_tells}
 use Rattle.core_model.proofs.NotesCells.{renews_sound}
 use Rattle.core_model.proofs.NotesFrame.{Renews}
 use Rattle.core_model.proofs.OffersKept.{offers_kept, offers_stay}
@@ -32,23 +33,24 @@ use Rattle.core_model.proofs.SlotsOpened.{opens_slots}
 use Rattle.core_model.proofs.TellsNoMore.{renews_tells}
 use Rattle.core_room.proofs.Kept.{keeps_room}
 use Rattle.core_room.proofs.Opened.{room_opened}
-use Rattle.core_room.proofs.Renewed.{room_renewed, room_rewritten}
-use Rattle.core_log.proofs.HasLog.{log_after, log_opened, log_renewed, log_rewritten}
+use Rattle.core_room.proofs.Renewed.{room_renewed, room_rewritten, room_wiped}
+use Rattle.core_log.proofs.HasLog.{log_after, log_opened, log_renewed, log_rewritten, log_wiped}
+use Rattle.core_wiped.proofs.HasWipes.{wipes_after, wipes_opened, wipes_renewed, wipes_rewritten, wipes_wiped}
 use Rattle.core_alone.specs.Alone.{StandsAlone}
 use Rattle.core_alone.proofs.Kept.{stands_after}
 use Rattle.core_alone.proofs.Opened.{alone_new}
-use Rattle.core_alone.proofs.Renewed.{alone_rewritten}
+use Rattle.core_alone.proofs.Renewed.{alone_rewritten, alone_wiped}
 use Rattle.core_halts.specs.Halts.{HaltsStand}
 use Rattle.core_halts.proofs.Kept.{halts_after}
 use Rattle.core_halts.proofs.Opened.{halts_new}
-use Rattle.core_halts.proofs.Renewed.{halts_rewritten}
+use Rattle.core_halts.proofs.Renewed.{halts_rewritten, halts_wiped}
 use Rattle.store_rule.specs.Ground.{Asks, Ground, Rule, capacity_of, left_to, need_of, offering_of}
 use Rattle.store_rule.specs.Rebuilding.{IsKept, chain_kept, opened_state}
 use Rattle.store_rule.proofs.Fresh.{new_free}
 use Rattle.store_rule.proofs.LeftAlone.{comes_right}
-use Rattle.store_rule.proofs.HaltedShort.{short_after, short_new, short_renewed, short_rewritten}
+use Rattle.store_rule.proofs.HaltedShort.{short_after, short_new, short_renewed, short_retabbed}
 use Rattle.store_rule.proofs.RoomKept.{asks_room, fits_all}
-use Rattle.store_rule.proofs.RestsEnd.{rests_end_after, rests_end_new, rests_end_renewed, rests_end_rewritten}
+use Rattle.store_rule.proofs.RestsEnd.{rests_end_after, rests_end_new, rests_end_renewed, rests_end_rewritten, rests_end_wiped}
 
 module _ {X : Type 0} (g : Ground X) where
   -- what a rebuild of some file kept is opened
@@ -60,6 +62,7 @@ module _ {X : Type 0} (g : Ground X) where
     rests = rests_end_new s (λ i v at t x there. new_free g.setting g.setting.passes 0 i v at t x there);
     halted = short_new (offering_of g) g.setting s g.setting.passes refl;
     logged = log_opened (offering_of g) g.setting s r is_set opened sound low;
+    wiped = wipes_opened g.setting r s is_set opened (log_opened (offering_of g) g.setting s r is_set opened sound low).stands;
     room = λ fitting. room_opened g.setting r s is_set opened (need_of g) g.chain (λ a lt. ap (λ (c : ℕ → List ℕ). c a) chain);
     alone = alone_new (left_to g) g.setting s opened.words opened.views;
     halts = halts_new g.setting s opened.views;
@@ -92,6 +95,7 @@ module _ {X : Type 0} (g : Ground X) where
     rests = rests_end_after g.setting s i v m at rule.rests;
     halted = short_after (offering_of g) g.setting s i v m rule.sound at step allowed views sound offered rule.halted;
     logged = log_after (offering_of g) g.setting s i v m rule.sound rule.offered at step (asks_offer v m asks) rule.logged;
+    wiped = wipes_after g.setting s rule.logged.log rule.sound rule.logged.stands rule.wiped i v m at step;
     room = λ fitting. keeps_room g.setting s (need_of g) g.chain i v (fits_all g fitting) rule.sound (rule.room fitting) at m step (asks_room g v m fitting asks);
     alone = stands_after (left_to g) g.setting s i v m rule.sound at step rule.alone (comes_right g s rule.sound.anchors i v at step.pass rule.alone m allowed asks);
     halts = halts_after g.setting s i v rule.sound at rule.halts m step;
@@ -110,11 +114,27 @@ module _ {X : Type 0} (g : Ground X) where
     sound = rewritten_sound g.setting s i v rule.sound at pass t w old new may;
     offered = offers_stay (offering_of g) g.setting s (renewed s (set s.views i (with_hold v t w new))) (rewritten_tells s i v t w new v.trail at may.writes) rule.offered;
     rests = rests_end_rewritten s i v t w new at rule.rests;
-    halted = short_rewritten (offering_of g) s i v t w new at rule.halted;
+    halted = short_retabbed (offering_of g) s i v (with_hold v t w new) at refl rule.halted;
     logged = log_rewritten (offering_of g) g.setting s i t v w old new rule.sound at may rule.logged;
+    wiped = wipes_rewritten g.setting s rule.logged.log rule.sound rule.logged.stands rule.wiped i t v w old new at may;
     room = λ fitting. room_rewritten g.setting (capacity_of g) s (rule.room fitting) i v at t w new may.writes;
     alone = alone_rewritten (left_to g) g.setting s i v at t w new may.writes rule.alone;
     halts = halts_rewritten s i v at t w new rule.halts;
+  }
+
+  -- a tab that frees has
+  pub rule_wiped : (s : State X) (i : ℕ) (v : View X) (t : ℕ) (f : Freer X) (old new : Hold X) → Rule g s → get_elem? s.views i ≡ some v → IsPass v → MayBlank g.setting v t f old new
+      → Rule g (renewed s (set s.views i (with_wiper v t f new)))
+  rule_wiped s i v t f old new rule at pass may = record {
+    sound = wiped_sound g.setting s i v rule.sound at pass t f old new may;
+    offered = offers_stay (offering_of g) g.setting s (renewed s (set s.views i (with_wiper v t f new))) (wiped_tells s i v t f new v.trail at may.frees) rule.offered;
+    rests = rests_end_wiped s i v t f new at may.frees rule.rests;
+    halted = short_retabbed (offering_of g) s i v (with_wiper v t f new) at refl rule.halted;
+    logged = log_wiped (offering_of g) g.setting s i t v f old new rule.sound at may rule.logged;
+    wiped = wipes_wiped g.setting s rule.logged.log rule.sound rule.logged.stands rule.wiped i t v f old new at may;
+    room = λ fitting. room_wiped g.setting (capacity_of g) s (rule.room fitting) i v at t f new may.frees;
+    alone = alone_wiped (left_to g) g.setting s i v at t f new may.frees rule.alone;
+    halts = halts_wiped s i v at t f new rule.halts;
   }
 
   -- a change of views that tells nothing new of words
@@ -125,6 +145,7 @@ module _ {X : Type 0} (g : Ground X) where
     rests = rests_end_renewed g.setting s views r rule.rests;
     halted = short_renewed (offering_of g) g.setting s views r rule.halted;
     logged = log_renewed (offering_of g) g.setting s views r rule.logged;
+    wiped = wipes_renewed g.setting s rule.logged.log rule.sound rule.logged.stands rule.wiped views r;
     room = λ fitting. room_renewed g.setting (capacity_of g) s (rule.room fitting) views r;
     alone = alone;
     halts = halts;

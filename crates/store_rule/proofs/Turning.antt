@@ -18,6 +18,7 @@ use Rattle.core_model.specs.declared.moves.Move.TheVariants.{EndTurn, TryTurn}
 use Rattle.core_model.specs.declared.moves.Then.{Then}
 use Rattle.core_model.specs.declared.moves.Then.TheVariants.{GoesOn, Stays, Wiped}
 use Rattle.core_model.specs.declared.tab.Cell.{Cell}
+use Rattle.core_model.specs.declared.tab.Freer.{Freer}
 use Rattle.core_model.specs.declared.tab.Hold.{Hold}
 use Rattle.core_model.specs.declared.tab.Reader.{Reader}
 use Rattle.core_model.specs.declared.tab.Tab.{Tab}
@@ -32,21 +33,23 @@ use Rattle.core_model.specs.Tabs.{IsPass, OfReader, OfWriter, holds_turn, tab_at
 use Rattle.core_model.specs.CellMoves.{EndsSo, MayWipe, MayWrite, cell_held, chosen_content, ends, map_some, tries as tries_tab}
 use Rattle.core_model.specs.Cells.{TurnFits}
 use Rattle.core_model.specs.Slots.{ReaderHolds}
-use Rattle.core_model.specs.State.{chain_of}
-use Rattle.core_model.specs.TableForms.{MayRewrite, with_hold}
+use Rattle.core_model.specs.Holders.{IsTab}
+use Rattle.core_model.specs.State.{State, chain_of}
+use Rattle.core_model.specs.TableForms.{MayBlank, MayRewrite, with_hold, with_wiper}
 use Rattle.core_model.specs.AllowedByView.{KnowsLink, MayMake}
 use Rattle.core_model.proofs.AllowedByView.{allowed_so}
 use Rattle.core_model.proofs.Holders.{end_inside, try_inside}
 use Rattle.core_model.proofs.Lists.{at_set}
 use Rattle.core_model.proofs.Tabs.{tab_there}
+use Rattle.core_wiped.proofs.Filled.{freed_some}
 use Rattle.store_rule.specs.declared.store.Pass.{Pass}
 use Rattle.store_rule.specs.declared.store.Store.{Store}
-use Rattle.store_rule.specs.Ground.{Can, Ground, Offers}
+use Rattle.store_rule.specs.Ground.{Can, Ground, Offers, Rule}
 use Rattle.store_rule.specs.Machine.{Acts, CanAct, StepsOn}
 use Rattle.store_rule.specs.Ruled.{Form, HomesFit, IsFitting, cell_shown, place_shown, state_of}
 use Rattle.store_rule.specs.Setting.{shown}
 use Rattle.store_rule.specs.Told.{Becomes, Stands, Steps, Told, the_view}
-use Rattle.store_rule.specs.Turns.{IsBack, IsReturned, MayReturn, TurnFound, new_hold}
+use Rattle.store_rule.specs.Turns.{EndsWith, IsBack, IsReturned, MayReturn, TurnFound, new_hold}
 use Rattle.tab_states.specs.Tabs.{HasNext, at_of, ended_here, tabs_at}
 use Rattle.tab_states.specs.declared.tabs.At.{At}
 use Rattle.store_rule.proofs.AtHand.{at_get, ends_at, same_hand, tab_set, tries_at}
@@ -70,11 +73,11 @@ module _ {X : Type 0} (g : Ground X) (v : View X) (st : Stands g v) where
   tried_inside t slot may = try_inside g.setting st.state st.index v st.rule.sound st.at may.pass t slot
       (allowed_so g.setting st.state st.index v st.rule.sound st.at may.pass (TryTurn t slot) may.allowed)
 
-  pub ended_inside : (t slot : ℕ) (then : Then) → MayMake g.setting v (EndTurn t slot then) → slot < g.setting.slots
-  ended_inside t slot then may = end_inside g.setting st.state st.index v st.rule.sound st.at may.pass t slot then may.allowed
+  pub ended_inside : (t slot : ℕ) → MayMake g.setting v (EndTurn t slot Stays) → slot < g.setting.slots
+  ended_inside t slot may = end_inside g.setting st.state st.index v st.rule.sound st.at may.pass t slot Stays may.allowed
 
   -- a tab that goes on has a place to go to
-  pub has_next : (t slot : ℕ) (then : Then) → g.setting.slots ≤ 4294967295 → MayMake g.setting v (EndTurn t slot then) → HasNext (at_of (tab_at v t)) then
+  pub has_next : (t slot : ℕ) (then : Then) → g.setting.slots ≤ 4294967295 → MayMake g.setting v (EndTurn t slot Stays) → HasNext (at_of (tab_at v t)) then
   has_next t slot then few may = let p = may.pass in let le = may.allowed.0 in
       of_tab (tab_at v t) then (tab_there v t (tab_at v t) (omega arith) refl) may.allowed.1.1
     where
@@ -308,9 +311,17 @@ module _ {X : Type 0} (g : Ground X) (v w : View X) (t slot n : ℕ) (st : Steps
     asks = tt;
   }
 
+-- A tab that frees a doomed entry, of which no slot has left the chain, has a slot to wipe.
+pub wiper_has_slot : {X : Type 0} → (g : Ground X) (s : State X) (rule : Rule g s) (i t : ℕ) (f : Freer X) → IsTab s i t (Freeing f) → f.is_freeing ≡ true → f.is_whole ≡ true → f.is_doomed ≡ true → f.rest ≢ []
+wiper_has_slot g s rule i t f tab freeing whole doom = freed_some g.setting s i t f rule.sound (rule.wiped rule.logged.log rule.logged.stands.of).filled tab freeing whole doom
+
 -- A tab that writes always wins.
 pub writer_wins : {X : Type 0} → (g : Ground X) (v w : View X) (t slot n : ℕ) → Steps g v (TryTurn t slot) n w → OfWriter (λ w. Unit {0}) (tab_at v t) → n ≡ 0
 writer_wins g v w t slot n st writes = (known_of g v (TryTurn t slot) n w st).turns.1 writes
+
+-- So does one that frees.
+pub freer_wins : {X : Type 0} → (g : Ground X) (v w : View X) (t slot n : ℕ) → Steps g v (TryTurn t slot) n w → OfFreer (λ f. Unit {0}) (tab_at v t) → n ≡ 0
+freer_wins g v w t slot n st frees = (known_of g v (TryTurn t slot) n w st).turns.3 frees
 
 pub turn_taken_is : {X : Type 0} → (g : Ground X) (v w : View X) (t slot n : ℕ) (then : Then) → Steps g v (EndTurn t slot then) n w → n ≡ 1
 turn_taken_is g v w t slot n then st = (known_of g v (EndTurn t slot then) n w st).turns
@@ -347,6 +358,7 @@ module _ (k : Setting (List ℕ)) where
 
   abbrev pub returned_by : Tab (List ℕ) → (t slot : ℕ) → Cell (List ℕ) → View (List ℕ) → View (List ℕ)
   returned_by (Writing w) t slot c v = with_hold v t w (back_hold w slot c)
+  returned_by (Freeing f) t slot c v = with_wiper v t f (new_hold slot c)
   returned_by tab t slot c v = v
 
   is_back : (w : Writer (List ℕ)) (slot : ℕ) (c : Cell (List ℕ)) → IsBack k w slot c (back_hold w slot c)
@@ -373,7 +385,7 @@ module _ (k : Setting (List ℕ)) where
   returned_hand (Retreating a) t slot c v hand e is = is
   returned_hand (Reading r) t slot c v hand e is = is
   returned_hand (Last a) t slot c v hand e is = is
-  returned_hand (Freeing f) t slot c v hand e is = is
+  returned_hand (Freeing f) t slot c v hand e is = same_hand v (with_wiper v t f (new_hold slot c)) t _ hand refl (ap at_of (sym e)) is
 
   pub ended_hand : (g : Ground (List ℕ)) (v w : View (List ℕ)) (t slot n : ℕ) (then : Then) (c : Cell (List ℕ)) (u : View (List ℕ)) (y : At) (old new : List At) → u ≡ returned_by (tab_at v t) t slot c v
       → old ≡ tabs_at v → y ≡ ended_here (at_of (tab_at v t)) then → new ≡ set old t y → Steps g u (EndTurn t slot then) n w → new ≡ tabs_at w
@@ -401,7 +413,7 @@ now_stays true state c h = h refl
 now_stays false state c h = (0, omega arith, refl)
 
 module _ {C : Type 0} (tells : Bool) (form : Form C (List ℕ)) (g : Ground (List ℕ)) (v : View (List ℕ)) (t slot : ℕ) (then : Then) (c : C) (h : Hold (List ℕ)) (slot_is : h.slot ≡ slot)
-    (stays : Contains (form.shows c).possible (form.shows c).now) (may : MayMake g.setting v (EndTurn t slot then)) where
+    (stays : Contains (form.shows c).possible (form.shows c).now) (may : MayMake g.setting v (EndTurn t slot Stays)) where
   abbrev k : Setting (List ℕ)
   k = g.setting
 
@@ -422,32 +434,63 @@ module _ {C : Type 0} (tells : Bool) (form : Form C (List ℕ)) (g : Ground (Lis
   no_turn : ◌≡◌ {A = TurnOf (List ℕ)} NoTurn (Has h) → ⊥
   no_turn e = cc
 
-  -- how a tab that writes may end its turn does not depend on its cell
-  writes_so : (w x : Writer (List ℕ)) (z : Then) → EndsSo k z (Writing w) → EndsSo k z (Writing x)
+  may_blank : (f : Freer (List ℕ)) → tab_at v t ≡ Freeing f → f.turn ≡ Has h → MayReturn k (Freeing f) h.cell (form.shows c) → MayBlank k v t f h (new_hold slot (form.shows c))
+  may_blank f e turn back = record { frees = lt (Freeing f) e; turn = turn; slot_is = sym slot_is; possible = stays; within = back }
+
+  -- what the cell that is back allows the tab to say
+  reads_so : (r : Reader (List ℕ)) (z : Then) → EndsWith k z (Reading r) (form.shows c) → EndsSo k z (Reading r)
+  reads_so r Stays so = tt
+  reads_so r GoesOn so = tt
+  reads_so r Wiped so = absurd so
+
+  writes_so : (w x : Writer (List ℕ)) (z : Then) → EndsWith k z (Writing w) (form.shows c) → EndsSo k z (Writing x)
   writes_so w x Stays so = tt
   writes_so w x GoesOn so = tt
-  writes_so w x Wiped so = so
+  writes_so w x Wiped so = absurd so
 
-  ends_so : (x : Tab (List ℕ)) → tab_at v t ≡ x → turn_of x ≡ Has h → MayReturn k x h.cell (form.shows c) → EndsFrom form g v t slot then c (returned_by k x t slot (form.shows c) v)
-  ends_so (Reading r) e turn back = record { becomes = inl refl; may = may; hold = h; turn = ap turn_of e ∙ turn; cell_is = back }
-  ends_so (Writing w) e turn back = let held = back_hold k w slot (form.shows c) in
+  frees_so : (f : Freer (List ℕ)) (z : Then) → EndsWith k z (Freeing f) (form.shows c) → EndsSo k z (Freeing record f { turn = Has (new_hold slot (form.shows c)) })
+  frees_so f Stays so = tt
+  frees_so f GoesOn so = tt
+  frees_so f Wiped so = record { hold = new_hold slot (form.shows c); turn = refl; alone = so }
+
+  ends_so : (x : Tab (List ℕ)) → tab_at v t ≡ x → turn_of x ≡ Has h → MayReturn k x h.cell (form.shows c) → EndsWith k then x (form.shows c)
+      → EndsFrom form g v t slot then c (returned_by k x t slot (form.shows c) v)
+  ends_so (Reading r) e turn back so = record {
+    becomes = inl refl;
+    may = record { pass = may.pass; allowed = (may.allowed.0, may.allowed.1, subst (EndsSo k then) (sym e) (reads_so r then so)) };
+    hold = h;
+    turn = ap turn_of e ∙ turn;
+    cell_is = back;
+  }
+  ends_so (Writing w) e turn back so = let held = back_hold k w slot (form.shows c) in
       let here : tab_at (with_hold v t w held) t ≡ Writing record w { turn = Has held } = get_or-set_same v.tabs t _ Free (let p = may.pass in let le = may.allowed.0 in omega arith) in record {
-        becomes = inr record { tab = t; writer = w; old = h; new = held; may = may_rewrite w e turn back; is = refl };
+        becomes = inr (inl record { tab = t; writer = w; old = h; new = held; may = may_rewrite w e turn back; is = refl });
         may = record {
           pass = length-set v.tabs t (Writing record w { turn = Has held }) ∙ may.pass;
-          allowed = (may.allowed.0, (held, ap turn_of here, refl, refl), subst (EndsSo k then) (sym here) (writes_so w record w { turn = Has held } then (subst (EndsSo k then) e may.allowed.2)));
+          allowed = (may.allowed.0, (held, ap turn_of here, refl, refl), subst (EndsSo k then) (sym here) (writes_so w record w { turn = Has held } then so));
         };
         hold = held;
         turn = ap turn_of here;
         cell_is = refl;
       }
-  ends_so Free e turn back = absurd (no_turn turn)
-  ends_so (Retreating a) e turn back = absurd (no_turn turn)
-  ends_so (Last a) e turn back = absurd (no_turn turn)
-  ends_so (Freeing f) e turn back = record { becomes = inl refl; may = may; hold = h; turn = ap turn_of e ∙ turn; cell_is = back }
+  ends_so Free e turn back so = absurd (no_turn turn)
+  ends_so (Retreating a) e turn back so = absurd (no_turn turn)
+  ends_so (Last a) e turn back so = absurd (no_turn turn)
+  ends_so (Freeing f) e turn back so = let held = new_hold slot (form.shows c) in
+      let here : tab_at (with_wiper v t f held) t ≡ Freeing record f { turn = Has held } = get_or-set_same v.tabs t _ Free (let p = may.pass in let le = may.allowed.0 in omega arith) in record {
+        becomes = inr (inr record { tab = t; freer = f; old = h; new = held; may = may_blank f e turn back; is = refl });
+        may = record {
+          pass = length-set v.tabs t (Freeing record f { turn = Has held }) ∙ may.pass;
+          allowed = (may.allowed.0, (held, ap turn_of here, refl, refl), subst (EndsSo k then) (sym here) (frees_so f then so));
+        };
+        hold = held;
+        turn = ap turn_of here;
+        cell_is = refl;
+      }
 
-  pub ends_with : turn_of (tab_at v t) ≡ Has h → MayReturn k (tab_at v t) h.cell (form.shows c) → EndsFrom form g v t slot then c (returned_by k (tab_at v t) t slot (form.shows c) v)
-  ends_with turn back = ends_so (tab_at v t) refl turn back
+  pub ends_with : turn_of (tab_at v t) ≡ Has h → MayReturn k (tab_at v t) h.cell (form.shows c) → EndsWith k then (tab_at v t) (form.shows c)
+      → EndsFrom form g v t slot then c (returned_by k (tab_at v t) t slot (form.shows c) v)
+  ends_with turn back so = ends_so (tab_at v t) refl turn back so
 
 -- the view that the call names is that one
 pub ends_from_hand : {C : Type 0} → (k : Setting (List ℕ)) (form : Form C (List ℕ)) (hand others : List (ℕ × Option C)) (t slot : ℕ) (v : View (List ℕ)) (c : C) → hand ≡ (slot, Some c) ∷ others

@@ -23,6 +23,7 @@ use Rattle.core_model.specs.Sound.{Sound}
 use Rattle.core_model.specs.AllowedByView.{AllowedByView}
 use Rattle.core_model.specs.Offers.{ChoosesRight, Offering, OffersStand}
 use Rattle.core_log.specs.Keeps.{HasLog}
+use Rattle.core_wiped.specs.Wipes.{HasWipes}
 use Rattle.core_alone.specs.Alone.{StandsAlone}
 use Rattle.core_halts.specs.Halts.{HaltsStand}
 use Rattle.core_room.specs.Conditions.{KeepsRoom}
@@ -121,9 +122,10 @@ pub record HaltedShort {X : Type 0} (o : Offering) (s : State X) : Type 0 where
       → Contains u.seen (Stood a e) → Contains v.seen (Published a (version_of e) many) → Contains w.seen (Named a (version_of e) Offer offer) → many < o.pieces offer
 
 -- The rule: the state is sound, each entry is the opening's or one of its offer, what is given back has an end, what was halted was
--- never whole, and what was logged is in order: a crash leaves of a slot the opening's content or a piece that was logged for it. In a store
--- that fits there is room: a free slot for each tab that searches for one. A pass knows what stands at anchors that are left to it, and where
--- it found that an entry which was given up goes no further, it goes no further.
+-- never whole, and what was logged is in order: a crash leaves of a slot the opening's content, a piece that was logged for it, or the blank
+-- content. In a store that fits there is room: a free slot for each tab that searches for one. A pass knows what stands at anchors that are
+-- left to it, and where it found that an entry which was given up goes no further, it goes no further. A crash leaves nothing of an entry in
+-- the slot that was wiped for it.
 pub record Rule {X : Type 0} (g : Ground X) (s : State X) : Type 0 where
   pub sound : Sound g.setting s
   pub offered : OffersStand (offering_of g) g.setting s
@@ -133,6 +135,7 @@ pub record Rule {X : Type 0} (g : Ground X) (s : State X) : Type 0 where
   pub room : fits g ≡ true → Room g.setting (capacity_of g) s
   pub alone : StandsAlone (left_to g) g.setting s
   pub halts : HaltsStand s
+  pub wiped : HasWipes g.setting s
 
 -- an anchor that is left alone is named by its own pass
 abbrev pub MayName : {X : Type 0} → Ground X → View X → ℕ → Type 0

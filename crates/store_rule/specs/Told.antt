@@ -5,6 +5,7 @@ use lib.ListN.{get_elem?}
 use Rattle.atomic_table.specs.Table.{Me, Step, rest}
 use Rattle.core_model.specs.declared.moves.Move.{Move}
 use Rattle.core_model.specs.declared.moves.Move.TheVariants.{EndTurn, TryTurn}
+use Rattle.core_model.specs.declared.tab.Freer.{Freer}
 use Rattle.core_model.specs.declared.tab.Hold.{Hold}
 use Rattle.core_model.specs.declared.tab.Writer.{Writer}
 use Rattle.core_model.specs.declared.view.View.{View}
@@ -13,7 +14,7 @@ use Rattle.core_model.specs.State.{Finding, State}
 use Rattle.core_model.specs.CellMoves.{spent}
 use Rattle.core_model.specs.Table.{MayStep}
 use Rattle.core_model.specs.Steps.{cell_found, chain_found, number_found, sights_found, view_after}
-use Rattle.core_model.specs.TableForms.{MayRewrite, with_hold}
+use Rattle.core_model.specs.TableForms.{MayBlank, MayRewrite, with_hold, with_wiper}
 use Rattle.store_rule.specs.Ground.{Ground, Rule}
 use Rattle.store_rule.specs.Ruled.{Form, IsFitting, cell_shown}
 
@@ -38,7 +39,7 @@ pub record Stands {X : Type 0} (g : Ground X) (v : View X) : Type 0 where
   pub rule : Rule g state
   pub at : get_elem? state.views index ≡ some v
 
--- The view of a pass becomes u by no step: it is u, or a tab that writes has another cell in its hands.
+-- The view of a pass becomes u by no step: a tab that writes has another cell in its hands.
 pub record IsRewritten {X : Type 0} (k : Setting X) (v u : View X) : Type 0 where
   pub tab : ℕ
   pub writer : Writer X
@@ -47,8 +48,18 @@ pub record IsRewritten {X : Type 0} (k : Setting X) (v u : View X) : Type 0 wher
   pub may : MayRewrite k v tab writer old new
   pub is : u ≡ with_hold v tab writer new
 
+-- Or a tab that frees has.
+pub record IsBlanked {X : Type 0} (k : Setting X) (v u : View X) : Type 0 where
+  pub tab : ℕ
+  pub freer : Freer X
+  pub old : Hold X
+  pub new : Hold X
+  pub may : MayBlank k v tab freer old new
+  pub is : u ≡ with_wiper v tab freer new
+
+-- it is u, or one of both is so
 abbrev pub Becomes : {X : Type 0} → Setting X → (v u : View X) → Type 0
-Becomes k v u = (v ≡ u) ⊎ IsRewritten k v u
+Becomes k v u = (v ≡ u) ⊎ IsRewritten k v u ⊎ IsBlanked k v u
 
 -- the view of a seat that has one
 abbrev pub the_view : {X : Type 0} → List (View X) → View X

@@ -20,11 +20,12 @@ const MOST_TRIES: u64 = QUICK_TRIES + 1_000;
 impl<C: Cell, O: Origin> Store<C, O> {
     ghost use Rattle.std.specs.Prelude.{ℕ};
     ghost use Rattle.core_model.specs.declared.moves.Move.TheVariants.{EndTurn, TryTurn};
+    ghost use Rattle.core_model.specs.declared.moves.Then.TheVariants.{Stays};
     ghost use Rattle.store_rule.specs.Passes.{HasCell, HasRoom, IsOf, May};
     ghost use Rattle.store_rule.specs.Turns.{HasReturned, MayComeHome, MovesCell, TurnEnded, TurnFound, TurnWaited};
 
     /// A tab tries to take the turn at the cell of a slot, and whether it did is answered. The cell's place
-    /// comes with it. A tab that writes has logged a piece for the slot.
+    /// comes with it. A tab that writes has logged a piece for the slot; it always wins, and so does a tab that frees.
     pub fn try_turn(&self, pass: &mut Pass<C>, tab: u8, slot: u32) -> bool
         requires { May C.tells C.state O.offers self.now pass.old (TryTurn tab slot) }
         ensures { TurnFound C.tells C.state O.offers self.now pass.old tab slot result pass.new }
@@ -87,10 +88,10 @@ impl<C: Cell, O: Origin> Store<C, O> {
     }
 
     /// A tab ends its turn, with the cell in its place. A tab that reads may go on to the next slot
-    /// with it. No call of the store lets a tab say yet that it wiped one.
+    /// with it. A tab that frees may say that it wiped the slot, where a crash leaves that cell blank and nothing else.
     pub fn end_turn(&self, pass: &mut Pass<C>, tab: u8, slot: u32, then: Then)
-        requires may { May C.tells C.state O.offers self.now pass.old (EndTurn tab slot then) }
-        requires home { HasReturned C.tells C.state O.offers self.now pass.old tab slot }
+        requires may { May C.tells C.state O.offers self.now pass.old (EndTurn tab slot Stays) }
+        requires home { HasReturned C.tells C.state O.offers self.now pass.old tab slot then }
         ensures { TurnEnded C.tells C.state O.offers self.now pass.old tab slot then pass.new }
     {
         let at = pass.at(tab);

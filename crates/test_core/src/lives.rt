@@ -1,4 +1,5 @@
 mod rows;
+mod wiping;
 
 use crate::play::{act_in, answer_in, numbers, parted, standing};
 use crate::steps::images::file_of;

@@ -14,6 +14,7 @@ mod store;
 mod straying;
 mod table;
 mod watch;
+mod wiping;
 mod writing;
 
 use choice::{Seat, calm_of, choose, next_seat};

@@ -1,10 +1,11 @@
 // Random steps with crashes and rebuilds among them.
 use super::choice::{Seat, calm_of, choose, next_seat};
 use super::kinds::LOG_PIECE;
-use super::named::{Contents, kept_at, words_of};
+use super::named::{Contents, entry_at, kept_at, words_of};
 use super::random::Numbers;
 use super::store::STORE;
-use super::table::hold_in;
+use super::table::hold_of;
+use super::wiping::is_wiped;
 use super::{ANCHORS, Act, Core, PASSES, SLOTS};
 use core_lives::{FirstContent, Life};
 use core_model::{Cell, LoggedPiece, Piece, Sight};
@@ -30,7 +31,7 @@ fn cell_of(core: &Core, slot: u32) -> Option<&Cell<Content>> {
     }
     for view in core.views() {
         for tab in view.tabs.as_slice() {
-            match hold_in(tab) {
+            match hold_of(tab) {
                 Some(hold) if hold.slot == slot => return Some(&hold.cell),
                 _ => {}
             }
@@ -79,6 +80,9 @@ struct Counts {
     again: u32,
     /// Pieces that are left in no entry that stands.
     parts: u32,
+    /// Slots that are blank, and pieces that are left of entries of which a slot was wiped.
+    blank: u32,
+    wiped: u32,
 }
 
 /// A walk: its life, what slots held at the last opening, as the test has it, and the pieces that were logged.
@@ -115,6 +119,21 @@ fn pick(
         *content = name_of(core, &walk.first, slot, picked)?;
     }
     Some((picks, left))
+}
+
+/// Counts what is left of entries of which a slot was wiped: no whole one of them.
+fn count_wiped<R: Abort>(rt: &R, walk: &Walk, left: &Contents, counts: &mut Counts) {
+    let core = walk.life.core();
+    for (slot, content) in (0..SLOTS).zip(left.iter()) {
+        match content {
+            FirstContent::Blank => counts.blank = counts.blank.saturating_add(1),
+            FirstContent::Logged(logged) if is_wiped(core, logged.piece.version) => {
+                counts.wiped = counts.wiped.saturating_add(1);
+                assert!(rt; entry_at(left, slot).is_none(), "{logged:?} was wiped");
+            }
+            _ => {}
+        }
+    }
 }
 
 /// Counts what stands after a rebuild of these contents, and looks whether each entry was offered.
@@ -171,6 +190,7 @@ fn crash<R: Abort>(
         "a rebuild without a crash"
     );
     let (picks, left) = pick(alloc, numbers, walk, counts)?;
+    count_wiped(rt, walk, &left, counts);
     let again = picks.clone().ok()?;
     let picks = Picks::from_vec(picks);
     assert_eq!(rt;
@@ -297,6 +317,8 @@ fn random_crashes_leave_what_names_tell(rt: HostRuntime) {
         longer: 0,
         again: 0,
         parts: 0,
+        blank: 0,
+        wiped: 0,
     };
     for seed in 1..=WALKS {
         let walked = walk_from(&rt, rt.alloc(), seed, &mut counts);
@@ -311,6 +333,8 @@ fn random_crashes_leave_what_names_tell(rt: HostRuntime) {
         counts.longer,
         counts.again,
         counts.parts,
+        counts.blank,
+        counts.wiped,
     ];
     assert!(rt; all.iter().all(|count| *count > 0), "{counts:?}");
 }

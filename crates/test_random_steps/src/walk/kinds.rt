@@ -36,6 +36,14 @@ pub(super) const TRY_TURN: u8 = 15;
 
 pub(super) const END_TURN: u8 = 16;
 
+/// What comes with the end of a turn: nothing, a reading tab goes on, or the slot was wiped.
+pub(super) const NOTHING_MORE: u64 = 0;
+
+pub(super) const WIPED: u64 = 2;
+
+/// No end of a turn has this number.
+pub(super) const THEN_END: u32 = 3;
+
 pub(super) const CELL_OUT: u8 = 17;
 
 pub(super) const CELL_IN: u8 = 18;

@@ -45,7 +45,7 @@ fn is_next(head: &LoggedPiece, logged: &LoggedPiece, place: usize) -> bool {
 }
 
 /// The entry whose first piece stands in a slot, if it is whole.
-fn entry_at(contents: &Contents, first: u32) -> Option<Named> {
+pub(super) fn entry_at(contents: &Contents, first: u32) -> Option<Named> {
     let head = piece_at(contents, first)?;
     if head.piece.version == 0 || head.piece.first != first {
         return None;

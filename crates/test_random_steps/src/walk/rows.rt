@@ -80,9 +80,19 @@ pub(super) enum Row {
     ClosedWithTwoSlots,
     ClosedWithThreeSlots,
     ReadThreeSlots,
+    // What a tab does that wipes a slot, and what becomes of its entry.
+    WiperTriesTurn,
+    WiperTakesCellOut,
+    WiperWrites,
+    WiperSyncs,
+    WiperPutsCellBack,
+    WiperSaysNothing,
+    WiperSaysWiped,
+    WipedIsGone,
+    WipedIsLearned,
 }
 
-const ROW_COUNT: usize = 73;
+const ROW_COUNT: usize = 82;
 
 /// The names of all of them, in order.
 const NAMES: &str = "\
@@ -159,6 +169,15 @@ ClosedWithOneSlot
 ClosedWithTwoSlots
 ClosedWithThreeSlots
 ReadThreeSlots
+WiperTriesTurn
+WiperTakesCellOut
+WiperWrites
+WiperSyncs
+WiperPutsCellBack
+WiperSaysNothing
+WiperSaysWiped
+WipedIsGone
+WipedIsLearned
 ";
 
 /// How often each came about.

@@ -2,7 +2,7 @@
 use super::choice::{Seat, newest_version};
 use super::kinds::{
     CELL_IN, CHANGE, END_TURN, KIND_END, LEARN, LINK, LOG_PIECE, LOOK_MAP, OWN, RAISE, SIDE,
-    SIDE_END, STAGE_END, SYNC, WRITE, WRITE_END,
+    SIDE_END, STAGE_END, SYNC, THEN_END, WRITE, WRITE_END,
 };
 use super::random::Numbers;
 use super::store::Store;
@@ -58,7 +58,8 @@ fn stray_value(numbers: &mut Numbers, kind: u8, view: &View<Content>, tab: &Tab<
         RAISE => u64::from(numbers.below(STAGE_END)),
         SIDE => u64::from(numbers.below(WORD_END)),
         LINK => stray_link(numbers, tab),
-        LOG_PIECE | END_TURN | SYNC => u64::from(numbers.below(2)),
+        END_TURN => u64::from(numbers.below(THEN_END)),
+        LOG_PIECE | SYNC => u64::from(numbers.below(2)),
         WRITE => u64::from(numbers.below(WRITE_END)),
         _ => 0,
     }

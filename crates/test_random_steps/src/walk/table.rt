@@ -48,21 +48,11 @@ pub(super) fn hold_of(tab: &Tab<Content>) -> Option<&Hold<Content>> {
     let turn = match tab {
         Tab::Reading(reader) => &reader.turn,
         Tab::Writing(writer) => &writer.turn,
+        Tab::Freeing(freer) => &freer.turn,
         _ => return None,
     };
     match turn {
         Turn::Has(hold) => Some(hold),
         Turn::NoTurn => None,
-    }
-}
-
-/// The turn that a tab holds, also one that frees.
-pub(super) fn hold_in(tab: &Tab<Content>) -> Option<&Hold<Content>> {
-    match tab {
-        Tab::Freeing(freer) => match &freer.turn {
-            Turn::Has(hold) => Some(hold),
-            Turn::NoTurn => None,
-        },
-        _ => hold_of(tab),
     }
 }

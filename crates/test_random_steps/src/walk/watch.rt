@@ -3,12 +3,13 @@ use super::choice::{Seat, tab_of};
 use super::kinds::{
     CELL_IN, CELL_OUT, CHANGE, CLOSED, COUNT, DISOWN, DOOM, DRAW, END_TURN, ENTER, GET_LINK,
     HALTED, KEPT, KEPT_UNSURE, LEARN, LEAVE, LINK, LOG_PIECE, LOOK, LOOK_MAP, NOTE, NOTHING, OWN,
-    RAISE, SIDE, STORES, SYNC, TRY_TURN, UNSURE, WRITE,
+    RAISE, SIDE, STORES, SYNC, TRY_TURN, UNSURE, WIPED, WRITE,
 };
 use super::life::life_row;
 use super::log::{log_count, seen_count, watch_logged, watch_turn};
 use super::rows::{Row, Tally};
 use super::table::{is_taken, published_at, word_at};
+use super::wiping::{watch_wiped, wiped_row, wiper_row};
 use super::{ANCHORS, Act, Core, PASSES};
 use core_model::{INNER_TAB, TABS, Tab};
 use core_state::Content;
@@ -320,6 +321,7 @@ impl Watch {
         tally.add(doomed_row(act, before));
         tally.add(lost_row(act, before, number, is_same));
         tally.add(end_row(act));
+        self.watch_wipes(rt, core, act, before, tally);
         let published = match before.anchor {
             Some(anchor) => published_at(core, anchor).len(),
             None => 0,
@@ -329,6 +331,25 @@ impl Watch {
         tally.add(self.read_row(act, before));
         tally.add(self.last_row(core, act, before, is_same));
         tally.add(self.note_row(act, number));
+    }
+
+    /// What a step did towards a wiped slot, and what it tells of one.
+    fn watch_wipes<R: Abort>(
+        &self,
+        rt: &R,
+        core: &Core,
+        act: &Act,
+        before: &Before,
+        tally: &mut Tally,
+    ) {
+        if matches!(before.role, Role::Freeing) {
+            tally.add(wiper_row(act));
+        }
+        if act.kind == END_TURN && act.value == WIPED {
+            watch_wiped(rt, core, act);
+        }
+        let word = before.anchor.and_then(|anchor| before.word(anchor));
+        tally.add(wiped_row(core, act, word, before.seen));
     }
 
     /// The counter of logged pieces is how many were logged, and a step that logs one finds it.

@@ -4,7 +4,7 @@ use super::choice::{Seat, evict_act, inner_tab};
 use super::freeing::{freer_act, has_room};
 use super::kinds::{
     APPENDING, CELL_IN, CELL_OUT, CLOSED, DISOWN, END_TURN, HALTED, KEPT, KEPT_UNSURE, LINK,
-    LOG_PIECE, LOOK_MAP, NOTHING, OWN, RAISE, SIDE, STORE_KEY0, STORE_KEY1, STORE_OFFER,
+    LOG_PIECE, LOOK_MAP, NOTHING, NOTHING_MORE, OWN, RAISE, SIDE, STORE_KEY0, STORE_KEY1, STORE_OFFER,
     STORE_START, SYNC, TRY_TURN, UNSURE, WRITE,
 };
 use super::random::Numbers;
@@ -51,7 +51,7 @@ pub(super) fn writer_act(
     writer: &Writer<Content>,
 ) -> Act {
     if let Turn::Has(hold) = &writer.turn {
-        return hold_act(numbers, seat, hold, writer.is_durable);
+        return hold_act(numbers, seat, hold, writer.is_durable, NOTHING_MORE);
     }
     if let Some(Tab::Freeing(freer)) = inner_tab(view) {
         if numbers.is_one_in(2) {
@@ -77,8 +77,15 @@ fn gives_up(numbers: &mut Numbers, writer: &Writer<Content>) -> bool {
     writer.version.is_multiple_of(DOUBTFUL) && numbers.is_one_in(chance)
 }
 
-/// With the turn, the cell is taken out, written, synced and put back. A durable piece is synced until that is kept.
-fn hold_act(numbers: &mut Numbers, seat: Seat, hold: &Hold<Content>, is_durable: bool) -> Act {
+/// With the turn, the cell is taken out, written, synced and put back, and the turn ends with this. What is to be durable is synced
+/// until that is kept.
+pub(super) fn hold_act(
+    numbers: &mut Numbers,
+    seat: Seat,
+    hold: &Hold<Content>,
+    is_durable: bool,
+    then: u64,
+) -> Act {
     let slot = hold.slot;
     let is_unsure = is_durable && !hold.is_settled;
     let turns_aside = numbers.is_one_in(TURNS_ASIDE);
@@ -89,7 +96,7 @@ fn hold_act(numbers: &mut Numbers, seat: Seat, hold: &Hold<Content>, is_durable:
         }
         (true, true) => seat.act(CELL_IN, slot, 0),
         (false, false) => seat.act(CELL_OUT, slot, 0),
-        (false, true) => seat.act(END_TURN, slot, 0),
+        (false, true) => seat.act(END_TURN, slot, then),
     }
 }
 

@@ -29,7 +29,6 @@ end_turn-requires-clause-may g c = let a = c.args in let s = a.store.now in let 
     may_end_turn g.C.Cell.tells g.C.Cell.state g.O.Origin.offers s a.tab p may slot e c.wait_turn.new.pass c.wait_turn.ensures out.result out.new.pass out.ensures.out out.ensures.kept
     got.new.cell got.ensures.cell got.ensures.lent.0 got.new.pass got.ensures.lent.1
     c.cell_in.new.pass c.cell_in.ensures.home c.cell_in.ensures.kept
-    c.is_ok.result _ c.after_reading.ensures
 
 pub end_turn-requires-clause-home : goal.end_turn-requires-clause-home
 end_turn-requires-clause-home g c = let a = c.args in let s = a.store.now in let p = a.pass.now in let may = c.requires in let slot = c.in-Some.slot in
@@ -37,6 +36,7 @@ end_turn-requires-clause-home g c = let a = c.args in let s = a.store.now in let
     has_returned g.C.Cell.tells g.C.Cell.state g.O.Origin.offers s a.tab p may slot e c.wait_turn.new.pass c.wait_turn.ensures out.result out.new.pass out.ensures.out out.ensures.kept
     got.new.cell got.ensures.cell got.ensures.lent.0 got.new.pass got.ensures.lent.1
     c.cell_in.new.pass c.cell_in.ensures.home c.cell_in.ensures.kept
+    c.is_ok.result _ c.after_reading.ensures
 
 pub returns-clause-others : goal.returns-clause-others
 returns-clause-others g c = let a = c.args in let s = a.store.now in let p = a.pass.now in let may = c.requires in let slot = c.in-Some.slot in

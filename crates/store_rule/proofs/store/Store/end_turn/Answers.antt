@@ -16,8 +16,8 @@ swap_as-requires-clause-step g c = let s = c.args.self.now in let b = basis g.C.
     let may = may_of p c.requires.may.can.allowed in
     ends_ form b s.table.shared.table_id p.seat c.requires.may.own.table (wide _ _ _ _ _ s.sized s.anchors_are s.slots_are) p.one c.args.tab c.args.slot _ c.args.then h.cell _ _ _
     (ends_from_hand b.setting form _ _ c.args.tab c.args.slot v h.cell h.place) (turn_stands_at _ _ _ _ c.turn_index-place.ensures s.anchors_are)
-    (ended_inside b v c.requires.may.own.stands c.args.tab c.args.slot c.args.then may) (pass_of p) h.place h.may.fits
-    (ends_with g.C.Cell.tells form b v c.args.tab c.args.slot c.args.then h.cell h.may.hold h.may.slot_is (now_stays g.C.Cell.tells g.C.Cell.state h.cell (g.met.C.Cell.now_may_stay h.cell)) may h.may.turn h.may.back)
+    (ended_inside b v c.requires.may.own.stands c.args.tab c.args.slot may) (pass_of p) h.place h.may.fits
+    (ends_with g.C.Cell.tells form b v c.args.tab c.args.slot c.args.then h.cell h.may.hold h.may.slot_is (now_stays g.C.Cell.tells g.C.Cell.state h.cell (g.met.C.Cell.now_may_stay h.cell)) may h.may.turn h.may.back h.so)
 
 pub invariant_of-pass : goal.invariant_of-pass
 invariant_of-pass g c = let told = c.swap_as.ensures.told in let h = c.requires.home in let v = view c.args.pass.now in

@@ -3,7 +3,7 @@ use Rattle.store_rule.specs.Setting.{form_of}
 use Rattle.store_rule.specs.Passes.{basis}
 use Rattle.store_rule.proofs.Moves.{wide}
 use Rattle.store_rule.proofs.Passing.{may_of}
-use Rattle.store_rule.proofs.Turning.{tried_hand, tried_inside, tries_, turn_comes, turn_stands_at, turn_stays, writer_wins}
+use Rattle.store_rule.proofs.Turning.{freer_wins, tried_hand, tried_inside, tries_, turn_comes, turn_stands_at, turn_stays, writer_wins}
 use Rattle.store_rule.proofs.store.Store.try_turn.Goals as goal
 
 pub exchange_as-found-requires-clause-step : goal.exchange_as-found-requires-clause-step
@@ -39,4 +39,5 @@ returns g c = let met = c.exchange_as-found.ensures in let found = c.exchange_as
       taken = λ won. let t = turn_comes form b _ _ found c.args.tab c.args.slot met.told lt may (eqb-true _ 0 won) in record { cell = t.0; place = t.1; fits = t.2; turn = t.3 };
       lost = λ lost. turn_stays form b _ _ found c.args.tab c.args.slot met.told lt may lost;
       writes = λ writes. eq-eqb found 0 (writer_wins b _ _ c.args.tab c.args.slot found met.told.step writes);
+      frees = λ frees. eq-eqb found 0 (freer_wins b _ _ c.args.tab c.args.slot found met.told.step frees);
     }
