@@ -6,4 +6,5 @@ pub mod Openings
 pub mod Out
 pub mod Peeking
 pub mod Places
+pub mod Together
 pub mod Refusals

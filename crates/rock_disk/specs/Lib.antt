@@ -5,5 +5,6 @@ pub mod Created
 pub mod File
 pub mod Memory
 pub mod Opened
+pub mod Reads
 pub mod Stations
 pub mod Written

@@ -1,12 +1,13 @@
 -- What cells, stations and volumes in memory tell.
-use Rattle.std.specs.Prelude.{◌≡◌, ℕ, ◌+◌, ◌≤◌, List, [], length, map, get_or, Option, Some, None}
+use Rattle.std.specs.Prelude.{◌≡◌, ℕ, ◌+◌, ◌<◌, ◌≤◌, List, [], length, map, get_or, Option, Some, None}
 use Rattle.std.specs.FinMap.{from_entries, get}
 use Rattle.std.specs.declared.vec.Vec.{Vec}
-use Rattle.rock_io.specs.Plan.{Schedule, schedule_of, faults_of}
+use Rattle.rock_io.specs.Plan.{FailsNext, Schedule, schedule_of, faults_of}
 use Rattle.db_layout.specs.declared.layout.TheConstants.{HEADER_BYTES}
 use Rattle.rock_disk.specs.Cell.{CellState}
 use Rattle.rock_disk.specs.File.{File, Files, bytes_of}
 use Rattle.rock_disk.specs.File.File.{Home, Away}
+use Rattle.rock_disk.specs.Reads.{many_more}
 use Rattle.rock_disk.specs.Stations.{made_of, ended_of}
 use Rattle.rock_disk.specs.declared.memory.cell.MemCell.{MemCell}
 use Rattle.rock_disk.specs.declared.memory.entry.Entry.{Entry}
@@ -25,6 +26,18 @@ station_faults s = faults_of s.plan
 
 abbrev pub station_plan : MemStation → Schedule
 station_plan s = schedule_of s.plan
+
+-- after so many more calls
+abbrev pub called_by : ℕ → Schedule → Schedule
+called_by n schedule = record { fail = schedule.fail; number = many_more n schedule.number }
+
+-- of the next so many calls none is listed to fail
+abbrev pub NoneFails : ℕ → Schedule → Type 0
+NoneFails n schedule = (k : ℕ) → k < n → FailsNext (called_by k schedule) → ⊥
+
+-- of the next calls, the one behind so many is the first that is listed to fail
+abbrev pub IsFirstToFail : ℕ → Schedule → Type 0
+IsFirstToFail n schedule = NoneFails n schedule × FailsNext (called_by n schedule)
 
 abbrev pub file_of : MemFile → File
 file_of (mem.Home header cells rest) = Home (cell_state header) (map cell_state cells.items) rest.items

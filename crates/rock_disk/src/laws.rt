@@ -1,10 +1,11 @@
 // What the calls of a station give one after the other, and what a crash leaves of cells.
-ghost use Rattle.std.specs.Prelude.{◌≡◌, ◌≤◌, ◌<◌, ◌∷◌, [], ℕ, List, length, map, Contains, All, IsTrue, IsErr, OnOk, OnErr, ◌↔◌};
+ghost use Rattle.std.specs.Prelude.{◌≡◌, ◌*◌, ◌≤◌, ◌<◌, ◌∷◌, [], ℕ, List, length, map, Contains, All, IsTrue, IsErr, OnOk, OnErr, ◌↔◌};
 ghost use Rattle.rock_io.specs.Faults.{Rose};
 ghost use Rattle.rock_io.specs.Plan.{called, FailsNext};
 ghost use Rattle.rock_disk.specs.Cell.{CellState, settled, shape};
 ghost use Rattle.rock_disk.specs.Crash.{IsCrashImage, IsSettled, KeepsAndAdds, NowMayStay};
 ghost use Rattle.rock_disk.specs.Memory.{cell_state, station_plan};
+ghost use Rattle.rock_disk.specs.Reads.{width_of};
 
 use crate::{MemCell, MemStation, Station};
 use rock_io::Failed;
@@ -72,4 +73,9 @@ pub fn now_is_a_crash_image()
 /// Where a crash leaves in each cell what a read gives, as after a sync, it can leave one image alone.
 pub fn synced_cells_leave_one_image()
     ensures { (cells : List CellState) (image : List (List ℕ)) → All IsSettled cells → IsCrashImage cells image → image ≡ map (λ c. c.now) cells }
+{}
+
+/// Cells of one width are together as many times as wide as there are cells.
+pub fn cells_of_one_width_add_up()
+    ensures { (width : ℕ) (cells : List CellState) → All (λ c. c.width ≡ width) cells → width_of cells ≡ length cells * width }
 {}

@@ -20,10 +20,10 @@ pub use file_laws::{
     opened_slots_are_wide_and_few, peeked_headers_are_read,
 };
 pub use laws::{
-    now_is_a_crash_image, synced_cells_leave_one_image, write_keeps_the_old, write_then_read,
-    write_then_sync,
+    cells_of_one_width_add_up, now_is_a_crash_image, synced_cells_leave_one_image,
+    write_keeps_the_old, write_then_read, write_then_sync,
 };
 pub use memory::{MemCell, MemStation, MemVolume};
-pub use station::Station;
+pub use station::{FailedAfter, Station};
 pub use stations::Stations;
 pub use volume::{CreateFault, OpenFault, Opened, PeekFault, StationFault, Volume};

@@ -1,10 +1,20 @@
-ghost use Rattle.std.specs.Prelude.{◌≡◌, ℕ, ◌≤◌, Bool, IsTrue, length, OnOk, OnErr};
+ghost use Rattle.std.specs.Prelude.{◌≡◌, ℕ, ◌+◌, ◌<◌, ◌≤◌, Bool, IsTrue, length, map, take, OnOk, OnErr, IfErr};
 ghost use Rattle.rock_io.specs.Faults.{Rose, one_more};
-ghost use Rattle.rock_disk.specs.Cell.{shape, settle};
+ghost use Rattle.rock_disk.specs.Cell.{joined, shape, settle};
+ghost use Rattle.rock_disk.specs.Reads.{BeginsWith, many_more, width_of};
 ghost use Rattle.rock_disk.specs.Written.{AddsAtMost, ReadsOldOrNew};
 
 use crate::Cell;
 use rock_io::Failed;
+use thiserror::Error;
+
+/// The read of one of several cells failed, and the station's count of faults rose.
+#[derive(Clone, Copy, Debug, PartialEq, Eq, Error)]
+#[error("a read failed behind {read} others")]
+pub struct FailedAfter {
+    /// How many cells were read before that one.
+    pub read: usize,
+}
 
 /// What one worker reads and writes the cells of a file with. A call that succeeds leaves the count of
 /// faults as it was, and no call wants memory. A station is ended by the volume that made it, so it
@@ -31,6 +41,21 @@ pub trait Station {
         ensures read { OnOk result (IsTrue Self.C.tells → buf.new ≡ (Self.C.state cell.old).now) }
         ensures cell { Self.C.state cell.new ≡ Self.C.state cell.old }
         ensures counted { IsTrue counts → calls self.new ≡ one_more (calls self.old) }
+        ensures faults { faults self.old ≤ faults self.new }
+        ensures unfailed { OnOk result (faults self.new ≡ faults self.old) }
+        ensures failed { OnErr result (Rose (faults self.old) (faults self.new)) };
+
+    /// Puts what these cells hold into `buf`, one behind the other, as a read of each in this order does. Where
+    /// one of these reads fails, so does the call, and no later cell is read. What was read before then
+    /// stands in front, and behind it `buf` may have any bytes. Cells that stand side by side in a file may be
+    /// read by one call of the system.
+    fn read_cells(&mut self, cells: &[Self::C], buf: &mut [u8]) -> Result<(), FailedAfter>
+        requires { length buf.old ≡ width_of (map Self.C.state cells.now) }
+        ensures read { OnOk result (IsTrue Self.C.tells → buf.new ≡ joined (map Self.C.state cells.now)) }
+        ensures front { IfErr result (λ f. IsTrue Self.C.tells → BeginsWith (joined (take f.read (map Self.C.state cells.now))) buf.new) }
+        ensures within { IfErr result (λ f. f.read < length cells.now) }
+        ensures counted { OnOk result (IsTrue counts → calls self.new ≡ many_more (length cells.now) (calls self.old)) }
+        ensures stopped { IfErr result (λ f. IsTrue counts → calls self.new ≡ many_more (f.read + 1) (calls self.old)) }
         ensures faults { faults self.old ≤ faults self.new }
         ensures unfailed { OnOk result (faults self.new ≡ faults self.old) }
         ensures failed { OnErr result (Rose (faults self.old) (faults self.new)) };

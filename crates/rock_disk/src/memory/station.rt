@@ -1,8 +1,8 @@
-ghost use Rattle.std.specs.Prelude.{◌≡◌, ◌≤◌, length, true, IsErr, OnOk, OnErr, ◌↔◌};
+ghost use Rattle.std.specs.Prelude.{◌≡◌, ◌+◌, ◌<◌, ◌≤◌, ◌++◌, length, map, take, true, IsErr, OnOk, OnErr, IfErr, ◌↔◌};
 ghost use Rattle.rock_io.specs.Faults.{one_more, Rose};
 ghost use Rattle.rock_io.specs.Plan.{planned, called, FailsNext};
 
-use crate::{MemCell, Station};
+use crate::{FailedAfter, MemCell, Station};
 use rock_io::{Failed, Plan};
 
 /// A station of a volume in memory. Exactly those of its calls fail that are listed for it.
@@ -45,9 +45,22 @@ impl MemStation {
     }
 }
 
+/// Writes `part` from byte `at` on, and answers where it ends.
+fn put(out: &mut [u8], at: usize, part: &[u8]) -> usize
+    requires { at + length part.now ≤ length out.old }
+    ensures end { result ≡ at + length part.now }
+    ensures front { take result out.new ≡ take at out.old ++ part.now }
+    ensures length { length out.new ≡ length out.old }
+{
+    let end = at + part.len();
+    out[at..end].copy_from_slice(part);
+    end
+}
+
 impl Station for MemStation {
-    ghost use Rattle.rock_disk.specs.Cell.{shape, settle};
-    ghost use Rattle.rock_disk.specs.Memory.{cell_state, station_faults, station_plan};
+    ghost use Rattle.rock_disk.specs.Cell.{joined, shape, settle};
+    ghost use Rattle.rock_disk.specs.Memory.{called_by, cell_state, station_faults, station_plan, IsFirstToFail, NoneFails};
+    ghost use Rattle.rock_disk.specs.Reads.{BeginsWith, width_of};
     ghost use Rattle.rock_disk.specs.Written.{AddsAtMost, IsWritten, IsHalfWritten};
 
     type C = MemCell;
@@ -73,6 +86,33 @@ impl Station for MemStation {
     {
         self.call()?;
         buf.copy_from_slice(cell.now());
+        Ok(())
+    }
+
+    fn read_cells(&mut self, cells: &[MemCell], buf: &mut [u8]) -> Result<(), FailedAfter>
+        requires { length buf.old ≡ width_of (map cell_state cells.now) }
+        ensures read { OnOk result (buf.new ≡ joined (map cell_state cells.now)) }
+        ensures front { IfErr result (λ f. BeginsWith (joined (take f.read (map cell_state cells.now))) buf.new) }
+        ensures within { IfErr result (λ f. f.read < length cells.now) }
+        ensures faults { station_faults self.old ≤ station_faults self.new }
+        ensures failed { OnErr result (Rose (station_faults self.old) (station_faults self.new)) }
+
+        // Each cell is a call. Where one of these is listed, the whole fails at the first that is, and counts once.
+        ensures passed { OnOk result (NoneFails (length cells.now) (station_plan self.old)) }
+        ensures listed { IfErr result (λ f. IsFirstToFail f.read (station_plan self.old)) }
+        ensures plan { OnOk result (station_plan self.new ≡ called_by (length cells.now) (station_plan self.old)) }
+        ensures halted { IfErr result (λ f. station_plan self.new ≡ called_by (f.read + 1) (station_plan self.old)) }
+        ensures ok { OnOk result (station_faults self.new ≡ station_faults self.old) }
+        ensures err { OnErr result (station_faults self.new ≡ one_more (station_faults self.old)) }
+    {
+        let mut end = 0;
+        for place in 0..cells.len() {
+            match self.call() {
+                Ok(()) => {}
+                Err(_) => return Err(FailedAfter { read: place }),
+            }
+            end = put(buf, end, cells[place].now());
+        }
         Ok(())
     }
 
